@@ -1,0 +1,10 @@
+pub mod Protocol
+pub mod Ranges
+pub mod Refusals
+pub mod Serial
+pub mod SerialLaws
+pub mod LittleEndian
+pub mod LittleEndianLaws
+pub mod Headers
+pub mod HeaderLaws
+pub mod Stores

@@ -1,0 +1,21 @@
+-- The settings of a link: their ranges, and the largest payload.
+-- Assumes nothing.
+use mathlib.Core.Bool.{Bool, _&&_}
+use Prim.Native.Nat.{ℕ, _-_}
+use lib.Dec.{leb}
+use Rattle.wire.specs.declared.Settings.{Settings}
+use Rattle.wire.specs.Protocol.{headerSize, mtuLeast, mtuMost, modeMost, intervalLeast, intervalMost, thresholdMost}
+
+-- mtu 50 to 512; mode 0, 1 or 2; interval 10 to 5,000; threshold 0 to 100; any conversation
+abbrev pub inRange : Settings → Bool
+inRange s =
+    leb mtuLeast (s .mtu)
+    && leb (s .mtu) mtuMost
+    && leb (s .mode) modeMost
+    && leb intervalLeast (s .interval)
+    && leb (s .interval) intervalMost
+    && leb (s .threshold) thresholdMost
+
+-- the largest payload is mtu minus 24, and 0 for an mtu below that
+abbrev pub mss : Settings → ℕ
+mss s = s .mtu - headerSize
