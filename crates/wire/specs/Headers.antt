@@ -8,7 +8,7 @@ use lib.Dec.{leb}
 use lib.ListN.{length}
 use lib.Seq.{sets}
 use Rattle.wire.specs.LittleEndian.{bytesOf, numberAt}
-use Rattle.wire.specs.Protocol.{headerSize}
+use Rattle.protocol.specs.Protocol.{headerSize}
 use Rattle.wire.specs.declared.Header.{Header}
 use Rattle.wire.specs.declared.Found.{Found}
 use Rattle.wire.specs.declared.Found.the-variants.{Whole, Short}

@@ -1,8 +1,3 @@
-pub mod Protocol
-pub mod Ranges
-pub mod Refusals
-pub mod Serial
-pub mod SerialLaws
 pub mod LittleEndian
 pub mod LittleEndianLaws
 pub mod Headers

@@ -1,8 +1,8 @@
 // Headers, written straight into lent output and read from a datagram.
 use crate::Found;
 use crate::Header;
-use crate::Protocol;
 use crate::number;
+use protocol::Protocol;
 ghost use mathlib.Core.Path.{_≡_};
 ghost use Prim.Native.Nat.{_+_, _≤_};
 ghost use lib.ListN.{length};

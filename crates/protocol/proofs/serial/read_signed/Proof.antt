@@ -1,4 +1,4 @@
--- `wire::serial::read_signed` meets its contract: below 2^31 the number itself, else that less 2^32.
+-- `protocol::serial::read_signed` meets its contract: below 2^31 the number itself, else that less 2^32.
 -- Assumes nothing.
 use borrow.Author.Needs.{needs}
 use Prim.Native.Nat.{_^_}
@@ -6,9 +6,9 @@ use native.Mathlib.Omega.{arith}
 use borrow.Author.Tests.{lt-ltb}
 use mir.Syntax.{w64}
 use mir.ValLaws.{toZ-pos, toZ-ofZ}
-use Rattle.wire.specs.SerialLaws.{signed-low, signed-high}
-use Rattle.wire.proofs.serial.read_signed.Statement.{statement}
-use Rattle.wire.proofs.serial.read_signed.Tie as tie
+use Rattle.protocol.specs.SerialLaws.{signed-low, signed-high}
+use Rattle.protocol.proofs.serial.read_signed.Statement.{statement}
+use Rattle.protocol.proofs.serial.read_signed.Tie as tie
 
 sub-result : tie.Need-sub-result
 sub-result c = rw (toZ-pos w64 (c .before .args .x) (omega arith), lt-ltb (c .before .args .x) (2 ^ 32) (omega arith)) (record { sfits = omega arith })

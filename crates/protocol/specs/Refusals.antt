@@ -1,8 +1,8 @@
 -- The numbers of the refusals.
 -- Assumes nothing.
 use Prim.Native.Nat.{ℕ}
-use Rattle.wire.specs.declared.Refusal.{Refusal}
-use Rattle.wire.specs.declared.Refusal.the-variants.{
+use Rattle.protocol.specs.declared.Refusal.{Refusal}
+use Rattle.protocol.specs.declared.Refusal.the-variants.{
   ShortDatagram,
   OtherConversation,
   LengthPastEnd,

@@ -1,6 +1,6 @@
 // Sequence numbers and times: 32-bit numbers that wrap.
 ghost use mathlib.Core.Path.{_≡_};
-ghost use Rattle.wire.specs.Serial.{plus, minus, signed, isBefore, isAfter, isDue};
+ghost use Rattle.protocol.specs.Serial.{plus, minus, signed, isBefore, isAfter, isDue};
 
 // Half of the 32-bit numbers: a difference of this or more is negative.
 const HALF: u32 = 2147483648;

@@ -3,8 +3,8 @@
 use mathlib.Core.Bool.{Bool, _&&_}
 use Prim.Native.Nat.{ℕ, _-_}
 use lib.Dec.{leb}
-use Rattle.wire.specs.declared.Settings.{Settings}
-use Rattle.wire.specs.Protocol.{headerSize, mtuLeast, mtuMost, modeMost, intervalLeast, intervalMost, thresholdMost}
+use Rattle.protocol.specs.declared.Settings.{Settings}
+use Rattle.protocol.specs.Protocol.{headerSize, mtuLeast, mtuMost, modeMost, intervalLeast, intervalMost, thresholdMost}
 
 -- mtu 50 to 512; mode 0, 1 or 2; interval 10 to 5,000; threshold 0 to 100; any conversation
 abbrev pub inRange : Settings → Bool

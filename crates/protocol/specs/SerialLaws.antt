@@ -9,7 +9,7 @@ use borrow.Author.Tests.{lt-ltb, le-ltb, le-leb, lt-leb}
 use lib.Dec.{leb, ltb}
 use lib.IntN.{pos, negsuc}
 use lib.Signed.{ltZ, leZ}
-use Rattle.wire.specs.Serial.{minus, signed, isBefore, isAfter, isDue}
+use Rattle.protocol.specs.Serial.{minus, signed, isBefore, isAfter, isDue}
 
 pub signed-low : (x : ℕ) → x < 2 ^ 31 → signed x ≡ pos x
 unfolding signed

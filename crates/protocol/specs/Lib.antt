@@ -1,0 +1,5 @@
+pub mod Protocol
+pub mod Ranges
+pub mod Refusals
+pub mod Serial
+pub mod SerialLaws
