@@ -1,0 +1,4 @@
+pub mod PlainReceiver
+pub mod Hearing
+pub mod Pieces
+pub mod Passing

@@ -1,0 +1,5 @@
+pub mod Views
+pub mod Orders
+pub mod Receiving
+pub mod ReceivingLaws
+pub mod Acknowledging

@@ -1,0 +1,13 @@
+pub mod Lists
+pub mod State
+pub mod Sizes
+pub mod Valid
+pub mod Decides
+pub mod Opening
+pub mod Cutting
+pub mod Sending
+pub mod Flushing
+pub mod Input
+pub mod Reading
+pub mod Calls
+pub mod Marked
