@@ -1,13 +1,18 @@
 -- The turns of the loops that write a list: to move, to shift, to select, to change in place, to bring from another list.
 -- Assumes nothing.
-use mathlib.Core.Path.{_≡_}
+use mathlib.Core.Path.{_≡_, sym, ap, _∙_}
 use mathlib.Core.Bool.{Bool, true, false}
 use mathlib.Core.List.{List, [], _∷_, _++_, map}
 use Prim.Native.Nat.{ℕ, _+_, _≤_, _<_}
 use lib.ListN.{length, take, drop, getD, set}
-use lib.Seq.{take-take}
+use native.Mathlib.Numerals.{add-one}
 use native.Mathlib.Omega.{arith}
+use lib.Seq.{take-take, drop-cons}
+use Rattle.lists.specs.declared.Outstanding.{Outstanding}
+use Rattle.timing.specs.declared.Record.{Record}
+use Rattle.lists.specs.declared.Sent.{Sent}
 use Rattle.lists.specs.Acknowledging.{select}
+use Rattle.lists.specs.Joining.{withRecord, joined}
 use Rattle.lists.proofs.Loops.{Written, Packed, written-put, packed-start, packed-put, packed-skip, packed-next, view-next, view-end}
 
 module _ {A : Type 0} {size n : ℕ} {l₀ l goal : List A} {i j : ℕ} (d : A) (h : i < n) where
@@ -44,3 +49,15 @@ packed-insert {A} {size} {n} {l} a j h g e = rw (take-take j n l h) (packed-star
 pub written-bring : {A B : Type 0} {size : ℕ} {l goal : List B} {j : ℕ} (f : A → B) (src : List A) (k m : ℕ) (d : A) → m < k → k ≤ length src → j < size
     → Written size l (map f (drop m (take k src))) goal j → Written size (set l j (f (getD src m d))) (map f (drop (m + 1) (take k src))) goal (j + 1)
 written-bring f src k m d h g b w = written-put b (rw (view-next src k m d h g) at w)
+
+-- an outstanding segment is brought with its record
+pub written-join : {size : ℕ} {l goal : List Sent} (os : List Outstanding) (rs : List Record) (n i : ℕ) (o : Outstanding) (r : Record) → i < n → n ≤ length os → n ≤ length rs → i < size
+    → Written size l (joined (drop i (take n os)) (drop i rs)) goal i → Written size (set l i (withRecord (getD os i o) (getD rs i r))) (joined (drop (i + 1) (take n os)) (drop (i + 1) rs)) goal (i + 1)
+unfolding joined
+written-join os rs n i o r h g e b w =
+    let q : i < length rs = omega arith in
+    written-put b (rw (view-next os n i o h g, drop-cons rs i r q ∙ ap (λ (k : ℕ). getD rs i r ∷ drop k rs) (sym (add-one i))) at w)
+
+pub joined-end : (os : List Outstanding) (rs : List Record) (n i : ℕ) → n ≤ i → joined (drop i (take n os)) rs ≡ []
+unfolding joined
+joined-end os rs n i h = rw (view-end os n i h)

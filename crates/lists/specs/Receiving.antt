@@ -1,7 +1,7 @@
 -- Waiting segments become ready. Definitions.
 -- Assumes nothing.
 use mathlib.Core.Path.{_≡_}
-use mathlib.Core.Bool.{Bool, cond, _&&_}
+use mathlib.Core.Bool.{Bool, false, cond, _&&_}
 use mathlib.Core.List.{List, [], _∷_, _++_}
 use Prim.Native.Nat.{ℕ, suc}
 use lib.Dec.{ltb, eqb}
@@ -33,6 +33,11 @@ advance next ready (w ∷ l) =
     cond (isNext next w && ltb (length ready) receiveWindow)
     (advance (plus next 1) (ready ++ (heldPart w ∷ [])) l)
     (record { next = next; ready = ready; waiting = w ∷ l })
+
+-- does the first waiting segment have the number next?
+unfoldable pub startsAt : ℕ → List Waiting → Bool
+startsAt next [] = false
+startsAt next (w ∷ l) = isNext next w
 
 -- how many entries from the front on are numbered next, next + 1 and so on
 unfoldable pub runOf : ℕ → List Waiting → ℕ

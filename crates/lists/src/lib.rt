@@ -1,6 +1,7 @@
 // The lists of the control block: segments queued, outstanding, ready and waiting. A list is the front of an array, in
 // list order, up to its count; what stands past the count is not state.
 pub mod held_list;
+pub mod outstanding_list;
 pub mod reorder;
 pub mod sent_list;
 pub mod waiting_list;
@@ -71,28 +72,31 @@ pub struct Receiving {
     pub waiting: WaitingList,
 }
 
+// Outstanding segments, and their records in the same order.
+pub struct Split {
+    pub outstanding: OutstandingList,
+    pub records: [Record; 32],
+}
+
 // What acknowledges an outstanding segment: an arriving una, or an arriving ack's number.
 pub enum Acknowledges {
     Una(u32),
     Ack(u32),
 }
 
-impl Held {
-    fn blank() -> Self {
-        Held {
-            slot: 0,
-            len: 0,
-            fragment: 0,
-        }
-    }
-}
+// What stands past a new list's count.
+const BLANK: Held = Held {
+    slot: 0,
+    len: 0,
+    fragment: 0,
+};
 
 impl HeldList {
     pub fn new() -> Self
         ensures { λ r. ⌜ HeldIs r [] ⌝ }
     {
         HeldList {
-            at: [Held::blank(); 128],
+            at: [BLANK; 128],
             count: 0,
         }
     }
@@ -104,10 +108,47 @@ impl WaitingList {
     {
         let blank = Waiting {
             number: 0,
-            held: Held::blank(),
+            held: BLANK,
         };
         WaitingList {
             at: [blank; 128],
+            count: 0,
+        }
+    }
+}
+
+impl OutstandingList {
+    pub fn new() -> Self
+        ensures { λ r. ⌜ OutstandingIs r [] ⌝ }
+    {
+        let blank = Outstanding {
+            held: BLANK,
+            transmissions: 0,
+        };
+        OutstandingList {
+            at: [blank; 32],
+            count: 0,
+        }
+    }
+}
+
+impl SentList {
+    pub fn new() -> Self
+        ensures { λ r. ⌜ SentIs r [] ⌝ }
+    {
+        let record = Record {
+            number: 0,
+            due: 0,
+            timeout: 0,
+            skips: 0,
+        };
+        let blank = Sent {
+            held: BLANK,
+            transmissions: 0,
+            record,
+        };
+        SentList {
+            at: [blank; 32],
             count: 0,
         }
     }

@@ -8,6 +8,7 @@ ghost use Prim.Native.Nat.{_≤_, _<_};
 ghost use lib.ListN.{take, drop, length};
 ghost use Rattle.protocol.specs.Serial.{minus};
 ghost use Rattle.lists.specs.Views.{waitingOf, WaitingIs};
+ghost use Rattle.lists.specs.Receiving.{startsAt};
 ghost use Rattle.lists.specs.Orders.{waitingOffset, isHeld, insert, ascending};
 
 // The list without its first k segments.
@@ -109,4 +110,17 @@ pub fn ascending(list: WaitingList, base: u32, limit: u32) -> bool
         i += 1;
     }
     true
+}
+
+// Whether the first segment has the number next.
+pub fn starts_at(list: WaitingList, next: u32) -> bool
+    requires { ⌜ list .count ≤ 128 ⌝ }
+    ensures { λ r. ⌜ r ≡ startsAt next (waitingOf list) ⌝ }
+{
+    if 0 < list.count {
+        let w = list.at[0];
+        serial::difference(w.number, next) == 0
+    } else {
+        false
+    }
 }
