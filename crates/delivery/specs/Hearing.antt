@@ -26,7 +26,7 @@ use Rattle.protocol.specs.declared.Refusal.the-variants.{
   SettingOutOfRange,
   InvalidBlock,
 }
-use Rattle.session.specs.Lists.{occurs}
+use Rattle.session.specs.Slots.{occurs}
 use Rattle.session.specs.Cutting.{fragmentCount}
 use Rattle.session.specs.Opening.{opened}
 use Rattle.session.specs.Sizes.{enoughToFlush}

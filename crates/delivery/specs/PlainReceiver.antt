@@ -10,7 +10,7 @@ use Rattle.protocol.specs.Protocol.{push, receiveWindow}
 use Rattle.protocol.specs.Ranges.{mss}
 use Rattle.protocol.specs.declared.Settings.{Settings}
 use Rattle.datagram.specs.Datagrams.{Segment, Parsed, parse}
-use Rattle.session.specs.Lists.{occurs, lowestFrom}
+use Rattle.session.specs.Slots.{occurs, lowestFrom}
 use Rattle.session.specs.Cutting.{fragmentCount}
 use Rattle.session.specs.Calls.{Call}
 

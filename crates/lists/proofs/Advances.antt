@@ -11,8 +11,8 @@ use Rattle.lists.specs.declared.Held.{Held}
 use Rattle.lists.specs.declared.Waiting.{Waiting}
 use Rattle.lists.specs.declared.HeldList.{HeldList}
 use Rattle.lists.specs.declared.WaitingList.{WaitingList}
-use Rattle.lists.specs.Views.{HeldIs, WaitingIs}
-use Rattle.lists.specs.Receiving.{heldPart, advance, runOf, ReceivingIs}
+use Rattle.lists.specs.Views.{HeldIs, WaitingIs, waitingPart}
+use Rattle.lists.specs.Receiving.{advance, runOf, ReceivingIs}
 use Rattle.lists.specs.ReceivingLaws.{raised, risen, advance-run}
 
 take-min : {A : Type 0} (m n : ℕ) (l : List A) → take m (take n l) ≡ take (min m n) l
@@ -27,7 +27,7 @@ module _ (next i j n k next′ : ℕ) (r : List Held) (w : List Waiting) (up : H
   run-is g e f = rw (length-take-le i r g, take-min, ← e) (sym f)
 
   pub advanced : next < 2 ^ 32 → i ≤ length r → n ≡ min (128 - i) j → k ≡ runOf next (take n w) → next′ ≡ plus next k
-      → HeldIs up (take i r ++ map heldPart (take k (take j w))) → WaitingIs left (drop k (take j w))
+      → HeldIs up (take i r ++ map waitingPart (take k (take j w))) → WaitingIs left (drop k (take j w))
       → ReceivingIs (record { next = next′; ready = up; waiting = left }) (advance next (take i r) (take j w))
   advanced b g e f q u v =
       let whole : advance next (take i r) (take j w) ≡ raised next (take i r) (take j w) k = advance-run next (take i r) (take j w) b ∙ ap (raised next (take i r) (take j w)) (run-is g e f) in

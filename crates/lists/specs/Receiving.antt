@@ -11,16 +11,13 @@ use Rattle.protocol.specs.Serial.{plus, minus}
 use Rattle.lists.specs.declared.Held.{Held}
 use Rattle.lists.specs.declared.Waiting.{Waiting}
 use Rattle.lists.specs.declared.Receiving as struct
-use Rattle.lists.specs.Views.{HeldIs, WaitingIs}
+use Rattle.lists.specs.Views.{waitingPart, HeldIs, WaitingIs}
 
 -- the number expected next, and the lists
 pub record Received : Type 0 where
   pub next : ℕ
   pub ready : List Held
   pub waiting : List Waiting
-
-abbrev pub heldPart : Waiting → Held
-heldPart w = w .held
 
 -- is the segment numbered next?
 abbrev pub isNext : ℕ → Waiting → Bool
@@ -31,7 +28,7 @@ unfoldable pub advance : ℕ → List Held → List Waiting → Received
 advance next ready [] = record { next = next; ready = ready; waiting = [] }
 advance next ready (w ∷ l) =
     cond (isNext next w && ltb (length ready) receiveWindow)
-    (advance (plus next 1) (ready ++ (heldPart w ∷ [])) l)
+    (advance (plus next 1) (ready ++ (waitingPart w ∷ [])) l)
     (record { next = next; ready = ready; waiting = w ∷ l })
 
 -- does the first waiting segment have the number next?

@@ -29,6 +29,13 @@ outstandingOf s = listOf (s .at) (s .count)
 abbrev pub sentOf : SentList → List Sent
 sentOf s = listOf (s .at) (s .count)
 
+-- the segment as its slot holds it
+abbrev pub waitingPart : Waiting → Held
+waitingPart w = w .held
+
+abbrev pub sentPart : Sent → Held
+sentPart s = s .held
+
 -- the count is within the array's size, and the list is l
 pub record Holds {A : Type 0} (size : ℕ) (at : List A) (count : ℕ) (l : List A) : Type 0 where
   pub fits : count ≤ size

@@ -8,8 +8,8 @@ ghost use mathlib.Core.Path.{_≡_};
 ghost use mathlib.Core.List.{_++_, map};
 ghost use Prim.Native.Nat.{_+_, _≤_, min};
 ghost use lib.ListN.{take};
-ghost use Rattle.lists.specs.Views.{heldOf, waitingOf, HeldIs};
-ghost use Rattle.lists.specs.Receiving.{runOf, heldPart, advance, ReceivingIs};
+ghost use Rattle.lists.specs.Views.{heldOf, waitingOf, HeldIs, waitingPart};
+ghost use Rattle.lists.specs.Receiving.{runOf, advance, ReceivingIs};
 
 fn least(a: usize, b: usize) -> usize
     ensures { λ r. ⌜ r ≡ min a b ⌝ }
@@ -39,7 +39,7 @@ fn run(list: WaitingList, n: usize, next: u32) -> usize
 // The ready list with the first k waiting segments at its end.
 fn append_first(ready: HeldList, waiting: WaitingList, k: usize) -> HeldList
     requires { ⌜ (ready .count + k ≤ 128) × (k ≤ waiting .count) × (waiting .count ≤ 128) ⌝ }
-    ensures { λ r. ⌜ HeldIs r (heldOf ready ++ map heldPart (take k (waitingOf waiting))) ⌝ }
+    ensures { λ r. ⌜ HeldIs r (heldOf ready ++ map waitingPart (take k (waitingOf waiting))) ⌝ }
 {
     let mut l = ready;
     let mut j = ready.count;

@@ -22,7 +22,7 @@ use Rattle.lists.specs.declared.Acknowledges.the-variants as by
 use Rattle.lists.specs.Orders.{waitingOffset, isHeld, insert}
 use Rattle.lists.specs.Receiving.{advance}
 use Rattle.lists.specs.Acknowledging.{removed, firstNumberOr, skipBefore}
-use Rattle.session.specs.Lists.{lowestFree}
+use Rattle.session.specs.Slots.{lowestFree}
 use Rattle.session.specs.State.{State, Sending, Receiving, Ack, Outcome, receiveHeld, slots}
 
 -- ---- the sending half

@@ -1,8 +1,13 @@
-pub mod Lists
+pub mod Slots
 pub mod State
 pub mod Sizes
 pub mod Valid
 pub mod Decides
+pub mod AllLaws
+pub mod Once
+pub mod Ascending
+pub mod SendingValid
+pub mod ReceivingValid
 pub mod Opening
 pub mod Cutting
 pub mod Sending

@@ -15,17 +15,27 @@ use Rattle.wire.specs.Headers.{encode, front, back, decode}
 use Rattle.protocol.specs.declared.Settings.{Settings}
 use Rattle.wire.specs.declared.Header.{Header}
 use Rattle.datagram.specs.Datagrams.{Segment, Parsed, parse, walk, tail, verdict, segmentOf}
-use Rattle.timing.specs.Probes.{nextClock}
+use Rattle.timing.specs.Probes.{stopped, longerWait, nextClock}
+use Rattle.timing.specs.RoundTrips.{nextSmoothed, nextVariation, leastTimeout, timeoutOf, sampled}
+use Rattle.timing.specs.Transmissions.{firstDue, growth, longerTimeout, isSkipped, transmission}
+use Rattle.timing.specs.declared.ProbeClock.{ProbeClock}
+use Rattle.timing.specs.declared.Record.{Record}
+use Rattle.timing.specs.declared.RoundTrip.{RoundTrip}
 use Rattle.lists.specs.Orders.{insert, isHeld}
 use Rattle.lists.specs.Receiving.{advance}
 use Rattle.lists.specs.declared.Waiting.{Waiting}
-use Rattle.session.specs.Lists.{occurs, lowestFrom, lowestFree}
+use Rattle.session.specs.Slots.{occurs, lowestFrom, lowestFree}
 use Rattle.session.specs.State.{State, Sending, Receiving, Ack, Outcome}
 use Rattle.session.specs.Opening.{opened}
 use Rattle.session.specs.Cutting.{fragmentCount, pieces, cut}
 use Rattle.session.specs.Sending.{Sends, sending, place, Placed}
 use Rattle.session.specs.Flushing.{Flushed, flushing, numberedCount, withNumbered, numbered, transmittedNow, written, packed, packOne, bytesOfSegment, bytesOfSegments}
 use Rattle.session.specs.Input.{Receiver, pushed}
+
+-- whether a flush sends a segment, and when the segment is due then
+pub record Flush : Type 0 where
+  pub sends : Bool
+  pub due : ℕ
 
 -- what a case speaks of
 pub data Value : Type 0 where
@@ -35,6 +45,9 @@ pub data Value : Type 0 where
   lengths : List ℕ → Value
   count : ℕ → Value
   refusedBy : ℕ → Value
+  roundTrips : List RoundTrip → Value
+  flushes : List Flush → Value
+  waits : List ℕ → Value
   noted : List ℕ → List Ack → Value
 
 pub record Case : Type 0 where
@@ -69,6 +82,38 @@ countQueued (Outcome.done x) = count (length (x .state .sending .queued))
 
 abbrev sendOf : ℕ → Outcome Sends
 sendOf n = sending (opened small) [] (replicate n 0)
+
+-- ---- E: the round trip after each of the samples
+
+unfoldable pub afterSamples : Settings → RoundTrip → List ℕ → List RoundTrip
+afterSamples c p [] = []
+afterSamples c p (r ∷ rs) = let q = sampled p c r in q ∷ afterSamples c q rs
+
+-- ---- F and G: a segment with n transmissions and the record r, after each of the flushes at these times
+
+unfoldable pub afterFlushes : Settings → ℕ → ℕ → Record → List ℕ → List Flush
+afterFlushes c link n r [] = []
+afterFlushes c link n r (t ∷ ts) =
+    let x = transmission c link t n r in
+    record { sends = x .sends; due = x .updated .due } ∷ afterFlushes c link (x .transmissions) (x .updated) ts
+
+abbrev inMode : ℕ → Settings
+inMode mode = record { conv = 1; mtu = 50; interval = 100; mode = mode; threshold = 0 }
+
+abbrev unsent : Record
+unsent = record { number = 0; due = 0; timeout = 0; skips = 0 }
+
+abbrev sent : ℕ → Flush
+sent due = record { sends = true; due = due }
+
+abbrev stays : ℕ → Flush
+stays due = record { sends = false; due = due }
+
+-- ---- H: the clock's wait after each of the flushes at these times, the peer's window being 0
+
+unfoldable pub waitsAt : ProbeClock → List ℕ → List ℕ
+waitsAt c [] = []
+waitsAt c (t ∷ ts) = let x = nextClock c t 0 in x .clock .wait ∷ waitsAt (x .clock) ts
 
 -- ---- I: a push with this number comes to a fresh link
 
@@ -112,6 +157,30 @@ cases =
     -- D
     ∷ record { is = countQueued (sendOf 3302); wanted = count 127 }
     ∷ record { is = countQueued (sendOf 3303); wanted = refusedBy 10 }
+    -- E
+    ∷ record {
+      is = roundTrips (afterSamples small (opened small .sending .roundTrip) (50 ∷ 90 ∷ []));
+      wanted = roundTrips (record { smoothed = 50; variation = 25; timeout = 150 } ∷ record { smoothed = 55; variation = 28; timeout = 167 } ∷ []);
+    }
+    -- F
+    ∷ record {
+      is = flushes (afterFlushes (inMode 0) 200 0 unsent (1000 ∷ 1224 ∷ 1225 ∷ []));
+      wanted = flushes (sent 1225 ∷ stays 1225 ∷ sent 1625 ∷ []);
+    }
+    -- G
+    ∷ record {
+      is = flushes (afterFlushes (inMode 1) 200 0 unsent (1000 ∷ 1199 ∷ 1200 ∷ 1499 ∷ 1500 ∷ []));
+      wanted = flushes (sent 1200 ∷ stays 1200 ∷ sent 1500 ∷ stays 1500 ∷ sent 1950 ∷ []);
+    }
+    ∷ record {
+      is = flushes (afterFlushes (inMode 2) 200 0 unsent (1000 ∷ 1199 ∷ 1200 ∷ 1499 ∷ 1500 ∷ []));
+      wanted = flushes (sent 1200 ∷ stays 1200 ∷ sent 1500 ∷ stays 1500 ∷ sent 1900 ∷ []);
+    }
+    -- H
+    ∷ record {
+      is = waits (waitsAt stopped (0 ∷ 7000 ∷ 17500 ∷ 33250 ∷ []));
+      wanted = waits (7000 ∷ 10500 ∷ 15750 ∷ 23625 ∷ []);
+    }
     -- I
     ∷ record { is = received 127; wanted = noted (127 ∷ []) (record { sn = 127; ts = 7 } ∷ []) }
     ∷ record { is = received 128; wanted = noted [] [] }
@@ -120,5 +189,5 @@ cases =
     ∷ []
 
 pub marked : map (λ (c : Case). c .is) cases ≡ map (λ (c : Case). c .wanted) cases
-unfolding cases encode front back decode bytesOf numberAt bytesOfSegments parse walk tail verdict segmentOf signed isBefore isAfter isDue opened fragmentCount pieces cut sending place lowestFree lowestFrom occurs pushed insert isHeld advance flushing numberedCount withNumbered numbered transmittedNow written packed packOne nextClock
+unfolding cases encode front back decode bytesOf numberAt bytesOfSegments parse walk tail verdict segmentOf signed isBefore isAfter isDue opened fragmentCount pieces cut sending place lowestFree lowestFrom occurs pushed insert isHeld advance flushing numberedCount withNumbered numbered transmittedNow written packed packOne nextClock afterSamples afterFlushes waitsAt sampled nextSmoothed nextVariation leastTimeout timeoutOf transmission firstDue growth longerTimeout isSkipped longerWait
 marked = refl

@@ -10,7 +10,7 @@ use Rattle.protocol.specs.Protocol.{sendSlots, fragmentsMost}
 use Rattle.protocol.specs.Ranges.{mss}
 use Rattle.protocol.specs.declared.Refusal.the-variants.{LongMessage, NoFreeSlots}
 use Rattle.lists.specs.declared.Held.{Held}
-use Rattle.session.specs.Lists.{lowestFree}
+use Rattle.session.specs.Slots.{lowestFree}
 use Rattle.session.specs.State.{State, Sending, Outcome, refused, done, sendHeld, slots}
 use Rattle.session.specs.Cutting.{fragmentCount, cut}
 

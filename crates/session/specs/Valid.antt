@@ -18,7 +18,7 @@ use Rattle.lists.specs.declared.Sent.{Sent}
 use Rattle.lists.specs.Orders.{ascending, sentOffset, waitingOffset}
 use Rattle.lists.specs.Receiving.{isNext}
 use Rattle.lists.specs.Acknowledging.{firstNumberOr}
-use Rattle.session.specs.Lists.{occurs}
+use Rattle.session.specs.Slots.{occurs}
 use Rattle.session.specs.State.{Sending, Receiving, State, sendHeld, receiveHeld, slots}
 
 -- ---- tests on lists

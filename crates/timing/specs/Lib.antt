@@ -6,4 +6,3 @@ pub mod Choices
 pub mod RoundTripLaws
 pub mod ProbeLaws
 pub mod TransmissionLaws
-pub mod TimeCases

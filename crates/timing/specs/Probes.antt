@@ -1,6 +1,6 @@
 -- The probe clock, moved on by each flush before it writes. Definitions.
 -- Assumes nothing.
-use mathlib.Core.Bool.{Bool, true, false, cond}
+use mathlib.Core.Bool.{true, false, cond}
 use Prim.Native.Nat.{ℕ, _+_, _/_, min}
 use lib.Dec.{eqb, ltb}
 use Rattle.protocol.specs.Protocol.{probeWaitLeast, probeWaitMost}
@@ -17,7 +17,7 @@ abbrev pub started : ℕ → ProbeClock
 started t = record { wait = probeWaitLeast; due = plus t probeWaitLeast }
 
 -- the wait grows by half, rounded down, to 120,000 at most
-abbrev pub longerWait : ℕ → ℕ
+unfoldable pub longerWait : ℕ → ℕ
 longerWait wait = min probeWaitMost (wait + wait / 2)
 
 -- due t + wait

@@ -3,7 +3,7 @@
 use Prim.Native.Nat.{ℕ, _^_, _≤_, _<_}
 use lib.Dec.{eqb}
 use native.Mathlib.Omega.{arith}
-use Rattle.protocol.specs.Protocol.{timeoutMost, timeoutLeastFast}
+use Rattle.protocol.specs.Protocol.{timeoutMost, timeoutFirst}
 use Rattle.protocol.specs.declared.Settings.{Settings}
 use Rattle.timing.specs.Choices.{either-way}
 use Rattle.timing.specs.RoundTrips.{nextSmoothed, nextVariation, leastTimeout, timeoutOf, sampled}
@@ -23,6 +23,11 @@ variation-below n smoothed variation r h v k = either-way (λ x. x < n) (eqb smo
 pub least-most : (mode : ℕ) → leastTimeout mode ≤ timeoutMost
 unfolding leastTimeout
 least-most mode = either-way (λ x. x ≤ timeoutMost) (eqb mode 0) (omega arith) (omega arith)
+
+-- the timeout at opening is in range in every mode
+pub first-timeout-in-range : (mode : ℕ) → TimeoutInRange mode timeoutFirst
+unfolding leastTimeout
+first-timeout-in-range mode = record { least = either-way (λ x. x ≤ timeoutFirst) (eqb mode 0) (omega arith) (omega arith); most = omega arith }
 
 pub timeout-in-range : (s : Settings) (smoothed variation : ℕ) → TimeoutInRange (s .mode) (timeoutOf s smoothed variation)
 unfolding timeoutOf

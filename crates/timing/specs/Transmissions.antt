@@ -24,7 +24,7 @@ unfoldable pub growth : ℕ → ℕ → ℕ → ℕ
 growth mode own link = cond (eqb mode 0) (max own link) (cond (eqb mode 1) (own / 2) (link / 2))
 
 -- ending at 60,000 at most
-abbrev pub longerTimeout : ℕ → ℕ → ℕ → ℕ
+unfoldable pub longerTimeout : ℕ → ℕ → ℕ → ℕ
 longerTimeout mode own link = min timeoutMost (own + growth mode own link)
 
 -- due: the longer timeout; due = t + timeout
@@ -34,7 +34,7 @@ timedOut mode link t r =
     record { number = r .number; due = plus t timeout; timeout = timeout; skips = r .skips }
 
 -- threshold above 0, skip count at least the threshold, sent at most 5 times
-abbrev pub isSkipped : ℕ → ℕ → ℕ → Bool
+unfoldable pub isSkipped : ℕ → ℕ → ℕ → Bool
 isSkipped threshold transmissions skips = ltb 0 threshold && leb threshold skips && leb transmissions fastMost
 
 -- skip count 0, due = t + timeout

@@ -1,6 +1,7 @@
 // Larger, smaller, distance, and numbers at two widths.
 ghost use mathlib.Core.Path.{_≡_};
-ghost use Prim.Native.Nat.{_+_, _-_, _^_, _<_, min, max};
+ghost use Prim.Native.Nat.{_^_, _<_, min, max};
+ghost use Rattle.timing.specs.RoundTrips.{distance};
 
 pub(crate) fn wide(x: u32) -> u64
     ensures { λ r. ⌜ r ≡ x ⌝ }
@@ -29,7 +30,7 @@ pub(crate) fn capped(most: u32, x: u64) -> u32
 }
 
 pub(crate) fn distance(a: u32, b: u32) -> u32
-    ensures { λ r. ⌜ r ≡ (a - b) + (b - a) ⌝ }
+    ensures { λ r. ⌜ r ≡ distance a b ⌝ }
 {
     if a < b { b - a } else { a - b }
 }

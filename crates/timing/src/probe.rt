@@ -50,16 +50,12 @@ impl ProbeClock {
             };
         }
         if self.wait == 0 {
-            return Probed {
-                clock: started(t),
-                ask: false,
-            };
+            let clock = started(t);
+            return Probed { clock, ask: false };
         }
         if serial::due(t, self.due) {
-            return Probed {
-                clock: grown(self.wait, t),
-                ask: true,
-            };
+            let clock = grown(self.wait, t);
+            return Probed { clock, ask: true };
         }
         Probed {
             clock: self,

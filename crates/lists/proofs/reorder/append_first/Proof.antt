@@ -7,7 +7,7 @@ use borrow.Author.Needs.{needs}
 use native.Mathlib.Omega.{arith}
 use lib.ListN.{length, take, drop}
 use lib.Seq.{take-take}
-use Rattle.lists.specs.Receiving.{heldPart}
+use Rattle.lists.specs.Views.{waitingPart}
 use Rattle.lists.proofs.Loops.{Written, written-start, written-done, view-end, length-mapped}
 use Rattle.lists.proofs.Writes.{written-bring}
 use Rattle.lists.proofs.reorder.append_first.Statement.{statement}
@@ -18,7 +18,7 @@ Inv-loop k waiting l₀ j₀ i₀ l j i =
     (i ≤ k)
     × (j ≡ l₀ .count + i)
     × (k ≤ length (waiting .at))
-    × Written 128 (l .at) (map heldPart (drop i (take k (waiting .at)))) (take (l₀ .count) (l₀ .at) ++ map heldPart (take k (waiting .at))) j
+    × Written 128 (l .at) (map waitingPart (drop i (take k (waiting .at)))) (take (l₀ .count) (l₀ .at) ++ map waitingPart (take k (waiting .at))) j
 
 abbrev μ-loop : tie.MeasureT-loop
 μ-loop k waiting l₀ j₀ i₀ l j i = k - i
@@ -31,7 +31,7 @@ loop-holds c =
 loop-again : tie.Need-loop-again Inv-loop μ-loop
 loop-again c =
     let v = c .before .before .before .loop .inv in
-    (search needs, search needs, v .2, written-bring heldPart _ _ _ _ (c .before .before .loop-test .taken) (v .2) (search needs) (v .3))
+    (search needs, search needs, v .2, written-bring waitingPart _ _ _ _ (c .before .before .loop-test .taken) (v .2) (search needs) (v .3))
 
 returns : tie.Need-returns Inv-loop μ-loop
 returns c =

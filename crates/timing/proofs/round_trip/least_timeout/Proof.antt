@@ -1,6 +1,5 @@
 -- `timing::round_trip::least_timeout` meets its contract.
 -- Assumes nothing.
-use borrow.Author.Needs.{needs}
 use borrow.Author.Tests.{eq-eqb, ne-eqb}
 use Rattle.timing.specs.RoundTrips.{leastTimeout}
 use Rattle.timing.proofs.round_trip.least_timeout.Statement.{statement}

@@ -1,4 +1,5 @@
--- TEMPORARY: what crate `lists` will define of slots, by these names.
+-- What occurs in a list of numbers, and the lowest number that does not: free slots, and the next number expected. Definitions.
+-- Assumes nothing.
 use mathlib.Core.List.{List, [], _∷_}
 use mathlib.Core.Bool.{Bool, true, false, cond, _||_}
 use Prim.Native.Nat.{ℕ, zero, suc}
