@@ -10,11 +10,12 @@ use Rattle.protocol.specs.Ranges.{inRange, mss}
 use Rattle.protocol.specs.declared.Settings.{Settings}
 use Rattle.session.specs.Sizes.{Lengths, enough}
 use Rattle.session.specs.Valid.{valid}
-use Rattle.session.specs.Calls.{Station, Call, Stepped, lengthsOf, longEnough, own, step, history, after, readAnswers, messagesRead}
+use Rattle.session.specs.Calls.{Station, Call, Event, Stepped, lengthsOf, longEnough, own, step, history, after, readAnswers, messagesRead}
 use Rattle.session.specs.Decides.{All}
 use Rattle.delivery.specs.PlainReceiver.{Plain, atFirst, Found, nextExpected, plainAnswer, afterCall, plainAfter, plainAnswers}
 use Rattle.delivery.specs.Hearing.{Opened, Taken, CallFits, FedWith, HearsMore, found, seen, Missing, FindsNothing, Receives, Delivered}
 use Rattle.delivery.specs.Passing.{Passing, step-own}
+use Rattle.delivery.specs.PassingLaws.{history-first, after-first}
 use Rattle.delivery.specs.Pieces.{Piece, piecesOf, GenuineDatagram}
 use Rattle.delivery.specs.PlainLaws.{plainMessages, plain-more, plain-begins, nothing-missing, missing-nothing}
 use Rattle.delivery.specs.ReceiverModel.{Listed}
@@ -64,7 +65,7 @@ module _ (c : Settings) (accepted : List (List ℕ)) (some-bytes : 0 < mss c) wh
   follows-all [] s p fits pass g f = f
   follows-all (x ∷ xs) s p fits pass g f =
       let h = head-genuine x xs g in
-      rw (step-own s x (pass .0) (pass .1))
+      rw (after-first s x xs pass)
       (follows-all xs (own s x .station) (afterCall c accepted p x) (fits .1) (pass .2) (h .1) (follows-call c accepted some-bytes s p x (fits .0) (h .0) f))
 
   answers-all : (xs : List Call) (s : Station) (p : Plain) → All CallFits xs → Passing s xs → FedGenuine c (piecesOf (mss c) accepted) xs → Follows c accepted s p
@@ -73,8 +74,8 @@ module _ (c : Settings) (accepted : List (List ℕ)) (some-bytes : 0 < mss c) wh
   answers-all [] s p fits pass g f = refl
   answers-all (x ∷ xs) s p fits pass g f =
       let h = head-genuine x xs g in
-      rw (step-own s x (pass .0) (pass .1))
-      (one x f (answers-all xs (own s x .station) (afterCall c accepted p x) (fits .1) (pass .2) (h .1) (follows-call c accepted some-bytes s p x (fits .0) (h .0) f)))
+      ap (λ (l : List Event). map seen (readAnswers l)) (history-first s x xs pass)
+      ∙ one x f (answers-all xs (own s x .station) (afterCall c accepted p x) (fits .1) (pass .2) (h .1) (follows-call c accepted some-bytes s p x (fits .0) (h .0) f))
     where
       one : (x : Call) → Follows c accepted s p
           → map seen (readAnswers (history (own s x .station) xs)) ≡ map found (plainAnswers c accepted (afterCall c accepted p x) xs)

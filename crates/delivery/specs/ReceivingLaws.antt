@@ -1,6 +1,6 @@
 -- What a call does to the receiving half and its pool, and that every call leaves them valid and in range, whatever bytes it takes in.
 -- Assumes nothing.
-use mathlib.Core.Path.{_≡_, refl, ap, _∙_}
+use mathlib.Core.Path.{_≡_, refl, sym, ap, _∙_, subst}
 use mathlib.Core.Bool.{Bool, true, false, cond, _&&_, and-assoc}
 use mathlib.Core.List.{List, [], _∷_}
 use Prim.Native.Nat.{ℕ, _*_, _^_, _≤_, _<_, zero-le}
@@ -21,15 +21,16 @@ use Rattle.session.specs.Valid.{all, once, heldFits, startsAt, waitingFits, set
 use Rattle.session.specs.Opening.{opened}
 use Rattle.session.specs.Sending.{Sends}
 use Rattle.session.specs.Flushing.{flushing}
-use Rattle.session.specs.Input.{Receiver, allByReceiving, Took, taking, applied, input}
-use Rattle.session.specs.Reading.{readable, messageSize, Reads, reading}
-use Rattle.session.specs.Calls.{Station, Call, Stepped, lengthsOf, afterSend, afterTakeIn, afterReading, own, after}
+use Rattle.session.specs.Input.{Receiver, allByReceiving, taking, applied, input}
+use Rattle.session.specs.Reading.{readable, messageSize, reading}
+use Rattle.session.specs.Calls.{Station, Call, Stepped, lengthsOf, afterSend, afterTakeIn, own, after}
 use Rattle.session.specs.Decides.{Decides, All, leb-decides, ltb-decides, not-decides, and-decides, via, all-decides, and-parts}
 use Rattle.session.specs.AllLaws.{all-both, all-weaker}
 use Rattle.delivery.specs.Hearing.{Opened, CallFits}
-use Rattle.delivery.specs.Passing.{Passing, step-own}
+use Rattle.delivery.specs.Passing.{Passing}
+use Rattle.delivery.specs.PassingLaws.{after-first}
 use Rattle.delivery.specs.HeaderRange.{Each}
-use Rattle.delivery.specs.CallCases.{sending-cases, input-cases, reading-cases}
+use Rattle.delivery.specs.CallCases.{sending-cases, own-cases}
 use Rattle.delivery.specs.SendingStays.{own-settings, own-send-pool}
 use Rattle.delivery.specs.StateRange.{CarryFits}
 use Rattle.delivery.specs.CarryLaws.{carry-stays}
@@ -184,30 +185,19 @@ own-receiver s (Call.read room) = read-receiver s room
 
 -- ---- the lent lengths stay as they are
 
-after-pool : (c : Settings) (x : Receiver) (call : Call) → length (receiverAfter c x call .pool) ≡ length (x .pool)
-after-pool c x (Call.send m) = refl
-after-pool c x (Call.takeIn d) = go (parse (c .conv) (mss c) d)
-  where
-    go : (p : Parsed) → length (receiverTakes (mss c) x p .pool) ≡ length (x .pool)
-    go (Parsed.refused r) = refl
-    go (Parsed.segments gs) = took-pool (mss c) gs x
-after-pool c x (Call.flush t) = refl
-after-pool c x (Call.read room) = go (readable (x .half .ready)) (leb (messageSize (x .half)) room)
-  where
-    go : (a b : Bool) → length (cond a (cond b (readFrom x) x) x .pool) ≡ length (x .pool)
-    go true true = refl
-    go true false = refl
-    go false b = refl
-
 -- the receive pool is as long as before
 pub own-receive-pool : (s : Station) (x : Call) → length (own s x .station .receivePool) ≡ length (s .receivePool)
-own-receive-pool s x = ap (λ (r : Receiver). length (r .pool)) (own-receiver s x) ∙ after-pool (s .state .settings) (receiverOf s) x
+unfolding applied flushing
+own-receive-pool s =
+    own-cases (λ (x : Call) (y : Stepped). length (y .station .receivePool) ≡ length (s .receivePool)) s
+    (λ x r. refl)
+    (λ m ok. refl)
+    (λ d gs e. took-pool (mss (s .state .settings)) gs (receiverOf s))
+    (λ t. refl)
+    (λ room. refl)
 
 pub own-lent : (s : Station) (x : Call) → own s x .station .lent ≡ s .lent
-own-lent s (Call.send m) = sending-cases (λ (y : Outcome Sends). afterSend s y .station .lent ≡ s .lent) (s .state) (s .sendPool) m (λ r. refl) (λ ok. refl)
-own-lent s (Call.takeIn d) = input-cases (λ (y : Outcome Took). afterTakeIn s y .station .lent ≡ s .lent) (s .state) (s .receivePool) d (λ r. refl) (λ gs e. refl)
-own-lent s (Call.flush t) = refl
-own-lent s (Call.read room) = reading-cases (λ (y : Outcome Reads). afterReading s y .station .lent ≡ s .lent) (s .state) (s .receivePool) room (λ r. refl) refl
+own-lent s = own-cases (λ (x : Call) (y : Stepped). y .station .lent ≡ s .lent) s (λ x r. refl) (λ m ok. refl) (λ d gs e. refl) (λ t. refl) (λ room. refl)
 
 pub own-lengths : (s : Station) (x : Call) → lengthsOf (own s x .station) ≡ lengthsOf s
 own-lengths s x = λ i. record {
@@ -281,11 +271,11 @@ opened-receiving c s p =
 pub receiving-stays-all : (c : Settings) (xs : List Call) (s : Station) → All CallFits xs → Passing s xs → ReceivingInOrder c s → ReceivingInOrder c (after s xs)
 unfolding after
 receiving-stays-all c [] s f p o = o
-receiving-stays-all c (x ∷ xs) s f p o = rw (step-own s x (p .0) (p .1)) (receiving-stays-all c xs (own s x .station) (f .1) (p .2) (receiving-stays c s x (f .0) o))
+receiving-stays-all c (x ∷ xs) s f p o =
+    subst (ReceivingInOrder c) (sym (after-first s x xs p)) (receiving-stays-all c xs (own s x .station) (f .1) (p .2) (receiving-stays c s x (f .0) o))
 
 -- the lent lengths are as at first
 pub after-lengths : (xs : List Call) (s : Station) → Passing s xs → lengthsOf (after s xs) ≡ lengthsOf s
 unfolding after
 after-lengths [] s p = refl
-after-lengths (x ∷ xs) s p =
-    ap (λ (y : Stepped). lengthsOf (after (y .station) xs)) (step-own s x (p .0) (p .1)) ∙ after-lengths xs (own s x .station) (p .2) ∙ own-lengths s x
+after-lengths (x ∷ xs) s p = ap lengthsOf (after-first s x xs p) ∙ after-lengths xs (own s x .station) (p .2) ∙ own-lengths s x
