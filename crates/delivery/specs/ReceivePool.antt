@@ -24,7 +24,8 @@ use Rattle.lists.specs.OrderLaws.{Between, ascending-first, ascending-length, i
 use Rattle.lists.specs.Receiving.{Received, isNext, advance}
 use Rattle.session.specs.Slots.{occurs, lowestFree}
 use Rattle.session.specs.State.{Receiving, Ack, slots}
-use Rattle.session.specs.Valid.{once, startsAt}
+use Rattle.lists.specs.Receiving.{startsAt}
+use Rattle.session.specs.Valid.{once}
 use Rattle.session.specs.Reading.{frontCount, readable, payloadIn, joinedIn, lengthOf, afterRead}
 use Rattle.session.specs.Input.{Receiver, inWindow, noted, isNew, kept, movedUpIn, withAcks, pushed, asked, heardByReceiving, allByReceiving}
 use Rattle.session.specs.Decides.{All, and-parts}
@@ -117,7 +118,7 @@ module _ (m : ℕ) (pool : List ℕ) where
       go false i = refl
 
   advance-settled : (n : ℕ) (r : List Held) (l : List Waiting) → Sound m pool (record { next = n; ready = r; waiting = l }) → Settled m pool (advance n r l)
-  unfolding advance
+  unfolding advance startsAt
   advance-settled n r [] s = record { sound = s; settled = refl }
   advance-settled n r (w ∷ l) s = go (isNext n w && ltb (length r) receiveWindow) refl (advance-settled (plus n 1) (r ++ (w .held ∷ [])) l)
     where

@@ -17,7 +17,8 @@ use Rattle.lists.specs.declared.Waiting.{Waiting}
 use Rattle.lists.specs.Orders.{ascending, waitingOffset}
 use Rattle.session.specs.State.{State, Receiving, Outcome, receiveHeld, slots}
 use Rattle.session.specs.Sizes.{Lengths, enough, enoughToFlush}
-use Rattle.session.specs.Valid.{all, once, heldFits, startsAt, waitingFits, settled, receivingValid}
+use Rattle.lists.specs.Receiving.{startsAt}
+use Rattle.session.specs.Valid.{all, once, heldFits, waitingFits, settled, receivingValid}
 use Rattle.session.specs.Opening.{opened}
 use Rattle.session.specs.Sending.{Sends}
 use Rattle.session.specs.Flushing.{flushing}
@@ -245,7 +246,7 @@ unfolding enough
 enough-receive m n e = leb-true _ _ (and-parts (leb (sendSlots * m) (n .sendPool)) _ (and-parts _ _ (and-parts _ _ e .0) .0) .1)
 
 pub opened-receiving : (c : Settings) (s : Station) → Opened c s → ReceivingInOrder c s
-unfolding opened ascending
+unfolding opened ascending startsAt
 opened-receiving c s p =
     in-order c s (ap (λ (x : State). x .settings) (p .state)) (rw (p .state) (record { next = omega arith; acks = tt }))
     (rw (p .state)

@@ -13,7 +13,8 @@ use Rattle.lists.specs.declared.Held.{Held}
 use Rattle.lists.specs.declared.Waiting.{Waiting}
 use Rattle.lists.specs.Orders.{waitingOffset}
 use Rattle.session.specs.State.{Receiving, receiveHeld, slots}
-use Rattle.session.specs.Valid.{all, heldFits, startsAt, waitingFits, settled, receivingValid}
+use Rattle.lists.specs.Receiving.{startsAt}
+use Rattle.session.specs.Valid.{all, heldFits, waitingFits, settled, receivingValid}
 use Rattle.session.specs.Decides.{Decides, All, leb-decides, ltb-decides, eqb-decides, and-decides, all-decides, via}
 use Rattle.session.specs.AllLaws.{all-both, all-one, all-other}
 use Rattle.session.specs.Once.{Once}
@@ -53,6 +54,7 @@ held-decide : (m : ℕ) (l : List Held) → Decides (all (heldFits m) l) (All (�
 held-decide m = all-decides (heldFits m) (λ (h : Held). Short m h × Fragment h) (λ h. and-decides (leb-decides (h .len) m) (leb-decides (h .fragment) fragmentMost))
 
 starts-decides : (n : ℕ) (l : List Waiting) → Decides (startsAt n l) (StartsAt n l)
+unfolding startsAt
 starts-decides n [] = record { holds = λ e. absurd (false≢true e); passes = λ x. absurd x }
 starts-decides n (w ∷ l) = eqb-decides (waitingOffset n w) 0
 

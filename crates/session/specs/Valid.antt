@@ -16,7 +16,7 @@ use Rattle.lists.specs.declared.Held.{Held}
 use Rattle.lists.specs.declared.Waiting.{Waiting}
 use Rattle.lists.specs.declared.Sent.{Sent}
 use Rattle.lists.specs.Orders.{ascending, sentOffset, waitingOffset}
-use Rattle.lists.specs.Receiving.{isNext}
+use Rattle.lists.specs.Receiving.{startsAt}
 use Rattle.lists.specs.Acknowledging.{firstNumberOr}
 use Rattle.session.specs.Slots.{occurs}
 use Rattle.session.specs.State.{Sending, Receiving, State, sendHeld, receiveHeld, slots}
@@ -53,11 +53,6 @@ numbersFit s =
 -- waiting numbers ascending from rcv_nxt to rcv_nxt + 127
 unfoldable pub waitingFits : Receiving → Bool
 waitingFits r = ascending (waitingOffset (r .next)) 0 receiveWindow (r .waiting)
-
--- the list starts with the number n
-abbrev pub startsAt : ℕ → List Waiting → Bool
-startsAt n [] = false
-startsAt n (w ∷ l) = isNext n w
 
 -- not starting at rcv_nxt while fewer than 128 are ready
 unfoldable pub settled : Receiving → Bool

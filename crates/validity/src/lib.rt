@@ -9,7 +9,6 @@ use timing::ProbeClock;
 use timing::RoundTrip;
 use timing::round_trip;
 ghost use mathlib.Core.Path.{_≡_};
-ghost use mathlib.Core.Bool.{_&&_};
 ghost use Prim.Native.Nat.{_≤_};
 ghost use Rattle.lists.specs.Views.{heldOf, waitingOf, sentOf};
 ghost use Rattle.session.specs.Valid.{all, heldFits, sentFits, timeoutFits, roundTripFits, probeFits};
@@ -66,27 +65,41 @@ fn timeout_fits(mode: u8, timeout: u32) -> bool
     (round_trip::least_timeout(mode) <= timeout) & (timeout <= Protocol::TIMEOUT_MOST)
 }
 
-// The segment as one that is held, its transmissions at most 20, its skips at most 255, and its timeout.
-fn sent_fits(sent: Sent, mss: usize, mode: u8) -> bool
-    ensures { λ r. ⌜ r ≡ (heldFits mss (sent .held) && sentFits mode sent) ⌝ }
-{
-    let held = sent.held;
-    let record = sent.record;
-    let few = sent.transmissions <= Protocol::DEAD_AFTER;
-    let skips = record.skips <= Protocol::SKIPS_MOST;
-    let timeout = timeout_fits(mode, record.timeout);
-    held_fits(held, mss) & (few & skips & timeout)
-}
-
-pub fn all_sent_fit(list: SentList, mss: usize, mode: u8) -> bool
+pub fn all_sent_held_fit(list: SentList, mss: usize) -> bool
     requires { ⌜ list .count ≤ 32 ⌝ }
-    ensures { λ r. ⌜ r ≡ all (λ x. heldFits mss (x .held) && sentFits mode x) (sentOf list) ⌝ }
+    ensures { λ r. ⌜ r ≡ all (λ x. heldFits mss (x .held)) (sentOf list) ⌝ }
 {
     let n = list.count;
     let mut i: usize = 0;
     while i < n {
         let sent = list.at[i];
-        if sent_fits(sent, mss, mode) {
+        if held_fits(sent.held, mss) {
+            i += 1;
+        } else {
+            return false;
+        }
+    }
+    true
+}
+
+// Transmissions at most 20, skips at most 255, and the timeout.
+fn sent_fits(sent: Sent, mode: u8) -> bool
+    ensures { λ r. ⌜ r ≡ sentFits mode sent ⌝ }
+{
+    let record = sent.record;
+    let timeout = timeout_fits(mode, record.timeout);
+    (sent.transmissions <= Protocol::DEAD_AFTER) & (record.skips <= Protocol::SKIPS_MOST) & timeout
+}
+
+pub fn all_sent_fit(list: SentList, mode: u8) -> bool
+    requires { ⌜ list .count ≤ 32 ⌝ }
+    ensures { λ r. ⌜ r ≡ all (sentFits mode) (sentOf list) ⌝ }
+{
+    let n = list.count;
+    let mut i: usize = 0;
+    while i < n {
+        let sent = list.at[i];
+        if sent_fits(sent, mode) {
             i += 1;
         } else {
             return false;

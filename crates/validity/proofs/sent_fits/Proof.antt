@@ -4,14 +4,8 @@ use borrow.Author.Needs.{needs}
 use Rattle.validity.proofs.sent_fits.Statement.{statement}
 use Rattle.validity.proofs.sent_fits.Tie as tie
 
-timeout-fits-requires : tie.Need-timeout-fits-requires
-timeout-fits-requires c κs = search needs
-
-held-fits-requires : tie.Need-held-fits-requires
-held-fits-requires c κs = search needs
-
 returns : tie.Need-returns
 returns c = cc
 
 pub sent-fits-spec : {M : Type 1} → statement M
-sent-fits-spec = tie.close (tie.spec timeout-fits-requires held-fits-requires returns)
+sent-fits-spec = tie.close (tie.spec (λ c κs. search needs) returns)
