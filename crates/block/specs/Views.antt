@@ -7,10 +7,9 @@ use lib.Dec.{leb, eqb}
 use Rattle.protocol.specs.Protocol.{sendSlots, sendWindow, receiveWindow, acksMost}
 use Rattle.timing.specs.declared.Record.{Record}
 use Rattle.lists.specs.Views.{heldOf, waitingOf, outstandingOf, sentOf}
+use Rattle.lists.specs.Joining.{joined}
 use Rattle.lists.specs.declared.HeldList.{HeldList}
 use Rattle.lists.specs.declared.Receiving as lists
-use Rattle.lists.specs.declared.Outstanding.{Outstanding}
-use Rattle.lists.specs.declared.Sent.{Sent}
 use Rattle.session.specs.State.{Ack, Sending, Receiving, State}
 use Rattle.block.specs.declared.Link.{Link}
 use Rattle.block.specs.declared.Flight.{Flight}
@@ -35,12 +34,6 @@ sendingOf queued f =
 abbrev pub receivingOf : lists.Receiving → List Ack → Bool → Receiving
 receivingOf r acks tell = record { next = r .next; ready = heldOf (r .ready); waiting = waitingOf (r .waiting); acks = acks; tell = tell }
 
--- outstanding segments with their records
-unfoldable pub withRecords : List Outstanding → List Record → List Sent
-withRecords [] rs = []
-withRecords (o ∷ os) [] = []
-withRecords (o ∷ os) (r ∷ rs) = record { held = o .held; transmissions = o .transmissions; «record» = r } ∷ withRecords os rs
-
 -- the state of a link
 unfoldable pub stateOf : Link → List Record → List ℕ → State
 stateOf l records acks =
@@ -51,7 +44,7 @@ stateOf l records acks =
         una = f .una;
         next = f .next;
         queued = heldOf (l .queued);
-        outstanding = withRecords (outstandingOf (f .outstanding)) records;
+        outstanding = joined (outstandingOf (f .outstanding)) records;
         window = f .window;
         roundTrip = f .rtt;
       };

@@ -1,4 +1,6 @@
-// The control block of a link, its size checks and its validity check.
+// The control block of a link, and its check: refusal 13.
+pub mod check;
+
 use lists::HeldList;
 use lists::OutstandingList;
 use lists::Receiving;
