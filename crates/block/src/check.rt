@@ -15,12 +15,12 @@ use timing::Record;
 ghost use mathlib.Core.Path.{_≡_};
 ghost use mathlib.Core.List.{List};
 ghost use mathlib.Core.Bool.{Bool};
-ghost use Prim.Native.Nat.{_≤_};
+ghost use Prim.Native.Nat.{ℕ, _≤_};
 ghost use lib.ListN.{length};
 ghost use Rattle.lists.specs.Views.{sentOf};
 ghost use Rattle.session.specs.State.{Ack};
 ghost use Rattle.session.specs.Valid.{sendingValid, receivingValid};
-ghost use Rattle.block.specs.Views.{sendingOf, receivingOf, countsFit};
+ghost use Rattle.block.specs.Views.{sendingOf, receivingOf, Joins, countsFit, blockValid};
 ghost use Rattle.block.specs.Checks.{inOrder};
 
 // Outstanding numbers ascending from snd_una up to but not including snd_nxt, at most 32 apart, the first being snd_una.
@@ -64,4 +64,51 @@ pub fn receiving_valid(settings: Settings, receiving: Receiving) -> bool
     let rising = waiting_list::ascending(waiting, next, Protocol::RECEIVE_WINDOW);
     let starts = waiting_list::starts_at(waiting, next);
     held & distinct & rising & !(starts & (ready.count < 128))
+}
+
+// The segments in flight with their records.
+pub fn flight_of(stored: StoredFlight, records: [Record; 32]) -> Flight
+    requires { ⌜ stored .outstanding .count ≤ 32 ⌝ }
+    ensures { λ r. ⌜ Joins stored records r ⌝ }
+{
+    let list = stored.outstanding;
+    let rtt = stored.rtt;
+    let outstanding = outstanding_list::joined(list, records);
+    Flight {
+        una: stored.una,
+        next: stored.next,
+        rtt,
+        window: stored.window,
+        outstanding,
+    }
+}
+
+// Each count is within what its array holds.
+fn counts_fit(link: Link) -> bool
+    ensures { λ r. ⌜ r ≡ countsFit link ⌝ }
+{
+    (link.queued.count <= 128)
+        & (link.flight.outstanding.count <= 32)
+        & (link.receiving.ready.count <= 128)
+        & (link.receiving.waiting.count <= 128)
+        & (link.acks <= Protocol::ACKS_MOST)
+}
+
+// Whether a block is one that this link makes, with these records of its outstanding segments.
+pub fn valid(link: Link, records: [Record; 32]) -> bool
+    ensures { λ r. ⌜ ((acks : List ℕ) → r ≡ blockValid link records acks) ⌝ }
+{
+    if counts_fit(link) {
+        let settings = link.settings;
+        let queued = link.queued;
+        let stored = link.flight;
+        let receiving = link.receiving;
+        let probe = link.probe;
+        let flight = flight_of(stored, records);
+        let sends = sending_valid(settings, queued, flight);
+        let receives = receiving_valid(settings, receiving);
+        settings.in_range() & sends & receives & validity::probe_fits(probe)
+    } else {
+        false
+    }
 }
