@@ -47,8 +47,8 @@ pub sending-checked : (c : Settings) (s : Sending) (m : ℕ) (a b d n f t : Bool
 unfolding sendingValid numbersFit inOrder
 sending-checked c s m a b d n f t em ea eb ed en ef et =
     let held : all (heldFits m) (sendHeld s) ≡ (a && b) =
-        all-append (heldFits m) (map sentPart (s .outstanding)) (s .queued)
-        ∙ ap₂ _&&_ (all-map (heldFits m) sentPart (s .outstanding) ∙ sym ea) (sym eb) in
+    all-append (heldFits m) (map sentPart (s .outstanding)) (s .queued)
+    ∙ ap₂ _&&_ (all-map (heldFits m) sentPart (s .outstanding) ∙ sym ea) (sym eb) in
     rw (← em, held, ← distinct-agrees sendSlots (sendHeld s), ← ed, ← en, ← ef, ← et)
 
 pub receiving-checked : (c : Settings) (r : Receiving) (m : ℕ) (a b d o g : Bool) (count : ℕ)
@@ -65,8 +65,8 @@ pub receiving-checked : (c : Settings) (r : Receiving) (m : ℕ) (a b d o g : Bo
 unfolding receivingValid waitingFits settled
 receiving-checked c r m a b d o g count em ea eb ed eo eg en few acks =
     let held : all (heldFits m) (receiveHeld r) ≡ (a && b) =
-        all-append (heldFits m) (r .ready) (map waitingPart (r .waiting))
-        ∙ ap₂ _&&_ (sym ea) (all-map (heldFits m) waitingPart (r .waiting) ∙ sym eb) in
+    all-append (heldFits m) (r .ready) (map waitingPart (r .waiting))
+    ∙ ap₂ _&&_ (sym ea) (all-map (heldFits m) waitingPart (r .waiting) ∙ sym eb) in
     rw (← em, held, ← distinct-agrees receiveSlots (receiveHeld r), ← ed, ← eo, ← eg, ← en, le-leb count 128 few, le-leb (length (r .acks)) 256 acks) (last (a && b && d) o (not (g && ltb count 128)))
   where
     last : (x y z : Bool) → (x && y && z) ≡ (x && true && y && z && true)

@@ -1,7 +1,7 @@
 // Lists datagrams that are refused for one reason each, and one that has a tail.
 use libc::STDOUT_FILENO;
-use wire::Header;
 use protocol::Protocol;
+use wire::Header;
 ghost use Prim.Native.Nat.{_≤_};
 
 // Lists the first `size` bytes of two headers and zeros behind them.

@@ -3,9 +3,9 @@ mod out;
 mod text;
 
 use datagram::Checked;
+use protocol::Refusal;
 use wire::Found;
 use wire::Header;
-use protocol::Refusal;
 ghost use mathlib.Core.Path.{_≡_};
 ghost use Rattle.listing.specs.Lines.{segmentLine, countLine, refusalLine, Holds};
 ghost use Rattle.listing.specs.Listings.{judged, WroteListing};
