@@ -1,8 +1,8 @@
 // The walk over a datagram: its check, and its segments one by one.
-use wire::Found;
-use wire::Header;
 use protocol::Protocol;
 use protocol::Refusal;
+use wire::Found;
+use wire::Header;
 ghost use mathlib.Core.Path.{_≡_};
 ghost use Rattle.datagram.specs.Datagrams.{verdict, parse, counted, stepAt};
 

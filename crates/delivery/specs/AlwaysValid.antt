@@ -1,0 +1,68 @@
+-- Validity: after an accepted opening, with lent parts of the stated sizes, no list of calls ever gives 13, nor 7 for a lent part.
+-- Assumes nothing.
+use mathlib.Core.Path.{_≡_, refl, sym, ap, _∙_}
+use mathlib.Core.Bool.{Bool, true, _&&_}
+use mathlib.Core.List.{List, [], _∷_}
+use Prim.Native.Nat.{ℕ}
+use Rattle.protocol.specs.Ranges.{inRange, mss}
+use Rattle.protocol.specs.declared.Settings.{Settings}
+use Rattle.session.specs.State.{State}
+use Rattle.session.specs.Sizes.{Lengths, enough, enoughToFlush}
+use Rattle.session.specs.Valid.{valid, sendingValid, receivingValid, probeFits}
+use Rattle.session.specs.Calls.{Station, Call, Lent, own, lengthsOf, longEnough, after, step}
+use Rattle.session.specs.Decides.{All}
+use Rattle.delivery.specs.Hearing.{Opened, Taken, CallFits}
+use Rattle.delivery.specs.Passing.{Passing, step-own}
+use Rattle.delivery.specs.SendingStays.{SendingInOrder, sending-stays, opened-in-order}
+use Rattle.delivery.specs.ReceivingLaws.{ReceivingInOrder, receiving-stays, opened-receiving, flush-enough, own-lent, own-lengths}
+
+-- a station whose two halves are in order, with parts that are long enough
+pub record InOrder (c : Settings) (s : Station) : Type 0 where
+  pub sends : SendingInOrder c s
+  pub receives : ReceivingInOrder c s
+  pub long : enoughToFlush (mss c) (lengthsOf s) (s .lent .output) (s .lent .lengths) ≡ true
+
+valid-of : (s : State) → inRange (s .settings) ≡ true → sendingValid (s .settings) (s .sending) ≡ true → receivingValid (s .settings) (s .receiving) ≡ true
+    → probeFits (s .probe) ≡ true → valid s ≡ true
+unfolding valid
+valid-of s a b d e = rw (a, b, d, e)
+
+module _ (c : Settings) (range : inRange c ≡ true) where
+  pub in-order-valid : (s : Station) → InOrder c s → valid (s .state) ≡ true
+  in-order-valid s o =
+      let e = o .sends .settings in
+      valid-of (s .state) (rw e range) (rw e (o .sends .valid)) (rw e (o .receives .valid)) (o .sends .probe)
+
+  pub in-order-long : (s : Station) (x : Call) → InOrder c s → longEnough s x ≡ true
+  in-order-long s (Call.send m) o = rw (o .sends .settings) (flush-enough _ _ _ _ (o .long))
+  in-order-long s (Call.takeIn d) o = rw (o .sends .settings) (flush-enough _ _ _ _ (o .long))
+  in-order-long s (Call.flush t) o = rw (o .sends .settings) (o .long)
+  in-order-long s (Call.read room) o = rw (o .sends .settings) (flush-enough _ _ _ _ (o .long))
+
+  pub in-order-stays : (s : Station) (x : Call) → CallFits x → InOrder c s → InOrder c (own s x .station)
+  in-order-stays s x fits o = record {
+    sends = sending-stays c range s x fits (o .sends);
+    receives = receiving-stays c s x fits (o .receives);
+    long = rw (own-lengths s x, own-lent s x) (o .long);
+  }
+
+  pub always-passing : (xs : List Call) (s : Station) → All CallFits xs → InOrder c s → Passing s xs
+  always-passing [] s fits o = tt
+  always-passing (x ∷ xs) s fits o =
+      (in-order-long s x o, in-order-valid s o, always-passing xs (own s x .station) (fits .1) (in-order-stays s x (fits .0) o))
+
+  pub always-in-order : (xs : List Call) (s : Station) → All CallFits xs → InOrder c s → InOrder c (after s xs)
+  unfolding after
+  always-in-order [] s fits o = o
+  always-in-order (x ∷ xs) s fits o =
+      rw (step-own s x (in-order-long s x o) (in-order-valid s o)) (always-in-order xs (own s x .station) (fits .1) (in-order-stays s x (fits .0) o))
+
+pub opened-all : (c : Settings) (s : Station) → Opened c s → InOrder c s
+opened-all c s o = record { sends = opened-in-order c s o; receives = opened-receiving c s o; long = o .long }
+
+-- each call of any list passes the checks of 7 and 13, and the station that it leaves is valid
+pub always-valid : (c : Settings) → Taken c → (s : Station) → Opened c s → (calls : List Call) → All CallFits calls
+    → Passing s calls × (valid (after s calls .state) ≡ true)
+always-valid c taken s o calls fits =
+    let i = opened-all c s o in
+    (always-passing c (taken .range) calls s fits i, in-order-valid c (taken .range) (after s calls) (always-in-order c (taken .range) calls s fits i))

@@ -1,0 +1,103 @@
+-- The outcomes of each call: what holds of each of them holds of what the call gives.
+-- Assumes nothing.
+use mathlib.Core.Path.{_≡_, refl}
+use mathlib.Core.Bool.{Bool, true, false, cond}
+use mathlib.Core.List.{List, _++_}
+use Prim.Native.Nat.{ℕ, _-_, _*_}
+use lib.Dec.{leb, ltb}
+use lib.ListN.{length}
+use Rattle.protocol.specs.Protocol.{sendSlots, fragmentsMost}
+use Rattle.protocol.specs.Ranges.{mss}
+use Rattle.protocol.specs.declared.Refusal.{Refusal}
+use Rattle.protocol.specs.declared.Refusal.the-variants.{ShortPart, LongMessage, NoFreeSlots}
+use Rattle.datagram.specs.Datagrams.{Segment, Parsed, parse}
+use Rattle.session.specs.State.{State, Outcome, sendHeld, slots}
+use Rattle.session.specs.Cutting.{fragmentCount, cut}
+use Rattle.session.specs.Sending.{Placed, place, Sends, withQueued, sending}
+use Rattle.session.specs.Input.{Took, applied, taking, input}
+use Rattle.session.specs.Flushing.{flushing}
+use Rattle.session.specs.Calls.{Station, Call, Answer, Stepped, afterSend, afterTakeIn, afterFlush, afterReading, own}
+use Rattle.session.specs.Reading.{Reads, readable, unreadable, messageSize, message, afterRead, withReceiving, reading}
+
+-- where a message's segments are placed
+abbrev pub placing : State → List ℕ → List ℕ → Placed
+placing s pool m = place (mss (s .settings)) (slots (sendHeld (s .sending))) pool (cut (mss (s .settings)) m)
+
+-- a message is not above 127 x mss bytes, and has no more fragments than there are free slots
+pub record Sendable (s : State) (m : List ℕ) : Type 0 where
+  pub short : ltb (fragmentsMost * mss (s .settings)) (length m) ≡ false
+  pub room : ltb (sendSlots - length (slots (sendHeld (s .sending)))) (fragmentCount (mss (s .settings)) (length m)) ≡ false
+
+pub sending-cases : (P : Outcome Sends → Type 0) (s : State) (pool m : List ℕ) →
+    ((r : Refusal) → P (Outcome.refused r)) →
+    (Sendable s m → P (Outcome.done (record { state = withQueued s (s .sending .queued ++ placing s pool m .segments); pool = placing s pool m .pool }))) →
+    P (sending s pool m)
+unfolding sending
+sending-cases P s pool m refused done =
+    go (ltb (fragmentsMost * mss (s .settings)) (length m)) refl
+    (ltb (sendSlots - length (slots (sendHeld (s .sending)))) (fragmentCount (mss (s .settings)) (length m))) refl
+  where
+    result : Sends
+    result = record { state = withQueued s (s .sending .queued ++ placing s pool m .segments); pool = placing s pool m .pool }
+
+    go : (a : Bool) → ltb (fragmentsMost * mss (s .settings)) (length m) ≡ a →
+        (b : Bool) → ltb (sendSlots - length (slots (sendHeld (s .sending)))) (fragmentCount (mss (s .settings)) (length m)) ≡ b →
+        P (cond a (Outcome.refused LongMessage) (cond b (Outcome.refused NoFreeSlots) (Outcome.done result)))
+    go true e b f = refused LongMessage
+    go false e true f = refused NoFreeSlots
+    go false e false f = done (record { short = e; room = f })
+
+pub input-cases : (P : Outcome Took → Type 0) (s : State) (pool d : List ℕ) →
+    ((r : Refusal) → P (Outcome.refused r)) →
+    ((gs : List Segment) → parse (s .settings .conv) (mss (s .settings)) d ≡ Parsed.segments gs → P (Outcome.done (applied s pool gs))) →
+    P (input s pool d)
+unfolding input
+input-cases P s pool d refused done = go (parse (s .settings .conv) (mss (s .settings)) d) refl
+  where
+    go : (p : Parsed) → parse (s .settings .conv) (mss (s .settings)) d ≡ p → P (taking s pool p)
+    go (Parsed.refused r) e = refused r
+    go (Parsed.segments gs) e = done gs e
+
+pub reading-cases : (P : Outcome Reads → Type 0) (s : State) (pool : List ℕ) (room : ℕ) →
+    ((r : Refusal) → P (Outcome.refused r)) →
+    P (Outcome.done (record { state = withReceiving s (afterRead (s .receiving)); bytes = message s pool })) →
+    P (reading s pool room)
+unfolding reading
+reading-cases P s pool room refused done = go (readable (s .receiving .ready)) (leb (messageSize (s .receiving)) room)
+  where
+    result : Reads
+    result = record { state = withReceiving s (afterRead (s .receiving)); bytes = message s pool }
+
+    go : (a b : Bool) → P (cond a (cond b (Outcome.done result) (Outcome.refused ShortPart)) (Outcome.refused (unreadable (s .receiving .ready))))
+    go true true = done
+    go true false = refused ShortPart
+    go false b = refused (unreadable (s .receiving .ready))
+
+-- all calls at once: each is refused and leaves the station, or goes on as it does
+pub own-cases : (Q : Call → Stepped → Type 0) (s : Station) →
+    ((x : Call) (r : Refusal) → Q x (record { station = s; answer = Answer.refused r })) →
+    ((m : List ℕ) →
+    Sendable (s .state) m →
+    Q (Call.send m)
+    (afterSend s
+    (Outcome.done
+    (record {
+      state = withQueued (s .state) (s .state .sending .queued ++ placing (s .state) (s .sendPool) m .segments);
+      pool = placing (s .state) (s .sendPool) m .pool;
+    })))) →
+    ((d : List ℕ) (gs : List Segment) →
+    parse (s .state .settings .conv) (mss (s .state .settings)) d ≡ Parsed.segments gs →
+    Q (Call.takeIn d) (afterTakeIn s (Outcome.done (applied (s .state) (s .receivePool) gs)))) →
+    ((t : ℕ) → Q (Call.flush t) (afterFlush s (flushing (s .state) t (s .sendPool)))) →
+    ((room : ℕ) →
+    Q (Call.read room)
+    (afterReading s (Outcome.done (record { state = withReceiving (s .state) (afterRead (s .state .receiving)); bytes = message (s .state) (s .receivePool) })))) →
+    (x : Call) →
+    Q x (own s x)
+own-cases Q s refused sends takes flushes reads (Call.send m) =
+    sending-cases (λ (y : Outcome Sends). Q (Call.send m) (afterSend s y)) (s .state) (s .sendPool) m (refused (Call.send m)) (sends m)
+own-cases Q s refused sends takes flushes reads (Call.takeIn d) =
+    input-cases (λ (y : Outcome Took). Q (Call.takeIn d) (afterTakeIn s y)) (s .state) (s .receivePool) d (refused (Call.takeIn d)) (takes d)
+own-cases Q s refused sends takes flushes reads (Call.flush t) = flushes t
+own-cases Q s refused sends takes flushes reads (Call.read room) =
+    reading-cases (λ (y : Outcome Reads). Q (Call.read room) (afterReading s y)) (s .state) (s .receivePool) room (refused (Call.read room)) (reads room)

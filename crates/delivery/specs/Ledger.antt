@@ -1,0 +1,75 @@
+-- The ledger of document 01: used send slots equal the fragments accepted less the segments acknowledged, over any calls since
+-- opening. Acknowledged means: outstanding when an arriving ack named its number or an arriving una came after it. Definitions.
+-- Assumes nothing.
+use mathlib.Core.Path.{_≡_}
+use mathlib.Core.Bool.{Bool, cond, _||_, _&&_}
+use mathlib.Core.List.{List, [], _∷_}
+use Prim.Native.Nat.{ℕ, zero, suc, _+_, _-_}
+use lib.Dec.{eqb}
+use lib.ListN.{length}
+use Rattle.protocol.specs.Protocol.{ack, sendSlots}
+use Rattle.protocol.specs.Ranges.{mss}
+use Rattle.protocol.specs.Serial.{isAfter}
+use Rattle.wire.specs.declared.Header.{Header}
+use Rattle.protocol.specs.declared.Settings.{Settings}
+use Rattle.datagram.specs.Datagrams.{Segment, Parsed, parse}
+use Rattle.lists.specs.declared.Sent.{Sent}
+use Rattle.lists.specs.Acknowledging.{select}
+use Rattle.session.specs.Slots.{occurs}
+use Rattle.session.specs.State.{State, Sending, sendHeld, slots}
+use Rattle.session.specs.Input.{heardBySending}
+use Rattle.session.specs.Calls.{Station, Call, Answer, step, history, after, acceptedList}
+use Rattle.delivery.specs.PlainReceiver.{segmentsOf}
+
+-- ---- used send slots
+
+-- how many of the slots 0 to n - 1 are in the list
+unfoldable pub usedBelow : ℕ → List ℕ → ℕ
+usedBelow zero l = 0
+usedBelow (suc n) l = cond (occurs n l) (suc (usedBelow n l)) (usedBelow n l)
+
+-- the send slots that an outstanding or a queued segment holds
+unfoldable pub usedSlots : Sending → ℕ
+usedSlots s = usedBelow sendSlots (slots (sendHeld s))
+
+-- ---- fragments accepted
+
+-- the segments of the messages accepted in these calls
+unfoldable pub fragmentsAccepted : Station → List Call → ℕ
+fragmentsAccepted s calls = segmentsOf (mss (s .state .settings)) (acceptedList (history s calls))
+
+-- ---- segments acknowledged
+
+-- an arriving una came after the segment's number, or an arriving ack named it
+abbrev pub acknowledges : Header → Sent → Bool
+acknowledges h x = isAfter (h .una) (x .record .number) || eqb (h .cmd) ack && eqb (x .record .number) (h .sn)
+
+-- by the segments of a datagram in turn: those that are outstanding when each arrives
+unfoldable pub acknowledgedByEach : Settings → ℕ → Sending → List Segment → ℕ
+acknowledgedByEach c current s [] = 0
+acknowledgedByEach c current s (g ∷ gs) =
+    length (select (acknowledges (g .header)) (s .outstanding)) + acknowledgedByEach c current (heardBySending c current s (g .header)) gs
+
+abbrev pub acknowledgedByParsed : State → Parsed → ℕ
+acknowledgedByParsed s (Parsed.refused r) = 0
+acknowledgedByParsed s (Parsed.segments gs) = acknowledgedByEach (s .settings) (s .current) (s .sending) gs
+
+-- by a call with this answer: a datagram that is not refused
+abbrev pub acknowledgedBy : Station → Call → Answer → ℕ
+acknowledgedBy s (Call.takeIn d) Answer.accepted = acknowledgedByParsed (s .state) (parse (s .state .settings .conv) (mss (s .state .settings)) d)
+acknowledgedBy s (Call.takeIn d) (Answer.refused r) = 0
+acknowledgedBy s (Call.takeIn d) (Answer.wrote ds) = 0
+acknowledgedBy s (Call.takeIn d) (Answer.message b) = 0
+acknowledgedBy s (Call.send m) a = 0
+acknowledgedBy s (Call.flush t) a = 0
+acknowledgedBy s (Call.read room) a = 0
+
+-- by these calls: each gets the station as the last one left it
+unfoldable pub segmentsAcknowledged : Station → List Call → ℕ
+segmentsAcknowledged s [] = 0
+segmentsAcknowledged s (x ∷ xs) = acknowledgedBy s x (step s x .answer) + segmentsAcknowledged (step s x .station) xs
+
+-- ---- the ledger
+
+abbrev pub Ledger : Station → List Call → Type 0
+Ledger s calls = usedSlots (after s calls .state .sending) ≡ fragmentsAccepted s calls - segmentsAcknowledged s calls

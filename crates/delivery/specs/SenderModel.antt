@@ -1,0 +1,248 @@
+-- What the sending half shows of the accepted list: the queued segments are its pieces from snd_nxt on, each outstanding one is the piece of its number.
+-- A proof layer between the calls and the accepted list: no contract cites it.
+-- Assumes nothing.
+use mathlib.Core.Path.{_≡_, refl, sym, ap, ap₂, _∙_}
+use mathlib.Core.Bool.{Bool, true, false, cond, not, _&&_}
+use mathlib.Core.List.{List, [], _∷_, _++_, map}
+use mathlib.Core.Option.{some}
+use Prim.Native.Nat.{ℕ, zero, suc, _+_, _*_, _^_, _≤_, _<_}
+use native.Mathlib.Omega.{arith}
+use lib.Dec.{eqb}
+use lib.ListN.{length, take, drop, getElem?, length-append, length-take, length-drop, length-map, take-append-drop}
+use lib.Seq.{drop-append-le, drop-drop}
+use Rattle.protocol.specs.Protocol.{ack, sendWindow}
+use Rattle.protocol.specs.Serial.{plus, isBefore}
+use Rattle.wire.specs.declared.Header.{Header}
+use Rattle.protocol.specs.declared.Settings.{Settings}
+use Rattle.datagram.specs.Datagrams.{Segment}
+use Rattle.lists.specs.declared.Held.{Held}
+use Rattle.lists.specs.declared.Sent.{Sent}
+use Rattle.lists.specs.declared.Acknowledges.{Acknowledges}
+use Rattle.lists.specs.declared.Acknowledges.the-variants as by
+use Rattle.lists.specs.Acknowledging as acknowledging
+use Rattle.lists.specs.Acknowledging.{skipBefore}
+use Rattle.session.specs.Slots.{occurs}
+use Rattle.session.specs.State.{Sending, sendHeld, slots}
+use Rattle.session.specs.Sending.{Placed}
+use Rattle.session.specs.Input.{acknowledged, withWindow, sampledBy, heardBySending, allBySending, furthest, skipped, skippedByAll}
+use Rattle.session.specs.Flushing.{numbered, withNumbered}
+use Rattle.session.specs.Decides.{All}
+use Rattle.session.specs.AllLaws.{all-left, all-right, all-append}
+use Rattle.delivery.specs.Pieces.{Piece, falling}
+use Rattle.delivery.specs.MapLaws.{map-append, map-drop}
+use Rattle.delivery.specs.FreeSlots.{occurs-first, occurs-later}
+use Rattle.delivery.specs.SendPool.{pieceIn, PlacedWell}
+use Rattle.delivery.specs.SendingHalf.{HeldWell, all-select}
+use Rattle.delivery.specs.SendingTakesIn.{skip-held, skip-number}
+use Rattle.delivery.specs.SendingSends.{withQueue}
+use Rattle.delivery.specs.SendingFlushes.{flushedWith}
+
+-- ---- entries of lists
+
+-- what stands at n, and behind it
+pub drop-head : {A : Type 0} (l : List A) (n : ℕ) (a : A) (r : List A) → drop n l ≡ a ∷ r → (getElem? l n ≡ some a) × (drop (suc n) l ≡ r)
+drop-head [] zero a r e = absurd (let z : _≡_ {A = ℕ} 0 1 = cc in omega arith)
+drop-head [] (suc n) a r e = absurd (let z : _≡_ {A = ℕ} 0 1 = cc in omega arith)
+drop-head (x ∷ l) zero a r e = (cc, cc)
+drop-head (x ∷ l) (suc n) a r e = drop-head l n a r e
+
+pub get-append : {A : Type 0} (l r : List A) (n : ℕ) (a : A) → getElem? l n ≡ some a → getElem? (l ++ r) n ≡ some a
+get-append [] r n a e = absurd (let z : _≡_ {A = ℕ} 0 1 = cc in omega arith)
+get-append (x ∷ l) r zero a e = e
+get-append (x ∷ l) r (suc n) a e = get-append l r n a e
+
+map-same : {A B : Type 0} (f g : A → B) (l : List A) → All (λ (x : A). f x ≡ g x) l → map f l ≡ map g l
+map-same f g [] a = refl
+map-same {B = B} f g (x ∷ l) a = ap₂ {C = List B} (λ (y : B) (r : List B). y ∷ r) (a .0) (map-same f g l (a .1))
+
+-- ---- what a half shows
+
+-- an outstanding segment is the piece of its number, which is below 2^30
+pub record Shows (m : ℕ) (pool : List ℕ) (pieces : List Piece) (x : Sent) : Type 0 where
+  pub its-piece : getElem? pieces (x .record .number) ≡ some (pieceIn m pool (x .held))
+  pub small : x .record .number < 2 ^ 30
+
+pub record Sends (m : ℕ) (pool : List ℕ) (pieces : List Piece) (s : Sending) : Type 0 where
+  pub low : s .next ≤ 2 ^ 30
+  pub ahead : s .next + length (s .queued) ≡ length pieces
+  pub queued : map (pieceIn m pool) (s .queued) ≡ drop (s .next) pieces
+  pub sent : All (Shows m pool pieces) (s .outstanding)
+
+-- ---- taking in changes neither the queue nor any segment
+
+module _ (P : Sent → Type 0) (skips : (n : ℕ) (x : Sent) → P x → P (skipBefore n x)) where
+  record Keeps (s s′ : Sending) : Type 0 where
+    next : s′ .next ≡ s .next
+    queued : s′ .queued ≡ s .queued
+    sent : All P (s .outstanding) → All P (s′ .outstanding)
+
+  both : (s s′ s″ : Sending) → Keeps s s′ → Keeps s′ s″ → Keeps s s″
+  both s s′ s″ a b = record { next = b .next ∙ a .next; queued = b .queued ∙ a .queued; sent = λ h. b .sent (a .sent h) }
+
+  keeps-acknowledged : (arrival : Acknowledges) (s : Sending) → Keeps s (acknowledged arrival s)
+  unfolding acknowledged
+  keeps-acknowledged arrival s =
+      record { next = refl; queued = refl; sent = all-select (λ (x : Sent). not (acknowledging.acknowledged arrival (x .record .number))) P (s .outstanding) }
+
+  keeps-sampled : (c : Settings) (current ts : ℕ) (s : Sending) → Keeps s (sampledBy c current ts s)
+  unfolding sampledBy
+  keeps-sampled c current ts s = record { next = refl; queued = refl; sent = λ h. h }
+
+  keeps-heard : (c : Settings) (current : ℕ) (s : Sending) (g : Header) → Keeps s (heardBySending c current s g)
+  unfolding heardBySending
+  keeps-heard c current s g = go (eqb (g .cmd) ack)
+    where
+      passed : Sending
+      passed = acknowledged (by.Una (g .una)) (withWindow (g .wnd) s)
+
+      first : Keeps s passed
+      first = both s (withWindow (g .wnd) s) passed (record { next = refl; queued = refl; sent = λ h. h }) (keeps-acknowledged (by.Una (g .una)) (withWindow (g .wnd) s))
+
+      go : (b : Bool) → Keeps s (cond b (acknowledged (by.Ack (g .sn)) (sampledBy c current (g .ts) passed)) passed)
+      go true =
+          both s (sampledBy c current (g .ts) passed) (acknowledged (by.Ack (g .sn)) (sampledBy c current (g .ts) passed))
+          (both s passed (sampledBy c current (g .ts) passed) first (keeps-sampled c current (g .ts) passed))
+          (keeps-acknowledged (by.Ack (g .sn)) (sampledBy c current (g .ts) passed))
+      go false = first
+
+  keeps-all : (c : Settings) (current : ℕ) (s : Sending) (gs : List Segment) → Keeps s (allBySending c current s gs)
+  unfolding allBySending
+  keeps-all c current s [] = record { next = refl; queued = refl; sent = λ h. h }
+  keeps-all c current s (g ∷ gs) =
+      both s (heardBySending c current s (g .header)) (allBySending c current (heardBySending c current s (g .header)) gs) (keeps-heard c current s (g .header))
+      (keeps-all c current (heardBySending c current s (g .header)) gs)
+
+  all-skip : (n : ℕ) (l : List Sent) → All P l → All P (map (skipBefore n) l)
+  all-skip n [] a = tt
+  all-skip n (x ∷ l) a = (skips n x (a .0), all-skip n l (a .1))
+
+  keeps-skipped : (s : Sending) (n : ℕ) → Keeps s (skipped s n)
+  unfolding skipped
+  keeps-skipped s n = go (not (isBefore n (s .una)) && isBefore n (s .next))
+    where
+      go : (b : Bool) →
+          Keeps s (cond b (record { una = s .una; next = s .next; queued = s .queued; outstanding = map (skipBefore n) (s .outstanding); window = s .window; roundTrip = s .roundTrip }) s)
+      go true = record { next = refl; queued = refl; sent = all-skip n (s .outstanding) }
+      go false = record { next = refl; queued = refl; sent = λ h. h }
+
+  keeps-skips : (s : Sending) (l : List ℕ) → Keeps s (skippedByAll s l)
+  keeps-skips s [] = record { next = refl; queued = refl; sent = λ h. h }
+  keeps-skips s (n ∷ l) = keeps-skipped s (furthest n l)
+
+  keeps-taken : (c : Settings) (current : ℕ) (s : Sending) (gs : List Segment) (l : List ℕ) → Keeps s (skippedByAll (allBySending c current s gs) l)
+  keeps-taken c current s gs l =
+      both s (allBySending c current s gs) (skippedByAll (allBySending c current s gs) l) (keeps-all c current s gs) (keeps-skips (allBySending c current s gs) l)
+
+skip-shows : (m : ℕ) (pool : List ℕ) (pieces : List Piece) (n : ℕ) (x : Sent) → Shows m pool pieces x → Shows m pool pieces (skipBefore n x)
+skip-shows m pool pieces n x h = record { its-piece = rw (skip-number n x, skip-held n x) (h .its-piece); small = rw (skip-number n x) (h .small) }
+
+pub sends-taken : (m : ℕ) (pool : List ℕ) (pieces : List Piece) (c : Settings) (current : ℕ) (s : Sending) (gs : List Segment) (l : List ℕ) →
+    Sends m pool pieces s →
+    Sends m pool pieces (skippedByAll (allBySending c current s gs) l)
+sends-taken m pool pieces c current s gs l h =
+    let k = keeps-taken (Shows m pool pieces) (skip-shows m pool pieces) c current s gs l in
+    record { low = rw (k .next) (h .low); ahead = rw (k .next, k .queued) (h .ahead); queued = rw (k .next, k .queued) (h .queued); sent = k .sent (h .sent) }
+
+-- ---- sending
+
+-- segments in used slots show the same in a pool where those slots are as they were
+old-pieces : (m : ℕ) (used pool pool′ : List ℕ) →
+    ((slot n : ℕ) → occurs slot used ≡ true → n ≤ m → take n (drop (slot * m) pool′) ≡ take n (drop (slot * m) pool)) →
+    (l : List Held) →
+    All (λ (h : Held). h .len ≤ m) l →
+    ((slot : ℕ) → occurs slot (slots l) ≡ true → occurs slot used ≡ true) →
+    All (λ (h : Held). pieceIn m pool′ h ≡ pieceIn m pool h) l
+old-pieces m used pool pool′ same [] a i = tt
+old-pieces m used pool pool′ same (h ∷ l) a i = (
+  ap (λ (b : List ℕ). record { fragment = h .fragment; payload = b }) (same (h .slot) (h .len) (i (h .slot) (occurs-first (h .slot) (slots l))) (a .0)),
+  old-pieces m used pool pool′ same l (a .1) (λ s e. i s (occurs-later s (h .slot) (slots l) e)),
+)
+
+shows-more : (m : ℕ) (pool pool′ : List ℕ) (pieces more : List Piece) (l : List Sent) →
+    All (λ (h : Held). pieceIn m pool′ h ≡ pieceIn m pool h) (map (λ (x : Sent). x .held) l) →
+    All (Shows m pool pieces) l →
+    All (Shows m pool′ (pieces ++ more)) l
+shows-more m pool pool′ pieces more [] e a = tt
+shows-more m pool pool′ pieces more (x ∷ l) e a = (
+  record { its-piece = get-append pieces more (x .record .number) (pieceIn m pool′ (x .held)) (a .0 .its-piece ∙ ap some (sym (e .0))); small = a .0 .small },
+  shows-more m pool pool′ pieces more l (e .1) (a .1),
+)
+
+length-falling : (ps : List (List ℕ)) → length (falling ps) ≡ length ps
+unfolding falling
+length-falling [] = refl
+length-falling (p ∷ ps) = ap suc (length-falling ps)
+
+pub sends-more : (m : ℕ) (pool : List ℕ) (pieces : List Piece) (s : Sending) (ps : List (List ℕ)) (r : Placed) →
+    HeldWell m (sendHeld s) →
+    PlacedWell m (slots (sendHeld s)) pool ps r →
+    Sends m pool pieces s →
+    Sends m (r .pool) (pieces ++ falling ps) (withQueue s (s .queued ++ r .segments))
+sends-more m pool pieces s ps r w p h = record {
+  low = h .low;
+  ahead = simp (length-append, length-falling) (omega (arith, h .ahead, simp (length-map, length-falling) at (ap length (p .new))));
+  queued =
+      map-append (pieceIn m (r .pool)) (s .queued) (r .segments)
+      ∙ ap₂ {C = List Piece} (λ (a b : List Piece). a ++ b) (map-same (pieceIn m (r .pool)) (pieceIn m pool) (s .queued) (all-right Same out (s .queued) same) ∙ h .queued) (p .new)
+      ∙ sym (drop-append-le (s .next) pieces (falling ps) (omega (arith, h .ahead)));
+  sent = shows-more m pool (r .pool) pieces (falling ps) (s .outstanding) (all-left Same out (s .queued) same) (h .sent);
+}
+  where
+    out : List Held
+    out = map (λ (x : Sent). x .held) (s .outstanding)
+
+    Same : Held → Type 0
+    Same x = pieceIn m (r .pool) x ≡ pieceIn m pool x
+
+    same : All Same (sendHeld s)
+    same = old-pieces m (slots (sendHeld s)) pool (r .pool) (p .old) (sendHeld s) (w .lengths) (λ slot e. e)
+
+-- ---- flushing
+
+-- numbers from n on, that do not wrap
+numbered-shows : (m : ℕ) (pool : List ℕ) (pieces : List Piece) (n : ℕ) (q : List Held) (rest : List Piece) →
+    n + length q ≤ 2 ^ 30 →
+    drop n pieces ≡ map (pieceIn m pool) q ++ rest →
+    All (Shows m pool pieces) (numbered n q)
+unfolding numbered
+numbered-shows m pool pieces n [] rest h e = tt
+numbered-shows m pool pieces n (x ∷ q) rest h e =
+    let d = drop-head pieces n (pieceIn m pool x) (map (pieceIn m pool) q ++ rest) e in
+    let w : plus n 1 ≡ suc n = omega arith in
+    (record { its-piece = d .0; small = omega arith }, rw w (numbered-shows m pool pieces (suc n) q rest (omega arith) (d .1)))
+
+-- where all numbers are below 2^30, so is their end
+pub numbered-end : (n : ℕ) (q : List Held) →
+    n ≤ 2 ^ 30 →
+    length q ≤ sendWindow →
+    All (λ (x : Sent). x .record .number < 2 ^ 30) (numbered n q) →
+    n + length q ≤ 2 ^ 30
+unfolding numbered
+numbered-end n [] h k a = omega arith
+numbered-end n (x ∷ q) h k a =
+    let w : plus n 1 ≡ suc n = omega arith in
+    let i = numbered-end (plus n 1) q (omega (arith, a .0)) (omega arith) (a .1) in
+    omega (arith, w, i)
+
+module _ (m : ℕ) (pool : List ℕ) (pieces : List Piece) (c : Settings) (t k : ℕ) (s : Sending) (few : k ≤ length (s .queued)) (small : s .next + k ≤ 2 ^ 30) where
+  count : length (take k (s .queued)) ≡ k
+  count = simp length-take (omega arith)
+
+  -- the outstanding segments and the newly numbered ones
+  pub with-numbered : Sends m pool pieces s → All (Shows m pool pieces) (withNumbered s k)
+  unfolding withNumbered
+  with-numbered h =
+      all-append (Shows m pool pieces) (s .outstanding) (numbered (s .next) (take k (s .queued))) (h .sent)
+      (numbered-shows m pool pieces (s .next) (take k (s .queued)) (map (pieceIn m pool) (drop k (s .queued))) (rw count small)
+      (sym (h .queued) ∙ ap (map (pieceIn m pool)) (sym (take-append-drop k (s .queued))) ∙ map-append (pieceIn m pool) (take k (s .queued)) (drop k (s .queued))))
+
+  pub sends-flushed : Sends m pool pieces s → All (Shows m pool pieces) (flushedWith c t k s .outstanding) → Sends m pool pieces (flushedWith c t k s)
+  sends-flushed h a = record {
+    low = rw end small;
+    ahead = rw end (simp length-drop (omega (arith, h .ahead)));
+    queued = rw end (map-drop (pieceIn m pool) k (s .queued) ∙ ap (drop k) (h .queued) ∙ drop-drop k (s .next) pieces);
+    sent = a;
+  }
+    where
+      end : plus (s .next) k ≡ s .next + k
+      end = omega arith

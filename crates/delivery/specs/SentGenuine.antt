@@ -1,0 +1,372 @@
+-- Every push that any flush wrote is the segment of its number of the accepted list, whatever the sender takes in.
+-- Assumes nothing.
+use mathlib.Core.Path.{_≡_, refl, sym, ap, subst}
+use mathlib.Core.Bool.{Bool, true, false, cond, _||_}
+use mathlib.Core.List.{List, [], _∷_, _++_, map, append-assoc, append-nil}
+use Prim.Native.Nat.{ℕ, _+_, _^_, _≤_, _<_}
+use native.Mathlib.Omega.{arith}
+use borrow.Author.Tests.{eqb-true, eqb-false}
+use lib.Dec.{eqb}
+use lib.ListN.{length, take, length-take}
+use Rattle.protocol.specs.Protocol.{push, sendWindow}
+use Rattle.protocol.specs.Ranges.{mss}
+use Rattle.protocol.specs.Serial.{plus}
+use Rattle.protocol.specs.declared.Settings.{Settings}
+use Rattle.protocol.specs.declared.Refusal.{Refusal}
+use Rattle.datagram.specs.Datagrams.{Segment, Parsed, parse}
+use Rattle.timing.specs.Transmissions.{firstTransmission, sending}
+use Rattle.timing.specs.TransmissionLaws.{when-never-sent, transmission-number}
+use Rattle.timing.specs.Probes.{nextClock}
+use Rattle.timing.specs.declared.Record.{Record}
+use Rattle.timing.specs.declared.Transmission.{Transmission}
+use Rattle.lists.specs.declared.Held.{Held}
+use Rattle.lists.specs.declared.Sent.{Sent}
+use Rattle.session.specs.State.{Sending, Ack}
+use Rattle.session.specs.Valid.{valid}
+use Rattle.session.specs.Opening.{opened}
+use Rattle.session.specs.Cutting.{cut}
+use Rattle.session.specs.Sending.{Sends}
+use Rattle.session.specs.Input.{applied, ackNumbers}
+use Rattle.session.specs.Flushing.{numberedAs, numbered, numberedCount, withNumbered, transmittedOf, sentAfter, transmittedNow, carried, ackSegment, dataSegment, written, bytesOfSegments, packed, flushing}
+use Rattle.session.specs.Calls.{Station, Call, Answer, Stepped, Event, own, history, acceptedBy, acceptedList, datagramsIn, datagramsBy}
+use Rattle.session.specs.Decides.{All}
+use Rattle.session.specs.AllLaws.{all-any, all-append, all-left, all-right, all-unmapped, all-weaker}
+use Rattle.delivery.specs.PlainReceiver.{pushNumbers, pushesOf, pushesIn}
+use Rattle.delivery.specs.Hearing.{Opened, Taken, CallFits, FewPushes}
+use Rattle.delivery.specs.Pieces.{Piece, falling, piecesOf, pieceOf, Genuine, pushes, GenuineDatagram}
+use Rattle.delivery.specs.Passing.{Passing}
+use Rattle.delivery.specs.PassingLaws.{history-first}
+use Rattle.delivery.specs.CallCases.{own-cases}
+use Rattle.delivery.specs.StateRange.{CarryFits}
+use Rattle.delivery.specs.SendingHalf.{Half}
+use Rattle.delivery.specs.SendingSends.{send-placed}
+use Rattle.delivery.specs.SendingFlushes.{count-few, count-room}
+use Rattle.delivery.specs.SizeLaws.{mtu-in-range}
+use Rattle.delivery.specs.SendingStays.{SendingInOrder, half-in, sending-stays, opened-in-order}
+use Rattle.delivery.specs.PackingLaws.{packed-flat, each-flat, flat-each}
+use Rattle.delivery.specs.WireLaws.{all-written, data-written}
+use Rattle.delivery.specs.FlushLaws.{FlushWrites, sentWith, valid-parts, flush-writes-any, all-transmitted}
+use Rattle.delivery.specs.CarryLaws.{carry-stays}
+use Rattle.delivery.specs.SenderModel as model
+use Rattle.delivery.specs.SenderModel.{Shows, get-append, sends-taken, sends-more, numbered-end, with-numbered, sends-flushed}
+
+-- ---- pushes
+
+-- what holds of a segment if it is a push
+abbrev IfPush : (Segment → Type 0) → Segment → Type 0
+IfPush P g = g .header .cmd ≡ push → P g
+
+abbrev Small : Segment → Type 0
+Small g = g .header .sn < 2 ^ 30
+
+all-pushes : (P : Segment → Type 0) (gs : List Segment) → All (IfPush P) gs → All P (pushes gs)
+unfolding pushes
+all-pushes P [] a = tt
+all-pushes P (g ∷ gs) a = go (eqb (g .header .cmd) push) refl (all-pushes P gs (a .1))
+  where
+    go : (b : Bool) → eqb (g .header .cmd) push ≡ b → All P (pushes gs) → All P (cond b (g ∷ pushes gs) (pushes gs))
+    go true e i = (a .0 (eqb-true (g .header .cmd) push e), i)
+    go false e i = i
+
+-- pushes with small numbers
+small-pushes : (gs : List Segment) → All (λ (sn : ℕ). sn < 2 ^ 30) (pushNumbers gs) → All (IfPush Small) gs
+unfolding pushNumbers
+small-pushes [] a = tt
+small-pushes (g ∷ gs) a = go (eqb (g .header .cmd) push) refl a (small-pushes gs)
+  where
+    go : (b : Bool) → eqb (g .header .cmd) push ≡ b →
+        All (λ (sn : ℕ). sn < 2 ^ 30) (cond b (g .header .sn ∷ pushNumbers gs) (pushNumbers gs)) →
+        (All (λ (sn : ℕ). sn < 2 ^ 30) (pushNumbers gs) → All (IfPush Small) gs) →
+        All (IfPush Small) (g ∷ gs)
+    go true e h later = ((λ q. h .0), later (h .1))
+    go false e h later = ((λ q. absurd (eqb-false (g .header .cmd) push e q)), later h)
+
+-- in a datagram that parses to its segments
+small-datagram : (c : Settings) (d : List Segment) →
+    parse (c .conv) (mss c) (bytesOfSegments d) ≡ Parsed.segments d →
+    All (λ (sn : ℕ). sn < 2 ^ 30) (pushesIn c (bytesOfSegments d)) →
+    All (IfPush Small) d
+unfolding pushesIn
+small-datagram c d e a = small-pushes d (subst (λ (p : Parsed). All (λ (sn : ℕ). sn < 2 ^ 30) (pushesOf p)) e a)
+
+small-datagrams : (c : Settings) (ds : List (List Segment)) →
+    All (λ (d : List Segment). parse (c .conv) (mss c) (bytesOfSegments d) ≡ Parsed.segments d) ds →
+    FewPushes c (map bytesOfSegments ds) →
+    All (All (IfPush Small)) ds
+small-datagrams c [] e a = tt
+small-datagrams c (d ∷ ds) e a = (small-datagram c d (e .0) (a .0), small-datagrams c ds (e .1) (a .1))
+
+genuine-datagrams : (c : Settings) (pieces : List Piece) (ds : List (List Segment)) →
+    All (λ (d : List Segment). parse (c .conv) (mss c) (bytesOfSegments d) ≡ Parsed.segments d) ds →
+    All (All (IfPush (Genuine pieces))) ds →
+    All (GenuineDatagram c pieces) (map bytesOfSegments ds)
+genuine-datagrams c pieces [] e a = tt
+genuine-datagrams c pieces (d ∷ ds) e a =
+    (record { its-segments = d; parses = e .0; genuine = all-pushes (Genuine pieces) d (a .0) }, genuine-datagrams c pieces ds (e .1) (a .1))
+
+-- ---- all newly numbered segments are transmitted
+
+module _ (c : Settings) (link t : ℕ) where
+  transmitted-append : (a b : List Sent) → transmittedNow c link t (a ++ b) ≡ transmittedNow c link t a ++ transmittedNow c link t b
+  unfolding transmittedNow
+  transmitted-append [] b = refl
+  transmitted-append (x ∷ a) b = go (transmittedOf c link t x .sends) (transmitted-append a b)
+    where
+      go : (f : Bool) → transmittedNow c link t (a ++ b) ≡ transmittedNow c link t a ++ transmittedNow c link t b →
+          cond f (sentAfter c link t x ∷ transmittedNow c link t (a ++ b)) (transmittedNow c link t (a ++ b))
+          ≡ cond f (sentAfter c link t x ∷ transmittedNow c link t a) (transmittedNow c link t a) ++ transmittedNow c link t b
+      go true i = ap {B = List Sent} (λ (r : List Sent). sentAfter c link t x ∷ r) i
+      go false i = i
+
+  new-sends : (n : ℕ) (h : Held) → transmittedOf c link t (numberedAs n h) .sends ≡ true
+  new-sends n h =
+      let r : Record = record { number = n; due = 0; timeout = 0; skips = 0 } in
+      sym (ap (λ (x : Transmission). x .sends) (when-never-sent c link t 0 r {x = sending 0 (firstTransmission (c .mode) link t r)} refl refl))
+
+  transmitted-new : (n : ℕ) (q : List Held) → transmittedNow c link t (numbered n q) ≡ map (sentAfter c link t) (numbered n q)
+  unfolding transmittedNow numbered
+  transmitted-new n [] = refl
+  transmitted-new n (h ∷ q) = rw (new-sends n h) (ap {B = List Sent} (λ (r : List Sent). sentAfter c link t (numberedAs n h) ∷ r) (transmitted-new (plus n 1) q))
+
+  -- what holds of each transmitted segment's number holds of the newly numbered ones
+  new-numbers : (P : ℕ → Type 0) (s : Sending) (k : ℕ) →
+      All (λ (x : Sent). P (x .record .number)) (transmittedNow c link t (withNumbered s k)) →
+      All (λ (x : Sent). P (x .record .number)) (numbered (s .next) (take k (s .queued)))
+  unfolding withNumbered
+  new-numbers P s k a =
+      same (numbered (s .next) (take k (s .queued)))
+      (all-unmapped (λ (x : Sent). P (x .record .number)) (sentAfter c link t) (numbered (s .next) (take k (s .queued)))
+      (rw (transmitted-new (s .next) (take k (s .queued))) at
+      (all-right (λ (x : Sent). P (x .record .number)) (transmittedNow c link t (s .outstanding)) (transmittedNow c link t (numbered (s .next) (take k (s .queued))))
+      (rw (transmitted-append (s .outstanding) (numbered (s .next) (take k (s .queued)))) at a))))
+    where
+      same : (l : List Sent) → All (λ (x : Sent). P (sentAfter c link t x .record .number)) l → All (λ (x : Sent). P (x .record .number)) l
+      same [] a = tt
+      same (x ∷ l) a = (rw (transmission-number c link t (x .transmissions) (x .record)) at (a .0), same l (a .1))
+
+  shows-after : (m : ℕ) (pool : List ℕ) (pieces : List Piece) (l : List Sent) →
+      All (Shows m pool pieces) l →
+      All (Shows m pool pieces) (map (sentAfter c link t) l)
+  shows-after m pool pieces [] a = tt
+  shows-after m pool pieces (x ∷ l) a = (
+    record {
+      its-piece = rw (transmission-number c link t (x .transmissions) (x .record)) (a .0 .its-piece);
+      small = rw (transmission-number c link t (x .transmissions) (x .record)) (a .0 .small);
+    },
+    shows-after m pool pieces l (a .1),
+  )
+
+-- ---- one call
+
+-- what a call leaves, with the pieces accepted before it: the half shows those and the ones accepted now, and its datagrams are genuine
+record Wrote (c : Settings) (pieces : List Piece) (x : Call) (y : Stepped) : Type 0 where
+  shows : model.Sends (mss c) (y .station .sendPool) (pieces ++ piecesOf (mss c) (acceptedBy x (y .answer))) (y .station .state .sending)
+  genuine : All (GenuineDatagram c pieces) (datagramsIn (y .answer))
+
+none-accepted : (m : ℕ) (pieces : List Piece) → pieces ++ piecesOf m [] ≡ pieces
+unfolding piecesOf
+none-accepted m pieces = append-nil pieces
+
+one-accepted : (m : ℕ) (pieces : List Piece) (b : List ℕ) → pieces ++ piecesOf m (b ∷ []) ≡ pieces ++ falling (cut m b)
+unfolding piecesOf
+one-accepted m pieces b = ap (λ (l : List Piece). pieces ++ l) (append-nil (falling (cut m b)))
+
+module _ (s : Station) (pieces : List Piece) (made : valid (s .state) ≡ true) (conv32 : s .state .settings .conv < 2 ^ 32)
+    (o : SendingInOrder (s .state .settings) s) (carry : CarryFits (s .state .receiving))
+    (h : model.Sends (mss (s .state .settings)) (s .sendPool) pieces (s .state .sending)) where
+  abbrev c : Settings
+  c = s .state .settings
+
+  abbrev d : Sending
+  d = s .state .sending
+
+  half : Half c d
+  half = half-in c s o
+
+  same : model.Sends (mss c) (s .sendPool) (pieces ++ piecesOf (mss c) []) d
+  same = rw (none-accepted (mss c) pieces) h
+
+  module _ (t : ℕ) (time : t < 2 ^ 32) (few : FewPushes (s .state .settings) (map bytesOfSegments (flushing (s .state) t (s .sendPool) .datagrams))) where
+    abbrev k : ℕ
+    k = numberedCount (s .state .sending)
+
+    abbrev ask : Bool
+    ask = s .state .ask || nextClock (s .state .probe) t (s .state .sending .window) .ask
+
+    abbrev segs : List Segment
+    segs = written (s .state) t (s .sendPool) ask (sentWith c t k d)
+
+    abbrev link : ℕ
+    link = s .state .sending .roundTrip .timeout
+
+    flush-datagrams : flushing (s .state) t (s .sendPool) .datagrams ≡ packed (c .mtu) segs
+    unfolding flushing
+    flush-datagrams = refl
+
+    writes : FlushWrites c (packed (c .mtu) segs)
+    writes =
+        let p = valid-parts (s .state) made in
+        flush-writes-any (s .state) t k (s .sendPool) ask half conv32 carry (p .fewAcks) (p .range) time (o .long) (count-few d) (count-room d (half .numbers .apart))
+
+    -- the numbers of what is transmitted
+    small-sent : All (λ (x : Sent). x .record .number < 2 ^ 30) (sentWith c t k d)
+    small-sent =
+        all-weaker (λ (x : Sent). IfPush Small (dataSegment (carried (s .state)) (mss c) t (s .sendPool) x)) (λ (x : Sent). x .record .number < 2 ^ 30) (λ x f. f refl) (sentWith c t k d)
+        (data-written (s .state) t (s .sendPool) ask (sentWith c t k d) (IfPush Small)
+        (rw (packed-flat (c .mtu) segs) at (each-flat (IfPush Small) (packed (c .mtu) segs) (small-datagrams c (packed (c .mtu) segs) (writes .parsed) (rw flush-datagrams at few)))))
+
+    end : d .next + k ≤ 2 ^ 30
+    end =
+        let count : length (take k (d .queued)) ≡ k = simp length-take (omega (arith, count-few d)) in
+        let few32 : length (take k (d .queued)) ≤ sendWindow = omega (arith, count, count-room d (half .numbers .apart)) in
+        omega (arith, count, numbered-end (d .next) (take k (d .queued)) (h .low) few32 (new-numbers c link t (λ (n : ℕ). n < 2 ^ 30) d k small-sent))
+
+    shown : All (Shows (mss c) (s .sendPool) pieces) (map (sentAfter c link t) (withNumbered d k))
+    shown = shows-after c link t (mss c) (s .sendPool) pieces (withNumbered d k) (with-numbered (mss c) (s .sendPool) pieces c t k d (count-few d) end h)
+
+    genuine-segs : All (IfPush (Genuine pieces)) segs
+    genuine-segs =
+        all-written (s .state) t (s .sendPool) ask (sentWith c t k d) (IfPush (Genuine pieces))
+        (all-any (λ (a : Ack). IfPush (Genuine pieces) (ackSegment (carried (s .state)) a)) (λ a e. absurd (omega arith)) (s .state .receiving .acks))
+        (λ e. absurd (omega arith))
+        (λ e. absurd (omega arith))
+        (all-weaker (Shows (mss c) (s .sendPool) pieces) (λ (x : Sent). IfPush (Genuine pieces) (dataSegment (carried (s .state)) (mss c) t (s .sendPool) x))
+        (λ x f e. record { its-piece = f .its-piece; small = f .small })
+        (sentWith c t k d)
+        (all-transmitted c link t (Shows (mss c) (s .sendPool) pieces) (withNumbered d k) shown))
+
+    wrote-flush : Wrote c pieces (Call.flush t) (own s (Call.flush t))
+    unfolding flushing
+    wrote-flush = record {
+      shows = rw (none-accepted (mss c) pieces) (sends-flushed (mss c) (s .sendPool) pieces c t k d (count-few d) end h shown);
+      genuine = genuine-datagrams c pieces (packed (c .mtu) segs) (writes .parsed)
+          (flat-each (IfPush (Genuine pieces)) (packed (c .mtu) segs) (rw (packed-flat (c .mtu) segs) genuine-segs));
+    }
+
+  refused-wrote : (x : Call) (r : Refusal) → Wrote c pieces x (record { station = s; answer = Answer.refused r })
+  refused-wrote (Call.send m) r = record { shows = same; genuine = tt }
+  refused-wrote (Call.takeIn b) r = record { shows = same; genuine = tt }
+  refused-wrote (Call.flush t) r = record { shows = same; genuine = tt }
+  refused-wrote (Call.read room) r = record { shows = same; genuine = tt }
+
+  wrote : (x : Call) → CallFits x → FewPushes (s .state .settings) (datagramsIn (own s x .answer)) → Wrote c pieces x (own s x)
+  unfolding applied
+  wrote =
+      own-cases (λ (x : Call) (y : Stepped). CallFits x → FewPushes c (datagramsIn (y .answer)) → Wrote c pieces x y) s
+      (λ x r k few. refused-wrote x r)
+      (λ m ok k few. record {
+        shows = rw (one-accepted (mss c) pieces m)
+            (sends-more (mss c) (s .sendPool) pieces d (cut (mss c) m) _ (half .held)
+            (send-placed c d (s .sendPool) m (omega (arith, mtu-in-range c (valid-parts (s .state) made .range) .least)) (o .long) (ok .short) (ok .room))
+            h);
+        genuine = tt;
+      })
+      (λ b gs e k few. record { shows = sends-taken (mss c) (s .sendPool) (pieces ++ piecesOf (mss c) []) c (s .state .current) d gs (ackNumbers gs) same; genuine = tt })
+      (λ t k few. wrote-flush t k few)
+      (λ room k few. record { shows = same; genuine = tt })
+
+-- by any name of the settings
+wrote-by : (c : Settings) (s : Station) (pieces : List Piece) (x : Call) →
+    valid (s .state) ≡ true →
+    c .conv < 2 ^ 32 →
+    SendingInOrder c s →
+    CarryFits (s .state .receiving) →
+    model.Sends (mss c) (s .sendPool) pieces (s .state .sending) →
+    CallFits x →
+    FewPushes c (datagramsIn (own s x .answer)) →
+    Wrote c pieces x (own s x)
+wrote-by c s pieces x made conv32 o carry h k few =
+    subst (λ (c : Settings).
+    c .conv < 2 ^ 32 →
+    SendingInOrder c s →
+    model.Sends (mss c) (s .sendPool) pieces (s .state .sending) →
+    FewPushes c (datagramsIn (own s x .answer)) →
+    Wrote c pieces x (own s x))
+    (o .settings)
+    (λ conv32 o h few. wrote s pieces made conv32 o carry h x k few)
+    conv32 o h few
+
+-- ---- lists of calls
+
+pub piecesOf-append : (m : ℕ) (a b : List (List ℕ)) → piecesOf m (a ++ b) ≡ piecesOf m a ++ piecesOf m b
+unfolding piecesOf
+piecesOf-append m [] b = refl
+piecesOf-append m (x ∷ a) b = rw (piecesOf-append m a b) (sym (append-assoc (falling (cut m x)) (piecesOf m a) (piecesOf m b)))
+
+-- an accepted list that is longer
+more-genuine : (pieces more : List Piece) (gs : List Segment) → All (Genuine pieces) gs → All (Genuine (pieces ++ more)) gs
+more-genuine pieces more =
+    all-weaker (Genuine pieces) (Genuine (pieces ++ more)) (λ g h. record { its-piece = get-append pieces more (g .header .sn) (pieceOf g) (h .its-piece); small = h .small })
+
+more-datagrams : (c : Settings) (pieces more : List Piece) (ds : List (List ℕ)) →
+    All (GenuineDatagram c pieces) ds →
+    All (GenuineDatagram c (pieces ++ more)) ds
+more-datagrams c pieces more =
+    all-weaker (GenuineDatagram c pieces) (GenuineDatagram c (pieces ++ more))
+    (λ d h. record { its-segments = h .its-segments; parses = h .parses; genuine = more-genuine pieces more (pushes (h .its-segments)) (h .genuine) })
+
+-- the events of a list, the first and the others
+module _ (c : Settings) (pieces : List Piece) (e : Event) (es : List Event) where
+  abbrev new : List (List ℕ)
+  new = acceptedBy (e .call) (e .answer)
+
+  few-first : FewPushes c (datagramsBy (e ∷ es)) → FewPushes c (datagramsIn (e .answer))
+  unfolding datagramsBy
+  few-first = all-left (λ (d : List ℕ). All (λ (sn : ℕ). sn < 2 ^ 30) (pushesIn c d)) (datagramsIn (e .answer)) (datagramsBy es)
+
+  few-later : FewPushes c (datagramsBy (e ∷ es)) → FewPushes c (datagramsBy es)
+  unfolding datagramsBy
+  few-later = all-right (λ (d : List ℕ). All (λ (sn : ℕ). sn < 2 ^ 30) (pushesIn c d)) (datagramsIn (e .answer)) (datagramsBy es)
+
+  -- genuine by what was accepted before, and by what is accepted then
+  genuine-both :
+      All (GenuineDatagram c pieces) (datagramsIn (e .answer)) →
+      All (GenuineDatagram c ((pieces ++ piecesOf (mss c) new) ++ piecesOf (mss c) (acceptedList es))) (datagramsBy es) →
+      All (GenuineDatagram c (pieces ++ piecesOf (mss c) (acceptedList (e ∷ es)))) (datagramsBy (e ∷ es))
+  unfolding datagramsBy acceptedList
+  genuine-both a b =
+      all-append (GenuineDatagram c (pieces ++ piecesOf (mss c) (new ++ acceptedList es))) (datagramsIn (e .answer)) (datagramsBy es)
+      (more-datagrams c pieces (piecesOf (mss c) (new ++ acceptedList es)) (datagramsIn (e .answer)) a)
+      (rw (piecesOf-append (mss c) new (acceptedList es), ← append-assoc pieces (piecesOf (mss c) new) (piecesOf (mss c) (acceptedList es))) b)
+
+genuine-calls : (c : Settings) → Taken c → (calls : List Call) (s : Station) (pieces : List Piece) →
+    SendingInOrder c s →
+    CarryFits (s .state .receiving) →
+    model.Sends (mss c) (s .sendPool) pieces (s .state .sending) →
+    All CallFits calls →
+    Passing s calls →
+    FewPushes c (datagramsBy (history s calls)) →
+    All (GenuineDatagram c (pieces ++ piecesOf (mss c) (acceptedList (history s calls)))) (datagramsBy (history s calls))
+unfolding history datagramsBy
+genuine-calls c taken [] s pieces o carry h k p few = tt
+genuine-calls c taken (x ∷ xs) s pieces o carry h k p few =
+    let e : Event = record { call = x; answer = own s x .answer } in
+    let later : List Event = history (own s x .station) xs in
+    let few′ : FewPushes c (datagramsBy (e ∷ later)) = subst (λ (l : List Event). FewPushes c (datagramsBy l)) (history-first s x xs p) few in
+    let w : Wrote c pieces x (own s x) = wrote-by c s pieces x (p .1) (taken .conv) o carry h (k .0) (few-first c pieces e later few′) in
+    subst (λ (l : List Event). All (GenuineDatagram c (pieces ++ piecesOf (mss c) (acceptedList l))) (datagramsBy l)) (sym (history-first s x xs p))
+    (genuine-both c pieces e later (w .genuine)
+    (genuine-calls c taken xs (own s x .station) (pieces ++ piecesOf (mss c) (acceptedBy x (own s x .answer)))
+    (sending-stays c (taken .range) s x (k .0) o)
+    (carry-stays s x (k .0) carry)
+    (w .shows)
+    (k .1)
+    (p .2)
+    (few-later c pieces e later few′)))
+
+-- ---- since opening
+
+opened-sends : (c : Settings) (m : ℕ) (pool : List ℕ) → model.Sends m pool [] (opened c .sending)
+unfolding opened
+opened-sends c m pool = record { low = omega arith; ahead = omega arith; queued = refl; sent = tt }
+
+opened-carry : (c : Settings) → CarryFits (opened c .receiving)
+unfolding opened
+opened-carry c = record { next = omega arith; acks = tt }
+
+-- Every push that any flush wrote is the segment of that number of the finally accepted list; the sender takes in anything
+pub sent-genuine : (c : Settings) → Taken c → (s : Station) → Opened c s → (calls : List Call) → All CallFits calls → Passing s calls →
+    FewPushes c (datagramsBy (history s calls)) →
+    All (GenuineDatagram c (piecesOf (mss c) (acceptedList (history s calls)))) (datagramsBy (history s calls))
+sent-genuine c taken s p calls k q few =
+    genuine-calls c taken calls s [] (opened-in-order c s p) (rw (p .state) (opened-carry c)) (rw (p .state) (opened-sends c (mss c) (s .sendPool))) k q few

@@ -1,0 +1,27 @@
+-- What settings in range and lent parts that are long enough say.
+-- Assumes nothing.
+use mathlib.Core.Path.{_≡_}
+use mathlib.Core.Bool.{true}
+use Prim.Native.Nat.{ℕ, _*_, _≤_}
+use borrow.Author.Tests.{leb-true}
+use Rattle.protocol.specs.Protocol.{sendSlots, mtuLeast, mtuMost}
+use Rattle.protocol.specs.Ranges.{inRange}
+use Rattle.protocol.specs.declared.Settings.{Settings}
+use Rattle.session.specs.Sizes.{Lengths, enough, enoughToFlush}
+use Rattle.session.specs.Decides.{and-parts}
+
+-- settings in range have an mtu of 50 to 512
+pub record MtuInRange (c : Settings) : Type 0 where
+  pub least : mtuLeast ≤ c .mtu
+  pub most : c .mtu ≤ mtuMost
+
+pub mtu-in-range : (c : Settings) → inRange c ≡ true → MtuInRange c
+mtu-in-range c e =
+    let a = and-parts _ _ (and-parts _ _ (and-parts _ _ (and-parts _ _ (and-parts _ _ e .0) .0) .0) .0) in
+    record { least = leb-true mtuLeast (c .mtu) (a .0); most = leb-true (c .mtu) mtuMost (a .1) }
+
+-- a flush's lent parts: a send pool of 128 x mss bytes
+pub enough-pool : (m : ℕ) (n : Lengths) (output lengths : ℕ) → enoughToFlush m n output lengths ≡ true → sendSlots * m ≤ n .sendPool
+unfolding enoughToFlush enough
+enough-pool m n output lengths e =
+    leb-true (sendSlots * m) (n .sendPool) (and-parts _ _ (and-parts _ _ (and-parts _ _ (and-parts _ _ (and-parts _ _ e .0) .0) .0) .0) .0)

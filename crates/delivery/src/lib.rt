@@ -1,0 +1,1 @@
+// Theorems about whole lists of calls: definitions and proofs, in specs/.

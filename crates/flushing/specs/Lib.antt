@@ -1,0 +1,4 @@
+pub mod Numbering
+pub mod Writing
+pub mod FlushLaws
+pub mod ValidLaws

@@ -1,0 +1,8 @@
+pub mod Decimal
+pub mod DecimalLaws
+pub mod Lines
+pub mod LineLaws
+pub mod Listings
+pub mod ListingLaws
+pub mod Puts
+pub mod Examples

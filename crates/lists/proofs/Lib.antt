@@ -1,0 +1,4 @@
+pub mod Loops
+pub mod Writes
+pub mod Searches
+pub mod Advances

@@ -1,0 +1,52 @@
+-- Outstanding segments: which are acknowledged, and which are skipped. Definitions.
+-- Assumes nothing.
+use mathlib.Core.Bool.{Bool, cond, not}
+use mathlib.Core.List.{List, [], _∷_}
+use Prim.Native.Nat.{ℕ, _+_, min}
+use lib.Dec.{eqb}
+use Rattle.protocol.specs.Protocol.{skipsMost}
+use Rattle.protocol.specs.Serial.{isAfter, isBefore}
+use Rattle.lists.specs.declared.Sent.{Sent}
+use Rattle.lists.specs.declared.Acknowledges.{Acknowledges}
+use Rattle.lists.specs.declared.Acknowledges.the-variants.{Una, Ack}
+
+-- una acknowledges every number that it is after, an ack the number that it names
+abbrev pub acknowledged : Acknowledges → ℕ → Bool
+acknowledged (Una una) n = isAfter una n
+acknowledged (Ack sn) n = eqb n sn
+
+-- the entries that pass a test
+unfoldable pub select : {A : Type 0} → (A → Bool) → List A → List A
+select test [] = []
+select test (x ∷ l) = cond (test x) (x ∷ select test l) (select test l)
+
+-- the segments whose number passes a test
+abbrev pub keep : (ℕ → Bool) → List Sent → List Sent
+keep test = select (λ s. test (s .record .number))
+
+-- the segments that an arrival does not acknowledge
+abbrev pub removed : Acknowledges → List Sent → List Sent
+removed arrival = keep (λ n. not (acknowledged arrival n))
+
+-- the first number, else another one
+unfoldable pub firstNumberOr : List Sent → ℕ → ℕ
+firstNumberOr [] other = other
+firstNumberOr (s ∷ l) other = s .record .number
+
+-- one skip more, staying at 255
+abbrev pub oneSkip : Sent → Sent
+oneSkip s =
+    record {
+      held = s .held;
+      transmissions = s .transmissions;
+      «record» = record {
+        number = s .record .number;
+        due = s .record .due;
+        timeout = s .record .timeout;
+        skips = min (s .record .skips + 1) skipsMost;
+      };
+    }
+
+-- a segment before n gets one skip
+unfoldable pub skipBefore : ℕ → Sent → Sent
+skipBefore n s = cond (isBefore (s .record .number) n) (oneSkip s) s

@@ -1,0 +1,9 @@
+pub mod Views
+pub mod Orders
+pub mod OrderLaws
+pub mod Receiving
+pub mod ReceivingLaws
+pub mod Acknowledging
+pub mod AcknowledgingLaws
+pub mod Joining
+pub mod JoiningLaws

@@ -1,0 +1,155 @@
+// The lists of the control block: segments queued, outstanding, ready and waiting. A list is the front of an array, in
+// list order, up to its count; what stands past the count is not state.
+pub mod held_list;
+pub mod outstanding_list;
+pub mod reorder;
+pub mod sent_list;
+pub mod waiting_list;
+
+use timing::Record;
+ghost use mathlib.Core.List.{[]};
+ghost use Rattle.lists.specs.Views.{HeldIs, WaitingIs, OutstandingIs, SentIs};
+
+// A segment held in a slot of a pool: its slot, its length in bytes and its fragment number.
+#[repr(C)]
+pub struct Held {
+    pub slot: u16,
+    pub len: u16,
+    pub fragment: u8,
+}
+
+// A segment received and not yet in order.
+#[repr(C)]
+pub struct Waiting {
+    pub number: u32,
+    pub held: Held,
+}
+
+// A segment sent and not acknowledged, as the control block keeps it: its number is in its record.
+#[repr(C)]
+pub struct Outstanding {
+    pub held: Held,
+    pub transmissions: u8,
+}
+
+// The same with its record of the lent table.
+#[repr(C)]
+pub struct Sent {
+    pub held: Held,
+    pub transmissions: u8,
+    pub record: Record,
+}
+
+#[repr(C)]
+pub struct HeldList {
+    pub at: [Held; 128],
+    pub count: usize,
+}
+
+#[repr(C)]
+pub struct WaitingList {
+    pub at: [Waiting; 128],
+    pub count: usize,
+}
+
+#[repr(C)]
+pub struct OutstandingList {
+    pub at: [Outstanding; 32],
+    pub count: usize,
+}
+
+#[repr(C)]
+pub struct SentList {
+    pub at: [Sent; 32],
+    pub count: usize,
+}
+
+// The receiving half's lists with the number expected next: segments ready to be read, and segments that wait.
+#[repr(C)]
+pub struct Receiving {
+    pub next: u32,
+    pub ready: HeldList,
+    pub waiting: WaitingList,
+}
+
+// Outstanding segments, and their records in the same order.
+pub struct Split {
+    pub outstanding: OutstandingList,
+    pub records: [Record; 32],
+}
+
+// What acknowledges an outstanding segment: an arriving una, or an arriving ack's number.
+pub enum Acknowledges {
+    Una(u32),
+    Ack(u32),
+}
+
+// What stands past a new list's count.
+const BLANK: Held = Held {
+    slot: 0,
+    len: 0,
+    fragment: 0,
+};
+
+impl HeldList {
+    pub fn new() -> Self
+        ensures { λ r. ⌜ HeldIs r [] ⌝ }
+    {
+        HeldList {
+            at: [BLANK; 128],
+            count: 0,
+        }
+    }
+}
+
+impl WaitingList {
+    pub fn new() -> Self
+        ensures { λ r. ⌜ WaitingIs r [] ⌝ }
+    {
+        let blank = Waiting {
+            number: 0,
+            held: BLANK,
+        };
+        WaitingList {
+            at: [blank; 128],
+            count: 0,
+        }
+    }
+}
+
+impl OutstandingList {
+    pub fn new() -> Self
+        ensures { λ r. ⌜ OutstandingIs r [] ⌝ }
+    {
+        let blank = Outstanding {
+            held: BLANK,
+            transmissions: 0,
+        };
+        OutstandingList {
+            at: [blank; 32],
+            count: 0,
+        }
+    }
+}
+
+impl SentList {
+    pub fn new() -> Self
+        ensures { λ r. ⌜ SentIs r [] ⌝ }
+    {
+        let record = Record {
+            number: 0,
+            due: 0,
+            timeout: 0,
+            skips: 0,
+        };
+        let blank = Sent {
+            held: BLANK,
+            transmissions: 0,
+            record,
+        };
+        SentList {
+            at: [blank; 32],
+            count: 0,
+        }
+    }
+}

@@ -1,0 +1,2 @@
+pub mod Packers
+pub mod PackerLaws

@@ -1,0 +1,8 @@
+pub mod Again
+pub mod Call
+pub mod Frame
+pub mod Local
+pub mod Rows
+pub mod Shared
+pub mod Turns
+pub mod Walk

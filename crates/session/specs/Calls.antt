@@ -1,0 +1,162 @@
+-- Whole calls, and lists of them: what a station with its lent parts answers, and what it is afterwards.
+-- Assumes nothing.
+use mathlib.Core.Bool.{Bool, cond}
+use mathlib.Core.List.{List, [], _∷_, _++_, map}
+use Prim.Native.Nat.{ℕ}
+use lib.ListN.{length}
+use Rattle.protocol.specs.Ranges.{mss}
+use Rattle.protocol.specs.declared.Refusal.{Refusal}
+use Rattle.protocol.specs.declared.Refusal.the-variants.{ShortPart, InvalidBlock}
+use Rattle.datagram.specs.Datagrams.{Segment}
+use Rattle.session.specs.State.{State, Outcome}
+use Rattle.session.specs.Sizes.{Lengths, enough, enoughToFlush}
+use Rattle.session.specs.Valid.{valid}
+use Rattle.session.specs.Sending.{Sends, sending}
+use Rattle.session.specs.Input.{Took, input}
+use Rattle.session.specs.Flushing.{Flushed, flushing, bytesOfSegments}
+use Rattle.session.specs.Reading.{Reads, reading}
+
+-- the lengths of the lent parts that a link's state does not hold: records, ack list, and a flush's output and lengths
+pub record Lent : Type 0 where
+  pub table : ℕ
+  pub ackList : ℕ
+  pub output : ℕ
+  pub lengths : ℕ
+
+-- a link with its lent parts
+pub record Station : Type 0 where
+  pub state : State
+  pub sendPool : List ℕ
+  pub receivePool : List ℕ
+  pub lent : Lent
+
+pub data Call : Type 0 where
+  -- send a message
+  send : List ℕ → Call
+  -- take in a datagram
+  takeIn : List ℕ → Call
+  -- flush at a time
+  flush : ℕ → Call
+  -- read into a buffer that long
+  read : ℕ → Call
+
+pub data Answer : Type 0 where
+  refused : Refusal → Answer
+  -- a message sent, or a datagram taken in
+  accepted : Answer
+  -- a flush's datagrams
+  wrote : List (List ℕ) → Answer
+  -- the message read
+  message : List ℕ → Answer
+
+-- a station after a call, and the call's answer
+pub record Stepped : Type 0 where
+  pub station : Station
+  pub answer : Answer
+
+abbrev pub lengthsOf : Station → Lengths
+lengthsOf s = record { sendPool = length (s .sendPool); receivePool = length (s .receivePool); table = s .lent .table; ackList = s .lent .ackList }
+
+-- every call but opening checks the lent sizes (7), then the control block (13)
+abbrev pub checked : Bool → Bool → Stepped → Station → Stepped
+checked long made own s =
+    cond long
+    (cond made own (record { station = s; answer = Answer.refused InvalidBlock }))
+    (record { station = s; answer = Answer.refused ShortPart })
+
+abbrev pub afterSend : Station → Outcome Sends → Stepped
+afterSend s (Outcome.refused r) = record { station = s; answer = Answer.refused r }
+afterSend s (Outcome.done x) = record { station = record { state = x .state; sendPool = x .pool; receivePool = s .receivePool; lent = s .lent }; answer = accepted }
+
+abbrev pub afterTakeIn : Station → Outcome Took → Stepped
+afterTakeIn s (Outcome.refused r) = record { station = s; answer = Answer.refused r }
+afterTakeIn s (Outcome.done x) = record { station = record { state = x .state; sendPool = s .sendPool; receivePool = x .pool; lent = s .lent }; answer = accepted }
+
+abbrev pub afterFlush : Station → Flushed → Stepped
+afterFlush s x =
+    record {
+      station = record { state = x .state; sendPool = s .sendPool; receivePool = s .receivePool; lent = s .lent };
+      answer = wrote (map bytesOfSegments (x .datagrams));
+    }
+
+abbrev pub afterReading : Station → Outcome Reads → Stepped
+afterReading s (Outcome.refused r) = record { station = s; answer = Answer.refused r }
+afterReading s (Outcome.done x) = record { station = record { state = x .state; sendPool = s .sendPool; receivePool = s .receivePool; lent = s .lent }; answer = message (x .bytes) }
+
+-- what the call itself does
+abbrev pub own : Station → Call → Stepped
+own s (send m) = afterSend s (sending (s .state) (s .sendPool) m)
+own s (takeIn d) = afterTakeIn s (input (s .state) (s .receivePool) d)
+own s (flush t) = afterFlush s (flushing (s .state) t (s .sendPool))
+own s (read room) = afterReading s (reading (s .state) (s .receivePool) room)
+
+-- whether the lent parts are as long as the call asks
+abbrev pub longEnough : Station → Call → Bool
+longEnough s (send m) = enough (mss (s .state .settings)) (lengthsOf s)
+longEnough s (takeIn d) = enough (mss (s .state .settings)) (lengthsOf s)
+longEnough s (flush t) = enoughToFlush (mss (s .state .settings)) (lengthsOf s) (s .lent .output) (s .lent .lengths)
+longEnough s (read room) = enough (mss (s .state .settings)) (lengthsOf s)
+
+unfoldable pub step : Station → Call → Stepped
+step s x = checked (longEnough s x) (valid (s .state)) (own s x) s
+
+-- ---- lists of calls
+
+-- a call with its answer
+pub record Event : Type 0 where
+  pub call : Call
+  pub answer : Answer
+
+-- the calls of a list with their answers: each gets the station as the last one left it
+unfoldable pub history : Station → List Call → List Event
+history s [] = []
+history s (x ∷ xs) = record { call = x; answer = step s x .answer } ∷ history (step s x .station) xs
+
+-- the station after them
+unfoldable pub after : Station → List Call → Station
+after s [] = s
+after s (x ∷ xs) = after (step s x .station) xs
+
+-- the sends not refused make the accepted list
+abbrev pub acceptedBy : Call → Answer → List (List ℕ)
+acceptedBy (send m) accepted = m ∷ []
+acceptedBy (send m) (Answer.refused r) = []
+acceptedBy (send m) (wrote ds) = []
+acceptedBy (send m) (message b) = []
+acceptedBy (takeIn d) a = []
+acceptedBy (flush t) a = []
+acceptedBy (read room) a = []
+
+unfoldable pub acceptedList : List Event → List (List ℕ)
+acceptedList [] = []
+acceptedList (e ∷ es) = acceptedBy (e .call) (e .answer) ++ acceptedList es
+
+-- its datagrams are its flushes' output
+abbrev pub datagramsIn : Answer → List (List ℕ)
+datagramsIn (wrote ds) = ds
+datagramsIn accepted = []
+datagramsIn (Answer.refused r) = []
+datagramsIn (message b) = []
+
+unfoldable pub datagramsBy : List Event → List (List ℕ)
+datagramsBy [] = []
+datagramsBy (e ∷ es) = datagramsIn (e .answer) ++ datagramsBy es
+
+-- the answers of the reads
+abbrev pub readAnswers : List Event → List Answer
+readAnswers [] = []
+readAnswers (e ∷ es) = ofRead (e .call) (e .answer) ++ readAnswers es
+  where
+    ofRead : Call → Answer → List Answer
+    ofRead (read room) a = a ∷ []
+    ofRead (send m) a = []
+    ofRead (takeIn d) a = []
+    ofRead (flush t) a = []
+
+-- the messages read
+unfoldable pub messagesRead : List Answer → List (List ℕ)
+messagesRead [] = []
+messagesRead (message b ∷ l) = b ∷ messagesRead l
+messagesRead (accepted ∷ l) = messagesRead l
+messagesRead (Answer.refused r ∷ l) = messagesRead l
+messagesRead (wrote ds ∷ l) = messagesRead l

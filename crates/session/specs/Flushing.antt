@@ -1,0 +1,181 @@
+-- A flush at a given time: what is written, and the state after it.
+-- Assumes nothing.
+use mathlib.Core.Bool.{Bool, true, false, cond, _||_, _&&_}
+use mathlib.Core.List.{List, [], _∷_, _++_, map, foldl}
+use Prim.Native.Nat.{ℕ, suc, _+_, _-_, _*_, min}
+use lib.Dec.{leb, eqb}
+use lib.ListN.{length, take, drop}
+use Rattle.protocol.specs.Protocol.{push, ack, windowAsk, windowTell, headerSize, sendWindow, receiveWindow, deadAfter}
+use Rattle.protocol.specs.Ranges.{mss}
+use Rattle.protocol.specs.Serial.{plus, minus}
+use Rattle.wire.specs.Headers.{encode}
+use Rattle.wire.specs.declared.Header.{Header}
+use Rattle.protocol.specs.declared.Settings.{Settings}
+use Rattle.datagram.specs.Datagrams.{Segment}
+use Rattle.timing.specs.Transmissions.{transmission}
+use Rattle.timing.specs.declared.Transmission.{Transmission}
+use Rattle.timing.specs.Probes.{nextClock}
+use Rattle.timing.specs.declared.Record.{Record}
+use Rattle.lists.specs.declared.Held.{Held}
+use Rattle.lists.specs.declared.Sent.{Sent}
+use Rattle.session.specs.State.{State, Sending, Receiving, Ack}
+
+-- ---- numbering
+
+-- a queued segment gets a number, and transmissions and skips 0; its timeout and due time come with its first transmission
+abbrev pub numberedAs : ℕ → Held → Sent
+numberedAs n h = record { held = h; transmissions = 0; «record» = record { number = n; due = 0; timeout = 0; skips = 0 } }
+
+-- numbers counting up from n
+unfoldable pub numbered : ℕ → List Held → List Sent
+numbered n [] = []
+numbered n (h ∷ q) = numberedAs n h ∷ numbered (plus n 1) q
+
+-- how many are numbered: while snd_nxt - snd_una is below the smaller of 32 and the peer's last window
+unfoldable pub numberedCount : Sending → ℕ
+numberedCount s = min (length (s .queued)) (min sendWindow (s .window) - minus (s .next) (s .una))
+
+-- the outstanding segments, with those that are numbered now
+unfoldable pub withNumbered : Sending → ℕ → List Sent
+withNumbered s k = s .outstanding ++ numbered (s .next) (take k (s .queued))
+
+-- ---- the rule for each outstanding segment
+
+-- what a flush at t does with one of them
+abbrev pub transmittedOf : Settings → ℕ → ℕ → Sent → Transmission
+transmittedOf c timeout t x = transmission c timeout t (x .transmissions) (x .record)
+
+-- the segment after that
+abbrev pub sentAfter : Settings → ℕ → ℕ → Sent → Sent
+sentAfter c timeout t x =
+    let r = transmittedOf c timeout t x in
+    record { held = x .held; transmissions = r .transmissions; «record» = r .updated }
+
+-- those that are transmitted, as they are then
+unfoldable pub transmittedNow : Settings → ℕ → ℕ → List Sent → List Sent
+transmittedNow c timeout t [] = []
+transmittedNow c timeout t (x ∷ l) =
+    cond (transmittedOf c timeout t x .sends) (sentAfter c timeout t x ∷ transmittedNow c timeout t l) (transmittedNow c timeout t l)
+
+-- one of them was transmitted 20 times
+abbrev pub someDead : List Sent → Bool
+someDead [] = false
+someDead (x ∷ l) = eqb (x .transmissions) deadAfter || someDead l
+
+-- ---- what is written
+
+-- what all segments of a flush carry: conversation, window 128 minus ready count, and una = rcv_nxt
+pub record Carried : Type 0 where
+  pub conv : ℕ
+  pub wnd : ℕ
+  pub una : ℕ
+
+abbrev pub carried : State → Carried
+carried s = record { conv = s .settings .conv; wnd = receiveWindow - length (s .receiving .ready); una = s .receiving .next }
+
+-- acks, asks and tells: fragment and len 0
+abbrev pub control : Carried → ℕ → ℕ → ℕ → Segment
+control c cmd sn ts =
+    record { header = record { conv = c .conv; cmd = cmd; frg = 0; wnd = c .wnd; ts = ts; sn = sn; una = c .una; len = 0 }; payload = [] }
+
+-- acks copy the pushed sn and ts
+abbrev pub ackSegment : Carried → Ack → Segment
+ackSegment c a = control c ack (a .sn) (a .ts)
+
+-- data: ts = t, and the payload from its slot, which starts at slot x mss
+abbrev pub dataSegment : Carried → ℕ → ℕ → List ℕ → Sent → Segment
+dataSegment c m t pool x =
+    record {
+      header = record {
+        conv = c .conv;
+        cmd = push;
+        frg = x .held .fragment;
+        wnd = c .wnd;
+        ts = t;
+        sn = x .record .number;
+        una = c .una;
+        len = x .held .len;
+      };
+      payload = take (x .held .len) (drop (x .held .slot * m) pool);
+    }
+
+-- a wished segment, or none
+abbrev pub wished : Bool → Segment → List Segment
+wished b g = cond b (g ∷ []) []
+
+-- all acks in order, then a window ask and a window tell if wanted (sn and ts 0), then data
+unfoldable pub written : State → ℕ → List ℕ → Bool → List Sent → List Segment
+written s t pool ask sent =
+    let c = carried s in
+    map (ackSegment c) (s .receiving .acks)
+    ++ (wished ask (control c windowAsk 0 0)
+    ++ (wished (s .receiving .tell) (control c windowTell 0 0)
+    ++ map (dataSegment c (mss (s .settings)) t pool) sent))
+
+-- ---- packing
+
+-- the bytes of a segment, and of segments one behind the other
+abbrev pub bytesOfSegment : Segment → List ℕ
+bytesOfSegment g = encode (g .header) ++ g .payload
+
+unfoldable pub bytesOfSegments : List Segment → List ℕ
+bytesOfSegments [] = []
+bytesOfSegments (g ∷ gs) = bytesOfSegment g ++ bytesOfSegments gs
+
+-- datagrams that are closed, and the one that is being filled
+pub record Packing : Type 0 where
+  pub closed : List (List Segment)
+  pub filling : List Segment
+
+-- a segment that would take a datagram past mtu starts a new one
+unfoldable pub packOne : ℕ → Packing → Segment → Packing
+packOne mtu p g =
+    cond (leb (length (bytesOfSegments (p .filling)) + length (bytesOfSegment g)) mtu)
+    (record { closed = p .closed; filling = p .filling ++ (g ∷ []) })
+    (record { closed = p .closed ++ (p .filling ∷ []); filling = g ∷ [] })
+
+-- the datagrams of a packing: the last one too, unless it is empty
+abbrev pub datagramsOf : List (List Segment) → List Segment → List (List Segment)
+datagramsOf closed [] = closed
+datagramsOf closed (g ∷ gs) = closed ++ ((g ∷ gs) ∷ [])
+
+unfoldable pub packed : ℕ → List Segment → List (List Segment)
+packed mtu gs =
+    let p = foldl (packOne mtu) (record { closed = []; filling = [] }) gs in
+    datagramsOf (p .closed) (p .filling)
+
+-- ---- the flush
+
+-- what a flush gives: the state after it, and the datagrams that it wrote
+pub record Flushed : Type 0 where
+  pub state : State
+  pub datagrams : List (List Segment)
+
+unfoldable pub flushing : State → ℕ → List ℕ → Flushed
+flushing s t pool =
+    let c = s .settings in
+    let d = s .sending in
+    let r = s .receiving in
+    let k = numberedCount d in
+    let before = withNumbered d k in
+    let sent = transmittedNow c (d .roundTrip .timeout) t before in
+    let probed = nextClock (s .probe) t (d .window) in
+    record {
+      state = record {
+        settings = c;
+        sending = record {
+          una = d .una;
+          next = plus (d .next) k;
+          queued = drop k (d .queued);
+          outstanding = map (sentAfter c (d .roundTrip .timeout) t) before;
+          window = d .window;
+          roundTrip = d .roundTrip;
+        };
+        receiving = record { next = r .next; ready = r .ready; waiting = r .waiting; acks = []; tell = false };
+        probe = probed .clock;
+        current = t;
+        ask = false;
+        dead = s .dead || someDead sent;
+      };
+      datagrams = packed (c .mtu) (written s t pool (s .ask || probed .ask) sent);
+    }

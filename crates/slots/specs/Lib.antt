@@ -1,0 +1,5 @@
+pub mod Slots
+pub mod SlotLaws
+pub mod Marks
+pub mod MarkLaws
+pub mod Agree

@@ -1,0 +1,11 @@
+-- `timing::outstanding::fast_transmission` meets its contract.
+-- Assumes nothing.
+use borrow.Author.Needs.{needs}
+use Rattle.timing.proofs.outstanding.fast_transmission.Statement.{statement}
+use Rattle.timing.proofs.outstanding.fast_transmission.Tie as tie
+
+returns : tie.Need-returns
+returns c = cc
+
+pub fast-transmission-spec : {M : Type 1} → statement M
+fast-transmission-spec = tie.close (tie.spec (search needs) returns)

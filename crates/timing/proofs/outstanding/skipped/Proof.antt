@@ -1,0 +1,11 @@
+-- `timing::outstanding::skipped` meets its contract.
+-- Assumes nothing.
+use borrow.Author.Needs.{needs}
+use Rattle.timing.proofs.outstanding.skipped.Statement.{statement}
+use Rattle.timing.proofs.outstanding.skipped.Tie as tie
+
+returns : tie.Need-returns
+returns c = rw (c .capped .ensures, c .before .wide .ensures)
+
+pub skipped-spec : {M : Type 1} → statement M
+skipped-spec = tie.close (tie.spec (search needs) (search needs) (search needs) returns)
