@@ -7,7 +7,8 @@ use Prim.Native.Nat.{ℕ}
 use Rattle.protocol.specs.Ranges.{inRange, mss}
 use Rattle.protocol.specs.declared.Settings.{Settings}
 use Rattle.session.specs.State.{State}
-use Rattle.session.specs.Sizes.{Lengths, enough, enoughToFlush}
+use Rattle.sizes.specs.Sizes.{enough, enoughToFlush}
+use Rattle.sizes.specs.declared.Lengths.{Lengths}
 use Rattle.session.specs.Valid.{valid, sendingValid, receivingValid, probeFits}
 use Rattle.session.specs.Calls.{Station, Call, Lent, own, lengthsOf, longEnough, after, step}
 use Rattle.session.specs.Decides.{All}

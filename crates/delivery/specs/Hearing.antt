@@ -29,7 +29,7 @@ use Rattle.protocol.specs.declared.Refusal.the-variants.{
 use Rattle.session.specs.Slots.{occurs}
 use Rattle.session.specs.Cutting.{fragmentCount}
 use Rattle.session.specs.Opening.{opened}
-use Rattle.session.specs.Sizes.{enoughToFlush}
+use Rattle.sizes.specs.Sizes.{enoughToFlush}
 use Rattle.session.specs.Decides.{All}
 use Rattle.session.specs.Calls.{Station, Call, Answer, Event, lengthsOf, step, history, after, acceptedList, datagramsBy, readAnswers, messagesRead}
 use Rattle.delivery.specs.PlainReceiver.{Plain, atFirst, Found, pushesIn, firstWanted, plainAfter, plainAnswers}

@@ -8,7 +8,8 @@ use Prim.Native.Nat.{ℕ, _<_}
 use native.Mathlib.Omega.{arith}
 use Rattle.protocol.specs.Ranges.{inRange, mss}
 use Rattle.protocol.specs.declared.Settings.{Settings}
-use Rattle.session.specs.Sizes.{Lengths, enough}
+use Rattle.sizes.specs.Sizes.{enough}
+use Rattle.sizes.specs.declared.Lengths.{Lengths}
 use Rattle.session.specs.Valid.{valid}
 use Rattle.session.specs.Calls.{Station, Call, Event, Stepped, lengthsOf, longEnough, own, step, history, after, readAnswers, messagesRead}
 use Rattle.session.specs.Decides.{All}

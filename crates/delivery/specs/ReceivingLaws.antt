@@ -16,7 +16,8 @@ use Rattle.lists.specs.declared.Held.{Held}
 use Rattle.lists.specs.declared.Waiting.{Waiting}
 use Rattle.lists.specs.Orders.{ascending, waitingOffset}
 use Rattle.session.specs.State.{State, Receiving, Outcome, receiveHeld, slots}
-use Rattle.session.specs.Sizes.{Lengths, enough, enoughToFlush}
+use Rattle.sizes.specs.Sizes.{enough, enoughToFlush}
+use Rattle.sizes.specs.declared.Lengths.{Lengths}
 use Rattle.lists.specs.Receiving.{startsAt}
 use Rattle.session.specs.Valid.{all, once, heldFits, waitingFits, settled, receivingValid}
 use Rattle.session.specs.Opening.{opened}
@@ -202,10 +203,10 @@ own-lent s = own-cases (λ (x : Call) (y : Stepped). y .station .lent ≡ s .len
 
 pub own-lengths : (s : Station) (x : Call) → lengthsOf (own s x .station) ≡ lengthsOf s
 own-lengths s x = λ i. record {
-  sendPool = own-send-pool s x i;
-  receivePool = own-receive-pool s x i;
+  send = own-send-pool s x i;
+  receive = own-receive-pool s x i;
   table = own-lent s x i .table;
-  ackList = own-lent s x i .ackList;
+  acks = own-lent s x i .ackList;
 }
 
 -- ---- the receiving half stays in order
@@ -241,9 +242,9 @@ pub flush-enough : (m : ℕ) (n : Lengths) (output lengths : ℕ) → enoughToFl
 unfolding enoughToFlush
 flush-enough m n output lengths e = and-parts (enough m n) _ (and-parts (enough m n && leb outputLeast output) _ e .0) .0
 
-enough-receive : (m : ℕ) (n : Lengths) → enough m n ≡ true → receiveSlots * m ≤ n .receivePool
+enough-receive : (m : ℕ) (n : Lengths) → enough m n ≡ true → receiveSlots * m ≤ n .receive
 unfolding enough
-enough-receive m n e = leb-true _ _ (and-parts (leb (sendSlots * m) (n .sendPool)) _ (and-parts _ _ (and-parts _ _ e .0) .0) .1)
+enough-receive m n e = leb-true _ _ (and-parts (leb (sendSlots * m) (n .send)) _ (and-parts _ _ (and-parts _ _ e .0) .0) .1)
 
 pub opened-receiving : (c : Settings) (s : Station) → Opened c s → ReceivingInOrder c s
 unfolding opened ascending startsAt

@@ -7,7 +7,8 @@ use borrow.Author.Tests.{leb-true}
 use Rattle.protocol.specs.Protocol.{sendSlots, mtuLeast, mtuMost}
 use Rattle.protocol.specs.Ranges.{inRange}
 use Rattle.protocol.specs.declared.Settings.{Settings}
-use Rattle.session.specs.Sizes.{Lengths, enough, enoughToFlush}
+use Rattle.sizes.specs.Sizes.{enough, enoughToFlush}
+use Rattle.sizes.specs.declared.Lengths.{Lengths}
 use Rattle.session.specs.Decides.{and-parts}
 
 -- settings in range have an mtu of 50 to 512
@@ -21,7 +22,7 @@ mtu-in-range c e =
     record { least = leb-true mtuLeast (c .mtu) (a .0); most = leb-true (c .mtu) mtuMost (a .1) }
 
 -- a flush's lent parts: a send pool of 128 x mss bytes
-pub enough-pool : (m : ℕ) (n : Lengths) (output lengths : ℕ) → enoughToFlush m n output lengths ≡ true → sendSlots * m ≤ n .sendPool
+pub enough-pool : (m : ℕ) (n : Lengths) (output lengths : ℕ) → enoughToFlush m n output lengths ≡ true → sendSlots * m ≤ n .send
 unfolding enoughToFlush enough
 enough-pool m n output lengths e =
-    leb-true (sendSlots * m) (n .sendPool) (and-parts _ _ (and-parts _ _ (and-parts _ _ (and-parts _ _ (and-parts _ _ e .0) .0) .0) .0) .0)
+    leb-true (sendSlots * m) (n .send) (and-parts _ _ (and-parts _ _ (and-parts _ _ (and-parts _ _ (and-parts _ _ e .0) .0) .0) .0) .0)

@@ -9,7 +9,8 @@ use Rattle.protocol.specs.declared.Refusal.{Refusal}
 use Rattle.protocol.specs.declared.Refusal.the-variants.{ShortPart, InvalidBlock}
 use Rattle.datagram.specs.Datagrams.{Segment}
 use Rattle.session.specs.State.{State, Outcome}
-use Rattle.session.specs.Sizes.{Lengths, enough, enoughToFlush}
+use Rattle.sizes.specs.Sizes.{enough, enoughToFlush}
+use Rattle.sizes.specs.declared.Lengths.{Lengths}
 use Rattle.session.specs.Valid.{valid}
 use Rattle.session.specs.Sending.{Sends, sending}
 use Rattle.session.specs.Input.{Took, input}
@@ -55,7 +56,7 @@ pub record Stepped : Type 0 where
   pub answer : Answer
 
 abbrev pub lengthsOf : Station → Lengths
-lengthsOf s = record { sendPool = length (s .sendPool); receivePool = length (s .receivePool); table = s .lent .table; ackList = s .lent .ackList }
+lengthsOf s = record { send = length (s .sendPool); receive = length (s .receivePool); table = s .lent .table; acks = s .lent .ackList }
 
 -- every call but opening checks the lent sizes (7), then the control block (13)
 abbrev pub checked : Bool → Bool → Stepped → Station → Stepped

@@ -1,6 +1,5 @@
 pub mod Slots
 pub mod State
-pub mod Sizes
 pub mod Valid
 pub mod Decides
 pub mod AllLaws

@@ -7,7 +7,8 @@ use Rattle.protocol.specs.Ranges.{inRange, mss}
 use Rattle.protocol.specs.declared.Settings.{Settings}
 use Rattle.protocol.specs.declared.Refusal.the-variants.{SettingOutOfRange, ShortPart}
 use Rattle.session.specs.State.{State, Sending, Receiving, Outcome, refused, done}
-use Rattle.session.specs.Sizes.{Lengths, enough}
+use Rattle.sizes.specs.Sizes.{enough}
+use Rattle.sizes.specs.declared.Lengths.{Lengths}
 
 -- the peer's window starts at 128, the link timeout at 200, all else at 0, empty or unset
 unfoldable pub opened : Settings → State

@@ -8,13 +8,13 @@ use Rattle.sizes.specs.declared.Lengths.{Lengths}
 
 -- a send pool of at least 128 x mss bytes, a receive pool of at least 256 x mss bytes, a record for each of 128 send slots,
 -- and an ack list for 256 pairs, so 512 entries
-unfoldable pub isEnough : ℕ → Lengths → Bool
-isEnough mss n =
+unfoldable pub enough : ℕ → Lengths → Bool
+enough mss n =
     leb (sendSlots * mss) (n .send)
     && leb (receiveSlots * mss) (n .receive)
     && leb sendSlots (n .table)
     && leb (2 * acksMost) (n .acks)
 
 -- a flush is lent besides at least 22,576 bytes for output and at least 290 lengths
-unfoldable pub isEnoughToFlush : ℕ → Lengths → ℕ → ℕ → Bool
-isEnoughToFlush mss n output lengths = isEnough mss n && leb outputLeast output && leb lengthsLeast lengths
+unfoldable pub enoughToFlush : ℕ → Lengths → ℕ → ℕ → Bool
+enoughToFlush mss n output lengths = enough mss n && leb outputLeast output && leb lengthsLeast lengths

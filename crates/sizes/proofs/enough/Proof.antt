@@ -1,7 +1,7 @@
 -- `sizes::enough` meets its contract: each comparison is one of the definition's.
 -- Assumes nothing.
 use borrow.Author.Needs.{needs}
-use Rattle.sizes.specs.Sizes.{isEnough}
+use Rattle.sizes.specs.Sizes.{enough}
 use Rattle.sizes.proofs.enough.Statement.{statement}
 use Rattle.sizes.proofs.enough.Tie as tie
 
@@ -18,7 +18,7 @@ mul-result-3 : tie.Need-mul-result-3
 mul-result-3 c = search needs
 
 returns : tie.Need-returns
-unfolding isEnough
+unfolding enough
 returns c = cc
 
 pub enough-spec : {M : Type 1} → statement M
