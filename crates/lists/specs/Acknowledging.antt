@@ -2,10 +2,10 @@
 -- Assumes nothing.
 use mathlib.Core.Bool.{Bool, cond, not}
 use mathlib.Core.List.{List, [], _∷_}
-use Prim.Native.Nat.{ℕ, _+_, min}
+use Prim.Native.Nat.{ℕ}
 use lib.Dec.{eqb}
-use Rattle.protocol.specs.Protocol.{skipsMost}
 use Rattle.protocol.specs.Serial.{isAfter, isBefore}
+use Rattle.timing.specs.Transmissions.{skipped}
 use Rattle.lists.specs.declared.Sent.{Sent}
 use Rattle.lists.specs.declared.Acknowledges.{Acknowledges}
 use Rattle.lists.specs.declared.Acknowledges.the-variants.{Una, Ack}
@@ -33,19 +33,9 @@ unfoldable pub firstNumberOr : List Sent → ℕ → ℕ
 firstNumberOr [] other = other
 firstNumberOr (s ∷ l) other = s .record .number
 
--- one skip more, staying at 255
+-- one skip more
 abbrev pub oneSkip : Sent → Sent
-oneSkip s =
-    record {
-      held = s .held;
-      transmissions = s .transmissions;
-      «record» = record {
-        number = s .record .number;
-        due = s .record .due;
-        timeout = s .record .timeout;
-        skips = min (s .record .skips + 1) skipsMost;
-      };
-    }
+oneSkip s = record { held = s .held; transmissions = s .transmissions; «record» = skipped (s .record) }
 
 -- a segment before n gets one skip
 unfoldable pub skipBefore : ℕ → Sent → Sent

@@ -2,13 +2,11 @@
 use crate::Acknowledges;
 use crate::Sent;
 use crate::SentList;
-use protocol::Protocol;
 use protocol::serial;
-use timing::Record;
+use timing::outstanding;
 ghost use mathlib.Core.Path.{_≡_};
 ghost use mathlib.Core.List.{[], _∷_, _++_, map};
-ghost use Prim.Native.Nat.{_+_, _≤_, _<_, min};
-ghost use Rattle.protocol.specs.Protocol.{skipsMost};
+ghost use Prim.Native.Nat.{_≤_, _<_};
 ghost use Rattle.lists.specs.Views.{sentOf, SentIs};
 ghost use Rattle.lists.specs.Orders.{sentOffset, ascending};
 ghost use Rattle.lists.specs.Acknowledging.{acknowledged, removed, firstNumberOr, skipBefore};
@@ -69,17 +67,6 @@ pub fn first_number_or(list: SentList, other: u32) -> u32
     }
 }
 
-// One skip more, staying at 255.
-fn one_more(skips: u32) -> u32
-    ensures { λ r. ⌜ r ≡ min (skips + 1) skipsMost ⌝ }
-{
-    if skips < Protocol::SKIPS_MOST {
-        skips + 1
-    } else {
-        Protocol::SKIPS_MOST
-    }
-}
-
 // The segment with one skip more if its number is before the given one.
 fn skipped(sent: Sent, number: u32) -> Sent
     ensures { λ r. ⌜ r ≡ skipBefore number sent ⌝ }
@@ -87,12 +74,7 @@ fn skipped(sent: Sent, number: u32) -> Sent
     let record = sent.record;
     if serial::before(record.number, number) {
         let held = sent.held;
-        let counted = Record {
-            number: record.number,
-            due: record.due,
-            timeout: record.timeout,
-            skips: one_more(record.skips),
-        };
+        let counted = outstanding::skipped(record);
         Sent {
             held,
             transmissions: sent.transmissions,

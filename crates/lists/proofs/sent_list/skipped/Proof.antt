@@ -13,7 +13,7 @@ unfolding skipBefore
 returns c =
     let a = c .before .before .before .before .before .args in
     let e : isBefore (a .sent .record .number) (a .number) ≡ true = sym (c .before .before .before .«before2» .ensures) ∙ c .before .before .if1 .taken in
-    rw (e, c .one-more .ensures)
+    rw (e, c .skipped .ensures)
 
 returns-2 : tie.Need-returns-2
 unfolding skipBefore
