@@ -1,6 +1,6 @@
 -- The furthest number found segment by segment is that of the list of the acks' numbers.
 -- Assumes nothing.
-use mathlib.Core.Path.{_≡_, refl, _∙_}
+use mathlib.Core.Path.{_≡_, refl}
 use mathlib.Core.Bool.{Bool, true, false, cond}
 use mathlib.Core.List.{List, [], _∷_}
 use Prim.Native.Nat.{ℕ}
@@ -9,7 +9,7 @@ use Rattle.protocol.specs.Protocol.{ack}
 use Rattle.protocol.specs.Serial.{isAfter}
 use Rattle.datagram.specs.Datagrams.{Segment}
 use Rattle.session.specs.State.{Sending}
-use Rattle.session.specs.Input.{ackNumbers, furthest, skipped, skippedByAll}
+use Rattle.session.specs.Input.{ackNumbers, furthest, skippedByAll}
 use Rattle.acknowledging.specs.declared.Furthest.{Furthest}
 use Rattle.acknowledging.specs.Furthest.{noneYet, further, furtherBy, furtherByAll, skippedBy}
 

@@ -11,57 +11,57 @@ use Rattle.datagram.specs.Datagrams.{Segment, parse, segments, counted}
 use Rattle.datagram.specs.StepLaws.{Begun, accepted, was-refused}
 use Rattle.datagram.specs.declared.Checked.{Checked}
 use Rattle.datagram.specs.declared.Checked.the-variants.{Accepted, Refused}
-use Rattle.session.specs.Input.{Receiver, taking, applied, input}
+use Rattle.session.specs.Input.{Receiver, applied, input}
 use Rattle.block.specs.declared.Flight.{Flight}
 use Rattle.receiving.specs.Halves.{Sound}
 use Rattle.receiving.specs.declared.Half.{Half}
-use Rattle.input.specs.Inputs.{HasSegments, AppliedIs, Rest, stateWith, outcomeOf, Unchanged, TakenInIs}
+use Rattle.input.specs.Inputs.{HasSegments, AppliedIs, TakenInIs}
 use Rattle.input.specs.declared.Applied.{Applied}
 
-module _ (c : Settings) (current size : ℕ) (s : List ℕ) (f : Flight) (h : Half) (acks pool : List ℕ) (v : Checked)
-    (e : v ≡ counted 0 (parse (c .conv) size s)) (m : size ≡ mss c) (few : f .outstanding .count ≤ 32) (sound : Sound h (mss c) acks pool) where
-  -- what `apply` asks
-  pub sound-as : Sound h size acks pool
-  sound-as = rw m sound
+-- v is what the check answers, with the mss m of the settings c
+module _ (c : Settings) (m : ℕ) (s : List ℕ) (v : Checked) (e : v ≡ counted 0 (parse (c .conv) m s)) (q : m ≡ mss c) where
+  verdict : v ≡ counted 0 (parse (c .conv) (mss c) s)
+  verdict = rw q at e
 
-  -- the datagram is refused
-  pub refuses : (q : Refusal) → v ≡ Refused q → TakenInIs c current s f h acks pool (record { verdict = v; flight = f; half = h }) acks pool
-  unfolding input
-  refuses q r =
-      let p = was-refused 0 (parse (c .conv) (mss c) s) q (sym (rw m at e) ∙ r) in
-      record {
-        verdict = rw m at e;
-        outcome = λ o. rw (r, p);
-        refusal = λ k t. record { flight = refl; half = refl; ack-list = refl; slots = refl };
-        beyond = refl;
-        few = few;
-        sound = sound;
-      }
+  begun : (n : ℕ) → v ≡ Accepted n → Begun (c .conv) (mss c) s n
+  begun n r = accepted (c .conv) (mss c) s n (sym verdict ∙ r)
 
-  -- it is accepted
-  module _ (n : ℕ) (r : v ≡ Accepted n) where
-    begun : Begun (c .conv) (mss c) s n
-    begun = accepted (c .conv) (mss c) s n (sym (rw m at e) ∙ r)
+  pub has-segments : (n : ℕ) → v ≡ Accepted n → HasSegments (c .conv) m s
+  has-segments n r = go (begun n r)
+    where
+      go : Begun (c .conv) (mss c) s n → HasSegments (c .conv) m s
+      go b = record { all = b .all; parsed = rw q (b .parsed) }
 
-    pub has-segments : HasSegments (c .conv) size s
-    has-segments = go begun
-      where
-        go : Begun (c .conv) (mss c) s n → HasSegments (c .conv) size s
-        go b = record { all = b .all; parsed = rw m (b .parsed) }
+  module _ (current : ℕ) (f : Flight) (h : Half) (acks pool : List ℕ) where
+    -- the datagram is refused
+    pub refuses : f .outstanding .count ≤ 32 → Sound h (mss c) acks pool → (x : Refusal) → v ≡ Refused x
+        → TakenInIs c current s f h acks pool (record { verdict = v; flight = f; half = h }) acks pool
+    unfolding input
+    refuses few sound x r =
+        let p = was-refused 0 (parse (c .conv) (mss c) s) x (sym verdict ∙ r) in
+        record {
+          verdict = verdict;
+          outcome = λ o. rw (r, p);
+          refusal = λ y t. record { flight = refl; half = refl; ack-list = refl; slots = refl };
+          beyond = refl;
+          few = few;
+          sound = sound;
+        }
 
-    pub accepts : (a : Applied) (acks′ pool′ : List ℕ)
-        → ((gs : List Segment) → parse (c .conv) size s ≡ segments gs → AppliedIs c current size gs f h acks pool a acks′ pool′)
+    -- it is accepted
+    pub accepts : (n : ℕ) → v ≡ Accepted n → (a : Applied) (acks′ pool′ : List ℕ)
+        → ((gs : List Segment) → parse (c .conv) m s ≡ segments gs → AppliedIs c current m gs f h acks pool a acks′ pool′)
         → TakenInIs c current s f h acks pool (record { verdict = v; flight = a .flight; half = a .half }) acks′ pool′
     unfolding input applied
-    accepts a acks′ pool′ k = go begun
+    accepts n r a acks′ pool′ k = go (begun n r)
       where
         go : Begun (c .conv) (mss c) s n → TakenInIs c current s f h acks pool (record { verdict = v; flight = a .flight; half = a .half }) acks′ pool′
         go b =
-            let x = rw m at (k (b .all) (rw m (b .parsed))) in
+            let x = rw q at (k (b .all) (rw q (b .parsed))) in
             record {
-              verdict = rw m at e;
+              verdict = verdict;
               outcome = λ o. rw (r, b .parsed, x .sending .half (o .queued), ap (λ (y : Receiver). y .half) (x .receiving .is), ap (λ (y : Receiver). y .pool) (x .receiving .is));
-              refusal = λ q t. absurd (let z = sym r ∙ t in let w : _≡_ {A = ℕ} 0 1 = cc in omega arith);
+              refusal = λ y t. absurd (let z = sym r ∙ t in let w : _≡_ {A = ℕ} 0 1 = cc in omega arith);
               beyond = x .receiving .beyond;
               few = x .sending .fits;
               sound = x .receiving .sound;

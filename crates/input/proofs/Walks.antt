@@ -1,7 +1,7 @@
 -- The loop over a datagram's segments: what has been applied, and what remains, together are the whole.
 -- Assumes nothing.
 use mathlib.Core.Path.{_≡_, refl, sym, ap, _∙_}
-use mathlib.Core.List.{List, [], _∷_}
+use mathlib.Core.List.{List, []}
 use Prim.Native.Nat.{ℕ, _+_, _-_, _*_, _≤_, _<_}
 use native.Mathlib.Omega.{arith}
 use lib.ListN.{length, drop}
@@ -12,8 +12,7 @@ use Rattle.datagram.specs.Datagrams.{Segment, parse, segments, stepAt}
 use Rattle.datagram.specs.StepLaws.{Remaining, Took, took, ended, parsed-remaining}
 use Rattle.datagram.specs.declared.Step.the-variants as step
 use Rattle.lists.specs.declared.HeldList.{HeldList}
-use Rattle.session.specs.State.{Sending}
-use Rattle.session.specs.Input.{heardBySending, heardByReceiving, allBySending, allByReceiving, ackNumbers, skippedByAll}
+use Rattle.session.specs.Input.{heardBySending, heardByReceiving, allBySending, allByReceiving}
 use Rattle.block.specs.Views.{sendingOf}
 use Rattle.block.specs.declared.Flight.{Flight}
 use Rattle.acknowledging.specs.Flights.{FlightIs}
@@ -31,26 +30,26 @@ drop-further l m i j h e =
     rw q (sym (drop-drop (j - i) i l) ∙ ap (drop (j - i)) e ∙ drop-drop (j - i) i m)
 
 -- f₀, h₀, acks₀ and pool₀ are what the loop began with; the segments from index at on remain
-module _ (c : Settings) (current size : ℕ) (s : List ℕ) (f₀ : Flight) (h₀ : Half) (acks₀ pool₀ : List ℕ) where
+module _ (c : Settings) (current m : ℕ) (s : List ℕ) (f₀ : Flight) (h₀ : Half) (acks₀ pool₀ : List ℕ) where
   pub record Walking (f : Flight) (h : Half) (furthest : Furthest) (acks pool : List ℕ) (at : ℕ) : Type 0 where
     pub all : List Segment
     pub rest : List Segment
-    pub parsed : parse (c .conv) size s ≡ segments all
-    pub remaining : Remaining (c .conv) size s at rest
+    pub parsed : parse (c .conv) m s ≡ segments all
+    pub remaining : Remaining (c .conv) m s at rest
     pub few : f .outstanding .count ≤ 32
     pub sending : (q : HeldList) → allBySending c current (sendingOf q f) rest ≡ allBySending c current (sendingOf q f₀) all
     pub acked : furtherByAll furthest rest ≡ furtherByAll noneYet all
-    pub receiving : allByReceiving size (receiverOf h acks pool) rest ≡ allByReceiving size (receiverOf h₀ acks₀ pool₀) all
+    pub receiving : allByReceiving m (receiverOf h acks pool) rest ≡ allByReceiving m (receiverOf h₀ acks₀ pool₀) all
     pub more : h₀ .acks ≤ h .acks
     pub beyond : drop (2 * h .acks) acks ≡ drop (2 * h .acks) acks₀
-    pub sound : Sound h size acks pool
+    pub sound : Sound h m acks pool
 
-  pub walking-start : f₀ .outstanding .count ≤ 32 → Sound h₀ size acks₀ pool₀ → HasSegments (c .conv) size s → Walking f₀ h₀ noneYet acks₀ pool₀ 0
+  pub walking-start : f₀ .outstanding .count ≤ 32 → Sound h₀ m acks₀ pool₀ → HasSegments (c .conv) m s → Walking f₀ h₀ noneYet acks₀ pool₀ 0
   walking-start few sound g = record {
     all = g .all;
     rest = g .all;
     parsed = g .parsed;
-    remaining = parsed-remaining (c .conv) size s (g .all) (g .parsed);
+    remaining = parsed-remaining (c .conv) m s (g .all) (g .parsed);
     few = few;
     sending = λ q. refl;
     acked = refl;
@@ -63,10 +62,10 @@ module _ (c : Settings) (current size : ℕ) (s : List ℕ) (f₀ : Flight) (h�
   module _ (f : Flight) (h : Half) (furthest : Furthest) (acks pool : List ℕ) (at : ℕ) (w : Walking f h furthest acks pool at) where
     -- the next segment
     module _ (header : Header) (start next : ℕ) (e : stepAt s at ≡ step.Segment header start next) where
-      first : Took (c .conv) size s at (w .rest) header start next
-      first = took (c .conv) size s at (w .rest) (w .remaining) header start next e
+      first : Took (c .conv) m s at (w .rest) header start next
+      first = took (c .conv) m s at (w .rest) (w .remaining) header start next e
 
-      pub walking-inside : InDatagram size s start header
+      pub walking-inside : InDatagram m s start header
       walking-inside = record { inside = omega (arith, first .starts, first .follows, first .inside); fits = first .passed .payload }
 
       pub walking-less : length s - next < length s - at
@@ -74,7 +73,7 @@ module _ (c : Settings) (current size : ℕ) (s : List ℕ) (f₀ : Flight) (h�
 
       module _ (f′ : Flight) (h′ : Half) (furthest′ : Furthest) (acks′ pool′ : List ℕ) where
         pub walking-more : FlightIs f′ f (λ x. heardBySending c current x header) → furthest′ ≡ furtherBy furthest header
-            → HalfIs size h h′ acks acks′ pool′ (heardByReceiving size (receiverOf h acks pool) (segmentAt s start header))
+            → HalfIs m h h′ acks acks′ pool′ (heardByReceiving m (receiverOf h acks pool) (segmentAt s start header))
             → Walking f′ h′ furthest′ acks′ pool′ next
         unfolding allBySending allByReceiving furtherByAll
         walking-more a b d = record {
@@ -94,7 +93,7 @@ module _ (c : Settings) (current size : ℕ) (s : List ℕ) (f₀ : Flight) (h�
     -- none is left
     module _ (e : stepAt s at ≡ step.End) where
       none : w .rest ≡ []
-      none = ended (c .conv) size s at (w .rest) (w .remaining) e
+      none = ended (c .conv) m s at (w .rest) (w .remaining) e
 
       all-sent : (q : HeldList) → sendingOf q f ≡ allBySending c current (sendingOf q f₀) (w .all)
       unfolding allBySending
@@ -104,16 +103,16 @@ module _ (c : Settings) (current size : ℕ) (s : List ℕ) (f₀ : Flight) (h�
       unfolding furtherByAll
       all-acked = rw none at (w .acked)
 
-      all-received : receiverOf h acks pool ≡ allByReceiving size (receiverOf h₀ acks₀ pool₀) (w .all)
+      all-received : receiverOf h acks pool ≡ allByReceiving m (receiverOf h₀ acks₀ pool₀) (w .all)
       unfolding allByReceiving
       all-received = rw none at (w .receiving)
 
-      applied : (r : Flight) → FlightIs r f (skippedBy furthest) → AppliedIs c current size (w .all) f₀ h₀ acks₀ pool₀ (record { flight = r; half = h }) acks pool
+      applied : (r : Flight) → FlightIs r f (skippedBy furthest) → AppliedIs c current m (w .all) f₀ h₀ acks₀ pool₀ (record { flight = r; half = h }) acks pool
       applied r k = record {
         sending = record { fits = k .fits; half = λ q. k .half q ∙ rw (all-sent q, all-acked) (skipped-all _ (w .all)) };
         receiving = record { is = all-received; more = w .more; beyond = w .beyond; sound = w .sound };
       }
 
-      pub walking-end : (r : Flight) → FlightIs r f (skippedBy furthest) → (gs : List Segment) → parse (c .conv) size s ≡ segments gs
-          → AppliedIs c current size gs f₀ h₀ acks₀ pool₀ (record { flight = r; half = h }) acks pool
+      pub walking-end : (r : Flight) → FlightIs r f (skippedBy furthest) → (gs : List Segment) → parse (c .conv) m s ≡ segments gs
+          → AppliedIs c current m gs f₀ h₀ acks₀ pool₀ (record { flight = r; half = h }) acks pool
       walking-end r k gs p = let q = sym (w .parsed) ∙ p in let same : w .all ≡ gs = cc in rw same at (applied r k)

@@ -24,14 +24,14 @@ use Rattle.input.specs.declared.Applied.{Applied}
 use Rattle.input.specs.declared.TakenIn.{TakenIn}
 
 -- a datagram that is accepted
-pub record HasSegments (conv size : ℕ) (s : List ℕ) : Type 0 where
+pub record HasSegments (conv m : ℕ) (s : List ℕ) : Type 0 where
   pub all : List Segment
-  pub parsed : parse conv size s ≡ segments all
+  pub parsed : parse conv m s ≡ segments all
 
--- the segments gs are applied to both halves
-pub record AppliedIs (c : Settings) (current size : ℕ) (gs : List Segment) (f : Flight) (h : Half) (acks pool : List ℕ) (r : Applied) (acks′ pool′ : List ℕ) : Type 0 where
+-- the segments gs are applied to both halves; m is the mss
+pub record AppliedIs (c : Settings) (current m : ℕ) (gs : List Segment) (f : Flight) (h : Half) (acks pool : List ℕ) (r : Applied) (acks′ pool′ : List ℕ) : Type 0 where
   pub sending : FlightIs (r .flight) f (λ x. skippedByAll (allBySending c current x gs) (ackNumbers gs))
-  pub receiving : HalfIs size h (r .half) acks acks′ pool′ (allByReceiving size (receiverOf h acks pool) gs)
+  pub receiving : HalfIs m h (r .half) acks acks′ pool′ (allByReceiving m (receiverOf h acks pool) gs)
 
 -- the rest of a link's state
 pub record Rest : Type 0 where

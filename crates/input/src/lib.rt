@@ -32,13 +32,13 @@ fn apply(
     half: Half,
     settings: Settings,
     current: u32,
-    size: usize,
+    mss: usize,
     s: &[u8],
     pool: &mut [u8],
     acks: &mut [u32],
 ) -> Applied
-    requires { ⌜ (flight .outstanding .count ≤ 32) × Sound half size (now acks) (now pool) × HasSegments (settings .conv) size (now s) ⌝ }
-    ensures { λ r. ⌜ ((gs : List Segment) → parse (settings .conv) size (now (s .entry)) ≡ segments gs → AppliedIs settings current size gs flight half (now (acks .entry)) (now (pool .entry)) r (now (acks .exit)) (now (pool .exit))) ⌝ }
+    requires { ⌜ (flight .outstanding .count ≤ 32) × Sound half mss (now acks) (now pool) × HasSegments (settings .conv) mss (now s) ⌝ }
+    ensures { λ r. ⌜ ((gs : List Segment) → parse (settings .conv) mss (now (s .entry)) ≡ segments gs → AppliedIs settings current mss gs flight half (now (acks .entry)) (now (pool .entry)) r (now (acks .exit)) (now (pool .exit))) ⌝ }
 {
     let mut at: usize = 0;
     let mut f = flight;
@@ -59,7 +59,7 @@ fn apply(
         };
         f = acknowledging::heard(f, settings, current, header);
         furthest = furthest.after(header);
-        h = receiving::heard(h, size, s, start, header, pool, acks);
+        h = receiving::heard(h, mss, s, start, header, pool, acks);
         at = next;
     }
 }
@@ -77,8 +77,8 @@ pub fn take_in(
     requires { ⌜ (flight .outstanding .count ≤ 32) × Sound half (mss settings) (now acks) (now pool) ⌝ }
     ensures { λ r. ⌜ TakenInIs settings current (now (s .entry)) flight half (now (acks .entry)) (now (pool .entry)) r (now (acks .exit)) (now (pool .exit)) ⌝ }
 {
-    let size = settings.mss();
-    let verdict = datagram::check(s, settings.conv, size);
+    let mss = settings.mss();
+    let verdict = datagram::check(s, settings.conv, mss);
     if let Checked::Refused(_) = verdict {
         return TakenIn {
             verdict,
@@ -86,7 +86,7 @@ pub fn take_in(
             half,
         };
     }
-    let applied = apply(flight, half, settings, current, size, s, pool, acks);
+    let applied = apply(flight, half, settings, current, mss, s, pool, acks);
     let sent = applied.flight;
     let received = applied.half;
     TakenIn {

@@ -1,7 +1,7 @@
 -- Laws of the count of a message's segments.
 -- Assumes nothing.
-use mathlib.Core.Path.{_≡_, refl, ap, _∙_}
-use Prim.Native.Nat.{ℕ, zero, suc, _+_, _-_, _*_, _/_, _≤_, _<_, _^_, max}
+use mathlib.Core.Path.{_≡_, refl}
+use Prim.Native.Nat.{ℕ, zero, suc, _+_, _-_, _/_, _≤_, _<_}
 use native.Mathlib.Nat.{div-eq-of-lt, add-div-right, div-le-self, max-eq-right, le-max-left}
 use native.Mathlib.Omega.{arith}
 use Rattle.session.specs.Cutting.{fragmentCount}
@@ -20,10 +20,6 @@ module _ (m n : ℕ) (h : 0 < m) where
   count-some g =
       let q : n + (m - 1) ≡ n - 1 + m = omega arith in
       rw (q, add-div-right (n - 1) h) (max-eq-right (omega arith))
-
--- the quotient and one more
-pub quotient-more : (m n w : ℕ) → (n ≡ 0 → ⊥) → n < w → (n - 1) / m + 1 < w
-quotient-more m n w g h = omega (arith, div-le-self (n - 1) m)
 
 -- at most one for each byte, and one
 pub count-most : (m n : ℕ) → 0 < m → fragmentCount m n ≤ n + 1

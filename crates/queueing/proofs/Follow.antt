@@ -1,18 +1,18 @@
 -- What the functions leave follows the link's definition of sending.
 -- Assumes nothing.
-use mathlib.Core.Path.{_≡_, refl, sym, ap, _∙_}
-use mathlib.Core.List.{List, _++_, map}
+use mathlib.Core.Path.{_≡_, refl}
+use mathlib.Core.List.{List, _++_}
 use Prim.Native.Nat.{ℕ, _+_, _-_, _*_, _≤_, _<_}
 use native.Mathlib.Omega.{arith}
 use borrow.Author.Tests.{lt-ltb, le-ltb}
 use lib.ListN.{length, length-append, length-map, length-take}
 use lib.Seq.{length-take-le}
 use Rattle.protocol.specs.declared.Refusal.the-variants.{LongMessage, NoFreeSlots}
-use Rattle.lists.specs.Views.{heldOf, sentOf, sentPart}
+use Rattle.lists.specs.Views.{heldOf}
 use Rattle.lists.specs.declared.HeldList.{HeldList}
 use Rattle.lists.specs.declared.SentList.{SentList}
 use Rattle.slots.specs.declared.Marks.{Marks}
-use Rattle.slots.specs.Slots.{slotsOf, sendUsed, freeCount}
+use Rattle.slots.specs.Slots.{sendUsed, freeCount}
 use Rattle.slots.specs.Marks.{noMarks, markAll}
 use Rattle.session.specs.State.{State, refused, done}
 use Rattle.session.specs.Cutting.{fragmentCount, pieces, cut}
@@ -28,7 +28,7 @@ module _ (queued : HeldList) (sent : SentList) where
   used-most : length (sendUsed queued sent) ≤ sent .count + queued .count
   used-most = simp (length-map, length-append, length-take) (omega arith)
 
-  module _ (marks : Marks) (e : marks ≡ markAll 128 noMarks (sendUsed queued sent)) where
+  module _ {marks : Marks} (e : marks ≡ markAll 128 noMarks (sendUsed queued sent)) where
     pub enough-free : (count : ℕ) → sent .count + queued .count + count ≤ 128 → count ≤ freeCount (marked (marks .held) 128) 128
     enough-free count h = rw e (room-marked (sendUsed queued sent) count (omega (arith, used-most)))
 
@@ -43,7 +43,7 @@ pub record Within (queued : HeldList) (sent : SentList) : Type 0 where
   pub queue : queued .count ≤ length (queued .at)
   pub flight : sent .count ≤ length (sent .at)
 
-module _ (queued : HeldList) (sent : SentList) (w : Within queued sent) (s : State) (m : ℕ) (pool message : List ℕ) (p : PartsOf s m queued sent) where
+module _ {queued : HeldList} {sent : SentList} (w : Within queued sent) (pool message : List ℕ) {s : State} {m : ℕ} (p : PartsOf s m queued sent) where
   used-length : length (sendUsed queued sent) ≡ sent .count + queued .count
   used-length = simp (length-map, length-append, length-take-le (queued .count) (queued .at) (w .queue), length-take-le (sent .count) (sent .at) (w .flight))
 
@@ -55,7 +55,7 @@ module _ (queued : HeldList) (sent : SentList) (w : Within queued sent) (s : Sta
   pub follows-long : 127 * m < length message → Follows (sending s pool message) queued pool (record { answer = Refused LongMessage; queued = queued }) pool
   follows-long h = rw (long h) (record { answer = refl; list = refl; pool = refl })
 
-  module _ (count : ℕ) (e : count ≡ fragmentCount m (length message)) (h : length message ≤ 127 * m) where
+  module _ {count : ℕ} (e : count ≡ fragmentCount m (length message)) (h : length message ≤ 127 * m) where
     full : 128 < sent .count + queued .count + count → sending s pool message ≡ refused NoFreeSlots
     unfolding sending
     full g =

@@ -32,19 +32,21 @@ drop-least (suc k) (x ∷ l) = rw suc-min-suc (drop-least k l)
 slot-end : (slot m n : ℕ) → slot < 128 → 128 * m ≤ n → slot * m + m ≤ n
 slot-end slot m n h g = let e : suc slot * m ≤ 128 * m = mul-le-mul-right m h in omega (arith, suc-mul slot m)
 
-pub slot-below : (slot m n w : ℕ) → slot < 128 → 128 * m ≤ n → n < w → slot * m < w
-slot-below slot m n w h g b = omega (arith, slot-end slot m n h g)
+pub slot-below : (slot m : ℕ) {n w : ℕ} → slot < 128 → 128 * m ≤ n → n < w → slot * m < w
+slot-below slot m {n} h g b = omega (arith, slot-end slot m n h g)
 
 -- the part that is copied: `total` bytes of the message, `room` bytes of the pool
 pub part-within : (m at len total room slot : ℕ) → at ≤ total → slot < 128 → 128 * m ≤ room → len ≡ min m (total - at) → (at + len ≤ total) × (slot * m + len ≤ room)
 part-within m at len total room slot h s g e = (omega arith, omega (arith, slot-end slot m room s g))
 
-module _ (m : ℕ) (message : List ℕ) (at slot : ℕ) (before : List ℕ) (len : ℕ) (after : List ℕ) where
+module _ {m : ℕ} {message : List ℕ} {at slot : ℕ} {before : List ℕ} {len : ℕ} {after : List ℕ} where
+  -- the part that is copied is the payload
   pub part-stored : len ≡ min m (length message - at) → after ≡ sets before (slot * m) (part message at len) → Stored m message at slot before len after
   part-stored e f =
       let q : len ≡ min m (length (drop at message)) = rw (length-drop at message) e in
       record { size = q ∙ sym (length-take m (drop at message)); pool = f ∙ rw (q, take-least m (drop at message)) }
 
+  -- what storing says of its length
   module _ (s : Stored m message at slot before len after) where
     size : len ≡ min m (length message - at)
     size = s .size ∙ rw (length-take, length-drop)

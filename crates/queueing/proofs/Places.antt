@@ -1,20 +1,18 @@
 -- The loop that places a message's payloads: what is still to be placed, placed from here, completes the whole.
 -- Assumes nothing.
-use mathlib.Core.Path.{_≡_, refl, sym, ap, _∙_}
+use mathlib.Core.Path.{_≡_, refl, sym, _∙_}
 use mathlib.Core.Bool.{Bool}
-use mathlib.Core.List.{List, [], _∷_, _++_}
-use Prim.Native.Nat.{ℕ, zero, suc, _+_, _-_, _*_, _≤_, _<_}
+use mathlib.Core.List.{List, _∷_, _++_}
+use Prim.Native.Nat.{ℕ, suc, _+_, _-_, _*_, _≤_, _<_}
 use native.Mathlib.Omega.{arith}
 use lib.ListN.{length, take, drop, set}
 use lib.Seq.{sets}
 use Rattle.lists.specs.declared.Held.{Held}
-use Rattle.lists.specs.declared.HeldList.{HeldList}
 use Rattle.lists.proofs.Loops.{Written, written-start, written-put, written-done}
 use Rattle.slots.specs.Slots.{freeFrom, lowestFree, freeCount}
 use Rattle.slots.specs.SlotLaws.{Walked, walked-start, walked-free, walked-next, count-free, count-taken}
 use Rattle.slots.specs.Marks.{unmarkedFrom}
 use Rattle.slots.specs.Agree.{free-agrees}
-use Rattle.session.specs.Slots as session
 use Rattle.session.specs.Cutting.{pieces}
 use Rattle.session.specs.Sending.{Placed, place}
 use Rattle.queueing.specs.Marked.{marked}
@@ -33,12 +31,11 @@ pub record Placing (m : ℕ) (held : List Bool) (goal : Placed) (front l : List 
   pub written : Written 128 l (place m now pool (pieces m left rest) .segments) (front ++ goal .segments) n
   pub pools : place m now pool (pieces m left rest) .pool ≡ goal .pool
 
-pub placing-start : (m : ℕ) (held : List Bool) (l : List Held) (pool message : List ℕ) (n count : ℕ) → count ≤ freeCount (marked held 128) 128 → length l ≡ 128 → n ≤ 128
+pub placing-start : {m : ℕ} {held : List Bool} {l : List Held} {pool message : List ℕ} {n count : ℕ} → count ≤ freeCount (marked held 128) 128 → length l ≡ 128 → n ≤ 128
     → Placing m held (place m (marked held 128) pool (pieces m count message)) (take n l) l pool message n 0 count
-placing-start m held l pool message n count f e h =
-    record { now = marked held 128; walk = walked-start (marked held 128); low = omega arith; free = f; written = written-start _ n e h; pools = refl }
+placing-start f e h = record { now = _; walk = walked-start _; low = omega arith; free = f; written = written-start _ _ e h; pools = refl }
 
-module _ (m : ℕ) (held : List Bool) (goal : Placed) (front l : List Held) (pool rest : List ℕ) (n from left : ℕ) (p : Placing m held goal front l pool rest n from left) where
+module _ {m : ℕ} {held : List Bool} {goal : Placed} {front l : List Held} {pool rest : List ℕ} {n from left : ℕ} (p : Placing m held goal front l pool rest n from left) where
   -- nothing is left
   pub placing-done : left ≤ 0 → PlacedIs goal front (record { at = l; count = n }) pool
   unfolding pieces place
@@ -47,7 +44,7 @@ module _ (m : ℕ) (held : List Bool) (goal : Placed) (front l : List Held) (poo
       record { list = written-done (rw e) (p .written); pool = rw e at (p .pools) }
 
   -- the next slot
-  module _ (slot : ℕ) (e : slot ≡ unmarkedFrom held from (128 - from)) (some : 0 < left) where
+  module _ {slot : ℕ} (e : slot ≡ unmarkedFrom held from (128 - from)) (some : 0 < left) where
     first : slot ≡ freeFrom (marked held 128) from (128 - from)
     first = e ∙ marked-free held 128 from (p .low)
 
@@ -80,9 +77,8 @@ module _ (m : ℕ) (held : List Bool) (goal : Placed) (front l : List Held) (poo
         }
 
 -- a payload is stored in the next slot
-pub placing-next : (m : ℕ) (held : List Bool) (goal : Placed) (front l : List Held) (pool message pool′ : List ℕ) (n from left at slot len : ℕ)
+pub placing-next : {m : ℕ} {held : List Bool} {goal : Placed} {front l : List Held} {pool message pool′ : List ℕ} {n from left at slot len : ℕ}
     → Placing m held goal front l pool (drop at message) n from left → slot ≡ unmarkedFrom held from (128 - from) → 0 < left → n < 128
     → Stored m message at slot pool len pool′
     → Placing m held goal front (set l n (record { slot = slot; len = len; fragment = left - 1 })) pool′ (drop (at + len) message) (n + 1) (slot + 1) (left - 1)
-placing-next m held goal front l pool message pool′ n from left at slot len p e some h s =
-    rw (stored-rest m message at slot pool len pool′ s, s .pool, s .size) (next m held goal front l pool (drop at message) n from left p slot e some h)
+placing-next p e some h s = rw (stored-rest s, s .pool, s .size) (next p e some h)

@@ -2,20 +2,20 @@
 -- Assumes nothing.
 use mathlib.Core.Path.{_≡_, refl, sym, ap, _∙_}
 use mathlib.Core.Bool.{Bool, true, false, cond, _||_, or-false}
-use mathlib.Core.List.{List, [], _∷_, _++_, map}
+use mathlib.Core.List.{List, [], _∷_}
 use Prim.Native.Nat.{ℕ, zero, suc, _+_, _-_, _*_, _≤_, _<_}
 use native.Mathlib.Decide.{decLt}
 use native.Mathlib.Omega.{arith}
 use lib.Dec.{eqb}
 use lib.ListN.{length, length-replicate, getD-replicate}
 use lib.Seq.{sets}
-use Rattle.slots.specs.Slots.{isUsed, freeFrom, lowestFree, freeCount}
+use Rattle.slots.specs.Slots.{isUsed, freeFrom, freeCount}
 use Rattle.slots.specs.SlotLaws.{first-same, used-here, used-other, count-least}
 use Rattle.slots.specs.Marks.{noMarks, isMarked, markAll, unmarkedFrom}
 use Rattle.slots.specs.MarkLaws.{marks-held}
 use Rattle.slots.specs.Agree.{free-agrees}
 use Rattle.session.specs.Slots as session
-use Rattle.session.specs.Sending.{Placed, place}
+use Rattle.session.specs.Sending.{place}
 use Rattle.queueing.specs.Marked.{marked}
 
 module _ (held : List Bool) where

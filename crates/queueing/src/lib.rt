@@ -46,7 +46,7 @@ fn least(a: usize, b: usize) -> usize
     if a < b { a } else { b }
 }
 
-// A message's payload that begins at `at` is stored in a slot. Its length.
+// The payload of a message that begins at `at` is stored in a slot. The answer is its length.
 fn store(mss: usize, message: &[u8], at: usize, pool: &mut [u8], slot: usize) -> usize
     requires { ⌜ (at ≤ length (now message)) × (slot < sendSlots) × (sendSlots * mss ≤ length (now pool)) ⌝ }
     ensures { λ r. ⌜ Stored mss (now (message .entry)) at slot (now (pool .entry)) r (now (pool .exit)) ⌝ }

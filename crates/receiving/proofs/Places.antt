@@ -1,23 +1,21 @@
 -- A push that is new and in the window: how far it is from rcv_nxt, that a slot is free, that there is room among those that wait.
 -- Assumes nothing.
-use mathlib.Core.Path.{_≡_, refl, sym, ap, _∙_}
-use mathlib.Core.Bool.{Bool, true, false, cond, not, _&&_, _||_, false≢true}
+use mathlib.Core.Path.{_≡_, refl, sym, _∙_}
+use mathlib.Core.Bool.{Bool, true, false, not, _&&_, false≢true}
 use mathlib.Core.List.{List, [], _∷_, _++_, map}
 use Prim.Native.Nat.{ℕ, zero, suc, _+_, _*_, _≤_, _<_, _^_}
 use native.Mathlib.Nat.{mul-le-mul-right}
 use native.Mathlib.Numerals.{add-one}
 use native.Mathlib.Omega.{arith}
 use borrow.Author.Tests.{leb-true, leb-false}
-use lib.Dec.{eqb, leb}
 use lib.ListN.{length, length-map, length-append}
 use lib.Seq.{sets, length-take-le}
 use Rattle.protocol.specs.Serial.{plus, minus, isBefore}
 use Rattle.protocol.specs.SerialLaws.{before-test}
 use Rattle.wire.specs.declared.Header.{Header}
 use Rattle.lists.specs.Views.{heldOf, waitingOf, waitingPart, WaitingIs}
-use Rattle.lists.specs.Orders.{waitingOffset, isHeld, insert, ascending}
+use Rattle.lists.specs.Orders.{waitingOffset, isHeld, insert}
 use Rattle.lists.specs.OrderLaws.{ascending-room, insert-fits}
-use Rattle.lists.specs.declared.Held.{Held}
 use Rattle.lists.specs.declared.Waiting.{Waiting}
 use Rattle.lists.specs.declared.WaitingList.{WaitingList}
 use Rattle.lists.specs.declared.Receiving.{Receiving}
@@ -27,7 +25,7 @@ use Rattle.slots.specs.SlotLaws.{free-room}
 use Rattle.slots.specs.Agree.{free-agrees}
 use Rattle.session.specs.State.{slots}
 use Rattle.session.specs.Slots.{lowestFree}
-use Rattle.receiving.specs.Pushing.{isInWindow, isNewIn, slotFor, entryFor, PushAt, Keeping, Kept}
+use Rattle.receiving.specs.Pushing.{isInWindow, slotFor, entryFor, Keeping, Kept}
 
 -- ---- the offset
 

@@ -1,19 +1,18 @@
 -- The steps of a push together are the definition's push, and what the next call asks still holds.
 -- Assumes nothing.
-use mathlib.Core.Path.{_≡_, refl, sym, ap, _∙_}
+use mathlib.Core.Path.{_≡_, refl}
 use mathlib.Core.Bool.{Bool, true, false, cond, _&&_, _||_, or-false, or-true}
 use mathlib.Core.List.{List, [], _∷_, _++_}
 use Prim.Native.Nat.{ℕ, _+_, _*_, _≤_, _<_, _^_}
 use native.Mathlib.Omega.{arith}
 use borrow.Author.Tests.{eq-eqb, ne-eqb}
 use lib.Dec.{ltb, eqb}
-use lib.ListN.{length, drop}
+use lib.ListN.{length}
 use lib.Seq.{sets, length-sets}
-use Rattle.protocol.specs.Protocol.{windowAsk}
 use Rattle.protocol.specs.Serial.{minus, isBefore}
 use Rattle.wire.specs.declared.Header.{Header}
 use Rattle.datagram.specs.Datagrams.{Segment}
-use Rattle.lists.specs.Views.{heldOf, waitingOf, WaitingIs}
+use Rattle.lists.specs.Views.{heldOf, waitingOf}
 use Rattle.lists.specs.Orders.{waitingOffset, isHeld, insert, ascending}
 use Rattle.lists.specs.OrderLaws.{insert-ascending}
 use Rattle.lists.specs.Receiving.{advance, ReceivingIs}
@@ -23,12 +22,12 @@ use Rattle.lists.specs.declared.Receiving.{Receiving}
 use Rattle.pools.specs.Parts.{part}
 use Rattle.session.specs.State.{Ack}
 use Rattle.session.specs.Input.{Receiver, asked, withAcks, kept, movedUpIn, pushed, heardByReceiving}
-use Rattle.block.specs.Views.{pairs, receivingOf}
+use Rattle.block.specs.Views.{pairs}
 use Rattle.receiving.specs.declared.Half.{Half}
 use Rattle.receiving.specs.Halves.{receiverOf, segmentAt, Sound, InDatagram, HalfIs}
 use Rattle.receiving.specs.Pushing.{isInWindow, isNewIn, Noted, slotFor, entryFor, PushAt, Keeping, Kept, Took}
 use Rattle.receiving.proofs.Noting.{noted-pairs, noted-more, noted-beyond, noted-few, noted-length}
-use Rattle.receiving.proofs.Places.{New, new-parts, near}
+use Rattle.receiving.proofs.Places.{new-parts, near}
 
 -- ---- taking a push
 

@@ -2,7 +2,6 @@
 -- Assumes nothing.
 use mathlib.Core.Path.{_≡_, refl, sym, _∙_}
 use Prim.Native.Nat.{_-_}
-use borrow.Author.Needs.{needs}
 use lib.ListN.{length}
 use Rattle.datagram.specs.Datagrams.{stepAt}
 use Rattle.datagram.specs.declared.Step.the-variants as step
@@ -11,11 +10,11 @@ use Rattle.input.proofs.apply.Statement.{statement}
 use Rattle.input.proofs.apply.Tie as tie
 
 abbrev Inv-loop : tie.InvT-loop
-Inv-loop settings current size s pool₀ acks₀ at₀ f₀ h₀ furthest₀ pool acks at f h furthest =
-    Walking settings current size s f₀ h₀ acks₀ pool₀ f h furthest acks pool at × (length acks ≡ length acks₀) × (length pool ≡ length pool₀)
+Inv-loop settings current mss s pool₀ acks₀ at₀ f₀ h₀ furthest₀ pool acks at f h furthest =
+    Walking settings current mss s f₀ h₀ acks₀ pool₀ f h furthest acks pool at × (length acks ≡ length acks₀) × (length pool ≡ length pool₀)
 
 abbrev μ-loop : tie.MeasureT-loop
-μ-loop settings current size s pool₀ acks₀ at₀ f₀ h₀ furthest₀ pool acks at f h furthest = length s - at
+μ-loop settings current mss s pool₀ acks₀ at₀ f₀ h₀ furthest₀ pool acks at f h furthest = length s - at
 
 loop-holds : tie.Need-loop-holds Inv-loop μ-loop
 loop-holds c =

@@ -1,6 +1,6 @@
 -- `take_in`: the datagram is refused, and all is as it was; or it is accepted, and its segments are applied.
 -- Assumes nothing.
-use Rattle.input.proofs.Outcomes.{sound-as, refuses, has-segments, accepts}
+use Rattle.input.proofs.Outcomes.{refuses, has-segments, accepts}
 use Rattle.input.proofs.take_in.Statement.{statement}
 use Rattle.input.proofs.take_in.Tie as tie
 
@@ -8,23 +8,19 @@ returns : tie.Need-returns
 returns c =
     let k = c .before .before in
     let a = k .before .before .before .before .before in
-    refuses _ _ _ _ _ _ _ _ _ (k .check .ensures) (k .before .mss .ensures) (a .pre .0) (a .pre .1) _ (c .enum-told .given .1)
+    refuses _ _ _ _ (k .check .ensures) (k .before .mss .ensures) _ _ _ _ _ (a .pre .0) (a .pre .1) _ (c .enum-told .given .1)
 
 apply-requires : tie.Need-apply-requires
 apply-requires c κs =
     let k = c .before .before .before .before in
-    let a = k .before .before .before .before .before in (
-      a .pre .0,
-      sound-as (a .args .settings) (a .args .current) _ (a .args .s .now) (a .args .flight) _ _ _ (k .check .result) (k .check .ensures) (k .before .mss .ensures) (a .pre .0) (a .pre .1),
-      has-segments (a .args .settings) (a .args .current) _ _ (a .args .flight) (a .args .half) (a .args .acks .now) (a .args .pool .now) _ (k .check .ensures) (k .before .mss .ensures) (a .pre .0) (a .pre .1) _ (c .before .before .enum-told2 .given .1),
-    )
+    let a = k .before .before .before .before .before in
+    (a .pre .0, rw (k .before .mss .ensures) (a .pre .1), has-segments (a .args .settings) _ _ _ (k .check .ensures) (k .before .mss .ensures) _ (c .before .before .enum-told2 .given .1))
 
 returns-2 : tie.Need-returns-2
 returns-2 c =
     let p = c .before .before .before .before .before .before in
     let k = p .before .before .before .before .before in
-    let a = k .before .before .before .before .before in
-    accepts _ _ _ _ _ _ _ _ _ (k .check .ensures) (k .before .mss .ensures) (a .pre .0) (a .pre .1) _ (p .before .before .before .enum-told2 .given .1) _ _ _ (p .apply .ensures)
+    accepts _ _ _ _ (k .check .ensures) (k .before .mss .ensures) _ _ _ _ _ _ (p .before .before .before .enum-told2 .given .1) _ _ _ (p .apply .ensures)
 
 pub take-in-spec : {M : Type 1} → statement M
 take-in-spec =

@@ -1,7 +1,7 @@
--- `fill` walks over the marks once; what is still to be placed, placed from here, completes the whole.
+-- `fill` passes over the marks once: what is still to be placed, placed from here, completes the whole.
 -- Assumes nothing.
 use mathlib.Core.Path.{_≡_, refl}
-use Prim.Native.Nat.{_+_, _≤_}
+use Prim.Native.Nat.{_+_, _≤_, _<_}
 use borrow.Author.Needs.{needs}
 use native.Mathlib.Omega.{arith}
 use lib.ListN.{length, take, drop}
@@ -25,61 +25,42 @@ abbrev μ-loop : tie.MeasureT-loop
 μ-loop mss marks pool₀ message count list₀ n₀ from₀ at₀ left₀ pool list n from at left = left
 
 loop-holds : tie.Need-loop-holds Inv-loop μ-loop
-loop-holds c = (search needs, refl, search needs, placing-start _ _ _ _ _ _ _ (c .before .before .pre .1) (search (needs, length-mapped)) (search needs))
-
-sub-left : tie.Need-sub-left Inv-loop μ-loop
-sub-left c = search needs
-
-free-from-requires : tie.Need-free-from-requires Inv-loop μ-loop
-free-from-requires c κs = search needs
+loop-holds c = (search needs, refl, search needs, placing-start (c .before .before .pre .1) (search (needs, length-mapped)) (search needs))
 
 store-requires : tie.Need-store-requires Inv-loop μ-loop
 store-requires c κs =
-    let v = c .before .before .before .loop .inv in
-    (search needs, slot-low _ _ _ _ _ _ _ _ _ _ (v .3) _ (c .before .free-from .ensures) (c .before .before .loop-test .taken), search needs)
+    let low = slot-low (c .before .before .before .loop .inv .3) (c .before .free-from .ensures) (c .before .before .loop-test .taken) in
+    (search needs, search needs, search needs)
+
+low : (c : tie.After-slice-known2 Inv-loop μ-loop) → c .before .before .before .before .free-from .result < 128
+low c =
+    slot-low (c .before .before .before .before .before .before .loop .inv .3) (c .before .before .before .before .free-from .ensures)
+    (c .before .before .before .before .before .loop-test .taken)
 
 cast-t17 : tie.Need-cast-t17 Inv-loop μ-loop
-cast-t17 c = let low = slot-low _ _ _ _ _ _ _ _ _ _ (c .before .before .before .before .before .before .loop .inv .3) _ (c .before .before .before .before .free-from .ensures) (c .before .before .before .before .before .loop-test .taken) in omega arith
+cast-t17 c = omega (arith, low c)
 
 cast-t18 : tie.Need-cast-t18 Inv-loop μ-loop
-cast-t18 c = omega (arith, stored-short _ _ _ _ _ _ _ (c .before .before .store .ensures))
-
-cast-t19 : tie.Need-cast-t19 Inv-loop μ-loop
-cast-t19 c = search needs
-
-mul-t21 : tie.Need-mul-t21 Inv-loop μ-loop
-mul-t21 c = search needs
-
-element-set-from-list : tie.Need-element-set-from-list Inv-loop μ-loop
-element-set-from-list c = search needs
-
-add-n : tie.Need-add-n Inv-loop μ-loop
-add-n c = search needs
+cast-t18 c = omega (arith, stored-short (c .before .before .store .ensures))
 
 add-from : tie.Need-add-from Inv-loop μ-loop
-add-from c = let low = slot-low _ _ _ _ _ _ _ _ _ _ (c .before .before .before .before .before .before .loop .inv .3) _ (c .before .before .before .before .free-from .ensures) (c .before .before .before .before .before .loop-test .taken) in omega arith
+add-from c = omega (arith, low c)
 
 add-at : tie.Need-add-at Inv-loop μ-loop
-add-at c = omega (arith, stored-within _ _ _ _ _ _ _ (c .before .before .store .ensures) (c .before .before .before .before .before .before .loop .inv .0))
-
-loop-less : tie.Need-loop-less Inv-loop μ-loop
-loop-less c = search needs
+add-at c = omega (arith, stored-within (c .before .before .store .ensures) (c .before .before .before .before .before .before .loop .inv .0))
 
 loop-again : tie.Need-loop-again Inv-loop μ-loop
 loop-again c =
     let v = c .before .before .before .before .before .before .loop .inv in
     let s = c .before .before .store .ensures in (
-      stored-within _ _ _ _ _ _ _ s (v .0),
+      stored-within s (v .0),
       search needs,
       search needs,
-      placing-next _ _ _ _ _ _ _ _ _ _ _ _ _ _ (v .3) (c .before .before .before .before .free-from .ensures) (c .before .before .before .before .before .loop-test .taken) (search needs) s,
+      placing-next (v .3) (c .before .before .before .before .free-from .ensures) (c .before .before .before .before .before .loop-test .taken) (search needs) s,
     )
 
-same-length : tie.Need-same-length Inv-loop μ-loop
-same-length c = search needs
-
 returns : tie.Need-returns Inv-loop μ-loop
-returns c = placing-done _ _ _ _ _ _ _ _ _ _ (c .before .loop .inv .3) (c .loop-test .left)
+returns c = placing-done (c .before .loop .inv .3) (c .loop-test .left)
 
 pub fill-spec : {M : Type 1} → statement M
 fill-spec =
@@ -88,18 +69,18 @@ fill-spec =
     Inv-loop
     μ-loop
     loop-holds
-    sub-left
-    free-from-requires
+    (λ c. search needs)
+    (λ c κs. search needs)
     store-requires
     cast-t17
     cast-t18
-    cast-t19
-    mul-t21
-    element-set-from-list
-    add-n
+    (λ c. search needs)
+    (λ c. search needs)
+    (λ c. search needs)
+    (λ c. search needs)
     add-from
     add-at
-    loop-less
+    (λ c. search needs)
     loop-again
-    same-length
+    (λ c. search needs)
     returns)

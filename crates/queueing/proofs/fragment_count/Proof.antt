@@ -1,8 +1,11 @@
 -- `fragment_count`: a message of no bytes makes one segment, and another one more than mss goes into the bytes before its last.
 -- Assumes nothing.
 use mathlib.Core.Path.{sym}
+use Prim.Native.Nat.{_-_}
 use borrow.Author.Needs.{needs}
-use Rattle.queueing.proofs.Counts.{count-none, count-some, quotient-more}
+use native.Mathlib.Nat.{div-le-self}
+use native.Mathlib.Omega.{arith}
+use Rattle.queueing.proofs.Counts.{count-none, count-some}
 use Rattle.queueing.proofs.fragment_count.Statement.{statement}
 use Rattle.queueing.proofs.fragment_count.Tie as tie
 
@@ -10,7 +13,7 @@ returns : tie.Need-returns
 returns c = sym (count-none _ _ (c .before .pre) (c .if1 .taken))
 
 add-result : tie.Need-add-result
-add-result c = record { fits = quotient-more _ _ _ (c .if1 .left) (search needs) }
+add-result c = let a = c .before .args in omega (arith, div-le-self (a .len - 1) (a .mss))
 
 returns-2 : tie.Need-returns-2
 returns-2 c = sym (count-some _ _ (c .before .pre) (c .if1 .left))

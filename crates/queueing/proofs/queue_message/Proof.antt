@@ -23,14 +23,14 @@ returns : tie.Need-returns
 returns c s p =
     let b = c .before .before .before .before .before .before in
     let long : 127 * b .args .mss < length (b .args .message .now) = omega (arith, ltb-true) in
-    follows-long _ _ (within b) s _ _ _ p long
+    follows-long (within b) _ _ p long
 
 returns-2 : tie.Need-returns-2
 returns-2 c s p =
     let b = c .before .before .before .before .before .before .before in
     let short : length (b .args .message .now) ≤ 127 * b .args .mss = omega (arith, ltb-false) in
     let full : 128 < b .args .sent .count + b .args .queued .count + c .before .before .before .before .fragment-count .result = omega (arith, ltb-true) in
-    follows-full _ _ (within b) s _ _ _ p _ (c .before .before .before .before .fragment-count .ensures) short full
+    follows-full (within b) _ _ p (c .before .before .before .before .fragment-count .ensures) short full
 
 place-requires : tie.Need-place-requires
 place-requires c κs = (search needs, omega (arith, ltb-false), c .before .before .before .before .before .fragment-count .ensures, search needs, search needs)
@@ -41,7 +41,7 @@ returns-3 c s p =
     let n = c .before .before .before .before .before .before .before .before .fragment-count in
     let short : length (b .args .message .now) ≤ 127 * b .args .mss = omega (arith, ltb-false) in
     let room : b .args .sent .count + b .args .queued .count + n .result ≤ 128 = omega (arith, ltb-false) in
-    follows-placed _ _ (within b) s _ _ _ p _ (n .ensures) short _ _ room (c .before .before .place .ensures)
+    follows-placed (within b) _ _ p (n .ensures) short _ _ room (c .before .before .place .ensures)
 
 pub queue-message-spec : {M : Type 1} → statement M
 queue-message-spec =

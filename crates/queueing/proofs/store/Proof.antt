@@ -6,7 +6,7 @@ use Rattle.queueing.proofs.store.Statement.{statement}
 use Rattle.queueing.proofs.store.Tie as tie
 
 mul-copy-part : tie.Need-mul-copy-part
-mul-copy-part c = let h = c .before .before .before .before .pre in record { fits = slot-below _ _ _ _ (h .1) (h .2) (search needs) }
+mul-copy-part c = let h = c .before .before .before .before .pre in record { fits = slot-below _ _ (h .1) (h .2) (search needs) }
 
 copy-part-requires : tie.Need-copy-part-requires
 copy-part-requires c κs =
@@ -15,7 +15,7 @@ copy-part-requires c κs =
 
 returns : tie.Need-returns
 returns c =
-    part-stored _ _ _ _ _ _ _ (c .before .before .before .before .least .ensures) (c .before .before .copy-part .ensures)
+    part-stored (c .before .before .before .before .least .ensures) (c .before .before .copy-part .ensures)
 
 pub store-spec : {M : Type 1} → statement M
 store-spec =

@@ -1,6 +1,5 @@
 -- `heard`: a push, or an ask, or nothing.
 -- Assumes nothing.
-use borrow.Author.Needs.{needs}
 use Rattle.receiving.proofs.Steps.{push-at, heard-push, heard-other}
 use Rattle.receiving.proofs.heard.Statement.{statement}
 use Rattle.receiving.proofs.heard.Tie as tie

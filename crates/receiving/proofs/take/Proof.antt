@@ -1,6 +1,5 @@
 -- `take` keeps a push that is in the window and new.
 -- Assumes nothing.
-use borrow.Author.Needs.{needs}
 use Rattle.receiving.proofs.Steps.{is-keeping, took-kept, took-none}
 use Rattle.receiving.proofs.take.Statement.{statement}
 use Rattle.receiving.proofs.take.Tie as tie
