@@ -13,7 +13,7 @@ use Rattle.datagram.specs.Datagrams.{Segment}
 use Rattle.session.specs.State.{Ack}
 use Rattle.session.specs.Flushing.{control, ackSegment, wished, packOne, packed}
 use Rattle.packing.specs.declared.Packer.{Packer}
-use Rattle.packing.specs.Packers.{carriedOf, Output, none, begun, Fills, Room, Adds, Finishes}
+use Rattle.packing.specs.Packers.{carriedOf, Output, bytesOfDatagrams, none, begun, Fills, Room, Adds, Finishes}
 use Rattle.packing.specs.PackerLaws.{adds-append, room-left, packs-none, finishes-output}
 use Rattle.flushing.specs.declared.Flush.{Flush}
 use Rattle.flushing.specs.declared.Walked.{Walked}
@@ -46,7 +46,7 @@ module _ (f : Flush) (noted : ℕ) (acks : List ℕ) (list : SentList) (pool out
 -- ---- what is written
 
 output-of : (mtu n m : ℕ) (gs : List Segment) (k₀ : Packer) (out lengths : List ℕ) (k : Packer) (out′ lengths′ : List ℕ) (count : ℕ) (lengths″ : List ℕ)
-    → k₀ ≡ none → Adds mtu gs n m k₀ out lengths k out′ lengths′ → Finishes k lengths′ count lengths″ → Output (packed mtu gs) out lengths count out′ lengths″
+    → k₀ ≡ none → Adds mtu gs n m k₀ out lengths k out′ lengths′ → Finishes k lengths′ count lengths″ → Output (bytesOfDatagrams (packed mtu gs)) out lengths count out′ lengths″
 unfolding packed
 output-of mtu n m gs k₀ out lengths k out′ lengths′ count lengths″ e a c =
     finishes-output out lengths k out′ lengths′ count lengths″ c (foldl (packOne mtu) (record { closed = []; filling = [] }) gs)

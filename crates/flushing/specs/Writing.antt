@@ -17,7 +17,7 @@ use Rattle.session.specs.State.{Ack}
 use Rattle.session.specs.Decides.{All}
 use Rattle.session.specs.Flushing.{transmittedOf, sentAfter, transmittedNow, someDead, control, ackSegment, dataSegment, wished, packed}
 use Rattle.packing.specs.declared.Packer.{Packer}
-use Rattle.packing.specs.Packers.{carriedOf, Output, Adds}
+use Rattle.packing.specs.Packers.{carriedOf, Output, bytesOfDatagrams, Adds}
 use Rattle.flushing.specs.declared.Flush.{Flush}
 use Rattle.flushing.specs.declared.Walked.{Walked}
 use Rattle.flushing.specs.declared.Written.{Written}
@@ -77,6 +77,6 @@ pub record Writable (f : Flush) (noted : ℕ) (acks : List ℕ) (list : SentList
 
 -- what a flush writes: the output has its datagrams, each outstanding segment is as its rule leaves it, and dead says whether one sent was transmitted 20 times
 pub record Writes (f : Flush) (acks : List Ack) (ask tell : Bool) (l : List Sent) (pool out lengths : List ℕ) (r : Written) (out′ lengths′ : List ℕ) : Type 0 where
-  pub output : Output (packed (f .settings .mtu) (segmentsOf f acks ask tell pool (sentBy f l))) out lengths (r .count) out′ lengths′
+  pub output : Output (bytesOfDatagrams (packed (f .settings .mtu) (segmentsOf f acks ask tell pool (sentBy f l)))) out lengths (r .count) out′ lengths′
   pub list : SentIs (r .list) (map (afterFlush f) l)
   pub dead : r .dead ≡ someDead (sentBy f l)

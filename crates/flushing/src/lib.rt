@@ -12,6 +12,7 @@ use protocol::Settings;
 ghost use Rattle.lists.specs.Views.{sentOf};
 ghost use Rattle.block.specs.Views.{pairs};
 ghost use Rattle.flushing.specs.Writing.{Writable, Writes};
+
 // What a flush goes by: the settings, what all its segments carry, the link's timeout, and the time.
 pub struct Flush {
     pub settings: Settings,

@@ -2,19 +2,19 @@
 -- Assumes nothing.
 use mathlib.Core.Path.{_≡_, refl, sym, ap, _∙_}
 use mathlib.Core.Bool.{Bool, true, false, cond}
-use mathlib.Core.List.{List, [], _∷_, _++_, foldl, foldl-append, append-assoc, append-nil}
+use mathlib.Core.List.{List, [], _∷_, _++_, foldl, foldl-append, append-assoc, append-nil, map-append}
 use Prim.Native.Nat.{ℕ, _+_, _-_, _≤_, _<_}
 use native.Mathlib.Nat.{zero-add}
 use native.Mathlib.Omega.{arith}
 use borrow.Author.Tests.{leb-true, leb-false, eq-eqb, ne-eqb}
-use lib.ListN.{length, length-append, length-set}
+use lib.ListN.{length, length-append, length-set, length-map}
 use lib.Seq.{sets, length-sets}
 use Rattle.wire.specs.HeaderLaws.{length-encode}
 use Rattle.wire.specs.Stores.{sets-append}
 use Rattle.datagram.specs.Datagrams.{Segment}
 use Rattle.session.specs.Flushing.{Packing, bytesOfSegment, bytesOfSegments, packOne, datagramsOf}
 use Rattle.packing.specs.declared.Packer.{Packer}
-use Rattle.packing.specs.Packers.{bytesOfDatagrams, lengthsOf, Output, none, begun, Packs, Fills, Room, Adds, fits, withLength, Puts, Finishes}
+use Rattle.packing.specs.Packers.{joined, lengthsOf, bytesOfDatagrams, Output, none, begun, Packs, Fills, Room, Adds, fits, withLength, Puts, Finishes}
 
 -- ---- datagrams and segments joined
 
@@ -34,20 +34,27 @@ some-bytes : (g : Segment) (gs : List Segment) → 0 < length (bytesOfSegments (
 unfolding bytesOfSegments
 some-bytes g gs = omega (arith, length-append (bytesOfSegment g) (bytesOfSegments gs), length-segment g)
 
-datagrams-more : (ds : List (List Segment)) (d : List Segment) → bytesOfDatagrams (ds ++ (d ∷ [])) ≡ bytesOfDatagrams ds ++ bytesOfSegments d
-unfolding bytesOfDatagrams
-datagrams-more [] d = append-nil (bytesOfSegments d)
-datagrams-more (e ∷ ds) d = rw (datagrams-more ds d) (sym (append-assoc (bytesOfSegments e) (bytesOfDatagrams ds) (bytesOfSegments d)))
+joined-more : (ds : List (List ℕ)) (d : List ℕ) → joined (ds ++ (d ∷ [])) ≡ joined ds ++ d
+unfolding joined
+joined-more [] d = append-nil d
+joined-more (e ∷ ds) d = rw (joined-more ds d) (sym (append-assoc e (joined ds) d))
 
-lengths-more : (ds : List (List Segment)) (d : List Segment) → lengthsOf (ds ++ (d ∷ [])) ≡ lengthsOf ds ++ (length (bytesOfSegments d) ∷ [])
+lengths-more : (ds : List (List ℕ)) (d : List ℕ) → lengthsOf (ds ++ (d ∷ [])) ≡ lengthsOf ds ++ (length d ∷ [])
 unfolding lengthsOf
 lengths-more [] d = refl
 lengths-more (e ∷ ds) d = rw (lengths-more ds d)
 
-length-lengths : (ds : List (List Segment)) → length (lengthsOf ds) ≡ length ds
+length-lengths : (ds : List (List Segment)) → length (lengthsOf (bytesOfDatagrams ds)) ≡ length ds
 unfolding lengthsOf
 length-lengths [] = refl
 length-lengths (d ∷ ds) = rw (length-lengths ds)
+
+-- a datagram more
+joined-datagrams : (ds : List (List Segment)) (d : List Segment) → joined (bytesOfDatagrams (ds ++ (d ∷ []))) ≡ joined (bytesOfDatagrams ds) ++ bytesOfSegments d
+joined-datagrams ds d = rw (map-append, joined-more)
+
+lengths-datagrams : (ds : List (List Segment)) (d : List Segment) → lengthsOf (bytesOfDatagrams (ds ++ (d ∷ []))) ≡ lengthsOf (bytesOfDatagrams ds) ++ (length (bytesOfSegments d) ∷ [])
+lengths-datagrams ds d = rw (map-append, lengths-more)
 
 -- ---- stores from the front on
 
@@ -63,17 +70,17 @@ module _ (out₀ lengths₀ : List ℕ) (p : Packing) (k : Packer) (out lengths 
   filled = omega (arith, w .at)
 
   -- all that is packed ends where the packer stands
-  packed-end : length (bytesOfDatagrams (p .closed) ++ bytesOfSegments (p .filling)) ≡ k .at
+  packed-end : length (joined (bytesOfDatagrams (p .closed)) ++ bytesOfSegments (p .filling)) ≡ k .at
   packed-end = rw length-append (omega (arith, w .at, w .start))
 
   -- the length of the datagram that is being filled is noted
-  lengths-noted : withLength k lengths ≡ sets lengths₀ 0 (lengthsOf (p .closed ++ (p .filling ∷ [])))
+  lengths-noted : withLength k lengths ≡ sets lengths₀ 0 (lengthsOf (bytesOfDatagrams (p .closed ++ (p .filling ∷ []))))
   lengths-noted =
-      rw (filled, lengths-more) (stored-behind lengths₀ lengths (lengthsOf (p .closed)) (length (bytesOfSegments (p .filling)) ∷ []) (k .count) (w .sizes) (length-lengths (p .closed) ∙ sym (w .count)))
+      rw (filled, lengths-datagrams) (stored-behind lengths₀ lengths (lengthsOf (bytesOfDatagrams (p .closed))) (length (bytesOfSegments (p .filling)) ∷ []) (k .count) (w .sizes) (length-lengths (p .closed) ∙ sym (w .count)))
 
   -- what is put comes behind all that is packed
-  put-behind : (ys : List ℕ) → sets out (k .at) ys ≡ sets out₀ 0 (bytesOfDatagrams (p .closed) ++ bytesOfSegments (p .filling) ++ ys)
-  put-behind ys = stored-behind out₀ out (bytesOfDatagrams (p .closed) ++ bytesOfSegments (p .filling)) ys (k .at) (w .bytes) packed-end
+  put-behind : (ys : List ℕ) → sets out (k .at) ys ≡ sets out₀ 0 (joined (bytesOfDatagrams (p .closed)) ++ bytesOfSegments (p .filling) ++ ys)
+  put-behind ys = stored-behind out₀ out (joined (bytesOfDatagrams (p .closed)) ++ bytesOfSegments (p .filling)) ys (k .at) (w .bytes) packed-end
 
   module _ (mtu n : ℕ) (g : Segment) (k′ : Packer) (out′ lengths′ : List ℕ) (size : length (bytesOfSegment g) ≡ n) (u : Puts mtu n (bytesOfSegment g) k out lengths k′ out′ lengths′) where
     -- it stays in the datagram
@@ -91,9 +98,9 @@ module _ (out₀ lengths₀ : List ℕ) (p : Packing) (k : Packer) (out lengths 
     new-datagram : fits mtu n k ≡ false → Packs out₀ lengths₀ (record { closed = p .closed ++ (p .filling ∷ []); filling = g ∷ [] }) k′ out′ lengths′
     new-datagram e =
         record {
-          bytes = u .output ∙ put-behind (bytesOfSegment g) ∙ rw (datagrams-more, segments-one);
+          bytes = u .output ∙ put-behind (bytesOfSegment g) ∙ rw (joined-datagrams, segments-one);
           sizes = rw e at (u .sizes) ∙ lengths-noted;
-          start = rw e at (u .start) ∙ rw (datagrams-more, packed-end);
+          start = rw e at (u .start) ∙ rw (joined-datagrams, packed-end);
           at = rw segments-one (omega (arith, u .at, rw e at (u .start)));
           count = rw e at (u .count) ∙ rw (length-append, ← (w .count));
         }
@@ -186,34 +193,34 @@ module _ {mtu : ℕ} {gs : List Segment} {n m : ℕ} {k : Packer} {out lengths :
 
 -- nothing is packed
 pub packs-none : (out lengths : List ℕ) → Packs out lengths (record { closed = []; filling = [] }) none out lengths
-unfolding bytesOfDatagrams bytesOfSegments lengthsOf
+unfolding joined bytesOfSegments lengthsOf
 packs-none out lengths = record { bytes = refl; sizes = refl; start = refl; at = refl; count = refl }
 
 -- the last datagram is closed, unless it is empty
 module _ (out₀ lengths₀ : List ℕ) (k : Packer) (out lengths : List ℕ) (count : ℕ) (lengths′ : List ℕ) (c : Finishes k lengths count lengths′) where
   -- it is empty
-  finishes-empty : (ds : List (List Segment)) → Packs out₀ lengths₀ (record { closed = ds; filling = [] }) k out lengths → Output ds out₀ lengths₀ count out lengths′
+  finishes-empty : (ds : List (List Segment)) → Packs out₀ lengths₀ (record { closed = ds; filling = [] }) k out lengths → Output (bytesOfDatagrams ds) out₀ lengths₀ count out lengths′
   unfolding bytesOfSegments
   finishes-empty ds w =
       let same : k .at ≡ k .start = omega (arith, w .at) in
       record {
         bytes = w .bytes ∙ rw append-nil;
         sizes = rw (eq-eqb (k .at) (k .start) same) at (c .sizes) ∙ w .sizes;
-        number = omega (arith, c .number, w .count);
+        number = rw length-map (omega (arith, c .number, w .count));
       }
 
-  finishes-last : (ds : List (List Segment)) (d : List Segment) → 0 < length (bytesOfSegments d) → Packs out₀ lengths₀ (record { closed = ds; filling = d }) k out lengths → Output (ds ++ (d ∷ [])) out₀ lengths₀ count out lengths′
+  finishes-last : (ds : List (List Segment)) (d : List Segment) → 0 < length (bytesOfSegments d) → Packs out₀ lengths₀ (record { closed = ds; filling = d }) k out lengths → Output (bytesOfDatagrams (ds ++ (d ∷ []))) out₀ lengths₀ count out lengths′
   finishes-last ds d h w =
       let further : k .at ≡ k .start → ⊥ = λ e. omega (arith, w .at) in
       record {
-        bytes = w .bytes ∙ rw datagrams-more;
+        bytes = w .bytes ∙ rw joined-datagrams;
         sizes = rw (ne-eqb (k .at) (k .start) further) at (c .sizes) ∙ lengths-noted out₀ lengths₀ (record { closed = ds; filling = d }) k out lengths w;
-        number = rw length-append (omega (arith, c .number, w .count, w .at));
+        number = rw (length-map, length-append) (omega (arith, c .number, w .count, w .at));
       }
 
-  pub finishes-output : (p : Packing) → Packs out₀ lengths₀ p k out lengths → Output (datagramsOf (p .closed) (p .filling)) out₀ lengths₀ count out lengths′
+  pub finishes-output : (p : Packing) → Packs out₀ lengths₀ p k out lengths → Output (bytesOfDatagrams (datagramsOf (p .closed) (p .filling))) out₀ lengths₀ count out lengths′
   finishes-output p w = go (p .closed) (p .filling) w
     where
-      go : (ds : List (List Segment)) (d : List Segment) → Packs out₀ lengths₀ (record { closed = ds; filling = d }) k out lengths → Output (datagramsOf ds d) out₀ lengths₀ count out lengths′
+      go : (ds : List (List Segment)) (d : List Segment) → Packs out₀ lengths₀ (record { closed = ds; filling = d }) k out lengths → Output (bytesOfDatagrams (datagramsOf ds d)) out₀ lengths₀ count out lengths′
       go ds [] v = finishes-empty ds v
       go ds (g ∷ gs) v = finishes-last ds (g ∷ gs) (some-bytes g gs) v

@@ -2,7 +2,7 @@
 -- Assumes nothing.
 use mathlib.Core.Path.{_≡_}
 use mathlib.Core.Bool.{Bool, cond}
-use mathlib.Core.List.{List, [], _∷_, _++_, foldl}
+use mathlib.Core.List.{List, [], _∷_, _++_, map, foldl}
 use Prim.Native.Nat.{ℕ, _+_, _-_, _≤_, _<_, _^_, min}
 use lib.Dec.{leb, eqb}
 use lib.ListN.{length, set}
@@ -20,20 +20,24 @@ carriedOf c = record { conv = c .conv; wnd = c .wnd; una = c .una }
 -- ---- datagrams in the output
 
 -- datagrams one behind the other, without gaps
-unfoldable pub bytesOfDatagrams : List (List Segment) → List ℕ
-bytesOfDatagrams [] = []
-bytesOfDatagrams (d ∷ ds) = bytesOfSegments d ++ bytesOfDatagrams ds
+unfoldable pub joined : List (List ℕ) → List ℕ
+joined [] = []
+joined (d ∷ ds) = d ++ joined ds
 
 -- the length of each
-unfoldable pub lengthsOf : List (List Segment) → List ℕ
+unfoldable pub lengthsOf : List (List ℕ) → List ℕ
 lengthsOf [] = []
-lengthsOf (d ∷ ds) = length (bytesOfSegments d) ∷ lengthsOf ds
+lengthsOf (d ∷ ds) = length d ∷ lengthsOf ds
 
--- the output's first bytes are the datagrams, its first lengths theirs, and `count` their number; what stands beyond keeps its values
-pub record Output (ds : List (List Segment)) (out₀ lengths₀ : List ℕ) (count : ℕ) (out lengths : List ℕ) : Type 0 where
-  pub bytes : out ≡ sets out₀ 0 (bytesOfDatagrams ds)
+-- the output's first bytes are the datagrams, its first lengths theirs, and count is their number; what stands beyond keeps its values
+pub record Output (ds : List (List ℕ)) (out₀ lengths₀ : List ℕ) (count : ℕ) (out lengths : List ℕ) : Type 0 where
+  pub bytes : out ≡ sets out₀ 0 (joined ds)
   pub sizes : lengths ≡ sets lengths₀ 0 (lengthsOf ds)
   pub number : count ≡ length ds
+
+-- the bytes of each datagram of segments
+abbrev pub bytesOfDatagrams : List (List Segment) → List (List ℕ)
+bytesOfDatagrams = map bytesOfSegments
 
 -- ---- a packer
 
@@ -43,9 +47,9 @@ none = record { at = 0; start = 0; count = 0 }
 
 -- the packer k has put this packing into the output: the closed datagrams with their lengths, then the one that is being filled
 pub record Packs (out₀ lengths₀ : List ℕ) (p : Packing) (k : Packer) (out lengths : List ℕ) : Type 0 where
-  pub bytes : out ≡ sets out₀ 0 (bytesOfDatagrams (p .closed) ++ bytesOfSegments (p .filling))
-  pub sizes : lengths ≡ sets lengths₀ 0 (lengthsOf (p .closed))
-  pub start : k .start ≡ length (bytesOfDatagrams (p .closed))
+  pub bytes : out ≡ sets out₀ 0 (joined (bytesOfDatagrams (p .closed)) ++ bytesOfSegments (p .filling))
+  pub sizes : lengths ≡ sets lengths₀ 0 (lengthsOf (bytesOfDatagrams (p .closed)))
+  pub start : k .start ≡ length (joined (bytesOfDatagrams (p .closed)))
   pub at : k .at ≡ k .start + length (bytesOfSegments (p .filling))
   pub count : k .count ≡ length (p .closed)
 

@@ -1,7 +1,7 @@
 -- The loops over the first n segments of an array: their total length, and their payloads copied out.
 -- Assumes nothing.
-use mathlib.Core.Path.{_≡_, refl, sym, ap, _∙_}
-use mathlib.Core.List.{List, [], _∷_, _++_}
+use mathlib.Core.Path.{_≡_, refl, _∙_}
+use mathlib.Core.List.{List, [], _∷_}
 use Prim.Native.Nat.{ℕ, zero, suc, _+_, _*_, _≤_, _<_}
 use native.Mathlib.Omega.{arith}
 use lib.ListN.{length, take, drop, getD, length-drop}
@@ -12,7 +12,7 @@ use Rattle.lists.proofs.Loops.{view-next, view-end}
 use Rattle.pools.specs.Parts.{part}
 use Rattle.session.specs.Decides.{All}
 use Rattle.session.specs.Reading.{lengthOf, joinedIn}
-use Rattle.reading.specs.Reads.{InSlots, InPool}
+use Rattle.reading.specs.Reads.{InPool}
 use Rattle.reading.proofs.Fronts.{in-slot}
 
 -- ---- the total length

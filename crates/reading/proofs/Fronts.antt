@@ -10,15 +10,14 @@ use borrow.Author.Tests.{lt-ltb}
 use lib.Dec.{leb, ltb, eqb}
 use lib.ListN.{length, take, drop, getD}
 use lib.Seq.{take-nil, length-take-le}
-use Rattle.lists.specs.Views.{heldOf, waitingOf, HeldIs, WaitingIs}
+use Rattle.lists.specs.Views.{heldOf, waitingOf, HeldIs}
 use Rattle.lists.specs.Receiving.{advance, ReceivingIs}
 use Rattle.lists.specs.declared.Held.{Held}
 use Rattle.lists.specs.declared.HeldList.{HeldList}
 use Rattle.lists.specs.declared.Receiving as lists
 use Rattle.lists.proofs.Loops.{view-next, view-end}
 use Rattle.session.specs.State.{Ack}
-use Rattle.session.specs.Decides.{All}
-use Rattle.session.specs.Reading.{frontCount, readable, lengthOf, frontPart, afterRead}
+use Rattle.session.specs.Reading.{frontCount, readable, frontPart, afterRead}
 use Rattle.reading.specs.declared.Part as struct
 use Rattle.reading.specs.Reads.{frontOf, InSlots, InPool, PartIs, partOf, halfOf, ReadIs}
 

@@ -5,24 +5,17 @@ use mathlib.Core.Bool.{Bool, true, false, cond, not, _&&_, _||_}
 use mathlib.Core.List.{List, [], _∷_}
 use Prim.Native.Nat.{ℕ, zero, suc, _+_}
 use native.Mathlib.Numerals.{add-one}
-use borrow.Author.Tests.{eqb-true, eqb-false, eq-eqb, ne-eqb}
 use lib.Dec.{eqb, ltb}
 use Rattle.lists.specs.declared.Held.{Held}
 use Rattle.session.specs.Slots as session
 use Rattle.session.specs.Valid as valid
+use Rattle.slots.specs.SlotLaws.{eqb-sym}
 use Rattle.slots.specs.Slots.{slotsOf, isUsed, firstNot, freeFrom, lowestFree, allBelow, once, distinct}
-
-eqb-turned : (a b : ℕ) → eqb a b ≡ eqb b a
-eqb-turned a b = go (eqb a b) refl
-  where
-    go : (t : Bool) → eqb a b ≡ t → t ≡ eqb b a
-    go true e = sym (eq-eqb b a (sym (eqb-true a b e)))
-    go false e = sym (ne-eqb b a (λ q. eqb-false a b e (sym q)))
 
 pub used-occurs : (k : ℕ) (l : List ℕ) → isUsed k l ≡ session.occurs k l
 unfolding isUsed session.occurs
 used-occurs k [] = refl
-used-occurs k (s ∷ l) = rw (eqb-turned s k, used-occurs k l)
+used-occurs k (s ∷ l) = rw (eqb-sym s k, used-occurs k l)
 
 pub first-lowest : (used : List ℕ) (k f : ℕ) → freeFrom used k f ≡ session.lowestFrom used k f
 unfolding firstNot session.lowestFrom
