@@ -1,0 +1,1 @@
+// What the public calls of a link promise: definitions, in specs/.
