@@ -1,0 +1,46 @@
+-- A control block with its lent parts, and the state that they stand for.
+-- Assumes nothing.
+use mathlib.Core.Path.{_≡_}
+use mathlib.Core.Bool.{Bool, true}
+use mathlib.Core.List.{List}
+use Prim.Native.Nat.{ℕ}
+use lib.ListN.{length}
+use Rattle.timing.specs.declared.Record.{Record}
+use Rattle.sizes.specs.declared.Lengths.{Lengths}
+use Rattle.lists.specs.Views.{outstandingOf}
+use Rattle.session.specs.State.{State}
+use Rattle.block.specs.Views.{stateOf, countsFit, blockValid}
+use Rattle.block.specs.declared.Link.{Link}
+use Rattle.records.specs.Tables.{slotsOf, gathered}
+
+-- what is lent to every call: the two pools, the table of records, and the ack list
+pub record Parts : Type 0 where
+  pub sendPool : List ℕ
+  pub receivePool : List ℕ
+  pub table : List Record
+  pub acks : List ℕ
+
+abbrev pub lengthsOf : Parts → Lengths
+lengthsOf p = record { send = length (p .sendPool); receive = length (p .receivePool); table = length (p .table); acks = length (p .acks) }
+
+-- the records of the outstanding segments, in their order
+abbrev pub recordsOf : Link → Parts → List Record
+recordsOf l p = gathered (p .table) (slotsOf (outstandingOf (l .flight .outstanding)))
+
+-- the state of a block with its parts
+abbrev pub stateIn : Link → Parts → State
+stateIn l p = stateOf l (recordsOf l p) (p .acks)
+
+-- the block is one that this link makes
+abbrev pub isMade : Link → Parts → Bool
+isMade l p = blockValid l (recordsOf l p) (p .acks)
+
+-- the block stands for a state: its counts are within the arrays, and its state is this one
+pub record Stands (l : Link) (p : Parts) (s : State) : Type 0 where
+  pub counts : countsFit l ≡ true
+  pub state : stateIn l p ≡ s
+
+-- a refused call: the very block, and every lent byte and record as it was
+pub record Unchanged (l l′ : Link) (p p′ : Parts) : Type 0 where
+  pub link : l′ ≡ l
+  pub parts : p′ ≡ p
