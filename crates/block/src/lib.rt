@@ -8,6 +8,7 @@ use lists::SentList;
 use protocol::Settings;
 use timing::ProbeClock;
 use timing::RoundTrip;
+ghost use mathlib.Core.Path.{_≡_};
 
 // The segments in flight as the block keeps them: their records are in the lent table.
 #[repr(C)]
@@ -43,4 +44,14 @@ pub struct Link {
     pub ask: u8,
     pub tell: u8,
     pub dead: u8,
+}
+
+impl Link {
+    // The outstanding segments, without their records.
+    pub fn outstanding(self) -> OutstandingList
+        ensures { λ r. ⌜ r ≡ self .flight .outstanding ⌝ }
+    {
+        let flight = self.flight;
+        flight.outstanding
+    }
 }

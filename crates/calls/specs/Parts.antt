@@ -20,8 +20,12 @@ pub record Parts : Type 0 where
   pub table : List Record
   pub acks : List ℕ
 
+-- the lengths of the parts, with that of the table by itself
+abbrev pub lentLengths : ℕ → List ℕ → List ℕ → List ℕ → Lengths
+lentLengths table sendPool receivePool acks = record { send = length sendPool; receive = length receivePool; table = table; acks = length acks }
+
 abbrev pub lengthsOf : Parts → Lengths
-lengthsOf p = record { send = length (p .sendPool); receive = length (p .receivePool); table = length (p .table); acks = length (p .acks) }
+lengthsOf p = lentLengths (length (p .table)) (p .sendPool) (p .receivePool) (p .acks)
 
 -- the records of the outstanding segments, in their order
 abbrev pub recordsOf : Link → Parts → List Record

@@ -17,7 +17,7 @@ use Rattle.slots.specs.Marks.{noMarks, markAll}
 use Rattle.session.specs.State.{State, refused, done}
 use Rattle.session.specs.Cutting.{fragmentCount, pieces, cut}
 use Rattle.session.specs.Sending.{place, sending, withQueued}
-use Rattle.queueing.specs.declared.Answer.the-variants.{Accepted, Refused}
+use Rattle.answers.specs.declared.Answer.the-variants.{Accepted, Refused}
 use Rattle.queueing.specs.Marked.{marked}
 use Rattle.queueing.specs.Outcomes.{PlacedIs, PartsOf, Follows}
 use Rattle.queueing.proofs.Counts.{count-one}

@@ -14,7 +14,7 @@ use Rattle.lists.specs.declared.SentList.{SentList}
 use Rattle.session.specs.State.{State, Outcome, refused, done}
 use Rattle.session.specs.Sending.{Placed, Sends}
 use Rattle.queueing.specs.declared.Queueing.{Queueing}
-use Rattle.queueing.specs.declared.Answer.the-variants.{Accepted, Refused}
+use Rattle.answers.specs.declared.Answer.the-variants.{Accepted, Refused}
 
 -- the payload of a message that begins at `at` is stored in a slot, and this is its length
 pub record Stored (m : ℕ) (message : List ℕ) (at slot : ℕ) (before : List ℕ) (len : ℕ) (after : List ℕ) : Type 0 where

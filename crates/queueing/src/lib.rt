@@ -1,4 +1,5 @@
 // Sending a message: its fragments take the lowest free slots of the send pool and are queued.
+use answers::Answer;
 use lists::Held;
 use lists::HeldList;
 use lists::SentList;
@@ -16,12 +17,6 @@ ghost use Rattle.session.specs.Cutting.{fragmentCount, pieces, cut};
 ghost use Rattle.session.specs.Sending.{place, sending};
 ghost use Rattle.queueing.specs.Marked.{marked};
 ghost use Rattle.queueing.specs.Outcomes.{Stored, PlacedIs, PartsOf, Follows};
-
-// Whether a message was accepted.
-pub enum Answer {
-    Accepted,
-    Refused(Refusal),
-}
 
 // The answer, with the queued segments after it.
 pub struct Queueing {

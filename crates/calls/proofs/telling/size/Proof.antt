@@ -15,21 +15,21 @@ front-size-requires c κs =
 
 returns : tie.Need-returns
 unfolding tellsWith
-returns c acks =
+returns c =
     let v = c .before .before .before .before in
     c .front-size .ensures
-    ∙ told _ _ acks
-    ∙ passed _ _ _ (sym (v .before .before .enough .ensures) ∙ v .before .if1 .taken) (sym (v .valid .ensures acks) ∙ c .before .before .before .if2 .taken)
+    ∙ told _ _ _
+    ∙ passed _ _ _ (sym (v .before .before .enough .ensures) ∙ v .before .if1 .taken) (sym (v .valid .ensures _) ∙ c .before .before .before .if2 .taken)
 
 returns-2 : tie.Need-returns-2
 unfolding tellsWith
-returns-2 c acks =
+returns-2 c =
     let v = c .before in
-    not-made _ _ _ (sym (v .before .before .enough .ensures) ∙ v .before .if1 .taken) (sym (v .valid .ensures acks) ∙ c .if2 .left)
+    not-made _ _ _ (sym (v .before .before .enough .ensures) ∙ v .before .if1 .taken) (sym (v .valid .ensures _) ∙ c .if2 .left)
 
 returns-3 : tie.Need-returns-3
 unfolding tellsWith
-returns-3 c acks = not-long _ _ (sym (c .before .enough .ensures) ∙ c .if1 .left)
+returns-3 c = not-long _ _ (sym (c .before .enough .ensures) ∙ c .if1 .left)
 
 pub size-spec : {M : Type 1} → statement M
 size-spec =

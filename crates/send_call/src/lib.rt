@@ -1,25 +1,19 @@
 // Sending a message, with the records of the outstanding segments by value.
+use answers::Answer;
 use block::Link;
 use block::check;
+use calls::Answered;
 use lists::HeldList;
 use protocol::Refusal;
-use queueing::Answer;
 use sizes::Lengths;
 use timing::Record;
-ghost use mathlib.Core.Path.{_≡_};
 ghost use mathlib.Core.List.{List};
 ghost use Prim.Native.Nat.{ℕ};
-ghost use lib.ListN.{length};
+ghost use Rattle.calls.specs.Parts.{lentLengths};
 ghost use Rattle.calls.specs.Outcomes.{sendsWith};
 ghost use Rattle.session.specs.Sending.{sending};
 ghost use Rattle.block.specs.Views.{stateOf};
-ghost use Rattle.sending.specs.Sent.{WithQueued, Sendable, Leaves};
-
-// The answer, and the block after it.
-pub struct Sending {
-    pub answer: Answer,
-    pub link: Link,
-}
+ghost use Rattle.send_call.specs.Sent.{WithQueued, Sendable, Leaves};
 
 // The block with other queued segments.
 fn with_queued(link: Link, queued: HeldList) -> Link
@@ -44,7 +38,7 @@ fn with_queued(link: Link, queued: HeldList) -> Link
 }
 
 // Sending over a block that has passed the checks of 7 and 13.
-fn queue(link: Link, records: [Record; 32], pool: &mut [u8], message: &[u8]) -> Sending
+fn queue(link: Link, records: [Record; 32], pool: &mut [u8], message: &[u8]) -> Answered
     requires { ⌜ Sendable link (now pool) ⌝ }
     ensures { λ r. ⌜ ((acks : List ℕ) → Leaves (sending (stateOf link records acks) (now (pool .entry)) (now (message .entry))) link records acks (now (pool .entry)) r (now (pool .exit))) ⌝ }
 {
@@ -59,41 +53,48 @@ fn queue(link: Link, records: [Record; 32], pool: &mut [u8], message: &[u8]) -> 
         Answer::Accepted => {
             let list = result.queued;
             let after = with_queued(link, list);
-            Sending {
+            Answered {
                 answer: Answer::Accepted,
                 link: after,
             }
         }
-        Answer::Refused(r) => Sending {
+        Answer::Refused(r) => Answered {
             answer: Answer::Refused(r),
             link,
         },
     }
 }
 
-// Sending checks 7, 13, then 10 and 11. `lent` has the lengths of the lent parts, that of the send pool among them.
+// Sending checks 7, 13, then 10 and 11. `table` is the length of the lent table.
 pub fn send(
     link: Link,
     records: [Record; 32],
-    lent: Lengths,
-    pool: &mut [u8],
+    table: usize,
+    send_pool: &mut [u8],
+    receive_pool: &[u8],
+    acks: &[u32],
     message: &[u8],
-) -> Sending
-    requires { ⌜ lent .send ≡ length (now pool) ⌝ }
-    ensures { λ r. ⌜ ((acks : List ℕ) → Leaves (sendsWith link records acks lent (now (pool .entry)) (now (message .entry))) link records acks (now (pool .entry)) r (now (pool .exit))) ⌝ }
+) -> Answered
+    ensures { λ r. ⌜ Leaves (sendsWith link records (now (acks .entry)) (lentLengths table (now («send_pool» .entry)) (now («receive_pool» .entry)) (now (acks .entry))) (now («send_pool» .entry)) (now (message .entry))) link records (now (acks .entry)) (now («send_pool» .entry)) r (now («send_pool» .exit)) ⌝ }
 {
     let settings = link.settings;
+    let lent = Lengths {
+        send: send_pool.len(),
+        receive: receive_pool.len(),
+        table,
+        acks: acks.len(),
+    };
     if sizes::enough(settings, lent) {
         if check::valid(link, records) {
-            queue(link, records, pool, message)
+            queue(link, records, send_pool, message)
         } else {
-            Sending {
+            Answered {
                 answer: Answer::Refused(Refusal::InvalidBlock),
                 link,
             }
         }
     } else {
-        Sending {
+        Answered {
             answer: Answer::Refused(Refusal::ShortPart),
             link,
         }

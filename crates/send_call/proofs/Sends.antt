@@ -22,8 +22,8 @@ use Rattle.session.specs.Cutting.{fragmentCount, cut}
 use Rattle.session.specs.Sending.{Sends, sending, withQueued, place}
 use Rattle.queueing.specs.Outcomes.{PartsOf, Follows}
 use Rattle.queueing.specs.declared.Queueing.{Queueing}
-use Rattle.queueing.specs.declared.Answer.{Answer}
-use Rattle.queueing.specs.declared.Answer.the-variants.{Accepted, Refused}
+use Rattle.answers.specs.declared.Answer.{Answer}
+use Rattle.answers.specs.declared.Answer.the-variants.{Accepted, Refused}
 use Rattle.sizes.specs.Sizes.{enough}
 use Rattle.sizes.specs.declared.Lengths.{Lengths}
 use Rattle.session.specs.Decides.{and-parts}
@@ -33,9 +33,9 @@ use Rattle.block.specs.Views.{stateOf, countsFit, blockValid, Joins}
 use Rattle.block.specs.declared.Link.{Link}
 use Rattle.block.specs.declared.Flight.{Flight}
 use Rattle.block.proofs.Whole.{counts}
-use Rattle.sending.specs.declared.Sending.{Sending}
+use Rattle.calls.specs.declared.Answered.{Answered}
 use Rattle.calls.specs.Outcomes.{checked}
-use Rattle.sending.specs.Sent.{WithQueued, Sendable, Kept, Accepts, Leaves}
+use Rattle.send_call.specs.Sent.{WithQueued, Sendable, Kept, Accepts, Leaves}
 
 -- an accepted message changes the queued segments alone
 queued-alone : (s : State) (pool m : List ℕ) (x : Sends) → sending s pool m ≡ done x → x .state ≡ withQueued s (x .state .sending .queued)
@@ -67,7 +67,7 @@ after-state : (l : Link) (q : HeldList) (l′ : Link) (records : List Record) (a
 unfolding stateOf
 after-state l q l′ records acks w = rw (w .is)
 
-module _ (l : Link) (records : List Record) (acks pool m pool′ : List ℕ) (q : Queueing) (a : Sending) where
+module _ (l : Link) (records : List Record) (acks pool m pool′ : List ℕ) (q : Queueing) (a : Answered) where
   pub accepted : (o : Outcome Sends) → sending (stateOf l records acks) pool m ≡ o → Follows o (l .queued) pool q pool′ → q .answer ≡ Accepted → a .answer ≡ Accepted
       → WithQueued l (q .queued) (a .link) → countsFit l ≡ true → Leaves o l records acks pool a pool′
   accepted (refused r) e f qa aa w k = absurd (let p = sym qa ∙ f .answer in let z : _≡_ {A = ℕ} 0 1 = cc in omega arith)
@@ -96,7 +96,7 @@ sendable l records n pool b g eb tb eg tg long =
     let room = leb-true (sendSlots * mss (l .settings)) (n .send) (and-parts _ _ (and-parts _ _ (and-parts _ _ (sym eg ∙ tg) .0) .0) .0) in
     record { counts = v .0; some = omega (arith, range .mtu-least); word = omega (arith, range .mtu-most); long = rw (← long) room }
 
-module _ (l : Link) (records : List Record) (acks pool : List ℕ) (a : Sending) (pool′ : List ℕ) (long made : Bool) (own : Outcome Sends) where
+module _ (l : Link) (records : List Record) (acks pool : List ℕ) (a : Answered) (pool′ : List ℕ) (long made : Bool) (own : Outcome Sends) where
   pub passes : long ≡ true → made ≡ true → Leaves own l records acks pool a pool′ → Leaves (checked long made own) l records acks pool a pool′
   passes e f h = rw (e, f) h
 
@@ -104,6 +104,6 @@ module _ (l : Link) (records : List Record) (acks pool : List ℕ) (a : Sending)
   invalid e f aa al ap = rw (e, f) (aa, record { link = al; pool-same = ap })
 
 -- whatever the block is
-pub short : (l : Link) (records : List Record) (acks pool : List ℕ) (a : Sending) (pool′ : List ℕ) (long : Bool) (rest : Outcome Sends) → long ≡ false → a .answer ≡ Refused ShortPart → a .link ≡ l → pool′ ≡ pool
+pub short : (l : Link) (records : List Record) (acks pool : List ℕ) (a : Answered) (pool′ : List ℕ) (long : Bool) (rest : Outcome Sends) → long ≡ false → a .answer ≡ Refused ShortPart → a .link ≡ l → pool′ ≡ pool
     → Leaves (cond long rest (refused ShortPart)) l records acks pool a pool′
 short l records acks pool a pool′ long rest e aa al ap = rw e (aa, record { link = al; pool-same = ap })

@@ -11,10 +11,10 @@ use Rattle.timing.specs.declared.Record.{Record}
 use Rattle.lists.specs.declared.HeldList.{HeldList}
 use Rattle.session.specs.State.{Outcome, refused, done}
 use Rattle.session.specs.Sending.{Sends}
-use Rattle.queueing.specs.declared.Answer.the-variants.{Accepted, Refused}
+use Rattle.answers.specs.declared.Answer.the-variants.{Accepted, Refused}
 use Rattle.block.specs.Views.{stateOf, countsFit}
 use Rattle.block.specs.declared.Link.{Link}
-use Rattle.sending.specs.declared.Sending.{Sending}
+use Rattle.calls.specs.declared.Answered.{Answered}
 
 -- the block with other queued segments, all else as it was
 pub record WithQueued (l : Link) (q : HeldList) (l′ : Link) : Type 0 where
@@ -39,12 +39,12 @@ pub record Sendable (l : Link) (pool : List ℕ) : Type 0 where
   pub long : sendSlots * mss (l .settings) ≤ length pool
 
 -- a refusal: its number alone, the very block and pool
-pub record Kept (l : Link) (pool : List ℕ) (a : Sending) (pool′ : List ℕ) : Type 0 where
+pub record Kept (l : Link) (pool : List ℕ) (a : Answered) (pool′ : List ℕ) : Type 0 where
   pub link : a .link ≡ l
   pub pool-same : pool′ ≡ pool
 
 -- a message accepted: the state and the pool of the definition; what is in flight stays as it is in the block
-pub record Accepts (x : Sends) (l : Link) (records : List Record) (acks : List ℕ) (a : Sending) (pool′ : List ℕ) : Type 0 where
+pub record Accepts (x : Sends) (l : Link) (records : List Record) (acks : List ℕ) (a : Answered) (pool′ : List ℕ) : Type 0 where
   pub answer : a .answer ≡ Accepted
   pub counts : countsFit (a .link) ≡ true
   pub state : stateOf (a .link) records acks ≡ x .state
@@ -52,6 +52,6 @@ pub record Accepts (x : Sends) (l : Link) (records : List Record) (acks : List �
   pub acks-same : a .link .acks ≡ l .acks
   pub pool-after : pool′ ≡ x .pool
 
-abbrev pub Leaves : Outcome Sends → Link → List Record → List ℕ → List ℕ → Sending → List ℕ → Type 0
+abbrev pub Leaves : Outcome Sends → Link → List Record → List ℕ → List ℕ → Answered → List ℕ → Type 0
 Leaves (refused r) l records acks pool a pool′ = (a .answer ≡ Refused r) × Kept l pool a pool′
 Leaves (done x) l records acks pool a pool′ = Accepts x l records acks a pool′

@@ -1,13 +1,13 @@
--- `sending::queue` meets its contract: what queueing gives, put back into the block.
+-- `send_call::queue` meets its contract: what queueing gives, put back into the block.
 -- Assumes nothing.
 use mathlib.Core.Path.{refl, sym, _∙_}
 use borrow.Author.Needs.{needs}
 use Rattle.session.specs.Sending.{sending}
 use Rattle.block.specs.Views.{stateOf}
 use Rattle.block.proofs.Whole.{counts}
-use Rattle.sending.proofs.Sends.{parts, accepted, kept}
-use Rattle.sending.proofs.queue.Statement.{statement}
-use Rattle.sending.proofs.queue.Tie as tie
+use Rattle.send_call.proofs.Sends.{parts, accepted, kept}
+use Rattle.send_call.proofs.queue.Statement.{statement}
+use Rattle.send_call.proofs.queue.Tie as tie
 
 flight-of-requires : tie.Need-flight-of-requires
 flight-of-requires c κs = counts _ (c .before .before .before .before .before .pre .counts) .outstanding
