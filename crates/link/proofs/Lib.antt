@@ -1,0 +1,5 @@
+pub mod Gathered
+pub mod Scattered
+pub mod SlotsAfter
+pub mod Asking
+pub mod Sends
