@@ -1,0 +1,40 @@
+// What C calls: each function takes the block behind a pointer, and answers with a number, 0 or more where the call is done
+// and the refusal's number below zero where it is not. Each is proved by hand.
+use block::Link;
+use timing::Record;
+ghost use Rattle.calls.specs.Promises.{SendPromise, SizePromise};
+ghost use Rattle.link.specs.Lent.{partsOf};
+ghost use Rattle.codes.specs.Codes.{answerCode, countCode};
+ghost use Rattle.ampferweg.specs.Gives.{Gives};
+
+// Sending a message: 0, or the refusal.
+#[no_mangle]
+pub extern "C" fn ampferweg_send(
+    link: &mut Link,
+    send_pool: &mut [u8],
+    receive_pool: &[u8],
+    table: &[Record],
+    acks: &[u32],
+    message: &[u8],
+) -> i32
+    ensures { λ r. ⌜ Gives answerCode (λ a. SendPromise (now (message .entry)) (now (link .entry)) (partsOf (now («send_pool» .entry)) (now («receive_pool» .entry)) (now (table .entry)) (now (acks .entry))) a (now (link .exit)) (partsOf (now («send_pool» .exit)) (now («receive_pool» .entry)) (now (table .entry)) (now (acks .entry)))) r ⌝ }
+{
+    let a = link::send(*link, send_pool, receive_pool, table, acks, message);
+    *link = codes::answered_link(a);
+    codes::answered_code(a)
+}
+
+// Telling the size of the next message: its bytes, or the refusal.
+#[no_mangle]
+pub extern "C" fn ampferweg_size(
+    link: &Link,
+    send_pool: &[u8],
+    receive_pool: &[u8],
+    table: &[Record],
+    acks: &[u32],
+) -> i32
+    ensures { λ r. ⌜ Gives countCode (λ a. SizePromise (now (link .entry)) (partsOf (now («send_pool» .entry)) (now («receive_pool» .entry)) (now (table .entry)) (now (acks .entry))) a) r ⌝ }
+{
+    let a = link::size(*link, send_pool, receive_pool, table, acks);
+    codes::count_code(a)
+}
