@@ -1,36 +1,36 @@
+-- `flush_call::parts::number` meets its contract: there is room for the segments that are numbered now.
+-- Assumes nothing.
 use borrow.Author.Needs.{needs}
+use native.Mathlib.Omega.{arith}
+use Rattle.lists.proofs.Loops.{room}
+use Rattle.flush_call.proofs.Numbering.{few, numbers}
 use Rattle.flush_call.proofs.parts.number.Statement.{statement}
 use Rattle.flush_call.proofs.parts.number.Tie as tie
 
-joined-requires : tie.Need-joined-requires
-joined-requires c κs = search needs
-
-numbered-count-requires : tie.Need-numbered-count-requires
-numbered-count-requires c κs = search needs
-
 number-requires : tie.Need-number-requires
-number-requires c κs = search needs
-
-drop-first-requires : tie.Need-drop-first-requires
-drop-first-requires c κs = search needs
-
-cast-sum : tie.Need-cast-sum
-cast-sum c = search needs
-
-sum-requires : tie.Need-sum-requires
-sum-requires c κs = search needs
+number-requires c κs =
+    let entry = c .before .before .before in
+    let joins = c .before .joined in
+    (
+      few (entry .args .queued) (entry .args .stored) (entry .args .records) _ (search (needs, room)) (c .numbered-count .ensures) (joins .result) (search (needs, room)) (joins .ensures) (entry .pre),
+      omega (arith, c .numbered-count .ensures),
+      entry .pre .queued-fits,
+    )
 
 returns : tie.Need-returns
-returns c = search needs
+returns c =
+    let given = c .before .before .before in
+    let entry = given .before .before .before in
+    numbers (entry .args .queued) (entry .args .stored) (entry .args .records) _ (search (needs, room)) (given .numbered-count .ensures) _ _ _ _ (given .before .joined .ensures) (c .before .before .number .ensures) (c .before .drop-first .ensures) (c .sum .ensures)
 
 pub number-spec : {M : Type 1} → statement M
 number-spec =
     tie.close
     (tie.spec
-    joined-requires
-    numbered-count-requires
+    (λ c κs. search needs)
+    (λ c κs. search needs)
     number-requires
-    drop-first-requires
-    cast-sum
-    sum-requires
+    (λ c κs. search needs)
+    (λ c. search needs)
+    (λ c κs. search needs)
     returns)
