@@ -4,7 +4,7 @@ use mathlib.Core.Path.{_≡_}
 use mathlib.Core.Bool.{Bool, true}
 use mathlib.Core.List.{List}
 use Prim.Native.Nat.{ℕ, _-_, _≤_}
-use lib.ListN.{drop}
+use lib.ListN.{length, drop}
 use Rattle.protocol.specs.Protocol.{receiveWindow}
 use Rattle.protocol.specs.Serial.{plus}
 use Rattle.protocol.specs.declared.Settings.{Settings}
@@ -29,10 +29,10 @@ use Rattle.flush_call.specs.declared.parts.Numbered.{Numbered}
 -- ---- what it goes by
 
 -- the settings, the link's timeout and the time; its segments carry window 128 minus ready count, and una = rcv_nxt
-pub record GoesBy (c : Settings) (ready next timeout t : ℕ) (f : Flush) : Type 0 where
+pub record GoesBy (c : Settings) (ready : HeldList) (next timeout t : ℕ) (f : Flush) : Type 0 where
   pub is : f ≡ record {
     settings = c;
-    carried = record { conv = c .conv; wnd = receiveWindow - ready; una = next };
+    carried = record { conv = c .conv; wnd = receiveWindow - length (heldOf ready); una = next };
     timeout = timeout;
     t = t;
   }

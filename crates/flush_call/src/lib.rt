@@ -53,7 +53,7 @@ fn run(
     let probed = link.probe.next(t, stored.window);
     let flush = parts::flush_of(
         settings,
-        link.receiving.ready.count,
+        link.receiving.ready,
         link.receiving.next,
         stored.rtt.timeout,
         t,

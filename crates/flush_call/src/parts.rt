@@ -15,8 +15,7 @@ use protocol::serial;
 use timing::ProbeClock;
 use timing::Record;
 ghost use mathlib.Core.Path.{_≡_};
-ghost use Prim.Native.Nat.{_-_, _≤_};
-ghost use Rattle.protocol.specs.Protocol.{receiveWindow};
+ghost use Prim.Native.Nat.{_≤_};
 ghost use Rattle.block.specs.Views.{isSet};
 ghost use Rattle.flush_call.specs.Parts.{sendingFrom, GoesBy, Numberable, Numbers, After};
 
@@ -42,12 +41,18 @@ fn flag(set: bool) -> u8
     if set { 1 } else { 0 }
 }
 
-// What a flush at t goes by, with so many segments ready and `next` expected.
-pub(crate) fn flush_of(settings: Settings, ready: usize, next: u32, timeout: u32, t: u32) -> Flush
-    requires { ⌜ ready ≤ receiveWindow ⌝ }
+// What a flush at t goes by, with these segments ready and `next` expected.
+pub(crate) fn flush_of(
+    settings: Settings,
+    ready: HeldList,
+    next: u32,
+    timeout: u32,
+    t: u32,
+) -> Flush
+    requires { ⌜ ready .count ≤ 128 ⌝ }
     ensures { λ r. ⌜ GoesBy settings ready next timeout t r ⌝ }
 {
-    let free = Protocol::RECEIVE_WINDOW as usize - ready;
+    let free = Protocol::RECEIVE_WINDOW as usize - ready.count;
     let carried = Carried {
         conv: settings.conv,
         wnd: free as u16,
