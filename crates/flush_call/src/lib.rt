@@ -27,8 +27,9 @@ pub struct Flushed {
 fn refused(refusal: Refusal, link: Link, records: [Record; 32]) -> Flushed
     ensures { λ r. ⌜ Refuses refusal link records r ⌝ }
 {
+    let answer = Count::Refused(refusal);
     Flushed {
-        answer: Count::Refused(refusal),
+        answer,
         link,
         records,
     }

@@ -2,6 +2,8 @@
 -- Assumes nothing.
 use mathlib.Core.Path.{refl, sym, _∙_}
 use borrow.Author.Needs.{needs}
+use Rattle.session.specs.Flushing.{flushing}
+use Rattle.block.specs.Views.{stateOf}
 use Rattle.calls.specs.Outcomes.{flushesWith}
 use Rattle.flush_call.proofs.Ready.{flushable}
 use Rattle.flush_call.proofs.Checks.{passes, invalid, short}
@@ -18,7 +20,8 @@ unfolding flushesWith
 returns c =
     let done = c .before .before .before .before in
     let checks = done .before .before .before .before in
-    passes _ _ _ _ _ _ _ _ _ _ _
+    let a = checks .before .before .before .before .before .before .before .before .before .args in
+    passes _ _ _ _ _ _ _ _ _ _ (flushing (stateOf (a .link) (a .records) (a .acks .now)) (a .t) (a .send-pool .now))
     (sym (checks .before .before .enough-to-flush .ensures) ∙ checks .before .if1 .taken)
     (sym (checks .valid .ensures _) ∙ done .before .before .before .if2 .taken)
     (done .run .ensures)

@@ -34,7 +34,7 @@ returns c =
     let entry = probes .before .before .before .before .before .before .before .before in
     let a = entry .args in
     let w =
-      written (a .link) (a .records) _ (a .t) _ _ _ _ _ _ _ _ (numbers .number .ensures) (probes .next .ensures) _ _ _ (goes .flush-of .ensures) (asks .is-set .ensures) (tells .is-set2 .ensures) (writes .write .ensures) in
+    written (a .link) (a .records) _ (a .t) _ _ _ _ _ _ _ _ (numbers .number .ensures) (probes .next .ensures) _ _ _ (goes .flush-of .ensures) (asks .is-set .ensures) (tells .is-set2 .ensures) (writes .write .ensures) in
     finished (a .link) (a .records) _ (a .t) _ _ _ _ _ _ _ _ (numbers .number .ensures) (probes .next .ensures) w _ _ _ (deads .is-set3 .ensures) (splits .split .ensures) (afters .after .ensures) (entry .pre .counts)
 
 pub run-spec : {M : Type 1} → statement M

@@ -10,8 +10,7 @@ use Rattle.flush_call.proofs.parts.number.Tie as tie
 number-requires : tie.Need-number-requires
 number-requires c κs =
     let entry = c .before .before .before in
-    let joins = c .before .joined in
-    (
+    let joins = c .before .joined in (
       few (entry .args .queued) (entry .args .stored) (entry .args .records) _ (search (needs, room)) (c .numbered-count .ensures) (joins .result) (search (needs, room)) (joins .ensures) (entry .pre),
       omega (arith, c .numbered-count .ensures),
       entry .pre .queued-fits,
