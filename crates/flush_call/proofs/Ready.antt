@@ -3,7 +3,7 @@
 use mathlib.Core.Path.{_≡_, sym, _∙_}
 use mathlib.Core.Bool.{Bool, true, _&&_}
 use mathlib.Core.List.{List}
-use Prim.Native.Nat.{ℕ, _*_, _≤_}
+use Prim.Native.Nat.{ℕ, _*_}
 use native.Mathlib.Omega.{arith}
 use borrow.Author.Tests.{leb-true}
 use lib.ListN.{length}
@@ -18,7 +18,6 @@ use Rattle.session.specs.Decides.{and-parts}
 use Rattle.session.specs.State.{Sending, sendHeld}
 use Rattle.session.specs.Valid.{valid, all, heldFits, slotsFit, sendingValid, numbersFit}
 use Rattle.session.specs.IsValid.{SettingsInRange, settings-decide}
-use Rattle.session.specs.Flushing.{numberedCount}
 use Rattle.block.specs.Views.{stateOf, countsFit, blockValid}
 use Rattle.block.specs.declared.Link.{Link}
 use Rattle.block.proofs.Whole.{counts}

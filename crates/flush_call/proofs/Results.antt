@@ -2,24 +2,20 @@
 -- Assumes nothing.
 use mathlib.Core.Path.{_≡_, refl, sym, ap, ap₂, _∙_}
 use mathlib.Core.Bool.{Bool, true, false, _||_}
-use mathlib.Core.List.{List, [], _++_, map}
+use mathlib.Core.List.{List, [], _++_}
 use Prim.Native.Nat.{ℕ}
 use borrow.Author.Tests.{le-leb}
-use lib.ListN.{length, take, drop, length-map, take-append-drop}
+use lib.ListN.{drop, length-map, take-append-drop}
 use Rattle.timing.specs.Probes.{nextClock}
 use Rattle.timing.specs.declared.Record.{Record}
-use Rattle.timing.specs.declared.ProbeClock.{ProbeClock}
 use Rattle.timing.specs.declared.Probed.{Probed}
 use Rattle.lists.specs.Views.{outstandingOf, sentOf}
-use Rattle.lists.specs.Joining.{joined, withoutRecord, recordOf, SplitIs}
+use Rattle.lists.specs.Joining.{joined, SplitIs}
 use Rattle.lists.specs.JoiningLaws.{joined-split}
-use Rattle.lists.specs.declared.Outstanding.{Outstanding}
 use Rattle.lists.specs.declared.Sent.{Sent}
 use Rattle.lists.specs.declared.Split.{Split}
 use Rattle.session.specs.State.{State}
 use Rattle.session.specs.Flushing.{bytesOfSegments, flushing}
-use Rattle.packing.specs.Packers.{Output}
-use Rattle.answers.specs.declared.Count.{Count}
 use Rattle.answers.specs.declared.Count.the-variants.{Of}
 use Rattle.block.specs.Views.{isSet, pairs, stateOf, countsFit}
 use Rattle.block.specs.declared.Link.{Link}
@@ -27,7 +23,7 @@ use Rattle.block.proofs.Whole.{counts}
 use Rattle.flushing.specs.declared.Flush.{Flush}
 use Rattle.flushing.specs.declared.Written.{Written}
 use Rattle.flushing.specs.Writing.{Writes}
-use Rattle.flushing.specs.Flushes.{FlushOf, outstandingNow, asks, FlushWrites}
+use Rattle.flushing.specs.Flushes.{FlushOf, FlushWrites}
 use Rattle.flushing.specs.FlushLaws.{flush-writes}
 use Rattle.flush_call.specs.declared.parts.Numbered.{Numbered}
 use Rattle.flush_call.specs.Parts.{sendingFrom, GoesBy, Numbers, After}

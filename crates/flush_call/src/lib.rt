@@ -8,11 +8,11 @@ use lists::outstanding_list;
 use protocol::Refusal;
 use sizes::Lengths;
 use timing::Record;
+ghost use lib.ListN.{length};
 ghost use Rattle.session.specs.Flushing.{flushing};
 ghost use Rattle.block.specs.Views.{stateOf};
 ghost use Rattle.calls.specs.Parts.{lentLengths};
 ghost use Rattle.calls.specs.Outcomes.{flushesWith};
-ghost use lib.ListN.{length};
 ghost use Rattle.flush_call.specs.Parts.{Refuses};
 ghost use Rattle.flush_call.specs.Flushes.{Flushable, Done, Leaves};
 
@@ -48,18 +48,15 @@ fn run(
     requires { ⌜ Flushable link records (now pool) (now acks) (now output) (now lengths) ⌝ }
     ensures { λ r. ⌜ Done (flushing (stateOf link records (now (acks .entry))) t (now (pool .entry))) (now (acks .entry)) (now (output .entry)) (now (lengths .entry)) r (now (output .exit)) (now (lengths .exit)) ⌝ }
 {
-    let settings = link.settings;
-    let queued = link.queued;
-    let stored = link.flight;
-    let probed = link.probe.next(t, stored.window);
+    let probed = link.probe.next(t, link.flight.window);
     let flush = parts::flush_of(
-        settings,
+        link.settings,
         link.receiving.ready,
         link.receiving.next,
-        stored.rtt.timeout,
+        link.flight.rtt.timeout,
         t,
     );
-    let numbered = parts::number(queued, stored, records);
+    let numbered = parts::number(link.queued, link.flight, records);
     let ask = parts::is_set(link.ask) | probed.ask;
     let tell = parts::is_set(link.tell);
     let written = flushing::write(

@@ -8,16 +8,16 @@ use Rattle.flush_call.proofs.run.Statement.{statement}
 use Rattle.flush_call.proofs.run.Tie as tie
 
 flush-of-requires : tie.Need-flush-of-requires
-flush-of-requires c κs = counts _ (c .before .before .before .before .before .before .before .before .pre .counts) .ready
+flush-of-requires c κs = counts _ (c .before .before .before .before .before .pre .counts) .ready
 
 number-requires : tie.Need-number-requires
-number-requires c κs = numberable _ _ _ _ _ _ (c .before .before .before .before .before .before .before .before .before .pre)
+number-requires c κs = numberable _ _ _ _ _ _ (c .before .before .before .before .before .before .pre)
 
 write-requires : tie.Need-write-requires
 write-requires c κs =
     let numbers = c .before .before .before .before .before in
     let goes = numbers .before in
-    let entry = goes .before .before .before .before .before .before .before .before .before in
+    let entry = goes .before .before .before .before .before .before in
     writable _ _ _ _ _ _ (entry .pre) _ _ _ _ _ _ (goes .flush-of .ensures) (numbers .number .ensures)
 
 returns : tie.Need-returns
@@ -31,7 +31,7 @@ returns c =
     let numbers = asks .before in
     let goes = numbers .before in
     let probes = goes .before in
-    let entry = probes .before .before .before .before .before .before .before .before in
+    let entry = probes .before .before .before .before .before in
     let a = entry .args in
     let w =
     written (a .link) (a .records) _ (a .t) _ _ _ _ _ _ _ _ (numbers .number .ensures) (probes .next .ensures) _ _ _ (goes .flush-of .ensures) (asks .is-set .ensures) (tells .is-set2 .ensures) (writes .write .ensures) in
