@@ -9,7 +9,8 @@ use Rattle.open_call.proofs.open.Tie as tie
 returns : tie.Need-returns
 returns c =
     let s = c .before .before in
-    accepts _ _ _ _ _ (s .before .before .in-range .ensures) _ (s .enough .ensures) (s .before .if1 .taken) (c .before .if2 .taken) refl (c .opened .ensures)
+    let a = s .before .before .before .before .before .before .args in
+    accepts (a .settings) _ _ _ _ (s .before .before .in-range .ensures) _ (s .enough .ensures) (s .before .if1 .taken) (c .before .if2 .taken) refl (c .opened .ensures)
 
 returns-2 : tie.Need-returns-2
 returns-2 c =
