@@ -1,6 +1,6 @@
 -- A block with empty lists stands for a link just opened.
 -- Assumes nothing.
-use mathlib.Core.Path.{_≡_, refl}
+use mathlib.Core.Path.{_≡_}
 use mathlib.Core.Bool.{true}
 use mathlib.Core.List.{List, []}
 use Prim.Native.Nat.{ℕ}
@@ -15,7 +15,7 @@ use Rattle.lists.specs.declared.OutstandingList.{OutstandingList}
 use Rattle.session.specs.Opening.{opened}
 use Rattle.block.specs.Views.{pairs, stateOf, countsFit}
 use Rattle.block.specs.declared.Link.{Link}
-use Rattle.opening.specs.Fresh.{IsFresh}
+use Rattle.open_call.specs.Fresh.{IsFresh}
 
 module _ (c : Settings) (q r : HeldList) (o : OutstandingList) (w : WaitingList) (eq : HeldIs q []) (eo : OutstandingIs o []) (er : HeldIs r []) (ew : WaitingIs w []) where
   abbrev made : Link

@@ -1,9 +1,9 @@
--- `opening::opened` meets its contract: its lists are empty.
+-- `open_call::opened` meets its contract: its lists are empty.
 -- Assumes nothing.
 use borrow.Author.Needs.{needs}
-use Rattle.opening.proofs.Empty.{fresh}
-use Rattle.opening.proofs.opened.Statement.{statement}
-use Rattle.opening.proofs.opened.Tie as tie
+use Rattle.open_call.proofs.Empty.{fresh}
+use Rattle.open_call.proofs.opened.Statement.{statement}
+use Rattle.open_call.proofs.opened.Tie as tie
 
 returns : tie.Need-returns
 returns c =
