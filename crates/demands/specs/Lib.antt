@@ -1,0 +1,3 @@
+pub mod Steps
+pub mod Stations
+pub mod OutputLaws
