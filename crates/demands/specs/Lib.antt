@@ -1,3 +1,4 @@
 pub mod Steps
 pub mod Stations
 pub mod OutputLaws
+pub mod Simulation
