@@ -1,4 +1,7 @@
 pub mod Steps
 pub mod Stations
+pub mod Claims
 pub mod OutputLaws
 pub mod Simulation
+pub mod RunLaws
+pub mod Demand3
