@@ -26,10 +26,10 @@ ShortBuffer e (Call.send m) = ⊥
 ShortBuffer e (Call.takeIn d) = ⊥
 ShortBuffer e (Call.flush t) = ⊥
 
--- the answer is not 13, and it is 7 only for a read's buffer
-pub record Passes (e : Endpoint) (x : Call) (a : Answer) : Type 0 where
+-- the answer is not 13, and it is 7 only where the buffer is short
+pub record Passes (short : Type 0) (a : Answer) : Type 0 where
   pub made : a ≡ Answer.refused InvalidBlock → ⊥
-  pub lent : a ≡ Answer.refused ShortPart → ShortBuffer e x
+  pub lent : a ≡ Answer.refused ShortPart → short
 
 -- of each call of a list
 abbrev pub Each : (Endpoint → Call → Answer → Type 0) → {e e′ : Endpoint} {xs : List Call} {events : List Event} → Runs e xs events e′ → Type 0

@@ -4,4 +4,6 @@ pub mod Claims
 pub mod OutputLaws
 pub mod Simulation
 pub mod RunLaws
+pub mod RefusalLaws
+pub mod AlwaysValid
 pub mod Demand3

@@ -203,8 +203,8 @@ module _ (c : Settings) (range : inRange c ≡ true) (conv : c .conv < 2 ^ 32) (
   unfolding stateOf
   long-flush = in-order-long c range (stationOf e) (Call.flush 0) (k .order)
 
-  long : enough (mss (e .link .settings)) (lengthsOf (e .parts)) ≡ true
-  long = flush-enough (mss (e .link .settings)) (lengthsOf (e .parts)) (length (e .output)) (length (e .lengths)) long-flush
+  pub is-long : enough (mss (e .link .settings)) (lengthsOf (e .parts)) ≡ true
+  is-long = flush-enough (mss (e .link .settings)) (lengthsOf (e .parts)) (length (e .output)) (length (e .lengths)) long-flush
 
   flush-fits : (t : ℕ) → t < 2 ^ 32 → FlushFits (flushing (stateIn (e .link) (e .parts)) t (e .parts .sendPool)) (e .output) (e .lengths)
   flush-fits t time =
@@ -220,13 +220,13 @@ module _ (c : Settings) (range : inRange c ≡ true) (conv : c .conv < 2 ^ 32) (
   pub own-call : (x : Call) (a : Answer) (e′ : Endpoint) → CallFits x → Called e x a e′ → Becomes (own (stationOf e) x) a e′
   own-call (Call.send m) a e′ f h =
       rw (h .sees)
-      (sent-becomes e e′ (k .counts) (sending (stateIn (e .link) (e .parts)) (e .parts .sendPool) m) (h .gives) (rw (sends-own e long is-made m) at (h .promise .answer))
-      (rw (sends-own e long is-made m) at (h .promise .leaves))
+      (sent-becomes e e′ (k .counts) (sending (stateIn (e .link) (e .parts)) (e .parts .sendPool) m) (h .gives) (rw (sends-own e is-long is-made m) at (h .promise .answer))
+      (rw (sends-own e is-long is-made m) at (h .promise .leaves))
       (h .rest))
   own-call (Call.takeIn d) a e′ f h =
       rw (h .sees)
-      (took-becomes e e′ (k .counts) (input (stateIn (e .link) (e .parts)) (e .parts .receivePool) d) (h .gives) (rw (takes-own e long is-made d) at (h .promise .answer))
-      (rw (takes-own e long is-made d) at (h .promise .leaves))
+      (took-becomes e e′ (k .counts) (input (stateIn (e .link) (e .parts)) (e .parts .receivePool) d) (h .gives) (rw (takes-own e is-long is-made d) at (h .promise .answer))
+      (rw (takes-own e is-long is-made d) at (h .promise .leaves))
       (h .rest))
   own-call (Call.flush t) a e′ f h =
       rw (h .sees)
@@ -236,8 +236,8 @@ module _ (c : Settings) (range : inRange c ≡ true) (conv : c .conv < 2 ^ 32) (
   own-call (Call.read room) a e′ f h =
       rw (h .sees, ← h .long)
       (read-becomes e e′ (k .counts) (h .buffer) (h .buffer′) (reading (stateIn (e .link) (e .parts)) (e .parts .receivePool) (length (h .buffer))) (h .gives)
-      (rw (reads-own e long is-made (length (h .buffer))) at (h .promise .answer))
-      (rw (reads-own e long is-made (length (h .buffer))) at (h .promise .leaves))
+      (rw (reads-own e is-long is-made (length (h .buffer))) at (h .promise .answer))
+      (rw (reads-own e is-long is-made (length (h .buffer))) at (h .promise .leaves))
       (reading-fits (stateIn (e .link) (e .parts)) (e .parts .receivePool) (length (h .buffer)))
       (h .rest))
 
