@@ -6,4 +6,5 @@ pub mod Simulation
 pub mod RunLaws
 pub mod RefusalLaws
 pub mod AlwaysValid
+pub mod LedgerLaws
 pub mod Demand3
