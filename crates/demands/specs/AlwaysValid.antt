@@ -4,7 +4,7 @@
 use mathlib.Core.Path.{_≡_, sym, _∙_}
 use mathlib.Core.Bool.{true}
 use mathlib.Core.List.{List}
-use Prim.Native.Nat.{ℕ, _^_, _<_}
+use Prim.Native.Nat.{_^_, _<_}
 use Rattle.protocol.specs.Ranges.{inRange, mss}
 use Rattle.protocol.specs.declared.Settings.{Settings}
 use Rattle.sizes.specs.Sizes.{enough}
@@ -13,9 +13,8 @@ use Rattle.session.specs.Calls.{Call, Answer, Event, own}
 use Rattle.session.specs.Decides.{All}
 use Rattle.calls.specs.Parts.{lengthsOf, stateIn, isMade}
 use Rattle.calls.specs.Outcomes.{tellsWith, tells}
-use Rattle.calls.specs.Promises.{SizePromise}
 use Rattle.delivery.specs.Hearing.{CallFits}
-use Rattle.demands.specs.Steps.{Endpoint, Called, Runs, start, next, SinceOpening}
+use Rattle.demands.specs.Steps.{Endpoint, Runs, start, next, SinceOpening}
 use Rattle.demands.specs.Stations.{stationOf}
 use Rattle.demands.specs.Claims.{ShortBuffer, Passes, Each}
 use Rattle.demands.specs.Simulation.{Kept, is-made, is-long, own-call, kept-call}
@@ -46,7 +45,7 @@ module _ (c : Settings) (range : inRange c ≡ true) (conv : c .conv < 2 ^ 32) w
 
   each-answered : {e e′ : Endpoint} {xs : List Call} {events : List Event} (r : Runs e xs events e′) → All CallFits xs → Kept c e → Each Answered r
   each-answered start fits k = tt
-  each-answered (next {e = e} {e′ = e′} {x = x} {a = a} h r) fits k =
+  each-answered (next e x a e′ h r) fits k =
       (answered e k x a (own-call c range conv e k x a e′ (fits .0) h .answer), each-answered r (fits .1) (kept-call c range conv e k x a e′ (fits .0) h))
 
 -- each call of any list passes the checks of 7 and 13, and so does the block that they leave

@@ -9,7 +9,7 @@ use Rattle.protocol.specs.declared.Settings.{Settings}
 use Rattle.protocol.specs.declared.Refusal.the-variants.{ShortPart, InvalidBlock}
 use Rattle.session.specs.Calls.{Call, Answer, Event, acceptedList, readAnswers, messagesRead}
 use Rattle.delivery.specs.PlainReceiver.{Found, atFirst, segmentsOf, plainAfter, plainAnswers}
-use Rattle.delivery.specs.Hearing.{Seen, seen, found, Begins, Missing}
+use Rattle.delivery.specs.Hearing.{seen, found, Begins, Missing}
 use Rattle.delivery.specs.Ledger.{usedSlots, acknowledgedBy}
 use Rattle.answers.specs.declared.Count.the-variants as count
 use Rattle.calls.specs.Parts.{stateIn}
@@ -34,14 +34,14 @@ pub record Passes (short : Type 0) (a : Answer) : Type 0 where
 -- of each call of a list
 abbrev pub Each : (Endpoint → Call → Answer → Type 0) → {e e′ : Endpoint} {xs : List Call} {events : List Event} → Runs e xs events e′ → Type 0
 Each P start = Unit {0}
-Each P (next {e = e} {x = x} {a = a} h r) = P e x a × Each P r
+Each P (next e x a e′ h r) = P e x a × Each P r
 
 -- ---- the ledger
 
 -- the segments acknowledged by the calls of a list: each call gets the endpoint as the last one left it
 unfoldable pub segmentsAcknowledged : {e e′ : Endpoint} {xs : List Call} {events : List Event} → Runs e xs events e′ → ℕ
 segmentsAcknowledged start = 0
-segmentsAcknowledged (next {e = e} {x = x} {a = a} h r) = acknowledgedBy (stationOf e) x a + segmentsAcknowledged r
+segmentsAcknowledged (next e x a e′ h r) = acknowledgedBy (stationOf e) x a + segmentsAcknowledged r
 
 -- used send slots equal the fragments accepted less the segments acknowledged
 abbrev pub Ledger : Settings → List Event → Endpoint → ℕ → Type 0

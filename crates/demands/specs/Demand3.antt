@@ -12,16 +12,15 @@
 -- answered as the plain receiver's; and a receiver's read finds nothing exactly when no next message was accepted, or a segment of it has
 -- never been fed while below the next expected number plus 128 (`Receives`).
 -- Assumes nothing.
-use mathlib.Core.Path.{_≡_, sym, ap, _∙_, subst}
+use mathlib.Core.Path.{ap, subst}
 use mathlib.Core.List.{List}
 use Prim.Native.Nat.{ℕ}
 use Rattle.protocol.specs.declared.Settings.{Settings}
-use Rattle.session.specs.Calls.{Station, Stepped, Call, Answer, Event, step, history, after, acceptedList, datagramsBy}
-use Rattle.delivery.specs.PlainReceiver.{Found}
+use Rattle.session.specs.Calls.{Stepped, Call, Event, history, acceptedList, datagramsBy}
 use Rattle.delivery.specs.Hearing as hearing
-use Rattle.delivery.specs.Hearing.{FewPushes, FedWith, HearsMore, Missing}
+use Rattle.delivery.specs.Hearing.{FewPushes, FedWith, HearsMore}
 use Rattle.delivery.specs.Demand3 as delivery
-use Rattle.demands.specs.Steps.{Endpoint, Called, SinceOpening}
+use Rattle.demands.specs.Steps.{Endpoint, SinceOpening}
 use Rattle.demands.specs.Stations.{stationOf}
 use Rattle.demands.specs.Claims.{Receives, NoneLost}
 use Rattle.demands.specs.Simulation.{step-call}
@@ -59,7 +58,10 @@ demand-3 c calls firsts seconds events heard₁ heard₂ sender first second h h
     let d = delivery.demand-3 c (taken h) (stationOf (h .first)) (stationOf (h₁ .first)) (stationOf (h₂ .first))
     (opens-station c (h .first) (h .opens)) (opens-station c (h₁ .first) (h₁ .opens)) (opens-station c (h₂ .first) (h₂ .opens))
     calls firsts seconds (h .fits) (h₁ .fits) (h₂ .fits)
-    (rw (f .events-are) at few) (rw (f .events-are) at fed₁) (rw (f .events-are) at fed₂) more in
+    (subst (λ (l : List Event). FewPushes c (datagramsBy l)) (f .events-are) few)
+    (subst (λ (l : List Event). FedWith (datagramsBy l) firsts) (f .events-are) fed₁)
+    (subst (λ (l : List Event). FedWith (datagramsBy l) seconds) (f .events-are) fed₂)
+    more in
     rw (f .events-are)
     (record {
       first-receives = receives (acceptedList (history (stationOf (h .first)) calls)) h₁ (d .first-receives);

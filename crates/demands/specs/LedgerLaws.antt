@@ -1,14 +1,14 @@
 -- The ledger of document 01: used send slots equal the fragments accepted less the segments acknowledged, over any calls since opening.
 -- From the promises of the public calls alone: the slots are those that the block holds, the fragments those of the sends that were accepted.
 -- Assumes nothing.
-use mathlib.Core.Path.{_≡_, refl, sym, ap, _∙_}
+use mathlib.Core.Path.{_≡_, refl, ap}
 use mathlib.Core.Bool.{true}
 use mathlib.Core.List.{List}
-use Prim.Native.Nat.{ℕ, _^_, _+_, _<_}
+use Prim.Native.Nat.{_^_, _+_, _<_}
 use native.Mathlib.Omega.{arith}
 use Rattle.protocol.specs.Ranges.{inRange, mss}
 use Rattle.protocol.specs.declared.Settings.{Settings}
-use Rattle.session.specs.Calls.{Station, Call, Event, history, after, acceptedList, step}
+use Rattle.session.specs.Calls.{Station, Call, Event, acceptedList}
 use Rattle.session.specs.Decides.{All}
 use Rattle.calls.specs.Parts.{stateIn}
 use Rattle.delivery.specs.PlainReceiver.{segmentsOf}
@@ -28,7 +28,7 @@ acknowledged-same : (c : Settings) → inRange c ≡ true → c .conv < 2 ^ 32 �
     → segmentsAcknowledged r ≡ station.segmentsAcknowledged (stationOf e) xs
 unfolding segmentsAcknowledged station.segmentsAcknowledged
 acknowledged-same c range conv start fits k = refl
-acknowledged-same c range conv (next {e = e} {e′ = e′} {x = x} {a = a} h r) fits k =
+acknowledged-same c range conv (next e x a e′ h r) fits k =
     rw (step-call c range conv e k x a e′ (fits .0) h, acknowledged-same c range conv r (fits .1) (kept-call c range conv e k x a e′ (fits .0) h))
 
 -- the fragments accepted are those of the station's sends

@@ -1,6 +1,6 @@
 -- Which refusals a call gives that passes the checks of 7 and 13: never 13, and 7 only for a read's buffer.
 -- Assumes nothing.
-use mathlib.Core.Path.{_≡_, refl, sym, ap, _∙_, subst}
+use mathlib.Core.Path.{_≡_, refl, sym, ap, _∙_}
 use mathlib.Core.Bool.{Bool, true, false, cond, not, _&&_, true≢false}
 use mathlib.Core.List.{List, [], _∷_, _++_}
 use Prim.Native.Nat.{ℕ, zero, suc, _+_, _-_, _*_, _<_}
@@ -11,7 +11,6 @@ use borrow.Author.Tests.{leb-false, not-true}
 use Rattle.protocol.specs.Protocol.{push, windowTell, headerSize, fragmentMost, sendSlots, fragmentsMost, receiveWindow}
 use Rattle.protocol.specs.Ranges.{mss}
 use Rattle.protocol.specs.Refusals.{numberOf}
-use Rattle.protocol.specs.declared.Refusal.{Refusal}
 use Rattle.protocol.specs.declared.Refusal.the-variants.{ShortPart, ShortDatagram, OtherConversation, LengthPastEnd, UnknownCommand, LongPayload, HighFragment, FullUnreadable, NoMessage, LongMessage, NoFreeSlots}
 use Rattle.wire.specs.Headers.{decode}
 use Rattle.wire.specs.declared.Header.{Header}

@@ -1,11 +1,10 @@
 -- Lists of calls since an accepted opening: their answers are the station's, and so is what they leave.
 -- Assumes nothing.
-use mathlib.Core.Path.{_≡_, refl, sym, ap, _∙_}
-use mathlib.Core.Bool.{Bool, true, false, cond, _&&_}
-use mathlib.Core.List.{List, _∷_}
+use mathlib.Core.Path.{_≡_, refl}
+use mathlib.Core.Bool.{Bool, true, false, cond}
+use mathlib.Core.List.{List}
 use Prim.Native.Nat.{ℕ, _^_, _≤_, _<_}
 use native.Mathlib.Omega.{arith}
-use lib.Dec.{leb}
 use lib.ListN.{length}
 use borrow.Author.Tests.{le-leb}
 use Rattle.protocol.specs.Protocol.{outputLeast, lengthsLeast}
@@ -16,11 +15,10 @@ use Rattle.protocol.specs.declared.Refusal.the-variants.{ShortPart, SettingOutO
 use Rattle.sizes.specs.Sizes.{enough, enoughToFlush}
 use Rattle.session.specs.State.{Outcome}
 use Rattle.session.specs.Opening.{opened, opening}
-use Rattle.session.specs.Calls.{Call, Event, history, after, step}
+use Rattle.session.specs.Calls.{Call, Event, history, after}
 use Rattle.session.specs.Decides.{All}
 use Rattle.block.specs.Views.{countsFit}
 use Rattle.block.specs.declared.Link.{Link}
-use Rattle.answers.specs.declared.Answer as given
 use Rattle.answers.specs.declared.Answer.the-variants as answer
 use Rattle.calls.specs.Parts.{Parts, lengthsOf, stateIn}
 use Rattle.calls.specs.Answers.{Accepts}
@@ -86,7 +84,7 @@ module _ (c : Settings) (range : inRange c ≡ true) (conv : c .conv < 2 ^ 32) w
   pub follows : {e e′ : Endpoint} {xs : List Call} {events : List Event} → Runs e xs events e′ → All CallFits xs → Kept c e → Follows c e xs events e′
   unfolding history after
   follows start fits k = record { events-are = refl; now = refl; kept = k }
-  follows (next {e = e} {e′ = e′} {x = x} {a = a} h r) fits k =
+  follows (next e x a e′ h r) fits k =
       let s = step-call c range conv e k x a e′ (fits .0) h in
       let f = follows r (fits .1) (kept-call c range conv e k x a e′ (fits .0) h) in
       record { events-are = rw (s, f .events-are); now = rw s (f .now); kept = f .kept }

@@ -1,43 +1,40 @@
 -- A call that keeps its promise is the station's own call: the same answer, and the station that the endpoint then stands for.
 -- Assumes nothing.
 use mathlib.Core.Path.{_≡_, refl, sym, ap, _∙_}
-use mathlib.Core.Bool.{Bool, true, false, cond, _&&_}
+use mathlib.Core.Bool.{Bool, true, false, cond}
 use mathlib.Core.List.{List, map}
 use Prim.Native.Nat.{ℕ, _^_, _≤_, _<_}
 use native.Mathlib.Omega.{arith}
 use lib.Dec.{leb}
-use lib.ListN.{length, take, length-map}
+use lib.ListN.{length, length-map}
 use borrow.Author.Tests.{leb-true}
 use Rattle.protocol.specs.Ranges.{inRange, mss}
 use Rattle.protocol.specs.declared.Settings.{Settings}
 use Rattle.protocol.specs.declared.Refusal.the-variants.{ShortPart}
 use Rattle.sizes.specs.Sizes.{enough, enoughToFlush}
-use Rattle.sizes.specs.declared.Lengths.{Lengths}
-use Rattle.lists.specs.declared.Sent.{Sent}
 use Rattle.session.specs.State.{State, Outcome}
 use Rattle.session.specs.Valid.{valid}
 use Rattle.session.specs.Sending.{Sends, sending}
 use Rattle.session.specs.Input.{Took, input}
 use Rattle.session.specs.Flushing.{Flushed, flushing, bytesOfSegments}
 use Rattle.session.specs.Reading.{Reads, readable, unreadable, messageSize, message, afterRead, withReceiving, reading}
-use Rattle.session.specs.Calls.{Station, Lent, Call, Answer, Stepped, afterSend, afterTakeIn, afterFlush, afterReading, own, longEnough, step}
+use Rattle.session.specs.Calls.{Call, Answer, Stepped, afterSend, afterTakeIn, afterFlush, afterReading, own, step}
 use Rattle.block.specs.Views.{stateOf, countsFit, blockValid}
-use Rattle.block.specs.declared.Link.{Link}
 use Rattle.records.specs.TableLaws.{scattered-length}
 use Rattle.packing.specs.Packers.{joined}
 use Rattle.answers.specs.declared.Answer as given
 use Rattle.answers.specs.declared.Count.{Count}
 use Rattle.answers.specs.declared.Count.the-variants as count
-use Rattle.calls.specs.Parts.{Parts, lengthsOf, recordsOf, stateIn, isMade, Stands, Unchanged}
+use Rattle.calls.specs.Parts.{Parts, lengthsOf, stateIn, isMade, Unchanged}
 use Rattle.calls.specs.Outcomes.{sendsWith, takesInWith, flushesWith, readsWith, sends, takesIn, flushes, reads}
 use Rattle.calls.specs.Answers.{Accepts, Counts}
-use Rattle.calls.specs.Promises.{Queues, SendLeaves, TookIn, InputLeaves, Flushes, FlushLeaves, ReadIt, ReadLeaves}
+use Rattle.calls.specs.Promises.{SendLeaves, InputLeaves, Flushes, ReadLeaves}
 use Rattle.delivery.specs.Hearing.{CallFits}
 use Rattle.delivery.specs.Passing.{step-own}
 use Rattle.delivery.specs.FlushLaws.{flush-writes}
 use Rattle.delivery.specs.ReceivingLaws.{flush-enough}
 use Rattle.delivery.specs.AlwaysValid.{InOrder, in-order-valid, in-order-long, in-order-stays}
-use Rattle.demands.specs.Steps.{Endpoint, NoOutput, acceptance, cutBy, datagramsSeen, messageSeen, Called}
+use Rattle.demands.specs.Steps.{Endpoint, NoOutput, acceptance, datagramsSeen, messageSeen, Called}
 use Rattle.demands.specs.Stations.{stationOf}
 use Rattle.demands.specs.OutputLaws.{front-again, joined-flatten, output-long, lengths-long, output-cut, output-room, message-short}
 

@@ -1,5 +1,6 @@
--- Calls of a link and lists of them, as the caller has them: a step is exactly what the public call promises (crate `calls`, Promises),
--- and its answer is what the caller sees: the answer given, the output cut by the lengths, the buffer read.
+-- Calls of a link and lists of them, as a caller has them. A step is exactly what the public call promises (crate `calls`, Promises); each
+-- public call gives one, for all inputs. Its answer is what the caller sees: the answer given, the output cut by the lengths, the first
+-- bytes of the buffer.
 -- Assumes nothing.
 use mathlib.Core.Path.{_≡_}
 use mathlib.Core.List.{List, [], _∷_}
@@ -93,7 +94,7 @@ Called e (Call.read room) a e′ = Read room e a e′
 -- each call gets block and parts as the last one left them
 pub data Runs : Endpoint → List Call → List Event → Endpoint → Type 0 where
   start : {e : Endpoint} → Runs e [] [] e
-  next : {e e′ e″ : Endpoint} {x : Call} {a : Answer} {xs : List Call} {events : List Event}
+  next : (e : Endpoint) (x : Call) (a : Answer) (e′ : Endpoint) {xs : List Call} {events : List Event} {e″ : Endpoint}
       → Called e x a e′ → Runs e′ xs events e″ → Runs e (x ∷ xs) (record { call = x; answer = a } ∷ events) e″
 
 -- an accepted opening with the settings c, whatever block and bytes were there, with output and lengths for a flush
