@@ -9,10 +9,10 @@ use borrow.Author.Tests.{eq-eqb, ne-eqb}
 use Rattle.protocol.specs.Protocol.{deadAfter}
 use Rattle.protocol.specs.Serial.{isDue}
 use Rattle.protocol.specs.declared.Settings.{Settings}
 use Rattle.timing.specs.Choices.{either-way}
 use Rattle.timing.specs.RoundTripLaws.{least-most}
 use Rattle.timing.specs.TimeRanges.{TimeoutInRange, RecordInRange, RecordFits}
-use Rattle.timing.specs.Transmissions.{
+use Rattle.retransmission.specs.Transmissions.{
   firstDue,
   firstTransmission,
   longerTimeout,
@@ -25,8 +25,8 @@ use Rattle.timing.specs.Transmissions.{
   transmission,
   skipped,
 }
 use Rattle.timing.specs.declared.Record.{Record}
-use Rattle.timing.specs.declared.Transmission.{Transmission}
+use Rattle.retransmission.specs.declared.Transmission.{Transmission}
 
 longer-in-range : (mode own link : ℕ) → TimeoutInRange mode own → TimeoutInRange mode (longerTimeout mode own link)
 unfolding longerTimeout

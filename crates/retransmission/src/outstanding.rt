@@ -1,13 +1,13 @@
 // What a flush does with an outstanding segment, and a skip with its record.
 // `own` is the timeout of the segment, `link` that of the link; `old` is the record before.
-use crate::Record;
 use crate::Transmission;
 use crate::number;
 use protocol::Protocol;
 use protocol::Settings;
 use protocol::serial;
+use timing::Record;
 ghost use mathlib.Core.Path.{_≡_};
-ghost use Rattle.timing.specs.Transmissions.{
+ghost use Rattle.retransmission.specs.Transmissions.{
   firstDue,
   firstTransmission,
   growth,
@@ -49,7 +49,7 @@ fn growth(mode: u8, own: u32, link: u32) -> u32
     ensures { λ r. ⌜ r ≡ growth mode own link ⌝ }
 {
     if mode == 0 {
-        return number::narrow(number::larger(number::wide(own), number::wide(link)));
+        return number::larger(own, link);
     }
     if mode == 1 {
         return own / 2;
@@ -62,10 +62,7 @@ fn longer_timeout(mode: u8, own: u32, link: u32) -> u32
     ensures { λ r. ⌜ r ≡ longerTimeout mode own link ⌝ }
 {
     let more = growth(mode, own, link);
-    number::capped(
-        Protocol::TIMEOUT_MOST,
-        number::wide(own) + number::wide(more),
-    )
+    number::sum_to(Protocol::TIMEOUT_MOST, own, more)
 }
 
 // The record of a segment that is due, sent at t.
@@ -154,7 +151,7 @@ pub fn transmission(
 pub fn skipped(old: Record) -> Record
     ensures { λ r. ⌜ r ≡ skipped old ⌝ }
 {
-    let skips = number::capped(Protocol::SKIPS_MOST, number::wide(old.skips) + 1);
+    let skips = number::sum_to(Protocol::SKIPS_MOST, old.skips, 1);
     Record {
         number: old.number,
         due: old.due,

@@ -7,8 +7,8 @@ use lib.Dec.{eqb, ltb, leb}
 use Rattle.protocol.specs.Protocol.{timeoutMost, deadAfter, fastMost, skipsMost}
 use Rattle.protocol.specs.Serial.{plus, isDue}
 use Rattle.protocol.specs.declared.Settings.{Settings}
 use Rattle.timing.specs.declared.Record.{Record}
-use Rattle.timing.specs.declared.Transmission.{Transmission}
+use Rattle.retransmission.specs.declared.Transmission.{Transmission}
 
 -- due = t + timeout, plus an eighth of it rounded down in mode 0
 unfoldable pub firstDue : ℕ → ℕ → ℕ → ℕ
