@@ -9,7 +9,7 @@ use mir.Syntax.{w32}
 use mir.Val.{SFits, toZ, ofZ}
 use mir.ValLaws.{toZ-ofZ}
 use Rattle.protocol.specs.Refusals.{numberOf}
-use Rattle.codes.specs.Codes.{refusalCode}
+use Rattle.codes.specs.Codes.{refusalCode, sizeCode}
 use Rattle.protocol.specs.declared.Refusal.{Refusal}
 use Rattle.protocol.specs.declared.Refusal.the-variants.{
   ShortDatagram,
@@ -52,6 +52,10 @@ negative-fits (suc n) h = record { sfits = rw (lt-ltb 0 (suc n) (omega arith)) (
 pub code-fits : (r : Refusal) → SFits w32 (refusalCode r)
 code-fits r = negative-fits (numberOf r) (number-small r)
 
+-- a count that is told fits
+pub size-fits : (n : ℕ) → SFits w32 (sizeCode n)
+size-fits n = record { sfits = omega arith }
+
 -- a code that a function gave is the code that it is passed on as
-pub passed : (z : ℤ) (r : Refusal) → z ≡ refusalCode r → toZ w32 (ofZ w32 z) ≡ refusalCode r
-passed z r e = toZ-ofZ w32 z (rw e (code-fits r)) ∙ e
+pub passed : {y : ℤ} (z : ℤ) → SFits w32 y → z ≡ y → toZ w32 (ofZ w32 z) ≡ y
+passed z fits e = toZ-ofZ w32 z (rw e fits) ∙ e

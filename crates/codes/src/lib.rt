@@ -7,12 +7,16 @@ use calls::Counted;
 use protocol::Protocol;
 use protocol::Refusal;
 use protocol::Settings;
+use show_call::Place;
 ghost use mathlib.Core.Path.{_≡_};
 ghost use Prim.Native.Nat.{min};
-ghost use Rattle.codes.specs.Codes.{refusalCode, answerCode, countCode, settingsOf};
+ghost use Rattle.codes.specs.Codes.{refusalCode, answerCode, sizeCode, countCode, placeCode, placeStart, settingsOf};
 
 // A count is told up to this one.
 const COUNT_MOST: usize = 2147483647;
+
+// A start is told up to this one.
+const START_MOST: usize = 4294967295;
 
 // The refusal's number, below zero.
 fn refusal_code(refusal: Refusal) -> i32
@@ -32,18 +36,23 @@ pub fn answer_code(answer: Answer) -> i32
     }
 }
 
+// A count.
+fn size_code(n: usize) -> i32
+    ensures { λ r. ⌜ r ≡ sizeCode n ⌝ }
+{
+    if n <= COUNT_MOST {
+        n as i32
+    } else {
+        2147483647
+    }
+}
+
 // The count, or the refusal.
 pub fn count_code(count: Count) -> i32
     ensures { λ r. ⌜ r ≡ countCode count ⌝ }
 {
     match count {
-        Count::Of(n) => {
-            if n <= COUNT_MOST {
-                n as i32
-            } else {
-                2147483647
-            }
-        }
+        Count::Of(n) => size_code(n),
         Count::Refused(refusal) => refusal_code(refusal),
     }
 }
@@ -73,6 +82,15 @@ pub fn counted_code(counted: Counted) -> i32
 {
     let answer = counted.answer;
     count_code(answer)
+}
+
+// A place in the receive pool: its start is stored, its count is returned.
+pub fn tell_place(place: Place, start: &mut u32) -> i32
+    ensures { λ r. ⌜ (r ≡ placeCode place) × (now (start .exit) ≡ placeStart place) ⌝ }
+{
+    let at = place.start;
+    *start = if at < START_MOST { at as u32 } else { 4294967295 };
+    size_code(place.count)
 }
 
 // A number in 16 bits, the largest of them for one beyond.
