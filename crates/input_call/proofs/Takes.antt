@@ -18,7 +18,7 @@ use Rattle.block.specs.declared.Flight.{Flight}
 use Rattle.input.specs.Inputs.{stateWith, outcomeOf, TakenInIs}
 use Rattle.input.specs.declared.TakenIn.{TakenIn}
 use Rattle.calls.specs.Outcomes.{checked}
-use Rattle.input_call.specs.Taking.{halfOf, Stores, WithHalves, Leaves}
+use Rattle.input_call.specs.Taking.{halfOf, Stores, WithHalves, Kept, Leaves}
 use Rattle.input_call.specs.declared.Stored.{Stored}
 use Rattle.input_call.specs.declared.Taken.{Taken}
 use Rattle.input_call.proofs.Blocks.{restOf, state-by-halves, state-after, counts-after}
@@ -56,11 +56,14 @@ module _ (l : Link) (records : List Record) (pool acks : List ℕ) where
       → Leaves (checked long made own) l records pool acks r pool′ acks′
   passes r pool′ acks′ long made own e f h = rw (e, f) h
 
+  untouched : (q : Refusal) → Kept l records pool acks (record { answer = Refused q; link = l; records = records }) pool acks
+  untouched q = record { link = refl; records-same = refl; pool-same = refl; acks-same = refl }
+
   pub invalid : (long made : Bool) (own : Outcome Took) → long ≡ true → made ≡ false
       → Leaves (checked long made own) l records pool acks (record { answer = Refused InvalidBlock; link = l; records = records }) pool acks
-  invalid long made own e f = rw (e, f) (refl, record { link = refl; records-same = refl; pool-same = refl; acks-same = refl })
+  invalid long made own e f = rw (e, f) (refl, untouched InvalidBlock)
 
   -- whatever the block is
   pub short : (long : Bool) (rest : Outcome Took) → long ≡ false
       → Leaves (cond long rest (refused ShortPart)) l records pool acks (record { answer = Refused ShortPart; link = l; records = records }) pool acks
-  short long rest e = rw e (refl, record { link = refl; records-same = refl; pool-same = refl; acks-same = refl })
+  short long rest e = rw e (refl, untouched ShortPart)

@@ -17,7 +17,7 @@ use Rattle.timing.specs.declared.Record.{Record}
 use Rattle.lists.specs.Views.{heldOf, waitingOf, waitingPart}
 use Rattle.lists.specs.declared.Held.{Held}
 use Rattle.session.specs.State.{Ack, Receiving, State, Outcome, refused, done}
-use Rattle.session.specs.Decides.{All, and-parts}
+use Rattle.session.specs.Decides.{and-parts}
 use Rattle.session.specs.AllLaws.{all-left}
 use Rattle.session.specs.IsValid.{valid-decides}
 use Rattle.session.specs.Reading.{Reads, reading, readable, unreadable, frontCount, lengthOf, joinedIn, message, messageSize, afterRead, withReceiving}
@@ -28,7 +28,7 @@ use Rattle.answers.specs.declared.Count.the-variants.{Of, Refused}
 use Rattle.block.specs.Views.{isSet, pairs, receivingOf, stateOf, countsFit, blockValid}
 use Rattle.block.specs.declared.Link.{Link}
 use Rattle.block.proofs.Whole.{counts}
-use Rattle.reading.specs.Reads.{frontOf, InSlots, InPool, halfOf, ReadIs}
+use Rattle.reading.specs.Reads.{frontOf, InPool, halfOf, ReadIs}
 use Rattle.reading.specs.declared.AfterRead.{AfterRead}
 use Rattle.reading.proofs.Fronts.{in-slot}
 use Rattle.reading.proofs.Copies.{in-pool-take}

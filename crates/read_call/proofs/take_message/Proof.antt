@@ -4,7 +4,6 @@ use mathlib.Core.Path.{refl, sym, ap, _∙_}
 use borrow.Author.Needs.{needs}
 use Rattle.block.proofs.Whole.{counts}
 use Rattle.calls.specs.Answers.{countOutcome}
-use Rattle.lists.specs.Views.{heldOf}
 use Rattle.read_call.proofs.Takes.{fitting-fits, taken, kept}
 use Rattle.read_call.proofs.take_message.Statement.{statement}
 use Rattle.read_call.proofs.take_message.Tie as tie
