@@ -56,6 +56,9 @@ pub gathers : (l : Link) (p : Parts) (list : OutstandingList) (records : List Re
 gathers l p list records n e-list e-records e-n =
     record { padding = e-records ∙ ap (λ (k : OutstandingList). padded (gathered (p .table) (slotsOf (outstandingOf k)))) e-list; len = e-n }
 
+pub gathered-so : (l : Link) (p : Parts) → Gathers l p (padded (recordsOf l p)) (length (p .table))
+gathered-so l p = record { padding = refl; len = refl }
+
 module _ (l : Link) (p : Parts) (records : List Record) (n : ℕ) (g : Gathers l p records n) where
   pub state-gathered : stateOf l records (p .acks) ≡ stateIn l p
   state-gathered = ap (λ (r : List Record). stateOf l r (p .acks)) (g .padding) ∙ state-padded l p

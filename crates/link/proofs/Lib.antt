@@ -1,5 +1,8 @@
 pub mod Gathered
 pub mod Scattered
 pub mod SlotsAfter
+pub mod Checked
 pub mod Asking
-pub mod Sends
+pub mod Sending
+pub mod Reading
+pub mod TakingIn

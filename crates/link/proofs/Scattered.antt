@@ -21,9 +21,10 @@ use Rattle.block.specs.declared.Link.{Link}
 use Rattle.block.proofs.Whole.{counts}
 use Rattle.records.specs.Tables.{slotsOf, gathered, padded, scattered}
 use Rattle.records.specs.TableLaws.{NoneTwice, AllBelow, gathered-scattered, scattered-append, scattered-padded}
-use Rattle.calls.specs.Parts.{Parts, recordsOf}
+use Rattle.calls.specs.Parts.{Parts, recordsOf, Stands}
 use Rattle.calls.specs.Promises.{tableOf}
-use Rattle.link.proofs.Gathered.{Gathers, state-joined}
+use Rattle.link.proofs.Gathered.{state-joined}
+use Rattle.link.specs.Lent.{partsOf}
 
 -- the slots of a state's outstanding segments
 abbrev pub outstandingSlots : State → List ℕ
@@ -53,6 +54,20 @@ scattered-take table slots rs h =
     sym (scattered-append table slots (take (length slots) rs) (drop (length slots) rs) (simp length-take (omega arith)))
     ∙ ap (scattered table slots) (take-append-drop (length slots) rs)
 
+-- ---- what scattering left
+
+-- the table with a block's records, 32 by value, put back
+pub record PutBack (table : List Record) (l : Link) (records : List Record) (table′ : List Record) : Type 0 where
+  pub count : length records ≡ 32
+  pub is : table′ ≡ scattered table (slotsOf (outstandingOf (l .flight .outstanding))) records
+
+pub put-back : (table : List Record) (l : Link) (records table′ : List Record) (list : OutstandingList) (given : List Record)
+    → list ≡ l .flight .outstanding → given ≡ records → length given ≡ 32 → table′ ≡ scattered table (slotsOf (outstandingOf list)) given → PutBack table l records table′
+put-back table l records table′ list given e-list e-given few e = record {
+  count = rw (← e-given) few;
+  is = e ∙ ap (λ (k : OutstandingList). scattered table (slotsOf (outstandingOf k)) given) e-list ∙ ap (scattered table (slotsOf (outstandingOf (l .flight .outstanding)))) e-given;
+}
+
 -- ---- a block after a call, with its records put back
 
 module _ (l : Link) (records : List Record) (acks : List ℕ) (fits : countsFit l ≡ true) (few : length records ≡ 32) where
@@ -73,22 +88,30 @@ module _ (l : Link) (records : List Record) (acks : List ℕ) (fits : countsFit 
   unfolding stateOf
   state-records = joined-records segments records enough-records ∙ ap (λ (n : ℕ). take n records) (sym (length-map segments (λ (o : Outstanding). o .held .slot)))
 
-  -- the table that is promised
-  pub table-after : (table : List Record) → scattered table (slotsOf segments) records ≡ tableOf table (stateOf l records acks)
-  table-after table = sym (rw (state-slots, state-records) (scattered-take table (slotsOf segments) records enough-slots))
+  table-promised : (table : List Record) → scattered table (slotsOf segments) records ≡ tableOf table (stateOf l records acks)
+  table-promised table = sym (rw (state-slots, state-records) (scattered-take table (slotsOf segments) records enough-slots))
 
-  -- the state, in the new table
-  pub state-after : (table : List Record) → SlotsFit (outstandingSlots (stateOf l records acks)) → sendSlots ≤ length table
+  state-again : (table : List Record) → SlotsFit (outstandingSlots (stateOf l records acks)) → sendSlots ≤ length table
       → stateOf l (gathered (scattered table (slotsOf segments) records) (slotsOf segments)) acks ≡ stateOf l records acks
-  state-after table s long =
+  state-again table s long =
       let once : NoneTwice (slotsOf segments) = rw state-slots at (s .once) in
       let below : AllBelow sendSlots (slotsOf segments) = rw state-slots at (s .below) in
       let again = gathered-scattered table (slotsOf segments) records once (λ i h. omega (arith, below i h)) enough-slots in
       state-joined l _ records acks
       (ap (joined segments) (again ∙ ap (λ (n : ℕ). take n records) (length-map segments (λ (o : Outstanding). o .held .slot))) ∙ joined-take segments records)
 
+module _ (table : List Record) (l : Link) (records table′ : List Record) (b : PutBack table l records table′) (acks : List ℕ) (fits : countsFit l ≡ true) (x : State) (e : stateOf l records acks ≡ x) where
+  -- the table that is promised
+  pub table-after : table′ ≡ tableOf table x
+  table-after = b .is ∙ table-promised l records acks fits (b .count) table ∙ ap (tableOf table) e
+
+  -- the block stands for the state in the new table
+  pub stands-after : (sendPool receivePool : List ℕ) → SlotsFit (outstandingSlots x) → sendSlots ≤ length table → Stands l (partsOf sendPool receivePool table′ acks) x
+  stands-after sendPool receivePool s long =
+      let again = state-again l records acks fits (b .count) table (rw (← e) at s) long in
+      record { counts = fits; state = ap (λ (t : List Record). stateOf l (gathered t (slotsOf (outstandingOf (l .flight .outstanding)))) acks) (b .is) ∙ again ∙ e }
+
 -- ---- nothing changed
 
-pub table-same : (l : Link) (p : Parts) (records : List Record) (n : ℕ) → Gathers l p records n → scattered (p .table) (slotsOf (outstandingOf (l .flight .outstanding))) records ≡ p .table
-table-same l p records n g =
-    ap (scattered (p .table) (slotsOf (outstandingOf (l .flight .outstanding)))) (g .padding) ∙ scattered-padded (p .table) (slotsOf (outstandingOf (l .flight .outstanding)))
+pub table-same : (l : Link) (p : Parts) (l′ : Link) (records table′ : List Record) → PutBack (p .table) l′ records table′ → l′ ≡ l → records ≡ padded (recordsOf l p) → table′ ≡ p .table
+table-same l p l′ records table′ b e-l e-r = b .is ∙ rw (e-l, e-r) (scattered-padded (p .table) (slotsOf (outstandingOf (l .flight .outstanding))))

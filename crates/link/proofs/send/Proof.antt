@@ -23,10 +23,10 @@ use Rattle.records.specs.Tables.{slotsOf, gathered, padded}
 use Rattle.calls.specs.Parts.{lentLengths}
 use Rattle.calls.specs.Outcomes.{sendsWith}
 use Rattle.calls.specs.Promises.{SendPromise}
-use Rattle.send_call.specs.Sent.{Leaves}
+use Rattle.send_call.specs.Sent.{Leaves as SendLeft}
 use Rattle.link.specs.Lent.{partsOf}
 use Rattle.link.proofs.Gathered.{gathers}
-use Rattle.link.proofs.Sends.{send-promised}
+use Rattle.link.proofs.Sending.{send-promised}
 use Rattle.block.proofs.Link.outstanding as outstanding
 use Rattle.block.proofs.Link.outstanding.Symbol as outstanding-def
 use Rattle.block.proofs.Link.outstanding.Met as outstanding-thm
@@ -153,7 +153,7 @@ module _ {M : Type 1} (𝓤 : URA M) (H : Heap 𝓤) (A : Atoms 𝓤) (W : Given
         -- [tok3; tok5; tok4; tok2; tok1; own5; own4; own2; own1; the locals]
         assigns ! (addr ! (from ! (fld ! refl (hop ! (look-in ! 27 (sub ! 0 refl (whole !))) (stop !))))) (from ! (stop !)) (init ! 11 refl (tt, tt)) $
         assigns ! (agg ! (and-then ! (load ! (from ! (stop !)) (look ! 11 refl)) (and-then ! (load ! (from ! (fld ! refl (stop !))) (look-in ! 27 (sub ! 1 refl (whole !)))) (no-more !)))) (from ! (stop !)) (init ! 9 refl (tt, (tt, (record { fits = room₁ .0 }, tt)))) $
-        move ! (4 ∷ 8 ∷ 3 ∷ 7 ∷ 2 ∷ 6 ∷ 1 ∷ 5 ∷ []) $ group ! 8 $ calls-fn ! fm core.ended (core.clauses 𝓤 H A at-mem run) (known .3) (to-core x₀ v₀ recs w₂ n w₃) (λ a ws. Leaves (sendsWith x₀ recs (x₄ .now) (lentLengths n (x₁ .now) (x₂ .now) (x₄ .now)) (x₁ .now) (x₅ .now)) x₀ recs (x₄ .now) (x₁ .now) a (ws .1 .1 .1 .0)) (‵ (flft κ₀ q₀) ⊛ ‵ Own₁ ⊛ ‵ (flft κ₁ q₁) ⊛ ‵ Own₂ ⊛ ‵ (flft κ₃ q₃) ⊛ ‵ Own₄ ⊛ ‵ (flft κ₄ q₄) ⊛ ‵ Own₅)
+        move ! (4 ∷ 8 ∷ 3 ∷ 7 ∷ 2 ∷ 6 ∷ 1 ∷ 5 ∷ []) $ group ! 8 $ calls-fn ! fm core.ended (core.clauses 𝓤 H A at-mem run) (known .3) (to-core x₀ v₀ recs w₂ n w₃) (λ a ws. SendLeft (sendsWith x₀ recs (x₄ .now) (lentLengths n (x₁ .now) (x₂ .now) (x₄ .now)) (x₁ .now) (x₅ .now)) x₀ recs (x₄ .now) (x₁ .now) a (ws .1 .1 .1 .0)) (‵ (flft κ₀ q₀) ⊛ ‵ Own₁ ⊛ ‵ (flft κ₁ q₁) ⊛ ‵ Own₂ ⊛ ‵ (flft κ₃ q₃) ⊛ ‵ Own₄ ⊛ ‵ (flft κ₄ q₄) ⊛ ‵ Own₅)
         (asks-core x₀ v₀ g₀ recs w₂ is-recs n w₃ is-n) (λ a ws. id⊢ 𝓤 _)
         (and-then ! (load ! (from ! (stop !)) (look ! 22 refl)) (and-then ! (load ! (from ! (stop !)) (look ! 10 refl)) (and-then ! (load ! (from ! (stop !)) (look ! 8 refl)) (and-then ! (load ! (from ! (stop !)) (look ! 2 refl)) (and-then ! (load ! (from ! (stop !)) (look ! 18 refl)) (and-then ! (load ! (from ! (stop !)) (look ! 14 refl)) (and-then ! (load ! (from ! (stop !)) (look ! 12 refl)) (no-more !)))))))) (λ a w₄ ws e-a is-a. land ! (from ! (stop !)) (init ! 25 refl (LL.lawful N.the-type N′.the-laws 𝓤 H A W .typed a (w₄ ∷ []) is-a .0)) $
         use1 W (‵ (flft κ₀ q₀) ⊛ ‵ (flft κ₁ q₁) ⊛ ‵ (flft κ₃ q₃) ⊛ ‵ (flft κ₄ q₄) ⊛ ‵ ftrue) (id⊢ 𝓤 _) $ split ! $ move ! (1 ∷ []) $ split ! $ move ! (1 ∷ []) $ split ! $ move ! (1 ∷ []) $ split ! $ move ! (1 ∷ []) $ drop ! $ move ! (4 ∷ []) $ fsplit ! $ drop ! $ fsplit ! $ drop ! $ fsplit ! $ drop ! $ fsplit ! $ fsplit ! $ move ! (1 ∷ []) $ feqL ! (λ len₁. move ! (1 ∷ []) $ drop ! $ 
