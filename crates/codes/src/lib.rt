@@ -15,9 +15,6 @@ ghost use Rattle.codes.specs.Codes.{refusalCode, answerCode, sizeCode, c
 // A count is told up to this one.
 const COUNT_MOST: usize = 2147483647;
 
-// A start is told up to this one.
-const START_MOST: usize = 4294967295;
-
 // The refusal's number, below zero.
 fn refusal_code(refusal: Refusal) -> i32
     ensures { λ r. ⌜ r ≡ refusalCode refusal ⌝ }
@@ -84,22 +81,25 @@ pub fn counted_code(counted: Counted) -> i32
     count_code(answer)
 }
 
-// A place in the receive pool: its start is stored, its count is returned.
-pub fn tell_place(place: Place, start: &mut u32) -> i32
-    ensures { λ r. ⌜ (r ≡ placeCode place) × (now (start .exit) ≡ placeStart place) ⌝ }
+// A number in 32 bits, the largest of them for one beyond.
+fn narrow32(x: usize) -> u32
+    ensures { λ r. ⌜ r ≡ min x 4294967295 ⌝ }
 {
-    let at = place.start;
-    *start = if at < START_MOST { at as u32 } else { 4294967295 };
-    size_code(place.count)
+    if x < 4294967295 {
+        x as u32
+    } else {
+        4294967295
+    }
 }
 
-// A number in 16 bits, the largest of them for one beyond.
+// In 16 bits.
 fn narrow16(x: u32) -> u16
     ensures { λ r. ⌜ r ≡ min x 65535 ⌝ }
 {
     if x < 65535 { x as u16 } else { 65535 }
 }
 
+// In 8 bits.
 fn narrow8(x: u32) -> u8
     ensures { λ r. ⌜ r ≡ min x 255 ⌝ }
 {
@@ -117,4 +117,12 @@ pub fn settings(conv: u32, mtu: u32, mode: u32, interval: u32, threshold: u32) -
         narrow16(interval),
         narrow8(threshold),
     )
+}
+
+// A place in the receive pool: its start is stored, its count is returned.
+pub fn tell_place(place: Place, start: &mut u32) -> i32
+    ensures { λ r. ⌜ (r ≡ placeCode place) × (now (start .exit) ≡ placeStart place) ⌝ }
+{
+    *start = narrow32(place.start);
+    size_code(place.count)
 }

@@ -13,4 +13,5 @@ returns-2 c = rw (c .before .before .count2 .given .1) (passed _ (code-fits (c .
 
 pub count-code-spec : {M : Type 1} → statement M
 count-code-spec =
-    tie.close (tie.spec (λ c. search needs) (λ c κs. search needs) (λ c κs. search needs) returns returns-2)
+    tie.close
+    (tie.spec (λ c. search needs) (λ c κs. search needs) (λ c. search needs) (λ c κs. search needs) returns returns-2)

@@ -23,4 +23,4 @@ returns-2 c =
     ap pos large
 
 pub size-code-spec : {M : Type 1} → statement M
-size-code-spec = tie.close (tie.spec (λ c. search needs) (λ c. search needs) returns returns-2)
+size-code-spec = tie.close (tie.spec (λ c. search needs) returns returns-2)
