@@ -2,7 +2,7 @@
 // and the refusal's number below zero where it is not. Each is proved by hand.
 use block::Link;
 use timing::Record;
-ghost use Rattle.calls.specs.Promises.{SendPromise, SizePromise};
+ghost use Rattle.calls.specs.Promises.{SendPromise, InputPromise, ReadPromise, SizePromise};
 ghost use Rattle.link.specs.Lent.{partsOf};
 ghost use Rattle.codes.specs.Codes.{answerCode, countCode};
 ghost use Rattle.ampferweg.specs.Gives.{Gives};
@@ -22,6 +22,40 @@ pub extern "C" fn ampferweg_send(
     let a = link::send(*link, send_pool, receive_pool, table, acks, message);
     *link = codes::answered_link(a);
     codes::answered_code(a)
+}
+
+// Taking in a datagram: 0, or the refusal.
+#[no_mangle]
+pub extern "C" fn ampferweg_input(
+    link: &mut Link,
+    send_pool: &[u8],
+    receive_pool: &mut [u8],
+    table: &mut [Record],
+    acks: &mut [u32],
+    datagram: &[u8],
+) -> i32
+    ensures { λ r. ⌜ Gives answerCode (λ a. InputPromise (now (datagram .entry)) (now (link .entry)) (partsOf (now («send_pool» .entry)) (now («receive_pool» .entry)) (now (table .entry)) (now (acks .entry))) a (now (link .exit)) (partsOf (now («send_pool» .entry)) (now («receive_pool» .exit)) (now (table .exit)) (now (acks .exit)))) r ⌝ }
+{
+    let a = link::input(*link, send_pool, receive_pool, table, acks, datagram);
+    *link = codes::answered_link(a);
+    codes::answered_code(a)
+}
+
+// Reading a message: its bytes, or the refusal.
+#[no_mangle]
+pub extern "C" fn ampferweg_read(
+    link: &mut Link,
+    send_pool: &[u8],
+    receive_pool: &[u8],
+    table: &[Record],
+    acks: &[u32],
+    buffer: &mut [u8],
+) -> i32
+    ensures { λ r. ⌜ Gives countCode (λ a. ReadPromise (now (link .entry)) (partsOf (now («send_pool» .entry)) (now («receive_pool» .entry)) (now (table .entry)) (now (acks .entry))) (now (buffer .entry)) a (now (link .exit)) (partsOf (now («send_pool» .entry)) (now («receive_pool» .entry)) (now (table .entry)) (now (acks .entry))) (now (buffer .exit))) r ⌝ }
+{
+    let a = link::read(*link, send_pool, receive_pool, table, acks, buffer);
+    *link = codes::counted_link(a);
+    codes::counted_code(a)
 }
 
 // Telling the size of the next message: its bytes, or the refusal.

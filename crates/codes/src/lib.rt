@@ -85,11 +85,7 @@ pub fn counted_code(counted: Counted) -> i32
 fn narrow32(x: usize) -> u32
     ensures { λ r. ⌜ r ≡ min x 4294967295 ⌝ }
 {
-    if x < 4294967295 {
-        x as u32
-    } else {
-        4294967295
-    }
+    if x < 4294967295 { x as u32 } else { 4294967295 }
 }
 
 // In 16 bits.
