@@ -6,3 +6,6 @@ pub mod Asking
 pub mod Sending
 pub mod Reading
 pub mod TakingIn
+pub mod Flushing
+pub mod Opening
+pub mod Returned

@@ -1,6 +1,8 @@
 // What a core that changes the records left, taken apart.
 use block::Link;
 use calls::Answered;
+use calls::Counted;
+use flush_call::Flushed;
 use input_call::Taken;
 use lists::OutstandingList;
 use timing::Record;
@@ -28,4 +30,28 @@ pub fn taken_answer(taken: Taken) -> Answered
     let answer = taken.answer;
     let link = taken.link;
     Answered { answer, link }
+}
+
+// The outstanding segments after a flush.
+pub fn flushed_outstanding(flushed: Flushed) -> OutstandingList
+    ensures { λ r. ⌜ r ≡ flushed .link .flight .outstanding ⌝ }
+{
+    let link = flushed.link;
+    link.outstanding()
+}
+
+// Their records.
+pub fn flushed_records(flushed: Flushed) -> [Record; 32]
+    ensures { λ r. ⌜ r ≡ flushed .records ⌝ }
+{
+    flushed.records
+}
+
+// The answer, and the block.
+pub fn flushed_answer(flushed: Flushed) -> Counted
+    ensures { λ r. ⌜ r ≡ record { answer = flushed .answer; link = flushed .link } ⌝ }
+{
+    let answer = flushed.answer;
+    let link = flushed.link;
+    Counted { answer, link }
 }
