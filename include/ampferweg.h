@@ -11,7 +11,7 @@
  *
  *     uint32_t milliseconds(void);                                        // your clock
  *     void transmit(void *socket, const uint8_t *datagram, size_t len);   // your network
- *     size_t receive(void *socket, uint8_t *datagram, size_t room);       // 0: nothing arrived
+ *     size_t receive(void *socket, uint8_t *datagram, size_t room);       // waits 10 ms at most; 0: none came
  *
  *     AMPFERWEG_STATION_STORAGE(station, 256);                            // static, about 117 KiB for an mtu of 256
  *
@@ -21,10 +21,9 @@
  *         ampferweg_result result = ampferweg_station_open(&station, 7, 256, 1, 10, 2);
  *         if (result == 0) result = ampferweg_station_send(&station, "seat 12: 4 holes", 16);
  *         while (result >= 0 && !ampferweg_station_dead(&station)) {
- *             size_t len;
  *             ampferweg_result count;
- *             while ((len = receive(socket, datagram, sizeof datagram)) > 0)
- *                 (void)ampferweg_station_input(&station, datagram, len); // a bad datagram is refused and changes nothing
+ *             const size_t len = receive(socket, datagram, sizeof datagram);
+ *             if (len > 0) (void)ampferweg_station_input(&station, datagram, len); // a bad one is refused, and changes nothing
  *             while ((count = ampferweg_station_read(&station, message, sizeof message)) >= 0)
  *                 printf("%.*s\n", (int)count, (const char *)message);
  *             result = ampferweg_station_flush_to(&station, milliseconds(), transmit, socket);

@@ -233,7 +233,7 @@ static void dead(void)
 
 static void texts(void)
 {
-    char number[16];
+    char number[32];
     int i;
     CHECK(strcmp(ampferweg_text(0), "done") == 0 && strcmp(ampferweg_text(290), "done") == 0);
     for (i = 1; i <= 13; i++) {
