@@ -25,7 +25,7 @@ trap stop EXIT
 trap 'exit 130' INT TERM
 
 station() { # NAME OWN-PORT RECIPES HEARS
-    exec "$work/station" --name "$1" --port "$2" --peer "127.0.0.1:$middle" --send "$here/recipes/$3.txt" \
+    exec "$work/station" --name "$1" --port "$2" --peer "127.0.0.1:$middle" --hold 300 --send "$here/recipes/$3.txt" \
         --expect "$(wc -l <"$here/recipes/$4.txt")" --save "$work/$1-heard.txt"
 }
 

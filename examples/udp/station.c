@@ -16,12 +16,13 @@ enum { MTU_MOST = 256, FILE_MOST = 1 << 18, QUIET_MS = 1000 };
 AMPFERWEG_STATION_STORAGE(station, MTU_MOST);
 
 static const char *name = "station", *peer_text, *send_file, *save_file;
-static uint32_t port, conv = 1, mtu = 256, mode = 1, interval = 10, threshold = 2, expect, seconds = 20;
+static uint32_t port, conv = 1, mtu = 256, mode = 1, interval = 10, threshold = 2, expect, hold, seconds = 20;
 
 static const struct option options[] = {
     {"port", "PORT", "the port to listen on", NULL, &port, 1, 65535},
     {"peer", "ADDRESS", "where the peer is, as 127.0.0.1:4000", &peer_text, NULL, 0, 0},
     {"send", "FILE", "the messages to send, one a line", &send_file, NULL, 0, 0},
+    {"hold", "MS", "wait so long before the first message, for the peer to be there (default 0)", NULL, &hold, 0, 60000},
     {"expect", "COUNT", "end once so many messages arrived and its own are acknowledged (default 0)", NULL, &expect, 0, 1000000},
     {"save", "FILE", "write the messages that arrive, one a line", &save_file, NULL, 0, 0},
     {"seconds", "COUNT", "give up after so many seconds (default 20)", NULL, &seconds, 1, 86400},
@@ -144,7 +145,7 @@ static void run(void)
     const uint32_t start = clock_now();
     uint32_t now = start, heard_at = start;
     while (now - start < 1000 * seconds && !(complete() && now - heard_at > QUIET_MS)) {
-        send_messages();
+        if (now - start >= hold) send_messages();
         if (ampferweg_station_flush_to(&station, now, transmit, NULL) < 0) fail("flush", "it is refused");
         if (take_in(now + interval)) heard_at = clock_now();
         read_messages();
