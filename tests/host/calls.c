@@ -243,6 +243,42 @@ static void texts(void)
     CHECK(ampferweg_refusal_of(-9) == AMPFERWEG_NO_MESSAGE && ampferweg_refusal_of(5) == 0);
 }
 
+/* Stations as the header declares them: refused 13 until opened, and two that share an output. */
+AMPFERWEG_OUTPUT_STORAGE(shared);
+AMPFERWEG_STATION_STORAGE_SHARED(near_end, 256, shared);
+AMPFERWEG_STATION_STORAGE_SHARED(far_end, 256, shared);
+
+static void to_far_end(void *context, const uint8_t *datagram, size_t len)
+{
+    ++*(int *)context;
+    CHECK_EQUAL(ampferweg_station_input(&far_end, datagram, len), 0);
+}
+
+static void stations(void)
+{
+    char text[600];
+    int carried = 0;
+    size_t len;
+    memset(text, 't', sizeof text);
+    CHECK_EQUAL(ampferweg_station_send(&near_end, text, 1), -AMPFERWEG_INVALID_BLOCK);
+    CHECK_EQUAL(ampferweg_station_input(&near_end, text, 1), -AMPFERWEG_INVALID_BLOCK);
+    CHECK_EQUAL(ampferweg_station_flush_to(&near_end, 1, to_far_end, &carried), -AMPFERWEG_INVALID_BLOCK);
+    CHECK_EQUAL(ampferweg_station_read(&near_end, text, 1), -AMPFERWEG_INVALID_BLOCK);
+    CHECK_EQUAL(ampferweg_station_size(&near_end), -AMPFERWEG_INVALID_BLOCK);
+    CHECK(ampferweg_station_show(&near_end, &len) != NULL && len == 0);
+    CHECK_EQUAL(ampferweg_station_open(&near_end, 3, 257, 0, 10, 0), -AMPFERWEG_SHORT_PART);
+    CHECK_EQUAL(ampferweg_station_open(&near_end, 3, 256, 0, 10, 0), 0);
+    CHECK_EQUAL(ampferweg_station_open(&far_end, 3, 256, 0, 10, 0), 0);
+    CHECK_EQUAL(ampferweg_station_send(&near_end, text, sizeof text), 0);
+    CHECK_EQUAL(ampferweg_station_pending(&near_end), 3);
+    CHECK_EQUAL(ampferweg_station_flush_to(&near_end, 1, to_far_end, &carried), 3);
+    CHECK_EQUAL(carried, 3);
+    CHECK_EQUAL(ampferweg_station_size(&far_end), sizeof text);
+    CHECK(*ampferweg_station_show(&far_end, &len) == 't' && len == 232);
+    CHECK_EQUAL(ampferweg_station_read(&far_end, text, sizeof text), sizeof text);
+    CHECK(!ampferweg_station_dead(&near_end));
+}
+
 static void every_case(size_t spare)
 {
     lend(&lent, 256, spare);
@@ -266,6 +302,7 @@ int main(void)
 {
     every_case(0);
     every_case(13);
+    stations();
     texts();
     return check_report("calls");
 }

@@ -63,7 +63,7 @@ program_checks() { # SUFFIX FLAGS..
     shift
     for name in layout calls refusals strangers session replay; do
         build "$suffix" $name "$@" || { failed=$((failed + 1)); echo "$name, $suffix: FAILED to build"; continue; }
-        [ $name = replay ] || try "$name, $suffix" "$work/$name-$suffix"
+        [ "$name" = replay ] || try "$name, $suffix" "$work/$name-$suffix"
     done
 }
 
