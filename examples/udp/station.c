@@ -144,9 +144,11 @@ static void run(void)
 {
     const uint32_t start = clock_now();
     uint32_t now = start, heard_at = start;
+    ampferweg_result result;
     while (now - start < 1000 * seconds && !(complete() && now - heard_at > QUIET_MS)) {
         if (now - start >= hold) send_messages();
-        if (ampferweg_station_flush_to(&station, now, transmit, NULL) < 0) fail("flush", "it is refused");
+        result = ampferweg_station_flush_to(&station, now, transmit, NULL);
+        if (result < 0) fail("a flush", ampferweg_text(result));
         if (take_in(now + interval)) heard_at = clock_now();
         read_messages();
         now = clock_now();
@@ -176,6 +178,7 @@ int main(int argc, char **argv)
     printf("%s: %u messages sent%s, %u of %u heard; %u datagrams sent, %u heard, %u refused; %u segments sent, %u of them retransmissions\n",
         name, count.sent, ampferweg_station_pending(&station) == 0 ? " and acknowledged" : "", count.heard, expect,
         count.datagrams_sent, count.datagrams_heard, count.datagrams_refused, count.pushes, count.retransmissions);
+    if (ampferweg_station_dead(&station)) fprintf(stderr, "%s: the link is dead: a segment was sent 20 times and not acknowledged\n", name);
     if (!complete()) fprintf(stderr, "%s: gives up after %u seconds\n", name, seconds);
     return complete() ? 0 : 1;
 }

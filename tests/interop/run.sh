@@ -16,7 +16,8 @@ mkdir -p "$work"
 # ---- what it needs
 if ! command -v go >/dev/null || [ ! -d $gopath/src/github.com/xtaci/kcp-go ]; then
     echo "interop: installs golang-go and golang-github-xtaci-kcp-dev (apt-get)"
-    apt-get install -y --no-install-recommends golang-go golang-github-xtaci-kcp-dev >"$work/apt.log" 2>&1 ||
+    packages() { apt-get install -y --no-install-recommends golang-go golang-github-xtaci-kcp-dev; }
+    { packages || { apt-get update && packages; }; } >"$work/apt.log" 2>&1 ||
         { echo "run.sh: they cannot be installed (root? network?): see $work/apt.log" >&2; exit 2; }
 fi
 flags="-std=c99 -O2 -Wall -Wextra -Wpedantic -Werror -I $root/include"
