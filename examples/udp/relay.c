@@ -105,7 +105,8 @@ int main(int argc, char **argv)
     int udp;
     lines_at_once();
     read_options(argc, argv, "usage: relay --port PORT --left ADDRESS --right ADDRESS [options]\n"
-        "Passes datagrams between two stations over a bad network, until it is stopped (SIGINT or SIGTERM).", options, sizeof options / sizeof *options);
+        "Passes datagrams between two stations over a bad network, until it is stopped (SIGINT or SIGTERM).",
+        options, sizeof options / sizeof *options);
     if (port == 0 || left_text == NULL || right_text == NULL) {
         fprintf(stderr, "relay: --port, --left and --right are wanted (--help lists the options)\n");
         return 2;

@@ -60,7 +60,8 @@ cat "$work/left.txt" "$work/right.txt" "$work/relay.txt"
 same() { cmp "$work/left-heard.txt" "$here/recipes/right.txt" && cmp "$work/right-heard.txt" "$here/recipes/left.txt"; }
 number() { sed -n "s/.* \([0-9]*\) $1.*/\1/p" "$work/relay.txt" "$work/left.txt" "$work/right.txt" | awk '{ sum += $1 } END { print sum + 0 }'; }
 if [ "$left_status" -eq 0 ] && [ "$right_status" -eq 0 ] && same; then
-    echo "demo: $(number 'messages sent') recipes sent, all delivered once and in order; $(number lost) datagrams lost, $(number 'of them retransmissions') retransmissions"
+    echo "demo: $(number 'messages sent') recipes sent, all delivered once and in order;" \
+        "$(number lost) datagrams lost, $(number 'of them retransmissions') retransmissions"
 else
     echo "demo: FAILED: some recipes did not arrive"
     exit 1

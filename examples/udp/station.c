@@ -171,7 +171,8 @@ static void prepare(void)
 int main(int argc, char **argv)
 {
     lines_at_once();
-    read_options(argc, argv, "usage: station --port PORT --peer ADDRESS [options]\nSends messages to a peer over UDP by KCP, and prints those that arrive.",
+    read_options(argc, argv, "usage: station --port PORT --peer ADDRESS [options]\n"
+        "Sends messages to a peer over UDP by KCP, and prints those that arrive.",
         options, sizeof options / sizeof *options);
     prepare();
     run();

@@ -19,7 +19,8 @@ int udp_open(const char *program, uint32_t port)
     own.sin_addr.s_addr = htonl(INADDR_ANY);
     own.sin_port = htons((uint16_t)port);
     if (made >= 0 && bind(made, (const struct sockaddr *)&own, sizeof own) == 0) return made;
-    if (made >= 0 && errno == EADDRINUSE) fprintf(stderr, "%s: port %u is already used by another program: choose another one with --port\n", program, port);
+    if (made >= 0 && errno == EADDRINUSE)
+        fprintf(stderr, "%s: port %u is already used by another program: choose another one with --port\n", program, port);
     else fprintf(stderr, "%s: port %u cannot be opened: %s\n", program, port, strerror(errno));
     exit(2);
 }

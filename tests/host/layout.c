@@ -84,6 +84,25 @@ static void queued_list(void)
     REFUSED_13(queued.at[127].fragment, 0xFF);
 }
 
+/* Number, timeout and skips of an outstanding segment's record at their limits: one more is refused; due may be anything. */
+static void record_of_slot(size_t slot)
+{
+    ampferweg_record *record = &lent.station.table[slot];
+    const ampferweg_record was = *record;
+    record->number += 1;
+    CHECK_EQUAL(call_size(&lent), -AMPFERWEG_INVALID_BLOCK);
+    *record = was;
+    record->timeout += 1;
+    CHECK_EQUAL(call_size(&lent), -AMPFERWEG_INVALID_BLOCK);
+    *record = was;
+    record->skips += 1;
+    CHECK_EQUAL(call_size(&lent), -AMPFERWEG_INVALID_BLOCK);
+    *record = was;
+    record->due += 1;
+    CHECK(call_size(&lent) != -AMPFERWEG_INVALID_BLOCK);
+    *record = was;
+}
+
 static void outstanding_list(void)
 {
     ampferweg_record *table = lent.station.table;
@@ -109,21 +128,8 @@ static void outstanding_list(void)
     REFUSED_13(flight.outstanding.at[31].transmissions, 21);
     REFUSED_13(flight.una, 0xFFFFFFEF);
     REFUSED_13(flight.next, 17);
-    for (i = 96; i < 128; i += 31) {
-        const ampferweg_record was = table[i];
-        table[i].number += 1;
-        CHECK_EQUAL(call_size(&lent), -AMPFERWEG_INVALID_BLOCK);
-        table[i] = was;
-        table[i].timeout += 1;
-        CHECK_EQUAL(call_size(&lent), -AMPFERWEG_INVALID_BLOCK);
-        table[i] = was;
-        table[i].skips += 1;
-        CHECK_EQUAL(call_size(&lent), -AMPFERWEG_INVALID_BLOCK);
-        table[i] = was;
-        table[i].due += 1;
-        CHECK(call_size(&lent) != -AMPFERWEG_INVALID_BLOCK);
-        table[i] = was;
-    }
+    record_of_slot(96);
+    record_of_slot(127);
 }
 
 static void receiving_lists(void)

@@ -29,11 +29,11 @@ static void shows_nothing(void)
 /* All calls but opening and showing, with arguments that would do. */
 static void all_refused(int number)
 {
-    static uint8_t datagram[HEADER];
+    static uint8_t good[HEADER];
     struct segment tell = {1, TELL, 0, 0, 0, 0, 0, 0};
-    put_segment(datagram, tell, 0);
+    put_segment(good, tell, 0);
     REFUSED(number, call_send(&lent, buffer, 100));
-    REFUSED(number, call_input(&lent, datagram, sizeof datagram));
+    REFUSED(number, call_input(&lent, good, sizeof good));
     REFUSED(number, call_flush(&lent, 10));
     REFUSED(number, call_read(&lent, buffer, 1000));
     REFUSED(number, call_size(&lent));
@@ -43,76 +43,77 @@ static void all_refused(int number)
 /* A link with something in every list. */
 static void open_busy(uint32_t mtu)
 {
-    static uint8_t datagram[2 * (HEADER + 26)];
-    size_t len = put_segment(datagram, push_of(0, 0, 26), 'r');
-    len += put_segment(datagram + len, push_of(2, 0, 26), 'w');
+    static uint8_t arrives[2 * (HEADER + 26)];
+    size_t len = put_segment(arrives, push_of(0, 0, 26), 'r');
+    len += put_segment(arrives + len, push_of(2, 0, 26), 'w');
     CHECK_EQUAL(call_open(&lent, 1, mtu, 0, 10, 2), 0);
     CHECK_EQUAL(call_send(&lent, buffer, 900), 0);
     CHECK(call_flush(&lent, 5) > 0);
     CHECK_EQUAL(call_send(&lent, buffer, 900), 0);
-    CHECK_EQUAL(call_input(&lent, datagram, len), 0);
+    CHECK_EQUAL(call_input(&lent, arrives, len), 0);
+}
+
+static uint8_t datagram[4 * (HEADER + 300)];
+
+/* A bad segment behind `at` good bytes, and the datagram `less` bytes shorter than it should be. */
+static void refused_with(int number, size_t at, struct segment bad, size_t less)
+{
+    const size_t len = at + put_segment(datagram + at, bad, 'b');
+    REFUSED(number, call_input(&lent, datagram, len - less));
+}
+
+static void each_bad_segment(size_t at)
+{
+    struct segment bad = push_of(3, 0, 10);
+    size_t len;
+    bad.conv = 2;
+    refused_with(AMPFERWEG_OTHER_CONVERSATION, at, bad, 0);
+    bad = push_of(3, 0, 10);
+    refused_with(AMPFERWEG_LENGTH_PAST_END, at, bad, 1);
+    len = at + put_segment(datagram + at, bad, 'b');
+    datagram[at + 23] = 0x80;
+    REFUSED(AMPFERWEG_LENGTH_PAST_END, call_input(&lent, datagram, len));
+    bad.command = 80;
+    refused_with(AMPFERWEG_UNKNOWN_COMMAND, at, bad, 0);
+    bad.command = 85;
+    refused_with(AMPFERWEG_UNKNOWN_COMMAND, at, bad, 0);
+    refused_with(AMPFERWEG_LONG_PAYLOAD, at, push_of(3, 0, 233), 0);
+    refused_with(AMPFERWEG_HIGH_FRAGMENT, at, push_of(3, 127, 10), 0);
+}
+
+/* The first bad segment decides, and in a segment the first test. */
+static void order_of_1_to_6(void)
+{
+    struct segment bad = push_of(3, 127, 300);
+    const size_t len = put_segment(datagram, push_of(3, 127, 10), 'b');
+    bad.conv = 2;
+    refused_with(AMPFERWEG_HIGH_FRAGMENT, len, bad, 0);
+    bad.command = 90;
+    refused_with(AMPFERWEG_OTHER_CONVERSATION, 0, bad, 1);
+    bad.conv = 1;
+    refused_with(AMPFERWEG_LENGTH_PAST_END, 0, bad, 1);
+    refused_with(AMPFERWEG_UNKNOWN_COMMAND, 0, bad, 0);
+    bad.command = PUSH;
+    refused_with(AMPFERWEG_LONG_PAYLOAD, 0, bad, 0);
 }
 
 static void number_1_to_6(void)
 {
-    static uint8_t datagram[4 * (HEADER + 300)];
-    struct segment bad;
-    size_t len, good;
+    struct segment odd = ack_of(900, 0, 0);
+    size_t len;
     open_busy(256);
     memset(datagram, 1, sizeof datagram);
     for (len = 0; len < HEADER; len++) REFUSED(AMPFERWEG_SHORT_DATAGRAM, call_input(&lent, datagram, len));
-
-    /* Each bad segment alone, and behind a good push and a good ack, of which nothing is applied. */
-    for (good = 0; good < 2; good++) {
-        size_t at = 0;
-        if (good) {
-            at += put_segment(datagram, push_of(1, 0, 232), 'g');
-            at += put_segment(datagram + at, ack_of(0, 5, 1), 0);
-        }
-        bad = push_of(3, 0, 10);
-        bad.conv = 2;
-        len = at + put_segment(datagram + at, bad, 'b');
-        REFUSED(AMPFERWEG_OTHER_CONVERSATION, call_input(&lent, datagram, len));
-        bad = push_of(3, 0, 10);
-        len = at + put_segment(datagram + at, bad, 'b');
-        REFUSED(AMPFERWEG_LENGTH_PAST_END, call_input(&lent, datagram, len - 1));
-        datagram[at + 23] = 0x80;
-        REFUSED(AMPFERWEG_LENGTH_PAST_END, call_input(&lent, datagram, len));
-        bad.command = 80;
-        len = at + put_segment(datagram + at, bad, 'b');
-        REFUSED(AMPFERWEG_UNKNOWN_COMMAND, call_input(&lent, datagram, len));
-        bad.command = 85;
-        len = at + put_segment(datagram + at, bad, 'b');
-        REFUSED(AMPFERWEG_UNKNOWN_COMMAND, call_input(&lent, datagram, len));
-        len = at + put_segment(datagram + at, push_of(3, 0, 233), 'b');
-        REFUSED(AMPFERWEG_LONG_PAYLOAD, call_input(&lent, datagram, len));
-        len = at + put_segment(datagram + at, push_of(3, 127, 10), 'b');
-        REFUSED(AMPFERWEG_HIGH_FRAGMENT, call_input(&lent, datagram, len));
-    }
-
-    /* The first bad segment decides, and in a segment the first test. */
-    len = put_segment(datagram, push_of(3, 127, 10), 'b');
-    bad.conv = 2;
-    len += put_segment(datagram + len, bad, 'b');
-    REFUSED(AMPFERWEG_HIGH_FRAGMENT, call_input(&lent, datagram, len));
-    bad = push_of(3, 127, 300);
-    bad.conv = 2;
-    bad.command = 90;
-    len = put_segment(datagram, bad, 'b');
-    REFUSED(AMPFERWEG_OTHER_CONVERSATION, call_input(&lent, datagram, len - 1));
-    bad.conv = 1;
-    put_segment(datagram, bad, 'b');
-    REFUSED(AMPFERWEG_LENGTH_PAST_END, call_input(&lent, datagram, len - 1));
-    REFUSED(AMPFERWEG_UNKNOWN_COMMAND, call_input(&lent, datagram, len));
-    bad.command = PUSH;
-    put_segment(datagram, bad, 'b');
-    REFUSED(AMPFERWEG_LONG_PAYLOAD, call_input(&lent, datagram, len));
-
+    each_bad_segment(0);
+    /* Behind a good push and a good ack, of which nothing is applied. */
+    len = put_segment(datagram, push_of(1, 0, 232), 'g');
+    len += put_segment(datagram + len, ack_of(0, 5, 1), 0);
+    each_bad_segment(len);
+    order_of_1_to_6();
     /* 5 and 6 are for pushes only, and a tail of 1 to 23 bytes is ignored. */
-    bad = ack_of(900, 0, 0);
-    bad.fragment = 200;
-    bad.len = 300;
-    len = put_segment(datagram, bad, 0);
+    odd.fragment = 200;
+    odd.len = 300;
+    len = put_segment(datagram, odd, 0);
     CHECK_EQUAL(call_input(&lent, datagram, len + 23), 0);
 }
 
@@ -170,7 +171,6 @@ static void number_7_of_a_strange_mtu(void)
 
 static void number_7_and_9_of_reading(void)
 {
-    static uint8_t datagram[3 * (HEADER + 232)];
     size_t len;
     CHECK_EQUAL(call_open(&lent, 1, 256, 0, 10, 2), 0);
     REFUSED(AMPFERWEG_NO_MESSAGE, call_read(&lent, buffer, 1000));

@@ -38,9 +38,11 @@ compiles() { # COMPILER.. FILE
 }
 
 header_checks() {
-    printf '#include <ampferweg.h>\nAMPFERWEG_STATION_STORAGE(one, 256);\nsize_t it(void);\nsize_t it(void) { return ampferweg_station_pending(&one); }\n' >"$work/header.c"
+    printf '%s\n' '#include <ampferweg.h>' 'AMPFERWEG_STATION_STORAGE(one, 256);' 'size_t it(void);' \
+        'size_t it(void) { return ampferweg_station_pending(&one); }' >"$work/header.c"
     cp "$work/header.c" "$work/header.cc"
-    { echo 'int run(void *socket);'; sed -n '/^ \*     #include <ampferweg.h>/,/^ \*     }$/s/^ \* \{0,5\}//p' "$root/include/ampferweg.h"; } >"$work/example.c"
+    echo 'int run(void *socket);' >"$work/example.c"
+    sed -n '/^ \*     #include <ampferweg.h>/,/^ \*     }$/s/^ \* \{0,5\}//p' "$root/include/ampferweg.h" >>"$work/example.c"
     for standard in c99 c11; do try "header as $standard" compiles "$cc" -std=$standard "$work/header.c"; done
     try "the header's example" compiles "$cc" -std=c99 "$work/example.c"
     if command -v "$cxx" >/dev/null; then
@@ -87,7 +89,8 @@ installs() {
     make -s -C "$root" install PREFIX="$work/prefix" ARCHIVE="$archive" || return 1
     echo 'int main(void) { return it() != 0; }' | cat "$work/header.c" - >"$work/installed.c"
     # shellcheck disable=SC2046
-    "$cc" "$work/installed.c" -o "$work/installed" $(PKG_CONFIG_PATH=$work/prefix/lib/pkgconfig pkg-config --cflags --libs ampferweg) || return 1
+    "$cc" "$work/installed.c" -o "$work/installed" \
+        $(PKG_CONFIG_PATH=$work/prefix/lib/pkgconfig pkg-config --cflags --libs ampferweg) || return 1
     "$work/installed" && echo "installs, and pkg-config finds it"
 }
 
@@ -95,7 +98,11 @@ header_checks
 program_checks O2 -O2
 program_checks sanitized -O1 -g -fsanitize=address,undefined -fno-sanitize-recover=all
 for suffix in O2 sanitized; do try "vectors, $suffix" replays $suffix; done
-if command -v pkg-config >/dev/null; then try "make install" installs; else echo "make install                 not checked: there is no pkg-config here"; fi
+if command -v pkg-config >/dev/null; then
+    try "make install" installs
+else
+    echo "make install                 not checked: there is no pkg-config here"
+fi
 
 echo "host: $passed passed, $failed failed"
 [ "$failed" -eq 0 ]

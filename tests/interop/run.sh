@@ -33,7 +33,10 @@ messages() { # SALT
         state = salt
         for (i = 1; i <= 4 * n; i++) {
             line = ""
-            while (length(line) < size[(i - 1) % n + 1]) { state = (state * 1103515245 + 12345) % 2147483648; line = line sprintf("%c", 97 + int(state / 65536) % 26) }
+            while (length(line) < size[(i - 1) % n + 1]) {
+                state = (state * 1103515245 + 12345) % 2147483648
+                line = line sprintf("%c", 97 + int(state / 65536) % 26)
+            }
             print line
         }
     }'
@@ -53,18 +56,21 @@ session() { # NAME SEED OPTIONS..
     name=$1
     seed=$2
     shift 2
-    "$work/relay" --port "$port" --left "127.0.0.1:$((port + 1))" --right "127.0.0.1:$((port + 2))" --drop 10 --seed "$seed" >"$work/relay.log" &
+    "$work/relay" --port "$port" --left "127.0.0.1:$((port + 1))" --right "127.0.0.1:$((port + 2))" --drop 10 \
+        --seed "$seed" >"$work/relay.log" &
     relay=$!
-    "$work/station" --name ours --port $((port + 1)) --peer "127.0.0.1:$port" --send "$work/ours.txt" --save "$work/ours-heard.txt" --expect "$count" --seconds 30 --hold 300 "$@" >"$work/ours.log" &
+    set -- --peer "127.0.0.1:$port" --expect "$count" --seconds 30 --hold 300 "$@"
+    "$work/station" --name ours --port $((port + 1)) --send "$work/ours.txt" --save "$work/ours-heard.txt" "$@" >"$work/ours.log" &
     one=$!
-    "$work/peer" --port $((port + 2)) --peer "127.0.0.1:$port" --send "$work/theirs.txt" --save "$work/theirs-heard.txt" --expect "$count" --seconds 30 --hold 300 "$@" >"$work/theirs.log" &
+    "$work/peer" --port $((port + 2)) --send "$work/theirs.txt" --save "$work/theirs-heard.txt" "$@" >"$work/theirs.log" &
     two=$!
     wait "$one"; ours=$?
     wait "$two"; theirs=$?
     kill "$relay" 2>/dev/null
     wait "$relay"
     relay='' one='' two=''
-    if [ $ours -eq 0 ] && [ $theirs -eq 0 ] && cmp "$work/ours-heard.txt" "$work/theirs.txt" && cmp "$work/theirs-heard.txt" "$work/ours.txt"; then
+    if [ $ours -eq 0 ] && [ $theirs -eq 0 ] && cmp "$work/ours-heard.txt" "$work/theirs.txt" &&
+        cmp "$work/theirs-heard.txt" "$work/ours.txt"; then
         passed=$((passed + 1))
         echo "$name: $count messages each way, all equal; $(tail -n 1 "$work/relay.log")"
     else
