@@ -74,7 +74,7 @@ extern "C" {
 /* ---- Results -------------------------------------------------------------------------------------------------------
  *
  * 0 or more: the call is done. A flush gives the datagrams that it wrote, a read and a size give bytes, the others 0.
- * Below 0: the call is refused, -N for refusal number N, and nothing has changed: not a byte of the control block, not a
+ * Below 0: the call is refused, -N for refusal number N, and nothing has changed: not a field of the control block, not a
  * byte of any lent part. */
 
 typedef int32_t ampferweg_result;
