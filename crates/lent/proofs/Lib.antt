@@ -1,0 +1,5 @@
+pub mod Checked
+pub mod Gathered
+pub mod Returned
+pub mod Scattered
+pub mod SlotsAfter
