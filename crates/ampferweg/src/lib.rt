@@ -3,7 +3,7 @@
 use block::Link;
 use timing::Record;
 ghost use Rattle.calls.specs.Promises.{OpenPromise, SendPromise, InputPromise, FlushPromise, ReadPromise, SizePromise};
-ghost use Rattle.link.specs.Lent.{partsOf};
+ghost use Rattle.lent.specs.Lent.{partsOf};
 ghost use Rattle.codes.specs.Codes.{answerCode, countCode, placeCode, settingsOf};
 ghost use Rattle.ampferweg.specs.Gives.{Gives, PlacePromise};
 

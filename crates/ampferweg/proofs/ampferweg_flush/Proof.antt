@@ -20,14 +20,14 @@ use Rattle.block.proofs.Link.Laws as B′
 use Rattle.calls.proofs.Counted as D
 use Rattle.calls.proofs.Counted.Laws as D′
 use Rattle.calls.specs.Promises.{FlushPromise}
-use Rattle.link.specs.Lent.{partsOf}
+use Rattle.lent.specs.Lent.{partsOf}
 use Rattle.codes.specs.Codes.{countCode}
 use Rattle.ampferweg.specs.Gives.{Gives}
 use Rattle.ampferweg.proofs.Block.{L, mach, ref-to, link-own, opens-link, closes-link}
 use Rattle.ampferweg.proofs.Told.{told}
-use Rattle.link.proofs.flush as core
-use Rattle.link.proofs.flush.Symbol as core-def
-use Rattle.link.proofs.flush.Met as core-thm
+use Rattle.link_flush.proofs.flush as core
+use Rattle.link_flush.proofs.flush.Symbol as core-def
+use Rattle.link_flush.proofs.flush.Met as core-thm
 use Rattle.codes.proofs.counted_link as link-of
 use Rattle.codes.proofs.counted_link.Symbol as link-of-def
 use Rattle.codes.proofs.counted_link.Met as link-of-thm
@@ -164,7 +164,7 @@ ampferweg-flush-spec 𝓤 H 𝓜 𝓖 𝓡 =
     entered 𝓤 H (tripleOf 𝓤 H (𝓖 .A) f.signature (f.spec 𝓤 H (𝓖 .A) (𝓜 .mem) (𝓡 .run)))
     (tables 𝓤 H 𝓜 𝓡 code.env .C) (tables 𝓤 H 𝓜 𝓡 code.env .Λ) #f code.function (code.unfolded 𝓤 H 𝓜 𝓡)
     (f-meets 𝓤 H (𝓖 .A) (givenOf 𝓤 H 𝓜 𝓖) (𝓜 .mem) (𝓡 .run) (tablesOf 𝓤 H 𝓜 (tables 𝓤 H 𝓜 𝓡 code.env)) (
-      cited 𝓤 H (tripleOf 𝓤 H (𝓖 .A) core.signature (core.spec 𝓤 H (𝓖 .A) (𝓜 .mem) (𝓡 .run))) 𝓜 𝓡 code.env core-def.name core-def.routine code.calls-link·flush (core-thm.met 𝓤 H 𝓜 𝓖 𝓡),
+      cited 𝓤 H (tripleOf 𝓤 H (𝓖 .A) core.signature (core.spec 𝓤 H (𝓖 .A) (𝓜 .mem) (𝓡 .run))) 𝓜 𝓡 code.env core-def.name core-def.routine code.calls-link-flush·flush (core-thm.met 𝓤 H 𝓜 𝓖 𝓡),
       cited 𝓤 H (tripleOf 𝓤 H (𝓖 .A) link-of.signature (link-of.spec 𝓤 H (𝓖 .A) (𝓜 .mem) (𝓡 .run))) 𝓜 𝓡 code.env link-of-def.name link-of-def.routine code.calls-codes·counted-link (link-of-thm.met 𝓤 H 𝓜 𝓖 𝓡),
       cited 𝓤 H (tripleOf 𝓤 H (𝓖 .A) code-of.signature (code-of.spec 𝓤 H (𝓖 .A) (𝓜 .mem) (𝓡 .run))) 𝓜 𝓡 code.env code-of-def.name code-of-def.routine code.calls-codes·counted-code (code-of-thm.met 𝓤 H 𝓜 𝓖 𝓡),
     ))

@@ -23,7 +23,7 @@ use Rattle.protocol.specs.declared.Settings.{Settings}
 use Rattle.protocol.proofs.Settings as S
 use Rattle.protocol.proofs.Settings.Laws as S′
 use Rattle.calls.specs.Promises.{OpenPromise}
-use Rattle.link.specs.Lent.{partsOf}
+use Rattle.lent.specs.Lent.{partsOf}
 use Rattle.codes.specs.Codes.{answerCode, settingsOf}
 use Rattle.ampferweg.specs.Gives.{Gives}
 use Rattle.ampferweg.proofs.Block.{L, mach, ref-to, link-own, opens-link, closes-link}
@@ -31,9 +31,9 @@ use Rattle.ampferweg.proofs.Told.{told}
 use Rattle.codes.proofs.settings as settings-of
 use Rattle.codes.proofs.settings.Symbol as settings-of-def
 use Rattle.codes.proofs.settings.Met as settings-of-thm
-use Rattle.link.proofs.open as core
-use Rattle.link.proofs.open.Symbol as core-def
-use Rattle.link.proofs.open.Met as core-thm
+use Rattle.link_local.proofs.open as core
+use Rattle.link_local.proofs.open.Symbol as core-def
+use Rattle.link_local.proofs.open.Met as core-thm
 use Rattle.codes.proofs.answered_link as link-of
 use Rattle.codes.proofs.answered_link.Symbol as link-of-def
 use Rattle.codes.proofs.answered_link.Met as link-of-thm
@@ -157,7 +157,7 @@ ampferweg-open-spec 𝓤 H 𝓜 𝓖 𝓡 =
     (tables 𝓤 H 𝓜 𝓡 code.env .C) (tables 𝓤 H 𝓜 𝓡 code.env .Λ) #f code.function (code.unfolded 𝓤 H 𝓜 𝓡)
     (f-meets 𝓤 H (𝓖 .A) (givenOf 𝓤 H 𝓜 𝓖) (𝓜 .mem) (𝓡 .run) (tablesOf 𝓤 H 𝓜 (tables 𝓤 H 𝓜 𝓡 code.env)) (
       cited 𝓤 H (tripleOf 𝓤 H (𝓖 .A) settings-of.signature (settings-of.spec 𝓤 H (𝓖 .A) (𝓜 .mem) (𝓡 .run))) 𝓜 𝓡 code.env settings-of-def.name settings-of-def.routine code.calls-codes·settings (settings-of-thm.met 𝓤 H 𝓜 𝓖 𝓡),
-      cited 𝓤 H (tripleOf 𝓤 H (𝓖 .A) core.signature (core.spec 𝓤 H (𝓖 .A) (𝓜 .mem) (𝓡 .run))) 𝓜 𝓡 code.env core-def.name core-def.routine code.calls-link·open (core-thm.met 𝓤 H 𝓜 𝓖 𝓡),
+      cited 𝓤 H (tripleOf 𝓤 H (𝓖 .A) core.signature (core.spec 𝓤 H (𝓖 .A) (𝓜 .mem) (𝓡 .run))) 𝓜 𝓡 code.env core-def.name core-def.routine code.calls-link-local·open (core-thm.met 𝓤 H 𝓜 𝓖 𝓡),
       cited 𝓤 H (tripleOf 𝓤 H (𝓖 .A) link-of.signature (link-of.spec 𝓤 H (𝓖 .A) (𝓜 .mem) (𝓡 .run))) 𝓜 𝓡 code.env link-of-def.name link-of-def.routine code.calls-codes·answered-link (link-of-thm.met 𝓤 H 𝓜 𝓖 𝓡),
       cited 𝓤 H (tripleOf 𝓤 H (𝓖 .A) code-of.signature (code-of.spec 𝓤 H (𝓖 .A) (𝓜 .mem) (𝓡 .run))) 𝓜 𝓡 code.env code-of-def.name code-of-def.routine code.calls-codes·answered-code (code-of-thm.met 𝓤 H 𝓜 𝓖 𝓡),
     ))

@@ -19,14 +19,14 @@ use Rattle.block.proofs.Link.Laws as B′
 use Rattle.calls.proofs.Answered as N
 use Rattle.calls.proofs.Answered.Laws as N′
 use Rattle.calls.specs.Promises.{SendPromise}
-use Rattle.link.specs.Lent.{partsOf}
+use Rattle.lent.specs.Lent.{partsOf}
 use Rattle.codes.specs.Codes.{answerCode}
 use Rattle.ampferweg.specs.Gives.{Gives}
 use Rattle.ampferweg.proofs.Block.{L, mach, ref-to, link-own, opens-link, closes-link}
 use Rattle.ampferweg.proofs.Told.{told}
-use Rattle.link.proofs.send as core
-use Rattle.link.proofs.send.Symbol as core-def
-use Rattle.link.proofs.send.Met as core-thm
+use Rattle.link_local.proofs.send as core
+use Rattle.link_local.proofs.send.Symbol as core-def
+use Rattle.link_local.proofs.send.Met as core-thm
 use Rattle.codes.proofs.answered_link as link-of
 use Rattle.codes.proofs.answered_link.Symbol as link-of-def
 use Rattle.codes.proofs.answered_link.Met as link-of-thm
@@ -153,7 +153,7 @@ ampferweg-send-spec 𝓤 H 𝓜 𝓖 𝓡 =
     entered 𝓤 H (tripleOf 𝓤 H (𝓖 .A) f.signature (f.spec 𝓤 H (𝓖 .A) (𝓜 .mem) (𝓡 .run)))
     (tables 𝓤 H 𝓜 𝓡 code.env .C) (tables 𝓤 H 𝓜 𝓡 code.env .Λ) #f code.function (code.unfolded 𝓤 H 𝓜 𝓡)
     (f-meets 𝓤 H (𝓖 .A) (givenOf 𝓤 H 𝓜 𝓖) (𝓜 .mem) (𝓡 .run) (tablesOf 𝓤 H 𝓜 (tables 𝓤 H 𝓜 𝓡 code.env)) (
-      cited 𝓤 H (tripleOf 𝓤 H (𝓖 .A) core.signature (core.spec 𝓤 H (𝓖 .A) (𝓜 .mem) (𝓡 .run))) 𝓜 𝓡 code.env core-def.name core-def.routine code.calls-link·send (core-thm.met 𝓤 H 𝓜 𝓖 𝓡),
+      cited 𝓤 H (tripleOf 𝓤 H (𝓖 .A) core.signature (core.spec 𝓤 H (𝓖 .A) (𝓜 .mem) (𝓡 .run))) 𝓜 𝓡 code.env core-def.name core-def.routine code.calls-link-local·send (core-thm.met 𝓤 H 𝓜 𝓖 𝓡),
       cited 𝓤 H (tripleOf 𝓤 H (𝓖 .A) link-of.signature (link-of.spec 𝓤 H (𝓖 .A) (𝓜 .mem) (𝓡 .run))) 𝓜 𝓡 code.env link-of-def.name link-of-def.routine code.calls-codes·answered-link (link-of-thm.met 𝓤 H 𝓜 𝓖 𝓡),
       cited 𝓤 H (tripleOf 𝓤 H (𝓖 .A) code-of.signature (code-of.spec 𝓤 H (𝓖 .A) (𝓜 .mem) (𝓡 .run))) 𝓜 𝓡 code.env code-of-def.name code-of-def.routine code.calls-codes·answered-code (code-of-thm.met 𝓤 H 𝓜 𝓖 𝓡),
     ))

@@ -17,7 +17,7 @@ use Rattle.timing.specs.declared.Record.{Record}
 use Rattle.block.specs.declared.Link.{Link}
 use Rattle.block.proofs.Link as B
 use Rattle.block.proofs.Link.Laws as B′
-use Rattle.link.specs.Lent.{partsOf}
+use Rattle.lent.specs.Lent.{partsOf}
 use Rattle.codes.specs.Codes.{placeCode, placeStart}
 use Rattle.ampferweg.specs.Gives.{Gives, PlacePromise}
 use Rattle.calls.specs.Outcomes.{shows as showing}
@@ -26,9 +26,9 @@ use Rattle.show_call.specs.declared.Place.{Place}
 use Rattle.show_call.proofs.Place as Q
 use Rattle.show_call.proofs.Place.Laws as Q′
 use Rattle.ampferweg.proofs.Block.{L, mach, ref-to, looks-link, shuts-link}
-use Rattle.link.proofs.place as core
-use Rattle.link.proofs.place.Symbol as core-def
-use Rattle.link.proofs.place.Met as core-thm
+use Rattle.link_ask.proofs.place as core
+use Rattle.link_ask.proofs.place.Symbol as core-def
+use Rattle.link_ask.proofs.place.Met as core-thm
 use Rattle.codes.proofs.tell_place as tell
 use Rattle.codes.proofs.tell_place.Symbol as tell-def
 use Rattle.codes.proofs.tell_place.Met as tell-thm
@@ -157,6 +157,6 @@ ampferweg-show-spec 𝓤 H 𝓜 𝓖 𝓡 =
     entered 𝓤 H (tripleOf 𝓤 H (𝓖 .A) f.signature (f.spec 𝓤 H (𝓖 .A) (𝓜 .mem) (𝓡 .run)))
     (tables 𝓤 H 𝓜 𝓡 code.env .C) (tables 𝓤 H 𝓜 𝓡 code.env .Λ) #f code.function (code.unfolded 𝓤 H 𝓜 𝓡)
     (f-meets 𝓤 H (𝓖 .A) (givenOf 𝓤 H 𝓜 𝓖) (𝓜 .mem) (𝓡 .run) (tablesOf 𝓤 H 𝓜 (tables 𝓤 H 𝓜 𝓡 code.env)) (
-      cited 𝓤 H (tripleOf 𝓤 H (𝓖 .A) core.signature (core.spec 𝓤 H (𝓖 .A) (𝓜 .mem) (𝓡 .run))) 𝓜 𝓡 code.env core-def.name core-def.routine code.calls-link·place (core-thm.met 𝓤 H 𝓜 𝓖 𝓡),
+      cited 𝓤 H (tripleOf 𝓤 H (𝓖 .A) core.signature (core.spec 𝓤 H (𝓖 .A) (𝓜 .mem) (𝓡 .run))) 𝓜 𝓡 code.env core-def.name core-def.routine code.calls-link-ask·place (core-thm.met 𝓤 H 𝓜 𝓖 𝓡),
       cited 𝓤 H (tripleOf 𝓤 H (𝓖 .A) tell.signature (tell.spec 𝓤 H (𝓖 .A) (𝓜 .mem) (𝓡 .run))) 𝓜 𝓡 code.env tell-def.name tell-def.routine code.calls-codes·tell-place (tell-thm.met 𝓤 H 𝓜 𝓖 𝓡),
     ))

@@ -20,13 +20,13 @@ use Rattle.block.proofs.Link.Laws as B′
 use Rattle.answers.proofs.Count as E
 use Rattle.answers.proofs.Count.Laws as E′
 use Rattle.calls.specs.Promises.{SizePromise}
-use Rattle.link.specs.Lent.{partsOf}
+use Rattle.lent.specs.Lent.{partsOf}
 use Rattle.codes.specs.Codes.{countCode}
 use Rattle.ampferweg.specs.Gives.{Gives}
 use Rattle.ampferweg.proofs.Block.{L, mach, ref-to, looks-link, shuts-link}
-use Rattle.link.proofs.size as core
-use Rattle.link.proofs.size.Symbol as core-def
-use Rattle.link.proofs.size.Met as core-thm
+use Rattle.link_ask.proofs.size as core
+use Rattle.link_ask.proofs.size.Symbol as core-def
+use Rattle.link_ask.proofs.size.Met as core-thm
 use Rattle.codes.proofs.count_code as code-of
 use Rattle.codes.proofs.count_code.Symbol as code-of-def
 use Rattle.codes.proofs.count_code.Met as code-of-thm
@@ -138,6 +138,6 @@ ampferweg-size-spec 𝓤 H 𝓜 𝓖 𝓡 =
     entered 𝓤 H (tripleOf 𝓤 H (𝓖 .A) f.signature (f.spec 𝓤 H (𝓖 .A) (𝓜 .mem) (𝓡 .run)))
     (tables 𝓤 H 𝓜 𝓡 code.env .C) (tables 𝓤 H 𝓜 𝓡 code.env .Λ) #f code.function (code.unfolded 𝓤 H 𝓜 𝓡)
     (f-meets 𝓤 H (𝓖 .A) (givenOf 𝓤 H 𝓜 𝓖) (𝓜 .mem) (𝓡 .run) (tablesOf 𝓤 H 𝓜 (tables 𝓤 H 𝓜 𝓡 code.env)) (
-      cited 𝓤 H (tripleOf 𝓤 H (𝓖 .A) core.signature (core.spec 𝓤 H (𝓖 .A) (𝓜 .mem) (𝓡 .run))) 𝓜 𝓡 code.env core-def.name core-def.routine code.calls-link·size (core-thm.met 𝓤 H 𝓜 𝓖 𝓡),
+      cited 𝓤 H (tripleOf 𝓤 H (𝓖 .A) core.signature (core.spec 𝓤 H (𝓖 .A) (𝓜 .mem) (𝓡 .run))) 𝓜 𝓡 code.env core-def.name core-def.routine code.calls-link-ask·size (core-thm.met 𝓤 H 𝓜 𝓖 𝓡),
       cited 𝓤 H (tripleOf 𝓤 H (𝓖 .A) code-of.signature (code-of.spec 𝓤 H (𝓖 .A) (𝓜 .mem) (𝓡 .run))) 𝓜 𝓡 code.env code-of-def.name code-of-def.routine code.calls-codes·count-code (code-of-thm.met 𝓤 H 𝓜 𝓖 𝓡),
     ))
