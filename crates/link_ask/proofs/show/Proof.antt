@@ -10,6 +10,7 @@ use denote.Slice.{shr-slice-copy, shr-slice-lawful}
 use denote.Signature.{shrSliceOf}
 use denote.Triple.Walked.{stay-dropped, goes-dropped}
 use denote.Struct.Laws as LL
+use Rattle.lent.proofs.Rows.{LinkRow, link-typed, link-makes}
 use Rattle.timing.specs.declared.Record.{Record}
 use Rattle.lists.specs.declared.OutstandingList.{OutstandingList}
 use Rattle.lists.specs.Views.{outstandingOf}
@@ -52,7 +53,7 @@ module _ {M : Type 1} (𝓤 : URA M) (H : Heap 𝓤) (A : Atoms 𝓤) (W : Given
       × Triple 𝓤 (C table-len-def.name) (tripleOf 𝓤 H A table-len.signature (table-len.spec 𝓤 H A at-mem run))
       × Triple 𝓤 (C core-def.name) (tripleOf 𝓤 H A core.signature (core.spec 𝓤 H A at-mem run))
 
-  module _ (κ₀ κ₁ κ₂ κ₃ : Lft) (q₀ q₁ q₂ q₃ : Share) (x₀ : Link) (v₀ : Val) (g₀ : Is B.the-row x₀ (v₀ ∷ [])) (x₁ : RefT (List ℕ)) (room₁ : Room u8 (length (x₁ .now))) (x₂ : RefT (List ℕ)) (room₂ : Room u8 (length (x₂ .now))) (x₃ : RefT (List Record)) (room₃ : Room R (length (x₃ .now))) (x₄ : RefT (List ℕ)) (room₄ : Room u32 (length (x₄ .now))) where
+  module _ (κ₀ κ₁ κ₂ κ₃ : Lft) (q₀ q₁ q₂ q₃ : Share) (x₀ : Link) (v₀ : Val) (g₀ : Is LinkRow x₀ (v₀ ∷ [])) (x₁ : RefT (List ℕ)) (room₁ : Room u8 (length (x₁ .now))) (x₂ : RefT (List ℕ)) (room₂ : Room u8 (length (x₂ .now))) (x₃ : RefT (List Record)) (room₃ : Room R (length (x₃ .now))) (x₄ : RefT (List ℕ)) (room₄ : Room u32 (length (x₄ .now))) where
     abbrev x : Link × (RefT (List ℕ) × (RefT (List ℕ) × (RefT (List Record) × (RefT (List ℕ) × Unit {0}))))
     x = (x₀, (x₁, (x₂, (x₃, (x₄, tt)))))
 
@@ -106,9 +107,9 @@ module _ {M : Type 1} (𝓤 : URA M) (H : Heap 𝓤) (A : Atoms 𝓤) (W : Given
     abbrev to-core : (x₀ : Link) (v₀ : Val) (recs : List Record) (w₂ : Val) (n : ℕ) (w₃ : Val) → tripleOf 𝓤 H A core.signature (core.spec 𝓤 H A at-mem run) .Ghost
     to-core x₀ v₀ recs w₂ n w₃ = (((κ₀, (κ₁, (κ₃, tt))), (q₀, (q₁, (q₃, tt))), tt, (x₀, (recs, (n, (x₁, (x₂, (x₄, tt)))))), (v₀ ∷ [], (w₂ ∷ [], (w₃ ∷ [], (s₁ ∷ [], (s₂ ∷ [], (s₄ ∷ [], tt))))))), tt)
 
-    asks-core : (x₀ : Link) (v₀ : Val) → Is B.the-row x₀ (v₀ ∷ []) → (recs : List Record) (w₂ : Val) → Is Rs recs (w₂ ∷ []) → (n : ℕ) (w₃ : Val) → Is usize n (w₃ ∷ []) → ent 𝓤 (⋆ 𝓤 H A (‵ (flft κ₀ q₀) ∷ ‵ Own₁ ∷ ‵ (flft κ₁ q₁) ∷ ‵ Own₂ ∷ ‵ (flft κ₃ q₃) ∷ ‵ Own₄ ∷ [])) (tripleOf 𝓤 H A core.signature (core.spec 𝓤 H A at-mem run) .pre (to-core x₀ v₀ recs w₂ n w₃))
+    asks-core : (x₀ : Link) (v₀ : Val) → Is LinkRow x₀ (v₀ ∷ []) → (recs : List Record) (w₂ : Val) → Is Rs recs (w₂ ∷ []) → (n : ℕ) (w₃ : Val) → Is usize n (w₃ ∷ []) → ent 𝓤 (⋆ 𝓤 H A (‵ (flft κ₀ q₀) ∷ ‵ Own₁ ∷ ‵ (flft κ₁ q₁) ∷ ‵ Own₂ ∷ ‵ (flft κ₃ q₃) ∷ ‵ Own₄ ∷ [])) (tripleOf 𝓤 H A core.signature (core.spec 𝓤 H A at-mem run) .pre (to-core x₀ v₀ recs w₂ n w₃))
     asks-core x₀ v₀ is-x₀ recs w₂ is-recs n w₃ is-n =
-        qed W (‵ (flft κ₀ q₀) ∷ ‵ Own₁ ∷ ‵ (flft κ₁ q₁) ∷ ‵ Own₂ ∷ ‵ (flft κ₃ q₃) ∷ ‵ Own₄ ∷ []) ∵ nothing ! $ move ! (5 ∷ 0 ∷ []) $ join ! $ move ! (3 ∷ 0 ∷ []) $ join ! $ move ! (1 ∷ 0 ∷ []) $ join ! $ nothing ! $ move ! (4 ∷ 0 ∷ []) $ fjoin ! $ move ! (3 ∷ 0 ∷ []) $ fjoin ! $ move ! (2 ∷ 0 ∷ []) $ fjoin ! $ owned ! usize (Is usize) (uint-makes 𝓤 H A W w64) n _ is-n $ fjoin ! $ owned ! Rs (Is Rs) (rs-makes 𝓤 H A W) recs _ is-recs $ fjoin ! $ owned ! B.the-row (Is B.the-row) (LL.makes B.the-type B′.the-plain 𝓤 H A) x₀ _ is-x₀ $ fjoin ! $ move ! (1 ∷ 0 ∷ []) $ join ! $ nothing ! $ move ! (1 ∷ 0 ∷ []) $ done !
+        qed W (‵ (flft κ₀ q₀) ∷ ‵ Own₁ ∷ ‵ (flft κ₁ q₁) ∷ ‵ Own₂ ∷ ‵ (flft κ₃ q₃) ∷ ‵ Own₄ ∷ []) ∵ nothing ! $ move ! (5 ∷ 0 ∷ []) $ join ! $ move ! (3 ∷ 0 ∷ []) $ join ! $ move ! (1 ∷ 0 ∷ []) $ join ! $ nothing ! $ move ! (4 ∷ 0 ∷ []) $ fjoin ! $ move ! (3 ∷ 0 ∷ []) $ fjoin ! $ move ! (2 ∷ 0 ∷ []) $ fjoin ! $ owned ! usize (Is usize) (uint-makes 𝓤 H A W w64) n _ is-n $ fjoin ! $ owned ! Rs (Is Rs) (rs-makes 𝓤 H A W) recs _ is-recs $ fjoin ! $ owned ! LinkRow (Is LinkRow) (link-makes 𝓤 H A W) x₀ _ is-x₀ $ fjoin ! $ move ! (1 ∷ 0 ∷ []) $ join ! $ nothing ! $ move ! (1 ∷ 0 ∷ []) $ done !
 
     abbrev Had : (r : RefT (List ℕ)) (w : Val)  → List (Item 𝓤)
     Had r w  = ‵ (flft κ₀ q₀) ∷ ‵ (flft κ₁ q₁) ∷ ‵ (flft κ₂ q₂) ∷ ‵ (flft κ₃ q₃) ∷ ‵ ((ShrSlice (named 1) κ₁ u8) .own r (w ∷ [])) ∷ []
@@ -124,13 +125,13 @@ module _ {M : Type 1} (𝓤 : URA M) (H : Heap 𝓤) (A : Atoms 𝓤) (W : Given
 
     walk : (C : Calls 𝓤 H) (Λ : Loops 𝓤 H) → FmC 𝓤 H (W .laws) C → Known C → ent 𝓤 (onEntry 𝓤 H A f.signature (κ₀, (κ₁, (κ₂, (κ₃, tt)))) (q₀, (q₁, (q₂, (q₃, tt)))) x at) (WpFn 𝓤 H C Λ code.function (v₀ ∷ s₁ ∷ s₂ ∷ s₃ ∷ s₄ ∷ []) Post)
     walk C Λ fm known =
-        qed W ((‵ (flft κ₀ q₀) ⊛ ‵ (flft κ₁ q₁) ⊛ ‵ (flft κ₂ q₂) ⊛ ‵ (flft κ₃ q₃) ⊛ ‵ ftrue) ∷ ‵ (owns (B.the-row ∷ ShrSlice (named 0) κ₀ u8 ∷ ShrSlice (named 1) κ₁ u8 ∷ ShrSlice (named 2) κ₂ R ∷ ShrSlice (named 3) κ₃ u32 ∷ []) x at) ∷ []) ∵ enter ! C Λ code.function (v₀ ∷ s₁ ∷ s₂ ∷ s₃ ∷ s₄ ∷ []) _ $
+        qed W ((‵ (flft κ₀ q₀) ⊛ ‵ (flft κ₁ q₁) ⊛ ‵ (flft κ₂ q₂) ⊛ ‵ (flft κ₃ q₃) ⊛ ‵ ftrue) ∷ ‵ (owns (LinkRow ∷ ShrSlice (named 0) κ₀ u8 ∷ ShrSlice (named 1) κ₁ u8 ∷ ShrSlice (named 2) κ₂ R ∷ ShrSlice (named 3) κ₃ u32 ∷ []) x at) ∷ []) ∵ enter ! C Λ code.function (v₀ ∷ s₁ ∷ s₂ ∷ s₃ ∷ s₄ ∷ []) _ $
         alloc1 ! (λ l₀. alloc1 ! (λ l₁. alloc1 ! (λ l₂. alloc1 ! (λ l₃. alloc1 ! (λ l₄. alloc1 ! (λ l₅. alloc1 ! (λ l₆. alloc1 ! (λ l₇. alloc1 ! (λ l₈. alloc0 ! $ params1 ! $
-        pass1 ! (init ! 14 refl (LL.lawful B.the-type B′.the-laws 𝓤 H A W .typed x₀ (v₀ ∷ []) g₀ .0)) $ pass1 ! (init ! 12 refl (tt, (tt, (record { fits = room₁ .0 }, tt)))) $ pass1 ! (init ! 10 refl (tt, (tt, (record { fits = room₂ .0 }, tt)))) $ pass1 ! (init ! 8 refl (tt, (tt, (record { fits = room₃ .0 }, tt)))) $ pass1 ! (init ! 6 refl (tt, (tt, (record { fits = room₄ .0 }, tt)))) $ pass0 ! $
+        pass1 ! (init ! 14 refl (link-typed 𝓤 H A W x₀ g₀)) $ pass1 ! (init ! 12 refl (tt, (tt, (record { fits = room₁ .0 }, tt)))) $ pass1 ! (init ! 10 refl (tt, (tt, (record { fits = room₂ .0 }, tt)))) $ pass1 ! (init ! 8 refl (tt, (tt, (record { fits = room₃ .0 }, tt)))) $ pass1 ! (init ! 6 refl (tt, (tt, (record { fits = room₄ .0 }, tt)))) $ pass0 ! $
         move ! (19 ∷ []) $ fsplit ! $ drop ! $ fsplit ! $ move ! (1 ∷ []) $ fsplit ! $ move ! (1 ∷ []) $ fsplit ! $ move ! (1 ∷ []) $ fsplit ! $ move ! (1 ∷ []) $ drop ! $ move ! (22 ∷ []) $ split ! $ move ! (1 ∷ []) $ split ! $ move ! (1 ∷ []) $ split ! $ move ! (1 ∷ []) $ split ! $ move ! (1 ∷ []) $ drop ! $ 
         -- [tok4; tok3; tok2; tok1; own4; own3; own2; own1; the locals]
         nothing ! $ calls-fn ! fm outstanding.ended (outstanding.clauses 𝓤 H A at-mem run) (known .0) ((tt, tt, tt, (x₀, tt), (v₀ ∷ [], tt)), tt) (λ list _. list ≡ x₀ .flight .outstanding)
-        (‵ ftrue) (plainly 𝓤 H A W (B.the-row ∷ []) ((LL.makes B.the-type B′.the-plain 𝓤 H A), tt) (x₀, tt) (v₀ ∷ [], tt) (g₀, tt)) (λ list _. id⊢ 𝓤 _)
+        (‵ ftrue) (plainly 𝓤 H A W (LinkRow ∷ []) ((link-makes 𝓤 H A W), tt) (x₀, tt) (v₀ ∷ [], tt) (g₀, tt)) (λ list _. id⊢ 𝓤 _)
         (and-then ! (load ! (from ! (stop !)) (look ! 23 refl)) (no-more !)) (λ list w₁ _ e-list is-list. drop ! $ drop ! $ land ! (from ! (stop !)) (init ! 8 refl (ls-typed 𝓤 H A W list is-list)) $
         move ! (5 ∷ []) $ use1 W (‵ Own₃ ⊛ ‵ Own₃) (shr-slice-copy 𝓤 H A W (named 0) κ₂ R .twice x₃ (s₃ ∷ [])) $ split ! $ move ! (3 ∷ 0 ∷ []) $ join ! $ calls-fn ! fm gather.ended (gather.clauses 𝓤 H A at-mem run) (known .1) (to-gather list w₁) (λ recs us. recs ≡ padded (gathered (x₃ .now) (slotsOf (outstandingOf list)))) (‵ (flft κ₂ q₂) ⊛ ‵ Own₃)
         (asks-gather list w₁ is-list) (λ recs us. id⊢ 𝓤 _)
@@ -152,7 +153,7 @@ module _ {M : Type 1} (𝓤 : URA M) (H : Heap 𝓤) (A : Atoms 𝓤) (W : Given
         move ! (2 ∷ 1 ∷ 4 ∷ 0 ∷ 3 ∷ []) $ by ! (exits c w₄  (show-promised x₀ (partsOf (x₁ .now) (x₂ .now) (x₃ .now) (x₄ .now)) recs n (gathers x₀ (partsOf (x₁ .now) (x₂ .now) (x₃ .now) (x₄ .now)) list recs n e-list e-recs e-n) (c .now) e-c)  is-c))))))))))))))
 
   f-meets : (𝓣 : Tables 𝓤 H) → Known (𝓣 .C) → Meets 𝓤 H A f.signature (WpFn 𝓤 H (𝓣 .C) (𝓣 .Λ) code.function) (f.spec 𝓤 H A at-mem run)
-  f-meets 𝓣 known = walk-meets 𝓤 H A f.ended stayed W (goes-dropped 𝓤 H A W 4 (plain (λ _. B.the-row)) yes (λ κs x f. refl), (goes-dropped 𝓤 H A W 4 (shrSliceOf (0 ∷ []) tt (plain (λ _. u8))) yes (λ κs x f. refl), (goes-dropped 𝓤 H A W 4 (shrSliceOf (1 ∷ []) tt (plain (λ _. u8))) yes (λ κs x f. refl), (goes-dropped 𝓤 H A W 4 (shrSliceOf (2 ∷ []) tt (plain (λ _. R))) yes (λ κs x f. refl), (goes-dropped 𝓤 H A W 4 (shrSliceOf (3 ∷ []) tt (plain (λ _. u32))) yes (λ κs x f. refl), tt)))))
+  f-meets 𝓣 known = walk-meets 𝓤 H A f.ended stayed W (goes-dropped 𝓤 H A W 4 (plain (λ _. LinkRow)) yes (λ κs x f. refl), (goes-dropped 𝓤 H A W 4 (shrSliceOf (0 ∷ []) tt (plain (λ _. u8))) yes (λ κs x f. refl), (goes-dropped 𝓤 H A W 4 (shrSliceOf (1 ∷ []) tt (plain (λ _. u8))) yes (λ κs x f. refl), (goes-dropped 𝓤 H A W 4 (shrSliceOf (2 ∷ []) tt (plain (λ _. R))) yes (λ κs x f. refl), (goes-dropped 𝓤 H A W 4 (shrSliceOf (3 ∷ []) tt (plain (λ _. u32))) yes (λ κs x f. refl), tt)))))
       (f.clauses 𝓤 H A at-mem run) (WpFn 𝓤 H (𝓣 .C) (𝓣 .Λ) code.function) (WpFn-mono 𝓤 H (W .laws) 𝓣 code.function)
       (walked 𝓤 H A f.ended stayed (f.clauses 𝓤 H A at-mem run) (WpFn 𝓤 H (𝓣 .C) (𝓣 .Λ) code.function) (λ κs. (LL.vals B.the-type B′.the-laws, (slice-vals, (slice-vals, (slice-vals, (slice-vals, tt)))))) (λ κs. (LL.tells B.the-type B′.the-laws, (shr-slice-tells (named 0) (κs .0) u8, (shr-slice-tells (named 1) (κs .1 .0) u8, (shr-slice-tells (named 2) (κs .1 .1 .0) R, (shr-slice-tells (named 3) (κs .1 .1 .1 .0) u32, tt))))))
       (λ κs qs bounds a g are. via 𝓤 _ (fst∗ 𝓤 _ (emp 𝓤)) (walk (κs .0) (κs .1 .0) (κs .1 .1 .0) (κs .1 .1 .1 .0) (qs .0) (qs .1 .0) (qs .1 .1 .0) (qs .1 .1 .1 .0) (a .0) (LL.val B.the-type B′.the-laws (a .0)) (are .0) (a .1 .0) (are .1 .0 .0 .1) (a .1 .1 .0) (are .1 .1 .0 .0 .1) (a .1 .1 .1 .0) (are .1 .1 .1 .0 .0 .1) (a .1 .1 .1 .1 .0) (are .1 .1 .1 .1 .0 .0 .1) (𝓣 .C) (𝓣 .Λ) (fmOf 𝓤 H (W .laws) 𝓣) known)))

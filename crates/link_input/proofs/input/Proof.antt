@@ -11,6 +11,7 @@ use denote.Plain.{nothing-lawful}
 use denote.Signature.{shrSliceOf}
 use denote.Triple.Walked.{stay-dropped, goes-dropped}
 use denote.Struct.Laws as LL
+use Rattle.lent.proofs.Rows.{LinkRow, link-typed, link-makes, AnsweredRow, answered-typed, answered-makes}
 use Rattle.timing.specs.declared.Record.{Record}
 use Rattle.lists.specs.declared.OutstandingList.{OutstandingList}
 use Rattle.lists.specs.Views.{outstandingOf}
@@ -18,8 +19,6 @@ use Rattle.block.specs.declared.Link.{Link}
 use Rattle.block.proofs.Link as B
 use Rattle.block.proofs.Link.Laws as B′
 use Rattle.calls.specs.declared.Answered.{Answered}
-use Rattle.calls.proofs.Answered as N
-use Rattle.calls.proofs.Answered.Laws as N′
 use Rattle.records.specs.Tables.{slotsOf, scattered}
 use Rattle.calls.specs.Promises.{InputPromise}
 use Rattle.input_call.proofs.Taken as T
@@ -60,7 +59,7 @@ module _ {M : Type 1} (𝓤 : URA M) (H : Heap 𝓤) (A : Atoms 𝓤) (W : Given
       × Triple 𝓤 (C scatter-def.name) (tripleOf 𝓤 H A scatter.signature (scatter.spec 𝓤 H A at-mem run))
       × Triple 𝓤 (C left-answer-def.name) (tripleOf 𝓤 H A left-answer.signature (left-answer.spec 𝓤 H A at-mem run))
 
-  module _ (κ₀ κ₁ κ₂ κ₃ κ₄ : Lft) (q₀ q₁ q₂ q₃ q₄ : Share) (x₀ : Link) (v₀ : Val) (g₀ : Is B.the-row x₀ (v₀ ∷ [])) (x₁ : RefT (List ℕ)) (room₁ : Room u8 (length (x₁ .now))) (x₂ : RefT (List ℕ)) (room₂ : Room u8 (length (x₂ .now))) (b o : ℕ) (γ : GName) (ys : List Record) (room₃ : Room R (length ys)) (x₄ : RefT (List ℕ)) (room₄ : Room u32 (length (x₄ .now))) (x₅ : RefT (List ℕ)) (room₅ : Room u8 (length (x₅ .now))) where
+  module _ (κ₀ κ₁ κ₂ κ₃ κ₄ : Lft) (q₀ q₁ q₂ q₃ q₄ : Share) (x₀ : Link) (v₀ : Val) (g₀ : Is LinkRow x₀ (v₀ ∷ [])) (x₁ : RefT (List ℕ)) (room₁ : Room u8 (length (x₁ .now))) (x₂ : RefT (List ℕ)) (room₂ : Room u8 (length (x₂ .now))) (b o : ℕ) (γ : GName) (ys : List Record) (room₃ : Room R (length ys)) (x₄ : RefT (List ℕ)) (room₄ : Room u32 (length (x₄ .now))) (x₅ : RefT (List ℕ)) (room₅ : Room u8 (length (x₅ .now))) where
     -- the table's reference, and one that it is lent as
     abbrev table-at : GName → RefT (List Record)
     table-at δ = record { ptr = (b, o); name = δ; now = ys }
@@ -114,9 +113,9 @@ module _ {M : Type 1} (𝓤 : URA M) (H : Heap 𝓤) (A : Atoms 𝓤) (W : Given
     abbrev to-core : (ν : ℕ) (δ : GName) (x₀ : Link) (v₀ : Val) → tripleOf 𝓤 H A core.signature (core.spec 𝓤 H A at-mem run) .Ghost
     to-core ν δ x₀ v₀ = (((κ₀, (κ₁, ((ν ∷ []), (κ₃, (κ₄, tt))))), (q₀, (q₁, (fullShare, (q₃, (q₄, tt))))), tt, (x₀, (x₁, (x₂, ((table-at δ), (x₄, (x₅, tt)))))), (v₀ ∷ [], (s₁ ∷ [], (s₂ ∷ [], (s₃ ∷ [], (s₄ ∷ [], (s₅ ∷ [], tt))))))), tt)
 
-    asks-core : (ν : ℕ) (δ : GName) → (x₀ : Link) (v₀ : Val) → Is B.the-row x₀ (v₀ ∷ []) → ent 𝓤 (⋆ 𝓤 H A (‵ (flft κ₀ q₀) ∷ ‵ Own₁ ∷ ‵ (flft κ₁ q₁) ∷ ‵ Own₂ ∷ ‵ (flft (ν ∷ []) fullShare) ∷ ‵ (Shared ν δ) ∷ ‵ (flft κ₃ q₃) ∷ ‵ Own₄ ∷ ‵ (flft κ₄ q₄) ∷ ‵ Own₅ ∷ [])) (tripleOf 𝓤 H A core.signature (core.spec 𝓤 H A at-mem run) .pre (to-core ν δ x₀ v₀))
+    asks-core : (ν : ℕ) (δ : GName) → (x₀ : Link) (v₀ : Val) → Is LinkRow x₀ (v₀ ∷ []) → ent 𝓤 (⋆ 𝓤 H A (‵ (flft κ₀ q₀) ∷ ‵ Own₁ ∷ ‵ (flft κ₁ q₁) ∷ ‵ Own₂ ∷ ‵ (flft (ν ∷ []) fullShare) ∷ ‵ (Shared ν δ) ∷ ‵ (flft κ₃ q₃) ∷ ‵ Own₄ ∷ ‵ (flft κ₄ q₄) ∷ ‵ Own₅ ∷ [])) (tripleOf 𝓤 H A core.signature (core.spec 𝓤 H A at-mem run) .pre (to-core ν δ x₀ v₀))
     asks-core ν δ x₀ v₀ is-x₀ =
-        qed W (‵ (flft κ₀ q₀) ∷ ‵ Own₁ ∷ ‵ (flft κ₁ q₁) ∷ ‵ Own₂ ∷ ‵ (flft (ν ∷ []) fullShare) ∷ ‵ (Shared ν δ) ∷ ‵ (flft κ₃ q₃) ∷ ‵ Own₄ ∷ ‵ (flft κ₄ q₄) ∷ ‵ Own₅ ∷ []) ∵ nothing ! $ move ! (9 ∷ 0 ∷ []) $ join ! $ move ! (7 ∷ 0 ∷ []) $ join ! $ move ! (5 ∷ 0 ∷ []) $ join ! $ move ! (3 ∷ 0 ∷ []) $ join ! $ move ! (1 ∷ 0 ∷ []) $ join ! $ nothing ! $ move ! (6 ∷ 0 ∷ []) $ fjoin ! $ move ! (5 ∷ 0 ∷ []) $ fjoin ! $ move ! (4 ∷ 0 ∷ []) $ fjoin ! $ move ! (3 ∷ 0 ∷ []) $ fjoin ! $ move ! (2 ∷ 0 ∷ []) $ fjoin ! $ owned ! B.the-row (Is B.the-row) (LL.makes B.the-type B′.the-plain 𝓤 H A) x₀ _ is-x₀ $ fjoin ! $ move ! (1 ∷ 0 ∷ []) $ join ! $ nothing ! $ move ! (1 ∷ 0 ∷ []) $ done !
+        qed W (‵ (flft κ₀ q₀) ∷ ‵ Own₁ ∷ ‵ (flft κ₁ q₁) ∷ ‵ Own₂ ∷ ‵ (flft (ν ∷ []) fullShare) ∷ ‵ (Shared ν δ) ∷ ‵ (flft κ₃ q₃) ∷ ‵ Own₄ ∷ ‵ (flft κ₄ q₄) ∷ ‵ Own₅ ∷ []) ∵ nothing ! $ move ! (9 ∷ 0 ∷ []) $ join ! $ move ! (7 ∷ 0 ∷ []) $ join ! $ move ! (5 ∷ 0 ∷ []) $ join ! $ move ! (3 ∷ 0 ∷ []) $ join ! $ move ! (1 ∷ 0 ∷ []) $ join ! $ nothing ! $ move ! (6 ∷ 0 ∷ []) $ fjoin ! $ move ! (5 ∷ 0 ∷ []) $ fjoin ! $ move ! (4 ∷ 0 ∷ []) $ fjoin ! $ move ! (3 ∷ 0 ∷ []) $ fjoin ! $ move ! (2 ∷ 0 ∷ []) $ fjoin ! $ owned ! LinkRow (Is LinkRow) (link-makes 𝓤 H A W) x₀ _ is-x₀ $ fjoin ! $ move ! (1 ∷ 0 ∷ []) $ join ! $ nothing ! $ move ! (1 ∷ 0 ∷ []) $ done !
 
     -- what scatter is called at, and that what it asks is had
     abbrev to-scatter : (list : OutstandingList) (w₂ : Val) (recs : List Record) (w₃ : Val) → tripleOf 𝓤 H A scatter.signature (scatter.spec 𝓤 H A at-mem run) .Ghost
@@ -133,16 +132,16 @@ module _ {M : Type 1} (𝓤 : URA M) (H : Heap 𝓤) (A : Atoms 𝓤) (W : Given
     abbrev Said : (r : Answered) (z₂ : List ℕ) (z₃ : List Record) (z₄ : List ℕ) → Type 0
     Said r z₂ z₃ z₄ = InputPromise (x₅ .now) x₀ (partsOf (x₁ .now) (x₂ .now) (x₃ .now) (x₄ .now)) (r .answer) (r .link) (partsOf (x₁ .now) z₂ z₃ z₄)
 
-    exits : (r : Answered) (w : Val) (z₂ : List ℕ) (z₃ : List Record) (z₄ : List ℕ) → Said r z₂ z₃ z₄ → length z₂ ≡ length (x₂ .now) → length z₃ ≡ length (x₃ .now) → length z₄ ≡ length (x₄ .now) → Is N.the-row r (w ∷ []) → ent 𝓤 (⋆ 𝓤 H A (Had z₂ z₃ z₄)) (Post w)
+    exits : (r : Answered) (w : Val) (z₂ : List ℕ) (z₃ : List Record) (z₄ : List ℕ) → Said r z₂ z₃ z₄ → length z₂ ≡ length (x₂ .now) → length z₃ ≡ length (x₃ .now) → length z₄ ≡ length (x₄ .now) → Is AnsweredRow r (w ∷ []) → ent 𝓤 (⋆ 𝓤 H A (Had z₂ z₃ z₄)) (Post w)
     exits r w z₂ z₃ z₄ e len₂ len₃ len₄ g =
         qed W (Had z₂ z₃ z₄) ∵ suffices ! _ (ends-at 𝓤 H A f.ended stayed (f.clauses 𝓤 H A at-mem run) W (((κ₀, (κ₁, (κ₂, (κ₃, (κ₄, tt))))), (q₀, (q₁, (q₂, (q₃, (q₄, tt))))), tt, x, at), tt) w r (tt, (tt, (z₂, (z₃, (z₄, (tt, tt)))))) (tt, (tt, (len₂, (len₃, (len₄, (tt, tt))))))) $ says ! e $
-        nothing ! $ move ! (8 ∷ 0 ∷ []) $ join ! $ move ! (7 ∷ 0 ∷ []) $ join ! $ move ! (5 ∷ 0 ∷ []) $ join ! $ move ! (3 ∷ 0 ∷ []) $ join ! $ move ! (1 ∷ 0 ∷ []) $ join ! $ frame ! $ nothing ! $ nothing ! $ fjoin ! $ move ! (3 ∷ 0 ∷ []) $ fjoin ! $ move ! (2 ∷ 0 ∷ []) $ fjoin ! $ move ! (1 ∷ 0 ∷ []) $ fjoin ! $ nothing ! $ fjoin ! $ nothing ! $ fjoin ! $ frame ! $ owned ! N.the-row (Is N.the-row) (LL.makes N.the-type N′.the-plain 𝓤 H A) r _ g $ done !
+        nothing ! $ move ! (8 ∷ 0 ∷ []) $ join ! $ move ! (7 ∷ 0 ∷ []) $ join ! $ move ! (5 ∷ 0 ∷ []) $ join ! $ move ! (3 ∷ 0 ∷ []) $ join ! $ move ! (1 ∷ 0 ∷ []) $ join ! $ frame ! $ nothing ! $ nothing ! $ fjoin ! $ move ! (3 ∷ 0 ∷ []) $ fjoin ! $ move ! (2 ∷ 0 ∷ []) $ fjoin ! $ move ! (1 ∷ 0 ∷ []) $ fjoin ! $ nothing ! $ fjoin ! $ nothing ! $ fjoin ! $ frame ! $ owned ! AnsweredRow (Is AnsweredRow) (answered-makes 𝓤 H A W) r _ g $ done !
 
     walk : (C : Calls 𝓤 H) (Λ : Loops 𝓤 H) → FmC 𝓤 H (W .laws) C → Known C → ent 𝓤 (onEntry 𝓤 H A f.signature (κ₀, (κ₁, (κ₂, (κ₃, (κ₄, tt))))) (q₀, (q₁, (q₂, (q₃, (q₄, tt))))) x at) (WpFn 𝓤 H C Λ code.function (v₀ ∷ s₁ ∷ s₂ ∷ s₃ ∷ s₄ ∷ s₅ ∷ []) Post)
     walk C Λ fm known =
-        qed W ((‵ (flft κ₀ q₀) ⊛ ‵ (flft κ₁ q₁) ⊛ ‵ (flft κ₂ q₂) ⊛ ‵ (flft κ₃ q₃) ⊛ ‵ (flft κ₄ q₄) ⊛ ‵ ftrue) ∷ ‵ (owns (B.the-row ∷ ShrSlice (named 0) κ₀ u8 ∷ MutSlice (named 1) κ₁ u8 ∷ MutSlice (named 2) κ₂ R ∷ MutSlice (named 3) κ₃ u32 ∷ ShrSlice (named 4) κ₄ u8 ∷ []) x at) ∷ []) ∵ enter ! C Λ code.function (v₀ ∷ s₁ ∷ s₂ ∷ s₃ ∷ s₄ ∷ s₅ ∷ []) _ $
+        qed W ((‵ (flft κ₀ q₀) ⊛ ‵ (flft κ₁ q₁) ⊛ ‵ (flft κ₂ q₂) ⊛ ‵ (flft κ₃ q₃) ⊛ ‵ (flft κ₄ q₄) ⊛ ‵ ftrue) ∷ ‵ (owns (LinkRow ∷ ShrSlice (named 0) κ₀ u8 ∷ MutSlice (named 1) κ₁ u8 ∷ MutSlice (named 2) κ₂ R ∷ MutSlice (named 3) κ₃ u32 ∷ ShrSlice (named 4) κ₄ u8 ∷ []) x at) ∷ []) ∵ enter ! C Λ code.function (v₀ ∷ s₁ ∷ s₂ ∷ s₃ ∷ s₄ ∷ s₅ ∷ []) _ $
         alloc1 ! (λ l₀. alloc1 ! (λ l₁. alloc1 ! (λ l₂. alloc1 ! (λ l₃. alloc1 ! (λ l₄. alloc1 ! (λ l₅. alloc1 ! (λ l₆. alloc1 ! (λ l₇. alloc1 ! (λ l₈. alloc1 ! (λ l₉. alloc1 ! (λ l₁₀. alloc1 ! (λ l₁₁. alloc1 ! (λ l₁₂. alloc1 ! (λ l₁₃. alloc1 ! (λ l₁₄. alloc1 ! (λ l₁₅. alloc1 ! (λ l₁₆. alloc1 ! (λ l₁₇. alloc1 ! (λ l₁₈. alloc0 ! $ params1 ! $
-        pass1 ! (init ! 34 refl (LL.lawful B.the-type B′.the-laws 𝓤 H A W .typed x₀ (v₀ ∷ []) g₀ .0)) $ pass1 ! (init ! 32 refl (tt, (tt, (record { fits = room₁ .0 }, tt)))) $ pass1 ! (init ! 30 refl (tt, (tt, (record { fits = room₂ .0 }, tt)))) $ pass1 ! (init ! 28 refl (tt, (tt, (record { fits = room₃ .0 }, tt)))) $ pass1 ! (init ! 26 refl (tt, (tt, (record { fits = room₄ .0 }, tt)))) $ pass1 ! (init ! 24 refl (tt, (tt, (record { fits = room₅ .0 }, tt)))) $ pass0 ! $
+        pass1 ! (init ! 34 refl (link-typed 𝓤 H A W x₀ g₀)) $ pass1 ! (init ! 32 refl (tt, (tt, (record { fits = room₁ .0 }, tt)))) $ pass1 ! (init ! 30 refl (tt, (tt, (record { fits = room₂ .0 }, tt)))) $ pass1 ! (init ! 28 refl (tt, (tt, (record { fits = room₃ .0 }, tt)))) $ pass1 ! (init ! 26 refl (tt, (tt, (record { fits = room₄ .0 }, tt)))) $ pass1 ! (init ! 24 refl (tt, (tt, (record { fits = room₅ .0 }, tt)))) $ pass0 ! $
         move ! (39 ∷ []) $ fsplit ! $ drop ! $ fsplit ! $ move ! (1 ∷ []) $ fsplit ! $ move ! (1 ∷ []) $ fsplit ! $ move ! (1 ∷ []) $ fsplit ! $ move ! (1 ∷ []) $ fsplit ! $ move ! (1 ∷ []) $ drop ! $ move ! (43 ∷ []) $ split ! $ move ! (1 ∷ []) $ split ! $ move ! (1 ∷ []) $ split ! $ move ! (1 ∷ []) $ split ! $ move ! (1 ∷ []) $ split ! $ move ! (1 ∷ []) $ drop ! $ 
         -- [tok5; tok4; tok3; tok2; tok1; own5; own4; own3; own2; own1; the locals]
         assigns ! (addr ! (from ! (fld ! refl (hop ! (look-in ! 40 (sub ! 0 refl (whole !))) (stop !))))) (from ! (stop !)) (init ! 26 refl (tt, tt)) $
@@ -177,13 +176,13 @@ module _ {M : Type 1} (𝓤 : URA M) (H : Heap 𝓤) (A : Atoms 𝓤) (W : Given
         -- [fin3; tok3; fin4; fin2; tok5; tok4; tok2; tok1; the locals]
         nothing ! $ calls-fn ! fm left-answer.ended (left-answer.clauses 𝓤 H A at-mem run) (known .4) ((tt, tt, tt, (t, tt), (w₁ ∷ [], tt)), tt) (λ a _. a ≡ record { answer = t .answer; link = t .link })
         (‵ ftrue) (plainly 𝓤 H A W (T.the-row ∷ []) ((LL.makes T.the-type T′.the-plain 𝓤 H A), tt) (t, tt) (w₁ ∷ [], tt) (is-t, tt)) (λ a _. id⊢ 𝓤 _)
-        (and-then ! (load ! (from ! (stop !)) (look ! 31 refl)) (no-more !)) (λ a w₅ _ e-a is-a. drop ! $ drop ! $ land ! (from ! (stop !)) (init ! 44 refl (LL.lawful N.the-type N′.the-laws 𝓤 H A W .typed a (w₅ ∷ []) is-a .0)) $
+        (and-then ! (load ! (from ! (stop !)) (look ! 31 refl)) (no-more !)) (λ a w₅ _ e-a is-a. drop ! $ drop ! $ land ! (from ! (stop !)) (init ! 44 refl (answered-typed 𝓤 H A W a is-a)) $
         returns ! (look ! 44 refl) $ forget ! 8 refl $ forget ! 10 refl $ forget ! 12 refl $ forget ! 14 refl $ forget ! 16 refl $ forget ! 18 refl $ forget ! 20 refl $ forget ! 22 refl $ forget ! 24 refl $ forget ! 26 refl $ forget ! 28 refl $ forget ! 30 refl $ forget ! 32 refl $ forget ! 34 refl $ forget ! 36 refl $ forget ! 38 refl $ forget ! 40 refl $ forget ! 42 refl $ forget ! 44 refl $ 
         move ! (44 ∷ 45 ∷ []) $ free1 ! $ move ! (42 ∷ 43 ∷ []) $ free1 ! $ move ! (40 ∷ 41 ∷ []) $ free1 ! $ move ! (38 ∷ 39 ∷ []) $ free1 ! $ move ! (36 ∷ 37 ∷ []) $ free1 ! $ move ! (34 ∷ 35 ∷ []) $ free1 ! $ move ! (32 ∷ 33 ∷ []) $ free1 ! $ move ! (30 ∷ 31 ∷ []) $ free1 ! $ move ! (28 ∷ 29 ∷ []) $ free1 ! $ move ! (26 ∷ 27 ∷ []) $ free1 ! $ move ! (24 ∷ 25 ∷ []) $ free1 ! $ move ! (22 ∷ 23 ∷ []) $ free1 ! $ move ! (20 ∷ 21 ∷ []) $ free1 ! $ move ! (18 ∷ 19 ∷ []) $ free1 ! $ move ! (16 ∷ 17 ∷ []) $ free1 ! $ move ! (14 ∷ 15 ∷ []) $ free1 ! $ move ! (12 ∷ 13 ∷ []) $ free1 ! $ move ! (10 ∷ 11 ∷ []) $ free1 ! $ move ! (8 ∷ 9 ∷ []) $ free1 ! $ free0 ! $
         move ! (7 ∷ 3 ∷ 6 ∷ 0 ∷ 1 ∷ 2 ∷ 5 ∷ 4 ∷ []) $ by ! (exits a w₅ (ws .1 .1 .0) (us .0) (ws .1 .1 .1 .1 .0) (input-promised x₀ (partsOf (x₁ .now) (x₂ .now) (x₃ .now) (x₄ .now)) (x₅ .now) t (ws .1 .1 .0) (ws .1 .1 .1 .1 .0) (us .0) (put-back ys (t .link) (t .records) (us .0) list recs e-list e-recs (is-recs .1 .0 .1) e-u) a e-a e-t) len₂ len₃ len₄ is-a))))))))))))))))))))))))))))))
 
   f-meets : (𝓣 : Tables 𝓤 H) → Known (𝓣 .C) → Meets 𝓤 H A f.signature (WpFn 𝓤 H (𝓣 .C) (𝓣 .Λ) code.function) (f.spec 𝓤 H A at-mem run)
-  f-meets 𝓣 known = walk-meets 𝓤 H A f.ended stayed W (goes-dropped 𝓤 H A W 5 (plain (λ _. B.the-row)) yes (λ κs x f. refl), (goes-dropped 𝓤 H A W 5 (shrSliceOf (0 ∷ []) tt (plain (λ _. u8))) yes (λ κs x f. refl), (goes-gave-slice 𝓤 H A W 5 1 tt (plain (λ _. u8)), (goes-gave-slice 𝓤 H A W 5 2 tt (plain (λ _. R)), (goes-gave-slice 𝓤 H A W 5 3 tt (plain (λ _. u32)), (goes-dropped 𝓤 H A W 5 (shrSliceOf (4 ∷ []) tt (plain (λ _. u8))) yes (λ κs x f. refl), tt))))))
+  f-meets 𝓣 known = walk-meets 𝓤 H A f.ended stayed W (goes-dropped 𝓤 H A W 5 (plain (λ _. LinkRow)) yes (λ κs x f. refl), (goes-dropped 𝓤 H A W 5 (shrSliceOf (0 ∷ []) tt (plain (λ _. u8))) yes (λ κs x f. refl), (goes-gave-slice 𝓤 H A W 5 1 tt (plain (λ _. u8)), (goes-gave-slice 𝓤 H A W 5 2 tt (plain (λ _. R)), (goes-gave-slice 𝓤 H A W 5 3 tt (plain (λ _. u32)), (goes-dropped 𝓤 H A W 5 (shrSliceOf (4 ∷ []) tt (plain (λ _. u8))) yes (λ κs x f. refl), tt))))))
       (f.clauses 𝓤 H A at-mem run) (WpFn 𝓤 H (𝓣 .C) (𝓣 .Λ) code.function) (WpFn-mono 𝓤 H (W .laws) 𝓣 code.function)
       (walked 𝓤 H A f.ended stayed (f.clauses 𝓤 H A at-mem run) (WpFn 𝓤 H (𝓣 .C) (𝓣 .Λ) code.function) (λ κs. (LL.vals B.the-type B′.the-laws, (slice-vals, (slice-vals, (slice-vals, (slice-vals, (slice-vals, tt))))))) (λ κs. (LL.tells B.the-type B′.the-laws, (shr-slice-tells (named 0) (κs .0) u8, (mut-slice-tells (named 1) (κs .1 .0) u8, (mut-slice-tells (named 2) (κs .1 .1 .0) R, (mut-slice-tells (named 3) (κs .1 .1 .1 .0) u32, (shr-slice-tells (named 4) (κs .1 .1 .1 .1 .0) u8, tt)))))))
       (λ κs qs bounds a g are. via 𝓤 _ (fst∗ 𝓤 _ (emp 𝓤)) (walk (κs .0) (κs .1 .0) (κs .1 .1 .0) (κs .1 .1 .1 .0) (κs .1 .1 .1 .1 .0) (qs .0) (qs .1 .0) (qs .1 .1 .0) (qs .1 .1 .1 .0) (qs .1 .1 .1 .1 .0) (a .0) (LL.val B.the-type B′.the-laws (a .0)) (are .0) (a .1 .0) (are .1 .0 .0 .1) (a .1 .1 .0) (are .1 .1 .0 .0 .1) (a .1 .1 .1 .0 .ptr .0) (a .1 .1 .1 .0 .ptr .1) (a .1 .1 .1 .0 .name) (a .1 .1 .1 .0 .now) (are .1 .1 .1 .0 .0 .1) (a .1 .1 .1 .1 .0) (are .1 .1 .1 .1 .0 .0 .1) (a .1 .1 .1 .1 .1 .0) (are .1 .1 .1 .1 .1 .0 .0 .1) (𝓣 .C) (𝓣 .Λ) (fmOf 𝓤 H (W .laws) 𝓣) known)))
