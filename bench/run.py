@@ -46,7 +46,7 @@ def build_ours(archive):
     compiler = os.environ.get("CC", "cc")
     sources = [HERE / name for name in ("bench.c", "impl_ampferweg.c", "measure.c", "wire.c")]
     run(compiler, *FLAGS, *sources, archive, "-o", WORK / "bench_ampferweg")
-    run(compiler, *FLAGS, HERE / "stack.c", archive, "-o", WORK / "stack")
+    run(compiler, *FLAGS, HERE / "calls.c", archive, "-o", WORK / "calls")
     return WORK / "bench_ampferweg"
 
 
@@ -106,11 +106,12 @@ def table(head, ours, theirs, key, show):
         yield f"| {name} {title} | " + " | ".join(pair(ours[name][key], other, show)) + " |"
 
 
-def stack_table(stack):
-    yield "| Call | near empty | full |"
-    yield "|---|--:|--:|"
+def calls_table(calls):
+    yield "| Call | ns, near empty | full | bytes of stack, near empty | full |"
+    yield "|---|--:|--:|--:|--:|"
     for call in ("open", "send", "input", "flush", "read", "size", "show"):
-        yield f"| {call} | {number(stack['empty'][call])} | {number(stack['full'][call])} |"
+        (stack, time), (full_stack, full_time) = calls["empty"][call], calls["full"][call]
+        yield f"| {call} | {number(time)} | {number(full_time)} | {number(stack)} | {number(full_stack)} |"
 
 
 def processor():
@@ -128,7 +129,7 @@ def undefined(archive):
     return ", ".join(f"`{name}`" for name in sorted(wanted - defined)) or "nothing"
 
 
-def document(archive, divide, ours, theirs, stack):
+def document(archive, divide, ours, theirs, calls):
     lent = next(iter(ours.values()))["lent"]
     short = [f"A quick look: every workload was made {divide} times shorter.", ""] if divide > 1 else []
     return "\n".join([
@@ -147,9 +148,11 @@ def document(archive, divide, ours, theirs, stack):
         f"Our link has no heap: the archive takes only {undefined(archive)} from outside. A link of mtu 256 is lent {number(lent)} bytes, the",
         "control block and a flush's output among them. kcp-go's heap is the most that both ends hold after a collection.", "",
         *table("heap, bytes", ours, theirs, "heap", number), "",
-        "## Stack", "",
-        "Bytes of stack that a call of ours takes, on a painted stack.", "",
-        *stack_table(stack), ""])
+        "## Each call", "",
+        "Time (the least of many repeats from one state) and stack (a painted one) of each call of ours. Near empty: a message of one byte;",
+        "full: 32 segments outstanding, 96 queued, 128 ready with a message of 127 at the front, 128 waiting, 256 noted acks.", "",
+        *calls_table(calls), "",
+        (HERE / "findings.md").read_text()])
 
 
 def main():
@@ -170,8 +173,8 @@ def main():
         for name, program in programs.items():
             results[name][workload] = measure(program, workload, options.divide)
             print(workload, name, json.dumps(results[name][workload]), flush=True)
-    stack = json.loads(run(WORK / "stack"))
-    text = document(options.archive, options.divide, results["ours"], results["theirs"], stack)
+    calls = json.loads(run(WORK / "calls"))
+    text = document(options.archive, options.divide, results["ours"], results["theirs"], calls)
     options.output.write_text(text)
     print(text)
 

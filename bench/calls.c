@@ -1,13 +1,15 @@
-/* The deepest stack of each call, near empty and full: each call runs on a stack of its own that was painted, and the paint
- * that is gone was used. Prints one JSON object, in bytes. */
+/* The deepest stack and the time of each call, near empty and full. A call runs on a stack of its own that was painted, and
+ * the paint that is gone was used; its time is the least of many repeats from one state. Prints one JSON object: of each
+ * call the bytes of stack and the nanoseconds. */
 #define _XOPEN_SOURCE 700
 #include <ampferweg.h>
 #include <stdio.h>
 #include <stdlib.h>
 #include <string.h>
+#include <time.h>
 #include <ucontext.h>
 
-enum { STACK = 1 << 20, PAINT = 0x5A, MTU = 256, MSS = 232 };
+enum { STACK = 1 << 20, PAINT = 0x5A, MTU = 256, MSS = 232, REPEATS = 2000 };
 
 AMPFERWEG_STATION_STORAGE(station, MTU);
 
@@ -55,14 +57,57 @@ static void call_show(void)
     result = 0;
 }
 
+/* ---- time ---- */
+
+static ampferweg_link link_before;
+static ampferweg_record table_before[AMPFERWEG_TABLE_LEN];
+static uint32_t acks_before[AMPFERWEG_ACKS_LEN];
+
+static void keep(void)
+{
+    link_before = station.link;
+    memcpy(table_before, station.table, sizeof table_before);
+    memcpy(acks_before, station.acks, sizeof acks_before);
+}
+
+static void put_back(void)
+{
+    station.link = link_before;
+    memcpy(station.table, table_before, sizeof table_before);
+    memcpy(station.acks, acks_before, sizeof acks_before);
+}
+
+static long nanoseconds_of(void (*call)(void))
+{
+    long least = 1000000000, took;
+    struct timespec from, to;
+    int i;
+    for (i = 0; i < REPEATS; i++) {
+        put_back();
+        clock_gettime(CLOCK_MONOTONIC, &from);
+        call();
+        clock_gettime(CLOCK_MONOTONIC, &to);
+        took = (to.tv_sec - from.tv_sec) * 1000000000L + (to.tv_nsec - from.tv_nsec);
+        if (took < least) least = took;
+    }
+    return least;
+}
+
 static void say(const char *name, void (*call)(void), int last)
 {
-    const size_t base = used_by(nothing), used = used_by(call);
+    const size_t base = used_by(nothing);
+    size_t used;
+    long took, clock;
+    keep();
+    clock = nanoseconds_of(nothing);
+    took = nanoseconds_of(call);
+    put_back();
+    used = used_by(call);
     if (result < 0) {
-        fprintf(stderr, "stack: %s is %s\n", name, ampferweg_text(result));
+        fprintf(stderr, "calls: %s is %s\n", name, ampferweg_text(result));
         exit(3);
     }
-    printf("\"%s\":%zu%s", name, used > base ? used - base : 0, last ? "" : ",");
+    printf("\"%s\":[%zu,%ld]%s", name, used > base ? used - base : 0, took > clock ? took - clock : 0, last ? "" : ",");
 }
 
 /* ---- states ---- */
