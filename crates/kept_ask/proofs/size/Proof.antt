@@ -1,4 +1,4 @@
--- `link_kept::size` meets its contract: a walk of its MIR. The first records are lent as `&`.
+-- `kept_ask::size` meets its contract: a walk of its MIR. The first records are lent as `&`.
 -- Of each callee the proof knows only that it meets its contract.
 -- Assumes nothing.
 use Rattle.records.proofs.Walk.{_≡_, refl, ap, subst, ℕ, List, [], _∷_, length, URA, fullShare, named, w64, tyInt, Val, vint, SProp, ent, emp, via, fst∗, id⊢, Lft, GName, Share, Fml, ftrue, fat, flft, Memory, Routine, Heap, Calls, Loops, WpFn, Tables, Atoms, Fun, givenOf, tables, tablesOf, Given, Item, ‵, some, later, given, _⊛_, ⋆, _$_, _∵_, !, qed, by, move, drop, use1, use2, split, join, pick, learn, rewrite, fsplit, fjoin, suffices, frame, await, done, agg, look, init, forget, stop, hop, from, load, lit, of-opd, bin, addr, and-then, no-more, assigns, returns, enter, alloc1, alloc0, params1, pass1, pass0, free1, free0, land, WpFn-mono, FmC, fmOf, owns, Is, uint-vals, uint-tells, uint-makes, RefT, sliceVal, ShrSlice, Room, slice-vals, shr-slice-tells, plain, usize, u8, u32, nothing, owned, only, Vals, onEntry, Triple, Meets, tripleOf, entered, cited, says, Stays, walkOf, ends-at, walked, walk-meets, yes}
@@ -20,22 +20,22 @@ use Prim.Native.Nat.{zero-le, min}
 use lib.ListN.{take, drop as behind}
 use mathlib.Core.List.{_++_}
 use denote.Signature.Array.{arrayOf}
-use Rattle.link_kept.proofs.Part.{LentShown, lends-shown, shown-back}
-use Rattle.link_kept.proofs.Table.{Ts, ts-typed, ts-vals, ts-tells, cut-at, from-start, from-start-fits}
+use Rattle.kept.proofs.Part.{LentShown, lends-shown, shown-back}
+use Rattle.kept.proofs.Table.{Ts, ts-typed, ts-vals, ts-tells, cut-at, from-start, from-start-fits}
 use denote.Struct.Laws as LL
 use Rattle.block.proofs.Link as B
 use Rattle.block.proofs.Link.Laws as B′
 use Rattle.timing.proofs.Record.Laws as T′
-use Rattle.link_kept.proofs.within as within
-use Rattle.link_kept.proofs.within.Symbol as within-def
-use Rattle.link_kept.proofs.within.Met as within-thm
+use Rattle.kept.proofs.within as within
+use Rattle.kept.proofs.within.Symbol as within-def
+use Rattle.kept.proofs.within.Met as within-thm
 use Rattle.link_ask.proofs.size as core
 use Rattle.link_ask.proofs.size.Symbol as core-def
 use Rattle.link_ask.proofs.size.Met as core-thm
-use Rattle.link_kept.proofs.size.Key.{name as #f}
-use Rattle.link_kept.proofs.size as f
-use Rattle.link_kept.proofs.size.Statement as stated
-use Rattle.link_kept.proofs.size.Code as code
+use Rattle.kept_ask.proofs.size.Key.{name as #f}
+use Rattle.kept_ask.proofs.size as f
+use Rattle.kept_ask.proofs.size.Statement as stated
+use Rattle.kept_ask.proofs.size.Code as code
 
 abbrev stayed : Stays (f.ended .signature .params) (f.ended .kept)
 stayed = (stay-dropped _ yes, (stay-dropped _ yes, (stay-dropped _ yes, (stay-dropped _ yes, (stay-dropped _ yes, (stay-dropped _ yes, tt))))))
@@ -147,6 +147,6 @@ size-spec 𝓤 H 𝓜 𝓖 𝓡 =
     entered 𝓤 H (tripleOf 𝓤 H (𝓖 .A) f.signature (f.spec 𝓤 H (𝓖 .A) (𝓜 .mem) (𝓡 .run)))
     (tables 𝓤 H 𝓜 𝓡 code.env .C) (tables 𝓤 H 𝓜 𝓡 code.env .Λ) #f code.function (code.unfolded 𝓤 H 𝓜 𝓡)
     (f-meets 𝓤 H (𝓖 .A) (givenOf 𝓤 H 𝓜 𝓖) (𝓜 .mem) (𝓡 .run) (tablesOf 𝓤 H 𝓜 (tables 𝓤 H 𝓜 𝓡 code.env)) (
-      cited 𝓤 H (tripleOf 𝓤 H (𝓖 .A) within.signature (within.spec 𝓤 H (𝓖 .A) (𝓜 .mem) (𝓡 .run))) 𝓜 𝓡 code.env within-def.name within-def.routine code.calls-link-kept·within (within-thm.met 𝓤 H 𝓜 𝓖 𝓡),
+      cited 𝓤 H (tripleOf 𝓤 H (𝓖 .A) within.signature (within.spec 𝓤 H (𝓖 .A) (𝓜 .mem) (𝓡 .run))) 𝓜 𝓡 code.env within-def.name within-def.routine code.calls-kept·within (within-thm.met 𝓤 H 𝓜 𝓖 𝓡),
       cited 𝓤 H (tripleOf 𝓤 H (𝓖 .A) core.signature (core.spec 𝓤 H (𝓖 .A) (𝓜 .mem) (𝓡 .run))) 𝓜 𝓡 code.env core-def.name core-def.routine code.calls-link-ask·size (core-thm.met 𝓤 H 𝓜 𝓖 𝓡),
     ))
