@@ -22,14 +22,7 @@ pub fn open(
     ensures { λ r. ⌜ OpenPromise settings link (partsOf (now («send_pool» .entry)) (now («receive_pool» .entry)) (take lent table) (now (acks .entry))) (r .answer) (r .link) (partsOf (now («send_pool» .entry)) (now («receive_pool» .entry)) (take lent table) (now (acks .entry))) ⌝ }
 {
     let n = kept::within(lent);
-    link_local::open(
-        link,
-        settings,
-        send_pool,
-        receive_pool,
-        &table[0..n],
-        acks,
-    )
+    link_local::open(link, settings, send_pool, receive_pool, &table[0..n], acks)
 }
 
 // Sending a message.
@@ -45,14 +38,7 @@ pub fn send(
     ensures { λ r. ⌜ SendPromise (now (message .entry)) link (partsOf (now («send_pool» .entry)) (now («receive_pool» .entry)) (take lent table) (now (acks .entry))) (r .answer) (r .link) (partsOf (now («send_pool» .exit)) (now («receive_pool» .entry)) (take lent table) (now (acks .entry))) ⌝ }
 {
     let n = kept::within(lent);
-    link_local::send(
-        link,
-        send_pool,
-        receive_pool,
-        &table[0..n],
-        acks,
-        message,
-    )
+    link_local::send(link, send_pool, receive_pool, &table[0..n], acks, message)
 }
 
 // Reading a message into a lent buffer.
@@ -68,12 +54,5 @@ pub fn read(
     ensures { λ r. ⌜ ReadPromise link (partsOf (now («send_pool» .entry)) (now («receive_pool» .entry)) (take lent table) (now (acks .entry))) (now (buffer .entry)) (r .answer) (r .link) (partsOf (now («send_pool» .entry)) (now («receive_pool» .entry)) (take lent table) (now (acks .entry))) (now (buffer .exit)) ⌝ }
 {
     let n = kept::within(lent);
-    link_local::read(
-        link,
-        send_pool,
-        receive_pool,
-        &table[0..n],
-        acks,
-        buffer,
-    )
+    link_local::read(link, send_pool, receive_pool, &table[0..n], acks, buffer)
 }

@@ -137,9 +137,15 @@ flushed-slots : (s : Sending) (k : ℕ) → sentSlots (withNumbered s k) ++ slot
 unfolding withNumbered
 flushed-slots s k =
     let q = s .queued in
-    rw (map-append (λ (x : Sent). x .held .slot) (s .outstanding) (numbered (s .next) (take k q)), numbered-slots (s .next) (take k q),
-      append-assoc (sentSlots (s .outstanding)) (slots (take k q)) (slots (drop k q)), ← slots-append (take k q) (drop k q), take-append-drop k q,
-      slots-append (map (λ (x : Sent). x .held) (s .outstanding)) q, sent-slots (s .outstanding))
+    rw (
+      map-append (λ (x : Sent). x .held .slot) (s .outstanding) (numbered (s .next) (take k q)),
+      numbered-slots (s .next) (take k q),
+      append-assoc (sentSlots (s .outstanding)) (slots (take k q)) (slots (drop k q)),
+      ← slots-append (take k q) (drop k q),
+      take-append-drop k q,
+      slots-append (map (λ (x : Sent). x .held) (s .outstanding)) q,
+      sent-slots (s .outstanding),
+    )
 
 pub flush-slots : (s : State) (t : ℕ) (pool : List ℕ) → valid s ≡ true → SlotsFit (outstandingSlots (flushing s t pool .state))
 unfolding flushing

@@ -75,7 +75,16 @@ pub fn flush(
 ) -> Counted
     ensures { λ r. ⌜ FlushPromise t link (partsOf (now («send_pool» .entry)) (now («receive_pool» .entry)) (now (table .entry)) (now (acks .entry))) (now (output .entry)) (now (lengths .entry)) (r .answer) (r .link) (partsOf (now («send_pool» .entry)) (now («receive_pool» .entry)) (now (table .exit)) (now (acks .entry))) (now (output .exit)) (now (lengths .exit)) ⌝ }
 {
-    let flushed = write_out(link, send_pool, receive_pool, table, acks, t, output, lengths);
+    let flushed = write_out(
+        link,
+        send_pool,
+        receive_pool,
+        table,
+        acks,
+        t,
+        output,
+        lengths,
+    );
     let list = flushed_outstanding(flushed);
     let records = flushed_records(flushed);
     records::scatter(table, list, records);

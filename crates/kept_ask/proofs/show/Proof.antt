@@ -93,16 +93,16 @@ module _ {M : Type 1} (𝓤 : URA M) (H : Heap 𝓤) (A : Atoms 𝓤) (W : Given
     asks-core l ν δ n x₀ v₀ is-x₀ =
         qed W (‵ (flft κ₀ q₀) ∷ ‵ Own₁ ∷ ‵ (flft κ₁ q₁) ∷ ‵ Own₂ ∷ ‵ (flft (ν ∷ []) fullShare) ∷ ‵ (Lent l ν δ n) ∷ ‵ (flft κ₂ q₂) ∷ ‵ Own₅ ∷ []) ∵ nothing ! $ move ! (7 ∷ 0 ∷ []) $ join ! $ move ! (5 ∷ 0 ∷ []) $ join ! $ move ! (3 ∷ 0 ∷ []) $ join ! $ move ! (1 ∷ 0 ∷ []) $ join ! $ nothing ! $ move ! (5 ∷ 0 ∷ []) $ fjoin ! $ move ! (4 ∷ 0 ∷ []) $ fjoin ! $ move ! (3 ∷ 0 ∷ []) $ fjoin ! $ move ! (2 ∷ 0 ∷ []) $ fjoin ! $ owned ! LinkRow (Is LinkRow) (link-makes 𝓤 H A W) x₀ _ is-x₀ $ fjoin ! $ move ! (1 ∷ 0 ∷ []) $ join ! $ nothing ! $ move ! (1 ∷ 0 ∷ []) $ done !
 
-    abbrev Had : (r : RefT (List ℕ)) (w : Val)  → List (Item 𝓤)
-    Had r w  = ‵ (flft κ₀ q₀) ∷ ‵ (flft κ₁ q₁) ∷ ‵ (flft κ₂ q₂) ∷ ‵ ((ShrSlice (named 1) κ₁ u8) .own r (w ∷ [])) ∷ []
+    abbrev Had : (r : RefT (List ℕ)) (w : Val) → List (Item 𝓤)
+    Had r w = ‵ (flft κ₀ q₀) ∷ ‵ (flft κ₁ q₁) ∷ ‵ (flft κ₂ q₂) ∷ ‵ ((ShrSlice (named 1) κ₁ u8) .own r (w ∷ [])) ∷ []
 
     -- what the contract says
     abbrev Said : (r : RefT (List ℕ)) → Type 0
     Said r = ShowPromise x₀ (partsOf (x₁ .now) (x₂ .now) (take x₄ x₃) (x₅ .now)) (r .now)
 
-    exits : (r : RefT (List ℕ)) (w : Val) → Said r   → Is (ShrSlice (named 1) κ₁ u8) r (w ∷ []) → ent 𝓤 (⋆ 𝓤 H A (Had r w )) (Post w)
-    exits r w  e  g =
-        qed W (Had r w ) ∵ suffices ! _ (ends-at 𝓤 H A f.ended stayed (f.clauses 𝓤 H A at-mem run) W (((κ₀, (κ₁, (κ₂, tt))), (q₀, (q₁, (q₂, tt))), tt, x, at), tt) w r (tt, (tt, (tt, (tt, (tt, (tt, tt)))))) (tt, (tt, (tt, (tt, (tt, (tt, tt))))))) $ says ! e $
+    exits : (r : RefT (List ℕ)) (w : Val) → Said r → Is (ShrSlice (named 1) κ₁ u8) r (w ∷ []) → ent 𝓤 (⋆ 𝓤 H A (Had r w)) (Post w)
+    exits r w e g =
+        qed W (Had r w) ∵ suffices ! _ (ends-at 𝓤 H A f.ended stayed (f.clauses 𝓤 H A at-mem run) W (((κ₀, (κ₁, (κ₂, tt))), (q₀, (q₁, (q₂, tt))), tt, x, at), tt) w r (tt, (tt, (tt, (tt, (tt, (tt, tt)))))) (tt, (tt, (tt, (tt, (tt, (tt, tt))))))) $ says ! e $
         nothing ! $ move ! (3 ∷ 0 ∷ []) $ join ! $ move ! (2 ∷ 0 ∷ []) $ join ! $ move ! (1 ∷ 0 ∷ []) $ join ! $ frame ! $ nothing ! $ nothing ! $ fjoin ! $ nothing ! $ fjoin ! $ nothing ! $ fjoin ! $ nothing ! $ fjoin ! $ nothing ! $ fjoin ! $ nothing ! $ fjoin ! $ frame ! $ done !
 
     walk : (C : Calls 𝓤 H) (Λ : Loops 𝓤 H) → FmC 𝓤 H (W .laws) C → Known C → ent 𝓤 (onEntry 𝓤 H A f.signature (κ₀, (κ₁, (κ₂, tt))) (q₀, (q₁, (q₂, tt))) x at) (WpFn 𝓤 H C Λ code.function (v₀ ∷ s₁ ∷ s₂ ∷ v₃ ∷ v₄ ∷ s₅ ∷ []) Post)
@@ -110,7 +110,7 @@ module _ {M : Type 1} (𝓤 : URA M) (H : Heap 𝓤) (A : Atoms 𝓤) (W : Given
         qed W ((‵ (flft κ₀ q₀) ⊛ ‵ (flft κ₁ q₁) ⊛ ‵ (flft κ₂ q₂) ⊛ ‵ ftrue) ∷ ‵ (owns (LinkRow ∷ ShrSlice (named 0) κ₀ u8 ∷ ShrSlice (named 1) κ₁ u8 ∷ Ts ∷ usize ∷ ShrSlice (named 2) κ₂ u32 ∷ []) x at) ∷ []) ∵ enter ! C Λ code.function (v₀ ∷ s₁ ∷ s₂ ∷ v₃ ∷ v₄ ∷ s₅ ∷ []) _ $
         alloc1 ! (λ l₀. alloc1 ! (λ l₁. alloc1 ! (λ l₂. alloc1 ! (λ l₃. alloc1 ! (λ l₄. alloc1 ! (λ l₅. alloc1 ! (λ l₆. alloc1 ! (λ l₇. alloc1 ! (λ l₈. alloc1 ! (λ l₉. alloc1 ! (λ l₁₀. alloc1 ! (λ l₁₁. alloc1 ! (λ l₁₂. alloc1 ! (λ l₁₃. alloc0 ! $ params1 ! $
         pass1 ! (init ! 24 refl (link-typed 𝓤 H A W x₀ g₀)) $ pass1 ! (init ! 22 refl (tt, (tt, (record { fits = room₁ .0 }, tt)))) $ pass1 ! (init ! 20 refl (tt, (tt, (record { fits = room₂ .0 }, tt)))) $ pass1 ! (init ! 18 refl (ts-typed 𝓤 H A W x₃ g₃)) $ pass1 ! (init ! 16 refl (uint-lawful 𝓤 H A W w64 .typed x₄ _ g₄ .0)) $ pass1 ! (init ! 14 refl (tt, (tt, (record { fits = room₅ .0 }, tt)))) $ pass0 ! $
-        move ! (29 ∷ []) $ fsplit ! $ drop ! $ fsplit ! $ move ! (1 ∷ []) $ fsplit ! $ move ! (1 ∷ []) $ fsplit ! $ drop ! $ fsplit ! $ drop ! $ fsplit ! $ move ! (1 ∷ []) $ drop ! $ move ! (31 ∷ []) $ split ! $ move ! (1 ∷ []) $ split ! $ move ! (1 ∷ []) $ split ! $ move ! (1 ∷ []) $ drop ! $ 
+        move ! (29 ∷ []) $ fsplit ! $ drop ! $ fsplit ! $ move ! (1 ∷ []) $ fsplit ! $ move ! (1 ∷ []) $ fsplit ! $ drop ! $ fsplit ! $ drop ! $ fsplit ! $ move ! (1 ∷ []) $ drop ! $ move ! (31 ∷ []) $ split ! $ move ! (1 ∷ []) $ split ! $ move ! (1 ∷ []) $ split ! $ move ! (1 ∷ []) $ drop ! $
         -- [tok5; tok2; tok1; own5; own2; own1; the locals]
         assigns ! (of-opd ! (load ! (from ! (stop !)) (look ! 24 refl))) (from ! (stop !)) (init ! 18 refl (ts-typed 𝓤 H A W x₃ g₃)) $
         nothing ! $ calls-fn ! fm within.ended (within.clauses 𝓤 H A at-mem run) (known .0) ((tt, tt, tt, (x₄, tt), (v₄ ∷ [], tt)), tt) (λ n _. n ≡ min x₄ 128)
@@ -128,13 +128,13 @@ module _ {M : Type 1} (𝓤 : URA M) (H : Heap 𝓤) (A : Atoms 𝓤) (W : Given
         move ! (5 ∷ 8 ∷ 4 ∷ 7 ∷ 2 ∷ 0 ∷ 3 ∷ 6 ∷ []) $ group ! 8 $ calls-kept ! fm core.ended (core.clauses 𝓤 H A at-mem run) (known .1) (to-core l₇ ν δ n x₀ v₀) (λ c us. ShowPromise x₀ (partsOf (x₁ .now) (x₂ .now) ((table-at l₇ δ n) .now) (x₅ .now)) (c .now)) (‵ (flft κ₀ q₀) ⊛ ‵ Own₁ ⊛ ‵ (flft κ₁ q₁) ⊛ ‵ Own₂ ⊛ ‵ (flft (ν ∷ []) fullShare) ⊛ ‵ (Lent l₇ ν δ n) ⊛ ‵ (flft κ₂ q₂) ⊛ ‵ Own₅)
         (asks-core l₇ ν δ n x₀ v₀ g₀) (λ c us. id⊢ 𝓤 _)
         (and-then ! (load ! (from ! (stop !)) (look ! 25 refl)) (and-then ! (load ! (from ! (stop !)) (look ! 23 refl)) (and-then ! (load ! (from ! (stop !)) (look ! 21 refl)) (and-then ! (load ! (from ! (stop !)) (look ! 2 refl)) (and-then ! (load ! (from ! (stop !)) (look ! 15 refl)) (no-more !)))))) (λ c w₂ us e-c is-c. land ! (from ! (stop !)) (init ! 29 refl (shr-slice-lawful 𝓤 H A W (named 1) κ₁ u8 .typed c (w₂ ∷ []) is-c .0)) $
-        use1 W (‵ (flft κ₀ q₀) ⊛ ‵ (flft κ₁ q₁) ⊛ ‵ (flft (ν ∷ []) fullShare) ⊛ ‵ (flft κ₂ q₂) ⊛ ‵ ftrue) (id⊢ 𝓤 _) $ split ! $ move ! (1 ∷ []) $ split ! $ move ! (1 ∷ []) $ split ! $ move ! (1 ∷ []) $ split ! $ move ! (1 ∷ []) $ drop ! $ move ! (4 ∷ []) $ drop ! $ 
+        use1 W (‵ (flft κ₀ q₀) ⊛ ‵ (flft κ₁ q₁) ⊛ ‵ (flft (ν ∷ []) fullShare) ⊛ ‵ (flft κ₂ q₂) ⊛ ‵ ftrue) (id⊢ 𝓤 _) $ split ! $ move ! (1 ∷ []) $ split ! $ move ! (1 ∷ []) $ split ! $ move ! (1 ∷ []) $ split ! $ move ! (1 ∷ []) $ drop ! $ move ! (4 ∷ []) $ drop ! $
         -- [tok5; tokT; tok2; tok1; res; lender; the locals]
         -- they come back
         move ! (1 ∷ []) $ lft-end ! tt $ move ! (0 ∷ 5 ∷ []) $ use2 W (later (some (λ (w : Val). given (Is Ts (take n x₃ ++ behind n x₃) (w ∷ [])) (‵ (fat fullShare (tyArray T′.mir 128) l₇ 0 w))))) (shown-back 𝓤 H A W R (makes 𝓤 H A) tt 128 l₇ (ν ∷ []) (take n x₃) (behind n x₃) n ((cut-at x₃ x₄ n (g₃ .1 .0 .1) e-n) .others)) $ await ! tt $ pick ! (λ w-t. learn ! (λ is-t.
-        returns ! (look ! 30 refl) $ forget ! 5 refl $ forget ! 7 refl $ forget ! 9 refl $ forget ! 11 refl $ forget ! 13 refl $ forget ! 15 refl $ forget ! 0 refl $ forget ! 18 refl $ forget ! 20 refl $ forget ! 22 refl $ forget ! 24 refl $ forget ! 26 refl $ forget ! 28 refl $ forget ! 30 refl $ 
+        returns ! (look ! 30 refl) $ forget ! 5 refl $ forget ! 7 refl $ forget ! 9 refl $ forget ! 11 refl $ forget ! 13 refl $ forget ! 15 refl $ forget ! 0 refl $ forget ! 18 refl $ forget ! 20 refl $ forget ! 22 refl $ forget ! 24 refl $ forget ! 26 refl $ forget ! 28 refl $ forget ! 30 refl $
         move ! (30 ∷ 31 ∷ []) $ free1 ! $ move ! (28 ∷ 29 ∷ []) $ free1 ! $ move ! (26 ∷ 27 ∷ []) $ free1 ! $ move ! (24 ∷ 25 ∷ []) $ free1 ! $ move ! (22 ∷ 23 ∷ []) $ free1 ! $ move ! (20 ∷ 21 ∷ []) $ free1 ! $ move ! (18 ∷ 19 ∷ []) $ free1 ! $ move ! (0 ∷ 17 ∷ []) $ free1 ! $ move ! (14 ∷ 15 ∷ []) $ free1 ! $ move ! (12 ∷ 13 ∷ []) $ free1 ! $ move ! (10 ∷ 11 ∷ []) $ free1 ! $ move ! (8 ∷ 9 ∷ []) $ free1 ! $ move ! (6 ∷ 7 ∷ []) $ free1 ! $ move ! (4 ∷ 5 ∷ []) $ free1 ! $ free0 ! $
-        move ! (2 ∷ 1 ∷ 0 ∷ 3 ∷ []) $ by ! (exits c w₂  (subst (λ (t : List Record). ShowPromise x₀ (partsOf (x₁ .now) (x₂ .now) t (x₅ .now)) (c .now)) (cut-at x₃ x₄ n (g₃ .1 .0 .1) e-n .first) e-c)  is-c)))))))))))))))))))))
+        move ! (2 ∷ 1 ∷ 0 ∷ 3 ∷ []) $ by ! (exits c w₂ (subst (λ (t : List Record). ShowPromise x₀ (partsOf (x₁ .now) (x₂ .now) t (x₅ .now)) (c .now)) (cut-at x₃ x₄ n (g₃ .1 .0 .1) e-n .first) e-c) is-c)))))))))))))))))))))
 
   f-meets : (𝓣 : Tables 𝓤 H) → Known (𝓣 .C) → Meets 𝓤 H A f.signature (WpFn 𝓤 H (𝓣 .C) (𝓣 .Λ) code.function) (f.spec 𝓤 H A at-mem run)
   f-meets 𝓣 known = walk-meets 𝓤 H A f.ended stayed W (goes-dropped 𝓤 H A W 3 (plain (λ _. LinkRow)) yes (λ κs x f. refl), (goes-dropped 𝓤 H A W 3 (shrSliceOf (0 ∷ []) tt (plain (λ _. u8))) yes (λ κs x f. refl), (goes-dropped 𝓤 H A W 3 (shrSliceOf (1 ∷ []) tt (plain (λ _. u8))) yes (λ κs x f. refl), (goes-dropped 𝓤 H A W 3 (arrayOf (plain (λ _. R)) 128) yes (λ κs x f. refl), (goes-dropped 𝓤 H A W 3 (plain (λ _. usize)) yes (λ κs x f. refl), (goes-dropped 𝓤 H A W 3 (shrSliceOf (2 ∷ []) tt (plain (λ _. u32))) yes (λ κs x f. refl), tt))))))

@@ -129,7 +129,7 @@ module _ {M : Type 1} (𝓤 : URA M) (H : Heap 𝓤) (A : Atoms 𝓤) (W : Given
         qed W ((‵ (flft κ₀ q₀) ⊛ ‵ (flft κ₁ q₁) ⊛ ‵ (flft κ₂ q₂) ⊛ ‵ (flft κ₃ q₃) ⊛ ‵ (flft κ₄ q₄) ⊛ ‵ ftrue) ∷ ‵ (owns (LinkRow ∷ ShrSlice (named 0) κ₀ u8 ∷ ShrSlice (named 1) κ₁ u8 ∷ Ts ∷ usize ∷ ShrSlice (named 2) κ₂ u32 ∷ u32 ∷ MutSlice (named 3) κ₃ u8 ∷ MutSlice (named 4) κ₄ u16 ∷ []) x at) ∷ []) ∵ enter ! C Λ code.function (v₀ ∷ s₁ ∷ s₂ ∷ v₃ ∷ v₄ ∷ s₅ ∷ v₆ ∷ s₇ ∷ s₈ ∷ []) _ $
         alloc1 ! (λ l₀. alloc1 ! (λ l₁. alloc1 ! (λ l₂. alloc1 ! (λ l₃. alloc1 ! (λ l₄. alloc1 ! (λ l₅. alloc1 ! (λ l₆. alloc1 ! (λ l₇. alloc1 ! (λ l₈. alloc1 ! (λ l₉. alloc1 ! (λ l₁₀. alloc1 ! (λ l₁₁. alloc1 ! (λ l₁₂. alloc1 ! (λ l₁₃. alloc1 ! (λ l₁₄. alloc1 ! (λ l₁₅. alloc1 ! (λ l₁₆. alloc1 ! (λ l₁₇. alloc1 ! (λ l₁₈. alloc1 ! (λ l₁₉. alloc1 ! (λ l₂₀. alloc1 ! (λ l₂₁. alloc1 ! (λ l₂₂. alloc0 ! $ params1 ! $
         pass1 ! (init ! 42 refl (link-typed 𝓤 H A W x₀ g₀)) $ pass1 ! (init ! 40 refl (tt, (tt, (record { fits = room₁ .0 }, tt)))) $ pass1 ! (init ! 38 refl (tt, (tt, (record { fits = room₂ .0 }, tt)))) $ pass1 ! (init ! 36 refl (ts-typed 𝓤 H A W x₃ g₃)) $ pass1 ! (init ! 34 refl (uint-lawful 𝓤 H A W w64 .typed x₄ _ g₄ .0)) $ pass1 ! (init ! 32 refl (tt, (tt, (record { fits = room₅ .0 }, tt)))) $ pass1 ! (init ! 30 refl (uint-lawful 𝓤 H A W w32 .typed x₆ _ g₆ .0)) $ pass1 ! (init ! 28 refl (tt, (tt, (record { fits = room₇ .0 }, tt)))) $ pass1 ! (init ! 26 refl (tt, (tt, (record { fits = room₈ .0 }, tt)))) $ pass0 ! $
-        move ! (47 ∷ []) $ fsplit ! $ drop ! $ fsplit ! $ move ! (1 ∷ []) $ fsplit ! $ move ! (1 ∷ []) $ fsplit ! $ drop ! $ fsplit ! $ drop ! $ fsplit ! $ move ! (1 ∷ []) $ fsplit ! $ drop ! $ fsplit ! $ move ! (1 ∷ []) $ fsplit ! $ move ! (1 ∷ []) $ drop ! $ move ! (51 ∷ []) $ split ! $ move ! (1 ∷ []) $ split ! $ move ! (1 ∷ []) $ split ! $ move ! (1 ∷ []) $ split ! $ move ! (1 ∷ []) $ split ! $ move ! (1 ∷ []) $ drop ! $ 
+        move ! (47 ∷ []) $ fsplit ! $ drop ! $ fsplit ! $ move ! (1 ∷ []) $ fsplit ! $ move ! (1 ∷ []) $ fsplit ! $ drop ! $ fsplit ! $ drop ! $ fsplit ! $ move ! (1 ∷ []) $ fsplit ! $ drop ! $ fsplit ! $ move ! (1 ∷ []) $ fsplit ! $ move ! (1 ∷ []) $ drop ! $ move ! (51 ∷ []) $ split ! $ move ! (1 ∷ []) $ split ! $ move ! (1 ∷ []) $ split ! $ move ! (1 ∷ []) $ split ! $ move ! (1 ∷ []) $ split ! $ move ! (1 ∷ []) $ drop ! $
         -- [tok8; tok7; tok5; tok2; tok1; own8; own7; own5; own2; own1; the locals]
         assigns ! (of-opd ! (load ! (from ! (stop !)) (look ! 46 refl))) (from ! (stop !)) (init ! 34 refl (ts-typed 𝓤 H A W x₃ g₃)) $
         nothing ! $ calls-fn ! fm within.ended (within.clauses 𝓤 H A at-mem run) (known .0) ((tt, tt, tt, (x₄, tt), (v₄ ∷ [], tt)), tt) (λ n _. n ≡ min x₄ 128)
@@ -151,7 +151,7 @@ module _ {M : Type 1} (𝓤 : URA M) (H : Heap 𝓤) (A : Atoms 𝓤) (W : Given
         move ! (7 ∷ 12 ∷ 6 ∷ 11 ∷ 2 ∷ 0 ∷ 5 ∷ 10 ∷ 4 ∷ 9 ∷ 3 ∷ 8 ∷ []) $ group ! 12 $ calls-fn ! fm core.ended (core.clauses 𝓤 H A at-mem run) (known .1) (to-core l₁₀ ν δ n x₀ v₀ x₆ v₆) (λ c ws. FlushPromise x₆ x₀ (partsOf (x₁ .now) (x₂ .now) ((table-at l₁₀ δ n) .now) (x₅ .now)) (x₇ .now) (x₈ .now) (c .answer) (c .link) (partsOf (x₁ .now) (x₂ .now) (ws .1 .1 .1 .0) (x₅ .now)) (ws .1 .1 .1 .1 .1 .1 .0) (ws .1 .1 .1 .1 .1 .1 .1 .0)) (‵ (flft κ₀ q₀) ⊛ ‵ Own₁ ⊛ ‵ (flft κ₁ q₁) ⊛ ‵ Own₂ ⊛ ‵ (flft (ν ∷ []) fullShare) ⊛ ‵ (Lent l₁₀ ν δ n) ⊛ ‵ (flft κ₂ q₂) ⊛ ‵ Own₅ ⊛ ‵ (flft κ₃ q₃) ⊛ ‵ Own₇ ⊛ ‵ (flft κ₄ q₄) ⊛ ‵ Own₈)
         (asks-core l₁₀ ν δ n x₀ v₀ g₀ x₆ v₆ g₆) (λ c ws. id⊢ 𝓤 _)
         (and-then ! (load ! (from ! (stop !)) (look ! 43 refl)) (and-then ! (load ! (from ! (stop !)) (look ! 41 refl)) (and-then ! (load ! (from ! (stop !)) (look ! 39 refl)) (and-then ! (load ! (from ! (stop !)) (look ! 12 refl)) (and-then ! (load ! (from ! (stop !)) (look ! 33 refl)) (and-then ! (load ! (from ! (stop !)) (look ! 31 refl)) (and-then ! (load ! (from ! (stop !)) (look ! 8 refl)) (and-then ! (load ! (from ! (stop !)) (look ! 4 refl)) (no-more !))))))))) (λ c w₂ ws e-c is-c. land ! (from ! (stop !)) (init ! 23 refl (counted-typed 𝓤 H A W c is-c)) $
-        use1 W (‵ (flft κ₀ q₀) ⊛ ‵ (flft κ₁ q₁) ⊛ ‵ (flft (ν ∷ []) fullShare) ⊛ ‵ (flft κ₂ q₂) ⊛ ‵ (flft κ₃ q₃) ⊛ ‵ (flft κ₄ q₄) ⊛ ‵ ftrue) (id⊢ 𝓤 _) $ split ! $ move ! (1 ∷ []) $ split ! $ move ! (1 ∷ []) $ split ! $ move ! (1 ∷ []) $ split ! $ move ! (1 ∷ []) $ split ! $ move ! (1 ∷ []) $ split ! $ move ! (1 ∷ []) $ drop ! $ move ! (6 ∷ []) $ fsplit ! $ drop ! $ fsplit ! $ drop ! $ fsplit ! $ drop ! $ fsplit ! $ fsplit ! $ move ! (1 ∷ []) $ feqL ! (λ lenT. move ! (1 ∷ []) $ fsplit ! $ drop ! $ fsplit ! $ drop ! $ fsplit ! $ fsplit ! $ move ! (1 ∷ []) $ feqL ! (λ len₇. move ! (1 ∷ []) $ fsplit ! $ fsplit ! $ move ! (1 ∷ []) $ feqL ! (λ len₈. move ! (1 ∷ []) $ drop ! $ 
+        use1 W (‵ (flft κ₀ q₀) ⊛ ‵ (flft κ₁ q₁) ⊛ ‵ (flft (ν ∷ []) fullShare) ⊛ ‵ (flft κ₂ q₂) ⊛ ‵ (flft κ₃ q₃) ⊛ ‵ (flft κ₄ q₄) ⊛ ‵ ftrue) (id⊢ 𝓤 _) $ split ! $ move ! (1 ∷ []) $ split ! $ move ! (1 ∷ []) $ split ! $ move ! (1 ∷ []) $ split ! $ move ! (1 ∷ []) $ split ! $ move ! (1 ∷ []) $ split ! $ move ! (1 ∷ []) $ drop ! $ move ! (6 ∷ []) $ fsplit ! $ drop ! $ fsplit ! $ drop ! $ fsplit ! $ drop ! $ fsplit ! $ fsplit ! $ move ! (1 ∷ []) $ feqL ! (λ lenT. move ! (1 ∷ []) $ fsplit ! $ drop ! $ fsplit ! $ drop ! $ fsplit ! $ fsplit ! $ move ! (1 ∷ []) $ feqL ! (λ len₇. move ! (1 ∷ []) $ fsplit ! $ fsplit ! $ move ! (1 ∷ []) $ feqL ! (λ len₈. move ! (1 ∷ []) $ drop ! $
         -- [fin8; fin7; finT; tok8; tok7; tok5; tokT; tok2; tok1; lender; the locals]
         -- they come back
         move ! (6 ∷ []) $ lft-end ! tt $ move ! (0 ∷ 9 ∷ 3 ∷ []) $ use3 W (later (some (λ (w : Val). given (Is Ts ((ws .1 .1 .1 .0) ++ behind n x₃) (w ∷ [])) (‵ (fat fullShare (tyArray T′.mir 128) l₁₀ 0 w))))) (part-back 𝓤 H A W R (makes 𝓤 H A) tt 128 l₁₀ (ν ∷ []) δ (ws .1 .1 .1 .0) (behind n x₃) n ((cut-at x₃ x₄ n (g₃ .1 .0 .1) e-n) .others)) $ await ! tt $ pick ! (λ w-t. learn ! (λ is-t.
@@ -159,7 +159,7 @@ module _ {M : Type 1} (𝓤 : URA M) (H : Heap 𝓤) (A : Atoms 𝓤) (W : Given
         nothing ! $ calls-fn ! fm keep.ended (keep.clauses 𝓤 H A at-mem run) (known .2) ((tt, tt, tt, (c, (((ws .1 .1 .1 .0) ++ behind n x₃), tt)), (w₂ ∷ [], (w-t ∷ [], tt))), tt) (λ k _. k ≡ record { counted = c; table = ((ws .1 .1 .1 .0) ++ behind n x₃) })
         (‵ ftrue) (plainly 𝓤 H A W (CountedRow ∷ Ts ∷ []) ((counted-makes 𝓤 H A W), ((ts-makes 𝓤 H A W), tt)) (c, (((ws .1 .1 .1 .0) ++ behind n x₃), tt)) (w₂ ∷ [], (w-t ∷ [], tt)) (is-c, (is-t, tt))) (λ k _. id⊢ 𝓤 _)
         (and-then ! (load ! (from ! (stop !)) (look ! 29 refl)) (and-then ! (load ! (from ! (stop !)) (look ! 9 refl)) (no-more !))) (λ k w₃ _ e-k is-k. drop ! $ drop ! $ land ! (from ! (stop !)) (init ! 51 refl (LL.lawful J.the-type J′.the-laws 𝓤 H A W .typed k (w₃ ∷ []) is-k .0)) $
-        returns ! (look ! 51 refl) $ forget ! 8 refl $ forget ! 10 refl $ forget ! 12 refl $ forget ! 14 refl $ forget ! 16 refl $ forget ! 18 refl $ forget ! 20 refl $ forget ! 22 refl $ forget ! 24 refl $ forget ! 26 refl $ forget ! 28 refl $ forget ! 30 refl $ forget ! 0 refl $ forget ! 33 refl $ forget ! 35 refl $ forget ! 37 refl $ forget ! 39 refl $ forget ! 41 refl $ forget ! 43 refl $ forget ! 45 refl $ forget ! 47 refl $ forget ! 49 refl $ forget ! 51 refl $ 
+        returns ! (look ! 51 refl) $ forget ! 8 refl $ forget ! 10 refl $ forget ! 12 refl $ forget ! 14 refl $ forget ! 16 refl $ forget ! 18 refl $ forget ! 20 refl $ forget ! 22 refl $ forget ! 24 refl $ forget ! 26 refl $ forget ! 28 refl $ forget ! 30 refl $ forget ! 0 refl $ forget ! 33 refl $ forget ! 35 refl $ forget ! 37 refl $ forget ! 39 refl $ forget ! 41 refl $ forget ! 43 refl $ forget ! 45 refl $ forget ! 47 refl $ forget ! 49 refl $ forget ! 51 refl $
         move ! (51 ∷ 52 ∷ []) $ free1 ! $ move ! (49 ∷ 50 ∷ []) $ free1 ! $ move ! (47 ∷ 48 ∷ []) $ free1 ! $ move ! (45 ∷ 46 ∷ []) $ free1 ! $ move ! (43 ∷ 44 ∷ []) $ free1 ! $ move ! (41 ∷ 42 ∷ []) $ free1 ! $ move ! (39 ∷ 40 ∷ []) $ free1 ! $ move ! (37 ∷ 38 ∷ []) $ free1 ! $ move ! (35 ∷ 36 ∷ []) $ free1 ! $ move ! (33 ∷ 34 ∷ []) $ free1 ! $ move ! (0 ∷ 32 ∷ []) $ free1 ! $ move ! (29 ∷ 30 ∷ []) $ free1 ! $ move ! (27 ∷ 28 ∷ []) $ free1 ! $ move ! (25 ∷ 26 ∷ []) $ free1 ! $ move ! (23 ∷ 24 ∷ []) $ free1 ! $ move ! (21 ∷ 22 ∷ []) $ free1 ! $ move ! (19 ∷ 20 ∷ []) $ free1 ! $ move ! (17 ∷ 18 ∷ []) $ free1 ! $ move ! (15 ∷ 16 ∷ []) $ free1 ! $ move ! (13 ∷ 14 ∷ []) $ free1 ! $ move ! (11 ∷ 12 ∷ []) $ free1 ! $ move ! (9 ∷ 10 ∷ []) $ free1 ! $ move ! (7 ∷ 8 ∷ []) $ free1 ! $ free0 ! $
         move ! (6 ∷ 5 ∷ 4 ∷ 1 ∷ 3 ∷ 0 ∷ 2 ∷ []) $ by ! (exits k w₃ (ws .1 .1 .1 .1 .1 .1 .0) (ws .1 .1 .1 .1 .1 .1 .1 .0) (flush-kept x₃ x₄ n (g₃ .1 .0 .1) e-n (ws .1 .1 .1 .0) lenT x₀ (x₁ .now) (x₂ .now) (x₅ .now) x₆ (x₇ .now) (x₈ .now) (ws .1 .1 .1 .1 .1 .1 .0) (ws .1 .1 .1 .1 .1 .1 .1 .0) c k e-k e-c) len₇ len₈ is-k))))))))))))))))))))))))))))))))))
 

@@ -122,7 +122,7 @@ module _ {M : Type 1} (𝓤 : URA M) (H : Heap 𝓤) (A : Atoms 𝓤) (W : Given
         qed W ((‵ (flft κ₀ q₀) ⊛ ‵ (flft κ₁ q₁) ⊛ ‵ (flft κ₂ q₂) ⊛ ‵ (flft κ₃ q₃) ⊛ ‵ ftrue) ∷ ‵ (owns (LinkRow ∷ ShrSlice (named 0) κ₀ u8 ∷ MutSlice (named 1) κ₁ u8 ∷ Ts ∷ usize ∷ MutSlice (named 2) κ₂ u32 ∷ ShrSlice (named 3) κ₃ u8 ∷ []) x at) ∷ []) ∵ enter ! C Λ code.function (v₀ ∷ s₁ ∷ s₂ ∷ v₃ ∷ v₄ ∷ s₅ ∷ s₆ ∷ []) _ $
         alloc1 ! (λ l₀. alloc1 ! (λ l₁. alloc1 ! (λ l₂. alloc1 ! (λ l₃. alloc1 ! (λ l₄. alloc1 ! (λ l₅. alloc1 ! (λ l₆. alloc1 ! (λ l₇. alloc1 ! (λ l₈. alloc1 ! (λ l₉. alloc1 ! (λ l₁₀. alloc1 ! (λ l₁₁. alloc1 ! (λ l₁₂. alloc1 ! (λ l₁₃. alloc1 ! (λ l₁₄. alloc1 ! (λ l₁₅. alloc1 ! (λ l₁₆. alloc1 ! (λ l₁₇. alloc1 ! (λ l₁₈. alloc1 ! (λ l₁₉. alloc1 ! (λ l₂₀. alloc0 ! $ params1 ! $
         pass1 ! (init ! 38 refl (link-typed 𝓤 H A W x₀ g₀)) $ pass1 ! (init ! 36 refl (tt, (tt, (record { fits = room₁ .0 }, tt)))) $ pass1 ! (init ! 34 refl (tt, (tt, (record { fits = room₂ .0 }, tt)))) $ pass1 ! (init ! 32 refl (ts-typed 𝓤 H A W x₃ g₃)) $ pass1 ! (init ! 30 refl (uint-lawful 𝓤 H A W w64 .typed x₄ _ g₄ .0)) $ pass1 ! (init ! 28 refl (tt, (tt, (record { fits = room₅ .0 }, tt)))) $ pass1 ! (init ! 26 refl (tt, (tt, (record { fits = room₆ .0 }, tt)))) $ pass0 ! $
-        move ! (43 ∷ []) $ fsplit ! $ drop ! $ fsplit ! $ move ! (1 ∷ []) $ fsplit ! $ move ! (1 ∷ []) $ fsplit ! $ drop ! $ fsplit ! $ drop ! $ fsplit ! $ move ! (1 ∷ []) $ fsplit ! $ move ! (1 ∷ []) $ drop ! $ move ! (46 ∷ []) $ split ! $ move ! (1 ∷ []) $ split ! $ move ! (1 ∷ []) $ split ! $ move ! (1 ∷ []) $ split ! $ move ! (1 ∷ []) $ drop ! $ 
+        move ! (43 ∷ []) $ fsplit ! $ drop ! $ fsplit ! $ move ! (1 ∷ []) $ fsplit ! $ move ! (1 ∷ []) $ fsplit ! $ drop ! $ fsplit ! $ drop ! $ fsplit ! $ move ! (1 ∷ []) $ fsplit ! $ move ! (1 ∷ []) $ drop ! $ move ! (46 ∷ []) $ split ! $ move ! (1 ∷ []) $ split ! $ move ! (1 ∷ []) $ split ! $ move ! (1 ∷ []) $ split ! $ move ! (1 ∷ []) $ drop ! $
         -- [tok6; tok5; tok2; tok1; own6; own5; own2; own1; the locals]
         assigns ! (of-opd ! (load ! (from ! (stop !)) (look ! 40 refl))) (from ! (stop !)) (init ! 32 refl (ts-typed 𝓤 H A W x₃ g₃)) $
         nothing ! $ calls-fn ! fm within.ended (within.clauses 𝓤 H A at-mem run) (known .0) ((tt, tt, tt, (x₄, tt), (v₄ ∷ [], tt)), tt) (λ n _. n ≡ min x₄ 128)
@@ -144,7 +144,7 @@ module _ {M : Type 1} (𝓤 : URA M) (H : Heap 𝓤) (A : Atoms 𝓤) (W : Given
         move ! (6 ∷ 10 ∷ 5 ∷ 9 ∷ 2 ∷ 0 ∷ 4 ∷ 8 ∷ 3 ∷ 7 ∷ []) $ group ! 10 $ calls-fn ! fm core.ended (core.clauses 𝓤 H A at-mem run) (known .1) (to-core l₈ ν δ n x₀ v₀) (λ c ws. InputPromise (x₆ .now) x₀ (partsOf (x₁ .now) (x₂ .now) ((table-at l₈ δ n) .now) (x₅ .now)) (c .answer) (c .link) (partsOf (x₁ .now) (ws .1 .1 .0) (ws .1 .1 .1 .0) (ws .1 .1 .1 .1 .0))) (‵ (flft κ₀ q₀) ⊛ ‵ Own₁ ⊛ ‵ (flft κ₁ q₁) ⊛ ‵ Own₂ ⊛ ‵ (flft (ν ∷ []) fullShare) ⊛ ‵ (Lent l₈ ν δ n) ⊛ ‵ (flft κ₂ q₂) ⊛ ‵ Own₅ ⊛ ‵ (flft κ₃ q₃) ⊛ ‵ Own₆)
         (asks-core l₈ ν δ n x₀ v₀ g₀) (λ c ws. id⊢ 𝓤 _)
         (and-then ! (load ! (from ! (stop !)) (look ! 39 refl)) (and-then ! (load ! (from ! (stop !)) (look ! 37 refl)) (and-then ! (load ! (from ! (stop !)) (look ! 18 refl)) (and-then ! (load ! (from ! (stop !)) (look ! 8 refl)) (and-then ! (load ! (from ! (stop !)) (look ! 4 refl)) (and-then ! (load ! (from ! (stop !)) (look ! 27 refl)) (no-more !))))))) (λ c w₂ ws e-c is-c. land ! (from ! (stop !)) (init ! 23 refl (answered-typed 𝓤 H A W c is-c)) $
-        use1 W (‵ (flft κ₀ q₀) ⊛ ‵ (flft κ₁ q₁) ⊛ ‵ (flft (ν ∷ []) fullShare) ⊛ ‵ (flft κ₂ q₂) ⊛ ‵ (flft κ₃ q₃) ⊛ ‵ ftrue) (id⊢ 𝓤 _) $ split ! $ move ! (1 ∷ []) $ split ! $ move ! (1 ∷ []) $ split ! $ move ! (1 ∷ []) $ split ! $ move ! (1 ∷ []) $ split ! $ move ! (1 ∷ []) $ drop ! $ move ! (5 ∷ []) $ fsplit ! $ drop ! $ fsplit ! $ drop ! $ fsplit ! $ fsplit ! $ move ! (1 ∷ []) $ feqL ! (λ len₂. move ! (1 ∷ []) $ fsplit ! $ fsplit ! $ move ! (1 ∷ []) $ feqL ! (λ lenT. move ! (1 ∷ []) $ fsplit ! $ fsplit ! $ move ! (1 ∷ []) $ feqL ! (λ len₅. move ! (1 ∷ []) $ drop ! $ 
+        use1 W (‵ (flft κ₀ q₀) ⊛ ‵ (flft κ₁ q₁) ⊛ ‵ (flft (ν ∷ []) fullShare) ⊛ ‵ (flft κ₂ q₂) ⊛ ‵ (flft κ₃ q₃) ⊛ ‵ ftrue) (id⊢ 𝓤 _) $ split ! $ move ! (1 ∷ []) $ split ! $ move ! (1 ∷ []) $ split ! $ move ! (1 ∷ []) $ split ! $ move ! (1 ∷ []) $ split ! $ move ! (1 ∷ []) $ drop ! $ move ! (5 ∷ []) $ fsplit ! $ drop ! $ fsplit ! $ drop ! $ fsplit ! $ fsplit ! $ move ! (1 ∷ []) $ feqL ! (λ len₂. move ! (1 ∷ []) $ fsplit ! $ fsplit ! $ move ! (1 ∷ []) $ feqL ! (λ lenT. move ! (1 ∷ []) $ fsplit ! $ fsplit ! $ move ! (1 ∷ []) $ feqL ! (λ len₅. move ! (1 ∷ []) $ drop ! $
         -- [fin5; finT; fin2; tok6; tok5; tokT; tok2; tok1; lender; the locals]
         -- they come back
         move ! (5 ∷ []) $ lft-end ! tt $ move ! (0 ∷ 8 ∷ 2 ∷ []) $ use3 W (later (some (λ (w : Val). given (Is Ts ((ws .1 .1 .1 .0) ++ behind n x₃) (w ∷ [])) (‵ (fat fullShare (tyArray T′.mir 128) l₈ 0 w))))) (part-back 𝓤 H A W R (makes 𝓤 H A) tt 128 l₈ (ν ∷ []) δ (ws .1 .1 .1 .0) (behind n x₃) n ((cut-at x₃ x₄ n (g₃ .1 .0 .1) e-n) .others)) $ await ! tt $ pick ! (λ w-t. learn ! (λ is-t.
@@ -152,7 +152,7 @@ module _ {M : Type 1} (𝓤 : URA M) (H : Heap 𝓤) (A : Atoms 𝓤) (W : Given
         nothing ! $ calls-fn ! fm keep.ended (keep.clauses 𝓤 H A at-mem run) (known .2) ((tt, tt, tt, (c, (((ws .1 .1 .1 .0) ++ behind n x₃), tt)), (w₂ ∷ [], (w-t ∷ [], tt))), tt) (λ k _. k ≡ record { answered = c; table = ((ws .1 .1 .1 .0) ++ behind n x₃) })
         (‵ ftrue) (plainly 𝓤 H A W (AnsweredRow ∷ Ts ∷ []) ((answered-makes 𝓤 H A W), ((ts-makes 𝓤 H A W), tt)) (c, (((ws .1 .1 .1 .0) ++ behind n x₃), tt)) (w₂ ∷ [], (w-t ∷ [], tt)) (is-c, (is-t, tt))) (λ k _. id⊢ 𝓤 _)
         (and-then ! (load ! (from ! (stop !)) (look ! 28 refl)) (and-then ! (load ! (from ! (stop !)) (look ! 8 refl)) (no-more !))) (λ k w₃ _ e-k is-k. drop ! $ drop ! $ land ! (from ! (stop !)) (init ! 46 refl (LL.lawful K.the-type K′.the-laws 𝓤 H A W .typed k (w₃ ∷ []) is-k .0)) $
-        returns ! (look ! 46 refl) $ forget ! 7 refl $ forget ! 9 refl $ forget ! 11 refl $ forget ! 13 refl $ forget ! 15 refl $ forget ! 17 refl $ forget ! 19 refl $ forget ! 21 refl $ forget ! 23 refl $ forget ! 25 refl $ forget ! 27 refl $ forget ! 29 refl $ forget ! 0 refl $ forget ! 32 refl $ forget ! 34 refl $ forget ! 36 refl $ forget ! 38 refl $ forget ! 40 refl $ forget ! 42 refl $ forget ! 44 refl $ forget ! 46 refl $ 
+        returns ! (look ! 46 refl) $ forget ! 7 refl $ forget ! 9 refl $ forget ! 11 refl $ forget ! 13 refl $ forget ! 15 refl $ forget ! 17 refl $ forget ! 19 refl $ forget ! 21 refl $ forget ! 23 refl $ forget ! 25 refl $ forget ! 27 refl $ forget ! 29 refl $ forget ! 0 refl $ forget ! 32 refl $ forget ! 34 refl $ forget ! 36 refl $ forget ! 38 refl $ forget ! 40 refl $ forget ! 42 refl $ forget ! 44 refl $ forget ! 46 refl $
         move ! (46 ∷ 47 ∷ []) $ free1 ! $ move ! (44 ∷ 45 ∷ []) $ free1 ! $ move ! (42 ∷ 43 ∷ []) $ free1 ! $ move ! (40 ∷ 41 ∷ []) $ free1 ! $ move ! (38 ∷ 39 ∷ []) $ free1 ! $ move ! (36 ∷ 37 ∷ []) $ free1 ! $ move ! (34 ∷ 35 ∷ []) $ free1 ! $ move ! (32 ∷ 33 ∷ []) $ free1 ! $ move ! (0 ∷ 31 ∷ []) $ free1 ! $ move ! (28 ∷ 29 ∷ []) $ free1 ! $ move ! (26 ∷ 27 ∷ []) $ free1 ! $ move ! (24 ∷ 25 ∷ []) $ free1 ! $ move ! (22 ∷ 23 ∷ []) $ free1 ! $ move ! (20 ∷ 21 ∷ []) $ free1 ! $ move ! (18 ∷ 19 ∷ []) $ free1 ! $ move ! (16 ∷ 17 ∷ []) $ free1 ! $ move ! (14 ∷ 15 ∷ []) $ free1 ! $ move ! (12 ∷ 13 ∷ []) $ free1 ! $ move ! (10 ∷ 11 ∷ []) $ free1 ! $ move ! (8 ∷ 9 ∷ []) $ free1 ! $ move ! (6 ∷ 7 ∷ []) $ free1 ! $ free0 ! $
         move ! (5 ∷ 1 ∷ 4 ∷ 0 ∷ 3 ∷ 2 ∷ []) $ by ! (exits k w₃ (ws .1 .1 .0) (ws .1 .1 .1 .1 .0) (input-kept x₃ x₄ n (g₃ .1 .0 .1) e-n (ws .1 .1 .1 .0) lenT x₀ (x₁ .now) (x₂ .now) (x₅ .now) (x₆ .now) (ws .1 .1 .0) (ws .1 .1 .1 .1 .0) c k e-k e-c) len₂ len₅ is-k))))))))))))))))))))))))))))))))
 

@@ -111,16 +111,16 @@ module _ {M : Type 1} (𝓤 : URA M) (H : Heap 𝓤) (A : Atoms 𝓤) (W : Given
     asks-core x₀ v₀ is-x₀ recs w₂ is-recs n w₃ is-n =
         qed W (‵ (flft κ₀ q₀) ∷ ‵ Own₁ ∷ ‵ (flft κ₁ q₁) ∷ ‵ Own₂ ∷ ‵ (flft κ₃ q₃) ∷ ‵ Own₄ ∷ []) ∵ nothing ! $ move ! (5 ∷ 0 ∷ []) $ join ! $ move ! (3 ∷ 0 ∷ []) $ join ! $ move ! (1 ∷ 0 ∷ []) $ join ! $ nothing ! $ move ! (4 ∷ 0 ∷ []) $ fjoin ! $ move ! (3 ∷ 0 ∷ []) $ fjoin ! $ move ! (2 ∷ 0 ∷ []) $ fjoin ! $ owned ! usize (Is usize) (uint-makes 𝓤 H A W w64) n _ is-n $ fjoin ! $ owned ! Rs (Is Rs) (rs-makes 𝓤 H A W) recs _ is-recs $ fjoin ! $ owned ! LinkRow (Is LinkRow) (link-makes 𝓤 H A W) x₀ _ is-x₀ $ fjoin ! $ move ! (1 ∷ 0 ∷ []) $ join ! $ nothing ! $ move ! (1 ∷ 0 ∷ []) $ done !
 
-    abbrev Had : (r : RefT (List ℕ)) (w : Val)  → List (Item 𝓤)
-    Had r w  = ‵ (flft κ₀ q₀) ∷ ‵ (flft κ₁ q₁) ∷ ‵ (flft κ₂ q₂) ∷ ‵ (flft κ₃ q₃) ∷ ‵ ((ShrSlice (named 1) κ₁ u8) .own r (w ∷ [])) ∷ []
+    abbrev Had : (r : RefT (List ℕ)) (w : Val) → List (Item 𝓤)
+    Had r w = ‵ (flft κ₀ q₀) ∷ ‵ (flft κ₁ q₁) ∷ ‵ (flft κ₂ q₂) ∷ ‵ (flft κ₃ q₃) ∷ ‵ ((ShrSlice (named 1) κ₁ u8) .own r (w ∷ [])) ∷ []
 
     -- what the contract says
     abbrev Said : (r : RefT (List ℕ)) → Type 0
     Said r = ShowPromise x₀ (partsOf (x₁ .now) (x₂ .now) (x₃ .now) (x₄ .now)) (r .now)
 
-    exits : (r : RefT (List ℕ)) (w : Val) → Said r   → Is (ShrSlice (named 1) κ₁ u8) r (w ∷ []) → ent 𝓤 (⋆ 𝓤 H A (Had r w )) (Post w)
-    exits r w  e  g =
-        qed W (Had r w ) ∵ suffices ! _ (ends-at 𝓤 H A f.ended stayed (f.clauses 𝓤 H A at-mem run) W (((κ₀, (κ₁, (κ₂, (κ₃, tt)))), (q₀, (q₁, (q₂, (q₃, tt)))), tt, x, at), tt) w r (tt, (tt, (tt, (tt, (tt, tt))))) (tt, (tt, (tt, (tt, (tt, tt)))))) $ says ! e $
+    exits : (r : RefT (List ℕ)) (w : Val) → Said r → Is (ShrSlice (named 1) κ₁ u8) r (w ∷ []) → ent 𝓤 (⋆ 𝓤 H A (Had r w)) (Post w)
+    exits r w e g =
+        qed W (Had r w) ∵ suffices ! _ (ends-at 𝓤 H A f.ended stayed (f.clauses 𝓤 H A at-mem run) W (((κ₀, (κ₁, (κ₂, (κ₃, tt)))), (q₀, (q₁, (q₂, (q₃, tt)))), tt, x, at), tt) w r (tt, (tt, (tt, (tt, (tt, tt))))) (tt, (tt, (tt, (tt, (tt, tt)))))) $ says ! e $
         nothing ! $ move ! (4 ∷ 0 ∷ []) $ join ! $ move ! (3 ∷ 0 ∷ []) $ join ! $ move ! (2 ∷ 0 ∷ []) $ join ! $ move ! (1 ∷ 0 ∷ []) $ join ! $ frame ! $ nothing ! $ nothing ! $ fjoin ! $ nothing ! $ fjoin ! $ nothing ! $ fjoin ! $ nothing ! $ fjoin ! $ nothing ! $ fjoin ! $ frame ! $ done !
 
     walk : (C : Calls 𝓤 H) (Λ : Loops 𝓤 H) → FmC 𝓤 H (W .laws) C → Known C → ent 𝓤 (onEntry 𝓤 H A f.signature (κ₀, (κ₁, (κ₂, (κ₃, tt)))) (q₀, (q₁, (q₂, (q₃, tt)))) x at) (WpFn 𝓤 H C Λ code.function (v₀ ∷ s₁ ∷ s₂ ∷ s₃ ∷ s₄ ∷ []) Post)
@@ -128,7 +128,7 @@ module _ {M : Type 1} (𝓤 : URA M) (H : Heap 𝓤) (A : Atoms 𝓤) (W : Given
         qed W ((‵ (flft κ₀ q₀) ⊛ ‵ (flft κ₁ q₁) ⊛ ‵ (flft κ₂ q₂) ⊛ ‵ (flft κ₃ q₃) ⊛ ‵ ftrue) ∷ ‵ (owns (LinkRow ∷ ShrSlice (named 0) κ₀ u8 ∷ ShrSlice (named 1) κ₁ u8 ∷ ShrSlice (named 2) κ₂ R ∷ ShrSlice (named 3) κ₃ u32 ∷ []) x at) ∷ []) ∵ enter ! C Λ code.function (v₀ ∷ s₁ ∷ s₂ ∷ s₃ ∷ s₄ ∷ []) _ $
         alloc1 ! (λ l₀. alloc1 ! (λ l₁. alloc1 ! (λ l₂. alloc1 ! (λ l₃. alloc1 ! (λ l₄. alloc1 ! (λ l₅. alloc1 ! (λ l₆. alloc1 ! (λ l₇. alloc1 ! (λ l₈. alloc0 ! $ params1 ! $
         pass1 ! (init ! 14 refl (link-typed 𝓤 H A W x₀ g₀)) $ pass1 ! (init ! 12 refl (tt, (tt, (record { fits = room₁ .0 }, tt)))) $ pass1 ! (init ! 10 refl (tt, (tt, (record { fits = room₂ .0 }, tt)))) $ pass1 ! (init ! 8 refl (tt, (tt, (record { fits = room₃ .0 }, tt)))) $ pass1 ! (init ! 6 refl (tt, (tt, (record { fits = room₄ .0 }, tt)))) $ pass0 ! $
-        move ! (19 ∷ []) $ fsplit ! $ drop ! $ fsplit ! $ move ! (1 ∷ []) $ fsplit ! $ move ! (1 ∷ []) $ fsplit ! $ move ! (1 ∷ []) $ fsplit ! $ move ! (1 ∷ []) $ drop ! $ move ! (22 ∷ []) $ split ! $ move ! (1 ∷ []) $ split ! $ move ! (1 ∷ []) $ split ! $ move ! (1 ∷ []) $ split ! $ move ! (1 ∷ []) $ drop ! $ 
+        move ! (19 ∷ []) $ fsplit ! $ drop ! $ fsplit ! $ move ! (1 ∷ []) $ fsplit ! $ move ! (1 ∷ []) $ fsplit ! $ move ! (1 ∷ []) $ fsplit ! $ move ! (1 ∷ []) $ drop ! $ move ! (22 ∷ []) $ split ! $ move ! (1 ∷ []) $ split ! $ move ! (1 ∷ []) $ split ! $ move ! (1 ∷ []) $ split ! $ move ! (1 ∷ []) $ drop ! $
         -- [tok4; tok3; tok2; tok1; own4; own3; own2; own1; the locals]
         nothing ! $ calls-fn ! fm outstanding.ended (outstanding.clauses 𝓤 H A at-mem run) (known .0) ((tt, tt, tt, (x₀, tt), (v₀ ∷ [], tt)), tt) (λ list _. list ≡ x₀ .flight .outstanding)
         (‵ ftrue) (plainly 𝓤 H A W (LinkRow ∷ []) ((link-makes 𝓤 H A W), tt) (x₀, tt) (v₀ ∷ [], tt) (g₀, tt)) (λ list _. id⊢ 𝓤 _)
@@ -136,21 +136,21 @@ module _ {M : Type 1} (𝓤 : URA M) (H : Heap 𝓤) (A : Atoms 𝓤) (W : Given
         move ! (5 ∷ []) $ use1 W (‵ Own₃ ⊛ ‵ Own₃) (shr-slice-copy 𝓤 H A W (named 0) κ₂ R .twice x₃ (s₃ ∷ [])) $ split ! $ move ! (3 ∷ 0 ∷ []) $ join ! $ calls-fn ! fm gather.ended (gather.clauses 𝓤 H A at-mem run) (known .1) (to-gather list w₁) (λ recs us. recs ≡ padded (gathered (x₃ .now) (slotsOf (outstandingOf list)))) (‵ (flft κ₂ q₂) ⊛ ‵ Own₃)
         (asks-gather list w₁ is-list) (λ recs us. id⊢ 𝓤 _)
         (and-then ! (load ! (from ! (stop !)) (look ! 16 refl)) (and-then ! (load ! (from ! (stop !)) (look ! 8 refl)) (no-more !))) (λ recs w₂ us e-recs is-recs. land ! (from ! (stop !)) (init ! 13 refl (rs-typed 𝓤 H A W recs is-recs)) $
-        use1 W (‵ (flft κ₂ q₂) ⊛ ‵ ftrue) (id⊢ 𝓤 _) $ split ! $ move ! (1 ∷ []) $ drop ! $ move ! (1 ∷ []) $ drop ! $ 
+        use1 W (‵ (flft κ₂ q₂) ⊛ ‵ ftrue) (id⊢ 𝓤 _) $ split ! $ move ! (1 ∷ []) $ drop ! $ move ! (1 ∷ []) $ drop ! $
         -- [tok3; own3; tok4; tok2; tok1; own4; own2; own1; the locals]
-        join ! $ calls-fn ! fm table-len.ended (table-len.clauses 𝓤 H A at-mem run) (known .2) (to-table-len ) (λ n us. n ≡ length (x₃ .now)) (‵ (flft κ₂ q₂) ⊛ ‵ Own₃)
-        (asks-table-len ) (λ n us. id⊢ 𝓤 _)
+        join ! $ calls-fn ! fm table-len.ended (table-len.clauses 𝓤 H A at-mem run) (known .2) (to-table-len) (λ n us. n ≡ length (x₃ .now)) (‵ (flft κ₂ q₂) ⊛ ‵ Own₃)
+        (asks-table-len) (λ n us. id⊢ 𝓤 _)
         (and-then ! (load ! (from ! (stop !)) (look ! 15 refl)) (no-more !)) (λ n w₃ us e-n is-n. land ! (from ! (stop !)) (init ! 10 refl (uint-lawful 𝓤 H A W w64 .typed n _ is-n .0)) $
-        use1 W (‵ (flft κ₂ q₂) ⊛ ‵ ftrue) (id⊢ 𝓤 _) $ split ! $ move ! (1 ∷ []) $ drop ! $ move ! (1 ∷ []) $ drop ! $ 
+        use1 W (‵ (flft κ₂ q₂) ⊛ ‵ ftrue) (id⊢ 𝓤 _) $ split ! $ move ! (1 ∷ []) $ drop ! $ move ! (1 ∷ []) $ drop ! $
         -- [tok3; tok4; tok2; tok1; own4; own2; own1; the locals]
         move ! (3 ∷ 6 ∷ 2 ∷ 5 ∷ 1 ∷ 4 ∷ []) $ group ! 6 $ calls-kept ! fm core.ended (core.clauses 𝓤 H A at-mem run) (known .3) (to-core x₀ v₀ recs w₂ n w₃) (λ c us. c .now ≡ shown (showsWith x₀ recs (x₄ .now) (lentLengths n (x₁ .now) (x₂ .now) (x₄ .now))) (x₂ .now)) (‵ (flft κ₀ q₀) ⊛ ‵ Own₁ ⊛ ‵ (flft κ₁ q₁) ⊛ ‵ Own₂ ⊛ ‵ (flft κ₃ q₃) ⊛ ‵ Own₄)
         (asks-core x₀ v₀ g₀ recs w₂ is-recs n w₃ is-n) (λ c us. id⊢ 𝓤 _)
         (and-then ! (load ! (from ! (stop !)) (look ! 16 refl)) (and-then ! (load ! (from ! (stop !)) (look ! 6 refl)) (and-then ! (load ! (from ! (stop !)) (look ! 4 refl)) (and-then ! (load ! (from ! (stop !)) (look ! 14 refl)) (and-then ! (load ! (from ! (stop !)) (look ! 12 refl)) (and-then ! (load ! (from ! (stop !)) (look ! 8 refl)) (no-more !))))))) (λ c w₄ us e-c is-c. land ! (from ! (stop !)) (init ! 20 refl (shr-slice-lawful 𝓤 H A W (named 1) κ₁ u8 .typed c (w₄ ∷ []) is-c .0)) $
-        use1 W (‵ (flft κ₀ q₀) ⊛ ‵ (flft κ₁ q₁) ⊛ ‵ (flft κ₃ q₃) ⊛ ‵ ftrue) (id⊢ 𝓤 _) $ split ! $ move ! (1 ∷ []) $ split ! $ move ! (1 ∷ []) $ split ! $ move ! (1 ∷ []) $ drop ! $ move ! (3 ∷ []) $ drop ! $ 
+        use1 W (‵ (flft κ₀ q₀) ⊛ ‵ (flft κ₁ q₁) ⊛ ‵ (flft κ₃ q₃) ⊛ ‵ ftrue) (id⊢ 𝓤 _) $ split ! $ move ! (1 ∷ []) $ split ! $ move ! (1 ∷ []) $ split ! $ move ! (1 ∷ []) $ drop ! $ move ! (3 ∷ []) $ drop ! $
         -- [tok4; tok2; tok1; res; tok3; the locals]
-        returns ! (look ! 21 refl) $ forget ! 5 refl $ forget ! 7 refl $ forget ! 9 refl $ forget ! 11 refl $ forget ! 13 refl $ forget ! 15 refl $ forget ! 17 refl $ forget ! 19 refl $ forget ! 21 refl $ 
+        returns ! (look ! 21 refl) $ forget ! 5 refl $ forget ! 7 refl $ forget ! 9 refl $ forget ! 11 refl $ forget ! 13 refl $ forget ! 15 refl $ forget ! 17 refl $ forget ! 19 refl $ forget ! 21 refl $
         move ! (21 ∷ 22 ∷ []) $ free1 ! $ move ! (19 ∷ 20 ∷ []) $ free1 ! $ move ! (17 ∷ 18 ∷ []) $ free1 ! $ move ! (15 ∷ 16 ∷ []) $ free1 ! $ move ! (13 ∷ 14 ∷ []) $ free1 ! $ move ! (11 ∷ 12 ∷ []) $ free1 ! $ move ! (9 ∷ 10 ∷ []) $ free1 ! $ move ! (7 ∷ 8 ∷ []) $ free1 ! $ move ! (5 ∷ 6 ∷ []) $ free1 ! $ free0 ! $
-        move ! (2 ∷ 1 ∷ 4 ∷ 0 ∷ 3 ∷ []) $ by ! (exits c w₄  (show-promised x₀ (partsOf (x₁ .now) (x₂ .now) (x₃ .now) (x₄ .now)) recs n (gathers x₀ (partsOf (x₁ .now) (x₂ .now) (x₃ .now) (x₄ .now)) list recs n e-list e-recs e-n) (c .now) e-c)  is-c))))))))))))))
+        move ! (2 ∷ 1 ∷ 4 ∷ 0 ∷ 3 ∷ []) $ by ! (exits c w₄ (show-promised x₀ (partsOf (x₁ .now) (x₂ .now) (x₃ .now) (x₄ .now)) recs n (gathers x₀ (partsOf (x₁ .now) (x₂ .now) (x₃ .now) (x₄ .now)) list recs n e-list e-recs e-n) (c .now) e-c) is-c))))))))))))))
 
   f-meets : (𝓣 : Tables 𝓤 H) → Known (𝓣 .C) → Meets 𝓤 H A f.signature (WpFn 𝓤 H (𝓣 .C) (𝓣 .Λ) code.function) (f.spec 𝓤 H A at-mem run)
   f-meets 𝓣 known = walk-meets 𝓤 H A f.ended stayed W (goes-dropped 𝓤 H A W 4 (plain (λ _. LinkRow)) yes (λ κs x f. refl), (goes-dropped 𝓤 H A W 4 (shrSliceOf (0 ∷ []) tt (plain (λ _. u8))) yes (λ κs x f. refl), (goes-dropped 𝓤 H A W 4 (shrSliceOf (1 ∷ []) tt (plain (λ _. u8))) yes (λ κs x f. refl), (goes-dropped 𝓤 H A W 4 (shrSliceOf (2 ∷ []) tt (plain (λ _. R))) yes (λ κs x f. refl), (goes-dropped 𝓤 H A W 4 (shrSliceOf (3 ∷ []) tt (plain (λ _. u32))) yes (λ κs x f. refl), tt)))))

@@ -149,7 +149,7 @@ module _ {M : Type 1} (𝓤 : URA M) (H : Heap 𝓤) (A : Atoms 𝓤) (W : Given
         qed W ((‵ (flft κ₀ q₀) ⊛ ‵ (flft κ₁ q₁) ⊛ ‵ (flft κ₂ q₂) ⊛ ‵ (flft κ₃ q₃) ⊛ ‵ (flft κ₄ q₄) ⊛ ‵ (flft κ₅ q₅) ⊛ ‵ ftrue) ∷ ‵ (owns (LinkRow ∷ ShrSlice (named 0) κ₀ u8 ∷ ShrSlice (named 1) κ₁ u8 ∷ MutSlice (named 2) κ₂ R ∷ ShrSlice (named 3) κ₃ u32 ∷ u32 ∷ MutSlice (named 4) κ₄ u8 ∷ MutSlice (named 5) κ₅ u16 ∷ []) x at) ∷ []) ∵ enter ! C Λ code.function (v₀ ∷ s₁ ∷ s₂ ∷ s₃ ∷ s₄ ∷ v₅ ∷ s₆ ∷ s₇ ∷ []) _ $
         alloc1 ! (λ l₀. alloc1 ! (λ l₁. alloc1 ! (λ l₂. alloc1 ! (λ l₃. alloc1 ! (λ l₄. alloc1 ! (λ l₅. alloc1 ! (λ l₆. alloc1 ! (λ l₇. alloc1 ! (λ l₈. alloc1 ! (λ l₉. alloc1 ! (λ l₁₀. alloc1 ! (λ l₁₁. alloc1 ! (λ l₁₂. alloc1 ! (λ l₁₃. alloc1 ! (λ l₁₄. alloc1 ! (λ l₁₅. alloc1 ! (λ l₁₆. alloc1 ! (λ l₁₇. alloc1 ! (λ l₁₈. alloc1 ! (λ l₁₉. alloc1 ! (λ l₂₀. alloc0 ! $ params1 ! $
         pass1 ! (init ! 38 refl (link-typed 𝓤 H A W x₀ g₀)) $ pass1 ! (init ! 36 refl (tt, (tt, (record { fits = room₁ .0 }, tt)))) $ pass1 ! (init ! 34 refl (tt, (tt, (record { fits = room₂ .0 }, tt)))) $ pass1 ! (init ! 32 refl (tt, (tt, (record { fits = room₃ .0 }, tt)))) $ pass1 ! (init ! 30 refl (tt, (tt, (record { fits = room₄ .0 }, tt)))) $ pass1 ! (init ! 28 refl (uint-lawful 𝓤 H A W w32 .typed x₅ _ g₅ .0)) $ pass1 ! (init ! 26 refl (tt, (tt, (record { fits = room₆ .0 }, tt)))) $ pass1 ! (init ! 24 refl (tt, (tt, (record { fits = room₇ .0 }, tt)))) $ pass0 ! $
-        move ! (43 ∷ []) $ fsplit ! $ drop ! $ fsplit ! $ move ! (1 ∷ []) $ fsplit ! $ move ! (1 ∷ []) $ fsplit ! $ move ! (1 ∷ []) $ fsplit ! $ move ! (1 ∷ []) $ fsplit ! $ drop ! $ fsplit ! $ move ! (1 ∷ []) $ fsplit ! $ move ! (1 ∷ []) $ drop ! $ move ! (48 ∷ []) $ split ! $ move ! (1 ∷ []) $ split ! $ move ! (1 ∷ []) $ split ! $ move ! (1 ∷ []) $ split ! $ move ! (1 ∷ []) $ split ! $ move ! (1 ∷ []) $ split ! $ move ! (1 ∷ []) $ drop ! $ 
+        move ! (43 ∷ []) $ fsplit ! $ drop ! $ fsplit ! $ move ! (1 ∷ []) $ fsplit ! $ move ! (1 ∷ []) $ fsplit ! $ move ! (1 ∷ []) $ fsplit ! $ move ! (1 ∷ []) $ fsplit ! $ drop ! $ fsplit ! $ move ! (1 ∷ []) $ fsplit ! $ move ! (1 ∷ []) $ drop ! $ move ! (48 ∷ []) $ split ! $ move ! (1 ∷ []) $ split ! $ move ! (1 ∷ []) $ split ! $ move ! (1 ∷ []) $ split ! $ move ! (1 ∷ []) $ split ! $ move ! (1 ∷ []) $ split ! $ move ! (1 ∷ []) $ drop ! $
         -- [tok7; tok6; tok4; tok3; tok2; tok1; own7; own6; own4; own3; own2; own1; the locals]
         assigns ! (addr ! (from ! (fld ! refl (hop ! (look-in ! 44 (sub ! 0 refl (whole !))) (stop !))))) (from ! (stop !)) (init ! 28 refl (tt, tt)) $
         assigns ! (agg ! (and-then ! (load ! (from ! (stop !)) (look ! 28 refl)) (and-then ! (load ! (from ! (fld ! refl (stop !))) (look-in ! 44 (sub ! 1 refl (whole !)))) (no-more !)))) (from ! (stop !)) (init ! 26 refl (tt, (tt, (record { fits = room₃ .0 }, tt)))) $
@@ -163,7 +163,7 @@ module _ {M : Type 1} (𝓤 : URA M) (H : Heap 𝓤) (A : Atoms 𝓤) (W : Given
         move ! (7 ∷ 12 ∷ 6 ∷ 11 ∷ 2 ∷ 0 ∷ 5 ∷ 10 ∷ 4 ∷ 9 ∷ 3 ∷ 8 ∷ []) $ group ! 12 $ calls-fn ! fm core.ended (core.clauses 𝓤 H A at-mem run) (known .0) (to-core ν δ x₀ v₀ x₅ v₅) (λ t ws. FlushedFrom x₅ x₀ (partsOf (x₁ .now) (x₂ .now) ((table-at δ) .now) (x₄ .now)) (x₆ .now) (x₇ .now) t (ws .1 .1 .1 .1 .1 .1 .0) (ws .1 .1 .1 .1 .1 .1 .1 .0)) (‵ (flft κ₀ q₀) ⊛ ‵ Own₁ ⊛ ‵ (flft κ₁ q₁) ⊛ ‵ Own₂ ⊛ ‵ (flft (ν ∷ []) fullShare) ⊛ ‵ (Shared ν δ) ⊛ ‵ (flft κ₃ q₃) ⊛ ‵ Own₄ ⊛ ‵ (flft κ₄ q₄) ⊛ ‵ Own₆ ⊛ ‵ (flft κ₅ q₅) ⊛ ‵ Own₇)
         (asks-core ν δ x₀ v₀ g₀ x₅ v₅ g₅) (λ t ws. id⊢ 𝓤 _)
         (and-then ! (load ! (from ! (stop !)) (look ! 40 refl)) (and-then ! (load ! (from ! (stop !)) (look ! 38 refl)) (and-then ! (load ! (from ! (stop !)) (look ! 36 refl)) (and-then ! (load ! (from ! (stop !)) (look ! 16 refl)) (and-then ! (load ! (from ! (stop !)) (look ! 32 refl)) (and-then ! (load ! (from ! (stop !)) (look ! 30 refl)) (and-then ! (load ! (from ! (stop !)) (look ! 12 refl)) (and-then ! (load ! (from ! (stop !)) (look ! 8 refl)) (no-more !))))))))) (λ t w₁ ws e-t is-t. land ! (from ! (stop !)) (init ! 25 refl (LL.lawful F.the-type F′.the-laws 𝓤 H A W .typed t (w₁ ∷ []) is-t .0)) $
-        use1 W (‵ (flft κ₀ q₀) ⊛ ‵ (flft κ₁ q₁) ⊛ ‵ (flft (ν ∷ []) fullShare) ⊛ ‵ (flft κ₃ q₃) ⊛ ‵ (flft κ₄ q₄) ⊛ ‵ (flft κ₅ q₅) ⊛ ‵ ftrue) (id⊢ 𝓤 _) $ split ! $ move ! (1 ∷ []) $ split ! $ move ! (1 ∷ []) $ split ! $ move ! (1 ∷ []) $ split ! $ move ! (1 ∷ []) $ split ! $ move ! (1 ∷ []) $ split ! $ move ! (1 ∷ []) $ drop ! $ move ! (6 ∷ []) $ fsplit ! $ drop ! $ fsplit ! $ drop ! $ fsplit ! $ drop ! $ fsplit ! $ drop ! $ fsplit ! $ drop ! $ fsplit ! $ drop ! $ fsplit ! $ fsplit ! $ move ! (1 ∷ []) $ feqL ! (λ len₆. move ! (1 ∷ []) $ fsplit ! $ fsplit ! $ move ! (1 ∷ []) $ feqL ! (λ len₇. move ! (1 ∷ []) $ drop ! $ 
+        use1 W (‵ (flft κ₀ q₀) ⊛ ‵ (flft κ₁ q₁) ⊛ ‵ (flft (ν ∷ []) fullShare) ⊛ ‵ (flft κ₃ q₃) ⊛ ‵ (flft κ₄ q₄) ⊛ ‵ (flft κ₅ q₅) ⊛ ‵ ftrue) (id⊢ 𝓤 _) $ split ! $ move ! (1 ∷ []) $ split ! $ move ! (1 ∷ []) $ split ! $ move ! (1 ∷ []) $ split ! $ move ! (1 ∷ []) $ split ! $ move ! (1 ∷ []) $ split ! $ move ! (1 ∷ []) $ drop ! $ move ! (6 ∷ []) $ fsplit ! $ drop ! $ fsplit ! $ drop ! $ fsplit ! $ drop ! $ fsplit ! $ drop ! $ fsplit ! $ drop ! $ fsplit ! $ drop ! $ fsplit ! $ fsplit ! $ move ! (1 ∷ []) $ feqL ! (λ len₆. move ! (1 ∷ []) $ fsplit ! $ fsplit ! $ move ! (1 ∷ []) $ feqL ! (λ len₇. move ! (1 ∷ []) $ drop ! $
         -- [fin7; fin6; tok7; tok6; tok4; tok3; tok2; tok1; lender; the locals]
         nothing ! $ calls-fn ! fm left-list.ended (left-list.clauses 𝓤 H A at-mem run) (known .1) ((tt, tt, tt, (t, tt), (w₁ ∷ [], tt)), tt) (λ list _. list ≡ t .link .flight .outstanding)
         (‵ ftrue) (plainly 𝓤 H A W (F.the-row ∷ []) ((LL.makes F.the-type F′.the-plain 𝓤 H A), tt) (t, tt) (w₁ ∷ [], tt) (is-t, tt)) (λ list _. id⊢ 𝓤 _)
@@ -179,12 +179,12 @@ module _ {M : Type 1} (𝓤 : URA M) (H : Heap 𝓤) (A : Atoms 𝓤) (W : Given
         move ! (1 ∷ 0 ∷ []) $ join ! $ calls-fn ! fm scatter.ended (scatter.clauses 𝓤 H A at-mem run) (known .3) (to-scatter list w₂ recs w₃) (λ u us. us .0 ≡ scattered (x₃ .now) (slotsOf (outstandingOf list)) recs) (‵ (flft κ₂ q₂) ⊛ ‵ Own₃)
         (asks-scatter list w₂ is-list recs w₃ is-recs) (λ u us. id⊢ 𝓤 _)
         (and-then ! (load ! (from ! (stop !)) (look ! 8 refl)) (and-then ! (load ! (from ! (stop !)) (look ! 28 refl)) (and-then ! (load ! (from ! (stop !)) (look ! 26 refl)) (no-more !)))) (λ u w₄ us e-u is-u. land ! (from ! (stop !)) (init ! 13 refl (nothing-lawful 𝓤 H A W .typed u _ is-u .0)) $
-        use1 W (‵ (flft κ₂ q₂) ⊛ ‵ ftrue) (id⊢ 𝓤 _) $ split ! $ move ! (1 ∷ []) $ drop ! $ move ! (1 ∷ []) $ fsplit ! $ fsplit ! $ move ! (1 ∷ []) $ feqL ! (λ len₃. move ! (1 ∷ []) $ drop ! $ 
+        use1 W (‵ (flft κ₂ q₂) ⊛ ‵ ftrue) (id⊢ 𝓤 _) $ split ! $ move ! (1 ∷ []) $ drop ! $ move ! (1 ∷ []) $ fsplit ! $ fsplit ! $ move ! (1 ∷ []) $ feqL ! (λ len₃. move ! (1 ∷ []) $ drop ! $
         -- [fin3; tok3; fin7; fin6; tok7; tok6; tok4; tok2; tok1; the locals]
         nothing ! $ calls-fn ! fm left-answer.ended (left-answer.clauses 𝓤 H A at-mem run) (known .4) ((tt, tt, tt, (t, tt), (w₁ ∷ [], tt)), tt) (λ a _. a ≡ record { answer = t .answer; link = t .link })
         (‵ ftrue) (plainly 𝓤 H A W (F.the-row ∷ []) ((LL.makes F.the-type F′.the-plain 𝓤 H A), tt) (t, tt) (w₁ ∷ [], tt) (is-t, tt)) (λ a _. id⊢ 𝓤 _)
         (and-then ! (load ! (from ! (stop !)) (look ! 32 refl)) (no-more !)) (λ a w₅ _ e-a is-a. drop ! $ drop ! $ land ! (from ! (stop !)) (init ! 49 refl (counted-typed 𝓤 H A W a is-a)) $
-        returns ! (look ! 49 refl) $ forget ! 9 refl $ forget ! 11 refl $ forget ! 13 refl $ forget ! 15 refl $ forget ! 17 refl $ forget ! 19 refl $ forget ! 21 refl $ forget ! 23 refl $ forget ! 25 refl $ forget ! 27 refl $ forget ! 29 refl $ forget ! 31 refl $ forget ! 33 refl $ forget ! 35 refl $ forget ! 37 refl $ forget ! 39 refl $ forget ! 41 refl $ forget ! 43 refl $ forget ! 45 refl $ forget ! 47 refl $ forget ! 49 refl $ 
+        returns ! (look ! 49 refl) $ forget ! 9 refl $ forget ! 11 refl $ forget ! 13 refl $ forget ! 15 refl $ forget ! 17 refl $ forget ! 19 refl $ forget ! 21 refl $ forget ! 23 refl $ forget ! 25 refl $ forget ! 27 refl $ forget ! 29 refl $ forget ! 31 refl $ forget ! 33 refl $ forget ! 35 refl $ forget ! 37 refl $ forget ! 39 refl $ forget ! 41 refl $ forget ! 43 refl $ forget ! 45 refl $ forget ! 47 refl $ forget ! 49 refl $
         move ! (49 ∷ 50 ∷ []) $ free1 ! $ move ! (47 ∷ 48 ∷ []) $ free1 ! $ move ! (45 ∷ 46 ∷ []) $ free1 ! $ move ! (43 ∷ 44 ∷ []) $ free1 ! $ move ! (41 ∷ 42 ∷ []) $ free1 ! $ move ! (39 ∷ 40 ∷ []) $ free1 ! $ move ! (37 ∷ 38 ∷ []) $ free1 ! $ move ! (35 ∷ 36 ∷ []) $ free1 ! $ move ! (33 ∷ 34 ∷ []) $ free1 ! $ move ! (31 ∷ 32 ∷ []) $ free1 ! $ move ! (29 ∷ 30 ∷ []) $ free1 ! $ move ! (27 ∷ 28 ∷ []) $ free1 ! $ move ! (25 ∷ 26 ∷ []) $ free1 ! $ move ! (23 ∷ 24 ∷ []) $ free1 ! $ move ! (21 ∷ 22 ∷ []) $ free1 ! $ move ! (19 ∷ 20 ∷ []) $ free1 ! $ move ! (17 ∷ 18 ∷ []) $ free1 ! $ move ! (15 ∷ 16 ∷ []) $ free1 ! $ move ! (13 ∷ 14 ∷ []) $ free1 ! $ move ! (11 ∷ 12 ∷ []) $ free1 ! $ move ! (9 ∷ 10 ∷ []) $ free1 ! $ free0 ! $
         move ! (8 ∷ 7 ∷ 0 ∷ 1 ∷ 6 ∷ 3 ∷ 5 ∷ 2 ∷ 4 ∷ []) $ by ! (exits a w₅ (us .0) (ws .1 .1 .1 .1 .1 .1 .0) (ws .1 .1 .1 .1 .1 .1 .1 .0) (flush-promised x₀ (partsOf (x₁ .now) (x₂ .now) (x₃ .now) (x₄ .now)) x₅ (x₆ .now) (x₇ .now) t (ws .1 .1 .1 .1 .1 .1 .0) (ws .1 .1 .1 .1 .1 .1 .1 .0) (us .0) (put-back ys (t .link) (t .records) (us .0) list recs e-list e-recs (is-recs .1 .0 .1) e-u) a e-a e-t) len₃ len₆ len₇ is-a))))))))))))))))))))))))))))))))
 

@@ -142,7 +142,7 @@ module _ {M : Type 1} (𝓤 : URA M) (H : Heap 𝓤) (A : Atoms 𝓤) (W : Given
         qed W ((‵ (flft κ₀ q₀) ⊛ ‵ (flft κ₁ q₁) ⊛ ‵ (flft κ₂ q₂) ⊛ ‵ (flft κ₃ q₃) ⊛ ‵ (flft κ₄ q₄) ⊛ ‵ ftrue) ∷ ‵ (owns (LinkRow ∷ ShrSlice (named 0) κ₀ u8 ∷ MutSlice (named 1) κ₁ u8 ∷ MutSlice (named 2) κ₂ R ∷ MutSlice (named 3) κ₃ u32 ∷ ShrSlice (named 4) κ₄ u8 ∷ []) x at) ∷ []) ∵ enter ! C Λ code.function (v₀ ∷ s₁ ∷ s₂ ∷ s₃ ∷ s₄ ∷ s₅ ∷ []) _ $
         alloc1 ! (λ l₀. alloc1 ! (λ l₁. alloc1 ! (λ l₂. alloc1 ! (λ l₃. alloc1 ! (λ l₄. alloc1 ! (λ l₅. alloc1 ! (λ l₆. alloc1 ! (λ l₇. alloc1 ! (λ l₈. alloc1 ! (λ l₉. alloc1 ! (λ l₁₀. alloc1 ! (λ l₁₁. alloc1 ! (λ l₁₂. alloc1 ! (λ l₁₃. alloc1 ! (λ l₁₄. alloc1 ! (λ l₁₅. alloc1 ! (λ l₁₆. alloc1 ! (λ l₁₇. alloc1 ! (λ l₁₈. alloc0 ! $ params1 ! $
         pass1 ! (init ! 34 refl (link-typed 𝓤 H A W x₀ g₀)) $ pass1 ! (init ! 32 refl (tt, (tt, (record { fits = room₁ .0 }, tt)))) $ pass1 ! (init ! 30 refl (tt, (tt, (record { fits = room₂ .0 }, tt)))) $ pass1 ! (init ! 28 refl (tt, (tt, (record { fits = room₃ .0 }, tt)))) $ pass1 ! (init ! 26 refl (tt, (tt, (record { fits = room₄ .0 }, tt)))) $ pass1 ! (init ! 24 refl (tt, (tt, (record { fits = room₅ .0 }, tt)))) $ pass0 ! $
-        move ! (39 ∷ []) $ fsplit ! $ drop ! $ fsplit ! $ move ! (1 ∷ []) $ fsplit ! $ move ! (1 ∷ []) $ fsplit ! $ move ! (1 ∷ []) $ fsplit ! $ move ! (1 ∷ []) $ fsplit ! $ move ! (1 ∷ []) $ drop ! $ move ! (43 ∷ []) $ split ! $ move ! (1 ∷ []) $ split ! $ move ! (1 ∷ []) $ split ! $ move ! (1 ∷ []) $ split ! $ move ! (1 ∷ []) $ split ! $ move ! (1 ∷ []) $ drop ! $ 
+        move ! (39 ∷ []) $ fsplit ! $ drop ! $ fsplit ! $ move ! (1 ∷ []) $ fsplit ! $ move ! (1 ∷ []) $ fsplit ! $ move ! (1 ∷ []) $ fsplit ! $ move ! (1 ∷ []) $ fsplit ! $ move ! (1 ∷ []) $ drop ! $ move ! (43 ∷ []) $ split ! $ move ! (1 ∷ []) $ split ! $ move ! (1 ∷ []) $ split ! $ move ! (1 ∷ []) $ split ! $ move ! (1 ∷ []) $ split ! $ move ! (1 ∷ []) $ drop ! $
         -- [tok5; tok4; tok3; tok2; tok1; own5; own4; own3; own2; own1; the locals]
         assigns ! (addr ! (from ! (fld ! refl (hop ! (look-in ! 40 (sub ! 0 refl (whole !))) (stop !))))) (from ! (stop !)) (init ! 26 refl (tt, tt)) $
         assigns ! (agg ! (and-then ! (load ! (from ! (stop !)) (look ! 26 refl)) (and-then ! (load ! (from ! (fld ! refl (stop !))) (look-in ! 40 (sub ! 1 refl (whole !)))) (no-more !)))) (from ! (stop !)) (init ! 24 refl (tt, (tt, (record { fits = room₂ .0 }, tt)))) $
@@ -156,7 +156,7 @@ module _ {M : Type 1} (𝓤 : URA M) (H : Heap 𝓤) (A : Atoms 𝓤) (W : Given
         move ! (6 ∷ 10 ∷ 5 ∷ 9 ∷ 2 ∷ 0 ∷ 4 ∷ 8 ∷ 3 ∷ 7 ∷ []) $ group ! 10 $ calls-fn ! fm core.ended (core.clauses 𝓤 H A at-mem run) (known .0) (to-core ν δ x₀ v₀) (λ t ws. TakenFrom (x₅ .now) x₀ (partsOf (x₁ .now) (x₂ .now) ((table-at δ) .now) (x₄ .now)) t (ws .1 .1 .0) (ws .1 .1 .1 .1 .0)) (‵ (flft κ₀ q₀) ⊛ ‵ Own₁ ⊛ ‵ (flft κ₁ q₁) ⊛ ‵ Own₂ ⊛ ‵ (flft (ν ∷ []) fullShare) ⊛ ‵ (Shared ν δ) ⊛ ‵ (flft κ₃ q₃) ⊛ ‵ Own₄ ⊛ ‵ (flft κ₄ q₄) ⊛ ‵ Own₅)
         (asks-core ν δ x₀ v₀ g₀) (λ t ws. id⊢ 𝓤 _)
         (and-then ! (load ! (from ! (stop !)) (look ! 36 refl)) (and-then ! (load ! (from ! (stop !)) (look ! 34 refl)) (and-then ! (load ! (from ! (stop !)) (look ! 16 refl)) (and-then ! (load ! (from ! (stop !)) (look ! 12 refl)) (and-then ! (load ! (from ! (stop !)) (look ! 8 refl)) (and-then ! (load ! (from ! (stop !)) (look ! 26 refl)) (no-more !))))))) (λ t w₁ ws e-t is-t. land ! (from ! (stop !)) (init ! 25 refl (LL.lawful T.the-type T′.the-laws 𝓤 H A W .typed t (w₁ ∷ []) is-t .0)) $
-        use1 W (‵ (flft κ₀ q₀) ⊛ ‵ (flft κ₁ q₁) ⊛ ‵ (flft (ν ∷ []) fullShare) ⊛ ‵ (flft κ₃ q₃) ⊛ ‵ (flft κ₄ q₄) ⊛ ‵ ftrue) (id⊢ 𝓤 _) $ split ! $ move ! (1 ∷ []) $ split ! $ move ! (1 ∷ []) $ split ! $ move ! (1 ∷ []) $ split ! $ move ! (1 ∷ []) $ split ! $ move ! (1 ∷ []) $ drop ! $ move ! (5 ∷ []) $ fsplit ! $ drop ! $ fsplit ! $ drop ! $ fsplit ! $ fsplit ! $ move ! (1 ∷ []) $ feqL ! (λ len₂. move ! (1 ∷ []) $ fsplit ! $ drop ! $ fsplit ! $ fsplit ! $ move ! (1 ∷ []) $ feqL ! (λ len₄. move ! (1 ∷ []) $ drop ! $ 
+        use1 W (‵ (flft κ₀ q₀) ⊛ ‵ (flft κ₁ q₁) ⊛ ‵ (flft (ν ∷ []) fullShare) ⊛ ‵ (flft κ₃ q₃) ⊛ ‵ (flft κ₄ q₄) ⊛ ‵ ftrue) (id⊢ 𝓤 _) $ split ! $ move ! (1 ∷ []) $ split ! $ move ! (1 ∷ []) $ split ! $ move ! (1 ∷ []) $ split ! $ move ! (1 ∷ []) $ split ! $ move ! (1 ∷ []) $ drop ! $ move ! (5 ∷ []) $ fsplit ! $ drop ! $ fsplit ! $ drop ! $ fsplit ! $ fsplit ! $ move ! (1 ∷ []) $ feqL ! (λ len₂. move ! (1 ∷ []) $ fsplit ! $ drop ! $ fsplit ! $ fsplit ! $ move ! (1 ∷ []) $ feqL ! (λ len₄. move ! (1 ∷ []) $ drop ! $
         -- [fin4; fin2; tok5; tok4; tok3; tok2; tok1; lender; the locals]
         nothing ! $ calls-fn ! fm left-list.ended (left-list.clauses 𝓤 H A at-mem run) (known .1) ((tt, tt, tt, (t, tt), (w₁ ∷ [], tt)), tt) (λ list _. list ≡ t .link .flight .outstanding)
         (‵ ftrue) (plainly 𝓤 H A W (T.the-row ∷ []) ((LL.makes T.the-type T′.the-plain 𝓤 H A), tt) (t, tt) (w₁ ∷ [], tt) (is-t, tt)) (λ list _. id⊢ 𝓤 _)
@@ -172,12 +172,12 @@ module _ {M : Type 1} (𝓤 : URA M) (H : Heap 𝓤) (A : Atoms 𝓤) (W : Given
         move ! (1 ∷ 0 ∷ []) $ join ! $ calls-fn ! fm scatter.ended (scatter.clauses 𝓤 H A at-mem run) (known .3) (to-scatter list w₂ recs w₃) (λ u us. us .0 ≡ scattered (x₃ .now) (slotsOf (outstandingOf list)) recs) (‵ (flft κ₂ q₂) ⊛ ‵ Own₃)
         (asks-scatter list w₂ is-list recs w₃ is-recs) (λ u us. id⊢ 𝓤 _)
         (and-then ! (load ! (from ! (stop !)) (look ! 7 refl)) (and-then ! (load ! (from ! (stop !)) (look ! 27 refl)) (and-then ! (load ! (from ! (stop !)) (look ! 25 refl)) (no-more !)))) (λ u w₄ us e-u is-u. land ! (from ! (stop !)) (init ! 12 refl (nothing-lawful 𝓤 H A W .typed u _ is-u .0)) $
-        use1 W (‵ (flft κ₂ q₂) ⊛ ‵ ftrue) (id⊢ 𝓤 _) $ split ! $ move ! (1 ∷ []) $ drop ! $ move ! (1 ∷ []) $ fsplit ! $ fsplit ! $ move ! (1 ∷ []) $ feqL ! (λ len₃. move ! (1 ∷ []) $ drop ! $ 
+        use1 W (‵ (flft κ₂ q₂) ⊛ ‵ ftrue) (id⊢ 𝓤 _) $ split ! $ move ! (1 ∷ []) $ drop ! $ move ! (1 ∷ []) $ fsplit ! $ fsplit ! $ move ! (1 ∷ []) $ feqL ! (λ len₃. move ! (1 ∷ []) $ drop ! $
         -- [fin3; tok3; fin4; fin2; tok5; tok4; tok2; tok1; the locals]
         nothing ! $ calls-fn ! fm left-answer.ended (left-answer.clauses 𝓤 H A at-mem run) (known .4) ((tt, tt, tt, (t, tt), (w₁ ∷ [], tt)), tt) (λ a _. a ≡ record { answer = t .answer; link = t .link })
         (‵ ftrue) (plainly 𝓤 H A W (T.the-row ∷ []) ((LL.makes T.the-type T′.the-plain 𝓤 H A), tt) (t, tt) (w₁ ∷ [], tt) (is-t, tt)) (λ a _. id⊢ 𝓤 _)
         (and-then ! (load ! (from ! (stop !)) (look ! 31 refl)) (no-more !)) (λ a w₅ _ e-a is-a. drop ! $ drop ! $ land ! (from ! (stop !)) (init ! 44 refl (answered-typed 𝓤 H A W a is-a)) $
-        returns ! (look ! 44 refl) $ forget ! 8 refl $ forget ! 10 refl $ forget ! 12 refl $ forget ! 14 refl $ forget ! 16 refl $ forget ! 18 refl $ forget ! 20 refl $ forget ! 22 refl $ forget ! 24 refl $ forget ! 26 refl $ forget ! 28 refl $ forget ! 30 refl $ forget ! 32 refl $ forget ! 34 refl $ forget ! 36 refl $ forget ! 38 refl $ forget ! 40 refl $ forget ! 42 refl $ forget ! 44 refl $ 
+        returns ! (look ! 44 refl) $ forget ! 8 refl $ forget ! 10 refl $ forget ! 12 refl $ forget ! 14 refl $ forget ! 16 refl $ forget ! 18 refl $ forget ! 20 refl $ forget ! 22 refl $ forget ! 24 refl $ forget ! 26 refl $ forget ! 28 refl $ forget ! 30 refl $ forget ! 32 refl $ forget ! 34 refl $ forget ! 36 refl $ forget ! 38 refl $ forget ! 40 refl $ forget ! 42 refl $ forget ! 44 refl $
         move ! (44 ∷ 45 ∷ []) $ free1 ! $ move ! (42 ∷ 43 ∷ []) $ free1 ! $ move ! (40 ∷ 41 ∷ []) $ free1 ! $ move ! (38 ∷ 39 ∷ []) $ free1 ! $ move ! (36 ∷ 37 ∷ []) $ free1 ! $ move ! (34 ∷ 35 ∷ []) $ free1 ! $ move ! (32 ∷ 33 ∷ []) $ free1 ! $ move ! (30 ∷ 31 ∷ []) $ free1 ! $ move ! (28 ∷ 29 ∷ []) $ free1 ! $ move ! (26 ∷ 27 ∷ []) $ free1 ! $ move ! (24 ∷ 25 ∷ []) $ free1 ! $ move ! (22 ∷ 23 ∷ []) $ free1 ! $ move ! (20 ∷ 21 ∷ []) $ free1 ! $ move ! (18 ∷ 19 ∷ []) $ free1 ! $ move ! (16 ∷ 17 ∷ []) $ free1 ! $ move ! (14 ∷ 15 ∷ []) $ free1 ! $ move ! (12 ∷ 13 ∷ []) $ free1 ! $ move ! (10 ∷ 11 ∷ []) $ free1 ! $ move ! (8 ∷ 9 ∷ []) $ free1 ! $ free0 ! $
         move ! (7 ∷ 3 ∷ 6 ∷ 0 ∷ 1 ∷ 2 ∷ 5 ∷ 4 ∷ []) $ by ! (exits a w₅ (ws .1 .1 .0) (us .0) (ws .1 .1 .1 .1 .0) (input-promised x₀ (partsOf (x₁ .now) (x₂ .now) (x₃ .now) (x₄ .now)) (x₅ .now) t (ws .1 .1 .0) (ws .1 .1 .1 .1 .0) (us .0) (put-back ys (t .link) (t .records) (us .0) list recs e-list e-recs (is-recs .1 .0 .1) e-u) a e-a e-t) len₂ len₃ len₄ is-a))))))))))))))))))))))))))))))
 
