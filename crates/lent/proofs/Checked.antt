@@ -9,9 +9,8 @@ use borrow.Author.Tests.{leb-true}
 use lib.Dec.{leb}
 use lib.ListN.{length}
 use Rattle.protocol.specs.Protocol.{sendSlots, receiveSlots, acksMost, outputLeast, lengthsLeast}
-use Rattle.protocol.specs.Ranges.{mss}
 use Rattle.sizes.specs.Sizes.{enough, enoughToFlush}
-use Rattle.session.specs.State.{Outcome, refused, done}
+use Rattle.session.specs.State.{Outcome, done}
 use Rattle.session.specs.Valid.{valid}
 use Rattle.session.specs.Decides.{and-parts}
 use Rattle.block.specs.Views.{countsFit, blockValid}

@@ -1,20 +1,20 @@
 -- The send slots of the outstanding segments after a flush and after an input: each below 128, and none twice, where the state
 -- before was valid. A flush holds the same segments; an input keeps some of those that were outstanding, in their order.
 -- Assumes nothing.
-use mathlib.Core.Path.{_≡_, refl, sym, ap, _∙_}
+use mathlib.Core.Path.{_≡_, refl}
 use mathlib.Core.Bool.{Bool, true, false, cond, not, _&&_, _||_, true≢false}
 use mathlib.Core.List.{List, [], _∷_, _++_, map, map-append, append-assoc}
-use Prim.Native.Nat.{ℕ, zero, suc, _≤_, _<_}
+use Prim.Native.Nat.{ℕ, zero, suc, _<_}
 use native.Mathlib.Omega.{arith}
 use lib.Dec.{eqb}
-use lib.ListN.{length, getD, take, drop, take-append-drop}
+use lib.ListN.{take, drop, take-append-drop}
 use Rattle.protocol.specs.Protocol.{sendSlots, ack}
 use Rattle.protocol.specs.Ranges.{inRange}
 use Rattle.protocol.specs.Serial.{plus, isBefore}
 use Rattle.protocol.specs.declared.Settings.{Settings}
 use Rattle.wire.specs.declared.Header.{Header}
 use Rattle.datagram.specs.Datagrams.{Segment}
-use Rattle.lists.specs.Acknowledging.{select, removed, skipBefore}
+use Rattle.lists.specs.Acknowledging.{select, skipBefore}
 use Rattle.lists.specs.AcknowledgingLaws.{skip-held}
 use Rattle.lists.specs.declared.Held.{Held}
 use Rattle.lists.specs.declared.Sent.{Sent}
@@ -26,7 +26,7 @@ use Rattle.session.specs.Valid.{valid, sendingValid, receivingValid, probeFits}
 use Rattle.session.specs.Decides.{All, and-parts}
 use Rattle.session.specs.AllLaws.{all-mapped}
 use Rattle.session.specs.Once.{Distinct, once-distinct, distinct-once}
-use Rattle.session.specs.SendingValid.{SendingIsValid, sending-decides}
+use Rattle.session.specs.SendingValid.{sending-decides}
 use Rattle.session.specs.Flushing.{numbered, numberedCount, withNumbered, sentAfter, flushing}
 use Rattle.session.specs.Input.{acknowledged, withWindow, sampledBy, heardBySending, allBySending, furthest, skipped, skippedByAll, ackNumbers, applied}
 use Rattle.records.specs.TableLaws.{AllBelow}

@@ -1,6 +1,6 @@
 -- Taking in a datagram: what the core leaves, with its records put back into the table, is what the call promises.
 -- Assumes nothing.
-use mathlib.Core.Path.{_≡_, refl, sym, ap, subst, _∙_}
+use mathlib.Core.Path.{_≡_, refl, subst}
 use mathlib.Core.Bool.{true}
 use mathlib.Core.List.{List}
 use Prim.Native.Nat.{ℕ}
@@ -8,7 +8,7 @@ use native.Mathlib.Omega.{arith}
 use lib.ListN.{length}
 use Rattle.protocol.specs.Ranges.{mss}
 use Rattle.timing.specs.declared.Record.{Record}
-use Rattle.datagram.specs.Datagrams.{Segment, Parsed, parse}
+use Rattle.datagram.specs.Datagrams.{Parsed, parse}
 use Rattle.sizes.specs.Sizes.{enough}
 use Rattle.session.specs.State.{State, Outcome, refused, done}
 use Rattle.session.specs.Input.{Took, applied, taking, input}

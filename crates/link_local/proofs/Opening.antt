@@ -1,7 +1,6 @@
 -- Opening: what the core leaves is what the call promises; no lent part changes.
 -- Assumes nothing.
 use mathlib.Core.Path.{_≡_, refl}
-use mathlib.Core.List.{List}
 use Prim.Native.Nat.{ℕ}
 use lib.ListN.{length}
 use Rattle.protocol.specs.declared.Settings.{Settings}

@@ -1,10 +1,10 @@
 -- Sending: what the core leaves, with the table as it was, is what the call promises.
 -- Assumes nothing.
-use mathlib.Core.Path.{_≡_, refl, ap, subst}
+use mathlib.Core.Path.{refl, ap, subst}
 use mathlib.Core.List.{List}
 use Prim.Native.Nat.{ℕ}
 use Rattle.timing.specs.declared.Record.{Record}
-use Rattle.session.specs.State.{State, Outcome, refused, done}
+use Rattle.session.specs.State.{Outcome, refused, done}
 use Rattle.session.specs.Sending.{Sends, sending}
 use Rattle.block.specs.declared.Link.{Link}
 use Rattle.calls.specs.declared.Answered.{Answered}

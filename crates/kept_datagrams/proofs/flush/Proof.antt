@@ -130,7 +130,7 @@ module _ {M : Type 1} (𝓤 : URA M) (H : Heap 𝓤) (A : Atoms 𝓤) (W : Given
         alloc1 ! (λ l₀. alloc1 ! (λ l₁. alloc1 ! (λ l₂. alloc1 ! (λ l₃. alloc1 ! (λ l₄. alloc1 ! (λ l₅. alloc1 ! (λ l₆. alloc1 ! (λ l₇. alloc1 ! (λ l₈. alloc1 ! (λ l₉. alloc1 ! (λ l₁₀. alloc1 ! (λ l₁₁. alloc1 ! (λ l₁₂. alloc1 ! (λ l₁₃. alloc1 ! (λ l₁₄. alloc1 ! (λ l₁₅. alloc1 ! (λ l₁₆. alloc1 ! (λ l₁₇. alloc1 ! (λ l₁₈. alloc1 ! (λ l₁₉. alloc1 ! (λ l₂₀. alloc1 ! (λ l₂₁. alloc1 ! (λ l₂₂. alloc0 ! $ params1 ! $
         pass1 ! (init ! 42 refl (link-typed 𝓤 H A W x₀ g₀)) $ pass1 ! (init ! 40 refl (tt, (tt, (record { fits = room₁ .0 }, tt)))) $ pass1 ! (init ! 38 refl (tt, (tt, (record { fits = room₂ .0 }, tt)))) $ pass1 ! (init ! 36 refl (ts-typed 𝓤 H A W x₃ g₃)) $ pass1 ! (init ! 34 refl (uint-lawful 𝓤 H A W w64 .typed x₄ _ g₄ .0)) $ pass1 ! (init ! 32 refl (tt, (tt, (record { fits = room₅ .0 }, tt)))) $ pass1 ! (init ! 30 refl (uint-lawful 𝓤 H A W w32 .typed x₆ _ g₆ .0)) $ pass1 ! (init ! 28 refl (tt, (tt, (record { fits = room₇ .0 }, tt)))) $ pass1 ! (init ! 26 refl (tt, (tt, (record { fits = room₈ .0 }, tt)))) $ pass0 ! $
         move ! (47 ∷ []) $ fsplit ! $ drop ! $ fsplit ! $ move ! (1 ∷ []) $ fsplit ! $ move ! (1 ∷ []) $ fsplit ! $ drop ! $ fsplit ! $ drop ! $ fsplit ! $ move ! (1 ∷ []) $ fsplit ! $ drop ! $ fsplit ! $ move ! (1 ∷ []) $ fsplit ! $ move ! (1 ∷ []) $ drop ! $ move ! (51 ∷ []) $ split ! $ move ! (1 ∷ []) $ split ! $ move ! (1 ∷ []) $ split ! $ move ! (1 ∷ []) $ split ! $ move ! (1 ∷ []) $ split ! $ move ! (1 ∷ []) $ drop ! $
-        -- [tok8; tok7; tok5; tok2; tok1; own8; own7; own5; own2; own1; the locals]
+        -- [κ₄'s token; κ₃'s token; κ₂'s token; κ₁'s token; κ₀'s token; Own₈; Own₇; Own₅; Own₂; Own₁; the locals]
         assigns ! (of-opd ! (load ! (from ! (stop !)) (look ! 46 refl))) (from ! (stop !)) (init ! 34 refl (ts-typed 𝓤 H A W x₃ g₃)) $
         nothing ! $ calls-fn ! fm within.ended (within.clauses 𝓤 H A at-mem run) (known .0) ((tt, tt, tt, (x₄, tt), (v₄ ∷ [], tt)), tt) (λ n _. n ≡ min x₄ 128)
         (‵ ftrue) (plainly 𝓤 H A W (usize ∷ []) ((uint-makes 𝓤 H A W w64), tt) (x₄, tt) (v₄ ∷ [], tt) (g₄, tt)) (λ n _. id⊢ 𝓤 _)
@@ -152,7 +152,7 @@ module _ {M : Type 1} (𝓤 : URA M) (H : Heap 𝓤) (A : Atoms 𝓤) (W : Given
         (asks-core l₁₀ ν δ n x₀ v₀ g₀ x₆ v₆ g₆) (λ c ws. id⊢ 𝓤 _)
         (and-then ! (load ! (from ! (stop !)) (look ! 43 refl)) (and-then ! (load ! (from ! (stop !)) (look ! 41 refl)) (and-then ! (load ! (from ! (stop !)) (look ! 39 refl)) (and-then ! (load ! (from ! (stop !)) (look ! 12 refl)) (and-then ! (load ! (from ! (stop !)) (look ! 33 refl)) (and-then ! (load ! (from ! (stop !)) (look ! 31 refl)) (and-then ! (load ! (from ! (stop !)) (look ! 8 refl)) (and-then ! (load ! (from ! (stop !)) (look ! 4 refl)) (no-more !))))))))) (λ c w₂ ws e-c is-c. land ! (from ! (stop !)) (init ! 23 refl (counted-typed 𝓤 H A W c is-c)) $
         use1 W (‵ (flft κ₀ q₀) ⊛ ‵ (flft κ₁ q₁) ⊛ ‵ (flft (ν ∷ []) fullShare) ⊛ ‵ (flft κ₂ q₂) ⊛ ‵ (flft κ₃ q₃) ⊛ ‵ (flft κ₄ q₄) ⊛ ‵ ftrue) (id⊢ 𝓤 _) $ split ! $ move ! (1 ∷ []) $ split ! $ move ! (1 ∷ []) $ split ! $ move ! (1 ∷ []) $ split ! $ move ! (1 ∷ []) $ split ! $ move ! (1 ∷ []) $ split ! $ move ! (1 ∷ []) $ drop ! $ move ! (6 ∷ []) $ fsplit ! $ drop ! $ fsplit ! $ drop ! $ fsplit ! $ drop ! $ fsplit ! $ fsplit ! $ move ! (1 ∷ []) $ feqL ! (λ lenT. move ! (1 ∷ []) $ fsplit ! $ drop ! $ fsplit ! $ drop ! $ fsplit ! $ fsplit ! $ move ! (1 ∷ []) $ feqL ! (λ len₇. move ! (1 ∷ []) $ fsplit ! $ fsplit ! $ move ! (1 ∷ []) $ feqL ! (λ len₈. move ! (1 ∷ []) $ drop ! $
-        -- [fin8; fin7; finT; tok8; tok7; tok5; tokT; tok2; tok1; lender; the locals]
+        -- [the last list of x₈; the last list of x₇; the last list; κ₄'s token; κ₃'s token; κ₂'s token; ν's token; κ₁'s token; κ₀'s token; the lender's part; the locals]
         -- they come back
         move ! (6 ∷ []) $ lft-end ! tt $ move ! (0 ∷ 9 ∷ 3 ∷ []) $ use3 W (later (some (λ (w : Val). given (Is Ts ((ws .1 .1 .1 .0) ++ behind n x₃) (w ∷ [])) (‵ (fat fullShare (tyArray T′.mir 128) l₁₀ 0 w))))) (part-back 𝓤 H A W R (makes 𝓤 H A) tt 128 l₁₀ (ν ∷ []) δ (ws .1 .1 .1 .0) (behind n x₃) n ((cut-at x₃ x₄ n (g₃ .1 .0 .1) e-n) .others)) $ await ! tt $ pick ! (λ w-t. learn ! (λ is-t.
         assigns ! (of-opd ! (load ! (from ! (stop !)) (look ! 0 refl))) (from ! (stop !)) (init ! 8 refl (ts-typed 𝓤 H A W ((ws .1 .1 .1 .0) ++ behind n x₃) is-t)) $

@@ -123,7 +123,7 @@ module _ {M : Type 1} (𝓤 : URA M) (H : Heap 𝓤) (A : Atoms 𝓤) (W : Given
         alloc1 ! (λ l₀. alloc1 ! (λ l₁. alloc1 ! (λ l₂. alloc1 ! (λ l₃. alloc1 ! (λ l₄. alloc1 ! (λ l₅. alloc1 ! (λ l₆. alloc1 ! (λ l₇. alloc1 ! (λ l₈. alloc1 ! (λ l₉. alloc1 ! (λ l₁₀. alloc1 ! (λ l₁₁. alloc1 ! (λ l₁₂. alloc1 ! (λ l₁₃. alloc1 ! (λ l₁₄. alloc1 ! (λ l₁₅. alloc1 ! (λ l₁₆. alloc1 ! (λ l₁₇. alloc1 ! (λ l₁₈. alloc1 ! (λ l₁₉. alloc1 ! (λ l₂₀. alloc0 ! $ params1 ! $
         pass1 ! (init ! 38 refl (link-typed 𝓤 H A W x₀ g₀)) $ pass1 ! (init ! 36 refl (tt, (tt, (record { fits = room₁ .0 }, tt)))) $ pass1 ! (init ! 34 refl (tt, (tt, (record { fits = room₂ .0 }, tt)))) $ pass1 ! (init ! 32 refl (ts-typed 𝓤 H A W x₃ g₃)) $ pass1 ! (init ! 30 refl (uint-lawful 𝓤 H A W w64 .typed x₄ _ g₄ .0)) $ pass1 ! (init ! 28 refl (tt, (tt, (record { fits = room₅ .0 }, tt)))) $ pass1 ! (init ! 26 refl (tt, (tt, (record { fits = room₆ .0 }, tt)))) $ pass0 ! $
         move ! (43 ∷ []) $ fsplit ! $ drop ! $ fsplit ! $ move ! (1 ∷ []) $ fsplit ! $ move ! (1 ∷ []) $ fsplit ! $ drop ! $ fsplit ! $ drop ! $ fsplit ! $ move ! (1 ∷ []) $ fsplit ! $ move ! (1 ∷ []) $ drop ! $ move ! (46 ∷ []) $ split ! $ move ! (1 ∷ []) $ split ! $ move ! (1 ∷ []) $ split ! $ move ! (1 ∷ []) $ split ! $ move ! (1 ∷ []) $ drop ! $
-        -- [tok6; tok5; tok2; tok1; own6; own5; own2; own1; the locals]
+        -- [κ₃'s token; κ₂'s token; κ₁'s token; κ₀'s token; Own₆; Own₅; Own₂; Own₁; the locals]
         assigns ! (of-opd ! (load ! (from ! (stop !)) (look ! 40 refl))) (from ! (stop !)) (init ! 32 refl (ts-typed 𝓤 H A W x₃ g₃)) $
         nothing ! $ calls-fn ! fm within.ended (within.clauses 𝓤 H A at-mem run) (known .0) ((tt, tt, tt, (x₄, tt), (v₄ ∷ [], tt)), tt) (λ n _. n ≡ min x₄ 128)
         (‵ ftrue) (plainly 𝓤 H A W (usize ∷ []) ((uint-makes 𝓤 H A W w64), tt) (x₄, tt) (v₄ ∷ [], tt) (g₄, tt)) (λ n _. id⊢ 𝓤 _)
@@ -145,7 +145,7 @@ module _ {M : Type 1} (𝓤 : URA M) (H : Heap 𝓤) (A : Atoms 𝓤) (W : Given
         (asks-core l₈ ν δ n x₀ v₀ g₀) (λ c ws. id⊢ 𝓤 _)
         (and-then ! (load ! (from ! (stop !)) (look ! 39 refl)) (and-then ! (load ! (from ! (stop !)) (look ! 37 refl)) (and-then ! (load ! (from ! (stop !)) (look ! 18 refl)) (and-then ! (load ! (from ! (stop !)) (look ! 8 refl)) (and-then ! (load ! (from ! (stop !)) (look ! 4 refl)) (and-then ! (load ! (from ! (stop !)) (look ! 27 refl)) (no-more !))))))) (λ c w₂ ws e-c is-c. land ! (from ! (stop !)) (init ! 23 refl (answered-typed 𝓤 H A W c is-c)) $
         use1 W (‵ (flft κ₀ q₀) ⊛ ‵ (flft κ₁ q₁) ⊛ ‵ (flft (ν ∷ []) fullShare) ⊛ ‵ (flft κ₂ q₂) ⊛ ‵ (flft κ₃ q₃) ⊛ ‵ ftrue) (id⊢ 𝓤 _) $ split ! $ move ! (1 ∷ []) $ split ! $ move ! (1 ∷ []) $ split ! $ move ! (1 ∷ []) $ split ! $ move ! (1 ∷ []) $ split ! $ move ! (1 ∷ []) $ drop ! $ move ! (5 ∷ []) $ fsplit ! $ drop ! $ fsplit ! $ drop ! $ fsplit ! $ fsplit ! $ move ! (1 ∷ []) $ feqL ! (λ len₂. move ! (1 ∷ []) $ fsplit ! $ fsplit ! $ move ! (1 ∷ []) $ feqL ! (λ lenT. move ! (1 ∷ []) $ fsplit ! $ fsplit ! $ move ! (1 ∷ []) $ feqL ! (λ len₅. move ! (1 ∷ []) $ drop ! $
-        -- [fin5; finT; fin2; tok6; tok5; tokT; tok2; tok1; lender; the locals]
+        -- [the last list of x₅; the last list; the last list of x₂; κ₃'s token; κ₂'s token; ν's token; κ₁'s token; κ₀'s token; the lender's part; the locals]
         -- they come back
         move ! (5 ∷ []) $ lft-end ! tt $ move ! (0 ∷ 8 ∷ 2 ∷ []) $ use3 W (later (some (λ (w : Val). given (Is Ts ((ws .1 .1 .1 .0) ++ behind n x₃) (w ∷ [])) (‵ (fat fullShare (tyArray T′.mir 128) l₈ 0 w))))) (part-back 𝓤 H A W R (makes 𝓤 H A) tt 128 l₈ (ν ∷ []) δ (ws .1 .1 .1 .0) (behind n x₃) n ((cut-at x₃ x₄ n (g₃ .1 .0 .1) e-n) .others)) $ await ! tt $ pick ! (λ w-t. learn ! (λ is-t.
         assigns ! (of-opd ! (load ! (from ! (stop !)) (look ! 0 refl))) (from ! (stop !)) (init ! 7 refl (ts-typed 𝓤 H A W ((ws .1 .1 .1 .0) ++ behind n x₃) is-t)) $

@@ -150,7 +150,7 @@ module _ {M : Type 1} (𝓤 : URA M) (H : Heap 𝓤) (A : Atoms 𝓤) (W : Given
         alloc1 ! (λ l₀. alloc1 ! (λ l₁. alloc1 ! (λ l₂. alloc1 ! (λ l₃. alloc1 ! (λ l₄. alloc1 ! (λ l₅. alloc1 ! (λ l₆. alloc1 ! (λ l₇. alloc1 ! (λ l₈. alloc1 ! (λ l₉. alloc1 ! (λ l₁₀. alloc1 ! (λ l₁₁. alloc1 ! (λ l₁₂. alloc1 ! (λ l₁₃. alloc1 ! (λ l₁₄. alloc1 ! (λ l₁₅. alloc1 ! (λ l₁₆. alloc1 ! (λ l₁₇. alloc1 ! (λ l₁₈. alloc1 ! (λ l₁₉. alloc1 ! (λ l₂₀. alloc0 ! $ params1 ! $
         pass1 ! (init ! 38 refl (link-typed 𝓤 H A W x₀ g₀)) $ pass1 ! (init ! 36 refl (tt, (tt, (record { fits = room₁ .0 }, tt)))) $ pass1 ! (init ! 34 refl (tt, (tt, (record { fits = room₂ .0 }, tt)))) $ pass1 ! (init ! 32 refl (tt, (tt, (record { fits = room₃ .0 }, tt)))) $ pass1 ! (init ! 30 refl (tt, (tt, (record { fits = room₄ .0 }, tt)))) $ pass1 ! (init ! 28 refl (uint-lawful 𝓤 H A W w32 .typed x₅ _ g₅ .0)) $ pass1 ! (init ! 26 refl (tt, (tt, (record { fits = room₆ .0 }, tt)))) $ pass1 ! (init ! 24 refl (tt, (tt, (record { fits = room₇ .0 }, tt)))) $ pass0 ! $
         move ! (43 ∷ []) $ fsplit ! $ drop ! $ fsplit ! $ move ! (1 ∷ []) $ fsplit ! $ move ! (1 ∷ []) $ fsplit ! $ move ! (1 ∷ []) $ fsplit ! $ move ! (1 ∷ []) $ fsplit ! $ drop ! $ fsplit ! $ move ! (1 ∷ []) $ fsplit ! $ move ! (1 ∷ []) $ drop ! $ move ! (48 ∷ []) $ split ! $ move ! (1 ∷ []) $ split ! $ move ! (1 ∷ []) $ split ! $ move ! (1 ∷ []) $ split ! $ move ! (1 ∷ []) $ split ! $ move ! (1 ∷ []) $ split ! $ move ! (1 ∷ []) $ drop ! $
-        -- [tok7; tok6; tok4; tok3; tok2; tok1; own7; own6; own4; own3; own2; own1; the locals]
+        -- [κ₅'s token; κ₄'s token; κ₃'s token; κ₂'s token; κ₁'s token; κ₀'s token; Own₇; Own₆; Own₄; Own₃; Own₂; Own₁; the locals]
         assigns ! (addr ! (from ! (fld ! refl (hop ! (look-in ! 44 (sub ! 0 refl (whole !))) (stop !))))) (from ! (stop !)) (init ! 28 refl (tt, tt)) $
         assigns ! (agg ! (and-then ! (load ! (from ! (stop !)) (look ! 28 refl)) (and-then ! (load ! (from ! (fld ! refl (stop !))) (look-in ! 44 (sub ! 1 refl (whole !)))) (no-more !)))) (from ! (stop !)) (init ! 26 refl (tt, (tt, (record { fits = room₃ .0 }, tt)))) $
         assigns ! (addr ! (from ! (fld ! refl (hop ! (look-in ! 38 (sub ! 0 refl (whole !))) (stop !))))) (from ! (stop !)) (init ! 24 refl (tt, tt)) $
@@ -159,12 +159,12 @@ module _ {M : Type 1} (𝓤 : URA M) (H : Heap 𝓤) (A : Atoms 𝓤) (W : Given
         assigns ! (agg ! (and-then ! (load ! (from ! (stop !)) (look ! 20 refl)) (and-then ! (load ! (from ! (fld ! refl (stop !))) (look-in ! 36 (sub ! 1 refl (whole !)))) (no-more !)))) (from ! (stop !)) (init ! 18 refl (tt, (tt, (record { fits = room₇ .0 }, tt)))) $
         -- the table is lent as `&` for a lifetime ν
         lft-new ! tt (λ ν. move ! (10 ∷ 4 ∷ []) $ use2 W (later (some (λ (δ : GName). ‵ (Shared ν δ) ⊛ ‵ (LentShared R κ₂ (ν ∷ []) q₂ γ b o ys)))) (lends-shared R κ₂ (ν ∷ []) q₂ γ b o ys 𝓤 H A W) $ await ! tt $ pick ! (λ δ. split ! $
-        -- [own3; lender; tok3; tok7; tok6; tok4; tok2; tok1; own7; own6; own4; own2; own1; the locals]
+        -- [Shared; the lender's part; ν's token; κ₅'s token; κ₄'s token; κ₃'s token; κ₁'s token; κ₀'s token; Own₇; Own₆; Own₄; Own₂; Own₁; the locals]
         move ! (7 ∷ 12 ∷ 6 ∷ 11 ∷ 2 ∷ 0 ∷ 5 ∷ 10 ∷ 4 ∷ 9 ∷ 3 ∷ 8 ∷ []) $ group ! 12 $ calls-fn ! fm core.ended (core.clauses 𝓤 H A at-mem run) (known .0) (to-core ν δ x₀ v₀ x₅ v₅) (λ t ws. FlushedFrom x₅ x₀ (partsOf (x₁ .now) (x₂ .now) ((table-at δ) .now) (x₄ .now)) (x₆ .now) (x₇ .now) t (ws .1 .1 .1 .1 .1 .1 .0) (ws .1 .1 .1 .1 .1 .1 .1 .0)) (‵ (flft κ₀ q₀) ⊛ ‵ Own₁ ⊛ ‵ (flft κ₁ q₁) ⊛ ‵ Own₂ ⊛ ‵ (flft (ν ∷ []) fullShare) ⊛ ‵ (Shared ν δ) ⊛ ‵ (flft κ₃ q₃) ⊛ ‵ Own₄ ⊛ ‵ (flft κ₄ q₄) ⊛ ‵ Own₆ ⊛ ‵ (flft κ₅ q₅) ⊛ ‵ Own₇)
         (asks-core ν δ x₀ v₀ g₀ x₅ v₅ g₅) (λ t ws. id⊢ 𝓤 _)
         (and-then ! (load ! (from ! (stop !)) (look ! 40 refl)) (and-then ! (load ! (from ! (stop !)) (look ! 38 refl)) (and-then ! (load ! (from ! (stop !)) (look ! 36 refl)) (and-then ! (load ! (from ! (stop !)) (look ! 16 refl)) (and-then ! (load ! (from ! (stop !)) (look ! 32 refl)) (and-then ! (load ! (from ! (stop !)) (look ! 30 refl)) (and-then ! (load ! (from ! (stop !)) (look ! 12 refl)) (and-then ! (load ! (from ! (stop !)) (look ! 8 refl)) (no-more !))))))))) (λ t w₁ ws e-t is-t. land ! (from ! (stop !)) (init ! 25 refl (LL.lawful F.the-type F′.the-laws 𝓤 H A W .typed t (w₁ ∷ []) is-t .0)) $
         use1 W (‵ (flft κ₀ q₀) ⊛ ‵ (flft κ₁ q₁) ⊛ ‵ (flft (ν ∷ []) fullShare) ⊛ ‵ (flft κ₃ q₃) ⊛ ‵ (flft κ₄ q₄) ⊛ ‵ (flft κ₅ q₅) ⊛ ‵ ftrue) (id⊢ 𝓤 _) $ split ! $ move ! (1 ∷ []) $ split ! $ move ! (1 ∷ []) $ split ! $ move ! (1 ∷ []) $ split ! $ move ! (1 ∷ []) $ split ! $ move ! (1 ∷ []) $ split ! $ move ! (1 ∷ []) $ drop ! $ move ! (6 ∷ []) $ fsplit ! $ drop ! $ fsplit ! $ drop ! $ fsplit ! $ drop ! $ fsplit ! $ drop ! $ fsplit ! $ drop ! $ fsplit ! $ drop ! $ fsplit ! $ fsplit ! $ move ! (1 ∷ []) $ feqL ! (λ len₆. move ! (1 ∷ []) $ fsplit ! $ fsplit ! $ move ! (1 ∷ []) $ feqL ! (λ len₇. move ! (1 ∷ []) $ drop ! $
-        -- [fin7; fin6; tok7; tok6; tok4; tok3; tok2; tok1; lender; the locals]
+        -- [the last list of x₇; the last list of x₆; κ₅'s token; κ₄'s token; κ₃'s token; ν's token; κ₁'s token; κ₀'s token; the lender's part; the locals]
         nothing ! $ calls-fn ! fm left-list.ended (left-list.clauses 𝓤 H A at-mem run) (known .1) ((tt, tt, tt, (t, tt), (w₁ ∷ [], tt)), tt) (λ list _. list ≡ t .link .flight .outstanding)
         (‵ ftrue) (plainly 𝓤 H A W (F.the-row ∷ []) ((LL.makes F.the-type F′.the-plain 𝓤 H A), tt) (t, tt) (w₁ ∷ [], tt) (is-t, tt)) (λ list _. id⊢ 𝓤 _)
         (and-then ! (load ! (from ! (stop !)) (look ! 32 refl)) (no-more !)) (λ list w₂ _ e-list is-list. drop ! $ drop ! $ land ! (from ! (stop !)) (init ! 29 refl (ls-typed 𝓤 H A W list is-list)) $
@@ -175,12 +175,12 @@ module _ {M : Type 1} (𝓤 : URA M) (H : Heap 𝓤) (A : Atoms 𝓤) (W : Given
         assigns ! (agg ! (and-then ! (load ! (from ! (stop !)) (look ! 11 refl)) (and-then ! (load ! (from ! (fld ! refl (stop !))) (look-in ! 41 (sub ! 1 refl (whole !)))) (no-more !)))) (from ! (stop !)) (init ! 9 refl (tt, (tt, (record { fits = room₃ .0 }, tt)))) $
         -- it comes back as it was
         move ! (5 ∷ []) $ lft-end ! tt $ move ! (0 ∷ 8 ∷ []) $ use2 W (later (‵ Own₃ ⊛ ‵ (flft κ₂ q₂))) (shared-back R κ₂ (ν ∷ []) q₂ γ b o ys 𝓤 H A W room₃) $ await ! tt $ split ! $
-        -- [own3; tok3; fin7; fin6; tok7; tok6; tok4; tok2; tok1; the locals]
+        -- [Own₃; κ₂'s token; the last list of x₇; the last list of x₆; κ₅'s token; κ₄'s token; κ₃'s token; κ₁'s token; κ₀'s token; the locals]
         move ! (1 ∷ 0 ∷ []) $ join ! $ calls-fn ! fm scatter.ended (scatter.clauses 𝓤 H A at-mem run) (known .3) (to-scatter list w₂ recs w₃) (λ u us. us .0 ≡ scattered (x₃ .now) (slotsOf (outstandingOf list)) recs) (‵ (flft κ₂ q₂) ⊛ ‵ Own₃)
         (asks-scatter list w₂ is-list recs w₃ is-recs) (λ u us. id⊢ 𝓤 _)
         (and-then ! (load ! (from ! (stop !)) (look ! 8 refl)) (and-then ! (load ! (from ! (stop !)) (look ! 28 refl)) (and-then ! (load ! (from ! (stop !)) (look ! 26 refl)) (no-more !)))) (λ u w₄ us e-u is-u. land ! (from ! (stop !)) (init ! 13 refl (nothing-lawful 𝓤 H A W .typed u _ is-u .0)) $
         use1 W (‵ (flft κ₂ q₂) ⊛ ‵ ftrue) (id⊢ 𝓤 _) $ split ! $ move ! (1 ∷ []) $ drop ! $ move ! (1 ∷ []) $ fsplit ! $ fsplit ! $ move ! (1 ∷ []) $ feqL ! (λ len₃. move ! (1 ∷ []) $ drop ! $
-        -- [fin3; tok3; fin7; fin6; tok7; tok6; tok4; tok2; tok1; the locals]
+        -- [the last list of x₃; κ₂'s token; the last list of x₇; the last list of x₆; κ₅'s token; κ₄'s token; κ₃'s token; κ₁'s token; κ₀'s token; the locals]
         nothing ! $ calls-fn ! fm left-answer.ended (left-answer.clauses 𝓤 H A at-mem run) (known .4) ((tt, tt, tt, (t, tt), (w₁ ∷ [], tt)), tt) (λ a _. a ≡ record { answer = t .answer; link = t .link })
         (‵ ftrue) (plainly 𝓤 H A W (F.the-row ∷ []) ((LL.makes F.the-type F′.the-plain 𝓤 H A), tt) (t, tt) (w₁ ∷ [], tt) (is-t, tt)) (λ a _. id⊢ 𝓤 _)
         (and-then ! (load ! (from ! (stop !)) (look ! 32 refl)) (no-more !)) (λ a w₅ _ e-a is-a. drop ! $ drop ! $ land ! (from ! (stop !)) (init ! 49 refl (counted-typed 𝓤 H A W a is-a)) $

@@ -145,7 +145,7 @@ module _ {M : Type 1} (𝓤 : URA M) (H : Heap 𝓤) (A : Atoms 𝓤) (W : Given
         alloc1 ! (λ l₀. alloc1 ! (λ l₁. alloc1 ! (λ l₂. alloc1 ! (λ l₃. alloc1 ! (λ l₄. alloc1 ! (λ l₅. alloc1 ! (λ l₆. alloc1 ! (λ l₇. alloc1 ! (λ l₈. alloc1 ! (λ l₉. alloc1 ! (λ l₁₀. alloc1 ! (λ l₁₁. alloc1 ! (λ l₁₂. alloc1 ! (λ l₁₃. alloc1 ! (λ l₁₄. alloc1 ! (λ l₁₅. alloc0 ! $ params1 ! $
         pass1 ! (init ! 28 refl (link-typed 𝓤 H A W x₀ g₀)) $ pass1 ! (init ! 26 refl (tt, (tt, (record { fits = room₁ .0 }, tt)))) $ pass1 ! (init ! 24 refl (tt, (tt, (record { fits = room₂ .0 }, tt)))) $ pass1 ! (init ! 22 refl (tt, (tt, (record { fits = room₃ .0 }, tt)))) $ pass1 ! (init ! 20 refl (tt, (tt, (record { fits = room₄ .0 }, tt)))) $ pass1 ! (init ! 18 refl (uint-lawful 𝓤 H A W w32 .typed x₅ _ g₅ .0)) $ pass1 ! (init ! 16 refl (tt, (tt, (record { fits = room₆ .0 }, tt)))) $ pass1 ! (init ! 14 refl (tt, (tt, (record { fits = room₇ .0 }, tt)))) $ pass0 ! $
         move ! (33 ∷ []) $ fsplit ! $ drop ! $ fsplit ! $ move ! (1 ∷ []) $ fsplit ! $ move ! (1 ∷ []) $ fsplit ! $ move ! (1 ∷ []) $ fsplit ! $ move ! (1 ∷ []) $ fsplit ! $ drop ! $ fsplit ! $ move ! (1 ∷ []) $ fsplit ! $ move ! (1 ∷ []) $ drop ! $ move ! (38 ∷ []) $ split ! $ move ! (1 ∷ []) $ split ! $ move ! (1 ∷ []) $ split ! $ move ! (1 ∷ []) $ split ! $ move ! (1 ∷ []) $ split ! $ move ! (1 ∷ []) $ split ! $ move ! (1 ∷ []) $ drop ! $
-        -- [tok7; tok6; tok4; tok3; tok2; tok1; own7; own6; own4; own3; own2; own1; the locals]
+        -- [κ₅'s token; κ₄'s token; κ₃'s token; κ₂'s token; κ₁'s token; κ₀'s token; Own₇; Own₆; Own₄; Own₃; Own₂; Own₁; the locals]
         nothing ! $ calls-fn ! fm outstanding.ended (outstanding.clauses 𝓤 H A at-mem run) (known .0) ((tt, tt, tt, (x₀, tt), (v₀ ∷ [], tt)), tt) (λ list _. list ≡ x₀ .flight .outstanding)
         (‵ ftrue) (plainly 𝓤 H A W (LinkRow ∷ []) ((link-makes 𝓤 H A W), tt) (x₀, tt) (v₀ ∷ [], tt) (g₀, tt)) (λ list _. id⊢ 𝓤 _)
         (and-then ! (load ! (from ! (stop !)) (look ! 41 refl)) (no-more !)) (λ list w₁ _ e-list is-list. drop ! $ drop ! $ land ! (from ! (stop !)) (init ! 20 refl (ls-typed 𝓤 H A W list is-list)) $
@@ -153,12 +153,12 @@ module _ {M : Type 1} (𝓤 : URA M) (H : Heap 𝓤) (A : Atoms 𝓤) (W : Given
         (asks-gather list w₁ is-list) (λ recs us. id⊢ 𝓤 _)
         (and-then ! (load ! (from ! (stop !)) (look ! 34 refl)) (and-then ! (load ! (from ! (stop !)) (look ! 20 refl)) (no-more !))) (λ recs w₂ us e-recs is-recs. land ! (from ! (stop !)) (init ! 25 refl (rs-typed 𝓤 H A W recs is-recs)) $
         use1 W (‵ (flft κ₂ q₂) ⊛ ‵ ftrue) (id⊢ 𝓤 _) $ split ! $ move ! (1 ∷ []) $ drop ! $ move ! (1 ∷ []) $ drop ! $
-        -- [tok3; own3; tok7; tok6; tok4; tok2; tok1; own7; own6; own4; own2; own1; the locals]
+        -- [κ₂'s token; Own₃; κ₅'s token; κ₄'s token; κ₃'s token; κ₁'s token; κ₀'s token; Own₇; Own₆; Own₄; Own₂; Own₁; the locals]
         join ! $ calls-fn ! fm table-len.ended (table-len.clauses 𝓤 H A at-mem run) (known .2) (to-table-len) (λ n us. n ≡ length (x₃ .now)) (‵ (flft κ₂ q₂) ⊛ ‵ Own₃)
         (asks-table-len) (λ n us. id⊢ 𝓤 _)
         (and-then ! (load ! (from ! (stop !)) (look ! 33 refl)) (no-more !)) (λ n w₃ us e-n is-n. land ! (from ! (stop !)) (init ! 22 refl (uint-lawful 𝓤 H A W w64 .typed n _ is-n .0)) $
         use1 W (‵ (flft κ₂ q₂) ⊛ ‵ ftrue) (id⊢ 𝓤 _) $ split ! $ move ! (1 ∷ []) $ drop ! $ move ! (1 ∷ []) $ drop ! $
-        -- [tok3; tok7; tok6; tok4; tok2; tok1; own7; own6; own4; own2; own1; the locals]
+        -- [κ₂'s token; κ₅'s token; κ₄'s token; κ₃'s token; κ₁'s token; κ₀'s token; Own₇; Own₆; Own₄; Own₂; Own₁; the locals]
         assigns ! (addr ! (from ! (fld ! refl (hop ! (look-in ! 27 (sub ! 0 refl (whole !))) (stop !))))) (from ! (stop !)) (init ! 17 refl (tt, tt)) $
         assigns ! (agg ! (and-then ! (load ! (from ! (stop !)) (look ! 17 refl)) (and-then ! (load ! (from ! (fld ! refl (stop !))) (look-in ! 27 (sub ! 1 refl (whole !)))) (no-more !)))) (from ! (stop !)) (init ! 15 refl (tt, (tt, (record { fits = room₆ .0 }, tt)))) $
         assigns ! (addr ! (from ! (fld ! refl (hop ! (look-in ! 25 (sub ! 0 refl (whole !))) (stop !))))) (from ! (stop !)) (init ! 13 refl (tt, tt)) $
@@ -167,7 +167,7 @@ module _ {M : Type 1} (𝓤 : URA M) (H : Heap 𝓤) (A : Atoms 𝓤) (W : Given
         (asks-core x₀ v₀ g₀ recs w₂ is-recs n w₃ is-n x₅ v₅ g₅) (λ t ws. id⊢ 𝓤 _)
         (and-then ! (load ! (from ! (stop !)) (look ! 30 refl)) (and-then ! (load ! (from ! (stop !)) (look ! 14 refl)) (and-then ! (load ! (from ! (stop !)) (look ! 12 refl)) (and-then ! (load ! (from ! (stop !)) (look ! 28 refl)) (and-then ! (load ! (from ! (stop !)) (look ! 26 refl)) (and-then ! (load ! (from ! (stop !)) (look ! 22 refl)) (and-then ! (load ! (from ! (stop !)) (look ! 20 refl)) (and-then ! (load ! (from ! (stop !)) (look ! 6 refl)) (and-then ! (load ! (from ! (stop !)) (look ! 2 refl)) (no-more !)))))))))) (λ t w₄ ws e-t is-t. land ! (from ! (stop !)) (init ! 33 refl (LL.lawful F.the-type F′.the-laws 𝓤 H A W .typed t (w₄ ∷ []) is-t .0)) $
         use1 W (‵ (flft κ₀ q₀) ⊛ ‵ (flft κ₁ q₁) ⊛ ‵ (flft κ₃ q₃) ⊛ ‵ (flft κ₄ q₄) ⊛ ‵ (flft κ₅ q₅) ⊛ ‵ ftrue) (id⊢ 𝓤 _) $ split ! $ move ! (1 ∷ []) $ split ! $ move ! (1 ∷ []) $ split ! $ move ! (1 ∷ []) $ split ! $ move ! (1 ∷ []) $ split ! $ move ! (1 ∷ []) $ drop ! $ move ! (5 ∷ []) $ fsplit ! $ drop ! $ fsplit ! $ drop ! $ fsplit ! $ drop ! $ fsplit ! $ drop ! $ fsplit ! $ drop ! $ fsplit ! $ drop ! $ fsplit ! $ drop ! $ fsplit ! $ fsplit ! $ move ! (1 ∷ []) $ feqL ! (λ len₆. move ! (1 ∷ []) $ fsplit ! $ fsplit ! $ move ! (1 ∷ []) $ feqL ! (λ len₇. move ! (1 ∷ []) $ drop ! $
-        -- [fin7; fin6; tok7; tok6; tok4; tok2; tok1; tok3; the locals]
+        -- [the last list of x₇; the last list of x₆; κ₅'s token; κ₄'s token; κ₃'s token; κ₁'s token; κ₀'s token; κ₂'s token; the locals]
         returns ! (look ! 38 refl) $ forget ! 8 refl $ forget ! 10 refl $ forget ! 12 refl $ forget ! 14 refl $ forget ! 16 refl $ forget ! 18 refl $ forget ! 20 refl $ forget ! 22 refl $ forget ! 24 refl $ forget ! 26 refl $ forget ! 28 refl $ forget ! 30 refl $ forget ! 32 refl $ forget ! 34 refl $ forget ! 36 refl $ forget ! 38 refl $
         move ! (38 ∷ 39 ∷ []) $ free1 ! $ move ! (36 ∷ 37 ∷ []) $ free1 ! $ move ! (34 ∷ 35 ∷ []) $ free1 ! $ move ! (32 ∷ 33 ∷ []) $ free1 ! $ move ! (30 ∷ 31 ∷ []) $ free1 ! $ move ! (28 ∷ 29 ∷ []) $ free1 ! $ move ! (26 ∷ 27 ∷ []) $ free1 ! $ move ! (24 ∷ 25 ∷ []) $ free1 ! $ move ! (22 ∷ 23 ∷ []) $ free1 ! $ move ! (20 ∷ 21 ∷ []) $ free1 ! $ move ! (18 ∷ 19 ∷ []) $ free1 ! $ move ! (16 ∷ 17 ∷ []) $ free1 ! $ move ! (14 ∷ 15 ∷ []) $ free1 ! $ move ! (12 ∷ 13 ∷ []) $ free1 ! $ move ! (10 ∷ 11 ∷ []) $ free1 ! $ move ! (8 ∷ 9 ∷ []) $ free1 ! $ free0 ! $
         move ! (6 ∷ 5 ∷ 7 ∷ 4 ∷ 1 ∷ 3 ∷ 0 ∷ 2 ∷ []) $ by ! (exits t w₄ (ws .1 .1 .1 .1 .1 .1 .1 .0) (ws .1 .1 .1 .1 .1 .1 .1 .1 .0) (flushed-from x₀ (partsOf (x₁ .now) (x₂ .now) (x₃ .now) (x₄ .now)) recs n (gathers x₀ (partsOf (x₁ .now) (x₂ .now) (x₃ .now) (x₄ .now)) list recs n e-list e-recs e-n) x₅ (x₆ .now) (x₇ .now) t (ws .1 .1 .1 .1 .1 .1 .1 .0) (ws .1 .1 .1 .1 .1 .1 .1 .1 .0) e-t) len₆ len₇ is-t)))))))))))))))))))))))

@@ -143,7 +143,7 @@ module _ {M : Type 1} (𝓤 : URA M) (H : Heap 𝓤) (A : Atoms 𝓤) (W : Given
         alloc1 ! (λ l₀. alloc1 ! (λ l₁. alloc1 ! (λ l₂. alloc1 ! (λ l₃. alloc1 ! (λ l₄. alloc1 ! (λ l₅. alloc1 ! (λ l₆. alloc1 ! (λ l₇. alloc1 ! (λ l₈. alloc1 ! (λ l₉. alloc1 ! (λ l₁₀. alloc1 ! (λ l₁₁. alloc1 ! (λ l₁₂. alloc1 ! (λ l₁₃. alloc1 ! (λ l₁₄. alloc1 ! (λ l₁₅. alloc1 ! (λ l₁₆. alloc1 ! (λ l₁₇. alloc1 ! (λ l₁₈. alloc0 ! $ params1 ! $
         pass1 ! (init ! 34 refl (link-typed 𝓤 H A W x₀ g₀)) $ pass1 ! (init ! 32 refl (tt, (tt, (record { fits = room₁ .0 }, tt)))) $ pass1 ! (init ! 30 refl (tt, (tt, (record { fits = room₂ .0 }, tt)))) $ pass1 ! (init ! 28 refl (tt, (tt, (record { fits = room₃ .0 }, tt)))) $ pass1 ! (init ! 26 refl (tt, (tt, (record { fits = room₄ .0 }, tt)))) $ pass1 ! (init ! 24 refl (tt, (tt, (record { fits = room₅ .0 }, tt)))) $ pass0 ! $
         move ! (39 ∷ []) $ fsplit ! $ drop ! $ fsplit ! $ move ! (1 ∷ []) $ fsplit ! $ move ! (1 ∷ []) $ fsplit ! $ move ! (1 ∷ []) $ fsplit ! $ move ! (1 ∷ []) $ fsplit ! $ move ! (1 ∷ []) $ drop ! $ move ! (43 ∷ []) $ split ! $ move ! (1 ∷ []) $ split ! $ move ! (1 ∷ []) $ split ! $ move ! (1 ∷ []) $ split ! $ move ! (1 ∷ []) $ split ! $ move ! (1 ∷ []) $ drop ! $
-        -- [tok5; tok4; tok3; tok2; tok1; own5; own4; own3; own2; own1; the locals]
+        -- [κ₄'s token; κ₃'s token; κ₂'s token; κ₁'s token; κ₀'s token; Own₅; Own₄; Own₃; Own₂; Own₁; the locals]
         assigns ! (addr ! (from ! (fld ! refl (hop ! (look-in ! 40 (sub ! 0 refl (whole !))) (stop !))))) (from ! (stop !)) (init ! 26 refl (tt, tt)) $
         assigns ! (agg ! (and-then ! (load ! (from ! (stop !)) (look ! 26 refl)) (and-then ! (load ! (from ! (fld ! refl (stop !))) (look-in ! 40 (sub ! 1 refl (whole !)))) (no-more !)))) (from ! (stop !)) (init ! 24 refl (tt, (tt, (record { fits = room₂ .0 }, tt)))) $
         assigns ! (addr ! (from ! (fld ! refl (hop ! (look-in ! 38 (sub ! 0 refl (whole !))) (stop !))))) (from ! (stop !)) (init ! 22 refl (tt, tt)) $
@@ -152,12 +152,12 @@ module _ {M : Type 1} (𝓤 : URA M) (H : Heap 𝓤) (A : Atoms 𝓤) (W : Given
         assigns ! (agg ! (and-then ! (load ! (from ! (stop !)) (look ! 18 refl)) (and-then ! (load ! (from ! (fld ! refl (stop !))) (look-in ! 36 (sub ! 1 refl (whole !)))) (no-more !)))) (from ! (stop !)) (init ! 16 refl (tt, (tt, (record { fits = room₄ .0 }, tt)))) $
         -- the table is lent as `&` for a lifetime ν
         lft-new ! tt (λ ν. move ! (8 ∷ 3 ∷ []) $ use2 W (later (some (λ (δ : GName). ‵ (Shared ν δ) ⊛ ‵ (LentShared R κ₂ (ν ∷ []) q₂ γ b o ys)))) (lends-shared R κ₂ (ν ∷ []) q₂ γ b o ys 𝓤 H A W) $ await ! tt $ pick ! (λ δ. split ! $
-        -- [own3; lender; tok3; tok5; tok4; tok2; tok1; own5; own4; own2; own1; the locals]
+        -- [Shared; the lender's part; ν's token; κ₄'s token; κ₃'s token; κ₁'s token; κ₀'s token; Own₅; Own₄; Own₂; Own₁; the locals]
         move ! (6 ∷ 10 ∷ 5 ∷ 9 ∷ 2 ∷ 0 ∷ 4 ∷ 8 ∷ 3 ∷ 7 ∷ []) $ group ! 10 $ calls-fn ! fm core.ended (core.clauses 𝓤 H A at-mem run) (known .0) (to-core ν δ x₀ v₀) (λ t ws. TakenFrom (x₅ .now) x₀ (partsOf (x₁ .now) (x₂ .now) ((table-at δ) .now) (x₄ .now)) t (ws .1 .1 .0) (ws .1 .1 .1 .1 .0)) (‵ (flft κ₀ q₀) ⊛ ‵ Own₁ ⊛ ‵ (flft κ₁ q₁) ⊛ ‵ Own₂ ⊛ ‵ (flft (ν ∷ []) fullShare) ⊛ ‵ (Shared ν δ) ⊛ ‵ (flft κ₃ q₃) ⊛ ‵ Own₄ ⊛ ‵ (flft κ₄ q₄) ⊛ ‵ Own₅)
         (asks-core ν δ x₀ v₀ g₀) (λ t ws. id⊢ 𝓤 _)
         (and-then ! (load ! (from ! (stop !)) (look ! 36 refl)) (and-then ! (load ! (from ! (stop !)) (look ! 34 refl)) (and-then ! (load ! (from ! (stop !)) (look ! 16 refl)) (and-then ! (load ! (from ! (stop !)) (look ! 12 refl)) (and-then ! (load ! (from ! (stop !)) (look ! 8 refl)) (and-then ! (load ! (from ! (stop !)) (look ! 26 refl)) (no-more !))))))) (λ t w₁ ws e-t is-t. land ! (from ! (stop !)) (init ! 25 refl (LL.lawful T.the-type T′.the-laws 𝓤 H A W .typed t (w₁ ∷ []) is-t .0)) $
         use1 W (‵ (flft κ₀ q₀) ⊛ ‵ (flft κ₁ q₁) ⊛ ‵ (flft (ν ∷ []) fullShare) ⊛ ‵ (flft κ₃ q₃) ⊛ ‵ (flft κ₄ q₄) ⊛ ‵ ftrue) (id⊢ 𝓤 _) $ split ! $ move ! (1 ∷ []) $ split ! $ move ! (1 ∷ []) $ split ! $ move ! (1 ∷ []) $ split ! $ move ! (1 ∷ []) $ split ! $ move ! (1 ∷ []) $ drop ! $ move ! (5 ∷ []) $ fsplit ! $ drop ! $ fsplit ! $ drop ! $ fsplit ! $ fsplit ! $ move ! (1 ∷ []) $ feqL ! (λ len₂. move ! (1 ∷ []) $ fsplit ! $ drop ! $ fsplit ! $ fsplit ! $ move ! (1 ∷ []) $ feqL ! (λ len₄. move ! (1 ∷ []) $ drop ! $
-        -- [fin4; fin2; tok5; tok4; tok3; tok2; tok1; lender; the locals]
+        -- [the last list of x₄; the last list of x₂; κ₄'s token; κ₃'s token; ν's token; κ₁'s token; κ₀'s token; the lender's part; the locals]
         nothing ! $ calls-fn ! fm left-list.ended (left-list.clauses 𝓤 H A at-mem run) (known .1) ((tt, tt, tt, (t, tt), (w₁ ∷ [], tt)), tt) (λ list _. list ≡ t .link .flight .outstanding)
         (‵ ftrue) (plainly 𝓤 H A W (T.the-row ∷ []) ((LL.makes T.the-type T′.the-plain 𝓤 H A), tt) (t, tt) (w₁ ∷ [], tt) (is-t, tt)) (λ list _. id⊢ 𝓤 _)
         (and-then ! (load ! (from ! (stop !)) (look ! 31 refl)) (no-more !)) (λ list w₂ _ e-list is-list. drop ! $ drop ! $ land ! (from ! (stop !)) (init ! 28 refl (ls-typed 𝓤 H A W list is-list)) $
@@ -168,12 +168,12 @@ module _ {M : Type 1} (𝓤 : URA M) (H : Heap 𝓤) (A : Atoms 𝓤) (W : Given
         assigns ! (agg ! (and-then ! (load ! (from ! (stop !)) (look ! 10 refl)) (and-then ! (load ! (from ! (fld ! refl (stop !))) (look-in ! 36 (sub ! 1 refl (whole !)))) (no-more !)))) (from ! (stop !)) (init ! 8 refl (tt, (tt, (record { fits = room₃ .0 }, tt)))) $
         -- it comes back as it was
         move ! (4 ∷ []) $ lft-end ! tt $ move ! (0 ∷ 7 ∷ []) $ use2 W (later (‵ Own₃ ⊛ ‵ (flft κ₂ q₂))) (shared-back R κ₂ (ν ∷ []) q₂ γ b o ys 𝓤 H A W room₃) $ await ! tt $ split ! $
-        -- [own3; tok3; fin4; fin2; tok5; tok4; tok2; tok1; the locals]
+        -- [Own₃; κ₂'s token; the last list of x₄; the last list of x₂; κ₄'s token; κ₃'s token; κ₁'s token; κ₀'s token; the locals]
         move ! (1 ∷ 0 ∷ []) $ join ! $ calls-fn ! fm scatter.ended (scatter.clauses 𝓤 H A at-mem run) (known .3) (to-scatter list w₂ recs w₃) (λ u us. us .0 ≡ scattered (x₃ .now) (slotsOf (outstandingOf list)) recs) (‵ (flft κ₂ q₂) ⊛ ‵ Own₃)
         (asks-scatter list w₂ is-list recs w₃ is-recs) (λ u us. id⊢ 𝓤 _)
         (and-then ! (load ! (from ! (stop !)) (look ! 7 refl)) (and-then ! (load ! (from ! (stop !)) (look ! 27 refl)) (and-then ! (load ! (from ! (stop !)) (look ! 25 refl)) (no-more !)))) (λ u w₄ us e-u is-u. land ! (from ! (stop !)) (init ! 12 refl (nothing-lawful 𝓤 H A W .typed u _ is-u .0)) $
         use1 W (‵ (flft κ₂ q₂) ⊛ ‵ ftrue) (id⊢ 𝓤 _) $ split ! $ move ! (1 ∷ []) $ drop ! $ move ! (1 ∷ []) $ fsplit ! $ fsplit ! $ move ! (1 ∷ []) $ feqL ! (λ len₃. move ! (1 ∷ []) $ drop ! $
-        -- [fin3; tok3; fin4; fin2; tok5; tok4; tok2; tok1; the locals]
+        -- [the last list of x₃; κ₂'s token; the last list of x₄; the last list of x₂; κ₄'s token; κ₃'s token; κ₁'s token; κ₀'s token; the locals]
         nothing ! $ calls-fn ! fm left-answer.ended (left-answer.clauses 𝓤 H A at-mem run) (known .4) ((tt, tt, tt, (t, tt), (w₁ ∷ [], tt)), tt) (λ a _. a ≡ record { answer = t .answer; link = t .link })
         (‵ ftrue) (plainly 𝓤 H A W (T.the-row ∷ []) ((LL.makes T.the-type T′.the-plain 𝓤 H A), tt) (t, tt) (w₁ ∷ [], tt) (is-t, tt)) (λ a _. id⊢ 𝓤 _)
         (and-then ! (load ! (from ! (stop !)) (look ! 31 refl)) (no-more !)) (λ a w₅ _ e-a is-a. drop ! $ drop ! $ land ! (from ! (stop !)) (init ! 44 refl (answered-typed 𝓤 H A W a is-a)) $

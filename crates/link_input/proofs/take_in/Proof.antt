@@ -138,7 +138,7 @@ module _ {M : Type 1} (𝓤 : URA M) (H : Heap 𝓤) (A : Atoms 𝓤) (W : Given
         alloc1 ! (λ l₀. alloc1 ! (λ l₁. alloc1 ! (λ l₂. alloc1 ! (λ l₃. alloc1 ! (λ l₄. alloc1 ! (λ l₅. alloc1 ! (λ l₆. alloc1 ! (λ l₇. alloc1 ! (λ l₈. alloc1 ! (λ l₉. alloc1 ! (λ l₁₀. alloc1 ! (λ l₁₁. alloc1 ! (λ l₁₂. alloc1 ! (λ l₁₃. alloc0 ! $ params1 ! $
         pass1 ! (init ! 24 refl (link-typed 𝓤 H A W x₀ g₀)) $ pass1 ! (init ! 22 refl (tt, (tt, (record { fits = room₁ .0 }, tt)))) $ pass1 ! (init ! 20 refl (tt, (tt, (record { fits = room₂ .0 }, tt)))) $ pass1 ! (init ! 18 refl (tt, (tt, (record { fits = room₃ .0 }, tt)))) $ pass1 ! (init ! 16 refl (tt, (tt, (record { fits = room₄ .0 }, tt)))) $ pass1 ! (init ! 14 refl (tt, (tt, (record { fits = room₅ .0 }, tt)))) $ pass0 ! $
         move ! (29 ∷ []) $ fsplit ! $ drop ! $ fsplit ! $ move ! (1 ∷ []) $ fsplit ! $ move ! (1 ∷ []) $ fsplit ! $ move ! (1 ∷ []) $ fsplit ! $ move ! (1 ∷ []) $ fsplit ! $ move ! (1 ∷ []) $ drop ! $ move ! (33 ∷ []) $ split ! $ move ! (1 ∷ []) $ split ! $ move ! (1 ∷ []) $ split ! $ move ! (1 ∷ []) $ split ! $ move ! (1 ∷ []) $ split ! $ move ! (1 ∷ []) $ drop ! $
-        -- [tok5; tok4; tok3; tok2; tok1; own5; own4; own3; own2; own1; the locals]
+        -- [κ₄'s token; κ₃'s token; κ₂'s token; κ₁'s token; κ₀'s token; Own₅; Own₄; Own₃; Own₂; Own₁; the locals]
         nothing ! $ calls-fn ! fm outstanding.ended (outstanding.clauses 𝓤 H A at-mem run) (known .0) ((tt, tt, tt, (x₀, tt), (v₀ ∷ [], tt)), tt) (λ list _. list ≡ x₀ .flight .outstanding)
         (‵ ftrue) (plainly 𝓤 H A W (LinkRow ∷ []) ((link-makes 𝓤 H A W), tt) (x₀, tt) (v₀ ∷ [], tt) (g₀, tt)) (λ list _. id⊢ 𝓤 _)
         (and-then ! (load ! (from ! (stop !)) (look ! 35 refl)) (no-more !)) (λ list w₁ _ e-list is-list. drop ! $ drop ! $ land ! (from ! (stop !)) (init ! 18 refl (ls-typed 𝓤 H A W list is-list)) $
@@ -146,12 +146,12 @@ module _ {M : Type 1} (𝓤 : URA M) (H : Heap 𝓤) (A : Atoms 𝓤) (W : Given
         (asks-gather list w₁ is-list) (λ recs us. id⊢ 𝓤 _)
         (and-then ! (load ! (from ! (stop !)) (look ! 28 refl)) (and-then ! (load ! (from ! (stop !)) (look ! 18 refl)) (no-more !))) (λ recs w₂ us e-recs is-recs. land ! (from ! (stop !)) (init ! 23 refl (rs-typed 𝓤 H A W recs is-recs)) $
         use1 W (‵ (flft κ₂ q₂) ⊛ ‵ ftrue) (id⊢ 𝓤 _) $ split ! $ move ! (1 ∷ []) $ drop ! $ move ! (1 ∷ []) $ drop ! $
-        -- [tok3; own3; tok5; tok4; tok2; tok1; own5; own4; own2; own1; the locals]
+        -- [κ₂'s token; Own₃; κ₄'s token; κ₃'s token; κ₁'s token; κ₀'s token; Own₅; Own₄; Own₂; Own₁; the locals]
         join ! $ calls-fn ! fm table-len.ended (table-len.clauses 𝓤 H A at-mem run) (known .2) (to-table-len) (λ n us. n ≡ length (x₃ .now)) (‵ (flft κ₂ q₂) ⊛ ‵ Own₃)
         (asks-table-len) (λ n us. id⊢ 𝓤 _)
         (and-then ! (load ! (from ! (stop !)) (look ! 27 refl)) (no-more !)) (λ n w₃ us e-n is-n. land ! (from ! (stop !)) (init ! 20 refl (uint-lawful 𝓤 H A W w64 .typed n _ is-n .0)) $
         use1 W (‵ (flft κ₂ q₂) ⊛ ‵ ftrue) (id⊢ 𝓤 _) $ split ! $ move ! (1 ∷ []) $ drop ! $ move ! (1 ∷ []) $ drop ! $
-        -- [tok3; tok5; tok4; tok2; tok1; own5; own4; own2; own1; the locals]
+        -- [κ₂'s token; κ₄'s token; κ₃'s token; κ₁'s token; κ₀'s token; Own₅; Own₄; Own₂; Own₁; the locals]
         assigns ! (addr ! (from ! (fld ! refl (hop ! (look-in ! 29 (sub ! 0 refl (whole !))) (stop !))))) (from ! (stop !)) (init ! 15 refl (tt, tt)) $
         assigns ! (agg ! (and-then ! (load ! (from ! (stop !)) (look ! 15 refl)) (and-then ! (load ! (from ! (fld ! refl (stop !))) (look-in ! 29 (sub ! 1 refl (whole !)))) (no-more !)))) (from ! (stop !)) (init ! 13 refl (tt, (tt, (record { fits = room₂ .0 }, tt)))) $
         assigns ! (addr ! (from ! (fld ! refl (hop ! (look-in ! 25 (sub ! 0 refl (whole !))) (stop !))))) (from ! (stop !)) (init ! 11 refl (tt, tt)) $
@@ -160,7 +160,7 @@ module _ {M : Type 1} (𝓤 : URA M) (H : Heap 𝓤) (A : Atoms 𝓤) (W : Given
         (asks-core x₀ v₀ g₀ recs w₂ is-recs n w₃ is-n) (λ t ws. id⊢ 𝓤 _)
         (and-then ! (load ! (from ! (stop !)) (look ! 26 refl)) (and-then ! (load ! (from ! (stop !)) (look ! 14 refl)) (and-then ! (load ! (from ! (stop !)) (look ! 12 refl)) (and-then ! (load ! (from ! (stop !)) (look ! 24 refl)) (and-then ! (load ! (from ! (stop !)) (look ! 6 refl)) (and-then ! (load ! (from ! (stop !)) (look ! 2 refl)) (and-then ! (load ! (from ! (stop !)) (look ! 16 refl)) (no-more !)))))))) (λ t w₄ ws e-t is-t. land ! (from ! (stop !)) (init ! 29 refl (LL.lawful T.the-type T′.the-laws 𝓤 H A W .typed t (w₄ ∷ []) is-t .0)) $
         use1 W (‵ (flft κ₀ q₀) ⊛ ‵ (flft κ₁ q₁) ⊛ ‵ (flft κ₃ q₃) ⊛ ‵ (flft κ₄ q₄) ⊛ ‵ ftrue) (id⊢ 𝓤 _) $ split ! $ move ! (1 ∷ []) $ split ! $ move ! (1 ∷ []) $ split ! $ move ! (1 ∷ []) $ split ! $ move ! (1 ∷ []) $ drop ! $ move ! (4 ∷ []) $ fsplit ! $ drop ! $ fsplit ! $ drop ! $ fsplit ! $ drop ! $ fsplit ! $ drop ! $ fsplit ! $ fsplit ! $ move ! (1 ∷ []) $ feqL ! (λ len₂. move ! (1 ∷ []) $ fsplit ! $ fsplit ! $ move ! (1 ∷ []) $ feqL ! (λ len₄. move ! (1 ∷ []) $ drop ! $
-        -- [fin4; fin2; tok5; tok4; tok2; tok1; tok3; the locals]
+        -- [the last list of x₄; the last list of x₂; κ₄'s token; κ₃'s token; κ₁'s token; κ₀'s token; κ₂'s token; the locals]
         returns ! (look ! 33 refl) $ forget ! 7 refl $ forget ! 9 refl $ forget ! 11 refl $ forget ! 13 refl $ forget ! 15 refl $ forget ! 17 refl $ forget ! 19 refl $ forget ! 21 refl $ forget ! 23 refl $ forget ! 25 refl $ forget ! 27 refl $ forget ! 29 refl $ forget ! 31 refl $ forget ! 33 refl $
         move ! (33 ∷ 34 ∷ []) $ free1 ! $ move ! (31 ∷ 32 ∷ []) $ free1 ! $ move ! (29 ∷ 30 ∷ []) $ free1 ! $ move ! (27 ∷ 28 ∷ []) $ free1 ! $ move ! (25 ∷ 26 ∷ []) $ free1 ! $ move ! (23 ∷ 24 ∷ []) $ free1 ! $ move ! (21 ∷ 22 ∷ []) $ free1 ! $ move ! (19 ∷ 20 ∷ []) $ free1 ! $ move ! (17 ∷ 18 ∷ []) $ free1 ! $ move ! (15 ∷ 16 ∷ []) $ free1 ! $ move ! (13 ∷ 14 ∷ []) $ free1 ! $ move ! (11 ∷ 12 ∷ []) $ free1 ! $ move ! (9 ∷ 10 ∷ []) $ free1 ! $ move ! (7 ∷ 8 ∷ []) $ free1 ! $ free0 ! $
         move ! (5 ∷ 1 ∷ 4 ∷ 6 ∷ 0 ∷ 3 ∷ 2 ∷ []) $ by ! (exits t w₄ (ws .1 .1 .1 .1 .0) (ws .1 .1 .1 .1 .1 .0) (taken-from x₀ (partsOf (x₁ .now) (x₂ .now) (x₃ .now) (x₄ .now)) recs n (gathers x₀ (partsOf (x₁ .now) (x₂ .now) (x₃ .now) (x₄ .now)) list recs n e-list e-recs e-n) (x₅ .now) t (ws .1 .1 .1 .1 .0) (ws .1 .1 .1 .1 .1 .0) e-t) len₂ len₄ is-t)))))))))))))))))))))

@@ -112,17 +112,17 @@ module _ {M : Type 1} (𝓤 : URA M) (H : Heap 𝓤) (A : Atoms 𝓤) (W : Given
         alloc1 ! (λ l₀. alloc1 ! (λ l₁. alloc1 ! (λ l₂. alloc1 ! (λ l₃. alloc1 ! (λ l₄. alloc1 ! (λ l₅. alloc1 ! (λ l₆. alloc1 ! (λ l₇. alloc0 ! $ params1 ! $
         pass1 ! (init ! 12 refl (link-typed 𝓤 H A W x₀ g₀)) $ pass1 ! (init ! 10 refl (LL.lawful S.the-type S′.the-laws 𝓤 H A W .typed x₁ (v₁ ∷ []) g₁ .0)) $ pass1 ! (init ! 8 refl (tt, (tt, (record { fits = room₂ .0 }, tt)))) $ pass1 ! (init ! 6 refl (tt, (tt, (record { fits = room₃ .0 }, tt)))) $ pass1 ! (init ! 4 refl (tt, (tt, (record { fits = room₄ .0 }, tt)))) $ pass1 ! (init ! 2 refl (tt, (tt, (record { fits = room₅ .0 }, tt)))) $ pass0 ! $
         move ! (17 ∷ []) $ fsplit ! $ drop ! $ fsplit ! $ drop ! $ fsplit ! $ move ! (1 ∷ []) $ fsplit ! $ move ! (1 ∷ []) $ fsplit ! $ move ! (1 ∷ []) $ fsplit ! $ move ! (1 ∷ []) $ drop ! $ move ! (20 ∷ []) $ split ! $ move ! (1 ∷ []) $ split ! $ move ! (1 ∷ []) $ split ! $ move ! (1 ∷ []) $ split ! $ move ! (1 ∷ []) $ drop ! $
-        -- [tok5; tok4; tok3; tok2; own5; own4; own3; own2; the locals]
+        -- [κ₃'s token; κ₂'s token; κ₁'s token; κ₀'s token; Own₅; Own₄; Own₃; Own₂; the locals]
         move ! (1 ∷ 5 ∷ []) $ join ! $ calls-fn ! fm table-len.ended (table-len.clauses 𝓤 H A at-mem run) (known .0) (to-table-len) (λ n us. n ≡ length (x₄ .now)) (‵ (flft κ₂ q₂) ⊛ ‵ Own₄)
         (asks-table-len) (λ n us. id⊢ 𝓤 _)
         (and-then ! (load ! (from ! (stop !)) (look ! 11 refl)) (no-more !)) (λ n w₁ us e-n is-n. land ! (from ! (stop !)) (init ! 8 refl (uint-lawful 𝓤 H A W w64 .typed n _ is-n .0)) $
         use1 W (‵ (flft κ₂ q₂) ⊛ ‵ ftrue) (id⊢ 𝓤 _) $ split ! $ move ! (1 ∷ []) $ drop ! $ move ! (1 ∷ []) $ drop ! $
-        -- [tok4; tok5; tok3; tok2; own5; own3; own2; the locals]
+        -- [κ₂'s token; κ₃'s token; κ₁'s token; κ₀'s token; Own₅; Own₃; Own₂; the locals]
         move ! (3 ∷ 6 ∷ 2 ∷ 5 ∷ 1 ∷ 4 ∷ []) $ group ! 6 $ calls-fn ! fm core.ended (core.clauses 𝓤 H A at-mem run) (known .1) (to-core x₀ v₀ x₁ v₁ n w₁) (λ a us. OpenLeft (opensWith x₁ (lentLengths n (x₂ .now) (x₃ .now) (x₅ .now))) x₀ a) (‵ (flft κ₀ q₀) ⊛ ‵ Own₂ ⊛ ‵ (flft κ₁ q₁) ⊛ ‵ Own₃ ⊛ ‵ (flft κ₃ q₃) ⊛ ‵ Own₅)
         (asks-core x₀ v₀ g₀ x₁ v₁ g₁ n w₁ is-n) (λ a us. id⊢ 𝓤 _)
         (and-then ! (load ! (from ! (stop !)) (look ! 14 refl)) (and-then ! (load ! (from ! (stop !)) (look ! 12 refl)) (and-then ! (load ! (from ! (stop !)) (look ! 2 refl)) (and-then ! (load ! (from ! (stop !)) (look ! 10 refl)) (and-then ! (load ! (from ! (stop !)) (look ! 8 refl)) (and-then ! (load ! (from ! (stop !)) (look ! 4 refl)) (no-more !))))))) (λ a w₂ us e-a is-a. land ! (from ! (stop !)) (init ! 17 refl (answered-typed 𝓤 H A W a is-a)) $
         use1 W (‵ (flft κ₀ q₀) ⊛ ‵ (flft κ₁ q₁) ⊛ ‵ (flft κ₃ q₃) ⊛ ‵ ftrue) (id⊢ 𝓤 _) $ split ! $ move ! (1 ∷ []) $ split ! $ move ! (1 ∷ []) $ split ! $ move ! (1 ∷ []) $ drop ! $ move ! (3 ∷ []) $ drop ! $
-        -- [tok5; tok3; tok2; tok4; the locals]
+        -- [κ₃'s token; κ₁'s token; κ₀'s token; κ₂'s token; the locals]
         returns ! (look ! 18 refl) $ forget ! 4 refl $ forget ! 6 refl $ forget ! 8 refl $ forget ! 10 refl $ forget ! 12 refl $ forget ! 14 refl $ forget ! 16 refl $ forget ! 18 refl $
         move ! (18 ∷ 19 ∷ []) $ free1 ! $ move ! (16 ∷ 17 ∷ []) $ free1 ! $ move ! (14 ∷ 15 ∷ []) $ free1 ! $ move ! (12 ∷ 13 ∷ []) $ free1 ! $ move ! (10 ∷ 11 ∷ []) $ free1 ! $ move ! (8 ∷ 9 ∷ []) $ free1 ! $ move ! (6 ∷ 7 ∷ []) $ free1 ! $ move ! (4 ∷ 5 ∷ []) $ free1 ! $ free0 ! $
         move ! (2 ∷ 1 ∷ 3 ∷ 0 ∷ []) $ by ! (exits a w₂ (open-promised x₁ x₀ (partsOf (x₂ .now) (x₃ .now) (x₄ .now) (x₅ .now)) a n e-n e-a) is-a)))))))))))

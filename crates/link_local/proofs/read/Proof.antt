@@ -136,7 +136,7 @@ module _ {M : Type 1} (𝓤 : URA M) (H : Heap 𝓤) (A : Atoms 𝓤) (W : Given
         alloc1 ! (λ l₀. alloc1 ! (λ l₁. alloc1 ! (λ l₂. alloc1 ! (λ l₃. alloc1 ! (λ l₄. alloc1 ! (λ l₅. alloc1 ! (λ l₆. alloc1 ! (λ l₇. alloc1 ! (λ l₈. alloc1 ! (λ l₉. alloc1 ! (λ l₁₀. alloc1 ! (λ l₁₁. alloc0 ! $ params1 ! $
         pass1 ! (init ! 20 refl (link-typed 𝓤 H A W x₀ g₀)) $ pass1 ! (init ! 18 refl (tt, (tt, (record { fits = room₁ .0 }, tt)))) $ pass1 ! (init ! 16 refl (tt, (tt, (record { fits = room₂ .0 }, tt)))) $ pass1 ! (init ! 14 refl (tt, (tt, (record { fits = room₃ .0 }, tt)))) $ pass1 ! (init ! 12 refl (tt, (tt, (record { fits = room₄ .0 }, tt)))) $ pass1 ! (init ! 10 refl (tt, (tt, (record { fits = room₅ .0 }, tt)))) $ pass0 ! $
         move ! (25 ∷ []) $ fsplit ! $ drop ! $ fsplit ! $ move ! (1 ∷ []) $ fsplit ! $ move ! (1 ∷ []) $ fsplit ! $ move ! (1 ∷ []) $ fsplit ! $ move ! (1 ∷ []) $ fsplit ! $ move ! (1 ∷ []) $ drop ! $ move ! (29 ∷ []) $ split ! $ move ! (1 ∷ []) $ split ! $ move ! (1 ∷ []) $ split ! $ move ! (1 ∷ []) $ split ! $ move ! (1 ∷ []) $ split ! $ move ! (1 ∷ []) $ drop ! $
-        -- [tok5; tok4; tok3; tok2; tok1; own5; own4; own3; own2; own1; the locals]
+        -- [κ₄'s token; κ₃'s token; κ₂'s token; κ₁'s token; κ₀'s token; Own₅; Own₄; Own₃; Own₂; Own₁; the locals]
         nothing ! $ calls-fn ! fm outstanding.ended (outstanding.clauses 𝓤 H A at-mem run) (known .0) ((tt, tt, tt, (x₀, tt), (v₀ ∷ [], tt)), tt) (λ list _. list ≡ x₀ .flight .outstanding)
         (‵ ftrue) (plainly 𝓤 H A W (LinkRow ∷ []) ((link-makes 𝓤 H A W), tt) (x₀, tt) (v₀ ∷ [], tt) (g₀, tt)) (λ list _. id⊢ 𝓤 _)
         (and-then ! (load ! (from ! (stop !)) (look ! 31 refl)) (no-more !)) (λ list w₁ _ e-list is-list. drop ! $ drop ! $ land ! (from ! (stop !)) (init ! 14 refl (ls-typed 𝓤 H A W list is-list)) $
@@ -144,19 +144,19 @@ module _ {M : Type 1} (𝓤 : URA M) (H : Heap 𝓤) (A : Atoms 𝓤) (W : Given
         (asks-gather list w₁ is-list) (λ recs us. id⊢ 𝓤 _)
         (and-then ! (load ! (from ! (stop !)) (look ! 24 refl)) (and-then ! (load ! (from ! (stop !)) (look ! 14 refl)) (no-more !))) (λ recs w₂ us e-recs is-recs. land ! (from ! (stop !)) (init ! 19 refl (rs-typed 𝓤 H A W recs is-recs)) $
         use1 W (‵ (flft κ₂ q₂) ⊛ ‵ ftrue) (id⊢ 𝓤 _) $ split ! $ move ! (1 ∷ []) $ drop ! $ move ! (1 ∷ []) $ drop ! $
-        -- [tok3; own3; tok5; tok4; tok2; tok1; own5; own4; own2; own1; the locals]
+        -- [κ₂'s token; Own₃; κ₄'s token; κ₃'s token; κ₁'s token; κ₀'s token; Own₅; Own₄; Own₂; Own₁; the locals]
         join ! $ calls-fn ! fm table-len.ended (table-len.clauses 𝓤 H A at-mem run) (known .2) (to-table-len) (λ n us. n ≡ length (x₃ .now)) (‵ (flft κ₂ q₂) ⊛ ‵ Own₃)
         (asks-table-len) (λ n us. id⊢ 𝓤 _)
         (and-then ! (load ! (from ! (stop !)) (look ! 23 refl)) (no-more !)) (λ n w₃ us e-n is-n. land ! (from ! (stop !)) (init ! 16 refl (uint-lawful 𝓤 H A W w64 .typed n _ is-n .0)) $
         use1 W (‵ (flft κ₂ q₂) ⊛ ‵ ftrue) (id⊢ 𝓤 _) $ split ! $ move ! (1 ∷ []) $ drop ! $ move ! (1 ∷ []) $ drop ! $
-        -- [tok3; tok5; tok4; tok2; tok1; own5; own4; own2; own1; the locals]
+        -- [κ₂'s token; κ₄'s token; κ₃'s token; κ₁'s token; κ₀'s token; Own₅; Own₄; Own₂; Own₁; the locals]
         assigns ! (addr ! (from ! (fld ! refl (hop ! (look-in ! 19 (sub ! 0 refl (whole !))) (stop !))))) (from ! (stop !)) (init ! 11 refl (tt, tt)) $
         assigns ! (agg ! (and-then ! (load ! (from ! (stop !)) (look ! 11 refl)) (and-then ! (load ! (from ! (fld ! refl (stop !))) (look-in ! 19 (sub ! 1 refl (whole !)))) (no-more !)))) (from ! (stop !)) (init ! 9 refl (tt, (tt, (record { fits = room₅ .0 }, tt)))) $
         move ! (4 ∷ 8 ∷ 3 ∷ 7 ∷ 2 ∷ 6 ∷ 1 ∷ 5 ∷ []) $ group ! 8 $ calls-fn ! fm core.ended (core.clauses 𝓤 H A at-mem run) (known .3) (to-core x₀ v₀ recs w₂ n w₃) (λ a ws. ReadLeft (readsWith x₀ recs (x₄ .now) (lentLengths n (x₁ .now) (x₂ .now) (x₄ .now)) (x₂ .now) (length (x₅ .now))) x₀ recs (x₄ .now) (x₅ .now) a (ws .1 .1 .1 .1 .1 .1 .0)) (‵ (flft κ₀ q₀) ⊛ ‵ Own₁ ⊛ ‵ (flft κ₁ q₁) ⊛ ‵ Own₂ ⊛ ‵ (flft κ₃ q₃) ⊛ ‵ Own₄ ⊛ ‵ (flft κ₄ q₄) ⊛ ‵ Own₅)
         (asks-core x₀ v₀ g₀ recs w₂ is-recs n w₃ is-n) (λ a ws. id⊢ 𝓤 _)
         (and-then ! (load ! (from ! (stop !)) (look ! 22 refl)) (and-then ! (load ! (from ! (stop !)) (look ! 10 refl)) (and-then ! (load ! (from ! (stop !)) (look ! 8 refl)) (and-then ! (load ! (from ! (stop !)) (look ! 20 refl)) (and-then ! (load ! (from ! (stop !)) (look ! 18 refl)) (and-then ! (load ! (from ! (stop !)) (look ! 14 refl)) (and-then ! (load ! (from ! (stop !)) (look ! 2 refl)) (no-more !)))))))) (λ a w₄ ws e-a is-a. land ! (from ! (stop !)) (init ! 25 refl (counted-typed 𝓤 H A W a is-a)) $
         use1 W (‵ (flft κ₀ q₀) ⊛ ‵ (flft κ₁ q₁) ⊛ ‵ (flft κ₃ q₃) ⊛ ‵ (flft κ₄ q₄) ⊛ ‵ ftrue) (id⊢ 𝓤 _) $ split ! $ move ! (1 ∷ []) $ split ! $ move ! (1 ∷ []) $ split ! $ move ! (1 ∷ []) $ split ! $ move ! (1 ∷ []) $ drop ! $ move ! (4 ∷ []) $ fsplit ! $ drop ! $ fsplit ! $ drop ! $ fsplit ! $ drop ! $ fsplit ! $ drop ! $ fsplit ! $ drop ! $ fsplit ! $ drop ! $ fsplit ! $ fsplit ! $ move ! (1 ∷ []) $ feqL ! (λ len₅. move ! (1 ∷ []) $ drop ! $
-        -- [fin5; tok5; tok4; tok2; tok1; tok3; the locals]
+        -- [the last list of x₅; κ₄'s token; κ₃'s token; κ₁'s token; κ₀'s token; κ₂'s token; the locals]
         returns ! (look ! 28 refl) $ forget ! 6 refl $ forget ! 8 refl $ forget ! 10 refl $ forget ! 12 refl $ forget ! 14 refl $ forget ! 16 refl $ forget ! 18 refl $ forget ! 20 refl $ forget ! 22 refl $ forget ! 24 refl $ forget ! 26 refl $ forget ! 28 refl $
         move ! (28 ∷ 29 ∷ []) $ free1 ! $ move ! (26 ∷ 27 ∷ []) $ free1 ! $ move ! (24 ∷ 25 ∷ []) $ free1 ! $ move ! (22 ∷ 23 ∷ []) $ free1 ! $ move ! (20 ∷ 21 ∷ []) $ free1 ! $ move ! (18 ∷ 19 ∷ []) $ free1 ! $ move ! (16 ∷ 17 ∷ []) $ free1 ! $ move ! (14 ∷ 15 ∷ []) $ free1 ! $ move ! (12 ∷ 13 ∷ []) $ free1 ! $ move ! (10 ∷ 11 ∷ []) $ free1 ! $ move ! (8 ∷ 9 ∷ []) $ free1 ! $ move ! (6 ∷ 7 ∷ []) $ free1 ! $ free0 ! $
         move ! (4 ∷ 3 ∷ 5 ∷ 2 ∷ 0 ∷ 1 ∷ []) $ by ! (exits a w₄ (ws .1 .1 .1 .1 .1 .1 .0) (read-promised x₀ (partsOf (x₁ .now) (x₂ .now) (x₃ .now) (x₄ .now)) recs n (gathers x₀ (partsOf (x₁ .now) (x₂ .now) (x₃ .now) (x₄ .now)) list recs n e-list e-recs e-n) a (x₅ .now) (ws .1 .1 .1 .1 .1 .1 .0) e-a) len₅ is-a))))))))))))))))))
