@@ -7,7 +7,7 @@ use lib.ListN.{take}
 use Rattle.wire.specs.LittleEndian.{numberAt}
 use Rattle.wire.specs.Headers.{decode}
 use Rattle.datagram.specs.Datagrams.{verdict, segmentOf, tail, walk, parse}
-use Rattle.listing.specs.Decimal.{digits, decimal}
+use Rattle.text.specs.Decimal.{digits, decimal}
 use Rattle.listing.specs.Lines.{ascii, field, row, columnLine, segmentLine, countLine, refusalLine}
 use Rattle.listing.specs.Listings.{listed, segmentLines, body, listingOf}
 

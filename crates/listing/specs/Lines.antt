@@ -11,7 +11,7 @@ use Rattle.protocol.specs.Refusals.{numberOf}
 use Rattle.wire.specs.declared.Header.{Header}
 use Rattle.protocol.specs.declared.Refusal.{Refusal}
 use Rattle.listing.specs.declared.Line.{Line}
-use Rattle.listing.specs.Decimal.{decimal}
+use Rattle.text.specs.Decimal.{decimal}
 
 -- ---- the text of each line
 
