@@ -9,8 +9,8 @@ use Rattle.protocol.specs.Protocol.{sendWindow}
 use Rattle.protocol.specs.Serial.{plus, minus}
 use Rattle.protocol.specs.declared.Settings.{Settings}
 use Rattle.timing.specs.TimeRanges.{TimeoutInRange}
-use Rattle.timing.specs.Transmissions.{firstTransmission, sending, transmission}
-use Rattle.timing.specs.TransmissionLaws.{when-never-sent, transmission-in-range, transmission-count, transmission-number, transmission-fits}
+use Rattle.retransmission.specs.Transmissions.{firstTransmission, sending, transmission}
+use Rattle.retransmission.specs.TransmissionLaws.{when-never-sent, transmission-in-range, transmission-count, transmission-number, transmission-fits}
 use Rattle.timing.specs.declared.Record.{Record}
 use Rattle.lists.specs.declared.Held.{Held}
 use Rattle.lists.specs.declared.Sent.{Sent}

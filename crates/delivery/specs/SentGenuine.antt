@@ -14,11 +14,11 @@ use Rattle.protocol.specs.Serial.{plus}
 use Rattle.protocol.specs.declared.Settings.{Settings}
 use Rattle.protocol.specs.declared.Refusal.{Refusal}
 use Rattle.datagram.specs.Datagrams.{Segment, Parsed, parse}
-use Rattle.timing.specs.Transmissions.{firstTransmission, sending}
-use Rattle.timing.specs.TransmissionLaws.{when-never-sent, transmission-number}
+use Rattle.retransmission.specs.Transmissions.{firstTransmission, sending}
+use Rattle.retransmission.specs.TransmissionLaws.{when-never-sent, transmission-number}
 use Rattle.timing.specs.Probes.{nextClock}
 use Rattle.timing.specs.declared.Record.{Record}
-use Rattle.timing.specs.declared.Transmission.{Transmission}
+use Rattle.retransmission.specs.declared.Transmission.{Transmission}
 use Rattle.lists.specs.declared.Held.{Held}
 use Rattle.lists.specs.declared.Sent.{Sent}
 use Rattle.session.specs.State.{Sending, Ack}

@@ -7,7 +7,7 @@ use Prim.Native.Nat.{ℕ, _+_, _*_, _≤_, _<_}
 use lib.ListN.{length}
 use Rattle.protocol.specs.Protocol.{windowAsk, windowTell, sendSlots}
 use Rattle.protocol.specs.Ranges.{mss}
-use Rattle.timing.specs.declared.Transmission.{Transmission}
+use Rattle.retransmission.specs.declared.Transmission.{Transmission}
 use Rattle.lists.specs.declared.Held.{Held}
 use Rattle.lists.specs.declared.Sent.{Sent}
 use Rattle.lists.specs.declared.SentList.{SentList}

@@ -6,7 +6,7 @@ use lists::Sent;
 use lists::SentList;
 use packing::Packer;
 use protocol::Protocol;
-use timing::outstanding;
+use retransmission::outstanding;
 ghost use mathlib.Core.Path.{_≡_};
 ghost use mathlib.Core.Bool.{_&&_};
 ghost use Prim.Native.Nat.{_*_, _≤_};

@@ -3,7 +3,7 @@ use crate::Acknowledges;
 use crate::Sent;
 use crate::SentList;
 use protocol::serial;
-use timing::outstanding;
+use retransmission::outstanding;
 ghost use mathlib.Core.Path.{_≡_};
 ghost use mathlib.Core.List.{[], _∷_, _++_, map};
 ghost use Prim.Native.Nat.{_≤_, _<_};

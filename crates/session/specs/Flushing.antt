@@ -12,8 +12,8 @@ use Rattle.wire.specs.Headers.{encode}
 use Rattle.wire.specs.declared.Header.{Header}
 use Rattle.protocol.specs.declared.Settings.{Settings}
 use Rattle.datagram.specs.Datagrams.{Segment}
-use Rattle.timing.specs.Transmissions.{transmission}
-use Rattle.timing.specs.declared.Transmission.{Transmission}
+use Rattle.retransmission.specs.Transmissions.{transmission}
+use Rattle.retransmission.specs.declared.Transmission.{Transmission}
 use Rattle.timing.specs.Probes.{nextClock}
 use Rattle.timing.specs.declared.Record.{Record}
 use Rattle.lists.specs.declared.Held.{Held}

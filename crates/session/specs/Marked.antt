@@ -17,7 +17,7 @@ use Rattle.wire.specs.declared.Header.{Header}
 use Rattle.datagram.specs.Datagrams.{Segment, Parsed, parse, walk, tail, verdict, segmentOf}
 use Rattle.timing.specs.Probes.{stopped, longerWait, nextClock}
 use Rattle.timing.specs.RoundTrips.{nextSmoothed, nextVariation, leastTimeout, timeoutOf, sampled}
-use Rattle.timing.specs.Transmissions.{firstDue, growth, longerTimeout, isSkipped, transmission}
+use Rattle.retransmission.specs.Transmissions.{firstDue, growth, longerTimeout, isSkipped, transmission}
 use Rattle.timing.specs.declared.ProbeClock.{ProbeClock}
 use Rattle.timing.specs.declared.Record.{Record}
 use Rattle.timing.specs.declared.RoundTrip.{RoundTrip}

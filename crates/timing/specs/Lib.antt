@@ -1,8 +1,6 @@
 pub mod RoundTrips
 pub mod Probes
-pub mod Transmissions
 pub mod TimeRanges
 pub mod Choices
 pub mod RoundTripLaws
 pub mod ProbeLaws
-pub mod TransmissionLaws

@@ -1,6 +1,5 @@
-// The link's times: round trips and timeouts, the probe clock, and when an outstanding segment is transmitted.
+// The link's times: round trips and timeouts, the probe clock, and the record of an outstanding segment.
 mod number;
-pub mod outstanding;
 pub mod probe;
 pub mod round_trip;
 
@@ -32,11 +31,4 @@ pub struct Record {
     pub due: u32,
     pub timeout: u32,
     pub skips: u32,
-}
-
-// What a flush does with an outstanding segment: whether it is sent, and its transmissions and record afterwards.
-pub struct Transmission {
-    pub sends: bool,
-    pub transmissions: u8,
-    pub updated: Record,
 }

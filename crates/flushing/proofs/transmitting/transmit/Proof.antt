@@ -2,7 +2,7 @@
 -- Assumes nothing.
 use mathlib.Core.Path.{_≡_, ap}
 use borrow.Author.Needs.{needs}
-use Rattle.timing.specs.declared.Transmission.{Transmission}
+use Rattle.retransmission.specs.declared.Transmission.{Transmission}
 use Rattle.lists.specs.declared.Sent.{Sent}
 use Rattle.flushing.specs.declared.Flush.{Flush}
 use Rattle.flushing.specs.Writing.{ruleOf, afterFlush}

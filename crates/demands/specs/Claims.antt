@@ -1,0 +1,62 @@
+-- What is claimed of calls since an accepted opening, in the terms of the caller: block, lent parts, and the answers given.
+-- Assumes nothing.
+use mathlib.Core.Path.{_≡_}
+use mathlib.Core.Logic.{_↔_}
+use mathlib.Core.List.{List, map}
+use Prim.Native.Nat.{ℕ, _+_, _-_, _<_}
+use Rattle.protocol.specs.Ranges.{mss}
+use Rattle.protocol.specs.declared.Settings.{Settings}
+use Rattle.protocol.specs.declared.Refusal.the-variants.{ShortPart, InvalidBlock}
+use Rattle.session.specs.Calls.{Call, Answer, Event, acceptedList, readAnswers, messagesRead}
+use Rattle.delivery.specs.PlainReceiver.{Found, atFirst, segmentsOf, plainAfter, plainAnswers}
+use Rattle.delivery.specs.Hearing.{seen, found, Begins, Missing}
+use Rattle.delivery.specs.Ledger.{usedSlots, acknowledgedBy}
+use Rattle.answers.specs.declared.Count.the-variants as count
+use Rattle.calls.specs.Parts.{stateIn}
+use Rattle.calls.specs.Promises.{SizePromise}
+use Rattle.demands.specs.Steps.{Endpoint, Called, Runs, start, next}
+use Rattle.demands.specs.Stations.{stationOf}
+
+-- ---- refusals
+
+-- the call is a read, and its buffer is shorter than the message, whose size telling it gives
+abbrev pub ShortBuffer : Endpoint → Call → Type 0
+ShortBuffer e (Call.read room) = (n : ℕ) × SizePromise (e .link) (e .parts) (count.Of n) × (room < n)
+ShortBuffer e (Call.send m) = ⊥
+ShortBuffer e (Call.takeIn d) = ⊥
+ShortBuffer e (Call.flush t) = ⊥
+
+-- the answer is not 13, and it is 7 only where the buffer is short
+pub record Passes (short : Type 0) (a : Answer) : Type 0 where
+  pub made : a ≡ Answer.refused InvalidBlock → ⊥
+  pub lent : a ≡ Answer.refused ShortPart → short
+
+-- of each call of a list
+abbrev pub Each : (Endpoint → Call → Answer → Type 0) → {e e′ : Endpoint} {xs : List Call} {events : List Event} → Runs e xs events e′ → Type 0
+Each P start = Unit {0}
+Each P (next e x a e′ h r) = P e x a × Each P r
+
+-- ---- the ledger
+
+-- the segments acknowledged by the calls of a list: each call gets the endpoint as the last one left it
+unfoldable pub segmentsAcknowledged : {e e′ : Endpoint} {xs : List Call} {events : List Event} → Runs e xs events e′ → ℕ
+segmentsAcknowledged start = 0
+segmentsAcknowledged (next e x a e′ h r) = acknowledgedBy (stationOf e) x a + segmentsAcknowledged r
+
+-- used send slots equal the fragments accepted less the segments acknowledged
+abbrev pub Ledger : Settings → List Event → Endpoint → ℕ → Type 0
+Ledger c events e acknowledged = usedSlots (stateIn (e .link) (e .parts) .sending) ≡ segmentsOf (mss c) (acceptedList events) - acknowledged
+
+-- ---- demand 3
+
+-- a receiver has made these calls with these answers, and is now e: each read answered as the plain receiver's, its messages begin the accepted
+-- list, and a read that comes next finds nothing exactly when the plain receiver misses a message or a segment of it
+pub record Receives (c : Settings) (accepted : List (List ℕ)) (calls : List Call) (events : List Event) (e : Endpoint) : Type 0 where
+  pub answers : map seen (readAnswers events) ≡ map found (plainAnswers c accepted atFirst calls)
+  pub begins : Begins (messagesRead (readAnswers events)) accepted
+  pub nothing : (room : ℕ) (a : Answer) (later : Endpoint) → Called e (Call.read room) a later
+      → (seen a ≡ found Found.nothing) ↔ Missing c accepted (plainAfter c accepted atFirst calls)
+
+-- one receiver's messages begin another one's list
+abbrev pub NoneLost : List Event → List Event → Type 0
+NoneLost first second = Begins (messagesRead (readAnswers first)) (messagesRead (readAnswers second))

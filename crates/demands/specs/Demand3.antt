@@ -1,0 +1,70 @@
+-- DEMAND 3: hearing more never loses a message. It is stated of what callers hold and see, from the promises of the public calls alone.
+--
+-- One sender and two receivers open once, with equal settings `c`, whatever their blocks and lent bytes were (`Opens`). Each is always
+-- lent the same parts of its own; its own calls alone change these and its control block (`Runs`: each call gets block and parts as the
+-- last one left them, and is what its promise says). What follows holds after every list of calls of each (send, take in, flush, read),
+-- refused ones included, whatever the clocks show (`SinceOpening`: bytes are bytes, times and the conversation have 32 bits). The sender
+-- takes in anything, and its pushes carry numbers below 2^30 (`FewPushes`). The first receiver is fed some of the sender's datagrams
+-- (`datagramsBy`: the bytes of its output, cut by its lengths), late, repeated or shuffled (`FedWith`). The second has the first one's
+-- feeds and reads, in that order and with read buffers as long, and further datagrams of that sender put in anywhere; both send and
+-- flush at any point (`HearsMore`).
+-- Then the first one's messages begin the second one's list (`NoneLost`), and both begin the list accepted for sending; each read
+-- answered as the plain receiver's; and a receiver's read finds nothing exactly when no next message was accepted, or a segment of it has
+-- never been fed while below the next expected number plus 128 (`Receives`).
+-- Assumes nothing.
+use mathlib.Core.Path.{ap, subst}
+use mathlib.Core.List.{List}
+use Prim.Native.Nat.{ℕ}
+use Rattle.protocol.specs.declared.Settings.{Settings}
+use Rattle.session.specs.Calls.{Stepped, Call, Event, history, acceptedList, datagramsBy}
+use Rattle.delivery.specs.Hearing as hearing
+use Rattle.delivery.specs.Hearing.{FewPushes, FedWith, HearsMore}
+use Rattle.delivery.specs.Demand3 as delivery
+use Rattle.demands.specs.Steps.{Endpoint, SinceOpening}
+use Rattle.demands.specs.Stations.{stationOf}
+use Rattle.demands.specs.Claims.{Receives, NoneLost}
+use Rattle.demands.specs.Simulation.{step-call}
+use Rattle.demands.specs.RunLaws.{opens-station, taken, since-opening}
+
+-- what is claimed of the two receivers
+pub record Delivered (c : Settings) (accepted : List (List ℕ)) (firsts seconds : List Call) (heard₁ heard₂ : List Event) (first second : Endpoint) : Type 0 where
+  pub first-receives : Receives c accepted firsts heard₁ first
+  pub second-receives : Receives c accepted seconds heard₂ second
+  pub none-lost : NoneLost heard₁ heard₂
+
+-- what holds of a receiver's station holds of the receiver
+receives : {c : Settings} {calls : List Call} {events : List Event} {e : Endpoint} (accepted : List (List ℕ)) (h : SinceOpening c calls events e)
+    → hearing.Receives c accepted (stationOf (h .first)) calls → Receives c accepted calls events e
+receives {c} {calls} {events} {e} accepted h r =
+    let f = since-opening h in
+    record {
+      answers = rw (f .events-are) (r .answers);
+      begins = rw (f .events-are) (r .begins);
+      nothing = λ room a later called.
+          let s = ap (λ (y : Stepped). hearing.seen (y .answer)) (step-call c (taken h .range) (h .conv) e (f .kept) (Call.read room) a later tt called) in
+          rw (← s, f .now) (r .nothing room);
+    }
+
+pub demand-3 : (c : Settings)
+    → (calls firsts seconds : List Call) (events heard₁ heard₂ : List Event) (sender first second : Endpoint)
+    → SinceOpening c calls events sender → SinceOpening c firsts heard₁ first → SinceOpening c seconds heard₂ second
+    → FewPushes c (datagramsBy events)
+    → FedWith (datagramsBy events) firsts
+    → FedWith (datagramsBy events) seconds
+    → HearsMore firsts seconds
+    → Delivered c (acceptedList events) firsts seconds heard₁ heard₂ first second
+demand-3 c calls firsts seconds events heard₁ heard₂ sender first second h h₁ h₂ few fed₁ fed₂ more =
+    let f = since-opening h in
+    let d = delivery.demand-3 c (taken h) (stationOf (h .first)) (stationOf (h₁ .first)) (stationOf (h₂ .first))
+    (opens-station c (h .first) (h .opens)) (opens-station c (h₁ .first) (h₁ .opens)) (opens-station c (h₂ .first) (h₂ .opens))
+    calls firsts seconds (h .fits) (h₁ .fits) (h₂ .fits)
+    (subst (λ (l : List Event). FewPushes c (datagramsBy l)) (f .events-are) few)
+    (subst (λ (l : List Event). FedWith (datagramsBy l) firsts) (f .events-are) fed₁)
+    (subst (λ (l : List Event). FedWith (datagramsBy l) seconds) (f .events-are) fed₂)
+    more in
+    rw (f .events-are)
+    (record {
+      first-receives = receives (acceptedList (history (stationOf (h .first)) calls)) h₁ (d .first-receives);
+      second-receives = receives (acceptedList (history (stationOf (h .first)) calls)) h₂ (d .second-receives);
+      none-lost = rw (since-opening h₁ .events-are, since-opening h₂ .events-are) (d .none-lost);
+    })

@@ -1,0 +1,10 @@
+pub mod Steps
+pub mod Stations
+pub mod Claims
+pub mod OutputLaws
+pub mod Simulation
+pub mod RunLaws
+pub mod RefusalLaws
+pub mod AlwaysValid
+pub mod LedgerLaws
+pub mod Demand3

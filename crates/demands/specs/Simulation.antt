@@ -1,0 +1,250 @@
+-- A call that keeps its promise is the station's own call: the same answer, and the station that the endpoint then stands for.
+-- Assumes nothing.
+use mathlib.Core.Path.{_≡_, refl, sym, ap, _∙_}
+use mathlib.Core.Bool.{Bool, true, false, cond}
+use mathlib.Core.List.{List, map}
+use Prim.Native.Nat.{ℕ, _^_, _≤_, _<_}
+use native.Mathlib.Omega.{arith}
+use lib.Dec.{leb}
+use lib.ListN.{length, length-map}
+use borrow.Author.Tests.{leb-true}
+use Rattle.protocol.specs.Ranges.{inRange, mss}
+use Rattle.protocol.specs.declared.Settings.{Settings}
+use Rattle.protocol.specs.declared.Refusal.the-variants.{ShortPart}
+use Rattle.sizes.specs.Sizes.{enough, enoughToFlush}
+use Rattle.session.specs.State.{State, Outcome}
+use Rattle.session.specs.Valid.{valid}
+use Rattle.session.specs.Sending.{Sends, sending}
+use Rattle.session.specs.Input.{Took, input}
+use Rattle.session.specs.Flushing.{Flushed, flushing, bytesOfSegments}
+use Rattle.session.specs.Reading.{Reads, readable, unreadable, messageSize, message, afterRead, withReceiving, reading}
+use Rattle.session.specs.Calls.{Call, Answer, Stepped, afterSend, afterTakeIn, afterFlush, afterReading, own, step}
+use Rattle.block.specs.Views.{stateOf, countsFit, blockValid}
+use Rattle.records.specs.TableLaws.{scattered-length}
+use Rattle.packing.specs.Packers.{joined}
+use Rattle.answers.specs.declared.Answer as given
+use Rattle.answers.specs.declared.Count.{Count}
+use Rattle.answers.specs.declared.Count.the-variants as count
+use Rattle.calls.specs.Parts.{Parts, lengthsOf, stateIn, isMade, Unchanged}
+use Rattle.calls.specs.Outcomes.{sendsWith, takesInWith, flushesWith, readsWith, sends, takesIn, flushes, reads}
+use Rattle.calls.specs.Answers.{Accepts, Counts}
+use Rattle.calls.specs.Promises.{SendLeaves, InputLeaves, Flushes, ReadLeaves}
+use Rattle.delivery.specs.Hearing.{CallFits}
+use Rattle.delivery.specs.Passing.{step-own}
+use Rattle.delivery.specs.FlushLaws.{flush-writes}
+use Rattle.delivery.specs.ReceivingLaws.{flush-enough}
+use Rattle.delivery.specs.AlwaysValid.{InOrder, in-order-valid, in-order-long, in-order-stays}
+use Rattle.demands.specs.Steps.{Endpoint, NoOutput, acceptance, datagramsSeen, messageSeen, Called}
+use Rattle.demands.specs.Stations.{stationOf}
+use Rattle.demands.specs.OutputLaws.{front-again, joined-flatten, output-long, lengths-long, output-cut, output-room, message-short}
+
+-- the station after a call is that of the endpoint e′, the answer is a, and the counts of the block are within its arrays
+pub record Becomes (y : Stepped) (a : Answer) (e′ : Endpoint) : Type 0 where
+  pub station : y .station ≡ stationOf e′
+  pub answer : y .answer ≡ a
+  pub counts : countsFit (e′ .link) ≡ true
+
+-- ---- stations
+
+module _ (e e′ : Endpoint) where
+  -- a call that leaves everything
+  same-station : Unchanged (e .link) (e′ .link) (e .parts) (e′ .parts) → NoOutput e e′ → stationOf e ≡ stationOf e′
+  same-station u n =
+      λ i. stationOf (record { link = sym (u .link) i; parts = sym (u .parts) i; output = sym (n .output) i; lengths = sym (n .lengths) i })
+
+  refused-becomes : (a : Answer) → countsFit (e .link) ≡ true → Unchanged (e .link) (e′ .link) (e .parts) (e′ .parts) → NoOutput e e′
+      → Becomes (record { station = stationOf e; answer = a }) a e′
+  refused-becomes a fit u n = record { station = same-station u n; answer = refl; counts = rw (u .link) fit }
+
+  -- the lengths of lent parts are as they were
+  record SameLengths : Type 0 where
+    table : length (e′ .parts .table) ≡ length (e .parts .table)
+    acks : length (e′ .parts .acks) ≡ length (e .parts .acks)
+    output : length (e′ .output) ≡ length (e .output)
+    lengths : length (e′ .lengths) ≡ length (e .lengths)
+
+  -- a station with this state and these pools, all else as it was
+  with-state : (s : State) (send receive : List ℕ) → stateIn (e′ .link) (e′ .parts) ≡ s → e′ .parts .sendPool ≡ send → e′ .parts .receivePool ≡ receive → SameLengths
+      → record { state = s; sendPool = send; receivePool = receive; lent = stationOf e .lent } ≡ stationOf e′
+  with-state s send receive p q r n =
+      λ i. record {
+        state = sym p i;
+        sendPool = sym q i;
+        receivePool = sym r i;
+        lent = record { table = sym (n .table) i; ackList = sym (n .acks) i; output = sym (n .output) i; lengths = sym (n .lengths) i };
+      }
+
+-- ---- each call, by its outcome
+
+-- a message read fits into the buffer
+abbrev ReadFits : ℕ → Outcome Reads → Type 0
+ReadFits room (Outcome.refused r) = Unit {0}
+ReadFits room (Outcome.done x) = length (x .bytes) ≤ room
+
+reading-fits : (s : State) (pool : List ℕ) (room : ℕ) → ReadFits room (reading s pool room)
+unfolding reading
+reading-fits s pool room = go (readable (s .receiving .ready)) (leb (messageSize (s .receiving)) room) refl
+  where
+    go : (a b : Bool) → leb (messageSize (s .receiving)) room ≡ b
+        → ReadFits room (cond a (cond b (Outcome.done (record { state = withReceiving s (afterRead (s .receiving)); bytes = message s pool })) (Outcome.refused ShortPart)) (Outcome.refused (unreadable (s .receiving .ready))))
+    go true true f = omega (arith, message-short s pool, leb-true (messageSize (s .receiving)) room f)
+    go true false f = tt
+    go false b f = tt
+
+-- the datagrams of a flush fit into output and lengths
+record FlushFits (x : Flushed) (out lengths : List ℕ) : Type 0 where
+  bytes : length (joined (map bytesOfSegments (x .datagrams))) ≤ length out
+  number : length (x .datagrams) ≤ length lengths
+
+module _ (e e′ : Endpoint) (fit : countsFit (e .link) ≡ true) where
+  sent-becomes : (o : Outcome Sends) (r : given.Answer) → Accepts r o → SendLeaves o (e .link) (e′ .link) (e .parts) (e′ .parts) → NoOutput e e′
+      → Becomes (afterSend (stationOf e) o) (acceptance r) e′
+  sent-becomes (Outcome.refused x) r ans u n = rw ans (refused-becomes e e′ (Answer.refused x) fit u n)
+  sent-becomes (Outcome.done x) r ans q n = record {
+    station = with-state e e′ (x .state) (x .pool) (e .parts .receivePool) (q .stands .state) (q .sendPool) (q .receivePool)
+        (record { table = ap length (q .table); acks = ap length (q .acks); output = ap length (n .output); lengths = ap length (n .lengths) });
+    answer = rw ans;
+    counts = q .stands .counts;
+  }
+
+  took-becomes : (o : Outcome Took) (r : given.Answer) → Accepts r o → InputLeaves o (e .link) (e′ .link) (e .parts) (e′ .parts) → NoOutput e e′
+      → Becomes (afterTakeIn (stationOf e) o) (acceptance r) e′
+  took-becomes (Outcome.refused x) r ans u n = rw ans (refused-becomes e e′ (Answer.refused x) fit u n)
+  took-becomes (Outcome.done x) r ans q n = record {
+    station = with-state e e′ (x .state) (e .parts .sendPool) (x .pool) (q .stands .state) (q .sendPool) (q .receivePool)
+        (record {
+          table = ap length (q .table) ∙ scattered-length (e .parts .table) _ _;
+          acks = q .ackLength;
+          output = ap length (n .output);
+          lengths = ap length (n .lengths);
+        });
+    answer = rw ans;
+    counts = q .stands .counts;
+  }
+
+  flush-becomes : (x : Flushed) (r : Count) → r ≡ count.Of (length (x .datagrams))
+      → Flushes x (e′ .link) (e .parts) (e′ .parts) (e .output) (e .lengths) (e′ .output) (e′ .lengths)
+      → FlushFits x (e .output) (e .lengths)
+      → Becomes (afterFlush (stationOf e) x) (datagramsSeen r (e′ .output) (e′ .lengths)) e′
+  flush-becomes x r ans q f = record {
+    station = with-state e e′ (x .state) (e .parts .sendPool) (e .parts .receivePool) (q .stands .state) (q .sendPool) (q .receivePool)
+        (record {
+          table = ap length (q .table) ∙ scattered-length (e .parts .table) _ _;
+          acks = ap length (q .acks);
+          output = output-long (q .output);
+          lengths = lengths-long (q .output);
+        });
+    answer = rw ans
+        (ap Answer.wrote
+        (sym
+        (output-cut (map bytesOfSegments (x .datagrams)) (e .output) (e .lengths) (length (x .datagrams)) (e′ .output) (e′ .lengths) (q .output) (f .bytes)
+        (omega (arith, f .number, length-map (x .datagrams) bytesOfSegments)))));
+    counts = q .stands .counts;
+  }
+
+  read-becomes : (buffer buffer′ : List ℕ) (o : Outcome Reads) (r : Count) → Counts (λ (x : Reads). length (x .bytes)) r o
+      → ReadLeaves o (e .link) (e′ .link) (e .parts) (e′ .parts) buffer buffer′
+      → ReadFits (length buffer) o
+      → NoOutput e e′
+      → Becomes (afterReading (stationOf e) o) (messageSeen r buffer′) e′
+  read-becomes buffer buffer′ (Outcome.refused x) r ans q f n = rw ans (refused-becomes e e′ (Answer.refused x) fit (q .unchanged) n)
+  read-becomes buffer buffer′ (Outcome.done x) r ans q f n = record {
+    station = with-state e e′ (x .state) (e .parts .sendPool) (e .parts .receivePool) (q .stands .state) (ap (λ (p : Parts). p .sendPool) (q .parts)) (ap (λ (p : Parts). p .receivePool) (q .parts))
+        (record {
+          table = ap (λ (p : Parts). length (p .table)) (q .parts);
+          acks = ap (λ (p : Parts). length (p .acks)) (q .parts);
+          output = ap length (n .output);
+          lengths = ap length (n .lengths);
+        });
+    answer = rw (ans, q .bytes) (ap Answer.message (sym (front-again buffer (x .bytes) f)));
+    counts = q .stands .counts;
+  }
+
+-- ---- calls that pass the checks of 7 and 13
+
+module _ (e : Endpoint) (long : enough (mss (e .link .settings)) (lengthsOf (e .parts)) ≡ true) (made : isMade (e .link) (e .parts) ≡ true) where
+  sends-own : (m : List ℕ) → sends (e .link) (e .parts) m ≡ sending (stateIn (e .link) (e .parts)) (e .parts .sendPool) m
+  unfolding sendsWith
+  sends-own m = rw (long, made)
+
+  takes-own : (d : List ℕ) → takesIn (e .link) (e .parts) d ≡ input (stateIn (e .link) (e .parts)) (e .parts .receivePool) d
+  unfolding takesInWith
+  takes-own d = rw (long, made)
+
+  reads-own : (room : ℕ) → reads (e .link) (e .parts) room ≡ reading (stateIn (e .link) (e .parts)) (e .parts .receivePool) room
+  unfolding readsWith
+  reads-own room = rw (long, made)
+
+flushes-own : (e : Endpoint) (t : ℕ) → enoughToFlush (mss (e .link .settings)) (lengthsOf (e .parts)) (length (e .output)) (length (e .lengths)) ≡ true
+    → isMade (e .link) (e .parts) ≡ true
+    → flushes (e .link) (e .parts) (length (e .output)) (length (e .lengths)) t ≡ Outcome.done (flushing (stateIn (e .link) (e .parts)) t (e .parts .sendPool))
+unfolding flushesWith
+flushes-own e t long made = rw (long, made)
+
+-- ---- any call of an endpoint in order
+
+-- an endpoint that opening and calls leave: its counts are within the arrays, and its station is in order
+pub record Kept (c : Settings) (e : Endpoint) : Type 0 where
+  pub counts : countsFit (e .link) ≡ true
+  pub order : InOrder c (stationOf e)
+
+module _ (c : Settings) (range : inRange c ≡ true) (conv : c .conv < 2 ^ 32) (e : Endpoint) (k : Kept c e) where
+  is-valid : valid (stationOf e .state) ≡ true
+  is-valid = in-order-valid c range (stationOf e) (k .order)
+
+  pub is-made : isMade (e .link) (e .parts) ≡ true
+  unfolding blockValid
+  is-made = rw (k .counts, is-valid)
+
+  long-flush : enoughToFlush (mss (e .link .settings)) (lengthsOf (e .parts)) (length (e .output)) (length (e .lengths)) ≡ true
+  unfolding stateOf
+  long-flush = in-order-long c range (stationOf e) (Call.flush 0) (k .order)
+
+  pub is-long : enough (mss (e .link .settings)) (lengthsOf (e .parts)) ≡ true
+  is-long = flush-enough (mss (e .link .settings)) (lengthsOf (e .parts)) (length (e .output)) (length (e .lengths)) long-flush
+
+  flush-fits : (t : ℕ) → t < 2 ^ 32 → FlushFits (flushing (stateIn (e .link) (e .parts)) t (e .parts .sendPool)) (e .output) (e .lengths)
+  flush-fits t time =
+      let w = flush-writes (stationOf e) t is-valid (k .order .sends .fits) (k .order .receives .fits .carries) (rw (k .order .sends .settings) conv)
+      (in-order-long c range (stationOf e) (Call.flush t) (k .order)) time in
+      let r = output-room (mss c) (lengthsOf (e .parts)) (length (e .output)) (length (e .lengths)) (k .order .long) in
+      record {
+        bytes = rw (joined-flatten (map bytesOfSegments (flushing (stateIn (e .link) (e .parts)) t (e .parts .sendPool) .datagrams))) (omega (arith, w .output, r .0));
+        number = omega (arith, w .lengths, r .1);
+      }
+
+  -- what the call promises makes it the station's own
+  pub own-call : (x : Call) (a : Answer) (e′ : Endpoint) → CallFits x → Called e x a e′ → Becomes (own (stationOf e) x) a e′
+  own-call (Call.send m) a e′ f h =
+      rw (h .sees)
+      (sent-becomes e e′ (k .counts) (sending (stateIn (e .link) (e .parts)) (e .parts .sendPool) m) (h .gives) (rw (sends-own e is-long is-made m) at (h .promise .answer))
+      (rw (sends-own e is-long is-made m) at (h .promise .leaves))
+      (h .rest))
+  own-call (Call.takeIn d) a e′ f h =
+      rw (h .sees)
+      (took-becomes e e′ (k .counts) (input (stateIn (e .link) (e .parts)) (e .parts .receivePool) d) (h .gives) (rw (takes-own e is-long is-made d) at (h .promise .answer))
+      (rw (takes-own e is-long is-made d) at (h .promise .leaves))
+      (h .rest))
+  own-call (Call.flush t) a e′ f h =
+      rw (h .sees)
+      (flush-becomes e e′ (k .counts) (flushing (stateIn (e .link) (e .parts)) t (e .parts .sendPool)) (h .gives) (rw (flushes-own e t long-flush is-made) at (h .promise .answer))
+      (rw (flushes-own e t long-flush is-made) at (h .promise .leaves))
+      (flush-fits t f))
+  own-call (Call.read room) a e′ f h =
+      rw (h .sees, ← h .long)
+      (read-becomes e e′ (k .counts) (h .buffer) (h .buffer′) (reading (stateIn (e .link) (e .parts)) (e .parts .receivePool) (length (h .buffer))) (h .gives)
+      (rw (reads-own e is-long is-made (length (h .buffer))) at (h .promise .answer))
+      (rw (reads-own e is-long is-made (length (h .buffer))) at (h .promise .leaves))
+      (reading-fits (stateIn (e .link) (e .parts)) (e .parts .receivePool) (length (h .buffer)))
+      (h .rest))
+
+  -- and it leaves an endpoint in order
+  pub kept-call : (x : Call) (a : Answer) (e′ : Endpoint) → CallFits x → Called e x a e′ → Kept c e′
+  kept-call x a e′ f h =
+      let b = own-call x a e′ f h in
+      record { counts = b .counts; order = rw (b .station) at (in-order-stays c range (stationOf e) x f (k .order)) }
+
+  pub step-call : (x : Call) (a : Answer) (e′ : Endpoint) → CallFits x → Called e x a e′ → step (stationOf e) x ≡ record { station = stationOf e′; answer = a }
+  step-call x a e′ f h =
+      let b = own-call x a e′ f h in
+      step-own (stationOf e) x (in-order-long c range (stationOf e) x (k .order)) is-valid ∙ (λ i. record { station = b .station i; answer = b .answer i })

@@ -1,0 +1,20 @@
+-- The station that an endpoint stands for: its state, its pools, and how long its other lent parts are.
+-- Assumes nothing.
+use lib.ListN.{length}
+use Rattle.session.specs.Calls.{Station}
+use Rattle.calls.specs.Parts.{stateIn}
+use Rattle.demands.specs.Steps.{Endpoint}
+
+abbrev pub stationOf : Endpoint → Station
+stationOf e =
+    record {
+      state = stateIn (e .link) (e .parts);
+      sendPool = e .parts .sendPool;
+      receivePool = e .parts .receivePool;
+      lent = record {
+        table = length (e .parts .table);
+        ackList = length (e .parts .acks);
+        output = length (e .output);
+        lengths = length (e .lengths);
+      };
+    }

@@ -1,0 +1,1 @@
+// Theorems about whole lists of calls, from what the public calls promise: definitions and proofs, in specs/.

@@ -1,0 +1,4 @@
+pub mod Numbering
+pub mod Ready
+pub mod Results
+pub mod Checks

@@ -1,0 +1,129 @@
+-- A block as its halves: taken apart, put together again, and sound where the checks of 7 and 13 pass.
+-- Assumes nothing.
+use mathlib.Core.Path.{_≡_, refl, sym, _∙_}
+use mathlib.Core.Bool.{Bool, true, false}
+use mathlib.Core.List.{List, []}
+use Prim.Native.Nat.{ℕ, _*_, _≤_}
+use native.Mathlib.Omega.{arith}
+use borrow.Author.Tests.{le-leb}
+use lib.ListN.{length, drop, take-append-drop}
+use Rattle.protocol.specs.Protocol.{sendSlots, receiveSlots, receiveWindow, acksMost}
+use Rattle.protocol.specs.Ranges.{mss}
+use Rattle.timing.specs.declared.Record.{Record}
+use Rattle.lists.specs.Views.{sentOf, waitingOf}
+use Rattle.lists.specs.Joining.{SplitIs}
+use Rattle.lists.specs.JoiningLaws.{joined-split}
+use Rattle.lists.specs.Orders.{waitingOffset}
+use Rattle.lists.specs.declared.Split.{Split}
+use Rattle.sizes.specs.Sizes.{enough}
+use Rattle.sizes.specs.declared.Lengths.{Lengths}
+use Rattle.session.specs.Decides.{and-parts, leb-decides, and-decides}
+use Rattle.session.specs.Ascending.{ascending-decides}
+use Rattle.session.specs.IsValid.{valid-decides}
+use Rattle.block.specs.Views.{isSet, pairs, receivingOf, stateOf, countsFit, blockValid, Joins}
+use Rattle.block.specs.declared.Link.{Link}
+use Rattle.block.specs.declared.Flight.{Flight}
+use Rattle.block.specs.declared.StoredFlight.{StoredFlight}
+use Rattle.block.proofs.Whole.{counts, sending-state}
+use Rattle.receiving.specs.Halves.{Sound}
+use Rattle.receiving.specs.declared.Half.{Half}
+use Rattle.input.specs.Inputs.{Rest, stateWith}
+use Rattle.input_call.specs.Taking.{flagOf, halfOf, Stores, WithHalves, Hears}
+
+-- ---- the segments in flight
+
+-- what is split is joined again
+pub stored : (f : Flight) (p : Split) → f .outstanding .count ≤ 32 → SplitIs p (sentOf (f .outstanding))
+    → Stores f (record { flight = record { una = f .una; next = f .next; rtt = f .rtt; window = f .window; outstanding = p .outstanding }; records = p .records })
+stored f p few s =
+    let n = p .outstanding .count in
+    record {
+      joins = record {
+        una = refl;
+        next = refl;
+        rtt = refl;
+        window = refl;
+        outstanding = record {
+          fits = few;
+          list = sym (joined-split (sentOf (f .outstanding)) (drop n (p .records))) ∙ rw (← s .outstanding .list, ← s .records .list, take-append-drop);
+        };
+      };
+      fits = s .outstanding .fits;
+    }
+
+-- ---- the block
+
+-- what is neither in flight nor in the receiving half
+abbrev pub restOf : Link → Rest
+restOf l = record { queued = l .queued; probe = l .probe; ask = isSet (l .ask); dead = isSet (l .dead) }
+
+-- the state of a block, by its halves
+pub state-by-halves : (l : Link) (records : List Record) (acks : List ℕ) (f : Flight) → Joins (l .flight) records f
+    → stateOf l records acks ≡ stateWith (restOf l) (l .settings) (l .current) f (halfOf l) acks
+unfolding stateOf
+state-by-halves l records acks f j = λ i. record {
+  settings = l .settings;
+  sending = sym (sending-state l records acks f j) i;
+  receiving = receivingOf (l .receiving) (pairs (l .acks) acks) (isSet (l .tell));
+  probe = l .probe;
+  current = l .current;
+  ask = isSet (l .ask);
+  dead = isSet (l .dead);
+}
+
+-- a flag of the block is set as it was written
+set-as-written : (b : Bool) → isSet (flagOf b) ≡ b
+set-as-written true = refl
+set-as-written false = refl
+
+module _ (l : Link) (s : StoredFlight) (h : Half) (l′ : Link) (w : WithHalves l s h l′) where
+  -- the state of the block that is put together
+  pub state-after : (records : List Record) (acks : List ℕ) (f : Flight) → Joins s records f
+      → stateOf l′ records acks ≡ stateWith (restOf l) (l .settings) (l .current) f h acks
+  state-after records acks f j =
+      let j′ : Joins (l′ .flight) records f = rw (w .is) j in
+      state-by-halves l′ records acks f j′ ∙ rw (w .is, set-as-written)
+
+  pub counts-after : (m : ℕ) (acks pool : List ℕ) → countsFit l ≡ true → s .outstanding .count ≤ 32 → Sound h m acks pool → countsFit l′ ≡ true
+  unfolding countsFit
+  counts-after m acks pool k few u =
+      rw (w .is, le-leb _ _ (counts l k .queued), le-leb _ _ few, le-leb _ _ (u .ready), le-leb _ _ (u .waiting), le-leb _ _ (u .noted))
+
+-- ---- the checks
+
+-- the receive pool and the ack list are long enough
+record LongEnough (m : ℕ) (n : Lengths) : Type 0 where
+  pub receive : receiveSlots * m ≤ n .receive
+  pub acks : 2 * acksMost ≤ n .acks
+
+long-enough : (m : ℕ) (n : Lengths) → enough m n ≡ true → LongEnough m n
+unfolding enough
+long-enough m n e =
+    let d =
+    and-decides
+    (and-decides (and-decides (leb-decides (sendSlots * m) (n .send)) (leb-decides (receiveSlots * m) (n .receive))) (leb-decides sendSlots (n .table)))
+    (leb-decides (2 * acksMost) (n .acks)) in
+    let h = d .holds e in
+    record { receive = h .0 .0 .1; acks = h .1 }
+
+-- what the checks of 7 and 13 say to taking in
+pub hears : (l : Link) (records : List Record) (n : Lengths) (pool acks : List ℕ) (b g : Bool) → ((a : List ℕ) → b ≡ blockValid l records a) → b ≡ true → g ≡ enough (mss (l .settings)) n → g ≡ true
+    → n .receive ≡ length pool → n .acks ≡ length acks → Hears l acks pool
+unfolding blockValid stateOf
+hears l records n pool acks b g eb tb eg tg long wide =
+    let both = and-parts (countsFit l) _ (sym (eb []) ∙ tb) in
+    let k = counts l (both .0) in
+    let v = valid-decides (stateOf l records []) .holds (both .1) in
+    let lent = long-enough (mss (l .settings)) n (sym eg ∙ tg) in
+    record {
+      counts = both .0;
+      sound = record {
+        ready = k .ready;
+        waiting = k .waiting;
+        ascends = ascending-decides (waitingOffset (l .receiving .next)) receiveWindow (waitingOf (l .receiving .waiting)) .passes (v .receiving .ascending);
+        noted = k .acks;
+        ack-list = rw (← wide) (lent .acks);
+        slots = rw (← long) (lent .receive);
+        mss-low = omega (arith, v .settings .mtu-most);
+      };
+    }

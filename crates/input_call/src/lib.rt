@@ -1,0 +1,162 @@
+// Taking in a datagram, with the records of the outstanding segments by value.
+use answers::Answer;
+use block::Flight;
+use block::Link;
+use block::StoredFlight;
+use block::check;
+use datagram::Checked;
+use lists::outstanding_list;
+use protocol::Refusal;
+use receiving::Half;
+use sizes::Lengths;
+use timing::Record;
+ghost use mathlib.Core.Path.{_≡_};
+ghost use Prim.Native.Nat.{_≤_};
+ghost use Rattle.calls.specs.Parts.{lentLengths};
+ghost use Rattle.calls.specs.Outcomes.{takesInWith};
+ghost use Rattle.session.specs.Input.{input};
+ghost use Rattle.block.specs.Views.{stateOf};
+ghost use Rattle.input_call.specs.Taking.{flagOf, Stores, WithHalves, Hears, Leaves};
+
+// The answer of taking in, the block after it, and the records of its outstanding segments.
+pub struct Taken {
+    pub answer: Answer,
+    pub link: Link,
+    pub records: [Record; 32],
+}
+
+// The segments in flight as the block keeps them, and their records apart.
+struct Stored {
+    flight: StoredFlight,
+    records: [Record; 32],
+}
+
+// A flag of the block.
+fn flag(set: bool) -> u8
+    ensures { λ r. ⌜ r ≡ flagOf set ⌝ }
+{
+    if set { 1 } else { 0 }
+}
+
+// The segments in flight, taken apart.
+fn store(flight: Flight) -> Stored
+    requires { ⌜ flight .outstanding .count ≤ 32 ⌝ }
+    ensures { λ r. ⌜ Stores flight r ⌝ }
+{
+    let sent = flight.outstanding;
+    let rtt = flight.rtt;
+    let apart = outstanding_list::split(sent);
+    let outstanding = apart.outstanding;
+    let records = apart.records;
+    let stored = StoredFlight {
+        una: flight.una,
+        next: flight.next,
+        rtt,
+        window: flight.window,
+        outstanding,
+    };
+    Stored {
+        flight: stored,
+        records,
+    }
+}
+
+// The block with other segments in flight and another receiving half.
+fn with_halves(link: Link, flight: StoredFlight, half: Half) -> Link
+    ensures { λ r. ⌜ WithHalves link flight half r ⌝ }
+{
+    let settings = link.settings;
+    let queued = link.queued;
+    let receiving = half.lists;
+    let probe = link.probe;
+    let tell = flag(half.tell);
+    Link {
+        settings,
+        queued,
+        flight,
+        receiving,
+        acks: half.acks,
+        probe,
+        current: link.current,
+        ask: link.ask,
+        tell,
+        dead: link.dead,
+    }
+}
+
+// Taking in over a block that has passed the checks of 7 and 13: both halves hear the datagram, and the block is put together.
+fn hear(
+    link: Link,
+    records: [Record; 32],
+    pool: &mut [u8],
+    acks: &mut [u32],
+    datagram: &[u8],
+) -> Taken
+    requires { ⌜ Hears link (now acks) (now pool) ⌝ }
+    ensures { λ r. ⌜ Leaves (input (stateOf link records (now (acks .entry))) (now (pool .entry)) (now (datagram .entry))) link records (now (pool .entry)) (now (acks .entry)) r (now (pool .exit)) (now (acks .exit)) ⌝ }
+{
+    let settings = link.settings;
+    let stored = link.flight;
+    let lists = link.receiving;
+    let flight = check::flight_of(stored, records);
+    let half = Half {
+        lists,
+        acks: link.acks,
+        tell: link.tell != 0,
+    };
+    let heard = input::take_in(flight, half, settings, link.current, datagram, pool, acks);
+    let verdict = heard.verdict;
+    if let Checked::Refused(q) = verdict {
+        return Taken {
+            answer: Answer::Refused(q),
+            link,
+            records,
+        };
+    }
+    let sent = store(heard.flight);
+    let after = with_halves(link, sent.flight, heard.half);
+    let kept = sent.records;
+    Taken {
+        answer: Answer::Accepted,
+        link: after,
+        records: kept,
+    }
+}
+
+// Taking in checks 7, 13, then 1 to 6. `table` is the length of the lent table.
+pub fn input(
+    link: Link,
+    records: [Record; 32],
+    table: usize,
+    send_pool: &[u8],
+    receive_pool: &mut [u8],
+    acks: &mut [u32],
+    datagram: &[u8],
+) -> Taken
+    ensures { λ r. ⌜ Leaves (takesInWith link records (now (acks .entry)) (lentLengths table (now («send_pool» .entry)) (now («receive_pool» .entry)) (now (acks .entry))) (now («receive_pool» .entry)) (now (datagram .entry))) link records (now («receive_pool» .entry)) (now (acks .entry)) r (now («receive_pool» .exit)) (now (acks .exit)) ⌝ }
+{
+    let settings = link.settings;
+    let lent = Lengths {
+        send: send_pool.len(),
+        receive: receive_pool.len(),
+        table,
+        acks: acks.len(),
+    };
+    if sizes::enough(settings, lent) {
+        if check::valid(link, records) {
+            hear(link, records, receive_pool, acks, datagram)
+        } else {
+            Taken {
+                answer: Answer::Refused(Refusal::InvalidBlock),
+                link,
+                records,
+            }
+        }
+    } else {
+        Taken {
+            answer: Answer::Refused(Refusal::ShortPart),
+            link,
+            records,
+        }
+    }
+}

@@ -1,0 +1,190 @@
+-- What the cores of reading give, as what reading leaves of a block.
+-- Assumes nothing.
+use mathlib.Core.Path.{_≡_, refl, sym, ap, _∙_}
+use mathlib.Core.Bool.{Bool, true, false, cond, _&&_}
+use mathlib.Core.List.{List, [], _∷_, map}
+use Prim.Native.Nat.{ℕ, _*_, _≤_, _<_}
+use native.Mathlib.Omega.{arith}
+use borrow.Author.Tests.{le-leb, lt-leb, leb-true, eq-eqb, ne-eqb}
+use lib.Dec.{leb}
+use lib.ListN.{length, take, drop, length-append, length-drop}
+use lib.Seq.{sets, length-take-le}
+use Rattle.protocol.specs.Protocol.{sendSlots, receiveSlots}
+use Rattle.protocol.specs.Ranges.{mss}
+use Rattle.protocol.specs.declared.Refusal.{Refusal}
+use Rattle.protocol.specs.declared.Refusal.the-variants.{ShortPart, FullUnreadable, NoMessage, InvalidBlock}
+use Rattle.timing.specs.declared.Record.{Record}
+use Rattle.lists.specs.Views.{heldOf, waitingOf, waitingPart}
+use Rattle.lists.specs.declared.Held.{Held}
+use Rattle.session.specs.State.{Ack, Receiving, State, Outcome, refused, done}
+use Rattle.session.specs.Decides.{and-parts}
+use Rattle.session.specs.AllLaws.{all-left}
+use Rattle.session.specs.IsValid.{valid-decides}
+use Rattle.session.specs.Reading.{Reads, reading, readable, unreadable, frontCount, lengthOf, joinedIn, message, messageSize, afterRead, withReceiving}
+use Rattle.sizes.specs.Sizes.{enough}
+use Rattle.sizes.specs.declared.Lengths.{Lengths}
+use Rattle.answers.specs.declared.Count.{Count}
+use Rattle.answers.specs.declared.Count.the-variants.{Of, Refused}
+use Rattle.block.specs.Views.{isSet, pairs, receivingOf, stateOf, countsFit, blockValid}
+use Rattle.block.specs.declared.Link.{Link}
+use Rattle.block.proofs.Whole.{counts}
+use Rattle.reading.specs.Reads.{frontOf, InPool, halfOf, ReadIs}
+use Rattle.reading.specs.declared.AfterRead.{AfterRead}
+use Rattle.reading.proofs.Fronts.{in-slot}
+use Rattle.reading.proofs.Copies.{in-pool-take}
+use Rattle.calls.specs.declared.Counted.{Counted}
+use Rattle.calls.specs.Answers.{countOutcome}
+use Rattle.calls.specs.Outcomes.{checked}
+use Rattle.read_call.specs.Taken.{WithReceiving, Readable, fittingOf, Leaves}
+
+-- ---- the length of the message at the front
+
+module _ (l : List Held) (room : ℕ) (b : Bool) (e : b ≡ readable l) where
+  pub fits : (n : ℕ) → b ≡ true → n ≡ lengthOf (frontOf l) → n ≤ room → done n ≡ fittingOf l room
+  unfolding fittingOf
+  fits n t q h = rw (sym e ∙ t, ← q, le-leb n room h)
+
+  pub too-long : (n : ℕ) → b ≡ true → n ≡ lengthOf (frontOf l) → room < n → refused ShortPart ≡ fittingOf l room
+  unfolding fittingOf
+  too-long n t q h = rw (sym e ∙ t, ← q, lt-leb n room h)
+
+  pub full : (n : ℕ) → n ≡ length l → b ≡ false → n ≡ 128 → refused FullUnreadable ≡ fittingOf l room
+  unfolding fittingOf
+  full n q f h = rw (sym e ∙ f, eq-eqb (length l) 128 (sym q ∙ h))
+
+  pub none : (n : ℕ) → n ≡ length l → b ≡ false → (n ≡ 128 → ⊥) → refused NoMessage ≡ fittingOf l room
+  unfolding fittingOf
+  none n q f h = rw (sym e ∙ f, ne-eqb (length l) 128 (λ x. h (q ∙ x)))
+
+-- where a message of n bytes can be read, it is that long, and there is room for it
+pub record Fits (l : List Held) (room n : ℕ) : Type 0 where
+  pub long : n ≡ lengthOf (frontOf l)
+  pub within : lengthOf (frontOf l) ≤ room
+
+pub fitting-fits : (l : List Held) (room n : ℕ) → done n ≡ fittingOf l room → Fits l room n
+unfolding fittingOf
+fitting-fits l room n = go (readable l) (leb (lengthOf (frontOf l)) room) refl
+  where
+    go : (a b : Bool) → leb (lengthOf (frontOf l)) room ≡ b → done n ≡ cond a (cond b (done (lengthOf (frontOf l))) (refused ShortPart)) (refused (unreadable l)) → Fits l room n
+    go true true t e = record { long = cc; within = leb-true _ _ t }
+    go true false t e = absurd (let z : _≡_ {A = ℕ} 0 1 = cc in omega arith)
+    go false b t e = absurd (let z : _≡_ {A = ℕ} 0 1 = cc in omega arith)
+
+-- reading, where the length of the message is known
+abbrev readBy : State → List ℕ → Outcome ℕ → Outcome Reads
+readBy s pool (refused r) = refused r
+readBy s pool (done n) = done (record { state = withReceiving s (afterRead (s .receiving)); bytes = message s pool })
+
+read-by : (s : State) (pool : List ℕ) (room : ℕ) → readBy s pool (fittingOf (s .receiving .ready) room) ≡ reading s pool room
+unfolding fittingOf reading messageSize
+read-by s pool room = go (readable (s .receiving .ready)) (leb (lengthOf (frontOf (s .receiving .ready))) room)
+  where
+    go : (a b : Bool)
+        → readBy s pool (cond a (cond b (done (lengthOf (frontOf (s .receiving .ready)))) (refused ShortPart)) (refused (unreadable (s .receiving .ready))))
+        ≡ cond a (cond b (done (record { state = withReceiving s (afterRead (s .receiving)); bytes = message s pool })) (refused ShortPart)) (refused (unreadable (s .receiving .ready)))
+    go true true = refl
+    go true false = refl
+    go false b = refl
+
+-- the message is as long as its segments together
+joined-length : (m : ℕ) (pool : List ℕ) (l : List Held) → InPool m pool l → length (joinedIn m pool l) ≡ lengthOf l
+unfolding joinedIn lengthOf
+joined-length m pool [] i = refl
+joined-length m pool (h ∷ l) i =
+    let rest : InPool m pool l = record { each = record { lengths = i .each .lengths .1; slots = i .each .slots .1 }; whole = i .whole } in
+    let first : length (take (h .len) (drop (h .slot * m) pool)) ≡ h .len =
+    length-take-le (h .len) (drop (h .slot * m) pool) (rw length-drop (omega (arith, in-slot m (h .slot) (h .len) (length pool) (i .each .slots .0) (i .each .lengths .0) (i .whole)))) in
+    rw (length-append, first, joined-length m pool l rest)
+
+-- ---- the block after a read
+
+-- its receiving half
+half-after : (r : AfterRead) (s : Receiving) (tell : Bool) → tell ≡ r .tell → ReadIs r s → receivingOf (r .lists) (s .acks) tell ≡ s
+half-after r s tell e p = λ i. record { next = p .next i; ready = p .ready .list i; waiting = p .waiting .list i; acks = s .acks; tell = (e ∙ p .tell) i }
+
+module _ (l : Link) (r : AfterRead) (l′ : Link) (w : WithReceiving l r l′) (p : (acks : List Ack) → ReadIs r (afterRead (halfOf (l .receiving) acks (isSet (l .tell))))) where
+  counted : countsFit l ≡ true → countsFit l′ ≡ true
+  unfolding countsFit
+  counted k =
+      let c = counts l k in
+      rw (w .is, le-leb _ _ (c .queued), le-leb _ _ (c .outstanding), le-leb _ _ (p [] .ready .fits), le-leb _ _ (p [] .waiting .fits), le-leb _ _ (c .acks))
+
+  after-state : (records : List Record) (acks : List ℕ) → stateOf l′ records acks ≡ withReceiving (stateOf l records acks) (afterRead (stateOf l records acks .receiving))
+  unfolding stateOf afterRead
+  after-state records acks = rw (w .is) (ap (withReceiving (stateOf l records acks)) (half-after r _ (isSet (l′ .tell)) (w .tell) (p (pairs (l .acks) acks))))
+
+-- ---- reading, by the length that was found
+
+module _ (l : Link) (pool buffer buffer′ : List ℕ) (found : Count) (a : Counted)
+    (e : countOutcome found ≡ fittingOf (heldOf (l .receiving .ready)) (length buffer)) (records : List Record) (acks : List ℕ) where
+  outcome : (o : Outcome ℕ) → countOutcome found ≡ o → Leaves (readBy (stateOf l records acks) pool o) l records acks buffer a buffer′
+      → Leaves (reading (stateOf l records acks) pool (length buffer)) l records acks buffer a buffer′
+  unfolding stateOf
+  outcome o f h = rw (← read-by (stateOf l records acks) pool (length buffer), ← e, f) h
+
+  pub taken : (size : ℕ) (r : AfterRead) → found ≡ Of size → Readable l pool
+      → ((acks : List Ack) → ReadIs r (afterRead (halfOf (l .receiving) acks (isSet (l .tell)))))
+      → WithReceiving l r (a .link)
+      → a .answer ≡ Of size
+      → buffer′ ≡ sets buffer 0 (joinedIn (mss (l .settings)) pool (frontOf (heldOf (l .receiving .ready))))
+      → Leaves (reading (stateOf l records acks) pool (length buffer)) l records acks buffer a buffer′
+  unfolding stateOf message
+  taken size r f ok p w q b =
+      let ready = heldOf (l .receiving .ready) in
+      let m = mss (l .settings) in
+      let n = fitting-fits ready (length buffer) size (sym (ap countOutcome f) ∙ e) in
+      outcome (done size) (ap countOutcome f) (record {
+        answer = q ∙ ap Of (n .long ∙ sym (joined-length m pool (frontOf ready) (in-pool-take m pool (frontCount ready) ready (ok .inside))));
+        counts = counted l r (a .link) w p (ok .counts);
+        state = after-state l r (a .link) w p records acks;
+        flight = ap (λ (y : Link). y .flight) (w .is);
+        buffer-after = b;
+      })
+
+  pub kept : (q : Refusal) → found ≡ Refused q → a .answer ≡ Refused q → a .link ≡ l → buffer′ ≡ buffer
+      → Leaves (reading (stateOf l records acks) pool (length buffer)) l records acks buffer a buffer′
+  kept q f g h b = outcome (refused q) (ap countOutcome f) (g, record { link = h; buffer-same = b })
+
+-- ---- the checks
+
+-- the receive pool has all its slots
+pool-whole : (m : ℕ) (n : Lengths) → enough m n ≡ true → receiveSlots * m ≤ n .receive
+unfolding enough
+pool-whole m n e =
+    let send = leb (sendSlots * m) (n .send) in
+    let receive = leb (receiveSlots * m) (n .receive) in
+    let table = leb sendSlots (n .table) in
+    leb-true (receiveSlots * m) (n .receive) (and-parts send receive (and-parts (send && receive) table (and-parts (send && receive && table) _ e .0) .0) .1)
+
+-- what the checks of 7 and 13 say to reading and to showing
+pub readable-block : (l : Link) (records : List Record) (n : Lengths) (pool : List ℕ) (b g : Bool) → ((acks : List ℕ) → b ≡ blockValid l records acks) → b ≡ true
+    → g ≡ enough (mss (l .settings)) n → g ≡ true → n .receive ≡ length pool → Readable l pool
+unfolding blockValid stateOf
+readable-block l records n pool b g eb tb eg tg long =
+    let v = and-parts (countsFit l) _ (sym (eb []) ∙ tb) in
+    let r = valid-decides (stateOf l records []) .holds (v .1) .receiving in
+    let ready = heldOf (l .receiving .ready) in
+    let waiting = map waitingPart (waitingOf (l .receiving .waiting)) in
+    record {
+      counts = v .0;
+      inside = record {
+        each = record {
+          lengths = all-left (λ (h : Held). h .len ≤ mss (l .settings)) ready waiting (r .lengths);
+          slots = all-left (λ (h : Held). h .slot < receiveSlots) ready waiting (r .slots-below);
+        };
+        whole = rw (← long) (pool-whole (mss (l .settings)) n (sym eg ∙ tg));
+      };
+    }
+
+module _ (l : Link) (records : List Record) (acks buffer : List ℕ) (a : Counted) (buffer′ : List ℕ) (long made : Bool) (own : Outcome Reads) where
+  pub passes : long ≡ true → made ≡ true → Leaves own l records acks buffer a buffer′ → Leaves (checked long made own) l records acks buffer a buffer′
+  passes e f h = rw (e, f) h
+
+  pub invalid : long ≡ true → made ≡ false → a .answer ≡ Refused InvalidBlock → a .link ≡ l → buffer′ ≡ buffer
+      → Leaves (checked long made own) l records acks buffer a buffer′
+  invalid e f g h b = rw (e, f) (g, record { link = h; buffer-same = b })
+
+-- whatever the block is
+pub short : (l : Link) (records : List Record) (acks buffer : List ℕ) (a : Counted) (buffer′ : List ℕ) (long : Bool) (rest : Outcome Reads) → long ≡ false
+    → a .answer ≡ Refused ShortPart → a .link ≡ l → buffer′ ≡ buffer → Leaves (cond long rest (refused ShortPart)) l records acks buffer a buffer′
+short l records acks buffer a buffer′ long rest e g h b = rw e (g, record { link = h; buffer-same = b })

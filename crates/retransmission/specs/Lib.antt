@@ -1,0 +1,2 @@
+pub mod Transmissions
+pub mod TransmissionLaws

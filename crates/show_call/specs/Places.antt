@@ -1,0 +1,25 @@
+-- Where the part that is shown lies in the receive pool.
+-- Assumes nothing.
+use mathlib.Core.Path.{_≡_}
+use mathlib.Core.Bool.{cond}
+use mathlib.Core.List.{List}
+use Prim.Native.Nat.{ℕ, _+_, _≤_}
+use Rattle.lists.specs.declared.Held.{Held}
+use Rattle.session.specs.State.{Outcome, refused, done}
+use Rattle.session.specs.Reading.{Part, readable, unreadable, frontPart}
+use Rattle.show_call.specs.declared.Place.{Place}
+
+-- 0 and 0 where showing is refused
+unfoldable pub placeOf : Outcome Part → Part
+placeOf (refused r) = record { start = 0; count = 0 }
+placeOf (done p) = p
+
+-- showing, of the ready segments: checks 8 or 9
+unfoldable pub frontOutcome : ℕ → List Held → Outcome Part
+frontOutcome m ready = cond (readable ready) (done (frontPart m ready)) (refused (unreadable ready))
+
+-- the numbers of this part, which ends within so many bytes
+pub record PlaceIs (p : Part) (size : ℕ) (r : Place) : Type 0 where
+  pub start : r .start ≡ p .start
+  pub count : r .count ≡ p .count
+  pub within : r .start + r .count ≤ size
