@@ -29,7 +29,7 @@ pub fn bytes(out: &mut [u8], at: usize, s: &[u8]) -> usize
 }
 
 // The digits of n, the highest first and without leading zeros.
-pub fn number(out: &mut [u8], at: usize, n: u32) -> usize
+pub fn number(out: &mut [u8], at: usize, n: u64) -> usize
     ensures { λ r. ⌜ Put (now (out .entry)) at (decimal n) r (now (out .exit)) ⌝ }
 {
     if n < 10 {
