@@ -7,7 +7,7 @@ use protocol::Protocol;
 use protocol::Refusal;
 use protocol::Settings;
 use script::Command;
-use text::put;
+use notation::put;
 use timing::Record;
 use transcript::link;
 

@@ -3,7 +3,7 @@ mod numbers;
 mod words;
 
 use numbers::Numbers;
-use text::Bytes;
+use notation::Bytes;
 
 // The most bytes of a line, its newline not counted, and of a script.
 pub const LINE_MOST: usize = 65000;
@@ -176,7 +176,7 @@ fn of_numbers(name: u64, n: Numbers) -> Command {
 // A command with bytes, which are stored at the start of `bytes`: they are the whole of the line behind one space.
 fn of_bytes(name: u64, line: &[u8], end: usize, bytes: &mut [u8]) -> Command {
     if end < line.len() {
-        let read = text::read::bytes(&line[end + 1..], bytes);
+        let read = notation::read::bytes(&line[end + 1..], bytes);
         let Bytes::Count(n) = read else {
             return Command::Malformed;
         };

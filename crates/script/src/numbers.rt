@@ -1,6 +1,6 @@
 // The numbers of a line.
 use crate::words;
-use text::Number;
+use notation::Number;
 ghost use Prim.Native.Nat.{_≤_};
 ghost use lib.ListN.{length};
 
@@ -23,7 +23,7 @@ pub(crate) fn behind(line: &[u8], from: usize) -> Numbers
     while here < line.len() {
         let start = here + 1;
         let end = words::word_end(line, start);
-        let read = text::read::number(&line[start..end]);
+        let read = notation::read::number(&line[start..end]);
         let Number::Of(n) = read else {
             return Numbers {
                 at,

@@ -4,7 +4,7 @@ pub mod link;
 use answers::Answer;
 use answers::Count;
 use protocol::Refusal;
-use text::put;
+use notation::put;
 
 const SPACE: u8 = 32;
 

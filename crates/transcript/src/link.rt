@@ -5,7 +5,7 @@ use block::Link;
 use lists::HeldList;
 use lists::OutstandingList;
 use lists::WaitingList;
-use text::put;
+use notation::put;
 use timing::Record;
 
 fn flag(x: u8) -> u64 {
