@@ -1,7 +1,7 @@
 -- Laws of `Puts`: text behind text.
 -- Assumes nothing.
 use mathlib.Core.Path.{_≡_, refl, _∙_, sym}
-use mathlib.Core.List.{List, [], _∷_, _++_}
+use mathlib.Core.List.{List, [], _∷_, _++_, append-assoc, append-nil}
 use Prim.Native.Nat.{ℕ, suc, _+_, _≤_, _<_, min, max}
 use native.Mathlib.Decide.{decLe}
 use native.Mathlib.Numerals.{add-one}
@@ -50,3 +50,24 @@ put-next was mid is i j k s n h a b = rw (add-one, take-suc s n 0) (put-then was
 -- the output keeps its length
 pub put-length : (was : List ℕ) (i : ℕ) (t : List ℕ) (r : ℕ) (is : List ℕ) → Put was i t r is → length is ≡ length was
 put-length was i t r is p = rw (p .bytes) (length-sets was i t)
+
+-- ---- text that is put part by part
+
+-- a first part of the text `all` is put, and `rest` is left
+pub record Partly (was : List ℕ) (i : ℕ) (all : List ℕ) (here : ℕ) (now rest : List ℕ) : Type 0 where
+  pub first : List ℕ
+  pub put : Put was i first here now
+  pub whole : first ++ rest ≡ all
+
+pub partly-none : (l : List ℕ) (i : ℕ) (all : List ℕ) → Partly l i all i l all
+partly-none l i all = record { first = []; put = put-none l i; whole = refl }
+
+-- one part more
+pub partly-more : (was mid is : List ℕ) (i j k : ℕ) (all rest t u : List ℕ) → Partly was i all j mid rest → rest ≡ t ++ u → Put mid j t k is → Partly was i all k is u
+partly-more was mid is i j k all rest t u p e q =
+    record { first = p .first ++ t; put = put-then _ _ _ _ _ _ _ _ (p .put) q; whole = rw append-assoc (rw e at (p .whole)) }
+
+pub partly-all : (was is : List ℕ) (i k : ℕ) (all rest : List ℕ) → Partly was i all k is rest → rest ≡ [] → Put was i all k is
+partly-all was is i k all rest p e =
+    let same : all ≡ p .first = sym (rw e at (p .whole)) ∙ append-nil (p .first) in
+    rw same (p .put)
