@@ -1,67 +1,73 @@
-// The link's calls over the state of the bench: each call is lent as much of every part as the bench says.
+// The link's calls over the state of the bench: each is lent as much of every part as the bench says.
+mod values;
+
 use answers::Answer;
 use answers::Count;
 use bench::Bench;
-use lists::OutstandingList;
 use protocol::Settings;
-use timing::Record;
+use show_call::Place;
+ghost use Rattle.bench_calls.specs.Fronts.{Front};
 
+// The answer of opening, sending or taking in, and the bench after it.
 pub struct Answered {
     pub answer: Answer,
     pub bench: Bench,
 }
 
+// The answer of a flush or a read, and the bench after it.
 pub struct Counted {
     pub answer: Count,
     pub bench: Bench,
 }
 
-// A part of the receive pool.
-pub struct Place {
-    pub start: usize,
-    pub count: usize,
-}
-
-fn least(a: usize, b: usize) -> usize {
-    if a < b { a } else { b }
-}
-
-// The records of the outstanding segments, in list order.
-fn gather(table: [Record; 128], list: OutstandingList) -> [Record; 32] {
-    let blank = Record {
-        number: 0,
-        due: 0,
-        timeout: 0,
-        skips: 0,
-    };
-    let mut records = [blank; 32];
-    let n = least(list.count, 32);
-    let mut i: usize = 0;
-    while i < n {
-        let o = list.at[i];
-        let slot = o.held.slot as usize;
-        if slot < 128 {
-            records[i] = table[slot];
-        }
-        i += 1;
+// How much of a part is lent: the count, or all where it has fewer.
+pub fn front(count: usize, part: &[u8]) -> usize
+    ensures { λ r. ⌜ Front count r (now (part .entry)) ⌝ }
+{
+    if count < part.len() {
+        return count;
     }
-    records
+    part.len()
 }
 
-// Each outstanding segment's record is stored at its slot.
-fn scatter(table: [Record; 128], list: OutstandingList, records: [Record; 32]) -> [Record; 128] {
-    let mut next = table;
-    let n = least(list.count, 32);
-    let mut i: usize = 0;
-    while i < n {
-        let o = list.at[i];
-        let slot = o.held.slot as usize;
-        if slot < 128 {
-            next[slot] = records[i];
-        }
-        i += 1;
+// The same of the ack list.
+fn front_acks(count: usize, part: &[u32]) -> usize
+    ensures { λ r. ⌜ Front count r (now (part .entry)) ⌝ }
+{
+    if count < part.len() {
+        return count;
     }
-    next
+    part.len()
+}
+
+// The same of the lengths.
+fn front_lengths(count: usize, part: &[u16]) -> usize
+    ensures { λ r. ⌜ Front count r (now (part .entry)) ⌝ }
+{
+    if count < part.len() {
+        return count;
+    }
+    part.len()
+}
+
+// The same of the records.
+fn front_records(count: usize) -> usize {
+    if count < 128 { count } else { 128 }
+}
+
+// The bench after an opening.
+fn after_open(bench: Bench, done: calls::Answered) -> Answered {
+    let answer = done.answer;
+    match answer {
+        Answer::Accepted => Answered {
+            answer: Answer::Accepted,
+            bench: bench.with_opened(done.link),
+        },
+        Answer::Refused(r) => Answered {
+            answer: Answer::Refused(r),
+            bench: bench.with_link(done.link),
+        },
+    }
 }
 
 pub fn open(
@@ -71,29 +77,21 @@ pub fn open(
     receive_pool: &[u8],
     acks: &[u32],
 ) -> Answered {
-    let s = least(bench.lent.send, send_pool.len());
-    let r = least(bench.lent.receive, receive_pool.len());
-    let a = least(bench.lent.acks, acks.len());
-    let n = least(bench.lent.records, 128);
-    let done = open_call::open(
+    let s = front(bench.lent.send, send_pool);
+    let r = front(bench.lent.receive, receive_pool);
+    let a = front_acks(bench.lent.acks, acks);
+    let n = front_records(bench.lent.records);
+    let table = bench.table;
+    let done = values::open(
         bench.link,
         settings,
+        table,
         n,
         &send_pool[..s],
         &receive_pool[..r],
         &acks[..a],
     );
-    let answer = done.answer;
-    match answer {
-        Answer::Accepted => Answered {
-            answer: Answer::Accepted,
-            bench: bench.with_opened(done.link),
-        },
-        Answer::Refused(q) => Answered {
-            answer: Answer::Refused(q),
-            bench: bench.with_link(bench.link),
-        },
-    }
+    after_open(bench, done)
 }
 
 pub fn send(
@@ -103,23 +101,23 @@ pub fn send(
     acks: &[u32],
     message: &[u8],
 ) -> Answered {
-    let s = least(bench.lent.send, send_pool.len());
-    let r = least(bench.lent.receive, receive_pool.len());
-    let a = least(bench.lent.acks, acks.len());
-    let n = least(bench.lent.records, 128);
-    let link = bench.link;
-    let records = gather(bench.table, link.outstanding());
-    let done = send_call::send(
-        link,
-        records,
+    let s = front(bench.lent.send, send_pool);
+    let r = front(bench.lent.receive, receive_pool);
+    let a = front_acks(bench.lent.acks, acks);
+    let n = front_records(bench.lent.records);
+    let table = bench.table;
+    let done = values::send(
+        bench.link,
+        table,
         n,
         &mut send_pool[..s],
         &receive_pool[..r],
         &acks[..a],
         message,
     );
+    let answer = done.answer;
     Answered {
-        answer: done.answer,
+        answer,
         bench: bench.with_link(done.link),
     }
 }
@@ -131,26 +129,25 @@ pub fn input(
     acks: &mut [u32],
     datagram: &[u8],
 ) -> Answered {
-    let s = least(bench.lent.send, send_pool.len());
-    let r = least(bench.lent.receive, receive_pool.len());
-    let a = least(bench.lent.acks, acks.len());
-    let n = least(bench.lent.records, 128);
-    let link = bench.link;
-    let records = gather(bench.table, link.outstanding());
-    let done = input_call::input(
-        link,
-        records,
+    let s = front(bench.lent.send, send_pool);
+    let r = front(bench.lent.receive, receive_pool);
+    let a = front_acks(bench.lent.acks, acks);
+    let n = front_records(bench.lent.records);
+    let table = bench.table;
+    let done = values::input(
+        bench.link,
+        table,
         n,
         &send_pool[..s],
         &mut receive_pool[..r],
         &mut acks[..a],
         datagram,
     );
-    let after = done.link;
-    let table = scatter(bench.table, after.outstanding(), done.records);
+    let after = done.table;
+    let answer = done.answer;
     Answered {
-        answer: done.answer,
-        bench: bench.with_table(after, table),
+        answer,
+        bench: bench.with_table(done.link, after),
     }
 }
 
@@ -163,17 +160,16 @@ pub fn flush(
     output: &mut [u8],
     lengths: &mut [u16],
 ) -> Counted {
-    let s = least(bench.lent.send, send_pool.len());
-    let r = least(bench.lent.receive, receive_pool.len());
-    let a = least(bench.lent.acks, acks.len());
-    let o = least(bench.lent.output, output.len());
-    let l = least(bench.lent.lengths, lengths.len());
-    let n = least(bench.lent.records, 128);
-    let link = bench.link;
-    let records = gather(bench.table, link.outstanding());
-    let done = flush_call::flush(
-        link,
-        records,
+    let s = front(bench.lent.send, send_pool);
+    let r = front(bench.lent.receive, receive_pool);
+    let a = front_acks(bench.lent.acks, acks);
+    let n = front_records(bench.lent.records);
+    let o = front(bench.lent.output, output);
+    let l = front_lengths(bench.lent.lengths, lengths);
+    let table = bench.table;
+    let done = values::flush(
+        bench.link,
+        table,
         n,
         &send_pool[..s],
         &receive_pool[..r],
@@ -182,52 +178,54 @@ pub fn flush(
         &mut output[..o],
         &mut lengths[..l],
     );
-    let after = done.link;
-    let table = scatter(bench.table, after.outstanding(), done.records);
+    let after = done.table;
+    let answer = done.answer;
     Counted {
-        answer: done.answer,
-        bench: bench.with_table(after, table),
+        answer,
+        bench: bench.with_table(done.link, after),
     }
 }
 
+// Reads into a buffer of `room` bytes.
 pub fn read(
     bench: Bench,
     send_pool: &[u8],
     receive_pool: &[u8],
     acks: &[u32],
+    room: usize,
     buffer: &mut [u8],
 ) -> Counted {
-    let s = least(bench.lent.send, send_pool.len());
-    let r = least(bench.lent.receive, receive_pool.len());
-    let a = least(bench.lent.acks, acks.len());
-    let n = least(bench.lent.records, 128);
-    let link = bench.link;
-    let records = gather(bench.table, link.outstanding());
-    let done = read_call::read(
-        link,
-        records,
+    let s = front(bench.lent.send, send_pool);
+    let r = front(bench.lent.receive, receive_pool);
+    let a = front_acks(bench.lent.acks, acks);
+    let n = front_records(bench.lent.records);
+    let b = front(room, buffer);
+    let table = bench.table;
+    let done = values::read(
+        bench.link,
+        table,
         n,
         &send_pool[..s],
         &receive_pool[..r],
         &acks[..a],
-        buffer,
+        &mut buffer[..b],
     );
+    let answer = done.answer;
     Counted {
-        answer: done.answer,
+        answer,
         bench: bench.with_link(done.link),
     }
 }
 
 pub fn size(bench: Bench, send_pool: &[u8], receive_pool: &[u8], acks: &[u32]) -> Count {
-    let s = least(bench.lent.send, send_pool.len());
-    let r = least(bench.lent.receive, receive_pool.len());
-    let a = least(bench.lent.acks, acks.len());
-    let n = least(bench.lent.records, 128);
-    let link = bench.link;
-    let records = gather(bench.table, link.outstanding());
-    calls::telling::size(
-        link,
-        records,
+    let s = front(bench.lent.send, send_pool);
+    let r = front(bench.lent.receive, receive_pool);
+    let a = front_acks(bench.lent.acks, acks);
+    let n = front_records(bench.lent.records);
+    let table = bench.table;
+    values::size(
+        bench.link,
+        table,
         n,
         &send_pool[..s],
         &receive_pool[..r],
@@ -235,23 +233,19 @@ pub fn size(bench: Bench, send_pool: &[u8], receive_pool: &[u8], acks: &[u32]) -
     )
 }
 
-pub fn locate(bench: Bench, send_pool: &[u8], receive_pool: &[u8], acks: &[u32]) -> Place {
-    let s = least(bench.lent.send, send_pool.len());
-    let r = least(bench.lent.receive, receive_pool.len());
-    let a = least(bench.lent.acks, acks.len());
-    let n = least(bench.lent.records, 128);
-    let link = bench.link;
-    let records = gather(bench.table, link.outstanding());
-    let place = show_call::locate(
-        link,
-        records,
+// The part of the receive pool that `show` shows.
+pub fn place(bench: Bench, send_pool: &[u8], receive_pool: &[u8], acks: &[u32]) -> Place {
+    let s = front(bench.lent.send, send_pool);
+    let r = front(bench.lent.receive, receive_pool);
+    let a = front_acks(bench.lent.acks, acks);
+    let n = front_records(bench.lent.records);
+    let table = bench.table;
+    values::place(
+        bench.link,
+        table,
         n,
         &send_pool[..s],
         &receive_pool[..r],
         &acks[..a],
-    );
-    Place {
-        start: place.start,
-        count: place.count,
-    }
+    )
 }

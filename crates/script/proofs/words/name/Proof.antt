@@ -1,42 +1,23 @@
+-- `script::words::name` is safe and ends: the number so far has at most five letters.
+-- Assumes nothing.
+use Prim.Native.Nat.{_-_, _≤_, _<_}
+use native.Mathlib.Omega.{arith}
 use borrow.Author.Needs.{needs}
+use lib.ListN.{length}
 use Rattle.script.proofs.words.name.Statement.{statement}
 use Rattle.script.proofs.words.name.Tie as tie
 
 abbrev Inv-loop : tie.InvT-loop
-Inv-loop word n₀ i₀ n i = ?
+Inv-loop word n₀ i₀ n i = (i ≤ length word) × (n < 281474976710656)
 
 abbrev μ-loop : tie.MeasureT-loop
-μ-loop word n₀ i₀ n i = ?
-
-loop-holds : tie.Need-loop-holds Inv-loop μ-loop
-loop-holds c = search needs
-
-mul-n : tie.Need-mul-n Inv-loop μ-loop
-mul-n c = search needs
-
-shared-slice-read-n : tie.Need-shared-slice-read-n Inv-loop μ-loop
-shared-slice-read-n c = search needs
+μ-loop word n₀ i₀ n i = length word - i
 
 cast-n : tie.Need-cast-n Inv-loop μ-loop
-cast-n c = search needs
+cast-n c = omega (arith, c .shared-slice-known .given (c .before .before .loop .i))
 
 add-n : tie.Need-add-n Inv-loop μ-loop
-add-n c = search needs
-
-returns : tie.Need-returns Inv-loop μ-loop
-returns c = search needs
-
-add-i : tie.Need-add-i Inv-loop μ-loop
-add-i c = search needs
-
-loop-less : tie.Need-loop-less Inv-loop μ-loop
-loop-less c = search needs
-
-loop-again : tie.Need-loop-again Inv-loop μ-loop
-loop-again c = search needs
-
-returns-2 : tie.Need-returns-2 Inv-loop μ-loop
-returns-2 c = search needs
+add-n c = omega (arith, c .shared-slice-known .given (c .before .before .loop .i))
 
 pub name-spec : {M : Type 1} → statement M
 name-spec =
@@ -44,13 +25,13 @@ name-spec =
     (tie.spec
     Inv-loop
     μ-loop
-    loop-holds
-    mul-n
-    shared-slice-read-n
+    (search needs)
+    (search needs)
+    (search needs)
     cast-n
     add-n
-    returns
-    add-i
-    loop-less
-    loop-again
-    returns-2)
+    (search needs)
+    (search needs)
+    (search needs)
+    (search needs)
+    (search needs))
