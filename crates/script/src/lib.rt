@@ -11,7 +11,7 @@ pub const LINE_MOST: usize = 65000;
 pub const SCRIPT_MOST: usize = 1048576;
 
 // The most that `read` takes as the length of its buffer.
-const ROOM_MOST: u32 = 60000;
+pub const ROOM_MOST: usize = 60000;
 
 // A command. The bytes of `send` and `input` stand at the start of a lent buffer, and their count is here.
 pub enum Command {
@@ -74,7 +74,7 @@ fn of_one(name: u64, a: u32) -> Command {
     if name == words::FLUSH {
         return Command::Flush(a);
     }
-    if (name == words::READ) & (a <= ROOM_MOST) {
+    if (name == words::READ) & (a as usize <= ROOM_MOST) {
         return Command::Read(a);
     }
     Command::Malformed
