@@ -1,5 +1,6 @@
 // The calls of a link on plain values: block and records of the outstanding segments by value, lent parts as slices. The
 // definitions of specs/ say what the public calls promise.
+pub mod flags;
 pub mod telling;
 
 use answers::Answer;

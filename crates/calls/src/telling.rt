@@ -13,7 +13,7 @@ ghost use Rattle.calls.specs.Outcomes.{tellsWith};
 ghost use Rattle.calls.specs.Answers.{countOutcome, sizeOf};
 
 // The length of the message at the front; 8 or 9 where none can be read.
-fn front_size(ready: HeldList) -> Count
+pub fn front_size(ready: HeldList) -> Count
     requires { ⌜ ready .count ≤ 128 ⌝ }
     ensures { λ r. ⌜ countOutcome r ≡ sizeOf (heldOf ready) ⌝ }
 {

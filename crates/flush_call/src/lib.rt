@@ -4,6 +4,7 @@ mod parts;
 use answers::Count;
 use block::Link;
 use block::check;
+use calls::flags;
 use lists::outstanding_list;
 use protocol::Refusal;
 use sizes::Lengths;
@@ -57,8 +58,8 @@ fn run(
         t,
     );
     let numbered = parts::number(link.queued, link.flight, records);
-    let ask = parts::is_set(link.ask) | probed.ask;
-    let tell = parts::is_set(link.tell);
+    let ask = flags::is_set(link.ask) | probed.ask;
+    let tell = flags::is_set(link.tell);
     let written = flushing::write(
         flush,
         acks,
@@ -70,7 +71,7 @@ fn run(
         output,
         lengths,
     );
-    let dead = parts::is_set(link.dead) | written.dead;
+    let dead = flags::is_set(link.dead) | written.dead;
     let split = outstanding_list::split(written.list);
     let after = parts::after(
         link,

@@ -1,6 +1,7 @@
 // The parts of a flush: what it goes by, the numbering of queued segments, and the block after it.
 use block::Link;
 use block::StoredFlight;
+use calls::flags;
 use flushing::Flush;
 use flushing::numbering;
 use lists::HeldList;
@@ -14,9 +15,7 @@ use protocol::Settings;
 use protocol::serial;
 use timing::ProbeClock;
 use timing::Record;
-ghost use mathlib.Core.Path.{_≡_};
 ghost use Prim.Native.Nat.{_≤_};
-ghost use Rattle.block.specs.Views.{isSet};
 ghost use Rattle.flush_call.specs.Parts.{sendingFrom, GoesBy, Numberable, Numbers, After};
 
 // The sending half with its queued segments numbered: the outstanding segments with those, the segments that stay queued,
@@ -25,20 +24,6 @@ pub(crate) struct Numbered {
     pub(crate) list: SentList,
     pub(crate) queued: HeldList,
     pub(crate) next: u32,
-}
-
-// Whether a flag of the block is set.
-pub(crate) fn is_set(flag: u8) -> bool
-    ensures { λ r. ⌜ r ≡ isSet flag ⌝ }
-{
-    flag != 0
-}
-
-// A flag of the block.
-fn flag(set: bool) -> u8
-    ensures { λ r. ⌜ isSet r ≡ set ⌝ }
-{
-    if set { 1 } else { 0 }
 }
 
 // What a flush at t goes by, with these segments ready and `next` expected.
@@ -115,6 +100,6 @@ pub(crate) fn after(
         current: t,
         ask: 0,
         tell: 0,
-        dead: flag(dead),
+        dead: flags::flag(dead),
     }
 }

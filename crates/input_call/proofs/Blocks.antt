@@ -28,7 +28,7 @@ use Rattle.block.proofs.Whole.{counts, sending-state}
 use Rattle.receiving.specs.Halves.{Sound}
 use Rattle.receiving.specs.declared.Half.{Half}
 use Rattle.input.specs.Inputs.{Rest, stateWith}
-use Rattle.input_call.specs.Taking.{flagOf, halfOf, Stores, WithHalves, Hears}
+use Rattle.input_call.specs.Taking.{halfOf, Stores, WithHalves, Hears}
 
 -- ---- the segments in flight
 
@@ -71,18 +71,13 @@ state-by-halves l records acks f j = λ i. record {
   dead = isSet (l .dead);
 }
 
--- a flag of the block is set as it was written
-set-as-written : (b : Bool) → isSet (flagOf b) ≡ b
-set-as-written true = refl
-set-as-written false = refl
-
 module _ (l : Link) (s : StoredFlight) (h : Half) (l′ : Link) (w : WithHalves l s h l′) where
   -- the state of the block that is put together
   pub state-after : (records : List Record) (acks : List ℕ) (f : Flight) → Joins s records f
       → stateOf l′ records acks ≡ stateWith (restOf l) (l .settings) (l .current) f h acks
   state-after records acks f j =
       let j′ : Joins (l′ .flight) records f = rw (w .is) j in
-      state-by-halves l′ records acks f j′ ∙ rw (w .is, set-as-written)
+      state-by-halves l′ records acks f j′ ∙ rw (w .is, w .flag)
 
   pub counts-after : (m : ℕ) (acks pool : List ℕ) → countsFit l ≡ true → s .outstanding .count ≤ 32 → Sound h m acks pool → countsFit l′ ≡ true
   unfolding countsFit

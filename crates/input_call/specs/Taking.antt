@@ -1,7 +1,7 @@
 -- What taking in a datagram leaves of the block, the records of its outstanding segments, the receive pool and the ack list.
 -- Assumes nothing.
 use mathlib.Core.Path.{_≡_}
-use mathlib.Core.Bool.{Bool, true, cond}
+use mathlib.Core.Bool.{true}
 use mathlib.Core.List.{List}
 use Prim.Native.Nat.{ℕ, _*_, _≤_}
 use lib.ListN.{length, drop}
@@ -20,10 +20,6 @@ use Rattle.input_call.specs.declared.Stored.{Stored}
 use Rattle.input_call.specs.declared.Taken.{Taken}
 
 -- ---- the parts of a block
-
--- a flag that is set is 1
-abbrev pub flagOf : Bool → ℕ
-flagOf set = cond set 1 0
 
 -- the receiving half of a block
 abbrev pub halfOf : Link → Half
@@ -45,9 +41,10 @@ pub record WithHalves (l : Link) (f : StoredFlight) (h : Half) (l′ : Link) : T
     probe = l .probe;
     current = l .current;
     ask = l .ask;
-    tell = flagOf (h .tell);
+    tell = l′ .tell;
     dead = l .dead;
   }
+  pub flag : isSet (l′ .tell) ≡ h .tell
 
 -- what the checks of 7 and 13 have established
 pub record Hears (l : Link) (acks pool : List ℕ) : Type 0 where

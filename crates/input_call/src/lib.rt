@@ -4,19 +4,19 @@ use block::Flight;
 use block::Link;
 use block::StoredFlight;
 use block::check;
+use calls::flags;
 use datagram::Checked;
 use lists::outstanding_list;
 use protocol::Refusal;
 use receiving::Half;
 use sizes::Lengths;
 use timing::Record;
-ghost use mathlib.Core.Path.{_≡_};
 ghost use Prim.Native.Nat.{_≤_};
 ghost use Rattle.calls.specs.Parts.{lentLengths};
 ghost use Rattle.calls.specs.Outcomes.{takesInWith};
 ghost use Rattle.session.specs.Input.{input};
 ghost use Rattle.block.specs.Views.{stateOf};
-ghost use Rattle.input_call.specs.Taking.{flagOf, Stores, WithHalves, Hears, Leaves};
+ghost use Rattle.input_call.specs.Taking.{Stores, WithHalves, Hears, Leaves};
 
 // The answer of taking in, the block after it, and the records of its outstanding segments.
 pub struct Taken {
@@ -29,13 +29,6 @@ pub struct Taken {
 struct Stored {
     flight: StoredFlight,
     records: [Record; 32],
-}
-
-// A flag of the block.
-fn flag(set: bool) -> u8
-    ensures { λ r. ⌜ r ≡ flagOf set ⌝ }
-{
-    if set { 1 } else { 0 }
 }
 
 // The segments in flight, taken apart.
@@ -69,7 +62,7 @@ fn with_halves(link: Link, flight: StoredFlight, half: Half) -> Link
     let queued = link.queued;
     let receiving = half.lists;
     let probe = link.probe;
-    let tell = flag(half.tell);
+    let tell = flags::flag(half.tell);
     Link {
         settings,
         queued,

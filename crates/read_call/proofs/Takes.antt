@@ -5,14 +5,14 @@ use mathlib.Core.Bool.{Bool, true, false, cond, _&&_}
 use mathlib.Core.List.{List, [], _∷_, map}
 use Prim.Native.Nat.{ℕ, _*_, _≤_, _<_}
 use native.Mathlib.Omega.{arith}
-use borrow.Author.Tests.{le-leb, lt-leb, leb-true, eq-eqb, ne-eqb}
+use borrow.Author.Tests.{le-leb, lt-leb, leb-true}
 use lib.Dec.{leb}
 use lib.ListN.{length, take, drop, length-append, length-drop}
 use lib.Seq.{sets, length-take-le}
 use Rattle.protocol.specs.Protocol.{sendSlots, receiveSlots}
 use Rattle.protocol.specs.Ranges.{mss}
 use Rattle.protocol.specs.declared.Refusal.{Refusal}
-use Rattle.protocol.specs.declared.Refusal.the-variants.{ShortPart, FullUnreadable, NoMessage, InvalidBlock}
+use Rattle.protocol.specs.declared.Refusal.the-variants.{ShortPart, InvalidBlock}
 use Rattle.timing.specs.declared.Record.{Record}
 use Rattle.lists.specs.Views.{heldOf, waitingOf, waitingPart}
 use Rattle.lists.specs.declared.Held.{Held}
@@ -33,28 +33,35 @@ use Rattle.reading.specs.declared.AfterRead.{AfterRead}
 use Rattle.reading.proofs.Fronts.{in-slot}
 use Rattle.reading.proofs.Copies.{in-pool-take}
 use Rattle.calls.specs.declared.Counted.{Counted}
-use Rattle.calls.specs.Answers.{countOutcome}
+use Rattle.calls.specs.Answers.{countOutcome, sizeOf}
 use Rattle.calls.specs.Outcomes.{checked}
 use Rattle.read_call.specs.Taken.{WithReceiving, Readable, fittingOf, Leaves}
 
 -- ---- the length of the message at the front
 
-module _ (l : List Held) (room : ℕ) (b : Bool) (e : b ≡ readable l) where
-  pub fits : (n : ℕ) → b ≡ true → n ≡ lengthOf (frontOf l) → n ≤ room → done n ≡ fittingOf l room
-  unfolding fittingOf
-  fits n t q h = rw (sym e ∙ t, ← q, le-leb n room h)
+-- a message that long in a buffer of so much room
+abbrev fittedIn : ℕ → Outcome ℕ → Outcome ℕ
+fittedIn room (refused r) = refused r
+fittedIn room (done n) = cond (leb n room) (done n) (refused ShortPart)
 
-  pub too-long : (n : ℕ) → b ≡ true → n ≡ lengthOf (frontOf l) → room < n → refused ShortPart ≡ fittingOf l room
-  unfolding fittingOf
-  too-long n t q h = rw (sym e ∙ t, ← q, lt-leb n room h)
+by-size : (l : List Held) (room : ℕ) → fittingOf l room ≡ fittedIn room (sizeOf l)
+unfolding fittingOf sizeOf
+by-size l room = go (readable l)
+  where
+    go : (a : Bool) → cond a (cond (leb (lengthOf (frontOf l)) room) (done (lengthOf (frontOf l))) (refused ShortPart)) (refused (unreadable l))
+        ≡ fittedIn room (cond a (done (lengthOf (frontOf l))) (refused (unreadable l)))
+    go true = refl
+    go false = refl
 
-  pub full : (n : ℕ) → n ≡ length l → b ≡ false → n ≡ 128 → refused FullUnreadable ≡ fittingOf l room
-  unfolding fittingOf
-  full n q f h = rw (sym e ∙ f, eq-eqb (length l) 128 (sym q ∙ h))
+module _ (l : List Held) (room : ℕ) where
+  pub fits : (n : ℕ) → done n ≡ sizeOf l → n ≤ room → done n ≡ fittingOf l room
+  fits n e h = rw (by-size l room, ← e, le-leb n room h)
 
-  pub none : (n : ℕ) → n ≡ length l → b ≡ false → (n ≡ 128 → ⊥) → refused NoMessage ≡ fittingOf l room
-  unfolding fittingOf
-  none n q f h = rw (sym e ∙ f, ne-eqb (length l) 128 (λ x. h (q ∙ x)))
+  pub too-long : (n : ℕ) → done n ≡ sizeOf l → room < n → refused ShortPart ≡ fittingOf l room
+  too-long n e h = rw (by-size l room, ← e, lt-leb n room h)
+
+  pub none : (r : Refusal) → refused r ≡ sizeOf l → refused r ≡ fittingOf l room
+  none r e = rw (by-size l room, ← e)
 
 -- where a message of n bytes can be read, it is that long, and there is room for it
 pub record Fits (l : List Held) (room n : ℕ) : Type 0 where

@@ -3,6 +3,8 @@ use answers::Count;
 use block::Link;
 use block::check;
 use calls::Counted;
+use calls::flags;
+use calls::telling;
 use lists::HeldList;
 use protocol::Refusal;
 use reading::AfterRead;
@@ -14,18 +16,11 @@ ghost use Prim.Native.Nat.{ℕ, _≤_};
 ghost use lib.ListN.{length};
 ghost use Rattle.lists.specs.Views.{heldOf};
 ghost use Rattle.session.specs.Reading.{reading};
-ghost use Rattle.block.specs.Views.{isSet, stateOf};
+ghost use Rattle.block.specs.Views.{stateOf};
 ghost use Rattle.calls.specs.Parts.{lentLengths};
 ghost use Rattle.calls.specs.Outcomes.{readsWith};
 ghost use Rattle.calls.specs.Answers.{countOutcome};
 ghost use Rattle.read_call.specs.Taken.{WithReceiving, Readable, fittingOf, Leaves};
-
-// A flag of the block.
-fn flag(set: bool) -> u8
-    ensures { λ r. ⌜ isSet r ≡ set ⌝ }
-{
-    if set { 1 } else { 0 }
-}
 
 // The block with the receiving half after a read.
 fn with_receiving(link: Link, read: AfterRead) -> Link
@@ -45,7 +40,7 @@ fn with_receiving(link: Link, read: AfterRead) -> Link
         probe,
         current: link.current,
         ask: link.ask,
-        tell: flag(read.tell),
+        tell: flags::flag(read.tell),
         dead: link.dead,
     }
 }
@@ -55,17 +50,17 @@ fn fitting(ready: HeldList, room: usize) -> Count
     requires { ⌜ ready .count ≤ 128 ⌝ }
     ensures { λ r. ⌜ countOutcome r ≡ fittingOf (heldOf ready) room ⌝ }
 {
-    if reading::readable(ready) {
-        let size = reading::message_size(ready);
-        if size <= room {
-            return Count::Of(size);
+    let front = telling::front_size(ready);
+    match front {
+        Count::Of(size) => {
+            if size <= room {
+                Count::Of(size)
+            } else {
+                Count::Refused(Refusal::ShortPart)
+            }
         }
-        return Count::Refused(Refusal::ShortPart);
+        Count::Refused(r) => Count::Refused(r),
     }
-    if ready.count == 128 {
-        return Count::Refused(Refusal::FullUnreadable);
-    }
-    Count::Refused(Refusal::NoMessage)
 }
 
 // Reading over a block that has passed the checks of 7 and 13.

@@ -16,3 +16,4 @@ pub mod Reading
 pub mod Calls
 pub mod Marked
 pub mod IsValid
+pub mod LooksRight

@@ -7,11 +7,12 @@ use native.Mathlib.Nat.{add-zero}
 use native.Mathlib.Omega.{arith}
 use borrow.Author.Tests.{le-leb, lt-leb}
 use lib.Dec.{leb}
-use lib.ListN.{length, take, drop}
-use lib.Seq.{take-add, drop-drop}
+use lib.ListN.{length, length-append, take, drop}
+use lib.Seq.{take-add, drop-drop, sets}
 use Rattle.wire.specs.LittleEndian.{bytesOf, numberAt, AllBytes}
-use Rattle.wire.specs.LittleEndianLaws.{number-of-bytes, bytes-of-number, numberAt-drop}
+use Rattle.wire.specs.LittleEndianLaws.{number-of-bytes, bytes-of-number, numberAt-drop, length-bytesOf}
 use Rattle.wire.specs.Headers.{front, back, encode, decode, FieldsFit}
+use Rattle.wire.specs.Stores.{sets-append}
 use Rattle.wire.specs.declared.Header.{Header}
 
 pub length-front : (h : Header) → length (front h) ≡ 8
@@ -21,6 +22,35 @@ length-front h = refl
 pub length-encode : (h : Header) → length (encode h) ≡ 24
 unfolding encode front back bytesOf
 length-encode h = refl
+
+-- the fields of each part, stored one behind the other from i on
+module _ (h : Header) (l : List ℕ) (i : ℕ) {x y z w : List ℕ} where
+  pub front-stored :
+      x ≡ sets l i (bytesOf 4 (h .conv)) →
+      y ≡ sets x (i + 4) (bytesOf 1 (h .cmd)) →
+      z ≡ sets y (i + 5) (bytesOf 1 (h .frg)) →
+      w ≡ sets z (i + 6) (bytesOf 2 (h .wnd)) →
+      w ≡ sets l i (front h)
+  unfolding front
+  front-stored p q r s = simp (sets-append, length-append, length-bytesOf) (cc)
+
+  pub back-stored :
+      x ≡ sets l i (bytesOf 4 (h .ts)) →
+      y ≡ sets x (i + 4) (bytesOf 4 (h .sn)) →
+      z ≡ sets y (i + 8) (bytesOf 4 (h .una)) →
+      w ≡ sets z (i + 12) (bytesOf 4 (h .len)) →
+      w ≡ sets l i (back h)
+  unfolding back
+  back-stored p q r s = simp (sets-append, length-append, length-bytesOf) (cc)
+
+-- the two parts, stored one behind the other
+pub encode-stored :
+    (h : Header) (l : List ℕ) (i : ℕ) {x y : List ℕ} →
+    x ≡ sets l i (front h) →
+    y ≡ sets x (i + 8) (back h) →
+    y ≡ sets l i (encode h)
+unfolding encode
+encode-stored h l i p q = rw (sets-append, length-front) (cc)
 
 -- a header whose fields fit comes back, whatever follows it
 pub decode-encode : (h : Header) (t : List ℕ) → FieldsFit h → decode (encode h ++ t) 0 ≡ h

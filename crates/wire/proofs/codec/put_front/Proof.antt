@@ -1,16 +1,17 @@
 -- `wire::codec::put_front` meets its contract: four fields, one stored behind the other.
 -- Assumes nothing.
 use borrow.Author.Needs.{needs}
-use lib.ListN.{length-append}
-use Rattle.wire.specs.LittleEndianLaws.{length-bytesOf}
-use Rattle.wire.specs.Headers.{front}
-use Rattle.wire.specs.Stores.{sets-append}
+use Rattle.wire.specs.HeaderLaws.{front-stored}
 use Rattle.wire.proofs.codec.put_front.Statement.{statement}
 use Rattle.wire.proofs.codec.put_front.Tie as tie
 
 returns : tie.Need-returns
-unfolding front
-returns c = simp (sets-append, length-append, length-bytesOf) (cc)
+returns c =
+    front-stored _ _ _
+    (c .before .before .before .before .before .before .before .before .before .before .before .before .before .before .put-u32 .ensures)
+    (c .before .before .before .before .before .before .before .before .before .before .put-u8 .ensures)
+    (c .before .before .before .before .before .before .put-u82 .ensures)
+    (c .before .before .put-u16 .ensures)
 
 pub put-front-spec : {M : Type 1} → statement M
 put-front-spec =

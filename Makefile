@@ -1,0 +1,45 @@
+# The C side: the archive, its installation, and the programs that try it. `.ci/run` is the gate of the proofs.
+#
+#   make                    prove the link and write target/staticlib/libampferweg.a (needs the Rattle kit's rt)
+#   make install            header, archive and pkg-config file below PREFIX (default /usr/local; DESTDIR is put before it)
+#   make test               the C checks (tests/host)
+#   make demo               two stations on loopback over a bad network (examples/udp)
+#   make bench              the workloads beside kcp-go's core, and docs/PERFORMANCE.md (bench)
+#   make interop            a station against kcp-go (tests/interop; installs Debian packages)
+#
+# ARCHIVE names another archive to install or to try.
+
+PREFIX = /usr/local
+DESTDIR =
+RT = rt
+ARCHIVE = target/staticlib/libampferweg.a
+VERSION := $(shell sed -n 's/^\#define AMPFERWEG_VERSION "\(.*\)"$$/\1/p' include/ampferweg.h)
+SOURCES := $(shell find crates crates.txt -name '*.rt' -o -name '*.antt' -o -name crates.txt)
+
+all: $(ARCHIVE)
+
+target/staticlib/libampferweg.a: $(SOURCES)
+	$(RT) staticlib ampferweg
+
+install: $(ARCHIVE)
+	install -d $(DESTDIR)$(PREFIX)/include $(DESTDIR)$(PREFIX)/lib/pkgconfig
+	install -m 644 include/ampferweg.h $(DESTDIR)$(PREFIX)/include/ampferweg.h
+	install -m 644 $(ARCHIVE) $(DESTDIR)$(PREFIX)/lib/libampferweg.a
+	sed -e 's|@PREFIX@|$(PREFIX)|' -e 's|@VERSION@|$(VERSION)|' ampferweg.pc.in >$(DESTDIR)$(PREFIX)/lib/pkgconfig/ampferweg.pc
+
+uninstall:
+	rm -f $(DESTDIR)$(PREFIX)/include/ampferweg.h $(DESTDIR)$(PREFIX)/lib/libampferweg.a $(DESTDIR)$(PREFIX)/lib/pkgconfig/ampferweg.pc
+
+test: $(ARCHIVE)
+	tests/host/run.sh $(ARCHIVE)
+
+demo: $(ARCHIVE)
+	examples/udp/run.sh $(ARCHIVE)
+
+bench: $(ARCHIVE)
+	bench/run.py $(ARCHIVE)
+
+interop: $(ARCHIVE)
+	tests/interop/run.sh $(ARCHIVE)
+
+.PHONY: all install uninstall test demo bench interop

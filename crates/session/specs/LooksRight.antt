@@ -1,0 +1,83 @@
+-- Errors that look right, as document 01 names them: what the definitions give where each would give something else. Proved by computing.
+-- (The first, numbers compared as plain ones, is marked case B.)
+-- Assumes nothing.
+use mathlib.Core.Path.{_≡_, refl}
+use mathlib.Core.Bool.{Bool, true, false, cond}
+use mathlib.Core.List.{List, [], _∷_, _++_, map}
+use Prim.Native.Nat.{ℕ}
+use lib.ListN.{length, replicate}
+use Rattle.protocol.specs.Protocol.{push, ack, acksMost}
+use Rattle.protocol.specs.Serial.{signed, isBefore, isAfter, isDue}
+use Rattle.protocol.specs.declared.Settings.{Settings}
+use Rattle.protocol.specs.declared.Refusal.the-variants.{HighFragment}
+use Rattle.wire.specs.LittleEndian.{bytesOf, numberAt}
+use Rattle.wire.specs.Headers.{encode, front, back, decode}
+use Rattle.datagram.specs.Datagrams.{Segment, parse, walk, tail, verdict, segmentOf}
+use Rattle.timing.specs.RoundTrips.{nextSmoothed, nextVariation, leastTimeout, timeoutOf, sampled}
+use Rattle.lists.specs.declared.Sent.{Sent}
+use Rattle.lists.specs.Orders.{insert, isHeld}
+use Rattle.lists.specs.Receiving.{advance}
+use Rattle.lists.specs.Acknowledging.{select, firstNumberOr, skipBefore}
+use Rattle.session.specs.Slots.{occurs, lowestFrom, lowestFree}
+use Rattle.session.specs.State.{Sending, Receiving, Outcome}
+use Rattle.session.specs.Opening.{opened}
+use Rattle.session.specs.Input.{acknowledged, sampledBy, heardBySending, allBySending, ackNumbers, furthest, skipped, skippedByAll, pushed, input}
+
+abbrev small : Settings
+small = record { conv = 1; mtu = 50; interval = 100; mode = 0; threshold = 0 }
+
+abbrev segment : ℕ → ℕ → ℕ → Segment
+segment cmd fragment sn = record { header = record { conv = 1; cmd = cmd; frg = fragment; wnd = 128; ts = 0; sn = sn; una = 0; len = 0 }; payload = [] }
+
+-- ---- a skip per ack
+
+abbrev sentAs : ℕ → Sent
+sentAs n = record { held = record { slot = n; len = 0; fragment = 0 }; transmissions = 1; «record» = record { number = n; due = 0; timeout = 100; skips = 0 } }
+
+-- outstanding 0 to 3
+abbrev four : Sending
+four =
+    record {
+      una = 0;
+      next = 4;
+      queued = [];
+      outstanding = sentAs 0 ∷ sentAs 1 ∷ sentAs 2 ∷ sentAs 3 ∷ [];
+      window = 128;
+      roundTrip = opened small .sending .roundTrip;
+    }
+
+-- the sending half after datagrams of these acks
+unfoldable pub afterAcks : Sending → List (List ℕ) → Sending
+afterAcks s [] = s
+afterAcks s (sns ∷ l) =
+    let gs = map (segment ack 0) sns in
+    afterAcks (skippedByAll (allBySending small 0 s gs) (ackNumbers gs)) l
+
+-- the skips of the outstanding segments
+abbrev skipsAfter : List (List ℕ) → List ℕ
+skipsAfter l = map (λ (x : Sent). x .record .skips) (afterAcks four l .outstanding)
+
+-- one datagram with acks 1 and 2 gives segment 0 one skip; two datagrams give two
+pub skips : (skipsAfter ((1 ∷ 2 ∷ []) ∷ []) ≡ 1 ∷ 0 ∷ []) × (skipsAfter ((1 ∷ []) ∷ (2 ∷ []) ∷ []) ≡ 2 ∷ 0 ∷ [])
+unfolding afterAcks acknowledged sampledBy heardBySending allBySending ackNumbers furthest skipped select firstNumberOr skipBefore signed isBefore isAfter isDue sampled nextSmoothed nextVariation leastTimeout timeoutOf opened
+skips = (refl, refl)
+
+-- ---- refusing data when the ack list is full
+
+abbrev fullList : Receiving
+fullList = record { next = 0; ready = []; waiting = []; acks = replicate acksMost (record { sn = 0; ts = 0 }); tell = false }
+
+abbrev afterPush : Receiving
+afterPush = pushed 26 (record { half = fullList; pool = [] }) (segment push 0 0) .half
+
+-- no ack is noted, and the data is taken
+pub still-taken : (length (afterPush .acks) ≡ 256) × (length (afterPush .ready) ≡ 1) × (afterPush .next ≡ 1)
+unfolding pushed insert isHeld advance lowestFree lowestFrom occurs signed isBefore
+still-taken = (refl, refl, refl)
+
+-- ---- applying segments until the bad one
+
+-- a good push, and one with fragment number 127 behind it: refused whole
+pub refused-whole : input (opened small) [] (encode (segment push 0 0 .header) ++ encode (segment push 127 1 .header)) ≡ Outcome.refused HighFragment
+unfolding input opened parse walk tail verdict segmentOf encode front back decode bytesOf numberAt
+refused-whole = refl

@@ -1,0 +1,185 @@
+/* A station: sends the messages of a file to its peer over UDP, and prints those that arrive. Clock, socket and every part
+ * that the link is lent are its own; it has no heap. */
+#define _POSIX_C_SOURCE 200809L
+#include "options.h"
+#include "udp.h"
+
+#include <ampferweg.h>
+#include <fcntl.h>
+#include <stdio.h>
+#include <stdlib.h>
+#include <string.h>
+#include <unistd.h>
+
+enum { MTU_MOST = 256, FILE_MOST = 1 << 18, QUIET_MS = 1000 };
+
+AMPFERWEG_STATION_STORAGE(station, MTU_MOST);
+
+static const char *name = "station", *peer_text, *send_file, *save_file;
+static uint32_t port, conv = 1, mtu = 256, mode = 1, interval = 10, threshold = 2, expect, hold, seconds = 20;
+
+static const struct option options[] = {
+    {"port", "PORT", "the port to listen on", NULL, &port, 1, 65535},
+    {"peer", "ADDRESS", "where the peer is, as 127.0.0.1:4000", &peer_text, NULL, 0, 0},
+    {"send", "FILE", "the messages to send, one a line", &send_file, NULL, 0, 0},
+    {"hold", "MS", "wait so long before the first message, for the peer to be there (default 0)", NULL, &hold, 0, 60000},
+    {"expect", "COUNT", "end once so many messages arrived and its own are acknowledged (default 0)", NULL, &expect, 0, 1000000},
+    {"save", "FILE", "write the messages that arrive, one a line", &save_file, NULL, 0, 0},
+    {"seconds", "COUNT", "give up after so many seconds (default 20)", NULL, &seconds, 1, 86400},
+    {"name", "NAME", "its name in what it prints", &name, NULL, 0, 0},
+    {"conv", "NUMBER", "conversation, the same at both stations (default 1)", NULL, &conv, 0, UINT32_MAX},
+    {"mtu", "BYTES", "longest datagram (default 256)", NULL, &mtu, AMPFERWEG_MTU_LEAST, MTU_MOST},
+    {"mode", "MODE", "how the timeout grows: 0, 1 or 2 (default 1)", NULL, &mode, 0, 2},
+    {"interval", "MS", "milliseconds between flushes (default 10)", NULL, &interval, 10, 5000},
+    {"threshold", "SKIPS", "skips before a fast retransmission, 0 for none (default 2)", NULL, &threshold, 0, 100},
+};
+
+static struct sockaddr_in peer;
+static int udp, saved = -1;
+static struct { unsigned sent, heard, datagrams_sent, datagrams_heard, datagrams_refused, pushes, retransmissions; } count;
+
+/* ---- what is sent ---- */
+
+static char lines[FILE_MOST];
+static const char *next_line, *lines_end;
+
+static void fail(const char *what, const char *why)
+{
+    fprintf(stderr, "station: %s: %s\n", what, why);
+    exit(2);
+}
+
+static void read_lines(void)
+{
+    const int file = open(send_file, O_RDONLY);
+    ssize_t len, all = 0;
+    if (file < 0) fail(send_file, "this file of messages cannot be opened");
+    while ((len = read(file, lines + all, sizeof lines - (size_t)all)) > 0) all += len;
+    close(file);
+    if (len < 0 || all == FILE_MOST) fail(send_file, len < 0 ? "this file of messages cannot be read" : "this file of messages is too long");
+    next_line = lines;
+    lines_end = lines + all;
+}
+
+/* Gives the link as many messages as it has slots for. */
+static void send_messages(void)
+{
+    while (next_line < lines_end) {
+        const char *end = memchr(next_line, '\n', (size_t)(lines_end - next_line));
+        const size_t len = (size_t)((end == NULL ? lines_end : end) - next_line);
+        const ampferweg_result result = ampferweg_station_send(&station, next_line, len);
+        if (result == -AMPFERWEG_NO_FREE_SLOTS) return;
+        if (result < 0) fail("a message cannot be sent", ampferweg_text(result));
+        count.sent++;
+        next_line += len + 1;
+    }
+}
+
+/* A push whose number is not beyond all before it is a retransmission. */
+static void count_pushes(const uint8_t *datagram, size_t len)
+{
+    static uint32_t top;
+    while (len >= 24) {
+        const uint32_t sn = datagram[12] | (uint32_t)datagram[13] << 8 | (uint32_t)datagram[14] << 16 | (uint32_t)datagram[15] << 24;
+        const size_t size = 24 + (datagram[20] | (size_t)datagram[21] << 8);
+        if (datagram[4] == 81) {
+            count.pushes++;
+            if ((int32_t)(sn - top) < 0) count.retransmissions++; else top = sn + 1;
+        }
+        datagram += size;
+        len -= size;
+    }
+}
+
+static void transmit(void *context, const uint8_t *datagram, size_t len)
+{
+    (void)context;
+    count.datagrams_sent++;
+    count_pushes(datagram, len);
+    udp_send(udp, &peer, datagram, len);
+}
+
+/* ---- what arrives ---- */
+
+static void save(const char *message, size_t len)
+{
+    if (saved >= 0 && (write(saved, message, len) != (ssize_t)len || write(saved, "\n", 1) != 1)) fail(save_file, "this file cannot be written");
+}
+
+static void read_messages(void)
+{
+    static char message[AMPFERWEG_MESSAGE_SIZE(MTU_MOST)];
+    ampferweg_result len;
+    while ((len = ampferweg_station_read(&station, message, sizeof message)) >= 0) {
+        count.heard++;
+        save(message, (size_t)len);
+        printf("%s hears %u: %.*s%s (%d bytes)\n", name, count.heard, len < 60 ? (int)len : 60, message, len < 60 ? "" : " ..", (int)len);
+    }
+}
+
+/* Waits for datagrams, until the next flush is due. Gives whether the peer was heard. */
+static int take_in(uint32_t flush_at)
+{
+    static uint8_t datagram[DATAGRAM_MOST];
+    struct sockaddr_in from;
+    int heard = 0;
+    for (;;) {
+        const int32_t left = (int32_t)(flush_at - clock_now());
+        const long len = udp_receive(udp, left > 0 ? (uint32_t)left : 0, &from, datagram, sizeof datagram);
+        if (len < 0) return heard;
+        if (!same_address(&from, &peer)) continue;
+        heard = 1;
+        count.datagrams_heard++;
+        if (ampferweg_station_input(&station, datagram, (size_t)len) < 0) count.datagrams_refused++;
+        if ((int32_t)(flush_at - clock_now()) <= 0) return heard;
+    }
+}
+
+/* ---- the station ---- */
+
+static int complete(void) { return next_line == lines_end && ampferweg_station_pending(&station) == 0 && count.heard >= expect; }
+
+/* Runs until all is done and the peer has been quiet for a while, since it may still ask for what was lost. */
+static void run(void)
+{
+    const uint32_t start = clock_now();
+    uint32_t now = start, heard_at = start;
+    ampferweg_result result;
+    while (now - start < 1000 * seconds && !(complete() && now - heard_at > QUIET_MS)) {
+        if (now - start >= hold) send_messages();
+        result = ampferweg_station_flush_to(&station, now, transmit, NULL);
+        if (result < 0) fail("a flush", ampferweg_text(result));
+        if (take_in(now + interval)) heard_at = clock_now();
+        read_messages();
+        now = clock_now();
+    }
+}
+
+static void prepare(void)
+{
+    ampferweg_result result;
+    if (port == 0 || peer_text == NULL) fail("--port and --peer are wanted", "--help lists the options");
+    peer = udp_address("station", peer_text);
+    result = ampferweg_station_open(&station, conv, mtu, mode, interval, threshold);
+    if (result < 0) fail("mtu, mode, interval or threshold", ampferweg_text(result));
+    if (send_file != NULL) read_lines();
+    if (save_file != NULL && (saved = open(save_file, O_WRONLY | O_CREAT | O_TRUNC, 0666)) < 0) fail(save_file, "this file cannot be written");
+    udp = udp_open("station", port);
+    printf("%s: listens on port %u\n", name, port);
+}
+
+int main(int argc, char **argv)
+{
+    lines_at_once();
+    read_options(argc, argv, "usage: station --port PORT --peer ADDRESS [options]\n"
+        "Sends messages to a peer over UDP by KCP, and prints those that arrive.",
+        options, sizeof options / sizeof *options);
+    prepare();
+    run();
+    printf("%s: %u messages sent%s, %u of %u heard; %u datagrams sent, %u heard, %u refused; %u segments sent, %u of them retransmissions\n",
+        name, count.sent, ampferweg_station_pending(&station) == 0 ? " and acknowledged" : "", count.heard, expect,
+        count.datagrams_sent, count.datagrams_heard, count.datagrams_refused, count.pushes, count.retransmissions);
+    if (ampferweg_station_dead(&station)) fprintf(stderr, "%s: the link is dead: a segment was sent 20 times and not acknowledged\n", name);
+    if (!complete()) fprintf(stderr, "%s: gives up after %u seconds\n", name, seconds);
+    return complete() ? 0 : 1;
+}

@@ -1,0 +1,392 @@
+/* Ampferweg: a KCP link between two stations, proved, without a heap.
+ *
+ * KCP is a small reliable protocol over UDP: messages are cut into segments that are numbered, acknowledged and
+ * retransmitted, so that they arrive whole, once and in order. This library has no heap, no clock and no socket: the
+ * caller lends every part, says what time it is, and carries the datagrams.
+ *
+ * A station that sends one recipe and prints what arrives:
+ *
+ *     #include <ampferweg.h>
+ *     #include <stdio.h>
+ *
+ *     uint32_t milliseconds(void);                                        // your clock
+ *     void transmit(void *socket, const uint8_t *datagram, size_t len);   // your network
+ *     size_t receive(void *socket, uint8_t *datagram, size_t room);       // waits 10 ms at most; 0: none came
+ *
+ *     AMPFERWEG_STATION_STORAGE(station, 256);                            // static, about 117 KiB for an mtu of 256
+ *
+ *     int run(void *socket)
+ *     {
+ *         static uint8_t datagram[2048], message[AMPFERWEG_MESSAGE_SIZE(256)];
+ *         ampferweg_result result = ampferweg_station_open(&station, 7, 256, 1, 10, 2);
+ *         if (result == 0) result = ampferweg_station_send(&station, "seat 12: 4 holes", 16);
+ *         while (result >= 0 && !ampferweg_station_dead(&station)) {
+ *             ampferweg_result count;
+ *             const size_t len = receive(socket, datagram, sizeof datagram);
+ *             if (len > 0) (void)ampferweg_station_input(&station, datagram, len); // a bad one is refused, and changes nothing
+ *             while ((count = ampferweg_station_read(&station, message, sizeof message)) >= 0)
+ *                 printf("%.*s\n", (int)count, (const char *)message);
+ *             result = ampferweg_station_flush_to(&station, milliseconds(), transmit, socket);
+ *         }
+ *         if (result < 0) fprintf(stderr, "%s\n", ampferweg_text(result));
+ *         return result < 0;
+ *     }
+ *
+ * Call flush about every `interval` milliseconds, and after a send that should not wait.
+ *
+ * The header has three parts: sizes and results; the seven calls, which are proved; and `ampferweg_station`, a thin layer
+ * of inline functions that holds the lent parts and passes them on. C99 or C++; x86-64 Linux, the archive's target. */
+#ifndef AMPFERWEG_H
+#define AMPFERWEG_H
+
+#include <stddef.h>
+#include <stdint.h>
+
+#define AMPFERWEG_VERSION "0.1.0"
+
+#ifdef __cplusplus
+extern "C" {
+#endif
+
+/* ---- Sizes ---------------------------------------------------------------------------------------------------------
+ *
+ * What every call is lent at least, for a link of the given mtu (50 to 512 bytes a datagram). A longer part is fine, and
+ * what lies beyond these sizes is neither read nor written. */
+
+#define AMPFERWEG_MTU_LEAST 50
+#define AMPFERWEG_MTU_MOST  512
+
+/* The largest payload of a segment: the mtu without a header. */
+#define AMPFERWEG_MSS(mtu) ((size_t)(mtu) - 24)
+
+/* Bytes of the send pool (128 slots) and of the receive pool (256 slots). */
+#define AMPFERWEG_SEND_POOL_SIZE(mtu)    (128 * AMPFERWEG_MSS(mtu))
+#define AMPFERWEG_RECEIVE_POOL_SIZE(mtu) (256 * AMPFERWEG_MSS(mtu))
+
+/* Bytes of the longest message: 127 segments. A read buffer of this size is never too short for an honest peer. */
+#define AMPFERWEG_MESSAGE_SIZE(mtu) (127 * AMPFERWEG_MSS(mtu))
+
+#define AMPFERWEG_TABLE_LEN   128   /* records of the table, one for each send slot */
+#define AMPFERWEG_ACKS_LEN    512   /* entries of the ack list: 256 pairs of sn and ts */
+#define AMPFERWEG_OUTPUT_SIZE 22576 /* bytes of a flush's output, for any mtu */
+#define AMPFERWEG_LENGTHS_LEN 290   /* lengths of a flush, one for each datagram */
+
+/* ---- Results -------------------------------------------------------------------------------------------------------
+ *
+ * 0 or more: the call is done. A flush gives the datagrams that it wrote, a read and a size give bytes, the others 0.
+ * Below 0: the call is refused, -N for refusal number N, and nothing has changed: not a field of the control block, not a
+ * byte of any lent part. */
+
+typedef int32_t ampferweg_result;
+
+enum ampferweg_refusal {
+    AMPFERWEG_SHORT_DATAGRAM = 1,        /* input: the datagram is under 24 bytes */
+    AMPFERWEG_OTHER_CONVERSATION = 2,    /* input: a segment of another conversation */
+    AMPFERWEG_LENGTH_PAST_END = 3,       /* input: a segment's len runs past the datagram's end */
+    AMPFERWEG_UNKNOWN_COMMAND = 4,       /* input: a command that is not 81 to 84 */
+    AMPFERWEG_LONG_PAYLOAD = 5,          /* input: a push with a payload above mss (the peer's mtu is larger than ours) */
+    AMPFERWEG_HIGH_FRAGMENT = 6,         /* input: a push with a fragment number above 126 */
+    AMPFERWEG_SHORT_PART = 7,            /* any call: a lent part is shorter than stated above; read: so is the buffer */
+    AMPFERWEG_FULL_UNREADABLE = 8,       /* read, size: 128 segments are ready and no message can be read */
+    AMPFERWEG_NO_MESSAGE = 9,            /* read, size: no message has arrived whole */
+    AMPFERWEG_LONG_MESSAGE = 10,         /* send: the message is above 127 segments */
+    AMPFERWEG_NO_FREE_SLOTS = 11,        /* send: more segments than free send slots; flush, take in, and try again */
+    AMPFERWEG_SETTING_OUT_OF_RANGE = 12, /* open: a setting outside its range */
+    AMPFERWEG_INVALID_BLOCK = 13         /* any call but open: the control block is not one that this link makes */
+};
+
+/* The refusal number of a result, 0 where the call is done. */
+static inline int ampferweg_refusal_of(ampferweg_result result) { return result < 0 ? (int)-result : 0; }
+
+/* A result in plain words, for a log line. */
+static inline const char *ampferweg_text(ampferweg_result result)
+{
+    switch (ampferweg_refusal_of(result)) {
+    case 0: return "done";
+    case AMPFERWEG_SHORT_DATAGRAM: return "refused 1: the datagram is under 24 bytes";
+    case AMPFERWEG_OTHER_CONVERSATION: return "refused 2: the datagram is of another conversation";
+    case AMPFERWEG_LENGTH_PAST_END: return "refused 3: a segment runs past the datagram's end";
+    case AMPFERWEG_UNKNOWN_COMMAND: return "refused 4: a segment has an unknown command";
+    case AMPFERWEG_LONG_PAYLOAD: return "refused 5: a segment's payload is too long for this mtu";
+    case AMPFERWEG_HIGH_FRAGMENT: return "refused 6: a segment's fragment number is above 126";
+    case AMPFERWEG_SHORT_PART: return "refused 7: a lent part or the read buffer is too short";
+    case AMPFERWEG_FULL_UNREADABLE: return "refused 8: 128 segments are ready and no message can be read";
+    case AMPFERWEG_NO_MESSAGE: return "refused 9: no message has arrived whole";
+    case AMPFERWEG_LONG_MESSAGE: return "refused 10: the message is above 127 segments";
+    case AMPFERWEG_NO_FREE_SLOTS: return "refused 11: not enough free send slots";
+    case AMPFERWEG_SETTING_OUT_OF_RANGE: return "refused 12: a setting is outside its range";
+    case AMPFERWEG_INVALID_BLOCK: return "refused 13: the control block is not valid";
+    default: return "refused: no number of this library";
+    }
+}
+
+/* ---- The control block ---------------------------------------------------------------------------------------------
+ *
+ * One for each link. The caller keeps it and shows it to every call; only the calls change it. Its fields may be read, for
+ * a display or a log. A block that was written to by hand is answered like any other: with refusal 13 if no call of this
+ * library could have left it. Compare blocks field by field, never with memcmp: padding is not part of a block. */
+
+typedef struct ampferweg_settings {
+    uint32_t conv;     /* conversation: the same number at both stations */
+    uint16_t mtu;      /* bytes of the longest datagram */
+    uint16_t interval; /* milliseconds between flushes, as the retransmission timeout reckons */
+    uint8_t mode;      /* 0, 1 or 2: how the timeout grows at a retransmission */
+    uint8_t threshold; /* skips before a fast retransmission; 0: off */
+} ampferweg_settings;
+
+/* A segment in a slot of a pool. */
+typedef struct ampferweg_held { uint16_t slot, len; uint8_t fragment; } ampferweg_held;
+
+/* A segment received ahead of its turn, and one sent and not acknowledged. */
+typedef struct ampferweg_waiting { uint32_t number; ampferweg_held held; } ampferweg_waiting;
+typedef struct ampferweg_outstanding { ampferweg_held held; uint8_t transmissions; } ampferweg_outstanding;
+
+/* Lists: the first `count` entries, in order. What lies past them means nothing. */
+typedef struct ampferweg_held_list { ampferweg_held at[128]; size_t count; } ampferweg_held_list;
+typedef struct ampferweg_waiting_list { ampferweg_waiting at[128]; size_t count; } ampferweg_waiting_list;
+typedef struct ampferweg_outstanding_list { ampferweg_outstanding at[32]; size_t count; } ampferweg_outstanding_list;
+
+/* Round trip, in milliseconds: smoothed time, variation, retransmission timeout. */
+typedef struct ampferweg_round_trip { uint32_t smoothed, variation, timeout; } ampferweg_round_trip;
+
+/* Probe of a closed window: milliseconds between two asks (0: stopped), and when the next one is due. */
+typedef struct ampferweg_probe_clock { uint32_t wait, due; } ampferweg_probe_clock;
+
+/* The segments in flight: snd_una, snd_nxt, the round trip, the peer's last window, the outstanding list. */
+typedef struct ampferweg_flight {
+    uint32_t una, next;
+    ampferweg_round_trip rtt;
+    uint16_t window;
+    ampferweg_outstanding_list outstanding;
+} ampferweg_flight;
+
+/* The receiving half: rcv_nxt, segments ready to be read, segments that wait for one before them. */
+typedef struct ampferweg_receiving {
+    uint32_t next;
+    ampferweg_held_list ready;
+    ampferweg_waiting_list waiting;
+} ampferweg_receiving;
+
+typedef struct ampferweg_link {
+    ampferweg_settings settings;
+    ampferweg_held_list queued;     /* segments accepted and not yet sent */
+    ampferweg_flight flight;
+    ampferweg_receiving receiving;
+    size_t acks;                    /* acknowledgements noted, as pairs in the ack list */
+    ampferweg_probe_clock probe;
+    uint32_t current;               /* the time of the last flush */
+    uint8_t ask, tell, dead;        /* flags, set where not 0: a window ask is wanted, a tell is, the link is dead */
+} ampferweg_link;
+
+/* A record of the lent table: number, due time, timeout and skip count of the segment in that send slot. */
+typedef struct ampferweg_record { uint32_t number, due, timeout, skips; } ampferweg_record;
+
+/* The layout that the archive was compiled for. A line that does not compile here means another machine or compiler. */
+#if defined(__cplusplus) && __cplusplus >= 201103L
+#define AMPFERWEG_LAYOUT(name, holds) static_assert(holds, #holds)
+#elif defined(__STDC_VERSION__) && __STDC_VERSION__ >= 201112L
+#define AMPFERWEG_LAYOUT(name, holds) _Static_assert(holds, #holds)
+#else
+#define AMPFERWEG_LAYOUT(name, holds) typedef char ampferweg_layout_of_##name[(holds) ? 1 : -1]
+#endif
+AMPFERWEG_LAYOUT(size, sizeof(size_t) == 8 && sizeof(void *) == 8);
+AMPFERWEG_LAYOUT(settings, sizeof(ampferweg_settings) == 12 && offsetof(ampferweg_settings, mtu) == 4 &&
+    offsetof(ampferweg_settings, interval) == 6 && offsetof(ampferweg_settings, mode) == 8 &&
+    offsetof(ampferweg_settings, threshold) == 9);
+AMPFERWEG_LAYOUT(held, sizeof(ampferweg_held) == 6 && offsetof(ampferweg_held, len) == 2 && offsetof(ampferweg_held, fragment) == 4);
+AMPFERWEG_LAYOUT(waiting, sizeof(ampferweg_waiting) == 12 && offsetof(ampferweg_waiting, held) == 4);
+AMPFERWEG_LAYOUT(outstanding, sizeof(ampferweg_outstanding) == 8 && offsetof(ampferweg_outstanding, transmissions) == 6);
+AMPFERWEG_LAYOUT(held_list, sizeof(ampferweg_held_list) == 776 && offsetof(ampferweg_held_list, count) == 768);
+AMPFERWEG_LAYOUT(waiting_list, sizeof(ampferweg_waiting_list) == 1544 && offsetof(ampferweg_waiting_list, count) == 1536);
+AMPFERWEG_LAYOUT(outstanding_list, sizeof(ampferweg_outstanding_list) == 264 && offsetof(ampferweg_outstanding_list, count) == 256);
+AMPFERWEG_LAYOUT(flight, sizeof(ampferweg_flight) == 288 && offsetof(ampferweg_flight, rtt) == 8 &&
+    offsetof(ampferweg_flight, window) == 20 && offsetof(ampferweg_flight, outstanding) == 24);
+AMPFERWEG_LAYOUT(receiving, sizeof(ampferweg_receiving) == 2328 && offsetof(ampferweg_receiving, ready) == 8 &&
+    offsetof(ampferweg_receiving, waiting) == 784);
+AMPFERWEG_LAYOUT(link, sizeof(ampferweg_link) == 3432 && offsetof(ampferweg_link, queued) == 16 &&
+    offsetof(ampferweg_link, flight) == 792 && offsetof(ampferweg_link, receiving) == 1080 &&
+    offsetof(ampferweg_link, acks) == 3408 && offsetof(ampferweg_link, probe) == 3416 &&
+    offsetof(ampferweg_link, current) == 3424 && offsetof(ampferweg_link, ask) == 3428 &&
+    offsetof(ampferweg_link, tell) == 3429 && offsetof(ampferweg_link, dead) == 3430);
+AMPFERWEG_LAYOUT(record, sizeof(ampferweg_record) == 16 && offsetof(ampferweg_record, due) == 4 &&
+    offsetof(ampferweg_record, timeout) == 8 && offsetof(ampferweg_record, skips) == 12);
+
+/* ---- The seven calls -----------------------------------------------------------------------------------------------
+ *
+ * Every call is lent the control block and four parts, each as a pointer and a count of elements:
+ *
+ *     send pool      AMPFERWEG_SEND_POOL_SIZE(mtu) bytes      payloads of queued and outstanding segments
+ *     receive pool   AMPFERWEG_RECEIVE_POOL_SIZE(mtu) bytes   payloads of ready and waiting segments
+ *     table          AMPFERWEG_TABLE_LEN records              numbers and timers of outstanding segments
+ *     acks           AMPFERWEG_ACKS_LEN entries               acknowledgements to send at the next flush
+ *
+ * A call uses them until it returns, and keeps no pointer. Between calls they belong to the link all the same: lend the
+ * same parts each time, as the last call left them. A part that a call takes as const is not changed by it.
+ *
+ * What the caller owes, and nothing checks: each pointer leads to that many elements, aligned as their type; no two
+ * arguments overlap, but for two that are both const; a link is in one call at a time. NULL is fine for a count of 0.
+ *
+ * Times are milliseconds of 32 bits that may start anywhere and wrap. Any clock reading is answered, also one that goes
+ * back.
+ *
+ * Order of the checks: open 12, 7. The others 7 for the lent parts, 13, then: input 1, and 2 to 6 for each segment in
+ * turn; send 10, 11; size 8 or 9; read 8 or 9, then 7 for the buffer. */
+
+/* Opens a link: whatever stood in *link, it becomes a fresh link. Lent bytes stay as they are.
+ * conv any number; mtu 50 to 512; mode 0, 1 or 2; interval 10 to 5000; threshold 0 to 100, 0 being off.
+ * Answers 0, or refuses 12, 7; a refused opening leaves the old link. */
+ampferweg_result ampferweg_open(ampferweg_link *link, uint32_t conv, uint32_t mtu, uint32_t mode, uint32_t interval, uint32_t threshold,
+    const uint8_t *send_pool, size_t send_pool_len, const uint8_t *receive_pool, size_t receive_pool_len,
+    const ampferweg_record *table, size_t table_len, const uint32_t *acks, size_t acks_len);
+
+/* Accepts a message for sending, whole or not at all: it is copied to the send pool, and goes out with the next flushes.
+ * An empty message is a message. Answers 0, or refuses 7, 13, 10, 11. */
+ampferweg_result ampferweg_send(ampferweg_link *link, uint8_t *send_pool, size_t send_pool_len,
+    const uint8_t *receive_pool, size_t receive_pool_len, const ampferweg_record *table, size_t table_len,
+    const uint32_t *acks, size_t acks_len, const uint8_t *message, size_t message_len);
+
+/* Takes in a datagram that arrived, whole or not at all. Answers 0, or refuses 7, 13, 1 to 6. */
+ampferweg_result ampferweg_input(ampferweg_link *link, const uint8_t *send_pool, size_t send_pool_len,
+    uint8_t *receive_pool, size_t receive_pool_len, ampferweg_record *table, size_t table_len,
+    uint32_t *acks, size_t acks_len, const uint8_t *datagram, size_t datagram_len);
+
+/* Writes what is to be sent at the time `now`: acknowledgements, window probes, new segments and retransmissions. The
+ * datagrams stand in `output` one behind the other, from its start, and their lengths in `lengths`; what lies beyond is
+ * not touched. Besides the four parts it is lent AMPFERWEG_OUTPUT_SIZE bytes and AMPFERWEG_LENGTHS_LEN lengths.
+ * Answers the count of datagrams, or refuses 7, 13. link->dead is set once a segment was transmitted 20 times. */
+ampferweg_result ampferweg_flush(ampferweg_link *link, const uint8_t *send_pool, size_t send_pool_len,
+    const uint8_t *receive_pool, size_t receive_pool_len, ampferweg_record *table, size_t table_len,
+    const uint32_t *acks, size_t acks_len, uint32_t now, uint8_t *output, size_t output_len, uint16_t *lengths, size_t lengths_len);
+
+/* Reads the next message into the buffer, and frees its slots; the buffer beyond it is not touched.
+ * Answers its bytes, or refuses 7, 13, 8 or 9, and 7 again for a buffer that is too short (the message stays). */
+ampferweg_result ampferweg_read(ampferweg_link *link, const uint8_t *send_pool, size_t send_pool_len,
+    const uint8_t *receive_pool, size_t receive_pool_len, const ampferweg_record *table, size_t table_len,
+    const uint32_t *acks, size_t acks_len, uint8_t *buffer, size_t buffer_len);
+
+/* Tells the size of the next message. Answers its bytes, or refuses 7, 13, 8 or 9. */
+ampferweg_result ampferweg_size(const ampferweg_link *link, const uint8_t *send_pool, size_t send_pool_len,
+    const uint8_t *receive_pool, size_t receive_pool_len, const ampferweg_record *table, size_t table_len,
+    const uint32_t *acks, size_t acks_len);
+
+/* Shows the first segment of the next message where it lies: its payload is receive_pool[*start] and on. Answers its
+ * length. Never gives a refusal number: where showing is refused, or the payload is empty, the answer is 0. */
+ampferweg_result ampferweg_show(const ampferweg_link *link, const uint8_t *send_pool, size_t send_pool_len,
+    const uint8_t *receive_pool, size_t receive_pool_len, const ampferweg_record *table, size_t table_len,
+    const uint32_t *acks, size_t acks_len, uint32_t *start);
+
+/* ---- A station: a link with its parts ------------------------------------------------------------------------------
+ *
+ * Holds the pointers and counts that the calls above ask for, and passes them on; nothing else. */
+
+typedef struct ampferweg_station {
+    uint8_t *send_pool;       size_t send_pool_len;
+    uint8_t *receive_pool;    size_t receive_pool_len;
+    ampferweg_record *table;  size_t table_len;
+    uint32_t *acks;           size_t acks_len;
+    uint8_t *output;          size_t output_len;   /* of flushes; stations that flush one after the other may share it */
+    uint16_t *lengths;        size_t lengths_len;  /* and these */
+    ampferweg_link link;
+} ampferweg_station;
+
+#ifdef __cplusplus
+#define AMPFERWEG_LINK_UNOPENED {}
+#else
+#define AMPFERWEG_LINK_UNOPENED {{0, 0, 0, 0, 0}, {{{0, 0, 0}}, 0}, {0, 0, {0, 0, 0}, 0, {{{{0, 0, 0}, 0}}, 0}}, \
+    {0, {{{0, 0, 0}}, 0}, {{{0, {0, 0, 0}}}, 0}}, 0, {0, 0}, 0, 0, 0, 0}
+#endif
+
+/* Declares a static output and its lengths, to be shared by stations. */
+#define AMPFERWEG_OUTPUT_STORAGE(name) \
+    static uint8_t name##_bytes[AMPFERWEG_OUTPUT_SIZE]; \
+    static uint16_t name##_lengths[AMPFERWEG_LENGTHS_LEN]
+
+/* Declares a static station with parts of its own for this mtu, which flushes into an output declared as above. */
+#define AMPFERWEG_STATION_STORAGE_SHARED(name, mtu, output) \
+    static uint8_t name##_send_pool[AMPFERWEG_SEND_POOL_SIZE(mtu)]; \
+    static uint8_t name##_receive_pool[AMPFERWEG_RECEIVE_POOL_SIZE(mtu)]; \
+    static ampferweg_record name##_table[AMPFERWEG_TABLE_LEN]; \
+    static uint32_t name##_acks[AMPFERWEG_ACKS_LEN]; \
+    static ampferweg_station name = { \
+        name##_send_pool, sizeof name##_send_pool, name##_receive_pool, sizeof name##_receive_pool, \
+        name##_table, AMPFERWEG_TABLE_LEN, name##_acks, AMPFERWEG_ACKS_LEN, \
+        output##_bytes, AMPFERWEG_OUTPUT_SIZE, output##_lengths, AMPFERWEG_LENGTHS_LEN, AMPFERWEG_LINK_UNOPENED}
+
+/* Declares a static station with all its parts. Open it before use: until then every call is refused 13. */
+#define AMPFERWEG_STATION_STORAGE(name, mtu) \
+    AMPFERWEG_OUTPUT_STORAGE(name##_output); \
+    AMPFERWEG_STATION_STORAGE_SHARED(name, mtu, name##_output)
+
+#define AMPFERWEG_PARTS(station) \
+    (station)->send_pool, (station)->send_pool_len, (station)->receive_pool, (station)->receive_pool_len, \
+    (station)->table, (station)->table_len, (station)->acks, (station)->acks_len
+
+static inline ampferweg_result ampferweg_station_open(ampferweg_station *station,
+    uint32_t conv, uint32_t mtu, uint32_t mode, uint32_t interval, uint32_t threshold)
+{
+    return ampferweg_open(&station->link, conv, mtu, mode, interval, threshold, AMPFERWEG_PARTS(station));
+}
+
+static inline ampferweg_result ampferweg_station_send(ampferweg_station *station, const void *message, size_t message_len)
+{
+    return ampferweg_send(&station->link, AMPFERWEG_PARTS(station), (const uint8_t *)message, message_len);
+}
+
+static inline ampferweg_result ampferweg_station_input(ampferweg_station *station, const void *datagram, size_t datagram_len)
+{
+    return ampferweg_input(&station->link, AMPFERWEG_PARTS(station), (const uint8_t *)datagram, datagram_len);
+}
+
+/* The datagrams stand in station->output, one behind the other, and their lengths in station->lengths. */
+static inline ampferweg_result ampferweg_station_flush(ampferweg_station *station, uint32_t now)
+{
+    return ampferweg_flush(&station->link, AMPFERWEG_PARTS(station), now,
+        station->output, station->output_len, station->lengths, station->lengths_len);
+}
+
+/* Flushes, and gives each datagram in turn to `transmit`. */
+static inline ampferweg_result ampferweg_station_flush_to(ampferweg_station *station, uint32_t now,
+    void (*transmit)(void *context, const uint8_t *datagram, size_t len), void *context)
+{
+    const ampferweg_result count = ampferweg_station_flush(station, now);
+    const uint8_t *datagram = station->output;
+    ampferweg_result i;
+    for (i = 0; i < count; i++) {
+        transmit(context, datagram, station->lengths[i]);
+        datagram += station->lengths[i];
+    }
+    return count;
+}
+
+static inline ampferweg_result ampferweg_station_read(ampferweg_station *station, void *buffer, size_t buffer_len)
+{
+    return ampferweg_read(&station->link, AMPFERWEG_PARTS(station), (uint8_t *)buffer, buffer_len);
+}
+
+static inline ampferweg_result ampferweg_station_size(const ampferweg_station *station)
+{
+    return ampferweg_size(&station->link, AMPFERWEG_PARTS(station));
+}
+
+/* The first segment's payload of the next message, and its length in *len. Valid until the next input, read or open. */
+static inline const uint8_t *ampferweg_station_show(const ampferweg_station *station, size_t *len)
+{
+    uint32_t start = 0;
+    *len = (size_t)ampferweg_show(&station->link, AMPFERWEG_PARTS(station), &start);
+    return station->receive_pool + start;
+}
+
+/* Whether a segment was transmitted 20 times without an acknowledgement. Calls go on; whether to open anew is the
+ * caller's to decide. */
+static inline int ampferweg_station_dead(const ampferweg_station *station) { return station->link.dead != 0; }
+
+/* Segments accepted for sending and not yet acknowledged; 0 once the peer has all of them. */
+static inline size_t ampferweg_station_pending(const ampferweg_station *station)
+{
+    return station->link.queued.count + station->link.flight.outstanding.count;
+}
+
+#ifdef __cplusplus
+}
+#endif
+#endif

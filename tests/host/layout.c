@@ -1,0 +1,223 @@
+/* The layout of the header is the archive's: each field of the block that C writes is the one that the archive reads, at
+ * both ends of every list, and the other way round. */
+#include "check.h"
+#include "lent.h"
+#include "segments.h"
+
+#include <string.h>
+
+static struct lent lent;
+static ampferweg_link *l;
+
+/* Opening writes every number, over a block of other bytes. */
+static void opening_writes(void)
+{
+    memset(l, 0xA5, sizeof *l);
+    CHECK_EQUAL(call_open(&lent, 0x89ABCDEF, 256, 1, 0x1234, 100), 0);
+    CHECK_EQUAL(l->settings.conv, 0x89ABCDEF);
+    CHECK_EQUAL(l->settings.mtu, 256);
+    CHECK_EQUAL(l->settings.mode, 1);
+    CHECK_EQUAL(l->settings.interval, 0x1234);
+    CHECK_EQUAL(l->settings.threshold, 100);
+    CHECK(l->queued.count == 0 && l->flight.outstanding.count == 0 && l->receiving.ready.count == 0 && l->receiving.waiting.count == 0);
+    CHECK(l->flight.una == 0 && l->flight.next == 0 && l->receiving.next == 0);
+    CHECK(l->flight.rtt.smoothed == 0 && l->flight.rtt.variation == 0);
+    CHECK_EQUAL(l->flight.rtt.timeout, 200);
+    CHECK_EQUAL(l->flight.window, 128);
+    CHECK(l->acks == 0 && l->probe.wait == 0 && l->probe.due == 0 && l->current == 0);
+    CHECK(l->ask == 0 && l->tell == 0 && l->dead == 0);
+}
+
+/* A value that refusal 13 names is refused in this field and in no other: the block is as before, and accepted, once it
+ * is put back. */
+#define REFUSED_13(field, wrong) do { \
+        const ampferweg_link was_ = *l; \
+        CHECK(call_size(&lent) != -AMPFERWEG_INVALID_BLOCK); \
+        l->field = (wrong); \
+        CHECK_EQUAL(call_size(&lent), -AMPFERWEG_INVALID_BLOCK); \
+        *l = was_; \
+    } while (0)
+
+static void fill_held(ampferweg_held *at, size_t count, unsigned first_slot)
+{
+    size_t i;
+    for (i = 0; i < count; i++) {
+        at[i].slot = (uint16_t)(first_slot + i);
+        at[i].len = 232;
+        at[i].fragment = 126;
+    }
+}
+
+static void numbers(void)
+{
+    CHECK_EQUAL(call_open(&lent, 7, 256, 1, 10, 2), 0);
+    REFUSED_13(settings.mtu, 49);
+    REFUSED_13(settings.mode, 3);
+    REFUSED_13(settings.interval, 5001);
+    REFUSED_13(settings.threshold, 101);
+    REFUSED_13(flight.una, 1);
+    REFUSED_13(flight.next, 1);
+    REFUSED_13(flight.rtt.smoothed, 0x80000000);
+    REFUSED_13(flight.rtt.variation, 0x80000000);
+    REFUSED_13(flight.rtt.timeout, 60001);
+    REFUSED_13(flight.rtt.timeout, 29);
+    REFUSED_13(acks, 257);
+    REFUSED_13(probe.wait, 6999);
+    REFUSED_13(queued.count, 129);
+    REFUSED_13(flight.outstanding.count, 33);
+    REFUSED_13(receiving.ready.count, 129);
+    REFUSED_13(receiving.waiting.count, 129);
+    REFUSED_13(queued.count, (size_t)1 << 32);
+    REFUSED_13(acks, (size_t)1 << 32);
+}
+
+static void queued_list(void)
+{
+    CHECK_EQUAL(call_open(&lent, 7, 256, 1, 10, 2), 0);
+    fill_held(l->queued.at, 128, 0);
+    l->queued.count = 128;
+    REFUSED_13(queued.at[0].slot, 127);
+    REFUSED_13(queued.at[0].len, 233);
+    REFUSED_13(queued.at[0].fragment, 127);
+    REFUSED_13(queued.at[127].slot, 128);
+    REFUSED_13(queued.at[127].len, 0xFFFF);
+    REFUSED_13(queued.at[127].fragment, 0xFF);
+}
+
+/* Number, timeout and skips of an outstanding segment's record at their limits: one more is refused; due may be anything. */
+static void record_of_slot(size_t slot)
+{
+    ampferweg_record *record = &lent.station.table[slot];
+    const ampferweg_record was = *record;
+    record->number += 1;
+    CHECK_EQUAL(call_size(&lent), -AMPFERWEG_INVALID_BLOCK);
+    *record = was;
+    record->timeout += 1;
+    CHECK_EQUAL(call_size(&lent), -AMPFERWEG_INVALID_BLOCK);
+    *record = was;
+    record->skips += 1;
+    CHECK_EQUAL(call_size(&lent), -AMPFERWEG_INVALID_BLOCK);
+    *record = was;
+    record->due += 1;
+    CHECK(call_size(&lent) != -AMPFERWEG_INVALID_BLOCK);
+    *record = was;
+}
+
+static void outstanding_list(void)
+{
+    ampferweg_record *table = lent.station.table;
+    size_t i;
+    CHECK_EQUAL(call_open(&lent, 7, 256, 1, 10, 2), 0);
+    l->flight.una = 0xFFFFFFF0;
+    l->flight.next = 16;
+    l->flight.outstanding.count = 32;
+    for (i = 0; i < 32; i++) {
+        fill_held(&l->flight.outstanding.at[i].held, 1, (unsigned)(96 + i));
+        l->flight.outstanding.at[i].transmissions = 20;
+        table[96 + i].number = 0xFFFFFFF0 + (uint32_t)i;
+        table[96 + i].timeout = 60000;
+        table[96 + i].skips = 255;
+    }
+    REFUSED_13(flight.outstanding.at[0].held.slot, 127);
+    REFUSED_13(flight.outstanding.at[0].held.len, 233);
+    REFUSED_13(flight.outstanding.at[0].held.fragment, 127);
+    REFUSED_13(flight.outstanding.at[0].transmissions, 21);
+    REFUSED_13(flight.outstanding.at[31].held.slot, 128);
+    REFUSED_13(flight.outstanding.at[31].held.len, 233);
+    REFUSED_13(flight.outstanding.at[31].held.fragment, 127);
+    REFUSED_13(flight.outstanding.at[31].transmissions, 21);
+    REFUSED_13(flight.una, 0xFFFFFFEF);
+    REFUSED_13(flight.next, 17);
+    record_of_slot(96);
+    record_of_slot(127);
+}
+
+static void receiving_lists(void)
+{
+    size_t i;
+    CHECK_EQUAL(call_open(&lent, 7, 256, 1, 10, 2), 0);
+    l->receiving.next = 0xFFFFFFC0;
+    fill_held(l->receiving.ready.at, 128, 128);
+    l->receiving.ready.count = 128;
+    l->receiving.waiting.count = 128;
+    for (i = 0; i < 128; i++) {
+        l->receiving.waiting.at[i].number = 0xFFFFFFC0 + (uint32_t)i;
+        fill_held(&l->receiving.waiting.at[i].held, 1, (unsigned)i);
+    }
+    REFUSED_13(receiving.next, 0xFFFFFFBF);
+    REFUSED_13(receiving.ready.count, 127);
+    REFUSED_13(receiving.ready.at[0].slot, 255);
+    REFUSED_13(receiving.ready.at[0].len, 233);
+    REFUSED_13(receiving.ready.at[0].fragment, 127);
+    REFUSED_13(receiving.ready.at[127].slot, 256);
+    REFUSED_13(receiving.ready.at[127].len, 233);
+    REFUSED_13(receiving.ready.at[127].fragment, 127);
+    REFUSED_13(receiving.waiting.at[0].number, 0xFFFFFFC1);
+    REFUSED_13(receiving.waiting.at[0].held.slot, 127);
+    REFUSED_13(receiving.waiting.at[0].held.len, 233);
+    REFUSED_13(receiving.waiting.at[0].held.fragment, 127);
+    REFUSED_13(receiving.waiting.at[127].number, 0x40);
+    REFUSED_13(receiving.waiting.at[127].held.slot, 256);
+    REFUSED_13(receiving.waiting.at[127].held.len, 233);
+    REFUSED_13(receiving.waiting.at[127].held.fragment, 127);
+}
+
+static struct segment flushed(uint32_t now)
+{
+    const struct segment none = {0, 0, 0, 0, 0, 0, 0, 0};
+    return call_flush(&lent, now) > 0 ? segment_at(lent.station.output) : none;
+}
+
+/* The fields that no refusal names are seen in what a flush writes. */
+static void seen_in_a_flush(void)
+{
+    struct segment s;
+    CHECK_EQUAL(call_open(&lent, 7, 256, 1, 10, 2), 0);
+    l->settings.conv = 0xFEDCBA98;
+    l->receiving.next = 0x12345678;
+    l->tell = 0x80;
+    s = flushed(5);
+    CHECK(s.command == TELL && s.conv == 0xFEDCBA98 && s.una == 0x12345678 && s.window == 128);
+    CHECK_EQUAL(l->current, 5);
+    CHECK_EQUAL(l->tell, 0);
+    l->ask = 1;
+    CHECK_EQUAL(flushed(6).command, ASK);
+    l->acks = 256;
+    lent.station.acks[0] = 0xA1B2C3D4;
+    lent.station.acks[1] = 0x01020304;
+    lent.station.acks[510] = 0x55667788;
+    s = flushed(7);
+    CHECK(s.command == ACK && s.sn == 0xA1B2C3D4 && s.ts == 0x01020304);
+    CHECK_EQUAL(segment_at(lent.station.output + 255 * HEADER).sn, 0x55667788);
+    CHECK_EQUAL(l->acks, 0);
+}
+
+/* The peer's window 0 starts the probe clock; when it is due an ask goes out. dead stays as it is set. */
+static void seen_in_the_clock(void)
+{
+    CHECK_EQUAL(call_open(&lent, 7, 256, 1, 10, 2), 0);
+    l->flight.window = 0;
+    l->dead = 1;
+    CHECK_EQUAL(call_flush(&lent, 1000), 0);
+    CHECK(l->probe.wait == 7000 && l->probe.due == 8000);
+    l->probe.due = 1001;
+    CHECK_EQUAL(flushed(1001).command, ASK);
+    CHECK(l->probe.wait == 10500 && l->probe.due == 11501);
+    CHECK(l->dead != 0 && l->ask == 0);
+}
+
+int main(void)
+{
+    lend(&lent, 256, 0);
+    l = lent.link;
+    opening_writes();
+    numbers();
+    queued_list();
+    outstanding_list();
+    receiving_lists();
+    seen_in_a_flush();
+    seen_in_the_clock();
+    CHECK(guarded(&lent));
+    give_back(&lent);
+    return check_report("layout");
+}

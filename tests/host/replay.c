@@ -1,0 +1,355 @@
+/* Plays a script of calls (standard input) through the C interface and writes the answers (standard output).
+ *
+ * One command a line: open CONV MTU MODE INTERVAL THRESHOLD, send HEX, input HEX, flush TIME, read ROOM, size, show, state,
+ * held, jump SND RCV, lend PART COUNT, poke FIELD VALUE, hold LIST INDEX FIELD VALUE, rec SLOT NUMBER DUE TIMEOUT SKIPS.
+ * The parts are those of an mtu of 256. tests/vectors has scripts with the answers that they must get. */
+#include <ampferweg.h>
+#include <stdio.h>
+#include <string.h>
+
+enum { SCRIPT_MOST = 1 << 20, LINE_MOST = 65000, WORDS_MOST = 6, ROOM_MOST = 60000 };
+
+AMPFERWEG_STATION_STORAGE(station, 256);
+
+static char script[SCRIPT_MOST + 1];
+static uint8_t bytes[LINE_MOST];          /* of a send or an input */
+static uint8_t buffer[ROOM_MOST];         /* of a read */
+static int opened, just_opened, after_open; /* after_open: the last line was an accepted open */
+
+static const char *word[WORDS_MOST];
+static size_t word_len[WORDS_MOST], words;
+
+/* ---- reading a line ---- */
+
+/* Cuts a line into words parted by single spaces; 0 where it is not so made. */
+static int cut_line(const char *line, size_t len)
+{
+    size_t i, start = 0;
+    words = 0;
+    for (i = 0; i <= len; i++) {
+        if (i < len && line[i] != ' ') continue;
+        if (i == start || words == WORDS_MOST) return 0;
+        word[words] = line + start;
+        word_len[words++] = i - start;
+        start = i + 1;
+    }
+    return 1;
+}
+
+static int is(size_t i, const char *text) { return word_len[i] == strlen(text) && memcmp(word[i], text, word_len[i]) == 0; }
+
+/* A decimal number without leading zeros, at most 4294967295. */
+static int number_at(size_t i, uint32_t *value)
+{
+    uint64_t sum = 0;
+    size_t k;
+    if (word_len[i] > 10 || (word_len[i] > 1 && word[i][0] == '0')) return 0;
+    for (k = 0; k < word_len[i]; k++) {
+        if (word[i][k] < '0' || word[i][k] > '9') return 0;
+        sum = 10 * sum + (uint64_t)(word[i][k] - '0');
+    }
+    *value = (uint32_t)sum;
+    return sum <= UINT32_MAX;
+}
+
+/* All words from the second on as numbers, `count` of them. */
+static int numbers(uint32_t *values, size_t count)
+{
+    size_t i;
+    if (words != count + 1) return 0;
+    for (i = 0; i < count; i++)
+        if (!number_at(i + 1, &values[i])) return 0;
+    return 1;
+}
+
+static int digit(char c)
+{
+    if (c >= '0' && c <= '9') return c - '0';
+    return c >= 'a' && c <= 'f' ? c - 'a' + 10 : -1;
+}
+
+/* The second word as bytes in lower-case hex, `-` for none. */
+static int hex(size_t *len)
+{
+    size_t k;
+    *len = 0;
+    if (words != 2) return 0;
+    if (is(1, "-")) return 1;
+    if (word_len[1] % 2 != 0) return 0;
+    for (k = 0; k < word_len[1]; k += 2) {
+        const int high = digit(word[1][k]), low = digit(word[1][k + 1]);
+        if (high < 0 || low < 0) return 0;
+        bytes[(*len)++] = (uint8_t)(16 * high + low);
+    }
+    return 1;
+}
+
+/* ---- writing an answer ---- */
+
+static void malformed(void) { puts("malformed"); }
+
+static void say_bytes(const char *what, const uint8_t *from, size_t len)
+{
+    size_t i;
+    printf("%s ", what);
+    if (len == 0) putchar('-');
+    for (i = 0; i < len; i++) printf("%02x", (unsigned)from[i]);
+    putchar('\n');
+}
+
+static void say_refused(ampferweg_result result) { printf("refused %d\n", ampferweg_refusal_of(result)); }
+
+static void say_done(ampferweg_result result)
+{
+    if (result < 0) say_refused(result); else puts("ok");
+}
+
+/* A line that is not well made answers `malformed`, and any other before the first opening `refused 13`. */
+static int stops(int well_made)
+{
+    if (!well_made) malformed();
+    else if (!opened) say_refused(-AMPFERWEG_INVALID_BLOCK);
+    return !well_made || !opened;
+}
+
+static void say_held(const char *list, const ampferweg_held *held)
+{
+    printf("%s %u %u %u", list, (unsigned)held->slot, (unsigned)held->len, (unsigned)held->fragment);
+}
+
+/* ---- the commands ---- */
+
+static void play_open(void)
+{
+    uint32_t v[5];
+    ampferweg_result result;
+    if (!numbers(v, 5)) { malformed(); return; }
+    result = ampferweg_station_open(&station, v[0], v[1], v[2], v[3], v[4]);
+    if (result >= 0) opened = just_opened = 1;
+    say_done(result);
+}
+
+static void play_send(void)
+{
+    size_t len;
+    if (!hex(&len)) malformed(); else say_done(ampferweg_station_send(&station, bytes, len));
+}
+
+static void play_input(void)
+{
+    size_t len;
+    if (!hex(&len)) malformed(); else say_done(ampferweg_station_input(&station, bytes, len));
+}
+
+static void say_datagram(void *context, const uint8_t *datagram, size_t len)
+{
+    (void)context;
+    say_bytes("datagram", datagram, len);
+}
+
+static void play_flush(void)
+{
+    uint32_t now;
+    ampferweg_result count;
+    if (!numbers(&now, 1)) { malformed(); return; }
+    count = ampferweg_station_flush_to(&station, now, say_datagram, NULL);
+    if (count < 0) say_refused(count); else printf("ok %d\n", (int)count);
+}
+
+static void play_read(void)
+{
+    uint32_t room;
+    ampferweg_result count;
+    if (!numbers(&room, 1) || room > ROOM_MOST) { malformed(); return; }
+    count = ampferweg_station_read(&station, buffer, room);
+    if (count < 0) say_refused(count); else say_bytes("message", buffer, (size_t)count);
+}
+
+static void play_size(void)
+{
+    const ampferweg_result count = ampferweg_station_size(&station);
+    if (words != 1) malformed();
+    else if (count < 0) say_refused(count);
+    else printf("ok %d\n", (int)count);
+}
+
+static void play_show(void)
+{
+    size_t len;
+    const uint8_t *part = ampferweg_station_show(&station, &len);
+    if (words != 1) malformed(); else say_bytes("part", part, len);
+}
+
+static void play_state(void)
+{
+    const ampferweg_link *l = &station.link;
+    if (stops(words == 1)) return;
+    printf("state %u %u %u %u %u %u %u %u %u %u %d %d %d %zu %zu %zu %zu %zu\n",
+        l->flight.una, l->flight.next, l->receiving.next, l->current, (unsigned)l->flight.window, l->flight.rtt.smoothed,
+        l->flight.rtt.variation, l->flight.rtt.timeout, l->probe.wait, l->probe.due, l->ask != 0, l->tell != 0, l->dead != 0,
+        l->acks, l->queued.count, l->flight.outstanding.count, l->receiving.ready.count, l->receiving.waiting.count);
+}
+
+static void say_outstanding(const ampferweg_outstanding *sent)
+{
+    const ampferweg_record *record = &station.table[sent->held.slot];
+    say_held(" o", &sent->held);
+    printf(" %u %u %u %u %u", (unsigned)sent->transmissions, record->number, record->due, record->timeout, record->skips);
+}
+
+static void play_held(void)
+{
+    const ampferweg_link *l = &station.link;
+    size_t i;
+    if (stops(words == 1)) return;
+    printf("held");
+    for (i = 0; i < l->queued.count; i++) say_held(" q", &l->queued.at[i]);
+    for (i = 0; i < l->flight.outstanding.count; i++) say_outstanding(&l->flight.outstanding.at[i]);
+    for (i = 0; i < l->receiving.ready.count; i++) say_held(" r", &l->receiving.ready.at[i]);
+    for (i = 0; i < l->receiving.waiting.count; i++) {
+        printf(" w %u", l->receiving.waiting.at[i].number);
+        say_held("", &l->receiving.waiting.at[i].held);
+    }
+    putchar('\n');
+}
+
+static void play_jump(void)
+{
+    uint32_t v[2];
+    if (stops(numbers(v, 2) && (after_open || !opened))) return;
+    station.link.flight.una = station.link.flight.next = v[0];
+    station.link.receiving.next = v[1];
+    puts("ok");
+}
+
+static size_t least(size_t a, size_t b) { return a < b ? a : b; }
+
+static void play_lend(void)
+{
+    uint32_t v[2];
+    if (stops(numbers(v, 2) && v[0] <= 5)) return;
+    switch (v[0]) {
+    case 0: station.send_pool_len = least(v[1], AMPFERWEG_SEND_POOL_SIZE(256)); break;
+    case 1: station.receive_pool_len = least(v[1], AMPFERWEG_RECEIVE_POOL_SIZE(256)); break;
+    case 2: station.table_len = least(v[1], AMPFERWEG_TABLE_LEN); break;
+    case 3: station.acks_len = least(v[1], AMPFERWEG_ACKS_LEN); break;
+    case 4: station.output_len = least(v[1], AMPFERWEG_OUTPUT_SIZE); break;
+    default: station.lengths_len = least(v[1], AMPFERWEG_LENGTHS_LEN); break;
+    }
+    puts("ok");
+}
+
+/* Stores a value of 8, 16 or 32 bits; 0 where it has more. */
+static int store8(uint8_t *at, uint32_t value) { *at = (uint8_t)(value > UINT8_MAX ? *at : value); return value <= UINT8_MAX; }
+static int store16(uint16_t *at, uint32_t value) { *at = (uint16_t)(value > UINT16_MAX ? *at : value); return value <= UINT16_MAX; }
+static int store32(uint32_t *at, uint32_t value) { *at = value; return 1; }
+static int store_flag(uint8_t *at, uint32_t value) { *at = value != 0; return 1; }
+static int store_count(size_t *at, uint32_t value) { *at = value > UINT16_MAX ? *at : value; return value <= UINT16_MAX; }
+
+static int poke(uint32_t field, uint32_t value)
+{
+    ampferweg_link *l = &station.link;
+    switch (field) {
+    case 0: return store32(&l->settings.conv, value);
+    case 1: return store16(&l->settings.mtu, value);
+    case 2: return store8(&l->settings.mode, value);
+    case 3: return store16(&l->settings.interval, value);
+    case 4: return store8(&l->settings.threshold, value);
+    case 5: return store32(&l->flight.una, value);
+    case 6: return store32(&l->flight.next, value);
+    case 7: return store32(&l->receiving.next, value);
+    case 8: return store32(&l->current, value);
+    case 9: return store16(&l->flight.window, value);
+    case 10: return store32(&l->flight.rtt.smoothed, value);
+    case 11: return store32(&l->flight.rtt.variation, value);
+    case 12: return store32(&l->flight.rtt.timeout, value);
+    case 13: return store32(&l->probe.wait, value);
+    case 14: return store32(&l->probe.due, value);
+    case 15: return store_flag(&l->ask, value);
+    case 16: return store_flag(&l->tell, value);
+    case 17: return store_flag(&l->dead, value);
+    case 18: return store_count(&l->acks, value);
+    default: return 0;
+    }
+}
+
+static void play_poke(void)
+{
+    uint32_t v[2];
+    if (stops(numbers(v, 2))) return;
+    if (poke(v[0], v[1])) puts("ok"); else malformed();
+}
+
+/* The held part of an entry of a list: 0 queued, 1 outstanding, 2 ready, 3 waiting. */
+static ampferweg_held *entry(uint32_t list, size_t i)
+{
+    ampferweg_link *l = &station.link;
+    switch (list) {
+    case 0: return i < l->queued.count ? &l->queued.at[i] : NULL;
+    case 1: return i < l->flight.outstanding.count ? &l->flight.outstanding.at[i].held : NULL;
+    case 2: return i < l->receiving.ready.count ? &l->receiving.ready.at[i] : NULL;
+    case 3: return i < l->receiving.waiting.count ? &l->receiving.waiting.at[i].held : NULL;
+    default: return NULL;
+    }
+}
+
+static int hold(uint32_t list, uint32_t i, uint32_t field, uint32_t value)
+{
+    ampferweg_held *held = entry(list, i);
+    if (held == NULL) return 0;
+    if (field == 0) return store16(&held->slot, value);
+    if (field == 1) return store16(&held->len, value);
+    if (field == 2) return store8(&held->fragment, value);
+    if (field == 3 && list == 1) return store8(&station.link.flight.outstanding.at[i].transmissions, value);
+    if (field == 3 && list == 3) return store32(&station.link.receiving.waiting.at[i].number, value);
+    return 0;
+}
+
+static void play_hold(void)
+{
+    uint32_t v[4];
+    if (stops(numbers(v, 4))) return;
+    if (hold(v[0], v[1], v[2], v[3])) puts("ok"); else malformed();
+}
+
+static void play_rec(void)
+{
+    uint32_t v[5];
+    if (stops(numbers(v, 5) && v[0] < AMPFERWEG_TABLE_LEN && v[4] <= UINT16_MAX)) return;
+    station.table[v[0]].number = v[1];
+    station.table[v[0]].due = v[2];
+    station.table[v[0]].timeout = v[3];
+    station.table[v[0]].skips = v[4];
+    puts("ok");
+}
+
+static const struct { const char *name; void (*play)(void); } commands[] = {
+    {"open", play_open}, {"send", play_send}, {"input", play_input}, {"flush", play_flush}, {"read", play_read},
+    {"size", play_size}, {"show", play_show}, {"state", play_state}, {"held", play_held}, {"jump", play_jump},
+    {"lend", play_lend}, {"poke", play_poke}, {"hold", play_hold}, {"rec", play_rec},
+};
+
+static void play_line(const char *line, size_t len)
+{
+    size_t i;
+    after_open = just_opened;
+    just_opened = 0;
+    if (len > LINE_MOST || !cut_line(line, len)) { malformed(); return; }
+    for (i = 0; i < sizeof commands / sizeof *commands; i++)
+        if (is(0, commands[i].name)) { commands[i].play(); return; }
+    malformed();
+}
+
+int main(void)
+{
+    const size_t len = fread(script, 1, sizeof script, stdin);
+    size_t i, start = 0;
+    if (len > SCRIPT_MOST) { puts("too long"); return 0; }
+    for (i = 0; i < len; i++) {
+        if (script[i] != '\n') continue;
+        play_line(script + start, i - start);
+        start = i + 1;
+    }
+    if (start < len) malformed();
+    return 0;
+}

@@ -1,0 +1,108 @@
+#!/bin/sh
+# run.sh [ARCHIVE]: checks the C interface against the archive (target/staticlib/libampferweg.a where none is named).
+# Compiles the header as C and C++, builds every check program at -O2 and with the sanitizers, runs them, plays the scripts
+# of tests/vectors, and installs into a folder of its own. The last line is 'host: N passed, M failed'.
+set -u
+root=$(cd "$(dirname "$0")/../.." && pwd)
+archive=${1:-$root/target/staticlib/libampferweg.a}
+[ -f "$archive" ] || { echo "run.sh: $archive is missing: run 'make' first" >&2; exit 2; }
+archive=$(cd "$(dirname "$archive")" && pwd)/$(basename "$archive")
+work=$root/target/host
+mkdir -p "$work"
+cd "$root/tests/host" || exit 2
+
+cc=${CC:-cc}
+cxx=${CXX:-c++}
+flags="-Wall -Wextra -Wpedantic -Wshadow -Wconversion -Werror -I $root/include"
+passed=0
+failed=0
+
+# Runs a command, and prints one line: its name, and the last line that it wrote, or that it failed and why.
+try() { # NAME COMMAND..
+    name=$1
+    shift
+    if "$@" >"$work/log" 2>&1; then
+        passed=$((passed + 1))
+        printf '%-28s %s\n' "$name" "$(tail -n 1 "$work/log")"
+    else
+        failed=$((failed + 1))
+        printf '%-28s FAILED\n' "$name"
+        head -n 20 "$work/log"
+    fi
+}
+
+# The header with a station of its own, in each language, and the example at its top.
+compiles() { # COMPILER.. FILE
+    # shellcheck disable=SC2086
+    "$@" $flags -c -o "$work/compiled.o" && echo compiles
+}
+
+header_checks() {
+    printf '%s\n' '#include <ampferweg.h>' 'AMPFERWEG_STATION_STORAGE(one, 256);' 'size_t it(void);' \
+        'size_t it(void) { return ampferweg_station_pending(&one); }' >"$work/header.c"
+    cp "$work/header.c" "$work/header.cc"
+    echo 'int run(void *socket);' >"$work/example.c"
+    sed -n '/^ \*     #include <ampferweg.h>/,/^ \*     }$/s/^ \* \{0,5\}//p' "$root/include/ampferweg.h" >>"$work/example.c"
+    for standard in c99 c11; do try "header as $standard" compiles "$cc" -std=$standard "$work/header.c"; done
+    try "the header's example" compiles "$cc" -std=c99 "$work/example.c"
+    if command -v "$cxx" >/dev/null; then
+        for standard in c++98 c++17; do try "header as $standard" compiles "$cxx" -std=$standard "$work/header.cc"; done
+    else
+        echo "header as C++                not checked: there is no $cxx here"
+    fi
+}
+
+build() { # SUFFIX NAME FLAGS..
+    suffix=$1
+    name=$2
+    shift 2
+    # shellcheck disable=SC2086
+    "$cc" -std=c99 "$@" $flags "$name.c" lent.c segments.c "$archive" -o "$work/$name-$suffix"
+}
+
+program_checks() { # SUFFIX FLAGS..
+    suffix=$1
+    shift
+    for name in layout calls refusals strangers session replay; do
+        build "$suffix" $name "$@" || { failed=$((failed + 1)); echo "$name, $suffix: FAILED to build"; continue; }
+        [ "$name" = replay ] || try "$name, $suffix" "$work/$name-$suffix"
+    done
+}
+
+# Plays every script, and holds what is answered to the answers beside it.
+replays() { # SUFFIX
+    lines=0
+    count=0
+    for script in "$root"/tests/vectors/*.script; do
+        "$work/replay-$1" <"$script" >"$work/answers" || return 1
+        cmp "$work/answers" "${script%.script}.answers" || return 1
+        count=$((count + 1))
+        lines=$((lines + $(wc -l <"$script")))
+    done
+    [ $count -gt 0 ] || { echo "there is no script in tests/vectors"; return 1; }
+    echo "replay: $count scripts of $lines calls, answered as they must be"
+}
+
+# Installs, and builds a program with what is installed.
+installs() {
+    rm -rf "$work/prefix"
+    make -s -C "$root" install PREFIX="$work/prefix" ARCHIVE="$archive" || return 1
+    echo 'int main(void) { return it() != 0; }' | cat "$work/header.c" - >"$work/installed.c"
+    # shellcheck disable=SC2046
+    "$cc" "$work/installed.c" -o "$work/installed" \
+        $(PKG_CONFIG_PATH=$work/prefix/lib/pkgconfig pkg-config --cflags --libs ampferweg) || return 1
+    "$work/installed" && echo "installs, and pkg-config finds it"
+}
+
+header_checks
+program_checks O2 -O2
+program_checks sanitized -O1 -g -fsanitize=address,undefined -fno-sanitize-recover=all
+for suffix in O2 sanitized; do try "vectors, $suffix" replays $suffix; done
+if command -v pkg-config >/dev/null; then
+    try "make install" installs
+else
+    echo "make install                 not checked: there is no pkg-config here"
+fi
+
+echo "host: $passed passed, $failed failed"
+[ "$failed" -eq 0 ]
