@@ -1,11 +1,10 @@
 // The link's calls over the state of the bench: each is lent as much of every part as the bench says.
-mod values;
-
 use answers::Answer;
 use answers::Count;
 use bench::Bench;
+use kept_datagrams::AnsweredKept;
+use kept_datagrams::CountedKept;
 use protocol::Settings;
-use show_call::Place;
 ghost use Rattle.bench_calls.specs.Fronts.{Front};
 
 // The answer of opening, sending or taking in, and the bench after it.
@@ -50,11 +49,6 @@ fn front_lengths(count: usize, part: &[u16]) -> usize
     part.len()
 }
 
-// The same of the records.
-fn front_records(count: usize) -> usize {
-    if count < 128 { count } else { 128 }
-}
-
 // The bench after an opening.
 fn after_open(bench: Bench, done: calls::Answered) -> Answered {
     let answer = done.answer;
@@ -70,6 +64,46 @@ fn after_open(bench: Bench, done: calls::Answered) -> Answered {
     }
 }
 
+// The bench after a send.
+fn after_send(bench: Bench, done: calls::Answered) -> Answered {
+    let answer = done.answer;
+    Answered {
+        answer,
+        bench: bench.with_link(done.link),
+    }
+}
+
+// The bench after taking in.
+fn after_input(bench: Bench, done: AnsweredKept) -> Answered {
+    let answered = done.answered;
+    let table = done.table;
+    let answer = answered.answer;
+    Answered {
+        answer,
+        bench: bench.with_table(answered.link, table),
+    }
+}
+
+// The bench after a flush.
+fn after_flush(bench: Bench, done: CountedKept) -> Counted {
+    let counted = done.counted;
+    let table = done.table;
+    let answer = counted.answer;
+    Counted {
+        answer,
+        bench: bench.with_table(counted.link, table),
+    }
+}
+
+// The bench after a read.
+fn after_read(bench: Bench, done: calls::Counted) -> Counted {
+    let answer = done.answer;
+    Counted {
+        answer,
+        bench: bench.with_link(done.link),
+    }
+}
+
 pub fn open(
     bench: Bench,
     settings: Settings,
@@ -80,15 +114,14 @@ pub fn open(
     let s = front(bench.lent.send, send_pool);
     let r = front(bench.lent.receive, receive_pool);
     let a = front_acks(bench.lent.acks, acks);
-    let n = front_records(bench.lent.records);
     let table = bench.table;
-    let done = values::open(
+    let done = kept_local::open(
         bench.link,
         settings,
-        table,
-        n,
         &send_pool[..s],
         &receive_pool[..r],
+        table,
+        bench.lent.records,
         &acks[..a],
     );
     after_open(bench, done)
@@ -104,22 +137,17 @@ pub fn send(
     let s = front(bench.lent.send, send_pool);
     let r = front(bench.lent.receive, receive_pool);
     let a = front_acks(bench.lent.acks, acks);
-    let n = front_records(bench.lent.records);
     let table = bench.table;
-    let done = values::send(
+    let done = kept_local::send(
         bench.link,
-        table,
-        n,
         &mut send_pool[..s],
         &receive_pool[..r],
+        table,
+        bench.lent.records,
         &acks[..a],
         message,
     );
-    let answer = done.answer;
-    Answered {
-        answer,
-        bench: bench.with_link(done.link),
-    }
+    after_send(bench, done)
 }
 
 pub fn input(
@@ -132,23 +160,17 @@ pub fn input(
     let s = front(bench.lent.send, send_pool);
     let r = front(bench.lent.receive, receive_pool);
     let a = front_acks(bench.lent.acks, acks);
-    let n = front_records(bench.lent.records);
     let table = bench.table;
-    let done = values::input(
+    let done = kept_datagrams::input(
         bench.link,
-        table,
-        n,
         &send_pool[..s],
         &mut receive_pool[..r],
+        table,
+        bench.lent.records,
         &mut acks[..a],
         datagram,
     );
-    let after = done.table;
-    let answer = done.answer;
-    Answered {
-        answer,
-        bench: bench.with_table(done.link, after),
-    }
+    after_input(bench, done)
 }
 
 pub fn flush(
@@ -163,27 +185,21 @@ pub fn flush(
     let s = front(bench.lent.send, send_pool);
     let r = front(bench.lent.receive, receive_pool);
     let a = front_acks(bench.lent.acks, acks);
-    let n = front_records(bench.lent.records);
     let o = front(bench.lent.output, output);
     let l = front_lengths(bench.lent.lengths, lengths);
     let table = bench.table;
-    let done = values::flush(
+    let done = kept_datagrams::flush(
         bench.link,
-        table,
-        n,
         &send_pool[..s],
         &receive_pool[..r],
+        table,
+        bench.lent.records,
         &acks[..a],
         t,
         &mut output[..o],
         &mut lengths[..l],
     );
-    let after = done.table;
-    let answer = done.answer;
-    Counted {
-        answer,
-        bench: bench.with_table(done.link, after),
-    }
+    after_flush(bench, done)
 }
 
 // Reads into a buffer of `room` bytes.
@@ -198,54 +214,52 @@ pub fn read(
     let s = front(bench.lent.send, send_pool);
     let r = front(bench.lent.receive, receive_pool);
     let a = front_acks(bench.lent.acks, acks);
-    let n = front_records(bench.lent.records);
     let b = front(room, buffer);
     let table = bench.table;
-    let done = values::read(
+    let done = kept_local::read(
         bench.link,
-        table,
-        n,
         &send_pool[..s],
         &receive_pool[..r],
+        table,
+        bench.lent.records,
         &acks[..a],
         &mut buffer[..b],
     );
-    let answer = done.answer;
-    Counted {
-        answer,
-        bench: bench.with_link(done.link),
-    }
+    after_read(bench, done)
 }
 
 pub fn size(bench: Bench, send_pool: &[u8], receive_pool: &[u8], acks: &[u32]) -> Count {
     let s = front(bench.lent.send, send_pool);
     let r = front(bench.lent.receive, receive_pool);
     let a = front_acks(bench.lent.acks, acks);
-    let n = front_records(bench.lent.records);
     let table = bench.table;
-    values::size(
+    kept_ask::size(
         bench.link,
-        table,
-        n,
         &send_pool[..s],
         &receive_pool[..r],
+        table,
+        bench.lent.records,
         &acks[..a],
     )
 }
 
-// The part of the receive pool that `show` shows.
-pub fn place(bench: Bench, send_pool: &[u8], receive_pool: &[u8], acks: &[u32]) -> Place {
+// The part of the receive pool that showing gives.
+pub fn show<'a>(
+    bench: Bench,
+    send_pool: &[u8],
+    receive_pool: &'a [u8],
+    acks: &[u32],
+) -> &'a [u8] {
     let s = front(bench.lent.send, send_pool);
     let r = front(bench.lent.receive, receive_pool);
     let a = front_acks(bench.lent.acks, acks);
-    let n = front_records(bench.lent.records);
     let table = bench.table;
-    values::place(
+    kept_ask::show(
         bench.link,
-        table,
-        n,
         &send_pool[..s],
         &receive_pool[..r],
+        table,
+        bench.lent.records,
         &acks[..a],
     )
 }

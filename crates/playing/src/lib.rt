@@ -197,11 +197,8 @@ fn show(
     acks: &[u32],
     text: &mut [u8],
 ) -> Played {
-    let place = bench_calls::place(bench, send_pool, receive_pool, acks);
-    let start = bench_calls::front(place.start, receive_pool);
-    let behind = &receive_pool[start..];
-    let n = bench_calls::front(place.count, behind);
-    let len = transcript::bytes_line(text, 0, b"part ", &behind[..n]);
+    let part = bench_calls::show(bench, send_pool, receive_pool, acks);
+    let len = transcript::bytes_line(text, 0, b"part ", part);
     kept(bench, len)
 }
 
