@@ -1,4 +1,4 @@
--- `playing::on_link` is safe and ends.
+-- `playing::on_link` is safe and ends: every lent part keeps its length.
 -- Assumes nothing.
 use mathlib.Core.Path.{refl}
 use borrow.Author.Needs.{needs}
