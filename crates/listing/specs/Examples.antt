@@ -7,8 +7,9 @@ use lib.ListN.{take}
 use Rattle.wire.specs.LittleEndian.{numberAt}
 use Rattle.wire.specs.Headers.{decode}
 use Rattle.datagram.specs.Datagrams.{verdict, segmentOf, tail, walk, parse}
-use Rattle.listing.specs.Decimal.{digits, decimal}
-use Rattle.listing.specs.Lines.{ascii, field, row, columnLine, segmentLine, countLine, refusalLine}
+use Rattle.notation.specs.Decimal.{digits, decimal}
+use Rattle.notation.specs.Ascii.{ascii}
+use Rattle.listing.specs.Lines.{field, row, columnLine, segmentLine, countLine, refusalLine}
 use Rattle.listing.specs.Listings.{listed, segmentLines, body, listingOf}
 
 -- case A: 01000000 51 00 8000 00000000 00000000 00000000 02000000 6869

@@ -1,5 +1,3 @@
-pub mod Decimal
-pub mod DecimalLaws
 pub mod Lines
 pub mod LineLaws
 pub mod Listings

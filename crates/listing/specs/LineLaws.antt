@@ -9,8 +9,8 @@ use native.Mathlib.Omega.{arith}
 use lib.ListN.{length, set, getD, take, length-append}
 use lib.Seq.{take-suc, take-suc-set}
 use Rattle.listing.specs.declared.Line.{Line}
-use Rattle.listing.specs.Decimal.{decimal}
-use Rattle.listing.specs.DecimalLaws.{length-decimal}
+use Rattle.notation.specs.Decimal.{decimal}
+use Rattle.notation.specs.DecimalLaws.{length-decimal}
 use Rattle.wire.specs.Headers.{FieldsFit}
 use Rattle.wire.specs.declared.Header.{Header}
 use Rattle.listing.specs.Lines.{space, newline, field, row, segmentLine, textOf, Holds}

@@ -3,22 +3,15 @@
 use mathlib.Core.Path.{_≡_}
 use mathlib.Core.List.{List, [], _∷_, _++_}
 use Prim.Native.Nat.{ℕ, _≤_}
-use Prim.Native.Char.{code}
-use Prim.Native.String.{String}
-use Prim.Native.String as string
 use lib.ListN.{length, take}
 use Rattle.protocol.specs.Refusals.{numberOf}
 use Rattle.wire.specs.declared.Header.{Header}
 use Rattle.protocol.specs.declared.Refusal.{Refusal}
 use Rattle.listing.specs.declared.Line.{Line}
-use Rattle.listing.specs.Decimal.{decimal}
+use Rattle.notation.specs.Ascii.{ascii}
+use Rattle.notation.specs.Decimal.{decimal}
 
 -- ---- the text of each line
-
--- the bytes of a text in ASCII
-unfoldable pub ascii : String → List ℕ
-ascii string.[] = []
-ascii (string._∷_ c s) = code c ∷ ascii s
 
 abbrev pub space : ℕ
 space = 32

@@ -4,7 +4,7 @@ use wire::Header;
 ghost use mathlib.Core.List.{[], _∷_, _++_};
 ghost use Prim.Native.Nat.{_+_, _≤_, _<_};
 ghost use lib.ListN.{length};
-ghost use Rattle.listing.specs.Decimal.{decimal};
+ghost use Rattle.notation.specs.Decimal.{decimal};
 ghost use Rattle.listing.specs.Lines.{newline, field, Holds};
 ghost use Rattle.listing.specs.Puts.{front, back, Added};
 

@@ -1,7 +1,8 @@
 -- `listing::count_line` meets its contract: the words are "ok ".
 -- Assumes nothing.
 use borrow.Author.Needs.{needs}
-use Rattle.listing.specs.Lines.{ascii, countLine}
+use Rattle.notation.specs.Ascii.{ascii}
+use Rattle.listing.specs.Lines.{countLine}
 use Rattle.listing.proofs.count_line.Statement.{statement}
 use Rattle.listing.proofs.count_line.Tie as tie
 

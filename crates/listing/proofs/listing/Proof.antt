@@ -3,7 +3,8 @@
 use mathlib.Core.Path.{sym, _∙_}
 use native.Mathlib.Omega.{arith}
 use borrow.Author.Needs.{needs}
-use Rattle.listing.specs.Lines.{ascii, columnLine}
+use Rattle.notation.specs.Ascii.{ascii}
+use Rattle.listing.specs.Lines.{columnLine}
 use Rattle.listing.specs.ListingLaws.{wrote-then, wrote-none, wrote-all, wrote-refused}
 use Rattle.listing.proofs.listing.Statement.{statement}
 use Rattle.listing.proofs.listing.Tie as tie

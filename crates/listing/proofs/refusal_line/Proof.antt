@@ -1,7 +1,8 @@
 -- `listing::refusal_line` meets its contract: the words are "refused ", and the number is the refusal's.
 -- Assumes nothing.
 use borrow.Author.Needs.{needs}
-use Rattle.listing.specs.Lines.{ascii, refusalLine}
+use Rattle.notation.specs.Ascii.{ascii}
+use Rattle.listing.specs.Lines.{refusalLine}
 use Rattle.listing.proofs.refusal_line.Statement.{statement}
 use Rattle.listing.proofs.refusal_line.Tie as tie
 

@@ -5,7 +5,7 @@ use Prim.Native.Nat.{ℕ, _<_}
 use borrow.Fn.Kinds.{In}
 use borrow.Fn.PlainCycle.{Measures, is, falls, and}
 use native.Mathlib.Omega.{arith}
-use Rattle.listing.specs.DecimalLaws.{decimal-low, decimal-more, length-low, length-more}
+use Rattle.notation.specs.DecimalLaws.{decimal-low, decimal-more, length-low, length-more}
 use Rattle.listing.specs.LineLaws.{added-then}
 use Rattle.listing.proofs.text.put_byte.Reads as put-byte
 use Rattle.listing.proofs.text.put_decimal.Reads as put-decimal

@@ -8,7 +8,7 @@ use native.Mathlib.Decide.{decLt}
 use native.Mathlib.Omega.{arith}
 use borrow.Author.Tests.{lt-ltb, le-ltb}
 use lib.ListN.{length, length-append, getD, List·getD-append}
-use Rattle.listing.specs.Decimal.{digit, digits, decimal, value}
+use Rattle.notation.specs.Decimal.{digit, digits, decimal, value}
 
 digits-low : (k n : ℕ) → n < 10 → digits (suc k) n ≡ digit n ∷ []
 unfolding digits

@@ -1,0 +1,166 @@
+// The state of the bench: a link, its table of records, and how much of each part it is lent.
+pub mod poke;
+
+use block::Link;
+use block::StoredFlight;
+use lists::HeldList;
+use lists::OutstandingList;
+use lists::Receiving;
+use lists::WaitingList;
+use protocol::Settings;
+use timing::ProbeClock;
+use timing::Record;
+use timing::RoundTrip;
+
+// How many elements of each part are lent. More than a part has lends all of it.
+pub struct Lent {
+    pub send: usize,
+    pub receive: usize,
+    pub records: usize,
+    pub acks: usize,
+    pub output: usize,
+    pub lengths: usize,
+}
+
+pub struct Bench {
+    pub link: Link,
+    pub table: [Record; 128],
+    pub lent: Lent,
+    // An opening has been accepted.
+    pub opened: bool,
+    // The last command was an accepted opening.
+    pub fresh: bool,
+}
+
+// More than any part has.
+const ALL: usize = 4294967295;
+
+// A block before any opening.
+fn blank() -> Link {
+    let settings = Settings {
+        conv: 0,
+        mtu: 0,
+        interval: 0,
+        mode: 0,
+        threshold: 0,
+    };
+    let queued = HeldList::new();
+    let outstanding = OutstandingList::new();
+    let ready = HeldList::new();
+    let waiting = WaitingList::new();
+    let rtt = RoundTrip {
+        smoothed: 0,
+        variation: 0,
+        timeout: 0,
+    };
+    let flight = StoredFlight {
+        una: 0,
+        next: 0,
+        rtt,
+        window: 0,
+        outstanding,
+    };
+    let receiving = Receiving {
+        next: 0,
+        ready,
+        waiting,
+    };
+    let probe = ProbeClock { wait: 0, due: 0 };
+    Link {
+        settings,
+        queued,
+        flight,
+        receiving,
+        acks: 0,
+        probe,
+        current: 0,
+        ask: 0,
+        tell: 0,
+        dead: 0,
+    }
+}
+
+impl Bench {
+    // Not opened yet, every part lent whole, every record zero.
+    pub fn new() -> Self {
+        let record = Record {
+            number: 0,
+            due: 0,
+            timeout: 0,
+            skips: 0,
+        };
+        let lent = Lent {
+            send: ALL,
+            receive: ALL,
+            records: ALL,
+            acks: ALL,
+            output: ALL,
+            lengths: ALL,
+        };
+        let link = blank();
+        Bench {
+            link,
+            table: [record; 128],
+            lent,
+            opened: false,
+            fresh: false,
+        }
+    }
+
+    // With another link, after a command that is no accepted opening.
+    pub fn with_link(self, link: Link) -> Bench {
+        let mut next = self;
+        next.link = link;
+        next.fresh = false;
+        next
+    }
+
+    // With another link and another table.
+    pub fn with_table(self, link: Link, table: [Record; 128]) -> Bench {
+        let mut next = self.with_link(link);
+        next.table = table;
+        next
+    }
+
+    // Just opened.
+    pub fn with_opened(self, link: Link) -> Bench {
+        let mut next = self;
+        next.link = link;
+        next.opened = true;
+        next.fresh = true;
+        next
+    }
+}
+
+// The counts with another one for a part: 0 send pool, 1 receive pool, 2 records, 3 ack list, 4 output, 5 lengths.
+pub fn lend(lent: Lent, part: u32, count: u32) -> Lent {
+    let n = count as usize;
+    let mut next = lent;
+    match part {
+        0 => next.send = n,
+        1 => next.receive = n,
+        2 => next.records = n,
+        3 => next.acks = n,
+        4 => next.output = n,
+        _ => next.lengths = n,
+    }
+    next
+}
+
+// A link just opened with other numbers: snd_una and snd_nxt, and rcv_nxt.
+pub fn jump(link: Link, snd: u32, rcv: u32) -> Link {
+    let mut next = link;
+    next.flight.una = snd;
+    next.flight.next = snd;
+    next.receiving.next = rcv;
+    next
+}
+
+// The table with another record at a slot.
+pub fn replace(table: [Record; 128], slot: u32, updated: Record) -> [Record; 128] {
+    let mut next = table;
+    if slot < 128 {
+        next[slot as usize] = updated;
+    }
+    next
+}

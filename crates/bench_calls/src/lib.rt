@@ -1,0 +1,265 @@
+// The link's calls over the state of the bench: each is lent as much of every part as the bench says.
+use answers::Answer;
+use answers::Count;
+use bench::Bench;
+use kept_datagrams::AnsweredKept;
+use kept_datagrams::CountedKept;
+use protocol::Settings;
+ghost use Rattle.bench_calls.specs.Fronts.{Front};
+
+// The answer of opening, sending or taking in, and the bench after it.
+pub struct Answered {
+    pub answer: Answer,
+    pub bench: Bench,
+}
+
+// The answer of a flush or a read, and the bench after it.
+pub struct Counted {
+    pub answer: Count,
+    pub bench: Bench,
+}
+
+// How much of a part is lent: the count, or all where it has fewer.
+pub fn front(count: usize, part: &[u8]) -> usize
+    ensures { λ r. ⌜ Front count r (now (part .entry)) ⌝ }
+{
+    if count < part.len() {
+        return count;
+    }
+    part.len()
+}
+
+// The same of the ack list.
+fn front_acks(count: usize, part: &[u32]) -> usize
+    ensures { λ r. ⌜ Front count r (now (part .entry)) ⌝ }
+{
+    if count < part.len() {
+        return count;
+    }
+    part.len()
+}
+
+// The same of the lengths.
+fn front_lengths(count: usize, part: &[u16]) -> usize
+    ensures { λ r. ⌜ Front count r (now (part .entry)) ⌝ }
+{
+    if count < part.len() {
+        return count;
+    }
+    part.len()
+}
+
+// The bench after an opening.
+fn after_open(bench: Bench, done: calls::Answered) -> Answered {
+    let answer = done.answer;
+    match answer {
+        Answer::Accepted => Answered {
+            answer: Answer::Accepted,
+            bench: bench.with_opened(done.link),
+        },
+        Answer::Refused(r) => Answered {
+            answer: Answer::Refused(r),
+            bench: bench.with_link(done.link),
+        },
+    }
+}
+
+// The bench after a send.
+fn after_send(bench: Bench, done: calls::Answered) -> Answered {
+    let answer = done.answer;
+    Answered {
+        answer,
+        bench: bench.with_link(done.link),
+    }
+}
+
+// The bench after taking in.
+fn after_input(bench: Bench, done: AnsweredKept) -> Answered {
+    let answered = done.answered;
+    let table = done.table;
+    let answer = answered.answer;
+    Answered {
+        answer,
+        bench: bench.with_table(answered.link, table),
+    }
+}
+
+// The bench after a flush.
+fn after_flush(bench: Bench, done: CountedKept) -> Counted {
+    let counted = done.counted;
+    let table = done.table;
+    let answer = counted.answer;
+    Counted {
+        answer,
+        bench: bench.with_table(counted.link, table),
+    }
+}
+
+// The bench after a read.
+fn after_read(bench: Bench, done: calls::Counted) -> Counted {
+    let answer = done.answer;
+    Counted {
+        answer,
+        bench: bench.with_link(done.link),
+    }
+}
+
+pub fn open(
+    bench: Bench,
+    settings: Settings,
+    send_pool: &[u8],
+    receive_pool: &[u8],
+    acks: &[u32],
+) -> Answered {
+    let s = front(bench.lent.send, send_pool);
+    let r = front(bench.lent.receive, receive_pool);
+    let a = front_acks(bench.lent.acks, acks);
+    let table = bench.table;
+    let done = kept_local::open(
+        bench.link,
+        settings,
+        &send_pool[..s],
+        &receive_pool[..r],
+        table,
+        bench.lent.records,
+        &acks[..a],
+    );
+    after_open(bench, done)
+}
+
+pub fn send(
+    bench: Bench,
+    send_pool: &mut [u8],
+    receive_pool: &[u8],
+    acks: &[u32],
+    message: &[u8],
+) -> Answered {
+    let s = front(bench.lent.send, send_pool);
+    let r = front(bench.lent.receive, receive_pool);
+    let a = front_acks(bench.lent.acks, acks);
+    let table = bench.table;
+    let done = kept_local::send(
+        bench.link,
+        &mut send_pool[..s],
+        &receive_pool[..r],
+        table,
+        bench.lent.records,
+        &acks[..a],
+        message,
+    );
+    after_send(bench, done)
+}
+
+pub fn input(
+    bench: Bench,
+    send_pool: &[u8],
+    receive_pool: &mut [u8],
+    acks: &mut [u32],
+    datagram: &[u8],
+) -> Answered {
+    let s = front(bench.lent.send, send_pool);
+    let r = front(bench.lent.receive, receive_pool);
+    let a = front_acks(bench.lent.acks, acks);
+    let table = bench.table;
+    let done = kept_datagrams::input(
+        bench.link,
+        &send_pool[..s],
+        &mut receive_pool[..r],
+        table,
+        bench.lent.records,
+        &mut acks[..a],
+        datagram,
+    );
+    after_input(bench, done)
+}
+
+pub fn flush(
+    bench: Bench,
+    send_pool: &[u8],
+    receive_pool: &[u8],
+    acks: &[u32],
+    t: u32,
+    output: &mut [u8],
+    lengths: &mut [u16],
+) -> Counted {
+    let s = front(bench.lent.send, send_pool);
+    let r = front(bench.lent.receive, receive_pool);
+    let a = front_acks(bench.lent.acks, acks);
+    let o = front(bench.lent.output, output);
+    let l = front_lengths(bench.lent.lengths, lengths);
+    let table = bench.table;
+    let done = kept_datagrams::flush(
+        bench.link,
+        &send_pool[..s],
+        &receive_pool[..r],
+        table,
+        bench.lent.records,
+        &acks[..a],
+        t,
+        &mut output[..o],
+        &mut lengths[..l],
+    );
+    after_flush(bench, done)
+}
+
+// Reads into a buffer of `room` bytes.
+pub fn read(
+    bench: Bench,
+    send_pool: &[u8],
+    receive_pool: &[u8],
+    acks: &[u32],
+    room: usize,
+    buffer: &mut [u8],
+) -> Counted {
+    let s = front(bench.lent.send, send_pool);
+    let r = front(bench.lent.receive, receive_pool);
+    let a = front_acks(bench.lent.acks, acks);
+    let b = front(room, buffer);
+    let table = bench.table;
+    let done = kept_local::read(
+        bench.link,
+        &send_pool[..s],
+        &receive_pool[..r],
+        table,
+        bench.lent.records,
+        &acks[..a],
+        &mut buffer[..b],
+    );
+    after_read(bench, done)
+}
+
+pub fn size(bench: Bench, send_pool: &[u8], receive_pool: &[u8], acks: &[u32]) -> Count {
+    let s = front(bench.lent.send, send_pool);
+    let r = front(bench.lent.receive, receive_pool);
+    let a = front_acks(bench.lent.acks, acks);
+    let table = bench.table;
+    kept_ask::size(
+        bench.link,
+        &send_pool[..s],
+        &receive_pool[..r],
+        table,
+        bench.lent.records,
+        &acks[..a],
+    )
+}
+
+// The part of the receive pool that showing gives.
+pub fn show<'a>(
+    bench: Bench,
+    send_pool: &[u8],
+    receive_pool: &'a [u8],
+    acks: &[u32],
+) -> &'a [u8] {
+    let s = front(bench.lent.send, send_pool);
+    let r = front(bench.lent.receive, receive_pool);
+    let a = front_acks(bench.lent.acks, acks);
+    let table = bench.table;
+    kept_ask::show(
+        bench.link,
+        &send_pool[..s],
+        &receive_pool[..r],
+        table,
+        bench.lent.records,
+        &acks[..a],
+    )
+}
