@@ -244,12 +244,7 @@ pub fn size(bench: Bench, send_pool: &[u8], receive_pool: &[u8], acks: &[u32]) -
 }
 
 // The part of the receive pool that showing gives.
-pub fn show<'a>(
-    bench: Bench,
-    send_pool: &[u8],
-    receive_pool: &'a [u8],
-    acks: &[u32],
-) -> &'a [u8] {
+pub fn show<'a>(bench: Bench, send_pool: &[u8], receive_pool: &'a [u8], acks: &[u32]) -> &'a [u8] {
     let s = front(bench.lent.send, send_pool);
     let r = front(bench.lent.receive, receive_pool);
     let a = front_acks(bench.lent.acks, acks);

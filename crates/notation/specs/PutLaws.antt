@@ -29,8 +29,10 @@ put-then was mid is i j k t u a b = go (decLe (i + length t) (length was))
   where
     long : length mid ≡ length was
     long = rw (a .bytes) (length-sets was i t)
+
     next : k ≡ min (i + length (t ++ u)) (max i (length was))
     next = rw length-append (omega (arith, long, a .next, b .next))
+
     go : Dec (i + length t ≤ length was) → Put was i (t ++ u) k is
     go (yes h) =
         let j-is : j ≡ i + length t = omega (arith, a .next) in

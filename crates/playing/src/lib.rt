@@ -3,11 +3,11 @@ use answers::Answer;
 use answers::Count;
 use bench::Bench;
 use bench_calls::Answered;
+use notation::put;
 use protocol::Protocol;
 use protocol::Refusal;
 use protocol::Settings;
 use script::Command;
-use notation::put;
 use timing::Record;
 use transcript::link;
 ghost use Prim.Native.Nat.{_≤_};
@@ -235,7 +235,10 @@ fn lend(bench: Bench, part: u32, count: u32, text: &mut [u8]) -> Played {
 }
 
 fn poke(bench: Bench, field: u32, value: u32, text: &mut [u8]) -> Played {
-    ok(bench.with_link(bench::poke::poke(bench.link, field, value)), text)
+    ok(
+        bench.with_link(bench::poke::poke(bench.link, field, value)),
+        text,
+    )
 }
 
 // Only on a segment that is held.
@@ -345,15 +348,7 @@ pub fn play(
         }
         _ => {
             if bench.opened {
-                on_link(
-                    bench,
-                    command,
-                    send_pool,
-                    receive_pool,
-                    acks,
-                    bytes,
-                    text,
-                )
+                on_link(bench, command, send_pool, receive_pool, acks, bytes, text)
             } else {
                 unopened(bench, command, text)
             }

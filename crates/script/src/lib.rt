@@ -2,8 +2,8 @@
 mod numbers;
 mod words;
 
-use numbers::Numbers;
 use notation::Bytes;
+use numbers::Numbers;
 
 // The most bytes of a line, its newline not counted, and of a script.
 pub const LINE_MOST: usize = 65000;
@@ -108,13 +108,7 @@ fn held_most(list: u32, field: u32) -> u32 {
     match field {
         0 | 1 => 65535,
         2 => 255,
-        _ => {
-            if list == 1 {
-                255
-            } else {
-                4294967295
-            }
-        }
+        _ => { if list == 1 { 255 } else { 4294967295 } }
     }
 }
 

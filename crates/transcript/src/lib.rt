@@ -3,8 +3,8 @@ pub mod link;
 
 use answers::Answer;
 use answers::Count;
-use protocol::Refusal;
 use notation::put;
+use protocol::Refusal;
 ghost use mathlib.Core.Path.{_≡_};
 ghost use Prim.Native.Nat.{_<_, min};
 ghost use lib.ListN.{take};

@@ -28,7 +28,7 @@ loop-again c =
     let first = c .before .before .hex-value in
     let second = c .hex-value2 in
     let stored : 16 * first .result + second .result ≡ 16 * hexValue (getD s (2 * l .i) 0) + hexValue (getD s (2 * l .i + 1) 0) =
-        omega (arith, first .ensures .0, second .ensures .0) in
+    omega (arith, first .ensures .0, second .ensures .0) in
     (omega arith, l .inv .1, simp length-set (l .inv .2), decode-step s _ _ (l .i) _ (omega arith) stored (l .inv .3))
 
 returns : tie.Need-returns Inv-loop μ-loop

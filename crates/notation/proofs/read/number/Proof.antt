@@ -43,10 +43,12 @@ returns-4 c =
 
 loop-again : tie.Need-loop-again Inv-loop μ-loop
 loop-again c =
-    let l = c .before .before .before .before .before .before .loop in
-    (omega arith, omega arith,
-    l .inv .2 ∙ every-more isDigit _ (l .i) (search needs) (sym (c .before .before .before .is-digit .ensures) ∙ not-false _ (c .before .before .if3 .left)),
-    rw (c .before .digit-value .ensures .0) (l .inv .3 ∙ value-more _ (l .i) (l .n) (search needs)))
+    let l = c .before .before .before .before .before .before .loop in (
+      omega arith,
+      omega arith,
+      l .inv .2 ∙ every-more isDigit _ (l .i) (search needs) (sym (c .before .before .before .is-digit .ensures) ∙ not-false _ (c .before .before .if3 .left)),
+      rw (c .before .digit-value .ensures .0) (l .inv .3 ∙ value-more _ (l .i) (l .n) (search needs)),
+    )
 
 returns-5 : tie.Need-returns-5 Inv-loop μ-loop
 returns-5 c =
