@@ -25,7 +25,8 @@ pub extern "C" fn ampferweg_open(
 {
     let settings = codes::settings(conv, mtu, mode, interval, threshold);
     let a = link::open(*link, settings, send_pool, receive_pool, table, acks);
-    *link = codes::answered_link(a);
+    let after = codes::answered_link(a);
+    *link = after;
     codes::answered_code(a)
 }
 
@@ -42,7 +43,8 @@ pub extern "C" fn ampferweg_send(
     ensures { λ r. ⌜ Gives answerCode (λ a. SendPromise (now (message .entry)) (now (link .entry)) (partsOf (now («send_pool» .entry)) (now («receive_pool» .entry)) (now (table .entry)) (now (acks .entry))) a (now (link .exit)) (partsOf (now («send_pool» .exit)) (now («receive_pool» .entry)) (now (table .entry)) (now (acks .entry)))) r ⌝ }
 {
     let a = link::send(*link, send_pool, receive_pool, table, acks, message);
-    *link = codes::answered_link(a);
+    let after = codes::answered_link(a);
+    *link = after;
     codes::answered_code(a)
 }
 
@@ -59,7 +61,8 @@ pub extern "C" fn ampferweg_input(
     ensures { λ r. ⌜ Gives answerCode (λ a. InputPromise (now (datagram .entry)) (now (link .entry)) (partsOf (now («send_pool» .entry)) (now («receive_pool» .entry)) (now (table .entry)) (now (acks .entry))) a (now (link .exit)) (partsOf (now («send_pool» .entry)) (now («receive_pool» .exit)) (now (table .exit)) (now (acks .exit)))) r ⌝ }
 {
     let a = link::input(*link, send_pool, receive_pool, table, acks, datagram);
-    *link = codes::answered_link(a);
+    let after = codes::answered_link(a);
+    *link = after;
     codes::answered_code(a)
 }
 
@@ -87,7 +90,8 @@ pub extern "C" fn ampferweg_flush(
         output,
         lengths,
     );
-    *link = codes::counted_link(a);
+    let after = codes::counted_link(a);
+    *link = after;
     codes::counted_code(a)
 }
 
@@ -104,7 +108,8 @@ pub extern "C" fn ampferweg_read(
     ensures { λ r. ⌜ Gives countCode (λ a. ReadPromise (now (link .entry)) (partsOf (now («send_pool» .entry)) (now («receive_pool» .entry)) (now (table .entry)) (now (acks .entry))) (now (buffer .entry)) a (now (link .exit)) (partsOf (now («send_pool» .entry)) (now («receive_pool» .entry)) (now (table .entry)) (now (acks .entry))) (now (buffer .exit))) r ⌝ }
 {
     let a = link::read(*link, send_pool, receive_pool, table, acks, buffer);
-    *link = codes::counted_link(a);
+    let after = codes::counted_link(a);
+    *link = after;
     codes::counted_code(a)
 }
 

@@ -122,35 +122,35 @@ module _ {M : Type 1} (𝓤 : URA M) (H : Heap 𝓤) (A : Atoms 𝓤) (W : Given
     walk : (C : Calls 𝓤 H) (Λ : Loops 𝓤 H) → FmC 𝓤 H (W .laws) C → Known C → ent 𝓤 (onEntry 𝓤 H A f.signature (κ₀, (κ₁, (κ₂, (κ₃, (κ₄, (κ₅, (κ₆, tt))))))) (q₀, (q₁, (q₂, (q₃, (q₄, (q₅, (q₆, tt))))))) x at) (WpFn 𝓤 H C Λ code.function (vptr b o ∷ s₁ ∷ s₂ ∷ s₃ ∷ s₄ ∷ v₅ ∷ s₆ ∷ s₇ ∷ []) Post)
     walk C Λ fm known =
         qed W ((‵ (flft κ₀ q₀) ⊛ ‵ (flft κ₁ q₁) ⊛ ‵ (flft κ₂ q₂) ⊛ ‵ (flft κ₃ q₃) ⊛ ‵ (flft κ₄ q₄) ⊛ ‵ (flft κ₅ q₅) ⊛ ‵ (flft κ₆ q₆) ⊛ ‵ ftrue) ∷ ‵ (owns (MutRef (named 0) κ₀ L ∷ ShrSlice (named 1) κ₁ u8 ∷ ShrSlice (named 2) κ₂ u8 ∷ MutSlice (named 3) κ₃ R ∷ ShrSlice (named 4) κ₄ u32 ∷ u32 ∷ MutSlice (named 5) κ₅ u8 ∷ MutSlice (named 6) κ₆ u16 ∷ []) x at) ∷ []) ∵ enter ! C Λ code.function (vptr b o ∷ s₁ ∷ s₂ ∷ s₃ ∷ s₄ ∷ v₅ ∷ s₆ ∷ s₇ ∷ []) _ $
-        alloc1 ! (λ l₀. alloc1 ! (λ l₁. alloc1 ! (λ l₂. alloc1 ! (λ l₃. alloc1 ! (λ l₄. alloc1 ! (λ l₅. alloc1 ! (λ l₆. alloc1 ! (λ l₇. alloc1 ! (λ l₈. alloc1 ! (λ l₉. alloc1 ! (λ l₁₀. alloc1 ! (λ l₁₁. alloc1 ! (λ l₁₂. alloc1 ! (λ l₁₃. alloc1 ! (λ l₁₄. alloc1 ! (λ l₁₅. alloc1 ! (λ l₁₆. alloc0 ! $ params1 ! $
-        pass1 ! (init ! 30 refl (tt, tt)) $ pass1 ! (init ! 28 refl (tt, (tt, (record { fits = room₁ .0 }, tt)))) $ pass1 ! (init ! 26 refl (tt, (tt, (record { fits = room₂ .0 }, tt)))) $ pass1 ! (init ! 24 refl (tt, (tt, (record { fits = room₃ .0 }, tt)))) $ pass1 ! (init ! 22 refl (tt, (tt, (record { fits = room₄ .0 }, tt)))) $ pass1 ! (init ! 20 refl (uint-lawful 𝓤 H A W w32 .typed x₅ _ g₅ .0)) $ pass1 ! (init ! 18 refl (tt, (tt, (record { fits = room₆ .0 }, tt)))) $ pass1 ! (init ! 16 refl (tt, (tt, (record { fits = room₇ .0 }, tt)))) $ pass0 ! $
-        move ! (35 ∷ []) $ fsplit ! $ move ! (1 ∷ []) $ fsplit ! $ move ! (1 ∷ []) $ fsplit ! $ move ! (1 ∷ []) $ fsplit ! $ move ! (1 ∷ []) $ fsplit ! $ move ! (1 ∷ []) $ fsplit ! $ drop ! $ fsplit ! $ move ! (1 ∷ []) $ fsplit ! $ move ! (1 ∷ []) $ drop ! $ move ! (41 ∷ []) $ split ! $ move ! (1 ∷ []) $ split ! $ move ! (1 ∷ []) $ split ! $ move ! (1 ∷ []) $ split ! $ move ! (1 ∷ []) $ split ! $ move ! (1 ∷ []) $ split ! $ move ! (1 ∷ []) $ split ! $ move ! (1 ∷ []) $ drop ! $
+        alloc1 ! (λ l₀. alloc1 ! (λ l₁. alloc1 ! (λ l₂. alloc1 ! (λ l₃. alloc1 ! (λ l₄. alloc1 ! (λ l₅. alloc1 ! (λ l₆. alloc1 ! (λ l₇. alloc1 ! (λ l₈. alloc1 ! (λ l₉. alloc1 ! (λ l₁₀. alloc1 ! (λ l₁₁. alloc1 ! (λ l₁₂. alloc1 ! (λ l₁₃. alloc1 ! (λ l₁₄. alloc1 ! (λ l₁₅. alloc1 ! (λ l₁₆. alloc1 ! (λ l₁₇. alloc0 ! $ params1 ! $
+        pass1 ! (init ! 32 refl (tt, tt)) $ pass1 ! (init ! 30 refl (tt, (tt, (record { fits = room₁ .0 }, tt)))) $ pass1 ! (init ! 28 refl (tt, (tt, (record { fits = room₂ .0 }, tt)))) $ pass1 ! (init ! 26 refl (tt, (tt, (record { fits = room₃ .0 }, tt)))) $ pass1 ! (init ! 24 refl (tt, (tt, (record { fits = room₄ .0 }, tt)))) $ pass1 ! (init ! 22 refl (uint-lawful 𝓤 H A W w32 .typed x₅ _ g₅ .0)) $ pass1 ! (init ! 20 refl (tt, (tt, (record { fits = room₆ .0 }, tt)))) $ pass1 ! (init ! 18 refl (tt, (tt, (record { fits = room₇ .0 }, tt)))) $ pass0 ! $
+        move ! (37 ∷ []) $ fsplit ! $ move ! (1 ∷ []) $ fsplit ! $ move ! (1 ∷ []) $ fsplit ! $ move ! (1 ∷ []) $ fsplit ! $ move ! (1 ∷ []) $ fsplit ! $ move ! (1 ∷ []) $ fsplit ! $ drop ! $ fsplit ! $ move ! (1 ∷ []) $ fsplit ! $ move ! (1 ∷ []) $ drop ! $ move ! (43 ∷ []) $ split ! $ move ! (1 ∷ []) $ split ! $ move ! (1 ∷ []) $ split ! $ move ! (1 ∷ []) $ split ! $ move ! (1 ∷ []) $ split ! $ move ! (1 ∷ []) $ split ! $ move ! (1 ∷ []) $ split ! $ move ! (1 ∷ []) $ drop ! $
         -- [tok7; tok6; tok4; tok3; tok2; tok1; tok0; own7; own6; own4; own3; own2; own1; own0; the locals]
         move ! (13 ∷ 6 ∷ []) $ opens-link b o γ ! tt h (λ was.
         -- [cell; opened; tok7; tok6; tok4; tok3; tok2; tok1; own7; own6; own4; own3; own2; own1; the locals]
-        assigns ! (of-opd ! (load ! (from ! (hop ! (look ! 44 refl) (stop !))) (look-raw ! 0 refl))) (from ! (stop !)) (init ! 26 refl (LL.lawful B.the-type B′.the-laws 𝓤 H A W .typed h (hv ∷ []) was .0)) $
-        assigns ! (addr ! (from ! (fld ! refl (hop ! (look-in ! 38 (sub ! 0 refl (whole !))) (stop !))))) (from ! (stop !)) (init ! 24 refl (tt, tt)) $
-        assigns ! (agg ! (and-then ! (load ! (from ! (stop !)) (look ! 24 refl)) (and-then ! (load ! (from ! (fld ! refl (stop !))) (look-in ! 38 (sub ! 1 refl (whole !)))) (no-more !)))) (from ! (stop !)) (init ! 22 refl (tt, (tt, (record { fits = room₃ .0 }, tt)))) $
-        assigns ! (addr ! (from ! (fld ! refl (hop ! (look-in ! 32 (sub ! 0 refl (whole !))) (stop !))))) (from ! (stop !)) (init ! 20 refl (tt, tt)) $
-        assigns ! (agg ! (and-then ! (load ! (from ! (stop !)) (look ! 20 refl)) (and-then ! (load ! (from ! (fld ! refl (stop !))) (look-in ! 32 (sub ! 1 refl (whole !)))) (no-more !)))) (from ! (stop !)) (init ! 18 refl (tt, (tt, (record { fits = room₆ .0 }, tt)))) $
-        assigns ! (addr ! (from ! (fld ! refl (hop ! (look-in ! 30 (sub ! 0 refl (whole !))) (stop !))))) (from ! (stop !)) (init ! 16 refl (tt, tt)) $
-        assigns ! (agg ! (and-then ! (load ! (from ! (stop !)) (look ! 16 refl)) (and-then ! (load ! (from ! (fld ! refl (stop !))) (look-in ! 30 (sub ! 1 refl (whole !)))) (no-more !)))) (from ! (stop !)) (init ! 14 refl (tt, (tt, (record { fits = room₇ .0 }, tt)))) $
+        assigns ! (of-opd ! (load ! (from ! (hop ! (look ! 46 refl) (stop !))) (look-raw ! 0 refl))) (from ! (stop !)) (init ! 26 refl (LL.lawful B.the-type B′.the-laws 𝓤 H A W .typed h (hv ∷ []) was .0)) $
+        assigns ! (addr ! (from ! (fld ! refl (hop ! (look-in ! 40 (sub ! 0 refl (whole !))) (stop !))))) (from ! (stop !)) (init ! 24 refl (tt, tt)) $
+        assigns ! (agg ! (and-then ! (load ! (from ! (stop !)) (look ! 24 refl)) (and-then ! (load ! (from ! (fld ! refl (stop !))) (look-in ! 40 (sub ! 1 refl (whole !)))) (no-more !)))) (from ! (stop !)) (init ! 22 refl (tt, (tt, (record { fits = room₃ .0 }, tt)))) $
+        assigns ! (addr ! (from ! (fld ! refl (hop ! (look-in ! 34 (sub ! 0 refl (whole !))) (stop !))))) (from ! (stop !)) (init ! 20 refl (tt, tt)) $
+        assigns ! (agg ! (and-then ! (load ! (from ! (stop !)) (look ! 20 refl)) (and-then ! (load ! (from ! (fld ! refl (stop !))) (look-in ! 34 (sub ! 1 refl (whole !)))) (no-more !)))) (from ! (stop !)) (init ! 18 refl (tt, (tt, (record { fits = room₆ .0 }, tt)))) $
+        assigns ! (addr ! (from ! (fld ! refl (hop ! (look-in ! 32 (sub ! 0 refl (whole !))) (stop !))))) (from ! (stop !)) (init ! 16 refl (tt, tt)) $
+        assigns ! (agg ! (and-then ! (load ! (from ! (stop !)) (look ! 16 refl)) (and-then ! (load ! (from ! (fld ! refl (stop !))) (look-in ! 32 (sub ! 1 refl (whole !)))) (no-more !)))) (from ! (stop !)) (init ! 14 refl (tt, (tt, (record { fits = room₇ .0 }, tt)))) $
         move ! (7 ∷ 13 ∷ 6 ∷ 12 ∷ 5 ∷ 11 ∷ 4 ∷ 10 ∷ 3 ∷ 9 ∷ 2 ∷ 8 ∷ []) $ group ! 12 $ calls-fn ! fm core.ended (core.clauses 𝓤 H A at-mem run) (known .0) (to-core h hv x₅ v₅) (λ a ws. FlushPromise x₅ h (partsOf (x₁ .now) (x₂ .now) (x₃ .now) (x₄ .now)) (x₆ .now) (x₇ .now) (a .answer) (a .link) (partsOf (x₁ .now) (x₂ .now) (ws .1 .1 .1 .0) (x₄ .now)) (ws .1 .1 .1 .1 .1 .1 .0) (ws .1 .1 .1 .1 .1 .1 .1 .0)) (‵ (flft κ₁ q₁) ⊛ ‵ Own₁ ⊛ ‵ (flft κ₂ q₂) ⊛ ‵ Own₂ ⊛ ‵ (flft κ₃ q₃) ⊛ ‵ Own₃ ⊛ ‵ (flft κ₄ q₄) ⊛ ‵ Own₄ ⊛ ‵ (flft κ₅ q₅) ⊛ ‵ Own₆ ⊛ ‵ (flft κ₆ q₆) ⊛ ‵ Own₇)
         (asks-core h hv was x₅ v₅ g₅) (λ a ws. id⊢ 𝓤 _)
-        (and-then ! (load ! (from ! (stop !)) (look ! 15 refl)) (and-then ! (load ! (from ! (stop !)) (look ! 31 refl)) (and-then ! (load ! (from ! (stop !)) (look ! 29 refl)) (and-then ! (load ! (from ! (stop !)) (look ! 11 refl)) (and-then ! (load ! (from ! (stop !)) (look ! 25 refl)) (and-then ! (load ! (from ! (stop !)) (look ! 23 refl)) (and-then ! (load ! (from ! (stop !)) (look ! 7 refl)) (and-then ! (load ! (from ! (stop !)) (look ! 3 refl)) (no-more !))))))))) (λ a w₁ ws e-a is-a. land ! (from ! (stop !)) (init ! 18 refl (LL.lawful D.the-type D′.the-laws 𝓤 H A W .typed a (w₁ ∷ []) is-a .0)) $
+        (and-then ! (load ! (from ! (stop !)) (look ! 15 refl)) (and-then ! (load ! (from ! (stop !)) (look ! 33 refl)) (and-then ! (load ! (from ! (stop !)) (look ! 31 refl)) (and-then ! (load ! (from ! (stop !)) (look ! 11 refl)) (and-then ! (load ! (from ! (stop !)) (look ! 27 refl)) (and-then ! (load ! (from ! (stop !)) (look ! 25 refl)) (and-then ! (load ! (from ! (stop !)) (look ! 7 refl)) (and-then ! (load ! (from ! (stop !)) (look ! 3 refl)) (no-more !))))))))) (λ a w₁ ws e-a is-a. land ! (from ! (stop !)) (init ! 20 refl (LL.lawful D.the-type D′.the-laws 𝓤 H A W .typed a (w₁ ∷ []) is-a .0)) $
         use1 W (‵ (flft κ₁ q₁) ⊛ ‵ (flft κ₂ q₂) ⊛ ‵ (flft κ₃ q₃) ⊛ ‵ (flft κ₄ q₄) ⊛ ‵ (flft κ₅ q₅) ⊛ ‵ (flft κ₆ q₆) ⊛ ‵ ftrue) (id⊢ 𝓤 _) $ split ! $ move ! (1 ∷ []) $ split ! $ move ! (1 ∷ []) $ split ! $ move ! (1 ∷ []) $ split ! $ move ! (1 ∷ []) $ split ! $ move ! (1 ∷ []) $ split ! $ move ! (1 ∷ []) $ drop ! $ move ! (6 ∷ []) $ fsplit ! $ drop ! $ fsplit ! $ drop ! $ fsplit ! $ drop ! $ fsplit ! $ fsplit ! $ move ! (1 ∷ []) $ feqL ! (λ len₃. move ! (1 ∷ []) $ fsplit ! $ drop ! $ fsplit ! $ drop ! $ fsplit ! $ fsplit ! $ move ! (1 ∷ []) $ feqL ! (λ len₆. move ! (1 ∷ []) $ fsplit ! $ fsplit ! $ move ! (1 ∷ []) $ feqL ! (λ len₇. move ! (1 ∷ []) $ drop ! $
         -- [fin7; fin6; fin3; tok7; tok6; tok4; tok3; tok2; tok1; cell; opened; the locals]
         nothing ! $ calls-fn ! fm link-of.ended (link-of.clauses 𝓤 H A at-mem run) (known .1) ((tt, tt, tt, (a, tt), (w₁ ∷ [], tt)), tt) (λ k _. k ≡ a .link)
         (‵ ftrue) (plainly 𝓤 H A W (D.the-row ∷ []) ((LL.makes D.the-type D′.the-plain 𝓤 H A), tt) (a, tt) (w₁ ∷ [], tt) (is-a, tt)) (λ k _. id⊢ 𝓤 _)
-        (and-then ! (load ! (from ! (stop !)) (look ! 26 refl)) (no-more !)) (λ k w₂ _ e-k is-k. drop ! $ drop ! $ land ! (from ! (stop !)) (store ! 23 refl (LL.lawful B.the-type B′.the-laws 𝓤 H A W .typed k (w₂ ∷ []) is-k .0)) $
-        assigns ! (of-opd ! (load ! (from ! (stop !)) (look ! 23 refl))) (from ! (hop ! (look ! 41 refl) (stop !))) (store-raw ! 9 refl (LL.lawful B.the-type B′.the-laws 𝓤 H A W .typed k (w₂ ∷ []) is-k .0)) $ move ! (9 ∷ 10 ∷ []) $ closes-link b o γ ! tt h k is-k $
+        (and-then ! (load ! (from ! (stop !)) (look ! 28 refl)) (no-more !)) (λ k w₂ _ e-k is-k. drop ! $ drop ! $ land ! (from ! (stop !)) (init ! 25 refl (LL.lawful B.the-type B′.the-laws 𝓤 H A W .typed k (w₂ ∷ []) is-k .0)) $
+        assigns ! (of-opd ! (load ! (from ! (stop !)) (look ! 25 refl))) (from ! (hop ! (look ! 43 refl) (stop !))) (store-raw ! 9 refl (LL.lawful B.the-type B′.the-laws 𝓤 H A W .typed k (w₂ ∷ []) is-k .0)) $ move ! (9 ∷ 10 ∷ []) $ closes-link b o γ ! tt h k is-k $
         -- [own0; tok0; fin7; fin6; fin3; tok7; tok6; tok4; tok3; tok2; tok1; the locals]
         nothing ! $ calls-fn ! fm code-of.ended (code-of.clauses 𝓤 H A at-mem run) (known .2) ((tt, tt, tt, (a, tt), (w₁ ∷ [], tt)), tt) (λ r _. r ≡ countCode (a .answer))
         (‵ ftrue) (plainly 𝓤 H A W (D.the-row ∷ []) ((LL.makes D.the-type D′.the-plain 𝓤 H A), tt) (a, tt) (w₁ ∷ [], tt) (is-a, tt)) (λ r _. id⊢ 𝓤 _)
-        (and-then ! (load ! (from ! (stop !)) (look ! 26 refl)) (no-more !)) (λ r w₃ _ e-r is-r. drop ! $ drop ! $ land ! (from ! (stop !)) (init ! 43 refl (sint-lawful 𝓤 H A W w32 .typed r _ is-r .0)) $
-        returns ! (look ! 43 refl) $ forget ! 11 refl $ forget ! 13 refl $ forget ! 15 refl $ forget ! 17 refl $ forget ! 19 refl $ forget ! 21 refl $ forget ! 23 refl $ forget ! 25 refl $ forget ! 27 refl $ forget ! 29 refl $ forget ! 31 refl $ forget ! 33 refl $ forget ! 35 refl $ forget ! 37 refl $ forget ! 39 refl $ forget ! 41 refl $ forget ! 43 refl $
-        move ! (43 ∷ 44 ∷ []) $ free1 ! $ move ! (41 ∷ 42 ∷ []) $ free1 ! $ move ! (39 ∷ 40 ∷ []) $ free1 ! $ move ! (37 ∷ 38 ∷ []) $ free1 ! $ move ! (35 ∷ 36 ∷ []) $ free1 ! $ move ! (33 ∷ 34 ∷ []) $ free1 ! $ move ! (31 ∷ 32 ∷ []) $ free1 ! $ move ! (29 ∷ 30 ∷ []) $ free1 ! $ move ! (27 ∷ 28 ∷ []) $ free1 ! $ move ! (25 ∷ 26 ∷ []) $ free1 ! $ move ! (23 ∷ 24 ∷ []) $ free1 ! $ move ! (21 ∷ 22 ∷ []) $ free1 ! $ move ! (19 ∷ 20 ∷ []) $ free1 ! $ move ! (17 ∷ 18 ∷ []) $ free1 ! $ move ! (15 ∷ 16 ∷ []) $ free1 ! $ move ! (13 ∷ 14 ∷ []) $ free1 ! $ move ! (11 ∷ 12 ∷ []) $ free1 ! $ free0 ! $
-        move ! (0 ∷ 1 ∷ 10 ∷ 9 ∷ 4 ∷ 8 ∷ 7 ∷ 3 ∷ 6 ∷ 2 ∷ 5 ∷ []) $ by ! (exits r w₃ k (ws .1 .1 .1 .0) (ws .1 .1 .1 .1 .1 .1 .0) (ws .1 .1 .1 .1 .1 .1 .1 .0) (told countCode (λ a k. FlushPromise x₅ h (partsOf (x₁ .now) (x₂ .now) (x₃ .now) (x₄ .now)) (x₆ .now) (x₇ .now) a k (partsOf (x₁ .now) (x₂ .now) (ws .1 .1 .1 .0) (x₄ .now)) (ws .1 .1 .1 .1 .1 .1 .0) (ws .1 .1 .1 .1 .1 .1 .1 .0)) (a .answer) (a .link) e-k e-r e-a) len₃ len₆ len₇ is-r)))))))))))))))))))))))))
+        (and-then ! (load ! (from ! (stop !)) (look ! 28 refl)) (no-more !)) (λ r w₃ _ e-r is-r. drop ! $ drop ! $ land ! (from ! (stop !)) (init ! 45 refl (sint-lawful 𝓤 H A W w32 .typed r _ is-r .0)) $
+        returns ! (look ! 45 refl) $ forget ! 11 refl $ forget ! 13 refl $ forget ! 15 refl $ forget ! 17 refl $ forget ! 19 refl $ forget ! 21 refl $ forget ! 23 refl $ forget ! 25 refl $ forget ! 27 refl $ forget ! 29 refl $ forget ! 31 refl $ forget ! 33 refl $ forget ! 35 refl $ forget ! 37 refl $ forget ! 39 refl $ forget ! 41 refl $ forget ! 43 refl $ forget ! 45 refl $
+        move ! (45 ∷ 46 ∷ []) $ free1 ! $ move ! (43 ∷ 44 ∷ []) $ free1 ! $ move ! (41 ∷ 42 ∷ []) $ free1 ! $ move ! (39 ∷ 40 ∷ []) $ free1 ! $ move ! (37 ∷ 38 ∷ []) $ free1 ! $ move ! (35 ∷ 36 ∷ []) $ free1 ! $ move ! (33 ∷ 34 ∷ []) $ free1 ! $ move ! (31 ∷ 32 ∷ []) $ free1 ! $ move ! (29 ∷ 30 ∷ []) $ free1 ! $ move ! (27 ∷ 28 ∷ []) $ free1 ! $ move ! (25 ∷ 26 ∷ []) $ free1 ! $ move ! (23 ∷ 24 ∷ []) $ free1 ! $ move ! (21 ∷ 22 ∷ []) $ free1 ! $ move ! (19 ∷ 20 ∷ []) $ free1 ! $ move ! (17 ∷ 18 ∷ []) $ free1 ! $ move ! (15 ∷ 16 ∷ []) $ free1 ! $ move ! (13 ∷ 14 ∷ []) $ free1 ! $ move ! (11 ∷ 12 ∷ []) $ free1 ! $ free0 ! $
+        move ! (0 ∷ 1 ∷ 10 ∷ 9 ∷ 4 ∷ 8 ∷ 7 ∷ 3 ∷ 6 ∷ 2 ∷ 5 ∷ []) $ by ! (exits r w₃ k (ws .1 .1 .1 .0) (ws .1 .1 .1 .1 .1 .1 .0) (ws .1 .1 .1 .1 .1 .1 .1 .0) (told countCode (λ a k. FlushPromise x₅ h (partsOf (x₁ .now) (x₂ .now) (x₃ .now) (x₄ .now)) (x₆ .now) (x₇ .now) a k (partsOf (x₁ .now) (x₂ .now) (ws .1 .1 .1 .0) (x₄ .now)) (ws .1 .1 .1 .1 .1 .1 .0) (ws .1 .1 .1 .1 .1 .1 .1 .0)) (a .answer) (a .link) e-k e-r e-a) len₃ len₆ len₇ is-r))))))))))))))))))))))))))
 
   f-meets : (𝓣 : Tables 𝓤 H) → Known (𝓣 .C) → Meets 𝓤 H A f.signature (WpFn 𝓤 H (𝓣 .C) (𝓣 .Λ) code.function) (f.spec 𝓤 H A at-mem run)
   f-meets 𝓣 known = walk-meets 𝓤 H A f.ended stayed W (goes-ref 𝓤 H A W 7 0 tt (plain (λ _. L)), (goes-dropped 𝓤 H A W 7 (shrSliceOf (1 ∷ []) tt (plain (λ _. u8))) yes (λ κs x f. refl), (goes-dropped 𝓤 H A W 7 (shrSliceOf (2 ∷ []) tt (plain (λ _. u8))) yes (λ κs x f. refl), (goes-gave-slice 𝓤 H A W 7 3 tt (plain (λ _. R)), (goes-dropped 𝓤 H A W 7 (shrSliceOf (4 ∷ []) tt (plain (λ _. u32))) yes (λ κs x f. refl), (goes-dropped 𝓤 H A W 7 (plain (λ _. u32)) yes (λ κs x f. refl), (goes-gave-slice 𝓤 H A W 7 5 tt (plain (λ _. u8)), (goes-gave-slice 𝓤 H A W 7 6 tt (plain (λ _. u16)), tt))))))))

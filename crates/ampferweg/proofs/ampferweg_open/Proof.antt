@@ -117,32 +117,32 @@ module _ {M : Type 1} (𝓤 : URA M) (H : Heap 𝓤) (A : Atoms 𝓤) (W : Given
     walk : (C : Calls 𝓤 H) (Λ : Loops 𝓤 H) → FmC 𝓤 H (W .laws) C → Known C → ent 𝓤 (onEntry 𝓤 H A f.signature (κ₀, (κ₁, (κ₂, (κ₃, (κ₄, tt))))) (q₀, (q₁, (q₂, (q₃, (q₄, tt))))) x at) (WpFn 𝓤 H C Λ code.function (vptr b o ∷ v₁ ∷ v₂ ∷ v₃ ∷ v₄ ∷ v₅ ∷ s₆ ∷ s₇ ∷ s₈ ∷ s₉ ∷ []) Post)
     walk C Λ fm known =
         qed W ((‵ (flft κ₀ q₀) ⊛ ‵ (flft κ₁ q₁) ⊛ ‵ (flft κ₂ q₂) ⊛ ‵ (flft κ₃ q₃) ⊛ ‵ (flft κ₄ q₄) ⊛ ‵ ftrue) ∷ ‵ (owns (MutRef (named 0) κ₀ L ∷ u32 ∷ u32 ∷ u32 ∷ u32 ∷ u32 ∷ ShrSlice (named 1) κ₁ u8 ∷ ShrSlice (named 2) κ₂ u8 ∷ ShrSlice (named 3) κ₃ R ∷ ShrSlice (named 4) κ₄ u32 ∷ []) x at) ∷ []) ∵ enter ! C Λ code.function (vptr b o ∷ v₁ ∷ v₂ ∷ v₃ ∷ v₄ ∷ v₅ ∷ s₆ ∷ s₇ ∷ s₈ ∷ s₉ ∷ []) _ $
-        alloc1 ! (λ l₀. alloc1 ! (λ l₁. alloc1 ! (λ l₂. alloc1 ! (λ l₃. alloc1 ! (λ l₄. alloc1 ! (λ l₅. alloc1 ! (λ l₆. alloc1 ! (λ l₇. alloc1 ! (λ l₈. alloc1 ! (λ l₉. alloc1 ! (λ l₁₀. alloc1 ! (λ l₁₁. alloc1 ! (λ l₁₂. alloc1 ! (λ l₁₃. alloc0 ! $ params1 ! $
-        pass1 ! (init ! 24 refl (tt, tt)) $ pass1 ! (init ! 22 refl (uint-lawful 𝓤 H A W w32 .typed x₁ _ g₁ .0)) $ pass1 ! (init ! 20 refl (uint-lawful 𝓤 H A W w32 .typed x₂ _ g₂ .0)) $ pass1 ! (init ! 18 refl (uint-lawful 𝓤 H A W w32 .typed x₃ _ g₃ .0)) $ pass1 ! (init ! 16 refl (uint-lawful 𝓤 H A W w32 .typed x₄ _ g₄ .0)) $ pass1 ! (init ! 14 refl (uint-lawful 𝓤 H A W w32 .typed x₅ _ g₅ .0)) $ pass1 ! (init ! 12 refl (tt, (tt, (record { fits = room₆ .0 }, tt)))) $ pass1 ! (init ! 10 refl (tt, (tt, (record { fits = room₇ .0 }, tt)))) $ pass1 ! (init ! 8 refl (tt, (tt, (record { fits = room₈ .0 }, tt)))) $ pass1 ! (init ! 6 refl (tt, (tt, (record { fits = room₉ .0 }, tt)))) $ pass0 ! $
-        move ! (29 ∷ []) $ fsplit ! $ move ! (1 ∷ []) $ fsplit ! $ drop ! $ fsplit ! $ drop ! $ fsplit ! $ drop ! $ fsplit ! $ drop ! $ fsplit ! $ drop ! $ fsplit ! $ move ! (1 ∷ []) $ fsplit ! $ move ! (1 ∷ []) $ fsplit ! $ move ! (1 ∷ []) $ fsplit ! $ move ! (1 ∷ []) $ drop ! $ move ! (33 ∷ []) $ split ! $ move ! (1 ∷ []) $ split ! $ move ! (1 ∷ []) $ split ! $ move ! (1 ∷ []) $ split ! $ move ! (1 ∷ []) $ split ! $ move ! (1 ∷ []) $ drop ! $
+        alloc1 ! (λ l₀. alloc1 ! (λ l₁. alloc1 ! (λ l₂. alloc1 ! (λ l₃. alloc1 ! (λ l₄. alloc1 ! (λ l₅. alloc1 ! (λ l₆. alloc1 ! (λ l₇. alloc1 ! (λ l₈. alloc1 ! (λ l₉. alloc1 ! (λ l₁₀. alloc1 ! (λ l₁₁. alloc1 ! (λ l₁₂. alloc1 ! (λ l₁₃. alloc1 ! (λ l₁₄. alloc0 ! $ params1 ! $
+        pass1 ! (init ! 26 refl (tt, tt)) $ pass1 ! (init ! 24 refl (uint-lawful 𝓤 H A W w32 .typed x₁ _ g₁ .0)) $ pass1 ! (init ! 22 refl (uint-lawful 𝓤 H A W w32 .typed x₂ _ g₂ .0)) $ pass1 ! (init ! 20 refl (uint-lawful 𝓤 H A W w32 .typed x₃ _ g₃ .0)) $ pass1 ! (init ! 18 refl (uint-lawful 𝓤 H A W w32 .typed x₄ _ g₄ .0)) $ pass1 ! (init ! 16 refl (uint-lawful 𝓤 H A W w32 .typed x₅ _ g₅ .0)) $ pass1 ! (init ! 14 refl (tt, (tt, (record { fits = room₆ .0 }, tt)))) $ pass1 ! (init ! 12 refl (tt, (tt, (record { fits = room₇ .0 }, tt)))) $ pass1 ! (init ! 10 refl (tt, (tt, (record { fits = room₈ .0 }, tt)))) $ pass1 ! (init ! 8 refl (tt, (tt, (record { fits = room₉ .0 }, tt)))) $ pass0 ! $
+        move ! (31 ∷ []) $ fsplit ! $ move ! (1 ∷ []) $ fsplit ! $ drop ! $ fsplit ! $ drop ! $ fsplit ! $ drop ! $ fsplit ! $ drop ! $ fsplit ! $ drop ! $ fsplit ! $ move ! (1 ∷ []) $ fsplit ! $ move ! (1 ∷ []) $ fsplit ! $ move ! (1 ∷ []) $ fsplit ! $ move ! (1 ∷ []) $ drop ! $ move ! (35 ∷ []) $ split ! $ move ! (1 ∷ []) $ split ! $ move ! (1 ∷ []) $ split ! $ move ! (1 ∷ []) $ split ! $ move ! (1 ∷ []) $ split ! $ move ! (1 ∷ []) $ drop ! $
         -- [tok9; tok8; tok7; tok6; tok0; own9; own8; own7; own6; own0; the locals]
         nothing ! $ calls-fn ! fm settings-of.ended (settings-of.clauses 𝓤 H A at-mem run) (known .0) ((tt, tt, tt, (x₁, (x₂, (x₃, (x₄, (x₅, tt))))), (v₁ ∷ [], (v₂ ∷ [], (v₃ ∷ [], (v₄ ∷ [], (v₅ ∷ [], tt)))))), tt) (λ c _. c ≡ settingsOf x₁ x₂ x₃ x₄ x₅)
         (‵ ftrue) (plainly 𝓤 H A W (u32 ∷ u32 ∷ u32 ∷ u32 ∷ u32 ∷ []) ((uint-makes 𝓤 H A W w32), ((uint-makes 𝓤 H A W w32), ((uint-makes 𝓤 H A W w32), ((uint-makes 𝓤 H A W w32), ((uint-makes 𝓤 H A W w32), tt))))) (x₁, (x₂, (x₃, (x₄, (x₅, tt))))) (v₁ ∷ [], (v₂ ∷ [], (v₃ ∷ [], (v₄ ∷ [], (v₅ ∷ [], tt))))) (g₁, (g₂, (g₃, (g₄, (g₅, tt)))))) (λ c _. id⊢ 𝓤 _)
-        (and-then ! (load ! (from ! (stop !)) (look ! 33 refl)) (and-then ! (load ! (from ! (stop !)) (look ! 31 refl)) (and-then ! (load ! (from ! (stop !)) (look ! 29 refl)) (and-then ! (load ! (from ! (stop !)) (look ! 27 refl)) (and-then ! (load ! (from ! (stop !)) (look ! 25 refl)) (no-more !)))))) (λ c w₀ _ e-c is-c. drop ! $ drop ! $ land ! (from ! (stop !)) (init ! 14 refl (LL.lawful S.the-type S′.the-laws 𝓤 H A W .typed c (w₀ ∷ []) is-c .0)) $
+        (and-then ! (load ! (from ! (stop !)) (look ! 35 refl)) (and-then ! (load ! (from ! (stop !)) (look ! 33 refl)) (and-then ! (load ! (from ! (stop !)) (look ! 31 refl)) (and-then ! (load ! (from ! (stop !)) (look ! 29 refl)) (and-then ! (load ! (from ! (stop !)) (look ! 27 refl)) (no-more !)))))) (λ c w₀ _ e-c is-c. drop ! $ drop ! $ land ! (from ! (stop !)) (init ! 16 refl (LL.lawful S.the-type S′.the-laws 𝓤 H A W .typed c (w₀ ∷ []) is-c .0)) $
         move ! (9 ∷ 4 ∷ []) $ opens-link b o γ ! tt h (λ was.
         -- [cell; opened; tok9; tok8; tok7; tok6; own9; own8; own7; own6; the locals]
-        assigns ! (of-opd ! (load ! (from ! (hop ! (look ! 34 refl) (stop !))) (look-raw ! 0 refl))) (from ! (stop !)) (init ! 10 refl (LL.lawful B.the-type B′.the-laws 𝓤 H A W .typed h (hv ∷ []) was .0)) $
+        assigns ! (of-opd ! (load ! (from ! (hop ! (look ! 36 refl) (stop !))) (look-raw ! 0 refl))) (from ! (stop !)) (init ! 10 refl (LL.lawful B.the-type B′.the-laws 𝓤 H A W .typed h (hv ∷ []) was .0)) $
         move ! (5 ∷ 9 ∷ 4 ∷ 8 ∷ 3 ∷ 7 ∷ 2 ∷ 6 ∷ []) $ group ! 8 $ calls-fn ! fm core.ended (core.clauses 𝓤 H A at-mem run) (known .1) (to-core h hv c w₀) (λ a ws. OpenPromise c h (partsOf (x₆ .now) (x₇ .now) (x₈ .now) (x₉ .now)) (a .answer) (a .link) (partsOf (x₆ .now) (x₇ .now) (x₈ .now) (x₉ .now))) (‵ (flft κ₁ q₁) ⊛ ‵ Own₆ ⊛ ‵ (flft κ₂ q₂) ⊛ ‵ Own₇ ⊛ ‵ (flft κ₃ q₃) ⊛ ‵ Own₈ ⊛ ‵ (flft κ₄ q₄) ⊛ ‵ Own₉)
         (asks-core h hv was c w₀ is-c) (λ a ws. id⊢ 𝓤 _)
-        (and-then ! (load ! (from ! (stop !)) (look ! 3 refl)) (and-then ! (load ! (from ! (stop !)) (look ! 7 refl)) (and-then ! (load ! (from ! (stop !)) (look ! 15 refl)) (and-then ! (load ! (from ! (stop !)) (look ! 13 refl)) (and-then ! (load ! (from ! (stop !)) (look ! 11 refl)) (and-then ! (load ! (from ! (stop !)) (look ! 9 refl)) (no-more !))))))) (λ a w₁ ws e-a is-a. land ! (from ! (stop !)) (init ! 6 refl (LL.lawful N.the-type N′.the-laws 𝓤 H A W .typed a (w₁ ∷ []) is-a .0)) $
+        (and-then ! (load ! (from ! (stop !)) (look ! 3 refl)) (and-then ! (load ! (from ! (stop !)) (look ! 9 refl)) (and-then ! (load ! (from ! (stop !)) (look ! 17 refl)) (and-then ! (load ! (from ! (stop !)) (look ! 15 refl)) (and-then ! (load ! (from ! (stop !)) (look ! 13 refl)) (and-then ! (load ! (from ! (stop !)) (look ! 11 refl)) (no-more !))))))) (λ a w₁ ws e-a is-a. land ! (from ! (stop !)) (init ! 8 refl (LL.lawful N.the-type N′.the-laws 𝓤 H A W .typed a (w₁ ∷ []) is-a .0)) $
         use1 W (‵ (flft κ₁ q₁) ⊛ ‵ (flft κ₂ q₂) ⊛ ‵ (flft κ₃ q₃) ⊛ ‵ (flft κ₄ q₄) ⊛ ‵ ftrue) (id⊢ 𝓤 _) $ split ! $ move ! (1 ∷ []) $ split ! $ move ! (1 ∷ []) $ split ! $ move ! (1 ∷ []) $ split ! $ move ! (1 ∷ []) $ drop ! $ move ! (4 ∷ []) $ drop ! $
         -- [tok9; tok8; tok7; tok6; cell; opened; the locals]
         nothing ! $ calls-fn ! fm link-of.ended (link-of.clauses 𝓤 H A at-mem run) (known .2) ((tt, tt, tt, (a, tt), (w₁ ∷ [], tt)), tt) (λ k _. k ≡ a .link)
         (‵ ftrue) (plainly 𝓤 H A W (N.the-row ∷ []) ((LL.makes N.the-type N′.the-plain 𝓤 H A), tt) (a, tt) (w₁ ∷ [], tt) (is-a, tt)) (λ k _. id⊢ 𝓤 _)
-        (and-then ! (load ! (from ! (stop !)) (look ! 9 refl)) (no-more !)) (λ k w₂ _ e-k is-k. drop ! $ drop ! $ land ! (from ! (stop !)) (store ! 6 refl (LL.lawful B.the-type B′.the-laws 𝓤 H A W .typed k (w₂ ∷ []) is-k .0)) $
-        assigns ! (of-opd ! (load ! (from ! (stop !)) (look ! 6 refl))) (from ! (hop ! (look ! 30 refl) (stop !))) (store-raw ! 4 refl (LL.lawful B.the-type B′.the-laws 𝓤 H A W .typed k (w₂ ∷ []) is-k .0)) $ move ! (4 ∷ 5 ∷ []) $ closes-link b o γ ! tt h k is-k $
+        (and-then ! (load ! (from ! (stop !)) (look ! 11 refl)) (no-more !)) (λ k w₂ _ e-k is-k. drop ! $ drop ! $ land ! (from ! (stop !)) (init ! 8 refl (LL.lawful B.the-type B′.the-laws 𝓤 H A W .typed k (w₂ ∷ []) is-k .0)) $
+        assigns ! (of-opd ! (load ! (from ! (stop !)) (look ! 8 refl))) (from ! (hop ! (look ! 32 refl) (stop !))) (store-raw ! 4 refl (LL.lawful B.the-type B′.the-laws 𝓤 H A W .typed k (w₂ ∷ []) is-k .0)) $ move ! (4 ∷ 5 ∷ []) $ closes-link b o γ ! tt h k is-k $
         -- [own0; tok0; tok9; tok8; tok7; tok6; the locals]
         nothing ! $ calls-fn ! fm code-of.ended (code-of.clauses 𝓤 H A at-mem run) (known .3) ((tt, tt, tt, (a, tt), (w₁ ∷ [], tt)), tt) (λ r _. r ≡ answerCode (a .answer))
         (‵ ftrue) (plainly 𝓤 H A W (N.the-row ∷ []) ((LL.makes N.the-type N′.the-plain 𝓤 H A), tt) (a, tt) (w₁ ∷ [], tt) (is-a, tt)) (λ r _. id⊢ 𝓤 _)
-        (and-then ! (load ! (from ! (stop !)) (look ! 9 refl)) (no-more !)) (λ r w₃ _ e-r is-r. drop ! $ drop ! $ land ! (from ! (stop !)) (init ! 32 refl (sint-lawful 𝓤 H A W w32 .typed r _ is-r .0)) $
-        returns ! (look ! 32 refl) $ forget ! 6 refl $ forget ! 8 refl $ forget ! 10 refl $ forget ! 12 refl $ forget ! 14 refl $ forget ! 16 refl $ forget ! 18 refl $ forget ! 20 refl $ forget ! 22 refl $ forget ! 24 refl $ forget ! 26 refl $ forget ! 28 refl $ forget ! 30 refl $ forget ! 32 refl $
-        move ! (32 ∷ 33 ∷ []) $ free1 ! $ move ! (30 ∷ 31 ∷ []) $ free1 ! $ move ! (28 ∷ 29 ∷ []) $ free1 ! $ move ! (26 ∷ 27 ∷ []) $ free1 ! $ move ! (24 ∷ 25 ∷ []) $ free1 ! $ move ! (22 ∷ 23 ∷ []) $ free1 ! $ move ! (20 ∷ 21 ∷ []) $ free1 ! $ move ! (18 ∷ 19 ∷ []) $ free1 ! $ move ! (16 ∷ 17 ∷ []) $ free1 ! $ move ! (14 ∷ 15 ∷ []) $ free1 ! $ move ! (12 ∷ 13 ∷ []) $ free1 ! $ move ! (10 ∷ 11 ∷ []) $ free1 ! $ move ! (8 ∷ 9 ∷ []) $ free1 ! $ move ! (6 ∷ 7 ∷ []) $ free1 ! $ free0 ! $
-        move ! (0 ∷ 1 ∷ 5 ∷ 4 ∷ 3 ∷ 2 ∷ []) $ by ! (exits r w₃ k (told answerCode (λ a k. OpenPromise (settingsOf x₁ x₂ x₃ x₄ x₅) h (partsOf (x₆ .now) (x₇ .now) (x₈ .now) (x₉ .now)) a k (partsOf (x₆ .now) (x₇ .now) (x₈ .now) (x₉ .now))) (a .answer) (a .link) e-k e-r (subst (λ (s : Settings). OpenPromise s h (partsOf (x₆ .now) (x₇ .now) (x₈ .now) (x₉ .now)) (a .answer) (a .link) (partsOf (x₆ .now) (x₇ .now) (x₈ .now) (x₉ .now))) e-c e-a)) is-r))))))))))))))))))))
+        (and-then ! (load ! (from ! (stop !)) (look ! 11 refl)) (no-more !)) (λ r w₃ _ e-r is-r. drop ! $ drop ! $ land ! (from ! (stop !)) (init ! 34 refl (sint-lawful 𝓤 H A W w32 .typed r _ is-r .0)) $
+        returns ! (look ! 34 refl) $ forget ! 6 refl $ forget ! 8 refl $ forget ! 10 refl $ forget ! 12 refl $ forget ! 14 refl $ forget ! 16 refl $ forget ! 18 refl $ forget ! 20 refl $ forget ! 22 refl $ forget ! 24 refl $ forget ! 26 refl $ forget ! 28 refl $ forget ! 30 refl $ forget ! 32 refl $ forget ! 34 refl $
+        move ! (34 ∷ 35 ∷ []) $ free1 ! $ move ! (32 ∷ 33 ∷ []) $ free1 ! $ move ! (30 ∷ 31 ∷ []) $ free1 ! $ move ! (28 ∷ 29 ∷ []) $ free1 ! $ move ! (26 ∷ 27 ∷ []) $ free1 ! $ move ! (24 ∷ 25 ∷ []) $ free1 ! $ move ! (22 ∷ 23 ∷ []) $ free1 ! $ move ! (20 ∷ 21 ∷ []) $ free1 ! $ move ! (18 ∷ 19 ∷ []) $ free1 ! $ move ! (16 ∷ 17 ∷ []) $ free1 ! $ move ! (14 ∷ 15 ∷ []) $ free1 ! $ move ! (12 ∷ 13 ∷ []) $ free1 ! $ move ! (10 ∷ 11 ∷ []) $ free1 ! $ move ! (8 ∷ 9 ∷ []) $ free1 ! $ move ! (6 ∷ 7 ∷ []) $ free1 ! $ free0 ! $
+        move ! (0 ∷ 1 ∷ 5 ∷ 4 ∷ 3 ∷ 2 ∷ []) $ by ! (exits r w₃ k (told answerCode (λ a k. OpenPromise (settingsOf x₁ x₂ x₃ x₄ x₅) h (partsOf (x₆ .now) (x₇ .now) (x₈ .now) (x₉ .now)) a k (partsOf (x₆ .now) (x₇ .now) (x₈ .now) (x₉ .now))) (a .answer) (a .link) e-k e-r (subst (λ (s : Settings). OpenPromise s h (partsOf (x₆ .now) (x₇ .now) (x₈ .now) (x₉ .now)) (a .answer) (a .link) (partsOf (x₆ .now) (x₇ .now) (x₈ .now) (x₉ .now))) e-c e-a)) is-r)))))))))))))))))))))
 
   f-meets : (𝓣 : Tables 𝓤 H) → Known (𝓣 .C) → Meets 𝓤 H A f.signature (WpFn 𝓤 H (𝓣 .C) (𝓣 .Λ) code.function) (f.spec 𝓤 H A at-mem run)
   f-meets 𝓣 known = walk-meets 𝓤 H A f.ended stayed W (goes-ref 𝓤 H A W 5 0 tt (plain (λ _. L)), (goes-dropped 𝓤 H A W 5 (plain (λ _. u32)) yes (λ κs x f. refl), (goes-dropped 𝓤 H A W 5 (plain (λ _. u32)) yes (λ κs x f. refl), (goes-dropped 𝓤 H A W 5 (plain (λ _. u32)) yes (λ κs x f. refl), (goes-dropped 𝓤 H A W 5 (plain (λ _. u32)) yes (λ κs x f. refl), (goes-dropped 𝓤 H A W 5 (plain (λ _. u32)) yes (λ κs x f. refl), (goes-dropped 𝓤 H A W 5 (shrSliceOf (1 ∷ []) tt (plain (λ _. u8))) yes (λ κs x f. refl), (goes-dropped 𝓤 H A W 5 (shrSliceOf (2 ∷ []) tt (plain (λ _. u8))) yes (λ κs x f. refl), (goes-dropped 𝓤 H A W 5 (shrSliceOf (3 ∷ []) tt (plain (λ _. R))) yes (λ κs x f. refl), (goes-dropped 𝓤 H A W 5 (shrSliceOf (4 ∷ []) tt (plain (λ _. u32))) yes (λ κs x f. refl), tt))))))))))
