@@ -34,8 +34,8 @@
  *
  * Call flush about every `interval` milliseconds, and after a send that should not wait.
  *
- * The header has three parts: sizes and results; the seven calls, which are proved; and `ampferweg_station`, a thin layer
- * of inline functions that holds the lent parts and passes them on. C99 or C++; x86-64 Linux, the archive's target. */
+ * The header has four parts: sizes and results; the seven calls, and settings files, which are proved; and
+ * `ampferweg_station`, a thin layer of inline functions that holds the lent parts and passes them on. C99 or C++; x86-64 Linux, the archive's target. */
 #ifndef AMPFERWEG_H
 #define AMPFERWEG_H
 
@@ -91,8 +91,10 @@ enum ampferweg_refusal {
     AMPFERWEG_NO_MESSAGE = 9,            /* read, size: no message has arrived whole */
     AMPFERWEG_LONG_MESSAGE = 10,         /* send: the message is above 127 segments */
     AMPFERWEG_NO_FREE_SLOTS = 11,        /* send: more segments than free send slots; flush, take in, and try again */
-    AMPFERWEG_SETTING_OUT_OF_RANGE = 12, /* open: a setting outside its range */
-    AMPFERWEG_INVALID_BLOCK = 13         /* any call but open: the control block is not one that this link makes */
+    AMPFERWEG_SETTING_OUT_OF_RANGE = 12, /* open, settings files: a setting outside its range */
+    AMPFERWEG_INVALID_BLOCK = 13,        /* any call but open: the control block is not one that this link makes */
+    AMPFERWEG_NOT_SETTINGS = 15,         /* a settings file under 5 bytes, with another mark, or with a wrong length */
+    AMPFERWEG_UNKNOWN_VERSION = 16       /* a settings file of another version than 1 */
 };
 
 /* The refusal number of a result, 0 where the call is done. */
@@ -116,6 +118,8 @@ static inline const char *ampferweg_text(ampferweg_result result)
     case AMPFERWEG_NO_FREE_SLOTS: return "refused 11: not enough free send slots";
     case AMPFERWEG_SETTING_OUT_OF_RANGE: return "refused 12: a setting is outside its range";
     case AMPFERWEG_INVALID_BLOCK: return "refused 13: the control block is not valid";
+    case AMPFERWEG_NOT_SETTINGS: return "refused 15: this is not a settings file";
+    case AMPFERWEG_UNKNOWN_VERSION: return "refused 16: the settings file is of an unknown version";
     default: return "refused: no number of this library";
     }
 }
@@ -274,6 +278,25 @@ ampferweg_result ampferweg_size(const ampferweg_link *link, const uint8_t *send_
 ampferweg_result ampferweg_show(const ampferweg_link *link, const uint8_t *send_pool, size_t send_pool_len,
     const uint8_t *receive_pool, size_t receive_pool_len, const ampferweg_record *table, size_t table_len,
     const uint32_t *acks, size_t acks_len, uint32_t *start);
+
+/* ---- Settings files ------------------------------------------------------------------------------------------------
+ *
+ * A link's settings in 15 bytes, for a controller that is swapped: the letters KLS, the version 1 in 2 bytes, then
+ * conversation 4 bytes, mtu 2, mode 1, interval 2, threshold 1, all little-endian. What is written and read back is the same,
+ * and each file that is read is the very one that writing its settings gives. Opening and keeping the file is the caller's. */
+
+#define AMPFERWEG_SETTINGS_FILE_SIZE 15
+
+/* Writes the file of these settings into the first 15 bytes of `file`; what lies beyond is not touched.
+ * Answers 0, or refuses 7 for fewer than 15 bytes, then 12. */
+ampferweg_result ampferweg_settings_write(uint32_t conv, uint32_t mtu, uint32_t mode, uint32_t interval, uint32_t threshold,
+    uint8_t *file, size_t file_len);
+
+/* Reads a file of `file_len` bytes, and stores its settings, ready for opening. No two pointers may lead to one number.
+ * Answers 0, or refuses 15 for fewer than 5 bytes or another mark, 16 for an unknown version, 15 for a wrong length, then 12;
+ * a refused file stores nothing. */
+ampferweg_result ampferweg_settings_read(const uint8_t *file, size_t file_len,
+    uint32_t *conv, uint32_t *mtu, uint32_t *mode, uint32_t *interval, uint32_t *threshold);
 
 /* ---- A station: a link with its parts ------------------------------------------------------------------------------
  *

@@ -63,7 +63,7 @@ build() { # SUFFIX NAME FLAGS..
 program_checks() { # SUFFIX FLAGS..
     suffix=$1
     shift
-    for name in layout calls refusals strangers session replay; do
+    for name in layout calls refusals strangers session settings replay; do
         build "$suffix" $name "$@" || { failed=$((failed + 1)); echo "$name, $suffix: FAILED to build"; continue; }
         [ "$name" = replay ] || try "$name, $suffix" "$work/$name-$suffix"
     done

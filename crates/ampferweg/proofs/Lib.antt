@@ -1,2 +1,3 @@
 pub mod Block
 pub mod Told
+pub mod FileCodes

@@ -1,5 +1,7 @@
 // What C calls: each function takes the block behind a pointer, and answers with a number, 0 or more where the call is done
 // and the refusal's number below zero where it is not. Each is proved by hand.
+pub mod settings;
+
 use block::Link;
 use timing::Record;
 ghost use Rattle.calls.specs.Promises.{OpenPromise, SendPromise, InputPromise, FlushPromise, ReadPromise, SizePromise};

@@ -9,7 +9,7 @@ use mir.Syntax.{w32}
 use mir.Val.{SFits, toZ, ofZ}
 use mir.ValLaws.{toZ-ofZ}
 use Rattle.protocol.specs.Refusals.{numberOf}
-use Rattle.codes.specs.Codes.{refusalCode, sizeCode}
+use Rattle.codes.specs.Codes.{numberCode, refusalCode, sizeCode}
 use Rattle.protocol.specs.declared.Refusal.{Refusal}
 use Rattle.protocol.specs.declared.Refusal.the-variants.{
   ShortDatagram,
@@ -27,8 +27,13 @@ use Rattle.protocol.specs.declared.Refusal.the-variants.{
   InvalidBlock,
 }
 
--- a refusal's number is small
-pub number-small : (r : Refusal) → numberOf r ≤ 13
+-- the negative of a byte fits 32 bits
+pub negative-fits : (n : ℕ) → n < 2 ^ 8 → SFits w32 (numberCode n)
+negative-fits zero h = record { sfits = omega arith }
+negative-fits (suc n) h = record { sfits = rw (lt-ltb 0 (suc n) (omega arith)) (omega arith) }
+
+-- a refusal's number is a byte
+number-small : (r : Refusal) → numberOf r < 2 ^ 8
 number-small ShortDatagram = omega arith
 number-small OtherConversation = omega arith
 number-small LengthPastEnd = omega arith
@@ -43,12 +48,7 @@ number-small NoFreeSlots = omega arith
 number-small SettingOutOfRange = omega arith
 number-small InvalidBlock = omega arith
 
--- its negative fits 32 bits
-pub negative-fits : (n : ℕ) → n ≤ 13 → SFits w32 (pos 0 -ℤ pos n)
-negative-fits zero h = record { sfits = omega arith }
-negative-fits (suc n) h = record { sfits = rw (lt-ltb 0 (suc n) (omega arith)) (omega arith) }
-
--- so does its code
+-- so its code fits
 pub code-fits : (r : Refusal) → SFits w32 (refusalCode r)
 code-fits r = negative-fits (numberOf r) (number-small r)
 

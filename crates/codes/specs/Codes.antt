@@ -11,9 +11,12 @@ use Rattle.answers.specs.declared.Count.{Count}
 use Rattle.answers.specs.declared.Count.the-variants as count
 use Rattle.show_call.specs.declared.Place.{Place}
 
--- 0 less the refusal's number
+-- 0 less a refusal's number
+abbrev pub numberCode : ℕ → ℤ
+numberCode n = pos 0 -ℤ pos n
+
 abbrev pub refusalCode : Refusal → ℤ
-refusalCode r = pos 0 -ℤ pos (numberOf r)
+refusalCode r = numberCode (numberOf r)
 
 -- 0 where the call is accepted
 abbrev pub answerCode : Answer → ℤ

@@ -10,17 +10,23 @@ use protocol::Settings;
 use show_call::Place;
 ghost use mathlib.Core.Path.{_≡_};
 ghost use Prim.Native.Nat.{min};
-ghost use Rattle.codes.specs.Codes.{refusalCode, answerCode, sizeCode, countCode, placeCode, placeStart, settingsOf};
+ghost use Rattle.codes.specs.Codes.{numberCode, refusalCode, answerCode, sizeCode, countCode, placeCode, placeStart, settingsOf};
 
 // A count is told up to this one.
 const COUNT_MOST: usize = 2147483647;
 
-// The refusal's number, below zero.
+// A refusal's number, below zero.
+pub fn number_code(number: u8) -> i32
+    ensures { λ r. ⌜ r ≡ numberCode number ⌝ }
+{
+    let n = number as i32;
+    0 - n
+}
+
 fn refusal_code(refusal: Refusal) -> i32
     ensures { λ r. ⌜ r ≡ refusalCode refusal ⌝ }
 {
-    let number = refusal.number() as i32;
-    0 - number
+    number_code(refusal.number())
 }
 
 // 0, or the refusal.

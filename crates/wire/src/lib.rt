@@ -1,6 +1,6 @@
 // Segments' headers as bytes.
 pub mod codec;
-mod number;
+pub mod number;
 
 // A segment's header.
 pub struct Header {

@@ -1,0 +1,12 @@
+-- `settings_file::put_front` meets its contract: three letters and the version, one stored behind the other.
+-- Assumes nothing.
+use borrow.Author.Needs.{needs}
+use Rattle.settings_file.specs.FileLaws.{front-stored}
+use Rattle.settings_file.proofs.put_front.Statement.{statement}
+use Rattle.settings_file.proofs.put_front.Tie as tie
+
+returns : tie.Need-returns
+returns c = front-stored _ (c .before .before .before .before .before .before .before .before .before .before .before .before .before .before .put-u8 .ensures) (c .before .before .before .before .before .before .before .before .before .before .put-u82 .ensures) (c .before .before .before .before .before .before .put-u83 .ensures) (c .before .before .put-u16 .ensures)
+
+pub put-front-spec : {M : Type 1} → statement M
+put-front-spec = tie.close (tie.spec (search needs) (search needs) (search needs) (search needs) (search needs) returns)
