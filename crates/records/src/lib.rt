@@ -47,17 +47,6 @@ fn outstanding_count(list: OutstandingList) -> usize
     if list.count < 32 { list.count } else { 32 }
 }
 
-// The slot of the i-th entry of the list's array.
-fn slot_at(list: OutstandingList, i: usize) -> usize
-    ensures { λ r. ⌜ r ≡ getD (slotsOf (list .at)) i 0 ⌝ }
-{
-    if i < 32 {
-        let segment = list.at[i];
-        return segment.held.slot as usize;
-    }
-    0
-}
-
 // 32 blank records.
 fn blank_records() -> [Record; 32]
     ensures { λ r. ⌜ r ≡ replicate 32 blank ⌝ }
@@ -71,44 +60,18 @@ fn blank_records() -> [Record; 32]
     [blank; 32]
 }
 
-// The i-th of 32 records.
-fn record_at(records: [Record; 32], i: usize) -> Record
-    ensures { λ r. ⌜ r ≡ getD records i blank ⌝ }
-{
-    if i < 32 {
-        return records[i];
-    }
-    Record {
-        number: 0,
-        due: 0,
-        timeout: 0,
-        skips: 0,
-    }
-}
-
-// 32 records with another one at i.
-fn with_record(records: [Record; 32], i: usize, updated: Record) -> [Record; 32]
-    ensures { λ r. ⌜ r ≡ set records i updated ⌝ }
-{
-    if i < 32 {
-        let mut next = records;
-        next[i] = updated;
-        return next;
-    }
-    records
-}
-
 // The records of the outstanding segments, in list order, and blank ones up to 32.
 pub fn gather(table: &[Record], list: OutstandingList) -> [Record; 32]
     ensures { λ r. ⌜ r ≡ padded (gathered (now (table .entry)) (slotsOf (outstandingOf list))) ⌝ }
 {
-    let mut records = blank_records();
+    let at = list.at;
     let n = outstanding_count(list);
+    let mut records = blank_records();
     let mut i = 0;
     while i < n {
-        let slot = slot_at(list, i);
-        let found = read(table, slot);
-        records = with_record(records, i, found);
+        let segment = at[i];
+        let found = read(table, segment.held.slot as usize);
+        records[i] = found;
         i += 1;
     }
     records
@@ -118,12 +81,13 @@ pub fn gather(table: &[Record], list: OutstandingList) -> [Record; 32]
 pub fn scatter(table: &mut [Record], list: OutstandingList, records: [Record; 32])
     ensures { λ _. ⌜ now (table .exit) ≡ scattered (now (table .entry)) (slotsOf (outstandingOf list)) records ⌝ }
 {
+    let at = list.at;
     let n = outstanding_count(list);
     let mut i = 0;
     while i < n {
-        let slot = slot_at(list, i);
-        let updated = record_at(records, i);
-        replace(table, slot, updated);
+        let segment = at[i];
+        let updated = records[i];
+        replace(table, segment.held.slot as usize, updated);
         i += 1;
     }
 }

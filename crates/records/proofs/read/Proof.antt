@@ -1,4 +1,4 @@
--- `records::read` meets its contract: a walk of its MIR, by hand, with a branch. Where i is below the length the record is read as `record_at` reads it; else it is the zero record, which `getD` gives past the end.
+-- `records::read` meets its contract: a walk of its MIR, by hand, with a branch. Where i is below the length the record is read; else it is the zero record, which `getD` gives past the end.
 -- Assumes nothing.
 use Rattle.records.proofs.Walk.{_≡_, refl, sym, ap, subst, ℕ, _<_, _^_, List, [], _∷_, length, getD, set, length-set, URA, fullShare, named, w32, w64, tyPtr, tyBool, tyInt, Val, vunit, vint, vptr, vbool, SProp, ent, emp, via, fst∗, Lft, GName, Share, ftrue, fsep, fat, flft, Memory, Routine, Heap, Calls, Loops, WpFn, Tables, Atoms, Fun, givenOf, tables, tablesOf}
 use Rattle.records.proofs.Walk.{Given, ‵, _⊛_, ⋆, _$_, _∵_, !, qed, by, move, keep, drop, split, join, rewrite, fsplit, fjoin, feqI, suffices, frame, done, agg, whole, sub, look-in, look, look-raw, init, store-raw, forget, stop, hop, fld, from, load, lit, unit-lit, of-opd, bin, and-then, no-more, assigns, assigns-last, first, branches, skips, returns, enter, alloc1, alloc0, params1, pass1, pass0, free1, free0, exec}
