@@ -63,7 +63,7 @@ extern "C" {
 #define AMPFERWEG_SEND_POOL_SIZE(mtu)    (128 * AMPFERWEG_MSS(mtu))
 #define AMPFERWEG_RECEIVE_POOL_SIZE(mtu) (256 * AMPFERWEG_MSS(mtu))
 
-/* Bytes of the longest message: 127 segments. A read buffer of this size is never too short for an honest peer. */
+/* Bytes of the longest message: 127 segments. A read buffer of this size is never too short. */
 #define AMPFERWEG_MESSAGE_SIZE(mtu) (127 * AMPFERWEG_MSS(mtu))
 
 #define AMPFERWEG_TABLE_LEN   128   /* records of the table, one for each send slot */
@@ -73,7 +73,9 @@ extern "C" {
 
 /* ---- Results -------------------------------------------------------------------------------------------------------
  *
- * 0 or more: the call is done. A flush gives the datagrams that it wrote, a read and a size give bytes, the others 0.
+ * 0 or more: the call is done. A flush gives the datagrams that it wrote, a read, a size and a show give bytes, the
+ * others 0. No count is capped, which is proved: it is at most AMPFERWEG_LENGTHS_LEN datagrams, or
+ * AMPFERWEG_MESSAGE_SIZE(mtu) bytes.
  * Below 0: the call is refused, -N for refusal number N, and nothing has changed: not a field of the control block, not a
  * byte of any lent part. */
 

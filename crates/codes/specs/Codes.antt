@@ -23,7 +23,7 @@ abbrev pub answerCode : Answer → ℤ
 answerCode answer.Accepted = pos 0
 answerCode (answer.Refused r) = refusalCode r
 
--- a count is told up to 2^31 - 1: no count of a link comes near that
+-- a count is told up to 2^31 - 1, which no count of a call reaches: C gets it as it is (crate `counts`)
 abbrev pub sizeCode : ℕ → ℤ
 sizeCode n = pos (min n 2147483647)
 
@@ -31,7 +31,7 @@ abbrev pub countCode : Count → ℤ
 countCode (count.Of n) = sizeCode n
 countCode (count.Refused r) = refusalCode r
 
--- a place in the receive pool: its count as a number, and its start in 32 bits
+-- a place in the receive pool: its count as a number, and its start in 32 bits, both as they are
 abbrev pub placeCode : Place → ℤ
 placeCode p = sizeCode (p .count)
 

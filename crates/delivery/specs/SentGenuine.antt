@@ -206,7 +206,7 @@ module _ (s : Station) (pieces : List Piece) (made : valid (s .state) ≡ true) 
     writes : FlushWrites c (packed (c .mtu) segs)
     writes =
         let p = valid-parts (s .state) made in
-        flush-writes-any (s .state) t k (s .sendPool) ask half conv32 carry (p .fewAcks) (p .range) time (o .long) (count-few d) (count-room d (half .numbers .apart))
+        flush-writes-any (s .state) t k (s .sendPool) ask (p .range) (p .fewAcks) (count-few d) (count-room d (half .numbers .apart)) half conv32 carry time (o .long)
 
     -- the numbers of what is transmitted
     small-sent : All (λ (x : Sent). x .record .number < 2 ^ 30) (sentWith c t k d)

@@ -167,10 +167,7 @@ wished-few : (b : Bool) (g : Segment) → length (wished b g) ≤ 1
 wished-few true g = omega arith
 wished-few false g = omega arith
 
-module _ (s : State) (t : ℕ) (pool : List ℕ) (ask : Bool) (sent : List Sent)
-    (conv32 : s .settings .conv < 2 ^ 32) (w : CarryFits (s .receiving)) (fewAcks : length (s .receiving .acks) ≤ acksMost)
-    (range : inRange (s .settings) ≡ true) (time : t < 2 ^ 32) (long : sendSlots * mss (s .settings) ≤ length pool)
-    (fit : All (DataFits (mss (s .settings))) sent) (few : length sent ≤ sendWindow) where
+module _ (s : State) (t : ℕ) (pool : List ℕ) (ask : Bool) (sent : List Sent) (range : inRange (s .settings) ≡ true) where
   abbrev c : Carried
   c = carried s
 
@@ -180,82 +177,86 @@ module _ (s : State) (t : ℕ) (pool : List ℕ) (ask : Bool) (sent : List Sent)
   mtu : MtuInRange (s .settings)
   mtu = mtu-in-range (s .settings) range
 
-  carried-fits : CarriedFits (carried s)
-  carried-fits = record { conv = conv32; wnd = omega arith; una = w .next }
+  module _ (conv32 : s .settings .conv < 2 ^ 32) (w : CarryFits (s .receiving)) (time : t < 2 ^ 32)
+      (long : sendSlots * mss (s .settings) ≤ length pool) (fit : All (DataFits (mss (s .settings))) sent) where
+    carried-fits : CarriedFits (carried s)
+    carried-fits = record { conv = conv32; wnd = omega arith; una = w .next }
 
-  pub written-valid : All (Valid (s .settings .conv) (mss (s .settings))) (written s t pool ask sent)
-  written-valid =
-      all-written s t pool ask sent (Valid (s .settings .conv) m)
-      (all-weaker AckFits (λ (a : Ack). Valid (s .settings .conv) m (ackSegment c a))
-      (λ a f. control-valid c m ack (a .sn) (a .ts) carried-fits (omega arith) (omega arith) (f .sn) (f .ts))
-      (s .receiving .acks)
-      (w .acks))
-      (control-valid c m windowAsk 0 0 carried-fits (omega arith) (omega arith) (omega arith) (omega arith))
-      (control-valid c m windowTell 0 0 carried-fits (omega arith) (omega arith) (omega arith) (omega arith))
-      (all-weaker (DataFits m) (λ (x : Sent). Valid (s .settings .conv) m (dataSegment c m t pool x))
-      (λ x f. data-valid c m t pool x carried-fits (omega (arith, mtu .most)) time long f)
-      sent
-      fit)
+    pub written-valid : All (Valid (s .settings .conv) (mss (s .settings))) (written s t pool ask sent)
+    written-valid =
+        all-written s t pool ask sent (Valid (s .settings .conv) m)
+        (all-weaker AckFits (λ (a : Ack). Valid (s .settings .conv) m (ackSegment c a))
+        (λ a f. control-valid c m ack (a .sn) (a .ts) carried-fits (omega arith) (omega arith) (f .sn) (f .ts))
+        (s .receiving .acks)
+        (w .acks))
+        (control-valid c m windowAsk 0 0 carried-fits (omega arith) (omega arith) (omega arith) (omega arith))
+        (control-valid c m windowTell 0 0 carried-fits (omega arith) (omega arith) (omega arith) (omega arith))
+        (all-weaker (DataFits m) (λ (x : Sent). Valid (s .settings .conv) m (dataSegment c m t pool x))
+        (λ x f. data-valid c m t pool x carried-fits (omega (arith, mtu .most)) time long f)
+        sent
+        fit)
 
-  control-short : (cmd sn ts : ℕ) → length (bytesOfSegment (control c cmd sn ts)) ≤ headerSize
-  control-short cmd sn ts = omega (arith, length-segment (control c cmd sn ts))
+  -- how many they are, and how long, whatever numbers they carry
+  module _ (fewAcks : length (s .receiving .acks) ≤ acksMost) (short : All (λ (x : Sent). x .held .len ≤ mss (s .settings)) sent) (few : length sent ≤ sendWindow) where
+    control-short : (cmd sn ts : ℕ) → length (bytesOfSegment (control c cmd sn ts)) ≤ headerSize
+    control-short cmd sn ts = omega (arith, length-segment (control c cmd sn ts))
 
-  data-short : All (λ (x : Sent). length (bytesOfSegment (dataSegment c m t pool x)) ≤ s .settings .mtu) sent
-  data-short =
-      all-weaker (DataFits m) (λ (x : Sent). length (bytesOfSegment (dataSegment c m t pool x)) ≤ s .settings .mtu)
-      (λ x f. omega (arith, length-segment (dataSegment c m t pool x), data-length m pool x f long, f .len, mtu .least)) sent fit
+    data-short : All (λ (x : Sent). length (bytesOfSegment (dataSegment c m t pool x)) ≤ s .settings .mtu) sent
+    data-short =
+        all-weaker (λ (x : Sent). x .held .len ≤ m) (λ (x : Sent). length (bytesOfSegment (dataSegment c m t pool x)) ≤ s .settings .mtu)
+        (λ x f. omega (arith, length-segment (dataSegment c m t pool x), length-take (x .held .len) (drop (x .held .slot * m) pool), mtu .least)) sent short
 
-  -- no segment is longer than mtu
-  pub written-short : All (λ (g : Segment). length (bytesOfSegment g) ≤ s .settings .mtu) (written s t pool ask sent)
-  written-short =
-      all-written s t pool ask sent (λ (g : Segment). length (bytesOfSegment g) ≤ s .settings .mtu)
-      (all-any (λ (a : Ack). length (bytesOfSegment (ackSegment c a)) ≤ s .settings .mtu) (λ a. omega (arith, control-short ack (a .sn) (a .ts), mtu .least)) (s .receiving .acks))
-      (omega (arith, control-short windowAsk 0 0, mtu .least))
-      (omega (arith, control-short windowTell 0 0, mtu .least))
-      data-short
+    -- no segment is longer than mtu
+    pub written-short : All (λ (g : Segment). length (bytesOfSegment g) ≤ s .settings .mtu) (written s t pool ask sent)
+    written-short =
+        all-written s t pool ask sent (λ (g : Segment). length (bytesOfSegment g) ≤ s .settings .mtu)
+        (all-any (λ (a : Ack). length (bytesOfSegment (ackSegment c a)) ≤ s .settings .mtu) (λ a. omega (arith, control-short ack (a .sn) (a .ts), mtu .least)) (s .receiving .acks))
+        (omega (arith, control-short windowAsk 0 0, mtu .least))
+        (omega (arith, control-short windowTell 0 0, mtu .least))
+        data-short
 
-  -- 256 acks, an ask, a tell and 32 data segments at most
-  pub written-few : length (written s t pool ask sent) ≤ lengthsLeast
-  written-few =
-      rw (written-parts s t pool ask sent)
-      (simp (length-append, length-map)
-      (omega (arith, wished-few ask (control c windowAsk 0 0), wished-few (s .receiving .tell) (control c windowTell 0 0))))
+    -- 256 acks, an ask, a tell and 32 data segments at most
+    pub written-few : length (written s t pool ask sent) ≤ lengthsLeast
+    written-few =
+        rw (written-parts s t pool ask sent)
+        (simp (length-append, length-map)
+        (omega (arith, wished-few ask (control c windowAsk 0 0), wished-few (s .receiving .tell) (control c windowTell 0 0))))
 
-  pub written-bytes : length (bytesOfSegments (written s t pool ask sent)) ≤ outputLeast
-  written-bytes =
-      rw (written-parts s t pool ask sent, length-bytes-append acks (asks ++ (tells ++ pushes)), length-bytes-append asks (tells ++ pushes), length-bytes-append tells pushes)
-      (omega (
-        arith,
-        bytes-most headerSize acks
-            (all-mapped Control (ackSegment c) (s .receiving .acks)
-            (all-any (λ (a : Ack). Control (ackSegment c a)) (λ a. control-short ack (a .sn) (a .ts)) (s .receiving .acks))),
-        bytes-most headerSize asks (all-wished s t pool ask sent Control ask (control c windowAsk 0 0) (control-short windowAsk 0 0)),
-        bytes-most headerSize tells (all-wished s t pool ask sent Control (s .receiving .tell) (control c windowTell 0 0) (control-short windowTell 0 0)),
-        bytes-most mtuMost pushes
-            (all-mapped (λ (g : Segment). length (bytesOfSegment g) ≤ mtuMost) (dataSegment c m t pool) sent
-            (all-weaker
-            (λ (x : Sent). length (bytesOfSegment (dataSegment c m t pool x)) ≤ s .settings .mtu)
-            (λ (x : Sent). length (bytesOfSegment (dataSegment c m t pool x)) ≤ mtuMost)
-            (λ x k. omega (arith, mtu .most))
-            sent
-            data-short)),
-        length-map (s .receiving .acks) (ackSegment c),
-        length-map sent (dataSegment c m t pool),
-        wished-few ask (control c windowAsk 0 0),
-        wished-few (s .receiving .tell) (control c windowTell 0 0),
-      ))
-    where
-      Control : Segment → Type 0
-      Control g = length (bytesOfSegment g) ≤ headerSize
+    pub written-bytes : length (bytesOfSegments (written s t pool ask sent)) ≤ outputLeast
+    written-bytes =
+        rw (written-parts s t pool ask sent, length-bytes-append acks (asks ++ (tells ++ pushes)), length-bytes-append asks (tells ++ pushes), length-bytes-append tells pushes)
+        (omega (
+          arith,
+          bytes-most headerSize acks
+              (all-mapped Control (ackSegment c) (s .receiving .acks)
+              (all-any (λ (a : Ack). Control (ackSegment c a)) (λ a. control-short ack (a .sn) (a .ts)) (s .receiving .acks))),
+          bytes-most headerSize asks (all-wished s t pool ask sent Control ask (control c windowAsk 0 0) (control-short windowAsk 0 0)),
+          bytes-most headerSize tells (all-wished s t pool ask sent Control (s .receiving .tell) (control c windowTell 0 0) (control-short windowTell 0 0)),
+          bytes-most mtuMost pushes
+              (all-mapped (λ (g : Segment). length (bytesOfSegment g) ≤ mtuMost) (dataSegment c m t pool) sent
+              (all-weaker
+              (λ (x : Sent). length (bytesOfSegment (dataSegment c m t pool x)) ≤ s .settings .mtu)
+              (λ (x : Sent). length (bytesOfSegment (dataSegment c m t pool x)) ≤ mtuMost)
+              (λ x k. omega (arith, mtu .most))
+              sent
+              data-short)),
+          length-map (s .receiving .acks) (ackSegment c),
+          length-map sent (dataSegment c m t pool),
+          wished-few ask (control c windowAsk 0 0),
+          wished-few (s .receiving .tell) (control c windowTell 0 0),
+        ))
+      where
+        Control : Segment → Type 0
+        Control g = length (bytesOfSegment g) ≤ headerSize
 
-      acks : List Segment
-      acks = acksOf s t pool ask sent
+        acks : List Segment
+        acks = acksOf s t pool ask sent
 
-      asks : List Segment
-      asks = askOf s t pool ask sent
+        asks : List Segment
+        asks = askOf s t pool ask sent
 
-      tells : List Segment
-      tells = tellOf s t pool ask sent
+        tells : List Segment
+        tells = tellOf s t pool ask sent
 
-      pushes : List Segment
-      pushes = dataOf s t pool ask sent
+        pushes : List Segment
+        pushes = dataOf s t pool ask sent

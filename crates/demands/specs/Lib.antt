@@ -2,6 +2,7 @@ pub mod Steps
 pub mod Stations
 pub mod Claims
 pub mod OutputLaws
+pub mod CountLaws
 pub mod Simulation
 pub mod RunLaws
 pub mod RefusalLaws
