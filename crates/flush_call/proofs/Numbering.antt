@@ -1,48 +1,68 @@
--- What is numbered of a block's parts is what the sending half numbers.
+-- What is numbered of a block is what its sending half numbers.
 -- Assumes nothing.
-use mathlib.Core.Path.{_≡_, sym, ap, ap₂, _∙_}
-use mathlib.Core.List.{List, _++_}
-use Prim.Native.Nat.{ℕ, _+_, _≤_}
+use mathlib.Core.Path.{_≡_, refl, sym, ap, _∙_}
+use mathlib.Core.List.{List, _++_, append-nil}
+use Prim.Native.Nat.{ℕ, _+_, _≤_, _<_, _^_}
 use native.Mathlib.Omega.{arith}
 use lib.ListN.{length, take, drop}
 use lib.Seq.{length-take-le}
 use Rattle.protocol.specs.Serial.{plus}
 use Rattle.timing.specs.declared.Record.{Record}
-use Rattle.lists.specs.Views.{heldOf, outstandingOf, sentOf, HeldIs, SentIs}
+use Rattle.lists.specs.Views.{heldOf, outstandingOf, HeldIs}
 use Rattle.lists.specs.Joining.{joined}
 use Rattle.lists.specs.declared.Sent.{Sent}
 use Rattle.lists.specs.declared.HeldList.{HeldList}
-use Rattle.lists.specs.declared.SentList.{SentList}
+use Rattle.lists.specs.declared.Split.{Split}
 use Rattle.lists.proofs.Loops.{holds-as}
 use Rattle.session.specs.Flushing.{numbered, numberedCount, withNumbered}
-use Rattle.block.specs.declared.StoredFlight.{StoredFlight}
+use Rattle.block.specs.declared.Link.{Link}
+use Rattle.flushing.specs.Joins.{JoinedIs}
 use Rattle.flushing.specs.Numbering.{countOf}
 use Rattle.flushing.specs.FlushLaws.{count-of}
 use Rattle.flushing.specs.ValidLaws.{valid-few}
-use Rattle.flush_call.specs.Parts.{sendingFrom, Numberable, Numbers}
+use Rattle.flushing.proofs.JoinedLaws.{length-joined, take-joined}
+use Rattle.flush_call.specs.Parts.{sendingFrom, withSending, Numberable, Numbers}
 
-module _ (queued : HeldList) (f : StoredFlight) (records : List Record) (k : ℕ) (h : queued .count ≤ length (queued .at)) (e : k ≡ countOf (queued .count) (f .window) (f .next) (f .una)) where
-  counted : k ≡ numberedCount (sendingFrom queued f records)
+module _ (l : Link) (records : List Record) (k : ℕ) (queued-whole : length (l .queued .at) ≡ 128) (n : Numberable l records)
+    (e : k ≡ countOf (l .queued .count) (l .flight .window) (l .flight .next) (l .flight .una)) where
+  counted : k ≡ numberedCount (sendingFrom l records)
   counted =
+      let h = n .queued-fits in
       e
-      ∙ ap (λ (n : ℕ). countOf n (f .window) (f .next) (f .una)) (sym (length-take-le (queued .count) (queued .at) h))
-      ∙ sym (count-of (sendingFrom queued f records))
+      ∙ ap (λ (m : ℕ). countOf m (l .flight .window) (l .flight .next) (l .flight .una)) (sym (length-take-le (l .queued .count) (l .queued .at) (omega arith)))
+      ∙ sym (count-of (sendingFrom l records))
 
   -- there is room for those numbered now
-  pub few : (j : SentList) → j .count ≤ length (j .at) → SentIs j (joined (outstandingOf (f .outstanding)) records) → Numberable queued f records → j .count + k ≤ 32
-  few j g i n =
-      omega (arith, valid-few (sendingFrom queued f records) (n .numbers), counted, ap length (i .list), length-take-le (j .count) (j .at) g)
+  pub few : length (l .flight .outstanding .at) ≡ 32 → length records ≡ 32 → l .flight .outstanding .count + k ≤ 32
+  few eo er =
+      let os = l .flight .outstanding .at in
+      let m = l .flight .outstanding .count in
+      let whole : m ≤ length (joined os records) = omega (arith, length-joined os records 32 eo er, n .outstanding-fits) in
+      omega (arith, valid-few (sendingFrom l records) (n .numbers), counted, ap length (take-joined m os records), length-take-le m (joined os records) whole)
 
-  pub numbers : (j list : SentList) (rest : HeldList) (next : ℕ)
-      → SentIs j (joined (outstandingOf (f .outstanding)) records)
-      → SentIs list (sentOf j ++ numbered (f .next) (take k (heldOf queued)))
-      → HeldIs rest (drop k (heldOf queued))
-      → next ≡ plus (f .next) k
-      → Numbers (sendingFrom queued f records) (record { list = list; queued = rest; next = next })
+  -- some are numbered
+  pub numbers : (p : Split) (rest : HeldList) (next : ℕ)
+      → JoinedIs (p .outstanding) (p .records) (joined (outstandingOf (l .flight .outstanding)) records ++ numbered (l .flight .next) (take k (heldOf (l .queued))))
+      → HeldIs rest (drop k (heldOf (l .queued)))
+      → next ≡ plus (l .flight .next) k
+      → Numbers l records (record { link = withSending l rest next (p .outstanding); records = p .records })
   unfolding withNumbered
-  numbers j list rest next i l r p =
+  numbers p rest next j r e =
       record {
-        list = holds-as l (ap₂ (λ (a : List Sent) (m : ℕ). a ++ numbered (f .next) (take m (heldOf queued))) (i .list) counted);
-        queued = holds-as r (ap (λ (m : ℕ). drop m (heldOf queued)) counted);
-        next = p ∙ ap (plus (f .next)) counted;
+        outstanding = record { fits = j .fits; list = j .list ∙ ap (withNumbered (sendingFrom l records)) counted };
+        queued = holds-as r (ap (λ (m : ℕ). drop m (heldOf (l .queued))) counted);
+        next = e ∙ ap (plus (l .flight .next)) counted;
+        rest = refl;
+      }
+
+  -- none is
+  pub numbers-none : k ≡ 0 → l .flight .next < 2 ^ 32 → Numbers l records (record { link = l; records = records })
+  unfolding withNumbered numbered
+  numbers-none z h =
+      let none : numberedCount (sendingFrom l records) ≡ 0 = sym counted ∙ z in
+      record {
+        outstanding = record { fits = n .outstanding-fits; list = sym (ap (withNumbered (sendingFrom l records)) none ∙ append-nil _) };
+        queued = record { fits = n .queued-fits; list = sym (ap (λ (m : ℕ). drop m (heldOf (l .queued))) none) };
+        next = omega (arith, none);
+        rest = refl;
       }

@@ -13,7 +13,6 @@ use Rattle.protocol.specs.declared.Settings.{Settings}
 use Rattle.timing.specs.declared.Record.{Record}
 use Rattle.sizes.specs.Sizes.{enough, enoughToFlush}
 use Rattle.sizes.specs.declared.Lengths.{Lengths}
-use Rattle.lists.specs.declared.HeldList.{HeldList}
 use Rattle.session.specs.Decides.{and-parts}
 use Rattle.session.specs.State.{Sending, sendHeld}
 use Rattle.session.specs.Valid.{valid, all, heldFits, slotsFit, sendingValid, numbersFit}
@@ -59,27 +58,27 @@ module _ (l : Link) (records : List Record) (pool acks out lengths : List ℕ) (
   unfolding valid stateOf
   range = settings-decide (l .settings) .holds (and-parts (inRange (l .settings)) _ (and-parts _ _ (and-parts _ _ (p .made) .0) .0) .0)
 
-  sends : sendingValid (l .settings) (sendingFrom (l .queued) (l .flight) records) ≡ true
+  sends : sendingValid (l .settings) (sendingFrom l records) ≡ true
   unfolding valid stateOf
   sends = and-parts (inRange (l .settings)) _ (and-parts _ _ (and-parts _ _ (p .made) .0) .0) .1
 
   -- for numbering
-  pub numberable : Numberable (l .queued) (l .flight) records
+  pub numberable : Numberable l records
   numberable =
       let k = counts l (p .counts) in
       record { queued-fits = k .queued; outstanding-fits = k .outstanding; numbers = numbers-fit (l .settings) _ sends }
 
   -- for writing
-  pub writable : (ready : HeldList) (next timeout t : ℕ) (f : Flush) (n : Numbered) → GoesBy (l .settings) ready next timeout t f → Numbers (sendingFrom (l .queued) (l .flight) records) n
-      → Writable f (l .acks) acks (n .list) pool out lengths
+  pub writable : (ready next timeout t : ℕ) (f : Flush) (n : Numbered) → GoesBy (l .settings) ready next timeout t f → Numbers l records n
+      → Writable f (l .acks) acks (n .link .flight .outstanding) (n .records) pool out lengths
   writable ready next timeout t f n g e =
       let k = counts l (p .counts) in
       rw (g .is) (record {
         mtu = omega (arith, range .mtu-least);
         few = k .acks;
         pairs = omega (arith, k .acks, p .pairs);
-        count = e .list .fits;
-        inside = rw (e .list .list) (valid-inside (l .settings) (sendingFrom (l .queued) (l .flight) records) _ sends);
+        count = e .outstanding .fits;
+        inside = rw (e .outstanding .list) (valid-inside (l .settings) (sendingFrom l records) _ sends);
         slots = p .slots;
         bytes = omega (arith, range .mtu-most, p .bytes);
         sizes = p .sizes;

@@ -5,7 +5,6 @@ use answers::Count;
 use block::Link;
 use block::check;
 use calls::flags;
-use lists::outstanding_list;
 use protocol::Refusal;
 use sizes::Lengths;
 use timing::Record;
@@ -52,37 +51,30 @@ fn run(
     let probed = link.probe.next(t, link.flight.window);
     let flush = parts::flush_of(
         link.settings,
-        link.receiving.ready,
+        link.receiving.ready.count,
         link.receiving.next,
         link.flight.rtt.timeout,
         t,
     );
-    let numbered = parts::number(link.queued, link.flight, records);
     let ask = flags::is_set(link.ask) | probed.ask;
     let tell = flags::is_set(link.tell);
+    let numbered = parts::number(link, records);
+    let numbered_records = numbered.records;
     let written = flushing::write(
         flush,
         acks,
         link.acks,
         ask,
         tell,
-        numbered.list,
+        numbered.link.flight.outstanding,
+        numbered_records,
         pool,
         output,
         lengths,
     );
     let dead = flags::is_set(link.dead) | written.dead;
-    let split = outstanding_list::split(written.list);
-    let after = parts::after(
-        link,
-        numbered.queued,
-        numbered.next,
-        split.outstanding,
-        probed.clock,
-        dead,
-        t,
-    );
-    let kept = split.records;
+    let after = parts::after(numbered.link, written.list, probed.clock, dead, t);
+    let kept = written.records;
     Flushed {
         answer: Count::Of(written.count),
         link: after,

@@ -1,3 +1,4 @@
+pub mod JoinedLaws
 pub mod ControlLaws
 pub mod DataLaws
 pub mod WalkLaws

@@ -10,10 +10,12 @@ use lib.Dec.{eqb}
 use lib.ListN.{length, take, drop, getD, set}
 use lib.Seq.{take-add, take-take}
 use Rattle.protocol.specs.declared.Settings.{Settings}
+use Rattle.timing.specs.declared.Record.{Record}
 use Rattle.lists.specs.declared.Sent.{Sent}
-use Rattle.lists.specs.declared.SentList.{SentList}
-use Rattle.lists.proofs.Loops.{Packed, packed-start, packed-next, packed-done, view-end}
-use Rattle.lists.proofs.Writes.{packed-map}
+use Rattle.lists.specs.declared.Outstanding.{Outstanding}
+use Rattle.lists.specs.declared.OutstandingList.{OutstandingList}
+use Rattle.lists.specs.Joining.{withRecord, joined, withoutRecord}
+use Rattle.lists.proofs.Loops.{Packed, packed-start, packed-put, packed-next, packed-done, view-end}
 use Rattle.datagram.specs.Datagrams.{Segment}
 use Rattle.session.specs.Decides.{All}
 use Rattle.session.specs.Flushing.{transmittedOf, sentAfter, transmittedNow, someDead, wished}
@@ -22,6 +24,7 @@ use Rattle.packing.specs.Packers.{Fills, Room, Adds}
 use Rattle.packing.specs.PackerLaws.{adds-none, adds-append, adds-as, room-left}
 use Rattle.flushing.specs.declared.Flush.{Flush}
 use Rattle.flushing.specs.Writing.{ruleOf, afterFlush, sentBy, dataOf, InSlot, AllInSlots, Walks}
+use Rattle.flushing.proofs.JoinedLaws.{take-joined, get-joined, set-joined, joined-is}
 
 -- ---- lists
 
@@ -90,44 +93,52 @@ module _ (f : Flush) (n : ℕ) (pool : List ℕ) (k₀ : Packer) (out₀ lengths
         dead = refl;
       }
 
-  module _ (l : List Sent) (k : Packer) (out lengths : List ℕ) (dead : Bool) (i : ℕ) (w : Walking f n pool k₀ out₀ lengths₀ l₀ l k out lengths dead i) where
-    -- what is read next
-    next : (d : Sent) → i < n → drop i (take n l₀) ≡ getD l i d ∷ drop (i + 1) (take n l₀)
-    next d h = packed-next d h (w .list)
-
-    -- it is in its slot, and there is room for it
-    pub walking-inside : (d x : Sent) (m : ℕ) → i < n → x ≡ afterFlush f (getD l i d) → AllInSlots m (take n l₀) → InSlot m (x .held)
-    walking-inside d x m h e a = rw e (all-next (λ (y : Sent). InSlot m (y .held)) (take n l₀) (drop (i + 1) (take n l₀)) i (getD l i d) (next d h) a)
-
-    pub walking-room : i < n → Room (f .settings .mtu) (32 * f .settings .mtu) 32 k₀ out₀ lengths₀ → Room (f .settings .mtu) (f .settings .mtu) 1 k out lengths
-    walking-room h r =
+  module _ (os : List Outstanding) (rs : List Record) (k : Packer) (out lengths : List ℕ) (dead : Bool) (i : ℕ) (w : Walking f n pool k₀ out₀ lengths₀ l₀ (joined os rs) k out lengths dead i) (h : i < n) where
+    -- there is room for the next one
+    pub walking-room : Room (f .settings .mtu) (32 * f .settings .mtu) 32 k₀ out₀ lengths₀ → Room (f .settings .mtu) (f .settings .mtu) 1 k out lengths
+    walking-room a =
         let below : suc i ≤ 32 = omega (arith, w .list .room) in
-        room-left (w .adds) r (omega (arith, mul-le-mul-right (f .settings .mtu) below)) (omega arith)
+        room-left (w .adds) a (omega (arith, mul-le-mul-right (f .settings .mtu) below)) (omega arith)
 
-    -- a turn
-    pub walking-more : (d x : Sent) (sends b : Bool) (k′ : Packer) (out′ lengths′ : List ℕ) → i < n
-        → sends ≡ ruleOf f (getD l i d) .sends → x ≡ afterFlush f (getD l i d)
-        → Adds (f .settings .mtu) (wished sends (dataOf f pool x)) (f .settings .mtu) 1 k out lengths k′ out′ lengths′
-        → b ≡ (sends && eqb (x .transmissions) 20)
-        → Walking f n pool k₀ out₀ lengths₀ l₀ (set l i x) k′ out′ lengths′ (dead || b) (i + 1)
-    walking-more d x sends b k′ out′ lengths′ h p q a e =
-        let more = prefix-more (take n l₀) (drop (i + 1) (take n l₀)) i (getD l i d) (next d h) in
-        record {
-          list = rw q (packed-map d h (afterFlush f) (w .list));
-          adds = rw (more, sent-data f (getD l i d) x sends p q) (adds-as (adds-append (w .adds) a) refl (omega arith) (omega arith));
-          dead = rw (more, sent-dead f (getD l i d) x sends p q, ← (w .dead), ← e);
-        }
+    module _ (o : Outstanding) (r : Record) where
+      -- what is read next
+      abbrev read : Sent
+      read = withRecord (getD os i o) (getD rs i r)
+
+      next : drop i (take n l₀) ≡ read ∷ drop (i + 1) (take n l₀)
+      next =
+          rw (get-joined os rs i o r (omega (arith, w .list .room, w .list .written .whole))) at (packed-next (withRecord o r) h (w .list))
+
+      -- it is in its slot
+      pub walking-inside : (x : Sent) (m : ℕ) → x ≡ afterFlush f read → AllInSlots m (take n l₀) → InSlot m (x .held)
+      walking-inside x m e a = rw e (all-next (λ (y : Sent). InSlot m (y .held)) (take n l₀) (drop (i + 1) (take n l₀)) i read next a)
+
+      -- a turn
+      pub walking-more : (x : Sent) (p : Outstanding) (sends b : Bool) (k′ : Packer) (out′ lengths′ : List ℕ)
+          → sends ≡ ruleOf f read .sends → x ≡ afterFlush f read → p ≡ withoutRecord x
+          → Adds (f .settings .mtu) (wished sends (dataOf f pool x)) (f .settings .mtu) 1 k out lengths k′ out′ lengths′
+          → b ≡ (sends && eqb (x .transmissions) 20)
+          → Walking f n pool k₀ out₀ lengths₀ l₀ (joined (set os i p) (set rs i (x .record))) k′ out′ lengths′ (dead || b) (i + 1)
+      walking-more x p sends b k′ out′ lengths′ e q s a t =
+          let more = prefix-more (take n l₀) (drop (i + 1) (take n l₀)) i read next in
+          record {
+            list = rw (s, ← (set-joined os rs i (withoutRecord x) (x .record)), q) (packed-put h (rw next at (w .list)));
+            adds = rw (more, sent-data f read x sends e q) (adds-as (adds-append (w .adds) a) refl (omega arith) (omega arith));
+            dead = rw (more, sent-dead f read x sends e q, ← (w .dead), ← t);
+          }
 
 -- all are handled
-pub walking-done : (f : Flush) (n : ℕ) (pool : List ℕ) (k₀ : Packer) (out₀ lengths₀ : List ℕ) (l₀ : List Sent) (s : SentList) (k : Packer) (out lengths : List ℕ) (dead : Bool) (i : ℕ)
-    → n ≤ i → s .count ≡ n → Walking f n pool k₀ out₀ lengths₀ l₀ (s .at) k out lengths dead i → Walks f (take n l₀) pool k₀ out₀ lengths₀ (record { list = s; packer = k; dead = dead }) out lengths
-walking-done f n pool k₀ out₀ lengths₀ l₀ s k out lengths dead i h e w =
+pub walking-done : (f : Flush) (n : ℕ) (pool : List ℕ) (k₀ : Packer) (out₀ lengths₀ : List ℕ) (os : List Outstanding) (rs : List Record) (s : OutstandingList) (records : List Record) (k : Packer) (out lengths : List ℕ) (dead : Bool) (i : ℕ)
+    → n ≤ i → s .count ≡ n → Walking f n pool k₀ out₀ lengths₀ (joined os rs) (joined (s .at) records) k out lengths dead i
+    → Walks f (joined (take n os) rs) pool k₀ out₀ lengths₀ (record { list = s; records = records; packer = k; dead = dead }) out lengths
+walking-done f n pool k₀ out₀ lengths₀ os rs s records k out lengths dead i h e w =
+    let l₀ = joined os rs in
     let all : i ≡ n = omega (arith, w .list .upto) in
     let whole : take i (take n l₀) ≡ take n l₀ = rw all (take-take n n l₀ (omega arith)) in
     let below : i ≤ 32 = omega (arith, w .list .room) in
     let here : s .count ≡ i = omega arith in
-    record {
+    rw (← (take-joined n os rs)) (record {
       adds = adds-as (w .adds) (rw whole) (mul-le-mul-right (f .settings .mtu) below) below;
-      list = rw here (packed-done (rw (view-end l₀ n i h)) (w .list));
+      list = joined-is s records _ (rw here (packed-done (rw (view-end l₀ n i h)) (w .list)));
       dead = rw whole at (w .dead);
-    }
+    })

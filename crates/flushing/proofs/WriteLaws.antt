@@ -7,8 +7,9 @@ use Prim.Native.Nat.{ℕ, _+_, _*_, _≤_, _<_, _^_}
 use native.Mathlib.Omega.{arith}
 use lib.ListN.{length}
 use Rattle.protocol.specs.Protocol.{windowAsk, windowTell}
+use Rattle.timing.specs.declared.Record.{Record}
 use Rattle.lists.specs.declared.Sent.{Sent}
-use Rattle.lists.specs.declared.SentList.{SentList}
+use Rattle.lists.specs.declared.OutstandingList.{OutstandingList}
 use Rattle.datagram.specs.Datagrams.{Segment}
 use Rattle.session.specs.State.{Ack}
 use Rattle.session.specs.Flushing.{control, ackSegment, wished, packOne, packed}
@@ -21,7 +22,7 @@ use Rattle.flushing.specs.Writing.{Writable, Walks, Writes}
 
 -- ---- room
 
-module _ (f : Flush) (noted : ℕ) (acks : List ℕ) (list : SentList) (pool out lengths : List ℕ) (w : Writable f noted acks list pool out lengths) where
+module _ (f : Flush) (noted : ℕ) (acks : List ℕ) (list : OutstandingList) (records : List Record) (pool out lengths : List ℕ) (w : Writable f noted acks list records pool out lengths) where
   whole-room : f .settings .mtu < 2 ^ 16 → Room (f .settings .mtu) (258 * 24 + 32 * f .settings .mtu) 290 none out lengths
   whole-room h =
       record {
@@ -57,7 +58,7 @@ pub writes-all : (f : Flush) (acks : List Ack) (ask tell : Bool) (l : List Sent)
     → Adds (f .settings .mtu) (map (ackSegment (carriedOf (f .carried))) acks ++ wished ask (control (carriedOf (f .carried)) windowAsk 0 0) ++ wished tell (control (carriedOf (f .carried)) windowTell 0 0)) n m k₀ out lengths k out′ lengths′
     → Walks f l pool k out′ lengths′ r out″ lengths″
     → Finishes (r .packer) lengths″ count lengths‴
-    → Writes f acks ask tell l pool out lengths (record { list = r .list; dead = r .dead; count = count }) out″ lengths‴
+    → Writes f acks ask tell l pool out lengths (record { list = r .list; records = r .records; dead = r .dead; count = count }) out″ lengths‴
 writes-all f acks ask tell l pool n m k₀ out lengths k out′ lengths′ r out″ lengths″ count lengths‴ e a v c =
     record {
       output = rw (append-assoc, append-assoc) at (output-of _ _ _ _ k₀ out lengths (r .packer) out″ lengths″ count lengths‴ e (adds-append a (v .adds)) c);

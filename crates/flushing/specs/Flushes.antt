@@ -6,12 +6,12 @@ use mathlib.Core.List.{List}
 use Prim.Native.Nat.{ℕ}
 use Rattle.timing.specs.Probes.{nextClock}
 use Rattle.lists.specs.declared.Sent.{Sent}
-use Rattle.lists.specs.Views.{SentIs}
 use Rattle.packing.specs.Packers.{carriedOf, Output, bytesOfDatagrams}
 use Rattle.session.specs.State.{State}
 use Rattle.session.specs.Flushing.{carried, numberedCount, withNumbered, flushing}
 use Rattle.flushing.specs.declared.Flush.{Flush}
 use Rattle.flushing.specs.declared.Written.{Written}
+use Rattle.flushing.specs.Joins.{JoinedIs}
 
 -- f has the parts of the state s by which its flush at t goes
 pub record FlushOf (s : State) (t : ℕ) (f : Flush) : Type 0 where
@@ -31,5 +31,5 @@ asks s t = s .ask || nextClock (s .probe) t (s .sending .window) .ask
 -- what a flush of the state s at t writes: the output has its datagrams, the list its outstanding segments, and dead is as after it
 pub record FlushWrites (s : State) (t : ℕ) (pool out lengths : List ℕ) (r : Written) (out′ lengths′ : List ℕ) : Type 0 where
   pub output : Output (bytesOfDatagrams (flushing s t pool .datagrams)) out lengths (r .count) out′ lengths′
-  pub list : SentIs (r .list) (flushing s t pool .state .sending .outstanding)
+  pub list : JoinedIs (r .list) (r .records) (flushing s t pool .state .sending .outstanding)
   pub dead : (s .dead || r .dead) ≡ flushing s t pool .state .dead

@@ -1,4 +1,5 @@
 pub mod Numbering
+pub mod Joins
 pub mod Writing
 pub mod Flushes
 pub mod FlushLaws

@@ -7,11 +7,13 @@ use Prim.Native.Nat.{ℕ, _+_, _*_, _≤_, _<_}
 use lib.ListN.{length}
 use Rattle.protocol.specs.Protocol.{windowAsk, windowTell, sendSlots}
 use Rattle.protocol.specs.Ranges.{mss}
+use Rattle.timing.specs.declared.Record.{Record}
 use Rattle.retransmission.specs.declared.Transmission.{Transmission}
 use Rattle.lists.specs.declared.Held.{Held}
 use Rattle.lists.specs.declared.Sent.{Sent}
-use Rattle.lists.specs.declared.SentList.{SentList}
-use Rattle.lists.specs.Views.{sentOf, SentIs}
+use Rattle.lists.specs.declared.OutstandingList.{OutstandingList}
+use Rattle.lists.specs.Views.{outstandingOf}
+use Rattle.lists.specs.Joining.{joined}
 use Rattle.datagram.specs.Datagrams.{Segment}
 use Rattle.session.specs.State.{Ack}
 use Rattle.session.specs.Decides.{All}
@@ -21,6 +23,7 @@ use Rattle.packing.specs.Packers.{carriedOf, Output, bytesOfDatagrams, Adds}
 use Rattle.flushing.specs.declared.Flush.{Flush}
 use Rattle.flushing.specs.declared.Walked.{Walked}
 use Rattle.flushing.specs.declared.Written.{Written}
+use Rattle.flushing.specs.Joins.{JoinedIs}
 
 -- ---- the outstanding segments
 
@@ -50,7 +53,7 @@ AllInSlots m = All (λ (x : Sent). InSlot m (x .held))
 -- all are handled: those sent are put as data, each is as its rule leaves it, and dead says whether one sent was transmitted 20 times
 pub record Walks (f : Flush) (l : List Sent) (pool : List ℕ) (k : Packer) (out lengths : List ℕ) (r : Walked) (out′ lengths′ : List ℕ) : Type 0 where
   pub adds : Adds (f .settings .mtu) (map (dataOf f pool) (sentBy f l)) (32 * f .settings .mtu) 32 k out lengths (r .packer) out′ lengths′
-  pub list : SentIs (r .list) (map (afterFlush f) l)
+  pub list : JoinedIs (r .list) (r .records) (map (afterFlush f) l)
   pub dead : r .dead ≡ someDead (sentBy f l)
 
 -- ---- all that is written
@@ -65,12 +68,12 @@ segmentsOf f acks ask tell pool sent =
 
 -- what the checks of a flush have established: at most 256 acks, within the ack list; at most 32 outstanding segments, each in its slot; a send pool of 128 slots;
 -- room for 258 headers and 32 whole datagrams, and for 290 lengths
-pub record Writable (f : Flush) (noted : ℕ) (acks : List ℕ) (list : SentList) (pool out lengths : List ℕ) : Type 0 where
+pub record Writable (f : Flush) (noted : ℕ) (acks : List ℕ) (list : OutstandingList) (records : List Record) (pool out lengths : List ℕ) : Type 0 where
   pub mtu : 24 ≤ f .settings .mtu
   pub few : noted ≤ 256
   pub pairs : 2 * noted ≤ length acks
   pub count : list .count ≤ 32
-  pub inside : AllInSlots (mss (f .settings)) (sentOf list)
+  pub inside : AllInSlots (mss (f .settings)) (joined (outstandingOf list) records)
   pub slots : 128 * mss (f .settings) ≤ length pool
   pub bytes : 258 * 24 + 32 * f .settings .mtu ≤ length out
   pub sizes : 290 ≤ length lengths
@@ -78,5 +81,5 @@ pub record Writable (f : Flush) (noted : ℕ) (acks : List ℕ) (list : SentList
 -- what a flush writes: the output has its datagrams, each outstanding segment is as its rule leaves it, and dead says whether one sent was transmitted 20 times
 pub record Writes (f : Flush) (acks : List Ack) (ask tell : Bool) (l : List Sent) (pool out lengths : List ℕ) (r : Written) (out′ lengths′ : List ℕ) : Type 0 where
   pub output : Output (bytesOfDatagrams (packed (f .settings .mtu) (segmentsOf f acks ask tell pool (sentBy f l)))) out lengths (r .count) out′ lengths′
-  pub list : SentIs (r .list) (map (afterFlush f) l)
+  pub list : JoinedIs (r .list) (r .records) (map (afterFlush f) l)
   pub dead : r .dead ≡ someDead (sentBy f l)

@@ -4,12 +4,14 @@ mod controls;
 pub mod numbering;
 mod transmitting;
 
+use lists::OutstandingList;
 use lists::Sent;
-use lists::SentList;
 use packing::Carried;
 use packing::Packer;
 use protocol::Settings;
-ghost use Rattle.lists.specs.Views.{sentOf};
+use timing::Record;
+ghost use Rattle.lists.specs.Views.{outstandingOf};
+ghost use Rattle.lists.specs.Joining.{joined};
 ghost use Rattle.block.specs.Views.{pairs};
 ghost use Rattle.flushing.specs.Writing.{Writable, Writes};
 
@@ -27,18 +29,20 @@ struct Transmitted {
     sent: Sent,
 }
 
-// The outstanding segments after the flush, the packer behind the data that was put, and whether one of those sent was
-// transmitted 20 times.
+// The outstanding segments and their records after the flush, the packer behind the data that was put, and whether one of
+// those sent was transmitted 20 times.
 struct Walked {
-    list: SentList,
+    list: OutstandingList,
+    records: [Record; 32],
     packer: Packer,
     dead: bool,
 }
 
-// What a flush has written: the outstanding segments as they are then, whether one of those sent was transmitted 20 times,
-// and the number of datagrams.
+// What a flush has written: the outstanding segments and their records as they are then, whether one of those sent was
+// transmitted 20 times, and the number of datagrams.
 pub struct Written {
-    pub list: SentList,
+    pub list: OutstandingList,
+    pub records: [Record; 32],
     pub dead: bool,
     pub count: usize,
 }
@@ -50,13 +54,14 @@ pub fn write(
     noted: usize,
     ask: bool,
     tell: bool,
-    list: SentList,
+    list: OutstandingList,
+    records: [Record; 32],
     pool: &[u8],
     out: &mut [u8],
     lengths: &mut [u16],
 ) -> Written
-    requires { ⌜ Writable flush noted (now acks) list (now pool) (now out) (now lengths) ⌝ }
-    ensures { λ r. ⌜ Writes flush (pairs noted (now (acks .entry))) ask tell (sentOf list) (now (pool .entry)) (now (out .entry)) (now (lengths .entry)) r (now (out .exit)) (now (lengths .exit)) ⌝ }
+    requires { ⌜ Writable flush noted (now acks) list records (now pool) (now out) (now lengths) ⌝ }
+    ensures { λ r. ⌜ Writes flush (pairs noted (now (acks .entry))) ask tell (joined (outstandingOf list) records) (now (pool .entry)) (now (out .entry)) (now (lengths .entry)) r (now (out .exit)) (now (lengths .exit)) ⌝ }
 {
     let mtu = flush.settings.mtu as usize;
     let controls = controls::put_controls(
@@ -70,11 +75,13 @@ pub fn write(
         out,
         lengths,
     );
-    let walked = transmitting::put_outstanding(controls, flush, list, pool, out, lengths);
+    let walked = transmitting::put_outstanding(controls, flush, list, records, pool, out, lengths);
     let count = packing::finish(walked.packer, mtu, lengths);
     let after = walked.list;
+    let kept = walked.records;
     Written {
         list: after,
+        records: kept,
         dead: walked.dead,
         count,
     }

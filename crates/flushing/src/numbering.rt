@@ -1,8 +1,8 @@
 // Queued segments get numbers.
-use lists::Held;
 use lists::HeldList;
-use lists::Sent;
-use lists::SentList;
+use lists::Outstanding;
+use lists::OutstandingList;
+use lists::Split;
 use protocol::Protocol;
 use protocol::serial;
 use timing::Record;
@@ -10,9 +10,11 @@ ghost use mathlib.Core.Path.{_≡_};
 ghost use mathlib.Core.List.{_++_};
 ghost use Prim.Native.Nat.{_+_, _≤_, min};
 ghost use lib.ListN.{take};
-ghost use Rattle.lists.specs.Views.{heldOf, sentOf, SentIs};
-ghost use Rattle.session.specs.Flushing.{numberedAs, numbered};
+ghost use Rattle.lists.specs.Views.{heldOf, outstandingOf};
+ghost use Rattle.lists.specs.Joining.{joined};
+ghost use Rattle.session.specs.Flushing.{numbered};
 ghost use Rattle.flushing.specs.Numbering.{countOf};
+ghost use Rattle.flushing.specs.Joins.{JoinedIs};
 
 fn least(a: usize, b: usize) -> usize
     ensures { λ r. ⌜ r ≡ min a b ⌝ }
@@ -32,39 +34,48 @@ pub fn numbered_count(queued: usize, window: u16, next: u32, una: u32) -> usize
     least(queued, most - apart)
 }
 
-// A queued segment with its number.
-fn numbered_as(number: u32, held: Held) -> Sent
-    ensures { λ r. ⌜ r ≡ numberedAs number held ⌝ }
+// The record of a segment that gets this number: it was never sent.
+fn numbered_record(number: u32) -> Record
+    ensures { λ r. ⌜ r ≡ record { number = number; due = 0; timeout = 0; skips = 0 } ⌝ }
 {
-    let record = Record {
+    Record {
         number,
         due: 0,
         timeout: 0,
         skips: 0,
-    };
-    Sent {
-        held,
-        transmissions: 0,
-        record,
     }
 }
 
-// The outstanding segments, with the first k queued ones numbered from next on behind them.
-pub fn number(list: SentList, queued: HeldList, k: usize, next: u32) -> SentList
+// The outstanding segments and their records, with the first k queued ones numbered from next on behind them.
+pub fn number(
+    list: OutstandingList,
+    records: [Record; 32],
+    queued: HeldList,
+    k: usize,
+    next: u32,
+) -> Split
     requires { ⌜ (list .count + k ≤ 32) × (k ≤ queued .count) × (queued .count ≤ 128) ⌝ }
-    ensures { λ r. ⌜ SentIs r (sentOf list ++ numbered next (take k (heldOf queued))) ⌝ }
+    ensures { λ r. ⌜ JoinedIs (r .outstanding) (r .records) (joined (outstandingOf list) records ++ numbered next (take k (heldOf queued))) ⌝ }
 {
     let mut l = list;
+    let mut rs = records;
     let mut j = list.count;
     let mut n = next;
     let mut i: usize = 0;
     while i < k {
         let held = queued.at[i];
-        l.at[j] = numbered_as(n, held);
+        l.at[j] = Outstanding {
+            held,
+            transmissions: 0,
+        };
+        rs[j] = numbered_record(n);
         n = serial::sum(n, 1);
         i += 1;
         j += 1;
     }
     l.count = j;
-    l
+    Split {
+        outstanding: l,
+        records: rs,
+    }
 }

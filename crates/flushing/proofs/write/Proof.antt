@@ -14,14 +14,14 @@ put-controls-requires c κs =
     let began = c .before .before in
     let entry = began .before .before .before .before .before .before in
     let w = entry .pre in
-    (controls-room _ _ _ _ _ _ _ w _ (began .new .ensures) (word (began .before)), w .mtu, w .pairs)
+    (controls-room _ _ _ _ _ _ _ _ w _ (began .new .ensures) (word (began .before)), w .mtu, w .pairs)
 
 put-outstanding-requires : tie.Need-put-outstanding-requires
 put-outstanding-requires c κs =
     let put = c .before .before .before .before .before .before in
     let began = put .before .before .before in
     let w = began .before .before .before .before .before .before .pre in
-    (data-left _ _ _ _ _ _ _ w _ _ _ _ _ (began .new .ensures) (put .put-controls .ensures), w .mtu, w .count, w .inside, w .slots)
+    (data-left _ _ _ _ _ _ _ _ w _ _ _ _ _ (began .new .ensures) (put .put-controls .ensures), w .mtu, w .count, w .inside, w .slots)
 
 finish-requires : tie.Need-finish-requires
 finish-requires c κs =
@@ -29,11 +29,11 @@ finish-requires c κs =
     let put = walked .before .before .before .before .before .before .before in
     let began = put .before .before .before in
     let w = began .before .before .before .before .before .before .pre in
-    last-left _ _ _ _ _ _ _ w _ _ _ _ _ (began .new .ensures) (put .put-controls .ensures) _ _ _ _ (walked .put-outstanding .ensures)
+    last-left _ _ _ _ _ _ _ _ w _ _ _ _ _ (began .new .ensures) (put .put-controls .ensures) _ _ _ _ (walked .put-outstanding .ensures)
 
 returns : tie.Need-returns
 returns c =
-    let finished = c .before .before .before in
+    let finished = c .before .before .before .before in
     let walked = finished .before .before .before .before .before .before in
     let put = walked .before .before .before .before .before .before .before in
     let began = put .before .before .before in
