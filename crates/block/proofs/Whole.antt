@@ -16,7 +16,7 @@ use Rattle.session.specs.Valid.{valid, sendingValid, receivingValid, probeFits}
 use Rattle.lists.specs.Views.{heldOf}
 use Rattle.block.specs.declared.Link.{Link}
 use Rattle.block.specs.declared.Flight.{Flight}
-use Rattle.block.specs.Views.{isSet, pairs, sendingOf, receivingOf, Joins, stateOf, countsFit, blockValid}
+use Rattle.block.specs.Views.{isSet, pairs, sendingOf, storedOf, receivingOf, Joins, stateOf, countsFit, blockValid}
 
 -- what the counts' test says
 pub record Counts (l : Link) : Type 0 where
@@ -55,18 +55,18 @@ sending-state l records acks f j = λ i. record {
   roundTrip = j .rtt i;
 }
 
-pub block-checked : (l : Link) (records : List Record) (acks : List ℕ) (f : Flight) (k g s r p : Bool)
-    → k ≡ countsFit l → k ≡ true → Joins (l .flight) records f
+pub block-checked : (l : Link) (records : List Record) (acks : List ℕ) (k g s r p : Bool)
+    → k ≡ countsFit l → k ≡ true
     → g ≡ inRange (l .settings)
-    → s ≡ sendingValid (l .settings) (sendingOf (l .queued) f)
+    → s ≡ sendingValid (l .settings) (storedOf (l .queued) (l .flight) records)
     → ((a : List Ack) (tell : Bool) → length a ≤ 256 → r ≡ receivingValid (l .settings) (receivingOf (l .receiving) a tell))
     → p ≡ probeFits (l .probe)
     → (g && s && r && p) ≡ blockValid l records acks
 unfolding blockValid valid stateOf
-block-checked l records acks f k g s r p ek e j eg es er ep =
+block-checked l records acks k g s r p ek e eg es er ep =
     let fit : countsFit l ≡ true = sym ek ∙ e in
     let few : length (pairs (l .acks) acks) ≤ 256 = omega (arith, pairs-most (l .acks) acks, counts l fit .acks) in
-    rw (fit, ← sending-state l records acks f j, ← eg, ← es, ← er (pairs (l .acks) acks) (isSet (l .tell)) few, ← ep)
+    rw (fit, ← eg, ← es, ← er (pairs (l .acks) acks) (isSet (l .tell)) few, ← ep)
 
 pub block-uncounted : (l : Link) (records : List Record) (acks : List ℕ) (k : Bool) → k ≡ countsFit l → k ≡ false → false ≡ blockValid l records acks
 unfolding blockValid

@@ -33,6 +33,11 @@ abbrev pub sendingOf : HeldList → Flight → Sending
 sendingOf queued f =
     record { una = f .una; next = f .next; queued = heldOf queued; outstanding = sentOf (f .outstanding); window = f .window; roundTrip = f .rtt }
 
+-- the same of segments in flight as the block keeps them, with their records
+abbrev pub storedOf : HeldList → StoredFlight → List Record → Sending
+storedOf queued f records =
+    record { una = f .una; next = f .next; queued = heldOf queued; outstanding = joined (outstandingOf (f .outstanding)) records; window = f .window; roundTrip = f .rtt }
+
 -- the receiving half, with the acks noted and whether a tell is wanted
 abbrev pub receivingOf : lists.Receiving → List Ack → Bool → Receiving
 receivingOf r acks tell = record { next = r .next; ready = heldOf (r .ready); waiting = waitingOf (r .waiting); acks = acks; tell = tell }

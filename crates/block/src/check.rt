@@ -4,66 +4,78 @@ use crate::Link;
 use crate::StoredFlight;
 use lists::HeldList;
 use lists::Receiving;
-use lists::SentList;
 use lists::outstanding_list;
-use lists::sent_list;
 use lists::waiting_list;
 use protocol::Protocol;
 use protocol::Settings;
 use protocol::serial;
+use slots::Marks;
 use timing::Record;
 ghost use mathlib.Core.Path.{_≡_};
 ghost use mathlib.Core.List.{List};
 ghost use mathlib.Core.Bool.{Bool};
 ghost use Prim.Native.Nat.{ℕ, _≤_};
 ghost use lib.ListN.{length};
-ghost use Rattle.lists.specs.Views.{sentOf};
+ghost use Rattle.lists.specs.Views.{outstandingOf};
+ghost use Rattle.lists.specs.Joining.{joined};
+ghost use Rattle.lists.specs.Acknowledging.{firstNumberOr};
 ghost use Rattle.session.specs.State.{Ack};
-ghost use Rattle.session.specs.Valid.{sendingValid, receivingValid};
-ghost use Rattle.block.specs.Views.{sendingOf, receivingOf, Joins, countsFit, blockValid};
-ghost use Rattle.block.specs.Checks.{inOrder};
+ghost use Rattle.session.specs.Valid.{settled, sendingValid, receivingValid};
+ghost use Rattle.block.specs.Views.{storedOf, receivingOf, Joins, countsFit, blockValid};
 
-// Outstanding numbers ascending from snd_una up to but not including snd_nxt, at most 32 apart, the first being snd_una.
-fn numbers_fit(una: u32, next: u32, sent: SentList) -> bool
-    requires { ⌜ sent .count ≤ 32 ⌝ }
-    ensures { λ r. ⌜ r ≡ inOrder una next (sentOf sent) ⌝ }
+// The first outstanding number; with none outstanding, snd_nxt.
+fn first_number(flight: StoredFlight, records: [Record; 32]) -> u32
+    requires { ⌜ flight .outstanding .count ≤ 32 ⌝ }
+    ensures { λ r. ⌜ r ≡ firstNumberOr (joined (outstandingOf (flight .outstanding)) records) (flight .next) ⌝ }
 {
-    let apart = serial::difference(next, una);
-    let rising = sent_list::ascending(sent, una, apart);
-    let first = sent_list::first_number_or(sent, next);
-    rising & (apart <= Protocol::SEND_WINDOW) & (first == una)
+    if 0 < flight.outstanding.count {
+        let record = records[0];
+        record.number
+    } else {
+        flight.next
+    }
 }
 
-// The sending half.
-pub fn sending_valid(settings: Settings, queued: HeldList, flight: Flight) -> bool
+// The sending half. Outstanding numbers ascend from snd_una up to but not including snd_nxt, these two at most 32 apart,
+// the first being snd_una.
+fn sending_valid(
+    settings: Settings,
+    queued: HeldList,
+    flight: StoredFlight,
+    records: [Record; 32],
+) -> bool
     requires { ⌜ (queued .count ≤ 128) × (flight .outstanding .count ≤ 32) ⌝ }
-    ensures { λ r. ⌜ r ≡ sendingValid settings (sendingOf queued flight) ⌝ }
+    ensures { λ r. ⌜ r ≡ sendingValid settings (storedOf queued flight records) ⌝ }
 {
     let mss = settings.mss();
     let mode = settings.mode;
-    let sent = flight.outstanding;
-    let held = validity::all_sent_held_fit(sent, mss) & validity::all_held_fit(queued, mss);
-    let distinct = slots::send_distinct(queued, sent);
-    let numbers = numbers_fit(flight.una, flight.next, sent);
-    let fits = validity::all_sent_fit(sent, mode);
+    let una = flight.una;
+    let apart = serial::difference(flight.next, una);
+    let sent = validity::check_outstanding(flight.outstanding, records, mss, mode, una, apart);
+    let all = validity::check_held(sent, queued, Protocol::SEND_SLOTS, mss);
+    let first = first_number(flight, records);
     let trip = validity::round_trip_fits(mode, flight.rtt);
-    held & distinct & numbers & fits & trip
+    all.once & (apart <= Protocol::SEND_WINDOW) & (first == una) & trip
+}
+
+// Waiting segments do not start at rcv_nxt while fewer than 128 are ready.
+fn settled(receiving: Receiving) -> bool
+    requires { ⌜ (receiving .ready .count ≤ 128) × (receiving .waiting .count ≤ 128) ⌝ }
+    ensures { λ r. ⌜ ((acks : List Ack) (tell : Bool) → r ≡ settled (receivingOf receiving acks tell)) ⌝ }
+{
+    let starts = waiting_list::starts_at(receiving.waiting, receiving.next);
+    !(starts & (receiving.ready.count < 128))
 }
 
 // The receiving half, whatever acknowledgements are noted, 256 at most.
-pub fn receiving_valid(settings: Settings, receiving: Receiving) -> bool
+fn receiving_valid(settings: Settings, receiving: Receiving) -> bool
     requires { ⌜ (receiving .ready .count ≤ 128) × (receiving .waiting .count ≤ 128) ⌝ }
     ensures { λ r. ⌜ ((acks : List Ack) (tell : Bool) → length acks ≤ 256 → r ≡ receivingValid settings (receivingOf receiving acks tell)) ⌝ }
 {
     let mss = settings.mss();
-    let next = receiving.next;
-    let ready = receiving.ready;
-    let waiting = receiving.waiting;
-    let held = validity::all_held_fit(ready, mss) & validity::all_waiting_fit(waiting, mss);
-    let distinct = slots::receive_distinct(ready, waiting);
-    let rising = waiting_list::ascending(waiting, next, Protocol::RECEIVE_WINDOW);
-    let starts = waiting_list::starts_at(waiting, next);
-    held & distinct & rising & !(starts & (ready.count < 128))
+    let ready = validity::check_held(Marks::new(), receiving.ready, Protocol::RECEIVE_SLOTS, mss);
+    let all = validity::check_waiting(ready, receiving.waiting, mss, receiving.next);
+    all.once & settled(receiving)
 }
 
 // The segments in flight with their records.
@@ -100,13 +112,9 @@ pub fn valid(link: Link, records: [Record; 32]) -> bool
 {
     if counts_fit(link) {
         let settings = link.settings;
-        let queued = link.queued;
-        let stored = link.flight;
-        let receiving = link.receiving;
         let probe = link.probe;
-        let flight = flight_of(stored, records);
-        let sends = sending_valid(settings, queued, flight);
-        let receives = receiving_valid(settings, receiving);
+        let sends = sending_valid(settings, link.queued, link.flight, records);
+        let receives = receiving_valid(settings, link.receiving);
         settings.in_range() & sends & receives & validity::probe_fits(probe)
     } else {
         false

@@ -6,12 +6,12 @@ use mathlib.Core.List.{List, [], _∷_, _++_}
 use Prim.Native.Nat.{ℕ, suc, _+_, _≤_, _<_}
 use native.Mathlib.Numerals.{add-one}
 use native.Mathlib.Omega.{arith}
-use borrow.Author.Tests.{lt-ltb, le-ltb, le-leb, lt-leb, eq-eqb, ne-eqb}
+use borrow.Author.Tests.{lt-ltb, le-ltb, eq-eqb, ne-eqb}
 use lib.ListN.{length, take, drop, getD, length-take, length-drop, length-append, take-append-drop}
 use lib.Seq.{take-suc, append-snoc, length-take-le, getD-take}
 use Rattle.protocol.specs.Serial.{plus, minus}
 use Rattle.lists.specs.declared.Waiting.{Waiting}
-use Rattle.lists.specs.Orders.{ascending, isHeld, insert}
+use Rattle.lists.specs.Orders.{isHeld, insert}
 use Rattle.lists.specs.Receiving.{runOf}
 use Rattle.lists.proofs.Loops.{view-next, view-end}
 
@@ -19,10 +19,6 @@ module _ {A : Type 0} (offset : A → ℕ) (l : List A) (n i : ℕ) where
   pub held-end : (k : ℕ) → n ≤ i → isHeld offset k (drop i (take n l)) ≡ false
   unfolding isHeld
   held-end k h = rw (view-end l n i h)
-
-  pub ascends-end : (least limit : ℕ) → n ≤ i → ascending offset least limit (drop i (take n l)) ≡ true
-  unfolding ascending
-  ascends-end least limit h = rw (view-end l n i h)
 
   -- o is the offset of the entry at i
   module _ (d : A) (o : ℕ) (h : i < n) (g : n ≤ length l) (e : o ≡ offset (getD l i d)) where
@@ -33,18 +29,6 @@ module _ {A : Type 0} (offset : A → ℕ) (l : List A) (n i : ℕ) where
     pub held-later : (k : ℕ) → (o ≡ k → ⊥) → isHeld offset k (drop i (take n l)) ≡ isHeld offset k (drop (i + 1) (take n l))
     unfolding isHeld
     held-later k q = rw (view-next l n i d h g, ← e, ne-eqb o k q)
-
-    pub ascends-low : (least limit : ℕ) → o < least → ascending offset least limit (drop i (take n l)) ≡ false
-    unfolding ascending
-    ascends-low least limit q = rw (view-next l n i d h g, ← e, lt-leb least o q)
-
-    pub ascends-high : (least limit : ℕ) → least ≤ o → limit ≤ o → ascending offset least limit (drop i (take n l)) ≡ false
-    unfolding ascending
-    ascends-high least limit p q = rw (view-next l n i d h g, ← e, le-leb least o p, le-ltb o limit q)
-
-    pub ascends-more : (least limit : ℕ) → least ≤ o → o < limit → ascending offset least limit (drop i (take n l)) ≡ ascending offset (o + 1) limit (drop (i + 1) (take n l))
-    unfolding ascending
-    ascends-more least limit p q = rw (view-next l n i d h g, ← e, le-leb least o p, lt-ltb o limit q)
 
 -- The search for the place of a: the entries before index i have smaller offsets, so that a goes in behind them.
 module _ {A : Type 0} (offset : A → ℕ) (a : A) (l : List A) (n i : ℕ) (g : n ≤ length l)

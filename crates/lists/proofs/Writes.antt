@@ -50,13 +50,18 @@ pub written-bring : {A B : Type 0} {size : ℕ} {l goal : List B} {j : ℕ} (f :
     → Written size l (map f (drop m (take k src))) goal j → Written size (set l j (f (getD src m d))) (map f (drop (m + 1) (take k src))) goal (j + 1)
 written-bring f src k m d h g b w = written-put b (rw (view-next src k m d h g) at w)
 
--- an outstanding segment is brought with its record
+-- the next segment with its record
+pub joined-next : (os : List Outstanding) (rs : List Record) (n i : ℕ) (o : Outstanding) (r : Record) → i < n → n ≤ length os → n ≤ length rs
+    → joined (drop i (take n os)) (drop i rs) ≡ withRecord (getD os i o) (getD rs i r) ∷ joined (drop (i + 1) (take n os)) (drop (i + 1) rs)
+unfolding joined
+joined-next os rs n i o r h g e =
+    let q : i < length rs = omega arith in
+    rw (view-next os n i o h g, drop-cons rs i r q ∙ ap (λ (k : ℕ). getD rs i r ∷ drop k rs) (sym (add-one i)))
+
+-- it is brought
 pub written-join : {size : ℕ} {l goal : List Sent} (os : List Outstanding) (rs : List Record) (n i : ℕ) (o : Outstanding) (r : Record) → i < n → n ≤ length os → n ≤ length rs → i < size
     → Written size l (joined (drop i (take n os)) (drop i rs)) goal i → Written size (set l i (withRecord (getD os i o) (getD rs i r))) (joined (drop (i + 1) (take n os)) (drop (i + 1) rs)) goal (i + 1)
-unfolding joined
-written-join os rs n i o r h g e b w =
-    let q : i < length rs = omega arith in
-    written-put b (rw (view-next os n i o h g, drop-cons rs i r q ∙ ap (λ (k : ℕ). getD rs i r ∷ drop k rs) (sym (add-one i))) at w)
+written-join os rs n i o r h g e b w = written-put b (rw (joined-next os rs n i o r h g e) at w)
 
 pub joined-end : (os : List Outstanding) (rs : List Record) (n i : ℕ) → n ≤ i → joined (drop i (take n os)) rs ≡ []
 unfolding joined

@@ -8,7 +8,6 @@ ghost use mathlib.Core.Path.{_≡_};
 ghost use mathlib.Core.List.{[], _∷_, _++_, map};
 ghost use Prim.Native.Nat.{_≤_, _<_};
 ghost use Rattle.lists.specs.Views.{sentOf, SentIs};
-ghost use Rattle.lists.specs.Orders.{sentOffset, ascending};
 ghost use Rattle.lists.specs.Acknowledging.{acknowledged, removed, firstNumberOr, skipBefore};
 
 // The list with one more segment at its end.
@@ -99,27 +98,4 @@ pub fn skip_before(list: SentList, number: u32) -> SentList
         i += 1;
     }
     l
-}
-
-// Whether the offsets from base rise strictly and are below limit.
-pub fn ascending(list: SentList, base: u32, limit: u32) -> bool
-    requires { ⌜ list .count ≤ 32 ⌝ }
-    ensures { λ r. ⌜ r ≡ ascending (sentOffset base) 0 limit (sentOf list) ⌝ }
-{
-    let n = list.count;
-    let mut least: u32 = 0;
-    let mut i: usize = 0;
-    while i < n {
-        let s = list.at[i];
-        let offset = serial::difference(s.record.number, base);
-        if offset < least {
-            return false;
-        }
-        if limit <= offset {
-            return false;
-        }
-        least = offset + 1;
-        i += 1;
-    }
-    true
 }

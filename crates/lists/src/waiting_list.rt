@@ -9,7 +9,7 @@ ghost use lib.ListN.{take, drop, length};
 ghost use Rattle.protocol.specs.Serial.{minus};
 ghost use Rattle.lists.specs.Views.{waitingOf, WaitingIs};
 ghost use Rattle.lists.specs.Receiving.{startsAt};
-ghost use Rattle.lists.specs.Orders.{waitingOffset, isHeld, insert, ascending};
+ghost use Rattle.lists.specs.Orders.{waitingOffset, isHeld, insert};
 
 // The list without its first k segments.
 pub fn drop_first(list: WaitingList, k: usize) -> WaitingList
@@ -87,29 +87,6 @@ pub fn insert(list: WaitingList, base: u32, segment: Waiting) -> WaitingList
         i += 1;
     }
     insert_at(list, i, segment)
-}
-
-// Whether the offsets from base rise strictly and are below limit.
-pub fn ascending(list: WaitingList, base: u32, limit: u32) -> bool
-    requires { ⌜ list .count ≤ 128 ⌝ }
-    ensures { λ r. ⌜ r ≡ ascending (waitingOffset base) 0 limit (waitingOf list) ⌝ }
-{
-    let n = list.count;
-    let mut least: u32 = 0;
-    let mut i: usize = 0;
-    while i < n {
-        let w = list.at[i];
-        let offset = serial::difference(w.number, base);
-        if offset < least {
-            return false;
-        }
-        if limit <= offset {
-            return false;
-        }
-        least = offset + 1;
-        i += 1;
-    }
-    true
 }
 
 // Whether the first segment has the number next.

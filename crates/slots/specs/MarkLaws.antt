@@ -1,7 +1,7 @@
 -- Laws of `Marks`: the marks of a list tell which slot is used, and whether one is held twice.
 -- Assumes nothing.
 use mathlib.Core.Path.{_≡_, refl, sym, ap, _∙_}
-use mathlib.Core.Bool.{Bool, true, false, not, _&&_, _||_, and-true, and-false, or-false, or-assoc, or-comm}
+use mathlib.Core.Bool.{Bool, true, false, cond, not, _&&_, _||_, and-true, and-false, or-false, or-assoc, or-comm}
 use mathlib.Core.List.{List, [], _∷_, _++_}
 use Prim.Native.Nat.{ℕ, _+_, _≤_, _<_}
 use native.Mathlib.Decide.{decLt}
@@ -13,13 +13,33 @@ use lib.Seq.{getD-set-same, getD-set-other}
 use Rattle.slots.specs.declared.Marks.{Marks}
 use Rattle.slots.specs.Slots.{isUsed, freeFrom, allBelow, once, distinct}
 use Rattle.slots.specs.SlotLaws.{first-same, eqb-sym, neither}
-use Rattle.slots.specs.Marks.{noMarks, isMarked, mark, markAll, unmarkedFrom}
+use Rattle.slots.specs.Marks.{noMarks, isMarked, mark, markAll, also, unmarkedFrom}
 
 -- one list after the other
 pub marks-append : (n : ℕ) (m : Marks) (a b : List ℕ) → markAll n (markAll n m a) b ≡ markAll n m (a ++ b)
 unfolding markAll
 marks-append n m [] b = refl
 marks-append n m (s ∷ a) b = marks-append n (mark n m s) a b
+
+mark-also : (n : ℕ) (m : Marks) (b : Bool) (s : ℕ) → mark n (also m b) s ≡ also (mark n m s) b
+unfolding mark
+mark-also n m b s = go (ltb s n)
+  where
+    turn : (x y z : Bool) → (x && y && z) ≡ (x && z && y)
+    turn false y z = refl
+    turn true false z = sym (and-false z)
+    turn true true z = sym (and-true z)
+
+    go : (t : Bool) → cond t (record { held = set (m .held) s true; once = m .once && b && not (isMarked (m .held) s) }) (record { held = m .held; once = false })
+        ≡ also (cond t (record { held = set (m .held) s true; once = m .once && not (isMarked (m .held) s) }) (record { held = m .held; once = false })) b
+    go true = rw (turn (m .once) b (not (isMarked (m .held) s)))
+    go false = refl
+
+-- a test may be made before the marks or after them
+pub marks-also : (n : ℕ) (m : Marks) (b : Bool) (l : List ℕ) → markAll n (also m b) l ≡ also (markAll n m l) b
+unfolding markAll
+marks-also n m b [] = refl
+marks-also n m b (s ∷ l) = rw (mark-also n m b s) (marks-also n (mark n m s) b l)
 
 pub mark-length : (n : ℕ) (m : Marks) (s : ℕ) → length (mark n m s .held) ≡ length (m .held)
 unfolding mark

@@ -23,6 +23,10 @@ mark n m s =
     (record { held = set (m .held) s true; once = m .once && not (isMarked (m .held) s) })
     (record { held = m .held; once = false })
 
+-- the same marks with one test more
+abbrev pub also : Marks → Bool → Marks
+also m b = record { held = m .held; once = m .once && b }
+
 -- a list of slots more
 unfoldable pub markAll : ℕ → Marks → List ℕ → Marks
 markAll n m [] = m

@@ -9,7 +9,7 @@ ghost use mathlib.Core.List.{map};
 ghost use Prim.Native.Nat.{_-_, _≤_};
 ghost use Rattle.lists.specs.Views.{heldOf, waitingOf, sentOf, waitingPart, sentPart};
 ghost use Rattle.protocol.specs.Protocol.{sendSlots, receiveSlots};
-ghost use Rattle.slots.specs.Slots.{slotsOf, receiveUsed, sendUsed, lowestFree, distinct};
+ghost use Rattle.slots.specs.Slots.{slotsOf, receiveUsed, sendUsed, lowestFree};
 ghost use Rattle.slots.specs.Marks.{noMarks, markAll, unmarkedFrom};
 
 // A mark for each slot that is held, and whether each slot marked so far was in range and was not marked before.
@@ -135,22 +135,4 @@ pub fn free_receive_slot(ready: HeldList, waiting: WaitingList) -> usize
     ensures { λ r. ⌜ r ≡ lowestFree (receiveUsed ready waiting) receiveSlots ⌝ }
 {
     free_from(receive_marks(ready, waiting), 0, Protocol::RECEIVE_SLOTS)
-}
-
-// Whether the receive slots are below 256 and none is held twice.
-pub fn receive_distinct(ready: HeldList, waiting: WaitingList) -> bool
-    requires { ⌜ (ready .count ≤ 128) × (waiting .count ≤ 128) ⌝ }
-    ensures { λ r. ⌜ r ≡ distinct receiveSlots (receiveUsed ready waiting) ⌝ }
-{
-    let marks = receive_marks(ready, waiting);
-    marks.once
-}
-
-// Whether the send slots are below 128 and none is held twice.
-pub fn send_distinct(queued: HeldList, sent: SentList) -> bool
-    requires { ⌜ (queued .count ≤ 128) × (sent .count ≤ 32) ⌝ }
-    ensures { λ r. ⌜ r ≡ distinct sendSlots (sendUsed queued sent) ⌝ }
-{
-    let marks = send_marks(queued, sent);
-    marks.once
 }

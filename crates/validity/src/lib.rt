@@ -1,17 +1,28 @@
-// The check of a control block: refusal 13.
+// The check of a control block, refusal 13: what it asks of each segment, in one pass over each list, and of the clocks.
+//
+// A pass marks the slots of a list's segments. The flag of its marks then says as well whether each segment fits.
 use lists::Held;
 use lists::HeldList;
+use lists::OutstandingList;
 use lists::Sent;
-use lists::SentList;
 use lists::WaitingList;
 use protocol::Protocol;
+use protocol::serial;
+use slots::Marks;
 use timing::ProbeClock;
+use timing::Record;
 use timing::RoundTrip;
 use timing::round_trip;
 ghost use mathlib.Core.Path.{_≡_};
+ghost use mathlib.Core.List.{map};
 ghost use Prim.Native.Nat.{_≤_};
-ghost use Rattle.lists.specs.Views.{heldOf, waitingOf, sentOf};
+ghost use Rattle.protocol.specs.Protocol.{sendSlots, receiveSlots};
+ghost use Rattle.lists.specs.Views.{heldOf, waitingOf, outstandingOf, waitingPart, sentPart};
+ghost use Rattle.lists.specs.Joining.{joined};
+ghost use Rattle.slots.specs.Slots.{slotsOf};
+ghost use Rattle.slots.specs.Marks.{noMarks, markAll, also};
 ghost use Rattle.session.specs.Valid.{all, heldFits, sentFits, timeoutFits, roundTripFits, probeFits};
+ghost use Rattle.validity.specs.Tests.{waitingFit, outstandingFit};
 
 // Half of the 32-bit numbers.
 const HALF: u32 = 2147483648;
@@ -24,62 +35,11 @@ fn held_fits(held: Held, mss: usize) -> bool
     (len <= mss) & (held.fragment <= Protocol::FRAGMENT_MOST)
 }
 
-pub fn all_held_fit(list: HeldList, mss: usize) -> bool
-    requires { ⌜ list .count ≤ 128 ⌝ }
-    ensures { λ r. ⌜ r ≡ all (heldFits mss) (heldOf list) ⌝ }
-{
-    let n = list.count;
-    let mut i: usize = 0;
-    while i < n {
-        let held = list.at[i];
-        if held_fits(held, mss) {
-            i += 1;
-        } else {
-            return false;
-        }
-    }
-    true
-}
-
-pub fn all_waiting_fit(list: WaitingList, mss: usize) -> bool
-    requires { ⌜ list .count ≤ 128 ⌝ }
-    ensures { λ r. ⌜ r ≡ all (λ w. heldFits mss (w .held)) (waitingOf list) ⌝ }
-{
-    let n = list.count;
-    let mut i: usize = 0;
-    while i < n {
-        let waiting = list.at[i];
-        if held_fits(waiting.held, mss) {
-            i += 1;
-        } else {
-            return false;
-        }
-    }
-    true
-}
-
 // A timeout from the mode's least to 60,000.
 fn timeout_fits(mode: u8, timeout: u32) -> bool
     ensures { λ r. ⌜ r ≡ timeoutFits mode timeout ⌝ }
 {
     (round_trip::least_timeout(mode) <= timeout) & (timeout <= Protocol::TIMEOUT_MOST)
-}
-
-pub fn all_sent_held_fit(list: SentList, mss: usize) -> bool
-    requires { ⌜ list .count ≤ 32 ⌝ }
-    ensures { λ r. ⌜ r ≡ all (λ x. heldFits mss (x .held)) (sentOf list) ⌝ }
-{
-    let n = list.count;
-    let mut i: usize = 0;
-    while i < n {
-        let sent = list.at[i];
-        if held_fits(sent.held, mss) {
-            i += 1;
-        } else {
-            return false;
-        }
-    }
-    true
 }
 
 // Transmissions at most 20, skips at most 255, and the timeout.
@@ -91,21 +51,105 @@ fn sent_fits(sent: Sent, mode: u8) -> bool
     (sent.transmissions <= Protocol::DEAD_AFTER) & (record.skips <= Protocol::SKIPS_MOST) & timeout
 }
 
-pub fn all_sent_fit(list: SentList, mode: u8) -> bool
-    requires { ⌜ list .count ≤ 32 ⌝ }
-    ensures { λ r. ⌜ r ≡ all (sentFits mode) (sentOf list) ⌝ }
+// Held segments, in a pool of so many slots.
+pub fn check_held(marks: Marks, list: HeldList, slots: usize, mss: usize) -> Marks
+    requires { ⌜ (list .count ≤ 128) × (slots ≤ 256) ⌝ }
+    ensures { λ r. ⌜ r ≡ also (markAll slots marks (slotsOf (heldOf list))) (all (heldFits mss) (heldOf list)) ⌝ }
 {
     let n = list.count;
+    let mut m = marks;
+    let mut fit = m.once;
     let mut i: usize = 0;
     while i < n {
-        let sent = list.at[i];
-        if sent_fits(sent, mode) {
-            i += 1;
+        let held = list.at[i];
+        let slot = held.slot as usize;
+        fit = fit & held_fits(held, mss);
+        i += 1;
+        if slot < slots {
+            fit = fit & !m.held[slot];
+            m.held[slot] = true;
         } else {
-            return false;
+            fit = false;
         }
     }
-    true
+    m.once = fit;
+    m
+}
+
+// Waiting segments, whose numbers ascend from `next` and are less than 128 after it.
+pub fn check_waiting(marks: Marks, list: WaitingList, mss: usize, next: u32) -> Marks
+    requires { ⌜ list .count ≤ 128 ⌝ }
+    ensures { λ r. ⌜ r ≡ also (markAll receiveSlots marks (slotsOf (map waitingPart (waitingOf list)))) (waitingFit mss next 0 (waitingOf list)) ⌝ }
+{
+    let n = list.count;
+    let mut m = marks;
+    let mut fit = m.once;
+    let mut least: usize = 0;
+    let mut i: usize = 0;
+    while i < n {
+        let waiting = list.at[i];
+        let held = waiting.held;
+        let slot = held.slot as usize;
+        let offset = serial::difference(waiting.number, next);
+        let far = offset as usize;
+        let rises = (least <= far) & (offset < Protocol::RECEIVE_WINDOW);
+        fit = fit & (held_fits(held, mss) & rises);
+        least = far + 1;
+        i += 1;
+        if slot < Protocol::RECEIVE_SLOTS {
+            fit = fit & !m.held[slot];
+            m.held[slot] = true;
+        } else {
+            fit = false;
+        }
+    }
+    m.once = fit;
+    m
+}
+
+// Outstanding segments with their records, whose numbers ascend from `una` and are less than `apart` after it. They are
+// the first of their pool.
+pub fn check_outstanding(
+    list: OutstandingList,
+    records: [Record; 32],
+    mss: usize,
+    mode: u8,
+    una: u32,
+    apart: u32,
+) -> Marks
+    requires { ⌜ list .count ≤ 32 ⌝ }
+    ensures { λ r. ⌜ r ≡ also (markAll sendSlots noMarks (slotsOf (map sentPart (joined (outstandingOf list) records)))) (outstandingFit mss mode una apart 0 (joined (outstandingOf list) records)) ⌝ }
+{
+    let n = list.count;
+    let mut m = Marks::new();
+    let mut fit = m.once;
+    let mut least: usize = 0;
+    let mut i: usize = 0;
+    while i < n {
+        let outstanding = list.at[i];
+        let held = outstanding.held;
+        let record = records[i];
+        let sent = Sent {
+            held,
+            transmissions: outstanding.transmissions,
+            record,
+        };
+        let slot = held.slot as usize;
+        let offset = serial::difference(record.number, una);
+        let far = offset as usize;
+        let rises = (least <= far) & (offset < apart);
+        fit = fit & (held_fits(held, mss) & rises & sent_fits(sent, mode));
+        least = far + 1;
+        i += 1;
+        if slot < Protocol::SEND_SLOTS {
+            fit = fit & !m.held[slot];
+            m.held[slot] = true;
+        } else {
+            fit = false;
+        }
+    }
+    m.once = fit;
+    m
 }
 
 // Smoothed time and variation below 2^31, and the timeout.

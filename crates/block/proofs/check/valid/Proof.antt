@@ -6,25 +6,21 @@ use Rattle.block.proofs.Whole.{counts, block-checked, block-uncounted}
 use Rattle.block.proofs.check.valid.Statement.{statement}
 use Rattle.block.proofs.check.valid.Tie as tie
 
-flight-of-requires : tie.Need-flight-of-requires
-flight-of-requires c κs = counts (c .before .before .before .before .before .before .before .args .link) (sym (c .before .before .before .before .before .before .counts-fit .ensures) ∙ c .before .before .before .before .before .if1 .taken) .outstanding
-
 sending-valid-requires : tie.Need-sending-valid-requires
 sending-valid-requires c κs =
-    (counts (c .before .before .before .before .before .before .before .before .args .link) (sym (c .before .before .before .before .before .before .before .counts-fit .ensures) ∙ c .before .before .before .before .before .before .if1 .taken) .queued, c .flight-of .ensures .outstanding .fits)
+    let k = counts (c .before .before .before .before .args .link) (sym (c .before .before .before .counts-fit .ensures) ∙ c .before .before .if1 .taken) in
+    (k .queued, k .outstanding)
 
 receiving-valid-requires : tie.Need-receiving-valid-requires
 receiving-valid-requires c κs =
-    let k = counts (c .before .before .before .before .before .before .before .before .before .args .link) (sym (c .before .before .before .before .before .before .before .before .counts-fit .ensures) ∙ c .before .before .before .before .before .before .before .if1 .taken) in
+    let k = counts (c .before .before .before .before .before .args .link) (sym (c .before .before .before .before .counts-fit .ensures) ∙ c .before .before .before .if1 .taken) in
     (k .ready, k .waiting)
 
 returns : tie.Need-returns
 returns c acks =
-    let a = c .before .before .before .before .before .before .before .before .before .before .before .before .args in
-    block-checked (a .link) _ acks _ _ _ _ _ _
-    (c .before .before .before .before .before .before .before .before .before .before .before .counts-fit .ensures)
-    (c .before .before .before .before .before .before .before .before .before .before .if1 .taken)
-    (c .before .before .before .before .flight-of .ensures)
+    block-checked (c .before .before .before .before .before .before .before .before .args .link) _ acks _ _ _ _ _
+    (c .before .before .before .before .before .before .before .counts-fit .ensures)
+    (c .before .before .before .before .before .before .if1 .taken)
     (c .before .in-range .ensures)
     (c .before .before .before .sending-valid .ensures)
     (c .before .before .receiving-valid .ensures)
@@ -38,7 +34,6 @@ valid-spec =
     tie.close
     (tie.spec
     (λ c κs. search needs)
-    flight-of-requires
     sending-valid-requires
     receiving-valid-requires
     (λ c κs. search needs)
