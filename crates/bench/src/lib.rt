@@ -11,6 +11,11 @@ use protocol::Settings;
 use timing::ProbeClock;
 use timing::Record;
 use timing::RoundTrip;
+ghost use mathlib.Core.Path.{_≡_};
+ghost use mathlib.Core.Bool.{true, false};
+ghost use Prim.Native.Nat.{_≤_};
+ghost use lib.ListN.{set};
+ghost use Rattle.bench.specs.Fields.{countsOf, IsNew, Jumped};
 
 // How many elements of each part are lent. More than a part has lends all of it.
 pub struct Lent {
@@ -82,7 +87,9 @@ fn blank() -> Link {
 
 impl Bench {
     // Not opened yet, every part lent whole, every record zero.
-    pub fn new() -> Self {
+    pub fn new() -> Self
+        ensures { λ r. ⌜ IsNew r ⌝ }
+    {
         let record = Record {
             number: 0,
             due: 0,
@@ -108,7 +115,9 @@ impl Bench {
     }
 
     // With another link, after a command that is no accepted opening.
-    pub fn with_link(self, link: Link) -> Bench {
+    pub fn with_link(self, link: Link) -> Bench
+        ensures { λ r. ⌜ r ≡ record { link = link; table = self .table; lent = self .lent; opened = self .opened; fresh = false } ⌝ }
+    {
         let mut next = self;
         next.link = link;
         next.fresh = false;
@@ -116,14 +125,18 @@ impl Bench {
     }
 
     // With another link and another table.
-    pub fn with_table(self, link: Link, table: [Record; 128]) -> Bench {
+    pub fn with_table(self, link: Link, table: [Record; 128]) -> Bench
+        ensures { λ r. ⌜ r ≡ record { link = link; table = table; lent = self .lent; opened = self .opened; fresh = false } ⌝ }
+    {
         let mut next = self.with_link(link);
         next.table = table;
         next
     }
 
     // Just opened.
-    pub fn with_opened(self, link: Link) -> Bench {
+    pub fn with_opened(self, link: Link) -> Bench
+        ensures { λ r. ⌜ r ≡ record { link = link; table = self .table; lent = self .lent; opened = true; fresh = true } ⌝ }
+    {
         let mut next = self;
         next.link = link;
         next.opened = true;
@@ -133,7 +146,9 @@ impl Bench {
 }
 
 // The counts with another one for a part: 0 send pool, 1 receive pool, 2 records, 3 ack list, 4 output, 5 lengths.
-pub fn lend(lent: Lent, part: u32, count: u32) -> Lent {
+pub fn lend(lent: Lent, part: u32, count: u32) -> Lent
+    ensures { λ r. ⌜ (part ≤ 5 → countsOf r ≡ set (countsOf lent) part count) ⌝ }
+{
     let n = count as usize;
     let mut next = lent;
     match part {
@@ -148,7 +163,9 @@ pub fn lend(lent: Lent, part: u32, count: u32) -> Lent {
 }
 
 // A link just opened with other numbers: snd_una and snd_nxt, and rcv_nxt.
-pub fn jump(link: Link, snd: u32, rcv: u32) -> Link {
+pub fn jump(link: Link, snd: u32, rcv: u32) -> Link
+    ensures { λ r. ⌜ Jumped link snd rcv r ⌝ }
+{
     let mut next = link;
     next.flight.una = snd;
     next.flight.next = snd;
@@ -157,7 +174,9 @@ pub fn jump(link: Link, snd: u32, rcv: u32) -> Link {
 }
 
 // The table with another record at a slot.
-pub fn replace(table: [Record; 128], slot: u32, updated: Record) -> [Record; 128] {
+pub fn replace(table: [Record; 128], slot: u32, updated: Record) -> [Record; 128]
+    ensures { λ r. ⌜ r ≡ set table slot updated ⌝ }
+{
     let mut next = table;
     if slot < 128 {
         next[slot as usize] = updated;

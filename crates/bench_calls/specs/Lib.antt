@@ -1,1 +1,3 @@
 pub mod Fronts
+pub mod BenchPromises
+pub mod BenchLaws

@@ -5,7 +5,9 @@ use bench::Bench;
 use kept_datagrams::AnsweredKept;
 use kept_datagrams::CountedKept;
 use protocol::Settings;
+ghost use mathlib.Core.Path.{_≡_};
 ghost use Rattle.bench_calls.specs.Fronts.{Front};
+ghost use Rattle.bench_calls.specs.BenchPromises.{after, afterOpen, BenchOpens, BenchSends, BenchTakesIn, BenchFlushes, BenchReads, BenchTells, BenchShows};
 
 // The answer of opening, sending or taking in, and the bench after it.
 pub struct Answered {
@@ -50,7 +52,9 @@ fn front_lengths(count: usize, part: &[u16]) -> usize
 }
 
 // The bench after an opening.
-fn after_open(bench: Bench, done: calls::Answered) -> Answered {
+fn after_open(bench: Bench, done: calls::Answered) -> Answered
+    ensures { λ r. ⌜ r ≡ record { answer = done .answer; bench = afterOpen bench (done .answer) (done .link) } ⌝ }
+{
     let answer = done.answer;
     match answer {
         Answer::Accepted => Answered {
@@ -65,7 +69,9 @@ fn after_open(bench: Bench, done: calls::Answered) -> Answered {
 }
 
 // The bench after a send.
-fn after_send(bench: Bench, done: calls::Answered) -> Answered {
+fn after_send(bench: Bench, done: calls::Answered) -> Answered
+    ensures { λ r. ⌜ r ≡ record { answer = done .answer; bench = after bench (done .link) (bench .table) } ⌝ }
+{
     let answer = done.answer;
     Answered {
         answer,
@@ -74,7 +80,9 @@ fn after_send(bench: Bench, done: calls::Answered) -> Answered {
 }
 
 // The bench after taking in.
-fn after_input(bench: Bench, done: AnsweredKept) -> Answered {
+fn after_input(bench: Bench, done: AnsweredKept) -> Answered
+    ensures { λ r. ⌜ r ≡ record { answer = done .answered .answer; bench = after bench (done .answered .link) (done .table) } ⌝ }
+{
     let answered = done.answered;
     let table = done.table;
     let answer = answered.answer;
@@ -85,7 +93,9 @@ fn after_input(bench: Bench, done: AnsweredKept) -> Answered {
 }
 
 // The bench after a flush.
-fn after_flush(bench: Bench, done: CountedKept) -> Counted {
+fn after_flush(bench: Bench, done: CountedKept) -> Counted
+    ensures { λ r. ⌜ r ≡ record { answer = done .counted .answer; bench = after bench (done .counted .link) (done .table) } ⌝ }
+{
     let counted = done.counted;
     let table = done.table;
     let answer = counted.answer;
@@ -96,7 +106,9 @@ fn after_flush(bench: Bench, done: CountedKept) -> Counted {
 }
 
 // The bench after a read.
-fn after_read(bench: Bench, done: calls::Counted) -> Counted {
+fn after_read(bench: Bench, done: calls::Counted) -> Counted
+    ensures { λ r. ⌜ r ≡ record { answer = done .answer; bench = after bench (done .link) (bench .table) } ⌝ }
+{
     let answer = done.answer;
     Counted {
         answer,
@@ -110,7 +122,9 @@ pub fn open(
     send_pool: &[u8],
     receive_pool: &[u8],
     acks: &[u32],
-) -> Answered {
+) -> Answered
+    ensures { λ r. ⌜ BenchOpens settings bench (now («send_pool» .entry)) (now («receive_pool» .entry)) (now (acks .entry)) r ⌝ }
+{
     let s = front(bench.lent.send, send_pool);
     let r = front(bench.lent.receive, receive_pool);
     let a = front_acks(bench.lent.acks, acks);
@@ -133,7 +147,9 @@ pub fn send(
     receive_pool: &[u8],
     acks: &[u32],
     message: &[u8],
-) -> Answered {
+) -> Answered
+    ensures { λ r. ⌜ BenchSends (now (message .entry)) bench (now («send_pool» .entry)) (now («receive_pool» .entry)) (now (acks .entry)) r (now («send_pool» .exit)) ⌝ }
+{
     let s = front(bench.lent.send, send_pool);
     let r = front(bench.lent.receive, receive_pool);
     let a = front_acks(bench.lent.acks, acks);
@@ -156,7 +172,9 @@ pub fn input(
     receive_pool: &mut [u8],
     acks: &mut [u32],
     datagram: &[u8],
-) -> Answered {
+) -> Answered
+    ensures { λ r. ⌜ BenchTakesIn (now (datagram .entry)) bench (now («send_pool» .entry)) (now («receive_pool» .entry)) (now (acks .entry)) r (now («receive_pool» .exit)) (now (acks .exit)) ⌝ }
+{
     let s = front(bench.lent.send, send_pool);
     let r = front(bench.lent.receive, receive_pool);
     let a = front_acks(bench.lent.acks, acks);
@@ -181,7 +199,9 @@ pub fn flush(
     t: u32,
     output: &mut [u8],
     lengths: &mut [u16],
-) -> Counted {
+) -> Counted
+    ensures { λ r. ⌜ BenchFlushes t bench (now («send_pool» .entry)) (now («receive_pool» .entry)) (now (acks .entry)) (now (output .entry)) (now (lengths .entry)) r (now (output .exit)) (now (lengths .exit)) ⌝ }
+{
     let s = front(bench.lent.send, send_pool);
     let r = front(bench.lent.receive, receive_pool);
     let a = front_acks(bench.lent.acks, acks);
@@ -210,7 +230,9 @@ pub fn read(
     acks: &[u32],
     room: usize,
     buffer: &mut [u8],
-) -> Counted {
+) -> Counted
+    ensures { λ r. ⌜ BenchReads bench (now («send_pool» .entry)) (now («receive_pool» .entry)) (now (acks .entry)) room (now (buffer .entry)) r (now (buffer .exit)) ⌝ }
+{
     let s = front(bench.lent.send, send_pool);
     let r = front(bench.lent.receive, receive_pool);
     let a = front_acks(bench.lent.acks, acks);
@@ -228,7 +250,9 @@ pub fn read(
     after_read(bench, done)
 }
 
-pub fn size(bench: Bench, send_pool: &[u8], receive_pool: &[u8], acks: &[u32]) -> Count {
+pub fn size(bench: Bench, send_pool: &[u8], receive_pool: &[u8], acks: &[u32]) -> Count
+    ensures { λ r. ⌜ BenchTells bench (now («send_pool» .entry)) (now («receive_pool» .entry)) (now (acks .entry)) r ⌝ }
+{
     let s = front(bench.lent.send, send_pool);
     let r = front(bench.lent.receive, receive_pool);
     let a = front_acks(bench.lent.acks, acks);
@@ -244,7 +268,9 @@ pub fn size(bench: Bench, send_pool: &[u8], receive_pool: &[u8], acks: &[u32]) -
 }
 
 // The part of the receive pool that showing gives.
-pub fn show<'a>(bench: Bench, send_pool: &[u8], receive_pool: &'a [u8], acks: &[u32]) -> &'a [u8] {
+pub fn show<'a>(bench: Bench, send_pool: &[u8], receive_pool: &'a [u8], acks: &[u32]) -> &'a [u8]
+    ensures { λ r. ⌜ BenchShows bench (now («send_pool» .entry)) (now («receive_pool» .entry)) (now (acks .entry)) (now r) ⌝ }
+{
     let s = front(bench.lent.send, send_pool);
     let r = front(bench.lent.receive, receive_pool);
     let a = front_acks(bench.lent.acks, acks);

@@ -1,0 +1,19 @@
+-- `bench::poke::poke` meets its contract: a setting, a number, or what is behind them.
+-- Assumes nothing.
+use mathlib.Core.Path.{_≡_, refl}
+use native.Mathlib.Omega.{arith}
+use borrow.Author.Needs.{needs}
+use Rattle.bench.specs.FieldLaws.{settings-first}
+use Rattle.bench.proofs.poke.poke.Statement.{statement}
+use Rattle.bench.proofs.poke.poke.Tie as tie
+
+pub poke-spec : {M : Type 1} → statement M
+poke-spec =
+    tie.close
+    (tie.spec
+    (search needs)
+    (λ c h. record { fields = settings-first _ _ _ _ _ (c .before .if1 .taken) (c .setting .ensures); lists = refl })
+    (search needs)
+    (λ c h. c .number .ensures)
+    (search needs)
+    (λ c. c .wish .ensures))

@@ -1,0 +1,68 @@
+-- What each call over the bench promises: the call's own promise, of the parts as far as they are lent; all behind that stays. Definitions.
+-- b is the bench before the call, and s, r and a are send pool, receive pool and ack list.
+-- Assumes nothing.
+use mathlib.Core.Path.{_≡_}
+use mathlib.Core.Bool.{true, false}
+use mathlib.Core.List.{List}
+use Prim.Native.Nat.{ℕ}
+use lib.ListN.{take, drop}
+use Rattle.protocol.specs.declared.Settings.{Settings}
+use Rattle.timing.specs.declared.Record.{Record}
+use Rattle.block.specs.declared.Link.{Link}
+use Rattle.answers.specs.declared.Answer.{Answer}
+use Rattle.answers.specs.declared.Answer.the-variants.{Accepted, Refused}
+use Rattle.answers.specs.declared.Count.{Count}
+use Rattle.calls.specs.Parts.{Parts}
+use Rattle.calls.specs.Promises.{OpenPromise, SendPromise, InputPromise, FlushPromise, ReadPromise, SizePromise, ShowPromise}
+use Rattle.lent.specs.Lent.{partsOf}
+use Rattle.bench.specs.declared.Bench.{Bench}
+use Rattle.bench_calls.specs.declared.Answered.{Answered}
+use Rattle.bench_calls.specs.declared.Counted.{Counted}
+
+-- the parts, as far as the bench lends them, with a table of records
+abbrev pub lentParts : Bench → List ℕ → List ℕ → List Record → List ℕ → Parts
+lentParts b s r table a = partsOf (take (b .lent .send) s) (take (b .lent .receive) r) (take (b .lent .records) table) (take (b .lent .acks) a)
+
+-- the bench after a command that is no accepted opening
+abbrev pub after : Bench → Link → List Record → Bench
+after b l table = record { link = l; table = table; lent = b .lent; opened = b .opened; fresh = false }
+
+-- after an opening
+abbrev pub afterOpen : Bench → Answer → Link → Bench
+afterOpen b Accepted l = record { link = l; table = b .table; lent = b .lent; opened = true; fresh = true }
+afterOpen b (Refused r) l = after b l (b .table)
+
+pub record BenchOpens (c : Settings) (b : Bench) (s r a : List ℕ) (x : Answered) : Type 0 where
+  pub promise : OpenPromise c (b .link) (lentParts b s r (b .table) a) (x .answer) (x .bench .link) (lentParts b s r (b .table) a)
+  pub bench : x .bench ≡ afterOpen b (x .answer) (x .bench .link)
+
+pub record BenchSends (message : List ℕ) (b : Bench) (s r a : List ℕ) (x : Answered) (s′ : List ℕ) : Type 0 where
+  pub promise : SendPromise message (b .link) (lentParts b s r (b .table) a) (x .answer) (x .bench .link) (lentParts b s′ r (b .table) a)
+  pub behind : drop (b .lent .send) s′ ≡ drop (b .lent .send) s
+  pub bench : x .bench ≡ after b (x .bench .link) (b .table)
+
+pub record BenchTakesIn (datagram : List ℕ) (b : Bench) (s r a : List ℕ) (x : Answered) (r′ a′ : List ℕ) : Type 0 where
+  pub promise : InputPromise datagram (b .link) (lentParts b s r (b .table) a) (x .answer) (x .bench .link) (lentParts b s r′ (x .bench .table) a′)
+  pub behind : drop (b .lent .receive) r′ ≡ drop (b .lent .receive) r
+  pub acksBehind : drop (b .lent .acks) a′ ≡ drop (b .lent .acks) a
+  pub recordsBehind : drop (b .lent .records) (x .bench .table) ≡ drop (b .lent .records) (b .table)
+  pub bench : x .bench ≡ after b (x .bench .link) (x .bench .table)
+
+pub record BenchFlushes (t : ℕ) (b : Bench) (s r a out lengths : List ℕ) (x : Counted) (out′ lengths′ : List ℕ) : Type 0 where
+  pub promise : FlushPromise t (b .link) (lentParts b s r (b .table) a) (take (b .lent .output) out) (take (b .lent .lengths) lengths) (x .answer) (x .bench .link) (lentParts b s r (x .bench .table) a) (take (b .lent .output) out′) (take (b .lent .lengths) lengths′)
+  pub behind : drop (b .lent .output) out′ ≡ drop (b .lent .output) out
+  pub lengthsBehind : drop (b .lent .lengths) lengths′ ≡ drop (b .lent .lengths) lengths
+  pub recordsBehind : drop (b .lent .records) (x .bench .table) ≡ drop (b .lent .records) (b .table)
+  pub bench : x .bench ≡ after b (x .bench .link) (x .bench .table)
+
+-- the first `room` bytes of the buffer are lent
+pub record BenchReads (b : Bench) (s r a : List ℕ) (room : ℕ) (buffer : List ℕ) (x : Counted) (buffer′ : List ℕ) : Type 0 where
+  pub promise : ReadPromise (b .link) (lentParts b s r (b .table) a) (take room buffer) (x .answer) (x .bench .link) (lentParts b s r (b .table) a) (take room buffer′)
+  pub behind : drop room buffer′ ≡ drop room buffer
+  pub bench : x .bench ≡ after b (x .bench .link) (b .table)
+
+abbrev pub BenchTells : Bench → List ℕ → List ℕ → List ℕ → Count → Type 0
+BenchTells b s r a n = SizePromise (b .link) (lentParts b s r (b .table) a) n
+
+abbrev pub BenchShows : Bench → List ℕ → List ℕ → List ℕ → List ℕ → Type 0
+BenchShows b s r a part = ShowPromise (b .link) (lentParts b s r (b .table) a) part
