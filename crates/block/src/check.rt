@@ -50,7 +50,8 @@ fn sending_valid(
     let mss = settings.mss();
     let mode = settings.mode;
     let una = flight.una;
-    let apart = serial::difference(flight.next, una);
+    let next = flight.next;
+    let apart = serial::difference(next, una);
     let sent = validity::check_outstanding(flight.outstanding, records, mss, mode, una, apart);
     let all = validity::check_held(sent, queued, Protocol::SEND_SLOTS, mss);
     let first = first_number(flight, records);

@@ -5,9 +5,11 @@ use mathlib.Core.List.{List, [], _∷_, _++_, map}
 use Prim.Native.Nat.{ℕ, suc, _≤_}
 use native.Mathlib.Omega.{arith}
 use lib.ListN.{length, take}
+use Rattle.lists.specs.declared.Held.{Held}
 use Rattle.lists.specs.declared.Outstanding.{Outstanding}
 use Rattle.lists.specs.declared.Sent.{Sent}
 use Rattle.timing.specs.declared.Record.{Record}
+use Rattle.lists.specs.Views.{outstandingPart, sentPart}
 use Rattle.lists.specs.Joining.{joined, withoutRecord, recordOf}
 
 -- the segments, and the records of as many
@@ -16,6 +18,13 @@ unfolding joined
 joined-segments [] rs h = refl
 joined-segments (o ∷ l) [] h = absurd (omega arith)
 joined-segments (o ∷ l) (r ∷ rs) h = ap (λ (k : List Outstanding). o ∷ k) (joined-segments l rs (omega arith))
+
+-- as the slots hold them
+pub joined-held : (l : List Outstanding) (rs : List Record) → length l ≤ length rs → map sentPart (joined l rs) ≡ map outstandingPart l
+unfolding joined
+joined-held [] rs h = refl
+joined-held (o ∷ l) [] h = absurd (omega arith)
+joined-held (o ∷ l) (r ∷ rs) h = ap (λ (k : List Held). o .held ∷ k) (joined-held l rs (omega arith))
 
 pub joined-records : (l : List Outstanding) (rs : List Record) → length l ≤ length rs → map recordOf (joined l rs) ≡ take (length l) rs
 unfolding joined

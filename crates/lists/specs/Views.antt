@@ -33,6 +33,9 @@ sentOf s = listOf (s .at) (s .count)
 abbrev pub waitingPart : Waiting → Held
 waitingPart w = w .held
 
+abbrev pub outstandingPart : Outstanding → Held
+outstandingPart o = o .held
+
 abbrev pub sentPart : Sent → Held
 sentPart s = s .held
 

@@ -10,7 +10,7 @@ use lib.Seq.{length-take-le}
 use Rattle.protocol.specs.declared.Refusal.the-variants.{LongMessage, NoFreeSlots}
 use Rattle.lists.specs.Views.{heldOf}
 use Rattle.lists.specs.declared.HeldList.{HeldList}
-use Rattle.lists.specs.declared.SentList.{SentList}
+use Rattle.lists.specs.declared.OutstandingList.{OutstandingList}
 use Rattle.slots.specs.declared.Marks.{Marks}
 use Rattle.slots.specs.Slots.{sendUsed, freeCount}
 use Rattle.slots.specs.Marks.{noMarks, markAll}
@@ -23,7 +23,7 @@ use Rattle.queueing.specs.Outcomes.{PlacedIs, PartsOf, Follows}
 use Rattle.queueing.proofs.Counts.{count-one}
 use Rattle.queueing.proofs.Slots.{place-marked, room-marked}
 
-module _ (queued : HeldList) (sent : SentList) where
+module _ (queued : HeldList) (sent : OutstandingList) where
   -- no more slots are used than the counts say
   used-most : length (sendUsed queued sent) ≤ sent .count + queued .count
   used-most = simp (length-map, length-append, length-take) (omega arith)
@@ -39,11 +39,11 @@ module _ (queued : HeldList) (sent : SentList) where
     placed-all m count pool message pool′ r q p = rw (e, place-marked m (sendUsed queued sent) pool (pieces m count message), q) at p
 
 -- the lists' counts are within their arrays
-pub record Within (queued : HeldList) (sent : SentList) : Type 0 where
+pub record Within (queued : HeldList) (sent : OutstandingList) : Type 0 where
   pub queue : queued .count ≤ length (queued .at)
   pub flight : sent .count ≤ length (sent .at)
 
-module _ {queued : HeldList} {sent : SentList} (w : Within queued sent) (pool message : List ℕ) {s : State} {m : ℕ} (p : PartsOf s m queued sent) where
+module _ {queued : HeldList} {sent : OutstandingList} (w : Within queued sent) (pool message : List ℕ) {s : State} {m : ℕ} (p : PartsOf s m queued sent) where
   used-length : length (sendUsed queued sent) ≡ sent .count + queued .count
   used-length = simp (length-map, length-append, length-take-le (queued .count) (queued .at) (w .queue), length-take-le (sent .count) (sent .at) (w .flight))
 

@@ -1,7 +1,7 @@
 -- The loop that places a message's payloads: what is still to be placed, placed from here, completes the whole.
 -- Assumes nothing.
 use mathlib.Core.Path.{_≡_, refl, sym, _∙_}
-use mathlib.Core.Bool.{Bool}
+use mathlib.Core.Bool.{Bool, true, false}
 use mathlib.Core.List.{List, _∷_, _++_}
 use Prim.Native.Nat.{ℕ, suc, _+_, _-_, _*_, _≤_, _<_}
 use native.Mathlib.Omega.{arith}
@@ -10,15 +10,16 @@ use lib.Seq.{sets}
 use Rattle.lists.specs.declared.Held.{Held}
 use Rattle.lists.proofs.Loops.{Written, written-start, written-put, written-done}
 use Rattle.slots.specs.Slots.{freeFrom, lowestFree, freeCount}
-use Rattle.slots.specs.SlotLaws.{Walked, walked-start, walked-free, walked-next, count-free, count-taken}
-use Rattle.slots.specs.Marks.{unmarkedFrom}
+use Rattle.slots.specs.SlotLaws.{Walked, walked-start, walked-free, walked-over, walked-next, first-least, count-free, count-taken}
+use Rattle.slots.specs.Marks.{isMarked, unmarkedFrom}
 use Rattle.slots.specs.Agree.{free-agrees}
+use Rattle.slots.proofs.Passes.{first-stop}
 use Rattle.session.specs.Cutting.{pieces}
 use Rattle.session.specs.Sending.{Placed, place}
 use Rattle.queueing.specs.Marked.{marked}
 use Rattle.queueing.specs.Outcomes.{Stored, PlacedIs}
 use Rattle.queueing.proofs.Payloads.{length-pieces, stored-rest}
-use Rattle.queueing.proofs.Slots.{marked-free}
+use Rattle.queueing.proofs.Slots.{marked-used, marked-free}
 
 -- `held` are the marks of the slots used at first, and `goal` is what is to be placed in all, behind `front`. n segments are in
 -- the array l, every slot before `from` is used, and so many payloads of `rest` are left.
@@ -51,7 +52,7 @@ module _ {m : ℕ} {held : List Bool} {goal : Placed} {front l : List Held} {poo
     lowest : lowestFree (p .now) 128 ≡ slot
     lowest = walked-free (p .now) (marked held 128) 128 from (p .low) (p .walk) ∙ sym first
 
-    pub slot-low : slot < 128
+    slot-low : slot < 128
     slot-low = rw (sym lowest) (count-free 128 (p .now) (omega (arith, p .free)))
 
     taken : suc (freeCount (slot ∷ p .now) 128) ≡ freeCount (p .now) 128
@@ -76,9 +77,16 @@ module _ {m : ℕ} {held : List Bool} {goal : Placed} {front l : List Held} {poo
           pools = rw q at (p .pools);
         }
 
--- a payload is stored in the next slot
-pub placing-next : {m : ℕ} {held : List Bool} {goal : Placed} {front l : List Held} {pool message pool′ : List ℕ} {n from left at slot len : ℕ}
-    → Placing m held goal front l pool (drop at message) n from left → slot ≡ unmarkedFrom held from (128 - from) → 0 < left → n < 128
+  pub from-low : 0 < left → from < 128
+  from-low some = omega (arith, slot-low refl some, first-least (isMarked held) from (128 - from))
+
+  -- a slot that is marked is passed over
+  pub placing-over : from < 128 → isMarked held from ≡ true → Placing m held goal front l pool rest n (from + 1) left
+  placing-over h e = record { now = p .now; walk = walked-over (marked-used held 128 from h ∙ e) (p .walk); low = omega arith; free = p .free; written = p .written; pools = p .pools }
+
+-- a payload is stored in a slot that is not marked
+pub placing-next : {m : ℕ} {held : List Bool} {goal : Placed} {front l : List Held} {pool message pool′ : List ℕ} {n left at slot len : ℕ}
+    → Placing m held goal front l pool (drop at message) n slot left → isMarked held slot ≡ false → 0 < left → n < 128
     → Stored m message at slot pool len pool′
     → Placing m held goal front (set l n (record { slot = slot; len = len; fragment = left - 1 })) pool′ (drop (at + len) message) (n + 1) (slot + 1) (left - 1)
-placing-next p e some h s = rw (stored-rest s, s .pool, s .size) (next p e some h)
+placing-next {held = held} {slot = slot} p e some h s = rw (stored-rest s, s .pool, s .size) (next p (sym (first-stop (isMarked held) 128 slot (from-low p some) e)) some h)

@@ -28,7 +28,7 @@ module _ (held : List Bool) where
       go true e = used-other i n (marked held n) (λ q. omega arith) ∙ e
       go false e = e
 
-  marked-used : (n i : ℕ) → i < n → isUsed i (marked held n) ≡ isMarked held i
+  pub marked-used : (n i : ℕ) → i < n → isUsed i (marked held n) ≡ isMarked held i
   unfolding marked
   marked-used zero i h = absurd (omega arith)
   marked-used (suc n) i h = go (isMarked held n) refl (decLt i n) (marked-used n i)

@@ -1,16 +1,16 @@
 -- What the functions leave, beside what the link's definitions give. Definitions.
 -- Assumes nothing.
 use mathlib.Core.Path.{_≡_}
-use mathlib.Core.List.{List, _++_}
+use mathlib.Core.List.{List, _++_, map}
 use Prim.Native.Nat.{ℕ, _*_}
 use lib.ListN.{length, take, drop}
 use lib.Seq.{sets}
 use Rattle.protocol.specs.Ranges.{mss}
 use Rattle.protocol.specs.declared.Refusal.{Refusal}
-use Rattle.lists.specs.Views.{heldOf, sentOf, HeldIs}
+use Rattle.lists.specs.Views.{heldOf, outstandingOf, sentPart, outstandingPart, HeldIs}
 use Rattle.lists.specs.declared.Held.{Held}
 use Rattle.lists.specs.declared.HeldList.{HeldList}
-use Rattle.lists.specs.declared.SentList.{SentList}
+use Rattle.lists.specs.declared.OutstandingList.{OutstandingList}
 use Rattle.session.specs.State.{State, Outcome, refused, done}
 use Rattle.session.specs.Sending.{Placed, Sends}
 use Rattle.queueing.specs.declared.Queueing.{Queueing}
@@ -26,11 +26,11 @@ pub record PlacedIs (placed : Placed) (queued : List Held) (l : HeldList) (after
   pub list : HeldIs l (queued ++ placed .segments)
   pub pool : after ≡ placed .pool
 
--- the largest payload and the lists are those of the state
-pub record PartsOf (s : State) (m : ℕ) (q : HeldList) (o : SentList) : Type 0 where
+-- the largest payload and the queued segments are those of the state, and the outstanding ones as their slots hold them
+pub record PartsOf (s : State) (m : ℕ) (q : HeldList) (o : OutstandingList) : Type 0 where
   pub size : mss (s .settings) ≡ m
   pub queued : s .sending .queued ≡ heldOf q
-  pub outstanding : s .sending .outstanding ≡ sentOf o
+  pub outstanding : map sentPart (s .sending .outstanding) ≡ map outstandingPart (outstandingOf o)
 
 -- a refusal: its number alone, the list and the pool as they were
 pub record Kept (r : Refusal) (queued : HeldList) (before : List ℕ) (q : Queueing) (after : List ℕ) : Type 0 where

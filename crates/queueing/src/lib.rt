@@ -2,7 +2,7 @@
 use answers::Answer;
 use lists::Held;
 use lists::HeldList;
-use lists::SentList;
+use lists::OutstandingList;
 use protocol::Protocol;
 use protocol::Refusal;
 use slots::Marks;
@@ -65,21 +65,24 @@ fn fill(
 {
     let mut list = queued;
     let mut n = queued.count;
-    let mut from: usize = 0;
+    let mut slot: usize = 0;
     let mut at: usize = 0;
     let mut left = count;
     while 0 < left {
-        left -= 1;
-        let slot = slots::free_from(marks, from, Protocol::SEND_SLOTS);
-        let len = store(mss, message, at, pool, slot);
-        list.at[n] = Held {
-            slot: slot as u16,
-            len: len as u16,
-            fragment: left as u8,
-        };
-        n += 1;
-        from = slot + 1;
-        at += len;
+        if marks.held[slot] {
+            slot += 1;
+        } else {
+            left -= 1;
+            let len = store(mss, message, at, pool, slot);
+            list.at[n] = Held {
+                slot: slot as u16,
+                len: len as u16,
+                fragment: left as u8,
+            };
+            n += 1;
+            slot += 1;
+            at += len;
+        }
     }
     list.count = n;
     list
@@ -89,7 +92,7 @@ fn fill(
 pub fn place(
     mss: usize,
     queued: HeldList,
-    sent: SentList,
+    sent: OutstandingList,
     pool: &mut [u8],
     message: &[u8],
     count: usize,
@@ -105,7 +108,7 @@ pub fn place(
 pub fn queue_message(
     mss: usize,
     queued: HeldList,
-    sent: SentList,
+    sent: OutstandingList,
     pool: &mut [u8],
     message: &[u8],
 ) -> Queueing

@@ -3,9 +3,9 @@
 use mathlib.Core.Path.{_≡_, refl, sym, ap, _∙_}
 use mathlib.Core.Bool.{Bool, true, false, cond}
 use mathlib.Core.List.{List, [], _++_}
-use Prim.Native.Nat.{ℕ, _-_, _*_}
+use Prim.Native.Nat.{ℕ, _-_, _*_, _^_, _≤_, _<_}
 use lib.Dec.{ltb}
-use lib.ListN.{length}
+use lib.ListN.{length, length-take}
 use native.Mathlib.Omega.{arith}
 use borrow.Author.Tests.{le-leb, leb-true}
 use Rattle.protocol.specs.Protocol.{fragmentsMost, sendSlots}
@@ -13,10 +13,10 @@ use Rattle.protocol.specs.Ranges.{inRange, mss}
 use Rattle.protocol.specs.declared.Refusal.{Refusal}
 use Rattle.protocol.specs.declared.Refusal.the-variants.{ShortPart, LongMessage, NoFreeSlots, InvalidBlock}
 use Rattle.timing.specs.declared.Record.{Record}
-use Rattle.lists.specs.Views.{heldOf, HeldIs}
+use Rattle.lists.specs.Views.{heldOf, outstandingOf, HeldIs}
+use Rattle.lists.specs.JoiningLaws.{joined-held}
 use Rattle.lists.specs.declared.Held.{Held}
 use Rattle.lists.specs.declared.HeldList.{HeldList}
-use Rattle.lists.specs.declared.SentList.{SentList}
 use Rattle.session.specs.State.{State, Outcome, refused, done, sendHeld, slots}
 use Rattle.session.specs.Cutting.{fragmentCount, cut}
 use Rattle.session.specs.Sending.{Sends, sending, withQueued, place}
@@ -29,13 +29,12 @@ use Rattle.sizes.specs.declared.Lengths.{Lengths}
 use Rattle.session.specs.Decides.{and-parts}
 use Rattle.session.specs.Valid.{valid}
 use Rattle.session.specs.IsValid.{settings-decide}
-use Rattle.block.specs.Views.{stateOf, countsFit, blockValid, Joins}
+use Rattle.block.specs.Views.{stateOf, countsFit, blockValid}
 use Rattle.block.specs.declared.Link.{Link}
-use Rattle.block.specs.declared.Flight.{Flight}
 use Rattle.block.proofs.Whole.{counts}
 use Rattle.calls.specs.declared.Answered.{Answered}
 use Rattle.calls.specs.Outcomes.{checked}
-use Rattle.send_call.specs.Sent.{WithQueued, Sendable, Kept, Accepts, Leaves}
+use Rattle.send_call.specs.Sent.{Kept, Accepts, Leaves}
 
 -- an accepted message changes the queued segments alone
 queued-alone : (s : State) (pool m : List ℕ) (x : Sends) → sending s pool m ≡ done x → x .state ≡ withQueued s (x .state .sending .queued)
@@ -53,38 +52,63 @@ queued-alone s pool m x e =
     go false false q p e = let i : record { state = withQueued s q; pool = p } ≡ x = cc in rw (← i)
 
 -- the parts that queueing works on are those of the state
-pub parts : (l : Link) (records : List Record) (acks : List ℕ) (f : Flight) (m : ℕ) → Joins (l .flight) records f → m ≡ mss (l .settings) → PartsOf (stateOf l records acks) m (l .queued) (f .outstanding)
+pub parts : (l : Link) (records : List Record) (acks : List ℕ) (m : ℕ) → length records ≡ 32 → countsFit l ≡ true → m ≡ mss (l .settings) → PartsOf (stateOf l records acks) m (l .queued) (l .flight .outstanding)
 unfolding stateOf
-parts l records acks f m j e = record { size = sym e; queued = refl; outstanding = sym (j .outstanding .list) }
+parts l records acks m n k e =
+    let o = l .flight .outstanding in
+    record {
+      size = sym e;
+      queued = refl;
+      outstanding = joined-held (outstandingOf o) records (omega (arith, counts l k .outstanding, length-take (o .count) (o .at)));
+    }
 
-counted : (l : Link) (q : HeldList) (l′ : Link) (h : List Held) → WithQueued l q l′ → HeldIs q h → countsFit l ≡ true → countsFit l′ ≡ true
+-- the block with other queued segments, all else as it was
+abbrev pub withList : Link → HeldList → Link
+withList l q =
+    record {
+      settings = l .settings;
+      queued = q;
+      flight = l .flight;
+      receiving = l .receiving;
+      acks = l .acks;
+      probe = l .probe;
+      current = l .current;
+      ask = l .ask;
+      tell = l .tell;
+      dead = l .dead;
+    }
+
+counted : (l : Link) (q : HeldList) (h : List Held) → HeldIs q h → countsFit l ≡ true → countsFit (withList l q) ≡ true
 unfolding countsFit
-counted l q l′ h w i k =
+counted l q h i k =
     let c = counts l k in
-    rw (w .is, le-leb _ _ (i .fits), le-leb _ _ (c .outstanding), le-leb _ _ (c .ready), le-leb _ _ (c .waiting), le-leb _ _ (c .acks))
+    rw (le-leb _ _ (i .fits), le-leb _ _ (c .outstanding), le-leb _ _ (c .ready), le-leb _ _ (c .waiting), le-leb _ _ (c .acks))
 
-after-state : (l : Link) (q : HeldList) (l′ : Link) (records : List Record) (acks : List ℕ) → WithQueued l q l′ → stateOf l′ records acks ≡ withQueued (stateOf l records acks) (heldOf q)
+after-state : (l : Link) (q : HeldList) (records : List Record) (acks : List ℕ) → stateOf (withList l q) records acks ≡ withQueued (stateOf l records acks) (heldOf q)
 unfolding stateOf
-after-state l q l′ records acks w = rw (w .is)
+after-state l q records acks = refl
 
-module _ (l : Link) (records : List Record) (acks pool m pool′ : List ℕ) (q : Queueing) (a : Answered) where
-  pub accepted : (o : Outcome Sends) → sending (stateOf l records acks) pool m ≡ o → Follows o (l .queued) pool q pool′ → q .answer ≡ Accepted → a .answer ≡ Accepted
-      → WithQueued l (q .queued) (a .link) → countsFit l ≡ true → Leaves o l records acks pool a pool′
-  accepted (refused r) e f qa aa w k = absurd (let p = sym qa ∙ f .answer in let z : _≡_ {A = ℕ} 0 1 = cc in omega arith)
-  accepted (done x) e f qa aa w k = record {
-    answer = aa;
-    counts = counted l (q .queued) (a .link) _ w (f .list) k;
-    state = after-state l (q .queued) (a .link) records acks w ∙ ap (withQueued (stateOf l records acks)) (f .list .list) ∙ sym (queued-alone (stateOf l records acks) pool m x e);
-    flight = ap (λ (y : Link). y .flight) (w .is);
-    acks-same = ap (λ (y : Link). y .acks) (w .is);
-    pool-after = f .pool;
-  }
-
-  pub kept : (o : Outcome Sends) (r : Refusal) → Follows o (l .queued) pool q pool′ → q .answer ≡ Refused r → a .answer ≡ Refused r → a .link ≡ l → Leaves o l records acks pool a pool′
-  kept (refused r′) r f qa aa al = (aa ∙ sym qa ∙ f .answer, record { link = al; pool-same = f .pool })
-  kept (done x) r f qa aa al = absurd (let p = sym qa ∙ f .answer in let z : _≡_ {A = ℕ} 0 1 = cc in omega arith)
+-- what queueing gives, put back into the block
+pub put-back : (l : Link) (records : List Record) (acks pool m pool′ : List ℕ) (q : Queueing) (o : Outcome Sends) → sending (stateOf l records acks) pool m ≡ o → Follows o (l .queued) pool q pool′ → countsFit l ≡ true
+    → Leaves o l records acks pool (record { answer = q .answer; link = withList l (q .queued) }) pool′
+put-back l records acks pool m pool′ q (refused r) e f k = (f .answer, record { link = ap (withList l) (f .list); pool-same = f .pool })
+put-back l records acks pool m pool′ q (done x) e f k = record {
+  answer = f .answer;
+  counts = counted l (q .queued) _ (f .list) k;
+  state = after-state l (q .queued) records acks ∙ ap (withQueued (stateOf l records acks)) (f .list .list) ∙ sym (queued-alone (stateOf l records acks) pool m x e);
+  flight = refl;
+  acks-same = refl;
+  pool-after = f .pool;
+}
 
 -- ---- the checks
+
+-- what the checks of 7 and 13 have established
+pub record Sendable (l : Link) (pool : List ℕ) : Type 0 where
+  pub counts : countsFit l ≡ true
+  pub some : 0 < mss (l .settings)
+  pub word : mss (l .settings) < 2 ^ 16
+  pub long : sendSlots * mss (l .settings) ≤ length pool
 
 -- what the checks of 7 and 13 say to sending
 pub sendable : (l : Link) (records : List Record) (n : Lengths) (pool : List ℕ) (b g : Bool) → ((acks : List ℕ) → b ≡ blockValid l records acks) → b ≡ true → g ≡ enough (mss (l .settings)) n → g ≡ true

@@ -3,40 +3,14 @@
 use mathlib.Core.Path.{_≡_}
 use mathlib.Core.Bool.{true}
 use mathlib.Core.List.{List}
-use Prim.Native.Nat.{ℕ, _*_, _^_, _≤_, _<_}
-use lib.ListN.{length}
-use Rattle.protocol.specs.Protocol.{sendSlots}
-use Rattle.protocol.specs.Ranges.{mss}
+use Prim.Native.Nat.{ℕ}
 use Rattle.timing.specs.declared.Record.{Record}
-use Rattle.lists.specs.declared.HeldList.{HeldList}
 use Rattle.session.specs.State.{Outcome, refused, done}
 use Rattle.session.specs.Sending.{Sends}
 use Rattle.answers.specs.declared.Answer.the-variants.{Accepted, Refused}
 use Rattle.block.specs.Views.{stateOf, countsFit}
 use Rattle.block.specs.declared.Link.{Link}
 use Rattle.calls.specs.declared.Answered.{Answered}
-
--- the block with other queued segments, all else as it was
-pub record WithQueued (l : Link) (q : HeldList) (l′ : Link) : Type 0 where
-  pub is : l′ ≡ record {
-    settings = l .settings;
-    queued = q;
-    flight = l .flight;
-    receiving = l .receiving;
-    acks = l .acks;
-    probe = l .probe;
-    current = l .current;
-    ask = l .ask;
-    tell = l .tell;
-    dead = l .dead;
-  }
-
--- what the checks of 7 and 13 have established
-pub record Sendable (l : Link) (pool : List ℕ) : Type 0 where
-  pub counts : countsFit l ≡ true
-  pub some : 0 < mss (l .settings)
-  pub word : mss (l .settings) < 2 ^ 16
-  pub long : sendSlots * mss (l .settings) ≤ length pool
 
 -- a refusal: its number alone, the very block and pool
 pub record Kept (l : Link) (pool : List ℕ) (a : Answered) (pool′ : List ℕ) : Type 0 where

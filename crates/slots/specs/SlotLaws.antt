@@ -119,6 +119,17 @@ pub walked-free : (now used : List ℕ) (n k : ℕ) → k ≤ n → Walked now u
 walked-free now used n k h w =
     first-skip (λ i. isUsed i now) n k h (w .below) ∙ first-same (λ i. isUsed i now) (λ i. isUsed i used) k (n - k) (λ i g b. w .above i g)
 
+-- a slot that was used at first is passed over
+pub walked-over : {now used : List ℕ} {k : ℕ} → isUsed k used ≡ true → Walked now used k → Walked now used (k + 1)
+walked-over {now} {used} {k} e w = record { below = below; above = λ i h. w .above i (omega arith) }
+  where
+    below : (i : ℕ) → i < k + 1 → isUsed i now ≡ true
+    below i h = go (decLt i k)
+      where
+        go : Dec (i < k) → isUsed i now ≡ true
+        go (yes l) = w .below i l
+        go (no l) = let q : i ≡ k = omega arith in rw q (w .above k (omega arith) ∙ e)
+
 -- and the walk goes on behind it
 pub walked-next : (now used : List ℕ) (n k s : ℕ) → s ≡ freeFrom used k (n - k) → Walked now used k → Walked (s ∷ now) used (s + 1)
 walked-next now used n k s e w = record { below = below; above = λ i h. used-other i s now (λ q. omega arith) ∙ w .above i (omega (arith, least)) }

@@ -7,8 +7,8 @@ use lib.Dec.{ltb, eqb}
 use Rattle.lists.specs.declared.Held.{Held}
 use Rattle.lists.specs.declared.HeldList.{HeldList}
 use Rattle.lists.specs.declared.WaitingList.{WaitingList}
-use Rattle.lists.specs.declared.SentList.{SentList}
-use Rattle.lists.specs.Views.{heldOf, waitingOf, sentOf, waitingPart, sentPart}
+use Rattle.lists.specs.declared.OutstandingList.{OutstandingList}
+use Rattle.lists.specs.Views.{heldOf, waitingOf, outstandingOf, waitingPart, outstandingPart}
 
 -- the slots that segments are held in
 abbrev pub slotsOf : List Held → List ℕ
@@ -19,8 +19,8 @@ abbrev pub receiveUsed : HeldList → WaitingList → List ℕ
 receiveUsed ready waiting = slotsOf (heldOf ready ++ map waitingPart (waitingOf waiting))
 
 -- the send slots used: those of what is sent and not acknowledged, and of what is queued
-abbrev pub sendUsed : HeldList → SentList → List ℕ
-sendUsed queued sent = slotsOf (map sentPart (sentOf sent) ++ heldOf queued)
+abbrev pub sendUsed : HeldList → OutstandingList → List ℕ
+sendUsed queued sent = slotsOf (map outstandingPart (outstandingOf sent) ++ heldOf queued)
 
 -- is the slot used?
 unfoldable pub isUsed : ℕ → List ℕ → Bool

@@ -1,13 +1,13 @@
-// Slots of a pool: which are held, which is the lowest free one, and whether one is held twice. A slot is looked up by
-// its mark, so each question is one pass over the lists.
+// Slots of a pool: which are held, and which is the lowest free one. A slot is looked up by its mark, so that this is one
+// pass over the lists.
 use lists::HeldList;
-use lists::SentList;
+use lists::OutstandingList;
 use lists::WaitingList;
 use protocol::Protocol;
 ghost use mathlib.Core.Path.{_≡_};
 ghost use mathlib.Core.List.{map};
 ghost use Prim.Native.Nat.{_-_, _≤_};
-ghost use Rattle.lists.specs.Views.{heldOf, waitingOf, sentOf, waitingPart, sentPart};
+ghost use Rattle.lists.specs.Views.{heldOf, waitingOf, outstandingOf, waitingPart, outstandingPart};
 ghost use Rattle.protocol.specs.Protocol.{sendSlots, receiveSlots};
 ghost use Rattle.slots.specs.Slots.{slotsOf, receiveUsed, sendUsed, lowestFree};
 ghost use Rattle.slots.specs.Marks.{noMarks, markAll, unmarkedFrom};
@@ -73,17 +73,17 @@ fn mark_waiting(marks: Marks, list: WaitingList, slots: usize) -> Marks
     m
 }
 
-// The marks with those of sent segments, in a pool of so many slots.
-fn mark_sent(marks: Marks, list: SentList, slots: usize) -> Marks
+// The marks with those of outstanding segments, in a pool of so many slots.
+fn mark_outstanding(marks: Marks, list: OutstandingList, slots: usize) -> Marks
     requires { ⌜ (list .count ≤ 32) × (slots ≤ 256) ⌝ }
-    ensures { λ r. ⌜ r ≡ markAll slots marks (slotsOf (map sentPart (sentOf list))) ⌝ }
+    ensures { λ r. ⌜ r ≡ markAll slots marks (slotsOf (map outstandingPart (outstandingOf list))) ⌝ }
 {
     let n = list.count;
     let mut m = marks;
     let mut i: usize = 0;
     while i < n {
-        let s = list.at[i];
-        let slot = s.held.slot as usize;
+        let o = list.at[i];
+        let slot = o.held.slot as usize;
         i += 1;
         if slot < slots {
             m.once = m.once & !m.held[slot];
@@ -105,16 +105,16 @@ pub fn receive_marks(ready: HeldList, waiting: WaitingList) -> Marks
 }
 
 // The marks of the send pool's slots.
-pub fn send_marks(queued: HeldList, sent: SentList) -> Marks
+pub fn send_marks(queued: HeldList, sent: OutstandingList) -> Marks
     requires { ⌜ (queued .count ≤ 128) × (sent .count ≤ 32) ⌝ }
     ensures { λ r. ⌜ r ≡ markAll sendSlots noMarks (sendUsed queued sent) ⌝ }
 {
-    let marks = mark_sent(Marks::new(), sent, Protocol::SEND_SLOTS);
+    let marks = mark_outstanding(Marks::new(), sent, Protocol::SEND_SLOTS);
     mark_held(marks, queued, Protocol::SEND_SLOTS)
 }
 
 // The lowest slot from `from` on that is not marked, in a pool of so many slots; their number where all are marked.
-pub fn free_from(marks: Marks, from: usize, slots: usize) -> usize
+fn free_from(marks: Marks, from: usize, slots: usize) -> usize
     requires { ⌜ (from ≤ slots) × (slots ≤ 256) ⌝ }
     ensures { λ r. ⌜ r ≡ unmarkedFrom (marks .held) from (slots - from) ⌝ }
 {
