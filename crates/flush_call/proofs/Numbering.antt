@@ -10,7 +10,6 @@ use Rattle.protocol.specs.Serial.{plus}
 use Rattle.timing.specs.declared.Record.{Record}
 use Rattle.lists.specs.Views.{heldOf, outstandingOf, HeldIs}
 use Rattle.lists.specs.Joining.{joined}
-use Rattle.lists.specs.declared.Sent.{Sent}
 use Rattle.lists.specs.declared.HeldList.{HeldList}
 use Rattle.lists.specs.declared.Split.{Split}
 use Rattle.lists.proofs.Loops.{holds-as}

@@ -1,12 +1,12 @@
 -- What the cores of reading give, as what reading leaves of a block.
 -- Assumes nothing.
 use mathlib.Core.Path.{_≡_, refl, sym, ap, _∙_}
-use mathlib.Core.Bool.{Bool, true, false, cond, _&&_}
+use mathlib.Core.Bool.{Bool, true, false, cond, _&&_, _||_}
 use mathlib.Core.List.{List, [], _∷_, map}
 use Prim.Native.Nat.{ℕ, _*_, _≤_, _<_}
 use native.Mathlib.Omega.{arith}
 use borrow.Author.Tests.{le-leb, lt-leb, leb-true}
-use lib.Dec.{leb}
+use lib.Dec.{leb, ltb, eqb}
 use lib.ListN.{length, take, drop, length-append, length-drop}
 use lib.Seq.{sets, length-take-le}
 use Rattle.protocol.specs.Protocol.{sendSlots, receiveSlots}
@@ -14,9 +14,13 @@ use Rattle.protocol.specs.Ranges.{mss}
 use Rattle.protocol.specs.declared.Refusal.{Refusal}
 use Rattle.protocol.specs.declared.Refusal.the-variants.{ShortPart, InvalidBlock}
 use Rattle.timing.specs.declared.Record.{Record}
-use Rattle.lists.specs.Views.{heldOf, waitingOf, waitingPart}
+use Rattle.lists.specs.Views.{heldOf, waitingOf, waitingPart, HeldIs}
+use Rattle.lists.specs.Receiving.{advance, startsAt, ReceivingIs}
 use Rattle.lists.specs.declared.Held.{Held}
-use Rattle.session.specs.State.{Ack, Receiving, State, Outcome, refused, done}
+use Rattle.lists.specs.declared.Waiting.{Waiting}
+use Rattle.lists.specs.declared.HeldList.{HeldList}
+use Rattle.lists.specs.declared.Receiving as lists
+use Rattle.session.specs.State.{Ack, State, Outcome, refused, done}
 use Rattle.session.specs.Decides.{and-parts}
 use Rattle.session.specs.AllLaws.{all-left}
 use Rattle.session.specs.IsValid.{valid-decides}
@@ -28,14 +32,13 @@ use Rattle.answers.specs.declared.Count.the-variants.{Of, Refused}
 use Rattle.block.specs.Views.{isSet, pairs, receivingOf, stateOf, countsFit, blockValid}
 use Rattle.block.specs.declared.Link.{Link}
 use Rattle.block.proofs.Whole.{counts}
-use Rattle.reading.specs.Reads.{frontOf, InPool, halfOf, ReadIs}
-use Rattle.reading.specs.declared.AfterRead.{AfterRead}
+use Rattle.reading.specs.Reads.{frontOf, InPool}
 use Rattle.reading.proofs.Fronts.{in-slot}
 use Rattle.reading.proofs.Copies.{in-pool-take}
 use Rattle.calls.specs.declared.Counted.{Counted}
 use Rattle.calls.specs.Answers.{countOutcome, sizeOf}
 use Rattle.calls.specs.Outcomes.{checked}
-use Rattle.read_call.specs.Taken.{WithReceiving, Readable, fittingOf, Leaves}
+use Rattle.read_call.specs.Taken.{Readable, fittingOf, Fits, readsOf, Takes, Leaves}
 
 -- ---- the length of the message at the front
 
@@ -63,11 +66,7 @@ module _ (l : List Held) (room : ℕ) where
   pub none : (r : Refusal) → refused r ≡ sizeOf l → refused r ≡ fittingOf l room
   none r e = rw (by-size l room, ← e)
 
--- where a message of n bytes can be read, it is that long, and there is room for it
-pub record Fits (l : List Held) (room n : ℕ) : Type 0 where
-  pub long : n ≡ lengthOf (frontOf l)
-  pub within : lengthOf (frontOf l) ≤ room
-
+-- where a message of n bytes can be read, it fits
 pub fitting-fits : (l : List Held) (room n : ℕ) → done n ≡ fittingOf l room → Fits l room n
 unfolding fittingOf
 fitting-fits l room n = go (readable l) (leb (lengthOf (frontOf l)) room) refl
@@ -80,7 +79,7 @@ fitting-fits l room n = go (readable l) (leb (lengthOf (frontOf l)) room) refl
 -- reading, where the length of the message is known
 abbrev readBy : State → List ℕ → Outcome ℕ → Outcome Reads
 readBy s pool (refused r) = refused r
-readBy s pool (done n) = done (record { state = withReceiving s (afterRead (s .receiving)); bytes = message s pool })
+readBy s pool (done n) = done (readsOf s pool)
 
 read-by : (s : State) (pool : List ℕ) (room : ℕ) → readBy s pool (fittingOf (s .receiving .ready) room) ≡ reading s pool room
 unfolding fittingOf reading messageSize
@@ -88,7 +87,7 @@ read-by s pool room = go (readable (s .receiving .ready)) (leb (lengthOf (frontO
   where
     go : (a b : Bool)
         → readBy s pool (cond a (cond b (done (lengthOf (frontOf (s .receiving .ready)))) (refused ShortPart)) (refused (unreadable (s .receiving .ready))))
-        ≡ cond a (cond b (done (record { state = withReceiving s (afterRead (s .receiving)); bytes = message s pool })) (refused ShortPart)) (refused (unreadable (s .receiving .ready)))
+        ≡ cond a (cond b (done (readsOf s pool)) (refused ShortPart)) (refused (unreadable (s .receiving .ready)))
     go true true = refl
     go true false = refl
     go false b = refl
@@ -105,20 +104,83 @@ joined-length m pool (h ∷ l) i =
 
 -- ---- the block after a read
 
--- its receiving half
-half-after : (r : AfterRead) (s : Receiving) (tell : Bool) → tell ≡ r .tell → ReadIs r s → receivingOf (r .lists) (s .acks) tell ≡ s
-half-after r s tell e p = λ i. record { next = p .next i; ready = p .ready .list i; waiting = p .waiting .list i; acks = s .acks; tell = (e ∙ p .tell) i }
+-- the block with other lists received, and another wish for a tell
+abbrev withLists : Link → lists.Receiving → ℕ → Link
+withLists l r tell =
+    record {
+      settings = l .settings;
+      queued = l .queued;
+      flight = l .flight;
+      receiving = r;
+      acks = l .acks;
+      probe = l .probe;
+      current = l .current;
+      ask = l .ask;
+      tell = tell;
+      dead = l .dead;
+    }
 
-module _ (l : Link) (r : AfterRead) (l′ : Link) (w : WithReceiving l r l′) (p : (acks : List Ack) → ReadIs r (afterRead (halfOf (l .receiving) acks (isSet (l .tell))))) where
-  counted : countsFit l ≡ true → countsFit l′ ≡ true
-  unfolding countsFit
-  counted k =
-      let c = counts l k in
-      rw (w .is, le-leb _ _ (c .queued), le-leb _ _ (c .outstanding), le-leb _ _ (p [] .ready .fits), le-leb _ _ (p [] .waiting .fits), le-leb _ _ (c .acks))
+-- with these segments left of the ready ones, waiting segments have moved up; all else is as it was
+pub record Moved (l : Link) (left : HeldList) (m : Link) : Type 0 where
+  pub is : m ≡ withLists l (m .receiving) (l .tell)
+  pub within : m .receiving .ready .count ≤ length (m .receiving .ready .at)
+  pub lists-moved : ReceivingIs (m .receiving) (advance (l .receiving .next) (heldOf left) (waitingOf (l .receiving .waiting)))
 
-  after-state : (records : List Record) (acks : List ℕ) → stateOf l′ records acks ≡ withReceiving (stateOf l records acks) (afterRead (stateOf l records acks .receiving))
-  unfolding stateOf afterRead
-  after-state records acks = rw (w .is) (ap (withReceiving (stateOf l records acks)) (half-after r _ (isSet (l′ .tell)) (w .tell) (p (pairs (l .acks) acks))))
+-- where the first one is not numbered next, none moves
+advance-still : (next : ℕ) (ready : List Held) (waiting : List Waiting) → startsAt next waiting ≡ false → advance next ready waiting ≡ record { next = next; ready = ready; waiting = waiting }
+unfolding advance startsAt
+advance-still next ready [] e = refl
+advance-still next ready (w ∷ l) e = rw e
+
+module _ (l : Link) (left : HeldList) where
+  pub moves : (r : lists.Receiving) (m : Link) → m ≡ withLists l r (l .tell) → length (r .ready .at) ≡ 128 → ReceivingIs r (advance (l .receiving .next) (heldOf left) (waitingOf (l .receiving .waiting))) → Moved l left m
+  moves r m e h v = rw e (record { is = refl; within = omega (arith, v .ready .fits); lists-moved = v })
+
+  pub stays : (b : Bool) (m : Link) → length (left .at) ≡ 128 → left .count ≤ 128 → l .receiving .waiting .count ≤ 128 → b ≡ startsAt (l .receiving .next) (waitingOf (l .receiving .waiting)) → b ≡ false
+      → m ≡ withLists l (record { next = l .receiving .next; ready = left; waiting = l .receiving .waiting }) (l .tell) → Moved l left m
+  stays b m h g k e f q =
+      moves _ m q h (rw (advance-still (l .receiving .next) (heldOf left) (waitingOf (l .receiving .waiting)) (sym e ∙ f)) (record { next = refl; ready = record { fits = g; list = refl }; waiting = record { fits = k; list = refl } }))
+
+  module _ (m : Link) (t : ℕ) (v : Moved l left m) (u : HeldIs left (drop (frontCount (heldOf (l .receiving .ready))) (heldOf (l .receiving .ready))))
+      (whole : l .receiving .ready .count ≤ length (l .receiving .ready .at))
+      (b : Bool) (was : b ≡ isSet (l .tell)) (told : isSet t ≡ (b || eqb (l .receiving .ready .count) 128 && ltb (m .receiving .ready .count) 128)) where
+    is : withLists m (m .receiving) t ≡ withLists l (m .receiving) t
+    is = ap (λ (y : Link). withLists y (m .receiving) t) (v .is)
+
+    half-after : (acks : List Ack) → receivingOf (m .receiving) acks (isSet t) ≡ afterRead (receivingOf (l .receiving) acks (isSet (l .tell)))
+    unfolding afterRead
+    half-after acks =
+        let w = rw (u .list) at (v .lists-moved) in
+        let n : length (heldOf (l .receiving .ready)) ≡ l .receiving .ready .count = length-take-le (l .receiving .ready .count) (l .receiving .ready .at) whole in
+        let k : length (heldOf (m .receiving .ready)) ≡ m .receiving .ready .count = length-take-le (m .receiving .ready .count) (m .receiving .ready .at) (v .within) in
+        let tells : isSet t ≡ (isSet (l .tell) || eqb (length (heldOf (l .receiving .ready))) 128 && ltb (length (heldOf (m .receiving .ready))) 128) = told ∙ rw (was, n, k) in
+        let tell = rw (w .ready .list) at tells in
+        λ i. record { next = w .next i; ready = w .ready .list i; waiting = w .waiting .list i; acks = acks; tell = tell i }
+
+    counted : countsFit l ≡ true → countsFit (withLists m (m .receiving) t) ≡ true
+    unfolding countsFit
+    counted e =
+        let c = counts l e in
+        rw (is, le-leb _ _ (c .queued), le-leb _ _ (c .outstanding), le-leb _ _ (v .lists-moved .ready .fits), le-leb _ _ (v .lists-moved .waiting .fits), le-leb _ _ (c .acks))
+
+    after-state : (records : List Record) (acks : List ℕ) → stateOf (withLists m (m .receiving) t) records acks ≡ withReceiving (stateOf l records acks) (afterRead (stateOf l records acks .receiving))
+    unfolding stateOf
+    after-state records acks = ap (λ (y : Link). stateOf y records acks) is ∙ ap (withReceiving (stateOf l records acks)) (half-after (pairs (l .acks) acks))
+
+    pub takes : (pool buffer buffer′ : List ℕ) (size : ℕ) (records : List Record) (acks : List ℕ) → Readable l pool → Fits (heldOf (l .receiving .ready)) (length buffer) size
+        → buffer′ ≡ sets buffer 0 (joinedIn (mss (l .settings)) pool (frontOf (heldOf (l .receiving .ready))))
+        → Takes (readsOf (stateOf l records acks) pool) l records acks buffer (record { answer = Of size; link = withLists m (m .receiving) t }) buffer′
+    unfolding stateOf message
+    takes pool buffer buffer′ size records acks ok n e =
+        let ready = heldOf (l .receiving .ready) in
+        let m = mss (l .settings) in
+        record {
+          answer = ap Of (n .long ∙ sym (joined-length m pool (frontOf ready) (in-pool-take m pool (frontCount ready) ready (ok .inside))));
+          counts = counted (ok .counts);
+          state = after-state records acks;
+          flight = ap (λ (y : Link). y .flight) is;
+          buffer-after = e;
+        }
 
 -- ---- reading, by the length that was found
 
@@ -129,24 +191,9 @@ module _ (l : Link) (pool buffer buffer′ : List ℕ) (found : Count) (a : Coun
   unfolding stateOf
   outcome o f h = rw (← read-by (stateOf l records acks) pool (length buffer), ← e, f) h
 
-  pub taken : (size : ℕ) (r : AfterRead) → found ≡ Of size → Readable l pool
-      → ((acks : List Ack) → ReadIs r (afterRead (halfOf (l .receiving) acks (isSet (l .tell)))))
-      → WithReceiving l r (a .link)
-      → a .answer ≡ Of size
-      → buffer′ ≡ sets buffer 0 (joinedIn (mss (l .settings)) pool (frontOf (heldOf (l .receiving .ready))))
+  pub taken : (size : ℕ) → found ≡ Of size → Takes (readsOf (stateOf l records acks) pool) l records acks buffer a buffer′
       → Leaves (reading (stateOf l records acks) pool (length buffer)) l records acks buffer a buffer′
-  unfolding stateOf message
-  taken size r f ok p w q b =
-      let ready = heldOf (l .receiving .ready) in
-      let m = mss (l .settings) in
-      let n = fitting-fits ready (length buffer) size (sym (ap countOutcome f) ∙ e) in
-      outcome (done size) (ap countOutcome f) (record {
-        answer = q ∙ ap Of (n .long ∙ sym (joined-length m pool (frontOf ready) (in-pool-take m pool (frontCount ready) ready (ok .inside))));
-        counts = counted l r (a .link) w p (ok .counts);
-        state = after-state l r (a .link) w p records acks;
-        flight = ap (λ (y : Link). y .flight) (w .is);
-        buffer-after = b;
-      })
+  taken size f h = outcome (done size) (ap countOutcome f) h
 
   pub kept : (q : Refusal) → found ≡ Refused q → a .answer ≡ Refused q → a .link ≡ l → buffer′ ≡ buffer
       → Leaves (reading (stateOf l records acks) pool (length buffer)) l records acks buffer a buffer′

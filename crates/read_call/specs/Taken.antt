@@ -3,7 +3,7 @@
 use mathlib.Core.Path.{_≡_}
 use mathlib.Core.Bool.{true, cond}
 use mathlib.Core.List.{List}
-use Prim.Native.Nat.{ℕ}
+use Prim.Native.Nat.{ℕ, _≤_}
 use lib.Dec.{leb}
 use lib.ListN.{length}
 use lib.Seq.{sets}
@@ -12,30 +12,13 @@ use Rattle.protocol.specs.declared.Refusal.the-variants.{ShortPart}
 use Rattle.timing.specs.declared.Record.{Record}
 use Rattle.lists.specs.Views.{heldOf}
 use Rattle.lists.specs.declared.Held.{Held}
-use Rattle.session.specs.State.{Outcome, refused, done}
-use Rattle.session.specs.Reading.{Reads, readable, unreadable, lengthOf}
+use Rattle.session.specs.State.{State, Outcome, refused, done}
+use Rattle.session.specs.Reading.{Reads, readable, unreadable, lengthOf, message, afterRead, withReceiving}
 use Rattle.answers.specs.declared.Count.the-variants.{Of, Refused}
-use Rattle.block.specs.Views.{isSet, stateOf, countsFit}
+use Rattle.block.specs.Views.{stateOf, countsFit}
 use Rattle.block.specs.declared.Link.{Link}
 use Rattle.reading.specs.Reads.{frontOf, InPool}
-use Rattle.reading.specs.declared.AfterRead.{AfterRead}
 use Rattle.calls.specs.declared.Counted.{Counted}
-
--- the block with the receiving half after a read, all else as it was
-pub record WithReceiving (l : Link) (r : AfterRead) (l′ : Link) : Type 0 where
-  pub is : l′ ≡ record {
-    settings = l .settings;
-    queued = l .queued;
-    flight = l .flight;
-    receiving = r .lists;
-    acks = l .acks;
-    probe = l .probe;
-    current = l .current;
-    ask = l .ask;
-    tell = l′ .tell;
-    dead = l .dead;
-  }
-  pub tell : isSet (l′ .tell) ≡ r .tell
 
 -- what the checks of 7 and 13 have established
 pub record Readable (l : Link) (pool : List ℕ) : Type 0 where
@@ -45,6 +28,15 @@ pub record Readable (l : Link) (pool : List ℕ) : Type 0 where
 -- the length of the message at the front: 8 or 9, then 7 for a buffer shorter than it
 unfoldable pub fittingOf : List Held → ℕ → Outcome ℕ
 fittingOf ready room = let size = lengthOf (frontOf ready) in cond (readable ready) (cond (leb size room) (done size) (refused ShortPart)) (refused (unreadable ready))
+
+-- where a message of n bytes can be read, it is that long, and there is room for it
+pub record Fits (ready : List Held) (room n : ℕ) : Type 0 where
+  pub long : n ≡ lengthOf (frontOf ready)
+  pub within : lengthOf (frontOf ready) ≤ room
+
+-- what reading it gives
+abbrev pub readsOf : State → List ℕ → Reads
+readsOf s pool = record { state = withReceiving s (afterRead (s .receiving)); bytes = message s pool }
 
 -- a refusal: its number alone, the very block, and the buffer as it was
 pub record Kept (l : Link) (buffer : List ℕ) (a : Counted) (buffer′ : List ℕ) : Type 0 where

@@ -6,8 +6,9 @@ use calls::Counted;
 use calls::flags;
 use calls::telling;
 use lists::HeldList;
+use lists::reorder;
+use lists::waiting_list;
 use protocol::Refusal;
-use reading::AfterRead;
 use sizes::Lengths;
 use timing::Record;
 ghost use mathlib.Core.Path.{_≡_};
@@ -20,30 +21,7 @@ ghost use Rattle.block.specs.Views.{stateOf};
 ghost use Rattle.calls.specs.Parts.{lentLengths};
 ghost use Rattle.calls.specs.Outcomes.{readsWith};
 ghost use Rattle.calls.specs.Answers.{countOutcome};
-ghost use Rattle.read_call.specs.Taken.{WithReceiving, Readable, fittingOf, Leaves};
-
-// The block with the receiving half after a read.
-fn with_receiving(link: Link, read: AfterRead) -> Link
-    ensures { λ r. ⌜ WithReceiving link read r ⌝ }
-{
-    let settings = link.settings;
-    let queued = link.queued;
-    let flight = link.flight;
-    let receiving = read.lists;
-    let probe = link.probe;
-    Link {
-        settings,
-        queued,
-        flight,
-        receiving,
-        acks: link.acks,
-        probe,
-        current: link.current,
-        ask: link.ask,
-        tell: flags::flag(read.tell),
-        dead: link.dead,
-    }
-}
+ghost use Rattle.read_call.specs.Taken.{Readable, fittingOf, Fits, readsOf, Takes, Leaves};
 
 // The length of the message at the front; 8 or 9 where none can be read, 7 where it is longer than the room.
 fn fitting(ready: HeldList, room: usize) -> Count
@@ -63,25 +41,40 @@ fn fitting(ready: HeldList, room: usize) -> Count
     }
 }
 
+// The message at the front, of so many bytes, is taken: its segments are freed and waiting segments move up. A tell is wanted
+// if 128 were ready before and fewer after.
+fn take_message(link: Link, size: usize, pool: &[u8], buffer: &mut [u8]) -> Counted
+    requires { ⌜ Readable link (now pool) × Fits (heldOf (link .receiving .ready)) (length (now buffer)) size ⌝ }
+    ensures { λ r. ⌜ ((records : List Record) (acks : List ℕ) → Takes (readsOf (stateOf link records acks) (now (pool .entry))) link records acks (now (buffer .entry)) r (now (buffer .exit))) ⌝ }
+{
+    let mut after = link;
+    reading::copy_message(pool, link.settings.mss(), after.receiving.ready, buffer);
+    let left = reading::without_message(after.receiving.ready);
+    if waiting_list::starts_at(after.receiving.waiting, after.receiving.next) {
+        let moved = reorder::advance(left, after.receiving.waiting, after.receiving.next);
+        after.receiving = moved;
+    } else {
+        let mut receiving = after.receiving;
+        receiving.ready = left;
+        after.receiving = receiving;
+    }
+    let fewer = (link.receiving.ready.count == 128) & (after.receiving.ready.count < 128);
+    let tell = flags::is_set(link.tell) | fewer;
+    after.tell = flags::flag(tell);
+    Counted {
+        answer: Count::Of(size),
+        link: after,
+    }
+}
+
 // Reading over a block that has passed the checks of 7 and 13.
-fn take_message(link: Link, pool: &[u8], buffer: &mut [u8]) -> Counted
+fn read_message(link: Link, pool: &[u8], buffer: &mut [u8]) -> Counted
     requires { ⌜ Readable link (now pool) ⌝ }
     ensures { λ r. ⌜ ((records : List Record) (acks : List ℕ) → Leaves (reading (stateOf link records acks) (now (pool .entry)) (length (now (buffer .entry)))) link records acks (now (buffer .entry)) r (now (buffer .exit))) ⌝ }
 {
-    let settings = link.settings;
-    let receiving = link.receiving;
-    let ready = receiving.ready;
-    let found = fitting(ready, buffer.len());
+    let found = fitting(link.receiving.ready, buffer.len());
     match found {
-        Count::Of(size) => {
-            reading::copy_message(pool, settings.mss(), ready, buffer);
-            let read = reading::after_read(receiving, link.tell != 0);
-            let after = with_receiving(link, read);
-            Counted {
-                answer: Count::Of(size),
-                link: after,
-            }
-        }
+        Count::Of(size) => take_message(link, size, pool, buffer),
         Count::Refused(r) => Counted {
             answer: Count::Refused(r),
             link,
@@ -110,7 +103,7 @@ pub fn read(
     };
     if sizes::enough(settings, lent) {
         if check::valid(link, records) {
-            take_message(link, receive_pool, buffer)
+            read_message(link, receive_pool, buffer)
         } else {
             Counted {
                 answer: Count::Refused(Refusal::InvalidBlock),

@@ -1,25 +1,20 @@
 -- The front of the ready list, which is the first n segments of an array.
 -- Assumes nothing.
 use mathlib.Core.Path.{_≡_, refl, sym, ap, _∙_}
-use mathlib.Core.Bool.{Bool, _&&_, _||_}
+use mathlib.Core.Bool.{_&&_}
 use mathlib.Core.List.{List, [], _∷_}
 use Prim.Native.Nat.{ℕ, zero, suc, _+_, _-_, _*_, _≤_, _<_, _^_, min}
 use native.Mathlib.Nat.{zero-min, min-zero, suc-min-suc, mul-le-mul-right}
 use native.Mathlib.Omega.{arith}
 use borrow.Author.Tests.{lt-ltb}
-use lib.Dec.{leb, ltb, eqb}
+use lib.Dec.{leb, ltb}
 use lib.ListN.{length, take, drop, getD}
 use lib.Seq.{take-nil, length-take-le}
-use Rattle.lists.specs.Views.{heldOf, waitingOf, HeldIs}
-use Rattle.lists.specs.Receiving.{advance, ReceivingIs}
 use Rattle.lists.specs.declared.Held.{Held}
-use Rattle.lists.specs.declared.HeldList.{HeldList}
-use Rattle.lists.specs.declared.Receiving as lists
 use Rattle.lists.proofs.Loops.{view-next, view-end}
-use Rattle.session.specs.State.{Ack}
-use Rattle.session.specs.Reading.{frontCount, readable, frontPart, afterRead}
+use Rattle.session.specs.Reading.{frontCount, readable, frontPart}
 use Rattle.reading.specs.declared.Part as struct
-use Rattle.reading.specs.Reads.{frontOf, InSlots, InPool, PartIs, partOf, halfOf, ReadIs}
+use Rattle.reading.specs.Reads.{frontOf, InSlots, InPool, PartIs, partOf}
 
 -- ---- the first segment
 
@@ -96,19 +91,3 @@ part-within mss pool l r p i = rw (p .start, p .count) (part-inside mss pool l i
 pub shown : (mss : ℕ) (pool : List ℕ) (l : List Held) (r : struct.Part) → PartIs r (frontPart mss l)
     → take (r .start + r .count - r .start) (drop (r .start) pool) ≡ partOf (frontPart mss l) pool
 shown mss pool l r p = let e : r .start + r .count - r .start ≡ r .count = omega arith in rw (e, p .start, p .count)
-
--- ---- after a read
-
-module _ (r : lists.Receiving) (left : HeldList) (moved : lists.Receiving) (k : ℕ) (tell : Bool) (acks : List Ack)
-    (within : r .ready .count ≤ length (r .ready .at)) (within-moved : moved .ready .count ≤ length (moved .ready .at)) where
-  pub left-read : k ≡ min (frontCount (heldOf (r .ready))) (r .ready .count)
-      → HeldIs left (drop k (heldOf (r .ready)))
-      → ReceivingIs moved (advance (r .next) (heldOf left) (waitingOf (r .waiting)))
-      → ReadIs (record { lists = moved; tell = tell || eqb (r .ready .count) 128 && ltb (moved .ready .count) 128 }) (afterRead (halfOf r acks tell))
-  unfolding afterRead
-  left-read e u v =
-      let dropped : heldOf left ≡ drop (frontCount (heldOf (r .ready))) (heldOf (r .ready)) = u .list ∙ dropped-front (r .ready .at) (r .ready .count) k e within in
-      let w = rw dropped at v in
-      let n : length (heldOf (r .ready)) ≡ r .ready .count = length-take-le (r .ready .count) (r .ready .at) within in
-      let m : length (heldOf (moved .ready)) ≡ moved .ready .count = length-take-le (moved .ready .count) (moved .ready .at) within-moved in
-      record { next = w .next; ready = w .ready; waiting = w .waiting; tell = rw (n, ← w .ready .list, m) }

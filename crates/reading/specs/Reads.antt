@@ -1,19 +1,14 @@
 -- What the cores of reading ask of their arguments, and how their results stand for the session's. Definitions.
 -- Assumes nothing.
 use mathlib.Core.Path.{_≡_}
-use mathlib.Core.Bool.{Bool}
 use mathlib.Core.List.{List}
 use Prim.Native.Nat.{ℕ, _*_, _≤_, _<_}
 use lib.ListN.{length, take, drop}
 use Rattle.protocol.specs.Protocol.{receiveSlots}
-use Rattle.lists.specs.Views.{heldOf, waitingOf, HeldIs, WaitingIs}
 use Rattle.lists.specs.declared.Held.{Held}
-use Rattle.lists.specs.declared.Receiving as lists
-use Rattle.session.specs.State.{Ack, Receiving}
 use Rattle.session.specs.Decides.{All}
 use Rattle.session.specs.Reading.{frontCount, Part}
 use Rattle.reading.specs.declared.Part as struct
-use Rattle.reading.specs.declared.AfterRead.{AfterRead}
 
 -- the segments of the message at the front
 abbrev pub frontOf : List Held → List Held
@@ -36,14 +31,3 @@ partOf p pool = take (p .count) (drop (p .start) pool)
 pub record PartIs (r : struct.Part) (p : Part) : Type 0 where
   pub start : r .start ≡ p .start
   pub count : r .count ≡ p .count
-
--- the receiving half that these lists are of
-abbrev pub halfOf : lists.Receiving → List Ack → Bool → Receiving
-halfOf l acks tell = record { next = l .next; ready = heldOf (l .ready); waiting = waitingOf (l .waiting); acks = acks; tell = tell }
-
--- the result is this half, but for its acks
-pub record ReadIs (r : AfterRead) (s : Receiving) : Type 0 where
-  pub next : r .lists .next ≡ s .next
-  pub ready : HeldIs (r .lists .ready) (s .ready)
-  pub waiting : WaitingIs (r .lists .waiting) (s .waiting)
-  pub tell : r .tell ≡ s .tell

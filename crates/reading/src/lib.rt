@@ -1,28 +1,18 @@
 // The cores of reading a message, of telling its size and of showing its first segment, on the lists of the receiving half.
 use lists::HeldList;
-use lists::Receiving;
 use lists::held_list;
-use lists::reorder;
 ghost use mathlib.Core.Path.{_≡_};
-ghost use mathlib.Core.List.{List};
 ghost use Prim.Native.Nat.{_+_, _*_, _≤_, _<_, _^_, min};
-ghost use lib.ListN.{length, take};
+ghost use lib.ListN.{length, take, drop};
 ghost use lib.Seq.{sets};
-ghost use Rattle.lists.specs.Views.{heldOf};
-ghost use Rattle.session.specs.State.{Ack};
-ghost use Rattle.session.specs.Reading.{frontCount, readable, lengthOf, joinedIn, frontPart, afterRead};
-ghost use Rattle.reading.specs.Reads.{frontOf, InSlots, InPool, partOf, PartIs, halfOf, ReadIs};
+ghost use Rattle.lists.specs.Views.{heldOf, HeldIs};
+ghost use Rattle.session.specs.Reading.{frontCount, readable, lengthOf, joinedIn, frontPart};
+ghost use Rattle.reading.specs.Reads.{frontOf, InSlots, InPool, partOf, PartIs};
 
 // A part of the receive pool.
 pub struct Part {
     pub start: usize,
     pub count: usize,
-}
-
-// The receiving half's lists after a read, and whether a tell is wanted.
-pub struct AfterRead {
-    pub lists: Receiving,
-    pub tell: bool,
 }
 
 fn wide(x: u16) -> usize
@@ -124,22 +114,13 @@ pub fn copy_message(pool: &[u8], mss: usize, ready: HeldList, out: &mut [u8])
     copy_first(pool, mss, ready, n, out);
 }
 
-// The message's segments are freed and waiting segments move up; a tell is wanted if 128 were ready before and fewer after.
-pub fn after_read(lists: Receiving, tell: bool) -> AfterRead
-    requires { ⌜ (lists .ready .count ≤ 128) × (lists .waiting .count ≤ 128) ⌝ }
-    ensures { λ r. ⌜ ((acks : List Ack) → ReadIs r (afterRead (halfOf lists acks tell))) ⌝ }
+// The ready segments without those of the message at the front.
+pub fn without_message(ready: HeldList) -> HeldList
+    requires { ⌜ ready .count ≤ 128 ⌝ }
+    ensures { λ r. ⌜ HeldIs r (drop (frontCount (heldOf ready)) (heldOf ready)) ⌝ }
 {
-    let ready = lists.ready;
-    let waiting = lists.waiting;
     let n = taken(ready);
-    let left = held_list::drop_first(ready, n);
-    let moved = reorder::advance(left, waiting, lists.next);
-    let before = ready.count;
-    let after = moved.ready.count;
-    AfterRead {
-        lists: moved,
-        tell: tell | (before == 128) & (after < 128),
-    }
+    held_list::drop_first(ready, n)
 }
 
 // Where the front segment's payload lies in the receive pool.

@@ -7,8 +7,8 @@ use Rattle.read_call.proofs.Takes.{readable-block, passes, invalid, sho
 use Rattle.read_call.proofs.read.Statement.{statement}
 use Rattle.read_call.proofs.read.Tie as tie
 
-take-message-requires : tie.Need-take-message-requires
-take-message-requires c κs =
+read-message-requires : tie.Need-read-message-requires
+read-message-requires c κs =
     readable-block _ _ _ _ _ _ (c .before .before .valid .ensures) (c .before .if2 .taken) (c .before .before .before .before .enough .ensures) (c .before .before .before .if1 .taken) refl
 
 returns : tie.Need-returns
@@ -18,7 +18,7 @@ returns c =
     passes _ _ _ _ _ _ _ _ _
     (sym (v .before .before .enough .ensures) ∙ v .before .if1 .taken)
     (sym (v .valid .ensures _) ∙ c .before .before .before .before .if2 .taken)
-    (c .before .before .take-message .ensures _ _)
+    (c .before .before .read-message .ensures _ _)
 
 returns-2 : tie.Need-returns-2
 unfolding readsWith
@@ -36,7 +36,7 @@ read-spec =
     (tie.spec
     (λ c κs. search needs)
     (λ c κs. search needs)
-    take-message-requires
+    read-message-requires
     (λ c. search needs)
     returns
     returns-2

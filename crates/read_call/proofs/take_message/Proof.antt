@@ -1,56 +1,71 @@
 -- `read_call::take_message` meets its contract: the message copied out, and the receiving half after it put back into the block.
 -- Assumes nothing.
-use mathlib.Core.Path.{refl, sym, ap, _∙_}
+use mathlib.Core.Logic.{⊎-elim}
+use mathlib.Core.Path.{_≡_}
+use Prim.Native.Nat.{_≤_}
+use native.Mathlib.Omega.{arith}
 use borrow.Author.Needs.{needs}
+use lib.ListN.{length}
+use Rattle.lists.proofs.Loops.{length-mapped}
 use Rattle.block.proofs.Whole.{counts}
-use Rattle.calls.specs.Answers.{countOutcome}
-use Rattle.read_call.proofs.Takes.{fitting-fits, taken, kept}
+use Rattle.read_call.proofs.Takes.{Moved, moves, stays, takes}
 use Rattle.read_call.proofs.take_message.Statement.{statement}
 use Rattle.read_call.proofs.take_message.Tie as tie
 
-fitting-requires : tie.Need-fitting-requires
-fitting-requires c κs = counts _ (c .before .before .before .before .before .pre .counts) .ready
-
 copy-message-requires : tie.Need-copy-message-requires
 copy-message-requires c κs =
-    let k = c .before .before in
-    let f = k .before .before .before in
-    let p = f .before .before .before .before .before .before .pre in (
-      counts _ (p .counts) .ready,
-      rw (c .before .mss .ensures) (p .inside),
-      fitting-fits _ _ _ (sym (ap countOutcome (k .before .found .given .1)) ∙ f .fitting .ensures) .within,
-    )
+    let p = c .before .before .before .before .pre in
+    (counts _ (p .0 .counts) .ready, rw (c .before .mss .ensures) (p .0 .inside), p .1 .within)
 
-after-read-requires : tie.Need-after-read-requires
-after-read-requires c κs =
-    let p = c .before .before .before .before .before .before .before .before .before .before .before .before .before .before .before .pre in
-    let n = counts _ (p .counts) in (n .ready, n .waiting)
+without-message-requires : tie.Need-without-message-requires
+without-message-requires c κs = counts _ (c .before .before .before .before .before .before .before .pre .0 .counts) .ready
+
+starts-at-requires : tie.Need-starts-at-requires
+starts-at-requires c κs = counts _ (c .before .before .before .before .before .before .before .before .pre .0 .counts) .waiting
+
+advance-requires : tie.Need-advance-requires
+advance-requires c κs =
+    let without = c .before .before in
+    (without .without-message .ensures .fits, counts _ (without .before .before .before .before .before .before .before .before .pre .0 .counts) .waiting)
+
+-- waiting segments have moved up, or none could
+moved : (c : tie.Joined1) → Moved (c .before .before .before .before .before .before .before .before .before .before .args .link) (c .before .before .without-message .result) (c .if1 .after)
+moved c =
+    let without = c .before .before in
+    let p = without .before .before .before .before .before .before .before .before .pre in
+    ⊎-elim
+    (λ w. moves _ _ (w .1 .result) _ (w .2) (search (needs, length-mapped, w .1 .ok .1 .1 .1 .0)) (w .1 .ensures))
+    (λ w. stays _ _ _ _ (search (needs, length-mapped, without .without-message .ok)) (without .without-message .ensures .fits) (counts _ (p .0 .counts) .waiting) (c .before .starts-at .ensures) (w .0 .left) (w .2))
+    (c .if1 .came)
+
+-- the ready count is within the array
+whole : (c : tie.After-shared-slice-known) → c .before .args .link .receiving .ready .count ≤ length (c .before .args .link .receiving .ready .at)
+whole c =
+    let told = c .before .good .0 .1 .1 .1 .1 .1 .0 .1 .1 .1 .0 in
+    let size : length (c .before .args .link .receiving .ready .at) ≡ 128 = search (needs, length-mapped, told) in
+    omega (arith, size, counts (c .before .args .link) (c .before .pre .0 .counts) .ready)
 
 returns : tie.Need-returns
 returns c records acks =
-    let m = c .before .before .before .before .before in
-    let k = m .before .before .before in
-    let f = k .before .before .before in
-    let s = f .before .before .before .before .before .before in
-    taken (s .args .link) _ _ _ (f .fitting .result) _ (f .fitting .ensures) records acks _ _ (k .before .found .given .1) (s .pre) (c .before .after-read .ensures) (c .with-receiving .ensures) refl (rw (m .before .before .mss .ensures) at (m .copy-message .ensures))
-
-returns-2 : tie.Need-returns-2
-returns-2 c records acks =
-    let f = c .before .before .before in
-    let s = f .before .before .before .before .before .before in
-    kept (s .args .link) (s .args .pool .now) (s .args .buffer .now) _ (f .fitting .result) _ (f .fitting .ensures) records acks _ (c .before .found2 .given .1) refl refl refl
+    let joined = c .before .before .before .before in
+    let without = joined .before .before in
+    let copies = without .before .before .before in
+    let mssed = copies .before .before in
+    let entry = mssed .before .before .before in
+    let a = entry .args in
+    let p = entry .pre in
+    takes (a .link) (without .without-message .result) (joined .if1 .after) _ (moved joined) (without .without-message .ensures) (whole (mssed .before .before)) _ (c .before .is-set .ensures) (c .flag .ensures) _ _ _ _ records acks (p .0) (p .1) (rw (mssed .mss .ensures) at (copies .copy-message .ensures))
 
 pub take-message-spec : {M : Type 1} → statement M
 take-message-spec =
     tie.close
     (tie.spec
-    fitting-requires
-    (λ c. search needs)
     (λ c κs. search needs)
     copy-message-requires
-    after-read-requires
+    without-message-requires
+    starts-at-requires
+    advance-requires
+    (λ c κs. search needs)
     (λ c κs. search needs)
     (λ c. search needs)
-    (λ c. search needs)
-    returns
-    returns-2)
+    returns)
