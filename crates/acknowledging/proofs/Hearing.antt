@@ -1,54 +1,93 @@
--- What is made of the segments in flight, step by step, is what the definitions make of the sending half.
+-- What a segment makes of the segments in flight is what the definition makes of the sending half.
 -- Assumes nothing.
-use mathlib.Core.Path.{_≡_, ap, _∙_}
-use mathlib.Core.Bool.{true, false}
+use mathlib.Core.Path.{_≡_, refl, sym, _∙_}
+use mathlib.Core.Bool.{Bool, true, false, cond, not, _&&_}
+use mathlib.Core.List.{List, []}
 use Prim.Native.Nat.{ℕ, _≤_}
+use native.Mathlib.Omega.{arith}
 use borrow.Author.Tests.{eq-eqb, ne-eqb}
-use Rattle.protocol.specs.Serial.{minus, isDue}
+use lib.Dec.{eqb}
+use Rattle.protocol.specs.Protocol.{ack}
+use Rattle.protocol.specs.Serial.{minus, isAfter, isDue}
 use Rattle.protocol.specs.declared.Settings.{Settings}
 use Rattle.wire.specs.declared.Header.{Header}
 use Rattle.timing.specs.RoundTrips.{sampled}
 use Rattle.timing.specs.declared.RoundTrip.{RoundTrip}
 use Rattle.lists.specs.Views.{sentOf, SentIs}
-use Rattle.lists.specs.Acknowledging.{removed, firstNumberOr}
+use Rattle.lists.specs.Acknowledging.{select, keep, firstNumberOr}
+use Rattle.lists.specs.AcknowledgingLaws.{select-same, keep-both}
+use Rattle.lists.specs.declared.Sent.{Sent}
 use Rattle.lists.specs.declared.SentList.{SentList}
-use Rattle.lists.specs.declared.Acknowledges.{Acknowledges}
 use Rattle.lists.specs.declared.Acknowledges.the-variants as by
 use Rattle.session.specs.State.{Sending}
 use Rattle.session.specs.Input.{acknowledged, withWindow, sampledBy, heardBySending}
 use Rattle.block.specs.declared.Flight.{Flight}
 use Rattle.acknowledging.specs.Flights.{FlightIs}
+use Rattle.acknowledging.specs.Hearing.{staysBy, timedBy}
 
--- one change after another
-pub then : {a b f : Flight} {g k : Sending → Sending} → FlightIs a f g → FlightIs b a k → FlightIs b f (λ s. k (g s))
-then {a} {b} {f} {g} {k} p q = record { fits = q .fits; half = λ l. q .half l ∙ ap k (p .half l) }
+-- ---- the round trip
 
-pub acknowledged-is : (f : Flight) (arrival : Acknowledges) (left : SentList) (una : ℕ)
-    → SentIs left (removed arrival (sentOf (f .outstanding))) → una ≡ firstNumberOr (sentOf left) (f .next)
-    → FlightIs (record { una = una; next = f .next; rtt = f .rtt; window = f .window; outstanding = left }) f (acknowledged arrival)
-unfolding acknowledged
-acknowledged-is f arrival left una l e = record { fits = l .fits; half = λ q. rw (e, l .list) }
+module _ (c : Settings) (current : ℕ) (h : Header) (rtt : RoundTrip) where
+  pub timed-ack : (r : RoundTrip) → h .cmd ≡ 82 → isDue current (h .ts) ≡ true → r ≡ sampled rtt c (minus current (h .ts)) → r ≡ timedBy c current h rtt
+  unfolding timedBy
+  timed-ack r e d q = rw (eq-eqb (h .cmd) 82 e, d) q
 
--- ---- a sample
+  pub timed-late : h .cmd ≡ 82 → isDue current (h .ts) ≡ false → rtt ≡ timedBy c current h rtt
+  unfolding timedBy
+  timed-late e d = rw (eq-eqb (h .cmd) 82 e, d)
 
-module _ (f : Flight) (c : Settings) (current ts : ℕ) (few : f .outstanding .count ≤ 32) where
-  pub sample-is : (rtt : RoundTrip) → isDue current ts ≡ true → rtt ≡ sampled (f .rtt) c (minus current ts)
-      → FlightIs (record { una = f .una; next = f .next; rtt = rtt; window = f .window; outstanding = f .outstanding }) f (sampledBy c current ts)
-  unfolding sampledBy
-  sample-is rtt d e = record { fits = few; half = λ q. rw (d, e) }
-
-  pub no-sample : isDue current ts ≡ false → FlightIs f f (sampledBy c current ts)
-  unfolding sampledBy
-  no-sample d = record { fits = few; half = λ q. rw d }
+  pub timed-other : (h .cmd ≡ 82 → ⊥) → rtt ≡ timedBy c current h rtt
+  unfolding timedBy
+  timed-other e = rw (ne-eqb (h .cmd) 82 e)
 
 -- ---- a segment
 
-module _ {f w p : Flight} (c : Settings) (current : ℕ) (h : Header) (a : FlightIs w f (withWindow (h .wnd))) (b : FlightIs p w (acknowledged (by.Una (h .una)))) where
-  pub heard-ack : {t r : Flight} → h .cmd ≡ 82 → FlightIs t p (sampledBy c current (h .ts)) → FlightIs r t (acknowledged (by.Ack (h .sn)))
-      → FlightIs r f (λ s. heardBySending c current s h)
-  unfolding heardBySending
-  heard-ack e d g = let x = then (then (then a b) d) g in record { fits = x .fits; half = λ q. rw (eq-eqb (h .cmd) 82 e) (x .half q) }
+and-true : (b : Bool) → b ≡ (b && true)
+and-true true = refl
+and-true false = refl
 
-  pub heard-other : (h .cmd ≡ 82 → ⊥) → FlightIs p f (λ s. heardBySending c current s h)
-  unfolding heardBySending
-  heard-other e = let x = then a b in record { fits = x .fits; half = λ q. rw (ne-eqb (h .cmd) 82 e) (x .half q) }
+-- the definition's segment, its parts apart
+heard-parts : (c : Settings) (current : ℕ) (s : Sending) (h : Header)
+    → heardBySending c current s h
+    ≡ record {
+      una = firstNumberOr (keep (staysBy h) (s .outstanding)) (s .next);
+      next = s .next;
+      queued = s .queued;
+      outstanding = keep (staysBy h) (s .outstanding);
+      window = h .wnd;
+      roundTrip = timedBy c current h (s .roundTrip);
+    }
+unfolding heardBySending acknowledged sampledBy timedBy
+heard-parts c current s h = go (eqb (h .cmd) ack)
+  where
+    l : List Sent
+    l = s .outstanding
+
+    passed : Sending
+    passed = acknowledged (by.Una (h .una)) (withWindow (h .wnd) s)
+
+    go : (t : Bool)
+        → cond t (acknowledged (by.Ack (h .sn)) (sampledBy c current (h .ts) passed)) passed
+        ≡ record {
+          una = firstNumberOr (keep (λ n. not (isAfter (h .una) n) && not (t && eqb n (h .sn))) l) (s .next);
+          next = s .next;
+          queued = s .queued;
+          outstanding = keep (λ n. not (isAfter (h .una) n) && not (t && eqb n (h .sn))) l;
+          window = h .wnd;
+          roundTrip = cond t (cond (isDue current (h .ts)) (sampled (s .roundTrip) c (minus current (h .ts))) (s .roundTrip)) (s .roundTrip);
+        }
+    go true = rw (keep-both (λ n. not (isAfter (h .una) n)) (λ n. not (eqb n (h .sn))) l)
+    go false = rw (select-same (λ (x : Sent). not (isAfter (h .una) (x .record .number))) (λ x. not (isAfter (h .una) (x .record .number)) && true) (λ x. and-true (not (isAfter (h .una) (x .record .number)))) l)
+
+module _ (c : Settings) (current : ℕ) (f : Flight) (h : Header) (rtt : RoundTrip) (e : rtt ≡ timedBy c current h (f .rtt)) where
+  pub heard-some : (left : SentList) (una : ℕ) → SentIs left (keep (staysBy h) (sentOf (f .outstanding))) → una ≡ firstNumberOr (sentOf left) (f .next)
+      → FlightIs (record { una = una; next = f .next; rtt = rtt; window = h .wnd; outstanding = left }) f (λ s. heardBySending c current s h)
+  heard-some left una l g = record { fits = l .fits; half = λ q. rw (heard-parts c current _ h, g, l .list, e) }
+
+  -- none is outstanding
+  pub heard-none : f .outstanding .count ≤ 0
+      → FlightIs (record { una = f .next; next = f .next; rtt = rtt; window = h .wnd; outstanding = f .outstanding }) f (λ s. heardBySending c current s h)
+  unfolding select firstNumberOr
+  heard-none z =
+      let n : f .outstanding .count ≡ 0 = omega arith in
+      record { fits = omega arith; half = λ q. rw (heard-parts c current _ h, e, n) }

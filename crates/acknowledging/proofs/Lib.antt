@@ -1,2 +1,3 @@
 pub mod Hearing
 pub mod Skips
+pub mod Walks

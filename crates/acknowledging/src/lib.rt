@@ -1,90 +1,74 @@
 // The sending half hears a datagram: windows and round trips, what is acknowledged, and skips.
 use block::Flight;
-use lists::Acknowledges;
+use datagram::Step;
+use lists::SentList;
 use lists::sent_list;
 use protocol::Protocol;
 use protocol::Settings;
 use protocol::serial;
+use timing::RoundTrip;
 use wire::Header;
 ghost use mathlib.Core.Path.{_≡_};
 ghost use mathlib.Core.Bool.{not, _&&_};
-ghost use Prim.Native.Nat.{_≤_};
+ghost use Prim.Native.Nat.{ℕ, _≤_};
+ghost use Rattle.protocol.specs.Ranges.{mss};
 ghost use Rattle.protocol.specs.Serial.{isBefore};
-ghost use Rattle.session.specs.Input.{acknowledged, withWindow, sampledBy, heardBySending};
-ghost use Rattle.acknowledging.specs.Flights.{FlightIs};
+ghost use Rattle.datagram.specs.StepLaws.{Begun};
+ghost use Rattle.lists.specs.Views.{sentOf, SentIs};
+ghost use Rattle.lists.specs.Acknowledging.{keep};
+ghost use Rattle.acknowledging.specs.Flights.{FlightIs, HearsAll};
 ghost use Rattle.acknowledging.specs.Furthest.{noneYet, furtherBy, skippedBy};
+ghost use Rattle.acknowledging.specs.Hearing.{staysBy, timedBy};
 
 // The furthest number that the acks of a datagram have named so far, if any came.
-pub struct Furthest {
-    pub any: bool,
-    pub number: u32,
+struct Furthest {
+    any: bool,
+    number: u32,
 }
 
-// The segments that an arrival acknowledges are removed; then snd_una is the first outstanding number, else snd_nxt.
-fn acknowledged(flight: Flight, arrival: Acknowledges) -> Flight
-    requires { ⌜ flight .outstanding .count ≤ 32 ⌝ }
-    ensures { λ r. ⌜ FlightIs r flight (acknowledged arrival) ⌝ }
+// Whether the segment with that number stays outstanding after a segment is heard: una is not after it, and no ack names it.
+fn stays(h: Header, number: u32) -> bool
+    ensures { λ r. ⌜ r ≡ staysBy h number ⌝ }
 {
-    let all = flight.outstanding;
-    let left = sent_list::remove(all, arrival);
-    let rtt = flight.rtt;
-    Flight {
-        una: sent_list::first_number_or(left, flight.next),
-        next: flight.next,
-        rtt,
-        window: flight.window,
-        outstanding: left,
-    }
+    !serial::after(h.una, number) & !((h.cmd == Protocol::ACK) & (number == h.sn))
 }
 
-// If current - ts is 0 or more, that is a sample.
-fn sampled(flight: Flight, settings: Settings, current: u32, ts: u32) -> Flight
-    requires { ⌜ flight .outstanding .count ≤ 32 ⌝ }
-    ensures { λ r. ⌜ FlightIs r flight (sampledBy settings current ts) ⌝ }
+// The list without the segments that a segment acknowledges.
+fn remaining(list: SentList, h: Header) -> SentList
+    requires { ⌜ list .count ≤ 32 ⌝ }
+    ensures { λ r. ⌜ SentIs r (keep (staysBy h) (sentOf list)) ⌝ }
 {
-    if serial::due(current, ts) {
-        let before = flight.rtt;
-        let rtt = before.sampled(settings, serial::difference(current, ts));
-        let outstanding = flight.outstanding;
-        Flight {
-            una: flight.una,
-            next: flight.next,
-            rtt,
-            window: flight.window,
-            outstanding,
+    let n = list.count;
+    let mut l = list;
+    let mut i: usize = 0;
+    let mut j: usize = 0;
+    while i < n {
+        let s = l.at[i];
+        i += 1;
+        if stays(h, s.record.number) {
+            l.at[j] = s;
+            j += 1;
         }
-    } else {
-        flight
     }
+    l.count = j;
+    l
 }
 
-// The segment's window is the peer's last window.
-fn with_window(flight: Flight, window: u16) -> Flight
-    requires { ⌜ flight .outstanding .count ≤ 32 ⌝ }
-    ensures { λ r. ⌜ FlightIs r flight (withWindow window) ⌝ }
+// The round trip after a segment is heard: if it is an ack and current - ts is 0 or more, that is a sample.
+fn timed(rtt: RoundTrip, settings: Settings, current: u32, h: Header) -> RoundTrip
+    ensures { λ r. ⌜ r ≡ timedBy settings current h rtt ⌝ }
 {
-    let mut f = flight;
-    f.window = window;
-    f
-}
-
-// A segment is heard: its window, its una, and what an ack names.
-pub fn heard(flight: Flight, settings: Settings, current: u32, h: Header) -> Flight
-    requires { ⌜ flight .outstanding .count ≤ 32 ⌝ }
-    ensures { λ r. ⌜ FlightIs r flight (λ s. heardBySending settings current s h) ⌝ }
-{
-    let passed = acknowledged(with_window(flight, h.wnd), Acknowledges::Una(h.una));
     if h.cmd == Protocol::ACK {
-        let timed = sampled(passed, settings, current, h.ts);
-        acknowledged(timed, Acknowledges::Ack(h.sn))
-    } else {
-        passed
+        if serial::due(current, h.ts) {
+            return rtt.sampled(settings, serial::difference(current, h.ts));
+        }
     }
+    rtt
 }
 
 impl Furthest {
     // No ack has come.
-    pub fn new() -> Self
+    fn new() -> Self
         ensures { λ r. ⌜ r ≡ noneYet ⌝ }
     {
         Furthest {
@@ -94,7 +78,7 @@ impl Furthest {
     }
 
     // After a segment: the first ack's number, replaced by each later one that is after it.
-    pub fn after(self, h: Header) -> Self
+    fn after(self, h: Header) -> Self
         ensures { λ r. ⌜ r ≡ furtherBy self h ⌝ }
     {
         if h.cmd != Protocol::ACK {
@@ -118,7 +102,7 @@ fn counts(flight: Flight, number: u32) -> bool
 }
 
 // After the datagram: if the furthest number counts, each outstanding segment before it gets one skip.
-pub fn skip(flight: Flight, furthest: Furthest) -> Flight
+fn skip(flight: Flight, furthest: Furthest) -> Flight
     requires { ⌜ flight .outstanding .count ≤ 32 ⌝ }
     ensures { λ r. ⌜ FlightIs r flight (skippedBy furthest) ⌝ }
 {
@@ -129,5 +113,38 @@ pub fn skip(flight: Flight, furthest: Furthest) -> Flight
         f
     } else {
         flight
+    }
+}
+
+// The segments of an accepted datagram are heard, one after the other, and then come the skips.
+pub fn hear(flight: Flight, settings: Settings, current: u32, s: &[u8]) -> Flight
+    requires { ⌜ (flight .outstanding .count ≤ 32) × ((n : ℕ) × Begun (settings .conv) (mss settings) (now s) n) ⌝ }
+    ensures { λ r. ⌜ HearsAll settings current (now (s .entry)) flight r ⌝ }
+{
+    let mut f = flight;
+    let mut furthest = Furthest::new();
+    let mut at: usize = 0;
+    loop {
+        let step = datagram::segment_at(s, at);
+        let Step::Segment {
+            header,
+            start: _,
+            next,
+        } = step
+        else {
+            return skip(f, furthest);
+        };
+        at = next;
+        furthest = furthest.after(header);
+        f.window = header.wnd;
+        let before = f.rtt;
+        f.rtt = timed(before, settings, current, header);
+        if 0 < f.outstanding.count {
+            let left = remaining(f.outstanding, header);
+            f.una = sent_list::first_number_or(left, f.next);
+            f.outstanding = left;
+        } else {
+            f.una = f.next;
+        }
     }
 }

@@ -8,30 +8,18 @@ use lib.ListN.{drop}
 use Rattle.protocol.specs.Ranges.{mss}
 use Rattle.protocol.specs.declared.Settings.{Settings}
 use Rattle.protocol.specs.declared.Refusal.{Refusal}
-use Rattle.datagram.specs.Datagrams.{Segment, parse, segments, counted}
+use Rattle.datagram.specs.Datagrams.{parse, counted}
 use Rattle.datagram.specs.declared.Checked.{Checked}
 use Rattle.datagram.specs.declared.Checked.the-variants.{Accepted, Refused}
 use Rattle.timing.specs.declared.ProbeClock.{ProbeClock}
 use Rattle.lists.specs.declared.HeldList.{HeldList}
 use Rattle.session.specs.State.{State, Outcome, refused, done}
-use Rattle.session.specs.Input.{Took, allBySending, allByReceiving, ackNumbers, skippedByAll, input}
+use Rattle.session.specs.Input.{Took, input}
 use Rattle.block.specs.Views.{pairs, sendingOf, receivingOf}
 use Rattle.block.specs.declared.Flight.{Flight}
-use Rattle.acknowledging.specs.Flights.{FlightIs}
-use Rattle.receiving.specs.Halves.{receiverOf, Sound, HalfIs}
+use Rattle.receiving.specs.Halves.{Sound}
 use Rattle.receiving.specs.declared.Half.{Half}
-use Rattle.input.specs.declared.Applied.{Applied}
 use Rattle.input.specs.declared.TakenIn.{TakenIn}
-
--- a datagram that is accepted
-pub record HasSegments (conv m : ℕ) (s : List ℕ) : Type 0 where
-  pub all : List Segment
-  pub parsed : parse conv m s ≡ segments all
-
--- the segments gs are applied to both halves; m is the mss
-pub record AppliedIs (c : Settings) (current m : ℕ) (gs : List Segment) (f : Flight) (h : Half) (acks pool : List ℕ) (r : Applied) (acks′ pool′ : List ℕ) : Type 0 where
-  pub sending : FlightIs (r .flight) f (λ x. skippedByAll (allBySending c current x gs) (ackNumbers gs))
-  pub receiving : HalfIs m h (r .half) acks acks′ pool′ (allByReceiving m (receiverOf h acks pool) gs)
 
 -- the rest of a link's state
 pub record Rest : Type 0 where

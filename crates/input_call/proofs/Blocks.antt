@@ -1,25 +1,30 @@
 -- A block as its halves: taken apart, put together again, and sound where the checks of 7 and 13 pass.
 -- Assumes nothing.
 use mathlib.Core.Path.{_≡_, refl, sym, _∙_}
-use mathlib.Core.Bool.{Bool, true, false}
-use mathlib.Core.List.{List, []}
-use Prim.Native.Nat.{ℕ, _*_, _≤_}
+use mathlib.Core.Bool.{Bool, true, false, _&&_}
+use mathlib.Core.List.{List, [], _∷_}
+use Prim.Native.Nat.{ℕ, _*_, _≤_, _<_}
 use native.Mathlib.Omega.{arith}
-use borrow.Author.Tests.{le-leb}
+use borrow.Author.Tests.{le-leb, ltb-true, eqb-true}
+use lib.Dec.{ltb, eqb}
 use lib.ListN.{length, drop, take-append-drop}
 use Rattle.protocol.specs.Protocol.{sendSlots, receiveSlots, receiveWindow, acksMost}
 use Rattle.protocol.specs.Ranges.{mss}
 use Rattle.timing.specs.declared.Record.{Record}
-use Rattle.lists.specs.Views.{sentOf, waitingOf}
+use Rattle.lists.specs.Views.{heldOf, sentOf, waitingOf}
 use Rattle.lists.specs.Joining.{SplitIs}
 use Rattle.lists.specs.JoiningLaws.{joined-split}
 use Rattle.lists.specs.Orders.{waitingOffset}
+use Rattle.lists.specs.Receiving.{startsAt}
+use Rattle.lists.specs.declared.Held.{Held}
+use Rattle.lists.specs.declared.Waiting.{Waiting}
 use Rattle.lists.specs.declared.Split.{Split}
 use Rattle.sizes.specs.Sizes.{enough}
 use Rattle.sizes.specs.declared.Lengths.{Lengths}
 use Rattle.session.specs.Decides.{and-parts, leb-decides, and-decides}
 use Rattle.session.specs.Ascending.{ascending-decides}
 use Rattle.session.specs.IsValid.{valid-decides}
+use Rattle.session.specs.ReceivingValid.{StartsAt}
 use Rattle.block.specs.Views.{isSet, pairs, receivingOf, stateOf, countsFit, blockValid, Joins}
 use Rattle.block.specs.declared.Link.{Link}
 use Rattle.block.specs.declared.Flight.{Flight}
@@ -101,6 +106,17 @@ long-enough m n e =
     let h = d .holds e in
     record { receive = h .0 .0 .1; acks = h .1 }
 
+-- none waits that could be ready
+settles : (next : ℕ) (ready : List Held) (waiting : List Waiting) → (length ready < receiveWindow → StartsAt next waiting → ⊥) → (startsAt next waiting && ltb (length ready) receiveWindow) ≡ false
+unfolding startsAt
+settles next ready [] f = refl
+settles next ready (w ∷ l) f = go (eqb (waitingOffset next w) 0) (ltb (length ready) receiveWindow) refl refl
+  where
+    go : (a b : Bool) → eqb (waitingOffset next w) 0 ≡ a → ltb (length ready) receiveWindow ≡ b → (a && b) ≡ false
+    go true true e g = absurd (f (ltb-true _ _ g) (eqb-true _ _ e))
+    go true false e g = refl
+    go false b e g = refl
+
 -- what the checks of 7 and 13 say to taking in
 pub hears : (l : Link) (records : List Record) (n : Lengths) (pool acks : List ℕ) (b g : Bool) → ((a : List ℕ) → b ≡ blockValid l records a) → b ≡ true → g ≡ enough (mss (l .settings)) n → g ≡ true
     → n .receive ≡ length pool → n .acks ≡ length acks → Hears l acks pool
@@ -116,6 +132,7 @@ hears l records n pool acks b g eb tb eg tg long wide =
         ready = k .ready;
         waiting = k .waiting;
         ascends = ascending-decides (waitingOffset (l .receiving .next)) receiveWindow (waitingOf (l .receiving .waiting)) .passes (v .receiving .ascending);
+        settled = settles (l .receiving .next) (heldOf (l .receiving .ready)) (waitingOf (l .receiving .waiting)) (v .receiving .settles);
         noted = k .acks;
         ack-list = rw (← wide) (lent .acks);
         slots = rw (← long) (lent .receive);

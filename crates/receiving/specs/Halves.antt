@@ -1,17 +1,21 @@
 -- The receiving half with its lent parts: what it stands for, what its functions ask, and what they leave. Definitions.
 -- Assumes nothing.
 use mathlib.Core.Path.{_≡_}
-use mathlib.Core.Bool.{true}
+use mathlib.Core.Bool.{true, false, _&&_}
 use mathlib.Core.List.{List}
 use Prim.Native.Nat.{ℕ, _+_, _*_, _≤_, _<_, _^_}
+use lib.Dec.{ltb}
 use lib.ListN.{length, drop}
-use Rattle.protocol.specs.Protocol.{push, receiveWindow, receiveSlots, acksMost}
+use Rattle.protocol.specs.Protocol.{receiveWindow, receiveSlots, acksMost}
+use Rattle.protocol.specs.Ranges.{mss}
+use Rattle.protocol.specs.declared.Settings.{Settings}
 use Rattle.wire.specs.declared.Header.{Header}
-use Rattle.datagram.specs.Datagrams.{Segment}
-use Rattle.lists.specs.Views.{waitingOf}
+use Rattle.datagram.specs.Datagrams.{Segment, parse, segments}
+use Rattle.lists.specs.Views.{heldOf, waitingOf}
 use Rattle.lists.specs.Orders.{waitingOffset, ascending}
+use Rattle.lists.specs.Receiving.{startsAt}
 use Rattle.pools.specs.Parts.{part}
-use Rattle.session.specs.Input.{Receiver}
+use Rattle.session.specs.Input.{Receiver, allByReceiving}
 use Rattle.block.specs.Views.{pairs, receivingOf}
 use Rattle.receiving.specs.declared.Half.{Half}
 
@@ -23,25 +27,27 @@ receiverOf h acks pool = record { half = receivingOf (h .lists) (pairs (h .acks)
 abbrev pub segmentAt : List ℕ → ℕ → Header → Segment
 segmentAt s start h = record { header = h; payload = part s start (h .len) }
 
--- counts within the arrays, waiting numbers ascending from rcv_nxt to rcv_nxt + 127, and the lent parts long enough
+-- counts within the arrays, waiting numbers ascending from rcv_nxt to rcv_nxt + 127, none waiting that could be ready, and
+-- the lent parts long enough
 pub record Sound (h : Half) (mss : ℕ) (acks pool : List ℕ) : Type 0 where
   pub ready : h .lists .ready .count ≤ 128
   pub waiting : h .lists .waiting .count ≤ 128
   pub ascends : ascending (waitingOffset (h .lists .next)) 0 receiveWindow (waitingOf (h .lists .waiting)) ≡ true
+  pub settled : (startsAt (h .lists .next) (waitingOf (h .lists .waiting)) && ltb (length (heldOf (h .lists .ready))) receiveWindow) ≡ false
   pub noted : h .acks ≤ acksMost
   pub ack-list : 2 * acksMost ≤ length acks
   pub slots : receiveSlots * mss ≤ length pool
   pub mss-low : mss < 2 ^ 16
 
--- the payload is inside the datagram, and a push's fits a slot
-pub record InDatagram (mss : ℕ) (s : List ℕ) (start : ℕ) (h : Header) : Type 0 where
-  pub inside : start + h .len ≤ length s
-  pub fits : h .cmd ≡ push → h .len ≤ mss
-
 -- the half r, of h before, with the ack list and the pool is this receiver; no ack is lost, and the entries of the ack list
--- behind its pairs are as they were
+-- behind its pairs are as they were; rcv_nxt is a number of 32 bits
 pub record HalfIs (mss : ℕ) (h r : Half) (was acks pool : List ℕ) (x : Receiver) : Type 0 where
   pub is : receiverOf r acks pool ≡ x
   pub more : h .acks ≤ r .acks
   pub beyond : drop (2 * r .acks) acks ≡ drop (2 * r .acks) was
   pub sound : Sound r mss acks pool
+  pub low : r .lists .next < 2 ^ 32
+
+-- r is what the segments of the datagram s make of h
+abbrev pub HearsAll : Settings → List ℕ → Half → List ℕ → List ℕ → Half → List ℕ → List ℕ → Type 0
+HearsAll c s h acks pool r acks′ pool′ = (gs : List Segment) → parse (c .conv) (mss c) s ≡ segments gs → HalfIs (mss c) h r acks acks′ pool′ (allByReceiving (mss c) (receiverOf h acks pool) gs)

@@ -1,6 +1,7 @@
--- `take_in`: the datagram is refused, and all is as it was; or it is accepted, and its segments are applied.
+-- `take_in`: the datagram is refused, and all is as it was; or it is accepted, and both halves hear it.
 -- Assumes nothing.
-use Rattle.input.proofs.Outcomes.{refuses, has-segments, accepts}
+use borrow.Author.Needs.{needs}
+use Rattle.input.proofs.Outcomes.{refuses, begun, accepts}
 use Rattle.input.proofs.take_in.Statement.{statement}
 use Rattle.input.proofs.take_in.Tie as tie
 
@@ -10,17 +11,26 @@ returns c =
     let a = k .before .before .before .before .before in
     refuses _ _ _ _ (k .check .ensures) (k .before .mss .ensures) _ _ _ _ _ (a .pre .0) (a .pre .1) _ (c .enum-told .given .1)
 
-apply-requires : tie.Need-apply-requires
-apply-requires c κs =
-    let k = c .before .before .before .before in
+hear-requires : tie.Need-hear-requires
+hear-requires c κs =
+    let k = c .before .before in
     let a = k .before .before .before .before .before in
-    (a .pre .0, rw (k .before .mss .ensures) (a .pre .1), has-segments (a .args .settings) _ _ _ (k .check .ensures) (k .before .mss .ensures) _ (c .before .before .enum-told2 .given .1))
+    (a .pre .0, (_, begun (a .args .settings) _ _ _ (k .check .ensures) (k .before .mss .ensures) _ (c .enum-told2 .given .1)))
+
+hear-requires-2 : tie.Need-hear-requires-2
+hear-requires-2 c κs =
+    let t = c .before .before .before in
+    let k = t .before .before in
+    let a = k .before .before .before .before .before in
+    (a .pre .1, (_, begun (a .args .settings) _ _ _ (k .check .ensures) (k .before .mss .ensures) _ (t .enum-told2 .given .1)))
 
 returns-2 : tie.Need-returns-2
 returns-2 c =
-    let p = c .before .before .before .before .before .before in
-    let k = p .before .before .before .before .before in
-    accepts _ _ _ _ (k .check .ensures) (k .before .mss .ensures) _ _ _ _ _ _ (p .before .before .before .enum-told2 .given .1) _ _ _ (p .apply .ensures)
+    let r = c .before .before .before .before in
+    let f = r .before .before .before in
+    let t = f .before in
+    let k = t .before .before in
+    accepts _ _ _ _ (k .check .ensures) (k .before .mss .ensures) _ _ _ _ _ _ (t .enum-told2 .given .1) _ (f .hear .ensures) _ _ _ (r .hear2 .ensures)
 
 pub take-in-spec : {M : Type 1} → statement M
 take-in-spec =
@@ -31,7 +41,8 @@ take-in-spec =
     (λ c. c .match .keys1)
     returns
     (λ c. c .match .keys2)
-    apply-requires
-    (λ c. c .before .before .before .before .before .before .apply .kept .1 .1 .1 .1 .1 .1 .0)
-    (λ c. c .before .before .before .before .before .before .apply .kept .1 .1 .1 .1 .1 .1 .1 .0)
+    hear-requires
+    hear-requires-2
+    (λ c. c .before .before .before .before .hear2 .kept .1 .1 .1 .0)
+    (λ c. c .before .before .before .before .hear2 .kept .1 .1 .1 .1 .0)
     returns-2)

@@ -1,0 +1,79 @@
+-- `hear`: what has been heard, with the segments that remain, is the whole.
+-- Assumes nothing.
+use mathlib.Core.Path.{_≡_, sym, _∙_}
+use Prim.Native.Nat.{_-_}
+use lib.ListN.{length}
+use Rattle.datagram.specs.Datagrams.{stepAt}
+use Rattle.datagram.specs.declared.Step.the-variants as step
+use Rattle.acknowledging.proofs.Hearing.{heard-some, heard-none}
+use Rattle.acknowledging.proofs.Walks.{Walking, walking-start, walking-less, walking-more, walking-end}
+use Rattle.acknowledging.proofs.hear.Statement.{statement}
+use Rattle.acknowledging.proofs.hear.Tie as tie
+
+abbrev Inv-loop : tie.InvT-loop
+Inv-loop settings current s f₀ furthest₀ at₀ f furthest at = Walking settings current s f₀ f furthest at
+
+abbrev μ-loop : tie.MeasureT-loop
+μ-loop settings current s f₀ furthest₀ at₀ f furthest at = length s - at
+
+loop-holds : tie.Need-loop-holds Inv-loop μ-loop
+loop-holds c = let a = c .before .before in rw (c .new .ensures) (walking-start _ _ _ _ (a .pre .0) _ (a .pre .1 .1))
+
+-- a segment was found
+found : (c : tie.After-known-told Inv-loop μ-loop) →
+    let l = c .before .before .before .before in
+    (stepAt (l .before .before .before .args .s .now) (l .loop .at) ≡ step.Segment (c .before .step .given .0 .0) (c .before .step .given .0 .1 .0) (c .before .step .given .0 .1 .1 .0))
+found c = sym (c .before .before .before .segment-at .ensures) ∙ c .before .step .given .1
+
+loop-less : tie.Need-loop-less Inv-loop μ-loop
+loop-less c =
+    let k = c .before .before .before .before .before .before .before in
+    walking-less _ _ _ _ _ _ _ (k .before .before .before .before .loop .inv) _ _ _ (found k)
+
+loop-less-2 : tie.Need-loop-less-2 Inv-loop μ-loop
+loop-less-2 c =
+    let k = c .before .before .before .before .before in
+    walking-less _ _ _ _ _ _ _ (k .before .before .before .before .loop .inv) _ _ _ (found k)
+
+loop-again : tie.Need-loop-again Inv-loop μ-loop
+loop-again c =
+    let t = c .before .before .before .before in
+    let a = t .before .before in
+    let k = a .before in
+    walking-more _ _ _ _ _ _ _ (k .before .before .before .before .loop .inv) _ _ _ (found k) _ _ (a .after .ensures)
+    (heard-some _ _ _ _ _ (t .timed .ensures) _ _ (c .before .remaining .ensures) (c .first-number-or .ensures))
+
+loop-again-2 : tie.Need-loop-again-2 Inv-loop μ-loop
+loop-again-2 c =
+    let t = c .before .before in
+    let a = t .before .before in
+    let k = a .before in
+    walking-more _ _ _ _ _ _ _ (k .before .before .before .before .loop .inv) _ _ _ (found k) _ _ (a .after .ensures)
+    (heard-none _ _ _ _ _ (t .timed .ensures) (c .if1 .left))
+
+returns : tie.Need-returns Inv-loop μ-loop
+returns c =
+    let l = c .before .before .before .before in
+    walking-end _ _ _ _ _ _ _ (l .loop .inv) (sym (c .before .before .before .segment-at .ensures) ∙ c .before .enum-told .given .1) _ (c .skip .ensures)
+
+pub hear-spec : {M : Type 1} → statement M
+hear-spec =
+    tie.close
+    (tie.spec
+    Inv-loop
+    μ-loop
+    (λ c κs. tt)
+    loop-holds
+    (λ c κs. tt)
+    (λ c. c .match .keys1)
+    (λ c. c .match .keys2)
+    (λ c κs. c .before .before .before .loop .inv .few)
+    returns
+    (λ c κs. tt)
+    (λ c κs. tt)
+    (λ c κs. c .before .before .before .before .before .before .before .before .before .loop .inv .few)
+    (λ c κs. c .remaining .ensures .fits)
+    loop-less
+    loop-again
+    loop-less-2
+    loop-again-2)
