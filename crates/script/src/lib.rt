@@ -4,6 +4,10 @@ mod words;
 
 use notation::Bytes;
 use numbers::Numbers;
+ghost use mathlib.Core.Path.{_≡_};
+ghost use lib.ListN.{length, drop};
+ghost use Rattle.script.specs.Commands.{fieldMost, hasField, heldMost, ofNone, ofOne, ofTwo, ofFour, ofFive, withNumbers, withBytes, storedBytes, Parsed};
+ghost use Rattle.script.specs.Reading.{readAs};
 
 // The most bytes of a line, its newline not counted, and of a script.
 pub const LINE_MOST: usize = 65000;
@@ -59,7 +63,9 @@ pub enum Command {
 }
 
 // Commands without a number.
-fn of_none(name: u64) -> Command {
+fn of_none(name: u64) -> Command
+    ensures { λ r. ⌜ r ≡ ofNone name ⌝ }
+{
     match name {
         words::SIZE => Command::Size,
         words::SHOW => Command::Show,
@@ -70,7 +76,9 @@ fn of_none(name: u64) -> Command {
 }
 
 // Commands with one number.
-fn of_one(name: u64, a: u32) -> Command {
+fn of_one(name: u64, a: u32) -> Command
+    ensures { λ r. ⌜ r ≡ ofOne name a ⌝ }
+{
     if name == words::FLUSH {
         return Command::Flush(a);
     }
@@ -81,7 +89,9 @@ fn of_one(name: u64, a: u32) -> Command {
 }
 
 // The largest value of a field of the control block; nothing above its width is a value.
-fn field_most(field: u32) -> u32 {
+fn field_most(field: u32) -> u32
+    ensures { λ r. ⌜ r ≡ fieldMost field ⌝ }
+{
     match field {
         1 | 3 | 9 | 18 => 65535,
         2 | 4 => 255,
@@ -90,7 +100,9 @@ fn field_most(field: u32) -> u32 {
 }
 
 // Commands with two numbers.
-fn of_two(name: u64, a: u32, b: u32) -> Command {
+fn of_two(name: u64, a: u32, b: u32) -> Command
+    ensures { λ r. ⌜ r ≡ ofTwo name a b ⌝ }
+{
     if name == words::JUMP {
         return Command::Jump { snd: a, rcv: b };
     }
@@ -104,7 +116,9 @@ fn of_two(name: u64, a: u32, b: u32) -> Command {
 }
 
 // The largest value of a field of a held segment: slot, length, fragment, and transmissions or number.
-fn held_most(list: u32, field: u32) -> u32 {
+fn held_most(list: u32, field: u32) -> u32
+    ensures { λ r. ⌜ r ≡ heldMost list field ⌝ }
+{
     match field {
         0 | 1 => 65535,
         2 => 255,
@@ -113,12 +127,16 @@ fn held_most(list: u32, field: u32) -> u32 {
 }
 
 // Whether segments of the list have the field.
-fn has_field(list: u32, field: u32) -> bool {
+fn has_field(list: u32, field: u32) -> bool
+    ensures { λ r. ⌜ r ≡ hasField list field ⌝ }
+{
     (list <= 3) & (field <= 3) & ((field < 3) | (list == 1) | (list == 3))
 }
 
 // Commands with four numbers.
-fn of_four(name: u64, list: u32, index: u32, field: u32, value: u32) -> Command {
+fn of_four(name: u64, list: u32, index: u32, field: u32, value: u32) -> Command
+    ensures { λ r. ⌜ r ≡ ofFour name list index field value ⌝ }
+{
     if (name == words::HOLD) & has_field(list, field) & (value <= held_most(list, field)) {
         return Command::Hold {
             list,
@@ -131,7 +149,9 @@ fn of_four(name: u64, list: u32, index: u32, field: u32, value: u32) -> Command 
 }
 
 // Commands with five numbers.
-fn of_five(name: u64, a: u32, b: u32, c: u32, d: u32, e: u32) -> Command {
+fn of_five(name: u64, a: u32, b: u32, c: u32, d: u32, e: u32) -> Command
+    ensures { λ r. ⌜ r ≡ ofFive name a b c d e ⌝ }
+{
     if name == words::OPEN {
         return Command::Open {
             conv: a,
@@ -154,7 +174,9 @@ fn of_five(name: u64, a: u32, b: u32, c: u32, d: u32, e: u32) -> Command {
 }
 
 // A command with numbers, by how many there are.
-fn of_numbers(name: u64, n: Numbers) -> Command {
+fn of_numbers(name: u64, n: Numbers) -> Command
+    ensures { λ r. ⌜ r ≡ withNumbers name (readAs n) ⌝ }
+{
     let count = n.count;
     let at = n.at;
     match count {
@@ -168,7 +190,9 @@ fn of_numbers(name: u64, n: Numbers) -> Command {
 }
 
 // A command with bytes, which are stored at the start of `bytes`: they are the whole of the line behind one space.
-fn of_bytes(name: u64, line: &[u8], end: usize, bytes: &mut [u8]) -> Command {
+fn of_bytes(name: u64, line: &[u8], end: usize, bytes: &mut [u8]) -> Command
+    ensures { λ r. ⌜ (r ≡ withBytes name (drop end (now (line .entry))) (length (now (bytes .entry)))) × (now (bytes .exit) ≡ storedBytes (drop end (now (line .entry))) (now (bytes .entry))) ⌝ }
+{
     if end < line.len() {
         let read = notation::read::bytes(&line[end + 1..], bytes);
         let Bytes::Count(n) = read else {
@@ -183,7 +207,9 @@ fn of_bytes(name: u64, line: &[u8], end: usize, bytes: &mut [u8]) -> Command {
 }
 
 // The command of a line without its newline.
-pub fn parse(line: &[u8], bytes: &mut [u8]) -> Command {
+pub fn parse(line: &[u8], bytes: &mut [u8]) -> Command
+    ensures { λ r. ⌜ Parsed (now (line .entry)) (now (bytes .entry)) r (now (bytes .exit)) ⌝ }
+{
     if LINE_MOST < line.len() {
         return Command::Malformed;
     }

@@ -1,0 +1,4 @@
+pub mod Commands
+pub mod Reading
+pub mod CommandLaws
+pub mod NameLaws
