@@ -1,57 +1,13 @@
 // Lists of segments sent and not acknowledged, with their records.
-use crate::Acknowledges;
 use crate::Sent;
 use crate::SentList;
 use protocol::serial;
 use retransmission::outstanding;
 ghost use mathlib.Core.Path.{_≡_};
-ghost use mathlib.Core.List.{[], _∷_, _++_, map};
-ghost use Prim.Native.Nat.{_≤_, _<_};
+ghost use mathlib.Core.List.{map};
+ghost use Prim.Native.Nat.{_≤_};
 ghost use Rattle.lists.specs.Views.{sentOf, SentIs};
-ghost use Rattle.lists.specs.Acknowledging.{acknowledged, removed, firstNumberOr, skipBefore};
-
-// The list with one more segment at its end.
-pub fn append(list: SentList, sent: Sent) -> SentList
-    requires { ⌜ list .count < 32 ⌝ }
-    ensures { λ r. ⌜ SentIs r (sentOf list ++ (sent ∷ [])) ⌝ }
-{
-    let mut l = list;
-    let n = l.count;
-    l.at[n] = sent;
-    l.count = n + 1;
-    l
-}
-
-// Whether the arrival acknowledges the segment with that number.
-fn acknowledges(arrival: Acknowledges, number: u32) -> bool
-    ensures { λ r. ⌜ r ≡ acknowledged arrival number ⌝ }
-{
-    match arrival {
-        Acknowledges::Una(una) => serial::after(una, number),
-        Acknowledges::Ack(sn) => number == sn,
-    }
-}
-
-// The list without the segments that the arrival acknowledges.
-pub fn remove(list: SentList, arrival: Acknowledges) -> SentList
-    requires { ⌜ list .count ≤ 32 ⌝ }
-    ensures { λ r. ⌜ SentIs r (removed arrival (sentOf list)) ⌝ }
-{
-    let n = list.count;
-    let mut l = list;
-    let mut i: usize = 0;
-    let mut j: usize = 0;
-    while i < n {
-        let s = l.at[i];
-        i += 1;
-        if !acknowledges(arrival, s.record.number) {
-            l.at[j] = s;
-            j += 1;
-        }
-    }
-    l.count = j;
-    l
-}
+ghost use Rattle.lists.specs.Acknowledging.{firstNumberOr, skipBefore};
 
 // The first segment's number; for an empty list the other one.
 pub fn first_number_or(list: SentList, other: u32) -> u32

@@ -1,9 +1,9 @@
 -- Where a push goes: to those that are ready if it is the one expected next, else among those that wait.
 -- Assumes nothing.
 use mathlib.Core.Path.{_≡_, refl, sym, _∙_}
-use mathlib.Core.Bool.{Bool, true, false, cond, not, _&&_, _||_, false≢true, true≢false}
+use mathlib.Core.Bool.{Bool, true, false, cond, not, _&&_, false≢true, true≢false}
 use mathlib.Core.List.{List, [], _∷_, _++_}
-use Prim.Native.Nat.{ℕ, _+_, _≤_, _<_, _^_}
+use Prim.Native.Nat.{ℕ, _+_, _<_, _^_}
 use native.Mathlib.Omega.{arith}
 use borrow.Author.Tests.{le-leb, lt-leb, lt-ltb, eqb-false}
 use lib.Dec.{ltb, eqb}
@@ -11,9 +11,8 @@ use lib.ListN.{length}
 use Rattle.protocol.specs.Serial.{plus, minus, isBefore}
 use Rattle.protocol.specs.SerialLaws.{before-test}
 use Rattle.lists.specs.Orders.{waitingOffset, isHeld, insert, ascending}
-use Rattle.lists.specs.OrderLaws.{First, ascending-first, ascending-held}
-use Rattle.lists.specs.Receiving.{Received, isNext, startsAt, advance}
-use Rattle.lists.specs.Views.{waitingPart}
+use Rattle.lists.specs.OrderLaws.{ascending-first, ascending-held}
+use Rattle.lists.specs.Receiving.{isNext, startsAt, advance}
 use Rattle.lists.specs.declared.Held.{Held}
 use Rattle.lists.specs.declared.Waiting.{Waiting}
 use Rattle.receiving.specs.Pushing.{isInWindow, isNewIn}

@@ -2,7 +2,7 @@
 -- Assumes nothing.
 use mathlib.Core.Path.{_≡_, refl, sym, _∙_}
 use mathlib.Core.Bool.{Bool, true, false, not, _&&_, false≢true, true≢false}
-use mathlib.Core.List.{List, [], _∷_, _++_, map}
+use mathlib.Core.List.{List}
 use Prim.Native.Nat.{ℕ, _+_, _*_, _≤_, _<_, _^_}
 use native.Mathlib.Nat.{mul-le-mul-right}
 use native.Mathlib.Omega.{arith}
@@ -12,7 +12,7 @@ use lib.Seq.{sets}
 use Rattle.protocol.specs.Serial.{plus, minus, isBefore}
 use Rattle.protocol.specs.SerialLaws.{before-test}
 use Rattle.wire.specs.declared.Header.{Header}
-use Rattle.lists.specs.Views.{heldOf, waitingOf, waitingPart}
+use Rattle.lists.specs.Views.{waitingOf}
 use Rattle.lists.specs.Orders.{waitingOffset, isHeld, insert, ascending}
 use Rattle.lists.specs.OrderLaws.{ascending-room, insert-fits}
 use Rattle.lists.specs.declared.Held.{Held}
@@ -23,7 +23,7 @@ use Rattle.pools.specs.Parts.{part}
 use Rattle.slots.specs.Slots as marked
 use Rattle.slots.specs.SlotLaws.{free-room}
 use Rattle.slots.specs.Agree.{free-agrees}
-use Rattle.receiving.specs.Pushing.{isInWindow, isNewIn, usedBy, slotFor, heldFor, Storing, Stored}
+use Rattle.receiving.specs.Pushing.{isInWindow, isNewIn, usedBy, slotFor, Storing, Stored}
 
 -- ---- the offset
 

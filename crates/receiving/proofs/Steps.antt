@@ -1,6 +1,6 @@
 -- The steps of a segment together are the definition's segment, and what the next step asks still holds.
 -- Assumes nothing.
-use mathlib.Core.Path.{_≡_, refl, sym, ap, _∙_}
+use mathlib.Core.Path.{_≡_, refl, sym, _∙_}
 use mathlib.Core.Bool.{Bool, true, false, cond, not, _&&_, _||_, or-false, or-true}
 use mathlib.Core.List.{List, [], _∷_, _++_}
 use Prim.Native.Nat.{ℕ, _+_, _*_, _≤_, _<_, _^_}
@@ -98,7 +98,10 @@ pushed-parts m l k tell acks pool g =
 
 module _ (m : ℕ) (l : Receiving) (k : ℕ) (tell : Bool) (acks pool : List ℕ) (h : Header) (sound : Sound (halfWith l k tell) m acks pool) (next-low : l .next < 2 ^ 32) (sn-low : h .sn < 2 ^ 32) where
   -- what is asked where it is kept
-  module _ (e : isKept l h ≡ true) where
+  module _ (a : Bool) (g : a ≡ isKept l h) (t : a ≡ true) where
+    e : isKept l h ≡ true
+    e = sym g ∙ t
+
     pub storing : (s : List ℕ) (start : ℕ) → start + h .len ≤ length s → h .len ≤ m → Storing (l .ready) (l .waiting) m s start h pool
     storing s start inside fits = record {
       ready-few = sound .ready;
@@ -165,8 +168,9 @@ module _ (m : ℕ) (l : Receiving) (k : ℕ) (tell : Bool) (acks pool : List ℕ
           }
 
     -- it is not kept
-    pub pushed-old : isKept l h ≡ false → Pushed l pool
-    pushed-old e =
+    pub pushed-old : (a : Bool) → a ≡ isKept l h → a ≡ false → Pushed l pool
+    pushed-old a g t =
+        let e : isKept l h ≡ false = sym g ∙ t in
         pushed-is (waitingOf (l .waiting)) pool (rw e) (rw e) (sound .ascends) refl l
         (rw (advance-none (l .next) (heldOf (l .ready)) (waitingOf (l .waiting)) (sound .settled))
         (record { next = refl; ready = record { fits = sound .ready; list = refl }; waiting = record { fits = sound .waiting; list = refl } }))
@@ -182,11 +186,11 @@ module _ (m : ℕ) (l : Receiving) (k : ℕ) (tell : Bool) (acks pool : List ℕ
 
       module _ (b : Bool) (f : b ≡ (eqb (minus (h .sn) (l .next)) 0 && ltb (l .ready .count) 128)) where
         -- and waits
-        pub pushed-early : b ≡ false → isKept l h ≡ true → (w : WaitingList) → WaitingIs w (insert (waitingOffset (l .next)) (entryOf h held) (waitingOf (l .waiting)))
+        pub pushed-early : b ≡ false → (a : Bool) → a ≡ isKept l h → a ≡ true → (w : WaitingList) → WaitingIs w (insert (waitingOffset (l .next)) (entryOf h held) (waitingOf (l .waiting)))
             → Pushed (record { next = l .next; ready = l .ready; waiting = w }) pool′
-        pushed-early q e w i =
+        pushed-early q a g t w i =
             let full : (eqb (minus (h .sn) (l .next)) 0 && ltb (length (heldOf (l .ready))) 128) ≡ false = rw (length-take-le (l .ready .count) (l .ready .at) (st .ready-in)) (sym f ∙ q) in
-            pushed-kept e (record { next = l .next; ready = l .ready; waiting = w })
+            pushed-kept (sym g ∙ t) (record { next = l .next; ready = l .ready; waiting = w })
             (rw (advance-none (l .next) (heldOf (l .ready)) _ (settled-insert (l .next) (entryOf h held) (ltb (length (heldOf (l .ready))) 128) (waitingOf (l .waiting)) full (sound .settled)))
             (record { next = refl; ready = record { fits = sound .ready; list = refl }; waiting = i }))
 

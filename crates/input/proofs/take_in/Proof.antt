@@ -1,6 +1,5 @@
 -- `take_in`: the datagram is refused, and all is as it was; or it is accepted, and both halves hear it.
 -- Assumes nothing.
-use borrow.Author.Needs.{needs}
 use Rattle.input.proofs.Outcomes.{refuses, begun, accepts}
 use Rattle.input.proofs.take_in.Statement.{statement}
 use Rattle.input.proofs.take_in.Tie as tie

@@ -64,7 +64,7 @@ store-requires c κs =
     let k = u .before in
     let w = k .before .before .before .before .loop .inv .0 in
     storing _ _ _ _ _ _ _ (w .sound) (w .low) (sn-low u)
-    (next-kept _ _ _ _ _ _ (k .before .step .given .0 .0) (w .sound) (w .low) (sn-low u) _ (c .before .before .is-next .ensures) (c .before .if2 .taken))
+    _ refl (next-kept _ _ _ _ _ _ (k .before .step .given .0 .0) (w .sound) (w .low) (sn-low u) _ (c .before .before .is-next .ensures) (c .before .if2 .taken))
     _ _ (walking-inside _ _ _ _ _ _ _ _ _ w _ _ _ (found k)) (walking-fits _ _ _ _ _ _ _ _ _ w _ _ _ (found k) (n .before .before .if1 .left))
 
 store-requires-2 : tie.Need-store-requires-2 Inv-loop μ-loop
@@ -73,7 +73,7 @@ store-requires-2 c κs =
     let u = n .before .before .before in
     let k = u .before in
     let w = k .before .before .before .before .loop .inv .0 in
-    storing _ _ _ _ _ _ _ (w .sound) (w .low) (sn-low u) (sym (c .before .before .is-new .ensures) ∙ c .before .if4 .taken)
+    storing _ _ _ _ _ _ _ (w .sound) (w .low) (sn-low u) _ (c .before .before .is-new .ensures) (c .before .if4 .taken)
     _ _ (walking-inside _ _ _ _ _ _ _ _ _ w _ _ _ (found k)) (walking-fits _ _ _ _ _ _ _ _ _ w _ _ _ (found k) (n .before .before .if1 .left))
 
 append-requires : tie.Need-append-requires Inv-loop μ-loop
@@ -98,7 +98,7 @@ insert-requires c κs =
     let u = i .before .before .before .before .before .before .before .before in
     let k = u .before in
     let w = k .before .before .before .before .loop .inv .0 in
-    (w .sound .waiting, room _ _ _ _ _ _ (k .before .step .given .0 .0) (w .sound) (w .low) (sn-low u) (sym (i .is-new .ensures) ∙ st .before .before .if4 .taken) _)
+    (w .sound .waiting, room _ _ _ _ _ _ (k .before .step .given .0 .0) (w .sound) (w .low) (sn-low u) _ (i .is-new .ensures) (st .before .before .if4 .taken) _)
 
 -- it is ready at once: with those that wait for it, or alone
 loop-again-2 : tie.Need-loop-again-2 Inv-loop μ-loop
@@ -157,7 +157,7 @@ loop-again-4 c =
       walking-more _ _ _ _ _ _ _ _ _ (v .0) _ _ _ (found k) _ _ _
           (heard-push _ _ _ _ s (g .1 .0) (g .0) _ _ _ (n .before .before .if1 .left)
           (pushed-early _ _ _ _ _ _ (g .0) (v .0 .sound) (v .0 .low) (sn-low u) s (g .1 .0) _ _ (n .note .ensures) _ _ (st .store2 .ensures)
-          _ (q .is-next .ensures) (i .before .if2 .left) (sym (i .is-new .ensures) ∙ st .before .before .if4 .taken) _ (c .insert .ensures))),
+          _ (q .is-next .ensures) (i .before .if2 .left) _ (i .is-new .ensures) (st .before .before .if4 .taken) _ (c .insert .ensures))),
       n .note .kept .0 ∙ v .1,
       st .store2 .kept .1 .1 .1 .1 .1 .1 .0 ∙ v .2,
     )
@@ -175,7 +175,7 @@ loop-again-5 c =
     let s = l .before .before .before .before .before .args .s .now in (
       walking-more _ _ _ _ _ _ _ _ _ (v .0) _ _ _ (found k) _ _ _
           (heard-push _ _ _ _ s (g .1 .0) (g .0) _ _ _ (n .before .before .if1 .left)
-          (pushed-old _ _ _ _ _ _ (g .0) (v .0 .sound) (v .0 .low) (sn-low u) s (g .1 .0) _ _ (n .note .ensures) (sym (c .before .is-new .ensures) ∙ c .if4 .left))),
+          (pushed-old _ _ _ _ _ _ (g .0) (v .0 .sound) (v .0 .low) (sn-low u) s (g .1 .0) _ _ (n .note .ensures) _ (c .before .is-new .ensures) (c .if4 .left))),
       n .note .kept .0 ∙ v .1,
       v .2,
     )
