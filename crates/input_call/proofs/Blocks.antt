@@ -32,8 +32,8 @@ use Rattle.block.specs.declared.StoredFlight.{StoredFlight}
 use Rattle.block.proofs.Whole.{counts, sending-state}
 use Rattle.receiving.specs.Halves.{Sound}
 use Rattle.receiving.specs.declared.Half.{Half}
-use Rattle.input.specs.Inputs.{Rest, stateWith}
 use Rattle.input_call.specs.Taking.{halfOf, Stores, WithHalves, Hears}
+use Rattle.input_call.proofs.Heard.{Rest, stateWith}
 
 -- ---- the segments in flight
 

@@ -8,42 +8,46 @@ use lib.ListN.{length}
 use Rattle.protocol.specs.declared.Refusal.{Refusal}
 use Rattle.protocol.specs.declared.Refusal.the-variants.{ShortPart, InvalidBlock}
 use Rattle.timing.specs.declared.Record.{Record}
-use Rattle.datagram.specs.declared.Checked.the-variants as verdict
-use Rattle.session.specs.State.{State, Outcome, refused}
+use Rattle.session.specs.State.{State, Outcome, refused, done}
 use Rattle.session.specs.Input.{Took, input}
 use Rattle.answers.specs.declared.Answer.the-variants.{Accepted, Refused}
 use Rattle.block.specs.Views.{stateOf, countsFit, Joins}
 use Rattle.block.specs.declared.Link.{Link}
 use Rattle.block.specs.declared.Flight.{Flight}
-use Rattle.input.specs.Inputs.{stateWith, outcomeOf, TakenInIs}
-use Rattle.input.specs.declared.TakenIn.{TakenIn}
+use Rattle.receiving.specs.declared.Half.{Half}
 use Rattle.calls.specs.Outcomes.{checked}
 use Rattle.input_call.specs.Taking.{halfOf, Stores, WithHalves, Kept, Leaves}
 use Rattle.input_call.specs.declared.Stored.{Stored}
 use Rattle.input_call.specs.declared.Taken.{Taken}
+use Rattle.input_call.proofs.Heard.{stateWith, BothHear}
 use Rattle.input_call.proofs.Blocks.{restOf, state-by-halves, state-after, counts-after}
+
+-- the datagram s is refused
+pub refuses : (l : Link) (records : List Record) (pool acks s : List ℕ) (q : Refusal) → input (stateOf l records acks) pool s ≡ refused q
+    → Leaves (input (stateOf l records acks) pool s) l records pool acks (record { answer = Refused q; link = l; records = records }) pool acks
+refuses l records pool acks s q e = rw e (refl, record { link = refl; records-same = refl; pool-same = refl; acks-same = refl })
+
+-- the settings of a block's state are the block's
+pub same-settings : (l : Link) (records : List Record) (acks : List ℕ) → stateOf l records acks .settings ≡ l .settings
+unfolding stateOf
+same-settings l records acks = refl
 
 -- the block's halves have heard the datagram s
 module _ (l : Link) (records : List Record) (pool acks s pool′ acks′ : List ℕ) (f : Flight) (j : Joins (l .flight) records f)
-    (t : TakenIn) (k : TakenInIs (l .settings) (l .current) s f (halfOf l) acks pool t acks′ pool′) where
+    (f′ : Flight) (h′ : Half) (k : BothHear (l .settings) (l .current) s f (halfOf l) acks pool f′ h′ acks′ pool′) where
   -- the definition's outcome
-  outcome : outcomeOf (t .verdict) (record { state = stateWith (restOf l) (l .settings) (l .current) (t .flight) (t .half) acks′; pool = pool′ }) ≡ input (stateOf l records acks) pool s
-  outcome = k .outcome (restOf l) ∙ ap (λ (x : State). input x pool s) (sym (state-by-halves l records acks f j))
+  outcome : input (stateOf l records acks) pool s ≡ done (record { state = stateWith (restOf l) (l .settings) (l .current) f′ h′ acks′; pool = pool′ })
+  outcome = ap (λ (x : State). input x pool s) (state-by-halves l records acks f j) ∙ k .outcome (restOf l)
 
-  pub refuses : (q : Refusal) → t .verdict ≡ verdict.Refused q → Leaves (input (stateOf l records acks) pool s) l records pool acks (record { answer = Refused q; link = l; records = records }) pool′ acks′
-  refuses q e =
-      let u = k .refusal q e in
-      rw (← outcome, e) (refl, record { link = refl; records-same = refl; pool-same = u .slots; acks-same = u .ack-list })
-
-  pub accepts : (n : ℕ) → t .verdict ≡ verdict.Accepted n → (st : Stored) → Stores (t .flight) st → (l′ : Link) → WithHalves l (st .flight) (t .half) l′
+  pub accepts : (st : Stored) → Stores f′ st → (l′ : Link) → WithHalves l (st .flight) h′ l′
       → countsFit l ≡ true → length acks′ ≡ length acks
       → Leaves (input (stateOf l records acks) pool s) l records pool acks (record { answer = Accepted; link = l′; records = st .records }) pool′ acks′
-  accepts n e st p l′ w c long =
-      rw (← outcome, e)
+  accepts st p l′ w c long =
+      rw outcome
       (record {
         answer = refl;
-        counts = counts-after l (st .flight) (t .half) l′ w _ acks′ pool′ c (p .fits) (k .sound);
-        state = state-after l (st .flight) (t .half) l′ w (st .records) acks′ (t .flight) (p .joins);
+        counts = counts-after l (st .flight) h′ l′ w _ acks′ pool′ c (p .fits) (k .sound);
+        state = state-after l (st .flight) h′ l′ w (st .records) acks′ f′ (p .joins);
         pool-after = refl;
         ack-length = long;
         ack-rest = rw (ap (λ (y : Link). y .acks) (w .is)) (k .beyond);

@@ -58,26 +58,18 @@ fn store(flight: Flight) -> Stored
 fn with_halves(link: Link, flight: StoredFlight, half: Half) -> Link
     ensures { λ r. ⌜ WithHalves link flight half r ⌝ }
 {
-    let settings = link.settings;
-    let queued = link.queued;
-    let receiving = half.lists;
-    let probe = link.probe;
+    let lists = half.lists;
     let tell = flags::flag(half.tell);
-    Link {
-        settings,
-        queued,
-        flight,
-        receiving,
-        acks: half.acks,
-        probe,
-        current: link.current,
-        ask: link.ask,
-        tell,
-        dead: link.dead,
-    }
+    let mut after = link;
+    after.flight = flight;
+    after.receiving = lists;
+    after.acks = half.acks;
+    after.tell = tell;
+    after
 }
 
-// Taking in over a block that has passed the checks of 7 and 13: both halves hear the datagram, and the block is put together.
+// Taking in over a block that has passed the checks of 7 and 13. Nothing is applied until all segments have passed; then both
+// halves hear the datagram, and the block is put together.
 fn hear(
     link: Link,
     records: [Record; 32],
@@ -88,17 +80,8 @@ fn hear(
     requires { ⌜ Hears link (now acks) (now pool) ⌝ }
     ensures { λ r. ⌜ Leaves (input (stateOf link records (now (acks .entry))) (now (pool .entry)) (now (datagram .entry))) link records (now (pool .entry)) (now (acks .entry)) r (now (pool .exit)) (now (acks .exit)) ⌝ }
 {
-    let settings = link.settings;
-    let stored = link.flight;
-    let lists = link.receiving;
-    let flight = check::flight_of(stored, records);
-    let half = Half {
-        lists,
-        acks: link.acks,
-        tell: link.tell != 0,
-    };
-    let heard = input::take_in(flight, half, settings, link.current, datagram, pool, acks);
-    let verdict = heard.verdict;
+    let mss = link.settings.mss();
+    let verdict = datagram::check(datagram, link.settings.conv, mss);
     if let Checked::Refused(q) = verdict {
         return Taken {
             answer: Answer::Refused(q),
@@ -106,8 +89,16 @@ fn hear(
             records,
         };
     }
-    let sent = store(heard.flight);
-    let after = with_halves(link, sent.flight, heard.half);
+    let flight = check::flight_of(link.flight, records);
+    let sent = store(acknowledging::hear(flight, link.settings, link.current, datagram));
+    let lists = link.receiving;
+    let half = Half {
+        lists,
+        acks: link.acks,
+        tell: link.tell != 0,
+    };
+    let received = receiving::hear(half, link.settings, datagram, pool, acks);
+    let after = with_halves(link, sent.flight, received);
     let kept = sent.records;
     Taken {
         answer: Answer::Accepted,
