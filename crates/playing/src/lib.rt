@@ -10,7 +10,10 @@ use protocol::Settings;
 use script::Command;
 use timing::Record;
 use transcript::link;
-ghost use Prim.Native.Nat.{_≤_};
+ghost use mathlib.Core.Path.{_≡_};
+ghost use Prim.Native.Nat.{_-_, _≤_, _<_, min};
+ghost use lib.ListN.{length, take, drop};
+ghost use Rattle.script.specs.Commands.{Parsed};
 
 // The bench after a command, and the length of its answer.
 pub struct Played {
@@ -19,7 +22,9 @@ pub struct Played {
 }
 
 // The command of the line between `from` and `end`.
-pub fn line_of(script: &[u8], from: usize, end: usize, bytes: &mut [u8]) -> Command {
+pub fn line_of(script: &[u8], from: usize, end: usize, bytes: &mut [u8]) -> Command
+    ensures { λ r. ⌜ (from ≤ end → end < length (now (script .entry)) → Parsed (take (end - from) (drop from (now (script .entry)))) (now (bytes .entry)) r (now (bytes .exit))) ⌝ }
+{
     if from <= end {
         if end < script.len() {
             return script::parse(&script[from..end], bytes);
@@ -30,12 +35,14 @@ pub fn line_of(script: &[u8], from: usize, end: usize, bytes: &mut [u8]) -> Comm
 
 // A setting that is too large for its width is out of its range all the same.
 fn capped(value: u32, most: u32) -> u32
-    ensures { λ r. ⌜ r ≤ most ⌝ }
+    ensures { λ r. ⌜ r ≡ min value most ⌝ }
 {
     if value < most { value } else { most }
 }
 
-fn settings_of(conv: u32, mtu: u32, mode: u32, interval: u32, threshold: u32) -> Settings {
+fn settings_of(conv: u32, mtu: u32, mode: u32, interval: u32, threshold: u32) -> Settings
+    ensures { λ r. ⌜ r ≡ record { conv = conv; mtu = min mtu 65535; interval = min interval 65535; mode = min mode 255; threshold = min threshold 255 } ⌝ }
+{
     Protocol::settings(
         conv,
         capped(mtu, 65535) as u16,
