@@ -18,6 +18,9 @@ flags="-std=c99 -O2 -Wall -Wextra -Wpedantic -Werror -I $root/include"
 "${CC:-cc}" $flags "$here/station.c" "$here/options.c" "$here/udp.c" "$archive" -o "$work/station" &&
     "${CC:-cc}" $flags "$here/relay.c" "$here/options.c" "$here/udp.c" -o "$work/relay" || exit 2
 
+# both stations open with the settings of one file
+"$work/station" --name line --conv 7 --keep "$work/line.kls" || exit 1
+
 middle=$port left=$((port + 1)) right=$((port + 2))
 relay='' one='' two=''
 stop() { for p in $relay $one $two; do kill "$p" 2>/dev/null; done; }
@@ -25,7 +28,7 @@ trap stop EXIT
 trap 'exit 130' INT TERM
 
 station() { # NAME OWN-PORT RECIPES HEARS
-    exec "$work/station" --name "$1" --port "$2" --peer "127.0.0.1:$middle" --hold 300 --send "$here/recipes/$3.txt" \
+    exec "$work/station" --name "$1" --port "$2" --peer "127.0.0.1:$middle" --settings "$work/line.kls" --hold 300 --send "$here/recipes/$3.txt" \
         --expect "$(wc -l <"$here/recipes/$4.txt")" --save "$work/$1-heard.txt"
 }
 

@@ -15,7 +15,7 @@ enum { MTU_MOST = 256, FILE_MOST = 1 << 18, QUIET_MS = 1000 };
 
 AMPFERWEG_STATION_STORAGE(station, MTU_MOST);
 
-static const char *name = "station", *peer_text, *send_file, *save_file;
+static const char *name = "station", *peer_text, *send_file, *save_file, *settings_file, *keep_file;
 static uint32_t port, conv = 1, mtu = 256, mode = 1, interval = 10, threshold = 2, expect, hold, seconds = 20;
 
 static const struct option options[] = {
@@ -32,6 +32,8 @@ static const struct option options[] = {
     {"mode", "MODE", "how the timeout grows: 0, 1 or 2 (default 1)", NULL, &mode, 0, 2},
     {"interval", "MS", "milliseconds between flushes (default 10)", NULL, &interval, 10, 5000},
     {"threshold", "SKIPS", "skips before a fast retransmission, 0 for none (default 2)", NULL, &threshold, 0, 100},
+    {"keep", "FILE", "write these five settings to a settings file, and end", &keep_file, NULL, 0, 0},
+    {"settings", "FILE", "open with the settings of a settings file", &settings_file, NULL, 0, 0},
 };
 
 static struct sockaddr_in peer;
@@ -155,11 +157,39 @@ static void run(void)
     }
 }
 
+/* ---- settings files ---- */
+
+static void keep_settings(void)
+{
+    uint8_t file[AMPFERWEG_SETTINGS_FILE_SIZE];
+    const ampferweg_result result = ampferweg_settings_write(conv, mtu, mode, interval, threshold, file, sizeof file);
+    int out;
+    if (result < 0) fail(keep_file, ampferweg_text(result));
+    out = open(keep_file, O_WRONLY | O_CREAT | O_TRUNC, 0666);
+    if (out < 0 || write(out, file, sizeof file) != (ssize_t)sizeof file || close(out) < 0) fail(keep_file, "this file cannot be written");
+    printf("%s: keeps the settings of conversation %lu\n", name, (unsigned long)conv);
+}
+
+/* A byte more than a file has is read, so that a file that is too long is told. */
+static void read_settings(void)
+{
+    uint8_t file[AMPFERWEG_SETTINGS_FILE_SIZE + 1];
+    const int in = open(settings_file, O_RDONLY);
+    const ssize_t len = in < 0 ? -1 : read(in, file, sizeof file);
+    ampferweg_result result;
+    if (len < 0) fail(settings_file, "this file cannot be read");
+    close(in);
+    result = ampferweg_settings_read(file, (size_t)len, &conv, &mtu, &mode, &interval, &threshold);
+    if (result < 0) fail(settings_file, ampferweg_text(result));
+    if (mtu > MTU_MOST) fail(settings_file, "this station is built for an mtu of 256 at most");
+}
+
 static void prepare(void)
 {
     ampferweg_result result;
     if (port == 0 || peer_text == NULL) fail("--port and --peer are wanted", "--help lists the options");
     peer = udp_address("station", peer_text);
+    if (settings_file != NULL) read_settings();
     result = ampferweg_station_open(&station, conv, mtu, mode, interval, threshold);
     if (result < 0) fail("mtu, mode, interval or threshold", ampferweg_text(result));
     if (send_file != NULL) read_lines();
@@ -174,6 +204,10 @@ int main(int argc, char **argv)
     read_options(argc, argv, "usage: station --port PORT --peer ADDRESS [options]\n"
         "Sends messages to a peer over UDP by KCP, and prints those that arrive.",
         options, sizeof options / sizeof *options);
+    if (keep_file != NULL) {
+        keep_settings();
+        return 0;
+    }
     prepare();
     run();
     printf("%s: %u messages sent%s, %u of %u heard; %u datagrams sent, %u heard, %u refused; %u segments sent, %u of them retransmissions\n",
