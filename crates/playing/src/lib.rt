@@ -11,9 +11,13 @@ use script::Command;
 use timing::Record;
 use transcript::link;
 ghost use mathlib.Core.Path.{_≡_};
-ghost use Prim.Native.Nat.{_-_, _≤_, _<_, min};
-ghost use lib.ListN.{length, take, drop};
-ghost use Rattle.script.specs.Commands.{Parsed};
+ghost use Prim.Native.Nat.{min};
+ghost use lib.ListN.{take, set};
+ghost use mathlib.Core.List.{_++_};
+ghost use Rattle.notation.specs.Ascii.{ascii};
+ghost use Rattle.transcript.specs.Lines.{bytesLine, refusalLine, answerLine, countLine, datagramLines, stateLine, heldLine};
+ghost use Rattle.bench_calls.specs.BenchPromises.{after};
+ghost use Rattle.playing.specs.Plays.{Says, still, NoCommand, Ok, PlaysOpen, PlaysSend, PlaysInput, PlaysFlush, PlaysRead, PlaysSize, PlaysShow, PlaysJump, PlaysLend, PlaysPoke, PlaysHold, PlaysTool, PlaysUnopened, PlaysOnLink, settingsOf, Plays, PlaysLine};
 
 // The bench after a command, and the length of its answer.
 pub struct Played {
@@ -23,7 +27,7 @@ pub struct Played {
 
 // The command of the line between `from` and `end`.
 pub fn line_of(script: &[u8], from: usize, end: usize, bytes: &mut [u8]) -> Command
-    ensures { λ r. ⌜ (from ≤ end → end < length (now (script .entry)) → Parsed (take (end - from) (drop from (now (script .entry)))) (now (bytes .entry)) r (now (bytes .exit))) ⌝ }
+    ensures { λ r. ⌜ PlaysLine (now (script .entry)) from end (now (bytes .entry)) r (now (bytes .exit)) ⌝ }
 {
     if from <= end {
         if end < script.len() {
@@ -41,7 +45,7 @@ fn capped(value: u32, most: u32) -> u32
 }
 
 fn settings_of(conv: u32, mtu: u32, mode: u32, interval: u32, threshold: u32) -> Settings
-    ensures { λ r. ⌜ r ≡ record { conv = conv; mtu = min mtu 65535; interval = min interval 65535; mode = min mode 255; threshold = min threshold 255 } ⌝ }
+    ensures { λ r. ⌜ r ≡ settingsOf conv mtu mode interval threshold ⌝ }
 {
     Protocol::settings(
         conv,
@@ -53,19 +57,25 @@ fn settings_of(conv: u32, mtu: u32, mode: u32, interval: u32, threshold: u32) ->
 }
 
 // A bench that is as it was, but for having had a command.
-fn kept(bench: Bench, len: usize) -> Played {
+fn kept(bench: Bench, len: usize) -> Played
+    ensures { λ r. ⌜ r ≡ record { bench = still bench; len = len } ⌝ }
+{
     Played {
         bench: bench.with_link(bench.link),
         len,
     }
 }
 
-fn malformed(bench: Bench, text: &mut [u8]) -> Played {
+fn malformed(bench: Bench, text: &mut [u8]) -> Played
+    ensures { λ r. ⌜ NoCommand bench (now (text .entry)) r (now (text .exit)) ⌝ }
+{
     let len = put::bytes(text, 0, b"malformed\n");
     Played { bench, len }
 }
 
-fn answered(done: Answered, text: &mut [u8]) -> Played {
+fn answered(done: Answered, text: &mut [u8]) -> Played
+    ensures { λ r. ⌜ Says (done .bench) (answerLine (done .answer)) (now (text .entry)) r (now (text .exit)) ⌝ }
+{
     let answer = done.answer;
     let after = done.bench;
     let len = transcript::answer(text, 0, answer);
@@ -79,7 +89,9 @@ fn open(
     receive_pool: &[u8],
     acks: &[u32],
     text: &mut [u8],
-) -> Played {
+) -> Played
+    ensures { λ r. ⌜ PlaysOpen settings bench (now («send_pool» .entry)) (now («receive_pool» .entry)) (now (acks .entry)) (now (text .entry)) r (now (text .exit)) ⌝ }
+{
     let done = bench_calls::open(bench, settings, send_pool, receive_pool, acks);
     answered(done, text)
 }
@@ -93,7 +105,9 @@ fn send(
     bytes: &[u8],
     count: usize,
     text: &mut [u8],
-) -> Played {
+) -> Played
+    ensures { λ r. ⌜ PlaysSend (take count (now (bytes .entry))) bench (now («send_pool» .entry)) (now («receive_pool» .entry)) (now (acks .entry)) (now (text .entry)) r (now («send_pool» .exit)) (now (text .exit)) ⌝ }
+{
     let n = bench_calls::front(count, bytes);
     let done = bench_calls::send(bench, send_pool, receive_pool, acks, &bytes[..n]);
     answered(done, text)
@@ -108,20 +122,26 @@ fn input(
     bytes: &[u8],
     count: usize,
     text: &mut [u8],
-) -> Played {
+) -> Played
+    ensures { λ r. ⌜ PlaysInput (take count (now (bytes .entry))) bench (now («send_pool» .entry)) (now («receive_pool» .entry)) (now (acks .entry)) (now (text .entry)) r (now («receive_pool» .exit)) (now (acks .exit)) (now (text .exit)) ⌝ }
+{
     let n = bench_calls::front(count, bytes);
     let done = bench_calls::input(bench, send_pool, receive_pool, acks, &bytes[..n]);
     answered(done, text)
 }
 
 // The datagrams of a flush, and their count.
-fn flushed(bench: Bench, packed: &[u8], lengths: &[u16], n: usize, text: &mut [u8]) -> Played {
+fn flushed(bench: Bench, packed: &[u8], lengths: &[u16], n: usize, text: &mut [u8]) -> Played
+    ensures { λ r. ⌜ Says bench (datagramLines (now (packed .entry)) (take n (now (lengths .entry))) ++ countLine (Count.Of n)) (now (text .entry)) r (now (text .exit)) ⌝ }
+{
     let at = transcript::datagrams(text, 0, packed, lengths, n);
     let len = transcript::count(text, at, Count::Of(n));
     Played { bench, len }
 }
 
-fn refused(bench: Bench, refusal: Refusal, text: &mut [u8]) -> Played {
+fn refused(bench: Bench, refusal: Refusal, text: &mut [u8]) -> Played
+    ensures { λ r. ⌜ Says bench (refusalLine refusal) (now (text .entry)) r (now (text .exit)) ⌝ }
+{
     let len = transcript::refused(text, 0, refusal);
     Played { bench, len }
 }
@@ -133,7 +153,9 @@ fn flush(
     acks: &[u32],
     t: u32,
     text: &mut [u8],
-) -> Played {
+) -> Played
+    ensures { λ r. ⌜ PlaysFlush t bench (now («send_pool» .entry)) (now («receive_pool» .entry)) (now (acks .entry)) (now (text .entry)) r (now (text .exit)) ⌝ }
+{
     let mut output = [0u8; Protocol::OUTPUT_LEAST];
     let mut lengths = [0u16; Protocol::LENGTHS_LEAST];
     let done = bench_calls::flush(
@@ -154,7 +176,9 @@ fn flush(
 }
 
 // The message that was read: the first `count` bytes of `bytes`.
-fn message(bench: Bench, bytes: &[u8], count: usize, text: &mut [u8]) -> Played {
+fn message(bench: Bench, bytes: &[u8], count: usize, text: &mut [u8]) -> Played
+    ensures { λ r. ⌜ Says bench (bytesLine (ascii "message ") (take count (now (bytes .entry)))) (now (text .entry)) r (now (text .exit)) ⌝ }
+{
     let n = bench_calls::front(count, bytes);
     let len = transcript::bytes_line(text, 0, b"message ", &bytes[..n]);
     Played { bench, len }
@@ -167,7 +191,9 @@ fn read(
     acks: &[u32],
     room: u32,
     text: &mut [u8],
-) -> Played {
+) -> Played
+    ensures { λ r. ⌜ PlaysRead room bench (now («send_pool» .entry)) (now («receive_pool» .entry)) (now (acks .entry)) (now (text .entry)) r (now (text .exit)) ⌝ }
+{
     let mut buffer = [0u8; script::ROOM_MOST];
     let done = bench_calls::read(
         bench,
@@ -191,7 +217,9 @@ fn size(
     receive_pool: &[u8],
     acks: &[u32],
     text: &mut [u8],
-) -> Played {
+) -> Played
+    ensures { λ r. ⌜ PlaysSize bench (now («send_pool» .entry)) (now («receive_pool» .entry)) (now (acks .entry)) (now (text .entry)) r (now (text .exit)) ⌝ }
+{
     let answer = bench_calls::size(bench, send_pool, receive_pool, acks);
     let len = transcript::count(text, 0, answer);
     kept(bench, len)
@@ -203,30 +231,40 @@ fn show(
     receive_pool: &[u8],
     acks: &[u32],
     text: &mut [u8],
-) -> Played {
+) -> Played
+    ensures { λ r. ⌜ PlaysShow bench (now («send_pool» .entry)) (now («receive_pool» .entry)) (now (acks .entry)) (now (text .entry)) r (now (text .exit)) ⌝ }
+{
     let part = bench_calls::show(bench, send_pool, receive_pool, acks);
     let len = transcript::bytes_line(text, 0, b"part ", part);
     kept(bench, len)
 }
 
-fn ok(bench: Bench, text: &mut [u8]) -> Played {
+fn ok(bench: Bench, text: &mut [u8]) -> Played
+    ensures { λ r. ⌜ Ok (still bench) (now (text .entry)) r (now (text .exit)) ⌝ }
+{
     let len = transcript::answer(text, 0, Answer::Accepted);
     kept(bench, len)
 }
 
-fn state(bench: Bench, text: &mut [u8]) -> Played {
+fn state(bench: Bench, text: &mut [u8]) -> Played
+    ensures { λ r. ⌜ Says (still bench) (stateLine (bench .link)) (now (text .entry)) r (now (text .exit)) ⌝ }
+{
     let len = link::state(text, 0, bench.link);
     kept(bench, len)
 }
 
-fn held(bench: Bench, text: &mut [u8]) -> Played {
+fn held(bench: Bench, text: &mut [u8]) -> Played
+    ensures { λ r. ⌜ Says (still bench) (heldLine (bench .link) (bench .table)) (now (text .entry)) r (now (text .exit)) ⌝ }
+{
     let table = bench.table;
     let len = link::segments(text, 0, bench.link, table);
     kept(bench, len)
 }
 
 // Only right after an accepted opening.
-fn jump(bench: Bench, snd: u32, rcv: u32, text: &mut [u8]) -> Played {
+fn jump(bench: Bench, snd: u32, rcv: u32, text: &mut [u8]) -> Played
+    ensures { λ r. ⌜ PlaysJump snd rcv bench (now (text .entry)) r (now (text .exit)) ⌝ }
+{
     if bench.fresh {
         ok(bench.with_link(bench::jump(bench.link, snd, rcv)), text)
     } else {
@@ -234,14 +272,18 @@ fn jump(bench: Bench, snd: u32, rcv: u32, text: &mut [u8]) -> Played {
     }
 }
 
-fn lend(bench: Bench, part: u32, count: u32, text: &mut [u8]) -> Played {
+fn lend(bench: Bench, part: u32, count: u32, text: &mut [u8]) -> Played
+    ensures { λ r. ⌜ PlaysLend part count bench (now (text .entry)) r (now (text .exit)) ⌝ }
+{
     let lent = bench::lend(bench.lent, part, count);
     let mut next = bench;
     next.lent = lent;
     ok(next, text)
 }
 
-fn poke(bench: Bench, field: u32, value: u32, text: &mut [u8]) -> Played {
+fn poke(bench: Bench, field: u32, value: u32, text: &mut [u8]) -> Played
+    ensures { λ r. ⌜ PlaysPoke field value bench (now (text .entry)) r (now (text .exit)) ⌝ }
+{
     ok(
         bench.with_link(bench::poke::poke(bench.link, field, value)),
         text,
@@ -249,7 +291,9 @@ fn poke(bench: Bench, field: u32, value: u32, text: &mut [u8]) -> Played {
 }
 
 // Only on a segment that is held.
-fn hold(bench: Bench, list: u32, index: u32, field: u32, value: u32, text: &mut [u8]) -> Played {
+fn hold(bench: Bench, list: u32, index: u32, field: u32, value: u32, text: &mut [u8]) -> Played
+    ensures { λ r. ⌜ PlaysHold list index field value bench (now (text .entry)) r (now (text .exit)) ⌝ }
+{
     if bench::poke::is_held(bench.link, list, index) {
         ok(
             bench.with_link(bench::poke::hold(bench.link, list, index, field, value)),
@@ -260,14 +304,18 @@ fn hold(bench: Bench, list: u32, index: u32, field: u32, value: u32, text: &mut 
     }
 }
 
-fn rec(bench: Bench, slot: u32, record: Record, text: &mut [u8]) -> Played {
+fn rec(bench: Bench, slot: u32, record: Record, text: &mut [u8]) -> Played
+    ensures { λ r. ⌜ Ok (after bench (bench .link) (set (bench .table) slot «record»)) (now (text .entry)) r (now (text .exit)) ⌝ }
+{
     let old = bench.table;
     let table = bench::replace(old, slot, record);
     ok(bench.with_table(bench.link, table), text)
 }
 
 // The commands that look at the bench, or change it by hand.
-fn tool(bench: Bench, command: Command, text: &mut [u8]) -> Played {
+fn tool(bench: Bench, command: Command, text: &mut [u8]) -> Played
+    ensures { λ r. ⌜ PlaysTool command bench (now (text .entry)) r (now (text .exit)) ⌝ }
+{
     match command {
         Command::State => state(bench, text),
         Command::Held => held(bench, text),
@@ -300,7 +348,9 @@ fn tool(bench: Bench, command: Command, text: &mut [u8]) -> Played {
 }
 
 // A command before any accepted opening.
-fn unopened(bench: Bench, command: Command, text: &mut [u8]) -> Played {
+fn unopened(bench: Bench, command: Command, text: &mut [u8]) -> Played
+    ensures { λ r. ⌜ PlaysUnopened command bench (now (text .entry)) r (now (text .exit)) ⌝ }
+{
     match command {
         Command::Show => {
             let len = put::bytes(text, 0, b"part -\n");
@@ -319,7 +369,9 @@ fn on_link(
     acks: &mut [u32],
     bytes: &[u8],
     text: &mut [u8],
-) -> Played {
+) -> Played
+    ensures { λ r. ⌜ PlaysOnLink command bench (now («send_pool» .entry)) (now («receive_pool» .entry)) (now (acks .entry)) (now (bytes .entry)) (now (text .entry)) r (now («send_pool» .exit)) (now («receive_pool» .exit)) (now (acks .exit)) (now (text .exit)) ⌝ }
+{
     match command {
         Command::Send(n) => send(bench, send_pool, receive_pool, acks, bytes, n, text),
         Command::Input(n) => input(bench, send_pool, receive_pool, acks, bytes, n, text),
@@ -340,7 +392,9 @@ pub fn play(
     acks: &mut [u32],
     bytes: &[u8],
     text: &mut [u8],
-) -> Played {
+) -> Played
+    ensures { λ r. ⌜ Plays command bench (now («send_pool» .entry)) (now («receive_pool» .entry)) (now (acks .entry)) (now (bytes .entry)) (now (text .entry)) r (now («send_pool» .exit)) (now («receive_pool» .exit)) (now (acks .exit)) (now (text .exit)) ⌝ }
+{
     match command {
         Command::Malformed => malformed(bench, text),
         Command::Open {

@@ -2,8 +2,10 @@
 use bench::Bench;
 use libc::STDIN_FILENO;
 use libc::STDOUT_FILENO;
-ghost use Prim.Native.Nat.{_≤_};
-ghost use lib.ListN.{length};
+ghost use mathlib.Core.Path.{_≡_};
+ghost use Prim.Native.Nat.{_+_, _≤_};
+ghost use lib.ListN.{length, drop};
+ghost use Rattle.script.specs.Commands.{firstLine};
 
 const NEWLINE: u8 = 10;
 
@@ -22,7 +24,7 @@ const TEXT: usize = 140000;
 // Where the line that starts at `from` ends: its newline, or the end of the script.
 fn line_end(script: &[u8], from: usize) -> usize
     requires { ⌜ from ≤ length (now script) ⌝ }
-    ensures { λ r. ⌜ (from ≤ r) × (r ≤ length (now (script .entry))) ⌝ }
+    ensures { λ r. ⌜ (r ≡ from + length (firstLine (drop from (now (script .entry))))) × (from ≤ r) × (r ≤ length (now (script .entry))) ⌝ }
 {
     let mut i = from;
     while i < script.len() {

@@ -20,23 +20,23 @@ use Rattle.notation.specs.declared.Number.the-variants as number
 use Rattle.notation.specs.declared.Bytes.{Bytes}
 use Rattle.notation.specs.declared.Bytes.the-variants as bytes
 use Rattle.script.specs.declared.Command.the-variants.{Malformed}
-use Rattle.script.specs.Commands.{isOneOf, fieldMost, word, behindWord, onFirst, words, arguments, oneMore, numbersOf, letters, ofOne, ofTwo, ofFour, ofFive, ofNumbers, withNumbers}
+use Rattle.script.specs.Commands.{isOneOf, fieldMost, upTo, word, behindWord, onFirst, words, arguments, oneMore, numbersOf, letters, ofOne, ofTwo, ofFour, ofFive, ofNumbers, withNumbers}
 use Rattle.script.specs.Reading.{few}
 
 -- ---- words
 
-module _ (l : List ℕ) (i : ℕ) where
-  pub word-next : i < length l → (getD l i 0 ≡ 32 → ⊥) → length (word (drop i l)) ≡ suc (length (word (drop (i + 1) l)))
-  unfolding word
-  word-next h d = rw (drop-cons l i 0 h, add-one, ne-eqb (getD l i 0) 32 d)
+module _ (stop : ℕ) (l : List ℕ) (i : ℕ) where
+  pub up-to-next : i < length l → (getD l i 0 ≡ stop → ⊥) → length (upTo stop (drop i l)) ≡ suc (length (upTo stop (drop (i + 1) l)))
+  unfolding upTo
+  up-to-next h d = rw (drop-cons l i 0 h, add-one, ne-eqb (getD l i 0) stop d)
 
-  pub word-stop : i < length l → getD l i 0 ≡ 32 → length (word (drop i l)) ≡ 0
-  unfolding word
-  word-stop h e = rw (drop-cons l i 0 h, eq-eqb (getD l i 0) 32 e)
+  pub up-to-here : i < length l → getD l i 0 ≡ stop → length (upTo stop (drop i l)) ≡ 0
+  unfolding upTo
+  up-to-here h e = rw (drop-cons l i 0 h, eq-eqb (getD l i 0) stop e)
 
-  pub word-end : length l ≤ i → length (word (drop i l)) ≡ 0
-  unfolding word
-  word-end h = rw (drop-of-length-le l h)
+  pub up-to-end : length l ≤ i → length (upTo stop (drop i l)) ≡ 0
+  unfolding upTo
+  up-to-end h = rw (drop-of-length-le l h)
 
 -- ---- names
 
@@ -57,7 +57,7 @@ module _ (w : List ℕ) (i n : ℕ) where
 
 -- the first word is the front of the line
 pub word-front : (l : List ℕ) → take (length (word l)) l ≡ word l
-unfolding word
+unfolding upTo
 word-front [] = refl
 word-front (c ∷ l) = go (eqb c 32) (word-front l)
   where
@@ -66,7 +66,7 @@ word-front (c ∷ l) = go (eqb c 32) (word-front l)
     go false e = ap (λ (w : List ℕ). c ∷ w) e
 
 pub words-first : (l : List ℕ) → words l ≡ word l ∷ arguments (behindWord l)
-unfolding word words
+unfolding upTo words
 words-first [] = refl
 words-first (c ∷ l) = go (eqb c 32) (words-first l)
   where

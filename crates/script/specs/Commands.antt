@@ -35,10 +35,17 @@ use Rattle.script.specs.declared.Command.the-variants.{
 
 -- ---- words
 
--- the first word of a line: up to a space or the end
-unfoldable pub word : List ℕ → List ℕ
-word [] = []
-word (c ∷ l) = cond (eqb c 32) [] (c ∷ word l)
+-- up to a byte, which is left out, or the end
+unfoldable pub upTo : ℕ → List ℕ → List ℕ
+upTo stop [] = []
+upTo stop (c ∷ l) = cond (eqb c stop) [] (c ∷ upTo stop l)
+
+-- the first word of a line, and the first line of a script
+abbrev pub word : List ℕ → List ℕ
+word = upTo 32
+
+abbrev pub firstLine : List ℕ → List ℕ
+firstLine = upTo 10
 
 -- what is behind it, from its space on
 abbrev pub behindWord : List ℕ → List ℕ

@@ -1,5 +1,6 @@
 -- `playing::line_of` meets its contract: the line is parsed where it stands within the script.
 -- Assumes nothing.
+use mathlib.Core.Path.{refl}
 use native.Mathlib.Omega.{arith}
 use borrow.Author.Needs.{needs}
 use Rattle.playing.proofs.line_of.Statement.{statement}
@@ -13,6 +14,6 @@ line-of-spec =
     (search needs)
     (search needs)
     (search needs)
-    (λ c h g. c .before .before .parse .ensures)
-    (λ c h g. absurd (omega arith))
-    (λ c h g. absurd (omega arith)))
+    (λ c. record { line = λ h g. c .before .before .parse .ensures; unended = λ h. absurd (omega arith) })
+    (λ c. record { line = λ h g. absurd (omega arith); unended = λ h. (refl, refl) })
+    (λ c. record { line = λ h g. absurd (omega arith); unended = λ h. (refl, refl) }))

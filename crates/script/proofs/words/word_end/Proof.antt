@@ -6,7 +6,7 @@ use native.Mathlib.Omega.{arith}
 use borrow.Author.Needs.{needs}
 use lib.ListN.{length, drop}
 use Rattle.script.specs.Commands.{word}
-use Rattle.script.specs.CommandLaws.{word-next, word-stop, word-end}
+use Rattle.script.specs.CommandLaws.{up-to-next, up-to-here, up-to-end}
 use Rattle.script.proofs.words.word_end.Statement.{statement}
 use Rattle.script.proofs.words.word_end.Tie as tie
 
@@ -21,19 +21,19 @@ returns : tie.Need-returns Inv-loop μ-loop
 returns c =
     let l = c .before .before .before .loop in
     let line = c .before .before .before .before .args .line .now in
-    (omega (arith, word-stop line (l .i) (omega arith) (c .if1 .taken)), omega arith, omega arith)
+    (omega (arith, up-to-here 32 line (l .i) (omega arith) (c .if1 .taken)), omega arith, omega arith)
 
 loop-again : tie.Need-loop-again Inv-loop μ-loop
 loop-again c =
     let l = c .before .before .before .loop in
     let line = c .before .before .before .before .args .line .now in
-    (omega arith, omega arith, omega (arith, word-next line (l .i) (omega arith) (c .if1 .left)))
+    (omega arith, omega arith, omega (arith, up-to-next 32 line (l .i) (omega arith) (c .if1 .left)))
 
 returns-2 : tie.Need-returns-2 Inv-loop μ-loop
 returns-2 c =
     let l = c .before .loop in
     let line = c .before .before .args .line .now in
-    (omega (arith, word-end line (l .i) (omega arith)), omega arith, omega arith)
+    (omega (arith, up-to-end 32 line (l .i) (omega arith)), omega arith, omega arith)
 
 pub word-end-spec : {M : Type 1} → statement M
 word-end-spec =
