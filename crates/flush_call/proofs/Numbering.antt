@@ -15,11 +15,11 @@ use Rattle.lists.specs.declared.Split.{Split}
 use Rattle.lists.proofs.Loops.{holds-as}
 use Rattle.session.specs.Flushing.{numbered, numberedCount, withNumbered}
 use Rattle.block.specs.declared.Link.{Link}
-use Rattle.flushing.specs.Joins.{JoinedIs}
+use Rattle.lists.specs.Joining.{JoinedIs}
 use Rattle.flushing.specs.Numbering.{countOf}
 use Rattle.flushing.specs.FlushLaws.{count-of}
 use Rattle.flushing.specs.ValidLaws.{valid-few}
-use Rattle.flushing.proofs.JoinedLaws.{length-joined, take-joined}
+use Rattle.lists.specs.JoiningLaws.{length-joined, take-joined}
 use Rattle.flush_call.specs.Parts.{sendingFrom, withSending, Numberable, Numbers}
 
 module _ (l : Link) (records : List Record) (k : ℕ) (queued-whole : length (l .queued .at) ≡ 128) (n : Numberable l records)

@@ -21,7 +21,7 @@ use Rattle.session.specs.Flushing.{numberedCount, withNumbered}
 use Rattle.block.specs.Views.{isSet}
 use Rattle.block.specs.declared.Link.{Link}
 use Rattle.flushing.specs.declared.Flush.{Flush}
-use Rattle.flushing.specs.Joins.{JoinedIs}
+use Rattle.lists.specs.Joining.{JoinedIs}
 use Rattle.answers.specs.declared.Count.the-variants.{Refused}
 use Rattle.flush_call.specs.declared.Flushed.{Flushed}
 use Rattle.flush_call.specs.declared.parts.Numbered.{Numbered}

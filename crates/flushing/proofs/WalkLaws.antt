@@ -24,7 +24,7 @@ use Rattle.packing.specs.Packers.{Fills, Room, Adds}
 use Rattle.packing.specs.PackerLaws.{adds-none, adds-append, adds-as, room-left}
 use Rattle.flushing.specs.declared.Flush.{Flush}
 use Rattle.flushing.specs.Writing.{ruleOf, afterFlush, sentBy, dataOf, InSlot, AllInSlots, Walks}
-use Rattle.flushing.proofs.JoinedLaws.{take-joined, get-joined, set-joined, joined-is}
+use Rattle.lists.specs.JoiningLaws.{take-joined, get-joined, set-joined, joined-is}
 
 -- ---- lists
 

@@ -23,7 +23,7 @@ use Rattle.packing.specs.Packers.{carriedOf, Output, bytesOfDatagrams, Adds}
 use Rattle.flushing.specs.declared.Flush.{Flush}
 use Rattle.flushing.specs.declared.Walked.{Walked}
 use Rattle.flushing.specs.declared.Written.{Written}
-use Rattle.flushing.specs.Joins.{JoinedIs}
+use Rattle.lists.specs.Joining.{JoinedIs}
 
 -- ---- the outstanding segments
 

@@ -14,7 +14,7 @@ ghost use Rattle.lists.specs.Views.{heldOf, outstandingOf};
 ghost use Rattle.lists.specs.Joining.{joined};
 ghost use Rattle.session.specs.Flushing.{numbered};
 ghost use Rattle.flushing.specs.Numbering.{countOf};
-ghost use Rattle.flushing.specs.Joins.{JoinedIs};
+ghost use Rattle.lists.specs.Joining.{JoinedIs};
 
 fn least(a: usize, b: usize) -> usize
     ensures { λ r. ⌜ r ≡ min a b ⌝ }
