@@ -12,16 +12,18 @@ use Rattle.protocol.specs.Serial.{minus, isAfter, isDue}
 use Rattle.protocol.specs.declared.Settings.{Settings}
 use Rattle.wire.specs.declared.Header.{Header}
 use Rattle.timing.specs.RoundTrips.{sampled}
+use Rattle.timing.specs.declared.Record.{Record}
 use Rattle.timing.specs.declared.RoundTrip.{RoundTrip}
-use Rattle.lists.specs.Views.{sentOf, SentIs}
+use Rattle.lists.specs.Views.{outstandingOf}
+use Rattle.lists.specs.Joining.{joined, JoinedIs}
 use Rattle.lists.specs.Acknowledging.{select, keep, firstNumberOr}
 use Rattle.lists.specs.AcknowledgingLaws.{select-same, keep-both}
 use Rattle.lists.specs.declared.Sent.{Sent}
-use Rattle.lists.specs.declared.SentList.{SentList}
+use Rattle.lists.specs.declared.OutstandingList.{OutstandingList}
 use Rattle.lists.specs.declared.Acknowledges.the-variants as by
 use Rattle.session.specs.State.{Sending}
 use Rattle.session.specs.Input.{acknowledged, withWindow, sampledBy, heardBySending}
-use Rattle.block.specs.declared.Flight.{Flight}
+use Rattle.block.specs.declared.StoredFlight.{StoredFlight}
 use Rattle.acknowledging.specs.Flights.{FlightIs}
 use Rattle.acknowledging.specs.Hearing.{staysBy, timedBy}
 
@@ -79,15 +81,16 @@ heard-parts c current s h = go (eqb (h .cmd) ack)
     go true = rw (keep-both (λ n. not (isAfter (h .una) n)) (λ n. not (eqb n (h .sn))) l)
     go false = rw (select-same (λ (x : Sent). not (isAfter (h .una) (x .record .number))) (λ x. not (isAfter (h .una) (x .record .number)) && true) (λ x. and-true (not (isAfter (h .una) (x .record .number)))) l)
 
-module _ (c : Settings) (current : ℕ) (f : Flight) (h : Header) (rtt : RoundTrip) (e : rtt ≡ timedBy c current h (f .rtt)) where
-  pub heard-some : (left : SentList) (una : ℕ) → SentIs left (keep (staysBy h) (sentOf (f .outstanding))) → una ≡ firstNumberOr (sentOf left) (f .next)
-      → FlightIs (record { una = una; next = f .next; rtt = rtt; window = h .wnd; outstanding = left }) f (λ s. heardBySending c current s h)
-  heard-some left una l g = record { fits = l .fits; half = λ q. rw (heard-parts c current _ h, g, l .list, e) }
+module _ (c : Settings) (current : ℕ) (f : StoredFlight) (fs : List Record) (h : Header) (rtt : RoundTrip) (e : rtt ≡ timedBy c current h (f .rtt)) where
+  pub heard-some : (left : OutstandingList) (rs : List Record) (una : ℕ)
+      → JoinedIs left rs (keep (staysBy h) (joined (outstandingOf (f .outstanding)) fs)) → una ≡ firstNumberOr (joined (outstandingOf left) rs) (f .next)
+      → FlightIs (record { una = una; next = f .next; rtt = rtt; window = h .wnd; outstanding = left }) rs f fs (λ s. heardBySending c current s h)
+  heard-some left rs una l g = record { fits = l .fits; half = λ q. rw (heard-parts c current _ h, g, l .list, e) }
 
   -- none is outstanding
   pub heard-none : f .outstanding .count ≤ 0
-      → FlightIs (record { una = f .next; next = f .next; rtt = rtt; window = h .wnd; outstanding = f .outstanding }) f (λ s. heardBySending c current s h)
-  unfolding select firstNumberOr
+      → FlightIs (record { una = f .next; next = f .next; rtt = rtt; window = h .wnd; outstanding = f .outstanding }) fs f fs (λ s. heardBySending c current s h)
+  unfolding select firstNumberOr joined
   heard-none z =
       let n : f .outstanding .count ≡ 0 = omega arith in
       record { fits = omega arith; half = λ q. rw (heard-parts c current _ h, e, n) }

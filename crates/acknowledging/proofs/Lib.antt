@@ -1,3 +1,4 @@
 pub mod Hearing
+pub mod Removal
 pub mod Skips
 pub mod Walks

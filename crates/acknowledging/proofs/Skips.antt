@@ -1,19 +1,24 @@
 -- The furthest ack number, and the skips that it brings.
 -- Assumes nothing.
-use mathlib.Core.Path.{_≡_, refl, sym}
+use mathlib.Core.Path.{_≡_, refl, sym, ap, _∙_}
 use mathlib.Core.Bool.{Bool, true, false, cond, not, _&&_, false≢true, true≢false}
-use mathlib.Core.List.{map}
-use Prim.Native.Nat.{_≤_}
+use mathlib.Core.List.{List, [], _∷_, map}
+use Prim.Native.Nat.{ℕ, zero, suc, _≤_}
 use borrow.Author.Tests.{eq-eqb, ne-eqb}
+use lib.ListN.{take}
 use Rattle.protocol.specs.Serial.{isBefore, isAfter}
 use Rattle.wire.specs.declared.Header.{Header}
-use Rattle.lists.specs.Views.{sentOf, SentIs}
-use Rattle.lists.specs.Acknowledging.{skipBefore}
-use Rattle.lists.specs.declared.SentList.{SentList}
-use Rattle.session.specs.Input.{skipped}
-use Rattle.block.specs.declared.Flight.{Flight}
+use Rattle.timing.specs.declared.Record.{Record}
+use Rattle.retransmission.specs.Transmissions.{skipped}
+use Rattle.lists.specs.Joining.{withRecord, joined}
+use Rattle.lists.specs.Acknowledging.{oneSkip, skipBefore}
+use Rattle.lists.specs.declared.Outstanding.{Outstanding}
+use Rattle.lists.specs.declared.Sent.{Sent}
+use Rattle.session.specs.Input as input
+use Rattle.block.specs.declared.StoredFlight.{StoredFlight}
 use Rattle.acknowledging.specs.Flights.{FlightIs}
 use Rattle.acknowledging.specs.Furthest.{further, furtherBy, skippedBy}
+use Rattle.acknowledging.specs.Hearing.{skipRecord}
 use Rattle.acknowledging.specs.declared.Furthest.{Furthest}
 
 -- ---- one segment more
@@ -54,13 +59,43 @@ neither : {A : Type 0} (a b : Bool) → a && b ≡ false → (x y : A) → cond 
 neither true b t x y = rw t
 neither false b t x y = refl
 
-module _ (f : Flight) (n : Furthest) (b : Bool) (few : f .outstanding .count ≤ 32)
-    (g : b ≡ (not (isBefore (n .number) (f .una)) && isBefore (n .number) (f .next))) where
-  pub skips-are : (l : SentList) → n .any && b ≡ true → SentIs l (map (skipBefore (n .number)) (sentOf (f .outstanding)))
-      → FlightIs (record { una = f .una; next = f .next; rtt = f .rtt; window = f .window; outstanding = l }) f (skippedBy n)
-  unfolding skippedBy skipped
-  skips-are l t s = let p = both (n .any) b t in record { fits = s .fits; half = λ q. rw (p .0, ← g, p .1, s .list) }
+-- a skip of a record is one of its segment
+skip-joined : (n : ℕ) (o : Outstanding) (r : Record) → withRecord o (skipRecord n r) ≡ skipBefore n (withRecord o r)
+unfolding skipRecord skipBefore
+skip-joined n o r = go (isBefore (r .number) n)
+  where
+    go : (t : Bool) → withRecord o (cond t (skipped r) r) ≡ cond t (oneSkip (withRecord o r)) (withRecord o r)
+    go true = refl
+    go false = refl
 
-  pub no-skips : n .any && b ≡ false → FlightIs f f (skippedBy n)
-  unfolding skippedBy skipped
+skips-joined : (n : ℕ) (os : List Outstanding) (rs : List Record) → joined os (map (skipRecord n) rs) ≡ map (skipBefore n) (joined os rs)
+unfolding joined
+skips-joined n [] rs = refl
+skips-joined n (o ∷ os) [] = refl
+skips-joined n (o ∷ os) (r ∷ rs) = rw (skip-joined n o r, skips-joined n os rs)
+
+-- k segments are joined with the first k records
+joined-front : (k : ℕ) (os : List Outstanding) (rs : List Record) → joined (take k os) (take k rs) ≡ joined (take k os) rs
+unfolding joined
+joined-front zero os rs = refl
+joined-front (suc k) [] rs = refl
+joined-front (suc k) (o ∷ os) [] = refl
+joined-front (suc k) (o ∷ os) (r ∷ rs) = ap (λ (l : List Sent). withRecord o r ∷ l) (joined-front k os rs)
+
+module _ (f : StoredFlight) (fs : List Record) (n : Furthest) (b : Bool) (few : f .outstanding .count ≤ 32)
+    (g : b ≡ (not (isBefore (n .number) (f .una)) && isBefore (n .number) (f .next))) where
+  pub skips-are : (rs : List Record) → n .any && b ≡ true
+      → take (f .outstanding .count) rs ≡ map (skipRecord (n .number)) (take (f .outstanding .count) fs)
+      → FlightIs f rs f fs (skippedBy n)
+  unfolding skippedBy input.skipped
+  skips-are rs t s =
+      let p = both (n .any) b t in
+      let k = f .outstanding .count in
+      let os = f .outstanding .at in
+      let e : joined (take k os) rs ≡ map (skipBefore (n .number)) (joined (take k os) fs) =
+      sym (joined-front k os rs) ∙ rw (s, skips-joined, joined-front) in
+      record { fits = few; half = λ q. rw (p .0, ← g, p .1, e) }
+
+  pub no-skips : n .any && b ≡ false → FlightIs f fs f fs (skippedBy n)
+  unfolding skippedBy input.skipped
   no-skips t = record { fits = few; half = λ q. rw (← g) (sym (neither (n .any) b t _ _)) }

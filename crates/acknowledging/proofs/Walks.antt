@@ -7,31 +7,32 @@ use native.Mathlib.Omega.{arith}
 use lib.ListN.{length}
 use Rattle.protocol.specs.Ranges.{mss}
 use Rattle.protocol.specs.declared.Settings.{Settings}
+use Rattle.timing.specs.declared.Record.{Record}
 use Rattle.wire.specs.declared.Header.{Header}
 use Rattle.datagram.specs.Datagrams.{Segment, parse, segments, stepAt}
 use Rattle.datagram.specs.StepLaws.{Begun, Remaining, Took, took, ended}
 use Rattle.datagram.specs.declared.Step.the-variants as step
 use Rattle.lists.specs.declared.HeldList.{HeldList}
 use Rattle.session.specs.Input.{heardBySending, allBySending, ackNumbers, skippedByAll}
-use Rattle.block.specs.Views.{sendingOf}
-use Rattle.block.specs.declared.Flight.{Flight}
+use Rattle.block.specs.Views.{storedOf}
+use Rattle.block.specs.declared.StoredFlight.{StoredFlight}
 use Rattle.acknowledging.specs.Flights.{FlightIs, HearsAll}
 use Rattle.acknowledging.specs.Furthest.{noneYet, furtherBy, furtherByAll, skippedBy}
 use Rattle.acknowledging.specs.FurthestLaws.{skipped-all}
 use Rattle.acknowledging.specs.declared.Furthest.{Furthest}
 
--- f₀ is what the loop began with; the segments from index at on remain
-module _ (c : Settings) (current : ℕ) (s : List ℕ) (f₀ : Flight) where
-  pub record Walking (f : Flight) (furthest : Furthest) (at : ℕ) : Type 0 where
+-- f₀ and the records fs₀ are what the loop began with; the segments from index at on remain
+module _ (c : Settings) (current : ℕ) (s : List ℕ) (f₀ : StoredFlight) (fs₀ : List Record) where
+  pub record Walking (f : StoredFlight) (fs : List Record) (furthest : Furthest) (at : ℕ) : Type 0 where
     pub all : List Segment
     pub rest : List Segment
     pub parsed : parse (c .conv) (mss c) s ≡ segments all
     pub remaining : Remaining (c .conv) (mss c) s at rest
     pub few : f .outstanding .count ≤ 32
-    pub sending : (q : HeldList) → allBySending c current (sendingOf q f) rest ≡ allBySending c current (sendingOf q f₀) all
+    pub sending : (q : HeldList) → allBySending c current (storedOf q f fs) rest ≡ allBySending c current (storedOf q f₀ fs₀) all
     pub acked : furtherByAll furthest rest ≡ furtherByAll noneYet all
 
-  pub walking-start : f₀ .outstanding .count ≤ 32 → (n : ℕ) → Begun (c .conv) (mss c) s n → Walking f₀ noneYet 0
+  pub walking-start : f₀ .outstanding .count ≤ 32 → (n : ℕ) → Begun (c .conv) (mss c) s n → Walking f₀ fs₀ noneYet 0
   walking-start few n g = record {
     all = g .all;
     rest = g .all;
@@ -42,7 +43,7 @@ module _ (c : Settings) (current : ℕ) (s : List ℕ) (f₀ : Flight) where
     acked = refl;
   }
 
-  module _ (f : Flight) (furthest : Furthest) (at : ℕ) (w : Walking f furthest at) where
+  module _ (f : StoredFlight) (fs : List Record) (furthest : Furthest) (at : ℕ) (w : Walking f fs furthest at) where
     -- the next segment
     module _ (header : Header) (start next : ℕ) (e : stepAt s at ≡ step.Segment header start next) where
       first : Took (c .conv) (mss c) s at (w .rest) header start next
@@ -51,9 +52,10 @@ module _ (c : Settings) (current : ℕ) (s : List ℕ) (f₀ : Flight) where
       pub walking-less : length s - next < length s - at
       walking-less = omega (arith, first .follows, first .inside)
 
-      pub walking-more : (f′ : Flight) (furthest′ : Furthest) → furthest′ ≡ furtherBy furthest header → FlightIs f′ f (λ x. heardBySending c current x header) → Walking f′ furthest′ next
+      pub walking-more : (f′ : StoredFlight) (fs′ : List Record) (furthest′ : Furthest) → furthest′ ≡ furtherBy furthest header → FlightIs f′ fs′ f fs (λ x. heardBySending c current x header)
+          → Walking f′ fs′ furthest′ next
       unfolding allBySending furtherByAll
-      walking-more f′ furthest′ b a = record {
+      walking-more f′ fs′ furthest′ b a = record {
         all = w .all;
         rest = first .others;
         parsed = w .parsed;
@@ -68,7 +70,7 @@ module _ (c : Settings) (current : ℕ) (s : List ℕ) (f₀ : Flight) where
       none : w .rest ≡ []
       none = ended (c .conv) (mss c) s at (w .rest) (w .remaining) e
 
-      all-sent : (q : HeldList) → sendingOf q f ≡ allBySending c current (sendingOf q f₀) (w .all)
+      all-sent : (q : HeldList) → storedOf q f fs ≡ allBySending c current (storedOf q f₀ fs₀) (w .all)
       unfolding allBySending
       all-sent q = rw none at (w .sending q)
 
@@ -76,8 +78,8 @@ module _ (c : Settings) (current : ℕ) (s : List ℕ) (f₀ : Flight) where
       unfolding furtherByAll
       all-acked = rw none at (w .acked)
 
-      heard-all : (r : Flight) → FlightIs r f (skippedBy furthest) → FlightIs r f₀ (λ x. skippedByAll (allBySending c current x (w .all)) (ackNumbers (w .all)))
-      heard-all r k = record { fits = k .fits; half = λ q. k .half q ∙ rw (all-sent q, all-acked) (skipped-all _ (w .all)) }
+      heard-all : (r : StoredFlight) (rs : List Record) → FlightIs r rs f fs (skippedBy furthest) → FlightIs r rs f₀ fs₀ (λ x. skippedByAll (allBySending c current x (w .all)) (ackNumbers (w .all)))
+      heard-all r rs k = record { fits = k .fits; half = λ q. k .half q ∙ rw (all-sent q, all-acked) (skipped-all _ (w .all)) }
 
-      pub walking-end : (r : Flight) → FlightIs r f (skippedBy furthest) → HearsAll c current s f₀ r
-      walking-end r k gs p = let q = sym (w .parsed) ∙ p in let same : w .all ≡ gs = cc in rw same at (heard-all r k)
+      pub walking-end : (r : StoredFlight) (rs : List Record) → FlightIs r rs f fs (skippedBy furthest) → HearsAll c current s f₀ fs₀ r rs
+      walking-end r rs k gs p = let q = sym (w .parsed) ∙ p in let same : w .all ≡ gs = cc in rw same at (heard-all r rs k)

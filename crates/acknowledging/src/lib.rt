@@ -1,24 +1,36 @@
 // The sending half hears a datagram: windows and round trips, what is acknowledged, and skips.
-use block::Flight;
+use block::StoredFlight;
+use block::check;
 use datagram::Step;
-use lists::SentList;
-use lists::sent_list;
+use lists::OutstandingList;
+use lists::Split;
 use protocol::Protocol;
 use protocol::Settings;
 use protocol::serial;
+use retransmission::outstanding;
+use timing::Record;
 use timing::RoundTrip;
 use wire::Header;
 ghost use mathlib.Core.Path.{_≡_};
 ghost use mathlib.Core.Bool.{not, _&&_};
+ghost use mathlib.Core.List.{map};
 ghost use Prim.Native.Nat.{ℕ, _≤_};
+ghost use lib.ListN.{take};
 ghost use Rattle.protocol.specs.Ranges.{mss};
 ghost use Rattle.protocol.specs.Serial.{isBefore};
 ghost use Rattle.datagram.specs.StepLaws.{Begun};
-ghost use Rattle.lists.specs.Views.{sentOf, SentIs};
+ghost use Rattle.lists.specs.Views.{outstandingOf};
+ghost use Rattle.lists.specs.Joining.{joined, JoinedIs};
 ghost use Rattle.lists.specs.Acknowledging.{keep};
-ghost use Rattle.acknowledging.specs.Flights.{FlightIs, HearsAll};
-ghost use Rattle.acknowledging.specs.Furthest.{noneYet, furtherBy, skippedBy};
-ghost use Rattle.acknowledging.specs.Hearing.{staysBy, timedBy};
+ghost use Rattle.acknowledging.specs.Flights.{HearsAll};
+ghost use Rattle.acknowledging.specs.Furthest.{noneYet, furtherBy};
+ghost use Rattle.acknowledging.specs.Hearing.{staysBy, timedBy, skipRecord};
+
+// The segments in flight, and the records of the outstanding ones.
+pub struct InFlight {
+    pub flight: StoredFlight,
+    pub records: [Record; 32],
+}
 
 // The furthest number that the acks of a datagram have named so far, if any came.
 struct Furthest {
@@ -33,25 +45,31 @@ fn stays(h: Header, number: u32) -> bool
     !serial::after(h.una, number) & !((h.cmd == Protocol::ACK) & (number == h.sn))
 }
 
-// The list without the segments that a segment acknowledges.
-fn remaining(list: SentList, h: Header) -> SentList
+// The outstanding segments and their records, without those that a segment acknowledges.
+fn remaining(list: OutstandingList, records: [Record; 32], h: Header) -> Split
     requires { ⌜ list .count ≤ 32 ⌝ }
-    ensures { λ r. ⌜ SentIs r (keep (staysBy h) (sentOf list)) ⌝ }
+    ensures { λ r. ⌜ JoinedIs (r .outstanding) (r .records) (keep (staysBy h) (joined (outstandingOf list) records)) ⌝ }
 {
     let n = list.count;
     let mut l = list;
+    let mut rs = records;
     let mut i: usize = 0;
     let mut j: usize = 0;
     while i < n {
-        let s = l.at[i];
+        let segment = l.at[i];
+        let record = rs[i];
         i += 1;
-        if stays(h, s.record.number) {
-            l.at[j] = s;
+        if stays(h, record.number) {
+            l.at[j] = segment;
+            rs[j] = record;
             j += 1;
         }
     }
     l.count = j;
-    l
+    Split {
+        outstanding: l,
+        records: rs,
+    }
 }
 
 // The round trip after a segment is heard: if it is an ack and current - ts is 0 or more, that is a sample.
@@ -95,33 +113,52 @@ impl Furthest {
 }
 
 // Whether the number counts: it is not before snd_una and is before snd_nxt.
-fn counts(flight: Flight, number: u32) -> bool
+fn counts(flight: StoredFlight, number: u32) -> bool
     ensures { λ r. ⌜ r ≡ (not (isBefore number (flight .una)) && isBefore number (flight .next)) ⌝ }
 {
     !serial::before(number, flight.una) & serial::before(number, flight.next)
 }
 
-// After the datagram: if the furthest number counts, each outstanding segment before it gets one skip.
-fn skip(flight: Flight, furthest: Furthest) -> Flight
-    requires { ⌜ flight .outstanding .count ≤ 32 ⌝ }
-    ensures { λ r. ⌜ FlightIs r flight (skippedBy furthest) ⌝ }
+// The record with one skip more if its number is before the given one.
+fn skipped(old: Record, number: u32) -> Record
+    ensures { λ r. ⌜ r ≡ skipRecord number old ⌝ }
 {
-    if furthest.any & counts(flight, furthest.number) {
-        let mut f = flight;
-        let list = f.outstanding;
-        f.outstanding = sent_list::skip_before(list, furthest.number);
-        f
+    if serial::before(old.number, number) {
+        outstanding::skipped(old)
     } else {
-        flight
+        old
     }
 }
 
-// The segments of an accepted datagram are heard, one after the other, and then come the skips.
-pub fn hear(flight: Flight, settings: Settings, current: u32, s: &[u8]) -> Flight
+// The records, where each of the first n whose number is before the given one has one skip more.
+fn skip_before(records: [Record; 32], n: usize, number: u32) -> [Record; 32]
+    requires { ⌜ n ≤ 32 ⌝ }
+    ensures { λ r. ⌜ take n r ≡ map (skipRecord number) (take n records) ⌝ }
+{
+    let mut rs = records;
+    let mut i: usize = 0;
+    while i < n {
+        let old = rs[i];
+        rs[i] = skipped(old, number);
+        i += 1;
+    }
+    rs
+}
+
+// The segments of an accepted datagram are heard, one after the other. Then, if the furthest number counts, each outstanding
+// segment before it gets one skip.
+pub fn hear(
+    flight: StoredFlight,
+    records: [Record; 32],
+    settings: Settings,
+    current: u32,
+    s: &[u8],
+) -> InFlight
     requires { ⌜ (flight .outstanding .count ≤ 32) × ((n : ℕ) × Begun (settings .conv) (mss settings) (now s) n) ⌝ }
-    ensures { λ r. ⌜ HearsAll settings current (now (s .entry)) flight r ⌝ }
+    ensures { λ r. ⌜ HearsAll settings current (now (s .entry)) flight records (r .flight) (r .records) ⌝ }
 {
     let mut f = flight;
+    let mut rs = records;
     let mut furthest = Furthest::new();
     let mut at: usize = 0;
     loop {
@@ -132,7 +169,14 @@ pub fn hear(flight: Flight, settings: Settings, current: u32, s: &[u8]) -> Fligh
             next,
         } = step
         else {
-            return skip(f, furthest);
+            if furthest.any & counts(f, furthest.number) {
+                let skipped = skip_before(rs, f.outstanding.count, furthest.number);
+                rs = skipped;
+            }
+            return InFlight {
+                flight: f,
+                records: rs,
+            };
         };
         at = next;
         furthest = furthest.after(header);
@@ -140,9 +184,13 @@ pub fn hear(flight: Flight, settings: Settings, current: u32, s: &[u8]) -> Fligh
         let before = f.rtt;
         f.rtt = timed(before, settings, current, header);
         if 0 < f.outstanding.count {
-            let left = remaining(f.outstanding, header);
-            f.una = sent_list::first_number_or(left, f.next);
-            f.outstanding = left;
+            let left = remaining(f.outstanding, rs, header);
+            let list = left.outstanding;
+            f.outstanding = list;
+            let kept = left.records;
+            rs = kept;
+            let first = check::first_number(f, rs);
+            f.una = first;
         } else {
             f.una = f.next;
         }

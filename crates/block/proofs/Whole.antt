@@ -10,13 +10,11 @@ use lib.Dec.{leb}
 use lib.ListN.{length}
 use Rattle.protocol.specs.Ranges.{inRange}
 use Rattle.timing.specs.declared.Record.{Record}
-use Rattle.session.specs.State.{Ack, Sending, State}
+use Rattle.session.specs.State.{Ack}
 use Rattle.session.specs.Decides.{and-parts}
 use Rattle.session.specs.Valid.{valid, sendingValid, receivingValid, probeFits}
-use Rattle.lists.specs.Views.{heldOf}
 use Rattle.block.specs.declared.Link.{Link}
-use Rattle.block.specs.declared.Flight.{Flight}
-use Rattle.block.specs.Views.{isSet, pairs, sendingOf, storedOf, receivingOf, Joins, stateOf, countsFit, blockValid}
+use Rattle.block.specs.Views.{isSet, pairs, storedOf, receivingOf, stateOf, countsFit, blockValid}
 
 -- what the counts' test says
 pub record Counts (l : Link) : Type 0 where
@@ -42,18 +40,6 @@ pairs-most zero l = zero-le
 pairs-most (suc n) [] = zero-le
 pairs-most (suc n) (a ∷ []) = zero-le
 pairs-most (suc n) (a ∷ b ∷ l) = omega (arith, pairs-most n l)
-
--- the sending half of the state
-pub sending-state : (l : Link) (records : List Record) (acks : List ℕ) (f : Flight) → Joins (l .flight) records f → sendingOf (l .queued) f ≡ stateOf l records acks .sending
-unfolding stateOf
-sending-state l records acks f j = λ i. record {
-  una = j .una i;
-  next = j .next i;
-  queued = heldOf (l .queued);
-  outstanding = j .outstanding .list i;
-  window = j .window i;
-  roundTrip = j .rtt i;
-}
 
 pub block-checked : (l : Link) (records : List Record) (acks : List ℕ) (k g s r p : Bool)
     → k ≡ countsFit l → k ≡ true

@@ -1,20 +1,18 @@
 -- The state that a control block stands for, with the records of its outstanding segments and the lent ack list.
 -- Assumes nothing.
-use mathlib.Core.Path.{_≡_}
 use mathlib.Core.Bool.{Bool, not, _&&_}
 use mathlib.Core.List.{List, [], _∷_}
 use Prim.Native.Nat.{ℕ, zero, suc}
 use lib.Dec.{leb, eqb}
 use Rattle.protocol.specs.Protocol.{sendSlots, sendWindow, receiveWindow, acksMost}
 use Rattle.timing.specs.declared.Record.{Record}
-use Rattle.lists.specs.Views.{heldOf, waitingOf, outstandingOf, sentOf, SentIs}
+use Rattle.lists.specs.Views.{heldOf, waitingOf, outstandingOf}
 use Rattle.lists.specs.Joining.{joined}
 use Rattle.lists.specs.declared.HeldList.{HeldList}
 use Rattle.lists.specs.declared.Receiving as lists
 use Rattle.session.specs.State.{Ack, Sending, Receiving, State}
 use Rattle.session.specs.Valid.{valid}
 use Rattle.block.specs.declared.Link.{Link}
-use Rattle.block.specs.declared.Flight.{Flight}
 use Rattle.block.specs.declared.StoredFlight.{StoredFlight}
 
 -- a flag is set where it is not 0
@@ -28,12 +26,7 @@ pairs (suc n) [] = []
 pairs (suc n) (a ∷ []) = []
 pairs (suc n) (a ∷ b ∷ l) = record { sn = a; ts = b } ∷ pairs n l
 
--- the sending half: queued segments and segments in flight
-abbrev pub sendingOf : HeldList → Flight → Sending
-sendingOf queued f =
-    record { una = f .una; next = f .next; queued = heldOf queued; outstanding = sentOf (f .outstanding); window = f .window; roundTrip = f .rtt }
-
--- the same of segments in flight as the block keeps them, with their records
+-- the sending half: queued segments, and segments in flight with their records
 abbrev pub storedOf : HeldList → StoredFlight → List Record → Sending
 storedOf queued f records =
     record { una = f .una; next = f .next; queued = heldOf queued; outstanding = joined (outstandingOf (f .outstanding)) records; window = f .window; roundTrip = f .rtt }
@@ -41,14 +34,6 @@ storedOf queued f records =
 -- the receiving half, with the acks noted and whether a tell is wanted
 abbrev pub receivingOf : lists.Receiving → List Ack → Bool → Receiving
 receivingOf r acks tell = record { next = r .next; ready = heldOf (r .ready); waiting = waitingOf (r .waiting); acks = acks; tell = tell }
-
--- a flight is a stored one with these records
-pub record Joins (s : StoredFlight) (records : List Record) (f : Flight) : Type 0 where
-  pub una : f .una ≡ s .una
-  pub next : f .next ≡ s .next
-  pub rtt : f .rtt ≡ s .rtt
-  pub window : f .window ≡ s .window
-  pub outstanding : SentIs (f .outstanding) (joined (outstandingOf (s .outstanding)) records)
 
 -- the state of a link
 unfoldable pub stateOf : Link → List Record → List ℕ → State

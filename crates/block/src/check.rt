@@ -1,10 +1,8 @@
 // The check of a control block: refusal 13.
-use crate::Flight;
 use crate::Link;
 use crate::StoredFlight;
 use lists::HeldList;
 use lists::Receiving;
-use lists::outstanding_list;
 use lists::waiting_list;
 use protocol::Protocol;
 use protocol::Settings;
@@ -21,10 +19,10 @@ ghost use Rattle.lists.specs.Joining.{joined};
 ghost use Rattle.lists.specs.Acknowledging.{firstNumberOr};
 ghost use Rattle.session.specs.State.{Ack};
 ghost use Rattle.session.specs.Valid.{settled, sendingValid, receivingValid};
-ghost use Rattle.block.specs.Views.{storedOf, receivingOf, Joins, countsFit, blockValid};
+ghost use Rattle.block.specs.Views.{storedOf, receivingOf, countsFit, blockValid};
 
 // The first outstanding number; with none outstanding, snd_nxt.
-fn first_number(flight: StoredFlight, records: [Record; 32]) -> u32
+pub fn first_number(flight: StoredFlight, records: [Record; 32]) -> u32
     requires { ⌜ flight .outstanding .count ≤ 32 ⌝ }
     ensures { λ r. ⌜ r ≡ firstNumberOr (joined (outstandingOf (flight .outstanding)) records) (flight .next) ⌝ }
 {
@@ -77,23 +75,6 @@ fn receiving_valid(settings: Settings, receiving: Receiving) -> bool
     let ready = validity::check_held(Marks::new(), receiving.ready, Protocol::RECEIVE_SLOTS, mss);
     let all = validity::check_waiting(ready, receiving.waiting, mss, receiving.next);
     all.once & settled(receiving)
-}
-
-// The segments in flight with their records.
-pub fn flight_of(stored: StoredFlight, records: [Record; 32]) -> Flight
-    requires { ⌜ stored .outstanding .count ≤ 32 ⌝ }
-    ensures { λ r. ⌜ Joins stored records r ⌝ }
-{
-    let list = stored.outstanding;
-    let rtt = stored.rtt;
-    let outstanding = outstanding_list::joined(list, records);
-    Flight {
-        una: stored.una,
-        next: stored.next,
-        rtt,
-        window: stored.window,
-        outstanding,
-    }
 }
 
 // Each count is within what its array holds.

@@ -4,13 +4,13 @@ pub mod check;
 use lists::HeldList;
 use lists::OutstandingList;
 use lists::Receiving;
-use lists::SentList;
 use protocol::Settings;
 use timing::ProbeClock;
 use timing::RoundTrip;
 ghost use mathlib.Core.Path.{_≡_};
 
-// The segments in flight as the block keeps them: their records are in the lent table.
+// The segments in flight: snd_una, snd_nxt, the round trip, the peer's last window, and the outstanding segments, whose records
+// are in the lent table.
 #[repr(C)]
 pub struct StoredFlight {
     pub una: u32,
@@ -18,15 +18,6 @@ pub struct StoredFlight {
     pub rtt: RoundTrip,
     pub window: u16,
     pub outstanding: OutstandingList,
-}
-
-// The same with their records: snd_una, snd_nxt, the round trip, the peer's last window, and the outstanding segments.
-pub struct Flight {
-    pub una: u32,
-    pub next: u32,
-    pub rtt: RoundTrip,
-    pub window: u16,
-    pub outstanding: SentList,
 }
 
 // The control block. Flags are 0 or, set, anything else, so every byte pattern is a block. What stands in a list past its

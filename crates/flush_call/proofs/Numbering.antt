@@ -9,17 +9,16 @@ use lib.Seq.{length-take-le}
 use Rattle.protocol.specs.Serial.{plus}
 use Rattle.timing.specs.declared.Record.{Record}
 use Rattle.lists.specs.Views.{heldOf, outstandingOf, HeldIs}
-use Rattle.lists.specs.Joining.{joined}
+use Rattle.lists.specs.Joining.{joined, JoinedIs}
+use Rattle.lists.specs.JoiningLaws.{length-joined, take-joined}
 use Rattle.lists.specs.declared.HeldList.{HeldList}
 use Rattle.lists.specs.declared.Split.{Split}
 use Rattle.lists.proofs.Loops.{holds-as}
 use Rattle.session.specs.Flushing.{numbered, numberedCount, withNumbered}
 use Rattle.block.specs.declared.Link.{Link}
-use Rattle.flushing.specs.Joins.{JoinedIs}
 use Rattle.flushing.specs.Numbering.{countOf}
 use Rattle.flushing.specs.FlushLaws.{count-of}
 use Rattle.flushing.specs.ValidLaws.{valid-few}
-use Rattle.flushing.proofs.JoinedLaws.{length-joined, take-joined}
 use Rattle.flush_call.specs.Parts.{sendingFrom, withSending, Numberable, Numbers}
 
 module _ (l : Link) (records : List Record) (k : ℕ) (queued-whole : length (l .queued .at) ≡ 128) (n : Numberable l records)

@@ -12,7 +12,7 @@ use Rattle.protocol.specs.declared.Refusal.{Refusal}
 use Rattle.timing.specs.declared.Record.{Record}
 use Rattle.timing.specs.declared.ProbeClock.{ProbeClock}
 use Rattle.lists.specs.Views.{heldOf, outstandingOf, HeldIs}
-use Rattle.lists.specs.Joining.{joined}
+use Rattle.lists.specs.Joining.{joined, JoinedIs}
 use Rattle.lists.specs.declared.HeldList.{HeldList}
 use Rattle.lists.specs.declared.OutstandingList.{OutstandingList}
 use Rattle.session.specs.State.{Sending}
@@ -21,7 +21,6 @@ use Rattle.session.specs.Flushing.{numberedCount, withNumbered}
 use Rattle.block.specs.Views.{isSet}
 use Rattle.block.specs.declared.Link.{Link}
 use Rattle.flushing.specs.declared.Flush.{Flush}
-use Rattle.flushing.specs.Joins.{JoinedIs}
 use Rattle.answers.specs.declared.Count.the-variants.{Refused}
 use Rattle.flush_call.specs.declared.Flushed.{Flushed}
 use Rattle.flush_call.specs.declared.parts.Numbered.{Numbered}

@@ -1,4 +1,3 @@
-pub mod JoinedLaws
 pub mod ControlLaws
 pub mod DataLaws
 pub mod WalkLaws

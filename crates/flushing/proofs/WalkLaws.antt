@@ -15,6 +15,7 @@ use Rattle.lists.specs.declared.Sent.{Sent}
 use Rattle.lists.specs.declared.Outstanding.{Outstanding}
 use Rattle.lists.specs.declared.OutstandingList.{OutstandingList}
 use Rattle.lists.specs.Joining.{withRecord, joined, withoutRecord}
+use Rattle.lists.specs.JoiningLaws.{take-joined, get-joined, set-joined, joined-is}
 use Rattle.lists.proofs.Loops.{Packed, packed-start, packed-put, packed-next, packed-done, view-end}
 use Rattle.datagram.specs.Datagrams.{Segment}
 use Rattle.session.specs.Decides.{All}
@@ -24,7 +25,6 @@ use Rattle.packing.specs.Packers.{Fills, Room, Adds}
 use Rattle.packing.specs.PackerLaws.{adds-none, adds-append, adds-as, room-left}
 use Rattle.flushing.specs.declared.Flush.{Flush}
 use Rattle.flushing.specs.Writing.{ruleOf, afterFlush, sentBy, dataOf, InSlot, AllInSlots, Walks}
-use Rattle.flushing.proofs.JoinedLaws.{take-joined, get-joined, set-joined, joined-is}
 
 -- ---- lists
 

@@ -11,7 +11,7 @@ use Rattle.session.specs.State.{State}
 use Rattle.session.specs.Flushing.{carried, numberedCount, withNumbered, flushing}
 use Rattle.flushing.specs.declared.Flush.{Flush}
 use Rattle.flushing.specs.declared.Written.{Written}
-use Rattle.flushing.specs.Joins.{JoinedIs}
+use Rattle.lists.specs.Joining.{JoinedIs}
 
 -- f has the parts of the state s by which its flush at t goes
 pub record FlushOf (s : State) (t : ℕ) (f : Flush) : Type 0 where

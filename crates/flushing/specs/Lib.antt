@@ -1,5 +1,4 @@
 pub mod Numbering
-pub mod Joins
 pub mod Writing
 pub mod Flushes
 pub mod FlushLaws

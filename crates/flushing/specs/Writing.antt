@@ -13,7 +13,7 @@ use Rattle.lists.specs.declared.Held.{Held}
 use Rattle.lists.specs.declared.Sent.{Sent}
 use Rattle.lists.specs.declared.OutstandingList.{OutstandingList}
 use Rattle.lists.specs.Views.{outstandingOf}
-use Rattle.lists.specs.Joining.{joined}
+use Rattle.lists.specs.Joining.{joined, JoinedIs}
 use Rattle.datagram.specs.Datagrams.{Segment}
 use Rattle.session.specs.State.{Ack}
 use Rattle.session.specs.Decides.{All}
@@ -23,7 +23,6 @@ use Rattle.packing.specs.Packers.{carriedOf, Output, bytesOfDatagrams, Adds}
 use Rattle.flushing.specs.declared.Flush.{Flush}
 use Rattle.flushing.specs.declared.Walked.{Walked}
 use Rattle.flushing.specs.declared.Written.{Written}
-use Rattle.flushing.specs.Joins.{JoinedIs}
 
 -- ---- the outstanding segments
 

@@ -11,10 +11,9 @@ ghost use mathlib.Core.List.{_++_};
 ghost use Prim.Native.Nat.{_+_, _≤_, min};
 ghost use lib.ListN.{take};
 ghost use Rattle.lists.specs.Views.{heldOf, outstandingOf};
-ghost use Rattle.lists.specs.Joining.{joined};
+ghost use Rattle.lists.specs.Joining.{joined, JoinedIs};
 ghost use Rattle.session.specs.Flushing.{numbered};
 ghost use Rattle.flushing.specs.Numbering.{countOf};
-ghost use Rattle.flushing.specs.Joins.{JoinedIs};
 
 fn least(a: usize, b: usize) -> usize
     ensures { λ r. ⌜ r ≡ min a b ⌝ }

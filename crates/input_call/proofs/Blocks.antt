@@ -7,54 +7,29 @@ use Prim.Native.Nat.{ℕ, _*_, _≤_, _<_}
 use native.Mathlib.Omega.{arith}
 use borrow.Author.Tests.{le-leb, ltb-true, eqb-true}
 use lib.Dec.{ltb, eqb}
-use lib.ListN.{length, drop, take-append-drop}
+use lib.ListN.{length}
 use Rattle.protocol.specs.Protocol.{sendSlots, receiveSlots, receiveWindow, acksMost}
 use Rattle.protocol.specs.Ranges.{mss}
 use Rattle.timing.specs.declared.Record.{Record}
-use Rattle.lists.specs.Views.{heldOf, sentOf, waitingOf}
-use Rattle.lists.specs.Joining.{SplitIs}
-use Rattle.lists.specs.JoiningLaws.{joined-split}
+use Rattle.lists.specs.Views.{heldOf, waitingOf}
 use Rattle.lists.specs.Orders.{waitingOffset}
 use Rattle.lists.specs.Receiving.{startsAt}
 use Rattle.lists.specs.declared.Held.{Held}
 use Rattle.lists.specs.declared.Waiting.{Waiting}
-use Rattle.lists.specs.declared.Split.{Split}
 use Rattle.sizes.specs.Sizes.{enough}
 use Rattle.sizes.specs.declared.Lengths.{Lengths}
 use Rattle.session.specs.Decides.{and-parts, leb-decides, and-decides}
 use Rattle.session.specs.Ascending.{ascending-decides}
 use Rattle.session.specs.IsValid.{valid-decides}
 use Rattle.session.specs.ReceivingValid.{StartsAt}
-use Rattle.block.specs.Views.{isSet, pairs, receivingOf, stateOf, countsFit, blockValid, Joins}
+use Rattle.block.specs.Views.{isSet, stateOf, countsFit, blockValid}
 use Rattle.block.specs.declared.Link.{Link}
-use Rattle.block.specs.declared.Flight.{Flight}
 use Rattle.block.specs.declared.StoredFlight.{StoredFlight}
-use Rattle.block.proofs.Whole.{counts, sending-state}
+use Rattle.block.proofs.Whole.{counts}
 use Rattle.receiving.specs.Halves.{Sound}
 use Rattle.receiving.specs.declared.Half.{Half}
-use Rattle.input_call.specs.Taking.{halfOf, Stores, WithHalves, Hears}
+use Rattle.input_call.specs.Taking.{halfOf, WithHalves, Hears}
 use Rattle.input_call.proofs.Heard.{Rest, stateWith}
-
--- ---- the segments in flight
-
--- what is split is joined again
-pub stored : (f : Flight) (p : Split) → f .outstanding .count ≤ 32 → SplitIs p (sentOf (f .outstanding))
-    → Stores f (record { flight = record { una = f .una; next = f .next; rtt = f .rtt; window = f .window; outstanding = p .outstanding }; records = p .records })
-stored f p few s =
-    let n = p .outstanding .count in
-    record {
-      joins = record {
-        una = refl;
-        next = refl;
-        rtt = refl;
-        window = refl;
-        outstanding = record {
-          fits = few;
-          list = sym (joined-split (sentOf (f .outstanding)) (drop n (p .records))) ∙ rw (← s .outstanding .list, ← s .records .list, take-append-drop);
-        };
-      };
-      fits = s .outstanding .fits;
-    }
 
 -- ---- the block
 
@@ -63,28 +38,16 @@ abbrev pub restOf : Link → Rest
 restOf l = record { queued = l .queued; probe = l .probe; ask = isSet (l .ask); dead = isSet (l .dead) }
 
 -- the state of a block, by its halves
-pub state-by-halves : (l : Link) (records : List Record) (acks : List ℕ) (f : Flight) → Joins (l .flight) records f
-    → stateOf l records acks ≡ stateWith (restOf l) (l .settings) (l .current) f (halfOf l) acks
+pub state-by-halves : (l : Link) (records : List Record) (acks : List ℕ) → stateOf l records acks ≡ stateWith (restOf l) (l .settings) (l .current) (l .flight) records (halfOf l) acks
 unfolding stateOf
-state-by-halves l records acks f j = λ i. record {
-  settings = l .settings;
-  sending = sym (sending-state l records acks f j) i;
-  receiving = receivingOf (l .receiving) (pairs (l .acks) acks) (isSet (l .tell));
-  probe = l .probe;
-  current = l .current;
-  ask = isSet (l .ask);
-  dead = isSet (l .dead);
-}
+state-by-halves l records acks = refl
 
-module _ (l : Link) (s : StoredFlight) (h : Half) (l′ : Link) (w : WithHalves l s h l′) where
+module _ (l : Link) (f : StoredFlight) (h : Half) (l′ : Link) (w : WithHalves l f h l′) where
   -- the state of the block that is put together
-  pub state-after : (records : List Record) (acks : List ℕ) (f : Flight) → Joins s records f
-      → stateOf l′ records acks ≡ stateWith (restOf l) (l .settings) (l .current) f h acks
-  state-after records acks f j =
-      let j′ : Joins (l′ .flight) records f = rw (w .is) j in
-      state-by-halves l′ records acks f j′ ∙ rw (w .is, w .flag)
+  pub state-after : (records : List Record) (acks : List ℕ) → stateOf l′ records acks ≡ stateWith (restOf l) (l .settings) (l .current) f records h acks
+  state-after records acks = state-by-halves l′ records acks ∙ rw (w .is, w .flag)
 
-  pub counts-after : (m : ℕ) (acks pool : List ℕ) → countsFit l ≡ true → s .outstanding .count ≤ 32 → Sound h m acks pool → countsFit l′ ≡ true
+  pub counts-after : (m : ℕ) (acks pool : List ℕ) → countsFit l ≡ true → f .outstanding .count ≤ 32 → Sound h m acks pool → countsFit l′ ≡ true
   unfolding countsFit
   counts-after m acks pool k few u =
       rw (w .is, le-leb _ _ (counts l k .queued), le-leb _ _ few, le-leb _ _ (u .ready), le-leb _ _ (u .waiting), le-leb _ _ (u .noted))

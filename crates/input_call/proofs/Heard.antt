@@ -13,11 +13,12 @@ use Rattle.datagram.specs.StepLaws.{Begun, accepted, was-refused}
 use Rattle.datagram.specs.declared.Checked.{Checked}
 use Rattle.datagram.specs.declared.Checked.the-variants.{Accepted, Refused}
 use Rattle.timing.specs.declared.ProbeClock.{ProbeClock}
+use Rattle.timing.specs.declared.Record.{Record}
 use Rattle.lists.specs.declared.HeldList.{HeldList}
 use Rattle.session.specs.State.{State, Outcome, refused, done}
 use Rattle.session.specs.Input.{Receiver, applied, input}
-use Rattle.block.specs.Views.{pairs, sendingOf, receivingOf}
-use Rattle.block.specs.declared.Flight.{Flight}
+use Rattle.block.specs.Views.{pairs, storedOf, receivingOf}
+use Rattle.block.specs.declared.StoredFlight.{StoredFlight}
 use Rattle.acknowledging.specs.Flights as sending
 use Rattle.receiving.specs.Halves.{Sound}
 use Rattle.receiving.specs.Halves as receiving
@@ -30,12 +31,12 @@ pub record Rest : Type 0 where
   pub ask : Bool
   pub dead : Bool
 
--- the state of a link with these halves
-abbrev pub stateWith : Rest → Settings → ℕ → Flight → Half → List ℕ → State
-stateWith o c current f h acks =
+-- the state of a link with these segments in flight, their records and this receiving half
+abbrev pub stateWith : Rest → Settings → ℕ → StoredFlight → List Record → Half → List ℕ → State
+stateWith o c current f fs h acks =
     record {
       settings = c;
-      sending = sendingOf (o .queued) f;
+      sending = storedOf (o .queued) f fs;
       receiving = receivingOf (h .lists) (pairs (h .acks) acks) (h .tell);
       probe = o .probe;
       current = current;
@@ -44,9 +45,10 @@ stateWith o c current f h acks =
     }
 
 -- both halves have heard a datagram that is accepted
-pub record BothHear (c : Settings) (current : ℕ) (s : List ℕ) (f : Flight) (h : Half) (acks pool : List ℕ) (f′ : Flight) (h′ : Half) (acks′ pool′ : List ℕ) : Type 0 where
+pub record BothHear (c : Settings) (current : ℕ) (s : List ℕ) (f : StoredFlight) (fs : List Record) (h : Half) (acks pool : List ℕ)
+    (f′ : StoredFlight) (fs′ : List Record) (h′ : Half) (acks′ pool′ : List ℕ) : Type 0 where
   -- the state afterwards is the definition's, whatever the rest of the link's state is
-  pub outcome : (o : Rest) → input (stateWith o c current f h acks) pool s ≡ done (record { state = stateWith o c current f′ h′ acks′; pool = pool′ })
+  pub outcome : (o : Rest) → input (stateWith o c current f fs h acks) pool s ≡ done (record { state = stateWith o c current f′ fs′ h′ acks′; pool = pool′ })
   -- entries of the ack list behind its pairs are as they were
   pub beyond : drop (2 * h′ .acks) acks′ ≡ drop (2 * h′ .acks) acks
   -- counts are within the arrays, and the lent parts as long as they were
@@ -69,14 +71,14 @@ module _ (c : Settings) (m : ℕ) (s : List ℕ) (v : Checked) (e : v ≡ counte
       rw (k, p)
 
   -- it is accepted
-  pub both-hear : (current : ℕ) (f : Flight) (h : Half) (acks pool : List ℕ) (n : ℕ) → v ≡ Accepted n
-      → (f′ : Flight) → sending.HearsAll c current s f f′
+  pub both-hear : (current : ℕ) (f : StoredFlight) (fs : List Record) (h : Half) (acks pool : List ℕ) (n : ℕ) → v ≡ Accepted n
+      → (f′ : StoredFlight) (fs′ : List Record) → sending.HearsAll c current s f fs f′ fs′
       → (h′ : Half) (acks′ pool′ : List ℕ) → receiving.HearsAll c s h acks pool h′ acks′ pool′
-      → BothHear c current s f h acks pool f′ h′ acks′ pool′
+      → BothHear c current s f fs h acks pool f′ fs′ h′ acks′ pool′
   unfolding input applied
-  both-hear current f h acks pool n r f′ a h′ acks′ pool′ k = go (begun n r)
+  both-hear current f fs h acks pool n r f′ fs′ a h′ acks′ pool′ k = go (begun n r)
     where
-      go : Begun (c .conv) (mss c) s n → BothHear c current s f h acks pool f′ h′ acks′ pool′
+      go : Begun (c .conv) (mss c) s n → BothHear c current s f fs h acks pool f′ fs′ h′ acks′ pool′
       go b =
           let x = a (b .all) (b .parsed) in
           let y = k (b .all) (b .parsed) in

@@ -11,13 +11,12 @@ use Rattle.timing.specs.declared.Record.{Record}
 use Rattle.session.specs.State.{State, Outcome, refused, done}
 use Rattle.session.specs.Input.{Took, input}
 use Rattle.answers.specs.declared.Answer.the-variants.{Accepted, Refused}
-use Rattle.block.specs.Views.{stateOf, countsFit, Joins}
+use Rattle.block.specs.Views.{stateOf, countsFit}
 use Rattle.block.specs.declared.Link.{Link}
-use Rattle.block.specs.declared.Flight.{Flight}
+use Rattle.block.specs.declared.StoredFlight.{StoredFlight}
 use Rattle.receiving.specs.declared.Half.{Half}
 use Rattle.calls.specs.Outcomes.{checked}
-use Rattle.input_call.specs.Taking.{halfOf, Stores, WithHalves, Kept, Leaves}
-use Rattle.input_call.specs.declared.Stored.{Stored}
+use Rattle.input_call.specs.Taking.{halfOf, WithHalves, Kept, Leaves}
 use Rattle.input_call.specs.declared.Taken.{Taken}
 use Rattle.input_call.proofs.Heard.{stateWith, BothHear}
 use Rattle.input_call.proofs.Blocks.{restOf, state-by-halves, state-after, counts-after}
@@ -33,21 +32,20 @@ unfolding stateOf
 same-settings l records acks = refl
 
 -- the block's halves have heard the datagram s
-module _ (l : Link) (records : List Record) (pool acks s pool′ acks′ : List ℕ) (f : Flight) (j : Joins (l .flight) records f)
-    (f′ : Flight) (h′ : Half) (k : BothHear (l .settings) (l .current) s f (halfOf l) acks pool f′ h′ acks′ pool′) where
+module _ (l : Link) (records : List Record) (pool acks s pool′ acks′ : List ℕ) (f′ : StoredFlight) (records′ : List Record) (h′ : Half)
+    (k : BothHear (l .settings) (l .current) s (l .flight) records (halfOf l) acks pool f′ records′ h′ acks′ pool′) where
   -- the definition's outcome
-  outcome : input (stateOf l records acks) pool s ≡ done (record { state = stateWith (restOf l) (l .settings) (l .current) f′ h′ acks′; pool = pool′ })
-  outcome = ap (λ (x : State). input x pool s) (state-by-halves l records acks f j) ∙ k .outcome (restOf l)
+  outcome : input (stateOf l records acks) pool s ≡ done (record { state = stateWith (restOf l) (l .settings) (l .current) f′ records′ h′ acks′; pool = pool′ })
+  outcome = ap (λ (x : State). input x pool s) (state-by-halves l records acks) ∙ k .outcome (restOf l)
 
-  pub accepts : (st : Stored) → Stores f′ st → (l′ : Link) → WithHalves l (st .flight) h′ l′
-      → countsFit l ≡ true → length acks′ ≡ length acks
-      → Leaves (input (stateOf l records acks) pool s) l records pool acks (record { answer = Accepted; link = l′; records = st .records }) pool′ acks′
-  accepts st p l′ w c long =
+  pub accepts : (l′ : Link) → WithHalves l f′ h′ l′ → countsFit l ≡ true → length acks′ ≡ length acks
+      → Leaves (input (stateOf l records acks) pool s) l records pool acks (record { answer = Accepted; link = l′; records = records′ }) pool′ acks′
+  accepts l′ w c long =
       rw outcome
       (record {
         answer = refl;
-        counts = counts-after l (st .flight) h′ l′ w _ acks′ pool′ c (p .fits) (k .sound);
-        state = state-after l (st .flight) h′ l′ w (st .records) acks′ f′ (p .joins);
+        counts = counts-after l f′ h′ l′ w _ acks′ pool′ c (k .few) (k .sound);
+        state = state-after l f′ h′ l′ w records′ acks′;
         pool-after = refl;
         ack-length = long;
         ack-rest = rw (ap (λ (y : Link). y .acks) (w .is)) (k .beyond);

@@ -3,20 +3,18 @@
 use mathlib.Core.Path.{_≡_}
 use mathlib.Core.Bool.{true}
 use mathlib.Core.List.{List}
-use Prim.Native.Nat.{ℕ, _*_, _≤_}
+use Prim.Native.Nat.{ℕ, _*_}
 use lib.ListN.{length, drop}
 use Rattle.protocol.specs.Ranges.{mss}
 use Rattle.timing.specs.declared.Record.{Record}
 use Rattle.session.specs.State.{Outcome, refused, done}
 use Rattle.session.specs.Input.{Took}
 use Rattle.answers.specs.declared.Answer.the-variants.{Accepted, Refused}
-use Rattle.block.specs.Views.{isSet, stateOf, countsFit, Joins}
+use Rattle.block.specs.Views.{isSet, stateOf, countsFit}
 use Rattle.block.specs.declared.Link.{Link}
-use Rattle.block.specs.declared.Flight.{Flight}
 use Rattle.block.specs.declared.StoredFlight.{StoredFlight}
 use Rattle.receiving.specs.Halves.{Sound}
 use Rattle.receiving.specs.declared.Half.{Half}
-use Rattle.input_call.specs.declared.Stored.{Stored}
 use Rattle.input_call.specs.declared.Taken.{Taken}
 
 -- ---- the parts of a block
@@ -24,11 +22,6 @@ use Rattle.input_call.specs.declared.Taken.{Taken}
 -- the receiving half of a block
 abbrev pub halfOf : Link → Half
 halfOf l = record { lists = l .receiving; acks = l .acks; tell = isSet (l .tell) }
-
--- stored segments that, joined with their records, are this flight
-pub record Stores (f : Flight) (s : Stored) : Type 0 where
-  pub joins : Joins (s .flight) (s .records) f
-  pub fits : s .flight .outstanding .count ≤ 32
 
 -- the block with other segments in flight and another receiving half, all else as it was
 pub record WithHalves (l : Link) (f : StoredFlight) (h : Half) (l′ : Link) : Type 0 where

@@ -1,57 +1,25 @@
 // Taking in a datagram, with the records of the outstanding segments by value.
 use answers::Answer;
-use block::Flight;
 use block::Link;
 use block::StoredFlight;
 use block::check;
 use calls::flags;
 use datagram::Checked;
-use lists::outstanding_list;
 use protocol::Refusal;
 use receiving::Half;
 use sizes::Lengths;
 use timing::Record;
-ghost use Prim.Native.Nat.{_≤_};
 ghost use Rattle.calls.specs.Parts.{lentLengths};
 ghost use Rattle.calls.specs.Outcomes.{takesInWith};
 ghost use Rattle.session.specs.Input.{input};
 ghost use Rattle.block.specs.Views.{stateOf};
-ghost use Rattle.input_call.specs.Taking.{Stores, WithHalves, Hears, Leaves};
+ghost use Rattle.input_call.specs.Taking.{WithHalves, Hears, Leaves};
 
 // The answer of taking in, the block after it, and the records of its outstanding segments.
 pub struct Taken {
     pub answer: Answer,
     pub link: Link,
     pub records: [Record; 32],
-}
-
-// The segments in flight as the block keeps them, and their records apart.
-struct Stored {
-    flight: StoredFlight,
-    records: [Record; 32],
-}
-
-// The segments in flight, taken apart.
-fn store(flight: Flight) -> Stored
-    requires { ⌜ flight .outstanding .count ≤ 32 ⌝ }
-    ensures { λ r. ⌜ Stores flight r ⌝ }
-{
-    let sent = flight.outstanding;
-    let rtt = flight.rtt;
-    let apart = outstanding_list::split(sent);
-    let outstanding = apart.outstanding;
-    let records = apart.records;
-    let stored = StoredFlight {
-        una: flight.una,
-        next: flight.next,
-        rtt,
-        window: flight.window,
-        outstanding,
-    };
-    Stored {
-        flight: stored,
-        records,
-    }
 }
 
 // The block with other segments in flight and another receiving half.
@@ -89,8 +57,7 @@ fn hear(
             records,
         };
     }
-    let flight = check::flight_of(link.flight, records);
-    let sent = store(acknowledging::hear(flight, link.settings, link.current, datagram));
+    let sent = acknowledging::hear(link.flight, records, link.settings, link.current, datagram);
     let lists = link.receiving;
     let half = Half {
         lists,

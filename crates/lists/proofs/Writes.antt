@@ -10,7 +10,6 @@ use native.Mathlib.Omega.{arith}
 use lib.Seq.{take-take, drop-cons}
 use Rattle.lists.specs.declared.Outstanding.{Outstanding}
 use Rattle.timing.specs.declared.Record.{Record}
-use Rattle.lists.specs.declared.Sent.{Sent}
 use Rattle.lists.specs.Acknowledging.{select}
 use Rattle.lists.specs.Joining.{withRecord, joined}
 use Rattle.lists.proofs.Loops.{Written, Packed, written-put, packed-start, packed-put, packed-skip, packed-next, view-next, view-end}
@@ -57,11 +56,6 @@ unfolding joined
 joined-next os rs n i o r h g e =
     let q : i < length rs = omega arith in
     rw (view-next os n i o h g, drop-cons rs i r q ∙ ap (λ (k : ℕ). getD rs i r ∷ drop k rs) (sym (add-one i)))
-
--- it is brought
-pub written-join : {size : ℕ} {l goal : List Sent} (os : List Outstanding) (rs : List Record) (n i : ℕ) (o : Outstanding) (r : Record) → i < n → n ≤ length os → n ≤ length rs → i < size
-    → Written size l (joined (drop i (take n os)) (drop i rs)) goal i → Written size (set l i (withRecord (getD os i o) (getD rs i r))) (joined (drop (i + 1) (take n os)) (drop (i + 1) rs)) goal (i + 1)
-written-join os rs n i o r h g e b w = written-put b (rw (joined-next os rs n i o r h g e) at w)
 
 pub joined-end : (os : List Outstanding) (rs : List Record) (n i : ℕ) → n ≤ i → joined (drop i (take n os)) rs ≡ []
 unfolding joined

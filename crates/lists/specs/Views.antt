@@ -11,7 +11,6 @@ use Rattle.lists.specs.declared.Sent.{Sent}
 use Rattle.lists.specs.declared.HeldList.{HeldList}
 use Rattle.lists.specs.declared.WaitingList.{WaitingList}
 use Rattle.lists.specs.declared.OutstandingList.{OutstandingList}
-use Rattle.lists.specs.declared.SentList.{SentList}
 
 -- the front of an array, up to a count: what stands past it is not state
 abbrev pub listOf : {A : Type 0} → List A → ℕ → List A
@@ -25,9 +24,6 @@ waitingOf s = listOf (s .at) (s .count)
 
 abbrev pub outstandingOf : OutstandingList → List Outstanding
 outstandingOf s = listOf (s .at) (s .count)
-
-abbrev pub sentOf : SentList → List Sent
-sentOf s = listOf (s .at) (s .count)
 
 -- the segment as its slot holds it
 abbrev pub waitingPart : Waiting → Held
@@ -52,6 +48,3 @@ WaitingIs s = Holds 128 (s .at) (s .count)
 
 abbrev pub OutstandingIs : OutstandingList → List Outstanding → Type 0
 OutstandingIs s = Holds 32 (s .at) (s .count)
-
-abbrev pub SentIs : SentList → List Sent → Type 0
-SentIs s = Holds 32 (s .at) (s .count)

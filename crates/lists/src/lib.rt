@@ -1,14 +1,12 @@
 // The lists of the control block: segments queued, outstanding, ready and waiting. A list is the front of an array, in
 // list order, up to its count; what stands past the count is not state.
 pub mod held_list;
-pub mod outstanding_list;
 pub mod reorder;
-pub mod sent_list;
 pub mod waiting_list;
 
 use timing::Record;
 ghost use mathlib.Core.List.{[]};
-ghost use Rattle.lists.specs.Views.{HeldIs, WaitingIs, OutstandingIs, SentIs};
+ghost use Rattle.lists.specs.Views.{HeldIs, WaitingIs, OutstandingIs};
 
 // A segment held in a slot of a pool: its slot, its length in bytes and its fragment number.
 #[repr(C)]
@@ -55,12 +53,6 @@ pub struct WaitingList {
 #[repr(C)]
 pub struct OutstandingList {
     pub at: [Outstanding; 32],
-    pub count: usize,
-}
-
-#[repr(C)]
-pub struct SentList {
-    pub at: [Sent; 32],
     pub count: usize,
 }
 
@@ -126,28 +118,6 @@ impl OutstandingList {
             transmissions: 0,
         };
         OutstandingList {
-            at: [blank; 32],
-            count: 0,
-        }
-    }
-}
-
-impl SentList {
-    pub fn new() -> Self
-        ensures { λ r. ⌜ SentIs r [] ⌝ }
-    {
-        let record = Record {
-            number: 0,
-            due: 0,
-            timeout: 0,
-            skips: 0,
-        };
-        let blank = Sent {
-            held: BLANK,
-            transmissions: 0,
-            record,
-        };
-        SentList {
             at: [blank; 32],
             count: 0,
         }

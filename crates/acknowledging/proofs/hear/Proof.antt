@@ -6,18 +6,19 @@ use lib.ListN.{length}
 use Rattle.datagram.specs.Datagrams.{stepAt}
 use Rattle.datagram.specs.declared.Step.the-variants as step
 use Rattle.acknowledging.proofs.Hearing.{heard-some, heard-none}
+use Rattle.acknowledging.proofs.Skips.{skips-are, no-skips}
 use Rattle.acknowledging.proofs.Walks.{Walking, walking-start, walking-less, walking-more, walking-end}
 use Rattle.acknowledging.proofs.hear.Statement.{statement}
 use Rattle.acknowledging.proofs.hear.Tie as tie
 
 abbrev Inv-loop : tie.InvT-loop
-Inv-loop settings current s f₀ furthest₀ at₀ f furthest at = Walking settings current s f₀ f furthest at
+Inv-loop settings current s f₀ rs₀ furthest₀ at₀ f rs furthest at = Walking settings current s f₀ rs₀ f rs furthest at
 
 abbrev μ-loop : tie.MeasureT-loop
-μ-loop settings current s f₀ furthest₀ at₀ f furthest at = length s - at
+μ-loop settings current s f₀ rs₀ furthest₀ at₀ f rs furthest at = length s - at
 
 loop-holds : tie.Need-loop-holds Inv-loop μ-loop
-loop-holds c = let a = c .before .before in rw (c .new .ensures) (walking-start _ _ _ _ (a .pre .0) _ (a .pre .1 .1))
+loop-holds c = let a = c .before .before in rw (c .new .ensures) (walking-start _ _ _ _ _ (a .pre .0) _ (a .pre .1 .1))
 
 -- a segment was found
 found : (c : tie.After-known-told Inv-loop μ-loop) →
@@ -27,34 +28,48 @@ found c = sym (c .before .before .before .segment-at .ensures) ∙ c .before .st
 
 loop-less : tie.Need-loop-less Inv-loop μ-loop
 loop-less c =
-    let k = c .before .before .before .before .before .before .before in
-    walking-less _ _ _ _ _ _ _ (k .before .before .before .before .loop .inv) _ _ _ (found k)
+    let k = c .before .before .before .before .before .before .before .before .before in
+    walking-less _ _ _ _ _ _ _ _ _ (k .before .before .before .before .loop .inv) _ _ _ (found k)
 
 loop-less-2 : tie.Need-loop-less-2 Inv-loop μ-loop
 loop-less-2 c =
     let k = c .before .before .before .before .before in
-    walking-less _ _ _ _ _ _ _ (k .before .before .before .before .loop .inv) _ _ _ (found k)
+    walking-less _ _ _ _ _ _ _ _ _ (k .before .before .before .before .loop .inv) _ _ _ (found k)
 
 loop-again : tie.Need-loop-again Inv-loop μ-loop
 loop-again c =
-    let t = c .before .before .before .before in
+    let left = c .before .before .before in
+    let t = left .before .before .before in
     let a = t .before .before in
     let k = a .before in
-    walking-more _ _ _ _ _ _ _ (k .before .before .before .before .loop .inv) _ _ _ (found k) _ _ (a .after .ensures)
-    (heard-some _ _ _ _ _ (t .timed .ensures) _ _ (c .before .remaining .ensures) (c .first-number-or .ensures))
+    walking-more _ _ _ _ _ _ _ _ _ (k .before .before .before .before .loop .inv) _ _ _ (found k) _ _ _ (a .after .ensures)
+    (heard-some _ _ _ _ _ _ (t .timed .ensures) _ _ _ (left .remaining .ensures) (c .first-number .ensures))
 
 loop-again-2 : tie.Need-loop-again-2 Inv-loop μ-loop
 loop-again-2 c =
     let t = c .before .before in
     let a = t .before .before in
     let k = a .before in
-    walking-more _ _ _ _ _ _ _ (k .before .before .before .before .loop .inv) _ _ _ (found k) _ _ (a .after .ensures)
-    (heard-none _ _ _ _ _ (t .timed .ensures) (c .if1 .left))
+    walking-more _ _ _ _ _ _ _ _ _ (k .before .before .before .before .loop .inv) _ _ _ (found k) _ _ _ (a .after .ensures)
+    (heard-none _ _ _ _ _ _ (t .timed .ensures) (c .if2 .left))
+
+-- none is left
+ended : (c : tie.After-enum-told Inv-loop μ-loop) → let l = c .before .before .before in (stepAt (l .before .before .before .args .s .now) (l .loop .at) ≡ step.End)
+ended c = sym (c .before .before .segment-at .ensures) ∙ c .enum-told .given .1
 
 returns : tie.Need-returns Inv-loop μ-loop
 returns c =
-    let l = c .before .before .before .before in
-    walking-end _ _ _ _ _ _ _ (l .loop .inv) (sym (c .before .before .before .segment-at .ensures) ∙ c .before .enum-told .given .1) _ (c .skip .ensures)
+    let n = c .before .before .before in
+    let e = n .before in
+    let w = e .before .before .before .loop .inv in
+    walking-end _ _ _ _ _ _ _ _ _ w (ended e) _ _ (skips-are _ _ _ _ (w .few) (n .counts .ensures) _ (c .before .if1 .taken) (c .skip-before .ensures))
+
+returns-2 : tie.Need-returns-2 Inv-loop μ-loop
+returns-2 c =
+    let n = c .before .before in
+    let e = n .before in
+    let w = e .before .before .before .loop .inv in
+    walking-end _ _ _ _ _ _ _ _ _ w (ended e) _ _ (no-skips _ _ _ _ (w .few) (n .counts .ensures) (c .if1 .left))
 
 pub hear-spec : {M : Type 1} → statement M
 hear-spec =
@@ -67,12 +82,14 @@ hear-spec =
     (λ c κs. tt)
     (λ c. c .match .keys1)
     (λ c. c .match .keys2)
-    (λ c κs. c .before .before .before .loop .inv .few)
+    (λ c κs. tt)
+    (λ c κs. c .before .before .before .before .before .before .loop .inv .few)
     returns
+    returns-2
     (λ c κs. tt)
     (λ c κs. tt)
     (λ c κs. c .before .before .before .before .before .before .before .before .before .loop .inv .few)
-    (λ c κs. c .remaining .ensures .fits)
+    (λ c κs. c .before .before .remaining .ensures .fits)
     loop-less
     loop-again
     loop-less-2

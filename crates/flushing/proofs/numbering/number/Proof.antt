@@ -13,11 +13,10 @@ use Rattle.lists.specs.declared.Held.{Held}
 use Rattle.lists.specs.declared.Outstanding.{Outstanding}
 use Rattle.lists.specs.declared.OutstandingList.{OutstandingList}
 use Rattle.lists.specs.declared.Sent.{Sent}
-use Rattle.lists.specs.Joining.{joined}
+use Rattle.lists.specs.Joining.{joined, JoinedIs}
+use Rattle.lists.specs.JoiningLaws.{length-joined, take-joined, set-joined, joined-is}
 use Rattle.lists.proofs.Loops.{Written, written-start, written-put, written-done, view-next, view-end, length-mapped}
 use Rattle.session.specs.Flushing.{numbered}
-use Rattle.flushing.specs.Joins.{JoinedIs}
-use Rattle.flushing.proofs.JoinedLaws.{length-joined, take-joined, set-joined, joined-is}
 use Rattle.flushing.proofs.numbering.number.Statement.{statement}
 use Rattle.flushing.proofs.numbering.number.Tie as tie
 

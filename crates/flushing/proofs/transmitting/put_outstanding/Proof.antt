@@ -5,8 +5,8 @@ use Prim.Native.Nat.{_-_}
 use borrow.Author.Count.{falls}
 use borrow.Author.Needs.{needs}
 use Rattle.lists.specs.Joining.{joined}
+use Rattle.lists.specs.JoiningLaws.{length-joined, take-joined}
 use Rattle.lists.proofs.Loops.{length-mapped}
-use Rattle.flushing.proofs.JoinedLaws.{length-joined, take-joined}
 use Rattle.flushing.proofs.WalkLaws.{Walking, walking-start, walking-inside, walking-room, walking-more, walking-done}
 use Rattle.flushing.proofs.transmitting.put_outstanding.Statement.{statement}
 use Rattle.flushing.proofs.transmitting.put_outstanding.Tie as tie
