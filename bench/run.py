@@ -20,7 +20,7 @@ HERE = ROOT / "bench"
 WORK = ROOT / "target" / "bench"
 KCP_GO = pathlib.Path("/usr/share/gocode/src/github.com/xtaci/kcp-go")
 FLAGS = ["-std=c99", "-O2", "-Wall", "-Wextra", "-Wpedantic", "-Werror", "-Wl,-z,now", "-I", str(ROOT / "include")]
-TIMES = 3  # of the time pass; the least counts
+TIMES = 9  # of the time pass; the least counts
 WORST_DIVIDES = 20  # the worst pass keeps every call's time, so it is shorter
 
 WORKLOADS = {
@@ -138,7 +138,7 @@ def document(archive, divide, ours, theirs, calls):
         "32 and 128, mode 1, interval 10, fast threshold 2. Ratios are ours to kcp-go's core.",
         f"Machine: {processor()}, {os.cpu_count()} processors.", "", *short,
         "## Time", "",
-        "Processor time for a message (W5: a datagram, W6: a flush), with all calls of both ends: the least of three runs.", "",
+        "Processor time for a message (W5: a datagram, W6: a flush), with all calls of both ends: the least of nine runs.", "",
         *table("ns", ours, theirs, "ns", number), "",
         "The worst single call: the largest of all calls' own times, each the least of seven repeats.", "",
         *table("µs", ours, theirs, "worst", microseconds), "",
