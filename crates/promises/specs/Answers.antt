@@ -1,0 +1,33 @@
+-- The answers of the calls, by the outcomes of their definitions.
+-- Assumes nothing.
+use mathlib.Core.Path.{_≡_}
+use mathlib.Core.Bool.{cond}
+use mathlib.Core.List.{List}
+use Prim.Native.Nat.{ℕ}
+use lib.ListN.{take}
+use Rattle.lists.specs.declared.Held.{Held}
+use Rattle.session.specs.State.{Outcome, refused, done}
+use Rattle.session.specs.Reading.{readable, unreadable, frontCount, lengthOf}
+use Rattle.answers.specs.declared.Answer.{Answer}
+use Rattle.answers.specs.declared.Answer.the-variants as answer
+use Rattle.answers.specs.declared.Count.{Count}
+use Rattle.answers.specs.declared.Count.the-variants as count
+
+-- accepted, or the refusal (its number in document 01 is `numberOf`)
+abbrev pub Accepts : {A : Type 0} → Answer → Outcome A → Type 0
+Accepts a (refused r) = a ≡ answer.Refused r
+Accepts a (done x) = a ≡ answer.Accepted
+
+-- a count of the result, or the refusal
+abbrev pub Counts : {A : Type 0} → (A → ℕ) → Count → Outcome A → Type 0
+Counts size a (refused r) = a ≡ count.Refused r
+Counts size a (done x) = a ≡ count.Of (size x)
+
+-- a count as an outcome
+abbrev pub countOutcome : Count → Outcome ℕ
+countOutcome (count.Of n) = done n
+countOutcome (count.Refused r) = refused r
+
+-- the size of the message at the front of what is ready
+unfoldable pub sizeOf : List Held → Outcome ℕ
+sizeOf ready = cond (readable ready) (done (lengthOf (take (frontCount ready) ready))) (refused (unreadable ready))

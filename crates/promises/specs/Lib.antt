@@ -1,0 +1,5 @@
+pub mod Parts
+pub mod Outcomes
+pub mod Answers
+pub mod Promises
+pub mod Cores

@@ -1,0 +1,129 @@
+-- What each public call promises, for all inputs: its answer, and how block and lent parts look afterwards, refused or not.
+-- l and p are the block and the parts before the call, l′ and p′ those after it.
+-- Assumes nothing.
+use mathlib.Core.Path.{_≡_}
+use mathlib.Core.List.{List, map}
+use Prim.Native.Nat.{ℕ, _*_}
+use lib.ListN.{length, take, drop}
+use lib.Seq.{sets}
+use Rattle.protocol.specs.declared.Settings.{Settings}
+use Rattle.timing.specs.declared.Record.{Record}
+use Rattle.lists.specs.declared.Sent.{Sent}
+use Rattle.session.specs.State.{State, Outcome, refused, done}
+use Rattle.session.specs.Sending.{Sends}
+use Rattle.session.specs.Input.{Took}
+use Rattle.session.specs.Flushing.{Flushed, bytesOfSegments}
+use Rattle.session.specs.Reading.{Reads, Part}
+use Rattle.control.specs.declared.Link.{Link}
+use Rattle.records.specs.Tables.{scattered}
+use Rattle.packing.specs.Packers.{Output}
+use Rattle.answers.specs.declared.Answer.{Answer}
+use Rattle.answers.specs.declared.Count.{Count}
+use Rattle.promises.specs.Parts.{Parts, Stands, Unchanged}
+use Rattle.promises.specs.Outcomes.{opens, sends, takesIn, flushes, reads, tells, shows}
+use Rattle.promises.specs.Answers.{Accepts, Counts, countOutcome}
+
+-- the table with the records of a state's outstanding segments at their slots: no other record changes
+abbrev pub tableOf : List Record → State → List Record
+tableOf table s = scattered table (map (λ (x : Sent). x .held .slot) (s .sending .outstanding)) (map (λ (x : Sent). x .record) (s .sending .outstanding))
+
+-- opening writes no lent byte; refused, it leaves the old block
+abbrev pub OpenLeaves : Outcome State → Link → Link → Parts → Parts → Type 0
+OpenLeaves (refused r) l l′ p p′ = Unchanged l l′ p p′
+OpenLeaves (done s) l l′ p p′ = Stands l′ p′ s × (p′ ≡ p)
+
+-- opening with the settings c
+pub record OpenPromise (c : Settings) (l : Link) (p : Parts) (a : Answer) (l′ : Link) (p′ : Parts) : Type 0 where
+  pub answer : Accepts a (opens c p)
+  pub leaves : OpenLeaves (opens c p) l l′ p p′
+
+-- a message sent: the send pool alone changes
+pub record Queues (x : Sends) (l′ : Link) (p p′ : Parts) : Type 0 where
+  pub stands : Stands l′ p′ (x .state)
+  pub sendPool : p′ .sendPool ≡ x .pool
+  pub receivePool : p′ .receivePool ≡ p .receivePool
+  pub table : p′ .table ≡ p .table
+  pub acks : p′ .acks ≡ p .acks
+
+abbrev pub SendLeaves : Outcome Sends → Link → Link → Parts → Parts → Type 0
+SendLeaves (refused r) l l′ p p′ = Unchanged l l′ p p′
+SendLeaves (done x) l l′ p p′ = Queues x l′ p p′
+
+-- sending a message
+pub record SendPromise (message : List ℕ) (l : Link) (p : Parts) (a : Answer) (l′ : Link) (p′ : Parts) : Type 0 where
+  pub answer : Accepts a (sends l p message)
+  pub leaves : SendLeaves (sends l p message) l l′ p p′
+
+-- a datagram taken in: the receive pool as the definition has it, the records of the outstanding segments, and the ack list behind its pairs as it was
+pub record TookIn (x : Took) (l′ : Link) (p p′ : Parts) : Type 0 where
+  pub stands : Stands l′ p′ (x .state)
+  pub sendPool : p′ .sendPool ≡ p .sendPool
+  pub receivePool : p′ .receivePool ≡ x .pool
+  pub table : p′ .table ≡ tableOf (p .table) (x .state)
+  pub ackLength : length (p′ .acks) ≡ length (p .acks)
+  pub ackRest : drop (2 * l′ .arrival .acks) (p′ .acks) ≡ drop (2 * l′ .arrival .acks) (p .acks)
+
+abbrev pub InputLeaves : Outcome Took → Link → Link → Parts → Parts → Type 0
+InputLeaves (refused r) l l′ p p′ = Unchanged l l′ p p′
+InputLeaves (done x) l l′ p p′ = TookIn x l′ p p′
+
+-- taking in a datagram
+pub record InputPromise (datagram : List ℕ) (l : Link) (p : Parts) (a : Answer) (l′ : Link) (p′ : Parts) : Type 0 where
+  pub answer : Accepts a (takesIn l p datagram)
+  pub leaves : InputLeaves (takesIn l p datagram) l l′ p p′
+
+-- a flush: the records of the outstanding segments, and the datagrams in output and lengths; cleared ack entries keep their values
+pub record Flushes (x : Flushed) (l′ : Link) (p p′ : Parts) (out lengths out′ lengths′ : List ℕ) : Type 0 where
+  pub stands : Stands l′ p′ (x .state)
+  pub sendPool : p′ .sendPool ≡ p .sendPool
+  pub receivePool : p′ .receivePool ≡ p .receivePool
+  pub table : p′ .table ≡ tableOf (p .table) (x .state)
+  pub acks : p′ .acks ≡ p .acks
+  pub output : Output (map bytesOfSegments (x .datagrams)) out lengths (length (x .datagrams)) out′ lengths′
+
+-- a refused flush writes nothing
+pub record NoFlush (l l′ : Link) (p p′ : Parts) (out lengths out′ lengths′ : List ℕ) : Type 0 where
+  pub unchanged : Unchanged l l′ p p′
+  pub output : out′ ≡ out
+  pub sizes : lengths′ ≡ lengths
+
+abbrev pub FlushLeaves : Outcome Flushed → Link → Link → Parts → Parts → List ℕ → List ℕ → List ℕ → List ℕ → Type 0
+FlushLeaves (refused r) l l′ p p′ out lengths out′ lengths′ = NoFlush l l′ p p′ out lengths out′ lengths′
+FlushLeaves (done x) l l′ p p′ out lengths out′ lengths′ = Flushes x l′ p p′ out lengths out′ lengths′
+
+-- a flush at t answers the number of its datagrams
+pub record FlushPromise (t : ℕ) (l : Link) (p : Parts) (out lengths : List ℕ) (a : Count) (l′ : Link) (p′ : Parts) (out′ lengths′ : List ℕ) : Type 0 where
+  pub answer : Counts (λ (x : Flushed). length (x .datagrams)) a (flushes l p (length out) (length lengths) t)
+  pub leaves : FlushLeaves (flushes l p (length out) (length lengths) t) l l′ p p′ out lengths out′ lengths′
+
+-- a message read: it stands at the start of the buffer, which is as it was beyond it; no lent part changes
+pub record ReadIt (x : Reads) (l′ : Link) (p p′ : Parts) (buffer buffer′ : List ℕ) : Type 0 where
+  pub stands : Stands l′ p′ (x .state)
+  pub parts : p′ ≡ p
+  pub bytes : buffer′ ≡ sets buffer 0 (x .bytes)
+
+pub record NoRead (l l′ : Link) (p p′ : Parts) (buffer buffer′ : List ℕ) : Type 0 where
+  pub unchanged : Unchanged l l′ p p′
+  pub bytes : buffer′ ≡ buffer
+
+abbrev pub ReadLeaves : Outcome Reads → Link → Link → Parts → Parts → List ℕ → List ℕ → Type 0
+ReadLeaves (refused r) l l′ p p′ buffer buffer′ = NoRead l l′ p p′ buffer buffer′
+ReadLeaves (done x) l l′ p p′ buffer buffer′ = ReadIt x l′ p p′ buffer buffer′
+
+-- reading a message answers its length
+pub record ReadPromise (l : Link) (p : Parts) (buffer : List ℕ) (a : Count) (l′ : Link) (p′ : Parts) (buffer′ : List ℕ) : Type 0 where
+  pub answer : Counts (λ (x : Reads). length (x .bytes)) a (reads l p (length buffer))
+  pub leaves : ReadLeaves (reads l p (length buffer)) l l′ p p′ buffer buffer′
+
+-- telling the size changes nothing
+pub record SizePromise (l : Link) (p : Parts) (a : Count) : Type 0 where
+  pub answer : countOutcome a ≡ tells l p
+
+-- the bytes of a part of the receive pool; refused, an empty part
+abbrev pub shown : Outcome Part → List ℕ → List ℕ
+shown (refused r) pool = take 0 pool
+shown (done x) pool = take (x .count) (drop (x .start) pool)
+
+-- showing changes nothing, and gives the front segment's payload
+pub record ShowPromise (l : Link) (p : Parts) (part : List ℕ) : Type 0 where
+  pub bytes : part ≡ shown (shows l p) (p .receivePool)

@@ -1,0 +1,1 @@
+// What the public calls promise. Definitions only.
