@@ -10,7 +10,7 @@ use lib.ListN.{length, getD, set, take, drop, length-map, length-take, drop-of-l
 use lib.Seq.{getD-take, length-take-le, take-all, set-out}
 use Rattle.timing.specs.declared.Record.{Record}
 use Rattle.records.specs.Tables.{blank}
-use Rattle.promises.specs.Parts.{slotsIn}
+use Rattle.records.specs.Tables.{slotsIn}
 
 -- a slot for each word
 pub slots-counted : (ws : List ℕ) (n k : ℕ) → length ws ≡ 32 → k ≡ min n 32 → k ≡ length (slotsIn ws n)

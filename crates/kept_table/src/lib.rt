@@ -5,7 +5,7 @@ ghost use mathlib.Core.Path.{_≡_};
 ghost use Prim.Native.Nat.{_≤_, _<_, _%_, min};
 ghost use lib.ListN.{take, drop, getD, set};
 ghost use Rattle.records.specs.Tables.{blank, gathered, padded, scattered};
-ghost use Rattle.promises.specs.Parts.{slotsIn};
+ghost use Rattle.records.specs.Tables.{slotsIn};
 
 // How many of so many words are outstanding segments: 32 at most.
 fn within(n: usize) -> usize

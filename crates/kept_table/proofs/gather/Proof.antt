@@ -5,7 +5,7 @@ use Prim.Native.Nat.{_-_, _≤_, _+_}
 use lib.ListN.{length, take, length-set}
 use Rattle.records.specs.Tables.{gathered, padded}
 use Rattle.records.proofs.Turns.{gathers-more, gathers-all}
-use Rattle.promises.specs.Parts.{slotsIn}
+use Rattle.records.specs.Tables.{slotsIn}
 use Rattle.kept_table.proofs.Turns.{slots-counted, slot-listed, front-all}
 use mathlib.Core.List.{List}
 use native.Mathlib.Omega.{arith}

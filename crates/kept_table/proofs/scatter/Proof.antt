@@ -5,7 +5,7 @@ use Prim.Native.Nat.{_-_, _≤_, _+_}
 use lib.ListN.{length, take, drop}
 use Rattle.records.specs.Tables.{scattered}
 use Rattle.records.proofs.Turns.{Left, scatters-more, scatters-all}
-use Rattle.promises.specs.Parts.{slotsIn}
+use Rattle.records.specs.Tables.{slotsIn}
 use Rattle.kept_table.proofs.Turns.{slots-counted, slot-listed, lent-front, lent-rest}
 use mathlib.Core.List.{List}
 use native.Mathlib.Omega.{arith}
