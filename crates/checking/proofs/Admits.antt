@@ -9,7 +9,6 @@ use Rattle.protocol.specs.declared.Refusal.{Refusal}
 use Rattle.protocol.specs.declared.Refusal.the-variants.{ShortPart, InvalidBlock}
 use Rattle.timing.specs.declared.Record.{Record}
 use Rattle.control.specs.declared.Link.{Link}
-use Rattle.checking.specs.declared.Verdict.{Verdict}
 use Rattle.checking.specs.declared.Verdict.the-variants.{Passed, Refused}
 use Rattle.checking.specs.Verdicts.{Checked, Admitted}
 use Rattle.checking.proofs.Turns.{not-true, not-false}

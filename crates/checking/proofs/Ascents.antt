@@ -2,9 +2,9 @@
 -- there are at most 128, so that no sum of such steps goes round.
 -- Assumes nothing.
 use mathlib.Core.Path.{_≡_, refl, sym, ap, _∙_}
-use mathlib.Core.Bool.{Bool, true, false, cond, not, _&&_, false≢true}
+use mathlib.Core.Bool.{Bool, true, false, not, _&&_}
 use mathlib.Core.List.{List, [], _∷_}
-use Prim.Native.Nat.{ℕ, zero, suc, _+_, _-_, _*_, _%_, _^_, _≤_, _<_}
+use Prim.Native.Nat.{ℕ, zero, suc, _+_, _-_, _*_, _^_, _≤_, _<_}
 use native.Mathlib.Omega.{arith}
 use borrow.Author.Tests.{lt-ltb, ltb-true, le-leb, leb-true, ne-eqb}
 use lib.Dec.{leb, ltb, eqb}
@@ -15,7 +15,7 @@ use Rattle.lists.specs.Receiving.{startsAt}
 use Rattle.session.specs.Decides.{and-parts}
 use Rattle.session.specs.Ascending.{Ascends, ascends-decides}
 use Rattle.words.specs.Words.{paired, waitingAt}
-use Rattle.checking.specs.Tests.{ahead, follows, neighbours, endsFit, aheadFits}
+use Rattle.checking.specs.Tests.{ahead, follows, neighbours, aheadFits}
 
 -- two tests that pass together are one
 pub same : (a b : Bool) → (a ≡ true → b ≡ true) → (b ≡ true → a ≡ true) → a ≡ b

@@ -1,11 +1,11 @@
 -- The tests of the two halves, as the code takes them, are the session's.
 -- Assumes nothing.
-use mathlib.Core.Path.{_≡_, refl, sym, ap, ap₂, _∙_}
-use mathlib.Core.Bool.{Bool, true, false, not, _&&_, and-assoc}
-use mathlib.Core.List.{List, [], _∷_, _++_, map}
+use mathlib.Core.Path.{_≡_, refl, sym, ap, _∙_}
+use mathlib.Core.Bool.{Bool, true, not, _&&_, and-assoc}
+use mathlib.Core.List.{List, [], _∷_, _++_}
 use Prim.Native.Nat.{ℕ, _≤_, _<_, _^_}
 use native.Mathlib.Omega.{arith}
-use borrow.Author.Tests.{le-leb, lt-ltb}
+use borrow.Author.Tests.{le-leb}
 use lib.Dec.{leb, ltb, eqb}
 use lib.ListN.{length, take, length-map}
 use lib.Seq.{length-take-le}
@@ -16,14 +16,10 @@ use Rattle.protocol.specs.declared.Settings.{Settings}
 use Rattle.timing.specs.declared.Record.{Record}
 use Rattle.lists.specs.declared.Held.{Held}
 use Rattle.lists.specs.declared.Outstanding.{Outstanding}
-use Rattle.lists.specs.declared.Sent.{Sent}
-use Rattle.lists.specs.declared.Waiting.{Waiting}
-use Rattle.lists.specs.Views.{outstandingPart, sentPart, waitingPart}
+use Rattle.lists.specs.Views.{outstandingPart, waitingPart}
 use Rattle.lists.specs.Joining.{joined}
 use Rattle.lists.specs.JoiningLaws.{joined-held}
-use Rattle.lists.specs.Orders.{ascending, sentOffset, waitingOffset}
-use Rattle.lists.specs.Receiving.{startsAt}
-use Rattle.lists.specs.Acknowledging.{firstNumberOr}
+use Rattle.lists.specs.Orders.{ascending, sentOffset}
 use Rattle.slots.specs.Slots.{slotsOf, allBelow, once}
 use Rattle.slots.specs.SlotLaws.{slots-append}
 use Rattle.slots.specs.Agree.{distinct-agrees}
@@ -35,7 +31,7 @@ use Rattle.words.proofs.Pairs.{paired-length}
 use Rattle.control.specs.declared.Flight.{Flight}
 use Rattle.control.specs.declared.Arrival.{Arrival}
 use Rattle.control.specs.Views.{sendingOf, receivingOf}
-use Rattle.checking.specs.Tests.{recordsFit, firstOf, aheadFits, flightFits, sendSlotsIn, sendingFits, receiveSlotsIn, receivingFits}
+use Rattle.checking.specs.Tests.{recordsFit, firstOf, flightFits, sendSlotsIn, sendingFits, receiveSlotsIn, receivingFits}
 use Rattle.checking.proofs.Ascents.{same, both, off, begins, ahead-ascending, paired-ascending, paired-starts}
 use Rattle.checking.proofs.Joins.{few, words-all, send-words-all, paired-words, paired-few, both-low, records-joined, first-joined}
 

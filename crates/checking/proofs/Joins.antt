@@ -1,19 +1,18 @@
 -- Words and records as the session's segments: the tests are the session's.
 -- Assumes nothing.
-use mathlib.Core.Path.{_≡_, refl, sym, ap, _∙_}
+use mathlib.Core.Path.{_≡_, refl, sym, _∙_}
 use mathlib.Core.Bool.{Bool, true, false, _&&_}
 use mathlib.Core.List.{List, [], _∷_, _++_, map, map-append}
-use Prim.Native.Nat.{ℕ, zero, suc, _+_, _%_, _≤_, _<_}
+use Prim.Native.Nat.{ℕ, _+_, _%_, _≤_, _<_}
 use native.Mathlib.Omega.{arith}
 use borrow.Author.Tests.{lt-ltb}
-use lib.Dec.{leb, ltb, eqb}
+use lib.Dec.{leb, ltb}
 use lib.ListN.{length, take}
-use Rattle.protocol.specs.Protocol.{sendSlots, deadAfter, skipsMost}
+use Rattle.protocol.specs.Protocol.{sendSlots, skipsMost}
 use Rattle.protocol.specs.Serial.{minus}
 use Rattle.timing.specs.declared.Record.{Record}
 use Rattle.lists.specs.declared.Held.{Held}
 use Rattle.lists.specs.declared.Outstanding.{Outstanding}
-use Rattle.lists.specs.declared.Sent.{Sent}
 use Rattle.lists.specs.Joining.{joined}
 use Rattle.lists.specs.Orders.{ascending, sentOffset}
 use Rattle.lists.specs.Acknowledging.{firstNumberOr}
@@ -21,9 +20,9 @@ use Rattle.slots.specs.Slots.{slotsOf, allBelow, once}
 use Rattle.session.specs.Decides.{and-parts}
 use Rattle.session.specs.Valid.{all, heldFits, sentFits, timeoutFits}
 use Rattle.words.specs.Words.{unpack, paired, outstandingAt}
-use Rattle.marks.specs.Marks.{none, markedAll, unmarkedAll, Marks}
+use Rattle.marks.specs.Marks.{none, markedAll, Marks}
 use Rattle.marks.specs.MarkLaws.{flag-append, flagged-once, marked-append}
-use Rattle.checking.specs.Tests.{wordFits, sendWordFits, sentFew, recordFits, recordsFit, firstOf}
+use Rattle.checking.specs.Tests.{wordFits, sendWordFits, sentFew, recordsFit, firstOf}
 use Rattle.checking.proofs.Ascents.{same, both}
 
 -- ---- words

@@ -2,20 +2,20 @@
 -- Assumes nothing.
 use mathlib.Core.Path.{_≡_, refl, sym, ap, _∙_}
 use mathlib.Core.Bool.{Bool, true, false, not, _&&_, and-true, and-assoc, false≢true}
-use mathlib.Core.List.{List, [], _∷_}
+use mathlib.Core.List.{List, _∷_}
 use Prim.Native.Nat.{ℕ, _+_, _-_, _%_, _^_, _≤_, _<_}
 use native.Mathlib.Decide.{decLt}
 use native.Mathlib.Omega.{arith}
 use borrow.Author.Tests.{lt-ltb, le-ltb, le-leb, lt-leb}
 use lib.Dec.{leb, ltb}
-use lib.ListN.{length, take, drop, getD, replicate, length-replicate}
+use lib.ListN.{length, take, drop, getD, length-replicate}
 use Rattle.protocol.specs.Serial.{minus}
 use Rattle.timing.specs.declared.Record.{Record}
 use Rattle.lists.proofs.Loops.{view-next, view-end}
 use Rattle.slots.specs.Slots.{once}
 use Rattle.session.specs.Valid.{all}
 use Rattle.marks.specs.Marks.{none, markedAll}
-use Rattle.checking.specs.Tests.{ahead, follows, neighbours, recordFits, recordsFit, wordFits, sendWordFits, sentFew, sendSlotsIn, SendingFits, receiveSlotsIn, aheadFits, ReceivingFits}
+use Rattle.checking.specs.Tests.{follows, neighbours, recordFits, recordsFit, wordFits, sendWordFits, sentFew, sendSlotsIn, SendingFits, receiveSlotsIn, aheadFits, ReceivingFits}
 
 pub not-true : (b : Bool) → not b ≡ true → b ≡ false
 not-true true e = sym e

@@ -10,15 +10,15 @@ use Rattle.protocol.specs.Ranges.{inRange, mss}
 use Rattle.protocol.specs.declared.Settings.{Settings}
 use Rattle.timing.specs.declared.Record.{Record}
 use Rattle.session.specs.Decides.{and-parts}
-use Rattle.session.specs.State.{Ack, sendHeld, receiveHeld, slots}
-use Rattle.session.specs.Valid.{roundTripFits, probeFits, sendingValid, receivingValid, valid}
+use Rattle.session.specs.State.{sendHeld, receiveHeld, slots}
+use Rattle.session.specs.Valid.{roundTripFits, probeFits, valid}
 use Rattle.marks.specs.Marks.{none, markedAll, Free}
 use Rattle.marks.specs.MarkLaws.{free-start}
 use Rattle.control.specs.declared.Link.{Link}
 use Rattle.control.specs.declared.Flight.{Flight}
 use Rattle.control.specs.declared.Arrival.{Arrival}
 use Rattle.control.specs.declared.Clock.{Clock}
-use Rattle.control.specs.Views.{pairs, Arrays, linkOf, Whole, sendingOf, receivingOf, stateOf, counted, countsFit, blockValid}
+use Rattle.control.specs.Views.{pairs, Arrays, linkOf, Whole, stateOf, counted, countsFit, blockValid}
 use Rattle.control.specs.ViewLaws.{pairs-most, Counts, counts}
 use Rattle.checking.specs.Tests.{numbersFit, flightFits, sendSlotsIn, receiveSlotsIn, sendingFits, receivingFits, SendingFits, ReceivingFits}
 use Rattle.checking.specs.Verdicts.{Checked}

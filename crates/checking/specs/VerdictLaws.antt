@@ -1,12 +1,12 @@
 -- Laws of `Verdicts`: what a call gives that has been checked.
 -- Assumes nothing.
-use mathlib.Core.Path.{_≡_, refl, sym, _∙_}
+use mathlib.Core.Path.{_≡_, refl}
 use mathlib.Core.Bool.{Bool, true, false, cond}
 use Prim.Native.Nat.{ℕ}
 use native.Mathlib.Omega.{arith}
 use Rattle.protocol.specs.declared.Refusal.{Refusal}
 use Rattle.protocol.specs.declared.Refusal.the-variants.{ShortPart, InvalidBlock}
-use Rattle.session.specs.State.{Outcome, refused, done}
+use Rattle.session.specs.State.{Outcome, refused}
 use Rattle.checking.specs.declared.Verdict.{Verdict}
 use Rattle.checking.specs.declared.Verdict.the-variants.{Passed, Refused}
 use Rattle.checking.specs.Verdicts.{verdictOf}

@@ -1,7 +1,5 @@
 -- `receiving_fits`: marks, then limits and numbers.
 -- Assumes nothing.
-use mathlib.Core.Path.{_≡_, refl, sym, ap, _∙_}
-use mathlib.Core.Bool.{_&&_}
 use borrow.Author.Needs.{needs}
 use lib.ListN.{take}
 use Rattle.checking.proofs.Turns.{none-whole, slots-fail, slots-fit}

@@ -1,7 +1,5 @@
 -- `sending_fits`: limits, then marks.
 -- Assumes nothing.
-use mathlib.Core.Path.{_≡_, refl, sym, ap, _∙_}
-use mathlib.Core.Bool.{_&&_}
 use borrow.Author.Needs.{needs}
 use lib.ListN.{take}
 use Rattle.checking.proofs.Turns.{none-whole, limits-fail, limits-fit}

@@ -4,7 +4,7 @@ use mathlib.Core.Path.{_≡_, sym, ap}
 use mathlib.Core.List.{List}
 use native.Mathlib.Omega.{arith}
 use borrow.Author.Needs.{needs}
-use lib.ListN.{length, take}
+use lib.ListN.{length}
 use Rattle.timing.specs.declared.Record.{Record}
 use Rattle.lists.proofs.Loops.{length-mapped, view-next, view-end}
 use Rattle.checking.specs.Tests.{firstOf}
