@@ -5,7 +5,7 @@ use mathlib.Core.List.{List, _++_}
 use Prim.Native.Nat.{ℕ, _+_, _-_, _*_, _≤_, _<_}
 use native.Mathlib.Omega.{arith}
 use borrow.Author.Tests.{lt-ltb, le-ltb}
-use lib.ListN.{length, length-map}
+use lib.ListN.{length}
 use Rattle.protocol.specs.declared.Refusal.the-variants.{LongMessage, NoFreeSlots}
 use Rattle.session.specs.State.{State, refused, done, sendHeld, slots}
 use Rattle.session.specs.Cutting.{fragmentCount, pieces, cut}
@@ -22,9 +22,6 @@ module _ {s : State} {m : ℕ} {queued : List ℕ} {n k : ℕ} {marks : List ℕ
   abbrev used : List ℕ
   used = slots (sendHeld (s .sending))
 
-  used-length : length used ≡ k + n
-  used-length = length-map (sendHeld (s .sending)) _ ∙ p .held
-
   long : 127 * m < length message → sending s pool message ≡ refused LongMessage
   unfolding sending
   long h = rw (p .size, lt-ltb _ _ h)
@@ -37,14 +34,14 @@ module _ {s : State} {m : ℕ} {queued : List ℕ} {n k : ℕ} {marks : List ℕ
     full : 128 < k + n + count → sending s pool message ≡ refused NoFreeSlots
     unfolding sending
     full g =
-        let few : 128 - length used < fragmentCount m (length message) = omega (arith, used-length, count-one m (length message)) in
+        let few : 128 - length used < fragmentCount m (length message) = omega (arith, p .held, count-one m (length message)) in
         rw (p .size, le-ltb _ _ h, lt-ltb _ _ few)
 
     placed : k + n + count ≤ 128
         → sending s pool message ≡ done (record { state = withQueued s (s .sending .queued ++ place m used pool (cut m message) .segments); pool = place m used pool (cut m message) .pool })
     unfolding sending
     placed g =
-        let enough : fragmentCount m (length message) ≤ 128 - length used = omega (arith, used-length) in
+        let enough : fragmentCount m (length message) ≤ 128 - length used = omega (arith, p .held) in
         rw (p .size, le-ltb _ _ h, le-ltb _ _ enough)
 
     -- 11
@@ -56,5 +53,5 @@ module _ {s : State} {m : ℕ} {queued : List ℕ} {n k : ℕ} {marks : List ℕ
         → Follows (sending s pool message) queued n pool (record { answer = Accepted; queued = r }) after pool′
     unfolding cut
     follows-placed g after r pool′ x =
-        let f = (rw e at (x (record { now = used; free = p .free; most = omega (arith, used-length) }))) in
+        let f = (rw e at (x (record { now = used; free = p .free; most = omega (arith, p .held) }))) in
         rw (placed g) (record { answer = refl; whole = f .whole; fits = f .fits; list = f .list ∙ rw (p .queue) refl; pool = f .pool })

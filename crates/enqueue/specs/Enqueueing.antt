@@ -57,7 +57,7 @@ pub record Enqueueable (m : ℕ) (queued : List ℕ) (n k : ℕ) (marks pool : L
 pub record PartsOf (s : State) (m : ℕ) (queued : List ℕ) (n k : ℕ) (marks : List ℕ) : Type 0 where
   pub size : mss (s .settings) ≡ m
   pub queue : s .sending .queued ≡ heldIn queued n
-  pub held : length (sendHeld (s .sending)) ≡ k + n
+  pub held : length (slots (sendHeld (s .sending))) ≡ k + n
   pub free : Free marks (slots (sendHeld (s .sending))) 0
 
 -- a refusal: its number alone, the list and the pool as they were
