@@ -45,13 +45,14 @@ fn hear(
 ) -> Taken
     requires { ⌜ Hearable (linkOf settings flight arrival clock (arrays (now queued) (now outstanding) (now transmissions)
         (now ready) (now waiting) (now «waiting_numbers»))) records (now marks) (now acks) (now «receive_pool») ⌝ }
-    ensures { λ r. ⌜ Takes (input (stateOf (linkOf settings flight arrival clock (arrays (now (queued .entry)) (now (outstanding .entry))
-        (now (transmissions .entry)) (now (ready .entry)) (now (waiting .entry)) (now («waiting_numbers» .entry)))) records
-        (now (acks .entry))) (now («receive_pool» .entry)) (now (datagram .entry)))
-        settings flight arrival clock (arrays (now (queued .entry)) (now (outstanding .entry)) (now (transmissions .entry))
-        (now (ready .entry)) (now (waiting .entry)) (now («waiting_numbers» .entry))) (now («receive_pool» .entry)) (now (acks .entry))
-        r (arrays (now (queued .entry)) (now (outstanding .exit)) (now (transmissions .exit))
-        (now (ready .exit)) (now (waiting .exit)) (now («waiting_numbers» .exit))) (now («receive_pool» .exit)) (now (acks .exit)) ⌝ }
+    ensures { λ r. ⌜ Takes (λ l. input (stateOf l records (now (acks .entry))) (now («receive_pool» .entry)) (now (datagram .entry)))
+        settings flight arrival clock
+        (arrays (now (queued .entry)) (now (outstanding .entry)) (now (transmissions .entry))
+        (now (ready .entry)) (now (waiting .entry)) (now («waiting_numbers» .entry)))
+        (now («receive_pool» .entry)) (now (acks .entry)) r
+        (arrays (now (queued .entry)) (now (outstanding .exit)) (now (transmissions .exit))
+        (now (ready .exit)) (now (waiting .exit)) (now («waiting_numbers» .exit)))
+        (now («receive_pool» .exit)) (now (acks .exit)) ⌝ }
 {
     let mss = settings.mss();
     let verdict = datagram::check(datagram, settings.conv, mss);
@@ -119,14 +120,16 @@ pub fn input(
     datagram: &[u8],
 ) -> Taken
     requires { ⌜ Whole (arrays (now queued) (now outstanding) (now transmissions) (now ready) (now waiting) (now «waiting_numbers»)) ⌝ }
-    ensures { λ r. ⌜ Takes (takesInWith (linkOf settings flight arrival clock (arrays (now (queued .entry)) (now (outstanding .entry))
-        (now (transmissions .entry)) (now (ready .entry)) (now (waiting .entry)) (now («waiting_numbers» .entry)))) records
-        (now (acks .entry)) (lentLengths table (now («send_pool» .entry)) (now («receive_pool» .entry)) (now (acks .entry)))
+    ensures { λ r. ⌜ Takes (λ l. takesInWith l records (now (acks .entry))
+        (lentLengths table (now («send_pool» .entry)) (now («receive_pool» .entry)) (now (acks .entry)))
         (now («receive_pool» .entry)) (now (datagram .entry)))
-        settings flight arrival clock (arrays (now (queued .entry)) (now (outstanding .entry)) (now (transmissions .entry))
-        (now (ready .entry)) (now (waiting .entry)) (now («waiting_numbers» .entry))) (now («receive_pool» .entry)) (now (acks .entry))
-        r (arrays (now (queued .entry)) (now (outstanding .exit)) (now (transmissions .exit))
-        (now (ready .exit)) (now (waiting .exit)) (now («waiting_numbers» .exit))) (now («receive_pool» .exit)) (now (acks .exit)) ⌝ }
+        settings flight arrival clock
+        (arrays (now (queued .entry)) (now (outstanding .entry)) (now (transmissions .entry))
+        (now (ready .entry)) (now (waiting .entry)) (now («waiting_numbers» .entry)))
+        (now («receive_pool» .entry)) (now (acks .entry)) r
+        (arrays (now (queued .entry)) (now (outstanding .exit)) (now (transmissions .exit))
+        (now (ready .exit)) (now (waiting .exit)) (now («waiting_numbers» .exit)))
+        (now («receive_pool» .exit)) (now (acks .exit)) ⌝ }
 {
     let lent = Lengths {
         send: send_pool.len(),
