@@ -37,11 +37,11 @@ module _ (ws ts : List ℕ) (rs : List Record) where
     pub front-length : (n : ℕ) → n ≤ 32 → length (sentIn ws ts rs n) ≡ n
     front-length n h = ap length (sents-take n) ∙ length-take-le n sents (omega (arith, sents-length))
 
-    -- a read at the same index of each
-    pub sents-get : (i : ℕ) (r : Record) → i < 32 → getD sents i (withRecord (outstandingAt 0 0) r) ≡ withRecord (outstandingAt (getD ws i 0) (getD ts i 0)) (getD rs i r)
-    sents-get i r h =
-        get-joined (paired outstandingAt ws ts) rs i (outstandingAt 0 0) r (omega (arith, sents-length))
-        ∙ ap (λ (o : Outstanding). withRecord o (getD rs i r)) (paired-get outstandingAt ws ts i (outstandingAt 0 0) (omega arith) (omega arith))
+  -- a read at the same index of each
+  pub sents-get : (i : ℕ) (r : Record) → i < length ws → i < length ts → i < length sents → getD sents i (withRecord (outstandingAt 0 0) r) ≡ withRecord (outstandingAt (getD ws i 0) (getD ts i 0)) (getD rs i r)
+  sents-get i r h g l =
+      get-joined (paired outstandingAt ws ts) rs i (outstandingAt 0 0) r l
+      ∙ ap (λ (o : Outstanding). withRecord o (getD rs i r)) (paired-get outstandingAt ws ts i (outstandingAt 0 0) h g)
 
   -- a list that stands in the front of all
   pub sents-front : (n : ℕ) (l : List Sent) → length ws ≡ 32 → length ts ≡ 32 → Holds 32 sents n l → SentFront ws ts rs n l
