@@ -73,10 +73,10 @@ fn run(
         (now output) (now lengths) ⌝ }
     ensures { λ r. ⌜ ((ready waiting numbers : List ℕ) → length ready ≡ 128 → Runs
         (linkOf settings flight arrival clock (arrays (now (queued .entry)) (now (outstanding .entry)) (now (transmissions .entry))
-            ready waiting numbers))
+        ready waiting numbers))
         records (now (pool .entry)) (now (acks .entry)) t (now (output .entry)) (now (lengths .entry)) r
         (linkOf settings (r .flight) (r .arrival) (r .clock) (arrays (now (queued .exit)) (now (outstanding .exit))
-            (now (transmissions .exit)) ready waiting numbers))
+        (now (transmissions .exit)) ready waiting numbers))
         (now (output .exit)) (now (lengths .exit))) ⌝ }
 {
     let plan = parts::plan_of(settings, flight, arrival, clock, t);
@@ -176,11 +176,11 @@ pub fn flush(
     requires { ⌜ Whole (arrays (now queued) (now outstanding) (now transmissions) (now ready) (now waiting) (now «waiting_numbers»)) ⌝ }
     ensures { λ r. ⌜ Core
         (linkOf settings flight arrival clock (arrays (now (queued .entry)) (now (outstanding .entry)) (now (transmissions .entry))
-            (now (ready .entry)) (now (waiting .entry)) (now («waiting_numbers» .entry))))
+        (now (ready .entry)) (now (waiting .entry)) (now («waiting_numbers» .entry))))
         records table (now («send_pool» .entry)) (now («receive_pool» .entry)) (now (acks .entry)) t
         (now (output .entry)) (now (lengths .entry)) r
         (linkOf settings (r .flight) (r .arrival) (r .clock) (arrays (now (queued .exit)) (now (outstanding .exit))
-            (now (transmissions .exit)) (now (ready .entry)) (now (waiting .entry)) (now («waiting_numbers» .entry))))
+        (now (transmissions .exit)) (now (ready .entry)) (now (waiting .entry)) (now («waiting_numbers» .entry))))
         (now (output .exit)) (now (lengths .exit)) ⌝ }
 {
     let lent = Lengths {

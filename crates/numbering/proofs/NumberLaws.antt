@@ -125,8 +125,8 @@ module _ (f : Flight) (queued outstanding transmissions : List ℕ) (records : L
       → Front 128 queued′ (f .queued - k) (drop k (take (f .queued) queued))
       → next ≡ plus (f .next) k
       → Numbers f queued outstanding transmissions records
-        (record { flight = flown next; records = records′ })
-        queued′ outstanding′ transmissions′
+      (record { flight = flown next; records = records′ })
+      queued′ outstanding′ transmissions′
   unfolding withNumbered
   numbers-some next queued′ outstanding′ transmissions′ records′ s r p =
       record {

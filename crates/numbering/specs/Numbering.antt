@@ -37,7 +37,7 @@ module _ (f : Flight) (queued outstanding transmissions : List ℕ) (records : L
   -- so many are numbered, and outstanding; nothing else changes
   pub record Numbers (r : Numbered) (queued′ outstanding′ transmissions′ : List ℕ) : Type 0 where
     pub sent : SentFront outstanding′ transmissions′ (r .records) (r .flight .outstanding)
-      (withNumbered (sendingOf f queued outstanding transmissions records) allowed)
+        (withNumbered (sendingOf f queued outstanding transmissions records) allowed)
     pub queued-whole : length queued′ ≡ 128
     pub queued-fits : r .flight .queued ≤ 128
     pub left : heldIn queued′ (r .flight .queued) ≡ drop allowed (heldIn queued (f .queued))

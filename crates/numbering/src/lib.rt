@@ -58,7 +58,8 @@ fn number_first(
     records: [Record; 32],
     next: u32,
 ) -> [Record; 32]
-    requires { ⌜ (length (now queued) ≡ 128) × (length (now outstanding) ≡ 32) × (length (now transmissions) ≡ 32) × (n + k ≤ 32) ⌝ }
+    requires { ⌜ (length (now queued) ≡ 128) × (length (now outstanding) ≡ 32) × (length (now transmissions) ≡ 32)
+        × (n + k ≤ 32) ⌝ }
     ensures { λ r. ⌜ SentFront (now (outstanding .exit)) (now (transmissions .exit)) r (n + k)
         (sentIn (now (outstanding .entry)) (now (transmissions .entry)) records n ++ numbered next (heldIn (now (queued .entry)) k)) ⌝ }
 {

@@ -179,8 +179,8 @@ module _ (f : Flush) (n : ℕ) (pool : List ℕ) (k₀ : Packer) (out₀ lengths
       let below : i ≤ 32 = omega (arith, w .list .room) in
       record {
         adds = adds-as (w .adds) (rw front) (mul-le-mul-right (f .settings .mtu) below) below;
-        sent = sents-front ws ts rs n _ whole (w .wholes) 
-          (subst (λ (m : ℕ). Holds 32 (sents ws ts rs) m (map (afterFlush f) (sentIn ws ts₀ rs₀ n))) all
-          (holds-as (packed-done (rw (view-end l₀ n i h)) (w .list)) (ap (map (afterFlush f)) here)));
+        sent = sents-front ws ts rs n _ whole (w .wholes)
+            (subst (λ (m : ℕ). Holds 32 (sents ws ts rs) m (map (afterFlush f) (sentIn ws ts₀ rs₀ n))) all
+            (holds-as (packed-done (rw (view-end l₀ n i h)) (w .list)) (ap (map (afterFlush f)) here)));
         dead = rw front at (w .dead);
       }

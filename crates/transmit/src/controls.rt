@@ -21,7 +21,8 @@ fn put_acks(
     lengths: &mut [u16],
 ) -> Packer
     requires { ⌜ Room mtu (24 * n) n packer (now out) (now lengths) × (24 ≤ mtu) × (2 * n ≤ length (now acks)) ⌝ }
-    ensures { λ r. ⌜ Adds mtu (map (ackSegment (carriedOf carried)) (pairs n (now (acks .entry)))) (24 * n) n packer (now (out .entry)) (now (lengths .entry)) r (now (out .exit)) (now (lengths .exit)) ⌝ }
+    ensures { λ r. ⌜ Adds mtu (map (ackSegment (carriedOf carried)) (pairs n (now (acks .entry)))) (24 * n) n
+        packer (now (out .entry)) (now (lengths .entry)) r (now (out .exit)) (now (lengths .exit)) ⌝ }
 {
     let mut k = packer;
     let mut i: usize = 0;
@@ -45,7 +46,8 @@ fn put_wished(
     lengths: &mut [u16],
 ) -> Packer
     requires { ⌜ Room mtu 24 1 packer (now out) (now lengths) × (24 ≤ mtu) ⌝ }
-    ensures { λ r. ⌜ Adds mtu (wished wish (control (carriedOf carried) cmd 0 0)) 24 1 packer (now (out .entry)) (now (lengths .entry)) r (now (out .exit)) (now (lengths .exit)) ⌝ }
+    ensures { λ r. ⌜ Adds mtu (wished wish (control (carriedOf carried) cmd 0 0)) 24 1
+        packer (now (out .entry)) (now (lengths .entry)) r (now (out .exit)) (now (lengths .exit)) ⌝ }
 {
     if wish {
         packing::put_control(packer, mtu, carried, cmd, 0, 0, out, lengths)
@@ -67,7 +69,10 @@ pub(crate) fn put_controls(
     lengths: &mut [u16],
 ) -> Packer
     requires { ⌜ Room mtu (24 * n + 48) (n + 2) packer (now out) (now lengths) × (24 ≤ mtu) × (2 * n ≤ length (now acks)) ⌝ }
-    ensures { λ r. ⌜ Adds mtu (map (ackSegment (carriedOf carried)) (pairs n (now (acks .entry))) ++ wished ask (control (carriedOf carried) windowAsk 0 0) ++ wished tell (control (carriedOf carried) windowTell 0 0)) (24 * n + 48) (n + 2) packer (now (out .entry)) (now (lengths .entry)) r (now (out .exit)) (now (lengths .exit)) ⌝ }
+    ensures { λ r. ⌜ Adds mtu (map (ackSegment (carriedOf carried)) (pairs n (now (acks .entry)))
+        ++ wished ask (control (carriedOf carried) windowAsk 0 0)
+        ++ wished tell (control (carriedOf carried) windowTell 0 0)) (24 * n + 48) (n + 2)
+        packer (now (out .entry)) (now (lengths .entry)) r (now (out .exit)) (now (lengths .exit)) ⌝ }
 {
     let acked = put_acks(packer, mtu, carried, acks, n, out, lengths);
     let asked = put_wished(acked, mtu, carried, Protocol::WINDOW_ASK, ask, out, lengths);

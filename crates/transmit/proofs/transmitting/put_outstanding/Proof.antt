@@ -63,7 +63,7 @@ put-sent-requires c κs =
       walking-room _ _ _ _ _ _ _ _ _ _ _ _ _ _ _ w here (p .0),
       p .1 .mtu,
       walking-inside _ _ _ _ _ _ _ _ _ _ _ _ _ _ _ w here (p .1 .whole) (record { number = 0; due = 0; timeout = 0; skips = 0 }) _
-      (rw (← (sents-take (a .words .now) (a .transmissions .now) (a .records) (a .n))) (p .1 .inside)),
+          (rw (← (sents-take (a .words .now) (a .transmissions .now) (a .records) (a .n))) (p .1 .inside)),
       p .1 .slots,
     )
 
