@@ -44,6 +44,8 @@ use Rattle.enqueue.specs.declared.Enqueued.{Enqueued}
 use Rattle.enqueue.specs.Enqueueing.{Enqueueable, PartsOf, Follows}
 use Rattle.promises.specs.Outcomes.{sendsWith}
 use Rattle.promises.specs.Cores.{SendCore}
+use Rattle.send_core.specs.declared.Sent.{Sent}
+use Rattle.send_core.specs.Sending.{withCount, Enqueues}
 
 -- an accepted message changes the queued segments alone
 queued-alone : (s : State) (pool m : List ℕ) (x : Sends) → sending s pool m ≡ done x → x .state ≡ withQueued s (x .state .sending .queued)
@@ -60,10 +62,7 @@ queued-alone s pool m x e =
     go false true q p e = absurd (let z : _≡_ {A = ℕ} 0 1 = cc in omega arith)
     go false false q p e = let i : record { state = withQueued s q; pool = p } ≡ x = cc in rw (← i)
 
--- the numbers with another count of queued segments, and the arrays with other queued segments
-abbrev pub withCount : Flight → ℕ → Flight
-withCount f n = record { una = f .una; next = f .next; rtt = f .rtt; window = f .window; queued = n; outstanding = f .outstanding }
-
+-- the arrays with other queued segments
 abbrev pub withWords : Arrays → List ℕ → Arrays
 withWords x q = record { queued = q; outstanding = x .outstanding; transmissions = x .transmissions; ready = x .ready; waiting = x .waiting; numbers = x .numbers }
 
@@ -147,7 +146,7 @@ module _ (s : Settings) (f : Flight) (a : Arrival) (k : Clock) (x : Arrays) (rs 
           slots = rw (size, ← l) (p .long-enough);
         }
 
-    pub parts : PartsOf (stateOf link rs acks) m (x .queued) (f .queued) (f .outstanding) marks
+    parts : PartsOf (stateOf link rs acks) m (x .queued) (f .queued) (f .outstanding) marks
     unfolding stateOf
     parts = record { size = sym size; queue = refl; held = p .held; free = p .free }
 
@@ -161,8 +160,7 @@ module _ (s : Settings) (f : Flight) (a : Arrival) (k : Clock) (x : Arrays) (rs 
   unfolding stateOf
   after-state c q = refl
 
-  -- what enqueueing gives, put back into the block
-  pub put-back : (pool m pool′ q : List ℕ) (e : Enqueued) (o : Outcome Sends) → sending (stateOf link rs acks) pool m ≡ o → Follows o (x .queued) (f .queued) pool e q pool′ → countsFit link ≡ true
+  put-back : (pool m pool′ q : List ℕ) (e : Enqueued) (o : Outcome Sends) → sending (stateOf link rs acks) pool m ≡ o → Follows o (x .queued) (f .queued) pool e q pool′ → countsFit link ≡ true
       → SendCore o link rs acks pool (e .answer) (linkOf s (withCount f (e .queued)) a k (withWords x q)) pool′
   put-back pool m pool′ q e (refused r) i h c = (h .answer, rw (h .count, h .list) refl, h .pool-same)
   put-back pool m pool′ q e (done y) i h c =
@@ -173,3 +171,10 @@ module _ (s : Settings) (f : Flight) (a : Arrival) (k : Clock) (x : Arrays) (rs 
         slots = refl;
         pool = h .pool;
       }
+
+  -- what sending past the checks gives, as the block
+  pub sent : {n : Lengths} {marks : List ℕ} (p : Sendable n marks) (m : ℕ) → m ≡ mss s → (pool message : List ℕ) (r : Sent) (q pool′ : List ℕ) → Enqueues m f (x .queued) marks pool message r q pool′
+      → SendCore (sending (stateOf link rs acks) pool message) link rs acks pool (r .answer) (linkOf s (r .flight) a k (withWords x q)) pool′
+  sent p m size pool message r q pool′ h =
+      let e : Enqueued = record { answer = r .answer; queued = r .flight .queued } in
+      rw (h .count-alone) (put-back pool message pool′ q e (sending (stateOf link rs acks) pool message) refl (h .follows (stateOf link rs acks) (parts p size)) (p .counts-fit))

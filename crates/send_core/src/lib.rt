@@ -8,12 +8,44 @@ use protocol::Settings;
 use sizes::Lengths;
 use timing::Record;
 ghost use Rattle.control.specs.Views.{arrays, linkOf, Whole};
-ghost use Rattle.send_core.specs.Sending.{SendLeaves};
+ghost use Rattle.enqueue.specs.Enqueueing.{Enqueueable};
+ghost use Rattle.send_core.specs.Sending.{Enqueues, SendLeaves};
 
 // The answer, and the sending half's numbers after it.
 pub struct Sent {
     pub answer: Answer,
     pub flight: Flight,
+}
+
+// Sending where 7 and 13 have passed; the slots held are marked.
+fn send_checked(
+    mss: usize,
+    flight: Flight,
+    queued: &mut [u32; 128],
+    marks: &[u8; 256],
+    pool: &mut [u8],
+    message: &[u8],
+) -> Sent
+    requires { ⌜ Enqueueable mss (now queued) (flight .queued) (flight .outstanding) (now marks) (now pool) ⌝ }
+    ensures { λ r. ⌜ Enqueues mss flight (now (queued .entry)) (now (marks .entry)) (now (pool .entry)) (now (message .entry))
+        r (now (queued .exit)) (now (pool .exit)) ⌝ }
+{
+    let result = enqueue::enqueue(
+        mss,
+        queued,
+        flight.queued,
+        flight.outstanding,
+        marks,
+        pool,
+        message,
+    );
+    let answer = result.answer;
+    let mut after = flight;
+    after.queued = result.queued;
+    Sent {
+        answer,
+        flight: after,
+    }
 }
 
 // Sending checks 7, 13, then 10 and 11. `table` is the length of the lent table.
@@ -75,22 +107,7 @@ pub fn send(
         },
         Verdict::Passed => {
             let mss = settings.mss();
-            let result = enqueue::enqueue(
-                mss,
-                queued,
-                flight.queued,
-                flight.outstanding,
-                &send_marks,
-                send_pool,
-                message,
-            );
-            let answer = result.answer;
-            let mut after = flight;
-            after.queued = result.queued;
-            Sent {
-                answer,
-                flight: after,
-            }
+            send_checked(mss, flight, queued, &send_marks, send_pool, message)
         }
     }
 }

@@ -1,4 +1,4 @@
--- `send` meets its contract: the checks of 7 and 13, then enqueueing, whose list is put back into the block.
+-- `send` meets its contract: the checks of 7 and 13, then what sending past them gives.
 -- Assumes nothing.
 use mathlib.Core.Path.{_≡_, refl}
 use mathlib.Core.List.{List}
@@ -9,7 +9,7 @@ use Rattle.lists.proofs.Loops.{length-mapped}
 use Rattle.control.specs.Views.{Arrays, arrays}
 use Rattle.promises.specs.Parts.{lentLengths}
 use Rattle.sizes.specs.declared.Lengths.{Lengths}
-use Rattle.send_core.proofs.Sends.{Sendable, sendable, refuses, enqueueable, parts, put-back, passes}
+use Rattle.send_core.proofs.Sends.{Sendable, sendable, refuses, enqueueable, sent, passes}
 use Rattle.send_core.proofs.send.Statement.{statement}
 use Rattle.send_core.proofs.send.Tie as tie
 
@@ -37,8 +37,8 @@ checked c =
     sendable (s .args .settings) (s .args .flight) (s .args .arrival) (s .args .clock) (lists s) (s .args .records) (s .args .acks .now) (lent s) _ _ (c .before .before .before .before .before .before .enough .ensures) (a .verdict _) (c .enum-told .given .1)
     (sendMarks (c .before .before)) (receiveMarks (c .before .before)) (a .checked (c .enum-told .given .1)) (s .pre) (all-records s)
 
-enqueue-requires : tie.Need-enqueue-requires
-enqueue-requires c κs =
+send-checked-requires : tie.Need-send-checked-requires
+send-checked-requires c κs =
     let s = c .before .before .before .before .before .before .before .before .before .before .before .before .before .before .before in
     enqueueable (s .args .settings) (s .args .flight) (s .args .arrival) (s .args .clock) (lists s) (s .args .records) (s .args .acks .now) (checked (c .before .before .before .before)) (c .before .before .before .mss .ensures) (s .pre) _ refl
 
@@ -52,7 +52,7 @@ returns-2 c =
     let s = c .before .before .before .before .before .before .before .before .before .before .before .before .before .before .before .before .before .before in
     let p = checked (c .before .before .before .before .before .before .before) in
     passes (s .args .settings) (s .args .flight) (s .args .arrival) (s .args .clock) (lists s) (s .args .records) (s .args .acks .now) (lent s) _ _ (c .before .before .before .before .before .before .before .before .before .before .before .before .before .enough .ensures) (c .before .before .before .before .before .before .before .before .before .admit .ensures .verdict _) (c .before .before .before .before .before .before .before .enum-told .given .1) _ _ _ _ _
-    (put-back (s .args .settings) (s .args .flight) (s .args .arrival) (s .args .clock) (lists s) (s .args .records) (s .args .acks .now) _ _ _ _ (c .before .before .enqueue .result) _ refl (c .before .before .enqueue .ensures _ (parts (s .args .settings) (s .args .flight) (s .args .arrival) (s .args .clock) (lists s) (s .args .records) (s .args .acks .now) p (c .before .before .before .before .before .before .mss .ensures))) (p .counts-fit))
+    (sent (s .args .settings) (s .args .flight) (s .args .arrival) (s .args .clock) (lists s) (s .args .records) (s .args .acks .now) p _ (c .before .before .before .before .before .before .mss .ensures) _ _ (c .before .before .send-checked .result) _ _ (c .before .before .send-checked .ensures))
 
 pub send-spec : {M : Type 1} → statement M
 send-spec =
@@ -63,7 +63,7 @@ send-spec =
     (λ c. search needs)
     (λ c. search needs)
     (λ c κs. search needs)
-    enqueue-requires
+    send-checked-requires
     returns
     (λ c. search needs)
     returns-2)
