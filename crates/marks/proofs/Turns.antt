@@ -1,8 +1,8 @@
 -- The turns of the loops that mark the slots of words, at index i of the first n of an array.
 -- Assumes nothing.
 use mathlib.Core.Path.{_≡_, refl, sym, _∙_}
-use mathlib.Core.Bool.{Bool, _&&_, and-true, and-assoc}
-use mathlib.Core.List.{List, [], _∷_, map}
+use mathlib.Core.Bool.{_&&_, and-true, and-assoc}
+use mathlib.Core.List.{List, map}
 use Prim.Native.Nat.{ℕ, _+_, _≤_, _<_, _%_}
 use lib.Bits.{bitOr}
 use lib.Dec.{eqb}
