@@ -6,8 +6,7 @@ use mathlib.Core.List.{List, map}
 use Prim.Native.Nat.{ℕ, _-_, _≤_}
 use native.Mathlib.Omega.{arith}
 use lib.Dec.{eqb, ltb}
-use lib.ListN.{length, take, drop, length-map}
-use lib.Seq.{length-take-le}
+use lib.ListN.{length, take, drop}
 use Rattle.lists.specs.Views.{heldOf, waitingOf}
 use Rattle.lists.specs.Receiving.{advance, ReceivingIs}
 use Rattle.session.specs.State.{Ack}
@@ -16,10 +15,7 @@ use Rattle.words.specs.Words.{unpack, heldIn, waitingIn, Front}
 use Rattle.control.specs.Views.{isSet, receivingOf}
 use Rattle.control.specs.declared.Arrival.{Arrival}
 use Rattle.arriving.specs.Arrivals.{readyList, waitingList, listsOf, Advanced}
-use Rattle.arriving.proofs.Views.{drop-map, ready-view, waiting-view}
-
-held-length : (words : List ℕ) (n : ℕ) → length words ≡ 128 → n ≤ 128 → length (heldIn words n) ≡ n
-held-length words n e h = length-map (take n words) unpack ∙ length-take-le n words (omega arith)
+use Rattle.arriving.proofs.Views.{drop-map, held-length, ready-view, waiting-view}
 
 -- the first k are dropped, and those that wait move up
 pub freed-reads : (a : Arrival) (r w ns r′ : List ℕ) (k : ℕ) → length r ≡ 128 → a .ready ≤ 128 → Front 128 r′ (a .ready - k) (drop k (take (a .ready) r))
@@ -34,5 +30,5 @@ freed-reads a r w ns r′ k e few front left moved r″ w″ ns″ ad t told ack
     let i : ReceivingIs (listsOf moved r″ w″ ns″) (advance (a .expected) (drop k (heldIn r n)) (waitingIn w ns (a .waiting))) = rw (dropped, waiting-view w ns (a .waiting)) at (ad .is) in
     let ready = sym (ready-view r″ (moved .ready)) ∙ i .ready .list in
     let waits = sym (waiting-view w″ ns″ (moved .waiting)) ∙ i .waiting .list in
-    let after = held-length r″ (moved .ready) (ad .whole .whole-ready) (i .ready .fits) in
-    rw (q, held-length r n e few, ← i .next, ← ready, ← waits, after, told) refl
+    let after = held-length r″ (moved .ready) (omega (arith, ad .whole .whole-ready, i .ready .fits)) in
+    rw (q, held-length r n (omega arith), ← i .next, ← ready, ← waits, after, told) refl

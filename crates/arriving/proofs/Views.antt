@@ -4,7 +4,7 @@ use mathlib.Core.Path.{_≡_, refl, sym, ap, _∙_}
 use mathlib.Core.List.{List, [], _∷_, map}
 use Prim.Native.Nat.{ℕ, zero, suc, _≤_}
 use native.Mathlib.Omega.{arith}
-use lib.ListN.{length, take, drop}
+use lib.ListN.{length, take, drop, length-map}
 use lib.Seq.{length-take-le}
 use Rattle.lists.specs.declared.Held.{Held}
 use Rattle.lists.specs.Views.{heldOf, waitingOf, waitingPart}
@@ -21,6 +21,9 @@ pub drop-map : {A B : Type 0} (f : A → B) (n : ℕ) (l : List A) → drop n (m
 drop-map f zero l = refl
 drop-map f (suc n) [] = refl
 drop-map f (suc n) (x ∷ l) = drop-map f n l
+
+pub held-length : (words : List ℕ) (n : ℕ) → n ≤ length words → length (heldIn words n) ≡ n
+held-length words n h = length-map (take n words) unpack ∙ length-take-le n words h
 
 -- the segments of words, without their numbers
 paired-parts : (ws ns : List ℕ) → length ws ≡ length ns → map waitingPart (paired waitingAt ws ns) ≡ map unpack ws
