@@ -2,7 +2,7 @@
 -- Assumes nothing.
 use mathlib.Core.Path.{_≡_, refl, sym, _∙_}
 use mathlib.Core.Logic.{_⊎_, inl, inr}
-use mathlib.Core.Bool.{Bool, true, false, not, _&&_, _||_, false≢true, true≢false}
+use mathlib.Core.Bool.{Bool, true, false, not, _&&_, _||_, true≢false}
 use Prim.Native.Nat.{ℕ, _+_, _^_, _≤_, _<_}
 use native.Mathlib.Decide.{decLt}
 use native.Mathlib.Omega.{arith}
@@ -12,9 +12,9 @@ use Rattle.protocol.specs.Protocol.{ack, sendWindow}
 use Rattle.protocol.specs.Serial.{minus, isAfter}
 use Rattle.protocol.specs.SerialLaws.{after-test}
 use Rattle.wire.specs.declared.Header.{Header}
-use Rattle.acknowledge.specs.Hearing.{staysBy, Concerns}
+use Rattle.acknowledge.specs.Hearing.{Concerns}
 
--- where one of two tests holds neither does
+-- where not one of two tests holds neither does
 either : (a b : Bool) → (a || b) ≡ false → (a ≡ false) × (b ≡ false)
 either false b e = (refl, e)
 either true b e = absurd (true≢false e)

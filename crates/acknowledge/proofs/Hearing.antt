@@ -128,7 +128,7 @@ all-stay h una next r k e l fit o = go 0 l fit (o .ascends)
     go least [] fit a = refl
     go least (x ∷ l) fit a = rw (k .none e (o .apart) (x .record .number) (fit .0) (a .1), go (sentOffset una x + 1) l (fit .1) (a .2))
 
--- they are in order still
+-- what holds at each segment: the numbers are in order, and of 32 bits
 pub record Ordered (v : View) : Type 0 where
   pub order : InOrder v
   pub fit : All NumberFits (sentIn v)
@@ -139,6 +139,7 @@ unfolding firstNumberOr
 first-fits [] n a h = h
 first-fits (x ∷ l) n a h = a .0
 
+-- it holds after a segment
 pub heard-order : (c : Settings) (current : ℕ) (v′ v : View) (h : Header) → FlightIs v′ v (λ s. heardBySending c current s h) → Ordered v → Ordered v′
 heard-order c current v′ v h f o =
     let p = f .half [] ∙ heard-parts c current (halfWith [] v) h in

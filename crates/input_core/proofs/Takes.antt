@@ -22,7 +22,7 @@ use Rattle.control.specs.ViewLaws.{counts}
 use Rattle.control.specs.declared.Link.{Link}
 use Rattle.control.specs.declared.Flight.{Flight}
 use Rattle.control.specs.declared.Arrival.{Arrival}
-use Rattle.promises.specs.Cores.{PutBack, InputCore}
+use Rattle.promises.specs.Cores.{InputCore}
 use Rattle.acknowledge.specs.Flights as sending
 use Rattle.receive.specs.Halves as receiving
 use Rattle.receive.proofs.Starts.{receiver-view}
