@@ -12,6 +12,7 @@ import os
 import pathlib
 import platform
 import shutil
+import statistics
 import subprocess
 import sys
 
@@ -20,7 +21,7 @@ HERE = ROOT / "bench"
 WORK = ROOT / "target" / "bench"
 KCP_GO = pathlib.Path("/usr/share/gocode/src/github.com/xtaci/kcp-go")
 FLAGS = ["-std=c99", "-O2", "-Wall", "-Wextra", "-Wpedantic", "-Werror", "-Wl,-z,now", "-I", str(ROOT / "include")]
-TIMES = 9  # of the time pass; the least counts
+ROUNDS = 9  # of the time pass: in each, one program after the other
 WORST_DIVIDES = 20  # the worst pass keeps every call's time, so it is shorter
 
 WORKLOADS = {
@@ -72,15 +73,25 @@ def build_kcp_go():
     return WORK / "bench_kcpgo"
 
 
-def measure(program, workload, divide):
-    """Time per message in ns, retransmissions, heap in bytes, the worst call in ns and its kind."""
-    def one(kind, by):
-        return json.loads(run(program, workload, kind, by))
-    times = [one("time", divide)["ns"] for _ in range(TIMES)]
-    counted = one("count", divide)
-    worst = one("worst", divide * WORST_DIVIDES)["worst"]
-    kind = max(worst, key=worst.get)
-    return dict(counted, ns=min(times), worst=worst[kind], worst_kind=kind)
+def one(program, workload, kind, divide):
+    return json.loads(run(program, workload, kind, divide))
+
+
+def measure(programs, workload, divide):
+    """For each program: ns per message (the least of all rounds), retransmissions, heap in bytes, the worst call in ns and its kind. The
+    programs take turns in every round, so that both have the same machine; the ratio is the median of the rounds' ratios."""
+    times = {name: [] for name in programs}
+    for _ in range(ROUNDS):
+        for name, program in programs.items():
+            times[name].append(one(program, workload, "time", divide)["ns"])
+    results = {}
+    for name, program in programs.items():
+        worst = one(program, workload, "worst", divide * WORST_DIVIDES)["worst"]
+        kind = max(worst, key=worst.get)
+        results[name] = dict(one(program, workload, "count", divide), ns=min(times[name]), worst=worst[kind], worst_kind=kind)
+    if "theirs" in programs:
+        results["ours"]["ratio"] = statistics.median(x / y for x, y in zip(times["ours"], times["theirs"]))
+    return results
 
 
 def number(value):
@@ -96,6 +107,14 @@ def pair(ours, theirs, show):
 
 def microseconds(nanoseconds):
     return f"{nanoseconds / 1000:.1f}"
+
+
+def times_table(ours, theirs):
+    yield "| Workload | ns, ours | kcp-go's core | ratio |"
+    yield "|---|--:|--:|--:|"
+    for name, title in WORKLOADS.items():
+        other, ratio = (number(theirs[name]["ns"]), f"{ours[name]['ratio']:.2f}") if theirs else ("", "")
+        yield f"| {name} {title} | {number(ours[name]['ns'])} | {other} | {ratio} |"
 
 
 def table(head, ours, theirs, key, show):
@@ -138,8 +157,9 @@ def document(archive, divide, ours, theirs, calls):
         "32 and 128, mode 1, interval 10, fast threshold 2. Ratios are ours to kcp-go's core.",
         f"Machine: {processor()}, {os.cpu_count()} processors.", "", *short,
         "## Time", "",
-        "Processor time for a message (W5: a datagram, W6: a flush), with all calls of both ends: the least of nine runs.", "",
-        *table("ns", ours, theirs, "ns", number), "",
+        f"Processor time for a message (W5: a datagram, W6: a flush), with all calls of both ends: the least of {ROUNDS} rounds. The two programs take",
+        "turns in every round; the ratio is the median of the rounds' own ratios.", "",
+        *times_table(ours, theirs), "",
         "The worst single call: the largest of all calls' own times, each the least of seven repeats.", "",
         *table("µs", ours, theirs, "worst", microseconds), "",
         "## Retransmissions", "",
@@ -170,9 +190,9 @@ def main():
         programs["theirs"] = build_kcp_go()
     results = {name: {} for name in ("ours", "theirs")}
     for workload in WORKLOADS:
-        for name, program in programs.items():
-            results[name][workload] = measure(program, workload, options.divide)
-            print(workload, name, json.dumps(results[name][workload]), flush=True)
+        for name, result in measure(programs, workload, options.divide).items():
+            results[name][workload] = result
+            print(workload, name, json.dumps(result), flush=True)
     calls = json.loads(run(WORK / "calls"))
     text = document(options.archive, options.divide, results["ours"], results["theirs"], calls)
     options.output.write_text(text)

@@ -35,14 +35,15 @@
  * Call flush about every `interval` milliseconds, and after a send that should not wait.
  *
  * The header has four parts: sizes and results; the seven calls, and settings files, which are proved; and
- * `ampferweg_station`, a thin layer of inline functions that holds the lent parts and passes them on. C99 or C++; x86-64 Linux, the archive's target. */
+ * `ampferweg_station`, a thin layer of inline functions that holds the lent parts and passes them on. C99 or C++; x86-64 Linux, the archive's target.
+ * Counts are 64 bits wide everywhere, so that the block has one layout on 32-bit and 64-bit machines. */
 #ifndef AMPFERWEG_H
 #define AMPFERWEG_H
 
 #include <stddef.h>
 #include <stdint.h>
 
-#define AMPFERWEG_VERSION "0.1.0"
+#define AMPFERWEG_VERSION "0.2.0"
 
 #ifdef __cplusplus
 extern "C" {
@@ -141,16 +142,7 @@ typedef struct ampferweg_settings {
 } ampferweg_settings;
 
 /* A segment in a slot of a pool. */
-typedef struct ampferweg_held { uint16_t slot, len; uint8_t fragment; } ampferweg_held;
-
-/* A segment received ahead of its turn, and one sent and not acknowledged. */
-typedef struct ampferweg_waiting { uint32_t number; ampferweg_held held; } ampferweg_waiting;
-typedef struct ampferweg_outstanding { ampferweg_held held; uint8_t transmissions; } ampferweg_outstanding;
-
-/* Lists: the first `count` entries, in order. What lies past them means nothing. */
-typedef struct ampferweg_held_list { ampferweg_held at[128]; size_t count; } ampferweg_held_list;
-typedef struct ampferweg_waiting_list { ampferweg_waiting at[128]; size_t count; } ampferweg_waiting_list;
-typedef struct ampferweg_outstanding_list { ampferweg_outstanding at[32]; size_t count; } ampferweg_outstanding_list;
+typedef struct ampferweg_held { uint8_t slot, fragment; uint16_t len; } ampferweg_held;
 
 /* Round trip, in milliseconds: smoothed time, variation, retransmission timeout. */
 typedef struct ampferweg_round_trip { uint32_t smoothed, variation, timeout; } ampferweg_round_trip;
@@ -158,30 +150,43 @@ typedef struct ampferweg_round_trip { uint32_t smoothed, variation, timeout; } a
 /* Probe of a closed window: milliseconds between two asks (0: stopped), and when the next one is due. */
 typedef struct ampferweg_probe_clock { uint32_t wait, due; } ampferweg_probe_clock;
 
-/* The segments in flight: snd_una, snd_nxt, the round trip, the peer's last window, the outstanding list. */
+/* The sending half: snd_una, snd_nxt, the round trip, the peer's last window; segments queued (accepted and not yet sent) and
+ * outstanding (sent and not acknowledged). */
 typedef struct ampferweg_flight {
     uint32_t una, next;
     ampferweg_round_trip rtt;
     uint16_t window;
-    ampferweg_outstanding_list outstanding;
+    uint64_t queued, outstanding;
 } ampferweg_flight;
 
-/* The receiving half: rcv_nxt, segments ready to be read, segments that wait for one before them. */
-typedef struct ampferweg_receiving {
-    uint32_t next;
-    ampferweg_held_list ready;
-    ampferweg_waiting_list waiting;
-} ampferweg_receiving;
+/* The receiving half: rcv_nxt; whether a window tell is wanted; segments ready to be read, segments that wait for one before
+ * them, and acknowledgements noted, as pairs in the ack list. */
+typedef struct ampferweg_arrival {
+    uint32_t expected;
+    uint8_t tell;
+    uint64_t ready, waiting, acks;
+} ampferweg_arrival;
 
+/* What a flush moves on: the probe clock, the time of the last flush; whether a window ask is wanted, whether the link is dead. */
+typedef struct ampferweg_clock {
+    ampferweg_probe_clock probe;
+    uint32_t current;
+    uint8_t ask, dead;
+} ampferweg_clock;
+
+/* Flags are set where not 0. Of each list the first entries, as many as its count above says, are segments, in order; what
+ * lies past them means nothing. */
 typedef struct ampferweg_link {
     ampferweg_settings settings;
-    ampferweg_held_list queued;     /* segments accepted and not yet sent */
     ampferweg_flight flight;
-    ampferweg_receiving receiving;
-    size_t acks;                    /* acknowledgements noted, as pairs in the ack list */
-    ampferweg_probe_clock probe;
-    uint32_t current;               /* the time of the last flush */
-    uint8_t ask, tell, dead;        /* flags, set where not 0: a window ask is wanted, a tell is, the link is dead */
+    ampferweg_arrival arrival;
+    ampferweg_clock clock;
+    ampferweg_held queued[128];
+    ampferweg_held outstanding[32];
+    uint8_t transmissions[32];      /* of the outstanding segments */
+    ampferweg_held ready[128];
+    ampferweg_held waiting[128];
+    uint32_t waiting_numbers[128];  /* the sequence numbers of the waiting segments */
 } ampferweg_link;
 
 /* A record of the lent table: number, due time, timeout and skip count of the segment in that send slot. */
@@ -195,25 +200,24 @@ typedef struct ampferweg_record { uint32_t number, due, timeout, skips; } ampfer
 #else
 #define AMPFERWEG_LAYOUT(name, holds) typedef char ampferweg_layout_of_##name[(holds) ? 1 : -1]
 #endif
-AMPFERWEG_LAYOUT(size, sizeof(size_t) == 8 && sizeof(void *) == 8);
+#if defined(__BYTE_ORDER__) && __BYTE_ORDER__ != __ORDER_LITTLE_ENDIAN__
+#error "the archive is for little-endian machines"
+#endif
 AMPFERWEG_LAYOUT(settings, sizeof(ampferweg_settings) == 12 && offsetof(ampferweg_settings, mtu) == 4 &&
     offsetof(ampferweg_settings, interval) == 6 && offsetof(ampferweg_settings, mode) == 8 &&
     offsetof(ampferweg_settings, threshold) == 9);
-AMPFERWEG_LAYOUT(held, sizeof(ampferweg_held) == 6 && offsetof(ampferweg_held, len) == 2 && offsetof(ampferweg_held, fragment) == 4);
-AMPFERWEG_LAYOUT(waiting, sizeof(ampferweg_waiting) == 12 && offsetof(ampferweg_waiting, held) == 4);
-AMPFERWEG_LAYOUT(outstanding, sizeof(ampferweg_outstanding) == 8 && offsetof(ampferweg_outstanding, transmissions) == 6);
-AMPFERWEG_LAYOUT(held_list, sizeof(ampferweg_held_list) == 776 && offsetof(ampferweg_held_list, count) == 768);
-AMPFERWEG_LAYOUT(waiting_list, sizeof(ampferweg_waiting_list) == 1544 && offsetof(ampferweg_waiting_list, count) == 1536);
-AMPFERWEG_LAYOUT(outstanding_list, sizeof(ampferweg_outstanding_list) == 264 && offsetof(ampferweg_outstanding_list, count) == 256);
-AMPFERWEG_LAYOUT(flight, sizeof(ampferweg_flight) == 288 && offsetof(ampferweg_flight, rtt) == 8 &&
-    offsetof(ampferweg_flight, window) == 20 && offsetof(ampferweg_flight, outstanding) == 24);
-AMPFERWEG_LAYOUT(receiving, sizeof(ampferweg_receiving) == 2328 && offsetof(ampferweg_receiving, ready) == 8 &&
-    offsetof(ampferweg_receiving, waiting) == 784);
-AMPFERWEG_LAYOUT(link, sizeof(ampferweg_link) == 3432 && offsetof(ampferweg_link, queued) == 16 &&
-    offsetof(ampferweg_link, flight) == 792 && offsetof(ampferweg_link, receiving) == 1080 &&
-    offsetof(ampferweg_link, acks) == 3408 && offsetof(ampferweg_link, probe) == 3416 &&
-    offsetof(ampferweg_link, current) == 3424 && offsetof(ampferweg_link, ask) == 3428 &&
-    offsetof(ampferweg_link, tell) == 3429 && offsetof(ampferweg_link, dead) == 3430);
+AMPFERWEG_LAYOUT(held, sizeof(ampferweg_held) == 4 && offsetof(ampferweg_held, fragment) == 1 && offsetof(ampferweg_held, len) == 2);
+AMPFERWEG_LAYOUT(flight, sizeof(ampferweg_flight) == 40 && offsetof(ampferweg_flight, rtt) == 8 &&
+    offsetof(ampferweg_flight, window) == 20 && offsetof(ampferweg_flight, queued) == 24 && offsetof(ampferweg_flight, outstanding) == 32);
+AMPFERWEG_LAYOUT(arrival, sizeof(ampferweg_arrival) == 32 && offsetof(ampferweg_arrival, tell) == 4 &&
+    offsetof(ampferweg_arrival, ready) == 8 && offsetof(ampferweg_arrival, waiting) == 16 && offsetof(ampferweg_arrival, acks) == 24);
+AMPFERWEG_LAYOUT(clock, sizeof(ampferweg_clock) == 16 && offsetof(ampferweg_clock, current) == 8 &&
+    offsetof(ampferweg_clock, ask) == 12 && offsetof(ampferweg_clock, dead) == 13);
+AMPFERWEG_LAYOUT(link, sizeof(ampferweg_link) == 2312 && offsetof(ampferweg_link, flight) == 16 &&
+    offsetof(ampferweg_link, arrival) == 56 && offsetof(ampferweg_link, clock) == 88 && offsetof(ampferweg_link, queued) == 104 &&
+    offsetof(ampferweg_link, outstanding) == 616 && offsetof(ampferweg_link, transmissions) == 744 &&
+    offsetof(ampferweg_link, ready) == 776 && offsetof(ampferweg_link, waiting) == 1288 &&
+    offsetof(ampferweg_link, waiting_numbers) == 1800);
 AMPFERWEG_LAYOUT(record, sizeof(ampferweg_record) == 16 && offsetof(ampferweg_record, due) == 4 &&
     offsetof(ampferweg_record, timeout) == 8 && offsetof(ampferweg_record, skips) == 12);
 
@@ -242,44 +246,44 @@ AMPFERWEG_LAYOUT(record, sizeof(ampferweg_record) == 16 && offsetof(ampferweg_re
  * conv any number; mtu 50 to 512; mode 0, 1 or 2; interval 10 to 5000; threshold 0 to 100, 0 being off.
  * Answers 0, or refuses 12, 7; a refused opening leaves the old link. */
 ampferweg_result ampferweg_open(ampferweg_link *link, uint32_t conv, uint32_t mtu, uint32_t mode, uint32_t interval, uint32_t threshold,
-    const uint8_t *send_pool, size_t send_pool_len, const uint8_t *receive_pool, size_t receive_pool_len,
-    const ampferweg_record *table, size_t table_len, const uint32_t *acks, size_t acks_len);
+    const uint8_t *send_pool, uint64_t send_pool_len, const uint8_t *receive_pool, uint64_t receive_pool_len,
+    const ampferweg_record *table, uint64_t table_len, const uint32_t *acks, uint64_t acks_len);
 
 /* Accepts a message for sending, whole or not at all: it is copied to the send pool, and goes out with the next flushes.
  * An empty message is a message. Answers 0, or refuses 7, 13, 10, 11. */
-ampferweg_result ampferweg_send(ampferweg_link *link, uint8_t *send_pool, size_t send_pool_len,
-    const uint8_t *receive_pool, size_t receive_pool_len, const ampferweg_record *table, size_t table_len,
-    const uint32_t *acks, size_t acks_len, const uint8_t *message, size_t message_len);
+ampferweg_result ampferweg_send(ampferweg_link *link, uint8_t *send_pool, uint64_t send_pool_len,
+    const uint8_t *receive_pool, uint64_t receive_pool_len, const ampferweg_record *table, uint64_t table_len,
+    const uint32_t *acks, uint64_t acks_len, const uint8_t *message, uint64_t message_len);
 
 /* Takes in a datagram that arrived, whole or not at all. Answers 0, or refuses 7, 13, 1 to 6. */
-ampferweg_result ampferweg_input(ampferweg_link *link, const uint8_t *send_pool, size_t send_pool_len,
-    uint8_t *receive_pool, size_t receive_pool_len, ampferweg_record *table, size_t table_len,
-    uint32_t *acks, size_t acks_len, const uint8_t *datagram, size_t datagram_len);
+ampferweg_result ampferweg_input(ampferweg_link *link, const uint8_t *send_pool, uint64_t send_pool_len,
+    uint8_t *receive_pool, uint64_t receive_pool_len, ampferweg_record *table, uint64_t table_len,
+    uint32_t *acks, uint64_t acks_len, const uint8_t *datagram, uint64_t datagram_len);
 
 /* Writes what is to be sent at the time `now`: acknowledgements, window probes, new segments and retransmissions. The
  * datagrams stand in `output` one behind the other, from its start, and their lengths in `lengths`; what lies beyond is
  * not touched. Besides the four parts it is lent AMPFERWEG_OUTPUT_SIZE bytes and AMPFERWEG_LENGTHS_LEN lengths.
- * Answers the count of datagrams, or refuses 7, 13. link->dead is set once a segment was transmitted 20 times. */
-ampferweg_result ampferweg_flush(ampferweg_link *link, const uint8_t *send_pool, size_t send_pool_len,
-    const uint8_t *receive_pool, size_t receive_pool_len, ampferweg_record *table, size_t table_len,
-    const uint32_t *acks, size_t acks_len, uint32_t now, uint8_t *output, size_t output_len, uint16_t *lengths, size_t lengths_len);
+ * Answers the count of datagrams, or refuses 7, 13. link->clock.dead is set once a segment was transmitted 20 times. */
+ampferweg_result ampferweg_flush(ampferweg_link *link, const uint8_t *send_pool, uint64_t send_pool_len,
+    const uint8_t *receive_pool, uint64_t receive_pool_len, ampferweg_record *table, uint64_t table_len,
+    const uint32_t *acks, uint64_t acks_len, uint32_t now, uint8_t *output, uint64_t output_len, uint16_t *lengths, uint64_t lengths_len);
 
 /* Reads the next message into the buffer, and frees its slots; the buffer beyond it is not touched.
  * Answers its bytes, or refuses 7, 13, 8 or 9, and 7 again for a buffer that is too short (the message stays). */
-ampferweg_result ampferweg_read(ampferweg_link *link, const uint8_t *send_pool, size_t send_pool_len,
-    const uint8_t *receive_pool, size_t receive_pool_len, const ampferweg_record *table, size_t table_len,
-    const uint32_t *acks, size_t acks_len, uint8_t *buffer, size_t buffer_len);
+ampferweg_result ampferweg_read(ampferweg_link *link, const uint8_t *send_pool, uint64_t send_pool_len,
+    const uint8_t *receive_pool, uint64_t receive_pool_len, const ampferweg_record *table, uint64_t table_len,
+    const uint32_t *acks, uint64_t acks_len, uint8_t *buffer, uint64_t buffer_len);
 
 /* Tells the size of the next message. Answers its bytes, or refuses 7, 13, 8 or 9. */
-ampferweg_result ampferweg_size(const ampferweg_link *link, const uint8_t *send_pool, size_t send_pool_len,
-    const uint8_t *receive_pool, size_t receive_pool_len, const ampferweg_record *table, size_t table_len,
-    const uint32_t *acks, size_t acks_len);
+ampferweg_result ampferweg_size(const ampferweg_link *link, const uint8_t *send_pool, uint64_t send_pool_len,
+    const uint8_t *receive_pool, uint64_t receive_pool_len, const ampferweg_record *table, uint64_t table_len,
+    const uint32_t *acks, uint64_t acks_len);
 
 /* Shows the first segment of the next message where it lies: its payload is receive_pool[*start] and on. Answers its
  * length. Never gives a refusal number: where showing is refused, or the payload is empty, the answer is 0. */
-ampferweg_result ampferweg_show(const ampferweg_link *link, const uint8_t *send_pool, size_t send_pool_len,
-    const uint8_t *receive_pool, size_t receive_pool_len, const ampferweg_record *table, size_t table_len,
-    const uint32_t *acks, size_t acks_len, uint32_t *start);
+ampferweg_result ampferweg_show(const ampferweg_link *link, const uint8_t *send_pool, uint64_t send_pool_len,
+    const uint8_t *receive_pool, uint64_t receive_pool_len, const ampferweg_record *table, uint64_t table_len,
+    const uint32_t *acks, uint64_t acks_len, uint32_t *start);
 
 /* ---- Settings files ------------------------------------------------------------------------------------------------
  *
@@ -292,12 +296,12 @@ ampferweg_result ampferweg_show(const ampferweg_link *link, const uint8_t *send_
 /* Writes the file of these settings into the first 15 bytes of `file`; what lies beyond is not touched.
  * Answers 0, or refuses 7 for fewer than 15 bytes, then 12. */
 ampferweg_result ampferweg_settings_write(uint32_t conv, uint32_t mtu, uint32_t mode, uint32_t interval, uint32_t threshold,
-    uint8_t *file, size_t file_len);
+    uint8_t *file, uint64_t file_len);
 
 /* Reads a file of `file_len` bytes, and stores its settings, ready for opening. No two pointers may lead to one number.
  * Answers 0, or refuses 15 for fewer than 5 bytes or another mark, 16 for an unknown version, 15 for a wrong length, then 12;
  * a refused file stores nothing. */
-ampferweg_result ampferweg_settings_read(const uint8_t *file, size_t file_len,
+ampferweg_result ampferweg_settings_read(const uint8_t *file, uint64_t file_len,
     uint32_t *conv, uint32_t *mtu, uint32_t *mode, uint32_t *interval, uint32_t *threshold);
 
 /* ---- A station: a link with its parts ------------------------------------------------------------------------------
@@ -317,8 +321,8 @@ typedef struct ampferweg_station {
 #ifdef __cplusplus
 #define AMPFERWEG_LINK_UNOPENED {}
 #else
-#define AMPFERWEG_LINK_UNOPENED {{0, 0, 0, 0, 0}, {{{0, 0, 0}}, 0}, {0, 0, {0, 0, 0}, 0, {{{{0, 0, 0}, 0}}, 0}}, \
-    {0, {{{0, 0, 0}}, 0}, {{{0, {0, 0, 0}}}, 0}}, 0, {0, 0}, 0, 0, 0, 0}
+#define AMPFERWEG_LINK_UNOPENED {{0, 0, 0, 0, 0}, {0, 0, {0, 0, 0}, 0, 0, 0}, {0, 0, 0, 0, 0}, {{0, 0}, 0, 0, 0}, \
+    {{0, 0, 0}}, {{0, 0, 0}}, {0}, {{0, 0, 0}}, {{0, 0, 0}}, {0}}
 #endif
 
 /* Declares a static output and its lengths, to be shared by stations. */
@@ -403,12 +407,12 @@ static inline const uint8_t *ampferweg_station_show(const ampferweg_station *sta
 
 /* Whether a segment was transmitted 20 times without an acknowledgement. Calls go on; whether to open anew is the
  * caller's to decide. */
-static inline int ampferweg_station_dead(const ampferweg_station *station) { return station->link.dead != 0; }
+static inline int ampferweg_station_dead(const ampferweg_station *station) { return station->link.clock.dead != 0; }
 
 /* Segments accepted for sending and not yet acknowledged; 0 once the peer has all of them. */
 static inline size_t ampferweg_station_pending(const ampferweg_station *station)
 {
-    return station->link.queued.count + station->link.flight.outstanding.count;
+    return (size_t)(station->link.flight.queued + station->link.flight.outstanding);
 }
 
 #ifdef __cplusplus

@@ -44,19 +44,19 @@ static void cases_c_and_d(void)
     snapshot(&lent);
     CHECK_EQUAL(call_send(&lent, NULL, 0), 0);
     CHECK_EQUAL(changed(&lent), 1u << LINK);
-    CHECK(l->queued.count == 1 && l->queued.at[0].len == 0 && l->queued.at[0].fragment == 0);
+    CHECK(l->flight.queued == 1 && l->queued[0].len == 0 && l->queued[0].fragment == 0);
     CHECK_EQUAL(call_send(&lent, message, 26), 0);
-    CHECK(l->queued.count == 2 && l->queued.at[1].len == 26 && l->queued.at[1].slot == 1);
+    CHECK(l->flight.queued == 2 && l->queued[1].len == 26 && l->queued[1].slot == 1);
     CHECK_EQUAL(call_send(&lent, message, 27), 0);
-    CHECK(l->queued.count == 4 && l->queued.at[2].len == 26 && l->queued.at[2].fragment == 1);
-    CHECK(l->queued.at[3].len == 1 && l->queued.at[3].fragment == 0 && l->queued.at[3].slot == 3);
+    CHECK(l->flight.queued == 4 && l->queued[2].len == 26 && l->queued[2].fragment == 1);
+    CHECK(l->queued[3].len == 1 && l->queued[3].fragment == 0 && l->queued[3].slot == 3);
     CHECK(memcmp(lent.station.send_pool + 26, message, 53) == 0);
     CHECK(kept_from(&lent, SEND_POOL, 26 + 53));
     CHECK_EQUAL(changed(&lent), 1u << LINK | 1u << SEND_POOL);
     open_with(50, 0, 10, 0);
     CHECK_EQUAL(call_send(&lent, message, 3303), -AMPFERWEG_LONG_MESSAGE);
     CHECK_EQUAL(call_send(&lent, message, 3302), 0);
-    CHECK(l->queued.count == 127 && l->queued.at[0].fragment == 126 && l->queued.at[126].fragment == 0);
+    CHECK(l->flight.queued == 127 && l->queued[0].fragment == 126 && l->queued[126].fragment == 0);
 }
 
 /* Case E: two samples of the round trip. */
@@ -80,7 +80,7 @@ static void due_times(uint32_t mode, const uint32_t *due, size_t count)
     for (i = 0; i < count; i++) {
         CHECK_EQUAL(call_flush(&lent, now), 1);
         CHECK_EQUAL(lent.station.table[0].due, due[i]);
-        CHECK_EQUAL(l->flight.outstanding.at[0].transmissions, i + 1);
+        CHECK_EQUAL(l->transmissions[0], i + 1);
         CHECK_EQUAL(call_flush(&lent, due[i] - 1), 0);
         now = due[i];
     }
@@ -106,14 +106,14 @@ static void case_h(void)
     for (i = 0; i < 4; i++) {
         CHECK_EQUAL(call_flush(&lent, now), i > 0);
         if (i > 0) CHECK_EQUAL(segment_at(lent.station.output).command, ASK);
-        CHECK_EQUAL(l->probe.wait, waits[i]);
-        CHECK_EQUAL(call_flush(&lent, l->probe.due - 1), 0);
-        now = l->probe.due;
+        CHECK_EQUAL(l->clock.probe.wait, waits[i]);
+        CHECK_EQUAL(call_flush(&lent, l->clock.probe.due - 1), 0);
+        now = l->clock.probe.due;
     }
     closed.window = 1;
     take_in(closed, 0);
     CHECK_EQUAL(call_flush(&lent, now), 0);
-    CHECK(l->probe.wait == 0 && l->probe.due == 0);
+    CHECK(l->clock.probe.wait == 0 && l->clock.probe.due == 0);
 }
 
 /* Case I: sn 127 is kept, 128 is neither kept nor acknowledged. */
@@ -122,10 +122,10 @@ static void case_i(void)
     open_with(256, 0, 10, 0);
     snapshot(&lent);
     take_in(push_of(128, 0, 5), 'n');
-    CHECK(l->receiving.waiting.count == 0 && l->acks == 0);
+    CHECK(l->arrival.waiting == 0 && l->arrival.acks == 0);
     CHECK_EQUAL(changed(&lent) & ~(1u << LINK), 0);
     take_in(push_of(127, 0, 5), 'k');
-    CHECK(l->receiving.waiting.count == 1 && l->acks == 1 && lent.station.acks[0] == 127);
+    CHECK(l->arrival.waiting == 1 && l->arrival.acks == 1 && lent.station.acks[0] == 127);
     CHECK(memcmp(lent.station.receive_pool, "kkkkk", 5) == 0);
     CHECK(kept_from(&lent, RECEIVE_POOL, 5) && kept_from(&lent, ACKS, 2 * sizeof *lent.station.acks));
     CHECK_EQUAL(changed(&lent), 1u << LINK | 1u << RECEIVE_POOL | 1u << ACKS);
@@ -140,7 +140,7 @@ static void case_j(void)
     CHECK_EQUAL(call_flush(&lent, 9), 2);
     CHECK(lent.station.lengths[0] == 48 && lent.station.lengths[1] == 24);
     CHECK_EQUAL(segment_at(lent.station.output + 48).sn, 2);
-    CHECK_EQUAL(l->acks, 0);
+    CHECK_EQUAL(l->arrival.acks, 0);
 }
 
 /* A message of three segments, told, shown and read; the buffer beyond it stays. */
@@ -157,7 +157,7 @@ static void reading(void)
     snapshot(&lent);
     CHECK_EQUAL(call_size(&lent), 500);
     CHECK_EQUAL(call_show(&lent, &start), 232);
-    slot = l->receiving.ready.at[0].slot;
+    slot = l->ready[0].slot;
     CHECK_EQUAL(start, slot * 232);
     CHECK(lent.station.receive_pool[start] == 'a' && lent.station.receive_pool[start + 231] == 'a');
     CHECK_EQUAL(changed(&lent), 0);
@@ -180,15 +180,15 @@ static void full_window(void)
     uint8_t byte;
     open_with(256, 0, 10, 0);
     for (sn = 0; sn < 300; sn++) take_in(push_of(sn, 0, 1), (uint8_t)sn);
-    CHECK(l->receiving.ready.count == 128 && l->receiving.waiting.count == 128 && l->receiving.next == 128);
-    CHECK_EQUAL(l->acks, 256); /* what is past 256 is not noted, and nothing was kept of it: 256 to 299 are out of window */
+    CHECK(l->arrival.ready == 128 && l->arrival.waiting == 128 && l->arrival.expected == 128);
+    CHECK_EQUAL(l->arrival.acks, 256); /* what is past 256 is not noted, and nothing was kept of it: 256 to 299 are out of window */
     CHECK_EQUAL(call_read(&lent, &byte, 1), 1);
-    CHECK(byte == 0 && l->receiving.ready.count == 128 && l->tell == 0);
+    CHECK(byte == 0 && l->arrival.ready == 128 && l->arrival.tell == 0);
     for (sn = 1; sn < 256; sn++) {
         CHECK_EQUAL(call_read(&lent, &byte, 1), 1);
         CHECK_EQUAL(byte, sn);
     }
-    CHECK(l->tell != 0);
+    CHECK(l->arrival.tell != 0);
     CHECK_EQUAL(call_read(&lent, &byte, 1), -AMPFERWEG_NO_MESSAGE);
 }
 
@@ -220,15 +220,15 @@ static void dead(void)
     open_with(256, 1, 10, 0);
     CHECK_EQUAL(call_send(&lent, (const uint8_t *)"d", 1), 0);
     for (i = 0; i < 20; i++) {
-        CHECK(l->dead == 0);
+        CHECK(l->clock.dead == 0);
         CHECK_EQUAL(call_flush(&lent, now), 1);
         now = lent.station.table[0].due;
     }
-    CHECK(l->dead != 0);
+    CHECK(l->clock.dead != 0);
     CHECK_EQUAL(call_flush(&lent, now), 1);
-    CHECK_EQUAL(l->flight.outstanding.at[0].transmissions, 20);
+    CHECK_EQUAL(l->transmissions[0], 20);
     take_in(ack_of(0, now, 0), 0);
-    CHECK(l->dead != 0 && l->flight.outstanding.count == 0);
+    CHECK(l->clock.dead != 0 && l->flight.outstanding == 0);
 }
 
 static void texts(void)

@@ -19,13 +19,13 @@ static void opening_writes(void)
     CHECK_EQUAL(l->settings.mode, 1);
     CHECK_EQUAL(l->settings.interval, 0x1234);
     CHECK_EQUAL(l->settings.threshold, 100);
-    CHECK(l->queued.count == 0 && l->flight.outstanding.count == 0 && l->receiving.ready.count == 0 && l->receiving.waiting.count == 0);
-    CHECK(l->flight.una == 0 && l->flight.next == 0 && l->receiving.next == 0);
+    CHECK(l->flight.queued == 0 && l->flight.outstanding == 0 && l->arrival.ready == 0 && l->arrival.waiting == 0);
+    CHECK(l->flight.una == 0 && l->flight.next == 0 && l->arrival.expected == 0);
     CHECK(l->flight.rtt.smoothed == 0 && l->flight.rtt.variation == 0);
     CHECK_EQUAL(l->flight.rtt.timeout, 200);
     CHECK_EQUAL(l->flight.window, 128);
-    CHECK(l->acks == 0 && l->probe.wait == 0 && l->probe.due == 0 && l->current == 0);
-    CHECK(l->ask == 0 && l->tell == 0 && l->dead == 0);
+    CHECK(l->arrival.acks == 0 && l->clock.probe.wait == 0 && l->clock.probe.due == 0 && l->clock.current == 0);
+    CHECK(l->clock.ask == 0 && l->arrival.tell == 0 && l->clock.dead == 0);
 }
 
 /* A value that refusal 13 names is refused in this field and in no other: the block is as before, and accepted, once it
@@ -42,7 +42,7 @@ static void fill_held(ampferweg_held *at, size_t count, unsigned first_slot)
 {
     size_t i;
     for (i = 0; i < count; i++) {
-        at[i].slot = (uint16_t)(first_slot + i);
+        at[i].slot = (uint8_t)(first_slot + i);
         at[i].len = 232;
         at[i].fragment = 126;
     }
@@ -61,27 +61,27 @@ static void numbers(void)
     REFUSED_13(flight.rtt.variation, 0x80000000);
     REFUSED_13(flight.rtt.timeout, 60001);
     REFUSED_13(flight.rtt.timeout, 29);
-    REFUSED_13(acks, 257);
-    REFUSED_13(probe.wait, 6999);
-    REFUSED_13(queued.count, 129);
-    REFUSED_13(flight.outstanding.count, 33);
-    REFUSED_13(receiving.ready.count, 129);
-    REFUSED_13(receiving.waiting.count, 129);
-    REFUSED_13(queued.count, (size_t)1 << 32);
-    REFUSED_13(acks, (size_t)1 << 32);
+    REFUSED_13(arrival.acks, 257);
+    REFUSED_13(clock.probe.wait, 6999);
+    REFUSED_13(flight.queued, 129);
+    REFUSED_13(flight.outstanding, 33);
+    REFUSED_13(arrival.ready, 129);
+    REFUSED_13(arrival.waiting, 129);
+    REFUSED_13(flight.queued, (uint64_t)1 << 32);
+    REFUSED_13(arrival.acks, (uint64_t)1 << 32);
 }
 
 static void queued_list(void)
 {
     CHECK_EQUAL(call_open(&lent, 7, 256, 1, 10, 2), 0);
-    fill_held(l->queued.at, 128, 0);
-    l->queued.count = 128;
-    REFUSED_13(queued.at[0].slot, 127);
-    REFUSED_13(queued.at[0].len, 233);
-    REFUSED_13(queued.at[0].fragment, 127);
-    REFUSED_13(queued.at[127].slot, 128);
-    REFUSED_13(queued.at[127].len, 0xFFFF);
-    REFUSED_13(queued.at[127].fragment, 0xFF);
+    fill_held(l->queued, 128, 0);
+    l->flight.queued = 128;
+    REFUSED_13(queued[0].slot, 127);
+    REFUSED_13(queued[0].len, 233);
+    REFUSED_13(queued[0].fragment, 127);
+    REFUSED_13(queued[127].slot, 128);
+    REFUSED_13(queued[127].len, 0xFFFF);
+    REFUSED_13(queued[127].fragment, 0xFF);
 }
 
 /* Number, timeout and skips of an outstanding segment's record at their limits: one more is refused; due may be anything. */
@@ -110,22 +110,22 @@ static void outstanding_list(void)
     CHECK_EQUAL(call_open(&lent, 7, 256, 1, 10, 2), 0);
     l->flight.una = 0xFFFFFFF0;
     l->flight.next = 16;
-    l->flight.outstanding.count = 32;
+    l->flight.outstanding = 32;
     for (i = 0; i < 32; i++) {
-        fill_held(&l->flight.outstanding.at[i].held, 1, (unsigned)(96 + i));
-        l->flight.outstanding.at[i].transmissions = 20;
+        fill_held(&l->outstanding[i], 1, (unsigned)(96 + i));
+        l->transmissions[i] = 20;
         table[96 + i].number = 0xFFFFFFF0 + (uint32_t)i;
         table[96 + i].timeout = 60000;
         table[96 + i].skips = 255;
     }
-    REFUSED_13(flight.outstanding.at[0].held.slot, 127);
-    REFUSED_13(flight.outstanding.at[0].held.len, 233);
-    REFUSED_13(flight.outstanding.at[0].held.fragment, 127);
-    REFUSED_13(flight.outstanding.at[0].transmissions, 21);
-    REFUSED_13(flight.outstanding.at[31].held.slot, 128);
-    REFUSED_13(flight.outstanding.at[31].held.len, 233);
-    REFUSED_13(flight.outstanding.at[31].held.fragment, 127);
-    REFUSED_13(flight.outstanding.at[31].transmissions, 21);
+    REFUSED_13(outstanding[0].slot, 127);
+    REFUSED_13(outstanding[0].len, 233);
+    REFUSED_13(outstanding[0].fragment, 127);
+    REFUSED_13(transmissions[0], 21);
+    REFUSED_13(outstanding[31].slot, 128);
+    REFUSED_13(outstanding[31].len, 233);
+    REFUSED_13(outstanding[31].fragment, 127);
+    REFUSED_13(transmissions[31], 21);
     REFUSED_13(flight.una, 0xFFFFFFEF);
     REFUSED_13(flight.next, 17);
     record_of_slot(96);
@@ -136,30 +136,30 @@ static void receiving_lists(void)
 {
     size_t i;
     CHECK_EQUAL(call_open(&lent, 7, 256, 1, 10, 2), 0);
-    l->receiving.next = 0xFFFFFFC0;
-    fill_held(l->receiving.ready.at, 128, 128);
-    l->receiving.ready.count = 128;
-    l->receiving.waiting.count = 128;
+    l->arrival.expected = 0xFFFFFFC0;
+    fill_held(l->ready, 128, 128);
+    l->arrival.ready = 128;
+    l->arrival.waiting = 128;
     for (i = 0; i < 128; i++) {
-        l->receiving.waiting.at[i].number = 0xFFFFFFC0 + (uint32_t)i;
-        fill_held(&l->receiving.waiting.at[i].held, 1, (unsigned)i);
+        l->waiting_numbers[i] = 0xFFFFFFC0 + (uint32_t)i;
+        fill_held(&l->waiting[i], 1, (unsigned)i);
     }
-    REFUSED_13(receiving.next, 0xFFFFFFBF);
-    REFUSED_13(receiving.ready.count, 127);
-    REFUSED_13(receiving.ready.at[0].slot, 255);
-    REFUSED_13(receiving.ready.at[0].len, 233);
-    REFUSED_13(receiving.ready.at[0].fragment, 127);
-    REFUSED_13(receiving.ready.at[127].slot, 256);
-    REFUSED_13(receiving.ready.at[127].len, 233);
-    REFUSED_13(receiving.ready.at[127].fragment, 127);
-    REFUSED_13(receiving.waiting.at[0].number, 0xFFFFFFC1);
-    REFUSED_13(receiving.waiting.at[0].held.slot, 127);
-    REFUSED_13(receiving.waiting.at[0].held.len, 233);
-    REFUSED_13(receiving.waiting.at[0].held.fragment, 127);
-    REFUSED_13(receiving.waiting.at[127].number, 0x40);
-    REFUSED_13(receiving.waiting.at[127].held.slot, 256);
-    REFUSED_13(receiving.waiting.at[127].held.len, 233);
-    REFUSED_13(receiving.waiting.at[127].held.fragment, 127);
+    REFUSED_13(arrival.expected, 0xFFFFFFBF);
+    REFUSED_13(arrival.ready, 127);
+    REFUSED_13(ready[0].slot, 255);
+    REFUSED_13(ready[0].len, 233);
+    REFUSED_13(ready[0].fragment, 127);
+    REFUSED_13(ready[127].slot, 0);
+    REFUSED_13(ready[127].len, 233);
+    REFUSED_13(ready[127].fragment, 127);
+    REFUSED_13(waiting_numbers[0], 0xFFFFFFC1);
+    REFUSED_13(waiting[0].slot, 127);
+    REFUSED_13(waiting[0].len, 233);
+    REFUSED_13(waiting[0].fragment, 127);
+    REFUSED_13(waiting_numbers[127], 0x40);
+    REFUSED_13(waiting[127].slot, 255);
+    REFUSED_13(waiting[127].len, 233);
+    REFUSED_13(waiting[127].fragment, 127);
 }
 
 static struct segment flushed(uint32_t now)
@@ -174,22 +174,22 @@ static void seen_in_a_flush(void)
     struct segment s;
     CHECK_EQUAL(call_open(&lent, 7, 256, 1, 10, 2), 0);
     l->settings.conv = 0xFEDCBA98;
-    l->receiving.next = 0x12345678;
-    l->tell = 0x80;
+    l->arrival.expected = 0x12345678;
+    l->arrival.tell = 0x80;
     s = flushed(5);
     CHECK(s.command == TELL && s.conv == 0xFEDCBA98 && s.una == 0x12345678 && s.window == 128);
-    CHECK_EQUAL(l->current, 5);
-    CHECK_EQUAL(l->tell, 0);
-    l->ask = 1;
+    CHECK_EQUAL(l->clock.current, 5);
+    CHECK_EQUAL(l->arrival.tell, 0);
+    l->clock.ask = 1;
     CHECK_EQUAL(flushed(6).command, ASK);
-    l->acks = 256;
+    l->arrival.acks = 256;
     lent.station.acks[0] = 0xA1B2C3D4;
     lent.station.acks[1] = 0x01020304;
     lent.station.acks[510] = 0x55667788;
     s = flushed(7);
     CHECK(s.command == ACK && s.sn == 0xA1B2C3D4 && s.ts == 0x01020304);
     CHECK_EQUAL(segment_at(lent.station.output + 255 * HEADER).sn, 0x55667788);
-    CHECK_EQUAL(l->acks, 0);
+    CHECK_EQUAL(l->arrival.acks, 0);
 }
 
 /* The peer's window 0 starts the probe clock; when it is due an ask goes out. dead stays as it is set. */
@@ -197,13 +197,13 @@ static void seen_in_the_clock(void)
 {
     CHECK_EQUAL(call_open(&lent, 7, 256, 1, 10, 2), 0);
     l->flight.window = 0;
-    l->dead = 1;
+    l->clock.dead = 1;
     CHECK_EQUAL(call_flush(&lent, 1000), 0);
-    CHECK(l->probe.wait == 7000 && l->probe.due == 8000);
-    l->probe.due = 1001;
+    CHECK(l->clock.probe.wait == 7000 && l->clock.probe.due == 8000);
+    l->clock.probe.due = 1001;
     CHECK_EQUAL(flushed(1001).command, ASK);
-    CHECK(l->probe.wait == 10500 && l->probe.due == 11501);
-    CHECK(l->dead != 0 && l->ask == 0);
+    CHECK(l->clock.probe.wait == 10500 && l->clock.probe.due == 11501);
+    CHECK(l->clock.dead != 0 && l->clock.ask == 0);
 }
 
 int main(void)

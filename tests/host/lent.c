@@ -128,45 +128,38 @@ int guarded(const struct lent *lent)
     return 1;
 }
 
-static int same_held(const ampferweg_held *a, const ampferweg_held *b)
-{
-    return a->slot == b->slot && a->len == b->len && a->fragment == b->fragment;
-}
-
-static int same_held_list(const ampferweg_held_list *a, const ampferweg_held_list *b)
+static int same_held(const ampferweg_held *a, const ampferweg_held *b, size_t count)
 {
     size_t i;
-    for (i = 0; i < 128; i++)
-        if (!same_held(&a->at[i], &b->at[i])) return 0;
-    return a->count == b->count;
+    for (i = 0; i < count; i++)
+        if (a[i].slot != b[i].slot || a[i].len != b[i].len || a[i].fragment != b[i].fragment) return 0;
+    return 1;
 }
 
 static int same_flight(const ampferweg_flight *a, const ampferweg_flight *b)
 {
-    const ampferweg_outstanding_list *p = &a->outstanding, *q = &b->outstanding;
-    size_t i;
-    for (i = 0; i < 32; i++)
-        if (!same_held(&p->at[i].held, &q->at[i].held) || p->at[i].transmissions != q->at[i].transmissions) return 0;
-    return p->count == q->count && a->una == b->una && a->next == b->next && a->window == b->window &&
-        memcmp(&a->rtt, &b->rtt, sizeof a->rtt) == 0;
+    return a->una == b->una && a->next == b->next && a->window == b->window && memcmp(&a->rtt, &b->rtt, sizeof a->rtt) == 0 &&
+        a->queued == b->queued && a->outstanding == b->outstanding;
 }
 
-static int same_receiving(const ampferweg_receiving *a, const ampferweg_receiving *b)
+static int same_arrival(const ampferweg_arrival *a, const ampferweg_arrival *b)
 {
-    const ampferweg_waiting_list *p = &a->waiting, *q = &b->waiting;
-    size_t i;
-    for (i = 0; i < 128; i++)
-        if (!same_held(&p->at[i].held, &q->at[i].held) || p->at[i].number != q->at[i].number) return 0;
-    return p->count == q->count && a->next == b->next && same_held_list(&a->ready, &b->ready);
+    return a->expected == b->expected && a->tell == b->tell && a->ready == b->ready && a->waiting == b->waiting && a->acks == b->acks;
+}
+
+static int same_clock(const ampferweg_clock *a, const ampferweg_clock *b)
+{
+    return a->probe.wait == b->probe.wait && a->probe.due == b->probe.due && a->current == b->current && a->ask == b->ask && a->dead == b->dead;
 }
 
 int same_link(const ampferweg_link *a, const ampferweg_link *b)
 {
     const ampferweg_settings *s = &a->settings, *t = &b->settings;
     return s->conv == t->conv && s->mtu == t->mtu && s->interval == t->interval && s->mode == t->mode && s->threshold == t->threshold &&
-        same_held_list(&a->queued, &b->queued) && same_flight(&a->flight, &b->flight) && same_receiving(&a->receiving, &b->receiving) &&
-        a->acks == b->acks && a->probe.wait == b->probe.wait && a->probe.due == b->probe.due && a->current == b->current &&
-        a->ask == b->ask && a->tell == b->tell && a->dead == b->dead;
+        same_flight(&a->flight, &b->flight) && same_arrival(&a->arrival, &b->arrival) && same_clock(&a->clock, &b->clock) &&
+        same_held(a->queued, b->queued, 128) && same_held(a->outstanding, b->outstanding, 32) &&
+        memcmp(a->transmissions, b->transmissions, sizeof a->transmissions) == 0 && same_held(a->ready, b->ready, 128) &&
+        same_held(a->waiting, b->waiting, 128) && memcmp(a->waiting_numbers, b->waiting_numbers, sizeof a->waiting_numbers) == 0;
 }
 
 ampferweg_result call_open(struct lent *lent, uint32_t conv, uint32_t mtu, uint32_t mode, uint32_t interval, uint32_t threshold)

@@ -235,13 +235,13 @@ static void number_13(void)
     lent.link->settings.mtu = 256;
     all_refused(AMPFERWEG_INVALID_BLOCK);
     open_busy(256);
-    lent.link->queued.at[1].slot = lent.link->queued.at[0].slot;
+    lent.link->queued[1].slot = lent.link->queued[0].slot;
     all_refused(AMPFERWEG_INVALID_BLOCK);
     open_busy(256);
-    lent.station.table[lent.link->flight.outstanding.at[0].held.slot].skips = 256;
+    lent.station.table[lent.link->outstanding[0].slot].skips = 256;
     all_refused(AMPFERWEG_INVALID_BLOCK);
     open_busy(256);
-    lent.link->probe.wait = 1;
+    lent.link->clock.probe.wait = 1;
     all_refused(AMPFERWEG_INVALID_BLOCK);
 }
 

@@ -4,6 +4,7 @@
  * held, jump SND RCV, lend PART COUNT, poke FIELD VALUE, hold LIST INDEX FIELD VALUE, rec SLOT NUMBER DUE TIMEOUT SKIPS.
  * The parts are those of an mtu of 256. tests/vectors has scripts with the answers that they must get. */
 #include <ampferweg.h>
+#include <inttypes.h>
 #include <stdio.h>
 #include <string.h>
 
@@ -184,17 +185,17 @@ static void play_state(void)
 {
     const ampferweg_link *l = &station.link;
     if (stops(words == 1)) return;
-    printf("state %u %u %u %u %u %u %u %u %u %u %d %d %d %zu %zu %zu %zu %zu\n",
-        l->flight.una, l->flight.next, l->receiving.next, l->current, (unsigned)l->flight.window, l->flight.rtt.smoothed,
-        l->flight.rtt.variation, l->flight.rtt.timeout, l->probe.wait, l->probe.due, l->ask != 0, l->tell != 0, l->dead != 0,
-        l->acks, l->queued.count, l->flight.outstanding.count, l->receiving.ready.count, l->receiving.waiting.count);
+    printf("state %u %u %u %u %u %u %u %u %u %u %d %d %d %" PRIu64 " %" PRIu64 " %" PRIu64 " %" PRIu64 " %" PRIu64 "\n",
+        l->flight.una, l->flight.next, l->arrival.expected, l->clock.current, (unsigned)l->flight.window, l->flight.rtt.smoothed,
+        l->flight.rtt.variation, l->flight.rtt.timeout, l->clock.probe.wait, l->clock.probe.due, l->clock.ask != 0, l->arrival.tell != 0, l->clock.dead != 0,
+        l->arrival.acks, l->flight.queued, l->flight.outstanding, l->arrival.ready, l->arrival.waiting);
 }
 
-static void say_outstanding(const ampferweg_outstanding *sent)
+static void say_outstanding(const ampferweg_link *l, size_t i)
 {
-    const ampferweg_record *record = &station.table[sent->held.slot];
-    say_held(" o", &sent->held);
-    printf(" %u %u %u %u %u", (unsigned)sent->transmissions, record->number, record->due, record->timeout, record->skips);
+    const ampferweg_record *record = &station.table[l->outstanding[i].slot];
+    say_held(" o", &l->outstanding[i]);
+    printf(" %u %u %u %u %u", (unsigned)l->transmissions[i], record->number, record->due, record->timeout, record->skips);
 }
 
 static void play_held(void)
@@ -203,12 +204,12 @@ static void play_held(void)
     size_t i;
     if (stops(words == 1)) return;
     printf("held");
-    for (i = 0; i < l->queued.count; i++) say_held(" q", &l->queued.at[i]);
-    for (i = 0; i < l->flight.outstanding.count; i++) say_outstanding(&l->flight.outstanding.at[i]);
-    for (i = 0; i < l->receiving.ready.count; i++) say_held(" r", &l->receiving.ready.at[i]);
-    for (i = 0; i < l->receiving.waiting.count; i++) {
-        printf(" w %u", l->receiving.waiting.at[i].number);
-        say_held("", &l->receiving.waiting.at[i].held);
+    for (i = 0; i < l->flight.queued; i++) say_held(" q", &l->queued[i]);
+    for (i = 0; i < l->flight.outstanding; i++) say_outstanding(l, i);
+    for (i = 0; i < l->arrival.ready; i++) say_held(" r", &l->ready[i]);
+    for (i = 0; i < l->arrival.waiting; i++) {
+        printf(" w %u", l->waiting_numbers[i]);
+        say_held("", &l->waiting[i]);
     }
     putchar('\n');
 }
@@ -218,7 +219,7 @@ static void play_jump(void)
     uint32_t v[2];
     if (stops(numbers(v, 2) && (after_open || !opened))) return;
     station.link.flight.una = station.link.flight.next = v[0];
-    station.link.receiving.next = v[1];
+    station.link.arrival.expected = v[1];
     puts("ok");
 }
 
@@ -244,7 +245,7 @@ static int store8(uint8_t *at, uint32_t value) { *at = (uint8_t)(value > UINT8_M
 static int store16(uint16_t *at, uint32_t value) { *at = (uint16_t)(value > UINT16_MAX ? *at : value); return value <= UINT16_MAX; }
 static int store32(uint32_t *at, uint32_t value) { *at = value; return 1; }
 static int store_flag(uint8_t *at, uint32_t value) { *at = value != 0; return 1; }
-static int store_count(size_t *at, uint32_t value) { *at = value > UINT16_MAX ? *at : value; return value <= UINT16_MAX; }
+static int store_count(uint64_t *at, uint32_t value) { *at = value > UINT16_MAX ? *at : value; return value <= UINT16_MAX; }
 
 static int poke(uint32_t field, uint32_t value)
 {
@@ -257,18 +258,18 @@ static int poke(uint32_t field, uint32_t value)
     case 4: return store8(&l->settings.threshold, value);
     case 5: return store32(&l->flight.una, value);
     case 6: return store32(&l->flight.next, value);
-    case 7: return store32(&l->receiving.next, value);
-    case 8: return store32(&l->current, value);
+    case 7: return store32(&l->arrival.expected, value);
+    case 8: return store32(&l->clock.current, value);
     case 9: return store16(&l->flight.window, value);
     case 10: return store32(&l->flight.rtt.smoothed, value);
     case 11: return store32(&l->flight.rtt.variation, value);
     case 12: return store32(&l->flight.rtt.timeout, value);
-    case 13: return store32(&l->probe.wait, value);
-    case 14: return store32(&l->probe.due, value);
-    case 15: return store_flag(&l->ask, value);
-    case 16: return store_flag(&l->tell, value);
-    case 17: return store_flag(&l->dead, value);
-    case 18: return store_count(&l->acks, value);
+    case 13: return store32(&l->clock.probe.wait, value);
+    case 14: return store32(&l->clock.probe.due, value);
+    case 15: return store_flag(&l->clock.ask, value);
+    case 16: return store_flag(&l->arrival.tell, value);
+    case 17: return store_flag(&l->clock.dead, value);
+    case 18: return store_count(&l->arrival.acks, value);
     default: return 0;
     }
 }
@@ -285,10 +286,10 @@ static ampferweg_held *entry(uint32_t list, size_t i)
 {
     ampferweg_link *l = &station.link;
     switch (list) {
-    case 0: return i < l->queued.count ? &l->queued.at[i] : NULL;
-    case 1: return i < l->flight.outstanding.count ? &l->flight.outstanding.at[i].held : NULL;
-    case 2: return i < l->receiving.ready.count ? &l->receiving.ready.at[i] : NULL;
-    case 3: return i < l->receiving.waiting.count ? &l->receiving.waiting.at[i].held : NULL;
+    case 0: return i < l->flight.queued ? &l->queued[i] : NULL;
+    case 1: return i < l->flight.outstanding ? &l->outstanding[i] : NULL;
+    case 2: return i < l->arrival.ready ? &l->ready[i] : NULL;
+    case 3: return i < l->arrival.waiting ? &l->waiting[i] : NULL;
     default: return NULL;
     }
 }
@@ -297,11 +298,11 @@ static int hold(uint32_t list, uint32_t i, uint32_t field, uint32_t value)
 {
     ampferweg_held *held = entry(list, i);
     if (held == NULL) return 0;
-    if (field == 0) return store16(&held->slot, value);
+    if (field == 0) return store8(&held->slot, value);
     if (field == 1) return store16(&held->len, value);
     if (field == 2) return store8(&held->fragment, value);
-    if (field == 3 && list == 1) return store8(&station.link.flight.outstanding.at[i].transmissions, value);
-    if (field == 3 && list == 3) return store32(&station.link.receiving.waiting.at[i].number, value);
+    if (field == 3 && list == 1) return store8(&station.link.transmissions[i], value);
+    if (field == 3 && list == 3) return store32(&station.link.waiting_numbers[i], value);
     return 0;
 }
 

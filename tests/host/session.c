@@ -94,7 +94,7 @@ static void open_end(struct end *end, uint32_t name, uint32_t mtu, uint32_t mode
     end->sent = end->heard = 0;
     end->name = name;
     CHECK_EQUAL(ampferweg_station_open(end->station, 99, mtu, mode, 10, threshold), 0);
-    end->station->link.flight.una = end->station->link.flight.next = end->station->link.receiving.next = first;
+    end->station->link.flight.una = end->station->link.flight.next = end->station->link.arrival.expected = first;
 }
 
 static int done(void)

@@ -17,9 +17,9 @@ static size_t any_datagram(uint8_t *at)
     static const uint8_t commands[] = {PUSH, PUSH, PUSH, ACK, ACK, ASK, TELL};
     size_t len = 0, i, count = 1 + below(4);
     for (i = 0; i < count; i++) {
-        struct segment s = push_of(l->receiving.next + below(140) - 5, (uint8_t)below(3), below(27));
+        struct segment s = push_of(l->arrival.expected + below(140) - 5, (uint8_t)below(3), below(27));
         s.command = commands[below(sizeof commands)];
-        if (s.command == ACK) s = ack_of(l->flight.una + below(34) - 1, l->current - below(300) + 20, l->flight.una + below(3));
+        if (s.command == ACK) s = ack_of(l->flight.una + below(34) - 1, l->clock.current - below(300) + 20, l->flight.una + below(3));
         s.window = (uint16_t)below(40);
         len += put_segment(at + len, s, (uint8_t)any());
     }

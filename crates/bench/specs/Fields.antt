@@ -10,11 +10,10 @@ use lib.Seq.{sets}
 use Rattle.lists.specs.declared.Held.{Held}
 use Rattle.lists.specs.declared.Outstanding.{Outstanding}
 use Rattle.lists.specs.declared.Waiting.{Waiting}
-use Rattle.lists.specs.declared.HeldList.{HeldList}
-use Rattle.lists.specs.declared.OutstandingList.{OutstandingList}
-use Rattle.lists.specs.declared.WaitingList.{WaitingList}
 use Rattle.protocol.specs.declared.Settings.{Settings}
-use Rattle.block.specs.declared.Link.{Link}
+use Rattle.words.specs.Words.{unpack, paired, outstandingAt, waitingAt}
+use Rattle.control.specs.Views.{Arrays, arraysOf}
+use Rattle.control.specs.declared.Link.{Link}
 use Rattle.bench.specs.declared.Lent.{Lent}
 use Rattle.bench.specs.declared.Bench.{Bench}
 
@@ -55,9 +54,9 @@ settingsOf s = s .conv ∷ s .mtu ∷ s .mode ∷ s .interval ∷ s .threshold �
 abbrev pub fieldsOf : Link → List ℕ
 fieldsOf l =
     settingsOf (l .settings)
-    ++ l .flight .una ∷ l .flight .next ∷ l .receiving .next ∷ l .current ∷ l .flight .window
+    ++ l .flight .una ∷ l .flight .next ∷ l .arrival .expected ∷ l .clock .current ∷ l .flight .window
     ∷ l .flight .rtt .smoothed ∷ l .flight .rtt .variation ∷ l .flight .rtt .timeout
-    ∷ l .probe .wait ∷ l .probe .due ∷ l .ask ∷ l .tell ∷ l .dead ∷ l .acks ∷ []
+    ∷ l .clock .probe .wait ∷ l .clock .probe .due ∷ l .clock .ask ∷ l .arrival .tell ∷ l .clock .dead ∷ l .arrival .acks ∷ []
 
 -- what each field stores
 abbrev pub widths : List (ℕ → ℕ)
@@ -70,19 +69,21 @@ widths =
 abbrev pub stored : ℕ → ℕ → ℕ
 stored field value = getD widths field whole value
 
--- its lists: queued, outstanding, ready and waiting
-abbrev pub listsOf : Link → HeldList × (OutstandingList × (HeldList × WaitingList))
-listsOf l = (l .queued, (l .flight .outstanding, (l .receiving .ready, l .receiving .waiting)))
+-- how many each list holds: 0 queued 1 outstanding 2 ready 3 waiting
+abbrev pub holds : Link → List ℕ
+holds l = l .flight .queued ∷ l .flight .outstanding ∷ l .arrival .ready ∷ l .arrival .waiting ∷ []
 
 -- a field has another value
 pub record Poked (l : Link) (field value : ℕ) (r : Link) : Type 0 where
   pub fields : fieldsOf r ≡ set (fieldsOf l) field (stored field value)
-  pub lists : listsOf r ≡ listsOf l
+  pub counts : holds r ≡ holds l
+  pub lists : arraysOf r ≡ arraysOf l
 
 -- snd_una and snd_nxt are snd, rcv_nxt is rcv
 pub record Jumped (l : Link) (snd rcv : ℕ) (r : Link) : Type 0 where
   pub fields : fieldsOf r ≡ sets (fieldsOf l) 5 (snd ∷ snd ∷ rcv ∷ [])
-  pub lists : listsOf r ≡ listsOf l
+  pub counts : holds r ≡ holds l
+  pub lists : arraysOf r ≡ arraysOf l
 
 -- ---- fields of the segments that it holds
 
@@ -101,16 +102,14 @@ waitingFields w = heldFields (w .held) ++ (w .number ∷ [])
 -- the segments of each list: 0 queued 1 outstanding 2 ready 3 waiting
 abbrev pub segmentsOf : Link → List (List (List ℕ))
 segmentsOf l =
-    map heldFields (l .queued .at) ∷ map outstandingFields (l .flight .outstanding .at)
-    ∷ map heldFields (l .receiving .ready .at) ∷ map waitingFields (l .receiving .waiting .at) ∷ []
-
--- how many each list holds
-abbrev pub holds : Link → List ℕ
-holds l = l .queued .count ∷ l .flight .outstanding .count ∷ l .receiving .ready .count ∷ l .receiving .waiting .count ∷ []
+    map (λ w. heldFields (unpack w)) (l .queued)
+    ∷ map outstandingFields (paired outstandingAt (l .outstanding) (l .transmissions))
+    ∷ map (λ w. heldFields (unpack w)) (l .ready)
+    ∷ map waitingFields (paired waitingAt (l .waiting) (l .«waiting_numbers»)) ∷ []
 
 -- what each field stores, list by list
 abbrev pub threeWidths : List (ℕ → ℕ)
-threeWidths = low16 ∷ low16 ∷ low8 ∷ []
+threeWidths = low8 ∷ low16 ∷ low8 ∷ []
 
 abbrev pub heldWidths : List (List (ℕ → ℕ))
 heldWidths = threeWidths ∷ (threeWidths ++ (low8 ∷ [])) ∷ threeWidths ∷ (threeWidths ++ (whole ∷ [])) ∷ []
@@ -125,6 +124,12 @@ HasField list field = field < length (getD heldWidths list [])
 -- a field of the segment at an index has another value
 abbrev pub changed : List (List ℕ) → ℕ → ℕ → ℕ → List (List ℕ)
 changed segments index field v = set segments index (set (getD segments index []) field v)
+
+-- the word at an index is one whose segment has another value in a field; past the end none changes
+pub record Reworded (list : List ℕ) (index field value : ℕ) (r : List ℕ) : Type 0 where
+  pub word : ℕ
+  pub is : r ≡ set list index word
+  pub fields : index < length list → field < 3 → heldFields (unpack word) ≡ set (heldFields (unpack (getD list index 0))) field (storedIn 0 field value)
 
 -- a field of the segment at an index of a list has another value
 pub record HeldChanged (l : Link) (list index field value : ℕ) (r : Link) : Type 0 where

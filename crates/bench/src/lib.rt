@@ -1,12 +1,10 @@
 // The state of the bench: a link, its table of records, and how much of each part it is lent.
 pub mod poke;
 
-use block::Link;
-use block::StoredFlight;
-use lists::HeldList;
-use lists::OutstandingList;
-use lists::Receiving;
-use lists::WaitingList;
+use control::Arrival;
+use control::Clock;
+use control::Flight;
+use control::Link;
 use protocol::Settings;
 use timing::ProbeClock;
 use timing::Record;
@@ -49,39 +47,44 @@ fn blank() -> Link {
         mode: 0,
         threshold: 0,
     };
-    let queued = HeldList::new();
-    let outstanding = OutstandingList::new();
-    let ready = HeldList::new();
-    let waiting = WaitingList::new();
     let rtt = RoundTrip {
         smoothed: 0,
         variation: 0,
         timeout: 0,
     };
-    let flight = StoredFlight {
+    let flight = Flight {
         una: 0,
         next: 0,
         rtt,
         window: 0,
-        outstanding,
+        queued: 0,
+        outstanding: 0,
     };
-    let receiving = Receiving {
-        next: 0,
-        ready,
-        waiting,
+    let arrival = Arrival {
+        expected: 0,
+        tell: 0,
+        ready: 0,
+        waiting: 0,
+        acks: 0,
     };
     let probe = ProbeClock { wait: 0, due: 0 };
-    Link {
-        settings,
-        queued,
-        flight,
-        receiving,
-        acks: 0,
+    let clock = Clock {
         probe,
         current: 0,
         ask: 0,
-        tell: 0,
         dead: 0,
+    };
+    Link {
+        settings,
+        flight,
+        arrival,
+        clock,
+        queued: [0; 128],
+        outstanding: [0; 32],
+        transmissions: [0; 32],
+        ready: [0; 128],
+        waiting: [0; 128],
+        waiting_numbers: [0; 128],
     }
 }
 
@@ -169,7 +172,7 @@ pub fn jump(link: Link, snd: u32, rcv: u32) -> Link
     let mut next = link;
     next.flight.una = snd;
     next.flight.next = snd;
-    next.receiving.next = rcv;
+    next.arrival.expected = rcv;
     next
 }
 

@@ -1,18 +1,13 @@
 // The control block with one number changed, to try refusal 13.
-use block::Link;
+use control::Link;
 use lists::Held;
-use lists::HeldList;
-use lists::Outstanding;
-use lists::OutstandingList;
-use lists::Waiting;
-use lists::WaitingList;
 use protocol::Settings;
 ghost use mathlib.Core.Path.{_≡_};
-ghost use mathlib.Core.List.{map};
 ghost use Prim.Native.Nat.{_%_, _≤_, _<_};
 ghost use lib.Dec.{ltb};
 ghost use lib.ListN.{getD, set};
-ghost use Rattle.bench.specs.Fields.{flag, settingsOf, stored, Poked, heldFields, outstandingFields, waitingFields, storedIn, HasField, holds, changed, HeldChanged};
+ghost use Rattle.words.specs.Words.{unpack};
+ghost use Rattle.bench.specs.Fields.{flag, settingsOf, stored, Poked, heldFields, storedIn, HasField, holds, Reworded, HeldChanged};
 
 // The low 16 and 8 bits of a value.
 fn narrow(value: u32) -> u16
@@ -59,8 +54,8 @@ fn number(link: Link, field: u32, value: u32) -> Link
     match field {
         5 => next.flight.una = value,
         6 => next.flight.next = value,
-        7 => next.receiving.next = value,
-        8 => next.current = value,
+        7 => next.arrival.expected = value,
+        8 => next.clock.current = value,
         9 => next.flight.window = window,
         10 => next.flight.rtt.smoothed = value,
         11 => next.flight.rtt.variation = value,
@@ -74,14 +69,16 @@ fn wish(link: Link, field: u32, value: u32) -> Link
     requires { ⌜ 13 ≤ field ⌝ }
     ensures { λ r. ⌜ (field ≤ 18 → Poked link field value r) ⌝ }
 {
+    let set = flag(value);
+    let count = value as usize;
     let mut next = link;
     match field {
-        13 => next.probe.wait = value,
-        14 => next.probe.due = value,
-        15 => next.ask = flag(value),
-        16 => next.tell = flag(value),
-        17 => next.dead = flag(value),
-        _ => next.acks = value as usize,
+        13 => next.clock.probe.wait = value,
+        14 => next.clock.probe.due = value,
+        15 => next.clock.ask = set,
+        16 => next.arrival.tell = set,
+        17 => next.clock.dead = set,
+        _ => next.arrival.acks = count,
     }
     next
 }
@@ -104,43 +101,23 @@ pub fn poke(link: Link, field: u32, value: u32) -> Link
 
 // A held segment with another slot, length or fragment.
 fn held(held: Held, field: u32, value: u32) -> Held
-    ensures { λ r. ⌜ (field < 3 → heldFields r ≡ set (heldFields held) field (storedIn 0 field value)) ⌝ }
+    requires { ⌜ held .slot < 256 ⌝ }
+    ensures { λ r. ⌜ (r .slot < 256) × (field < 3 → heldFields r ≡ set (heldFields held) field (storedIn 0 field value)) ⌝ }
 {
     let mut next = held;
     match field {
-        0 => next.slot = narrow(value),
+        0 => next.slot = byte(value) as u16,
         1 => next.len = narrow(value),
         _ => next.fragment = byte(value),
     }
     next
 }
 
-// The same of an outstanding segment, whose field 3 is its transmissions.
-fn outstanding(segment: Outstanding, field: u32, value: u32) -> Outstanding
-    ensures { λ r. ⌜ (field < 4 → outstandingFields r ≡ set (outstandingFields segment) field (storedIn 1 field value)) ⌝ }
+// The same of its word.
+fn word(word: u32, field: u32, value: u32) -> u32
+    ensures { λ r. ⌜ (field < 3 → heldFields (unpack r) ≡ set (heldFields (unpack word)) field (storedIn 0 field value)) ⌝ }
 {
-    let mut next = segment;
-    if field == 3 {
-        next.transmissions = byte(value);
-        return next;
-    }
-    let changed = held(segment.held, field, value);
-    next.held = changed;
-    next
-}
-
-// The same of a waiting segment, whose field 3 is its number.
-fn waiting(segment: Waiting, field: u32, value: u32) -> Waiting
-    ensures { λ r. ⌜ (field < 4 → waitingFields r ≡ set (waitingFields segment) field (storedIn 3 field value)) ⌝ }
-{
-    let mut next = segment;
-    if field == 3 {
-        next.number = value;
-        return next;
-    }
-    let changed = held(segment.held, field, value);
-    next.held = changed;
-    next
+    words::pack(held(words::unpacked(word), field, value))
 }
 
 // How many segments a list holds: 0 queued, 1 outstanding, 2 ready, 3 waiting.
@@ -148,45 +125,58 @@ fn list_count(link: Link, list: u32) -> usize
     ensures { λ r. ⌜ (list ≤ 3 → r ≡ getD (holds link) list 0) ⌝ }
 {
     match list {
-        0 => link.queued.count,
-        1 => link.flight.outstanding.count,
-        2 => link.receiving.ready.count,
-        _ => link.receiving.waiting.count,
+        0 => link.flight.queued,
+        1 => link.flight.outstanding,
+        2 => link.arrival.ready,
+        _ => link.arrival.waiting,
     }
 }
 
-// The list with a field of the segment at index i changed; as it was past the array's end.
-fn in_held(list: HeldList, i: usize, field: u32, value: u32) -> HeldList
-    ensures { λ r. ⌜ (r .count ≡ list .count) × (field < 3 → map heldFields (r .at) ≡ changed (map heldFields (list .at)) i field (storedIn 0 field value)) ⌝ }
+// The words with a field of the segment at index i changed; as they were past the array's end.
+fn in_words(list: [u32; 128], i: usize, field: u32, value: u32) -> [u32; 128]
+    ensures { λ r. ⌜ Reworded list i field value r ⌝ }
 {
     if i < 128 {
         let mut next = list;
-        next.at[i] = held(list.at[i], field, value);
+        next[i] = word(list[i], field, value);
         return next;
     }
     list
 }
 
-fn in_outstanding(list: OutstandingList, i: usize, field: u32, value: u32) -> OutstandingList
-    ensures { λ r. ⌜ (r .count ≡ list .count) × (field < 4 → map outstandingFields (r .at) ≡ changed (map outstandingFields (list .at)) i field (storedIn 1 field value)) ⌝ }
+fn in_outstanding(list: [u32; 32], i: usize, field: u32, value: u32) -> [u32; 32]
+    ensures { λ r. ⌜ Reworded list i field value r ⌝ }
 {
     if i < 32 {
         let mut next = list;
-        next.at[i] = outstanding(list.at[i], field, value);
+        next[i] = word(list[i], field, value);
         return next;
     }
     list
 }
 
-fn in_waiting(list: WaitingList, i: usize, field: u32, value: u32) -> WaitingList
-    ensures { λ r. ⌜ (r .count ≡ list .count) × (field < 4 → map waitingFields (r .at) ≡ changed (map waitingFields (list .at)) i field (storedIn 3 field value)) ⌝ }
+// The transmissions with another count at index i; as they were past the array's end.
+fn in_transmissions(list: [u8; 32], i: usize, value: u32) -> [u8; 32]
+    ensures { λ r. ⌜ r ≡ set list i (value % 256) ⌝ }
 {
-    if i < 128 {
-        let mut next = list;
-        next.at[i] = waiting(list.at[i], field, value);
+    let mut next = list;
+    if i < 32 {
+        next[i] = byte(value);
         return next;
     }
-    list
+    next
+}
+
+// The numbers with another one at index i; as they were past the array's end.
+fn in_numbers(list: [u32; 128], i: usize, value: u32) -> [u32; 128]
+    ensures { λ r. ⌜ r ≡ set list i value ⌝ }
+{
+    let mut next = list;
+    if i < 128 {
+        next[i] = value;
+        return next;
+    }
+    next
 }
 
 // Whether a list of the block holds a segment at that index.
@@ -194,6 +184,40 @@ pub fn is_held(link: Link, list: u32, index: u32) -> bool
     ensures { λ r. ⌜ (list ≤ 3 → r ≡ ltb index (getD (holds link) list 0)) ⌝ }
 {
     (index as usize) < list_count(link, list)
+}
+
+// The block with a field of an outstanding segment changed, whose field 3 is its transmissions.
+fn hold_outstanding(link: Link, i: usize, field: u32, value: u32) -> Link
+    ensures { λ r. ⌜ (field < 4 → HeldChanged link 1 i field value r) ⌝ }
+{
+    let mut next = link;
+    if field == 3 {
+        let old = link.transmissions;
+        let transmissions = in_transmissions(old, i, value);
+        next.transmissions = transmissions;
+        return next;
+    }
+    let old = link.outstanding;
+    let outstanding = in_outstanding(old, i, field, value);
+    next.outstanding = outstanding;
+    next
+}
+
+// The block with a field of a waiting segment changed, whose field 3 is its number.
+fn hold_waiting(link: Link, i: usize, field: u32, value: u32) -> Link
+    ensures { λ r. ⌜ (field < 4 → HeldChanged link 3 i field value r) ⌝ }
+{
+    let mut next = link;
+    if field == 3 {
+        let old = link.waiting_numbers;
+        let numbers = in_numbers(old, i, value);
+        next.waiting_numbers = numbers;
+        return next;
+    }
+    let old = link.waiting;
+    let waiting = in_words(old, i, field, value);
+    next.waiting = waiting;
+    next
 }
 
 // The block with a field of a held segment changed.
@@ -204,27 +228,18 @@ pub fn hold(link: Link, list: u32, index: u32, field: u32, value: u32) -> Link
     let mut next = link;
     match list {
         0 => {
-            let queued = in_held(link.queued, i, field, value);
+            let old = link.queued;
+            let queued = in_words(old, i, field, value);
             next.queued = queued;
+            next
         }
-        1 => {
-            let mut flight = link.flight;
-            let segments = in_outstanding(flight.outstanding, i, field, value);
-            flight.outstanding = segments;
-            next.flight = flight;
-        }
+        1 => hold_outstanding(link, i, field, value),
         2 => {
-            let mut receiving = link.receiving;
-            let ready = in_held(receiving.ready, i, field, value);
-            receiving.ready = ready;
-            next.receiving = receiving;
+            let old = link.ready;
+            let ready = in_words(old, i, field, value);
+            next.ready = ready;
+            next
         }
-        _ => {
-            let mut receiving = link.receiving;
-            let segments = in_waiting(receiving.waiting, i, field, value);
-            receiving.waiting = segments;
-            next.receiving = receiving;
-        }
+        _ => hold_waiting(link, i, field, value),
     }
-    next
 }

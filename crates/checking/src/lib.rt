@@ -105,6 +105,13 @@ pub fn valid(
     }
     let most = settings.mss();
     let mss = most as u32;
+    let flies = flights::flight_fits(
+        records,
+        flight.outstanding,
+        settings.mode,
+        flight.una,
+        flight.next,
+    );
     let sends = sending_fits(
         queued,
         flight.queued,
@@ -113,13 +120,6 @@ pub fn valid(
         flight.outstanding,
         mss,
         send_marks,
-    );
-    let flies = flights::flight_fits(
-        records,
-        flight.outstanding,
-        settings.mode,
-        flight.una,
-        flight.next,
     );
     let receives = receiving_fits(
         ready,

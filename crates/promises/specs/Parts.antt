@@ -2,8 +2,8 @@
 -- Assumes nothing.
 use mathlib.Core.Path.{_≡_}
 use mathlib.Core.Bool.{Bool, true}
-use mathlib.Core.List.{List, map}
-use Prim.Native.Nat.{ℕ, _%_, min}
+use mathlib.Core.List.{List}
+use Prim.Native.Nat.{ℕ}
 use lib.ListN.{length, take}
 use Rattle.protocol.specs.Protocol.{sendSlots}
 use Rattle.timing.specs.declared.Record.{Record}
@@ -11,7 +11,7 @@ use Rattle.sizes.specs.declared.Lengths.{Lengths}
 use Rattle.session.specs.State.{State}
 use Rattle.control.specs.Views.{stateOf, countsFit, blockValid}
 use Rattle.control.specs.declared.Link.{Link}
-use Rattle.records.specs.Tables.{gathered}
+use Rattle.records.specs.Tables.{slotsIn, gathered}
 
 -- what is lent to every call: the two pools, the table of records, and the ack list
 pub record Parts : Type 0 where
@@ -30,10 +30,6 @@ lengthsOf p = lentLengths (length (p .table)) (p .sendPool) (p .receivePool) (p 
 -- what is lent to a call, by the contents of its slices
 abbrev pub partsOf : List ℕ → List ℕ → List Record → List ℕ → Parts
 partsOf sendPool receivePool table acks = record { sendPool = sendPool; receivePool = receivePool; table = table; acks = acks }
-
--- the slots of the first n words, 32 at most
-abbrev pub slotsIn : List ℕ → ℕ → List ℕ
-slotsIn words n = map (λ w. w % 256) (take (min n 32) words)
 
 -- the slots of the outstanding segments
 abbrev pub outstandingSlots : Link → List ℕ

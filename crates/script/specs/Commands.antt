@@ -106,9 +106,9 @@ fieldMost field = cond (isOneOf field (1 ∷ 3 ∷ 9 ∷ 18 ∷ [])) 65535 (cond
 abbrev pub hasField : ℕ → ℕ → Bool
 hasField list field = leb list 3 && leb field 3 && (ltb field 3 || eqb list 1 || eqb list 3)
 
--- 16 bits for slot and len, 8 for frg and transmissions, 32 for number
+-- 16 bits for len, 8 for slot, frg and transmissions, 32 for number
 unfoldable pub heldMost : ℕ → ℕ → ℕ
-heldMost list field = cond (ltb field 2) 65535 (cond (eqb field 2 || eqb list 1) 255 4294967295)
+heldMost list field = cond (eqb field 1) 65535 (cond (ltb field 3 || eqb list 1) 255 4294967295)
 
 -- commands without a number, with one, two, four and five
 unfoldable pub ofNone : ℕ → Command

@@ -120,7 +120,8 @@ fn held_most(list: u32, field: u32) -> u32
     ensures { λ r. ⌜ r ≡ heldMost list field ⌝ }
 {
     match field {
-        0 | 1 => 65535,
+        0 => 255,
+        1 => 65535,
         2 => 255,
         _ => { if list == 1 { 255 } else { 4294967295 } }
     }

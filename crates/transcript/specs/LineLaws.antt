@@ -1,8 +1,8 @@
 -- Laws of `Lines`: element by element.
 -- Assumes nothing.
-use mathlib.Core.Path.{_≡_, refl, sym, _∙_, ap}
-use mathlib.Core.List.{List, [], _∷_, _++_, append-assoc, append-nil}
-use Prim.Native.Nat.{ℕ, suc, _+_, _-_, _≤_, _<_, min}
+use mathlib.Core.Path.{_≡_, refl, sym, _∙_, ap, subst}
+use mathlib.Core.List.{List, [], _∷_, _++_, map, append-assoc, append-nil}
+use Prim.Native.Nat.{ℕ, zero, suc, _+_, _-_, _≤_, _<_, min}
 use native.Mathlib.Decide.{decLe}
 use native.Mathlib.Numerals.{add-one}
 use native.Mathlib.Omega.{arith}
@@ -33,6 +33,15 @@ take-least l count size n whole e = go (decLe count size)
     go : Dec (count ≤ size) → take n l ≡ take count l
     go (yes h) = let same : n ≡ count = omega arith in rw same
     go (no h) = take-all n l (omega arith) ∙ sym (take-all count l (omega arith))
+
+pub map-take : {A B : Type 0} (f : A → B) (n : ℕ) (l : List A) → map f (take n l) ≡ take n (map f l)
+map-take f zero l = refl
+map-take f (suc n) [] = refl
+map-take f (suc n) (x ∷ l) = ap (λ (r : List _). f x ∷ r) (map-take f n l)
+
+-- the text of an equal element
+pub put-same : {A : Type 0} (f : A → List ℕ) {x y : A} {was is : List ℕ} {at k : ℕ} → x ≡ y → Put was at (f x) k is → Put was at (f y) k is
+put-same f {x} {y} {was} {is} {at} {k} e p = subst (λ (z : _). Put was at (f z) k is) e p
 
 -- one element more
 pub each-put : {A : Type 0} (f : A → List ℕ) (l : List A) (i : ℕ) (d : A) (was mid is : List ℕ) (at j k : ℕ) → i < length l →

@@ -12,11 +12,11 @@ use Rattle.answers.specs.declared.Answer.the-variants as answer
 use Rattle.answers.specs.declared.Count.{Count}
 use Rattle.answers.specs.declared.Count.the-variants as count
 use Rattle.timing.specs.declared.Record.{Record}
-use Rattle.lists.specs.Views.{heldOf, outstandingOf, waitingOf}
 use Rattle.lists.specs.declared.Held.{Held}
 use Rattle.lists.specs.declared.Outstanding.{Outstanding}
 use Rattle.lists.specs.declared.Waiting.{Waiting}
-use Rattle.block.specs.declared.Link.{Link}
+use Rattle.words.specs.Words.{heldIn, outstandingIn, waitingIn}
+use Rattle.control.specs.declared.Link.{Link}
 use Rattle.notation.specs.Ascii.{ascii}
 use Rattle.notation.specs.Decimal.{decimal}
 use Rattle.notation.specs.Hex.{bytesWord}
@@ -75,10 +75,10 @@ flagOf x = cond (eqb x 0) 0 1
 -- ready waiting
 abbrev pub stateNumbers : Link → List ℕ
 stateNumbers l =
-    l .flight .una ∷ l .flight .next ∷ l .receiving .next ∷ l .current ∷ l .flight .window
-    ∷ l .flight .rtt .smoothed ∷ l .flight .rtt .variation ∷ l .flight .rtt .timeout ∷ l .probe .wait ∷ l .probe .due
-    ∷ flagOf (l .ask) ∷ flagOf (l .tell) ∷ flagOf (l .dead) ∷ l .acks
-    ∷ l .queued .count ∷ l .flight .outstanding .count ∷ l .receiving .ready .count ∷ l .receiving .waiting .count ∷ []
+    l .flight .una ∷ l .flight .next ∷ l .arrival .expected ∷ l .clock .current ∷ l .flight .window
+    ∷ l .flight .rtt .smoothed ∷ l .flight .rtt .variation ∷ l .flight .rtt .timeout ∷ l .clock .probe .wait ∷ l .clock .probe .due
+    ∷ flagOf (l .clock .ask) ∷ flagOf (l .arrival .tell) ∷ flagOf (l .clock .dead) ∷ l .arrival .acks
+    ∷ l .flight .queued ∷ l .flight .outstanding ∷ l .arrival .ready ∷ l .arrival .waiting ∷ []
 
 unfoldable pub stateLine : Link → List ℕ
 stateLine l = ascii "state" ++ row (stateNumbers l) ++ (newline ∷ [])
@@ -111,8 +111,8 @@ waitingEntry w = entry 119 (w .number ∷ w .held .slot ∷ w .held .len ∷ w .
 unfoldable pub heldLine : Link → List Record → List ℕ
 heldLine l table =
     ascii "held"
-    ++ each (heldEntry 113) (heldOf (l .queued))
-    ++ each (outstandingEntry table) (outstandingOf (l .flight .outstanding))
-    ++ each (heldEntry 114) (heldOf (l .receiving .ready))
-    ++ each waitingEntry (waitingOf (l .receiving .waiting))
+    ++ each (heldEntry 113) (heldIn (l .queued) (l .flight .queued))
+    ++ each (outstandingEntry table) (outstandingIn (l .outstanding) (l .transmissions) (l .flight .outstanding))
+    ++ each (heldEntry 114) (heldIn (l .ready) (l .arrival .ready))
+    ++ each waitingEntry (waitingIn (l .waiting) (l .«waiting_numbers») (l .arrival .waiting))
     ++ (newline ∷ [])

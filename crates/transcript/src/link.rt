@@ -2,18 +2,15 @@
 use crate::NEWLINE;
 use crate::least;
 use crate::row;
-use block::Link;
+use control::Link;
 use lists::Held;
-use lists::HeldList;
 use lists::Outstanding;
-use lists::OutstandingList;
 use lists::Waiting;
-use lists::WaitingList;
 use notation::put;
 use timing::Record;
 ghost use mathlib.Core.Path.{_≡_};
 ghost use Rattle.notation.specs.Puts.{Put};
-ghost use Rattle.lists.specs.Views.{heldOf, outstandingOf, waitingOf};
+ghost use Rattle.words.specs.Words.{heldIn, outstandingIn, waitingIn};
 ghost use Rattle.transcript.specs.Lines.{each, flagOf, stateNumbers, stateLine, entry, heldEntry, recordAt, sentEntry, outstandingEntry, waitingEntry, heldLine};
 
 fn wide(x: u32) -> u64
@@ -36,22 +33,22 @@ fn numbers(link: Link) -> [u64; 18]
     [
         wide(link.flight.una),
         wide(link.flight.next),
-        wide(link.receiving.next),
-        wide(link.current),
+        wide(link.arrival.expected),
+        wide(link.clock.current),
         wide(link.flight.window as u32),
         wide(link.flight.rtt.smoothed),
         wide(link.flight.rtt.variation),
         wide(link.flight.rtt.timeout),
-        wide(link.probe.wait),
-        wide(link.probe.due),
-        flag(link.ask),
-        flag(link.tell),
-        flag(link.dead),
-        link.acks as u64,
-        link.queued.count as u64,
-        link.flight.outstanding.count as u64,
-        link.receiving.ready.count as u64,
-        link.receiving.waiting.count as u64,
+        wide(link.clock.probe.wait),
+        wide(link.clock.probe.due),
+        flag(link.clock.ask),
+        flag(link.arrival.tell),
+        flag(link.clock.dead),
+        link.arrival.acks as u64,
+        link.flight.queued as u64,
+        link.flight.outstanding as u64,
+        link.arrival.ready as u64,
+        link.arrival.waiting as u64,
     ]
 }
 
@@ -83,14 +80,14 @@ fn held_entry(out: &mut [u8], at: usize, letter: u8, h: Held) -> usize
 }
 
 // Queued or ready segments.
-fn held(out: &mut [u8], at: usize, letter: u8, list: HeldList) -> usize
-    ensures { λ r. ⌜ Put (now (out .entry)) at (each (heldEntry letter) (heldOf list)) r (now (out .exit)) ⌝ }
+fn held(out: &mut [u8], at: usize, letter: u8, words: [u32; 128], count: usize) -> usize
+    ensures { λ r. ⌜ Put (now (out .entry)) at (each (heldEntry letter) (heldIn words count)) r (now (out .exit)) ⌝ }
 {
-    let n = least(list.count, 128);
+    let n = least(count, 128);
     let mut here = at;
     let mut i: usize = 0;
     while i < n {
-        let h = list.at[i];
+        let h = words::unpacked(words[i]);
         here = held_entry(out, here, letter, h);
         i += 1;
     }
@@ -131,14 +128,24 @@ fn outstanding_entry(out: &mut [u8], at: usize, o: Outstanding, r: Record) -> us
     entry(out, at, b'o', &all)
 }
 
-fn outstanding(out: &mut [u8], at: usize, list: OutstandingList, table: [Record; 128]) -> usize
-    ensures { λ r. ⌜ Put (now (out .entry)) at (each (outstandingEntry table) (outstandingOf list)) r (now (out .exit)) ⌝ }
+fn outstanding(
+    out: &mut [u8],
+    at: usize,
+    words: [u32; 32],
+    transmissions: [u8; 32],
+    count: usize,
+    table: [Record; 128],
+) -> usize
+    ensures { λ r. ⌜ Put (now (out .entry)) at (each (outstandingEntry table) (outstandingIn words transmissions count)) r (now (out .exit)) ⌝ }
 {
-    let n = least(list.count, 32);
+    let n = least(count, 32);
     let mut here = at;
     let mut i: usize = 0;
     while i < n {
-        let o = list.at[i];
+        let o = Outstanding {
+            held: words::unpacked(words[i]),
+            transmissions: transmissions[i],
+        };
         let r = record_at(table, o.held.slot);
         here = outstanding_entry(out, here, o, r);
         i += 1;
@@ -160,14 +167,17 @@ fn waiting_entry(out: &mut [u8], at: usize, w: Waiting) -> usize
     entry(out, at, b'w', &all)
 }
 
-fn waiting(out: &mut [u8], at: usize, list: WaitingList) -> usize
-    ensures { λ r. ⌜ Put (now (out .entry)) at (each waitingEntry (waitingOf list)) r (now (out .exit)) ⌝ }
+fn waiting(out: &mut [u8], at: usize, words: [u32; 128], numbers: [u32; 128], count: usize) -> usize
+    ensures { λ r. ⌜ Put (now (out .entry)) at (each waitingEntry (waitingIn words numbers count)) r (now (out .exit)) ⌝ }
 {
-    let n = least(list.count, 128);
+    let n = least(count, 128);
     let mut here = at;
     let mut i: usize = 0;
     while i < n {
-        let w = list.at[i];
+        let w = Waiting {
+            number: numbers[i],
+            held: words::unpacked(words[i]),
+        };
         here = waiting_entry(out, here, w);
         i += 1;
     }
@@ -178,12 +188,16 @@ fn waiting(out: &mut [u8], at: usize, list: WaitingList) -> usize
 pub fn segments(out: &mut [u8], at: usize, link: Link, table: [Record; 128]) -> usize
     ensures { λ r. ⌜ Put (now (out .entry)) at (heldLine link table) r (now (out .exit)) ⌝ }
 {
-    let flight = link.flight;
-    let receiving = link.receiving;
+    let queued = link.queued;
+    let sent = link.outstanding;
+    let transmissions = link.transmissions;
+    let ready = link.ready;
+    let waiters = link.waiting;
+    let numbers = link.waiting_numbers;
     let a = put::bytes(out, at, b"held");
-    let b = held(out, a, b'q', link.queued);
-    let c = outstanding(out, b, flight.outstanding, table);
-    let d = held(out, c, b'r', receiving.ready);
-    let e = waiting(out, d, receiving.waiting);
+    let b = held(out, a, b'q', queued, link.flight.queued);
+    let c = outstanding(out, b, sent, transmissions, link.flight.outstanding, table);
+    let d = held(out, c, b'r', ready, link.arrival.ready);
+    let e = waiting(out, d, waiters, numbers, link.arrival.waiting);
     put::byte(out, e, NEWLINE)
 }

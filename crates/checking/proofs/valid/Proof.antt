@@ -21,17 +21,17 @@ returns c =
     unfit (a .settings) (a .flight) (a .arrival) (a .clock) (lists s) (a .records) (s .pre .0) rs (search (needs, s .good .1 .1 .0)) _ _ _
     (c .before .numbers-fit .ensures) (c .if1 .taken) (s .pre .1) (s .pre .2)
 
-sending-fits-requires : tie.Need-sending-fits-requires
-sending-fits-requires c κs =
-    let s = c .before .before .before .before in
-    let a = s .args in
-    let k = counted-of (a .settings) (a .flight) (a .arrival) (a .clock) _ (c .before .before .before .numbers-fit .ensures) (c .before .before .if1 .left) in
-    (s .pre .0 .whole-queued, k .queued, s .pre .0 .whole-outstanding, s .pre .0 .whole-transmissions, k .outstanding, s .pre .1)
-
 flight-fits-requires : tie.Need-flight-fits-requires
 flight-fits-requires c κs =
-    let a = c .before .before .before .before .before .args in
-    counted-of (a .settings) (a .flight) (a .arrival) (a .clock) _ (c .before .before .before .before .numbers-fit .ensures) (c .before .before .before .if1 .left) .outstanding
+    let a = c .before .before .before .args in
+    counted-of (a .settings) (a .flight) (a .arrival) (a .clock) _ (c .before .before .numbers-fit .ensures) (c .before .if1 .left) .outstanding
+
+sending-fits-requires : tie.Need-sending-fits-requires
+sending-fits-requires c κs =
+    let s = c .before .before .before .before .before in
+    let a = s .args in
+    let k = counted-of (a .settings) (a .flight) (a .arrival) (a .clock) _ (c .before .before .before .before .numbers-fit .ensures) (c .before .before .before .if1 .left) in
+    (s .pre .0 .whole-queued, k .queued, s .pre .0 .whole-outstanding, s .pre .0 .whole-transmissions, k .outstanding, s .pre .1)
 
 receiving-fits-requires : tie.Need-receiving-fits-requires
 receiving-fits-requires c κs =
@@ -49,9 +49,9 @@ returns-2 c =
     (c .before .before .before .before .before .before .before .numbers-fit .ensures)
     (c .before .before .before .before .before .before .if1 .left)
     (c .before .before .before .before .before .mss .ensures)
-    (c .before .before .before .sending-fits .ensures)
-    (c .before .before .flight-fits .ensures)
+    (c .before .before .sending-fits .ensures)
+    (c .before .before .before .before .flight-fits .ensures)
     (c .receiving-fits .ensures)
 
 pub valid-spec : {M : Type 1} → statement M
-valid-spec = tie.close (tie.spec (λ c κs. search needs) returns (λ c κs. search needs) (λ c. search needs) sending-fits-requires flight-fits-requires receiving-fits-requires returns-2)
+valid-spec = tie.close (tie.spec (λ c κs. search needs) returns (λ c κs. search needs) (λ c. search needs) flight-fits-requires sending-fits-requires receiving-fits-requires returns-2)

@@ -12,7 +12,7 @@ poke-spec =
     tie.close
     (tie.spec
     (search needs)
-    (λ c h. record { fields = settings-first _ _ _ _ _ (c .before .if1 .taken) (c .setting .ensures); lists = refl })
+    (λ c h. record { fields = settings-first _ _ _ _ _ (c .before .if1 .taken) (c .setting .ensures); counts = refl; lists = refl })
     (search needs)
     (λ c h. c .number .ensures)
     (search needs)

@@ -1,0 +1,10 @@
+pub mod Checks
+pub mod Gathering
+pub mod Scattering
+pub mod SlotsAfter
+pub mod Opening
+pub mod Sending
+pub mod Taking
+pub mod Flushing
+pub mod Reading
+pub mod Asking

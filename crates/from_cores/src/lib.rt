@@ -1,0 +1,1 @@
+// From what the cores leave to what the public calls promise: laws, in specs/.

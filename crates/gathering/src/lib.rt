@@ -1,0 +1,81 @@
+// The records of the outstanding segments, gathered from the lent table by the words of the block, and put back. A function
+// that has the table is proved by hand; the others are its steps on plain values.
+use timing::Record;
+ghost use mathlib.Core.Path.{_≡_};
+ghost use Prim.Native.Nat.{_≤_, _%_, min};
+ghost use lib.ListN.{replicate, take};
+ghost use Rattle.protocol.specs.Protocol.{sendSlots};
+ghost use Rattle.records.specs.Tables.{blank, slotsIn, gathered, padded, scattered};
+ghost use Rattle.gathering.specs.Reach.{reach};
+
+// How many are gathered, 32 at most.
+fn within(n: usize) -> usize
+    ensures { λ r. ⌜ (r ≡ min n 32) × (r ≤ 32) ⌝ }
+{
+    if n < 32 { n } else { 32 }
+}
+
+// The slot of a word.
+fn slot_of(word: u32) -> usize
+    ensures { λ r. ⌜ r ≡ word % 256 ⌝ }
+{
+    (word % 256) as usize
+}
+
+// Where the record of a word is read: its slot, or past every table for a slot that no link has.
+fn reach(word: u32) -> usize
+    ensures { λ r. ⌜ r ≡ reach word ⌝ }
+{
+    let slot = slot_of(word);
+    if slot < 128 {
+        slot
+    } else {
+        18446744073709551615
+    }
+}
+
+// 32 blank records.
+fn blank_records() -> [Record; 32]
+    ensures { λ r. ⌜ r ≡ replicate 32 blank ⌝ }
+{
+    let blank = Record {
+        number: 0,
+        due: 0,
+        timeout: 0,
+        skips: 0,
+    };
+    [blank; 32]
+}
+
+// The records at the slots of the first n words, in their order, and blank ones up to 32. Of the table the first 128 records
+// are read.
+pub fn gather(table: &[Record], words: [u32; 32], n: usize) -> [Record; 32]
+    ensures { λ r. ⌜ r ≡ padded (gathered (take sendSlots (now (table .entry))) (slotsIn words n)) ⌝ }
+{
+    let count = within(n);
+    let mut records = blank_records();
+    let mut i = 0;
+    while i < count {
+        let word = words[i];
+        let slot = reach(word);
+        let found = records::read(table, slot);
+        records[i] = found;
+        i += 1;
+    }
+    records
+}
+
+// Each record is stored at the slot of its word, in their order; no other record changes.
+pub fn scatter(table: &mut [Record], words: [u32; 32], n: usize, records: [Record; 32])
+    ensures { λ _. ⌜ now (table .exit) ≡ scattered (now (table .entry)) (slotsIn words n) records ⌝ }
+{
+    let count = within(n);
+    let mut i = 0;
+    while i < count {
+        let word = words[i];
+        let slot = slot_of(word);
+        let updated = records[i];
+        records::replace(table, slot, updated);
+        i += 1;
+    }
+}
