@@ -130,7 +130,8 @@ pub fn take(
     requires { ⌜ WholeLists (now ready) (now waiting) (now numbers) × Fits arrival
         × InPool mss (now pool) (heldIn (now ready) (arrival .ready))
         × FitsIn (heldIn (now ready) (arrival .ready)) (length (now out)) ⌝ }
-    ensures { λ r. ⌜ Taken arrival mss (now (ready .entry)) (now (waiting .entry)) (now (numbers .entry)) (now (pool .entry)) (now (out .entry))
+    ensures { λ r. ⌜ Taken arrival mss (now (ready .entry)) (now (waiting .entry)) (now (numbers .entry))
+        (now (pool .entry)) (now (out .entry))
         r (now (ready .exit)) (now (waiting .exit)) (now (numbers .exit)) (now (out .exit)) ⌝ }
 {
     let k = front_count(ready, arrival.ready);

@@ -29,7 +29,7 @@ copy-first-requires c κs =
     (a .pre .0 .whole-ready, omega (arith, within k, a .pre .1 .few-ready), rw e (in-pool-take _ _ (frontCount (heldIn w (a .args .arrival .ready))) (heldIn w (a .args .arrival .ready)) (a .pre .2)), rw e (a .pre .3 .within))
 
 freed-requires : tie.Need-freed-requires
-freed-requires c κs = let k = c .before .before .before .before .before .before .before .before in let a = k .before .before .before .before in (a .pre .0, a .pre .1, within k)
+freed-requires c κs = let k = c .before .before .before .before .before .before .before .before in let a = k .before .before .before .before in (a .pre .0, a .pre .1, omega (arith, within k))
 
 returns : tie.Need-returns
 returns c =

@@ -1,6 +1,7 @@
 -- `size`: the checks of 7 and 13, then the message at the front.
 -- Assumes nothing.
 use mathlib.Core.Path.{refl, sym}
+use native.Mathlib.Omega.{arith}
 use borrow.Author.Needs.{needs}
 use Rattle.sizes.specs.declared.Lengths.{Lengths}
 use Rattle.control.specs.Views.{arrays, linkOf}
@@ -24,7 +25,8 @@ front-size-requires : tie.Need-front-size-requires
 front-size-requires c κs =
     let s = c .before .before .before .before .before .before .before .before .before in
     let ok = passes-readable (block s) (s .args .records) (s .args .acks .now) (lent s) (c .before .before .before .before .before .enough .result) (c .before .before .before .before .before .enough .ensures) (c .before .before .admit .result) (c .before .before .admit .ensures .verdict) (c .enum-told .given .1) (s .args .receive-pool .now) refl in
-    (s .pre .whole-ready, block-counts (block s) (ok .counts) .ready)
+    let n = block-counts (block s) (ok .counts) in
+    (s .pre .whole-ready, omega (arith, n .ready, n .waiting))
 
 returns : tie.Need-returns
 unfolding tellsWith
