@@ -1,7 +1,7 @@
 -- What a flush leaves by its checks: the flush where both pass, the refusal where one fails.
 -- Assumes nothing.
 use mathlib.Core.Path.{_≡_, sym, _∙_, refl}
-use mathlib.Core.Bool.{Bool, true, _&&_}
+use mathlib.Core.Bool.{Bool}
 use mathlib.Core.List.{List}
 use Prim.Native.Nat.{ℕ, _*_}
 use borrow.Author.Tests.{leb-true}
@@ -13,9 +13,7 @@ use Rattle.protocol.specs.declared.Settings.{Settings}
 use Rattle.timing.specs.declared.Record.{Record}
 use Rattle.sizes.specs.Sizes.{enough, enoughToFlush}
 use Rattle.session.specs.Decides.{and-parts}
-use Rattle.session.specs.State.{Outcome, refused}
 use Rattle.session.specs.Valid.{valid}
-use Rattle.session.specs.Flushing.{flushing}
 use Rattle.control.specs.declared.Flight.{Flight}
 use Rattle.control.specs.declared.Arrival.{Arrival}
 use Rattle.control.specs.declared.Clock.{Clock}

@@ -1,7 +1,7 @@
 -- What the checks of 7 and 13 give each part of a flush.
 -- Assumes nothing.
 use mathlib.Core.Path.{_≡_}
-use mathlib.Core.Bool.{Bool, true, _&&_}
+use mathlib.Core.Bool.{true, _&&_}
 use mathlib.Core.List.{List}
 use Prim.Native.Nat.{ℕ, _≤_}
 use native.Mathlib.Omega.{arith}
@@ -20,7 +20,7 @@ use Rattle.control.specs.Views.{sendingOf}
 use Rattle.control.specs.ViewLaws.{Counts, counts}
 use Rattle.numbering.specs.Numbering.{Numberable, Numbers}
 use Rattle.numbering.specs.declared.Numbered.{Numbered}
-use Rattle.transmit.specs.Writing.{Sendable, Writable}
+use Rattle.transmit.specs.Writing.{Writable}
 use Rattle.transmit.specs.ValidLaws.{valid-inside}
 use Rattle.flush_core.specs.declared.parts.Plan.{Plan}
 use Rattle.flush_core.specs.Parts.{Plans}

@@ -1,8 +1,8 @@
 -- What the parts of a flush give, put together, is the flush of the block's state.
 -- Assumes nothing.
 use mathlib.Core.Path.{_≡_, refl, ap, _∙_}
-use mathlib.Core.Bool.{Bool, true, false, _||_}
-use mathlib.Core.List.{List, []}
+use mathlib.Core.Bool.{true}
+use mathlib.Core.List.{List}
 use Prim.Native.Nat.{ℕ, _≤_}
 use native.Mathlib.Omega.{arith}
 use borrow.Author.Tests.{le-leb}
@@ -19,11 +19,10 @@ use Rattle.control.specs.declared.Arrival.{Arrival}
 use Rattle.control.specs.declared.Clock.{Clock}
 use Rattle.control.specs.declared.Link.{Link}
 use Rattle.control.specs.Views.{isSet, pairs, arrays, linkOf, receivingOf, stateOf, counted, countsFit}
-use Rattle.control.specs.ViewLaws.{Counts, counts}
+use Rattle.control.specs.ViewLaws.{counts}
 use Rattle.numbering.specs.Sents.{sentIn}
 use Rattle.numbering.specs.Numbering.{Numbers}
 use Rattle.numbering.specs.declared.Numbered.{Numbered}
-use Rattle.transmit.specs.declared.Flush.{Flush}
 use Rattle.transmit.specs.declared.Written.{Written}
 use Rattle.transmit.specs.Writing.{Writes}
 use Rattle.transmit.specs.Flushes.{FlushOf, FlushWrites}

@@ -12,7 +12,6 @@ use Rattle.protocol.specs.Protocol.{sendWindow}
 use Rattle.protocol.specs.Serial.{plus, minus}
 use Rattle.timing.specs.declared.Record.{Record}
 use Rattle.lists.specs.declared.Held.{Held}
-use Rattle.lists.specs.declared.Sent.{Sent}
 use Rattle.lists.specs.Orders.{sentOffset, ascending}
 use Rattle.lists.proofs.Loops.{Written, written-start, written-put, written-done, view-next, view-end}
 use Rattle.session.specs.State.{Sending}
@@ -20,10 +19,9 @@ use Rattle.session.specs.Decides.{and-parts}
 use Rattle.session.specs.Valid.{numbersFit}
 use Rattle.session.specs.Flushing.{numbered, numberedCount, withNumbered}
 use Rattle.delivery.specs.MapLaws.{map-take, map-drop}
-use Rattle.words.specs.Words.{unpack, heldIn, outstandingAt, Front}
+use Rattle.words.specs.Words.{unpack, heldIn, Front}
 use Rattle.control.specs.declared.Flight.{Flight}
 use Rattle.control.specs.Views.{sendingOf}
-use Rattle.numbering.specs.declared.Numbered.{Numbered}
 use Rattle.numbering.specs.Sents.{sentIn, SentFront}
 use Rattle.numbering.specs.Numbering.{countOf, Numberable, Numbers}
 use Rattle.numbering.proofs.SentLaws.{sents, sents-take, sents-set, sents-length, sents-front, front-length}

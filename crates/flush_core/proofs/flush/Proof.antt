@@ -1,9 +1,6 @@
 -- `flush`: the checks of 7 and 13, then the flush.
 -- Assumes nothing.
-use mathlib.Core.Path.{_≡_}
-use mathlib.Core.List.{List}
 use borrow.Author.Needs.{needs}
-use Rattle.control.specs.Views.{arrays}
 use Rattle.flush_core.proofs.Checks.{flushable, flushed, kept}
 use Rattle.flush_core.proofs.flush.Statement.{statement}
 use Rattle.flush_core.proofs.flush.Tie as tie

@@ -6,9 +6,6 @@ use Rattle.numbering.proofs.NumberLaws.{few, numbers-some, numbers-none
 use Rattle.numbering.proofs.number.Statement.{statement}
 use Rattle.numbering.proofs.number.Tie as tie
 
-numbered-count-requires : tie.Need-numbered-count-requires
-numbered-count-requires c κs = search needs
-
 returns : tie.Need-returns
 returns c =
     let start = c .before .before in
@@ -22,21 +19,6 @@ number-first-requires c κs =
     let a = start .args in
     (p .queued-whole, p .outstanding-whole, p .transmissions-whole, few (a .flight) (a .queued .now) (a .outstanding .now) (a .transmissions .now) (a .records) _ p (c .before .before .before .before .numbered-count .ensures) (search (needs, length-mapped)))
 
-drop-first-requires : tie.Need-drop-first-requires
-drop-first-requires c κs = search needs
-
-cast-sum : tie.Need-cast-sum
-cast-sum c = search needs
-
-sum-requires : tie.Need-sum-requires
-sum-requires c κs = search needs
-
-sub-after : tie.Need-sub-after
-sub-after c = search needs
-
-add-after : tie.Need-add-after
-add-after c = search needs
-
 returns-2 : tie.Need-returns-2
 returns-2 c =
     let first = c .before .before .before .before .before in
@@ -49,12 +31,12 @@ pub number-spec : {M : Type 1} → statement M
 number-spec =
     tie.close
     (tie.spec
-    numbered-count-requires
+    (λ c κs. search needs)
     returns
     number-first-requires
-    drop-first-requires
-    cast-sum
-    sum-requires
-    sub-after
-    add-after
+    (λ c κs. search needs)
+    (λ c. search needs)
+    (λ c κs. search needs)
+    (λ c. search needs)
+    (λ c. search needs)
     returns-2)

@@ -18,42 +18,6 @@ abbrev μ-loop : tie.MeasureT-loop
 loop-holds : tie.Need-loop-holds Inv-loop μ-loop
 loop-holds c = numbering-start _ _ _ _ _ _ _ (search needs) (search needs) (search needs) (search (needs, length-mapped))
 
-mul-outstanding : tie.Need-mul-outstanding Inv-loop μ-loop
-mul-outstanding c = search needs
-
-element-copy-out-outstanding : tie.Need-element-copy-out-outstanding Inv-loop μ-loop
-element-copy-out-outstanding c = search needs
-
-mul-outstanding-2 : tie.Need-mul-outstanding-2 Inv-loop μ-loop
-mul-outstanding-2 c = search needs
-
-element-write-outstanding : tie.Need-element-write-outstanding Inv-loop μ-loop
-element-write-outstanding c = search needs
-
-element-write-transmissions : tie.Need-element-write-transmissions Inv-loop μ-loop
-element-write-transmissions c = search needs
-
-numbered-record-requires : tie.Need-numbered-record-requires Inv-loop μ-loop
-numbered-record-requires c κs = search needs
-
-mul-rs : tie.Need-mul-rs Inv-loop μ-loop
-mul-rs c = search needs
-
-array-set-from-rs : tie.Need-array-set-from-rs Inv-loop μ-loop
-array-set-from-rs c = search needs
-
-sum-requires : tie.Need-sum-requires Inv-loop μ-loop
-sum-requires c κs = search needs
-
-add-i : tie.Need-add-i Inv-loop μ-loop
-add-i c = search needs
-
-add-j : tie.Need-add-j Inv-loop μ-loop
-add-j c = search needs
-
-loop-less : tie.Need-loop-less Inv-loop μ-loop
-loop-less c = search needs
-
 loop-again : tie.Need-loop-again Inv-loop μ-loop
 loop-again c =
     let turn = c .before .before .before in
@@ -70,17 +34,17 @@ number-first-spec =
     Inv-loop
     μ-loop
     loop-holds
-    mul-outstanding
-    element-copy-out-outstanding
-    mul-outstanding-2
-    element-write-outstanding
-    element-write-transmissions
-    numbered-record-requires
-    mul-rs
-    array-set-from-rs
-    sum-requires
-    add-i
-    add-j
-    loop-less
+    (λ c. search needs)
+    (λ c. search needs)
+    (λ c. search needs)
+    (λ c. search needs)
+    (λ c. search needs)
+    (λ c κs. search needs)
+    (λ c. search needs)
+    (λ c. search needs)
+    (λ c κs. search needs)
+    (λ c. search needs)
+    (λ c. search needs)
+    (λ c. search needs)
     loop-again
     returns)

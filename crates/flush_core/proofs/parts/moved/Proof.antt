@@ -6,14 +6,8 @@ use borrow.Author.Needs.{needs}
 use Rattle.flush_core.proofs.parts.moved.Statement.{statement}
 use Rattle.flush_core.proofs.parts.moved.Tie as tie
 
-is-set-requires : tie.Need-is-set-requires
-is-set-requires c κs = search needs
-
-flag-requires : tie.Need-flag-requires
-flag-requires c κs = search needs
-
 returns : tie.Need-returns
 returns c = record { is = refl; flag = c .flag .ensures ∙ ap (λ (b : Bool). b || c .before .before .args .dead) (c .before .is-set .ensures) }
 
 pub moved-spec : {M : Type 1} → statement M
-moved-spec = tie.close (tie.spec is-set-requires flag-requires returns)
+moved-spec = tie.close (tie.spec (λ c κs. search needs) (λ c κs. search needs) returns)

@@ -6,24 +6,6 @@ use Rattle.timing.specs.declared.Probed.{Probed}
 use Rattle.flush_core.proofs.parts.plan_of.Statement.{statement}
 use Rattle.flush_core.proofs.parts.plan_of.Tie as tie
 
-cast-free : tie.Need-cast-free
-cast-free c = search needs
-
-sub-free : tie.Need-sub-free
-sub-free c = search needs
-
-cast-t12 : tie.Need-cast-t12
-cast-t12 c = search needs
-
-next-requires : tie.Need-next-requires
-next-requires c κs = search needs
-
-is-set-requires : tie.Need-is-set-requires
-is-set-requires c κs = search needs
-
-is-set-requires-2 : tie.Need-is-set-requires-2
-is-set-requires-2 c κs = search needs
-
 returns : tie.Need-returns
 returns c =
     let asks = c .before .before in
@@ -38,4 +20,4 @@ returns c =
 pub plan-of-spec : {M : Type 1} → statement M
 plan-of-spec =
     tie.close
-    (tie.spec cast-free sub-free cast-t12 next-requires is-set-requires is-set-requires-2 returns)
+    (tie.spec (λ c. search needs) (λ c. search needs) (λ c. search needs) (λ c κs. search needs) (λ c κs. search needs) (λ c κs. search needs) returns)

@@ -24,33 +24,6 @@ loop-holds c =
     let p = c .before .before .before .pre in
     walking-start _ _ _ _ _ _ _ _ _ (p .1 .count) (p .1 .whole) (p .1 .wholes) (search (needs, length-mapped)) (p .0 .fills)
 
-mul-old : tie.Need-mul-old Inv-loop μ-loop
-mul-old c = search needs
-
-array-copy-out-old : tie.Need-array-copy-out-old Inv-loop μ-loop
-array-copy-out-old c = search needs
-
-element-copy-out-transmission : tie.Need-element-copy-out-transmission Inv-loop μ-loop
-element-copy-out-transmission c = search needs
-
-transmission-requires : tie.Need-transmission-requires Inv-loop μ-loop
-transmission-requires c κs = search needs
-
-element-write-transmissions : tie.Need-element-write-transmissions Inv-loop μ-loop
-element-write-transmissions c = search needs
-
-mul-rs : tie.Need-mul-rs Inv-loop μ-loop
-mul-rs c = search needs
-
-array-set-from-rs : tie.Need-array-set-from-rs Inv-loop μ-loop
-array-set-from-rs c = search needs
-
-mul-put-sent : tie.Need-mul-put-sent Inv-loop μ-loop
-mul-put-sent c = search needs
-
-element-copy-out-put-sent : tie.Need-element-copy-out-put-sent Inv-loop μ-loop
-element-copy-out-put-sent c = search needs
-
 put-sent-requires : tie.Need-put-sent-requires Inv-loop μ-loop
 put-sent-requires c κs =
     let turn = c .before .before .before .before .before .before .before .before in
@@ -66,9 +39,6 @@ put-sent-requires c κs =
           (rw (← (sents-take (a .words .now) (a .transmissions .now) (a .records) (a .n))) (p .1 .inside)),
       p .1 .slots,
     )
-
-add-i : tie.Need-add-i Inv-loop μ-loop
-add-i c = search needs
 
 loop-less : tie.Need-loop-less Inv-loop μ-loop
 loop-less c = falls _ _ (c .before .before .before .before .loop-test .taken)
@@ -88,12 +58,6 @@ loop-again c =
     (walking-kept _ _ _ _ _ _ _ _ _ _ _ _ _ _ _ (head .loop .inv) (turn .loop-test .taken) (p .whole) _ _ (called .transmission .ensures) (w .0 .left)))
     (c .if1 .came)
 
-same-length : tie.Need-same-length Inv-loop μ-loop
-same-length c = search needs
-
-same-length-2 : tie.Need-same-length-2 Inv-loop μ-loop
-same-length-2 c = search needs
-
 returns : tie.Need-returns Inv-loop μ-loop
 returns c =
     let p = c .before .before .before .before .before .pre .1 in
@@ -106,19 +70,19 @@ put-outstanding-spec =
     Inv-loop
     μ-loop
     loop-holds
-    mul-old
-    array-copy-out-old
-    element-copy-out-transmission
-    transmission-requires
-    element-write-transmissions
-    mul-rs
-    array-set-from-rs
-    mul-put-sent
-    element-copy-out-put-sent
+    (λ c. search needs)
+    (λ c. search needs)
+    (λ c. search needs)
+    (λ c κs. search needs)
+    (λ c. search needs)
+    (λ c. search needs)
+    (λ c. search needs)
+    (λ c. search needs)
+    (λ c. search needs)
     put-sent-requires
-    add-i
+    (λ c. search needs)
     loop-less
     loop-again
-    same-length
-    same-length-2
+    (λ c. search needs)
+    (λ c. search needs)
     returns)

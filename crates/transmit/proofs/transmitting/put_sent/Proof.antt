@@ -5,12 +5,6 @@ use Rattle.transmit.proofs.DataLaws.{data-room, data-adds}
 use Rattle.transmit.proofs.transmitting.put_sent.Statement.{statement}
 use Rattle.transmit.proofs.transmitting.put_sent.Tie as tie
 
-unpacked-requires : tie.Need-unpacked-requires
-unpacked-requires c κs = search needs
-
-cast-put-data : tie.Need-cast-put-data
-cast-put-data c = search needs
-
 put-data-requires : tie.Need-put-data-requires
 put-data-requires c κs =
     let read = c .before .before .before .before in
@@ -18,12 +12,6 @@ put-data-requires c κs =
     let a = entry .args in
     let p = entry .pre in
     data-room (a .flush) (a .word) (a .x) _ (a .pool .now) (read .unpacked .ensures) (p .1) (p .2) (p .3) _ _ _ (p .0)
-
-same-length : tie.Need-same-length
-same-length c = search needs
-
-same-length-2 : tie.Need-same-length-2
-same-length-2 c = search needs
 
 returns : tie.Need-returns
 returns c =
@@ -37,4 +25,4 @@ returns c =
 pub put-sent-spec : {M : Type 1} → statement M
 put-sent-spec =
     tie.close
-    (tie.spec unpacked-requires cast-put-data put-data-requires same-length same-length-2 returns)
+    (tie.spec (λ c κs. search needs) (λ c. search needs) put-data-requires (λ c. search needs) (λ c. search needs) returns)
