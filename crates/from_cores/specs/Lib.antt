@@ -1,10 +1,1 @@
-pub mod Checks
-pub mod Gathering
-pub mod Scattering
-pub mod SlotsAfter
-pub mod Opening
-pub mod Sending
-pub mod Taking
-pub mod Flushing
-pub mod Reading
-pub mod Asking
+pub mod Left

@@ -1,1 +1,2 @@
-// From what the cores leave to what the public calls promise: laws, in specs/.
+// From what the core of a call leaves to what the call promises: the records of the outstanding segments are gathered from the
+// lent table before it, and put back after it. Laws only.

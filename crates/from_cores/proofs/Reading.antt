@@ -1,22 +1,22 @@
 -- Reading: what the core leaves, with every lent part as it was, is what the call promises.
 -- Assumes nothing.
-use mathlib.Core.Path.{_≡_, refl, subst}
+use mathlib.Core.Path.{refl, subst}
 use mathlib.Core.List.{List}
 use Prim.Native.Nat.{ℕ}
 use lib.ListN.{length}
 use Rattle.timing.specs.declared.Record.{Record}
 use Rattle.session.specs.State.{Outcome, refused, done}
 use Rattle.session.specs.Reading.{Reads, reading}
-use Rattle.answers.specs.declared.Count.{Count}
 use Rattle.control.specs.declared.Link.{Link}
+use Rattle.answers.specs.declared.Count.{Count}
 use Rattle.promises.specs.Parts.{Parts, lentLengths}
 use Rattle.promises.specs.Outcomes.{readsWith, reads}
 use Rattle.promises.specs.Answers.{Counts}
 use Rattle.promises.specs.Promises.{ReadPromise, ReadLeaves}
 use Rattle.promises.specs.Cores.{ReadCore}
-use Rattle.from_cores.specs.Gathering.{Gathers, outcome-in, stands-in}
+use Rattle.from_cores.proofs.Gathered.{Gathers, outcome-in, stands-in}
 
-module _ (l : Link) (p : Parts) (records : List Record) (n : ℕ) (g : Gathers l p records n) (a : Count) (l′ : Link) (buffer buffer′ : List ℕ) where
+module _ (l : Link) (p : Parts) (records : List Record) (n : ℕ) (g : Gathers l p records n) (buffer : List ℕ) (a : Count) (l′ : Link) (buffer′ : List ℕ) where
   abbrev Left : Outcome Reads → Type 0
   Left o = ReadCore o l records (p .acks) buffer a l′ buffer′
 

@@ -30,7 +30,7 @@ use Rattle.session.specs.SendingValid.{sending-decides}
 use Rattle.session.specs.Flushing.{numbered, numberedCount, withNumbered, sentAfter, flushing}
 use Rattle.session.specs.Input.{acknowledged, withWindow, sampledBy, heardBySending, allBySending, furthest, skipped, skippedByAll, ackNumbers, applied}
 use Rattle.records.specs.TableLaws.{AllBelow}
-use Rattle.from_cores.specs.Scattering.{SlotsFit, stateSlots}
+use Rattle.from_cores.proofs.Scattered.{SlotsFit, slotsOf}
 
 -- ---- some of a list, in its order
 
@@ -147,7 +147,7 @@ flushed-slots s k =
       sent-slots (s .outstanding),
     )
 
-pub flush-slots : (s : State) (t : ℕ) (pool : List ℕ) → valid s ≡ true → SlotsFit (stateSlots (flushing s t pool .state))
+pub flush-slots : (s : State) (t : ℕ) (pool : List ℕ) → valid s ≡ true → SlotsFit (slotsOf (flushing s t pool .state))
 unfolding flushing
 flush-slots s t pool v =
     let d = s .sending in
@@ -196,7 +196,7 @@ fit-skips : (s : Sending) (l : List ℕ) → OutFit s → OutFit (skippedByAll s
 fit-skips s [] f = f
 fit-skips s (n ∷ l) f = fit-skipped s (furthest n l) f
 
-pub input-slots : (s : State) (pool : List ℕ) (gs : List Segment) → valid s ≡ true → SlotsFit (stateSlots (applied s pool gs .state))
+pub input-slots : (s : State) (pool : List ℕ) (gs : List Segment) → valid s ≡ true → SlotsFit (slotsOf (applied s pool gs .state))
 unfolding applied
 input-slots s pool gs v =
     let d = s .sending in

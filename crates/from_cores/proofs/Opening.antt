@@ -5,8 +5,8 @@ use Prim.Native.Nat.{ℕ}
 use lib.ListN.{length}
 use Rattle.protocol.specs.declared.Settings.{Settings}
 use Rattle.session.specs.State.{State, Outcome, refused, done}
-use Rattle.answers.specs.declared.Answer.{Answer}
 use Rattle.control.specs.declared.Link.{Link}
+use Rattle.answers.specs.declared.Answer.{Answer}
 use Rattle.promises.specs.Parts.{Parts, recordsOf, lentLengths}
 use Rattle.promises.specs.Outcomes.{opensWith, opens}
 use Rattle.promises.specs.Answers.{Accepts}

@@ -1,19 +1,19 @@
 -- Sending: what the core leaves, with the table as it was, is what the call promises.
 -- Assumes nothing.
-use mathlib.Core.Path.{_≡_, refl, ap, subst}
+use mathlib.Core.Path.{refl, ap, subst}
 use mathlib.Core.List.{List}
 use Prim.Native.Nat.{ℕ}
 use Rattle.timing.specs.declared.Record.{Record}
 use Rattle.session.specs.State.{Outcome, refused, done}
 use Rattle.session.specs.Sending.{Sends, sending}
-use Rattle.answers.specs.declared.Answer.{Answer}
 use Rattle.control.specs.declared.Link.{Link}
-use Rattle.promises.specs.Parts.{Parts, partsOf, lentLengths}
+use Rattle.answers.specs.declared.Answer.{Answer}
+use Rattle.promises.specs.Parts.{Parts, lentLengths, partsOf}
 use Rattle.promises.specs.Outcomes.{sendsWith, sends}
 use Rattle.promises.specs.Answers.{Accepts}
 use Rattle.promises.specs.Promises.{SendPromise, SendLeaves}
 use Rattle.promises.specs.Cores.{SendCore}
-use Rattle.from_cores.specs.Gathering.{Gathers, outcome-in, stands-in}
+use Rattle.from_cores.proofs.Gathered.{Gathers, outcome-in, stands-in}
 
 module _ (l : Link) (p : Parts) (records : List Record) (n : ℕ) (g : Gathers l p records n) (a : Answer) (l′ : Link) (pool′ : List ℕ) where
   -- the parts after it
