@@ -1,5 +1,5 @@
 -- `scatter` meets its contract: a walk of its MIR, by hand, with a loop. Each turn reads a word and a record in place (`Elements.antt`), and calls `slot_of` and `replace`.
--- The loop's invariant: what is left to put back, put into the table as it is now, gives the table that is promised. 
+-- The loop's invariant: what is left to put back, put into the table as it is now, gives the table that is promised.
 -- Assumes nothing.
 use Rattle.records.proofs.Walk.{_≡_, refl, sym, ap, subst, ℕ, _<_, _≤_, _^_, _+_, _-_, List, [], _∷_, length, getD, set, length-set, URA, fullShare, named, w32, w64, tyPtr, tyBool, tyInt, Val, vunit, vint, vbool, SProp, ent, emp, via, fst∗, id⊢, Lft, GName, Share, Fml, ftrue, fat, flft, Memory, Routine, Heap, Calls, Loops, WpFn, Tables, Atoms, Fun, givenOf, tables, tablesOf}
 use Rattle.records.proofs.Walk.{Given, Item, ‵, some, later, _⊛_, ⋆, _$_, _∵_, !, qed, by, move, keep, drop, use1, use2, use3, split, join, pick, rewrite, fsplit, fjoin, feqL, feqI, suffices, frame, await, done, agg, whole, sub, look-in, store-in, look, init, store, forget, stop, hop, fld, from, load, lit, unit-lit, of-opd, un, bin, addr, and-then, no-more, assigns, assigns-last, first, returns, enter, alloc1, alloc0, params1, pass1, pass0, free1, free0, land, exec}
