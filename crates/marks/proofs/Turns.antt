@@ -1,59 +1,46 @@
--- The turns of the loops over words and marks, at index i of the first n of an array.
+-- The turns of the loops that mark the slots of words, at index i of the first n of an array.
 -- Assumes nothing.
-use mathlib.Core.Path.{_≡_, refl, sym, ap, _∙_}
-use mathlib.Core.Bool.{Bool, true, false, not, _&&_, and-true, and-assoc}
-use mathlib.Core.List.{List, [], _∷_, map}
-use Prim.Native.Nat.{ℕ, _+_, _*_, _≤_, _<_, _/_, _%_}
-use native.Mathlib.Numerals.{add-one}
-use native.Mathlib.Omega.{arith}
-use borrow.Author.Tests.{eq-eqb, ne-eqb}
-use lib.Dec.{leb, eqb}
-use lib.ListN.{length, take, drop, getD, set, drop-of-length-le}
-use lib.Seq.{drop-cons}
+use mathlib.Core.Path.{_≡_, refl, sym, _∙_}
+use mathlib.Core.Bool.{_&&_, and-true, and-assoc}
+use mathlib.Core.List.{List, map}
+use Prim.Native.Nat.{ℕ, _+_, _≤_, _<_, _%_}
+use lib.Bits.{bitOr}
+use lib.Dec.{eqb}
+use lib.ListN.{length, take, drop, getD, set, length-set}
 use Rattle.lists.proofs.Loops.{view-next, view-end}
 use Rattle.slots.specs.Slots.{slotsOf}
-use Rattle.session.specs.Valid.{all, heldFits}
 use Rattle.words.specs.Words.{unpack}
-use Rattle.marks.specs.Counted.{markedAll, unmarkedAll, total, isMarked}
+use Rattle.marks.specs.Marks.{markedAll, unmarkedAll, Marks}
+use Rattle.marks.specs.MarkLaws.{or-none}
 
--- slots and segments of what is left
-module _ (ws : List ℕ) (n i : ℕ) where
-  abbrev pub left : List ℕ
-  left = drop i (take n ws)
+-- the slots from index i on
+abbrev pub left : List ℕ → ℕ → ℕ → List ℕ
+left ws n i = slotsOf (map unpack (drop i (take n ws)))
 
-  pub slots-end : n ≤ i → slotsOf (map unpack left) ≡ []
-  slots-end h = rw (view-end ws n i h)
+-- `m` are the marks so far, and `twice` is 0 where none was marked before
+pub record Marking (before ws : List ℕ) (n : ℕ) (m : List ℕ) (twice i : ℕ) : Type 0 where
+  pub whole : length m ≡ 256
+  pub marked : markedAll before (left ws n 0) ≡ markedAll m (left ws n i)
+  pub unmarked : unmarkedAll before (left ws n 0) ≡ (eqb twice 0 && unmarkedAll m (left ws n i))
 
-  module _ (h : i < n) (g : n ≤ length ws) where
-    -- `goal` is what the marks are to be
-    pub mark-next : (m goal : List ℕ) (s : ℕ) → s ≡ getD ws i 0 % 256 → goal ≡ markedAll m (slotsOf (map unpack left)) → goal ≡ markedAll (set m s 1) (slotsOf (map unpack (drop (i + 1) (take n ws))))
-    unfolding markedAll
-    mark-next m goal s e inv = inv ∙ rw (view-next ws n i 0 h g, ← e)
+pub marking-start : (before ws : List ℕ) (n : ℕ) → length before ≡ 256 → Marking before ws n before 0 0
+marking-start before ws n e = record { whole = e; marked = refl; unmarked = refl }
 
-    pub fit-next : (mss : ℕ) (goal fits test : Bool) → test ≡ heldFits mss (unpack (getD ws i 0)) → goal ≡ (fits && all (heldFits mss) (map unpack left)) → goal ≡ (fits && test && all (heldFits mss) (map unpack (drop (i + 1) (take n ws))))
-    fit-next mss goal fits test e inv = inv ∙ rw (view-next ws n i 0 h g, ← e) (sym (and-assoc fits test _))
+module _ {before ws : List ℕ} {n : ℕ} {m : List ℕ} {twice i : ℕ} (p : Marking before ws n m twice i) where
+  pub marking-next : (s : ℕ) → s ≡ getD ws i 0 % 256 → i < n → n ≤ length ws → Marking before ws n (set m s 1) (bitOr twice (getD m s 0)) (i + 1)
+  unfolding markedAll unmarkedAll
+  marking-next s e h g =
+      record {
+        whole = length-set m s 1 ∙ p .whole;
+        marked = p .marked ∙ rw (view-next ws n i 0 h g, ← e) refl;
+        unmarked = p .unmarked ∙ rw (view-next ws n i 0 h g, ← e, or-none twice (getD m s 0)) (sym (and-assoc (eqb twice 0) (eqb (getD m s 0) 0) _));
+      }
 
-    -- `goal` is what the flag is to be
-    pub once-next : (m : List ℕ) (goal flag : Bool) (s : ℕ) → s ≡ getD ws i 0 % 256 → goal ≡ (flag && unmarkedAll m (slotsOf (map unpack left))) → goal ≡ (flag && eqb (getD m s 0) 0 && unmarkedAll (set m s 1) (slotsOf (map unpack (drop (i + 1) (take n ws)))))
-    unfolding unmarkedAll
-    once-next m goal flag s e inv = inv ∙ rw (view-next ws n i 0 h g, ← e) (sym (and-assoc flag (eqb (getD m s 0) 0) _))
-
-  pub once-end : (m : List ℕ) (goal flag : Bool) → n ≤ i → goal ≡ (flag && unmarkedAll m (slotsOf (map unpack left))) → goal ≡ flag
-  unfolding unmarkedAll
-  once-end m goal flag h inv = inv ∙ rw (slots-end h) (and-true flag)
-
-  pub mark-end : (m goal : List ℕ) → n ≤ i → goal ≡ markedAll m (slotsOf (map unpack left)) → goal ≡ m
-  unfolding markedAll
-  mark-end m goal h inv = inv ∙ rw (slots-end h)
-
-  pub fit-end : (mss : ℕ) (goal fits : Bool) → n ≤ i → goal ≡ (fits && all (heldFits mss) (map unpack left)) → goal ≡ fits
-  fit-end mss goal fits h inv = inv ∙ rw (view-end ws n i h) (and-true fits)
-
--- the sum so far, and that of the rest
-pub sum-next : (m : List ℕ) (i sum goal x : ℕ) → i < length m → x ≡ getD m i 0 → goal ≡ sum + total (drop i m) → goal ≡ sum + x + total (drop (i + 1) m)
-unfolding total
-sum-next m i sum goal x h e inv = inv ∙ rw (drop-cons m i 0 h, ← e, add-one i) (omega arith)
-
-pub sum-end : (m : List ℕ) (i sum goal : ℕ) → length m ≤ i → goal ≡ sum + total (drop i m) → goal ≡ sum
-unfolding total
-sum-end m i sum goal h inv = inv ∙ rw (drop-of-length-le m {i = i} h) (omega arith)
+  pub marking-end : n ≤ i → Marks before (left ws n 0) m (eqb twice 0)
+  unfolding markedAll unmarkedAll
+  marking-end h =
+      record {
+        whole = p .whole;
+        marked = sym (p .marked ∙ rw (view-end ws n i h) refl);
+        unmarked = sym (p .unmarked ∙ rw (view-end ws n i h) (and-true (eqb twice 0)));
+      }

@@ -1,25 +1,23 @@
 -- `mark`: the words before index i are marked.
 -- Assumes nothing.
-use mathlib.Core.Path.{_≡_, refl, sym, _∙_}
-use mathlib.Core.List.{map}
-use mathlib.Core.Bool.{_&&_}
-use Prim.Native.Nat.{_+_, _*_, _-_, _≤_}
+use Prim.Native.Nat.{_-_, _≤_}
 use native.Mathlib.Omega.{arith}
 use borrow.Author.Needs.{needs}
-use lib.ListN.{length, take, drop}
-use Rattle.slots.specs.Slots.{slotsOf}
-use Rattle.session.specs.Valid.{all, heldFits}
-use Rattle.words.specs.Words.{unpack}
-use Rattle.marks.specs.Counted.{markedAll, total, unmarked, isMarked}
-use Rattle.marks.proofs.Turns.{left, mark-next, mark-end}
+use Rattle.marks.proofs.Turns.{Marking, marking-start, marking-next, marking-end}
 use Rattle.marks.proofs.mark.Statement.{statement}
 use Rattle.marks.proofs.mark.Tie as tie
 
 abbrev Inv-loop : tie.InvT-loop
-Inv-loop marks₀ words n i₀ marks i = (i ≤ n) × (length marks ≡ 256) × (markedAll marks₀ (slotsOf (map unpack (take n words))) ≡ markedAll marks (slotsOf (map unpack (left words n i))))
+Inv-loop marks₀ words n twice₀ i₀ marks twice i = (i ≤ n) × Marking marks₀ words n marks twice i
 
 abbrev μ-loop : tie.MeasureT-loop
-μ-loop marks₀ words n i₀ marks i = n - i
+μ-loop marks₀ words n twice₀ i₀ marks twice i = n - i
+
+loop-again : tie.Need-loop-again Inv-loop μ-loop
+loop-again c =
+    let start = c .before .before .before .before .before in
+    let v = c .before .before .before .before .loop in
+    (search needs, marking-next (v .inv .1) (c .before .slot-of .result) (c .before .slot-of .ensures .0) (c .before .before .before .loop-test .taken) (omega (arith, start .pre)))
 
 pub mark-spec : {M : Type 1} → statement M
 mark-spec =
@@ -27,12 +25,13 @@ mark-spec =
     (tie.spec
     Inv-loop
     μ-loop
-    (λ c. (search needs, search needs, refl))
+    (λ c. (search needs, marking-start _ _ _ (c .pre .0)))
     (λ c. search needs)
     (λ c. search needs)
     (λ c κs. search needs)
     (λ c. search needs)
     (λ c. search needs)
     (λ c. search needs)
-    (λ c. (search needs, search needs, mark-next _ _ _ (c .before .before .loop-test .taken) (omega (arith, c .before .before .before .before .pre)) _ _ _ (c .slot-of .ensures .0) (c .before .before .before .loop .inv .2)))
-    (λ c. (search needs, sym (mark-end _ _ _ _ _ (c .loop-test .left) (c .before .loop .inv .2)))))
+    (λ c. search needs)
+    loop-again
+    (λ c. marking-end (c .before .loop .inv .1) (c .loop-test .left)))

@@ -1,0 +1,6 @@
+pub mod Turns
+pub mod Ascents
+pub mod Joins
+pub mod Halves
+pub mod Whole
+pub mod Admits

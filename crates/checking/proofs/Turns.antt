@@ -1,0 +1,108 @@
+-- The turns of the loops, at index i of the first n of an array.
+-- Assumes nothing.
+use mathlib.Core.Path.{_≡_, refl, sym, ap, _∙_}
+use mathlib.Core.Bool.{Bool, true, false, not, _&&_, and-true, and-assoc, false≢true}
+use mathlib.Core.List.{List, _∷_}
+use Prim.Native.Nat.{ℕ, _+_, _-_, _%_, _^_, _≤_, _<_}
+use native.Mathlib.Decide.{decLt}
+use native.Mathlib.Omega.{arith}
+use borrow.Author.Tests.{lt-ltb, le-ltb, le-leb, lt-leb}
+use lib.Dec.{leb, ltb}
+use lib.ListN.{length, take, drop, getD, length-replicate}
+use Rattle.protocol.specs.Serial.{minus}
+use Rattle.timing.specs.declared.Record.{Record}
+use Rattle.lists.proofs.Loops.{view-next, view-end}
+use Rattle.slots.specs.Slots.{once}
+use Rattle.session.specs.Valid.{all}
+use Rattle.marks.specs.Marks.{none, markedAll}
+use Rattle.checking.specs.Tests.{follows, neighbours, recordFits, recordsFit, wordFits, sendWordFits, sentFew, sendSlotsIn, SendingFits, receiveSlotsIn, aheadFits, ReceivingFits}
+
+pub not-true : (b : Bool) → not b ≡ true → b ≡ false
+not-true true e = sym e
+not-true false e = refl
+
+pub not-false : (b : Bool) → not b ≡ false → b ≡ true
+not-false true e = refl
+not-false false e = sym e
+
+-- a test of each word; fit so far
+module _ (test : ℕ → Bool) (ws : List ℕ) (n i : ℕ) (goal fit : Bool) (inv : goal ≡ (fit && all test (drop i (take n ws)))) where
+  pub all-next : (t : Bool) → i < n → n ≤ length ws → t ≡ test (getD ws i 0) → goal ≡ (fit && t && all test (drop (i + 1) (take n ws)))
+  all-next t h g e = inv ∙ rw (view-next ws n i 0 h g, ← e) (sym (and-assoc fit t _))
+
+  pub all-end : n ≤ i → goal ≡ fit
+  all-end h = inv ∙ rw (view-end ws n i h) (and-true fit)
+
+-- neighbours, the one at i and the one before it
+module _ (ws : List ℕ) (n i : ℕ) (goal fit : Bool) (low : 1 ≤ i) (g : n ≤ length ws) (inv : goal ≡ (fit && neighbours (drop (i - 1) (take n ws)))) where
+  near-front : i - 1 < n → drop (i - 1) (take n ws) ≡ getD ws (i - 1) 0 ∷ drop i (take n ws)
+  near-front h = let q : i - 1 + 1 ≡ i = omega arith in rw q at (view-next ws n (i - 1) 0 h g)
+
+  pub near-next : (t : Bool) → i < n → t ≡ follows (getD ws (i - 1) 0) (getD ws i 0) → goal ≡ (fit && t && neighbours (drop (i + 1 - 1) (take n ws)))
+  unfolding neighbours
+  near-next t h e =
+      let q : i + 1 - 1 ≡ i = omega arith in
+      inv ∙ ap (λ (l : List ℕ). fit && neighbours l) (near-front (omega arith)) ∙ ap (λ (b : Bool). fit && b) step ∙ rw q (sym (and-assoc fit t _))
+    where
+      step : neighbours (getD ws (i - 1) 0 ∷ drop i (take n ws)) ≡ (t && neighbours (drop i (take n ws)))
+      step = rw (view-next ws n i 0 h g, ← e) refl
+
+  pub near-end : n ≤ i → goal ≡ fit
+  unfolding neighbours
+  near-end h = go (decLt (i - 1) n)
+    where
+      go : Dec (i - 1 < n) → goal ≡ fit
+      go (yes s) = inv ∙ rw (near-front s, view-end ws n i h) (and-true fit)
+      go (no s) = let q : n ≤ i - 1 = omega arith in inv ∙ rw (view-end ws n (i - 1) q) (and-true fit)
+
+-- the test of two neighbours, d after the first, e one less
+pub follows-test : (a b d e : ℕ) → a < 2 ^ 32 → d ≡ minus b a → e ≡ minus d 1 → ltb e 127 ≡ follows a b
+follows-test a b d e h ed ee = let q : a % 2 ^ 32 ≡ a = omega arith in rw (q, ← ed) (go (decLt 0 d) (decLt d 128))
+  where
+    go : Dec (0 < d) → Dec (d < 128) → ltb e 127 ≡ (leb 1 d && leb d 127)
+    go (yes s) (yes t) = rw (lt-ltb e 127 (omega arith), le-leb 1 d (omega arith), le-leb d 127 (omega arith)) refl
+    go (yes s) (no t) = rw (le-ltb e 127 (omega arith), le-leb 1 d (omega arith), lt-leb d 127 (omega arith)) refl
+    go (no s) t = rw (le-ltb e 127 (omega arith), lt-leb 1 d (omega arith)) refl
+
+-- records; o is the offset of the one at i
+module _ (mode una limit least : ℕ) (rs : List Record) (n i : ℕ) (goal : Bool) (inv : goal ≡ recordsFit mode una limit least (drop i (take n rs))) where
+  pub records-end : n ≤ i → true ≡ goal
+  unfolding recordsFit
+  records-end h = sym (inv ∙ rw (view-end rs n i h) refl)
+
+  module _ (d : Record) (o : ℕ) (f : Bool) (h : i < n) (g : n ≤ length rs) (eo : o ≡ minus (getD rs i d .number) una) (ef : f ≡ recordFits mode (getD rs i d)) where
+    here : goal ≡ (leb least o && ltb o limit && f && recordsFit mode una limit (o + 1) (drop (i + 1) (take n rs)))
+    unfolding recordsFit
+    here = inv ∙ rw (view-next rs n i d h g, ← eo, ← ef) refl
+
+    pub records-next : not (leb least o && ltb o limit && f) ≡ false → goal ≡ recordsFit mode una limit (o + 1) (drop (i + 1) (take n rs))
+    records-next t = here ∙ rw (not-false (leb least o && ltb o limit && f) t) refl
+
+    pub records-fail : not (leb least o && ltb o limit && f) ≡ true → false ≡ goal
+    records-fail t = sym (here ∙ rw (not-true (leb least o && ltb o limit && f) t) refl)
+
+-- ---- the segments of a half
+
+pub none-whole : (m : List ℕ) → m ≡ none → length m ≡ 256
+none-whole m e = ap length e ∙ length-replicate {A = ℕ} 256 0
+
+module _ (mss : ℕ) (queued : List ℕ) (n : ℕ) (outstanding transmissions : List ℕ) (m : ℕ) (x y z : Bool) (marks : List ℕ)
+    (ex : x ≡ all (sendWordFits mss) (take n queued)) (ey : y ≡ all (sendWordFits mss) (take m outstanding)) (ez : z ≡ all sentFew (take m transmissions)) where
+  pub limits-fail : marks ≡ none → not (x && y && z) ≡ true → SendingFits mss queued n outstanding transmissions m marks false
+  limits-fail e t =
+      record {
+        whole = none-whole marks e;
+        fits = sym (rw (← ex, ← ey, ← ez, not-true (x && y && z) t) refl);
+        marked = λ z. absurd (false≢true z);
+      }
+
+  pub limits-fit : (r : Bool) → not (x && y && z) ≡ false → r ≡ once (sendSlotsIn queued n outstanding m) → length marks ≡ 256 → marks ≡ markedAll none (sendSlotsIn queued n outstanding m)
+      → SendingFits mss queued n outstanding transmissions m marks r
+  limits-fit r t er w e = record { whole = w; fits = rw (← ex, ← ey, ← ez, not-false (x && y && z) t) er; marked = λ z. e }
+
+module _ (mss expected : ℕ) (ready : List ℕ) (n : ℕ) (waiting numbers : List ℕ) (m : ℕ) (marks : List ℕ) (x : Bool) (w : length marks ≡ 256) (e : marks ≡ markedAll none (receiveSlotsIn ready n waiting m)) (ex : x ≡ once (receiveSlotsIn ready n waiting m)) where
+  pub slots-fail : not x ≡ true → ReceivingFits mss expected ready n waiting numbers m marks false
+  slots-fail t = record { whole = w; fits = sym (rw (← ex, not-true x t) refl); marked = λ z. e }
+
+  pub slots-fit : (r : Bool) → not x ≡ false → r ≡ (all (wordFits mss) (take n ready) && all (wordFits mss) (take m waiting) && aheadFits expected n numbers m) → ReceivingFits mss expected ready n waiting numbers m marks r
+  slots-fit r t er = record { whole = w; fits = rw (← ex, not-false x t) er; marked = λ z. e }

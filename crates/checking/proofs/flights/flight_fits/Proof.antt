@@ -1,0 +1,8 @@
+-- `flight_fits` meets its contract: each test is one of the definition's.
+-- Assumes nothing.
+use borrow.Author.Needs.{needs}
+use Rattle.checking.proofs.flights.flight_fits.Statement.{statement}
+use Rattle.checking.proofs.flights.flight_fits.Tie as tie
+
+pub flight-fits-spec : {M : Type 1} → statement M
+flight-fits-spec = tie.close (tie.spec (λ c κs. search needs) (λ c κs. search needs) (λ c κs. search needs) (λ c. cc))

@@ -1,0 +1,32 @@
+-- What the checks of a call say: refusal 7, then 13, or the marks of the slots held. Definitions.
+-- Assumes nothing.
+use mathlib.Core.Path.{_≡_}
+use mathlib.Core.Bool.{Bool, true, cond}
+use mathlib.Core.List.{List}
+use Prim.Native.Nat.{ℕ}
+use lib.ListN.{length}
+use Rattle.protocol.specs.declared.Refusal.the-variants.{ShortPart, InvalidBlock}
+use Rattle.timing.specs.declared.Record.{Record}
+use Rattle.session.specs.State.{sendHeld, receiveHeld, slots}
+use Rattle.marks.specs.Marks.{Free}
+use Rattle.control.specs.declared.Link.{Link}
+use Rattle.control.specs.Views.{stateOf, blockValid}
+use Rattle.checking.specs.declared.Verdict.{Verdict}
+use Rattle.checking.specs.declared.Verdict.the-variants.{Passed, Refused}
+
+-- 13 is given exactly where the block is not valid; else the marks tell the free slots of both pools
+pub record Checked (l : Link) (records : List Record) (send receive : List ℕ) (r : Bool) : Type 0 where
+  pub send-whole : length send ≡ 256
+  pub receive-whole : length receive ≡ 256
+  pub fits : (acks : List ℕ) → r ≡ blockValid l records acks
+  pub send-free : (acks : List ℕ) → r ≡ true → Free send (slots (sendHeld (stateOf l records acks .sending))) 0
+  pub receive-free : (acks : List ℕ) → r ≡ true → Free receive (slots (receiveHeld (stateOf l records acks .receiving))) 0
+
+-- the lent sizes, then the block
+abbrev pub verdictOf : Bool → Bool → Verdict
+verdictOf long made = cond long (cond made Passed (Refused InvalidBlock)) (Refused ShortPart)
+
+-- the verdict of both, and what is known of a block that passed
+pub record Admitted (long : Bool) (l : Link) (records : List Record) (send receive : List ℕ) (v : Verdict) : Type 0 where
+  pub verdict : (acks : List ℕ) → v ≡ verdictOf long (blockValid l records acks)
+  pub checked : v ≡ Passed → Checked l records send receive true

@@ -1,0 +1,183 @@
+// The check of a control block in place: refusal 13, after the lent sizes, refusal 7. Numbers by value, lists lent; the slots of each half
+// are marked on the way.
+pub mod ahead;
+pub mod flights;
+pub mod limits;
+pub mod numbers;
+
+use control::Arrival;
+use control::Clock;
+use control::Flight;
+use protocol::Refusal;
+use protocol::Settings;
+use timing::Record;
+ghost use mathlib.Core.Path.{_≡_};
+ghost use Prim.Native.Nat.{_≤_};
+ghost use lib.ListN.{length};
+ghost use Rattle.marks.specs.Marks.{none};
+ghost use Rattle.control.specs.Views.{arrays, linkOf, Whole};
+ghost use Rattle.checking.specs.Tests.{SendingFits, ReceivingFits};
+ghost use Rattle.checking.specs.Verdicts.{Checked, Admitted};
+
+// What the checks of 7 and 13 say.
+pub enum Verdict {
+    Passed,
+    Refused(Refusal),
+}
+
+// The segments of the sending half; their slots are marked.
+fn sending_fits(
+    queued: &[u32; 128],
+    n: usize,
+    outstanding: &[u32; 32],
+    transmissions: &[u8; 32],
+    m: usize,
+    mss: u32,
+    marks: &mut [u8; 256],
+) -> bool
+    requires { ⌜ (length (now queued) ≡ 128) × (n ≤ 128) × (length (now outstanding) ≡ 32) × (length (now transmissions) ≡ 32) × (m ≤ 32)
+        × (now marks ≡ none) ⌝ }
+    ensures { λ r. ⌜ SendingFits mss (now (queued .entry)) n (now (outstanding .entry)) (now (transmissions .entry)) m
+        (now (marks .exit)) r ⌝ }
+{
+    let fit = limits::queued_fit(queued, n, mss)
+        & limits::outstanding_fit(outstanding, m, mss)
+        & limits::transmissions_fit(transmissions, m);
+    if !fit {
+        return false;
+    }
+    let first = marks::mark_outstanding(marks, outstanding, m);
+    let second = marks::mark(marks, queued, n);
+    first & second
+}
+
+// The segments of the receiving half; their slots are marked.
+fn receiving_fits(
+    ready: &[u32; 128],
+    n: usize,
+    waiting: &[u32; 128],
+    waiting_numbers: &[u32; 128],
+    m: usize,
+    expected: u32,
+    mss: u32,
+    marks: &mut [u8; 256],
+) -> bool
+    requires { ⌜ (length (now ready) ≡ 128) × (n ≤ 128) × (length (now waiting) ≡ 128) × (length (now «waiting_numbers») ≡ 128) × (m ≤ 128)
+        × (now marks ≡ none) ⌝ }
+    ensures { λ r. ⌜ ReceivingFits mss expected (now (ready .entry)) n (now (waiting .entry)) (now («waiting_numbers» .entry)) m
+        (now (marks .exit)) r ⌝ }
+{
+    let first = marks::mark(marks, ready, n);
+    let second = marks::mark(marks, waiting, m);
+    let once = first & second;
+    if !once {
+        return false;
+    }
+    limits::held_fit(ready, n, mss)
+        & limits::held_fit(waiting, m, mss)
+        & ahead::ahead_fits(waiting_numbers, m, expected, n)
+}
+
+// Whether a block is one that this link makes, with these records of its outstanding segments. The slots held are marked.
+pub fn valid(
+    settings: Settings,
+    flight: Flight,
+    arrival: Arrival,
+    clock: Clock,
+    records: [Record; 32],
+    queued: &[u32; 128],
+    outstanding: &[u32; 32],
+    transmissions: &[u8; 32],
+    ready: &[u32; 128],
+    waiting: &[u32; 128],
+    waiting_numbers: &[u32; 128],
+    send_marks: &mut [u8; 256],
+    receive_marks: &mut [u8; 256],
+) -> bool
+    requires { ⌜ Whole (arrays (now queued) (now outstanding) (now transmissions) (now ready) (now waiting) (now «waiting_numbers»))
+        × (now «send_marks» ≡ none) × (now «receive_marks» ≡ none) ⌝ }
+    ensures { λ r. ⌜ Checked (linkOf settings flight arrival clock (arrays (now (queued .entry)) (now (outstanding .entry))
+        (now (transmissions .entry)) (now (ready .entry)) (now (waiting .entry)) (now («waiting_numbers» .entry))))
+        records (now («send_marks» .exit)) (now («receive_marks» .exit)) r ⌝ }
+{
+    if !numbers::numbers_fit(settings, flight, arrival, clock) {
+        return false;
+    }
+    let most = settings.mss();
+    let mss = most as u32;
+    let sends = sending_fits(
+        queued,
+        flight.queued,
+        outstanding,
+        transmissions,
+        flight.outstanding,
+        mss,
+        send_marks,
+    );
+    let flies = flights::flight_fits(
+        records,
+        flight.outstanding,
+        settings.mode,
+        flight.una,
+        flight.next,
+    );
+    let receives = receiving_fits(
+        ready,
+        arrival.ready,
+        waiting,
+        waiting_numbers,
+        arrival.waiting,
+        arrival.expected,
+        mss,
+        receive_marks,
+    );
+    sends & flies & receives
+}
+
+// 7 where the lent parts are not long enough, then 13 where the block is not valid; else the slots held are marked.
+pub fn admit(
+    long: bool,
+    settings: Settings,
+    flight: Flight,
+    arrival: Arrival,
+    clock: Clock,
+    records: [Record; 32],
+    queued: &[u32; 128],
+    outstanding: &[u32; 32],
+    transmissions: &[u8; 32],
+    ready: &[u32; 128],
+    waiting: &[u32; 128],
+    waiting_numbers: &[u32; 128],
+    send_marks: &mut [u8; 256],
+    receive_marks: &mut [u8; 256],
+) -> Verdict
+    requires { ⌜ Whole (arrays (now queued) (now outstanding) (now transmissions) (now ready) (now waiting) (now «waiting_numbers»))
+        × (now «send_marks» ≡ none) × (now «receive_marks» ≡ none) ⌝ }
+    ensures { λ r. ⌜ Admitted long (linkOf settings flight arrival clock (arrays (now (queued .entry)) (now (outstanding .entry))
+        (now (transmissions .entry)) (now (ready .entry)) (now (waiting .entry)) (now («waiting_numbers» .entry))))
+        records (now («send_marks» .exit)) (now («receive_marks» .exit)) r ⌝ }
+{
+    if !long {
+        return Verdict::Refused(Refusal::ShortPart);
+    }
+    let made = valid(
+        settings,
+        flight,
+        arrival,
+        clock,
+        records,
+        queued,
+        outstanding,
+        transmissions,
+        ready,
+        waiting,
+        waiting_numbers,
+        send_marks,
+        receive_marks,
+    );
+    if made {
+        Verdict::Passed
+    } else {
+        Verdict::Refused(Refusal::InvalidBlock)
+    }
+}

@@ -1,0 +1,4 @@
+pub mod Counts
+pub mod Payloads
+pub mod Places
+pub mod Follow

@@ -1,0 +1,81 @@
+-- What the functions leave, beside what the link's definitions give. Definitions.
+-- Assumes nothing.
+use mathlib.Core.Path.{_≡_}
+use mathlib.Core.List.{List, _++_}
+use Prim.Native.Nat.{ℕ, _+_, _-_, _*_, _^_, _≤_, _<_}
+use lib.ListN.{length, take, drop}
+use lib.Seq.{sets}
+use Rattle.protocol.specs.Protocol.{sendSlots}
+use Rattle.protocol.specs.Ranges.{mss}
+use Rattle.protocol.specs.declared.Refusal.{Refusal}
+use Rattle.session.specs.State.{State, Outcome, refused, done, sendHeld, slots}
+use Rattle.session.specs.Sending.{Placed, Sends}
+use Rattle.words.specs.Words.{heldIn}
+use Rattle.marks.specs.Marks.{Free}
+use Rattle.answers.specs.declared.Answer.the-variants.{Accepted, Refused}
+use Rattle.enqueue.specs.declared.Enqueued.{Enqueued}
+
+-- the marks are those of slots held, k at most
+pub record Marked (marks : List ℕ) (k : ℕ) : Type 0 where
+  pub now : List ℕ
+  pub free : Free marks now 0
+  pub most : length now ≤ k
+
+-- the payload of a message that begins at `at` is stored in a slot, and this is its length
+pub record Stored (m : ℕ) (message : List ℕ) (at slot : ℕ) (before : List ℕ) (len : ℕ) (after : List ℕ) : Type 0 where
+  pub size : len ≡ length (take m (drop at message))
+  pub pool : after ≡ sets before (slot * m) (take m (drop at message))
+
+-- there is room for so many segments behind the n that are queued, in the array and in the pool
+pub record Fillable (m : ℕ) (queued : List ℕ) (n : ℕ) (marks pool : List ℕ) (count : ℕ) : Type 0 where
+  pub whole : length queued ≡ 128
+  pub room : n + count ≤ 128
+  pub marks-whole : length marks ≡ 256
+  pub marked : Marked marks (sendSlots - count)
+  pub word : m < 2 ^ 16
+  pub slots : sendSlots * m ≤ length pool
+
+-- the segments placed stand behind the n that were queued, and the pool is as placing leaves it
+pub record Fills (placed : Placed) (before : List ℕ) (n : ℕ) (after : List ℕ) (count : ℕ) (pool′ : List ℕ) : Type 0 where
+  pub whole : length after ≡ 128
+  pub fits : count ≤ 128
+  pub list : heldIn after count ≡ heldIn before n ++ placed .segments
+  pub pool : pool′ ≡ placed .pool
+
+-- n segments are queued and k outstanding, whose slots are marked; the pool has all slots
+pub record Enqueueable (m : ℕ) (queued : List ℕ) (n k : ℕ) (marks pool : List ℕ) : Type 0 where
+  pub whole : length queued ≡ 128
+  pub queued-most : n ≤ 128
+  pub outstanding-most : k ≤ 32
+  pub marks-whole : length marks ≡ 256
+  pub marked : Marked marks (k + n)
+  pub some : 0 < m
+  pub word : m < 2 ^ 16
+  pub slots : sendSlots * m ≤ length pool
+
+-- the largest payload, the queued segments and the slots held are those of the state
+pub record PartsOf (s : State) (m : ℕ) (queued : List ℕ) (n k : ℕ) (marks : List ℕ) : Type 0 where
+  pub size : mss (s .settings) ≡ m
+  pub queue : s .sending .queued ≡ heldIn queued n
+  pub held : length (slots (sendHeld (s .sending))) ≡ k + n
+  pub free : Free marks (slots (sendHeld (s .sending))) 0
+
+-- a refusal: its number alone, the list and the pool as they were
+pub record Kept (r : Refusal) (before : List ℕ) (n : ℕ) (pool : List ℕ) (e : Enqueued) (after pool′ : List ℕ) : Type 0 where
+  pub answer : e .answer ≡ Refused r
+  pub count : e .queued ≡ n
+  pub list : after ≡ before
+  pub pool-same : pool′ ≡ pool
+
+-- an accepted message: the list and the pool after it
+pub record Queued (x : Sends) (e : Enqueued) (after pool′ : List ℕ) : Type 0 where
+  pub answer : e .answer ≡ Accepted
+  pub whole : length after ≡ 128
+  pub fits : e .queued ≤ 128
+  pub list : heldIn after (e .queued) ≡ x .state .sending .queued
+  pub pool : pool′ ≡ x .pool
+
+-- what sending gives
+abbrev pub Follows : Outcome Sends → List ℕ → ℕ → List ℕ → Enqueued → List ℕ → List ℕ → Type 0
+Follows (refused r) before n pool e after pool′ = Kept r before n pool e after pool′
+Follows (done x) before n pool e after pool′ = Queued x e after pool′

@@ -1,0 +1,32 @@
+-- `free_from`: each slot from `from` on before `slot` is marked.
+-- Assumes nothing.
+use mathlib.Core.Path.{_≡_, refl}
+use Prim.Native.Nat.{_-_, _<_}
+use borrow.Author.Needs.{needs}
+use Rattle.marks.specs.Marks.{nextFree}
+use Rattle.marks.proofs.Frees.{slot-low, free-more, further, free-stop}
+use Rattle.marks.proofs.free_from.Statement.{statement}
+use Rattle.marks.proofs.free_from.Tie as tie
+
+abbrev Inv-loop : tie.InvT-loop
+Inv-loop marks from slot₀ slot = (nextFree marks from < 256) × (nextFree marks from ≡ nextFree marks slot) × (slot < 256)
+
+abbrev μ-loop : tie.MeasureT-loop
+μ-loop marks from slot₀ slot = 256 - slot
+
+pub free-from-spec : {M : Type 1} → statement M
+free-from-spec =
+    tie.close
+    (tie.spec
+    Inv-loop
+    μ-loop
+    (λ c. (c .pre .2, refl, slot-low (c .args .marks .now) (c .args .from) (c .pre .2)))
+    (λ c. search needs)
+    (λ c. search needs)
+    (λ c. search needs)
+    (λ c.
+    let l = c .before .before in
+    let v = l .loop .inv in
+    let m = l .before .args .marks .now in
+    (v .0, free-more m (l .loop .slot) _ (v .1) (v .0) (c .if1 .taken), further m (l .loop .slot) _ (v .1) (v .0) (c .if1 .taken)))
+    (λ c. free-stop (c .before .before .before .args .marks .now) (c .before .before .loop .slot) _ (c .before .before .loop .inv .1) (c .before .before .loop .inv .0) (c .if1 .left)))

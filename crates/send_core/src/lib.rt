@@ -1,0 +1,113 @@
+// Sending a message over the block in place, with the records of the outstanding segments by value.
+use answers::Answer;
+use checking::Verdict;
+use control::Arrival;
+use control::Clock;
+use control::Flight;
+use protocol::Settings;
+use sizes::Lengths;
+use timing::Record;
+ghost use Rattle.control.specs.Views.{arrays, linkOf, Whole};
+ghost use Rattle.enqueue.specs.Enqueueing.{Enqueueable};
+ghost use Rattle.send_core.specs.Sending.{Enqueues, SendLeaves};
+
+// The answer, and the sending half's numbers after it.
+pub struct Sent {
+    pub answer: Answer,
+    pub flight: Flight,
+}
+
+// Sending where 7 and 13 have passed; the slots held are marked.
+fn send_checked(
+    mss: usize,
+    flight: Flight,
+    queued: &mut [u32; 128],
+    marks: &[u8; 256],
+    pool: &mut [u8],
+    message: &[u8],
+) -> Sent
+    requires { ⌜ Enqueueable mss (now queued) (flight .queued) (flight .outstanding) (now marks) (now pool) ⌝ }
+    ensures { λ r. ⌜ Enqueues mss flight (now (queued .entry)) (now (marks .entry)) (now (pool .entry)) (now (message .entry))
+        r (now (queued .exit)) (now (pool .exit)) ⌝ }
+{
+    let result = enqueue::enqueue(
+        mss,
+        queued,
+        flight.queued,
+        flight.outstanding,
+        marks,
+        pool,
+        message,
+    );
+    let answer = result.answer;
+    let mut after = flight;
+    after.queued = result.queued;
+    Sent {
+        answer,
+        flight: after,
+    }
+}
+
+// Sending checks 7, 13, then 10 and 11. `table` is the length of the lent table.
+pub fn send(
+    settings: Settings,
+    flight: Flight,
+    arrival: Arrival,
+    clock: Clock,
+    records: [Record; 32],
+    table: usize,
+    queued: &mut [u32; 128],
+    outstanding: &[u32; 32],
+    transmissions: &[u8; 32],
+    ready: &[u32; 128],
+    waiting: &[u32; 128],
+    waiting_numbers: &[u32; 128],
+    send_pool: &mut [u8],
+    receive_pool: &[u8],
+    acks: &[u32],
+    message: &[u8],
+) -> Sent
+    requires { ⌜ Whole (arrays (now queued) (now outstanding) (now transmissions) (now ready) (now waiting) (now «waiting_numbers»)) ⌝ }
+    ensures { λ r. ⌜ SendLeaves (linkOf settings flight arrival clock (arrays (now (queued .entry)) (now (outstanding .entry))
+        (now (transmissions .entry)) (now (ready .entry)) (now (waiting .entry)) (now («waiting_numbers» .entry))))
+        records table (now («send_pool» .entry)) (now («receive_pool» .entry)) (now (acks .entry)) (now (message .entry)) (r .answer)
+        (linkOf settings (r .flight) arrival clock (arrays (now (queued .exit)) (now (outstanding .entry))
+        (now (transmissions .entry)) (now (ready .entry)) (now (waiting .entry)) (now («waiting_numbers» .entry))))
+        (now («send_pool» .exit)) ⌝ }
+{
+    let lent = Lengths {
+        send: send_pool.len(),
+        receive: receive_pool.len(),
+        table,
+        acks: acks.len(),
+    };
+    let long = sizes::enough(settings, lent);
+    let mut send_marks: [u8; 256] = [0; 256];
+    let mut receive_marks: [u8; 256] = [0; 256];
+    let verdict = checking::admit(
+        long,
+        settings,
+        flight,
+        arrival,
+        clock,
+        records,
+        queued,
+        outstanding,
+        transmissions,
+        ready,
+        waiting,
+        waiting_numbers,
+        &mut send_marks,
+        &mut receive_marks,
+    );
+    match verdict {
+        Verdict::Refused(refusal) => Sent {
+            answer: Answer::Refused(refusal),
+            flight,
+        },
+        Verdict::Passed => {
+            let mss = settings.mss();
+            send_checked(mss, flight, queued, &send_marks, send_pool, message)
+        }
+    }
+}
