@@ -1,0 +1,62 @@
+-- `locate`: the checks of 7 and 13, then the front segment's place.
+-- Assumes nothing.
+use mathlib.Core.Path.{refl}
+use borrow.Author.Needs.{needs}
+use lib.ListN.{length}
+use Rattle.sizes.specs.declared.Lengths.{Lengths}
+use Rattle.control.specs.Views.{arrays, linkOf}
+use Rattle.control.specs.declared.Link.{Link}
+use Rattle.promises.specs.Parts.{lentLengths}
+use Rattle.promises.specs.Outcomes.{showsWith}
+use Rattle.read_core.proofs.Blocks.{block-counts, passes, passes-readable, refuses}
+use Rattle.read_core.proofs.Places.{placed, unplaced}
+use Rattle.read_core.specs.Messages.{Readable}
+use Rattle.read_core.proofs.locate.Statement.{statement}
+use Rattle.read_core.proofs.locate.Tie as tie
+
+-- the block
+abbrev block : tie.Start → Link
+block s = let a = s .args in linkOf (a .settings) (a .flight) (a .arrival) (a .clock) (arrays (a .queued .now) (a .outstanding .now) (a .transmissions .now) (a .ready .now) (a .waiting .now) (a .waiting-numbers .now))
+
+-- the lengths of the lent parts
+abbrev lent : tie.Start → Lengths
+lent s = let a = s .args in lentLengths (a .table) (a .send-pool .now) (a .receive-pool .now) (a .acks .now)
+
+-- it has passed the checks
+passed : (c : tie.After-enum-told) → Readable (block (c .before .before .before .before .before .before .before .before .before)) (c .before .before .before .before .before .before .before .before .before .args .receive-pool .now)
+passed c = passes-readable (block (c .before .before .before .before .before .before .before .before .before)) (c .before .before .before .before .before .before .before .before .before .args .records) (c .before .before .before .before .before .before .before .before .before .args .acks .now) (lent (c .before .before .before .before .before .before .before .before .before)) (c .before .before .before .before .before .enough .result) (c .before .before .before .before .before .enough .ensures) (c .before .before .admit .result) (c .before .before .admit .ensures .verdict) (c .enum-told .given .1) (c .before .before .before .before .before .before .before .before .before .args .receive-pool .now) refl
+
+front-place-requires : tie.Need-front-place-requires
+front-place-requires c κs =
+    let k = c .before in
+    let s = k .before .before .before .before .before .before .before .before .before in
+    let ok = passed k in (
+      s .pre .whole-ready,
+      block-counts (block s) (ok .counts) .ready,
+      rw (c .mss .ensures) (ok .inside .each),
+      rw (c .mss .ensures) (ok .mss-low),
+    )
+
+returns : tie.Need-returns
+unfolding showsWith
+returns c =
+    let k = c .before .before in
+    let s = k .before .before .before .before .before .before .before .before .before in
+    placed (block s) _ (s .args .acks .now) (s .args .receive-pool .now) _ _ (passes (block s) (s .args .records) (s .args .acks .now) (lent s) (k .before .before .before .before .before .enough .result) (k .before .before .before .before .before .enough .ensures) (k .before .before .admit .result) (k .before .before .admit .ensures .verdict) (k .enum-told .given .1)) (passed k) _ (c .before .mss .ensures) _ (c .front-place .ensures)
+
+returns-2 : tie.Need-returns-2
+unfolding showsWith
+returns-2 c = let s = c .before .before .before .before .before .before .before .before .before .before in unplaced _ _ (refuses (block s) (s .args .records) (s .args .acks .now) (lent s) (c .before .before .before .before .before .before .enough .result) (c .before .before .before .before .before .before .enough .ensures) (c .before .before .before .admit .result) (c .before .before .before .admit .ensures .verdict) _ _ (c .before .verdict .given .1)) (length (s .args .receive-pool .now))
+
+pub locate-spec : {M : Type 1} → statement M
+locate-spec =
+    tie.close
+    (tie.spec
+    (λ c κs. search needs)
+    (λ c κs. search needs)
+    (λ c. search needs)
+    (λ c κs. search needs)
+    front-place-requires
+    (λ c. search needs)
+    returns
+    returns-2)

@@ -1,0 +1,49 @@
+-- `size`: the checks of 7 and 13, then the message at the front.
+-- Assumes nothing.
+use mathlib.Core.Path.{refl, sym}
+use borrow.Author.Needs.{needs}
+use Rattle.sizes.specs.declared.Lengths.{Lengths}
+use Rattle.control.specs.Views.{arrays, linkOf}
+use Rattle.control.specs.declared.Link.{Link}
+use Rattle.promises.specs.Parts.{lentLengths}
+use Rattle.promises.specs.Outcomes.{tellsWith}
+use Rattle.read_core.proofs.Blocks.{block-counts, passes, passes-readable, refuses}
+use Rattle.read_core.proofs.Readings.{tells-block}
+use Rattle.read_core.proofs.size.Statement.{statement}
+use Rattle.read_core.proofs.size.Tie as tie
+
+-- the block
+abbrev block : tie.Start → Link
+block s = let a = s .args in linkOf (a .settings) (a .flight) (a .arrival) (a .clock) (arrays (a .queued .now) (a .outstanding .now) (a .transmissions .now) (a .ready .now) (a .waiting .now) (a .waiting-numbers .now))
+
+-- the lengths of the lent parts
+abbrev lent : tie.Start → Lengths
+lent s = let a = s .args in lentLengths (a .table) (a .send-pool .now) (a .receive-pool .now) (a .acks .now)
+
+front-size-requires : tie.Need-front-size-requires
+front-size-requires c κs =
+    let s = c .before .before .before .before .before .before .before .before .before in
+    let ok = passes-readable (block s) (s .args .records) (s .args .acks .now) (lent s) (c .before .before .before .before .before .enough .result) (c .before .before .before .before .before .enough .ensures) (c .before .before .admit .result) (c .before .before .admit .ensures .verdict) (c .enum-told .given .1) (s .args .receive-pool .now) refl in
+    (s .pre .whole-ready, block-counts (block s) (ok .counts) .ready)
+
+returns : tie.Need-returns
+unfolding tellsWith
+returns c =
+    let s = c .before .before .before .before .before .before .before .before .before .before in
+    tells-block (block s) _ (s .args .acks .now) _ _ (passes (block s) (s .args .records) (s .args .acks .now) (lent s) (c .before .before .before .before .before .before .enough .result) (c .before .before .before .before .before .before .enough .ensures) (c .before .before .before .admit .result) (c .before .before .before .admit .ensures .verdict) (c .before .enum-told .given .1)) (c .front-size .result) (c .front-size .ensures)
+
+returns-2 : tie.Need-returns-2
+unfolding tellsWith
+returns-2 c = let s = c .before .before .before .before .before .before .before .before .before .before in sym (refuses (block s) (s .args .records) (s .args .acks .now) (lent s) (c .before .before .before .before .before .before .enough .result) (c .before .before .before .before .before .before .enough .ensures) (c .before .before .before .admit .result) (c .before .before .before .admit .ensures .verdict) _ _ (c .before .verdict .given .1))
+
+pub size-spec : {M : Type 1} → statement M
+size-spec =
+    tie.close
+    (tie.spec
+    (λ c κs. search needs)
+    (λ c κs. search needs)
+    (λ c. search needs)
+    front-size-requires
+    (λ c. search needs)
+    returns
+    returns-2)

@@ -1,0 +1,5 @@
+pub mod Noting
+pub mod Steps
+pub mod Pushed
+pub mod Starts
+pub mod Walks
