@@ -1,0 +1,6 @@
+pub mod Concern
+pub mod Hearing
+pub mod Owned
+pub mod Removal
+pub mod Skips
+pub mod Walks

@@ -1,0 +1,4 @@
+pub mod Flights
+pub mod Furthest
+pub mod FurthestLaws
+pub mod Hearing

@@ -1,0 +1,49 @@
+-- `hear`: a refused datagram leaves all as it was; an accepted one is heard by both halves.
+-- Assumes nothing.
+use mathlib.Core.Path.{refl}
+use borrow.Author.Needs.{needs}
+use Rattle.input_core.proofs.Takes.{takes-nothing, begun, refused-over, takes-all}
+use Rattle.input_core.proofs.hear.Statement.{statement}
+use Rattle.input_core.proofs.hear.Tie as tie
+
+returns : tie.Need-returns
+returns c = takes-nothing _ _ _ _ _ _ _ (refused-over _ _ _ _ (c .before .before .before .before .check .ensures) (c .before .before .before .before .before .mss .ensures) _ _ _ _ _ refl (c .before .before .verdict .given .1))
+
+hear-requires : tie.Need-hear-requires
+hear-requires c κs =
+    let start = c .before .before .before .before .before .before .before .before .before in
+    (start .pre .order, (_, begun (start .args .settings) _ _ _ (c .before .before .before .before .check .ensures) (c .before .before .before .before .before .mss .ensures) _ (c .before .before .enum-told .given .1)))
+
+hear-requires-2 : tie.Need-hear-requires-2
+hear-requires-2 c κs =
+    let start = c .before .before .before .before .before .before .before .before .before .before .before .before .before .before .before in
+    let whole = start .pre .whole in (
+      record { whole-ready = whole .whole-ready; whole-waiting = whole .whole-waiting; whole-numbers = whole .whole-numbers },
+      start .pre .marked,
+      start .pre .sound,
+      (_, begun (start .args .settings) _ _ _ (c .before .before .before .before .before .before .before .before .before .before .check .ensures) (c .before .before .before .before .before .before .before .before .before .before .before .mss .ensures) _ (c .before .before .before .before .before .before .before .before .enum-told .given .1)),
+    )
+
+returns-2 : tie.Need-returns-2
+returns-2 c =
+    let start = c .before .before .before .before .before .before .before .before .before .before .before .before .before .before .before .before .before .before .before .before .before .before .before in
+    takes-all _ _ _ _ _ _ _ _ _ _ _ _ _ _ _ _ (begun (start .args .settings) _ _ _ (c .before .before .before .before .before .before .before .before .before .before .before .before .before .before .before .before .before .before .check .ensures) (c .before .before .before .before .before .before .before .before .before .before .before .before .before .before .before .before .before .before .before .mss .ensures) _ (c .before .before .before .before .before .before .before .before .before .before .before .before .before .before .before .before .enum-told .given .1))
+    (c .before .before .before .before .before .before .before .before .before .before .before .before .before .hear .ensures)
+    (c .before .before .before .before .before .before .before .hear2 .ensures .1)
+    (start .pre .counts)
+    (c .before .before .before .before .before .before .before .hear2 .kept .1 .1 .1 .1 .1 .1 .1 .1 .0)
+
+pub hear-spec : {M : Type 1} → statement M
+hear-spec =
+    tie.close
+    (tie.spec
+    (λ c κs. search needs)
+    (λ c κs. search needs)
+    (λ c. search needs)
+    returns
+    (λ c. search needs)
+    hear-requires
+    hear-requires-2
+    (λ c. search needs)
+    (λ c. search needs)
+    returns-2)

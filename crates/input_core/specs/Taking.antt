@@ -1,0 +1,43 @@
+-- Taking in a datagram over the block in place: what the checks of 7 and 13 have established, and what the call leaves. Definitions.
+-- Assumes nothing.
+use mathlib.Core.Path.{_≡_}
+use mathlib.Core.Bool.{true}
+use mathlib.Core.List.{List}
+use Prim.Native.Nat.{ℕ}
+use Rattle.protocol.specs.Ranges.{mss}
+use Rattle.protocol.specs.declared.Settings.{Settings}
+use Rattle.timing.specs.declared.Record.{Record}
+use Rattle.session.specs.State.{Outcome}
+use Rattle.session.specs.Input.{Took}
+use Rattle.control.specs.Views.{Arrays, arraysOf, linkOf, Whole, countsFit}
+use Rattle.control.specs.declared.Link.{Link}
+use Rattle.control.specs.declared.Flight.{Flight}
+use Rattle.control.specs.declared.Arrival.{Arrival}
+use Rattle.control.specs.declared.Clock.{Clock}
+use Rattle.promises.specs.Cores.{InputCore}
+use Rattle.acknowledge.specs.Flights.{View, view, InOrder}
+use Rattle.receive.specs.Halves.{Half, halfOf, Sound}
+use Rattle.receive.specs.Pushes.{Marked}
+use Rattle.input_core.specs.declared.Taken.{Taken}
+
+-- the segments in flight of a block, and its receiving half
+abbrev pub flightOf : Link → List Record → View
+flightOf l records = view (l .flight) (l .outstanding) (l .transmissions) records
+
+abbrev pub receiverIn : Link → Half
+receiverIn l = halfOf (l .arrival) (l .ready) (l .waiting) (l .«waiting_numbers»)
+
+-- a block that has passed the checks: both halves may hear a datagram
+pub record Hearable (l : Link) (records : List Record) (marks acks pool : List ℕ) : Type 0 where
+  pub whole : Whole (arraysOf l)
+  pub counts : countsFit l ≡ true
+  pub order : InOrder (flightOf l records)
+  pub marked : Marked (receiverIn l) marks 0
+  pub sound : Sound (receiverIn l) (mss (l .settings)) acks pool
+
+-- what the call leaves: `gives` is what the definition gives for the block with the numbers f and a and the arrays x; the answer, the
+-- numbers afterwards and what goes back into the table are t's
+abbrev pub Takes : (Link → Outcome Took) → Settings → Flight → Arrival → Clock → Arrays → List ℕ → List ℕ → Taken → Arrays → List ℕ → List ℕ → Type 0
+Takes gives c f a k x pool acks t x′ pool′ acks′ =
+    let l = linkOf c f a k x in
+    InputCore (gives l) l pool acks (t .answer) (linkOf c (t .flight) (t .arrival) k x′) (record { words = t .words; changed = t .changed; records = t .records }) pool′ acks′
