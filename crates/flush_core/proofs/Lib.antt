@@ -1,0 +1,3 @@
+pub mod Ready
+pub mod Results
+pub mod Checks

@@ -1,0 +1,75 @@
+-- What the checks of 7 and 13 give each part of a flush.
+-- Assumes nothing.
+use mathlib.Core.Path.{_≡_}
+use mathlib.Core.Bool.{Bool, true, _&&_}
+use mathlib.Core.List.{List}
+use Prim.Native.Nat.{ℕ, _≤_}
+use native.Mathlib.Omega.{arith}
+use Rattle.protocol.specs.Protocol.{sendSlots}
+use Rattle.protocol.specs.Ranges.{mss}
+use Rattle.protocol.specs.declared.Settings.{Settings}
+use Rattle.timing.specs.declared.Record.{Record}
+use Rattle.session.specs.Decides.{and-parts}
+use Rattle.session.specs.State.{Sending, sendHeld}
+use Rattle.session.specs.Valid.{all, heldFits, slotsFit, sendingValid, numbersFit}
+use Rattle.session.specs.IsValid.{SettingsInRange, settings-decide}
+use Rattle.control.specs.declared.Flight.{Flight}
+use Rattle.control.specs.declared.Arrival.{Arrival}
+use Rattle.control.specs.declared.Clock.{Clock}
+use Rattle.control.specs.Views.{sendingOf}
+use Rattle.control.specs.ViewLaws.{Counts, counts}
+use Rattle.numbering.specs.Numbering.{Numberable, Numbers}
+use Rattle.numbering.specs.declared.Numbered.{Numbered}
+use Rattle.transmit.specs.Writing.{Sendable, Writable}
+use Rattle.transmit.specs.ValidLaws.{valid-inside}
+use Rattle.flush_core.specs.declared.parts.Plan.{Plan}
+use Rattle.flush_core.specs.Parts.{Plans}
+use Rattle.flush_core.specs.Flushes.{Flushable}
+
+numbers-fit : (c : Settings) (s : Sending) → sendingValid c s ≡ true → numbersFit s ≡ true
+unfolding sendingValid
+numbers-fit c s e =
+    and-parts (all (heldFits (mss c)) (sendHeld s) && slotsFit sendSlots (sendHeld s)) _ (and-parts _ _ (and-parts _ _ e .0) .0) .1
+
+module _ (c : Settings) (f : Flight) (a : Arrival) (queued outstanding transmissions : List ℕ) (records : List Record) (pool acks out lengths : List ℕ)
+    (p : Flushable c f a queued outstanding transmissions records pool acks out lengths) where
+  range : SettingsInRange c
+  range = settings-decide c .holds (p .range)
+
+  fit : Counts f a
+  fit = counts f a (p .counts)
+
+  -- for its plan
+  pub few-ready : a .ready ≤ 128
+  few-ready = fit .ready
+
+  -- for numbering
+  pub numberable : Numberable f queued outstanding transmissions records
+  numberable =
+      record {
+        queued-whole = p .queued-whole;
+        outstanding-whole = p .outstanding-whole;
+        transmissions-whole = p .transmissions-whole;
+        queued-fits = fit .queued;
+        outstanding-fits = fit .outstanding;
+        numbers = numbers-fit c _ (p .sends);
+      }
+
+  -- for writing
+  pub writable : (k : Clock) (t : ℕ) (plan : Plan) (n : Numbered) (queued′ outstanding′ transmissions′ : List ℕ) → Plans c f a k t plan → Numbers f queued outstanding transmissions records n queued′ outstanding′ transmissions′
+      → Writable (plan .flush) (a .acks) acks outstanding′ transmissions′ (n .records) (n .flight .outstanding) pool out lengths
+  writable k t plan n queued′ outstanding′ transmissions′ g e =
+      rw (g .flush) (record {
+        sendable = record {
+          mtu = omega (arith, range .mtu-least);
+          whole = e .sent .whole;
+          wholes = e .sent .wholes;
+          count = e .sent .fits;
+          inside = rw (e .sent .list) (valid-inside c (sendingOf f queued outstanding transmissions records) _ (p .sends));
+          slots = p .slots;
+        };
+        few = fit .acks;
+        pairs = omega (arith, fit .acks, p .pairs);
+        bytes = omega (arith, range .mtu-most, p .bytes);
+        sizes = p .sizes;
+      })

@@ -1,0 +1,101 @@
+-- What the parts of a flush give, put together, is the flush of the block's state.
+-- Assumes nothing.
+use mathlib.Core.Path.{_≡_, refl, ap, _∙_}
+use mathlib.Core.Bool.{Bool, true, false, _||_}
+use mathlib.Core.List.{List, []}
+use Prim.Native.Nat.{ℕ, _≤_}
+use native.Mathlib.Omega.{arith}
+use borrow.Author.Tests.{le-leb}
+use lib.ListN.{length, take, length-map}
+use lib.Seq.{length-take-le}
+use Rattle.protocol.specs.declared.Settings.{Settings}
+use Rattle.timing.specs.declared.Record.{Record}
+use Rattle.session.specs.State.{State}
+use Rattle.session.specs.Flushing.{bytesOfSegments, flushing}
+use Rattle.answers.specs.declared.Count.the-variants as count
+use Rattle.words.specs.Words.{unpack, heldIn}
+use Rattle.control.specs.declared.Flight.{Flight}
+use Rattle.control.specs.declared.Arrival.{Arrival}
+use Rattle.control.specs.declared.Clock.{Clock}
+use Rattle.control.specs.declared.Link.{Link}
+use Rattle.control.specs.Views.{isSet, pairs, arrays, linkOf, receivingOf, stateOf, counted, countsFit}
+use Rattle.control.specs.ViewLaws.{Counts, counts}
+use Rattle.numbering.specs.Sents.{sentIn}
+use Rattle.numbering.specs.Numbering.{Numbers}
+use Rattle.numbering.specs.declared.Numbered.{Numbered}
+use Rattle.transmit.specs.declared.Flush.{Flush}
+use Rattle.transmit.specs.declared.Written.{Written}
+use Rattle.transmit.specs.Writing.{Writes}
+use Rattle.transmit.specs.Flushes.{FlushOf, FlushWrites}
+use Rattle.transmit.specs.FlushLaws.{flush-writes}
+use Rattle.flush_core.specs.declared.parts.Plan.{Plan}
+use Rattle.flush_core.specs.Parts.{goesBy, Plans, Moves, toldOf}
+use Rattle.flush_core.specs.Flushes.{Runs}
+
+module _ (c : Settings) (f : Flight) (a : Arrival) (k : Clock) (queued outstanding transmissions ready waiting numbers : List ℕ) (records : List Record) (acks : List ℕ) (t : ℕ) where
+  abbrev block : Link
+  block = linkOf c f a k (arrays queued outstanding transmissions ready waiting numbers)
+
+  abbrev before : State
+  before = stateOf block records acks
+
+  -- what the flush goes by is of the block's state
+  goes-by : length ready ≡ 128 → a .ready ≤ 128 → FlushOf before t (goesBy c f a t)
+  unfolding stateOf
+  goes-by e h =
+      let held : length (heldIn ready (a .ready)) ≡ a .ready = length-map (take (a .ready) ready) unpack ∙ length-take-le (a .ready) ready (omega arith) in
+      record { settings = refl; carries = rw held; timeout = refl; time = refl }
+
+  module _ (pool out lengths : List ℕ) (plan : Plan) (n : Numbered) (queued′ outstanding′ transmissions′ : List ℕ) (w : Written) (transmissions″ out′ lengths′ : List ℕ)
+      (plans : Plans c f a k t plan) (numbered : Numbers f queued outstanding transmissions records n queued′ outstanding′ transmissions′)
+      (writes : Writes (plan .flush) (pairs (a .acks) acks) (plan .ask) (plan .tell) (sentIn outstanding′ transmissions′ (n .records) (n .flight .outstanding)) outstanding′ (n .flight .outstanding) pool out lengths w transmissions″ out′ lengths′)
+      (whole : length ready ≡ 128) (fit : counted f a ≡ true) where
+    -- what is written is what the flush of the state writes
+    written : FlushWrites before t outstanding′ (n .flight .outstanding) pool out lengths w transmissions″ out′ lengths′
+    unfolding stateOf
+    written =
+        flush-writes before t (goesBy c f a t) (goes-by whole (counts f a fit .ready)) pool outstanding′ (n .flight .outstanding) out lengths w transmissions″ out′ lengths′
+        (rw (plans .flush, plans .ask, plans .tell, numbered .sent .list) at writes)
+
+    module _ (a′ : Arrival) (k′ : Clock) (told : a′ ≡ toldOf a) (moves : Moves k (plan .probe) (w .dead) t k′) where
+      abbrev after : Link
+      after = linkOf c (n .flight) a′ k′ (arrays queued′ outstanding′ transmissions″ ready waiting numbers)
+
+      state : stateOf after (w .records) acks ≡ flushing before t pool .state
+      unfolding stateOf flushing pairs
+      state =
+          λ i.
+          record {
+            settings = c;
+            sending = record {
+              una = numbered .rest i .una;
+              next = numbered .rest i .next;
+              queued = numbered .left i;
+              outstanding = written .sent .list i;
+              window = numbered .rest i .window;
+              roundTrip = numbered .rest i .rtt;
+            };
+            receiving = receivingOf (told i) ready waiting numbers (pairs (told i .acks) acks);
+            probe = (ap (λ (y : Clock). y .probe) (moves .is) ∙ plans .probe) i;
+            current = moves .is i .current;
+            ask = isSet (moves .is i .ask);
+            dead = (moves .flag ∙ written .dead) i;
+          }
+
+      counts-fit : countsFit after ≡ true
+      unfolding countsFit
+      counts-fit =
+          let q = counts f a fit in
+          rw (told, le-leb _ _ (numbered .queued-fits), le-leb _ _ (numbered .sent .fits), le-leb _ _ (q .ready), le-leb _ _ (q .waiting))
+
+      pub runs : (words : List ℕ) → words ≡ outstanding′
+          → Runs block records pool acks t out lengths (record { answer = count.Of (w .count); flight = n .flight; arrival = a′; clock = k′; words = words; changed = n .flight .outstanding; records = w .records }) after out′ lengths′
+      runs words e =
+          let number = written .output .number ∙ length-map (flushing before t pool .datagrams) bytesOfSegments in
+          record {
+            answer = ap count.Of number;
+            counts = counts-fit;
+            state = state;
+            puts = record { words = e; changed = refl };
+            output = rw number at (written .output);
+          }

@@ -1,0 +1,44 @@
+-- `run`: what its parts give, put together.
+-- Assumes nothing.
+use mathlib.Core.Path.{refl}
+use borrow.Author.Needs.{needs}
+use Rattle.flush_core.proofs.Ready.{few-ready, numberable, writable}
+use Rattle.flush_core.proofs.Results.{runs}
+use Rattle.flush_core.proofs.run.Statement.{statement}
+use Rattle.flush_core.proofs.run.Tie as tie
+
+plan-of-requires : tie.Need-plan-of-requires
+plan-of-requires c κs = few-ready _ _ _ _ _ _ _ _ _ _ _ (c .before .before .before .before .pre)
+
+number-requires : tie.Need-number-requires
+number-requires c κs = numberable _ _ _ _ _ _ _ _ _ _ _ (c .before .before .before .before .before .before .before .before .pre)
+
+write-requires : tie.Need-write-requires
+write-requires c κs =
+    let numbers = c .before .before .before .before .before .before in
+    let plans = numbers .before .before .before .before in
+    let start = plans .before .before .before .before .before in
+    writable _ _ _ _ _ _ _ _ _ _ _ (start .pre) _ _ _ _ _ _ _ (plans .plan-of .ensures) (numbers .number .ensures)
+
+returns : tie.Need-returns
+returns c ready waiting numbers whole =
+    let writes = c .before .before .before .before .before .before .before .before in
+    let numbered = writes .before .before .before .before .before .before .before in
+    let plans = numbered .before .before .before .before in
+    let start = plans .before .before .before .before .before in
+    let a = start .args in
+    runs (a .settings) (a .flight) (a .arrival) (a .clock) (a .queued .now) (a .outstanding .now) (a .transmissions .now) ready waiting numbers (a .records) (a .acks .now) (a .t)
+    (a .pool .now) _ _ _ _ _ _ _ _ _ _ _ (plans .plan-of .ensures) (numbered .number .ensures) (writes .write .ensures) whole (start .pre .counts) _ _ (c .told .ensures) (c .before .moved .ensures) _ refl
+
+pub run-spec : {M : Type 1} → statement M
+run-spec =
+    tie.close
+    (tie.spec
+    plan-of-requires
+    number-requires
+    write-requires
+    (λ c κs. search needs)
+    (λ c κs. search needs)
+    (λ c. search needs)
+    (λ c. search needs)
+    returns)

@@ -1,0 +1,41 @@
+-- What a flush goes by, and the numbers that it leaves. Definitions.
+-- Assumes nothing.
+use mathlib.Core.Path.{_≡_}
+use mathlib.Core.Bool.{Bool, _||_}
+use Prim.Native.Nat.{ℕ, _-_}
+use Rattle.protocol.specs.Protocol.{receiveWindow}
+use Rattle.protocol.specs.declared.Settings.{Settings}
+use Rattle.timing.specs.Probes.{nextClock}
+use Rattle.timing.specs.declared.ProbeClock.{ProbeClock}
+use Rattle.control.specs.declared.Flight.{Flight}
+use Rattle.control.specs.declared.Arrival.{Arrival}
+use Rattle.control.specs.declared.Clock.{Clock}
+use Rattle.control.specs.Views.{isSet}
+use Rattle.transmit.specs.declared.Flush.{Flush}
+use Rattle.flush_core.specs.declared.parts.Plan.{Plan}
+
+-- the settings, the link's timeout and the time; its segments carry window 128 minus ready count, and una = rcv_nxt
+abbrev pub goesBy : Settings → Flight → Arrival → ℕ → Flush
+goesBy c f a t =
+    record {
+      settings = c;
+      carried = record { conv = c .conv; wnd = receiveWindow - a .ready; una = a .expected };
+      timeout = f .rtt .timeout;
+      t = t;
+    }
+
+-- that, with the wishes: an ask that is wanted, or that the probe clock wants, and a tell
+pub record Plans (c : Settings) (f : Flight) (a : Arrival) (k : Clock) (t : ℕ) (r : Plan) : Type 0 where
+  pub flush : r .flush ≡ goesBy c f a t
+  pub ask : r .ask ≡ (isSet (k .ask) || nextClock (k .probe) t (f .window) .ask)
+  pub tell : r .tell ≡ isSet (a .tell)
+  pub probe : r .probe ≡ nextClock (k .probe) t (f .window) .clock
+
+-- the clock with this probe clock, t as the current time, and no wish for an ask; dead if it was, or if it is now
+pub record Moves (k : Clock) (probe : ProbeClock) (dead : Bool) (t : ℕ) (r : Clock) : Type 0 where
+  pub is : r ≡ record { probe = probe; current = t; ask = 0; dead = r .dead }
+  pub flag : isSet (r .dead) ≡ (isSet (k .dead) || dead)
+
+-- no acks, and no wish for a tell
+abbrev pub toldOf : Arrival → Arrival
+toldOf a = record { expected = a .expected; tell = 0; ready = a .ready; waiting = a .waiting; acks = 0 }

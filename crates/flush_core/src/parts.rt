@@ -1,0 +1,93 @@
+// The parts of a flush: what it goes by, and the numbers that it leaves.
+use control::Arrival;
+use control::Clock;
+use control::Flight;
+use packing::Carried;
+use protocol::Protocol;
+use protocol::Settings;
+use timing::ProbeClock;
+use transmit::Flush;
+ghost use mathlib.Core.Path.{_≡_};
+ghost use Prim.Native.Nat.{_≤_};
+ghost use Rattle.control.specs.Views.{isSet};
+ghost use Rattle.flush_core.specs.Parts.{Plans, Moves, toldOf};
+
+// What a flush goes by, whether it asks and tells, and the probe clock after it.
+pub(crate) struct Plan {
+    pub(crate) flush: Flush,
+    pub(crate) ask: bool,
+    pub(crate) tell: bool,
+    pub(crate) probe: ProbeClock,
+}
+
+// Whether a flag is set.
+fn is_set(flag: u8) -> bool
+    ensures { λ r. ⌜ r ≡ isSet flag ⌝ }
+{
+    flag != 0
+}
+
+// A flag that is set or not.
+fn flag(set: bool) -> u8
+    ensures { λ r. ⌜ isSet r ≡ set ⌝ }
+{
+    if set { 1 } else { 0 }
+}
+
+// What a flush at t goes by.
+pub(crate) fn plan_of(
+    settings: Settings,
+    flight: Flight,
+    arrival: Arrival,
+    clock: Clock,
+    t: u32,
+) -> Plan
+    requires { ⌜ arrival .ready ≤ 128 ⌝ }
+    ensures { λ r. ⌜ Plans settings flight arrival clock t r ⌝ }
+{
+    let free = Protocol::RECEIVE_WINDOW as usize - arrival.ready;
+    let carried = Carried {
+        conv: settings.conv,
+        wnd: free as u16,
+        una: arrival.expected,
+    };
+    let flush = Flush {
+        settings,
+        carried,
+        timeout: flight.rtt.timeout,
+        t,
+    };
+    let probed = clock.probe.next(t, flight.window);
+    let probe = probed.clock;
+    Plan {
+        flush,
+        ask: is_set(clock.ask) | probed.ask,
+        tell: is_set(arrival.tell),
+        probe,
+    }
+}
+
+// The clock after a flush at t: no ask is wanted.
+pub(crate) fn moved(clock: Clock, probe: ProbeClock, dead: bool, t: u32) -> Clock
+    ensures { λ r. ⌜ Moves clock probe dead t r ⌝ }
+{
+    Clock {
+        probe,
+        current: t,
+        ask: 0,
+        dead: flag(is_set(clock.dead) | dead),
+    }
+}
+
+// The receiving half's numbers after a flush: no acks are noted, and no tell is wanted.
+pub(crate) fn told(arrival: Arrival) -> Arrival
+    ensures { λ r. ⌜ r ≡ toldOf arrival ⌝ }
+{
+    Arrival {
+        expected: arrival.expected,
+        tell: 0,
+        ready: arrival.ready,
+        waiting: arrival.waiting,
+        acks: 0,
+    }
+}

@@ -1,0 +1,2 @@
+pub mod Sents
+pub mod Numbering

@@ -1,0 +1,21 @@
+-- The outstanding segments of a block's arrays, with their records. Definitions.
+-- Assumes nothing.
+use mathlib.Core.Path.{_≡_}
+use mathlib.Core.List.{List}
+use Prim.Native.Nat.{ℕ, _≤_}
+use lib.ListN.{length}
+use Rattle.timing.specs.declared.Record.{Record}
+use Rattle.lists.specs.declared.Sent.{Sent}
+use Rattle.lists.specs.Joining.{joined}
+use Rattle.words.specs.Words.{outstandingIn}
+
+-- those of the first n words and transmissions, each with the record at its index
+abbrev pub sentIn : List ℕ → List ℕ → List Record → ℕ → List Sent
+sentIn words transmissions records n = joined (outstandingIn words transmissions n) records
+
+-- arrays of 32 whose first segments, up to the count and with their records, are l
+pub record SentFront (words transmissions : List ℕ) (records : List Record) (count : ℕ) (l : List Sent) : Type 0 where
+  pub whole : length words ≡ 32
+  pub wholes : length transmissions ≡ 32
+  pub fits : count ≤ 32
+  pub list : sentIn words transmissions records count ≡ l

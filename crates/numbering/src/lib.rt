@@ -1,0 +1,115 @@
+// Queued segments get numbers, in place: their words move behind those of the outstanding segments.
+use control::Flight;
+use protocol::Protocol;
+use protocol::serial;
+use timing::Record;
+ghost use mathlib.Core.Path.{_≡_};
+ghost use mathlib.Core.List.{_++_};
+ghost use Prim.Native.Nat.{_+_, _≤_, min};
+ghost use lib.ListN.{length};
+ghost use Rattle.session.specs.Flushing.{numbered};
+ghost use Rattle.words.specs.Words.{heldIn};
+ghost use Rattle.numbering.specs.Sents.{sentIn, SentFront};
+ghost use Rattle.numbering.specs.Numbering.{countOf, Numberable, Numbers};
+
+// The sending half's numbers with its queued segments numbered, and the records of the segments that are outstanding then.
+pub struct Numbered {
+    pub flight: Flight,
+    pub records: [Record; 32],
+}
+
+fn least(a: usize, b: usize) -> usize
+    ensures { λ r. ⌜ r ≡ min a b ⌝ }
+{
+    if a < b { a } else { b }
+}
+
+// How many of the queued segments are numbered, with this window of the peer.
+fn numbered_count(queued: usize, window: u16, next: u32, una: u32) -> usize
+    ensures { λ r. ⌜ r ≡ countOf queued window next una ⌝ }
+{
+    let most = least(Protocol::SEND_WINDOW as usize, window as usize);
+    let apart = serial::difference(next, una) as usize;
+    if most < apart {
+        return 0;
+    }
+    least(queued, most - apart)
+}
+
+// The record of a segment that gets this number: it was never sent.
+fn numbered_record(number: u32) -> Record
+    ensures { λ r. ⌜ r ≡ record { number = number; due = 0; timeout = 0; skips = 0 } ⌝ }
+{
+    Record {
+        number,
+        due: 0,
+        timeout: 0,
+        skips: 0,
+    }
+}
+
+// The first k queued segments, numbered from `next` on, stand behind the n outstanding ones.
+fn number_first(
+    queued: &[u32; 128],
+    k: usize,
+    outstanding: &mut [u32; 32],
+    transmissions: &mut [u8; 32],
+    n: usize,
+    records: [Record; 32],
+    next: u32,
+) -> [Record; 32]
+    requires { ⌜ (length (now queued) ≡ 128) × (length (now outstanding) ≡ 32) × (length (now transmissions) ≡ 32)
+        × (n + k ≤ 32) ⌝ }
+    ensures { λ r. ⌜ SentFront (now (outstanding .exit)) (now (transmissions .exit)) r (n + k)
+        (sentIn (now (outstanding .entry)) (now (transmissions .entry)) records n ++ numbered next (heldIn (now (queued .entry)) k)) ⌝ }
+{
+    let mut rs = records;
+    let mut number = next;
+    let mut i: usize = 0;
+    let mut j = n;
+    while i < k {
+        outstanding[j] = queued[i];
+        transmissions[j] = 0;
+        rs[j] = numbered_record(number);
+        number = serial::sum(number, 1);
+        i += 1;
+        j += 1;
+    }
+    rs
+}
+
+// Queued segments get numbers while the window allows.
+pub fn number(
+    flight: Flight,
+    queued: &mut [u32; 128],
+    outstanding: &mut [u32; 32],
+    transmissions: &mut [u8; 32],
+    records: [Record; 32],
+) -> Numbered
+    requires { ⌜ Numberable flight (now queued) (now outstanding) (now transmissions) records ⌝ }
+    ensures { λ r. ⌜ Numbers flight (now (queued .entry)) (now (outstanding .entry)) (now (transmissions .entry)) records
+        r (now (queued .exit)) (now (outstanding .exit)) (now (transmissions .exit)) ⌝ }
+{
+    let k = numbered_count(flight.queued, flight.window, flight.next, flight.una);
+    if k == 0 {
+        return Numbered { flight, records };
+    }
+    let numbered = number_first(
+        queued,
+        k,
+        outstanding,
+        transmissions,
+        flight.outstanding,
+        records,
+        flight.next,
+    );
+    words::drop_first(queued, flight.queued, k);
+    let mut after = flight;
+    after.next = serial::sum(flight.next, k as u32);
+    after.queued = flight.queued - k;
+    after.outstanding = flight.outstanding + k;
+    Numbered {
+        flight: after,
+        records: numbered,
+    }
+}

@@ -1,0 +1,4 @@
+pub mod ControlLaws
+pub mod DataLaws
+pub mod WalkLaws
+pub mod WriteLaws

@@ -1,0 +1,186 @@
+-- The walk over the outstanding segments: the turns of its loop.
+-- Assumes nothing.
+use mathlib.Core.Path.{_≡_, refl, sym, ap, subst, _∙_}
+use mathlib.Core.Bool.{Bool, true, false, cond, _&&_, _||_, or-assoc, or-false}
+use mathlib.Core.List.{List, [], _∷_, _++_, map, map-append}
+use Prim.Native.Nat.{ℕ, zero, suc, _+_, _*_, _≤_, _<_}
+use native.Mathlib.Nat.{mul-le-mul-right}
+use native.Mathlib.Omega.{arith}
+use lib.Dec.{eqb}
+use lib.ListN.{length, take, drop, getD, set, length-set}
+use lib.Seq.{take-add, take-take, set-getD}
+use Rattle.protocol.specs.declared.Settings.{Settings}
+use Rattle.timing.specs.declared.Record.{Record}
+use Rattle.retransmission.specs.declared.Transmission.{Transmission}
+use Rattle.retransmission.specs.TransmissionLaws.{transmission-not-sent}
+use Rattle.lists.specs.declared.Sent.{Sent}
+use Rattle.lists.specs.Joining.{withRecord}
+use Rattle.lists.specs.Views.{Holds}
+use Rattle.lists.proofs.Loops.{Packed, holds-as, packed-start, packed-put, packed-next, packed-done, view-end}
+use Rattle.datagram.specs.Datagrams.{Segment}
+use Rattle.session.specs.Decides.{All}
+use Rattle.session.specs.Flushing.{transmittedOf, sentAfter, transmittedNow, someDead, wished}
+use Rattle.packing.specs.declared.Packer.{Packer}
+use Rattle.packing.specs.Packers.{Fills, Room, Adds}
+use Rattle.packing.specs.PackerLaws.{adds-none, adds-append, adds-as, room-left}
+use Rattle.words.specs.Words.{unpack, outstandingAt}
+use Rattle.numbering.specs.Sents.{sentIn}
+use Rattle.numbering.proofs.SentLaws.{sents, sents-take, sents-set, sents-get, sents-length, sents-front}
+use Rattle.transmit.specs.declared.Flush.{Flush}
+use Rattle.transmit.proofs.ControlLaws.{wished-none}
+use Rattle.transmit.specs.Writing.{ruleOf, afterFlush, sentBy, dataOf, InSlot, AllInSlots, sentAs, Walks}
+
+-- ---- lists
+
+prefix-more : {A : Type 0} (l r : List A) (i : ℕ) (y : A) → drop i l ≡ y ∷ r → take (i + 1) l ≡ take i l ++ (y ∷ [])
+prefix-more l r i y e = take-add i 1 l ∙ rw e
+
+all-next : {A : Type 0} (P : A → Type 0) (l r : List A) (i : ℕ) (y : A) → drop i l ≡ y ∷ r → All P l → P y
+all-next P l r i y e a = rw e at (all-drop l i a) .0
+  where
+    all-drop : (l : List _) (i : ℕ) → All P l → All P (drop i l)
+    all-drop l zero a = a
+    all-drop [] (suc i) a = a
+    all-drop (x ∷ l) (suc i) a = all-drop l i (a .1)
+
+dead-append : (l m : List Sent) → someDead (l ++ m) ≡ (someDead l || someDead m)
+dead-append [] m = refl
+dead-append (x ∷ l) m = rw (dead-append l m) (sym (or-assoc (eqb (x .transmissions) 20) (someDead l) (someDead m)))
+
+-- ---- those that are sent
+
+sent-append : (c : Settings) (timeout t : ℕ) (l m : List Sent) → transmittedNow c timeout t (l ++ m) ≡ transmittedNow c timeout t l ++ transmittedNow c timeout t m
+unfolding transmittedNow
+sent-append c timeout t [] m = refl
+sent-append c timeout t (x ∷ l) m = rw (sent-append c timeout t l m) (by-rule (transmittedOf c timeout t x .sends))
+  where
+    by-rule : (b : Bool) → cond b (sentAfter c timeout t x ∷ (transmittedNow c timeout t l ++ transmittedNow c timeout t m)) (transmittedNow c timeout t l ++ transmittedNow c timeout t m)
+        ≡ cond b (sentAfter c timeout t x ∷ transmittedNow c timeout t l) (transmittedNow c timeout t l) ++ transmittedNow c timeout t m
+    by-rule true = refl
+    by-rule false = refl
+
+-- the rule for the last one decides whether it is sent, and whether the link is dead by it
+module _ (f : Flush) (y x : Sent) (sends : Bool) (p : sends ≡ ruleOf f y .sends) (q : x ≡ afterFlush f y) where
+  one-sent : sentBy f (y ∷ []) ≡ cond sends (x ∷ []) []
+  unfolding transmittedNow
+  one-sent = rw (p, q)
+
+  sent-data : (pool : List ℕ) (l : List Sent) → map (dataOf f pool) (sentBy f (l ++ (y ∷ []))) ≡ map (dataOf f pool) (sentBy f l) ++ wished sends (dataOf f pool x)
+  sent-data pool l = rw (sent-append, one-sent, map-append) (ap (λ (r : List Segment). map (dataOf f pool) (sentBy f l) ++ r) (by-rule sends))
+    where
+      by-rule : (b : Bool) → map (dataOf f pool) (cond b (x ∷ []) []) ≡ wished b (dataOf f pool x)
+      by-rule true = refl
+      by-rule false = refl
+
+  sent-dead : (l : List Sent) → someDead (sentBy f (l ++ (y ∷ []))) ≡ (someDead (sentBy f l) || (sends && eqb (x .transmissions) 20))
+  sent-dead l = rw (sent-append, one-sent, dead-append) (ap (λ (b : Bool). someDead (sentBy f l) || b) (by-rule sends))
+    where
+      by-rule : (b : Bool) → someDead (cond b (x ∷ []) []) ≡ (b && eqb (x .transmissions) 20)
+      by-rule true = or-false (eqb (x .transmissions) 20)
+      by-rule false = refl
+
+-- ---- the loop
+
+-- The first i of the n segments have been handled.
+pub record Walking (f : Flush) (n : ℕ) (pool : List ℕ) (k₀ : Packer) (out₀ lengths₀ : List ℕ) (l₀ : List Sent) (ws ts : List ℕ) (rs : List Record) (k : Packer) (out lengths : List ℕ) (b : Bool) (i : ℕ) : Type 0 where
+  pub wholes : length ts ≡ 32
+  pub list : Packed 32 n l₀ (sents ws ts rs) (map (afterFlush f) (drop i (take n l₀))) (map (afterFlush f) (take n l₀)) i i
+  pub adds : Adds (f .settings .mtu) (map (dataOf f pool) (sentBy f (take i (take n l₀)))) (i * f .settings .mtu) i k₀ out₀ lengths₀ k out lengths
+  pub dead : b ≡ someDead (sentBy f (take i (take n l₀)))
+
+-- the same, by other names
+pub walking-as : {f : Flush} {n : ℕ} {pool : List ℕ} {k₀ : Packer} {out₀ lengths₀ : List ℕ} {l₀ : List Sent} {ws ts ts′ : List ℕ} {rs rs′ : List Record} {k k′ : Packer} {out out′ lengths lengths′ : List ℕ} {b b′ : Bool} {i : ℕ}
+    → ts′ ≡ ts → out′ ≡ out → lengths′ ≡ lengths → rs′ ≡ rs → k′ ≡ k → b′ ≡ b
+    → Walking f n pool k₀ out₀ lengths₀ l₀ ws ts rs k out lengths b i → Walking f n pool k₀ out₀ lengths₀ l₀ ws ts′ rs′ k′ out′ lengths′ b′ i
+walking-as et eo el er ek eb w = rw (et, eo, el, er, ek, eb) w
+
+pub walking-start : (f : Flush) (n : ℕ) (pool : List ℕ) (k₀ : Packer) (out₀ lengths₀ : List ℕ) (ws ts : List ℕ) (rs : List Record)
+    → n ≤ 32 → length ws ≡ 32 → length ts ≡ 32 → length rs ≡ 32 → Fills (f .settings .mtu) k₀ → Walking f n pool k₀ out₀ lengths₀ (sents ws ts rs) ws ts rs k₀ out₀ lengths₀ false 0
+unfolding transmittedNow
+walking-start f n pool k₀ out₀ lengths₀ ws ts rs h ew et er q =
+    record {
+      wholes = et;
+      list = packed-start _ 0 0 (omega arith) (omega arith) h (sents-length ws ts rs ew et er);
+      adds = adds-as (adds-none (f .settings .mtu) k₀ out₀ lengths₀ q) refl (omega arith) (omega arith);
+      dead = refl;
+    }
+
+module _ (f : Flush) (n : ℕ) (pool : List ℕ) (k₀ : Packer) (out₀ lengths₀ : List ℕ) (l₀ : List Sent) (ws ts : List ℕ) (rs : List Record) (k : Packer) (out lengths : List ℕ) (dead : Bool) (i : ℕ)
+    (w : Walking f n pool k₀ out₀ lengths₀ l₀ ws ts rs k out lengths dead i) where
+  module _ (h : i < n) where
+    -- there is room for the next one
+    pub walking-room : Room (f .settings .mtu) (32 * f .settings .mtu) 32 k₀ out₀ lengths₀ → Room (f .settings .mtu) (f .settings .mtu) 1 k out lengths
+    walking-room a =
+        let below : suc i ≤ 32 = omega (arith, w .list .room) in
+        room-left (w .adds) a (omega (arith, mul-le-mul-right (f .settings .mtu) below)) (omega arith)
+
+    module _ (whole : length ws ≡ 32) (r : Record) where
+      -- what is read next
+      abbrev read : Sent
+      read = withRecord (outstandingAt (getD ws i 0) (getD ts i 0)) (getD rs i r)
+
+      here : getD (sents ws ts rs) i (withRecord (outstandingAt 0 0) r) ≡ read
+      here = sents-get ws ts rs i r (omega (arith, w .list .room)) (omega (arith, w .list .room, w .wholes)) (omega (arith, w .list .room, w .list .written .whole))
+
+      next : drop i (take n l₀) ≡ read ∷ drop (i + 1) (take n l₀)
+      next = rw here at (packed-next (withRecord (outstandingAt 0 0) r) h (w .list))
+
+      -- it is in its slot
+      pub walking-inside : (m : ℕ) → AllInSlots m (take n l₀) → InSlot m (unpack (getD ws i 0))
+      walking-inside m a = all-next (λ (y : Sent). InSlot m (y .held)) (take n l₀) (drop (i + 1) (take n l₀)) i read next a
+
+      module _ (x : Transmission) (e : x ≡ ruleOf f read) where
+        after : sentAs (getD ws i 0) x ≡ afterFlush f read
+        after = rw e
+
+        -- a turn
+        turn : (ts′ : List ℕ) (rs′ : List Record) (k′ : Packer) (out′ lengths′ : List ℕ) (b : Bool)
+            → length ts′ ≡ 32 → set (sents ws ts rs) i (sentAs (getD ws i 0) x) ≡ sents ws ts′ rs′
+            → Adds (f .settings .mtu) (wished (x .sends) (dataOf f pool (sentAs (getD ws i 0) x))) (f .settings .mtu) 1 k out lengths k′ out′ lengths′
+            → b ≡ (x .sends && eqb (x .transmissions) 20)
+            → Walking f n pool k₀ out₀ lengths₀ l₀ ws ts′ rs′ k′ out′ lengths′ (dead || b) (i + 1)
+        turn ts′ rs′ k′ out′ lengths′ b l s a t =
+            let more = prefix-more (take n l₀) (drop (i + 1) (take n l₀)) i read next in
+            let sends = ap (λ (y : Transmission). y .sends) e in
+            record {
+              wholes = l;
+              list = rw (← s, after) (packed-put h (rw next at (w .list)));
+              adds = rw (more, sent-data f read (sentAs (getD ws i 0) x) (x .sends) sends after) (adds-as (adds-append (w .adds) a) refl (omega arith) (omega arith));
+              dead = rw (more, sent-dead f read (sentAs (getD ws i 0) x) (x .sends) sends after, ← (w .dead), ← t);
+            }
+
+        -- it is sent
+        pub walking-sent : (k′ : Packer) (out′ lengths′ : List ℕ) → x .sends ≡ true
+            → Adds (f .settings .mtu) (dataOf f pool (sentAs (getD ws i 0) x) ∷ []) (f .settings .mtu) 1 k out lengths k′ out′ lengths′
+            → Walking f n pool k₀ out₀ lengths₀ l₀ ws (set ts i (x .transmissions)) (set rs i (x .updated)) k′ out′ lengths′ (dead || eqb (x .transmissions) 20) (i + 1)
+        walking-sent k′ out′ lengths′ s a =
+            turn (set ts i (x .transmissions)) (set rs i (x .updated)) k′ out′ lengths′ (eqb (x .transmissions) 20)
+            (length-set ts i (x .transmissions) ∙ w .wholes)
+            (sents-set ws ts rs i (getD ws i 0) (x .transmissions) (x .updated) ∙ rw (set-getD ws i 0))
+            (rw s a)
+            (rw s)
+
+        -- it is not sent, and stays
+        pub walking-kept : x .sends ≡ false → Walking f n pool k₀ out₀ lengths₀ l₀ ws ts rs k out lengths dead (i + 1)
+        walking-kept s =
+            let kept = e ∙ transmission-not-sent (f .settings) (f .timeout) (f .t) (getD ts i 0) (getD rs i r) (sym (ap (λ (y : Transmission). y .sends) e) ∙ s) in
+            rw or-false at (turn ts rs k out lengths false (w .wholes)
+            (ap (λ (y : Sent). set (sents ws ts rs) i y) (ap (sentAs (getD ws i 0)) kept ∙ sym here) ∙ set-getD (sents ws ts rs) i (withRecord (outstandingAt 0 0) r))
+            (wished-none _ _ _ _ k out lengths (x .sends) s (w .adds .fills))
+            (rw s))
+
+  -- all are handled
+  pub walking-done : (ts₀ : List ℕ) (rs₀ : List Record) → l₀ ≡ sents ws ts₀ rs₀ → length ws ≡ 32 → n ≤ i
+      → Walks f (sentIn ws ts₀ rs₀ n) ws n pool k₀ out₀ lengths₀ (record { records = rs; packer = k; dead = dead }) ts out lengths
+  walking-done ts₀ rs₀ q whole h =
+      let all : i ≡ n = omega (arith, w .list .upto) in
+      let here : take n l₀ ≡ sentIn ws ts₀ rs₀ n = rw q (sym (sents-take ws ts₀ rs₀ n)) in
+      let front : take i (take n l₀) ≡ sentIn ws ts₀ rs₀ n = rw all (take-take n n l₀ (omega arith) ∙ here) in
+      let below : i ≤ 32 = omega (arith, w .list .room) in
+      record {
+        adds = adds-as (w .adds) (rw front) (mul-le-mul-right (f .settings .mtu) below) below;
+        sent = sents-front ws ts rs n _ whole (w .wholes)
+            (subst (λ (m : ℕ). Holds 32 (sents ws ts rs) m (map (afterFlush f) (sentIn ws ts₀ rs₀ n))) all
+            (holds-as (packed-done (rw (view-end l₀ n i h)) (w .list)) (ap (map (afterFlush f)) here)));
+        dead = rw front at (w .dead);
+      }

@@ -1,0 +1,124 @@
+-- `put_outstanding`: the first i segments have been handled.
+-- Assumes nothing.
+use mathlib.Core.Path.{refl}
+use mathlib.Core.Logic.{⊎-elim}
+use Prim.Native.Nat.{_-_}
+use borrow.Author.Count.{falls}
+use borrow.Author.Needs.{needs}
+use Rattle.lists.proofs.Loops.{length-mapped}
+use Rattle.numbering.proofs.SentLaws.{sents, sents-take}
+use Rattle.transmit.proofs.WalkLaws.{Walking, walking-as, walking-start, walking-room, walking-inside, walking-sent, walking-kept, walking-done}
+use Rattle.transmit.proofs.transmitting.put_outstanding.Statement.{statement}
+use Rattle.transmit.proofs.transmitting.put_outstanding.Tie as tie
+
+abbrev Inv-loop : tie.InvT-loop
+Inv-loop flush words transmissions₀ n pool out₀ lengths₀ rs₀ k₀ dead₀ i₀ transmissions out lengths rs k dead i =
+    Walking flush n pool k₀ out₀ lengths₀ (sents words transmissions₀ rs₀) words transmissions rs k out lengths dead i
+
+abbrev μ-loop : tie.MeasureT-loop
+μ-loop flush words transmissions₀ n pool out₀ lengths₀ rs₀ k₀ dead₀ i₀ transmissions out lengths rs k dead i =
+    n - i
+
+loop-holds : tie.Need-loop-holds Inv-loop μ-loop
+loop-holds c =
+    let p = c .before .before .before .pre in
+    walking-start _ _ _ _ _ _ _ _ _ (p .1 .count) (p .1 .whole) (p .1 .wholes) (search (needs, length-mapped)) (p .0 .fills)
+
+mul-old : tie.Need-mul-old Inv-loop μ-loop
+mul-old c = search needs
+
+array-copy-out-old : tie.Need-array-copy-out-old Inv-loop μ-loop
+array-copy-out-old c = search needs
+
+element-copy-out-transmission : tie.Need-element-copy-out-transmission Inv-loop μ-loop
+element-copy-out-transmission c = search needs
+
+transmission-requires : tie.Need-transmission-requires Inv-loop μ-loop
+transmission-requires c κs = search needs
+
+element-write-transmissions : tie.Need-element-write-transmissions Inv-loop μ-loop
+element-write-transmissions c = search needs
+
+mul-rs : tie.Need-mul-rs Inv-loop μ-loop
+mul-rs c = search needs
+
+array-set-from-rs : tie.Need-array-set-from-rs Inv-loop μ-loop
+array-set-from-rs c = search needs
+
+mul-put-sent : tie.Need-mul-put-sent Inv-loop μ-loop
+mul-put-sent c = search needs
+
+element-copy-out-put-sent : tie.Need-element-copy-out-put-sent Inv-loop μ-loop
+element-copy-out-put-sent c = search needs
+
+put-sent-requires : tie.Need-put-sent-requires Inv-loop μ-loop
+put-sent-requires c κs =
+    let turn = c .before .before .before .before .before .before .before .before in
+    let head = turn .before in
+    let entry = head .before .before .before .before in
+    let a = entry .args in
+    let p = entry .pre in
+    let w = head .loop .inv in
+    let here = turn .loop-test .taken in (
+      walking-room _ _ _ _ _ _ _ _ _ _ _ _ _ _ _ w here (p .0),
+      p .1 .mtu,
+      walking-inside _ _ _ _ _ _ _ _ _ _ _ _ _ _ _ w here (p .1 .whole) (record { number = 0; due = 0; timeout = 0; skips = 0 }) _
+          (rw (← (sents-take (a .words .now) (a .transmissions .now) (a .records) (a .n))) (p .1 .inside)),
+      p .1 .slots,
+    )
+
+add-i : tie.Need-add-i Inv-loop μ-loop
+add-i c = search needs
+
+loop-less : tie.Need-loop-less Inv-loop μ-loop
+loop-less c = falls _ _ (c .before .before .before .before .loop-test .taken)
+
+loop-again : tie.Need-loop-again Inv-loop μ-loop
+loop-again c =
+    let called = c .before in
+    let turn = called .before .before .before in
+    let head = turn .before in
+    let p = head .before .before .before .before .pre .1 in
+    ⊎-elim
+    (λ w.
+    walking-as (w .11) (w .12) (w .13) (w .14) (w .15) (w .16)
+    (walking-sent _ _ _ _ _ _ _ _ _ _ _ _ _ _ _ (head .loop .inv) (turn .loop-test .taken) (p .whole) _ _ (called .transmission .ensures) _ _ _ (w .0 .taken) (w .5 .ensures)))
+    (λ w.
+    walking-as (w .1) (w .2) (w .3) (w .4) (w .5) (w .6)
+    (walking-kept _ _ _ _ _ _ _ _ _ _ _ _ _ _ _ (head .loop .inv) (turn .loop-test .taken) (p .whole) _ _ (called .transmission .ensures) (w .0 .left)))
+    (c .if1 .came)
+
+same-length : tie.Need-same-length Inv-loop μ-loop
+same-length c = search needs
+
+same-length-2 : tie.Need-same-length-2 Inv-loop μ-loop
+same-length-2 c = search needs
+
+returns : tie.Need-returns Inv-loop μ-loop
+returns c =
+    let p = c .before .before .before .before .before .pre .1 in
+    walking-done _ _ _ _ _ _ _ _ _ _ _ _ _ _ _ (c .before .loop .inv) _ _ refl (p .whole) (c .loop-test .left)
+
+pub put-outstanding-spec : {M : Type 1} → statement M
+put-outstanding-spec =
+    tie.close
+    (tie.spec
+    Inv-loop
+    μ-loop
+    loop-holds
+    mul-old
+    array-copy-out-old
+    element-copy-out-transmission
+    transmission-requires
+    element-write-transmissions
+    mul-rs
+    array-set-from-rs
+    mul-put-sent
+    element-copy-out-put-sent
+    put-sent-requires
+    add-i
+    loop-less
+    loop-again
+    same-length
+    same-length-2
+    returns)

@@ -1,0 +1,4 @@
+pub mod Writing
+pub mod Flushes
+pub mod FlushLaws
+pub mod ValidLaws
