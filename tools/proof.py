@@ -14,7 +14,7 @@ use Rattle.records.proofs.Rows.{R, Rs, rs-typed, rs-makes}
 use Rattle.lending.proofs.Fields.{ref-at, lend-mut, back-mut, lend-shr, back-shr, cell-out, cell-in, tells-length}
 use Rattle.records.proofs.Frame.{envOf}
 use Rattle.lending.proofs.Parts.{typeOf, behind}
-use Rattle.control.proofs.Block.{L, Open, Back, link-own, opens-link, closes-link, looks-link, shuts-link}
+use Rattle.lending.proofs.Block.{L, Open, Back, link-own, opens-link, closes-link, looks-link, shuts-link}
 use Rattle.control.specs.declared.Link.{Link}
 use Rattle.timing.specs.declared.Record.{Record}
 use lib.IntN.{ℤ}
