@@ -1,0 +1,28 @@
+-- The calls that change nothing: what their cores say is what they promise.
+-- Assumes nothing.
+use mathlib.Core.Path.{_≡_, subst, _∙_}
+use mathlib.Core.List.{List}
+use Prim.Native.Nat.{ℕ}
+use Rattle.timing.specs.declared.Record.{Record}
+use Rattle.session.specs.State.{Outcome}
+use Rattle.session.specs.Reading.{Part, telling, showing}
+use Rattle.control.specs.declared.Link.{Link}
+use Rattle.answers.specs.declared.Count.{Count}
+use Rattle.promises.specs.Parts.{Parts, lentLengths}
+use Rattle.promises.specs.Outcomes.{tellsWith, showsWith, shows}
+use Rattle.promises.specs.Answers.{countOutcome}
+use Rattle.promises.specs.Promises.{SizePromise}
+use Rattle.from_cores.proofs.Gathered.{Gathers, outcome-in}
+
+module _ (l : Link) (p : Parts) (records : List Record) (n : ℕ) (g : Gathers l p records n) where
+  pub size-promised : (a : Count) → countOutcome a ≡ tellsWith l records (p .acks) (lentLengths n (p .sendPool) (p .receivePool) (p .acks)) → SizePromise l p a
+  unfolding tellsWith
+  size-promised a e = record { answer = e ∙ outcome-in l p records n g telling }
+
+  shown-in : showsWith l records (p .acks) (lentLengths n (p .sendPool) (p .receivePool) (p .acks)) ≡ shows l p
+  unfolding showsWith
+  shown-in = outcome-in l p records n g showing
+
+  -- what holds of the core's outcome of showing holds of the promise's
+  pub shows-promised : (P : Outcome Part → Type 0) → P (showsWith l records (p .acks) (lentLengths n (p .sendPool) (p .receivePool) (p .acks))) → P (shows l p)
+  shows-promised P h = subst P shown-in h

@@ -1,0 +1,70 @@
+-- A flush: what the core leaves, with its records put back into the table, is what the call promises.
+-- Assumes nothing.
+use mathlib.Core.Path.{_≡_, refl, subst}
+use mathlib.Core.List.{List}
+use Prim.Native.Nat.{ℕ}
+use lib.ListN.{length}
+use Rattle.protocol.specs.Ranges.{mss}
+use Rattle.timing.specs.declared.Record.{Record}
+use Rattle.sizes.specs.Sizes.{enoughToFlush}
+use Rattle.session.specs.State.{Outcome, refused, done}
+use Rattle.session.specs.Flushing.{Flushed, flushing}
+use Rattle.control.specs.Views.{Whole, arraysOf}
+use Rattle.control.specs.declared.Link.{Link}
+use Rattle.records.specs.Tables.{slotsIn, scattered}
+use Rattle.answers.specs.declared.Count.{Count}
+use Rattle.promises.specs.Parts.{Parts, lengthsOf, lentLengths, partsOf, stateIn, isMade}
+use Rattle.promises.specs.Outcomes.{flushesWith, flushes}
+use Rattle.promises.specs.Answers.{Counts}
+use Rattle.promises.specs.Promises.{FlushPromise, FlushLeaves}
+use Rattle.promises.specs.Cores.{PutBack, FlushCore}
+use Rattle.from_cores.specs.Left.{FlushLeft}
+use Rattle.from_cores.proofs.Gathered.{Gathers, checked-in}
+use Rattle.from_cores.proofs.Scattered.{SlotsFit, slotsOf, puts-nothing, table-after, stands-after}
+use Rattle.from_cores.proofs.SlotsAfter.{flush-slots}
+use Rattle.from_cores.proofs.Checked.{passed, made-valid, table-long, flush-enough}
+
+module _ (t : ℕ) (l : Link) (p : Parts) (out lengths : List ℕ) (a : Count) (b : PutBack) (l′ : Link) (out′ lengths′ : List ℕ) where
+  abbrev Left : Outcome Flushed → Type 0
+  Left o = FlushCore o l (p .acks) out lengths a l′ b out′ lengths′
+
+  abbrev flushed : Outcome Flushed
+  flushed = flushes l p (length out) (length lengths) t
+
+  -- the records of the table, by value
+  pub flush-left : (records : List Record) (n : ℕ) → Gathers l p records n → Whole (arraysOf l′)
+      → Left (flushesWith l records (p .acks) (lentLengths n (p .sendPool) (p .receivePool) (p .acks)) (p .sendPool) (length out) (length lengths) t) → FlushLeft t l p out lengths a b l′ out′ lengths′
+  unfolding flushesWith
+  flush-left records n g whole h =
+      let long = enoughToFlush (mss (l .settings)) (lengthsOf p) (length out) (length lengths) in
+      record { core = subst Left (checked-in l p records n g long (λ s. done (flushing s t (p .sendPool)))) (rw (g .len) at h); whole = whole }
+
+  module _ (table′ : List Record) (few : length (b .records) ≡ 32) (put : table′ ≡ scattered (p .table) (slotsIn (b .words) (b .changed)) (b .records)) (whole : Whole (arraysOf l′)) where
+    answers : (o : Outcome Flushed) → Left o → Counts (λ (x : Flushed). length (x .datagrams)) a o
+    answers (refused q) h = h .answer
+    answers (done x) h = h .answer
+
+    leaves : (o : Outcome Flushed) → flushed ≡ o → Left o → FlushLeaves o l l′ p (partsOf (p .sendPool) (p .receivePool) table′ (p .acks)) out lengths out′ lengths′
+    unfolding flushesWith
+    leaves (refused q) e h =
+        let same = puts-nothing (p .table) table′ b (h .puts) put in
+        record { unchanged = record { link = h .link; parts = rw same }; output = h .output; sizes = h .sizes }
+    leaves (done x) e h =
+        let m = mss (l .settings) in
+        let c = passed (enoughToFlush m (lengthsOf p) (length out) (length lengths)) (isMade l p) (done (flushing (stateIn l p) t (p .sendPool))) x e in
+        let same : flushing (stateIn l p) t (p .sendPool) ≡ x = let d = c .result in cc in
+        let slots : SlotsFit (slotsOf (x .state)) = rw (← same) (flush-slots (stateIn l p) t (p .sendPool) (made-valid l p (c .block))) in
+        let long = table-long m p (flush-enough m p (length out) (length lengths) (c .sizes)) in
+        record {
+          stands = stands-after l′ b (h .puts) few (p .acks) (h .counts) whole (x .state) (h .state) (p .table) table′ put (p .sendPool) (p .receivePool) slots long;
+          sendPool = refl;
+          receivePool = refl;
+          table = table-after l′ b (h .puts) few (p .acks) (h .counts) whole (x .state) (h .state) (p .table) table′ put;
+          acks = refl;
+          output = h .output;
+        }
+
+  pub flush-promised : (table′ : List Record) → length (b .records) ≡ 32 → table′ ≡ scattered (p .table) (slotsIn (b .words) (b .changed)) (b .records)
+      → FlushLeft t l p out lengths a b l′ out′ lengths′ → FlushPromise t l p out lengths a l′ (partsOf (p .sendPool) (p .receivePool) table′ (p .acks)) out′ lengths′
+  flush-promised table′ few put h =
+      record { answer = answers table′ few put (h .whole) flushed (h .core); leaves = leaves table′ few put (h .whole) flushed refl (h .core) }

@@ -1,0 +1,10 @@
+pub mod Gathered
+pub mod Scattered
+pub mod SlotsAfter
+pub mod Checked
+pub mod Opening
+pub mod Sending
+pub mod Reading
+pub mod TakingIn
+pub mod Flushing
+pub mod Asking
