@@ -7,7 +7,7 @@ import subprocess
 from layout import ROOT, fields
 from proof import proof_file
 from rows import row
-from walk import Par, Walk, low
+from walk import Walk, low, words
 
 
 def parse(text):
@@ -206,13 +206,20 @@ class Driver:
         self.values[local] = self.value(t, c.var, machine, f'is-{c.var}')
         for f, _ in lent:
             w.unlend(f)
-        if lent:
+        if c.alias == 'core':
             w.cut(k + 1)
 
 
-def write(crate, name, pars, result, said, proof, calls, types, uses, about):
-    """The proof file of a function."""
-    walk = Driver(crate, name, pars, result, said, proof, calls, types, uses, about).run()
+def write(crate, name, pars, result, said, proof, calls, types, names, declared, about):
+    """The proof file of a function. `names`: what it may name, by module; `declared`: types whose rows it may name. Those that it does not name are left out."""
+    walk = Driver(crate, name, pars, result, said, proof, calls, types, [], about).run()
+    text = proof_file(walk)
+    used = words(text.replace('.', ' '))
+    walk.uses = [line for t in declared if f'{t.alias}-row' in used or f'{t.alias}-laws' in used or t.denot in used for line in t.uses]
+    for module, what in names.items():
+        here = [n for n in what.split() if n.strip('_') in used]
+        if here:
+            walk.uses.append(f"use {module}.{{{', '.join(here)}}}")
     folder = os.path.join(ROOT, 'crates', crate, 'proofs', name)
     os.makedirs(folder, exist_ok=True)
     with open(os.path.join(folder, 'Proof.antt'), 'w') as f:

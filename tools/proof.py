@@ -156,7 +156,8 @@ def proof_file(w):
 
 def lines(part):
     """The text of a part."""
-    return '\n'.join(line.strip() for line in ' '.join(part['text']).split('\n') if line.strip()).replace('\n', '\n          ')
+    text = ' '.join(part['text'] + [part.get('end', '')])
+    return '\n'.join(line.strip() for line in text.split('\n') if line.strip()).replace('\n', '\n          ')
 
 
 def walked(w):
@@ -172,12 +173,12 @@ def walked(w):
         env = f"(En {' '.join(f'l{low(i)}' for i in range(w.locals))})"
         body = f"(behind {before['done']} (code.function .body))"
         context = cons(before['context'])
-        scope = needed(before['scope'], ' '.join([context, ' '.join(part['text']), places]))
+        scope = needed(before['scope'], ' '.join([context, lines(part), places]))
         binders = ' '.join(f'({name} : {t})' for name, t in scope)
         out.append(f"      part{low(k)} : {binders} → ent 𝓤 (⋆ 𝓤 H A ({context})) (Wp 𝓤 H C Λ {env} {body} (atReturn 𝓤 H {env} Post))")
         out.append(f"      part{low(k)} {' '.join(name for name, _ in scope)} =\n          qed W ({context}) ∵ exec ! C Λ {env} {body} (atRet {env} Post) $\n          {lines(part)}\n")
         passed = ' '.join(before['passed'][name] for name, _ in scope)
-        before['text'] = before['text'] + [f"by ! (part{low(k)} {passed})" + ')' * before['open']]
+        before['end'] = f"by ! (part{low(k)} {passed})" + ')' * before['open']
     return out
 
 
