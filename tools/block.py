@@ -1,4 +1,4 @@
-# Writes crates/control/proofs/Block.antt: the block behind a `&mut Link` or a `&Link`, taken apart field by field. Run it after a change of the struct.
+# Writes crates/lending/proofs/Block.antt: the block behind a `&mut Link` or a `&Link`, taken apart field by field. Run it after a change of the struct.
 # The fields and their offsets are read off the source; the check refuses a wrong offset.
 import os
 
@@ -22,7 +22,7 @@ def block():
     structs = [t for _, t, _ in parts if isinstance(t, Declared)]
     out = [HEAD.format(numbers=', '.join(sorted({t.of.row for _, t, _ in parts if not isinstance(t, Declared)})))]
     for t in structs:
-        out += t.own(CRATE)
+        out += t.uses
     out.append(OWNS)
     for name, t, at in parts:
         kind = t.denot.strip('()')
@@ -162,7 +162,7 @@ STEPS = '''module _ (b o : ℕ) (γ : GName) where
 '''
 
 if __name__ == '__main__':
-    folder = os.path.join(ROOT, 'crates', CRATE, 'proofs')
+    folder = os.path.join(ROOT, 'crates', 'lending', 'proofs')
     os.makedirs(folder, exist_ok=True)
     with open(os.path.join(folder, 'Block.antt'), 'w') as f:
         f.write(block())

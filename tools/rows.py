@@ -105,14 +105,6 @@ class Declared:
             f'use {base}.proofs.{name}.Laws as {self.alias}-laws',
         ]
 
-    def own(self, crate):
-        """The lines within the crate that declares it."""
-        out = []
-        for line in self.uses:
-            line = line.replace(f'Rattle.{crate}.specs', f'Rattle.{crate}.specs')
-            out.append(line.replace(f'Rattle.{crate}.proofs', f'Rattle.{crate}.proofs'))
-        return out
-
     def typed(self, x, v, g):
         known = '' if self.laws_of == 'LL' else ' tt'
         return f'({self.laws_of}.lawful {self.type} {self.laws}.the-laws 𝓤 H A W{known} .typed {x} ({v} ∷ []) {g} .0)'

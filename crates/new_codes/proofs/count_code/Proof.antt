@@ -1,0 +1,17 @@
+-- `codes::count_code` meets its contract, by its cases.
+-- Assumes nothing.
+use borrow.Author.Needs.{needs}
+use Rattle.new_codes.proofs.Signs.{code-fits, size-fits, passed}
+use Rattle.new_codes.proofs.count_code.Statement.{statement}
+use Rattle.new_codes.proofs.count_code.Tie as tie
+
+returns : tie.Need-returns
+returns c = rw (c .before .before .count .given .1) (passed _ (size-fits (c .before .before .count .given .0 .0)) (c .size-code .ensures))
+
+returns-2 : tie.Need-returns-2
+returns-2 c = rw (c .before .before .count2 .given .1) (passed _ (code-fits (c .before .before .count2 .given .0 .0)) (c .refusal-code .ensures))
+
+pub count-code-spec : {M : Type 1} → statement M
+count-code-spec =
+    tie.close
+    (tie.spec (λ c. search needs) (λ c κs. search needs) (λ c. search needs) (λ c κs. search needs) returns returns-2)

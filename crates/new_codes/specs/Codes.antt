@@ -1,0 +1,36 @@
+-- What C gives and gets as plain numbers: an answer is 0 or a count, or the refusal's number below zero.
+-- Assumes nothing.
+use lib.IntN.{ℤ, pos, _-ℤ_}
+use Prim.Native.Nat.{ℕ, min}
+use Rattle.protocol.specs.Refusals.{numberOf}
+use Rattle.protocol.specs.declared.Refusal.{Refusal}
+use Rattle.protocol.specs.declared.Settings.{Settings}
+use Rattle.answers.specs.declared.Answer.{Answer}
+use Rattle.answers.specs.declared.Answer.the-variants as answer
+use Rattle.answers.specs.declared.Count.{Count}
+use Rattle.answers.specs.declared.Count.the-variants as count
+
+-- 0 less a refusal's number
+abbrev pub numberCode : ℕ → ℤ
+numberCode n = pos 0 -ℤ pos n
+
+abbrev pub refusalCode : Refusal → ℤ
+refusalCode r = numberCode (numberOf r)
+
+-- 0 where the call is accepted
+abbrev pub answerCode : Answer → ℤ
+answerCode answer.Accepted = pos 0
+answerCode (answer.Refused r) = refusalCode r
+
+-- a count is told up to 2^31 - 1, which no count of a call reaches: C gets it as it is (crate `counts`)
+abbrev pub sizeCode : ℕ → ℤ
+sizeCode n = pos (min n 2147483647)
+
+abbrev pub countCode : Count → ℤ
+countCode (count.Of n) = sizeCode n
+countCode (count.Refused r) = refusalCode r
+
+-- settings from plain numbers: one that is beyond its width becomes the largest of that width, which is out of range too
+abbrev pub settingsOf : ℕ → ℕ → ℕ → ℕ → ℕ → Settings
+settingsOf conv mtu mode interval threshold =
+    record { conv = conv; mtu = min mtu 65535; interval = min interval 65535; mode = min mode 255; threshold = min threshold 255 }

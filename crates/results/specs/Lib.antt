@@ -1,0 +1,2 @@
+pub mod PlaceCodes
+pub mod PutBacks

@@ -1,0 +1,179 @@
+// The results of the cores, taken apart for the public calls: structs and records to be stored, and the number that C gets.
+use control::Arrival;
+use control::Clock;
+use control::Flight;
+use flush_core::Flushed;
+use input_core::Taken;
+use open_core::Opened;
+use protocol::Settings;
+use read_core::Delivered;
+use read_core::Place;
+use send_core::Sent;
+use timing::Record;
+ghost use mathlib.Core.Path.{_≡_};
+ghost use Rattle.new_codes.specs.Codes.{answerCode, countCode};
+ghost use Rattle.results.specs.PlaceCodes.{placeCode, placeStart};
+
+// How many segments are outstanding.
+pub fn outstanding_count(flight: Flight) -> usize
+    ensures { λ r. ⌜ r ≡ flight .outstanding ⌝ }
+{
+    flight.outstanding
+}
+
+// ---- of opening
+
+pub fn opened_settings(opened: Opened) -> Settings
+    ensures { λ r. ⌜ r ≡ opened .settings ⌝ }
+{
+    opened.settings
+}
+
+pub fn opened_flight(opened: Opened) -> Flight
+    ensures { λ r. ⌜ r ≡ opened .flight ⌝ }
+{
+    opened.flight
+}
+
+pub fn opened_arrival(opened: Opened) -> Arrival
+    ensures { λ r. ⌜ r ≡ opened .arrival ⌝ }
+{
+    opened.arrival
+}
+
+pub fn opened_clock(opened: Opened) -> Clock
+    ensures { λ r. ⌜ r ≡ opened .clock ⌝ }
+{
+    opened.clock
+}
+
+pub fn opened_code(opened: Opened) -> i32
+    ensures { λ r. ⌜ r ≡ answerCode (opened .answer) ⌝ }
+{
+    let answer = opened.answer;
+    new_codes::answer_code(answer)
+}
+
+// ---- of sending
+
+pub fn sent_flight(sent: Sent) -> Flight
+    ensures { λ r. ⌜ r ≡ sent .flight ⌝ }
+{
+    sent.flight
+}
+
+pub fn sent_code(sent: Sent) -> i32
+    ensures { λ r. ⌜ r ≡ answerCode (sent .answer) ⌝ }
+{
+    let answer = sent.answer;
+    new_codes::answer_code(answer)
+}
+
+// ---- of taking in
+
+pub fn taken_flight(taken: Taken) -> Flight
+    ensures { λ r. ⌜ r ≡ taken .flight ⌝ }
+{
+    taken.flight
+}
+
+pub fn taken_arrival(taken: Taken) -> Arrival
+    ensures { λ r. ⌜ r ≡ taken .arrival ⌝ }
+{
+    taken.arrival
+}
+
+pub fn taken_words(taken: Taken) -> [u32; 32]
+    ensures { λ r. ⌜ r ≡ taken .words ⌝ }
+{
+    taken.words
+}
+
+pub fn taken_changed(taken: Taken) -> usize
+    ensures { λ r. ⌜ r ≡ taken .changed ⌝ }
+{
+    taken.changed
+}
+
+pub fn taken_records(taken: Taken) -> [Record; 32]
+    ensures { λ r. ⌜ r ≡ taken .records ⌝ }
+{
+    taken.records
+}
+
+pub fn taken_code(taken: Taken) -> i32
+    ensures { λ r. ⌜ r ≡ answerCode (taken .answer) ⌝ }
+{
+    let answer = taken.answer;
+    new_codes::answer_code(answer)
+}
+
+// ---- of a flush
+
+pub fn flushed_flight(flushed: Flushed) -> Flight
+    ensures { λ r. ⌜ r ≡ flushed .flight ⌝ }
+{
+    flushed.flight
+}
+
+pub fn flushed_arrival(flushed: Flushed) -> Arrival
+    ensures { λ r. ⌜ r ≡ flushed .arrival ⌝ }
+{
+    flushed.arrival
+}
+
+pub fn flushed_clock(flushed: Flushed) -> Clock
+    ensures { λ r. ⌜ r ≡ flushed .clock ⌝ }
+{
+    flushed.clock
+}
+
+pub fn flushed_words(flushed: Flushed) -> [u32; 32]
+    ensures { λ r. ⌜ r ≡ flushed .words ⌝ }
+{
+    flushed.words
+}
+
+pub fn flushed_changed(flushed: Flushed) -> usize
+    ensures { λ r. ⌜ r ≡ flushed .changed ⌝ }
+{
+    flushed.changed
+}
+
+pub fn flushed_records(flushed: Flushed) -> [Record; 32]
+    ensures { λ r. ⌜ r ≡ flushed .records ⌝ }
+{
+    flushed.records
+}
+
+pub fn flushed_code(flushed: Flushed) -> i32
+    ensures { λ r. ⌜ r ≡ countCode (flushed .answer) ⌝ }
+{
+    let answer = flushed.answer;
+    new_codes::count_code(answer)
+}
+
+// ---- of reading
+
+pub fn delivered_arrival(delivered: Delivered) -> Arrival
+    ensures { λ r. ⌜ r ≡ delivered .arrival ⌝ }
+{
+    delivered.arrival
+}
+
+pub fn delivered_code(delivered: Delivered) -> i32
+    ensures { λ r. ⌜ r ≡ countCode (delivered .answer) ⌝ }
+{
+    let answer = delivered.answer;
+    new_codes::count_code(answer)
+}
+
+// ---- of showing
+
+// A place in the receive pool: its start is stored, its count is returned.
+pub fn tell_place(place: Place, start: &mut u32) -> i32
+    ensures { λ r. ⌜ (r ≡ placeCode place) × (now (start .exit) ≡ placeStart place) ⌝ }
+{
+    *start = new_codes::narrow32(place.start);
+    new_codes::size_code(place.count)
+}

@@ -1,0 +1,18 @@
+-- `ampferweg::settings::writing_code` meets its contract, by its cases.
+-- Assumes nothing.
+use borrow.Author.Needs.{needs}
+use Rattle.new_codes.proofs.Signs.{passed}
+use Rattle.settings_calls.proofs.FileCodes.{refusal-fits}
+use Rattle.settings_calls.proofs.writing_code.Statement.{statement}
+use Rattle.settings_calls.proofs.writing_code.Tie as tie
+
+returns : tie.Need-returns
+returns c = rw (c .enum-told .given .1)
+
+returns-2 : tie.Need-returns-2
+returns-2 c =
+    let told = c .before .before .before .writing .given in
+    rw (told .1) (passed _ (refusal-fits (told .0 .0)) (rw (c .before .number .ensures) at (c .number-code .ensures)))
+
+pub writing-code-spec : {M : Type 1} → statement M
+writing-code-spec = tie.close (tie.spec (λ c. search needs) (λ c. search needs) (λ c κs. search needs) (λ c κs. search needs) returns returns-2)

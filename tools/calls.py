@@ -1,0 +1,229 @@
+# The public calls over the block, described; writes their proofs. For each: the parameters, what the contract says, and for each call of its body,
+# in order, the name of the result and what the callee ensures; then the proof of the contract from these. The rest is read off the MIR.
+#   h, k       the block before and after, where it is taken apart         x₁, x₁ .now   parameter 1, and what is behind it
+#   z₁         what is behind parameter 1 at the end                       r             the result
+#   e-a, is-a  what the callee ensures whose result is a, and that a's machine value is a's;   end-queued: the field has its length
+# Run: python3 tools/calls.py [NAME ..], then rt fmt.
+import sys
+
+from mir import Call, write
+from rows import Declared, Nothing, Number, Numbers, Records, Signed
+from walk import Par, low
+
+SETTINGS, FLIGHT = Declared('protocol', 'Settings'), Declared('control', 'Flight')
+ARRIVAL, CLOCK = Declared('control', 'Arrival'), Declared('control', 'Clock')
+OPENED, SENT, TAKEN = Declared('open_core', 'Opened'), Declared('send_core', 'Sent'), Declared('input_core', 'Taken')
+FLUSHED, DELIVERED, PLACE = Declared('flush_core', 'Flushed'), Declared('read_core', 'Delivered'), Declared('read_core', 'Place')
+COUNT = Declared('answers', 'Count', 'EL')
+DECLARED = [SETTINGS, FLIGHT, ARRIVAL, CLOCK, OPENED, SENT, TAKEN, FLUSHED, DELIVERED, PLACE, COUNT]
+U32, CODE = Number('u32'), Signed()
+
+# the types of locals, as `rt mir` writes them
+TYPES = {
+    'protocol::Settings': SETTINGS, 'control::Flight': FLIGHT, 'control::Arrival': ARRIVAL, 'control::Clock': CLOCK,
+    'open_core::Opened': OPENED, 'send_core::Sent': SENT, 'input_core::Taken': TAKEN, 'flush_core::Flushed': FLUSHED,
+    'read_core::Delivered': DELIVERED, 'read_core::Place': PLACE, 'answers::Count': COUNT,
+    'tyInt 64': Number('usize'), 'tyInt 32': CODE, 'tyUnit': Nothing(),
+    'tyArray timing::Record 32': Records(), 'tyArray tyInt 32 32': Numbers('u32', 32),
+}
+
+# what a proof names of the specs and laws
+NAMES = {
+    'mathlib.Core.Path': '_∙_ sym subst', 'lib.ListN': 'take',
+    'Rattle.protocol.specs.Protocol': 'sendSlots', 'Rattle.records.specs.Tables': 'slotsIn gathered padded scattered',
+    'Rattle.control.specs.Views': 'Whole Arrays arrays arraysOf linkOf',
+    'Rattle.promises.specs.Parts': 'lentLengths partsOf', 'Rattle.promises.specs.Answers': 'countOutcome',
+    'Rattle.promises.specs.Outcomes': 'opensWith takesInWith tellsWith showsWith shows',
+    'Rattle.promises.specs.Promises': 'OpenPromise SendPromise InputPromise FlushPromise ReadPromise SizePromise',
+    'Rattle.promises.specs.Cores': 'OpenCore',
+    'Rattle.send_core.specs.Sending': 'SendLeaves', 'Rattle.read_core.specs.Messages': 'ReadOver', 'Rattle.read_core.specs.Places': 'placeOf PlaceIs',
+    'Rattle.input_core.specs.Taking': 'Takes', 'Rattle.flush_core.specs.Flushes': 'Core putBack',
+    'Rattle.new_codes.specs.Codes': 'answerCode countCode settingsOf', 'Rattle.new_codes.specs.Gives': 'Gives', 'Rattle.new_codes.proofs.Told': 'told',
+    'Rattle.results.specs.PlaceCodes': 'placeCode placeStart', 'Rattle.results.specs.PutBacks': 'takenBack',
+    'Rattle.from_cores.specs.Left': 'InputLeft FlushLeft',
+    'Rattle.from_cores.proofs.Gathered': 'gathers', 'Rattle.from_cores.proofs.Scattered': 'put-back',
+    'Rattle.from_cores.proofs.Opening': 'open-promised', 'Rattle.from_cores.proofs.Sending': 'send-promised',
+    'Rattle.from_cores.proofs.Reading': 'read-promised', 'Rattle.from_cores.proofs.Asking': 'size-promised shows-promised',
+    'Rattle.from_cores.proofs.TakingIn': 'input-left input-promised', 'Rattle.from_cores.proofs.Flushing': 'flush-left flush-promised',
+    'Rattle.ampferweg_calls.specs.Places': 'PlacePromise',
+}
+
+ARRAYS = ['queued', 'outstanding', 'transmissions', 'ready', 'waiting', '«waiting_numbers»']
+FIRST = 6   # the core's first array among its parameters; then the pools and the ack list
+PLAIN = [a.strip('«»').replace('_', '-') for a in ARRAYS]
+
+
+def whole(prefix):
+    """That each array has its length, by facts named PREFIXFIELD."""
+    return 'record { ' + '; '.join(f"whole-{a.replace('waiting-', '')} = {prefix}{a}" for a in PLAIN) + ' }'
+
+
+WHOLE = ('Whole (arrays ' + ' '.join(f'f-{a}' for a in PLAIN) + ')', whole('len-'))
+
+
+def last(result, i):
+    """What the callee with this result left behind its parameter i."""
+    return f'(ws-{result}' + ' .1' * i + ' .0)'
+
+
+def after(result, changed):
+    """The arrays behind the core, of which these have changed."""
+    return 'arrays ' + ' '.join(last(result, FIRST + i) if a in changed else f'(h .{a})' for i, a in enumerate(ARRAYS))
+
+
+def parts(*slices):
+    return '(partsOf ' + ' '.join(slices) + ')'
+
+
+P = parts('(x₁ .now)', '(x₂ .now)', '(x₃ .now)', '(x₄ .now)')
+LENT = 'lentLengths m (x₁ .now) (x₂ .now) (x₄ .now)'
+GATHER = [
+    Call('count-of', 'n', 'n ≡ h .flight .outstanding'),
+    Call('gather', 'recs', 'recs ≡ padded (gathered (take sendSlots (x₃ .now)) (slotsIn (h .outstanding) n))'),
+    Call('table-len', 'm', 'm ≡ length (x₃ .now)'),
+]
+GATHERED = f'h {P} recs m (gathers h {P} n recs m e-n e-recs e-m)'
+SLICES = [Par('shr', 'u8'), Par('shr', 'u8'), Par('shr', 'R'), Par('shr', 'u32')]
+
+
+def open_():
+    p = parts('(x₆ .now)', '(x₇ .now)', '(x₈ .now)', '(x₉ .now)')
+    lengths = 'lentLengths m (x₆ .now) (x₇ .now) (x₉ .now)'
+    link = 'linkOf (a .settings) (a .flight) (a .arrival) (a .clock)'
+    made = f'open-promised c h {p} (a .answer) ({link} (arraysOf h)) m e-m (e-a (arraysOf h))'
+    return dict(
+        crate='ampferweg_calls', name='ampferweg_open', result=CODE, about='Structs are copied and stored.',
+        pars=[Par('ref')] + [Par('val', U32) for _ in range(5)] + [Par('shr', 'u8'), Par('shr', 'u8'), Par('shr', 'R'), Par('shr', 'u32')],
+        said=f'Gives answerCode (λ a. OpenPromise (settingsOf x₁ x₂ x₃ x₄ x₅) h {p} a k {p}) r',
+        calls=[
+            Call('settings-of', 'c', 'c ≡ settingsOf x₁ x₂ x₃ x₄ x₅'), Call('table-len', 'm', 'm ≡ length (x₈ .now)'),
+            Call('core', 'a', f'(x : Arrays) → OpenCore (opensWith c ({lengths})) (linkOf (h .settings) (h .flight) (h .arrival) (h .clock) x) (a .answer) ({link} x)'),
+            Call('opened-settings', 'ks', 'ks ≡ a .settings'), Call('opened-flight', 'kf', 'kf ≡ a .flight'),
+            Call('opened-arrival', 'ka', 'ka ≡ a .arrival'), Call('opened-clock', 'kc', 'kc ≡ a .clock'),
+            Call('code-of', 'r', 'r ≡ answerCode (a .answer)'),
+        ],
+        proof=f'told answerCode _ (a .answer) e-r (rw (e-ks, e-kf, e-ka, e-kc) (subst (λ (s : Settings). OpenPromise s h {p} (a .answer) ({link} (arraysOf h)) {p}) e-c ({made})))')
+
+
+def send():
+    end = parts('z₁', '(x₂ .now)', '(x₃ .now)', '(x₄ .now)')
+    link = f"(linkOf (h .settings) (a .flight) (h .arrival) (h .clock) ({after('a', ARRAYS[:1])}))"
+    pool = last('a', FIRST + 6)
+    return dict(
+        crate='ampferweg_calls', name='ampferweg_send', result=CODE, about='The table is read; structs are copied, all lists are lent, and the flight is stored.',
+        pars=[Par('ref'), Par('mut', 'u8')] + SLICES[1:] + [Par('shr', 'u8')],
+        said=f'Gives answerCode (λ a. SendPromise (x₅ .now) h {P} a k {end}) r',
+        calls=GATHER + [
+            Call('core', 'a', f'SendLeaves h recs m (x₁ .now) (x₂ .now) (x₄ .now) (x₅ .now) (a .answer) {link} {pool}', WHOLE),
+            Call('flight-of', 'kf', 'kf ≡ a .flight'), Call('code-of', 'r', 'r ≡ answerCode (a .answer)'),
+        ],
+        proof=f'told answerCode _ (a .answer) e-r (rw e-kf (send-promised {GATHERED} (a .answer) {link} {pool} (x₅ .now) e-a))')
+
+
+def read():
+    link = f"(linkOf (h .settings) (h .flight) (a .arrival) (h .clock) ({after('a', ARRAYS[3:])}))"
+    buffer = last('a', FIRST + 9)
+    return dict(
+        crate='ampferweg_calls', name='ampferweg_read', result=CODE, about='The table is read; structs are copied, all lists are lent, and the arrival is stored.',
+        pars=[Par('ref')] + SLICES + [Par('mut', 'u8')],
+        said=f'Gives countCode (λ a. ReadPromise h {P} (x₅ .now) a k {P} z₅) r',
+        calls=GATHER + [
+            Call('core', 'a', f'ReadOver h recs m (x₁ .now) (x₂ .now) (x₄ .now) (x₅ .now) (a .answer) {link} {buffer}', WHOLE),
+            Call('arrival-of', 'ka', 'ka ≡ a .arrival'), Call('code-of', 'r', 'r ≡ countCode (a .answer)'),
+        ],
+        proof=f'told countCode _ (a .answer) e-r (rw e-ka (read-promised {GATHERED} (x₅ .now) (a .answer) {link} {buffer} e-a))')
+
+
+def size():
+    return dict(
+        crate='ampferweg_calls', name='ampferweg_size', result=CODE, about='The block and the table are read through a `&`.',
+        pars=[Par('sref')] + SLICES,
+        said=f'Gives countCode (λ a. SizePromise h {P} a) r',
+        calls=GATHER + [
+            Call('core', 'a', f'countOutcome a ≡ tellsWith h recs (x₄ .now) ({LENT})', WHOLE), Call('code-of', 'r', 'r ≡ countCode a'),
+        ],
+        proof=f'told countCode _ a e-r (size-promised {GATHERED} a e-a)')
+
+
+def show():
+    return dict(
+        crate='ampferweg_calls', name='ampferweg_show', result=CODE, about='The block and the table are read through a `&`; where the start goes is given to `tell_place`.',
+        pars=[Par('sref')] + SLICES + [Par('given', 'u32')],
+        said=f'Gives placeCode (λ a. PlacePromise h {P} a z₅) r',
+        calls=GATHER + [
+            Call('core', 'a', f'PlaceIs (placeOf (showsWith h recs (x₄ .now) ({LENT}))) (length (x₂ .now)) a', WHOLE),
+            Call('code-of', 'r', f"(r ≡ placeCode a) × ({last('r', 1)} ≡ placeStart a)"),
+        ],
+        proof=f'told placeCode _ a (e-r .0) (record {{ place = shows-promised {GATHERED} (λ o. PlaceIs (placeOf o) (length (x₂ .now)) a) e-a; start = e-r .1 }})')
+
+
+def take_in():
+    link = f"(linkOf (h .settings) (a .flight) (a .arrival) (h .clock) ({after('a', ARRAYS[1:])}))"
+    pool, acks = last('a', FIRST + 7), last('a', FIRST + 8)
+    gives = f'(λ l. takesInWith l recs (x₄ .now) ({LENT}) (x₂ .now) (x₅ .now))'
+    gathered = f'(gathers h {P} n recs m e-n e-recs e-m)'
+    return dict(
+        crate='take_in', name='take_in', result=TAKEN, about='The table is read; structs are copied, all lists are lent, and flight and arrival are stored.',
+        pars=[Par('ref'), Par('shr', 'u8'), Par('mut', 'u8'), Par('shr', 'R'), Par('mut', 'u32'), Par('shr', 'u8')],
+        said=f'InputLeft (x₅ .now) h {P} (r .answer) (takenBack r) k z₂ z₄',
+        calls=GATHER + [
+            Call('core', 'a', f"Takes {gives} (h .settings) (h .flight) (h .arrival) (h .clock) (arraysOf h) (x₂ .now) (x₄ .now) a ({after('a', ARRAYS[1:])}) {pool} {acks}", WHOLE),
+            Call('flight-of', 'kf', 'kf ≡ a .flight'), Call('arrival-of', 'ka', 'ka ≡ a .arrival'),
+        ],
+        proof=f"rw (e-kf, e-ka) (input-left (x₅ .now) h {P} (a .answer) (takenBack a) {link} {pool} {acks} recs m {gathered} ({whole('end-')}) e-a)")
+
+
+def input_():
+    p = parts('(x₁ .now)', '(x₂ .now)', '(x₃ .now)', '(x₄ .now)')
+    link, pool, acks, table = last('t', 0), last('t', 2), last('t', 4), last('u', 0)
+    few = '(ap length (sym e-after) ∙ is-after .1 .0 .1)'
+    put = f'(put-back (x₃ .now) {table} (takenBack t) words n after e-words e-n e-after e-u)'
+    return dict(
+        crate='ampferweg_calls', name='ampferweg_input', result=CODE, about='The block is given to `take_in`, and the table lent to it as `&`; then the table is given to `scatter`.',
+        pars=[Par('given', 'L'), Par('shr', 'u8'), Par('mut', 'u8'), Par('mut', 'R'), Par('mut', 'u32'), Par('shr', 'u8')],
+        said=f"Gives answerCode (λ a. InputPromise (x₅ .now) (x₀ .now) {p} a z₀ {parts('(x₁ .now)', 'z₂', 'z₃', 'z₄')}) r",
+        calls=[
+            Call('taking', 't', f'InputLeft (x₅ .now) (x₀ .now) {p} (t .answer) (takenBack t) {link} {pool} {acks}'),
+            Call('words-of', 'words', 'words ≡ t .words'), Call('count-of', 'n', 'n ≡ t .changed'), Call('records-of', 'after', 'after ≡ t .records'),
+            Call('scatter', 'u', f'{table} ≡ scattered (x₃ .now) (slotsIn words n) after'), Call('code-of', 'r', 'r ≡ answerCode (t .answer)'),
+        ],
+        proof=f'told answerCode _ (t .answer) e-r (input-promised (x₅ .now) (x₀ .now) {p} (t .answer) (takenBack t) {link} {pool} {acks} {table} {few} {put} e-t)')
+
+
+def write_out():
+    link = f"(linkOf (h .settings) (a .flight) (a .arrival) (a .clock) ({after('a', ARRAYS[:3])}))"
+    output, lengths = last('a', FIRST + 10), last('a', FIRST + 11)
+    gathered = f'(gathers h {P} n recs m e-n e-recs e-m)'
+    return dict(
+        crate='write_out', name='write_out', result=FLUSHED, about='The table is read; structs are copied, all lists are lent, and flight, arrival and clock are stored.',
+        pars=[Par('ref')] + SLICES + [Par('val', U32), Par('mut', 'u8'), Par('mut', 'u16')],
+        said=f'FlushLeft x₅ h {P} (x₆ .now) (x₇ .now) (r .answer) (putBack r) k z₆ z₇',
+        calls=GATHER + [
+            Call('core', 'a', f'Core h recs m (x₁ .now) (x₂ .now) (x₄ .now) x₅ (x₆ .now) (x₇ .now) a {link} {output} {lengths}', WHOLE),
+            Call('flight-of', 'kf', 'kf ≡ a .flight'), Call('arrival-of', 'ka', 'ka ≡ a .arrival'), Call('clock-of', 'kc', 'kc ≡ a .clock'),
+        ],
+        proof=f"rw (e-kf, e-ka, e-kc) (flush-left x₅ h {P} (x₆ .now) (x₇ .now) (a .answer) (putBack a) {link} {output} {lengths} recs m {gathered} ({whole('end-')}) e-a)")
+
+
+def flush():
+    p = parts('(x₁ .now)', '(x₂ .now)', '(x₃ .now)', '(x₄ .now)')
+    link, output, lengths, table = last('t', 0), last('t', 6), last('t', 7), last('u', 0)
+    few = '(ap length (sym e-after) ∙ is-after .1 .0 .1)'
+    put = f'(put-back (x₃ .now) {table} (putBack t) words n after e-words e-n e-after e-u)'
+    return dict(
+        crate='ampferweg_calls', name='ampferweg_flush', result=CODE, about='The block is given to `write_out`, and the table lent to it as `&`; then the table is given to `scatter`.',
+        pars=[Par('given', 'L'), Par('shr', 'u8'), Par('shr', 'u8'), Par('mut', 'R'), Par('shr', 'u32'), Par('val', U32), Par('mut', 'u8'), Par('mut', 'u16')],
+        said=f"Gives countCode (λ a. FlushPromise x₅ (x₀ .now) {p} (x₆ .now) (x₇ .now) a z₀ {parts('(x₁ .now)', '(x₂ .now)', 'z₃', '(x₄ .now)')} z₆ z₇) r",
+        calls=[
+            Call('flushing', 't', f'FlushLeft x₅ (x₀ .now) {p} (x₆ .now) (x₇ .now) (t .answer) (putBack t) {link} {output} {lengths}'),
+            Call('words-of', 'words', 'words ≡ t .words'), Call('count-of', 'n', 'n ≡ t .changed'), Call('records-of', 'after', 'after ≡ t .records'),
+            Call('scatter', 'u', f'{table} ≡ scattered (x₃ .now) (slotsIn words n) after'), Call('code-of', 'r', 'r ≡ countCode (t .answer)'),
+        ],
+        proof=f'told countCode _ (t .answer) e-r (flush-promised x₅ (x₀ .now) {p} (x₆ .now) (x₇ .now) (t .answer) (putBack t) {link} {output} {lengths} {table} {few} {put} e-t)')
+
+
+CALLS = {'open': open_, 'send': send, 'take_in': take_in, 'input': input_, 'write_out': write_out, 'flush': flush, 'read': read, 'size': size, 'show': show}
+
+if __name__ == '__main__':
+    for which in sys.argv[1:] or CALLS:
+        write(types=TYPES, names=NAMES, declared=DECLARED, **CALLS[which]())

@@ -1,0 +1,297 @@
+# The proof file around a walk: what it cites, what each callee is called at, the exit, and the walk taken to the contract.
+from walk import at, cons, low, needed, nest
+
+WALK = '''_≡_, refl, ap, ℕ, _+_, List, [], _∷_, length, set, URA, fullShare, named, w8, w32, w64, Val, vint, vptr, SProp, ent, emp, via, fst∗, id⊢, Lft, GName, Share, Fml, ftrue, flft,
+Memory, Routine, Heap, Calls, Loops, WpFn, Tables, Atoms, Fun, givenOf, tables, tablesOf, Given, Item, ‵, some, later, _⊛_, ⋆, _$_, _∵_, !, qed, by, move, drop, use1, use2,
+split, join, pick, await, fsplit, fjoin, feqL, suffices, frame, done, look, look-raw, look-in, sub, whole, init, store, store-raw, forget, stop, hop, fld, from, load, of-opd,
+agg, addr, and-then, no-more, assigns, returns, enter, alloc1, alloc0, params1, pass1, pass0, free1, free0, land, WpFn-mono, FmC, fmOf, owns, Is, uint-vals, uint-tells,
+uint-makes, RefT, sliceVal, MutSlice, ShrSlice, Room, slice-vals, mut-slice-tells, shr-slice-tells, finally, plain, u8, u32, usize, nothing, owned, only, Vals, onEntry,
+Triple, Meets, tripleOf, entered, cited, says, Stays, gave-slice, goes-gave-slice, walkOf, ends-at, walked, walk-meets, yes'''
+
+CITES = '''use Rattle.records.proofs.Call.{calls-fn, plainly}
+use Rattle.records.proofs.Shared.{LentShared, lends-shared, shared-back}
+use Rattle.records.proofs.Rows.{R, Rs, rs-typed, rs-makes}
+use Rattle.lending.proofs.Fields.{ref-at, lend-mut, back-mut, lend-shr, back-shr, cell-out, cell-in, tells-length}
+use Rattle.records.proofs.Frame.{envOf}
+use Rattle.lending.proofs.Parts.{typeOf, behind}
+use Rattle.lending.proofs.Block.{L, Open, Back, link-own, opens-link, closes-link, looks-link, shuts-link}
+use Rattle.control.specs.declared.Link.{Link}
+use Rattle.timing.specs.declared.Record.{Record}
+use lib.IntN.{ℤ}
+use mir.Syntax.{w16}
+use base.Fml.{fres, froom, fdies, fobor}
+use mir.Syntax.{Ty}
+use prog.Wp.{Env, Wp, atReturn}
+use types.Kit.{group, raw, atRet}
+use denote.Memory.{partAt}
+use types.Tokens.{lft-new, lft-end}
+use denote.Plain.{uint-lawful, nothing-lawful}
+use denote.Signed.{sint-lawful, sint-makes}
+use denote.Builtin.{i32, u16, unit}
+use denote.Array.{Array, array-vals, array-tells, array-typed, array-makes}
+use denote.Ref.{MutRef, ShrRef, ptr-vals, mut-tells, shr-tells}
+use denote.Slice.{shr-slice-copy}
+use denote.Signature.{shrSliceOf, shrRefTo}
+use denote.Signature.Array.{arrayOf}
+use denote.Struct.Laws as LL
+use denote.Enum.Laws as EL
+use denote.Triple.Walked.{stay-ref, goes-ref, gave-ref, goes-gave-ref, stay-dropped, goes-dropped}'''
+
+
+def proof_file(w):
+    pars = w.pars
+    refs = [i for i, p in enumerate(pars) if p.kind != 'val']
+    gave = [i for i, p in enumerate(pars) if p.gives()]
+    slices = [i for i in gave if pars[i].slice()]
+    taken_apart = any(p.kind == 'ref' for p in pars)
+    me = f'Rattle.{w.crate}.proofs.{w.name}'
+    out = []
+    say = out.append
+
+    say(f'-- `{w.crate}::{w.name}` meets its contract: a walk of its MIR. {w.about}')
+    say('-- Of each callee the proof knows only that it meets its contract. Written by tools/calls.py.\n-- Assumes nothing.')
+    say(f'use Rattle.records.proofs.Walk.{{{" ".join(WALK.split())}, fat, exec}}\n{CITES}')
+    out += w.uses
+    for crate, name, alias in w.callees:
+        module = f'Rattle.{crate}.proofs.{name}' if crate == w.crate else f'Rattle.{crate}.proofs.{name}'
+        say(f'use {module} as {alias}\nuse {module}.Symbol as {alias}-def\nuse {module}.Met as {alias}-thm')
+    say(f'use {me}.Key.{{name as #f}}\nuse {me} as f\nuse {me}.Statement as stated\nuse {me}.Code as code\n')
+
+    def stay(p):
+        if p.kind == 'mut':
+            return f'gave-slice ({p.lft} ∷ []) tt (plain (λ _. {p.t}))'
+        if p.kind in ('ref', 'given'):
+            return f"{'stay' if p.kind == 'ref' else 'gave'}-ref ({p.lft} ∷ []) tt (plain (λ _. {p.t or 'L'}))"
+        return 'stay-dropped _ yes'
+    say(f'abbrev stayed : Stays (f.ended .signature .params) (f.ended .kept)\nstayed = {nest([stay(p) for p in pars])}\n')
+
+    say('module _ {M : Type 1} (𝓤 : URA M) (H : Heap 𝓤) (A : Atoms 𝓤) (W : Given 𝓤 H A) (at-mem : Memory → SProp 𝓤) (run : Routine → Fun 𝓤) where')
+    say('  -- what is known of the callees\n  abbrev Known : Calls 𝓤 H → Type 1')
+    triples = [f'Triple 𝓤 (C {c}-def.name) (tripleOf 𝓤 H A {c}.signature ({c}.spec 𝓤 H A at-mem run))' for _, _, c in w.callees]
+    say('  Known C = ' + '\n      × '.join(triples) + '\n')
+
+    lfts = [low(pars[i].lft) for i in refs]
+    binders = [f"({' '.join('κ' + l for l in lfts)} : Lft) ({' '.join('q' + l for l in lfts)} : Share)"]
+    for i, p in enumerate(pars):
+        n = low(i)
+        if p.kind == 'val':
+            binders.append(f'(x{n} : {p.t.denot}) (v{n} : Val) (g{n} : Is {p.t.row} x{n} (v{n} ∷ []))')
+        elif p.kind in ('ref', 'sref'):
+            binders.append('(b o : ℕ) (γ : GName) (h : Link)')
+        elif p.kind == 'given':
+            binders.append(f'(x{n} : RefT {p.value()})')
+        else:
+            binders.append(f'(x{n} : RefT ({p.list()})) (room{n} : Room {p.t} (length (x{n} .now)))')
+    say(f"  module _ {' '.join(binders)} where")
+
+    def behind(p):
+        return p.t.denot if p.kind == 'val' else f'RefT ({p.list()})' if p.slice() else f'RefT {p.value()}'
+    kinds = [behind(p) for p in pars]
+    values = ['ref-at b o γ h' if p.kind in ('ref', 'sref') else f'x{low(i)}' for i, p in enumerate(pars)]
+    say(f"    abbrev x : {' × ('.join(kinds)} × Unit {{0}}{')' * (len(kinds) - 1)}\n    x = {nest(values)}\n")
+
+    shown = {a['i'] for ask in w.asks for a in ask['args'] if a['kind'] in ('shown', 'shownkeep')}
+    for i, p in enumerate(pars):
+        n = low(i)
+        if p.slice():
+            say(f'    abbrev s{n} : Val\n    s{n} = sliceVal (x{n} .ptr) (length (x{n} .now))\n')
+            ref = 'MutSlice' if p.kind == 'mut' else 'ShrSlice'
+            say(f'    abbrev Own{n} : Fml\n    Own{n} = {ref} (named 0) κ{low(p.lft)} {p.t} .own x{n} (s{n} ∷ [])\n')
+        if p.kind == 'given':
+            say(f'    abbrev s{n} : Val\n    s{n} = vptr (x{n} .ptr .0) (x{n} .ptr .1)\n')
+            say(f'    abbrev Own{n} : Fml\n    Own{n} = MutRef (named 0) κ{low(p.lft)} {p.t} .own x{n} (s{n} ∷ [])\n')
+        if i in shown:
+            say(f'    abbrev shown-at{n} : GName → RefT ({p.list()})\n    shown-at{n} δ = record {{ ptr = x{n} .ptr; name = δ; now = x{n} .now }}\n')
+            say(f'    abbrev Shared{n} : ℕ → GName → Fml\n    Shared{n} β δ = ShrSlice (named 0) (β ∷ []) {p.t} .own (shown-at{n} δ) (s{n} ∷ [])\n')
+
+    kappas, shares = nest(['κ' + l for l in lfts]), nest(['q' + l for l in lfts])
+    say(f"    abbrev at : Vals f.signature {kappas}\n    at = {nest([m + ' ∷ []' for m in w.machine()])}\n")
+    bound = f'(({kappas}, {shares}, tt, x, at), tt)'
+    say(f'    abbrev Post : Val → SProp 𝓤\n    Post = walkOf 𝓤 H A f.ended stayed (f.clauses 𝓤 H A at-mem run) .post {bound}\n')
+    for ask in w.asks:
+        out.extend(asked(ask))
+
+    # the exit
+    names = (['k'] if taken_apart else []) + [f'z{low(i)}' for i in gave]
+    types = (['Link'] if taken_apart else []) + [pars[i].list() if pars[i].slice() else pars[i].value() for i in gave]
+    binds = ' '.join(f'({n} : {t})' for n, t in zip(names, types))
+
+    def had(item):
+        i = int(item[3:])
+        p, n = pars[i], low(i)
+        if item[:3] == 'tok':
+            return f'‵ {w.token(i)}'
+        if item[:3] == 'own':
+            return f'‵ (link-own κ{low(p.lft)} b o γ k)'
+        return f'‵ (finally {p.t} (x{n} .name) z{n})' if p.slice() else f'‵ (fres (x{n} .name) ({p.t} .coded .code z{n}))'
+    arrow = f'{binds} → ' if binds else ''
+    say(f"    abbrev Had : {arrow}List (Item 𝓤)\n    Had {' '.join(names)} = {cons(had(n) for n in w.had)}\n")
+    say(f"    -- what the contract says\n    abbrev Said : (r : {w.result.denot}) {binds} → Type 0\n    Said r {' '.join(names)} = {w.said}\n")
+    lengths = ' '.join(f'→ length z{low(i)} ≡ length (x{low(i)} .now)' for i in slices)
+    say(f"    exits : (r : {w.result.denot}) (w : Val) {binds} → Said r {' '.join(names)} {lengths} → Is {w.result.row} r (w ∷ []) → ent 𝓤 (⋆ 𝓤 H A (Had {' '.join(names)})) (Post w)")
+    lasts = nest(['k' if p.kind == 'ref' else f'z{low(i)}' if p.gives() else 'tt' for i, p in enumerate(pars)])
+    fits = nest([f'len{low(i)}' if p.kind == 'mut' else 'tt' for i, p in enumerate(pars)])
+    say(f"    exits r w {' '.join(names)} e {' '.join(f'len{low(i)}' for i in slices)} g =")
+    say(f"        qed W (Had {' '.join(names)}) ∵ suffices ! _ (ends-at 𝓤 H A f.ended stayed (f.clauses 𝓤 H A at-mem run) W {bound} w r {lasts} {fits}) $ says ! e $")
+    steps = Steps(w.had)
+    steps.start('tokens')
+    for i in reversed(refs):
+        steps.join(f'tok{i}', 'join')
+    steps.text.append('frame ! $ nothing ! $')
+    steps.context[0] = 'owns'
+    for i, p in reversed(list(enumerate(pars))):
+        if p.gives() or p.kind == 'ref':
+            steps.join(f"{'own' if p.kind == 'ref' else 'fin'}{i}", 'fjoin')
+        else:
+            steps.text.append('nothing ! $ fjoin ! $')
+    say(f"        {' '.join(steps.text)} frame ! $ owned ! {w.result.row} (Is {w.result.row}) {w.result.makes()} r _ g $ done !\n")
+
+    say('    module _ (C : Calls 𝓤 H) (Λ : Loops 𝓤 H) (fm : FmC 𝓤 H (W .laws) C) (known : Known C) where')
+    out.extend(walked(w))
+    say(f'      walk : ent 𝓤 (onEntry 𝓤 H A f.signature {kappas} {shares} x at) (WpFn 𝓤 H C Λ code.function ({cons(w.machine())}) Post)')
+    say(f'      walk =\n          {lines(w.parts[0])}\n')
+    say(meets(w))
+    return '\n'.join(out) + '\n'
+
+
+def lines(part):
+    """The text of a part."""
+    text = ' '.join(part['text'] + [part.get('end', '')])
+    return '\n'.join(line.strip() for line in text.split('\n') if line.strip()).replace('\n', '\n          ')
+
+
+def walked(w):
+    """The parts of the walk but the first, from the last on: each is what the one before it ends with."""
+    out = []
+    places = cons(f'l{low(i)}' for i in range(w.locals))
+    for k in range(len(w.parts) - 1, 0, -1):
+        before, part = w.parts[k - 1], w.parts[k]
+        if k == len(w.parts) - 1 and k > 0:
+            names = ' '.join(f'l{low(i)}' for i in range(w.locals))
+            out.append('      -- the types of the locals, and where they lie\n      abbrev ty : ℕ → Ty\n      ty i = typeOf (code.function .locals) i\n')
+            out.append(f'      abbrev En : ({names} : ℕ) → Env 𝓤 H\n      En {names} = envOf (code.function .locals) ({places})\n')
+        env = f"(En {' '.join(f'l{low(i)}' for i in range(w.locals))})"
+        body = f"(behind {before['done']} (code.function .body))"
+        context = cons(before['context'])
+        scope = needed(before['scope'], ' '.join([context, lines(part), places]))
+        binders = ' '.join(f'({name} : {t})' for name, t in scope)
+        out.append(f"      part{low(k)} : {binders} → ent 𝓤 (⋆ 𝓤 H A ({context})) (Wp 𝓤 H C Λ {env} {body} (atReturn 𝓤 H {env} Post))")
+        out.append(f"      part{low(k)} {' '.join(name for name, _ in scope)} =\n          qed W ({context}) ∵ exec ! C Λ {env} {body} (atRet {env} Post) $\n          {lines(part)}\n")
+        passed = ' '.join(before['passed'][name] for name, _ in scope)
+        before['end'] = f"by ! (part{low(k)} {passed})" + ')' * before['open']
+    return out
+
+
+class Steps:
+    """Joins of a small lemma, with its context."""
+
+    def __init__(self, context):
+        self.context, self.text = list(context), []
+
+    def start(self, name):
+        self.text.append('nothing ! $')
+        self.context.insert(0, name)
+
+    def front(self, item):
+        where = self.context.index(item)
+        if where:
+            self.text.append(f'move ! ({where} ∷ 0 ∷ []) $')
+            self.context.remove(item)
+            self.context.insert(0, item)
+
+    def join(self, item, how):
+        held = self.context[0]
+        self.front(item)
+        self.text.append(f'{how} ! $')
+        self.context[0:2] = [held]
+
+
+def asked(ask):
+    """What a callee is called at (to-NAME), and that what it asks is had (asks-NAME)."""
+    name, callee, needs = ask['name'], ask['callee'], ask['needs']
+    value = {id(a): (f'y{low(j)}', f'u{low(j)}', f'is{low(j)}') for j, a in enumerate(ask['values'])}
+    lent = [x for a, x in zip(ask['args'], ask['inner']) if a['kind'] != 'val']
+    binds = ' '.join(x['binds'] for x in lent if x['binds'])
+    bound = ' '.join(b.split(':')[0].strip(' (') for x in lent if x['binds'] for b in x['binds'].split(') ('))
+    takes = ' '.join(f'({value[id(a)][0]} : {a["t"].denot}) ({value[id(a)][1]} : Val)' for a in ask['values'])
+    takes_are = ' '.join(f'({value[id(a)][0]} : {a["t"].denot}) ({value[id(a)][1]} : Val) → Is {a["t"].row} {value[id(a)][0]} ({value[id(a)][1]} ∷ []) →' for a in ask['values'])
+    pairs = list(zip(ask['args'], ask['inner']))
+    xs = nest([value[id(a)][0] if a['kind'] == 'val' else x['value'] for a, x in pairs])
+    vs = nest([(value[id(a)][1] if a['kind'] == 'val' else x['machine']) + ' ∷ []' for a, x in pairs])
+    at_ = f"(({nest([x['lft'] for x in lent])}, {nest([x['share'] for x in lent])}, tt, {xs}, {vs}), tt)"
+    triple = f'tripleOf 𝓤 H A {callee}.signature ({callee}.spec 𝓤 H A at-mem run)'
+    names = ' '.join([bound] + [f'{value[id(a)][0]} {value[id(a)][1]}' for a in ask['values']]).strip()
+    before = f'{binds} {takes}'.strip()
+    out = [f"    -- what {callee} is called at, and that what it asks is had\n    abbrev to-{name} : {before + ' → ' if before else ''}{triple} .Ghost\n    to-{name} {names} = {at_}\n"]
+
+    had = cons(f"‵ {x['token-is']} ∷ ‵ {x['own-is']}" for x in lent)
+    steps = Steps([n for x in lent for n in (x['token'], x['owner'])])
+    if needs:
+        steps.text.append('says ! req $')
+    steps.start('alive')
+    for x in reversed(lent):
+        steps.join(x['token'], 'join')
+    steps.start('owns')
+    for a, x in reversed(pairs):
+        if a['kind'] == 'val':
+            y, _, is_ = value[id(a)]
+            steps.text.append(f"owned ! {a['t'].row} (Is {a['t'].row}) {a['t'].makes()} {y} _ {is_} $ fjoin ! $")
+        else:
+            steps.join(x['owner'], 'fjoin')
+    steps.front('alive')
+    steps.text.append('done !' if needs else 'join ! $ nothing ! $ move ! (1 ∷ 0 ∷ []) $ done !')
+    asks = f'({needs[0]}) → ' if needs else ''
+    out.append(f"    asks-{name} : {binds + ' → ' if binds else ''}{takes_are} {asks}ent 𝓤 (⋆ 𝓤 H A ({had})) ({triple} .pre (to-{name} {names}))")
+    given = ' '.join(' '.join(value[id(a)]) for a in ask['values'])
+    out.append(f"    asks-{name} {bound} {given} {'req' if needs else ''} =\n        qed W ({had}) ∵ {' '.join(steps.text)}\n")
+    return out
+
+
+def meets(w):
+    """The walk, taken to the contract."""
+    n = w.lifetimes
+
+    def goes(p):
+        if p.kind == 'mut':
+            return f'goes-gave-slice 𝓤 H A W {n} {p.lft} tt (plain (λ _. {p.t}))'
+        if p.kind in ('ref', 'given'):
+            return f"goes-{'' if p.kind == 'ref' else 'gave-'}ref 𝓤 H A W {n} {p.lft} tt (plain (λ _. {p.t or 'L'}))"
+        slot = p.t.slot() if p.kind == 'val' else f"({'shrSliceOf' if p.kind == 'shr' else 'shrRefTo'} ({p.lft} ∷ []) tt (plain (λ _. {p.t or 'L'})))"
+        return f'goes-dropped 𝓤 H A W {n} {slot} yes (λ κs x f. refl)'
+
+    def tells(p):
+        if p.kind == 'val':
+            return p.t.tells()
+        law = {'mut': 'mut-slice-tells', 'shr': 'shr-slice-tells', 'sref': 'shr-tells'}.get(p.kind, 'mut-tells')
+        return f"{law} (named {p.lft}) ({at('κs', p.lft)}) {p.t or 'L'}"
+
+    def passes(i, p):
+        value, is_ = at('a', i), at('are', i)
+        if p.kind == 'given':
+            return f'({value})'
+        if p.kind in ('ref', 'sref'):
+            return f'({value} .ptr .0) ({value} .ptr .1) ({value} .name) ({value} .now)'
+        return f'({value}) {p.t.val(value)} ({is_})' if p.kind == 'val' else f'({value}) ({is_} .0 .1)'
+    vals = nest([p.t.vals() if p.kind == 'val' else 'slice-vals' if p.slice() else 'ptr-vals' for p in w.pars])
+    lfts = [p.lft for p in w.pars if p.kind != 'val']
+    kappas, shares = ' '.join(f"({at('κs', l)})" for l in lfts), ' '.join(f"({at('qs', l)})" for l in lfts)
+    args = ' '.join(passes(i, p) for i, p in enumerate(w.pars))
+    spec = w.name.replace('_', '-')
+    cited = ',\n'.join(
+        f"      cited 𝓤 H (tripleOf 𝓤 H (𝓖 .A) {c}.signature ({c}.spec 𝓤 H (𝓖 .A) (𝓜 .mem) (𝓡 .run))) 𝓜 𝓡 code.env {c}-def.name {c}-def.routine"
+        f" code.calls-{crate.replace('_', '-')}·{name.replace('_', '-')} ({c}-thm.met 𝓤 H 𝓜 𝓖 𝓡)" for crate, name, c in w.callees)
+    comma = ',' if len(w.callees) > 1 else ''
+    return f'''  f-meets : (𝓣 : Tables 𝓤 H) → Known (𝓣 .C) → Meets 𝓤 H A f.signature (WpFn 𝓤 H (𝓣 .C) (𝓣 .Λ) code.function) (f.spec 𝓤 H A at-mem run)
+  f-meets 𝓣 known = walk-meets 𝓤 H A f.ended stayed W {nest([goes(p) for p in w.pars])}
+      (f.clauses 𝓤 H A at-mem run) (WpFn 𝓤 H (𝓣 .C) (𝓣 .Λ) code.function) (WpFn-mono 𝓤 H (W .laws) 𝓣 code.function)
+      (walked 𝓤 H A f.ended stayed (f.clauses 𝓤 H A at-mem run) (WpFn 𝓤 H (𝓣 .C) (𝓣 .Λ) code.function) (λ κs. {vals}) (λ κs. {nest([tells(p) for p in w.pars])})
+      (λ κs qs bounds a g are. via 𝓤 _ (fst∗ 𝓤 _ (emp 𝓤)) (walk {kappas} {shares} {args} (𝓣 .C) (𝓣 .Λ) (fmOf 𝓤 H (W .laws) 𝓣) known)))
+
+pub {spec}-spec : {{M : Type 1}} → stated.statement M
+unfolding code.routine tablesOf
+{spec}-spec 𝓤 H 𝓜 𝓖 𝓡 =
+    entered 𝓤 H (tripleOf 𝓤 H (𝓖 .A) f.signature (f.spec 𝓤 H (𝓖 .A) (𝓜 .mem) (𝓡 .run)))
+    (tables 𝓤 H 𝓜 𝓡 code.env .C) (tables 𝓤 H 𝓜 𝓡 code.env .Λ) #f code.function (code.unfolded 𝓤 H 𝓜 𝓡)
+    (f-meets 𝓤 H (𝓖 .A) (givenOf 𝓤 H 𝓜 𝓖) (𝓜 .mem) (𝓡 .run) (tablesOf 𝓤 H 𝓜 (tables 𝓤 H 𝓜 𝓡 code.env)) (
+{cited}{comma}
+    ))'''
