@@ -4,10 +4,10 @@ use mathlib.Core.Path.{refl}
 use mathlib.Core.List.{List}
 use Prim.Native.Nat.{ℕ}
 use Rattle.protocol.specs.declared.Settings.{Settings}
-use Rattle.block.specs.declared.Link.{Link}
+use Rattle.control.specs.declared.Link.{Link}
 use Rattle.answers.specs.declared.Answer.{Answer}
 use Rattle.answers.specs.declared.Answer.the-variants.{Accepted, Refused}
-use Rattle.calls.specs.Promises.{OpenPromise}
+use Rattle.promises.specs.Promises.{OpenPromise}
 use Rattle.bench.specs.declared.Bench.{Bench}
 use Rattle.bench_calls.specs.BenchPromises.{lentParts, afterOpen, BenchOpens}
 

@@ -8,13 +8,13 @@ use Prim.Native.Nat.{ℕ}
 use lib.ListN.{take, drop}
 use Rattle.protocol.specs.declared.Settings.{Settings}
 use Rattle.timing.specs.declared.Record.{Record}
-use Rattle.block.specs.declared.Link.{Link}
+use Rattle.control.specs.declared.Link.{Link}
 use Rattle.answers.specs.declared.Answer.{Answer}
 use Rattle.answers.specs.declared.Answer.the-variants.{Accepted, Refused}
 use Rattle.answers.specs.declared.Count.{Count}
-use Rattle.calls.specs.Parts.{Parts}
-use Rattle.calls.specs.Promises.{OpenPromise, SendPromise, InputPromise, FlushPromise, ReadPromise, SizePromise, ShowPromise}
-use Rattle.lent.specs.Lent.{partsOf}
+use Rattle.promises.specs.Parts.{Parts, partsOf}
+use Rattle.promises.specs.Outcomes.{shows}
+use Rattle.promises.specs.Promises.{OpenPromise, SendPromise, InputPromise, FlushPromise, ReadPromise, SizePromise, shown}
 use Rattle.bench.specs.declared.Bench.{Bench}
 use Rattle.bench_calls.specs.declared.Answered.{Answered}
 use Rattle.bench_calls.specs.declared.Counted.{Counted}
@@ -65,4 +65,4 @@ abbrev pub BenchTells : Bench → List ℕ → List ℕ → List ℕ → Count �
 BenchTells b s r a n = SizePromise (b .link) (lentParts b s r (b .table) a) n
 
 abbrev pub BenchShows : Bench → List ℕ → List ℕ → List ℕ → List ℕ → Type 0
-BenchShows b s r a part = ShowPromise (b .link) (lentParts b s r (b .table) a) part
+BenchShows b s r a part = part ≡ shown (shows (b .link) (lentParts b s r (b .table) a)) (take (b .lent .receive) r)

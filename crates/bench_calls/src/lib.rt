@@ -2,8 +2,8 @@
 use answers::Answer;
 use answers::Count;
 use bench::Bench;
-use kept_datagrams::AnsweredKept;
-use kept_datagrams::CountedKept;
+use kept_calls::FlushedOut;
+use kept_calls::TakenIn;
 use protocol::Settings;
 ghost use mathlib.Core.Path.{_≡_};
 ghost use Rattle.bench_calls.specs.Fronts.{Front};
@@ -52,7 +52,7 @@ fn front_lengths(count: usize, part: &[u16]) -> usize
 }
 
 // The bench after an opening.
-fn after_open(bench: Bench, done: calls::Answered) -> Answered
+fn after_open(bench: Bench, done: kept_calls::Answered) -> Answered
     ensures { λ r. ⌜ r ≡ record { answer = done .answer; bench = afterOpen bench (done .answer) (done .link) } ⌝ }
 {
     let answer = done.answer;
@@ -69,7 +69,7 @@ fn after_open(bench: Bench, done: calls::Answered) -> Answered
 }
 
 // The bench after a send.
-fn after_send(bench: Bench, done: calls::Answered) -> Answered
+fn after_send(bench: Bench, done: kept_calls::Answered) -> Answered
     ensures { λ r. ⌜ r ≡ record { answer = done .answer; bench = after bench (done .link) (bench .table) } ⌝ }
 {
     let answer = done.answer;
@@ -80,33 +80,31 @@ fn after_send(bench: Bench, done: calls::Answered) -> Answered
 }
 
 // The bench after taking in.
-fn after_input(bench: Bench, done: AnsweredKept) -> Answered
-    ensures { λ r. ⌜ r ≡ record { answer = done .answered .answer; bench = after bench (done .answered .link) (done .table) } ⌝ }
+fn after_input(bench: Bench, done: TakenIn) -> Answered
+    ensures { λ r. ⌜ r ≡ record { answer = done .answer; bench = after bench (done .link) (done .table) } ⌝ }
 {
-    let answered = done.answered;
     let table = done.table;
-    let answer = answered.answer;
+    let answer = done.answer;
     Answered {
         answer,
-        bench: bench.with_table(answered.link, table),
+        bench: bench.with_table(done.link, table),
     }
 }
 
 // The bench after a flush.
-fn after_flush(bench: Bench, done: CountedKept) -> Counted
-    ensures { λ r. ⌜ r ≡ record { answer = done .counted .answer; bench = after bench (done .counted .link) (done .table) } ⌝ }
+fn after_flush(bench: Bench, done: FlushedOut) -> Counted
+    ensures { λ r. ⌜ r ≡ record { answer = done .answer; bench = after bench (done .link) (done .table) } ⌝ }
 {
-    let counted = done.counted;
     let table = done.table;
-    let answer = counted.answer;
+    let answer = done.answer;
     Counted {
         answer,
-        bench: bench.with_table(counted.link, table),
+        bench: bench.with_table(done.link, table),
     }
 }
 
 // The bench after a read.
-fn after_read(bench: Bench, done: calls::Counted) -> Counted
+fn after_read(bench: Bench, done: kept_calls::Counted) -> Counted
     ensures { λ r. ⌜ r ≡ record { answer = done .answer; bench = after bench (done .link) (bench .table) } ⌝ }
 {
     let answer = done.answer;
@@ -129,7 +127,7 @@ pub fn open(
     let r = front(bench.lent.receive, receive_pool);
     let a = front_acks(bench.lent.acks, acks);
     let table = bench.table;
-    let done = kept_local::open(
+    let done = kept_calls::open(
         bench.link,
         settings,
         &send_pool[..s],
@@ -154,7 +152,7 @@ pub fn send(
     let r = front(bench.lent.receive, receive_pool);
     let a = front_acks(bench.lent.acks, acks);
     let table = bench.table;
-    let done = kept_local::send(
+    let done = kept_calls::send(
         bench.link,
         &mut send_pool[..s],
         &receive_pool[..r],
@@ -179,7 +177,7 @@ pub fn input(
     let r = front(bench.lent.receive, receive_pool);
     let a = front_acks(bench.lent.acks, acks);
     let table = bench.table;
-    let done = kept_datagrams::input(
+    let done = kept_calls::input(
         bench.link,
         &send_pool[..s],
         &mut receive_pool[..r],
@@ -208,7 +206,7 @@ pub fn flush(
     let o = front(bench.lent.output, output);
     let l = front_lengths(bench.lent.lengths, lengths);
     let table = bench.table;
-    let done = kept_datagrams::flush(
+    let done = kept_calls::flush(
         bench.link,
         &send_pool[..s],
         &receive_pool[..r],
@@ -238,7 +236,7 @@ pub fn read(
     let a = front_acks(bench.lent.acks, acks);
     let b = front(room, buffer);
     let table = bench.table;
-    let done = kept_local::read(
+    let done = kept_calls::read(
         bench.link,
         &send_pool[..s],
         &receive_pool[..r],
@@ -257,7 +255,7 @@ pub fn size(bench: Bench, send_pool: &[u8], receive_pool: &[u8], acks: &[u32]) -
     let r = front(bench.lent.receive, receive_pool);
     let a = front_acks(bench.lent.acks, acks);
     let table = bench.table;
-    kept_ask::size(
+    kept_calls::size(
         bench.link,
         &send_pool[..s],
         &receive_pool[..r],
@@ -275,7 +273,7 @@ pub fn show<'a>(bench: Bench, send_pool: &[u8], receive_pool: &'a [u8], acks: &[
     let r = front(bench.lent.receive, receive_pool);
     let a = front_acks(bench.lent.acks, acks);
     let table = bench.table;
-    kept_ask::show(
+    kept_calls::show(
         bench.link,
         &send_pool[..s],
         &receive_pool[..r],

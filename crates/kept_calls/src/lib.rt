@@ -6,8 +6,8 @@ use control::Link;
 use protocol::Settings;
 use timing::Record;
 ghost use mathlib.Core.Path.{_≡_};
-ghost use lib.ListN.{length, take, drop};
-ghost use Rattle.read_core.specs.Places.{placeOf, PlaceIs};
+ghost use lib.ListN.{take, drop};
+ghost use Rattle.read_core.specs.Places.{ShowsPart};
 ghost use Rattle.promises.specs.Parts.{partsOf};
 ghost use Rattle.promises.specs.Outcomes.{shows};
 ghost use Rattle.promises.specs.Promises.{OpenPromise, SendPromise, InputPromise, FlushPromise, ReadPromise, SizePromise};
@@ -377,6 +377,49 @@ pub fn size(
     let records = kept_table::gather(table, lent, outstanding, flight.outstanding);
     let n = kept_table::lent_count(lent);
     read_core::size(
+        settings,
+        flight,
+        arrival,
+        clock,
+        records,
+        n,
+        &queued,
+        &outstanding,
+        &transmissions,
+        &ready,
+        &waiting,
+        &waiting_numbers,
+        send_pool,
+        receive_pool,
+        acks,
+    )
+}
+
+// The front segment's payload of the next message, the very part of the receive pool that holds it.
+pub fn show<'a>(
+    link: Link,
+    send_pool: &[u8],
+    receive_pool: &'a [u8],
+    table: [Record; 128],
+    lent: usize,
+    acks: &[u32],
+) -> &'a [u8]
+    ensures { λ r. ⌜ ShowsPart (shows link (partsOf (now («send_pool» .entry)) (now («receive_pool» .entry)) (take lent table)
+        (now (acks .entry)))) ((«receive_pool» .entry) .ptr) (now («receive_pool» .entry)) (r .ptr) (now r) ⌝ }
+{
+    let settings = link.settings;
+    let flight = link.flight;
+    let arrival = link.arrival;
+    let clock = link.clock;
+    let queued = link.queued;
+    let outstanding = link.outstanding;
+    let transmissions = link.transmissions;
+    let ready = link.ready;
+    let waiting = link.waiting;
+    let waiting_numbers = link.waiting_numbers;
+    let records = kept_table::gather(table, lent, outstanding, flight.outstanding);
+    let n = kept_table::lent_count(lent);
+    read_core::show(
         settings,
         flight,
         arrival,

@@ -12,7 +12,7 @@ use Rattle.protocol.specs.declared.Refusal.the-variants.{InvalidBlock}
 use Rattle.answers.specs.declared.Count.{Count}
 use Rattle.answers.specs.declared.Count.the-variants.{Of, Refused}
 use Rattle.timing.specs.declared.Record.{Record}
-use Rattle.block.specs.declared.Link.{Link}
+use Rattle.control.specs.declared.Link.{Link}
 use Rattle.notation.specs.Ascii.{ascii}
 use Rattle.notation.specs.Puts.{Put}
 use Rattle.transcript.specs.Lines.{bytesLine, refusalLine, answerLine, countLine, datagramLines, stateLine, heldLine}
