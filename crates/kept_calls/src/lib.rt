@@ -6,7 +6,7 @@ use control::Link;
 use protocol::Settings;
 use timing::Record;
 ghost use mathlib.Core.Path.{_≡_};
-ghost use lib.ListN.{take, drop};
+ghost use lib.ListN.{length, take, drop};
 ghost use Rattle.read_core.specs.Places.{ShowsPart};
 ghost use Rattle.promises.specs.Parts.{partsOf};
 ghost use Rattle.promises.specs.Outcomes.{shows};
@@ -36,6 +36,31 @@ pub struct FlushedOut {
     pub answer: Count,
     pub link: Link,
     pub table: [Record; 128],
+}
+
+// An array by value has its length, which the checker does not know of one that was lent.
+fn is_list(list: [u32; 128]) -> bool
+    ensures { λ r. ⌜ length list ≡ 128 ⌝ }
+{
+    true
+}
+
+fn is_words(list: [u32; 32]) -> bool
+    ensures { λ r. ⌜ length list ≡ 32 ⌝ }
+{
+    true
+}
+
+fn is_counts(list: [u8; 32]) -> bool
+    ensures { λ r. ⌜ length list ≡ 32 ⌝ }
+{
+    true
+}
+
+fn is_records(list: [Record; 32]) -> bool
+    ensures { λ r. ⌜ length list ≡ 32 ⌝ }
+{
+    true
 }
 
 // Opening a link with these settings: a refused opening leaves the old block.
@@ -195,6 +220,12 @@ pub fn input(
     let receiving = done.arrival;
     let words = done.words;
     let left = done.records;
+    let _outstanding = is_words(outstanding);
+    let _transmissions = is_counts(transmissions);
+    let _ready = is_list(ready);
+    let _waiting = is_list(waiting);
+    let _waiting_numbers = is_list(waiting_numbers);
+    let _left = is_records(left);
     let next = kept_table::scatter(table, lent, words, done.changed, left);
     let after = Link {
         settings,
@@ -270,6 +301,10 @@ pub fn flush(
     let moved = done.clock;
     let words = done.words;
     let left = done.records;
+    let _queued = is_list(queued);
+    let _outstanding = is_words(outstanding);
+    let _transmissions = is_counts(transmissions);
+    let _left = is_records(left);
     let next = kept_table::scatter(table, lent, words, done.changed, left);
     let after = Link {
         settings,
