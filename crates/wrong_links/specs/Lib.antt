@@ -1,3 +1,4 @@
 pub mod Standing
 pub mod StandingLaws
 pub mod Session
+pub mod Tried

@@ -2,7 +2,7 @@
 -- datagrams in and reads both messages. The second datagram has two segments, the last of the first message and the second message.
 -- Assumes nothing.
 use mathlib.Core.Path.{_≡_, refl}
-use mathlib.Core.Bool.{true}
+use mathlib.Core.Bool.{Bool, true, false}
 use mathlib.Core.List.{List, [], _∷_, _++_, map}
 use Prim.Native.Nat.{ℕ}
 use lib.ListN.{length, getD, replicate}
@@ -33,6 +33,7 @@ use Rattle.session.specs.Input as input-of
 use Rattle.session.specs.Input.{Took, sampledBy, heardBySending, pushed, heardByReceiving, allBySending, allByReceiving, ackNumbers, furthest, skipped, applied, input}
 use Rattle.session.specs.Reading as reading-of
 use Rattle.session.specs.Reading.{Reads, joinedIn, message, lengthOf, messageSize, reading, telling, showing}
+use Rattle.calls.specs.Promises.{shown}
 use Rattle.wrong_links.specs.Standing.{Known, Passes, lengthsKnown}
 
 -- ---- both ends at first
@@ -54,6 +55,10 @@ fresh = record { state = opened settings; sendPool = sendPool; receivePool = rec
 abbrev pub resultOr : {A : Type 0} → A → Outcome A → A
 resultOr x (refused r) = x
 resultOr x (done y) = y
+
+abbrev pub isDone : {A : Type 0} → Outcome A → Bool
+isDone (refused r) = false
+isDone (done y) = true
 
 -- ---- the sender
 
@@ -138,19 +143,20 @@ pub record AllPass : Type 0 where
 -- each call's outcome
 pub record Computed : Type 0 where
   pub opens : opening settings (lengthsKnown fresh) ≡ done (fresh .state)
-  pub sends-first : sending (fresh .state) (fresh .sendPool) first ≡ done (sends fresh first)
-  pub sends-second : sending (oneSent .state) (oneSent .sendPool) second ≡ done (sends oneSent second)
+  pub sends-first : isDone (sending (fresh .state) (fresh .sendPool) first) ≡ true
+  pub sends-second : isDone (sending (oneSent .state) (oneSent .sendPool) second) ≡ true
+  pub datagram-count : length (flush .datagrams) ≡ 2
   pub datagram-sizes : map (λ (d : List ℕ). length d) datagrams ≡ 50 ∷ 50 ∷ []
-  pub takes-acks : input (flushed .state) (flushed .receivePool) acks ≡ done (takes flushed acks)
+  pub takes-acks : isDone (input (flushed .state) (flushed .receivePool) acks) ≡ true
   pub left-outstanding : map (λ (x : Sent). x .record .number) (acknowledged .state .sending .outstanding) ≡ 2 ∷ []
-  pub takes-first : input (fresh .state) (fresh .receivePool) (getD datagrams 0 []) ≡ done (takes fresh (getD datagrams 0 []))
+  pub takes-first : isDone (input (fresh .state) (fresh .receivePool) (getD datagrams 0 [])) ≡ true
   pub size-none : telling (oneHeard .state) ≡ refused NoMessage
-  pub takes-second : input (oneHeard .state) (oneHeard .receivePool) (getD datagrams 1 []) ≡ done (takes oneHeard (getD datagrams 1 []))
+  pub takes-second : isDone (input (oneHeard .state) (oneHeard .receivePool) (getD datagrams 1 [])) ≡ true
   pub size-first : telling (bothHeard .state) ≡ done 27
-  pub shows-first : showing (bothHeard .state) ≡ done (record { start = 0; count = 26 })
-  pub reads-first : reading (bothHeard .state) (bothHeard .receivePool) 30 ≡ done (reads bothHeard)
+  pub shown-first : shown (showing (bothHeard .state)) (bothHeard .receivePool) ≡ replicate 26 7
+  pub reads-first : isDone (reading (bothHeard .state) (bothHeard .receivePool) 30) ≡ true
   pub message-first : reads bothHeard .bytes ≡ first
-  pub reads-second : reading (oneRead .state) (oneRead .receivePool) 30 ≡ done (reads oneRead)
+  pub reads-second : isDone (reading (oneRead .state) (oneRead .receivePool) 30) ≡ true
   pub message-second : reads oneRead .bytes ≡ second
   pub reads-none : reading (bothRead .state) (bothRead .receivePool) 30 ≡ refused NoMessage
 
@@ -173,6 +179,7 @@ computed = record {
   opens = refl;
   sends-first = refl;
   sends-second = refl;
+  datagram-count = refl;
   datagram-sizes = refl;
   takes-acks = refl;
   left-outstanding = refl;
@@ -180,7 +187,7 @@ computed = record {
   size-none = refl;
   takes-second = refl;
   size-first = refl;
-  shows-first = refl;
+  shown-first = refl;
   reads-first = refl;
   message-first = refl;
   reads-second = refl;

@@ -30,7 +30,7 @@ use Rattle.answers.specs.declared.Count.the-variants as count
 use Rattle.calls.specs.Parts.{Parts, lengthsOf, isMade}
 use Rattle.calls.specs.Outcomes.{sendsWith, takesInWith, flushesWith, readsWith, tellsWith, showsWith, opens, sends, takesIn, flushes, reads, tells, shows}
 use Rattle.calls.specs.Answers.{Accepts, Counts, countOutcome}
-use Rattle.calls.specs.Promises.{OpenPromise, OpenLeaves, SendPromise, SendLeaves, InputPromise, InputLeaves, FlushPromise, FlushLeaves, ReadPromise, ReadLeaves, SizePromise, ShowPromise, shown}
+use Rattle.calls.specs.Promises.{OpenPromise, OpenLeaves, SendPromise, SendLeaves, InputPromise, InputLeaves, FlushPromise, FlushLeaves, ReadPromise, NoRead, ReadLeaves, SizePromise, ShowPromise, shown}
 use Rattle.wrong_links.specs.Standing.{Known, Lends, At, Passes, lengthsKnown}
 
 -- ---- opening
@@ -86,34 +86,36 @@ module _ (l : Link) (p : Parts) (k : Known) (at : At l p k) (passes : Passes k) 
       → SendPromise m l p a l′ p′
       → (a ≡ answer.Accepted) × At l′ p′ (record { state = x .state; sendPool = x .pool; receivePool = k .receivePool })
   send-goes m a l′ p′ x e h =
-      let r = subst (λ (o : Outcome Sends). Accepts a o × SendLeaves o l l′ p p′) (sends-known m ∙ e) (h .answer, h .leaves) in
-      (r .0,
-      record {
-        stands = r .1 .stands;
-        lends = record {
-          sendPool = r .1 .sendPool;
-          receivePool = r .1 .receivePool ∙ at .lends .receivePool;
-          table = ap length (r .1 .table) ∙ at .lends .table;
-          acks = ap length (r .1 .acks) ∙ at .lends .acks;
-        };
-      })
+      let r = subst (λ (o : Outcome Sends). Accepts a o × SendLeaves o l l′ p p′) (sends-known m ∙ e) (h .answer, h .leaves) in (
+        r .0,
+        record {
+          stands = r .1 .stands;
+          lends = record {
+            sendPool = r .1 .sendPool;
+            receivePool = r .1 .receivePool ∙ at .lends .receivePool;
+            table = ap length (r .1 .table) ∙ at .lends .table;
+            acks = ap length (r .1 .acks) ∙ at .lends .acks;
+          };
+        },
+      )
 
   -- a datagram that the definition accepts is accepted and taken in, by both halves
   pub input-goes : (d : List ℕ) (a : Answer) (l′ : Link) (p′ : Parts) (x : Took) → input (k .state) (k .receivePool) d ≡ done x
       → InputPromise d l p a l′ p′
       → (a ≡ answer.Accepted) × At l′ p′ (record { state = x .state; sendPool = k .sendPool; receivePool = x .pool })
   input-goes d a l′ p′ x e h =
-      let r = subst (λ (o : Outcome Took). Accepts a o × InputLeaves o l l′ p p′) (takes-known d ∙ e) (h .answer, h .leaves) in
-      (r .0,
-      record {
-        stands = r .1 .stands;
-        lends = record {
-          sendPool = r .1 .sendPool ∙ at .lends .sendPool;
-          receivePool = r .1 .receivePool;
-          table = ap length (r .1 .table) ∙ scattered-length (p .table) _ _ ∙ at .lends .table;
-          acks = r .1 .ackLength ∙ at .lends .acks;
-        };
-      })
+      let r = subst (λ (o : Outcome Took). Accepts a o × InputLeaves o l l′ p p′) (takes-known d ∙ e) (h .answer, h .leaves) in (
+        r .0,
+        record {
+          stands = r .1 .stands;
+          lends = record {
+            sendPool = r .1 .sendPool ∙ at .lends .sendPool;
+            receivePool = r .1 .receivePool;
+            table = ap length (r .1 .table) ∙ scattered-length (p .table) _ _ ∙ at .lends .table;
+            acks = r .1 .ackLength ∙ at .lends .acks;
+          };
+        },
+      )
 
   -- a flush answers the number of the definition's datagrams, and these stand in its output
   pub flush-goes : (t : ℕ) (out lengths : List ℕ) (a : Count) (l′ : Link) (p′ : Parts) (out′ lengths′ : List ℕ) (x : Flushed)
@@ -127,18 +129,19 @@ module _ (l : Link) (p : Parts) (k : Known) (at : At l p k) (passes : Passes k) 
   flush-goes t out lengths a l′ p′ out′ lengths′ x o n e h =
       let r =
       subst (λ (o : Outcome Flushed). Counts (λ (y : Flushed). length (y .datagrams)) a o × FlushLeaves o l l′ p p′ out lengths out′ lengths′)
-      (flushes-known (length out) (length lengths) t o n ∙ ap done e) (h .answer, h .leaves) in
-      (r .0,
-      record {
-        stands = r .1 .stands;
-        lends = record {
-          sendPool = r .1 .sendPool ∙ at .lends .sendPool;
-          receivePool = r .1 .receivePool ∙ at .lends .receivePool;
-          table = ap length (r .1 .table) ∙ scattered-length (p .table) _ _ ∙ at .lends .table;
-          acks = ap length (r .1 .acks) ∙ at .lends .acks;
-        };
-      },
-      r .1 .output)
+      (flushes-known (length out) (length lengths) t o n ∙ ap done e) (h .answer, h .leaves) in (
+        r .0,
+        record {
+          stands = r .1 .stands;
+          lends = record {
+            sendPool = r .1 .sendPool ∙ at .lends .sendPool;
+            receivePool = r .1 .receivePool ∙ at .lends .receivePool;
+            table = ap length (r .1 .table) ∙ scattered-length (p .table) _ _ ∙ at .lends .table;
+            acks = ap length (r .1 .acks) ∙ at .lends .acks;
+          };
+        },
+        r .1 .output,
+      )
 
   -- a read answers the length of the definition's message, and this stands in its buffer
   pub read-goes : (buffer : List ℕ) (a : Count) (l′ : Link) (p′ : Parts) (buffer′ : List ℕ) (x : Reads)
@@ -152,6 +155,15 @@ module _ (l : Link) (p : Parts) (k : Known) (at : At l p k) (passes : Passes k) 
       subst (λ (o : Outcome Reads). Counts (λ (y : Reads). length (y .bytes)) a o × ReadLeaves o l l′ p p′ buffer buffer′)
       (reads-known (length buffer) ∙ e) (h .answer, h .leaves) in
       (r .0, record { stands = r .1 .stands; lends = rw (r .1 .parts) (at .lends) }, r .1 .bytes)
+
+  -- one that the definition refuses is refused with its refusal, and changes nothing
+  pub read-refused : (buffer : List ℕ) (a : Count) (l′ : Link) (p′ : Parts) (buffer′ : List ℕ) (r : Refusal)
+      → reading (k .state) (k .receivePool) (length buffer) ≡ refused r
+      → ReadPromise l p buffer a l′ p′ buffer′
+      → (a ≡ count.Refused r) × NoRead l l′ p p′ buffer buffer′
+  read-refused buffer a l′ p′ buffer′ r e h =
+      subst (λ (o : Outcome Reads). Counts (λ (y : Reads). length (y .bytes)) a o × ReadLeaves o l l′ p p′ buffer buffer′)
+      (reads-known (length buffer) ∙ e) (h .answer, h .leaves)
 
   pub size-goes : (a : Count) → SizePromise l p a → countOutcome a ≡ telling (k .state)
   size-goes a h = h .answer ∙ tells-known
