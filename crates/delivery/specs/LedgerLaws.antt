@@ -40,7 +40,7 @@ use Rattle.delivery.specs.SendingTakesIn.{skip-held}
 use Rattle.delivery.specs.SendingSends.{withQueue}
 use Rattle.delivery.specs.SendingFlushes.{flushed-held, count-few, count-room}
 use Rattle.delivery.specs.SendingStays.{SendingInOrder, half-in, sending-stays, sending-always, opened-in-order}
-use Rattle.delivery.specs.Ledger.{usedBelow, usedSlots, fragmentsAccepted, acknowledges, acknowledgedByEach, acknowledgedBy, segmentsAcknowledged, Ledger}
+use Rattle.delivery.specs.Ledger.{usedBelow, usedSlots, acknowledges, acknowledgedByEach, acknowledgedBy, segmentsAcknowledged, Ledger}
 
 -- ---- slots are held once, so there are as many as segments
 
@@ -269,10 +269,8 @@ unfolding opened
 opened-held c = refl
 
 module _ (c : Settings) (taken : Taken c) (s : Station) (p : Opened c s) (calls : List Call) (k : All CallFits calls) (q : Passing s calls) where
-  -- used send slots and the segments acknowledged are the fragments accepted
-  pub ledger-sum : usedSlots (after s calls .state .sending) + segmentsAcknowledged s calls ≡ fragmentsAccepted s calls
-  unfolding fragmentsAccepted
-  ledger-sum =
+  pub ledger : Ledger c (history s calls) (after s calls .state .sending) (segmentsAcknowledged s calls)
+  ledger =
       let o : SendingInOrder c s = opened-in-order c s p in
       let after-all : SendingInOrder c (after s calls) = sending-always c (taken .range) calls s k q o in
       omega (
@@ -280,9 +278,4 @@ module _ (c : Settings) (taken : Taken c) (s : Station) (p : Opened c s) (calls 
         used-held c (after s calls .state .sending) (half-in c (after s calls) after-all),
         all-balance c (taken .range) calls s k q o,
         ap (λ (x : State). held (x .sending)) (p .state) ∙ opened-held c,
-        ap (λ (x : Settings). segmentsOf (mss x) (acceptedList (history s calls))) (o .settings),
       )
-
-  -- The ledger, word for word: used send slots equal the fragments accepted less the segments acknowledged
-  pub ledger : Ledger s calls
-  ledger = omega (arith, ledger-sum)

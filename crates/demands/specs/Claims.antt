@@ -3,16 +3,14 @@
 use mathlib.Core.Path.{_≡_}
 use mathlib.Core.Logic.{_↔_}
 use mathlib.Core.List.{List, map}
-use Prim.Native.Nat.{ℕ, _+_, _-_, _<_}
-use Rattle.protocol.specs.Ranges.{mss}
+use Prim.Native.Nat.{ℕ, _+_, _<_}
 use Rattle.protocol.specs.declared.Settings.{Settings}
 use Rattle.protocol.specs.declared.Refusal.the-variants.{ShortPart, InvalidBlock}
-use Rattle.session.specs.Calls.{Call, Answer, Event, acceptedList, readAnswers, messagesRead}
-use Rattle.delivery.specs.PlainReceiver.{Found, atFirst, segmentsOf, plainAfter, plainAnswers}
+use Rattle.session.specs.Calls.{Call, Answer, Event, readAnswers, messagesRead}
+use Rattle.delivery.specs.PlainReceiver.{Found, atFirst, plainAfter, plainAnswers}
 use Rattle.delivery.specs.Hearing.{seen, found, Begins, Missing}
-use Rattle.delivery.specs.Ledger.{usedSlots, acknowledgedBy}
+use Rattle.delivery.specs.Ledger.{acknowledgedBy}
 use Rattle.answers.specs.declared.Count.the-variants as count
-use Rattle.calls.specs.Parts.{stateIn}
 use Rattle.calls.specs.Promises.{SizePromise}
 use Rattle.demands.specs.Steps.{Endpoint, Called, Runs, start, next}
 use Rattle.demands.specs.Stations.{stationOf}
@@ -42,10 +40,6 @@ Each P (next e x a e′ h r) = P e x a × Each P r
 unfoldable pub segmentsAcknowledged : {e e′ : Endpoint} {xs : List Call} {events : List Event} → Runs e xs events e′ → ℕ
 segmentsAcknowledged start = 0
 segmentsAcknowledged (next e x a e′ h r) = acknowledgedBy (stationOf e) x a + segmentsAcknowledged r
-
--- used send slots equal the fragments accepted less the segments acknowledged
-abbrev pub Ledger : Settings → List Event → Endpoint → ℕ → Type 0
-Ledger c events e acknowledged = usedSlots (stateIn (e .link) (e .parts) .sending) ≡ segmentsOf (mss c) (acceptedList events) - acknowledged
 
 -- ---- demand 3
 
