@@ -12,7 +12,8 @@ use Rattle.sizes.specs.declared.Lengths.{Lengths}
 use Rattle.session.specs.Valid.{valid, sendingValid, receivingValid, probeFits}
 use Rattle.session.specs.Calls.{Station, Call, Lent, own, lengthsOf, longEnough, after, step}
 use Rattle.session.specs.Decides.{All}
-use Rattle.delivery.specs.Hearing.{Opened, Taken, CallFits}
+use Rattle.delivery.specs.Hearing.{Taken, CallFits}
+use Rattle.delivery.specs.Stations.{Opened}
 use Rattle.delivery.specs.Passing.{Passing, step-own}
 use Rattle.delivery.specs.SendingStays.{SendingInOrder, sending-stays, opened-in-order}
 use Rattle.delivery.specs.ReceivingLaws.{ReceivingInOrder, receiving-stays, opened-receiving, flush-enough, own-lent, own-lengths}

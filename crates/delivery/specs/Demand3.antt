@@ -15,7 +15,9 @@ use Prim.Native.Nat.{ℕ}
 use Rattle.protocol.specs.declared.Settings.{Settings}
 use Rattle.session.specs.Calls.{Station, Call, history, acceptedList, datagramsBy}
 use Rattle.session.specs.Decides.{All}
-use Rattle.delivery.specs.Hearing.{Opened, Taken, CallFits, FewPushes, FedWith, HearsMore, Delivered}
+use Rattle.delivery.specs.Hearing.{Taken, CallFits, FewPushes, FedWith, HearsMore}
+use Rattle.delivery.specs.Claims.{Delivered}
+use Rattle.delivery.specs.Stations.{Opened, observed}
 use Rattle.delivery.specs.SentGenuine.{sent-genuine}
 use Rattle.delivery.specs.AlwaysValid.{always-valid}
 use Rattle.delivery.specs.Receiving.{FedReceiver, fed-genuine, delivered-by-receivers}
@@ -27,7 +29,7 @@ pub demand-3 : (c : Settings) → Taken c
     → FedWith (datagramsBy (history sender calls)) firsts
     → FedWith (datagramsBy (history sender calls)) seconds
     → HearsMore firsts seconds
-    → Delivered c (acceptedList (history sender calls)) first second firsts seconds
+    → Delivered c (acceptedList (history sender calls)) (observed first firsts) (observed second seconds)
 demand-3 c taken sender first second o o₁ o₂ calls firsts seconds fits fits₁ fits₂ few fed₁ fed₂ more =
     let a = always-valid c taken sender o calls fits in
     let a₁ = always-valid c taken first o₁ firsts fits₁ in

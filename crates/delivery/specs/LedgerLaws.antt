@@ -29,7 +29,8 @@ use Rattle.session.specs.Calls.{Station, Call, Answer, Stepped, Event, own, his
 use Rattle.session.specs.Decides.{All}
 use Rattle.session.specs.Once.{Distinct}
 use Rattle.delivery.specs.PlainReceiver.{segmentsOf}
-use Rattle.delivery.specs.Hearing.{Opened, Taken, CallFits}
+use Rattle.delivery.specs.Hearing.{Taken, CallFits}
+use Rattle.delivery.specs.Stations.{Opened}
 use Rattle.delivery.specs.Passing.{Passing, step-own}
 use Rattle.delivery.specs.PassingLaws.{history-first, after-first}
 use Rattle.delivery.specs.MapLaws.{map-kept}
