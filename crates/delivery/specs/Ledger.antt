@@ -59,9 +59,9 @@ acknowledgedBy s (Call.flush t) a = 0
 acknowledgedBy s (Call.read room) a = 0
 
 -- by these calls: each gets the station as the last one left it
-unfoldable pub segmentsAcknowledged : Station → List Call → ℕ
-segmentsAcknowledged s [] = 0
-segmentsAcknowledged s (x ∷ xs) = acknowledgedBy s x (step s x .answer) + segmentsAcknowledged (step s x .station) xs
+unfoldable pub stationAcknowledged : Station → List Call → ℕ
+stationAcknowledged s [] = 0
+stationAcknowledged s (x ∷ xs) = acknowledgedBy s x (step s x .answer) + stationAcknowledged (step s x .station) xs
 
 -- ---- the ledger
 

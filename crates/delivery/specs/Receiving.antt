@@ -124,9 +124,10 @@ module _ (c : Settings) (taken : Taken c) (accepted : List (List ℕ)) where
         → (seen a ≡ found Found.nothing) ↔ Missing c accepted calls
     next-nothing v room a e =
         let p : Plain = plainAfter c accepted atFirst calls in
-        let q : seen a ≡ found (plainAnswer c accepted p room) = ap seen (sym e) ∙ next-answer v room in
-        ((λ h. let n : found (plainAnswer c accepted p room) ≡ found Found.nothing = sym q ∙ h in unheard-missing c accepted calls (nothing-unheard c accepted p room (cc))),
-        (λ m. q ∙ ap found (unheard-nothing c accepted p room (missing-unheard c accepted calls m))))
+        let q : seen a ≡ found (plainAnswer c accepted p room) = ap seen (sym e) ∙ next-answer v room in (
+          (λ h. let n : found (plainAnswer c accepted p room) ≡ found Found.nothing = sym q ∙ h in unheard-missing c accepted calls (nothing-unheard c accepted p room (cc))),
+          (λ m. q ∙ ap found (unheard-nothing c accepted p room (missing-unheard c accepted calls m))),
+        )
 
     -- EACH READ ANSWERS AS THE PLAIN RECEIVER'S
     pub receives : valid (after s calls .state) ≡ true → Receives c accepted (observed s calls)

@@ -13,7 +13,7 @@ use Rattle.session.specs.Decides.{All}
 use Rattle.calls.specs.Parts.{stateIn}
 use Rattle.delivery.specs.PlainReceiver.{segmentsOf}
 use Rattle.delivery.specs.Hearing.{CallFits}
-use Rattle.delivery.specs.AlwaysValid.{always-valid}
+use Rattle.delivery.specs.AlwaysValid.{station-always-valid}
 use Rattle.delivery.specs.Ledger as station
 use Rattle.delivery.specs.Ledger.{usedSlots, Ledger}
 use Rattle.delivery.specs.LedgerLaws as station-laws
@@ -25,8 +25,8 @@ use Rattle.demands.specs.RunLaws.{opens-station, opens-kept, taken, sinc
 
 -- what the calls acknowledge is what the station's do
 acknowledged-same : (c : Settings) → inRange c ≡ true → c .conv < 2 ^ 32 → {e e′ : Endpoint} {xs : List Call} {events : List Event} (r : Runs e xs events e′) → All CallFits xs → Kept c e
-    → segmentsAcknowledged r ≡ station.segmentsAcknowledged (stationOf e) xs
-unfolding segmentsAcknowledged station.segmentsAcknowledged
+    → segmentsAcknowledged r ≡ station.stationAcknowledged (stationOf e) xs
+unfolding segmentsAcknowledged station.stationAcknowledged
 acknowledged-same c range conv start fits k = refl
 acknowledged-same c range conv (next e x a e′ h r) fits k =
     rw (step-call c range conv e k x a e′ (fits .0) h, acknowledged-same c range conv r (fits .1) (kept-call c range conv e k x a e′ (fits .0) h))
@@ -38,7 +38,7 @@ module _ (c : Settings) (calls : List Call) (events : List Event) (e : Endpoint)
       let o = opens-station c (h .first) (h .opens) in
       let f = since-opening h in
       rw (acknowledged-same c (taken h .range) (h .conv) (h .runs) (h .fits) (opens-kept c (h .first) (h .opens)), f .events-are, ap (λ (x : Station). x .state .sending) (f .now))
-      (station-laws.ledger c (taken h) s o calls (h .fits) (always-valid c (taken h) s o calls (h .fits) .0))
+      (station-laws.station-ledger c (taken h) s o calls (h .fits) (station-always-valid c (taken h) s o calls (h .fits) .0))
 
   -- word for word: used send slots equal the fragments accepted less the segments acknowledged
   pub ledger-less : usedSlots (stateIn (e .link) (e .parts) .sending) ≡ segmentsOf (mss c) (acceptedList events) - segmentsAcknowledged (h .runs)

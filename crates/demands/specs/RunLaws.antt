@@ -21,7 +21,8 @@ use Rattle.answers.specs.declared.Answer.the-variants as answer
 use Rattle.calls.specs.Parts.{Parts, lengthsOf, stateIn}
 use Rattle.calls.specs.Answers.{Accepts}
 use Rattle.calls.specs.Promises.{OpenLeaves}
-use Rattle.delivery.specs.Hearing.{Opened, Taken, CallFits}
+use Rattle.delivery.specs.Hearing.{Taken, CallFits}
+use Rattle.delivery.specs.Stations.{Opened}
 use Rattle.delivery.specs.AlwaysValid.{opened-all}
 use Rattle.demands.specs.Steps.{Endpoint, Runs, start, next, Opens, SinceOpening}
 use Rattle.demands.specs.Stations.{stationOf}

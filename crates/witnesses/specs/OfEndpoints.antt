@@ -39,7 +39,9 @@ use Rattle.calls.specs.Outcomes.{sendsWith, takesInWith, flushesWith, readsWith
 use Rattle.delivery.specs.PlainReceiver.{pushNumbers, pushesIn}
 use Rattle.delivery.specs.Hearing.{FewPushes, FedWith, HearsMore}
 use Rattle.demands.specs.Steps.{Endpoint, cutBy, Called, start, next, Opens, SinceOpening}
-use Rattle.demands.specs.Demand3.{Delivered, demand-3}
+use Rattle.delivery.specs.Claims.{Delivered}
+use Rattle.demands.specs.Claims.{observed}
+use Rattle.demands.specs.Demand3.{demand-3}
 use Rattle.witnesses.specs.Blocks.{linkOf, entriesOf, afterSend, afterInput, afterFlush, afterReading}
 use Rattle.witnesses.specs.OfStations.{bytes-by, c}
 
@@ -197,7 +199,7 @@ second-runs = record {
 }
 
 -- demand 3 says something of them
-pub holds : Delivered c (acceptedList events) firsts seconds heard₁ heard₂ fresh finished
+pub holds : Delivered c (acceptedList events) (observed firsts heard₁ fresh) (observed seconds heard₂ finished)
 holds =
     demand-3 c calls firsts seconds events heard₁ heard₂ flushed fresh finished sender-runs first-runs second-runs (met .few) tt (met .fed)
     (HearsMore.takes-more (HearsMore.both-read HearsMore.start))

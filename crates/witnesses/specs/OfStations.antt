@@ -33,8 +33,10 @@ use Rattle.session.specs.Opening.{opened}
 use Rattle.session.specs.Calls.{Station, Call, Answer, step, history, after, acceptedList, datagramsBy, readAnswers}
 use Rattle.session.specs.Decides.{All, and-parts}
 use Rattle.delivery.specs.PlainReceiver.{pushNumbers, pushesIn}
-use Rattle.delivery.specs.Hearing.{Opened, Taken, CallFits, FewPushes, FedWith, HearsMore, Delivered}
-use Rattle.delivery.specs.Demand3.{demand-3}
+use Rattle.delivery.specs.Hearing.{CallFits, FewPushes, FedWith, HearsMore}
+use Rattle.delivery.specs.Claims.{Delivered}
+use Rattle.delivery.specs.Stations.{Opened, observed}
+use Rattle.delivery.specs.Demand3.{station-demand-3}
 
 -- ---- bytes, by a test
 
@@ -118,9 +120,9 @@ met = record {
 }
 
 -- demand 3 says something of them
-pub holds : Delivered c (acceptedList (history station calls)) station station firsts seconds
+pub holds : Delivered c (acceptedList (history station calls)) (observed station firsts) (observed station seconds)
 holds =
-    demand-3 c (record { range = refl; conv = omega arith }) station station station (met .opens) (met .opens) (met .opens) calls firsts seconds (met .fits) (met .fits-first)
+    station-demand-3 c (record { range = refl; conv = omega arith }) station station station (met .opens) (met .opens) (met .opens) calls firsts seconds (met .fits) (met .fits-first)
     (met .fits-second)
     (met .few)
     (met .fed-first)
