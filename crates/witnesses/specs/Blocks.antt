@@ -1,12 +1,11 @@
 -- A control block for any state that it has room for, and what an accepted call leaves. Definitions.
 -- Assumes nothing.
 use mathlib.Core.Bool.{Bool, cond}
-use mathlib.Core.List.{List, [], _∷_, map}
+use mathlib.Core.List.{map}
 use Prim.Native.Nat.{ℕ}
 use lib.ListN.{length}
-use lib.Seq.{sets}
 use Rattle.lists.specs.Joining.{withoutRecord}
-use Rattle.session.specs.State.{State, Ack, Outcome, refused, done}
+use Rattle.session.specs.State.{State, Outcome, refused, done}
 use Rattle.session.specs.Sending.{Sends}
 use Rattle.session.specs.Input.{Took}
 use Rattle.session.specs.Flushing.{Flushed}
@@ -14,6 +13,7 @@ use Rattle.session.specs.Reading.{Reads}
 use Rattle.block.specs.declared.Link.{Link}
 use Rattle.calls.specs.Promises.{tableOf}
 use Rattle.demands.specs.Steps.{Endpoint}
+use Rattle.demands.specs.Told.{acksAfter}
 
 abbrev flag : Bool → ℕ
 flag b = cond b 1 0
@@ -44,11 +44,6 @@ linkOf s =
       dead = flag (s .dead);
     }
 
--- the entries of an ack list
-unfoldable pub entriesOf : List Ack → List ℕ
-entriesOf [] = []
-entriesOf (a ∷ l) = a .sn ∷ a .ts ∷ entriesOf l
-
 -- ---- what each call leaves
 
 abbrev pub afterSend : Endpoint → Outcome Sends → Endpoint
@@ -65,7 +60,7 @@ afterInput e (done x) =
         sendPool = e .parts .sendPool;
         receivePool = x .pool;
         table = tableOf (e .parts .table) (x .state);
-        acks = sets (e .parts .acks) 0 (entriesOf (x .state .receiving .acks));
+        acks = acksAfter (done x) (e .parts .acks);
       };
     }
 
