@@ -14,7 +14,7 @@ use Rattle.protocol.specs.Protocol.{receiveWindow}
 use Rattle.protocol.specs.declared.Settings.{Settings}
 use Rattle.session.specs.Slots.{occurs}
 use Rattle.session.specs.Calls.{Call}
-use Rattle.delivery.specs.PlainReceiver.{Plain, atFirst, Found, pushesIn, UnheardFrom, Unheard, nextExpected, hear, feed, plainAnswer, leave, afterCall, plainAfter}
+use Rattle.delivery.specs.PlainReceiver.{Plain, atFirst, Found, pushesIn, UnheardFrom, Unheard, nextExpected, hear, feed, plainAnswer, leave, plainAfter}
 use Rattle.delivery.specs.Claims.{FedIn, FedBelow, MissingFrom, Missing}
 
 absurd-bool : {A : Type 0} → false ≡ true → A

@@ -2,8 +2,8 @@
 -- Assumes nothing.
 use mathlib.Core.Path.{_≡_, refl, sym, ap, _∙_}
 use mathlib.Core.Bool.{Bool, true, false, cond, _&&_}
-use mathlib.Core.List.{List, [], _∷_, _++_}
-use Prim.Native.Nat.{ℕ, zero, suc, _+_, _-_, _*_, _≤_, _<_}
+use mathlib.Core.List.{List, [], _∷_}
+use Prim.Native.Nat.{ℕ, zero, suc, _+_, _*_, _≤_, _<_}
 use native.Mathlib.Nat.{mul-le-mul-right}
 use native.Mathlib.Omega.{arith}
 use lib.Dec.{leb}
@@ -28,7 +28,7 @@ use Rattle.answers.specs.declared.Answer.{Answer}
 use Rattle.answers.specs.declared.Count.{Count}
 use Rattle.answers.specs.declared.Count.the-variants as count
 use Rattle.calls.specs.Parts.{Parts, lengthsOf, stateIn, isMade}
-use Rattle.calls.specs.Outcomes.{checked, takesInWith, readsWith, tellsWith, takesIn, reads, tells}
+use Rattle.calls.specs.Outcomes.{checked, takesInWith, readsWith, tellsWith, takesIn}
 use Rattle.calls.specs.Answers.{Counts, countOutcome}
 use Rattle.calls.specs.Promises.{TookIn, InputPromise, InputLeaves, ReadPromise, SizePromise}
 use Rattle.demands.specs.Told.{readAs, entriesOf, acksAfter}

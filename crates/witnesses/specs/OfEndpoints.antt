@@ -1,7 +1,7 @@
 -- The premises of demand 3 can be met by steps that keep the promises of the public calls: a sender, a receiver that hears nothing and gets 9, and one
 -- that hears the datagram and reads the message. Proved by computing.
 -- Assumes nothing.
-use mathlib.Core.Path.{_≡_, refl}
+use mathlib.Core.Path.{refl}
 use mathlib.Core.List.{List, [], _∷_, List·Memᴰ·head}
 use Prim.Native.Nat.{ℕ}
 use native.Mathlib.Omega.{arith}

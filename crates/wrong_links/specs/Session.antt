@@ -14,7 +14,7 @@ use Rattle.wire.specs.LittleEndian.{bytesOf, numberAt}
 use Rattle.wire.specs.declared.Header.{Header}
 use Rattle.wire.specs.Headers.{encode, front, back, decode}
 use Rattle.datagram.specs.Datagrams.{parse, walk, tail, verdict, segmentOf}
-use Rattle.timing.specs.Probes.{stopped, longerWait, nextClock}
+use Rattle.timing.specs.Probes.{longerWait, nextClock}
 use Rattle.timing.specs.RoundTrips.{nextSmoothed, nextVariation, leastTimeout, timeoutOf, sampled}
 use Rattle.retransmission.specs.Transmissions.{firstDue, growth, longerTimeout, isSkipped, transmission}
 use Rattle.lists.specs.Orders.{insert, isHeld, ascending}
@@ -23,7 +23,7 @@ use Rattle.lists.specs.declared.Sent.{Sent}
 use Rattle.lists.specs.Acknowledging.{select, firstNumberOr, skipBefore}
 use Rattle.sizes.specs.Sizes.{enough}
 use Rattle.session.specs.Slots.{occurs, lowestFrom, lowestFree}
-use Rattle.session.specs.State.{State, Outcome, refused, done}
+use Rattle.session.specs.State.{Outcome, refused, done}
 use Rattle.session.specs.Valid.{numbersFit, waitingFits, settled, sendingValid, receivingValid, valid}
 use Rattle.session.specs.Opening.{opened, opening}
 use Rattle.session.specs.Cutting.{fragmentCount, pieces, cut}

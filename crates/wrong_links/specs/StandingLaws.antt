@@ -1,9 +1,9 @@
 -- What the promise of a call says of a block at a known state: the answer, and the state that it is at afterwards.
 -- Assumes nothing.
-use mathlib.Core.Path.{_≡_, refl, sym, ap, _∙_, subst}
+use mathlib.Core.Path.{_≡_, ap, _∙_, subst}
 use mathlib.Core.Bool.{true}
 use mathlib.Core.List.{List, map}
-use Prim.Native.Nat.{ℕ, _≤_}
+use Prim.Native.Nat.{ℕ}
 use lib.Dec.{leb}
 use lib.ListN.{length}
 use lib.Seq.{sets}
@@ -13,13 +13,12 @@ use Rattle.protocol.specs.declared.Settings.{Settings}
 use Rattle.protocol.specs.declared.Refusal.{Refusal}
 use Rattle.sizes.specs.Sizes.{enough, enoughToFlush}
 use Rattle.session.specs.State.{State, Outcome, refused, done}
-use Rattle.session.specs.Valid.{valid}
 use Rattle.session.specs.Opening.{opening}
 use Rattle.session.specs.Sending.{Sends, sending}
 use Rattle.session.specs.Input.{Took, input}
 use Rattle.session.specs.Flushing.{Flushed, flushing, bytesOfSegments}
-use Rattle.session.specs.Reading.{Reads, Part, reading, telling, showing}
-use Rattle.block.specs.Views.{stateOf, countsFit, blockValid}
+use Rattle.session.specs.Reading.{Reads, reading, telling, showing}
+use Rattle.block.specs.Views.{stateOf, blockValid}
 use Rattle.block.specs.declared.Link.{Link}
 use Rattle.records.specs.TableLaws.{scattered-length}
 use Rattle.packing.specs.Packers.{Output}

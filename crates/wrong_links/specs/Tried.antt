@@ -2,7 +2,8 @@
 -- goes through the session of `Session` as computed there, from an accepted opening on; so none of these keeps them:
 -- - one that refuses everything: `refuses-opening` and the five after it, and `show-first`;
 -- - one that always reads the same message: `read-second`, `read-none`;
--- - one that takes datagrams and does nothing: `input-second` with `size-first` (the receiving half), `input-acks` (the sending half);
+-- - one that takes datagrams and does nothing: `input-second` with `size-first` (the receiving half), `input-acks` (the sending half), and of any
+--   block `pushes-kept`, `acks-remove` (HalfLaws);
 -- - one that handles the first segment or the first message only: `send-second`, `flush-both`, `input-acks`, `input-second`, `read-second`;
 -- - one that invents the datagram count or the message size: `flush-both`, `size-none`, `size-first`, `read-first`, `read-second`.
 -- Assumes nothing.
