@@ -1,27 +1,33 @@
--- C gets counts as they are: whatever block and parts a call is given, the number that it answers is the count of its result, or the refusal's
--- number below zero. The codes tell no number above 2^31 - 1, nor a start above 2^32 - 1; no call comes near (crate `demands`, CountLaws).
+-- C gets counts as they are: whatever block and parts a call is given, the number that it answers is the count of its result, 0 of one that counts
+-- nothing, or the refusal's number below zero; it is below zero exactly where the call is refused. The codes tell no number above 2^31 - 1, nor a start above 2^32 - 1; no call comes near (crate `demands`, CountLaws).
 -- Assumes nothing.
 use mathlib.Core.Path.{_≡_, refl, ap, _∙_, subst}
+use mathlib.Core.Bool.{Bool, true, false}
 use mathlib.Core.List.{List}
 use Prim.Native.Nat.{ℕ, _≤_}
 use native.Mathlib.Omega.{arith}
 use lib.IntN.{ℤ, pos}
 use lib.ListN.{length}
+use lib.Signed.{ltZ}
+use borrow.Author.Tests.{le-ltb}
 use Rattle.protocol.specs.Protocol.{lengthsLeast}
 use Rattle.protocol.specs.declared.Settings.{Settings}
+use Rattle.protocol.specs.declared.Refusal.{Refusal}
+use Rattle.protocol.specs.declared.Refusal.the-variants as refusal
 use Rattle.session.specs.State.{Outcome, refused, done}
 use Rattle.session.specs.Flushing.{Flushed}
 use Rattle.session.specs.Reading.{Reads, Part}
 use Rattle.block.specs.declared.Link.{Link}
+use Rattle.answers.specs.declared.Answer.{Answer}
 use Rattle.answers.specs.declared.Count.{Count}
 use Rattle.answers.specs.declared.Count.the-variants as count
 use Rattle.calls.specs.Parts.{Parts}
-use Rattle.calls.specs.Outcomes.{flushes, reads, tells, shows}
-use Rattle.calls.specs.Answers.{Counts, countOutcome}
-use Rattle.calls.specs.Promises.{FlushPromise, ReadPromise, SizePromise}
+use Rattle.calls.specs.Outcomes.{opens, sends, takesIn, flushes, reads, tells, shows}
+use Rattle.calls.specs.Answers.{Accepts, Counts, countOutcome}
+use Rattle.calls.specs.Promises.{OpenPromise, SendPromise, InputPromise, FlushPromise, ReadPromise, SizePromise}
 use Rattle.show_call.specs.declared.Place.{Place}
 use Rattle.show_call.specs.Places.{placeOf}
-use Rattle.codes.specs.Codes.{refusalCode, sizeCode, countCode, placeCode}
+use Rattle.codes.specs.Codes.{refusalCode, answerCode, sizeCode, countCode, placeCode}
 use Rattle.demands.specs.CountLaws.{OfResult, MessageFits, PlaceFits, flushes-few, reads-fit, tells-fit, shows-fit}
 use Rattle.ampferweg.specs.Gives.{Gives, PlacePromise}
 
@@ -29,6 +35,14 @@ use Rattle.ampferweg.specs.Gives.{Gives, PlacePromise}
 abbrev pub Told : {A : Type 0} → (A → ℕ) → Outcome A → ℤ → Type 0
 Told size (refused x) r = r ≡ refusalCode x
 Told size (done x) r = r ≡ pos (size x)
+
+-- a call that counts nothing is told by 0
+abbrev pub nothing : {A : Type 0} → A → ℕ
+nothing x = 0
+
+abbrev pub isRefused : {A : Type 0} → Outcome A → Bool
+isRefused (refused x) = true
+isRefused (done x) = false
 
 -- the very count and start of a part
 pub record PlaceTold (x : Part) (r : ℤ) (stored : ℕ) : Type 0 where
@@ -64,6 +78,44 @@ place-small c (done x) h = (omega (arith, h .count, h .payload), omega (arith, h
 counts-itself : (a : Count) → Counts (λ (n : ℕ). n) a (countOutcome a)
 counts-itself (count.Of n) = refl
 counts-itself (count.Refused x) = refl
+
+-- ---- below zero exactly where the call is refused
+
+refusal-below : (x : Refusal) → ltZ (refusalCode x) (pos 0) ≡ true
+refusal-below refusal.ShortDatagram = refl
+refusal-below refusal.OtherConversation = refl
+refusal-below refusal.LengthPastEnd = refl
+refusal-below refusal.UnknownCommand = refl
+refusal-below refusal.LongPayload = refl
+refusal-below refusal.HighFragment = refl
+refusal-below refusal.ShortPart = refl
+refusal-below refusal.FullUnreadable = refl
+refusal-below refusal.NoMessage = refl
+refusal-below refusal.LongMessage = refl
+refusal-below refusal.NoFreeSlots = refl
+refusal-below refusal.SettingOutOfRange = refl
+refusal-below refusal.InvalidBlock = refl
+
+pub told-below : {A : Type 0} (size : A → ℕ) (o : Outcome A) (r : ℤ) → Told size o r → ltZ r (pos 0) ≡ isRefused o
+told-below size (refused x) r h = rw h (refusal-below x)
+told-below size (done x) r h = rw h (le-ltb (size x) 0 (omega arith))
+
+-- ---- the calls that are accepted or refused
+
+-- an answer's code, by the outcome that it answers
+accept-told : {A : Type 0} (o : Outcome A) (a : Answer) → Accepts a o → Told nothing o (answerCode a)
+accept-told (refused x) a e = ap answerCode e
+accept-told (done x) a e = ap answerCode e
+
+module _ (l : Link) (p : Parts) (r : ℤ) (l′ : Link) (p′ : Parts) where
+  pub open-told : (c : Settings) → Gives answerCode (λ (a : Answer). OpenPromise c l p a l′ p′) r → Told nothing (opens c p) r
+  open-told c g = rw (g .number) (accept-told (opens c p) (g .answer) (g .promise .answer))
+
+  pub send-told : (message : List ℕ) → Gives answerCode (λ (a : Answer). SendPromise message l p a l′ p′) r → Told nothing (sends l p message) r
+  send-told message g = rw (g .number) (accept-told (sends l p message) (g .answer) (g .promise .answer))
+
+  pub input-told : (datagram : List ℕ) → Gives answerCode (λ (a : Answer). InputPromise datagram l p a l′ p′) r → Told nothing (takesIn l p datagram) r
+  input-told datagram g = rw (g .number) (accept-told (takesIn l p datagram) (g .answer) (g .promise .answer))
 
 -- ---- the calls that count
 

@@ -12,7 +12,8 @@ use Rattle.sizes.specs.declared.Lengths.{Lengths}
 use Rattle.session.specs.Valid.{valid, sendingValid, receivingValid, probeFits}
 use Rattle.session.specs.Calls.{Station, Call, Lent, own, lengthsOf, longEnough, after, step}
 use Rattle.session.specs.Decides.{All}
-use Rattle.delivery.specs.Hearing.{Opened, Taken, CallFits}
+use Rattle.delivery.specs.Hearing.{Taken, CallFits}
+use Rattle.delivery.specs.Stations.{Opened}
 use Rattle.delivery.specs.Passing.{Passing, step-own}
 use Rattle.delivery.specs.SendingStays.{SendingInOrder, sending-stays, opened-in-order}
 use Rattle.delivery.specs.ReceivingLaws.{ReceivingInOrder, receiving-stays, opened-receiving, flush-enough, own-lent, own-lengths}
@@ -62,8 +63,8 @@ pub opened-all : (c : Settings) (s : Station) → Opened c s → InOrder c s
 opened-all c s o = record { sends = opened-in-order c s o; receives = opened-receiving c s o; long = o .long }
 
 -- each call of any list passes the checks of 7 and 13, and the station that it leaves is valid
-pub always-valid : (c : Settings) → Taken c → (s : Station) → Opened c s → (calls : List Call) → All CallFits calls
+pub station-always-valid : (c : Settings) → Taken c → (s : Station) → Opened c s → (calls : List Call) → All CallFits calls
     → Passing s calls × (valid (after s calls .state) ≡ true)
-always-valid c taken s o calls fits =
+station-always-valid c taken s o calls fits =
     let i = opened-all c s o in
     (always-passing c (taken .range) calls s fits i, in-order-valid c (taken .range) (after s calls) (always-in-order c (taken .range) calls s fits i))

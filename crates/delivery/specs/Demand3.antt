@@ -15,23 +15,25 @@ use Prim.Native.Nat.{ℕ}
 use Rattle.protocol.specs.declared.Settings.{Settings}
 use Rattle.session.specs.Calls.{Station, Call, history, acceptedList, datagramsBy}
 use Rattle.session.specs.Decides.{All}
-use Rattle.delivery.specs.Hearing.{Opened, Taken, CallFits, FewPushes, FedWith, HearsMore, Delivered}
+use Rattle.delivery.specs.Hearing.{Taken, CallFits, FewPushes, FedWith, HearsMore}
+use Rattle.delivery.specs.Claims.{Delivered}
+use Rattle.delivery.specs.Stations.{Opened, observed}
 use Rattle.delivery.specs.SentGenuine.{sent-genuine}
-use Rattle.delivery.specs.AlwaysValid.{always-valid}
+use Rattle.delivery.specs.AlwaysValid.{station-always-valid}
 use Rattle.delivery.specs.Receiving.{FedReceiver, fed-genuine, delivered-by-receivers}
 
-pub demand-3 : (c : Settings) → Taken c
+pub station-demand-3 : (c : Settings) → Taken c
     → (sender first second : Station) → Opened c sender → Opened c first → Opened c second
     → (calls firsts seconds : List Call) → All CallFits calls → All CallFits firsts → All CallFits seconds
     → FewPushes c (datagramsBy (history sender calls))
     → FedWith (datagramsBy (history sender calls)) firsts
     → FedWith (datagramsBy (history sender calls)) seconds
     → HearsMore firsts seconds
-    → Delivered c (acceptedList (history sender calls)) first second firsts seconds
-demand-3 c taken sender first second o o₁ o₂ calls firsts seconds fits fits₁ fits₂ few fed₁ fed₂ more =
-    let a = always-valid c taken sender o calls fits in
-    let a₁ = always-valid c taken first o₁ firsts fits₁ in
-    let a₂ = always-valid c taken second o₂ seconds fits₂ in
+    → Delivered c (acceptedList (history sender calls)) (observed first firsts) (observed second seconds)
+station-demand-3 c taken sender first second o o₁ o₂ calls firsts seconds fits fits₁ fits₂ few fed₁ fed₂ more =
+    let a = station-always-valid c taken sender o calls fits in
+    let a₁ = station-always-valid c taken first o₁ firsts fits₁ in
+    let a₂ = station-always-valid c taken second o₂ seconds fits₂ in
     let genuine = sent-genuine c taken sender o calls fits (a .0) few in
     delivered-by-receivers c taken (acceptedList (history sender calls)) first second firsts seconds
     (record { opens = o₁; fits = fits₁; passes = a₁ .0; fed = fed-genuine c _ _ genuine firsts fed₁ })

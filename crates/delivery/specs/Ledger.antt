@@ -4,7 +4,7 @@
 use mathlib.Core.Path.{_≡_}
 use mathlib.Core.Bool.{Bool, cond, _||_, _&&_}
 use mathlib.Core.List.{List, [], _∷_}
-use Prim.Native.Nat.{ℕ, zero, suc, _+_, _-_}
+use Prim.Native.Nat.{ℕ, zero, suc, _+_}
 use lib.Dec.{eqb}
 use lib.ListN.{length}
 use Rattle.protocol.specs.Protocol.{ack, sendSlots}
@@ -18,7 +18,7 @@ use Rattle.lists.specs.Acknowledging.{select}
 use Rattle.session.specs.Slots.{occurs}
 use Rattle.session.specs.State.{State, Sending, sendHeld, slots}
 use Rattle.session.specs.Input.{heardBySending}
-use Rattle.session.specs.Calls.{Station, Call, Answer, step, history, after, acceptedList}
+use Rattle.session.specs.Calls.{Station, Call, Answer, Event, step, acceptedList}
 use Rattle.delivery.specs.PlainReceiver.{segmentsOf}
 
 -- ---- used send slots
@@ -31,12 +31,6 @@ usedBelow (suc n) l = cond (occurs n l) (suc (usedBelow n l)) (usedBelow n l)
 -- the send slots that an outstanding or a queued segment holds
 unfoldable pub usedSlots : Sending → ℕ
 usedSlots s = usedBelow sendSlots (slots (sendHeld s))
-
--- ---- fragments accepted
-
--- the segments of the messages accepted in these calls
-unfoldable pub fragmentsAccepted : Station → List Call → ℕ
-fragmentsAccepted s calls = segmentsOf (mss (s .state .settings)) (acceptedList (history s calls))
 
 -- ---- segments acknowledged
 
@@ -65,11 +59,12 @@ acknowledgedBy s (Call.flush t) a = 0
 acknowledgedBy s (Call.read room) a = 0
 
 -- by these calls: each gets the station as the last one left it
-unfoldable pub segmentsAcknowledged : Station → List Call → ℕ
-segmentsAcknowledged s [] = 0
-segmentsAcknowledged s (x ∷ xs) = acknowledgedBy s x (step s x .answer) + segmentsAcknowledged (step s x .station) xs
+unfoldable pub stationAcknowledged : Station → List Call → ℕ
+stationAcknowledged s [] = 0
+stationAcknowledged s (x ∷ xs) = acknowledgedBy s x (step s x .answer) + stationAcknowledged (step s x .station) xs
 
 -- ---- the ledger
 
-abbrev pub Ledger : Station → List Call → Type 0
-Ledger s calls = usedSlots (after s calls .state .sending) ≡ fragmentsAccepted s calls - segmentsAcknowledged s calls
+-- used send slots and the segments acknowledged are the fragments accepted in these events: a sum, so that neither can exceed them
+abbrev pub Ledger : Settings → List Event → Sending → ℕ → Type 0
+Ledger c events s acknowledged = usedSlots s + acknowledged ≡ segmentsOf (mss c) (acceptedList events)

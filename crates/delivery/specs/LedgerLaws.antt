@@ -29,7 +29,8 @@ use Rattle.session.specs.Calls.{Station, Call, Answer, Stepped, Event, own, his
 use Rattle.session.specs.Decides.{All}
 use Rattle.session.specs.Once.{Distinct}
 use Rattle.delivery.specs.PlainReceiver.{segmentsOf}
-use Rattle.delivery.specs.Hearing.{Opened, Taken, CallFits}
+use Rattle.delivery.specs.Hearing.{Taken, CallFits}
+use Rattle.delivery.specs.Stations.{Opened}
 use Rattle.delivery.specs.Passing.{Passing, step-own}
 use Rattle.delivery.specs.PassingLaws.{history-first, after-first}
 use Rattle.delivery.specs.MapLaws.{map-kept}
@@ -40,7 +41,7 @@ use Rattle.delivery.specs.SendingTakesIn.{skip-held}
 use Rattle.delivery.specs.SendingSends.{withQueue}
 use Rattle.delivery.specs.SendingFlushes.{flushed-held, count-few, count-room}
 use Rattle.delivery.specs.SendingStays.{SendingInOrder, half-in, sending-stays, sending-always, opened-in-order}
-use Rattle.delivery.specs.Ledger.{usedBelow, usedSlots, fragmentsAccepted, acknowledges, acknowledgedByEach, acknowledgedBy, segmentsAcknowledged, Ledger}
+use Rattle.delivery.specs.Ledger.{usedBelow, usedSlots, acknowledges, acknowledgedByEach, acknowledgedBy, stationAcknowledged, Ledger}
 
 -- ---- slots are held once, so there are as many as segments
 
@@ -228,8 +229,8 @@ segmentsOf-append m (x ∷ a) b = omega (arith, segmentsOf-append m a b)
 
 -- the first call of a list that passes
 acknowledged-first : (s : Station) (x : Call) (xs : List Call) → Passing s (x ∷ xs) →
-    segmentsAcknowledged s (x ∷ xs) ≡ acknowledgedBy s x (own s x .answer) + segmentsAcknowledged (own s x .station) xs
-unfolding segmentsAcknowledged
+    stationAcknowledged s (x ∷ xs) ≡ acknowledgedBy s x (own s x .answer) + stationAcknowledged (own s x .station) xs
+unfolding stationAcknowledged
 acknowledged-first s x xs p = rw (step-own s x (p .0) (p .1))
 
 accepted-first : (m : ℕ) (s : Station) (x : Call) (xs : List Call) → Passing s (x ∷ xs) →
@@ -249,8 +250,8 @@ balances-by c s x o =
     (o .settings) (λ o. balances s o x) o
 
 all-balance : (c : Settings) → inRange c ≡ true → (calls : List Call) (s : Station) → All CallFits calls → Passing s calls → SendingInOrder c s →
-    held (after s calls .state .sending) + segmentsAcknowledged s calls ≡ held (s .state .sending) + segmentsOf (mss c) (acceptedList (history s calls))
-unfolding after segmentsAcknowledged history acceptedList segmentsOf
+    held (after s calls .state .sending) + stationAcknowledged s calls ≡ held (s .state .sending) + segmentsOf (mss c) (acceptedList (history s calls))
+unfolding after stationAcknowledged history acceptedList segmentsOf
 all-balance c range [] s k p o = omega arith
 all-balance c range (x ∷ xs) s k p o =
     omega (
@@ -269,10 +270,8 @@ unfolding opened
 opened-held c = refl
 
 module _ (c : Settings) (taken : Taken c) (s : Station) (p : Opened c s) (calls : List Call) (k : All CallFits calls) (q : Passing s calls) where
-  -- used send slots and the segments acknowledged are the fragments accepted
-  pub ledger-sum : usedSlots (after s calls .state .sending) + segmentsAcknowledged s calls ≡ fragmentsAccepted s calls
-  unfolding fragmentsAccepted
-  ledger-sum =
+  pub station-ledger : Ledger c (history s calls) (after s calls .state .sending) (stationAcknowledged s calls)
+  station-ledger =
       let o : SendingInOrder c s = opened-in-order c s p in
       let after-all : SendingInOrder c (after s calls) = sending-always c (taken .range) calls s k q o in
       omega (
@@ -280,9 +279,4 @@ module _ (c : Settings) (taken : Taken c) (s : Station) (p : Opened c s) (calls 
         used-held c (after s calls .state .sending) (half-in c (after s calls) after-all),
         all-balance c (taken .range) calls s k q o,
         ap (λ (x : State). held (x .sending)) (p .state) ∙ opened-held c,
-        ap (λ (x : Settings). segmentsOf (mss x) (acceptedList (history s calls))) (o .settings),
       )
-
-  -- The ledger, word for word: used send slots equal the fragments accepted less the segments acknowledged
-  pub ledger : Ledger s calls
-  ledger = omega (arith, ledger-sum)

@@ -1,5 +1,7 @@
 pub mod PlainReceiver
 pub mod Hearing
+pub mod Claims
+pub mod Stations
 pub mod Pieces
 pub mod Passing
 pub mod PassingLaws
@@ -26,6 +28,7 @@ pub mod ListLaws
 pub mod InsertLaws
 pub mod ParsedLaws
 pub mod PlainLaws
+pub mod FedLaws
 pub mod ReceiverModel
 pub mod PieceLaws
 pub mod Refinement

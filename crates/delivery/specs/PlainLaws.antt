@@ -17,8 +17,9 @@ use Rattle.protocol.specs.declared.Settings.{Settings}
 use Rattle.session.specs.Slots.{occurs}
 use Rattle.session.specs.Cutting.{fragmentCount}
 use Rattle.session.specs.Calls.{Call}
-use Rattle.delivery.specs.PlainReceiver.{Plain, atFirst, Found, pushesIn, segmentsOf, allHeard, firstWanted, nextExpected, hear, feed, answerFor, plainAnswer, leave, plainAfter, plainAnswers}
-use Rattle.delivery.specs.Hearing.{HearsMore, start, both-take, both-read, takes-more, first-sends, first-flushes, second-sends, second-flushes, Begins, MissingFrom, Missing}
+use Rattle.delivery.specs.PlainReceiver.{Plain, atFirst, Found, pushesIn, segmentsOf, allHeard, firstWanted, UnheardFrom, Unheard, nextExpected, hear, feed, answerFor, plainAnswer, leave, plainAfter, plainAnswers}
+use Rattle.delivery.specs.Hearing.{HearsMore, start, both-take, both-read, takes-more, first-sends, first-flushes, second-sends, second-flushes}
+use Rattle.delivery.specs.Claims.{Begins}
 use Rattle.delivery.specs.SearchLaws.{Within, within-cons, lowest-mono}
 use Rattle.delivery.specs.FreeSlots.{occurs-later}
 
@@ -274,24 +275,24 @@ module _ (c : Settings) (accepted : List (List ℕ)) where
 
   -- ---- a read finds nothing exactly when there is no next message, or a segment of it is not heard
 
-  pub nothing-missing : (p : Plain) (room : ℕ) → plainAnswer c accepted p room ≡ Found.nothing → Missing c accepted p
+  pub nothing-unheard : (p : Plain) (room : ℕ) → plainAnswer c accepted p room ≡ Found.nothing → Unheard c accepted p
   unfolding plainAnswer
-  nothing-missing p room = go (getElem? accepted (p .out))
+  nothing-unheard p room = go (getElem? accepted (p .out))
     where
-      go : (x : Option (List ℕ)) → answerFor c accepted p room x ≡ Found.nothing → MissingFrom c accepted p x
+      go : (x : Option (List ℕ)) → answerFor c accepted p room x ≡ Found.nothing → UnheardFrom c accepted p x
       go none e = tt
       go (some a) e = all (allHeard (p .heard) (firstWanted c accepted p) (fragmentCount (mss c) (length a))) refl (ltb room (length a)) e
         where
           all : (b : Bool) → allHeard (p .heard) (firstWanted c accepted p) (fragmentCount (mss c) (length a)) ≡ b → (s : Bool) → foundIn b s a ≡ Found.nothing
-              → MissingFrom c accepted p (some a)
+              → UnheardFrom c accepted p (some a)
           all true t true r = absurd (let z : _≡_ {A = ℕ} 0 1 = cc in omega arith)
           all true t false r = absurd (let z : _≡_ {A = ℕ} 0 1 = cc in omega arith)
           all false t s r = some-not-heard (p .heard) _ _ t
 
-  pub missing-nothing : (p : Plain) (room : ℕ) → Missing c accepted p → plainAnswer c accepted p room ≡ Found.nothing
+  pub unheard-nothing : (p : Plain) (room : ℕ) → Unheard c accepted p → plainAnswer c accepted p room ≡ Found.nothing
   unfolding plainAnswer
-  missing-nothing p room = go (getElem? accepted (p .out))
+  unheard-nothing p room = go (getElem? accepted (p .out))
     where
-      go : (x : Option (List ℕ)) → MissingFrom c accepted p x → answerFor c accepted p room x ≡ Found.nothing
+      go : (x : Option (List ℕ)) → UnheardFrom c accepted p x → answerFor c accepted p room x ≡ Found.nothing
       go none m = refl
       go (some a) m = rw (not-all-heard (p .heard) _ _ (m .0) (m .1) (m .2) (m .3))

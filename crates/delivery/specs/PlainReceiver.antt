@@ -1,9 +1,10 @@
 -- The plain receiver of document 01 (its own term): it gets the accepted list and a receiver's calls.
 -- Assumes nothing.
+use mathlib.Core.Path.{_≡_}
 use mathlib.Core.Bool.{Bool, true, false, cond, _&&_}
 use mathlib.Core.List.{List, [], _∷_, map}
 use mathlib.Core.Option.{Option, none, some}
-use Prim.Native.Nat.{ℕ, zero, suc, _+_}
+use Prim.Native.Nat.{ℕ, zero, suc, _+_, _≤_, _<_}
 use lib.Dec.{eqb, ltb}
 use lib.ListN.{length, take, getElem?}
 use Rattle.protocol.specs.Protocol.{push, receiveWindow}
@@ -104,3 +105,12 @@ module _ (c : Settings) (accepted : List (List ℕ)) where
   plainAnswers p (Call.takeIn d ∷ xs) = plainAnswers (afterCall p (Call.takeIn d)) xs
   plainAnswers p (Call.send m ∷ xs) = plainAnswers p xs
   plainAnswers p (Call.flush t ∷ xs) = plainAnswers p xs
+
+-- no next message was accepted, or a segment of it is not heard
+abbrev pub UnheardFrom : Settings → List (List ℕ) → Plain → Option (List ℕ) → Type 0
+UnheardFrom c accepted p none = Unit {0}
+UnheardFrom c accepted p (some m) =
+    (n : ℕ) × (firstWanted c accepted p ≤ n) × (n < firstWanted c accepted p + fragmentCount (mss c) (length m)) × (occurs n (p .heard) ≡ false)
+
+abbrev pub Unheard : Settings → List (List ℕ) → Plain → Type 0
+Unheard c accepted p = UnheardFrom c accepted p (getElem? accepted (p .out))

@@ -2,6 +2,7 @@
 -- hear the same, the one that hears more loses none of the other's messages.
 -- Assumes nothing.
 use mathlib.Core.Path.{_≡_, refl, sym, ap, ap₂, _∙_, subst}
+use mathlib.Core.Logic.{_↔_}
 use mathlib.Core.Bool.{true}
 use mathlib.Core.List.{List, [], _∷_, map, List·Memᴰ, List·Memᴰ·head, List·Memᴰ·tail}
 use Prim.Native.Nat.{ℕ, _<_}
@@ -11,14 +12,17 @@ use Rattle.protocol.specs.declared.Settings.{Settings}
 use Rattle.sizes.specs.Sizes.{enough}
 use Rattle.sizes.specs.declared.Lengths.{Lengths}
 use Rattle.session.specs.Valid.{valid}
-use Rattle.session.specs.Calls.{Station, Call, Event, Stepped, lengthsOf, longEnough, own, step, history, after, readAnswers, messagesRead}
+use Rattle.session.specs.Calls.{Station, Call, Answer, Event, Stepped, lengthsOf, longEnough, own, step, history, after, readAnswers, messagesRead}
 use Rattle.session.specs.Decides.{All}
-use Rattle.delivery.specs.PlainReceiver.{Plain, atFirst, Found, nextExpected, plainAnswer, afterCall, plainAfter, plainAnswers}
-use Rattle.delivery.specs.Hearing.{Opened, Taken, CallFits, FedWith, HearsMore, found, seen, Missing, FindsNothing, Receives, Delivered}
+use Rattle.delivery.specs.PlainReceiver.{Plain, atFirst, Found, plainAnswer, afterCall, plainAfter, plainAnswers}
+use Rattle.delivery.specs.Hearing.{Taken, CallFits, FedWith, HearsMore}
+use Rattle.delivery.specs.Claims.{found, seen, Missing, Receives, Delivered}
+use Rattle.delivery.specs.Stations.{Opened, observed}
 use Rattle.delivery.specs.Passing.{Passing, step-own}
 use Rattle.delivery.specs.PassingLaws.{history-first, after-first}
 use Rattle.delivery.specs.Pieces.{Piece, piecesOf, GenuineDatagram}
-use Rattle.delivery.specs.PlainLaws.{plainMessages, plain-more, plain-begins, nothing-missing, missing-nothing}
+use Rattle.delivery.specs.PlainLaws.{plainMessages, plain-more, plain-begins, nothing-unheard, unheard-nothing}
+use Rattle.delivery.specs.FedLaws.{missing-unheard, unheard-missing}
 use Rattle.delivery.specs.ReceiverModel.{Listed}
 use Rattle.delivery.specs.SizeLaws.{mtu-in-range}
 use Rattle.delivery.specs.ReceivingLaws.{flush-enough, after-lengths}
@@ -100,10 +104,6 @@ module _ (c : Settings) (taken : Taken c) (accepted : List (List ℕ)) where
     follows : Follows c accepted (after s calls) (plainAfter c accepted atFirst calls)
     follows = follows-all c accepted some-bytes calls s atFirst (r .fits) (r .passes) (r .fed) (follows-opened c accepted s (r .opens))
 
-    -- rcv_nxt is the plain receiver's next expected number
-    pub next-expected : after s calls .state .receiving .next ≡ nextExpected c accepted (plainAfter c accepted atFirst calls)
-    next-expected = ap (λ (x : Listed). x .next) (follows .listed)
-
     same-answers : map seen (readAnswers (history s calls)) ≡ map found (plainAnswers c accepted atFirst calls)
     same-answers = answers-all c accepted some-bytes calls s atFirst (r .fits) (r .passes) (r .fed) (follows-opened c accepted s (r .opens))
 
@@ -119,26 +119,29 @@ module _ (c : Settings) (taken : Taken c) (accepted : List (List ℕ)) where
         ap (λ (x : Stepped). seen (x .answer)) (step-own (after s calls) (Call.read room) long v)
         ∙ answer-follows c accepted some-bytes (after s calls) (plainAfter c accepted atFirst calls) room follows
 
-    finds-nothing : valid (after s calls .state) ≡ true → (room : ℕ) → FindsNothing (after s calls) room → Missing c accepted (plainAfter c accepted atFirst calls)
-    finds-nothing v room e =
-        let q : found (plainAnswer c accepted (plainAfter c accepted atFirst calls) room) ≡ found Found.nothing = sym (next-answer v room) ∙ e in
-        nothing-missing c accepted (plainAfter c accepted atFirst calls) room (cc)
-
-    misses : valid (after s calls .state) ≡ true → (room : ℕ) → Missing c accepted (plainAfter c accepted atFirst calls) → FindsNothing (after s calls) room
-    misses v room m = next-answer v room ∙ ap found (missing-nothing c accepted (plainAfter c accepted atFirst calls) room m)
+    -- it finds nothing exactly when a message or a segment of it is missing
+    next-nothing : valid (after s calls .state) ≡ true → (room : ℕ) (a : Answer) → step (after s calls) (Call.read room) .answer ≡ a
+        → (seen a ≡ found Found.nothing) ↔ Missing c accepted calls
+    next-nothing v room a e =
+        let p : Plain = plainAfter c accepted atFirst calls in
+        let q : seen a ≡ found (plainAnswer c accepted p room) = ap seen (sym e) ∙ next-answer v room in (
+          (λ h. let n : found (plainAnswer c accepted p room) ≡ found Found.nothing = sym q ∙ h in unheard-missing c accepted calls (nothing-unheard c accepted p room (cc))),
+          (λ m. q ∙ ap found (unheard-nothing c accepted p room (missing-unheard c accepted calls m))),
+        )
 
     -- EACH READ ANSWERS AS THE PLAIN RECEIVER'S
-    pub receives : valid (after s calls .state) ≡ true → Receives c accepted s calls
+    pub receives : valid (after s calls .state) ≡ true → Receives c accepted (observed s calls)
     receives v = record {
       answers = same-answers;
       begins = rw messages-as (plain-begins c accepted calls);
-      nothing = λ room. (finds-nothing v room, misses v room);
+      nothing = next-nothing v;
+      next-expected = ap (λ (x : Listed). x .next) (follows .listed);
     }
 
   -- HEARING MORE NEVER LOSES A MESSAGE
   pub delivered-by-receivers : (first second : Station) (firsts seconds : List Call) → FedReceiver c accepted first firsts → FedReceiver c accepted second seconds
       → valid (after first firsts .state) ≡ true → valid (after second seconds .state) ≡ true → HearsMore firsts seconds
-      → Delivered c accepted first second firsts seconds
+      → Delivered c accepted (observed first firsts) (observed second seconds)
   delivered-by-receivers first second firsts seconds a b v w h = record {
     first-receives = receives first firsts a v;
     second-receives = receives second seconds b w;

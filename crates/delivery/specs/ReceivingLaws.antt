@@ -28,7 +28,8 @@ use Rattle.session.specs.Reading.{readable, messageSize, reading}
 use Rattle.session.specs.Calls.{Station, Call, Stepped, lengthsOf, afterSend, afterTakeIn, own, after}
 use Rattle.session.specs.Decides.{Decides, All, leb-decides, ltb-decides, not-decides, and-decides, via, all-decides, and-parts}
 use Rattle.session.specs.AllLaws.{all-both, all-weaker}
-use Rattle.delivery.specs.Hearing.{Opened, CallFits}
+use Rattle.delivery.specs.Hearing.{CallFits}
+use Rattle.delivery.specs.Stations.{Opened}
 use Rattle.delivery.specs.Passing.{Passing}
 use Rattle.delivery.specs.PassingLaws.{after-first}
 use Rattle.delivery.specs.HeaderRange.{Each}

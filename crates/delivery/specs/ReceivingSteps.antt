@@ -23,7 +23,9 @@ use Rattle.session.specs.Calls.{Station, Call, Answer, own, messagesRead}
 use Rattle.session.specs.Decides.{All}
 use Rattle.session.specs.AllLaws.{all-left}
 use Rattle.delivery.specs.PlainReceiver.{Plain, atFirst, Found, pushNumbers, pushesOf, pushesIn, feed, plainAnswer, leave, afterCall}
-use Rattle.delivery.specs.Hearing.{Opened, CallFits, Seen, found, other, seenRefusal, seen}
+use Rattle.delivery.specs.Hearing.{CallFits}
+use Rattle.delivery.specs.Claims.{Seen, found, other, seenRefusal, seen}
+use Rattle.delivery.specs.Stations.{Opened}
 use Rattle.delivery.specs.Pieces.{piecesOf, Genuine, pushes, GenuineDatagram}
 use Rattle.delivery.specs.PlainLaws.{messagesFound}
 use Rattle.delivery.specs.ParsedLaws.{SegmentFits, parse-fits}

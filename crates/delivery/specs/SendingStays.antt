@@ -25,7 +25,8 @@ use Rattle.session.specs.Sending.{sending}
 use Rattle.session.specs.Input.{applied, allBySending, ackNumbers}
 use Rattle.session.specs.Flushing.{numberedCount, flushing}
 use Rattle.session.specs.Calls.{Station, Call, Stepped, lengthsOf, own, after}
-use Rattle.delivery.specs.Hearing.{Opened, CallFits}
+use Rattle.delivery.specs.Hearing.{CallFits}
+use Rattle.delivery.specs.Stations.{Opened}
 use Rattle.delivery.specs.Passing.{Passing}
 use Rattle.delivery.specs.PassingLaws.{after-first}
 use Rattle.delivery.specs.CallCases.{own-cases}

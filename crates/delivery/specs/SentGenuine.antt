@@ -32,7 +32,8 @@ use Rattle.session.specs.Calls.{Station, Call, Answer, Stepped, Event, own, his
 use Rattle.session.specs.Decides.{All}
 use Rattle.session.specs.AllLaws.{all-any, all-append, all-left, all-right, all-unmapped, all-weaker}
 use Rattle.delivery.specs.PlainReceiver.{pushNumbers, pushesOf, pushesIn}
-use Rattle.delivery.specs.Hearing.{Opened, Taken, CallFits, FewPushes}
+use Rattle.delivery.specs.Hearing.{Taken, CallFits, FewPushes}
+use Rattle.delivery.specs.Stations.{Opened}
 use Rattle.delivery.specs.Pieces.{Piece, falling, piecesOf, pieceOf, Genuine, pushes, GenuineDatagram}
 use Rattle.delivery.specs.Passing.{Passing}
 use Rattle.delivery.specs.PassingLaws.{history-first}

@@ -1,16 +1,12 @@
 -- What is claimed of calls since an accepted opening, in the terms of the caller: block, lent parts, and the answers given.
 -- Assumes nothing.
 use mathlib.Core.Path.{_≡_}
-use mathlib.Core.Logic.{_↔_}
-use mathlib.Core.List.{List, map}
-use Prim.Native.Nat.{ℕ, _+_, _-_, _<_}
-use Rattle.protocol.specs.Ranges.{mss}
-use Rattle.protocol.specs.declared.Settings.{Settings}
+use mathlib.Core.List.{List}
+use Prim.Native.Nat.{ℕ, _+_, _<_}
 use Rattle.protocol.specs.declared.Refusal.the-variants.{ShortPart, InvalidBlock}
-use Rattle.session.specs.Calls.{Call, Answer, Event, acceptedList, readAnswers, messagesRead}
-use Rattle.delivery.specs.PlainReceiver.{Found, atFirst, segmentsOf, plainAfter, plainAnswers}
-use Rattle.delivery.specs.Hearing.{seen, found, Begins, Missing}
-use Rattle.delivery.specs.Ledger.{usedSlots, acknowledgedBy}
+use Rattle.session.specs.Calls.{Call, Answer, Event}
+use Rattle.delivery.specs.Claims.{Observed}
+use Rattle.delivery.specs.Ledger.{acknowledgedBy}
 use Rattle.answers.specs.declared.Count.the-variants as count
 use Rattle.calls.specs.Parts.{stateIn}
 use Rattle.calls.specs.Promises.{SizePromise}
@@ -43,20 +39,14 @@ unfoldable pub segmentsAcknowledged : {e e′ : Endpoint} {xs : List Call} {even
 segmentsAcknowledged start = 0
 segmentsAcknowledged (next e x a e′ h r) = acknowledgedBy (stationOf e) x a + segmentsAcknowledged r
 
--- used send slots equal the fragments accepted less the segments acknowledged
-abbrev pub Ledger : Settings → List Event → Endpoint → ℕ → Type 0
-Ledger c events e acknowledged = usedSlots (stateIn (e .link) (e .parts) .sending) ≡ segmentsOf (mss c) (acceptedList events) - acknowledged
-
 -- ---- demand 3
 
--- a receiver has made these calls with these answers, and is now e: each read answered as the plain receiver's, its messages begin the accepted
--- list, and a read that comes next finds nothing exactly when the plain receiver misses a message or a segment of it
-pub record Receives (c : Settings) (accepted : List (List ℕ)) (calls : List Call) (events : List Event) (e : Endpoint) : Type 0 where
-  pub answers : map seen (readAnswers events) ≡ map found (plainAnswers c accepted atFirst calls)
-  pub begins : Begins (messagesRead (readAnswers events)) accepted
-  pub nothing : (room : ℕ) (a : Answer) (later : Endpoint) → Called e (Call.read room) a later
-      → (seen a ≡ found Found.nothing) ↔ Missing c accepted (plainAfter c accepted atFirst calls)
-
--- one receiver's messages begin another one's list
-abbrev pub NoneLost : List Event → List Event → Type 0
-NoneLost first second = Begins (messagesRead (readAnswers first)) (messagesRead (readAnswers second))
+-- a receiver that made these calls with these answers, and is now e: a read that comes next is any that keeps its promise
+abbrev pub observed : List Call → List Event → Endpoint → Observed
+observed calls events e =
+    record {
+      calls = calls;
+      events = events;
+      NextRead = λ room a. (later : Endpoint) × Called e (Call.read room) a later;
+      expected = stateIn (e .link) (e .parts) .receiving .next;
+    }

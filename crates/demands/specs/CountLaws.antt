@@ -48,7 +48,7 @@ made-valid : (l : Link) (p : Parts) → isMade l p ≡ true → valid (stateIn l
 unfolding blockValid
 made-valid l p h = and-parts (countsFit l) (valid (stateIn l p)) h .1
 
-is-valid : (l : Link) (p : Parts) → isMade l p ≡ true → IsValid (stateIn l p)
+pub is-valid : (l : Link) (p : Parts) → isMade l p ≡ true → IsValid (stateIn l p)
 is-valid l p h = valid-decides (stateIn l p) .holds (made-valid l p h)
 
 -- the largest payload of any link
@@ -77,13 +77,13 @@ module _ (s : State) (v : IsValid s) where
   ready = s .receiving .ready
 
   -- what the ready segments keep
-  short : All (λ (h : Held). h .len ≤ mss (s .settings)) (s .receiving .ready)
+  pub short : All (λ (h : Held). h .len ≤ mss (s .settings)) (s .receiving .ready)
   short = all-left (λ (h : Held). h .len ≤ mss (s .settings)) ready _ (v .receiving .lengths)
 
   fragments : All (λ (h : Held). h .fragment ≤ fragmentMost) (s .receiving .ready)
   fragments = all-left (λ (h : Held). h .fragment ≤ fragmentMost) ready _ (v .receiving .fragments)
 
-  low : All (λ (h : Held). h .slot < receiveSlots) (s .receiving .ready)
+  pub low : All (λ (h : Held). h .slot < receiveSlots) (s .receiving .ready)
   low = all-left (λ (h : Held). h .slot < receiveSlots) ready _ (v .receiving .slots-below)
 
   message-fits : (n : ℕ) → n ≤ messageSize (s .receiving) → MessageFits (s .settings) n

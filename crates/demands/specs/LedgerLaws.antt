@@ -4,7 +4,7 @@
 use mathlib.Core.Path.{_≡_, refl, ap}
 use mathlib.Core.Bool.{true}
 use mathlib.Core.List.{List}
-use Prim.Native.Nat.{_^_, _+_, _<_}
+use Prim.Native.Nat.{_^_, _-_, _<_}
 use native.Mathlib.Omega.{arith}
 use Rattle.protocol.specs.Ranges.{inRange, mss}
 use Rattle.protocol.specs.declared.Settings.{Settings}
@@ -13,45 +13,33 @@ use Rattle.session.specs.Decides.{All}
 use Rattle.calls.specs.Parts.{stateIn}
 use Rattle.delivery.specs.PlainReceiver.{segmentsOf}
 use Rattle.delivery.specs.Hearing.{CallFits}
-use Rattle.delivery.specs.AlwaysValid.{always-valid}
+use Rattle.delivery.specs.AlwaysValid.{station-always-valid}
 use Rattle.delivery.specs.Ledger as station
-use Rattle.delivery.specs.Ledger.{usedSlots, fragmentsAccepted}
+use Rattle.delivery.specs.Ledger.{usedSlots, Ledger}
 use Rattle.delivery.specs.LedgerLaws as station-laws
 use Rattle.demands.specs.Steps.{Endpoint, Runs, start, next, SinceOpening}
 use Rattle.demands.specs.Stations.{stationOf}
-use Rattle.demands.specs.Claims.{segmentsAcknowledged, Ledger}
+use Rattle.demands.specs.Claims.{segmentsAcknowledged}
 use Rattle.demands.specs.Simulation.{Kept, kept-call, step-call}
 use Rattle.demands.specs.RunLaws.{opens-station, opens-kept, taken, since-opening}
 
 -- what the calls acknowledge is what the station's do
 acknowledged-same : (c : Settings) → inRange c ≡ true → c .conv < 2 ^ 32 → {e e′ : Endpoint} {xs : List Call} {events : List Event} (r : Runs e xs events e′) → All CallFits xs → Kept c e
-    → segmentsAcknowledged r ≡ station.segmentsAcknowledged (stationOf e) xs
-unfolding segmentsAcknowledged station.segmentsAcknowledged
+    → segmentsAcknowledged r ≡ station.stationAcknowledged (stationOf e) xs
+unfolding segmentsAcknowledged station.stationAcknowledged
 acknowledged-same c range conv start fits k = refl
 acknowledged-same c range conv (next e x a e′ h r) fits k =
     rw (step-call c range conv e k x a e′ (fits .0) h, acknowledged-same c range conv r (fits .1) (kept-call c range conv e k x a e′ (fits .0) h))
 
--- the fragments accepted are those of the station's sends
-accepted-same : {c : Settings} {calls : List Call} {events : List Event} {e : Endpoint} (h : SinceOpening c calls events e)
-    → fragmentsAccepted (stationOf (h .first)) calls ≡ segmentsOf (mss c) (acceptedList events)
-unfolding fragmentsAccepted
-accepted-same {c} {events = events} h =
-    rw (← since-opening h .events-are) (ap (λ (x : Settings). segmentsOf (mss x) (acceptedList events)) (opens-kept c (h .first) (h .opens) .order .sends .settings))
-
 module _ (c : Settings) (calls : List Call) (events : List Event) (e : Endpoint) (h : SinceOpening c calls events e) where
-  -- used send slots and the segments acknowledged are the fragments accepted
-  pub ledger-sum : usedSlots (stateIn (e .link) (e .parts) .sending) + segmentsAcknowledged (h .runs) ≡ segmentsOf (mss c) (acceptedList events)
-  ledger-sum =
+  pub ledger : Ledger c events (stateIn (e .link) (e .parts) .sending) (segmentsAcknowledged (h .runs))
+  ledger =
       let s : Station = stationOf (h .first) in
       let o = opens-station c (h .first) (h .opens) in
-      omega (
-        arith,
-        station-laws.ledger-sum c (taken h) s o calls (h .fits) (always-valid c (taken h) s o calls (h .fits) .0),
-        ap (λ (x : Station). usedSlots (x .state .sending)) (since-opening h .now),
-        acknowledged-same c (taken h .range) (h .conv) (h .runs) (h .fits) (opens-kept c (h .first) (h .opens)),
-        accepted-same h,
-      )
+      let f = since-opening h in
+      rw (acknowledged-same c (taken h .range) (h .conv) (h .runs) (h .fits) (opens-kept c (h .first) (h .opens)), f .events-are, ap (λ (x : Station). x .state .sending) (f .now))
+      (station-laws.station-ledger c (taken h) s o calls (h .fits) (station-always-valid c (taken h) s o calls (h .fits) .0))
 
   -- word for word: used send slots equal the fragments accepted less the segments acknowledged
-  pub ledger : Ledger c events e (segmentsAcknowledged (h .runs))
-  ledger = omega (arith, ledger-sum)
+  pub ledger-less : usedSlots (stateIn (e .link) (e .parts) .sending) ≡ segmentsOf (mss c) (acceptedList events) - segmentsAcknowledged (h .runs)
+  ledger-less = omega (arith, ledger)

@@ -3,16 +3,14 @@
 use mathlib.Core.Path.{_≡_, refl}
 use mathlib.Core.Bool.{Bool, true, false, cond}
 use mathlib.Core.List.{List}
-use Prim.Native.Nat.{ℕ, _^_, _≤_, _<_}
+use Prim.Native.Nat.{ℕ, _^_, _<_}
 use native.Mathlib.Omega.{arith}
-use lib.ListN.{length}
-use borrow.Author.Tests.{le-leb}
 use Rattle.protocol.specs.Protocol.{outputLeast, lengthsLeast}
 use Rattle.protocol.specs.Ranges.{inRange, mss}
 use Rattle.protocol.specs.declared.Settings.{Settings}
 use Rattle.protocol.specs.declared.Refusal.{Refusal}
 use Rattle.protocol.specs.declared.Refusal.the-variants.{ShortPart, SettingOutOfRange}
-use Rattle.sizes.specs.Sizes.{enough, enoughToFlush}
+use Rattle.sizes.specs.Sizes.{enough}
 use Rattle.session.specs.State.{Outcome}
 use Rattle.session.specs.Opening.{opened, opening}
 use Rattle.session.specs.Calls.{Call, Event, history, after}
@@ -23,11 +21,12 @@ use Rattle.answers.specs.declared.Answer.the-variants as answer
 use Rattle.calls.specs.Parts.{Parts, lengthsOf, stateIn}
 use Rattle.calls.specs.Answers.{Accepts}
 use Rattle.calls.specs.Promises.{OpenLeaves}
-use Rattle.delivery.specs.Hearing.{Opened, Taken, CallFits}
+use Rattle.delivery.specs.Hearing.{Taken, CallFits}
+use Rattle.delivery.specs.Stations.{Opened}
 use Rattle.delivery.specs.AlwaysValid.{opened-all}
 use Rattle.demands.specs.Steps.{Endpoint, Runs, start, next, Opens, SinceOpening}
 use Rattle.demands.specs.Stations.{stationOf}
-use Rattle.demands.specs.Simulation.{Kept, kept-call, step-call}
+use Rattle.demands.specs.Simulation.{Kept, long-flush, kept-call, step-call}
 
 -- ---- opening
 
@@ -53,11 +52,6 @@ fresh c block l lent p = go (inRange c) refl (enough (mss c) (lengthsOf lent)) r
     go true e false f ans h = refusal-not-accepted ans
     go false e b f ans h = refusal-not-accepted ans
 
-long-flush : (m : ℕ) (e : Endpoint) → enough m (lengthsOf (e .parts)) ≡ true → outputLeast ≤ length (e .output) → lengthsLeast ≤ length (e .lengths)
-    → enoughToFlush m (lengthsOf (e .parts)) (length (e .output)) (length (e .lengths)) ≡ true
-unfolding enoughToFlush
-long-flush m e a b d = rw (a, le-leb outputLeast (length (e .output)) b, le-leb lengthsLeast (length (e .lengths)) d)
-
 module _ (c : Settings) (e : Endpoint) (o : Opens c e) where
   is-fresh : Fresh c (e .link) (e .parts)
   is-fresh = fresh c (o .block) (e .link) (o .lent) (e .parts) (o .promise .answer) (o .promise .leaves)
@@ -67,7 +61,7 @@ module _ (c : Settings) (e : Endpoint) (o : Opens c e) where
 
   -- it is an accepted opening of its station
   pub opens-station : Opened c (stationOf e)
-  opens-station = record { state = is-fresh .state; long = long-flush (mss c) e (is-fresh .long) (o .output) (o .lengths) }
+  opens-station = record { state = is-fresh .state; long = long-flush (mss c) (lengthsOf (e .parts)) outputLeast lengthsLeast (is-fresh .long) (omega arith) (omega arith) }
 
   pub opens-kept : Kept c e
   opens-kept = record { counts = is-fresh .counts; order = opened-all c (stationOf e) opens-station }

@@ -7,11 +7,13 @@ use Prim.Native.Nat.{ℕ, _^_, _≤_, _<_}
 use native.Mathlib.Omega.{arith}
 use lib.Dec.{leb}
 use lib.ListN.{length, length-map}
-use borrow.Author.Tests.{leb-true}
+use borrow.Author.Tests.{leb-true, le-leb}
+use Rattle.protocol.specs.Protocol.{outputLeast, lengthsLeast}
 use Rattle.protocol.specs.Ranges.{inRange, mss}
 use Rattle.protocol.specs.declared.Settings.{Settings}
 use Rattle.protocol.specs.declared.Refusal.the-variants.{ShortPart}
 use Rattle.sizes.specs.Sizes.{enough, enoughToFlush}
+use Rattle.sizes.specs.declared.Lengths.{Lengths}
 use Rattle.session.specs.State.{State, Outcome}
 use Rattle.session.specs.Valid.{valid}
 use Rattle.session.specs.Sending.{Sends, sending}
@@ -34,9 +36,9 @@ use Rattle.delivery.specs.Passing.{step-own}
 use Rattle.delivery.specs.FlushLaws.{flush-writes}
 use Rattle.delivery.specs.ReceivingLaws.{flush-enough}
 use Rattle.delivery.specs.AlwaysValid.{InOrder, in-order-valid, in-order-long, in-order-stays}
-use Rattle.demands.specs.Steps.{Endpoint, NoOutput, acceptance, datagramsSeen, messageSeen, Called}
+use Rattle.demands.specs.Steps.{Endpoint, acceptance, datagramsSeen, messageSeen, Called}
 use Rattle.demands.specs.Stations.{stationOf}
-use Rattle.demands.specs.OutputLaws.{front-again, joined-flatten, output-long, lengths-long, output-cut, output-room, message-short}
+use Rattle.demands.specs.OutputLaws.{front-again, joined-flatten, output-cut, message-short}
 
 -- the station after a call is that of the endpoint e′, the answer is a, and the counts of the block are within its arrays
 pub record Becomes (y : Stepped) (a : Answer) (e′ : Endpoint) : Type 0 where
@@ -48,20 +50,17 @@ pub record Becomes (y : Stepped) (a : Answer) (e′ : Endpoint) : Type 0 where
 
 module _ (e e′ : Endpoint) where
   -- a call that leaves everything
-  same-station : Unchanged (e .link) (e′ .link) (e .parts) (e′ .parts) → NoOutput e e′ → stationOf e ≡ stationOf e′
-  same-station u n =
-      λ i. stationOf (record { link = sym (u .link) i; parts = sym (u .parts) i; output = sym (n .output) i; lengths = sym (n .lengths) i })
+  same-station : Unchanged (e .link) (e′ .link) (e .parts) (e′ .parts) → stationOf e ≡ stationOf e′
+  same-station u = λ i. stationOf (record { link = sym (u .link) i; parts = sym (u .parts) i })
 
-  refused-becomes : (a : Answer) → countsFit (e .link) ≡ true → Unchanged (e .link) (e′ .link) (e .parts) (e′ .parts) → NoOutput e e′
+  refused-becomes : (a : Answer) → countsFit (e .link) ≡ true → Unchanged (e .link) (e′ .link) (e .parts) (e′ .parts)
       → Becomes (record { station = stationOf e; answer = a }) a e′
-  refused-becomes a fit u n = record { station = same-station u n; answer = refl; counts = rw (u .link) fit }
+  refused-becomes a fit u = record { station = same-station u; answer = refl; counts = rw (u .link) fit }
 
   -- the lengths of lent parts are as they were
   record SameLengths : Type 0 where
     table : length (e′ .parts .table) ≡ length (e .parts .table)
     acks : length (e′ .parts .acks) ≡ length (e .parts .acks)
-    output : length (e′ .output) ≡ length (e .output)
-    lengths : length (e′ .lengths) ≡ length (e .lengths)
 
   -- a station with this state and these pools, all else as it was
   with-state : (s : State) (send receive : List ℕ) → stateIn (e′ .link) (e′ .parts) ≡ s → e′ .parts .sendPool ≡ send → e′ .parts .receivePool ≡ receive → SameLengths
@@ -71,7 +70,7 @@ module _ (e e′ : Endpoint) where
         state = sym p i;
         sendPool = sym q i;
         receivePool = sym r i;
-        lent = record { table = sym (n .table) i; ackList = sym (n .acks) i; output = sym (n .output) i; lengths = sym (n .lengths) i };
+        lent = record { table = sym (n .table) i; ackList = sym (n .acks) i; output = outputLeast; lengths = lengthsLeast };
       }
 
 -- ---- each call, by its outcome
@@ -91,53 +90,54 @@ reading-fits s pool room = go (readable (s .receiving .ready)) (leb (messageSize
     go true false f = tt
     go false b f = tt
 
+-- output and lengths as long as document 01 states are enough
+pub long-flush : (m : ℕ) (n : Lengths) (out lengths : ℕ) → enough m n ≡ true → outputLeast ≤ out → lengthsLeast ≤ lengths → enoughToFlush m n out lengths ≡ true
+unfolding enoughToFlush
+long-flush m n out lengths a b d = rw (a, le-leb outputLeast out b, le-leb lengthsLeast lengths d)
+
 -- the datagrams of a flush fit into output and lengths
 record FlushFits (x : Flushed) (out lengths : List ℕ) : Type 0 where
   bytes : length (joined (map bytesOfSegments (x .datagrams))) ≤ length out
   number : length (x .datagrams) ≤ length lengths
 
 module _ (e e′ : Endpoint) (fit : countsFit (e .link) ≡ true) where
-  sent-becomes : (o : Outcome Sends) (r : given.Answer) → Accepts r o → SendLeaves o (e .link) (e′ .link) (e .parts) (e′ .parts) → NoOutput e e′
+  sent-becomes : (o : Outcome Sends) (r : given.Answer) → Accepts r o → SendLeaves o (e .link) (e′ .link) (e .parts) (e′ .parts)
       → Becomes (afterSend (stationOf e) o) (acceptance r) e′
-  sent-becomes (Outcome.refused x) r ans u n = rw ans (refused-becomes e e′ (Answer.refused x) fit u n)
-  sent-becomes (Outcome.done x) r ans q n = record {
+  sent-becomes (Outcome.refused x) r ans u = rw ans (refused-becomes e e′ (Answer.refused x) fit u)
+  sent-becomes (Outcome.done x) r ans q = record {
     station = with-state e e′ (x .state) (x .pool) (e .parts .receivePool) (q .stands .state) (q .sendPool) (q .receivePool)
-        (record { table = ap length (q .table); acks = ap length (q .acks); output = ap length (n .output); lengths = ap length (n .lengths) });
+        (record { table = ap length (q .table); acks = ap length (q .acks) });
     answer = rw ans;
     counts = q .stands .counts;
   }
 
-  took-becomes : (o : Outcome Took) (r : given.Answer) → Accepts r o → InputLeaves o (e .link) (e′ .link) (e .parts) (e′ .parts) → NoOutput e e′
+  took-becomes : (o : Outcome Took) (r : given.Answer) → Accepts r o → InputLeaves o (e .link) (e′ .link) (e .parts) (e′ .parts)
       → Becomes (afterTakeIn (stationOf e) o) (acceptance r) e′
-  took-becomes (Outcome.refused x) r ans u n = rw ans (refused-becomes e e′ (Answer.refused x) fit u n)
-  took-becomes (Outcome.done x) r ans q n = record {
+  took-becomes (Outcome.refused x) r ans u = rw ans (refused-becomes e e′ (Answer.refused x) fit u)
+  took-becomes (Outcome.done x) r ans q = record {
     station = with-state e e′ (x .state) (e .parts .sendPool) (x .pool) (q .stands .state) (q .sendPool) (q .receivePool)
         (record {
           table = ap length (q .table) ∙ scattered-length (e .parts .table) _ _;
           acks = q .ackLength;
-          output = ap length (n .output);
-          lengths = ap length (n .lengths);
         });
     answer = rw ans;
     counts = q .stands .counts;
   }
 
-  flush-becomes : (x : Flushed) (r : Count) → r ≡ count.Of (length (x .datagrams))
-      → Flushes x (e′ .link) (e .parts) (e′ .parts) (e .output) (e .lengths) (e′ .output) (e′ .lengths)
-      → FlushFits x (e .output) (e .lengths)
-      → Becomes (afterFlush (stationOf e) x) (datagramsSeen r (e′ .output) (e′ .lengths)) e′
-  flush-becomes x r ans q f = record {
+  flush-becomes : (out lengths out′ lengths′ : List ℕ) (x : Flushed) (r : Count) → r ≡ count.Of (length (x .datagrams))
+      → Flushes x (e′ .link) (e .parts) (e′ .parts) out lengths out′ lengths′
+      → FlushFits x out lengths
+      → Becomes (afterFlush (stationOf e) x) (datagramsSeen r out′ lengths′) e′
+  flush-becomes out lengths out′ lengths′ x r ans q f = record {
     station = with-state e e′ (x .state) (e .parts .sendPool) (e .parts .receivePool) (q .stands .state) (q .sendPool) (q .receivePool)
         (record {
           table = ap length (q .table) ∙ scattered-length (e .parts .table) _ _;
           acks = ap length (q .acks);
-          output = output-long (q .output);
-          lengths = lengths-long (q .output);
         });
     answer = rw ans
         (ap Answer.wrote
         (sym
-        (output-cut (map bytesOfSegments (x .datagrams)) (e .output) (e .lengths) (length (x .datagrams)) (e′ .output) (e′ .lengths) (q .output) (f .bytes)
+        (output-cut (map bytesOfSegments (x .datagrams)) out lengths (length (x .datagrams)) out′ lengths′ (q .output) (f .bytes)
         (omega (arith, f .number, length-map (x .datagrams) bytesOfSegments)))));
     counts = q .stands .counts;
   }
@@ -145,16 +145,13 @@ module _ (e e′ : Endpoint) (fit : countsFit (e .link) ≡ true) where
   read-becomes : (buffer buffer′ : List ℕ) (o : Outcome Reads) (r : Count) → Counts (λ (x : Reads). length (x .bytes)) r o
       → ReadLeaves o (e .link) (e′ .link) (e .parts) (e′ .parts) buffer buffer′
       → ReadFits (length buffer) o
-      → NoOutput e e′
       → Becomes (afterReading (stationOf e) o) (messageSeen r buffer′) e′
-  read-becomes buffer buffer′ (Outcome.refused x) r ans q f n = rw ans (refused-becomes e e′ (Answer.refused x) fit (q .unchanged) n)
-  read-becomes buffer buffer′ (Outcome.done x) r ans q f n = record {
+  read-becomes buffer buffer′ (Outcome.refused x) r ans q f = rw ans (refused-becomes e e′ (Answer.refused x) fit (q .unchanged))
+  read-becomes buffer buffer′ (Outcome.done x) r ans q f = record {
     station = with-state e e′ (x .state) (e .parts .sendPool) (e .parts .receivePool) (q .stands .state) (ap (λ (p : Parts). p .sendPool) (q .parts)) (ap (λ (p : Parts). p .receivePool) (q .parts))
         (record {
           table = ap (λ (p : Parts). length (p .table)) (q .parts);
           acks = ap (λ (p : Parts). length (p .acks)) (q .parts);
-          output = ap length (n .output);
-          lengths = ap length (n .lengths);
         });
     answer = rw (ans, q .bytes) (ap Answer.message (sym (front-again buffer (x .bytes) f)));
     counts = q .stands .counts;
@@ -175,11 +172,11 @@ module _ (e : Endpoint) (long : enough (mss (e .link .settings)) (lengthsOf (e .
   unfolding readsWith
   reads-own room = rw (long, made)
 
-flushes-own : (e : Endpoint) (t : ℕ) → enoughToFlush (mss (e .link .settings)) (lengthsOf (e .parts)) (length (e .output)) (length (e .lengths)) ≡ true
+flushes-own : (e : Endpoint) (t out lengths : ℕ) → enoughToFlush (mss (e .link .settings)) (lengthsOf (e .parts)) out lengths ≡ true
     → isMade (e .link) (e .parts) ≡ true
-    → flushes (e .link) (e .parts) (length (e .output)) (length (e .lengths)) t ≡ Outcome.done (flushing (stateIn (e .link) (e .parts)) t (e .parts .sendPool))
+    → flushes (e .link) (e .parts) out lengths t ≡ Outcome.done (flushing (stateIn (e .link) (e .parts)) t (e .parts .sendPool))
 unfolding flushesWith
-flushes-own e t long made = rw (long, made)
+flushes-own e t out lengths long made = rw (long, made)
 
 -- ---- any call of an endpoint in order
 
@@ -196,21 +193,19 @@ module _ (c : Settings) (range : inRange c ≡ true) (conv : c .conv < 2 ^ 32) (
   unfolding blockValid
   is-made = rw (k .counts, is-valid)
 
-  long-flush : enoughToFlush (mss (e .link .settings)) (lengthsOf (e .parts)) (length (e .output)) (length (e .lengths)) ≡ true
-  unfolding stateOf
-  long-flush = in-order-long c range (stationOf e) (Call.flush 0) (k .order)
-
   pub is-long : enough (mss (e .link .settings)) (lengthsOf (e .parts)) ≡ true
-  is-long = flush-enough (mss (e .link .settings)) (lengthsOf (e .parts)) (length (e .output)) (length (e .lengths)) long-flush
+  unfolding stateOf
+  is-long =
+      flush-enough (mss (e .link .settings)) (lengthsOf (e .parts)) outputLeast lengthsLeast (in-order-long c range (stationOf e) (Call.flush 0) (k .order))
 
-  flush-fits : (t : ℕ) → t < 2 ^ 32 → FlushFits (flushing (stateIn (e .link) (e .parts)) t (e .parts .sendPool)) (e .output) (e .lengths)
-  flush-fits t time =
+  flush-fits : (t : ℕ) (out lengths : List ℕ) → t < 2 ^ 32 → outputLeast ≤ length out → lengthsLeast ≤ length lengths
+      → FlushFits (flushing (stateIn (e .link) (e .parts)) t (e .parts .sendPool)) out lengths
+  flush-fits t out lengths time long many =
       let w = flush-writes (stationOf e) t is-valid (k .order .sends .fits) (k .order .receives .fits .carries) (rw (k .order .sends .settings) conv)
       (in-order-long c range (stationOf e) (Call.flush t) (k .order)) time in
-      let r = output-room (mss c) (lengthsOf (e .parts)) (length (e .output)) (length (e .lengths)) (k .order .long) in
       record {
-        bytes = rw (joined-flatten (map bytesOfSegments (flushing (stateIn (e .link) (e .parts)) t (e .parts .sendPool) .datagrams))) (omega (arith, w .output, r .0));
-        number = omega (arith, w .lengths, r .1);
+        bytes = rw (joined-flatten (map bytesOfSegments (flushing (stateIn (e .link) (e .parts)) t (e .parts .sendPool) .datagrams))) (omega (arith, w .output));
+        number = omega (arith, w .lengths);
       }
 
   -- what the call promises makes it the station's own
@@ -218,25 +213,25 @@ module _ (c : Settings) (range : inRange c ≡ true) (conv : c .conv < 2 ^ 32) (
   own-call (Call.send m) a e′ f h =
       rw (h .sees)
       (sent-becomes e e′ (k .counts) (sending (stateIn (e .link) (e .parts)) (e .parts .sendPool) m) (h .gives) (rw (sends-own e is-long is-made m) at (h .promise .answer))
-      (rw (sends-own e is-long is-made m) at (h .promise .leaves))
-      (h .rest))
+      (rw (sends-own e is-long is-made m) at (h .promise .leaves)))
   own-call (Call.takeIn d) a e′ f h =
       rw (h .sees)
       (took-becomes e e′ (k .counts) (input (stateIn (e .link) (e .parts)) (e .parts .receivePool) d) (h .gives) (rw (takes-own e is-long is-made d) at (h .promise .answer))
-      (rw (takes-own e is-long is-made d) at (h .promise .leaves))
-      (h .rest))
+      (rw (takes-own e is-long is-made d) at (h .promise .leaves)))
   own-call (Call.flush t) a e′ f h =
+      let o = flushes-own e t (length (h .output)) (length (h .lengths))
+      (long-flush (mss (e .link .settings)) (lengthsOf (e .parts)) (length (h .output)) (length (h .lengths)) is-long (h .long) (h .many)) is-made in
       rw (h .sees)
-      (flush-becomes e e′ (k .counts) (flushing (stateIn (e .link) (e .parts)) t (e .parts .sendPool)) (h .gives) (rw (flushes-own e t long-flush is-made) at (h .promise .answer))
-      (rw (flushes-own e t long-flush is-made) at (h .promise .leaves))
-      (flush-fits t f))
+      (flush-becomes e e′ (k .counts) (h .output) (h .lengths) (h .output′) (h .lengths′) (flushing (stateIn (e .link) (e .parts)) t (e .parts .sendPool)) (h .gives)
+      (rw o at (h .promise .answer))
+      (rw o at (h .promise .leaves))
+      (flush-fits t (h .output) (h .lengths) f (h .long) (h .many)))
   own-call (Call.read room) a e′ f h =
       rw (h .sees, ← h .long)
       (read-becomes e e′ (k .counts) (h .buffer) (h .buffer′) (reading (stateIn (e .link) (e .parts)) (e .parts .receivePool) (length (h .buffer))) (h .gives)
       (rw (reads-own e is-long is-made (length (h .buffer))) at (h .promise .answer))
       (rw (reads-own e is-long is-made (length (h .buffer))) at (h .promise .leaves))
-      (reading-fits (stateIn (e .link) (e .parts)) (e .parts .receivePool) (length (h .buffer)))
-      (h .rest))
+      (reading-fits (stateIn (e .link) (e .parts)) (e .parts .receivePool) (length (h .buffer))))
 
   -- and it leaves an endpoint in order
   pub kept-call : (x : Call) (a : Answer) (e′ : Endpoint) → CallFits x → Called e x a e′ → Kept c e′

@@ -1,6 +1,7 @@
--- The station that an endpoint stands for: its state, its pools, and how long its other lent parts are.
+-- The station that an endpoint stands for: its state, its pools, and how long its other lent parts are. Output and lengths are as long as a flush asks.
 -- Assumes nothing.
 use lib.ListN.{length}
+use Rattle.protocol.specs.Protocol.{outputLeast, lengthsLeast}
 use Rattle.session.specs.Calls.{Station}
 use Rattle.calls.specs.Parts.{stateIn}
 use Rattle.demands.specs.Steps.{Endpoint}
@@ -14,7 +15,7 @@ stationOf e =
       lent = record {
         table = length (e .parts .table);
         ackList = length (e .parts .acks);
-        output = length (e .output);
-        lengths = length (e .lengths);
+        output = outputLeast;
+        lengths = lengthsLeast;
       };
     }

@@ -18,12 +18,10 @@ use Rattle.calls.specs.Parts.{Parts}
 use Rattle.calls.specs.Promises.{OpenPromise, SendPromise, InputPromise, FlushPromise, ReadPromise}
 use Rattle.delivery.specs.Hearing.{CallFits}
 
--- a link as its caller holds it: the control block, the parts lent to every call, and the output and lengths lent to each flush
+-- a link as its caller holds it: the control block, and the parts lent to every call
 pub record Endpoint : Type 0 where
   pub link : Link
   pub parts : Parts
-  pub output : List ℕ
-  pub lengths : List ℕ
 
 -- ---- what the caller sees
 
@@ -49,27 +47,27 @@ messageSeen (count.Refused r) buffer = Answer.refused r
 
 -- ---- one call
 
--- only a flush writes output and lengths
-pub record NoOutput (e e′ : Endpoint) : Type 0 where
-  pub output : e′ .output ≡ e .output
-  pub lengths : e′ .lengths ≡ e .lengths
-
 pub record Sent (message : List ℕ) (e : Endpoint) (a : Answer) (e′ : Endpoint) : Type 0 where
   pub gives : given.Answer
   pub promise : SendPromise message (e .link) (e .parts) gives (e′ .link) (e′ .parts)
   pub sees : a ≡ acceptance gives
-  pub rest : NoOutput e e′
 
 pub record TakenIn (datagram : List ℕ) (e : Endpoint) (a : Answer) (e′ : Endpoint) : Type 0 where
   pub gives : given.Answer
   pub promise : InputPromise datagram (e .link) (e .parts) gives (e′ .link) (e′ .parts)
   pub sees : a ≡ acceptance gives
-  pub rest : NoOutput e e′
 
+-- into any output and lengths that are as long as document 01 states
 pub record Flushed (t : ℕ) (e : Endpoint) (a : Answer) (e′ : Endpoint) : Type 0 where
+  pub output : List ℕ
+  pub lengths : List ℕ
+  pub long : outputLeast ≤ length output
+  pub many : lengthsLeast ≤ length lengths
   pub gives : Count
-  pub promise : FlushPromise t (e .link) (e .parts) (e .output) (e .lengths) gives (e′ .link) (e′ .parts) (e′ .output) (e′ .lengths)
-  pub sees : a ≡ datagramsSeen gives (e′ .output) (e′ .lengths)
+  pub output′ : List ℕ
+  pub lengths′ : List ℕ
+  pub promise : FlushPromise t (e .link) (e .parts) output lengths gives (e′ .link) (e′ .parts) output′ lengths′
+  pub sees : a ≡ datagramsSeen gives output′ lengths′
 
 -- into any buffer that long
 pub record Read (room : ℕ) (e : Endpoint) (a : Answer) (e′ : Endpoint) : Type 0 where
@@ -79,7 +77,6 @@ pub record Read (room : ℕ) (e : Endpoint) (a : Answer) (e′ : Endpoint) : Typ
   pub buffer′ : List ℕ
   pub promise : ReadPromise (e .link) (e .parts) buffer gives (e′ .link) (e′ .parts) buffer′
   pub sees : a ≡ messageSeen gives buffer′
-  pub rest : NoOutput e e′
 
 -- the call x of the endpoint e was answered with a, and left e′
 abbrev pub Called : Endpoint → Call → Answer → Endpoint → Type 0
@@ -90,19 +87,18 @@ Called e (Call.read room) a e′ = Read room e a e′
 
 -- ---- lists of calls
 
--- each call gets block and parts as the last one left them
+-- each call gets block and parts as the last one left them. Telling the size and showing may stand anywhere between them, and are not listed: they
+-- give neither block nor parts back, so the next call gets those of the call before
 pub data Runs : Endpoint → List Call → List Event → Endpoint → Type 0 where
   start : {e : Endpoint} → Runs e [] [] e
   next : (e : Endpoint) (x : Call) (a : Answer) (e′ : Endpoint) {xs : List Call} {events : List Event} {e″ : Endpoint}
       → Called e x a e′ → Runs e′ xs events e″ → Runs e (x ∷ xs) (record { call = x; answer = a } ∷ events) e″
 
--- an accepted opening with the settings c, whatever block and bytes were there, with output and lengths for a flush
+-- an accepted opening with the settings c, whatever block and bytes were there
 pub record Opens (c : Settings) (e : Endpoint) : Type 0 where
   pub block : Link
   pub lent : Parts
   pub promise : OpenPromise c block lent answer.Accepted (e .link) (e .parts)
-  pub output : outputLeast ≤ length (e .output)
-  pub lengths : lengthsLeast ≤ length (e .lengths)
 
 -- an accepted opening with the settings c, then these calls with these answers, after which the endpoint is e. A conversation has 32 bits,
 -- a call's bytes are bytes and its time has 32 bits

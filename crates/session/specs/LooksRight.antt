@@ -1,5 +1,4 @@
 -- Errors that look right, as document 01 names them: what the definitions give where each would give something else. Proved by computing.
--- (The first, numbers compared as plain ones, is marked case B.)
 -- Assumes nothing.
 use mathlib.Core.Path.{_≡_, refl}
 use mathlib.Core.Bool.{Bool, true, false, cond}
@@ -15,19 +14,36 @@ use Rattle.wire.specs.Headers.{encode, front, back, decode}
 use Rattle.datagram.specs.Datagrams.{Segment, parse, walk, tail, verdict, segmentOf}
 use Rattle.timing.specs.RoundTrips.{nextSmoothed, nextVariation, leastTimeout, timeoutOf, sampled}
 use Rattle.lists.specs.declared.Sent.{Sent}
+use Rattle.lists.specs.declared.Waiting.{Waiting}
 use Rattle.lists.specs.Orders.{insert, isHeld}
 use Rattle.lists.specs.Receiving.{advance}
 use Rattle.lists.specs.Acknowledging.{select, firstNumberOr, skipBefore}
 use Rattle.session.specs.Slots.{occurs, lowestFrom, lowestFree}
 use Rattle.session.specs.State.{Sending, Receiving, Outcome}
 use Rattle.session.specs.Opening.{opened}
-use Rattle.session.specs.Input.{acknowledged, sampledBy, heardBySending, allBySending, ackNumbers, furthest, skipped, skippedByAll, pushed, input}
+use Rattle.session.specs.Input.{Receiver, acknowledged, sampledBy, heardBySending, allBySending, ackNumbers, furthest, skipped, skippedByAll, pushed, input}
 
 abbrev small : Settings
 small = record { conv = 1; mtu = 50; interval = 100; mode = 0; threshold = 0 }
 
 abbrev segment : ℕ → ℕ → ℕ → Segment
 segment cmd fragment sn = record { header = record { conv = 1; cmd = cmd; frg = fragment; wnd = 128; ts = 0; sn = sn; una = 0; len = 0 }; payload = [] }
+
+-- ---- comparing sn as plain numbers
+
+-- the last number is expected next, and pushes come with these numbers
+unfoldable pub afterLast : List ℕ → Receiving
+afterLast sns = after (record { half = record { next = 4294967295; ready = []; waiting = []; acks = []; tell = false }; pool = [] }) sns .half
+  where
+    after : Receiver → List ℕ → Receiver
+    after x [] = x
+    after x (sn ∷ l) = after (pushed 26 x (segment push 0 sn)) l
+
+-- number 0 comes after 4,294,967,295: it is noted and kept, and both are ready once that one comes too
+pub kept-past-last : (map (λ (w : Waiting). w .number) (afterLast (0 ∷ []) .waiting) ≡ 0 ∷ []) × (length (afterLast (0 ∷ []) .acks) ≡ 1)
+    × (length (afterLast (0 ∷ 4294967295 ∷ []) .ready) ≡ 2) × (afterLast (0 ∷ 4294967295 ∷ []) .next ≡ 1)
+unfolding afterLast pushed insert isHeld advance lowestFree lowestFrom occurs signed isBefore
+kept-past-last = (refl, refl, refl, refl)
 
 -- ---- a skip per ack
 

@@ -2,19 +2,21 @@
 -- Assumes nothing.
 use mathlib.Core.Path.{_≡_, refl, sym, ap, _∙_}
 use mathlib.Core.Bool.{Bool, true, false, cond, _&&_}
-use mathlib.Core.List.{List, [], _∷_, _++_}
-use Prim.Native.Nat.{ℕ, _+_, _^_, _≤_, _<_}
+use mathlib.Core.List.{List, _++_}
+use Prim.Native.Nat.{ℕ, zero, suc, _+_, _^_, _≤_, _<_}
+use native.Mathlib.Decide.{decLt}
+use native.Mathlib.Numerals.{add-one}
 use native.Mathlib.Omega.{arith}
-use borrow.Author.Tests.{le-leb, lt-leb, eq-eqb, ne-eqb, eqb-true}
+use borrow.Author.Tests.{le-leb, lt-leb, leb-true, eq-eqb, ne-eqb, eqb-true}
 use lib.Dec.{leb, eqb}
 use lib.ListN.{length, length-append, take, drop, getD}
-use lib.Seq.{take-add, take-all, drop-drop, sets}
+use lib.Seq.{take-suc, take-add, take-all, drop-drop, take-append-seam, sets, sets-eq}
 use Rattle.protocol.specs.Ranges.{inRange}
 use Rattle.protocol.specs.declared.Settings.{Settings}
 use Rattle.wire.specs.LittleEndian.{bytesOf, numberAt, AllBytes}
 use Rattle.wire.specs.LittleEndianLaws.{number-of-bytes, bytes-of-number, length-bytesOf}
 use Rattle.wire.specs.Stores.{sets-append}
-use Rattle.settings_file.specs.Files.{mark, front, back, fileOf, writeInto, Writes, isMarked, settingsAt, ranged, readFrom}
+use Rattle.settings_file.specs.Files.{mark, front, back, fileOf, writeInto, Writes, sameFirst, isMarked, settingsAt, ranged, readFrom}
 use Rattle.settings_file.specs.declared.FileRefusal.{FileRefusal}
 use Rattle.settings_file.specs.declared.FileRefusal.the-variants.{ShortPart, SettingOutOfRange, NotSettings, UnknownVersion}
 use Rattle.settings_file.specs.declared.Reading.{Reading}
@@ -46,15 +48,9 @@ settings-of-file c r = λ i. record {
 
 -- ---- stored one behind the other
 
-pub front-stored :
-    (l : List ℕ) {x y z w : List ℕ} →
-    x ≡ sets l 0 (bytesOf 1 75) →
-    y ≡ sets x 1 (bytesOf 1 76) →
-    z ≡ sets y 2 (bytesOf 1 83) →
-    w ≡ sets z 3 (bytesOf 2 1) →
-    w ≡ sets l 0 front
+pub front-stored : (l : List ℕ) {x y : List ℕ} → x ≡ sets l 0 mark → y ≡ sets x 3 (bytesOf 2 1) → y ≡ sets l 0 front
 unfolding front
-front-stored l p q r s = simp (sets-append, length-append, length-bytesOf) (cc)
+front-stored l p q = simp sets-append (cc)
 
 pub back-stored :
     (c : Settings) (l : List ℕ) {x y z w v : List ℕ} →
@@ -74,6 +70,39 @@ length-front = refl
 pub file-stored : (c : Settings) (l : List ℕ) {x y : List ℕ} → x ≡ sets l 0 front → y ≡ sets x 5 (back c) → y ≡ sets l 0 (fileOf c)
 unfolding fileOf
 file-stored c l p q = rw (sets-append, length-front) (cc)
+
+-- ---- the mark
+
+and-parts : (a b : Bool) → (a && b) ≡ true → (a ≡ true) × (b ≡ true)
+and-parts true b e = (refl, e)
+and-parts false b e = absurd (let z : _≡_ {A = ℕ} 0 1 = cc in omega arith)
+
+and-false : (a : Bool) → (a && false) ≡ false
+and-false true = refl
+and-false false = refl
+
+module _ (a b : List ℕ) where
+  -- one byte more
+  pub same-more : (n : ℕ) → sameFirst n a b ≡ true → getD a n 0 ≡ getD b n 0 → sameFirst (n + 1) a b ≡ true
+  unfolding sameFirst
+  same-more n h e = rw (add-one n, h, eq-eqb (getD a n 0) (getD b n 0) e)
+
+  -- a byte that differs
+  pub not-same : (n i : ℕ) → i < n → (getD a i 0 ≡ getD b i 0 → ⊥) → sameFirst n a b ≡ false
+  unfolding sameFirst
+  not-same zero i h d = absurd (omega arith)
+  not-same (suc n) i h d = go (decLt i n) (λ p. not-same n i p d)
+    where
+      go : Dec (i < n) → (i < n → sameFirst n a b ≡ false) → (sameFirst n a b && eqb (getD a n 0) (getD b n 0)) ≡ false
+      go (yes p) before = rw (before p)
+      go (no p) before = let e : n ≡ i = omega arith in rw (e, ne-eqb (getD a i 0) (getD b i 0) d) (and-false (sameFirst i a b))
+
+first-same : (n : ℕ) (a b : List ℕ) → n ≤ length a → n ≤ length b → sameFirst n a b ≡ true → take n a ≡ take n b
+unfolding sameFirst
+first-same zero a b p q e = refl
+first-same (suc n) a b p q e =
+    let h = and-parts (sameFirst n a b) (eqb (getD a n 0) (getD b n 0)) e in
+    rw (take-suc a n 0, take-suc b n 0, first-same n a b (omega arith) (omega arith) (h .0), eqb-true (getD a n 0) (getD b n 0) (h .1))
 
 -- ---- the tests, in turn
 
@@ -116,7 +145,7 @@ module _ (f : List ℕ) where
 -- ---- the round trips
 
 marked : (c : Settings) → isMarked (fileOf c) ≡ true
-unfolding isMarked fileOf front bytesOf
+unfolding isMarked sameFirst fileOf front bytesOf
 marked c = refl
 
 versioned : (c : Settings) → numberAt 2 (fileOf c) 3 ≡ 1
@@ -126,10 +155,6 @@ versioned c = refl
 -- settings in range that are written and read back are returned
 pub read-written : (c : Settings) → SettingsFit c → inRange c ≡ true → readFrom (fileOf c) ≡ reading.Settings c
 read-written c r e = sym (whole-file (fileOf c) (marked c) (versioned c) (length-file c)) ∙ rw (settings-of-file c r, e)
-
-and-parts : (a b : Bool) → (a && b) ≡ true → (a ≡ true) × (b ≡ true)
-and-parts true b e = (refl, e)
-and-parts false b e = absurd (let z : _≡_ {A = ℕ} 0 1 = cc in omega arith)
 
 -- what a file that is accepted has passed
 record Accepted (f : List ℕ) (c : Settings) : Type 0 where
@@ -174,31 +199,14 @@ accepted-by f c e = go (leb 5 (length f) && isMarked f) refl (eqb (numberAt 2 f 
 join : (a b i : ℕ) (f : List ℕ) → take a (drop i f) ++ take b (drop (i + a) f) ≡ take (a + b) (drop i f)
 join a b i f = rw (take-add, drop-drop)
 
-one : (f : List ℕ) (i x : ℕ) → getD f i 0 ≡ x → numberAt 1 f i ≡ x
-unfolding numberAt
-one f i x e = omega (arith, e)
-
--- a byte of f
-byte-of : (f : List ℕ) (i x : ℕ) → AllBytes f → i + 1 ≤ length f → getD f i 0 ≡ x → bytesOf 1 x ≡ take 1 (drop i f)
-byte-of f i x b long e = ap (bytesOf 1) (sym (one f i x e)) ∙ bytes-of-number 1 f i b long
-
--- the three letters, where f begins with them
-letters : (f : List ℕ) → AllBytes f → length f ≡ 15 → isMarked f ≡ true → mark ≡ take 3 f
+-- the mark, where f begins with it
+letters : (f : List ℕ) → length f ≡ 15 → isMarked f ≡ true → mark ≡ take 3 f
 unfolding isMarked
-letters f b long e =
-    let p = and-parts _ _ e in
-    let q = and-parts _ _ (p .0) in
-    rw (
-      byte-of f 0 75 b (omega arith) (eqb-true _ _ (q .0)),
-      byte-of f 1 76 b (omega arith) (eqb-true _ _ (q .1)),
-      byte-of f 2 83 b (omega arith) (eqb-true _ _ (p .1)),
-      join 1 1 0,
-      join 2 1 0,
-    )
+letters f long e = sym (first-same 3 f mark (omega arith) (omega arith) e)
 
 front-of : (f : List ℕ) → AllBytes f → length f ≡ 15 → isMarked f ≡ true → numberAt 2 f 3 ≡ 1 → front ≡ take 5 f
 unfolding front
-front-of f b long m v = rw (letters f b long m, ← v, bytes-of-number 2 f 3 b (omega arith), join 3 2 0)
+front-of f b long m v = ap (λ (l : List ℕ). l ++ bytesOf 2 1) (letters f long m) ∙ rw (← v, bytes-of-number 2 f 3 b (omega arith), join 3 2 0)
 
 back-of : (f : List ℕ) → AllBytes f → length f ≡ 15 → back (settingsAt f) ≡ take 10 (drop 5 f)
 unfolding back settingsAt
@@ -221,3 +229,42 @@ unfolding fileOf
 written-read f c b e =
     let a = accepted-by f c e in
     sym (rw (← a .settings, front-of f b (a .whole) (a .marked) (a .versioned), back-of f b (a .whole), join 5 10 0) (take-all 15 f (omega (arith, a .whole))))
+
+-- ---- the round trips, of the part that writing leaves
+
+-- what was written is the file of settings in range
+pub record Wrote (c : Settings) (before after : List ℕ) : Type 0 where
+  pub room : 15 ≤ length before
+  pub range : inRange c ≡ true
+  pub file : take 15 after ≡ fileOf c
+
+whole-decides : (c : Settings) (n : ℕ) → writing.Whole ≡ writeInto c n → (15 ≤ n) × (inRange c ≡ true)
+unfolding writeInto
+whole-decides c n e = go (leb 15 n) refl (inRange c) refl e
+  where
+    go : (a : Bool) → leb 15 n ≡ a → (b : Bool) → inRange c ≡ b
+        → writing.Whole ≡ cond a (cond b writing.Whole (writing.Refused SettingOutOfRange)) (writing.Refused ShortPart)
+        → (15 ≤ n) × (inRange c ≡ true)
+    go true p true q h = (leb-true 15 n p, q)
+    go true p false q h = absurd (let z : _≡_ {A = ℕ} 0 1 = cc in omega arith)
+    go false p b q h = absurd (let z : _≡_ {A = ℕ} 0 1 = cc in omega arith)
+
+stored-front : (c : Settings) (l : List ℕ) → 15 ≤ length l → take 15 (sets l 0 (fileOf c)) ≡ fileOf c
+stored-front c l h =
+    ap (λ (n : ℕ). take n (sets l 0 (fileOf c))) (sym (length-file c))
+    ∙ rw (sets-eq (fileOf c) l 0 (omega (arith, length-file c))) (take-append-seam (fileOf c) (drop (0 + length (fileOf c)) l))
+
+wrote : (c : Settings) (before after : List ℕ) → Writes c before writing.Whole after → Wrote c before after
+wrote c before after w =
+    let d = whole-decides c (length before) (w .answer) in
+    record { room = d .0; range = d .1; file = rw (w .leaves) (stored-front c before (d .0)) }
+
+-- the part that `write` leaves begins with a file that is read as these settings
+pub write-then-read : (c : Settings) (before after : List ℕ) → SettingsFit c → Writes c before writing.Whole after → readFrom (take 15 after) ≡ reading.Settings c
+write-then-read c before after fit w =
+    let h = wrote c before after w in
+    rw (h .file) (read-written c fit (h .range))
+
+-- a file that is accepted is the one that `write` leaves for its settings
+pub read-then-write : (f : List ℕ) (c : Settings) (before after : List ℕ) → AllBytes f → readFrom f ≡ reading.Settings c → Writes c before writing.Whole after → take 15 after ≡ f
+read-then-write f c before after b e w = wrote c before after w .file ∙ sym (written-read f c b e)

@@ -1,9 +1,9 @@
 -- A settings file: what is written, and what a file is read as. Definitions.
 -- Assumes nothing.
 use mathlib.Core.Path.{_≡_}
-use mathlib.Core.Bool.{Bool, cond, _&&_}
-use mathlib.Core.List.{List, _++_}
-use Prim.Native.Nat.{ℕ}
+use mathlib.Core.Bool.{Bool, true, cond, _&&_}
+use mathlib.Core.List.{List, [], _∷_, _++_}
+use Prim.Native.Nat.{ℕ, zero, suc}
 use lib.Dec.{leb, eqb}
 use lib.ListN.{length, getD}
 use lib.Seq.{sets}
@@ -37,9 +37,9 @@ fileSize = 15
 abbrev pub version : ℕ
 version = 1
 
--- the three letters KLS
+-- the three letters KLS, first in every file
 abbrev pub mark : List ℕ
-mark = bytesOf 1 75 ++ bytesOf 1 76 ++ bytesOf 1 83
+mark = 75 ∷ 76 ∷ 83 ∷ []
 
 -- mark, and the version in 16 bits
 unfoldable pub front : List ℕ
@@ -68,9 +68,14 @@ pub record Writes (c : Settings) (before : List ℕ) (a : Writing) (after : List
 
 -- ---- reading
 
--- whether a file begins with the three letters
+-- whether the first n bytes are the same
+unfoldable pub sameFirst : ℕ → List ℕ → List ℕ → Bool
+sameFirst zero a b = true
+sameFirst (suc n) a b = sameFirst n a b && eqb (getD a n 0) (getD b n 0)
+
+-- whether a file begins with the mark
 unfoldable pub isMarked : List ℕ → Bool
-isMarked f = eqb (getD f 0 0) 75 && eqb (getD f 1 0) 76 && eqb (getD f 2 0) 83
+isMarked f = sameFirst 3 f mark
 
 -- the settings of its bytes, in range or not
 unfoldable pub settingsAt : List ℕ → Settings

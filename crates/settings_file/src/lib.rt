@@ -8,6 +8,9 @@ ghost use lib.ListN.{length};
 ghost use lib.Seq.{sets};
 ghost use Rattle.settings_file.specs.Files.{fileSize, numberOf, front, back, fileOf, isMarked, settingsAt, ranged, readFrom, Writes};
 
+// The mark, which every file begins with.
+const MARK: [u8; 3] = *b"KLS";
+
 // The bytes of a file, and its version.
 const SIZE: usize = 15;
 
@@ -55,9 +58,8 @@ fn put_front(out: &mut [u8])
     requires { ⌜ fileSize ≤ length (now out) ⌝ }
     ensures { λ _. ⌜ now (out .exit) ≡ sets (now (out .entry)) 0 front ⌝ }
 {
-    number::put_u8(out, 0, b'K');
-    number::put_u8(out, 1, b'L');
-    number::put_u8(out, 2, b'S');
+    let mark = MARK;
+    pools::copy_part(&mark, 0, 3, out, 0);
     number::put_u16(out, 3, VERSION);
 }
 
@@ -88,12 +90,20 @@ pub fn write(settings: Settings, out: &mut [u8]) -> Writing
     Writing::Refused(FileRefusal::SettingOutOfRange)
 }
 
-// Whether a file begins with the three letters.
+// Whether a file begins with the mark.
 fn is_marked(file: &[u8]) -> bool
     requires { ⌜ 3 ≤ length (now file) ⌝ }
     ensures { λ r. ⌜ r ≡ isMarked (now (file .entry)) ⌝ }
 {
-    (file[0] == b'K') & (file[1] == b'L') & (file[2] == b'S')
+    let mark = MARK;
+    let mut i: usize = 0;
+    while i < 3 {
+        if file[i] != mark[i] {
+            return false;
+        }
+        i += 1;
+    }
+    true
 }
 
 // The settings of a file's 15 bytes, in range or not.

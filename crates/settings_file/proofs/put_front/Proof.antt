@@ -1,4 +1,4 @@
--- `settings_file::put_front` meets its contract: three letters and the version, one stored behind the other.
+-- `settings_file::put_front` meets its contract: the mark and the version, one stored behind the other.
 -- Assumes nothing.
 use borrow.Author.Needs.{needs}
 use Rattle.settings_file.specs.FileLaws.{front-stored}
@@ -6,7 +6,7 @@ use Rattle.settings_file.proofs.put_front.Statement.{statement}
 use Rattle.settings_file.proofs.put_front.Tie as tie
 
 returns : tie.Need-returns
-returns c = front-stored _ (c .before .before .before .before .before .before .before .before .before .before .before .before .before .before .put-u8 .ensures) (c .before .before .before .before .before .before .before .before .before .before .put-u82 .ensures) (c .before .before .before .before .before .before .put-u83 .ensures) (c .before .before .put-u16 .ensures)
+returns c = front-stored _ (c .before .before .before .before .before .before .copy-part .ensures) (c .before .before .put-u16 .ensures)
 
 pub put-front-spec : {M : Type 1} → statement M
-put-front-spec = tie.close (tie.spec (search needs) (search needs) (search needs) (search needs) (search needs) returns)
+put-front-spec = tie.close (tie.spec (search needs) (search needs) (search needs) (search needs) returns)

@@ -1,0 +1,3 @@
+pub mod OfStations
+pub mod Blocks
+pub mod OfEndpoints

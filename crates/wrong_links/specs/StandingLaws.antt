@@ -1,0 +1,171 @@
+-- What the promise of a call says of a block at a known state: the answer, and the state that it is at afterwards.
+-- Assumes nothing.
+use mathlib.Core.Path.{_≡_, ap, _∙_, subst}
+use mathlib.Core.Bool.{true}
+use mathlib.Core.List.{List, map}
+use Prim.Native.Nat.{ℕ}
+use lib.Dec.{leb}
+use lib.ListN.{length}
+use lib.Seq.{sets}
+use Rattle.protocol.specs.Ranges.{mss}
+use Rattle.protocol.specs.Protocol.{outputLeast, lengthsLeast}
+use Rattle.protocol.specs.declared.Settings.{Settings}
+use Rattle.protocol.specs.declared.Refusal.{Refusal}
+use Rattle.sizes.specs.Sizes.{enough, enoughToFlush}
+use Rattle.session.specs.State.{State, Outcome, refused, done}
+use Rattle.session.specs.Opening.{opening}
+use Rattle.session.specs.Sending.{Sends, sending}
+use Rattle.session.specs.Input.{Took, input}
+use Rattle.session.specs.Flushing.{Flushed, flushing, bytesOfSegments}
+use Rattle.session.specs.Reading.{Reads, reading, telling, showing}
+use Rattle.block.specs.Views.{stateOf, blockValid}
+use Rattle.block.specs.declared.Link.{Link}
+use Rattle.records.specs.TableLaws.{scattered-length}
+use Rattle.packing.specs.Packers.{Output}
+use Rattle.answers.specs.declared.Answer.{Answer}
+use Rattle.answers.specs.declared.Answer.the-variants as answer
+use Rattle.answers.specs.declared.Count.{Count}
+use Rattle.answers.specs.declared.Count.the-variants as count
+use Rattle.calls.specs.Parts.{Parts, lengthsOf, isMade}
+use Rattle.calls.specs.Outcomes.{sendsWith, takesInWith, flushesWith, readsWith, tellsWith, showsWith, opens, sends, takesIn, flushes, reads, tells, shows}
+use Rattle.calls.specs.Answers.{Accepts, Counts, countOutcome}
+use Rattle.calls.specs.Promises.{OpenPromise, OpenLeaves, SendPromise, SendLeaves, InputPromise, InputLeaves, FlushPromise, FlushLeaves, ReadPromise, NoRead, ReadLeaves, SizePromise, ShowPromise, shown}
+use Rattle.wrong_links.specs.Standing.{Known, Lends, At, Passes, lengthsKnown}
+
+-- ---- opening
+
+-- opening with parts that have these pools, 128 records and 512 entries for acks
+module _ (c : Settings) (l : Link) (p : Parts) (l′ : Link) (p′ : Parts) (k : Known) (a : Answer) where
+  pub opening-goes : Lends p (k .sendPool) (k .receivePool) → opening c (lengthsKnown k) ≡ done (k .state) → OpenPromise c l p a l′ p′ → (a ≡ answer.Accepted) × At l′ p′ k
+  opening-goes lends e h =
+      let o : opens c p ≡ done (k .state) = rw (lends .sendPool, lends .receivePool, lends .table, lends .acks) e in
+      let r = subst (λ (o : Outcome State). Accepts a o × OpenLeaves o l l′ p p′) o (h .answer, h .leaves) in
+      (r .0, record { stands = r .1 .0; lends = rw (r .1 .1) lends })
+
+-- ---- every other call
+
+module _ (l : Link) (p : Parts) (k : Known) (at : At l p k) (passes : Passes k) where
+  settings-known : l .settings ≡ k .state .settings
+  unfolding stateOf
+  settings-known = ap (λ (s : State). s .settings) (at .stands .state)
+
+  long-known : enough (mss (l .settings)) (lengthsOf p) ≡ true
+  long-known = rw (settings-known, at .lends .sendPool, at .lends .receivePool, at .lends .table, at .lends .acks) (passes .long)
+
+  made-known : isMade l p ≡ true
+  unfolding blockValid
+  made-known = rw (at .stands .counts, at .stands .state) (passes .made)
+
+  sends-known : (m : List ℕ) → sends l p m ≡ sending (k .state) (k .sendPool) m
+  unfolding sendsWith
+  sends-known m = rw (long-known, made-known, at .stands .state, at .lends .sendPool)
+
+  takes-known : (d : List ℕ) → takesIn l p d ≡ input (k .state) (k .receivePool) d
+  unfolding takesInWith
+  takes-known d = rw (long-known, made-known, at .stands .state, at .lends .receivePool)
+
+  flushes-known : (out lengths t : ℕ) → leb outputLeast out ≡ true → leb lengthsLeast lengths ≡ true → flushes l p out lengths t ≡ done (flushing (k .state) t (k .sendPool))
+  unfolding flushesWith enoughToFlush
+  flushes-known out lengths t o n = rw (long-known, o, n, made-known, at .stands .state, at .lends .sendPool)
+
+  reads-known : (room : ℕ) → reads l p room ≡ reading (k .state) (k .receivePool) room
+  unfolding readsWith
+  reads-known room = rw (long-known, made-known, at .stands .state, at .lends .receivePool)
+
+  tells-known : tells l p ≡ telling (k .state)
+  unfolding tellsWith
+  tells-known = rw (long-known, made-known, at .stands .state)
+
+  shows-known : shows l p ≡ showing (k .state)
+  unfolding showsWith
+  shows-known = rw (long-known, made-known, at .stands .state)
+
+  -- a message that the definition accepts is accepted and queued
+  pub send-goes : (m : List ℕ) (a : Answer) (l′ : Link) (p′ : Parts) (x : Sends) → sending (k .state) (k .sendPool) m ≡ done x
+      → SendPromise m l p a l′ p′
+      → (a ≡ answer.Accepted) × At l′ p′ (record { state = x .state; sendPool = x .pool; receivePool = k .receivePool })
+  send-goes m a l′ p′ x e h =
+      let r = subst (λ (o : Outcome Sends). Accepts a o × SendLeaves o l l′ p p′) (sends-known m ∙ e) (h .answer, h .leaves) in (
+        r .0,
+        record {
+          stands = r .1 .stands;
+          lends = record {
+            sendPool = r .1 .sendPool;
+            receivePool = r .1 .receivePool ∙ at .lends .receivePool;
+            table = ap length (r .1 .table) ∙ at .lends .table;
+            acks = ap length (r .1 .acks) ∙ at .lends .acks;
+          };
+        },
+      )
+
+  -- a datagram that the definition accepts is accepted and taken in, by both halves
+  pub input-goes : (d : List ℕ) (a : Answer) (l′ : Link) (p′ : Parts) (x : Took) → input (k .state) (k .receivePool) d ≡ done x
+      → InputPromise d l p a l′ p′
+      → (a ≡ answer.Accepted) × At l′ p′ (record { state = x .state; sendPool = k .sendPool; receivePool = x .pool })
+  input-goes d a l′ p′ x e h =
+      let r = subst (λ (o : Outcome Took). Accepts a o × InputLeaves o l l′ p p′) (takes-known d ∙ e) (h .answer, h .leaves) in (
+        r .0,
+        record {
+          stands = r .1 .stands;
+          lends = record {
+            sendPool = r .1 .sendPool ∙ at .lends .sendPool;
+            receivePool = r .1 .receivePool;
+            table = ap length (r .1 .table) ∙ scattered-length (p .table) _ _ ∙ at .lends .table;
+            acks = r .1 .ackLength ∙ at .lends .acks;
+          };
+        },
+      )
+
+  -- a flush answers the number of the definition's datagrams, and these stand in its output
+  pub flush-goes : (t : ℕ) (out lengths : List ℕ) (a : Count) (l′ : Link) (p′ : Parts) (out′ lengths′ : List ℕ) (x : Flushed)
+      → leb outputLeast (length out) ≡ true
+      → leb lengthsLeast (length lengths) ≡ true
+      → flushing (k .state) t (k .sendPool) ≡ x
+      → FlushPromise t l p out lengths a l′ p′ out′ lengths′
+      → (a ≡ count.Of (length (x .datagrams)))
+      × At l′ p′ (record { state = x .state; sendPool = k .sendPool; receivePool = k .receivePool })
+      × Output (map bytesOfSegments (x .datagrams)) out lengths (length (x .datagrams)) out′ lengths′
+  flush-goes t out lengths a l′ p′ out′ lengths′ x o n e h =
+      let r =
+      subst (λ (o : Outcome Flushed). Counts (λ (y : Flushed). length (y .datagrams)) a o × FlushLeaves o l l′ p p′ out lengths out′ lengths′)
+      (flushes-known (length out) (length lengths) t o n ∙ ap done e) (h .answer, h .leaves) in (
+        r .0,
+        record {
+          stands = r .1 .stands;
+          lends = record {
+            sendPool = r .1 .sendPool ∙ at .lends .sendPool;
+            receivePool = r .1 .receivePool ∙ at .lends .receivePool;
+            table = ap length (r .1 .table) ∙ scattered-length (p .table) _ _ ∙ at .lends .table;
+            acks = ap length (r .1 .acks) ∙ at .lends .acks;
+          };
+        },
+        r .1 .output,
+      )
+
+  -- a read answers the length of the definition's message, and this stands in its buffer
+  pub read-goes : (buffer : List ℕ) (a : Count) (l′ : Link) (p′ : Parts) (buffer′ : List ℕ) (x : Reads)
+      → reading (k .state) (k .receivePool) (length buffer) ≡ done x
+      → ReadPromise l p buffer a l′ p′ buffer′
+      → (a ≡ count.Of (length (x .bytes)))
+      × At l′ p′ (record { state = x .state; sendPool = k .sendPool; receivePool = k .receivePool })
+      × (buffer′ ≡ sets buffer 0 (x .bytes))
+  read-goes buffer a l′ p′ buffer′ x e h =
+      let r =
+      subst (λ (o : Outcome Reads). Counts (λ (y : Reads). length (y .bytes)) a o × ReadLeaves o l l′ p p′ buffer buffer′)
+      (reads-known (length buffer) ∙ e) (h .answer, h .leaves) in
+      (r .0, record { stands = r .1 .stands; lends = rw (r .1 .parts) (at .lends) }, r .1 .bytes)
+
+  -- one that the definition refuses is refused with its refusal, and changes nothing
+  pub read-refused : (buffer : List ℕ) (a : Count) (l′ : Link) (p′ : Parts) (buffer′ : List ℕ) (r : Refusal)
+      → reading (k .state) (k .receivePool) (length buffer) ≡ refused r
+      → ReadPromise l p buffer a l′ p′ buffer′
+      → (a ≡ count.Refused r) × NoRead l l′ p p′ buffer buffer′
+  read-refused buffer a l′ p′ buffer′ r e h =
+      subst (λ (o : Outcome Reads). Counts (λ (y : Reads). length (y .bytes)) a o × ReadLeaves o l l′ p p′ buffer buffer′)
+      (reads-known (length buffer) ∙ e) (h .answer, h .leaves)
+
+  pub size-goes : (a : Count) → SizePromise l p a → countOutcome a ≡ telling (k .state)
+  size-goes a h = h .answer ∙ tells-known
+
+  pub show-goes : (part : List ℕ) → ShowPromise l p part → part ≡ shown (showing (k .state)) (k .receivePool)
+  show-goes part h = h .bytes ∙ rw (shows-known, at .lends .receivePool)

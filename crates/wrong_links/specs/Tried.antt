@@ -1,0 +1,153 @@
+-- The wrong links of document 01, tried against the promises of the public calls. Whatever block and parts a link that keeps its promises has, it
+-- goes through the session of `Session` as computed there, from an accepted opening on; so none of these keeps them:
+-- - one that refuses everything: `refuses-opening` and the five after it, and `show-first`;
+-- - one that always reads the same message: `read-second`, `read-none`;
+-- - one that takes datagrams and does nothing: `input-second` with `size-first` (the receiving half), `input-acks` (the sending half), and of any
+--   block `pushes-kept`, `acks-remove` (HalfLaws);
+-- - one that handles the first segment or the first message only: `send-second`, `flush-both`, `input-acks`, `input-second`, `read-second`;
+-- - one that invents the datagram count or the message size: `flush-both`, `size-none`, `size-first`, `read-first`, `read-second`.
+-- Assumes nothing.
+use mathlib.Core.Path.{_≡_, refl, _∙_}
+use mathlib.Core.Bool.{true}
+use mathlib.Core.List.{List, [], _∷_, map}
+use Prim.Native.Nat.{ℕ}
+use native.Mathlib.Omega.{arith}
+use lib.Dec.{leb}
+use lib.ListN.{length, getD, replicate}
+use lib.Seq.{sets}
+use Rattle.protocol.specs.Protocol.{outputLeast, lengthsLeast}
+use Rattle.protocol.specs.declared.Refusal.{Refusal}
+use Rattle.protocol.specs.declared.Refusal.the-variants.{NoMessage}
+use Rattle.lists.specs.declared.Sent.{Sent}
+use Rattle.session.specs.State.{Outcome, refused, done}
+use Rattle.session.specs.Reading.{reading}
+use Rattle.block.specs.declared.Link.{Link}
+use Rattle.packing.specs.Packers.{Output}
+use Rattle.answers.specs.declared.Answer.{Answer}
+use Rattle.answers.specs.declared.Answer.the-variants as answer
+use Rattle.answers.specs.declared.Count.{Count}
+use Rattle.answers.specs.declared.Count.the-variants as count
+use Rattle.calls.specs.Parts.{Parts, stateIn}
+use Rattle.calls.specs.Answers.{countOutcome}
+use Rattle.calls.specs.Promises.{OpenPromise, SendPromise, InputPromise, FlushPromise, ReadPromise, SizePromise, ShowPromise}
+use Rattle.wrong_links.specs.Standing.{Lends, At}
+use Rattle.wrong_links.specs.StandingLaws.{opening-goes, send-goes, input-goes, flush-goes, read-goes, read-refused, size-goes, show-goes}
+use Rattle.wrong_links.specs.Session.{isDone, resultOr, settings, sendPool, receivePool, fresh, first, second, oneSent, bothSent, flush, flushed, datagrams, acks, acknowledged, oneHeard, bothHeard, oneRead, bothRead, reads, all-pass, computed}
+
+-- an accepted call is not refused, whatever the refusal
+not-refused : {r : Refusal} → answer.Refused r ≡ answer.Accepted → ⊥
+not-refused e = let z : _≡_ {A = ℕ} 0 1 = cc in omega arith
+
+not-refused-count : {r : Refusal} {n : ℕ} → count.Refused r ≡ count.Of n → ⊥
+not-refused-count e = let z : _≡_ {A = ℕ} 0 1 = cc in omega arith
+
+-- an outcome that is not refused is its result
+is-result : {A : Type 0} (x : A) (o : Outcome A) → isDone o ≡ true → o ≡ done (resultOr x o)
+is-result x (done y) h = refl
+is-result x (refused r) h = absurd (let z : _≡_ {A = ℕ} 0 1 = cc in omega arith)
+
+-- the count of an outcome
+count-done : (a : Count) (n : ℕ) → countOutcome a ≡ done n → a ≡ count.Of n
+count-done (count.Of k) n e = cc
+count-done (count.Refused r) n e = absurd (let z : _≡_ {A = ℕ} 0 1 = cc in omega arith)
+
+count-refused : (a : Count) (r : Refusal) → countOutcome a ≡ refused r → a ≡ count.Refused r
+count-refused (count.Of k) r e = absurd (let z : _≡_ {A = ℕ} 0 1 = cc in omega arith)
+count-refused (count.Refused x) r e = cc
+
+module _ (l : Link) (p : Parts) (l′ : Link) (p′ : Parts) where
+  -- ---- opening
+
+  pub opens : (a : Answer) → Lends p sendPool receivePool → OpenPromise settings l p a l′ p′ → (a ≡ answer.Accepted) × At l′ p′ fresh
+  opens a lends h = opening-goes settings l p l′ p′ fresh a lends (computed .opens) h
+
+  -- ---- the sender
+
+  pub send-first : (a : Answer) → At l p fresh → SendPromise first l p a l′ p′ → (a ≡ answer.Accepted) × At l′ p′ oneSent
+  unfolding oneSent
+  send-first a at h = send-goes l p fresh at (all-pass .at-first) first a l′ p′ _ (is-result _ _ (computed .sends-first)) h
+
+  pub send-second : (a : Answer) → At l p oneSent → SendPromise second l p a l′ p′ → (a ≡ answer.Accepted) × At l′ p′ bothSent
+  unfolding bothSent
+  send-second a at h = send-goes l p oneSent at (all-pass .one-sent) second a l′ p′ _ (is-result _ _ (computed .sends-second)) h
+
+  -- the output holds two datagrams of 50 bytes, with all three segments
+  pub flush-both : (a : Count) (out lengths out′ lengths′ : List ℕ) → At l p bothSent
+      → leb outputLeast (length out) ≡ true
+      → leb lengthsLeast (length lengths) ≡ true
+      → FlushPromise 5 l p out lengths a l′ p′ out′ lengths′
+      → (a ≡ count.Of 2) × At l′ p′ flushed × Output datagrams out lengths 2 out′ lengths′
+  unfolding flushed datagrams flush
+  flush-both a out lengths out′ lengths′ at room number h =
+      rw (computed .datagram-count) at (flush-goes l p bothSent at (all-pass .both-sent) 5 out lengths a l′ p′ out′ lengths′ flush room number refl h)
+
+  -- of the segments 0, 1 and 2 only the last is left outstanding
+  pub input-acks : (a : Answer) → At l p flushed → InputPromise acks l p a l′ p′
+      → (a ≡ answer.Accepted) × (map (λ (x : Sent). x .record .number) (stateIn l′ p′ .sending .outstanding) ≡ 2 ∷ [])
+  unfolding acknowledged
+  input-acks a at h =
+      let r = input-goes l p flushed at (all-pass .one-flushed) acks a l′ p′ _ (is-result _ _ (computed .takes-acks)) h in
+      (r .0, rw (r .1 .stands .state) (computed .left-outstanding))
+
+  -- ---- the receiver
+
+  pub input-first : (a : Answer) → At l p fresh → InputPromise (getD datagrams 0 []) l p a l′ p′ → (a ≡ answer.Accepted) × At l′ p′ oneHeard
+  unfolding oneHeard
+  input-first a at h = input-goes l p fresh at (all-pass .at-first) _ a l′ p′ _ (is-result _ _ (computed .takes-first)) h
+
+  pub input-second : (a : Answer) → At l p oneHeard → InputPromise (getD datagrams 1 []) l p a l′ p′ → (a ≡ answer.Accepted) × At l′ p′ bothHeard
+  unfolding bothHeard
+  input-second a at h = input-goes l p oneHeard at (all-pass .one-heard) _ a l′ p′ _ (is-result _ _ (computed .takes-second)) h
+
+  -- into any buffer of 30 bytes
+  pub read-first : (a : Count) (buffer buffer′ : List ℕ) → length buffer ≡ 30 → At l p bothHeard → ReadPromise l p buffer a l′ p′ buffer′
+      → (a ≡ count.Of 27) × At l′ p′ oneRead × (buffer′ ≡ sets buffer 0 first)
+  unfolding oneRead first
+  read-first a buffer buffer′ room at h =
+      let e : reading (bothHeard .state) (bothHeard .receivePool) (length buffer) ≡ done (reads bothHeard) = rw room (is-result _ _ (computed .reads-first)) in
+      rw (computed .message-first) at (read-goes l p bothHeard at (all-pass .both-heard) buffer a l′ p′ buffer′ _ e h)
+
+  pub read-second : (a : Count) (buffer buffer′ : List ℕ) → length buffer ≡ 30 → At l p oneRead → ReadPromise l p buffer a l′ p′ buffer′
+      → (a ≡ count.Of 1) × At l′ p′ bothRead × (buffer′ ≡ sets buffer 0 second)
+  unfolding bothRead second
+  read-second a buffer buffer′ room at h =
+      let e : reading (oneRead .state) (oneRead .receivePool) (length buffer) ≡ done (reads oneRead) = rw room (is-result _ _ (computed .reads-second)) in
+      rw (computed .message-second) at (read-goes l p oneRead at (all-pass .one-read) buffer a l′ p′ buffer′ _ e h)
+
+  pub read-none : (a : Count) (buffer buffer′ : List ℕ) → length buffer ≡ 30 → At l p bothRead → ReadPromise l p buffer a l′ p′ buffer′ → a ≡ count.Refused NoMessage
+  read-none a buffer buffer′ room at h = read-refused l p bothRead at (all-pass .both-read) buffer a l′ p′ buffer′ NoMessage (rw room (computed .reads-none)) h .0
+
+-- ---- calls that change nothing
+
+module _ (l : Link) (p : Parts) where
+  -- a segment of the first message is still missing
+  pub size-none : (a : Count) → At l p oneHeard → SizePromise l p a → a ≡ count.Refused NoMessage
+  size-none a at h = count-refused a NoMessage (size-goes l p oneHeard at (all-pass .one-heard) a h ∙ computed .size-none)
+
+  pub size-first : (a : Count) → At l p bothHeard → SizePromise l p a → a ≡ count.Of 27
+  size-first a at h = count-done a 27 (size-goes l p bothHeard at (all-pass .both-heard) a h ∙ computed .size-first)
+
+  pub show-first : (part : List ℕ) → At l p bothHeard → ShowPromise l p part → part ≡ replicate 26 7
+  show-first part at h = show-goes l p bothHeard at (all-pass .both-heard) part h ∙ computed .shown-first
+
+-- ---- a link that refuses everything
+
+module _ (l : Link) (p : Parts) (l′ : Link) (p′ : Parts) (r : Refusal) where
+  pub refuses-opening : Lends p sendPool receivePool → OpenPromise settings l p (answer.Refused r) l′ p′ → ⊥
+  refuses-opening lends h = not-refused (opens l p l′ p′ _ lends h .0)
+
+  pub refuses-send : At l p fresh → SendPromise first l p (answer.Refused r) l′ p′ → ⊥
+  refuses-send at h = not-refused (send-first l p l′ p′ _ at h .0)
+
+  pub refuses-input : At l p fresh → InputPromise (getD datagrams 0 []) l p (answer.Refused r) l′ p′ → ⊥
+  refuses-input at h = not-refused (input-first l p l′ p′ _ at h .0)
+
+  pub refuses-flush : (out lengths out′ lengths′ : List ℕ) → At l p bothSent → leb outputLeast (length out) ≡ true → leb lengthsLeast (length lengths) ≡ true
+      → FlushPromise 5 l p out lengths (count.Refused r) l′ p′ out′ lengths′ → ⊥
+  refuses-flush out lengths out′ lengths′ at room number h = not-refused-count (flush-both l p l′ p′ _ out lengths out′ lengths′ at room number h .0)
+
+  pub refuses-read : (buffer buffer′ : List ℕ) → length buffer ≡ 30 → At l p bothHeard → ReadPromise l p buffer (count.Refused r) l′ p′ buffer′ → ⊥
+  refuses-read buffer buffer′ room at h = not-refused-count (read-first l p l′ p′ _ buffer buffer′ room at h .0)
+
+pub refuses-size : (l : Link) (p : Parts) (r : Refusal) → At l p bothHeard → SizePromise l p (count.Refused r) → ⊥
+refuses-size l p r at h = not-refused-count (size-first l p _ at h)

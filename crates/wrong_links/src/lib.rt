@@ -1,0 +1,1 @@
+// Wrong links, tried against what the public calls promise: definitions and proofs, in specs/.
