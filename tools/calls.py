@@ -38,14 +38,14 @@ NAMES = {
     'Rattle.promises.specs.Cores': 'OpenCore',
     'Rattle.send_core.specs.Sending': 'SendLeaves', 'Rattle.read_core.specs.Messages': 'ReadOver', 'Rattle.read_core.specs.Places': 'placeOf PlaceIs',
     'Rattle.input_core.specs.Taking': 'Takes', 'Rattle.flush_core.specs.Flushes': 'Core putBack',
-    'Rattle.new_codes.specs.Codes': 'answerCode countCode settingsOf', 'Rattle.new_codes.specs.Gives': 'Gives', 'Rattle.new_codes.proofs.Told': 'told',
+    'Rattle.codes.specs.Codes': 'answerCode countCode settingsOf', 'Rattle.codes.specs.Gives': 'Gives', 'Rattle.codes.proofs.Told': 'told',
     'Rattle.results.specs.PlaceCodes': 'placeCode placeStart', 'Rattle.results.specs.PutBacks': 'takenBack',
     'Rattle.from_cores.specs.Left': 'InputLeft FlushLeft',
     'Rattle.from_cores.proofs.Gathered': 'gathers', 'Rattle.from_cores.proofs.Scattered': 'put-back',
     'Rattle.from_cores.proofs.Opening': 'open-promised', 'Rattle.from_cores.proofs.Sending': 'send-promised',
     'Rattle.from_cores.proofs.Reading': 'read-promised', 'Rattle.from_cores.proofs.Asking': 'size-promised shows-promised',
     'Rattle.from_cores.proofs.TakingIn': 'input-left input-promised', 'Rattle.from_cores.proofs.Flushing': 'flush-left flush-promised',
-    'Rattle.ampferweg_calls.specs.Places': 'PlacePromise',
+    'Rattle.ampferweg.specs.Places': 'PlacePromise',
 }
 
 ARRAYS = ['queued', 'outstanding', 'transmissions', 'ready', 'waiting', '«waiting_numbers»']
@@ -92,7 +92,7 @@ def open_():
     link = 'linkOf (a .settings) (a .flight) (a .arrival) (a .clock)'
     made = f'open-promised c h {p} (a .answer) ({link} (arraysOf h)) m e-m (e-a (arraysOf h))'
     return dict(
-        crate='ampferweg_calls', name='ampferweg_open', result=CODE, about='Structs are copied and stored.',
+        crate='ampferweg', name='ampferweg_open', result=CODE, about='Structs are copied and stored.',
         pars=[Par('ref')] + [Par('val', U32) for _ in range(5)] + [Par('shr', 'u8'), Par('shr', 'u8'), Par('shr', 'R'), Par('shr', 'u32')],
         said=f'Gives answerCode (λ a. OpenPromise (settingsOf x₁ x₂ x₃ x₄ x₅) h {p} a k {p}) r',
         calls=[
@@ -110,7 +110,7 @@ def send():
     link = f"(linkOf (h .settings) (a .flight) (h .arrival) (h .clock) ({after('a', ARRAYS[:1])}))"
     pool = last('a', FIRST + 6)
     return dict(
-        crate='ampferweg_calls', name='ampferweg_send', result=CODE, about='The table is read; structs are copied, all lists are lent, and the flight is stored.',
+        crate='ampferweg', name='ampferweg_send', result=CODE, about='The table is read; structs are copied, all lists are lent, and the flight is stored.',
         pars=[Par('ref'), Par('mut', 'u8')] + SLICES[1:] + [Par('shr', 'u8')],
         said=f'Gives answerCode (λ a. SendPromise (x₅ .now) h {P} a k {end}) r',
         calls=GATHER + [
@@ -124,7 +124,7 @@ def read():
     link = f"(linkOf (h .settings) (h .flight) (a .arrival) (h .clock) ({after('a', ARRAYS[3:])}))"
     buffer = last('a', FIRST + 9)
     return dict(
-        crate='ampferweg_calls', name='ampferweg_read', result=CODE, about='The table is read; structs are copied, all lists are lent, and the arrival is stored.',
+        crate='ampferweg', name='ampferweg_read', result=CODE, about='The table is read; structs are copied, all lists are lent, and the arrival is stored.',
         pars=[Par('ref')] + SLICES + [Par('mut', 'u8')],
         said=f'Gives countCode (λ a. ReadPromise h {P} (x₅ .now) a k {P} z₅) r',
         calls=GATHER + [
@@ -136,7 +136,7 @@ def read():
 
 def size():
     return dict(
-        crate='ampferweg_calls', name='ampferweg_size', result=CODE, about='The block and the table are read through a `&`.',
+        crate='ampferweg', name='ampferweg_size', result=CODE, about='The block and the table are read through a `&`.',
         pars=[Par('sref')] + SLICES,
         said=f'Gives countCode (λ a. SizePromise h {P} a) r',
         calls=GATHER + [
@@ -147,7 +147,7 @@ def size():
 
 def show():
     return dict(
-        crate='ampferweg_calls', name='ampferweg_show', result=CODE, about='The block and the table are read through a `&`; where the start goes is given to `tell_place`.',
+        crate='ampferweg', name='ampferweg_show', result=CODE, about='The block and the table are read through a `&`; where the start goes is given to `tell_place`.',
         pars=[Par('sref')] + SLICES + [Par('given', 'u32')],
         said=f'Gives placeCode (λ a. PlacePromise h {P} a z₅) r',
         calls=GATHER + [
@@ -179,7 +179,7 @@ def input_():
     few = '(ap length (sym e-after) ∙ is-after .1 .0 .1)'
     put = f'(put-back (x₃ .now) {table} (takenBack t) words n after e-words e-n e-after e-u)'
     return dict(
-        crate='ampferweg_calls', name='ampferweg_input', result=CODE, about='The block is given to `take_in`, and the table lent to it as `&`; then the table is given to `scatter`.',
+        crate='ampferweg', name='ampferweg_input', result=CODE, about='The block is given to `take_in`, and the table lent to it as `&`; then the table is given to `scatter`.',
         pars=[Par('given', 'L'), Par('shr', 'u8'), Par('mut', 'u8'), Par('mut', 'R'), Par('mut', 'u32'), Par('shr', 'u8')],
         said=f"Gives answerCode (λ a. InputPromise (x₅ .now) (x₀ .now) {p} a z₀ {parts('(x₁ .now)', 'z₂', 'z₃', 'z₄')}) r",
         calls=[
@@ -211,7 +211,7 @@ def flush():
     few = '(ap length (sym e-after) ∙ is-after .1 .0 .1)'
     put = f'(put-back (x₃ .now) {table} (putBack t) words n after e-words e-n e-after e-u)'
     return dict(
-        crate='ampferweg_calls', name='ampferweg_flush', result=CODE, about='The block is given to `write_out`, and the table lent to it as `&`; then the table is given to `scatter`.',
+        crate='ampferweg', name='ampferweg_flush', result=CODE, about='The block is given to `write_out`, and the table lent to it as `&`; then the table is given to `scatter`.',
         pars=[Par('given', 'L'), Par('shr', 'u8'), Par('shr', 'u8'), Par('mut', 'R'), Par('shr', 'u32'), Par('val', U32), Par('mut', 'u8'), Par('mut', 'u16')],
         said=f"Gives countCode (λ a. FlushPromise x₅ (x₀ .now) {p} (x₆ .now) (x₇ .now) a z₀ {parts('(x₁ .now)', '(x₂ .now)', 'z₃', '(x₄ .now)')} z₆ z₇) r",
         calls=[

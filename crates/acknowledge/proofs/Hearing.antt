@@ -25,8 +25,8 @@ use Rattle.session.specs.State.{Sending}
 use Rattle.session.specs.Input.{acknowledged, withWindow, sampledBy, heardBySending}
 use Rattle.session.specs.Decides.{All}
 use Rattle.session.specs.Ascending.{Ascends}
-use Rattle.delivery.specs.SendOrder.{NumberFits, Numbers, numbers-select}
-use Rattle.delivery.specs.SendingHalf.{all-select}
+use Rattle.session.specs.SendOrder.{NumberFits, Numbers, numbers-select}
+use Rattle.session.specs.AllLaws.{all-select}
 use Rattle.words.specs.Words.{paired, outstandingIn}
 use Rattle.control.specs.declared.Flight.{Flight}
 use Rattle.acknowledge.specs.Flights.{View, view, sentIn, halfWith, JoinedIn, InOrder, FlightIs}

@@ -12,7 +12,7 @@ use Rattle.timing.proofs.Record.Laws as T′
 use Rattle.lists.specs.Joining.{joined}
 use Rattle.lists.specs.declared.Outstanding.{Outstanding}
 use Rattle.session.specs.Decides.{All}
-use Rattle.delivery.specs.SendOrder.{NumberFits}
+use Rattle.session.specs.SendOrder.{NumberFits}
 
 pub numbers-owned : (rs : List Record) (us : List Val) → shadow (each Record (eStruct T.the-type T′.the-laws T′.the-copy .ty .own) rs us) → All (λ (r : Record). r .number < 2 ^ 32) rs
 numbers-owned [] [] p = tt

@@ -13,7 +13,7 @@ use Rattle.lists.specs.Joining.{joined}
 use Rattle.lists.specs.declared.Sent.{Sent}
 use Rattle.session.specs.State.{Sending}
 use Rattle.session.specs.Input.{allBySending, ackNumbers, skippedByAll}
-use Rattle.delivery.specs.SendOrder.{Numbers}
+use Rattle.session.specs.SendOrder.{Numbers}
 use Rattle.words.specs.Words.{outstandingIn}
 use Rattle.control.specs.Views.{sendingOf}
 use Rattle.control.specs.declared.Flight.{Flight}

@@ -1,13 +1,16 @@
 // What C calls: each function takes the block behind a pointer, and answers with a number, 0 or more where the call is done
-// and the refusal's number below zero where it is not. Each is proved by hand.
+// and the refusal's number below zero where it is not. The fields of the block are lent to the call's core, and changed in place;
+// of the table of records the first 128 are read and written. The functions that take the block are proved by walks.
 pub mod settings;
 
-use block::Link;
+use control::Link;
 use timing::Record;
-ghost use Rattle.calls.specs.Promises.{OpenPromise, SendPromise, InputPromise, FlushPromise, ReadPromise, SizePromise};
-ghost use Rattle.lent.specs.Lent.{partsOf};
-ghost use Rattle.codes.specs.Codes.{answerCode, countCode, placeCode, settingsOf};
-ghost use Rattle.ampferweg.specs.Gives.{Gives, PlacePromise};
+ghost use Rattle.promises.specs.Parts.{partsOf};
+ghost use Rattle.promises.specs.Promises.{OpenPromise, SendPromise, InputPromise, FlushPromise, ReadPromise, SizePromise};
+ghost use Rattle.codes.specs.Codes.{answerCode, countCode, settingsOf};
+ghost use Rattle.codes.specs.Gives.{Gives};
+ghost use Rattle.results.specs.PlaceCodes.{placeCode};
+ghost use Rattle.ampferweg.specs.Places.{PlacePromise};
 
 // Opening with these settings: 0, or the refusal. A number that is too large for its setting is out of range.
 #[no_mangle]
@@ -23,13 +26,37 @@ pub extern "C" fn ampferweg_open(
     table: &[Record],
     acks: &[u32],
 ) -> i32
-    ensures { λ r. ⌜ Gives answerCode (λ a. OpenPromise (settingsOf conv mtu mode interval threshold) (now (link .entry)) (partsOf (now («send_pool» .entry)) (now («receive_pool» .entry)) (now (table .entry)) (now (acks .entry))) a (now (link .exit)) (partsOf (now («send_pool» .entry)) (now («receive_pool» .entry)) (now (table .entry)) (now (acks .entry)))) r ⌝ }
+    ensures { λ r. ⌜ Gives answerCode (λ a. OpenPromise (settingsOf conv mtu mode interval threshold) (now (link .entry))
+        (partsOf (now («send_pool» .entry)) (now («receive_pool» .entry)) (now (table .entry)) (now (acks .entry)))
+        a (now (link .exit))
+        (partsOf (now («send_pool» .entry)) (now («receive_pool» .entry)) (now (table .entry)) (now (acks .entry)))) r ⌝ }
 {
-    let settings = codes::settings(conv, mtu, mode, interval, threshold);
-    let a = link::open(*link, settings, send_pool, receive_pool, table, acks);
-    let after = codes::answered_link(a);
-    *link = after;
-    codes::answered_code(a)
+    let new = codes::settings(conv, mtu, mode, interval, threshold);
+    let settings = link.settings;
+    let flight = link.flight;
+    let arrival = link.arrival;
+    let clock = link.clock;
+    let lent = records::table_len(table);
+    let opened = open_core::open(
+        new,
+        settings,
+        flight,
+        arrival,
+        clock,
+        lent,
+        send_pool,
+        receive_pool,
+        acks,
+    );
+    let settings = results::opened_settings(opened);
+    link.settings = settings;
+    let flight = results::opened_flight(opened);
+    link.flight = flight;
+    let arrival = results::opened_arrival(opened);
+    link.arrival = arrival;
+    let clock = results::opened_clock(opened);
+    link.clock = clock;
+    results::opened_code(opened)
 }
 
 // Sending a message: 0, or the refusal.
@@ -42,12 +69,40 @@ pub extern "C" fn ampferweg_send(
     acks: &[u32],
     message: &[u8],
 ) -> i32
-    ensures { λ r. ⌜ Gives answerCode (λ a. SendPromise (now (message .entry)) (now (link .entry)) (partsOf (now («send_pool» .entry)) (now («receive_pool» .entry)) (now (table .entry)) (now (acks .entry))) a (now (link .exit)) (partsOf (now («send_pool» .exit)) (now («receive_pool» .entry)) (now (table .entry)) (now (acks .entry)))) r ⌝ }
+    ensures { λ r. ⌜ Gives answerCode (λ a. SendPromise (now (message .entry)) (now (link .entry))
+        (partsOf (now («send_pool» .entry)) (now («receive_pool» .entry)) (now (table .entry)) (now (acks .entry)))
+        a (now (link .exit))
+        (partsOf (now («send_pool» .exit)) (now («receive_pool» .entry)) (now (table .entry)) (now (acks .entry)))) r ⌝ }
 {
-    let a = link::send(*link, send_pool, receive_pool, table, acks, message);
-    let after = codes::answered_link(a);
-    *link = after;
-    codes::answered_code(a)
+    let settings = link.settings;
+    let flight = link.flight;
+    let arrival = link.arrival;
+    let clock = link.clock;
+    let words = link.outstanding;
+    let n = results::outstanding_count(flight);
+    let records = gathering::gather(table, words, n);
+    let lent = records::table_len(table);
+    let sent = send_core::send(
+        settings,
+        flight,
+        arrival,
+        clock,
+        records,
+        lent,
+        &mut link.queued,
+        &link.outstanding,
+        &link.transmissions,
+        &link.ready,
+        &link.waiting,
+        &link.waiting_numbers,
+        send_pool,
+        receive_pool,
+        acks,
+        message,
+    );
+    let flight = results::sent_flight(sent);
+    link.flight = flight;
+    results::sent_code(sent)
 }
 
 // Taking in a datagram: 0, or the refusal.
@@ -60,12 +115,17 @@ pub extern "C" fn ampferweg_input(
     acks: &mut [u32],
     datagram: &[u8],
 ) -> i32
-    ensures { λ r. ⌜ Gives answerCode (λ a. InputPromise (now (datagram .entry)) (now (link .entry)) (partsOf (now («send_pool» .entry)) (now («receive_pool» .entry)) (now (table .entry)) (now (acks .entry))) a (now (link .exit)) (partsOf (now («send_pool» .entry)) (now («receive_pool» .exit)) (now (table .exit)) (now (acks .exit)))) r ⌝ }
+    ensures { λ r. ⌜ Gives answerCode (λ a. InputPromise (now (datagram .entry)) (now (link .entry))
+        (partsOf (now («send_pool» .entry)) (now («receive_pool» .entry)) (now (table .entry)) (now (acks .entry)))
+        a (now (link .exit))
+        (partsOf (now («send_pool» .entry)) (now («receive_pool» .exit)) (now (table .exit)) (now (acks .exit)))) r ⌝ }
 {
-    let a = link::input(*link, send_pool, receive_pool, table, acks, datagram);
-    let after = codes::answered_link(a);
-    *link = after;
-    codes::answered_code(a)
+    let taken = take_in::take_in(link, send_pool, receive_pool, table, acks, datagram);
+    let words = results::taken_words(taken);
+    let n = results::taken_changed(taken);
+    let records = results::taken_records(taken);
+    gathering::scatter(table, words, n, records);
+    results::taken_code(taken)
 }
 
 // A flush at time t: its datagrams, or the refusal.
@@ -80,10 +140,14 @@ pub extern "C" fn ampferweg_flush(
     output: &mut [u8],
     lengths: &mut [u16],
 ) -> i32
-    ensures { λ r. ⌜ Gives countCode (λ a. FlushPromise t (now (link .entry)) (partsOf (now («send_pool» .entry)) (now («receive_pool» .entry)) (now (table .entry)) (now (acks .entry))) (now (output .entry)) (now (lengths .entry)) a (now (link .exit)) (partsOf (now («send_pool» .entry)) (now («receive_pool» .entry)) (now (table .exit)) (now (acks .entry))) (now (output .exit)) (now (lengths .exit))) r ⌝ }
+    ensures { λ r. ⌜ Gives countCode (λ a. FlushPromise t (now (link .entry))
+        (partsOf (now («send_pool» .entry)) (now («receive_pool» .entry)) (now (table .entry)) (now (acks .entry)))
+        (now (output .entry)) (now (lengths .entry)) a (now (link .exit))
+        (partsOf (now («send_pool» .entry)) (now («receive_pool» .entry)) (now (table .exit)) (now (acks .entry)))
+        (now (output .exit)) (now (lengths .exit))) r ⌝ }
 {
-    let a = link::flush(
-        *link,
+    let flushed = write_out::write_out(
+        link,
         send_pool,
         receive_pool,
         table,
@@ -92,9 +156,11 @@ pub extern "C" fn ampferweg_flush(
         output,
         lengths,
     );
-    let after = codes::counted_link(a);
-    *link = after;
-    codes::counted_code(a)
+    let words = results::flushed_words(flushed);
+    let n = results::flushed_changed(flushed);
+    let records = results::flushed_records(flushed);
+    gathering::scatter(table, words, n, records);
+    results::flushed_code(flushed)
 }
 
 // Reading a message: its bytes, or the refusal.
@@ -107,12 +173,41 @@ pub extern "C" fn ampferweg_read(
     acks: &[u32],
     buffer: &mut [u8],
 ) -> i32
-    ensures { λ r. ⌜ Gives countCode (λ a. ReadPromise (now (link .entry)) (partsOf (now («send_pool» .entry)) (now («receive_pool» .entry)) (now (table .entry)) (now (acks .entry))) (now (buffer .entry)) a (now (link .exit)) (partsOf (now («send_pool» .entry)) (now («receive_pool» .entry)) (now (table .entry)) (now (acks .entry))) (now (buffer .exit))) r ⌝ }
+    ensures { λ r. ⌜ Gives countCode (λ a. ReadPromise (now (link .entry))
+        (partsOf (now («send_pool» .entry)) (now («receive_pool» .entry)) (now (table .entry)) (now (acks .entry)))
+        (now (buffer .entry)) a (now (link .exit))
+        (partsOf (now («send_pool» .entry)) (now («receive_pool» .entry)) (now (table .entry)) (now (acks .entry)))
+        (now (buffer .exit))) r ⌝ }
 {
-    let a = link::read(*link, send_pool, receive_pool, table, acks, buffer);
-    let after = codes::counted_link(a);
-    *link = after;
-    codes::counted_code(a)
+    let settings = link.settings;
+    let flight = link.flight;
+    let arrival = link.arrival;
+    let clock = link.clock;
+    let words = link.outstanding;
+    let n = results::outstanding_count(flight);
+    let records = gathering::gather(table, words, n);
+    let lent = records::table_len(table);
+    let delivered = read_core::read(
+        settings,
+        flight,
+        arrival,
+        clock,
+        records,
+        lent,
+        &link.queued,
+        &link.outstanding,
+        &link.transmissions,
+        &mut link.ready,
+        &mut link.waiting,
+        &mut link.waiting_numbers,
+        send_pool,
+        receive_pool,
+        acks,
+        buffer,
+    );
+    let arrival = results::delivered_arrival(delivered);
+    link.arrival = arrival;
+    results::delivered_code(delivered)
 }
 
 // Telling the size of the next message: its bytes, or the refusal.
@@ -124,10 +219,35 @@ pub extern "C" fn ampferweg_size(
     table: &[Record],
     acks: &[u32],
 ) -> i32
-    ensures { λ r. ⌜ Gives countCode (λ a. SizePromise (now (link .entry)) (partsOf (now («send_pool» .entry)) (now («receive_pool» .entry)) (now (table .entry)) (now (acks .entry))) a) r ⌝ }
+    ensures { λ r. ⌜ Gives countCode (λ a. SizePromise (now (link .entry))
+        (partsOf (now («send_pool» .entry)) (now («receive_pool» .entry)) (now (table .entry)) (now (acks .entry))) a) r ⌝ }
 {
-    let a = link::size(*link, send_pool, receive_pool, table, acks);
-    codes::count_code(a)
+    let settings = link.settings;
+    let flight = link.flight;
+    let arrival = link.arrival;
+    let clock = link.clock;
+    let words = link.outstanding;
+    let n = results::outstanding_count(flight);
+    let records = gathering::gather(table, words, n);
+    let lent = records::table_len(table);
+    let size = read_core::size(
+        settings,
+        flight,
+        arrival,
+        clock,
+        records,
+        lent,
+        &link.queued,
+        &link.outstanding,
+        &link.transmissions,
+        &link.ready,
+        &link.waiting,
+        &link.waiting_numbers,
+        send_pool,
+        receive_pool,
+        acks,
+    );
+    codes::count_code(size)
 }
 
 // Where in the receive pool the front segment's payload lies: its start is stored, its bytes are counted; 0 and 0 where
@@ -141,8 +261,33 @@ pub extern "C" fn ampferweg_show(
     acks: &[u32],
     start: &mut u32,
 ) -> i32
-    ensures { λ r. ⌜ Gives placeCode (λ a. PlacePromise (now (link .entry)) (partsOf (now («send_pool» .entry)) (now («receive_pool» .entry)) (now (table .entry)) (now (acks .entry))) a (now (start .exit))) r ⌝ }
+    ensures { λ r. ⌜ Gives placeCode (λ a. PlacePromise (now (link .entry))
+        (partsOf (now («send_pool» .entry)) (now («receive_pool» .entry)) (now (table .entry)) (now (acks .entry))) a (now (start .exit))) r ⌝ }
 {
-    let p = link::place(*link, send_pool, receive_pool, table, acks);
-    codes::tell_place(p, start)
+    let settings = link.settings;
+    let flight = link.flight;
+    let arrival = link.arrival;
+    let clock = link.clock;
+    let words = link.outstanding;
+    let n = results::outstanding_count(flight);
+    let records = gathering::gather(table, words, n);
+    let lent = records::table_len(table);
+    let place = read_core::locate(
+        settings,
+        flight,
+        arrival,
+        clock,
+        records,
+        lent,
+        &link.queued,
+        &link.outstanding,
+        &link.transmissions,
+        &link.ready,
+        &link.waiting,
+        &link.waiting_numbers,
+        send_pool,
+        receive_pool,
+        acks,
+    );
+    results::tell_place(place, start)
 }

@@ -1,21 +1,8 @@
 // Settings files for C: a number below zero is a refusal's.
-use settings_file::Reading;
-use settings_file::Writing;
-ghost use mathlib.Core.Path.{_≡_};
 ghost use Rattle.codes.specs.Codes.{settingsOf};
+ghost use Rattle.codes.specs.Gives.{Gives};
 ghost use Rattle.settings_file.specs.Files.{Writes, readFrom};
-ghost use Rattle.ampferweg.specs.Gives.{Gives};
-ghost use Rattle.ampferweg.specs.SettingsFiles.{writingCode, numbers, Stores};
-
-// 0, or the refusal.
-fn writing_code(writing: Writing) -> i32
-    ensures { λ r. ⌜ r ≡ writingCode writing ⌝ }
-{
-    match writing {
-        Writing::Whole => 0,
-        Writing::Refused(refusal) => codes::number_code(refusal.number()),
-    }
-}
+ghost use Rattle.settings_calls.specs.SettingsFiles.{writingCode, numbers, Stores};
 
 // Writes the file of these settings at the start of a part: 0, or the refusal.
 #[no_mangle]
@@ -27,11 +14,10 @@ pub extern "C" fn ampferweg_settings_write(
     threshold: u32,
     file: &mut [u8],
 ) -> i32
-    ensures { λ r. ⌜ Gives writingCode (λ a. Writes (settingsOf conv mtu mode interval threshold) (now (file .entry)) a (now (file .exit))) r ⌝ }
+    ensures { λ r. ⌜ Gives writingCode
+        (λ a. Writes (settingsOf conv mtu mode interval threshold) (now (file .entry)) a (now (file .exit))) r ⌝ }
 {
-    let settings = codes::settings(conv, mtu, mode, interval, threshold);
-    let writing = settings_file::write(settings, file);
-    writing_code(writing)
+    settings_calls::write(conv, mtu, mode, interval, threshold, file)
 }
 
 // Reads a file: 0, and its settings are stored; or the refusal, and nothing is.
@@ -44,18 +30,9 @@ pub extern "C" fn ampferweg_settings_read(
     interval: &mut u32,
     threshold: &mut u32,
 ) -> i32
-    ensures { λ r. ⌜ Stores (readFrom (now (file .entry))) r (numbers (now (conv .entry)) (now (mtu .entry)) (now (mode .entry)) (now (interval .entry)) (now (threshold .entry))) (numbers (now (conv .exit)) (now (mtu .exit)) (now (mode .exit)) (now (interval .exit)) (now (threshold .exit))) ⌝ }
+    ensures { λ r. ⌜ Stores (readFrom (now (file .entry))) r
+        (numbers (now (conv .entry)) (now (mtu .entry)) (now (mode .entry)) (now (interval .entry)) (now (threshold .entry)))
+        (numbers (now (conv .exit)) (now (mtu .exit)) (now (mode .exit)) (now (interval .exit)) (now (threshold .exit))) ⌝ }
 {
-    let reading = settings_file::read(file);
-    match reading {
-        Reading::Settings(settings) => {
-            *conv = settings.conv;
-            *mtu = settings.mtu as u32;
-            *mode = settings.mode as u32;
-            *interval = settings.interval as u32;
-            *threshold = settings.threshold as u32;
-            0
-        }
-        Reading::Refused(refusal) => codes::number_code(refusal.number()),
-    }
+    settings_calls::read(file, conv, mtu, mode, interval, threshold)
 }

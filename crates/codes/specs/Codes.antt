@@ -9,7 +9,6 @@ use Rattle.answers.specs.declared.Answer.{Answer}
 use Rattle.answers.specs.declared.Answer.the-variants as answer
 use Rattle.answers.specs.declared.Count.{Count}
 use Rattle.answers.specs.declared.Count.the-variants as count
-use Rattle.show_call.specs.declared.Place.{Place}
 
 -- 0 less a refusal's number
 abbrev pub numberCode : ℕ → ℤ
@@ -30,13 +29,6 @@ sizeCode n = pos (min n 2147483647)
 abbrev pub countCode : Count → ℤ
 countCode (count.Of n) = sizeCode n
 countCode (count.Refused r) = refusalCode r
-
--- a place in the receive pool: its count as a number, and its start in 32 bits, both as they are
-abbrev pub placeCode : Place → ℤ
-placeCode p = sizeCode (p .count)
-
-abbrev pub placeStart : Place → ℕ
-placeStart p = min (p .start) 4294967295
 
 -- settings from plain numbers: one that is beyond its width becomes the largest of that width, which is out of range too
 abbrev pub settingsOf : ℕ → ℕ → ℕ → ℕ → ℕ → Settings

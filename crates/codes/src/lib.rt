@@ -1,16 +1,12 @@
 // Numbers for callers in C: answers as 0 or a count, or the refusal's number below zero; settings from plain numbers.
 use answers::Answer;
 use answers::Count;
-use block::Link;
-use calls::Answered;
-use calls::Counted;
 use protocol::Protocol;
 use protocol::Refusal;
 use protocol::Settings;
-use show_call::Place;
 ghost use mathlib.Core.Path.{_≡_};
 ghost use Prim.Native.Nat.{min};
-ghost use Rattle.codes.specs.Codes.{numberCode, refusalCode, answerCode, sizeCode, countCode, placeCode, placeStart, settingsOf};
+ghost use Rattle.codes.specs.Codes.{numberCode, refusalCode, answerCode, sizeCode, countCode, settingsOf};
 
 // A count is told up to this one.
 const COUNT_MOST: usize = 2147483647;
@@ -40,7 +36,7 @@ pub fn answer_code(answer: Answer) -> i32
 }
 
 // A count.
-fn size_code(n: usize) -> i32
+pub fn size_code(n: usize) -> i32
     ensures { λ r. ⌜ r ≡ sizeCode n ⌝ }
 {
     if n <= COUNT_MOST {
@@ -60,35 +56,8 @@ pub fn count_code(count: Count) -> i32
     }
 }
 
-// The block of an answer, and its number.
-pub fn answered_link(answered: Answered) -> Link
-    ensures { λ r. ⌜ r ≡ answered .link ⌝ }
-{
-    answered.link
-}
-
-pub fn answered_code(answered: Answered) -> i32
-    ensures { λ r. ⌜ r ≡ answerCode (answered .answer) ⌝ }
-{
-    let answer = answered.answer;
-    answer_code(answer)
-}
-
-pub fn counted_link(counted: Counted) -> Link
-    ensures { λ r. ⌜ r ≡ counted .link ⌝ }
-{
-    counted.link
-}
-
-pub fn counted_code(counted: Counted) -> i32
-    ensures { λ r. ⌜ r ≡ countCode (counted .answer) ⌝ }
-{
-    let answer = counted.answer;
-    count_code(answer)
-}
-
 // A number in 32 bits, the largest of them for one beyond.
-fn narrow32(x: usize) -> u32
+pub fn narrow32(x: usize) -> u32
     ensures { λ r. ⌜ r ≡ min x 4294967295 ⌝ }
 {
     if x < 4294967295 { x as u32 } else { 4294967295 }
@@ -119,12 +88,4 @@ pub fn settings(conv: u32, mtu: u32, mode: u32, interval: u32, threshold: u32) -
         narrow16(interval),
         narrow8(threshold),
     )
-}
-
-// A place in the receive pool: its start is stored, its count is returned.
-pub fn tell_place(place: Place, start: &mut u32) -> i32
-    ensures { λ r. ⌜ (r ≡ placeCode place) × (now (start .exit) ≡ placeStart place) ⌝ }
-{
-    *start = narrow32(place.start);
-    size_code(place.count)
 }

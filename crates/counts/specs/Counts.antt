@@ -17,16 +17,16 @@ use Rattle.protocol.specs.declared.Refusal.the-variants as refusal
 use Rattle.session.specs.State.{Outcome, refused, done}
 use Rattle.session.specs.Flushing.{Flushed}
 use Rattle.session.specs.Reading.{Reads, Part}
-use Rattle.block.specs.declared.Link.{Link}
+use Rattle.control.specs.declared.Link.{Link}
 use Rattle.answers.specs.declared.Answer.{Answer}
 use Rattle.answers.specs.declared.Count.{Count}
 use Rattle.answers.specs.declared.Count.the-variants as count
-use Rattle.calls.specs.Parts.{Parts}
-use Rattle.calls.specs.Outcomes.{opens, sends, takesIn, flushes, reads, tells, shows}
-use Rattle.calls.specs.Answers.{Accepts, Counts, countOutcome}
-use Rattle.calls.specs.Promises.{OpenPromise, SendPromise, InputPromise, FlushPromise, ReadPromise, SizePromise}
-use Rattle.show_call.specs.declared.Place.{Place}
-use Rattle.show_call.specs.Places.{placeOf}
+use Rattle.promises.specs.Parts.{Parts}
+use Rattle.promises.specs.Outcomes.{opens, sends, takesIn, flushes, reads, tells, shows}
+use Rattle.promises.specs.Answers.{Accepts, Counts, countOutcome}
+use Rattle.promises.specs.Promises.{OpenPromise, SendPromise, InputPromise, FlushPromise, ReadPromise, SizePromise}
+use Rattle.read_core.specs.declared.Place.{Place}
+use Rattle.read_core.specs.Places.{placeOf}
 use Rattle.codes.specs.Codes.{refusalCode, answerCode, sizeCode, countCode, placeCode}
 use Rattle.demands.specs.CountLaws.{OfResult, MessageFits, PlaceFits, flushes-few, reads-fit, tells-fit, shows-fit}
 use Rattle.ampferweg.specs.Gives.{Gives, PlacePromise}

@@ -28,7 +28,7 @@ use Rattle.session.specs.Decides.{All, and-parts}
 use Rattle.session.specs.AllLaws.{all-any, all-left, all-unmapped, all-weaker}
 use Rattle.session.specs.Ascending.{Ascends, ascending-ascends}
 use Rattle.session.specs.SendingValid.{sending-decides}
-use Rattle.delivery.specs.SendOrder.{ascends-length}
+use Rattle.session.specs.SendOrder.{ascends-length}
 use Rattle.delivery.specs.StateRange.{SendingFits, CarryFits}
 use Rattle.delivery.specs.SendingHalf.{SentWell, Half, half-of}
 use Rattle.delivery.specs.SendingFlushes.{flushedWith, flushed-held, half-flushed, count-few, count-room}

@@ -33,7 +33,7 @@ use Rattle.delivery.specs.Hearing.{Taken, CallFits}
 use Rattle.delivery.specs.Stations.{Opened}
 use Rattle.delivery.specs.Passing.{Passing, step-own}
 use Rattle.delivery.specs.PassingLaws.{history-first, after-first}
-use Rattle.delivery.specs.MapLaws.{map-kept}
+use Rattle.session.specs.MapLaws.{map-kept}
 use Rattle.delivery.specs.CallCases.{placing, own-cases}
 use Rattle.delivery.specs.SendPool.{length-cut, place-count}
 use Rattle.delivery.specs.SendingHalf.{Half}

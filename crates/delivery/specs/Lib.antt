@@ -10,9 +10,7 @@ pub mod SizeLaws
 pub mod FreeSlots
 pub mod SlotBytes
 pub mod SendPool
-pub mod SendOrder
 pub mod HeaderRange
-pub mod MapLaws
 pub mod SendingHalf
 pub mod SendingTakesIn
 pub mod SendingSends

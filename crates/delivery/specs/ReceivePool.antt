@@ -35,7 +35,7 @@ use Rattle.delivery.specs.Pieces.{Piece, pieceOf, pushes}
 use Rattle.delivery.specs.FreeSlots.{Free, free, not-first, not-later}
 use Rattle.delivery.specs.SlotBytes.{stored, other-slot}
 use Rattle.delivery.specs.SendPool.{pieceIn}
-use Rattle.delivery.specs.MapLaws.{map-take, map-drop}
+use Rattle.session.specs.MapLaws.{map-take, map-drop}
 use Rattle.delivery.specs.SearchLaws.{occurs-apart}
 use Rattle.delivery.specs.InsertLaws.{between-length, between-behind, between-map, all-between, once-between, map-ascending, map-held, map-insert}
 use Rattle.delivery.specs.ParsedLaws.{SegmentFits}

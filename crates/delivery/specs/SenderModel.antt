@@ -27,12 +27,12 @@ use Rattle.session.specs.Sending.{Placed}
 use Rattle.session.specs.Input.{acknowledged, withWindow, sampledBy, heardBySending, allBySending, furthest, skipped, skippedByAll}
 use Rattle.session.specs.Flushing.{numbered, withNumbered}
 use Rattle.session.specs.Decides.{All}
-use Rattle.session.specs.AllLaws.{all-left, all-right, all-append}
+use Rattle.session.specs.AllLaws.{all-left, all-right, all-append, all-select}
 use Rattle.delivery.specs.Pieces.{Piece, falling}
-use Rattle.delivery.specs.MapLaws.{map-append, map-drop}
+use Rattle.session.specs.MapLaws.{map-append, map-drop}
 use Rattle.delivery.specs.FreeSlots.{occurs-first, occurs-later}
 use Rattle.delivery.specs.SendPool.{pieceIn, PlacedWell}
-use Rattle.delivery.specs.SendingHalf.{HeldWell, all-select}
+use Rattle.delivery.specs.SendingHalf.{HeldWell}
 use Rattle.delivery.specs.SendingTakesIn.{skip-held, skip-number}
 use Rattle.delivery.specs.SendingSends.{withQueue}
 use Rattle.delivery.specs.SendingFlushes.{flushedWith}

@@ -18,8 +18,8 @@ use Rattle.session.specs.State.{Sending, sendHeld}
 use Rattle.session.specs.Flushing.{numberedAs, numbered, numberedCount, withNumbered, sentAfter}
 use Rattle.session.specs.Decides.{All}
 use Rattle.session.specs.AllLaws.{all-append}
-use Rattle.delivery.specs.MapLaws.{map-append, map-kept}
-use Rattle.delivery.specs.SendOrder.{numbers-mapped, numbers-more}
+use Rattle.session.specs.MapLaws.{map-append, map-kept}
+use Rattle.session.specs.SendOrder.{numbers-mapped, numbers-more}
 use Rattle.delivery.specs.SendingHalf.{SentWell, Half, all-map}
 
 -- ---- a flush that numbers k queued segments

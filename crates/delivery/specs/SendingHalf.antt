@@ -16,13 +16,13 @@ use Rattle.lists.specs.Acknowledging.{select}
 use Rattle.session.specs.Slots.{occurs}
 use Rattle.session.specs.State.{Sending, sendHeld, slots}
 use Rattle.session.specs.Decides.{All}
-use Rattle.session.specs.AllLaws.{all-left, all-right, all-append, all-mapped, all-unmapped}
+use Rattle.session.specs.AllLaws.{all-left, all-right, all-append, all-mapped, all-unmapped, all-select}
 use Rattle.session.specs.Once.{Distinct, distinct-once, once-distinct}
 use Rattle.session.specs.Ascending.{ascends-ascending, ascending-ascends}
 use Rattle.session.specs.SendingValid.{SendingIsValid}
 use Rattle.delivery.specs.StateRange.{SendingFits}
 use Rattle.delivery.specs.FreeSlots.{not-first, not-later, not-either}
-use Rattle.delivery.specs.SendOrder.{Numbers, NumberFits}
+use Rattle.session.specs.SendOrder.{Numbers, NumberFits}
 
 -- held segments: their lengths, fragment numbers and slots
 pub record HeldWell (m : ℕ) (l : List Held) : Type 0 where
@@ -105,15 +105,6 @@ numbers-fit mode = each-sent mode NumberFits (λ x w. w .fits .number)
 -- ---- some of the outstanding segments taken out
 
 module _ (test : Sent → Bool) where
-  pub all-select : (P : Sent → Type 0) (l : List Sent) → All P l → All P (select test l)
-  unfolding select
-  all-select P [] a = tt
-  all-select P (x ∷ l) a = go (test x) (all-select P l (a .1))
-    where
-      go : (b : Bool) → All P (select test l) → All P (cond b (x ∷ select test l) (select test l))
-      go true i = (a .0, i)
-      go false i = i
-
   abbrev heldWith : List Sent → List Held → List Held
   heldWith l q = map (λ (x : Sent). x .held) l ++ q
 
@@ -121,7 +112,7 @@ module _ (test : Sent → Bool) where
   all-held P l q a =
       all-append P (map (λ (x : Sent). x .held) (select test l)) q
       (all-mapped P (λ (x : Sent). x .held) (select test l)
-      (all-select (λ (x : Sent). P (x .held)) l (all-unmapped P (λ (x : Sent). x .held) l (all-left P (map (λ (x : Sent). x .held) l) q a))))
+      (all-select test (λ (x : Sent). P (x .held)) l (all-unmapped P (λ (x : Sent). x .held) l (all-left P (map (λ (x : Sent). x .held) l) q a))))
       (all-right P (map (λ (x : Sent). x .held) l) q a)
 
   not-occurs : (n : ℕ) (l : List Sent) (q : List Held) →

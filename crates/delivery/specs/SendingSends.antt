@@ -18,7 +18,7 @@ use Rattle.session.specs.State.{Sending, sendHeld, slots}
 use Rattle.session.specs.Cutting.{fragmentCount, cut}
 use Rattle.session.specs.Sending.{Placed, place}
 use Rattle.session.specs.AllLaws.{all-append, all-weaker}
-use Rattle.delivery.specs.MapLaws.{map-append}
+use Rattle.session.specs.MapLaws.{map-append}
 use Rattle.delivery.specs.FreeSlots.{distinct-append}
 use Rattle.delivery.specs.SendPool.{PlacedWell, placed-well, length-cut, cut-short, count-most, count-least}
 use Rattle.delivery.specs.SendingHalf.{HeldWell, Half}

@@ -25,9 +25,10 @@ use Rattle.lists.specs.Acknowledging.{select, firstNumberOr, oneSkip, skipBefor
 use Rattle.session.specs.State.{Sending}
 use Rattle.session.specs.Input.{acknowledged, withWindow, sampledBy, heardBySending, allBySending, furthest, skipped, skippedByAll}
 use Rattle.session.specs.Decides.{All}
-use Rattle.delivery.specs.MapLaws.{map-kept}
-use Rattle.delivery.specs.SendOrder.{NumberFits, numbers-select, numbers-mapped}
-use Rattle.delivery.specs.SendingHalf.{SentWell, Half, numbers-fit, all-select, held-select, all-map}
+use Rattle.session.specs.MapLaws.{map-kept}
+use Rattle.session.specs.SendOrder.{NumberFits, numbers-select, numbers-mapped}
+use Rattle.session.specs.AllLaws.{all-select}
+use Rattle.delivery.specs.SendingHalf.{SentWell, Half, numbers-fit, held-select, all-map}
 use Rattle.delivery.specs.HeaderRange.{HeaderFits}
 
 -- ---- taking in

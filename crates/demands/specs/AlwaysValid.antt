@@ -11,8 +11,8 @@ use Rattle.sizes.specs.Sizes.{enough}
 use Rattle.session.specs.Reading.{messageSize, telling}
 use Rattle.session.specs.Calls.{Call, Answer, Event, own}
 use Rattle.session.specs.Decides.{All}
-use Rattle.calls.specs.Parts.{lengthsOf, stateIn, isMade}
-use Rattle.calls.specs.Outcomes.{tellsWith, tells}
+use Rattle.promises.specs.Parts.{lengthsOf, stateIn, isMade}
+use Rattle.promises.specs.Outcomes.{tellsWith, tells}
 use Rattle.delivery.specs.Hearing.{CallFits}
 use Rattle.demands.specs.Steps.{Endpoint, Runs, start, next, SinceOpening}
 use Rattle.demands.specs.Stations.{stationOf}

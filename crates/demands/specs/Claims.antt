@@ -8,8 +8,8 @@ use Rattle.session.specs.Calls.{Call, Answer, Event}
 use Rattle.delivery.specs.Claims.{Observed}
 use Rattle.delivery.specs.Ledger.{acknowledgedBy}
 use Rattle.answers.specs.declared.Count.the-variants as count
-use Rattle.calls.specs.Parts.{stateIn}
-use Rattle.calls.specs.Promises.{SizePromise}
+use Rattle.promises.specs.Parts.{stateIn}
+use Rattle.promises.specs.Promises.{SizePromise}
 use Rattle.demands.specs.Steps.{Endpoint, Called, Runs, start, next}
 use Rattle.demands.specs.Stations.{stationOf}
 

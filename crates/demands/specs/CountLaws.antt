@@ -22,14 +22,14 @@ use Rattle.session.specs.Reading.{Reads, Part, readable, unreadable, frontCount
 use Rattle.session.specs.Decides.{All, and-parts}
 use Rattle.session.specs.AllLaws.{all-left}
 use Rattle.session.specs.IsValid.{IsValid, valid-decides}
-use Rattle.block.specs.declared.Link.{Link}
-use Rattle.block.specs.Views.{stateOf, countsFit, blockValid}
+use Rattle.control.specs.declared.Link.{Link}
+use Rattle.control.specs.Views.{stateOf, countsFit, blockValid}
 use Rattle.answers.specs.declared.Count.{Count}
 use Rattle.answers.specs.declared.Count.the-variants as count
-use Rattle.calls.specs.Parts.{Parts, lengthsOf, stateIn, isMade}
-use Rattle.calls.specs.Outcomes.{checked, flushesWith, readsWith, tellsWith, showsWith, flushes, reads, tells, shows}
-use Rattle.calls.specs.Answers.{Counts, countOutcome}
-use Rattle.calls.specs.Promises.{FlushPromise, ReadPromise, SizePromise}
+use Rattle.promises.specs.Parts.{Parts, lengthsOf, stateIn, isMade}
+use Rattle.promises.specs.Outcomes.{checked, flushesWith, readsWith, tellsWith, showsWith, flushes, reads, tells, shows}
+use Rattle.promises.specs.Answers.{Counts, countOutcome}
+use Rattle.promises.specs.Promises.{FlushPromise, ReadPromise, SizePromise}
 use Rattle.delivery.specs.FlushLaws.{flush-few}
 use Rattle.demands.specs.OutputLaws.{message-short}
 

@@ -10,7 +10,7 @@ use Rattle.protocol.specs.Ranges.{inRange, mss}
 use Rattle.protocol.specs.declared.Settings.{Settings}
 use Rattle.session.specs.Calls.{Station, Call, Event, acceptedList}
 use Rattle.session.specs.Decides.{All}
-use Rattle.calls.specs.Parts.{stateIn}
+use Rattle.promises.specs.Parts.{stateIn}
 use Rattle.delivery.specs.PlainReceiver.{segmentsOf}
 use Rattle.delivery.specs.Hearing.{CallFits}
 use Rattle.delivery.specs.AlwaysValid.{station-always-valid}

@@ -15,12 +15,12 @@ use Rattle.session.specs.State.{Outcome}
 use Rattle.session.specs.Opening.{opened, opening}
 use Rattle.session.specs.Calls.{Call, Event, history, after}
 use Rattle.session.specs.Decides.{All}
-use Rattle.block.specs.Views.{countsFit}
-use Rattle.block.specs.declared.Link.{Link}
+use Rattle.control.specs.Views.{countsFit}
+use Rattle.control.specs.declared.Link.{Link}
 use Rattle.answers.specs.declared.Answer.the-variants as answer
-use Rattle.calls.specs.Parts.{Parts, lengthsOf, stateIn}
-use Rattle.calls.specs.Answers.{Accepts}
-use Rattle.calls.specs.Promises.{OpenLeaves}
+use Rattle.promises.specs.Parts.{Parts, lengthsOf, stateIn}
+use Rattle.promises.specs.Answers.{Accepts}
+use Rattle.promises.specs.Promises.{OpenLeaves}
 use Rattle.delivery.specs.Hearing.{Taken, CallFits}
 use Rattle.delivery.specs.Stations.{Opened}
 use Rattle.delivery.specs.AlwaysValid.{opened-all}

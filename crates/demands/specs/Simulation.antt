@@ -21,16 +21,16 @@ use Rattle.session.specs.Input.{Took, input}
 use Rattle.session.specs.Flushing.{Flushed, flushing, bytesOfSegments}
 use Rattle.session.specs.Reading.{Reads, readable, unreadable, messageSize, message, afterRead, withReceiving, reading}
 use Rattle.session.specs.Calls.{Call, Answer, Stepped, afterSend, afterTakeIn, afterFlush, afterReading, own, step}
-use Rattle.block.specs.Views.{stateOf, countsFit, blockValid}
+use Rattle.control.specs.Views.{stateOf, countsFit, blockValid}
 use Rattle.records.specs.TableLaws.{scattered-length}
 use Rattle.packing.specs.Packers.{joined}
 use Rattle.answers.specs.declared.Answer as given
 use Rattle.answers.specs.declared.Count.{Count}
 use Rattle.answers.specs.declared.Count.the-variants as count
-use Rattle.calls.specs.Parts.{Parts, lengthsOf, stateIn, isMade, Unchanged}
-use Rattle.calls.specs.Outcomes.{sendsWith, takesInWith, flushesWith, readsWith, sends, takesIn, flushes, reads}
-use Rattle.calls.specs.Answers.{Accepts, Counts}
-use Rattle.calls.specs.Promises.{SendLeaves, InputLeaves, Flushes, ReadLeaves}
+use Rattle.promises.specs.Parts.{Parts, lengthsOf, stateIn, isMade, Unchanged}
+use Rattle.promises.specs.Outcomes.{sendsWith, takesInWith, flushesWith, readsWith, sends, takesIn, flushes, reads}
+use Rattle.promises.specs.Answers.{Accepts, Counts}
+use Rattle.promises.specs.Promises.{SendLeaves, InputLeaves, Flushes, ReadLeaves}
 use Rattle.delivery.specs.Hearing.{CallFits}
 use Rattle.delivery.specs.Passing.{step-own}
 use Rattle.delivery.specs.FlushLaws.{flush-writes}

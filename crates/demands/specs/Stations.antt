@@ -3,7 +3,7 @@
 use lib.ListN.{length}
 use Rattle.protocol.specs.Protocol.{outputLeast, lengthsLeast}
 use Rattle.session.specs.Calls.{Station}
-use Rattle.calls.specs.Parts.{stateIn}
+use Rattle.promises.specs.Parts.{stateIn}
 use Rattle.demands.specs.Steps.{Endpoint}
 
 abbrev pub stationOf : Endpoint → Station

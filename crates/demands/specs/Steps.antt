@@ -9,13 +9,13 @@ use Rattle.protocol.specs.Protocol.{outputLeast, lengthsLeast}
 use Rattle.protocol.specs.declared.Settings.{Settings}
 use Rattle.session.specs.Calls.{Call, Answer, Event}
 use Rattle.session.specs.Decides.{All}
-use Rattle.block.specs.declared.Link.{Link}
+use Rattle.control.specs.declared.Link.{Link}
 use Rattle.answers.specs.declared.Answer as given
 use Rattle.answers.specs.declared.Answer.the-variants as answer
 use Rattle.answers.specs.declared.Count.{Count}
 use Rattle.answers.specs.declared.Count.the-variants as count
-use Rattle.calls.specs.Parts.{Parts}
-use Rattle.calls.specs.Promises.{OpenPromise, SendPromise, InputPromise, FlushPromise, ReadPromise}
+use Rattle.promises.specs.Parts.{Parts}
+use Rattle.promises.specs.Promises.{OpenPromise, SendPromise, InputPromise, FlushPromise, ReadPromise}
 use Rattle.delivery.specs.Hearing.{CallFits}
 
 -- a link as its caller holds it: the control block, and the parts lent to every call

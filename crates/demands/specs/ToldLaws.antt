@@ -22,15 +22,15 @@ use Rattle.session.specs.Input.{Took, input}
 use Rattle.session.specs.Reading.{Reads, readable, unreadable, frontCount, payloadIn, joinedIn, lengthOf, messageSize, message, afterRead, withReceiving, reading, telling}
 use Rattle.session.specs.Decides.{All, and-parts}
 use Rattle.session.specs.IsValid.{IsValid}
-use Rattle.block.specs.declared.Link.{Link}
-use Rattle.block.specs.Views.{pairs, stateOf, countsFit}
+use Rattle.control.specs.declared.Link.{Link}
+use Rattle.control.specs.Views.{pairs, stateOf, countsFit}
 use Rattle.answers.specs.declared.Answer.{Answer}
 use Rattle.answers.specs.declared.Count.{Count}
 use Rattle.answers.specs.declared.Count.the-variants as count
-use Rattle.calls.specs.Parts.{Parts, lengthsOf, stateIn, isMade}
-use Rattle.calls.specs.Outcomes.{checked, takesInWith, readsWith, tellsWith, takesIn}
-use Rattle.calls.specs.Answers.{Counts, countOutcome}
-use Rattle.calls.specs.Promises.{TookIn, InputPromise, InputLeaves, ReadPromise, SizePromise}
+use Rattle.promises.specs.Parts.{Parts, lengthsOf, stateIn, isMade}
+use Rattle.promises.specs.Outcomes.{checked, takesInWith, readsWith, tellsWith, takesIn}
+use Rattle.promises.specs.Answers.{Counts, countOutcome}
+use Rattle.promises.specs.Promises.{TookIn, InputPromise, InputLeaves, ReadPromise, SizePromise}
 use Rattle.demands.specs.Told.{readAs, entriesOf, acksAfter}
 use Rattle.demands.specs.CountLaws.{is-valid, short, low}
 
@@ -137,12 +137,12 @@ and-false : (a : Bool) → (a && false) ≡ false
 and-false true = refl
 and-false false = refl
 
-acks-fit : (l : Link) → countsFit l ≡ true → l .acks ≤ acksMost
+acks-fit : (l : Link) → countsFit l ≡ true → l .arrival .acks ≤ acksMost
 unfolding countsFit
-acks-fit l h = go (leb (l .acks) acksMost) refl
+acks-fit l h = go (leb (l .arrival .acks) acksMost) refl
   where
-    go : (b : Bool) → leb (l .acks) acksMost ≡ b → l .acks ≤ acksMost
-    go true e = leb-true (l .acks) acksMost e
+    go : (b : Bool) → leb (l .arrival .acks) acksMost ≡ b → l .arrival .acks ≤ acksMost
+    go true e = leb-true (l .arrival .acks) acksMost e
     go false e =
         let f : countsFit l ≡ false = simp (e, and-false) in
         let z : _≡_ {A = Bool} true false = sym h ∙ f in
@@ -152,7 +152,7 @@ took : (l : Link) (p : Parts) (l′ : Link) (p′ : Parts) (x : Took) → 2 * ac
     → p′ .acks ≡ sets (p .acks) 0 (entriesOf (x .state .receiving .acks))
 unfolding stateOf
 took l p l′ p′ x room q =
-    rw (← q .stands .state) (entries-put (l′ .acks) (p .acks) (p′ .acks) (omega (arith, acks-fit l′ (q .stands .counts))) (q .ackLength) (q .ackRest))
+    rw (← q .stands .state) (entries-put (l′ .arrival .acks) (p .acks) (p′ .acks) (omega (arith, acks-fit l′ (q .stands .counts))) (q .ackLength) (q .ackRest))
 
 -- the ack list after an input, refused or not
 pub input-acks : (l : Link) (p : Parts) (d : List ℕ) (a : Answer) (l′ : Link) (p′ : Parts) → InputPromise d l p a l′ p′ → p′ .acks ≡ acksAfter (takesIn l p d) (p .acks)

@@ -1,12 +1,6 @@
-// The lists of the control block: segments queued, outstanding, ready and waiting. A list is the front of an array, in
-// list order, up to its count; what stands past the count is not state.
-pub mod held_list;
-pub mod reorder;
-pub mod waiting_list;
-
+// Segments queued, outstanding, ready and waiting: their types, and in specs/ the lists of them. A list is the front of an array,
+// in list order, up to its count; what stands past the count is not state.
 use timing::Record;
-ghost use mathlib.Core.List.{[]};
-ghost use Rattle.lists.specs.Views.{HeldIs, WaitingIs, OutstandingIs};
 
 // A segment held in a slot of a pool: its slot, its length in bytes and its fragment number.
 #[repr(C)]
@@ -64,62 +58,8 @@ pub struct Receiving {
     pub waiting: WaitingList,
 }
 
-// Outstanding segments, and their records in the same order.
-pub struct Split {
-    pub outstanding: OutstandingList,
-    pub records: [Record; 32],
-}
-
 // What acknowledges an outstanding segment: an arriving una, or an arriving ack's number.
 pub enum Acknowledges {
     Una(u32),
     Ack(u32),
-}
-
-// What stands past a new list's count.
-const BLANK: Held = Held {
-    slot: 0,
-    len: 0,
-    fragment: 0,
-};
-
-impl HeldList {
-    pub fn new() -> Self
-        ensures { λ r. ⌜ HeldIs r [] ⌝ }
-    {
-        HeldList {
-            at: [BLANK; 128],
-            count: 0,
-        }
-    }
-}
-
-impl WaitingList {
-    pub fn new() -> Self
-        ensures { λ r. ⌜ WaitingIs r [] ⌝ }
-    {
-        let blank = Waiting {
-            number: 0,
-            held: BLANK,
-        };
-        WaitingList {
-            at: [blank; 128],
-            count: 0,
-        }
-    }
-}
-
-impl OutstandingList {
-    pub fn new() -> Self
-        ensures { λ r. ⌜ OutstandingIs r [] ⌝ }
-    {
-        let blank = Outstanding {
-            held: BLANK,
-            transmissions: 0,
-        };
-        OutstandingList {
-            at: [blank; 32],
-            count: 0,
-        }
-    }
 }

@@ -18,7 +18,7 @@ use Rattle.session.specs.State.{Sending}
 use Rattle.session.specs.Decides.{and-parts}
 use Rattle.session.specs.Valid.{numbersFit}
 use Rattle.session.specs.Flushing.{numbered, numberedCount, withNumbered}
-use Rattle.delivery.specs.MapLaws.{map-take, map-drop}
+use Rattle.session.specs.MapLaws.{map-take, map-drop}
 use Rattle.words.specs.Words.{unpack, heldIn, Front}
 use Rattle.control.specs.declared.Flight.{Flight}
 use Rattle.control.specs.Views.{sendingOf}

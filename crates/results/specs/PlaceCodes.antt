@@ -3,7 +3,7 @@
 use Prim.Native.Nat.{ℕ, min}
 use lib.IntN.{ℤ}
 use Rattle.read_core.specs.declared.Place.{Place}
-use Rattle.new_codes.specs.Codes.{sizeCode}
+use Rattle.codes.specs.Codes.{sizeCode}
 
 abbrev pub placeCode : Place → ℤ
 placeCode p = sizeCode (p .count)

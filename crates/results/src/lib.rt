@@ -11,7 +11,7 @@ use read_core::Place;
 use send_core::Sent;
 use timing::Record;
 ghost use mathlib.Core.Path.{_≡_};
-ghost use Rattle.new_codes.specs.Codes.{answerCode, countCode};
+ghost use Rattle.codes.specs.Codes.{answerCode, countCode};
 ghost use Rattle.results.specs.PlaceCodes.{placeCode, placeStart};
 
 // How many segments are outstanding.
@@ -51,7 +51,7 @@ pub fn opened_code(opened: Opened) -> i32
     ensures { λ r. ⌜ r ≡ answerCode (opened .answer) ⌝ }
 {
     let answer = opened.answer;
-    new_codes::answer_code(answer)
+    codes::answer_code(answer)
 }
 
 // ---- of sending
@@ -66,7 +66,7 @@ pub fn sent_code(sent: Sent) -> i32
     ensures { λ r. ⌜ r ≡ answerCode (sent .answer) ⌝ }
 {
     let answer = sent.answer;
-    new_codes::answer_code(answer)
+    codes::answer_code(answer)
 }
 
 // ---- of taking in
@@ -105,7 +105,7 @@ pub fn taken_code(taken: Taken) -> i32
     ensures { λ r. ⌜ r ≡ answerCode (taken .answer) ⌝ }
 {
     let answer = taken.answer;
-    new_codes::answer_code(answer)
+    codes::answer_code(answer)
 }
 
 // ---- of a flush
@@ -150,7 +150,7 @@ pub fn flushed_code(flushed: Flushed) -> i32
     ensures { λ r. ⌜ r ≡ countCode (flushed .answer) ⌝ }
 {
     let answer = flushed.answer;
-    new_codes::count_code(answer)
+    codes::count_code(answer)
 }
 
 // ---- of reading
@@ -165,7 +165,7 @@ pub fn delivered_code(delivered: Delivered) -> i32
     ensures { λ r. ⌜ r ≡ countCode (delivered .answer) ⌝ }
 {
     let answer = delivered.answer;
-    new_codes::count_code(answer)
+    codes::count_code(answer)
 }
 
 // ---- of showing
@@ -174,6 +174,6 @@ pub fn delivered_code(delivered: Delivered) -> i32
 pub fn tell_place(place: Place, start: &mut u32) -> i32
     ensures { λ r. ⌜ (r ≡ placeCode place) × (now (start .exit) ≡ placeStart place) ⌝ }
 {
-    *start = new_codes::narrow32(place.start);
-    new_codes::size_code(place.count)
+    *start = codes::narrow32(place.start);
+    codes::size_code(place.count)
 }

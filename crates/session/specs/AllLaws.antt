@@ -1,8 +1,10 @@
 -- Laws of `All`: what holds of each of a list.
 -- Assumes nothing.
+use mathlib.Core.Bool.{Bool, true, false, cond}
 use mathlib.Core.List.{List, [], _∷_, _++_, map}
 use Prim.Native.Nat.{ℕ, zero, suc}
 use lib.ListN.{take, drop}
+use Rattle.lists.specs.Acknowledging.{select}
 use Rattle.session.specs.Decides.{All}
 
 -- ---- of each in two respects
@@ -63,3 +65,15 @@ module _ {A B : Type 0} (P : B → Type 0) (f : A → B) where
   pub all-unmapped : (l : List A) → All P (map f l) → All (λ (x : A). P (f x)) l
   all-unmapped [] h = tt
   all-unmapped (x ∷ l) h = (h .0, all-unmapped l (h .1))
+
+-- ---- of those that pass a test
+
+module _ {A : Type 0} (test : A → Bool) where
+  pub all-select : (P : A → Type 0) (l : List A) → All P l → All P (select test l)
+  unfolding select
+  all-select P [] a = tt
+  all-select P (x ∷ l) a = go (test x) (all-select P l (a .1))
+    where
+      go : (b : Bool) → All P (select test l) → All P (cond b (x ∷ select test l) (select test l))
+      go true i = (a .0, i)
+      go false i = i

@@ -17,3 +17,5 @@ pub mod Calls
 pub mod Marked
 pub mod IsValid
 pub mod LooksRight
+pub mod SendOrder
+pub mod MapLaws

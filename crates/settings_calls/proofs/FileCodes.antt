@@ -8,8 +8,8 @@ use lib.IntN.{ℤ, pos}
 use mir.Syntax.{w32}
 use mir.Val.{SFits}
 use Rattle.protocol.specs.declared.Settings.{Settings}
-use Rattle.new_codes.specs.Codes.{numberCode}
-use Rattle.new_codes.proofs.Signs.{negative-fits}
+use Rattle.codes.specs.Codes.{numberCode}
+use Rattle.codes.proofs.Signs.{negative-fits}
 use Rattle.settings_file.specs.Files.{numberOf, readFrom}
 use Rattle.settings_file.specs.declared.FileRefusal.{FileRefusal}
 use Rattle.settings_file.specs.declared.FileRefusal.the-variants.{ShortPart, SettingOutOfRange, NotSettings, UnknownVersion}

@@ -4,7 +4,7 @@ use mathlib.Core.Path.{_≡_}
 use Prim.Native.Nat.{ℕ}
 use lib.IntN.{ℤ, pos}
 use Rattle.protocol.specs.declared.Settings.{Settings}
-use Rattle.new_codes.specs.Codes.{numberCode}
+use Rattle.codes.specs.Codes.{numberCode}
 use Rattle.settings_file.specs.Files.{numberOf}
 use Rattle.settings_file.specs.declared.Reading.{Reading}
 use Rattle.settings_file.specs.declared.Reading.the-variants as reading

@@ -2,9 +2,9 @@
 use settings_file::Reading;
 use settings_file::Writing;
 ghost use mathlib.Core.Path.{_≡_};
-ghost use Rattle.new_codes.specs.Codes.{settingsOf};
+ghost use Rattle.codes.specs.Codes.{settingsOf};
 ghost use Rattle.settings_file.specs.Files.{Writes, readFrom};
-ghost use Rattle.new_codes.specs.Gives.{Gives};
+ghost use Rattle.codes.specs.Gives.{Gives};
 ghost use Rattle.settings_calls.specs.SettingsFiles.{writingCode, numbers, Stores};
 
 // 0, or the refusal.
@@ -13,7 +13,7 @@ fn writing_code(writing: Writing) -> i32
 {
     match writing {
         Writing::Whole => 0,
-        Writing::Refused(refusal) => new_codes::number_code(refusal.number()),
+        Writing::Refused(refusal) => codes::number_code(refusal.number()),
     }
 }
 
@@ -22,7 +22,7 @@ pub fn write(conv: u32, mtu: u32, mode: u32, interval: u32, threshold: u32, file
     ensures { λ r. ⌜ Gives writingCode
         (λ a. Writes (settingsOf conv mtu mode interval threshold) (now (file .entry)) a (now (file .exit))) r ⌝ }
 {
-    let settings = new_codes::settings(conv, mtu, mode, interval, threshold);
+    let settings = codes::settings(conv, mtu, mode, interval, threshold);
     let writing = settings_file::write(settings, file);
     writing_code(writing)
 }
@@ -50,6 +50,6 @@ pub fn read(
             *threshold = settings.threshold as u32;
             0
         }
-        Reading::Refused(refusal) => new_codes::number_code(refusal.number()),
+        Reading::Refused(refusal) => codes::number_code(refusal.number()),
     }
 }

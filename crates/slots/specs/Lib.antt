@@ -1,5 +1,3 @@
 pub mod Slots
 pub mod SlotLaws
-pub mod Marks
-pub mod MarkLaws
 pub mod Agree

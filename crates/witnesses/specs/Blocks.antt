@@ -2,46 +2,57 @@
 -- Assumes nothing.
 use mathlib.Core.Bool.{Bool, cond}
 use mathlib.Core.List.{map}
-use Prim.Native.Nat.{ℕ}
+use Prim.Native.Nat.{ℕ, _+_, _*_}
 use lib.ListN.{length}
-use Rattle.lists.specs.Joining.{withoutRecord}
+use Rattle.lists.specs.declared.Held.{Held}
+use Rattle.lists.specs.declared.Sent.{Sent}
+use Rattle.lists.specs.declared.Waiting.{Waiting}
 use Rattle.session.specs.State.{State, Outcome, refused, done}
 use Rattle.session.specs.Sending.{Sends}
 use Rattle.session.specs.Input.{Took}
 use Rattle.session.specs.Flushing.{Flushed}
 use Rattle.session.specs.Reading.{Reads}
-use Rattle.block.specs.declared.Link.{Link}
-use Rattle.calls.specs.Promises.{tableOf}
+use Rattle.control.specs.declared.Link.{Link}
+use Rattle.promises.specs.Promises.{tableOf}
 use Rattle.demands.specs.Steps.{Endpoint}
 use Rattle.demands.specs.Told.{acksAfter}
 
 abbrev flag : Bool → ℕ
 flag b = cond b 1 0
 
+-- a held segment as one word
+abbrev word : Held → ℕ
+word h = h .slot + 256 * h .fragment + 65536 * h .len
+
 -- a block that stands for a state
 abbrev pub linkOf : State → Link
 linkOf s =
+    let sending = s .sending in
+    let receiving = s .receiving in
     record {
       settings = s .settings;
-      queued = record { at = s .sending .queued; count = length (s .sending .queued) };
       flight = record {
-        una = s .sending .una;
-        next = s .sending .next;
-        rtt = s .sending .roundTrip;
-        window = s .sending .window;
-        outstanding = record { at = map withoutRecord (s .sending .outstanding); count = length (s .sending .outstanding) };
+        una = sending .una;
+        next = sending .next;
+        rtt = sending .roundTrip;
+        window = sending .window;
+        queued = length (sending .queued);
+        outstanding = length (sending .outstanding);
       };
-      receiving = record {
-        next = s .receiving .next;
-        ready = record { at = s .receiving .ready; count = length (s .receiving .ready) };
-        waiting = record { at = s .receiving .waiting; count = length (s .receiving .waiting) };
+      arrival = record {
+        expected = receiving .next;
+        tell = flag (receiving .tell);
+        ready = length (receiving .ready);
+        waiting = length (receiving .waiting);
+        acks = length (receiving .acks);
       };
-      acks = length (s .receiving .acks);
-      probe = s .probe;
-      current = s .current;
-      ask = flag (s .ask);
-      tell = flag (s .receiving .tell);
-      dead = flag (s .dead);
+      clock = record { probe = s .probe; current = s .current; ask = flag (s .ask); dead = flag (s .dead) };
+      queued = map word (sending .queued);
+      outstanding = map (λ (x : Sent). word (x .held)) (sending .outstanding);
+      transmissions = map (λ (x : Sent). x .transmissions) (sending .outstanding);
+      ready = map word (receiving .ready);
+      waiting = map (λ (w : Waiting). word (w .held)) (receiving .waiting);
+      «waiting_numbers» = map (λ (w : Waiting). w .number) (receiving .waiting);
     }
 
 -- ---- what each call leaves

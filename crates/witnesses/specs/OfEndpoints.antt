@@ -29,13 +29,13 @@ use Rattle.session.specs.Input.{acknowledged, sampledBy, heardBySending, pushed
 use Rattle.session.specs.Reading.{joinedIn, message, lengthOf, messageSize, afterRead, reading}
 use Rattle.session.specs.Opening.{opened, opening}
 use Rattle.session.specs.Calls.{Call, Answer, Event, acceptedList, datagramsBy}
-use Rattle.block.specs.Views.{pairs, stateOf, countsFit, blockValid}
+use Rattle.control.specs.Views.{pairs, stateOf, countsFit, blockValid}
 use Rattle.records.specs.Tables.{blank, scattered}
 use Rattle.packing.specs.Packers.{joined, lengthsOf}
 use Rattle.answers.specs.declared.Answer.the-variants as answer
 use Rattle.answers.specs.declared.Count.the-variants as count
-use Rattle.calls.specs.Parts.{Parts}
-use Rattle.calls.specs.Outcomes.{sendsWith, takesInWith, flushesWith, readsWith, sends, takesIn, flushes, reads}
+use Rattle.promises.specs.Parts.{Parts}
+use Rattle.promises.specs.Outcomes.{sendsWith, takesInWith, flushesWith, readsWith, sends, takesIn, flushes, reads}
 use Rattle.delivery.specs.PlainReceiver.{pushNumbers, pushesIn}
 use Rattle.delivery.specs.Hearing.{FewPushes, FedWith, HearsMore}
 use Rattle.demands.specs.Steps.{Endpoint, cutBy, Called, start, next, Opens, SinceOpening}

@@ -27,13 +27,13 @@ use Rattle.session.specs.Slots.{occurs, lowestFree}
 use Rattle.session.specs.State.{State, Sending, Receiving, receiveHeld, slots}
 use Rattle.session.specs.Input.{acknowledged, withWindow, sampledBy, heardBySending, allBySending, ackNumbers, skipped, skippedByAll, furthest, Receiver, kept, withAcks, noted, movedUp, inWindow, isNew, pushed, asked, heardByReceiving, allByReceiving, applied, taking, input}
 use Rattle.sizes.specs.Sizes.{enough}
-use Rattle.block.specs.Views.{stateOf}
-use Rattle.block.specs.declared.Link.{Link}
+use Rattle.control.specs.Views.{stateOf}
+use Rattle.control.specs.declared.Link.{Link}
 use Rattle.answers.specs.declared.Answer.the-variants as answer
-use Rattle.calls.specs.Parts.{Parts, lengthsOf, stateIn, isMade}
-use Rattle.calls.specs.Outcomes.{checked, takesInWith}
-use Rattle.calls.specs.Answers.{Accepts}
-use Rattle.calls.specs.Promises.{TookIn, InputPromise, InputLeaves}
+use Rattle.promises.specs.Parts.{Parts, lengthsOf, stateIn, isMade}
+use Rattle.promises.specs.Outcomes.{checked, takesInWith}
+use Rattle.promises.specs.Answers.{Accepts}
+use Rattle.promises.specs.Promises.{TookIn, InputPromise, InputLeaves}
 use Rattle.wrong_links.specs.Halves.{outstandingNumbers, heldCount, isKept, keptOf}
 
 -- ---- the sending half

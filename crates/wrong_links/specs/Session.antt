@@ -33,7 +33,7 @@ use Rattle.session.specs.Input as input-of
 use Rattle.session.specs.Input.{Took, sampledBy, heardBySending, pushed, heardByReceiving, allBySending, allByReceiving, ackNumbers, furthest, skipped, applied, input}
 use Rattle.session.specs.Reading as reading-of
 use Rattle.session.specs.Reading.{Reads, joinedIn, message, lengthOf, messageSize, reading, telling, showing}
-use Rattle.calls.specs.Promises.{shown}
+use Rattle.promises.specs.Promises.{shown}
 use Rattle.wrong_links.specs.Standing.{Known, Passes, lengthsKnown}
 
 -- ---- both ends at first

@@ -10,8 +10,8 @@ use Rattle.sizes.specs.Sizes.{enough}
 use Rattle.sizes.specs.declared.Lengths.{Lengths}
 use Rattle.session.specs.State.{State}
 use Rattle.session.specs.Valid.{valid}
-use Rattle.block.specs.declared.Link.{Link}
-use Rattle.calls.specs.Parts.{Parts, Stands}
+use Rattle.control.specs.declared.Link.{Link}
+use Rattle.promises.specs.Parts.{Parts, Stands}
 
 -- a state with the bytes of its pools
 pub record Known : Type 0 where

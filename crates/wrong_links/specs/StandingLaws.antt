@@ -18,18 +18,18 @@ use Rattle.session.specs.Sending.{Sends, sending}
 use Rattle.session.specs.Input.{Took, input}
 use Rattle.session.specs.Flushing.{Flushed, flushing, bytesOfSegments}
 use Rattle.session.specs.Reading.{Reads, reading, telling, showing}
-use Rattle.block.specs.Views.{stateOf, blockValid}
-use Rattle.block.specs.declared.Link.{Link}
+use Rattle.control.specs.Views.{stateOf, blockValid}
+use Rattle.control.specs.declared.Link.{Link}
 use Rattle.records.specs.TableLaws.{scattered-length}
 use Rattle.packing.specs.Packers.{Output}
 use Rattle.answers.specs.declared.Answer.{Answer}
 use Rattle.answers.specs.declared.Answer.the-variants as answer
 use Rattle.answers.specs.declared.Count.{Count}
 use Rattle.answers.specs.declared.Count.the-variants as count
-use Rattle.calls.specs.Parts.{Parts, lengthsOf, isMade}
-use Rattle.calls.specs.Outcomes.{sendsWith, takesInWith, flushesWith, readsWith, tellsWith, showsWith, opens, sends, takesIn, flushes, reads, tells, shows}
-use Rattle.calls.specs.Answers.{Accepts, Counts, countOutcome}
-use Rattle.calls.specs.Promises.{OpenPromise, OpenLeaves, SendPromise, SendLeaves, InputPromise, InputLeaves, FlushPromise, FlushLeaves, ReadPromise, NoRead, ReadLeaves, SizePromise, ShowPromise, shown}
+use Rattle.promises.specs.Parts.{Parts, lengthsOf, isMade}
+use Rattle.promises.specs.Outcomes.{sendsWith, takesInWith, flushesWith, readsWith, tellsWith, showsWith, opens, sends, takesIn, flushes, reads, tells, shows}
+use Rattle.promises.specs.Answers.{Accepts, Counts, countOutcome}
+use Rattle.promises.specs.Promises.{OpenPromise, OpenLeaves, SendPromise, SendLeaves, InputPromise, InputLeaves, FlushPromise, FlushLeaves, ReadPromise, NoRead, ReadLeaves, SizePromise, ShowPromise, shown}
 use Rattle.wrong_links.specs.Standing.{Known, Lends, At, Passes, lengthsKnown}
 
 -- ---- opening

@@ -21,15 +21,15 @@ use Rattle.protocol.specs.declared.Refusal.the-variants.{NoMessage}
 use Rattle.lists.specs.declared.Sent.{Sent}
 use Rattle.session.specs.State.{Outcome, refused, done}
 use Rattle.session.specs.Reading.{reading}
-use Rattle.block.specs.declared.Link.{Link}
+use Rattle.control.specs.declared.Link.{Link}
 use Rattle.packing.specs.Packers.{Output}
 use Rattle.answers.specs.declared.Answer.{Answer}
 use Rattle.answers.specs.declared.Answer.the-variants as answer
 use Rattle.answers.specs.declared.Count.{Count}
 use Rattle.answers.specs.declared.Count.the-variants as count
-use Rattle.calls.specs.Parts.{Parts, stateIn}
-use Rattle.calls.specs.Answers.{countOutcome}
-use Rattle.calls.specs.Promises.{OpenPromise, SendPromise, InputPromise, FlushPromise, ReadPromise, SizePromise, ShowPromise}
+use Rattle.promises.specs.Parts.{Parts, stateIn}
+use Rattle.promises.specs.Answers.{countOutcome}
+use Rattle.promises.specs.Promises.{OpenPromise, SendPromise, InputPromise, FlushPromise, ReadPromise, SizePromise, ShowPromise}
 use Rattle.wrong_links.specs.Standing.{Lends, At}
 use Rattle.wrong_links.specs.StandingLaws.{opening-goes, send-goes, input-goes, flush-goes, read-goes, read-refused, size-goes, show-goes}
 use Rattle.wrong_links.specs.Session.{isDone, resultOr, settings, sendPool, receivePool, fresh, first, second, oneSent, bothSent, flush, flushed, datagrams, acks, acknowledged, oneHeard, bothHeard, oneRead, bothRead, reads, all-pass, computed}

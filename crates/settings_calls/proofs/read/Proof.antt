@@ -1,7 +1,7 @@
 -- `ampferweg::settings::ampferweg_settings_read` meets its contract, by its cases.
 -- Assumes nothing.
 use borrow.Author.Needs.{needs}
-use Rattle.new_codes.proofs.Signs.{passed}
+use Rattle.codes.proofs.Signs.{passed}
 use Rattle.settings_calls.proofs.FileCodes.{refusal-fits, stored, left-alone}
 use Rattle.settings_calls.proofs.read.Statement.{statement}
 use Rattle.settings_calls.proofs.read.Tie as tie

@@ -1,7 +1,7 @@
 -- `ampferweg::settings::ampferweg_settings_write` meets its contract: what was written, told by its code.
 -- Assumes nothing.
 use borrow.Author.Needs.{needs}
-use Rattle.new_codes.proofs.Signs.{passed}
+use Rattle.codes.proofs.Signs.{passed}
 use Rattle.settings_calls.proofs.FileCodes.{writing-fits}
 use Rattle.settings_calls.proofs.write.Statement.{statement}
 use Rattle.settings_calls.proofs.write.Tie as tie

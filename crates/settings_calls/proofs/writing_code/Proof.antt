@@ -1,7 +1,7 @@
 -- `ampferweg::settings::writing_code` meets its contract, by its cases.
 -- Assumes nothing.
 use borrow.Author.Needs.{needs}
-use Rattle.new_codes.proofs.Signs.{passed}
+use Rattle.codes.proofs.Signs.{passed}
 use Rattle.settings_calls.proofs.FileCodes.{refusal-fits}
 use Rattle.settings_calls.proofs.writing_code.Statement.{statement}
 use Rattle.settings_calls.proofs.writing_code.Tie as tie

@@ -1,4 +1,0 @@
-pub mod Hearing
-pub mod Removal
-pub mod Skips
-pub mod Walks

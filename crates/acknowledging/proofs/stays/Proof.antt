@@ -1,8 +1,0 @@
--- `stays`: two tests.
--- Assumes nothing.
-use borrow.Author.Needs.{needs}
-use Rattle.acknowledging.proofs.stays.Statement.{statement}
-use Rattle.acknowledging.proofs.stays.Tie as tie
-
-pub stays-spec : {M : Type 1} → statement M
-stays-spec = tie.close (tie.spec (λ c κs. search needs) (λ c. cc))

@@ -1,4 +1,0 @@
-pub mod Flights
-pub mod Furthest
-pub mod FurthestLaws
-pub mod Hearing

@@ -1,4 +1,0 @@
-pub mod Numbering
-pub mod Ready
-pub mod Results
-pub mod Checks

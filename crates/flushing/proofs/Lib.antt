@@ -1,4 +1,0 @@
-pub mod ControlLaws
-pub mod DataLaws
-pub mod WalkLaws
-pub mod WriteLaws

@@ -1,5 +1,0 @@
-pub mod Numbering
-pub mod Writing
-pub mod Flushes
-pub mod FlushLaws
-pub mod ValidLaws

@@ -1,5 +1,0 @@
-pub mod Counts
-pub mod Payloads
-pub mod Slots
-pub mod Places
-pub mod Follow
