@@ -173,9 +173,9 @@ module _ (m : List ℕ) (p : Passed m) where
       let rest : name ++ drop (1 + n) m ≡ drop 1 m = rw (← drop-drop n 1 m) (take-append-drop n (drop 1 m)) in
       let second : drop (1 + n) m ≡ valueLength m ∷ drop (1 + n + 1) m = rw (add-one (1 + n)) (drop-cons m (1 + n) 0 (omega (arith, p .whole))) in
       let last : take (valueLength m) (drop (1 + n + 1) m) ≡ drop (1 + n + 1) m =
-        take-all (valueLength m) (drop (1 + n + 1) m) (rw length-drop (omega (arith, p .whole))) in
+      take-all (valueLength m) (drop (1 + n + 1) m) (rw length-drop (omega (arith, p .whole))) in
       let back : counted (valueIn m) ≡ drop (1 + n) m =
-        ap (λ (l : List ℕ). length (valueIn m) ∷ l) last ∙ ap (λ (k : ℕ). k ∷ drop (1 + n + 1) m) length-value ∙ sym second in
+      ap (λ (l : List ℕ). length (valueIn m) ∷ l) last ∙ ap (λ (k : ℕ). k ∷ drop (1 + n + 1) m) length-value ∙ sym second in
       first
       ∙ ap (λ (k : ℕ). k ∷ drop 1 m) (sym length-name)
       ∙ ap (λ (l : List ℕ). length (nameIn m) ∷ l) (sym rest)

@@ -78,8 +78,8 @@ pub fn is_tag(name: &[u8], value: &[u8]) -> bool
     is_name(name) & (value.len() <= VALUE_MOST)
 }
 
-// A length in one byte, and then the bytes.
-fn put_counted(out: &mut [u8], at: usize, bytes: &[u8])
+// A length in one byte, and then the bytes, stored from `at` on. No other byte changes.
+pub fn put_counted(out: &mut [u8], at: usize, bytes: &[u8])
     requires { ⌜ (length (now bytes) ≤ 64) × (at + (1 + length (now bytes)) ≤ length (now out)) ⌝ }
     ensures { λ _. ⌜ now (out .exit) ≡ sets (now (out .entry)) at (counted (now (bytes .entry))) ⌝ }
 {
@@ -117,7 +117,10 @@ pub fn read(message: &[u8]) -> Reading
         return Reading::Refused(TagRefusal::NotATag);
     }
     let value = message[middle] as usize;
-    if is_name(&message[1..middle]) & (value <= VALUE_MOST) & (message.len() == middle + 1 + value) {
+    if is_name(&message[1..middle])
+        & (value <= VALUE_MOST)
+        & (message.len() == middle + 1 + value)
+    {
         return Reading::Tag { name, value };
     }
     Reading::Refused(TagRefusal::NotATag)
