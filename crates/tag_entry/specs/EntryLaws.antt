@@ -1,21 +1,21 @@
 -- Laws of `Entries` and `Fingerprints`.
 -- Assumes nothing.
 use mathlib.Core.Path.{_≡_, refl, sym, ap, _∙_}
-use mathlib.Core.Bool.{Bool, true, false, cond, _&&_}
-use mathlib.Core.List.{List, [], _∷_, _++_}
+use mathlib.Core.Bool.{Bool, true, false, _&&_}
+use mathlib.Core.List.{List, [], _∷_}
 use Prim.Native.Nat.{ℕ, suc, _+_, _-_, _*_, _%_, _≤_, _<_}
 use native.Mathlib.Numerals.{add-one}
 use native.Mathlib.Nat.{add-suc}
 use native.Mathlib.Omega.{arith}
-use borrow.Author.Tests.{le-leb, lt-leb, leb-true, eq-eqb, ne-eqb, eqb-true}
-use lib.Dec.{leb, ltb, eqb}
+use borrow.Author.Tests.{le-leb, lt-leb, eq-eqb, ne-eqb, eqb-true}
+use lib.Dec.{eqb}
 use lib.ListN.{length, length-append, take, drop, getD, set, replicate, length-replicate, length-drop, drop-of-length-le}
 use lib.Seq.{sets, drop-cons, length-take-le}
 use Rattle.wire.specs.Stores.{sets-append}
-use Rattle.tag_message.specs.Tags.{every, isName, isTag}
-use Rattle.tag_message.specs.TagLaws.{and-parts, and-true, and-false}
+use Rattle.tag_message.specs.Tags.{every, isName}
+use Rattle.tag_message.specs.TagLaws.{and-parts, and-false}
 use Rattle.tag_message.specs.Messages.{counted}
-use Rattle.tag_entry.specs.Entries.{isZero, isFree, nameLength, nameOf, valueLength, behindName, behindValue, isUsed, isEntry, sameBytes, isNamed, padded, entryOf}
+use Rattle.tag_entry.specs.Entries.{isZero, nameLength, nameOf, valueLength, isUsed, isEntry, sameBytes, isNamed, padded, entryOf}
 use Rattle.tag_entry.specs.Fingerprints.{mixed}
 
 -- ---- runs of bytes

@@ -3,21 +3,19 @@
 use mathlib.Core.Path.{_≡_, refl, sym, ap, _∙_}
 use mathlib.Core.Bool.{Bool, true, false, cond, _&&_}
 use mathlib.Core.List.{List, [], _∷_, _++_}
-use Prim.Native.Nat.{ℕ, suc, _+_, _-_, _≤_, _<_}
+use Prim.Native.Nat.{ℕ, _+_, _-_, _≤_, _<_}
 use native.Mathlib.Numerals.{add-one}
 use native.Mathlib.Omega.{arith}
 use borrow.Author.Tests.{le-leb, lt-leb, leb-true, eq-eqb, ne-eqb, eqb-true}
 use lib.Dec.{leb, eqb}
-use lib.ListN.{length, length-append, length-take, length-drop, take, drop, getD, take-append-drop}
+use lib.ListN.{length, length-append, length-drop, take, drop, take-append-drop}
 use lib.Seq.{sets, take-all, take-length, drop-cons, drop-drop, length-take-le, append-snoc, getD-at, drop-at, take-at}
-use Rattle.pools.specs.Parts.{part}
 use Rattle.wire.specs.Stores.{sets-append}
-use Rattle.tag_message.specs.Tags.{every, isName, isValue, isTag}
+use Rattle.tag_message.specs.Tags.{isName, isValue, isTag}
 use Rattle.tag_message.specs.TagLaws.{and-parts, and-false}
 use Rattle.tag_message.specs.Messages.{counted, messageOf, writeInto, Writes, nameLength, valueLength, nameIn, valueIn, isMessage, readFrom}
 use Rattle.tag_message.specs.declared.TagRefusal.{TagRefusal}
 use Rattle.tag_message.specs.declared.TagRefusal.the-variants.{OtherSize, NotATag}
-use Rattle.tag_message.specs.declared.Reading.{Reading}
 use Rattle.tag_message.specs.declared.Reading.the-variants as reading
 use Rattle.tag_message.specs.declared.Writing.the-variants as writing
 
@@ -180,3 +178,27 @@ module _ (m : List ℕ) (p : Passed m) where
       ∙ ap (λ (k : ℕ). k ∷ drop 1 m) (sym length-name)
       ∙ ap (λ (l : List ℕ). length (nameIn m) ∷ l) (sym rest)
       ∙ ap (λ (l : List ℕ). length (nameIn m) ∷ (name ++ l)) (sym back)
+
+-- ---- by what was read
+
+-- a tag is read of a message, with its lengths
+pub record Read (m : List ℕ) (n v : ℕ) : Type 0 where
+  pub message : isMessage m ≡ true
+  pub named : n ≡ nameLength m
+  pub valued : v ≡ valueLength m
+
+pub tag-read : (m : List ℕ) (n v : ℕ) → readFrom m ≡ reading.Tag n v → Read m n v
+unfolding readFrom
+tag-read m n v e = go (isMessage m) refl e
+  where
+    go : (t : Bool) → isMessage m ≡ t → cond t (reading.Tag (nameLength m) (valueLength m)) (reading.Refused NotATag) ≡ reading.Tag n v → Read m n v
+    go true q r = record { message = q; named = cc; valued = cc }
+    go false q r = absurd (let z : _≡_ {A = ℕ} 0 1 = cc in omega arith)
+
+pub none-read : (m : List ℕ) (q : TagRefusal) → readFrom m ≡ reading.Refused q → isMessage m ≡ false
+unfolding readFrom
+none-read m r e = go (isMessage m) refl e
+  where
+    go : (t : Bool) → isMessage m ≡ t → cond t (reading.Tag (nameLength m) (valueLength m)) (reading.Refused NotATag) ≡ reading.Refused r → t ≡ false
+    go true q h = absurd (let z : _≡_ {A = ℕ} 0 1 = cc in omega arith)
+    go false q h = refl

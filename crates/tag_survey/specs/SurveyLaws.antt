@@ -3,9 +3,8 @@
 use mathlib.Core.Path.{_≡_, refl, sym, ap, _∙_}
 use mathlib.Core.Bool.{Bool, true, false, cond, not, _&&_, _||_}
 use mathlib.Core.List.{List, [], _∷_, _++_}
-use Prim.Native.Nat.{ℕ, zero, suc, _+_, _-_, _*_, _≤_, _<_}
+use Prim.Native.Nat.{ℕ, _+_, _-_, _*_, _≤_, _<_}
 use native.Mathlib.Numerals.{add-one}
-use native.Mathlib.Decide.{decLe}
 use native.Mathlib.Omega.{arith}
 use borrow.Author.Tests.{eq-eqb, ne-eqb, eqb-true, eqb-false, leb-true}
 use lib.Dec.{eqb, leb}
@@ -17,7 +16,7 @@ use Rattle.tag_entry.specs.Entries.{nameLength, nameOf, valueLength, isZero, is
 use Rattle.tag_entry.specs.EntryLaws.{same-equal, length-name}
 use Rattle.tag_entry.specs.Fingerprints.{fingerprint}
 use Rattle.tag_survey.specs.Tables.{entriesIn, entryAt, some, isFresh, allFresh, isTable, firstWhere, placeOf}
-use Rattle.tag_survey.specs.Surveys.{Marked, Marks, Tested, stepped, seenAfter, surveyOf}
+use Rattle.tag_survey.specs.Surveys.{Marked, Marks, Tested, seenAfter, surveyOf}
 use Rattle.tag_survey.specs.TableLaws.{length-entries, lent-entry, entry-size, every-at, every-fails, some-at, some-more, first-more}
 use Rattle.tag_survey.specs.declared.Seen.{Seen}
 use Rattle.tag_survey.specs.declared.Surveyed.the-variants as surveyed
@@ -255,3 +254,45 @@ ends t name marks seen i p h =
     let all : seen ≡ record { named = firstWhere (isNamed name) (entriesIn t); free = firstWhere isFree (entriesIn t) } =
     λ j. record { named = (p .named ∙ ap (firstWhere (isNamed name)) whole) j; free = (p .free ∙ ap (firstWhere isFree) whole) j } in
     rw (entries, fresh) (ap surveyed.Of all)
+
+-- ---- by what was found
+
+-- a table in its rules, and its places
+pub record Sees (name : List ℕ) (es : List (List ℕ)) (seen : Seen) : Type 0 where
+  pub table : isTable es ≡ true
+  pub named : seen .named ≡ placeOf name es
+  pub free : seen .free ≡ firstWhere isFree es
+
+pub sees : (name : List ℕ) (es : List (List ℕ)) (seen : Seen) → surveyOf name es ≡ surveyed.Of seen → Sees name es seen
+unfolding surveyOf
+sees name es seen e = go (isTable es) refl e
+  where
+    go : (t : Bool) → isTable es ≡ t → cond t (surveyed.Of (record { named = placeOf name es; free = firstWhere isFree es })) surveyed.Broken ≡ surveyed.Of seen → Sees name es seen
+    go true q r =
+        let s : seen ≡ record { named = placeOf name es; free = firstWhere isFree es } = cc in
+        record { table = q; named = ap (λ (x : Seen). x .named) s; free = ap (λ (x : Seen). x .free) s }
+    go false q r = absurd (let z : _≡_ {A = ℕ} 0 1 = cc in omega arith)
+
+pub no-table : (name : List ℕ) (es : List (List ℕ)) → surveyOf name es ≡ surveyed.Broken → isTable es ≡ false
+unfolding surveyOf
+no-table name es e = go (isTable es) refl e
+  where
+    go : (t : Bool) → isTable es ≡ t → cond t (surveyed.Of (record { named = placeOf name es; free = firstWhere isFree es })) surveyed.Broken ≡ surveyed.Broken → t ≡ false
+    go true q r = absurd (let z : _≡_ {A = ℕ} 0 1 = cc in omega arith)
+    go false q r = refl
+
+-- a value is short in an entry that is in its rules
+pub entry-value : (e : List ℕ) → length e ≡ 98 → isEntry e ≡ true → valueLength e ≤ 64
+unfolding isEntry isUsed
+entry-value e l h = go (isFree e) refl h
+  where
+    go : (t : Bool) → isFree e ≡ t → cond t (every isZero e) (isUsed e) ≡ true → valueLength e ≤ 64
+    go true q r = omega (arith, eqb-true (valueLength e) 0 (every-at isZero e 33 0 (omega arith) r))
+    go false q r =
+        let p = and-parts (leb (nameLength e) 32 && leb (valueLength e) 64) _ r in
+        leb-true (valueLength e) 64 (and-parts (leb (nameLength e) 32) (leb (valueLength e) 64) (p .0) .1)
+
+-- an entry of a table in its rules
+pub table-entry : (t : List ℕ) (i : ℕ) → i < 64 → isTable (entriesIn t) ≡ true → isEntry (entryAt (entriesIn t) i) ≡ true
+unfolding isTable
+table-entry t i h e = every-at isEntry (entriesIn t) i [] (below-length t i h) (and-parts (every isEntry (entriesIn t)) (allFresh [] (entriesIn t)) e .0)

@@ -1,20 +1,19 @@
 -- Laws of `Tables`: where an entry lies in a table's bytes, and what a store changes.
 -- Assumes nothing.
 use mathlib.Core.Path.{_≡_, refl, sym, ap, _∙_}
-use mathlib.Core.Bool.{Bool, true, false, cond, not, _&&_, _||_}
+use mathlib.Core.Bool.{Bool, true, false, cond, _||_}
 use mathlib.Core.List.{List, [], _∷_, _++_}
 use Prim.Native.Nat.{ℕ, zero, suc, _+_, _-_, _*_, _≤_, _<_}
 use native.Mathlib.Nat.{add-suc}
 use native.Mathlib.Numerals.{add-one}
 use native.Mathlib.Omega.{arith}
-use borrow.Author.Tests.{eq-eqb, ne-eqb}
 use lib.Dec.{eqb, eqb·zero-suc, eqb·suc-suc}
-use lib.ListN.{length, length-append, length-take, length-drop, take, drop, getD, set}
-use lib.Seq.{sets, sets-eq, take-suc, take-at, drop-at, take-set-le, drop-set-add, drop-drop, length-take-le, length-sets}
+use lib.ListN.{length, length-drop, take, drop, getD, set}
+use lib.Seq.{sets, sets-eq, take-suc, take-at, drop-at, take-set-le, drop-set-add, drop-drop, length-take-le}
 use Rattle.pools.specs.Parts.{part}
 use Rattle.tag_message.specs.Tags.{every}
-use Rattle.tag_message.specs.TagLaws.{and-parts, and-false}
-use Rattle.tag_survey.specs.Tables.{entriesOf, entriesIn, entryAt, some, isFresh, allFresh, isTable, firstWhere}
+use Rattle.tag_message.specs.TagLaws.{and-parts}
+use Rattle.tag_survey.specs.Tables.{entriesOf, entriesIn, entryAt, some, firstWhere}
 use Rattle.tag_survey.specs.Surveys.{stepped}
 
 -- ---- entries in bytes

@@ -1,19 +1,12 @@
 -- `tag_entry::fingerprint` meets its contract: what is left is mixed in.
 -- Assumes nothing.
-use mathlib.Core.Path.{_≡_, refl, sym, ap, _∙_}
-use mathlib.Core.Bool.{_&&_}
-use Prim.Native.Nat.{_+_, _≤_, _<_, _-_}
-use native.Mathlib.Nat.{add-zero, sub-zero}
+use mathlib.Core.Path.{_≡_, refl, sym, _∙_}
+use Prim.Native.Nat.{_≤_, _<_, _-_}
 use native.Mathlib.Omega.{arith}
 use borrow.Author.Needs.{needs}
-use borrow.Author.Tests.{ne-eqb, eq-eqb}
-use lib.ListN.{length, take, drop, getD, replicate, length-set}
-use lib.Seq.{sets, take-all}
-use Rattle.tag_message.specs.Tags.{every}
-use Rattle.tag_message.specs.TagLaws.{every-more}
-use Rattle.tag_entry.specs.Entries.{isZero, sameBytes}
+use lib.ListN.{length, drop}
 use Rattle.tag_entry.specs.Fingerprints.{mixed}
-use Rattle.tag_entry.specs.EntryLaws.{same-step, same-end, mixed-step, mixed-end, zeros-step}
+use Rattle.tag_entry.specs.EntryLaws.{mixed-step, mixed-end}
 use Rattle.tag_entry.proofs.fingerprint.Statement.{statement}
 use Rattle.tag_entry.proofs.fingerprint.Tie as tie
 

@@ -1,10 +1,7 @@
 -- `tag_entry::is_entry` meets its contract: free or used.
 -- Assumes nothing.
-use mathlib.Core.Path.{_≡_, refl, sym, ap, _∙_}
-use Prim.Native.Nat.{_+_, _-_, _≤_}
-use native.Mathlib.Omega.{arith}
+use Prim.Native.Nat.{_-_}
 use borrow.Author.Needs.{needs}
-use lib.ListN.{length}
 use Rattle.tag_entry.specs.EntryLaws.{free-entry, used-entry}
 use Rattle.tag_entry.proofs.is_entry.Statement.{statement}
 use Rattle.tag_entry.proofs.is_entry.Tie as tie

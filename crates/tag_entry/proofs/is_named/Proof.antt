@@ -1,10 +1,7 @@
 -- `tag_entry::is_named` meets its contract: names of other lengths differ.
 -- Assumes nothing.
-use mathlib.Core.Path.{_≡_, refl, sym, ap, _∙_}
-use Prim.Native.Nat.{_+_, _-_, _≤_}
-use native.Mathlib.Omega.{arith}
+use Prim.Native.Nat.{_-_}
 use borrow.Author.Needs.{needs}
-use lib.ListN.{length}
 use Rattle.tag_entry.specs.EntryLaws.{named-by, other-length}
 use Rattle.tag_entry.proofs.is_named.Statement.{statement}
 use Rattle.tag_entry.proofs.is_named.Tie as tie

@@ -1,10 +1,8 @@
 -- `tag_entry::is_used` meets its contract: the tests decide in turn.
 -- Assumes nothing.
-use mathlib.Core.Path.{_≡_, refl, sym, ap, _∙_}
-use Prim.Native.Nat.{_+_, _-_, _≤_}
+use Prim.Native.Nat.{_-_}
 use native.Mathlib.Omega.{arith}
 use borrow.Author.Needs.{needs}
-use lib.ListN.{length}
 use Rattle.tag_entry.specs.EntryLaws.{long-name, long-value, used}
 use Rattle.tag_entry.proofs.is_used.Statement.{statement}
 use Rattle.tag_entry.proofs.is_used.Tie as tie

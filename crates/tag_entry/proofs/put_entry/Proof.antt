@@ -1,10 +1,8 @@
 -- `tag_entry::put_entry` meets its contract: the value stands behind the name.
 -- Assumes nothing.
-use mathlib.Core.Path.{_≡_, refl, sym, ap, _∙_}
-use Prim.Native.Nat.{_+_, _-_, _≤_}
+use Prim.Native.Nat.{_-_}
 use native.Mathlib.Omega.{arith}
 use borrow.Author.Needs.{needs}
-use lib.ListN.{length}
 use Rattle.tag_message.specs.MessageLaws.{tag-lengths}
 use Rattle.tag_entry.specs.EntryLaws.{entry-stored}
 use Rattle.tag_entry.proofs.put_entry.Statement.{statement}

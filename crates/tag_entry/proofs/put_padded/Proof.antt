@@ -1,10 +1,7 @@
 -- `tag_entry::put_padded` meets its contract: the zeros stand behind the bytes.
 -- Assumes nothing.
-use mathlib.Core.Path.{_≡_, refl, sym, ap, _∙_}
-use Prim.Native.Nat.{_+_, _-_, _≤_}
-use native.Mathlib.Omega.{arith}
+use Prim.Native.Nat.{_-_}
 use borrow.Author.Needs.{needs}
-use lib.ListN.{length}
 use Rattle.tag_entry.specs.EntryLaws.{padded-stored}
 use Rattle.tag_entry.proofs.put_padded.Statement.{statement}
 use Rattle.tag_entry.proofs.put_padded.Tie as tie

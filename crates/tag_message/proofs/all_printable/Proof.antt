@@ -1,11 +1,10 @@
 -- `tag_message::all_printable` meets its contract: each byte passed was tested.
 -- Assumes nothing.
 use mathlib.Core.Path.{_≡_, refl, sym, ap, _∙_}
-use mathlib.Core.Bool.{_&&_}
 use Prim.Native.Nat.{_≤_, _-_}
 use native.Mathlib.Omega.{arith}
 use borrow.Author.Needs.{needs}
-use lib.ListN.{length, take, getD}
+use lib.ListN.{length, take}
 use lib.Seq.{take-all}
 use Rattle.tag_message.specs.Tags.{every, isPrintable}
 use Rattle.tag_message.specs.TagLaws.{every-more, and-assoc}

@@ -1,6 +1,5 @@
 -- `tag_message::is_name` meets its contract.
 -- Assumes nothing.
-use mathlib.Core.Path.{_≡_, refl, sym, ap, _∙_}
 use borrow.Author.Needs.{needs}
 use Rattle.tag_message.specs.Tags.{isName}
 use Rattle.tag_message.proofs.is_name.Statement.{statement}

@@ -1,10 +1,10 @@
 -- `tag_message::put_counted` meets its contract.
 -- Assumes nothing.
-use mathlib.Core.Path.{_≡_, refl, sym, ap, _∙_}
+use mathlib.Core.Path.{_∙_}
 use native.Mathlib.Numerals.{add-one}
 use native.Mathlib.Omega.{arith}
 use borrow.Author.Needs.{needs}
-use lib.ListN.{length, take, length-set}
+use lib.ListN.{length-set}
 use lib.Seq.{take-length}
 use Rattle.tag_message.proofs.put_counted.Statement.{statement}
 use Rattle.tag_message.proofs.put_counted.Tie as tie

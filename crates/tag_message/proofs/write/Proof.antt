@@ -1,6 +1,6 @@
 -- `tag_message::write` meets its contract: the two tests decide, and what is stored is the message.
 -- Assumes nothing.
-use mathlib.Core.Path.{_≡_, refl, sym, ap, _∙_}
+use mathlib.Core.Path.{sym, _∙_}
 use native.Mathlib.Omega.{arith}
 use borrow.Author.Needs.{needs}
 use Rattle.tag_message.specs.MessageLaws.{no-room, no-tag, written, message-stored, tag-lengths}

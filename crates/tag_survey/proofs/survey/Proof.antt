@@ -1,18 +1,9 @@
 -- `tag_survey::survey` meets its contract: what is found after i entries.
 -- Assumes nothing.
-use mathlib.Core.Path.{_≡_, refl, sym, ap, _∙_}
-use mathlib.Core.Bool.{Bool, true, false}
-use mathlib.Core.List.{List, []}
-use Prim.Native.Nat.{ℕ, _+_, _-_, _≤_, _<_}
-use native.Mathlib.Omega.{arith}
+use mathlib.Core.Path.{refl}
+use Prim.Native.Nat.{_-_}
 use borrow.Author.Needs.{needs}
-use borrow.Author.Tests.{eq-eqb, ne-eqb, lt-ltb, le-ltb, not-true, not-false}
-use lib.ListN.{length, take, drop, getD}
-use Rattle.tag_message.specs.Tags.{every}
-use Rattle.tag_entry.specs.Entries.{nameLength, isFree, isEntry, isNamed}
-use Rattle.tag_survey.specs.Tables.{entriesIn, entryAt, some}
-use Rattle.tag_survey.specs.Surveys.{stepped}
-use Rattle.tag_survey.specs.TableLaws as table
+use borrow.Author.Tests.{not-true, not-false}
 use Rattle.tag_survey.specs.SurveyLaws as law
 use Rattle.tag_survey.proofs.survey.Statement.{statement}
 use Rattle.tag_survey.proofs.survey.Tie as tie

@@ -1,0 +1,4 @@
+pub mod Changes
+pub mod ChangeLaws
+pub mod Findings
+pub mod FindingLaws

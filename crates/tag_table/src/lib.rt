@@ -1,0 +1,188 @@
+// A table of tags: set, take, remove, find, ask and found. Refusals in the order 7, 24, 17, 18 or 19; a refused call changes
+// nothing.
+use tag_entry::ENTRY;
+use tag_entry::VALUE;
+use tag_entry::VALUE_LENGTH;
+use tag_entry::put_entry;
+use tag_entry::put_zeros;
+use tag_message::Reading;
+use tag_message::TagRefusal;
+use tag_message::is_name;
+use tag_message::is_tag;
+use tag_survey::ENTRIES;
+use tag_survey::SIZE;
+use tag_survey::Surveyed;
+use tag_survey::survey;
+ghost use mathlib.Core.Path.{_≡_};
+ghost use Prim.Native.Nat.{_<_};
+ghost use lib.ListN.{length};
+ghost use Rattle.tag_survey.specs.Tables.{tableSize, entriesIn};
+ghost use Rattle.tag_table.specs.Changes.{SetsTag, TakesTag, RemovesTag};
+ghost use Rattle.tag_table.specs.Findings.{valueAt, firstOf, findIn, foundBy, Shows};
+
+// Whether a table was changed.
+pub enum Changing {
+    Done,
+    Refused(TagRefusal),
+}
+
+// A part of a table, by numbers.
+pub struct Part {
+    pub start: usize,
+    pub len: usize,
+}
+
+// Where the value of a name is: in the station's own table, in the line's defaults, or in neither.
+pub enum Finding {
+    Own(Part),
+    Defaults(Part),
+    Missing,
+    Refused(TagRefusal),
+}
+
+// Whether a name was found.
+pub enum Presence {
+    Found,
+    Missing,
+    Refused(TagRefusal),
+}
+
+// Sets a tag: a known name's value is replaced, a new name takes the lowest free entry. Refuses 7, 24, 17, 18.
+pub fn set(table: &mut [u8], name: &[u8], value: &[u8]) -> Changing
+    ensures { λ r. ⌜ SetsTag (now (name .entry)) (now (value .entry)) (now (table .entry)) r (now (table .exit)) ⌝ }
+{
+    if table.len() != SIZE {
+        return Changing::Refused(TagRefusal::OtherSize);
+    }
+    let Surveyed::Of(seen) = survey(table, name) else {
+        return Changing::Refused(TagRefusal::NotATable);
+    };
+    if is_tag(name, value) {
+        let at = seen.place();
+        if at < ENTRIES {
+            put_entry(table, ENTRY * at, name, value);
+            return Changing::Done;
+        }
+        return Changing::Refused(TagRefusal::Full);
+    }
+    Changing::Refused(TagRefusal::NotATag)
+}
+
+// Reads a tag message and sets its tag. Refuses 7, 24, 17, 18.
+pub fn take(table: &mut [u8], message: &[u8]) -> Changing
+    ensures { λ r. ⌜ TakesTag (now (message .entry)) (now (table .entry)) r (now (table .exit)) ⌝ }
+{
+    match tag_message::read(message) {
+        Reading::Tag { name, value } => {
+            let middle = 1 + name;
+            let start = middle + 1;
+            set(table, &message[1..middle], &message[start..start + value])
+        }
+        // the empty name is no name: 7, 24, then 17
+        Reading::Refused(_) => set(table, &message[0..0], &message[0..0]),
+    }
+}
+
+// Removes a name: its entry is zeroed. Refuses 7, 24, 17, 19.
+pub fn remove(table: &mut [u8], name: &[u8]) -> Changing
+    ensures { λ r. ⌜ RemovesTag (now (name .entry)) (now (table .entry)) r (now (table .exit)) ⌝ }
+{
+    if table.len() != SIZE {
+        return Changing::Refused(TagRefusal::OtherSize);
+    }
+    let Surveyed::Of(seen) = survey(table, name) else {
+        return Changing::Refused(TagRefusal::NotATable);
+    };
+    if is_name(name) {
+        let at = seen.named;
+        if at < ENTRIES {
+            put_zeros(table, ENTRY * at, ENTRY);
+            return Changing::Done;
+        }
+        return Changing::Refused(TagRefusal::Absent);
+    }
+    Changing::Refused(TagRefusal::NotATag)
+}
+
+// The value of entry i.
+fn value_at(table: &[u8], i: usize) -> Part
+    requires { ⌜ (length (now table) ≡ tableSize) × (i < 64) ⌝ }
+    ensures { λ r. ⌜ r ≡ valueAt (entriesIn (now (table .entry))) i ⌝ }
+{
+    let at = ENTRY * i;
+    Part {
+        start: at + VALUE,
+        len: table[at + VALUE_LENGTH] as usize,
+    }
+}
+
+// Where the value of a name is: in the station's own table, else in the line's defaults. Refuses 7, 24, 17.
+pub fn find(own: &[u8], defaults: &[u8], name: &[u8]) -> Finding
+    ensures { λ r. ⌜ r ≡ findIn (now (own .entry)) (now (defaults .entry)) (now (name .entry)) ⌝ }
+{
+    if own.len() != SIZE {
+        return Finding::Refused(TagRefusal::OtherSize);
+    }
+    if defaults.len() != SIZE {
+        return Finding::Refused(TagRefusal::OtherSize);
+    }
+    let Surveyed::Of(here) = survey(own, name) else {
+        return Finding::Refused(TagRefusal::NotATable);
+    };
+    let Surveyed::Of(behind) = survey(defaults, name) else {
+        return Finding::Refused(TagRefusal::NotATable);
+    };
+    if is_name(name) {
+        let i = here.named;
+        let j = behind.named;
+        return first_of(own, defaults, i, j);
+    }
+    Finding::Refused(TagRefusal::NotATag)
+}
+
+// The value of entry i of the own table, else of entry j of the defaults.
+fn first_of(own: &[u8], defaults: &[u8], i: usize, j: usize) -> Finding
+    requires { ⌜ (length (now own) ≡ tableSize) × (length (now defaults) ≡ tableSize) ⌝ }
+    ensures { λ r. ⌜ r ≡ firstOf (entriesIn (now (own .entry))) (entriesIn (now (defaults .entry))) i j ⌝ }
+{
+    if i < ENTRIES {
+        return Finding::Own(value_at(own, i));
+    }
+    if j < ENTRIES {
+        return Finding::Defaults(value_at(defaults, j));
+    }
+    Finding::Missing
+}
+
+// Whether a name is in the station's own table or in the line's defaults. Refuses 7, 24, 17.
+pub fn found(own: &[u8], defaults: &[u8], name: &[u8]) -> Presence
+    ensures { λ r. ⌜ r ≡ foundBy (findIn (now (own .entry)) (now (defaults .entry)) (now (name .entry))) ⌝ }
+{
+    match find(own, defaults, name) {
+        Finding::Own(_) => Presence::Found,
+        Finding::Defaults(_) => Presence::Found,
+        Finding::Missing => Presence::Missing,
+        Finding::Refused(refusal) => Presence::Refused(refusal),
+    }
+}
+
+// The value bytes of a name, without a copy: the very part of the station's own table, else of the line's defaults; an empty
+// part where nothing is found, or asking is refused.
+pub fn ask<'a>(own: &'a [u8], defaults: &'a [u8], name: &[u8]) -> &'a [u8]
+    ensures { λ r. ⌜ Shows (findIn (now (own .entry)) (now (defaults .entry)) (now (name .entry))) (own .entry) (defaults .entry) r ⌝ }
+{
+    match find(own, defaults, name) {
+        Finding::Own(part) => {
+            let start = part.start;
+            let end = start + part.len;
+            &own[start..end]
+        }
+        Finding::Defaults(part) => {
+            let start = part.start;
+            let end = start + part.len;
+            &defaults[start..end]
+        }
+        Finding::Missing => &own[0..0],
+        Finding::Refused(_) => &own[0..0],
+    }
+}
