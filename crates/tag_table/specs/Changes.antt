@@ -42,14 +42,23 @@ withTag name value es = set es (placeFor name es) (entryOf name value)
 unfoldable pub withoutTag : List ℕ → List (List ℕ) → List (List ℕ)
 withoutTag name es = set es (placeOf name es) freeEntry
 
--- ---- what each call promises
+-- ---- what each call answers and promises
+
+abbrev pub setAnswer : List ℕ → List ℕ → List ℕ → Changing
+setAnswer name value t = answerTo t (isTag name value) (placeFor name (entriesIn t)) Full
 
 abbrev pub SetsTag : List ℕ → List ℕ → List ℕ → Changing → List ℕ → Type 0
-SetsTag name value t = Changes (answerTo t (isTag name value) (placeFor name (entriesIn t)) Full) (withTag name value (entriesIn t)) t
+SetsTag name value t = Changes (setAnswer name value t) (withTag name value (entriesIn t)) t
 
 -- the tag of a message is set
+abbrev pub takeAnswer : List ℕ → List ℕ → Changing
+takeAnswer m t = answerTo t (isMessage m) (placeFor (nameIn m) (entriesIn t)) Full
+
 abbrev pub TakesTag : List ℕ → List ℕ → Changing → List ℕ → Type 0
-TakesTag m t = Changes (answerTo t (isMessage m) (placeFor (nameIn m) (entriesIn t)) Full) (withTag (nameIn m) (valueIn m) (entriesIn t)) t
+TakesTag m t = Changes (takeAnswer m t) (withTag (nameIn m) (valueIn m) (entriesIn t)) t
+
+abbrev pub removeAnswer : List ℕ → List ℕ → Changing
+removeAnswer name t = answerTo t (isName name) (placeOf name (entriesIn t)) Absent
 
 abbrev pub RemovesTag : List ℕ → List ℕ → Changing → List ℕ → Type 0
-RemovesTag name t = Changes (answerTo t (isName name) (placeOf name (entriesIn t)) Absent) (withoutTag name (entriesIn t)) t
+RemovesTag name t = Changes (removeAnswer name t) (withoutTag name (entriesIn t)) t

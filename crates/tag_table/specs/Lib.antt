@@ -2,3 +2,4 @@ pub mod Changes
 pub mod ChangeLaws
 pub mod Findings
 pub mod FindingLaws
+pub mod OtherNames
