@@ -12,6 +12,7 @@ use Rattle.tag_message.specs.declared.Reading.{Reading}
 use Rattle.tag_message.specs.declared.Reading.the-variants as reading
 use Rattle.tag_message.specs.declared.Writing.{Writing}
 use Rattle.tag_message.specs.declared.Writing.the-variants as writing
+use Rattle.tag_survey.specs.Tables.{entriesIn}
 use Rattle.tag_table.specs.Changes as change
 use Rattle.tag_table.specs.declared.Changing.{Changing}
 use Rattle.tag_table.specs.declared.Changing.the-variants as changing
@@ -50,6 +51,15 @@ Stores (reading.Refused q) r n₀ v₀ n₁ v₁ = (r ≡ numberCode (numberOf q
 pub record TellsChange (answer : Changing) (es : List (List ℕ)) (before : List ℕ) (r : ℤ) (after : List ℕ) : Type 0 where
   pub number : r ≡ changingCode answer
   pub leaves : change.Leaves es answer before after
+
+abbrev pub TellsSet : List ℕ → List ℕ → List ℕ → ℤ → List ℕ → Type 0
+TellsSet name value t = TellsChange (change.setAnswer name value t) (change.withTag name value (entriesIn t)) t
+
+abbrev pub TellsTake : List ℕ → List ℕ → ℤ → List ℕ → Type 0
+TellsTake m t = TellsChange (change.takeAnswer m t) (change.withTag (message.nameIn m) (message.valueIn m) (entriesIn t)) t
+
+abbrev pub TellsRemove : List ℕ → List ℕ → ℤ → List ℕ → Type 0
+TellsRemove name t = TellsChange (change.removeAnswer name t) (change.withoutTag name (entriesIn t)) t
 
 -- 0 for the own table, 1 for the defaults, and the part; 0, 0 and 0 where nothing is found, or asking is refused
 abbrev pub TellsPlace : Finding → ℤ → ℕ → ℕ → Type 0

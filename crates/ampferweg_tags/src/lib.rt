@@ -9,11 +9,8 @@ ghost use mathlib.Core.Path.{_≡_};
 ghost use Rattle.codes.specs.Codes.{numberCode};
 ghost use Rattle.tag_message.specs.Tags.{numberOf};
 ghost use Rattle.tag_message.specs.Messages.{readFrom};
-ghost use Rattle.tag_survey.specs.Tables.{entriesIn};
-ghost use Rattle.tag_table.specs.Changes.{withTag, withoutTag, setAnswer, takeAnswer, removeAnswer};
 ghost use Rattle.tag_table.specs.Findings.{findIn, foundBy};
-ghost use Rattle.tag_message.specs.Messages.{nameIn, valueIn};
-ghost use Rattle.ampferweg_tags.specs.TagCodes.{changingCode, presenceCode, TellsWriting, Stores, TellsChange, TellsPlace};
+ghost use Rattle.ampferweg_tags.specs.TagCodes.{changingCode, presenceCode, TellsWriting, Stores, TellsSet, TellsTake, TellsRemove, TellsPlace};
 
 fn refusal_code(refusal: TagRefusal) -> i32
     ensures { λ r. ⌜ r ≡ numberCode (numberOf refusal) ⌝ }
@@ -60,7 +57,10 @@ pub extern "C" fn ampferweg_tag_read(
     name_len: &mut usize,
     value_len: &mut usize,
 ) -> i32
-    ensures { λ r. ⌜ Stores (readFrom (now (message .entry))) r (now («name_len» .entry)) (now («value_len» .entry)) (now («name_len» .exit)) (now («value_len» .exit)) ⌝ }
+    ensures { λ r. ⌜
+        Stores (readFrom (now (message .entry))) r
+        (now («name_len» .entry)) (now («value_len» .entry)) (now («name_len» .exit)) (now («value_len» .exit))
+        ⌝ }
 {
     match tag_message::read(message) {
         Reading::Tag { name, value } => {
@@ -75,7 +75,7 @@ pub extern "C" fn ampferweg_tag_read(
 // Sets a tag: 0, or the refusal.
 #[no_mangle]
 pub extern "C" fn ampferweg_tag_set(table: &mut [u8], name: &[u8], value: &[u8]) -> i32
-    ensures { λ r. ⌜ TellsChange (setAnswer (now (name .entry)) (now (value .entry)) (now (table .entry))) (withTag (now (name .entry)) (now (value .entry)) (entriesIn (now (table .entry)))) (now (table .entry)) r (now (table .exit)) ⌝ }
+    ensures { λ r. ⌜ TellsSet (now (name .entry)) (now (value .entry)) (now (table .entry)) r (now (table .exit)) ⌝ }
 {
     let changing = tag_table::set(table, name, value);
     changing_code(changing)
@@ -84,7 +84,7 @@ pub extern "C" fn ampferweg_tag_set(table: &mut [u8], name: &[u8], value: &[u8])
 // Reads a message and sets its tag: 0, or the refusal.
 #[no_mangle]
 pub extern "C" fn ampferweg_tag_take(table: &mut [u8], message: &[u8]) -> i32
-    ensures { λ r. ⌜ TellsChange (takeAnswer (now (message .entry)) (now (table .entry))) (withTag (nameIn (now (message .entry))) (valueIn (now (message .entry))) (entriesIn (now (table .entry)))) (now (table .entry)) r (now (table .exit)) ⌝ }
+    ensures { λ r. ⌜ TellsTake (now (message .entry)) (now (table .entry)) r (now (table .exit)) ⌝ }
 {
     let changing = tag_table::take(table, message);
     changing_code(changing)
@@ -93,7 +93,7 @@ pub extern "C" fn ampferweg_tag_take(table: &mut [u8], message: &[u8]) -> i32
 // Removes a name: 0, or the refusal.
 #[no_mangle]
 pub extern "C" fn ampferweg_tag_remove(table: &mut [u8], name: &[u8]) -> i32
-    ensures { λ r. ⌜ TellsChange (removeAnswer (now (name .entry)) (now (table .entry))) (withoutTag (now (name .entry)) (entriesIn (now (table .entry)))) (now (table .entry)) r (now (table .exit)) ⌝ }
+    ensures { λ r. ⌜ TellsRemove (now (name .entry)) (now (table .entry)) r (now (table .exit)) ⌝ }
 {
     let changing = tag_table::remove(table, name);
     changing_code(changing)
