@@ -1,6 +1,6 @@
 -- Laws of `Findings`: the tests in turn, and that a value lies in its table.
 -- Assumes nothing.
-use mathlib.Core.Path.{_≡_, refl, sym, ap, _∙_}
+use mathlib.Core.Path.{_≡_, refl, sym, ap, subst, _∙_}
 use mathlib.Core.Bool.{Bool, true, false, cond, _&&_}
 use mathlib.Core.List.{List}
 use Prim.Native.Nat.{ℕ, _+_, _-_, _*_, _≤_, _<_}
@@ -122,6 +122,14 @@ lies own defaults name =
     go true p true q false r e s n x u y v = tt
     go true p false q d r e s n x u y v = tt
     go false p b q d r e s n x u y v = tt
+
+-- of what was found
+module _ (own defaults name : List ℕ) (f : Finding) (e : f ≡ findIn own defaults name) (p : Part) where
+  pub in-own-table : f ≡ finding.Own p → Inside own p
+  in-own-table h = subst (λ (x : Finding). Lies x own defaults) (sym e ∙ h) (lies own defaults name)
+
+  pub in-defaults-table : f ≡ finding.Defaults p → Inside defaults p
+  in-defaults-table h = subst (λ (x : Finding). Lies x own defaults) (sym e ∙ h) (lies own defaults name)
 
 -- ---- what is shown
 

@@ -60,3 +60,16 @@ Shows (finding.Own p) own defaults r = PartOf own p r
 Shows (finding.Defaults p) own defaults r = PartOf defaults p r
 Shows finding.Missing own defaults r = now r ≡ []
 Shows (finding.Refused q) own defaults r = now r ≡ []
+
+-- one table's share of that: the value where it is in this table, else an empty part
+abbrev pub ShowsOwn : Finding → RefT (List ℕ) → RefT (List ℕ) → Type 0
+ShowsOwn (finding.Own p) own r = PartOf own p r
+ShowsOwn (finding.Defaults p) own r = now r ≡ []
+ShowsOwn finding.Missing own r = now r ≡ []
+ShowsOwn (finding.Refused q) own r = now r ≡ []
+
+abbrev pub ShowsDefaults : Finding → RefT (List ℕ) → RefT (List ℕ) → Type 0
+ShowsDefaults (finding.Own p) defaults r = now r ≡ []
+ShowsDefaults (finding.Defaults p) defaults r = PartOf defaults p r
+ShowsDefaults finding.Missing defaults r = now r ≡ []
+ShowsDefaults (finding.Refused q) defaults r = now r ≡ []

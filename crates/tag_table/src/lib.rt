@@ -18,7 +18,7 @@ ghost use Prim.Native.Nat.{_<_};
 ghost use lib.ListN.{length};
 ghost use Rattle.tag_survey.specs.Tables.{tableSize, entriesIn};
 ghost use Rattle.tag_table.specs.Changes.{SetsTag, TakesTag, RemovesTag};
-ghost use Rattle.tag_table.specs.Findings.{valueAt, firstOf, findIn, foundBy, Shows};
+ghost use Rattle.tag_table.specs.Findings.{valueAt, firstOf, findIn, foundBy, Shows, ShowsOwn, ShowsDefaults};
 
 // Whether a table was changed.
 pub enum Changing {
@@ -184,5 +184,37 @@ pub fn ask<'a>(own: &'a [u8], defaults: &'a [u8], name: &[u8]) -> &'a [u8]
         }
         Finding::Missing => &own[0..0],
         Finding::Refused(_) => &own[0..0],
+    }
+}
+
+// The same for each choice, with a lifetime of its own: the value where the own table has it, else an empty part of that table.
+pub fn ask_own<'a>(own: &'a [u8], defaults: &[u8], name: &[u8]) -> &'a [u8]
+    ensures { λ r. ⌜ ShowsOwn (findIn (now (own .entry)) (now (defaults .entry)) (now (name .entry))) (own .entry) r ⌝ }
+{
+    match find(own, defaults, name) {
+        Finding::Own(part) => {
+            let start = part.start;
+            let end = start + part.len;
+            &own[start..end]
+        }
+        Finding::Defaults(_) => &own[0..0],
+        Finding::Missing => &own[0..0],
+        Finding::Refused(_) => &own[0..0],
+    }
+}
+
+// The value where the own table has none and the defaults have it, else an empty part of the defaults.
+pub fn ask_defaults<'a>(own: &[u8], defaults: &'a [u8], name: &[u8]) -> &'a [u8]
+    ensures { λ r. ⌜ ShowsDefaults (findIn (now (own .entry)) (now (defaults .entry)) (now (name .entry))) (defaults .entry) r ⌝ }
+{
+    match find(own, defaults, name) {
+        Finding::Defaults(part) => {
+            let start = part.start;
+            let end = start + part.len;
+            &defaults[start..end]
+        }
+        Finding::Own(_) => &defaults[0..0],
+        Finding::Missing => &defaults[0..0],
+        Finding::Refused(_) => &defaults[0..0],
     }
 }

@@ -1,26 +1,19 @@
 -- `tag_table::ask` meets its contract: what is shown is the part that was found.
 -- Assumes nothing.
-use mathlib.Core.Path.{refl, sym, subst, _∙_}
+use mathlib.Core.Path.{refl, sym, _∙_}
 use Prim.Native.Nat.{_-_}
 use native.Mathlib.Omega.{arith}
 use borrow.Author.Needs.{needs}
 use Rattle.tag_table.specs.FindingLaws as finding
-use Rattle.tag_table.specs.declared.Finding.{Finding}
 use Rattle.tag_table.proofs.ask.Statement.{statement}
 use Rattle.tag_table.proofs.ask.Tie as tie
 
 -- the part lies in its table
 in-own : (c : tie.After-known-told) → finding.Inside (c .before .before .before .before .before .before .before .args .own .now) (c .before .part .given .0 .0)
-in-own c =
-    let a = c .before .before .before .before .before .before .before .args in
-    subst (λ (f : Finding). finding.Lies f (a .own .now) (a .defaults .now)) (sym (c .before .before .before .find .ensures) ∙ c .before .part .given .1)
-    (finding.lies (a .own .now) (a .defaults .now) (a .name .now))
+in-own c = finding.in-own-table _ _ _ _ (c .before .before .before .find .ensures) _ (c .before .part .given .1)
 
 in-defaults : (c : tie.After-known-told2) → finding.Inside (c .before .before .before .before .before .before .before .args .defaults .now) (c .before .part2 .given .0 .0)
-in-defaults c =
-    let a = c .before .before .before .before .before .before .before .args in
-    subst (λ (f : Finding). finding.Lies f (a .own .now) (a .defaults .now)) (sym (c .before .before .before .find .ensures) ∙ c .before .part2 .given .1)
-    (finding.lies (a .own .now) (a .defaults .now) (a .name .now))
+in-defaults c = finding.in-defaults-table _ _ _ _ (c .before .before .before .find .ensures) _ (c .before .part2 .given .1)
 
 returns : tie.Need-returns
 returns c =
