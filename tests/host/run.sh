@@ -121,6 +121,7 @@ for suffix in O2 sanitized; do
     try "extras, $suffix" plays play $suffix extras
 done
 cp "$work/play-O2" "$work/play"
+try "examples/tags" "$root/examples/tags/run.sh" "$(dirname "$archive")"
 if command -v pkg-config >/dev/null; then
     try "make install" installs
 else
