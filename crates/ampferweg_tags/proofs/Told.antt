@@ -22,8 +22,8 @@ use Rattle.tag_message.specs.declared.Writing.the-variants as writing
 use Rattle.tag_table.specs.Changes as change
 use Rattle.tag_table.specs.declared.Changing.{Changing}
 use Rattle.tag_table.specs.declared.Changing.the-variants as changing
-use Rattle.tag_table.specs.declared.Presence.{Presence}
-use Rattle.tag_table.specs.declared.Presence.the-variants as presence
+use Rattle.tag_find.specs.declared.Presence.{Presence}
+use Rattle.tag_find.specs.declared.Presence.the-variants as presence
 use Rattle.ampferweg_tags.specs.TagCodes.{writingCode, changingCode, presenceCode, TellsWriting, TellsChange}
 
 number-small : (r : TagRefusal) → numberOf r < 2 ^ 8

@@ -16,10 +16,10 @@ use Rattle.tag_survey.specs.Tables.{entriesIn}
 use Rattle.tag_table.specs.Changes as change
 use Rattle.tag_table.specs.declared.Changing.{Changing}
 use Rattle.tag_table.specs.declared.Changing.the-variants as changing
-use Rattle.tag_table.specs.declared.Finding.{Finding}
-use Rattle.tag_table.specs.declared.Finding.the-variants as finding
-use Rattle.tag_table.specs.declared.Presence.{Presence}
-use Rattle.tag_table.specs.declared.Presence.the-variants as presence
+use Rattle.tag_find.specs.declared.Finding.{Finding}
+use Rattle.tag_find.specs.declared.Finding.the-variants as finding
+use Rattle.tag_find.specs.declared.Presence.{Presence}
+use Rattle.tag_find.specs.declared.Presence.the-variants as presence
 
 -- the length of what was written
 abbrev pub writingCode : Writing → ℤ

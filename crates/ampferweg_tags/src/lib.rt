@@ -1,15 +1,15 @@
 // Tags for C: tag messages and tables of tags. A number below zero is a refusal's.
+use tag_find::Finding;
+use tag_find::Presence;
 use tag_message::Reading;
 use tag_message::TagRefusal;
 use tag_message::Writing;
 use tag_table::Changing;
-use tag_table::Finding;
-use tag_table::Presence;
 ghost use mathlib.Core.Path.{_≡_};
 ghost use Rattle.codes.specs.Codes.{numberCode};
 ghost use Rattle.tag_message.specs.Tags.{numberOf};
 ghost use Rattle.tag_message.specs.Messages.{readFrom};
-ghost use Rattle.tag_table.specs.Findings.{findIn, foundBy};
+ghost use Rattle.tag_find.specs.Findings.{findIn, foundBy};
 ghost use Rattle.ampferweg_tags.specs.TagCodes.{changingCode, presenceCode, TellsWriting, Stores, TellsSet, TellsTake, TellsRemove, TellsPlace};
 
 fn refusal_code(refusal: TagRefusal) -> i32
@@ -111,7 +111,7 @@ pub extern "C" fn ampferweg_tag_ask(
 ) -> i32
     ensures { λ r. ⌜ TellsPlace (findIn (now (own .entry)) (now (defaults .entry)) (now (name .entry))) r (now (start .exit)) (now (len .exit)) ⌝ }
 {
-    match tag_table::find(own, defaults, name) {
+    match tag_find::find(own, defaults, name) {
         Finding::Own(part) => {
             *start = part.start;
             *len = part.len;
@@ -140,6 +140,6 @@ pub extern "C" fn ampferweg_tag_ask(
 pub extern "C" fn ampferweg_tag_found(own: &[u8], defaults: &[u8], name: &[u8]) -> i32
     ensures { λ r. ⌜ r ≡ presenceCode (foundBy (findIn (now (own .entry)) (now (defaults .entry)) (now (name .entry)))) ⌝ }
 {
-    let presence = tag_table::found(own, defaults, name);
+    let presence = tag_find::found(own, defaults, name);
     presence_code(presence)
 }

@@ -1,5 +1,3 @@
 pub mod Changes
 pub mod ChangeLaws
-pub mod Findings
-pub mod FindingLaws
 pub mod OtherNames

@@ -1,11 +1,11 @@
--- `tag_table::value_at` meets its contract.
+-- `tag_find::value_at` meets its contract.
 -- Assumes nothing.
 use Prim.Native.Nat.{_+_, _-_, _*_}
 use native.Mathlib.Omega.{arith}
 use borrow.Author.Needs.{needs}
-use Rattle.tag_table.specs.FindingLaws as finding
-use Rattle.tag_table.proofs.value_at.Statement.{statement}
-use Rattle.tag_table.proofs.value_at.Tie as tie
+use Rattle.tag_find.specs.FindingLaws as finding
+use Rattle.tag_find.proofs.value_at.Statement.{statement}
+use Rattle.tag_find.proofs.value_at.Tie as tie
 
 cast-t8 : tie.Need-cast-t8
 cast-t8 c = omega (arith, c .shared-slice-known .given (98 * c .before .args .i + 33))

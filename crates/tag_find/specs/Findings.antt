@@ -12,11 +12,11 @@ use Rattle.tag_message.specs.Tags.{isName}
 use Rattle.tag_message.specs.declared.TagRefusal.the-variants.{OtherSize, NotATag, NotATable}
 use Rattle.tag_entry.specs.Entries.{entrySize, valueLength}
 use Rattle.tag_survey.specs.Tables.{entryCount, tableSize, entriesIn, entryAt, isTable, placeOf}
-use Rattle.tag_table.specs.declared.Part.{Part}
-use Rattle.tag_table.specs.declared.Finding.{Finding}
-use Rattle.tag_table.specs.declared.Finding.the-variants as finding
-use Rattle.tag_table.specs.declared.Presence.{Presence}
-use Rattle.tag_table.specs.declared.Presence.the-variants as presence
+use Rattle.tag_find.specs.declared.Part.{Part}
+use Rattle.tag_find.specs.declared.Finding.{Finding}
+use Rattle.tag_find.specs.declared.Finding.the-variants as finding
+use Rattle.tag_find.specs.declared.Presence.{Presence}
+use Rattle.tag_find.specs.declared.Presence.the-variants as presence
 
 -- the value bytes of entry i, as a part of its table
 abbrev pub valueAt : List (List ℕ) → ℕ → Part

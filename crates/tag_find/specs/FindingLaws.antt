@@ -17,10 +17,10 @@ use Rattle.tag_entry.specs.Entries.{valueLength}
 use Rattle.tag_survey.specs.Tables.{entriesIn, entryAt, isTable, placeOf}
 use Rattle.tag_survey.specs.TableLaws.{entry-at, entry-size}
 use Rattle.tag_survey.specs.SurveyLaws.{entry-value, table-entry}
-use Rattle.tag_table.specs.Findings.{valueAt, firstOf, findIn, PartOf}
-use Rattle.tag_table.specs.declared.Part.{Part}
-use Rattle.tag_table.specs.declared.Finding.{Finding}
-use Rattle.tag_table.specs.declared.Finding.the-variants as finding
+use Rattle.tag_find.specs.Findings.{valueAt, firstOf, findIn, PartOf}
+use Rattle.tag_find.specs.declared.Part.{Part}
+use Rattle.tag_find.specs.declared.Finding.{Finding}
+use Rattle.tag_find.specs.declared.Finding.the-variants as finding
 
 -- the bytes of an entry's value
 pub value-at : (t : List ℕ) (i : ℕ) → i < 64 → _≡_ {A = Part} (record { start = 98 * i + 34; len = getD t (98 * i + 33) 0 }) (valueAt (entriesIn t) i)

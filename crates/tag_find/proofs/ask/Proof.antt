@@ -1,12 +1,12 @@
--- `tag_table::ask` meets its contract: what is shown is the part that was found.
+-- `tag_find::ask` meets its contract: what is shown is the part that was found.
 -- Assumes nothing.
 use mathlib.Core.Path.{refl, sym, _∙_}
 use Prim.Native.Nat.{_-_}
 use native.Mathlib.Omega.{arith}
 use borrow.Author.Needs.{needs}
-use Rattle.tag_table.specs.FindingLaws as finding
-use Rattle.tag_table.proofs.ask.Statement.{statement}
-use Rattle.tag_table.proofs.ask.Tie as tie
+use Rattle.tag_find.specs.FindingLaws as finding
+use Rattle.tag_find.proofs.ask.Statement.{statement}
+use Rattle.tag_find.proofs.ask.Tie as tie
 
 -- the part lies in its table
 in-own : (c : tie.After-known-told) → finding.Inside (c .before .before .before .before .before .before .before .args .own .now) (c .before .part .given .0 .0)

@@ -1,13 +1,13 @@
--- `tag_table::find` meets its contract: the tests decide in turn.
+-- `tag_find::find` meets its contract: the tests decide in turn.
 -- Assumes nothing.
 use mathlib.Core.Path.{sym, _∙_}
 use Prim.Native.Nat.{_-_}
 use borrow.Author.Needs.{needs}
 use Rattle.tag_survey.specs.Tables.{entriesIn}
 use Rattle.tag_survey.specs.SurveyLaws as survey
-use Rattle.tag_table.specs.FindingLaws as finding
-use Rattle.tag_table.proofs.find.Statement.{statement}
-use Rattle.tag_table.proofs.find.Tie as tie
+use Rattle.tag_find.specs.FindingLaws as finding
+use Rattle.tag_find.proofs.find.Statement.{statement}
+use Rattle.tag_find.proofs.find.Tie as tie
 
 -- what the pass over each table has found
 here : (c : tie.After-known-told) →

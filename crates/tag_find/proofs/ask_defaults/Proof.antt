@@ -1,16 +1,16 @@
--- `tag_table::ask_own` meets its contract: what is shown is the part that was found.
+-- `tag_find::ask_defaults` meets its contract: what is shown is the part that was found.
 -- Assumes nothing.
 use mathlib.Core.Path.{refl, sym, _∙_}
 use Prim.Native.Nat.{_-_}
 use native.Mathlib.Omega.{arith}
 use borrow.Author.Needs.{needs}
-use Rattle.tag_table.specs.FindingLaws as finding
-use Rattle.tag_table.proofs.ask_own.Statement.{statement}
-use Rattle.tag_table.proofs.ask_own.Tie as tie
+use Rattle.tag_find.specs.FindingLaws as finding
+use Rattle.tag_find.proofs.ask_defaults.Statement.{statement}
+use Rattle.tag_find.proofs.ask_defaults.Tie as tie
 
 -- the part lies in its table
-inside : (c : tie.After-known-told) → finding.Inside (c .before .before .before .before .before .before .before .args .own .now) (c .before .part .given .0 .0)
-inside c = finding.in-own-table _ _ _ _ (c .before .before .before .find .ensures) _ (c .before .part .given .1)
+inside : (c : tie.After-known-told) → finding.Inside (c .before .before .before .before .before .before .before .args .defaults .now) (c .before .part .given .0 .0)
+inside c = finding.in-defaults-table _ _ _ _ (c .before .before .before .find .ensures) _ (c .before .part .given .1)
 
 returns : tie.Need-returns
 returns c =
@@ -26,8 +26,8 @@ returns-3 c = rw (sym (c .before .before .before .find .ensures) ∙ c .before .
 returns-4 : tie.Need-returns-4
 returns-4 c = rw (sym (c .before .before .before .find .ensures) ∙ c .before .enum-told3 .given .1)
 
-pub ask-own-spec : {M : Type 1} → statement M
-ask-own-spec =
+pub ask-defaults-spec : {M : Type 1} → statement M
+ask-defaults-spec =
     tie.close
     (tie.spec
     (λ c κs. search needs)

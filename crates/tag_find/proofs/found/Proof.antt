@@ -1,9 +1,9 @@
--- `tag_table::found` meets its contract.
+-- `tag_find::found` meets its contract.
 -- Assumes nothing.
 use Prim.Native.Nat.{_-_}
 use borrow.Author.Needs.{needs}
-use Rattle.tag_table.proofs.found.Statement.{statement}
-use Rattle.tag_table.proofs.found.Tie as tie
+use Rattle.tag_find.proofs.found.Statement.{statement}
+use Rattle.tag_find.proofs.found.Tie as tie
 
 returns : tie.Need-returns
 returns c = rw (← c .before .before .find .ensures, c .enum-told .given .1)

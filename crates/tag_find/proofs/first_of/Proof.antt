@@ -1,12 +1,12 @@
--- `tag_table::first_of` meets its contract.
+-- `tag_find::first_of` meets its contract.
 -- Assumes nothing.
 use mathlib.Core.Path.{ap, _∙_}
 use Prim.Native.Nat.{_-_}
 use borrow.Author.Needs.{needs}
-use Rattle.tag_table.specs.FindingLaws as finding
-use Rattle.tag_table.specs.declared.Finding.the-variants.{Own, Defaults}
-use Rattle.tag_table.proofs.first_of.Statement.{statement}
-use Rattle.tag_table.proofs.first_of.Tie as tie
+use Rattle.tag_find.specs.FindingLaws as finding
+use Rattle.tag_find.specs.declared.Finding.the-variants.{Own, Defaults}
+use Rattle.tag_find.proofs.first_of.Statement.{statement}
+use Rattle.tag_find.proofs.first_of.Tie as tie
 
 returns : tie.Need-returns
 returns c = ap Own (c .value-at .ensures) ∙ finding.in-own _ _ _ _ (c .before .if1 .taken)
