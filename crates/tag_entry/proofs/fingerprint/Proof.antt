@@ -38,4 +38,17 @@ returns c =
     (sym (mixed-end s (l .f) (l .i) (omega arith)) ∙ l .inv .2, l .inv .1)
 
 pub fingerprint-spec : {M : Type 1} → statement M
-fingerprint-spec = tie.close (tie.spec Inv-loop μ-loop loop-holds (λ c. search needs) (λ c. search needs) cast-f add-f (λ c. search needs) (λ c. search needs) loop-again returns)
+fingerprint-spec =
+    tie.close
+    (tie.spec
+    Inv-loop
+    μ-loop
+    loop-holds
+    (λ c. search needs)
+    (λ c. search needs)
+    cast-f
+    add-f
+    (λ c. search needs)
+    (λ c. search needs)
+    loop-again
+    returns)

@@ -13,4 +13,15 @@ returns-2 : tie.Need-returns-2
 returns-2 c = other-length (c .before .before .before .before .args .e .now) _ (c .before .before .before .before .pre .0) (c .before .before .before .before .pre .1) (c .if1 .left)
 
 pub is-named-spec : {M : Type 1} → statement M
-is-named-spec = tie.close (tie.spec (λ c. search needs) (λ c. search needs) (λ c. search needs) (λ c. search needs) (λ c. search needs) (λ c. search needs) (λ c κs. search needs) returns returns-2)
+is-named-spec =
+    tie.close
+    (tie.spec
+    (λ c. search needs)
+    (λ c. search needs)
+    (λ c. search needs)
+    (λ c. search needs)
+    (λ c. search needs)
+    (λ c. search needs)
+    (λ c κs. search needs)
+    returns
+    returns-2)

@@ -26,4 +26,27 @@ returns-3 c =
     used _ (n .before .before .before .if1 .left) (n .before .before .if2 .left) (n .is-name .ensures) (z .all-zero .ensures) (c .all-zero2 .ensures)
 
 pub is-used-spec : {M : Type 1} → statement M
-is-used-spec = tie.close (tie.spec (λ c. search needs) cast-name (λ c. search needs) cast-value returns returns-2 (λ c. search needs) (λ c. search needs) (λ c. search needs) (λ c. search needs) (λ c. search needs) (λ c κs. search needs) (λ c. search needs) (λ c. search needs) (λ c. search needs) (λ c κs. search needs) (λ c. search needs) (λ c. search needs) (λ c. search needs) (λ c κs. search needs) returns-3)
+is-used-spec =
+    tie.close
+    (tie.spec
+    (λ c. search needs)
+    cast-name
+    (λ c. search needs)
+    cast-value
+    returns
+    returns-2
+    (λ c. search needs)
+    (λ c. search needs)
+    (λ c. search needs)
+    (λ c. search needs)
+    (λ c. search needs)
+    (λ c κs. search needs)
+    (λ c. search needs)
+    (λ c. search needs)
+    (λ c. search needs)
+    (λ c κs. search needs)
+    (λ c. search needs)
+    (λ c. search needs)
+    (λ c. search needs)
+    (λ c κs. search needs)
+    returns-3)

@@ -13,4 +13,13 @@ returns c =
     padded-stored (a .most) (a .at) (a .bytes .now) (a .out .now) (counted .put-counted .ensures) (c .before .before .put-zeros .ensures)
 
 pub put-padded-spec : {M : Type 1} → statement M
-put-padded-spec = tie.close (tie.spec (λ c κs. search needs) (λ c. search needs) (λ c. search needs) (λ c. search needs) (λ c κs. search needs) (λ c. search needs) returns)
+put-padded-spec =
+    tie.close
+    (tie.spec
+    (λ c κs. search needs)
+    (λ c. search needs)
+    (λ c. search needs)
+    (λ c. search needs)
+    (λ c κs. search needs)
+    (λ c. search needs)
+    returns)

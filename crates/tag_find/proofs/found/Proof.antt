@@ -18,4 +18,15 @@ returns-4 : tie.Need-returns-4
 returns-4 c = rw (← c .before .before .before .find .ensures, c .before .refusal .given .1)
 
 pub found-spec : {M : Type 1} → statement M
-found-spec = tie.close (tie.spec (λ c κs. search needs) (λ c. search needs) (λ c. search needs) (λ c. search needs) (λ c. search needs) returns returns-2 returns-3 returns-4)
+found-spec =
+    tie.close
+    (tie.spec
+    (λ c κs. search needs)
+    (λ c. search needs)
+    (λ c. search needs)
+    (λ c. search needs)
+    (λ c. search needs)
+    returns
+    returns-2
+    returns-3
+    returns-4)
