@@ -1,12 +1,15 @@
 #!/bin/sh
 # run.sh [ARCHIVE]: checks the C interface against the archive (target/staticlib/libampferweg.a where none is named).
-# Compiles the header as C and C++, builds every check program at -O2 and with the sanitizers, runs them, plays the scripts
-# of tests/vectors, and installs into a folder of its own. The last line is 'host: N passed, M failed'.
+# Compiles the headers as C and C++, builds every check program at -O2 and with the sanitizers, runs them, plays the scripts
+# of tests/vectors and tests/extras, and installs into a folder of its own. The tags' archive is libampferweg_tags.a beside
+# ARCHIVE; where it is missing, rt makes it. The last line is 'host: N passed, M failed'.
 set -u
 root=$(cd "$(dirname "$0")/../.." && pwd)
 archive=${1:-$root/target/staticlib/libampferweg.a}
 [ -f "$archive" ] || { echo "run.sh: $archive is missing: run 'make' first" >&2; exit 2; }
 archive=$(cd "$(dirname "$archive")" && pwd)/$(basename "$archive")
+tags=$(dirname "$archive")/libampferweg_tags.a
+[ -f "$tags" ] || (cd "$root" && rt staticlib ampferweg_tags) >/dev/null || { echo "run.sh: $tags is missing" >&2; exit 2; }
 work=$root/target/host
 mkdir -p "$work"
 cd "$root/tests/host" || exit 2
@@ -45,11 +48,25 @@ header_checks() {
     sed -n '/^ \*     #include <ampferweg.h>/,/^ \*     }$/s/^ \* \{0,5\}//p' "$root/include/ampferweg.h" >>"$work/example.c"
     for standard in c99 c11; do try "header as $standard" compiles "$cc" -std=$standard "$work/header.c"; done
     try "the header's example" compiles "$cc" -std=c99 "$work/example.c"
+    tags_header_checks
     if command -v "$cxx" >/dev/null; then
         for standard in c++98 c++17; do try "header as $standard" compiles "$cxx" -std=$standard "$work/header.cc"; done
     else
         echo "header as C++                not checked: there is no $cxx here"
     fi
+}
+
+# The tags' header, and the example at its top.
+tags_header_checks() {
+    printf '%s\n' '#include <ampferweg_tags.h>' 'const char *it(void);' 'const char *it(void) { return ampferweg_tag_text(-17); }' >"$work/tags.c"
+    cp "$work/tags.c" "$work/tags.cc"
+    printf '%s\n' '#include <stdio.h>' '#include <string.h>' '#include <ampferweg_tags.h>' \
+        'ampferweg_result tell(ampferweg_station *, const char *, const uint8_t *, size_t);' \
+        'void take_all(ampferweg_station *);' 'void show(const char *);' >"$work/tags_example.c"
+    sed -n '/^ \*     #include <ampferweg_tags.h>/,/^ \* C99 or C++/s/^ \*     //p' "$root/include/ampferweg_tags.h" >>"$work/tags_example.c"
+    try "tags' header as c99" compiles "$cc" -std=c99 "$work/tags.c"
+    try "its example" compiles "$cc" -std=c99 "$work/tags_example.c"
+    command -v "$cxx" >/dev/null && try "tags' header as c++98" compiles "$cxx" -std=c++98 "$work/tags.cc"
 }
 
 build() { # SUFFIX NAME FLAGS..
@@ -67,20 +84,22 @@ program_checks() { # SUFFIX FLAGS..
         build "$suffix" $name "$@" || { failed=$((failed + 1)); echo "$name, $suffix: FAILED to build"; continue; }
         [ "$name" = replay ] || try "$name, $suffix" "$work/$name-$suffix"
     done
+    # shellcheck disable=SC2086
+    "$cc" -std=c99 "$@" $flags play.c "$tags" "$archive" -o "$work/play-$suffix" || { failed=$((failed + 1)); echo "play, $suffix: FAILED to build"; }
 }
 
-# Plays every script, and holds what is answered to the answers beside it.
-replays() { # SUFFIX
+# Plays every script of a folder, and holds what is answered to the answers beside it.
+plays() { # PROGRAM SUFFIX FOLDER
     lines=0
     count=0
-    for script in "$root"/tests/vectors/*.script; do
-        "$work/replay-$1" <"$script" >"$work/answers" || return 1
+    for script in "$root/tests/$3"/*.script; do
+        "$work/$1-$2" <"$script" >"$work/answers" || return 1
         cmp "$work/answers" "${script%.script}.answers" || return 1
         count=$((count + 1))
         lines=$((lines + $(wc -l <"$script")))
     done
-    [ $count -gt 0 ] || { echo "there is no script in tests/vectors"; return 1; }
-    echo "replay: $count scripts of $lines calls, answered as they must be"
+    [ $count -gt 0 ] || { echo "there is no script in tests/$3"; return 1; }
+    echo "$1: $count scripts of $lines calls, answered as they must be"
 }
 
 # Installs, and builds a program with what is installed.
@@ -97,7 +116,12 @@ installs() {
 header_checks
 program_checks O2 -O2
 program_checks sanitized -O1 -g -fsanitize=address,undefined -fno-sanitize-recover=all
-for suffix in O2 sanitized; do try "vectors, $suffix" replays $suffix; done
+for suffix in O2 sanitized; do
+    try "vectors, $suffix" plays replay $suffix vectors
+    try "extras, $suffix" plays play $suffix extras
+done
+cp "$work/play-O2" "$work/play"
+try "examples/tags" "$root/examples/tags/run.sh" "$(dirname "$archive")"
 if command -v pkg-config >/dev/null; then
     try "make install" installs
 else

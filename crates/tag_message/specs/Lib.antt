@@ -1,0 +1,4 @@
+pub mod Tags
+pub mod TagLaws
+pub mod Messages
+pub mod MessageLaws
