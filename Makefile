@@ -1,7 +1,7 @@
 # The C side: the archive, its installation, and the programs that try it. `.ci/run` is the gate of the proofs.
 #
-#   make                    prove the link and write target/staticlib/libampferweg.a (needs the Rattle kit's rt)
-#   make install            header, archive and pkg-config file below PREFIX (default /usr/local; DESTDIR is put before it)
+#   make                    prove link and tags and write their archives below target/staticlib (needs the Rattle kit's rt)
+#   make install            headers, archives and pkg-config file below PREFIX (default /usr/local; DESTDIR is put before it)
 #   make test               the C checks (tests/host)
 #   make demo               two stations on loopback over a bad network (examples/udp)
 #   make bench              the workloads beside kcp-go's core, and docs/PERFORMANCE.md (bench)
@@ -13,24 +13,30 @@ PREFIX = /usr/local
 DESTDIR =
 RT = rt
 ARCHIVE = target/staticlib/libampferweg.a
+TAGS = target/staticlib/libampferweg_tags.a
 VERSION := $(shell sed -n 's/^\#define AMPFERWEG_VERSION "\(.*\)"$$/\1/p' include/ampferweg.h)
 SOURCES := $(shell find crates crates.txt -name '*.rt' -o -name '*.antt' -o -name crates.txt)
 
-all: $(ARCHIVE)
+all: $(ARCHIVE) $(TAGS)
 
 target/staticlib/libampferweg.a: $(SOURCES)
 	$(RT) staticlib ampferweg
 
-install: $(ARCHIVE)
+target/staticlib/libampferweg_tags.a: $(SOURCES)
+	$(RT) staticlib ampferweg_tags
+
+install: $(ARCHIVE) $(TAGS)
 	install -d $(DESTDIR)$(PREFIX)/include $(DESTDIR)$(PREFIX)/lib/pkgconfig
-	install -m 644 include/ampferweg.h $(DESTDIR)$(PREFIX)/include/ampferweg.h
+	install -m 644 include/ampferweg.h include/ampferweg_tags.h $(DESTDIR)$(PREFIX)/include
 	install -m 644 $(ARCHIVE) $(DESTDIR)$(PREFIX)/lib/libampferweg.a
+	install -m 644 $(TAGS) $(DESTDIR)$(PREFIX)/lib/libampferweg_tags.a
 	sed -e 's|@PREFIX@|$(PREFIX)|' -e 's|@VERSION@|$(VERSION)|' ampferweg.pc.in >$(DESTDIR)$(PREFIX)/lib/pkgconfig/ampferweg.pc
 
 uninstall:
-	rm -f $(DESTDIR)$(PREFIX)/include/ampferweg.h $(DESTDIR)$(PREFIX)/lib/libampferweg.a $(DESTDIR)$(PREFIX)/lib/pkgconfig/ampferweg.pc
+	rm -f $(DESTDIR)$(PREFIX)/include/ampferweg.h $(DESTDIR)$(PREFIX)/include/ampferweg_tags.h \
+	    $(DESTDIR)$(PREFIX)/lib/libampferweg.a $(DESTDIR)$(PREFIX)/lib/libampferweg_tags.a $(DESTDIR)$(PREFIX)/lib/pkgconfig/ampferweg.pc
 
-test: $(ARCHIVE)
+test: $(ARCHIVE) $(TAGS)
 	tests/host/run.sh $(ARCHIVE)
 
 demo: $(ARCHIVE)

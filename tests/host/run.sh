@@ -105,7 +105,7 @@ plays() { # PROGRAM SUFFIX FOLDER
 # Installs, and builds a program with what is installed.
 installs() {
     rm -rf "$work/prefix"
-    make -s -C "$root" install PREFIX="$work/prefix" ARCHIVE="$archive" || return 1
+    make -s -C "$root" install PREFIX="$work/prefix" ARCHIVE="$archive" TAGS="$tags" || return 1
     echo 'int main(void) { return it() != 0; }' | cat "$work/header.c" - >"$work/installed.c"
     # shellcheck disable=SC2046
     "$cc" "$work/installed.c" -o "$work/installed" \
