@@ -27,9 +27,11 @@ use Rattle.promises.specs.Answers.{Accepts, Counts, countOutcome}
 use Rattle.promises.specs.Promises.{OpenPromise, SendPromise, InputPromise, FlushPromise, ReadPromise, SizePromise}
 use Rattle.read_core.specs.declared.Place.{Place}
 use Rattle.read_core.specs.Places.{placeOf}
-use Rattle.codes.specs.Codes.{refusalCode, answerCode, sizeCode, countCode, placeCode}
+use Rattle.codes.specs.Codes.{refusalCode, answerCode, sizeCode, countCode}
+use Rattle.codes.specs.Gives.{Gives}
+use Rattle.results.specs.PlaceCodes.{placeCode}
 use Rattle.demands.specs.CountLaws.{OfResult, MessageFits, PlaceFits, flushes-few, reads-fit, tells-fit, shows-fit}
-use Rattle.ampferweg.specs.Gives.{Gives, PlacePromise}
+use Rattle.ampferweg.specs.Places.{PlacePromise}
 
 -- the very count of the result, or the refusal's number below zero
 abbrev pub Told : {A : Type 0} → (A → ℕ) → Outcome A → ℤ → Type 0

@@ -17,7 +17,7 @@ use Rattle.settings_file.specs.declared.Reading.{Reading}
 use Rattle.settings_file.specs.declared.Reading.the-variants as reading
 use Rattle.settings_file.specs.declared.Writing.{Writing}
 use Rattle.settings_file.specs.declared.Writing.the-variants as writing
-use Rattle.ampferweg.specs.SettingsFiles.{writingCode, Numbers, numbers, Stores}
+use Rattle.settings_calls.specs.SettingsFiles.{writingCode, Numbers, numbers, Stores}
 
 abbrev pub isRefusedWriting : Writing → Bool
 isRefusedWriting writing.Whole = false
