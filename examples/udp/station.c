@@ -6,12 +6,16 @@
 
 #include <ampferweg.h>
 #include <fcntl.h>
+#include <signal.h>
 #include <stdio.h>
 #include <stdlib.h>
 #include <string.h>
 #include <unistd.h>
 
-enum { MTU_MOST = 256, FILE_MOST = 1 << 18, QUIET_MS = 1000 };
+enum { MTU_MOST = 256, FILE_MOST = 1 << 18, HEADER = 24, PUSH = 81, TELL = 84, NUMBERS = 17 };
+
+/* At its end a station stays until the peer has sent no data for QUIET_MS, LINGER_MS at most, and says every TELL_MS what it has. */
+enum { QUIET_MS = 2000, LINGER_MS = 20000, TELL_MS = 100 };
 
 AMPFERWEG_STATION_STORAGE(station, MTU_MOST);
 
@@ -23,9 +27,9 @@ static const struct option options[] = {
     {"peer", "ADDRESS", "where the peer is, as 127.0.0.1:4000", &peer_text, NULL, 0, 0},
     {"send", "FILE", "the messages to send, one a line", &send_file, NULL, 0, 0},
     {"hold", "MS", "wait so long before the first message, for the peer to be there (default 0)", NULL, &hold, 0, 60000},
-    {"expect", "COUNT", "end once so many messages arrived and its own are acknowledged (default 0)", NULL, &expect, 0, 1000000},
+    {"expect", "COUNT", "end once so many messages arrived and its own are acknowledged (default: run on)", NULL, &expect, 0, 1000000},
     {"save", "FILE", "write the messages that arrive, one a line", &save_file, NULL, 0, 0},
-    {"seconds", "COUNT", "give up after so many seconds (default 20)", NULL, &seconds, 1, 86400},
+    {"seconds", "COUNT", "end after so many seconds at the latest (default 20)", NULL, &seconds, 1, 86400},
     {"name", "NAME", "its name in what it prints", &name, NULL, 0, 0},
     {"conv", "NUMBER", "conversation, the same at both stations (default 1)", NULL, &conv, 0, UINT32_MAX},
     {"mtu", "BYTES", "longest datagram (default 256)", NULL, &mtu, AMPFERWEG_MTU_LEAST, MTU_MOST},
@@ -33,12 +37,24 @@ static const struct option options[] = {
     {"interval", "MS", "milliseconds between flushes (default 10)", NULL, &interval, 10, 5000},
     {"threshold", "SKIPS", "skips before a fast retransmission, 0 for none (default 2)", NULL, &threshold, 0, 100},
     {"keep", "FILE", "write these five settings to a settings file, and end", &keep_file, NULL, 0, 0},
-    {"settings", "FILE", "open with the settings of a settings file", &settings_file, NULL, 0, 0},
+    {"settings", "FILE", "open with the five settings of a settings file", &settings_file, NULL, 0, 0},
 };
 
 static struct sockaddr_in peer;
-static int udp, saved = -1;
-static struct { unsigned sent, heard, datagrams_sent, datagrams_heard, datagrams_refused, pushes, retransmissions; } count;
+static int udp, saved = -1, expects;
+static struct { unsigned sent, heard, datagrams_sent, datagrams_heard, datagrams_refused, pushes, retransmissions, refused[NUMBERS]; } count;
+static volatile sig_atomic_t ended;
+
+static void end(int signal)
+{
+    (void)signal;
+    ended = 1;
+}
+
+static uint32_t number_at(const uint8_t *bytes)
+{
+    return bytes[0] | (uint32_t)bytes[1] << 8 | (uint32_t)bytes[2] << 16 | (uint32_t)bytes[3] << 24;
+}
 
 /* ---- what is sent ---- */
 
@@ -73,7 +89,7 @@ static void send_messages(void)
         if (result == -AMPFERWEG_NO_FREE_SLOTS) return;
         if (result < 0) fail("a message cannot be sent", ampferweg_text(result));
         count.sent++;
-        next_line += len + 1;
+        next_line = end == NULL ? lines_end : end + 1;
     }
 }
 
@@ -81,10 +97,10 @@ static void send_messages(void)
 static void count_pushes(const uint8_t *datagram, size_t len)
 {
     static uint32_t top;
-    while (len >= 24) {
-        const uint32_t sn = datagram[12] | (uint32_t)datagram[13] << 8 | (uint32_t)datagram[14] << 16 | (uint32_t)datagram[15] << 24;
-        const size_t size = 24 + (datagram[20] | (size_t)datagram[21] << 8);
-        if (datagram[4] == 81) {
+    while (len >= HEADER) {
+        const uint32_t sn = number_at(datagram + 12);
+        const size_t size = HEADER + number_at(datagram + 20);
+        if (datagram[4] == PUSH) {
             count.pushes++;
             if ((int32_t)(sn - top) < 0) count.retransmissions++; else top = sn + 1;
         }
@@ -93,12 +109,31 @@ static void count_pushes(const uint8_t *datagram, size_t len)
     }
 }
 
+static uint8_t last_header[HEADER]; /* of the last datagram: conversation, window, and in una all that has arrived */
+static int told;
+
 static void transmit(void *context, const uint8_t *datagram, size_t len)
 {
     (void)context;
     count.datagrams_sent++;
     count_pushes(datagram, len);
+    memcpy(last_header, datagram, HEADER);
+    told = 1;
     udp_send(udp, &peer, datagram, len);
+}
+
+/* Says again what has arrived, by a window tell with the last una: the peer may have lost its last acknowledgements, and is slow
+ * to ask by then. */
+static void tell_again(void)
+{
+    uint8_t tell[HEADER] = {0};
+    if (!told) return;
+    memcpy(tell, last_header, 4);
+    tell[4] = TELL;
+    memcpy(tell + 6, last_header + 6, 2);
+    memcpy(tell + 16, last_header + 16, 4);
+    count.datagrams_sent++;
+    udp_send(udp, &peer, tell, sizeof tell);
 }
 
 /* ---- what arrives ---- */
@@ -119,40 +154,88 @@ static void read_messages(void)
     }
 }
 
-/* Waits for datagrams, until the next flush is due. Gives whether the peer was heard. */
-static int take_in(uint32_t flush_at)
+/* Whether one of the segments of an accepted datagram is a push. */
+static int holds_push(const uint8_t *datagram, size_t len)
+{
+    while (len >= HEADER) {
+        const size_t size = HEADER + number_at(datagram + 20);
+        if (datagram[4] == PUSH) return 1;
+        datagram += size;
+        len -= size;
+    }
+    return 0;
+}
+
+/* A refused datagram has changed nothing. Says why, once for each reason; the summary has the counts. */
+static void refuse(ampferweg_result result, size_t len)
+{
+    const int number = ampferweg_refusal_of(result);
+    count.datagrams_refused++;
+    if (count.refused[number]++ == 0) fprintf(stderr, "%s: a datagram of %lu bytes: %s\n", name, (unsigned long)len, ampferweg_text(result));
+}
+
+static uint32_t data_at; /* when the peer last sent data */
+
+static void take_in_one(const uint8_t *datagram, size_t len)
+{
+    const ampferweg_result result = ampferweg_station_input(&station, datagram, len);
+    count.datagrams_heard++;
+    if (result < 0) refuse(result, len);
+    else if (holds_push(datagram, len)) data_at = clock_now();
+}
+
+/* Takes in the datagrams that come until the next flush is due. */
+static void take_in(uint32_t flush_at)
 {
     static uint8_t datagram[DATAGRAM_MOST];
     struct sockaddr_in from;
-    int heard = 0;
-    for (;;) {
-        const int32_t left = (int32_t)(flush_at - clock_now());
-        const long len = udp_receive(udp, left > 0 ? (uint32_t)left : 0, &from, datagram, sizeof datagram);
-        if (len < 0) return heard;
-        if (!same_address(&from, &peer)) continue;
-        heard = 1;
-        count.datagrams_heard++;
-        if (ampferweg_station_input(&station, datagram, (size_t)len) < 0) count.datagrams_refused++;
-        if ((int32_t)(flush_at - clock_now()) <= 0) return heard;
-    }
+    int32_t left;
+    do {
+        long len;
+        left = (int32_t)(flush_at - clock_now());
+        len = udp_receive(udp, left > 0 ? (uint32_t)left : 0, &from, datagram, sizeof datagram);
+        if (len < 0) return;
+        if (same_address(&from, &peer)) take_in_one(datagram, (size_t)len);
+    } while (left > 0);
 }
 
 /* ---- the station ---- */
 
-static int complete(void) { return next_line == lines_end && ampferweg_station_pending(&station) == 0 && count.heard >= expect; }
+static int all_acknowledged(void) { return next_line == lines_end && ampferweg_station_pending(&station) == 0; }
 
-/* Runs until all is done and the peer has been quiet for a while, since it may still ask for what was lost. */
-static void run(void)
+static int complete(void) { return all_acknowledged() && (!expects || count.heard >= expect); }
+
+static void step(uint32_t now)
 {
-    const uint32_t start = clock_now();
-    uint32_t now = start, heard_at = start;
-    ampferweg_result result;
-    while (now - start < 1000 * seconds && !(complete() && now - heard_at > QUIET_MS)) {
+    const ampferweg_result result = ampferweg_station_flush_to(&station, now, transmit, NULL);
+    if (result < 0) fail("a flush", ampferweg_text(result));
+    take_in(now + interval);
+    read_messages();
+}
+
+/* Runs until all that is expected is done. Without --expect that is never so. */
+static void run(uint32_t start)
+{
+    uint32_t now = start;
+    while (!ended && now - start < 1000 * seconds && !(expects && complete())) {
         if (now - start >= hold) send_messages();
-        result = ampferweg_station_flush_to(&station, now, transmit, NULL);
-        if (result < 0) fail("a flush", ampferweg_text(result));
-        if (take_in(now + interval)) heard_at = clock_now();
-        read_messages();
+        step(now);
+        now = clock_now();
+    }
+}
+
+/* Stays for the peer's sake, which may not know yet that all of its data has arrived. */
+static void linger(uint32_t start)
+{
+    const uint32_t done = clock_now();
+    uint32_t now = done, told_at = done - TELL_MS;
+    data_at = done;
+    while (!ended && now - start < 1000 * seconds && now - done < LINGER_MS && now - data_at < QUIET_MS) {
+        step(now);
+        if (now - told_at >= TELL_MS) {
+            tell_again();
+            told_at = now;
+        }
         now = clock_now();
     }
 }
@@ -198,22 +281,60 @@ static void prepare(void)
     printf("%s: listens on port %u\n", name, port);
 }
 
+/* A settings file says all five settings; an option beside it would say one of them twice. */
+static void check_options(int argc, char **argv)
+{
+    static const char *const others[] = {"conv", "mtu", "mode", "interval", "threshold", "keep"};
+    size_t i;
+    expects = option_given(argc, argv, "expect");
+    for (i = 0; settings_file != NULL && i < sizeof others / sizeof *others; i++) {
+        if (!option_given(argc, argv, others[i])) continue;
+        fprintf(stderr, "station: --%s does not go with --settings, whose file says all five settings\n", others[i]);
+        exit(2);
+    }
+}
+
+static void catch_signals(void)
+{
+    struct sigaction action;
+    memset(&action, 0, sizeof action);
+    action.sa_handler = end;
+    sigaction(SIGINT, &action, NULL);
+    sigaction(SIGTERM, &action, NULL);
+}
+
+static void summary(void)
+{
+    int number;
+    printf("%s: %u messages sent%s, %u", name, count.sent, ampferweg_station_pending(&station) == 0 ? " and acknowledged" : "", count.heard);
+    if (expects) printf(" of %lu", (unsigned long)expect);
+    printf(" heard; %u datagrams sent, %u heard, %u refused; %u segments sent, %u of them retransmissions\n",
+        count.datagrams_sent, count.datagrams_heard, count.datagrams_refused, count.pushes, count.retransmissions);
+    for (number = 1; number < NUMBERS; number++)
+        if (count.refused[number] > 0) printf("%s: %u datagrams %s\n", name, count.refused[number], ampferweg_text(-number));
+    if (ampferweg_station_dead(&station)) fprintf(stderr, "%s: the link is dead: a segment was sent 20 times and not acknowledged\n", name);
+    if (ended) fprintf(stderr, "%s: stopped by a signal\n", name);
+    if (!complete()) fprintf(stderr, "%s: ends before %s\n", name, all_acknowledged() ? "all that it expects was heard" : "all that it sent was acknowledged");
+}
+
 int main(int argc, char **argv)
 {
+    uint32_t start;
     lines_at_once();
     read_options(argc, argv, "usage: station --port PORT --peer ADDRESS [options]\n"
-        "Sends messages to a peer over UDP by KCP, and prints those that arrive.",
+        "Sends messages to a peer over UDP by KCP, and prints those that arrive. Ends by --expect, --seconds, SIGINT or SIGTERM;\n"
+        "its status is 0 if all of its messages were acknowledged and all that it expects was heard.",
         options, sizeof options / sizeof *options);
+    check_options(argc, argv);
     if (keep_file != NULL) {
         keep_settings();
         return 0;
     }
+    catch_signals();
     prepare();
-    run();
-    printf("%s: %u messages sent%s, %u of %u heard; %u datagrams sent, %u heard, %u refused; %u segments sent, %u of them retransmissions\n",
-        name, count.sent, ampferweg_station_pending(&station) == 0 ? " and acknowledged" : "", count.heard, expect,
-        count.datagrams_sent, count.datagrams_heard, count.datagrams_refused, count.pushes, count.retransmissions);
-    if (ampferweg_station_dead(&station)) fprintf(stderr, "%s: the link is dead: a segment was sent 20 times and not acknowledged\n", name);
-    if (!complete()) fprintf(stderr, "%s: gives up after %u seconds\n", name, seconds);
+    start = clock_now();
+    run(start);
+    if (complete()) linger(start);
+    summary();
     return complete() ? 0 : 1;
 }
