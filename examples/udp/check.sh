@@ -1,5 +1,5 @@
 #!/bin/sh
-# check.sh [ARCHIVE]: tries the stations of this folder: their options, how they end, and what they say. Ends by itself within
+# check.sh [ARCHIVE]: tries the stations of this folder: their options, how they end, what they say, and restarts. Ends by itself within
 # a minute. The last line is 'examples: N passed, M failed'. AMPFERWEG_PORT is the first of ten UDP ports (default 46300).
 set -u
 root=$(cd "$(dirname "$0")/../.." && pwd)
@@ -165,6 +165,107 @@ interrupted() {
     await "$started"
 }
 
+# ---- restarts: 600 messages through a relay that loses one datagram in ten; one station is killed once 100 have arrived
+
+awk 'BEGIN { for (i = 1; i <= 600; i++) printf "message %d of six hundred, with some words behind it so that it takes three segments or so of a short mtu, %d\n", i, i * i }' >many.txt
+
+middle() {
+    start relay relay --port "$port" --left 127.0.0.1:$((port + 1)) --right 127.0.0.1:$((port + 2)) --seed 5
+}
+
+hears() { # SAVED-FILE OPTIONS..
+    saved=$1
+    shift
+    begin hearer 1 0 --mtu 100 --interval 40 --hello 50 --seconds 40 --save "$saved" "$@"
+}
+
+sends() { begin sender 2 0 --mtu 100 --interval 40 --hello 50 --seconds 40 --send many.txt --expect 0; }
+
+# Waits until a file has 100 lines, ten seconds at most.
+a_hundred() { # FILE
+    for _ in $(seq 200); do
+        [ "$(wc -l <"$1")" -ge 100 ] && return 0
+        sleep 0.05
+    done
+    return 1
+}
+
+# Kills a station at once, as a power cut would.
+power_cut() { # PROCESS
+    kill -9 "$1"
+    await "$1"
+    [ $? -eq 137 ]
+}
+
+# The two files hold the messages from the first to one in the middle, and on from there, or from a little before, to the last.
+whole() { # BEFORE AFTER
+    before=$(wc -l <"$1")
+    after=$(wc -l <"$2")
+    echo "$before messages before the restart, $after after it"
+    [ "$before" -ge 100 ] && [ "$before" -lt 600 ] && [ $((before + after)) -ge 600 ] && [ "$after" -le 600 ] &&
+        head -n "$before" many.txt | cmp - "$1" && tail -n "$after" many.txt | cmp - "$2"
+}
+
+hearer_restarts() {
+    middle && hears before.txt || return 1
+    hearer=$started
+    sends || return 1
+    sender=$started
+    a_hundred before.txt && power_cut "$hearer" && hears after.txt || return 1
+    hearer=$started
+    await "$sender" || return 1
+    kill -INT "$hearer"
+    await "$hearer" && whole before.txt after.txt && [ "$(wc -l <after.txt)" -lt 600 ] &&
+        grep -q '600 messages sent and acknowledged, [1-9][0-9]* sent again' sender.out && [ "$(grep -c 'the peer is new' sender.out)" -eq 2 ]
+}
+
+# The sender that restarts does not know what was acknowledged, and sends all.
+sender_restarts() {
+    middle && hears both.txt || return 1
+    hearer=$started
+    sends || return 1
+    a_hundred both.txt && power_cut "$started" && sends && await "$started" || return 1
+    kill -INT "$hearer"
+    await "$hearer" || return 1
+    tail -n 600 both.txt >after.txt
+    head -n $(($(wc -l <both.txt) - 600)) both.txt >before.txt
+    whole before.txt after.txt && grep -q '600 messages sent and acknowledged, 0 of 0 heard' sender.out
+}
+
+# Both are killed, one after the other.
+both_restart() {
+    middle && hears before.txt && hearer=$started && sends && sender=$started && a_hundred before.txt || return 1
+    power_cut "$sender" && power_cut "$hearer" && hears after.txt && hearer=$started && sends && await "$started" || return 1
+    kill -INT "$hearer"
+    await "$hearer" && whole before.txt after.txt
+}
+
+# What docs/C.md warns of: without a hello the messages of a station that restarted are acknowledged, and not heard.
+no_hello() {
+    seq 5 >five.txt
+    begin hearer 0 1 --save heard.txt --seconds 20 || return 1
+    hearer=$started
+    for _ in 1 2; do begin sender 1 0 --send five.txt --expect 0 --seconds 10 && await "$started" || return 1; done
+    kill -INT "$hearer"
+    await "$hearer" && cmp five.txt heard.txt && grep -q '5 messages sent and acknowledged' sender.out
+}
+
+silence() {
+    begin hearer 0 1 --hello 50 --silence 500 --seconds 8 || return 1
+    hearer=$started
+    begin sender 1 0 --hello 50 --seconds 8 || return 1
+    sleep 1
+    power_cut "$started"
+    grep 'heard nothing' hearer.out && return 1
+    sleep 1
+    grep -q 'heard nothing for 500 ms' hearer.out || return 1
+    begin sender 1 0 --hello 50 --seconds 8 || return 1
+    sleep 0.5
+    kill -INT "$hearer"
+    await "$hearer"
+    grep -q 'hears the peer again' hearer.out
+}
+
 try 'a file without a final newline is sent whole' no_final_newline
 try 'without --expect a station runs on' runs_on
 try 'the last acknowledgements arrive where half is lost' half_is_lost
@@ -173,5 +274,10 @@ try 'a wrong address is refused' addresses
 try 'an option beside a settings file is refused' settings
 try "run.sh's ports" ports
 try 'a signal ends a station with its summary' interrupted
+try 'a station that hears is killed and restarts: nothing is lost' hearer_restarts
+try 'a station that sends is killed and restarts: nothing is lost' sender_restarts
+try 'both are killed and restart: nothing is lost' both_restart
+try 'without a hello a restart is not noticed' no_hello
+try 'a peer that falls silent is noticed' silence
 echo "examples: $passed passed, $failed failed"
 [ "$failed" -eq 0 ]

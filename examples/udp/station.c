@@ -1,6 +1,7 @@
 /* A station: sends the messages of a file to its peer over UDP, and prints those that arrive. Clock, socket and every part
  * that the link is lent are its own; it has no heap. */
 #define _POSIX_C_SOURCE 200809L
+#include "hello.h"
 #include "options.h"
 #include "udp.h"
 
@@ -20,7 +21,7 @@ enum { QUIET_MS = 2000, LINGER_MS = 20000, TELL_MS = 100 };
 AMPFERWEG_STATION_STORAGE(station, MTU_MOST);
 
 static const char *name = "station", *peer_text, *send_file, *save_file, *settings_file, *keep_file;
-static uint32_t port, conv = 1, mtu = 256, mode = 1, interval = 10, threshold = 2, expect, hold, seconds = 20;
+static uint32_t port, conv = 1, mtu = 256, mode = 1, interval = 10, threshold = 2, expect, hold, seconds = 20, hello_ms, silence = 5000;
 
 static const struct option options[] = {
     {"port", "PORT", "the port to listen on", NULL, &port, 1, 65535},
@@ -30,6 +31,8 @@ static const struct option options[] = {
     {"expect", "COUNT", "end once so many messages arrived and its own are acknowledged (default: run on)", NULL, &expect, 0, 1000000},
     {"save", "FILE", "write the messages that arrive, one a line", &save_file, NULL, 0, 0},
     {"seconds", "COUNT", "end after so many seconds at the latest (default 20)", NULL, &seconds, 1, 86400},
+    {"hello", "MS", "say hello so often, agree on a conversation with the peer, and notice when it restarts (default: no)", NULL, &hello_ms, 10, 10000},
+    {"silence", "MS", "say so when the peer is not heard for so long, 0 for never (default 5000)", NULL, &silence, 0, 3600000},
     {"name", "NAME", "its name in what it prints", &name, NULL, 0, 0},
     {"conv", "NUMBER", "conversation, the same at both stations (default 1)", NULL, &conv, 0, UINT32_MAX},
     {"mtu", "BYTES", "longest datagram (default 256)", NULL, &mtu, AMPFERWEG_MTU_LEAST, MTU_MOST},
@@ -42,7 +45,9 @@ static const struct option options[] = {
 
 static struct sockaddr_in peer;
 static int udp, saved = -1, expects;
-static struct { unsigned sent, heard, datagrams_sent, datagrams_heard, datagrams_refused, pushes, retransmissions, refused[NUMBERS]; } count;
+static int opened;
+static struct hello hello;
+static struct { unsigned sent, acknowledged, again, heard, datagrams_sent, datagrams_heard, datagrams_refused, pushes, retransmissions, refused[NUMBERS]; } count;
 static volatile sig_atomic_t ended;
 
 static void end(int signal)
@@ -59,7 +64,8 @@ static uint32_t number_at(const uint8_t *bytes)
 /* ---- what is sent ---- */
 
 static char lines[FILE_MOST];
-static const char *next_line, *lines_end;
+static const char *first_line, *next_line, *lines_end; /* the first that is not acknowledged, the next to be sent */
+static uint32_t first_number, top;                      /* of the first one's first segment, and past all that were sent */
 
 static void fail(const char *what, const char *why)
 {
@@ -75,28 +81,54 @@ static void read_lines(void)
     while ((len = read(file, lines + all, sizeof lines - (size_t)all)) > 0) all += len;
     close(file);
     if (len < 0 || all == FILE_MOST) fail(send_file, len < 0 ? "this file of messages cannot be read" : "this file of messages is too long");
-    next_line = lines;
+    first_line = next_line = lines;
     lines_end = lines + all;
+}
+
+/* The end of the message that begins here, and where the next one begins. */
+static const char *end_of(const char *line, const char **next)
+{
+    const char *end = memchr(line, '\n', (size_t)(lines_end - line));
+    *next = end == NULL ? lines_end : end + 1;
+    return end == NULL ? lines_end : end;
 }
 
 /* Gives the link as many messages as it has slots for. */
 static void send_messages(void)
 {
     while (next_line < lines_end) {
-        const char *end = memchr(next_line, '\n', (size_t)(lines_end - next_line));
-        const size_t len = (size_t)((end == NULL ? lines_end : end) - next_line);
-        const ampferweg_result result = ampferweg_station_send(&station, next_line, len);
+        const char *next, *end_line = end_of(next_line, &next);
+        const ampferweg_result result = ampferweg_station_send(&station, next_line, (size_t)(end_line - next_line));
         if (result == -AMPFERWEG_NO_FREE_SLOTS) return;
         if (result < 0) fail("a message cannot be sent", ampferweg_text(result));
         count.sent++;
-        next_line = end == NULL ? lines_end : end + 1;
+        next_line = next;
+    }
+}
+
+/* Takes the peer's una, the number of the first segment that it lacks: messages before it are acknowledged. This station reads all
+ * that has arrived before it flushes, so that a peer like it has then also saved them. */
+static void acknowledge(uint32_t una)
+{
+    static int said;
+    if ((int32_t)(una - top) > 0) {
+        if (!said++) fprintf(stderr, "%s: the peer acknowledges what was never sent: the two were not opened together\n", name);
+        return;
+    }
+    while (first_line < next_line) {
+        const char *next;
+        const size_t len = (size_t)(end_of(first_line, &next) - first_line), mss = AMPFERWEG_MSS(mtu);
+        const uint32_t after = first_number + (uint32_t)(len == 0 ? 1 : (len + mss - 1) / mss);
+        if ((int32_t)(una - after) < 0) return;
+        count.acknowledged++;
+        first_line = next;
+        first_number = after;
     }
 }
 
 /* A push whose number is not beyond all before it is a retransmission. */
 static void count_pushes(const uint8_t *datagram, size_t len)
 {
-    static uint32_t top;
     while (len >= HEADER) {
         const uint32_t sn = number_at(datagram + 12);
         const size_t size = HEADER + number_at(datagram + 20);
@@ -136,34 +168,37 @@ static void tell_again(void)
     udp_send(udp, &peer, tell, sizeof tell);
 }
 
+/* Opens the link. What an earlier one did not get acknowledged is sent again. */
+static void open_link(uint32_t conversation)
+{
+    const ampferweg_result result = ampferweg_station_open(&station, conversation, mtu, mode, interval, threshold);
+    if (result < 0) fail("mtu, mode, interval or threshold", ampferweg_text(result));
+    count.again += count.sent - count.acknowledged;
+    count.sent = count.acknowledged;
+    next_line = first_line;
+    first_number = top = 0;
+    told = 0;
+    opened = 1;
+}
+
 /* ---- what arrives ---- */
 
-static void save(const char *message, size_t len)
+/* In one piece, so that a station that is killed leaves whole lines. */
+static void save(const char *line, size_t len)
 {
-    if (saved >= 0 && (write(saved, message, len) != (ssize_t)len || write(saved, "\n", 1) != 1)) fail(save_file, "this file cannot be written");
+    if (saved >= 0 && write(saved, line, len) != (ssize_t)len) fail(save_file, "this file cannot be written");
 }
 
 static void read_messages(void)
 {
-    static char message[AMPFERWEG_MESSAGE_SIZE(MTU_MOST)];
+    static char message[AMPFERWEG_MESSAGE_SIZE(MTU_MOST) + 1];
     ampferweg_result len;
-    while ((len = ampferweg_station_read(&station, message, sizeof message)) >= 0) {
+    while ((len = ampferweg_station_read(&station, message, sizeof message - 1)) >= 0) {
         count.heard++;
-        save(message, (size_t)len);
+        message[len] = '\n';
+        save(message, (size_t)len + 1);
         printf("%s hears %u: %.*s%s (%d bytes)\n", name, count.heard, len < 60 ? (int)len : 60, message, len < 60 ? "" : " ..", (int)len);
     }
-}
-
-/* Whether one of the segments of an accepted datagram is a push. */
-static int holds_push(const uint8_t *datagram, size_t len)
-{
-    while (len >= HEADER) {
-        const size_t size = HEADER + number_at(datagram + 20);
-        if (datagram[4] == PUSH) return 1;
-        datagram += size;
-        len -= size;
-    }
-    return 0;
 }
 
 /* A refused datagram has changed nothing. Says why, once for each reason; the summary has the counts. */
@@ -174,14 +209,40 @@ static void refuse(ampferweg_result result, size_t len)
     if (count.refused[number]++ == 0) fprintf(stderr, "%s: a datagram of %lu bytes: %s\n", name, (unsigned long)len, ampferweg_text(result));
 }
 
-static uint32_t data_at; /* when the peer last sent data */
+static uint32_t heard_at, data_at; /* when the peer was last heard, and last sent data */
+
+/* Notes what the segments of an accepted datagram say. */
+static void note(const uint8_t *datagram, size_t len)
+{
+    while (len >= HEADER) {
+        const size_t size = HEADER + number_at(datagram + 20);
+        if (datagram[4] == PUSH) data_at = heard_at;
+        acknowledge(number_at(datagram + 16));
+        datagram += size;
+        len -= size;
+    }
+}
+
+/* The peer is there, or has restarted: what it sent whole is read, then both begin anew. */
+static void open_anew(void)
+{
+    const uint32_t conversation = hello_conversation(&hello, conv);
+    if (opened) read_messages();
+    open_link(conversation);
+    printf("%s: the peer is new: opens conversation %lu\n", name, (unsigned long)conversation);
+}
 
 static void take_in_one(const uint8_t *datagram, size_t len)
 {
-    const ampferweg_result result = ampferweg_station_input(&station, datagram, len);
+    const enum hello_kind kind = hello_ms > 0 ? hello_input(&hello, datagram, len) : HELLO_NONE;
+    ampferweg_result result;
     count.datagrams_heard++;
+    heard_at = clock_now();
+    if (kind == HELLO_NEW_BOOT) open_anew();
+    if (kind != HELLO_NONE || !opened) return;
+    result = ampferweg_station_input(&station, datagram, len);
     if (result < 0) refuse(result, len);
-    else if (holds_push(datagram, len)) data_at = clock_now();
+    else note(datagram, len);
 }
 
 /* Takes in the datagrams that come until the next flush is due. */
@@ -201,16 +262,49 @@ static void take_in(uint32_t flush_at)
 
 /* ---- the station ---- */
 
-static int all_acknowledged(void) { return next_line == lines_end && ampferweg_station_pending(&station) == 0; }
+static int all_acknowledged(void) { return first_line == lines_end && ampferweg_station_pending(&station) == 0; }
 
 static int complete(void) { return all_acknowledged() && (!expects || count.heard >= expect); }
 
+/* Says hello, every hello_ms milliseconds. */
+static void say_hello(uint32_t now)
+{
+    static uint32_t said_at;
+    static int said;
+    uint8_t datagram[HELLO_SIZE];
+    if (hello_ms == 0 || (said && now - said_at < hello_ms)) return;
+    hello_write(&hello, datagram);
+    udp_send(udp, &peer, datagram, sizeof datagram);
+    said_at = now;
+    said = 1;
+}
+
+/* Says when the peer falls silent, long before the link is dead. A peer that has nothing to send is silent by right: silence counts
+ * while something waits for its acknowledgement, or while hellos are said. */
+static void watch(uint32_t now)
+{
+    static uint32_t since;
+    static int begun, silent;
+    if (!begun || (hello_ms == 0 && ampferweg_station_pending(&station) == 0)) since = heard_at = now;
+    if ((int32_t)(heard_at - since) > 0) since = heard_at;
+    begun = 1;
+    if (silent != (silence > 0 && now - since >= silence)) {
+        silent = !silent;
+        if (silent) printf("%s: heard nothing for %lu ms\n", name, (unsigned long)silence);
+        else printf("%s: hears the peer again\n", name);
+    }
+}
+
 static void step(uint32_t now)
 {
-    const ampferweg_result result = ampferweg_station_flush_to(&station, now, transmit, NULL);
-    if (result < 0) fail("a flush", ampferweg_text(result));
+    say_hello(now);
+    if (opened) {
+        const ampferweg_result result = ampferweg_station_flush_to(&station, now, transmit, NULL);
+        if (result < 0) fail("a flush", ampferweg_text(result));
+    }
     take_in(now + interval);
-    read_messages();
+    if (opened) read_messages();
+    watch(clock_now());
 }
 
 /* Runs until all that is expected is done. Without --expect that is never so. */
@@ -218,7 +312,7 @@ static void run(uint32_t start)
 {
     uint32_t now = start;
     while (!ended && now - start < 1000 * seconds && !(expects && complete())) {
-        if (now - start >= hold) send_messages();
+        if (opened && now - start >= hold) send_messages();
         step(now);
         now = clock_now();
     }
@@ -267,14 +361,22 @@ static void read_settings(void)
     if (mtu > MTU_MOST) fail(settings_file, "this station is built for an mtu of 256 at most");
 }
 
+/* Numbers that no earlier boot had. */
+static void begin_hello(void)
+{
+    const int in = open("/dev/urandom", O_RDONLY);
+    if (in < 0 || read(in, &hello.boot, sizeof hello.boot) < 0 || read(in, &hello.token, sizeof hello.token) < 0)
+        fail("/dev/urandom", "no random number for a hello");
+    close(in);
+}
+
 static void prepare(void)
 {
-    ampferweg_result result;
     if (port == 0 || peer_text == NULL) fail("--port and --peer are wanted", "--help lists the options");
     peer = udp_address("station", peer_text);
     if (settings_file != NULL) read_settings();
-    result = ampferweg_station_open(&station, conv, mtu, mode, interval, threshold);
-    if (result < 0) fail("mtu, mode, interval or threshold", ampferweg_text(result));
+    if (hello_ms > 0) begin_hello();
+    else open_link(conv);
     if (send_file != NULL) read_lines();
     if (save_file != NULL && (saved = open(save_file, O_WRONLY | O_CREAT | O_TRUNC, 0666)) < 0) fail(save_file, "this file cannot be written");
     udp = udp_open("station", port);
@@ -306,7 +408,11 @@ static void catch_signals(void)
 static void summary(void)
 {
     int number;
-    printf("%s: %u messages sent%s, %u", name, count.sent, ampferweg_station_pending(&station) == 0 ? " and acknowledged" : "", count.heard);
+    printf("%s: %u messages sent", name, count.sent);
+    if (count.acknowledged == count.sent) printf(" and acknowledged");
+    else printf(", %u of them acknowledged", count.acknowledged);
+    if (count.again > 0) printf(", %u sent again", count.again);
+    printf(", %u", count.heard);
     if (expects) printf(" of %lu", (unsigned long)expect);
     printf(" heard; %u datagrams sent, %u heard, %u refused; %u segments sent, %u of them retransmissions\n",
         count.datagrams_sent, count.datagrams_heard, count.datagrams_refused, count.pushes, count.retransmissions);
