@@ -59,6 +59,7 @@ start() { # NAME PROGRAM OPTIONS..
     shift
     program=$1
     shift
+    : >"$out" # what an earlier one said is not its own
     "./$program" "$@" >"$out" 2>&1 &
     started=$!
     running="$running $started"
@@ -92,12 +93,13 @@ no_final_newline() {
     begin hearer 0 1 --expect 3 --save heard.txt || return 1
     hearer=$started
     begin sender 1 0 --expect 0 --send three.txt --seconds 10 || return 1
-    await "$started" && await "$hearer" && printf 'one\ntwo\nthree\n' | cmp - heard.txt && grep -q '3 messages sent and acknowledged' sender.out
+    await "$started" && await "$hearer" || return 1
+    printf 'one\ntwo\nthree\n' | cmp - heard.txt && grep -q '3 messages sent and acknowledged' sender.out
 }
 
 runs_on() {
     began=$(date +%s)
-    begin alone 0 1 --seconds 4 || return 1
+    begin alone 0 1 --seconds 3 || return 1
     await "$started" && [ $(($(date +%s) - began)) -ge 3 ] && grep -q '0 messages sent and acknowledged, 0 heard' alone.out
 }
 
@@ -125,7 +127,7 @@ reasons() {
     await "$started" && return 1
     await "$seven" && return 1
     [ "$(grep -c 'a datagram of 29 bytes: refused 2: the datagram is of another conversation' seven.out)" -eq 1 ] &&
-        grep -q '[2-9] datagrams refused 2: ' seven.out && grep -q 'ends before all that it sent was acknowledged' eight.out
+        grep -q '[2-9] datagrams refused 2: ' seven.out && grep -q 'ends before all of its messages were acknowledged' eight.out
 }
 
 addresses() {
@@ -167,7 +169,9 @@ interrupted() {
 
 # ---- restarts: 600 messages through a relay that loses one datagram in ten; one station is killed once 100 have arrived
 
-awk 'BEGIN { for (i = 1; i <= 600; i++) printf "message %d of six hundred, with some words behind it so that it takes three segments or so of a short mtu, %d\n", i, i * i }' >many.txt
+awk 'BEGIN {
+    for (i = 1; i <= 600; i++) printf "message %d of six hundred, with words enough behind it to take two segments of a short mtu, %d\n", i, i * i
+}' >many.txt
 
 middle() {
     start relay relay --port "$port" --left 127.0.0.1:$((port + 1)) --right 127.0.0.1:$((port + 2)) --seed 5

@@ -5,7 +5,8 @@
  * only with our own token of now, so that a hello of an earlier boot, held back by the network, changes nothing. Both then open with
  * the conversation that follows from both boot numbers: it is another one as soon as either restarts.
  *
- * A boot number differs from boot to boot: a counter kept in flash, or a random number. The same goes for the first token. */
+ * A boot number differs from boot to boot: a counter kept in flash, or a random number. The same goes for the first
+ * token, which is not 0. */
 #ifndef HELLO_H
 #define HELLO_H
 

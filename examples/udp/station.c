@@ -31,7 +31,7 @@ static const struct option options[] = {
     {"expect", "COUNT", "end once so many messages arrived and its own are acknowledged (default: run on)", NULL, &expect, 0, 1000000},
     {"save", "FILE", "write the messages that arrive, one a line", &save_file, NULL, 0, 0},
     {"seconds", "COUNT", "end after so many seconds at the latest (default 20)", NULL, &seconds, 1, 86400},
-    {"hello", "MS", "say hello so often, agree on a conversation with the peer, and notice when it restarts (default: no)", NULL, &hello_ms, 10, 10000},
+    {"hello", "MS", "agree on a conversation by a hello so often, and notice a restart (default: no)", NULL, &hello_ms, 10, 10000},
     {"silence", "MS", "say so when the peer is not heard for so long, 0 for never (default 5000)", NULL, &silence, 0, 3600000},
     {"name", "NAME", "its name in what it prints", &name, NULL, 0, 0},
     {"conv", "NUMBER", "conversation, the same at both stations (default 1)", NULL, &conv, 0, UINT32_MAX},
@@ -44,10 +44,12 @@ static const struct option options[] = {
 };
 
 static struct sockaddr_in peer;
-static int udp, saved = -1, expects;
-static int opened;
+static int udp, saved = -1, expects, opened;
 static struct hello hello;
-static struct { unsigned sent, acknowledged, again, heard, datagrams_sent, datagrams_heard, datagrams_refused, pushes, retransmissions, refused[NUMBERS]; } count;
+static struct {
+    unsigned sent, acknowledged, again, heard, datagrams_sent, datagrams_heard, datagrams_refused, pushes, retransmissions;
+    unsigned refused[NUMBERS]; /* by refusal number */
+} count;
 static volatile sig_atomic_t ended;
 
 static void end(int signal)
@@ -206,7 +208,8 @@ static void refuse(ampferweg_result result, size_t len)
 {
     const int number = ampferweg_refusal_of(result);
     count.datagrams_refused++;
-    if (count.refused[number]++ == 0) fprintf(stderr, "%s: a datagram of %lu bytes: %s\n", name, (unsigned long)len, ampferweg_text(result));
+    if (count.refused[number]++ > 0) return;
+    fprintf(stderr, "%s: a datagram of %lu bytes: %s\n", name, (unsigned long)len, ampferweg_text(result));
 }
 
 static uint32_t heard_at, data_at; /* when the peer was last heard, and last sent data */
@@ -365,9 +368,11 @@ static void read_settings(void)
 static void begin_hello(void)
 {
     const int in = open("/dev/urandom", O_RDONLY);
-    if (in < 0 || read(in, &hello.boot, sizeof hello.boot) < 0 || read(in, &hello.token, sizeof hello.token) < 0)
-        fail("/dev/urandom", "no random number for a hello");
+    uint32_t numbers[2];
+    if (in < 0 || read(in, numbers, sizeof numbers) != (ssize_t)sizeof numbers) fail("/dev/urandom", "no random number for a hello");
     close(in);
+    hello.boot = numbers[0];
+    hello.token = numbers[1] | 1; /* 0 stands for none heard */
 }
 
 static void prepare(void)
@@ -420,7 +425,9 @@ static void summary(void)
         if (count.refused[number] > 0) printf("%s: %u datagrams %s\n", name, count.refused[number], ampferweg_text(-number));
     if (ampferweg_station_dead(&station)) fprintf(stderr, "%s: the link is dead: a segment was sent 20 times and not acknowledged\n", name);
     if (ended) fprintf(stderr, "%s: stopped by a signal\n", name);
-    if (!complete()) fprintf(stderr, "%s: ends before %s\n", name, all_acknowledged() ? "all that it expects was heard" : "all that it sent was acknowledged");
+    if (!all_acknowledged()) fprintf(stderr, "%s: ends before all of its messages were acknowledged\n", name);
+    else if (!complete()) fprintf(stderr, "%s: ends before all that it expects was heard\n", name);
+    if (!opened) fprintf(stderr, "%s: never heard the peer's hello: does it say hello too?\n", name);
 }
 
 int main(int argc, char **argv)
