@@ -15,7 +15,8 @@ cd "$work" || exit 2
 flags="-std=c99 -O2 -Wall -Wextra -Wpedantic -Wshadow -Wconversion -Werror -I $root/include"
 # shellcheck disable=SC2086
 "${CC:-cc}" $flags "$here/station.c" "$here/options.c" "$here/udp.c" "$archive" -o station &&
-    "${CC:-cc}" $flags "$here/relay.c" "$here/options.c" "$here/udp.c" -o relay || exit 2
+    "${CC:-cc}" $flags "$here/relay.c" "$here/options.c" "$here/udp.c" -o relay &&
+    "${CC:-cc}" $flags "$here/hello_check.c" "$archive" -o hello_check || exit 2
 
 # Programs that were started and not waited for.
 running=''
@@ -110,9 +111,9 @@ half_is_lost() {
         n=$((3 * seed - 3))
         start "relay$seed" relay --port $((port + n)) --left 127.0.0.1:$((port + n + 1)) --right 127.0.0.1:$((port + n + 2)) \
             --drop 50 --seed "$seed" || return 1
-        begin "left$seed" $((n + 1)) "$n" --expect 24 --send "$here/recipes/left.txt" --save "left$seed.txt" --seconds 40 || return 1
+        begin "left$seed" $((n + 1)) "$n" --mode 2 --expect 24 --send "$here/recipes/left.txt" --save "left$seed.txt" --seconds 25 || return 1
         pids="$pids $started"
-        begin "right$seed" $((n + 2)) "$n" --expect 24 --send "$here/recipes/right.txt" --save "right$seed.txt" --seconds 40 || return 1
+        begin "right$seed" $((n + 2)) "$n" --mode 2 --expect 24 --send "$here/recipes/right.txt" --save "right$seed.txt" --seconds 25 || return 1
         pids="$pids $started"
     done
     for process in $pids; do await "$process" || return 1; done
@@ -278,6 +279,7 @@ try 'a wrong address is refused' addresses
 try 'an option beside a settings file is refused' settings
 try "run.sh's ports" ports
 try 'a signal ends a station with its summary' interrupted
+try 'hellos, also late ones' ./hello_check
 try 'a station that hears is killed and restarts: nothing is lost' hearer_restarts
 try 'a station that sends is killed and restarts: nothing is lost' sender_restarts
 try 'both are killed and restart: nothing is lost' both_restart
