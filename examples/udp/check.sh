@@ -1,6 +1,6 @@
 #!/bin/sh
-# check.sh [ARCHIVE]: tries the stations of this folder: their options, how they end, what they say, and restarts. Ends by itself within
-# a minute. The last line is 'examples: N passed, M failed'. AMPFERWEG_PORT is the first of ten UDP ports (default 46300).
+# check.sh [ARCHIVE]: tries the stations of this folder: their options, how they end, what they say, and restarts. Ends by itself, within
+# a minute where all is well. The last line is 'examples: N passed, M failed'. AMPFERWEG_PORT is the first of ten UDP ports (default 46300).
 set -u
 root=$(cd "$(dirname "$0")/../.." && pwd)
 archive=${1:-$root/target/staticlib/libampferweg.a}
@@ -181,10 +181,10 @@ middle() {
 hears() { # SAVED-FILE OPTIONS..
     saved=$1
     shift
-    begin hearer 1 0 --mtu 100 --interval 40 --hello 50 --seconds 40 --save "$saved" "$@"
+    begin hearer 1 0 --mtu 100 --interval 40 --hello 50 --seconds 20 --save "$saved" "$@"
 }
 
-sends() { begin sender 2 0 --mtu 100 --interval 40 --hello 50 --seconds 40 --send many.txt --expect 0; }
+sends() { begin sender 2 0 --mtu 100 --interval 40 --hello 50 --seconds 20 --send many.txt --expect 0; }
 
 # Waits until a file has 100 lines, ten seconds at most.
 a_hundred() { # FILE
@@ -255,7 +255,11 @@ no_hello() {
     await "$hearer" && cmp five.txt heard.txt && grep -q '5 messages sent and acknowledged' sender.out
 }
 
+# With hellos, and without them while something is pending; an idle station has nothing to miss.
 silence() {
+    seq 5 >five.txt
+    begin idle 2 3 --silence 500 --seconds 2 && idle=$started && begin waits 3 4 --silence 500 --seconds 2 --send five.txt || return 1
+    waits=$started
     begin hearer 0 1 --hello 50 --silence 500 --seconds 8 || return 1
     hearer=$started
     begin sender 1 0 --hello 50 --seconds 8 || return 1
@@ -268,7 +272,10 @@ silence() {
     sleep 0.5
     kill -INT "$hearer"
     await "$hearer"
-    grep -q 'hears the peer again' hearer.out
+    grep -q 'hears the peer again' hearer.out || return 1
+    await "$idle"
+    await "$waits"
+    grep -q 'heard nothing for 500 ms' waits.out && ! grep 'heard nothing' idle.out
 }
 
 try 'a file without a final newline is sent whole' no_final_newline

@@ -15,7 +15,8 @@
 
 enum { MTU_MOST = 256, FILE_MOST = 1 << 18, HEADER = 24, PUSH = 81, TELL = 84, NUMBERS = 17 };
 
-/* At its end a station stays until the peer has sent no data for QUIET_MS, LINGER_MS at most, and says every TELL_MS what it has. */
+/* At its end a station stays until the peer has sent no data for QUIET_MS and four intervals, LINGER_MS at most, and says every
+ * TELL_MS what it has. */
 enum { QUIET_MS = 2000, LINGER_MS = 20000, TELL_MS = 100 };
 
 AMPFERWEG_STATION_STORAGE(station, MTU_MOST);
@@ -324,10 +325,10 @@ static void run(uint32_t start)
 /* Stays for the peer's sake, which may not know yet that all of its data has arrived. */
 static void linger(uint32_t start)
 {
-    const uint32_t done = clock_now();
+    const uint32_t done = clock_now(), quiet = QUIET_MS + 4 * interval;
     uint32_t now = done, told_at = done - TELL_MS;
     data_at = done;
-    while (!ended && now - start < 1000 * seconds && now - done < LINGER_MS && now - data_at < QUIET_MS) {
+    while (!ended && now - start < 1000 * seconds && now - done < LINGER_MS && now - data_at < quiet) {
         step(now);
         if (now - told_at >= TELL_MS) {
             tell_again();
