@@ -4,6 +4,7 @@
 #   make install            headers, archives and pkg-config file below PREFIX (default /usr/local; DESTDIR is put before it)
 #   make test               the C checks (tests/host)
 #   make demo               two stations on loopback over a bad network (examples/udp)
+#   make test-examples      the stations' options, endings and restarts, by scripts (examples/udp)
 #   make bench              the workloads beside kcp-go's core, and docs/PERFORMANCE.md (bench)
 #   make interop            a station against kcp-go (tests/interop; installs Debian packages)
 #
@@ -42,10 +43,13 @@ test: $(ARCHIVE) $(TAGS)
 demo: $(ARCHIVE)
 	examples/udp/run.sh $(ARCHIVE)
 
+test-examples: $(ARCHIVE)
+	examples/udp/check.sh $(ARCHIVE)
+
 bench: $(ARCHIVE)
 	bench/run.py $(ARCHIVE)
 
 interop: $(ARCHIVE)
 	tests/interop/run.sh $(ARCHIVE)
 
-.PHONY: all install uninstall test demo bench interop
+.PHONY: all install uninstall test demo test-examples bench interop

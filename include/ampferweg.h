@@ -289,7 +289,9 @@ ampferweg_result ampferweg_show(const ampferweg_link *link, const uint8_t *send_
  *
  * A link's settings in 15 bytes, for a controller that is swapped: the letters KLS, the version 1 in 2 bytes, then
  * conversation 4 bytes, mtu 2, mode 1, interval 2, threshold 1, all little-endian. What is written and read back is the same,
- * and each file that is read is the very one that writing its settings gives. Opening and keeping the file is the caller's. */
+ * and each file that is read is the very one that writing its settings gives. Opening and keeping the file is the caller's.
+ * The file has settings, not the state of a link: a board that opens with it has the conversation of the board before it, and its
+ * messages are lost unless the peer opens anew as well (docs/C.md, 'When a station restarts or is swapped'). */
 
 #define AMPFERWEG_SETTINGS_FILE_SIZE 15
 
@@ -406,10 +408,13 @@ static inline const uint8_t *ampferweg_station_show(const ampferweg_station *sta
 }
 
 /* Whether a segment was transmitted 20 times without an acknowledgement. Calls go on; whether to open anew is the
- * caller's to decide. */
+ * caller's to decide. It comes late, after minutes in modes 0 and 1 (docs/C.md, 'When dead comes'). */
 static inline int ampferweg_station_dead(const ampferweg_station *station) { return station->link.clock.dead != 0; }
 
-/* Segments accepted for sending and not yet acknowledged; 0 once the peer has all of them. */
+/* Segments accepted for sending and not yet acknowledged; 0 once the peer has acknowledged all of them. That means that it has them
+ * where both links were opened anew together, or with a conversation that neither had before. A peer that went on through our
+ * restart has had these numbers already: it drops the segments as repeats, and acknowledges them (docs/C.md, 'When a station
+ * restarts or is swapped'). */
 static inline size_t ampferweg_station_pending(const ampferweg_station *station)
 {
     return (size_t)(station->link.flight.queued + station->link.flight.outstanding);

@@ -44,3 +44,11 @@ void read_options(int argc, char **argv, const char *usage, const struct option 
         set(argv[0], &options[i], argv[at + 1]);
     }
 }
+
+int option_given(int argc, char **argv, const char *name)
+{
+    int at;
+    for (at = 1; at < argc; at += 2)
+        if (strncmp(argv[at], "--", 2) == 0 && strcmp(argv[at] + 2, name) == 0) return 1;
+    return 0;
+}

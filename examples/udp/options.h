@@ -18,4 +18,7 @@ struct option {
  * error and ends it with 2. */
 void read_options(int argc, char **argv, const char *usage, const struct option *options, size_t count);
 
+/* Whether an option is among the arguments, once they are read. */
+int option_given(int argc, char **argv, const char *name);
+
 #endif

@@ -9,9 +9,17 @@ here=$root/examples/udp
 work=$root/target/demo
 port=${AMPFERWEG_PORT:-46100}
 seed=${AMPFERWEG_SEED:-1}
-case $port in '' | *[!0-9]*) echo "run.sh: AMPFERWEG_PORT is a port number, not '$port'" >&2; exit 2 ;; esac
+case $port in
+    '' | 0* | *[!0-9]* | ??????*) port=0 ;;
+esac
+if [ "$port" -lt 1 ] || [ "$port" -gt 65533 ]; then
+    echo "run.sh: AMPFERWEG_PORT is the first of three ports, 1 to 65533, not '$AMPFERWEG_PORT'" >&2
+    exit 2
+fi
+other=$((port < 65400 ? port + 100 : 46100)) # advised where one of the ports is taken
 [ -f "$archive" ] || { echo "run.sh: $archive is missing: run 'make' first" >&2; exit 2; }
 mkdir -p "$work"
+rm -f "$work"/*.txt
 
 flags="-std=c99 -O2 -Wall -Wextra -Wpedantic -Werror -I $root/include"
 # shellcheck disable=SC2086
@@ -35,10 +43,10 @@ station() { # NAME OWN-PORT RECIPES HEARS
 # Waits until a program says that it listens; it says why on standard error where it cannot.
 listens() { # NAME
     for _ in 1 2 3 4 5 6 7 8 9 10 11 12 13 14 15 16 17 18 19 20; do
-        grep -q 'listens on port' "$work/$1.txt" && return 0
+        grep -qs 'listens on port' "$work/$1.txt" && return 0
         sleep 0.1
     done
-    echo "demo: FAILED: $1 does not run. AMPFERWEG_PORT=$((port + 100)) $0 tries other ports." >&2
+    echo "demo: FAILED: $1 does not run. AMPFERWEG_PORT=$other $0 tries other ports." >&2
     exit 1
 }
 

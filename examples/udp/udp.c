@@ -25,15 +25,23 @@ int udp_open(const char *program, uint32_t port)
     exit(2);
 }
 
+/* A port in decimal digits and nothing else, or 0. */
+static long port_of(const char *text)
+{
+    const size_t digits = strspn(text, "0123456789");
+    const long port = digits > 5 || text[digits] != '\0' ? 0 : strtol(text, NULL, 10);
+    return port < 65536 ? port : 0;
+}
+
 struct sockaddr_in udp_address(const char *program, const char *text)
 {
     struct sockaddr_in address;
     char host[INET_ADDRSTRLEN];
     const char *colon = strrchr(text, ':');
-    const long port = colon == NULL ? 0 : strtol(colon + 1, NULL, 10);
+    const long port = colon == NULL ? 0 : port_of(colon + 1);
     memset(&address, 0, sizeof address);
     address.sin_family = AF_INET;
-    if (colon != NULL && colon - text < (long)sizeof host && port > 0 && port < 65536) {
+    if (colon != NULL && colon - text < (long)sizeof host && port > 0) {
         memcpy(host, text, (size_t)(colon - text));
         host[colon - text] = '\0';
         address.sin_port = htons((uint16_t)port);
