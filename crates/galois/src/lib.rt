@@ -1,6 +1,6 @@
 // The field of 256 elements with the polynomial 0x11D: bytes, added by exclusive or, multiplied by a power table and a logarithm table.
 ghost use mathlib.Core.Path.{_≡_};
-ghost use Rattle.galois.specs.Field.{plus, mul, power, inverse, LogOf};
+ghost use Rattle.galois.specs.Field.{plus, double, mul, power, inverse, LogOf};
 
 // Entry n is 2 to the power n.
 const POWERS: [u8; 255] = [
@@ -539,6 +539,13 @@ pub fn add(a: u8, b: u8) -> u8
     ensures { λ r. ⌜ r ≡ plus a b ⌝ }
 {
     a ^ b
+}
+
+// 2 times a.
+pub fn double(a: u8) -> u8
+    ensures { λ r. ⌜ r ≡ double a ⌝ }
+{
+    if a < 128 { a * 2 } else { add((a - 128) * 2, 29) }
 }
 
 // 2 to the power n.
