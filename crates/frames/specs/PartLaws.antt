@@ -7,14 +7,14 @@ use Prim.Native.Nat.{ℕ, zero, suc, _+_, _-_, _≤_, _<_, max}
 use native.Mathlib.Nat.{not-suc-le-zero, zero-add}
 use native.Mathlib.Numerals.{add-one}
 use native.Mathlib.Omega.{arith}
-use borrow.Author.Tests.{leb-true, leb-false, le-leb, lt-leb}
-use lib.Dec.{leb}
-use lib.ListN.{length, getD, take, drop, set, length-append, length-take, length-drop, drop-of-length-le}
-use lib.Seq.{sets, drop-cons, drop-drop}
+use borrow.Author.Tests.{leb-true, leb-false, ltb-true, ltb-false, le-leb, lt-leb}
+use lib.Dec.{ltb, leb}
+use lib.ListN.{length, getD, take, drop, set, length-append, length-take, length-drop, drop-of-length-le, List·getD-eq-default}
+use lib.Seq.{sets, drop-cons, drop-drop, getD-take, getD-drop}
+use Rattle.wire.specs.LittleEndian.{AllBytes}
 use Rattle.wire.specs.Stores.{sets-append}
 use Rattle.frames.specs.Lists.{listed, joined, lengthsOf, parts, addUp, largest}
 use Rattle.frames.specs.Outcomes.{lengthOk, lengthsOk}
-use Rattle.frames.specs.Reading.{rest}
 use Rattle.frames.specs.PlaceLaws.{length-listed, listed-next}
 
 -- ---- packed lengths
@@ -171,3 +171,25 @@ lengths-parts s (n ∷ ns) h =
 
 pub length-joined-next : (f : ℕ → List ℕ) (n : ℕ) → length (joined (listed f (n + 1))) ≡ length (joined (listed f n)) + length (f n)
 length-joined-next f n = ap length (joined-next f n) ∙ length-append (joined (listed f n)) (f n)
+
+-- ---- bytes
+
+take-bytes : (n : ℕ) (s : List ℕ) → AllBytes s → AllBytes (take n s)
+take-bytes n s h i = go (ltb i n) refl
+  where
+    go : (b : Bool) → ltb i n ≡ b → getD (take n s) i 0 < 256
+    go true e = rw (getD-take n s i 0 (ltb-true i n e)) (h i)
+    go false e =
+        let l : n ≤ i = ltb-false i n e in
+        let m : length (take n s) ≤ i = simp length-take (omega arith) in
+        rw (List·getD-eq-default (take n s) 0 m) (omega arith)
+
+drop-bytes : (n : ℕ) (s : List ℕ) → AllBytes s → AllBytes (drop n s)
+drop-bytes n s h i = rw (getD-drop n s i 0) (h (n + i))
+
+-- packed bytes are bytes part by part
+pub parts-bytes : (s ns : List ℕ) → AllBytes s → (p x : ℕ) → getD (getD (parts s ns) p []) x 0 < 256
+unfolding parts
+parts-bytes s [] h p x = omega arith
+parts-bytes s (n ∷ ns) h zero x = take-bytes n s h x
+parts-bytes s (n ∷ ns) h (suc p) x = parts-bytes (drop n s) ns (drop-bytes n s h) p x

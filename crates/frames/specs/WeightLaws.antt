@@ -4,12 +4,15 @@ use mathlib.Core.Path.{_≡_, refl, sym, ap, ap₂, _∙_}
 use Prim.Native.Nat.{ℕ, zero, suc, _+_, _-_, _≤_, _<_}
 use native.Mathlib.Nat.{add-zero, zero-add, add-suc}
 use native.Mathlib.Omega.{arith}
+use mathlib.Core.List.{List}
+use lib.ListN.{length, getD}
+use lib.Seq.{ext-getD}
 use Rattle.galois.specs.Field.{plus, double, mul, doubled, power}
 use Rattle.galois.specs.FieldLaws.{plus-comm, plus-assoc, plus-lt, zero-plus, double-plus, double-small, mul-lt, one-mul, double-mul, power-lt}
-use Rattle.rows.specs.Rows.{stepped}
-use Rattle.frames.specs.Lists.{total}
+use Rattle.rows.specs.Rows.{Row, stepped}
+use Rattle.frames.specs.Lists.{listed, total}
 use Rattle.frames.specs.Frames.{weight}
-use Rattle.frames.specs.PlaceLaws.{total-same}
+use Rattle.frames.specs.PlaceLaws.{length-listed, getD-listed, total-same}
 
 -- what the places from p to k - 1 give, p weighed as place 0
 unfoldable pub tail : ℕ → (ℕ → ℕ) → ℕ → ℕ → ℕ
@@ -86,3 +89,14 @@ module _ (w : ℕ) (f : ℕ → ℕ) where
     where
       shift : (q : ℕ) → p + suc q ≡ p + 1 + q
       shift q = omega arith
+
+-- ---- rows
+
+-- a row is the list of its bytes
+pub row-listed : (f : ℕ → ℕ) (n : ℕ) (row : List ℕ) → Row f n row → row ≡ listed f n
+row-listed f n row r =
+    ext-getD 0 row (listed f n) (r .size ∙ sym (length-listed f n))
+    (λ x l. r .byte x (rw (r .size) at l) ∙ sym (getD-listed f n x 0 (rw (r .size) at l)))
+
+pub row-same : (f g : ℕ → ℕ) (n : ℕ) (row : List ℕ) → ((x : ℕ) → x < n → f x ≡ g x) → Row f n row → Row g n row
+row-same f g n row h r = record { size = r .size; byte = λ x l. r .byte x l ∙ h x l }
