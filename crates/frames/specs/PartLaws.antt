@@ -187,6 +187,9 @@ take-bytes n s h i = go (ltb i n) refl
 drop-bytes : (n : ℕ) (s : List ℕ) → AllBytes s → AllBytes (drop n s)
 drop-bytes n s h i = rw (getD-drop n s i 0) (h (n + i))
 
+pub part-bytes : (s : List ℕ) (at n : ℕ) → AllBytes s → AllBytes (take n (drop at s))
+part-bytes s at n h = take-bytes n (drop at s) (drop-bytes at s h)
+
 -- packed bytes are bytes part by part
 pub parts-bytes : (s ns : List ℕ) → AllBytes s → (p x : ℕ) → getD (getD (parts s ns) p []) x 0 < 256
 unfolding parts

@@ -18,7 +18,7 @@ use Rattle.frames.specs.Frames.{shard, parityShard, typeAt, shardAt, frameAt, g
 use Rattle.frames.specs.Outcomes.{refused, wrote, settingsOk, lentOk, lengthOk, lengthsOk, writeOf}
 use Rattle.frames.specs.Reading.{sequenceOf, groupOf, placeOf, frameOk, firstGroup, heldShard, has, byteAt, lenAt, datagramAt, found, holds, readGroup, readFrames}
 use Rattle.frames.specs.PlaceLaws.{listed-same, listed-getD, listed-bytes, count-none}
-use Rattle.frames.specs.PartLaws.{length-parts, part-at, add-up-next, add-up-le, length-part, largest-le, largest-ge}
+use Rattle.frames.specs.PartLaws.{parts-bytes, length-parts, part-at, add-up-next, add-up-le, length-part, largest-le, largest-ge}
 use Rattle.frames.specs.FrameLaws.{length-shard, shardAt-data, seq-of, len-shard, behind, shard-bytes, length-parityShard, length-frameAt, drop-frameAt, type-at, len-at}
 use Rattle.frames.specs.OutcomeLaws.{and-left, and-right, same-self, lengths-at}
 use Rattle.recovery.specs.Recovery.{Held, recovered}
@@ -221,18 +221,6 @@ lengths-get mtu (n ∷ ns) e p h = go (lengthOk mtu n) refl e p h (λ f q l. len
     go true q f zero h ih = (leb-true 24 n (and-left (leb 24 n) (leb n mtu) q), leb-true n mtu (and-right (leb 24 n) (leb n mtu) q))
     go true q f (suc p) h ih = ih f p (omega arith)
 
-part-bytes : (s : List ℕ) (at n : ℕ) → AllBytes s → (i : ℕ) → getD (take n (drop at s)) i 0 < 256
-part-bytes s at n by i = go (ltb i n) refl
-  where
-    go : (b : Bool) → ltb i n ≡ b → getD (take n (drop at s)) i 0 < 256
-    go true e = rw (getD-take n (drop at s) i 0 (ltb-true i n e), getD-drop at s i 0) (by (at + i))
-    go false e =
-        let l : n ≤ i = ltb-false i n e in
-        rw (List·getD-eq-default (take n (drop at s)) 0 (past l)) (omega arith)
-      where
-        past : n ≤ i → length (take n (drop at s)) ≤ i
-        past l = simp length-take (omega arith)
-
 module _ (n k mtu : ℕ) (s ns : List ℕ) (room slots : ℕ) (by : AllBytes s) (a : Accepted n k mtu s ns room slots) where
   count-is : length (parts s ns) ≡ k
   count-is = length-parts s ns ∙ eqb-true (length ns) k (and-left (eqb (length ns) k) (lengthsOk mtu ns) (a .right))
@@ -244,18 +232,6 @@ module _ (n k mtu : ℕ) (s ns : List ℕ) (room slots : ℕ) (by : AllBytes s) 
   size-is p h =
       ap length (part-at s ns p h)
       ∙ length-part s (addUp (take p ns)) (getD ns p 0) (omega (arith, add-up-next ns p h, add-up-le ns (p + 1), whole))
-
-  bytes-at : (p x : ℕ) → getD (getD (parts s ns) p []) x 0 < 256
-  bytes-at p x = go (ltb p (length ns)) refl
-    where
-      go : (b : Bool) → ltb p (length ns) ≡ b → getD (getD (parts s ns) p []) x 0 < 256
-      go true e =
-          let h : p < length ns = ltb-true p (length ns) e in
-          rw (part-at s ns p h) (part-bytes s (addUp (take p ns)) (getD ns p 0) by x)
-      go false e =
-          let l : length ns ≤ p = ltb-false p (length ns) e in
-          let m : length (parts s ns) ≤ p = rw (length-parts s ns) l in
-          rw (List·getD-eq-default (parts s ns) [] m) (omega arith)
 
   written : Writable n mtu (parts s ns)
   written =
@@ -270,7 +246,7 @@ module _ (n k mtu : ℕ) (s ns : List ℕ) (room slots : ℕ) (by : AllBytes s) 
         small = leb-true mtu 1400 (and-right (leb 1 k && leb k 10 && leb 50 mtu) (leb mtu 1400) (a .settings));
         least = λ p h. rw (size-is p (inside p h)) (lengths-get mtu ns r p (inside p h) .0);
         most = λ p h. rw (size-is p (inside p h)) (lengths-get mtu ns r p (inside p h) .1);
-        bytes = bytes-at;
+        bytes = parts-bytes s ns by;
         low = subst (λ (q : ℕ). n * (q + 2) < 4294967284) (sym e) (leb-false 4294967284 (n * (k + 2)) (a .early));
       }
     where
