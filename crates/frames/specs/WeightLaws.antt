@@ -7,9 +7,10 @@ use native.Mathlib.Omega.{arith}
 use mathlib.Core.List.{List}
 use lib.ListN.{length, getD}
 use lib.Seq.{ext-getD}
+use borrow.Author.Tests.{le-ltb}
 use Rattle.galois.specs.Field.{plus, double, mul, doubled, power}
 use Rattle.galois.specs.FieldLaws.{plus-comm, plus-assoc, plus-lt, zero-plus, double-plus, double-small, mul-lt, one-mul, double-mul, power-lt}
-use Rattle.rows.specs.Rows.{Row, stepped}
+use Rattle.rows.specs.Rows.{Row, behind, stepped}
 use Rattle.frames.specs.Lists.{listed, total}
 use Rattle.frames.specs.Frames.{weight}
 use Rattle.frames.specs.PlaceLaws.{length-listed, getD-listed, total-same}
@@ -100,3 +101,37 @@ row-listed f n row r =
 
 pub row-same : (f g : ℕ → ℕ) (n : ℕ) (row : List ℕ) → ((x : ℕ) → x < n → f x ≡ g x) → Row f n row → Row g n row
 row-same f g n row h r = record { size = r .size; byte = λ x l. r .byte x l ∙ h x l }
+
+-- a list added from its first byte on
+pub added-from-0 : (was l row : List ℕ) → Row (λ x. plus (getD was x 0) (behind 0 l x)) (length was) row → Row (λ x. plus (getD was x 0) (getD l x 0)) (length was) row
+unfolding behind
+added-from-0 was l row r =
+    record { size = r .size; byte = λ x m. r .byte x m ∙ (let e : x - 0 ≡ x = omega arith in rw (le-ltb x 0 (omega arith), e)) }
+
+-- a row that goes from the last place to the first: byte x of what stands at place q is f x q
+module _ (w : ℕ) (f : ℕ → ℕ → ℕ) (small : (x q : ℕ) → f x q < 256) (k : ℕ) where
+  pub steps-none : (m n : ℕ) (row : List ℕ) → m ≡ n → Row (λ x. 0) m row → Row (λ x. tail w (f x) k k) n row
+  steps-none m n row e r = record { size = r .size ∙ e; byte = λ x l. r .byte x (rw e l) ∙ sym (tail-none w (f x) k) }
+
+  pub steps-next :
+      (p q n : ℕ) (row row₁ row₂ : List ℕ) →
+      p ≡ q + 1 →
+      q < k →
+      Row (λ x. tail w (f x) p k) n row →
+      Row (λ x. stepped w (getD row x 0)) (length row) row₁ →
+      Row (λ x. plus (getD row₁ x 0) (f x q)) (length row₁) row₂ →
+      Row (λ x. tail w (f x) q k) n row₂
+  steps-next p q n row row₁ row₂ ep l r r₁ r₂ =
+      record {
+        size = r₂ .size ∙ r₁ .size ∙ r .size;
+        byte = λ x m.
+            r₂ .byte x (omega (arith, r₁ .size, r .size))
+            ∙ ap (λ (y : ℕ). plus y (f x q))
+            (r₁ .byte x (omega (arith, r .size)) ∙ ap (stepped w) (r .byte x m ∙ ap (λ (i : ℕ). tail w (f x) i k) ep))
+            ∙ sym (tail-next w (f x) (small x) q k l);
+      }
+
+  pub steps-done : (p m n : ℕ) (row : List ℕ) → p ≤ 0 → m ≡ n → Row (λ x. tail w (f x) p k) m row → Row (λ x. total (λ q. mul (weight w q) (f x q)) k) n row
+  steps-done p m n row l e r =
+      let z : p ≡ 0 = omega arith in
+      record { size = r .size ∙ e; byte = λ x i. r .byte x (rw e i) ∙ ap (λ (q : ℕ). tail w (f x) q k) z ∙ tail-all w (f x) k }

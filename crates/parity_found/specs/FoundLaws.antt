@@ -11,7 +11,7 @@ use native.Mathlib.Omega.{arith}
 use borrow.Author.Tests.{leb-true, leb-false, eqb-true, eqb-false, ltb-true, ltb-false, lt-ltb, le-ltb, le-leb, lt-leb, eq-eqb, ne-eqb}
 use lib.Dec.{eqb, ltb, leb}
 use lib.ListN.{length, getD, take, drop, set, length-append, length-take, length-drop, length-set, drop-of-length-le, List·getD-append, List·getD-eq-default}
-use lib.Seq.{sets, length-sets, drop-cons, take-suc, take-all, getD-take, getD-drop, drop-drop, ext-getD, getD-append-seam, getD-set-same, getD-set-other}
+use lib.Seq.{take-all, sets, length-sets, drop-cons, take-suc, take-all, getD-take, getD-drop, drop-drop, ext-getD, getD-append-seam, getD-set-same, getD-set-other}
 use Rattle.wire.specs.LittleEndian.{bytesOf, numberAt, AllBytes}
 use Rattle.wire.specs.LittleEndianLaws.{length-bytesOf}
 use Rattle.wire.specs.Stores.{sets-append}
@@ -27,12 +27,13 @@ use Rattle.frames.specs.Frames.{shard, longest, weight, parityByte, parityShard
 use Rattle.frames.specs.Outcomes.{Outcome, refused, wrote, answerOf, bytesAfter, lengthsAfter, Gives, settingsOk, lentOk, lengthOk, lengthsOk, groupsEnd, writeOf}
 use Rattle.frames.specs.Reading.{sequenceOf, groupOf, placeOf, frameOk, firstGroup, heldShard, has, rest, solved, byteAt, lenAt, datagramAt, found, same, holds, readGroup, readFrames, readOf}
 use Rattle.frames.specs.PlaceLaws.{length-listed, getD-listed, listed-same, listed-next, listed-getD, listed-bytes, total-same, total-plus, total-none, total-one, total-two, total-next, count-none, count-three, other-none, other-some, Lost}
-use Rattle.frames.specs.PartLaws.{packed-step, packed-short, packed-end, lengths-step, lengths-bad, lengths-end, largest-step, largest-end, length-parts, part-at, add-up-next, add-up-le, length-part, joined-append, joined-next, length-lengths, lengths-next, stored, noted, lengths-parts, getD-largest, length-joined-next, largest-le, largest-ge, size-le}
+use Rattle.frames.specs.PartLaws.{length-part, packed-step, packed-short, packed-end, lengths-step, lengths-bad, lengths-end, largest-step, largest-end, length-parts, part-at, add-up-next, add-up-le, length-part, joined-append, joined-next, length-lengths, lengths-next, stored, noted, lengths-parts, getD-largest, length-joined-next, largest-le, largest-ge, size-le}
 use Rattle.frames.specs.FrameLaws.{length-shard, parity-at, shardAt-data, shardAt-parity, seq-of, type-of, len-of, shard-of, length-frame, len-shard, two-bytes, behind, shard-bytes, shard-low, shard-high, shard-byte, type-lt, length-parityShard, length-frameAt, drop-frameAt, type-at, len-at}
 use Rattle.frames.specs.OutcomeLaws.{and-left, and-right}
 use Rattle.parity_scan.specs.Held.{shardIn}
 use Rattle.parity_found.specs.declared.Group.{Group}
-use Rattle.parity_found.specs.Ready.{byteIn, lenIn, datagramIn, foundIn, Whole}
+use Rattle.parity_found.specs.ReadyLaws.{whole-sized, len-sized}
+use Rattle.parity_found.specs.Ready.{Ready, byteIn, lenIn, datagramIn, foundIn, Whole}
 
 -- ---- lengths
 
@@ -193,3 +194,24 @@ module _ (g : Group) (s : List ℕ) (p : ℕ) (l : List ℕ) (w : Whole g s p l)
       (λ x i.
       getD-take n l x 0 (omega (arith, z)) ∙ w .byte x (omega (arith, z))
       ∙ shard-in (g .k) (shardIn s (g .held)) p n x (lenOf-of n e) (omega arith) (omega (arith, z)))
+
+-- the shard that is held for a place, found again where it lies
+pub itself :
+    (g : Group) (s a b : List ℕ) →
+    Ready g s a b →
+    (p at n : ℕ) →
+    p < g .k →
+    0 < n →
+    at ≡ getD (g .held .at) p 0 →
+    n ≡ getD (g .held .size) p 0 →
+    lengthsOk (g .mtu) (lengthsOf (foundIn g s)) ≡ true →
+    take n (drop at s) ≡ shard (datagramIn g s p)
+itself g s a b r p at n l pos ea en ok =
+    let w = whole-sized g s a b r p n l pos en in
+    let e = len-sized g s a b r p n l pos en in
+    let i = r .inside .inside p in
+    let z : length (take n (drop (getD (g .held .at) p 0) s)) ≡ n = length-part s (getD (g .held .at) p 0) n (omega (arith, i)) in
+    ap (λ (q : ℕ). take n (drop q s)) ea
+    ∙ sym (take-all n (take n (drop (getD (g .held .at) p 0) s)) (omega (arith, z)))
+    ∙ whole-trimmed g s p (take n (drop (getD (g .held .at) p 0) s)) w n e (omega (arith, e, lens-least (g .k) (shardIn s (g .held)) (g .mtu) p l ok))
+    (omega (arith, found-most (g .k) (shardIn s (g .held)) (g .mtu) p n e l ok))

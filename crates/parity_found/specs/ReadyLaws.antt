@@ -135,3 +135,22 @@ module _ (g : Group) (s a b : List ℕ) (r : Ready g s a b) where
         byte = λ x m. ap (λ (q : ℕ). getD (take q (drop (getD (g .held .at) p 0) s)) x 0) en ∙ sym (byte-held p x t);
         fits = λ m. omega (arith, z, len-held p l t);
       }
+
+  -- ---- a place of which something is held
+
+  sized-by : (p n : ℕ) → 0 < n → n ≡ getD (g .held .size) p 0 → sized (g .held) p ≡ true
+  unfolding sized
+  sized-by p n pos e = lt-ltb 0 (getD (g .held .size) p 0) (omega arith)
+
+  not-lost : (p i : ℕ) → sized (g .held) p ≡ true → (i ≡ 12 → ⊥) → ((i ≡ 12 → ⊥) → sized (g .held) i ≡ false) → p ≡ i → ⊥
+  not-lost p i t d f e = let z : _≡_ {A = ℕ} 0 1 = cc (f d) in omega arith
+
+  pub whole-sized : (p n : ℕ) → p < g .k → 0 < n → n ≡ getD (g .held .size) p 0 → Whole g s p (take n (drop (getD (g .held .at) p 0) s))
+  whole-sized p n l pos en =
+      let t = sized-by p n pos en in
+      whole-held p n l
+      (λ e. not-lost p (g .first) t (lost-12 p (g .first) l e) (λ d. first-lost d .none) e)
+      (λ e. not-lost p (g .second) t (lost-12 p (g .second) l e) (λ d. second-lost d .none) e) en
+
+  pub len-sized : (p n : ℕ) → p < g .k → 0 < n → n ≡ getD (g .held .size) p 0 → n ≡ lenIn g s p
+  len-sized p n l pos en = en ∙ sym (len-held p l (sized-by p n pos en))

@@ -19,7 +19,7 @@ use Rattle.frames.specs.Frames.{weight}
 use Rattle.frames.specs.Reading.{has, rest, solved}
 use Rattle.frames.specs.PartLaws.{part-bytes}
 use Rattle.frames.specs.PlaceLaws.{other-some}
-use Rattle.frames.specs.WeightLaws.{tail, tail-none, tail-next, tail-all}
+use Rattle.frames.specs.WeightLaws.{tail, added-from-0, steps-none, steps-next, steps-done}
 use Rattle.parity_scan.specs.declared.Held.{Held}
 use Rattle.parity_scan.specs.Held.{shardIn, sized, Inside}
 use Rattle.parity_scan.specs.HeldLaws.{has-sized, sized-true, sized-false}
@@ -37,19 +37,13 @@ row-sized f m n row e r = record { size = r .size ∙ e; byte = λ x l. r .byte 
 pub row-only : (k : ℕ) (shards : ℕ → List ℕ) (i j n : ℕ) (row : List ℕ) → j ≡ 12 → Row (solved k shards i 12) n row → Row (solved k shards i j) n row
 row-only k shards i j n row e r = record { size = r .size; byte = λ x l. r .byte x l ∙ ap (λ (q : ℕ). solved k shards i q x) (sym e) }
 
--- a list added from its first byte on
-pub added-from-0 : (was l row : List ℕ) → Row (λ x. plus (getD was x 0) (behind 0 l x)) (length was) row → Row (λ x. plus (getD was x 0) (getD l x 0)) (length was) row
-unfolding behind
-added-from-0 was l row r =
-    record { size = r .size; byte = λ x m. r .byte x m ∙ (let e : x - 0 ≡ x = omega arith in rw (le-ltb x 0 (omega arith), e)) }
-
 module _ (w : ℕ) (s : List ℕ) (h : Held) (bytes : AllBytes s) where
   small : (x q : ℕ) → heldByte s h x q < 256
   unfolding shardIn
   small x q = part-bytes s (getD (h .at) q 0) (getD (h .size) q 0) bytes x
 
   pub rest-none : (k n : ℕ) (row : List ℕ) → Row (λ x. 0) n row → Row (λ x. tail w (heldByte s h x) k k) (length row) row
-  rest-none k n row r = record { size = refl; byte = λ x l. r .byte x (rw (r .size) at l) ∙ sym (tail-none w (heldByte s h x) k) }
+  rest-none k n row r = steps-none w (heldByte s h) small k n (length row) row (sym (r .size)) r
 
   pub rest-next :
       (k p q n : ℕ) (row row₁ row₂ : List ℕ) →
@@ -59,15 +53,7 @@ module _ (w : ℕ) (s : List ℕ) (h : Held) (bytes : AllBytes s) where
       Row (λ x. stepped w (getD row x 0)) (length row) row₁ →
       Row (λ x. plus (getD row₁ x 0) (heldByte s h x q)) (length row₁) row₂ →
       Row (λ x. tail w (heldByte s h x) q k) n row₂
-  rest-next k p q n row row₁ row₂ ep l r r₁ r₂ =
-      record {
-        size = r₂ .size ∙ r₁ .size ∙ r .size;
-        byte = λ x m.
-            r₂ .byte x (omega (arith, r₁ .size, r .size))
-            ∙ ap (λ (y : ℕ). plus y (heldByte s h x q))
-            (r₁ .byte x (omega (arith, r .size)) ∙ ap (stepped w) (r .byte x m ∙ ap (λ (i : ℕ). tail w (heldByte s h x) i k) ep))
-            ∙ sym (tail-next w (heldByte s h x) (small x) q k l);
-      }
+  rest-next = steps-next w (heldByte s h) small
 
   pub rest-done :
       (k p m n : ℕ) (row row₁ : List ℕ) →
@@ -78,13 +64,13 @@ module _ (w : ℕ) (s : List ℕ) (h : Held) (bytes : AllBytes s) where
       Row (rest w k (shardIn s h)) n row₁
   unfolding rest
   rest-done k p m n row row₁ l e r r₁ =
-      let z : p ≡ 0 = omega arith in
+      let d = steps-done w (heldByte s h) small k p m n row l e r in
       record {
-        size = r₁ .size ∙ r .size ∙ e;
+        size = r₁ .size ∙ d .size;
         byte = λ x i.
-            r₁ .byte x (omega (arith, r .size))
+            r₁ .byte x (omega (arith, d .size))
             ∙ plus-comm (getD row x 0) (heldByte s h x (k + w))
-            ∙ ap (plus (heldByte s h x (k + w))) (r .byte x (rw e i) ∙ ap (λ (i : ℕ). tail w (heldByte s h x) i k) z ∙ tail-all w (heldByte s h x) k);
+            ∙ ap (plus (heldByte s h x (k + w))) (d .byte x i);
       }
 
 -- ---- the other place that is lost

@@ -11,11 +11,11 @@ use Rattle.wire.specs.LittleEndian.{AllBytes}
 use Rattle.galois.specs.Field.{plus, mul}
 use Rattle.galois.specs.FieldLaws.{plus-zero}
 use Rattle.rows.specs.Rows.{Row, behind, stepped}
-use Rattle.frames.specs.Lists.{listed, total, parts, addUp, largest}
+use Rattle.frames.specs.Lists.{total, parts, lengthsOf, addUp, largest}
 use Rattle.frames.specs.Frames.{shard, longest, weight, parityByte, parityShard}
 use Rattle.frames.specs.PartLaws.{add-up-next, length-parts, lengths-parts, part-at, parts-bytes}
 use Rattle.frames.specs.FrameLaws.{shard-low, shard-high, shard-byte, shard-bytes}
-use Rattle.frames.specs.WeightLaws.{tail, tail-none, tail-next, tail-all, row-listed, row-same}
+use Rattle.frames.specs.WeightLaws.{tail, row-listed, row-same, steps-none, steps-next, steps-done}
 
 -- ---- a data shard added: its len in the first two bytes, the datagram behind them
 
@@ -67,7 +67,7 @@ module _ (w : ℕ) (s ns : List ℕ) (bytes : AllBytes s) where
   small x q = shard-bytes (getD (parts s ns) q []) (parts-bytes s ns bytes q) x
 
   pub parity-none : (m n : ℕ) (row : List ℕ) → m ≡ n → Row (λ x. 0) m row → Row (λ x. tail w (shardByte s ns x) (length ns) (length ns)) n row
-  parity-none m n row e r = record { size = r .size ∙ e; byte = λ x l. r .byte x (rw e l) ∙ sym (tail-none w (shardByte s ns x) (length ns)) }
+  parity-none = steps-none w (shardByte s ns) small (length ns)
 
   pub parity-next :
       (p q from n size : ℕ) (row row₁ row₂ : List ℕ) →
@@ -80,25 +80,14 @@ module _ (w : ℕ) (s ns : List ℕ) (bytes : AllBytes s) where
       Row (λ x. plus (getD row₁ x 0) (getD (shard (take n (drop from s))) x 0)) (length row₁) row₂ →
       Row (λ x. tail w (shardByte s ns x) q (length ns)) size row₂
   parity-next p q from n size row row₁ row₂ ep l ef en r r₁ r₂ =
-      record {
-        size = r₂ .size ∙ r₁ .size ∙ r .size;
-        byte = λ x m.
-            r₂ .byte x (omega (arith, r₁ .size, r .size))
-            ∙ ap₂ plus
-            (r₁ .byte x (omega (arith, r .size)) ∙ ap (stepped w) (r .byte x m ∙ ap (λ (i : ℕ). tail w (shardByte s ns x) i (length ns)) ep))
-            (ap (λ (d : List ℕ). getD (shard d) x 0) (ap₂ (λ (i j : ℕ). take i (drop j s)) en ef ∙ sym (part-at s ns q l)))
-            ∙ sym (tail-next w (shardByte s ns x) (small x) q (length ns) l);
-      }
+      steps-next w (shardByte s ns) small (length ns) p q size row row₁ row₂ ep l r r₁
+      (row-same (λ x. plus (getD row₁ x 0) (getD (shard (take n (drop from s))) x 0)) (λ x. plus (getD row₁ x 0) (shardByte s ns x q)) (length row₁) row₂
+      (λ x m. ap (λ (d : List ℕ). plus (getD row₁ x 0) (getD (shard d) x 0)) (ap₂ (λ (i j : ℕ). take i (drop j s)) en ef ∙ sym (part-at s ns q l))) r₂)
 
   pub parity-done : (p : ℕ) (row : List ℕ) → addUp ns ≤ length s → p ≤ 0 → Row (λ x. tail w (shardByte s ns x) p (length ns)) (largest ns + 2) row →
       row ≡ parityShard w (parts s ns)
   unfolding parityShard parityByte longest
   parity-done p row h l r =
-      let z : p ≡ 0 = omega arith in
-      row-listed (λ x. tail w (shardByte s ns x) 0 (length ns)) (largest ns + 2) row
-      (row-same (λ x. tail w (shardByte s ns x) p (length ns)) (λ x. tail w (shardByte s ns x) 0 (length ns)) (largest ns + 2) row
-      (λ x m. ap (λ (i : ℕ). tail w (shardByte s ns x) i (length ns)) z) r)
-      ∙ ap₂ listed (λ i x. total-is x i) (ap (λ (m : List ℕ). largest m + 2) (sym (lengths-parts s ns h)))
-    where
-      total-is : (x : ℕ) → tail w (shardByte s ns x) 0 (length ns) ≡ total (λ q. mul (weight w q) (shardByte s ns x q)) (length (parts s ns))
-      total-is x = tail-all w (shardByte s ns x) (length ns) ∙ ap (total (λ q. mul (weight w q) (shardByte s ns x q))) (sym (length-parts s ns))
+      row-listed (λ x. total (λ q. mul (weight w q) (shardByte s ns x q)) (length (parts s ns))) (largest (lengthsOf (parts s ns)) + 2) row
+      (rw (length-parts s ns) (steps-done w (shardByte s ns) small (length ns) p (largest ns + 2) (largest (lengthsOf (parts s ns)) + 2) row l
+      (ap (λ (m : List ℕ). largest m + 2) (sym (lengths-parts s ns h))) r))

@@ -11,9 +11,9 @@ use Rattle.rows.specs.Rows.{Row}
 use Rattle.galois.specs.Field.{plus}
 use Rattle.frames.specs.Lists.{other}
 use Rattle.frames.specs.PartLaws.{length-part}
-use Rattle.frames.specs.WeightLaws.{tail}
+use Rattle.frames.specs.WeightLaws.{tail, added-from-0}
 use Rattle.parity_scan.specs.Held.{shardIn, sized}
-use Rattle.parity_restore.specs.RestoreLaws.{added-from-0, heldByte, rest-none, rest-next, rest-done, other-passed, other-found, solved-first, solved-second, both-first, both-second, rest-small, other-lt, other-apart}
+use Rattle.parity_restore.specs.RestoreLaws.{ heldByte, rest-none, rest-next, rest-done, other-passed, other-found, solved-first, solved-second, both-first, both-second, rest-small, other-lt, other-apart}
 use Rattle.parity_restore.proofs.add_held.Statement.{statement}
 use Rattle.parity_restore.proofs.add_held.Tie as tie
 
