@@ -20,6 +20,13 @@ pub struct Group {
     pub held: Held,
 }
 
+// Room for a shard of the largest mtu.
+pub fn blank() -> [u8; 1402]
+    ensures { λ r. ⌜ length r ≡ 1402 ⌝ }
+{
+    [0u8; 1402]
+}
+
 // The shard at place p; where it was restored, bytes may stand behind it.
 fn found_shard<'a>(g: Group, s: &'a [u8], a: &'a [u8], b: &'a [u8], p: usize) -> &'a [u8]
     requires { ⌜ Ready g (now s) (now a) (now b) × (p < g .k) ⌝ }

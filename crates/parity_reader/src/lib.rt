@@ -54,8 +54,8 @@ fn read_held(
     }
     let first = parity_restore::other_lost(h, 12, k);
     let second = parity_restore::other_lost(h, first, k);
-    let mut a = [0u8; 1402];
-    let mut b = [0u8; 1402];
+    let mut a = parity_found::blank();
+    let mut b = parity_found::blank();
     let size = mtu + 2;
     parity_restore::restore(k, s, h, first, second, &mut a[..size], &mut b[..size]);
     let g = Group {

@@ -4,12 +4,12 @@ use frames::Frames;
 use frames::lent;
 ghost use mathlib.Core.Path.{_≡_};
 ghost use mathlib.Core.Bool.{true};
-ghost use Prim.Native.Nat.{_+_, _*_, _≤_, _<_};
+ghost use Prim.Native.Nat.{_+_, _-_, _*_, _≤_, _<_};
 ghost use lib.ListN.{length, take, drop};
 ghost use Rattle.frames.specs.Lists.{addUp, parts, lengthsOf, largest, every};
 ghost use Rattle.frames.specs.Frames.{parityShard, shardAt};
 ghost use Rattle.frames.specs.Outcomes.{lengthsOk};
-ghost use Rattle.frames.specs.Reading.{frameOk, same, holds};
+ghost use Rattle.frames.specs.Reading.{frameOk, placeOf, same, holds};
 ghost use Rattle.parity_found.specs.Ready.{Ready, foundIn};
 
 // Parity shard w of the datagrams found, in a row as long as their longest shard.
@@ -45,12 +45,20 @@ fn same_bytes(x: &[u8], y: &[u8]) -> bool
     true
 }
 
-// The data shard of n bytes at `at` is that of place p.
+// The data shard of n bytes at `at` is that of place p; the one that is held for p is, as it stands.
 fn data_same<'a>(g: Group, s: &'a [u8], a: &'a [u8], b: &'a [u8], at: usize, n: usize, p: usize) -> bool
     requires { ⌜ Ready g (now s) (now a) (now b) × (lengthsOk (g .mtu) (lengthsOf (foundIn g (now s))) ≡ true)
-        × (at + n ≤ length (now s)) × (p < g .k) ⌝ }
+        × (at + n ≤ length (now s)) × (p < g .k) × (0 < n) ⌝ }
     ensures { λ r. ⌜ r ≡ same (take n (drop at (now (s .entry)))) (shardAt (foundIn g (now (s .entry))) p) ⌝ }
 {
+    let h = g.held;
+    let held_at = h.at[p];
+    let held_size = h.size[p];
+    if at == held_at {
+        if n == held_size {
+            return true;
+        }
+    }
     same_bytes(&s[at..at + n], parity_found::trimmed(g, s, a, b, p))
 }
 
@@ -60,17 +68,32 @@ fn parity_same<'a>(g: Group, s: &'a [u8], a: &'a [u8], b: &'a [u8], most: usize,
         × (at + n ≤ length (now s)) × (g .k ≤ p) × (most ≡ largest (lengthsOf (foundIn g (now s)))) ⌝ }
     ensures { λ r. ⌜ r ≡ same (take n (drop at (now (s .entry)))) (shardAt (foundIn g (now (s .entry))) p) ⌝ }
 {
-    let mut row = [0u8; 1402];
+    let mut row = parity_found::blank();
     let size = most + 2;
     parity_row(p - g.k, g, s, a, b, &mut row[..size]);
     same_bytes(&s[at..at + n], &row[..size])
+}
+
+// The frame of n bytes at `at` has the shard of its place.
+fn shard_same<'a>(g: Group, s: &'a [u8], a: &'a [u8], b: &'a [u8], most: usize, at: usize, n: usize) -> bool
+    requires { ⌜ Ready g (now s) (now a) (now b) × (lengthsOk (g .mtu) (lengthsOf (foundIn g (now s))) ≡ true)
+        × (at + n ≤ length (now s)) × (32 ≤ n) × (most ≡ largest (lengthsOf (foundIn g (now s)))) ⌝ }
+    ensures { λ r. ⌜ r ≡ same (take (n - 6) (drop (at + 6) (now (s .entry))))
+        (shardAt (foundIn g (now (s .entry))) (placeOf (g .k) (take n (drop at (now (s .entry)))))) ⌝ }
+{
+    let p = parity_scan::place_at(s, at, n, g.k);
+    if p < g.k {
+        return data_same(g, s, a, b, at + Frames::SHARD, n - Frames::SHARD, p);
+    }
+    parity_same(g, s, a, b, most, at + Frames::SHARD, n - Frames::SHARD, p)
 }
 
 // The group of the datagrams found holds every frame.
 pub fn all_held<'a>(g: Group, s: &'a [u8], lengths: &[u16], a: &'a [u8], b: &'a [u8], group: usize) -> bool
     requires { ⌜ Ready g (now s) (now a) (now b) × (lengthsOk (g .mtu) (lengthsOf (foundIn g (now s))) ≡ true)
         × (addUp (now lengths) ≤ length (now s)) × (every (frameOk (g .k) (g .mtu) group) (parts (now s) (now lengths)) ≡ true) ⌝ }
-    ensures { λ r. ⌜ r ≡ every (holds (g .k) (group * (g .k + 2)) (foundIn g (now (s .entry)))) (parts (now (s .entry)) (now (lengths .entry))) ⌝ }
+    ensures { λ r. ⌜ r ≡ every (holds (g .k) (group * (g .k + 2)) (foundIn g (now (s .entry))))
+        (parts (now (s .entry)) (now (lengths .entry))) ⌝ }
 {
     let most = parity_found::most_found(g, s, a, b);
     let mut at = 0;
@@ -86,17 +109,4 @@ pub fn all_held<'a>(g: Group, s: &'a [u8], lengths: &[u16], a: &'a [u8], b: &'a 
         }
     }
     true
-}
-
-// The frame of n bytes at `at` has the shard of its place.
-fn shard_same<'a>(g: Group, s: &'a [u8], a: &'a [u8], b: &'a [u8], most: usize, at: usize, n: usize) -> bool
-    requires { ⌜ Ready g (now s) (now a) (now b) × (lengthsOk (g .mtu) (lengthsOf (foundIn g (now s))) ≡ true)
-        × (at + n ≤ length (now s)) × (6 ≤ n) × (most ≡ largest (lengthsOf (foundIn g (now s)))) ⌝ }
-    ensures { λ r. ⌜ r ≡ same (take n (drop at (now (s .entry)))) (shardAt (foundIn g (now (s .entry))) 0) ⌝ }
-{
-    let p = parity_scan::place_at(s, at, n, g.k);
-    if p < g.k {
-        return data_same(g, s, a, b, at + Frames::SHARD, n - Frames::SHARD, p);
-    }
-    parity_same(g, s, a, b, most, at + Frames::SHARD, n - Frames::SHARD, p)
 }
