@@ -28,8 +28,6 @@ foundIn g s = found (g .k) (shardIn s (g .held))
 -- enough shards are held of the packed frames s, with the len that each says, and what is lost stands in the rows a and b
 pub record Ready (g : Group) (s a b : List ℕ) : Type 0 where
   pub bytes : AllBytes s
-  pub bytesA : AllBytes a
-  pub bytesB : AllBytes b
   pub few : g .k ≤ 10
   pub small : g .mtu ≤ 1400
   pub inside : Inside s (g .held)

@@ -91,7 +91,7 @@ module _ (g : Group) (s a b : List ℕ) (r : Ready g s a b) where
       let d : g .first ≡ 12 → ⊥ = lost-12 p (g .first) l e in
       let w = r .restored .first d in
       record {
-        small = r .bytesA;
+        small = r .restored .bytesA;
         two = omega (arith, r .restored .sizeA);
         byte = λ x m.
             w .byte x (omega (arith, r .restored .sizeA))
@@ -106,7 +106,7 @@ module _ (g : Group) (s a b : List ℕ) (r : Ready g s a b) where
       let w = r .restored .second f d in
       let back = other-last (sized (g .held)) (g .first) (g .second) (g .k) (omega (arith, r .few)) (sym (r .first)) f (second-lost d .apart) in
       record {
-        small = r .bytesB;
+        small = r .restored .bytesB;
         two = omega (arith, r .restored .sizeB);
         byte = λ x m.
             w .byte x (omega (arith, r .restored .sizeB))

@@ -1,2 +1,3 @@
 pub mod VerifyLaws
 pub mod OutputLaws
+pub mod CallLaws

@@ -27,18 +27,34 @@ solve-two-requires c κs =
     (search needs, c .before .before .before .before .before .before .before .pre .1, c .before .before .before .before .before .before .before .pre .2, c .before .before .before .before .before .before .before .pre .3, i, j, λ q. other-apart (sized (c .before .before .before .before .before .before .before .args .h)) (c .before .before .before .before .before .before .before .args .i) (c .before .before .before .before .before .before .before .args .k) (λ r. e (c .before .before .before .before .before .before .before .pre .5 ∙ r)) (sym (c .before .before .before .before .before .before .before .pre .5) ∙ sym q))
 
 returns : tie.Need-returns
-returns c = record { sizeA = refl; sizeB = c .before .before .before .before .pre .3; first = λ d. absurd (d (c .if1 .taken)); second = λ d e. absurd (d (c .if1 .taken)) }
+returns c = record {
+  sizeA = refl;
+  sizeB = c .before .before .before .before .pre .3;
+  bytesA = λ x. omega (arith, c .before .before .slice-known .given x);
+  bytesB = λ x. omega (arith, c .before .slice-known2 .given x);
+  first = λ d. absurd (d (c .if1 .taken));
+  second = λ d e. absurd (d (c .if1 .taken));
+}
 
 returns-2 : tie.Need-returns-2
 returns-2 c = record {
   sizeA = c .before .before .solve-one .ensures .size;
   sizeB = c .before .before .before .before .before .before .before .before .before .pre .3;
+  bytesA = λ x. omega (arith, c .slice-known3 .given x);
+  bytesB = λ x. omega (arith, c .before .before .before .before .before .before .slice-known2 .given x);
   first = λ d. row-only (c .before .before .before .before .before .before .before .before .before .args .k) (shardIn (c .before .before .before .before .before .before .before .before .before .args .s .now) (c .before .before .before .before .before .before .before .before .before .args .h)) (c .before .before .before .before .before .before .before .before .before .args .i) (c .before .before .before .before .before .before .before .before .before .args .j) (length (c .before .before .before .before .before .before .before .before .before .args .a .now)) _ (c .before .before .before .before .if2 .taken) (c .before .before .solve-one .ensures);
   second = λ d e. absurd (e (c .before .before .before .before .if2 .taken));
 }
 
 returns-3 : tie.Need-returns-3
-returns-3 c = record { sizeA = c .before .before .before .before .solve-two .ensures .0 .size; sizeB = c .before .before .before .before .solve-two .ensures .1 .size; first = λ d. c .before .before .before .before .solve-two .ensures .0; second = λ d e. c .before .before .before .before .solve-two .ensures .1 }
+returns-3 c = record {
+  sizeA = c .before .before .before .before .solve-two .ensures .0 .size;
+  sizeB = c .before .before .before .before .solve-two .ensures .1 .size;
+  bytesA = λ x. omega (arith, c .before .before .slice-known4 .given x);
+  bytesB = λ x. omega (arith, c .slice-known5 .given x);
+  first = λ d. c .before .before .before .before .solve-two .ensures .0;
+  second = λ d e. c .before .before .before .before .solve-two .ensures .1;
+}
 
 pub restore-spec : {M : Type 1} → statement M
 restore-spec =
