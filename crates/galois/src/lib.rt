@@ -545,7 +545,11 @@ pub fn add(a: u8, b: u8) -> u8
 pub fn double(a: u8) -> u8
     ensures { λ r. ⌜ r ≡ double a ⌝ }
 {
-    if a < 128 { a * 2 } else { add((a - 128) * 2, 29) }
+    if a < 128 {
+        a * 2
+    } else {
+        add((a - 128) * 2, 29)
+    }
 }
 
 // 2 to the power n.

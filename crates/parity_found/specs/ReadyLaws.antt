@@ -69,7 +69,7 @@ module _ (g : Group) (s a b : List ℕ) (r : Ready g s a b) where
               let u = first-lost (second-later two) in
               let v = second-lost two in
               let n = count-three (sized (g .held)) (g .k + 2) (g .first) (g .second) p (omega (arith, u .below)) (omega (arith, v .below)) (omega arith)
-                  (λ x. v .apart (sym x)) (λ x. d (sym x)) (λ x. e (sym x)) (u .none) (v .none) z in
+              (λ x. v .apart (sym x)) (λ x. d (sym x)) (λ x. e (sym x)) (u .none) (v .none) z in
               absurd (omega (arith, n, r .enough))
 
   -- ---- the bytes of each place
@@ -128,7 +128,7 @@ module _ (g : Group) (s a b : List ℕ) (r : Ready g s a b) where
   whole-held p n l d e en =
       let t = else-held p l d e in
       let z : length (take n (drop (getD (g .held .at) p 0) s)) ≡ getD (g .held .size) p 0 =
-          ap (λ (m : ℕ). length (take m (drop (getD (g .held .at) p 0) s))) en ∙ length-shardIn s (g .held) (r .inside) p in
+      ap (λ (m : ℕ). length (take m (drop (getD (g .held .at) p 0) s))) en ∙ length-shardIn s (g .held) (r .inside) p in
       record {
         small = part-bytes s (getD (g .held .at) p 0) n (r .bytes);
         two = omega (arith, z, r .long p t);

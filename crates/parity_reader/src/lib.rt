@@ -19,7 +19,14 @@ ghost use Rattle.parity_scan.specs.Held.{Gathered};
 ghost use Rattle.parity_found.specs.Ready.{Ready, foundIn};
 
 // The datagrams found have 24 to mtu bytes, and their group holds every frame.
-fn verified<'a>(g: Group, s: &'a [u8], lengths: &[u16], a: &'a [u8], b: &'a [u8], group: usize) -> bool
+fn verified<'a>(
+    g: Group,
+    s: &'a [u8],
+    lengths: &[u16],
+    a: &'a [u8],
+    b: &'a [u8],
+    group: usize,
+) -> bool
     requires { ⌜ Ready g (now s) (now a) (now b) × (addUp (now lengths) ≤ length (now s))
         × (every (frameOk (g .k) (g .mtu) group) (parts (now s) (now lengths)) ≡ true) ⌝ }
     ensures { λ r. ⌜ r ≡ (lengthsOk (g .mtu) (lengthsOf (foundIn g (now (s .entry))))
@@ -94,7 +101,14 @@ pub fn read_group(
         (readOf k mtu (now (frames .entry)) (now (lengths .entry)) (length (now (out .entry))) (length (now («out_lengths» .entry))))
         (now (out .entry)) (now («out_lengths» .entry)) r (now (out .exit)) (now («out_lengths» .exit)) ⌝ }
 {
-    let lent = lent::lent_ok(frames.len(), lengths, Frames::DATA_MOST, wide(mtu), out.len(), out_lengths.len());
+    let lent = lent::lent_ok(
+        frames.len(),
+        lengths,
+        Frames::DATA_MOST,
+        wide(mtu),
+        out.len(),
+        out_lengths.len(),
+    );
     if lent {
         let settings = lent::settings_ok(wide(k), wide(mtu));
         if settings {
@@ -102,7 +116,16 @@ pub fn read_group(
             let ok = scanned.ok;
             if ok {
                 let held = scanned.held;
-                read_held(wide(k), wide(mtu), frames, lengths, held, scanned.group, out, out_lengths)
+                read_held(
+                    wide(k),
+                    wide(mtu),
+                    frames,
+                    lengths,
+                    held,
+                    scanned.group,
+                    out,
+                    out_lengths,
+                )
             } else {
                 Answer::Refused(Refusal::NotAGroup)
             }

@@ -9,7 +9,14 @@ ghost use Rattle.frames.specs.Lists.{lengthsOf, joined};
 ghost use Rattle.frames.specs.Outcomes.{lengthsOk};
 ghost use Rattle.parity_found.specs.Ready.{Ready, foundIn};
 
-pub fn put_found<'a>(g: Group, s: &'a [u8], a: &'a [u8], b: &'a [u8], out: &mut [u8], out_lengths: &mut [u16])
+pub fn put_found<'a>(
+    g: Group,
+    s: &'a [u8],
+    a: &'a [u8],
+    b: &'a [u8],
+    out: &mut [u8],
+    out_lengths: &mut [u16],
+)
     requires { ⌜ Ready g (now s) (now a) (now b) × (lengthsOk (g .mtu) (lengthsOf (foundIn g (now s))) ≡ true)
         × (10 * g .mtu ≤ length (now out)) × (10 ≤ length (now «out_lengths»)) ⌝ }
     ensures bytes { λ _. ⌜ now (out .exit) ≡ sets (now (out .entry)) 0 (joined (foundIn g (now (s .entry)))) ⌝ }

@@ -1,7 +1,7 @@
 // The group of the datagrams found, compared with the frames given.
-use parity_found::Group;
 use frames::Frames;
 use frames::lent;
+use parity_found::Group;
 ghost use mathlib.Core.Path.{_≡_};
 ghost use mathlib.Core.Bool.{true};
 ghost use Prim.Native.Nat.{_+_, _-_, _*_, _≤_, _<_};
@@ -46,7 +46,15 @@ fn same_bytes(x: &[u8], y: &[u8]) -> bool
 }
 
 // The data shard of n bytes at `at` is that of place p; the one that is held for p is, as it stands.
-fn data_same<'a>(g: Group, s: &'a [u8], a: &'a [u8], b: &'a [u8], at: usize, n: usize, p: usize) -> bool
+fn data_same<'a>(
+    g: Group,
+    s: &'a [u8],
+    a: &'a [u8],
+    b: &'a [u8],
+    at: usize,
+    n: usize,
+    p: usize,
+) -> bool
     requires { ⌜ Ready g (now s) (now a) (now b) × (lengthsOk (g .mtu) (lengthsOf (foundIn g (now s))) ≡ true)
         × (at + n ≤ length (now s)) × (p < g .k) × (0 < n) ⌝ }
     ensures { λ r. ⌜ r ≡ same (take n (drop at (now (s .entry)))) (shardAt (foundIn g (now (s .entry))) p) ⌝ }
@@ -63,7 +71,16 @@ fn data_same<'a>(g: Group, s: &'a [u8], a: &'a [u8], b: &'a [u8], at: usize, n: 
 }
 
 // The parity shard of n bytes at `at` is that of place p.
-fn parity_same<'a>(g: Group, s: &'a [u8], a: &'a [u8], b: &'a [u8], most: usize, at: usize, n: usize, p: usize) -> bool
+fn parity_same<'a>(
+    g: Group,
+    s: &'a [u8],
+    a: &'a [u8],
+    b: &'a [u8],
+    most: usize,
+    at: usize,
+    n: usize,
+    p: usize,
+) -> bool
     requires { ⌜ Ready g (now s) (now a) (now b) × (lengthsOk (g .mtu) (lengthsOf (foundIn g (now s))) ≡ true)
         × (at + n ≤ length (now s)) × (g .k ≤ p) × (most ≡ largest (lengthsOf (foundIn g (now s)))) ⌝ }
     ensures { λ r. ⌜ r ≡ same (take n (drop at (now (s .entry)))) (shardAt (foundIn g (now (s .entry))) p) ⌝ }
@@ -75,7 +92,15 @@ fn parity_same<'a>(g: Group, s: &'a [u8], a: &'a [u8], b: &'a [u8], most: usize,
 }
 
 // The frame of n bytes at `at` has the shard of its place.
-fn shard_same<'a>(g: Group, s: &'a [u8], a: &'a [u8], b: &'a [u8], most: usize, at: usize, n: usize) -> bool
+fn shard_same<'a>(
+    g: Group,
+    s: &'a [u8],
+    a: &'a [u8],
+    b: &'a [u8],
+    most: usize,
+    at: usize,
+    n: usize,
+) -> bool
     requires { ⌜ Ready g (now s) (now a) (now b) × (lengthsOk (g .mtu) (lengthsOf (foundIn g (now s))) ≡ true)
         × (at + n ≤ length (now s)) × (32 ≤ n) × (most ≡ largest (lengthsOf (foundIn g (now s)))) ⌝ }
     ensures { λ r. ⌜ r ≡ same (take (n - 6) (drop (at + 6) (now (s .entry))))
@@ -89,7 +114,14 @@ fn shard_same<'a>(g: Group, s: &'a [u8], a: &'a [u8], b: &'a [u8], most: usize, 
 }
 
 // The group of the datagrams found holds every frame.
-pub fn all_held<'a>(g: Group, s: &'a [u8], lengths: &[u16], a: &'a [u8], b: &'a [u8], group: usize) -> bool
+pub fn all_held<'a>(
+    g: Group,
+    s: &'a [u8],
+    lengths: &[u16],
+    a: &'a [u8],
+    b: &'a [u8],
+    group: usize,
+) -> bool
     requires { ⌜ Ready g (now s) (now a) (now b) × (lengthsOk (g .mtu) (lengthsOf (foundIn g (now s))) ≡ true)
         × (addUp (now lengths) ≤ length (now s)) × (every (frameOk (g .k) (g .mtu) group) (parts (now s) (now lengths)) ≡ true) ⌝ }
     ensures { λ r. ⌜ r ≡ every (holds (g .k) (group * (g .k + 2)) (foundIn g (now (s .entry))))

@@ -34,7 +34,6 @@ use Rattle.parity_scan.specs.declared.Held.{Held}
 use Rattle.parity_scan.specs.declared.Scanned.{Scanned}
 use Rattle.parity_scan.specs.Held.{shardIn, sized, Inside, noted, Empty, Gathered, Scans}
 
-
 pub other-passed : (h : ℕ → Bool) (i p : ℕ) → (h p || eqb p i) ≡ true → other h i (p + 1) ≡ other h i p
 unfolding other
 other-passed h i p e = rw (add-one, e)
@@ -74,5 +73,4 @@ module _ (s : List ℕ) (h : Held) (inside′ : Inside s h) where
 
   pub sized-false : (p n : ℕ) → n ≡ getD (h .size) p 0 → n ≤ 0 → has (shardIn s h) p ≡ false
   sized-false p n e l = ap (λ (m : ℕ). ltb 0 m) (length-shardIn p ∙ sym e) ∙ le-ltb 0 n l
-
   -- ---- a byte that is lost

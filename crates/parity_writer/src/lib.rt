@@ -56,7 +56,14 @@ pub fn write_group(
         (now (out .entry)) (now («out_lengths» .entry)) r (now (out .exit)) (now («out_lengths» .exit)) ⌝ }
 {
     let each = wide(mtu) + Frames::HEADER;
-    let lent = lent::lent_ok(datagrams.len(), lengths, Frames::FRAMES_MOST, each, out.len(), out_lengths.len());
+    let lent = lent::lent_ok(
+        datagrams.len(),
+        lengths,
+        Frames::FRAMES_MOST,
+        each,
+        out.len(),
+        out_lengths.len(),
+    );
     if lent {
         let settings = lent::settings_ok(wide(k), wide(mtu));
         if settings {

@@ -59,7 +59,15 @@ fn parity_row(w: usize, s: &[u8], lengths: &[u16], total: usize, row: &mut [u8])
 }
 
 // Parity frame w at `at`.
-pub fn put_parity(out: &mut [u8], at: usize, sequence: u32, w: usize, s: &[u8], lengths: &[u16], total: usize)
+pub fn put_parity(
+    out: &mut [u8],
+    at: usize,
+    sequence: u32,
+    w: usize,
+    s: &[u8],
+    lengths: &[u16],
+    total: usize,
+)
     requires { ⌜ (total ≡ addUp (now lengths)) × (total ≤ length (now s)) × (at + (largest (now lengths) + 8) ≤ length (now out))
         × (largest (now lengths) + 8 < 65536) ⌝ }
     ensures { λ _. ⌜ now (out .exit)

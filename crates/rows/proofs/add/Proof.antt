@@ -33,10 +33,12 @@ add-row : tie.Need-add-row Inv-loop μ-loop
 add-row c = record { fits = omega arith }
 
 loop-again : tie.Need-loop-again Inv-loop μ-loop
-loop-again c =
-    (omega arith, rw (← add-assoc) (done-next (sum (c .before .before .before .before .before .before .before .args .row .now) (c .before .before .before .before .before .before .before .args .at) (c .before .before .before .before .before .before .before .args .other .now)) (c .before .before .before .before .before .before .before .args .at + c .before .before .before .before .loop .i) (c .before .before .before .before .before .before .before .args .row .now) (c .before .before .before .before .loop .row) (c .add .result) (c .before .before .before .before .loop .inv .1) (omega (arith, c .before .before .before .before .loop .inv .1 .size))
-    (c .add .ensures ∙ ap (λ (b : ℕ). plus b (getD (c .before .before .before .before .before .before .before .args .other .now) (c .before .before .before .before .loop .i) 0)) (c .before .before .before .before .loop .inv .1 .kept (c .before .before .before .before .before .before .before .args .at + c .before .before .before .before .loop .i) (omega arith))
-    ∙ sum-at (c .before .before .before .before .before .before .before .args .row .now) (c .before .before .before .before .before .before .before .args .at) (c .before .before .before .before .before .before .before .args .other .now) (c .before .before .before .before .loop .i))))
+loop-again c = (
+  omega arith,
+  rw (← add-assoc) (done-next (sum (c .before .before .before .before .before .before .before .args .row .now) (c .before .before .before .before .before .before .before .args .at) (c .before .before .before .before .before .before .before .args .other .now)) (c .before .before .before .before .before .before .before .args .at + c .before .before .before .before .loop .i) (c .before .before .before .before .before .before .before .args .row .now) (c .before .before .before .before .loop .row) (c .add .result) (c .before .before .before .before .loop .inv .1) (omega (arith, c .before .before .before .before .loop .inv .1 .size))
+      (c .add .ensures ∙ ap (λ (b : ℕ). plus b (getD (c .before .before .before .before .before .before .before .args .other .now) (c .before .before .before .before .loop .i) 0)) (c .before .before .before .before .loop .inv .1 .kept (c .before .before .before .before .before .before .before .args .at + c .before .before .before .before .loop .i) (omega arith))
+      ∙ sum-at (c .before .before .before .before .before .before .before .args .row .now) (c .before .before .before .before .before .before .before .args .at) (c .before .before .before .before .before .before .before .args .other .now) (c .before .before .before .before .loop .i))),
+)
 
 same-length : tie.Need-same-length Inv-loop μ-loop
 same-length c = c .before .loop .inv .1 .size

@@ -71,10 +71,11 @@ add-at c =
 loop-again : tie.Need-loop-again Inv-loop μ-loop
 loop-again c =
     let m = lens-most (c .before .before .before .before .before .before .before .before .before .before .before .before .before .args .g .mtu) (datagramIn (c .before .before .before .before .before .before .before .before .before .before .before .before .before .args .g) (c .before .before .before .before .before .before .before .before .before .before .before .before .before .args .s .now)) (c .before .before .before .before .before .before .before .before .before .before .before .before .before .args .g .k) (c .before .before .before .before .before .before .before .loop .p) (search needs) (listed-found (c .before .before .before .before .before .before .before .before .before .before .before .before .before .args .g) (c .before .before .before .before .before .before .before .before .before .before .before .before .before .args .s .now) (c .before .before .before .before .before .before .before .before .before .before .before .before .before .pre .1)) in
-    let b = behind-len (datagramIn (c .before .before .before .before .before .before .before .before .before .before .before .before .before .args .g) (c .before .before .before .before .before .before .before .before .before .before .before .before .before .args .s .now) (c .before .before .before .before .before .before .before .loop .p)) (c .before .before .before .before .trimmed .result .now) _ (c .before .before .before .before .trimmed .ensures) refl in
-    (omega arith,
-    packed-next (datagramIn (c .before .before .before .before .before .before .before .before .before .before .before .before .before .args .g) (c .before .before .before .before .before .before .before .before .before .before .before .before .before .args .s .now)) (c .before .before .before .before .before .before .before .before .before .before .before .before .before .args .g .mtu) (c .before .before .before .before .before .before .before .before .before .before .before .before .before .args .out .now) (c .before .before .before .before .before .before .before .before .before .before .before .before .before .args .out-lengths .now) (c .before .before .before .before .before .before .before .loop .out) (c .before .before .before .before .before .before .before .loop .out-lengths) _ (c .before .before .before .before .before .before .before .loop .at) (c .before .before .before .before .before .before .before .loop .p) _ _ (c .before .before .before .before .before .before .before .loop .inv .1)
-    (b .0) (omega (arith, b .0, m)) refl (c .before .before .copy-part .ensures ∙ ap (sets (c .before .before .before .before .before .before .before .loop .out) (c .before .before .before .before .before .before .before .loop .at)) (b .1)))
+    let b = behind-len (datagramIn (c .before .before .before .before .before .before .before .before .before .before .before .before .before .args .g) (c .before .before .before .before .before .before .before .before .before .before .before .before .before .args .s .now) (c .before .before .before .before .before .before .before .loop .p)) (c .before .before .before .before .trimmed .result .now) _ (c .before .before .before .before .trimmed .ensures) refl in (
+      omega arith,
+      packed-next (datagramIn (c .before .before .before .before .before .before .before .before .before .before .before .before .before .args .g) (c .before .before .before .before .before .before .before .before .before .before .before .before .before .args .s .now)) (c .before .before .before .before .before .before .before .before .before .before .before .before .before .args .g .mtu) (c .before .before .before .before .before .before .before .before .before .before .before .before .before .args .out .now) (c .before .before .before .before .before .before .before .before .before .before .before .before .before .args .out-lengths .now) (c .before .before .before .before .before .before .before .loop .out) (c .before .before .before .before .before .before .before .loop .out-lengths) _ (c .before .before .before .before .before .before .before .loop .at) (c .before .before .before .before .before .before .before .loop .p) _ _ (c .before .before .before .before .before .before .before .loop .inv .1)
+          (b .0) (omega (arith, b .0, m)) refl (c .before .before .copy-part .ensures ∙ ap (sets (c .before .before .before .before .before .before .before .loop .out) (c .before .before .before .before .before .before .before .loop .at)) (b .1)),
+    )
 
 same-length-need : tie.Need-same-length Inv-loop μ-loop
 same-length-need c = c .before .before .loop .inv .1 .room

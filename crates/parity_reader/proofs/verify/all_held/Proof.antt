@@ -38,9 +38,11 @@ add-at : tie.Need-add-at Inv-loop μ-loop
 add-at c = record { fits = omega (arith, given-room (c .before .before .before .before .before .before .before .before .before .before .before .args .s .now) (c .before .before .before .before .before .before .before .before .before .before .before .args .lengths .now) (c .before .before .before .before .before .before .before .before .before .before .before .args .g .k) (c .before .before .before .before .before .before .before .before .before .before .before .args .g .mtu) (c .before .before .before .before .before .before .before .before .before .before .before .args .group) (foundIn (c .before .before .before .before .before .before .before .before .before .before .before .args .g) (c .before .before .before .before .before .before .before .before .before .before .before .args .s .now)) (c .before .before .before .before .before .before .before .before .before .before .before .pre .0 .bytes) (length-found (c .before .before .before .before .before .before .before .before .before .before .before .args .g .k) (shardIn (c .before .before .before .before .before .before .before .before .before .before .before .args .s .now) (c .before .before .before .before .before .before .before .before .before .before .before .args .g .held))) (c .before .before .before .before .before .before .before .before .before .before .before .pre .2) (c .before .before .before .before .before .before .before .before .before .before .before .pre .3) (c .before .before .before .before .before .loop .at) (c .before .before .before .before .before .loop .i) (c .before .before .wide .result) (c .before .before .before .before .before .loop .inv .1) (search needs) (c .before .before .wide .ensures)) }
 
 loop-again : tie.Need-loop-again Inv-loop μ-loop
-loop-again c =
-    (omega arith, omega (arith, c .before .before .wide .ensures, c .before .before .before .before .before .loop .inv .1, add-up-next (c .before .before .before .before .before .before .before .before .before .before .before .args .lengths .now) (c .before .before .before .before .before .loop .i) (search needs)),
-    c .before .before .before .before .before .loop .inv .2 ∙ given-step (c .before .before .before .before .before .before .before .before .before .before .before .args .s .now) (c .before .before .before .before .before .before .before .before .before .before .before .args .lengths .now) (c .before .before .before .before .before .before .before .before .before .before .before .args .g .k) (c .before .before .before .before .before .before .before .before .before .before .before .args .g .mtu) (c .before .before .before .before .before .before .before .before .before .before .before .args .group) (foundIn (c .before .before .before .before .before .before .before .before .before .before .before .args .g) (c .before .before .before .before .before .before .before .before .before .before .before .args .s .now)) (c .before .before .before .before .before .before .before .before .before .before .before .pre .0 .bytes) (length-found (c .before .before .before .before .before .before .before .before .before .before .before .args .g .k) (shardIn (c .before .before .before .before .before .before .before .before .before .before .before .args .s .now) (c .before .before .before .before .before .before .before .before .before .before .before .args .g .held))) (c .before .before .before .before .before .before .before .before .before .before .before .pre .2) (c .before .before .before .before .before .before .before .before .before .before .before .pre .3) (c .before .before .before .before .before .loop .at) (c .before .before .before .before .before .loop .i) (c .before .before .wide .result) (c .before .before .before .before .before .loop .inv .1) (search needs) (c .before .before .wide .ensures) (sym (c .before .shard-same .ensures) ∙ c .if1 .taken))
+loop-again c = (
+  omega arith,
+  omega (arith, c .before .before .wide .ensures, c .before .before .before .before .before .loop .inv .1, add-up-next (c .before .before .before .before .before .before .before .before .before .before .before .args .lengths .now) (c .before .before .before .before .before .loop .i) (search needs)),
+  c .before .before .before .before .before .loop .inv .2 ∙ given-step (c .before .before .before .before .before .before .before .before .before .before .before .args .s .now) (c .before .before .before .before .before .before .before .before .before .before .before .args .lengths .now) (c .before .before .before .before .before .before .before .before .before .before .before .args .g .k) (c .before .before .before .before .before .before .before .before .before .before .before .args .g .mtu) (c .before .before .before .before .before .before .before .before .before .before .before .args .group) (foundIn (c .before .before .before .before .before .before .before .before .before .before .before .args .g) (c .before .before .before .before .before .before .before .before .before .before .before .args .s .now)) (c .before .before .before .before .before .before .before .before .before .before .before .pre .0 .bytes) (length-found (c .before .before .before .before .before .before .before .before .before .before .before .args .g .k) (shardIn (c .before .before .before .before .before .before .before .before .before .before .before .args .s .now) (c .before .before .before .before .before .before .before .before .before .before .before .args .g .held))) (c .before .before .before .before .before .before .before .before .before .before .before .pre .2) (c .before .before .before .before .before .before .before .before .before .before .before .pre .3) (c .before .before .before .before .before .loop .at) (c .before .before .before .before .before .loop .i) (c .before .before .wide .result) (c .before .before .before .before .before .loop .inv .1) (search needs) (c .before .before .wide .ensures) (sym (c .before .shard-same .ensures) ∙ c .if1 .taken),
+)
 
 returns : tie.Need-returns Inv-loop μ-loop
 returns c = sym (c .before .before .before .before .before .loop .inv .2 ∙ given-stop (c .before .before .before .before .before .before .before .before .before .before .before .args .s .now) (c .before .before .before .before .before .before .before .before .before .before .before .args .lengths .now) (c .before .before .before .before .before .before .before .before .before .before .before .args .g .k) (c .before .before .before .before .before .before .before .before .before .before .before .args .g .mtu) (c .before .before .before .before .before .before .before .before .before .before .before .args .group) (foundIn (c .before .before .before .before .before .before .before .before .before .before .before .args .g) (c .before .before .before .before .before .before .before .before .before .before .before .args .s .now)) (c .before .before .before .before .before .before .before .before .before .before .before .pre .0 .bytes) (length-found (c .before .before .before .before .before .before .before .before .before .before .before .args .g .k) (shardIn (c .before .before .before .before .before .before .before .before .before .before .before .args .s .now) (c .before .before .before .before .before .before .before .before .before .before .before .args .g .held))) (c .before .before .before .before .before .before .before .before .before .before .before .pre .2) (c .before .before .before .before .before .before .before .before .before .before .before .pre .3) (c .before .before .before .before .before .loop .at) (c .before .before .before .before .before .loop .i) (c .before .before .wide .result) (c .before .before .before .before .before .loop .inv .1) (search needs) (c .before .before .wide .ensures) (sym (c .before .shard-same .ensures) ∙ c .if1 .left))

@@ -25,9 +25,11 @@ abbrev μ-loop : tie.MeasureT-loop
 μ-loop w s lengths total row₀ from₀ p₀ row from p = p
 
 loop-holds : tie.Need-loop-holds Inv-loop μ-loop
-loop-holds c =
-    (omega arith, c .before .before .before .before .before .before .before .pre .0 ∙ ap addUp (sym (take-all (length (c .before .before .before .before .before .before .before .args .lengths .now)) (c .before .before .before .before .before .before .before .args .lengths .now) (omega arith))),
-    parity-none (c .before .before .before .before .before .before .before .args .w) (c .before .before .before .before .before .before .before .args .s .now) (c .before .before .before .before .before .before .before .args .lengths .now) (λ i. omega (arith, c .before .before .before .before .before .before .shared-slice-known .given i)) (length (c .before .before .before .before .before .before .before .args .row .now)) (largest (c .before .before .before .before .before .before .before .args .lengths .now) + 2) _ (c .before .before .before .before .before .before .before .pre .2) (c .before .before .clear .ensures))
+loop-holds c = (
+  omega arith,
+  c .before .before .before .before .before .before .before .pre .0 ∙ ap addUp (sym (take-all (length (c .before .before .before .before .before .before .before .args .lengths .now)) (c .before .before .before .before .before .before .before .args .lengths .now) (omega arith))),
+  parity-none (c .before .before .before .before .before .before .before .args .w) (c .before .before .before .before .before .before .before .args .s .now) (c .before .before .before .before .before .before .before .args .lengths .now) (λ i. omega (arith, c .before .before .before .before .before .before .shared-slice-known .given i)) (length (c .before .before .before .before .before .before .before .args .row .now)) (largest (c .before .before .before .before .before .before .before .args .lengths .now) + 2) _ (c .before .before .before .before .before .before .before .pre .2) (c .before .before .clear .ensures),
+)
 
 sub-from : tie.Need-sub-from Inv-loop μ-loop
 sub-from c = omega (arith, c .wide .ensures, c .before .before .before .loop .inv .1, add-up-back (c .before .before .before .before .before .before .before .before .before .before .before .args .lengths .now) (c .before .before .before .loop .p) (omega arith) (omega arith))
@@ -45,10 +47,12 @@ add-shard-requires c κs =
 loop-again : tie.Need-loop-again Inv-loop μ-loop
 loop-again c =
     let b = add-up-back (c .before .before .before .before .before .before .before .before .before .before .before .before .before .before .before .before .before .before .before .args .lengths .now) (c .before .before .before .before .before .before .before .before .before .before .before .loop .p) (omega arith) (omega arith) in
-    let f : c .before .before .before .before .before .before .before .before .before .before .before .loop .from - c .before .before .before .before .before .before .before .before .wide .result ≡ addUp (take (c .before .before .before .before .before .before .before .before .before .before .before .loop .p - 1) (c .before .before .before .before .before .before .before .before .before .before .before .before .before .before .before .before .before .before .before .args .lengths .now)) = omega (arith, c .before .before .before .before .before .before .before .before .wide .ensures, c .before .before .before .before .before .before .before .before .before .before .before .loop .inv .1, b) in
-    (omega arith, f,
-    parity-next (c .before .before .before .before .before .before .before .before .before .before .before .before .before .before .before .before .before .before .before .args .w) (c .before .before .before .before .before .before .before .before .before .before .before .before .before .before .before .before .before .before .before .args .s .now) (c .before .before .before .before .before .before .before .before .before .before .before .before .before .before .before .before .before .before .before .args .lengths .now) (λ i. omega (arith, c .before .before .before .before .before .before .before .before .before .before .before .before .before .before .before .before .before .before .shared-slice-known .given i)) (c .before .before .before .before .before .before .before .before .before .before .before .loop .p) (c .before .before .before .before .before .before .before .before .before .before .before .loop .p - 1) (c .before .before .before .before .before .before .before .before .before .before .before .loop .from - c .before .before .before .before .before .before .before .before .wide .result) (c .before .before .before .before .before .before .before .before .wide .result) (largest (c .before .before .before .before .before .before .before .before .before .before .before .before .before .before .before .before .before .before .before .args .lengths .now) + 2) (c .before .before .before .before .before .before .before .before .before .before .before .loop .row) _ _
-    (omega arith) (omega arith) f (c .before .before .before .before .before .before .before .before .wide .ensures) (c .before .before .before .before .before .before .before .before .before .before .before .loop .inv .2) (c .before .before .before .before .before .before .step .ensures) (c .before .before .add-shard .ensures))
+    let f : c .before .before .before .before .before .before .before .before .before .before .before .loop .from - c .before .before .before .before .before .before .before .before .wide .result ≡ addUp (take (c .before .before .before .before .before .before .before .before .before .before .before .loop .p - 1) (c .before .before .before .before .before .before .before .before .before .before .before .before .before .before .before .before .before .before .before .args .lengths .now)) = omega (arith, c .before .before .before .before .before .before .before .before .wide .ensures, c .before .before .before .before .before .before .before .before .before .before .before .loop .inv .1, b) in (
+      omega arith,
+      f,
+      parity-next (c .before .before .before .before .before .before .before .before .before .before .before .before .before .before .before .before .before .before .before .args .w) (c .before .before .before .before .before .before .before .before .before .before .before .before .before .before .before .before .before .before .before .args .s .now) (c .before .before .before .before .before .before .before .before .before .before .before .before .before .before .before .before .before .before .before .args .lengths .now) (λ i. omega (arith, c .before .before .before .before .before .before .before .before .before .before .before .before .before .before .before .before .before .before .shared-slice-known .given i)) (c .before .before .before .before .before .before .before .before .before .before .before .loop .p) (c .before .before .before .before .before .before .before .before .before .before .before .loop .p - 1) (c .before .before .before .before .before .before .before .before .before .before .before .loop .from - c .before .before .before .before .before .before .before .before .wide .result) (c .before .before .before .before .before .before .before .before .wide .result) (largest (c .before .before .before .before .before .before .before .before .before .before .before .before .before .before .before .before .before .before .before .args .lengths .now) + 2) (c .before .before .before .before .before .before .before .before .before .before .before .loop .row) _ _
+          (omega arith) (omega arith) f (c .before .before .before .before .before .before .before .before .wide .ensures) (c .before .before .before .before .before .before .before .before .before .before .before .loop .inv .2) (c .before .before .before .before .before .before .step .ensures) (c .before .before .add-shard .ensures),
+    )
 
 same-length : tie.Need-same-length Inv-loop μ-loop
 same-length c = c .before .loop .inv .2 .size ∙ sym (c .before .before .before .before .before .before .before .before .before .pre .2)
