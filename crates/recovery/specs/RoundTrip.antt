@@ -269,3 +269,13 @@ round-trip n k mtu s ns room slots l fs by e g c =
     (returned n mtu (parts s ns) (written n k mtu s ns room slots by a) fs
     (subst (λ (m : ℕ). Given (n * (m + 2)) (parts s ns) fs) (sym q) g)
     (subst (λ (m : ℕ). m ≤ different (map sequenceOf fs)) (sym q) c))
+
+-- a call of the writer that was not refused wrote the group
+pub wrote-group : (n k mtu : ℕ) (s ns : List ℕ) (room slots : ℕ) (l : List (List ℕ)) → writeOf n k mtu s ns room slots ≡ wrote l → l ≡ group (n * (k + 2)) (parts s ns)
+unfolding writeOf
+wrote-group n k mtu s ns room slots l e =
+    let a = accepted n k mtu s ns room slots l e in
+    same-parts l (group (n * (k + 2)) (parts s ns)) (sym e ∙ rw (a .lent, a .settings, a .right, a .early))
+  where
+    same-parts : (x y : List (List ℕ)) → wrote x ≡ wrote y → x ≡ y
+    same-parts x y h = cc
