@@ -36,7 +36,7 @@ pub extern "C" fn ampferweg_parity_write(
 ) -> i32
     ensures { λ r. ⌜ Told
         (writeOf group k mtu (now (datagrams .entry)) (now (lengths .entry))
-            (length (now (out .entry))) (length (now («out_lengths» .entry))))
+        (length (now (out .entry))) (length (now («out_lengths» .entry))))
         (now (out .entry)) (now («out_lengths» .entry)) r (now (out .exit)) (now («out_lengths» .exit)) ⌝ }
 {
     let answer = parity_writer::write_group(group, k, mtu, datagrams, lengths, out, out_lengths);

@@ -53,7 +53,7 @@ pub fn write_group(
 ) -> Answer
     ensures { λ r. ⌜ Gives
         (writeOf group k mtu (now (datagrams .entry)) (now (lengths .entry))
-            (length (now (out .entry))) (length (now («out_lengths» .entry))))
+        (length (now (out .entry))) (length (now («out_lengths» .entry))))
         (now (out .entry)) (now («out_lengths» .entry)) r (now (out .exit)) (now («out_lengths» .exit)) ⌝ }
 {
     let each = wide(mtu) + Frames::HEADER;

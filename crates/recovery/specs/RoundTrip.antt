@@ -113,6 +113,9 @@ module _ (n mtu : ℕ) (ds : List (List ℕ)) (w : Writable n mtu ds) where
               let g : length (shardAt ds p) ≡ length (getD ds p []) + 2 = ap length (shardAt-data ds p l) ∙ length-shard (getD ds p []) in
               eq-eqb (numberAt 2 (frameAt (n * (length ds + 2)) ds p) 6) (length (frameAt (n * (length ds + 2)) ds p) - 6) (omega arith)
 
+  pub frame-most : (p : ℕ) → p < length ds + 2 → length (frameAt (n * (length ds + 2)) ds p) ≤ mtu + 8
+  frame-most p h = omega (arith, length-shardAt p h .1, length-frameAt (n * (length ds + 2)) ds p)
+
   -- ---- what is held
 
   held-at : {fs : List (List ℕ)} → Given (n * (length ds + 2)) ds fs → (p : ℕ) → p < length ds + 2
@@ -222,7 +225,7 @@ lengths-get mtu (n ∷ ns) e p h = go (lengthOk mtu n) refl e p h (λ f q l. len
     go true q f (suc p) h ih = ih f p (omega arith)
 
 module _ (n k mtu : ℕ) (s ns : List ℕ) (room slots : ℕ) (by : AllBytes s) (a : Accepted n k mtu s ns room slots) where
-  count-is : length (parts s ns) ≡ k
+  pub count-is : length (parts s ns) ≡ k
   count-is = length-parts s ns ∙ eqb-true (length ns) k (and-left (eqb (length ns) k) (lengthsOk mtu ns) (a .right))
 
   whole : addUp ns ≤ length s
@@ -233,7 +236,7 @@ module _ (n k mtu : ℕ) (s ns : List ℕ) (room slots : ℕ) (by : AllBytes s) 
       ap length (part-at s ns p h)
       ∙ length-part s (addUp (take p ns)) (getD ns p 0) (omega (arith, add-up-next ns p h, add-up-le ns (p + 1), whole))
 
-  written : Writable n mtu (parts s ns)
+  pub written : Writable n mtu (parts s ns)
   written =
       let e : length (parts s ns) ≡ k = count-is in
       let f : (leb 1 k && leb k 10) ≡ true = and-left (leb 1 k && leb k 10) (leb 50 mtu) (and-left (leb 1 k && leb k 10 && leb 50 mtu) (leb mtu 1400) (a .settings)) in
