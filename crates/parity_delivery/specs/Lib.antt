@@ -1,0 +1,3 @@
+pub mod Recovered
+pub mod PackedLaws
+pub mod Demand3

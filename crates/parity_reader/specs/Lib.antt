@@ -1,0 +1,3 @@
+pub mod VerifyLaws
+pub mod OutputLaws
+pub mod CallLaws

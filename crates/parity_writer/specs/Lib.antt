@@ -1,0 +1,4 @@
+pub mod Room
+pub mod WriterLaws
+pub mod ShardLaws
+pub mod CallLaws

@@ -1,0 +1,12 @@
+#!/bin/sh
+# run.sh: two stations over a network that loses one datagram in ten, with parity and without, in virtual time. It needs both archives:
+# rt staticlib ampferweg, rt staticlib ampferweg_parity.
+set -eu
+root=$(cd "$(dirname "$0")/../.." && pwd)
+lib=$root/target/staticlib
+for archive in "$lib/libampferweg.a" "$lib/libampferweg_parity.a"; do
+    [ -f "$archive" ] || { echo "run.sh: $archive is missing" >&2; exit 2; }
+done
+"${CC:-cc}" -std=c99 -O2 -Wall -Wextra -Wpedantic -Werror -I "$root/include" "$root/examples/parity/lossy.c" \
+    "$lib/libampferweg.a" "$lib/libampferweg_parity.a" -o "$root/target/lossy"
+"$root/target/lossy"
