@@ -1,9 +1,9 @@
 #!/bin/sh
-# run.sh: two stations over a network that loses one datagram in ten, with parity and without, in virtual time. It needs both archives:
-# rt staticlib ampferweg, rt staticlib ampferweg_parity.
+# run.sh [FOLDER]: two stations over a network that loses one datagram in ten, with parity and without, in virtual time. The archives
+# are in FOLDER (target/staticlib where none is named).
 set -eu
 root=$(cd "$(dirname "$0")/../.." && pwd)
-lib=$root/target/staticlib
+lib=${1:-$root/target/staticlib}
 for archive in "$lib/libampferweg.a" "$lib/libampferweg_parity.a"; do
     [ -f "$archive" ] || { echo "run.sh: $archive is missing" >&2; exit 2; }
 done

@@ -240,7 +240,7 @@ static int tag_lend(void)
     return 1;
 }
 
-/* ---- the commands; those of parity have their place here ---- */
+/* ---- the commands ---- */
 
 static int play_line(void)
 {

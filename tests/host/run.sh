@@ -1,15 +1,17 @@
 #!/bin/sh
 # run.sh [ARCHIVE]: checks the C interface against the archive (target/staticlib/libampferweg.a where none is named).
 # Compiles the headers as C and C++, builds every check program at -O2 and with the sanitizers, runs them, plays the scripts
-# of tests/vectors and tests/extras, and installs into a folder of its own. The tags' archive is libampferweg_tags.a beside
-# ARCHIVE; where it is missing, rt makes it. The last line is 'host: N passed, M failed'.
+# of tests/vectors and tests/extras, and installs into a folder of its own. The archives of tags and parity are beside ARCHIVE;
+# where one is missing, rt makes it. The last line is 'host: N passed, M failed'.
 set -u
 root=$(cd "$(dirname "$0")/../.." && pwd)
 archive=${1:-$root/target/staticlib/libampferweg.a}
 [ -f "$archive" ] || { echo "run.sh: $archive is missing: run 'make' first" >&2; exit 2; }
 archive=$(cd "$(dirname "$archive")" && pwd)/$(basename "$archive")
 tags=$(dirname "$archive")/libampferweg_tags.a
+parity=$(dirname "$archive")/libampferweg_parity.a
 [ -f "$tags" ] || (cd "$root" && rt staticlib ampferweg_tags) >/dev/null || { echo "run.sh: $tags is missing" >&2; exit 2; }
+[ -f "$parity" ] || (cd "$root" && rt staticlib ampferweg_parity) >/dev/null || { echo "run.sh: $parity is missing" >&2; exit 2; }
 work=$root/target/host
 mkdir -p "$work"
 cd "$root/tests/host" || exit 2
@@ -86,13 +88,16 @@ program_checks() { # SUFFIX FLAGS..
     done
     # shellcheck disable=SC2086
     "$cc" -std=c99 "$@" $flags play.c "$tags" "$archive" -o "$work/play-$suffix" || { failed=$((failed + 1)); echo "play, $suffix: FAILED to build"; }
+    # shellcheck disable=SC2086
+    "$cc" -std=c99 "$@" $flags -DPLAY_PARITY_MAIN play_parity.c "$parity" -o "$work/play_parity-$suffix" ||
+        { failed=$((failed + 1)); echo "play_parity, $suffix: FAILED to build"; }
 }
 
-# Plays every script of a folder, and holds what is answered to the answers beside it.
-plays() { # PROGRAM SUFFIX FOLDER
+# Plays every script whose path below tests/ starts as SCRIPTS, and holds what is answered to the answers beside it.
+plays() { # PROGRAM SUFFIX SCRIPTS
     lines=0
     count=0
-    for script in "$root/tests/$3"/*.script; do
+    for script in "$root/tests/"$3*.script; do
         "$work/$1-$2" <"$script" >"$work/answers" || return 1
         cmp "$work/answers" "${script%.script}.answers" || return 1
         count=$((count + 1))
@@ -105,7 +110,7 @@ plays() { # PROGRAM SUFFIX FOLDER
 # Installs, and builds a program with what is installed.
 installs() {
     rm -rf "$work/prefix"
-    make -s -C "$root" install PREFIX="$work/prefix" ARCHIVE="$archive" TAGS="$tags" || return 1
+    make -s -C "$root" install PREFIX="$work/prefix" ARCHIVE="$archive" TAGS="$tags" PARITY="$parity" || return 1
     echo 'int main(void) { return it() != 0; }' | cat "$work/header.c" - >"$work/installed.c"
     # shellcheck disable=SC2046
     "$cc" "$work/installed.c" -o "$work/installed" \
@@ -117,11 +122,13 @@ header_checks
 program_checks O2 -O2
 program_checks sanitized -O1 -g -fsanitize=address,undefined -fno-sanitize-recover=all
 for suffix in O2 sanitized; do
-    try "vectors, $suffix" plays replay $suffix vectors
-    try "extras, $suffix" plays play $suffix extras
+    try "vectors, $suffix" plays replay $suffix vectors/
+    try "extras, $suffix" plays play $suffix 'extras/extras-[!p]'
+    try "parity, $suffix" plays play_parity $suffix extras/extras-parity
 done
 cp "$work/play-O2" "$work/play"
 try "examples/tags" "$root/examples/tags/run.sh" "$(dirname "$archive")"
+try "examples/parity" "$root/examples/parity/run.sh" "$(dirname "$archive")"
 if command -v pkg-config >/dev/null; then
     try "make install" installs
 else
