@@ -105,33 +105,33 @@ def open_():
         proof=f'told answerCode _ (a .answer) e-r (rw (e-ks, e-kf, e-ka, e-kc) (subst (λ (s : Settings). OpenPromise s h {p} (a .answer) ({link} (arraysOf h)) {p}) e-c ({made})))')
 
 
-def hand_in():
+def send():
     end = parts('z₁', '(x₂ .now)', '(x₃ .now)', '(x₄ .now)')
     link = f"(linkOf (h .settings) (a .flight) (h .arrival) (h .clock) ({after('a', ARRAYS[:1])}))"
     pool = last('a', FIRST + 6)
     return dict(
-        crate='hand_in', name='hand_in', result=SENT, about='The table is read; structs are copied, all lists are lent, and the flight is stored.',
+        crate='ampferweg', name='ampferweg_send', result=CODE, about='The table is read; structs are copied, all lists are lent, and the flight is stored.',
         pars=[Par('ref'), Par('mut', 'u8')] + SLICES[1:] + [Par('shr', 'u8')],
-        said=f'SendPromise (x₅ .now) h {P} (r .answer) k {end}',
+        said=f'Gives answerCode (λ a. SendPromise (x₅ .now) h {P} a k {end}) r',
         calls=GATHER + [
             Call('core', 'a', f'SendLeaves h recs m (x₁ .now) (x₂ .now) (x₄ .now) (x₅ .now) (a .answer) {link} {pool}', WHOLE),
-            Call('flight-of', 'kf', 'kf ≡ a .flight'),
+            Call('flight-of', 'kf', 'kf ≡ a .flight'), Call('code-of', 'r', 'r ≡ answerCode (a .answer)'),
         ],
-        proof=f'rw e-kf (send-promised {GATHERED} (a .answer) {link} {pool} (x₅ .now) e-a)')
+        proof=f'told answerCode _ (a .answer) e-r (rw e-kf (send-promised {GATHERED} (a .answer) {link} {pool} (x₅ .now) e-a))')
 
 
-def read_out():
+def read():
     link = f"(linkOf (h .settings) (h .flight) (a .arrival) (h .clock) ({after('a', ARRAYS[3:])}))"
     buffer = last('a', FIRST + 9)
     return dict(
-        crate='read_out', name='read_out', result=DELIVERED, about='The table is read; structs are copied, all lists are lent, and the arrival is stored.',
+        crate='ampferweg', name='ampferweg_read', result=CODE, about='The table is read; structs are copied, all lists are lent, and the arrival is stored.',
         pars=[Par('ref')] + SLICES + [Par('mut', 'u8')],
-        said=f'ReadPromise h {P} (x₅ .now) (r .answer) k {P} z₅',
+        said=f'Gives countCode (λ a. ReadPromise h {P} (x₅ .now) a k {P} z₅) r',
         calls=GATHER + [
             Call('core', 'a', f'ReadOver h recs m (x₁ .now) (x₂ .now) (x₄ .now) (x₅ .now) (a .answer) {link} {buffer}', WHOLE),
-            Call('arrival-of', 'ka', 'ka ≡ a .arrival'),
+            Call('arrival-of', 'ka', 'ka ≡ a .arrival'), Call('code-of', 'r', 'r ≡ countCode (a .answer)'),
         ],
-        proof=f'rw e-ka (read-promised {GATHERED} (x₅ .now) (a .answer) {link} {buffer} e-a)')
+        proof=f'told countCode _ (a .answer) e-r (rw e-ka (read-promised {GATHERED} (x₅ .now) (a .answer) {link} {buffer} e-a))')
 
 
 def size():
@@ -171,32 +171,6 @@ def take_in():
             Call('flight-of', 'kf', 'kf ≡ a .flight'), Call('arrival-of', 'ka', 'ka ≡ a .arrival'),
         ],
         proof=f"rw (e-kf, e-ka) (input-left (x₅ .now) h {P} (a .answer) (takenBack a) {link} {pool} {acks} recs m {gathered} ({whole('end-')}) e-a)")
-
-
-def send():
-    p = parts('(x₁ .now)', '(x₂ .now)', '(x₃ .now)', '(x₄ .now)')
-    return dict(
-        crate='ampferweg', name='ampferweg_send', result=CODE, about='The block is given to `hand_in`.',
-        pars=[Par('given', 'L'), Par('mut', 'u8')] + SLICES[1:] + [Par('shr', 'u8')],
-        said=f"Gives answerCode (λ a. SendPromise (x₅ .now) (x₀ .now) {p} a z₀ {parts('z₁', '(x₂ .now)', '(x₃ .now)', '(x₄ .now)')}) r",
-        calls=[
-            Call('sending', 't', f"SendPromise (x₅ .now) (x₀ .now) {p} (t .answer) {last('t', 0)} {parts(last('t', 1), '(x₂ .now)', '(x₃ .now)', '(x₄ .now)')}"),
-            Call('code-of', 'r', 'r ≡ answerCode (t .answer)'),
-        ],
-        proof='told answerCode _ (t .answer) e-r e-t')
-
-
-def read():
-    p = parts('(x₁ .now)', '(x₂ .now)', '(x₃ .now)', '(x₄ .now)')
-    return dict(
-        crate='ampferweg', name='ampferweg_read', result=CODE, about='The block is given to `read_out`.',
-        pars=[Par('given', 'L')] + SLICES + [Par('mut', 'u8')],
-        said=f'Gives countCode (λ a. ReadPromise (x₀ .now) {p} (x₅ .now) a z₀ {p} z₅) r',
-        calls=[
-            Call('reading', 't', f"ReadPromise (x₀ .now) {p} (x₅ .now) (t .answer) {last('t', 0)} {p} {last('t', 5)}"),
-            Call('code-of', 'r', 'r ≡ countCode (t .answer)'),
-        ],
-        proof='told countCode _ (t .answer) e-r e-t')
 
 
 def input_():
@@ -248,7 +222,7 @@ def flush():
         proof=f'told countCode _ (t .answer) e-r (flush-promised x₅ (x₀ .now) {p} (x₆ .now) (x₇ .now) (t .answer) (putBack t) {link} {output} {lengths} {table} {few} {put} e-t)')
 
 
-CALLS = {'open': open_, 'send': send, 'hand_in': hand_in, 'read_out': read_out, 'take_in': take_in, 'input': input_, 'write_out': write_out, 'flush': flush, 'read': read, 'size': size, 'show': show}
+CALLS = {'open': open_, 'send': send, 'take_in': take_in, 'input': input_, 'write_out': write_out, 'flush': flush, 'read': read, 'size': size, 'show': show}
 
 if __name__ == '__main__':
     for which in sys.argv[1:] or CALLS:

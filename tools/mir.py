@@ -1,5 +1,6 @@
 # Reads the MIR of a straight-line function (`rt mir CRATE`) and takes a walk through it: what is copied, lent, given, stored and returned is
 # read off the statements. The author says, for each call in order, how its result is called and what the callee ensures (`Call`).
+import functools
 import os
 import re
 import subprocess
@@ -40,9 +41,14 @@ def place(p):
     return int(p[1]), items(p[2])
 
 
+@functools.cache
+def printed(crate):
+    return subprocess.run(['rt', 'mir', crate], capture_output=True, text=True, cwd=ROOT).stdout
+
+
 def function(crate, name):
     """The types of the locals, and the statements."""
-    text = subprocess.run(['rt', 'mir', crate], capture_output=True, text=True, cwd=ROOT).stdout
+    text = printed(crate)
     item = parse(text[text.index(f'(fn-def "{crate}::{name}"'):])[2]
     body, statements = item[5], []
     while body != 'return':
@@ -55,6 +61,24 @@ def type_name(t):
     """A MIR type in few words, as `tyInt 64`, `sent::Sent`, `tyArray timing::Record 32`."""
     words = re.findall(r'"([^"]*)"|(\w+)', str(t).replace("'", ''))
     return ' '.join(a or b for a, b in words if (a or b) not in ('tyNamed', 'pair', 'lnil', 'lenLit'))
+
+
+def ty(t, declared):
+    """A MIR type as antt writes it; `declared` has the types by their names."""
+    if t == 'tyPtr' or t == 'tyUnit' or t == 'tyBool':
+        return t
+    if t[0] == 'tyInt':
+        return f'(tyInt w{t[1]})'
+    if t[0] == 'tyNamed':
+        name = t[1][1].strip('"')
+        return 'record-laws.mir' if name == 'timing::Record' else f'{declared[name].alias}-laws.mir'
+    if t[0] == 'tyArray':
+        return f'(tyArray {ty(t[1], declared)} {t[2][1]})'
+    if t[0] == 'tyRef':
+        life = 'erased' if t[1] == 'erased' else f'(named {t[1][1]})'
+        behind = {'control::Link': '(pointee (L .written))', 'timing::Record': '(pointee (R .written))'}.get(type_name(t[3])) or ty(t[3], declared)
+        return f'(tyRef {life} {t[2]} {behind})'
+    return f'(sliceTy {ty(t[2][1], declared)})'
 
 
 class Call:
@@ -80,7 +104,7 @@ class Driver:
             lib, callee = s[1][1][1].strip('"').split('::', 1)
             called.append((lib, callee, c.alias))
         self.called, callees = called, list(dict.fromkeys(called))
-        self.walk = Walk(crate, name, pars, len(self.locals), callees, result, said, uses, block_fields(), about)
+        self.walk = Walk(crate, name, pars, [ty(t, types) for t in self.locals], callees, result, said, uses, block_fields(), about)
         self.names = list(self.walk.fields)
         self.values = {i + 1: self.value(p.t, f'x{low(i)}', f'v{low(i)}', f'g{low(i)}') for i, p in enumerate(pars) if p.kind == 'val'}
         self.slot = {i + 1: i for i, p in enumerate(pars) if p.slice() or p.kind == 'given'}

@@ -1,4 +1,6 @@
 # The proof file around a walk: what it cites, what each callee is called at, the exit, and the walk taken to the contract.
+import re
+
 from walk import at, cons, low, needed, nest
 
 WALK = '''_≡_, refl, ap, ℕ, _+_, List, [], _∷_, length, set, URA, fullShare, named, w8, w32, w64, Val, vint, vptr, SProp, ent, emp, via, fst∗, id⊢, Lft, GName, Share, Fml, ftrue, flft,
@@ -13,14 +15,17 @@ use Rattle.records.proofs.Shared.{LentShared, lends-shared, shared-back}
 use Rattle.records.proofs.Rows.{R, Rs, rs-typed, rs-makes}
 use Rattle.lending.proofs.Fields.{ref-at, lend-mut, back-mut, lend-shr, back-shr, cell-out, cell-in, tells-length}
 use Rattle.records.proofs.Frame.{envOf}
-use Rattle.lending.proofs.Parts.{typeOf, behind}
+use Rattle.lending.proofs.Parts.{behind, spread}
 use Rattle.lending.proofs.Block.{L, Open, Back, link-own, opens-link, closes-link, looks-link, shuts-link}
 use Rattle.control.specs.declared.Link.{Link}
 use Rattle.timing.specs.declared.Record.{Record}
 use lib.IntN.{ℤ}
 use mir.Syntax.{w16}
-use base.Fml.{fres, froom, fdies, fobor}
-use mir.Syntax.{Ty}
+use base.Fml.{fres, froom, fdies, fobor, fsep, feq}
+use mir.Syntax.{imm, mut, erased, tyInt, tyArray, tyRef, tyPtr, tyUnit, tyBool}
+use denote.Slice.{sliceTy}
+use denote.Memory.{pointee}
+use Rattle.timing.proofs.Record.Laws as record-laws
 use prog.Wp.{Env, Wp, atReturn}
 use types.Kit.{group, raw, atRet}
 use denote.Memory.{partAt}
@@ -50,7 +55,7 @@ def proof_file(w):
 
     say(f'-- `{w.crate}::{w.name}` meets its contract: a walk of its MIR. {w.about}')
     say('-- Of each callee the proof knows only that it meets its contract. Written by tools/calls.py.\n-- Assumes nothing.')
-    say(f'use Rattle.records.proofs.Walk.{{{" ".join(WALK.split())}, fat, exec}}\n{CITES}')
+    say(f'use Rattle.records.proofs.Walk.{{{" ".join(WALK.split())}, fat, keep, exec}}\n{CITES}')
     out += w.uses
     for crate, name, alias in w.callees:
         module = f'Rattle.{crate}.proofs.{name}' if crate == w.crate else f'Rattle.{crate}.proofs.{name}'
@@ -87,8 +92,7 @@ def proof_file(w):
     def behind(p):
         return p.t.denot if p.kind == 'val' else f'RefT ({p.list()})' if p.slice() else f'RefT {p.value()}'
     kinds = [behind(p) for p in pars]
-    values = ['ref-at b o γ h' if p.kind in ('ref', 'sref') else f'x{low(i)}' for i, p in enumerate(pars)]
-    say(f"    abbrev x : {' × ('.join(kinds)} × Unit {{0}}{')' * (len(kinds) - 1)}\n    x = {nest(values)}\n")
+    say(f"    abbrev x : {' × ('.join(kinds)} × Unit {{0}}{')' * (len(kinds) - 1)}\n    x = {nest(w.values())}\n")
 
     shown = {a['i'] for ask in w.asks for a in ask['args'] if a['kind'] in ('shown', 'shownkeep')}
     for i, p in enumerate(pars):
@@ -107,7 +111,7 @@ def proof_file(w):
     kappas, shares = nest(['κ' + l for l in lfts]), nest(['q' + l for l in lfts])
     say(f"    abbrev at : Vals f.signature {kappas}\n    at = {nest([m + ' ∷ []' for m in w.machine()])}\n")
     bound = f'(({kappas}, {shares}, tt, x, at), tt)'
-    say(f'    abbrev Post : Val → SProp 𝓤\n    Post = walkOf 𝓤 H A f.ended stayed (f.clauses 𝓤 H A at-mem run) .post {bound}\n')
+    say(f'    unfoldable Post : Val → SProp 𝓤\n    Post = walkOf 𝓤 H A f.ended stayed (f.clauses 𝓤 H A at-mem run) .post {bound}\n')
     for ask in w.asks:
         out.extend(asked(ask))
 
@@ -128,7 +132,7 @@ def proof_file(w):
     say(f"    abbrev Had : {arrow}List (Item 𝓤)\n    Had {' '.join(names)} = {cons(had(n) for n in w.had)}\n")
     say(f"    -- what the contract says\n    abbrev Said : (r : {w.result.denot}) {binds} → Type 0\n    Said r {' '.join(names)} = {w.said}\n")
     lengths = ' '.join(f'→ length z{low(i)} ≡ length (x{low(i)} .now)' for i in slices)
-    say(f"    exits : (r : {w.result.denot}) (w : Val) {binds} → Said r {' '.join(names)} {lengths} → Is {w.result.row} r (w ∷ []) → ent 𝓤 (⋆ 𝓤 H A (Had {' '.join(names)})) (Post w)")
+    say(f"    exits : (r : {w.result.denot}) (w : Val) {binds} → Said r {' '.join(names)} {lengths} → Is {w.result.row} r (w ∷ []) → ent 𝓤 (⋆ 𝓤 H A (Had {' '.join(names)})) (Post w)\n    unfolding Post")
     lasts = nest(['k' if p.kind == 'ref' else f'z{low(i)}' if p.gives() else 'tt' for i, p in enumerate(pars)])
     fits = nest([f'len{low(i)}' if p.kind == 'mut' else 'tt' for i, p in enumerate(pars)])
     say(f"    exits r w {' '.join(names)} e {' '.join(f'len{low(i)}' for i in slices)} g =")
@@ -161,25 +165,32 @@ def lines(part):
 
 
 def walked(w):
-    """The parts of the walk but the first, from the last on: each is what the one before it ends with."""
+    """The parts of the walk but the first, from the last on: each is what the one before it ends with. What a part knows is one tuple: every blank
+    that antt fills is a function of all that is in scope, so that many names make a check slow."""
     out = []
-    places = cons(f'l{low(i)}' for i in range(w.locals))
+    places = [f'l{low(i)}' for i in range(w.locals)]
+    if len(w.parts) > 1:
+        out.append(f"      -- where the locals lie\n      abbrev En : ({' '.join(places)} : ℕ) → Env 𝓤 H\n      En {' '.join(places)} = envOf (code.function .locals) ({cons(places)})\n")
     for k in range(len(w.parts) - 1, 0, -1):
-        before, part = w.parts[k - 1], w.parts[k]
-        if k == len(w.parts) - 1 and k > 0:
-            names = ' '.join(f'l{low(i)}' for i in range(w.locals))
-            out.append('      -- the types of the locals, and where they lie\n      abbrev ty : ℕ → Ty\n      ty i = typeOf (code.function .locals) i\n')
-            out.append(f'      abbrev En : ({names} : ℕ) → Env 𝓤 H\n      En {names} = envOf (code.function .locals) ({places})\n')
-        env = f"(En {' '.join(f'l{low(i)}' for i in range(w.locals))})"
+        before, part, n = w.parts[k - 1], w.parts[k], low(k)
+        context, text = cons(before['context']), lines(part)
+        scope = needed(before['scope'], ' '.join([context, text] + places))
+        inside = {name: f'(past .{i})' for i, (name, _) in enumerate(scope)}
+        env = within(f"(En {' '.join(places)})", inside)
         body = f"(behind {before['done']} (code.function .body))"
-        context = cons(before['context'])
-        scope = needed(before['scope'], ' '.join([context, lines(part), places]))
-        binders = ' '.join(f'({name} : {t})' for name, t in scope)
-        out.append(f"      part{low(k)} : {binders} → ent 𝓤 (⋆ 𝓤 H A ({context})) (Wp 𝓤 H C Λ {env} {body} (atReturn 𝓤 H {env} Post))")
-        out.append(f"      part{low(k)} {' '.join(name for name, _ in scope)} =\n          qed W ({context}) ∵ exec ! C Λ {env} {body} (atRet {env} Post) $\n          {lines(part)}\n")
-        passed = ' '.join(before['passed'][name] for name, _ in scope)
-        before['end'] = f"by ! (part{low(k)} {passed})" + ')' * before['open']
+        context, text = within(context, inside), within(text, inside)
+        kinds = ' × '.join([f'({name} : {kind})' for name, kind in scope[:-1]] + [f'({scope[-1][1]})'])
+        out.append(f'      -- what part {k} knows\n      abbrev Known{n} : Type 0\n      Known{n} = {kinds}\n')
+        out.append(f'      part{n} : (past : Known{n}) → ent 𝓤 (⋆ 𝓤 H A ({context})) (Wp 𝓤 H C Λ {env} {body} (atReturn 𝓤 H {env} Post))')
+        out.append(f'      part{n} past =\n          qed W ({context}) ∵ exec ! C Λ {env} {body} (atRet {env} Post) $\n          {text}\n')
+        passed = ', '.join(before['passed'][name] for name, _ in scope)
+        before['end'] = f'by ! (part{n} ({passed}))' + ')' * before['open']
     return out
+
+
+def within(text, names):
+    """A text with these names put in for others."""
+    return ''.join(names.get(word, word) for word in re.split(r'([\s(){},;]+)', text))
 
 
 class Steps:
@@ -282,6 +293,7 @@ def meets(w):
         f" code.calls-{crate.replace('_', '-')}·{name.replace('_', '-')} ({c}-thm.met 𝓤 H 𝓜 𝓖 𝓡)" for crate, name, c in w.callees)
     comma = ',' if len(w.callees) > 1 else ''
     return f'''  f-meets : (𝓣 : Tables 𝓤 H) → Known (𝓣 .C) → Meets 𝓤 H A f.signature (WpFn 𝓤 H (𝓣 .C) (𝓣 .Λ) code.function) (f.spec 𝓤 H A at-mem run)
+  unfolding Post
   f-meets 𝓣 known = walk-meets 𝓤 H A f.ended stayed W {nest([goes(p) for p in w.pars])}
       (f.clauses 𝓤 H A at-mem run) (WpFn 𝓤 H (𝓣 .C) (𝓣 .Λ) code.function) (WpFn-mono 𝓤 H (W .laws) 𝓣 code.function)
       (walked 𝓤 H A f.ended stayed (f.clauses 𝓤 H A at-mem run) (WpFn 𝓤 H (𝓣 .C) (𝓣 .Λ) code.function) (λ κs. {vals}) (λ κs. {nest([tells(p) for p in w.pars])})

@@ -60,8 +60,8 @@ class Par:
 
 
 class Walk:
-    def __init__(self, crate, name, pars, locals_, callees, result, said, uses, fields, about):
-        self.crate, self.name, self.pars, self.locals = crate, name, pars, locals_
+    def __init__(self, crate, name, pars, types, callees, result, said, uses, fields, about):
+        self.crate, self.name, self.pars, self.types, self.locals = crate, name, pars, types, len(types)
         self.callees, self.result, self.said, self.uses, self.fields, self.about = callees, result, said, uses, fields, about
         lft = 0
         for p in pars:
@@ -69,7 +69,7 @@ class Walk:
                 p.lft, lft = lft, lft + 1
         self.lifetimes = lft
         self.text, self.open, self.context = [], 0, []
-        self.scope, self.filled, self.parts, self.renamed = [], {}, [], []
+        self.scope, self.filled, self.parts, self.renamed, self.was = [], {}, [], [], {}
         self.asks, self.last, self.how, self.finals, self.after = [], {}, {}, {}, None
         self.now = {f: f'(h .{f})' for f in fields}
         self.share = 'q′' if pars[0].kind == 'sref' else 'fullShare'
@@ -96,10 +96,22 @@ class Walk:
         self.context = list(items) + [c for c in self.context if c not in items]
 
     def lose(self, items):
-        self.bring(items)
-        for _ in items:
-            self.say('drop ! $')
-            self.context.pop(0)
+        if len(items) < 3:
+            self.bring(items)
+            for _ in items:
+                self.say('drop ! $')
+                self.context.pop(0)
+        else:
+            kept = [c for c in self.context if c not in items]
+            self.say(f'keep ! ({cons(str(self.pos(c)) for c in kept)}) $')
+            self.context = kept
+
+    def spread(self, item, into):
+        """An item becomes several, in one step: (name, formula) of each."""
+        self.bring([item])
+        formulas = [formula for _, formula in into]
+        self.say(f'spread W ({formulas[0]}) ({cons(formulas[1:])}) (id⊢ 𝓤 _) $')
+        self.context[0:1] = [name for name, _ in into]
 
     def comment(self):
         self.say('\n-- [' + '; '.join(c for c in self.context if c[0] != 'L') + '; the locals]\n')
@@ -109,7 +121,7 @@ class Walk:
 
     def assign(self, value, local, typed, machine):
         self.filled[local] = machine
-        self.say(f"assigns ! {value} (from ! (stop !)) (init ! {self.pos(f'L{local}')} refl {typed}) $\n")
+        self.say(f"assigns ! {{v = {machine}}} {value} (from ! (stop !)) (init ! {self.pos(f'L{local}')} refl {typed}) $\n")
 
     # ---- parameters
 
@@ -131,6 +143,9 @@ class Walk:
         """The machine values of the parameters."""
         return [{'val': f'v{low(i)}', 'ref': 'vptr b o', 'sref': 'vptr b o'}.get(p.kind, f's{low(i)}') for i, p in enumerate(self.pars)]
 
+    def values(self):
+        return ['ref-at b o γ h' if p.kind in ('ref', 'sref') else f'x{low(i)}' for i, p in enumerate(self.pars)]
+
     def room(self, i):
         return f'(tt, (tt, (record {{ fits = room{low(i)} .0 }}, tt)))'
 
@@ -151,21 +166,10 @@ class Walk:
             typed = p.t.typed(f'x{n}', f'v{n}', f'g{n}') if p.kind == 'val' else self.room(i) if p.slice() else '(tt, tt)'
             self.say(f"pass1 ! (init ! {self.pos(f'L{i + 1}')} refl {typed}) $")
         self.say('pass0 ! $\n')
-        self.bring(['owns'])
-        for i, p in enumerate(self.pars):
-            self.say('fsplit ! $')
-            self.context[0:1] = [f'own{i}', 'owns']
-            if p.kind == 'val':
-                self.lose([f'own{i}'])
-            else:
-                self.bring(['owns'])
-        self.lose(['owns'])
-        self.bring(['tokens'])
-        for i in refs:
-            self.say('split ! $')
-            self.context[0:1] = [f'tok{i}', 'tokens']
-            self.bring(['tokens'])
-        self.lose(['tokens'])
+        owned = [(f'own{i}', f'‵ ({self.row(i)} .own ({self.values()[i]}) ({machine} ∷ []))') for i, machine in enumerate(self.machine())]
+        self.spread('owns', owned + [('true', '‵ ftrue')])
+        self.spread('tokens', [(f'tok{i}', f'‵ {self.token(i)}') for i in refs] + [('true′', '‵ ftrue')])
+        self.lose([f'own{i}' for i, p in enumerate(self.pars) if p.kind == 'val'] + ['true', 'true′'])
         self.bring([f'D{i}' for i in range(self.locals)])
         self.say(f'group ! {self.locals} $')
         self.context[0:self.locals] = ['deaths']
@@ -206,14 +210,14 @@ class Walk:
     def offset(self, f):
         return f'(o + {self.fields[f][1]})'
 
-    def place(self):
-        return f"(from ! (hop ! (look ! {self.pos('L1')} refl) (fld ! refl (stop !))))"
+    def place(self, f):
+        return f"(from ! (hop ! (look ! {self.pos('L1')} refl) (fld ! {{d = {self.fields[f][1]}}} refl (stop !))))"
 
     def cell(self, f):
         """The field's cell is taken out."""
         t = self.fields[f][0]
         self.bring([f'F:{f}'])
-        was = f'was-{hyphened(f)}'
+        was = self.was[f] = f'was-{hyphened(f)}' + ('′' if f in self.was else '')
         self.under(f'cell-out ! {self.share} {t.row} {t.vals()} {t.tells()} {self.now[f]} b {self.offset(f)} (λ {was}.', (was, f'Is {t.row} {self.now[f]} ({t.vals()} {self.now[f]})'))
         self.context[0] = f'C:{f}'
 
@@ -227,14 +231,14 @@ class Walk:
     def copied(self, f):
         """What was copied of the field: its value, machine value, and that the one is the other's."""
         t = self.fields[f][0]
-        return self.now[f], f'(only ({t.vals()} {self.now[f]}))', f'was-{hyphened(f)}'
+        return self.now[f], f'(only ({t.vals()} {self.now[f]}))', self.was[f]
 
     def copy(self, f, local):
         """_local = (*link).f"""
         self.cell(f)
         x, v, g = self.copied(f)
         typed = self.fields[f][0].typed(x, v, g)
-        value = f"(of-opd ! (load ! {self.place()} (look-raw ! {self.pos(f'C:{f}')} refl)))"
+        value = f"(of-opd ! (load ! {self.place(f)} (look-raw ! {self.pos(f'C:{f}')} refl)))"
         self.say('\n')
         self.assign(value, local, typed, v)
         self.put(f, x, v, g)
@@ -243,12 +247,12 @@ class Walk:
         """(*link).f = _local"""
         self.cell(f)
         typed = self.fields[f][0].typed(x, v, g)
-        self.say(f"assigns ! (of-opd ! {self.look(local)}) {self.place()} (store-raw ! {self.pos(f'C:{f}')} refl {typed}) $")
+        self.say(f"assigns ! (of-opd ! {self.look(local)}) {self.place(f)} (store-raw ! {self.pos(f'C:{f}')} refl {typed}) $")
         self.put(f, x, v, g)
 
     def address(self, f, local):
         """_local = &mut (*link).f, or & of it"""
-        self.assign(f'(addr ! {self.place()})', local, '(tt, tt)', f'(vptr b {self.offset(f)})')
+        self.assign(f'(addr ! {self.place(f)})', local, '(tt, tt)', f'(vptr b {self.offset(f)})')
 
     def lend(self, f, how):
         self.bring([f'F:{f}'])
@@ -403,33 +407,32 @@ class Walk:
 
     def take_back(self, args, outer, ws):
         """Behind a call: the tokens, and the last values that the callee said."""
-        tokens = ' ⊛ '.join('‵ ' + x['token-is'] for x in outer)
-        self.say(f'use1 W ({tokens} ⊛ ‵ ftrue) (id⊢ 𝓤 _) $')
-        for x in outer:
-            self.say('split ! $')
-            self.context[0:1] = [x['token'], 'alive']
-            self.bring(['alive'])
-        self.lose(['alive'])
-        self.bring(['lasts'])
+        self.spread('alive', [(x['token'], '‵ ' + x['token-is']) for x in outer] + [('true', '‵ ftrue')])
+        parts, junk, slices = [], ['true', 'true′'], []
         for n, a in enumerate(args):
-            if not any(self.given_back(b) for b in args[n:]):
-                break
-            self.say('fsplit ! $')
-            self.context[0:1] = ['it', 'lasts']
+            last = at(ws, n)
             if not self.given_back(a):
-                self.lose(['it'])
+                parts.append((f'it{n}', '‵ ftrue'))
+                junk.append(f'it{n}')
             elif a['kind'] == 'fld':
-                self.context[0], self.finals[a['f']] = f"fin:{a['f']}", at(ws, n)
+                f = a['f']
+                parts.append((f'fin:{f}', f'‵ (fres δ-{hyphened(f)} ({self.fields[f][0].row} .coded .code ({last})))'))
+                self.finals[f] = last
             else:
-                i = a['i']
-                self.last[i] = at(ws, n)
-                if self.pars[i].slice():
-                    self.say('fsplit ! $ move ! (1 ∷ []) $')
-                    n = low(i)
-                    self.under(f'feqL ! (λ len{n}.', (f'len{n}', f'length ({self.last[i]}) ≡ length (x{n} .now)'))
-                self.context[0] = f'fin{i}'
-            self.bring(['lasts'])
-        self.lose(['lasts'])
+                i, p = a['i'], self.pars[a['i']]
+                self.last[i] = last
+                if p.slice():
+                    slices.append((n, i))
+                    parts.append((f'it{n}', f'‵ (fsep (finally {p.t} (x{low(i)} .name) ({last})) (feq ℕ (length ({last})) (length (x{low(i)} .now))))'))
+                else:
+                    parts.append((f'fin{i}', f'‵ (fres (x{low(i)} .name) ({p.t} .coded .code ({last})))'))
+        self.spread('lasts', parts + [('true′', '‵ ftrue')])
+        self.lose(junk)
+        for n, i in slices:
+            self.bring([f'it{n}'])
+            self.say('fsplit ! $ move ! (1 ∷ []) $')
+            self.under(f'feqL ! (λ len{low(i)}.', (f'len{low(i)}', f'length ({self.last[i]}) ≡ length (x{low(i)} .now)'))
+            self.context[0] = f'fin{i}'
         for a in args:
             if a['kind'] in ('keep', 'shownkeep'):
                 i = a['i']
@@ -442,10 +445,10 @@ class Walk:
         """An item of the context, written out."""
         kind, n = item[:3], item[3:]
         if item == 'deaths':
-            return '(' + ' ⊛ '.join(f'‵ (fdies (ty {i}) l{low(i)})' for i in range(self.locals)) + ')'
+            return '(' + ' ⊛ '.join(f'‵ (fdies {self.types[i]} l{low(i)})' for i in range(self.locals)) + ')'
         if item[0] == 'L':
             i = int(item[1:])
-            return f'‵ (fat fullShare (ty {i}) l{low(i)} 0 ({self.filled[i]}))' if i in self.filled else f'‵ (froom (ty {i}) l{low(i)} 0)'
+            return f'‵ (fat fullShare {self.types[i]} l{low(i)} 0 ({self.filled[i]}))' if i in self.filled else f'‵ (froom {self.types[i]} l{low(i)} 0)'
         if item[:2] == 'F:':
             f = item[2:]
             return f'‵ (partAt {self.fields[f][0].row} {self.share} {self.now[f]} b {self.offset(f)})'
@@ -487,16 +490,12 @@ class Walk:
 
     def end(self, x, v, g, proof):
         self.say(f"returns ! (look ! {self.pos('L0')} refl) $")
+        deaths = [(f'D{i}', f'‵ (fdies {self.types[i]} l{low(i)})') for i in range(self.locals)]
         self.say('\n')
-        for i in range(self.locals):
-            self.say(f"forget ! {self.pos(f'L{i}')} refl $")
-            self.bring(['deaths'])
-            self.context[0] = f'D{i}'
-            if i < self.locals - 1:
-                self.say('split ! $')
-                self.context.insert(1, 'deaths')
-            self.bring([f'L{i}', f'D{i}'])
-            self.say('free1 ! $\n')
+        self.spread('deaths', deaths)
+        self.bring([c for i in range(self.locals) for c in (f'L{i}', f'D{i}')])
+        for _ in range(self.locals):
+            self.say('forget ! 0 refl $ free1 ! $')
             self.context = self.context[2:]
         self.say('free0 ! $\n')
         keeps = {'mut': ['fin', 'tok'], 'given': ['fin', 'tok'], 'ref': ['own', 'tok'], 'shr': ['tok'], 'sref': ['tok'], 'val': []}

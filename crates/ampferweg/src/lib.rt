@@ -74,7 +74,34 @@ pub extern "C" fn ampferweg_send(
         a (now (link .exit))
         (partsOf (now («send_pool» .exit)) (now («receive_pool» .entry)) (now (table .entry)) (now (acks .entry)))) r ⌝ }
 {
-    let sent = hand_in::hand_in(link, send_pool, receive_pool, table, acks, message);
+    let settings = link.settings;
+    let flight = link.flight;
+    let arrival = link.arrival;
+    let clock = link.clock;
+    let words = link.outstanding;
+    let n = results::outstanding_count(flight);
+    let records = gathering::gather(table, words, n);
+    let lent = records::table_len(table);
+    let sent = send_core::send(
+        settings,
+        flight,
+        arrival,
+        clock,
+        records,
+        lent,
+        &mut link.queued,
+        &link.outstanding,
+        &link.transmissions,
+        &link.ready,
+        &link.waiting,
+        &link.waiting_numbers,
+        send_pool,
+        receive_pool,
+        acks,
+        message,
+    );
+    let flight = results::sent_flight(sent);
+    link.flight = flight;
     results::sent_code(sent)
 }
 
@@ -152,7 +179,34 @@ pub extern "C" fn ampferweg_read(
         (partsOf (now («send_pool» .entry)) (now («receive_pool» .entry)) (now (table .entry)) (now (acks .entry)))
         (now (buffer .exit))) r ⌝ }
 {
-    let delivered = read_out::read_out(link, send_pool, receive_pool, table, acks, buffer);
+    let settings = link.settings;
+    let flight = link.flight;
+    let arrival = link.arrival;
+    let clock = link.clock;
+    let words = link.outstanding;
+    let n = results::outstanding_count(flight);
+    let records = gathering::gather(table, words, n);
+    let lent = records::table_len(table);
+    let delivered = read_core::read(
+        settings,
+        flight,
+        arrival,
+        clock,
+        records,
+        lent,
+        &link.queued,
+        &link.outstanding,
+        &link.transmissions,
+        &mut link.ready,
+        &mut link.waiting,
+        &mut link.waiting_numbers,
+        send_pool,
+        receive_pool,
+        acks,
+        buffer,
+    );
+    let arrival = results::delivered_arrival(delivered);
+    link.arrival = arrival;
     results::delivered_code(delivered)
 }
 

@@ -1,20 +1,23 @@
 -- `ampferweg::ampferweg_flush` meets its contract: a walk of its MIR. The block is given to `write_out`, and the table lent to it as `&`; then the table is given to `scatter`.
 -- Of each callee the proof knows only that it meets its contract. Written by tools/calls.py.
 -- Assumes nothing.
-use Rattle.records.proofs.Walk.{_≡_, refl, ap, ℕ, _+_, List, [], _∷_, length, set, URA, fullShare, named, w8, w32, w64, Val, vint, vptr, SProp, ent, emp, via, fst∗, id⊢, Lft, GName, Share, Fml, ftrue, flft, Memory, Routine, Heap, Calls, Loops, WpFn, Tables, Atoms, Fun, givenOf, tables, tablesOf, Given, Item, ‵, some, later, _⊛_, ⋆, _$_, _∵_, !, qed, by, move, drop, use1, use2, split, join, pick, await, fsplit, fjoin, feqL, suffices, frame, done, look, look-raw, look-in, sub, whole, init, store, store-raw, forget, stop, hop, fld, from, load, of-opd, agg, addr, and-then, no-more, assigns, returns, enter, alloc1, alloc0, params1, pass1, pass0, free1, free0, land, WpFn-mono, FmC, fmOf, owns, Is, uint-vals, uint-tells, uint-makes, RefT, sliceVal, MutSlice, ShrSlice, Room, slice-vals, mut-slice-tells, shr-slice-tells, finally, plain, u8, u32, usize, nothing, owned, only, Vals, onEntry, Triple, Meets, tripleOf, entered, cited, says, Stays, gave-slice, goes-gave-slice, walkOf, ends-at, walked, walk-meets, yes, fat, exec}
+use Rattle.records.proofs.Walk.{_≡_, refl, ap, ℕ, _+_, List, [], _∷_, length, set, URA, fullShare, named, w8, w32, w64, Val, vint, vptr, SProp, ent, emp, via, fst∗, id⊢, Lft, GName, Share, Fml, ftrue, flft, Memory, Routine, Heap, Calls, Loops, WpFn, Tables, Atoms, Fun, givenOf, tables, tablesOf, Given, Item, ‵, some, later, _⊛_, ⋆, _$_, _∵_, !, qed, by, move, drop, use1, use2, split, join, pick, await, fsplit, fjoin, feqL, suffices, frame, done, look, look-raw, look-in, sub, whole, init, store, store-raw, forget, stop, hop, fld, from, load, of-opd, agg, addr, and-then, no-more, assigns, returns, enter, alloc1, alloc0, params1, pass1, pass0, free1, free0, land, WpFn-mono, FmC, fmOf, owns, Is, uint-vals, uint-tells, uint-makes, RefT, sliceVal, MutSlice, ShrSlice, Room, slice-vals, mut-slice-tells, shr-slice-tells, finally, plain, u8, u32, usize, nothing, owned, only, Vals, onEntry, Triple, Meets, tripleOf, entered, cited, says, Stays, gave-slice, goes-gave-slice, walkOf, ends-at, walked, walk-meets, yes, fat, keep, exec}
 use Rattle.records.proofs.Call.{calls-fn, plainly}
 use Rattle.records.proofs.Shared.{LentShared, lends-shared, shared-back}
 use Rattle.records.proofs.Rows.{R, Rs, rs-typed, rs-makes}
 use Rattle.lending.proofs.Fields.{ref-at, lend-mut, back-mut, lend-shr, back-shr, cell-out, cell-in, tells-length}
 use Rattle.records.proofs.Frame.{envOf}
-use Rattle.lending.proofs.Parts.{typeOf, behind}
+use Rattle.lending.proofs.Parts.{behind, spread}
 use Rattle.lending.proofs.Block.{L, Open, Back, link-own, opens-link, closes-link, looks-link, shuts-link}
 use Rattle.control.specs.declared.Link.{Link}
 use Rattle.timing.specs.declared.Record.{Record}
 use lib.IntN.{ℤ}
 use mir.Syntax.{w16}
-use base.Fml.{fres, froom, fdies, fobor}
-use mir.Syntax.{Ty}
+use base.Fml.{fres, froom, fdies, fobor, fsep, feq}
+use mir.Syntax.{imm, mut, erased, tyInt, tyArray, tyRef, tyPtr, tyUnit, tyBool}
+use denote.Slice.{sliceTy}
+use denote.Memory.{pointee}
+use Rattle.timing.proofs.Record.Laws as record-laws
 use prog.Wp.{Env, Wp, atReturn}
 use types.Kit.{group, raw, atRet}
 use denote.Memory.{partAt}
@@ -135,7 +138,7 @@ module _ {M : Type 1} (𝓤 : URA M) (H : Heap 𝓤) (A : Atoms 𝓤) (W : Given
     abbrev at : Vals f.signature (κ₀, (κ₁, (κ₂, (κ₃, (κ₄, (κ₅, (κ₆, tt)))))))
     at = (s₀ ∷ [], (s₁ ∷ [], (s₂ ∷ [], (s₃ ∷ [], (s₄ ∷ [], (v₅ ∷ [], (s₆ ∷ [], (s₇ ∷ [], tt))))))))
 
-    abbrev Post : Val → SProp 𝓤
+    unfoldable Post : Val → SProp 𝓤
     Post = walkOf 𝓤 H A f.ended stayed (f.clauses 𝓤 H A at-mem run) .post (((κ₀, (κ₁, (κ₂, (κ₃, (κ₄, (κ₅, (κ₆, tt))))))), (q₀, (q₁, (q₂, (q₃, (q₄, (q₅, (q₆, tt))))))), tt, x, at), tt)
 
     -- what flushing is called at, and that what it asks is had
@@ -162,6 +165,7 @@ module _ {M : Type 1} (𝓤 : URA M) (H : Heap 𝓤) (A : Atoms 𝓤) (W : Given
     Said r z₀ z₃ z₆ z₇ = Gives countCode (λ a. FlushPromise x₅ (x₀ .now) (partsOf (x₁ .now) (x₂ .now) (x₃ .now) (x₄ .now)) (x₆ .now) (x₇ .now) a z₀ (partsOf (x₁ .now) (x₂ .now) z₃ (x₄ .now)) z₆ z₇) r
 
     exits : (r : ℤ) (w : Val) (z₀ : Link) (z₃ : List Record) (z₆ : List ℕ) (z₇ : List ℕ) → Said r z₀ z₃ z₆ z₇ → length z₃ ≡ length (x₃ .now) → length z₆ ≡ length (x₆ .now) → length z₇ ≡ length (x₇ .now) → Is i32 r (w ∷ []) → ent 𝓤 (⋆ 𝓤 H A (Had z₀ z₃ z₆ z₇)) (Post w)
+    unfolding Post
     exits r w z₀ z₃ z₆ z₇ e len₃ len₆ len₇ g =
         qed W (Had z₀ z₃ z₆ z₇) ∵ suffices ! _ (ends-at 𝓤 H A f.ended stayed (f.clauses 𝓤 H A at-mem run) W (((κ₀, (κ₁, (κ₂, (κ₃, (κ₄, (κ₅, (κ₆, tt))))))), (q₀, (q₁, (q₂, (q₃, (q₄, (q₅, (q₆, tt))))))), tt, x, at), tt) w r (z₀, (tt, (tt, (z₃, (tt, (tt, (z₆, (z₇, tt)))))))) (tt, (tt, (tt, (len₃, (tt, (tt, (len₆, (len₇, tt))))))))) $ says ! e $
         nothing ! $ move ! (11 ∷ 0 ∷ []) $ join ! $ move ! (9 ∷ 0 ∷ []) $ join ! $ move ! (7 ∷ 0 ∷ []) $ join ! $ move ! (6 ∷ 0 ∷ []) $ join ! $ move ! (4 ∷ 0 ∷ []) $ join ! $ move ! (3 ∷ 0 ∷ []) $ join ! $ move ! (2 ∷ 0 ∷ []) $ join ! $ frame ! $ nothing ! $ move ! (4 ∷ 0 ∷ []) $ fjoin ! $ move ! (3 ∷ 0 ∷ []) $ fjoin ! $ nothing ! $ fjoin ! $ nothing ! $ fjoin ! $ move ! (2 ∷ 0 ∷ []) $ fjoin ! $ nothing ! $ fjoin ! $ nothing ! $ fjoin ! $ move ! (1 ∷ 0 ∷ []) $ fjoin ! $ frame ! $ owned ! i32 (Is i32) (sint-makes 𝓤 H A W w32) r _ g $ done !
@@ -172,22 +176,22 @@ module _ {M : Type 1} (𝓤 : URA M) (H : Heap 𝓤) (A : Atoms 𝓤) (W : Given
           qed W ((‵ (flft κ₀ q₀) ⊛ ‵ (flft κ₁ q₁) ⊛ ‵ (flft κ₂ q₂) ⊛ ‵ (flft κ₃ q₃) ⊛ ‵ (flft κ₄ q₄) ⊛ ‵ (flft κ₅ q₅) ⊛ ‵ (flft κ₆ q₆) ⊛ ‵ ftrue) ∷ ‵ (owns (MutRef (named 0) κ₀ L ∷ ShrSlice (named 1) κ₁ u8 ∷ ShrSlice (named 2) κ₂ u8 ∷ MutSlice (named 3) κ₃ R ∷ ShrSlice (named 4) κ₄ u32 ∷ u32 ∷ MutSlice (named 5) κ₅ u8 ∷ MutSlice (named 6) κ₆ u16 ∷ []) x at) ∷ []) ∵ enter ! C Λ code.function (s₀ ∷ s₁ ∷ s₂ ∷ s₃ ∷ s₄ ∷ v₅ ∷ s₆ ∷ s₇ ∷ []) _ $
           alloc1 ! (λ l₀. alloc1 ! (λ l₁. alloc1 ! (λ l₂. alloc1 ! (λ l₃. alloc1 ! (λ l₄. alloc1 ! (λ l₅. alloc1 ! (λ l₆. alloc1 ! (λ l₇. alloc1 ! (λ l₈. alloc1 ! (λ l₉. alloc1 ! (λ l₁₀. alloc1 ! (λ l₁₁. alloc1 ! (λ l₁₂. alloc1 ! (λ l₁₃. alloc1 ! (λ l₁₄. alloc1 ! (λ l₁₅. alloc1 ! (λ l₁₆. alloc1 ! (λ l₁₇. alloc1 ! (λ l₁₈. alloc1 ! (λ l₁₉. alloc1 ! (λ l₂₀. alloc1 ! (λ l₂₁. alloc1 ! (λ l₂₂. alloc0 ! $ params1 ! $
           pass1 ! (init ! 42 refl (tt, tt)) $ pass1 ! (init ! 40 refl (tt, (tt, (record { fits = room₁ .0 }, tt)))) $ pass1 ! (init ! 38 refl (tt, (tt, (record { fits = room₂ .0 }, tt)))) $ pass1 ! (init ! 36 refl (tt, (tt, (record { fits = room₃ .0 }, tt)))) $ pass1 ! (init ! 34 refl (tt, (tt, (record { fits = room₄ .0 }, tt)))) $ pass1 ! (init ! 32 refl (uint-lawful 𝓤 H A W w32 .typed x₅ _ g₅ .0)) $ pass1 ! (init ! 30 refl (tt, (tt, (record { fits = room₆ .0 }, tt)))) $ pass1 ! (init ! 28 refl (tt, (tt, (record { fits = room₇ .0 }, tt)))) $ pass0 ! $
-          move ! (47 ∷ []) $ fsplit ! $ move ! (1 ∷ []) $ fsplit ! $ move ! (1 ∷ []) $ fsplit ! $ move ! (1 ∷ []) $ fsplit ! $ move ! (1 ∷ []) $ fsplit ! $ move ! (1 ∷ []) $ fsplit ! $ drop ! $ fsplit ! $ move ! (1 ∷ []) $ fsplit ! $ move ! (1 ∷ []) $ drop ! $ move ! (53 ∷ []) $ split ! $ move ! (1 ∷ []) $ split ! $ move ! (1 ∷ []) $ split ! $ move ! (1 ∷ []) $ split ! $ move ! (1 ∷ []) $ split ! $ move ! (1 ∷ []) $ split ! $ move ! (1 ∷ []) $ split ! $ move ! (1 ∷ []) $ drop ! $ move ! (59 ∷ 57 ∷ 55 ∷ 53 ∷ 51 ∷ 49 ∷ 47 ∷ 45 ∷ 43 ∷ 41 ∷ 39 ∷ 37 ∷ 35 ∷ 33 ∷ 31 ∷ 29 ∷ 27 ∷ 25 ∷ 23 ∷ 21 ∷ 19 ∷ 17 ∷ 15 ∷ []) $ group ! 23 $
-          -- [deaths; tok7; tok6; tok4; tok3; tok2; tok1; tok0; own7; own6; own4; own3; own2; own1; own0; the locals]
-          assigns ! (addr ! (from ! (hop ! (look ! 36 refl) (stop !)))) (from ! (stop !)) (init ! 24 refl (tt, tt)) $
-          assigns ! (addr ! (from ! (fld ! refl (hop ! (look-in ! 33 (sub ! 0 refl (whole !))) (stop !))))) (from ! (stop !)) (init ! 23 refl (tt, tt)) $
-          assigns ! (agg ! (and-then ! (load ! (from ! (stop !)) (look ! 23 refl)) (and-then ! (load ! (from ! (fld ! refl (stop !))) (look-in ! 33 (sub ! 1 refl (whole !)))) (no-more !)))) (from ! (stop !)) (init ! 22 refl (tt, (tt, (record { fits = room₃ .0 }, tt)))) $
-          assigns ! (addr ! (from ! (fld ! refl (hop ! (look-in ! 30 (sub ! 0 refl (whole !))) (stop !))))) (from ! (stop !)) (init ! 21 refl (tt, tt)) $
-          assigns ! (agg ! (and-then ! (load ! (from ! (stop !)) (look ! 21 refl)) (and-then ! (load ! (from ! (fld ! refl (stop !))) (look-in ! 30 (sub ! 1 refl (whole !)))) (no-more !)))) (from ! (stop !)) (init ! 20 refl (tt, (tt, (record { fits = room₆ .0 }, tt)))) $
-          assigns ! (addr ! (from ! (fld ! refl (hop ! (look-in ! 29 (sub ! 0 refl (whole !))) (stop !))))) (from ! (stop !)) (init ! 19 refl (tt, tt)) $
-          assigns ! (agg ! (and-then ! (load ! (from ! (stop !)) (look ! 19 refl)) (and-then ! (load ! (from ! (fld ! refl (stop !))) (look-in ! 29 (sub ! 1 refl (whole !)))) (no-more !)))) (from ! (stop !)) (init ! 18 refl (tt, (tt, (record { fits = room₇ .0 }, tt)))) $
+          move ! (47 ∷ []) $ spread W (‵ (MutRef (named 0) κ₀ L .own (x₀) (s₀ ∷ []))) (‵ (ShrSlice (named 1) κ₁ u8 .own (x₁) (s₁ ∷ [])) ∷ ‵ (ShrSlice (named 2) κ₂ u8 .own (x₂) (s₂ ∷ [])) ∷ ‵ (MutSlice (named 3) κ₃ R .own (x₃) (s₃ ∷ [])) ∷ ‵ (ShrSlice (named 4) κ₄ u32 .own (x₄) (s₄ ∷ [])) ∷ ‵ (u32 .own (x₅) (v₅ ∷ [])) ∷ ‵ (MutSlice (named 5) κ₅ u8 .own (x₆) (s₆ ∷ [])) ∷ ‵ (MutSlice (named 6) κ₆ u16 .own (x₇) (s₇ ∷ [])) ∷ ‵ ftrue ∷ []) (id⊢ 𝓤 _) $ move ! (55 ∷ []) $ spread W (‵ (flft κ₀ q₀)) (‵ (flft κ₁ q₁) ∷ ‵ (flft κ₂ q₂) ∷ ‵ (flft κ₃ q₃) ∷ ‵ (flft κ₄ q₄) ∷ ‵ (flft κ₅ q₅) ∷ ‵ (flft κ₆ q₆) ∷ ‵ ftrue ∷ []) (id⊢ 𝓤 _) $ keep ! (0 ∷ 1 ∷ 2 ∷ 3 ∷ 4 ∷ 5 ∷ 6 ∷ 8 ∷ 9 ∷ 10 ∷ 11 ∷ 12 ∷ 14 ∷ 15 ∷ 17 ∷ 18 ∷ 19 ∷ 20 ∷ 21 ∷ 22 ∷ 23 ∷ 24 ∷ 25 ∷ 26 ∷ 27 ∷ 28 ∷ 29 ∷ 30 ∷ 31 ∷ 32 ∷ 33 ∷ 34 ∷ 35 ∷ 36 ∷ 37 ∷ 38 ∷ 39 ∷ 40 ∷ 41 ∷ 42 ∷ 43 ∷ 44 ∷ 45 ∷ 46 ∷ 47 ∷ 48 ∷ 49 ∷ 50 ∷ 51 ∷ 52 ∷ 53 ∷ 54 ∷ 55 ∷ 56 ∷ 57 ∷ 58 ∷ 59 ∷ 60 ∷ 61 ∷ 62 ∷ []) $ move ! (59 ∷ 57 ∷ 55 ∷ 53 ∷ 51 ∷ 49 ∷ 47 ∷ 45 ∷ 43 ∷ 41 ∷ 39 ∷ 37 ∷ 35 ∷ 33 ∷ 31 ∷ 29 ∷ 27 ∷ 25 ∷ 23 ∷ 21 ∷ 19 ∷ 17 ∷ 15 ∷ []) $ group ! 23 $
+          -- [deaths; tok0; tok1; tok2; tok3; tok4; tok6; tok7; own0; own1; own2; own3; own4; own6; own7; the locals]
+          assigns ! {v = s₀} (addr ! (from ! (hop ! (look ! 36 refl) (stop !)))) (from ! (stop !)) (init ! 24 refl (tt, tt)) $
+          assigns ! {v = (vptr (x₃ .ptr .0) (x₃ .ptr .1))} (addr ! (from ! (fld ! refl (hop ! (look-in ! 33 (sub ! 0 refl (whole !))) (stop !))))) (from ! (stop !)) (init ! 23 refl (tt, tt)) $
+          assigns ! {v = s₃} (agg ! (and-then ! (load ! (from ! (stop !)) (look ! 23 refl)) (and-then ! (load ! (from ! (fld ! refl (stop !))) (look-in ! 33 (sub ! 1 refl (whole !)))) (no-more !)))) (from ! (stop !)) (init ! 22 refl (tt, (tt, (record { fits = room₃ .0 }, tt)))) $
+          assigns ! {v = (vptr (x₆ .ptr .0) (x₆ .ptr .1))} (addr ! (from ! (fld ! refl (hop ! (look-in ! 30 (sub ! 0 refl (whole !))) (stop !))))) (from ! (stop !)) (init ! 21 refl (tt, tt)) $
+          assigns ! {v = s₆} (agg ! (and-then ! (load ! (from ! (stop !)) (look ! 21 refl)) (and-then ! (load ! (from ! (fld ! refl (stop !))) (look-in ! 30 (sub ! 1 refl (whole !)))) (no-more !)))) (from ! (stop !)) (init ! 20 refl (tt, (tt, (record { fits = room₆ .0 }, tt)))) $
+          assigns ! {v = (vptr (x₇ .ptr .0) (x₇ .ptr .1))} (addr ! (from ! (fld ! refl (hop ! (look-in ! 29 (sub ! 0 refl (whole !))) (stop !))))) (from ! (stop !)) (init ! 19 refl (tt, tt)) $
+          assigns ! {v = s₇} (agg ! (and-then ! (load ! (from ! (stop !)) (look ! 19 refl)) (and-then ! (load ! (from ! (fld ! refl (stop !))) (look-in ! 29 (sub ! 1 refl (whole !)))) (no-more !)))) (from ! (stop !)) (init ! 18 refl (tt, (tt, (record { fits = room₇ .0 }, tt)))) $
           lft-new ! tt (λ β₃. move ! (12 ∷ 5 ∷ []) $ use2 W (later (some (λ (δ : GName). ‵ (Shared₃ β₃ δ) ⊛ ‵ (LentShared R κ₃ (β₃ ∷ []) q₃ (x₃ .name) (x₃ .ptr .0) (x₃ .ptr .1) (x₃ .now))))) (lends-shared R κ₃ (β₃ ∷ []) q₃ (x₃ .name) (x₃ .ptr .0) (x₃ .ptr .1) (x₃ .now) 𝓤 H A W) $ await ! tt $ pick ! (λ β-name₃. split ! $
-          -- [shown3; blent3; btok3; deaths; tok7; tok6; tok4; tok2; tok1; tok0; own7; own6; own4; own2; own1; own0; the locals]
-          move ! (9 ∷ 15 ∷ 8 ∷ 14 ∷ 7 ∷ 13 ∷ 2 ∷ 0 ∷ 6 ∷ 12 ∷ 5 ∷ 11 ∷ 4 ∷ 10 ∷ []) $ group ! 14 $ calls-fn ! fm flushing.ended (flushing.clauses 𝓤 H A at-mem run) (known .0) (to-flushing β₃ β-name₃ x₅ v₅) (λ t ws-t. FlushLeft x₅ (x₀ .now) (partsOf (x₁ .now) (x₂ .now) (x₃ .now) (x₄ .now)) (x₆ .now) (x₇ .now) (t .answer) (putBack t) (ws-t .0) (ws-t .1 .1 .1 .1 .1 .1 .0) (ws-t .1 .1 .1 .1 .1 .1 .1 .0)) (‵ (flft κ₀ q₀) ⊛ ‵ Own₀ ⊛ ‵ (flft κ₁ q₁) ⊛ ‵ Own₁ ⊛ ‵ (flft κ₂ q₂) ⊛ ‵ Own₂ ⊛ ‵ (flft (β₃ ∷ []) fullShare) ⊛ ‵ (Shared₃ β₃ β-name₃) ⊛ ‵ (flft κ₄ q₄) ⊛ ‵ Own₄ ⊛ ‵ (flft κ₅ q₅) ⊛ ‵ Own₆ ⊛ ‵ (flft κ₆ q₆) ⊛ ‵ Own₇)
+          -- [shown3; blent3; btok3; deaths; tok0; tok1; tok2; tok4; tok6; tok7; own0; own1; own2; own4; own6; own7; the locals]
+          move ! (4 ∷ 10 ∷ 5 ∷ 11 ∷ 6 ∷ 12 ∷ 2 ∷ 0 ∷ 7 ∷ 13 ∷ 8 ∷ 14 ∷ 9 ∷ 15 ∷ []) $ group ! 14 $ calls-fn ! fm flushing.ended (flushing.clauses 𝓤 H A at-mem run) (known .0) (to-flushing β₃ β-name₃ x₅ v₅) (λ t ws-t. FlushLeft x₅ (x₀ .now) (partsOf (x₁ .now) (x₂ .now) (x₃ .now) (x₄ .now)) (x₆ .now) (x₇ .now) (t .answer) (putBack t) (ws-t .0) (ws-t .1 .1 .1 .1 .1 .1 .0) (ws-t .1 .1 .1 .1 .1 .1 .1 .0)) (‵ (flft κ₀ q₀) ⊛ ‵ Own₀ ⊛ ‵ (flft κ₁ q₁) ⊛ ‵ Own₁ ⊛ ‵ (flft κ₂ q₂) ⊛ ‵ Own₂ ⊛ ‵ (flft (β₃ ∷ []) fullShare) ⊛ ‵ (Shared₃ β₃ β-name₃) ⊛ ‵ (flft κ₄ q₄) ⊛ ‵ Own₄ ⊛ ‵ (flft κ₅ q₅) ⊛ ‵ Own₆ ⊛ ‵ (flft κ₆ q₆) ⊛ ‵ Own₇)
           (asks-flushing β₃ β-name₃ x₅ v₅ g₅) (λ t ws-t. id⊢ 𝓤 _)
           (and-then ! (load ! (from ! (stop !)) (look ! 12 refl)) (and-then ! (load ! (from ! (stop !)) (look ! 23 refl)) (and-then ! (load ! (from ! (stop !)) (look ! 22 refl)) (and-then ! (load ! (from ! (stop !)) (look ! 10 refl)) (and-then ! (load ! (from ! (stop !)) (look ! 20 refl)) (and-then ! (load ! (from ! (stop !)) (look ! 19 refl)) (and-then ! (load ! (from ! (stop !)) (look ! 8 refl)) (and-then ! (load ! (from ! (stop !)) (look ! 6 refl)) (no-more !))))))))) (λ t w-t ws-t e-t is-t. land ! (from ! (stop !)) (init ! 17 refl (LL.lawful flushed-row.the-type flushed-laws.the-laws 𝓤 H A W .typed t (w-t ∷ []) is-t .0)) $
-          use1 W (‵ (flft κ₀ q₀) ⊛ ‵ (flft κ₁ q₁) ⊛ ‵ (flft κ₂ q₂) ⊛ ‵ (flft (β₃ ∷ []) fullShare) ⊛ ‵ (flft κ₄ q₄) ⊛ ‵ (flft κ₅ q₅) ⊛ ‵ (flft κ₆ q₆) ⊛ ‵ ftrue) (id⊢ 𝓤 _) $ split ! $ move ! (1 ∷ []) $ split ! $ move ! (1 ∷ []) $ split ! $ move ! (1 ∷ []) $ split ! $ move ! (1 ∷ []) $ split ! $ move ! (1 ∷ []) $ split ! $ move ! (1 ∷ []) $ split ! $ move ! (1 ∷ []) $ drop ! $ move ! (7 ∷ []) $ fsplit ! $ move ! (1 ∷ []) $ fsplit ! $ drop ! $ fsplit ! $ drop ! $ fsplit ! $ drop ! $ fsplit ! $ drop ! $ fsplit ! $ drop ! $ fsplit ! $ fsplit ! $ move ! (1 ∷ []) $ feqL ! (λ len₆. move ! (1 ∷ []) $ fsplit ! $ fsplit ! $ move ! (1 ∷ []) $ feqL ! (λ len₇. move ! (1 ∷ []) $ drop ! $
-          -- [fin7; fin6; fin0; tok7; tok6; tok4; btok3; tok2; tok1; tok0; blent3; deaths; the locals]
+          spread W (‵ (flft κ₀ q₀)) (‵ (flft κ₁ q₁) ∷ ‵ (flft κ₂ q₂) ∷ ‵ (flft (β₃ ∷ []) fullShare) ∷ ‵ (flft κ₄ q₄) ∷ ‵ (flft κ₅ q₅) ∷ ‵ (flft κ₆ q₆) ∷ ‵ ftrue ∷ []) (id⊢ 𝓤 _) $ move ! (8 ∷ []) $ spread W (‵ (fres (x₀ .name) (L .coded .code (ws-t .0)))) (‵ ftrue ∷ ‵ ftrue ∷ ‵ ftrue ∷ ‵ ftrue ∷ ‵ ftrue ∷ ‵ (fsep (finally u8 (x₆ .name) (ws-t .1 .1 .1 .1 .1 .1 .0)) (feq ℕ (length (ws-t .1 .1 .1 .1 .1 .1 .0)) (length (x₆ .now)))) ∷ ‵ (fsep (finally u16 (x₇ .name) (ws-t .1 .1 .1 .1 .1 .1 .1 .0)) (feq ℕ (length (ws-t .1 .1 .1 .1 .1 .1 .1 .0)) (length (x₇ .now)))) ∷ ‵ ftrue ∷ []) (id⊢ 𝓤 _) $ keep ! (0 ∷ 6 ∷ 7 ∷ 9 ∷ 10 ∷ 11 ∷ 12 ∷ 13 ∷ 14 ∷ 15 ∷ 17 ∷ 18 ∷ 19 ∷ 20 ∷ 21 ∷ 22 ∷ 23 ∷ 24 ∷ 25 ∷ 26 ∷ 27 ∷ 28 ∷ 29 ∷ 30 ∷ 31 ∷ 32 ∷ 33 ∷ 34 ∷ 35 ∷ 36 ∷ 37 ∷ 38 ∷ 39 ∷ 40 ∷ 41 ∷ []) $ move ! (1 ∷ []) $ fsplit ! $ move ! (1 ∷ []) $ feqL ! (λ len₆. move ! (2 ∷ []) $ fsplit ! $ move ! (1 ∷ []) $ feqL ! (λ len₇.
+          -- [fin7; fin6; fin0; tok0; tok1; tok2; btok3; tok4; tok6; tok7; blent3; deaths; the locals]
           nothing ! $ calls-fn ! fm words-of.ended (words-of.clauses 𝓤 H A at-mem run) (known .1) ((tt, tt, tt, (t, tt), (w-t ∷ [], tt)), tt) (λ words _. words ≡ t .words)
           (‵ ftrue) (plainly 𝓤 H A W (flushed-row.the-row ∷ []) ((LL.makes flushed-row.the-type flushed-laws.the-plain 𝓤 H A), tt) (t, tt) (w-t ∷ [], tt) (is-t, tt)) (λ words _. id⊢ 𝓤 _)
           (and-then ! (load ! (from ! (stop !)) (look ! 26 refl)) (no-more !)) (λ words w-words _ e-words is-words. drop ! $ drop ! $ land ! (from ! (stop !)) (init ! 24 refl (array-typed u32 (uint-lawful 𝓤 H A W w32 .typed) 32 words (w-words ∷ []) is-words .0)) $
@@ -197,46 +201,24 @@ module _ {M : Type 1} (𝓤 : URA M) (H : Heap 𝓤) (A : Atoms 𝓤) (W : Given
           nothing ! $ calls-fn ! fm records-of.ended (records-of.clauses 𝓤 H A at-mem run) (known .3) ((tt, tt, tt, (t, tt), (w-t ∷ [], tt)), tt) (λ after _. after ≡ t .records)
           (‵ ftrue) (plainly 𝓤 H A W (flushed-row.the-row ∷ []) ((LL.makes flushed-row.the-type flushed-laws.the-plain 𝓤 H A), tt) (t, tt) (w-t ∷ [], tt) (is-t, tt)) (λ after _. id⊢ 𝓤 _)
           (and-then ! (load ! (from ! (stop !)) (look ! 26 refl)) (no-more !)) (λ after w-after _ e-after is-after. drop ! $ drop ! $ land ! (from ! (stop !)) (init ! 22 refl (rs-typed 𝓤 H A W after is-after)) $
-          assigns ! (addr ! (from ! (fld ! refl (hop ! (look-in ! 30 (sub ! 0 refl (whole !))) (stop !))))) (from ! (stop !)) (init ! 13 refl (tt, tt)) $
-          assigns ! (agg ! (and-then ! (load ! (from ! (stop !)) (look ! 13 refl)) (and-then ! (load ! (from ! (fld ! refl (stop !))) (look-in ! 30 (sub ! 1 refl (whole !)))) (no-more !)))) (from ! (stop !)) (init ! 12 refl (tt, (tt, (record { fits = room₃ .0 }, tt)))) $
+          assigns ! {v = (vptr (x₃ .ptr .0) (x₃ .ptr .1))} (addr ! (from ! (fld ! refl (hop ! (look-in ! 30 (sub ! 0 refl (whole !))) (stop !))))) (from ! (stop !)) (init ! 13 refl (tt, tt)) $
+          assigns ! {v = s₃} (agg ! (and-then ! (load ! (from ! (stop !)) (look ! 13 refl)) (and-then ! (load ! (from ! (fld ! refl (stop !))) (look-in ! 30 (sub ! 1 refl (whole !)))) (no-more !)))) (from ! (stop !)) (init ! 12 refl (tt, (tt, (record { fits = room₃ .0 }, tt)))) $
           move ! (6 ∷ 10 ∷ []) $ lft-end ! tt $ use2 W (later (‵ Own₃ ⊛ ‵ (flft κ₃ q₃))) (shared-back R κ₃ (β₃ ∷ []) q₃ (x₃ .name) (x₃ .ptr .0) (x₃ .ptr .1) (x₃ .now) 𝓤 H A W room₃) $ await ! tt $ split ! $
-          -- [own3; tok3; fin7; fin6; fin0; tok7; tok6; tok4; tok2; tok1; tok0; deaths; the locals]
+          -- [own3; tok3; fin7; fin6; fin0; tok0; tok1; tok2; tok4; tok6; tok7; deaths; the locals]
           move ! (1 ∷ 0 ∷ []) $ join ! $ calls-fn ! fm scatter.ended (scatter.clauses 𝓤 H A at-mem run) (known .4) (to-scatter words w-words n w-n after w-after) (λ u ws-u. (ws-u .0) ≡ scattered (x₃ .now) (slotsIn words n) after) (‵ (flft κ₃ q₃) ⊛ ‵ Own₃)
           (asks-scatter words w-words is-words n w-n is-n after w-after is-after) (λ u ws-u. id⊢ 𝓤 _)
           (and-then ! (load ! (from ! (stop !)) (look ! 11 refl)) (and-then ! (load ! (from ! (stop !)) (look ! 23 refl)) (and-then ! (load ! (from ! (stop !)) (look ! 22 refl)) (and-then ! (load ! (from ! (stop !)) (look ! 21 refl)) (no-more !))))) (λ u w-u ws-u e-u is-u. land ! (from ! (stop !)) (init ! 14 refl (nothing-lawful 𝓤 H A W .typed u _ is-u .0)) $
-          use1 W (‵ (flft κ₃ q₃) ⊛ ‵ ftrue) (id⊢ 𝓤 _) $ split ! $ move ! (1 ∷ []) $ drop ! $ move ! (1 ∷ []) $ fsplit ! $ fsplit ! $ move ! (1 ∷ []) $ feqL ! (λ len₃. move ! (1 ∷ []) $ drop ! $
-          -- [fin3; tok3; fin7; fin6; fin0; tok7; tok6; tok4; tok2; tok1; tok0; deaths; the locals]
+          spread W (‵ (flft κ₃ q₃)) (‵ ftrue ∷ []) (id⊢ 𝓤 _) $ move ! (2 ∷ []) $ spread W (‵ (fsep (finally R (x₃ .name) (ws-u .0)) (feq ℕ (length (ws-u .0)) (length (x₃ .now))))) (‵ ftrue ∷ ‵ ftrue ∷ ‵ ftrue ∷ ‵ ftrue ∷ []) (id⊢ 𝓤 _) $ keep ! (0 ∷ 5 ∷ 7 ∷ 8 ∷ 9 ∷ 10 ∷ 11 ∷ 12 ∷ 13 ∷ 14 ∷ 15 ∷ 16 ∷ 17 ∷ 18 ∷ 19 ∷ 20 ∷ 21 ∷ 22 ∷ 23 ∷ 24 ∷ 25 ∷ 26 ∷ 27 ∷ 28 ∷ 29 ∷ 30 ∷ 31 ∷ 32 ∷ 33 ∷ 34 ∷ 35 ∷ 36 ∷ 37 ∷ 38 ∷ 39 ∷ []) $ fsplit ! $ move ! (1 ∷ []) $ feqL ! (λ len₃.
+          -- [fin3; tok3; fin7; fin6; fin0; tok0; tok1; tok2; tok4; tok6; tok7; deaths; the locals]
           nothing ! $ calls-fn ! fm code-of.ended (code-of.clauses 𝓤 H A at-mem run) (known .5) ((tt, tt, tt, (t, tt), (w-t ∷ [], tt)), tt) (λ r _. r ≡ countCode (t .answer))
           (‵ ftrue) (plainly 𝓤 H A W (flushed-row.the-row ∷ []) ((LL.makes flushed-row.the-type flushed-laws.the-plain 𝓤 H A), tt) (t, tt) (w-t ∷ [], tt) (is-t, tt)) (λ r _. id⊢ 𝓤 _)
           (and-then ! (load ! (from ! (stop !)) (look ! 26 refl)) (no-more !)) (λ r w-r _ e-r is-r. drop ! $ drop ! $ land ! (from ! (stop !)) (init ! 34 refl (sint-lawful 𝓤 H A W w32 .typed r _ is-r .0)) $
           returns ! (look ! 34 refl) $
-          forget ! 34 refl $ move ! (11 ∷ []) $ split ! $ move ! (35 ∷ 0 ∷ []) $ free1 ! $
-          forget ! 33 refl $ split ! $ move ! (34 ∷ 0 ∷ []) $ free1 ! $
-          forget ! 32 refl $ split ! $ move ! (33 ∷ 0 ∷ []) $ free1 ! $
-          forget ! 31 refl $ split ! $ move ! (32 ∷ 0 ∷ []) $ free1 ! $
-          forget ! 30 refl $ split ! $ move ! (31 ∷ 0 ∷ []) $ free1 ! $
-          forget ! 29 refl $ split ! $ move ! (30 ∷ 0 ∷ []) $ free1 ! $
-          forget ! 28 refl $ split ! $ move ! (29 ∷ 0 ∷ []) $ free1 ! $
-          forget ! 27 refl $ split ! $ move ! (28 ∷ 0 ∷ []) $ free1 ! $
-          forget ! 26 refl $ split ! $ move ! (27 ∷ 0 ∷ []) $ free1 ! $
-          forget ! 25 refl $ split ! $ move ! (26 ∷ 0 ∷ []) $ free1 ! $
-          forget ! 24 refl $ split ! $ move ! (25 ∷ 0 ∷ []) $ free1 ! $
-          forget ! 23 refl $ split ! $ move ! (24 ∷ 0 ∷ []) $ free1 ! $
-          forget ! 22 refl $ split ! $ move ! (23 ∷ 0 ∷ []) $ free1 ! $
-          forget ! 21 refl $ split ! $ move ! (22 ∷ 0 ∷ []) $ free1 ! $
-          forget ! 20 refl $ split ! $ move ! (21 ∷ 0 ∷ []) $ free1 ! $
-          forget ! 19 refl $ split ! $ move ! (20 ∷ 0 ∷ []) $ free1 ! $
-          forget ! 18 refl $ split ! $ move ! (19 ∷ 0 ∷ []) $ free1 ! $
-          forget ! 17 refl $ split ! $ move ! (18 ∷ 0 ∷ []) $ free1 ! $
-          forget ! 16 refl $ split ! $ move ! (17 ∷ 0 ∷ []) $ free1 ! $
-          forget ! 15 refl $ split ! $ move ! (16 ∷ 0 ∷ []) $ free1 ! $
-          forget ! 14 refl $ split ! $ move ! (15 ∷ 0 ∷ []) $ free1 ! $
-          forget ! 13 refl $ split ! $ move ! (14 ∷ 0 ∷ []) $ free1 ! $
-          forget ! 12 refl $ move ! (12 ∷ 0 ∷ []) $ free1 ! $
-          free0 ! $
-          move ! (4 ∷ 10 ∷ 9 ∷ 8 ∷ 0 ∷ 1 ∷ 7 ∷ 3 ∷ 6 ∷ 2 ∷ 5 ∷ []) $ by ! (exits r w-r (ws-t .0) (ws-u .0) (ws-t .1 .1 .1 .1 .1 .1 .0) (ws-t .1 .1 .1 .1 .1 .1 .1 .0) (told countCode _ (t .answer) e-r (flush-promised x₅ (x₀ .now) (partsOf (x₁ .now) (x₂ .now) (x₃ .now) (x₄ .now)) (x₆ .now) (x₇ .now) (t .answer) (putBack t) (ws-t .0) (ws-t .1 .1 .1 .1 .1 .1 .0) (ws-t .1 .1 .1 .1 .1 .1 .1 .0) (ws-u .0) (ap length (sym e-after) ∙ is-after .1 .0 .1) (put-back (x₃ .now) (ws-u .0) (putBack t) words n after e-words e-n e-after e-u) e-t)) len₃ len₆ len₇ is-r)))))))))))))))))))))))))))))))))))
+          move ! (11 ∷ []) $ spread W (‵ (fdies (tyInt w32) l₀)) (‵ (fdies (tyRef (named 0) mut (pointee (L .written))) l₁) ∷ ‵ (fdies (sliceTy (tyRef (named 1) imm (tyInt w8))) l₂) ∷ ‵ (fdies (sliceTy (tyRef (named 2) imm (tyInt w8))) l₃) ∷ ‵ (fdies (sliceTy (tyRef (named 3) mut (pointee (R .written)))) l₄) ∷ ‵ (fdies (sliceTy (tyRef (named 4) imm (tyInt w32))) l₅) ∷ ‵ (fdies (tyInt w32) l₆) ∷ ‵ (fdies (sliceTy (tyRef (named 5) mut (tyInt w8))) l₇) ∷ ‵ (fdies (sliceTy (tyRef (named 6) mut (tyInt w16))) l₈) ∷ ‵ (fdies flushed-laws.mir l₉) ∷ ‵ (fdies (tyArray (tyInt w32) 32) l₁₀) ∷ ‵ (fdies (tyInt w64) l₁₁) ∷ ‵ (fdies (tyArray record-laws.mir 32) l₁₂) ∷ ‵ (fdies (tyRef erased mut (pointee (L .written))) l₁₃) ∷ ‵ (fdies (tyRef erased imm (pointee (R .written))) l₁₄) ∷ ‵ (fdies (sliceTy (tyRef erased imm (pointee (R .written)))) l₁₅) ∷ ‵ (fdies (tyRef erased mut (tyInt w8)) l₁₆) ∷ ‵ (fdies (sliceTy (tyRef erased mut (tyInt w8))) l₁₇) ∷ ‵ (fdies (tyRef erased mut (tyInt w16)) l₁₈) ∷ ‵ (fdies (sliceTy (tyRef erased mut (tyInt w16))) l₁₉) ∷ ‵ (fdies tyUnit l₂₀) ∷ ‵ (fdies (tyRef erased mut (pointee (R .written))) l₂₁) ∷ ‵ (fdies (sliceTy (tyRef erased mut (pointee (R .written)))) l₂₂) ∷ []) (id⊢ 𝓤 _) $ move ! (56 ∷ 0 ∷ 55 ∷ 1 ∷ 54 ∷ 2 ∷ 53 ∷ 3 ∷ 52 ∷ 4 ∷ 51 ∷ 5 ∷ 50 ∷ 6 ∷ 49 ∷ 7 ∷ 48 ∷ 8 ∷ 47 ∷ 9 ∷ 46 ∷ 10 ∷ 45 ∷ 11 ∷ 44 ∷ 12 ∷ 43 ∷ 13 ∷ 42 ∷ 14 ∷ 41 ∷ 15 ∷ 40 ∷ 16 ∷ 39 ∷ 17 ∷ 38 ∷ 18 ∷ 37 ∷ 19 ∷ 36 ∷ 20 ∷ 35 ∷ 21 ∷ 34 ∷ 22 ∷ []) $ forget ! 0 refl $ free1 ! $ forget ! 0 refl $ free1 ! $ forget ! 0 refl $ free1 ! $ forget ! 0 refl $ free1 ! $ forget ! 0 refl $ free1 ! $ forget ! 0 refl $ free1 ! $ forget ! 0 refl $ free1 ! $ forget ! 0 refl $ free1 ! $ forget ! 0 refl $ free1 ! $ forget ! 0 refl $ free1 ! $ forget ! 0 refl $ free1 ! $ forget ! 0 refl $ free1 ! $ forget ! 0 refl $ free1 ! $ forget ! 0 refl $ free1 ! $ forget ! 0 refl $ free1 ! $ forget ! 0 refl $ free1 ! $ forget ! 0 refl $ free1 ! $ forget ! 0 refl $ free1 ! $ forget ! 0 refl $ free1 ! $ forget ! 0 refl $ free1 ! $ forget ! 0 refl $ free1 ! $ forget ! 0 refl $ free1 ! $ forget ! 0 refl $ free1 ! $ free0 ! $
+          move ! (4 ∷ 5 ∷ 6 ∷ 7 ∷ 0 ∷ 1 ∷ 8 ∷ 3 ∷ 9 ∷ 2 ∷ 10 ∷ []) $ by ! (exits r w-r (ws-t .0) (ws-u .0) (ws-t .1 .1 .1 .1 .1 .1 .0) (ws-t .1 .1 .1 .1 .1 .1 .1 .0) (told countCode _ (t .answer) e-r (flush-promised x₅ (x₀ .now) (partsOf (x₁ .now) (x₂ .now) (x₃ .now) (x₄ .now)) (x₆ .now) (x₇ .now) (t .answer) (putBack t) (ws-t .0) (ws-t .1 .1 .1 .1 .1 .1 .0) (ws-t .1 .1 .1 .1 .1 .1 .1 .0) (ws-u .0) (ap length (sym e-after) ∙ is-after .1 .0 .1) (put-back (x₃ .now) (ws-u .0) (putBack t) words n after e-words e-n e-after e-u) e-t)) len₃ len₆ len₇ is-r)))))))))))))))))))))))))))))))))))
 
   f-meets : (𝓣 : Tables 𝓤 H) → Known (𝓣 .C) → Meets 𝓤 H A f.signature (WpFn 𝓤 H (𝓣 .C) (𝓣 .Λ) code.function) (f.spec 𝓤 H A at-mem run)
+  unfolding Post
   f-meets 𝓣 known = walk-meets 𝓤 H A f.ended stayed W (goes-gave-ref 𝓤 H A W 7 0 tt (plain (λ _. L)), (goes-dropped 𝓤 H A W 7 (shrSliceOf (1 ∷ []) tt (plain (λ _. u8))) yes (λ κs x f. refl), (goes-dropped 𝓤 H A W 7 (shrSliceOf (2 ∷ []) tt (plain (λ _. u8))) yes (λ κs x f. refl), (goes-gave-slice 𝓤 H A W 7 3 tt (plain (λ _. R)), (goes-dropped 𝓤 H A W 7 (shrSliceOf (4 ∷ []) tt (plain (λ _. u32))) yes (λ κs x f. refl), (goes-dropped 𝓤 H A W 7 (plain (λ _. u32)) yes (λ κs x f. refl), (goes-gave-slice 𝓤 H A W 7 5 tt (plain (λ _. u8)), (goes-gave-slice 𝓤 H A W 7 6 tt (plain (λ _. u16)), tt))))))))
       (f.clauses 𝓤 H A at-mem run) (WpFn 𝓤 H (𝓣 .C) (𝓣 .Λ) code.function) (WpFn-mono 𝓤 H (W .laws) 𝓣 code.function)
       (walked 𝓤 H A f.ended stayed (f.clauses 𝓤 H A at-mem run) (WpFn 𝓤 H (𝓣 .C) (𝓣 .Λ) code.function) (λ κs. (ptr-vals, (slice-vals, (slice-vals, (slice-vals, (slice-vals, ((uint-vals w32), (slice-vals, (slice-vals, tt))))))))) (λ κs. (mut-tells (named 0) (κs .0) L, (shr-slice-tells (named 1) (κs .1 .0) u8, (shr-slice-tells (named 2) (κs .1 .1 .0) u8, (mut-slice-tells (named 3) (κs .1 .1 .1 .0) R, (shr-slice-tells (named 4) (κs .1 .1 .1 .1 .0) u32, ((uint-tells w32), (mut-slice-tells (named 5) (κs .1 .1 .1 .1 .1 .0) u8, (mut-slice-tells (named 6) (κs .1 .1 .1 .1 .1 .1 .0) u16, tt)))))))))

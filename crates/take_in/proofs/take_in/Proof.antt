@@ -1,20 +1,23 @@
 -- `take_in::take_in` meets its contract: a walk of its MIR. The table is read; structs are copied, all lists are lent, and flight and arrival are stored.
 -- Of each callee the proof knows only that it meets its contract. Written by tools/calls.py.
 -- Assumes nothing.
-use Rattle.records.proofs.Walk.{_≡_, refl, ap, ℕ, _+_, List, [], _∷_, length, set, URA, fullShare, named, w8, w32, w64, Val, vint, vptr, SProp, ent, emp, via, fst∗, id⊢, Lft, GName, Share, Fml, ftrue, flft, Memory, Routine, Heap, Calls, Loops, WpFn, Tables, Atoms, Fun, givenOf, tables, tablesOf, Given, Item, ‵, some, later, _⊛_, ⋆, _$_, _∵_, !, qed, by, move, drop, use1, use2, split, join, pick, await, fsplit, fjoin, feqL, suffices, frame, done, look, look-raw, look-in, sub, whole, init, store, store-raw, forget, stop, hop, fld, from, load, of-opd, agg, addr, and-then, no-more, assigns, returns, enter, alloc1, alloc0, params1, pass1, pass0, free1, free0, land, WpFn-mono, FmC, fmOf, owns, Is, uint-vals, uint-tells, uint-makes, RefT, sliceVal, MutSlice, ShrSlice, Room, slice-vals, mut-slice-tells, shr-slice-tells, finally, plain, u8, u32, usize, nothing, owned, only, Vals, onEntry, Triple, Meets, tripleOf, entered, cited, says, Stays, gave-slice, goes-gave-slice, walkOf, ends-at, walked, walk-meets, yes, fat, exec}
+use Rattle.records.proofs.Walk.{_≡_, refl, ap, ℕ, _+_, List, [], _∷_, length, set, URA, fullShare, named, w8, w32, w64, Val, vint, vptr, SProp, ent, emp, via, fst∗, id⊢, Lft, GName, Share, Fml, ftrue, flft, Memory, Routine, Heap, Calls, Loops, WpFn, Tables, Atoms, Fun, givenOf, tables, tablesOf, Given, Item, ‵, some, later, _⊛_, ⋆, _$_, _∵_, !, qed, by, move, drop, use1, use2, split, join, pick, await, fsplit, fjoin, feqL, suffices, frame, done, look, look-raw, look-in, sub, whole, init, store, store-raw, forget, stop, hop, fld, from, load, of-opd, agg, addr, and-then, no-more, assigns, returns, enter, alloc1, alloc0, params1, pass1, pass0, free1, free0, land, WpFn-mono, FmC, fmOf, owns, Is, uint-vals, uint-tells, uint-makes, RefT, sliceVal, MutSlice, ShrSlice, Room, slice-vals, mut-slice-tells, shr-slice-tells, finally, plain, u8, u32, usize, nothing, owned, only, Vals, onEntry, Triple, Meets, tripleOf, entered, cited, says, Stays, gave-slice, goes-gave-slice, walkOf, ends-at, walked, walk-meets, yes, fat, keep, exec}
 use Rattle.records.proofs.Call.{calls-fn, plainly}
 use Rattle.records.proofs.Shared.{LentShared, lends-shared, shared-back}
 use Rattle.records.proofs.Rows.{R, Rs, rs-typed, rs-makes}
 use Rattle.lending.proofs.Fields.{ref-at, lend-mut, back-mut, lend-shr, back-shr, cell-out, cell-in, tells-length}
 use Rattle.records.proofs.Frame.{envOf}
-use Rattle.lending.proofs.Parts.{typeOf, behind}
+use Rattle.lending.proofs.Parts.{behind, spread}
 use Rattle.lending.proofs.Block.{L, Open, Back, link-own, opens-link, closes-link, looks-link, shuts-link}
 use Rattle.control.specs.declared.Link.{Link}
 use Rattle.timing.specs.declared.Record.{Record}
 use lib.IntN.{ℤ}
 use mir.Syntax.{w16}
-use base.Fml.{fres, froom, fdies, fobor}
-use mir.Syntax.{Ty}
+use base.Fml.{fres, froom, fdies, fobor, fsep, feq}
+use mir.Syntax.{imm, mut, erased, tyInt, tyArray, tyRef, tyPtr, tyUnit, tyBool}
+use denote.Slice.{sliceTy}
+use denote.Memory.{pointee}
+use Rattle.timing.proofs.Record.Laws as record-laws
 use prog.Wp.{Env, Wp, atReturn}
 use types.Kit.{group, raw, atRet}
 use denote.Memory.{partAt}
@@ -129,7 +132,7 @@ module _ {M : Type 1} (𝓤 : URA M) (H : Heap 𝓤) (A : Atoms 𝓤) (W : Given
     abbrev at : Vals f.signature (κ₀, (κ₁, (κ₂, (κ₃, (κ₄, (κ₅, tt))))))
     at = (vptr b o ∷ [], (s₁ ∷ [], (s₂ ∷ [], (s₃ ∷ [], (s₄ ∷ [], (s₅ ∷ [], tt))))))
 
-    abbrev Post : Val → SProp 𝓤
+    unfoldable Post : Val → SProp 𝓤
     Post = walkOf 𝓤 H A f.ended stayed (f.clauses 𝓤 H A at-mem run) .post (((κ₀, (κ₁, (κ₂, (κ₃, (κ₄, (κ₅, tt)))))), (q₀, (q₁, (q₂, (q₃, (q₄, (q₅, tt)))))), tt, x, at), tt)
 
     -- what gather is called at, and that what it asks is had
@@ -164,117 +167,96 @@ module _ {M : Type 1} (𝓤 : URA M) (H : Heap 𝓤) (A : Atoms 𝓤) (W : Given
     Said r k z₂ z₄ = InputLeft (x₅ .now) h (partsOf (x₁ .now) (x₂ .now) (x₃ .now) (x₄ .now)) (r .answer) (takenBack r) k z₂ z₄
 
     exits : (r : Taken) (w : Val) (k : Link) (z₂ : List ℕ) (z₄ : List ℕ) → Said r k z₂ z₄ → length z₂ ≡ length (x₂ .now) → length z₄ ≡ length (x₄ .now) → Is taken-row.the-row r (w ∷ []) → ent 𝓤 (⋆ 𝓤 H A (Had k z₂ z₄)) (Post w)
+    unfolding Post
     exits r w k z₂ z₄ e len₂ len₄ g =
         qed W (Had k z₂ z₄) ∵ suffices ! _ (ends-at 𝓤 H A f.ended stayed (f.clauses 𝓤 H A at-mem run) W (((κ₀, (κ₁, (κ₂, (κ₃, (κ₄, (κ₅, tt)))))), (q₀, (q₁, (q₂, (q₃, (q₄, (q₅, tt)))))), tt, x, at), tt) w r (k, (tt, (z₂, (tt, (z₄, (tt, tt)))))) (tt, (tt, (len₂, (tt, (len₄, (tt, tt))))))) $ says ! e $
         nothing ! $ move ! (9 ∷ 0 ∷ []) $ join ! $ move ! (8 ∷ 0 ∷ []) $ join ! $ move ! (6 ∷ 0 ∷ []) $ join ! $ move ! (5 ∷ 0 ∷ []) $ join ! $ move ! (3 ∷ 0 ∷ []) $ join ! $ move ! (2 ∷ 0 ∷ []) $ join ! $ frame ! $ nothing ! $ nothing ! $ fjoin ! $ move ! (3 ∷ 0 ∷ []) $ fjoin ! $ nothing ! $ fjoin ! $ move ! (2 ∷ 0 ∷ []) $ fjoin ! $ nothing ! $ fjoin ! $ move ! (1 ∷ 0 ∷ []) $ fjoin ! $ frame ! $ owned ! taken-row.the-row (Is taken-row.the-row) (LL.makes taken-row.the-type taken-laws.the-plain 𝓤 H A) r _ g $ done !
 
     module _ (C : Calls 𝓤 H) (Λ : Loops 𝓤 H) (fm : FmC 𝓤 H (W .laws) C) (known : Known C) where
-      -- the types of the locals, and where they lie
-      abbrev ty : ℕ → Ty
-      ty i = typeOf (code.function .locals) i
-
+      -- where the locals lie
       abbrev En : (l₀ l₁ l₂ l₃ l₄ l₅ l₆ l₇ l₈ l₉ l₁₀ l₁₁ l₁₂ l₁₃ l₁₄ l₁₅ l₁₆ l₁₇ l₁₈ l₁₉ l₂₀ l₂₁ l₂₂ l₂₃ l₂₄ l₂₅ l₂₆ l₂₇ : ℕ) → Env 𝓤 H
       En l₀ l₁ l₂ l₃ l₄ l₅ l₆ l₇ l₈ l₉ l₁₀ l₁₁ l₁₂ l₁₃ l₁₄ l₁₅ l₁₆ l₁₇ l₁₈ l₁₉ l₂₀ l₂₁ l₂₂ l₂₃ l₂₄ l₂₅ l₂₆ l₂₇ = envOf (code.function .locals) (l₀ ∷ l₁ ∷ l₂ ∷ l₃ ∷ l₄ ∷ l₅ ∷ l₆ ∷ l₇ ∷ l₈ ∷ l₉ ∷ l₁₀ ∷ l₁₁ ∷ l₁₂ ∷ l₁₃ ∷ l₁₄ ∷ l₁₅ ∷ l₁₆ ∷ l₁₇ ∷ l₁₈ ∷ l₁₉ ∷ l₂₀ ∷ l₂₁ ∷ l₂₂ ∷ l₂₃ ∷ l₂₄ ∷ l₂₅ ∷ l₂₆ ∷ l₂₇ ∷ [])
 
-      part₂ : (z₄ : List ℕ) (z₂ : List ℕ) (z-waiting-numbers : List ℕ) (z-waiting : List ℕ) (z-ready : List ℕ) (z-transmissions : List ℕ) (z-outstanding : List ℕ) (l₀ : ℕ) (l₁ : ℕ) (l₂ : ℕ) (l₃ : ℕ) (l₄ : ℕ) (l₅ : ℕ) (l₆ : ℕ) (l₇ : ℕ) (l₈ : ℕ) (l₉ : ℕ) (l₁₀ : ℕ) (l₁₁ : ℕ) (l₁₂ : ℕ) (l₁₃ : ℕ) (l₁₄ : ℕ) (l₁₅ : ℕ) (l₁₆ : ℕ) (l₁₇ : ℕ) (l₁₈ : ℕ) (l₁₉ : ℕ) (l₂₀ : ℕ) (l₂₁ : ℕ) (l₂₂ : ℕ) (l₂₃ : ℕ) (l₂₄ : ℕ) (l₂₅ : ℕ) (l₂₆ : ℕ) (l₂₇ : ℕ) (n : ℕ) (w-n : Val) (e-n : n ≡ h .flight .outstanding) (recs : (List Record)) (w-recs : Val) (e-recs : recs ≡ padded (gathered (take sendSlots (x₃ .now)) (slotsIn (h .outstanding) n))) (m : ℕ) (w-m : Val) (e-m : m ≡ length (x₃ .now)) (a : Taken) (w-a : Val) (e-a : Takes (λ l. takesInWith l recs (x₄ .now) (lentLengths m (x₁ .now) (x₂ .now) (x₄ .now)) (x₂ .now) (x₅ .now)) (h .settings) (h .flight) (h .arrival) (h .clock) (arraysOf h) (x₂ .now) (x₄ .now) a (arrays (h .queued) z-outstanding z-transmissions z-ready z-waiting z-waiting-numbers) z₂ z₄) (is-a : Is taken-row.the-row a (w-a ∷ [])) (len₂ : length z₂ ≡ length (x₂ .now)) (len₄ : length z₄ ≡ length (x₄ .now)) → ent 𝓤 (⋆ 𝓤 H A (‵ (partAt (Array u32 128) fullShare z-waiting-numbers b (o + 1800)) ∷ ‵ (partAt (Array u32 128) fullShare z-waiting b (o + 1288)) ∷ ‵ (partAt (Array u32 128) fullShare z-ready b (o + 776)) ∷ ‵ (partAt (Array u8 32) fullShare z-transmissions b (o + 744)) ∷ ‵ (partAt (Array u32 32) fullShare z-outstanding b (o + 616)) ∷ ‵ (partAt (Array u32 128) fullShare (h .queued) b (o + 104)) ∷ ‵ (finally u32 (x₄ .name) z₄) ∷ ‵ (finally u8 (x₂ .name) z₂) ∷ ‵ (flft κ₅ q₅) ∷ ‵ (flft κ₄ q₄) ∷ ‵ (flft κ₂ q₂) ∷ ‵ (flft κ₁ q₁) ∷ ‵ (flft κ₃ q₃) ∷ ‵ (partAt clock-row.the-row fullShare (h .clock) b (o + 88)) ∷ ‵ (partAt arrival-row.the-row fullShare (h .arrival) b (o + 56)) ∷ ‵ (partAt flight-row.the-row fullShare (h .flight) b (o + 16)) ∷ ‵ (partAt settings-row.the-row fullShare (h .settings) b (o + 0)) ∷ raw (Back 𝓤 H A fullShare b o) ∷ ‵ (Open b o γ κ₀ q₀ h) ∷ (‵ (fdies (ty 0) l₀) ⊛ ‵ (fdies (ty 1) l₁) ⊛ ‵ (fdies (ty 2) l₂) ⊛ ‵ (fdies (ty 3) l₃) ⊛ ‵ (fdies (ty 4) l₄) ⊛ ‵ (fdies (ty 5) l₅) ⊛ ‵ (fdies (ty 6) l₆) ⊛ ‵ (fdies (ty 7) l₇) ⊛ ‵ (fdies (ty 8) l₈) ⊛ ‵ (fdies (ty 9) l₉) ⊛ ‵ (fdies (ty 10) l₁₀) ⊛ ‵ (fdies (ty 11) l₁₁) ⊛ ‵ (fdies (ty 12) l₁₂) ⊛ ‵ (fdies (ty 13) l₁₃) ⊛ ‵ (fdies (ty 14) l₁₄) ⊛ ‵ (fdies (ty 15) l₁₅) ⊛ ‵ (fdies (ty 16) l₁₆) ⊛ ‵ (fdies (ty 17) l₁₇) ⊛ ‵ (fdies (ty 18) l₁₈) ⊛ ‵ (fdies (ty 19) l₁₉) ⊛ ‵ (fdies (ty 20) l₂₀) ⊛ ‵ (fdies (ty 21) l₂₁) ⊛ ‵ (fdies (ty 22) l₂₂) ⊛ ‵ (fdies (ty 23) l₂₃) ⊛ ‵ (fdies (ty 24) l₂₄) ⊛ ‵ (fdies (ty 25) l₂₅) ⊛ ‵ (fdies (ty 26) l₂₆) ⊛ ‵ (fdies (ty 27) l₂₇)) ∷ ‵ (fat fullShare (ty 27) l₂₇ 0 (s₄)) ∷ ‵ (fat fullShare (ty 26) l₂₆ 0 ((vptr (x₄ .ptr .0) (x₄ .ptr .1)))) ∷ ‵ (fat fullShare (ty 25) l₂₅ 0 (s₂)) ∷ ‵ (fat fullShare (ty 24) l₂₄ 0 ((vptr (x₂ .ptr .0) (x₂ .ptr .1)))) ∷ ‵ (fat fullShare (ty 23) l₂₃ 0 ((vptr b (o + 1800)))) ∷ ‵ (fat fullShare (ty 22) l₂₂ 0 ((vptr b (o + 1288)))) ∷ ‵ (fat fullShare (ty 21) l₂₁ 0 ((vptr b (o + 776)))) ∷ ‵ (fat fullShare (ty 20) l₂₀ 0 ((vptr b (o + 744)))) ∷ ‵ (fat fullShare (ty 19) l₁₉ 0 ((vptr b (o + 616)))) ∷ ‵ (fat fullShare (ty 18) l₁₈ 0 ((vptr b (o + 104)))) ∷ ‵ (froom (ty 17) l₁₇ 0) ∷ ‵ (froom (ty 16) l₁₆ 0) ∷ ‵ (fat fullShare (ty 15) l₁₅ 0 (w-a)) ∷ ‵ (fat fullShare (ty 14) l₁₄ 0 (w-m)) ∷ ‵ (fat fullShare (ty 13) l₁₃ 0 (w-recs)) ∷ ‵ (fat fullShare (ty 12) l₁₂ 0 (w-n)) ∷ ‵ (fat fullShare (ty 11) l₁₁ 0 ((only ((array-vals (uint-vals w32)) (h .outstanding))))) ∷ ‵ (fat fullShare (ty 10) l₁₀ 0 ((only ((LL.vals clock-row.the-type clock-laws.the-laws) (h .clock))))) ∷ ‵ (fat fullShare (ty 9) l₉ 0 ((only ((LL.vals arrival-row.the-type arrival-laws.the-laws) (h .arrival))))) ∷ ‵ (fat fullShare (ty 8) l₈ 0 ((only ((LL.vals flight-row.the-type flight-laws.the-laws) (h .flight))))) ∷ ‵ (fat fullShare (ty 7) l₇ 0 ((only ((LL.vals settings-row.the-type settings-laws.the-laws) (h .settings))))) ∷ ‵ (fat fullShare (ty 6) l₆ 0 (s₅)) ∷ ‵ (fat fullShare (ty 5) l₅ 0 (s₄)) ∷ ‵ (fat fullShare (ty 4) l₄ 0 (s₃)) ∷ ‵ (fat fullShare (ty 3) l₃ 0 (s₂)) ∷ ‵ (fat fullShare (ty 2) l₂ 0 (s₁)) ∷ ‵ (fat fullShare (ty 1) l₁ 0 (vptr b o)) ∷ ‵ (froom (ty 0) l₀ 0) ∷ [])) (Wp 𝓤 H C Λ (En l₀ l₁ l₂ l₃ l₄ l₅ l₆ l₇ l₈ l₉ l₁₀ l₁₁ l₁₂ l₁₃ l₁₄ l₁₅ l₁₆ l₁₇ l₁₈ l₁₉ l₂₀ l₂₁ l₂₂ l₂₃ l₂₄ l₂₅ l₂₆ l₂₇) (behind 19 (code.function .body)) (atReturn 𝓤 H (En l₀ l₁ l₂ l₃ l₄ l₅ l₆ l₇ l₈ l₉ l₁₀ l₁₁ l₁₂ l₁₃ l₁₄ l₁₅ l₁₆ l₁₇ l₁₈ l₁₉ l₂₀ l₂₁ l₂₂ l₂₃ l₂₄ l₂₅ l₂₆ l₂₇) Post))
-      part₂ z₄ z₂ z-waiting-numbers z-waiting z-ready z-transmissions z-outstanding l₀ l₁ l₂ l₃ l₄ l₅ l₆ l₇ l₈ l₉ l₁₀ l₁₁ l₁₂ l₁₃ l₁₄ l₁₅ l₁₆ l₁₇ l₁₈ l₁₉ l₂₀ l₂₁ l₂₂ l₂₃ l₂₄ l₂₅ l₂₆ l₂₇ n w-n e-n recs w-recs e-recs m w-m e-m a w-a e-a is-a len₂ len₄ =
-          qed W (‵ (partAt (Array u32 128) fullShare z-waiting-numbers b (o + 1800)) ∷ ‵ (partAt (Array u32 128) fullShare z-waiting b (o + 1288)) ∷ ‵ (partAt (Array u32 128) fullShare z-ready b (o + 776)) ∷ ‵ (partAt (Array u8 32) fullShare z-transmissions b (o + 744)) ∷ ‵ (partAt (Array u32 32) fullShare z-outstanding b (o + 616)) ∷ ‵ (partAt (Array u32 128) fullShare (h .queued) b (o + 104)) ∷ ‵ (finally u32 (x₄ .name) z₄) ∷ ‵ (finally u8 (x₂ .name) z₂) ∷ ‵ (flft κ₅ q₅) ∷ ‵ (flft κ₄ q₄) ∷ ‵ (flft κ₂ q₂) ∷ ‵ (flft κ₁ q₁) ∷ ‵ (flft κ₃ q₃) ∷ ‵ (partAt clock-row.the-row fullShare (h .clock) b (o + 88)) ∷ ‵ (partAt arrival-row.the-row fullShare (h .arrival) b (o + 56)) ∷ ‵ (partAt flight-row.the-row fullShare (h .flight) b (o + 16)) ∷ ‵ (partAt settings-row.the-row fullShare (h .settings) b (o + 0)) ∷ raw (Back 𝓤 H A fullShare b o) ∷ ‵ (Open b o γ κ₀ q₀ h) ∷ (‵ (fdies (ty 0) l₀) ⊛ ‵ (fdies (ty 1) l₁) ⊛ ‵ (fdies (ty 2) l₂) ⊛ ‵ (fdies (ty 3) l₃) ⊛ ‵ (fdies (ty 4) l₄) ⊛ ‵ (fdies (ty 5) l₅) ⊛ ‵ (fdies (ty 6) l₆) ⊛ ‵ (fdies (ty 7) l₇) ⊛ ‵ (fdies (ty 8) l₈) ⊛ ‵ (fdies (ty 9) l₉) ⊛ ‵ (fdies (ty 10) l₁₀) ⊛ ‵ (fdies (ty 11) l₁₁) ⊛ ‵ (fdies (ty 12) l₁₂) ⊛ ‵ (fdies (ty 13) l₁₃) ⊛ ‵ (fdies (ty 14) l₁₄) ⊛ ‵ (fdies (ty 15) l₁₅) ⊛ ‵ (fdies (ty 16) l₁₆) ⊛ ‵ (fdies (ty 17) l₁₇) ⊛ ‵ (fdies (ty 18) l₁₈) ⊛ ‵ (fdies (ty 19) l₁₉) ⊛ ‵ (fdies (ty 20) l₂₀) ⊛ ‵ (fdies (ty 21) l₂₁) ⊛ ‵ (fdies (ty 22) l₂₂) ⊛ ‵ (fdies (ty 23) l₂₃) ⊛ ‵ (fdies (ty 24) l₂₄) ⊛ ‵ (fdies (ty 25) l₂₅) ⊛ ‵ (fdies (ty 26) l₂₆) ⊛ ‵ (fdies (ty 27) l₂₇)) ∷ ‵ (fat fullShare (ty 27) l₂₇ 0 (s₄)) ∷ ‵ (fat fullShare (ty 26) l₂₆ 0 ((vptr (x₄ .ptr .0) (x₄ .ptr .1)))) ∷ ‵ (fat fullShare (ty 25) l₂₅ 0 (s₂)) ∷ ‵ (fat fullShare (ty 24) l₂₄ 0 ((vptr (x₂ .ptr .0) (x₂ .ptr .1)))) ∷ ‵ (fat fullShare (ty 23) l₂₃ 0 ((vptr b (o + 1800)))) ∷ ‵ (fat fullShare (ty 22) l₂₂ 0 ((vptr b (o + 1288)))) ∷ ‵ (fat fullShare (ty 21) l₂₁ 0 ((vptr b (o + 776)))) ∷ ‵ (fat fullShare (ty 20) l₂₀ 0 ((vptr b (o + 744)))) ∷ ‵ (fat fullShare (ty 19) l₁₉ 0 ((vptr b (o + 616)))) ∷ ‵ (fat fullShare (ty 18) l₁₈ 0 ((vptr b (o + 104)))) ∷ ‵ (froom (ty 17) l₁₇ 0) ∷ ‵ (froom (ty 16) l₁₆ 0) ∷ ‵ (fat fullShare (ty 15) l₁₅ 0 (w-a)) ∷ ‵ (fat fullShare (ty 14) l₁₄ 0 (w-m)) ∷ ‵ (fat fullShare (ty 13) l₁₃ 0 (w-recs)) ∷ ‵ (fat fullShare (ty 12) l₁₂ 0 (w-n)) ∷ ‵ (fat fullShare (ty 11) l₁₁ 0 ((only ((array-vals (uint-vals w32)) (h .outstanding))))) ∷ ‵ (fat fullShare (ty 10) l₁₀ 0 ((only ((LL.vals clock-row.the-type clock-laws.the-laws) (h .clock))))) ∷ ‵ (fat fullShare (ty 9) l₉ 0 ((only ((LL.vals arrival-row.the-type arrival-laws.the-laws) (h .arrival))))) ∷ ‵ (fat fullShare (ty 8) l₈ 0 ((only ((LL.vals flight-row.the-type flight-laws.the-laws) (h .flight))))) ∷ ‵ (fat fullShare (ty 7) l₇ 0 ((only ((LL.vals settings-row.the-type settings-laws.the-laws) (h .settings))))) ∷ ‵ (fat fullShare (ty 6) l₆ 0 (s₅)) ∷ ‵ (fat fullShare (ty 5) l₅ 0 (s₄)) ∷ ‵ (fat fullShare (ty 4) l₄ 0 (s₃)) ∷ ‵ (fat fullShare (ty 3) l₃ 0 (s₂)) ∷ ‵ (fat fullShare (ty 2) l₂ 0 (s₁)) ∷ ‵ (fat fullShare (ty 1) l₁ 0 (vptr b o)) ∷ ‵ (froom (ty 0) l₀ 0) ∷ []) ∵ exec ! C Λ (En l₀ l₁ l₂ l₃ l₄ l₅ l₆ l₇ l₈ l₉ l₁₀ l₁₁ l₁₂ l₁₃ l₁₄ l₁₅ l₁₆ l₁₇ l₁₈ l₁₉ l₂₀ l₂₁ l₂₂ l₂₃ l₂₄ l₂₅ l₂₆ l₂₇) (behind 19 (code.function .body)) (atRet (En l₀ l₁ l₂ l₃ l₄ l₅ l₆ l₇ l₈ l₉ l₁₀ l₁₁ l₁₂ l₁₃ l₁₄ l₁₅ l₁₆ l₁₇ l₁₈ l₁₉ l₂₀ l₂₁ l₂₂ l₂₃ l₂₄ l₂₅ l₂₆ l₂₇) Post) $
-          nothing ! $ calls-fn ! fm flight-of.ended (flight-of.clauses 𝓤 H A at-mem run) (known .4) ((tt, tt, tt, (a, tt), (w-a ∷ [], tt)), tt) (λ kf _. kf ≡ a .flight)
-          (‵ ftrue) (plainly 𝓤 H A W (taken-row.the-row ∷ []) ((LL.makes taken-row.the-type taken-laws.the-plain 𝓤 H A), tt) (a, tt) (w-a ∷ [], tt) (is-a, tt)) (λ kf _. id⊢ 𝓤 _)
-          (and-then ! (load ! (from ! (stop !)) (look ! 33 refl)) (no-more !)) (λ kf w-kf _ e-kf is-kf. drop ! $ drop ! $ land ! (from ! (stop !)) (init ! 31 refl (LL.lawful flight-row.the-type flight-laws.the-laws 𝓤 H A W .typed kf (w-kf ∷ []) is-kf .0)) $
-          move ! (15 ∷ []) $ cell-out ! fullShare flight-row.the-row (LL.vals flight-row.the-type flight-laws.the-laws) (LL.tells flight-row.the-type flight-laws.the-laws) (h .flight) b (o + 16) (λ was-flight. assigns ! (of-opd ! (load ! (from ! (stop !)) (look ! 31 refl))) (from ! (hop ! (look ! 46 refl) (fld ! refl (stop !)))) (store-raw ! 0 refl (LL.lawful flight-row.the-type flight-laws.the-laws 𝓤 H A W .typed kf (w-kf ∷ []) is-kf .0)) $ cell-in ! fullShare flight-row.the-row (LL.makes flight-row.the-type flight-laws.the-plain 𝓤 H A) kf b (o + 16) w-kf is-kf $ nothing ! $ calls-fn ! fm arrival-of.ended (arrival-of.clauses 𝓤 H A at-mem run) (known .5) ((tt, tt, tt, (a, tt), (w-a ∷ [], tt)), tt) (λ ka _. ka ≡ a .arrival)
-          (‵ ftrue) (plainly 𝓤 H A W (taken-row.the-row ∷ []) ((LL.makes taken-row.the-type taken-laws.the-plain 𝓤 H A), tt) (a, tt) (w-a ∷ [], tt) (is-a, tt)) (λ ka _. id⊢ 𝓤 _)
-          (and-then ! (load ! (from ! (stop !)) (look ! 33 refl)) (no-more !)) (λ ka w-ka _ e-ka is-ka. drop ! $ drop ! $ land ! (from ! (stop !)) (init ! 30 refl (LL.lawful arrival-row.the-type arrival-laws.the-laws 𝓤 H A W .typed ka (w-ka ∷ []) is-ka .0)) $
-          move ! (15 ∷ []) $ cell-out ! fullShare arrival-row.the-row (LL.vals arrival-row.the-type arrival-laws.the-laws) (LL.tells arrival-row.the-type arrival-laws.the-laws) (h .arrival) b (o + 56) (λ was-arrival. assigns ! (of-opd ! (load ! (from ! (stop !)) (look ! 30 refl))) (from ! (hop ! (look ! 46 refl) (fld ! refl (stop !)))) (store-raw ! 0 refl (LL.lawful arrival-row.the-type arrival-laws.the-laws 𝓤 H A W .typed ka (w-ka ∷ []) is-ka .0)) $ cell-in ! fullShare arrival-row.the-row (LL.makes arrival-row.the-type arrival-laws.the-plain 𝓤 H A) ka b (o + 56) w-ka is-ka $ move ! (7 ∷ []) $ tells-length ! fullShare u32 128 (h .queued) b (o + 104) (λ end-queued. move ! (7 ∷ []) $ tells-length ! fullShare u32 32 z-outstanding b (o + 616) (λ end-outstanding. move ! (7 ∷ []) $ tells-length ! fullShare u8 32 z-transmissions b (o + 744) (λ end-transmissions. move ! (7 ∷ []) $ tells-length ! fullShare u32 128 z-ready b (o + 776) (λ end-ready. move ! (7 ∷ []) $ tells-length ! fullShare u32 128 z-waiting b (o + 1288) (λ end-waiting. move ! (7 ∷ []) $ tells-length ! fullShare u32 128 z-waiting-numbers b (o + 1800) (λ end-waiting-numbers. move ! (16 ∷ 7 ∷ 6 ∷ 15 ∷ 5 ∷ 4 ∷ 3 ∷ 2 ∷ 1 ∷ 0 ∷ 17 ∷ 18 ∷ []) $ closes-link b o γ ! tt h (record { settings = (h .settings); flight = kf; arrival = ka; clock = (h .clock); queued = (h .queued); outstanding = z-outstanding; transmissions = z-transmissions; ready = z-ready; waiting = z-waiting; «waiting_numbers» = z-waiting-numbers }) $
-          -- [own0; tok0; fin4; fin2; tok5; tok4; tok2; tok1; tok3; deaths; the locals]
-          assigns ! (of-opd ! (load ! (from ! (stop !)) (look ! 22 refl))) (from ! (stop !)) (init ! 37 refl (LL.lawful taken-row.the-type taken-laws.the-laws 𝓤 H A W .typed a (w-a ∷ []) is-a .0)) $
-          returns ! (look ! 37 refl) $
-          forget ! 37 refl $ move ! (9 ∷ []) $ split ! $ move ! (38 ∷ 0 ∷ []) $ free1 ! $
-          forget ! 36 refl $ split ! $ move ! (37 ∷ 0 ∷ []) $ free1 ! $
-          forget ! 35 refl $ split ! $ move ! (36 ∷ 0 ∷ []) $ free1 ! $
-          forget ! 34 refl $ split ! $ move ! (35 ∷ 0 ∷ []) $ free1 ! $
-          forget ! 33 refl $ split ! $ move ! (34 ∷ 0 ∷ []) $ free1 ! $
-          forget ! 32 refl $ split ! $ move ! (33 ∷ 0 ∷ []) $ free1 ! $
-          forget ! 31 refl $ split ! $ move ! (32 ∷ 0 ∷ []) $ free1 ! $
-          forget ! 30 refl $ split ! $ move ! (31 ∷ 0 ∷ []) $ free1 ! $
-          forget ! 29 refl $ split ! $ move ! (30 ∷ 0 ∷ []) $ free1 ! $
-          forget ! 28 refl $ split ! $ move ! (29 ∷ 0 ∷ []) $ free1 ! $
-          forget ! 27 refl $ split ! $ move ! (28 ∷ 0 ∷ []) $ free1 ! $
-          forget ! 26 refl $ split ! $ move ! (27 ∷ 0 ∷ []) $ free1 ! $
-          forget ! 25 refl $ split ! $ move ! (26 ∷ 0 ∷ []) $ free1 ! $
-          forget ! 24 refl $ split ! $ move ! (25 ∷ 0 ∷ []) $ free1 ! $
-          forget ! 23 refl $ split ! $ move ! (24 ∷ 0 ∷ []) $ free1 ! $
-          forget ! 22 refl $ split ! $ move ! (23 ∷ 0 ∷ []) $ free1 ! $
-          forget ! 21 refl $ split ! $ move ! (22 ∷ 0 ∷ []) $ free1 ! $
-          forget ! 20 refl $ split ! $ move ! (21 ∷ 0 ∷ []) $ free1 ! $
-          forget ! 19 refl $ split ! $ move ! (20 ∷ 0 ∷ []) $ free1 ! $
-          forget ! 18 refl $ split ! $ move ! (19 ∷ 0 ∷ []) $ free1 ! $
-          forget ! 17 refl $ split ! $ move ! (18 ∷ 0 ∷ []) $ free1 ! $
-          forget ! 16 refl $ split ! $ move ! (17 ∷ 0 ∷ []) $ free1 ! $
-          forget ! 15 refl $ split ! $ move ! (16 ∷ 0 ∷ []) $ free1 ! $
-          forget ! 14 refl $ split ! $ move ! (15 ∷ 0 ∷ []) $ free1 ! $
-          forget ! 13 refl $ split ! $ move ! (14 ∷ 0 ∷ []) $ free1 ! $
-          forget ! 12 refl $ split ! $ move ! (13 ∷ 0 ∷ []) $ free1 ! $
-          forget ! 11 refl $ split ! $ move ! (12 ∷ 0 ∷ []) $ free1 ! $
-          forget ! 10 refl $ move ! (10 ∷ 0 ∷ []) $ free1 ! $
-          free0 ! $
-          move ! (0 ∷ 1 ∷ 7 ∷ 3 ∷ 6 ∷ 8 ∷ 2 ∷ 5 ∷ 4 ∷ []) $ by ! (exits a w-a (record { settings = (h .settings); flight = kf; arrival = ka; clock = (h .clock); queued = (h .queued); outstanding = z-outstanding; transmissions = z-transmissions; ready = z-ready; waiting = z-waiting; «waiting_numbers» = z-waiting-numbers }) (z₂) (z₄) (rw (e-kf, e-ka) (input-left (x₅ .now) h (partsOf (x₁ .now) (x₂ .now) (x₃ .now) (x₄ .now)) (a .answer) (takenBack a) (linkOf (h .settings) (a .flight) (a .arrival) (h .clock) (arrays (h .queued) z-outstanding z-transmissions z-ready z-waiting z-waiting-numbers)) z₂ z₄ recs m (gathers h (partsOf (x₁ .now) (x₂ .now) (x₃ .now) (x₄ .now)) n recs m e-n e-recs e-m) (record { whole-queued = end-queued; whole-outstanding = end-outstanding; whole-transmissions = end-transmissions; whole-ready = end-ready; whole-waiting = end-waiting; whole-numbers = end-waiting-numbers }) e-a)) len₂ len₄ is-a)))))))))))
+      -- what part 2 knows
+      abbrev Known₂ : Type 0
+      Known₂ = (z₄ : List ℕ) × (z₂ : List ℕ) × (z-waiting-numbers : List ℕ) × (z-waiting : List ℕ) × (z-ready : List ℕ) × (z-transmissions : List ℕ) × (z-outstanding : List ℕ) × (l₀ : ℕ) × (l₁ : ℕ) × (l₂ : ℕ) × (l₃ : ℕ) × (l₄ : ℕ) × (l₅ : ℕ) × (l₆ : ℕ) × (l₇ : ℕ) × (l₈ : ℕ) × (l₉ : ℕ) × (l₁₀ : ℕ) × (l₁₁ : ℕ) × (l₁₂ : ℕ) × (l₁₃ : ℕ) × (l₁₄ : ℕ) × (l₁₅ : ℕ) × (l₁₆ : ℕ) × (l₁₇ : ℕ) × (l₁₈ : ℕ) × (l₁₉ : ℕ) × (l₂₀ : ℕ) × (l₂₁ : ℕ) × (l₂₂ : ℕ) × (l₂₃ : ℕ) × (l₂₄ : ℕ) × (l₂₅ : ℕ) × (l₂₆ : ℕ) × (l₂₇ : ℕ) × (n : ℕ) × (w-n : Val) × (e-n : n ≡ h .flight .outstanding) × (recs : (List Record)) × (w-recs : Val) × (e-recs : recs ≡ padded (gathered (take sendSlots (x₃ .now)) (slotsIn (h .outstanding) n))) × (m : ℕ) × (w-m : Val) × (e-m : m ≡ length (x₃ .now)) × (a : Taken) × (w-a : Val) × (e-a : Takes (λ l. takesInWith l recs (x₄ .now) (lentLengths m (x₁ .now) (x₂ .now) (x₄ .now)) (x₂ .now) (x₅ .now)) (h .settings) (h .flight) (h .arrival) (h .clock) (arraysOf h) (x₂ .now) (x₄ .now) a (arrays (h .queued) z-outstanding z-transmissions z-ready z-waiting z-waiting-numbers) z₂ z₄) × (is-a : Is taken-row.the-row a (w-a ∷ [])) × (len₂ : length z₂ ≡ length (x₂ .now)) × (length z₄ ≡ length (x₄ .now))
 
-      part₁ : (l₀ : ℕ) (l₁ : ℕ) (l₂ : ℕ) (l₃ : ℕ) (l₄ : ℕ) (l₅ : ℕ) (l₆ : ℕ) (l₇ : ℕ) (l₈ : ℕ) (l₉ : ℕ) (l₁₀ : ℕ) (l₁₁ : ℕ) (l₁₂ : ℕ) (l₁₃ : ℕ) (l₁₄ : ℕ) (l₁₅ : ℕ) (l₁₆ : ℕ) (l₁₇ : ℕ) (l₁₈ : ℕ) (l₁₉ : ℕ) (l₂₀ : ℕ) (l₂₁ : ℕ) (l₂₂ : ℕ) (l₂₃ : ℕ) (l₂₄ : ℕ) (l₂₅ : ℕ) (l₂₆ : ℕ) (l₂₇ : ℕ) (len-queued : length (h .queued) ≡ 128) (len-outstanding : length (h .outstanding) ≡ 32) (len-transmissions : length (h .transmissions) ≡ 32) (len-ready : length (h .ready) ≡ 128) (len-waiting : length (h .waiting) ≡ 128) (len-waiting-numbers : length (h .«waiting_numbers») ≡ 128) (was-settings : Is settings-row.the-row (h .settings) ((LL.vals settings-row.the-type settings-laws.the-laws) (h .settings))) (was-flight : Is flight-row.the-row (h .flight) ((LL.vals flight-row.the-type flight-laws.the-laws) (h .flight))) (was-arrival : Is arrival-row.the-row (h .arrival) ((LL.vals arrival-row.the-type arrival-laws.the-laws) (h .arrival))) (was-clock : Is clock-row.the-row (h .clock) ((LL.vals clock-row.the-type clock-laws.the-laws) (h .clock))) (n : ℕ) (w-n : Val) (e-n : n ≡ h .flight .outstanding) (recs : (List Record)) (w-recs : Val) (e-recs : recs ≡ padded (gathered (take sendSlots (x₃ .now)) (slotsIn (h .outstanding) n))) (is-recs : Is Rs recs (w-recs ∷ [])) (m : ℕ) (w-m : Val) (e-m : m ≡ length (x₃ .now)) (is-m : Is usize m (w-m ∷ [])) → ent 𝓤 (⋆ 𝓤 H A (‵ (flft κ₃ q₃) ∷ ‵ (partAt (Array u32 32) fullShare (h .outstanding) b (o + 616)) ∷ ‵ (partAt clock-row.the-row fullShare (h .clock) b (o + 88)) ∷ ‵ (partAt arrival-row.the-row fullShare (h .arrival) b (o + 56)) ∷ ‵ (partAt flight-row.the-row fullShare (h .flight) b (o + 16)) ∷ ‵ (partAt settings-row.the-row fullShare (h .settings) b (o + 0)) ∷ ‵ (partAt (Array u32 128) fullShare (h .«waiting_numbers») b (o + 1800)) ∷ ‵ (partAt (Array u32 128) fullShare (h .waiting) b (o + 1288)) ∷ ‵ (partAt (Array u32 128) fullShare (h .ready) b (o + 776)) ∷ ‵ (partAt (Array u8 32) fullShare (h .transmissions) b (o + 744)) ∷ ‵ (partAt (Array u32 128) fullShare (h .queued) b (o + 104)) ∷ raw (Back 𝓤 H A fullShare b o) ∷ ‵ (Open b o γ κ₀ q₀ h) ∷ (‵ (fdies (ty 0) l₀) ⊛ ‵ (fdies (ty 1) l₁) ⊛ ‵ (fdies (ty 2) l₂) ⊛ ‵ (fdies (ty 3) l₃) ⊛ ‵ (fdies (ty 4) l₄) ⊛ ‵ (fdies (ty 5) l₅) ⊛ ‵ (fdies (ty 6) l₆) ⊛ ‵ (fdies (ty 7) l₇) ⊛ ‵ (fdies (ty 8) l₈) ⊛ ‵ (fdies (ty 9) l₉) ⊛ ‵ (fdies (ty 10) l₁₀) ⊛ ‵ (fdies (ty 11) l₁₁) ⊛ ‵ (fdies (ty 12) l₁₂) ⊛ ‵ (fdies (ty 13) l₁₃) ⊛ ‵ (fdies (ty 14) l₁₄) ⊛ ‵ (fdies (ty 15) l₁₅) ⊛ ‵ (fdies (ty 16) l₁₆) ⊛ ‵ (fdies (ty 17) l₁₇) ⊛ ‵ (fdies (ty 18) l₁₈) ⊛ ‵ (fdies (ty 19) l₁₉) ⊛ ‵ (fdies (ty 20) l₂₀) ⊛ ‵ (fdies (ty 21) l₂₁) ⊛ ‵ (fdies (ty 22) l₂₂) ⊛ ‵ (fdies (ty 23) l₂₃) ⊛ ‵ (fdies (ty 24) l₂₄) ⊛ ‵ (fdies (ty 25) l₂₅) ⊛ ‵ (fdies (ty 26) l₂₆) ⊛ ‵ (fdies (ty 27) l₂₇)) ∷ ‵ (flft κ₅ q₅) ∷ ‵ (flft κ₄ q₄) ∷ ‵ (flft κ₂ q₂) ∷ ‵ (flft κ₁ q₁) ∷ ‵ Own₅ ∷ ‵ Own₄ ∷ ‵ Own₂ ∷ ‵ Own₁ ∷ ‵ (froom (ty 27) l₂₇ 0) ∷ ‵ (froom (ty 26) l₂₆ 0) ∷ ‵ (froom (ty 25) l₂₅ 0) ∷ ‵ (froom (ty 24) l₂₄ 0) ∷ ‵ (froom (ty 23) l₂₃ 0) ∷ ‵ (froom (ty 22) l₂₂ 0) ∷ ‵ (froom (ty 21) l₂₁ 0) ∷ ‵ (froom (ty 20) l₂₀ 0) ∷ ‵ (froom (ty 19) l₁₉ 0) ∷ ‵ (froom (ty 18) l₁₈ 0) ∷ ‵ (froom (ty 17) l₁₇ 0) ∷ ‵ (froom (ty 16) l₁₆ 0) ∷ ‵ (froom (ty 15) l₁₅ 0) ∷ ‵ (fat fullShare (ty 14) l₁₄ 0 (w-m)) ∷ ‵ (fat fullShare (ty 13) l₁₃ 0 (w-recs)) ∷ ‵ (fat fullShare (ty 12) l₁₂ 0 (w-n)) ∷ ‵ (fat fullShare (ty 11) l₁₁ 0 ((only ((array-vals (uint-vals w32)) (h .outstanding))))) ∷ ‵ (fat fullShare (ty 10) l₁₀ 0 ((only ((LL.vals clock-row.the-type clock-laws.the-laws) (h .clock))))) ∷ ‵ (fat fullShare (ty 9) l₉ 0 ((only ((LL.vals arrival-row.the-type arrival-laws.the-laws) (h .arrival))))) ∷ ‵ (fat fullShare (ty 8) l₈ 0 ((only ((LL.vals flight-row.the-type flight-laws.the-laws) (h .flight))))) ∷ ‵ (fat fullShare (ty 7) l₇ 0 ((only ((LL.vals settings-row.the-type settings-laws.the-laws) (h .settings))))) ∷ ‵ (fat fullShare (ty 6) l₆ 0 (s₅)) ∷ ‵ (fat fullShare (ty 5) l₅ 0 (s₄)) ∷ ‵ (fat fullShare (ty 4) l₄ 0 (s₃)) ∷ ‵ (fat fullShare (ty 3) l₃ 0 (s₂)) ∷ ‵ (fat fullShare (ty 2) l₂ 0 (s₁)) ∷ ‵ (fat fullShare (ty 1) l₁ 0 (vptr b o)) ∷ ‵ (froom (ty 0) l₀ 0) ∷ [])) (Wp 𝓤 H C Λ (En l₀ l₁ l₂ l₃ l₄ l₅ l₆ l₇ l₈ l₉ l₁₀ l₁₁ l₁₂ l₁₃ l₁₄ l₁₅ l₁₆ l₁₇ l₁₈ l₁₉ l₂₀ l₂₁ l₂₂ l₂₃ l₂₄ l₂₅ l₂₆ l₂₇) (behind 8 (code.function .body)) (atReturn 𝓤 H (En l₀ l₁ l₂ l₃ l₄ l₅ l₆ l₇ l₈ l₉ l₁₀ l₁₁ l₁₂ l₁₃ l₁₄ l₁₅ l₁₆ l₁₇ l₁₈ l₁₉ l₂₀ l₂₁ l₂₂ l₂₃ l₂₄ l₂₅ l₂₆ l₂₇) Post))
-      part₁ l₀ l₁ l₂ l₃ l₄ l₅ l₆ l₇ l₈ l₉ l₁₀ l₁₁ l₁₂ l₁₃ l₁₄ l₁₅ l₁₆ l₁₇ l₁₈ l₁₉ l₂₀ l₂₁ l₂₂ l₂₃ l₂₄ l₂₅ l₂₆ l₂₇ len-queued len-outstanding len-transmissions len-ready len-waiting len-waiting-numbers was-settings was-flight was-arrival was-clock n w-n e-n recs w-recs e-recs is-recs m w-m e-m is-m =
-          qed W (‵ (flft κ₃ q₃) ∷ ‵ (partAt (Array u32 32) fullShare (h .outstanding) b (o + 616)) ∷ ‵ (partAt clock-row.the-row fullShare (h .clock) b (o + 88)) ∷ ‵ (partAt arrival-row.the-row fullShare (h .arrival) b (o + 56)) ∷ ‵ (partAt flight-row.the-row fullShare (h .flight) b (o + 16)) ∷ ‵ (partAt settings-row.the-row fullShare (h .settings) b (o + 0)) ∷ ‵ (partAt (Array u32 128) fullShare (h .«waiting_numbers») b (o + 1800)) ∷ ‵ (partAt (Array u32 128) fullShare (h .waiting) b (o + 1288)) ∷ ‵ (partAt (Array u32 128) fullShare (h .ready) b (o + 776)) ∷ ‵ (partAt (Array u8 32) fullShare (h .transmissions) b (o + 744)) ∷ ‵ (partAt (Array u32 128) fullShare (h .queued) b (o + 104)) ∷ raw (Back 𝓤 H A fullShare b o) ∷ ‵ (Open b o γ κ₀ q₀ h) ∷ (‵ (fdies (ty 0) l₀) ⊛ ‵ (fdies (ty 1) l₁) ⊛ ‵ (fdies (ty 2) l₂) ⊛ ‵ (fdies (ty 3) l₃) ⊛ ‵ (fdies (ty 4) l₄) ⊛ ‵ (fdies (ty 5) l₅) ⊛ ‵ (fdies (ty 6) l₆) ⊛ ‵ (fdies (ty 7) l₇) ⊛ ‵ (fdies (ty 8) l₈) ⊛ ‵ (fdies (ty 9) l₉) ⊛ ‵ (fdies (ty 10) l₁₀) ⊛ ‵ (fdies (ty 11) l₁₁) ⊛ ‵ (fdies (ty 12) l₁₂) ⊛ ‵ (fdies (ty 13) l₁₃) ⊛ ‵ (fdies (ty 14) l₁₄) ⊛ ‵ (fdies (ty 15) l₁₅) ⊛ ‵ (fdies (ty 16) l₁₆) ⊛ ‵ (fdies (ty 17) l₁₇) ⊛ ‵ (fdies (ty 18) l₁₈) ⊛ ‵ (fdies (ty 19) l₁₉) ⊛ ‵ (fdies (ty 20) l₂₀) ⊛ ‵ (fdies (ty 21) l₂₁) ⊛ ‵ (fdies (ty 22) l₂₂) ⊛ ‵ (fdies (ty 23) l₂₃) ⊛ ‵ (fdies (ty 24) l₂₄) ⊛ ‵ (fdies (ty 25) l₂₅) ⊛ ‵ (fdies (ty 26) l₂₆) ⊛ ‵ (fdies (ty 27) l₂₇)) ∷ ‵ (flft κ₅ q₅) ∷ ‵ (flft κ₄ q₄) ∷ ‵ (flft κ₂ q₂) ∷ ‵ (flft κ₁ q₁) ∷ ‵ Own₅ ∷ ‵ Own₄ ∷ ‵ Own₂ ∷ ‵ Own₁ ∷ ‵ (froom (ty 27) l₂₇ 0) ∷ ‵ (froom (ty 26) l₂₆ 0) ∷ ‵ (froom (ty 25) l₂₅ 0) ∷ ‵ (froom (ty 24) l₂₄ 0) ∷ ‵ (froom (ty 23) l₂₃ 0) ∷ ‵ (froom (ty 22) l₂₂ 0) ∷ ‵ (froom (ty 21) l₂₁ 0) ∷ ‵ (froom (ty 20) l₂₀ 0) ∷ ‵ (froom (ty 19) l₁₉ 0) ∷ ‵ (froom (ty 18) l₁₈ 0) ∷ ‵ (froom (ty 17) l₁₇ 0) ∷ ‵ (froom (ty 16) l₁₆ 0) ∷ ‵ (froom (ty 15) l₁₅ 0) ∷ ‵ (fat fullShare (ty 14) l₁₄ 0 (w-m)) ∷ ‵ (fat fullShare (ty 13) l₁₃ 0 (w-recs)) ∷ ‵ (fat fullShare (ty 12) l₁₂ 0 (w-n)) ∷ ‵ (fat fullShare (ty 11) l₁₁ 0 ((only ((array-vals (uint-vals w32)) (h .outstanding))))) ∷ ‵ (fat fullShare (ty 10) l₁₀ 0 ((only ((LL.vals clock-row.the-type clock-laws.the-laws) (h .clock))))) ∷ ‵ (fat fullShare (ty 9) l₉ 0 ((only ((LL.vals arrival-row.the-type arrival-laws.the-laws) (h .arrival))))) ∷ ‵ (fat fullShare (ty 8) l₈ 0 ((only ((LL.vals flight-row.the-type flight-laws.the-laws) (h .flight))))) ∷ ‵ (fat fullShare (ty 7) l₇ 0 ((only ((LL.vals settings-row.the-type settings-laws.the-laws) (h .settings))))) ∷ ‵ (fat fullShare (ty 6) l₆ 0 (s₅)) ∷ ‵ (fat fullShare (ty 5) l₅ 0 (s₄)) ∷ ‵ (fat fullShare (ty 4) l₄ 0 (s₃)) ∷ ‵ (fat fullShare (ty 3) l₃ 0 (s₂)) ∷ ‵ (fat fullShare (ty 2) l₂ 0 (s₁)) ∷ ‵ (fat fullShare (ty 1) l₁ 0 (vptr b o)) ∷ ‵ (froom (ty 0) l₀ 0) ∷ []) ∵ exec ! C Λ (En l₀ l₁ l₂ l₃ l₄ l₅ l₆ l₇ l₈ l₉ l₁₀ l₁₁ l₁₂ l₁₃ l₁₄ l₁₅ l₁₆ l₁₇ l₁₈ l₁₉ l₂₀ l₂₁ l₂₂ l₂₃ l₂₄ l₂₅ l₂₆ l₂₇) (behind 8 (code.function .body)) (atRet (En l₀ l₁ l₂ l₃ l₄ l₅ l₆ l₇ l₈ l₉ l₁₀ l₁₁ l₁₂ l₁₃ l₁₄ l₁₅ l₁₆ l₁₇ l₁₈ l₁₉ l₂₀ l₂₁ l₂₂ l₂₃ l₂₄ l₂₅ l₂₆ l₂₇) Post) $
-          assigns ! (addr ! (from ! (hop ! (look ! 48 refl) (fld ! refl (stop !))))) (from ! (stop !)) (init ! 31 refl (tt, tt)) $
-          assigns ! (addr ! (from ! (hop ! (look ! 48 refl) (fld ! refl (stop !))))) (from ! (stop !)) (init ! 30 refl (tt, tt)) $
-          assigns ! (addr ! (from ! (hop ! (look ! 48 refl) (fld ! refl (stop !))))) (from ! (stop !)) (init ! 29 refl (tt, tt)) $
-          assigns ! (addr ! (from ! (hop ! (look ! 48 refl) (fld ! refl (stop !))))) (from ! (stop !)) (init ! 28 refl (tt, tt)) $
-          assigns ! (addr ! (from ! (hop ! (look ! 48 refl) (fld ! refl (stop !))))) (from ! (stop !)) (init ! 27 refl (tt, tt)) $
-          assigns ! (addr ! (from ! (hop ! (look ! 48 refl) (fld ! refl (stop !))))) (from ! (stop !)) (init ! 26 refl (tt, tt)) $
-          assigns ! (addr ! (from ! (fld ! refl (hop ! (look-in ! 46 (sub ! 0 refl (whole !))) (stop !))))) (from ! (stop !)) (init ! 25 refl (tt, tt)) $
-          assigns ! (agg ! (and-then ! (load ! (from ! (stop !)) (look ! 25 refl)) (and-then ! (load ! (from ! (fld ! refl (stop !))) (look-in ! 46 (sub ! 1 refl (whole !)))) (no-more !)))) (from ! (stop !)) (init ! 24 refl (tt, (tt, (record { fits = room₂ .0 }, tt)))) $
-          assigns ! (addr ! (from ! (fld ! refl (hop ! (look-in ! 44 (sub ! 0 refl (whole !))) (stop !))))) (from ! (stop !)) (init ! 23 refl (tt, tt)) $
-          assigns ! (agg ! (and-then ! (load ! (from ! (stop !)) (look ! 23 refl)) (and-then ! (load ! (from ! (fld ! refl (stop !))) (look-in ! 44 (sub ! 1 refl (whole !)))) (no-more !)))) (from ! (stop !)) (init ! 22 refl (tt, (tt, (record { fits = room₄ .0 }, tt)))) $
-          move ! (10 ∷ []) $ lend-shr ! tt fullShare (Array u32 128) (h .queued) b (o + 104) (λ α-queued δ-queued. move ! (4 ∷ []) $ lend-mut ! tt (Array u32 32) (h .outstanding) b (o + 616) (λ α-outstanding δ-outstanding. move ! (14 ∷ []) $ lend-mut ! tt (Array u8 32) (h .transmissions) b (o + 744) (λ α-transmissions δ-transmissions. move ! (16 ∷ []) $ lend-mut ! tt (Array u32 128) (h .ready) b (o + 776) (λ α-ready δ-ready. move ! (18 ∷ []) $ lend-mut ! tt (Array u32 128) (h .waiting) b (o + 1288) (λ α-waiting δ-waiting. move ! (20 ∷ []) $ lend-mut ! tt (Array u32 128) (h .«waiting_numbers») b (o + 1800) (λ α-waiting-numbers δ-waiting-numbers. move ! (15 ∷ 16 ∷ 12 ∷ 13 ∷ 9 ∷ 10 ∷ 6 ∷ 7 ∷ 3 ∷ 4 ∷ 0 ∷ 1 ∷ 29 ∷ 33 ∷ 28 ∷ 32 ∷ 27 ∷ 31 ∷ 26 ∷ 30 ∷ []) $ group ! 20 $ calls-fn ! fm core.ended (core.clauses 𝓤 H A at-mem run) (known .3) (to-core α-queued δ-queued (h .queued) α-outstanding δ-outstanding (h .outstanding) α-transmissions δ-transmissions (h .transmissions) α-ready δ-ready (h .ready) α-waiting δ-waiting (h .waiting) α-waiting-numbers δ-waiting-numbers (h .«waiting_numbers») (h .settings) (only ((LL.vals settings-row.the-type settings-laws.the-laws) (h .settings))) (h .flight) (only ((LL.vals flight-row.the-type flight-laws.the-laws) (h .flight))) (h .arrival) (only ((LL.vals arrival-row.the-type arrival-laws.the-laws) (h .arrival))) (h .clock) (only ((LL.vals clock-row.the-type clock-laws.the-laws) (h .clock))) recs w-recs m w-m) (λ a ws-a. Takes (λ l. takesInWith l recs (x₄ .now) (lentLengths m (x₁ .now) (x₂ .now) (x₄ .now)) (x₂ .now) (x₅ .now)) (h .settings) (h .flight) (h .arrival) (h .clock) (arraysOf h) (x₂ .now) (x₄ .now) a (arrays (h .queued) (ws-a .1 .1 .1 .1 .1 .1 .1 .0) (ws-a .1 .1 .1 .1 .1 .1 .1 .1 .0) (ws-a .1 .1 .1 .1 .1 .1 .1 .1 .1 .0) (ws-a .1 .1 .1 .1 .1 .1 .1 .1 .1 .1 .0) (ws-a .1 .1 .1 .1 .1 .1 .1 .1 .1 .1 .1 .0)) (ws-a .1 .1 .1 .1 .1 .1 .1 .1 .1 .1 .1 .1 .1 .0) (ws-a .1 .1 .1 .1 .1 .1 .1 .1 .1 .1 .1 .1 .1 .1 .0)) (‵ (flft (α-queued ∷ []) fullShare) ⊛ ‵ (ShrRef (named 0) (α-queued ∷ []) (Array u32 128) .own (ref-at b (o + 104) δ-queued (h .queued)) ((vptr b (o + 104)) ∷ [])) ⊛ ‵ (flft (α-outstanding ∷ []) fullShare) ⊛ ‵ (MutRef (named 0) (α-outstanding ∷ []) (Array u32 32) .own (ref-at b (o + 616) δ-outstanding (h .outstanding)) ((vptr b (o + 616)) ∷ [])) ⊛ ‵ (flft (α-transmissions ∷ []) fullShare) ⊛ ‵ (MutRef (named 0) (α-transmissions ∷ []) (Array u8 32) .own (ref-at b (o + 744) δ-transmissions (h .transmissions)) ((vptr b (o + 744)) ∷ [])) ⊛ ‵ (flft (α-ready ∷ []) fullShare) ⊛ ‵ (MutRef (named 0) (α-ready ∷ []) (Array u32 128) .own (ref-at b (o + 776) δ-ready (h .ready)) ((vptr b (o + 776)) ∷ [])) ⊛ ‵ (flft (α-waiting ∷ []) fullShare) ⊛ ‵ (MutRef (named 0) (α-waiting ∷ []) (Array u32 128) .own (ref-at b (o + 1288) δ-waiting (h .waiting)) ((vptr b (o + 1288)) ∷ [])) ⊛ ‵ (flft (α-waiting-numbers ∷ []) fullShare) ⊛ ‵ (MutRef (named 0) (α-waiting-numbers ∷ []) (Array u32 128) .own (ref-at b (o + 1800) δ-waiting-numbers (h .«waiting_numbers»)) ((vptr b (o + 1800)) ∷ [])) ⊛ ‵ (flft κ₁ q₁) ⊛ ‵ Own₁ ⊛ ‵ (flft κ₂ q₂) ⊛ ‵ Own₂ ⊛ ‵ (flft κ₄ q₄) ⊛ ‵ Own₄ ⊛ ‵ (flft κ₅ q₅) ⊛ ‵ Own₅)
-          (asks-core α-queued δ-queued (h .queued) α-outstanding δ-outstanding (h .outstanding) α-transmissions δ-transmissions (h .transmissions) α-ready δ-ready (h .ready) α-waiting δ-waiting (h .waiting) α-waiting-numbers δ-waiting-numbers (h .«waiting_numbers») (h .settings) (only ((LL.vals settings-row.the-type settings-laws.the-laws) (h .settings))) was-settings (h .flight) (only ((LL.vals flight-row.the-type flight-laws.the-laws) (h .flight))) was-flight (h .arrival) (only ((LL.vals arrival-row.the-type arrival-laws.the-laws) (h .arrival))) was-arrival (h .clock) (only ((LL.vals clock-row.the-type clock-laws.the-laws) (h .clock))) was-clock recs w-recs is-recs m w-m is-m (record { whole-queued = len-queued; whole-outstanding = len-outstanding; whole-transmissions = len-transmissions; whole-ready = len-ready; whole-waiting = len-waiting; whole-numbers = len-waiting-numbers })) (λ a ws-a. id⊢ 𝓤 _)
+      part₂ : (past : Known₂) → ent 𝓤 (⋆ 𝓤 H A (‵ (partAt (Array u32 128) fullShare (past .2) b (o + 1800)) ∷ ‵ (partAt (Array u32 128) fullShare (past .3) b (o + 1288)) ∷ ‵ (partAt (Array u32 128) fullShare (past .4) b (o + 776)) ∷ ‵ (partAt (Array u8 32) fullShare (past .5) b (o + 744)) ∷ ‵ (partAt (Array u32 32) fullShare (past .6) b (o + 616)) ∷ ‵ (partAt (Array u32 128) fullShare (h .queued) b (o + 104)) ∷ ‵ (finally u32 (x₄ .name) (past .0)) ∷ ‵ (finally u8 (x₂ .name) (past .1)) ∷ ‵ (flft κ₁ q₁) ∷ ‵ (flft κ₂ q₂) ∷ ‵ (flft κ₄ q₄) ∷ ‵ (flft κ₅ q₅) ∷ ‵ (flft κ₃ q₃) ∷ ‵ (partAt clock-row.the-row fullShare (h .clock) b (o + 88)) ∷ ‵ (partAt arrival-row.the-row fullShare (h .arrival) b (o + 56)) ∷ ‵ (partAt flight-row.the-row fullShare (h .flight) b (o + 16)) ∷ ‵ (partAt settings-row.the-row fullShare (h .settings) b (o + 0)) ∷ raw (Back 𝓤 H A fullShare b o) ∷ ‵ (Open b o γ κ₀ q₀ h) ∷ (‵ (fdies taken-laws.mir (past .7)) ⊛ ‵ (fdies (tyRef (named 0) mut (pointee (L .written))) (past .8)) ⊛ ‵ (fdies (sliceTy (tyRef (named 1) imm (tyInt w8))) (past .9)) ⊛ ‵ (fdies (sliceTy (tyRef (named 2) mut (tyInt w8))) (past .10)) ⊛ ‵ (fdies (sliceTy (tyRef (named 3) imm (pointee (R .written)))) (past .11)) ⊛ ‵ (fdies (sliceTy (tyRef (named 4) mut (tyInt w32))) (past .12)) ⊛ ‵ (fdies (sliceTy (tyRef (named 5) imm (tyInt w8))) (past .13)) ⊛ ‵ (fdies settings-laws.mir (past .14)) ⊛ ‵ (fdies flight-laws.mir (past .15)) ⊛ ‵ (fdies arrival-laws.mir (past .16)) ⊛ ‵ (fdies clock-laws.mir (past .17)) ⊛ ‵ (fdies (tyArray (tyInt w32) 32) (past .18)) ⊛ ‵ (fdies (tyInt w64) (past .19)) ⊛ ‵ (fdies (tyArray record-laws.mir 32) (past .20)) ⊛ ‵ (fdies (tyInt w64) (past .21)) ⊛ ‵ (fdies taken-laws.mir (past .22)) ⊛ ‵ (fdies flight-laws.mir (past .23)) ⊛ ‵ (fdies arrival-laws.mir (past .24)) ⊛ ‵ (fdies (tyRef erased imm (tyArray (tyInt w32) 128)) (past .25)) ⊛ ‵ (fdies (tyRef erased mut (tyArray (tyInt w32) 32)) (past .26)) ⊛ ‵ (fdies (tyRef erased mut (tyArray (tyInt w8) 32)) (past .27)) ⊛ ‵ (fdies (tyRef erased mut (tyArray (tyInt w32) 128)) (past .28)) ⊛ ‵ (fdies (tyRef erased mut (tyArray (tyInt w32) 128)) (past .29)) ⊛ ‵ (fdies (tyRef erased mut (tyArray (tyInt w32) 128)) (past .30)) ⊛ ‵ (fdies (tyRef erased mut (tyInt w8)) (past .31)) ⊛ ‵ (fdies (sliceTy (tyRef erased mut (tyInt w8))) (past .32)) ⊛ ‵ (fdies (tyRef erased mut (tyInt w32)) (past .33)) ⊛ ‵ (fdies (sliceTy (tyRef erased mut (tyInt w32))) (past .34))) ∷ ‵ (fat fullShare (sliceTy (tyRef erased mut (tyInt w32))) (past .34) 0 (s₄)) ∷ ‵ (fat fullShare (tyRef erased mut (tyInt w32)) (past .33) 0 ((vptr (x₄ .ptr .0) (x₄ .ptr .1)))) ∷ ‵ (fat fullShare (sliceTy (tyRef erased mut (tyInt w8))) (past .32) 0 (s₂)) ∷ ‵ (fat fullShare (tyRef erased mut (tyInt w8)) (past .31) 0 ((vptr (x₂ .ptr .0) (x₂ .ptr .1)))) ∷ ‵ (fat fullShare (tyRef erased mut (tyArray (tyInt w32) 128)) (past .30) 0 ((vptr b (o + 1800)))) ∷ ‵ (fat fullShare (tyRef erased mut (tyArray (tyInt w32) 128)) (past .29) 0 ((vptr b (o + 1288)))) ∷ ‵ (fat fullShare (tyRef erased mut (tyArray (tyInt w32) 128)) (past .28) 0 ((vptr b (o + 776)))) ∷ ‵ (fat fullShare (tyRef erased mut (tyArray (tyInt w8) 32)) (past .27) 0 ((vptr b (o + 744)))) ∷ ‵ (fat fullShare (tyRef erased mut (tyArray (tyInt w32) 32)) (past .26) 0 ((vptr b (o + 616)))) ∷ ‵ (fat fullShare (tyRef erased imm (tyArray (tyInt w32) 128)) (past .25) 0 ((vptr b (o + 104)))) ∷ ‵ (froom arrival-laws.mir (past .24) 0) ∷ ‵ (froom flight-laws.mir (past .23) 0) ∷ ‵ (fat fullShare taken-laws.mir (past .22) 0 ((past .45))) ∷ ‵ (fat fullShare (tyInt w64) (past .21) 0 ((past .42))) ∷ ‵ (fat fullShare (tyArray record-laws.mir 32) (past .20) 0 ((past .39))) ∷ ‵ (fat fullShare (tyInt w64) (past .19) 0 ((past .36))) ∷ ‵ (fat fullShare (tyArray (tyInt w32) 32) (past .18) 0 ((only ((array-vals (uint-vals w32)) (h .outstanding))))) ∷ ‵ (fat fullShare clock-laws.mir (past .17) 0 ((only ((LL.vals clock-row.the-type clock-laws.the-laws) (h .clock))))) ∷ ‵ (fat fullShare arrival-laws.mir (past .16) 0 ((only ((LL.vals arrival-row.the-type arrival-laws.the-laws) (h .arrival))))) ∷ ‵ (fat fullShare flight-laws.mir (past .15) 0 ((only ((LL.vals flight-row.the-type flight-laws.the-laws) (h .flight))))) ∷ ‵ (fat fullShare settings-laws.mir (past .14) 0 ((only ((LL.vals settings-row.the-type settings-laws.the-laws) (h .settings))))) ∷ ‵ (fat fullShare (sliceTy (tyRef (named 5) imm (tyInt w8))) (past .13) 0 (s₅)) ∷ ‵ (fat fullShare (sliceTy (tyRef (named 4) mut (tyInt w32))) (past .12) 0 (s₄)) ∷ ‵ (fat fullShare (sliceTy (tyRef (named 3) imm (pointee (R .written)))) (past .11) 0 (s₃)) ∷ ‵ (fat fullShare (sliceTy (tyRef (named 2) mut (tyInt w8))) (past .10) 0 (s₂)) ∷ ‵ (fat fullShare (sliceTy (tyRef (named 1) imm (tyInt w8))) (past .9) 0 (s₁)) ∷ ‵ (fat fullShare (tyRef (named 0) mut (pointee (L .written))) (past .8) 0 (vptr b o)) ∷ ‵ (froom taken-laws.mir (past .7) 0) ∷ [])) (Wp 𝓤 H C Λ (En (past .7) (past .8) (past .9) (past .10) (past .11) (past .12) (past .13) (past .14) (past .15) (past .16) (past .17) (past .18) (past .19) (past .20) (past .21) (past .22) (past .23) (past .24) (past .25) (past .26) (past .27) (past .28) (past .29) (past .30) (past .31) (past .32) (past .33) (past .34)) (behind 19 (code.function .body)) (atReturn 𝓤 H (En (past .7) (past .8) (past .9) (past .10) (past .11) (past .12) (past .13) (past .14) (past .15) (past .16) (past .17) (past .18) (past .19) (past .20) (past .21) (past .22) (past .23) (past .24) (past .25) (past .26) (past .27) (past .28) (past .29) (past .30) (past .31) (past .32) (past .33) (past .34)) Post))
+      part₂ past =
+          qed W (‵ (partAt (Array u32 128) fullShare (past .2) b (o + 1800)) ∷ ‵ (partAt (Array u32 128) fullShare (past .3) b (o + 1288)) ∷ ‵ (partAt (Array u32 128) fullShare (past .4) b (o + 776)) ∷ ‵ (partAt (Array u8 32) fullShare (past .5) b (o + 744)) ∷ ‵ (partAt (Array u32 32) fullShare (past .6) b (o + 616)) ∷ ‵ (partAt (Array u32 128) fullShare (h .queued) b (o + 104)) ∷ ‵ (finally u32 (x₄ .name) (past .0)) ∷ ‵ (finally u8 (x₂ .name) (past .1)) ∷ ‵ (flft κ₁ q₁) ∷ ‵ (flft κ₂ q₂) ∷ ‵ (flft κ₄ q₄) ∷ ‵ (flft κ₅ q₅) ∷ ‵ (flft κ₃ q₃) ∷ ‵ (partAt clock-row.the-row fullShare (h .clock) b (o + 88)) ∷ ‵ (partAt arrival-row.the-row fullShare (h .arrival) b (o + 56)) ∷ ‵ (partAt flight-row.the-row fullShare (h .flight) b (o + 16)) ∷ ‵ (partAt settings-row.the-row fullShare (h .settings) b (o + 0)) ∷ raw (Back 𝓤 H A fullShare b o) ∷ ‵ (Open b o γ κ₀ q₀ h) ∷ (‵ (fdies taken-laws.mir (past .7)) ⊛ ‵ (fdies (tyRef (named 0) mut (pointee (L .written))) (past .8)) ⊛ ‵ (fdies (sliceTy (tyRef (named 1) imm (tyInt w8))) (past .9)) ⊛ ‵ (fdies (sliceTy (tyRef (named 2) mut (tyInt w8))) (past .10)) ⊛ ‵ (fdies (sliceTy (tyRef (named 3) imm (pointee (R .written)))) (past .11)) ⊛ ‵ (fdies (sliceTy (tyRef (named 4) mut (tyInt w32))) (past .12)) ⊛ ‵ (fdies (sliceTy (tyRef (named 5) imm (tyInt w8))) (past .13)) ⊛ ‵ (fdies settings-laws.mir (past .14)) ⊛ ‵ (fdies flight-laws.mir (past .15)) ⊛ ‵ (fdies arrival-laws.mir (past .16)) ⊛ ‵ (fdies clock-laws.mir (past .17)) ⊛ ‵ (fdies (tyArray (tyInt w32) 32) (past .18)) ⊛ ‵ (fdies (tyInt w64) (past .19)) ⊛ ‵ (fdies (tyArray record-laws.mir 32) (past .20)) ⊛ ‵ (fdies (tyInt w64) (past .21)) ⊛ ‵ (fdies taken-laws.mir (past .22)) ⊛ ‵ (fdies flight-laws.mir (past .23)) ⊛ ‵ (fdies arrival-laws.mir (past .24)) ⊛ ‵ (fdies (tyRef erased imm (tyArray (tyInt w32) 128)) (past .25)) ⊛ ‵ (fdies (tyRef erased mut (tyArray (tyInt w32) 32)) (past .26)) ⊛ ‵ (fdies (tyRef erased mut (tyArray (tyInt w8) 32)) (past .27)) ⊛ ‵ (fdies (tyRef erased mut (tyArray (tyInt w32) 128)) (past .28)) ⊛ ‵ (fdies (tyRef erased mut (tyArray (tyInt w32) 128)) (past .29)) ⊛ ‵ (fdies (tyRef erased mut (tyArray (tyInt w32) 128)) (past .30)) ⊛ ‵ (fdies (tyRef erased mut (tyInt w8)) (past .31)) ⊛ ‵ (fdies (sliceTy (tyRef erased mut (tyInt w8))) (past .32)) ⊛ ‵ (fdies (tyRef erased mut (tyInt w32)) (past .33)) ⊛ ‵ (fdies (sliceTy (tyRef erased mut (tyInt w32))) (past .34))) ∷ ‵ (fat fullShare (sliceTy (tyRef erased mut (tyInt w32))) (past .34) 0 (s₄)) ∷ ‵ (fat fullShare (tyRef erased mut (tyInt w32)) (past .33) 0 ((vptr (x₄ .ptr .0) (x₄ .ptr .1)))) ∷ ‵ (fat fullShare (sliceTy (tyRef erased mut (tyInt w8))) (past .32) 0 (s₂)) ∷ ‵ (fat fullShare (tyRef erased mut (tyInt w8)) (past .31) 0 ((vptr (x₂ .ptr .0) (x₂ .ptr .1)))) ∷ ‵ (fat fullShare (tyRef erased mut (tyArray (tyInt w32) 128)) (past .30) 0 ((vptr b (o + 1800)))) ∷ ‵ (fat fullShare (tyRef erased mut (tyArray (tyInt w32) 128)) (past .29) 0 ((vptr b (o + 1288)))) ∷ ‵ (fat fullShare (tyRef erased mut (tyArray (tyInt w32) 128)) (past .28) 0 ((vptr b (o + 776)))) ∷ ‵ (fat fullShare (tyRef erased mut (tyArray (tyInt w8) 32)) (past .27) 0 ((vptr b (o + 744)))) ∷ ‵ (fat fullShare (tyRef erased mut (tyArray (tyInt w32) 32)) (past .26) 0 ((vptr b (o + 616)))) ∷ ‵ (fat fullShare (tyRef erased imm (tyArray (tyInt w32) 128)) (past .25) 0 ((vptr b (o + 104)))) ∷ ‵ (froom arrival-laws.mir (past .24) 0) ∷ ‵ (froom flight-laws.mir (past .23) 0) ∷ ‵ (fat fullShare taken-laws.mir (past .22) 0 ((past .45))) ∷ ‵ (fat fullShare (tyInt w64) (past .21) 0 ((past .42))) ∷ ‵ (fat fullShare (tyArray record-laws.mir 32) (past .20) 0 ((past .39))) ∷ ‵ (fat fullShare (tyInt w64) (past .19) 0 ((past .36))) ∷ ‵ (fat fullShare (tyArray (tyInt w32) 32) (past .18) 0 ((only ((array-vals (uint-vals w32)) (h .outstanding))))) ∷ ‵ (fat fullShare clock-laws.mir (past .17) 0 ((only ((LL.vals clock-row.the-type clock-laws.the-laws) (h .clock))))) ∷ ‵ (fat fullShare arrival-laws.mir (past .16) 0 ((only ((LL.vals arrival-row.the-type arrival-laws.the-laws) (h .arrival))))) ∷ ‵ (fat fullShare flight-laws.mir (past .15) 0 ((only ((LL.vals flight-row.the-type flight-laws.the-laws) (h .flight))))) ∷ ‵ (fat fullShare settings-laws.mir (past .14) 0 ((only ((LL.vals settings-row.the-type settings-laws.the-laws) (h .settings))))) ∷ ‵ (fat fullShare (sliceTy (tyRef (named 5) imm (tyInt w8))) (past .13) 0 (s₅)) ∷ ‵ (fat fullShare (sliceTy (tyRef (named 4) mut (tyInt w32))) (past .12) 0 (s₄)) ∷ ‵ (fat fullShare (sliceTy (tyRef (named 3) imm (pointee (R .written)))) (past .11) 0 (s₃)) ∷ ‵ (fat fullShare (sliceTy (tyRef (named 2) mut (tyInt w8))) (past .10) 0 (s₂)) ∷ ‵ (fat fullShare (sliceTy (tyRef (named 1) imm (tyInt w8))) (past .9) 0 (s₁)) ∷ ‵ (fat fullShare (tyRef (named 0) mut (pointee (L .written))) (past .8) 0 (vptr b o)) ∷ ‵ (froom taken-laws.mir (past .7) 0) ∷ []) ∵ exec ! C Λ (En (past .7) (past .8) (past .9) (past .10) (past .11) (past .12) (past .13) (past .14) (past .15) (past .16) (past .17) (past .18) (past .19) (past .20) (past .21) (past .22) (past .23) (past .24) (past .25) (past .26) (past .27) (past .28) (past .29) (past .30) (past .31) (past .32) (past .33) (past .34)) (behind 19 (code.function .body)) (atRet (En (past .7) (past .8) (past .9) (past .10) (past .11) (past .12) (past .13) (past .14) (past .15) (past .16) (past .17) (past .18) (past .19) (past .20) (past .21) (past .22) (past .23) (past .24) (past .25) (past .26) (past .27) (past .28) (past .29) (past .30) (past .31) (past .32) (past .33) (past .34)) Post) $
+          nothing ! $ calls-fn ! fm flight-of.ended (flight-of.clauses 𝓤 H A at-mem run) (known .4) ((tt, tt, tt, ((past .44), tt), ((past .45) ∷ [], tt)), tt) (λ kf _. kf ≡ (past .44) .flight)
+          (‵ ftrue) (plainly 𝓤 H A W (taken-row.the-row ∷ []) ((LL.makes taken-row.the-type taken-laws.the-plain 𝓤 H A), tt) ((past .44), tt) ((past .45) ∷ [], tt) ((past .47), tt)) (λ kf _. id⊢ 𝓤 _)
+          (and-then ! (load ! (from ! (stop !)) (look ! 33 refl)) (no-more !)) (λ kf w-kf _ e-kf is-kf. drop ! $ drop ! $ land ! (from ! (stop !)) (init ! 31 refl (LL.lawful flight-row.the-type flight-laws.the-laws 𝓤 H A W .typed kf (w-kf ∷ []) is-kf .0)) $
+          move ! (15 ∷ []) $ cell-out ! fullShare flight-row.the-row (LL.vals flight-row.the-type flight-laws.the-laws) (LL.tells flight-row.the-type flight-laws.the-laws) (h .flight) b (o + 16) (λ was-flight′. assigns ! (of-opd ! (load ! (from ! (stop !)) (look ! 31 refl))) (from ! (hop ! (look ! 46 refl) (fld ! {d = 16} refl (stop !)))) (store-raw ! 0 refl (LL.lawful flight-row.the-type flight-laws.the-laws 𝓤 H A W .typed kf (w-kf ∷ []) is-kf .0)) $ cell-in ! fullShare flight-row.the-row (LL.makes flight-row.the-type flight-laws.the-plain 𝓤 H A) kf b (o + 16) w-kf is-kf $ nothing ! $ calls-fn ! fm arrival-of.ended (arrival-of.clauses 𝓤 H A at-mem run) (known .5) ((tt, tt, tt, ((past .44), tt), ((past .45) ∷ [], tt)), tt) (λ ka _. ka ≡ (past .44) .arrival)
+          (‵ ftrue) (plainly 𝓤 H A W (taken-row.the-row ∷ []) ((LL.makes taken-row.the-type taken-laws.the-plain 𝓤 H A), tt) ((past .44), tt) ((past .45) ∷ [], tt) ((past .47), tt)) (λ ka _. id⊢ 𝓤 _)
+          (and-then ! (load ! (from ! (stop !)) (look ! 33 refl)) (no-more !)) (λ ka w-ka _ e-ka is-ka. drop ! $ drop ! $ land ! (from ! (stop !)) (init ! 30 refl (LL.lawful arrival-row.the-type arrival-laws.the-laws 𝓤 H A W .typed ka (w-ka ∷ []) is-ka .0)) $
+          move ! (15 ∷ []) $ cell-out ! fullShare arrival-row.the-row (LL.vals arrival-row.the-type arrival-laws.the-laws) (LL.tells arrival-row.the-type arrival-laws.the-laws) (h .arrival) b (o + 56) (λ was-arrival′. assigns ! (of-opd ! (load ! (from ! (stop !)) (look ! 30 refl))) (from ! (hop ! (look ! 46 refl) (fld ! {d = 56} refl (stop !)))) (store-raw ! 0 refl (LL.lawful arrival-row.the-type arrival-laws.the-laws 𝓤 H A W .typed ka (w-ka ∷ []) is-ka .0)) $ cell-in ! fullShare arrival-row.the-row (LL.makes arrival-row.the-type arrival-laws.the-plain 𝓤 H A) ka b (o + 56) w-ka is-ka $ move ! (7 ∷ []) $ tells-length ! fullShare u32 128 (h .queued) b (o + 104) (λ end-queued. move ! (7 ∷ []) $ tells-length ! fullShare u32 32 (past .6) b (o + 616) (λ end-outstanding. move ! (7 ∷ []) $ tells-length ! fullShare u8 32 (past .5) b (o + 744) (λ end-transmissions. move ! (7 ∷ []) $ tells-length ! fullShare u32 128 (past .4) b (o + 776) (λ end-ready. move ! (7 ∷ []) $ tells-length ! fullShare u32 128 (past .3) b (o + 1288) (λ end-waiting. move ! (7 ∷ []) $ tells-length ! fullShare u32 128 (past .2) b (o + 1800) (λ end-waiting-numbers. move ! (16 ∷ 7 ∷ 6 ∷ 15 ∷ 5 ∷ 4 ∷ 3 ∷ 2 ∷ 1 ∷ 0 ∷ 17 ∷ 18 ∷ []) $ closes-link b o γ ! tt h (record { settings = (h .settings); flight = kf; arrival = ka; clock = (h .clock); queued = (h .queued); outstanding = (past .6); transmissions = (past .5); ready = (past .4); waiting = (past .3); «waiting_numbers» = (past .2) }) $
+          -- [own0; tok0; fin4; fin2; tok1; tok2; tok4; tok5; tok3; deaths; the locals]
+          assigns ! {v = (past .45)} (of-opd ! (load ! (from ! (stop !)) (look ! 22 refl))) (from ! (stop !)) (init ! 37 refl (LL.lawful taken-row.the-type taken-laws.the-laws 𝓤 H A W .typed (past .44) ((past .45) ∷ []) (past .47) .0)) $
+          returns ! (look ! 37 refl) $
+          move ! (9 ∷ []) $ spread W (‵ (fdies taken-laws.mir (past .7))) (‵ (fdies (tyRef (named 0) mut (pointee (L .written))) (past .8)) ∷ ‵ (fdies (sliceTy (tyRef (named 1) imm (tyInt w8))) (past .9)) ∷ ‵ (fdies (sliceTy (tyRef (named 2) mut (tyInt w8))) (past .10)) ∷ ‵ (fdies (sliceTy (tyRef (named 3) imm (pointee (R .written)))) (past .11)) ∷ ‵ (fdies (sliceTy (tyRef (named 4) mut (tyInt w32))) (past .12)) ∷ ‵ (fdies (sliceTy (tyRef (named 5) imm (tyInt w8))) (past .13)) ∷ ‵ (fdies settings-laws.mir (past .14)) ∷ ‵ (fdies flight-laws.mir (past .15)) ∷ ‵ (fdies arrival-laws.mir (past .16)) ∷ ‵ (fdies clock-laws.mir (past .17)) ∷ ‵ (fdies (tyArray (tyInt w32) 32) (past .18)) ∷ ‵ (fdies (tyInt w64) (past .19)) ∷ ‵ (fdies (tyArray record-laws.mir 32) (past .20)) ∷ ‵ (fdies (tyInt w64) (past .21)) ∷ ‵ (fdies taken-laws.mir (past .22)) ∷ ‵ (fdies flight-laws.mir (past .23)) ∷ ‵ (fdies arrival-laws.mir (past .24)) ∷ ‵ (fdies (tyRef erased imm (tyArray (tyInt w32) 128)) (past .25)) ∷ ‵ (fdies (tyRef erased mut (tyArray (tyInt w32) 32)) (past .26)) ∷ ‵ (fdies (tyRef erased mut (tyArray (tyInt w8) 32)) (past .27)) ∷ ‵ (fdies (tyRef erased mut (tyArray (tyInt w32) 128)) (past .28)) ∷ ‵ (fdies (tyRef erased mut (tyArray (tyInt w32) 128)) (past .29)) ∷ ‵ (fdies (tyRef erased mut (tyArray (tyInt w32) 128)) (past .30)) ∷ ‵ (fdies (tyRef erased mut (tyInt w8)) (past .31)) ∷ ‵ (fdies (sliceTy (tyRef erased mut (tyInt w8))) (past .32)) ∷ ‵ (fdies (tyRef erased mut (tyInt w32)) (past .33)) ∷ ‵ (fdies (sliceTy (tyRef erased mut (tyInt w32))) (past .34)) ∷ []) (id⊢ 𝓤 _) $ move ! (64 ∷ 0 ∷ 63 ∷ 1 ∷ 62 ∷ 2 ∷ 61 ∷ 3 ∷ 60 ∷ 4 ∷ 59 ∷ 5 ∷ 58 ∷ 6 ∷ 57 ∷ 7 ∷ 56 ∷ 8 ∷ 55 ∷ 9 ∷ 54 ∷ 10 ∷ 53 ∷ 11 ∷ 52 ∷ 12 ∷ 51 ∷ 13 ∷ 50 ∷ 14 ∷ 49 ∷ 15 ∷ 48 ∷ 16 ∷ 47 ∷ 17 ∷ 46 ∷ 18 ∷ 45 ∷ 19 ∷ 44 ∷ 20 ∷ 43 ∷ 21 ∷ 42 ∷ 22 ∷ 41 ∷ 23 ∷ 40 ∷ 24 ∷ 39 ∷ 25 ∷ 38 ∷ 26 ∷ 37 ∷ 27 ∷ []) $ forget ! 0 refl $ free1 ! $ forget ! 0 refl $ free1 ! $ forget ! 0 refl $ free1 ! $ forget ! 0 refl $ free1 ! $ forget ! 0 refl $ free1 ! $ forget ! 0 refl $ free1 ! $ forget ! 0 refl $ free1 ! $ forget ! 0 refl $ free1 ! $ forget ! 0 refl $ free1 ! $ forget ! 0 refl $ free1 ! $ forget ! 0 refl $ free1 ! $ forget ! 0 refl $ free1 ! $ forget ! 0 refl $ free1 ! $ forget ! 0 refl $ free1 ! $ forget ! 0 refl $ free1 ! $ forget ! 0 refl $ free1 ! $ forget ! 0 refl $ free1 ! $ forget ! 0 refl $ free1 ! $ forget ! 0 refl $ free1 ! $ forget ! 0 refl $ free1 ! $ forget ! 0 refl $ free1 ! $ forget ! 0 refl $ free1 ! $ forget ! 0 refl $ free1 ! $ forget ! 0 refl $ free1 ! $ forget ! 0 refl $ free1 ! $ forget ! 0 refl $ free1 ! $ forget ! 0 refl $ free1 ! $ forget ! 0 refl $ free1 ! $ free0 ! $
+          move ! (0 ∷ 1 ∷ 4 ∷ 3 ∷ 5 ∷ 8 ∷ 2 ∷ 6 ∷ 7 ∷ []) $ by ! (exits (past .44) (past .45) (record { settings = (h .settings); flight = kf; arrival = ka; clock = (h .clock); queued = (h .queued); outstanding = (past .6); transmissions = (past .5); ready = (past .4); waiting = (past .3); «waiting_numbers» = (past .2) }) ((past .1)) ((past .0)) (rw (e-kf, e-ka) (input-left (x₅ .now) h (partsOf (x₁ .now) (x₂ .now) (x₃ .now) (x₄ .now)) ((past .44) .answer) (takenBack (past .44)) (linkOf (h .settings) ((past .44) .flight) ((past .44) .arrival) (h .clock) (arrays (h .queued) (past .6) (past .5) (past .4) (past .3) (past .2))) (past .1) (past .0) (past .38) (past .41) (gathers h (partsOf (x₁ .now) (x₂ .now) (x₃ .now) (x₄ .now)) (past .35) (past .38) (past .41) (past .37) (past .40) (past .43)) (record { whole-queued = end-queued; whole-outstanding = end-outstanding; whole-transmissions = end-transmissions; whole-ready = end-ready; whole-waiting = end-waiting; whole-numbers = end-waiting-numbers }) (past .46))) (past .48) (past .49) (past .47))))))))))))
+
+      -- what part 1 knows
+      abbrev Known₁ : Type 0
+      Known₁ = (l₀ : ℕ) × (l₁ : ℕ) × (l₂ : ℕ) × (l₃ : ℕ) × (l₄ : ℕ) × (l₅ : ℕ) × (l₆ : ℕ) × (l₇ : ℕ) × (l₈ : ℕ) × (l₉ : ℕ) × (l₁₀ : ℕ) × (l₁₁ : ℕ) × (l₁₂ : ℕ) × (l₁₃ : ℕ) × (l₁₄ : ℕ) × (l₁₅ : ℕ) × (l₁₆ : ℕ) × (l₁₇ : ℕ) × (l₁₈ : ℕ) × (l₁₉ : ℕ) × (l₂₀ : ℕ) × (l₂₁ : ℕ) × (l₂₂ : ℕ) × (l₂₃ : ℕ) × (l₂₄ : ℕ) × (l₂₅ : ℕ) × (l₂₆ : ℕ) × (l₂₇ : ℕ) × (len-queued : length (h .queued) ≡ 128) × (len-outstanding : length (h .outstanding) ≡ 32) × (len-transmissions : length (h .transmissions) ≡ 32) × (len-ready : length (h .ready) ≡ 128) × (len-waiting : length (h .waiting) ≡ 128) × (len-waiting-numbers : length (h .«waiting_numbers») ≡ 128) × (was-settings : Is settings-row.the-row (h .settings) ((LL.vals settings-row.the-type settings-laws.the-laws) (h .settings))) × (was-flight : Is flight-row.the-row (h .flight) ((LL.vals flight-row.the-type flight-laws.the-laws) (h .flight))) × (was-arrival : Is arrival-row.the-row (h .arrival) ((LL.vals arrival-row.the-type arrival-laws.the-laws) (h .arrival))) × (was-clock : Is clock-row.the-row (h .clock) ((LL.vals clock-row.the-type clock-laws.the-laws) (h .clock))) × (n : ℕ) × (w-n : Val) × (e-n : n ≡ h .flight .outstanding) × (recs : (List Record)) × (w-recs : Val) × (e-recs : recs ≡ padded (gathered (take sendSlots (x₃ .now)) (slotsIn (h .outstanding) n))) × (is-recs : Is Rs recs (w-recs ∷ [])) × (m : ℕ) × (w-m : Val) × (e-m : m ≡ length (x₃ .now)) × (Is usize m (w-m ∷ []))
+
+      part₁ : (past : Known₁) → ent 𝓤 (⋆ 𝓤 H A (‵ (flft κ₃ q₃) ∷ ‵ (partAt (Array u32 32) fullShare (h .outstanding) b (o + 616)) ∷ ‵ (partAt clock-row.the-row fullShare (h .clock) b (o + 88)) ∷ ‵ (partAt arrival-row.the-row fullShare (h .arrival) b (o + 56)) ∷ ‵ (partAt flight-row.the-row fullShare (h .flight) b (o + 16)) ∷ ‵ (partAt settings-row.the-row fullShare (h .settings) b (o + 0)) ∷ ‵ (partAt (Array u32 128) fullShare (h .«waiting_numbers») b (o + 1800)) ∷ ‵ (partAt (Array u32 128) fullShare (h .waiting) b (o + 1288)) ∷ ‵ (partAt (Array u32 128) fullShare (h .ready) b (o + 776)) ∷ ‵ (partAt (Array u8 32) fullShare (h .transmissions) b (o + 744)) ∷ ‵ (partAt (Array u32 128) fullShare (h .queued) b (o + 104)) ∷ raw (Back 𝓤 H A fullShare b o) ∷ ‵ (Open b o γ κ₀ q₀ h) ∷ (‵ (fdies taken-laws.mir (past .0)) ⊛ ‵ (fdies (tyRef (named 0) mut (pointee (L .written))) (past .1)) ⊛ ‵ (fdies (sliceTy (tyRef (named 1) imm (tyInt w8))) (past .2)) ⊛ ‵ (fdies (sliceTy (tyRef (named 2) mut (tyInt w8))) (past .3)) ⊛ ‵ (fdies (sliceTy (tyRef (named 3) imm (pointee (R .written)))) (past .4)) ⊛ ‵ (fdies (sliceTy (tyRef (named 4) mut (tyInt w32))) (past .5)) ⊛ ‵ (fdies (sliceTy (tyRef (named 5) imm (tyInt w8))) (past .6)) ⊛ ‵ (fdies settings-laws.mir (past .7)) ⊛ ‵ (fdies flight-laws.mir (past .8)) ⊛ ‵ (fdies arrival-laws.mir (past .9)) ⊛ ‵ (fdies clock-laws.mir (past .10)) ⊛ ‵ (fdies (tyArray (tyInt w32) 32) (past .11)) ⊛ ‵ (fdies (tyInt w64) (past .12)) ⊛ ‵ (fdies (tyArray record-laws.mir 32) (past .13)) ⊛ ‵ (fdies (tyInt w64) (past .14)) ⊛ ‵ (fdies taken-laws.mir (past .15)) ⊛ ‵ (fdies flight-laws.mir (past .16)) ⊛ ‵ (fdies arrival-laws.mir (past .17)) ⊛ ‵ (fdies (tyRef erased imm (tyArray (tyInt w32) 128)) (past .18)) ⊛ ‵ (fdies (tyRef erased mut (tyArray (tyInt w32) 32)) (past .19)) ⊛ ‵ (fdies (tyRef erased mut (tyArray (tyInt w8) 32)) (past .20)) ⊛ ‵ (fdies (tyRef erased mut (tyArray (tyInt w32) 128)) (past .21)) ⊛ ‵ (fdies (tyRef erased mut (tyArray (tyInt w32) 128)) (past .22)) ⊛ ‵ (fdies (tyRef erased mut (tyArray (tyInt w32) 128)) (past .23)) ⊛ ‵ (fdies (tyRef erased mut (tyInt w8)) (past .24)) ⊛ ‵ (fdies (sliceTy (tyRef erased mut (tyInt w8))) (past .25)) ⊛ ‵ (fdies (tyRef erased mut (tyInt w32)) (past .26)) ⊛ ‵ (fdies (sliceTy (tyRef erased mut (tyInt w32))) (past .27))) ∷ ‵ (flft κ₁ q₁) ∷ ‵ (flft κ₂ q₂) ∷ ‵ (flft κ₄ q₄) ∷ ‵ (flft κ₅ q₅) ∷ ‵ Own₁ ∷ ‵ Own₂ ∷ ‵ Own₄ ∷ ‵ Own₅ ∷ ‵ (froom (sliceTy (tyRef erased mut (tyInt w32))) (past .27) 0) ∷ ‵ (froom (tyRef erased mut (tyInt w32)) (past .26) 0) ∷ ‵ (froom (sliceTy (tyRef erased mut (tyInt w8))) (past .25) 0) ∷ ‵ (froom (tyRef erased mut (tyInt w8)) (past .24) 0) ∷ ‵ (froom (tyRef erased mut (tyArray (tyInt w32) 128)) (past .23) 0) ∷ ‵ (froom (tyRef erased mut (tyArray (tyInt w32) 128)) (past .22) 0) ∷ ‵ (froom (tyRef erased mut (tyArray (tyInt w32) 128)) (past .21) 0) ∷ ‵ (froom (tyRef erased mut (tyArray (tyInt w8) 32)) (past .20) 0) ∷ ‵ (froom (tyRef erased mut (tyArray (tyInt w32) 32)) (past .19) 0) ∷ ‵ (froom (tyRef erased imm (tyArray (tyInt w32) 128)) (past .18) 0) ∷ ‵ (froom arrival-laws.mir (past .17) 0) ∷ ‵ (froom flight-laws.mir (past .16) 0) ∷ ‵ (froom taken-laws.mir (past .15) 0) ∷ ‵ (fat fullShare (tyInt w64) (past .14) 0 ((past .46))) ∷ ‵ (fat fullShare (tyArray record-laws.mir 32) (past .13) 0 ((past .42))) ∷ ‵ (fat fullShare (tyInt w64) (past .12) 0 ((past .39))) ∷ ‵ (fat fullShare (tyArray (tyInt w32) 32) (past .11) 0 ((only ((array-vals (uint-vals w32)) (h .outstanding))))) ∷ ‵ (fat fullShare clock-laws.mir (past .10) 0 ((only ((LL.vals clock-row.the-type clock-laws.the-laws) (h .clock))))) ∷ ‵ (fat fullShare arrival-laws.mir (past .9) 0 ((only ((LL.vals arrival-row.the-type arrival-laws.the-laws) (h .arrival))))) ∷ ‵ (fat fullShare flight-laws.mir (past .8) 0 ((only ((LL.vals flight-row.the-type flight-laws.the-laws) (h .flight))))) ∷ ‵ (fat fullShare settings-laws.mir (past .7) 0 ((only ((LL.vals settings-row.the-type settings-laws.the-laws) (h .settings))))) ∷ ‵ (fat fullShare (sliceTy (tyRef (named 5) imm (tyInt w8))) (past .6) 0 (s₅)) ∷ ‵ (fat fullShare (sliceTy (tyRef (named 4) mut (tyInt w32))) (past .5) 0 (s₄)) ∷ ‵ (fat fullShare (sliceTy (tyRef (named 3) imm (pointee (R .written)))) (past .4) 0 (s₃)) ∷ ‵ (fat fullShare (sliceTy (tyRef (named 2) mut (tyInt w8))) (past .3) 0 (s₂)) ∷ ‵ (fat fullShare (sliceTy (tyRef (named 1) imm (tyInt w8))) (past .2) 0 (s₁)) ∷ ‵ (fat fullShare (tyRef (named 0) mut (pointee (L .written))) (past .1) 0 (vptr b o)) ∷ ‵ (froom taken-laws.mir (past .0) 0) ∷ [])) (Wp 𝓤 H C Λ (En (past .0) (past .1) (past .2) (past .3) (past .4) (past .5) (past .6) (past .7) (past .8) (past .9) (past .10) (past .11) (past .12) (past .13) (past .14) (past .15) (past .16) (past .17) (past .18) (past .19) (past .20) (past .21) (past .22) (past .23) (past .24) (past .25) (past .26) (past .27)) (behind 8 (code.function .body)) (atReturn 𝓤 H (En (past .0) (past .1) (past .2) (past .3) (past .4) (past .5) (past .6) (past .7) (past .8) (past .9) (past .10) (past .11) (past .12) (past .13) (past .14) (past .15) (past .16) (past .17) (past .18) (past .19) (past .20) (past .21) (past .22) (past .23) (past .24) (past .25) (past .26) (past .27)) Post))
+      part₁ past =
+          qed W (‵ (flft κ₃ q₃) ∷ ‵ (partAt (Array u32 32) fullShare (h .outstanding) b (o + 616)) ∷ ‵ (partAt clock-row.the-row fullShare (h .clock) b (o + 88)) ∷ ‵ (partAt arrival-row.the-row fullShare (h .arrival) b (o + 56)) ∷ ‵ (partAt flight-row.the-row fullShare (h .flight) b (o + 16)) ∷ ‵ (partAt settings-row.the-row fullShare (h .settings) b (o + 0)) ∷ ‵ (partAt (Array u32 128) fullShare (h .«waiting_numbers») b (o + 1800)) ∷ ‵ (partAt (Array u32 128) fullShare (h .waiting) b (o + 1288)) ∷ ‵ (partAt (Array u32 128) fullShare (h .ready) b (o + 776)) ∷ ‵ (partAt (Array u8 32) fullShare (h .transmissions) b (o + 744)) ∷ ‵ (partAt (Array u32 128) fullShare (h .queued) b (o + 104)) ∷ raw (Back 𝓤 H A fullShare b o) ∷ ‵ (Open b o γ κ₀ q₀ h) ∷ (‵ (fdies taken-laws.mir (past .0)) ⊛ ‵ (fdies (tyRef (named 0) mut (pointee (L .written))) (past .1)) ⊛ ‵ (fdies (sliceTy (tyRef (named 1) imm (tyInt w8))) (past .2)) ⊛ ‵ (fdies (sliceTy (tyRef (named 2) mut (tyInt w8))) (past .3)) ⊛ ‵ (fdies (sliceTy (tyRef (named 3) imm (pointee (R .written)))) (past .4)) ⊛ ‵ (fdies (sliceTy (tyRef (named 4) mut (tyInt w32))) (past .5)) ⊛ ‵ (fdies (sliceTy (tyRef (named 5) imm (tyInt w8))) (past .6)) ⊛ ‵ (fdies settings-laws.mir (past .7)) ⊛ ‵ (fdies flight-laws.mir (past .8)) ⊛ ‵ (fdies arrival-laws.mir (past .9)) ⊛ ‵ (fdies clock-laws.mir (past .10)) ⊛ ‵ (fdies (tyArray (tyInt w32) 32) (past .11)) ⊛ ‵ (fdies (tyInt w64) (past .12)) ⊛ ‵ (fdies (tyArray record-laws.mir 32) (past .13)) ⊛ ‵ (fdies (tyInt w64) (past .14)) ⊛ ‵ (fdies taken-laws.mir (past .15)) ⊛ ‵ (fdies flight-laws.mir (past .16)) ⊛ ‵ (fdies arrival-laws.mir (past .17)) ⊛ ‵ (fdies (tyRef erased imm (tyArray (tyInt w32) 128)) (past .18)) ⊛ ‵ (fdies (tyRef erased mut (tyArray (tyInt w32) 32)) (past .19)) ⊛ ‵ (fdies (tyRef erased mut (tyArray (tyInt w8) 32)) (past .20)) ⊛ ‵ (fdies (tyRef erased mut (tyArray (tyInt w32) 128)) (past .21)) ⊛ ‵ (fdies (tyRef erased mut (tyArray (tyInt w32) 128)) (past .22)) ⊛ ‵ (fdies (tyRef erased mut (tyArray (tyInt w32) 128)) (past .23)) ⊛ ‵ (fdies (tyRef erased mut (tyInt w8)) (past .24)) ⊛ ‵ (fdies (sliceTy (tyRef erased mut (tyInt w8))) (past .25)) ⊛ ‵ (fdies (tyRef erased mut (tyInt w32)) (past .26)) ⊛ ‵ (fdies (sliceTy (tyRef erased mut (tyInt w32))) (past .27))) ∷ ‵ (flft κ₁ q₁) ∷ ‵ (flft κ₂ q₂) ∷ ‵ (flft κ₄ q₄) ∷ ‵ (flft κ₅ q₅) ∷ ‵ Own₁ ∷ ‵ Own₂ ∷ ‵ Own₄ ∷ ‵ Own₅ ∷ ‵ (froom (sliceTy (tyRef erased mut (tyInt w32))) (past .27) 0) ∷ ‵ (froom (tyRef erased mut (tyInt w32)) (past .26) 0) ∷ ‵ (froom (sliceTy (tyRef erased mut (tyInt w8))) (past .25) 0) ∷ ‵ (froom (tyRef erased mut (tyInt w8)) (past .24) 0) ∷ ‵ (froom (tyRef erased mut (tyArray (tyInt w32) 128)) (past .23) 0) ∷ ‵ (froom (tyRef erased mut (tyArray (tyInt w32) 128)) (past .22) 0) ∷ ‵ (froom (tyRef erased mut (tyArray (tyInt w32) 128)) (past .21) 0) ∷ ‵ (froom (tyRef erased mut (tyArray (tyInt w8) 32)) (past .20) 0) ∷ ‵ (froom (tyRef erased mut (tyArray (tyInt w32) 32)) (past .19) 0) ∷ ‵ (froom (tyRef erased imm (tyArray (tyInt w32) 128)) (past .18) 0) ∷ ‵ (froom arrival-laws.mir (past .17) 0) ∷ ‵ (froom flight-laws.mir (past .16) 0) ∷ ‵ (froom taken-laws.mir (past .15) 0) ∷ ‵ (fat fullShare (tyInt w64) (past .14) 0 ((past .46))) ∷ ‵ (fat fullShare (tyArray record-laws.mir 32) (past .13) 0 ((past .42))) ∷ ‵ (fat fullShare (tyInt w64) (past .12) 0 ((past .39))) ∷ ‵ (fat fullShare (tyArray (tyInt w32) 32) (past .11) 0 ((only ((array-vals (uint-vals w32)) (h .outstanding))))) ∷ ‵ (fat fullShare clock-laws.mir (past .10) 0 ((only ((LL.vals clock-row.the-type clock-laws.the-laws) (h .clock))))) ∷ ‵ (fat fullShare arrival-laws.mir (past .9) 0 ((only ((LL.vals arrival-row.the-type arrival-laws.the-laws) (h .arrival))))) ∷ ‵ (fat fullShare flight-laws.mir (past .8) 0 ((only ((LL.vals flight-row.the-type flight-laws.the-laws) (h .flight))))) ∷ ‵ (fat fullShare settings-laws.mir (past .7) 0 ((only ((LL.vals settings-row.the-type settings-laws.the-laws) (h .settings))))) ∷ ‵ (fat fullShare (sliceTy (tyRef (named 5) imm (tyInt w8))) (past .6) 0 (s₅)) ∷ ‵ (fat fullShare (sliceTy (tyRef (named 4) mut (tyInt w32))) (past .5) 0 (s₄)) ∷ ‵ (fat fullShare (sliceTy (tyRef (named 3) imm (pointee (R .written)))) (past .4) 0 (s₃)) ∷ ‵ (fat fullShare (sliceTy (tyRef (named 2) mut (tyInt w8))) (past .3) 0 (s₂)) ∷ ‵ (fat fullShare (sliceTy (tyRef (named 1) imm (tyInt w8))) (past .2) 0 (s₁)) ∷ ‵ (fat fullShare (tyRef (named 0) mut (pointee (L .written))) (past .1) 0 (vptr b o)) ∷ ‵ (froom taken-laws.mir (past .0) 0) ∷ []) ∵ exec ! C Λ (En (past .0) (past .1) (past .2) (past .3) (past .4) (past .5) (past .6) (past .7) (past .8) (past .9) (past .10) (past .11) (past .12) (past .13) (past .14) (past .15) (past .16) (past .17) (past .18) (past .19) (past .20) (past .21) (past .22) (past .23) (past .24) (past .25) (past .26) (past .27)) (behind 8 (code.function .body)) (atRet (En (past .0) (past .1) (past .2) (past .3) (past .4) (past .5) (past .6) (past .7) (past .8) (past .9) (past .10) (past .11) (past .12) (past .13) (past .14) (past .15) (past .16) (past .17) (past .18) (past .19) (past .20) (past .21) (past .22) (past .23) (past .24) (past .25) (past .26) (past .27)) Post) $
+          assigns ! {v = (vptr b (o + 104))} (addr ! (from ! (hop ! (look ! 48 refl) (fld ! {d = 104} refl (stop !))))) (from ! (stop !)) (init ! 31 refl (tt, tt)) $
+          assigns ! {v = (vptr b (o + 616))} (addr ! (from ! (hop ! (look ! 48 refl) (fld ! {d = 616} refl (stop !))))) (from ! (stop !)) (init ! 30 refl (tt, tt)) $
+          assigns ! {v = (vptr b (o + 744))} (addr ! (from ! (hop ! (look ! 48 refl) (fld ! {d = 744} refl (stop !))))) (from ! (stop !)) (init ! 29 refl (tt, tt)) $
+          assigns ! {v = (vptr b (o + 776))} (addr ! (from ! (hop ! (look ! 48 refl) (fld ! {d = 776} refl (stop !))))) (from ! (stop !)) (init ! 28 refl (tt, tt)) $
+          assigns ! {v = (vptr b (o + 1288))} (addr ! (from ! (hop ! (look ! 48 refl) (fld ! {d = 1288} refl (stop !))))) (from ! (stop !)) (init ! 27 refl (tt, tt)) $
+          assigns ! {v = (vptr b (o + 1800))} (addr ! (from ! (hop ! (look ! 48 refl) (fld ! {d = 1800} refl (stop !))))) (from ! (stop !)) (init ! 26 refl (tt, tt)) $
+          assigns ! {v = (vptr (x₂ .ptr .0) (x₂ .ptr .1))} (addr ! (from ! (fld ! refl (hop ! (look-in ! 46 (sub ! 0 refl (whole !))) (stop !))))) (from ! (stop !)) (init ! 25 refl (tt, tt)) $
+          assigns ! {v = s₂} (agg ! (and-then ! (load ! (from ! (stop !)) (look ! 25 refl)) (and-then ! (load ! (from ! (fld ! refl (stop !))) (look-in ! 46 (sub ! 1 refl (whole !)))) (no-more !)))) (from ! (stop !)) (init ! 24 refl (tt, (tt, (record { fits = room₂ .0 }, tt)))) $
+          assigns ! {v = (vptr (x₄ .ptr .0) (x₄ .ptr .1))} (addr ! (from ! (fld ! refl (hop ! (look-in ! 44 (sub ! 0 refl (whole !))) (stop !))))) (from ! (stop !)) (init ! 23 refl (tt, tt)) $
+          assigns ! {v = s₄} (agg ! (and-then ! (load ! (from ! (stop !)) (look ! 23 refl)) (and-then ! (load ! (from ! (fld ! refl (stop !))) (look-in ! 44 (sub ! 1 refl (whole !)))) (no-more !)))) (from ! (stop !)) (init ! 22 refl (tt, (tt, (record { fits = room₄ .0 }, tt)))) $
+          move ! (10 ∷ []) $ lend-shr ! tt fullShare (Array u32 128) (h .queued) b (o + 104) (λ α-queued δ-queued. move ! (4 ∷ []) $ lend-mut ! tt (Array u32 32) (h .outstanding) b (o + 616) (λ α-outstanding δ-outstanding. move ! (14 ∷ []) $ lend-mut ! tt (Array u8 32) (h .transmissions) b (o + 744) (λ α-transmissions δ-transmissions. move ! (16 ∷ []) $ lend-mut ! tt (Array u32 128) (h .ready) b (o + 776) (λ α-ready δ-ready. move ! (18 ∷ []) $ lend-mut ! tt (Array u32 128) (h .waiting) b (o + 1288) (λ α-waiting δ-waiting. move ! (20 ∷ []) $ lend-mut ! tt (Array u32 128) (h .«waiting_numbers») b (o + 1800) (λ α-waiting-numbers δ-waiting-numbers. move ! (15 ∷ 16 ∷ 12 ∷ 13 ∷ 9 ∷ 10 ∷ 6 ∷ 7 ∷ 3 ∷ 4 ∷ 0 ∷ 1 ∷ 26 ∷ 30 ∷ 27 ∷ 31 ∷ 28 ∷ 32 ∷ 29 ∷ 33 ∷ []) $ group ! 20 $ calls-fn ! fm core.ended (core.clauses 𝓤 H A at-mem run) (known .3) (to-core α-queued δ-queued (h .queued) α-outstanding δ-outstanding (h .outstanding) α-transmissions δ-transmissions (h .transmissions) α-ready δ-ready (h .ready) α-waiting δ-waiting (h .waiting) α-waiting-numbers δ-waiting-numbers (h .«waiting_numbers») (h .settings) (only ((LL.vals settings-row.the-type settings-laws.the-laws) (h .settings))) (h .flight) (only ((LL.vals flight-row.the-type flight-laws.the-laws) (h .flight))) (h .arrival) (only ((LL.vals arrival-row.the-type arrival-laws.the-laws) (h .arrival))) (h .clock) (only ((LL.vals clock-row.the-type clock-laws.the-laws) (h .clock))) (past .41) (past .42) (past .45) (past .46)) (λ a ws-a. Takes (λ l. takesInWith l (past .41) (x₄ .now) (lentLengths (past .45) (x₁ .now) (x₂ .now) (x₄ .now)) (x₂ .now) (x₅ .now)) (h .settings) (h .flight) (h .arrival) (h .clock) (arraysOf h) (x₂ .now) (x₄ .now) a (arrays (h .queued) (ws-a .1 .1 .1 .1 .1 .1 .1 .0) (ws-a .1 .1 .1 .1 .1 .1 .1 .1 .0) (ws-a .1 .1 .1 .1 .1 .1 .1 .1 .1 .0) (ws-a .1 .1 .1 .1 .1 .1 .1 .1 .1 .1 .0) (ws-a .1 .1 .1 .1 .1 .1 .1 .1 .1 .1 .1 .0)) (ws-a .1 .1 .1 .1 .1 .1 .1 .1 .1 .1 .1 .1 .1 .0) (ws-a .1 .1 .1 .1 .1 .1 .1 .1 .1 .1 .1 .1 .1 .1 .0)) (‵ (flft (α-queued ∷ []) fullShare) ⊛ ‵ (ShrRef (named 0) (α-queued ∷ []) (Array u32 128) .own (ref-at b (o + 104) δ-queued (h .queued)) ((vptr b (o + 104)) ∷ [])) ⊛ ‵ (flft (α-outstanding ∷ []) fullShare) ⊛ ‵ (MutRef (named 0) (α-outstanding ∷ []) (Array u32 32) .own (ref-at b (o + 616) δ-outstanding (h .outstanding)) ((vptr b (o + 616)) ∷ [])) ⊛ ‵ (flft (α-transmissions ∷ []) fullShare) ⊛ ‵ (MutRef (named 0) (α-transmissions ∷ []) (Array u8 32) .own (ref-at b (o + 744) δ-transmissions (h .transmissions)) ((vptr b (o + 744)) ∷ [])) ⊛ ‵ (flft (α-ready ∷ []) fullShare) ⊛ ‵ (MutRef (named 0) (α-ready ∷ []) (Array u32 128) .own (ref-at b (o + 776) δ-ready (h .ready)) ((vptr b (o + 776)) ∷ [])) ⊛ ‵ (flft (α-waiting ∷ []) fullShare) ⊛ ‵ (MutRef (named 0) (α-waiting ∷ []) (Array u32 128) .own (ref-at b (o + 1288) δ-waiting (h .waiting)) ((vptr b (o + 1288)) ∷ [])) ⊛ ‵ (flft (α-waiting-numbers ∷ []) fullShare) ⊛ ‵ (MutRef (named 0) (α-waiting-numbers ∷ []) (Array u32 128) .own (ref-at b (o + 1800) δ-waiting-numbers (h .«waiting_numbers»)) ((vptr b (o + 1800)) ∷ [])) ⊛ ‵ (flft κ₁ q₁) ⊛ ‵ Own₁ ⊛ ‵ (flft κ₂ q₂) ⊛ ‵ Own₂ ⊛ ‵ (flft κ₄ q₄) ⊛ ‵ Own₄ ⊛ ‵ (flft κ₅ q₅) ⊛ ‵ Own₅)
+          (asks-core α-queued δ-queued (h .queued) α-outstanding δ-outstanding (h .outstanding) α-transmissions δ-transmissions (h .transmissions) α-ready δ-ready (h .ready) α-waiting δ-waiting (h .waiting) α-waiting-numbers δ-waiting-numbers (h .«waiting_numbers») (h .settings) (only ((LL.vals settings-row.the-type settings-laws.the-laws) (h .settings))) (past .34) (h .flight) (only ((LL.vals flight-row.the-type flight-laws.the-laws) (h .flight))) (past .35) (h .arrival) (only ((LL.vals arrival-row.the-type arrival-laws.the-laws) (h .arrival))) (past .36) (h .clock) (only ((LL.vals clock-row.the-type clock-laws.the-laws) (h .clock))) (past .37) (past .41) (past .42) (past .44) (past .45) (past .46) (past .48) (record { whole-queued = (past .28); whole-outstanding = (past .29); whole-transmissions = (past .30); whole-ready = (past .31); whole-waiting = (past .32); whole-numbers = (past .33) })) (λ a ws-a. id⊢ 𝓤 _)
           (and-then ! (load ! (from ! (stop !)) (look ! 35 refl)) (and-then ! (load ! (from ! (stop !)) (look ! 34 refl)) (and-then ! (load ! (from ! (stop !)) (look ! 33 refl)) (and-then ! (load ! (from ! (stop !)) (look ! 32 refl)) (and-then ! (load ! (from ! (stop !)) (look ! 29 refl)) (and-then ! (load ! (from ! (stop !)) (look ! 28 refl)) (and-then ! (load ! (from ! (stop !)) (look ! 24 refl)) (and-then ! (load ! (from ! (stop !)) (look ! 23 refl)) (and-then ! (load ! (from ! (stop !)) (look ! 22 refl)) (and-then ! (load ! (from ! (stop !)) (look ! 21 refl)) (and-then ! (load ! (from ! (stop !)) (look ! 20 refl)) (and-then ! (load ! (from ! (stop !)) (look ! 19 refl)) (and-then ! (load ! (from ! (stop !)) (look ! 40 refl)) (and-then ! (load ! (from ! (stop !)) (look ! 17 refl)) (and-then ! (load ! (from ! (stop !)) (look ! 15 refl)) (and-then ! (load ! (from ! (stop !)) (look ! 36 refl)) (no-more !))))))))))))))))) (λ a w-a ws-a e-a is-a. land ! (from ! (stop !)) (init ! 28 refl (LL.lawful taken-row.the-type taken-laws.the-laws 𝓤 H A W .typed a (w-a ∷ []) is-a .0)) $
-          use1 W (‵ (flft (α-queued ∷ []) fullShare) ⊛ ‵ (flft (α-outstanding ∷ []) fullShare) ⊛ ‵ (flft (α-transmissions ∷ []) fullShare) ⊛ ‵ (flft (α-ready ∷ []) fullShare) ⊛ ‵ (flft (α-waiting ∷ []) fullShare) ⊛ ‵ (flft (α-waiting-numbers ∷ []) fullShare) ⊛ ‵ (flft κ₁ q₁) ⊛ ‵ (flft κ₂ q₂) ⊛ ‵ (flft κ₄ q₄) ⊛ ‵ (flft κ₅ q₅) ⊛ ‵ ftrue) (id⊢ 𝓤 _) $ split ! $ move ! (1 ∷ []) $ split ! $ move ! (1 ∷ []) $ split ! $ move ! (1 ∷ []) $ split ! $ move ! (1 ∷ []) $ split ! $ move ! (1 ∷ []) $ split ! $ move ! (1 ∷ []) $ split ! $ move ! (1 ∷ []) $ split ! $ move ! (1 ∷ []) $ split ! $ move ! (1 ∷ []) $ split ! $ move ! (1 ∷ []) $ drop ! $ move ! (10 ∷ []) $ fsplit ! $ drop ! $ fsplit ! $ drop ! $ fsplit ! $ drop ! $ fsplit ! $ drop ! $ fsplit ! $ drop ! $ fsplit ! $ drop ! $ fsplit ! $ drop ! $ fsplit ! $ move ! (1 ∷ []) $ fsplit ! $ move ! (1 ∷ []) $ fsplit ! $ move ! (1 ∷ []) $ fsplit ! $ move ! (1 ∷ []) $ fsplit ! $ move ! (1 ∷ []) $ fsplit ! $ drop ! $ fsplit ! $ fsplit ! $ move ! (1 ∷ []) $ feqL ! (λ len₂. move ! (1 ∷ []) $ fsplit ! $ fsplit ! $ move ! (1 ∷ []) $ feqL ! (λ len₄. move ! (1 ∷ []) $ drop ! $
-          -- [fin4; fin2; fin:«waiting_numbers»; fin:waiting; fin:ready; fin:transmissions; fin:outstanding; tok5; tok4; tok2; tok1; tok:«waiting_numbers»; tok:waiting; tok:ready; tok:transmissions; tok:outstanding; tok:queued; lent:«waiting_numbers»; lent:waiting; lent:ready; lent:transmissions; lent:outstanding; lent:queued; tok3; F:clock; F:arrival; F:flight; F:settings; back; opened; deaths; the locals]
-          move ! (16 ∷ 22 ∷ []) $ back-shr ! tt fullShare (Array u32 128) b (o + 104) (h .queued) $ move ! (16 ∷ 21 ∷ 7 ∷ []) $ back-mut ! tt (Array u32 32) b (o + 616) (ws-a .1 .1 .1 .1 .1 .1 .1 .0) $ move ! (15 ∷ 19 ∷ 7 ∷ []) $ back-mut ! tt (Array u8 32) b (o + 744) (ws-a .1 .1 .1 .1 .1 .1 .1 .1 .0) $ move ! (14 ∷ 17 ∷ 7 ∷ []) $ back-mut ! tt (Array u32 128) b (o + 776) (ws-a .1 .1 .1 .1 .1 .1 .1 .1 .1 .0) $ move ! (13 ∷ 15 ∷ 7 ∷ []) $ back-mut ! tt (Array u32 128) b (o + 1288) (ws-a .1 .1 .1 .1 .1 .1 .1 .1 .1 .1 .0) $ move ! (12 ∷ 13 ∷ 7 ∷ []) $ back-mut ! tt (Array u32 128) b (o + 1800) (ws-a .1 .1 .1 .1 .1 .1 .1 .1 .1 .1 .1 .0) $ by ! (part₂ (ws-a .1 .1 .1 .1 .1 .1 .1 .1 .1 .1 .1 .1 .1 .1 .0) (ws-a .1 .1 .1 .1 .1 .1 .1 .1 .1 .1 .1 .1 .1 .0) (ws-a .1 .1 .1 .1 .1 .1 .1 .1 .1 .1 .1 .0) (ws-a .1 .1 .1 .1 .1 .1 .1 .1 .1 .1 .0) (ws-a .1 .1 .1 .1 .1 .1 .1 .1 .1 .0) (ws-a .1 .1 .1 .1 .1 .1 .1 .1 .0) (ws-a .1 .1 .1 .1 .1 .1 .1 .0) l₀ l₁ l₂ l₃ l₄ l₅ l₆ l₇ l₈ l₉ l₁₀ l₁₁ l₁₂ l₁₃ l₁₄ l₁₅ l₁₆ l₁₇ l₁₈ l₁₉ l₂₀ l₂₁ l₂₂ l₂₃ l₂₄ l₂₅ l₂₆ l₂₇ n w-n e-n recs w-recs e-recs m w-m e-m a w-a e-a is-a len₂ len₄))))))))))
+          spread W (‵ (flft (α-queued ∷ []) fullShare)) (‵ (flft (α-outstanding ∷ []) fullShare) ∷ ‵ (flft (α-transmissions ∷ []) fullShare) ∷ ‵ (flft (α-ready ∷ []) fullShare) ∷ ‵ (flft (α-waiting ∷ []) fullShare) ∷ ‵ (flft (α-waiting-numbers ∷ []) fullShare) ∷ ‵ (flft κ₁ q₁) ∷ ‵ (flft κ₂ q₂) ∷ ‵ (flft κ₄ q₄) ∷ ‵ (flft κ₅ q₅) ∷ ‵ ftrue ∷ []) (id⊢ 𝓤 _) $ move ! (11 ∷ []) $ spread W (‵ ftrue) (‵ ftrue ∷ ‵ ftrue ∷ ‵ ftrue ∷ ‵ ftrue ∷ ‵ ftrue ∷ ‵ ftrue ∷ ‵ (fres δ-outstanding ((Array u32 32) .coded .code (ws-a .1 .1 .1 .1 .1 .1 .1 .0))) ∷ ‵ (fres δ-transmissions ((Array u8 32) .coded .code (ws-a .1 .1 .1 .1 .1 .1 .1 .1 .0))) ∷ ‵ (fres δ-ready ((Array u32 128) .coded .code (ws-a .1 .1 .1 .1 .1 .1 .1 .1 .1 .0))) ∷ ‵ (fres δ-waiting ((Array u32 128) .coded .code (ws-a .1 .1 .1 .1 .1 .1 .1 .1 .1 .1 .0))) ∷ ‵ (fres δ-waiting-numbers ((Array u32 128) .coded .code (ws-a .1 .1 .1 .1 .1 .1 .1 .1 .1 .1 .1 .0))) ∷ ‵ ftrue ∷ ‵ (fsep (finally u8 (x₂ .name) (ws-a .1 .1 .1 .1 .1 .1 .1 .1 .1 .1 .1 .1 .1 .0)) (feq ℕ (length (ws-a .1 .1 .1 .1 .1 .1 .1 .1 .1 .1 .1 .1 .1 .0)) (length (x₂ .now)))) ∷ ‵ (fsep (finally u32 (x₄ .name) (ws-a .1 .1 .1 .1 .1 .1 .1 .1 .1 .1 .1 .1 .1 .1 .0)) (feq ℕ (length (ws-a .1 .1 .1 .1 .1 .1 .1 .1 .1 .1 .1 .1 .1 .1 .0)) (length (x₄ .now)))) ∷ ‵ ftrue ∷ ‵ ftrue ∷ []) (id⊢ 𝓤 _) $ keep ! (7 ∷ 8 ∷ 9 ∷ 10 ∷ 11 ∷ 13 ∷ 14 ∷ 17 ∷ 18 ∷ 19 ∷ 20 ∷ 21 ∷ 22 ∷ 23 ∷ 24 ∷ 25 ∷ 26 ∷ 28 ∷ 29 ∷ 30 ∷ 31 ∷ 32 ∷ 33 ∷ 34 ∷ 35 ∷ 36 ∷ 37 ∷ 38 ∷ 39 ∷ 40 ∷ 41 ∷ 42 ∷ 43 ∷ 44 ∷ 45 ∷ 46 ∷ 47 ∷ 48 ∷ 49 ∷ 50 ∷ 51 ∷ 52 ∷ 53 ∷ 54 ∷ 55 ∷ 56 ∷ 57 ∷ 58 ∷ 59 ∷ 60 ∷ 61 ∷ 62 ∷ 63 ∷ 64 ∷ 65 ∷ 66 ∷ 67 ∷ 68 ∷ 69 ∷ []) $ move ! (5 ∷ []) $ fsplit ! $ move ! (1 ∷ []) $ feqL ! (λ len₂. move ! (6 ∷ []) $ fsplit ! $ move ! (1 ∷ []) $ feqL ! (λ len₄.
+          -- [fin4; fin2; fin:outstanding; fin:transmissions; fin:ready; fin:waiting; fin:«waiting_numbers»; tok:queued; tok:outstanding; tok:transmissions; tok:ready; tok:waiting; tok:«waiting_numbers»; tok1; tok2; tok4; tok5; lent:«waiting_numbers»; lent:waiting; lent:ready; lent:transmissions; lent:outstanding; lent:queued; tok3; F:clock; F:arrival; F:flight; F:settings; back; opened; deaths; the locals]
+          move ! (7 ∷ 22 ∷ []) $ back-shr ! tt fullShare (Array u32 128) b (o + 104) (h .queued) $ move ! (8 ∷ 21 ∷ 3 ∷ []) $ back-mut ! tt (Array u32 32) b (o + 616) (ws-a .1 .1 .1 .1 .1 .1 .1 .0) $ move ! (8 ∷ 19 ∷ 4 ∷ []) $ back-mut ! tt (Array u8 32) b (o + 744) (ws-a .1 .1 .1 .1 .1 .1 .1 .1 .0) $ move ! (8 ∷ 17 ∷ 5 ∷ []) $ back-mut ! tt (Array u32 128) b (o + 776) (ws-a .1 .1 .1 .1 .1 .1 .1 .1 .1 .0) $ move ! (8 ∷ 15 ∷ 6 ∷ []) $ back-mut ! tt (Array u32 128) b (o + 1288) (ws-a .1 .1 .1 .1 .1 .1 .1 .1 .1 .1 .0) $ move ! (8 ∷ 13 ∷ 7 ∷ []) $ back-mut ! tt (Array u32 128) b (o + 1800) (ws-a .1 .1 .1 .1 .1 .1 .1 .1 .1 .1 .1 .0) $ by ! (part₂ ((ws-a .1 .1 .1 .1 .1 .1 .1 .1 .1 .1 .1 .1 .1 .1 .0), (ws-a .1 .1 .1 .1 .1 .1 .1 .1 .1 .1 .1 .1 .1 .0), (ws-a .1 .1 .1 .1 .1 .1 .1 .1 .1 .1 .1 .0), (ws-a .1 .1 .1 .1 .1 .1 .1 .1 .1 .1 .0), (ws-a .1 .1 .1 .1 .1 .1 .1 .1 .1 .0), (ws-a .1 .1 .1 .1 .1 .1 .1 .1 .0), (ws-a .1 .1 .1 .1 .1 .1 .1 .0), (past .0), (past .1), (past .2), (past .3), (past .4), (past .5), (past .6), (past .7), (past .8), (past .9), (past .10), (past .11), (past .12), (past .13), (past .14), (past .15), (past .16), (past .17), (past .18), (past .19), (past .20), (past .21), (past .22), (past .23), (past .24), (past .25), (past .26), (past .27), (past .38), (past .39), (past .40), (past .41), (past .42), (past .43), (past .45), (past .46), (past .47), a, w-a, e-a, is-a, len₂, len₄)))))))))))
 
       walk : ent 𝓤 (onEntry 𝓤 H A f.signature (κ₀, (κ₁, (κ₂, (κ₃, (κ₄, (κ₅, tt)))))) (q₀, (q₁, (q₂, (q₃, (q₄, (q₅, tt)))))) x at) (WpFn 𝓤 H C Λ code.function (vptr b o ∷ s₁ ∷ s₂ ∷ s₃ ∷ s₄ ∷ s₅ ∷ []) Post)
       walk =
           qed W ((‵ (flft κ₀ q₀) ⊛ ‵ (flft κ₁ q₁) ⊛ ‵ (flft κ₂ q₂) ⊛ ‵ (flft κ₃ q₃) ⊛ ‵ (flft κ₄ q₄) ⊛ ‵ (flft κ₅ q₅) ⊛ ‵ ftrue) ∷ ‵ (owns (MutRef (named 0) κ₀ L ∷ ShrSlice (named 1) κ₁ u8 ∷ MutSlice (named 2) κ₂ u8 ∷ ShrSlice (named 3) κ₃ R ∷ MutSlice (named 4) κ₄ u32 ∷ ShrSlice (named 5) κ₅ u8 ∷ []) x at) ∷ []) ∵ enter ! C Λ code.function (vptr b o ∷ s₁ ∷ s₂ ∷ s₃ ∷ s₄ ∷ s₅ ∷ []) _ $
           alloc1 ! (λ l₀. alloc1 ! (λ l₁. alloc1 ! (λ l₂. alloc1 ! (λ l₃. alloc1 ! (λ l₄. alloc1 ! (λ l₅. alloc1 ! (λ l₆. alloc1 ! (λ l₇. alloc1 ! (λ l₈. alloc1 ! (λ l₉. alloc1 ! (λ l₁₀. alloc1 ! (λ l₁₁. alloc1 ! (λ l₁₂. alloc1 ! (λ l₁₃. alloc1 ! (λ l₁₄. alloc1 ! (λ l₁₅. alloc1 ! (λ l₁₆. alloc1 ! (λ l₁₇. alloc1 ! (λ l₁₈. alloc1 ! (λ l₁₉. alloc1 ! (λ l₂₀. alloc1 ! (λ l₂₁. alloc1 ! (λ l₂₂. alloc1 ! (λ l₂₃. alloc1 ! (λ l₂₄. alloc1 ! (λ l₂₅. alloc1 ! (λ l₂₆. alloc1 ! (λ l₂₇. alloc0 ! $ params1 ! $
           pass1 ! (init ! 52 refl (tt, tt)) $ pass1 ! (init ! 50 refl (tt, (tt, (record { fits = room₁ .0 }, tt)))) $ pass1 ! (init ! 48 refl (tt, (tt, (record { fits = room₂ .0 }, tt)))) $ pass1 ! (init ! 46 refl (tt, (tt, (record { fits = room₃ .0 }, tt)))) $ pass1 ! (init ! 44 refl (tt, (tt, (record { fits = room₄ .0 }, tt)))) $ pass1 ! (init ! 42 refl (tt, (tt, (record { fits = room₅ .0 }, tt)))) $ pass0 ! $
-          move ! (57 ∷ []) $ fsplit ! $ move ! (1 ∷ []) $ fsplit ! $ move ! (1 ∷ []) $ fsplit ! $ move ! (1 ∷ []) $ fsplit ! $ move ! (1 ∷ []) $ fsplit ! $ move ! (1 ∷ []) $ fsplit ! $ move ! (1 ∷ []) $ drop ! $ move ! (62 ∷ []) $ split ! $ move ! (1 ∷ []) $ split ! $ move ! (1 ∷ []) $ split ! $ move ! (1 ∷ []) $ split ! $ move ! (1 ∷ []) $ split ! $ move ! (1 ∷ []) $ split ! $ move ! (1 ∷ []) $ drop ! $ move ! (67 ∷ 65 ∷ 63 ∷ 61 ∷ 59 ∷ 57 ∷ 55 ∷ 53 ∷ 51 ∷ 49 ∷ 47 ∷ 45 ∷ 43 ∷ 41 ∷ 39 ∷ 37 ∷ 35 ∷ 33 ∷ 31 ∷ 29 ∷ 27 ∷ 25 ∷ 23 ∷ 21 ∷ 19 ∷ 17 ∷ 15 ∷ 13 ∷ []) $ group ! 28 $
-          -- [deaths; tok5; tok4; tok3; tok2; tok1; tok0; own5; own4; own3; own2; own1; own0; the locals]
-          move ! (12 ∷ 6 ∷ []) $ opens-link b o γ ! tt h $
-          -- [F:settings; F:flight; F:arrival; F:clock; F:queued; F:outstanding; F:transmissions; F:ready; F:waiting; F:«waiting_numbers»; back; opened; deaths; tok5; tok4; tok3; tok2; tok1; own5; own4; own3; own2; own1; the locals]
+          move ! (57 ∷ []) $ spread W (‵ (MutRef (named 0) κ₀ L .own (ref-at b o γ h) (vptr b o ∷ []))) (‵ (ShrSlice (named 1) κ₁ u8 .own (x₁) (s₁ ∷ [])) ∷ ‵ (MutSlice (named 2) κ₂ u8 .own (x₂) (s₂ ∷ [])) ∷ ‵ (ShrSlice (named 3) κ₃ R .own (x₃) (s₃ ∷ [])) ∷ ‵ (MutSlice (named 4) κ₄ u32 .own (x₄) (s₄ ∷ [])) ∷ ‵ (ShrSlice (named 5) κ₅ u8 .own (x₅) (s₅ ∷ [])) ∷ ‵ ftrue ∷ []) (id⊢ 𝓤 _) $ move ! (63 ∷ []) $ spread W (‵ (flft κ₀ q₀)) (‵ (flft κ₁ q₁) ∷ ‵ (flft κ₂ q₂) ∷ ‵ (flft κ₃ q₃) ∷ ‵ (flft κ₄ q₄) ∷ ‵ (flft κ₅ q₅) ∷ ‵ ftrue ∷ []) (id⊢ 𝓤 _) $ move ! (13 ∷ 6 ∷ []) $ drop ! $ drop ! $ move ! (67 ∷ 65 ∷ 63 ∷ 61 ∷ 59 ∷ 57 ∷ 55 ∷ 53 ∷ 51 ∷ 49 ∷ 47 ∷ 45 ∷ 43 ∷ 41 ∷ 39 ∷ 37 ∷ 35 ∷ 33 ∷ 31 ∷ 29 ∷ 27 ∷ 25 ∷ 23 ∷ 21 ∷ 19 ∷ 17 ∷ 15 ∷ 13 ∷ []) $ group ! 28 $
+          -- [deaths; tok0; tok1; tok2; tok3; tok4; tok5; own0; own1; own2; own3; own4; own5; the locals]
+          move ! (7 ∷ 1 ∷ []) $ opens-link b o γ ! tt h $
+          -- [F:settings; F:flight; F:arrival; F:clock; F:queued; F:outstanding; F:transmissions; F:ready; F:waiting; F:«waiting_numbers»; back; opened; deaths; tok1; tok2; tok3; tok4; tok5; own1; own2; own3; own4; own5; the locals]
           move ! (4 ∷ []) $ tells-length ! fullShare u32 128 (h .queued) b (o + 104) (λ len-queued. move ! (5 ∷ []) $ tells-length ! fullShare u32 32 (h .outstanding) b (o + 616) (λ len-outstanding. move ! (6 ∷ []) $ tells-length ! fullShare u8 32 (h .transmissions) b (o + 744) (λ len-transmissions. move ! (7 ∷ []) $ tells-length ! fullShare u32 128 (h .ready) b (o + 776) (λ len-ready. move ! (8 ∷ []) $ tells-length ! fullShare u32 128 (h .waiting) b (o + 1288) (λ len-waiting. move ! (9 ∷ []) $ tells-length ! fullShare u32 128 (h .«waiting_numbers») b (o + 1800) (λ len-waiting-numbers. move ! (6 ∷ []) $ cell-out ! fullShare settings-row.the-row (LL.vals settings-row.the-type settings-laws.the-laws) (LL.tells settings-row.the-type settings-laws.the-laws) (h .settings) b (o + 0) (λ was-settings.
-          assigns ! (of-opd ! (load ! (from ! (hop ! (look ! 49 refl) (fld ! refl (stop !)))) (look-raw ! 0 refl))) (from ! (stop !)) (init ! 43 refl (LL.lawful settings-row.the-type settings-laws.the-laws 𝓤 H A W .typed (h .settings) ((only ((LL.vals settings-row.the-type settings-laws.the-laws) (h .settings))) ∷ []) was-settings .0)) $
+          assigns ! {v = (only ((LL.vals settings-row.the-type settings-laws.the-laws) (h .settings)))} (of-opd ! (load ! (from ! (hop ! (look ! 49 refl) (fld ! {d = 0} refl (stop !)))) (look-raw ! 0 refl))) (from ! (stop !)) (init ! 43 refl (LL.lawful settings-row.the-type settings-laws.the-laws 𝓤 H A W .typed (h .settings) ((only ((LL.vals settings-row.the-type settings-laws.the-laws) (h .settings))) ∷ []) was-settings .0)) $
           cell-in ! fullShare settings-row.the-row (LL.makes settings-row.the-type settings-laws.the-plain 𝓤 H A) (h .settings) b (o + 0) (only ((LL.vals settings-row.the-type settings-laws.the-laws) (h .settings))) was-settings $ move ! (7 ∷ []) $ cell-out ! fullShare flight-row.the-row (LL.vals flight-row.the-type flight-laws.the-laws) (LL.tells flight-row.the-type flight-laws.the-laws) (h .flight) b (o + 16) (λ was-flight.
-          assigns ! (of-opd ! (load ! (from ! (hop ! (look ! 49 refl) (fld ! refl (stop !)))) (look-raw ! 0 refl))) (from ! (stop !)) (init ! 42 refl (LL.lawful flight-row.the-type flight-laws.the-laws 𝓤 H A W .typed (h .flight) ((only ((LL.vals flight-row.the-type flight-laws.the-laws) (h .flight))) ∷ []) was-flight .0)) $
+          assigns ! {v = (only ((LL.vals flight-row.the-type flight-laws.the-laws) (h .flight)))} (of-opd ! (load ! (from ! (hop ! (look ! 49 refl) (fld ! {d = 16} refl (stop !)))) (look-raw ! 0 refl))) (from ! (stop !)) (init ! 42 refl (LL.lawful flight-row.the-type flight-laws.the-laws 𝓤 H A W .typed (h .flight) ((only ((LL.vals flight-row.the-type flight-laws.the-laws) (h .flight))) ∷ []) was-flight .0)) $
           cell-in ! fullShare flight-row.the-row (LL.makes flight-row.the-type flight-laws.the-plain 𝓤 H A) (h .flight) b (o + 16) (only ((LL.vals flight-row.the-type flight-laws.the-laws) (h .flight))) was-flight $ move ! (8 ∷ []) $ cell-out ! fullShare arrival-row.the-row (LL.vals arrival-row.the-type arrival-laws.the-laws) (LL.tells arrival-row.the-type arrival-laws.the-laws) (h .arrival) b (o + 56) (λ was-arrival.
-          assigns ! (of-opd ! (load ! (from ! (hop ! (look ! 49 refl) (fld ! refl (stop !)))) (look-raw ! 0 refl))) (from ! (stop !)) (init ! 41 refl (LL.lawful arrival-row.the-type arrival-laws.the-laws 𝓤 H A W .typed (h .arrival) ((only ((LL.vals arrival-row.the-type arrival-laws.the-laws) (h .arrival))) ∷ []) was-arrival .0)) $
+          assigns ! {v = (only ((LL.vals arrival-row.the-type arrival-laws.the-laws) (h .arrival)))} (of-opd ! (load ! (from ! (hop ! (look ! 49 refl) (fld ! {d = 56} refl (stop !)))) (look-raw ! 0 refl))) (from ! (stop !)) (init ! 41 refl (LL.lawful arrival-row.the-type arrival-laws.the-laws 𝓤 H A W .typed (h .arrival) ((only ((LL.vals arrival-row.the-type arrival-laws.the-laws) (h .arrival))) ∷ []) was-arrival .0)) $
           cell-in ! fullShare arrival-row.the-row (LL.makes arrival-row.the-type arrival-laws.the-plain 𝓤 H A) (h .arrival) b (o + 56) (only ((LL.vals arrival-row.the-type arrival-laws.the-laws) (h .arrival))) was-arrival $ move ! (9 ∷ []) $ cell-out ! fullShare clock-row.the-row (LL.vals clock-row.the-type clock-laws.the-laws) (LL.tells clock-row.the-type clock-laws.the-laws) (h .clock) b (o + 88) (λ was-clock.
-          assigns ! (of-opd ! (load ! (from ! (hop ! (look ! 49 refl) (fld ! refl (stop !)))) (look-raw ! 0 refl))) (from ! (stop !)) (init ! 40 refl (LL.lawful clock-row.the-type clock-laws.the-laws 𝓤 H A W .typed (h .clock) ((only ((LL.vals clock-row.the-type clock-laws.the-laws) (h .clock))) ∷ []) was-clock .0)) $
+          assigns ! {v = (only ((LL.vals clock-row.the-type clock-laws.the-laws) (h .clock)))} (of-opd ! (load ! (from ! (hop ! (look ! 49 refl) (fld ! {d = 88} refl (stop !)))) (look-raw ! 0 refl))) (from ! (stop !)) (init ! 40 refl (LL.lawful clock-row.the-type clock-laws.the-laws 𝓤 H A W .typed (h .clock) ((only ((LL.vals clock-row.the-type clock-laws.the-laws) (h .clock))) ∷ []) was-clock .0)) $
           cell-in ! fullShare clock-row.the-row (LL.makes clock-row.the-type clock-laws.the-plain 𝓤 H A) (h .clock) b (o + 88) (only ((LL.vals clock-row.the-type clock-laws.the-laws) (h .clock))) was-clock $ move ! (8 ∷ []) $ cell-out ! fullShare (Array u32 32) (array-vals (uint-vals w32)) (array-tells u32 (uint-vals w32) (uint-tells w32) 32) (h .outstanding) b (o + 616) (λ was-outstanding.
-          assigns ! (of-opd ! (load ! (from ! (hop ! (look ! 49 refl) (fld ! refl (stop !)))) (look-raw ! 0 refl))) (from ! (stop !)) (init ! 39 refl (array-typed u32 (uint-lawful 𝓤 H A W w32 .typed) 32 (h .outstanding) ((only ((array-vals (uint-vals w32)) (h .outstanding))) ∷ []) was-outstanding .0)) $
+          assigns ! {v = (only ((array-vals (uint-vals w32)) (h .outstanding)))} (of-opd ! (load ! (from ! (hop ! (look ! 49 refl) (fld ! {d = 616} refl (stop !)))) (look-raw ! 0 refl))) (from ! (stop !)) (init ! 39 refl (array-typed u32 (uint-lawful 𝓤 H A W w32 .typed) 32 (h .outstanding) ((only ((array-vals (uint-vals w32)) (h .outstanding))) ∷ []) was-outstanding .0)) $
           cell-in ! fullShare (Array u32 32) (array-makes 𝓤 H A W u32 (uint-makes 𝓤 H A W w32) 32) (h .outstanding) b (o + 616) (only ((array-vals (uint-vals w32)) (h .outstanding))) was-outstanding $ nothing ! $ calls-fn ! fm count-of.ended (count-of.clauses 𝓤 H A at-mem run) (known .0) ((tt, tt, tt, ((h .flight), tt), ((only ((LL.vals flight-row.the-type flight-laws.the-laws) (h .flight))) ∷ [], tt)), tt) (λ n _. n ≡ h .flight .outstanding)
           (‵ ftrue) (plainly 𝓤 H A W (flight-row.the-row ∷ []) ((LL.makes flight-row.the-type flight-laws.the-plain 𝓤 H A), tt) ((h .flight), tt) ((only ((LL.vals flight-row.the-type flight-laws.the-laws) (h .flight))) ∷ [], tt) (was-flight, tt)) (λ n _. id⊢ 𝓤 _)
           (and-then ! (load ! (from ! (stop !)) (look ! 43 refl)) (no-more !)) (λ n w-n _ e-n is-n. drop ! $ drop ! $ land ! (from ! (stop !)) (init ! 38 refl (uint-lawful 𝓤 H A W w64 .typed n _ is-n .0)) $
           move ! (20 ∷ []) $ use1 W (‵ Own₃ ⊛ ‵ Own₃) (shr-slice-copy 𝓤 H A W (named 0) κ₃ R .twice x₃ (s₃ ∷ [])) $ split ! $ move ! (17 ∷ 0 ∷ []) $ join ! $ calls-fn ! fm gather.ended (gather.clauses 𝓤 H A at-mem run) (known .1) (to-gather (h .outstanding) (only ((array-vals (uint-vals w32)) (h .outstanding))) n w-n) (λ recs ws-recs. recs ≡ padded (gathered (take sendSlots (x₃ .now)) (slotsIn (h .outstanding) n))) (‵ (flft κ₃ q₃) ⊛ ‵ Own₃)
           (asks-gather (h .outstanding) (only ((array-vals (uint-vals w32)) (h .outstanding))) was-outstanding n w-n is-n) (λ recs ws-recs. id⊢ 𝓤 _)
           (and-then ! (load ! (from ! (stop !)) (look ! 46 refl)) (and-then ! (load ! (from ! (stop !)) (look ! 39 refl)) (and-then ! (load ! (from ! (stop !)) (look ! 38 refl)) (no-more !)))) (λ recs w-recs ws-recs e-recs is-recs. land ! (from ! (stop !)) (init ! 38 refl (rs-typed 𝓤 H A W recs is-recs)) $
-          use1 W (‵ (flft κ₃ q₃) ⊛ ‵ ftrue) (id⊢ 𝓤 _) $ split ! $ move ! (1 ∷ []) $ drop ! $ move ! (1 ∷ []) $ drop ! $
-          -- [tok3; own3; F:outstanding; F:clock; F:arrival; F:flight; F:settings; F:«waiting_numbers»; F:waiting; F:ready; F:transmissions; F:queued; back; opened; deaths; tok5; tok4; tok2; tok1; own5; own4; own2; own1; the locals]
+          spread W (‵ (flft κ₃ q₃)) (‵ ftrue ∷ []) (id⊢ 𝓤 _) $ move ! (2 ∷ []) $ spread W (‵ ftrue) (‵ ftrue ∷ ‵ ftrue ∷ ‵ ftrue ∷ []) (id⊢ 𝓤 _) $ keep ! (4 ∷ 6 ∷ 7 ∷ 8 ∷ 9 ∷ 10 ∷ 11 ∷ 12 ∷ 13 ∷ 14 ∷ 15 ∷ 16 ∷ 17 ∷ 18 ∷ 19 ∷ 20 ∷ 21 ∷ 22 ∷ 23 ∷ 24 ∷ 25 ∷ 26 ∷ 27 ∷ 28 ∷ 29 ∷ 30 ∷ 31 ∷ 32 ∷ 33 ∷ 34 ∷ 35 ∷ 36 ∷ 37 ∷ 38 ∷ 39 ∷ 40 ∷ 41 ∷ 42 ∷ 43 ∷ 44 ∷ 45 ∷ 46 ∷ 47 ∷ 48 ∷ 49 ∷ 50 ∷ 51 ∷ 52 ∷ 53 ∷ 54 ∷ 55 ∷ []) $
+          -- [tok3; own3; F:outstanding; F:clock; F:arrival; F:flight; F:settings; F:«waiting_numbers»; F:waiting; F:ready; F:transmissions; F:queued; back; opened; deaths; tok1; tok2; tok4; tok5; own1; own2; own4; own5; the locals]
           join ! $ calls-fn ! fm table-len.ended (table-len.clauses 𝓤 H A at-mem run) (known .2) (to-table-len) (λ m ws-m. m ≡ length (x₃ .now)) (‵ (flft κ₃ q₃) ⊛ ‵ Own₃)
           (asks-table-len) (λ m ws-m. id⊢ 𝓤 _)
           (and-then ! (load ! (from ! (stop !)) (look ! 45 refl)) (no-more !)) (λ m w-m ws-m e-m is-m. land ! (from ! (stop !)) (init ! 36 refl (uint-lawful 𝓤 H A W w64 .typed m _ is-m .0)) $
-          use1 W (‵ (flft κ₃ q₃) ⊛ ‵ ftrue) (id⊢ 𝓤 _) $ split ! $ move ! (1 ∷ []) $ drop ! $ move ! (1 ∷ []) $ drop ! $
-          -- [tok3; F:outstanding; F:clock; F:arrival; F:flight; F:settings; F:«waiting_numbers»; F:waiting; F:ready; F:transmissions; F:queued; back; opened; deaths; tok5; tok4; tok2; tok1; own5; own4; own2; own1; the locals]
-          by ! (part₁ l₀ l₁ l₂ l₃ l₄ l₅ l₆ l₇ l₈ l₉ l₁₀ l₁₁ l₁₂ l₁₃ l₁₄ l₁₅ l₁₆ l₁₇ l₁₈ l₁₉ l₂₀ l₂₁ l₂₂ l₂₃ l₂₄ l₂₅ l₂₆ l₂₇ len-queued len-outstanding len-transmissions len-ready len-waiting len-waiting-numbers was-settings was-flight was-arrival was-clock n w-n e-n recs w-recs e-recs is-recs m w-m e-m is-m)))))))))))))))))))))))))))))))))))))))))))
+          spread W (‵ (flft κ₃ q₃)) (‵ ftrue ∷ []) (id⊢ 𝓤 _) $ move ! (2 ∷ []) $ spread W (‵ ftrue) (‵ ftrue ∷ []) (id⊢ 𝓤 _) $ keep ! (2 ∷ 4 ∷ 5 ∷ 6 ∷ 7 ∷ 8 ∷ 9 ∷ 10 ∷ 11 ∷ 12 ∷ 13 ∷ 14 ∷ 15 ∷ 16 ∷ 17 ∷ 18 ∷ 19 ∷ 20 ∷ 21 ∷ 22 ∷ 23 ∷ 24 ∷ 25 ∷ 26 ∷ 27 ∷ 28 ∷ 29 ∷ 30 ∷ 31 ∷ 32 ∷ 33 ∷ 34 ∷ 35 ∷ 36 ∷ 37 ∷ 38 ∷ 39 ∷ 40 ∷ 41 ∷ 42 ∷ 43 ∷ 44 ∷ 45 ∷ 46 ∷ 47 ∷ 48 ∷ 49 ∷ 50 ∷ 51 ∷ 52 ∷ []) $
+          -- [tok3; F:outstanding; F:clock; F:arrival; F:flight; F:settings; F:«waiting_numbers»; F:waiting; F:ready; F:transmissions; F:queued; back; opened; deaths; tok1; tok2; tok4; tok5; own1; own2; own4; own5; the locals]
+          by ! (part₁ (l₀, l₁, l₂, l₃, l₄, l₅, l₆, l₇, l₈, l₉, l₁₀, l₁₁, l₁₂, l₁₃, l₁₄, l₁₅, l₁₆, l₁₇, l₁₈, l₁₉, l₂₀, l₂₁, l₂₂, l₂₃, l₂₄, l₂₅, l₂₆, l₂₇, len-queued, len-outstanding, len-transmissions, len-ready, len-waiting, len-waiting-numbers, was-settings, was-flight, was-arrival, was-clock, n, w-n, e-n, recs, w-recs, e-recs, is-recs, m, w-m, e-m, is-m))))))))))))))))))))))))))))))))))))))))))))
 
   f-meets : (𝓣 : Tables 𝓤 H) → Known (𝓣 .C) → Meets 𝓤 H A f.signature (WpFn 𝓤 H (𝓣 .C) (𝓣 .Λ) code.function) (f.spec 𝓤 H A at-mem run)
+  unfolding Post
   f-meets 𝓣 known = walk-meets 𝓤 H A f.ended stayed W (goes-ref 𝓤 H A W 6 0 tt (plain (λ _. L)), (goes-dropped 𝓤 H A W 6 (shrSliceOf (1 ∷ []) tt (plain (λ _. u8))) yes (λ κs x f. refl), (goes-gave-slice 𝓤 H A W 6 2 tt (plain (λ _. u8)), (goes-dropped 𝓤 H A W 6 (shrSliceOf (3 ∷ []) tt (plain (λ _. R))) yes (λ κs x f. refl), (goes-gave-slice 𝓤 H A W 6 4 tt (plain (λ _. u32)), (goes-dropped 𝓤 H A W 6 (shrSliceOf (5 ∷ []) tt (plain (λ _. u8))) yes (λ κs x f. refl), tt))))))
       (f.clauses 𝓤 H A at-mem run) (WpFn 𝓤 H (𝓣 .C) (𝓣 .Λ) code.function) (WpFn-mono 𝓤 H (W .laws) 𝓣 code.function)
       (walked 𝓤 H A f.ended stayed (f.clauses 𝓤 H A at-mem run) (WpFn 𝓤 H (𝓣 .C) (𝓣 .Λ) code.function) (λ κs. (ptr-vals, (slice-vals, (slice-vals, (slice-vals, (slice-vals, (slice-vals, tt))))))) (λ κs. (mut-tells (named 0) (κs .0) L, (shr-slice-tells (named 1) (κs .1 .0) u8, (mut-slice-tells (named 2) (κs .1 .1 .0) u8, (shr-slice-tells (named 3) (κs .1 .1 .1 .0) R, (mut-slice-tells (named 4) (κs .1 .1 .1 .1 .0) u32, (shr-slice-tells (named 5) (κs .1 .1 .1 .1 .1 .0) u8, tt)))))))
