@@ -18,7 +18,9 @@ use Rattle.session.specs.Decides.{All}
 use Rattle.session.specs.Calls.{Call, Event, acceptedList, datagramsBy}
 use Rattle.delivery.specs.Hearing.{FewPushes, FedWith, HearsMore}
 use Rattle.demands.specs.Steps.{Endpoint, SinceOpening}
-use Rattle.demands.specs.Demand3.{Delivered, demand-3}
+use Rattle.delivery.specs.Claims.{Delivered}
+use Rattle.demands.specs.Claims.{observed}
+use Rattle.demands.specs.Demand3.{demand-3}
 use Rattle.frames.specs.declared.Refusal.{Refusal}
 use Rattle.frames.specs.declared.Refusal.the-variants.{ShortPart, SettingOutOfRange, NotAGroup, TooFewFrames}
 use Rattle.frames.specs.Lists.{listed, joined, parts, addUp, lengthsOf, every, different}
@@ -164,7 +166,7 @@ pub demand-3-through-parity :
     FedThrough (datagramsBy events) firsts →
     FedThrough (datagramsBy events) seconds →
     HearsMore firsts seconds →
-    Delivered c (acceptedList events) firsts seconds heard₁ heard₂ first second
+    Delivered c (acceptedList events) (observed firsts heard₁ first) (observed seconds heard₂ second)
 demand-3-through-parity c calls firsts seconds events heard₁ heard₂ sender first second h h₁ h₂ few fed₁ fed₂ hears =
     demand-3 c calls firsts seconds events heard₁ heard₂ sender first second h h₁ h₂ few
     (fed-with (datagramsBy events) firsts fed₁) (fed-with (datagramsBy events) seconds fed₂) hears
