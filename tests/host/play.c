@@ -4,8 +4,11 @@
  *   tag-write ROOM NAME VALUE    tag-read HEX                 tag-set TABLE NAME VALUE     tag-take TABLE HEX
  *   tag-remove TABLE NAME        tag-ask NAME                 tag-found NAME               tag-entry TABLE INDEX
  *   tag-table TABLE              tag-poke TABLE OFFSET BYTE   tag-lend TABLE LEN
+ *   parity-write GROUP K MTU DATAGRAM..                       parity-read K MTU FRAME..
+ *   parity-room BYTES LENGTHS    parity-cut N                 parity-more N
  *
- * Each command has one answer line (tag-table one for each entry that is not zero, and one more). Whatever a call may write to
+ * Each command has one answer line (tag-table one for each entry that is not zero, and one more; parity-write and parity-read
+ * one for each frame or datagram, and one more; they are in play_parity.c). Whatever a call may write to
  * is held with bytes behind what is lent, and all of it is looked at after the call: where a byte has changed that the answer
  * does not show, the line ends with the word `changed`. tests/extras has scripts with the answers that they must get. */
 #include <ampferweg_tags.h>
@@ -240,6 +243,22 @@ static int tag_lend(void)
     return 1;
 }
 
+/* ---- parity ---- */
+
+int parity_line(const char *line);
+
+/* The line as it was before it was cut into words. */
+static int parity(void)
+{
+    char *end = script_text + (word[words - 1] - script_text) + word_len[words - 1];
+    const char was = *end;
+    int played;
+    *end = '\0';
+    played = parity_line(word[0]);
+    *end = was;
+    return played;
+}
+
 /* ---- the commands ---- */
 
 static int play_line(void)
@@ -253,7 +272,7 @@ static int play_line(void)
     size_t i;
     for (i = 0; i < sizeof commands / sizeof *commands; i++)
         if (is_word(0, commands[i].name)) return commands[i].play();
-    return 0;
+    return parity();
 }
 
 int main(void) { return play_script(play_line); }

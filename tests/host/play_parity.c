@@ -1,5 +1,5 @@
 /* Plays the parity commands of an extras script: parity-write, parity-read, parity-room, parity-cut and parity-more, one to a line,
- * and answers on standard output. `parity_line` takes one line; built with PLAY_PARITY_MAIN this file is a program of its own.
+ * and answers on standard output. `parity_line` takes one line, for play.c.
  *
  * All bytes that a call may write to are held here with bytes behind what is lent. Where one that the answer does not show has changed,
  * the last answer line ends with the word `changed`. */
@@ -137,16 +137,3 @@ int parity_line(const char *line)
     printf("malformed\n");
     return 1;
 }
-
-#ifdef PLAY_PARITY_MAIN
-int main(void)
-{
-    static char line[LINE + 2];
-    while (fgets(line, sizeof line, stdin) != NULL) {
-        const size_t len = strlen(line);
-        if (len > 0 && line[len - 1] == '\n') line[len - 1] = '\0';
-        if (!parity_line(line)) printf("malformed\n");
-    }
-    return 0;
-}
-#endif

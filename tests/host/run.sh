@@ -87,17 +87,14 @@ program_checks() { # SUFFIX FLAGS..
         [ "$name" = replay ] || try "$name, $suffix" "$work/$name-$suffix"
     done
     # shellcheck disable=SC2086
-    "$cc" -std=c99 "$@" $flags play.c "$tags" "$archive" -o "$work/play-$suffix" || { failed=$((failed + 1)); echo "play, $suffix: FAILED to build"; }
-    # shellcheck disable=SC2086
-    "$cc" -std=c99 "$@" $flags -DPLAY_PARITY_MAIN play_parity.c "$parity" -o "$work/play_parity-$suffix" ||
-        { failed=$((failed + 1)); echo "play_parity, $suffix: FAILED to build"; }
+    "$cc" -std=c99 "$@" $flags play.c play_parity.c "$tags" "$parity" "$archive" -o "$work/play-$suffix" || { failed=$((failed + 1)); echo "play, $suffix: FAILED to build"; }
 }
 
-# Plays every script whose path below tests/ starts as SCRIPTS, and holds what is answered to the answers beside it.
-plays() { # PROGRAM SUFFIX SCRIPTS
+# Plays every script of a folder, and holds what is answered to the answers beside it.
+plays() { # PROGRAM SUFFIX FOLDER
     lines=0
     count=0
-    for script in "$root/tests/"$3*.script; do
+    for script in "$root/tests/$3"/*.script; do
         "$work/$1-$2" <"$script" >"$work/answers" || return 1
         cmp "$work/answers" "${script%.script}.answers" || return 1
         count=$((count + 1))
@@ -122,9 +119,8 @@ header_checks
 program_checks O2 -O2
 program_checks sanitized -O1 -g -fsanitize=address,undefined -fno-sanitize-recover=all
 for suffix in O2 sanitized; do
-    try "vectors, $suffix" plays replay $suffix vectors/
-    try "extras, $suffix" plays play $suffix 'extras/extras-[!p]'
-    try "parity, $suffix" plays play_parity $suffix extras/extras-parity
+    try "vectors, $suffix" plays replay $suffix vectors
+    try "extras, $suffix" plays play $suffix extras
 done
 cp "$work/play-O2" "$work/play"
 try "examples/tags" "$root/examples/tags/run.sh" "$(dirname "$archive")"
