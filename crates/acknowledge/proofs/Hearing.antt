@@ -21,8 +21,8 @@ use Rattle.lists.specs.Acknowledging.{select, keep, firstNumberOr}
 use Rattle.lists.specs.AcknowledgingLaws.{select-same, keep-both}
 use Rattle.lists.specs.declared.Sent.{Sent}
 use Rattle.lists.specs.declared.Acknowledges.the-variants as by
-use Rattle.session.specs.State.{Sending}
-use Rattle.session.specs.Input.{acknowledged, withWindow, sampledBy, heardBySending}
+use Rattle.session.specs.State.{Sending, withOutstanding, withWindow, withRoundTrip}
+use Rattle.session.specs.Input.{acknowledged, sampledBy, heardBySending}
 use Rattle.session.specs.Decides.{All}
 use Rattle.session.specs.Ascending.{Ascends}
 use Rattle.session.specs.SendOrder.{NumberFits, Numbers, numbers-select}
@@ -56,14 +56,9 @@ and-true false = refl
 -- the definition's segment, its parts apart
 heard-parts : (c : Settings) (current : ℕ) (s : Sending) (h : Header)
     → heardBySending c current s h
-    ≡ record {
-      una = firstNumberOr (keep (staysBy h) (s .outstanding)) (s .next);
-      next = s .next;
-      queued = s .queued;
-      outstanding = keep (staysBy h) (s .outstanding);
-      window = h .wnd;
-      roundTrip = timedBy c current h (s .roundTrip);
-    }
+    ≡ withRoundTrip
+    (withWindow (h .wnd) (withOutstanding s (firstNumberOr (keep (staysBy h) (s .outstanding)) (s .next)) (keep (staysBy h) (s .outstanding))))
+    (timedBy c current h (s .roundTrip))
 unfolding heardBySending acknowledged sampledBy timedBy
 heard-parts c current s h = go (eqb (h .cmd) ack)
   where
@@ -73,16 +68,14 @@ heard-parts c current s h = go (eqb (h .cmd) ack)
     passed : Sending
     passed = acknowledged (by.Una (h .una)) (withWindow (h .wnd) s)
 
+    -- those that stay; t: it is an ack
+    stay : Bool → List Sent
+    stay t = keep (λ n. not (isAfter (h .una) n) && not (t && eqb n (h .sn))) l
+
     go : (t : Bool)
         → cond t (acknowledged (by.Ack (h .sn)) (sampledBy c current (h .ts) passed)) passed
-        ≡ record {
-          una = firstNumberOr (keep (λ n. not (isAfter (h .una) n) && not (t && eqb n (h .sn))) l) (s .next);
-          next = s .next;
-          queued = s .queued;
-          outstanding = keep (λ n. not (isAfter (h .una) n) && not (t && eqb n (h .sn))) l;
-          window = h .wnd;
-          roundTrip = cond t (cond (isDue current (h .ts)) (sampled (s .roundTrip) c (minus current (h .ts))) (s .roundTrip)) (s .roundTrip);
-        }
+        ≡ withRoundTrip (withWindow (h .wnd) (withOutstanding s (firstNumberOr (stay t) (s .next)) (stay t)))
+        (cond t (cond (isDue current (h .ts)) (sampled (s .roundTrip) c (minus current (h .ts))) (s .roundTrip)) (s .roundTrip))
     go true = rw (keep-both (λ n. not (isAfter (h .una) n)) (λ n. not (eqb n (h .sn))) l)
     go false = rw (select-same (λ (x : Sent). not (isAfter (h .una) (x .record .number))) (λ x. not (isAfter (h .una) (x .record .number)) && true) (λ x. and-true (not (isAfter (h .una) (x .record .number)))) l)
 

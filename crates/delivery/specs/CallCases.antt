@@ -11,13 +11,13 @@ use Rattle.protocol.specs.Ranges.{mss}
 use Rattle.protocol.specs.declared.Refusal.{Refusal}
 use Rattle.protocol.specs.declared.Refusal.the-variants.{ShortPart, LongMessage, NoFreeSlots}
 use Rattle.datagram.specs.Datagrams.{Segment, Parsed, parse}
-use Rattle.session.specs.State.{State, Outcome, sendHeld, slots}
+use Rattle.session.specs.State.{State, Outcome, sendHeld, slots, withQueued, withReceiving}
 use Rattle.session.specs.Cutting.{fragmentCount, cut}
-use Rattle.session.specs.Sending.{Placed, place, Sends, withQueued, sending}
+use Rattle.session.specs.Sending.{Placed, place, Sends, sending}
 use Rattle.session.specs.Input.{Took, applied, taking, input}
 use Rattle.session.specs.Flushing.{flushing}
 use Rattle.session.specs.Calls.{Station, Call, Answer, Stepped, afterSend, afterTakeIn, afterFlush, afterReading, own}
-use Rattle.session.specs.Reading.{Reads, readable, unreadable, messageSize, message, afterRead, withReceiving, reading}
+use Rattle.session.specs.Reading.{Reads, readable, unreadable, messageSize, message, afterRead, reading}
 
 -- where a message's segments are placed
 abbrev pub placing : State → List ℕ → List ℕ → Placed

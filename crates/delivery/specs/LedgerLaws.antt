@@ -20,10 +20,10 @@ use Rattle.lists.specs.declared.Sent.{Sent}
 use Rattle.lists.specs.declared.Acknowledges.the-variants as by
 use Rattle.lists.specs.Acknowledging.{select, skipBefore}
 use Rattle.session.specs.Slots.{occurs}
-use Rattle.session.specs.State.{State, Sending, sendHeld, slots}
+use Rattle.session.specs.State.{State, Sending, sendHeld, slots, withWindow, withQueue, withOutstanding}
 use Rattle.session.specs.Opening.{opened}
 use Rattle.session.specs.Cutting.{cut}
-use Rattle.session.specs.Input.{acknowledged, withWindow, sampledBy, heardBySending, allBySending, furthest, skipped, skippedByAll, ackNumbers, applied}
+use Rattle.session.specs.Input.{acknowledged, sampledBy, heardBySending, allBySending, furthest, skipped, skippedByAll, ackNumbers, applied}
 use Rattle.session.specs.Flushing.{numberedCount, flushing}
 use Rattle.session.specs.Calls.{Station, Call, Answer, Stepped, Event, own, history, after, acceptedBy, acceptedList}
 use Rattle.session.specs.Decides.{All}
@@ -38,7 +38,6 @@ use Rattle.delivery.specs.CallCases.{placing, own-cases}
 use Rattle.delivery.specs.SendPool.{length-cut, place-count}
 use Rattle.delivery.specs.SendingHalf.{Half}
 use Rattle.delivery.specs.SendingTakesIn.{skip-held}
-use Rattle.delivery.specs.SendingSends.{withQueue}
 use Rattle.delivery.specs.SendingFlushes.{flushed-held, count-few, count-room}
 use Rattle.delivery.specs.SendingStays.{SendingInOrder, half-in, sending-stays, sending-always, opened-in-order}
 use Rattle.delivery.specs.Ledger.{usedBelow, usedSlots, acknowledges, acknowledgedByEach, acknowledgedBy, stationAcknowledged, Ledger}
@@ -177,7 +176,7 @@ unfolding skipped
 skipped-held s n = go (not (isBefore n (s .una)) && isBefore n (s .next))
   where
     go : (b : Bool) →
-        held (cond b (record { una = s .una; next = s .next; queued = s .queued; outstanding = map (skipBefore n) (s .outstanding); window = s .window; roundTrip = s .roundTrip }) s) ≡ held s
+        held (cond b (withOutstanding s (s .una) (map (skipBefore n) (s .outstanding))) s) ≡ held s
     go true = rw (map-kept (λ (x : Sent). x .held) (skipBefore n) (skip-held n) (s .outstanding))
     go false = refl
 

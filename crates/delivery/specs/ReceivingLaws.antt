@@ -15,7 +15,7 @@ use Rattle.datagram.specs.Datagrams.{Parsed, parse}
 use Rattle.lists.specs.declared.Held.{Held}
 use Rattle.lists.specs.declared.Waiting.{Waiting}
 use Rattle.lists.specs.Orders.{ascending, waitingOffset}
-use Rattle.session.specs.State.{State, Receiving, Outcome, receiveHeld, slots}
+use Rattle.session.specs.State.{State, Receiving, Outcome, receiveHeld, slots, withNotes}
 use Rattle.sizes.specs.Sizes.{enough, enoughToFlush}
 use Rattle.sizes.specs.declared.Lengths.{Lengths}
 use Rattle.lists.specs.Receiving.{startsAt}
@@ -147,7 +147,7 @@ receiverTakes m x (Parsed.segments gs) = allByReceiving m x gs
 
 -- a flush clears the acks and the wish to tell
 abbrev pub receiverFlushed : Receiver → Receiver
-receiverFlushed x = record { half = record { next = x .half .next; ready = x .half .ready; waiting = x .half .waiting; acks = []; tell = false }; pool = x .pool }
+receiverFlushed x = record { half = withNotes (x .half) [] false; pool = x .pool }
 
 -- a read takes a message that is ready and fits its buffer
 abbrev pub receiverReads : Receiver → ℕ → Receiver

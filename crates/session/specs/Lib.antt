@@ -13,6 +13,7 @@ pub mod Sending
 pub mod Flushing
 pub mod Input
 pub mod Reading
+pub mod Updating
 pub mod Calls
 pub mod Marked
 pub mod IsValid
