@@ -23,7 +23,7 @@ use Rattle.checking.specs.VerdictLaws.{refused-by, passed-by}
 use Rattle.promises.specs.Parts.{lentLengths}
 use Rattle.promises.specs.Outcomes.{updatesWith}
 use Rattle.update_core.specs.declared.Updated.{Updated}
-use Rattle.update_core.specs.Updates.{keptOf, Runs, Core}
+use Rattle.update_core.specs.Updates.{keptOf, Runs, UpdateOver}
 
 module _ (c : Settings) (f : Flight) (a : Arrival) (k : Clock) (x : Arrays) (records : List Record) (table : ℕ) (sendPool receivePool acks out lengths : List ℕ) (long : Bool) (v : Verdict)
     (e : long ≡ enoughToFlush (mss c) (lentLengths table sendPool receivePool acks) (length out) (length lengths))
@@ -33,7 +33,7 @@ module _ (c : Settings) (f : Flight) (a : Arrival) (k : Clock) (x : Arrays) (rec
 
   -- both passed
   pub ran : v ≡ Passed → (t : ℕ) (r : Updated) (l′ : Link) (out′ lengths′ : List ℕ) → Runs block records sendPool acks t out lengths r l′ out′ lengths′
-      → Core block records table sendPool receivePool acks t out lengths r l′ out′ lengths′
+      → UpdateOver block records table sendPool receivePool acks t out lengths r l′ out′ lengths′
   unfolding updatesWith
   ran p t r l′ out′ lengths′ h =
       let passes = passed-by long (blockValid block records acks) v d p in
@@ -41,7 +41,7 @@ module _ (c : Settings) (f : Flight) (a : Arrival) (k : Clock) (x : Arrays) (rec
 
   -- one failed
   pub kept : (q : Refusal) → v ≡ Refused q → (t : ℕ) (words : List ℕ) (r : Updated) → r ≡ keptOf (update.Refused q) f a k words records
-      → Core block records table sendPool receivePool acks t out lengths r (linkOf c (r .flight) (r .arrival) (r .clock) x) out lengths
+      → UpdateOver block records table sendPool receivePool acks t out lengths r (linkOf c (r .flight) (r .arrival) (r .clock) x) out lengths
   unfolding updatesWith
   kept q p t words r w =
       rw (w, ← e, refused-by _ long (blockValid block records acks) v q d p)

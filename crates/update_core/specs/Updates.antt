@@ -62,16 +62,16 @@ keptOf a f v k words records = record { answer = a; flight = f; arrival = v; clo
 -- ---- an update of the block l at t, after which it is l′
 
 -- what is to be put back into the table
-abbrev pub putBack : Updated → PutBack
-putBack r = record { words = r .words; changed = r .changed; records = r .records }
+abbrev pub updatedBack : Updated → PutBack
+updatedBack r = record { words = r .words; changed = r .changed; records = r .records }
 
 -- behind the checks
 abbrev pub Runs : Link → List Record → List ℕ → List ℕ → ℕ → List ℕ → List ℕ → Updated → Link → List ℕ → List ℕ → Type 0
 Runs l records pool acks t out lengths r l′ out′ lengths′ =
-    UpdateCore (done (updating (stateOf l records acks) t pool)) l records acks out lengths (r .answer) l′ (putBack r) out′ lengths′
+    UpdateCore (done (updating (stateOf l records acks) t pool)) l records acks out lengths (r .answer) l′ (updatedBack r) out′ lengths′
 
 -- with them
-abbrev pub Core : Link → List Record → ℕ → List ℕ → List ℕ → List ℕ → ℕ → List ℕ → List ℕ → Updated → Link → List ℕ → List ℕ → Type 0
-Core l records table sendPool receivePool acks t out lengths r l′ out′ lengths′ =
+abbrev pub UpdateOver : Link → List Record → ℕ → List ℕ → List ℕ → List ℕ → ℕ → List ℕ → List ℕ → Updated → Link → List ℕ → List ℕ → Type 0
+UpdateOver l records table sendPool receivePool acks t out lengths r l′ out′ lengths′ =
     UpdateCore (updatesWith l records acks (lentLengths table sendPool receivePool acks) sendPool (length out) (length lengths) t)
-    l records acks out lengths (r .answer) l′ (putBack r) out′ lengths′
+    l records acks out lengths (r .answer) l′ (updatedBack r) out′ lengths′

@@ -20,7 +20,7 @@ ghost use Rattle.promises.specs.Parts.{lentLengths};
 ghost use Rattle.promises.specs.Outcomes.{checksWith};
 ghost use Rattle.promises.specs.Answers.{timeOutcome};
 ghost use Rattle.flush_core.specs.Flushes.{Flushable};
-ghost use Rattle.update_core.specs.Updates.{updateOf, wroteOf, keptOf, currentOf, Steps, Runs, Core};
+ghost use Rattle.update_core.specs.Updates.{updateOf, wroteOf, keptOf, currentOf, Steps, Runs, UpdateOver};
 
 // The answer of an update, the block's numbers after it, and what is to be put back into the table: by the words of so many
 // outstanding segments, their records.
@@ -207,7 +207,7 @@ pub fn update(
     lengths: &mut [u16],
 ) -> Updated
     requires { ⌜ Whole (arrays (now queued) (now outstanding) (now transmissions) (now ready) (now waiting) (now «waiting_numbers»)) ⌝ }
-    ensures { λ r. ⌜ Core
+    ensures { λ r. ⌜ UpdateOver
         (linkOf settings flight arrival clock (arrays (now (queued .entry)) (now (outstanding .entry)) (now (transmissions .entry))
         (now (ready .entry)) (now (waiting .entry)) (now («waiting_numbers» .entry))))
         records table (now («send_pool» .entry)) (now («receive_pool» .entry)) (now (acks .entry)) t
