@@ -43,9 +43,9 @@ module _ (l : Link) (whole : Whole (arraysOf l)) (records : List Record) (acks :
   block-dues h =
       let n = l .flight .outstanding in
       let many : length (outstandingIn (l .outstanding) (l .transmissions) n) ≡ n
-          = paired-length outstandingAt (take n (l .outstanding)) (take n (l .transmissions)) n
-          (length-take-le n (l .outstanding) (omega (arith, whole .whole-outstanding)))
-          (length-take-le n (l .transmissions) (omega (arith, whole .whole-transmissions))) in
+      = paired-length outstandingAt (take n (l .outstanding)) (take n (l .transmissions)) n
+      (length-take-le n (l .outstanding) (omega (arith, whole .whole-outstanding)))
+      (length-take-le n (l .transmissions) (omega (arith, whole .whole-transmissions))) in
       joined-dues (outstandingIn (l .outstanding) (l .transmissions) n) records ∙ ap (λ (k : ℕ). duesOf (take k records)) many
 
   module _ (n : Lengths) (long : Bool) (v : Verdict) (e : long ≡ enough (mss (l .settings)) n) (d : v ≡ verdictOf long (blockValid l records acks)) (t : ℕ) where

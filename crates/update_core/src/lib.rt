@@ -255,7 +255,14 @@ pub fn update(
         ),
         Verdict::Refused(refusal) => {
             let words = *outstanding;
-            kept(Update::Refused(refusal), flight, arrival, clock, words, records)
+            kept(
+                Update::Refused(refusal),
+                flight,
+                arrival,
+                clock,
+                words,
+                records,
+            )
         }
     }
 }

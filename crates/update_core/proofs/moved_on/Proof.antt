@@ -15,7 +15,7 @@ returns c =
     let start = moves .before .before in
     let a = start .args in
     let is : moves .update .result ≡ updated (scheduleOf (a .clock)) (a .t) (a .interval)
-        = moves .update .ensures ∙ ap (λ (s : Schedule). updated s (a .t) (a .interval)) (moves .before .schedule-of .ensures) in
+    = moves .update .ensures ∙ ap (λ (s : Schedule). updated s (a .t) (a .interval)) (moves .before .schedule-of .ensures) in
     record {
       is = refl;
       schedule = (λ i. record { next = moves .update .result .schedule .next; made = c .flag .ensures i }) ∙ ap (λ (u : Updated). u .schedule) is;
