@@ -171,6 +171,12 @@ met = record {
   bytes = bytes-by datagram refl;
 }
 
+pub opens-fresh : Opens c fresh
+opens-fresh = met .opens
+
+pub sends-it : Called fresh (Call.send (104 ∷ 105 ∷ [])) Answer.accepted sent
+sends-it = met .sends-it
+
 -- ---- the three of them, since opening
 
 sender-runs : SinceOpening c calls events flushed
