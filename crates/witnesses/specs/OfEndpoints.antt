@@ -124,8 +124,7 @@ met = record {
   flushes-it = record {
     output = replicate 22576 0;
     lengths = replicate 290 0;
-    long = omega arith;
-    many = omega arith;
+    room = record { long = omega arith; many = omega arith };
     gives = count.Of 1;
     output′ = sets (replicate 22576 0) 0 datagram;
     lengths′ = sets (replicate 290 0) 0 (26 ∷ []);

@@ -100,8 +100,7 @@ unfolding sent fresh updated datagram parts opened opening countsFit stateOf pai
 updates-it = record {
   output = output;
   lengths = lengths;
-  long = omega arith;
-  many = omega arith;
+  room = record { long = omega arith; many = omega arith };
   gives = update.Wrote 1;
   output′ = sets output 0 datagram;
   lengths′ = sets lengths 0 (26 ∷ []);
