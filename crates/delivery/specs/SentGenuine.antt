@@ -267,7 +267,8 @@ module _ (s : Station) (pieces : List Piece) (made : valid (s .state) ≡ true) 
       → FewPushes settings (map bytesOfSegments (flushing (withSchedule (s .state) k) t (s .sendPool) .datagrams))
       → Wrote settings pieces (Call.update t) (afterFlush s (flushing (withSchedule (s .state) k) t (s .sendPool)))
   wrote-update t next time few =
-      let order : SendingInOrder settings (rescheduled s next) = record { settings = o .settings; long = o .long; valid = o .valid; fits = o .fits; probe = o .probe } in
+      let order : SendingInOrder settings (rescheduled s next) =
+      record { settings = o .settings; long = o .long; valid = o .valid; fits = o .fits; probe = o .probe } in
       let w = wrote-flush (rescheduled s next) pieces (valid-rescheduled (s .state) next ∙ made) conv32 order carry h t time few in
       record { shows = w .shows; genuine = w .genuine }
 
@@ -278,13 +279,17 @@ module _ (s : Station) (pieces : List Piece) (made : valid (s .state) ≡ true) 
       (λ x r k few. refused-wrote s pieces made conv32 o carry h x r)
       (λ m ok k few. record {
         shows = rw (one-accepted (mss settings) pieces m)
-            (sends-more (mss settings) (s .sendPool) pieces (s .state .sending) (cut (mss settings) m) _ (half s pieces made conv32 o carry h .held)
-            (send-placed settings (s .state .sending) (s .sendPool) m (omega (arith, mtu-in-range settings (valid-parts (s .state) made .range) .least)) (o .long) (ok .short) (ok .room))
+            (sends-more (mss settings) (s .sendPool) pieces (s .state .sending) (cut (mss settings) m) _
+            (half s pieces made conv32 o carry h .held)
+            (send-placed settings (s .state .sending) (s .sendPool) m
+            (omega (arith, mtu-in-range settings (valid-parts (s .state) made .range) .least)) (o .long) (ok .short) (ok .room))
             h);
         genuine = tt;
       })
       (λ b gs e k few. record {
-        shows = sends-taken (mss settings) (s .sendPool) (pieces ++ piecesOf (mss settings) []) settings (s .state .current) (s .state .sending) gs (ackNumbers gs) as-before;
+        shows =
+            sends-taken (mss settings) (s .sendPool) (pieces ++ piecesOf (mss settings) []) settings (s .state .current)
+            (s .state .sending) gs (ackNumbers gs) as-before;
         genuine = tt;
       })
       (λ t k few. wrote-flush s pieces made conv32 o carry h t k few)

@@ -39,7 +39,8 @@ acksAfter (done x) acks = sets acks 0 (entriesOf (x .state .receiving .acks))
 -- ---- an update
 
 -- a flush at t of the same block and parts, but that the next flush time and the mark are the schedule's
-pub record AsFlush (t : ℕ) (l : Link) (p : Parts) (out lengths : List ℕ) (n : ℕ) (l′ : Link) (p′ : Parts) (out′ lengths′ : List ℕ) : Type 0 where
+pub record AsFlush (t : ℕ) (l : Link) (p : Parts) (out lengths : List ℕ) (n : ℕ) (l′ : Link) (p′ : Parts)
+    (out′ lengths′ : List ℕ) : Type 0 where
   pub count : n ≡ length (flushing (stateIn l p) t (p .sendPool) .datagrams)
   pub schedule : Schedule
   pub stands : Stands l′ p′ (withSchedule (flushing (stateIn l p) t (p .sendPool) .state) schedule)
@@ -50,7 +51,8 @@ pub record AsFlush (t : ℕ) (l : Link) (p : Parts) (out lengths : List ℕ) (n 
   pub output : Output (map bytesOfSegments (flushing (stateIn l p) t (p .sendPool) .datagrams)) out lengths n out′ lengths′
 
 -- the current time alone
-pub record CurrentAlone (t : ℕ) (l : Link) (p : Parts) (out lengths : List ℕ) (l′ : Link) (p′ : Parts) (out′ lengths′ : List ℕ) : Type 0 where
+pub record CurrentAlone (t : ℕ) (l : Link) (p : Parts) (out lengths : List ℕ) (l′ : Link) (p′ : Parts)
+    (out′ lengths′ : List ℕ) : Type 0 where
   pub stands : Stands l′ p′ (withTimes (stateIn l p) t (stateIn l p .schedule))
   pub parts : p′ ≡ p
   pub output : out′ ≡ out

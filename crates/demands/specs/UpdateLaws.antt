@@ -60,7 +60,8 @@ module _ (s : Schedule) (now interval : ℕ) (hn : now < 2 ^ 32) where
 
 -- the flush does not look at the schedule, and keeps it
 flush-scheduled : (s : State) (k : Schedule) (t : ℕ) (pool : List ℕ)
-    → flushing (withSchedule s k) t pool ≡ record { state = withSchedule (flushing s t pool .state) k; datagrams = flushing s t pool .datagrams }
+    → flushing (withSchedule s k) t pool
+    ≡ record { state = withSchedule (flushing s t pool .state) k; datagrams = flushing s t pool .datagrams }
 unfolding flushing written
 flush-scheduled s k t pool = refl
 
@@ -77,7 +78,8 @@ gives s t pool ht = go (updated (s .schedule) t (s .settings .interval) .flushes
     u = updated (s .schedule) t (s .settings .interval)
 
     go : (b : Bool) → u .flushes ≡ b
-        → Gives s t pool (cond b (session.flushes (flushing (withSchedule s (u .schedule)) t pool)) (session.waits (withTimes s t (u .schedule))))
+        → Gives s t pool
+        (cond b (session.flushes (flushing (withSchedule s (u .schedule)) t pool)) (session.waits (withTimes s t (u .schedule))))
     go true e = (u .schedule, refl)
     go false e = ap (withTimes s t) (waiting-stays (s .schedule) t (s .settings .interval) ht e)
 
@@ -86,7 +88,8 @@ gives s t pool ht = go (updated (s .schedule) t (s .settings .interval) .flushes
 module _ (t : ℕ) (l : Link) (p : Parts) (out lengths : List ℕ) (a : Update) (l′ : Link) (p′ : Parts) (out′ lengths′ : List ℕ) where
   treated-by : (u : session.Updates) → Gives (stateIn l p) t (p .sendPool) u → a ≡ updateAnswer (Outcome.done u)
       → UpdateLeaves (Outcome.done u) l l′ p p′ out lengths out′ lengths′ → Treated t l p out lengths a l′ p′ out′ lengths′
-  treated-by (session.waits x) g e h = rw e (record { stands = rw g at (h .stands); parts = h .parts; output = h .output; sizes = h .sizes })
+  treated-by (session.waits x) g e h =
+      rw e (record { stands = rw g at (h .stands); parts = h .parts; output = h .output; sizes = h .sizes })
   treated-by (session.flushes x) g e h =
       let q = g .1 ∙ flush-scheduled (stateIn l p) (g .0) t (p .sendPool) in
       let f = rw q at h in
@@ -102,8 +105,10 @@ module _ (t : ℕ) (l : Link) (p : Parts) (out lengths : List ℕ) (a : Update) 
         output = f .output;
       })
 
-  treated-checked : (long made : Bool) (u : session.Updates) → Gives (stateIn l p) t (p .sendPool) u → a ≡ updateAnswer (checked long made (Outcome.done u))
-      → UpdateLeaves (checked long made (Outcome.done u)) l l′ p p′ out lengths out′ lengths′ → Treated t l p out lengths a l′ p′ out′ lengths′
+  treated-checked : (long made : Bool) (u : session.Updates) → Gives (stateIn l p) t (p .sendPool) u
+      → a ≡ updateAnswer (checked long made (Outcome.done u))
+      → UpdateLeaves (checked long made (Outcome.done u)) l l′ p p′ out lengths out′ lengths′
+      → Treated t l p out lengths a l′ p′ out′ lengths′
   treated-checked false made u g e h = rw e tt
   treated-checked true false u g e h = rw e tt
   treated-checked true true u g e h = treated-by u g e h
