@@ -57,7 +57,8 @@ and-true false = refl
 heard-parts : (c : Settings) (current : ℕ) (s : Sending) (h : Header)
     → heardBySending c current s h
     ≡ withRoundTrip
-    (withWindow (h .wnd) (withOutstanding s (firstNumberOr (keep (staysBy h) (s .outstanding)) (s .next)) (keep (staysBy h) (s .outstanding))))
+    (withWindow (h .wnd) (withOutstanding s (firstNumberOr (keep (staysBy h) (s .outstanding)) (s .next))
+    (keep (staysBy h) (s .outstanding))))
     (timedBy c current h (s .roundTrip))
 unfolding heardBySending acknowledged sampledBy timedBy
 heard-parts c current s h = go (eqb (h .cmd) ack)
