@@ -3,8 +3,8 @@
 
 Writes target/boards/TARGET/libNAME.a, and libNAME.su with the frame of each function. WORDS go last to the kit's clang, as -O2 or
 -mcpu=cortex-m7. Only the kit's clang and llvm-ar are used, and no instruction of a module is changed: data layout and triple become the
-target's, the name of x86's processor goes, -Os and -Oz mark the functions as for C, and 32-bit numbers of exported functions are extended as the
-target's C does. What this rests on is tested first: a module or a header that does not fit is refused.
+target's, the name of x86's processor goes, -Os and -Oz mark the functions as for C, and 32-bit numbers of exported functions are extended
+as the target's C does. What this rests on is tested first: a module or a header that does not fit is refused.
 """
 import pathlib, re, subprocess, sys, tempfile
 
@@ -33,28 +33,29 @@ def read_command(name):
 
 
 def check_module(name, text):
-    """What makes a module fit other machines: nothing of x86, no address kept or taken as a number, pointers' own locals used as pointers."""
+    """What makes a module fit other machines: nothing of x86, no address taken as a number, a pointer's place used for pointers alone."""
     for form in (r"(?<!-)\basm\b", r"\bptrtoint\b", r"\binttoptr\b", r"\baddrspace\b", r"llvm\.x86", r"^@.*\bptr\b"):
         if found := re.search(f"^.*{form}.*$", text, re.M):
             refuse(f"{name}: a form that is not for every machine: {found[0].strip()}")
     for body in re.findall(r"^define .*?^}", text, re.M | re.S):
         for slot in re.findall(r"(%\w+) = alloca ptr", body):
             uses = re.findall(rf"^.*{slot}\b.*$", body, re.M)
-            fine = [u for u in uses if re.match(rf"\s*({slot} = alloca ptr|store ptr %\w+, ptr {slot},|%\w+ = load ptr, ptr {slot},)", u)]
-            if fine != uses:
-                refuse(f"{name}: a pointer's place is used as other than a pointer: {(set(uses) - set(fine)).pop().strip()}")
+            as_pointer = rf"\s*({slot} = alloca ptr|store ptr %\w+, ptr {slot},|%\w+ = load ptr, ptr {slot},)"
+            if other := [use for use in uses if not re.match(as_pointer, use)]:
+                refuse(f"{name}: a pointer's place is used as other than a pointer: {other[0].strip()}")
 
 
 def read_header(name, clang, words, folder):
     """The header's functions as this clang declares them for the target, with the target's data layout and triple."""
     (folder / "stddef.h").write_text(
         "typedef __SIZE_TYPE__ size_t;\n#define NULL ((void *)0)\n#define offsetof(type, member) __builtin_offsetof(type, member)\n")
-    (folder / "stdint.h").write_text("".join(f"typedef __{s}INT{n}_TYPE__ {s.lower()}int{n}_t;\n" for n in (8, 16, 32, 64) for s in ("U", "")))
+    kinds = [(sign, bits) for sign in ("U", "") for bits in (8, 16, 32, 64)]
+    (folder / "stdint.h").write_text("".join(f"typedef __{s}INT{n}_TYPE__ {s.lower()}int{n}_t;\n" for s, n in kinds))
     functions = re.findall(r"^\w+ (ampferweg_\w+)\(", (ROOT / f"include/{name}.h").read_text(), re.M)
     uses = "".join(f"void *at_{f}(void) {{ return (void *){f}; }}\n" for f in functions)
     (folder / "uses.c").write_text(f"#include <{name}.h>\n{uses}")
-    subprocess.run([clang, *words, "--no-default-config", "-O0", "-nostdinc", "-isystem", folder, "-I", ROOT / "include", "-S", "-emit-llvm",
-                    folder / "uses.c", "-o", folder / "uses.ll"], check=True)
+    subprocess.run([clang, *words, "--no-default-config", "-O0", "-nostdinc", "-isystem", folder, "-I", ROOT / "include",
+                    "-S", "-emit-llvm", folder / "uses.c", "-o", folder / "uses.ll"], check=True)
     return (folder / "uses.ll").read_text()
 
 
@@ -96,8 +97,8 @@ def build(name, target, extra, folder):
     clang, kept = read_command(name)
     words = [f"--target={triple}", *words.split(), *extra]
     plain, module, built = folder / "plain.ll", folder / "module.ll", folder / f"{name}.o"
-    subprocess.run([clang, "--target=x86_64-unknown-linux-gnu", "--no-default-config", "-x", "ir", ROOT / f"target/module/{name}.bc", "-S",
-                    "-emit-llvm", "-Xclang", "-disable-llvm-passes", "-o", plain], check=True)
+    subprocess.run([clang, "--target=x86_64-unknown-linux-gnu", "--no-default-config", "-x", "ir", ROOT / f"target/module/{name}.bc",
+                    "-S", "-emit-llvm", "-Xclang", "-disable-llvm-passes", "-o", plain], check=True)
     check_module(name, plain.read_text())
     module.write_text(retarget(name, plain.read_text(), read_header(name, clang, words, folder), words))
     subprocess.run([clang, *words[:1], *kept, *words[1:], "-fstack-usage", "-x", "ir", module, "-o", built], check=True)

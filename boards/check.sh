@@ -1,6 +1,6 @@
 #!/bin/sh
-# check.sh TARGET: tests/host and its vectors with the archives of target/boards/TARGET, built by a cross compiler and run by QEMU (boards/targets.txt).
-# Debian: qemu-user gcc-aarch64-linux-gnu gcc-arm-linux-gnueabihf gcc-riscv64-linux-gnu libc6-dev-arm64-cross libc6-dev-armhf-cross libc6-dev-riscv64-cross
+# check.sh TARGET: tests/host and its vectors with the archives of target/boards/TARGET, built by a cross compiler and run by QEMU's
+# qemu-user (boards/targets.txt).
 set -eu
 [ $# -eq 1 ] || { echo "usage: check.sh TARGET" >&2; exit 2; }
 cd "$(dirname "$0")/.."
@@ -11,7 +11,8 @@ prefix=$(echo "$row" | cut -d'|' -f3 | tr -d ' ')
 EMULATOR=$(echo "$row" | cut -d'|' -f4 | tr -d ' ')
 CC=${prefix}gcc CXX=${prefix}g++ CFLAGS=-static WORK=$PWD/target/host-$1
 for program in "$CC" "$EMULATOR"; do
-    command -v "$program" >/dev/null || { sed -n "3s/^# Debian:/check.sh: there is no $program here; Debian has it:/p" "$0" >&2; exit 2; }
+    command -v "$program" >/dev/null || { printf '%s\n' "check.sh: there is no $program here. Debian: qemu-user gcc-aarch64-linux-gnu" \
+        "gcc-arm-linux-gnueabihf gcc-riscv64-linux-gnu libc6-dev-arm64-cross libc6-dev-armhf-cross libc6-dev-riscv64-cross" >&2; exit 2; }
 done
 export CC CXX CFLAGS EMULATOR WORK
 

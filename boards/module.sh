@@ -1,8 +1,8 @@
 #!/bin/sh
 # module.sh NAME: proves crate NAME and writes target/staticlib/libNAME.a, as `rt staticlib NAME` does, and keeps the LLVM module that the
 # prover hands to the clang of its toolchain: target/module/NAME.bc, and clang's command, a word a line, NAME.command.
-# rt is pointed at a folder of links that stands for the kit. One file is not a link: toolchain/bin/clang, which copies the module and then runs
-# the kit's clang with the same words. So verdict and archive are those of the kit.
+# rt is pointed at a folder of links that stands for the kit. One file is not a link: toolchain/bin/clang, which copies the module and then
+# runs the kit's clang with the same words. So verdict and archive are those of the kit.
 set -eu
 [ $# -eq 1 ] || { echo "usage: module.sh NAME" >&2; exit 2; }
 cd "$(dirname "$0")/.."

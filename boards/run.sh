@@ -1,6 +1,6 @@
 #!/bin/sh
-# run.sh: makes the archives of every target from the proved modules, holds x86-64's to the kit's own, tries the others (check.sh), and writes the
-# figures of docs/BOARDS.md. A few minutes; no part of the gate. The last line is 'boards: N passed, M failed'.
+# run.sh: makes the archives of every target from the proved modules, holds x86-64's to the kit's own, tries the others (check.sh), and
+# writes the figures of docs/BOARDS.md. A few minutes; no part of the gate. The last line is 'boards: N passed, M failed'.
 set -u
 cd "$(dirname "$0")/.." || exit 2
 log=$(mktemp)
@@ -15,6 +15,7 @@ for archive in target/staticlib/libampferweg*.a; do
 done
 echo "x86_64-linux: $passed objects as the kit's own, to the byte"
 
+# shellcheck disable=SC2013
 for target in $(sed -n 's/^\([a-z0-9_-]*\) *|.*/\1/p' boards/targets.txt); do
     [ "$target" != x86_64-linux ] || continue
     boards/archive.py "$target" || exit 2

@@ -1,8 +1,8 @@
 #!/usr/bin/env python3
 """table.py: the figures of docs/BOARDS.md, from the archives below target/boards: code, stack of each call, and what is taken from outside.
 
-The stack of a call is the deepest chain of frames below it: frames from the compiler (.su), calls from the relocations that a function's code has. All frames
-are static and nothing calls itself, which is tested here. What is taken from outside, as memcpy, counts 0.
+The stack of a call is the deepest chain of frames below it: frames from the compiler (.su), calls from the relocations that a function's
+code has. All frames are static and nothing calls itself, which is tested here. What is taken from outside, as memcpy, counts 0.
 """
 import re, subprocess, sys
 from archive import NAMES, ROOT, targets
@@ -78,12 +78,16 @@ def figures():
     for n in NAMES:
         deep = {t: depths(t, n) for t in names}
         yield from table([f"`{n}.h`", *names], [[f"`{f}`", *(deep[t][f] for t in names)] for f in sorted(deep[names[0]])])
+    yield "The largest frame of a single function, bytes:\n"
+    yield from table(["", *names], [[f"`lib{n}.a`", *(max(frames_of(t, n).values()) for t in names)] for n in NAMES])
     yield "What the three archives take from outside:\n"
     yield "| | |\n|---|---|"
     for t in names:
         yield f"| {t} | {', '.join(f'`{w}`' for w in sorted(set().union(*(outside(t, n) for n in NAMES))))} |"
     yield ""
-    yield "Made with " + "; ".join(f"{t} `{w}`" for t, (_, w, *_) in targets().items()) + "."
+    yield "Made with:\n\n| | clang's words |\n|---|---|"
+    for t, (_, words, *_) in targets().items():
+        yield f"| {t} | `{words}` |"
 
 
 def main():

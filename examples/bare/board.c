@@ -1,4 +1,4 @@
-/* A Cortex-M4 from its reset to main: memory, a clock by SysTick, text by semihosting, and the functions that compilers ask of a C library. No libc. */
+/* A Cortex-M4 from its reset to main: memory, a clock by SysTick, text by semihosting, and what compilers ask of a C library. No libc. */
 #include "board.h"
 #include <stddef.h>
 

@@ -1,6 +1,6 @@
 #!/bin/sh
-# run.sh [ARCHIVE] [WORDS..]: builds the image for a Cortex-M4 with libampferweg.a of thumbv7em (target/boards/thumbv7em where none is named) and runs it on
-# QEMU's board mps2-an386. WORDS go to the compiler, as -mfloat-abi=hard. Debian: gcc-arm-none-eabi qemu-system-arm
+# run.sh [ARCHIVE] [WORDS..]: builds the image for a Cortex-M4 with libampferweg.a of thumbv7em (that of target/boards where none is named)
+# and runs it on QEMU's board mps2-an386. WORDS go to the compiler, as -mfloat-abi=hard. Debian: gcc-arm-none-eabi qemu-system-arm
 set -eu
 root=$(cd "$(dirname "$0")/../.." && pwd)
 here=$root/examples/bare
@@ -12,8 +12,9 @@ for program in arm-none-eabi-gcc qemu-system-arm; do
 done
 mkdir -p "$root/target"
 image=$root/target/two_links.elf
-arm-none-eabi-gcc -std=c11 -mcpu=cortex-m4 -mthumb -Os -ffreestanding -fno-tree-loop-distribute-patterns -ffunction-sections -fdata-sections \
-    -Wall -Wextra -Wshadow -Wconversion -Werror -I "$root/include" "$@" "$here/board.c" "$here/two_links.c" "$archive" \
+arm-none-eabi-gcc -std=c11 -mcpu=cortex-m4 -mthumb -Os -ffreestanding -fno-tree-loop-distribute-patterns \
+    -ffunction-sections -fdata-sections -Wall -Wextra -Wshadow -Wconversion -Werror -I "$root/include" "$@" \
+    "$here/board.c" "$here/two_links.c" "$archive" \
     -nostdlib -lgcc -Wl,--gc-sections -Wl,-z,noexecstack -Wl,--no-warn-rwx-segments -T "$here/cortex-m4.ld" -o "$image"
 arm-none-eabi-size "$image" | awk 'NR == 2 { print "image: " $1 " bytes of flash, " $2 + $3 " of RAM, the stack among them" }'
 # 32 ns an instruction, and time leaps where the processor sleeps: every run is the same

@@ -1,5 +1,5 @@
-/* Two links in one image send each other messages over a network inside the image, which loses, doubles and delays datagrams. No heap, no libc.
- * The last line says what arrived; main answers 0 if it was every message, whole and in order, both ways. */
+/* Two links in one image send each other messages over a network inside the image, which loses, doubles and delays datagrams. No heap, no
+ * libc. The last line says what arrived; main answers 0 if it was every message, whole and in order, both ways. */
 #include "board.h"
 #include "tick.h"
 

@@ -3,8 +3,8 @@
 # Compiles the headers as C and C++, builds every check program at -O2 and with the sanitizers, runs them, plays the scripts
 # of tests/vectors and tests/extras, and installs into a folder of its own. The archives of tags and parity are beside ARCHIVE;
 # where one is missing, rt makes it. The last line is 'host: N passed, M failed'.
-# For another machine (boards/check.sh): CC and CXX are its compilers, CFLAGS more words for them, EMULATOR runs its programs, and WORK is the folder for
-# what is built. There -O0 stands in for the sanitizers, and installing is not tried.
+# For another machine (boards/check.sh): CC and CXX are its compilers, CFLAGS more words for them, EMULATOR runs its programs, and WORK is
+# the folder for what is built. There -O0 stands in for the sanitizers, and installing is not tried.
 set -u
 root=$(cd "$(dirname "$0")/../.." && pwd)
 archive=${1:-$root/target/staticlib/libampferweg.a}
@@ -131,8 +131,8 @@ else
     program_checks O0 -O0
 fi
 for suffix in O2 $second; do
-    try "vectors, $suffix" plays replay $suffix vectors
-    try "extras, $suffix" plays play $suffix extras
+    try "vectors, $suffix" plays replay "$suffix" vectors
+    try "extras, $suffix" plays play "$suffix" extras
 done
 cp "$work/play-O2" "$work/play"
 try "examples/tags" "$root/examples/tags/run.sh" "$(dirname "$archive")"
