@@ -69,13 +69,15 @@ def shape(line):
 
 def extend(name, text, declared):
     """Puts the extensions that the header's functions have into the module's, where their types are the same; refuses other functions."""
-    wanted = {f: (kinds, extensions) for f, kinds, extensions in map(shape, re.findall(r"^declare .*@ampferweg_.*$", declared, re.M))}
+    declarations = re.findall(r"^declare .*@ampferweg_.*$", declared, re.M)
     defined = re.findall(r"^define (?!internal|private).*$", text, re.M)
-    has = {f: kinds for f, kinds, _ in map(shape, defined)}
-    if has != {f: kinds for f, (kinds, _) in wanted.items()}:
-        refuse(f"{name}: the header has {wanted}\nand the module {has}")
+    wanted, has = ({f: kinds for f, kinds, _ in map(shape, lines)} for lines in (declarations, defined))
+    for f in wanted.keys() | has.keys():
+        if wanted.get(f) != has.get(f):
+            refuse(f"{f}: {name}.h has {wanted.get(f)}, and the module {has.get(f)}")
+    extensions = {f: words for f, _, words in map(shape, declarations)}
     for line in defined:
-        words = iter(wanted[shape(line)[0]][1])
+        words = iter(extensions[shape(line)[0]])
         text = text.replace(line, re.sub(r"\bnoundef\b", lambda _: f"noundef {next(words)}".strip(), line))
     return text
 
