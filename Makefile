@@ -11,6 +11,7 @@
 #   make demo               two stations on loopback over a bad network (examples/udp)
 #   make test-examples      the stations' options, endings and restarts, by scripts (examples/udp)
 #   make bare               two links on a Cortex-M4 without an operating system, under QEMU (examples/bare)
+#   make dissector-check    the Wireshark dissector, by tshark (examples/wireshark)
 #   make boards             every board's archives, made and tried under QEMU, and the figures of docs/BOARDS.md (boards)
 #   make bench              the workloads beside kcp-go's core, and docs/PERFORMANCE.md (bench)
 #   make interop            a station against kcp-go (tests/interop; installs Debian packages)
@@ -97,6 +98,9 @@ test-examples: $(ARCHIVE)
 bare: target/boards/thumbv7em/libampferweg.a
 	examples/bare/run.sh $<
 
+dissector-check: $(ARCHIVE)
+	examples/wireshark/check.py $(ARCHIVE)
+
 boards: $(MODULES)
 	boards/run.sh
 
@@ -106,5 +110,5 @@ bench: $(ARCHIVE)
 interop: $(ARCHIVE)
 	tests/interop/run.sh $(ARCHIVE)
 
-.PHONY: all archive install uninstall verdict dist dist-check test demo test-examples bare boards bench interop
+.PHONY: all archive install uninstall verdict dist dist-check test demo test-examples bare dissector-check boards bench interop
 .SECONDARY:
