@@ -19,7 +19,7 @@ use Rattle.lists.specs.Orders.{insert, isHeld}
 use Rattle.lists.specs.Receiving.{advance}
 use Rattle.lists.specs.Acknowledging.{select, firstNumberOr, skipBefore}
 use Rattle.session.specs.Slots.{occurs, lowestFrom, lowestFree}
-use Rattle.session.specs.State.{Sending, Receiving, Outcome, withNumbers, withLists, withNotes}
+use Rattle.session.specs.State.{Sending, Receiving, Outcome, withNumbers, withLists, withNotes, withSending}
 use Rattle.session.specs.Opening.{opened}
 use Rattle.session.specs.Input.{Receiver, Took, acknowledged, applied, allByReceiving, heardByReceiving, sampledBy, heardBySending, allBySending, ackNumbers, furthest, skipped, skippedByAll, pushed, input}
 
@@ -80,10 +80,7 @@ afterAhead =
       header = record { conv = 1; cmd = push; frg = 0; wnd = 7; ts = 5; sn = 0; una = 900; len = 2 };
       payload = 104 ∷ 105 ∷ [];
     } in
-    let s = opened small in
-    applied
-    (record { settings = small; sending = four; receiving = s .receiving; probe = s .probe; current = 0; ask = false; dead = false })
-    (replicate 52 0) (g ∷ [])
+    applied (withSending (opened small) four) (replicate 52 0) (g ∷ [])
 
 -- nothing is removed
 pub none-removed : (map (λ (x : Sent). x .record .number) (afterAhead .state .sending .outstanding) ≡ 0 ∷ 1 ∷ 2 ∷ 3 ∷ []) × (afterAhead .state .sending .una ≡ 0)
