@@ -20,8 +20,8 @@ use Rattle.lists.specs.Orders.{sentOffset}
 use Rattle.lists.specs.Acknowledging.{select, keep, firstNumberOr}
 use Rattle.lists.specs.declared.Sent.{Sent}
 use Rattle.lists.specs.declared.Acknowledges.the-variants as by
-use Rattle.session.specs.State.{Sending}
-use Rattle.session.specs.Input.{acknowledged, withWindow, sampledBy, heardBySending}
+use Rattle.session.specs.State.{Sending, withWindow}
+use Rattle.session.specs.Input.{acknowledged, sampledBy, heardBySending}
 use Rattle.session.specs.HeardLaws.{heard-outstanding, heard-una}
 use Rattle.session.specs.Decides.{All}
 use Rattle.session.specs.Ascending.{Ascends}

@@ -11,6 +11,8 @@ use Rattle.answers.specs.declared.Answer.{Answer}
 use Rattle.answers.specs.declared.Answer.the-variants as answer
 use Rattle.answers.specs.declared.Count.{Count}
 use Rattle.answers.specs.declared.Count.the-variants as count
+use Rattle.answers.specs.declared.Time.{Time}
+use Rattle.answers.specs.declared.Time.the-variants as time
 use Rattle.timing.specs.declared.Record.{Record}
 use Rattle.lists.specs.declared.Held.{Held}
 use Rattle.lists.specs.declared.Outstanding.{Outstanding}
@@ -47,6 +49,11 @@ unfoldable pub countLine : Count → List ℕ
 countLine (count.Of n) = numberLine (ascii "ok ") n
 countLine (count.Refused r) = refusalLine r
 
+-- of a check
+unfoldable pub timeLine : Time → List ℕ
+timeLine (time.At t) = numberLine (ascii "ok ") t
+timeLine (time.Refused r) = refusalLine r
+
 -- a line for each datagram of these lengths, which stand one behind the other; none from the first that is not there whole
 unfoldable pub datagramLines : List ℕ → List ℕ → List ℕ
 datagramLines packed [] = []
@@ -72,13 +79,14 @@ abbrev pub flagOf : ℕ → ℕ
 flagOf x = cond (eqb x 0) 0 1
 
 -- snd_una snd_nxt rcv_nxt current peer_window srtt rttvar rto probe_wait probe_due ask tell dead acks queued outstanding
--- ready waiting
+-- ready waiting next_flush updated
 abbrev pub stateNumbers : Link → List ℕ
 stateNumbers l =
     l .flight .una ∷ l .flight .next ∷ l .arrival .expected ∷ l .clock .current ∷ l .flight .window
     ∷ l .flight .rtt .smoothed ∷ l .flight .rtt .variation ∷ l .flight .rtt .timeout ∷ l .clock .probe .wait ∷ l .clock .probe .due
     ∷ flagOf (l .clock .ask) ∷ flagOf (l .arrival .tell) ∷ flagOf (l .clock .dead) ∷ l .arrival .acks
-    ∷ l .flight .queued ∷ l .flight .outstanding ∷ l .arrival .ready ∷ l .arrival .waiting ∷ []
+    ∷ l .flight .queued ∷ l .flight .outstanding ∷ l .arrival .ready ∷ l .arrival .waiting
+    ∷ l .clock .«next_flush» ∷ flagOf (l .clock .updated) ∷ []
 
 unfoldable pub stateLine : Link → List ℕ
 stateLine l = ascii "state" ++ row (stateNumbers l) ++ (newline ∷ [])
