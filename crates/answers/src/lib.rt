@@ -12,3 +12,16 @@ pub enum Count {
     Of(usize),
     Refused(Refusal),
 }
+
+// Of an update: that it does not flush, or the datagrams that its flush wrote, which may be none.
+pub enum Update {
+    Waited,
+    Wrote(usize),
+    Refused(Refusal),
+}
+
+// Of a check: the time at which the next update is wanted.
+pub enum Time {
+    At(u32),
+    Refused(Refusal),
+}

@@ -10,6 +10,7 @@ use Rattle.protocol.specs.Protocol.{acksMost}
 use Rattle.protocol.specs.declared.Settings.{Settings}
 use Rattle.timing.specs.declared.Record.{Record}
 use Rattle.lists.specs.Joining.{joined}
+use Rattle.schedule.specs.declared.Schedule.{Schedule}
 use Rattle.session.specs.State.{Ack, Sending, Receiving, State}
 use Rattle.session.specs.Valid.{valid}
 use Rattle.words.specs.Words.{heldIn, waitingIn, outstandingIn}
@@ -99,6 +100,10 @@ abbrev pub receivingOf : Arrival → List ℕ → List ℕ → List ℕ → List
 receivingOf a ready waiting numbers acks =
     record { next = a .expected; ready = heldIn ready (a .ready); waiting = waitingIn waiting numbers (a .waiting); acks = acks; tell = isSet (a .tell) }
 
+-- the schedule of flushes
+abbrev pub scheduleOf : Clock → Schedule
+scheduleOf k = record { next = k .«next_flush»; made = isSet (k .updated) }
+
 -- the state of a link
 unfoldable pub stateOf : Link → List Record → List ℕ → State
 stateOf l records acks =
@@ -108,6 +113,7 @@ stateOf l records acks =
       receiving = receivingOf (l .arrival) (l .ready) (l .waiting) (l .«waiting_numbers») (pairs (l .arrival .acks) acks);
       probe = l .clock .probe;
       current = l .clock .current;
+      schedule = scheduleOf (l .clock);
       ask = isSet (l .clock .ask);
       dead = isSet (l .clock .dead);
     }

@@ -27,13 +27,16 @@ pub struct Arrival {
     pub acks: usize,
 }
 
-// What a flush moves on: the probe clock, the time of the last flush, whether an ask is wanted, and whether the link is dead.
+// What flushes and updates move on: the probe clock, the time of the last of them, the next flush time, whether an ask is wanted,
+// whether the link is dead, and whether an update has been made.
 #[repr(C)]
 pub struct Clock {
     pub probe: ProbeClock,
     pub current: u32,
+    pub next_flush: u32,
     pub ask: u8,
     pub dead: u8,
+    pub updated: u8,
 }
 
 // The control block. Flags are 0 or, set, anything else, so every byte pattern is a block. What stands in a list past its

@@ -40,6 +40,8 @@ module _ (c : Settings) (range : inRange c ≡ true) where
   in-order-long s (Call.takeIn d) o = rw (o .sends .settings) (flush-enough _ _ _ _ (o .long))
   in-order-long s (Call.flush t) o = rw (o .sends .settings) (o .long)
   in-order-long s (Call.read room) o = rw (o .sends .settings) (flush-enough _ _ _ _ (o .long))
+  in-order-long s (Call.update t) o = rw (o .sends .settings) (o .long)
+  in-order-long s (Call.check t) o = rw (o .sends .settings) (flush-enough _ _ _ _ (o .long))
 
   pub in-order-stays : (s : Station) (x : Call) → CallFits x → InOrder c s → InOrder c (own s x .station)
   in-order-stays s x fits o = record {

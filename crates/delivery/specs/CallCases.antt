@@ -11,13 +11,17 @@ use Rattle.protocol.specs.Ranges.{mss}
 use Rattle.protocol.specs.declared.Refusal.{Refusal}
 use Rattle.protocol.specs.declared.Refusal.the-variants.{ShortPart, LongMessage, NoFreeSlots}
 use Rattle.datagram.specs.Datagrams.{Segment, Parsed, parse}
-use Rattle.session.specs.State.{State, Outcome, sendHeld, slots}
+use Rattle.schedule.specs.Schedules.{updated}
+use Rattle.schedule.specs.declared.Schedule.{Schedule}
+use Rattle.schedule.specs.declared.Updated.{Updated}
+use Rattle.session.specs.State.{State, Outcome, sendHeld, slots, withQueued, withReceiving, withTimes, withSchedule}
 use Rattle.session.specs.Cutting.{fragmentCount, cut}
-use Rattle.session.specs.Sending.{Placed, place, Sends, withQueued, sending}
+use Rattle.session.specs.Sending.{Placed, place, Sends, sending}
 use Rattle.session.specs.Input.{Took, applied, taking, input}
 use Rattle.session.specs.Flushing.{flushing}
-use Rattle.session.specs.Calls.{Station, Call, Answer, Stepped, afterSend, afterTakeIn, afterFlush, afterReading, own}
-use Rattle.session.specs.Reading.{Reads, readable, unreadable, messageSize, message, afterRead, withReceiving, reading}
+use Rattle.session.specs.Updating.{Updates, waits, flushes, updating}
+use Rattle.session.specs.Calls.{Station, Call, Answer, Stepped, afterSend, afterTakeIn, afterFlush, afterReading, afterUpdate, own}
+use Rattle.session.specs.Reading.{Reads, readable, unreadable, messageSize, message, afterRead, reading}
 
 -- where a message's segments are placed
 abbrev pub placing : State → List ℕ → List ℕ → Placed
@@ -73,6 +77,21 @@ reading-cases P s pool room refused done = go (readable (s .receiving .ready)) (
     go true false = refused ShortPart
     go false b = refused (unreadable (s .receiving .ready))
 
+-- the schedule after an update at t
+abbrev pub scheduledAt : State → ℕ → Schedule
+scheduledAt s t = updated (s .schedule) t (s .settings .interval) .schedule
+
+pub updating-cases : (P : Updates → Type 0) (s : State) (t : ℕ) (pool : List ℕ) →
+    P (flushes (flushing (withSchedule s (scheduledAt s t)) t pool)) →
+    P (waits (withTimes s t (scheduledAt s t))) →
+    P (updating s t pool)
+unfolding updating
+updating-cases P s t pool flushed waited = go (updated (s .schedule) t (s .settings .interval) .flushes)
+  where
+    go : (b : Bool) → P (cond b (flushes (flushing (withSchedule s (scheduledAt s t)) t pool)) (waits (withTimes s t (scheduledAt s t))))
+    go true = flushed
+    go false = waited
+
 -- all calls at once: each is refused and leaves the station, or goes on as it does
 pub own-cases : (Q : Call → Stepped → Type 0) (s : Station) →
     ((x : Call) (r : Refusal) → Q x (record { station = s; answer = Answer.refused r })) →
@@ -92,12 +111,18 @@ pub own-cases : (Q : Call → Stepped → Type 0) (s : Station) →
     ((room : ℕ) →
     Q (Call.read room)
     (afterReading s (Outcome.done (record { state = withReceiving (s .state) (afterRead (s .state .receiving)); bytes = message (s .state) (s .receivePool) })))) →
+    ((t : ℕ) → Q (Call.update t) (afterFlush s (flushing (withSchedule (s .state) (scheduledAt (s .state) t)) t (s .sendPool)))) →
+    ((t : ℕ) → Q (Call.update t) (afterUpdate s (waits (withTimes (s .state) t (scheduledAt (s .state) t))))) →
+    ((t : ℕ) → Q (Call.check t) (own s (Call.check t))) →
     (x : Call) →
     Q x (own s x)
-own-cases Q s refused sends takes flushes reads (Call.send m) =
+own-cases Q s refused sends takes flushed reads updates waited checks (Call.send m) =
     sending-cases (λ (y : Outcome Sends). Q (Call.send m) (afterSend s y)) (s .state) (s .sendPool) m (refused (Call.send m)) (sends m)
-own-cases Q s refused sends takes flushes reads (Call.takeIn d) =
+own-cases Q s refused sends takes flushed reads updates waited checks (Call.takeIn d) =
     input-cases (λ (y : Outcome Took). Q (Call.takeIn d) (afterTakeIn s y)) (s .state) (s .receivePool) d (refused (Call.takeIn d)) (takes d)
-own-cases Q s refused sends takes flushes reads (Call.flush t) = flushes t
-own-cases Q s refused sends takes flushes reads (Call.read room) =
+own-cases Q s refused sends takes flushed reads updates waited checks (Call.flush t) = flushed t
+own-cases Q s refused sends takes flushed reads updates waited checks (Call.update t) =
+    updating-cases (λ (y : Updates). Q (Call.update t) (afterUpdate s y)) (s .state) t (s .sendPool) (updates t) (waited t)
+own-cases Q s refused sends takes flushed reads updates waited checks (Call.check t) = checks t
+own-cases Q s refused sends takes flushed reads updates waited checks (Call.read room) =
     reading-cases (λ (y : Outcome Reads). Q (Call.read room) (afterReading s y)) (s .state) (s .receivePool) room (refused (Call.read room)) (reads room)

@@ -89,4 +89,7 @@ carry-stays s x k f =
     f)
     (λ t k. record { next = f .next; acks = tt })
     (λ room k. read-fits (s .state .receiving) f)
+    (λ t k. record { next = f .next; acks = tt })
+    (λ t k. f)
+    (λ t k. f)
     x k

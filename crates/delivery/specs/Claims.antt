@@ -55,6 +55,8 @@ seen (Answer.refused r) = seenRefusal r
 seen (Answer.message m) = found (Found.message m)
 seen Answer.accepted = other
 seen (Answer.wrote ds) = other
+seen Answer.waited = other
+seen (Answer.named t) = other
 
 -- a begins b
 pub record Begins {A : Type 0} (a b : List A) : Type 0 where
@@ -76,6 +78,8 @@ module _ (c : Settings) (accepted : List (List ℕ)) (n : ℕ) where
   FedBelow p (Call.read room ∷ xs) = FedBelow (afterCall c accepted p (Call.read room)) xs
   FedBelow p (Call.send m ∷ xs) = FedBelow p xs
   FedBelow p (Call.flush t ∷ xs) = FedBelow p xs
+  FedBelow p (Call.update t ∷ xs) = FedBelow p xs
+  FedBelow p (Call.check t ∷ xs) = FedBelow p xs
 
 -- after these calls, a segment of this message has never been fed while below the next expected number plus 128; no message is missing too
 abbrev pub MissingFrom : Settings → List (List ℕ) → List Call → Option (List ℕ) → Type 0

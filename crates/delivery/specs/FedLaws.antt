@@ -91,6 +91,8 @@ module _ (c : Settings) (accepted : List (List ℕ)) (n : ℕ) where
   after-keeps (Call.read room ∷ xs) p h = after-keeps xs _ (rw (leave-heard p (plainAnswer c accepted p room)) h)
   after-keeps (Call.send m ∷ xs) p h = after-keeps xs p h
   after-keeps (Call.flush t ∷ xs) p h = after-keeps xs p h
+  after-keeps (Call.update t ∷ xs) p h = after-keeps xs p h
+  after-keeps (Call.check t ∷ xs) p h = after-keeps xs p h
 
   pub fed-heard : (xs : List Call) (p : Plain) → FedBelow c accepted n p xs → Heard (plainAfter c accepted p xs)
   unfolding plainAfter FedBelow
@@ -100,6 +102,8 @@ module _ (c : Settings) (accepted : List (List ℕ)) (n : ℕ) where
   fed-heard (Call.read room ∷ xs) p h = fed-heard xs _ h
   fed-heard (Call.send m ∷ xs) p h = fed-heard xs p h
   fed-heard (Call.flush t ∷ xs) p h = fed-heard xs p h
+  fed-heard (Call.update t ∷ xs) p h = fed-heard xs p h
+  fed-heard (Call.check t ∷ xs) p h = fed-heard xs p h
 
   pub heard-fed : (xs : List Call) (p : Plain) → Heard (plainAfter c accepted p xs) → Heard p ⊎ FedBelow c accepted n p xs
   unfolding plainAfter FedBelow
@@ -110,6 +114,8 @@ module _ (c : Settings) (accepted : List (List ℕ)) (n : ℕ) where
       ⊎-elim (λ q. inl (rw (leave-heard p (plainAnswer c accepted p room)) at q)) (λ q. inr q) (heard-fed xs _ h)
   heard-fed (Call.send m ∷ xs) p h = heard-fed xs p h
   heard-fed (Call.flush t ∷ xs) p h = heard-fed xs p h
+  heard-fed (Call.update t ∷ xs) p h = heard-fed xs p h
+  heard-fed (Call.check t ∷ xs) p h = heard-fed xs p h
 
   -- since the start
   pub heard-exactly : (xs : List Call) → Heard (plainAfter c accepted atFirst xs) ↔ FedBelow c accepted n atFirst xs

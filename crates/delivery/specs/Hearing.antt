@@ -21,6 +21,8 @@ abbrev pub CallFits : Call → Type 0
 CallFits (Call.send m) = AllBytes m
 CallFits (Call.takeIn d) = AllBytes d
 CallFits (Call.flush t) = t < 2 ^ 32
+CallFits (Call.update t) = t < 2 ^ 32
+CallFits (Call.check t) = t < 2 ^ 32
 CallFits (Call.read room) = Unit {0}
 
 -- the sender's pushes carry numbers below 2^30
@@ -33,10 +35,12 @@ FedWith ds [] = Unit {0}
 FedWith ds (Call.takeIn d ∷ xs) = List·Memᴰ d ds × FedWith ds xs
 FedWith ds (Call.send m ∷ xs) = FedWith ds xs
 FedWith ds (Call.flush t ∷ xs) = FedWith ds xs
+FedWith ds (Call.update t ∷ xs) = FedWith ds xs
+FedWith ds (Call.check t ∷ xs) = FedWith ds xs
 FedWith ds (Call.read room ∷ xs) = FedWith ds xs
 
 -- the second has the first one's feeds and reads, in that order and with read buffers as long, and further feeds put in anywhere;
--- both send and flush at any point
+-- both send, flush, update and check at any point
 pub data HearsMore : List Call → List Call → Type 0 where
   start : HearsMore [] []
   both-take : {d : List ℕ} {xs ys : List Call} → HearsMore xs ys → HearsMore (Call.takeIn d ∷ xs) (Call.takeIn d ∷ ys)
@@ -44,5 +48,9 @@ pub data HearsMore : List Call → List Call → Type 0 where
   takes-more : {d : List ℕ} {xs ys : List Call} → HearsMore xs ys → HearsMore xs (Call.takeIn d ∷ ys)
   first-sends : {m : List ℕ} {xs ys : List Call} → HearsMore xs ys → HearsMore (Call.send m ∷ xs) ys
   first-flushes : {t : ℕ} {xs ys : List Call} → HearsMore xs ys → HearsMore (Call.flush t ∷ xs) ys
+  first-updates : {t : ℕ} {xs ys : List Call} → HearsMore xs ys → HearsMore (Call.update t ∷ xs) ys
+  first-checks : {t : ℕ} {xs ys : List Call} → HearsMore xs ys → HearsMore (Call.check t ∷ xs) ys
   second-sends : {m : List ℕ} {xs ys : List Call} → HearsMore xs ys → HearsMore xs (Call.send m ∷ ys)
   second-flushes : {t : ℕ} {xs ys : List Call} → HearsMore xs ys → HearsMore xs (Call.flush t ∷ ys)
+  second-updates : {t : ℕ} {xs ys : List Call} → HearsMore xs ys → HearsMore xs (Call.update t ∷ ys)
+  second-checks : {t : ℕ} {xs ys : List Call} → HearsMore xs ys → HearsMore xs (Call.check t ∷ ys)

@@ -47,8 +47,12 @@ acknowledgedBy s (Call.takeIn d) Answer.accepted = acknowledgedByParsed (s .stat
 acknowledgedBy s (Call.takeIn d) (Answer.refused r) = 0
 acknowledgedBy s (Call.takeIn d) (Answer.wrote ds) = 0
 acknowledgedBy s (Call.takeIn d) (Answer.message b) = 0
+acknowledgedBy s (Call.takeIn d) Answer.waited = 0
+acknowledgedBy s (Call.takeIn d) (Answer.named t) = 0
 acknowledgedBy s (Call.send m) a = 0
 acknowledgedBy s (Call.flush t) a = 0
+acknowledgedBy s (Call.update t) a = 0
+acknowledgedBy s (Call.check t) a = 0
 acknowledgedBy s (Call.read room) a = 0
 
 -- by these calls: each gets the station as the last one left it

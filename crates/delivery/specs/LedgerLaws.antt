@@ -18,7 +18,7 @@ use Rattle.lists.specs.declared.Held.{Held}
 use Rattle.lists.specs.declared.Sent.{Sent}
 use Rattle.lists.specs.Acknowledging.{select, skipBefore}
 use Rattle.session.specs.Slots.{occurs}
-use Rattle.session.specs.State.{State, Sending, sendHeld, slots}
+use Rattle.session.specs.State.{State, Sending, sendHeld, slots, withWindow, withQueue, withOutstanding}
 use Rattle.session.specs.Opening.{opened}
 use Rattle.session.specs.Cutting.{cut}
 use Rattle.session.specs.HeardLaws.{heard-outstanding, heard-queued}
@@ -37,8 +37,7 @@ use Rattle.delivery.specs.CallCases.{placing, own-cases}
 use Rattle.delivery.specs.SendPool.{length-cut, place-count}
 use Rattle.delivery.specs.SendingHalf.{Half}
 use Rattle.delivery.specs.SendingTakesIn.{skip-held}
-use Rattle.delivery.specs.SendingSends.{withQueue}
-use Rattle.delivery.specs.SendingFlushes.{flushed-held, count-few, count-room}
+use Rattle.delivery.specs.SendingFlushes.{flushedWith, flushed-held, count-few, count-room}
 use Rattle.delivery.specs.SendingStays.{SendingInOrder, half-in, sending-stays, sending-always, opened-in-order}
 use Rattle.delivery.specs.Ledger.{usedBelow, usedSlots, acknowledgedByEach, acknowledgedBy, stationAcknowledged, Ledger}
 
@@ -120,7 +119,7 @@ unfolding skipped
 skipped-held s n = go (not (isBefore n (s .una)) && isBefore n (s .next))
   where
     go : (b : Bool) →
-        held (cond b (record { una = s .una; next = s .next; queued = s .queued; outstanding = map (skipBefore n) (s .outstanding); window = s .window; roundTrip = s .roundTrip }) s) ≡ held s
+        held (cond b (withOutstanding s (s .una) (map (skipBefore n) (s .outstanding))) s) ≡ held s
     go true = rw (map-kept (λ (x : Sent). x .held) (skipBefore n) (skip-held n) (s .outstanding))
     go false = refl
 
@@ -148,8 +147,11 @@ balances s o =
       length-cut (mss c) m,
     ))
     (λ b gs e. rw e (omega (arith, each-held c (s .state .current) d gs, skips-held (allBySending c (s .state .current) d gs) (ackNumbers gs))))
-    (λ t. omega (arith, ap length (flushed-held c t (numberedCount d) d (count-few d) (count-room d (half-in c s o .numbers .apart)))))
+    (λ t. omega (arith, ap length (flushed t)))
     (λ room. omega arith)
+    (λ t. omega (arith, ap length (flushed t)))
+    (λ t. omega arith)
+    (λ t. omega arith)
   where
     c : Settings
     c = s .state .settings
@@ -157,10 +159,15 @@ balances s o =
     d : Sending
     d = s .state .sending
 
+    flushed : (t : ℕ) → sendHeld (flushedWith c t (numberedCount d) d) ≡ sendHeld d
+    flushed t = flushed-held c t (numberedCount d) d (count-few d) (count-room d (half-in c s o .numbers .apart))
+
     nothing : (x : Call) (r : Refusal) → Balances s x (record { station = s; answer = Answer.refused r })
     nothing (Call.send m) r = omega arith
     nothing (Call.takeIn b) r = omega arith
     nothing (Call.flush t) r = omega arith
+    nothing (Call.update t) r = omega arith
+    nothing (Call.check t) r = omega arith
     nothing (Call.read room) r = omega arith
 
 -- ---- lists of calls

@@ -18,7 +18,7 @@ use Rattle.session.specs.Slots.{occurs}
 use Rattle.session.specs.Cutting.{fragmentCount}
 use Rattle.session.specs.Calls.{Call}
 use Rattle.delivery.specs.PlainReceiver.{Plain, atFirst, Found, pushesIn, segmentsOf, allHeard, firstWanted, UnheardFrom, Unheard, nextExpected, hear, feed, answerFor, plainAnswer, leave, plainAfter, plainAnswers}
-use Rattle.delivery.specs.Hearing.{HearsMore, start, both-take, both-read, takes-more, first-sends, first-flushes, second-sends, second-flushes}
+use Rattle.delivery.specs.Hearing.{HearsMore, start, both-take, both-read, takes-more, first-sends, first-flushes, first-updates, first-checks, second-sends, second-flushes, second-updates, second-checks}
 use Rattle.delivery.specs.Claims.{Begins}
 use Rattle.delivery.specs.SearchLaws.{Within, within-cons, lowest-mono}
 use Rattle.delivery.specs.FreeSlots.{occurs-later}
@@ -200,8 +200,12 @@ module _ (c : Settings) (accepted : List (List ℕ)) where
   ahead-after (takes-more {d = d} h) p q a = ahead-after h _ _ (feed-further (pushesIn c d) p q a)
   ahead-after (first-sends h) p q a = ahead-after h p q a
   ahead-after (first-flushes h) p q a = ahead-after h p q a
+  ahead-after (first-updates h) p q a = ahead-after h p q a
+  ahead-after (first-checks h) p q a = ahead-after h p q a
   ahead-after (second-sends h) p q a = ahead-after h p q a
   ahead-after (second-flushes h) p q a = ahead-after h p q a
+  ahead-after (second-updates h) p q a = ahead-after h p q a
+  ahead-after (second-checks h) p q a = ahead-after h p q a
 
   -- ---- what has come out is a front part of the accepted list
 
@@ -255,6 +259,8 @@ module _ (c : Settings) (accepted : List (List ℕ)) where
           ∙ rest q
   messages-after (Call.send m ∷ xs) p = messages-after xs p
   messages-after (Call.flush t ∷ xs) p = messages-after xs p
+  messages-after (Call.update t ∷ xs) p = messages-after xs p
+  messages-after (Call.check t ∷ xs) p = messages-after xs p
 
   -- what the reads of a list of calls bring, from the start
   abbrev pub plainMessages : List Call → List (List ℕ)

@@ -93,6 +93,8 @@ module _ (c : Settings) (accepted : List (List ℕ)) where
   afterCall p (Call.read room) = leave p (plainAnswer p room)
   afterCall p (Call.send m) = p
   afterCall p (Call.flush t) = p
+  afterCall p (Call.update t) = p
+  afterCall p (Call.check t) = p
 
   unfoldable pub plainAfter : Plain → List Call → Plain
   plainAfter p [] = p
@@ -105,6 +107,8 @@ module _ (c : Settings) (accepted : List (List ℕ)) where
   plainAnswers p (Call.takeIn d ∷ xs) = plainAnswers (afterCall p (Call.takeIn d)) xs
   plainAnswers p (Call.send m ∷ xs) = plainAnswers p xs
   plainAnswers p (Call.flush t ∷ xs) = plainAnswers p xs
+  plainAnswers p (Call.update t ∷ xs) = plainAnswers p xs
+  plainAnswers p (Call.check t ∷ xs) = plainAnswers p xs
 
 -- no next message was accepted, or a segment of it is not heard
 abbrev pub UnheardFrom : Settings → List (List ℕ) → Plain → Option (List ℕ) → Type 0

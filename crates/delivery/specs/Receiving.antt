@@ -34,6 +34,8 @@ FedGenuine c pieces [] = Unit {0}
 FedGenuine c pieces (Call.takeIn d ∷ xs) = GenuineDatagram c pieces d × FedGenuine c pieces xs
 FedGenuine c pieces (Call.send m ∷ xs) = FedGenuine c pieces xs
 FedGenuine c pieces (Call.flush t ∷ xs) = FedGenuine c pieces xs
+FedGenuine c pieces (Call.update t ∷ xs) = FedGenuine c pieces xs
+FedGenuine c pieces (Call.check t ∷ xs) = FedGenuine c pieces xs
 FedGenuine c pieces (Call.read room ∷ xs) = FedGenuine c pieces xs
 
 member : {A : Type 0} (P : A → Type 0) {a : A} (l : List A) → List·Memᴰ a l → All P l → P a
@@ -46,6 +48,8 @@ fed-genuine c pieces ds g [] f = tt
 fed-genuine c pieces ds g (Call.takeIn d ∷ xs) f = (member (GenuineDatagram c pieces) ds (f .0) g, fed-genuine c pieces ds g xs (f .1))
 fed-genuine c pieces ds g (Call.send m ∷ xs) f = fed-genuine c pieces ds g xs f
 fed-genuine c pieces ds g (Call.flush t ∷ xs) f = fed-genuine c pieces ds g xs f
+fed-genuine c pieces ds g (Call.update t ∷ xs) f = fed-genuine c pieces ds g xs f
+fed-genuine c pieces ds g (Call.check t ∷ xs) f = fed-genuine c pieces ds g xs f
 fed-genuine c pieces ds g (Call.read room ∷ xs) f = fed-genuine c pieces ds g xs f
 
 -- a receiver of demand 3: opened, its calls pass the checks, and it is fed with genuine datagrams only
@@ -62,6 +66,8 @@ module _ (c : Settings) (accepted : List (List ℕ)) (some-bytes : 0 < mss c) wh
   head-genuine (Call.takeIn d) xs g = g
   head-genuine (Call.send m) xs g = (tt, g)
   head-genuine (Call.flush t) xs g = (tt, g)
+  head-genuine (Call.update t) xs g = (tt, g)
+  head-genuine (Call.check t) xs g = (tt, g)
   head-genuine (Call.read room) xs g = (tt, g)
 
   follows-all : (xs : List Call) (s : Station) (p : Plain) → All CallFits xs → Passing s xs → FedGenuine c (piecesOf (mss c) accepted) xs → Follows c accepted s p
@@ -88,6 +94,8 @@ module _ (c : Settings) (accepted : List (List ℕ)) (some-bytes : 0 < mss c) wh
       one (Call.send m) f rest = rest
       one (Call.takeIn d) f rest = rest
       one (Call.flush t) f rest = rest
+      one (Call.update t) f rest = rest
+      one (Call.check t) f rest = rest
       one (Call.read room) f rest = rw (answer-follows c accepted some-bytes s p room f, rest)
 
 -- ---- the theorems

@@ -15,7 +15,11 @@ use Rattle.datagram.specs.Datagrams.{Parsed, parse}
 use Rattle.lists.specs.declared.Held.{Held}
 use Rattle.lists.specs.declared.Waiting.{Waiting}
 use Rattle.lists.specs.Orders.{ascending, waitingOffset}
-use Rattle.session.specs.State.{State, Receiving, Outcome, receiveHeld, slots}
+use Rattle.timing.specs.Choices.{either-way}
+use Rattle.schedule.specs.Schedules.{updated}
+use Rattle.schedule.specs.declared.Updated.{Updated}
+use Rattle.schedule.specs.declared.Schedule.{Schedule}
+use Rattle.session.specs.State.{State, Receiving, Outcome, receiveHeld, slots, withNotes}
 use Rattle.sizes.specs.Sizes.{enough, enoughToFlush}
 use Rattle.sizes.specs.declared.Lengths.{Lengths}
 use Rattle.lists.specs.Receiving.{startsAt}
@@ -25,6 +29,7 @@ use Rattle.session.specs.Sending.{Sends}
 use Rattle.session.specs.Flushing.{flushing}
 use Rattle.session.specs.Input.{Receiver, allByReceiving, taking, applied, input}
 use Rattle.session.specs.Reading.{readable, messageSize, reading}
+use Rattle.session.specs.Updating.{updating}
 use Rattle.session.specs.Calls.{Station, Call, Stepped, lengthsOf, afterSend, afterTakeIn, own, after}
 use Rattle.session.specs.Decides.{Decides, All, leb-decides, ltb-decides, not-decides, and-decides, via, all-decides, and-parts}
 use Rattle.session.specs.AllLaws.{all-both, all-weaker}
@@ -147,20 +152,22 @@ receiverTakes m x (Parsed.segments gs) = allByReceiving m x gs
 
 -- a flush clears the acks and the wish to tell
 abbrev pub receiverFlushed : Receiver → Receiver
-receiverFlushed x = record { half = record { next = x .half .next; ready = x .half .ready; waiting = x .half .waiting; acks = []; tell = false }; pool = x .pool }
+receiverFlushed x = record { half = withNotes (x .half) [] false; pool = x .pool }
 
 -- a read takes a message that is ready and fits its buffer
 abbrev pub receiverReads : Receiver → ℕ → Receiver
 receiverReads x room = cond (readable (x .half .ready)) (cond (leb (messageSize (x .half)) room) (readFrom x) x) x
 
--- a send does not touch them
-abbrev pub receiverAfter : Settings → Receiver → Call → Receiver
-receiverAfter c x (Call.send m) = x
-receiverAfter c x (Call.takeIn d) = receiverTakes (mss c) x (parse (c .conv) (mss c) d)
-receiverAfter c x (Call.flush t) = receiverFlushed x
-receiverAfter c x (Call.read room) = receiverReads x room
+-- a send and a check do not touch them; by the schedule k an update flushes, or leaves them
+abbrev pub receiverAfter : Settings → Schedule → Receiver → Call → Receiver
+receiverAfter c k x (Call.send m) = x
+receiverAfter c k x (Call.takeIn d) = receiverTakes (mss c) x (parse (c .conv) (mss c) d)
+receiverAfter c k x (Call.flush t) = receiverFlushed x
+receiverAfter c k x (Call.read room) = receiverReads x room
+receiverAfter c k x (Call.update t) = cond (updated k t (c .interval) .flushes) (receiverFlushed x) x
+receiverAfter c k x (Call.check t) = x
 
-take-receiver : (s : Station) (d : List ℕ) → receiverOf (own s (Call.takeIn d) .station) ≡ receiverAfter (s .state .settings) (receiverOf s) (Call.takeIn d)
+take-receiver : (s : Station) (d : List ℕ) → receiverOf (own s (Call.takeIn d) .station) ≡ receiverAfter (s .state .settings) (s .state .schedule) (receiverOf s) (Call.takeIn d)
 unfolding input applied
 take-receiver s d = go (parse (s .state .settings .conv) (mss (s .state .settings)) d)
   where
@@ -178,13 +185,25 @@ read-receiver s room = go (readable (s .state .receiving .ready)) refl (leb (mes
     go true e false f = rw (e, f)
     go false e b f = rw e
 
-pub own-receiver : (s : Station) (x : Call) → receiverOf (own s x .station) ≡ receiverAfter (s .state .settings) (receiverOf s) x
+update-receiver : (s : Station) (t : ℕ)
+    → receiverOf (own s (Call.update t) .station) ≡ receiverAfter (s .state .settings) (s .state .schedule) (receiverOf s) (Call.update t)
+unfolding updating flushing
+update-receiver s t = go (updated (s .state .schedule) t (s .state .settings .interval) .flushes) refl
+  where
+    go : (b : Bool) → updated (s .state .schedule) t (s .state .settings .interval) .flushes ≡ b
+        → receiverOf (own s (Call.update t) .station) ≡ receiverAfter (s .state .settings) (s .state .schedule) (receiverOf s) (Call.update t)
+    go true e = rw e
+    go false e = rw e
+
+pub own-receiver : (s : Station) (x : Call) → receiverOf (own s x .station) ≡ receiverAfter (s .state .settings) (s .state .schedule) (receiverOf s) x
 unfolding flushing
 own-receiver s (Call.send m) =
     sending-cases (λ (y : Outcome Sends). receiverOf (afterSend s y .station) ≡ receiverOf s) (s .state) (s .sendPool) m (λ r. refl) (λ ok. refl)
 own-receiver s (Call.takeIn d) = take-receiver s d
 own-receiver s (Call.flush t) = refl
 own-receiver s (Call.read room) = read-receiver s room
+own-receiver s (Call.update t) = update-receiver s t
+own-receiver s (Call.check t) = refl
 
 -- ---- the lent lengths stay as they are
 
@@ -198,9 +217,14 @@ own-receive-pool s =
     (λ d gs e. took-pool (mss (s .state .settings)) gs (receiverOf s))
     (λ t. refl)
     (λ room. refl)
+    (λ t. refl)
+    (λ t. refl)
+    (λ t. refl)
 
 pub own-lent : (s : Station) (x : Call) → own s x .station .lent ≡ s .lent
-own-lent s = own-cases (λ (x : Call) (y : Stepped). y .station .lent ≡ s .lent) s (λ x r. refl) (λ m ok. refl) (λ d gs e. refl) (λ t. refl) (λ room. refl)
+own-lent s =
+    own-cases (λ (x : Call) (y : Stepped). y .station .lent ≡ s .lent) s (λ x r. refl) (λ m ok. refl) (λ d gs e. refl) (λ t. refl) (λ room. refl)
+    (λ t. refl) (λ t. refl) (λ t. refl)
 
 pub own-lengths : (s : Station) (x : Call) → lengthsOf (own s x .station) ≡ lengthsOf s
 own-lengths s x = λ i. record {
@@ -224,17 +248,23 @@ reads-good m x room g = go (readable (x .half .ready)) (leb (messageSize (x .hal
     go true false = g
     go false b = g
 
-after-good : (c : Settings) (x : Receiver) (call : Call) → CallFits call → Good (mss c) x → Good (mss c) (receiverAfter c x call)
-after-good c x (Call.send m) f g = g
-after-good c x (Call.takeIn d) f g = takes-good (mss c) x (parse (c .conv) (mss c) d) (parse-fits (c .conv) (mss c) d f) g
-after-good c x (Call.flush t) f g = record { settles = g .settles; few-acks = zero-le }
-after-good c x (Call.read room) f g = reads-good (mss c) x room g
+flushed-good : (m : ℕ) (x : Receiver) → Good m x → Good m (receiverFlushed x)
+flushed-good m x g = record { settles = g .settles; few-acks = zero-le }
+
+after-good : (c : Settings) (k : Schedule) (x : Receiver) (call : Call) → CallFits call → Good (mss c) x → Good (mss c) (receiverAfter c k x call)
+after-good c k x (Call.send m) f g = g
+after-good c k x (Call.takeIn d) f g = takes-good (mss c) x (parse (c .conv) (mss c) d) (parse-fits (c .conv) (mss c) d f) g
+after-good c k x (Call.flush t) f g = flushed-good (mss c) x g
+after-good c k x (Call.read room) f g = reads-good (mss c) x room g
+after-good c k x (Call.update t) f g = either-way (Good (mss c)) (updated k t (c .interval) .flushes) (flushed-good (mss c) x g) g
+after-good c k x (Call.check t) f g = g
 
 -- EVERY CALL leaves the receiving half in order, whatever bytes it takes in
 pub receiving-stays : (c : Settings) (s : Station) (x : Call) → CallFits x → ReceivingInOrder c s → ReceivingInOrder c (own s x .station)
 receiving-stays c s x f o =
-    let d : receiverOf (own s x .station) ≡ receiverAfter c (receiverOf s) x = own-receiver s x ∙ ap (λ (k : Settings). receiverAfter k (receiverOf s) x) (o .settings) in
-    in-order c (own s x .station) (own-settings s x ∙ o .settings) (carry-stays s x f (o .fits .carries)) (rw d (after-good c (receiverOf s) x f (good-in c s o)))
+    let k = s .state .schedule in
+    let d : receiverOf (own s x .station) ≡ receiverAfter c k (receiverOf s) x = own-receiver s x ∙ ap (λ (y : Settings). receiverAfter y k (receiverOf s) x) (o .settings) in
+    in-order c (own s x .station) (own-settings s x ∙ o .settings) (carry-stays s x f (o .fits .carries)) (rw d (after-good c k (receiverOf s) x f (good-in c s o)))
 
 -- ---- the opened state
 

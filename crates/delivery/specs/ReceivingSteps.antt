@@ -15,6 +15,9 @@ use Rattle.protocol.specs.declared.Settings.{Settings}
 use Rattle.protocol.specs.declared.Refusal.{Refusal}
 use Rattle.protocol.specs.declared.Refusal.the-variants.{ShortDatagram, OtherConversation, LengthPastEnd, UnknownCommand, LongPayload, HighFragment, ShortPart, FullUnreadable, NoMessage, LongMessage, NoFreeSlots, SettingOutOfRange, InvalidBlock}
 use Rattle.datagram.specs.Datagrams.{Segment, Parsed}
+use Rattle.timing.specs.Choices.{either-way}
+use Rattle.schedule.specs.Schedules.{updated}
+use Rattle.schedule.specs.declared.Updated.{Updated}
 use Rattle.session.specs.State.{State}
 use Rattle.session.specs.Opening.{opened}
 use Rattle.session.specs.Reading.{frontCount, readable, unreadable, joinedIn, messageSize, message, reading}
@@ -111,9 +114,10 @@ module _ (c : Settings) (accepted : List (List ℕ)) where
 
   -- after a call, where the lists and the plain receiver are as said
   follows-own : (s : Station) (p q : Plain) (x : Call) → CallFits x → Follows s p → Fed c accepted q
-      → listedBy (mss c) (receiverAfter c (receiverOf s) x) ≡ listedAs c accepted q → Follows (own s x .station) q
+      → listedBy (mss c) (receiverAfter c (s .state .schedule) (receiverOf s) x) ≡ listedAs c accepted q → Follows (own s x .station) q
   follows-own s p q x fits f fed same =
-      let d : receiverOf (own s x .station) ≡ receiverAfter c (receiverOf s) x = own-receiver s x ∙ ap (λ (k : Settings). receiverAfter k (receiverOf s) x) (f .order .settings) in
+      let k = s .state .schedule in
+      let d : receiverOf (own s x .station) ≡ receiverAfter c k (receiverOf s) x = own-receiver s x ∙ ap (λ (y : Settings). receiverAfter y k (receiverOf s) x) (f .order .settings) in
       record { order = receiving-stays c s x fits (f .order); listed = ap (listedBy (mss c)) d ∙ same; fed = fed }
 
   -- the datagram of a call is genuine
@@ -121,6 +125,8 @@ module _ (c : Settings) (accepted : List (List ℕ)) where
   Genuinely (Call.takeIn d) = GenuineDatagram c (piecesOf (mss c) accepted) d
   Genuinely (Call.send m) = Unit {0}
   Genuinely (Call.flush t) = Unit {0}
+  Genuinely (Call.update t) = Unit {0}
+  Genuinely (Call.check t) = Unit {0}
   Genuinely (Call.read room) = Unit {0}
 
   follows-take : (s : Station) (p : Plain) (d : List ℕ) → CallFits (Call.takeIn d) → GenuineDatagram c (piecesOf (mss c) accepted) d → Follows s p
@@ -152,6 +158,10 @@ module _ (c : Settings) (accepted : List (List ℕ)) where
     follows-call s p (Call.send m) fits g f = follows-own s p p (Call.send m) fits f (f .fed) (f .listed)
     follows-call s p (Call.takeIn d) fits g f = follows-take s p d fits g f
     follows-call s p (Call.flush t) fits g f = follows-own s p p (Call.flush t) fits f (f .fed) (f .listed)
+    follows-call s p (Call.update t) fits g f =
+        follows-own s p p (Call.update t) fits f (f .fed)
+        (either-way (λ (x : Receiver). listedBy (mss c) x ≡ listedAs c accepted p) (updated (s .state .schedule) t (c .interval) .flushes) (f .listed) (f .listed))
+    follows-call s p (Call.check t) fits g f = follows-own s p p (Call.check t) fits f (f .fed) (f .listed)
     follows-call s p (Call.read room) fits g f =
         follows-own s p (leave c accepted p (plainAnswer c accepted p room)) (Call.read room) fits f (fed-leave c accepted p room (f .fed))
         (reads-listed (mss c) (receiverOf s) room (good-in c s (f .order))
@@ -197,6 +207,8 @@ read-one (Answer.refused r) l = rw (none-refused r)
 read-one Answer.accepted l = refl
 read-one (Answer.wrote ds) l = refl
 read-one (Answer.message m) l = refl
+read-one Answer.waited l = refl
+read-one (Answer.named t) l = refl
 
 found-one : (f : Found) (l : List Found) → messagesFound (f ∷ l) ≡ messageIn (found f) ++ messagesFound l
 unfolding messagesFound

@@ -22,9 +22,9 @@ use Rattle.lists.specs.declared.Acknowledges.the-variants as by
 use Rattle.lists.specs.Acknowledging as acknowledging
 use Rattle.lists.specs.Acknowledging.{skipBefore}
 use Rattle.session.specs.Slots.{occurs}
-use Rattle.session.specs.State.{Sending, sendHeld, slots}
+use Rattle.session.specs.State.{Sending, sendHeld, slots, withWindow, withQueue, withOutstanding}
 use Rattle.session.specs.Sending.{Placed}
-use Rattle.session.specs.Input.{acknowledged, withWindow, sampledBy, heardBySending, allBySending, furthest, skipped, skippedByAll}
+use Rattle.session.specs.Input.{acknowledged, sampledBy, heardBySending, allBySending, furthest, skipped, skippedByAll}
 use Rattle.session.specs.Flushing.{numbered, withNumbered}
 use Rattle.session.specs.Decides.{All}
 use Rattle.session.specs.AllLaws.{all-left, all-right, all-append, all-select}
@@ -34,7 +34,6 @@ use Rattle.delivery.specs.FreeSlots.{occurs-first, occurs-later}
 use Rattle.delivery.specs.SendPool.{pieceIn, PlacedWell}
 use Rattle.delivery.specs.SendingHalf.{HeldWell}
 use Rattle.delivery.specs.SendingTakesIn.{skip-held, skip-number}
-use Rattle.delivery.specs.SendingSends.{withQueue}
 use Rattle.delivery.specs.SendingFlushes.{flushedWith}
 
 -- ---- entries of lists
@@ -121,7 +120,7 @@ module _ (P : Sent → Type 0) (skips : (n : ℕ) (x : Sent) → P x → P (skip
   keeps-skipped s n = go (not (isBefore n (s .una)) && isBefore n (s .next))
     where
       go : (b : Bool) →
-          Keeps s (cond b (record { una = s .una; next = s .next; queued = s .queued; outstanding = map (skipBefore n) (s .outstanding); window = s .window; roundTrip = s .roundTrip }) s)
+          Keeps s (cond b (withOutstanding s (s .una) (map (skipBefore n) (s .outstanding))) s)
       go true = record { next = refl; queued = refl; sent = all-skip n (s .outstanding) }
       go false = record { next = refl; queued = refl; sent = λ h. h }
 

@@ -14,7 +14,7 @@ use Rattle.retransmission.specs.TransmissionLaws.{when-never-sent, transmission
 use Rattle.timing.specs.declared.Record.{Record}
 use Rattle.lists.specs.declared.Held.{Held}
 use Rattle.lists.specs.declared.Sent.{Sent}
-use Rattle.session.specs.State.{Sending, sendHeld}
+use Rattle.session.specs.State.{Sending, sendHeld, withNumbers}
 use Rattle.session.specs.Flushing.{numberedAs, numbered, numberedCount, withNumbered, sentAfter}
 use Rattle.session.specs.Decides.{All}
 use Rattle.session.specs.AllLaws.{all-append}
@@ -27,14 +27,7 @@ use Rattle.delivery.specs.SendingHalf.{SentWell, Half, all-map}
 -- the half then
 abbrev pub flushedWith : Settings → ℕ → ℕ → Sending → Sending
 flushedWith c t k s =
-    record {
-      una = s .una;
-      next = plus (s .next) k;
-      queued = drop k (s .queued);
-      outstanding = map (sentAfter c (s .roundTrip .timeout) t) (withNumbered s k);
-      window = s .window;
-      roundTrip = s .roundTrip;
-    }
+    withNumbers s (plus (s .next) k) (drop k (s .queued)) (map (sentAfter c (s .roundTrip .timeout) t) (withNumbered s k))
 
 pub numbered-held : (n : ℕ) (q : List Held) → map (λ (x : Sent). x .held) (numbered n q) ≡ q
 unfolding numbered

@@ -14,7 +14,7 @@ use Rattle.protocol.specs.declared.Settings.{Settings}
 use Rattle.lists.specs.declared.Held.{Held}
 use Rattle.lists.specs.declared.Sent.{Sent}
 use Rattle.session.specs.Slots.{occurs}
-use Rattle.session.specs.State.{Sending, sendHeld, slots}
+use Rattle.session.specs.State.{Sending, sendHeld, slots, withQueue}
 use Rattle.session.specs.Cutting.{fragmentCount, cut}
 use Rattle.session.specs.Sending.{Placed, place}
 use Rattle.session.specs.AllLaws.{all-append, all-weaker}
@@ -24,10 +24,6 @@ use Rattle.delivery.specs.SendPool.{PlacedWell, placed-well, length-cut,
 use Rattle.delivery.specs.SendingHalf.{HeldWell, Half}
 
 -- ---- sending
-
--- the half with these queued
-abbrev pub withQueue : Sending → List Held → Sending
-withQueue s q = record { una = s .una; next = s .next; queued = q; outstanding = s .outstanding; window = s .window; roundTrip = s .roundTrip }
 
 -- held segments, and others in slots of their own
 held-append : (m : ℕ) (l r : List Held) →

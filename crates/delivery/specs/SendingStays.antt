@@ -45,6 +45,7 @@ pub own-settings : (s : Station) (x : Call) → own s x .station .state .setting
 unfolding applied flushing
 own-settings s =
     own-cases (λ (x : Call) (y : Stepped). y .station .state .settings ≡ s .state .settings) s (λ x r. refl) (λ m ok. refl) (λ d gs e. refl) (λ t. refl) (λ room. refl)
+    (λ t. refl) (λ t. refl) (λ t. refl)
 
 -- the send pool is as long as before
 pub own-send-pool : (s : Station) (x : Call) → length (own s x .station .sendPool) ≡ length (s .sendPool)
@@ -55,6 +56,9 @@ own-send-pool s =
     (λ d gs e. refl)
     (λ t. refl)
     (λ room. refl)
+    (λ t. refl)
+    (λ t. refl)
+    (λ t. refl)
 
 -- ---- what is kept
 
@@ -104,8 +108,14 @@ module _ (s : Station) (range : inRange (s .state .settings) ≡ true) (o : Send
       (λ b gs e k.
       half-skips c (allBySending c (s .state .current) d gs) (ackNumbers gs)
       (half-all c (s .state .current) d gs (subst (Each HeaderFits) e (parse-fits (c .conv) (mss c) b k)) half))
-      (λ t k. half-flushed c t (numberedCount d) d (count-few d) (count-room d (half .numbers .apart)) half)
+      (λ t k. flushed t)
       (λ room k. half)
+      (λ t k. flushed t)
+      (λ t k. half)
+      (λ t k. half)
+    where
+      flushed : (t : ℕ) → Half c (flushedWith c t (numberedCount d) d)
+      flushed t = half-flushed c t (numberedCount d) d (count-few d) (count-room d (half .numbers .apart)) half
 
   own-probe : (x : Call) → probeFits (own s x .station .state .probe) ≡ true
   unfolding applied flushing
@@ -114,10 +124,16 @@ module _ (s : Station) (range : inRange (s .state .settings) ≡ true) (o : Send
       (λ x r. o .probe)
       (λ m ok. o .probe)
       (λ b gs e. o .probe)
-      (λ t.
-      probe-decides (nextClock (s .state .probe) t (d .window) .clock) .passes
-      (next-in-range (s .state .probe) t (d .window) (probe-decides (s .state .probe) .holds (o .probe))))
+      moved
       (λ room. o .probe)
+      moved
+      (λ t. o .probe)
+      (λ t. o .probe)
+    where
+      moved : (t : ℕ) → probeFits (nextClock (s .state .probe) t (d .window) .clock) ≡ true
+      moved t =
+          probe-decides (nextClock (s .state .probe) t (d .window) .clock) .passes
+          (next-in-range (s .state .probe) t (d .window) (probe-decides (s .state .probe) .holds (o .probe)))
 
   stays : (x : Call) → CallFits x → SendingInOrder c (own s x .station)
   stays x k = half-order c (own s x .station) (own-settings s x) (rw (own-send-pool s x) (o .long)) (own-half x k) (own-probe x)

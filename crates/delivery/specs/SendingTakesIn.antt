@@ -22,8 +22,8 @@ use Rattle.lists.specs.declared.Acknowledges.{Acknowledges}
 use Rattle.lists.specs.declared.Acknowledges.the-variants as by
 use Rattle.lists.specs.Acknowledging as acknowledging
 use Rattle.lists.specs.Acknowledging.{select, firstNumberOr, oneSkip, skipBefore}
-use Rattle.session.specs.State.{Sending}
-use Rattle.session.specs.Input.{acknowledged, withWindow, sampledBy, heardBySending, allBySending, furthest, skipped, skippedByAll}
+use Rattle.session.specs.State.{Sending, withWindow, withOutstanding}
+use Rattle.session.specs.Input.{acknowledged, sampledBy, heardBySending, allBySending, furthest, skipped, skippedByAll}
 use Rattle.session.specs.Decides.{All}
 use Rattle.session.specs.MapLaws.{map-kept}
 use Rattle.session.specs.SendOrder.{NumberFits, numbers-select, numbers-mapped}
@@ -126,7 +126,7 @@ module _ (c : Settings) where
   half-skipped s n h = go (not (isBefore n (s .una)) && isBefore n (s .next))
     where
       more : Sending
-      more = record { una = s .una; next = s .next; queued = s .queued; outstanding = map (skipBefore n) (s .outstanding); window = s .window; roundTrip = s .roundTrip }
+      more = withOutstanding s (s .una) (map (skipBefore n) (s .outstanding))
 
       go : (b : Bool) → Half c (cond b more s)
       go true = record {

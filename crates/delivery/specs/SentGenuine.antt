@@ -21,14 +21,15 @@ use Rattle.timing.specs.declared.Record.{Record}
 use Rattle.retransmission.specs.declared.Transmission.{Transmission}
 use Rattle.lists.specs.declared.Held.{Held}
 use Rattle.lists.specs.declared.Sent.{Sent}
-use Rattle.session.specs.State.{Sending, Ack}
+use Rattle.schedule.specs.declared.Schedule.{Schedule}
+use Rattle.session.specs.State.{Sending, Ack, withSchedule}
 use Rattle.session.specs.Valid.{valid}
 use Rattle.session.specs.Opening.{opened}
 use Rattle.session.specs.Cutting.{cut}
 use Rattle.session.specs.Sending.{Sends}
 use Rattle.session.specs.Input.{applied, ackNumbers}
 use Rattle.session.specs.Flushing.{numberedAs, numbered, numberedCount, withNumbered, transmittedOf, sentAfter, transmittedNow, carried, ackSegment, dataSegment, written, bytesOfSegments, packed, flushing}
-use Rattle.session.specs.Calls.{Station, Call, Answer, Stepped, Event, own, history, acceptedBy, acceptedList, datagramsIn, datagramsBy}
+use Rattle.session.specs.Calls.{Station, Call, Answer, Stepped, Event, afterFlush, own, history, acceptedBy, acceptedList, datagramsIn, datagramsBy}
 use Rattle.session.specs.Decides.{All}
 use Rattle.session.specs.AllLaws.{all-any, all-append, all-left, all-right, all-unmapped, all-weaker}
 use Rattle.delivery.specs.PlainReceiver.{pushNumbers, pushesOf, pushesIn}
@@ -37,7 +38,7 @@ use Rattle.delivery.specs.Stations.{Opened}
 use Rattle.delivery.specs.Pieces.{Piece, falling, piecesOf, pieceOf, Genuine, pushes, GenuineDatagram}
 use Rattle.delivery.specs.Passing.{Passing}
 use Rattle.delivery.specs.PassingLaws.{history-first}
-use Rattle.delivery.specs.CallCases.{own-cases}
+use Rattle.delivery.specs.CallCases.{scheduledAt, own-cases}
 use Rattle.delivery.specs.StateRange.{CarryFits}
 use Rattle.delivery.specs.SendingHalf.{Half}
 use Rattle.delivery.specs.SendingSends.{send-placed}
@@ -248,23 +249,54 @@ module _ (s : Station) (pieces : List Piece) (made : valid (s .state) ≡ true) 
   refused-wrote (Call.send m) r = record { shows = same; genuine = tt }
   refused-wrote (Call.takeIn b) r = record { shows = same; genuine = tt }
   refused-wrote (Call.flush t) r = record { shows = same; genuine = tt }
+  refused-wrote (Call.update t) r = record { shows = same; genuine = tt }
+  refused-wrote (Call.check t) r = record { shows = same; genuine = tt }
   refused-wrote (Call.read room) r = record { shows = same; genuine = tt }
 
-  wrote : (x : Call) → CallFits x → FewPushes (s .state .settings) (datagramsIn (own s x .answer)) → Wrote c pieces x (own s x)
+-- an update that flushes: the flush of the station with another schedule
+abbrev rescheduled : Station → Schedule → Station
+rescheduled s k =
+    record { state = withSchedule (s .state) k; sendPool = s .sendPool; receivePool = s .receivePool; lent = s .lent }
+
+module _ (s : Station) (pieces : List Piece) (made : valid (s .state) ≡ true) (conv32 : s .state .settings .conv < 2 ^ 32)
+    (o : SendingInOrder (s .state .settings) s) (carry : CarryFits (s .state .receiving))
+    (h : model.Sends (mss (s .state .settings)) (s .sendPool) pieces (s .state .sending)) where
+  abbrev settings : Settings
+  settings = s .state .settings
+
+  as-before : model.Sends (mss settings) (s .sendPool) (pieces ++ piecesOf (mss settings) []) (s .state .sending)
+  as-before = same s pieces made conv32 o carry h
+
+  wrote-update : (t : ℕ) (k : Schedule) → t < 2 ^ 32
+      → FewPushes settings (map bytesOfSegments (flushing (withSchedule (s .state) k) t (s .sendPool) .datagrams))
+      → Wrote settings pieces (Call.update t) (afterFlush s (flushing (withSchedule (s .state) k) t (s .sendPool)))
+  unfolding valid
+  wrote-update t next time few =
+      let order : SendingInOrder settings (rescheduled s next) = record { settings = o .settings; long = o .long; valid = o .valid; fits = o .fits; probe = o .probe } in
+      let w = wrote-flush (rescheduled s next) pieces made conv32 order carry h t time few in
+      record { shows = w .shows; genuine = w .genuine }
+
+  wrote : (x : Call) → CallFits x → FewPushes settings (datagramsIn (own s x .answer)) → Wrote settings pieces x (own s x)
   unfolding applied
   wrote =
-      own-cases (λ (x : Call) (y : Stepped). CallFits x → FewPushes c (datagramsIn (y .answer)) → Wrote c pieces x y) s
-      (λ x r k few. refused-wrote x r)
+      own-cases (λ (x : Call) (y : Stepped). CallFits x → FewPushes settings (datagramsIn (y .answer)) → Wrote settings pieces x y) s
+      (λ x r k few. refused-wrote s pieces made conv32 o carry h x r)
       (λ m ok k few. record {
-        shows = rw (one-accepted (mss c) pieces m)
-            (sends-more (mss c) (s .sendPool) pieces d (cut (mss c) m) _ (half .held)
-            (send-placed c d (s .sendPool) m (omega (arith, mtu-in-range c (valid-parts (s .state) made .range) .least)) (o .long) (ok .short) (ok .room))
+        shows = rw (one-accepted (mss settings) pieces m)
+            (sends-more (mss settings) (s .sendPool) pieces (s .state .sending) (cut (mss settings) m) _ (half s pieces made conv32 o carry h .held)
+            (send-placed settings (s .state .sending) (s .sendPool) m (omega (arith, mtu-in-range settings (valid-parts (s .state) made .range) .least)) (o .long) (ok .short) (ok .room))
             h);
         genuine = tt;
       })
-      (λ b gs e k few. record { shows = sends-taken (mss c) (s .sendPool) (pieces ++ piecesOf (mss c) []) c (s .state .current) d gs (ackNumbers gs) same; genuine = tt })
-      (λ t k few. wrote-flush t k few)
-      (λ room k few. record { shows = same; genuine = tt })
+      (λ b gs e k few. record {
+        shows = sends-taken (mss settings) (s .sendPool) (pieces ++ piecesOf (mss settings) []) settings (s .state .current) (s .state .sending) gs (ackNumbers gs) as-before;
+        genuine = tt;
+      })
+      (λ t k few. wrote-flush s pieces made conv32 o carry h t k few)
+      (λ room k few. record { shows = as-before; genuine = tt })
+      (λ t k few. wrote-update t (scheduledAt (s .state) t) k few)
+      (λ t k few. record { shows = as-before; genuine = tt })
+      (λ t k few. record { shows = as-before; genuine = tt })
 
 -- by any name of the settings
 wrote-by : (c : Settings) (s : Station) (pieces : List Piece) (x : Call) →

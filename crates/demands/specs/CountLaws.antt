@@ -15,10 +15,10 @@ use Rattle.protocol.specs.declared.Settings.{Settings}
 use Rattle.protocol.specs.declared.Refusal.the-variants.{ShortPart}
 use Rattle.sizes.specs.Sizes.{enough, enoughToFlush}
 use Rattle.lists.specs.declared.Held.{Held}
-use Rattle.session.specs.State.{State, Outcome, refused, done}
+use Rattle.session.specs.State.{State, Outcome, refused, done, withReceiving}
 use Rattle.session.specs.Valid.{valid}
 use Rattle.session.specs.Flushing.{Flushed}
-use Rattle.session.specs.Reading.{Reads, Part, readable, unreadable, frontCount, frontPart, lengthOf, messageSize, message, afterRead, withReceiving, reading, telling, showing}
+use Rattle.session.specs.Reading.{Reads, Part, readable, unreadable, frontCount, frontPart, lengthOf, messageSize, message, afterRead, reading, telling, showing}
 use Rattle.session.specs.Decides.{All, and-parts}
 use Rattle.session.specs.AllLaws.{all-left}
 use Rattle.session.specs.IsValid.{IsValid, valid-decides}

@@ -17,11 +17,11 @@ use Rattle.wire.specs.declared.Header.{Header}
 use Rattle.datagram.specs.declared.Verdict.{Verdict}
 use Rattle.datagram.specs.declared.Verdict.the-variants as verdict
 use Rattle.datagram.specs.Datagrams.{Segment, ofPush, verdict, segmentOf, Parsed, inFront, tail, walk, parse}
-use Rattle.session.specs.State.{State, Outcome, sendHeld, slots}
+use Rattle.session.specs.State.{State, Outcome, sendHeld, slots, withQueued, withReceiving}
 use Rattle.session.specs.Cutting.{fragmentCount}
-use Rattle.session.specs.Sending.{Sends, withQueued, sending}
+use Rattle.session.specs.Sending.{Sends, sending}
 use Rattle.session.specs.Input.{Took, taking, input}
-use Rattle.session.specs.Reading.{Reads, readable, unreadable, messageSize, message, afterRead, withReceiving, reading, telling}
+use Rattle.session.specs.Reading.{Reads, readable, unreadable, messageSize, message, afterRead, reading, telling}
 use Rattle.session.specs.Calls.{Station, Call, Answer, afterSend, afterTakeIn, afterReading, own}
 use Rattle.session.specs.Decides.{and-parts}
 use Rattle.delivery.specs.CallCases.{placing}

@@ -14,12 +14,12 @@ use Rattle.protocol.specs.declared.Settings.{Settings}
 use Rattle.protocol.specs.declared.Refusal.the-variants.{ShortPart}
 use Rattle.sizes.specs.Sizes.{enough, enoughToFlush}
 use Rattle.sizes.specs.declared.Lengths.{Lengths}
-use Rattle.session.specs.State.{State, Outcome}
+use Rattle.session.specs.State.{State, Outcome, withReceiving}
 use Rattle.session.specs.Valid.{valid}
 use Rattle.session.specs.Sending.{Sends, sending}
 use Rattle.session.specs.Input.{Took, input}
 use Rattle.session.specs.Flushing.{Flushed, flushing, bytesOfSegments}
-use Rattle.session.specs.Reading.{Reads, readable, unreadable, messageSize, message, afterRead, withReceiving, reading}
+use Rattle.session.specs.Reading.{Reads, readable, unreadable, messageSize, message, afterRead, reading}
 use Rattle.session.specs.Calls.{Call, Answer, Stepped, afterSend, afterTakeIn, afterFlush, afterReading, own, step}
 use Rattle.control.specs.Views.{stateOf, countsFit, blockValid}
 use Rattle.records.specs.TableLaws.{scattered-length}

@@ -17,9 +17,9 @@ use Rattle.protocol.specs.declared.Refusal.{Refusal}
 use Rattle.sizes.specs.Sizes.{enough}
 use Rattle.sizes.specs.declared.Lengths.{Lengths}
 use Rattle.lists.specs.declared.Held.{Held}
-use Rattle.session.specs.State.{State, Outcome, refused, done}
+use Rattle.session.specs.State.{State, Outcome, refused, done, withReceiving}
 use Rattle.session.specs.Input.{Took, input}
-use Rattle.session.specs.Reading.{Reads, readable, unreadable, frontCount, payloadIn, joinedIn, lengthOf, messageSize, message, afterRead, withReceiving, reading, telling}
+use Rattle.session.specs.Reading.{Reads, readable, unreadable, frontCount, payloadIn, joinedIn, lengthOf, messageSize, message, afterRead, reading, telling}
 use Rattle.session.specs.Decides.{All, and-parts}
 use Rattle.session.specs.IsValid.{IsValid}
 use Rattle.control.specs.declared.Link.{Link}

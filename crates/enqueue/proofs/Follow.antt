@@ -7,9 +7,9 @@ use native.Mathlib.Omega.{arith}
 use borrow.Author.Tests.{lt-ltb, le-ltb}
 use lib.ListN.{length}
 use Rattle.protocol.specs.declared.Refusal.the-variants.{LongMessage, NoFreeSlots}
-use Rattle.session.specs.State.{State, refused, done, sendHeld, slots}
+use Rattle.session.specs.State.{State, refused, done, sendHeld, slots, withQueued}
 use Rattle.session.specs.Cutting.{fragmentCount, pieces, cut}
-use Rattle.session.specs.Sending.{place, sending, withQueued}
+use Rattle.session.specs.Sending.{place, sending}
 use Rattle.answers.specs.declared.Answer.the-variants.{Accepted, Refused}
 use Rattle.enqueue.specs.Enqueueing.{Marked, Fills, PartsOf, Follows}
 use Rattle.enqueue.proofs.Counts.{count-one}

@@ -20,7 +20,7 @@ use Rattle.lists.specs.declared.Held.{Held}
 use Rattle.lists.specs.declared.Sent.{Sent}
 use Rattle.lists.specs.declared.Acknowledges.{Acknowledges}
 use Rattle.lists.specs.declared.Acknowledges.the-variants as by
-use Rattle.session.specs.State.{State, Sending, sendHeld, slots}
+use Rattle.session.specs.State.{State, Sending, sendHeld, slots, withWindow, withOutstanding}
 use Rattle.session.specs.Slots.{occurs}
 use Rattle.session.specs.Valid.{valid, sendingValid, receivingValid, probeFits}
 use Rattle.session.specs.Decides.{All, and-parts}
@@ -28,7 +28,7 @@ use Rattle.session.specs.AllLaws.{all-mapped}
 use Rattle.session.specs.Once.{Distinct, once-distinct, distinct-once}
 use Rattle.session.specs.SendingValid.{sending-decides}
 use Rattle.session.specs.Flushing.{numbered, numberedCount, withNumbered, sentAfter, flushing}
-use Rattle.session.specs.Input.{acknowledged, withWindow, sampledBy, heardBySending, allBySending, furthest, skipped, skippedByAll, ackNumbers, applied}
+use Rattle.session.specs.Input.{acknowledged, sampledBy, heardBySending, allBySending, furthest, skipped, skippedByAll, ackNumbers, applied}
 use Rattle.records.specs.TableLaws.{AllBelow}
 use Rattle.from_cores.proofs.Scattered.{SlotsFit, slotsOf}
 
@@ -186,7 +186,7 @@ unfolding skipped
 fit-skipped s n f = go (not (isBefore n (s .una)) && isBefore n (s .next))
   where
     more : Sending
-    more = record { una = s .una; next = s .next; queued = s .queued; outstanding = map (skipBefore n) (s .outstanding); window = s .window; roundTrip = s .roundTrip }
+    more = withOutstanding s (s .una) (map (skipBefore n) (s .outstanding))
 
     go : (b : Bool) → OutFit (cond b more s)
     go true = rw (same-slots (skipBefore n) (skip-held n) (s .outstanding)) f

@@ -4,14 +4,20 @@ use mathlib.Core.Path.{_≡_}
 use mathlib.Core.Bool.{cond}
 use mathlib.Core.List.{List}
 use Prim.Native.Nat.{ℕ}
-use lib.ListN.{take}
+use lib.ListN.{length, take}
 use Rattle.lists.specs.declared.Held.{Held}
 use Rattle.session.specs.State.{Outcome, refused, done}
+use Rattle.session.specs.Flushing.{Flushed}
 use Rattle.session.specs.Reading.{readable, unreadable, frontCount, lengthOf}
+use Rattle.session.specs.Updating.{Updates, waits, flushes}
 use Rattle.answers.specs.declared.Answer.{Answer}
 use Rattle.answers.specs.declared.Answer.the-variants as answer
 use Rattle.answers.specs.declared.Count.{Count}
 use Rattle.answers.specs.declared.Count.the-variants as count
+use Rattle.answers.specs.declared.Update.{Update}
+use Rattle.answers.specs.declared.Update.the-variants as update
+use Rattle.answers.specs.declared.Time.{Time}
+use Rattle.answers.specs.declared.Time.the-variants as time
 
 -- accepted, or the refusal (its number in document 01 is `numberOf`)
 abbrev pub Accepts : {A : Type 0} → Answer → Outcome A → Type 0
@@ -27,6 +33,17 @@ Counts size a (done x) = a ≡ count.Of (size x)
 abbrev pub countOutcome : Count → Outcome ℕ
 countOutcome (count.Of n) = done n
 countOutcome (count.Refused r) = refused r
+
+-- that an update waited, the number of its datagrams, or the refusal
+abbrev pub updateAnswer : Outcome Updates → Update
+updateAnswer (refused r) = update.Refused r
+updateAnswer (done (waits s)) = update.Waited
+updateAnswer (done (flushes x)) = update.Wrote (length (x .datagrams))
+
+-- the time that a check names, or the refusal
+abbrev pub timeOutcome : Time → Outcome ℕ
+timeOutcome (time.At t) = done t
+timeOutcome (time.Refused r) = refused r
 
 -- the size of the message at the front of what is ready
 unfoldable pub sizeOf : List Held → Outcome ℕ

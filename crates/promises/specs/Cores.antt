@@ -14,11 +14,14 @@ use Rattle.session.specs.Sending.{Sends}
 use Rattle.session.specs.Input.{Took}
 use Rattle.session.specs.Flushing.{Flushed, bytesOfSegments}
 use Rattle.session.specs.Reading.{Reads}
+use Rattle.session.specs.Updating.{Updates, waits, flushes}
 use Rattle.packing.specs.Packers.{Output}
 use Rattle.answers.specs.declared.Answer.{Answer}
 use Rattle.answers.specs.declared.Answer.the-variants as answer
 use Rattle.answers.specs.declared.Count.{Count}
 use Rattle.answers.specs.declared.Count.the-variants as count
+use Rattle.answers.specs.declared.Update.{Update}
+use Rattle.answers.specs.declared.Update.the-variants as update
 use Rattle.control.specs.Views.{stateOf, countsFit}
 use Rattle.control.specs.declared.Link.{Link}
 use Rattle.promises.specs.Parts.{outstandingSlots}
@@ -108,6 +111,27 @@ pub record NoFlush (r : Refusal) (l : Link) (out lengths : List ℕ) (a : Count)
 abbrev pub FlushCore : Outcome Flushed → Link → List ℕ → List ℕ → List ℕ → Count → Link → PutBack → List ℕ → List ℕ → Type 0
 FlushCore (refused r) l acks out lengths a l′ b out′ lengths′ = NoFlush r l out lengths a l′ b out′ lengths′
 FlushCore (done x) l acks out lengths a l′ b out′ lengths′ = Flushes x acks out lengths a l′ b out′ lengths′
+
+-- ---- an update
+
+-- it waits: the records of the outstanding segments stay where they are, and nothing is written
+pub record Waits (s : State) (l : Link) (records : List Record) (acks out lengths : List ℕ)
+    (a : Update) (l′ : Link) (b : PutBack) (out′ lengths′ : List ℕ) : Type 0 where
+  pub answer : a ≡ update.Waited
+  pub counts : countsFit l′ ≡ true
+  pub state : stateOf l′ records acks ≡ s
+  pub slots : outstandingSlots l′ ≡ outstandingSlots l
+  pub puts : PutsNothing b
+  pub output : out′ ≡ out
+  pub sizes : lengths′ ≡ lengths
+
+-- refused as a flush; done, it waits or leaves what its flush does
+abbrev pub UpdateCore : Outcome Updates → Link → List Record → List ℕ → List ℕ → List ℕ → Update → Link → PutBack → List ℕ → List ℕ → Type 0
+UpdateCore (refused r) l records acks out lengths a l′ b out′ lengths′ =
+    (a ≡ update.Refused r) × NoFlush r l out lengths (count.Refused r) l′ b out′ lengths′
+UpdateCore (done (waits s)) l records acks out lengths a l′ b out′ lengths′ = Waits s l records acks out lengths a l′ b out′ lengths′
+UpdateCore (done (flushes x)) l records acks out lengths a l′ b out′ lengths′ =
+    (a ≡ update.Wrote (length (x .datagrams))) × Flushes x acks out lengths (count.Of (length (x .datagrams))) l′ b out′ lengths′
 
 -- ---- reading: the receiving half and the buffer alone change
 

@@ -13,6 +13,7 @@ use Rattle.session.specs.Sending.{Sends, sending}
 use Rattle.session.specs.Input.{Took, input}
 use Rattle.session.specs.Flushing.{Flushed, flushing}
 use Rattle.session.specs.Reading.{Reads, reading, telling, Part, showing}
+use Rattle.session.specs.Updating.{Updates, updating, checking}
 use Rattle.timing.specs.declared.Record.{Record}
 use Rattle.sizes.specs.declared.Lengths.{Lengths}
 use Rattle.control.specs.Views.{stateOf, blockValid}
@@ -55,6 +56,15 @@ module _ (l : Link) (records : List Record) (acks : List ℕ) (n : Lengths) wher
   unfoldable pub showsWith : Outcome Part
   showsWith = ownChecked (showing (stateOf l records acks))
 
+  -- an update at t: refused as a flush is, whether or not it flushes
+  unfoldable pub updatesWith : List ℕ → ℕ → ℕ → ℕ → Outcome Updates
+  updatesWith pool output lengths t =
+      checked (enoughToFlush (mss (l .settings)) n output lengths) (blockValid l records acks)
+      (done (updating (stateOf l records acks) t pool))
+
+  unfoldable pub checksWith : ℕ → Outcome ℕ
+  checksWith t = ownChecked (done (checking (stateOf l records acks) t))
+
 -- ---- by block and lent parts
 
 abbrev pub opens : Settings → Parts → Outcome State
@@ -74,6 +84,12 @@ reads l p = readsWith l (recordsOf l p) (p .acks) (lengthsOf p) (p .receivePool)
 
 abbrev pub tells : Link → Parts → Outcome ℕ
 tells l p = tellsWith l (recordsOf l p) (p .acks) (lengthsOf p)
+
+abbrev pub updates : Link → Parts → ℕ → ℕ → ℕ → Outcome Updates
+updates l p = updatesWith l (recordsOf l p) (p .acks) (lengthsOf p) (p .sendPool)
+
+abbrev pub checks : Link → Parts → ℕ → Outcome ℕ
+checks l p = checksWith l (recordsOf l p) (p .acks) (lengthsOf p)
 
 abbrev pub shows : Link → Parts → Outcome Part
 shows l p = showsWith l (recordsOf l p) (p .acks) (lengthsOf p)

@@ -14,14 +14,18 @@ use Rattle.session.specs.Sending.{Sends}
 use Rattle.session.specs.Input.{Took}
 use Rattle.session.specs.Flushing.{Flushed, bytesOfSegments}
 use Rattle.session.specs.Reading.{Reads, Part}
+use Rattle.session.specs.Updating.{Updates, waits, flushes}
 use Rattle.control.specs.declared.Link.{Link}
 use Rattle.records.specs.Tables.{scattered}
 use Rattle.packing.specs.Packers.{Output}
 use Rattle.answers.specs.declared.Answer.{Answer}
 use Rattle.answers.specs.declared.Count.{Count}
+use Rattle.answers.specs.declared.Update.{Update}
+use Rattle.answers.specs.declared.Time.{Time}
 use Rattle.promises.specs.Parts.{Parts, Stands, Unchanged}
-use Rattle.promises.specs.Outcomes.{opens, sends, takesIn, flushes, reads, tells, shows}
-use Rattle.promises.specs.Answers.{Accepts, Counts, countOutcome}
+use Rattle.promises.specs.Outcomes as outcomes
+use Rattle.promises.specs.Outcomes.{opens, sends, takesIn, reads, tells, shows, updates, checks}
+use Rattle.promises.specs.Answers.{Accepts, Counts, countOutcome, updateAnswer, timeOutcome}
 
 -- the table with the records of a state's outstanding segments at their slots: no other record changes
 abbrev pub tableOf : List Record → State → List Record
@@ -93,8 +97,30 @@ FlushLeaves (done x) l l′ p p′ out lengths out′ lengths′ = Flushes x l�
 
 -- a flush at t answers the number of its datagrams
 pub record FlushPromise (t : ℕ) (l : Link) (p : Parts) (out lengths : List ℕ) (a : Count) (l′ : Link) (p′ : Parts) (out′ lengths′ : List ℕ) : Type 0 where
-  pub answer : Counts (λ (x : Flushed). length (x .datagrams)) a (flushes l p (length out) (length lengths) t)
-  pub leaves : FlushLeaves (flushes l p (length out) (length lengths) t) l l′ p p′ out lengths out′ lengths′
+  pub answer : Counts (λ (x : Flushed). length (x .datagrams)) a (outcomes.flushes l p (length out) (length lengths) t)
+  pub leaves : FlushLeaves (outcomes.flushes l p (length out) (length lengths) t) l l′ p p′ out lengths out′ lengths′
+
+-- an update that waits: the block has the new current time and schedule; every lent byte and record is as it was
+pub record Waits (s : State) (l′ : Link) (p p′ : Parts) (out lengths out′ lengths′ : List ℕ) : Type 0 where
+  pub stands : Stands l′ p′ s
+  pub parts : p′ ≡ p
+  pub output : out′ ≡ out
+  pub sizes : lengths′ ≡ lengths
+
+abbrev pub UpdateLeaves : Outcome Updates → Link → Link → Parts → Parts → List ℕ → List ℕ → List ℕ → List ℕ → Type 0
+UpdateLeaves (refused r) l l′ p p′ out lengths out′ lengths′ = NoFlush l l′ p p′ out lengths out′ lengths′
+UpdateLeaves (done (waits s)) l l′ p p′ out lengths out′ lengths′ = Waits s l′ p p′ out lengths out′ lengths′
+UpdateLeaves (done (flushes x)) l l′ p p′ out lengths out′ lengths′ = Flushes x l′ p p′ out lengths out′ lengths′
+
+-- an update at t answers that it waited, or the number of its flush's datagrams
+pub record UpdatePromise (t : ℕ) (l : Link) (p : Parts) (out lengths : List ℕ)
+    (a : Update) (l′ : Link) (p′ : Parts) (out′ lengths′ : List ℕ) : Type 0 where
+  pub answer : a ≡ updateAnswer (updates l p (length out) (length lengths) t)
+  pub leaves : UpdateLeaves (updates l p (length out) (length lengths) t) l l′ p p′ out lengths out′ lengths′
+
+-- a check at t changes nothing
+pub record CheckPromise (t : ℕ) (l : Link) (p : Parts) (a : Time) : Type 0 where
+  pub answer : timeOutcome a ≡ checks l p t
 
 -- a message read: it stands at the start of the buffer, which is as it was beyond it; no lent part changes
 pub record ReadIt (x : Reads) (l′ : Link) (p p′ : Parts) (buffer buffer′ : List ℕ) : Type 0 where

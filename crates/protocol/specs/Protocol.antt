@@ -70,6 +70,10 @@ timeoutLeast = 100
 abbrev pub timeoutLeastFast : ℕ
 timeoutLeastFast = 30
 
+-- a next flush time so far from now is set to now
+abbrev pub clockJump : ℕ
+clockJump = 10000
+
 -- the link is dead after so many transmissions of a segment
 abbrev pub deadAfter : ℕ
 deadAfter = 20

@@ -58,6 +58,9 @@ impl Protocol {
 
     pub const TIMEOUT_LEAST_FAST: u32 = 30;
 
+    // A next flush time so far from now is set to now.
+    pub const CLOCK_JUMP: u32 = 10000;
+
     // Transmissions: the link is dead after this many, and a fast retransmission comes after at most so many.
     pub const DEAD_AFTER: u8 = 20;
 

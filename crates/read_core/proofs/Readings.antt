@@ -12,8 +12,8 @@ use Rattle.protocol.specs.declared.Refusal.{Refusal}
 use Rattle.protocol.specs.declared.Refusal.the-variants.{ShortPart}
 use Rattle.protocol.specs.declared.Settings.{Settings}
 use Rattle.timing.specs.declared.Record.{Record}
-use Rattle.session.specs.State.{State, Outcome, refused, done}
-use Rattle.session.specs.Reading.{Reads, reading, telling, readable, unreadable, frontCount, lengthOf, message, messageSize, afterRead, withReceiving}
+use Rattle.session.specs.State.{State, Outcome, refused, done, withReceiving}
+use Rattle.session.specs.Reading.{Reads, reading, telling, readable, unreadable, frontCount, lengthOf, message, messageSize, afterRead}
 use Rattle.words.specs.Words.{heldIn}
 use Rattle.answers.specs.declared.Count.{Count}
 use Rattle.answers.specs.declared.Count.the-variants.{Of, Refused}

@@ -19,9 +19,9 @@ use Rattle.lists.specs.declared.Held.{Held}
 use Rattle.sizes.specs.Sizes.{enough}
 use Rattle.sizes.specs.declared.Lengths.{Lengths}
 use Rattle.session.specs.Decides.{and-parts}
-use Rattle.session.specs.State.{State, Outcome, refused, done, sendHeld, slots}
+use Rattle.session.specs.State.{State, Outcome, refused, done, sendHeld, slots, withQueued}
 use Rattle.session.specs.Cutting.{fragmentCount, cut}
-use Rattle.session.specs.Sending.{Sends, sending, withQueued, place}
+use Rattle.session.specs.Sending.{Sends, sending, place}
 use Rattle.session.specs.Valid.{valid}
 use Rattle.session.specs.IsValid.{settings-decide}
 use Rattle.slots.specs.Slots.{slotsOf}

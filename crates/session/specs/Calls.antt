@@ -16,6 +16,7 @@ use Rattle.session.specs.Sending.{Sends, sending}
 use Rattle.session.specs.Input.{Took, input}
 use Rattle.session.specs.Flushing.{Flushed, flushing, bytesOfSegments}
 use Rattle.session.specs.Reading.{Reads, reading}
+use Rattle.session.specs.Updating.{Updates, waits, flushes, updating, checking}
 
 -- the lengths of the lent parts that a link's state does not hold: records, ack list, and a flush's output and lengths
 pub record Lent : Type 0 where
@@ -40,15 +41,23 @@ pub data Call : Type 0 where
   flush : ℕ → Call
   -- read into a buffer that long
   read : ℕ → Call
+  -- update at a time: a flush, or a new current time alone
+  update : ℕ → Call
+  -- name the time at which the next update is wanted
+  check : ℕ → Call
 
 pub data Answer : Type 0 where
   refused : Refusal → Answer
   -- a message sent, or a datagram taken in
   accepted : Answer
-  -- a flush's datagrams
+  -- a flush's datagrams, or those of an update that flushes
   wrote : List (List ℕ) → Answer
   -- the message read
   message : List ℕ → Answer
+  -- an update that does not flush
+  waited : Answer
+  -- the time that a check names
+  named : ℕ → Answer
 
 -- a station after a call, and the call's answer
 pub record Stepped : Type 0 where
@@ -84,12 +93,19 @@ abbrev pub afterReading : Station → Outcome Reads → Stepped
 afterReading s (Outcome.refused r) = record { station = s; answer = Answer.refused r }
 afterReading s (Outcome.done x) = record { station = record { state = x .state; sendPool = s .sendPool; receivePool = s .receivePool; lent = s .lent }; answer = message (x .bytes) }
 
+abbrev pub afterUpdate : Station → Updates → Stepped
+afterUpdate s (waits x) =
+    record { station = record { state = x; sendPool = s .sendPool; receivePool = s .receivePool; lent = s .lent }; answer = waited }
+afterUpdate s (flushes x) = afterFlush s x
+
 -- what the call itself does
 abbrev pub own : Station → Call → Stepped
 own s (send m) = afterSend s (sending (s .state) (s .sendPool) m)
 own s (takeIn d) = afterTakeIn s (input (s .state) (s .receivePool) d)
 own s (flush t) = afterFlush s (flushing (s .state) t (s .sendPool))
 own s (read room) = afterReading s (reading (s .state) (s .receivePool) room)
+own s (update t) = afterUpdate s (updating (s .state) t (s .sendPool))
+own s (check t) = record { station = s; answer = named (checking (s .state) t) }
 
 -- whether the lent parts are as long as the call asks
 abbrev pub longEnough : Station → Call → Bool
@@ -97,6 +113,8 @@ longEnough s (send m) = enough (mss (s .state .settings)) (lengthsOf s)
 longEnough s (takeIn d) = enough (mss (s .state .settings)) (lengthsOf s)
 longEnough s (flush t) = enoughToFlush (mss (s .state .settings)) (lengthsOf s) (s .lent .output) (s .lent .lengths)
 longEnough s (read room) = enough (mss (s .state .settings)) (lengthsOf s)
+longEnough s (update t) = enoughToFlush (mss (s .state .settings)) (lengthsOf s) (s .lent .output) (s .lent .lengths)
+longEnough s (check t) = enough (mss (s .state .settings)) (lengthsOf s)
 
 unfoldable pub step : Station → Call → Stepped
 step s x = checked (longEnough s x) (valid (s .state)) (own s x) s
@@ -124,9 +142,13 @@ acceptedBy (send m) accepted = m ∷ []
 acceptedBy (send m) (Answer.refused r) = []
 acceptedBy (send m) (wrote ds) = []
 acceptedBy (send m) (message b) = []
+acceptedBy (send m) waited = []
+acceptedBy (send m) (named t) = []
 acceptedBy (takeIn d) a = []
 acceptedBy (flush t) a = []
 acceptedBy (read room) a = []
+acceptedBy (update t) a = []
+acceptedBy (check t) a = []
 
 unfoldable pub acceptedList : List Event → List (List ℕ)
 acceptedList [] = []
@@ -138,6 +160,8 @@ datagramsIn (wrote ds) = ds
 datagramsIn accepted = []
 datagramsIn (Answer.refused r) = []
 datagramsIn (message b) = []
+datagramsIn waited = []
+datagramsIn (named t) = []
 
 unfoldable pub datagramsBy : List Event → List (List ℕ)
 datagramsBy [] = []
@@ -153,6 +177,8 @@ readAnswers (e ∷ es) = ofRead (e .call) (e .answer) ++ readAnswers es
     ofRead (send m) a = []
     ofRead (takeIn d) a = []
     ofRead (flush t) a = []
+    ofRead (update t) a = []
+    ofRead (check t) a = []
 
 -- the messages read
 unfoldable pub messagesRead : List Answer → List (List ℕ)
@@ -161,3 +187,5 @@ messagesRead (message b ∷ l) = b ∷ messagesRead l
 messagesRead (accepted ∷ l) = messagesRead l
 messagesRead (Answer.refused r ∷ l) = messagesRead l
 messagesRead (wrote ds ∷ l) = messagesRead l
+messagesRead (waited ∷ l) = messagesRead l
+messagesRead (named t ∷ l) = messagesRead l

@@ -18,7 +18,7 @@ use Rattle.timing.specs.Probes.{nextClock}
 use Rattle.timing.specs.declared.Record.{Record}
 use Rattle.lists.specs.declared.Held.{Held}
 use Rattle.lists.specs.declared.Sent.{Sent}
-use Rattle.session.specs.State.{State, Sending, Receiving, Ack}
+use Rattle.session.specs.State.{State, Sending, Receiving, Ack, withNumbers, withNotes, afterFlushing}
 
 -- ---- numbering
 
@@ -161,21 +161,8 @@ flushing s t pool =
     let sent = transmittedNow c (d .roundTrip .timeout) t before in
     let probed = nextClock (s .probe) t (d .window) in
     record {
-      state = record {
-        settings = c;
-        sending = record {
-          una = d .una;
-          next = plus (d .next) k;
-          queued = drop k (d .queued);
-          outstanding = map (sentAfter c (d .roundTrip .timeout) t) before;
-          window = d .window;
-          roundTrip = d .roundTrip;
-        };
-        receiving = record { next = r .next; ready = r .ready; waiting = r .waiting; acks = []; tell = false };
-        probe = probed .clock;
-        current = t;
-        ask = false;
-        dead = s .dead || someDead sent;
-      };
+      state =
+          afterFlushing s (withNumbers d (plus (d .next) k) (drop k (d .queued)) (map (sentAfter c (d .roundTrip .timeout) t) before))
+          (withNotes r [] false) (probed .clock) t (s .dead || someDead sent);
       datagrams = packed (c .mtu) (written s t pool (s .ask || probed .ask) sent);
     }

@@ -13,8 +13,8 @@ use Rattle.lists.specs.declared.Acknowledges.the-variants as by
 use Rattle.lists.specs.Acknowledging as rule
 use Rattle.lists.specs.Acknowledging.{keep, firstNumberOr}
 use Rattle.lists.specs.AcknowledgingLaws.{select-same, keep-both}
-use Rattle.session.specs.State.{Sending}
-use Rattle.session.specs.Input.{acknowledged, acknowledges, withWindow, sampledBy, heardBySending}
+use Rattle.session.specs.State.{Sending, withWindow}
+use Rattle.session.specs.Input.{acknowledged, acknowledges, sampledBy, heardBySending}
 
 -- neither of two
 neither : (a b : Bool) → (not a && not b) ≡ not (a || b)

@@ -24,7 +24,7 @@ use Rattle.lists.specs.Receiving.{advance}
 use Rattle.lists.specs.Acknowledging.{removed, firstNumberOr, skipBefore}
 use Rattle.lists.specs.Acknowledging as rule
 use Rattle.session.specs.Slots.{lowestFree}
-use Rattle.session.specs.State.{State, Sending, Receiving, Ack, Outcome, receiveHeld, slots}
+use Rattle.session.specs.State.{State, Sending, Receiving, Ack, Outcome, receiveHeld, slots, withOutstanding, withWindow, withRoundTrip, withLists, withNotes, withHalves}
 
 -- ---- the sending half
 
@@ -33,29 +33,18 @@ use Rattle.session.specs.State.{State, Sending, Receiving, Ack, Outcome,
 unfoldable pub acknowledged : Acknowledges → Sending → Sending
 acknowledged arrival s =
     let left = removed (s .next) arrival (s .outstanding) in
-    record { una = firstNumberOr left (s .next); next = s .next; queued = s .queued; outstanding = left; window = s .window; roundTrip = s .roundTrip }
-
--- the segment's window is the peer's last window
-abbrev pub withWindow : ℕ → Sending → Sending
-withWindow w s = record { una = s .una; next = s .next; queued = s .queued; outstanding = s .outstanding; window = w; roundTrip = s .roundTrip }
+    withOutstanding s (firstNumberOr left (s .next)) left
 
 -- if current - ts is 0 or more, that is a sample
 unfoldable pub sampledBy : Settings → ℕ → ℕ → Sending → Sending
 sampledBy c current ts s =
-    record {
-      una = s .una;
-      next = s .next;
-      queued = s .queued;
-      outstanding = s .outstanding;
-      window = s .window;
-      roundTrip = cond (isDue current ts) (sampled (s .roundTrip) c (minus current ts)) (s .roundTrip);
-    }
+    withRoundTrip s (cond (isDue current ts) (sampled (s .roundTrip) c (minus current ts)) (s .roundTrip))
 
 -- whether a segment acknowledges the number n, by its una or, if it is an ack, by its sn
 abbrev pub acknowledges : ℕ → Header → ℕ → Bool
 acknowledges next h n = rule.acknowledged next (by.Una (h .una)) n || eqb (h .cmd) ack && rule.acknowledged next (by.Ack (h .sn)) n
 
--- each segment: take its window; una removes; then an ack: the sample, and the segment sn is removed
+-- each segment: its window is the peer's last window; una removes; then an ack: the sample, and the segment sn is removed
 unfoldable pub heardBySending : Settings → ℕ → Sending → Header → Sending
 heardBySending c current s h =
     let passed = acknowledged (by.Una (h .una)) (withWindow (h .wnd) s) in
@@ -86,7 +75,7 @@ kept m x g =
     let slot = lowestFree (slots (receiveHeld r)) receiveSlots in
     let w : Waiting = record { number = g .header .sn; held = record { slot = slot; len = g .header .len; fragment = g .header .frg } } in
     record {
-      half = record { next = r .next; ready = r .ready; waiting = insert (waitingOffset (r .next)) w (r .waiting); acks = r .acks; tell = r .tell };
+      half = withLists r (r .next) (r .ready) (insert (waitingOffset (r .next)) w (r .waiting));
       pool = sets (x .pool) (slot * m) (g .payload);
     }
 
@@ -94,15 +83,14 @@ kept m x g =
 abbrev pub movedUp : Receiving → Receiving
 movedUp r =
     let u = advance (r .next) (r .ready) (r .waiting) in
-    record { next = u .next; ready = u .ready; waiting = u .waiting; acks = r .acks; tell = r .tell }
+    withLists r (u .next) (u .ready) (u .waiting)
 
 abbrev pub movedUpIn : Receiver → Receiver
 movedUpIn x = record { half = movedUp (x .half); pool = x .pool }
 
 abbrev pub withAcks : List Ack → Receiver → Receiver
 withAcks l x =
-    let r = x .half in
-    record { half = record { next = r .next; ready = r .ready; waiting = r .waiting; acks = l; tell = r .tell }; pool = x .pool }
+    record { half = withNotes (x .half) l (x .half .tell); pool = x .pool }
 
 -- a push: if sn is before rcv_nxt + 128, note an ack; if sn is also new, keep it. Then segments become ready
 unfoldable pub pushed : ℕ → Receiver → Segment → Receiver
@@ -117,8 +105,7 @@ pushed m x g =
 -- an ask: a tell is wanted
 abbrev pub asked : Receiver → Receiver
 asked x =
-    let r = x .half in
-    record { half = record { next = r .next; ready = r .ready; waiting = r .waiting; acks = r .acks; tell = true }; pool = x .pool }
+    record { half = withNotes (x .half) (x .half .acks) true; pool = x .pool }
 
 -- a push or an ask; acks and tells change nothing here
 unfoldable pub heardByReceiving : ℕ → Receiver → Segment → Receiver
@@ -151,7 +138,7 @@ furthest n (k ∷ l) = furthest (cond (isAfter k n) k n) l
 unfoldable pub skipped : Sending → ℕ → Sending
 skipped s n =
     cond (not (isBefore n (s .una)) && isBefore n (s .next))
-    (record { una = s .una; next = s .next; queued = s .queued; outstanding = map (skipBefore n) (s .outstanding); window = s .window; roundTrip = s .roundTrip })
+    (withOutstanding s (s .una) (map (skipBefore n) (s .outstanding)))
     s
 
 -- if acks came
@@ -171,15 +158,7 @@ applied s pool gs =
     let c = s .settings in
     let x = allByReceiving (mss c) (record { half = s .receiving; pool = pool }) gs in
     record {
-      state = record {
-        settings = c;
-        sending = skippedByAll (allBySending c (s .current) (s .sending) gs) (ackNumbers gs);
-        receiving = x .half;
-        probe = s .probe;
-        current = s .current;
-        ask = s .ask;
-        dead = s .dead;
-      };
+      state = withHalves s (skippedByAll (allBySending c (s .current) (s .sending) gs) (ackNumbers gs)) (x .half);
       pool = x .pool;
     }
 

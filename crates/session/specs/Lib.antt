@@ -14,6 +14,7 @@ pub mod Flushing
 pub mod HeardLaws
 pub mod Input
 pub mod Reading
+pub mod Updating
 pub mod Calls
 pub mod Marked
 pub mod IsValid

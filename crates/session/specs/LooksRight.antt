@@ -19,7 +19,7 @@ use Rattle.lists.specs.Orders.{insert, isHeld}
 use Rattle.lists.specs.Receiving.{advance}
 use Rattle.lists.specs.Acknowledging.{select, firstNumberOr, skipBefore}
 use Rattle.session.specs.Slots.{occurs, lowestFrom, lowestFree}
-use Rattle.session.specs.State.{Sending, Receiving, Outcome}
+use Rattle.session.specs.State.{Sending, Receiving, Outcome, withNumbers, withLists, withNotes, withSending}
 use Rattle.session.specs.Opening.{opened}
 use Rattle.session.specs.Input.{Receiver, Took, acknowledged, applied, allByReceiving, heardByReceiving, sampledBy, heardBySending, allBySending, ackNumbers, furthest, skipped, skippedByAll, pushed, input}
 
@@ -33,7 +33,7 @@ segment cmd fragment sn = record { header = record { conv = 1; cmd = cmd; frg = 
 
 -- the last number is expected next, and pushes come with these numbers
 unfoldable pub afterLast : List ℕ → Receiving
-afterLast sns = after (record { half = record { next = 4294967295; ready = []; waiting = []; acks = []; tell = false }; pool = [] }) sns .half
+afterLast sns = after (record { half = withLists (opened small .receiving) 4294967295 [] []; pool = [] }) sns .half
   where
     after : Receiver → List ℕ → Receiver
     after x [] = x
@@ -42,7 +42,7 @@ afterLast sns = after (record { half = record { next = 4294967295; ready = []; w
 -- number 0 comes after 4,294,967,295: it is noted and kept, and both are ready once that one comes too
 pub kept-past-last : (map (λ (w : Waiting). w .number) (afterLast (0 ∷ []) .waiting) ≡ 0 ∷ []) × (length (afterLast (0 ∷ []) .acks) ≡ 1)
     × (length (afterLast (0 ∷ 4294967295 ∷ []) .ready) ≡ 2) × (afterLast (0 ∷ 4294967295 ∷ []) .next ≡ 1)
-unfolding afterLast pushed insert isHeld advance lowestFree lowestFrom occurs signed isBefore
+unfolding afterLast pushed insert isHeld advance lowestFree lowestFrom occurs signed isBefore opened
 kept-past-last = (refl, refl, refl, refl)
 
 -- ---- a skip per ack
@@ -53,14 +53,7 @@ sentAs n = record { held = record { slot = n; len = 0; fragment = 0 }; transmiss
 -- outstanding 0 to 3
 abbrev four : Sending
 four =
-    record {
-      una = 0;
-      next = 4;
-      queued = [];
-      outstanding = sentAs 0 ∷ sentAs 1 ∷ sentAs 2 ∷ sentAs 3 ∷ [];
-      window = 128;
-      roundTrip = opened small .sending .roundTrip;
-    }
+    withNumbers (opened small .sending) 4 [] (sentAs 0 ∷ sentAs 1 ∷ sentAs 2 ∷ sentAs 3 ∷ [])
 
 -- the sending half after datagrams of these acks
 unfoldable pub afterAcks : Sending → List (List ℕ) → Sending
@@ -87,10 +80,7 @@ afterAhead =
       header = record { conv = 1; cmd = push; frg = 0; wnd = 7; ts = 5; sn = 0; una = 900; len = 2 };
       payload = 104 ∷ 105 ∷ [];
     } in
-    let s = opened small in
-    applied
-    (record { settings = small; sending = four; receiving = s .receiving; probe = s .probe; current = 0; ask = false; dead = false })
-    (replicate 52 0) (g ∷ [])
+    applied (withSending (opened small) four) (replicate 52 0) (g ∷ [])
 
 -- nothing is removed
 pub none-removed : (map (λ (x : Sent). x .record .number) (afterAhead .state .sending .outstanding) ≡ 0 ∷ 1 ∷ 2 ∷ 3 ∷ []) × (afterAhead .state .sending .una ≡ 0)
@@ -106,14 +96,14 @@ rest-taken = (refl, refl, refl, refl)
 -- ---- refusing data when the ack list is full
 
 abbrev fullList : Receiving
-fullList = record { next = 0; ready = []; waiting = []; acks = replicate acksMost (record { sn = 0; ts = 0 }); tell = false }
+fullList = withNotes (opened small .receiving) (replicate acksMost (record { sn = 0; ts = 0 })) false
 
 abbrev afterPush : Receiving
 afterPush = pushed 26 (record { half = fullList; pool = [] }) (segment push 0 0) .half
 
 -- no ack is noted, and the data is taken
 pub still-taken : (length (afterPush .acks) ≡ 256) × (length (afterPush .ready) ≡ 1) × (afterPush .next ≡ 1)
-unfolding pushed insert isHeld advance lowestFree lowestFrom occurs signed isBefore
+unfolding pushed insert isHeld advance lowestFree lowestFrom occurs signed isBefore opened
 still-taken = (refl, refl, refl)
 
 -- ---- applying segments until the bad one

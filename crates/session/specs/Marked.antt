@@ -25,7 +25,7 @@ use Rattle.lists.specs.Orders.{insert, isHeld}
 use Rattle.lists.specs.Receiving.{advance}
 use Rattle.lists.specs.declared.Waiting.{Waiting}
 use Rattle.session.specs.Slots.{occurs, lowestFrom, lowestFree}
-use Rattle.session.specs.State.{State, Sending, Receiving, Ack, Outcome}
+use Rattle.session.specs.State.{State, Sending, Receiving, Ack, Outcome, withReceiving, withNotes}
 use Rattle.session.specs.Opening.{opened}
 use Rattle.session.specs.Cutting.{fragmentCount, pieces, cut}
 use Rattle.session.specs.Sending.{Sends, sending, place, Placed}
@@ -132,15 +132,7 @@ abbrev withThreeAcks : State
 withThreeAcks =
     let s = opened small in
     let a : Ack = record { sn = 0; ts = 0 } in
-    record {
-      settings = s .settings;
-      sending = s .sending;
-      receiving = record { next = 0; ready = []; waiting = []; acks = a ∷ a ∷ a ∷ []; tell = false };
-      probe = s .probe;
-      current = 0;
-      ask = false;
-      dead = false;
-    }
+    withReceiving s (withNotes (s .receiving) (a ∷ a ∷ a ∷ []) false)
 
 unfoldable pub cases : List Case
 cases =

@@ -19,6 +19,7 @@ opened c =
       receiving = record { next = 0; ready = []; waiting = []; acks = []; tell = false };
       probe = record { wait = 0; due = 0 };
       current = 0;
+      schedule = record { next = 0; made = false };
       ask = false;
       dead = false;
     }

@@ -11,7 +11,7 @@ use Rattle.protocol.specs.declared.Refusal.{Refusal}
 use Rattle.protocol.specs.declared.Refusal.the-variants.{ShortPart, FullUnreadable, NoMessage}
 use Rattle.lists.specs.declared.Held.{Held}
 use Rattle.session.specs.Input.{movedUp}
-use Rattle.session.specs.State.{State, Receiving, Outcome, refused, done}
+use Rattle.session.specs.State.{State, Receiving, Outcome, refused, done, withLists, withNotes, withReceiving}
 
 -- the segments of the message at the front: the front segment's fragment number plus 1
 abbrev pub frontCount : List Held → ℕ
@@ -51,18 +51,8 @@ messageSize r = lengthOf (take (frontCount (r .ready)) (r .ready))
 -- reading frees the message's segments, moves waiting segments up, and wants a tell if 128 were ready before and fewer after
 unfoldable pub afterRead : Receiving → Receiving
 afterRead r =
-    let moved = movedUp (record { next = r .next; ready = drop (frontCount (r .ready)) (r .ready); waiting = r .waiting; acks = r .acks; tell = r .tell }) in
-    record {
-      next = moved .next;
-      ready = moved .ready;
-      waiting = moved .waiting;
-      acks = moved .acks;
-      tell = moved .tell || eqb (length (r .ready)) receiveWindow && ltb (length (moved .ready)) receiveWindow;
-    }
-
-abbrev pub withReceiving : State → Receiving → State
-withReceiving s r =
-    record { settings = s .settings; sending = s .sending; receiving = r; probe = s .probe; current = s .current; ask = s .ask; dead = s .dead }
+    let moved = movedUp (withLists r (r .next) (drop (frontCount (r .ready)) (r .ready)) (r .waiting)) in
+    withNotes moved (moved .acks) (moved .tell || eqb (length (r .ready)) receiveWindow && ltb (length (moved .ready)) receiveWindow)
 
 -- what a read gives: the state after it, and the message
 pub record Reads : Type 0 where

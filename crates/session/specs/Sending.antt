@@ -11,7 +11,7 @@ use Rattle.protocol.specs.Ranges.{mss}
 use Rattle.protocol.specs.declared.Refusal.the-variants.{LongMessage, NoFreeSlots}
 use Rattle.lists.specs.declared.Held.{Held}
 use Rattle.session.specs.Slots.{lowestFree}
-use Rattle.session.specs.State.{State, Sending, Outcome, refused, done, sendHeld, slots}
+use Rattle.session.specs.State.{State, Outcome, refused, done, sendHeld, slots, withQueued}
 use Rattle.session.specs.Cutting.{fragmentCount, cut}
 
 -- segments placed in slots of the send pool
@@ -31,25 +31,6 @@ place m used pool (p ∷ ps) =
 pub record Sends : Type 0 where
   pub state : State
   pub pool : List ℕ
-
-abbrev pub withQueued : State → List Held → State
-withQueued s q =
-    record {
-      settings = s .settings;
-      sending = record {
-        una = s .sending .una;
-        next = s .sending .next;
-        queued = q;
-        outstanding = s .sending .outstanding;
-        window = s .sending .window;
-        roundTrip = s .sending .roundTrip;
-      };
-      receiving = s .receiving;
-      probe = s .probe;
-      current = s .current;
-      ask = s .ask;
-      dead = s .dead;
-    }
 
 -- sending checks 10, then 11; an accepted message's segments are queued behind those that are
 unfoldable pub sending : State → List ℕ → List ℕ → Outcome Sends

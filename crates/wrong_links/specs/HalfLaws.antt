@@ -24,8 +24,8 @@ use Rattle.lists.specs.AcknowledgingLaws.{skip-number}
 use Rattle.lists.specs.Orders.{waitingOffset, isHeld, insert}
 use Rattle.lists.specs.ReceivingLaws.{advance-held}
 use Rattle.session.specs.Slots.{occurs, lowestFree}
-use Rattle.session.specs.State.{State, Sending, Receiving, receiveHeld, slots}
-use Rattle.session.specs.Input.{acknowledged, withWindow, sampledBy, heardBySending, allBySending, ackNumbers, skipped, skippedByAll, furthest, Receiver, kept, withAcks, noted, movedUp, inWindow, isNew, pushed, asked, heardByReceiving, allByReceiving, applied, taking, input}
+use Rattle.session.specs.State.{State, Sending, Receiving, receiveHeld, slots, withWindow, withOutstanding}
+use Rattle.session.specs.Input.{acknowledged, sampledBy, heardBySending, allBySending, ackNumbers, skipped, skippedByAll, furthest, Receiver, kept, withAcks, noted, movedUp, inWindow, isNew, pushed, asked, heardByReceiving, allByReceiving, applied, taking, input}
 use Rattle.sizes.specs.Sizes.{enough}
 use Rattle.control.specs.Views.{stateOf}
 use Rattle.control.specs.declared.Link.{Link}
@@ -127,7 +127,7 @@ skips-gone n s [] h = h
 skips-gone n s (k ∷ l) h = go (not (isBefore (furthest k l) (s .una)) && isBefore (furthest k l) (s .next))
   where
     go : (b : Bool)
-        → Gone n (cond b (record { una = s .una; next = s .next; queued = s .queued; outstanding = map (skipBefore (furthest k l)) (s .outstanding); window = s .window; roundTrip = s .roundTrip }) s .outstanding)
+        → Gone n (cond b (withOutstanding s (s .una) (map (skipBefore (furthest k l)) (s .outstanding))) s .outstanding)
     go true = rw (skip-numbers (furthest k l) (s .outstanding)) h
     go false = h
 

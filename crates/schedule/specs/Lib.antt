@@ -1,0 +1,4 @@
+pub mod Schedules
+pub mod ScheduleLaws
+pub mod Quiet
+pub mod ScheduleExamples
