@@ -3,18 +3,24 @@
 use mathlib.Core.Path.{_≡_, refl, sym, ap, _∙_}
 use mathlib.Core.Bool.{Bool, true, _&&_}
 use mathlib.Core.List.{List, [], _∷_}
-use Prim.Native.Nat.{ℕ}
+use Prim.Native.Nat.{ℕ, _^_, _<_}
+use native.Mathlib.Omega.{arith}
 use Rattle.protocol.specs.Ranges.{inRange, mss}
 use Rattle.protocol.specs.declared.Settings.{Settings}
+use Rattle.schedule.specs.ScheduleLaws.{updated-fits}
 use Rattle.session.specs.State.{State}
+use Rattle.session.specs.Opening.{opened}
+use Rattle.session.specs.Input.{applied}
+use Rattle.session.specs.Flushing.{flushing}
 use Rattle.sizes.specs.Sizes.{enough, enoughToFlush}
 use Rattle.sizes.specs.declared.Lengths.{Lengths}
 use Rattle.session.specs.Valid.{valid, sendingValid, receivingValid, probeFits}
-use Rattle.session.specs.Calls.{Station, Call, Lent, own, lengthsOf, longEnough, after, step}
+use Rattle.session.specs.Calls.{Station, Call, Stepped, Lent, own, lengthsOf, longEnough, after, step}
 use Rattle.session.specs.Decides.{All}
 use Rattle.delivery.specs.Hearing.{Taken, CallFits}
 use Rattle.delivery.specs.Stations.{Opened}
 use Rattle.delivery.specs.Passing.{Passing, step-own}
+use Rattle.delivery.specs.CallCases.{own-cases}
 use Rattle.delivery.specs.SendingStays.{SendingInOrder, sending-stays, opened-in-order}
 use Rattle.delivery.specs.ReceivingLaws.{ReceivingInOrder, receiving-stays, opened-receiving, flush-enough, own-lent, own-lengths}
 
@@ -23,6 +29,26 @@ pub record InOrder (c : Settings) (s : Station) : Type 0 where
   pub sends : SendingInOrder c s
   pub receives : ReceivingInOrder c s
   pub long : enoughToFlush (mss c) (lengthsOf s) (s .lent .output) (s .lent .lengths) ≡ true
+  pub next-flush : s .state .schedule .next < 2 ^ 32
+
+-- the next flush time has 32 bits
+next-stays : (s : Station) (x : Call) → CallFits x → s .state .schedule .next < 2 ^ 32 → own s x .station .state .schedule .next < 2 ^ 32
+unfolding applied flushing
+next-stays s x fits h =
+    own-cases (λ (x : Call) (y : Stepped). CallFits x → y .station .state .schedule .next < 2 ^ 32) s
+    (λ x r k. h)
+    (λ m ok k. h)
+    (λ d gs e k. h)
+    (λ t k. h)
+    (λ room k. h)
+    (λ t k. updated-fits (s .state .schedule) t (s .state .settings .interval) k h)
+    (λ t k. updated-fits (s .state .schedule) t (s .state .settings .interval) k h)
+    (λ t k. h)
+    x fits
+
+opened-next : (c : Settings) → opened c .schedule .next < 2 ^ 32
+unfolding opened
+opened-next c = omega arith
 
 valid-of : (s : State) → inRange (s .settings) ≡ true → sendingValid (s .settings) (s .sending) ≡ true → receivingValid (s .settings) (s .receiving) ≡ true
     → probeFits (s .probe) ≡ true → valid s ≡ true
@@ -48,6 +74,7 @@ module _ (c : Settings) (range : inRange c ≡ true) where
     sends = sending-stays c range s x fits (o .sends);
     receives = receiving-stays c s x fits (o .receives);
     long = rw (own-lengths s x, own-lent s x) (o .long);
+    next-flush = next-stays s x fits (o .next-flush);
   }
 
   pub always-passing : (xs : List Call) (s : Station) → All CallFits xs → InOrder c s → Passing s xs
@@ -62,7 +89,12 @@ module _ (c : Settings) (range : inRange c ≡ true) where
       rw (step-own s x (in-order-long s x o) (in-order-valid s o)) (always-in-order xs (own s x .station) (fits .1) (in-order-stays s x (fits .0) o))
 
 pub opened-all : (c : Settings) (s : Station) → Opened c s → InOrder c s
-opened-all c s o = record { sends = opened-in-order c s o; receives = opened-receiving c s o; long = o .long }
+opened-all c s o = record {
+  sends = opened-in-order c s o;
+  receives = opened-receiving c s o;
+  long = o .long;
+  next-flush = rw (o .state) (opened-next c);
+}
 
 -- each call of any list passes the checks of 7 and 13, and the station that it leaves is valid
 pub station-always-valid : (c : Settings) → Taken c → (s : Station) → Opened c s → (calls : List Call) → All CallFits calls

@@ -15,6 +15,7 @@ use Rattle.schedule.specs.Schedules.{updated}
 use Rattle.schedule.specs.declared.Schedule.{Schedule}
 use Rattle.schedule.specs.declared.Updated.{Updated}
 use Rattle.session.specs.State.{State, Outcome, sendHeld, slots, withQueued, withReceiving, withTimes, withSchedule}
+use Rattle.session.specs.Valid.{valid}
 use Rattle.session.specs.Cutting.{fragmentCount, cut}
 use Rattle.session.specs.Sending.{Placed, place, Sends, sending}
 use Rattle.session.specs.Input.{Took, applied, taking, input}
@@ -80,6 +81,15 @@ reading-cases P s pool room refused done = go (readable (s .receiving .ready)) (
 -- the schedule after an update at t
 abbrev pub scheduledAt : State → ℕ → Schedule
 scheduledAt s t = updated (s .schedule) t (s .settings .interval) .schedule
+
+-- the station with this schedule
+abbrev pub rescheduled : Station → Schedule → Station
+rescheduled s k = record { state = withSchedule (s .state) k; sendPool = s .sendPool; receivePool = s .receivePool; lent = s .lent }
+
+-- 13 does not look at it
+pub valid-rescheduled : (s : State) (k : Schedule) → valid (withSchedule s k) ≡ valid s
+unfolding valid
+valid-rescheduled s k = refl
 
 pub updating-cases : (P : Updates → Type 0) (s : State) (t : ℕ) (pool : List ℕ) →
     P (flushes (flushing (withSchedule s (scheduledAt s t)) t pool)) →

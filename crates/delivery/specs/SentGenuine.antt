@@ -1,6 +1,6 @@
 -- Every push that any flush wrote is the segment of its number of the accepted list, whatever the sender takes in.
 -- Assumes nothing.
-use mathlib.Core.Path.{_≡_, refl, sym, ap, subst}
+use mathlib.Core.Path.{_≡_, refl, sym, ap, _∙_, subst}
 use mathlib.Core.Bool.{Bool, true, false, cond, _||_}
 use mathlib.Core.List.{List, [], _∷_, _++_, map, append-assoc, append-nil}
 use Prim.Native.Nat.{ℕ, _+_, _^_, _≤_, _<_}
@@ -38,7 +38,7 @@ use Rattle.delivery.specs.Stations.{Opened}
 use Rattle.delivery.specs.Pieces.{Piece, falling, piecesOf, pieceOf, Genuine, pushes, GenuineDatagram}
 use Rattle.delivery.specs.Passing.{Passing}
 use Rattle.delivery.specs.PassingLaws.{history-first}
-use Rattle.delivery.specs.CallCases.{scheduledAt, own-cases}
+use Rattle.delivery.specs.CallCases.{scheduledAt, rescheduled, valid-rescheduled, own-cases}
 use Rattle.delivery.specs.StateRange.{CarryFits}
 use Rattle.delivery.specs.SendingHalf.{Half}
 use Rattle.delivery.specs.SendingSends.{send-placed}
@@ -253,11 +253,7 @@ module _ (s : Station) (pieces : List Piece) (made : valid (s .state) ≡ true) 
   refused-wrote (Call.check t) r = record { shows = same; genuine = tt }
   refused-wrote (Call.read room) r = record { shows = same; genuine = tt }
 
--- an update that flushes: the flush of the station with another schedule
-abbrev rescheduled : Station → Schedule → Station
-rescheduled s k =
-    record { state = withSchedule (s .state) k; sendPool = s .sendPool; receivePool = s .receivePool; lent = s .lent }
-
+-- an update that flushes: the flush of the station with the schedule moved on
 module _ (s : Station) (pieces : List Piece) (made : valid (s .state) ≡ true) (conv32 : s .state .settings .conv < 2 ^ 32)
     (o : SendingInOrder (s .state .settings) s) (carry : CarryFits (s .state .receiving))
     (h : model.Sends (mss (s .state .settings)) (s .sendPool) pieces (s .state .sending)) where
@@ -270,10 +266,9 @@ module _ (s : Station) (pieces : List Piece) (made : valid (s .state) ≡ true) 
   wrote-update : (t : ℕ) (k : Schedule) → t < 2 ^ 32
       → FewPushes settings (map bytesOfSegments (flushing (withSchedule (s .state) k) t (s .sendPool) .datagrams))
       → Wrote settings pieces (Call.update t) (afterFlush s (flushing (withSchedule (s .state) k) t (s .sendPool)))
-  unfolding valid
   wrote-update t next time few =
       let order : SendingInOrder settings (rescheduled s next) = record { settings = o .settings; long = o .long; valid = o .valid; fits = o .fits; probe = o .probe } in
-      let w = wrote-flush (rescheduled s next) pieces made conv32 order carry h t time few in
+      let w = wrote-flush (rescheduled s next) pieces (valid-rescheduled (s .state) next ∙ made) conv32 order carry h t time few in
       record { shows = w .shows; genuine = w .genuine }
 
   wrote : (x : Call) → CallFits x → FewPushes settings (datagramsIn (own s x .answer)) → Wrote settings pieces x (own s x)

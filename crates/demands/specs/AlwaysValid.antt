@@ -37,6 +37,8 @@ module _ (c : Settings) (range : inRange c ≡ true) (conv : c .conv < 2 ^ 32) w
   short-buffer e k (Call.send m) h = h
   short-buffer e k (Call.takeIn d) h = h
   short-buffer e k (Call.flush t) h = h
+  short-buffer e k (Call.update t) h = h
+  short-buffer e k (Call.check t) h = h
 
   answered : (e : Endpoint) (k : Kept c e) (x : Call) (a : Answer) → own (stationOf e) x .answer ≡ a → Answered e x a
   answered e k x a q =

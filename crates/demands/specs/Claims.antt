@@ -21,6 +21,8 @@ ShortBuffer e (Call.read room) = (n : ℕ) × SizePromise (e .link) (e .parts) (
 ShortBuffer e (Call.send m) = ⊥
 ShortBuffer e (Call.takeIn d) = ⊥
 ShortBuffer e (Call.flush t) = ⊥
+ShortBuffer e (Call.update t) = ⊥
+ShortBuffer e (Call.check t) = ⊥
 
 -- the answer is not 13, and it is 7 only where the buffer is short
 pub record Passes (short : Type 0) (a : Answer) : Type 0 where

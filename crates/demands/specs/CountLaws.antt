@@ -1,7 +1,7 @@
 -- How much a call can count, from its promise alone: the datagrams of a flush, the bytes of a message, the place of a segment in the receive pool.
 -- It holds of every block and all lent parts: a count is given only of a block that passed 13.
 -- Assumes nothing.
-use mathlib.Core.Path.{_≡_, refl, sym, subst}
+use mathlib.Core.Path.{_≡_, refl, sym, _∙_, subst}
 use mathlib.Core.Bool.{Bool, true, false, cond}
 use mathlib.Core.List.{List, [], _∷_}
 use Prim.Native.Nat.{ℕ, zero, suc, _+_, _-_, _*_, _≤_, _<_, zero-le}
@@ -15,10 +15,11 @@ use Rattle.protocol.specs.declared.Settings.{Settings}
 use Rattle.protocol.specs.declared.Refusal.the-variants.{ShortPart}
 use Rattle.sizes.specs.Sizes.{enough, enoughToFlush}
 use Rattle.lists.specs.declared.Held.{Held}
-use Rattle.session.specs.State.{State, Outcome, refused, done, withReceiving}
+use Rattle.session.specs.State.{State, Outcome, refused, done, withReceiving, withSchedule}
 use Rattle.session.specs.Valid.{valid}
 use Rattle.session.specs.Flushing.{Flushed}
 use Rattle.session.specs.Reading.{Reads, Part, readable, unreadable, frontCount, frontPart, lengthOf, messageSize, message, afterRead, reading, telling, showing}
+use Rattle.session.specs.Updating.{Updates}
 use Rattle.session.specs.Decides.{All, and-parts}
 use Rattle.session.specs.AllLaws.{all-left}
 use Rattle.session.specs.IsValid.{IsValid, valid-decides}
@@ -26,11 +27,13 @@ use Rattle.control.specs.declared.Link.{Link}
 use Rattle.control.specs.Views.{stateOf, countsFit, blockValid}
 use Rattle.answers.specs.declared.Count.{Count}
 use Rattle.answers.specs.declared.Count.the-variants as count
+use Rattle.answers.specs.declared.Update.the-variants as update
 use Rattle.promises.specs.Parts.{Parts, lengthsOf, stateIn, isMade}
-use Rattle.promises.specs.Outcomes.{checked, flushesWith, readsWith, tellsWith, showsWith, flushes, reads, tells, shows}
-use Rattle.promises.specs.Answers.{Counts, countOutcome}
-use Rattle.promises.specs.Promises.{FlushPromise, ReadPromise, SizePromise}
+use Rattle.promises.specs.Outcomes.{checked, flushesWith, updatesWith, readsWith, tellsWith, showsWith, flushes, updates, reads, tells, shows}
+use Rattle.promises.specs.Answers.{Counts, countOutcome, updateAnswer}
+use Rattle.promises.specs.Promises.{FlushPromise, UpdatePromise, ReadPromise, SizePromise}
 use Rattle.delivery.specs.FlushLaws.{flush-few}
+use Rattle.delivery.specs.CallCases.{valid-rescheduled, updating-cases}
 use Rattle.demands.specs.OutputLaws.{message-short}
 
 -- P holds of the result, if there is one
@@ -135,6 +138,19 @@ showing-fits s v = go (readable (s .receiving .ready))
     go true = fits (s .receiving .ready) (short s v) (low s v)
     go false = tt
 
+-- ---- datagrams of an update
+
+-- at most 290, where it flushes
+abbrev pub FewDatagrams : Updates → Type 0
+FewDatagrams (Updates.waits s) = Unit {0}
+FewDatagrams (Updates.flushes x) = length (x .datagrams) ≤ lengthsLeast
+
+-- so many are answered
+few-answered : (n : ℕ) (o : Outcome Updates) → update.Wrote n ≡ updateAnswer o → OfResult FewDatagrams o → n ≤ lengthsLeast
+few-answered n (refused r) e h = absurd (let z : _≡_ {A = ℕ} 0 1 = cc in omega arith)
+few-answered n (done (Updates.waits s)) e h = absurd (let z : _≡_ {A = ℕ} 0 1 = cc in omega arith)
+few-answered n (done (Updates.flushes x)) e h = let same : n ≡ length (x .datagrams) = cc in omega arith
+
 -- ---- what each call gives
 
 module _ (l : Link) (p : Parts) where
@@ -143,6 +159,14 @@ module _ (l : Link) (p : Parts) where
   flushes-few out lengths t =
       made-result _ (enoughToFlush (mss (l .settings)) (lengthsOf p) out lengths) (isMade l p) _
       (λ h. flush-few (stateIn l p) t (p .sendPool) (made-valid l p h))
+
+  pub updates-few : (out lengths t : ℕ) → OfResult FewDatagrams (updates l p out lengths t)
+  unfolding updatesWith
+  updates-few out lengths t =
+      made-result FewDatagrams (enoughToFlush (mss (l .settings)) (lengthsOf p) out lengths) (isMade l p) _
+      (λ h.
+      updating-cases FewDatagrams (stateIn l p) t (p .sendPool)
+      (flush-few (withSchedule (stateIn l p) _) t (p .sendPool) (valid-rescheduled (stateIn l p) _ ∙ made-valid l p h)) tt)
 
   pub reads-fit : (room : ℕ) → OfResult (λ (x : Reads). MessageFits (l .settings) (length (x .bytes))) (reads l p room)
   unfolding readsWith stateOf
@@ -172,6 +196,12 @@ module _ {l : Link} {p : Parts} {n : ℕ} where
   flush-counts {t} {out} {lengths} h =
       count-given (λ (n : ℕ). n ≤ lengthsLeast) (λ (x : Flushed). length (x .datagrams)) (count.Of n) (flushes l p (length out) (length lengths) t) (h .answer)
       (flushes-few l p (length out) (length lengths) t)
+
+  -- so did an update
+  pub update-counts : {t : ℕ} {out lengths : List ℕ} {l′ : Link} {p′ : Parts} {out′ lengths′ : List ℕ}
+      → UpdatePromise t l p out lengths (update.Wrote n) l′ p′ out′ lengths′
+      → n ≤ lengthsLeast
+  update-counts {t} {out} {lengths} h = few-answered n (updates l p (length out) (length lengths) t) (h .answer) (updates-few l p (length out) (length lengths) t)
 
   -- a message that is read, or whose size is told, has at most 127 segments
   pub read-counts : {buffer : List ℕ} {l′ : Link} {p′ : Parts} {buffer′ : List ℕ} → ReadPromise l p buffer (count.Of n) l′ p′ buffer′ → MessageFits (l .settings) n

@@ -10,4 +10,6 @@ pub mod RunLaws
 pub mod RefusalLaws
 pub mod AlwaysValid
 pub mod LedgerLaws
+pub mod Quiet
+pub mod QuietLaws
 pub mod Demand3

@@ -22,9 +22,10 @@ use Rattle.session.specs.Cutting.{fragmentCount}
 use Rattle.session.specs.Sending.{Sends, sending}
 use Rattle.session.specs.Input.{Took, taking, input}
 use Rattle.session.specs.Reading.{Reads, readable, unreadable, messageSize, message, afterRead, reading, telling}
-use Rattle.session.specs.Calls.{Station, Call, Answer, afterSend, afterTakeIn, afterReading, own}
+use Rattle.session.specs.Updating.{Updates}
+use Rattle.session.specs.Calls.{Station, Call, Answer, afterSend, afterTakeIn, afterReading, afterUpdate, own}
 use Rattle.session.specs.Decides.{and-parts}
-use Rattle.delivery.specs.CallCases.{placing}
+use Rattle.delivery.specs.CallCases.{placing, updating-cases}
 use Rattle.demands.specs.Claims.{Passes}
 
 -- ---- numbers of answers
@@ -151,6 +152,8 @@ numberIn (Answer.refused r) = numberOf r
 numberIn Answer.accepted = 0
 numberIn (Answer.wrote ds) = 0
 numberIn (Answer.message m) = 0
+numberIn Answer.waited = 0
+numberIn (Answer.named t) = 0
 
 -- by its number
 passes-by : (short : Type 0) (a : Answer) → eqb (numberIn a) 13 ≡ false → (numberIn a ≡ 7 → short) → Passes short a
@@ -184,9 +187,14 @@ ShortRead s (Call.read room) = Short (s .state) room
 ShortRead s (Call.send m) = ⊥
 ShortRead s (Call.takeIn d) = ⊥
 ShortRead s (Call.flush t) = ⊥
+ShortRead s (Call.update t) = ⊥
+ShortRead s (Call.check t) = ⊥
 
 pub own-passes : (s : Station) (x : Call) → Passes (ShortRead s x) (own s x .answer)
 own-passes s (Call.send m) = sent-passes s (sending (s .state) (s .sendPool) m) (sending-clear (s .state) (s .sendPool) m)
 own-passes s (Call.takeIn d) = took-passes s (input (s .state) (s .receivePool) d) (input-clear (s .state) (s .receivePool) d)
 own-passes s (Call.flush t) = clear-passes (own s (Call.flush t) .answer) refl
+own-passes s (Call.update t) =
+    updating-cases (λ (y : Updates). Passes ⊥ (afterUpdate s y .answer)) (s .state) t (s .sendPool) (clear-passes _ refl) (clear-passes _ refl)
+own-passes s (Call.check t) = clear-passes (own s (Call.check t) .answer) refl
 own-passes s (Call.read room) = read-passes s room (reading (s .state) (s .receivePool) room) (reading-clear (s .state) (s .receivePool) room)

@@ -14,29 +14,35 @@ use Rattle.protocol.specs.declared.Settings.{Settings}
 use Rattle.protocol.specs.declared.Refusal.the-variants.{ShortPart}
 use Rattle.sizes.specs.Sizes.{enough, enoughToFlush}
 use Rattle.sizes.specs.declared.Lengths.{Lengths}
-use Rattle.session.specs.State.{State, Outcome, withReceiving}
+use Rattle.schedule.specs.declared.Schedule.{Schedule}
+use Rattle.session.specs.State.{State, Outcome, withReceiving, withSchedule}
 use Rattle.session.specs.Valid.{valid}
 use Rattle.session.specs.Sending.{Sends, sending}
 use Rattle.session.specs.Input.{Took, input}
 use Rattle.session.specs.Flushing.{Flushed, flushing, bytesOfSegments}
 use Rattle.session.specs.Reading.{Reads, readable, unreadable, messageSize, message, afterRead, reading}
-use Rattle.session.specs.Calls.{Call, Answer, Stepped, afterSend, afterTakeIn, afterFlush, afterReading, own, step}
+use Rattle.session.specs.Updating.{Updates, updating, checking}
+use Rattle.session.specs.Calls.{Call, Answer, Stepped, afterSend, afterTakeIn, afterFlush, afterReading, afterUpdate, own, step}
 use Rattle.control.specs.Views.{stateOf, countsFit, blockValid}
 use Rattle.records.specs.TableLaws.{scattered-length}
 use Rattle.packing.specs.Packers.{joined}
 use Rattle.answers.specs.declared.Answer as given
 use Rattle.answers.specs.declared.Count.{Count}
 use Rattle.answers.specs.declared.Count.the-variants as count
+use Rattle.answers.specs.declared.Update.{Update}
+use Rattle.answers.specs.declared.Time.{Time}
+use Rattle.answers.specs.declared.Time.the-variants as time
 use Rattle.promises.specs.Parts.{Parts, lengthsOf, stateIn, isMade, Unchanged}
-use Rattle.promises.specs.Outcomes.{sendsWith, takesInWith, flushesWith, readsWith, sends, takesIn, flushes, reads}
-use Rattle.promises.specs.Answers.{Accepts, Counts}
-use Rattle.promises.specs.Promises.{SendLeaves, InputLeaves, Flushes, ReadLeaves}
+use Rattle.promises.specs.Outcomes.{sendsWith, takesInWith, flushesWith, readsWith, updatesWith, checksWith, sends, takesIn, flushes, reads, updates, checks}
+use Rattle.promises.specs.Answers.{Accepts, Counts, updateAnswer, timeOutcome}
+use Rattle.promises.specs.Promises.{SendLeaves, InputLeaves, Flushes, UpdateLeaves, ReadLeaves}
 use Rattle.delivery.specs.Hearing.{CallFits}
 use Rattle.delivery.specs.Passing.{step-own}
+use Rattle.delivery.specs.CallCases.{scheduledAt, rescheduled, valid-rescheduled, updating-cases}
 use Rattle.delivery.specs.FlushLaws.{flush-writes}
 use Rattle.delivery.specs.ReceivingLaws.{flush-enough}
 use Rattle.delivery.specs.AlwaysValid.{InOrder, in-order-valid, in-order-long, in-order-stays}
-use Rattle.demands.specs.Steps.{Endpoint, acceptance, datagramsSeen, messageSeen, Called}
+use Rattle.demands.specs.Steps.{Endpoint, acceptance, datagramsSeen, updateSeen, timeSeen, messageSeen, Called}
 use Rattle.demands.specs.Stations.{stationOf}
 use Rattle.demands.specs.OutputLaws.{front-again, joined-flatten, output-cut, message-short}
 
@@ -100,7 +106,27 @@ record FlushFits (x : Flushed) (out lengths : List ℕ) : Type 0 where
   bytes : length (joined (map bytesOfSegments (x .datagrams))) ≤ length out
   number : length (x .datagrams) ≤ length lengths
 
+-- those of an update that flushes
+abbrev UpdateFits : Updates → List ℕ → List ℕ → Type 0
+UpdateFits (Updates.waits s) out lengths = Unit {0}
+UpdateFits (Updates.flushes x) out lengths = FlushFits x out lengths
+
+-- a time that is not refused is seen
+named-seen : (g : Time) (t : ℕ) → timeOutcome g ≡ Outcome.done t → timeSeen g ≡ Answer.named t
+named-seen (time.At n) t e = cc
+named-seen (time.Refused r) t e = absurd (let z : _≡_ {A = ℕ} 0 1 = cc in omega arith)
+
 module _ (e e′ : Endpoint) (fit : countsFit (e .link) ≡ true) where
+  -- the state alone changes
+  same-parts : (s : State) → stateIn (e′ .link) (e′ .parts) ≡ s → e′ .parts ≡ e .parts
+      → record { state = s; sendPool = e .parts .sendPool; receivePool = e .parts .receivePool; lent = stationOf e .lent } ≡ stationOf e′
+  same-parts s p q =
+      with-state e e′ s (e .parts .sendPool) (e .parts .receivePool) p (ap (λ (p : Parts). p .sendPool) q) (ap (λ (p : Parts). p .receivePool) q)
+      (record {
+        table = ap (λ (p : Parts). length (p .table)) q;
+        acks = ap (λ (p : Parts). length (p .acks)) q;
+      })
+
   sent-becomes : (o : Outcome Sends) (r : given.Answer) → Accepts r o → SendLeaves o (e .link) (e′ .link) (e .parts) (e′ .parts)
       → Becomes (afterSend (stationOf e) o) (acceptance r) e′
   sent-becomes (Outcome.refused x) r ans u = rw ans (refused-becomes e e′ (Answer.refused x) fit u)
@@ -142,17 +168,25 @@ module _ (e e′ : Endpoint) (fit : countsFit (e .link) ≡ true) where
     counts = q .stands .counts;
   }
 
+  update-becomes : (out lengths out′ lengths′ : List ℕ) (u : Updates) (r : Update) → r ≡ updateAnswer (Outcome.done u)
+      → UpdateLeaves (Outcome.done u) (e .link) (e′ .link) (e .parts) (e′ .parts) out lengths out′ lengths′
+      → UpdateFits u out lengths
+      → Becomes (afterUpdate (stationOf e) u) (updateSeen r out′ lengths′) e′
+  update-becomes out lengths out′ lengths′ (Updates.waits s) r ans q f = record {
+    station = same-parts s (q .stands .state) (q .parts);
+    answer = rw ans;
+    counts = q .stands .counts;
+  }
+  update-becomes out lengths out′ lengths′ (Updates.flushes x) r ans q f =
+      rw ans (flush-becomes out lengths out′ lengths′ x (count.Of (length (x .datagrams))) refl q f)
+
   read-becomes : (buffer buffer′ : List ℕ) (o : Outcome Reads) (r : Count) → Counts (λ (x : Reads). length (x .bytes)) r o
       → ReadLeaves o (e .link) (e′ .link) (e .parts) (e′ .parts) buffer buffer′
       → ReadFits (length buffer) o
       → Becomes (afterReading (stationOf e) o) (messageSeen r buffer′) e′
   read-becomes buffer buffer′ (Outcome.refused x) r ans q f = rw ans (refused-becomes e e′ (Answer.refused x) fit (q .unchanged))
   read-becomes buffer buffer′ (Outcome.done x) r ans q f = record {
-    station = with-state e e′ (x .state) (e .parts .sendPool) (e .parts .receivePool) (q .stands .state) (ap (λ (p : Parts). p .sendPool) (q .parts)) (ap (λ (p : Parts). p .receivePool) (q .parts))
-        (record {
-          table = ap (λ (p : Parts). length (p .table)) (q .parts);
-          acks = ap (λ (p : Parts). length (p .acks)) (q .parts);
-        });
+    station = same-parts (x .state) (q .stands .state) (q .parts);
     answer = rw (ans, q .bytes) (ap Answer.message (sym (front-again buffer (x .bytes) f)));
     counts = q .stands .counts;
   }
@@ -171,6 +205,16 @@ module _ (e : Endpoint) (long : enough (mss (e .link .settings)) (lengthsOf (e .
   reads-own : (room : ℕ) → reads (e .link) (e .parts) room ≡ reading (stateIn (e .link) (e .parts)) (e .parts .receivePool) room
   unfolding readsWith
   reads-own room = rw (long, made)
+
+  checks-own : (t : ℕ) → checks (e .link) (e .parts) t ≡ Outcome.done (checking (stateIn (e .link) (e .parts)) t)
+  unfolding checksWith
+  checks-own t = rw (long, made)
+
+updates-own : (e : Endpoint) (t out lengths : ℕ) → enoughToFlush (mss (e .link .settings)) (lengthsOf (e .parts)) out lengths ≡ true
+    → isMade (e .link) (e .parts) ≡ true
+    → updates (e .link) (e .parts) out lengths t ≡ Outcome.done (updating (stateIn (e .link) (e .parts)) t (e .parts .sendPool))
+unfolding updatesWith
+updates-own e t out lengths long made = rw (long, made)
 
 flushes-own : (e : Endpoint) (t out lengths : ℕ) → enoughToFlush (mss (e .link .settings)) (lengthsOf (e .parts)) out lengths ≡ true
     → isMade (e .link) (e .parts) ≡ true
@@ -198,15 +242,23 @@ module _ (c : Settings) (range : inRange c ≡ true) (conv : c .conv < 2 ^ 32) (
   is-long =
       flush-enough (mss (e .link .settings)) (lengthsOf (e .parts)) outputLeast lengthsLeast (in-order-long c range (stationOf e) (Call.flush 0) (k .order))
 
-  flush-fits : (t : ℕ) (out lengths : List ℕ) → t < 2 ^ 32 → outputLeast ≤ length out → lengthsLeast ≤ length lengths
-      → FlushFits (flushing (stateIn (e .link) (e .parts)) t (e .parts .sendPool)) out lengths
-  flush-fits t out lengths time long many =
-      let w = flush-writes (stationOf e) t is-valid (k .order .sends .fits) (k .order .receives .fits .carries) (rw (k .order .sends .settings) conv)
-      (in-order-long c range (stationOf e) (Call.flush t) (k .order)) time in
+  -- whatever its schedule
+  flush-fits : (t : ℕ) (out lengths : List ℕ) (x : Schedule) → t < 2 ^ 32 → outputLeast ≤ length out → lengthsLeast ≤ length lengths
+      → FlushFits (flushing (withSchedule (stateIn (e .link) (e .parts)) x) t (e .parts .sendPool)) out lengths
+  flush-fits t out lengths x time long many =
+      let w = flush-writes (rescheduled (stationOf e) x) t (valid-rescheduled (stationOf e .state) x ∙ is-valid) (k .order .sends .fits)
+      (k .order .receives .fits .carries) (rw (k .order .sends .settings) conv) (in-order-long c range (stationOf e) (Call.flush t) (k .order)) time in
       record {
-        bytes = rw (joined-flatten (map bytesOfSegments (flushing (stateIn (e .link) (e .parts)) t (e .parts .sendPool) .datagrams))) (omega (arith, w .output));
+        bytes = rw (joined-flatten (map bytesOfSegments (flushing (withSchedule (stateIn (e .link) (e .parts)) x) t (e .parts .sendPool) .datagrams)))
+            (omega (arith, w .output));
         number = omega (arith, w .lengths);
       }
+
+  update-fits : (t : ℕ) (out lengths : List ℕ) → t < 2 ^ 32 → outputLeast ≤ length out → lengthsLeast ≤ length lengths
+      → UpdateFits (updating (stateIn (e .link) (e .parts)) t (e .parts .sendPool)) out lengths
+  update-fits t out lengths time long many =
+      updating-cases (λ (u : Updates). UpdateFits u out lengths) (stateIn (e .link) (e .parts)) t (e .parts .sendPool)
+      (flush-fits t out lengths (scheduledAt (stateIn (e .link) (e .parts)) t) time long many) tt
 
   -- what the call promises makes it the station's own
   pub own-call : (x : Call) (a : Answer) (e′ : Endpoint) → CallFits x → Called e x a e′ → Becomes (own (stationOf e) x) a e′
@@ -225,7 +277,20 @@ module _ (c : Settings) (range : inRange c ≡ true) (conv : c .conv < 2 ^ 32) (
       (flush-becomes e e′ (k .counts) (h .output) (h .lengths) (h .output′) (h .lengths′) (flushing (stateIn (e .link) (e .parts)) t (e .parts .sendPool)) (h .gives)
       (rw o at (h .promise .answer))
       (rw o at (h .promise .leaves))
-      (flush-fits t (h .output) (h .lengths) f (h .long) (h .many)))
+      (flush-fits t (h .output) (h .lengths) (stationOf e .state .schedule) f (h .long) (h .many)))
+  own-call (Call.update t) a e′ f h =
+      let o = updates-own e t (length (h .output)) (length (h .lengths))
+      (long-flush (mss (e .link .settings)) (lengthsOf (e .parts)) (length (h .output)) (length (h .lengths)) is-long (h .long) (h .many)) is-made in
+      rw (h .sees)
+      (update-becomes e e′ (k .counts) (h .output) (h .lengths) (h .output′) (h .lengths′) (updating (stateIn (e .link) (e .parts)) t (e .parts .sendPool)) (h .gives)
+      (rw o at (h .promise .answer))
+      (rw o at (h .promise .leaves))
+      (update-fits t (h .output) (h .lengths) f (h .long) (h .many)))
+  own-call (Call.check t) a e′ f h = record {
+    station = ap stationOf (sym (h .same));
+    answer = sym (h .sees ∙ named-seen (h .gives) _ (h .promise .answer ∙ checks-own e is-long is-made t));
+    counts = rw (h .same) (k .counts);
+  }
   own-call (Call.read room) a e′ f h =
       rw (h .sees, ← h .long)
       (read-becomes e e′ (k .counts) (h .buffer) (h .buffer′) (reading (stateIn (e .link) (e .parts)) (e .parts .receivePool) (length (h .buffer))) (h .gives)

@@ -1,4 +1,4 @@
--- Calls of a link and lists of them, as a caller has them. A step is exactly what the public call promises (crate `calls`, Promises), and
+-- Calls of a link and lists of them, as a caller has them. A step is exactly what the public call promises (crate `promises`, Promises), and
 -- its answer is what the caller sees: the answer given, the output cut by the lengths, the first bytes of the buffer.
 -- Assumes nothing.
 use mathlib.Core.Path.{_≡_}
@@ -14,8 +14,12 @@ use Rattle.answers.specs.declared.Answer as given
 use Rattle.answers.specs.declared.Answer.the-variants as answer
 use Rattle.answers.specs.declared.Count.{Count}
 use Rattle.answers.specs.declared.Count.the-variants as count
+use Rattle.answers.specs.declared.Update.{Update}
+use Rattle.answers.specs.declared.Update.the-variants as update
+use Rattle.answers.specs.declared.Time.{Time}
+use Rattle.answers.specs.declared.Time.the-variants as time
 use Rattle.promises.specs.Parts.{Parts}
-use Rattle.promises.specs.Promises.{OpenPromise, SendPromise, InputPromise, FlushPromise, ReadPromise}
+use Rattle.promises.specs.Promises.{OpenPromise, SendPromise, InputPromise, FlushPromise, ReadPromise, UpdatePromise, CheckPromise}
 use Rattle.delivery.specs.Hearing.{CallFits}
 
 -- a link as its caller holds it: the control block, and the parts lent to every call
@@ -39,6 +43,17 @@ cutBy (n ∷ lengths) bytes = take n bytes ∷ cutBy lengths (drop n bytes)
 abbrev pub datagramsSeen : Count → List ℕ → List ℕ → Answer
 datagramsSeen (count.Of n) output lengths = Answer.wrote (cutBy (take n lengths) output)
 datagramsSeen (count.Refused r) output lengths = Answer.refused r
+
+-- of an update: that it waited, or the same of its flush
+abbrev pub updateSeen : Update → List ℕ → List ℕ → Answer
+updateSeen update.Waited output lengths = Answer.waited
+updateSeen (update.Wrote n) output lengths = datagramsSeen (count.Of n) output lengths
+updateSeen (update.Refused r) output lengths = Answer.refused r
+
+-- of a check: the time
+abbrev pub timeSeen : Time → Answer
+timeSeen (time.At t) = Answer.named t
+timeSeen (time.Refused r) = Answer.refused r
 
 -- of a read that answers n: the first n bytes of the buffer
 abbrev pub messageSeen : Count → List ℕ → Answer
@@ -78,12 +93,33 @@ pub record Read (room : ℕ) (e : Endpoint) (a : Answer) (e′ : Endpoint) : Typ
   pub promise : ReadPromise (e .link) (e .parts) buffer gives (e′ .link) (e′ .parts) buffer′
   pub sees : a ≡ messageSeen gives buffer′
 
+-- into any output and lengths that are as long as document 01 states, whether or not it flushes
+pub record Updated (t : ℕ) (e : Endpoint) (a : Answer) (e′ : Endpoint) : Type 0 where
+  pub output : List ℕ
+  pub lengths : List ℕ
+  pub long : outputLeast ≤ length output
+  pub many : lengthsLeast ≤ length lengths
+  pub gives : Update
+  pub output′ : List ℕ
+  pub lengths′ : List ℕ
+  pub promise : UpdatePromise t (e .link) (e .parts) output lengths gives (e′ .link) (e′ .parts) output′ lengths′
+  pub sees : a ≡ updateSeen gives output′ lengths′
+
+-- block and parts are those before
+pub record Checked (t : ℕ) (e : Endpoint) (a : Answer) (e′ : Endpoint) : Type 0 where
+  pub gives : Time
+  pub promise : CheckPromise t (e .link) (e .parts) gives
+  pub sees : a ≡ timeSeen gives
+  pub same : e′ ≡ e
+
 -- the call x of the endpoint e was answered with a, and left e′
 abbrev pub Called : Endpoint → Call → Answer → Endpoint → Type 0
 Called e (Call.send m) a e′ = Sent m e a e′
 Called e (Call.takeIn d) a e′ = TakenIn d e a e′
 Called e (Call.flush t) a e′ = Flushed t e a e′
 Called e (Call.read room) a e′ = Read room e a e′
+Called e (Call.update t) a e′ = Updated t e a e′
+Called e (Call.check t) a e′ = Checked t e a e′
 
 -- ---- lists of calls
 

@@ -9,7 +9,7 @@ use Prim.Native.Nat.{ℕ, _^_, _≤_, _<_, min}
 use native.Mathlib.Omega.{arith}
 use Rattle.protocol.specs.Serial.{plus, minus, isDue}
 use Rattle.schedule.specs.Schedules.{isAstray, corrected, started, following, updated, ahead, earliest, named}
-use Rattle.schedule.specs.ScheduleLaws.{either, near, not-astray, is-due, not-due, due-by, ahead-due, ahead-undue, ahead-now, ahead-fits, later, not-yet, Each, anyDue, earliest-most, earliest-below, earliest-found, corrected-astray, corrected-kept, started-made, when-reached, when-waiting, named-first, named-made, corrected-fits, started-fits}
+use Rattle.schedule.specs.ScheduleLaws.{either, near, not-astray, is-due, not-due, due-by, ahead-due, ahead-undue, ahead-now, ahead-fits, later, not-yet, Each, anyDue, earliest-most, earliest-below, earliest-found, corrected-astray, corrected-kept, started-made, started-first, when-reached, when-waiting, named-first, named-made, corrected-fits, started-fits}
 use Rattle.schedule.specs.declared.Schedule.{Schedule}
 use Rattle.schedule.specs.declared.Updated.{Updated}
 
@@ -109,21 +109,31 @@ module _ (s : Schedule) (now interval : ℕ) (dues : List ℕ)
       let b = earliest-below now (minus t now) limit dues g in
       record { waits = update-waits s now t interval hs hn ht m (omega (arith, b .0)); none-due = none-yet t dues ht hd (b .1) }
 
-  -- no sooner than it need be: where the named time is less than an interval away, then an update flushes or a segment is due
-  pub called-for : s .made ≡ true → minus (named s now interval dues) now < interval
-      → (updated s (named s now interval dues) interval .flushes ≡ true) ⊎ (anyDue (named s now interval dues) dues ≡ true)
-  called-for m h = go (earliest-found now limit dues hn hd)
-    where
-      within : earliest now limit dues < interval
-      within = rw (named-ahead m) at h
+  -- what the named time is for
+  abbrev pub WantedFor : Type 0
+  WantedFor = (updated s (named s now interval dues) interval .flushes ≡ true) ⊎ (anyDue (named s now interval dues) dues ≡ true)
 
-      go : (earliest now limit dues ≡ limit) ⊎ (anyDue (plus now (earliest now limit dues)) dues ≡ true)
-          → (updated s (named s now interval dues) interval .flushes ≡ true) ⊎ (anyDue (named s now interval dues) dues ≡ true)
-      go (inl e) =
-          let z : earliest now limit dues ≡ ahead now (corrected now (s .next)) = omega (arith, within) in
-          let reached = next-reached now (s .next) hn hs in
-          inl (rw (named-made s now interval dues m, z) (flushes-by s _ interval (rw (started-made s _ m) reached)))
-      go (inr e) = inr (rw (named-made s now interval dues m) e)
+  -- the first update flushes at once
+  for-first : s .made ≡ false → WantedFor
+  for-first m =
+      let straight = near now now (inl (omega arith)) in
+      inl (rw (named-first s now interval dues m) (flushes-by s now interval (rw (started-first s now m, corrected-kept now now straight) (due-by now now (omega arith)))))
+
+  for-made : s .made ≡ true → earliest now limit dues < interval → (earliest now limit dues ≡ limit) ⊎ (anyDue (plus now (earliest now limit dues)) dues ≡ true)
+      → WantedFor
+  for-made m within (inl e) =
+      let z : earliest now limit dues ≡ ahead now (corrected now (s .next)) = omega arith in
+      let reached = next-reached now (s .next) hn hs in
+      inl (rw (named-made s now interval dues m, z) (flushes-by s _ interval (rw (started-made s _ m) reached)))
+  for-made m within (inr e) = inr (rw (named-made s now interval dues m) e)
+
+  -- no sooner than it need be: where the named time is less than an interval away, then an update flushes or a segment is due
+  pub called-for : minus (named s now interval dues) now < interval → WantedFor
+  called-for h = go (either (s .made))
+    where
+      go : (s .made ≡ true) ⊎ (s .made ≡ false) → WantedFor
+      go (inl m) = for-made m (rw (named-ahead m) at h) (earliest-found now limit dues hn hd)
+      go (inr m) = for-first m
 
 -- ---- after an update that flushes
 
