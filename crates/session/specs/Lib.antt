@@ -10,6 +10,7 @@ pub mod ReceivingValid
 pub mod Opening
 pub mod Cutting
 pub mod Sending
+pub mod FillLaws
 pub mod Flushing
 pub mod HeardLaws
 pub mod Input
@@ -19,5 +20,6 @@ pub mod Calls
 pub mod Marked
 pub mod IsValid
 pub mod LooksRight
+pub mod StreamCases
 pub mod SendOrder
 pub mod MapLaws
