@@ -11,17 +11,21 @@ use Rattle.protocol.specs.declared.Settings.{Settings}
 use Rattle.protocol.specs.declared.Refusal.the-variants.{InvalidBlock}
 use Rattle.answers.specs.declared.Count.{Count}
 use Rattle.answers.specs.declared.Count.the-variants.{Of, Refused}
+use Rattle.answers.specs.declared.Update.{Update}
+use Rattle.answers.specs.declared.Update.the-variants as update
+use Rattle.answers.specs.declared.Time.{Time}
 use Rattle.timing.specs.declared.Record.{Record}
 use Rattle.control.specs.declared.Link.{Link}
 use Rattle.notation.specs.Ascii.{ascii}
 use Rattle.notation.specs.Puts.{Put}
-use Rattle.transcript.specs.Lines.{bytesLine, refusalLine, answerLine, countLine, datagramLines, stateLine, heldLine}
-use Rattle.bench.specs.Fields.{countsOf, Jumped, Poked, HasField, HeldChanged, holds}
+use Rattle.transcript.specs.Lines.{bytesLine, refusalLine, answerLine, countLine, timeLine, datagramLines, stateLine, heldLine}
+use Rattle.bench.specs.Fields.{countsOf, Jumped, IsField, Poked, HasField, HeldChanged, holds}
 use Rattle.bench.specs.declared.Lent.{Lent}
 use Rattle.bench.specs.declared.Bench.{Bench}
 use Rattle.bench_calls.specs.declared.Answered.{Answered}
 use Rattle.bench_calls.specs.declared.Counted.{Counted}
-use Rattle.bench_calls.specs.BenchPromises.{after, BenchOpens, BenchSends, BenchTakesIn, BenchFlushes, BenchReads, BenchTells, BenchShows}
+use Rattle.bench_calls.specs.declared.Updated.{Updated}
+use Rattle.bench_calls.specs.BenchPromises.{after, BenchOpens, BenchSends, BenchTakesIn, BenchFlushes, BenchUpdates, BenchChecks, BenchReads, BenchTells, BenchShows}
 use Rattle.script.specs.Commands.{Parsed}
 use Rattle.script.specs.declared.Command.{Command}
 use Rattle.script.specs.declared.Command.the-variants as command
@@ -73,6 +77,24 @@ pub record PlaysFlush (t : ℕ) (b : Bench) (s r a text : List ℕ) (x : Played)
   pub promise : BenchFlushes t b s r a (replicate 22576 0) (replicate 290 0) done output lengths
   pub says : Says (done .bench) (flushLines output lengths (done .answer)) text x text′
 
+-- of an update: the same where it flushes; where it does not, `ok` alone
+abbrev pub updateLines : List ℕ → List ℕ → Update → List ℕ
+updateLines output lengths update.Waited = ascii "ok\n"
+updateLines output lengths (update.Wrote n) = flushLines output lengths (Of n)
+updateLines output lengths (update.Refused e) = refusalLine e
+
+pub record PlaysUpdate (t : ℕ) (b : Bench) (s r a text : List ℕ) (x : Played) (text′ : List ℕ) : Type 0 where
+  pub done : Updated
+  pub output : List ℕ
+  pub lengths : List ℕ
+  pub promise : BenchUpdates t b s r a (replicate 22576 0) (replicate 290 0) done output lengths
+  pub says : Says (done .bench) (updateLines output lengths (done .answer)) text x text′
+
+pub record PlaysCheck (t : ℕ) (b : Bench) (s r a text : List ℕ) (x : Played) (text′ : List ℕ) : Type 0 where
+  pub time : Time
+  pub promise : BenchChecks t b s r a time
+  pub says : Says (still b) (timeLine time) text x text′
+
 abbrev pub readLine : List ℕ → Count → List ℕ
 readLine buffer (Of n) = bytesLine (ascii "message ") (take n buffer)
 readLine buffer (Refused e) = refusalLine e
@@ -113,7 +135,7 @@ pub record PlaysLend (part count : ℕ) (b : Bench) (text : List ℕ) (x : Playe
 
 pub record PlaysPoke (field value : ℕ) (b : Bench) (text : List ℕ) (x : Played) (text′ : List ℕ) : Type 0 where
   pub link : Link
-  pub poked : field ≤ 18 → Poked (b .link) field value link
+  pub poked : IsField field → Poked (b .link) field value link
   pub says : Ok (after b link (b .table)) text x text′
 
 pub record Changes (list index field value : ℕ) (b : Bench) (text : List ℕ) (x : Played) (text′ : List ℕ) : Type 0 where
@@ -138,6 +160,8 @@ PlaysTool (command.Open conv mtu mode interval threshold) b = NoCommand b
 PlaysTool (command.Send n) b = NoCommand b
 PlaysTool (command.Input n) b = NoCommand b
 PlaysTool (command.Flush t) b = NoCommand b
+PlaysTool (command.Update t) b = NoCommand b
+PlaysTool (command.Check t) b = NoCommand b
 PlaysTool (command.Read room) b = NoCommand b
 PlaysTool command.Size b = NoCommand b
 PlaysTool command.Show b = NoCommand b
@@ -161,6 +185,8 @@ abbrev pub PlaysOnLink : Command → Bench → (s r a bytes text : List ℕ) →
 PlaysOnLink (command.Send n) b s r a bytes text x s′ r′ a′ text′ = Untouched s′ r a s′ r′ a′ × PlaysSend (take n bytes) b s r a text x s′ text′
 PlaysOnLink (command.Input n) b s r a bytes text x s′ r′ a′ text′ = Untouched s r′ a′ s′ r′ a′ × PlaysInput (take n bytes) b s r a text x r′ a′ text′
 PlaysOnLink (command.Flush t) b s r a bytes text x s′ r′ a′ text′ = Untouched s r a s′ r′ a′ × PlaysFlush t b s r a text x text′
+PlaysOnLink (command.Update t) b s r a bytes text x s′ r′ a′ text′ = Untouched s r a s′ r′ a′ × PlaysUpdate t b s r a text x text′
+PlaysOnLink (command.Check t) b s r a bytes text x s′ r′ a′ text′ = Untouched s r a s′ r′ a′ × PlaysCheck t b s r a text x text′
 PlaysOnLink (command.Read room) b s r a bytes text x s′ r′ a′ text′ = Untouched s r a s′ r′ a′ × PlaysRead room b s r a text x text′
 PlaysOnLink command.Size b s r a bytes text x s′ r′ a′ text′ = Untouched s r a s′ r′ a′ × PlaysSize b s r a text x text′
 PlaysOnLink command.Show b s r a bytes text x s′ r′ a′ text′ = Untouched s r a s′ r′ a′ × PlaysShow b s r a text x text′
