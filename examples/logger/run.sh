@@ -5,8 +5,10 @@ set -eu
 root=$(cd "$(dirname "$0")/../.." && pwd)
 folder=${1:-$root/target/staticlib}
 mkdir -p "$root/target/examples"
-"${CC:-cc}" -std=c99 -O2 -Wall -Wextra -Wpedantic -Werror -I "$root/include" "$root/examples/logger/logger.c" \
+# shellcheck disable=SC2086
+"${CC:-cc}" ${CFLAGS:-} -std=c99 -O2 -Wall -Wextra -Wpedantic -Werror -I "$root/include" "$root/examples/logger/logger.c" \
     "$folder/libampferweg.a" -o "$root/target/examples/logger"
-"$root/target/examples/logger" >"$root/target/examples/logger.out"
+# shellcheck disable=SC2086
+${EMULATOR:-} "$root/target/examples/logger" >"$root/target/examples/logger.out"
 cat "$root/target/examples/logger.out"
 cmp "$root/target/examples/logger.out" "$root/examples/logger/expected"
