@@ -8,7 +8,6 @@ use Rattle.promises.specs.Cores.{PutBack}
 use Rattle.promises.specs.Parts.{Parts, partsOf}
 use Rattle.from_cores.proofs.Updating.{update-left, update-promised}
 use Rattle.from_cores.proofs.Gathered.{Gathers}
-use Rattle.control.specs.Views.{Whole, arraysOf}
 use Rattle.update_core.specs.Updates.{updatedBack}
 use Rattle.kept_calls.proofs.Wholes.{whole-of, lent-length}
 use Rattle.kept_calls.proofs.update.Statement.{statement}
@@ -37,15 +36,16 @@ returns c =
     let few : length (b .records) ≡ 32 = c .before .is-records .ensures in
     let put = c .scatter .ensures in
     let old = whole-of (a .link) _ (start .good .0) in
-    let lists = record {
-      whole-queued = c .before .before .before .before .is-list .ensures;
-      whole-outstanding = c .before .before .before .is-words .ensures;
-      whole-transmissions = c .before .before .is-counts .ensures;
-      whole-ready = old .whole-ready;
-      whole-waiting = old .whole-waiting;
-      whole-numbers = old .whole-numbers;
-    } in
-    let left = update-left (a .t) (a .link) p (a .output .now) (a .lengths .now) _ b _ _ _ _ _ g lists (updates .update .ensures) in
+    let left = update-left (a .t) (a .link) p (a .output .now) (a .lengths .now) _ b _ _ _ _ _ g
+      (record {
+        whole-queued = c .before .before .before .before .is-list .ensures;
+        whole-outstanding = c .before .before .before .is-words .ensures;
+        whole-transmissions = c .before .before .is-counts .ensures;
+        whole-ready = old .whole-ready;
+        whole-waiting = old .whole-waiting;
+        whole-numbers = old .whole-numbers;
+      })
+      (updates .update .ensures) in
     (update-promised (a .t) (a .link) p (a .output .now) (a .lengths .now) _ b _ _ _ _ few (put .0) left, put .1)
 
 pub update-spec : {M : Type 1} → statement M
