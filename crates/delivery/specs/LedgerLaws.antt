@@ -49,7 +49,7 @@ pub used-held : (c : Settings) (s : Sending) → Half c s → usedSlots s ≡ le
 unfolding usedSlots
 used-held c s h =
     used-all sendSlots (slots (sendHeld s)) (h .held .distinct)
-        (all-mapped (λ (n : ℕ). n < sendSlots) (λ (x : Held). x .slot) (sendHeld s) (h .held .low))
+    (all-mapped (λ (n : ℕ). n < sendSlots) (λ (x : Held). x .slot) (sendHeld s) (h .held .low))
     ∙ length-map (sendHeld s) (λ (x : Held). x .slot)
 
 -- ---- an arriving segment removes what it acknowledges
@@ -230,7 +230,7 @@ station-messages c off (x ∷ xs) s e p =
       accepted-first s x xs p,
       messages-first (mss c) s x xs p,
       messages-by s (ap isStream e ∙ off) x (own s x .answer)
-      ∙ ap (λ (d : Settings). segmentsOf (mss d) (acceptedBy x (own s x .answer))) e,
+          ∙ ap (λ (d : Settings). segmentsOf (mss d) (acceptedBy x (own s x .answer))) e,
       station-messages c off xs (own s x .station) (own-settings s x ∙ e) (p .2),
     )
 

@@ -258,7 +258,7 @@ module _ (s : Station) (pieces : List Piece) (made : valid (s .state) ≡ true) 
       → Wrote settings s pieces (afterFlush s (flushing (withSchedule (s .state) k) t (s .sendPool)))
   wrote-update t next time few =
       let order : SendingInOrder settings (rescheduled s next) =
-          record { settings = o .settings; long = o .long; valid = o .valid; fits = o .fits; probe = o .probe } in
+      record { settings = o .settings; long = o .long; valid = o .valid; fits = o .fits; probe = o .probe } in
       let w = wrote-flush (rescheduled s next) pieces (valid-rescheduled (s .state) next ∙ made) conv32 order carry h t time few in
       record { shows = w .shows; genuine = w .genuine }
 
@@ -358,8 +358,8 @@ genuine-calls c taken (x ∷ xs) s pieces o carry h k p few =
     let few′ : FewPushes c (datagramsBy (e ∷ later)) = subst (λ (l : List Event). FewPushes c (datagramsBy l)) (history-first s x xs p) few in
     let w : Wrote c s pieces (own s x) = wrote-by c s pieces x (p .1) (taken .conv) o carry h (k .0) (few-first c e later few′) in
     subst (λ (l : List Event). All
-        (GenuineDatagram c (pieces ++ (numberedNow s (own s x .answer) ++ piecesNumbered (own s x .station) xs))) (datagramsBy l))
-        (sym (history-first s x xs p))
+    (GenuineDatagram c (pieces ++ (numberedNow s (own s x .answer) ++ piecesNumbered (own s x .station) xs))) (datagramsBy l))
+    (sym (history-first s x xs p))
     (genuine-both c e later pieces (numberedNow s (own s x .answer)) (piecesNumbered (own s x .station) xs) (w .genuine)
     (genuine-calls c taken xs (own s x .station) (pieces ++ numberedNow s (own s x .answer))
     (sending-stays c (taken .range) s x (k .0) o)
