@@ -20,7 +20,7 @@ use Rattle.lists.specs.Orders.{sentOffset}
 use Rattle.lists.specs.Acknowledging.{select, keep, firstNumberOr}
 use Rattle.lists.specs.declared.Sent.{Sent}
 use Rattle.lists.specs.declared.Acknowledges.the-variants as by
-use Rattle.session.specs.State.{Sending, withWindow}
+use Rattle.session.specs.State.{Sending, withOutstanding, withWindow, withRoundTrip}
 use Rattle.session.specs.Input.{acknowledged, sampledBy, heardBySending}
 use Rattle.session.specs.HeardLaws.{heard-outstanding, heard-una}
 use Rattle.session.specs.Decides.{All}
@@ -51,14 +51,7 @@ module _ (c : Settings) (current : ℕ) (h : Header) (rtt : RoundTrip) where
 
 -- the definition's segment: the window is taken, and an ack may bring a sample
 rest-parts : (c : Settings) (current : ℕ) (s : Sending) (h : Header) → let x = heardBySending c current s h in
-    x ≡ record {
-      una = x .una;
-      next = s .next;
-      queued = s .queued;
-      outstanding = x .outstanding;
-      window = h .wnd;
-      roundTrip = timedBy c current h (s .roundTrip);
-    }
+    x ≡ withRoundTrip (withWindow (h .wnd) (withOutstanding s (x .una) (x .outstanding))) (timedBy c current h (s .roundTrip))
 unfolding heardBySending acknowledged sampledBy timedBy
 rest-parts c current s h = go (eqb (h .cmd) ack)
   where
@@ -66,28 +59,15 @@ rest-parts c current s h = go (eqb (h .cmd) ack)
     passed = acknowledged (by.Una (h .una)) (withWindow (h .wnd) s)
 
     go : (t : Bool) → let x = cond t (acknowledged (by.Ack (h .sn)) (sampledBy c current (h .ts) passed)) passed in
-        x ≡ record {
-          una = x .una;
-          next = s .next;
-          queued = s .queued;
-          outstanding = x .outstanding;
-          window = h .wnd;
-          roundTrip = cond t (cond (isDue current (h .ts)) (sampled (s .roundTrip) c (minus current (h .ts))) (s .roundTrip)) (s .roundTrip);
-        }
+        x ≡ withRoundTrip (withWindow (h .wnd) (withOutstanding s (x .una) (x .outstanding)))
+        (cond t (cond (isDue current (h .ts)) (sampled (s .roundTrip) c (minus current (h .ts))) (s .roundTrip)) (s .roundTrip))
     go true = refl
     go false = refl
 
 -- its parts apart
-heard-parts : (c : Settings) (current : ℕ) (s : Sending) (h : Header)
-    → heardBySending c current s h
-    ≡ record {
-      una = firstNumberOr (keep (staysBy (s .next) h) (s .outstanding)) (s .next);
-      next = s .next;
-      queued = s .queued;
-      outstanding = keep (staysBy (s .next) h) (s .outstanding);
-      window = h .wnd;
-      roundTrip = timedBy c current h (s .roundTrip);
-    }
+heard-parts : (c : Settings) (current : ℕ) (s : Sending) (h : Header) → let left = keep (staysBy (s .next) h) (s .outstanding) in
+    heardBySending c current s h
+    ≡ withRoundTrip (withWindow (h .wnd) (withOutstanding s (firstNumberOr left (s .next)) left)) (timedBy c current h (s .roundTrip))
 heard-parts c current s h = rw (← (heard-outstanding c current s h), ← (heard-una c current s h)) (rest-parts c current s h)
 
 -- ---- what the code makes of the segments in flight

@@ -7,47 +7,79 @@ use Prim.Native.Nat.{ℕ, _-_, _*_}
 use lib.Dec.{leb, ltb}
 use lib.ListN.{length}
 use Rattle.protocol.specs.Protocol.{sendSlots, fragmentsMost}
-use Rattle.protocol.specs.Ranges.{mss}
+use Rattle.protocol.specs.Ranges.{mss, isStream}
+use Rattle.protocol.specs.declared.Settings.{Settings}
 use Rattle.protocol.specs.declared.Refusal.{Refusal}
 use Rattle.protocol.specs.declared.Refusal.the-variants.{ShortPart, LongMessage, NoFreeSlots}
 use Rattle.datagram.specs.Datagrams.{Segment, Parsed, parse}
 use Rattle.schedule.specs.Schedules.{updated}
 use Rattle.schedule.specs.declared.Schedule.{Schedule}
 use Rattle.schedule.specs.declared.Updated.{Updated}
-use Rattle.session.specs.State.{State, Outcome, sendHeld, slots, withQueued, withReceiving, withTimes, withSchedule}
+use Rattle.session.specs.State.{State, Sending, Outcome, sendHeld, slots, withQueued, withReceiving, withTimes, withSchedule}
 use Rattle.session.specs.Valid.{valid}
-use Rattle.session.specs.Cutting.{fragmentCount, cut}
-use Rattle.session.specs.Sending.{Placed, place, Sends, sending}
+use Rattle.session.specs.Cutting.{segmentCount, cutAs}
+use Rattle.session.specs.Sending.{Placed, place, Filled, filled, Sends, sending}
 use Rattle.session.specs.Input.{Took, applied, taking, input}
 use Rattle.session.specs.Flushing.{flushing}
 use Rattle.session.specs.Updating.{Updates, waits, flushes, updating}
 use Rattle.session.specs.Calls.{Station, Call, Answer, Stepped, afterSend, afterTakeIn, afterFlush, afterReading, afterUpdate, own}
 use Rattle.session.specs.Reading.{Reads, readable, unreadable, messageSize, message, afterRead, reading}
 
--- where a message's segments are placed
-abbrev pub placing : State → List ℕ → List ℕ → Placed
-placing s pool m = place (mss (s .settings)) (slots (sendHeld (s .sending))) pool (cut (mss (s .settings)) m)
+-- a half with these settings: its queue filled, and what is left to cut
+abbrev pub filling : Settings → Sending → List ℕ → List ℕ → Filled
+filling c s pool m = filled (isStream c) (mss c) (s .queued) pool m
 
--- a message is not above 127 x mss bytes, and has no more fragments than there are free slots
-pub record Sendable (s : State) (m : List ℕ) : Type 0 where
-  pub short : ltb (fragmentsMost * mss (s .settings)) (length m) ≡ false
-  pub room : ltb (sendSlots - length (slots (sendHeld (s .sending)))) (fragmentCount (mss (s .settings)) (length m)) ≡ false
+-- the payloads of the new segments, and where they are placed
+abbrev pub cutting : Settings → Sending → List ℕ → List ℕ → List (List ℕ)
+cutting c s pool m = cutAs (isStream c) (mss c) (filled (isStream c) (mss c) (s .queued) pool m .rest)
+
+abbrev pub placing : Settings → Sending → List ℕ → List ℕ → Placed
+placing c s pool m =
+    place (isStream c) (mss c) (slots (sendHeld s)) (filled (isStream c) (mss c) (s .queued) pool m .pool)
+    (cutAs (isStream c) (mss c) (filled (isStream c) (mss c) (s .queued) pool m .rest))
+
+-- what is left to cut is not above 127 x mss bytes
+abbrev pub Short : Settings → Sending → List ℕ → List ℕ → Type 0
+Short c s pool m = ltb (fragmentsMost * mss c) (length (filled (isStream c) (mss c) (s .queued) pool m .rest)) ≡ false
+
+-- how many new segments it makes
+abbrev pub newSegments : Settings → Sending → List ℕ → List ℕ → ℕ
+newSegments c s pool m = segmentCount (isStream c) (mss c) (length (filled (isStream c) (mss c) (s .queued) pool m .rest))
+
+-- no more than there are free slots
+abbrev pub Room : Settings → Sending → List ℕ → List ℕ → Type 0
+Room c s pool m = ltb (sendSlots - length (slots (sendHeld s))) (newSegments c s pool m) ≡ false
+
+pub record Sendable (s : State) (pool m : List ℕ) : Type 0 where
+  pub short : Short (s .settings) (s .sending) pool m
+  pub room : Room (s .settings) (s .sending) pool m
+
+-- what an accepted send leaves
+abbrev pub sentBy : State → List ℕ → List ℕ → Sends
+sentBy s pool m =
+    let c = s .settings in
+    let d = s .sending in
+    record { state = withQueued s (filling c d pool m .queued ++ placing c d pool m .segments); pool = placing c d pool m .pool }
 
 pub sending-cases : (P : Outcome Sends → Type 0) (s : State) (pool m : List ℕ) →
     ((r : Refusal) → P (Outcome.refused r)) →
-    (Sendable s m → P (Outcome.done (record { state = withQueued s (s .sending .queued ++ placing s pool m .segments); pool = placing s pool m .pool }))) →
+    (Sendable s pool m → P (Outcome.done (sentBy s pool m))) →
     P (sending s pool m)
 unfolding sending
-sending-cases P s pool m refused done =
-    go (ltb (fragmentsMost * mss (s .settings)) (length m)) refl
-    (ltb (sendSlots - length (slots (sendHeld (s .sending)))) (fragmentCount (mss (s .settings)) (length m))) refl
+sending-cases P s pool m refused done = go (ltb (fragmentsMost * mss c) left) refl (ltb free (newSegments c (s .sending) pool m)) refl
   where
-    result : Sends
-    result = record { state = withQueued s (s .sending .queued ++ placing s pool m .segments); pool = placing s pool m .pool }
+    c : Settings
+    c = s .settings
 
-    go : (a : Bool) → ltb (fragmentsMost * mss (s .settings)) (length m) ≡ a →
-        (b : Bool) → ltb (sendSlots - length (slots (sendHeld (s .sending)))) (fragmentCount (mss (s .settings)) (length m)) ≡ b →
-        P (cond a (Outcome.refused LongMessage) (cond b (Outcome.refused NoFreeSlots) (Outcome.done result)))
+    left : ℕ
+    left = length (filling (s .settings) (s .sending) pool m .rest)
+
+    free : ℕ
+    free = sendSlots - length (slots (sendHeld (s .sending)))
+
+    go : (a : Bool) → ltb (fragmentsMost * mss (s .settings)) left ≡ a →
+        (b : Bool) → ltb free (newSegments (s .settings) (s .sending) pool m) ≡ b →
+        P (cond a (Outcome.refused LongMessage) (cond b (Outcome.refused NoFreeSlots) (Outcome.done (sentBy s pool m))))
     go true e b f = refused LongMessage
     go false e true f = refused NoFreeSlots
     go false e false f = done (record { short = e; room = f })
@@ -106,14 +138,8 @@ updating-cases P s t pool flushed waited = go (updated (s .schedule) t (s .setti
 pub own-cases : (Q : Call → Stepped → Type 0) (s : Station) →
     ((x : Call) (r : Refusal) → Q x (record { station = s; answer = Answer.refused r })) →
     ((m : List ℕ) →
-    Sendable (s .state) m →
-    Q (Call.send m)
-    (afterSend s
-    (Outcome.done
-    (record {
-      state = withQueued (s .state) (s .state .sending .queued ++ placing (s .state) (s .sendPool) m .segments);
-      pool = placing (s .state) (s .sendPool) m .pool;
-    })))) →
+    Sendable (s .state) (s .sendPool) m →
+    Q (Call.send m) (afterSend s (Outcome.done (sentBy (s .state) (s .sendPool) m)))) →
     ((d : List ℕ) (gs : List Segment) →
     parse (s .state .settings .conv) (mss (s .state .settings)) d ≡ Parsed.segments gs →
     Q (Call.takeIn d) (afterTakeIn s (Outcome.done (applied (s .state) (s .receivePool) gs)))) →

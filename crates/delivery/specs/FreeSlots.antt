@@ -57,7 +57,30 @@ occurs-append n (k ∷ a) b = go (eqb n k) (occurs-append n a b)
 pub not-append : (n : ℕ) (a b : List ℕ) → occurs n a ≡ false → occurs n b ≡ false → occurs n (a ++ b) ≡ false
 not-append n a b p q = rw (occurs-append, p, q)
 
+pub occurs-left : (n : ℕ) (a b : List ℕ) → occurs n a ≡ true → occurs n (a ++ b) ≡ true
+occurs-left n a b e = rw (occurs-append n a b, e)
+
+pub occurs-right : (n : ℕ) (a b : List ℕ) → occurs n b ≡ true → occurs n (a ++ b) ≡ true
+occurs-right n a b e = rw (occurs-append n a b, e) (or-true (occurs n a))
+
 -- ---- distinct numbers
+
+pub distinct-right : (a b : List ℕ) → Distinct (a ++ b) → Distinct b
+distinct-right [] b d = d
+distinct-right (x ∷ a) b d = distinct-right a b (d .1)
+
+-- the two parts have none in common
+pub distinct-apart : (a b : List ℕ) → Distinct (a ++ b) → (n : ℕ) → occurs n a ≡ true → occurs n b ≡ false
+distinct-apart [] b d n e = absurd (false≢true (sym (none-occurs n) ∙ e))
+distinct-apart (x ∷ a) b d n e = go (eqb n x) refl (distinct-apart a b (d .1) n)
+  where
+    away : (t : Bool) → occurs x b ≡ t → t ≡ false
+    away true f = absurd (true≢false (sym (occurs-right x a b f) ∙ d .0))
+    away false f = refl
+
+    go : (t : Bool) → eqb n x ≡ t → (occurs n a ≡ true → occurs n b ≡ false) → occurs n b ≡ false
+    go true f later = ap (λ (k : ℕ). occurs k b) (eqb-true n x f) ∙ away (occurs x b) refl
+    go false f later = later (occurs-cases n x a e (eqb-false n x f))
 
 -- two lists of distinct numbers that have none in common
 pub distinct-append : (a b : List ℕ) → Distinct a → Distinct b → ((n : ℕ) → occurs n b ≡ true → occurs n a ≡ false) → Distinct (a ++ b)

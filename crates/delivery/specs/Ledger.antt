@@ -3,31 +3,50 @@
 -- snd_nxt (`acknowledges`). Definitions.
 -- Assumes nothing.
 use mathlib.Core.Path.{_≡_}
-use mathlib.Core.Bool.{cond}
 use mathlib.Core.List.{List, [], _∷_}
-use Prim.Native.Nat.{ℕ, zero, suc, _+_}
+use Prim.Native.Nat.{ℕ, _+_}
 use lib.ListN.{length}
 use Rattle.protocol.specs.Protocol.{sendSlots}
-use Rattle.protocol.specs.Ranges.{mss}
+use Rattle.protocol.specs.Ranges.{mss, isStream}
 use Rattle.protocol.specs.declared.Settings.{Settings}
 use Rattle.datagram.specs.Datagrams.{Segment, Parsed, parse}
 use Rattle.lists.specs.Acknowledging.{keep}
-use Rattle.session.specs.Slots.{occurs}
+use Rattle.session.specs.Slots.{usedBelow}
 use Rattle.session.specs.State.{State, Sending, sendHeld, slots}
+use Rattle.session.specs.Cutting.{segmentCount}
+use Rattle.session.specs.Sending.{filled}
 use Rattle.session.specs.Input.{acknowledges, heardBySending}
-use Rattle.session.specs.Calls.{Station, Call, Answer, Event, step, acceptedList}
-use Rattle.delivery.specs.PlainReceiver.{segmentsOf}
+use Rattle.session.specs.Calls.{Station, Call, Answer, step}
 
 -- ---- used send slots
-
--- how many of the slots 0 to n - 1 are in the list
-unfoldable pub usedBelow : ℕ → List ℕ → ℕ
-usedBelow zero l = 0
-usedBelow (suc n) l = cond (occurs n l) (suc (usedBelow n l)) (usedBelow n l)
 
 -- the send slots that an outstanding or a queued segment holds
 unfoldable pub usedSlots : Sending → ℕ
 usedSlots s = usedBelow sendSlots (slots (sendHeld s))
+
+-- ---- fragments accepted
+
+-- the new segments of a send that is not refused: a message's fragments; in stream mode those of what is left after filling
+abbrev pub fragmentsBy : Station → Call → Answer → ℕ
+fragmentsBy s (Call.send m) Answer.accepted =
+    let c = s .state .settings in
+    let left = filled (isStream c) (mss c) (s .state .sending .queued) (s .sendPool) m .rest in
+    segmentCount (isStream c) (mss c) (length left)
+fragmentsBy s (Call.send m) (Answer.refused r) = 0
+fragmentsBy s (Call.send m) (Answer.wrote ds) = 0
+fragmentsBy s (Call.send m) (Answer.message b) = 0
+fragmentsBy s (Call.send m) Answer.waited = 0
+fragmentsBy s (Call.send m) (Answer.named t) = 0
+fragmentsBy s (Call.takeIn d) a = 0
+fragmentsBy s (Call.flush t) a = 0
+fragmentsBy s (Call.update t) a = 0
+fragmentsBy s (Call.check t) a = 0
+fragmentsBy s (Call.read room) a = 0
+
+-- by these calls: each gets the station as the last one left it
+unfoldable pub stationAccepted : Station → List Call → ℕ
+stationAccepted s [] = 0
+stationAccepted s (x ∷ xs) = fragmentsBy s x (step s x .answer) + stationAccepted (step s x .station) xs
 
 -- ---- segments acknowledged
 
@@ -62,6 +81,6 @@ stationAcknowledged s (x ∷ xs) = acknowledgedBy s x (step s x .answer) + stati
 
 -- ---- the ledger
 
--- used send slots and the segments acknowledged are the fragments accepted in these events: a sum, so that neither can exceed them
-abbrev pub Ledger : Settings → List Event → Sending → ℕ → Type 0
-Ledger c events s acknowledged = usedSlots s + acknowledged ≡ segmentsOf (mss c) (acceptedList events)
+-- used send slots and the segments acknowledged are the fragments accepted: a sum, so that neither can exceed them
+abbrev pub Ledger : Sending → ℕ → ℕ → Type 0
+Ledger s accepted acknowledged = usedSlots s + acknowledged ≡ accepted

@@ -1,7 +1,7 @@
 -- The ledger of document 01 holds over any calls since opening, whatever bytes are taken in.
 -- Assumes nothing.
 use mathlib.Core.Path.{_≡_, refl, sym, ap, _∙_, subst}
-use mathlib.Core.Bool.{Bool, true, false, cond, not, _||_, _&&_}
+use mathlib.Core.Bool.{Bool, true, false, cond, not, _||_, _&&_, true≢false}
 use mathlib.Core.List.{List, [], _∷_, _++_, map}
 use Prim.Native.Nat.{ℕ, zero, suc, _+_, _≤_, _<_}
 use native.Mathlib.Omega.{arith}
@@ -9,7 +9,7 @@ use borrow.Author.Tests.{eqb-true, eqb-false, ne-eqb}
 use lib.Dec.{eqb}
 use lib.ListN.{length, length-append, length-map}
 use Rattle.protocol.specs.Protocol.{sendSlots}
-use Rattle.protocol.specs.Ranges.{inRange, mss}
+use Rattle.protocol.specs.Ranges.{inRange, mss, isStream}
 use Rattle.protocol.specs.Serial.{isBefore}
 use Rattle.protocol.specs.declared.Settings.{Settings}
 use Rattle.protocol.specs.declared.Refusal.{Refusal}
@@ -17,65 +17,40 @@ use Rattle.datagram.specs.Datagrams.{Segment}
 use Rattle.lists.specs.declared.Held.{Held}
 use Rattle.lists.specs.declared.Sent.{Sent}
 use Rattle.lists.specs.Acknowledging.{select, skipBefore}
-use Rattle.session.specs.Slots.{occurs}
+use Rattle.session.specs.UsedSlots.{used-all}
 use Rattle.session.specs.State.{State, Sending, sendHeld, slots, withWindow, withQueue, withOutstanding}
 use Rattle.session.specs.Opening.{opened}
-use Rattle.session.specs.Cutting.{cut}
+use Rattle.session.specs.Cutting.{fragmentCount, segmentCount}
+use Rattle.session.specs.Sending.{filled}
+use Rattle.session.specs.FillLaws.{filled-queue}
 use Rattle.session.specs.HeardLaws.{heard-outstanding, heard-queued}
 use Rattle.session.specs.Input.{acknowledges, heardBySending, allBySending, furthest, skipped, skippedByAll, ackNumbers, applied}
 use Rattle.session.specs.Flushing.{numberedCount, flushing}
 use Rattle.session.specs.Calls.{Station, Call, Answer, Stepped, Event, own, history, after, acceptedBy, acceptedList}
 use Rattle.session.specs.Decides.{All}
-use Rattle.session.specs.Once.{Distinct}
+use Rattle.session.specs.AllLaws.{all-mapped}
 use Rattle.delivery.specs.PlainReceiver.{segmentsOf}
 use Rattle.delivery.specs.Hearing.{Taken, CallFits}
 use Rattle.delivery.specs.Stations.{Opened}
 use Rattle.delivery.specs.Passing.{Passing, step-own}
 use Rattle.delivery.specs.PassingLaws.{history-first, after-first}
 use Rattle.session.specs.MapLaws.{map-kept}
-use Rattle.delivery.specs.CallCases.{placing, own-cases}
-use Rattle.delivery.specs.SendPool.{length-cut, place-count}
+use Rattle.delivery.specs.CallCases.{filling, cutting, placing, own-cases}
+use Rattle.delivery.specs.SendPool.{length-cut-as, place-count}
 use Rattle.delivery.specs.SendingHalf.{Half}
 use Rattle.delivery.specs.SendingTakesIn.{skip-held}
 use Rattle.delivery.specs.SendingFlushes.{flushedWith, flushed-held, count-few, count-room}
-use Rattle.delivery.specs.SendingStays.{SendingInOrder, half-in, sending-stays, sending-always, opened-in-order}
-use Rattle.delivery.specs.Ledger.{usedBelow, usedSlots, acknowledgedByEach, acknowledgedBy, stationAcknowledged, Ledger}
+use Rattle.delivery.specs.SendingStays.{SendingInOrder, own-settings, half-in, sending-stays, sending-always, opened-in-order}
+use Rattle.delivery.specs.Ledger.{usedSlots, fragmentsBy, stationAccepted, acknowledgedByEach, acknowledgedBy, stationAcknowledged, Ledger}
 
 -- ---- slots are held once, so there are as many as segments
 
-used-above : (n x : ℕ) (l : List ℕ) → n ≤ x → usedBelow n (x ∷ l) ≡ usedBelow n l
-unfolding usedBelow occurs
-used-above zero x l h = refl
-used-above (suc n) x l h = rw (ne-eqb n x (omega arith), used-above n x l (omega arith))
-
-used-more : (n x : ℕ) (l : List ℕ) → x < n → occurs x l ≡ false → usedBelow n (x ∷ l) ≡ suc (usedBelow n l)
-unfolding usedBelow occurs
-used-more zero x l h e = absurd (omega arith)
-used-more (suc n) x l h e = go (eqb n x) refl (used-more n x l)
-  where
-    go : (b : Bool) → eqb n x ≡ b → (x < n → occurs x l ≡ false → usedBelow n (x ∷ l) ≡ suc (usedBelow n l)) →
-        cond (b || occurs n l) (suc (usedBelow n (x ∷ l))) (usedBelow n (x ∷ l)) ≡ suc (cond (occurs n l) (suc (usedBelow n l)) (usedBelow n l))
-    go true q later =
-        let none : occurs n l ≡ false = ap (λ (j : ℕ). occurs j l) (eqb-true n x q) ∙ e in
-        rw (none, used-above n x l (omega (arith, eqb-true n x q)))
-    go false q later = rw (later (omega (arith, eqb-false n x q)) e) (at (occurs n l))
-      where
-        at : (b : Bool) → cond b (suc (suc (usedBelow n l))) (suc (usedBelow n l)) ≡ suc (cond b (suc (usedBelow n l)) (usedBelow n l))
-        at true = refl
-        at false = refl
-
-used-none : (n : ℕ) → usedBelow n [] ≡ 0
-unfolding usedBelow occurs
-used-none zero = refl
-used-none (suc n) = used-none n
-
-used-all : (n : ℕ) (l : List Held) → Distinct (slots l) → All (λ (h : Held). h .slot < n) l → usedBelow n (slots l) ≡ length l
-used-all n [] d a = used-none n
-used-all n (h ∷ l) d a = used-more n (h .slot) (slots l) (a .0) (d .0) ∙ ap suc (used-all n l (d .1) (a .1))
-
 pub used-held : (c : Settings) (s : Sending) → Half c s → usedSlots s ≡ length (sendHeld s)
 unfolding usedSlots
-used-held c s h = used-all sendSlots (sendHeld s) (h .held .distinct) (h .held .low)
+used-held c s h =
+    used-all sendSlots (slots (sendHeld s)) (h .held .distinct)
+    (all-mapped (λ (n : ℕ). n < sendSlots) (λ (x : Held). x .slot) (sendHeld s) (h .held .low))
+    ∙ length-map (sendHeld s) (λ (x : Held). x .slot)
 
 -- ---- an arriving segment removes what it acknowledges
 
@@ -132,19 +107,20 @@ skips-held s (n ∷ l) = skipped-held s (furthest n l)
 -- held after, with what is acknowledged, is held before, with what is accepted
 abbrev Balances : Station → Call → Stepped → Type 0
 Balances s x y =
-    held (y .station .state .sending) + acknowledgedBy s x (y .answer) ≡ held (s .state .sending) + segmentsOf (mss (s .state .settings)) (acceptedBy x (y .answer))
+    held (y .station .state .sending) + acknowledgedBy s x (y .answer) ≡ held (s .state .sending) + fragmentsBy s x (y .answer)
 
 balances : (s : Station) → SendingInOrder (s .state .settings) s → (x : Call) → Balances s x (own s x)
-unfolding applied flushing segmentsOf
+unfolding applied flushing
 balances s o =
     own-cases (Balances s) s nothing
     (λ m ok. omega (
       arith,
-      held-parts (withQueue d (d .queued ++ placing (s .state) (s .sendPool) m .segments)),
+      held-parts (withQueue d (filling c d (s .sendPool) m .queued ++ placing c d (s .sendPool) m .segments)),
       held-parts d,
-      length-append (d .queued) (placing (s .state) (s .sendPool) m .segments),
-      place-count (mss c) (slots (sendHeld d)) (s .sendPool) (cut (mss c) m),
-      length-cut (mss c) m,
+      length-append (filling c d (s .sendPool) m .queued) (placing c d (s .sendPool) m .segments),
+      filled-count m,
+      place-count (isStream c) (mss c) (slots (sendHeld d)) (filling c d (s .sendPool) m .pool) (cutting c d (s .sendPool) m),
+      length-cut-as (isStream c) (mss c) (filling c d (s .sendPool) m .rest),
     ))
     (λ b gs e. rw e (omega (arith, each-held c (s .state .current) d gs, skips-held (allBySending c (s .state .current) d gs) (ackNumbers gs))))
     (λ t. omega (arith, ap length (flushed t)))
@@ -159,6 +135,10 @@ balances s o =
     d : Sending
     d = s .state .sending
 
+    -- filling adds no segment
+    filled-count : (m : List ℕ) → length (filling c d (s .sendPool) m .queued) ≡ length (d .queued)
+    filled-count m = filled-queue (mss c) (d .queued) (s .sendPool) m (isStream c)
+
     flushed : (t : ℕ) → sendHeld (flushedWith c t (numberedCount d) d) ≡ sendHeld d
     flushed t = flushed-held c t (numberedCount d) d (count-few d) (count-room d (half-in c s o .numbers .apart))
 
@@ -172,45 +152,86 @@ balances s o =
 
 -- ---- lists of calls
 
-segmentsOf-append : (m : ℕ) (a b : List (List ℕ)) → segmentsOf m (a ++ b) ≡ segmentsOf m a + segmentsOf m b
-unfolding segmentsOf
-segmentsOf-append m [] b = omega arith
-segmentsOf-append m (x ∷ a) b = omega (arith, segmentsOf-append m a b)
-
 -- the first call of a list that passes
 acknowledged-first : (s : Station) (x : Call) (xs : List Call) → Passing s (x ∷ xs) →
     stationAcknowledged s (x ∷ xs) ≡ acknowledgedBy s x (own s x .answer) + stationAcknowledged (own s x .station) xs
 unfolding stationAcknowledged
 acknowledged-first s x xs p = rw (step-own s x (p .0) (p .1))
 
-accepted-first : (m : ℕ) (s : Station) (x : Call) (xs : List Call) → Passing s (x ∷ xs) →
-    segmentsOf m (acceptedList (history s (x ∷ xs))) ≡ segmentsOf m (acceptedBy x (own s x .answer)) + segmentsOf m (acceptedList (history (own s x .station) xs))
-unfolding acceptedList
-accepted-first m s x xs p =
-    ap (λ (l : List Event). segmentsOf m (acceptedList l)) (history-first s x xs p)
-    ∙ segmentsOf-append m (acceptedBy x (own s x .answer)) (acceptedList (history (own s x .station) xs))
+accepted-first : (s : Station) (x : Call) (xs : List Call) → Passing s (x ∷ xs) →
+    stationAccepted s (x ∷ xs) ≡ fragmentsBy s x (own s x .answer) + stationAccepted (own s x .station) xs
+unfolding stationAccepted
+accepted-first s x xs p = rw (step-own s x (p .0) (p .1))
 
 -- by any name of the settings
-balances-by : (c : Settings) (s : Station) (x : Call) → SendingInOrder c s →
-    held (own s x .station .state .sending) + acknowledgedBy s x (own s x .answer) ≡ held (s .state .sending) + segmentsOf (mss c) (acceptedBy x (own s x .answer))
-balances-by c s x o =
-    subst (λ (c : Settings).
-    SendingInOrder c s →
-    held (own s x .station .state .sending) + acknowledgedBy s x (own s x .answer) ≡ held (s .state .sending) + segmentsOf (mss c) (acceptedBy x (own s x .answer)))
-    (o .settings) (λ o. balances s o x) o
+balances-by : (c : Settings) (s : Station) (x : Call) → SendingInOrder c s → Balances s x (own s x)
+balances-by c s x o = subst (λ (c : Settings). SendingInOrder c s → Balances s x (own s x)) (o .settings) (λ o. balances s o x) o
 
 all-balance : (c : Settings) → inRange c ≡ true → (calls : List Call) (s : Station) → All CallFits calls → Passing s calls → SendingInOrder c s →
-    held (after s calls .state .sending) + stationAcknowledged s calls ≡ held (s .state .sending) + segmentsOf (mss c) (acceptedList (history s calls))
-unfolding after stationAcknowledged history acceptedList segmentsOf
+    held (after s calls .state .sending) + stationAcknowledged s calls ≡ held (s .state .sending) + stationAccepted s calls
+unfolding after stationAcknowledged stationAccepted
 all-balance c range [] s k p o = omega arith
 all-balance c range (x ∷ xs) s k p o =
     omega (
       arith,
       ap (λ (y : Station). held (y .state .sending)) (after-first s x xs p),
       acknowledged-first s x xs p,
-      accepted-first (mss c) s x xs p,
+      accepted-first s x xs p,
       balances-by c s x o,
       all-balance c range xs (own s x .station) (k .1) (p .2) (sending-stays c range s x (k .0) o),
+    )
+
+-- ---- in message mode the fragments accepted are those of the messages accepted
+
+segmentsOf-append : (m : ℕ) (a b : List (List ℕ)) → segmentsOf m (a ++ b) ≡ segmentsOf m a + segmentsOf m b
+unfolding segmentsOf
+segmentsOf-append m [] b = omega arith
+segmentsOf-append m (x ∷ a) b = omega (arith, segmentsOf-append m a b)
+
+messages-first : (m : ℕ) (s : Station) (x : Call) (xs : List Call) → Passing s (x ∷ xs) →
+    segmentsOf m (acceptedList (history s (x ∷ xs)))
+    ≡ segmentsOf m (acceptedBy x (own s x .answer)) + segmentsOf m (acceptedList (history (own s x .station) xs))
+unfolding acceptedList
+messages-first m s x xs p =
+    ap (λ (l : List Event). segmentsOf m (acceptedList l)) (history-first s x xs p)
+    ∙ segmentsOf-append m (acceptedBy x (own s x .answer)) (acceptedList (history (own s x .station) xs))
+
+-- nothing is filled, and a message is cut whole
+whole-cut : (stream : Bool) → stream ≡ false → (m : ℕ) (q : List Held) (pool b : List ℕ) →
+    segmentCount stream m (length (filled stream m q pool b .rest)) ≡ fragmentCount m (length b)
+unfolding filled segmentCount
+whole-cut false e m q pool b = refl
+whole-cut true e m q pool b = absurd (true≢false e)
+
+messages-by : (s : Station) → isStream (s .state .settings) ≡ false → (x : Call) (a : Answer) →
+    fragmentsBy s x a ≡ segmentsOf (mss (s .state .settings)) (acceptedBy x a)
+unfolding segmentsOf
+messages-by s e (Call.send m) Answer.accepted =
+    let c = s .state .settings in
+    omega (arith, whole-cut (isStream c) e (mss c) (s .state .sending .queued) (s .sendPool) m)
+messages-by s e (Call.send m) (Answer.refused r) = refl
+messages-by s e (Call.send m) (Answer.wrote ds) = refl
+messages-by s e (Call.send m) (Answer.message b) = refl
+messages-by s e (Call.send m) Answer.waited = refl
+messages-by s e (Call.send m) (Answer.named t) = refl
+messages-by s e (Call.takeIn d) a = refl
+messages-by s e (Call.flush t) a = refl
+messages-by s e (Call.update t) a = refl
+messages-by s e (Call.check t) a = refl
+messages-by s e (Call.read room) a = refl
+
+pub station-messages : (c : Settings) → isStream c ≡ false → (calls : List Call) (s : Station) → s .state .settings ≡ c → Passing s calls →
+    stationAccepted s calls ≡ segmentsOf (mss c) (acceptedList (history s calls))
+unfolding stationAccepted acceptedList history segmentsOf
+station-messages c off [] s e p = refl
+station-messages c off (x ∷ xs) s e p =
+    omega (
+      arith,
+      accepted-first s x xs p,
+      messages-first (mss c) s x xs p,
+      messages-by s (ap isStream e ∙ off) x (own s x .answer)
+          ∙ ap (λ (d : Settings). segmentsOf (mss d) (acceptedBy x (own s x .answer))) e,
+      station-messages c off xs (own s x .station) (own-settings s x ∙ e) (p .2),
     )
 
 -- ---- since opening
@@ -220,7 +241,7 @@ unfolding opened
 opened-held c = refl
 
 module _ (c : Settings) (taken : Taken c) (s : Station) (p : Opened c s) (calls : List Call) (k : All CallFits calls) (q : Passing s calls) where
-  pub station-ledger : Ledger c (history s calls) (after s calls .state .sending) (stationAcknowledged s calls)
+  pub station-ledger : Ledger (after s calls .state .sending) (stationAccepted s calls) (stationAcknowledged s calls)
   station-ledger =
       let o : SendingInOrder c s = opened-in-order c s p in
       let after-all : SendingInOrder c (after s calls) = sending-always c (taken .range) calls s k q o in

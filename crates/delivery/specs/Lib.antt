@@ -2,6 +2,7 @@ pub mod PlainReceiver
 pub mod Hearing
 pub mod Claims
 pub mod Stations
+pub mod Accepted
 pub mod Pieces
 pub mod Passing
 pub mod PassingLaws
@@ -12,6 +13,7 @@ pub mod SlotBytes
 pub mod SendPool
 pub mod HeaderRange
 pub mod SendingHalf
+pub mod Filling
 pub mod SendingTakesIn
 pub mod SendingSends
 pub mod SendingFlushes
@@ -35,7 +37,12 @@ pub mod ReceivingLaws
 pub mod ReceivingSteps
 pub mod Receiving
 pub mod SenderModel
+pub mod Numbering
 pub mod SentGenuine
+pub mod FlushNumbers
+pub mod CutBytes
+pub mod NumberingLaws
+pub mod QueuedBytes
 pub mod Ledger
 pub mod LedgerLaws
 pub mod AlwaysValid

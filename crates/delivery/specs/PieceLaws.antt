@@ -1,7 +1,8 @@
 -- Laws of the accepted segments: how many a message has, where its segments stand in the whole list, and that they joined are the message.
 -- Assumes nothing.
-use mathlib.Core.Path.{_≡_, refl, ap, _∙_}
-use mathlib.Core.List.{List, [], _∷_, _++_}
+use mathlib.Core.Path.{_≡_, refl, sym, ap, _∙_}
+use mathlib.Core.Bool.{Bool, false}
+use mathlib.Core.List.{List, [], _∷_, _++_, append-assoc}
 use mathlib.Core.Option.{none, some}
 use Prim.Native.Nat.{ℕ, zero, suc, _+_, _-_, _*_, _/_, _≤_, _<_, max}
 use native.Mathlib.Nat.{add-zero, zero-add, div-add-mod', mod-lt}
@@ -10,14 +11,14 @@ use lib.ListN.{length, take, drop, getElem?, length-drop, take-append-drop}
 use lib.Seq.{drop-append-add}
 use Rattle.session.specs.Cutting.{fragmentCount, pieces, cut}
 use Rattle.delivery.specs.PlainReceiver.{segmentsOf}
-use Rattle.delivery.specs.Pieces.{falling, piecesOf}
+use Rattle.delivery.specs.Pieces.{fragmented, falling, piecesOf}
 use Rattle.delivery.specs.ListLaws.{none≢some, drop-entry, drop-no-entry}
 use Rattle.delivery.specs.SendPool.{length-cut}
 use Rattle.delivery.specs.ReceiverModel.{joined}
 
 -- ---- a message cut
 
-enough-fragments : (m n : ℕ) → 0 < m → n ≤ fragmentCount m n * m
+pub enough-fragments : (m n : ℕ) → 0 < m → n ≤ fragmentCount m n * m
 unfolding fragmentCount
 enough-fragments m n h = go ((n + (m - 1)) / m) (omega (arith, div-add-mod' (n + (m - 1)) m, mod-lt (n + (m - 1)) h))
   where
@@ -26,23 +27,28 @@ enough-fragments m n h = go ((n + (m - 1)) / m) (omega (arith, div-add-mod' (n +
     go (suc q) i = let e : max 1 (suc q) ≡ suc q = omega arith in rw e i
 
 pub length-falling : (ps : List (List ℕ)) → length (falling ps) ≡ length ps
-unfolding falling
+unfolding fragmented
 length-falling [] = refl
 length-falling (p ∷ ps) = ap suc (length-falling ps)
 
 -- ---- joined again
 
-joined-pieces : (m k : ℕ) (b : List ℕ) → length b ≤ k * m → joined (falling (pieces m k b)) ≡ b
-unfolding joined falling pieces
-joined-pieces m zero [] h = refl
-joined-pieces m zero (x ∷ b) h = absurd (omega arith)
-joined-pieces m (suc k) b h = rw (joined-pieces m k (drop m b) (simp (length-drop) (omega arith))) (take-append-drop m b)
+pub joined-pieces : (stream : Bool) (m k : ℕ) (b : List ℕ) → length b ≤ k * m → joined (fragmented stream (pieces m k b)) ≡ b
+unfolding joined fragmented pieces
+joined-pieces stream m zero [] h = refl
+joined-pieces stream m zero (x ∷ b) h = absurd (omega arith)
+joined-pieces stream m (suc k) b h = rw (joined-pieces stream m k (drop m b) (simp (length-drop) (omega arith))) (take-append-drop m b)
 
 pub joined-cut : (m : ℕ) (b : List ℕ) → 0 < m → joined (falling (cut m b)) ≡ b
 unfolding cut
-joined-cut m b h = joined-pieces m (fragmentCount m (length b)) b (enough-fragments m (length b) h)
+joined-cut m b h = joined-pieces false m (fragmentCount m (length b)) b (enough-fragments m (length b) h)
 
 -- ---- where they stand
+
+pub piecesOf-append : (m : ℕ) (a b : List (List ℕ)) → piecesOf m (a ++ b) ≡ piecesOf m a ++ piecesOf m b
+unfolding piecesOf
+piecesOf-append m [] b = refl
+piecesOf-append m (x ∷ a) b = rw (piecesOf-append m a b) (sym (append-assoc (falling (cut m x)) (piecesOf m a) (piecesOf m b)))
 
 module _ (m : ℕ) where
   -- behind the segments of the first o messages are those of the others

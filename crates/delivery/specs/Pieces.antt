@@ -1,7 +1,7 @@
 -- The segments of the accepted list, numbered from 0 in order, and the pushes that are of them.
 -- Assumes nothing.
 use mathlib.Core.Path.{_≡_}
-use mathlib.Core.Bool.{cond}
+use mathlib.Core.Bool.{Bool, false, cond}
 use mathlib.Core.List.{List, [], _∷_, _++_}
 use mathlib.Core.Option.{some}
 use Prim.Native.Nat.{ℕ, _^_, _<_}
@@ -19,10 +19,14 @@ pub record Piece : Type 0 where
   pub fragment : ℕ
   pub payload : List ℕ
 
--- fragment numbers fall to 0
-unfoldable pub falling : List (List ℕ) → List Piece
-falling [] = []
-falling (p ∷ ps) = record { fragment = length ps; payload = p } ∷ falling ps
+-- the segments of payloads: fragment numbers fall to 0, and in stream mode all are 0
+unfoldable pub fragmented : Bool → List (List ℕ) → List Piece
+fragmented stream [] = []
+fragmented stream (p ∷ ps) = record { fragment = cond stream 0 (length ps); payload = p } ∷ fragmented stream ps
+
+-- those of a message
+abbrev pub falling : List (List ℕ) → List Piece
+falling ps = fragmented false ps
 
 -- the segments of messages, in order
 unfoldable pub piecesOf : ℕ → List (List ℕ) → List Piece

@@ -25,7 +25,7 @@ use Rattle.session.specs.Slots.{occurs, lowestFrom}
 use Rattle.session.specs.Cutting.{fragmentCount, cut}
 use Rattle.session.specs.Decides.{All}
 use Rattle.delivery.specs.PlainReceiver.{Plain, atFirst, Found, pushNumbers, segmentsOf, allHeard, firstWanted, nextExpected, hear, feed, answerFor, plainAnswer, leave}
-use Rattle.delivery.specs.Pieces.{Piece, falling, piecesOf, pieceOf, pushes}
+use Rattle.delivery.specs.Pieces.{Piece, fragmented, falling, piecesOf, pieceOf, pushes}
 use Rattle.delivery.specs.FreeSlots.{occurs-later}
 use Rattle.delivery.specs.SearchLaws.{occurs-other, occurs-here, occurs-either, lowest-from, lowest-most, lowest-passed, lowest-stops, lowest-skips}
 use Rattle.delivery.specs.PlainLaws.{all-heard-each, each-all-heard, not-all-heard, take-one-more, ComesOut, answer-message}
@@ -300,7 +300,7 @@ module _ (c : Settings) (accepted : List (List ℕ)) where
     stands : drop (base p) S ≡ record { fragment = length others; payload = first } ∷ (falling others ++ behind)
 
   next-message : (p : Plain) (x : List ℕ) → getElem? accepted (p .out) ≡ some x → NextMessage p x
-  unfolding falling
+  unfolding fragmented
   next-message p x e = go (cut (mss c) x) refl
     where
       go : (ps : List (List ℕ)) → cut (mss c) x ≡ ps → NextMessage p x
@@ -345,7 +345,7 @@ module _ (c : Settings) (accepted : List (List ℕ)) where
     -- its segments at the front of the ready list, joined
     front-joined : 0 < mss c → (j : ℕ) → length (m .others) ≤ j
         → joined (take (length (m .others) + 1) (record { fragment = length (m .others); payload = m .first } ∷ take j (falling (m .others) ++ m .behind))) ≡ x
-    unfolding falling joined
+    unfolding fragmented joined
     front-joined some-bytes j l =
         let t : take (length (m .others)) (take j (falling (m .others) ++ m .behind)) ≡ falling (m .others) = take-take (length (m .others)) j (falling (m .others) ++ m .behind) l ∙ take-at (falling (m .others)) (m .behind) (length (m .others)) (length-falling (m .others)) in
         rw (add-one (length (m .others)), t) (rw (m .cuts) at (joined-cut (mss c) x some-bytes))

@@ -1,5 +1,5 @@
--- What the sending half shows of the accepted list: the queued segments are its pieces from snd_nxt on, each outstanding one is the piece of its number.
--- A proof layer between the calls and the accepted list: no contract cites it.
+-- What the sending half shows of the pieces numbered so far: snd_nxt is their count, each outstanding segment is the piece of its number.
+-- A proof layer between the calls and what is numbered: no contract cites it.
 -- Assumes nothing.
 use mathlib.Core.Path.{_≡_, refl, sym, ap, ap₂, _∙_}
 use mathlib.Core.Bool.{Bool, true, false, cond, not, _&&_}
@@ -8,9 +8,10 @@ use mathlib.Core.Option.{some}
 use Prim.Native.Nat.{ℕ, zero, suc, _+_, _*_, _^_, _≤_, _<_}
 use native.Mathlib.Omega.{arith}
 use lib.Dec.{eqb}
-use lib.ListN.{length, take, drop, getElem?, length-append, length-take, length-drop, length-map, take-append-drop}
-use lib.Seq.{drop-append-le, drop-drop}
-use Rattle.protocol.specs.Protocol.{ack, sendWindow}
+use lib.ListN.{length, take, drop, getElem?, length-append, length-take, length-map}
+use lib.Seq.{drop-at}
+use Rattle.protocol.specs.Protocol.{ack, sendWindow, sendSlots}
+use Rattle.protocol.specs.Ranges.{mss, isStream}
 use Rattle.protocol.specs.Serial.{plus, isBefore}
 use Rattle.wire.specs.declared.Header.{Header}
 use Rattle.protocol.specs.declared.Settings.{Settings}
@@ -23,17 +24,20 @@ use Rattle.lists.specs.Acknowledging as acknowledging
 use Rattle.lists.specs.Acknowledging.{skipBefore}
 use Rattle.session.specs.Slots.{occurs}
 use Rattle.session.specs.State.{Sending, sendHeld, slots, withWindow, withQueue, withOutstanding}
-use Rattle.session.specs.Sending.{Placed}
+use Rattle.session.specs.Sending.{Placed, Filled}
 use Rattle.session.specs.Input.{acknowledged, sampledBy, heardBySending, allBySending, furthest, skipped, skippedByAll}
 use Rattle.session.specs.Flushing.{numbered, withNumbered}
 use Rattle.session.specs.Decides.{All}
-use Rattle.session.specs.AllLaws.{all-left, all-right, all-append, all-select}
-use Rattle.delivery.specs.Pieces.{Piece, falling}
-use Rattle.session.specs.MapLaws.{map-append, map-drop}
-use Rattle.delivery.specs.FreeSlots.{occurs-first, occurs-later}
+use Rattle.session.specs.AllLaws.{all-both, all-weaker, all-left, all-append, all-select}
+use Rattle.session.specs.MapLaws.{map-append}
+use Rattle.delivery.specs.Pieces.{Piece, fragmented}
+use Rattle.delivery.specs.CallCases.{filling, cutting, placing, Room}
+use Rattle.delivery.specs.FreeSlots.{occurs-first, occurs-later, occurs-left, occurs-right, distinct-apart}
 use Rattle.delivery.specs.SendPool.{pieceIn, PlacedWell}
-use Rattle.delivery.specs.SendingHalf.{HeldWell}
+use Rattle.delivery.specs.SendingHalf.{Half}
+use Rattle.delivery.specs.Filling.{FilledWell}
 use Rattle.delivery.specs.SendingTakesIn.{skip-held, skip-number}
+use Rattle.delivery.specs.SendingSends.{send-filled, send-placed}
 use Rattle.delivery.specs.SendingFlushes.{flushedWith}
 
 -- ---- entries of lists
@@ -61,10 +65,10 @@ pub record Shows (m : ℕ) (pool : List ℕ) (pieces : List Piece) (x : Sent) : 
   pub its-piece : getElem? pieces (x .record .number) ≡ some (pieceIn m pool (x .held))
   pub small : x .record .number < 2 ^ 30
 
+-- with the pieces numbered so far
 pub record Sends (m : ℕ) (pool : List ℕ) (pieces : List Piece) (s : Sending) : Type 0 where
   pub low : s .next ≤ 2 ^ 30
-  pub ahead : s .next + length (s .queued) ≡ length pieces
-  pub queued : map (pieceIn m pool) (s .queued) ≡ drop (s .next) pieces
+  pub counts : s .next ≡ length pieces
   pub sent : All (Shows m pool pieces) (s .outstanding)
 
 -- ---- taking in changes neither the queue nor any segment
@@ -140,7 +144,12 @@ pub sends-taken : (m : ℕ) (pool : List ℕ) (pieces : List Piece) (c : Setting
     Sends m pool pieces (skippedByAll (allBySending c current s gs) l)
 sends-taken m pool pieces c current s gs l h =
     let k = keeps-taken (Shows m pool pieces) (skip-shows m pool pieces) c current s gs l in
-    record { low = rw (k .next) (h .low); ahead = rw (k .next, k .queued) (h .ahead); queued = rw (k .next, k .queued) (h .queued); sent = k .sent (h .sent) }
+    record { low = rw (k .next) (h .low); counts = rw (k .next) (h .counts); sent = k .sent (h .sent) }
+
+-- taking in keeps snd_nxt and the queue
+pub taken-same : (c : Settings) (current : ℕ) (s : Sending) (gs : List Segment) (l : List ℕ) →
+    (skippedByAll (allBySending c current s gs) l .next ≡ s .next) × (skippedByAll (allBySending c current s gs) l .queued ≡ s .queued)
+taken-same c current s gs l = let k = keeps-taken (λ (x : Sent). Unit {0}) (λ n x h. h) c current s gs l in (k .next, k .queued)
 
 -- ---- sending
 
@@ -157,58 +166,96 @@ old-pieces m used pool pool′ same (h ∷ l) a i = (
   old-pieces m used pool pool′ same l (a .1) (λ s e. i s (occurs-later s (h .slot) (slots l) e)),
 )
 
-shows-more : (m : ℕ) (pool pool′ : List ℕ) (pieces more : List Piece) (l : List Sent) →
+shows-in : (m : ℕ) (pool pool′ : List ℕ) (pieces : List Piece) (l : List Sent) →
     All (λ (h : Held). pieceIn m pool′ h ≡ pieceIn m pool h) (map (λ (x : Sent). x .held) l) →
     All (Shows m pool pieces) l →
-    All (Shows m pool′ (pieces ++ more)) l
-shows-more m pool pool′ pieces more [] e a = tt
-shows-more m pool pool′ pieces more (x ∷ l) e a = (
-  record { its-piece = get-append pieces more (x .record .number) (pieceIn m pool′ (x .held)) (a .0 .its-piece ∙ ap some (sym (e .0))); small = a .0 .small },
-  shows-more m pool pool′ pieces more l (e .1) (a .1),
+    All (Shows m pool′ pieces) l
+shows-in m pool pool′ pieces [] e a = tt
+shows-in m pool pool′ pieces (x ∷ l) e a = (
+  record { its-piece = a .0 .its-piece ∙ ap some (sym (e .0)); small = a .0 .small },
+  shows-in m pool pool′ pieces l (e .1) (a .1),
 )
 
-length-falling : (ps : List (List ℕ)) → length (falling ps) ≡ length ps
-unfolding falling
-length-falling [] = refl
-length-falling (p ∷ ps) = ap suc (length-falling ps)
+-- more pieces are numbered
+shows-more : (m : ℕ) (pool : List ℕ) (pieces more : List Piece) (l : List Sent) → All (Shows m pool pieces) l →
+    All (Shows m pool (pieces ++ more)) l
+shows-more m pool pieces more [] a = tt
+shows-more m pool pieces more (x ∷ l) a = (
+  record { its-piece = get-append pieces more (x .record .number) (pieceIn m pool (x .held)) (a .0 .its-piece); small = a .0 .small },
+  shows-more m pool pieces more l (a .1),
+)
 
-pub sends-more : (m : ℕ) (pool : List ℕ) (pieces : List Piece) (s : Sending) (ps : List (List ℕ)) (r : Placed) →
-    HeldWell m (sendHeld s) →
-    PlacedWell m (slots (sendHeld s)) pool ps r →
-    Sends m pool pieces s →
-    Sends m (r .pool) (pieces ++ falling ps) (withQueue s (s .queued ++ r .segments))
-sends-more m pool pieces s ps r w p h = record {
-  low = h .low;
-  ahead = simp (length-append, length-falling) (omega (arith, h .ahead, simp (length-map, length-falling) at (ap length (p .new))));
-  queued =
-      map-append (pieceIn m (r .pool)) (s .queued) (r .segments)
-      ∙ ap₂ {C = List Piece} (λ (a b : List Piece). a ++ b) (map-same (pieceIn m (r .pool)) (pieceIn m pool) (s .queued) (all-right Same out (s .queued) same) ∙ h .queued) (p .new)
-      ∙ sym (drop-append-le (s .next) pieces (falling ps) (omega (arith, h .ahead)));
-  sent = shows-more m pool (r .pool) pieces (falling ps) (s .outstanding) (all-left Same out (s .queued) same) (h .sent);
-}
-  where
-    out : List Held
-    out = map (λ (x : Sent). x .held) (s .outstanding)
+module _ (c : Settings) (s : Sending) (pool message : List ℕ) (h : Half c s) (enough : sendSlots * mss c ≤ length pool)
+    (room : Room c s pool message) where
+  abbrev f : Filled
+  f = filling c s pool message
 
-    Same : Held → Type 0
-    Same x = pieceIn m (r .pool) x ≡ pieceIn m pool x
+  abbrev cuts : List (List ℕ)
+  cuts = cutting c s pool message
 
-    same : All Same (sendHeld s)
-    same = old-pieces m (slots (sendHeld s)) pool (r .pool) (p .old) (sendHeld s) (w .lengths) (λ slot e. e)
+  abbrev placed : Placed
+  placed = placing c s pool message
+
+  abbrev out : List Held
+  out = map (λ (x : Sent). x .held) (s .outstanding)
+
+  fills : FilledWell (mss c) pool (s .queued) message f
+  fills = send-filled c s pool message h enough room
+
+  places : PlacedWell (isStream c) (mss c) (slots (sendHeld s)) (f .pool) cuts placed
+  places = send-placed c s pool message h enough room
+
+  held-slots : slots (sendHeld s) ≡ slots out ++ slots (s .queued)
+  held-slots = map-append (λ (x : Held). x .slot) out (s .queued)
+
+  -- outstanding segments show what they did
+  same-sent : All (λ (x : Held). pieceIn (mss c) (placed .pool) x ≡ pieceIn (mss c) pool x) out
+  same-sent =
+      all-weaker (λ (x : Held). (pieceIn (mss c) (placed .pool) x ≡ pieceIn (mss c) (f .pool) x) ×
+      (pieceIn (mss c) (f .pool) x ≡ pieceIn (mss c) pool x))
+      (λ (x : Held). pieceIn (mss c) (placed .pool) x ≡ pieceIn (mss c) pool x)
+      (λ x e. e .0 ∙ e .1)
+      out
+      (all-both (λ (x : Held). pieceIn (mss c) (placed .pool) x ≡ pieceIn (mss c) (f .pool) x)
+      (λ (x : Held). pieceIn (mss c) (f .pool) x ≡ pieceIn (mss c) pool x) out
+      (old-pieces (mss c) (slots (sendHeld s)) (f .pool) (placed .pool) (places .old) out lengths
+      (λ n e. rw held-slots (occurs-left n (slots out) (slots (s .queued)) e)))
+      (old-pieces (mss c) (slots out) pool (f .pool)
+      (λ n k e few. fills .others n k (distinct-apart (slots out) (slots (s .queued)) (rw held-slots at (h .held .distinct)) n e) few)
+      out lengths (λ n e. e)))
+    where
+      lengths : All (λ (x : Held). x .len ≤ mss c) out
+      lengths = all-left (λ (x : Held). x .len ≤ mss c) out (s .queued) (h .held .lengths)
+
+  -- the queue then: as filled, and the new segments behind it
+  pub new-queue : map (pieceIn (mss c) (placed .pool)) (f .queued ++ placed .segments) ≡ map (pieceIn (mss c) (f .pool)) (f .queued) ++
+      fragmented (isStream c) cuts
+  new-queue =
+      map-append (pieceIn (mss c) (placed .pool)) (f .queued) (placed .segments)
+      ∙ ap₂ {C = List Piece} (λ (a b : List Piece). a ++ b)
+      (map-same (pieceIn (mss c) (placed .pool)) (pieceIn (mss c) (f .pool)) (f .queued)
+      (old-pieces (mss c) (slots (sendHeld s)) (f .pool) (placed .pool) (places .old) (f .queued) (fills .lengths)
+      (λ n e. rw held-slots (occurs-right n (slots out) (slots (s .queued)) (rw (fills .slots-same) at e)))))
+      (places .new)
+
+  pub sends-more : (pieces : List Piece) → Sends (mss c) pool pieces s →
+      Sends (mss c) (placed .pool) pieces (withQueue s (f .queued ++ placed .segments))
+  sends-more pieces m =
+      record { low = m .low; counts = m .counts; sent = shows-in (mss c) pool (placed .pool) pieces (s .outstanding) same-sent (m .sent) }
 
 -- ---- flushing
 
 -- numbers from n on, that do not wrap
-numbered-shows : (m : ℕ) (pool : List ℕ) (pieces : List Piece) (n : ℕ) (q : List Held) (rest : List Piece) →
+numbered-shows : (m : ℕ) (pool : List ℕ) (pieces : List Piece) (n : ℕ) (q : List Held) →
     n + length q ≤ 2 ^ 30 →
-    drop n pieces ≡ map (pieceIn m pool) q ++ rest →
+    drop n pieces ≡ map (pieceIn m pool) q →
     All (Shows m pool pieces) (numbered n q)
 unfolding numbered
-numbered-shows m pool pieces n [] rest h e = tt
-numbered-shows m pool pieces n (x ∷ q) rest h e =
-    let d = drop-head pieces n (pieceIn m pool x) (map (pieceIn m pool) q ++ rest) e in
+numbered-shows m pool pieces n [] h e = tt
+numbered-shows m pool pieces n (x ∷ q) h e =
+    let d = drop-head pieces n (pieceIn m pool x) (map (pieceIn m pool) q) e in
     let w : plus n 1 ≡ suc n = omega arith in
-    (record { its-piece = d .0; small = omega arith }, rw w (numbered-shows m pool pieces (suc n) q rest (omega arith) (d .1)))
+    (record { its-piece = d .0; small = omega arith }, rw w (numbered-shows m pool pieces (suc n) q (omega arith) (d .1)))
 
 -- where all numbers are below 2^30, so is their end
 pub numbered-end : (n : ℕ) (q : List Held) →
@@ -227,19 +274,24 @@ module _ (m : ℕ) (pool : List ℕ) (pieces : List Piece) (c : Settings) (t k :
   count : length (take k (s .queued)) ≡ k
   count = simp length-take (omega arith)
 
+  -- the pieces numbered then
+  abbrev more : List Piece
+  more = pieces ++ map (pieceIn m pool) (take k (s .queued))
+
   -- the outstanding segments and the newly numbered ones
-  pub with-numbered : Sends m pool pieces s → All (Shows m pool pieces) (withNumbered s k)
+  pub with-numbered : Sends m pool pieces s → All (Shows m pool more) (withNumbered s k)
   unfolding withNumbered
   with-numbered h =
-      all-append (Shows m pool pieces) (s .outstanding) (numbered (s .next) (take k (s .queued))) (h .sent)
-      (numbered-shows m pool pieces (s .next) (take k (s .queued)) (map (pieceIn m pool) (drop k (s .queued))) (rw count small)
-      (sym (h .queued) ∙ ap (map (pieceIn m pool)) (sym (take-append-drop k (s .queued))) ∙ map-append (pieceIn m pool) (take k (s .queued)) (drop k (s .queued))))
+      all-append (Shows m pool more) (s .outstanding) (numbered (s .next) (take k (s .queued)))
+      (shows-more m pool pieces (map (pieceIn m pool) (take k (s .queued))) (s .outstanding) (h .sent))
+      (numbered-shows m pool more (s .next) (take k (s .queued)) (rw count small)
+      (drop-at pieces (map (pieceIn m pool) (take k (s .queued))) (s .next) (sym (h .counts))))
 
-  pub sends-flushed : Sends m pool pieces s → All (Shows m pool pieces) (flushedWith c t k s .outstanding) → Sends m pool pieces (flushedWith c t k s)
+  pub sends-flushed : Sends m pool pieces s → All (Shows m pool more) (flushedWith c t k s .outstanding) →
+      Sends m pool more (flushedWith c t k s)
   sends-flushed h a = record {
     low = rw end small;
-    ahead = rw end (simp length-drop (omega (arith, h .ahead)));
-    queued = rw end (map-drop (pieceIn m pool) k (s .queued) ∙ ap (drop k) (h .queued) ∙ drop-drop k (s .next) pieces);
+    counts = rw end (simp (length-append, length-map) (omega (arith, count, h .counts)));
     sent = a;
   }
     where

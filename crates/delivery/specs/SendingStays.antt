@@ -8,7 +8,7 @@ use Prim.Native.Nat.{ℕ, _+_, _*_, _≤_}
 use native.Mathlib.Omega.{arith}
 use lib.ListN.{length}
 use Rattle.protocol.specs.Protocol.{sendSlots, sendWindow}
-use Rattle.protocol.specs.Ranges.{inRange, mss}
+use Rattle.protocol.specs.Ranges.{inRange, mss, isStream}
 use Rattle.protocol.specs.Serial.{minus}
 use Rattle.protocol.specs.declared.Settings.{Settings}
 use Rattle.timing.specs.Probes.{nextClock}
@@ -20,8 +20,8 @@ use Rattle.session.specs.Valid.{probeFits, sendingValid}
 use Rattle.session.specs.Decides.{All}
 use Rattle.session.specs.SendingValid.{sending-decides, probe-decides}
 use Rattle.session.specs.Opening.{opened}
-use Rattle.session.specs.Cutting.{cut}
 use Rattle.session.specs.Sending.{sending}
+use Rattle.session.specs.FillLaws.{filled-length}
 use Rattle.session.specs.Input.{applied, allBySending, ackNumbers}
 use Rattle.session.specs.Flushing.{numberedCount, flushing}
 use Rattle.session.specs.Calls.{Station, Call, Stepped, lengthsOf, own, after}
@@ -29,7 +29,7 @@ use Rattle.delivery.specs.Hearing.{CallFits}
 use Rattle.delivery.specs.Stations.{Opened}
 use Rattle.delivery.specs.Passing.{Passing}
 use Rattle.delivery.specs.PassingLaws.{after-first}
-use Rattle.delivery.specs.CallCases.{own-cases}
+use Rattle.delivery.specs.CallCases.{filling, cutting, own-cases}
 use Rattle.delivery.specs.HeaderRange.{HeaderFits, Each, parse-fits}
 use Rattle.delivery.specs.SendPool.{place-length}
 use Rattle.delivery.specs.SizeLaws.{mtu-in-range, enough-pool}
@@ -52,7 +52,11 @@ pub own-send-pool : (s : Station) (x : Call) → length (own s x .station .sendP
 own-send-pool s =
     own-cases (λ (x : Call) (y : Stepped). length (y .station .sendPool) ≡ length (s .sendPool)) s
     (λ x r. refl)
-    (λ m ok. place-length (mss (s .state .settings)) (slots (sendHeld (s .state .sending))) (s .sendPool) (cut (mss (s .state .settings)) m))
+    (λ m ok.
+    place-length (isStream (s .state .settings)) (mss (s .state .settings)) (slots (sendHeld (s .state .sending)))
+    (filling (s .state .settings) (s .state .sending) (s .sendPool) m .pool)
+    (cutting (s .state .settings) (s .state .sending) (s .sendPool) m)
+    ∙ filled-length (mss (s .state .settings)) (s .state .sending .queued) (s .sendPool) m (isStream (s .state .settings)))
     (λ d gs e. refl)
     (λ t. refl)
     (λ room. refl)
@@ -104,7 +108,7 @@ module _ (s : Station) (range : inRange (s .state .settings) ≡ true) (o : Send
   own-half =
       own-cases (λ (x : Call) (y : Stepped). CallFits x → Half c (y .station .state .sending)) s
       (λ x r k. half)
-      (λ m ok k. half-send c d (s .sendPool) m (omega (arith, mtu-in-range c range .least)) (o .long) (ok .short) (ok .room) half)
+      (λ m ok k. half-send c d (s .sendPool) m half (o .long) (ok .room) (omega (arith, mtu-in-range c range .least)) (ok .short))
       (λ b gs e k.
       half-skips c (allBySending c (s .state .current) d gs) (ackNumbers gs)
       (half-all c (s .state .current) d gs (subst (Each HeaderFits) e (parse-fits (c .conv) (mss c) b k)) half))

@@ -1,4 +1,4 @@
--- Every push that any flush wrote is the segment of its number of the accepted list, whatever the sender takes in.
+-- Every push that any flush wrote is the segment of its number of those numbered since opening, whatever the sender takes in.
 -- Assumes nothing.
 use mathlib.Core.Path.{_≡_, refl, sym, ap, _∙_, subst}
 use mathlib.Core.Bool.{Bool, true, false, cond, _||_}
@@ -12,7 +12,6 @@ use Rattle.protocol.specs.Protocol.{push, sendWindow}
 use Rattle.protocol.specs.Ranges.{mss}
 use Rattle.protocol.specs.Serial.{plus}
 use Rattle.protocol.specs.declared.Settings.{Settings}
-use Rattle.protocol.specs.declared.Refusal.{Refusal}
 use Rattle.datagram.specs.Datagrams.{Segment, Parsed, parse}
 use Rattle.retransmission.specs.Transmissions.{firstTransmission, sending}
 use Rattle.retransmission.specs.TransmissionLaws.{when-never-sent, transmission-number}
@@ -25,25 +24,23 @@ use Rattle.schedule.specs.declared.Schedule.{Schedule}
 use Rattle.session.specs.State.{Sending, Ack, withSchedule}
 use Rattle.session.specs.Valid.{valid}
 use Rattle.session.specs.Opening.{opened}
-use Rattle.session.specs.Cutting.{cut}
-use Rattle.session.specs.Sending.{Sends}
 use Rattle.session.specs.Input.{applied, ackNumbers}
 use Rattle.session.specs.Flushing.{numberedAs, numbered, numberedCount, withNumbered, transmittedOf, sentAfter, transmittedNow, carried, ackSegment, dataSegment, written, bytesOfSegments, packed, flushing}
-use Rattle.session.specs.Calls.{Station, Call, Answer, Stepped, Event, afterFlush, own, history, acceptedBy, acceptedList, datagramsIn, datagramsBy}
+use Rattle.session.specs.Calls.{Station, Call, Stepped, Event, afterFlush, own, history, datagramsIn, datagramsBy}
 use Rattle.session.specs.Decides.{All}
 use Rattle.session.specs.AllLaws.{all-any, all-append, all-left, all-right, all-unmapped, all-weaker}
 use Rattle.delivery.specs.PlainReceiver.{pushNumbers, pushesOf, pushesIn}
 use Rattle.delivery.specs.Hearing.{Taken, CallFits, FewPushes}
 use Rattle.delivery.specs.Stations.{Opened}
-use Rattle.delivery.specs.Pieces.{Piece, falling, piecesOf, pieceOf, Genuine, pushes, GenuineDatagram}
+use Rattle.delivery.specs.Pieces.{Piece, pieceOf, Genuine, pushes, GenuineDatagram}
 use Rattle.delivery.specs.Passing.{Passing}
 use Rattle.delivery.specs.PassingLaws.{history-first}
 use Rattle.delivery.specs.CallCases.{scheduledAt, rescheduled, valid-rescheduled, own-cases}
 use Rattle.delivery.specs.StateRange.{CarryFits}
 use Rattle.delivery.specs.SendingHalf.{Half}
-use Rattle.delivery.specs.SendingSends.{send-placed}
+use Rattle.delivery.specs.SendPool.{pieceIn}
+use Rattle.delivery.specs.Numbering.{numberedNow, piecesNumbered}
 use Rattle.delivery.specs.SendingFlushes.{count-few, count-room}
-use Rattle.delivery.specs.SizeLaws.{mtu-in-range}
 use Rattle.delivery.specs.SendingStays.{SendingInOrder, half-in, sending-stays, opened-in-order}
 use Rattle.delivery.specs.PackingLaws.{packed-flat, each-flat, flat-each}
 use Rattle.delivery.specs.WireLaws.{all-written, data-written}
@@ -109,7 +106,7 @@ genuine-datagrams c pieces (d ∷ ds) e a =
 -- ---- all newly numbered segments are transmitted
 
 module _ (c : Settings) (link t : ℕ) where
-  transmitted-append : (a b : List Sent) → transmittedNow c link t (a ++ b) ≡ transmittedNow c link t a ++ transmittedNow c link t b
+  pub transmitted-append : (a b : List Sent) → transmittedNow c link t (a ++ b) ≡ transmittedNow c link t a ++ transmittedNow c link t b
   unfolding transmittedNow
   transmitted-append [] b = refl
   transmitted-append (x ∷ a) b = go (transmittedOf c link t x .sends) (transmitted-append a b)
@@ -125,7 +122,7 @@ module _ (c : Settings) (link t : ℕ) where
       let r : Record = record { number = n; due = 0; timeout = 0; skips = 0 } in
       sym (ap (λ (x : Transmission). x .sends) (when-never-sent c link t 0 r {x = sending 0 (firstTransmission (c .mode) link t r)} refl refl))
 
-  transmitted-new : (n : ℕ) (q : List Held) → transmittedNow c link t (numbered n q) ≡ map (sentAfter c link t) (numbered n q)
+  pub transmitted-new : (n : ℕ) (q : List Held) → transmittedNow c link t (numbered n q) ≡ map (sentAfter c link t) (numbered n q)
   unfolding transmittedNow numbered
   transmitted-new n [] = refl
   transmitted-new n (h ∷ q) = rw (new-sends n h) (ap {B = List Sent} (λ (r : List Sent). sentAfter c link t (numberedAs n h) ∷ r) (transmitted-new (plus n 1) q))
@@ -160,18 +157,10 @@ module _ (c : Settings) (link t : ℕ) where
 
 -- ---- one call
 
--- what a call leaves, with the pieces accepted before it: the half shows those and the ones accepted now, and its datagrams are genuine
-record Wrote (c : Settings) (pieces : List Piece) (x : Call) (y : Stepped) : Type 0 where
-  shows : model.Sends (mss c) (y .station .sendPool) (pieces ++ piecesOf (mss c) (acceptedBy x (y .answer))) (y .station .state .sending)
-  genuine : All (GenuineDatagram c pieces) (datagramsIn (y .answer))
-
-none-accepted : (m : ℕ) (pieces : List Piece) → pieces ++ piecesOf m [] ≡ pieces
-unfolding piecesOf
-none-accepted m pieces = append-nil pieces
-
-one-accepted : (m : ℕ) (pieces : List Piece) (b : List ℕ) → pieces ++ piecesOf m (b ∷ []) ≡ pieces ++ falling (cut m b)
-unfolding piecesOf
-one-accepted m pieces b = ap (λ (l : List Piece). pieces ++ l) (append-nil (falling (cut m b)))
+-- what a call leaves, with the pieces numbered before it: the half shows those and the ones numbered now, and so do its datagrams
+record Wrote (c : Settings) (s : Station) (pieces : List Piece) (y : Stepped) : Type 0 where
+  shows : model.Sends (mss c) (y .station .sendPool) (pieces ++ numberedNow s (y .answer)) (y .station .state .sending)
+  genuine : All (GenuineDatagram c (pieces ++ numberedNow s (y .answer))) (datagramsIn (y .answer))
 
 module _ (s : Station) (pieces : List Piece) (made : valid (s .state) ≡ true) (conv32 : s .state .settings .conv < 2 ^ 32)
     (o : SendingInOrder (s .state .settings) s) (carry : CarryFits (s .state .receiving))
@@ -185,8 +174,8 @@ module _ (s : Station) (pieces : List Piece) (made : valid (s .state) ≡ true) 
   half : Half c d
   half = half-in c s o
 
-  same : model.Sends (mss c) (s .sendPool) (pieces ++ piecesOf (mss c) []) d
-  same = rw (none-accepted (mss c) pieces) h
+  same : model.Sends (mss c) (s .sendPool) (pieces ++ []) d
+  same = rw (append-nil pieces) h
 
   module _ (t : ℕ) (time : t < 2 ^ 32) (few : FewPushes (s .state .settings) (map bytesOfSegments (flushing (s .state) t (s .sendPool) .datagrams))) where
     abbrev k : ℕ
@@ -223,35 +212,36 @@ module _ (s : Station) (pieces : List Piece) (made : valid (s .state) ≡ true) 
         let few32 : length (take k (d .queued)) ≤ sendWindow = omega (arith, count, count-room d (half .numbers .apart)) in
         omega (arith, count, numbered-end (d .next) (take k (d .queued)) (h .low) few32 (new-numbers c link t (λ (n : ℕ). n < 2 ^ 30) d k small-sent))
 
-    shown : All (Shows (mss c) (s .sendPool) pieces) (map (sentAfter c link t) (withNumbered d k))
-    shown = shows-after c link t (mss c) (s .sendPool) pieces (withNumbered d k) (with-numbered (mss c) (s .sendPool) pieces c t k d (count-few d) end h)
+    -- the pieces numbered then
+    abbrev more : List Piece
+    more = pieces ++ map (pieceIn (mss (s .state .settings)) (s .sendPool))
+        (take (numberedCount (s .state .sending)) (s .state .sending .queued))
 
-    genuine-segs : All (IfPush (Genuine pieces)) segs
+    shown : All (Shows (mss c) (s .sendPool) more) (map (sentAfter c link t) (withNumbered d k))
+    shown =
+        shows-after c link t (mss c) (s .sendPool) more (withNumbered d k)
+        (with-numbered (mss c) (s .sendPool) pieces c t k d (count-few d) end h)
+
+    genuine-segs : All (IfPush (Genuine more)) segs
     genuine-segs =
-        all-written (s .state) t (s .sendPool) ask (sentWith c t k d) (IfPush (Genuine pieces))
-        (all-any (λ (a : Ack). IfPush (Genuine pieces) (ackSegment (carried (s .state)) a)) (λ a e. absurd (omega arith)) (s .state .receiving .acks))
+        all-written (s .state) t (s .sendPool) ask (sentWith c t k d) (IfPush (Genuine more))
+        (all-any (λ (a : Ack). IfPush (Genuine more) (ackSegment (carried (s .state)) a)) (λ a e. absurd (omega arith))
+        (s .state .receiving .acks))
         (λ e. absurd (omega arith))
         (λ e. absurd (omega arith))
-        (all-weaker (Shows (mss c) (s .sendPool) pieces) (λ (x : Sent). IfPush (Genuine pieces) (dataSegment (carried (s .state)) (mss c) t (s .sendPool) x))
+        (all-weaker (Shows (mss c) (s .sendPool) more)
+        (λ (x : Sent). IfPush (Genuine more) (dataSegment (carried (s .state)) (mss c) t (s .sendPool) x))
         (λ x f e. record { its-piece = f .its-piece; small = f .small })
         (sentWith c t k d)
-        (all-transmitted c link t (Shows (mss c) (s .sendPool) pieces) (withNumbered d k) shown))
+        (all-transmitted c link t (Shows (mss c) (s .sendPool) more) (withNumbered d k) shown))
 
-    wrote-flush : Wrote c pieces (Call.flush t) (own s (Call.flush t))
+    wrote-flush : Wrote c s pieces (own s (Call.flush t))
     unfolding flushing
     wrote-flush = record {
-      shows = rw (none-accepted (mss c) pieces) (sends-flushed (mss c) (s .sendPool) pieces c t k d (count-few d) end h shown);
-      genuine = genuine-datagrams c pieces (packed (c .mtu) segs) (writes .parsed)
-          (flat-each (IfPush (Genuine pieces)) (packed (c .mtu) segs) (rw (packed-flat (c .mtu) segs) genuine-segs));
+      shows = sends-flushed (mss c) (s .sendPool) pieces c t k d (count-few d) end h shown;
+      genuine = genuine-datagrams c more (packed (c .mtu) segs) (writes .parsed)
+          (flat-each (IfPush (Genuine more)) (packed (c .mtu) segs) (rw (packed-flat (c .mtu) segs) genuine-segs));
     }
-
-  refused-wrote : (x : Call) (r : Refusal) → Wrote c pieces x (record { station = s; answer = Answer.refused r })
-  refused-wrote (Call.send m) r = record { shows = same; genuine = tt }
-  refused-wrote (Call.takeIn b) r = record { shows = same; genuine = tt }
-  refused-wrote (Call.flush t) r = record { shows = same; genuine = tt }
-  refused-wrote (Call.update t) r = record { shows = same; genuine = tt }
-  refused-wrote (Call.check t) r = record { shows = same; genuine = tt }
-  refused-wrote (Call.read room) r = record { shows = same; genuine = tt }
 
 -- an update that flushes: the flush of the station with the schedule moved on
 module _ (s : Station) (pieces : List Piece) (made : valid (s .state) ≡ true) (conv32 : s .state .settings .conv < 2 ^ 32)
@@ -260,36 +250,34 @@ module _ (s : Station) (pieces : List Piece) (made : valid (s .state) ≡ true) 
   abbrev settings : Settings
   settings = s .state .settings
 
-  as-before : model.Sends (mss settings) (s .sendPool) (pieces ++ piecesOf (mss settings) []) (s .state .sending)
+  as-before : model.Sends (mss settings) (s .sendPool) (pieces ++ []) (s .state .sending)
   as-before = same s pieces made conv32 o carry h
 
   wrote-update : (t : ℕ) (k : Schedule) → t < 2 ^ 32
       → FewPushes settings (map bytesOfSegments (flushing (withSchedule (s .state) k) t (s .sendPool) .datagrams))
-      → Wrote settings pieces (Call.update t) (afterFlush s (flushing (withSchedule (s .state) k) t (s .sendPool)))
+      → Wrote settings s pieces (afterFlush s (flushing (withSchedule (s .state) k) t (s .sendPool)))
   wrote-update t next time few =
       let order : SendingInOrder settings (rescheduled s next) =
       record { settings = o .settings; long = o .long; valid = o .valid; fits = o .fits; probe = o .probe } in
       let w = wrote-flush (rescheduled s next) pieces (valid-rescheduled (s .state) next ∙ made) conv32 order carry h t time few in
       record { shows = w .shows; genuine = w .genuine }
 
-  wrote : (x : Call) → CallFits x → FewPushes settings (datagramsIn (own s x .answer)) → Wrote settings pieces x (own s x)
+  wrote : (x : Call) → CallFits x → FewPushes settings (datagramsIn (own s x .answer)) → Wrote settings s pieces (own s x)
   unfolding applied
   wrote =
-      own-cases (λ (x : Call) (y : Stepped). CallFits x → FewPushes settings (datagramsIn (y .answer)) → Wrote settings pieces x y) s
-      (λ x r k few. refused-wrote s pieces made conv32 o carry h x r)
+      own-cases (λ (x : Call) (y : Stepped). CallFits x → FewPushes settings (datagramsIn (y .answer)) → Wrote settings s pieces y) s
+      (λ x r k few. record { shows = as-before; genuine = tt })
       (λ m ok k few. record {
-        shows = rw (one-accepted (mss settings) pieces m)
-            (sends-more (mss settings) (s .sendPool) pieces (s .state .sending) (cut (mss settings) m) _
-            (half s pieces made conv32 o carry h .held)
-            (send-placed settings (s .state .sending) (s .sendPool) m
-            (omega (arith, mtu-in-range settings (valid-parts (s .state) made .range) .least)) (o .long) (ok .short) (ok .room))
-            h);
+        shows =
+            sends-more settings (s .state .sending) (s .sendPool) m (half s pieces made conv32 o carry h) (o .long) (ok .room)
+            (pieces ++ [])
+            as-before;
         genuine = tt;
       })
       (λ b gs e k few. record {
         shows =
-            sends-taken (mss settings) (s .sendPool) (pieces ++ piecesOf (mss settings) []) settings (s .state .current)
-            (s .state .sending) gs (ackNumbers gs) as-before;
+            sends-taken (mss settings) (s .sendPool) (pieces ++ []) settings (s .state .current) (s .state .sending) gs (ackNumbers gs)
+            as-before;
         genuine = tt;
       })
       (λ t k few. wrote-flush s pieces made conv32 o carry h t k few)
@@ -307,31 +295,26 @@ wrote-by : (c : Settings) (s : Station) (pieces : List Piece) (x : Call) →
     model.Sends (mss c) (s .sendPool) pieces (s .state .sending) →
     CallFits x →
     FewPushes c (datagramsIn (own s x .answer)) →
-    Wrote c pieces x (own s x)
+    Wrote c s pieces (own s x)
 wrote-by c s pieces x made conv32 o carry h k few =
     subst (λ (c : Settings).
     c .conv < 2 ^ 32 →
     SendingInOrder c s →
     model.Sends (mss c) (s .sendPool) pieces (s .state .sending) →
     FewPushes c (datagramsIn (own s x .answer)) →
-    Wrote c pieces x (own s x))
+    Wrote c s pieces (own s x))
     (o .settings)
     (λ conv32 o h few. wrote s pieces made conv32 o carry h x k few)
     conv32 o h few
 
 -- ---- lists of calls
 
-pub piecesOf-append : (m : ℕ) (a b : List (List ℕ)) → piecesOf m (a ++ b) ≡ piecesOf m a ++ piecesOf m b
-unfolding piecesOf
-piecesOf-append m [] b = refl
-piecesOf-append m (x ∷ a) b = rw (piecesOf-append m a b) (sym (append-assoc (falling (cut m x)) (piecesOf m a) (piecesOf m b)))
-
--- an accepted list that is longer
+-- more pieces
 more-genuine : (pieces more : List Piece) (gs : List Segment) → All (Genuine pieces) gs → All (Genuine (pieces ++ more)) gs
 more-genuine pieces more =
     all-weaker (Genuine pieces) (Genuine (pieces ++ more)) (λ g h. record { its-piece = get-append pieces more (g .header .sn) (pieceOf g) (h .its-piece); small = h .small })
 
-more-datagrams : (c : Settings) (pieces more : List Piece) (ds : List (List ℕ)) →
+pub more-datagrams : (c : Settings) (pieces more : List Piece) (ds : List (List ℕ)) →
     All (GenuineDatagram c pieces) ds →
     All (GenuineDatagram c (pieces ++ more)) ds
 more-datagrams c pieces more =
@@ -339,10 +322,7 @@ more-datagrams c pieces more =
     (λ d h. record { its-segments = h .its-segments; parses = h .parses; genuine = more-genuine pieces more (pushes (h .its-segments)) (h .genuine) })
 
 -- the events of a list, the first and the others
-module _ (c : Settings) (pieces : List Piece) (e : Event) (es : List Event) where
-  abbrev new : List (List ℕ)
-  new = acceptedBy (e .call) (e .answer)
-
+module _ (c : Settings) (e : Event) (es : List Event) where
   few-first : FewPushes c (datagramsBy (e ∷ es)) → FewPushes c (datagramsIn (e .answer))
   unfolding datagramsBy
   few-first = all-left (λ (d : List ℕ). All (λ (sn : ℕ). sn < 2 ^ 30) (pushesIn c d)) (datagramsIn (e .answer)) (datagramsBy es)
@@ -351,16 +331,16 @@ module _ (c : Settings) (pieces : List Piece) (e : Event) (es : List Event) wher
   unfolding datagramsBy
   few-later = all-right (λ (d : List ℕ). All (λ (sn : ℕ). sn < 2 ^ 30) (pushesIn c d)) (datagramsIn (e .answer)) (datagramsBy es)
 
-  -- genuine by what was accepted before, and by what is accepted then
-  genuine-both :
-      All (GenuineDatagram c pieces) (datagramsIn (e .answer)) →
-      All (GenuineDatagram c ((pieces ++ piecesOf (mss c) new) ++ piecesOf (mss c) (acceptedList es))) (datagramsBy es) →
-      All (GenuineDatagram c (pieces ++ piecesOf (mss c) (acceptedList (e ∷ es)))) (datagramsBy (e ∷ es))
-  unfolding datagramsBy acceptedList
-  genuine-both a b =
-      all-append (GenuineDatagram c (pieces ++ piecesOf (mss c) (new ++ acceptedList es))) (datagramsIn (e .answer)) (datagramsBy es)
-      (more-datagrams c pieces (piecesOf (mss c) (new ++ acceptedList es)) (datagramsIn (e .answer)) a)
-      (rw (piecesOf-append (mss c) new (acceptedList es), ← append-assoc pieces (piecesOf (mss c) new) (piecesOf (mss c) (acceptedList es))) b)
+  -- genuine by what was numbered up to then, and by what is numbered later
+  genuine-both : (pieces now later : List Piece) →
+      All (GenuineDatagram c (pieces ++ now)) (datagramsIn (e .answer)) →
+      All (GenuineDatagram c ((pieces ++ now) ++ later)) (datagramsBy es) →
+      All (GenuineDatagram c (pieces ++ (now ++ later))) (datagramsBy (e ∷ es))
+  unfolding datagramsBy
+  genuine-both pieces now later a b =
+      rw (← append-assoc pieces now later)
+      (all-append (GenuineDatagram c ((pieces ++ now) ++ later)) (datagramsIn (e .answer)) (datagramsBy es)
+      (more-datagrams c (pieces ++ now) later (datagramsIn (e .answer)) a) b)
 
 genuine-calls : (c : Settings) → Taken c → (calls : List Call) (s : Station) (pieces : List Piece) →
     SendingInOrder c s →
@@ -369,37 +349,39 @@ genuine-calls : (c : Settings) → Taken c → (calls : List Call) (s : Station)
     All CallFits calls →
     Passing s calls →
     FewPushes c (datagramsBy (history s calls)) →
-    All (GenuineDatagram c (pieces ++ piecesOf (mss c) (acceptedList (history s calls)))) (datagramsBy (history s calls))
-unfolding history datagramsBy
+    All (GenuineDatagram c (pieces ++ piecesNumbered s calls)) (datagramsBy (history s calls))
+unfolding history datagramsBy piecesNumbered
 genuine-calls c taken [] s pieces o carry h k p few = tt
 genuine-calls c taken (x ∷ xs) s pieces o carry h k p few =
     let e : Event = record { call = x; answer = own s x .answer } in
     let later : List Event = history (own s x .station) xs in
     let few′ : FewPushes c (datagramsBy (e ∷ later)) = subst (λ (l : List Event). FewPushes c (datagramsBy l)) (history-first s x xs p) few in
-    let w : Wrote c pieces x (own s x) = wrote-by c s pieces x (p .1) (taken .conv) o carry h (k .0) (few-first c pieces e later few′) in
-    subst (λ (l : List Event). All (GenuineDatagram c (pieces ++ piecesOf (mss c) (acceptedList l))) (datagramsBy l)) (sym (history-first s x xs p))
-    (genuine-both c pieces e later (w .genuine)
-    (genuine-calls c taken xs (own s x .station) (pieces ++ piecesOf (mss c) (acceptedBy x (own s x .answer)))
+    let w : Wrote c s pieces (own s x) = wrote-by c s pieces x (p .1) (taken .conv) o carry h (k .0) (few-first c e later few′) in
+    subst (λ (l : List Event). All
+    (GenuineDatagram c (pieces ++ (numberedNow s (own s x .answer) ++ piecesNumbered (own s x .station) xs))) (datagramsBy l))
+    (sym (history-first s x xs p))
+    (genuine-both c e later pieces (numberedNow s (own s x .answer)) (piecesNumbered (own s x .station) xs) (w .genuine)
+    (genuine-calls c taken xs (own s x .station) (pieces ++ numberedNow s (own s x .answer))
     (sending-stays c (taken .range) s x (k .0) o)
     (carry-stays s x (k .0) carry)
     (w .shows)
     (k .1)
     (p .2)
-    (few-later c pieces e later few′)))
+    (few-later c e later few′)))
 
 -- ---- since opening
 
 opened-sends : (c : Settings) (m : ℕ) (pool : List ℕ) → model.Sends m pool [] (opened c .sending)
 unfolding opened
-opened-sends c m pool = record { low = omega arith; ahead = omega arith; queued = refl; sent = tt }
+opened-sends c m pool = record { low = omega arith; counts = refl; sent = tt }
 
-opened-carry : (c : Settings) → CarryFits (opened c .receiving)
+pub opened-carry : (c : Settings) → CarryFits (opened c .receiving)
 unfolding opened
 opened-carry c = record { next = omega arith; acks = tt }
 
--- Every push that any flush wrote is the segment of that number of the finally accepted list; the sender takes in anything
+-- Every push that any flush wrote is the segment of that number of those numbered; the sender takes in anything
 pub sent-genuine : (c : Settings) → Taken c → (s : Station) → Opened c s → (calls : List Call) → All CallFits calls → Passing s calls →
     FewPushes c (datagramsBy (history s calls)) →
-    All (GenuineDatagram c (piecesOf (mss c) (acceptedList (history s calls)))) (datagramsBy (history s calls))
+    All (GenuineDatagram c (piecesNumbered s calls)) (datagramsBy (history s calls))
 sent-genuine c taken s p calls k q few =
     genuine-calls c taken calls s [] (opened-in-order c s p) (rw (p .state) (opened-carry c)) (rw (p .state) (opened-sends c (mss c) (s .sendPool))) k q few

@@ -18,7 +18,7 @@ pub record MtuInRange (c : Settings) : Type 0 where
 
 pub mtu-in-range : (c : Settings) → inRange c ≡ true → MtuInRange c
 mtu-in-range c e =
-    let a = and-parts _ _ (and-parts _ _ (and-parts _ _ (and-parts _ _ (and-parts _ _ e .0) .0) .0) .0) in
+    let a = and-parts _ _ (and-parts _ _ (and-parts _ _ (and-parts _ _ (and-parts _ _ (and-parts _ _ e .0) .0) .0) .0) .0) in
     record { least = leb-true mtuLeast (c .mtu) (a .0); most = leb-true (c .mtu) mtuMost (a .1) }
 
 -- a flush's lent parts: a send pool of 128 x mss bytes

@@ -1,10 +1,10 @@
 -- A pool of slots, slot i from i x size on: what is stored in one slot is there, and leaves the others as they were.
 -- Assumes nothing.
-use mathlib.Core.Path.{_≡_, refl, sym, ap, _∙_}
+use mathlib.Core.Path.{_≡_, refl, sym, ap, ap₂, _∙_}
 use mathlib.Core.Bool.{Bool, true, false}
 use mathlib.Core.List.{List, [], _∷_, _++_, append-assoc}
 use Prim.Native.Nat.{ℕ, zero, suc, _+_, _-_, _*_, _≤_}
-use native.Mathlib.Nat.{mul-le-mul-right, sub-zero, zero-sub, suc-sub-suc}
+use native.Mathlib.Nat.{mul-le-mul-right, sub-zero, zero-sub, suc-sub-suc, add-zero, zero-add}
 use native.Mathlib.Omega.{arith}
 use borrow.Author.Tests.{ltb-true, ltb-false}
 use lib.Dec.{ltb}
@@ -51,7 +51,25 @@ module _ {A : Type 0} (pool : List A) (at : ℕ) (bs : List A) (fits : at + leng
       ∙ drop-drop i (at + length bs) pool
       ∙ ap (λ (x : ℕ). drop x pool) f)
 
--- another slot keeps its elements
+-- stored in one slot from `from` on, another slot keeps its elements
+pub other-part :
+    {A : Type 0} (size : ℕ) (pool bs : List A) (slot from other n : ℕ) →
+    slot * size + from + length bs ≤ length pool →
+    from + length bs ≤ size →
+    n ≤ size →
+    (other ≡ slot → ⊥) →
+    take n (drop (other * size) (sets pool (slot * size + from) bs)) ≡ take n (drop (other * size) pool)
+other-part size pool bs slot from other n fits short few apart = at (ltb slot other) refl
+  where
+    at : (t : Bool) → ltb slot other ≡ t →
+        take n (drop (other * size) (sets pool (slot * size + from) bs)) ≡ take n (drop (other * size) pool)
+    at true e = stays-behind pool (slot * size + from) bs fits (other * size) n
+        (omega (arith, mul-le-mul-right size (ltb-true slot other e)))
+    at false e =
+        let less : suc other ≤ slot = omega (arith, ltb-false slot other e) in
+        stays-before pool (slot * size + from) bs fits (other * size) n (omega (arith, mul-le-mul-right size less))
+
+-- stored from the slot's start on
 pub other-slot :
     {A : Type 0} (size : ℕ) (pool bs : List A) (slot other n : ℕ) →
     slot * size + length bs ≤ length pool →
@@ -59,10 +77,19 @@ pub other-slot :
     n ≤ size →
     (other ≡ slot → ⊥) →
     take n (drop (other * size) (sets pool (slot * size) bs)) ≡ take n (drop (other * size) pool)
-other-slot size pool bs slot other n fits short few apart = at (ltb slot other) refl
+other-slot size pool bs slot other n fits short few apart =
+    rw (add-zero (slot * size)) at (other-part size pool bs slot 0 other n (rw (add-zero (slot * size)) fits) (omega arith) few apart)
+
+-- what is stored right behind a payload makes it longer
+pub behind : {A : Type 0} (pool bs : List A) (at len : ℕ) → at + len + length bs ≤ length pool
+    → take (len + length bs) (drop at (sets pool (at + len) bs)) ≡ take len (drop at pool) ++ bs
+behind pool bs at len fits =
+    take-more len (length bs) (drop at (sets pool (at + len) bs))
+    ∙ ap₂ (λ a b. a ++ b) (stays-before pool (at + len) bs fits at len (omega arith))
+    (ap (take (length bs)) (drop-drop len at (sets pool (at + len) bs)) ∙ stored pool (at + len) bs fits)
   where
-    at : (t : Bool) → ltb slot other ≡ t → take n (drop (other * size) (sets pool (slot * size) bs)) ≡ take n (drop (other * size) pool)
-    at true e = stays-behind pool (slot * size) bs fits (other * size) n (omega (arith, mul-le-mul-right size (ltb-true slot other e)))
-    at false e =
-        let less : suc other ≤ slot = omega (arith, ltb-false slot other e) in
-        stays-before pool (slot * size) bs fits (other * size) n (omega (arith, mul-le-mul-right size less))
+    take-more : {A : Type 0} (a b : ℕ) (l : List A) → take (a + b) l ≡ take a l ++ take b (drop a l)
+    take-more zero b l = rw (zero-add b)
+    take-more (suc a) b [] = let e : suc a + b ≡ suc (a + b) = omega arith in rw e (sym (take-nil b))
+    take-more {A} (suc a) b (x ∷ l) = let e : suc a + b ≡ suc (a + b) = omega arith in
+        rw e (ap {B = List A} (λ (t : List A). x ∷ t) (take-more a b l))

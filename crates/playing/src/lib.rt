@@ -46,8 +46,15 @@ fn capped(value: u32, most: u32) -> u32
     if value < most { value } else { most }
 }
 
-fn settings_of(conv: u32, mtu: u32, mode: u32, interval: u32, threshold: u32) -> Settings
-    ensures { λ r. ⌜ r ≡ settingsOf conv mtu mode interval threshold ⌝ }
+fn settings_of(
+    conv: u32,
+    mtu: u32,
+    mode: u32,
+    interval: u32,
+    threshold: u32,
+    stream: u32,
+) -> Settings
+    ensures { λ r. ⌜ r ≡ settingsOf conv mtu mode interval threshold stream ⌝ }
 {
     Protocol::settings(
         conv,
@@ -55,6 +62,7 @@ fn settings_of(conv: u32, mtu: u32, mode: u32, interval: u32, threshold: u32) ->
         capped(mode, 255) as u8,
         capped(interval, 65535) as u16,
         capped(threshold, 255) as u8,
+        capped(stream, 255) as u8,
     )
 }
 
@@ -462,8 +470,9 @@ pub fn play(
             mode,
             interval,
             threshold,
+            stream,
         } => {
-            let settings = settings_of(conv, mtu, mode, interval, threshold);
+            let settings = settings_of(conv, mtu, mode, interval, threshold, stream);
             open(bench, settings, send_pool, receive_pool, acks, text)
         }
         _ => {

@@ -104,3 +104,6 @@ intervalMost = 5000
 
 abbrev pub thresholdMost : ℕ
 thresholdMost = 100
+
+abbrev pub streamMost : ℕ
+streamMost = 1

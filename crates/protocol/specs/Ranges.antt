@@ -2,11 +2,11 @@
 -- Assumes nothing.
 use mathlib.Core.Bool.{Bool, _&&_}
 use Prim.Native.Nat.{ℕ, _-_}
-use lib.Dec.{leb}
+use lib.Dec.{leb, eqb}
 use Rattle.protocol.specs.declared.Settings.{Settings}
-use Rattle.protocol.specs.Protocol.{headerSize, mtuLeast, mtuMost, modeMost, intervalLeast, intervalMost, thresholdMost}
+use Rattle.protocol.specs.Protocol.{headerSize, mtuLeast, mtuMost, modeMost, intervalLeast, intervalMost, thresholdMost, streamMost}
 
--- mtu 50 to 512; mode 0, 1 or 2; interval 10 to 5,000; threshold 0 to 100; any conversation
+-- mtu 50 to 512; mode 0, 1 or 2; interval 10 to 5,000; threshold 0 to 100; stream 0 or 1; any conversation
 abbrev pub inRange : Settings → Bool
 inRange s =
     leb mtuLeast (s .mtu)
@@ -15,6 +15,11 @@ inRange s =
     && leb intervalLeast (s .interval)
     && leb (s .interval) intervalMost
     && leb (s .threshold) thresholdMost
+    && leb (s .stream) streamMost
+
+-- stream mode (request 2026-05) is chosen at opening
+abbrev pub isStream : Settings → Bool
+isStream s = eqb (s .stream) 1
 
 -- the largest payload is mtu minus 24, and 0 for an mtu below that
 abbrev pub mss : Settings → ℕ

@@ -82,9 +82,18 @@ impl Protocol {
 
     pub const THRESHOLD_MOST: u8 = 100;
 
+    pub const STREAM_MOST: u8 = 1;
+
     // The settings that a link is opened with; whether they are in range is asked by `in_range`.
-    pub fn settings(conv: u32, mtu: u16, mode: u8, interval: u16, threshold: u8) -> Settings
-        ensures { λ r. ⌜ r ≡ record { conv = conv; mtu = mtu; interval = interval; mode = mode; threshold = threshold } ⌝ }
+    pub fn settings(
+        conv: u32,
+        mtu: u16,
+        mode: u8,
+        interval: u16,
+        threshold: u8,
+        stream: u8,
+    ) -> Settings
+        ensures { λ r. ⌜ r ≡ record { conv = conv; mtu = mtu; interval = interval; mode = mode; threshold = threshold; stream = stream } ⌝ }
     {
         Settings {
             conv,
@@ -92,11 +101,12 @@ impl Protocol {
             interval,
             mode,
             threshold,
+            stream,
         }
     }
 }
 
-// The settings of a link: conversation, largest datagram, interval, mode, and threshold of a fast retransmission.
+// The settings of a link: conversation, largest datagram, interval, mode, threshold of a fast retransmission, and stream mode (1, else 0).
 #[repr(C)]
 pub struct Settings {
     pub conv: u32,
@@ -104,6 +114,7 @@ pub struct Settings {
     pub interval: u16,
     pub mode: u8,
     pub threshold: u8,
+    pub stream: u8,
 }
 
 impl Settings {
@@ -117,6 +128,7 @@ impl Settings {
             & (Protocol::INTERVAL_LEAST <= self.interval)
             & (self.interval <= Protocol::INTERVAL_MOST)
             & (self.threshold <= Protocol::THRESHOLD_MOST)
+            & (self.stream <= Protocol::STREAM_MOST)
     }
 
     // The largest payload: 0 for an mtu below a header's size.

@@ -2,7 +2,7 @@
 -- Assumes nothing.
 use mathlib.Core.Bool.{Bool}
 use Prim.Native.Nat.{_≤_}
-use Rattle.protocol.specs.Protocol.{mtuLeast, mtuMost, modeMost, intervalLeast, intervalMost, thresholdMost}
+use Rattle.protocol.specs.Protocol.{mtuLeast, mtuMost, modeMost, intervalLeast, intervalMost, thresholdMost, streamMost}
 use Rattle.protocol.specs.Ranges.{inRange}
 use Rattle.protocol.specs.declared.Settings.{Settings}
 use Rattle.timing.specs.TimeRanges.{WaitInRange}
@@ -20,6 +20,7 @@ pub record SettingsInRange (c : Settings) : Type 0 where
   pub interval-least : intervalLeast ≤ c .interval
   pub interval-most : c .interval ≤ intervalMost
   pub threshold : c .threshold ≤ thresholdMost
+  pub stream : c .stream ≤ streamMost
 
 pub settings-decide : (c : Settings) → Decides (inRange c) (SettingsInRange c)
 settings-decide c =
@@ -27,12 +28,14 @@ settings-decide c =
     (and-decides
     (and-decides
     (and-decides
+    (and-decides
     (and-decides (and-decides (leb-decides mtuLeast (c .mtu)) (leb-decides (c .mtu) mtuMost)) (leb-decides (c .mode) modeMost))
     (leb-decides intervalLeast (c .interval)))
     (leb-decides (c .interval) intervalMost))
     (leb-decides (c .threshold) thresholdMost))
-    (λ x. record { mtu-least = x .0 .0 .0 .0 .0; mtu-most = x .0 .0 .0 .0 .1; mode = x .0 .0 .0 .1; interval-least = x .0 .0 .1; interval-most = x .0 .1; threshold = x .1 })
-    (λ x. (((((x .mtu-least, x .mtu-most), x .mode), x .interval-least), x .interval-most), x .threshold))
+    (leb-decides (c .stream) streamMost))
+    (λ x. record { mtu-least = x .0 .0 .0 .0 .0 .0; mtu-most = x .0 .0 .0 .0 .0 .1; mode = x .0 .0 .0 .0 .1; interval-least = x .0 .0 .0 .1; interval-most = x .0 .0 .1; threshold = x .0 .1; stream = x .1 })
+    (λ x. ((((((x .mtu-least, x .mtu-most), x .mode), x .interval-least), x .interval-most), x .threshold), x .stream))
 
 -- a state that a link makes
 pub record IsValid (s : State) : Type 0 where

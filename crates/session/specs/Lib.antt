@@ -4,12 +4,14 @@ pub mod Valid
 pub mod Decides
 pub mod AllLaws
 pub mod Once
+pub mod UsedSlots
 pub mod Ascending
 pub mod SendingValid
 pub mod ReceivingValid
 pub mod Opening
 pub mod Cutting
 pub mod Sending
+pub mod FillLaws
 pub mod Flushing
 pub mod HeardLaws
 pub mod Input
@@ -19,5 +21,6 @@ pub mod Calls
 pub mod Marked
 pub mod IsValid
 pub mod LooksRight
+pub mod StreamCases
 pub mod SendOrder
 pub mod MapLaws

@@ -27,8 +27,8 @@ use Rattle.lists.specs.declared.Waiting.{Waiting}
 use Rattle.session.specs.Slots.{occurs, lowestFrom, lowestFree}
 use Rattle.session.specs.State.{State, Sending, Receiving, Ack, Outcome, withReceiving, withNotes}
 use Rattle.session.specs.Opening.{opened}
-use Rattle.session.specs.Cutting.{fragmentCount, pieces, cut}
-use Rattle.session.specs.Sending.{Sends, sending, place, Placed}
+use Rattle.session.specs.Cutting.{fragmentCount, segmentCount, pieces, cut, cutAs}
+use Rattle.session.specs.Sending.{Sends, sending, place, Placed, filled}
 use Rattle.session.specs.Flushing.{Flushed, flushing, numberedCount, withNumbered, numbered, transmittedNow, written, packed, packOne, bytesOfSegment, bytesOfSegments}
 use Rattle.session.specs.Input.{Receiver, pushed}
 
@@ -69,7 +69,7 @@ hi-bytes = 0x01 ∷ 0x00 ∷ 0x00 ∷ 0x00 ∷ 0x51 ∷ 0x00 ∷ 0x80 ∷ 0x00 �
 -- ---- C and D: mss 26
 
 abbrev small : Settings
-small = record { conv = 1; mtu = 50; interval = 100; mode = 0; threshold = 0 }
+small = record { conv = 1; mtu = 50; interval = 100; mode = 0; threshold = 0; stream = 0 }
 
 -- what sending so many bytes over a fresh link gives: the lengths of the segments queued, or the refusal's number
 abbrev lengthsQueued : Outcome Sends → Value
@@ -98,7 +98,7 @@ afterFlushes c link n r (t ∷ ts) =
     record { sends = x .sends; due = x .updated .due } ∷ afterFlushes c link (x .transmissions) (x .updated) ts
 
 abbrev inMode : ℕ → Settings
-inMode mode = record { conv = 1; mtu = 50; interval = 100; mode = mode; threshold = 0 }
+inMode mode = record { conv = 1; mtu = 50; interval = 100; mode = mode; threshold = 0; stream = 0 }
 
 abbrev unsent : Record
 unsent = record { number = 0; due = 0; timeout = 0; skips = 0 }
@@ -181,5 +181,5 @@ cases =
     ∷ []
 
 pub marked : map (λ (c : Case). c .is) cases ≡ map (λ (c : Case). c .wanted) cases
-unfolding cases encode front back decode bytesOf numberAt bytesOfSegments parse walk tail verdict segmentOf signed isBefore isAfter isDue opened fragmentCount pieces cut sending place lowestFree lowestFrom occurs pushed insert isHeld advance flushing numberedCount withNumbered numbered transmittedNow written packed packOne nextClock afterSamples afterFlushes waitsAt sampled nextSmoothed nextVariation leastTimeout timeoutOf transmission firstDue growth longerTimeout isSkipped longerWait
+unfolding cases encode front back decode bytesOf numberAt bytesOfSegments parse walk tail verdict segmentOf signed isBefore isAfter isDue opened fragmentCount segmentCount pieces cut cutAs filled sending place lowestFree lowestFrom occurs pushed insert isHeld advance flushing numberedCount withNumbered numbered transmittedNow written packed packOne nextClock afterSamples afterFlushes waitsAt sampled nextSmoothed nextVariation leastTimeout timeoutOf transmission firstDue growth longerTimeout isSkipped longerWait
 marked = refl
