@@ -96,6 +96,7 @@ enum ampferweg_refusal {
     AMPFERWEG_NO_FREE_SLOTS = 11,        /* send: more segments than free send slots; flush, take in, and try again */
     AMPFERWEG_SETTING_OUT_OF_RANGE = 12, /* open, settings files: a setting outside its range */
     AMPFERWEG_INVALID_BLOCK = 13,        /* any call but open: the control block is not one that this link makes */
+    AMPFERWEG_TRAILING_BYTES = 14,       /* input: 1 to 23 bytes behind the last segment; tested after 1 to 6 */
     AMPFERWEG_NOT_SETTINGS = 15,         /* a settings file under 5 bytes, with another mark, or with a wrong length */
     AMPFERWEG_UNKNOWN_VERSION = 16       /* a settings file of another version than 1 */
 };
@@ -121,6 +122,7 @@ static inline const char *ampferweg_text(ampferweg_result result)
     case AMPFERWEG_NO_FREE_SLOTS: return "refused 11: not enough free send slots";
     case AMPFERWEG_SETTING_OUT_OF_RANGE: return "refused 12: a setting is outside its range";
     case AMPFERWEG_INVALID_BLOCK: return "refused 13: the control block is not valid";
+    case AMPFERWEG_TRAILING_BYTES: return "refused 14: bytes are left behind the datagram's last segment";
     case AMPFERWEG_NOT_SETTINGS: return "refused 15: this is not a settings file";
     case AMPFERWEG_UNKNOWN_VERSION: return "refused 16: the settings file is of an unknown version";
     default: return "refused: no number of this library";

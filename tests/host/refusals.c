@@ -110,11 +110,25 @@ static void number_1_to_6(void)
     len += put_segment(datagram + len, ack_of(0, 5, 1), 0);
     each_bad_segment(len);
     order_of_1_to_6();
-    /* 5 and 6 are for pushes only, and a tail of 1 to 23 bytes is ignored. */
+    /* 5 and 6 are for pushes only. */
     odd.fragment = 200;
     odd.len = 300;
     len = put_segment(datagram, odd, 0);
-    CHECK_EQUAL(call_input(&lent, datagram, len + 23), 0);
+    CHECK_EQUAL(call_input(&lent, datagram, len), 0);
+}
+
+/* 14 for a tail of 1 to 23 bytes behind good segments, of which nothing is applied; a bad segment before it decides. */
+static void number_14(void)
+{
+    const size_t good = put_segment(datagram, push_of(1, 0, 232), 'g');
+    size_t bad, len;
+    open_busy(256);
+    memset(datagram + good, 1, HEADER);
+    for (len = good + 1; len < good + HEADER; len++) REFUSED(AMPFERWEG_TRAILING_BYTES, call_input(&lent, datagram, len));
+    bad = good + put_segment(datagram + good, push_of(2, 127, 10), 'b');
+    datagram[bad] = 0;
+    REFUSED(AMPFERWEG_HIGH_FRAGMENT, call_input(&lent, datagram, bad + 1));
+    CHECK_EQUAL(call_input(&lent, datagram, good), 0);
 }
 
 /* 7 for each part that is one element short; longer parts are fine. */
@@ -251,6 +265,7 @@ int main(void)
     lend_message(&lent, 1000);
     buffer = lent.message;
     number_1_to_6();
+    number_14();
     number_7_of_parts(256);
     number_7_of_a_strange_mtu();
     number_7_and_9_of_reading();

@@ -25,6 +25,7 @@ use Rattle.protocol.specs.declared.Refusal.the-variants.{
   NoFreeSlots,
   SettingOutOfRange,
   InvalidBlock,
+  TrailingBytes,
 }
 
 -- the negative of a byte fits 32 bits
@@ -47,6 +48,7 @@ number-small LongMessage = omega arith
 number-small NoFreeSlots = omega arith
 number-small SettingOutOfRange = omega arith
 number-small InvalidBlock = omega arith
+number-small TrailingBytes = omega arith
 
 -- so its code fits
 pub code-fits : (r : Refusal) → SFits w32 (refusalCode r)

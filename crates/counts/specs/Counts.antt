@@ -97,6 +97,7 @@ refusal-below refusal.LongMessage = refl
 refusal-below refusal.NoFreeSlots = refl
 refusal-below refusal.SettingOutOfRange = refl
 refusal-below refusal.InvalidBlock = refl
+refusal-below refusal.TrailingBytes = refl
 
 pub told-below : {A : Type 0} (size : A → ℕ) (o : Outcome A) (r : ℤ) → Told size o r → ltZ r (pos 0) ≡ isRefused o
 told-below size (refused x) r h = rw h (refusal-below x)

@@ -9,7 +9,7 @@ use Rattle.wire.specs.Headers.{decode}
 use Rattle.protocol.specs.Protocol.{push, windowTell, headerSize, fragmentMost}
 use Rattle.wire.specs.declared.Header.{Header}
 use Rattle.protocol.specs.declared.Refusal.{Refusal}
-use Rattle.protocol.specs.declared.Refusal.the-variants.{ShortDatagram, OtherConversation, LengthPastEnd, UnknownCommand, LongPayload, HighFragment}
+use Rattle.protocol.specs.declared.Refusal.the-variants.{ShortDatagram, OtherConversation, LengthPastEnd, UnknownCommand, LongPayload, HighFragment, TrailingBytes}
 use Rattle.datagram.specs.declared.Verdict.{Verdict}
 use Rattle.datagram.specs.declared.Verdict.the-variants.{Passes, Fails}
 use Rattle.datagram.specs.declared.Checked.{Checked}
@@ -70,9 +70,11 @@ inFront Passes g (refused r) = refused r
 inFront Passes g (segments gs) = segments (g ∷ gs)
 inFront (Fails r) g p = refused r
 
--- what is left behind the last whole segment, fewer than 24 bytes: it is ignored
+-- what is left behind the last whole segment, fewer than 24 bytes. 14: there is such a tail. It comes last: a bad segment before it
+-- decides (`inFront`)
 unfoldable pub tail : List ℕ → Parsed
-tail t = segments []
+tail [] = segments []
+tail (b ∷ t) = refused TrailingBytes
 
 module _ (conv mss : ℕ) where
   -- the segments of s behind its first skip bytes. A segment that begins with b has 23 + len bytes more

@@ -1,6 +1,6 @@
 -- Valid segments that are joined are found again.
 -- Assumes nothing.
-use mathlib.Core.Path.{_≡_, refl, sym}
+use mathlib.Core.Path.{_≡_, refl, sym, _∙_}
 use mathlib.Core.List.{List, [], _∷_, _++_, append-assoc, append-nil}
 use Prim.Native.Nat.{ℕ, _+_, _-_, _≤_, _<_}
 use native.Mathlib.Omega.{arith}
@@ -10,9 +10,11 @@ use lib.Seq.{drop-drop, drop-at, take-at}
 use Rattle.wire.specs.Headers.{encode, decode}
 use Rattle.wire.specs.HeaderLaws.{decode-encode, length-encode}
 use Rattle.wire.specs.declared.Header.{Header}
+use Rattle.protocol.specs.declared.Refusal.{Refusal}
+use Rattle.protocol.specs.declared.Refusal.the-variants.{TrailingBytes}
 use Rattle.datagram.specs.declared.Verdict.the-variants.{Passes}
-use Rattle.datagram.specs.Datagrams.{Segment, verdict, segmentOf, inFront, walk, parse, segments}
-use Rattle.datagram.specs.WalkLaws.{passed, tail-ignored, walk-short, walk-step, parse-long}
+use Rattle.datagram.specs.Datagrams.{Segment, verdict, segmentOf, inFront, tail, walk, parse, segments, refused}
+use Rattle.datagram.specs.WalkLaws.{passed, tail-empty, tail-junk, walk-short, walk-step, parse-long}
 use Rattle.datagram.specs.Joined.{bytes, joined, Valid, AllValid, allInFront}
 
 pub joined-append : (gs hs : List Segment) → joined (gs ++ hs) ≡ joined gs ++ joined hs
@@ -65,13 +67,25 @@ all-in-front : (gs : List Segment) → allInFront gs (segments []) ≡ segments 
 all-in-front [] = refl
 all-in-front (g ∷ gs) = rw (all-in-front gs)
 
--- a datagram of one valid segment or more is those segments, whatever fewer than 24 bytes follow
-pub parse-joined : (conv mss : ℕ) (g : Segment) (gs : List Segment) (t : List ℕ) → AllValid conv mss (g ∷ gs) → length t < 24 → parse conv mss (joined (g ∷ gs) ++ t) ≡ segments (g ∷ gs)
+-- behind valid segments, what is left of fewer than 24 bytes decides: nothing, or 14
+pub parse-joined : (conv mss : ℕ) (g : Segment) (gs : List Segment) (t : List ℕ) → AllValid conv mss (g ∷ gs) → length t < 24
+    → parse conv mss (joined (g ∷ gs) ++ t) ≡ allInFront (g ∷ gs) (tail t)
 unfolding joined
 parse-joined conv mss g gs t v h =
     let long : 24 ≤ length (joined (g ∷ gs) ++ t) = rw append-assoc (omega (arith, length-front conv mss g (v .0) (joined gs ++ t))) in
-    rw (parse-long conv mss (joined (g ∷ gs) ++ t) long, walk-joined conv mss (g ∷ gs) t v, walk-short conv mss t h, tail-ignored, all-in-front gs)
+    rw (parse-long conv mss (joined (g ∷ gs) ++ t) long, walk-joined conv mss (g ∷ gs) t v, walk-short conv mss t h)
 
 -- with nothing behind them
 pub parse-whole : (conv mss : ℕ) (g : Segment) (gs : List Segment) → AllValid conv mss (g ∷ gs) → parse conv mss (joined (g ∷ gs)) ≡ segments (g ∷ gs)
-parse-whole conv mss g gs v = rw append-nil at (parse-joined conv mss g gs [] v (omega arith))
+parse-whole conv mss g gs v =
+    rw append-nil at (parse-joined conv mss g gs [] v (omega arith)) ∙ rw (tail-empty [] refl) (all-in-front (g ∷ gs))
+
+in-front-refused : (gs : List Segment) (r : Refusal) → allInFront gs (refused r) ≡ refused r
+in-front-refused [] r = refl
+in-front-refused (g ∷ gs) r = rw (in-front-refused gs r)
+
+-- with a tail behind them: refused whole
+pub parse-tail : (conv mss : ℕ) (g : Segment) (gs : List Segment) (b : ℕ) (t : List ℕ) → AllValid conv mss (g ∷ gs) → length (b ∷ t) < 24
+    → parse conv mss (joined (g ∷ gs) ++ (b ∷ t)) ≡ refused TrailingBytes
+parse-tail conv mss g gs b t v h =
+    parse-joined conv mss g gs (b ∷ t) v h ∙ rw (tail-junk (b ∷ t) (omega arith)) (in-front-refused (g ∷ gs) TrailingBytes)

@@ -14,7 +14,7 @@ use Rattle.wire.specs.HeaderLaws.{decode-drop}
 use Rattle.protocol.specs.Protocol.{push, windowTell, fragmentMost}
 use Rattle.wire.specs.declared.Header.{Header}
 use Rattle.protocol.specs.declared.Refusal.{Refusal}
-use Rattle.protocol.specs.declared.Refusal.the-variants.{ShortDatagram}
+use Rattle.protocol.specs.declared.Refusal.the-variants.{ShortDatagram, TrailingBytes}
 use Rattle.datagram.specs.declared.Verdict.{Verdict}
 use Rattle.datagram.specs.declared.Verdict.the-variants.{Passes, Fails}
 use Rattle.datagram.specs.declared.Checked.the-variants.{Accepted}
@@ -22,15 +22,23 @@ use Rattle.datagram.specs.Datagrams.{Segment, ofPush, verdict, segmentOf
 
 -- ---- a tail
 
--- fewer than 24 bytes at the end are ignored
-pub tail-ignored : (t : List ℕ) → tail t ≡ segments []
+-- nothing is left
+pub tail-empty : (t : List ℕ) → length t ≡ 0 → tail t ≡ segments []
 unfolding tail
-tail-ignored t = refl
+tail-empty [] h = refl
+tail-empty (b ∷ t) h = absurd (omega arith)
 
--- a tail has no segment
+-- something is left
+pub tail-junk : (t : List ℕ) → 0 < length t → tail t ≡ refused TrailingBytes
+unfolding tail
+tail-junk [] h = absurd (omega arith)
+tail-junk (b ∷ t) h = refl
+
+-- where a datagram is accepted, nothing is left behind its segments
 pub tail-none : (t : List ℕ) (gs : List Segment) → tail t ≡ segments gs → gs ≡ []
 unfolding tail
-tail-none t gs e = cc
+tail-none [] gs e = cc
+tail-none (b ∷ t) gs e = absurd (let z : _≡_ {A = ℕ} 0 1 = cc in omega arith)
 
 -- ---- one segment
 

@@ -57,7 +57,7 @@ fn judge(h: Header, room: usize, conv: u32, mss: usize) -> Verdict
     Verdict::Passes
 }
 
-// Counts the datagram's segments; the first that fails a test decides. What is left behind the last is a tail.
+// Counts the datagram's segments; the first that fails a test decides, and then a tail of 1 to 23 bytes behind the last.
 pub fn check(s: &[u8], conv: u32, mss: usize) -> Checked
     ensures { λ r. ⌜ r ≡ counted 0 (parse conv mss (now (s .entry))) ⌝ }
 {
@@ -69,6 +69,9 @@ pub fn check(s: &[u8], conv: u32, mss: usize) -> Checked
     loop {
         let found = wire::codec::find_header(s, at);
         let Found::Whole(h) = found else {
+            if at < s.len() {
+                return Checked::Refused(Refusal::TrailingBytes);
+            }
             return Checked::Accepted(count);
         };
         let start = at + Protocol::HEADER;

@@ -24,6 +24,7 @@ use Rattle.protocol.specs.declared.Refusal.the-variants.{
   NoFreeSlots,
   SettingOutOfRange,
   InvalidBlock,
+  TrailingBytes,
 }
 use Rattle.session.specs.Cutting.{fragmentCount}
 use Rattle.session.specs.Calls.{Call, Answer, Event, readAnswers, messagesRead}
@@ -49,6 +50,7 @@ seenRefusal LongMessage = other
 seenRefusal NoFreeSlots = other
 seenRefusal SettingOutOfRange = other
 seenRefusal InvalidBlock = other
+seenRefusal TrailingBytes = other
 
 abbrev pub seen : Answer → Seen
 seen (Answer.refused r) = seenRefusal r

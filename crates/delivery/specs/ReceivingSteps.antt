@@ -13,7 +13,7 @@ use Rattle.protocol.specs.Protocol.{push, receiveWindow}
 use Rattle.protocol.specs.Ranges.{mss}
 use Rattle.protocol.specs.declared.Settings.{Settings}
 use Rattle.protocol.specs.declared.Refusal.{Refusal}
-use Rattle.protocol.specs.declared.Refusal.the-variants.{ShortDatagram, OtherConversation, LengthPastEnd, UnknownCommand, LongPayload, HighFragment, ShortPart, FullUnreadable, NoMessage, LongMessage, NoFreeSlots, SettingOutOfRange, InvalidBlock}
+use Rattle.protocol.specs.declared.Refusal.the-variants.{ShortDatagram, OtherConversation, LengthPastEnd, UnknownCommand, LongPayload, HighFragment, ShortPart, FullUnreadable, NoMessage, LongMessage, NoFreeSlots, SettingOutOfRange, InvalidBlock, TrailingBytes}
 use Rattle.datagram.specs.Datagrams.{Segment, Parsed}
 use Rattle.timing.specs.Choices.{either-way}
 use Rattle.schedule.specs.Schedules.{updated}
@@ -200,6 +200,7 @@ none-refused LongMessage = refl
 none-refused NoFreeSlots = refl
 none-refused SettingOutOfRange = refl
 none-refused InvalidBlock = refl
+none-refused TrailingBytes = refl
 
 read-one : (a : Answer) (l : List Answer) → messagesRead (a ∷ l) ≡ messageIn (seen a) ++ messagesRead l
 unfolding messagesRead

@@ -48,7 +48,7 @@ abbrev ClearParsed : Parsed → Type 0
 ClearParsed (Parsed.refused r) = clear (numberOf r) ≡ true
 ClearParsed (Parsed.segments gs) = Unit {0}
 
--- ---- a datagram: 1 to 6
+-- ---- a datagram: 1 to 6, and 14
 
 verdict-clear : (conv m room : ℕ) (h : Header) → ClearVerdict (verdict conv m room h)
 unfolding verdict
@@ -86,7 +86,7 @@ module _ (conv m : ℕ) where
       let rest : Parsed = walk conv m (23 + decode (x ∷ s) 0 .len) s in
       either-clear (leb headerSize (length (x ∷ s))) (inFront v (segmentOf (x ∷ s)) rest) (tail (x ∷ s))
       (front-clear v (segmentOf (x ∷ s)) rest (verdict-clear conv m (length (x ∷ s) - headerSize) (decode (x ∷ s) 0)) (walk-clear (23 + decode (x ∷ s) 0 .len) s))
-      tt
+      refl
   walk-clear (suc skip) (x ∷ s) = walk-clear skip s
 
   parse-clear : (d : List ℕ) → ClearParsed (parse conv m d)

@@ -1,4 +1,4 @@
-// Lists datagrams that are refused for one reason each, and one that has a tail.
+// Lists datagrams that are refused for one reason each, and one that is accepted.
 use libc::STDOUT_FILENO;
 use protocol::Protocol;
 use wire::Header;
@@ -43,7 +43,11 @@ fn main() {
     list(header(1, Protocol::PUSH, 0, 489), ack, 600);
     // 6, one above the largest fragment number
     list(ack, header(1, Protocol::PUSH, 127, 0), 48);
-    // accepted: a tail of 5 bytes, and of 23
-    list(ack, ack, 29);
+    // 14, a tail of 1 byte, and of 23
+    list(ack, ack, 25);
     list(header(1, Protocol::PUSH, 126, 0), ack, 47);
+    // 6 before 14: the bad segment decides, then a tail of 5 bytes
+    list(ack, header(1, Protocol::PUSH, 127, 0), 53);
+    // accepted
+    list(ack, header(1, Protocol::PUSH, 126, 0), 48);
 }

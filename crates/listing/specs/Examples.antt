@@ -26,7 +26,18 @@ pub cut : listingOf (take 25 caseA) ≡ ascii "conv cmd frg wnd ts sn una len\nr
 unfolding listingOf listed parse walk tail verdict segmentOf decode numberAt body field decimal digits refusalLine columnLine ascii
 cut = refl
 
--- it comes twice, and a tail behind it
-pub twice : listingOf (caseA ++ caseA ++ (1 ∷ 2 ∷ 3 ∷ [])) ≡ ascii "conv cmd frg wnd ts sn una len\n1 81 0 128 0 0 0 2\n1 81 0 128 0 0 0 2\nok 2\n"
+-- it comes twice
+pub twice : listingOf (caseA ++ caseA) ≡ ascii "conv cmd frg wnd ts sn una len\n1 81 0 128 0 0 0 2\n1 81 0 128 0 0 0 2\nok 2\n"
 unfolding listingOf listed parse walk tail verdict segmentOf decode numberAt body segmentLines segmentLine row field decimal digits countLine columnLine ascii
 twice = refl
+
+-- a tail of 1 and of 23 bytes behind it
+pub junk : (listingOf (caseA ++ (0 ∷ [])) ≡ ascii "conv cmd frg wnd ts sn una len\nrefused 14\n")
+    × (listingOf (caseA ++ take 23 caseA) ≡ ascii "conv cmd frg wnd ts sn una len\nrefused 14\n")
+unfolding listingOf listed parse walk tail verdict segmentOf decode numberAt body field decimal digits refusalLine columnLine ascii
+junk = (refl, refl)
+
+-- a second segment that is cut is judged before a tail
+pub cut-first : listingOf (caseA ++ take 25 caseA) ≡ ascii "conv cmd frg wnd ts sn una len\nrefused 3\n"
+unfolding listingOf listed parse walk tail verdict segmentOf decode numberAt body field decimal digits refusalLine columnLine ascii
+cut-first = refl

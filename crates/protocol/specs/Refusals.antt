@@ -16,6 +16,7 @@ use Rattle.protocol.specs.declared.Refusal.the-variants.{
   NoFreeSlots,
   SettingOutOfRange,
   InvalidBlock,
+  TrailingBytes,
 }
 
 abbrev pub numberOf : Refusal → ℕ
@@ -45,3 +46,5 @@ numberOf NoFreeSlots = 11
 numberOf SettingOutOfRange = 12
 -- control block not one that this link makes
 numberOf InvalidBlock = 13
+-- 1 to 23 bytes behind the last segment
+numberOf TrailingBytes = 14

@@ -158,6 +158,7 @@ pub enum Refusal {
     NoFreeSlots,
     SettingOutOfRange,
     InvalidBlock,
+    TrailingBytes,
 }
 
 impl Refusal {
@@ -179,6 +180,7 @@ impl Refusal {
             Refusal::NoFreeSlots => 11,
             Refusal::SettingOutOfRange => 12,
             Refusal::InvalidBlock => 13,
+            Refusal::TrailingBytes => 14,
         }
     }
 }

@@ -2,21 +2,22 @@
 -- Assumes nothing.
 use mathlib.Core.Path.{_≡_, sym, _∙_}
 use mathlib.Core.List.{List}
-use Prim.Native.Nat.{ℕ, _+_, _-_, _≤_}
+use Prim.Native.Nat.{ℕ, _+_, _-_, _≤_, _<_}
 use native.Mathlib.Nat.{add-zero}
 use native.Mathlib.Omega.{arith}
 use borrow.Author.Needs.{needs}
-use lib.ListN.{length, drop}
+use lib.ListN.{length, drop, length-drop}
 use Rattle.wire.specs.Headers.{headerAt}
 use Rattle.wire.specs.declared.Header.{Header}
 use Rattle.protocol.specs.declared.Refusal.{Refusal}
+use Rattle.protocol.specs.declared.Refusal.the-variants.{TrailingBytes}
 use Rattle.wire.specs.declared.Found.the-variants.{Whole, Short}
 use Rattle.datagram.specs.declared.Verdict.the-variants.{Passes, Fails}
 use Rattle.datagram.specs.declared.Checked.{Checked}
 use Rattle.datagram.specs.declared.Checked.the-variants.{Accepted, Refused}
 use Rattle.datagram.specs.Datagrams.{verdict, walk, parse, counted}
 use Rattle.datagram.specs.FoundLaws.{found-whole, found-short}
-use Rattle.datagram.specs.WalkLaws.{passed, tail-ignored, walk-end, walk-at, parse-long, parse-short, counted-front}
+use Rattle.datagram.specs.WalkLaws.{passed, tail-empty, tail-junk, walk-end, walk-at, parse-long, parse-short, counted-front}
 use Rattle.datagram.proofs.check.Statement.{statement}
 use Rattle.datagram.proofs.check.Tie as tie
 
@@ -33,8 +34,11 @@ record GoesOn (conv mss : ℕ) (s : List ℕ) (i count : ℕ) (whole : Checked) 
 
 -- whole is the answer for a datagram of which count segments stand before index i
 module _ (conv mss : ℕ) (s : List ℕ) (i count : ℕ) (whole : Checked) (e : counted count (walk conv mss 0 (drop i s)) ≡ whole) where
-  stops : headerAt s i ≡ Short → Accepted count ≡ whole
-  stops f = rw (walk-end conv mss s i (found-short s i f), tail-ignored, add-zero) at e
+  stops : headerAt s i ≡ Short → length s ≤ i → Accepted count ≡ whole
+  stops f h = rw (walk-end conv mss s i (found-short s i f), tail-empty (drop i s) (rw length-drop (omega arith)), add-zero) at e
+
+  refuses-tail : headerAt s i ≡ Short → i < length s → Refused TrailingBytes ≡ whole
+  refuses-tail f h = rw (walk-end conv mss s i (found-short s i f), tail-junk (drop i s) (rw length-drop (omega arith))) at e
 
   module _ (h : Header) (f : headerAt s i ≡ Whole h) where
     refuses : (r : Refusal) → verdict conv mss (length s - (i + 24)) h ≡ Fails r → Refused r ≡ whole
@@ -71,11 +75,16 @@ loop-holds c = (omega arith, omega arith, rw (parse-long _ _ _ (c .if1 .left)))
 
 returns-2 : tie.Need-returns-2 Inv-loop μ-loop
 returns-2 c =
-    let call = c .before .before in
-    stops _ _ _ _ _ _ (call .before .loop .inv .2) (sym (call .find-header .ensures) ∙ c .enum-told .given .1)
+    let call = c .before .before .before in
+    refuses-tail _ _ _ _ _ _ (call .before .loop .inv .2) (sym (call .find-header .ensures) ∙ c .before .enum-told .given .1) (c .if2 .taken)
 
 returns-3 : tie.Need-returns-3 Inv-loop μ-loop
 returns-3 c =
+    let call = c .before .before .before in
+    stops _ _ _ _ _ _ (call .before .loop .inv .2) (sym (call .find-header .ensures) ∙ c .before .enum-told .given .1) (omega (arith, c .if2 .left))
+
+returns-4 : tie.Need-returns-4 Inv-loop μ-loop
+returns-4 c =
     let call = c .before .before .before in
     refuses _ _ _ _ _ _ (call .before .before .before .before .before .loop .inv .2) _ (found (call .before)) _ (sym (call .judge .ensures) ∙ c .before .verdict .given .1)
 
@@ -94,11 +103,12 @@ check-spec =
     (search needs)
     (search needs)
     returns-2
-    (λ c. omega (arith, found-whole _ _ _ (found c) .inside))
-    (λ c. omega (arith, found-whole _ _ _ (found c) .inside))
-    (search needs)
-    (search needs)
     returns-3
+    (λ c. omega (arith, found-whole _ _ _ (found c) .inside))
+    (λ c. omega (arith, found-whole _ _ _ (found c) .inside))
+    (search needs)
+    (search needs)
+    returns-4
     (search needs)
     (search needs)
     (λ c. omega (arith, went-on (c .before) .inside))
