@@ -1,12 +1,17 @@
 -- What is claimed of calls since an accepted opening, in the terms of the caller: block, lent parts, and the answers given.
 -- Assumes nothing.
 use mathlib.Core.Path.{_≡_}
-use mathlib.Core.List.{List}
-use Prim.Native.Nat.{ℕ, _+_, _<_}
+use mathlib.Core.List.{List, _++_, flatten}
+use Prim.Native.Nat.{ℕ, _+_, _<_, _%_, _^_}
+use lib.ListN.{length, drop}
+use Rattle.protocol.specs.Ranges.{mss}
+use Rattle.protocol.specs.declared.Settings.{Settings}
 use Rattle.protocol.specs.declared.Refusal.the-variants.{ShortPart, InvalidBlock}
-use Rattle.session.specs.Calls.{Call, Answer, Event}
+use Rattle.session.specs.Reading.{joinedIn}
+use Rattle.session.specs.Calls.{Call, Answer, Event, acceptedList}
+use Rattle.delivery.specs.Accepted.{numberedBy}
 use Rattle.delivery.specs.Claims.{Observed}
-use Rattle.delivery.specs.Ledger.{acknowledgedBy}
+use Rattle.delivery.specs.Ledger.{fragmentsBy, acknowledgedBy}
 use Rattle.answers.specs.declared.Count.the-variants as count
 use Rattle.promises.specs.Parts.{stateIn}
 use Rattle.promises.specs.Promises.{SizePromise}
@@ -40,6 +45,24 @@ Each P (next e x a e′ h r) = P e x a × Each P r
 unfoldable pub segmentsAcknowledged : {e e′ : Endpoint} {xs : List Call} {events : List Event} → Runs e xs events e′ → ℕ
 segmentsAcknowledged start = 0
 segmentsAcknowledged (next e x a e′ h r) = acknowledgedBy (stationOf e) x a + segmentsAcknowledged r
+
+-- the fragments accepted in the calls of a list: the new segments of the sends that are not refused
+unfoldable pub fragmentsAccepted : {e e′ : Endpoint} {xs : List Call} {events : List Event} → Runs e xs events e′ → ℕ
+fragmentsAccepted start = 0
+fragmentsAccepted (next e x a e′ h r) = fragmentsBy (stationOf e) x a + fragmentsAccepted r
+
+-- ---- the bytes queued (request 2026-05)
+
+-- the payloads queued, joined
+abbrev pub queuedBytes : Settings → Endpoint → List ℕ
+queuedBytes c e = joinedIn (mss c) (e .parts .sendPool) (stateIn (e .link) (e .parts) .sending .queued)
+
+-- after these events as many segments are numbered as snd_nxt says (modulo 2^32); their bytes, then those queued, are the bytes
+-- accepted; so those queued are the bytes accepted and not yet numbered
+pub record QueuedBytes (c : Settings) (events : List Event) (e : Endpoint) : Type 0 where
+  pub next : stateIn (e .link) (e .parts) .sending .next ≡ length (numberedBy c events) % 2 ^ 32
+  pub accepted : flatten (numberedBy c events) ++ queuedBytes c e ≡ flatten (acceptedList events)
+  pub queued : queuedBytes c e ≡ drop (length (flatten (numberedBy c events))) (flatten (acceptedList events))
 
 -- ---- demand 3
 

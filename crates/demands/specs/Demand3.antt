@@ -11,12 +11,14 @@
 -- Then (`Delivered`) the first one's messages begin the second one's list, and both begin the list accepted for sending; each read answered as the
 -- plain receiver's; a receiver's read finds nothing exactly when no next message was accepted, or a segment of it has never been fed while
 -- below the next expected number plus 128 (`Missing`, `FedBelow`); and rcv_nxt is the plain receiver's next expected number.
+-- In stream mode each segment as finally numbered is taken for a message, and these in order are the accepted list (`acceptedFor`).
 -- Assumes nothing.
 use mathlib.Core.Path.{_≡_, ap, _∙_, subst}
 use mathlib.Core.List.{List}
 use Prim.Native.Nat.{ℕ}
 use Rattle.protocol.specs.declared.Settings.{Settings}
-use Rattle.session.specs.Calls.{Station, Stepped, Call, Event, step, history, acceptedList, datagramsBy}
+use Rattle.session.specs.Calls.{Station, Stepped, Call, Event, step, history, datagramsBy}
+use Rattle.delivery.specs.Accepted.{acceptedFor}
 use Rattle.delivery.specs.Hearing.{FewPushes, FedWith, HearsMore}
 use Rattle.delivery.specs.Claims.{Receives, Delivered}
 use Rattle.delivery.specs.Stations as stations
@@ -49,7 +51,7 @@ pub demand-3 : (c : Settings)
     → FedWith (datagramsBy events) firsts
     → FedWith (datagramsBy events) seconds
     → HearsMore firsts seconds
-    → Delivered c (acceptedList events) (observed firsts heard₁ first) (observed seconds heard₂ second)
+    → Delivered c (acceptedFor c events) (observed firsts heard₁ first) (observed seconds heard₂ second)
 demand-3 c calls firsts seconds events heard₁ heard₂ sender first second h h₁ h₂ few fed₁ fed₂ more =
     let f = since-opening h in
     let d = delivery.station-demand-3 c (taken h) (stationOf (h .first)) (stationOf (h₁ .first)) (stationOf (h₂ .first))
@@ -61,7 +63,7 @@ demand-3 c calls firsts seconds events heard₁ heard₂ sender first second h h
     more in
     rw (f .events-are)
     (record {
-      first-receives = receives (acceptedList (history (stationOf (h .first)) calls)) h₁ (d .first-receives);
-      second-receives = receives (acceptedList (history (stationOf (h .first)) calls)) h₂ (d .second-receives);
+      first-receives = receives (acceptedFor c (history (stationOf (h .first)) calls)) h₁ (d .first-receives);
+      second-receives = receives (acceptedFor c (history (stationOf (h .first)) calls)) h₂ (d .second-receives);
       none-lost = rw (since-opening h₁ .events-are, since-opening h₂ .events-are) (d .none-lost);
     })

@@ -10,6 +10,7 @@ pub mod RunLaws
 pub mod RefusalLaws
 pub mod AlwaysValid
 pub mod LedgerLaws
+pub mod QueuedBytes
 pub mod Quiet
 pub mod QuietLaws
 pub mod Demand3

@@ -2,7 +2,7 @@
 -- Assumes nothing.
 use mathlib.Core.Path.{_≡_, refl, sym, ap, _∙_}
 use mathlib.Core.Bool.{Bool, true, false, cond, not, _&&_, true≢false}
-use mathlib.Core.List.{List, [], _∷_, _++_}
+use mathlib.Core.List.{List, [], _∷_}
 use Prim.Native.Nat.{ℕ, zero, suc, _+_, _-_, _*_, _<_}
 use native.Mathlib.Omega.{arith}
 use lib.Dec.{leb, ltb, eqb}
@@ -17,15 +17,14 @@ use Rattle.wire.specs.declared.Header.{Header}
 use Rattle.datagram.specs.declared.Verdict.{Verdict}
 use Rattle.datagram.specs.declared.Verdict.the-variants as verdict
 use Rattle.datagram.specs.Datagrams.{Segment, ofPush, verdict, segmentOf, Parsed, inFront, tail, walk, parse}
-use Rattle.session.specs.State.{State, Outcome, sendHeld, slots, withQueued, withReceiving}
-use Rattle.session.specs.Cutting.{fragmentCount}
+use Rattle.session.specs.State.{State, Outcome, sendHeld, slots, withReceiving}
 use Rattle.session.specs.Sending.{Sends, sending}
 use Rattle.session.specs.Input.{Took, taking, input}
 use Rattle.session.specs.Reading.{Reads, readable, unreadable, messageSize, message, afterRead, reading, telling}
 use Rattle.session.specs.Updating.{Updates}
 use Rattle.session.specs.Calls.{Station, Call, Answer, afterSend, afterTakeIn, afterReading, afterUpdate, own}
 use Rattle.session.specs.Decides.{and-parts}
-use Rattle.delivery.specs.CallCases.{placing, updating-cases}
+use Rattle.delivery.specs.CallCases.{filling, newSegments, sentBy, updating-cases}
 use Rattle.demands.specs.Claims.{Passes}
 
 -- ---- numbers of answers
@@ -106,12 +105,11 @@ input-clear s pool d = go (parse (s .settings .conv) (mss (s .settings)) d) (par
 sending-clear : (s : State) (pool m : List ℕ) → Clear (sending s pool m)
 unfolding sending
 sending-clear s pool m =
-    go (ltb (fragmentsMost * mss (s .settings)) (length m)) (ltb (sendSlots - length (slots (sendHeld (s .sending)))) (fragmentCount (mss (s .settings)) (length m)))
+    go (ltb (fragmentsMost * mss (s .settings)) (length (filling (s .settings) (s .sending) pool m .rest)))
+    (ltb (sendSlots - length (slots (sendHeld (s .sending)))) (newSegments (s .settings) (s .sending) pool m))
   where
-    result : Outcome Sends
-    result = Outcome.done (record { state = withQueued s (s .sending .queued ++ placing s pool m .segments); pool = placing s pool m .pool })
-
-    go : (long full : Bool) → Clear (cond long (Outcome.refused LongMessage) (cond full (Outcome.refused NoFreeSlots) result))
+    go : (long full : Bool) →
+        Clear (cond long (Outcome.refused LongMessage) (cond full (Outcome.refused NoFreeSlots) (Outcome.done (sentBy s pool m))))
     go true full = refl
     go false true = refl
     go false false = tt
