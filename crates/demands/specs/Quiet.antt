@@ -6,8 +6,6 @@ use mathlib.Core.Bool.{true, false}
 use mathlib.Core.List.{List, [], _∷_}
 use mathlib.Core.Logic.{_⊎_}
 use Prim.Native.Nat.{ℕ, _^_, _≤_, _<_}
-use lib.ListN.{length}
-use Rattle.protocol.specs.Protocol.{outputLeast, lengthsLeast}
 use Rattle.protocol.specs.Serial.{minus, isDue}
 use Rattle.protocol.specs.declared.Refusal.{Refusal}
 use Rattle.lists.specs.declared.Sent.{Sent}
@@ -19,17 +17,19 @@ use Rattle.answers.specs.declared.Update.{Update}
 use Rattle.answers.specs.declared.Update.the-variants as update
 use Rattle.promises.specs.Parts.{stateIn}
 use Rattle.promises.specs.Promises.{UpdatePromise}
-use Rattle.demands.specs.Steps.{Endpoint}
+use Rattle.demands.specs.Steps.{Endpoint, Room}
 
 -- the time t is from now until just before the named time
 pub record Within (now named t : ℕ) : Type 0 where
   pub fits : t < 2 ^ 32
   pub before : minus t now < minus named now
 
--- no call but updates at these times, with these answers, each into any output and lengths; each gets block and parts as the last one left them
+-- no call but updates at these times, with these answers, each into any output and lengths; each gets block and parts as the last one
+-- left them
 pub data Updates : Endpoint → List ℕ → List Update → Endpoint → Type 0 where
   start : {e : Endpoint} → Updates e [] [] e
-  next : (e : Endpoint) (t : ℕ) (a : Update) (e′ : Endpoint) (out lengths out′ lengths′ : List ℕ) {ts : List ℕ} {given : List Update} {e″ : Endpoint}
+  next : (e : Endpoint) (t : ℕ) (a : Update) (e′ : Endpoint) (out lengths out′ lengths′ : List ℕ)
+      {ts : List ℕ} {given : List Update} {e″ : Endpoint}
       → UpdatePromise t (e .link) (e .parts) out lengths a (e′ .link) (e′ .parts) out′ lengths′
       → Updates e′ ts given e″ → Updates e (t ∷ ts) (a ∷ given) e″
 
@@ -54,11 +54,12 @@ pub record StaysQuiet (now named : ℕ) (e : Endpoint) (given : List Update) (e�
 -- every update at t that has output and lengths as document 01 states flushes
 abbrev pub FlushesAt : ℕ → Endpoint → Type 0
 FlushesAt t e =
-    (a : Update) (e′ : Endpoint) (out lengths out′ lengths′ : List ℕ) → outputLeast ≤ length out → lengthsLeast ≤ length lengths
+    (a : Update) (e′ : Endpoint) (out lengths out′ lengths′ : List ℕ) → Room out lengths
     → UpdatePromise t (e .link) (e .parts) out lengths a (e′ .link) (e′ .parts) out′ lengths′
     → (n : ℕ) × (a ≡ update.Wrote n)
 
 -- and the named time is no sooner than it need be: it is one interval away, or an update then flushes, or a segment is due then
 pub record NoSooner (now named : ℕ) (e : Endpoint) : Type 0 where
   pub within : minus named now ≤ e .link .settings .interval
-  pub wanted : minus named now < e .link .settings .interval → FlushesAt named e ⊎ (anyDue named (dues (stateIn (e .link) (e .parts))) ≡ true)
+  pub wanted : minus named now < e .link .settings .interval
+      → FlushesAt named e ⊎ (anyDue named (dues (stateIn (e .link) (e .parts))) ≡ true)
