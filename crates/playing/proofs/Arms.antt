@@ -19,6 +19,10 @@ use Rattle.playing.specs.Plays.{NoCommand, PlaysTool, Untouched, PlaysOn
 abbrev tag : Command → ℕ
 tag c = tagOf declared.the-type c
 
+-- no lent part was touched
+pub untouched : (s r a : List ℕ) → Untouched s r a s r a
+untouched s r a = record { sendPool = refl; receivePool = refl; acks = refl }
+
 -- a tag that is none of an arm's
 not-one : (k : ℕ) (ks : List ℕ) (n : ℕ) → isOneOf n (k ∷ ks) ≡ false → OneOf (k ∷ ks) n → ⊥
 not-one k ks n e h = let t = one-of k ks n h in let z : _≡_ {A = ℕ} 0 1 = cc in omega arith
@@ -72,16 +76,21 @@ pub not-malformed : (c : Command) → OneOf (1 ∷ 2 ∷ 3 ∷ 4 ∷ 5 ∷ 6 ∷
 unfolding isOneOf
 not-malformed c h e = not-one 1 (2 ∷ 3 ∷ 4 ∷ 5 ∷ 6 ∷ 7 ∷ 8 ∷ 9 ∷ 10 ∷ 11 ∷ 12 ∷ 13 ∷ 14 ∷ 15 ∷ []) 16 refl (rw e at h)
 
-pub not-open : (c : Command) → OneOf (1 ∷ 2 ∷ 3 ∷ 4 ∷ 5 ∷ 6 ∷ 7 ∷ 8 ∷ 9 ∷ 10 ∷ 11 ∷ 12 ∷ 13 ∷ 14 ∷ 15 ∷ []) (tag c) → (conv mtu mode interval threshold stream congestion : ℕ) → c ≡ Open conv mtu mode interval threshold stream congestion → ⊥
+pub not-open : (c : Command) → OneOf (1 ∷ 2 ∷ 3 ∷ 4 ∷ 5 ∷ 6 ∷ 7 ∷ 8 ∷ 9 ∷ 10 ∷ 11 ∷ 12 ∷ 13 ∷ 14 ∷ 15 ∷ []) (tag c) →
+    (conv mtu mode interval threshold stream congestion : ℕ) → c ≡ Open conv mtu mode interval threshold stream congestion → ⊥
 unfolding isOneOf
-not-open c h conv mtu mode interval threshold stream congestion e = not-one 1 (2 ∷ 3 ∷ 4 ∷ 5 ∷ 6 ∷ 7 ∷ 8 ∷ 9 ∷ 10 ∷ 11 ∷ 12 ∷ 13 ∷ 14 ∷ 15 ∷ []) 0 refl (rw e at h)
+not-open c h conv mtu mode interval threshold stream congestion e =
+    not-one 1 (2 ∷ 3 ∷ 4 ∷ 5 ∷ 6 ∷ 7 ∷ 8 ∷ 9 ∷ 10 ∷ 11 ∷ 12 ∷ 13 ∷ 14 ∷ 15 ∷ []) 0 refl (rw e at h)
 
-pub apart : (c : Command) (conv mtu mode interval threshold stream congestion : ℕ) → c ≡ Malformed → c ≡ Open conv mtu mode interval threshold stream congestion → ⊥
+pub apart : (c : Command) (conv mtu mode interval threshold stream congestion : ℕ) → c ≡ Malformed →
+    c ≡ Open conv mtu mode interval threshold stream congestion → ⊥
 apart c conv mtu mode interval threshold stream congestion e h = let z : _≡_ {A = ℕ} 0 1 = cc in omega arith
 
 pub both : (t : Bool) → t ≡ true → t ≡ false → ⊥
 both t e h = let z : _≡_ {A = ℕ} 0 1 = cc in omega arith
 
 -- one command has one set of settings
-pub same-settings : (c : Command) (conv mtu mode interval threshold stream congestion conv′ mtu′ mode′ interval′ threshold′ stream′ congestion′ : ℕ) → c ≡ Open conv mtu mode interval threshold stream congestion → c ≡ Open conv′ mtu′ mode′ interval′ threshold′ stream′ congestion′ → settingsOf conv mtu mode interval threshold stream congestion ≡ settingsOf conv′ mtu′ mode′ interval′ threshold′ stream′ congestion′
+pub same-settings : (c : Command) (conv mtu mode interval threshold stream congestion conv′ mtu′ mode′ interval′ threshold′ stream′ congestion′ : ℕ) →
+    c ≡ Open conv mtu mode interval threshold stream congestion → c ≡ Open conv′ mtu′ mode′ interval′ threshold′ stream′ congestion′ →
+    settingsOf conv mtu mode interval threshold stream congestion ≡ settingsOf conv′ mtu′ mode′ interval′ threshold′ stream′ congestion′
 same-settings c conv mtu mode interval threshold stream congestion conv′ mtu′ mode′ interval′ threshold′ stream′ congestion′ e h = cc
