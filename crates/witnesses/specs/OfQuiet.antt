@@ -58,6 +58,7 @@ at current =
           next = 1;
           rtt = record { smoothed = 0; variation = 0; timeout = 200 };
           window = 128;
+          congestion = record { window = 0; threshold = 2; allowance = 0 };
           queued = 0;
           outstanding = 1;
         };
