@@ -114,6 +114,7 @@ stateOf l records acks =
       probe = l .clock .probe;
       current = l .clock .current;
       schedule = scheduleOf (l .clock);
+      congestion = l .flight .congestion;
       ask = isSet (l .clock .ask);
       dead = isSet (l .clock .dead);
     }

@@ -2,17 +2,20 @@
 //
 // A held segment is one word (`words`); the numbers of waiting segments and the transmissions of outstanding ones stand in
 // arrays beside their words. The number, due time, timeout and skips of an outstanding segment are its record in the lent table.
+use congestion::Congestion;
 use protocol::Settings;
 use timing::ProbeClock;
 use timing::RoundTrip;
 
-// The sending half's numbers: snd_una, snd_nxt, the round trip, the peer's last window, and how many are queued and outstanding.
+// The sending half's numbers: snd_una, snd_nxt, the round trip, the peer's last window, the congestion window, and how many are queued and
+// outstanding.
 #[repr(C)]
 pub struct Flight {
     pub una: u32,
     pub next: u32,
     pub rtt: RoundTrip,
     pub window: u16,
+    pub congestion: Congestion,
     pub queued: usize,
     pub outstanding: usize,
 }

@@ -1,27 +1,35 @@
 -- Validity: after an accepted opening, with lent parts of the stated sizes, no list of calls ever gives 13, nor 7 for a lent part.
 -- Assumes nothing.
-use mathlib.Core.Path.{_≡_, refl, sym, ap, _∙_}
+use mathlib.Core.Path.{_≡_, refl, sym, ap, _∙_, subst}
 use mathlib.Core.Bool.{Bool, true, _&&_}
 use mathlib.Core.List.{List, [], _∷_}
-use Prim.Native.Nat.{ℕ, _^_, _<_}
+use Prim.Native.Nat.{ℕ, _^_, _≤_, _<_}
 use native.Mathlib.Omega.{arith}
+use Rattle.protocol.specs.Protocol.{sendWindow}
 use Rattle.protocol.specs.Ranges.{inRange, mss}
+use Rattle.protocol.specs.Serial.{minus}
 use Rattle.protocol.specs.declared.Settings.{Settings}
+use Rattle.congestion.specs.Congestions.{fits, InRange, afterFlush}
+use Rattle.congestion.specs.CongestionLaws.{initial-in-range, datagram-in-range, flush-in-range}
 use Rattle.schedule.specs.ScheduleLaws.{updated-fits}
 use Rattle.session.specs.State.{State}
 use Rattle.session.specs.Opening.{opened}
 use Rattle.session.specs.Input.{applied}
-use Rattle.session.specs.Flushing.{flushing}
+use Rattle.session.specs.Flushing.{windowOf, lossesOf, flushing}
 use Rattle.sizes.specs.Sizes.{enough, enoughToFlush}
 use Rattle.sizes.specs.declared.Lengths.{Lengths}
 use Rattle.session.specs.Valid.{valid, sendingValid, receivingValid, probeFits}
 use Rattle.session.specs.Calls.{Station, Call, Stepped, Lent, own, lengthsOf, longEnough, after, step}
 use Rattle.session.specs.Decides.{All}
+use Rattle.session.specs.SendingValid.{congestion-decides}
+use Rattle.session.specs.IsValid.{settings-decide}
 use Rattle.delivery.specs.Hearing.{Taken, CallFits}
 use Rattle.delivery.specs.Stations.{Opened}
 use Rattle.delivery.specs.Passing.{Passing, step-own}
 use Rattle.delivery.specs.CallCases.{own-cases}
-use Rattle.delivery.specs.SendingStays.{SendingInOrder, sending-stays, opened-in-order}
+use Rattle.delivery.specs.SizeLaws.{mtu-in-range}
+use Rattle.delivery.specs.SendingFlushes.{window-most, count-room}
+use Rattle.delivery.specs.SendingStays.{SendingInOrder, half-in, sending-stays, opened-in-order}
 use Rattle.delivery.specs.ReceivingLaws.{ReceivingInOrder, receiving-stays, opened-receiving, flush-enough, own-lent, own-lengths}
 
 -- a station whose two halves are in order, with parts that are long enough
@@ -30,6 +38,7 @@ pub record InOrder (c : Settings) (s : Station) : Type 0 where
   pub receives : ReceivingInOrder c s
   pub long : enoughToFlush (mss c) (lengthsOf s) (s .lent .output) (s .lent .lengths) ≡ true
   pub next-flush : s .state .schedule .next < 2 ^ 32
+  pub congestion : InRange (mss c) (s .state .congestion)
 
 -- the next flush time has 32 bits
 next-stays : (s : Station) (x : Call) → CallFits x → s .state .schedule .next < 2 ^ 32 → own s x .station .state .schedule .next < 2 ^ 32
@@ -50,16 +59,63 @@ opened-next : (c : Settings) → opened c .schedule .next < 2 ^ 32
 unfolding opened
 opened-next c = omega arith
 
+-- ---- the congestion window
+
+opened-congestion : (c : Settings) → InRange (mss c) (opened c .congestion)
+unfolding opened
+opened-congestion c = initial-in-range (mss c)
+
+-- no more than 32 are in flight at the end of a flush
+inflight-most : (s : State) (t : ℕ) → s .sending .una < 2 ^ 32 → minus (s .sending .next) (s .sending .una) ≤ sendWindow
+    → lossesOf s t .inflight ≤ sendWindow
+inflight-most s t h k = omega (arith, count-room (windowOf s) (s .sending) (window-most s) k)
+
+module _ (s : Station) (range : inRange (s .state .settings) ≡ true) (o : SendingInOrder (s .state .settings) s)
+    (h : InRange (mss (s .state .settings)) (s .state .congestion)) where
+  abbrev m : ℕ
+  m = mss (s .state .settings)
+
+  own-congestion : (x : Call) → CallFits x → InRange m (own s x .station .state .congestion)
+  unfolding applied flushing
+  own-congestion x fits =
+      own-cases (λ (x : Call) (y : Stepped). CallFits x → SendingInOrder (s .state .settings) (y .station) → InRange m (y .station .state .congestion)) s
+      (λ x r k p. h)
+      (λ b ok k p. h)
+      (λ d gs e k p.
+      datagram-in-range m (s .state .sending .una) _ _ (s .state .congestion)
+      (omega (arith, mtu-in-range (s .state .settings) range .least)) (omega (arith, p .fits .window)) h)
+      (λ t k p. flushed t)
+      (λ room k p. h)
+      (λ t k p. flushed t)
+      (λ t k p. h)
+      (λ t k p. h)
+      x fits (sending-stays (s .state .settings) range s x fits o)
+    where
+      flushed : (t : ℕ) → InRange m (afterFlush (s .state .congestion) m (lossesOf (s .state) t))
+      flushed t =
+          flush-in-range m (s .state .congestion) (lossesOf (s .state) t)
+          (inflight-most (s .state) t (o .fits .una) (half-in (s .state .settings) s o .numbers .apart))
+          (window-most (s .state))
+          (omega (arith, settings-decide (s .state .settings) .holds range .threshold))
+          h
+
+congestion-stays : (c : Settings) → inRange c ≡ true → (s : Station) (x : Call) → CallFits x → SendingInOrder c s
+    → InRange (mss c) (s .state .congestion) → InRange (mss c) (own s x .station .state .congestion)
+congestion-stays c range s x fits o h =
+    subst (λ (c : Settings). inRange c ≡ true → SendingInOrder c s → InRange (mss c) (s .state .congestion) → InRange (mss c) (own s x .station .state .congestion))
+    (o .settings) (λ r p k. own-congestion s r p k x fits) range o h
+
 valid-of : (s : State) → inRange (s .settings) ≡ true → sendingValid (s .settings) (s .sending) ≡ true → receivingValid (s .settings) (s .receiving) ≡ true
-    → probeFits (s .probe) ≡ true → valid s ≡ true
+    → probeFits (s .probe) ≡ true → fits (s .congestion) (mss (s .settings)) ≡ true → valid s ≡ true
 unfolding valid
-valid-of s a b d e = rw (a, b, d, e)
+valid-of s a b d e f = rw (a, b, d, e, f)
 
 module _ (c : Settings) (range : inRange c ≡ true) where
   pub in-order-valid : (s : Station) → InOrder c s → valid (s .state) ≡ true
   in-order-valid s o =
       let e = o .sends .settings in
       valid-of (s .state) (rw e range) (rw e (o .sends .valid)) (rw e (o .receives .valid)) (o .sends .probe)
+      (congestion-decides (mss (s .state .settings)) (s .state .congestion) .passes (rw e (o .congestion)))
 
   pub in-order-long : (s : Station) (x : Call) → InOrder c s → longEnough s x ≡ true
   in-order-long s (Call.send m) o = rw (o .sends .settings) (flush-enough _ _ _ _ (o .long))
@@ -75,6 +131,7 @@ module _ (c : Settings) (range : inRange c ≡ true) where
     receives = receiving-stays c s x fits (o .receives);
     long = rw (own-lengths s x, own-lent s x) (o .long);
     next-flush = next-stays s x fits (o .next-flush);
+    congestion = congestion-stays c range s x fits (o .sends) (o .congestion);
   }
 
   pub always-passing : (xs : List Call) (s : Station) → All CallFits xs → InOrder c s → Passing s xs
@@ -94,6 +151,7 @@ opened-all c s o = record {
   receives = opened-receiving c s o;
   long = o .long;
   next-flush = rw (o .state) (opened-next c);
+  congestion = rw (o .state) (opened-congestion c);
 }
 
 -- each call of any list passes the checks of 7 and 13, and the station that it leaves is valid

@@ -22,7 +22,7 @@ use Rattle.lists.specs.declared.Sent.{Sent}
 use Rattle.lists.specs.Orders.{sentOffset}
 use Rattle.session.specs.State.{State, Sending, Receiving, sendHeld, receiveHeld}
 use Rattle.session.specs.Valid.{all, heldFits, slotsFit, waitingFits, settled, sendingValid, receivingValid, valid}
-use Rattle.session.specs.Flushing.{numbered, numberedCount, withNumbered, transmittedOf, sentAfter, transmittedNow, written, bytesOfSegments, packed, flushing}
+use Rattle.session.specs.Flushing.{numbered, windowOf, numberedCount, withNumbered, transmittedOf, sentAfter, transmittedNow, written, bytesOfSegments, packed, flushing}
 use Rattle.session.specs.Calls.{Station, Call, lengthsOf, longEnough}
 use Rattle.session.specs.Decides.{All, and-parts}
 use Rattle.session.specs.AllLaws.{all-any, all-left, all-unmapped, all-weaker}
@@ -31,7 +31,7 @@ use Rattle.session.specs.SendingValid.{sending-decides}
 use Rattle.session.specs.SendOrder.{ascends-length}
 use Rattle.delivery.specs.StateRange.{SendingFits, CarryFits}
 use Rattle.delivery.specs.SendingHalf.{SentWell, Half, half-of}
-use Rattle.delivery.specs.SendingFlushes.{flushedWith, flushed-held, half-flushed, count-few, count-room}
+use Rattle.delivery.specs.SendingFlushes.{flushedWith, flushed-held, half-flushed, window-most, count-few, count-room}
 use Rattle.delivery.specs.SizeLaws.{enough-pool}
 use Rattle.delivery.specs.PackingLaws.{Datagram, bytes-joined, packed-each, packed-count, packed-bytes}
 use Rattle.delivery.specs.WireLaws.{DataFits, written-valid, written-short, written-few, written-bytes}
@@ -215,7 +215,7 @@ few-acks c r e =
 pub valid-parts : (s : State) → valid s ≡ true → ValidParts s
 unfolding valid
 valid-parts s e =
-    let a = and-parts _ _ (and-parts _ _ e .0) in
+    let a = and-parts _ _ (and-parts _ _ (and-parts _ _ e .0) .0) in
     let b = and-parts _ _ (a .0) in
     record { range = b .0; sending = b .1; fewAcks = few-acks (s .settings) (s .receiving) (a .1) }
 
@@ -234,7 +234,7 @@ flush-writes s t v f carry conv32 long time =
     let c : Settings = s .state .settings in
     let d : Sending = s .state .sending in
     let half : Half c d = half-of c d (sending-decides c d .holds (p .sending)) f in
-    flush-writes-any (s .state) t (numberedCount d) (s .sendPool) (s .state .ask || nextClock (s .state .probe) t (d .window) .ask) (p .range) (p .fewAcks) (count-few d) (count-room d (half .numbers .apart)) half conv32 carry time
+    flush-writes-any (s .state) t (numberedCount (windowOf (s .state)) d) (s .sendPool) (s .state .ask || nextClock (s .state .probe) t (d .window) .ask) (p .range) (p .fewAcks) (count-few (windowOf (s .state)) d) (count-room (windowOf (s .state)) d (window-most (s .state)) (half .numbers .apart)) half conv32 carry time
     (enough-pool (mss c) (lengthsOf s) (s .lent .output) (s .lent .lengths) long)
 
 -- A flush of any valid state, its numbers in range or not, writes at most 290 datagrams
@@ -244,5 +244,5 @@ flush-few s t pool v =
     let p = valid-parts s v in
     let d : Sending = s .sending in
     let h = sending-decides (s .settings) d .holds (p .sending) in
-    datagrams-few s t (numberedCount d) pool (s .ask || nextClock (s .probe) t (d .window) .ask) (p .range) (p .fewAcks) (count-few d) (count-room d (h .apart)) (h .lengths)
+    datagrams-few s t (numberedCount (windowOf s) d) pool (s .ask || nextClock (s .probe) t (d .window) .ask) (p .range) (p .fewAcks) (count-few (windowOf s) d) (count-room (windowOf s) d (window-most s) (h .apart)) (h .lengths)
     (ascending-ascends (sentOffset (d .una)) (minus (d .next) (d .una)) (d .outstanding) (h .ascending))

@@ -22,7 +22,7 @@ use Rattle.lists.specs.declared.Sent.{Sent}
 use Rattle.lists.specs.Orders.{sentOffset}
 use Rattle.session.specs.State.{Sending, Ack}
 use Rattle.session.specs.Valid.{valid}
-use Rattle.session.specs.Flushing.{numbered, numberedCount, withNumbered, sentAfter, transmittedNow, Carried, carried, ackSegment, control, dataSegment, wished, written, bytesOfSegments, packed, flushing}
+use Rattle.session.specs.Flushing.{numbered, windowOf, numberedCount, withNumbered, sentAfter, transmittedNow, Carried, carried, ackSegment, control, dataSegment, wished, written, bytesOfSegments, packed, flushing}
 use Rattle.session.specs.Calls.{Station}
 use Rattle.session.specs.Decides.{All}
 use Rattle.session.specs.AllLaws.{all-any, all-append, all-mapped}
@@ -32,7 +32,7 @@ use Rattle.delivery.specs.StateRange.{CarryFits}
 use Rattle.session.specs.MapLaws.{map-append}
 use Rattle.delivery.specs.SendPool.{pieceIn}
 use Rattle.delivery.specs.SendingHalf.{Half}
-use Rattle.delivery.specs.SendingFlushes.{count-few, count-room}
+use Rattle.delivery.specs.SendingFlushes.{window-most, count-few, count-room}
 use Rattle.delivery.specs.SendingStays.{SendingInOrder, half-in}
 use Rattle.delivery.specs.PackingLaws.{packed-flat}
 use Rattle.delivery.specs.WireLaws.{written-parts}
@@ -109,7 +109,7 @@ module _ (s : Station) (made : valid (s .state) ≡ true) (conv32 : s .state .se
   d = s .state .sending
 
   abbrev k : ℕ
-  k = numberedCount (s .state .sending)
+  k = numberedCount (windowOf (s .state)) (s .state .sending)
 
   abbrev link : ℕ
   link = s .state .sending .roundTrip .timeout
@@ -118,7 +118,7 @@ module _ (s : Station) (made : valid (s .state) ≡ true) (conv32 : s .state .se
   ask = s .state .ask || nextClock (s .state .probe) t (s .state .sending .window) .ask
 
   abbrev new : List Held
-  new = take (numberedCount (s .state .sending)) (s .state .sending .queued)
+  new = take (numberedCount (windowOf (s .state)) (s .state .sending)) (s .state .sending .queued)
 
   abbrev segs : List Segment
   segs = written (s .state) t (s .sendPool) ask (sentWith c t k d)
@@ -132,8 +132,7 @@ module _ (s : Station) (made : valid (s .state) ≡ true) (conv32 : s .state .se
   parts : FlushWrites c (packed (c .mtu) segs)
   parts =
       let p = valid-parts (s .state) made in
-      flush-writes-any (s .state) t k (s .sendPool) ask (p .range) (p .fewAcks) (count-few d) (count-room d (half .numbers .apart)) half
-      conv32 carry time (o .long)
+      flush-writes-any (s .state) t k (s .sendPool) ask (p .range) (p .fewAcks) (count-few (windowOf (s .state)) d) (count-room (windowOf (s .state)) d (window-most (s .state)) (half .numbers .apart)) half conv32 carry time (o .long)
 
   abbrev old : List Sent
   old = transmittedNow c link t (d .outstanding)

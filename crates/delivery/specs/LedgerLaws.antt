@@ -25,7 +25,7 @@ use Rattle.session.specs.Sending.{filled}
 use Rattle.session.specs.FillLaws.{filled-queue}
 use Rattle.session.specs.HeardLaws.{heard-outstanding, heard-queued}
 use Rattle.session.specs.Input.{acknowledges, heardBySending, allBySending, furthest, skipped, skippedByAll, ackNumbers, applied}
-use Rattle.session.specs.Flushing.{numberedCount, flushing}
+use Rattle.session.specs.Flushing.{windowOf, numberedCount, flushing}
 use Rattle.session.specs.Calls.{Station, Call, Answer, Stepped, Event, own, history, after, acceptedBy, acceptedList}
 use Rattle.session.specs.Decides.{All}
 use Rattle.session.specs.AllLaws.{all-mapped}
@@ -39,7 +39,7 @@ use Rattle.delivery.specs.CallCases.{filling, cutting, placing, own-case
 use Rattle.delivery.specs.SendPool.{length-cut-as, place-count}
 use Rattle.delivery.specs.SendingHalf.{Half}
 use Rattle.delivery.specs.SendingTakesIn.{skip-held}
-use Rattle.delivery.specs.SendingFlushes.{flushedWith, flushed-held, count-few, count-room}
+use Rattle.delivery.specs.SendingFlushes.{flushedWith, flushed-held, window-most, count-few, count-room}
 use Rattle.delivery.specs.SendingStays.{SendingInOrder, own-settings, half-in, sending-stays, sending-always, opened-in-order}
 use Rattle.delivery.specs.Ledger.{usedSlots, fragmentsBy, stationAccepted, acknowledgedByEach, acknowledgedBy, stationAcknowledged, Ledger}
 
@@ -139,8 +139,8 @@ balances s o =
     filled-count : (m : List ℕ) → length (filling c d (s .sendPool) m .queued) ≡ length (d .queued)
     filled-count m = filled-queue (mss c) (d .queued) (s .sendPool) m (isStream c)
 
-    flushed : (t : ℕ) → sendHeld (flushedWith c t (numberedCount d) d) ≡ sendHeld d
-    flushed t = flushed-held c t (numberedCount d) d (count-few d) (count-room d (half-in c s o .numbers .apart))
+    flushed : (t : ℕ) → sendHeld (flushedWith c t (numberedCount (windowOf (s .state)) d) d) ≡ sendHeld d
+    flushed t = flushed-held c t (numberedCount (windowOf (s .state)) d) d (count-few (windowOf (s .state)) d) (count-room (windowOf (s .state)) d (window-most (s .state)) (half-in c s o .numbers .apart))
 
     nothing : (x : Call) (r : Refusal) → Balances s x (record { station = s; answer = Answer.refused r })
     nothing (Call.send m) r = omega arith

@@ -47,3 +47,4 @@ pub mod Ledger
 pub mod LedgerLaws
 pub mod AlwaysValid
 pub mod Demand3
+pub mod FirstFlush

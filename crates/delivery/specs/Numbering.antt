@@ -4,7 +4,7 @@ use mathlib.Core.List.{List, [], _∷_, _++_, map}
 use Prim.Native.Nat.{ℕ}
 use lib.ListN.{take}
 use Rattle.protocol.specs.Ranges.{mss}
-use Rattle.session.specs.Flushing.{numberedCount}
+use Rattle.session.specs.Flushing.{windowOf, numberedCount}
 use Rattle.session.specs.Calls.{Station, Call, Answer, own}
 use Rattle.delivery.specs.Pieces.{Piece}
 use Rattle.delivery.specs.SendPool.{pieceIn}
@@ -12,7 +12,7 @@ use Rattle.delivery.specs.SendPool.{pieceIn}
 -- by a call with this answer: a flush, and an update that flushes, numbers the first queued segments
 abbrev pub numberedNow : Station → Answer → List Piece
 numberedNow s (Answer.wrote ds) =
-    map (pieceIn (mss (s .state .settings)) (s .sendPool)) (take (numberedCount (s .state .sending)) (s .state .sending .queued))
+    map (pieceIn (mss (s .state .settings)) (s .sendPool)) (take (numberedCount (windowOf (s .state)) (s .state .sending)) (s .state .sending .queued))
 numberedNow s Answer.accepted = []
 numberedNow s (Answer.refused r) = []
 numberedNow s (Answer.message b) = []

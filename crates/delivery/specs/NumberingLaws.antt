@@ -16,7 +16,7 @@ use Rattle.schedule.specs.declared.Schedule.{Schedule}
 use Rattle.session.specs.State.{State, Sending, Outcome, withReceiving, withTimes, withSchedule}
 use Rattle.session.specs.Valid.{valid}
 use Rattle.session.specs.Input.{applied, ackNumbers}
-use Rattle.session.specs.Flushing.{numberedCount, flushing}
+use Rattle.session.specs.Flushing.{windowOf, numberedCount, flushing}
 use Rattle.session.specs.Reading.{afterRead}
 use Rattle.session.specs.Calls.{Station, Call, Answer, Stepped, afterSend, afterTakeIn, afterFlush, own, history, after, acceptedBy, acceptedList, datagramsIn, datagramsBy}
 use Rattle.session.specs.Decides.{All}
@@ -111,7 +111,7 @@ module _ (s : Station) (before : List Piece) (accepted : List (List ℕ)) (made 
   unfolding flushing
   flush-step t time = record {
     then = rw (append-nil accepted) (record {
-      next = simp (length-append, length-map, length-take) (omega (arith, n .next, count-few d));
+      next = simp (length-append, length-map, length-take) (omega (arith, n .next, count-few (windowOf (s .state)) d));
       cuts = rw whole (n .cuts);
     });
     wrote =
@@ -120,14 +120,13 @@ module _ (s : Station) (before : List Piece) (accepted : List (List ℕ)) (made 
   }
     where
       k : ℕ
-      k = numberedCount d
+      k = numberedCount (windowOf (s .state)) d
 
       f : Held → Piece
       f x = pieceIn (mss c) (s .sendPool) x
 
       -- numbered and queued together stay as they were
-      whole : (before ++ map (pieceIn (mss c) (s .sendPool)) (take (numberedCount d) (d .queued))) ++ map (pieceIn (mss c) (s .sendPool))
-          (drop (numberedCount d) (d .queued))
+      whole : (before ++ map (pieceIn (mss c) (s .sendPool)) (take (numberedCount (windowOf (s .state)) d) (d .queued))) ++ map (pieceIn (mss c) (s .sendPool)) (drop (numberedCount (windowOf (s .state)) d) (d .queued))
           ≡ before ++ map (pieceIn (mss c) (s .sendPool)) (d .queued)
       whole =
           append-assoc before (map f (take k (d .queued))) (map f (drop k (d .queued)))

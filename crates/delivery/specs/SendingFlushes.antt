@@ -6,16 +6,18 @@ use Prim.Native.Nat.{ℕ, _+_, _^_, _≤_, _<_}
 use native.Mathlib.Omega.{arith}
 use lib.ListN.{length, take, drop, length-take, take-append-drop}
 use Rattle.protocol.specs.Protocol.{sendWindow}
+use Rattle.protocol.specs.Ranges.{controlsCongestion}
 use Rattle.protocol.specs.Serial.{plus, minus}
 use Rattle.protocol.specs.declared.Settings.{Settings}
+use Rattle.congestion.specs.CongestionLaws.{used-most}
 use Rattle.timing.specs.TimeRanges.{TimeoutInRange}
 use Rattle.retransmission.specs.Transmissions.{firstTransmission, sending, transmission}
 use Rattle.retransmission.specs.TransmissionLaws.{when-never-sent, transmission-in-range, transmission-count, transmission-number, transmission-fits}
 use Rattle.timing.specs.declared.Record.{Record}
 use Rattle.lists.specs.declared.Held.{Held}
 use Rattle.lists.specs.declared.Sent.{Sent}
-use Rattle.session.specs.State.{Sending, sendHeld, withNumbers}
-use Rattle.session.specs.Flushing.{numberedAs, numbered, numberedCount, withNumbered, sentAfter}
+use Rattle.session.specs.State.{State, Sending, sendHeld, withNumbers}
+use Rattle.session.specs.Flushing.{numberedAs, numbered, windowOf, numberedCount, withNumbered, sentAfter}
 use Rattle.session.specs.Decides.{All}
 use Rattle.session.specs.AllLaws.{all-append}
 use Rattle.session.specs.MapLaws.{map-append, map-kept}
@@ -101,11 +103,16 @@ module _ (c : Settings) (t k : ℕ) (s : Sending) (few : k ≤ length (s .queued
     window = h .window;
   }
 
--- the base's count is one of these
-pub count-few : (s : Sending) → numberedCount s ≤ length (s .queued)
-unfolding numberedCount
-count-few s = omega arith
+-- the window that a flush goes by is 32 at most
+pub window-most : (s : State) → windowOf s ≤ sendWindow
+window-most s = used-most (controlsCongestion (s .settings)) (s .sending .window) (s .congestion .window)
 
-pub count-room : (s : Sending) → minus (s .next) (s .una) ≤ sendWindow → minus (s .next) (s .una) + numberedCount s ≤ sendWindow
+-- so its count is one of these
+pub count-few : (w : ℕ) (s : Sending) → numberedCount w s ≤ length (s .queued)
 unfolding numberedCount
-count-room s h = omega arith
+count-few w s = omega arith
+
+pub count-room : (w : ℕ) (s : Sending) → w ≤ sendWindow → minus (s .next) (s .una) ≤ sendWindow
+    → minus (s .next) (s .una) + numberedCount w s ≤ sendWindow
+unfolding numberedCount
+count-room w s m h = omega arith

@@ -23,7 +23,7 @@ use Rattle.session.specs.Opening.{opened}
 use Rattle.session.specs.Sending.{sending}
 use Rattle.session.specs.FillLaws.{filled-length}
 use Rattle.session.specs.Input.{applied, allBySending, ackNumbers}
-use Rattle.session.specs.Flushing.{numberedCount, flushing}
+use Rattle.session.specs.Flushing.{windowOf, numberedCount, flushing}
 use Rattle.session.specs.Calls.{Station, Call, Stepped, lengthsOf, own, after}
 use Rattle.delivery.specs.Hearing.{CallFits}
 use Rattle.delivery.specs.Stations.{Opened}
@@ -37,7 +37,7 @@ use Rattle.delivery.specs.StateRange.{SendingFits}
 use Rattle.delivery.specs.SendingHalf.{Half, half-of, half-valid, half-fits}
 use Rattle.delivery.specs.SendingTakesIn.{half-all, half-skips}
 use Rattle.delivery.specs.SendingSends.{half-send}
-use Rattle.delivery.specs.SendingFlushes.{half-flushed, flushedWith, count-few, count-room}
+use Rattle.delivery.specs.SendingFlushes.{half-flushed, flushedWith, window-most, count-few, count-room}
 
 -- ---- what every call leaves, from any state
 
@@ -118,8 +118,8 @@ module _ (s : Station) (range : inRange (s .state .settings) ≡ true) (o : Send
       (λ t k. half)
       (λ t k. half)
     where
-      flushed : (t : ℕ) → Half c (flushedWith c t (numberedCount d) d)
-      flushed t = half-flushed c t (numberedCount d) d (count-few d) (count-room d (half .numbers .apart)) half
+      flushed : (t : ℕ) → Half c (flushedWith c t (numberedCount (windowOf (s .state)) d) d)
+      flushed t = half-flushed c t (numberedCount (windowOf (s .state)) d) d (count-few (windowOf (s .state)) d) (count-room (windowOf (s .state)) d (window-most (s .state)) (half .numbers .apart)) half
 
   own-probe : (x : Call) → probeFits (own s x .station .state .probe) ≡ true
   unfolding applied flushing
@@ -164,7 +164,7 @@ unfolding after
 sending-always c range [] s k p o = o
 sending-always c range (x ∷ xs) s k p o = rw (after-first s x xs p) (sending-always c range xs (own s x .station) (k .1) (p .2) (sending-stays c range s x (k .0) o))
 
--- A flush may number any count k of queued segments within 32 of snd_una (the base numbers `numberedCount`)
+-- A flush may number any count k of queued segments within 32 of snd_una (it numbers `numberedCount`)
 pub flush-any : (c : Settings) (t k : ℕ) (s : Sending) →
     k ≤ length (s .queued) →
     minus (s .next) (s .una) + k ≤ sendWindow →

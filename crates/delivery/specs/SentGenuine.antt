@@ -25,7 +25,7 @@ use Rattle.session.specs.State.{Sending, Ack, withSchedule}
 use Rattle.session.specs.Valid.{valid}
 use Rattle.session.specs.Opening.{opened}
 use Rattle.session.specs.Input.{applied, ackNumbers}
-use Rattle.session.specs.Flushing.{numberedAs, numbered, numberedCount, withNumbered, transmittedOf, sentAfter, transmittedNow, carried, ackSegment, dataSegment, written, bytesOfSegments, packed, flushing}
+use Rattle.session.specs.Flushing.{numberedAs, numbered, windowOf, numberedCount, withNumbered, transmittedOf, sentAfter, transmittedNow, carried, ackSegment, dataSegment, written, bytesOfSegments, packed, flushing}
 use Rattle.session.specs.Calls.{Station, Call, Stepped, Event, afterFlush, own, history, datagramsIn, datagramsBy}
 use Rattle.session.specs.Decides.{All}
 use Rattle.session.specs.AllLaws.{all-any, all-append, all-left, all-right, all-unmapped, all-weaker}
@@ -40,7 +40,7 @@ use Rattle.delivery.specs.StateRange.{CarryFits}
 use Rattle.delivery.specs.SendingHalf.{Half}
 use Rattle.delivery.specs.SendPool.{pieceIn}
 use Rattle.delivery.specs.Numbering.{numberedNow, piecesNumbered}
-use Rattle.delivery.specs.SendingFlushes.{count-few, count-room}
+use Rattle.delivery.specs.SendingFlushes.{window-most, count-few, count-room}
 use Rattle.delivery.specs.SendingStays.{SendingInOrder, half-in, sending-stays, opened-in-order}
 use Rattle.delivery.specs.PackingLaws.{packed-flat, each-flat, flat-each}
 use Rattle.delivery.specs.WireLaws.{all-written, data-written}
@@ -179,7 +179,7 @@ module _ (s : Station) (pieces : List Piece) (made : valid (s .state) ≡ true) 
 
   module _ (t : ℕ) (time : t < 2 ^ 32) (few : FewPushes (s .state .settings) (map bytesOfSegments (flushing (s .state) t (s .sendPool) .datagrams))) where
     abbrev k : ℕ
-    k = numberedCount (s .state .sending)
+    k = numberedCount (windowOf (s .state)) (s .state .sending)
 
     abbrev ask : Bool
     ask = s .state .ask || nextClock (s .state .probe) t (s .state .sending .window) .ask
@@ -197,7 +197,7 @@ module _ (s : Station) (pieces : List Piece) (made : valid (s .state) ≡ true) 
     writes : FlushWrites c (packed (c .mtu) segs)
     writes =
         let p = valid-parts (s .state) made in
-        flush-writes-any (s .state) t k (s .sendPool) ask (p .range) (p .fewAcks) (count-few d) (count-room d (half .numbers .apart)) half conv32 carry time (o .long)
+        flush-writes-any (s .state) t k (s .sendPool) ask (p .range) (p .fewAcks) (count-few (windowOf (s .state)) d) (count-room (windowOf (s .state)) d (window-most (s .state)) (half .numbers .apart)) half conv32 carry time (o .long)
 
     -- the numbers of what is transmitted
     small-sent : All (λ (x : Sent). x .record .number < 2 ^ 30) (sentWith c t k d)
@@ -208,19 +208,18 @@ module _ (s : Station) (pieces : List Piece) (made : valid (s .state) ≡ true) 
 
     end : d .next + k ≤ 2 ^ 30
     end =
-        let count : length (take k (d .queued)) ≡ k = simp length-take (omega (arith, count-few d)) in
-        let few32 : length (take k (d .queued)) ≤ sendWindow = omega (arith, count, count-room d (half .numbers .apart)) in
+        let count : length (take k (d .queued)) ≡ k = simp length-take (omega (arith, count-few (windowOf (s .state)) d)) in
+        let few32 : length (take k (d .queued)) ≤ sendWindow = omega (arith, count, count-room (windowOf (s .state)) d (window-most (s .state)) (half .numbers .apart)) in
         omega (arith, count, numbered-end (d .next) (take k (d .queued)) (h .low) few32 (new-numbers c link t (λ (n : ℕ). n < 2 ^ 30) d k small-sent))
 
     -- the pieces numbered then
     abbrev more : List Piece
-    more = pieces ++ map (pieceIn (mss (s .state .settings)) (s .sendPool))
-        (take (numberedCount (s .state .sending)) (s .state .sending .queued))
+    more = pieces ++ map (pieceIn (mss (s .state .settings)) (s .sendPool)) (take (numberedCount (windowOf (s .state)) (s .state .sending)) (s .state .sending .queued))
 
     shown : All (Shows (mss c) (s .sendPool) more) (map (sentAfter c link t) (withNumbered d k))
     shown =
         shows-after c link t (mss c) (s .sendPool) more (withNumbered d k)
-        (with-numbered (mss c) (s .sendPool) pieces c t k d (count-few d) end h)
+        (with-numbered (mss c) (s .sendPool) pieces c t k d (count-few (windowOf (s .state)) d) end h)
 
     genuine-segs : All (IfPush (Genuine more)) segs
     genuine-segs =
@@ -238,7 +237,7 @@ module _ (s : Station) (pieces : List Piece) (made : valid (s .state) ≡ true) 
     wrote-flush : Wrote c s pieces (own s (Call.flush t))
     unfolding flushing
     wrote-flush = record {
-      shows = sends-flushed (mss c) (s .sendPool) pieces c t k d (count-few d) end h shown;
+      shows = sends-flushed (mss c) (s .sendPool) pieces c t k d (count-few (windowOf (s .state)) d) end h shown;
       genuine = genuine-datagrams c more (packed (c .mtu) segs) (writes .parsed)
           (flat-each (IfPush (Genuine more)) (packed (c .mtu) segs) (rw (packed-flat (c .mtu) segs) genuine-segs));
     }

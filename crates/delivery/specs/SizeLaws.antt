@@ -10,6 +10,7 @@ use Rattle.protocol.specs.declared.Settings.{Settings}
 use Rattle.sizes.specs.Sizes.{enough, enoughToFlush}
 use Rattle.sizes.specs.declared.Lengths.{Lengths}
 use Rattle.session.specs.Decides.{and-parts}
+use Rattle.session.specs.IsValid.{settings-decide}
 
 -- settings in range have an mtu of 50 to 512
 pub record MtuInRange (c : Settings) : Type 0 where
@@ -18,8 +19,8 @@ pub record MtuInRange (c : Settings) : Type 0 where
 
 pub mtu-in-range : (c : Settings) → inRange c ≡ true → MtuInRange c
 mtu-in-range c e =
-    let a = and-parts _ _ (and-parts _ _ (and-parts _ _ (and-parts _ _ (and-parts _ _ (and-parts _ _ e .0) .0) .0) .0) .0) in
-    record { least = leb-true mtuLeast (c .mtu) (a .0); most = leb-true (c .mtu) mtuMost (a .1) }
+    let r = settings-decide c .holds e in
+    record { least = r .mtu-least; most = r .mtu-most }
 
 -- a flush's lent parts: a send pool of 128 x mss bytes
 pub enough-pool : (m : ℕ) (n : Lengths) (output lengths : ℕ) → enoughToFlush m n output lengths ≡ true → sendSlots * m ≤ n .send

@@ -107,3 +107,16 @@ thresholdMost = 100
 
 abbrev pub streamMost : ℕ
 streamMost = 1
+
+abbrev pub congestionMost : ℕ
+congestionMost = 1
+
+-- the ranges of the congestion window, in segments, and of its threshold
+abbrev pub congestionWindowMost : ℕ
+congestionWindowMost = 65535
+
+abbrev pub congestionThresholdLeast : ℕ
+congestionThresholdLeast = 2
+
+abbrev pub congestionThresholdMost : ℕ
+congestionThresholdMost = 16

@@ -84,6 +84,15 @@ impl Protocol {
 
     pub const STREAM_MOST: u8 = 1;
 
+    pub const CONGESTION_MOST: u8 = 1;
+
+    // The ranges of the congestion window, in segments, and of its threshold.
+    pub const CONGESTION_WINDOW_MOST: u32 = 65535;
+
+    pub const CONGESTION_THRESHOLD_LEAST: u32 = 2;
+
+    pub const CONGESTION_THRESHOLD_MOST: u32 = 16;
+
     // The settings that a link is opened with; whether they are in range is asked by `in_range`.
     pub fn settings(
         conv: u32,
@@ -92,8 +101,10 @@ impl Protocol {
         interval: u16,
         threshold: u8,
         stream: u8,
+        congestion: u8,
     ) -> Settings
-        ensures { λ r. ⌜ r ≡ record { conv = conv; mtu = mtu; interval = interval; mode = mode; threshold = threshold; stream = stream } ⌝ }
+        ensures { λ r. ⌜ r ≡ record { conv = conv; mtu = mtu; interval = interval; mode = mode; threshold = threshold; stream = stream;
+            congestion = congestion } ⌝ }
     {
         Settings {
             conv,
@@ -102,11 +113,13 @@ impl Protocol {
             mode,
             threshold,
             stream,
+            congestion,
         }
     }
 }
 
-// The settings of a link: conversation, largest datagram, interval, mode, threshold of a fast retransmission, and stream mode (1, else 0).
+// The settings of a link: conversation, largest datagram, interval, mode, threshold of a fast retransmission, stream mode (1, else 0), and
+// whether flushes go by the congestion window (1, else 0).
 #[repr(C)]
 pub struct Settings {
     pub conv: u32,
@@ -115,6 +128,7 @@ pub struct Settings {
     pub mode: u8,
     pub threshold: u8,
     pub stream: u8,
+    pub congestion: u8,
 }
 
 impl Settings {
@@ -129,6 +143,7 @@ impl Settings {
             & (self.interval <= Protocol::INTERVAL_MOST)
             & (self.threshold <= Protocol::THRESHOLD_MOST)
             & (self.stream <= Protocol::STREAM_MOST)
+            & (self.congestion <= Protocol::CONGESTION_MOST)
     }
 
     // The largest payload: 0 for an mtu below a header's size.

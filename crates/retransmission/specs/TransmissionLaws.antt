@@ -1,7 +1,7 @@
 -- Laws of `Transmissions`: the four ways of a segment through a flush, and that what a flush or a skip leaves is in range.
 -- Assumes nothing.
 use mathlib.Core.Path.{_≡_, refl}
-use mathlib.Core.Bool.{true, false}
+use mathlib.Core.Bool.{Bool, true, false, cond, not, _&&_}
 use Prim.Native.Nat.{ℕ, _^_, _≤_, _<_}
 use lib.Dec.{eqb}
 use native.Mathlib.Omega.{arith}
@@ -21,6 +21,7 @@ use Rattle.retransmission.specs.Transmissions.{
   fastTransmission,
   counted,
   sending,
+  sendingBy,
   notSent,
   transmission,
   skipped,
@@ -47,7 +48,7 @@ module _ (s : Settings) (link t n : ℕ) (r : Record) where
       {x : Transmission} →
       (n ≡ 0 → ⊥) →
       isDue t (r .due) ≡ true →
-      x ≡ sending n (timedOut (s .mode) link t r) →
+      x ≡ sendingBy true false n (timedOut (s .mode) link t r) →
       x ≡ transmission s link t n r
   unfolding transmission
   when-due e d q = rw (ne-eqb _ _ e, d) q
@@ -57,7 +58,7 @@ module _ (s : Settings) (link t n : ℕ) (r : Record) where
       (n ≡ 0 → ⊥) →
       isDue t (r .due) ≡ false →
       isSkipped (s .threshold) n (r .skips) ≡ true →
-      x ≡ sending n (fastTransmission t r) →
+      x ≡ sendingBy false true n (fastTransmission t r) →
       x ≡ transmission s link t n r
   unfolding transmission
   when-skipped e d k q = rw (ne-eqb _ _ e, d, k) q
@@ -76,8 +77,8 @@ module _ (s : Settings) (link t n : ℕ) (r : Record) where
   pub each-way :
       (P : Transmission → Type 0) →
       P (sending n (firstTransmission (s .mode) link t r)) →
-      P (sending n (timedOut (s .mode) link t r)) →
-      P (sending n (fastTransmission t r)) →
+      P (sendingBy true false n (timedOut (s .mode) link t r)) →
+      P (sendingBy false true n (fastTransmission t r)) →
       P (notSent n r) →
       P (transmission s link t n r)
   unfolding transmission
@@ -116,6 +117,37 @@ module _ (s : Settings) (link t n : ℕ) (r : Record) where
 
   pub transmission-not-sent : transmission s link t n r .sends ≡ false → transmission s link t n r ≡ notSent n r
   transmission-not-sent = each-way (λ x. x .sends ≡ false → x ≡ notSent n r) (λ e. cc) (λ e. cc) (λ e. cc) (λ _. refl)
+
+  -- by the tests for a first transmission, a due one and a skipped one
+  abbrev ways : Bool → Bool → Bool → Transmission
+  ways never due skips =
+      cond never
+      (sending n (firstTransmission (s .mode) link t r))
+      (cond due
+      (sendingBy true false n (timedOut (s .mode) link t r))
+      (cond skips (sendingBy false true n (fastTransmission t r)) (notSent n r)))
+
+  -- late exactly where it was sent before and is due
+  pub transmission-late : transmission s link t n r .late ≡ (not (eqb n 0) && isDue t (r .due))
+  unfolding transmission
+  transmission-late = go (eqb n 0) (isDue t (r .due)) (isSkipped (s .threshold) n (r .skips))
+    where
+      go : (a b k : Bool) → ways a b k .late ≡ (not a && b)
+      go true b k = refl
+      go false true k = refl
+      go false false true = refl
+      go false false false = refl
+
+  -- fast exactly where it was sent before, is not due, and was skipped
+  pub transmission-fast : transmission s link t n r .fast ≡ (not (eqb n 0) && not (isDue t (r .due)) && isSkipped (s .threshold) n (r .skips))
+  unfolding transmission
+  transmission-fast = go (eqb n 0) (isDue t (r .due)) (isSkipped (s .threshold) n (r .skips))
+    where
+      go : (a b k : Bool) → ways a b k .fast ≡ (not a && not b && k)
+      go true b k = refl
+      go false true k = refl
+      go false false true = refl
+      go false false false = refl
 
 -- a skip leaves a record in range
 pub skip-in-range : (mode : ℕ) (r : Record) → TimeoutInRange mode (r .timeout) → RecordInRange mode (skipped r)

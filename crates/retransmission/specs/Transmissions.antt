@@ -45,13 +45,17 @@ fastTransmission t r = record { number = r .number; due = plus t (r .timeout); t
 abbrev pub counted : ℕ → ℕ
 counted transmissions = min deadAfter (transmissions + 1)
 
--- a sending, with the record that it leaves
+-- a sending, with the record that it leaves: late where it was due, fast where it was skipped
+abbrev pub sendingBy : Bool → Bool → ℕ → Record → Transmission
+sendingBy late fast transmissions r = record { sends = true; late = late; fast = fast; transmissions = counted transmissions; updated = r }
+
+-- for the first time
 abbrev pub sending : ℕ → Record → Transmission
-sending transmissions r = record { sends = true; transmissions = counted transmissions; updated = r }
+sending = sendingBy false false
 
 -- nothing is sent, and all stays
 abbrev pub notSent : ℕ → Record → Transmission
-notSent transmissions r = record { sends = false; transmissions = transmissions; updated = r }
+notSent transmissions r = record { sends = false; late = false; fast = false; transmissions = transmissions; updated = r }
 
 -- the first that holds is used: never sent, due, skipped
 unfoldable pub transmission : Settings → ℕ → ℕ → ℕ → Record → Transmission
@@ -59,9 +63,9 @@ transmission s link t transmissions r =
     cond (eqb transmissions 0)
     (sending transmissions (firstTransmission (s .mode) link t r))
     (cond (isDue t (r .due))
-    (sending transmissions (timedOut (s .mode) link t r))
+    (sendingBy true false transmissions (timedOut (s .mode) link t r))
     (cond (isSkipped (s .threshold) transmissions (r .skips))
-    (sending transmissions (fastTransmission t r))
+    (sendingBy false true transmissions (fastTransmission t r))
     (notSent transmissions r)))
 
 -- one skip, staying at 255

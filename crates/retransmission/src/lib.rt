@@ -4,9 +4,12 @@ pub mod outstanding;
 
 use timing::Record;
 
-// What a flush does with an outstanding segment: whether it is sent, and its transmissions and record afterwards.
+// What a flush does with an outstanding segment: whether it is sent, whether that is because it was due (late) or skipped (fast),
+// and its transmissions and record afterwards. One that is sent and neither late nor fast was never sent before.
 pub struct Transmission {
     pub sends: bool,
+    pub late: bool,
+    pub fast: bool,
     pub transmissions: u8,
     pub updated: Record,
 }

@@ -16,7 +16,7 @@ ghost use Rattle.retransmission.specs.Transmissions.{
   isSkipped,
   fastTransmission,
   counted,
-  sending,
+  sendingBy,
   skipped,
   transmission,
 };
@@ -108,12 +108,14 @@ fn counted(transmissions: u8) -> u8
     }
 }
 
-// A segment that is sent, with the record that it gets.
-fn sending(transmissions: u8, updated: Record) -> Transmission
-    ensures { λ r. ⌜ r ≡ sending transmissions updated ⌝ }
+// A segment that is sent, late, fast or for the first time, with the record that it gets.
+fn sending(late: bool, fast: bool, transmissions: u8, updated: Record) -> Transmission
+    ensures { λ r. ⌜ r ≡ sendingBy late fast transmissions updated ⌝ }
 {
     Transmission {
         sends: true,
+        late,
+        fast,
         transmissions: counted(transmissions),
         updated,
     }
@@ -132,16 +134,19 @@ pub fn transmission(
 {
     let mode = settings.mode;
     if transmissions == 0 {
-        return sending(transmissions, first_transmission(mode, link, t, old));
+        let first = first_transmission(mode, link, t, old);
+        return sending(false, false, transmissions, first);
     }
     if serial::due(t, old.due) {
-        return sending(transmissions, timed_out(mode, link, t, old));
+        return sending(true, false, transmissions, timed_out(mode, link, t, old));
     }
     if is_skipped(settings.threshold, transmissions, old.skips) {
-        return sending(transmissions, fast_transmission(t, old));
+        return sending(false, true, transmissions, fast_transmission(t, old));
     }
     Transmission {
         sends: false,
+        late: false,
+        fast: false,
         transmissions,
         updated: old,
     }

@@ -5,13 +5,15 @@ use mathlib.Core.List.{List, [], _∷_, _++_, map, foldl}
 use Prim.Native.Nat.{ℕ, suc, _+_, _-_, _*_, min}
 use lib.Dec.{leb, eqb}
 use lib.ListN.{length, take, drop}
-use Rattle.protocol.specs.Protocol.{push, ack, windowAsk, windowTell, headerSize, sendWindow, receiveWindow, deadAfter}
-use Rattle.protocol.specs.Ranges.{mss}
+use Rattle.protocol.specs.Protocol.{push, ack, windowAsk, windowTell, headerSize, receiveWindow, deadAfter}
+use Rattle.protocol.specs.Ranges.{mss, controlsCongestion}
 use Rattle.protocol.specs.Serial.{plus, minus}
 use Rattle.wire.specs.Headers.{encode}
 use Rattle.wire.specs.declared.Header.{Header}
 use Rattle.protocol.specs.declared.Settings.{Settings}
 use Rattle.datagram.specs.Datagrams.{Segment}
+use Rattle.congestion.specs.Congestions.{usedWindow, afterFlush}
+use Rattle.congestion.specs.declared.Losses.{Losses}
 use Rattle.retransmission.specs.Transmissions.{transmission}
 use Rattle.retransmission.specs.declared.Transmission.{Transmission}
 use Rattle.timing.specs.Probes.{nextClock}
@@ -31,9 +33,13 @@ unfoldable pub numbered : ℕ → List Held → List Sent
 numbered n [] = []
 numbered n (h ∷ q) = numberedAs n h ∷ numbered (plus n 1) q
 
--- how many are numbered: while snd_nxt - snd_una is below the smaller of 32 and the peer's last window
-unfoldable pub numberedCount : Sending → ℕ
-numberedCount s = min (length (s .queued)) (min sendWindow (s .window) - minus (s .next) (s .una))
+-- the window that a flush goes by: the least of 32, the peer's last window and, with the setting on, the congestion window
+abbrev pub windowOf : State → ℕ
+windowOf s = usedWindow (controlsCongestion (s .settings)) (s .sending .window) (s .congestion .window)
+
+-- how many are numbered: while snd_nxt - snd_una is below the window
+unfoldable pub numberedCount : ℕ → Sending → ℕ
+numberedCount window s = min (length (s .queued)) (window - minus (s .next) (s .una))
 
 -- the outstanding segments, with those that are numbered now
 unfoldable pub withNumbered : Sending → ℕ → List Sent
@@ -57,10 +63,36 @@ transmittedNow c timeout t [] = []
 transmittedNow c timeout t (x ∷ l) =
     cond (transmittedOf c timeout t x .sends) (sentAfter c timeout t x ∷ transmittedNow c timeout t l) (transmittedNow c timeout t l)
 
--- one of them was transmitted 20 times
+-- the test holds of one of them
+abbrev pub some : (Sent → Bool) → List Sent → Bool
+some test [] = false
+some test (x ∷ l) = test x || some test l
+
+-- one of those transmitted was so 20 times
 abbrev pub someDead : List Sent → Bool
-someDead [] = false
-someDead (x ∷ l) = eqb (x .transmissions) deadAfter || someDead l
+someDead = some (λ (x : Sent). eqb (x .transmissions) deadAfter)
+
+-- a flush at t sends one of these because it was due, or because it was skipped
+abbrev pub someLate : Settings → ℕ → ℕ → List Sent → Bool
+someLate c timeout t = some (λ (x : Sent). transmittedOf c timeout t x .late)
+
+abbrev pub someFast : Settings → ℕ → ℕ → List Sent → Bool
+someFast c timeout t = some (λ (x : Sent). transmittedOf c timeout t x .fast)
+
+-- what a flush at t tells of losses: in flight are the numbers from snd_una to snd_nxt at its end
+abbrev pub lossesOf : State → ℕ → Losses
+lossesOf s t =
+    let c = s .settings in
+    let d = s .sending in
+    let k = numberedCount (windowOf s) d in
+    let before = withNumbered d k in
+    record {
+      fast = someFast c (d .roundTrip .timeout) t before;
+      late = someLate c (d .roundTrip .timeout) t before;
+      skips = c .threshold;
+      inflight = minus (plus (d .next) k) (d .una);
+      used = windowOf s;
+    }
 
 -- ---- what is written
 
@@ -156,13 +188,13 @@ flushing s t pool =
     let c = s .settings in
     let d = s .sending in
     let r = s .receiving in
-    let k = numberedCount d in
+    let k = numberedCount (windowOf s) d in
     let before = withNumbered d k in
     let sent = transmittedNow c (d .roundTrip .timeout) t before in
     let probed = nextClock (s .probe) t (d .window) in
     record {
       state =
           afterFlushing s (withNumbers d (plus (d .next) k) (drop k (d .queued)) (map (sentAfter c (d .roundTrip .timeout) t) before))
-          (withNotes r [] false) (probed .clock) t (s .dead || someDead sent);
+          (withNotes r [] false) (probed .clock) t (afterFlush (s .congestion) (mss c) (lossesOf s t)) (s .dead || someDead sent);
       datagrams = packed (c .mtu) (written s t pool (s .ask || probed .ask) sent);
     }

@@ -12,6 +12,8 @@ use Rattle.protocol.specs.Serial.{plus, minus, isBefore, isAfter, isDue}
 use Rattle.wire.specs.declared.Header.{Header}
 use Rattle.protocol.specs.declared.Settings.{Settings}
 use Rattle.datagram.specs.Datagrams.{Segment, Parsed, parse}
+use Rattle.congestion.specs.Congestions.{afterDatagram}
+use Rattle.congestion.specs.declared.Congestion.{Congestion}
 use Rattle.timing.specs.RoundTrips.{sampled}
 use Rattle.timing.specs.declared.RoundTrip.{RoundTrip}
 use Rattle.lists.specs.declared.Held.{Held}
@@ -24,7 +26,7 @@ use Rattle.lists.specs.Receiving.{advance}
 use Rattle.lists.specs.Acknowledging.{removed, firstNumberOr, skipBefore}
 use Rattle.lists.specs.Acknowledging as rule
 use Rattle.session.specs.Slots.{lowestFree}
-use Rattle.session.specs.State.{State, Sending, Receiving, Ack, Outcome, receiveHeld, slots, withOutstanding, withWindow, withRoundTrip, withLists, withNotes, withHalves}
+use Rattle.session.specs.State.{State, Sending, Receiving, Ack, Outcome, receiveHeld, slots, withOutstanding, withWindow, withRoundTrip, withLists, withNotes, withHalves, withCongestion}
 
 -- ---- the sending half
 
@@ -152,13 +154,18 @@ pub record Took : Type 0 where
   pub state : State
   pub pool : List ℕ
 
+-- the congestion window: growth, once after a datagram that moved snd_una, by the peer's window after it
+abbrev pub grownBy : Settings → Congestion → Sending → Sending → Congestion
+grownBy c x before after = afterDatagram x (mss c) (before .una) (after .una) (after .window)
+
 -- a datagram's segments applied
 unfoldable pub applied : State → List ℕ → List Segment → Took
 applied s pool gs =
     let c = s .settings in
+    let d = skippedByAll (allBySending c (s .current) (s .sending) gs) (ackNumbers gs) in
     let x = allByReceiving (mss c) (record { half = s .receiving; pool = pool }) gs in
     record {
-      state = withHalves s (skippedByAll (allBySending c (s .current) (s .sending) gs) (ackNumbers gs)) (x .half);
+      state = withCongestion (withHalves s d (x .half)) (grownBy c (s .congestion) (s .sending) d);
       pool = x .pool;
     }
 

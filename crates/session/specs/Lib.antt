@@ -22,5 +22,6 @@ pub mod Marked
 pub mod IsValid
 pub mod LooksRight
 pub mod StreamCases
+pub mod CongestionCases
 pub mod SendOrder
 pub mod MapLaws

@@ -24,7 +24,7 @@ use Rattle.session.specs.Opening.{opened}
 use Rattle.session.specs.Input.{Receiver, Took, acknowledged, applied, allByReceiving, heardByReceiving, sampledBy, heardBySending, allBySending, ackNumbers, furthest, skipped, skippedByAll, pushed, input}
 
 abbrev small : Settings
-small = record { conv = 1; mtu = 50; interval = 100; mode = 0; threshold = 0; stream = 0 }
+small = record { conv = 1; mtu = 50; interval = 100; mode = 0; threshold = 0; stream = 0; congestion = 0 }
 
 abbrev segment : ℕ → ℕ → ℕ → Segment
 segment cmd fragment sn = record { header = record { conv = 1; cmd = cmd; frg = fragment; wnd = 128; ts = 0; sn = sn; una = 0; len = 0 }; payload = [] }

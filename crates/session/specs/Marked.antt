@@ -17,6 +17,7 @@ use Rattle.wire.specs.declared.Header.{Header}
 use Rattle.datagram.specs.Datagrams.{Segment, Parsed, parse, walk, tail, verdict, segmentOf}
 use Rattle.timing.specs.Probes.{stopped, longerWait, nextClock}
 use Rattle.timing.specs.RoundTrips.{nextSmoothed, nextVariation, leastTimeout, timeoutOf, sampled}
+use Rattle.congestion.specs.Congestions.{usedWindow}
 use Rattle.retransmission.specs.Transmissions.{firstDue, growth, longerTimeout, isSkipped, transmission}
 use Rattle.timing.specs.declared.ProbeClock.{ProbeClock}
 use Rattle.timing.specs.declared.Record.{Record}
@@ -69,7 +70,7 @@ hi-bytes = 0x01 ∷ 0x00 ∷ 0x00 ∷ 0x00 ∷ 0x51 ∷ 0x00 ∷ 0x80 ∷ 0x00 �
 -- ---- C and D: mss 26
 
 abbrev small : Settings
-small = record { conv = 1; mtu = 50; interval = 100; mode = 0; threshold = 0; stream = 0 }
+small = record { conv = 1; mtu = 50; interval = 100; mode = 0; threshold = 0; stream = 0; congestion = 0 }
 
 -- what sending so many bytes over a fresh link gives: the lengths of the segments queued, or the refusal's number
 abbrev lengthsQueued : Outcome Sends → Value
@@ -98,7 +99,7 @@ afterFlushes c link n r (t ∷ ts) =
     record { sends = x .sends; due = x .updated .due } ∷ afterFlushes c link (x .transmissions) (x .updated) ts
 
 abbrev inMode : ℕ → Settings
-inMode mode = record { conv = 1; mtu = 50; interval = 100; mode = mode; threshold = 0; stream = 0 }
+inMode mode = record { conv = 1; mtu = 50; interval = 100; mode = mode; threshold = 0; stream = 0; congestion = 0 }
 
 abbrev unsent : Record
 unsent = record { number = 0; due = 0; timeout = 0; skips = 0 }
@@ -181,5 +182,5 @@ cases =
     ∷ []
 
 pub marked : map (λ (c : Case). c .is) cases ≡ map (λ (c : Case). c .wanted) cases
-unfolding cases encode front back decode bytesOf numberAt bytesOfSegments parse walk tail verdict segmentOf signed isBefore isAfter isDue opened fragmentCount segmentCount pieces cut cutAs filled sending place lowestFree lowestFrom occurs pushed insert isHeld advance flushing numberedCount withNumbered numbered transmittedNow written packed packOne nextClock afterSamples afterFlushes waitsAt sampled nextSmoothed nextVariation leastTimeout timeoutOf transmission firstDue growth longerTimeout isSkipped longerWait
+unfolding cases encode front back decode bytesOf numberAt bytesOfSegments parse walk tail verdict segmentOf signed isBefore isAfter isDue opened fragmentCount segmentCount pieces cut cutAs filled sending place lowestFree lowestFrom occurs pushed insert isHeld advance flushing usedWindow numberedCount withNumbered numbered transmittedNow written packed packOne nextClock afterSamples afterFlushes waitsAt sampled nextSmoothed nextVariation leastTimeout timeoutOf transmission firstDue growth longerTimeout isSkipped longerWait
 marked = refl

@@ -6,11 +6,12 @@ use Rattle.protocol.specs.Protocol.{receiveWindow, timeoutFirst}
 use Rattle.protocol.specs.Ranges.{inRange, mss}
 use Rattle.protocol.specs.declared.Settings.{Settings}
 use Rattle.protocol.specs.declared.Refusal.the-variants.{SettingOutOfRange, ShortPart}
+use Rattle.congestion.specs.Congestions.{initial}
 use Rattle.session.specs.State.{State, Sending, Receiving, Outcome, refused, done}
 use Rattle.sizes.specs.Sizes.{enough}
 use Rattle.sizes.specs.declared.Lengths.{Lengths}
 
--- the peer's window starts at 128, the link timeout at 200, all else at 0, empty or unset
+-- the peer's window starts at 128, the link timeout at 200, the congestion threshold at 2, all else at 0, empty or unset
 unfoldable pub opened : Settings → State
 opened c =
     record {
@@ -20,6 +21,7 @@ opened c =
       probe = record { wait = 0; due = 0 };
       current = 0;
       schedule = record { next = 0; made = false };
+      congestion = initial;
       ask = false;
       dead = false;
     }

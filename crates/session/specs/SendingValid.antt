@@ -1,15 +1,17 @@
 -- The sending half of refusal 13, as a statement: the test `sendingValid` passes exactly where each condition of document 01 holds.
--- So does the test on the probe clock.
+-- So do the tests on the congestion window and on the probe clock.
 -- Assumes nothing.
 use mathlib.Core.Path.{_≡_}
 use mathlib.Core.Logic.{_⊎_, inl, inr}
 use mathlib.Core.Bool.{Bool, true, false, _||_, or-true}
 use mathlib.Core.List.{List}
-use Prim.Native.Nat.{ℕ, _^_, _≤_, _<_}
-use Rattle.protocol.specs.Protocol.{fragmentMost, sendSlots, sendWindow, deadAfter, skipsMost, timeoutMost, probeWaitLeast, probeWaitMost}
+use Prim.Native.Nat.{ℕ, _+_, _*_, _^_, _≤_, _<_}
+use Rattle.protocol.specs.Protocol.{fragmentMost, sendSlots, sendWindow, deadAfter, skipsMost, timeoutMost, probeWaitLeast, probeWaitMost, congestionWindowMost, congestionThresholdLeast, congestionThresholdMost}
 use Rattle.protocol.specs.Ranges.{mss}
 use Rattle.protocol.specs.Serial.{minus}
 use Rattle.protocol.specs.declared.Settings.{Settings}
+use Rattle.congestion.specs.Congestions.{fits, InRange}
+use Rattle.congestion.specs.declared.Congestion.{Congestion}
 use Rattle.timing.specs.RoundTrips.{leastTimeout}
 use Rattle.timing.specs.TimeRanges.{TimeoutInRange, WaitInRange}
 use Rattle.timing.specs.declared.RoundTrip.{RoundTrip}
@@ -155,6 +157,19 @@ or-decides {a} {b} {P} {Q} p q = record { holds = λ e. from a b (p .holds) (q .
     to : P ⊎ Q → (a || b) ≡ true
     to (inl x) = rw (p .passes x)
     to (inr y) = rw (q .passes y) (or-true a)
+
+-- congestion window, threshold and allowance
+pub congestion-decides : (m : ℕ) (c : Congestion) → Decides (fits c m) (InRange m c)
+unfolding fits
+congestion-decides m c =
+    via
+    (and-decides
+    (and-decides
+    (and-decides (leb-decides (c .window) congestionWindowMost) (leb-decides congestionThresholdLeast (c .threshold)))
+    (leb-decides (c .threshold) congestionThresholdMost))
+    (leb-decides (c .allowance) ((c .window + 1) * m)))
+    (λ x. record { window = x .0 .0 .0; threshold-least = x .0 .0 .1; threshold-most = x .0 .1; allowance = x .1 })
+    (λ x. (((x .window, x .threshold-least), x .threshold-most), x .allowance))
 
 -- probe wait 0 or 7,000 to 120,000
 pub probe-decides : (p : ProbeClock) → Decides (probeFits p) (WaitInRange (p .wait))

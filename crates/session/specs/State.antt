@@ -10,6 +10,7 @@ use Rattle.timing.specs.declared.ProbeClock.{ProbeClock}
 use Rattle.lists.specs.declared.Held.{Held}
 use Rattle.lists.specs.declared.Waiting.{Waiting}
 use Rattle.lists.specs.declared.Sent.{Sent}
+use Rattle.congestion.specs.declared.Congestion.{Congestion}
 use Rattle.schedule.specs.declared.Schedule.{Schedule}
 
 -- a noted acknowledgement: the pushed sn and ts
@@ -52,6 +53,8 @@ pub record State : Type 0 where
   pub current : ℕ
   -- the next flush time, and whether an update has been made
   pub schedule : Schedule
+  -- congestion window, threshold and byte allowance
+  pub congestion : Congestion
   -- a window ask is wanted
   pub ask : Bool
   -- some segment was transmitted 20 times
@@ -100,6 +103,7 @@ withHalves s d r =
       probe = s .probe;
       current = s .current;
       schedule = s .schedule;
+      congestion = s .congestion;
       ask = s .ask;
       dead = s .dead;
     }
@@ -123,6 +127,21 @@ withTimes s t x =
       probe = s .probe;
       current = t;
       schedule = x;
+      congestion = s .congestion;
+      ask = s .ask;
+      dead = s .dead;
+    }
+
+abbrev pub withCongestion : State → Congestion → State
+withCongestion s x =
+    record {
+      settings = s .settings;
+      sending = s .sending;
+      receiving = s .receiving;
+      probe = s .probe;
+      current = s .current;
+      schedule = s .schedule;
+      congestion = x;
       ask = s .ask;
       dead = s .dead;
     }
@@ -130,9 +149,9 @@ withTimes s t x =
 abbrev pub withSchedule : State → Schedule → State
 withSchedule s x = withTimes s (s .current) x
 
--- after a flush: the halves, the probe clock, the time, no ask, and whether the link is dead
-abbrev pub afterFlushing : State → Sending → Receiving → ProbeClock → ℕ → Bool → State
-afterFlushing s d r probe t dead =
+-- after a flush: the halves, the probe clock, the time, the congestion window, no ask, and whether the link is dead
+abbrev pub afterFlushing : State → Sending → Receiving → ProbeClock → ℕ → Congestion → Bool → State
+afterFlushing s d r probe t x dead =
     record {
       settings = s .settings;
       sending = d;
@@ -140,6 +159,7 @@ afterFlushing s d r probe t dead =
       probe = probe;
       current = t;
       schedule = s .schedule;
+      congestion = x;
       ask = false;
       dead = dead;
     }

@@ -15,7 +15,7 @@ use Rattle.session.specs.Sending.{Sends, place, filled, sending}
 
 -- mss 26
 abbrev inMode : ℕ → Settings
-inMode stream = record { conv = 1; mtu = 50; interval = 100; mode = 0; threshold = 0; stream = stream }
+inMode stream = record { conv = 1; mtu = 50; interval = 100; mode = 0; threshold = 0; stream = stream; congestion = 0 }
 
 -- after these sends, one behind the other; a refused one leaves all as it was
 abbrev behind : Sends → Outcome Sends → Sends

@@ -9,6 +9,7 @@ use Rattle.protocol.specs.Protocol.{fragmentMost, sendSlots, receiveSlots, send
 use Rattle.protocol.specs.Ranges.{inRange, mss}
 use Rattle.protocol.specs.Serial.{minus}
 use Rattle.protocol.specs.declared.Settings.{Settings}
+use Rattle.congestion.specs.Congestions.{fits}
 use Rattle.timing.specs.RoundTrips.{leastTimeout}
 use Rattle.timing.specs.declared.RoundTrip.{RoundTrip}
 use Rattle.timing.specs.declared.ProbeClock.{ProbeClock}
@@ -94,4 +95,9 @@ receivingValid c r =
     && leb (length (r .acks)) acksMost
 
 unfoldable pub valid : State → Bool
-valid s = inRange (s .settings) && sendingValid (s .settings) (s .sending) && receivingValid (s .settings) (s .receiving) && probeFits (s .probe)
+valid s =
+    inRange (s .settings)
+    && sendingValid (s .settings) (s .sending)
+    && receivingValid (s .settings) (s .receiving)
+    && probeFits (s .probe)
+    && fits (s .congestion) (mss (s .settings))

@@ -7,6 +7,8 @@ use Prim.Native.Nat.{ℕ}
 use native.Mathlib.Omega.{arith}
 use lib.ListN.{replicate}
 use lib.Seq.{sets}
+use Rattle.congestion.specs.Congestions as congestion
+use Rattle.congestion.specs.Congestions.{fits, usedWindow, atLeastOne, halved, bySkips, byTimeout, afterDatagram, grown, slowStart, avoidance, raised, widened, limited}
 use Rattle.protocol.specs.declared.Refusal.the-variants.{NoMessage}
 use Rattle.protocol.specs.Serial.{signed, isBefore, isAfter, isDue}
 use Rattle.wire.specs.LittleEndian.{AllBytes, bytesOf, numberAt}
@@ -110,7 +112,7 @@ record Met : Type 0 where
   bytes : AllBytes datagram
 
 met : Met
-unfolding sent flushed fresh heard finished datagram parts opened opening entriesOf countsFit stateOf pairs joining.joined blockValid scattered joined lengthsOf cutBy sendsWith takesInWith flushesWith readsWith signed isBefore isAfter isDue front back encode decode bytesOf numberAt verdict segmentOf tail walk parse longerWait nextClock nextSmoothed nextVariation leastTimeout timeoutOf sampled firstDue growth longerTimeout isSkipped transmission select firstNumberOr skipBefore advance startsAt insert isHeld ascending enough enoughToFlush datagramsBy pushesIn pushNumbers fragmentCount segmentCount pieces cutAs filled numbered numberedCount withNumbered transmittedNow written bytesOfSegments packOne packed flushing acknowledged sampledBy heardBySending pushed heardByReceiving allBySending allByReceiving ackNumbers furthest skipped applied input joinedIn message lengthOf messageSize afterRead reading place sending occurs lowestFrom lowestFree numbersFit waitingFits settled sendingValid receivingValid valid paired
+unfolding sent flushed fresh heard finished datagram parts opened opening entriesOf countsFit stateOf pairs joining.joined blockValid scattered joined lengthsOf cutBy sendsWith takesInWith flushesWith readsWith signed isBefore isAfter isDue front back encode decode bytesOf numberAt verdict segmentOf tail walk parse longerWait nextClock nextSmoothed nextVariation leastTimeout timeoutOf sampled firstDue growth longerTimeout isSkipped transmission select firstNumberOr skipBefore advance startsAt insert isHeld ascending enough enoughToFlush datagramsBy pushesIn pushNumbers fragmentCount segmentCount pieces cutAs filled numbered numberedCount withNumbered transmittedNow written bytesOfSegments packOne packed flushing acknowledged sampledBy heardBySending pushed heardByReceiving allBySending allByReceiving ackNumbers furthest skipped applied input joinedIn message lengthOf messageSize afterRead reading place sending occurs lowestFrom lowestFree numbersFit waitingFits settled sendingValid receivingValid valid paired fits usedWindow congestion.afterFlush atLeastOne halved bySkips byTimeout afterDatagram grown slowStart avoidance raised widened limited
 met = record {
   opens = record {
     block = linkOf (opened c);

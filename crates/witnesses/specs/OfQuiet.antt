@@ -7,6 +7,7 @@ use Prim.Native.Nat.{ℕ}
 use native.Mathlib.Omega.{arith}
 use lib.ListN.{replicate}
 use lib.Seq.{sets}
+use Rattle.congestion.specs.Congestions as congestion
 use Rattle.protocol.specs.Serial.{signed, isBefore, isAfter, isDue}
 use Rattle.wire.specs.LittleEndian.{bytesOf}
 use Rattle.wire.specs.Headers.{encode, front, back}
@@ -58,6 +59,7 @@ at current =
           next = 1;
           rtt = record { smoothed = 0; variation = 0; timeout = 200 };
           window = 128;
+          congestion = record { window = 1; threshold = 2; allowance = 26 };
           queued = 0;
           outstanding = 1;
         };
@@ -96,7 +98,7 @@ lengths = replicate 290 0
 -- ---- each call keeps its promise
 
 pub updates-it : Called sent (Call.update 7) (Answer.wrote (datagram ∷ [])) updated
-unfolding sent fresh updated datagram parts opened opening countsFit stateOf pairs joining.joined blockValid scattered joined lengthsOf cutBy sendsWith updatesWith checksWith scheduling.updated corrected started following isAstray ahead earliest named updating checking signed isBefore isAfter isDue front back encode bytesOf longerWait nextClock leastTimeout firstDue growth longerTimeout isSkipped transmission firstNumberOr startsAt ascending enough enoughToFlush fragmentCount segmentCount pieces cutAs filled numbered numberedCount withNumbered transmittedNow written bytesOfSegments packOne packed flushing place sending occurs lowestFrom lowestFree numbersFit waitingFits settled sendingValid receivingValid valid paired
+unfolding sent fresh updated datagram parts opened opening countsFit stateOf pairs joining.joined blockValid scattered joined lengthsOf cutBy sendsWith updatesWith checksWith scheduling.updated corrected started following isAstray ahead earliest named updating checking signed isBefore isAfter isDue front back encode bytesOf longerWait nextClock leastTimeout firstDue growth longerTimeout isSkipped transmission firstNumberOr startsAt ascending enough enoughToFlush fragmentCount segmentCount pieces cutAs filled numbered numberedCount withNumbered transmittedNow written bytesOfSegments packOne packed flushing place sending occurs lowestFrom lowestFree numbersFit waitingFits settled sendingValid receivingValid valid paired congestion.fits congestion.usedWindow congestion.afterFlush congestion.atLeastOne
 updates-it = record {
   output = output;
   lengths = lengths;
@@ -119,17 +121,17 @@ updates-it = record {
 }
 
 pub checks-it : CheckPromise 8 (updated .link) (updated .parts) (time.At 107)
-unfolding updated rested rested-again countsFit stateOf pairs joining.joined blockValid updatesWith checksWith scheduling.updated corrected started following isAstray ahead earliest named updating checking signed isBefore isAfter isDue leastTimeout firstNumberOr startsAt ascending enough enoughToFlush occurs numbersFit waitingFits settled sendingValid receivingValid valid paired
+unfolding updated rested rested-again countsFit stateOf pairs joining.joined blockValid updatesWith checksWith scheduling.updated corrected started following isAstray ahead earliest named updating checking signed isBefore isAfter isDue leastTimeout firstNumberOr startsAt ascending enough enoughToFlush occurs numbersFit waitingFits settled sendingValid receivingValid valid paired congestion.fits congestion.usedWindow congestion.afterFlush congestion.atLeastOne
 checks-it = record { answer = refl }
 
 pub waits : UpdatePromise 106 (updated .link) (updated .parts) output lengths update.Waited (rested .link) (rested .parts) output lengths
-unfolding updated rested rested-again countsFit stateOf pairs joining.joined blockValid updatesWith checksWith scheduling.updated corrected started following isAstray ahead earliest named updating checking signed isBefore isAfter isDue leastTimeout firstNumberOr startsAt ascending enough enoughToFlush occurs numbersFit waitingFits settled sendingValid receivingValid valid paired
+unfolding updated rested rested-again countsFit stateOf pairs joining.joined blockValid updatesWith checksWith scheduling.updated corrected started following isAstray ahead earliest named updating checking signed isBefore isAfter isDue leastTimeout firstNumberOr startsAt ascending enough enoughToFlush occurs numbersFit waitingFits settled sendingValid receivingValid valid paired congestion.fits congestion.usedWindow congestion.afterFlush congestion.atLeastOne
 waits =
     record { answer = refl; leaves = record { stands = record { counts = refl; state = refl }; parts = refl; output = refl; sizes = refl } }
 
 pub waits-again : UpdatePromise 20 (rested .link) (rested .parts) output lengths update.Waited
     (rested-again .link) (rested-again .parts) output lengths
-unfolding updated rested rested-again countsFit stateOf pairs joining.joined blockValid updatesWith checksWith scheduling.updated corrected started following isAstray ahead earliest named updating checking signed isBefore isAfter isDue leastTimeout firstNumberOr startsAt ascending enough enoughToFlush occurs numbersFit waitingFits settled sendingValid receivingValid valid paired
+unfolding updated rested rested-again countsFit stateOf pairs joining.joined blockValid updatesWith checksWith scheduling.updated corrected started following isAstray ahead earliest named updating checking signed isBefore isAfter isDue leastTimeout firstNumberOr startsAt ascending enough enoughToFlush occurs numbersFit waitingFits settled sendingValid receivingValid valid paired congestion.fits congestion.usedWindow congestion.afterFlush congestion.atLeastOne
 waits-again =
     record { answer = refl; leaves = record { stands = record { counts = refl; state = refl }; parts = refl; output = refl; sizes = refl } }
 

@@ -9,6 +9,7 @@ use native.Mathlib.Omega.{arith}
 use lib.Dec.{ltb}
 use lib.ListN.{length, getD, replicate}
 use borrow.Author.Tests.{ltb-true}
+use Rattle.congestion.specs.Congestions.{fits, usedWindow, afterFlush, atLeastOne, halved, bySkips, byTimeout, afterDatagram, grown, slowStart, avoidance, raised, widened, limited}
 use Rattle.protocol.specs.declared.Settings.{Settings}
 use Rattle.protocol.specs.declared.Refusal.the-variants.{NoMessage}
 use Rattle.protocol.specs.Serial.{signed, isBefore, isAfter, isDue}
@@ -54,7 +55,7 @@ bytes-by (x ∷ l) e (suc i) = bytes-by l (and-parts (ltb x 256) (byteTest l) e 
 -- ---- the three
 
 abbrev pub c : Settings
-c = record { conv = 1; mtu = 50; mode = 0; interval = 100; threshold = 2; stream = 0 }
+c = record { conv = 1; mtu = 50; mode = 0; interval = 100; threshold = 2; stream = 0; congestion = 0 }
 
 unfoldable pub station : Station
 station = record {
@@ -105,7 +106,7 @@ pub record Met : Type 0 where
   pub second-reads : readAnswers (history station seconds) ≡ Answer.message (replicate 27 7) ∷ Answer.message (9 ∷ []) ∷ []
 
 pub met : Met
-unfolding firsts seconds wrote station calls pushNumbers pushesIn signed isBefore isAfter isDue front back encode decode bytesOf numberAt verdict segmentOf tail walk parse longerWait nextClock nextSmoothed nextVariation leastTimeout timeoutOf sampled firstDue growth longerTimeout isSkipped transmission select firstNumberOr skipBefore advance startsAt insert isHeld ascending enough enoughToFlush step history after datagramsBy fragmentCount segmentCount pieces cutAs filled numbered numberedCount withNumbered transmittedNow written bytesOfSegments packOne packed flushing acknowledged sampledBy heardBySending pushed heardByReceiving allBySending allByReceiving ackNumbers furthest skipped applied input opened joinedIn message lengthOf messageSize afterRead reading place sending occurs lowestFrom lowestFree numbersFit waitingFits settled sendingValid receivingValid valid
+unfolding firsts seconds wrote station calls pushNumbers pushesIn signed isBefore isAfter isDue front back encode decode bytesOf numberAt verdict segmentOf tail walk parse longerWait nextClock nextSmoothed nextVariation leastTimeout timeoutOf sampled firstDue growth longerTimeout isSkipped transmission select firstNumberOr skipBefore advance startsAt insert isHeld ascending enough enoughToFlush step history after datagramsBy fragmentCount segmentCount pieces cutAs filled numbered numberedCount withNumbered transmittedNow written bytesOfSegments packOne packed flushing acknowledged sampledBy heardBySending pushed heardByReceiving allBySending allByReceiving ackNumbers furthest skipped applied input opened joinedIn message lengthOf messageSize afterRead reading place sending occurs lowestFrom lowestFree numbersFit waitingFits settled sendingValid receivingValid valid fits usedWindow afterFlush atLeastOne halved bySkips byTimeout afterDatagram grown slowStart avoidance raised widened limited
 met = record {
   opens = record { state = refl; long = refl };
   sizes = refl;

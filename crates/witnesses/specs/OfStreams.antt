@@ -7,6 +7,7 @@ use mathlib.Core.List.{List, [], _∷_, _++_, List·Memᴰ·head, List·Memᴰ·
 use Prim.Native.Nat.{ℕ}
 use native.Mathlib.Omega.{arith}
 use lib.ListN.{getD, replicate}
+use Rattle.congestion.specs.Congestions.{fits, usedWindow, afterFlush, atLeastOne, halved, bySkips, byTimeout, afterDatagram, grown, slowStart, avoidance, raised, widened, limited}
 use Rattle.protocol.specs.declared.Settings.{Settings}
 use Rattle.protocol.specs.declared.Refusal.the-variants.{NoMessage}
 use Rattle.protocol.specs.Serial.{signed, isBefore, isAfter, isDue}
@@ -41,7 +42,7 @@ use Rattle.delivery.specs.Demand3.{station-demand-3}
 use Rattle.witnesses.specs.OfStations.{bytes-by}
 
 abbrev pub c : Settings
-c = record { conv = 1; mtu = 50; mode = 0; interval = 100; threshold = 2; stream = 1 }
+c = record { conv = 1; mtu = 50; mode = 0; interval = 100; threshold = 2; stream = 1; congestion = 0 }
 
 unfoldable pub station : Station
 station = record {
@@ -85,7 +86,7 @@ pub record Met : Type 0 where
   pub second-reads : readAnswers (history station seconds) ≡ Answer.message (replicate 10 7 ++ replicate 16 8) ∷ []
 
 pub met : Met
-unfolding firsts seconds wrote station calls pushNumbers pushesIn signed isBefore isAfter isDue front back encode decode bytesOf numberAt verdict segmentOf tail walk parse longerWait nextClock nextSmoothed nextVariation leastTimeout timeoutOf sampled firstDue growth longerTimeout isSkipped transmission select firstNumberOr skipBefore advance startsAt insert isHeld ascending enough enoughToFlush step history after datagramsBy fragmentCount segmentCount pieces cutAs filled numbered numberedCount withNumbered transmittedNow written bytesOfSegments packOne packed flushing acknowledged sampledBy heardBySending pushed heardByReceiving allBySending allByReceiving ackNumbers furthest skipped applied input opened joinedIn message lengthOf messageSize afterRead reading place sending updated corrected started following isAstray updating acceptedFor numberedBy numberedInAll numberedIn occurs lowestFrom lowestFree numbersFit waitingFits settled sendingValid receivingValid valid
+unfolding firsts seconds wrote station calls pushNumbers pushesIn signed isBefore isAfter isDue front back encode decode bytesOf numberAt verdict segmentOf tail walk parse longerWait nextClock nextSmoothed nextVariation leastTimeout timeoutOf sampled firstDue growth longerTimeout isSkipped transmission select firstNumberOr skipBefore advance startsAt insert isHeld ascending enough enoughToFlush step history after datagramsBy fragmentCount segmentCount pieces cutAs filled numbered numberedCount withNumbered transmittedNow written bytesOfSegments packOne packed flushing acknowledged sampledBy heardBySending pushed heardByReceiving allBySending allByReceiving ackNumbers furthest skipped applied input opened joinedIn message lengthOf messageSize afterRead reading place sending updated corrected started following isAstray updating acceptedFor numberedBy numberedInAll numberedIn occurs lowestFrom lowestFree numbersFit waitingFits settled sendingValid receivingValid valid fits usedWindow afterFlush atLeastOne halved bySkips byTimeout afterDatagram grown slowStart avoidance raised widened limited
 met = record {
   opens = record { state = refl; long = refl };
   accepted = refl;

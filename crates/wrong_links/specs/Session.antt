@@ -7,6 +7,7 @@ use mathlib.Core.Bool.{Bool, true, false}
 use mathlib.Core.List.{List, [], _∷_, _++_, map}
 use Prim.Native.Nat.{ℕ}
 use lib.ListN.{length, getD, replicate}
+use Rattle.congestion.specs.Congestions.{fits, usedWindow, afterFlush, atLeastOne, halved, bySkips, byTimeout, afterDatagram, grown, slowStart, avoidance, raised, widened, limited}
 use Rattle.protocol.specs.declared.Settings.{Settings}
 use Rattle.protocol.specs.declared.Refusal.the-variants.{NoMessage}
 use Rattle.protocol.specs.Protocol.{ack}
@@ -44,7 +45,7 @@ use Rattle.wrong_links.specs.Standing.{Known, Passes, lengthsKnown}
 -- ---- both ends at first
 
 abbrev pub settings : Settings
-settings = record { conv = 1; mtu = 50; interval = 100; mode = 0; threshold = 2; stream = 0 }
+settings = record { conv = 1; mtu = 50; interval = 100; mode = 0; threshold = 2; stream = 0; congestion = 0 }
 
 -- what an opening is lent
 unfoldable pub sendPool : List ℕ
@@ -194,7 +195,7 @@ pub record Computed : Type 0 where
   pub reads-none : reading (bothRead .state) (bothRead .receivePool) 30 ≡ refused NoMessage
 
 pub all-pass : AllPass
-unfolding sendPool receivePool first second oneSent bothSent flush flushed update updated rested laterUpdate datagrams acks acknowledged oneHeard bothHeard oneRead bothRead opened opening enough signed isBefore isAfter isDue front back encode decode bytesOf numberAt verdict segmentOf tail walk parse longerWait nextClock nextSmoothed nextVariation leastTimeout timeoutOf sampled firstDue growth longerTimeout isSkipped transmission select firstNumberOr skipBefore advance startsAt insert isHeld ascending fragmentCount segmentCount pieces cutAs filled numbered numberedCount withNumbered transmittedNow written bytesOfSegments packOne packed flushing input-of.acknowledged sampledBy heardBySending pushed heardByReceiving allBySending allByReceiving ackNumbers furthest skipped applied input joinedIn message lengthOf messageSize reading-of.afterRead reading telling showing place sending occurs lowestFrom lowestFree numbersFit waitingFits settled sendingValid receivingValid valid
+unfolding sendPool receivePool first second oneSent bothSent flush flushed update updated rested laterUpdate datagrams acks acknowledged oneHeard bothHeard oneRead bothRead opened opening enough signed isBefore isAfter isDue front back encode decode bytesOf numberAt verdict segmentOf tail walk parse longerWait nextClock nextSmoothed nextVariation leastTimeout timeoutOf sampled firstDue growth longerTimeout isSkipped transmission select firstNumberOr skipBefore advance startsAt insert isHeld ascending fragmentCount segmentCount pieces cutAs filled numbered numberedCount withNumbered transmittedNow written bytesOfSegments packOne packed flushing input-of.acknowledged sampledBy heardBySending pushed heardByReceiving allBySending allByReceiving ackNumbers furthest skipped applied input joinedIn message lengthOf messageSize reading-of.afterRead reading telling showing place sending occurs lowestFrom lowestFree numbersFit waitingFits settled sendingValid receivingValid valid fits usedWindow afterFlush atLeastOne halved bySkips byTimeout afterDatagram grown slowStart avoidance raised widened limited
 all-pass = record {
   at-first = record { long = refl; made = refl };
   one-sent = record { long = refl; made = refl };
@@ -209,7 +210,7 @@ all-pass = record {
 }
 
 pub computed : Computed
-unfolding sendPool receivePool first second oneSent bothSent flush flushed update updated rested laterUpdate datagrams acks acknowledged oneHeard bothHeard oneRead bothRead opened opening enough signed isBefore isAfter isDue front back encode decode bytesOf numberAt verdict segmentOf tail walk parse longerWait nextClock nextSmoothed nextVariation leastTimeout timeoutOf sampled firstDue growth longerTimeout isSkipped transmission select firstNumberOr skipBefore advance startsAt insert isHeld ascending fragmentCount segmentCount pieces cutAs filled numbered numberedCount withNumbered transmittedNow written bytesOfSegments packOne packed flushing input-of.acknowledged sampledBy heardBySending pushed heardByReceiving allBySending allByReceiving ackNumbers furthest skipped applied input joinedIn message lengthOf messageSize reading-of.afterRead reading telling showing place sending occurs lowestFrom lowestFree numbersFit waitingFits settled sendingValid receivingValid valid scheduling.updated isAstray corrected started following ahead earliest named updating checking
+unfolding sendPool receivePool first second oneSent bothSent flush flushed update updated rested laterUpdate datagrams acks acknowledged oneHeard bothHeard oneRead bothRead opened opening enough signed isBefore isAfter isDue front back encode decode bytesOf numberAt verdict segmentOf tail walk parse longerWait nextClock nextSmoothed nextVariation leastTimeout timeoutOf sampled firstDue growth longerTimeout isSkipped transmission select firstNumberOr skipBefore advance startsAt insert isHeld ascending fragmentCount segmentCount pieces cutAs filled numbered numberedCount withNumbered transmittedNow written bytesOfSegments packOne packed flushing input-of.acknowledged sampledBy heardBySending pushed heardByReceiving allBySending allByReceiving ackNumbers furthest skipped applied input joinedIn message lengthOf messageSize reading-of.afterRead reading telling showing place sending occurs lowestFrom lowestFree numbersFit waitingFits settled sendingValid receivingValid valid scheduling.updated isAstray corrected started following ahead earliest named updating checking fits usedWindow afterFlush atLeastOne halved bySkips byTimeout afterDatagram grown slowStart avoidance raised widened limited
 computed = record {
   opens = refl;
   sends-first = refl;

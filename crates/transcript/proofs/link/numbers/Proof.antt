@@ -27,4 +27,7 @@ numbers-spec =
     (search needs)
     (search needs)
     (search needs)
+    (search needs)
+    (search needs)
+    (search needs)
     returns)

@@ -1,0 +1,3 @@
+pub mod Congestions
+pub mod CongestionLaws
+pub mod CongestionExamples
