@@ -1,2 +1,4 @@
 pub mod Removing
 pub mod RemovingLaws
+pub mod Numbers
+pub mod NumberLaws
