@@ -1,0 +1,51 @@
+-- Acks in whatever order (request 2026-09), of any link whose calls keep their promises, in what its caller holds: the block and the lent parts.
+-- Skip counts, the link's round trip and timeout, the peer's window and the receiving half are not claimed; neither is a field that is named nowhere
+-- in `SameInFlight`.
+-- Assumes nothing.
+use mathlib.Core.Path.{_≡_, sym, ap, _∙_}
+use mathlib.Core.List.{List, _++_, map}
+use Prim.Native.Nat.{ℕ}
+use Rattle.lists.specs.declared.Sent.{Sent}
+use Rattle.session.specs.MapLaws.{map-kept}
+use Rattle.control.specs.declared.Link.{Link}
+use Rattle.promises.specs.Parts.{Parts}
+use Rattle.any_order.specs.Removing.{SameNumbers}
+use Rattle.any_order.specs.Numbers.{unskipped, untimed}
+use Rattle.any_order.specs.NumberLaws.{Sees, sees-unskipped, sees-untimed}
+use Rattle.any_order.specs.Hearing.{Heard, numbersHeard, NoCall, NextFixed, Hears, SameDatagrams, outstandingIn, SameInFlight, outstandingNumbers}
+use Rattle.any_order.specs.OtherCallLaws.{next-fixed-leaves}
+use Rattle.any_order.specs.HearingLaws.{hears-same, hears-joined, same-numbers}
+
+module _ (l : Link) (p : Parts) (xs ys : List Heard) (l₁ : Link) (p₁ : Parts) (l₂ : Link) (p₂ : Parts) where
+  -- no other call between: a block that heard xs and one that heard ys, with the same una and ack numbers, have the same snd_una and the same
+  -- outstanding segments, each in all but its skip count
+  pub any-order : Hears NoCall l p xs l₁ p₁ → Hears NoCall l p ys l₂ p₂
+      → SameNumbers (numbersHeard (l .settings) xs) (numbersHeard (l .settings) ys) → SameInFlight unskipped l₁ p₁ l₂ p₂
+  any-order = hears-same unskipped sees-unskipped NoCall (λ l p l′ p′ e. absurd e) l p xs ys l₁ p₁ l₂ p₂
+
+  -- any other calls between that leave snd_nxt: the same snd_una, and the same outstanding segments by number, slot, length and fragment number
+  pub any-order-between : Hears NextFixed l p xs l₁ p₁ → Hears NextFixed l p ys l₂ p₂
+      → SameNumbers (numbersHeard (l .settings) xs) (numbersHeard (l .settings) ys) → SameInFlight untimed l₁ p₁ l₂ p₂
+  any-order-between = hears-same untimed sees-untimed NextFixed next-fixed-leaves l p xs ys l₁ p₁ l₂ p₂
+
+  -- the same datagrams in another order, or some of them twice, have the same numbers
+  pub same-datagrams : SameDatagrams xs ys → SameNumbers (numbersHeard (l .settings) xs) (numbersHeard (l .settings) ys)
+  same-datagrams = same-numbers (l .settings) xs ys
+
+-- two lists taken in one after the other, and their joined list
+module _ (l : Link) (p : Parts) (xs ys : List Heard) (l₁ : Link) (p₁ : Parts) (l₂ : Link) (p₂ : Parts) (l₃ : Link) (p₃ : Parts) where
+  pub two-lists : Hears NoCall l p xs l₁ p₁ → Hears NoCall l₁ p₁ ys l₂ p₂ → Hears NoCall l p (xs ++ ys) l₃ p₃ → SameInFlight unskipped l₂ p₂ l₃ p₃
+  two-lists h₁ h₂ h₃ = any-order l p (xs ++ ys) (xs ++ ys) l₂ p₂ l₃ p₃ (hears-joined ys h₁ h₂) h₃ (λ a. (λ m. m, λ m. m))
+
+  pub two-lists-between : Hears NextFixed l p xs l₁ p₁ → Hears NextFixed l₁ p₁ ys l₂ p₂ → Hears NextFixed l p (xs ++ ys) l₃ p₃
+      → SameInFlight untimed l₂ p₂ l₃ p₃
+  two-lists-between h₁ h₂ h₃ = any-order-between l p (xs ++ ys) (xs ++ ys) l₂ p₂ l₃ p₃ (hears-joined ys h₁ h₂) h₃ (λ a. (λ m. m, λ m. m))
+
+-- so the outstanding numbers are the same
+pub numbers-same : (see : Sent → Sent) → Sees see → (l₁ : Link) (p₁ : Parts) (l₂ : Link) (p₂ : Parts) → SameInFlight see l₁ p₁ l₂ p₂
+    → outstandingNumbers l₁ p₁ ≡ outstandingNumbers l₂ p₂
+numbers-same see sees l₁ p₁ l₂ p₂ h =
+    let number : Sent → ℕ = λ x. x .record .number in
+    sym (map-kept number see (sees .number) (outstandingIn l₁ p₁))
+    ∙ ap (map number) (h .outstanding)
+    ∙ map-kept number see (sees .number) (outstandingIn l₂ p₂)
