@@ -9,28 +9,28 @@ use Rattle.lists.specs.declared.Sent.{Sent}
 use Rattle.session.specs.MapLaws.{map-kept}
 use Rattle.control.specs.declared.Link.{Link}
 use Rattle.promises.specs.Parts.{Parts}
-use Rattle.any_order.specs.Removing.{SameNumbers}
+use Rattle.any_order.specs.Removing.{SameMembers}
 use Rattle.any_order.specs.Numbers.{unskipped, untimed}
-use Rattle.any_order.specs.NumberLaws.{Sees, sees-unskipped, sees-untimed}
-use Rattle.any_order.specs.Hearing.{Heard, numbersHeard, NoCall, NextFixed, Hears, SameDatagrams, outstandingIn, SameInFlight, outstandingNumbers}
+use Rattle.any_order.specs.NumberLaws.{same-of-all, Sees, sees-unskipped, sees-untimed}
+use Rattle.any_order.specs.Hearing.{Heard, numbersOne, numbersHeard, NoCall, NextFixed, Hears, outstandingIn, SameInFlight, outstandingNumbers}
 use Rattle.any_order.specs.OtherCallLaws.{next-fixed-leaves}
-use Rattle.any_order.specs.HearingLaws.{hears-same, hears-joined, same-numbers}
+use Rattle.any_order.specs.HearingLaws.{hears-same, hears-joined}
 
 module _ (l : Link) (p : Parts) (xs ys : List Heard) (l₁ : Link) (p₁ : Parts) (l₂ : Link) (p₂ : Parts) where
   -- no other call between: a block that heard xs and one that heard ys, with the same una and ack numbers, have the same snd_una and the same
   -- outstanding segments, each in all but its skip count
   pub any-order : Hears NoCall l p xs l₁ p₁ → Hears NoCall l p ys l₂ p₂
-      → SameNumbers (numbersHeard (l .settings) xs) (numbersHeard (l .settings) ys) → SameInFlight unskipped l₁ p₁ l₂ p₂
+      → SameMembers (numbersHeard (l .settings) xs) (numbersHeard (l .settings) ys) → SameInFlight unskipped l₁ p₁ l₂ p₂
   any-order = hears-same unskipped sees-unskipped NoCall (λ l p l′ p′ e. absurd e) l p xs ys l₁ p₁ l₂ p₂
 
   -- any other calls between that leave snd_nxt: the same snd_una, and the same outstanding segments by number, slot, length and fragment number
   pub any-order-between : Hears NextFixed l p xs l₁ p₁ → Hears NextFixed l p ys l₂ p₂
-      → SameNumbers (numbersHeard (l .settings) xs) (numbersHeard (l .settings) ys) → SameInFlight untimed l₁ p₁ l₂ p₂
+      → SameMembers (numbersHeard (l .settings) xs) (numbersHeard (l .settings) ys) → SameInFlight untimed l₁ p₁ l₂ p₂
   any-order-between = hears-same untimed sees-untimed NextFixed next-fixed-leaves l p xs ys l₁ p₁ l₂ p₂
 
   -- the same datagrams in another order, or some of them twice, have the same numbers
-  pub same-datagrams : SameDatagrams xs ys → SameNumbers (numbersHeard (l .settings) xs) (numbersHeard (l .settings) ys)
-  same-datagrams = same-numbers (l .settings) xs ys
+  pub same-datagrams : SameMembers xs ys → SameMembers (numbersHeard (l .settings) xs) (numbersHeard (l .settings) ys)
+  same-datagrams = same-of-all (numbersOne (l .settings)) xs ys
 
 -- two lists taken in one after the other, and their joined list
 module _ (l : Link) (p : Parts) (xs ys : List Heard) (l₁ : Link) (p₁ : Parts) (l₂ : Link) (p₂ : Parts) (l₃ : Link) (p₃ : Parts) where

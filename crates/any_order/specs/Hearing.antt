@@ -1,8 +1,7 @@
 -- Datagrams taken in by a link as its caller holds it, one after the other. A call is exactly what the public call promises. Definitions.
 -- Assumes nothing.
 use mathlib.Core.Path.{_≡_}
-use mathlib.Core.Logic.{_↔_}
-use mathlib.Core.List.{List, [], _∷_, _++_, map, List·Memᴰ}
+use mathlib.Core.List.{List, [], _∷_, map}
 use Prim.Native.Nat.{ℕ}
 use Rattle.protocol.specs.Ranges.{mss}
 use Rattle.protocol.specs.declared.Settings.{Settings}
@@ -16,7 +15,7 @@ use Rattle.answers.specs.declared.Count.{Count}
 use Rattle.answers.specs.declared.Update.{Update}
 use Rattle.promises.specs.Parts.{Parts, stateIn}
 use Rattle.promises.specs.Promises.{SendPromise, InputPromise, FlushPromise, UpdatePromise, ReadPromise}
-use Rattle.any_order.specs.Numbers.{numbersIn}
+use Rattle.any_order.specs.Numbers.{ofAll, numbersIn}
 
 -- ---- what was heard
 
@@ -34,13 +33,8 @@ numbersParsed (answer.Refused r) x = []
 abbrev pub numbersOne : Settings → Heard → List Acknowledges
 numbersOne c h = numbersParsed (h .answer) (parse (c .conv) (mss c) (h .datagram))
 
-unfoldable pub numbersHeard : Settings → List Heard → List Acknowledges
-numbersHeard c [] = []
-numbersHeard c (h ∷ hs) = numbersOne c h ++ numbersHeard c hs
-
--- the same datagrams with the same answers, in any order and each any number of times
-abbrev pub SameDatagrams : List Heard → List Heard → Type 0
-SameDatagrams xs ys = (h : Heard) → List·Memᴰ h xs ↔ List·Memᴰ h ys
+abbrev pub numbersHeard : Settings → List Heard → List Acknowledges
+numbersHeard c = ofAll (numbersOne c)
 
 -- ---- what may stand between two datagrams
 

@@ -1,10 +1,9 @@
 -- What datagrams do to a block's outstanding segments and to its snd_una is what their una and ack numbers do, taken one after the other: from the
 -- promises of the public calls alone.
 -- Assumes nothing.
-use mathlib.Core.Path.{_≡_, refl, sym, ap, _∙_, subst}
-use mathlib.Core.Logic.{⊎-elim}
+use mathlib.Core.Path.{_≡_, refl, sym, ap, _∙_}
 use mathlib.Core.Bool.{Bool, true, false}
-use mathlib.Core.List.{List, [], _∷_, _++_, List·Memᴰ, List·Memᴰ·head, List·Memᴰ·tail, List·Memᴰ·not-nil, List·Memᴰ·append-cases, Memᴰ·append-left, Memᴰ·append-right}
+use mathlib.Core.List.{List, [], _∷_, _++_}
 use Prim.Native.Nat.{ℕ}
 use Rattle.protocol.specs.Ranges.{mss}
 use Rattle.protocol.specs.declared.Refusal.{Refusal}
@@ -23,11 +22,11 @@ use Rattle.promises.specs.Parts.{Parts, lengthsOf, stateIn, isMade, Unchanged}
 use Rattle.promises.specs.Outcomes.{checked, takesInWith}
 use Rattle.promises.specs.Answers.{Accepts}
 use Rattle.promises.specs.Promises.{InputPromise, InputLeaves}
-use Rattle.any_order.specs.Removing.{InFlight, unlessAhead, takes, SameNumbers}
+use Rattle.any_order.specs.Removing.{InFlight, unlessAhead, takes, SameMembers}
 use Rattle.any_order.specs.RemovingLaws.{takes-same, takes-joined}
-use Rattle.any_order.specs.Numbers.{numbersIn, seenBy}
+use Rattle.any_order.specs.Numbers.{ofAll, numbersIn, seenBy}
 use Rattle.any_order.specs.NumberLaws.{Sees, applied-takes}
-use Rattle.any_order.specs.Hearing.{Heard, numbersParsed, numbersOne, numbersHeard, Between, Hears, start, hears, calls, SameDatagrams, SameInFlight}
+use Rattle.any_order.specs.Hearing.{Heard, numbersParsed, numbersOne, numbersHeard, Between, Hears, start, hears, calls, SameInFlight}
 use Rattle.any_order.specs.OtherCallLaws.{Leaves}
 
 module _ (see : Sent → Sent) (sees : Sees see) where
@@ -66,7 +65,7 @@ module _ (see : Sent → Sent) (sees : Sees see) where
 
   module _ (between : Between) (leaves : (l : Link) (p : Parts) (l′ : Link) (p′ : Parts) → between l p l′ p′ → Leaves see l p l′ p′) where
     hears-takes : {l l′ : Link} {p p′ : Parts} {hs : List Heard} → Hears between l p hs l′ p′ → Takes l p l′ p′ (numbersHeard (l .settings) hs)
-    unfolding numbersHeard takes
+    unfolding ofAll takes
     hears-takes start = record { settings = refl; numbers-taken = refl }
     hears-takes (hears l p d a l′ p′ {hs} h r) =
         let one = input-takes l p l′ p′ d a h in
@@ -87,7 +86,7 @@ module _ (see : Sent → Sent) (sees : Sees see) where
         }
 
     pub hears-same : (l : Link) (p : Parts) (xs ys : List Heard) (l₁ : Link) (p₁ : Parts) (l₂ : Link) (p₂ : Parts)
-        → Hears between l p xs l₁ p₁ → Hears between l p ys l₂ p₂ → SameNumbers (numbersHeard (l .settings) xs) (numbersHeard (l .settings) ys)
+        → Hears between l p xs l₁ p₁ → Hears between l p ys l₂ p₂ → SameMembers (numbersHeard (l .settings) xs) (numbersHeard (l .settings) ys)
         → SameInFlight see l₁ p₁ l₂ p₂
     unfolding stateOf
     hears-same l p xs ys l₁ p₁ l₂ p₂ h₁ h₂ i =
@@ -105,24 +104,3 @@ pub hears-joined : {between : Between} {l l′ l″ : Link} {p p′ p″ : Parts
 hears-joined ys start r = r
 hears-joined ys (hears l p d a l′ p′ h q) r = hears l p d a l′ p′ h (hears-joined ys q r)
 hears-joined ys (calls l p l′ p′ h q) r = calls l p l′ p′ h (hears-joined ys q r)
-
-module _ (c : Settings) where
-  -- a number of the list is one of a datagram in it
-  some-datagram : (a : Acknowledges) (xs : List Heard) → List·Memᴰ a (numbersHeard c xs) → (h : Heard) × List·Memᴰ h xs × List·Memᴰ a (numbersOne c h)
-  unfolding numbersHeard
-  some-datagram a [] m = absurd (List·Memᴰ·not-nil m)
-  some-datagram a (x ∷ xs) m =
-      ⊎-elim (λ d. (x, List·Memᴰ·head refl, d)) (λ d. let r = some-datagram a xs d in (r .0, List·Memᴰ·tail (r .1), r .2))
-      (List·Memᴰ·append-cases (numbersOne c x) m)
-
-  of-datagram : (a : Acknowledges) (xs : List Heard) (h : Heard) → List·Memᴰ h xs → List·Memᴰ a (numbersOne c h) → List·Memᴰ a (numbersHeard c xs)
-  unfolding numbersHeard
-  of-datagram a (x ∷ xs) h (List·Memᴰ·head e) m = Memᴰ·append-left (numbersHeard c xs) (subst (λ (y : Heard). List·Memᴰ a (numbersOne c y)) e m)
-  of-datagram a (x ∷ xs) h (List·Memᴰ·tail i) m = Memᴰ·append-right (numbersOne c x) (of-datagram a xs h i m)
-
-  -- the same datagrams have the same numbers
-  pub same-numbers : (xs ys : List Heard) → SameDatagrams xs ys → SameNumbers (numbersHeard c xs) (numbersHeard c ys)
-  same-numbers xs ys i a = (
-    λ m. let r = some-datagram a xs m in of-datagram a ys (r .0) (i (r .0) .0 (r .1)) (r .2),
-    λ m. let r = some-datagram a ys m in of-datagram a xs (r .0) (i (r .0) .1 (r .1)) (r .2),
-  )

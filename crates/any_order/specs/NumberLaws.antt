@@ -1,9 +1,10 @@
 -- What a datagram does to the outstanding segments and to snd_una is what its una and ack numbers do, taken one after the other by the rule of
 -- request 2026-02. So datagrams that carry the same numbers, in whatever order, leave the same.
 -- Assumes nothing.
-use mathlib.Core.Path.{_≡_, refl, sym, ap, _∙_}
+use mathlib.Core.Path.{_≡_, refl, sym, ap, _∙_, subst}
+use mathlib.Core.Logic.{⊎-elim}
 use mathlib.Core.Bool.{Bool, true, false, cond, not, _&&_}
-use mathlib.Core.List.{List, [], _∷_, _++_, map}
+use mathlib.Core.List.{List, [], _∷_, map, List·Memᴰ, List·Memᴰ·head, List·Memᴰ·tail, List·Memᴰ·not-nil, List·Memᴰ·append-cases, Memᴰ·append-left, Memᴰ·append-right}
 use Prim.Native.Nat.{ℕ}
 use lib.Dec.{eqb}
 use Rattle.protocol.specs.Protocol.{ack}
@@ -17,11 +18,35 @@ use Rattle.lists.specs.declared.Acknowledges.the-variants as by
 use Rattle.lists.specs.Acknowledging.{select, keep, firstNumberOr, oneSkip, skipBefore}
 use Rattle.session.specs.State.{State, Sending, withWindow, withOutstanding}
 use Rattle.session.specs.Input.{Took, acknowledged, sampledBy, heardBySending, allBySending, ackNumbers, furthest, skipped, skippedByAll, applied}
-use Rattle.any_order.specs.Removing.{InFlight, unlessAhead, left, takes, SameNumbers}
+use Rattle.any_order.specs.Removing.{InFlight, unlessAhead, left, takes, SameMembers}
 use Rattle.any_order.specs.RemovingLaws.{takes-same, takes-joined}
-use Rattle.any_order.specs.Numbers.{numbersOf, numbersIn, numbersInAll, appliedAll, seenBy, unskipped, untimed}
+use Rattle.any_order.specs.Numbers.{numbersOf, ofAll, numbersIn, numbersInAll, appliedAll, seenBy, unskipped, untimed}
 
--- what is seen of a segment: its number is, its skip count is not
+-- ---- the same members have the same numbers
+
+module _ {A : Type 0} (numbers : A → List Acknowledges) where
+  -- a number of a list is one of a member
+  of-some : (a : Acknowledges) (l : List A) → List·Memᴰ a (ofAll numbers l) → (x : A) × List·Memᴰ x l × List·Memᴰ a (numbers x)
+  unfolding ofAll
+  of-some a [] m = absurd (List·Memᴰ·not-nil m)
+  of-some a (x ∷ l) m =
+      ⊎-elim (λ d. (x, List·Memᴰ·head refl, d)) (λ d. let r = of-some a l d in (r .0, List·Memᴰ·tail (r .1), r .2))
+      (List·Memᴰ·append-cases (numbers x) m)
+
+  of-member : (a : Acknowledges) (x : A) (l : List A) → List·Memᴰ x l → List·Memᴰ a (numbers x) → List·Memᴰ a (ofAll numbers l)
+  unfolding ofAll
+  of-member a x (y ∷ l) (List·Memᴰ·head e) m = Memᴰ·append-left (ofAll numbers l) (subst (λ (z : A). List·Memᴰ a (numbers z)) e m)
+  of-member a x (y ∷ l) (List·Memᴰ·tail i) m = Memᴰ·append-right (numbers y) (of-member a x l i m)
+
+  pub same-of-all : (xs ys : List A) → SameMembers xs ys → SameMembers (ofAll numbers xs) (ofAll numbers ys)
+  same-of-all xs ys i a = (
+    λ m. let r = of-some a xs m in of-member a (r .0) ys (i (r .0) .0 (r .1)) (r .2),
+    λ m. let r = of-some a ys m in of-member a (r .0) xs (i (r .0) .1 (r .1)) (r .2),
+  )
+
+-- ---- what is seen of a segment
+
+-- its number is, its skip count is not
 pub record Sees (see : Sent → Sent) : Type 0 where
   pub number : (x : Sent) → see x .record .number ≡ x .record .number
   pub skips : (n : ℕ) (x : Sent) → see (skipBefore n x) ≡ see x
@@ -94,7 +119,7 @@ module _ (see : Sent → Sent) (sees : Sees see) where
 
   all-takes : (c : Settings) (current : ℕ) (gs : List Segment) (s : Sending)
       → seenBy see (allBySending c current s gs) ≡ takes unlessAhead (seenBy see s) (numbersIn gs)
-  unfolding allBySending numbersIn takes
+  unfolding allBySending ofAll takes
   all-takes c current [] s = refl
   all-takes c current (g ∷ gs) s =
       all-takes c current gs (heardBySending c current s (g .header))
@@ -126,7 +151,7 @@ module _ (see : Sent → Sent) (sees : Sees see) where
 
 applied-all-takes : (l : List (List Segment)) (x : Took)
     → seenBy unskipped (appliedAll x l .state .sending) ≡ takes unlessAhead (seenBy unskipped (x .state .sending)) (numbersInAll l)
-unfolding appliedAll numbersInAll takes
+unfolding appliedAll ofAll takes
 applied-all-takes [] x = refl
 applied-all-takes (gs ∷ l) x =
     applied-all-takes l (applied (x .state) (x .pool) gs)
@@ -135,7 +160,7 @@ applied-all-takes (gs ∷ l) x =
 
 -- two lists of datagrams with the same una and ack numbers, taken in from the same state, leave the same outstanding segments, each in all but its
 -- skip count, and the same snd_una
-pub same-in-any-order : (x : Took) (ds es : List (List Segment)) → SameNumbers (numbersInAll ds) (numbersInAll es)
+pub same-in-any-order : (x : Took) (ds es : List (List Segment)) → SameMembers (numbersInAll ds) (numbersInAll es)
     → seenBy unskipped (appliedAll x ds .state .sending) ≡ seenBy unskipped (appliedAll x es .state .sending)
 same-in-any-order x ds es i =
     applied-all-takes ds x

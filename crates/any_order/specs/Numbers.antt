@@ -19,15 +19,18 @@ use Rattle.any_order.specs.Removing.{InFlight}
 abbrev pub numbersOf : Header → List Acknowledges
 numbersOf h = by.Una (h .una) ∷ cond (eqb (h .cmd) ack) (by.Ack (h .sn) ∷ []) []
 
+-- of all members of a list
+unfoldable pub ofAll : {A : Type 0} → (A → List Acknowledges) → List A → List Acknowledges
+ofAll numbers [] = []
+ofAll numbers (x ∷ l) = numbers x ++ ofAll numbers l
+
 -- of the segments of a datagram
-unfoldable pub numbersIn : List Segment → List Acknowledges
-numbersIn [] = []
-numbersIn (g ∷ gs) = numbersOf (g .header) ++ numbersIn gs
+abbrev pub numbersIn : List Segment → List Acknowledges
+numbersIn = ofAll (λ (g : Segment). numbersOf (g .header))
 
 -- of datagrams, each given by its segments
-unfoldable pub numbersInAll : List (List Segment) → List Acknowledges
-numbersInAll [] = []
-numbersInAll (gs ∷ l) = numbersIn gs ++ numbersInAll l
+abbrev pub numbersInAll : List (List Segment) → List Acknowledges
+numbersInAll = ofAll numbersIn
 
 -- datagrams taken in one after the other, with no other call between
 unfoldable pub appliedAll : Took → List (List Segment) → Took

@@ -51,14 +51,14 @@ takes rule s (a ∷ l) = takes rule (left (rule (s .next) a) s) l
 
 -- ---- the claims
 
--- the same una and ack numbers, in any order and each any number of times
-abbrev pub SameNumbers : List Acknowledges → List Acknowledges → Type 0
-SameNumbers xs ys = (a : Acknowledges) → List·Memᴰ a xs ↔ List·Memᴰ a ys
+-- the same members, in any order and each any number of times
+abbrev pub SameMembers : {A : Type 0} → List A → List A → Type 0
+SameMembers {A} xs ys = (a : A) → List·Memᴰ a xs ↔ List·Memᴰ a ys
 
 -- of a rule: in any order, or twice, the numbers leave the same outstanding segments and the same snd_una; two lists one after the other are the
 -- joined list; and snd_nxt stays
 pub record AnyOrder (rule : Rule) : Type 0 where
-  pub any-order : (s : InFlight) (xs ys : List Acknowledges) → SameNumbers xs ys → takes rule s xs ≡ takes rule s ys
+  pub any-order : (s : InFlight) (xs ys : List Acknowledges) → SameMembers xs ys → takes rule s xs ≡ takes rule s ys
   pub twice : (s : InFlight) (xs : List Acknowledges) → takes rule s (xs ++ xs) ≡ takes rule s xs
   pub joined : (s : InFlight) (xs ys : List Acknowledges) → takes rule (takes rule s xs) ys ≡ takes rule s (xs ++ ys)
   pub next-stays : (s : InFlight) (xs : List Acknowledges) → takes rule s xs .next ≡ s .next

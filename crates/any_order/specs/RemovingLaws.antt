@@ -10,7 +10,7 @@ use Rattle.lists.specs.declared.Sent.{Sent}
 use Rattle.lists.specs.declared.Acknowledges.{Acknowledges}
 use Rattle.lists.specs.AcknowledgingLaws.{select-same, keep-both}
 use Rattle.session.specs.Decides.{and-parts}
-use Rattle.any_order.specs.Removing.{InFlight, Rule, everyBefore, unlessAhead, left, takes, SameNumbers, AnyOrder}
+use Rattle.any_order.specs.Removing.{InFlight, Rule, everyBefore, unlessAhead, left, takes, SameMembers, AnyOrder}
 
 -- ---- the one fact
 
@@ -51,7 +51,7 @@ module _ (rule : Rule) where
   stays-fewer next n (x ∷ xs) ys i h =
       rw (stays-each next n x ys h (i x (List·Memᴰ·head refl)), stays-fewer next n xs ys (λ a m. i a (List·Memᴰ·tail m)) h)
 
-  stays-same : (next n : ℕ) (xs ys : List Acknowledges) → SameNumbers xs ys → staysBy next xs n ≡ staysBy next ys n
+  stays-same : (next n : ℕ) (xs ys : List Acknowledges) → SameMembers xs ys → staysBy next xs n ≡ staysBy next ys n
   stays-same next n xs ys i = go (staysBy next xs n) refl (staysBy next ys n) refl
     where
       go : (a : Bool) → staysBy next xs n ≡ a → (b : Bool) → staysBy next ys n ≡ b → a ≡ b
@@ -62,7 +62,7 @@ module _ (rule : Rule) where
 
   -- ---- the claims
 
-  pub takes-same : (s : InFlight) (xs ys : List Acknowledges) → SameNumbers xs ys → takes rule s xs ≡ takes rule s ys
+  pub takes-same : (s : InFlight) (xs ys : List Acknowledges) → SameMembers xs ys → takes rule s xs ≡ takes rule s ys
   unfolding takes
   takes-same s [] [] i = refl
   takes-same s [] (y ∷ ys) i = absurd (List·Memᴰ·not-nil (i y .1 (List·Memᴰ·head refl)))
