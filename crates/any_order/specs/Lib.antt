@@ -6,3 +6,4 @@ pub mod Hearing
 pub mod OtherCallLaws
 pub mod HearingLaws
 pub mod AnyOrder
+pub mod Shuffled
