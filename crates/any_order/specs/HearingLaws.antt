@@ -1,9 +1,9 @@
--- What datagrams do to a block's outstanding segments and to its snd_una is what their una and ack numbers do, taken one after the other: from the
--- promises of the public calls alone.
+-- What datagrams do to a block's outstanding segments and to its snd_una is what their una and ack numbers do, taken one after the other:
+-- from the promises of the public calls alone.
 -- Assumes nothing.
 use mathlib.Core.Path.{_≡_, refl, sym, ap, _∙_}
 use mathlib.Core.Bool.{Bool, true, false}
-use mathlib.Core.List.{List, [], _∷_, _++_}
+use mathlib.Core.List.{List, [], _∷_, _++_, map}
 use Prim.Native.Nat.{ℕ}
 use Rattle.protocol.specs.Ranges.{mss}
 use Rattle.protocol.specs.declared.Refusal.{Refusal}
@@ -11,6 +11,7 @@ use Rattle.protocol.specs.declared.Settings.{Settings}
 use Rattle.datagram.specs.Datagrams.{Parsed, parse}
 use Rattle.lists.specs.declared.Sent.{Sent}
 use Rattle.lists.specs.declared.Acknowledges.{Acknowledges}
+use Rattle.lists.specs.Acknowledging.{keep}
 use Rattle.sizes.specs.Sizes.{enough}
 use Rattle.session.specs.State.{State}
 use Rattle.session.specs.Input.{applied, taking, input}
@@ -22,11 +23,11 @@ use Rattle.promises.specs.Parts.{Parts, lengthsOf, stateIn, isMade, Unchanged}
 use Rattle.promises.specs.Outcomes.{checked, takesInWith}
 use Rattle.promises.specs.Answers.{Accepts}
 use Rattle.promises.specs.Promises.{InputPromise, InputLeaves}
-use Rattle.any_order.specs.Removing.{InFlight, unlessAhead, takes, SameMembers}
-use Rattle.any_order.specs.RemovingLaws.{takes-same, takes-joined}
+use Rattle.any_order.specs.Removing.{InFlight, unlessAhead, passesAll, takes, SameMembers}
+use Rattle.any_order.specs.RemovingLaws.{takes-same, takes-joined, takes-outstanding}
 use Rattle.any_order.specs.Numbers.{ofAll, numbersIn, seenBy}
 use Rattle.any_order.specs.NumberLaws.{Sees, applied-takes}
-use Rattle.any_order.specs.Hearing.{Heard, numbersParsed, numbersOne, numbersHeard, Between, Hears, start, hears, calls, SameInFlight}
+use Rattle.any_order.specs.Hearing.{Heard, numbersParsed, numbersOne, numbersHeard, Between, Hears, start, hears, calls, SameInFlight, outstandingIn}
 use Rattle.any_order.specs.OtherCallLaws.{Leaves}
 
 module _ (see : Sent → Sent) (sees : Sees see) where
@@ -42,20 +43,23 @@ module _ (see : Sent → Sent) (sees : Sees see) where
 
   module _ (l : Link) (p : Parts) (l′ : Link) (p′ : Parts) where
     -- refused, a call leaves everything
-    refused-takes : (a : Answer) (r : Refusal) (x : Parsed) → a ≡ answer.Refused r → Unchanged l l′ p p′ → Takes l p l′ p′ (numbersParsed a x)
+    refused-takes : (a : Answer) (r : Refusal) (x : Parsed) → a ≡ answer.Refused r → Unchanged l l′ p p′
+        → Takes l p l′ p′ (numbersParsed a x)
     unfolding takes
     refused-takes a r x e u = rw e (record { settings = ap (λ (y : Link). y .settings) (u .link); numbers-taken = rw (u .link, u .parts) })
 
     input-takes : (d : List ℕ) (a : Answer) → InputPromise d l p a l′ p′
         → Takes l p l′ p′ (numbersOne (l .settings) (record { datagram = d; answer = a }))
     unfolding takesInWith input applied stateOf
-    input-takes d a h = go (enough (mss (l .settings)) (lengthsOf p)) (isMade l p) (parse (l .settings .conv) (mss (l .settings)) d) (h .answer) (h .leaves)
+    input-takes d a h =
+        go (enough (mss (l .settings)) (lengthsOf p)) (isMade l p) (parse (l .settings .conv) (mss (l .settings)) d) (h .answer) (h .leaves)
       where
         go : (long made : Bool) (x : Parsed) → Accepts a (checked long made (taking (stateIn l p) (p .receivePool) x))
             → InputLeaves (checked long made (taking (stateIn l p) (p .receivePool) x)) l l′ p p′ → Takes l p l′ p′ (numbersParsed a x)
         go true true (Parsed.segments gs) e t = rw e (record {
           settings = ap (λ (s : State). s .settings) (t .stands .state);
-          numbers-taken = ap (λ (s : State). seenBy see (s .sending)) (t .stands .state) ∙ applied-takes see sees (stateIn l p) (p .receivePool) gs;
+          numbers-taken =
+              ap (λ (s : State). seenBy see (s .sending)) (t .stands .state) ∙ applied-takes see sees (stateIn l p) (p .receivePool) gs;
         })
         go true true (Parsed.refused r) e u = refused-takes a r (Parsed.refused r) e u
         go true false x e u = refused-takes a _ x e u
@@ -64,18 +68,20 @@ module _ (see : Sent → Sent) (sees : Sees see) where
   -- ---- datagrams one after the other
 
   module _ (between : Between) (leaves : (l : Link) (p : Parts) (l′ : Link) (p′ : Parts) → between l p l′ p′ → Leaves see l p l′ p′) where
-    hears-takes : {l l′ : Link} {p p′ : Parts} {hs : List Heard} → Hears between l p hs l′ p′ → Takes l p l′ p′ (numbersHeard (l .settings) hs)
+    hears-takes : {l l′ : Link} {p p′ : Parts} {hs : List Heard} → Hears between l p hs l′ p′
+        → Takes l p l′ p′ (numbersHeard (l .settings) hs)
     unfolding ofAll takes
     hears-takes start = record { settings = refl; numbers-taken = refl }
     hears-takes (hears l p d a l′ p′ {hs} h r) =
         let one = input-takes l p l′ p′ d a h in
         let all = hears-takes r in
+        let first = numbersOne (l .settings) (record { datagram = d; answer = a }) in
         record {
           settings = all .settings ∙ one .settings;
           numbers-taken =
               all .numbers-taken
               ∙ (λ i. takes unlessAhead (one .numbers-taken i) (numbersHeard (one .settings i) hs))
-              ∙ takes-joined unlessAhead (inFlight l p) (numbersOne (l .settings) (record { datagram = d; answer = a })) (numbersHeard (l .settings) hs);
+              ∙ takes-joined unlessAhead (inFlight l p) first (numbersHeard (l .settings) hs);
         }
     hears-takes (calls l p l′ p′ {hs} h r) =
         let one = leaves l p l′ p′ h in
@@ -85,8 +91,17 @@ module _ (see : Sent → Sent) (sees : Sees see) where
           numbers-taken = all .numbers-taken ∙ (λ i. takes unlessAhead (one .in-flight i) (numbersHeard (one .settings i) hs));
         }
 
+    -- what is outstanding then
+    pub hears-outstanding : {l l′ : Link} {p p′ : Parts} {hs : List Heard} → Hears between l p hs l′ p′
+        → map see (outstandingIn l′ p′) ≡ keep (passesAll unlessAhead (l .flight .next) (numbersHeard (l .settings) hs)) (map see (outstandingIn l p))
+    unfolding stateOf
+    hears-outstanding {l} {p = p} {hs = hs} h =
+        ap (λ (x : InFlight). x .outstanding) (hears-takes h .numbers-taken)
+        ∙ takes-outstanding unlessAhead (inFlight l p) (numbersHeard (l .settings) hs)
+
     pub hears-same : (l : Link) (p : Parts) (xs ys : List Heard) (l₁ : Link) (p₁ : Parts) (l₂ : Link) (p₂ : Parts)
-        → Hears between l p xs l₁ p₁ → Hears between l p ys l₂ p₂ → SameMembers (numbersHeard (l .settings) xs) (numbersHeard (l .settings) ys)
+        → Hears between l p xs l₁ p₁ → Hears between l p ys l₂ p₂
+        → SameMembers (numbersHeard (l .settings) xs) (numbersHeard (l .settings) ys)
         → SameInFlight see l₁ p₁ l₂ p₂
     unfolding stateOf
     hears-same l p xs ys l₁ p₁ l₂ p₂ h₁ h₂ i =
@@ -94,7 +109,11 @@ module _ (see : Sent → Sent) (sees : Sees see) where
         hears-takes h₁ .numbers-taken
         ∙ takes-same unlessAhead (inFlight l p) (numbersHeard (l .settings) xs) (numbersHeard (l .settings) ys) i
         ∙ sym (hears-takes h₂ .numbers-taken) in
-        record { una = ap (λ (x : InFlight). x .una) e; next = ap (λ (x : InFlight). x .next) e; outstanding = ap (λ (x : InFlight). x .outstanding) e }
+        record {
+          una = ap (λ (x : InFlight). x .una) e;
+          next = ap (λ (x : InFlight). x .next) e;
+          outstanding = ap (λ (x : InFlight). x .outstanding) e;
+        }
 
 -- ---- lists of datagrams
 

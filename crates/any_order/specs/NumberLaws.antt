@@ -1,10 +1,11 @@
--- What a datagram does to the outstanding segments and to snd_una is what its una and ack numbers do, taken one after the other by the rule of
--- request 2026-02. So datagrams that carry the same numbers, in whatever order, leave the same.
+-- What a datagram does to the outstanding segments and to snd_una is what its una and ack numbers do, taken one after the other by the rule
+-- of request 2026-02. So datagrams that carry the same numbers, in whatever order, leave the same.
 -- Assumes nothing.
 use mathlib.Core.Path.{_≡_, refl, sym, ap, _∙_, subst}
 use mathlib.Core.Logic.{⊎-elim}
 use mathlib.Core.Bool.{Bool, true, false, cond, not, _&&_}
-use mathlib.Core.List.{List, [], _∷_, map, List·Memᴰ, List·Memᴰ·head, List·Memᴰ·tail, List·Memᴰ·not-nil, List·Memᴰ·append-cases, Memᴰ·append-left, Memᴰ·append-right}
+use mathlib.Core.List.{List, [], _∷_, map, List·Memᴰ, List·Memᴰ·head, List·Memᴰ·tail, List·Memᴰ·not-nil}
+use mathlib.Core.List.{List·Memᴰ·append-cases, Memᴰ·append-left, Memᴰ·append-right}
 use Prim.Native.Nat.{ℕ}
 use lib.Dec.{eqb}
 use Rattle.protocol.specs.Protocol.{ack}
@@ -17,8 +18,9 @@ use Rattle.lists.specs.declared.Acknowledges.{Acknowledges}
 use Rattle.lists.specs.declared.Acknowledges.the-variants as by
 use Rattle.lists.specs.Acknowledging.{select, keep, firstNumberOr, oneSkip, skipBefore}
 use Rattle.session.specs.State.{State, Sending, withWindow, withOutstanding}
-use Rattle.session.specs.Input.{Took, acknowledged, sampledBy, heardBySending, allBySending, ackNumbers, furthest, skipped, skippedByAll, applied}
-use Rattle.any_order.specs.Removing.{InFlight, unlessAhead, left, takes, SameMembers}
+use Rattle.session.specs.Input.{Took, acknowledged, sampledBy, heardBySending, allBySending, applied}
+use Rattle.session.specs.Input.{ackNumbers, furthest, skipped, skippedByAll}
+use Rattle.any_order.specs.Removing.{InFlight, unlessAhead, staying, takes, SameMembers}
 use Rattle.any_order.specs.RemovingLaws.{takes-same, takes-joined}
 use Rattle.any_order.specs.Numbers.{numbersOf, ofAll, numbersIn, numbersInAll, appliedAll, seenBy, unskipped, untimed}
 
@@ -86,11 +88,12 @@ module _ (see : Sent → Sent) (sees : Sees see) where
   first-seen (x ∷ l) other = sym (sees .number x)
 
   -- the link takes a number by the rule of request 2026-02
-  own-rule : (a : Acknowledges) (s : Sending) → seenBy see (acknowledged a s) ≡ left (unlessAhead (s .next) a) (seenBy see s)
+  own-rule : (a : Acknowledges) (s : Sending) → seenBy see (acknowledged a s) ≡ staying (unlessAhead (s .next) a) (seenBy see s)
   unfolding acknowledged
   own-rule a s =
-      let kept = keep (unlessAhead (s .next) a) (s .outstanding) in
-      let e : map see kept ≡ keep (unlessAhead (s .next) a) (map see (s .outstanding)) = keep-seen (unlessAhead (s .next) a) (s .outstanding) in
+      let stays = unlessAhead (s .next) a in
+      let kept = keep stays (s .outstanding) in
+      let e : map see kept ≡ keep stays (map see (s .outstanding)) = keep-seen stays (s .outstanding) in
       λ i. record {
         una = (first-seen kept (s .next) ∙ ap (λ (l : List Sent). firstNumberOr l (s .next)) e) i;
         next = s .next;
@@ -107,14 +110,14 @@ module _ (see : Sent → Sent) (sees : Sees see) where
       passed : Sending
       passed = acknowledged (by.Una (h .una)) (withWindow (h .wnd) s)
 
-      by-una : seenBy see passed ≡ left (unlessAhead (s .next) (by.Una (h .una))) (seenBy see s)
+      by-una : seenBy see passed ≡ staying (unlessAhead (s .next) (by.Una (h .una))) (seenBy see s)
       by-una = own-rule (by.Una (h .una)) (withWindow (h .wnd) s)
 
       go : (b : Bool) → seenBy see (cond b (acknowledged (by.Ack (h .sn)) (sampledBy c current (h .ts) passed)) passed)
           ≡ takes unlessAhead (seenBy see s) (by.Una (h .una) ∷ cond b (by.Ack (h .sn) ∷ []) [])
       go true =
           own-rule (by.Ack (h .sn)) (sampledBy c current (h .ts) passed)
-          ∙ ap (λ (x : InFlight). left (unlessAhead (x .next) (by.Ack (h .sn))) x) by-una
+          ∙ ap (λ (x : InFlight). staying (unlessAhead (x .next) (by.Ack (h .sn))) x) by-una
       go false = by-una
 
   all-takes : (c : Settings) (current : ℕ) (gs : List Segment) (s : Sending)
@@ -158,8 +161,8 @@ applied-all-takes (gs ∷ l) x =
     ∙ ap (λ (y : InFlight). takes unlessAhead y (numbersInAll l)) (applied-takes unskipped sees-unskipped (x .state) (x .pool) gs)
     ∙ takes-joined unlessAhead (seenBy unskipped (x .state .sending)) (numbersIn gs) (numbersInAll l)
 
--- two lists of datagrams with the same una and ack numbers, taken in from the same state, leave the same outstanding segments, each in all but its
--- skip count, and the same snd_una
+-- two lists of datagrams with the same una and ack numbers, taken in from the same state, leave the same outstanding segments, each in all
+-- but its skip count, and the same snd_una
 pub same-in-any-order : (x : Took) (ds es : List (List Segment)) → SameMembers (numbersInAll ds) (numbersInAll es)
     → seenBy unskipped (appliedAll x ds .state .sending) ≡ seenBy unskipped (appliedAll x es .state .sending)
 same-in-any-order x ds es i =

@@ -1,5 +1,5 @@
--- A call other than input and opening that leaves snd_nxt leaves snd_una too, and the number, slot, length and fragment number of every outstanding
--- segment: it numbers nothing. From the promises of the public calls alone.
+-- A call other than input and opening that leaves snd_nxt leaves snd_una too, and the number, slot, length and fragment number of every
+-- outstanding segment: it numbers nothing. From the promises of the public calls alone.
 -- Assumes nothing.
 use mathlib.Core.Path.{_≡_, refl, sym, ap, _∙_}
 use mathlib.Core.Bool.{Bool, true, false}
@@ -43,9 +43,18 @@ record Quiet (s s′ : State) : Type 0 where
   settings : s′ .settings ≡ s .settings
   in-flight : s′ .sending .next ≡ s .sending .next → seenBy untimed (s′ .sending) ≡ seenBy untimed (s .sending)
 
+abbrev SendQuiet : State → Sends → Type 0
+SendQuiet s x = Quiet s (x .state)
+
+abbrev ReadQuiet : State → Reads → Type 0
+ReadQuiet s x = Quiet s (x .state)
+
+abbrev FlushQuiet : State → Flushed → Type 0
+FlushQuiet s x = Quiet s (x .state)
+
 abbrev UpdateQuiet : State → Updates → Type 0
 UpdateQuiet s (outcome.waits s′) = Quiet s s′
-UpdateQuiet s (outcome.flushes x) = Quiet s (x .state)
+UpdateQuiet s (outcome.flushes x) = FlushQuiet s x
 
 -- of an outcome that is not refused
 abbrev Done : {A : Type 0} → (A → Type 0) → Outcome A → Type 0
@@ -57,16 +66,14 @@ checked-done P true true o d = d
 checked-done P true false o d = tt
 checked-done P false made o d = tt
 
-module _ (s : State) where
-  send-quiet : (pool message : List ℕ) → Done (λ (x : Sends). Quiet s (x .state)) (sending s pool message)
-  send-quiet pool message =
-      sending-cases (Done (λ (x : Sends). Quiet s (x .state))) s pool message (λ r. tt) (λ ok. record { settings = refl; in-flight = λ e. refl })
+send-quiet : (s : State) (pool message : List ℕ) → Done (SendQuiet s) (sending s pool message)
+send-quiet s pool message =
+    sending-cases (Done (SendQuiet s)) s pool message (λ r. tt) (λ ok. record { settings = refl; in-flight = λ e. refl })
 
-  read-quiet : (pool : List ℕ) (room : ℕ) → Done (λ (x : Reads). Quiet s (x .state)) (reading s pool room)
-  read-quiet pool room =
-      reading-cases (Done (λ (x : Reads). Quiet s (x .state))) s pool room (λ r. tt) (record { settings = refl; in-flight = λ e. refl })
+read-quiet : (s : State) (pool : List ℕ) (room : ℕ) → Done (ReadQuiet s) (reading s pool room)
+read-quiet s pool room = reading-cases (Done (ReadQuiet s)) s pool room (λ r. tt) (record { settings = refl; in-flight = λ e. refl })
 
--- a number of segments that leaves snd_nxt is 0
+-- a flush that leaves snd_nxt numbers nothing
 none-numbered : (s : Sending) → plus (s .next) (numberedCount s) ≡ s .next → numberedCount s ≡ 0
 unfolding numberedCount
 none-numbered s e = omega arith
@@ -79,11 +86,13 @@ unfolding flushing withNumbered numbered
 flush-quiet s t pool = record {
   settings = refl;
   in-flight = λ e.
-  let d = s .sending in
-  let kept : map untimed (map (sentAfter (s .settings) (d .roundTrip .timeout) t) (withNumbered d (numberedCount d))) ≡ map untimed (d .outstanding) =
-  map-kept untimed (sentAfter (s .settings) (d .roundTrip .timeout) t) (untimed-after (s .settings) (d .roundTrip .timeout) t) (withNumbered d (numberedCount d))
-  ∙ rw (none-numbered d e, append-nil (d .outstanding)) in
-  λ i. record { una = d .una; next = e i; outstanding = kept i };
+      let d = s .sending in
+      let after : Sent → Sent = sentAfter (s .settings) (d .roundTrip .timeout) t in
+      let all = withNumbered d (numberedCount d) in
+      let kept : map untimed (map after all) ≡ map untimed (d .outstanding) =
+      map-kept untimed after (untimed-after (s .settings) (d .roundTrip .timeout) t) all
+      ∙ rw (none-numbered d e, append-nil (d .outstanding)) in
+      λ i. record { una = d .una; next = e i; outstanding = kept i };
 }
 
 update-quiet : (s : State) (t : ℕ) (pool : List ℕ) → UpdateQuiet s (updating s t pool)
@@ -113,24 +122,28 @@ module _ (l : Link) (p : Parts) (l′ : Link) (p′ : Parts) (fixed : l′ .flig
   unfolding stateOf
   stands s′ e q =
       let same = q .in-flight (ap (λ (s : State). s .sending .next) (sym e) ∙ fixed) in
-      record { settings = ap (λ (s : State). s .settings) e ∙ q .settings; in-flight = ap (λ (s : State). seenBy untimed (s .sending)) e ∙ same }
+      record {
+        settings = ap (λ (s : State). s .settings) e ∙ q .settings;
+        in-flight = ap (λ (s : State). seenBy untimed (s .sending)) e ∙ same;
+      }
 
-  sent : (o : Outcome Sends) → Done (λ (x : Sends). Quiet before (x .state)) o → SendLeaves o l l′ p p′ → Leaves untimed l p l′ p′
+  sent : (o : Outcome Sends) → Done (SendQuiet before) o → SendLeaves o l l′ p p′ → Leaves untimed l p l′ p′
   sent (refused r) d u = unchanged u
   sent (done x) d h = stands (x .state) (h .stands .state) d
 
-  read : (o : Outcome Reads) (buffer buffer′ : List ℕ) → Done (λ (x : Reads). Quiet before (x .state)) o
+  read : (o : Outcome Reads) (buffer buffer′ : List ℕ) → Done (ReadQuiet before) o
       → ReadLeaves o l l′ p p′ buffer buffer′ → Leaves untimed l p l′ p′
   read (refused r) buffer buffer′ d h = unchanged (h .unchanged)
   read (done x) buffer buffer′ d h = stands (x .state) (h .stands .state) d
 
   module _ (out lengths out′ lengths′ : List ℕ) where
-    flushed : (o : Outcome Flushed) → Done (λ (x : Flushed). Quiet before (x .state)) o
+    flushed : (o : Outcome Flushed) → Done (FlushQuiet before) o
         → FlushLeaves o l l′ p p′ out lengths out′ lengths′ → Leaves untimed l p l′ p′
     flushed (refused r) d h = unchanged (h .unchanged)
     flushed (done x) d h = stands (x .state) (h .stands .state) d
 
-    updated : (o : Outcome Updates) → Done (UpdateQuiet before) o → UpdateLeaves o l l′ p p′ out lengths out′ lengths′ → Leaves untimed l p l′ p′
+    updated : (o : Outcome Updates) → Done (UpdateQuiet before) o
+        → UpdateLeaves o l l′ p p′ out lengths out′ lengths′ → Leaves untimed l p l′ p′
     updated (refused r) d h = unchanged (h .unchanged)
     updated (done (outcome.waits s)) d h = stands s (h .stands .state) d
     updated (done (outcome.flushes x)) d h = stands (x .state) (h .stands .state) d
@@ -139,16 +152,16 @@ module _ (l : Link) (p : Parts) (l′ : Link) (p′ : Parts) (fixed : l′ .flig
   unfolding sendsWith readsWith flushesWith updatesWith
   other-leaves (sends message a h) =
       sent (outcomes.sends l p message)
-      (checked-done (λ (x : Sends). Quiet before (x .state)) long (isMade l p) (sending before (p .sendPool) message) (send-quiet before (p .sendPool) message))
+      (checked-done (SendQuiet before) long (isMade l p) (sending before (p .sendPool) message) (send-quiet before (p .sendPool) message))
       (h .leaves)
   other-leaves (reads buffer a buffer′ h) =
-      read (outcomes.reads l p (length buffer)) buffer buffer′
-      (checked-done (λ (x : Reads). Quiet before (x .state)) long (isMade l p) (reading before (p .receivePool) (length buffer))
-      (read-quiet before (p .receivePool) (length buffer)))
+      let room = length buffer in
+      read (outcomes.reads l p room) buffer buffer′
+      (checked-done (ReadQuiet before) long (isMade l p) (reading before (p .receivePool) room) (read-quiet before (p .receivePool) room))
       (h .leaves)
   other-leaves (flushes t out lengths a out′ lengths′ h) =
       flushed out lengths out′ lengths′ (outcomes.flushes l p (length out) (length lengths) t)
-      (checked-done (λ (x : Flushed). Quiet before (x .state)) (longToFlush (length out) (length lengths)) (isMade l p) (done (flushing before t (p .sendPool)))
+      (checked-done (FlushQuiet before) (longToFlush (length out) (length lengths)) (isMade l p) (done (flushing before t (p .sendPool)))
       (flush-quiet before t (p .sendPool)))
       (h .leaves)
   other-leaves (updates t out lengths a out′ lengths′ h) =

@@ -2,7 +2,7 @@
 -- Assumes nothing.
 use mathlib.Core.Path.{_≡_}
 use mathlib.Core.Logic.{_↔_}
-use mathlib.Core.Bool.{Bool, not}
+use mathlib.Core.Bool.{Bool, true, not, _&&_}
 use mathlib.Core.List.{List, [], _∷_, _++_, List·Memᴰ}
 use Prim.Native.Nat.{ℕ}
 use lib.Dec.{eqb}
@@ -36,18 +36,23 @@ unlessAhead next arrival n = not (acknowledged next arrival n)
 -- ---- removing
 
 -- the segments whose number passes a test stay; snd_una becomes the first outstanding number, else snd_nxt
-abbrev pub left : (ℕ → Bool) → InFlight → InFlight
-left test s =
+abbrev pub staying : (ℕ → Bool) → InFlight → InFlight
+staying test s =
     record {
       una = firstNumberOr (keep test (s .outstanding)) (s .next);
       next = s .next;
       outstanding = keep test (s .outstanding);
     }
 
+-- a number passes the tests of all that arrives
+abbrev pub passesAll : Rule → ℕ → List Acknowledges → ℕ → Bool
+passesAll rule next [] n = true
+passesAll rule next (a ∷ l) n = rule next a n && passesAll rule next l n
+
 -- numbers taken one after the other, each by the snd_nxt that is there
 unfoldable pub takes : Rule → InFlight → List Acknowledges → InFlight
 takes rule s [] = s
-takes rule s (a ∷ l) = takes rule (left (rule (s .next) a) s) l
+takes rule s (a ∷ l) = takes rule (staying (rule (s .next) a) s) l
 
 -- ---- the claims
 
@@ -55,9 +60,11 @@ takes rule s (a ∷ l) = takes rule (left (rule (s .next) a) s) l
 abbrev pub SameMembers : {A : Type 0} → List A → List A → Type 0
 SameMembers {A} xs ys = (a : A) → List·Memᴰ a xs ↔ List·Memᴰ a ys
 
--- of a rule: in any order, or twice, the numbers leave the same outstanding segments and the same snd_una; two lists one after the other are the
--- joined list; and snd_nxt stays
+-- of a rule: numbers taken one after the other leave the segments that pass the tests of all of them; in any order, or twice, they leave the
+-- same outstanding segments and the same snd_una; two lists one after the other are the joined list; and snd_nxt stays
 pub record AnyOrder (rule : Rule) : Type 0 where
+  pub at-once : (s : InFlight) (a : Acknowledges) (l : List Acknowledges)
+      → takes rule s (a ∷ l) ≡ staying (passesAll rule (s .next) (a ∷ l)) s
   pub any-order : (s : InFlight) (xs ys : List Acknowledges) → SameMembers xs ys → takes rule s xs ≡ takes rule s ys
   pub twice : (s : InFlight) (xs : List Acknowledges) → takes rule s (xs ++ xs) ≡ takes rule s xs
   pub joined : (s : InFlight) (xs ys : List Acknowledges) → takes rule (takes rule s xs) ys ≡ takes rule s (xs ++ ys)

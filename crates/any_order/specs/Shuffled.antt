@@ -1,5 +1,5 @@
--- Three datagrams on a link with the segments 0 to 3 outstanding, heard in two orders, with one of them twice, and as one datagram. The same is left in
--- flight, and what is not claimed differs. Proved by computing.
+-- Three datagrams on a link with the segments 0 to 3 outstanding, heard in two orders, with one of them twice, and as one datagram. The
+-- same is left in flight, and what is not claimed differs. Proved by computing.
 -- Assumes nothing.
 use mathlib.Core.Path.{_≡_, refl}
 use mathlib.Core.List.{List, [], _∷_, _++_, map, List·Memᴰ, List·Memᴰ·head, List·Memᴰ·tail}
@@ -36,7 +36,8 @@ sent = flushing (flushing (withQueued (opened c) (held 0 ∷ held 1 ∷ held 2 �
 -- ---- the datagrams
 
 abbrev segment : ℕ → ℕ → ℕ → ℕ → ℕ → Segment
-segment cmd wnd ts sn una = record { header = record { conv = 1; cmd = cmd; frg = 0; wnd = wnd; ts = ts; sn = sn; una = una; len = 0 }; payload = [] }
+segment cmd wnd ts sn una =
+    record { header = record { conv = 1; cmd = cmd; frg = 0; wnd = wnd; ts = ts; sn = sn; una = una; len = 0 }; payload = [] }
 
 -- an ack of 3, an ack of 2, and a window tell with una 1
 abbrev pub ack3 : List Segment
@@ -96,12 +97,15 @@ seen s =
       smoothed = s .roundTrip .smoothed;
     }
 
--- four are outstanding at first; then always 1 alone, and snd_una is 1. The peer's window and the smoothed time go by the order; the skip count of
--- segment 1 by how often a datagram with a later ack comes
-pub seen-after : (seen (sent .sending) ≡ record { numbers = 0 ∷ 1 ∷ 2 ∷ 3 ∷ []; una = 0; skips = 0 ∷ 0 ∷ 0 ∷ 0 ∷ []; window = 128; smoothed = 0 })
+-- four are outstanding at first; then always 1 alone, and snd_una is 1. The peer's window and the smoothed time go by the order; the skip
+-- count of segment 1 by how many datagrams with a later ack come
+pub seen-after :
+    (seen (sent .sending) ≡ record { numbers = 0 ∷ 1 ∷ 2 ∷ 3 ∷ []; una = 0; skips = 0 ∷ 0 ∷ 0 ∷ 0 ∷ []; window = 128; smoothed = 0 })
     × (seen (after inOrder) ≡ record { numbers = 1 ∷ []; una = 1; skips = 2 ∷ []; window = 60; smoothed = 65 })
     × (seen (after reversed) ≡ record { numbers = 1 ∷ []; una = 1; skips = 2 ∷ []; window = 40; smoothed = 95 })
     × (seen (after oneTwice) ≡ record { numbers = 1 ∷ []; una = 1; skips = 3 ∷ []; window = 40; smoothed = 64 })
     × (seen (after asOne) ≡ record { numbers = 1 ∷ []; una = 1; skips = 1 ∷ []; window = 60; smoothed = 65 })
-unfolding sent after appliedAll opened flushing numbered numberedCount withNumbered firstDue growth longerTimeout isSkipped transmission applied acknowledged heardBySending allBySending ackNumbers furthest skipped sampledBy sampled nextSmoothed nextVariation leastTimeout timeoutOf select firstNumberOr skipBefore signed isBefore isAfter isDue
+unfolding sent after appliedAll opened flushing numbered numberedCount withNumbered firstDue growth longerTimeout isSkipped transmission
+    applied acknowledged heardBySending allBySending ackNumbers furthest skipped sampledBy sampled nextSmoothed nextVariation
+    leastTimeout timeoutOf select firstNumberOr skipBefore signed isBefore isAfter isDue
 seen-after = (refl, refl, refl, refl, refl)
