@@ -3,11 +3,10 @@
 -- Assumes nothing.
 use mathlib.Core.Path.{_≡_, refl, sym, ap, _∙_}
 use mathlib.Core.Bool.{Bool, true, false}
-use mathlib.Core.List.{List, [], _∷_, _++_, map}
+use mathlib.Core.List.{List, [], _++_, map}
 use Prim.Native.Nat.{ℕ}
 use Rattle.protocol.specs.Ranges.{mss}
 use Rattle.protocol.specs.declared.Refusal.{Refusal}
-use Rattle.protocol.specs.declared.Settings.{Settings}
 use Rattle.datagram.specs.Datagrams.{Parsed, parse}
 use Rattle.lists.specs.declared.Sent.{Sent}
 use Rattle.lists.specs.declared.Acknowledges.{Acknowledges}
@@ -25,9 +24,10 @@ use Rattle.promises.specs.Answers.{Accepts}
 use Rattle.promises.specs.Promises.{InputPromise, InputLeaves}
 use Rattle.any_order.specs.Removing.{InFlight, unlessAhead, passesAll, takes, SameMembers}
 use Rattle.any_order.specs.RemovingLaws.{takes-same, takes-joined, takes-outstanding}
-use Rattle.any_order.specs.Numbers.{ofAll, numbersIn, seenBy}
+use Rattle.any_order.specs.Numbers.{ofAll, seenBy}
 use Rattle.any_order.specs.NumberLaws.{Sees, applied-takes}
-use Rattle.any_order.specs.Hearing.{Heard, numbersParsed, numbersOne, numbersHeard, Between, Hears, start, hears, calls, SameInFlight, outstandingIn}
+use Rattle.any_order.specs.Hearing.{Heard, numbersParsed, numbersOne, numbersHeard, Between, Hears, start, hears, calls}
+use Rattle.any_order.specs.Hearing.{SameInFlight, outstandingIn}
 use Rattle.any_order.specs.OtherCallLaws.{Leaves}
 
 module _ (see : Sent → Sent) (sees : Sees see) where
@@ -93,7 +93,8 @@ module _ (see : Sent → Sent) (sees : Sees see) where
 
     -- what is outstanding then
     pub hears-outstanding : {l l′ : Link} {p p′ : Parts} {hs : List Heard} → Hears between l p hs l′ p′
-        → map see (outstandingIn l′ p′) ≡ keep (passesAll unlessAhead (l .flight .next) (numbersHeard (l .settings) hs)) (map see (outstandingIn l p))
+        → map see (outstandingIn l′ p′)
+        ≡ keep (passesAll unlessAhead (l .flight .next) (numbersHeard (l .settings) hs)) (map see (outstandingIn l p))
     unfolding stateOf
     hears-outstanding {l} {p = p} {hs = hs} h =
         ap (λ (x : InFlight). x .outstanding) (hears-takes h .numbers-taken)

@@ -60,8 +60,8 @@ takes rule s (a ∷ l) = takes rule (staying (rule (s .next) a) s) l
 abbrev pub SameMembers : {A : Type 0} → List A → List A → Type 0
 SameMembers {A} xs ys = (a : A) → List·Memᴰ a xs ↔ List·Memᴰ a ys
 
--- of a rule: numbers taken one after the other leave the segments that pass the tests of all of them; in any order, or twice, they leave the
--- same outstanding segments and the same snd_una; two lists one after the other are the joined list; and snd_nxt stays
+-- of a rule: numbers taken one after the other leave the segments that pass the tests of all of them; in any order, or twice, they leave
+-- the same outstanding segments and the same snd_una; two lists one after the other are the joined list; and snd_nxt stays
 pub record AnyOrder (rule : Rule) : Type 0 where
   pub at-once : (s : InFlight) (a : Acknowledges) (l : List Acknowledges)
       → takes rule s (a ∷ l) ≡ staying (passesAll rule (s .next) (a ∷ l)) s

@@ -1,5 +1,6 @@
 -- In any order, or twice, and two lists as one: for every rule that tests each number by itself, from the one fact that removing by one
--- test and then by another is removing by both (`staying-both`). The una rule of document 01 and that of request 2026-02 are two such rules.
+-- test and then by another is removing by both (`staying-both`). The una rule of document 01 and that of request 2026-02 are two such
+-- rules.
 -- Assumes nothing.
 use mathlib.Core.Path.{_≡_, refl, sym, ap, _∙_}
 use mathlib.Core.Bool.{Bool, true, false, _&&_, and-true, and-assoc}

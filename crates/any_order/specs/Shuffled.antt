@@ -16,9 +16,8 @@ use Rattle.lists.specs.Acknowledging.{select, firstNumberOr, skipBefore}
 use Rattle.session.specs.State.{State, Sending, withQueued}
 use Rattle.session.specs.Opening.{opened}
 use Rattle.session.specs.Flushing.{numbered, numberedCount, withNumbered, flushing}
-use Rattle.session.specs.Input.{Took, acknowledged, sampledBy, heardBySending, allBySending, ackNumbers, furthest, skipped, applied}
-use Rattle.any_order.specs.Removing.{SameMembers}
-use Rattle.any_order.specs.Numbers.{numbersIn, numbersInAll, appliedAll, seenBy, unskipped}
+use Rattle.session.specs.Input.{acknowledged, sampledBy, heardBySending, allBySending, ackNumbers, furthest, skipped, applied}
+use Rattle.any_order.specs.Numbers.{numbersIn, appliedAll, seenBy, unskipped}
 use Rattle.any_order.specs.NumberLaws.{same-of-all, same-in-any-order}
 
 -- ---- the link
