@@ -4,10 +4,11 @@
 -- Assumes nothing.
 use mathlib.Core.Path.{_≡_, refl, sym, ap, _∙_}
 use mathlib.Core.Bool.{Bool, true, false, cond}
-use mathlib.Core.List.{List, [], _∷_, _++_, map}
+use mathlib.Core.List.{List, [], _∷_, _++_, map, List·Memᴰ}
 use Prim.Native.Nat.{ℕ}
 use Rattle.lists.specs.declared.Sent.{Sent}
-use Rattle.lists.specs.Acknowledging.{select, keep}
+use Rattle.lists.specs.declared.Acknowledges.{Acknowledges}
+use Rattle.lists.specs.Acknowledging.{select, keep, firstNumberOr}
 use Rattle.session.specs.MapLaws.{map-kept}
 use Rattle.control.specs.Views.{stateOf}
 use Rattle.control.specs.declared.Link.{Link}
@@ -18,7 +19,7 @@ use Rattle.any_order.specs.NumberLaws.{same-of-all, Sees, sees-unskipped
 use Rattle.any_order.specs.Hearing.{Heard, numbersOne, numbersHeard, NoCall, NextFixed, Hears}
 use Rattle.any_order.specs.Hearing.{SameInFlight, outstandingIn, outstandingNumbers}
 use Rattle.any_order.specs.OtherCallLaws.{next-fixed-leaves}
-use Rattle.any_order.specs.HearingLaws.{hears-same, hears-outstanding, hears-joined}
+use Rattle.any_order.specs.HearingLaws.{hears-same, hears-outstanding, hears-una, hears-joined}
 
 abbrev number : Sent → ℕ
 number x = x .record .number
@@ -62,6 +63,11 @@ module _ (l : Link) (p : Parts) (xs : List Heard) (l₁ : Link) (p₁ : Parts) w
       ∙ ap (map number) e
       ∙ select-numbers test (map untimed (outstandingIn l p))
       ∙ ap (select test) (map-kept number untimed (sees-untimed .number) (outstandingIn l p))
+
+  -- if any number was heard, snd_una is the first of them, else snd_nxt
+  pub una-after : (a : Acknowledges) → List·Memᴰ a (numbersHeard (l .settings) xs) → Hears NextFixed l p xs l₁ p₁
+      → l₁ .flight .una ≡ firstNumberOr (outstandingIn l₁ p₁) (l .flight .next)
+  una-after = hears-una untimed sees-untimed NextFixed next-fixed-leaves
 
 -- two lists taken in one after the other, and their joined list
 module _ (l : Link) (p : Parts) (xs ys : List Heard) (l₁ : Link) (p₁ : Parts) (l₂ : Link) (p₂ : Parts) (l₃ : Link) (p₃ : Parts) where

@@ -3,14 +3,14 @@
 -- Assumes nothing.
 use mathlib.Core.Path.{_≡_, refl, sym, ap, _∙_}
 use mathlib.Core.Bool.{Bool, true, false}
-use mathlib.Core.List.{List, [], _++_, map}
+use mathlib.Core.List.{List, [], _++_, map, List·Memᴰ}
 use Prim.Native.Nat.{ℕ}
 use Rattle.protocol.specs.Ranges.{mss}
 use Rattle.protocol.specs.declared.Refusal.{Refusal}
 use Rattle.datagram.specs.Datagrams.{Parsed, parse}
 use Rattle.lists.specs.declared.Sent.{Sent}
 use Rattle.lists.specs.declared.Acknowledges.{Acknowledges}
-use Rattle.lists.specs.Acknowledging.{keep}
+use Rattle.lists.specs.Acknowledging.{keep, firstNumberOr}
 use Rattle.sizes.specs.Sizes.{enough}
 use Rattle.session.specs.State.{State}
 use Rattle.session.specs.Input.{applied, taking, input}
@@ -23,9 +23,9 @@ use Rattle.promises.specs.Outcomes.{checked, takesInWith}
 use Rattle.promises.specs.Answers.{Accepts}
 use Rattle.promises.specs.Promises.{InputPromise, InputLeaves}
 use Rattle.any_order.specs.Removing.{InFlight, unlessAhead, passesAll, takes, SameMembers}
-use Rattle.any_order.specs.RemovingLaws.{takes-same, takes-joined, takes-outstanding}
+use Rattle.any_order.specs.RemovingLaws.{takes-same, takes-joined, takes-outstanding, takes-una}
 use Rattle.any_order.specs.Numbers.{ofAll, seenBy}
-use Rattle.any_order.specs.NumberLaws.{Sees, applied-takes}
+use Rattle.any_order.specs.NumberLaws.{Sees, first-seen, applied-takes}
 use Rattle.any_order.specs.Hearing.{Heard, numbersParsed, numbersOne, numbersHeard, Between, Hears, start, hears, calls}
 use Rattle.any_order.specs.Hearing.{SameInFlight, outstandingIn}
 use Rattle.any_order.specs.OtherCallLaws.{Leaves}
@@ -99,6 +99,18 @@ module _ (see : Sent → Sent) (sees : Sees see) where
     hears-outstanding {l} {p = p} {hs = hs} h =
         ap (λ (x : InFlight). x .outstanding) (hears-takes h .numbers-taken)
         ∙ takes-outstanding unlessAhead (inFlight l p) (numbersHeard (l .settings) hs)
+
+    -- and snd_una, where a number was heard
+    pub hears-una : {l l′ : Link} {p p′ : Parts} {hs : List Heard} (a : Acknowledges) → List·Memᴰ a (numbersHeard (l .settings) hs)
+        → Hears between l p hs l′ p′ → l′ .flight .una ≡ firstNumberOr (outstandingIn l′ p′) (l .flight .next)
+    unfolding stateOf
+    hears-una {l} {l′} {p} {p′} {hs} a m h =
+        let e = hears-takes h .numbers-taken in
+        let numbers = numbersHeard (l .settings) hs in
+        ap (λ (x : InFlight). x .una) e
+        ∙ takes-una unlessAhead (inFlight l p) a numbers m
+        ∙ ap (λ (x : InFlight). firstNumberOr (x .outstanding) (l .flight .next)) (sym e)
+        ∙ sym (first-seen see sees (outstandingIn l′ p′) (l .flight .next))
 
     pub hears-same : (l : Link) (p : Parts) (xs ys : List Heard) (l₁ : Link) (p₁ : Parts) (l₂ : Link) (p₂ : Parts)
         → Hears between l p xs l₁ p₁ → Hears between l p ys l₂ p₂

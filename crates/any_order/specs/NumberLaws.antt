@@ -82,7 +82,7 @@ module _ (see : Sent → Sent) (sees : Sees see) where
       go true b p e = rw p (ap (λ (y : List Sent). see x ∷ y) e)
       go false b p e = rw p e
 
-  first-seen : (l : List Sent) (other : ℕ) → firstNumberOr l other ≡ firstNumberOr (map see l) other
+  pub first-seen : (l : List Sent) (other : ℕ) → firstNumberOr l other ≡ firstNumberOr (map see l) other
   unfolding firstNumberOr
   first-seen [] other = refl
   first-seen (x ∷ l) other = sym (sees .number x)

@@ -10,7 +10,7 @@ use mathlib.Core.Logic.{⊎-elim}
 use Prim.Native.Nat.{ℕ}
 use Rattle.lists.specs.declared.Sent.{Sent}
 use Rattle.lists.specs.declared.Acknowledges.{Acknowledges}
-use Rattle.lists.specs.Acknowledging.{select, keep}
+use Rattle.lists.specs.Acknowledging.{select, keep, firstNumberOr}
 use Rattle.lists.specs.AcknowledgingLaws.{select-same, keep-both}
 use Rattle.session.specs.Decides.{and-parts}
 use Rattle.any_order.specs.Removing.{InFlight, Rule, everyBefore, unlessAhead, staying, passesAll, takes, SameMembers, AnyOrder}
@@ -79,6 +79,12 @@ module _ (rule : Rule) where
   unfolding takes
   takes-outstanding s [] = sym (all-kept (s .outstanding))
   takes-outstanding s (a ∷ l) = ap (λ (x : InFlight). x .outstanding) (takes-at-once s a l)
+
+  -- and snd_una, where something arrives
+  pub takes-una : (s : InFlight) (a : Acknowledges) (l : List Acknowledges) → List·Memᴰ a l
+      → takes rule s l .una ≡ firstNumberOr (takes rule s l .outstanding) (s .next)
+  takes-una s a [] m = absurd (List·Memᴰ·not-nil m)
+  takes-una s a (x ∷ l) m = rw (takes-at-once s x l)
 
   pub takes-same : (s : InFlight) (xs ys : List Acknowledges) → SameMembers xs ys → takes rule s xs ≡ takes rule s ys
   unfolding takes
