@@ -61,13 +61,9 @@ sees-unskipped = record { number = λ x. refl; skips = λ n x. go x (isBefore (x
     go x true = refl
     go x false = refl
 
+-- what is seen so is seen of the segment but its skip count
 pub sees-untimed : Sees untimed
-unfolding skipBefore
-sees-untimed = record { number = λ x. refl; skips = λ n x. go x (isBefore (x .record .number) n) }
-  where
-    go : (x : Sent) (b : Bool) → untimed (cond b (oneSkip x) x) ≡ untimed x
-    go x true = refl
-    go x false = refl
+sees-untimed = record { number = λ x. refl; skips = λ n x. ap untimed (sees-unskipped .skips n x) }
 
 module _ (see : Sent → Sent) (sees : Sees see) where
   -- ---- one number
