@@ -37,7 +37,13 @@ use Rattle.settings_file.specs.Files.{
   readFrom,
 }
 use Rattle.settings_file.specs.declared.FileRefusal.{FileRefusal}
-use Rattle.settings_file.specs.declared.FileRefusal.the-variants.{ShortPart, SettingOutOfRange, NotSettings, UnknownVersion, NeedlessVersion}
+use Rattle.settings_file.specs.declared.FileRefusal.the-variants.{
+  ShortPart,
+  SettingOutOfRange,
+  NotSettings,
+  UnknownVersion,
+  NeedlessVersion,
+}
 use Rattle.settings_file.specs.declared.Reading.{Reading}
 use Rattle.settings_file.specs.declared.Writing.the-variants as writing
 use Rattle.settings_file.specs.declared.Reading.the-variants as reading
@@ -173,7 +179,8 @@ module _ (c : Settings) (l : List ℕ) where
   unfolding writeInto
   out-of-range a b = record { answer = rw (le-leb 17 (length l) a, b); leaves = refl }
 
-  pub written : {n : ℕ} {m : List ℕ} → 17 ≤ length l → inRange c ≡ true → n ≡ length (fileOf c) → m ≡ sets l 0 (fileOf c) → Writes c l (writing.Wrote n) m
+  pub written : {n : ℕ} {m : List ℕ} → 17 ≤ length l → inRange c ≡ true → n ≡ length (fileOf c) → m ≡ sets l 0 (fileOf c)
+      → Writes c l (writing.Wrote n) m
   unfolding writeInto
   written a b p e = record { answer = ap writing.Wrote p ∙ rw (le-leb 17 (length l) a, b); leaves = e }
 
@@ -186,7 +193,8 @@ module _ (f : List ℕ) where
   unfolding readFrom
   unmarked a b = rw (le-leb 5 (length f) a, b)
 
-  pub other-version : 5 ≤ length f → isMarked f ≡ true → (numberAt 2 f 3 ≡ 1 → ⊥) → (numberAt 2 f 3 ≡ 2 → ⊥) → reading.Refused UnknownVersion ≡ readFrom f
+  pub other-version : 5 ≤ length f → isMarked f ≡ true → (numberAt 2 f 3 ≡ 1 → ⊥) → (numberAt 2 f 3 ≡ 2 → ⊥)
+      → reading.Refused UnknownVersion ≡ readFrom f
   unfolding readFrom
   other-version a b d e = rw (le-leb 5 (length f) a, b, ne-eqb (numberAt 2 f 3) 1 d, ne-eqb (numberAt 2 f 3) 2 e)
 
@@ -309,7 +317,9 @@ module _ (f : List ℕ) (b : AllBytes f) where
       s = settingsAt f (numberAt 1 f 15) (numberAt 1 f 16)
 
       go : (d : Bool) → eqb (length f) 17 ≡ d → (g : Bool) → inRange s ≡ g → (n : Bool) → fitsFirst s ≡ n
-          → cond d (cond g (cond n (reading.Refused NeedlessVersion) (reading.Settings s)) (reading.Refused SettingOutOfRange)) (reading.Refused NotSettings)
+          → cond d
+          (cond g (cond n (reading.Refused NeedlessVersion) (reading.Settings s)) (reading.Refused SettingOutOfRange))
+          (reading.Refused NotSettings)
           ≡ reading.Settings c
           → f ≡ fileOf c
       go true l true range false fit h =
@@ -325,8 +335,11 @@ pub written-read : (f : List ℕ) (c : Settings) → AllBytes f → readFrom f �
 unfolding readFrom
 written-read f c b e = go (leb 5 (length f) && isMarked f) refl (eqb (numberAt 2 f 3) 1) refl (eqb (numberAt 2 f 3) 2) refl e
   where
-    go : (a : Bool) → (leb 5 (length f) && isMarked f) ≡ a → (p : Bool) → eqb (numberAt 2 f 3) 1 ≡ p → (q : Bool) → eqb (numberAt 2 f 3) 2 ≡ q
-        → cond a (cond p (readFirst f) (cond q (readSecond f) (reading.Refused UnknownVersion))) (reading.Refused NotSettings) ≡ reading.Settings c
+    go : (a : Bool) → (leb 5 (length f) && isMarked f) ≡ a
+        → (p : Bool) → eqb (numberAt 2 f 3) 1 ≡ p
+        → (q : Bool) → eqb (numberAt 2 f 3) 2 ≡ q
+        → cond a (cond p (readFirst f) (cond q (readSecond f) (reading.Refused UnknownVersion))) (reading.Refused NotSettings)
+        ≡ reading.Settings c
         → f ≡ fileOf c
     go true m true v q w h = first-read f b c (and-parts (leb 5 (length f)) (isMarked f) m .1) (eqb-true (numberAt 2 f 3) 1 v) h
     go true m false v true w h = second-read f b c (and-parts (leb 5 (length f)) (isMarked f) m .1) (eqb-true (numberAt 2 f 3) 2 w) h
@@ -334,7 +347,8 @@ written-read f c b e = go (leb 5 (length f) && isMarked f) refl (eqb (numberAt 2
     go false m p v q w h = absurd (not-refused NotSettings c h)
 
 -- one setting has one file
-pub one-file : (f g : List ℕ) (c : Settings) → AllBytes f → AllBytes g → readFrom f ≡ reading.Settings c → readFrom g ≡ reading.Settings c → f ≡ g
+pub one-file : (f g : List ℕ) (c : Settings) → AllBytes f → AllBytes g
+    → readFrom f ≡ reading.Settings c → readFrom g ≡ reading.Settings c → f ≡ g
 one-file f g c a b p q = written-read f c a p ∙ sym (written-read g c b q)
 
 -- ---- the round trips, of the part that writing leaves
@@ -350,7 +364,8 @@ unfolding writeInto
 decides c n k e = go (leb 17 k) refl (inRange c) refl e
   where
     go : (a : Bool) → leb 17 k ≡ a → (b : Bool) → inRange c ≡ b
-        → writing.Wrote n ≡ cond a (cond b (writing.Wrote (length (fileOf c))) (writing.Refused SettingOutOfRange)) (writing.Refused ShortPart)
+        → writing.Wrote n
+        ≡ cond a (cond b (writing.Wrote (length (fileOf c))) (writing.Refused SettingOutOfRange)) (writing.Refused ShortPart)
         → (17 ≤ k) × (inRange c ≡ true) × (n ≡ length (fileOf c))
     go true p true q h = (leb-true 17 k p, q, cc)
     go true p false q h = absurd (let z : _≡_ {A = ℕ} 0 1 = cc in omega arith)
@@ -372,8 +387,8 @@ wrote c before after n w =
     let d = decides c n (length before) (w .answer) in
     record {
       room = d .0;
-      range = d .1 .0;
-      file = rw (d .1 .1, w .leaves) (stored-front (fileOf c) before (omega (arith, d .0, file-short c)));
+      range = d .1;
+      file = rw (d .2, w .leaves) (stored-front (fileOf c) before (omega (arith, d .0, file-short c)));
     }
 
 -- the part that `write` leaves begins with a file that is read as these settings

@@ -13,7 +13,13 @@ use Rattle.protocol.specs.declared.Refusal.the-variants as linkRefusal
 use Rattle.protocol.specs.declared.Settings.{Settings}
 use Rattle.wire.specs.LittleEndian.{bytesOf, numberAt}
 use Rattle.settings_file.specs.declared.FileRefusal.{FileRefusal}
-use Rattle.settings_file.specs.declared.FileRefusal.the-variants.{ShortPart, SettingOutOfRange, NotSettings, UnknownVersion, NeedlessVersion}
+use Rattle.settings_file.specs.declared.FileRefusal.the-variants.{
+  ShortPart,
+  SettingOutOfRange,
+  NotSettings,
+  UnknownVersion,
+  NeedlessVersion,
+}
 use Rattle.settings_file.specs.declared.Reading.{Reading}
 use Rattle.settings_file.specs.declared.Reading.the-variants as reading
 use Rattle.settings_file.specs.declared.Writing.{Writing}
@@ -74,7 +80,9 @@ fileOf c = cond (fitsFirst c) (firstOf c) (secondOf c)
 -- writing into a part this long: 7 for one under 17 bytes, then 12; else how many bytes the file has
 unfoldable pub writeInto : Settings → ℕ → Writing
 writeInto c n =
-    cond (leb secondSize n) (cond (inRange c) (writing.Wrote (length (fileOf c))) (writing.Refused SettingOutOfRange)) (writing.Refused ShortPart)
+    cond (leb secondSize n)
+    (cond (inRange c) (writing.Wrote (length (fileOf c))) (writing.Refused SettingOutOfRange))
+    (writing.Refused ShortPart)
 
 -- the part afterwards: the file at its start, which is as it was beyond it; refused, it is as it was
 abbrev pub Leaves : Settings → Writing → List ℕ → List ℕ → Type 0
@@ -118,10 +126,16 @@ readFirst f = cond (eqb (length f) firstSize) (firstRanged (settingsAt f 0 0)) (
 
 -- version 2: stream, then congestion, at its end; 12 for settings out of range, then 20 for those that fit version 1
 abbrev pub secondRanged : Settings → Reading
-secondRanged c = cond (inRange c) (cond (fitsFirst c) (reading.Refused NeedlessVersion) (reading.Settings c)) (reading.Refused SettingOutOfRange)
+secondRanged c =
+    cond (inRange c)
+    (cond (fitsFirst c) (reading.Refused NeedlessVersion) (reading.Settings c))
+    (reading.Refused SettingOutOfRange)
 
 abbrev pub readSecond : List ℕ → Reading
-readSecond f = cond (eqb (length f) secondSize) (secondRanged (settingsAt f (numberAt 1 f 15) (numberAt 1 f 16))) (reading.Refused NotSettings)
+readSecond f =
+    cond (eqb (length f) secondSize)
+    (secondRanged (settingsAt f (numberAt 1 f 15) (numberAt 1 f 16)))
+    (reading.Refused NotSettings)
 
 -- 15 for under 5 bytes or a wrong mark, 16 for an unknown version, then by the version: 15 for a wrong length, then 12, then 20
 unfoldable pub readFrom : List ℕ → Reading
