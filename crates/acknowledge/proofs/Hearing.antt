@@ -85,7 +85,16 @@ first-is (w ∷ ws) (t ∷ ts) (r ∷ rs) (suc n) next d e f g = rw (lt-ltb 0 (s
 module _ (c : Settings) (current : ℕ) (v : View) (h : Header) (rtt : RoundTrip) (e : rtt ≡ timedBy c current h (v .flight .rtt)) where
   -- the flight after it, with these numbers
   abbrev after : ℕ → ℕ → Flight
-  after una n = record { una = una; next = v .flight .next; rtt = rtt; window = h .wnd; queued = v .flight .queued; outstanding = n }
+  after una n =
+      record {
+        una = una;
+        next = v .flight .next;
+        rtt = rtt;
+        window = h .wnd;
+        congestion = v .flight .congestion;
+        queued = v .flight .queued;
+        outstanding = n;
+      }
 
   -- those that stay are left
   pub heard-some : (ws ts : List ℕ) (n : ℕ) (rs : List Record) (una : ℕ) (d : Record) → JoinedIn ws ts n rs (keep (staysBy (v .flight .next) h) (sentIn v)) → length rs ≡ 32

@@ -8,6 +8,7 @@ use native.Mathlib.Omega.{arith}
 use lib.ListN.{length, take}
 use Rattle.protocol.specs.Ranges.{inRange, mss}
 use Rattle.protocol.specs.declared.Settings.{Settings}
+use Rattle.congestion.specs.Congestions.{fits}
 use Rattle.timing.specs.declared.Record.{Record}
 use Rattle.session.specs.Decides.{and-parts}
 use Rattle.session.specs.State.{sendHeld, receiveHeld, slots}
@@ -26,12 +27,15 @@ use Rattle.checking.proofs.Joins.{both-low}
 use Rattle.checking.proofs.Turns.{none-whole, not-true, not-false}
 use Rattle.checking.proofs.Halves.{send-slots, sending-checked, receive-slots, receiving-checked}
 
-module _ (s : Settings) (f : Flight) (a : Arrival) (k : Clock) (x : Arrays) (rs : List Record) (whole : Whole x) (many : length rs ≡ 32) (fits : a .expected < 2 ^ 32) where
+module _ (s : Settings) (f : Flight) (a : Arrival) (k : Clock) (x : Arrays) (rs : List Record) (whole : Whole x) (many : length rs ≡ 32) (below : a .expected < 2 ^ 32) where
   abbrev link : Link
   link = linkOf s f a k x
 
   abbrev trip : Bool
   trip = roundTripFits (s .mode) (f .rtt)
+
+  abbrev congested : Bool
+  congested = fits (f .congestion) (mss s)
 
   abbrev sends : Bool
   sends = sendingFits (mss s) (x .queued) (f .queued) (x .outstanding) (x .transmissions) (f .outstanding)
@@ -71,11 +75,11 @@ module _ (s : Settings) (f : Flight) (a : Arrival) (k : Clock) (x : Arrays) (rs 
     side : a .waiting ≤ length (x .numbers)
     side = omega (arith, n .waiting, whole .whole-numbers)
 
-    block-parts : blockValid link rs acks ≡ (inRange s && (sends && flies && trip) && receives && probeFits (k .probe))
+    block-parts : blockValid link rs acks ≡ (inRange s && (sends && flies && trip) && receives && probeFits (k .probe) && congested)
     unfolding blockValid countsFit valid stateOf
     block-parts =
         let noted : length (pairs (a .acks) acks) ≤ 256 = omega (arith, pairs-most (a .acks) acks, n .acks) in
-        rw (e, ← sending-checked f (x .queued) (x .outstanding) (x .transmissions) rs long sent has s, ← receiving-checked a (x .ready) (x .waiting) (x .numbers) ready waiting side (pairs (a .acks) acks) s (n .ready) (n .waiting) noted fits) refl
+        rw (e, ← sending-checked f (x .queued) (x .outstanding) (x .transmissions) rs long sent has s, ← receiving-checked a (x .ready) (x .waiting) (x .numbers) ready waiting side (pairs (a .acks) acks) s (n .ready) (n .waiting) noted below) refl
 
     sent-free : Free (markedAll none sendHolds) (slots (sendHeld (stateOf link rs acks .sending))) 0
     unfolding stateOf
@@ -97,38 +101,46 @@ module _ (s : Settings) (f : Flight) (a : Arrival) (k : Clock) (x : Arrays) (rs 
         receive-free = λ acks z. absurd (false≢true z);
       }
     where
-      never : (g t p x y : Bool) → (g && t && p) ≡ false → false ≡ (g && (x && t) && y && p)
-      never false t p x y e = refl
-      never true false p x y e = rw (and-false x) refl
-      never true true false x y e = sym (and-false (x && true && y))
-      never true true true x y e = absurd (false≢true (sym e))
+      never : (g t p c x y : Bool) → (g && t && p && c) ≡ false → false ≡ (g && (x && t) && y && p && c)
+      never false t p c x y e = refl
+      never true false p c x y e = rw (and-false x) refl
+      never true true false c x y e = rw (and-false (x && true && y)) refl
+      never true true true false x y e = sym (and-false (x && true && y && true))
+      never true true true true x y e = absurd (false≢true (sym e))
 
       go : (acks : List ℕ) (z : Bool) → counted f a ≡ z → false ≡ blockValid link rs acks
       go acks false z = rw z refl
-      go acks true z = never (inRange s) trip (probeFits (k .probe)) (sends && flies) receives (sym (rw z at e) ∙ not-true b t) ∙ sym (block-parts acks z)
+      go acks true z = never (inRange s) trip (probeFits (k .probe)) congested (sends && flies) receives (sym (rw z at e) ∙ not-true b t) ∙ sym (block-parts acks z)
 
   -- they do
   pub checked : (b : Bool) (p : ℕ) (send receive : List ℕ) (y₁ y₂ y₃ : Bool) → b ≡ numbersFit s f a k → not b ≡ false → p ≡ mss s
       → SendingFits p (x .queued) (f .queued) (x .outstanding) (x .transmissions) (f .outstanding) send y₁ → y₂ ≡ flies
       → ReceivingFits p (a .expected) (x .ready) (a .ready) (x .waiting) (x .numbers) (a .waiting) receive y₃ → Checked link rs send receive (y₁ && y₂ && y₃)
   checked b p send receive y₁ y₂ y₃ e t ep h₁ h₂ h₃ =
-      let g₁ = and-parts (counted f a && inRange s && trip) (probeFits (k .probe)) (sym e ∙ not-false b t) in
+      let g₀ = and-parts (counted f a && inRange s && trip && probeFits (k .probe)) congested (sym e ∙ not-false b t) in
+      let g₁ = and-parts (counted f a && inRange s && trip) (probeFits (k .probe)) (g₀ .0) in
       let g₂ = and-parts (counted f a && inRange s) trip (g₁ .0) in
       let g₃ = and-parts (counted f a) (inRange s) (g₂ .0) in
       record {
         send-whole = h₁ .whole;
         receive-whole = h₃ .whole;
-        fits = λ acks. rw (block-parts acks (g₃ .0), g₃ .1, g₂ .1, g₁ .1, ← ep, ← h₁ .fits, ← h₂, ← h₃ .fits) (turn y₁ y₂ y₃);
+        fits = λ acks. rw (block-parts acks (g₃ .0), g₃ .1, g₂ .1, g₁ .1, g₀ .1, ← ep, ← h₁ .fits, ← h₂, ← h₃ .fits) (turn y₁ y₂ y₃);
         send-free = λ acks z. rw (h₁ .marked (and-parts y₁ y₂ (and-parts (y₁ && y₂) y₃ z .0) .0)) (sent-free acks (g₃ .0));
         receive-free = λ acks z. rw (h₃ .marked (and-parts (y₁ && y₂) y₃ z .1)) (got-free acks (g₃ .0));
       }
     where
-      turn : (b₁ b₂ b₃ : Bool) → (b₁ && b₂ && b₃) ≡ (true && (b₁ && b₂ && true) && b₃ && true)
-      turn b₁ b₂ b₃ = sym (ap (λ (b : Bool). b && b₃ && true) (and-true (b₁ && b₂)) ∙ and-true (b₁ && b₂ && b₃))
+      turn : (b₁ b₂ b₃ : Bool) → (b₁ && b₂ && b₃) ≡ (true && (b₁ && b₂ && true) && b₃ && true && true)
+      turn b₁ b₂ b₃ =
+          sym
+          (ap (λ (b : Bool). b && b₃ && true && true) (and-true (b₁ && b₂))
+          ∙ and-true (b₁ && b₂ && b₃ && true)
+          ∙ and-true (b₁ && b₂ && b₃))
 
 -- the counts fit
 pub counted-of : (s : Settings) (f : Flight) (a : Arrival) (k : Clock) (b : Bool) → b ≡ numbersFit s f a k → not b ≡ false → Counts f a
 counted-of s f a k b e t =
-    let g₁ = and-parts (counted f a && inRange s && roundTripFits (s .mode) (f .rtt)) (probeFits (k .probe)) (sym e ∙ not-false b t) in
+    let g₀ = and-parts (counted f a && inRange s && roundTripFits (s .mode) (f .rtt) && probeFits (k .probe)) (fits (f .congestion) (mss s))
+        (sym e ∙ not-false b t) in
+    let g₁ = and-parts (counted f a && inRange s && roundTripFits (s .mode) (f .rtt)) (probeFits (k .probe)) (g₀ .0) in
     let g₂ = and-parts (counted f a && inRange s) (roundTripFits (s .mode) (f .rtt)) (g₁ .0) in
     counts f a (and-parts (counted f a) (inRange s) (g₂ .0) .0)

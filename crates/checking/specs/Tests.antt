@@ -7,9 +7,10 @@ use Prim.Native.Nat.{ℕ, _+_, _-_, _%_, _^_}
 use lib.Dec.{leb, ltb, eqb}
 use lib.ListN.{length, take, getD}
 use Rattle.protocol.specs.Protocol.{sendSlots, sendWindow, receiveWindow, deadAfter, skipsMost}
-use Rattle.protocol.specs.Ranges.{inRange}
+use Rattle.protocol.specs.Ranges.{inRange, mss}
 use Rattle.protocol.specs.Serial.{minus}
 use Rattle.protocol.specs.declared.Settings.{Settings}
+use Rattle.congestion.specs.Congestions.{fits}
 use Rattle.timing.specs.declared.Record.{Record}
 use Rattle.slots.specs.Slots.{slotsOf, once}
 use Rattle.session.specs.Valid.{all, heldFits, timeoutFits, roundTripFits, probeFits}
@@ -58,7 +59,8 @@ aheadFits expected ready numbers n =
 -- ---- what is no list
 
 abbrev pub numbersFit : Settings → Flight → Arrival → Clock → Bool
-numbersFit s f a k = counted f a && inRange s && roundTripFits (s .mode) (f .rtt) && probeFits (k .probe)
+numbersFit s f a k =
+    counted f a && inRange s && roundTripFits (s .mode) (f .rtt) && probeFits (k .probe) && fits (f .congestion) (mss s)
 
 -- ---- records of outstanding segments
 

@@ -1,13 +1,16 @@
-// What is no list: counts, settings, round trip and probe clock.
+// What is no list: counts, settings, round trip, probe clock and congestion window.
 use control::Arrival;
 use control::Clock;
 use control::Flight;
+use congestion::Congestion;
 use protocol::Protocol;
 use protocol::Settings;
 use timing::ProbeClock;
 use timing::RoundTrip;
 use timing::round_trip;
 ghost use mathlib.Core.Path.{_≡_};
+ghost use Rattle.protocol.specs.Ranges.{mss};
+ghost use Rattle.congestion.specs.Congestions.{fits};
 ghost use Rattle.session.specs.Valid.{timeoutFits, roundTripFits, probeFits};
 ghost use Rattle.control.specs.Views.{counted};
 ghost use Rattle.checking.specs.Tests.{numbersFit};
@@ -48,6 +51,14 @@ fn counts_fit(flight: Flight, arrival: Arrival) -> bool
         & (arrival.acks <= Protocol::ACKS_MOST)
 }
 
+// The congestion window, by the largest payload.
+fn congestion_fits(settings: Settings, congestion: Congestion) -> bool
+    ensures { λ r. ⌜ r ≡ fits congestion (mss settings) ⌝ }
+{
+    let most = settings.mss();
+    congestion.fits(most as u32)
+}
+
 // All that is no list.
 pub fn numbers_fit(settings: Settings, flight: Flight, arrival: Arrival, clock: Clock) -> bool
     ensures { λ r. ⌜ r ≡ numbersFit settings flight arrival clock ⌝ }
@@ -55,5 +66,6 @@ pub fn numbers_fit(settings: Settings, flight: Flight, arrival: Arrival, clock: 
     let counts = counts_fit(flight, arrival);
     let ranges = settings.in_range();
     let trip = round_trip_fits(settings.mode, flight.rtt);
-    counts & ranges & trip & probe_fits(clock.probe)
+    let probe = probe_fits(clock.probe);
+    counts & ranges & trip & probe & congestion_fits(settings, flight.congestion)
 }

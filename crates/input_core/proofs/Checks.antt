@@ -4,11 +4,13 @@ use mathlib.Core.Path.{_≡_, refl, sym, _∙_}
 use mathlib.Core.Bool.{Bool, true}
 use mathlib.Core.List.{List}
 use Prim.Native.Nat.{ℕ, _*_, _≤_}
+use native.Mathlib.Omega.{arith}
 use lib.ListN.{length}
 use Rattle.protocol.specs.Protocol.{sendSlots, receiveSlots, acksMost}
 use Rattle.protocol.specs.Ranges.{mss}
 use Rattle.protocol.specs.Serial.{minus}
 use Rattle.protocol.specs.declared.Refusal.{Refusal}
+use Rattle.congestion.specs.CongestionLaws.{growable}
 use Rattle.timing.specs.declared.Record.{Record}
 use Rattle.lists.specs.Orders.{sentOffset}
 use Rattle.sizes.specs.Sizes.{enough}
@@ -81,4 +83,6 @@ module _ (l : Link) (records : List Record) (n : Lengths) (pool acks send marks 
         sound = sound-start (l .arrival) (l .ready) (l .waiting) (l .«waiting_numbers») (l .settings) (l .flight) (pairs (l .arrival .acks) acks) acks pool few (made .settings) (made .receiving)
             (rw (← wide) (lent .acks))
             (rw (← many) (lent .receive));
+        growable = growable (mss (l .settings)) (l .flight .congestion) (omega (arith, made .settings .mtu-least)) (omega (arith, made .settings .mtu-most))
+            (made .congestion);
       }

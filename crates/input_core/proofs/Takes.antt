@@ -14,7 +14,7 @@ use Rattle.datagram.specs.Datagrams.{parse, counted}
 use Rattle.datagram.specs.StepLaws.{Begun, accepted, was-refused}
 use Rattle.datagram.specs.declared.Checked.{Checked}
 use Rattle.datagram.specs.declared.Checked.the-variants as checked
-use Rattle.session.specs.State.{Outcome, refused, done}
+use Rattle.session.specs.State.{Sending, Outcome, refused, done}
 use Rattle.session.specs.Input.{Receiver, Took, allByReceiving, applied, input}
 use Rattle.answers.specs.declared.Answer.the-variants as answer
 use Rattle.control.specs.Views.{arrays, linkOf, stateOf, countsFit, pairs, receivingOf}
@@ -26,7 +26,7 @@ use Rattle.promises.specs.Cores.{InputCore}
 use Rattle.acknowledge.specs.Flights as sending
 use Rattle.receive.specs.Halves as receiving
 use Rattle.receive.proofs.Starts.{receiver-view}
-use Rattle.input_core.specs.Taking.{flightOf, receiverIn}
+use Rattle.input_core.specs.Taking.{flightOf, receiverIn, grownFrom}
 
 -- ---- refused
 
@@ -53,9 +53,9 @@ module _ (c : Settings) (m : ℕ) (s : List ℕ) (v : Checked) (e : v ≡ counte
 module _ (l : Link) (records : List Record) (pool acks s : List ℕ) (f : Flight) (a : Arrival) (words transmissions ready waiting numbers : List ℕ) (records′ : List Record) (pool′ acks′ : List ℕ) (n : ℕ)
     (b : Begun (l .settings .conv) (mss (l .settings)) s n) where
   abbrev after : Link
-  after = linkOf (l .settings) f a (l .clock) (arrays (l .queued) words transmissions ready waiting numbers)
+  after = linkOf (l .settings) (grownFrom (l .settings) (l .flight) f) a (l .clock) (arrays (l .queued) words transmissions ready waiting numbers)
 
-  module _ (x : sending.HearsAll (l .settings) (l .clock .current) s (flightOf l records) (flightOf after records′))
+  module _ (x : sending.HearsAll (l .settings) (l .clock .current) s (flightOf l records) (sending.view f words transmissions records′))
       (y : receiving.HearsAll (l .settings) s (receiverIn l) acks pool (receiverIn after) acks′ pool′) where
     -- the receiving half and the pool
     received : record { half = receivingOf a ready waiting numbers (pairs (a .acks) acks′); pool = pool′ }
@@ -67,7 +67,9 @@ module _ (l : Link) (records : List Record) (pool acks s : List ℕ) (f : Flight
 
     outcome : input (stateOf l records acks) pool s ≡ done (record { state = stateOf after records′ acks′; pool = pool′ })
     unfolding input applied stateOf
-    outcome = rw (b .parsed, x (b .all) (b .parsed) .half (l .queued), ap (λ (z : Receiver). z .half) received, ap (λ (z : Receiver). z .pool) received)
+    outcome =
+        let half = x (b .all) (b .parsed) .half (l .queued) in
+        rw (b .parsed, half, ap (λ (z : Sending). z .una) half, ap (λ (z : Sending). z .window) half, ap (λ (z : Receiver). z .half) received, ap (λ (z : Receiver). z .pool) received)
 
     counts-after : countsFit l ≡ true → countsFit after ≡ true
     unfolding countsFit
@@ -77,10 +79,12 @@ module _ (l : Link) (records : List Record) (pool acks s : List ℕ) (f : Flight
         let u = y (b .all) (b .parsed) .sound in
         rw (h .queue, le-leb _ _ (k .queued), le-leb _ _ (h .fits), le-leb _ _ (u .ready), le-leb _ _ (u .waiting), le-leb _ _ (u .noted))
 
-    pub takes-all : countsFit l ≡ true → length acks′ ≡ length acks
-        → InputCore (input (stateOf l records acks) pool s) l pool acks answer.Accepted after (record { words = words; changed = f .outstanding; records = records′ }) pool′ acks′
-    takes-all e long =
-        rw outcome
+    pub takes-all : countsFit l ≡ true → length acks′ ≡ length acks → (g : Flight) → g ≡ grownFrom (l .settings) (l .flight) f
+        → InputCore (input (stateOf l records acks) pool s) l pool acks answer.Accepted
+        (linkOf (l .settings) g a (l .clock) (arrays (l .queued) words transmissions ready waiting numbers))
+        (record { words = words; changed = g .outstanding; records = records′ }) pool′ acks′
+    takes-all e long g q =
+        rw (q, outcome)
         (record {
           answer = refl;
           counts = counts-after e;

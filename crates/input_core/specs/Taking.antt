@@ -6,6 +6,7 @@ use mathlib.Core.List.{List}
 use Prim.Native.Nat.{ℕ}
 use Rattle.protocol.specs.Ranges.{mss}
 use Rattle.protocol.specs.declared.Settings.{Settings}
+use Rattle.congestion.specs.Congestions.{afterDatagram, Growable}
 use Rattle.timing.specs.declared.Record.{Record}
 use Rattle.session.specs.State.{Outcome}
 use Rattle.session.specs.Input.{Took}
@@ -34,6 +35,20 @@ pub record Hearable (l : Link) (records : List Record) (marks acks pool : List �
   pub order : InOrder (flightOf l records)
   pub marked : Marked (receiverIn l) marks 0
   pub sound : Sound (receiverIn l) (mss (l .settings)) acks pool
+  pub growable : Growable (mss (l .settings)) (l .flight .congestion)
+
+-- the numbers after a datagram, with the congestion window grown from what it was before
+abbrev pub grownFrom : Settings → Flight → Flight → Flight
+grownFrom c before after =
+    record {
+      una = after .una;
+      next = after .next;
+      rtt = after .rtt;
+      window = after .window;
+      congestion = afterDatagram (before .congestion) (mss c) (before .una) (after .una) (after .window);
+      queued = after .queued;
+      outstanding = after .outstanding;
+    }
 
 -- what the call leaves: `gives` is what the definition gives for the block with the numbers f and a and the arrays x; the answer, the
 -- numbers afterwards and what goes back into the table are t's

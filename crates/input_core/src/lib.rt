@@ -8,11 +8,14 @@ use datagram::Checked;
 use protocol::Settings;
 use sizes::Lengths;
 use timing::Record;
+ghost use mathlib.Core.Path.{_≡_};
 ghost use Rattle.session.specs.Input.{input};
 ghost use Rattle.control.specs.Views.{arrays, linkOf, Whole, stateOf};
 ghost use Rattle.promises.specs.Parts.{lentLengths};
 ghost use Rattle.promises.specs.Outcomes.{takesInWith};
-ghost use Rattle.input_core.specs.Taking.{Hearable, Takes};
+ghost use Rattle.protocol.specs.Ranges.{mss};
+ghost use Rattle.congestion.specs.Congestions.{Growable};
+ghost use Rattle.input_core.specs.Taking.{Hearable, grownFrom, Takes};
 
 // The answer, the numbers of both halves, and what goes back into the table: the first `changed` of the records, by their words.
 pub struct Taken {
@@ -22,6 +25,18 @@ pub struct Taken {
     pub words: [u32; 32],
     pub changed: usize,
     pub records: [Record; 32],
+}
+
+// The sending half's numbers after a datagram, with the congestion window grown from what it was before.
+fn grown(settings: Settings, before: Flight, after: Flight) -> Flight
+    requires { ⌜ Growable (mss settings) (before .congestion) ⌝ }
+    ensures { λ r. ⌜ r ≡ grownFrom settings before after ⌝ }
+{
+    let most = settings.mss();
+    let old = before.congestion;
+    let mut flight = after;
+    flight.congestion = old.after_datagram(most as u32, before.una, after.una, after.window);
+    flight
 }
 
 // A datagram over a block that has passed the checks of 7 and 13. Nothing is applied until all its segments have passed; then both
@@ -87,7 +102,7 @@ fn hear(
         receive_pool,
         acks,
     );
-    let after = sent.flight;
+    let after = grown(settings, flight, sent.flight);
     let kept = sent.records;
     let words = *outstanding;
     Taken {

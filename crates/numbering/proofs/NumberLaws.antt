@@ -81,48 +81,57 @@ ascending-short offset least limit (x ∷ l) e =
     omega (arith, ascending-short offset (offset x + 1) limit l (a .1), leb-true least (offset x) (b .0), ltb-true (offset x) limit (b .1))
 
 -- with those that are numbered now there are at most 32
-valid-few : (s : Sending) → numbersFit s ≡ true → length (s .outstanding) + numberedCount s ≤ 32
+valid-few : (w : ℕ) (s : Sending) → w ≤ sendWindow → numbersFit s ≡ true → length (s .outstanding) + numberedCount w s ≤ 32
 unfolding numbersFit numberedCount
-valid-few s e =
+valid-few w s h e =
     let a = and-parts _ _ (and-parts _ _ e .0) in
     let apart = minus (s .next) (s .una) in
     omega (arith, ascending-short (sentOffset (s .una)) 0 apart (s .outstanding) (a .0), leb-true apart sendWindow (a .1))
 
 -- the count of a sending half is that of its numbers
-count-of : (s : Sending) → numberedCount s ≡ countOf (length (s .queued)) (s .window) (s .next) (s .una)
+count-of : (w : ℕ) (s : Sending) → numberedCount w s ≡ countOf (length (s .queued)) w (s .next) (s .una)
 unfolding numberedCount
-count-of s = refl
+count-of w s = refl
 
-module _ (f : Flight) (queued outstanding transmissions : List ℕ) (records : List Record) (k : ℕ) (n : Numberable f queued outstanding transmissions records)
-    (e : k ≡ countOf (f .queued) (f .window) (f .next) (f .una)) where
+module _ (f : Flight) (window : ℕ) (queued outstanding transmissions : List ℕ) (records : List Record) (k : ℕ)
+    (n : Numberable f window queued outstanding transmissions records) (e : k ≡ countOf (f .queued) window (f .next) (f .una)) where
   abbrev half : Sending
   half = sendingOf f queued outstanding transmissions records
 
   held : length (heldIn queued (f .queued)) ≡ f .queued
   held = length-map (take (f .queued) queued) unpack ∙ length-take-le (f .queued) queued (omega (arith, n .queued-fits, n .queued-whole))
 
-  counted : k ≡ numberedCount half
-  counted = e ∙ ap (λ (m : ℕ). countOf m (f .window) (f .next) (f .una)) (sym held) ∙ sym (count-of half)
+  counted : k ≡ numberedCount window half
+  counted = e ∙ ap (λ (m : ℕ). countOf m window (f .next) (f .una)) (sym held) ∙ sym (count-of window half)
 
   -- there are so many, and there is room for them
   pub enough : k ≤ f .queued
   enough = omega arith
 
   pub few : length records ≡ 32 → f .outstanding + k ≤ 32
-  few g = omega (arith, valid-few half (n .numbers), counted, front-length outstanding transmissions records (n .outstanding-whole) (n .transmissions-whole) g (f .outstanding) (n .outstanding-fits))
+  few g = omega (arith, valid-few window half (n .window-fits) (n .numbers), counted, front-length outstanding transmissions records (n .outstanding-whole) (n .transmissions-whole) g (f .outstanding) (n .outstanding-fits))
 
   -- ---- what is left
 
   -- the numbers then, with this number as the next
   abbrev flown : ℕ → Flight
-  flown next = record { una = f .una; next = next; rtt = f .rtt; window = f .window; queued = f .queued - k; outstanding = f .outstanding + k }
+  flown next =
+      record {
+        una = f .una;
+        next = next;
+        rtt = f .rtt;
+        window = f .window;
+        congestion = f .congestion;
+        queued = f .queued - k;
+        outstanding = f .outstanding + k;
+      }
 
   -- some are numbered
   pub numbers-some : (next : ℕ) (queued′ outstanding′ transmissions′ : List ℕ) (records′ : List Record)
       → SentFront outstanding′ transmissions′ records′ (f .outstanding + k) (sentIn outstanding transmissions records (f .outstanding) ++ numbered (f .next) (heldIn queued k))
       → Front 128 queued′ (f .queued - k) (drop k (take (f .queued) queued))
       → next ≡ plus (f .next) k
-      → Numbers f queued outstanding transmissions records
+      → Numbers f window queued outstanding transmissions records
       (record { flight = flown next; records = records′ })
       queued′ outstanding′ transmissions′
   unfolding withNumbered
@@ -142,10 +151,10 @@ module _ (f : Flight) (queued outstanding transmissions : List ℕ) (records : L
       with-next q = rw q
 
   -- none is
-  pub numbers-none : k ≡ 0 → f .next < 2 ^ 32 → Numbers f queued outstanding transmissions records (record { flight = f; records = records }) queued outstanding transmissions
+  pub numbers-none : k ≡ 0 → f .next < 2 ^ 32 → Numbers f window queued outstanding transmissions records (record { flight = f; records = records }) queued outstanding transmissions
   unfolding withNumbered numbered
   numbers-none z h =
-      let none : numberedCount half ≡ 0 = sym counted ∙ z in
+      let none : numberedCount window half ≡ 0 = sym counted ∙ z in
       let same : plus (f .next) 0 ≡ f .next = omega arith in
       record {
         sent = record {

@@ -16,13 +16,14 @@ use Rattle.control.specs.Views.{sendingOf}
 use Rattle.numbering.specs.declared.Numbered.{Numbered}
 use Rattle.numbering.specs.Sents.{SentFront}
 
--- how many, of so many queued: while snd_nxt - snd_una is below the smaller of 32 and the peer's last window
+-- how many, of so many queued: while snd_nxt - snd_una is below the window
 abbrev pub countOf : ℕ → ℕ → ℕ → ℕ → ℕ
-countOf queued window next una = min queued (min sendWindow window - minus next una)
+countOf queued window next una = min queued (window - minus next una)
 
-module _ (f : Flight) (queued outstanding transmissions : List ℕ) (records : List Record) where
+module _ (f : Flight) (window : ℕ) (queued outstanding transmissions : List ℕ) (records : List Record) where
   -- what the check of 13 has established
   pub record Numberable : Type 0 where
+    pub window-fits : window ≤ sendWindow
     pub queued-whole : length queued ≡ 128
     pub outstanding-whole : length outstanding ≡ 32
     pub transmissions-whole : length transmissions ≡ 32
@@ -32,7 +33,7 @@ module _ (f : Flight) (queued outstanding transmissions : List ℕ) (records : L
 
   -- how many queued segments the window allows
   abbrev pub allowed : ℕ
-  allowed = numberedCount (sendingOf f queued outstanding transmissions records)
+  allowed = numberedCount window (sendingOf f queued outstanding transmissions records)
 
   -- so many are numbered, and outstanding; nothing else changes
   pub record Numbers (r : Numbered) (queued′ outstanding′ transmissions′ : List ℕ) : Type 0 where
@@ -46,6 +47,7 @@ module _ (f : Flight) (queued outstanding transmissions : List ℕ) (records : L
       next = plus (f .next) allowed;
       rtt = f .rtt;
       window = f .window;
+      congestion = f .congestion;
       queued = r .flight .queued;
       outstanding = r .flight .outstanding;
     }

@@ -1,6 +1,5 @@
 // Queued segments get numbers, in place: their words move behind those of the outstanding segments.
 use control::Flight;
-use protocol::Protocol;
 use protocol::serial;
 use timing::Record;
 ghost use mathlib.Core.Path.{_≡_};
@@ -24,11 +23,11 @@ fn least(a: usize, b: usize) -> usize
     if a < b { a } else { b }
 }
 
-// How many of the queued segments are numbered, with this window of the peer.
-fn numbered_count(queued: usize, window: u16, next: u32, una: u32) -> usize
+// How many of the queued segments are numbered, with this window.
+fn numbered_count(queued: usize, window: u32, next: u32, una: u32) -> usize
     ensures { λ r. ⌜ r ≡ countOf queued window next una ⌝ }
 {
-    let most = least(Protocol::SEND_WINDOW as usize, window as usize);
+    let most = window as usize;
     let apart = serial::difference(next, una) as usize;
     if most < apart {
         return 0;
@@ -78,19 +77,20 @@ fn number_first(
     rs
 }
 
-// Queued segments get numbers while the window allows.
+// Queued segments get numbers while this window allows.
 pub fn number(
     flight: Flight,
+    window: u32,
     queued: &mut [u32; 128],
     outstanding: &mut [u32; 32],
     transmissions: &mut [u8; 32],
     records: [Record; 32],
 ) -> Numbered
-    requires { ⌜ Numberable flight (now queued) (now outstanding) (now transmissions) records ⌝ }
-    ensures { λ r. ⌜ Numbers flight (now (queued .entry)) (now (outstanding .entry)) (now (transmissions .entry)) records
+    requires { ⌜ Numberable flight window (now queued) (now outstanding) (now transmissions) records ⌝ }
+    ensures { λ r. ⌜ Numbers flight window (now (queued .entry)) (now (outstanding .entry)) (now (transmissions .entry)) records
         r (now (queued .exit)) (now (outstanding .exit)) (now (transmissions .exit)) ⌝ }
 {
-    let k = numbered_count(flight.queued, flight.window, flight.next, flight.una);
+    let k = numbered_count(flight.queued, window, flight.next, flight.una);
     if k == 0 {
         return Numbered { flight, records };
     }

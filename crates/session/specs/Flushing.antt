@@ -63,19 +63,21 @@ transmittedNow c timeout t [] = []
 transmittedNow c timeout t (x ∷ l) =
     cond (transmittedOf c timeout t x .sends) (sentAfter c timeout t x ∷ transmittedNow c timeout t l) (transmittedNow c timeout t l)
 
--- one of them was transmitted 20 times
-abbrev pub someDead : List Sent → Bool
-someDead [] = false
-someDead (x ∷ l) = eqb (x .transmissions) deadAfter || someDead l
+-- the test holds of one of them
+abbrev pub some : (Sent → Bool) → List Sent → Bool
+some test [] = false
+some test (x ∷ l) = test x || some test l
 
--- one of these is sent because it was due, or because it was skipped
+-- one of those transmitted was so 20 times
+abbrev pub someDead : List Sent → Bool
+someDead = some (λ (x : Sent). eqb (x .transmissions) deadAfter)
+
+-- a flush at t sends one of these because it was due, or because it was skipped
 abbrev pub someLate : Settings → ℕ → ℕ → List Sent → Bool
-someLate c timeout t [] = false
-someLate c timeout t (x ∷ l) = transmittedOf c timeout t x .late || someLate c timeout t l
+someLate c timeout t = some (λ (x : Sent). transmittedOf c timeout t x .late)
 
 abbrev pub someFast : Settings → ℕ → ℕ → List Sent → Bool
-someFast c timeout t [] = false
-someFast c timeout t (x ∷ l) = transmittedOf c timeout t x .fast || someFast c timeout t l
+someFast c timeout t = some (λ (x : Sent). transmittedOf c timeout t x .fast)
 
 -- what a flush at t tells of losses: in flight are the numbers from snd_una to snd_nxt at its end
 abbrev pub lossesOf : State → ℕ → Losses

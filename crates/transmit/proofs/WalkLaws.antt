@@ -19,7 +19,7 @@ use Rattle.lists.specs.Views.{Holds}
 use Rattle.lists.proofs.Loops.{Packed, holds-as, packed-start, packed-put, packed-next, packed-done, view-end}
 use Rattle.datagram.specs.Datagrams.{Segment}
 use Rattle.session.specs.Decides.{All}
-use Rattle.session.specs.Flushing.{transmittedOf, sentAfter, transmittedNow, someDead, wished}
+use Rattle.session.specs.Flushing.{transmittedOf, sentAfter, transmittedNow, some, someDead, wished}
 use Rattle.packing.specs.declared.Packer.{Packer}
 use Rattle.packing.specs.Packers.{Fills, Room, Adds}
 use Rattle.packing.specs.PackerLaws.{adds-none, adds-append, adds-as, room-left}
@@ -28,7 +28,7 @@ use Rattle.numbering.specs.Sents.{sentIn}
 use Rattle.numbering.proofs.SentLaws.{sents, sents-take, sents-set, sents-get, sents-length, sents-front}
 use Rattle.transmit.specs.declared.Flush.{Flush}
 use Rattle.transmit.proofs.ControlLaws.{wished-none}
-use Rattle.transmit.specs.Writing.{ruleOf, afterFlush, sentBy, dataOf, InSlot, AllInSlots, sentAs, Walks}
+use Rattle.transmit.specs.Writing.{ruleOf, afterFlush, sentBy, lateBy, fastBy, dataOf, InSlot, AllInSlots, sentAs, Walks}
 
 -- ---- lists
 
@@ -43,9 +43,12 @@ all-next P l r i y e a = rw e at (all-drop l i a) .0
     all-drop [] (suc i) a = a
     all-drop (x ∷ l) (suc i) a = all-drop l i (a .1)
 
-dead-append : (l m : List Sent) → someDead (l ++ m) ≡ (someDead l || someDead m)
-dead-append [] m = refl
-dead-append (x ∷ l) m = rw (dead-append l m) (sym (or-assoc (eqb (x .transmissions) 20) (someDead l) (someDead m)))
+some-append : (test : Sent → Bool) (l m : List Sent) → some test (l ++ m) ≡ (some test l || some test m)
+some-append test [] m = refl
+some-append test (x ∷ l) m = rw (some-append test l m) (sym (or-assoc (test x) (some test l) (some test m)))
+
+some-more : (test : Sent → Bool) (l : List Sent) (y : Sent) → some test (l ++ (y ∷ [])) ≡ (some test l || test y)
+some-more test l y = rw (some-append test l (y ∷ []), or-false)
 
 -- ---- those that are sent
 
@@ -73,7 +76,7 @@ module _ (f : Flush) (y x : Sent) (sends : Bool) (p : sends ≡ ruleOf f y .send
       by-rule false = refl
 
   sent-dead : (l : List Sent) → someDead (sentBy f (l ++ (y ∷ []))) ≡ (someDead (sentBy f l) || (sends && eqb (x .transmissions) 20))
-  sent-dead l = rw (sent-append, one-sent, dead-append) (ap (λ (b : Bool). someDead (sentBy f l) || b) (by-rule sends))
+  sent-dead l = rw (sent-append, one-sent, some-append) (ap (λ (b : Bool). someDead (sentBy f l) || b) (by-rule sends))
     where
       by-rule : (b : Bool) → someDead (cond b (x ∷ []) []) ≡ (b && eqb (x .transmissions) 20)
       by-rule true = or-false (eqb (x .transmissions) 20)
@@ -82,20 +85,23 @@ module _ (f : Flush) (y x : Sent) (sends : Bool) (p : sends ≡ ruleOf f y .send
 -- ---- the loop
 
 -- The first i of the n segments have been handled.
-pub record Walking (f : Flush) (n : ℕ) (pool : List ℕ) (k₀ : Packer) (out₀ lengths₀ : List ℕ) (l₀ : List Sent) (ws ts : List ℕ) (rs : List Record) (k : Packer) (out lengths : List ℕ) (b : Bool) (i : ℕ) : Type 0 where
+pub record Walking (f : Flush) (n : ℕ) (pool : List ℕ) (k₀ : Packer) (out₀ lengths₀ : List ℕ) (l₀ : List Sent) (ws ts : List ℕ) (rs : List Record) (k : Packer) (out lengths : List ℕ) (b b₁ b₂ : Bool) (i : ℕ) : Type 0 where
   pub wholes : length ts ≡ 32
   pub list : Packed 32 n l₀ (sents ws ts rs) (map (afterFlush f) (drop i (take n l₀))) (map (afterFlush f) (take n l₀)) i i
   pub adds : Adds (f .settings .mtu) (map (dataOf f pool) (sentBy f (take i (take n l₀)))) (i * f .settings .mtu) i k₀ out₀ lengths₀ k out lengths
   pub dead : b ≡ someDead (sentBy f (take i (take n l₀)))
+  pub late : b₁ ≡ lateBy f (take i (take n l₀))
+  pub fast : b₂ ≡ fastBy f (take i (take n l₀))
 
 -- the same, by other names
-pub walking-as : {f : Flush} {n : ℕ} {pool : List ℕ} {k₀ : Packer} {out₀ lengths₀ : List ℕ} {l₀ : List Sent} {ws ts ts′ : List ℕ} {rs rs′ : List Record} {k k′ : Packer} {out out′ lengths lengths′ : List ℕ} {b b′ : Bool} {i : ℕ}
-    → ts′ ≡ ts → out′ ≡ out → lengths′ ≡ lengths → rs′ ≡ rs → k′ ≡ k → b′ ≡ b
-    → Walking f n pool k₀ out₀ lengths₀ l₀ ws ts rs k out lengths b i → Walking f n pool k₀ out₀ lengths₀ l₀ ws ts′ rs′ k′ out′ lengths′ b′ i
-walking-as et eo el er ek eb w = rw (et, eo, el, er, ek, eb) w
+pub walking-as : {f : Flush} {n : ℕ} {pool : List ℕ} {k₀ : Packer} {out₀ lengths₀ : List ℕ} {l₀ : List Sent} {ws ts ts′ : List ℕ} {rs rs′ : List Record} {k k′ : Packer} {out out′ lengths lengths′ : List ℕ} {b b′ late late′ fast fast′ : Bool} {i : ℕ}
+    → ts′ ≡ ts → out′ ≡ out → lengths′ ≡ lengths → rs′ ≡ rs → k′ ≡ k → b′ ≡ b → late′ ≡ late → fast′ ≡ fast
+    → Walking f n pool k₀ out₀ lengths₀ l₀ ws ts rs k out lengths b late fast i
+    → Walking f n pool k₀ out₀ lengths₀ l₀ ws ts′ rs′ k′ out′ lengths′ b′ late′ fast′ i
+walking-as et eo el er ek eb ea ef w = rw (et, eo, el, er, ek, eb, ea, ef) w
 
 pub walking-start : (f : Flush) (n : ℕ) (pool : List ℕ) (k₀ : Packer) (out₀ lengths₀ : List ℕ) (ws ts : List ℕ) (rs : List Record)
-    → n ≤ 32 → length ws ≡ 32 → length ts ≡ 32 → length rs ≡ 32 → Fills (f .settings .mtu) k₀ → Walking f n pool k₀ out₀ lengths₀ (sents ws ts rs) ws ts rs k₀ out₀ lengths₀ false 0
+    → n ≤ 32 → length ws ≡ 32 → length ts ≡ 32 → length rs ≡ 32 → Fills (f .settings .mtu) k₀ → Walking f n pool k₀ out₀ lengths₀ (sents ws ts rs) ws ts rs k₀ out₀ lengths₀ false false false 0
 unfolding transmittedNow
 walking-start f n pool k₀ out₀ lengths₀ ws ts rs h ew et er q =
     record {
@@ -103,10 +109,12 @@ walking-start f n pool k₀ out₀ lengths₀ ws ts rs h ew et er q =
       list = packed-start _ 0 0 (omega arith) (omega arith) h (sents-length ws ts rs ew et er);
       adds = adds-as (adds-none (f .settings .mtu) k₀ out₀ lengths₀ q) refl (omega arith) (omega arith);
       dead = refl;
+      late = refl;
+      fast = refl;
     }
 
-module _ (f : Flush) (n : ℕ) (pool : List ℕ) (k₀ : Packer) (out₀ lengths₀ : List ℕ) (l₀ : List Sent) (ws ts : List ℕ) (rs : List Record) (k : Packer) (out lengths : List ℕ) (dead : Bool) (i : ℕ)
-    (w : Walking f n pool k₀ out₀ lengths₀ l₀ ws ts rs k out lengths dead i) where
+module _ (f : Flush) (n : ℕ) (pool : List ℕ) (k₀ : Packer) (out₀ lengths₀ : List ℕ) (l₀ : List Sent) (ws ts : List ℕ) (rs : List Record) (k : Packer) (out lengths : List ℕ) (dead late fast : Bool) (i : ℕ)
+    (w : Walking f n pool k₀ out₀ lengths₀ l₀ ws ts rs k out lengths dead late fast i) where
   module _ (h : i < n) where
     -- there is room for the next one
     pub walking-room : Room (f .settings .mtu) (32 * f .settings .mtu) 32 k₀ out₀ lengths₀ → Room (f .settings .mtu) (f .settings .mtu) 1 k out lengths
@@ -138,7 +146,7 @@ module _ (f : Flush) (n : ℕ) (pool : List ℕ) (k₀ : Packer) (out₀ lengths
             → length ts′ ≡ 32 → set (sents ws ts rs) i (sentAs (getD ws i 0) x) ≡ sents ws ts′ rs′
             → Adds (f .settings .mtu) (wished (x .sends) (dataOf f pool (sentAs (getD ws i 0) x))) (f .settings .mtu) 1 k out lengths k′ out′ lengths′
             → b ≡ (x .sends && eqb (x .transmissions) 20)
-            → Walking f n pool k₀ out₀ lengths₀ l₀ ws ts′ rs′ k′ out′ lengths′ (dead || b) (i + 1)
+            → Walking f n pool k₀ out₀ lengths₀ l₀ ws ts′ rs′ k′ out′ lengths′ (dead || b) (late || x .late) (fast || x .fast) (i + 1)
         turn ts′ rs′ k′ out′ lengths′ b l s a t =
             let more = prefix-more (take n l₀) (drop (i + 1) (take n l₀)) i read next in
             let sends = ap (λ (y : Transmission). y .sends) e in
@@ -147,12 +155,14 @@ module _ (f : Flush) (n : ℕ) (pool : List ℕ) (k₀ : Packer) (out₀ lengths
               list = rw (← s, after) (packed-put h (rw next at (w .list)));
               adds = rw (more, sent-data f read (sentAs (getD ws i 0) x) (x .sends) sends after) (adds-as (adds-append (w .adds) a) refl (omega arith) (omega arith));
               dead = rw (more, sent-dead f read (sentAs (getD ws i 0) x) (x .sends) sends after, ← (w .dead), ← t);
+              late = rw (more, some-more, ← (w .late), ← e);
+              fast = rw (more, some-more, ← (w .fast), ← e);
             }
 
         -- it is sent
         pub walking-sent : (k′ : Packer) (out′ lengths′ : List ℕ) → x .sends ≡ true
             → Adds (f .settings .mtu) (dataOf f pool (sentAs (getD ws i 0) x) ∷ []) (f .settings .mtu) 1 k out lengths k′ out′ lengths′
-            → Walking f n pool k₀ out₀ lengths₀ l₀ ws (set ts i (x .transmissions)) (set rs i (x .updated)) k′ out′ lengths′ (dead || eqb (x .transmissions) 20) (i + 1)
+            → Walking f n pool k₀ out₀ lengths₀ l₀ ws (set ts i (x .transmissions)) (set rs i (x .updated)) k′ out′ lengths′ (dead || eqb (x .transmissions) 20) (late || x .late) (fast || x .fast) (i + 1)
         walking-sent k′ out′ lengths′ s a =
             turn (set ts i (x .transmissions)) (set rs i (x .updated)) k′ out′ lengths′ (eqb (x .transmissions) 20)
             (length-set ts i (x .transmissions) ∙ w .wholes)
@@ -161,17 +171,19 @@ module _ (f : Flush) (n : ℕ) (pool : List ℕ) (k₀ : Packer) (out₀ lengths
             (rw s)
 
         -- it is not sent, and stays
-        pub walking-kept : x .sends ≡ false → Walking f n pool k₀ out₀ lengths₀ l₀ ws ts rs k out lengths dead (i + 1)
+        pub walking-kept : x .sends ≡ false → Walking f n pool k₀ out₀ lengths₀ l₀ ws ts rs k out lengths dead late fast (i + 1)
         walking-kept s =
             let kept = e ∙ transmission-not-sent (f .settings) (f .timeout) (f .t) (getD ts i 0) (getD rs i r) (sym (ap (λ (y : Transmission). y .sends) e) ∙ s) in
-            rw or-false at (turn ts rs k out lengths false (w .wholes)
+            let on-time : x .late ≡ false = ap (λ (y : Transmission). y .late) kept in
+            let in-turn : x .fast ≡ false = ap (λ (y : Transmission). y .fast) kept in
+            rw (on-time, in-turn, or-false dead, or-false late, or-false fast) at (turn ts rs k out lengths false (w .wholes)
             (ap (λ (y : Sent). set (sents ws ts rs) i y) (ap (sentAs (getD ws i 0)) kept ∙ sym here) ∙ set-getD (sents ws ts rs) i (withRecord (outstandingAt 0 0) r))
             (wished-none _ _ _ _ k out lengths (x .sends) s (w .adds .fills))
             (rw s))
 
   -- all are handled
   pub walking-done : (ts₀ : List ℕ) (rs₀ : List Record) → l₀ ≡ sents ws ts₀ rs₀ → length ws ≡ 32 → n ≤ i
-      → Walks f (sentIn ws ts₀ rs₀ n) ws n pool k₀ out₀ lengths₀ (record { records = rs; packer = k; dead = dead }) ts out lengths
+      → Walks f (sentIn ws ts₀ rs₀ n) ws n pool k₀ out₀ lengths₀ (record { records = rs; packer = k; dead = dead; late = late; fast = fast }) ts out lengths
   walking-done ts₀ rs₀ q whole h =
       let all : i ≡ n = omega (arith, w .list .upto) in
       let here : take n l₀ ≡ sentIn ws ts₀ rs₀ n = rw q (sym (sents-take ws ts₀ rs₀ n)) in
@@ -183,4 +195,6 @@ module _ (f : Flush) (n : ℕ) (pool : List ℕ) (k₀ : Packer) (out₀ lengths
             (subst (λ (m : ℕ). Holds 32 (sents ws ts rs) m (map (afterFlush f) (sentIn ws ts₀ rs₀ n))) all
             (holds-as (packed-done (rw (view-end l₀ n i h)) (w .list)) (ap (map (afterFlush f)) here)));
         dead = rw front at (w .dead);
+        late = rw front at (w .late);
+        fast = rw front at (w .fast);
       }

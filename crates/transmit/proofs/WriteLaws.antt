@@ -57,10 +57,12 @@ pub writes-all : (f : Flush) (acks : List Ack) (ask tell : Bool) (l : List Sent)
     → Adds (f .settings .mtu) (map (ackSegment (carriedOf (f .carried))) acks ++ wished ask (control (carriedOf (f .carried)) windowAsk 0 0) ++ wished tell (control (carriedOf (f .carried)) windowTell 0 0)) n m k₀ out lengths k out′ lengths′
     → Walks f l words count pool k out′ lengths′ r transmissions′ out″ lengths″
     → Finishes (r .packer) lengths″ number lengths‴
-    → Writes f acks ask tell l words count pool out lengths (record { records = r .records; dead = r .dead; count = number }) transmissions′ out″ lengths‴
+    → Writes f acks ask tell l words count pool out lengths (record { records = r .records; dead = r .dead; late = r .late; fast = r .fast; count = number }) transmissions′ out″ lengths‴
 writes-all f acks ask tell l words count pool n m k₀ out lengths k out′ lengths′ r transmissions′ out″ lengths″ number lengths‴ e a v c =
     record {
       output = rw (append-assoc, append-assoc) at (output-of _ _ _ _ k₀ out lengths (r .packer) out″ lengths″ number lengths‴ e (adds-append a (v .adds)) c);
       sent = v .sent;
       dead = v .dead;
+      late = v .late;
+      fast = v .fast;
     }

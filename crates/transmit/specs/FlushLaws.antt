@@ -37,4 +37,6 @@ module _ (s : State) (t : ℕ) (f : Flush) (e : FlushOf s t f) (pool : List ℕ)
         output = rw same-datagrams at (w .output);
         sent = rw same-outstanding at (w .sent);
         dead = rw (w .dead, same-sent);
+        late = rw (w .late, e .settings, e .timeout, e .time);
+        fast = rw (w .fast, e .settings, e .timeout, e .time);
       }

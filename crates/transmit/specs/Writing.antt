@@ -14,7 +14,7 @@ use Rattle.lists.specs.declared.Sent.{Sent}
 use Rattle.datagram.specs.Datagrams.{Segment}
 use Rattle.session.specs.State.{Ack}
 use Rattle.session.specs.Decides.{All}
-use Rattle.session.specs.Flushing.{transmittedOf, sentAfter, transmittedNow, someDead, control, ackSegment, dataSegment, wished, packed}
+use Rattle.session.specs.Flushing.{transmittedOf, sentAfter, transmittedNow, someDead, someLate, someFast, control, ackSegment, dataSegment, wished, packed}
 use Rattle.packing.specs.declared.Packer.{Packer}
 use Rattle.packing.specs.Packers.{carriedOf, Output, bytesOfDatagrams, Adds}
 use Rattle.words.specs.Words.{unpack}
@@ -35,6 +35,13 @@ afterFlush f = sentAfter (f .settings) (f .timeout) (f .t)
 -- those that are sent, as they are then
 abbrev pub sentBy : Flush → List Sent → List Sent
 sentBy f = transmittedNow (f .settings) (f .timeout) (f .t)
+
+-- one is sent because it was due, or because it was skipped
+abbrev pub lateBy : Flush → List Sent → Bool
+lateBy f = someLate (f .settings) (f .timeout) (f .t)
+
+abbrev pub fastBy : Flush → List Sent → Bool
+fastBy f = someFast (f .settings) (f .timeout) (f .t)
 
 -- one of them as a data segment
 abbrev pub dataOf : Flush → List ℕ → Sent → Segment
@@ -61,11 +68,14 @@ pub record Sendable (f : Flush) (words transmissions : List ℕ) (records : List
   pub inside : AllInSlots (mss (f .settings)) (sentIn words transmissions records n)
   pub slots : 128 * mss (f .settings) ≤ length pool
 
--- all n segments of l are handled: those sent are put as data, each is as its rule leaves it, and dead says whether one sent was transmitted 20 times
+-- all n segments of l are handled: those sent are put as data, each is as its rule leaves it, and it is told whether one sent was transmitted
+-- 20 times, due or skipped
 pub record Walks (f : Flush) (l : List Sent) (words : List ℕ) (n : ℕ) (pool : List ℕ) (k : Packer) (out lengths : List ℕ) (r : Walked) (transmissions′ out′ lengths′ : List ℕ) : Type 0 where
   pub adds : Adds (f .settings .mtu) (map (dataOf f pool) (sentBy f l)) (32 * f .settings .mtu) 32 k out lengths (r .packer) out′ lengths′
   pub sent : SentFront words transmissions′ (r .records) n (map (afterFlush f) l)
   pub dead : r .dead ≡ someDead (sentBy f l)
+  pub late : r .late ≡ lateBy f l
+  pub fast : r .fast ≡ fastBy f l
 
 -- ---- all that is written
 
@@ -85,8 +95,11 @@ pub record Writable (f : Flush) (noted : ℕ) (acks words transmissions : List �
   pub bytes : 258 * 24 + 32 * f .settings .mtu ≤ length out
   pub sizes : 290 ≤ length lengths
 
--- what a flush writes: the output has its datagrams, each outstanding segment of l is as its rule leaves it, and dead says whether one sent was transmitted 20 times
+-- what a flush writes: the output has its datagrams, each outstanding segment of l is as its rule leaves it, and it is told whether one sent
+-- was transmitted 20 times, due or skipped
 pub record Writes (f : Flush) (acks : List Ack) (ask tell : Bool) (l : List Sent) (words : List ℕ) (n : ℕ) (pool out lengths : List ℕ) (r : Written) (transmissions′ out′ lengths′ : List ℕ) : Type 0 where
   pub output : Output (bytesOfDatagrams (packed (f .settings .mtu) (segmentsOf f acks ask tell pool (sentBy f l)))) out lengths (r .count) out′ lengths′
   pub sent : SentFront words transmissions′ (r .records) n (map (afterFlush f) l)
   pub dead : r .dead ≡ someDead (sentBy f l)
+  pub late : r .late ≡ lateBy f l
+  pub fast : r .fast ≡ fastBy f l

@@ -20,18 +20,22 @@ pub struct Flush {
 }
 
 // The records of the outstanding segments after the flush, the packer behind the data that was put, and whether one of those
-// sent was transmitted 20 times.
+// sent was transmitted 20 times, was due (late), or was skipped (fast).
 struct Walked {
     records: [Record; 32],
     packer: Packer,
     dead: bool,
+    late: bool,
+    fast: bool,
 }
 
 // What a flush has written: the records of the outstanding segments as they are then, whether one of those sent was
-// transmitted 20 times, and the number of datagrams.
+// transmitted 20 times, was due (late), or was skipped (fast), and the number of datagrams.
 pub struct Written {
     pub records: [Record; 32],
     pub dead: bool,
+    pub late: bool,
+    pub fast: bool,
     pub count: usize,
 }
 
@@ -85,6 +89,8 @@ pub fn write(
     Written {
         records: kept,
         dead: walked.dead,
+        late: walked.late,
+        fast: walked.fast,
         count,
     }
 }

@@ -71,6 +71,8 @@ pub(crate) fn put_outstanding(
     let mut rs = records;
     let mut k = packer;
     let mut dead = false;
+    let mut late = false;
+    let mut fast = false;
     let mut i: usize = 0;
     while i < n {
         let old = rs[i];
@@ -87,6 +89,8 @@ pub(crate) fn put_outstanding(
             rs[i] = updated;
             k = put_sent(k, flush, words[i], x, pool, out, lengths);
             dead = dead | (x.transmissions == Protocol::DEAD_AFTER);
+            late = late | x.late;
+            fast = fast | x.fast;
         }
         i += 1;
     }
@@ -94,5 +98,7 @@ pub(crate) fn put_outstanding(
         records: rs,
         packer: k,
         dead,
+        late,
+        fast,
     }
 }

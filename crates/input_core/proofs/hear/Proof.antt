@@ -2,6 +2,7 @@
 -- Assumes nothing.
 use mathlib.Core.Path.{refl}
 use borrow.Author.Needs.{needs}
+use Rattle.control.specs.Views.{linkOf}
 use Rattle.input_core.proofs.Takes.{takes-nothing, begun, refused-over, takes-all}
 use Rattle.input_core.proofs.hear.Statement.{statement}
 use Rattle.input_core.proofs.hear.Tie as tie
@@ -24,14 +25,28 @@ hear-requires-2 c κs =
       (_, begun (start .args .settings) _ _ _ (c .before .before .before .before .before .before .before .before .before .before .check .ensures) (c .before .before .before .before .before .before .before .before .before .before .before .mss .ensures) _ (c .before .before .before .before .before .before .before .before .enum-told .given .1)),
     )
 
+grown-requires : tie.Need-grown-requires
+grown-requires c κs =
+    let received = c .before .before .before .before in
+    let sent = received .before .before .before .before .before .before in
+    let told = sent .before .before .before in
+    told .before .before .before .before .before .before .before .pre .growable
+
 returns-2 : tie.Need-returns-2
 returns-2 c =
-    let start = c .before .before .before .before .before .before .before .before .before .before .before .before .before .before .before .before .before .before .before .before .before .before .before in
-    takes-all _ _ _ _ _ _ _ _ _ _ _ _ _ _ _ _ (begun (start .args .settings) _ _ _ (c .before .before .before .before .before .before .before .before .before .before .before .before .before .before .before .before .before .before .check .ensures) (c .before .before .before .before .before .before .before .before .before .before .before .before .before .before .before .before .before .before .before .mss .ensures) _ (c .before .before .before .before .before .before .before .before .before .before .before .before .before .before .before .before .enum-told .given .1))
-    (c .before .before .before .before .before .before .before .before .before .before .before .before .before .hear .ensures)
-    (c .before .before .before .before .before .before .before .hear2 .ensures .1)
+    let received = c .before .before .before .before .before .before .before in
+    let sent = received .before .before .before .before .before .before in
+    let told = sent .before .before .before in
+    let checks = told .before .before in
+    let start = checks .before .before .before .before .before in
+    takes-all (linkOf (start .args .settings) (start .args .flight) (start .args .arrival) (start .args .clock) _) _ _ _ _ (sent .hear .result .flight) _ _ _ _ _ _ _ _ _ _
+    (begun (start .args .settings) _ _ _ (checks .check .ensures) (checks .before .mss .ensures) _ (told .enum-told .given .1))
+    (sent .hear .ensures)
+    (received .hear2 .ensures .1)
     (start .pre .counts)
-    (c .before .before .before .before .before .before .before .hear2 .kept .1 .1 .1 .1 .1 .1 .1 .1 .0)
+    (received .hear2 .kept .1 .1 .1 .1 .1 .1 .1 .1 .0)
+    _
+    (c .before .before .grown .ensures)
 
 pub hear-spec : {M : Type 1} → statement M
 hear-spec =
@@ -44,6 +59,7 @@ hear-spec =
     (λ c. search needs)
     hear-requires
     hear-requires-2
+    grown-requires
     (λ c. search needs)
     (λ c. search needs)
     returns-2)

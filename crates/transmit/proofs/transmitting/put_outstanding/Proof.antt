@@ -12,11 +12,11 @@ use Rattle.transmit.proofs.transmitting.put_outstanding.Statement.{stat
 use Rattle.transmit.proofs.transmitting.put_outstanding.Tie as tie
 
 abbrev Inv-loop : tie.InvT-loop
-Inv-loop flush words transmissions₀ n pool out₀ lengths₀ rs₀ k₀ dead₀ i₀ transmissions out lengths rs k dead i =
-    Walking flush n pool k₀ out₀ lengths₀ (sents words transmissions₀ rs₀) words transmissions rs k out lengths dead i
+Inv-loop flush words transmissions₀ n pool out₀ lengths₀ rs₀ k₀ dead₀ late₀ fast₀ i₀ transmissions out lengths rs k dead late fast i =
+    Walking flush n pool k₀ out₀ lengths₀ (sents words transmissions₀ rs₀) words transmissions rs k out lengths dead late fast i
 
 abbrev μ-loop : tie.MeasureT-loop
-μ-loop flush words transmissions₀ n pool out₀ lengths₀ rs₀ k₀ dead₀ i₀ transmissions out lengths rs k dead i =
+μ-loop flush words transmissions₀ n pool out₀ lengths₀ rs₀ k₀ dead₀ late₀ fast₀ i₀ transmissions out lengths rs k dead late fast i =
     n - i
 
 loop-holds : tie.Need-loop-holds Inv-loop μ-loop
@@ -33,9 +33,9 @@ put-sent-requires c κs =
     let p = entry .pre in
     let w = head .loop .inv in
     let here = turn .loop-test .taken in (
-      walking-room _ _ _ _ _ _ _ _ _ _ _ _ _ _ _ w here (p .0),
+      walking-room _ _ _ _ _ _ _ _ _ _ _ _ _ _ _ _ _ w here (p .0),
       p .1 .mtu,
-      walking-inside _ _ _ _ _ _ _ _ _ _ _ _ _ _ _ w here (p .1 .whole) (record { number = 0; due = 0; timeout = 0; skips = 0 }) _
+      walking-inside _ _ _ _ _ _ _ _ _ _ _ _ _ _ _ _ _ w here (p .1 .whole) (record { number = 0; due = 0; timeout = 0; skips = 0 }) _
           (rw (← (sents-take (a .words .now) (a .transmissions .now) (a .records) (a .n))) (p .1 .inside)),
       p .1 .slots,
     )
@@ -51,17 +51,17 @@ loop-again c =
     let p = head .before .before .before .before .pre .1 in
     ⊎-elim
     (λ w.
-    walking-as (w .11) (w .12) (w .13) (w .14) (w .15) (w .16)
-    (walking-sent _ _ _ _ _ _ _ _ _ _ _ _ _ _ _ (head .loop .inv) (turn .loop-test .taken) (p .whole) _ _ (called .transmission .ensures) _ _ _ (w .0 .taken) (w .5 .ensures)))
+    walking-as (w .13) (w .14) (w .15) (w .16) (w .17) (w .18) (w .19) (w .20)
+    (walking-sent _ _ _ _ _ _ _ _ _ _ _ _ _ _ _ _ _ (head .loop .inv) (turn .loop-test .taken) (p .whole) _ _ (called .transmission .ensures) _ _ _ (w .0 .taken) (w .5 .ensures)))
     (λ w.
-    walking-as (w .1) (w .2) (w .3) (w .4) (w .5) (w .6)
-    (walking-kept _ _ _ _ _ _ _ _ _ _ _ _ _ _ _ (head .loop .inv) (turn .loop-test .taken) (p .whole) _ _ (called .transmission .ensures) (w .0 .left)))
+    walking-as (w .1) (w .2) (w .3) (w .4) (w .5) (w .6) (w .7) (w .8)
+    (walking-kept _ _ _ _ _ _ _ _ _ _ _ _ _ _ _ _ _ (head .loop .inv) (turn .loop-test .taken) (p .whole) _ _ (called .transmission .ensures) (w .0 .left)))
     (c .if1 .came)
 
 returns : tie.Need-returns Inv-loop μ-loop
 returns c =
     let p = c .before .before .before .before .before .pre .1 in
-    walking-done _ _ _ _ _ _ _ _ _ _ _ _ _ _ _ (c .before .loop .inv) _ _ refl (p .whole) (c .loop-test .left)
+    walking-done _ _ _ _ _ _ _ _ _ _ _ _ _ _ _ _ _ (c .before .loop .inv) _ _ refl (p .whole) (c .loop-test .left)
 
 pub put-outstanding-spec : {M : Type 1} → statement M
 put-outstanding-spec =
