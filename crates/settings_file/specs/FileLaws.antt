@@ -391,6 +391,10 @@ wrote c before after n w =
       file = rw (d .2, w .leaves) (stored-front (fileOf c) before (omega (arith, d .0, file-short c)));
     }
 
+-- what `write` counts is at most 17 bytes
+pub wrote-short : (c : Settings) (before after : List ℕ) (n : ℕ) → Writes c before (writing.Wrote n) after → n ≤ 17
+wrote-short c before after n w = omega (arith, decides c n (length before) (w .answer) .2, file-short c)
+
 -- the part that `write` leaves begins with a file that is read as these settings
 pub write-then-read : (c : Settings) (before after : List ℕ) (n : ℕ) → SettingsFit c → Writes c before (writing.Wrote n) after
     → readFrom (take n after) ≡ reading.Settings c
