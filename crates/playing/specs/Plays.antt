@@ -88,7 +88,7 @@ pub record PlaysUpdate (t : ℕ) (b : Bench) (s r a text : List ℕ) (x : Played
   pub done : Updated
   pub output : List ℕ
   pub lengths : List ℕ
-  pub promise : BenchUpdates t b s r a (replicate 22576 0) (replicate 290 0) done output lengths
+  pub promise : BenchUpdates t b s r a (replicate outputLeast 0) (replicate lengthsLeast 0) done output lengths
   pub says : Says (done .bench) (updateLines output lengths (done .answer)) text x text′
 
 pub record PlaysCheck (t : ℕ) (b : Bench) (s r a text : List ℕ) (x : Played) (text′ : List ℕ) : Type 0 where
