@@ -13,7 +13,7 @@
  *     void transmit(void *socket, const uint8_t *datagram, size_t len);   // your network
  *     size_t receive(void *socket, uint8_t *datagram, size_t room, uint32_t wait); // waits so many ms at most; 0: none came
  *
- *     AMPFERWEG_STATION_STORAGE(station, 256);                            // static, about 117 KiB for an mtu of 256
+ *     AMPFERWEG_STATION_STORAGE(station, 256);                            // static, about 145 KiB for an mtu of 256
  *
  *     int run(void *socket)
  *     {
