@@ -19,7 +19,16 @@ pub extern "C" fn ampferweg_settings_write(
     ensures { λ r. ⌜ Gives writingCode
         (λ a. Writes (settingsOf conv mtu mode interval threshold stream congestion) (now (file .entry)) a (now (file .exit))) r ⌝ }
 {
-    settings_calls::write(conv, mtu, mode, interval, threshold, stream, congestion, file)
+    settings_calls::write(
+        conv,
+        mtu,
+        mode,
+        interval,
+        threshold,
+        stream,
+        congestion,
+        file,
+    )
 }
 
 // Reads a file: 0, and its settings are stored; or the refusal, and nothing is.
@@ -40,5 +49,14 @@ pub extern "C" fn ampferweg_settings_read(
         (numbers (now (conv .exit)) (now (mtu .exit)) (now (mode .exit)) (now (interval .exit)) (now (threshold .exit))
         (now (stream .exit)) (now (congestion .exit))) ⌝ }
 {
-    settings_calls::read(file, conv, mtu, mode, interval, threshold, stream, congestion)
+    settings_calls::read(
+        file,
+        conv,
+        mtu,
+        mode,
+        interval,
+        threshold,
+        stream,
+        congestion,
+    )
 }

@@ -3,8 +3,9 @@
 use mathlib.Core.Path.{_≡_, refl, ap, subst}
 use mathlib.Core.Bool.{Bool, true, false}
 use mathlib.Core.List.{List}
-use Prim.Native.Nat.{ℕ}
+use Prim.Native.Nat.{ℕ, min}
 use native.Mathlib.Omega.{arith}
+use borrow.Author.Tests.{le-ltb}
 use lib.IntN.{ℤ, pos}
 use lib.ListN.{take}
 use lib.Signed.{ltZ}
@@ -42,7 +43,7 @@ refusal-below UnknownVersion = refl
 refusal-below NeedlessVersion = refl
 
 pub writing-below : (a : Writing) → ltZ (writingCode a) (pos 0) ≡ isRefusedWriting a
-writing-below (writing.Wrote n) = refl
+writing-below (writing.Wrote n) = le-ltb (min n 2147483647) 0 (omega arith)
 writing-below (writing.Refused r) = refusal-below r
 
 pub reading-below : (a : Reading) (r : ℤ) (before after : Numbers) → Stores a r before after → ltZ r (pos 0) ≡ isRefusedReading a
