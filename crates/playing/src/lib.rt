@@ -18,7 +18,8 @@ ghost use mathlib.Core.List.{_++_};
 ghost use Rattle.notation.specs.Ascii.{ascii};
 ghost use Rattle.transcript.specs.Lines.{bytesLine, refusalLine, answerLine, countLine, datagramLines, stateLine, heldLine};
 ghost use Rattle.bench_calls.specs.BenchPromises.{after};
-ghost use Rattle.playing.specs.Plays.{Says, still, NoCommand, Ok, PlaysOpen, PlaysSend, PlaysInput, PlaysFlush, PlaysUpdate, PlaysCheck, PlaysRead, PlaysSize, PlaysShow, PlaysJump, PlaysLend, PlaysPoke, PlaysHold, PlaysTool, PlaysUnopened, PlaysOnLink, settingsOf, Plays, PlaysLine};
+ghost use Rattle.playing.specs.Plays.{PlaysUpdate, PlaysCheck};
+ghost use Rattle.playing.specs.Plays.{Says, still, NoCommand, Ok, PlaysOpen, PlaysSend, PlaysInput, PlaysFlush, PlaysRead, PlaysSize, PlaysShow, PlaysJump, PlaysLend, PlaysPoke, PlaysHold, PlaysTool, PlaysUnopened, PlaysOnLink, settingsOf, Plays, PlaysLine};
 
 // The bench after a command, and the length of its answer.
 pub struct Played {
@@ -52,8 +53,9 @@ fn settings_of(
     interval: u32,
     threshold: u32,
     stream: u32,
+    congestion: u32,
 ) -> Settings
-    ensures { λ r. ⌜ r ≡ settingsOf conv mtu mode interval threshold stream ⌝ }
+    ensures { λ r. ⌜ r ≡ settingsOf conv mtu mode interval threshold stream congestion ⌝ }
 {
     Protocol::settings(
         conv,
@@ -62,6 +64,7 @@ fn settings_of(
         capped(interval, 65535) as u16,
         capped(threshold, 255) as u8,
         capped(stream, 255) as u8,
+        capped(congestion, 255) as u8,
     )
 }
 
@@ -470,8 +473,11 @@ pub fn play(
             interval,
             threshold,
             stream,
+            congestion,
         } => {
-            let settings = settings_of(conv, mtu, mode, interval, threshold, stream);
+            let settings = settings_of(
+                conv, mtu, mode, interval, threshold, stream, congestion,
+            );
             open(bench, settings, send_pool, receive_pool, acks, text)
         }
         _ => {
