@@ -8,7 +8,7 @@
 #include <stdio.h>
 #include <string.h>
 
-enum { SCRIPT_MOST = 1 << 20, LINE_MOST = 65000, WORDS_MOST = 7, ROOM_MOST = 60000 };
+enum { SCRIPT_MOST = 1 << 20, LINE_MOST = 65000, WORDS_MOST = 8, ROOM_MOST = 60000 };
 
 AMPFERWEG_STATION_STORAGE(station, 256);
 

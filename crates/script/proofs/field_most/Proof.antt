@@ -2,7 +2,7 @@
 -- Assumes nothing.
 use mathlib.Core.List.{[], _∷_}
 use Rattle.script.specs.Commands.{fieldMost}
-use Rattle.script.specs.CommandLaws.{one-of, none-of, most-8}
+use Rattle.script.specs.CommandLaws.{one-of, none-of, most-8, congestion-8, not-8}
 use Rattle.script.proofs.field_most.Statement.{statement}
 use Rattle.script.proofs.field_most.Tie as tie
 
@@ -13,4 +13,5 @@ field-most-spec =
     (tie.spec
     (λ c. rw (one-of 1 (3 ∷ 9 ∷ 18 ∷ []) _ (c .match .keys1)))
     (λ c. most-8 _ (c .match .keys2))
-    (λ c. rw (none-of 1 (3 ∷ 9 ∷ 18 ∷ []) _ (c .match .rest .0 .1), none-of 2 (4 ∷ 19 ∷ 20 ∷ []) _ (c .match .rest .1))))
+    (λ c. congestion-8 _ (c .match .keys3))
+    (λ c. rw (none-of 1 (3 ∷ 9 ∷ 18 ∷ []) _ (c .match .rest .0 .0 .1), not-8 _ (c .match .rest .0 .1) (c .match .rest .1))))
