@@ -13,7 +13,7 @@
 #include <string.h>
 #include <unistd.h>
 
-enum { MTU_MOST = 256, FILE_MOST = 1 << 18, HEADER = 24, PUSH = 81, TELL = 84, NUMBERS = 17 };
+enum { MTU_MOST = AMPFERWEG_MTU_MOST, FILE_MOST = 1 << 18, HEADER = 24, PUSH = 81, TELL = 84, NUMBERS = 17 };
 
 /* At its end a station stays until the peer has sent no data for QUIET_MS and four intervals, LINGER_MS at most, and says every
  * TELL_MS what it has. */
@@ -22,7 +22,8 @@ enum { QUIET_MS = 2000, LINGER_MS = 20000, TELL_MS = 100 };
 AMPFERWEG_STATION_STORAGE(station, MTU_MOST);
 
 static const char *name = "station", *peer_text, *send_file, *save_file, *settings_file, *keep_file;
-static uint32_t port, conv = 1, mtu = 256, mode = 1, interval = 10, threshold = 2, congestion, expect, hold, seconds = 20, hello_ms, silence = 5000;
+static uint32_t port, conv = 1, mtu = 256, mode = 1, interval = 10, threshold = 2, congestion;
+static uint32_t expect, hold, seconds = 20, hello_ms, silence = 5000;
 
 static const struct option options[] = {
     {"port", "PORT", "the port to listen on", NULL, &port, 1, 65535},
@@ -41,8 +42,8 @@ static const struct option options[] = {
     {"interval", "MS", "milliseconds between flushes at most (default 10)", NULL, &interval, 10, 5000},
     {"threshold", "SKIPS", "skips before a fast retransmission, 0 for none (default 2)", NULL, &threshold, 0, 100},
     {"congestion", "0|1", "1: send no more than the congestion window lets (default 0)", NULL, &congestion, 0, 1},
-    {"keep", "FILE", "write these five settings to a settings file, and end", &keep_file, NULL, 0, 0},
-    {"settings", "FILE", "open with the five settings of a settings file", &settings_file, NULL, 0, 0},
+    {"keep", "FILE", "write these settings to a settings file, and end", &keep_file, NULL, 0, 0},
+    {"settings", "FILE", "open with the settings of a settings file", &settings_file, NULL, 0, 0},
 };
 
 static struct sockaddr_in peer;
@@ -353,7 +354,7 @@ static void keep_settings(void)
     int out;
     if (result < 0) fail(keep_file, ampferweg_text(result));
     out = open(keep_file, O_WRONLY | O_CREAT | O_TRUNC, 0666);
-    if (out < 0 || write(out, file, sizeof file) != (ssize_t)sizeof file || close(out) < 0) fail(keep_file, "this file cannot be written");
+    if (out < 0 || write(out, file, (size_t)result) != result || close(out) < 0) fail(keep_file, "this file cannot be written");
     printf("%s: keeps the settings of conversation %lu\n", name, (unsigned long)conv);
 }
 
@@ -363,12 +364,13 @@ static void read_settings(void)
     uint8_t file[AMPFERWEG_SETTINGS_FILE_SIZE + 1];
     const int in = open(settings_file, O_RDONLY);
     const ssize_t len = in < 0 ? -1 : read(in, file, sizeof file);
+    uint32_t stream = 0;
     ampferweg_result result;
     if (len < 0) fail(settings_file, "this file cannot be read");
     close(in);
-    result = ampferweg_settings_read(file, (size_t)len, &conv, &mtu, &mode, &interval, &threshold);
+    result = ampferweg_settings_read(file, (size_t)len, &conv, &mtu, &mode, &interval, &threshold, &stream, &congestion);
     if (result < 0) fail(settings_file, ampferweg_text(result));
-    if (mtu > MTU_MOST) fail(settings_file, "this station is built for an mtu of 256 at most");
+    if (stream != 0) fail(settings_file, "this station sends messages: stream is 1 in this file");
 }
 
 /* Numbers that no earlier boot had. */
@@ -395,7 +397,7 @@ static void prepare(void)
     printf("%s: listens on port %u\n", name, port);
 }
 
-/* A settings file says all five settings; an option beside it would say one of them twice. */
+/* A settings file says all settings; an option beside it would say one of them twice. */
 static void check_options(int argc, char **argv)
 {
     static const char *const others[] = {"conv", "mtu", "mode", "interval", "threshold", "congestion", "keep"};
@@ -403,7 +405,7 @@ static void check_options(int argc, char **argv)
     expects = option_given(argc, argv, "expect");
     for (i = 0; settings_file != NULL && i < sizeof others / sizeof *others; i++) {
         if (!option_given(argc, argv, others[i])) continue;
-        fprintf(stderr, "station: --%s does not go with --settings, whose file says all five settings\n", others[i]);
+        fprintf(stderr, "station: --%s does not go with --settings, whose file says all settings\n", others[i]);
         exit(2);
     }
 }

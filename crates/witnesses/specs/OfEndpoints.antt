@@ -7,8 +7,7 @@ use Prim.Native.Nat.{ℕ}
 use native.Mathlib.Omega.{arith}
 use lib.ListN.{replicate}
 use lib.Seq.{sets}
-use Rattle.congestion.specs.Congestions as congestion
-use Rattle.congestion.specs.Congestions.{fits, usedWindow, atLeastOne, halved, bySkips, byTimeout, afterDatagram, grown, slowStart, avoidance, raised, widened, limited}
+use Rattle.protocol.specs.Protocol.{outputLeast, lengthsLeast}
 use Rattle.protocol.specs.declared.Refusal.the-variants.{NoMessage}
 use Rattle.protocol.specs.Serial.{signed, isBefore, isAfter, isDue}
 use Rattle.wire.specs.LittleEndian.{AllBytes, bytesOf, numberAt}
@@ -22,6 +21,8 @@ use Rattle.lists.specs.Orders.{insert, isHeld, ascending}
 use Rattle.lists.specs.Receiving.{advance, startsAt}
 use Rattle.lists.specs.Acknowledging.{select, firstNumberOr, skipBefore}
 use Rattle.sizes.specs.Sizes.{enough, enoughToFlush}
+use Rattle.congestion.specs.Congestions as congestion
+use Rattle.congestion.specs.Congestions.{usedWindow, slowStart, raised, widened, avoidance, limited, grown, afterDatagram, halved, bySkips, byTimeout, atLeastOne, fits}
 use Rattle.session.specs.Slots.{occurs, lowestFrom, lowestFree}
 use Rattle.session.specs.Valid.{numbersFit, waitingFits, settled, sendingValid, receivingValid, valid}
 use Rattle.session.specs.Cutting.{fragmentCount, segmentCount, pieces, cutAs}
@@ -63,7 +64,7 @@ unfoldable pub sent : Endpoint
 sent = afterSend fresh (sends (fresh .link) (fresh .parts) (104 ∷ 105 ∷ []))
 
 unfoldable pub flushed : Endpoint
-flushed = afterFlush sent (flushes (sent .link) (sent .parts) 22576 290 7)
+flushed = afterFlush sent (flushes (sent .link) (sent .parts) outputLeast lengthsLeast 7)
 
 unfoldable pub datagram : List ℕ
 datagram = 1 ∷ 0 ∷ 0 ∷ 0 ∷ 81 ∷ 0 ∷ 128 ∷ 0 ∷ 7 ∷ 0 ∷ 0 ∷ 0 ∷ 0 ∷ 0 ∷ 0 ∷ 0 ∷ 0 ∷ 0 ∷ 0 ∷ 0 ∷ 2 ∷ 0 ∷ 0 ∷ 0 ∷ 104 ∷ 105 ∷ []
@@ -112,7 +113,7 @@ record Met : Type 0 where
   bytes : AllBytes datagram
 
 met : Met
-unfolding sent flushed fresh heard finished datagram parts opened opening entriesOf countsFit stateOf pairs joining.joined blockValid scattered joined lengthsOf cutBy sendsWith takesInWith flushesWith readsWith signed isBefore isAfter isDue front back encode decode bytesOf numberAt verdict segmentOf tail walk parse longerWait nextClock nextSmoothed nextVariation leastTimeout timeoutOf sampled firstDue growth longerTimeout isSkipped transmission select firstNumberOr skipBefore advance startsAt insert isHeld ascending enough enoughToFlush datagramsBy pushesIn pushNumbers fragmentCount segmentCount pieces cutAs filled numbered numberedCount withNumbered transmittedNow written bytesOfSegments packOne packed flushing acknowledged sampledBy heardBySending pushed heardByReceiving allBySending allByReceiving ackNumbers furthest skipped applied input joinedIn message lengthOf messageSize afterRead reading place sending occurs lowestFrom lowestFree numbersFit waitingFits settled sendingValid receivingValid valid paired fits usedWindow congestion.afterFlush atLeastOne halved bySkips byTimeout afterDatagram grown slowStart avoidance raised widened limited
+unfolding usedWindow slowStart raised widened avoidance limited grown afterDatagram halved bySkips byTimeout atLeastOne fits congestion.afterFlush sent flushed fresh heard finished datagram parts opened opening entriesOf countsFit stateOf pairs joining.joined blockValid scattered joined lengthsOf cutBy sendsWith takesInWith flushesWith readsWith signed isBefore isAfter isDue front back encode decode bytesOf numberAt verdict segmentOf tail walk parse longerWait nextClock nextSmoothed nextVariation leastTimeout timeoutOf sampled firstDue growth longerTimeout isSkipped transmission select firstNumberOr skipBefore advance startsAt insert isHeld ascending enough enoughToFlush datagramsBy pushesIn pushNumbers fragmentCount segmentCount pieces cutAs filled numbered numberedCount withNumbered transmittedNow written bytesOfSegments packOne packed flushing acknowledged sampledBy heardBySending pushed heardByReceiving allBySending allByReceiving ackNumbers furthest skipped applied input joinedIn message lengthOf messageSize afterRead reading place sending occurs lowestFrom lowestFree numbersFit waitingFits settled sendingValid receivingValid valid paired
 met = record {
   opens = record {
     block = linkOf (opened c);
@@ -125,12 +126,12 @@ met = record {
     sees = refl;
   };
   flushes-it = record {
-    output = replicate 22576 0;
-    lengths = replicate 290 0;
+    output = replicate outputLeast 0;
+    lengths = replicate lengthsLeast 0;
     room = record { long = omega arith; many = omega arith };
     gives = count.Of 1;
-    output′ = sets (replicate 22576 0) 0 datagram;
-    lengths′ = sets (replicate 290 0) 0 (26 ∷ []);
+    output′ = sets (replicate outputLeast 0) 0 datagram;
+    lengths′ = sets (replicate lengthsLeast 0) 0 (26 ∷ []);
     promise = record {
       answer = refl;
       leaves = record {
@@ -178,6 +179,12 @@ opens-fresh = met .opens
 
 pub sends-it : Called fresh (Call.send (104 ∷ 105 ∷ [])) Answer.accepted sent
 sends-it = met .sends-it
+
+pub flushes-it : Called sent (Call.flush 7) (Answer.wrote (datagram ∷ [])) flushed
+flushes-it = met .flushes-it
+
+pub reads-nothing : Called fresh (Call.read 10) (Answer.refused NoMessage) fresh
+reads-nothing = met .reads-nothing
 
 -- ---- the three of them, since opening
 

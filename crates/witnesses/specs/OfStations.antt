@@ -9,7 +9,7 @@ use native.Mathlib.Omega.{arith}
 use lib.Dec.{ltb}
 use lib.ListN.{length, getD, replicate}
 use borrow.Author.Tests.{ltb-true}
-use Rattle.congestion.specs.Congestions.{fits, usedWindow, afterFlush, atLeastOne, halved, bySkips, byTimeout, afterDatagram, grown, slowStart, avoidance, raised, widened, limited}
+use Rattle.protocol.specs.Protocol.{outputLeast, lengthsLeast}
 use Rattle.protocol.specs.declared.Settings.{Settings}
 use Rattle.protocol.specs.declared.Refusal.the-variants.{NoMessage}
 use Rattle.protocol.specs.Serial.{signed, isBefore, isAfter, isDue}
@@ -23,6 +23,8 @@ use Rattle.lists.specs.Orders.{insert, isHeld, ascending}
 use Rattle.lists.specs.Receiving.{advance, startsAt}
 use Rattle.lists.specs.Acknowledging.{select, firstNumberOr, skipBefore}
 use Rattle.sizes.specs.Sizes.{enough, enoughToFlush}
+use Rattle.congestion.specs.Congestions as congestion
+use Rattle.congestion.specs.Congestions.{usedWindow, slowStart, raised, widened, avoidance, limited, grown, afterDatagram, halved, bySkips, byTimeout, atLeastOne, fits}
 use Rattle.session.specs.Slots.{occurs, lowestFrom, lowestFree}
 use Rattle.session.specs.Valid.{numbersFit, waitingFits, settled, sendingValid, receivingValid, valid}
 use Rattle.session.specs.Cutting.{fragmentCount, segmentCount, pieces, cutAs}
@@ -62,7 +64,7 @@ station = record {
   state = opened c;
   sendPool = replicate 3328 0;
   receivePool = replicate 6656 0;
-  lent = record { table = 128; ackList = 512; output = 22576; lengths = 290 };
+  lent = record { table = 128; ackList = 512; output = outputLeast; lengths = lengthsLeast };
 }
 
 -- a message of two segments, one that is refused, and one of one segment; a flush after the first, and one when its segments are due again
@@ -106,7 +108,7 @@ pub record Met : Type 0 where
   pub second-reads : readAnswers (history station seconds) ≡ Answer.message (replicate 27 7) ∷ Answer.message (9 ∷ []) ∷ []
 
 pub met : Met
-unfolding firsts seconds wrote station calls pushNumbers pushesIn signed isBefore isAfter isDue front back encode decode bytesOf numberAt verdict segmentOf tail walk parse longerWait nextClock nextSmoothed nextVariation leastTimeout timeoutOf sampled firstDue growth longerTimeout isSkipped transmission select firstNumberOr skipBefore advance startsAt insert isHeld ascending enough enoughToFlush step history after datagramsBy fragmentCount segmentCount pieces cutAs filled numbered numberedCount withNumbered transmittedNow written bytesOfSegments packOne packed flushing acknowledged sampledBy heardBySending pushed heardByReceiving allBySending allByReceiving ackNumbers furthest skipped applied input opened joinedIn message lengthOf messageSize afterRead reading place sending occurs lowestFrom lowestFree numbersFit waitingFits settled sendingValid receivingValid valid fits usedWindow afterFlush atLeastOne halved bySkips byTimeout afterDatagram grown slowStart avoidance raised widened limited
+unfolding usedWindow slowStart raised widened avoidance limited grown afterDatagram halved bySkips byTimeout atLeastOne fits congestion.afterFlush firsts seconds wrote station calls pushNumbers pushesIn signed isBefore isAfter isDue front back encode decode bytesOf numberAt verdict segmentOf tail walk parse longerWait nextClock nextSmoothed nextVariation leastTimeout timeoutOf sampled firstDue growth longerTimeout isSkipped transmission select firstNumberOr skipBefore advance startsAt insert isHeld ascending enough enoughToFlush step history after datagramsBy fragmentCount segmentCount pieces cutAs filled numbered numberedCount withNumbered transmittedNow written bytesOfSegments packOne packed flushing acknowledged sampledBy heardBySending pushed heardByReceiving allBySending allByReceiving ackNumbers furthest skipped applied input opened joinedIn message lengthOf messageSize afterRead reading place sending occurs lowestFrom lowestFree numbersFit waitingFits settled sendingValid receivingValid valid
 met = record {
   opens = record { state = refl; long = refl };
   sizes = refl;
