@@ -6,8 +6,6 @@ use mathlib.Core.Bool.{true, false}
 use mathlib.Core.List.{List, [], _∷_}
 use mathlib.Core.Logic.{_⊎_}
 use Prim.Native.Nat.{ℕ, _^_, _≤_, _<_}
-use lib.ListN.{length}
-use Rattle.protocol.specs.Protocol.{outputLeast, lengthsLeast}
 use Rattle.protocol.specs.Serial.{minus, isDue}
 use Rattle.protocol.specs.declared.Refusal.{Refusal}
 use Rattle.lists.specs.declared.Sent.{Sent}
@@ -19,7 +17,7 @@ use Rattle.answers.specs.declared.Update.{Update}
 use Rattle.answers.specs.declared.Update.the-variants as update
 use Rattle.promises.specs.Parts.{stateIn}
 use Rattle.promises.specs.Promises.{UpdatePromise}
-use Rattle.demands.specs.Steps.{Endpoint}
+use Rattle.demands.specs.Steps.{Endpoint, Room}
 
 -- the time t is from now until just before the named time
 pub record Within (now named t : ℕ) : Type 0 where
@@ -54,7 +52,7 @@ pub record StaysQuiet (now named : ℕ) (e : Endpoint) (given : List Update) (e�
 -- every update at t that has output and lengths as document 01 states flushes
 abbrev pub FlushesAt : ℕ → Endpoint → Type 0
 FlushesAt t e =
-    (a : Update) (e′ : Endpoint) (out lengths out′ lengths′ : List ℕ) → outputLeast ≤ length out → lengthsLeast ≤ length lengths
+    (a : Update) (e′ : Endpoint) (out lengths out′ lengths′ : List ℕ) → Room out lengths
     → UpdatePromise t (e .link) (e .parts) out lengths a (e′ .link) (e′ .parts) out′ lengths′
     → (n : ℕ) × (a ≡ update.Wrote n)
 

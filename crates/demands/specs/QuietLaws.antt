@@ -8,7 +8,6 @@ use mathlib.Core.Logic.{_⊎_, inl, inr, ⊎-elim}
 use Prim.Native.Nat.{ℕ, _^_, _≤_, _<_}
 use native.Mathlib.Omega.{arith}
 use lib.ListN.{length}
-use Rattle.protocol.specs.Protocol.{outputLeast, lengthsLeast}
 use Rattle.protocol.specs.Ranges.{mss}
 use Rattle.protocol.specs.Serial.{isDue}
 use Rattle.protocol.specs.declared.Settings.{Settings}
@@ -182,9 +181,9 @@ module _ (e : Endpoint) (now named : ℕ) (f : Fits (stateIn (e .link) (e .parts
   -- the update at the named time, where the schedule flushes then
   flushes-at : updated (stateIn (e .link) (e .parts) .schedule) named (stateIn (e .link) (e .parts) .settings .interval) .flushes ≡ true → FlushesAt named e
   unfolding updatesWith updating
-  flushes-at q a e′ out lengths out′ lengths′ long many h =
+  flushes-at q a e′ out lengths out′ lengths′ lent h =
       let p = told now named e check in
-      let room = long-flush (mss (e .link .settings)) (lengthsOf (e .parts)) (length out) (length lengths) (p .long) long many in
+      let room = long-flush (mss (e .link .settings)) (lengthsOf (e .parts)) (length out) (length lengths) (p .long) (lent .long) (lent .many) in
       let s = stateIn (e .link) (e .parts) in
       (length (flushing (withSchedule s (scheduledAt s named)) named (e .parts .sendPool) .datagrams), h .answer ∙ rw (room, p .made, q))
 

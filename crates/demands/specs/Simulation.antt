@@ -272,20 +272,20 @@ module _ (c : Settings) (range : inRange c ≡ true) (conv : c .conv < 2 ^ 32) (
       (rw (takes-own e is-long is-made d) at (h .promise .leaves)))
   own-call (Call.flush t) a e′ f h =
       let o = flushes-own e t (length (h .output)) (length (h .lengths))
-      (long-flush (mss (e .link .settings)) (lengthsOf (e .parts)) (length (h .output)) (length (h .lengths)) is-long (h .long) (h .many)) is-made in
+      (long-flush (mss (e .link .settings)) (lengthsOf (e .parts)) (length (h .output)) (length (h .lengths)) is-long (h .room .long) (h .room .many)) is-made in
       rw (h .sees)
       (flush-becomes e e′ (k .counts) (h .output) (h .lengths) (h .output′) (h .lengths′) (flushing (stateIn (e .link) (e .parts)) t (e .parts .sendPool)) (h .gives)
       (rw o at (h .promise .answer))
       (rw o at (h .promise .leaves))
-      (flush-fits t (h .output) (h .lengths) (stationOf e .state .schedule) f (h .long) (h .many)))
+      (flush-fits t (h .output) (h .lengths) (stationOf e .state .schedule) f (h .room .long) (h .room .many)))
   own-call (Call.update t) a e′ f h =
       let o = updates-own e t (length (h .output)) (length (h .lengths))
-      (long-flush (mss (e .link .settings)) (lengthsOf (e .parts)) (length (h .output)) (length (h .lengths)) is-long (h .long) (h .many)) is-made in
+      (long-flush (mss (e .link .settings)) (lengthsOf (e .parts)) (length (h .output)) (length (h .lengths)) is-long (h .room .long) (h .room .many)) is-made in
       rw (h .sees)
       (update-becomes e e′ (k .counts) (h .output) (h .lengths) (h .output′) (h .lengths′) (updating (stateIn (e .link) (e .parts)) t (e .parts .sendPool)) (h .gives)
       (rw o at (h .promise .answer))
       (rw o at (h .promise .leaves))
-      (update-fits t (h .output) (h .lengths) f (h .long) (h .many)))
+      (update-fits t (h .output) (h .lengths) f (h .room .long) (h .room .many)))
   own-call (Call.check t) a e′ f h = record {
     station = ap stationOf (sym (h .same));
     answer = sym (h .sees ∙ named-seen (h .gives) _ (h .promise .answer ∙ checks-own e is-long is-made t));

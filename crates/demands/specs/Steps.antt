@@ -72,12 +72,16 @@ pub record TakenIn (datagram : List ℕ) (e : Endpoint) (a : Answer) (e′ : End
   pub promise : InputPromise datagram (e .link) (e .parts) gives (e′ .link) (e′ .parts)
   pub sees : a ≡ acceptance gives
 
--- into any output and lengths that are as long as document 01 states
+-- output and lengths are as long as document 01 states
+pub record Room (output lengths : List ℕ) : Type 0 where
+  pub long : outputLeast ≤ length output
+  pub many : lengthsLeast ≤ length lengths
+
+-- into any such output and lengths
 pub record Flushed (t : ℕ) (e : Endpoint) (a : Answer) (e′ : Endpoint) : Type 0 where
   pub output : List ℕ
   pub lengths : List ℕ
-  pub long : outputLeast ≤ length output
-  pub many : lengthsLeast ≤ length lengths
+  pub room : Room output lengths
   pub gives : Count
   pub output′ : List ℕ
   pub lengths′ : List ℕ
@@ -93,12 +97,11 @@ pub record Read (room : ℕ) (e : Endpoint) (a : Answer) (e′ : Endpoint) : Typ
   pub promise : ReadPromise (e .link) (e .parts) buffer gives (e′ .link) (e′ .parts) buffer′
   pub sees : a ≡ messageSeen gives buffer′
 
--- into any output and lengths that are as long as document 01 states, whether or not it flushes
+-- the same, whether or not it flushes
 pub record Updated (t : ℕ) (e : Endpoint) (a : Answer) (e′ : Endpoint) : Type 0 where
   pub output : List ℕ
   pub lengths : List ℕ
-  pub long : outputLeast ≤ length output
-  pub many : lengthsLeast ≤ length lengths
+  pub room : Room output lengths
   pub gives : Update
   pub output′ : List ℕ
   pub lengths′ : List ℕ

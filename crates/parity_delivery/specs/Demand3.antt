@@ -154,6 +154,8 @@ fed-with sent [] f = tt
 fed-with sent (Call.takeIn d ∷ xs) f = (⊎-elim (λ m. m) (λ r. recovered-sent sent d r) (f .0), fed-with sent xs (f .1))
 fed-with sent (Call.send m ∷ xs) f = fed-with sent xs f
 fed-with sent (Call.flush t ∷ xs) f = fed-with sent xs f
+fed-with sent (Call.update t ∷ xs) f = fed-with sent xs f
+fed-with sent (Call.check t ∷ xs) f = fed-with sent xs f
 fed-with sent (Call.read room ∷ xs) f = fed-with sent xs f
 
 -- one sender and two receivers, as in demand 3, the receivers fed with or without parity

@@ -48,4 +48,6 @@ FedThrough sent [] = Unit {0}
 FedThrough sent (Call.takeIn d ∷ xs) = (List·Memᴰ d sent ⊎ Recovered sent d) × FedThrough sent xs
 FedThrough sent (Call.send m ∷ xs) = FedThrough sent xs
 FedThrough sent (Call.flush t ∷ xs) = FedThrough sent xs
+FedThrough sent (Call.update t ∷ xs) = FedThrough sent xs
+FedThrough sent (Call.check t ∷ xs) = FedThrough sent xs
 FedThrough sent (Call.read room ∷ xs) = FedThrough sent xs

@@ -16,7 +16,7 @@ use Rattle.protocol.specs.declared.Settings.{Settings}
 use Rattle.wire.specs.LittleEndian.{bytesOf, numberAt, AllBytes}
 use Rattle.wire.specs.LittleEndianLaws.{number-of-bytes, bytes-of-number, length-bytesOf}
 use Rattle.wire.specs.Stores.{sets-append}
-use Rattle.settings_file.specs.Files.{mark, front, back, fileOf, writeInto, Writes, sameFirst, isMarked, settingsAt, ranged, readFrom}
+use Rattle.settings_file.specs.Files.{mark, front, back, fileOf, inFile, writeInto, Writes, sameFirst, isMarked, settingsAt, ranged, readFrom}
 use Rattle.settings_file.specs.declared.FileRefusal.{FileRefusal}
 use Rattle.settings_file.specs.declared.FileRefusal.the-variants.{ShortPart, SettingOutOfRange, NotSettings, UnknownVersion}
 use Rattle.settings_file.specs.declared.Reading.{Reading}
@@ -36,14 +36,15 @@ unfolding fileOf front back bytesOf
 length-file c = refl
 
 -- the settings of a file's bytes are those that it was written from
-settings-of-file : (c : Settings) → SettingsFit c → settingsAt (fileOf c) ≡ c
+settings-of-file : (c : Settings) → SettingsFit c → c .stream ≡ 0 → settingsAt (fileOf c) ≡ c
 unfolding settingsAt fileOf front back bytesOf numberAt
-settings-of-file c r = λ i. record {
+settings-of-file c r off = λ i. record {
   conv = number-of-bytes 4 (c .conv) (r .conv) i;
   mtu = number-of-bytes 2 (c .mtu) (r .mtu) i;
   mode = number-of-bytes 1 (c .mode) (r .mode) i;
   interval = number-of-bytes 2 (c .interval) (r .interval) i;
   threshold = number-of-bytes 1 (c .threshold) (r .threshold) i;
+  stream = sym off i;
 }
 
 -- ---- stored one behind the other
@@ -113,11 +114,11 @@ module _ (c : Settings) (l : List ℕ) where
   unfolding writeInto
   no-room a = record { answer = simp tests; leaves = refl }
 
-  pub out-of-range : 15 ≤ length l → inRange c ≡ false → Writes c l (writing.Refused SettingOutOfRange) l
+  pub out-of-range : 15 ≤ length l → inFile c ≡ false → Writes c l (writing.Refused SettingOutOfRange) l
   unfolding writeInto
   out-of-range a b = record { answer = simp (b, tests); leaves = refl }
 
-  pub written : {m : List ℕ} → 15 ≤ length l → inRange c ≡ true → m ≡ sets l 0 (fileOf c) → Writes c l writing.Whole m
+  pub written : {m : List ℕ} → 15 ≤ length l → inFile c ≡ true → m ≡ sets l 0 (fileOf c) → Writes c l writing.Whole m
   unfolding writeInto
   written a b e = record { answer = simp (b, tests); leaves = e }
 
@@ -152,9 +153,12 @@ versioned : (c : Settings) → numberAt 2 (fileOf c) 3 ≡ 1
 unfolding fileOf front bytesOf numberAt
 versioned c = refl
 
--- settings in range that are written and read back are returned
-pub read-written : (c : Settings) → SettingsFit c → inRange c ≡ true → readFrom (fileOf c) ≡ reading.Settings c
-read-written c r e = sym (whole-file (fileOf c) (marked c) (versioned c) (length-file c)) ∙ rw (settings-of-file c r, e)
+-- settings in range, with stream off, that are written and read back are returned
+pub read-written : (c : Settings) → SettingsFit c → inFile c ≡ true → readFrom (fileOf c) ≡ reading.Settings c
+read-written c r e =
+    let p = and-parts (inRange c) (eqb (c .stream) 0) e in
+    sym (whole-file (fileOf c) (marked c) (versioned c) (length-file c))
+    ∙ rw (settings-of-file c r (eqb-true (c .stream) 0 (p .1)), p .0)
 
 -- what a file that is accepted has passed
 record Accepted (f : List ℕ) (c : Settings) : Type 0 where
@@ -232,19 +236,19 @@ written-read f c b e =
 
 -- ---- the round trips, of the part that writing leaves
 
--- what was written is the file of settings in range
+-- what was written is the file of settings that a file can have
 pub record Wrote (c : Settings) (before after : List ℕ) : Type 0 where
   pub room : 15 ≤ length before
-  pub range : inRange c ≡ true
+  pub range : inFile c ≡ true
   pub file : take 15 after ≡ fileOf c
 
-whole-decides : (c : Settings) (n : ℕ) → writing.Whole ≡ writeInto c n → (15 ≤ n) × (inRange c ≡ true)
+whole-decides : (c : Settings) (n : ℕ) → writing.Whole ≡ writeInto c n → (15 ≤ n) × (inFile c ≡ true)
 unfolding writeInto
-whole-decides c n e = go (leb 15 n) refl (inRange c) refl e
+whole-decides c n e = go (leb 15 n) refl (inFile c) refl e
   where
-    go : (a : Bool) → leb 15 n ≡ a → (b : Bool) → inRange c ≡ b
+    go : (a : Bool) → leb 15 n ≡ a → (b : Bool) → inFile c ≡ b
         → writing.Whole ≡ cond a (cond b writing.Whole (writing.Refused SettingOutOfRange)) (writing.Refused ShortPart)
-        → (15 ≤ n) × (inRange c ≡ true)
+        → (15 ≤ n) × (inFile c ≡ true)
     go true p true q h = (leb-true 15 n p, q)
     go true p false q h = absurd (let z : _≡_ {A = ℕ} 0 1 = cc in omega arith)
     go false p b q h = absurd (let z : _≡_ {A = ℕ} 0 1 = cc in omega arith)

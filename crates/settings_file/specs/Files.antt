@@ -53,9 +53,14 @@ back c = bytesOf 4 (c .conv) ++ bytesOf 2 (c .mtu) ++ bytesOf 1 (c .mode) ++ byt
 unfoldable pub fileOf : Settings → List ℕ
 fileOf c = front ++ back c
 
--- writing into a part this long gives 7, then 12
+-- the settings that a file can have: in range, and stream off
+abbrev pub inFile : Settings → Bool
+inFile c = inRange c && eqb (c .stream) 0
+
+-- writing into a part this long gives 7, then 12, also for stream on
 unfoldable pub writeInto : Settings → ℕ → Writing
-writeInto c n = cond (leb fileSize n) (cond (inRange c) writing.Whole (writing.Refused SettingOutOfRange)) (writing.Refused ShortPart)
+writeInto c n =
+    cond (leb fileSize n) (cond (inFile c) writing.Whole (writing.Refused SettingOutOfRange)) (writing.Refused ShortPart)
 
 -- the part afterwards: the file at its start, which is as it was beyond it; refused, it is as it was
 abbrev pub Leaves : Settings → Writing → List ℕ → List ℕ → Type 0
@@ -77,7 +82,7 @@ sameFirst (suc n) a b = sameFirst n a b && eqb (getD a n 0) (getD b n 0)
 unfoldable pub isMarked : List ℕ → Bool
 isMarked f = sameFirst 3 f mark
 
--- the settings of its bytes, in range or not
+-- the settings of its bytes, in range or not: a file means stream off
 unfoldable pub settingsAt : List ℕ → Settings
 settingsAt f =
     record {
@@ -86,6 +91,7 @@ settingsAt f =
       mode = numberAt 1 f 11;
       interval = numberAt 2 f 12;
       threshold = numberAt 1 f 14;
+      stream = 0;
     }
 
 -- settings in range, or 12

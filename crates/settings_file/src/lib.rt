@@ -6,7 +6,7 @@ ghost use mathlib.Core.Path.{_≡_};
 ghost use Prim.Native.Nat.{_≤_};
 ghost use lib.ListN.{length};
 ghost use lib.Seq.{sets};
-ghost use Rattle.settings_file.specs.Files.{fileSize, numberOf, front, back, fileOf, isMarked, settingsAt, ranged, readFrom, Writes};
+ghost use Rattle.settings_file.specs.Files.{fileSize, numberOf, front, back, fileOf, inFile, isMarked, settingsAt, ranged, readFrom, Writes};
 
 // The mark, which every file begins with.
 const MARK: [u8; 3] = *b"KLS";
@@ -75,14 +75,22 @@ fn put_back(out: &mut [u8], settings: Settings)
     number::put_u8(out, 14, settings.threshold);
 }
 
-// Writes the file of these settings at the start of a part: 7 where the part is under 15 bytes, then 12. No other byte changes.
+// Whether a file can have these settings: in range, and stream off.
+fn in_file(settings: Settings) -> bool
+    ensures { λ r. ⌜ r ≡ inFile settings ⌝ }
+{
+    settings.in_range() & (settings.stream == 0)
+}
+
+// Writes the file of these settings at the start of a part: 7 where the part is under 15 bytes, then 12, also for stream on. No other byte
+// changes.
 pub fn write(settings: Settings, out: &mut [u8]) -> Writing
     ensures { λ r. ⌜ Writes settings (now (out .entry)) r (now (out .exit)) ⌝ }
 {
     if out.len() < SIZE {
         return Writing::Refused(FileRefusal::ShortPart);
     }
-    if settings.in_range() {
+    if in_file(settings) {
         put_front(out);
         put_back(out, settings);
         return Writing::Whole;
@@ -106,7 +114,7 @@ fn is_marked(file: &[u8]) -> bool
     true
 }
 
-// The settings of a file's 15 bytes, in range or not.
+// The settings of a file's 15 bytes, in range or not: stream off.
 fn settings_at(file: &[u8]) -> Settings
     requires { ⌜ fileSize ≤ length (now file) ⌝ }
     ensures { λ r. ⌜ r ≡ settingsAt (now (file .entry)) ⌝ }
@@ -117,6 +125,7 @@ fn settings_at(file: &[u8]) -> Settings
         interval: number::read_u16(file, 12),
         mode: number::read_u8(file, 11),
         threshold: number::read_u8(file, 14),
+        stream: 0,
     }
 }
 

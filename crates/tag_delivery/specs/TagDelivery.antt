@@ -9,7 +9,7 @@ use mathlib.Core.List.{List, [], _∷_, List·Memᴰ, List·Memᴰ·head, List·
 use Prim.Native.Nat.{ℕ}
 use Rattle.protocol.specs.declared.Settings.{Settings}
 use Rattle.session.specs.Calls.{Call, Event, acceptedList, datagramsBy, readAnswers, messagesRead}
-use Rattle.delivery.specs.Hearing.{FewPushes, FedWith, HearsMore, start, both-take, both-read, first-sends, first-flushes, second-sends, second-flushes}
+use Rattle.delivery.specs.Hearing.{FewPushes, FedWith, HearsMore, start, both-take, both-read, first-sends, first-flushes, first-updates, first-checks, second-sends, second-flushes, second-updates, second-checks}
 use Rattle.demands.specs.Steps.{Endpoint, SinceOpening}
 use Rattle.demands.specs.Demand3.{demand-3}
 use Rattle.tag_message.specs.Messages.{nameIn}
@@ -25,6 +25,8 @@ hears-itself (Call.takeIn d ∷ xs) = both-take (hears-itself xs)
 hears-itself (Call.read room ∷ xs) = both-read (hears-itself xs)
 hears-itself (Call.send m ∷ xs) = first-sends (second-sends (hears-itself xs))
 hears-itself (Call.flush t ∷ xs) = first-flushes (second-flushes (hears-itself xs))
+hears-itself (Call.update t ∷ xs) = first-updates (second-updates (hears-itself xs))
+hears-itself (Call.check t ∷ xs) = first-checks (second-checks (hears-itself xs))
 
 -- messages taken into a table, one after the other, refused ones included
 pub data Takes : List (List ℕ) → List ℕ → List ℕ → Type 0 where

@@ -46,7 +46,14 @@ linkOf s =
         waiting = length (receiving .waiting);
         acks = length (receiving .acks);
       };
-      clock = record { probe = s .probe; current = s .current; ask = flag (s .ask); dead = flag (s .dead) };
+      clock = record {
+        probe = s .probe;
+        current = s .current;
+        «next_flush» = s .schedule .next;
+        ask = flag (s .ask);
+        dead = flag (s .dead);
+        updated = flag (s .schedule .made);
+      };
       queued = map word (sending .queued);
       outstanding = map (λ (x : Sent). word (x .held)) (sending .outstanding);
       transmissions = map (λ (x : Sent). x .transmissions) (sending .outstanding);

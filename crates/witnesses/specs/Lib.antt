@@ -1,3 +1,4 @@
 pub mod OfStations
 pub mod Blocks
 pub mod OfEndpoints
+pub mod OfQuiet

@@ -124,8 +124,7 @@ met = record {
   flushes-it = record {
     output = replicate 22576 0;
     lengths = replicate 290 0;
-    long = omega arith;
-    many = omega arith;
+    room = record { long = omega arith; many = omega arith };
     gives = count.Of 1;
     output′ = sets (replicate 22576 0) 0 datagram;
     lengths′ = sets (replicate 290 0) 0 (26 ∷ []);
@@ -170,6 +169,12 @@ met = record {
   fed = (List·Memᴰ·head refl, tt);
   bytes = bytes-by datagram refl;
 }
+
+pub opens-fresh : Opens c fresh
+opens-fresh = met .opens
+
+pub sends-it : Called fresh (Call.send (104 ∷ 105 ∷ [])) Answer.accepted sent
+sends-it = met .sends-it
 
 -- ---- the three of them, since opening
 

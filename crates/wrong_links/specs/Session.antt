@@ -1,4 +1,4 @@
--- A session that is computed: a sender sends a message of two segments and one of one, flushes, and takes in two acks; a receiver takes the two
+-- A session that is computed: a sender sends a message of two segments and one of one, flushes, or updates three times, and takes in two acks; a receiver takes the two
 -- datagrams in and reads both messages. The second datagram has two segments, the last of the first message and the second message.
 -- Assumes nothing.
 use mathlib.Core.Path.{_≡_, refl}
@@ -22,8 +22,10 @@ use Rattle.lists.specs.Receiving.{advance, startsAt}
 use Rattle.lists.specs.declared.Sent.{Sent}
 use Rattle.lists.specs.Acknowledging.{select, firstNumberOr, skipBefore}
 use Rattle.sizes.specs.Sizes.{enough}
+use Rattle.schedule.specs.Schedules as scheduling
+use Rattle.schedule.specs.Schedules.{isAstray, corrected, started, following, ahead, earliest, named}
 use Rattle.session.specs.Slots.{occurs, lowestFrom, lowestFree}
-use Rattle.session.specs.State.{Outcome, refused, done}
+use Rattle.session.specs.State.{Outcome, refused, done, withTimes, withSchedule}
 use Rattle.session.specs.Valid.{numbersFit, waitingFits, settled, sendingValid, receivingValid, valid}
 use Rattle.session.specs.Opening.{opened, opening}
 use Rattle.session.specs.Cutting.{fragmentCount, pieces, cut}
@@ -33,6 +35,8 @@ use Rattle.session.specs.Input as input-of
 use Rattle.session.specs.Input.{Took, sampledBy, heardBySending, pushed, heardByReceiving, allBySending, allByReceiving, ackNumbers, furthest, skipped, applied, input}
 use Rattle.session.specs.Reading as reading-of
 use Rattle.session.specs.Reading.{Reads, joinedIn, message, lengthOf, messageSize, reading, telling, showing}
+use Rattle.session.specs.Updating as session
+use Rattle.session.specs.Updating.{updating, checking}
 use Rattle.promises.specs.Promises.{shown}
 use Rattle.wrong_links.specs.Standing.{Known, Passes, lengthsKnown}
 
@@ -90,6 +94,19 @@ flushed = record { state = flush .state; sendPool = bothSent .sendPool; receiveP
 unfoldable pub datagrams : List (List ℕ)
 datagrams = map bytesOfSegments (flush .datagrams)
 
+-- or it updates: the first one flushes, the next waits, and at the next flush time there is nothing to write
+unfoldable pub update : Flushed
+update = flushing (withSchedule (bothSent .state) (record { next = 105; made = true })) 5 (bothSent .sendPool)
+
+unfoldable pub updated : Known
+updated = record { state = update .state; sendPool = bothSent .sendPool; receivePool = bothSent .receivePool }
+
+unfoldable pub rested : Known
+rested = record { state = withTimes (updated .state) 6 (updated .state .schedule); sendPool = updated .sendPool; receivePool = updated .receivePool }
+
+unfoldable pub laterUpdate : Flushed
+laterUpdate = flushing (withSchedule (rested .state) (record { next = 205; made = true })) 105 (rested .sendPool)
+
 -- acks of the segments 0 and 1, in one datagram; una is after none
 abbrev pub ackOf : ℕ → Header
 ackOf n = record { conv = 1; cmd = ack; frg = 0; wnd = 128; ts = 5; sn = n; una = 0; len = 0 }
@@ -135,6 +152,8 @@ pub record AllPass : Type 0 where
   pub one-sent : Passes oneSent
   pub both-sent : Passes bothSent
   pub one-flushed : Passes flushed
+  pub one-updated : Passes updated
+  pub one-rested : Passes rested
   pub one-heard : Passes oneHeard
   pub both-heard : Passes bothHeard
   pub one-read : Passes oneRead
@@ -147,6 +166,14 @@ pub record Computed : Type 0 where
   pub sends-second : isDone (sending (oneSent .state) (oneSent .sendPool) second) ≡ true
   pub datagram-count : length (flush .datagrams) ≡ 2
   pub datagram-sizes : map (λ (d : List ℕ). length d) datagrams ≡ 50 ∷ 50 ∷ []
+  pub updates-first : updating (bothSent .state) 5 (bothSent .sendPool) ≡ session.flushes update
+  pub update-count : length (update .datagrams) ≡ 2
+  pub update-datagrams : map bytesOfSegments (update .datagrams) ≡ datagrams
+  pub updates-waiting : updating (updated .state) 6 (updated .sendPool) ≡ session.waits (rested .state)
+  pub updates-later : updating (rested .state) 105 (rested .sendPool) ≡ session.flushes laterUpdate
+  pub later-none : laterUpdate .datagrams ≡ []
+  pub checks-first : checking (bothSent .state) 5 ≡ 5
+  pub checks-later : checking (rested .state) 6 ≡ 105
   pub takes-acks : isDone (input (flushed .state) (flushed .receivePool) acks) ≡ true
   pub left-outstanding : map (λ (x : Sent). x .record .number) (acknowledged .state .sending .outstanding) ≡ 2 ∷ []
   pub takes-first : isDone (input (fresh .state) (fresh .receivePool) (getD datagrams 0 [])) ≡ true
@@ -161,12 +188,14 @@ pub record Computed : Type 0 where
   pub reads-none : reading (bothRead .state) (bothRead .receivePool) 30 ≡ refused NoMessage
 
 pub all-pass : AllPass
-unfolding sendPool receivePool first second oneSent bothSent flush flushed datagrams acks acknowledged oneHeard bothHeard oneRead bothRead opened opening enough signed isBefore isAfter isDue front back encode decode bytesOf numberAt verdict segmentOf tail walk parse longerWait nextClock nextSmoothed nextVariation leastTimeout timeoutOf sampled firstDue growth longerTimeout isSkipped transmission select firstNumberOr skipBefore advance startsAt insert isHeld ascending fragmentCount pieces cut numbered numberedCount withNumbered transmittedNow written bytesOfSegments packOne packed flushing input-of.acknowledged sampledBy heardBySending pushed heardByReceiving allBySending allByReceiving ackNumbers furthest skipped applied input joinedIn message lengthOf messageSize reading-of.afterRead reading telling showing place sending occurs lowestFrom lowestFree numbersFit waitingFits settled sendingValid receivingValid valid
+unfolding sendPool receivePool first second oneSent bothSent flush flushed update updated rested laterUpdate datagrams acks acknowledged oneHeard bothHeard oneRead bothRead opened opening enough signed isBefore isAfter isDue front back encode decode bytesOf numberAt verdict segmentOf tail walk parse longerWait nextClock nextSmoothed nextVariation leastTimeout timeoutOf sampled firstDue growth longerTimeout isSkipped transmission select firstNumberOr skipBefore advance startsAt insert isHeld ascending fragmentCount pieces cut numbered numberedCount withNumbered transmittedNow written bytesOfSegments packOne packed flushing input-of.acknowledged sampledBy heardBySending pushed heardByReceiving allBySending allByReceiving ackNumbers furthest skipped applied input joinedIn message lengthOf messageSize reading-of.afterRead reading telling showing place sending occurs lowestFrom lowestFree numbersFit waitingFits settled sendingValid receivingValid valid
 all-pass = record {
   at-first = record { long = refl; made = refl };
   one-sent = record { long = refl; made = refl };
   both-sent = record { long = refl; made = refl };
   one-flushed = record { long = refl; made = refl };
+  one-updated = record { long = refl; made = refl };
+  one-rested = record { long = refl; made = refl };
   one-heard = record { long = refl; made = refl };
   both-heard = record { long = refl; made = refl };
   one-read = record { long = refl; made = refl };
@@ -174,13 +203,21 @@ all-pass = record {
 }
 
 pub computed : Computed
-unfolding sendPool receivePool first second oneSent bothSent flush flushed datagrams acks acknowledged oneHeard bothHeard oneRead bothRead opened opening enough signed isBefore isAfter isDue front back encode decode bytesOf numberAt verdict segmentOf tail walk parse longerWait nextClock nextSmoothed nextVariation leastTimeout timeoutOf sampled firstDue growth longerTimeout isSkipped transmission select firstNumberOr skipBefore advance startsAt insert isHeld ascending fragmentCount pieces cut numbered numberedCount withNumbered transmittedNow written bytesOfSegments packOne packed flushing input-of.acknowledged sampledBy heardBySending pushed heardByReceiving allBySending allByReceiving ackNumbers furthest skipped applied input joinedIn message lengthOf messageSize reading-of.afterRead reading telling showing place sending occurs lowestFrom lowestFree numbersFit waitingFits settled sendingValid receivingValid valid
+unfolding sendPool receivePool first second oneSent bothSent flush flushed update updated rested laterUpdate datagrams acks acknowledged oneHeard bothHeard oneRead bothRead opened opening enough signed isBefore isAfter isDue front back encode decode bytesOf numberAt verdict segmentOf tail walk parse longerWait nextClock nextSmoothed nextVariation leastTimeout timeoutOf sampled firstDue growth longerTimeout isSkipped transmission select firstNumberOr skipBefore advance startsAt insert isHeld ascending fragmentCount pieces cut numbered numberedCount withNumbered transmittedNow written bytesOfSegments packOne packed flushing input-of.acknowledged sampledBy heardBySending pushed heardByReceiving allBySending allByReceiving ackNumbers furthest skipped applied input joinedIn message lengthOf messageSize reading-of.afterRead reading telling showing place sending occurs lowestFrom lowestFree numbersFit waitingFits settled sendingValid receivingValid valid scheduling.updated isAstray corrected started following ahead earliest named updating checking
 computed = record {
   opens = refl;
   sends-first = refl;
   sends-second = refl;
   datagram-count = refl;
   datagram-sizes = refl;
+  updates-first = refl;
+  update-count = refl;
+  update-datagrams = refl;
+  updates-waiting = refl;
+  updates-later = refl;
+  later-none = refl;
+  checks-first = refl;
+  checks-later = refl;
   takes-acks = refl;
   left-outstanding = refl;
   takes-first = refl;

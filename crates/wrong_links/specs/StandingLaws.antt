@@ -18,6 +18,8 @@ use Rattle.session.specs.Sending.{Sends, sending}
 use Rattle.session.specs.Input.{Took, input}
 use Rattle.session.specs.Flushing.{Flushed, flushing, bytesOfSegments}
 use Rattle.session.specs.Reading.{Reads, reading, telling, showing}
+use Rattle.session.specs.Updating as session
+use Rattle.session.specs.Updating.{Updates, waits, updating, checking}
 use Rattle.control.specs.Views.{stateOf, blockValid}
 use Rattle.control.specs.declared.Link.{Link}
 use Rattle.records.specs.TableLaws.{scattered-length}
@@ -26,10 +28,13 @@ use Rattle.answers.specs.declared.Answer.{Answer}
 use Rattle.answers.specs.declared.Answer.the-variants as answer
 use Rattle.answers.specs.declared.Count.{Count}
 use Rattle.answers.specs.declared.Count.the-variants as count
+use Rattle.answers.specs.declared.Update.{Update}
+use Rattle.answers.specs.declared.Update.the-variants as update
+use Rattle.answers.specs.declared.Time.{Time}
 use Rattle.promises.specs.Parts.{Parts, lengthsOf, isMade}
-use Rattle.promises.specs.Outcomes.{sendsWith, takesInWith, flushesWith, readsWith, tellsWith, showsWith, opens, sends, takesIn, flushes, reads, tells, shows}
-use Rattle.promises.specs.Answers.{Accepts, Counts, countOutcome}
-use Rattle.promises.specs.Promises.{OpenPromise, OpenLeaves, SendPromise, SendLeaves, InputPromise, InputLeaves, FlushPromise, FlushLeaves, ReadPromise, NoRead, ReadLeaves, SizePromise, ShowPromise, shown}
+use Rattle.promises.specs.Outcomes.{sendsWith, takesInWith, flushesWith, updatesWith, checksWith, readsWith, tellsWith, showsWith, opens, sends, takesIn, flushes, updates, checks, reads, tells, shows}
+use Rattle.promises.specs.Answers.{Accepts, Counts, countOutcome, updateAnswer, timeOutcome}
+use Rattle.promises.specs.Promises.{OpenPromise, OpenLeaves, SendPromise, SendLeaves, InputPromise, InputLeaves, Flushes, FlushPromise, FlushLeaves, UpdatePromise, UpdateLeaves, CheckPromise, ReadPromise, NoRead, ReadLeaves, SizePromise, ShowPromise, shown}
 use Rattle.wrong_links.specs.Standing.{Known, Lends, At, Passes, lengthsKnown}
 
 -- ---- opening
@@ -67,6 +72,15 @@ module _ (l : Link) (p : Parts) (k : Known) (at : At l p k) (passes : Passes k) 
   flushes-known : (out lengths t : ℕ) → leb outputLeast out ≡ true → leb lengthsLeast lengths ≡ true → flushes l p out lengths t ≡ done (flushing (k .state) t (k .sendPool))
   unfolding flushesWith enoughToFlush
   flushes-known out lengths t o n = rw (long-known, o, n, made-known, at .stands .state, at .lends .sendPool)
+
+  updates-known : (out lengths t : ℕ) → leb outputLeast out ≡ true → leb lengthsLeast lengths ≡ true
+      → updates l p out lengths t ≡ done (updating (k .state) t (k .sendPool))
+  unfolding updatesWith enoughToFlush
+  updates-known out lengths t o n = rw (long-known, o, n, made-known, at .stands .state, at .lends .sendPool)
+
+  checks-known : (t : ℕ) → checks l p t ≡ done (checking (k .state) t)
+  unfolding checksWith
+  checks-known t = rw (long-known, made-known, at .stands .state)
 
   reads-known : (room : ℕ) → reads l p room ≡ reading (k .state) (k .receivePool) room
   unfolding readsWith
@@ -116,31 +130,61 @@ module _ (l : Link) (p : Parts) (k : Known) (at : At l p k) (passes : Passes k) 
         },
       )
 
+  -- what a flush leaves
+  pub record Wrote (x : Flushed) (l′ : Link) (p′ : Parts) (out lengths out′ lengths′ : List ℕ) : Type 0 where
+    pub after : At l′ p′ (record { state = x .state; sendPool = k .sendPool; receivePool = k .receivePool })
+    pub output : Output (map bytesOfSegments (x .datagrams)) out lengths (length (x .datagrams)) out′ lengths′
+
+  wrote : (x : Flushed) (l′ : Link) (p′ : Parts) (out lengths out′ lengths′ : List ℕ) → Flushes x l′ p p′ out lengths out′ lengths′
+      → Wrote x l′ p′ out lengths out′ lengths′
+  wrote x l′ p′ out lengths out′ lengths′ h = record {
+    after = record {
+      stands = h .stands;
+      lends = record {
+        sendPool = h .sendPool ∙ at .lends .sendPool;
+        receivePool = h .receivePool ∙ at .lends .receivePool;
+        table = ap length (h .table) ∙ scattered-length (p .table) _ _ ∙ at .lends .table;
+        acks = ap length (h .acks) ∙ at .lends .acks;
+      };
+    };
+    output = h .output;
+  }
+
   -- a flush answers the number of the definition's datagrams, and these stand in its output
   pub flush-goes : (t : ℕ) (out lengths : List ℕ) (a : Count) (l′ : Link) (p′ : Parts) (out′ lengths′ : List ℕ) (x : Flushed)
       → leb outputLeast (length out) ≡ true
       → leb lengthsLeast (length lengths) ≡ true
       → flushing (k .state) t (k .sendPool) ≡ x
       → FlushPromise t l p out lengths a l′ p′ out′ lengths′
-      → (a ≡ count.Of (length (x .datagrams)))
-      × At l′ p′ (record { state = x .state; sendPool = k .sendPool; receivePool = k .receivePool })
-      × Output (map bytesOfSegments (x .datagrams)) out lengths (length (x .datagrams)) out′ lengths′
+      → (a ≡ count.Of (length (x .datagrams))) × Wrote x l′ p′ out lengths out′ lengths′
   flush-goes t out lengths a l′ p′ out′ lengths′ x o n e h =
       let r =
       subst (λ (o : Outcome Flushed). Counts (λ (y : Flushed). length (y .datagrams)) a o × FlushLeaves o l l′ p p′ out lengths out′ lengths′)
-      (flushes-known (length out) (length lengths) t o n ∙ ap done e) (h .answer, h .leaves) in (
-        r .0,
-        record {
-          stands = r .1 .stands;
-          lends = record {
-            sendPool = r .1 .sendPool ∙ at .lends .sendPool;
-            receivePool = r .1 .receivePool ∙ at .lends .receivePool;
-            table = ap length (r .1 .table) ∙ scattered-length (p .table) _ _ ∙ at .lends .table;
-            acks = ap length (r .1 .acks) ∙ at .lends .acks;
-          };
-        },
-        r .1 .output,
-      )
+      (flushes-known (length out) (length lengths) t o n ∙ ap done e) (h .answer, h .leaves) in
+      (r .0, wrote x l′ p′ out lengths out′ lengths′ (r .1))
+
+  module _ (t : ℕ) (out lengths : List ℕ) (a : Update) (l′ : Link) (p′ : Parts) (out′ lengths′ : List ℕ)
+      (o : leb outputLeast (length out) ≡ true) (n : leb lengthsLeast (length lengths) ≡ true) (h : UpdatePromise t l p out lengths a l′ p′ out′ lengths′) where
+    update-gives : (u : Updates) → updating (k .state) t (k .sendPool) ≡ u
+        → (a ≡ updateAnswer (done u)) × UpdateLeaves (done u) l l′ p p′ out lengths out′ lengths′
+    update-gives u e =
+        subst (λ (o : Outcome Updates). (a ≡ updateAnswer o) × UpdateLeaves o l l′ p p′ out lengths out′ lengths′)
+        (updates-known (length out) (length lengths) t o n ∙ ap done e) (h .answer, h .leaves)
+
+    -- an update that flushes by the definition answers and leaves the same
+    pub update-goes : (x : Flushed) → updating (k .state) t (k .sendPool) ≡ session.flushes x
+        → (a ≡ update.Wrote (length (x .datagrams))) × Wrote x l′ p′ out lengths out′ lengths′
+    update-goes x e = let r = update-gives (session.flushes x) e in (r .0, wrote x l′ p′ out lengths out′ lengths′ (r .1))
+
+    -- one that waits by the definition changes the state alone
+    pub update-waits : (s : State) → updating (k .state) t (k .sendPool) ≡ waits s
+        → (a ≡ update.Waited) × At l′ p′ (record { state = s; sendPool = k .sendPool; receivePool = k .receivePool }) × (p′ ≡ p) × (out′ ≡ out) × (lengths′ ≡ lengths)
+    update-waits s e =
+        let r = update-gives (waits s) e in
+        (r .0, record { stands = r .1 .stands; lends = rw (r .1 .parts) (at .lends) }, r .1 .parts, r .1 .output, r .1 .sizes)
+
+  pub check-goes : (t : ℕ) (a : Time) → CheckPromise t l p a → timeOutcome a ≡ done (checking (k .state) t)
+  check-goes t a h = h .answer ∙ checks-known t
 
   -- a read answers the length of the definition's message, and this stands in its buffer
   pub read-goes : (buffer : List ℕ) (a : Count) (l′ : Link) (p′ : Parts) (buffer′ : List ℕ) (x : Reads)

@@ -1,13 +1,15 @@
 -- The wrong links of document 01, tried against the promises of the public calls. Whatever block and parts a link that keeps its promises has, it
 -- goes through the session of `Session` as computed there, from an accepted opening on; so none of these keeps them:
--- - one that refuses everything: `refuses-opening` and the five after it, and `show-first`;
+-- - one that refuses everything: `refuses-opening` and those after it, and `show-first`;
+-- - one whose updates always wait: `update-first`, `update-later`; or always flush: `update-next`; one that does not tell which it did: `update-next`,
+--   `update-later`; one whose check always answers now: `check-later`;
 -- - one that always reads the same message: `read-second`, `read-none`;
 -- - one that takes datagrams and does nothing: `input-second` with `size-first` (the receiving half), `input-acks` (the sending half), and of any
 --   block `pushes-kept`, `acks-remove` (HalfLaws);
 -- - one that handles the first segment or the first message only: `send-second`, `flush-both`, `input-acks`, `input-second`, `read-second`;
 -- - one that invents the datagram count or the message size: `flush-both`, `size-none`, `size-first`, `read-first`, `read-second`.
 -- Assumes nothing.
-use mathlib.Core.Path.{_≡_, refl, _∙_}
+use mathlib.Core.Path.{_≡_, refl, ap, _∙_}
 use mathlib.Core.Bool.{true}
 use mathlib.Core.List.{List, [], _∷_, map}
 use Prim.Native.Nat.{ℕ}
@@ -27,12 +29,17 @@ use Rattle.answers.specs.declared.Answer.{Answer}
 use Rattle.answers.specs.declared.Answer.the-variants as answer
 use Rattle.answers.specs.declared.Count.{Count}
 use Rattle.answers.specs.declared.Count.the-variants as count
+use Rattle.answers.specs.declared.Update.{Update}
+use Rattle.answers.specs.declared.Update.the-variants as update
+use Rattle.answers.specs.declared.Time.{Time}
+use Rattle.answers.specs.declared.Time.the-variants as time
 use Rattle.promises.specs.Parts.{Parts, stateIn}
-use Rattle.promises.specs.Answers.{countOutcome}
-use Rattle.promises.specs.Promises.{OpenPromise, SendPromise, InputPromise, FlushPromise, ReadPromise, SizePromise, ShowPromise}
+use Rattle.promises.specs.Answers.{countOutcome, timeOutcome}
+use Rattle.promises.specs.Promises.{OpenPromise, SendPromise, InputPromise, FlushPromise, UpdatePromise, CheckPromise, ReadPromise, SizePromise, ShowPromise}
 use Rattle.wrong_links.specs.Standing.{Lends, At}
-use Rattle.wrong_links.specs.StandingLaws.{opening-goes, send-goes, input-goes, flush-goes, read-goes, read-refused, size-goes, show-goes}
-use Rattle.wrong_links.specs.Session.{isDone, resultOr, settings, sendPool, receivePool, fresh, first, second, oneSent, bothSent, flush, flushed, datagrams, acks, acknowledged, oneHeard, bothHeard, oneRead, bothRead, reads, all-pass, computed}
+use Rattle.wrong_links.specs.StandingLaws.{opening-goes, send-goes, input-goes, flush-goes, update-goes, update-waits, check-goes, read-goes, read-refused, size-goes, show-goes}
+use Rattle.wrong_links.specs.Session as session
+use Rattle.wrong_links.specs.Session.{isDone, resultOr, settings, sendPool, receivePool, fresh, first, second, oneSent, bothSent, flush, flushed, updated, rested, laterUpdate, datagrams, acks, acknowledged, oneHeard, bothHeard, oneRead, bothRead, reads, all-pass, computed}
 
 -- an accepted call is not refused, whatever the refusal
 not-refused : {r : Refusal} → answer.Refused r ≡ answer.Accepted → ⊥
@@ -45,6 +52,11 @@ not-refused-count e = let z : _≡_ {A = ℕ} 0 1 = cc in omega arith
 is-result : {A : Type 0} (x : A) (o : Outcome A) → isDone o ≡ true → o ≡ done (resultOr x o)
 is-result x (done y) h = refl
 is-result x (refused r) h = absurd (let z : _≡_ {A = ℕ} 0 1 = cc in omega arith)
+
+-- the time of an outcome
+time-at : (a : Time) (t : ℕ) → timeOutcome a ≡ done t → a ≡ time.At t
+time-at (time.At n) t e = cc
+time-at (time.Refused r) t e = absurd (let z : _≡_ {A = ℕ} 0 1 = cc in omega arith)
 
 -- the count of an outcome
 count-done : (a : Count) (n : ℕ) → countOutcome a ≡ done n → a ≡ count.Of n
@@ -79,7 +91,30 @@ module _ (l : Link) (p : Parts) (l′ : Link) (p′ : Parts) where
       → (a ≡ count.Of 2) × At l′ p′ flushed × Output datagrams out lengths 2 out′ lengths′
   unfolding flushed datagrams flush
   flush-both a out lengths out′ lengths′ at room number h =
-      rw (computed .datagram-count) at (flush-goes l p bothSent at (all-pass .both-sent) 5 out lengths a l′ p′ out′ lengths′ flush room number refl h)
+      let r = flush-goes l p bothSent at (all-pass .both-sent) 5 out lengths a l′ p′ out′ lengths′ flush room number refl h in
+      (rw (computed .datagram-count) at (r .0), r .1 .after, rw (computed .datagram-count) at (r .1 .output))
+
+  module _ (out lengths out′ lengths′ : List ℕ) (room : leb outputLeast (length out) ≡ true) (number : leb lengthsLeast (length lengths) ≡ true) where
+    -- the first update writes the same
+    pub update-first : (a : Update) → At l p bothSent → UpdatePromise 5 l p out lengths a l′ p′ out′ lengths′
+        → (a ≡ update.Wrote 2) × At l′ p′ updated × Output datagrams out lengths 2 out′ lengths′
+    unfolding updated
+    update-first a at h =
+        let r = update-goes l p bothSent at (all-pass .both-sent) 5 out lengths a l′ p′ out′ lengths′ room number h session.update (computed .updates-first) in
+        (rw (computed .update-count) at (r .0), r .1 .after, rw (computed .update-count, computed .update-datagrams) at (r .1 .output))
+
+    -- the next one waits, and changes no lent byte
+    pub update-next : (a : Update) → At l p updated → UpdatePromise 6 l p out lengths a l′ p′ out′ lengths′
+        → (a ≡ update.Waited) × At l′ p′ rested × (p′ ≡ p) × (out′ ≡ out) × (lengths′ ≡ lengths)
+    unfolding rested
+    update-next a at h =
+        update-waits l p updated at (all-pass .one-updated) 6 out lengths a l′ p′ out′ lengths′ room number h (rested .state) (computed .updates-waiting)
+
+    -- the one after it flushes and writes nothing, which is another answer
+    pub update-later : (a : Update) → At l p rested → UpdatePromise 105 l p out lengths a l′ p′ out′ lengths′ → a ≡ update.Wrote 0
+    update-later a at h =
+        rw (computed .later-none) at
+        (update-goes l p rested at (all-pass .one-rested) 105 out lengths a l′ p′ out′ lengths′ room number h laterUpdate (computed .updates-later) .0)
 
   -- of the segments 0, 1 and 2 only the last is left outstanding
   pub input-acks : (a : Answer) → At l p flushed → InputPromise acks l p a l′ p′
@@ -130,6 +165,13 @@ module _ (l : Link) (p : Parts) where
   pub show-first : (part : List ℕ) → At l p bothHeard → ShowPromise l p part → part ≡ replicate 26 7
   show-first part at h = show-goes l p bothHeard at (all-pass .both-heard) part h ∙ computed .shown-first
 
+  -- before the first update now; then the next flush time
+  pub check-first : (a : Time) → At l p bothSent → CheckPromise 5 l p a → a ≡ time.At 5
+  check-first a at h = time-at a 5 (check-goes l p bothSent at (all-pass .both-sent) 5 a h ∙ ap done (computed .checks-first))
+
+  pub check-later : (a : Time) → At l p rested → CheckPromise 6 l p a → a ≡ time.At 105
+  check-later a at h = time-at a 105 (check-goes l p rested at (all-pass .one-rested) 6 a h ∙ ap done (computed .checks-later))
+
 -- ---- a link that refuses everything
 
 module _ (l : Link) (p : Parts) (l′ : Link) (p′ : Parts) (r : Refusal) where
@@ -146,8 +188,16 @@ module _ (l : Link) (p : Parts) (l′ : Link) (p′ : Parts) (r : Refusal) where
       → FlushPromise 5 l p out lengths (count.Refused r) l′ p′ out′ lengths′ → ⊥
   refuses-flush out lengths out′ lengths′ at room number h = not-refused-count (flush-both l p l′ p′ _ out lengths out′ lengths′ at room number h .0)
 
+  pub refuses-update : (out lengths out′ lengths′ : List ℕ) → At l p bothSent → leb outputLeast (length out) ≡ true → leb lengthsLeast (length lengths) ≡ true
+      → UpdatePromise 5 l p out lengths (update.Refused r) l′ p′ out′ lengths′ → ⊥
+  refuses-update out lengths out′ lengths′ at room number h =
+      let e = update-first l p l′ p′ out lengths out′ lengths′ room number _ at h .0 in let z : _≡_ {A = ℕ} 0 1 = cc in omega arith
+
   pub refuses-read : (buffer buffer′ : List ℕ) → length buffer ≡ 30 → At l p bothHeard → ReadPromise l p buffer (count.Refused r) l′ p′ buffer′ → ⊥
   refuses-read buffer buffer′ room at h = not-refused-count (read-first l p l′ p′ _ buffer buffer′ room at h .0)
 
 pub refuses-size : (l : Link) (p : Parts) (r : Refusal) → At l p bothHeard → SizePromise l p (count.Refused r) → ⊥
 refuses-size l p r at h = not-refused-count (size-first l p _ at h)
+
+pub refuses-check : (l : Link) (p : Parts) (r : Refusal) → At l p rested → CheckPromise 6 l p (time.Refused r) → ⊥
+refuses-check l p r at h = let e = check-later l p _ at h in let z : _≡_ {A = ℕ} 0 1 = cc in omega arith

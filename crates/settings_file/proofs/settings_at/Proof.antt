@@ -13,6 +13,7 @@ returns c = λ i. record {
   interval = c .before .before .read-u162 .ensures i;
   mode = c .before .read-u8 .ensures i;
   threshold = c .read-u82 .ensures i;
+  stream = 0;
 }
 
 pub settings-at-spec : {M : Type 1} → statement M

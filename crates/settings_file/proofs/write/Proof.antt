@@ -9,11 +9,11 @@ use Rattle.settings_file.proofs.write.Tie as tie
 
 returns-2 : tie.Need-returns-2
 returns-2 c =
-    written _ _ (omega arith) (sym (c .before .before .before .before .before .before .before .before .before .in-range .ensures) ∙ c .before .before .before .before .before .before .before .before .if2 .taken)
+    written _ _ (omega arith) (sym (c .before .before .before .before .before .before .before .before .before .in-file .ensures) ∙ c .before .before .before .before .before .before .before .before .if2 .taken)
     (file-stored _ _ (c .before .before .before .before .before .before .put-front .ensures) (c .before .before .put-back .ensures))
 
 returns-3 : tie.Need-returns-3
-returns-3 c = out-of-range _ _ (omega arith) (sym (c .before .in-range .ensures) ∙ c .if2 .left)
+returns-3 c = out-of-range _ _ (omega arith) (sym (c .before .in-file .ensures) ∙ c .if2 .left)
 
 pub write-spec : {M : Type 1} → statement M
 write-spec =
