@@ -5,3 +5,6 @@ pub mod Carried
 pub mod TwoEnds
 pub mod Joint
 pub mod Trip
+pub mod Counting
+pub mod Moves
+pub mod RoundTrip
