@@ -147,11 +147,11 @@ module _ (s : State) (t k : ℕ) (pool : List ℕ) (ask : Bool) where
   written-low few room low reads small =
       let count : length (take k (s .sending .queued)) ≡ k = simp length-take (omega arith) in
       let pushed : All (IfPush Small) segs =
-          rw (packed-flat (c .mtu) segs) at
-          (each-flat (IfPush Small) (packed (c .mtu) segs) (small-datagrams c (packed (c .mtu) segs) reads small)) in
+      rw (packed-flat (c .mtu) segs) at
+      (each-flat (IfPush Small) (packed (c .mtu) segs) (small-datagrams c (packed (c .mtu) segs) reads small)) in
       let each : All (λ (x : Sent). x .record .number < 2 ^ 30) sent =
-          all-weaker (λ (x : Sent). IfPush Small (pushOf x)) (λ (x : Sent). x .record .number < 2 ^ 30) (λ x f. f refl) sent
-          (data-written s t pool ask sent (IfPush Small) pushed) in
+      all-weaker (λ (x : Sent). IfPush Small (pushOf x)) (λ (x : Sent). x .record .number < 2 ^ 30) (λ x f. f refl) sent
+      (data-written s t pool ask sent (IfPush Small) pushed) in
       let new = new-numbers c (s .sending .roundTrip .timeout) t (λ (n : ℕ). n < 2 ^ 30) (s .sending) k each in
       omega (arith, count, numbered-end (s .sending .next) (take k (s .sending .queued)) low (omega (arith, count)) new)
 
@@ -209,8 +209,8 @@ module _ (s : State) (pool : List ℕ) (f : Flushable s pool) where
 
     parsed : All (Reads (s .settings)) (packed (s .settings .mtu) gs)
     parsed =
-        flush-writes-any s t (numbers s) pool asks (f .range) (f .few-acks) few-numbers near-numbers (f .half) (f .conv) (f .carry) time (f .long)
-        .parsed
+        flush-writes-any s t (numbers s) pool asks (f .range) (f .few-acks) few-numbers near-numbers (f .half) (f .conv) (f .carry) time
+        (f .long) .parsed
 
     carries-flush : (P : Segment → Type 0) → All P gs → All (Carries (s .settings) P) (wroteBy s t pool)
     unfolding flushing

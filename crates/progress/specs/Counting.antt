@@ -20,7 +20,7 @@ use Rattle.schedule.specs.declared.Schedule.{Schedule}
 use Rattle.session.specs.State.{Sending, sendHeld, slots, withSchedule}
 use Rattle.session.specs.Opening.{opened}
 use Rattle.session.specs.FillLaws.{filled-queue}
-use Rattle.session.specs.Input.{allBySending, skippedByAll, ackNumbers, applied}
+use Rattle.session.specs.Input.{allBySending, ackNumbers, applied}
 use Rattle.session.specs.Flushing.{flushing}
 use Rattle.session.specs.Calls.{Station, Call, Answer, Event, Stepped, afterFlush, own, datagramsIn, datagramsBy}
 use Rattle.session.specs.Decides.{All}
@@ -40,7 +40,16 @@ use Rattle.demands.specs.Simulation.{Kept, own-call, kept-call}
 use Rattle.demands.specs.RunLaws.{opens-station, opens-kept, taken}
 use Rattle.progress.specs.Had.{Pushes}
 use Rattle.progress.specs.Outstanding.{numbersOf, all-kept, skips-numbers, flush-under}
-use Rattle.progress.specs.Carried.{Carries, numbers, wroteBy, Flushable, in-order-flushable, flushable-rescheduled, few-numbers, flush-pushes}
+use Rattle.progress.specs.Carried.{
+  Carries,
+  numbers,
+  wroteBy,
+  Flushable,
+  in-order-flushable,
+  flushable-rescheduled,
+  few-numbers,
+  flush-pushes,
+}
 use Rattle.progress.specs.TwoEnds.{MadeBy, FewSegments}
 
 -- ---- pushes below 2^30
@@ -112,7 +121,7 @@ module _ (s : Station) (n : ℕ) (range : inRange (s .state .settings) ≡ true)
   flush-counts x schedule t time most =
       let state = withSchedule (s .state) schedule in
       let f : Flushable state (s .sendPool) =
-          flushable-rescheduled (s .state) (s .sendPool) schedule (in-order-flushable s range conv32 o) in
+      flushable-rescheduled (s .state) (s .sendPool) schedule (in-order-flushable s range conv32 o) in
       let k : ℕ = numbers state in
       let fewer : k ≤ length (d .queued) = few-numbers state (s .sendPool) f in
       let top : d .next + k ≤ 2 ^ 30 = omega (arith, h .total, fewer) in
@@ -207,12 +216,14 @@ module _ (c : Settings) (range : inRange c ≡ true) (conv32 : c .conv < 2 ^ 32)
       → n + fragmentsAccepted r ≤ 2 ^ 30 → RunMade (n + fragmentsAccepted r) events e″
   unfolding fragmentsAccepted datagramsBy
   run-made {e} start n fits m most =
-      record { made = record { kept = m .kept; counted = subst (λ (k : ℕ). Counted k (stationOf e)) (omega arith) (m .counted); most = most }; few = tt }
+      let none : n ≡ n + 0 = omega arith in
+      let same = subst (λ (k : ℕ). Counted k (stationOf e)) none (m .counted) in
+      record { made = record { kept = m .kept; counted = same; most = most }; few = tt }
   run-made {e″ = e″} (next e x a e′ {events = events} h r) n fits m most =
       let k : ℕ = fragmentsBy (stationOf e) x a in
       let w = call-made n e e′ x a (fits .0) h m in
       let after : Made (n + k) e′ =
-          record { kept = kept-call c range conv32 e (m .kept) x a e′ (fits .0) h; counted = w .counted; most = omega arith } in
+      record { kept = kept-call c range conv32 e (m .kept) x a e′ (fits .0) h; counted = w .counted; most = omega arith } in
       let i = run-made r (n + k) (fits .1) after (omega arith) in
       record {
         made = subst (λ (l : ℕ). Made l e″) (omega arith) (i .made);

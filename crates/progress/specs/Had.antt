@@ -21,7 +21,20 @@ use Rattle.lists.specs.OrderLaws.{Between, insert-between}
 use Rattle.lists.specs.Receiving.{Received, isNext, advance}
 use Rattle.session.specs.Slots.{occurs, lowestFree}
 use Rattle.session.specs.State.{Receiving, Ack, receiveHeld, slots, withLists, withNotes}
-use Rattle.session.specs.Input.{Receiver, inWindow, noted, isNew, kept, movedUp, movedUpIn, withAcks, pushed, asked, heardByReceiving, allByReceiving}
+use Rattle.session.specs.Input.{
+  Receiver,
+  inWindow,
+  noted,
+  isNew,
+  kept,
+  movedUp,
+  movedUpIn,
+  withAcks,
+  pushed,
+  asked,
+  heardByReceiving,
+  allByReceiving,
+}
 use Rattle.session.specs.Reading.{frontCount, afterRead}
 use Rattle.session.specs.Decides.{All, and-parts}
 use Rattle.session.specs.AllLaws.{all-append, all-weaker}
@@ -34,6 +47,9 @@ use Rattle.progress.specs.SmallNumbers.{before-small, or-left, or-right,
 
 abbrev pub waitingNumbers : List Waiting → List ℕ
 waitingNumbers l = map (λ (w : Waiting). w .number) l
+
+abbrev pub waits : List Waiting → ℕ → Bool
+waits l n = occurs n (waitingNumbers l)
 
 abbrev pub hasIn : ℕ → List Waiting → ℕ → Bool
 hasIn next l n = ltb n next || occurs n (waitingNumbers l)
@@ -49,7 +65,7 @@ abbrev Under : ℕ → List Waiting → Type 0
 Under N l = All (λ (w : Waiting). w .number < N) l
 
 pub known-next : (N : ℕ) (r : Receiving) → Known N r → r .next ≤ N
-known-next N r k = go (r .next) (λ n h. k n (or-left (ltb n (r .next)) (occurs n (waitingNumbers (r .waiting))) h))
+known-next N r k = go (r .next) (λ n h. k n (or-left (ltb n (r .next)) (waits (r .waiting) n) h))
   where
     go : (m : ℕ) → ((n : ℕ) → ltb n m ≡ true → n < N) → m ≤ N
     go zero h = zero-le
@@ -57,13 +73,13 @@ known-next N r k = go (r .next) (λ n h. k n (or-left (ltb n (r .next)) (occurs 
 
 known-waiting : (N : ℕ) (r : Receiving) → Known N r → Under N (r .waiting)
 unfolding occurs
-known-waiting N r k = go (r .waiting) (λ n h. k n (or-right (ltb n (r .next)) (occurs n (waitingNumbers (r .waiting))) h))
+known-waiting N r k = go (r .waiting) (λ n h. k n (or-right (ltb n (r .next)) (waits (r .waiting) n) h))
   where
-    go : (l : List Waiting) → ((n : ℕ) → occurs n (waitingNumbers l) ≡ true → n < N) → Under N l
+    go : (l : List Waiting) → ((n : ℕ) → waits l n ≡ true → n < N) → Under N l
     go [] h = tt
     go (w ∷ l) h = (
-      h (w .number) (or-left (eqb (w .number) (w .number)) (occurs (w .number) (waitingNumbers l)) (eq-eqb (w .number) (w .number) refl)),
-      go l (λ n e. h n (or-right (eqb n (w .number)) (occurs n (waitingNumbers l)) e)),
+      h (w .number) (or-left (eqb (w .number) (w .number)) (waits l (w .number)) (eq-eqb (w .number) (w .number) refl)),
+      go l (λ n e. h n (or-right (eqb n (w .number)) (waits l n) e)),
     )
 
 -- ---- moving up
@@ -87,20 +103,24 @@ unfolding advance occurs
 moved [] next ready a h = record { same = λ n. refl; up = le-refl next; level = refl }
 moved (w ∷ l) next ready a h = go (isNext next w && ltb (length ready) receiveWindow) refl (λ x y. moved l x y (a .1))
   where
-    go : (t : Bool) → (isNext next w && ltb (length ready) receiveWindow) ≡ t → ((x : ℕ) (y : List Held) → x ≤ 2 ^ 31 → Moved x y l (advance x y l))
-        → Moved next ready (w ∷ l) (cond t (advance (plus next 1) (ready ++ (w .held ∷ [])) l) (record { next = next; ready = ready; waiting = w ∷ l }))
+    go : (t : Bool) → (isNext next w && ltb (length ready) receiveWindow) ≡ t
+        → ((x : ℕ) (y : List Held) → x ≤ 2 ^ 31 → Moved x y l (advance x y l))
+        → Moved next ready (w ∷ l)
+        (cond t (advance (plus next 1) (ready ++ (w .held ∷ [])) l) (record { next = next; ready = ready; waiting = w ∷ l }))
     go false e later = record { same = λ n. refl; up = le-refl next; level = refl }
     go true e later =
-        let o : minus (w .number) next ≡ 0 = eqb-true (minus (w .number) next) 0 (and-parts (isNext next w) (ltb (length ready) receiveWindow) e .0) in
+        let more = ready ++ (w .held ∷ []) in
+        let is-next = and-parts (isNext next w) (ltb (length ready) receiveWindow) e .0 in
+        let o : minus (w .number) next ≡ 0 = eqb-true (minus (w .number) next) 0 is-next in
         let q : w .number ≡ next = omega (arith, a .0, o) in
         let z : plus next 1 ≡ suc next = omega (arith, a .0, q) in
-        let i : Moved (plus next 1) (ready ++ (w .held ∷ [])) l (advance (plus next 1) (ready ++ (w .held ∷ [])) l) = later (plus next 1) (ready ++ (w .held ∷ [])) (omega (arith, a .0, q, z)) in
+        let i : Moved (plus next 1) more l (advance (plus next 1) more l) = later (plus next 1) more (omega (arith, a .0, q, z)) in
         record {
           same = λ n.
               i .same n
-              ∙ ap (λ (x : ℕ). ltb n x || occurs n (waitingNumbers l)) z
-              ∙ one-more n next (occurs n (waitingNumbers l))
-              ∙ ap (λ (x : ℕ). ltb n next || (eqb n x || occurs n (waitingNumbers l))) (sym q);
+              ∙ ap (λ (x : ℕ). ltb n x || waits l n) z
+              ∙ one-more n next (waits l n)
+              ∙ ap (λ (x : ℕ). ltb n next || (eqb n x || waits l n)) (sym q);
           up = omega (arith, i .up, z);
           level = omega (arith, i .level, z, length-append ready (w .held ∷ []));
         }
@@ -109,18 +129,18 @@ moved (w ∷ l) next ready a h = go (isNext next w && ltb (length ready) receive
 
 -- a number of the window that waits, by its offset
 held-waits : (next sn : ℕ) (l : List Waiting) → next ≤ 2 ^ 31 → sn < 2 ^ 31 → Under (2 ^ 31) l
-    → isHeld (waitingOffset next) (minus sn next) l ≡ true → occurs sn (waitingNumbers l) ≡ true
+    → isHeld (waitingOffset next) (minus sn next) l ≡ true → waits l sn ≡ true
 unfolding isHeld occurs
 held-waits next sn [] x y a e = absurd (false≢true e)
 held-waits next sn (w ∷ l) x y a e = go (eqb (minus (w .number) next) (minus sn next)) refl e (held-waits next sn l x y (a .1))
   where
     go : (t : Bool) → eqb (minus (w .number) next) (minus sn next) ≡ t → (t || isHeld (waitingOffset next) (minus sn next) l) ≡ true
-        → (isHeld (waitingOffset next) (minus sn next) l ≡ true → occurs sn (waitingNumbers l) ≡ true)
-        → (eqb sn (w .number) || occurs sn (waitingNumbers l)) ≡ true
+        → (isHeld (waitingOffset next) (minus sn next) l ≡ true → waits l sn ≡ true)
+        → (eqb sn (w .number) || waits l sn) ≡ true
     go true q e later =
         let p : sn ≡ w .number = omega (arith, a .0, eqb-true (minus (w .number) next) (minus sn next) q) in
-        or-left (eqb sn (w .number)) (occurs sn (waitingNumbers l)) (eq-eqb sn (w .number) p)
-    go false q e later = or-right (eqb sn (w .number)) (occurs sn (waitingNumbers l)) (later e)
+        or-left (eqb sn (w .number)) (waits l sn) (eq-eqb sn (w .number) p)
+    go false q e later = or-right (eqb sn (w .number)) (waits l sn) (later e)
 
 -- one put between the others
 between-occurs : (n k : ℕ) {l m : List ℕ} → Between k l m → occurs n m ≡ (eqb n k || occurs n l)
@@ -148,7 +168,12 @@ took-none N r k = record { keeps = λ n h. h; knows = k; up = le-refl (r .next);
 
 pub took-then : (N : ℕ) (r r′ r″ : Receiving) → Took N r r′ → Took N r′ r″ → Took N r r″
 took-then N r r′ r″ x y =
-    record { keeps = λ n h. y .keeps n (x .keeps n h); knows = y .knows; up = omega (arith, x .up, y .up); level = omega (arith, x .level, y .level) }
+    record {
+      keeps = λ n h. y .keeps n (x .keeps n h);
+      knows = y .knows;
+      up = omega (arith, x .up, y .up);
+      level = omega (arith, x .level, y .level);
+    }
 
 pub record PushedIn (N : ℕ) (r : Receiving) (sn : ℕ) (r′ : Receiving) : Type 0 where
   pub took : Took N r r′
@@ -192,58 +217,69 @@ module _ (m N : ℕ) (top : N ≤ 2 ^ 30) where
 
       grows : Moved (r .next) (r .ready) more (advance (r .next) (r .ready) more)
       grows =
-          moved more (r .next) (r .ready) (wide more (all-between (λ (w : Waiting). w .number < N) put small (rw numbered h))) (omega (arith, next))
+          moved more (r .next) (r .ready) (wide more (all-between (λ (w : Waiting). w .number < N) put small (rw numbered h)))
+          (omega (arith, next))
 
-      had : (n : ℕ) → hasIn (advance (r .next) (r .ready) more .next) (advance (r .next) (r .ready) more .waiting) n ≡ (ltb n (r .next) || (eqb n sn || occurs n (waitingNumbers (r .waiting))))
+      had : (n : ℕ) → hasIn (advance (r .next) (r .ready) more .next) (advance (r .next) (r .ready) more .waiting) n
+          ≡ (ltb n (r .next) || (eqb n sn || waits (r .waiting) n))
       had n =
           grows .same n
           ∙ ap (λ (t : Bool). ltb n (r .next) || t) (between-occurs n (v .number) (between-map (λ (w : Waiting). w .number) put))
-          ∙ ap (λ (k : ℕ). ltb n (r .next) || (eqb n k || occurs n (waitingNumbers (r .waiting)))) numbered
+          ∙ ap (λ (k : ℕ). ltb n (r .next) || (eqb n k || waits (r .waiting) n)) numbered
 
       one-kept : (l : List Ack) → PushedIn N r sn (movedUp (withLists (withNotes r l (r .tell)) (r .next) (r .ready) more))
       one-kept l = record {
         took = record {
-          keeps = λ n e. had n ∙ still n (or-split (ltb n (r .next)) (occurs n (waitingNumbers (r .waiting))) e);
+          keeps = λ n e. had n ∙ still n (or-split (ltb n (r .next)) (waits (r .waiting) n) e);
           knows = λ n e. less n (eqb n sn) refl (sym (had n) ∙ e);
           up = grows .up;
           level = grows .level;
         };
         gets = λ e.
             had sn
-            ∙ or-right (ltb sn (r .next)) (eqb sn sn || occurs sn (waitingNumbers (r .waiting))) (or-left (eqb sn sn) (occurs sn (waitingNumbers (r .waiting))) (eq-eqb sn sn refl));
+            ∙ or-right (ltb sn (r .next)) (eqb sn sn || waits (r .waiting) sn)
+            (or-left (eqb sn sn) (waits (r .waiting) sn) (eq-eqb sn sn refl));
       }
         where
-          still : (n : ℕ) → (ltb n (r .next) ≡ true) ⊎ (occurs n (waitingNumbers (r .waiting)) ≡ true)
-              → (ltb n (r .next) || (eqb n sn || occurs n (waitingNumbers (r .waiting)))) ≡ true
-          still n (inl e) = or-left (ltb n (r .next)) (eqb n sn || occurs n (waitingNumbers (r .waiting))) e
-          still n (inr e) = or-right (ltb n (r .next)) (eqb n sn || occurs n (waitingNumbers (r .waiting))) (or-right (eqb n sn) (occurs n (waitingNumbers (r .waiting))) e)
+          still : (n : ℕ) → (ltb n (r .next) ≡ true) ⊎ (waits (r .waiting) n ≡ true)
+              → (ltb n (r .next) || (eqb n sn || waits (r .waiting) n)) ≡ true
+          still n (inl e) = or-left (ltb n (r .next)) (eqb n sn || waits (r .waiting) n) e
+          still n (inr e) = or-right (ltb n (r .next)) (eqb n sn || waits (r .waiting) n) (or-right (eqb n sn) (waits (r .waiting) n) e)
 
-          less : (n : ℕ) (t : Bool) → eqb n sn ≡ t → (ltb n (r .next) || (t || occurs n (waitingNumbers (r .waiting)))) ≡ true → n < N
+          less : (n : ℕ) (t : Bool) → eqb n sn ≡ t → (ltb n (r .next) || (t || waits (r .waiting) n)) ≡ true → n < N
           less n true q e = omega (arith, eqb-true n sn q, h)
           less n false q e = k n e
 
     -- A PUSH of a known number
     pub push-had : PushedIn N (x .half) (g .header .sn) (pushed m x g .half)
     unfolding pushed
-    push-had = go (inWindow r sn) refl (isBefore sn (r .next)) refl (isHeld (waitingOffset (r .next)) (minus sn (r .next)) (r .waiting)) refl
+    push-had = go (inWindow r sn) refl (isBefore sn (r .next)) refl isWaiting refl
       where
         v : Waiting
-        v = record { number = g .header .sn; held = record { slot = lowestFree (slots (receiveHeld (x .half))) receiveSlots; len = g .header .len; fragment = g .header .frg } }
+        v = record {
+          number = g .header .sn;
+          held = record { slot = lowestFree (slots (receiveHeld (x .half))) receiveSlots; len = g .header .len; fragment = g .header .frg };
+        }
 
-        go : (a : Bool) → inWindow r sn ≡ a → (b : Bool) → isBefore sn (r .next) ≡ b → (d : Bool) → isHeld (waitingOffset (r .next)) (minus sn (r .next)) (r .waiting) ≡ d
+        isWaiting : Bool
+        isWaiting = isHeld (waitingOffset (x .half .next)) (minus (g .header .sn) (x .half .next)) (x .half .waiting)
+
+        go : (a : Bool) → inWindow r sn ≡ a → (b : Bool) → isBefore sn (r .next) ≡ b → (d : Bool) → isWaiting ≡ d
             → PushedIn N r sn (movedUpIn (cond a (cond (not b && not d) (kept m y g) y) x) .half)
         go false e b f d q = record { took = left (r .acks); gets = λ t. absurd (false≢true (sym e ∙ t)) }
         go true e true f d q = record {
           took = left (noted r (g .header));
           gets = λ t.
               stays .same sn
-              ∙ or-left (ltb sn (r .next)) (occurs sn (waitingNumbers (r .waiting))) (sym (before-small sn (r .next) (omega arith) (omega (arith, next))) ∙ f);
+              ∙ or-left (ltb sn (r .next)) (waits (r .waiting) sn)
+              (sym (before-small sn (r .next) (omega arith) (omega (arith, next))) ∙ f);
         }
         go true e false f true q = record {
           took = left (noted r (g .header));
           gets = λ t.
               stays .same sn
-              ∙ or-right (ltb sn (r .next)) (occurs sn (waitingNumbers (r .waiting))) (held-waits (r .next) sn (r .waiting) (omega (arith, next)) (omega arith) (wide (r .waiting) small) q);
+              ∙ or-right (ltb sn (r .next)) (waits (r .waiting) sn)
+              (held-waits (r .next) sn (r .waiting) (omega (arith, next)) (omega arith) (wide (r .waiting) small) q);
         }
         go true e false f false q = one-kept v refl q (noted r (g .header))
 
@@ -270,7 +306,8 @@ pub took-all-none : (N : ℕ) (r : Receiving) → Known N r → TookAll N r r
 took-all-none N r k = record { took = took-none N r k; acks = λ a. a; more = le-refl (length (r .acks)) }
 
 -- the acks after a push
-pushed-acks : (m : ℕ) (x : Receiver) (g : Segment) → pushed m x g .half .acks ≡ cond (inWindow (x .half) (g .header .sn)) (noted (x .half) (g .header)) (x .half .acks)
+pushed-acks : (m : ℕ) (x : Receiver) (g : Segment) →
+    pushed m x g .half .acks ≡ cond (inWindow (x .half) (g .header .sn)) (noted (x .half) (g .header)) (x .half .acks)
 unfolding pushed
 pushed-acks m x g = go (inWindow (x .half) (g .header .sn)) (isNew (x .half) (g .header .sn))
   where
@@ -308,7 +345,8 @@ module _ (m N : ℕ) (top : N ≤ 2 ^ 30) where
       go true e false i = i
       go false e b i = i
 
-      longer : (a b : Bool) → length (x .half .acks) ≤ length (cond a (cond b (x .half .acks ++ (new ∷ [])) (x .half .acks)) (x .half .acks))
+      longer : (a b : Bool) →
+          length (x .half .acks) ≤ length (cond a (cond b (x .half .acks ++ (new ∷ [])) (x .half .acks)) (x .half .acks))
       longer true true = omega (arith, length-append (x .half .acks) (new ∷ []))
       longer true false = le-refl (length (x .half .acks))
       longer false b = le-refl (length (x .half .acks))
@@ -319,11 +357,16 @@ module _ (m N : ℕ) (top : N ≤ 2 ^ 30) where
     where
       go : (a : Bool) → eqb (g .header .cmd) push ≡ a → (b : Bool) → TookAll N (x .half) (cond a (pushed m x g) (cond b (asked x) x) .half)
       go true e b = push-all x g k (h (eqb-true (g .header .cmd) push e))
-      go false e true = record { took = record { keeps = λ n i. i; knows = k; up = le-refl (x .half .next); level = refl }; acks = λ a. a; more = le-refl (length (x .half .acks)) }
+      go false e true = record {
+        took = record { keeps = λ n i. i; knows = k; up = le-refl (x .half .next); level = refl };
+        acks = λ a. a;
+        more = le-refl (length (x .half .acks));
+      }
       go false e false = took-all-none N (x .half) k
 
   -- ALL SEGMENTS OF A DATAGRAM
-  pub all-had : (gs : List Segment) (x : Receiver) → Known N (x .half) → All (Pushes N) gs → TookAll N (x .half) (allByReceiving m x gs .half)
+  pub all-had : (gs : List Segment) (x : Receiver) → Known N (x .half) → All (Pushes N) gs
+      → TookAll N (x .half) (allByReceiving m x gs .half)
   unfolding allByReceiving
   all-had [] x k h = took-all-none N (x .half) k
   all-had (g ∷ gs) x k h =
@@ -336,10 +379,13 @@ module _ (m N : ℕ) (top : N ≤ 2 ^ 30) where
   near r u k h =
       let a : r .next ≤ N = known-next N r k in
       let z : plus (r .next) receiveWindow ≡ r .next + receiveWindow = omega (arith, a) in
-      ap (isBefore u) z ∙ before-small u (r .next + receiveWindow) (omega (arith, a)) (omega (arith, a)) ∙ lt-ltb u (r .next + receiveWindow) (omega arith)
+      ap (isBefore u) z
+      ∙ before-small u (r .next + receiveWindow) (omega (arith, a)) (omega (arith, a))
+      ∙ lt-ltb u (r .next + receiveWindow) (omega arith)
 
   -- a push not past rcv_nxt: it is had afterwards, and some ack is noted
-  push-in : (x : Receiver) (g : Segment) (u : ℕ) → Known N (x .half) → Pushes N g → u ≤ x .half .next → g .header .cmd ≡ push → u ≡ g .header .sn
+  push-in : (x : Receiver) (g : Segment) (u : ℕ) → Known N (x .half) → Pushes N g → u ≤ x .half .next
+      → g .header .cmd ≡ push → u ≡ g .header .sn
       → (has (heardByReceiving m x g .half) u ≡ true) × (0 < length (heardByReceiving m x g .half .acks))
   unfolding heardByReceiving
   push-in x g u k h l e q =
@@ -357,7 +403,8 @@ module _ (m N : ℕ) (top : N ≤ 2 ^ 30) where
       some false f = omega (arith, ltb-false (length (x .half .acks)) acksMost f)
 
   -- A PUSH NOT PAST RCV_NXT among them
-  pub goes-in : (u : ℕ) (gs : List Segment) (x : Receiver) → Known N (x .half) → All (Pushes N) gs → u ≤ x .half .next → occurs u (pushNumbers gs) ≡ true
+  pub goes-in : (u : ℕ) (gs : List Segment) (x : Receiver) → Known N (x .half) → All (Pushes N) gs → u ≤ x .half .next
+      → occurs u (pushNumbers gs) ≡ true
       → (has (allByReceiving m x gs .half) u ≡ true) × (0 < length (allByReceiving m x gs .half .acks))
   unfolding allByReceiving pushNumbers occurs
   goes-in u [] x k h l e = absurd (false≢true e)
@@ -371,7 +418,9 @@ module _ (m N : ℕ) (top : N ≤ 2 ^ 30) where
       rest = all-had gs (heardByReceiving m x g) (i .took .knows) (h .1)
 
       Gone : Type 0
-      Gone = (has (allByReceiving m (heardByReceiving m x g) gs .half) u ≡ true) × (0 < length (allByReceiving m (heardByReceiving m x g) gs .half .acks))
+      Gone =
+          (has (allByReceiving m (heardByReceiving m x g) gs .half) u ≡ true)
+          × (0 < length (allByReceiving m (heardByReceiving m x g) gs .half .acks))
 
       go : (t : Bool) → eqb (g .header .cmd) push ≡ t → occurs u (cond t (g .header .sn ∷ pushNumbers gs) (pushNumbers gs)) ≡ true
           → (occurs u (pushNumbers gs) ≡ true → Gone) → Gone
@@ -397,6 +446,7 @@ read-had N top r k =
     let a = known-next N r k in
     let i =
     moved (r .waiting) (r .next) (drop (frontCount (r .ready)) (r .ready))
-    (all-weaker (λ (w : Waiting). w .number < N) (λ (w : Waiting). w .number < 2 ^ 31) (λ w h. omega arith) (r .waiting) (known-waiting N r k))
+    (all-weaker (λ (w : Waiting). w .number < N) (λ (w : Waiting). w .number < 2 ^ 31) (λ w h. omega arith) (r .waiting)
+    (known-waiting N r k))
     (omega (arith, a)) in
     record { same = i .same; up = i .up; acks = refl }

@@ -86,8 +86,8 @@ module _ (c : Settings) (d : Sending) (wrote : List (List ℕ)) (r : Receiving) 
       })
 
   -- flushes, and numbers k queued segments
-  pusher-flushes : (t k : ℕ) → k ≤ length (d .queued) → d .next + k ≤ 2 ^ 30 → (ds : List (List ℕ)) → All (Carries c (Pushes (d .next + k))) ds
-      → Way c (flushedWith c t k d) (wrote ++ ds) r said
+  pusher-flushes : (t k : ℕ) → k ≤ length (d .queued) → d .next + k ≤ 2 ^ 30 → (ds : List (List ℕ))
+      → All (Carries c (Pushes (d .next + k))) ds → Way c (flushedWith c t k d) (wrote ++ ds) r said
   pusher-flushes t k few top ds a =
       let z : plus (d .next) k ≡ d .next + k = omega arith in
       rw z
@@ -112,7 +112,8 @@ module _ (c : Settings) (d : Sending) (wrote : List (List ℕ)) (r : Receiving) 
 
       new : (n : ℕ) → n < d .next + k → (b : Bool) → ltb n (d .next) ≡ b → (occurs n out′ || has r n) ≡ true
       new n l true e =
-          or-both (occurs n out) (has r n) (occurs n out′) (has r n) (flush-old c t k d few top n) (λ x. x) (w .gone n (ltb-true n (d .next) e))
+          or-both (occurs n out) (has r n) (occurs n out′) (has r n) (flush-old c t k d few top n) (λ x. x)
+          (w .gone n (ltb-true n (d .next) e))
       new n l false e = or-left (occurs n out′) (has r n) (flush-has c t k d few top n (ltb-false n (d .next) e) l)
 
 -- ---- the receiving half
@@ -143,7 +144,7 @@ module _ (c : Settings) (d : Sending) (wrote : List (List ℕ)) (r : Receiving) 
   receiver-takes m pool gs a =
       let x : Receiver = record { half = r; pool = pool } in
       let i : TookAll (d .next) r (allByReceiving m (record { half = r; pool = pool }) gs .half) =
-          all-had m (d .next) (w .low) gs x (w .known) a in
+      all-had m (d .next) (w .low) gs x (w .known) a in
       has-more (allByReceiving m x gs .half) (i .took .keeps) (i .took .up) (i .acks (w .acks)) (i .took .knows)
 
   -- reads
@@ -185,7 +186,8 @@ record Ways (c : Settings) (s : Station) (wrote : List (List ℕ)) (b : Station)
 segments-same : (u v : List Segment) → Parsed.segments u ≡ Parsed.segments v → u ≡ v
 segments-same u v e = cc
 
-module _ (a b : Station) (byA byB : List (List ℕ)) (range : inRange (a .state .settings) ≡ true) (conv32 : a .state .settings .conv < 2 ^ 32)
+module _ (a b : Station) (byA byB : List (List ℕ))
+    (range : inRange (a .state .settings) ≡ true) (conv32 : a .state .settings .conv < 2 ^ 32)
     (j : Joint (a .state .settings) a byA b byB) where
   abbrev c : Settings
   c = a .state .settings
@@ -218,12 +220,13 @@ module _ (a b : Station) (byA byB : List (List ℕ)) (range : inRange (a .state 
 
   -- a flush, whatever the schedule
   flushes : (k : Schedule) (t : ℕ) → t < 2 ^ 32 → FewPushes c (wroteBy (withSchedule (a .state) k) t (a .sendPool))
-      → Ways c (afterFlush a (flushing (withSchedule (a .state) k) t (a .sendPool)) .station) (byA ++ wroteBy (withSchedule (a .state) k) t (a .sendPool)) b byB
+      → Ways c (afterFlush a (flushing (withSchedule (a .state) k) t (a .sendPool)) .station)
+      (byA ++ wroteBy (withSchedule (a .state) k) t (a .sendPool)) b byB
   unfolding flushing
   flushes k t time few =
       let s = withSchedule (a .state) k in
       let f : Flushable s (a .sendPool) =
-          flushable-rescheduled (a .state) (a .sendPool) k (in-order-flushable a range conv32 (j .in-order-a)) in
+      flushable-rescheduled (a .state) (a .sendPool) k (in-order-flushable a range conv32 (j .in-order-a)) in
       let top = flush-low s (a .sendPool) f t time (j .ab .low) few in
       record {
         ab = pusher-flushes c d byA (b .state .receiving) byB (j .ab) t (numbers s) (few-numbers s (a .sendPool) f) top
@@ -235,7 +238,8 @@ module _ (a b : Station) (byA byB : List (List ℕ)) (range : inRange (a .state 
 
   -- what is to be shown of a call
   abbrev Kept : Call → Stepped → Type 0
-  Kept x y = CallFits x → TakesOneOf byB x → FewPushes c (datagramsIn (y .answer)) → Ways c (y .station) (byA ++ datagramsIn (y .answer)) b byB
+  Kept x y =
+      CallFits x → TakesOneOf byB x → FewPushes c (datagramsIn (y .answer)) → Ways c (y .station) (byA ++ datagramsIn (y .answer)) b byB
 
   ways-after : (x : Call) → Kept x (own a x)
   ways-after =
@@ -256,11 +260,11 @@ pub joint-step : (c : Settings) → inRange c ≡ true → c .conv < 2 ^ 32 → 
 joint-step c range conv32 a b byA byB x fits from few j =
     let ds : List (List ℕ) = datagramsIn (own a x .answer) in
     let w : Ways c (own a x .station) (byA ++ datagramsIn (own a x .answer)) b byB =
-        subst (λ (c : Settings).
-        inRange c ≡ true → c .conv < 2 ^ 32 → FewPushes c ds → Joint c a byA b byB → Ways c (own a x .station) (byA ++ ds) b byB)
-        (j .in-order-a .sends .settings)
-        (λ range conv32 few j. ways-after a b byA byB range conv32 j x fits from few)
-        range conv32 few j in
+    subst (λ (c : Settings).
+    inRange c ≡ true → c .conv < 2 ^ 32 → FewPushes c ds → Joint c a byA b byB → Ways c (own a x .station) (byA ++ ds) b byB)
+    (j .in-order-a .sends .settings)
+    (λ range conv32 few j. ways-after a b byA byB range conv32 j x fits from few)
+    range conv32 few j in
     record { in-order-a = in-order-stays c range a x fits (j .in-order-a); in-order-b = j .in-order-b; ab = w .ab; ba = w .ba }
 
 -- ---- two openings

@@ -17,7 +17,7 @@ use Rattle.session.specs.AllLaws.{all-left, all-right, all-unmapped}
 use Rattle.control.specs.Views.{stateOf}
 use Rattle.delivery.specs.Hearing.{CallFits, FewPushes}
 use Rattle.delivery.specs.PlainReceiver.{pushesIn}
-use Rattle.demands.specs.Steps.{Endpoint, Called, Runs, start, next, SinceOpening}
+use Rattle.demands.specs.Steps.{Endpoint, Called, Runs, start, next}
 use Rattle.demands.specs.Stations.{stationOf}
 use Rattle.demands.specs.Simulation.{Kept, own-call, kept-call}
 use Rattle.demands.specs.RunLaws.{opens-station, opens-kept, taken, since-opening}
@@ -166,17 +166,17 @@ passed-by-pushes c moves a b a″ ha hb heard read trip few-a few-b =
     let fresh-a = opens-kept c (ha .first) (ha .opens) in
     let fresh-b = opens-kept c (hb .first) (hb .opens) in
     let m =
-        joint-moves c range conv32 moves (ha .first) (hb .first) a b [] [] (ha .runs) (hb .runs) (ha .fits) (hb .fits)
-        (few-left c (datagramsBy (eventsOfA moves)) (trip .there .writes) few-a)
-        (few-left c (datagramsBy (eventsOfB moves)) (trip .back .writes) few-b)
-        heard fresh-a fresh-b
-        (joint-opened c (stationOf (ha .first)) (stationOf (hb .first)) (opens-station c (ha .first) (ha .opens))
-        (opens-station c (hb .first) (hb .opens))) in
+    joint-moves c range conv32 moves (ha .first) (hb .first) a b [] [] (ha .runs) (hb .runs) (ha .fits) (hb .fits)
+    (few-left c (datagramsBy (eventsOfA moves)) (trip .there .writes) few-a)
+    (few-left c (datagramsBy (eventsOfB moves)) (trip .back .writes) few-b)
+    heard fresh-a fresh-b
+    (joint-opened c (stationOf (ha .first)) (stationOf (hb .first)) (opens-station c (ha .first) (ha .opens))
+    (opens-station c (hb .first) (hb .opens))) in
     let nine =
-        nine-after c range conv32 (read .before) (read .room) (read .since) (hb .first) b
-        (subst (λ (l : List Event). Runs (hb .first) (callsOf l) l b) (read .are) (hb .runs))
-        (subst (λ (l : List Event). All CallFits (callsOf l)) (read .are) (hb .fits))
-        (read .unheard) fresh-b in
+    nine-after c range conv32 (read .before) (read .room) (read .since) (hb .first) b
+    (subst (λ (l : List Event). Runs (hb .first) (callsOf l) l b) (read .are) (hb .runs))
+    (subst (λ (l : List Event). All CallFits (callsOf l)) (read .are) (hb .fits))
+    (read .unheard) fresh-b in
     let f = trip .there in
     let g = trip .back in
     let ka = since-opening ha .kept in
@@ -189,8 +189,8 @@ passed-by-pushes c moves a b a″ ha hb heard read trip few-a few-b =
     let fa = fed-runs c range conv32 (g .arrivals) (trip .a′) a″ (g .events) (g .hears) bytes′ ka′ in
     subst (λ (s : Station). Passed (a .link .flight .una) (s .state .sending .una))
     (ap (λ (x : Station). fed x (g .arrivals)) (sa .station) ∙ sym (fa .station))
-    (passed c range conv32 (stationOf a) (stationOf b) (m .byA) (m .byB) (f .call) (g .call) (f .writes) (g .writes) (f .arrivals) (g .arrivals)
-    (m .joint) nine (f .fits .0) (g .fits .0) bytes bytes′
+    (passed c range conv32 (stationOf a) (stationOf b) (m .byA) (m .byB) (f .call) (g .call) (f .writes) (g .writes)
+    (f .arrivals) (g .arrivals) (m .joint) nine (f .fits .0) (g .fits .0) bytes bytes′
     (sa .answer)
     (ap (λ (x : Station). own x (g .call) .answer) (sym (fb .station)) ∙ sb .answer)
     (f .all-arrive) (g .all-arrive)

@@ -136,7 +136,8 @@ module _ (c : Settings) (current : ℕ) where
       s′ : Sending
       s′ = heardBySending c current s (h .header)
 
-      one : (n : ℕ) → n < N → (b : Bool) → acknowledges (s .next) (h .header) n ≡ b → (occurs n (numbersOf (s′ .outstanding)) || has r n) ≡ true
+      one : (n : ℕ) → n < N → (b : Bool) → acknowledges (s .next) (h .header) n ≡ b
+          → (occurs n (numbersOf (s′ .outstanding)) || has r n) ≡ true
       one n l true e = or-right (occurs n (numbersOf (s′ .outstanding))) (has r n) (said-had N (s .next) r h top k (a .0) n l e)
       one n l false e =
           or-both (occurs n (numbersOf (s .outstanding))) (has r n) (occurs n (numbersOf (s′ .outstanding))) (has r n)
@@ -151,7 +152,8 @@ module _ (c : Settings) (current : ℕ) where
   una-floor v s g top l e a =
       rw (heard-numbers s (g .header))
       (all-failing (acknowledges (s .next) (g .header)) (λ (n : ℕ). v ≤ n) (s .outstanding)
-      (all-weaker (λ (n : ℕ). n < s .next) (λ (n : ℕ). acknowledges (s .next) (g .header) n ≡ false → v ≤ n) at (numbersOf (s .outstanding)) a))
+      (all-weaker (λ (n : ℕ). n < s .next) (λ (n : ℕ). acknowledges (s .next) (g .header) n ≡ false → v ≤ n) at
+      (numbersOf (s .outstanding)) a))
     where
       una : ℕ
       una = g .header .una
@@ -165,7 +167,7 @@ module _ (c : Settings) (current : ℕ) where
       at : (n : ℕ) → n < s .next → acknowledges (s .next) (g .header) n ≡ false → v ≤ n
       at n h q =
           let p : (not (isAfter una (s .next)) && isAfter una n) ≡ false =
-              first-fails (not (isAfter una (s .next)) && isAfter una n) (eqb (g .header .cmd) ack && eqb n (g .header .sn)) q in
+          first-fails (not (isAfter una (s .next)) && isAfter una n) (eqb (g .header .cmd) ack && eqb n (g .header .sn)) q in
           let z : isAfter una n ≡ false = rw counts at p in
           omega (arith, e, ltb-false n una (sym (after-small una n (omega (arith, e)) (omega arith)) ∙ z))
 

@@ -24,7 +24,6 @@ use Rattle.lists.specs.declared.Waiting.{Waiting}
 use Rattle.lists.specs.Orders.{waitingOffset}
 use Rattle.schedule.specs.Schedules.{updated}
 use Rattle.schedule.specs.declared.Schedule.{Schedule}
-use Rattle.schedule.specs.declared.Updated.{Updated}
 use Rattle.session.specs.Slots.{occurs}
 use Rattle.session.specs.State.{State, Sending, Receiving, Outcome, withReceiving, withSchedule}
 use Rattle.session.specs.Input.{Receiver, allBySending, allByReceiving, ackNumbers, skippedByAll, applied, input}
@@ -130,7 +129,7 @@ flush-answers-own s range conv32 o x ds fits e =
     let f = is-flush s x ds fits e in
     let state : State = withSchedule (s .state) (f .schedule) in
     let able : Flushable state (s .sendPool) =
-        flushable-rescheduled (s .state) (s .sendPool) (f .schedule) (in-order-flushable s range conv32 o) in
+    flushable-rescheduled (s .state) (s .sendPool) (f .schedule) (in-order-flushable s range conv32 o) in
     let these : wroteBy state (f .t) (s .sendPool) ≡ ds = ap datagramsIn (sym (ap (λ (y : Stepped). y .answer) (f .is)) ∙ e) in
     rw (← these) (record {
       una = flush-una state (s .sendPool) able (f .t) (f .time);
@@ -315,7 +314,7 @@ module _ (c : Settings) (range : inRange c ≡ true) (conv32 : c .conv < 2 ^ 32)
       let r₁ : Station = own r (Call.takeIn d) .station in
       let x = one-goes-in u d r q byR byQ (m .0) j l (rw e at h) in
       let i : TookAll (q .state .sending .next) (r₁ .state .receiving) (fed r₁ ds .state .receiving) =
-          all-arrive ds r₁ q byR byQ (bytes .1) (m .1) (joint-takes r q byR byQ d (bytes .0) (m .0) j) in
+      all-arrive ds r₁ q byR byQ (bytes .1) (m .1) (joint-takes r q byR byQ d (bytes .0) (m .0) j) in
       (i .took .keeps u (x .0), omega (arith, x .1, i .more))
   push-arrives u it (d ∷ ds) r q byR byQ (List·Memᴰ·tail n) h bytes m j l =
       let r₁ : Station = own r (Call.takeIn d) .station in
@@ -379,8 +378,8 @@ module _ (c : Settings) (range : inRange c ≡ true) (conv32 : c .conv < 2 ^ 32)
       let a₁ : Station = own a (Call.takeIn d) .station in
       let o = j .in-order-a in
       let i =
-          floor-kept v ds a₁ b byA byB (bytes .1) (m .1) (x .1) (joint-takes a b byA byB d (bytes .0) (m .0) j)
-          (floor-stays v d a o (x .0) f) in
+      floor-kept v ds a₁ b byA byB (bytes .1) (m .1) (x .1) (joint-takes a b byA byB d (bytes .0) (m .0) j)
+      (floor-stays v d a o (x .0) f) in
       record { floor = i .floor; next = i .next ∙ next-stays v d a o (x .0) }
 
   floor-fed : (v : ℕ) (ds : List (List ℕ)) (a b : Station) (byA byB : List (List ℕ)) → 0 < length ds → v ≤ a .state .sending .next
@@ -392,8 +391,8 @@ module _ (c : Settings) (range : inRange c ≡ true) (conv32 : c .conv < 2 ^ 32)
       let a₁ : Station = own a (Call.takeIn d) .station in
       let o = j .in-order-a in
       let i =
-          floor-kept v ds a₁ b byA byB (bytes .1) (m .1) (x .1) (joint-takes a b byA byB d (bytes .0) (m .0) j)
-          (floor-one v d a o (x .0) b byA byB j l) in
+      floor-kept v ds a₁ b byA byB (bytes .1) (m .1) (x .1) (joint-takes a b byA byB d (bytes .0) (m .0) j)
+      (floor-one v d a o (x .0) b byA byB j l) in
       record { floor = i .floor; next = i .next ∙ next-stays v d a o (x .0) }
 
   -- ---- the round trip
@@ -413,7 +412,8 @@ module _ (c : Settings) (range : inRange c ≡ true) (conv32 : c .conv < 2 ^ 32)
       → All (λ (d : List ℕ). List·Memᴰ d (by ++ ds)) arrivals
   among by ds = all-weaker (λ (d : List ℕ). List·Memᴰ d ds) (λ (d : List ℕ). List·Memᴰ d (by ++ ds)) (λ d m. Memᴰ·append-right by m)
 
-  -- the sender a writes ds by the call x, which arrive at the receiver b as `there`; b then writes ds′ by the call x′, which arrive as `back`
+  -- the sender a writes ds by the call x, which arrive at the receiver b as `there`; b then writes ds′ by the call x′, which arrive at a
+  -- as `back`
   module _ (a b : Station) (byA byB : List (List ℕ)) (x x′ : Call) (ds ds′ there back : List (List ℕ))
       (j : Joint c a byA b byB) (nine : Nine (b .state .receiving))
       (fits : CallFits x) (fits′ : CallFits x′) (bytes : All AllBytes there) (bytes′ : All AllBytes back)
@@ -499,7 +499,7 @@ module _ (c : Settings) (range : inRange c ≡ true) (conv32 : c .conv < 2 ^ 32)
         go false e (inr p) =
             let same : v ≡ u = omega (arith, ltb-false u v e, not-past, arrived .took .up) in
             let still : length (b₁ .state .receiving .ready) < receiveWindow =
-                omega (arith, nine .few, arrived .took .level, same, not-past, arrived .took .up) in
+            omega (arith, nine .few, arrived .took .level, same, not-past, arrived .took .up) in
             absurd (true≢false
             (sym p
             ∙ ap (λ (n : ℕ). occurs n (waitingNumbers (b₁ .state .receiving .waiting))) (sym same)
