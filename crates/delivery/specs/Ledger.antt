@@ -3,16 +3,15 @@
 -- snd_nxt (`acknowledges`). Definitions.
 -- Assumes nothing.
 use mathlib.Core.Path.{_≡_}
-use mathlib.Core.Bool.{cond}
 use mathlib.Core.List.{List, [], _∷_}
-use Prim.Native.Nat.{ℕ, zero, suc, _+_}
+use Prim.Native.Nat.{ℕ, _+_}
 use lib.ListN.{length}
 use Rattle.protocol.specs.Protocol.{sendSlots}
 use Rattle.protocol.specs.Ranges.{mss, isStream}
 use Rattle.protocol.specs.declared.Settings.{Settings}
 use Rattle.datagram.specs.Datagrams.{Segment, Parsed, parse}
 use Rattle.lists.specs.Acknowledging.{keep}
-use Rattle.session.specs.Slots.{occurs}
+use Rattle.session.specs.Slots.{usedBelow}
 use Rattle.session.specs.State.{State, Sending, sendHeld, slots}
 use Rattle.session.specs.Cutting.{segmentCount}
 use Rattle.session.specs.Sending.{filled}
@@ -20,11 +19,6 @@ use Rattle.session.specs.Input.{acknowledges, heardBySending}
 use Rattle.session.specs.Calls.{Station, Call, Answer, step}
 
 -- ---- used send slots
-
--- how many of the slots 0 to n - 1 are in the list
-unfoldable pub usedBelow : ℕ → List ℕ → ℕ
-usedBelow zero l = 0
-usedBelow (suc n) l = cond (occurs n l) (suc (usedBelow n l)) (usedBelow n l)
 
 -- the send slots that an outstanding or a queued segment holds
 unfoldable pub usedSlots : Sending → ℕ

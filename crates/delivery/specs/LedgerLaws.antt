@@ -17,7 +17,7 @@ use Rattle.datagram.specs.Datagrams.{Segment}
 use Rattle.lists.specs.declared.Held.{Held}
 use Rattle.lists.specs.declared.Sent.{Sent}
 use Rattle.lists.specs.Acknowledging.{select, skipBefore}
-use Rattle.session.specs.Slots.{occurs}
+use Rattle.session.specs.UsedSlots.{used-all}
 use Rattle.session.specs.State.{State, Sending, sendHeld, slots, withWindow, withQueue, withOutstanding}
 use Rattle.session.specs.Opening.{opened}
 use Rattle.session.specs.Cutting.{fragmentCount, segmentCount}
@@ -28,7 +28,7 @@ use Rattle.session.specs.Input.{acknowledges, heardBySending, allBySending, fur
 use Rattle.session.specs.Flushing.{numberedCount, flushing}
 use Rattle.session.specs.Calls.{Station, Call, Answer, Stepped, Event, own, history, after, acceptedBy, acceptedList}
 use Rattle.session.specs.Decides.{All}
-use Rattle.session.specs.Once.{Distinct}
+use Rattle.session.specs.AllLaws.{all-mapped}
 use Rattle.delivery.specs.PlainReceiver.{segmentsOf}
 use Rattle.delivery.specs.Hearing.{Taken, CallFits}
 use Rattle.delivery.specs.Stations.{Opened}
@@ -41,43 +41,15 @@ use Rattle.delivery.specs.SendingHalf.{Half}
 use Rattle.delivery.specs.SendingTakesIn.{skip-held}
 use Rattle.delivery.specs.SendingFlushes.{flushedWith, flushed-held, count-few, count-room}
 use Rattle.delivery.specs.SendingStays.{SendingInOrder, own-settings, half-in, sending-stays, sending-always, opened-in-order}
-use Rattle.delivery.specs.Ledger.{usedBelow, usedSlots, fragmentsBy, stationAccepted, acknowledgedByEach, acknowledgedBy, stationAcknowledged, Ledger}
+use Rattle.delivery.specs.Ledger.{usedSlots, fragmentsBy, stationAccepted, acknowledgedByEach, acknowledgedBy, stationAcknowledged, Ledger}
 
 -- ---- slots are held once, so there are as many as segments
 
-used-above : (n x : ℕ) (l : List ℕ) → n ≤ x → usedBelow n (x ∷ l) ≡ usedBelow n l
-unfolding usedBelow occurs
-used-above zero x l h = refl
-used-above (suc n) x l h = rw (ne-eqb n x (omega arith), used-above n x l (omega arith))
-
-used-more : (n x : ℕ) (l : List ℕ) → x < n → occurs x l ≡ false → usedBelow n (x ∷ l) ≡ suc (usedBelow n l)
-unfolding usedBelow occurs
-used-more zero x l h e = absurd (omega arith)
-used-more (suc n) x l h e = go (eqb n x) refl (used-more n x l)
-  where
-    go : (b : Bool) → eqb n x ≡ b → (x < n → occurs x l ≡ false → usedBelow n (x ∷ l) ≡ suc (usedBelow n l)) →
-        cond (b || occurs n l) (suc (usedBelow n (x ∷ l))) (usedBelow n (x ∷ l)) ≡ suc (cond (occurs n l) (suc (usedBelow n l)) (usedBelow n l))
-    go true q later =
-        let none : occurs n l ≡ false = ap (λ (j : ℕ). occurs j l) (eqb-true n x q) ∙ e in
-        rw (none, used-above n x l (omega (arith, eqb-true n x q)))
-    go false q later = rw (later (omega (arith, eqb-false n x q)) e) (at (occurs n l))
-      where
-        at : (b : Bool) → cond b (suc (suc (usedBelow n l))) (suc (usedBelow n l)) ≡ suc (cond b (suc (usedBelow n l)) (usedBelow n l))
-        at true = refl
-        at false = refl
-
-used-none : (n : ℕ) → usedBelow n [] ≡ 0
-unfolding usedBelow occurs
-used-none zero = refl
-used-none (suc n) = used-none n
-
-used-all : (n : ℕ) (l : List Held) → Distinct (slots l) → All (λ (h : Held). h .slot < n) l → usedBelow n (slots l) ≡ length l
-used-all n [] d a = used-none n
-used-all n (h ∷ l) d a = used-more n (h .slot) (slots l) (a .0) (d .0) ∙ ap suc (used-all n l (d .1) (a .1))
-
 pub used-held : (c : Settings) (s : Sending) → Half c s → usedSlots s ≡ length (sendHeld s)
 unfolding usedSlots
-used-held c s h = used-all sendSlots (sendHeld s) (h .held .distinct) (h .held .low)
+used-held c s h =
+    used-all sendSlots (slots (sendHeld s)) (h .held .distinct) (all-mapped (λ (n : ℕ). n < sendSlots) (λ (x : Held). x .slot) (sendHeld s) (h .held .low))
+    ∙ length-map (sendHeld s) (λ (x : Held). x .slot)
 
 -- ---- an arriving segment removes what it acknowledges
 

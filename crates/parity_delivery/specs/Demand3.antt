@@ -15,7 +15,8 @@ use lib.ListN.{length, getD}
 use Rattle.protocol.specs.declared.Settings.{Settings}
 use Rattle.wire.specs.LittleEndian.{AllBytes}
 use Rattle.session.specs.Decides.{All}
-use Rattle.session.specs.Calls.{Call, Event, acceptedList, datagramsBy}
+use Rattle.session.specs.Calls.{Call, Event, datagramsBy}
+use Rattle.delivery.specs.Accepted.{acceptedFor}
 use Rattle.delivery.specs.Hearing.{FewPushes, FedWith, HearsMore}
 use Rattle.demands.specs.Steps.{Endpoint, SinceOpening}
 use Rattle.delivery.specs.Claims.{Delivered}
@@ -168,7 +169,7 @@ pub demand-3-through-parity :
     FedThrough (datagramsBy events) firsts →
     FedThrough (datagramsBy events) seconds →
     HearsMore firsts seconds →
-    Delivered c (acceptedList events) (observed firsts heard₁ first) (observed seconds heard₂ second)
+    Delivered c (acceptedFor c events) (observed firsts heard₁ first) (observed seconds heard₂ second)
 demand-3-through-parity c calls firsts seconds events heard₁ heard₂ sender first second h h₁ h₂ few fed₁ fed₂ hears =
     demand-3 c calls firsts seconds events heard₁ heard₂ sender first second h h₁ h₂ few
     (fed-with (datagramsBy events) firsts fed₁) (fed-with (datagramsBy events) seconds fed₂) hears

@@ -3,9 +3,9 @@
 use mathlib.Core.Path.{_≡_, refl, sym, ap, _∙_}
 use mathlib.Core.Bool.{Bool, true, false, cond, true≢false}
 use mathlib.Core.List.{List, [], _∷_, _++_, map}
-use Prim.Native.Nat.{ℕ, _+_, _-_, _*_, min}
+use Prim.Native.Nat.{ℕ, _+_, _-_, _*_, _<_, min}
 use native.Mathlib.Omega.{arith}
-use borrow.Author.Tests.{ltb-false}
+use borrow.Author.Tests.{ltb-false, lt-ltb, le-ltb}
 use lib.Dec.{ltb}
 use lib.ListN.{length, take, drop, length-map, take-append-drop}
 use lib.Seq.{sets, length-sets}
@@ -19,13 +19,14 @@ unfolding filled
 fill-off false e m q pool b = refl
 fill-off true e m q pool b = absurd (true≢false e)
 
--- how many of n bytes are filled: what the last queued segment is shorter than mss, at most n
+-- what the last one is shorter than mss
 abbrev pub lastRoom : ℕ → List Held → ℕ
 lastRoom m [] = 0
 lastRoom m (x ∷ l) = m - x .len
 
-unfoldable pub fillCount : Bool → ℕ → List Held → ℕ → ℕ
-fillCount stream m q n = cond stream (min n (lastRoom m (drop (length q - 1) q))) 0
+-- how many bytes the last queued segment can take in: none in message mode
+unfoldable pub roomOf : Bool → ℕ → List Held → ℕ
+roomOf stream m q = cond stream (lastRoom m (drop (length q - 1) q)) 0
 
 module _ (m : ℕ) (q : List Held) (pool b : List ℕ) where
   -- what holds where nothing is filled, and where the last one is, holds of what filling gives
@@ -64,9 +65,9 @@ module _ (m : ℕ) (q : List Held) (pool b : List ℕ) where
   filled-length = filled-cases (λ (f : Filled). length (f .pool) ≡ length pool) refl (λ x l e. length-sets pool (x .slot * m + x .len) (take (min (length b) (m - x .len)) b))
 
   -- the bytes left are those behind the filled ones
-  pub filled-rest : (stream : Bool) → filled stream m q pool b .rest ≡ drop (fillCount stream m q (length b)) b
-  unfolding filled fillCount
-  filled-rest false = refl
+  pub filled-rest : (stream : Bool) → filled stream m q pool b .rest ≡ drop (min (length b) (roomOf stream m q)) b
+  unfolding filled roomOf
+  filled-rest false = let e : min (length b) 0 ≡ 0 = omega arith in rw e
   filled-rest true = go (drop (length q - 1) q)
     where
       go : (l : List Held) → fillLast m q l pool b .rest ≡ drop (min (length b) (lastRoom m l)) b
@@ -78,3 +79,24 @@ module _ (m : ℕ) (q : List Held) (pool b : List ℕ) where
               .rest ≡ drop (min (length b) (m - x .len)) b
           at true e = refl
           at false e = let h = ltb-false (x .len) m e in let n : min (length b) (m - x .len) ≡ 0 = omega arith in rw n
+
+  -- without room all stays
+  pub filled-none : (stream : Bool) → roomOf stream m q ≡ 0 → filled stream m q pool b ≡ record { queued = q; pool = pool; rest = b }
+  unfolding filled roomOf
+  filled-none false e = refl
+  filled-none true e = go (drop (length q - 1) q) e
+    where
+      go : (l : List Held) → lastRoom m l ≡ 0 → fillLast m q l pool b ≡ record { queued = q; pool = pool; rest = b }
+      go [] e = refl
+      go (x ∷ l) e = rw (le-ltb (x .len) m (omega arith))
+
+  -- with room the last one is lengthened
+  pub filled-some : (stream : Bool) (x : Held) (l : List Held) → drop (length q - 1) q ≡ x ∷ l → 0 < roomOf stream m q
+      → (roomOf stream m q ≡ m - x .len) × (filled stream m q pool b ≡ lengthened m q x l (min (length b) (roomOf stream m q)) pool b)
+  unfolding filled roomOf
+  filled-some false x l e h = absurd (omega arith)
+  filled-some true x l e h = rw e (go (rw e at h))
+    where
+      go : 0 < m - x .len →
+          (m - x .len ≡ m - x .len) × (fillLast m q (x ∷ l) pool b ≡ lengthened m q x l (min (length b) (m - x .len)) pool b)
+      go h = (refl, rw (lt-ltb (x .len) m (omega arith)))

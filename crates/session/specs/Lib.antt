@@ -4,6 +4,7 @@ pub mod Valid
 pub mod Decides
 pub mod AllLaws
 pub mod Once
+pub mod UsedSlots
 pub mod Ascending
 pub mod SendingValid
 pub mod ReceivingValid

@@ -8,7 +8,8 @@ use mathlib.Core.Path.{_≡_, refl, sym, subst, _∙_}
 use mathlib.Core.List.{List, [], _∷_, List·Memᴰ, List·Memᴰ·head, List·Memᴰ·tail, Memᴰ·append-left}
 use Prim.Native.Nat.{ℕ}
 use Rattle.protocol.specs.declared.Settings.{Settings}
-use Rattle.session.specs.Calls.{Call, Event, acceptedList, datagramsBy, readAnswers, messagesRead}
+use Rattle.session.specs.Calls.{Call, Event, datagramsBy, readAnswers, messagesRead}
+use Rattle.delivery.specs.Accepted.{acceptedFor}
 use Rattle.delivery.specs.Hearing.{FewPushes, FedWith, HearsMore, start, both-take, both-read, first-sends, first-flushes, first-updates, first-checks, second-sends, second-flushes, second-updates, second-checks}
 use Rattle.demands.specs.Steps.{Endpoint, SinceOpening}
 use Rattle.demands.specs.Demand3.{demand-3}
@@ -54,7 +55,7 @@ module _
     (few : FewPushes c (datagramsBy events)) (fed : FedWith (datagramsBy events) heard)
   where
     -- what the receiver has read, the sender was given
-    pub read-given : (m : List ℕ) → List·Memᴰ m (messagesRead (readAnswers answers)) → List·Memᴰ m (acceptedList events)
+    pub read-given : (m : List ℕ) → List·Memᴰ m (messagesRead (readAnswers answers)) → List·Memᴰ m (acceptedFor c events)
     read-given m k =
         let b = demand-3 c calls heard heard events answers answers sender receiver receiver sends hears hears few fed fed (hears-itself heard) .first-receives .begins in
         subst (λ (l : List (List ℕ)). List·Memᴰ m l) (b .whole) (Memᴰ·append-left (b .rest) k)
@@ -62,12 +63,12 @@ module _
     -- one message that it has read, taken into a table
     pub taken-from-link :
         (m before : List ℕ) (a : Changing) (after : List ℕ) → List·Memᴰ m (messagesRead (readAnswers answers)) → TakesTag m before a after →
-        Genuine (acceptedList events) m before after
+        Genuine (acceptedFor c events) m before after
     taken-from-link m before a after k p = record { given = read-given m k; keeps = take-keeps m before a after p }
 
     -- all messages that it has read, taken one after the other: an entry whose name the sender was never given in a message is as it was
     pub all-taken :
         (before after : List ℕ) → Takes (messagesRead (readAnswers answers)) before after → (i : ℕ) →
-        ((m : List ℕ) → List·Memᴰ m (acceptedList events) → Other (nameIn m) (entryAt (entriesIn before) i)) →
+        ((m : List ℕ) → List·Memᴰ m (acceptedFor c events) → Other (nameIn m) (entryAt (entriesIn before) i)) →
         entryAt (entriesIn after) i ≡ entryAt (entriesIn before) i
     all-taken before after t i o = all-keep t i (λ m k. o m (read-given m k))

@@ -1,4 +1,5 @@
 pub mod OfStations
+pub mod OfStreams
 pub mod Blocks
 pub mod OfEndpoints
 pub mod OfQuiet

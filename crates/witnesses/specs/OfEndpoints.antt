@@ -22,8 +22,8 @@ use Rattle.lists.specs.Acknowledging.{select, firstNumberOr, skipBefore}
 use Rattle.sizes.specs.Sizes.{enough, enoughToFlush}
 use Rattle.session.specs.Slots.{occurs, lowestFrom, lowestFree}
 use Rattle.session.specs.Valid.{numbersFit, waitingFits, settled, sendingValid, receivingValid, valid}
-use Rattle.session.specs.Cutting.{fragmentCount, pieces, cut}
-use Rattle.session.specs.Sending.{place, sending}
+use Rattle.session.specs.Cutting.{fragmentCount, segmentCount, pieces, cutAs}
+use Rattle.session.specs.Sending.{place, filled, sending}
 use Rattle.session.specs.Flushing.{numbered, numberedCount, withNumbered, transmittedNow, written, bytesOfSegments, packOne, packed, flushing}
 use Rattle.session.specs.Input.{acknowledged, sampledBy, heardBySending, pushed, heardByReceiving, allBySending, allByReceiving, ackNumbers, furthest, skipped, applied, input}
 use Rattle.session.specs.Reading.{joinedIn, message, lengthOf, messageSize, afterRead, reading}
@@ -37,6 +37,7 @@ use Rattle.answers.specs.declared.Answer.the-variants as answer
 use Rattle.answers.specs.declared.Count.the-variants as count
 use Rattle.promises.specs.Parts.{Parts}
 use Rattle.promises.specs.Outcomes.{sendsWith, takesInWith, flushesWith, readsWith, sends, takesIn, flushes, reads}
+use Rattle.delivery.specs.Accepted.{acceptedFor}
 use Rattle.delivery.specs.PlainReceiver.{pushNumbers, pushesIn}
 use Rattle.delivery.specs.Hearing.{FewPushes, FedWith, HearsMore}
 use Rattle.demands.specs.Steps.{Endpoint, cutBy, Called, start, next, Opens, SinceOpening}
@@ -109,7 +110,7 @@ record Met : Type 0 where
   bytes : AllBytes datagram
 
 met : Met
-unfolding sent flushed fresh heard finished datagram parts opened opening entriesOf countsFit stateOf pairs joining.joined blockValid scattered joined lengthsOf cutBy sendsWith takesInWith flushesWith readsWith signed isBefore isAfter isDue front back encode decode bytesOf numberAt verdict segmentOf tail walk parse longerWait nextClock nextSmoothed nextVariation leastTimeout timeoutOf sampled firstDue growth longerTimeout isSkipped transmission select firstNumberOr skipBefore advance startsAt insert isHeld ascending enough enoughToFlush datagramsBy pushesIn pushNumbers fragmentCount pieces cut numbered numberedCount withNumbered transmittedNow written bytesOfSegments packOne packed flushing acknowledged sampledBy heardBySending pushed heardByReceiving allBySending allByReceiving ackNumbers furthest skipped applied input joinedIn message lengthOf messageSize afterRead reading place sending occurs lowestFrom lowestFree numbersFit waitingFits settled sendingValid receivingValid valid paired
+unfolding sent flushed fresh heard finished datagram parts opened opening entriesOf countsFit stateOf pairs joining.joined blockValid scattered joined lengthsOf cutBy sendsWith takesInWith flushesWith readsWith signed isBefore isAfter isDue front back encode decode bytesOf numberAt verdict segmentOf tail walk parse longerWait nextClock nextSmoothed nextVariation leastTimeout timeoutOf sampled firstDue growth longerTimeout isSkipped transmission select firstNumberOr skipBefore advance startsAt insert isHeld ascending enough enoughToFlush datagramsBy pushesIn pushNumbers fragmentCount segmentCount pieces cutAs filled numbered numberedCount withNumbered transmittedNow written bytesOfSegments packOne packed flushing acknowledged sampledBy heardBySending pushed heardByReceiving allBySending allByReceiving ackNumbers furthest skipped applied input joinedIn message lengthOf messageSize afterRead reading place sending occurs lowestFrom lowestFree numbersFit waitingFits settled sendingValid receivingValid valid paired
 met = record {
   opens = record {
     block = linkOf (opened c);
@@ -207,6 +208,7 @@ second-runs = record {
 
 -- demand 3 says something of them
 pub holds : Delivered c (acceptedList events) (observed firsts heard₁ fresh) (observed seconds heard₂ finished)
+unfolding acceptedFor
 holds =
     demand-3 c calls firsts seconds events heard₁ heard₂ flushed fresh finished sender-runs first-runs second-runs (met .few) tt (met .fed)
     (HearsMore.takes-more (HearsMore.both-read HearsMore.start))

@@ -22,8 +22,8 @@ use Rattle.schedule.specs.Schedules as scheduling
 use Rattle.schedule.specs.Schedules.{isAstray, corrected, started, following, ahead, earliest, named}
 use Rattle.session.specs.Slots.{occurs, lowestFrom, lowestFree}
 use Rattle.session.specs.Valid.{numbersFit, waitingFits, settled, sendingValid, receivingValid, valid}
-use Rattle.session.specs.Cutting.{fragmentCount, pieces, cut}
-use Rattle.session.specs.Sending.{place, sending}
+use Rattle.session.specs.Cutting.{fragmentCount, segmentCount, pieces, cutAs}
+use Rattle.session.specs.Sending.{place, filled, sending}
 use Rattle.session.specs.Flushing.{numbered, numberedCount, withNumbered, transmittedNow, written, bytesOfSegments, packOne, packed, flushing}
 use Rattle.session.specs.Updating.{updating, checking}
 use Rattle.session.specs.Opening.{opened, opening}
@@ -96,7 +96,7 @@ lengths = replicate 290 0
 -- ---- each call keeps its promise
 
 pub updates-it : Called sent (Call.update 7) (Answer.wrote (datagram ∷ [])) updated
-unfolding sent fresh updated datagram parts opened opening countsFit stateOf pairs joining.joined blockValid scattered joined lengthsOf cutBy sendsWith updatesWith checksWith scheduling.updated corrected started following isAstray ahead earliest named updating checking signed isBefore isAfter isDue front back encode bytesOf longerWait nextClock leastTimeout firstDue growth longerTimeout isSkipped transmission firstNumberOr startsAt ascending enough enoughToFlush fragmentCount pieces cut numbered numberedCount withNumbered transmittedNow written bytesOfSegments packOne packed flushing place sending occurs lowestFrom lowestFree numbersFit waitingFits settled sendingValid receivingValid valid paired
+unfolding sent fresh updated datagram parts opened opening countsFit stateOf pairs joining.joined blockValid scattered joined lengthsOf cutBy sendsWith updatesWith checksWith scheduling.updated corrected started following isAstray ahead earliest named updating checking signed isBefore isAfter isDue front back encode bytesOf longerWait nextClock leastTimeout firstDue growth longerTimeout isSkipped transmission firstNumberOr startsAt ascending enough enoughToFlush fragmentCount segmentCount pieces cutAs filled numbered numberedCount withNumbered transmittedNow written bytesOfSegments packOne packed flushing place sending occurs lowestFrom lowestFree numbersFit waitingFits settled sendingValid receivingValid valid paired
 updates-it = record {
   output = output;
   lengths = lengths;

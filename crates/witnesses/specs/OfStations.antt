@@ -24,14 +24,15 @@ use Rattle.lists.specs.Acknowledging.{select, firstNumberOr, skipBefore}
 use Rattle.sizes.specs.Sizes.{enough, enoughToFlush}
 use Rattle.session.specs.Slots.{occurs, lowestFrom, lowestFree}
 use Rattle.session.specs.Valid.{numbersFit, waitingFits, settled, sendingValid, receivingValid, valid}
-use Rattle.session.specs.Cutting.{fragmentCount, pieces, cut}
-use Rattle.session.specs.Sending.{place, sending}
+use Rattle.session.specs.Cutting.{fragmentCount, segmentCount, pieces, cutAs}
+use Rattle.session.specs.Sending.{place, filled, sending}
 use Rattle.session.specs.Flushing.{numbered, numberedCount, withNumbered, transmittedNow, written, bytesOfSegments, packOne, packed, flushing}
 use Rattle.session.specs.Input.{acknowledged, sampledBy, heardBySending, pushed, heardByReceiving, allBySending, allByReceiving, ackNumbers, furthest, skipped, applied, input}
 use Rattle.session.specs.Reading.{joinedIn, message, lengthOf, messageSize, afterRead, reading}
 use Rattle.session.specs.Opening.{opened}
 use Rattle.session.specs.Calls.{Station, Call, Answer, step, history, after, acceptedList, datagramsBy, readAnswers}
 use Rattle.session.specs.Decides.{All, and-parts}
+use Rattle.delivery.specs.Accepted.{acceptedFor}
 use Rattle.delivery.specs.PlainReceiver.{pushNumbers, pushesIn}
 use Rattle.delivery.specs.Hearing.{CallFits, FewPushes, FedWith, HearsMore}
 use Rattle.delivery.specs.Claims.{Delivered}
@@ -53,7 +54,7 @@ bytes-by (x ∷ l) e (suc i) = bytes-by l (and-parts (ltb x 256) (byteTest l) e 
 -- ---- the three
 
 abbrev pub c : Settings
-c = record { conv = 1; mtu = 50; mode = 0; interval = 100; threshold = 2 }
+c = record { conv = 1; mtu = 50; mode = 0; interval = 100; threshold = 2; stream = 0 }
 
 unfoldable pub station : Station
 station = record {
@@ -104,7 +105,7 @@ pub record Met : Type 0 where
   pub second-reads : readAnswers (history station seconds) ≡ Answer.message (replicate 27 7) ∷ Answer.message (9 ∷ []) ∷ []
 
 pub met : Met
-unfolding firsts seconds wrote station calls pushNumbers pushesIn signed isBefore isAfter isDue front back encode decode bytesOf numberAt verdict segmentOf tail walk parse longerWait nextClock nextSmoothed nextVariation leastTimeout timeoutOf sampled firstDue growth longerTimeout isSkipped transmission select firstNumberOr skipBefore advance startsAt insert isHeld ascending enough enoughToFlush step history after datagramsBy fragmentCount pieces cut numbered numberedCount withNumbered transmittedNow written bytesOfSegments packOne packed flushing acknowledged sampledBy heardBySending pushed heardByReceiving allBySending allByReceiving ackNumbers furthest skipped applied input opened joinedIn message lengthOf messageSize afterRead reading place sending occurs lowestFrom lowestFree numbersFit waitingFits settled sendingValid receivingValid valid
+unfolding firsts seconds wrote station calls pushNumbers pushesIn signed isBefore isAfter isDue front back encode decode bytesOf numberAt verdict segmentOf tail walk parse longerWait nextClock nextSmoothed nextVariation leastTimeout timeoutOf sampled firstDue growth longerTimeout isSkipped transmission select firstNumberOr skipBefore advance startsAt insert isHeld ascending enough enoughToFlush step history after datagramsBy fragmentCount segmentCount pieces cutAs filled numbered numberedCount withNumbered transmittedNow written bytesOfSegments packOne packed flushing acknowledged sampledBy heardBySending pushed heardByReceiving allBySending allByReceiving ackNumbers furthest skipped applied input opened joinedIn message lengthOf messageSize afterRead reading place sending occurs lowestFrom lowestFree numbersFit waitingFits settled sendingValid receivingValid valid
 met = record {
   opens = record { state = refl; long = refl };
   sizes = refl;
@@ -121,6 +122,7 @@ met = record {
 
 -- demand 3 says something of them
 pub holds : Delivered c (acceptedList (history station calls)) (observed station firsts) (observed station seconds)
+unfolding acceptedFor
 holds =
     station-demand-3 c (record { range = refl; conv = omega arith }) station station station (met .opens) (met .opens) (met .opens) calls firsts seconds (met .fits) (met .fits-first)
     (met .fits-second)
