@@ -50,6 +50,19 @@ static void call_flush(void) { result = ampferweg_station_flush(&station, 100); 
 static void call_read(void) { result = ampferweg_station_read(&station, buffer, sizeof buffer); }
 static void call_size(void) { result = ampferweg_station_size(&station); }
 
+/* Early by a millisecond, so that it does not flush. */
+static void call_update(void)
+{
+    result = ampferweg_station_update(&station, station.link.clock.next_flush - 1);
+    if (result == AMPFERWEG_NOT_YET) result = 0;
+}
+
+static void call_check(void)
+{
+    uint32_t when;
+    result = ampferweg_station_check(&station, 100, &when);
+}
+
 static void call_show(void)
 {
     size_t len;
@@ -140,7 +153,7 @@ static void fill(void)
     call_open();
     message_len = MSS;
     for (sn = 0; sn < 128; sn++) call_send();
-    call_flush();
+    result = ampferweg_station_update(&station, 100);
     for (sn = 0; sn < 256; sn++) take_in_push(sn, (uint8_t)(sn < 127 ? 126 - sn : 0));
 }
 
@@ -150,6 +163,9 @@ static void near_empty(void)
     message_len = 1;
     say("send", call_send, 0);
     say("flush", call_flush, 0);
+    result = ampferweg_station_update(&station, 100);
+    say("update", call_update, 0);
+    say("check", call_check, 0);
     datagram_len = 0;
     add_push(0, 0, 1);
     say("input", call_input, 0);
@@ -165,6 +181,8 @@ static void near_full(void)
     message_len = sizeof message;
     say("send", call_send, 0);
     fill();
+    say("update", call_update, 0);
+    say("check", call_check, 0);
     say("flush", call_flush, 0);
     fill();
     datagram_len = 0;

@@ -128,7 +128,7 @@ def table(head, ours, theirs, key, show):
 def calls_table(calls):
     yield "| Call | ns, near empty | full | bytes of stack, near empty | full |"
     yield "|---|--:|--:|--:|--:|"
-    for call in ("open", "send", "input", "flush", "read", "size", "show"):
+    for call in ("open", "send", "input", "flush", "update", "check", "read", "size", "show"):
         (stack, time), (full_stack, full_time) = calls["empty"][call], calls["full"][call]
         yield f"| {call} | {number(time)} | {number(full_time)} | {number(stack)} | {number(full_stack)} |"
 
@@ -170,7 +170,8 @@ def document(archive, divide, ours, theirs, calls):
         *table("heap, bytes", ours, theirs, "heap", number), "",
         "## Each call", "",
         "Time (the least of many repeats from one state) and stack (a painted one) of each call of ours. Near empty: a message of one byte;",
-        "full: 32 segments outstanding, 96 queued, 128 ready with a message of 127 at the front, 128 waiting, 256 noted acks.", "",
+        "full: 32 segments outstanding, 96 queued, 128 ready with a message of 127 at the front, 128 waiting, 256 noted acks. The update is one",
+        "that does not flush.", "",
         *calls_table(calls), "",
         (HERE / "findings.md").read_text()])
 

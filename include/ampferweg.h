@@ -11,7 +11,7 @@
  *
  *     uint32_t milliseconds(void);                                        // your clock
  *     void transmit(void *socket, const uint8_t *datagram, size_t len);   // your network
- *     size_t receive(void *socket, uint8_t *datagram, size_t room);       // waits 10 ms at most; 0: none came
+ *     size_t receive(void *socket, uint8_t *datagram, size_t room, uint32_t wait); // waits so many ms at most; 0: none came
  *
  *     AMPFERWEG_STATION_STORAGE(station, 256);                            // static, about 117 KiB for an mtu of 256
  *
@@ -20,21 +20,22 @@
  *         static uint8_t datagram[2048], message[AMPFERWEG_MESSAGE_SIZE(256)];
  *         ampferweg_result result = ampferweg_station_open(&station, 7, 256, 1, 10, 2);
  *         if (result == 0) result = ampferweg_station_send(&station, "seat 12: 4 holes", 16);
- *         while (result >= 0 && !ampferweg_station_dead(&station)) {
+ *         while (!ampferweg_refusal_of(result) && !ampferweg_station_dead(&station)) {
  *             ampferweg_result count;
- *             const size_t len = receive(socket, datagram, sizeof datagram);
+ *             const size_t len = receive(socket, datagram, sizeof datagram, ampferweg_station_wait(&station, milliseconds()));
  *             if (len > 0) (void)ampferweg_station_input(&station, datagram, len); // a bad one is refused, and changes nothing
  *             while ((count = ampferweg_station_read(&station, message, sizeof message)) >= 0)
  *                 printf("%.*s\n", (int)count, (const char *)message);
- *             result = ampferweg_station_flush_to(&station, milliseconds(), transmit, socket);
+ *             result = ampferweg_station_run_to(&station, milliseconds(), transmit, socket);
  *         }
- *         if (result < 0) fprintf(stderr, "%s\n", ampferweg_text(result));
- *         return result < 0;
+ *         if (ampferweg_refusal_of(result)) fprintf(stderr, "%s\n", ampferweg_text(result));
+ *         return ampferweg_refusal_of(result);
  *     }
  *
- * Call flush about every `interval` milliseconds, and after a send that should not wait.
+ * Sleep until the time that check names, then call update. A host with a timer of its own calls flush about every `interval`
+ * milliseconds instead; so may anyone after a send that should not wait.
  *
- * The header has four parts: sizes and results; the seven calls, and settings files, which are proved; and
+ * The header has four parts: sizes and results; the nine calls, and settings files, which are proved; and
  * `ampferweg_station`, a thin layer of inline functions that holds the lent parts and passes them on. C99 or C++; x86-64 Linux, the archive's target.
  * Counts are 64 bits wide everywhere, so that the block has one layout on 32-bit and 64-bit machines. */
 #ifndef AMPFERWEG_H
@@ -43,7 +44,7 @@
 #include <stddef.h>
 #include <stdint.h>
 
-#define AMPFERWEG_VERSION "0.2.0"
+#define AMPFERWEG_VERSION "0.3.0"
 
 #ifdef __cplusplus
 extern "C" {
@@ -78,9 +79,13 @@ extern "C" {
  * others 0. No count is capped, which is proved: it is at most AMPFERWEG_LENGTHS_LEN datagrams, or
  * AMPFERWEG_MESSAGE_SIZE(mtu) bytes.
  * Below 0: the call is refused, -N for refusal number N, and nothing has changed: not a field of the control block, not a
- * byte of any lent part. */
+ * byte of any lent part.
+ * An update that is done and did not flush, since it is not time yet, gives AMPFERWEG_NOT_YET, which is no count and no
+ * refusal's. It is below 0, so that a loop over the datagrams of an update finds none. */
 
 typedef int32_t ampferweg_result;
+
+#define AMPFERWEG_NOT_YET ((ampferweg_result)-256)
 
 enum ampferweg_refusal {
     AMPFERWEG_SHORT_DATAGRAM = 1,        /* input: the datagram is under 24 bytes */
@@ -102,13 +107,16 @@ enum ampferweg_refusal {
 };
 
 /* The refusal number of a result, 0 where the call is done. */
-static inline int ampferweg_refusal_of(ampferweg_result result) { return result < 0 ? (int)-result : 0; }
+static inline int ampferweg_refusal_of(ampferweg_result result)
+{
+    return result < 0 && result != AMPFERWEG_NOT_YET ? (int)-result : 0;
+}
 
 /* A result in plain words, for a log line. */
 static inline const char *ampferweg_text(ampferweg_result result)
 {
     switch (ampferweg_refusal_of(result)) {
-    case 0: return "done";
+    case 0: return result == AMPFERWEG_NOT_YET ? "done: it is not yet time to flush" : "done";
     case AMPFERWEG_SHORT_DATAGRAM: return "refused 1: the datagram is under 24 bytes";
     case AMPFERWEG_OTHER_CONVERSATION: return "refused 2: the datagram is of another conversation";
     case AMPFERWEG_LENGTH_PAST_END: return "refused 3: a segment runs past the datagram's end";
@@ -169,11 +177,12 @@ typedef struct ampferweg_arrival {
     uint64_t ready, waiting, acks;
 } ampferweg_arrival;
 
-/* What a flush moves on: the probe clock, the time of the last flush; whether a window ask is wanted, whether the link is dead. */
+/* What a flush or an update moves on: the probe clock, the time of the last one, and the time from which an update flushes; whether
+ * a window ask is wanted, whether the link is dead, and whether an update has been made. */
 typedef struct ampferweg_clock {
     ampferweg_probe_clock probe;
-    uint32_t current;
-    uint8_t ask, dead;
+    uint32_t current, next_flush;
+    uint8_t ask, dead, updated;
 } ampferweg_clock;
 
 /* Flags are set where not 0. Of each list the first entries, as many as its count above says, are segments, in order; what
@@ -213,17 +222,18 @@ AMPFERWEG_LAYOUT(flight, sizeof(ampferweg_flight) == 40 && offsetof(ampferweg_fl
     offsetof(ampferweg_flight, window) == 20 && offsetof(ampferweg_flight, queued) == 24 && offsetof(ampferweg_flight, outstanding) == 32);
 AMPFERWEG_LAYOUT(arrival, sizeof(ampferweg_arrival) == 32 && offsetof(ampferweg_arrival, tell) == 4 &&
     offsetof(ampferweg_arrival, ready) == 8 && offsetof(ampferweg_arrival, waiting) == 16 && offsetof(ampferweg_arrival, acks) == 24);
-AMPFERWEG_LAYOUT(clock, sizeof(ampferweg_clock) == 16 && offsetof(ampferweg_clock, current) == 8 &&
-    offsetof(ampferweg_clock, ask) == 12 && offsetof(ampferweg_clock, dead) == 13);
-AMPFERWEG_LAYOUT(link, sizeof(ampferweg_link) == 2312 && offsetof(ampferweg_link, flight) == 16 &&
-    offsetof(ampferweg_link, arrival) == 56 && offsetof(ampferweg_link, clock) == 88 && offsetof(ampferweg_link, queued) == 104 &&
-    offsetof(ampferweg_link, outstanding) == 616 && offsetof(ampferweg_link, transmissions) == 744 &&
-    offsetof(ampferweg_link, ready) == 776 && offsetof(ampferweg_link, waiting) == 1288 &&
-    offsetof(ampferweg_link, waiting_numbers) == 1800);
+AMPFERWEG_LAYOUT(clock, sizeof(ampferweg_clock) == 20 && offsetof(ampferweg_clock, current) == 8 &&
+    offsetof(ampferweg_clock, next_flush) == 12 && offsetof(ampferweg_clock, ask) == 16 && offsetof(ampferweg_clock, dead) == 17 &&
+    offsetof(ampferweg_clock, updated) == 18);
+AMPFERWEG_LAYOUT(link, sizeof(ampferweg_link) == 2320 && offsetof(ampferweg_link, flight) == 16 &&
+    offsetof(ampferweg_link, arrival) == 56 && offsetof(ampferweg_link, clock) == 88 && offsetof(ampferweg_link, queued) == 108 &&
+    offsetof(ampferweg_link, outstanding) == 620 && offsetof(ampferweg_link, transmissions) == 748 &&
+    offsetof(ampferweg_link, ready) == 780 && offsetof(ampferweg_link, waiting) == 1292 &&
+    offsetof(ampferweg_link, waiting_numbers) == 1804);
 AMPFERWEG_LAYOUT(record, sizeof(ampferweg_record) == 16 && offsetof(ampferweg_record, due) == 4 &&
     offsetof(ampferweg_record, timeout) == 8 && offsetof(ampferweg_record, skips) == 12);
 
-/* ---- The seven calls -----------------------------------------------------------------------------------------------
+/* ---- The nine calls ------------------------------------------------------------------------------------------------
  *
  * Every call is lent the control block and four parts, each as a pointer and a count of elements:
  *
@@ -242,7 +252,8 @@ AMPFERWEG_LAYOUT(record, sizeof(ampferweg_record) == 16 && offsetof(ampferweg_re
  * back.
  *
  * Order of the checks: open 12, 7. The others 7 for the lent parts, 13, then: input 1, and 2 to 6 for each segment in
- * turn; send 10, 11; size 8 or 9; read 8 or 9, then 7 for the buffer. */
+ * turn; send 10, 11; size 8 or 9; read 8 or 9, then 7 for the buffer. An update checks what a flush checks, whether or not it
+ * flushes; check asks for no output and no lengths. */
 
 /* Opens a link: whatever stood in *link, it becomes a fresh link. Lent bytes stay as they are.
  * conv any number; mtu 50 to 512; mode 0, 1 or 2; interval 10 to 5000; threshold 0 to 100, 0 being off.
@@ -269,6 +280,25 @@ ampferweg_result ampferweg_input(ampferweg_link *link, const uint8_t *send_pool,
 ampferweg_result ampferweg_flush(ampferweg_link *link, const uint8_t *send_pool, uint64_t send_pool_len,
     const uint8_t *receive_pool, uint64_t receive_pool_len, ampferweg_record *table, uint64_t table_len,
     const uint32_t *acks, uint64_t acks_len, uint32_t now, uint8_t *output, uint64_t output_len, uint16_t *lengths, uint64_t lengths_len);
+
+/* Flushes where it is time to: call it as often as you like, or at the times that check names. The first update flushes,
+ * then one in each `interval` milliseconds. The next flush is an interval after the last time for one, or after `now` where
+ * that has come already; where it is more than 10,000 milliseconds ahead the clock went back, and the update flushes.
+ * An update that does not flush takes `now` for the current time, by which round trips are measured, and writes nothing:
+ * a segment that is due waits for the next flush.
+ * Answers the count of datagrams, or AMPFERWEG_NOT_YET. Refuses 7, 13; it is lent what a flush is lent, also where it does not flush. */
+ampferweg_result ampferweg_update(ampferweg_link *link, const uint8_t *send_pool, uint64_t send_pool_len,
+    const uint8_t *receive_pool, uint64_t receive_pool_len, ampferweg_record *table, uint64_t table_len,
+    const uint32_t *acks, uint64_t acks_len, uint32_t now, uint8_t *output, uint64_t output_len, uint16_t *lengths, uint64_t lengths_len);
+
+/* Tells when to call: *when becomes the earlier of the time from which an update flushes and the first time at which a segment
+ * is due, at most an `interval` after `now`; `now` itself where one of them has come, and before the first update. From `now`
+ * until just before it no update flushes and no segment falls due, as long as nothing but updates is called: this is proved.
+ * Acknowledgements, messages just sent and window probes do not move it: they go with the next flush.
+ * Answers 0, or refuses 7, 13 and stores nothing. */
+ampferweg_result ampferweg_check(const ampferweg_link *link, const uint8_t *send_pool, uint64_t send_pool_len,
+    const uint8_t *receive_pool, uint64_t receive_pool_len, const ampferweg_record *table, uint64_t table_len,
+    const uint32_t *acks, uint64_t acks_len, uint32_t now, uint32_t *when);
 
 /* Reads the next message into the buffer, and frees its slots; the buffer beyond it is not touched.
  * Answers its bytes, or refuses 7, 13, 8 or 9, and 7 again for a buffer that is too short (the message stays). */
@@ -325,7 +355,7 @@ typedef struct ampferweg_station {
 #ifdef __cplusplus
 #define AMPFERWEG_LINK_UNOPENED {}
 #else
-#define AMPFERWEG_LINK_UNOPENED {{0, 0, 0, 0, 0}, {0, 0, {0, 0, 0}, 0, 0, 0}, {0, 0, 0, 0, 0}, {{0, 0}, 0, 0, 0}, \
+#define AMPFERWEG_LINK_UNOPENED {{0, 0, 0, 0, 0}, {0, 0, {0, 0, 0}, 0, 0, 0}, {0, 0, 0, 0, 0}, {{0, 0}, 0, 0, 0, 0, 0}, \
     {{0, 0, 0}}, {{0, 0, 0}}, {0}, {{0, 0, 0}}, {{0, 0, 0}}, {0}}
 #endif
 
@@ -377,11 +407,30 @@ static inline ampferweg_result ampferweg_station_flush(ampferweg_station *statio
         station->output, station->output_len, station->lengths, station->lengths_len);
 }
 
-/* Flushes, and gives each datagram in turn to `transmit`. */
-static inline ampferweg_result ampferweg_station_flush_to(ampferweg_station *station, uint32_t now,
+/* The same, where it is time to flush; else AMPFERWEG_NOT_YET. */
+static inline ampferweg_result ampferweg_station_update(ampferweg_station *station, uint32_t now)
+{
+    return ampferweg_update(&station->link, AMPFERWEG_PARTS(station), now,
+        station->output, station->output_len, station->lengths, station->lengths_len);
+}
+
+static inline ampferweg_result ampferweg_station_check(const ampferweg_station *station, uint32_t now, uint32_t *when)
+{
+    return ampferweg_check(&station->link, AMPFERWEG_PARTS(station), now, when);
+}
+
+/* How many milliseconds from `now` a host may sleep, by check; 0 also where that is refused, as the next call will be. */
+static inline uint32_t ampferweg_station_wait(const ampferweg_station *station, uint32_t now)
+{
+    uint32_t when = now;
+    (void)ampferweg_station_check(station, now, &when);
+    return when - now;
+}
+
+/* Gives each datagram of a flush or an update in turn to `transmit`; none where `count` is below 0. */
+static inline ampferweg_result ampferweg_station_transmit(const ampferweg_station *station, ampferweg_result count,
     void (*transmit)(void *context, const uint8_t *datagram, size_t len), void *context)
 {
-    const ampferweg_result count = ampferweg_station_flush(station, now);
     const uint8_t *datagram = station->output;
     ampferweg_result i;
     for (i = 0; i < count; i++) {
@@ -389,6 +438,30 @@ static inline ampferweg_result ampferweg_station_flush_to(ampferweg_station *sta
         datagram += station->lengths[i];
     }
     return count;
+}
+
+/* Flushes, and transmits. */
+static inline ampferweg_result ampferweg_station_flush_to(ampferweg_station *station, uint32_t now,
+    void (*transmit)(void *context, const uint8_t *datagram, size_t len), void *context)
+{
+    return ampferweg_station_transmit(station, ampferweg_station_flush(station, now), transmit, context);
+}
+
+/* Updates, and transmits. */
+static inline ampferweg_result ampferweg_station_update_to(ampferweg_station *station, uint32_t now,
+    void (*transmit)(void *context, const uint8_t *datagram, size_t len), void *context)
+{
+    return ampferweg_station_transmit(station, ampferweg_station_update(station, now), transmit, context);
+}
+
+/* Updates, and transmits; flushes where a segment is due before an update would. Called at the times that check names, it sends
+ * every segment when it is due, and the wait behind it is never 0. */
+static inline ampferweg_result ampferweg_station_run_to(ampferweg_station *station, uint32_t now,
+    void (*transmit)(void *context, const uint8_t *datagram, size_t len), void *context)
+{
+    const ampferweg_result count = ampferweg_station_update_to(station, now, transmit, context);
+    if (count != AMPFERWEG_NOT_YET || ampferweg_station_wait(station, now) > 0) return count;
+    return ampferweg_station_flush_to(station, now, transmit, context);
 }
 
 static inline ampferweg_result ampferweg_station_read(ampferweg_station *station, void *buffer, size_t buffer_len)

@@ -14,14 +14,15 @@ SETTINGS, FLIGHT = Declared('protocol', 'Settings'), Declared('control', 'Flight
 ARRIVAL, CLOCK = Declared('control', 'Arrival'), Declared('control', 'Clock')
 OPENED, SENT, TAKEN = Declared('open_core', 'Opened'), Declared('send_core', 'Sent'), Declared('input_core', 'Taken')
 FLUSHED, DELIVERED, PLACE = Declared('flush_core', 'Flushed'), Declared('read_core', 'Delivered'), Declared('read_core', 'Place')
-COUNT = Declared('answers', 'Count', 'EL')
-DECLARED = [SETTINGS, FLIGHT, ARRIVAL, CLOCK, OPENED, SENT, TAKEN, FLUSHED, DELIVERED, PLACE, COUNT]
+UPDATED, COUNT, TIME = Declared('update_core', 'Updated'), Declared('answers', 'Count', 'EL'), Declared('answers', 'Time', 'EL')
+DECLARED = [SETTINGS, FLIGHT, ARRIVAL, CLOCK, OPENED, SENT, TAKEN, FLUSHED, UPDATED, DELIVERED, PLACE, COUNT, TIME]
 U32, CODE = Number('u32'), Signed()
 
 # the types of locals, as `rt mir` writes them
 TYPES = {
     'protocol::Settings': SETTINGS, 'control::Flight': FLIGHT, 'control::Arrival': ARRIVAL, 'control::Clock': CLOCK,
     'open_core::Opened': OPENED, 'send_core::Sent': SENT, 'input_core::Taken': TAKEN, 'flush_core::Flushed': FLUSHED,
+    'update_core::Updated': UPDATED, 'answers::Time': TIME,
     'read_core::Delivered': DELIVERED, 'read_core::Place': PLACE, 'answers::Count': COUNT,
     'tyInt 64': Number('usize'), 'tyInt 32': CODE, 'tyUnit': Nothing(),
     'tyArray timing::Record 32': Records(), 'tyArray tyInt 32 32': Numbers('u32', 32),
@@ -32,20 +33,22 @@ NAMES = {
     'mathlib.Core.Path': '_∙_ sym subst', 'lib.ListN': 'take',
     'Rattle.protocol.specs.Protocol': 'sendSlots', 'Rattle.records.specs.Tables': 'slotsIn gathered padded scattered',
     'Rattle.control.specs.Views': 'Whole Arrays arrays arraysOf linkOf',
-    'Rattle.promises.specs.Parts': 'lentLengths partsOf', 'Rattle.promises.specs.Answers': 'countOutcome',
-    'Rattle.promises.specs.Outcomes': 'opensWith takesInWith tellsWith showsWith shows',
-    'Rattle.promises.specs.Promises': 'OpenPromise SendPromise InputPromise FlushPromise ReadPromise SizePromise',
+    'Rattle.promises.specs.Parts': 'lentLengths partsOf', 'Rattle.promises.specs.Answers': 'countOutcome timeOutcome',
+    'Rattle.promises.specs.Outcomes': 'opensWith takesInWith tellsWith showsWith checksWith shows',
+    'Rattle.promises.specs.Promises': 'OpenPromise SendPromise InputPromise FlushPromise UpdatePromise ReadPromise SizePromise',
     'Rattle.promises.specs.Cores': 'OpenCore',
     'Rattle.send_core.specs.Sending': 'SendLeaves', 'Rattle.read_core.specs.Messages': 'ReadOver', 'Rattle.read_core.specs.Places': 'placeOf PlaceIs',
     'Rattle.input_core.specs.Taking': 'Takes', 'Rattle.flush_core.specs.Flushes': 'Core putBack',
-    'Rattle.codes.specs.Codes': 'answerCode countCode settingsOf', 'Rattle.codes.specs.Gives': 'Gives', 'Rattle.codes.proofs.Told': 'told',
+    'Rattle.update_core.specs.Updates': 'UpdateOver updatedBack',
+    'Rattle.codes.specs.Codes': 'answerCode countCode updateCode timeCode timeStored settingsOf', 'Rattle.codes.specs.Gives': 'Gives', 'Rattle.codes.proofs.Told': 'told',
     'Rattle.results.specs.PlaceCodes': 'placeCode placeStart', 'Rattle.results.specs.PutBacks': 'takenBack',
-    'Rattle.from_cores.specs.Left': 'InputLeft FlushLeft',
+    'Rattle.from_cores.specs.Left': 'InputLeft FlushLeft UpdateLeft',
     'Rattle.from_cores.proofs.Gathered': 'gathers', 'Rattle.from_cores.proofs.Scattered': 'put-back',
     'Rattle.from_cores.proofs.Opening': 'open-promised', 'Rattle.from_cores.proofs.Sending': 'send-promised',
-    'Rattle.from_cores.proofs.Reading': 'read-promised', 'Rattle.from_cores.proofs.Asking': 'size-promised shows-promised',
+    'Rattle.from_cores.proofs.Reading': 'read-promised', 'Rattle.from_cores.proofs.Asking': 'size-promised shows-promised check-promised',
     'Rattle.from_cores.proofs.TakingIn': 'input-left input-promised', 'Rattle.from_cores.proofs.Flushing': 'flush-left flush-promised',
-    'Rattle.ampferweg.specs.Places': 'PlacePromise',
+    'Rattle.from_cores.proofs.Updating': 'update-left update-promised',
+    'Rattle.ampferweg.specs.Places': 'PlacePromise', 'Rattle.ampferweg.specs.Times': 'TimePromise',
 }
 
 ARRAYS = ['queued', 'outstanding', 'transmissions', 'ready', 'waiting', '«waiting_numbers»']
@@ -157,6 +160,18 @@ def show():
         proof=f'told placeCode _ a (e-r .0) (record {{ place = shows-promised {GATHERED} (λ o. PlaceIs (placeOf o) (length (x₂ .now)) a) e-a; start = e-r .1 }})')
 
 
+def check():
+    return dict(
+        crate='ampferweg', name='ampferweg_check', result=CODE, about='The block and the table are read through a `&`; where the time goes is given to `tell_time`.',
+        pars=[Par('sref')] + SLICES + [Par('val', U32), Par('given', 'u32')],
+        said=f'Gives timeCode (λ a. TimePromise x₅ h {P} a (x₆ .now) z₆) r',
+        calls=GATHER + [
+            Call('core', 'a', f'timeOutcome a ≡ checksWith h recs (x₄ .now) ({LENT}) x₅', WHOLE),
+            Call('code-of', 'r', f"(r ≡ timeCode a) × ({last('r', 1)} ≡ timeStored a (x₆ .now))"),
+        ],
+        proof=f'told timeCode _ a (e-r .0) (record {{ time = check-promised {GATHERED} x₅ a e-a; when = e-r .1 }})')
+
+
 def take_in():
     link = f"(linkOf (h .settings) (a .flight) (a .arrival) (h .clock) ({after('a', ARRAYS[1:])}))"
     pool, acks = last('a', FIRST + 7), last('a', FIRST + 8)
@@ -190,39 +205,58 @@ def input_():
         proof=f'told answerCode _ (t .answer) e-r (input-promised (x₅ .now) (x₀ .now) {p} (t .answer) (takenBack t) {link} {pool} {acks} {table} {few} {put} e-t)')
 
 
-def write_out():
+def writing(crate, result, core, back, left, proof):
+    """A flush, or what has its parameters and its shape: the core's contract, what goes back, and what is left before that."""
     link = f"(linkOf (h .settings) (a .flight) (a .arrival) (a .clock) ({after('a', ARRAYS[:3])}))"
     output, lengths = last('a', FIRST + 10), last('a', FIRST + 11)
     gathered = f'(gathers h {P} n recs m e-n e-recs e-m)'
     return dict(
-        crate='write_out', name='write_out', result=FLUSHED, about='The table is read; structs are copied, all lists are lent, and flight, arrival and clock are stored.',
+        crate=crate, name=crate, result=result, about='The table is read; structs are copied, all lists are lent, and flight, arrival and clock are stored.',
         pars=[Par('ref')] + SLICES + [Par('val', U32), Par('mut', 'u8'), Par('mut', 'u16')],
-        said=f'FlushLeft x₅ h {P} (x₆ .now) (x₇ .now) (r .answer) (putBack r) k z₆ z₇',
+        said=f'{left} x₅ h {P} (x₆ .now) (x₇ .now) (r .answer) ({back} r) k z₆ z₇',
         calls=GATHER + [
-            Call('core', 'a', f'Core h recs m (x₁ .now) (x₂ .now) (x₄ .now) x₅ (x₆ .now) (x₇ .now) a {link} {output} {lengths}', WHOLE),
+            Call('core', 'a', f'{core} h recs m (x₁ .now) (x₂ .now) (x₄ .now) x₅ (x₆ .now) (x₇ .now) a {link} {output} {lengths}', WHOLE),
             Call('flight-of', 'kf', 'kf ≡ a .flight'), Call('arrival-of', 'ka', 'ka ≡ a .arrival'), Call('clock-of', 'kc', 'kc ≡ a .clock'),
         ],
-        proof=f"rw (e-kf, e-ka, e-kc) (flush-left x₅ h {P} (x₆ .now) (x₇ .now) (a .answer) (putBack a) {link} {output} {lengths} recs m {gathered} ({whole('end-')}) e-a)")
+        proof=f"rw (e-kf, e-ka, e-kc) ({proof} x₅ h {P} (x₆ .now) (x₇ .now) (a .answer) ({back} a) {link} {output} {lengths} recs m {gathered} ({whole('end-')}) e-a)")
 
 
-def flush():
+def write_out():
+    return writing('write_out', FLUSHED, 'Core', 'putBack', 'FlushLeft', 'flush-left')
+
+
+def update_out():
+    return writing('update_out', UPDATED, 'UpdateOver', 'updatedBack', 'UpdateLeft', 'update-left')
+
+
+def written(name, by, code, promise, back, left, proof):
+    """The same with the records put back, for C."""
     p = parts('(x₁ .now)', '(x₂ .now)', '(x₃ .now)', '(x₄ .now)')
     link, output, lengths, table = last('t', 0), last('t', 6), last('t', 7), last('u', 0)
     few = '(ap length (sym e-after) ∙ is-after .1 .0 .1)'
-    put = f'(put-back (x₃ .now) {table} (putBack t) words n after e-words e-n e-after e-u)'
+    put = f'(put-back (x₃ .now) {table} ({back} t) words n after e-words e-n e-after e-u)'
     return dict(
-        crate='ampferweg', name='ampferweg_flush', result=CODE, about='The block is given to `write_out`, and the table lent to it as `&`; then the table is given to `scatter`.',
+        crate='ampferweg', name=name, result=CODE, about=f'The block is given to `{by}`, and the table lent to it as `&`; then the table is given to `scatter`.',
         pars=[Par('given', 'L'), Par('shr', 'u8'), Par('shr', 'u8'), Par('mut', 'R'), Par('shr', 'u32'), Par('val', U32), Par('mut', 'u8'), Par('mut', 'u16')],
-        said=f"Gives countCode (λ a. FlushPromise x₅ (x₀ .now) {p} (x₆ .now) (x₇ .now) a z₀ {parts('(x₁ .now)', '(x₂ .now)', 'z₃', '(x₄ .now)')} z₆ z₇) r",
+        said=f"Gives {code} (λ a. {promise} x₅ (x₀ .now) {p} (x₆ .now) (x₇ .now) a z₀ {parts('(x₁ .now)', '(x₂ .now)', 'z₃', '(x₄ .now)')} z₆ z₇) r",
         calls=[
-            Call('flushing', 't', f'FlushLeft x₅ (x₀ .now) {p} (x₆ .now) (x₇ .now) (t .answer) (putBack t) {link} {output} {lengths}'),
+            Call('writing', 't', f'{left} x₅ (x₀ .now) {p} (x₆ .now) (x₇ .now) (t .answer) ({back} t) {link} {output} {lengths}'),
             Call('words-of', 'words', 'words ≡ t .words'), Call('count-of', 'n', 'n ≡ t .changed'), Call('records-of', 'after', 'after ≡ t .records'),
-            Call('scatter', 'u', f'{table} ≡ scattered (x₃ .now) (slotsIn words n) after'), Call('code-of', 'r', 'r ≡ countCode (t .answer)'),
+            Call('scatter', 'u', f'{table} ≡ scattered (x₃ .now) (slotsIn words n) after'), Call('code-of', 'r', f'r ≡ {code} (t .answer)'),
         ],
-        proof=f'told countCode _ (t .answer) e-r (flush-promised x₅ (x₀ .now) {p} (x₆ .now) (x₇ .now) (t .answer) (putBack t) {link} {output} {lengths} {table} {few} {put} e-t)')
+        proof=f'told {code} _ (t .answer) e-r ({proof} x₅ (x₀ .now) {p} (x₆ .now) (x₇ .now) (t .answer) ({back} t) {link} {output} {lengths} {table} {few} {put} e-t)')
 
 
-CALLS = {'open': open_, 'send': send, 'take_in': take_in, 'input': input_, 'write_out': write_out, 'flush': flush, 'read': read, 'size': size, 'show': show}
+def flush():
+    return written('ampferweg_flush', 'write_out', 'countCode', 'FlushPromise', 'putBack', 'FlushLeft', 'flush-promised')
+
+
+def update():
+    return written('ampferweg_update', 'update_out', 'updateCode', 'UpdatePromise', 'updatedBack', 'UpdateLeft', 'update-promised')
+
+
+CALLS = {'open': open_, 'send': send, 'take_in': take_in, 'input': input_, 'write_out': write_out, 'flush': flush, 'update_out': update_out, 'update': update,
+         'check': check, 'read': read, 'size': size, 'show': show}
 
 if __name__ == '__main__':
     for which in sys.argv[1:] or CALLS:

@@ -38,7 +38,7 @@ static const struct option options[] = {
     {"conv", "NUMBER", "conversation, the same at both stations (default 1)", NULL, &conv, 0, UINT32_MAX},
     {"mtu", "BYTES", "longest datagram (default 256)", NULL, &mtu, AMPFERWEG_MTU_LEAST, MTU_MOST},
     {"mode", "MODE", "how the timeout grows: 0, 1 or 2 (default 1)", NULL, &mode, 0, 2},
-    {"interval", "MS", "milliseconds between flushes (default 10)", NULL, &interval, 10, 5000},
+    {"interval", "MS", "milliseconds between flushes at most (default 10)", NULL, &interval, 10, 5000},
     {"threshold", "SKIPS", "skips before a fast retransmission, 0 for none (default 2)", NULL, &threshold, 0, 100},
     {"keep", "FILE", "write these five settings to a settings file, and end", &keep_file, NULL, 0, 0},
     {"settings", "FILE", "open with the five settings of a settings file", &settings_file, NULL, 0, 0},
@@ -249,15 +249,15 @@ static void take_in_one(const uint8_t *datagram, size_t len)
     else note(datagram, len);
 }
 
-/* Takes in the datagrams that come until the next flush is due. */
-static void take_in(uint32_t flush_at)
+/* Takes in the datagrams that come until it is time to send. */
+static void take_in(uint32_t send_at)
 {
     static uint8_t datagram[DATAGRAM_MOST];
     struct sockaddr_in from;
     int32_t left;
     do {
         long len;
-        left = (int32_t)(flush_at - clock_now());
+        left = (int32_t)(send_at - clock_now());
         len = udp_receive(udp, left > 0 ? (uint32_t)left : 0, &from, datagram, sizeof datagram);
         if (len < 0) return;
         if (same_address(&from, &peer)) take_in_one(datagram, (size_t)len);
@@ -299,14 +299,17 @@ static void watch(uint32_t now)
     }
 }
 
+/* Sends what is due, and sleeps until the link names its next time; datagrams that come meanwhile are taken in. */
 static void step(uint32_t now)
 {
+    uint32_t wait = interval;
     say_hello(now);
     if (opened) {
-        const ampferweg_result result = ampferweg_station_flush_to(&station, now, transmit, NULL);
-        if (result < 0) fail("a flush", ampferweg_text(result));
+        const ampferweg_result result = ampferweg_station_run_to(&station, now, transmit, NULL);
+        if (ampferweg_refusal_of(result)) fail("an update", ampferweg_text(result));
+        wait = ampferweg_station_wait(&station, now);
     }
-    take_in(now + interval);
+    take_in(now + wait);
     if (opened) read_messages();
     watch(clock_now());
 }

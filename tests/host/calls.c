@@ -231,11 +231,73 @@ static void dead(void)
     CHECK(l->clock.dead != 0 && l->flight.outstanding == 0);
 }
 
+/* An update that comes early writes nothing, and records the time; at its time it is a flush. */
+static void updates(void)
+{
+    open_with(256, 1, 100, 0);
+    CHECK_EQUAL(call_send(&lent, (const uint8_t *)"u", 1), 0);
+    CHECK_EQUAL(call_update(&lent, 1000), 1);
+    CHECK(l->clock.next_flush == 1100 && l->clock.updated == 1 && lent.station.table[0].due == 1200);
+    snapshot(&lent);
+    CHECK_EQUAL(call_update(&lent, 1099), AMPFERWEG_NOT_YET);
+    CHECK(l->clock.current == 1099 && l->clock.next_flush == 1100);
+    l->clock.current = 1000; /* the one number that it changed */
+    CHECK_EQUAL(changed(&lent), 0);
+    CHECK_EQUAL(call_update(&lent, 1100), 0);
+    CHECK_EQUAL(l->clock.next_flush, 1200);
+    CHECK_EQUAL(call_update(&lent, 1250), 1); /* the segment was due at 1200; late by less than an interval */
+    CHECK(l->clock.next_flush == 1300 && l->transmissions[0] == 2);
+    CHECK_EQUAL(call_update(&lent, 1400), 0); /* a whole interval late */
+    CHECK_EQUAL(l->clock.next_flush, 1500);
+    CHECK_EQUAL(call_flush(&lent, 1450), 0); /* a flush leaves the schedule alone */
+    CHECK_EQUAL(l->clock.next_flush, 1500);
+}
+
+/* The 10,000 rule: a next time 10,000 ahead is waited for, one further ahead is not. */
+static void jumps(void)
+{
+    uint32_t when;
+    open_with(256, 1, 100, 0);
+    CHECK_EQUAL(call_update(&lent, 20000), 0);
+    CHECK_EQUAL(call_update(&lent, 10100), AMPFERWEG_NOT_YET);
+    CHECK(call_check(&lent, 10100, &when) == 0 && when == 10200);
+    snapshot(&lent);
+    CHECK(call_check(&lent, 10099, &when) == 0 && when == 10099);
+    CHECK_EQUAL(changed(&lent), 0);
+    CHECK_EQUAL(call_update(&lent, 10099), 0);
+    CHECK_EQUAL(l->clock.next_flush, 10199);
+}
+
+/* What check names: now before the first update, the next flush, a segment's due time, an interval at most, now where one is due. */
+static void checks(void)
+{
+    uint32_t when = 5;
+    open_with(256, 1, 5000, 0);
+    CHECK(call_check(&lent, 900, &when) == 0 && when == 900);
+    CHECK_EQUAL(call_flush(&lent, 900), 0);
+    CHECK(call_check(&lent, 901, &when) == 0 && when == 901);
+    CHECK_EQUAL(call_send(&lent, (const uint8_t *)"c", 1), 0);
+    CHECK_EQUAL(call_update(&lent, 1000), 1);
+    snapshot(&lent);
+    CHECK(call_check(&lent, 1000, &when) == 0 && when == 1200); /* the segment before the flush at 6000 */
+    CHECK(call_check(&lent, 1200, &when) == 0 && when == 1200);
+    CHECK(call_check(&lent, 1300, &when) == 0 && when == 1300);
+    CHECK_EQUAL(changed(&lent), 0);
+    CHECK_EQUAL(call_update(&lent, 1200), AMPFERWEG_NOT_YET);
+    CHECK_EQUAL(call_flush(&lent, 1200), 1);
+    CHECK(call_check(&lent, 1200, &when) == 0 && when == 1500);
+    take_in(ack_of(0, 1200, 1), 0);
+    CHECK(call_check(&lent, 1200, &when) == 0 && when == 6000);
+    CHECK(call_check(&lent, 999, &when) == 0 && when == 5999); /* at most an interval away */
+    CHECK(call_check(&lent, 6000, &when) == 0 && when == 6000);
+}
+
 static void texts(void)
 {
     char number[32];
     int i;
     CHECK(strcmp(ampferweg_text(0), "done") == 0 && strcmp(ampferweg_text(290), "done") == 0);
+    CHECK(strncmp(ampferweg_text(AMPFERWEG_NOT_YET), "done", 4) == 0 && ampferweg_refusal_of(AMPFERWEG_NOT_YET) == 0);
     for (i = 1; i <= 13; i++) {
         snprintf(number, sizeof number, "refused %d:", i);
         CHECK(strncmp(ampferweg_text(-i), number, strlen(number)) == 0);
@@ -263,6 +325,9 @@ static void stations(void)
     CHECK_EQUAL(ampferweg_station_send(&near_end, text, 1), -AMPFERWEG_INVALID_BLOCK);
     CHECK_EQUAL(ampferweg_station_input(&near_end, text, 1), -AMPFERWEG_INVALID_BLOCK);
     CHECK_EQUAL(ampferweg_station_flush_to(&near_end, 1, to_far_end, &carried), -AMPFERWEG_INVALID_BLOCK);
+    CHECK_EQUAL(ampferweg_station_update_to(&near_end, 1, to_far_end, &carried), -AMPFERWEG_INVALID_BLOCK);
+    CHECK_EQUAL(ampferweg_station_run_to(&near_end, 1, to_far_end, &carried), -AMPFERWEG_INVALID_BLOCK);
+    CHECK_EQUAL(ampferweg_station_wait(&near_end, 1), 0);
     CHECK_EQUAL(ampferweg_station_read(&near_end, text, 1), -AMPFERWEG_INVALID_BLOCK);
     CHECK_EQUAL(ampferweg_station_size(&near_end), -AMPFERWEG_INVALID_BLOCK);
     CHECK(ampferweg_station_show(&near_end, &len) != NULL && len == 0);
@@ -277,6 +342,28 @@ static void stations(void)
     CHECK(*ampferweg_station_show(&far_end, &len) == 't' && len == 232);
     CHECK_EQUAL(ampferweg_station_read(&far_end, text, sizeof text), sizeof text);
     CHECK(!ampferweg_station_dead(&near_end));
+}
+
+/* A station that runs at the times that it names: it sends each segment when it is due, and its waits are never 0. */
+static void on_time(void)
+{
+    static const uint32_t due[] = {0, 200, 500, 950, 1625};
+    uint32_t now = 0, wait;
+    int carried = 0, i = 0;
+    CHECK_EQUAL(ampferweg_station_open(&near_end, 3, 256, 1, 1000, 0), 0);
+    CHECK_EQUAL(ampferweg_station_open(&far_end, 3, 256, 1, 1000, 0), 0);
+    CHECK_EQUAL(ampferweg_station_wait(&near_end, now), 0);
+    CHECK_EQUAL(ampferweg_station_send(&near_end, "t", 1), 0);
+    while (now < 2000) {
+        const ampferweg_result result = ampferweg_station_run_to(&near_end, now, to_far_end, &carried);
+        if (result > 0) CHECK_EQUAL(now, due[i++]);
+        CHECK(result == (result > 0) && carried == i);
+        wait = ampferweg_station_wait(&near_end, now);
+        CHECK(wait > 0 && wait <= 1000);
+        if (wait > 1) CHECK_EQUAL(ampferweg_station_update_to(&near_end, now + wait - 1, to_far_end, &carried), AMPFERWEG_NOT_YET);
+        now += wait;
+    }
+    CHECK_EQUAL(i, 5);
 }
 
 static void every_case(size_t spare)
@@ -294,6 +381,9 @@ static void every_case(size_t spare)
     full_window();
     skips();
     dead();
+    updates();
+    jumps();
+    checks();
     CHECK(guarded(&lent));
     give_back(&lent);
 }
@@ -303,6 +393,7 @@ int main(void)
     every_case(0);
     every_case(13);
     stations();
+    on_time();
     texts();
     return check_report("calls");
 }

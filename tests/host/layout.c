@@ -26,6 +26,7 @@ static void opening_writes(void)
     CHECK_EQUAL(l->flight.window, 128);
     CHECK(l->arrival.acks == 0 && l->clock.probe.wait == 0 && l->clock.probe.due == 0 && l->clock.current == 0);
     CHECK(l->clock.ask == 0 && l->arrival.tell == 0 && l->clock.dead == 0);
+    CHECK(l->clock.next_flush == 0 && l->clock.updated == 0);
 }
 
 /* A value that refusal 13 names is refused in this field and in no other: the block is as before, and accepted, once it
@@ -206,6 +207,22 @@ static void seen_in_the_clock(void)
     CHECK(l->clock.dead != 0 && l->clock.ask == 0);
 }
 
+/* The next time and the mark of the first update, as update and check read and leave them. */
+static void seen_in_the_schedule(void)
+{
+    uint32_t when = 1;
+    CHECK_EQUAL(call_open(&lent, 7, 256, 1, 0x1234, 2), 0);
+    l->clock.next_flush = 0x89ABCDEF;
+    CHECK(call_check(&lent, 0x89ABCDE0, &when) == 0 && when == 0x89ABCDE0);
+    l->clock.updated = 0x80;
+    CHECK(call_check(&lent, 0x89ABCDE0, &when) == 0 && when == 0x89ABCDEF);
+    l->clock.updated = 0;
+    CHECK_EQUAL(call_update(&lent, 0xFFFFFFF0), 0);
+    CHECK(l->clock.current == 0xFFFFFFF0 && l->clock.next_flush == 0x1224 && l->clock.updated == 1);
+    CHECK_EQUAL(call_update(&lent, 0x1223), AMPFERWEG_NOT_YET);
+    CHECK(l->clock.current == 0x1223 && l->clock.next_flush == 0x1224 && l->clock.updated == 1);
+}
+
 int main(void)
 {
     lend(&lent, 256, 0);
@@ -217,6 +234,7 @@ int main(void)
     receiving_lists();
     seen_in_a_flush();
     seen_in_the_clock();
+    seen_in_the_schedule();
     CHECK(guarded(&lent));
     give_back(&lent);
     return check_report("layout");

@@ -149,7 +149,8 @@ static int same_arrival(const ampferweg_arrival *a, const ampferweg_arrival *b)
 
 static int same_clock(const ampferweg_clock *a, const ampferweg_clock *b)
 {
-    return a->probe.wait == b->probe.wait && a->probe.due == b->probe.due && a->current == b->current && a->ask == b->ask && a->dead == b->dead;
+    return a->probe.wait == b->probe.wait && a->probe.due == b->probe.due && a->current == b->current && a->next_flush == b->next_flush &&
+        a->ask == b->ask && a->dead == b->dead && a->updated == b->updated;
 }
 
 int same_link(const ampferweg_link *a, const ampferweg_link *b)
@@ -181,6 +182,17 @@ ampferweg_result call_flush(struct lent *lent, uint32_t now)
 {
     return ampferweg_flush(lent->link, AMPFERWEG_PARTS(&lent->station), now,
         lent->station.output, lent->station.output_len, lent->station.lengths, lent->station.lengths_len);
+}
+
+ampferweg_result call_update(struct lent *lent, uint32_t now)
+{
+    return ampferweg_update(lent->link, AMPFERWEG_PARTS(&lent->station), now,
+        lent->station.output, lent->station.output_len, lent->station.lengths, lent->station.lengths_len);
+}
+
+ampferweg_result call_check(const struct lent *lent, uint32_t now, uint32_t *when)
+{
+    return ampferweg_check(lent->link, AMPFERWEG_PARTS(&lent->station), now, when);
 }
 
 ampferweg_result call_read(struct lent *lent, uint8_t *buffer, size_t len)

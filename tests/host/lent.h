@@ -49,6 +49,8 @@ ampferweg_result call_open(struct lent *lent, uint32_t conv, uint32_t mtu, uint3
 ampferweg_result call_send(struct lent *lent, const uint8_t *message, size_t len);
 ampferweg_result call_input(struct lent *lent, const uint8_t *datagram, size_t len);
 ampferweg_result call_flush(struct lent *lent, uint32_t now);
+ampferweg_result call_update(struct lent *lent, uint32_t now);
+ampferweg_result call_check(const struct lent *lent, uint32_t now, uint32_t *when);
 ampferweg_result call_read(struct lent *lent, uint8_t *buffer, size_t len);
 ampferweg_result call_size(const struct lent *lent);
 ampferweg_result call_show(const struct lent *lent, uint32_t *start);

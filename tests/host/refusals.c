@@ -26,6 +26,14 @@ static void shows_nothing(void)
     CHECK_EQUAL(changed(&lent), 0);
 }
 
+/* A check is refused with this number: it stores nothing, and everything stands. */
+static void check_refused(int number)
+{
+    uint32_t when = 77;
+    REFUSED(number, call_check(&lent, 10, &when));
+    CHECK_EQUAL(when, 77);
+}
+
 /* All calls but opening and showing, with arguments that would do. */
 static void all_refused(int number)
 {
@@ -35,6 +43,9 @@ static void all_refused(int number)
     REFUSED(number, call_send(&lent, buffer, 100));
     REFUSED(number, call_input(&lent, good, sizeof good));
     REFUSED(number, call_flush(&lent, 10));
+    REFUSED(number, call_update(&lent, 10));
+    REFUSED(number, call_update(&lent, lent.link->clock.next_flush - 1));
+    check_refused(number);
     REFUSED(number, call_read(&lent, buffer, 1000));
     REFUSED(number, call_size(&lent));
     shows_nothing();
@@ -48,7 +59,7 @@ static void open_busy(uint32_t mtu)
     len += put_segment(arrives + len, push_of(2, 0, 26), 'w');
     CHECK_EQUAL(call_open(&lent, 1, mtu, 0, 10, 2), 0);
     CHECK_EQUAL(call_send(&lent, buffer, 900), 0);
-    CHECK(call_flush(&lent, 5) > 0);
+    CHECK(call_update(&lent, 5) > 0);
     CHECK_EQUAL(call_send(&lent, buffer, 900), 0);
     CHECK_EQUAL(call_input(&lent, arrives, len), 0);
 }
@@ -157,8 +168,12 @@ static void number_7_of_parts(uint32_t mtu)
     }
     for (i = 4; i < 6; i++) {
         const size_t was = *lengths[i];
+        uint32_t when;
         *lengths[i] = was - 1;
         REFUSED(AMPFERWEG_SHORT_PART, call_flush(&lent, 10));
+        REFUSED(AMPFERWEG_SHORT_PART, call_update(&lent, 10)); /* whether or not it would flush, at 15 */
+        REFUSED(AMPFERWEG_SHORT_PART, call_update(&lent, 15));
+        CHECK_EQUAL(call_check(&lent, 10, &when), 0); /* asks for neither */
         *lengths[i] = was;
     }
     /* 7 before 13: a bad block with a short part. */

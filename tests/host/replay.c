@@ -1,7 +1,7 @@
 /* Plays a script of calls (standard input) through the C interface and writes the answers (standard output).
  *
- * One command a line: open CONV MTU MODE INTERVAL THRESHOLD, send HEX, input HEX, flush TIME, read ROOM, size, show, state,
- * held, jump SND RCV, lend PART COUNT, poke FIELD VALUE, hold LIST INDEX FIELD VALUE, rec SLOT NUMBER DUE TIMEOUT SKIPS.
+ * One command a line: open CONV MTU MODE INTERVAL THRESHOLD, send HEX, input HEX, flush TIME, update TIME, check TIME, read ROOM, size,
+ * show, state, held, jump SND RCV, lend PART COUNT, poke FIELD VALUE, hold LIST INDEX FIELD VALUE, rec SLOT NUMBER DUE TIMEOUT SKIPS.
  * The parts are those of an mtu of 256. tests/vectors has scripts with the answers that they must get. */
 #include <ampferweg.h>
 #include <inttypes.h>
@@ -157,6 +157,26 @@ static void play_flush(void)
     if (count < 0) say_refused(count); else printf("ok %d\n", (int)count);
 }
 
+static void play_update(void)
+{
+    uint32_t now;
+    ampferweg_result count;
+    if (!numbers(&now, 1)) { malformed(); return; }
+    count = ampferweg_station_update_to(&station, now, say_datagram, NULL);
+    if (ampferweg_refusal_of(count)) say_refused(count);
+    else if (count == AMPFERWEG_NOT_YET) puts("ok");
+    else printf("ok %d\n", (int)count);
+}
+
+static void play_check(void)
+{
+    uint32_t now, when;
+    ampferweg_result result;
+    if (!numbers(&now, 1)) { malformed(); return; }
+    result = ampferweg_station_check(&station, now, &when);
+    if (result < 0) say_refused(result); else printf("ok %u\n", when);
+}
+
 static void play_read(void)
 {
     uint32_t room;
@@ -185,10 +205,11 @@ static void play_state(void)
 {
     const ampferweg_link *l = &station.link;
     if (stops(words == 1)) return;
-    printf("state %u %u %u %u %u %u %u %u %u %u %d %d %d %" PRIu64 " %" PRIu64 " %" PRIu64 " %" PRIu64 " %" PRIu64 "\n",
+    printf("state %u %u %u %u %u %u %u %u %u %u %d %d %d %" PRIu64 " %" PRIu64 " %" PRIu64 " %" PRIu64 " %" PRIu64 " %u %d\n",
         l->flight.una, l->flight.next, l->arrival.expected, l->clock.current, (unsigned)l->flight.window, l->flight.rtt.smoothed,
-        l->flight.rtt.variation, l->flight.rtt.timeout, l->clock.probe.wait, l->clock.probe.due, l->clock.ask != 0, l->arrival.tell != 0, l->clock.dead != 0,
-        l->arrival.acks, l->flight.queued, l->flight.outstanding, l->arrival.ready, l->arrival.waiting);
+        l->flight.rtt.variation, l->flight.rtt.timeout, l->clock.probe.wait, l->clock.probe.due,
+        l->clock.ask != 0, l->arrival.tell != 0, l->clock.dead != 0, l->arrival.acks, l->flight.queued, l->flight.outstanding,
+        l->arrival.ready, l->arrival.waiting, l->clock.next_flush, l->clock.updated != 0);
 }
 
 static void say_outstanding(const ampferweg_link *l, size_t i)
@@ -270,6 +291,8 @@ static int poke(uint32_t field, uint32_t value)
     case 16: return store_flag(&l->arrival.tell, value);
     case 17: return store_flag(&l->clock.dead, value);
     case 18: return store_count(&l->arrival.acks, value);
+    case 21: return store32(&l->clock.next_flush, value);
+    case 22: return store_flag(&l->clock.updated, value);
     default: return 0;
     }
 }
@@ -325,9 +348,9 @@ static void play_rec(void)
 }
 
 static const struct { const char *name; void (*play)(void); } commands[] = {
-    {"open", play_open}, {"send", play_send}, {"input", play_input}, {"flush", play_flush}, {"read", play_read},
-    {"size", play_size}, {"show", play_show}, {"state", play_state}, {"held", play_held}, {"jump", play_jump},
-    {"lend", play_lend}, {"poke", play_poke}, {"hold", play_hold}, {"rec", play_rec},
+    {"open", play_open}, {"send", play_send}, {"input", play_input}, {"flush", play_flush}, {"update", play_update},
+    {"check", play_check}, {"read", play_read}, {"size", play_size}, {"show", play_show}, {"state", play_state}, {"held", play_held},
+    {"jump", play_jump}, {"lend", play_lend}, {"poke", play_poke}, {"hold", play_hold}, {"rec", play_rec},
 };
 
 static void play_line(const char *line, size_t len)

@@ -103,6 +103,10 @@ static int done(void)
         ampferweg_station_pending(ends[0].station) == 0 && ampferweg_station_pending(ends[1].station) == 0;
 }
 
+/* How a step sends: by a flush, or by an update. */
+typedef ampferweg_result sends_to(ampferweg_station *, uint32_t, void (*)(void *, const uint8_t *, size_t), void *);
+static sends_to *sends = ampferweg_station_flush_to;
+
 static void play(uint32_t mtu, uint32_t mode, uint32_t threshold, uint32_t loss, uint32_t first, uint32_t clock)
 {
     uint32_t i;
@@ -113,7 +117,7 @@ static void play(uint32_t mtu, uint32_t mode, uint32_t threshold, uint32_t loss,
         for (i = 0; i < 2; i++) {
             uint32_t to = 1 - i;
             send_some(&ends[i], AMPFERWEG_MSS(mtu));
-            CHECK(ampferweg_station_flush_to(ends[i].station, clock + STEP * step_now, put_in_the_air, &to) >= 0);
+            CHECK(ampferweg_refusal_of(sends(ends[i].station, clock + STEP * step_now, put_in_the_air, &to)) == 0);
             if (below(3) == 0) read_some(&ends[i], AMPFERWEG_MSS(mtu));
         }
         arrive();
@@ -137,5 +141,9 @@ int main(void)
         play(512, mode, 1, 20, 0x7FFFFFF0, 0x7FFFF000);
     }
     play(256, 1, 2, 0, 0, 0);
+    sends = ampferweg_station_update_to;
+    play(256, 1, 2, 10, 0xFFFFFF80, 0xFFFFF000);
+    sends = ampferweg_station_run_to;
+    play(256, 0, 0, 10, 0, 0);
     return check_report("session");
 }

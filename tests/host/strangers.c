@@ -49,6 +49,15 @@ static void bend(void)
     }
 }
 
+/* A check names a time at most an interval away, or stores nothing. */
+static ampferweg_result any_check(uint32_t now)
+{
+    uint32_t when = ~now;
+    const ampferweg_result result = call_check(&lent, now, &when);
+    CHECK(result < 0 ? when == ~now : when - now <= l->settings.interval);
+    return result;
+}
+
 /* One call with any arguments; *may says which parts it may change. */
 static ampferweg_result any_call(unsigned *may)
 {
@@ -57,7 +66,7 @@ static ampferweg_result any_call(unsigned *may)
     uint32_t start;
     const uint32_t len = below(8) == 0 ? below(3400) : below(60);
     *may = 1u << LINK;
-    switch (below(8)) {
+    switch (below(9)) {
     case 0: *may |= 1u << SEND_POOL; return call_send(&lent, lent.message, len);
     case 1: case 2: case 3:
         *may |= 1u << RECEIVE_POOL | 1u << TABLE | 1u << ACKS;
@@ -65,8 +74,9 @@ static ampferweg_result any_call(unsigned *may)
     case 4: case 5:
         *may |= 1u << TABLE | 1u << OUTPUT | 1u << LENGTHS;
         now = below(64) == 0 ? any() : now + below(150);
-        return call_flush(&lent, now);
+        return below(2) ? call_flush(&lent, now) : call_update(&lent, now);
     case 6: *may |= 1u << MESSAGE; return call_read(&lent, lent.message, len);
+    case 7: *may = 0; return any_check(now);
     default: *may = 0; return below(2) ? call_size(&lent) : call_show(&lent, &start);
     }
 }
@@ -80,13 +90,14 @@ static void step(void)
     bend();
     snapshot(&lent);
     result = any_call(&may);
-    CHECK(result >= -13 && result <= 3400 && result != -8 && result != -12);
-    CHECK_EQUAL(changed(&lent) & ~(result < 0 ? 0 : may), 0);
+    CHECK((result >= -13 && result <= 3400 && result != -8 && result != -12) || result == AMPFERWEG_NOT_YET);
+    if (result == AMPFERWEG_NOT_YET) may = 1u << LINK;
+    CHECK_EQUAL(changed(&lent) & ~(ampferweg_refusal_of(result) ? 0 : may), 0);
     CHECK(kept_from(&lent, SEND_POOL, AMPFERWEG_SEND_POOL_SIZE(50)) && kept_from(&lent, RECEIVE_POOL, AMPFERWEG_RECEIVE_POOL_SIZE(50)));
     CHECK(kept_from(&lent, TABLE, AMPFERWEG_TABLE_LEN * sizeof(ampferweg_record)) && kept_from(&lent, ACKS, AMPFERWEG_ACKS_LEN * 4));
     CHECK(kept_from(&lent, OUTPUT, AMPFERWEG_OUTPUT_SIZE) && kept_from(&lent, LENGTHS, AMPFERWEG_LENGTHS_LEN * 2));
     lent.station = parts;
-    if (result < 0) *l = was; /* the block as it was before it was bent */
+    if (ampferweg_refusal_of(result)) *l = was; /* the block as it was before it was bent */
 }
 
 int main(void)

@@ -1,16 +1,17 @@
 // What C calls: each function takes the block behind a pointer, and answers with a number, 0 or more where the call is done
-// and the refusal's number below zero where it is not. The fields of the block are lent to the call's core, and changed in place;
+// and the refusal's number below zero where it is not; an update that is done and does not flush has a number of its own. The fields of the block are lent to the call's core, and changed in place;
 // of the table of records the first 128 are read and written. The functions that take the block are proved by walks.
 pub mod settings;
 
 use control::Link;
 use timing::Record;
 ghost use Rattle.promises.specs.Parts.{partsOf};
-ghost use Rattle.promises.specs.Promises.{OpenPromise, SendPromise, InputPromise, FlushPromise, ReadPromise, SizePromise};
-ghost use Rattle.codes.specs.Codes.{answerCode, countCode, settingsOf};
+ghost use Rattle.promises.specs.Promises.{OpenPromise, SendPromise, InputPromise, FlushPromise, UpdatePromise, ReadPromise, SizePromise};
+ghost use Rattle.codes.specs.Codes.{answerCode, countCode, updateCode, timeCode, settingsOf};
 ghost use Rattle.codes.specs.Gives.{Gives};
 ghost use Rattle.results.specs.PlaceCodes.{placeCode};
 ghost use Rattle.ampferweg.specs.Places.{PlacePromise};
+ghost use Rattle.ampferweg.specs.Times.{TimePromise};
 
 // Opening with these settings: 0, or the refusal. A number that is too large for its setting is out of range.
 #[no_mangle]
@@ -161,6 +162,85 @@ pub extern "C" fn ampferweg_flush(
     let records = results::flushed_records(flushed);
     gathering::scatter(table, words, n, records);
     results::flushed_code(flushed)
+}
+
+// An update at time t: the datagrams of its flush, the number of one that does not flush, or the refusal.
+#[no_mangle]
+pub extern "C" fn ampferweg_update(
+    link: &mut Link,
+    send_pool: &[u8],
+    receive_pool: &[u8],
+    table: &mut [Record],
+    acks: &[u32],
+    t: u32,
+    output: &mut [u8],
+    lengths: &mut [u16],
+) -> i32
+    ensures { λ r. ⌜ Gives updateCode (λ a. UpdatePromise t (now (link .entry))
+        (partsOf (now («send_pool» .entry)) (now («receive_pool» .entry)) (now (table .entry)) (now (acks .entry)))
+        (now (output .entry)) (now (lengths .entry)) a (now (link .exit))
+        (partsOf (now («send_pool» .entry)) (now («receive_pool» .entry)) (now (table .exit)) (now (acks .entry)))
+        (now (output .exit)) (now (lengths .exit))) r ⌝ }
+{
+    let updated = update_out::update_out(
+        link,
+        send_pool,
+        receive_pool,
+        table,
+        acks,
+        t,
+        output,
+        lengths,
+    );
+    let words = results::updated_words(updated);
+    let n = results::updated_changed(updated);
+    let records = results::updated_records(updated);
+    gathering::scatter(table, words, n, records);
+    results::updated_code(updated)
+}
+
+// Naming the time at which the next update is wanted: it is stored, and 0 returned, or the refusal, and nothing is stored.
+#[no_mangle]
+pub extern "C" fn ampferweg_check(
+    link: &Link,
+    send_pool: &[u8],
+    receive_pool: &[u8],
+    table: &[Record],
+    acks: &[u32],
+    t: u32,
+    when: &mut u32,
+) -> i32
+    ensures { λ r. ⌜ Gives timeCode (λ a. TimePromise t (now (link .entry))
+        (partsOf (now («send_pool» .entry)) (now («receive_pool» .entry)) (now (table .entry)) (now (acks .entry))) a
+        (now (when .entry)) (now (when .exit))) r ⌝ }
+{
+    let settings = link.settings;
+    let flight = link.flight;
+    let arrival = link.arrival;
+    let clock = link.clock;
+    let words = link.outstanding;
+    let n = results::outstanding_count(flight);
+    let records = gathering::gather(table, words, n);
+    let lent = records::table_len(table);
+    let time = update_core::check(
+        settings,
+        flight,
+        arrival,
+        clock,
+        records,
+        lent,
+        &link.queued,
+        &link.outstanding,
+        &link.transmissions,
+        &link.ready,
+        &link.waiting,
+        &link.waiting_numbers,
+        send_pool,
+        receive_pool,
+        acks,
+        t,
+    );
+    codes::tell_time(time, when)
 }
 
 // Reading a message: its bytes, or the refusal.

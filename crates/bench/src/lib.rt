@@ -71,8 +71,10 @@ fn blank() -> Link {
     let clock = Clock {
         probe,
         current: 0,
+        next_flush: 0,
         ask: 0,
         dead: 0,
+        updated: 0,
     };
     Link {
         settings,

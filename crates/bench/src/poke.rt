@@ -7,7 +7,7 @@ ghost use Prim.Native.Nat.{_%_, _≤_, _<_};
 ghost use lib.Dec.{ltb};
 ghost use lib.ListN.{getD, set};
 ghost use Rattle.words.specs.Words.{unpack};
-ghost use Rattle.bench.specs.Fields.{flag, settingsOf, stored, Poked, heldFields, storedIn, HasField, holds, Reworded, HeldChanged};
+ghost use Rattle.bench.specs.Fields.{flag, settingsOf, stored, OfSchedule, IsField, Poked, heldFields, storedIn, HasField, holds, Reworded, HeldChanged};
 
 // The low 16 and 8 bits of a value.
 fn narrow(value: u32) -> u16
@@ -83,9 +83,22 @@ fn wish(link: Link, field: u32, value: u32) -> Link
     next
 }
 
+// Fields 21 and 22: next_flush, updated.
+fn schedule(link: Link, field: u32, value: u32) -> Link
+    ensures { λ r. ⌜ (OfSchedule field → Poked link field value r) ⌝ }
+{
+    let set = flag(value);
+    let mut next = link;
+    match field {
+        21 => next.clock.next_flush = value,
+        _ => next.clock.updated = set,
+    }
+    next
+}
+
 // The block with another value in a field.
 pub fn poke(link: Link, field: u32, value: u32) -> Link
-    ensures { λ r. ⌜ (field ≤ 18 → Poked link field value r) ⌝ }
+    ensures { λ r. ⌜ (IsField field → Poked link field value r) ⌝ }
 {
     if field < 5 {
         let settings = setting(link.settings, field, value);
@@ -96,7 +109,10 @@ pub fn poke(link: Link, field: u32, value: u32) -> Link
     if field < 13 {
         return number(link, field, value);
     }
-    wish(link, field, value)
+    if field < 19 {
+        return wish(link, field, value);
+    }
+    schedule(link, field, value)
 }
 
 // A held segment with another slot, length or fragment.

@@ -1,15 +1,20 @@
 // Numbers for callers in C: answers as 0 or a count, or the refusal's number below zero; settings from plain numbers.
 use answers::Answer;
 use answers::Count;
+use answers::Time;
+use answers::Update;
 use protocol::Protocol;
 use protocol::Refusal;
 use protocol::Settings;
 ghost use mathlib.Core.Path.{_≡_};
 ghost use Prim.Native.Nat.{min};
-ghost use Rattle.codes.specs.Codes.{numberCode, refusalCode, answerCode, sizeCode, countCode, settingsOf};
+ghost use Rattle.codes.specs.Codes.{numberCode, refusalCode, answerCode, sizeCode, countCode, updateCode, timeCode, timeStored, settingsOf};
 
 // A count is told up to this one.
 const COUNT_MOST: usize = 2147483647;
+
+// An update that did not flush: below every refusal's, whose number is a byte.
+const NOT_YET: i32 = -256;
 
 // A refusal's number, below zero.
 pub fn number_code(number: u8) -> i32
@@ -53,6 +58,30 @@ pub fn count_code(count: Count) -> i32
     match count {
         Count::Of(n) => size_code(n),
         Count::Refused(refusal) => refusal_code(refusal),
+    }
+}
+
+// The count of an update's datagrams, the number of one that did not flush, or the refusal.
+pub fn update_code(update: Update) -> i32
+    ensures { λ r. ⌜ r ≡ updateCode update ⌝ }
+{
+    match update {
+        Update::Waited => NOT_YET,
+        Update::Wrote(n) => size_code(n),
+        Update::Refused(refusal) => refusal_code(refusal),
+    }
+}
+
+// A check's time is stored, and 0 returned, or the refusal.
+pub fn tell_time(time: Time, when: &mut u32) -> i32
+    ensures { λ r. ⌜ (r ≡ timeCode time) × (now (when .exit) ≡ timeStored time (now (when .entry))) ⌝ }
+{
+    match time {
+        Time::At(t) => {
+            *when = t;
+            0
+        }
+        Time::Refused(refusal) => refusal_code(refusal),
     }
 }
 

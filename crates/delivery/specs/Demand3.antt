@@ -5,7 +5,8 @@
 -- of calls of each, refused ones included, whatever the clocks show (`CallFits`: bytes are bytes and times have 32 bits). The sender
 -- takes in anything, and its pushes carry numbers below 2^30 (`FewPushes`). The first receiver is fed some of the sender's datagrams,
 -- late, repeated or shuffled (`FedWith`); the second has the first one's feeds and reads, in that order and with read buffers as long,
--- and further datagrams of that sender put in anywhere; both send and flush at any point (`HearsMore`).
+-- and further datagrams of that sender put in anywhere; both send, flush, update and check at any
+-- point (`HearsMore`).
 -- Then (`Delivered`) each read of each answers as the plain receiver's; the first one's messages begin the second one's list, and both
 -- begin the list accepted for sending; and a read finds nothing exactly when no next message was accepted, or a segment of it has never
 -- been fed while below the next expected number plus 128.

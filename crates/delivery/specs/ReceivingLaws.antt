@@ -167,7 +167,8 @@ receiverAfter c k x (Call.read room) = receiverReads x room
 receiverAfter c k x (Call.update t) = cond (updated k t (c .interval) .flushes) (receiverFlushed x) x
 receiverAfter c k x (Call.check t) = x
 
-take-receiver : (s : Station) (d : List ℕ) → receiverOf (own s (Call.takeIn d) .station) ≡ receiverAfter (s .state .settings) (s .state .schedule) (receiverOf s) (Call.takeIn d)
+take-receiver : (s : Station) (d : List ℕ)
+    → receiverOf (own s (Call.takeIn d) .station) ≡ receiverAfter (s .state .settings) (s .state .schedule) (receiverOf s) (Call.takeIn d)
 unfolding input applied
 take-receiver s d = go (parse (s .state .settings .conv) (mss (s .state .settings)) d)
   where
@@ -191,11 +192,13 @@ unfolding updating flushing
 update-receiver s t = go (updated (s .state .schedule) t (s .state .settings .interval) .flushes) refl
   where
     go : (b : Bool) → updated (s .state .schedule) t (s .state .settings .interval) .flushes ≡ b
-        → receiverOf (own s (Call.update t) .station) ≡ receiverAfter (s .state .settings) (s .state .schedule) (receiverOf s) (Call.update t)
+        → receiverOf (own s (Call.update t) .station)
+        ≡ receiverAfter (s .state .settings) (s .state .schedule) (receiverOf s) (Call.update t)
     go true e = rw e
     go false e = rw e
 
-pub own-receiver : (s : Station) (x : Call) → receiverOf (own s x .station) ≡ receiverAfter (s .state .settings) (s .state .schedule) (receiverOf s) x
+pub own-receiver : (s : Station) (x : Call)
+    → receiverOf (own s x .station) ≡ receiverAfter (s .state .settings) (s .state .schedule) (receiverOf s) x
 unfolding flushing
 own-receiver s (Call.send m) =
     sending-cases (λ (y : Outcome Sends). receiverOf (afterSend s y .station) ≡ receiverOf s) (s .state) (s .sendPool) m (λ r. refl) (λ ok. refl)
@@ -223,7 +226,8 @@ own-receive-pool s =
 
 pub own-lent : (s : Station) (x : Call) → own s x .station .lent ≡ s .lent
 own-lent s =
-    own-cases (λ (x : Call) (y : Stepped). y .station .lent ≡ s .lent) s (λ x r. refl) (λ m ok. refl) (λ d gs e. refl) (λ t. refl) (λ room. refl)
+    own-cases (λ (x : Call) (y : Stepped). y .station .lent ≡ s .lent) s (λ x r. refl) (λ m ok. refl) (λ d gs e. refl) (λ t. refl)
+    (λ room. refl)
     (λ t. refl) (λ t. refl) (λ t. refl)
 
 pub own-lengths : (s : Station) (x : Call) → lengthsOf (own s x .station) ≡ lengthsOf s
@@ -251,7 +255,8 @@ reads-good m x room g = go (readable (x .half .ready)) (leb (messageSize (x .hal
 flushed-good : (m : ℕ) (x : Receiver) → Good m x → Good m (receiverFlushed x)
 flushed-good m x g = record { settles = g .settles; few-acks = zero-le }
 
-after-good : (c : Settings) (k : Schedule) (x : Receiver) (call : Call) → CallFits call → Good (mss c) x → Good (mss c) (receiverAfter c k x call)
+after-good : (c : Settings) (k : Schedule) (x : Receiver) (call : Call) → CallFits call → Good (mss c) x
+    → Good (mss c) (receiverAfter c k x call)
 after-good c k x (Call.send m) f g = g
 after-good c k x (Call.takeIn d) f g = takes-good (mss c) x (parse (c .conv) (mss c) d) (parse-fits (c .conv) (mss c) d f) g
 after-good c k x (Call.flush t) f g = flushed-good (mss c) x g
@@ -263,8 +268,10 @@ after-good c k x (Call.check t) f g = g
 pub receiving-stays : (c : Settings) (s : Station) (x : Call) → CallFits x → ReceivingInOrder c s → ReceivingInOrder c (own s x .station)
 receiving-stays c s x f o =
     let k = s .state .schedule in
-    let d : receiverOf (own s x .station) ≡ receiverAfter c k (receiverOf s) x = own-receiver s x ∙ ap (λ (y : Settings). receiverAfter y k (receiverOf s) x) (o .settings) in
-    in-order c (own s x .station) (own-settings s x ∙ o .settings) (carry-stays s x f (o .fits .carries)) (rw d (after-good c k (receiverOf s) x f (good-in c s o)))
+    let d : receiverOf (own s x .station) ≡ receiverAfter c k (receiverOf s) x =
+    own-receiver s x ∙ ap (λ (y : Settings). receiverAfter y k (receiverOf s) x) (o .settings) in
+    in-order c (own s x .station) (own-settings s x ∙ o .settings) (carry-stays s x f (o .fits .carries))
+    (rw d (after-good c k (receiverOf s) x f (good-in c s o)))
 
 -- ---- the opened state
 

@@ -117,7 +117,8 @@ module _ (c : Settings) (accepted : List (List ℕ)) where
       → listedBy (mss c) (receiverAfter c (s .state .schedule) (receiverOf s) x) ≡ listedAs c accepted q → Follows (own s x .station) q
   follows-own s p q x fits f fed same =
       let k = s .state .schedule in
-      let d : receiverOf (own s x .station) ≡ receiverAfter c k (receiverOf s) x = own-receiver s x ∙ ap (λ (y : Settings). receiverAfter y k (receiverOf s) x) (f .order .settings) in
+      let d : receiverOf (own s x .station) ≡ receiverAfter c k (receiverOf s) x =
+      own-receiver s x ∙ ap (λ (y : Settings). receiverAfter y k (receiverOf s) x) (f .order .settings) in
       record { order = receiving-stays c s x fits (f .order); listed = ap (listedBy (mss c)) d ∙ same; fed = fed }
 
   -- the datagram of a call is genuine
@@ -160,7 +161,8 @@ module _ (c : Settings) (accepted : List (List ℕ)) where
     follows-call s p (Call.flush t) fits g f = follows-own s p p (Call.flush t) fits f (f .fed) (f .listed)
     follows-call s p (Call.update t) fits g f =
         follows-own s p p (Call.update t) fits f (f .fed)
-        (either-way (λ (x : Receiver). listedBy (mss c) x ≡ listedAs c accepted p) (updated (s .state .schedule) t (c .interval) .flushes) (f .listed) (f .listed))
+        (either-way (λ (x : Receiver). listedBy (mss c) x ≡ listedAs c accepted p)
+        (updated (s .state .schedule) t (c .interval) .flushes) (f .listed) (f .listed))
     follows-call s p (Call.check t) fits g f = follows-own s p p (Call.check t) fits f (f .fed) (f .listed)
     follows-call s p (Call.read room) fits g f =
         follows-own s p (leave c accepted p (plainAnswer c accepted p room)) (Call.read room) fits f (fed-leave c accepted p room (f .fed))

@@ -201,7 +201,8 @@ module _ {l : Link} {p : Parts} {n : ℕ} where
   pub update-counts : {t : ℕ} {out lengths : List ℕ} {l′ : Link} {p′ : Parts} {out′ lengths′ : List ℕ}
       → UpdatePromise t l p out lengths (update.Wrote n) l′ p′ out′ lengths′
       → n ≤ lengthsLeast
-  update-counts {t} {out} {lengths} h = few-answered n (updates l p (length out) (length lengths) t) (h .answer) (updates-few l p (length out) (length lengths) t)
+  update-counts {t} {out} {lengths} h =
+      few-answered n (updates l p (length out) (length lengths) t) (h .answer) (updates-few l p (length out) (length lengths) t)
 
   -- a message that is read, or whose size is told, has at most 127 segments
   pub read-counts : {buffer : List ℕ} {l′ : Link} {p′ : Parts} {buffer′ : List ℕ} → ReadPromise l p buffer (count.Of n) l′ p′ buffer′ → MessageFits (l .settings) n

@@ -2,12 +2,13 @@
 --
 -- One sender and two receivers open once, with equal settings `c`, whatever their blocks and lent bytes were (`Opens`). Each is always
 -- lent the same parts of its own; its own calls alone change these and its control block (`Runs`: each call gets block and parts as the
--- last one left them, and is what its promise says; telling the size and showing change neither, and may stand anywhere). What follows holds after every list of calls of each (send, take in, flush, read),
--- refused ones included, whatever the clocks show (`SinceOpening`: bytes are bytes, times and the conversation have 32 bits). The sender
--- takes in anything, and its pushes carry numbers below 2^30 (`FewPushes`). The first receiver is fed some of the sender's datagrams
+-- last one left them, and is what its promise says; telling the size and showing change neither, and may stand anywhere). What follows
+-- holds after every list of calls of each (send, take in, flush, read, and update and check), refused ones included, whatever the clocks
+-- show (`SinceOpening`: bytes are bytes, times and the conversation have 32 bits). The sender takes in anything, and its pushes carry
+-- numbers below 2^30 (`FewPushes`). The first receiver is fed some of the sender's datagrams
 -- (`datagramsBy`: the bytes of its output, cut by its lengths), late, repeated or shuffled (`FedWith`). The second has the first one's
--- feeds and reads, in that order and with read buffers as long, and further datagrams of that sender put in anywhere; both send and
--- flush at any point (`HearsMore`).
+-- feeds and reads, in that order and with read buffers as long, and further datagrams of that sender put in anywhere; both send,
+-- flush, update and check at any point (`HearsMore`).
 -- Then (`Delivered`) the first one's messages begin the second one's list, and both begin the list accepted for sending; each read answered as the
 -- plain receiver's; a receiver's read finds nothing exactly when no next message was accepted, or a segment of it has never been fed while
 -- below the next expected number plus 128 (`Missing`, `FedBelow`); and rcv_nxt is the plain receiver's next expected number.

@@ -11,6 +11,7 @@ pub mod RefusalLaws
 pub mod AlwaysValid
 pub mod LedgerLaws
 pub mod QueuedBytes
+pub mod UpdateLaws
 pub mod Quiet
 pub mod QuietLaws
 pub mod Demand3

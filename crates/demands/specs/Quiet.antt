@@ -24,10 +24,12 @@ pub record Within (now named t : ℕ) : Type 0 where
   pub fits : t < 2 ^ 32
   pub before : minus t now < minus named now
 
--- no call but updates at these times, with these answers, each into any output and lengths; each gets block and parts as the last one left them
+-- no call but updates at these times, with these answers, each into any output and lengths; each gets block and parts as the last one
+-- left them
 pub data Updates : Endpoint → List ℕ → List Update → Endpoint → Type 0 where
   start : {e : Endpoint} → Updates e [] [] e
-  next : (e : Endpoint) (t : ℕ) (a : Update) (e′ : Endpoint) (out lengths out′ lengths′ : List ℕ) {ts : List ℕ} {given : List Update} {e″ : Endpoint}
+  next : (e : Endpoint) (t : ℕ) (a : Update) (e′ : Endpoint) (out lengths out′ lengths′ : List ℕ)
+      {ts : List ℕ} {given : List Update} {e″ : Endpoint}
       → UpdatePromise t (e .link) (e .parts) out lengths a (e′ .link) (e′ .parts) out′ lengths′
       → Updates e′ ts given e″ → Updates e (t ∷ ts) (a ∷ given) e″
 
@@ -59,4 +61,5 @@ FlushesAt t e =
 -- and the named time is no sooner than it need be: it is one interval away, or an update then flushes, or a segment is due then
 pub record NoSooner (now named : ℕ) (e : Endpoint) : Type 0 where
   pub within : minus named now ≤ e .link .settings .interval
-  pub wanted : minus named now < e .link .settings .interval → FlushesAt named e ⊎ (anyDue named (dues (stateIn (e .link) (e .parts))) ≡ true)
+  pub wanted : minus named now < e .link .settings .interval
+      → FlushesAt named e ⊎ (anyDue named (dues (stateIn (e .link) (e .parts))) ≡ true)

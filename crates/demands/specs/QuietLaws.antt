@@ -1,5 +1,5 @@
--- From now until just before the time that a check names, with no call but such updates, no update flushes and no segment falls due; and that
--- time is no sooner than it need be. From the promises of the public calls alone.
+-- From now until just before the time that a check names, with no call but such updates, no update flushes and no segment falls due; and
+-- that time is no sooner than it need be. From the promises of the public calls alone.
 -- Assumes nothing.
 use mathlib.Core.Path.{_≡_, refl, sym, ap, _∙_, subst}
 use mathlib.Core.Bool.{Bool, true, false, cond}
@@ -49,7 +49,8 @@ each : (P : ℕ → Type 0) (l : List Sent) → All (λ (x : Sent). P (x .record
 each P [] h = tt
 each P (x ∷ l) h = (h .0, each P l (h .1))
 
-all-of : (P : ℕ → Type 0) (l : List Sent) → schedule.Each P (map (λ (x : Sent). x .record .due) l) → All (λ (x : Sent). P (x .record .due)) l
+all-of : (P : ℕ → Type 0) (l : List Sent) → schedule.Each P (map (λ (x : Sent). x .record .due) l)
+    → All (λ (x : Sent). P (x .record .due)) l
 all-of P [] h = tt
 all-of P (x ∷ l) h = (h .0, all-of P l (h .1))
 
@@ -59,7 +60,8 @@ module _ (s : State) (now : ℕ) (f : Fits s) (hn : now < 2 ^ 32) where
   quiet-at : (t : ℕ) → Within now (checking s now) t → schedule-quiet.QuietAt (s .schedule) t (s .settings .interval) (dues s)
   unfolding checking
   quiet-at t w =
-      schedule-quiet.quiet (s .schedule) now (s .settings .interval) (dues s) (f .next) (each (λ d. d < 2 ^ 32) (s .sending .outstanding) (f .dues)) hn t
+      schedule-quiet.quiet (s .schedule) now (s .settings .interval) (dues s) (f .next)
+      (each (λ d. d < 2 ^ 32) (s .sending .outstanding) (f .dues)) hn t
       (w .fits) (w .before)
 
   -- an update in the span waits, and changes only the current time
@@ -79,11 +81,13 @@ record Rests (s : State) (e : Endpoint) (a : Update) (e′ : Endpoint) : Type 0 
   parts : e′ .parts ≡ e .parts
   state : (stateIn (e′ .link) (e′ .parts) ≡ stateIn (e .link) (e .parts)) ⊎ (stateIn (e′ .link) (e′ .parts) ≡ s)
 
-module _ (s : State) (e : Endpoint) (a : Update) (e′ : Endpoint) (out lengths out′ lengths′ : List ℕ) (u : session.Updates) (q : u ≡ session.waits s) where
+module _ (s : State) (e : Endpoint) (a : Update) (e′ : Endpoint) (out lengths out′ lengths′ : List ℕ) (u : session.Updates)
+    (q : u ≡ session.waits s) where
   abbrev Leaves : Outcome session.Updates → Type 0
   Leaves o = UpdateLeaves o (e .link) (e′ .link) (e .parts) (e′ .parts) out lengths out′ lengths′
 
-  rests : (long made : Bool) → a ≡ updateAnswer (checked long made (Outcome.done u)) → Leaves (checked long made (Outcome.done u)) → Rests s e a e′
+  rests : (long made : Bool) → a ≡ updateAnswer (checked long made (Outcome.done u)) → Leaves (checked long made (Outcome.done u))
+      → Rests s e a e′
   rests false made ans h = record {
     idle = rw ans (refused ShortPart);
     parts = h .unchanged .parts;
@@ -105,7 +109,8 @@ rests-by : (s : State) (e : Endpoint) (t : ℕ) (a : Update) (e′ : Endpoint) (
 unfolding updatesWith
 rests-by s e t a e′ out lengths out′ lengths′ q h =
     rests s e a e′ out lengths out′ lengths′ (updating (stateIn (e .link) (e .parts)) t (e .parts .sendPool)) q
-    (enoughToFlush (mss (e .link .settings)) (lengthsOf (e .parts)) (length out) (length lengths)) (isMade (e .link) (e .parts)) (h .answer) (h .leaves)
+    (enoughToFlush (mss (e .link .settings)) (lengthsOf (e .parts)) (length out) (length lengths)) (isMade (e .link) (e .parts))
+    (h .answer) (h .leaves)
 
 -- ---- of a list of updates
 
@@ -124,7 +129,9 @@ record Told (now n : ℕ) (e : Endpoint) : Type 0 where
 told : (now n : ℕ) (e : Endpoint) → CheckPromise now (e .link) (e .parts) (time.At n) → Told now n e
 unfolding checksWith
 told now n e h =
-    let g = is-given n (checking (stateIn (e .link) (e .parts)) now) (enough (mss (e .link .settings)) (lengthsOf (e .parts))) (isMade (e .link) (e .parts)) (h .answer) in
+    let g =
+    is-given n (checking (stateIn (e .link) (e .parts)) now) (enough (mss (e .link .settings)) (lengthsOf (e .parts)))
+    (isMade (e .link) (e .parts)) (h .answer) in
     record { long = g .0; made = g .1; named = g .2 }
 
 module _ (e : Endpoint) (now : ℕ) (f : Fits (stateIn (e .link) (e .parts))) (hn : now < 2 ^ 32) where
@@ -144,7 +151,8 @@ module _ (e : Endpoint) (now : ℕ) (f : Fits (stateIn (e .link) (e .parts))) (h
     idle : All Idle given
     same : Same e′
 
-  all-rest : {e₁ e₂ : Endpoint} {ts : List ℕ} {given : List Update} → Updates e₁ ts given e₂ → All (Within now n) ts → Same e₁ → Quietly given e₂
+  all-rest : {e₁ e₂ : Endpoint} {ts : List ℕ} {given : List Update} → Updates e₁ ts given e₂ → All (Within now n) ts → Same e₁
+      → Quietly given e₂
   all-rest start w m = record { idle = tt; same = m }
   all-rest (next e₁ t a e₂ out lengths out′ lengths′ h r) w m =
       let q : updating (stateIn (e₁ .link) (e₁ .parts)) t (e₁ .parts .sendPool) ≡ session.waits (withTimes s t (s .schedule)) =
@@ -166,7 +174,8 @@ module _ (e : Endpoint) (now named : ℕ) (f : Fits (stateIn (e .link) (e .parts
   is-named = told now named e check .named
 
   -- FROM NOW UNTIL JUST BEFORE THE NAMED TIME, with no call but such updates, no update flushes and no segment falls due
-  pub stays-quiet : (ts : List ℕ) (given : List Update) (e′ : Endpoint) → All (Within now named) ts → Updates e ts given e′ → StaysQuiet now named e given e′
+  pub stays-quiet : (ts : List ℕ) (given : List Update) (e′ : Endpoint) → All (Within now named) ts → Updates e ts given e′
+      → StaysQuiet now named e given e′
   stays-quiet ts given e′ w r =
       let first : Same e now f hn e = record { parts = refl; current = stateIn (e .link) (e .parts) .current; state = refl } in
       let q = all-rest e now f hn r (subst (λ (n : ℕ). All (Within now n) ts) is-named w) first in
@@ -175,15 +184,19 @@ module _ (e : Endpoint) (now named : ℕ) (f : Fits (stateIn (e .link) (e .parts
         parts = q .same .parts;
         current = q .same .current;
         state = q .same .state;
-        none-due = λ t v. rw (q .same .state) (none-due-at (stateIn (e .link) (e .parts)) now f hn t (subst (λ (n : ℕ). Within now n t) is-named v));
+        none-due =
+            λ t v. rw (q .same .state) (none-due-at (stateIn (e .link) (e .parts)) now f hn t
+            (subst (λ (n : ℕ). Within now n t) is-named v));
       }
 
   -- the update at the named time, where the schedule flushes then
-  flushes-at : updated (stateIn (e .link) (e .parts) .schedule) named (stateIn (e .link) (e .parts) .settings .interval) .flushes ≡ true → FlushesAt named e
+  flushes-at : updated (stateIn (e .link) (e .parts) .schedule) named (stateIn (e .link) (e .parts) .settings .interval) .flushes ≡ true
+      → FlushesAt named e
   unfolding updatesWith updating
   flushes-at q a e′ out lengths out′ lengths′ lent h =
       let p = told now named e check in
-      let room = long-flush (mss (e .link .settings)) (lengthsOf (e .parts)) (length out) (length lengths) (p .long) (lent .long) (lent .many) in
+      let room =
+      long-flush (mss (e .link .settings)) (lengthsOf (e .parts)) (length out) (length lengths) (p .long) (lent .long) (lent .many) in
       let s = stateIn (e .link) (e .parts) in
       (length (flushing (withSchedule s (scheduledAt s named)) named (e .parts .sendPool) .datagrams), h .answer ∙ rw (room, p .made, q))
 

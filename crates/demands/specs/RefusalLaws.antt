@@ -193,6 +193,7 @@ own-passes s (Call.send m) = sent-passes s (sending (s .state) (s .sendPool) m) 
 own-passes s (Call.takeIn d) = took-passes s (input (s .state) (s .receivePool) d) (input-clear (s .state) (s .receivePool) d)
 own-passes s (Call.flush t) = clear-passes (own s (Call.flush t) .answer) refl
 own-passes s (Call.update t) =
-    updating-cases (λ (y : Updates). Passes ⊥ (afterUpdate s y .answer)) (s .state) t (s .sendPool) (clear-passes _ refl) (clear-passes _ refl)
+    updating-cases (λ (y : Updates). Passes ⊥ (afterUpdate s y .answer)) (s .state) t (s .sendPool) (clear-passes _ refl)
+    (clear-passes _ refl)
 own-passes s (Call.check t) = clear-passes (own s (Call.check t) .answer) refl
 own-passes s (Call.read room) = read-passes s room (reading (s .state) (s .receivePool) room) (reading-clear (s .state) (s .receivePool) room)

@@ -121,7 +121,8 @@ module _ (e e′ : Endpoint) (fit : countsFit (e .link) ≡ true) where
   same-parts : (s : State) → stateIn (e′ .link) (e′ .parts) ≡ s → e′ .parts ≡ e .parts
       → record { state = s; sendPool = e .parts .sendPool; receivePool = e .parts .receivePool; lent = stationOf e .lent } ≡ stationOf e′
   same-parts s p q =
-      with-state e e′ s (e .parts .sendPool) (e .parts .receivePool) p (ap (λ (p : Parts). p .sendPool) q) (ap (λ (p : Parts). p .receivePool) q)
+      with-state e e′ s (e .parts .sendPool) (e .parts .receivePool) p (ap (λ (p : Parts). p .sendPool) q)
+      (ap (λ (p : Parts). p .receivePool) q)
       (record {
         table = ap (λ (p : Parts). length (p .table)) q;
         acks = ap (λ (p : Parts). length (p .acks)) q;
@@ -247,9 +248,12 @@ module _ (c : Settings) (range : inRange c ≡ true) (conv : c .conv < 2 ^ 32) (
       → FlushFits (flushing (withSchedule (stateIn (e .link) (e .parts)) x) t (e .parts .sendPool)) out lengths
   flush-fits t out lengths x time long many =
       let w = flush-writes (rescheduled (stationOf e) x) t (valid-rescheduled (stationOf e .state) x ∙ is-valid) (k .order .sends .fits)
-      (k .order .receives .fits .carries) (rw (k .order .sends .settings) conv) (in-order-long c range (stationOf e) (Call.flush t) (k .order)) time in
+      (k .order .receives .fits .carries) (rw (k .order .sends .settings) conv)
+      (in-order-long c range (stationOf e) (Call.flush t) (k .order)) time in
       record {
-        bytes = rw (joined-flatten (map bytesOfSegments (flushing (withSchedule (stateIn (e .link) (e .parts)) x) t (e .parts .sendPool) .datagrams)))
+        bytes =
+            rw (joined-flatten (map bytesOfSegments
+            (flushing (withSchedule (stateIn (e .link) (e .parts)) x) t (e .parts .sendPool) .datagrams)))
             (omega (arith, w .output));
         number = omega (arith, w .lengths);
       }
@@ -272,7 +276,8 @@ module _ (c : Settings) (range : inRange c ≡ true) (conv : c .conv < 2 ^ 32) (
       (rw (takes-own e is-long is-made d) at (h .promise .leaves)))
   own-call (Call.flush t) a e′ f h =
       let o = flushes-own e t (length (h .output)) (length (h .lengths))
-      (long-flush (mss (e .link .settings)) (lengthsOf (e .parts)) (length (h .output)) (length (h .lengths)) is-long (h .room .long) (h .room .many)) is-made in
+      (long-flush (mss (e .link .settings)) (lengthsOf (e .parts)) (length (h .output)) (length (h .lengths)) is-long (h .room .long)
+      (h .room .many)) is-made in
       rw (h .sees)
       (flush-becomes e e′ (k .counts) (h .output) (h .lengths) (h .output′) (h .lengths′) (flushing (stateIn (e .link) (e .parts)) t (e .parts .sendPool)) (h .gives)
       (rw o at (h .promise .answer))
@@ -280,9 +285,11 @@ module _ (c : Settings) (range : inRange c ≡ true) (conv : c .conv < 2 ^ 32) (
       (flush-fits t (h .output) (h .lengths) (stationOf e .state .schedule) f (h .room .long) (h .room .many)))
   own-call (Call.update t) a e′ f h =
       let o = updates-own e t (length (h .output)) (length (h .lengths))
-      (long-flush (mss (e .link .settings)) (lengthsOf (e .parts)) (length (h .output)) (length (h .lengths)) is-long (h .room .long) (h .room .many)) is-made in
+      (long-flush (mss (e .link .settings)) (lengthsOf (e .parts)) (length (h .output)) (length (h .lengths)) is-long (h .room .long)
+      (h .room .many)) is-made in
       rw (h .sees)
-      (update-becomes e e′ (k .counts) (h .output) (h .lengths) (h .output′) (h .lengths′) (updating (stateIn (e .link) (e .parts)) t (e .parts .sendPool)) (h .gives)
+      (update-becomes e e′ (k .counts) (h .output) (h .lengths) (h .output′) (h .lengths′)
+      (updating (stateIn (e .link) (e .parts)) t (e .parts .sendPool)) (h .gives)
       (rw o at (h .promise .answer))
       (rw o at (h .promise .leaves))
       (update-fits t (h .output) (h .lengths) f (h .room .long) (h .room .many)))

@@ -1,5 +1,5 @@
--- Calls of a link and lists of them, as a caller has them. A step is exactly what the public call promises (crate `promises`, Promises), and
--- its answer is what the caller sees: the answer given, the output cut by the lengths, the first bytes of the buffer.
+-- Calls of a link and lists of them, as a caller has them. A step is exactly what the public call promises (crate `promises`, Promises),
+-- and its answer is what the caller sees: the answer given, the output cut by the lengths, the first bytes of the buffer.
 -- Assumes nothing.
 use mathlib.Core.Path.{_≡_}
 use mathlib.Core.List.{List, [], _∷_}

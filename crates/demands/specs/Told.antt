@@ -1,15 +1,25 @@
--- What one call tells of another, and the ack list as one list. Definitions.
+-- What one call tells of another, the ack list as one list, and an update as a flush or a new current time alone. Definitions.
 -- Assumes nothing.
+use mathlib.Core.Path.{_≡_}
 use mathlib.Core.Bool.{cond}
-use mathlib.Core.List.{List, [], _∷_}
+use mathlib.Core.List.{List, [], _∷_, map}
 use Prim.Native.Nat.{ℕ}
 use lib.Dec.{leb}
+use lib.ListN.{length}
 use lib.Seq.{sets}
 use Rattle.protocol.specs.declared.Refusal.the-variants.{ShortPart}
-use Rattle.session.specs.State.{Ack, Outcome, refused, done}
+use Rattle.schedule.specs.declared.Schedule.{Schedule}
+use Rattle.session.specs.State.{Ack, Outcome, refused, done, withTimes, withSchedule}
 use Rattle.session.specs.Input.{Took}
+use Rattle.session.specs.Flushing.{bytesOfSegments, flushing}
+use Rattle.control.specs.declared.Link.{Link}
+use Rattle.packing.specs.Packers.{Output}
 use Rattle.answers.specs.declared.Count.{Count}
 use Rattle.answers.specs.declared.Count.the-variants as count
+use Rattle.answers.specs.declared.Update.{Update}
+use Rattle.answers.specs.declared.Update.the-variants as update
+use Rattle.promises.specs.Parts.{Parts, stateIn, Stands}
+use Rattle.promises.specs.Promises.{tableOf}
 
 -- where telling the size answers so, a read into so many bytes answers the same; 7 where they are fewer than that size
 abbrev pub readAs : Count → ℕ → Count
@@ -25,3 +35,31 @@ entriesOf (a ∷ l) = a .sn ∷ a .ts ∷ entriesOf l
 abbrev pub acksAfter : Outcome Took → List ℕ → List ℕ
 acksAfter (refused r) acks = acks
 acksAfter (done x) acks = sets acks 0 (entriesOf (x .state .receiving .acks))
+
+-- ---- an update
+
+-- a flush at t of the same block and parts, but that the next flush time and the mark are the schedule's
+pub record AsFlush (t : ℕ) (l : Link) (p : Parts) (out lengths : List ℕ) (n : ℕ) (l′ : Link) (p′ : Parts)
+    (out′ lengths′ : List ℕ) : Type 0 where
+  pub count : n ≡ length (flushing (stateIn l p) t (p .sendPool) .datagrams)
+  pub schedule : Schedule
+  pub stands : Stands l′ p′ (withSchedule (flushing (stateIn l p) t (p .sendPool) .state) schedule)
+  pub sendPool : p′ .sendPool ≡ p .sendPool
+  pub receivePool : p′ .receivePool ≡ p .receivePool
+  pub table : p′ .table ≡ tableOf (p .table) (flushing (stateIn l p) t (p .sendPool) .state)
+  pub acks : p′ .acks ≡ p .acks
+  pub output : Output (map bytesOfSegments (flushing (stateIn l p) t (p .sendPool) .datagrams)) out lengths n out′ lengths′
+
+-- the current time alone
+pub record CurrentAlone (t : ℕ) (l : Link) (p : Parts) (out lengths : List ℕ) (l′ : Link) (p′ : Parts)
+    (out′ lengths′ : List ℕ) : Type 0 where
+  pub stands : Stands l′ p′ (withTimes (stateIn l p) t (stateIn l p .schedule))
+  pub parts : p′ ≡ p
+  pub output : out′ ≡ out
+  pub sizes : lengths′ ≡ lengths
+
+-- by the answer
+abbrev pub Treated : ℕ → Link → Parts → List ℕ → List ℕ → Update → Link → Parts → List ℕ → List ℕ → Type 0
+Treated t l p out lengths update.Waited l′ p′ out′ lengths′ = CurrentAlone t l p out lengths l′ p′ out′ lengths′
+Treated t l p out lengths (update.Wrote n) l′ p′ out′ lengths′ = AsFlush t l p out lengths n l′ p′ out′ lengths′
+Treated t l p out lengths (update.Refused r) l′ p′ out′ lengths′ = Unit {0}

@@ -8,8 +8,10 @@ use native.Mathlib.Omega.{arith}
 use lib.ListN.{length, take, drop, set, getD, length-map, length-set}
 use lib.Seq.{sets, length-take-le}
 use Rattle.pools.specs.Parts.{part}
+use Rattle.protocol.specs.Protocol.{sendSlots}
 use Rattle.lists.specs.declared.Held.{Held}
-use Rattle.session.specs.Sending.{Filled, filled}
+use Rattle.session.specs.Decides.{All}
+use Rattle.session.specs.Sending.{filled}
 use Rattle.session.specs.FillLaws.{roomOf, filled-none, filled-some}
 use Rattle.words.specs.Words.{unpack, heldIn}
 use Rattle.enqueue.specs.Enqueueing.{Fills}
@@ -38,6 +40,17 @@ module _ (ws : List ℕ) (n : ℕ) (some : 0 < n) (most : n ≤ length ws) where
 
   pub put-last : (w : ℕ) → heldIn (set ws (n - 1) w) n ≡ take (length (heldIn ws n) - 1) (heldIn ws n) ++ (unpack w ∷ [])
   put-last w = rw (length-held ws n most) (rw one-less at (put-at ws (n - 1) w (omega arith)))
+
+all-at : (P : Held → Type 0) (ws : List ℕ) (n i : ℕ) → i < n → n ≤ length ws → All P (heldIn ws n) → P (unpack (getD ws i 0))
+all-at P ws zero i h g a = absurd (omega arith)
+all-at P [] (suc n) i h g a = absurd (omega arith)
+all-at P (w ∷ ws) (suc n) zero h g a = a .0
+all-at P (w ∷ ws) (suc n) (suc i) h g a = all-at P ws n i (omega arith) (omega arith) (a .1)
+
+-- its slot is one of the pool
+pub last-low : (ws : List ℕ) (n : ℕ) → 0 < n → n ≤ 128 → length ws ≡ 128 → All (λ (h : Held). h .slot < sendSlots) (heldIn ws n)
+    → unpack (getD ws (n - 1) 0) .slot < sendSlots
+last-low ws n some most whole a = all-at (λ (h : Held). h .slot < sendSlots) ws n (n - 1) (omega arith) (omega (arith, whole)) a
 
 -- ---- its room
 

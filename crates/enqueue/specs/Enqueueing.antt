@@ -9,6 +9,8 @@ use lib.Seq.{sets}
 use Rattle.protocol.specs.Protocol.{sendSlots}
 use Rattle.protocol.specs.Ranges.{mss, isStream}
 use Rattle.protocol.specs.declared.Refusal.{Refusal}
+use Rattle.lists.specs.declared.Held.{Held}
+use Rattle.session.specs.Decides.{All}
 use Rattle.session.specs.State.{State, Outcome, refused, done, sendHeld, slots}
 use Rattle.session.specs.Sending.{Placed, Filled, Sends}
 use Rattle.words.specs.Words.{unpack, heldIn}
@@ -33,7 +35,7 @@ pub record Fillable (m : ℕ) (queued : List ℕ) (n room : ℕ) (pool message :
   pub most : n ≤ 128
   pub taken : k ≡ min (length message) room
   pub within : 0 < room → (0 < n) × (unpack (getD queued (n - 1) 0) .len + room ≤ m)
-  pub low : (i : ℕ) → i < n → unpack (getD queued i 0) .slot < sendSlots
+  pub low : All (λ (h : Held). h .slot < sendSlots) (heldIn queued n)
   pub word : m < 2 ^ 16
   pub slots : sendSlots * m ≤ length pool
 
@@ -66,7 +68,7 @@ pub record Enqueueable (m : ℕ) (queued : List ℕ) (n k : ℕ) (marks pool : L
   pub outstanding-most : k ≤ 32
   -- the slots held are slots of the pool, and none is held twice
   pub held-most : k + n ≤ 128
-  pub low : (i : ℕ) → i < n → unpack (getD queued i 0) .slot < sendSlots
+  pub low : All (λ (h : Held). h .slot < sendSlots) (heldIn queued n)
   pub marks-whole : length marks ≡ 256
   pub marked : Marked marks (k + n)
   pub some : 0 < m

@@ -18,7 +18,7 @@ use Rattle.control.specs.declared.Flight.{Flight}
 use Rattle.control.specs.declared.Arrival.{Arrival}
 use Rattle.control.specs.declared.Clock.{Clock}
 use Rattle.control.specs.declared.Link.{Link}
-use Rattle.control.specs.Views.{isSet, pairs, arrays, linkOf, receivingOf, stateOf, counted, countsFit}
+use Rattle.control.specs.Views.{isSet, pairs, arrays, linkOf, receivingOf, scheduleOf, stateOf, counted, countsFit}
 use Rattle.control.specs.ViewLaws.{counts}
 use Rattle.numbering.specs.Sents.{sentIn}
 use Rattle.numbering.specs.Numbering.{Numbers}
@@ -77,6 +77,7 @@ module _ (c : Settings) (f : Flight) (a : Arrival) (k : Clock) (queued outstandi
             receiving = receivingOf (told i) ready waiting numbers (pairs (told i .acks) acks);
             probe = (ap (λ (y : Clock). y .probe) (moves .is) ∙ plans .probe) i;
             current = moves .is i .current;
+            schedule = scheduleOf (moves .is i);
             ask = isSet (moves .is i .ask);
             dead = (moves .flag ∙ written .dead) i;
           }

@@ -31,9 +31,9 @@ pub record Plans (c : Settings) (f : Flight) (a : Arrival) (k : Clock) (t : ℕ)
   pub tell : r .tell ≡ isSet (a .tell)
   pub probe : r .probe ≡ nextClock (k .probe) t (f .window) .clock
 
--- the clock with this probe clock, t as the current time, and no wish for an ask; dead if it was, or if it is now
+-- the clock with this probe clock, t as the current time, the old schedule, and no wish for an ask; dead if it was, or if it is now
 pub record Moves (k : Clock) (probe : ProbeClock) (dead : Bool) (t : ℕ) (r : Clock) : Type 0 where
-  pub is : r ≡ record { probe = probe; current = t; ask = 0; dead = r .dead }
+  pub is : r ≡ record { probe = probe; current = t; «next_flush» = k .«next_flush»; ask = 0; dead = r .dead; updated = k .updated }
   pub flag : isSet (r .dead) ≡ (isSet (k .dead) || dead)
 
 -- no acks, and no wish for a tell

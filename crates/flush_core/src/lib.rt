@@ -54,7 +54,7 @@ fn refused(
 }
 
 // A flush over a block that has passed the checks of 7 and 13.
-fn run(
+pub fn run(
     settings: Settings,
     flight: Flight,
     arrival: Arrival,
@@ -113,7 +113,7 @@ fn run(
 }
 
 // The lent sizes, then the block.
-fn checked(
+pub fn checked(
     long: bool,
     settings: Settings,
     flight: Flight,

@@ -67,15 +67,17 @@ pub(crate) fn plan_of(
     }
 }
 
-// The clock after a flush at t: no ask is wanted.
+// The clock after a flush at t: no ask is wanted, and the schedule is as it was.
 pub(crate) fn moved(clock: Clock, probe: ProbeClock, dead: bool, t: u32) -> Clock
     ensures { λ r. ⌜ Moves clock probe dead t r ⌝ }
 {
     Clock {
         probe,
         current: t,
+        next_flush: clock.next_flush,
         ask: 0,
         dead: flag(is_set(clock.dead) | dead),
+        updated: clock.updated,
     }
 }
 

@@ -4,20 +4,26 @@ use mathlib.Core.Path.{_≡_, subst, _∙_}
 use mathlib.Core.List.{List}
 use Prim.Native.Nat.{ℕ}
 use Rattle.timing.specs.declared.Record.{Record}
-use Rattle.session.specs.State.{Outcome}
+use Rattle.session.specs.State.{State, Outcome, done}
 use Rattle.session.specs.Reading.{Part, telling, showing}
+use Rattle.session.specs.Updating.{checking}
 use Rattle.control.specs.declared.Link.{Link}
 use Rattle.answers.specs.declared.Count.{Count}
+use Rattle.answers.specs.declared.Time.{Time}
 use Rattle.promises.specs.Parts.{Parts, lentLengths}
-use Rattle.promises.specs.Outcomes.{tellsWith, showsWith, shows}
-use Rattle.promises.specs.Answers.{countOutcome}
-use Rattle.promises.specs.Promises.{SizePromise}
+use Rattle.promises.specs.Outcomes.{tellsWith, showsWith, checksWith, shows}
+use Rattle.promises.specs.Answers.{countOutcome, timeOutcome}
+use Rattle.promises.specs.Promises.{SizePromise, CheckPromise}
 use Rattle.from_cores.proofs.Gathered.{Gathers, outcome-in}
 
 module _ (l : Link) (p : Parts) (records : List Record) (n : ℕ) (g : Gathers l p records n) where
   pub size-promised : (a : Count) → countOutcome a ≡ tellsWith l records (p .acks) (lentLengths n (p .sendPool) (p .receivePool) (p .acks)) → SizePromise l p a
   unfolding tellsWith
   size-promised a e = record { answer = e ∙ outcome-in l p records n g telling }
+
+  pub check-promised : (t : ℕ) (a : Time) → timeOutcome a ≡ checksWith l records (p .acks) (lentLengths n (p .sendPool) (p .receivePool) (p .acks)) t → CheckPromise t l p a
+  unfolding checksWith
+  check-promised t a e = record { answer = e ∙ outcome-in l p records n g (λ (s : State). done (checking s t)) }
 
   shown-in : showsWith l records (p .acks) (lentLengths n (p .sendPool) (p .receivePool) (p .acks)) ≡ shows l p
   unfolding showsWith

@@ -2,8 +2,9 @@
 -- Assumes nothing.
 use mathlib.Core.Path.{_≡_, refl, subst}
 use mathlib.Core.List.{List}
-use Prim.Native.Nat.{ℕ}
+use Prim.Native.Nat.{ℕ, _≤_}
 use lib.ListN.{length}
+use Rattle.protocol.specs.Protocol.{sendSlots}
 use Rattle.protocol.specs.Ranges.{mss}
 use Rattle.timing.specs.declared.Record.{Record}
 use Rattle.sizes.specs.Sizes.{enoughToFlush}
@@ -16,13 +17,29 @@ use Rattle.answers.specs.declared.Count.{Count}
 use Rattle.promises.specs.Parts.{Parts, lengthsOf, lentLengths, partsOf, stateIn, isMade}
 use Rattle.promises.specs.Outcomes.{flushesWith, flushes}
 use Rattle.promises.specs.Answers.{Counts}
-use Rattle.promises.specs.Promises.{FlushPromise, FlushLeaves}
+use Rattle.promises.specs.Promises.{Flushes, FlushPromise, FlushLeaves}
+use Rattle.promises.specs.Cores as core
 use Rattle.promises.specs.Cores.{PutBack, FlushCore}
 use Rattle.from_cores.specs.Left.{FlushLeft}
 use Rattle.from_cores.proofs.Gathered.{Gathers, checked-in}
 use Rattle.from_cores.proofs.Scattered.{SlotsFit, slotsOf, puts-nothing, table-after, stands-after}
 use Rattle.from_cores.proofs.SlotsAfter.{flush-slots}
 use Rattle.from_cores.proofs.Checked.{passed, made-valid, table-long, flush-enough}
+
+-- what a flush leaves, with its records put back, whatever it is a flush of
+pub flush-leaves : (p : Parts) (out lengths : List ℕ) (a : Count) (b : PutBack) (l′ : Link) (out′ lengths′ : List ℕ) (table′ : List Record) → length (b .records) ≡ 32
+    → table′ ≡ scattered (p .table) (slotsIn (b .words) (b .changed)) (b .records) → Whole (arraysOf l′) → sendSlots ≤ length (p .table)
+    → (x : Flushed) → SlotsFit (slotsOf (x .state)) → core.Flushes x (p .acks) out lengths a l′ b out′ lengths′
+    → Flushes x l′ p (partsOf (p .sendPool) (p .receivePool) table′ (p .acks)) out lengths out′ lengths′
+flush-leaves p out lengths a b l′ out′ lengths′ table′ few put whole long x slots h =
+    record {
+      stands = stands-after l′ b (h .puts) few (p .acks) (h .counts) whole (x .state) (h .state) (p .table) table′ put (p .sendPool) (p .receivePool) slots long;
+      sendPool = refl;
+      receivePool = refl;
+      table = table-after l′ b (h .puts) few (p .acks) (h .counts) whole (x .state) (h .state) (p .table) table′ put;
+      acks = refl;
+      output = h .output;
+    }
 
 module _ (t : ℕ) (l : Link) (p : Parts) (out lengths : List ℕ) (a : Count) (b : PutBack) (l′ : Link) (out′ lengths′ : List ℕ) where
   abbrev Left : Outcome Flushed → Type 0
@@ -55,14 +72,7 @@ module _ (t : ℕ) (l : Link) (p : Parts) (out lengths : List ℕ) (a : Count) (
         let same : flushing (stateIn l p) t (p .sendPool) ≡ x = let d = c .result in cc in
         let slots : SlotsFit (slotsOf (x .state)) = rw (← same) (flush-slots (stateIn l p) t (p .sendPool) (made-valid l p (c .block))) in
         let long = table-long m p (flush-enough m p (length out) (length lengths) (c .sizes)) in
-        record {
-          stands = stands-after l′ b (h .puts) few (p .acks) (h .counts) whole (x .state) (h .state) (p .table) table′ put (p .sendPool) (p .receivePool) slots long;
-          sendPool = refl;
-          receivePool = refl;
-          table = table-after l′ b (h .puts) few (p .acks) (h .counts) whole (x .state) (h .state) (p .table) table′ put;
-          acks = refl;
-          output = h .output;
-        }
+        flush-leaves p out lengths a b l′ out′ lengths′ table′ few put whole long x slots h
 
   pub flush-promised : (table′ : List Record) → length (b .records) ≡ 32 → table′ ≡ scattered (p .table) (slotsIn (b .words) (b .changed)) (b .records)
       → FlushLeft t l p out lengths a b l′ out′ lengths′ → FlushPromise t l p out lengths a l′ (partsOf (p .sendPool) (p .receivePool) table′ (p .acks)) out′ lengths′

@@ -8,3 +8,4 @@ pub mod Reading
 pub mod TakingIn
 pub mod Flushing
 pub mod Asking
+pub mod Updating

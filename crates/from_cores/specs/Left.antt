@@ -1,4 +1,4 @@
--- What taking in and a flush have left before the records of the outstanding segments are put back into the table: the promise's own
+-- What taking in, a flush and an update have left before the records of the outstanding segments are put back into the table: the promise's own
 -- outcome, and arrays that have their lengths. Definitions.
 -- Assumes nothing.
 use mathlib.Core.List.{List}
@@ -8,9 +8,10 @@ use Rattle.control.specs.Views.{Whole, arraysOf}
 use Rattle.control.specs.declared.Link.{Link}
 use Rattle.answers.specs.declared.Answer.{Answer}
 use Rattle.answers.specs.declared.Count.{Count}
-use Rattle.promises.specs.Parts.{Parts}
-use Rattle.promises.specs.Outcomes.{takesIn, flushes}
-use Rattle.promises.specs.Cores.{PutBack, InputCore, FlushCore}
+use Rattle.answers.specs.declared.Update.{Update}
+use Rattle.promises.specs.Parts.{Parts, recordsOf}
+use Rattle.promises.specs.Outcomes.{takesIn, flushes, updates}
+use Rattle.promises.specs.Cores.{PutBack, InputCore, FlushCore, UpdateCore}
 
 pub record InputLeft (datagram : List ℕ) (l : Link) (p : Parts) (a : Answer) (b : PutBack) (l′ : Link) (pool′ acks′ : List ℕ) : Type 0 where
   pub core : InputCore (takesIn l p datagram) l (p .receivePool) (p .acks) a l′ b pool′ acks′
@@ -18,4 +19,8 @@ pub record InputLeft (datagram : List ℕ) (l : Link) (p : Parts) (a : Answer) (
 
 pub record FlushLeft (t : ℕ) (l : Link) (p : Parts) (out lengths : List ℕ) (a : Count) (b : PutBack) (l′ : Link) (out′ lengths′ : List ℕ) : Type 0 where
   pub core : FlushCore (flushes l p (length out) (length lengths) t) l (p .acks) out lengths a l′ b out′ lengths′
+  pub whole : Whole (arraysOf l′)
+
+pub record UpdateLeft (t : ℕ) (l : Link) (p : Parts) (out lengths : List ℕ) (a : Update) (b : PutBack) (l′ : Link) (out′ lengths′ : List ℕ) : Type 0 where
+  pub core : UpdateCore (updates l p (length out) (length lengths) t) l (recordsOf l p) (p .acks) out lengths a l′ b out′ lengths′
   pub whole : Whole (arraysOf l′)

@@ -85,22 +85,22 @@ abbrev pub clock-at : Share → ℕ → ℕ → Clock → Fml
 clock-at s b o x = partAt clock-row.the-row s x b (o + 88)
 
 abbrev pub queued-at : Share → ℕ → ℕ → List ℕ → Fml
-queued-at s b o x = partAt (Array u32 128) s x b (o + 104)
+queued-at s b o x = partAt (Array u32 128) s x b (o + 108)
 
 abbrev pub outstanding-at : Share → ℕ → ℕ → List ℕ → Fml
-outstanding-at s b o x = partAt (Array u32 32) s x b (o + 616)
+outstanding-at s b o x = partAt (Array u32 32) s x b (o + 620)
 
 abbrev pub transmissions-at : Share → ℕ → ℕ → List ℕ → Fml
-transmissions-at s b o x = partAt (Array u8 32) s x b (o + 744)
+transmissions-at s b o x = partAt (Array u8 32) s x b (o + 748)
 
 abbrev pub ready-at : Share → ℕ → ℕ → List ℕ → Fml
-ready-at s b o x = partAt (Array u32 128) s x b (o + 776)
+ready-at s b o x = partAt (Array u32 128) s x b (o + 780)
 
 abbrev pub waiting-at : Share → ℕ → ℕ → List ℕ → Fml
-waiting-at s b o x = partAt (Array u32 128) s x b (o + 1288)
+waiting-at s b o x = partAt (Array u32 128) s x b (o + 1292)
 
 abbrev pub waiting-numbers-at : Share → ℕ → ℕ → List ℕ → Fml
-waiting-numbers-at s b o x = partAt (Array u32 128) s x b (o + 1800)
+waiting-numbers-at s b o x = partAt (Array u32 128) s x b (o + 1804)
 
 -- a struct within the block, at its tuple and at its record
 module _ (T : Declared) {M : Type 1} (𝓤 : URA M) (H : Heap 𝓤) (A : Atoms 𝓤) (s : Share) (x : T .D) (b o : ℕ) where

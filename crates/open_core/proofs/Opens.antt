@@ -28,7 +28,7 @@ made c =
       settings = c;
       flight = record { una = 0; next = 0; rtt = record { smoothed = 0; variation = 0; timeout = 200 }; window = 128; queued = 0; outstanding = 0 };
       arrival = record { expected = 0; tell = 0; ready = 0; waiting = 0; acks = 0 };
-      clock = record { probe = record { wait = 0; due = 0 }; current = 0; ask = 0; dead = 0 };
+      clock = record { probe = record { wait = 0; due = 0 }; current = 0; «next_flush» = 0; ask = 0; dead = 0; updated = 0 };
     }
 
 module _ (c : Settings) where

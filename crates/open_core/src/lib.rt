@@ -52,8 +52,10 @@ fn fresh(settings: Settings) -> Opened
     let clock = Clock {
         probe,
         current: 0,
+        next_flush: 0,
         ask: 0,
         dead: 0,
+        updated: 0,
     };
     Opened {
         answer: Answer::Accepted,

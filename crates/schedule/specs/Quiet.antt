@@ -117,9 +117,11 @@ module _ (s : Schedule) (now interval : ℕ) (dues : List ℕ)
   for-first : s .made ≡ false → WantedFor
   for-first m =
       let straight = near now now (inl (omega arith)) in
-      inl (rw (named-first s now interval dues m) (flushes-by s now interval (rw (started-first s now m, corrected-kept now now straight) (due-by now now (omega arith)))))
+      inl (rw (named-first s now interval dues m)
+      (flushes-by s now interval (rw (started-first s now m, corrected-kept now now straight) (due-by now now (omega arith)))))
 
-  for-made : s .made ≡ true → earliest now limit dues < interval → (earliest now limit dues ≡ limit) ⊎ (anyDue (plus now (earliest now limit dues)) dues ≡ true)
+  for-made : s .made ≡ true → earliest now limit dues < interval
+      → (earliest now limit dues ≡ limit) ⊎ (anyDue (plus now (earliest now limit dues)) dues ≡ true)
       → WantedFor
   for-made m within (inl e) =
       let z : earliest now limit dues ≡ ahead now (corrected now (s .next)) = omega arith in

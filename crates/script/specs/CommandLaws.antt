@@ -41,13 +41,13 @@ module _ (stop : ℕ) (l : List ℕ) (i : ℕ) where
 -- ---- names
 
 module _ (w : List ℕ) (i n : ℕ) where
-  pub letters-next : i < length w → 256 * n + getD w i 0 < 281474976710656 → letters n (drop i w) ≡ letters (256 * n + getD w i 0) (drop (i + 1) w)
+  pub letters-next : i < length w → 256 * n + getD w i 0 < 72057594037927936 → letters n (drop i w) ≡ letters (256 * n + getD w i 0) (drop (i + 1) w)
   unfolding letters
-  letters-next h g = rw (drop-cons w i 0 h, add-one, lt-leb 281474976710656 (256 * n + getD w i 0) g)
+  letters-next h g = rw (drop-cons w i 0 h, add-one, lt-leb 72057594037927936 (256 * n + getD w i 0) g)
 
-  pub letters-many : i < length w → 281474976710656 ≤ 256 * n + getD w i 0 → letters n (drop i w) ≡ 0
+  pub letters-many : i < length w → 72057594037927936 ≤ 256 * n + getD w i 0 → letters n (drop i w) ≡ 0
   unfolding letters
-  letters-many h g = rw (drop-cons w i 0 h, le-leb 281474976710656 (256 * n + getD w i 0) g)
+  letters-many h g = rw (drop-cons w i 0 h, le-leb 72057594037927936 (256 * n + getD w i 0) g)
 
   pub letters-end : length w ≤ i → letters n (drop i w) ≡ n
   unfolding letters

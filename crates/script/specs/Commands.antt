@@ -20,6 +20,8 @@ use Rattle.script.specs.declared.Command.the-variants.{
   Send,
   Input,
   Flush,
+  Update,
+  Check,
   Read,
   Size,
   Show,
@@ -78,12 +80,12 @@ numbersOf (w ∷ ws) = oneMore (numberOf w) (numbersOf ws)
 
 -- ---- names
 
--- a word as a number: a byte for each letter behind a number n; 0 from six letters on
+-- a word as a number: a byte for each letter behind a number n; 0 from seven letters on
 unfoldable pub letters : ℕ → List ℕ → ℕ
 letters n [] = n
-letters n (c ∷ w) = cond (leb 281474976710656 (256 * n + c)) 0 (letters (256 * n + c) w)
+letters n (c ∷ w) = cond (leb 72057594037927936 (256 * n + c)) 0 (letters (256 * n + c) w)
 
--- no two words of at most five bytes have one number (`name-once`)
+-- no two words of at most six bytes have one number (`name-once`)
 abbrev pub nameOf : List ℕ → ℕ
 nameOf w = letters 1 w
 
@@ -96,6 +98,10 @@ named name s = eqb name (nameOf (ascii s))
 unfoldable pub isOneOf : ℕ → List ℕ → Bool
 isOneOf n [] = false
 isOneOf n (k ∷ ks) = eqb n k || isOneOf n ks
+
+-- the fields of the control block that can be poked: 0 to 18, and 21 next_flush, 22 updated
+abbrev pub isField : ℕ → Bool
+isField field = leb field 18 || eqb field 21 || eqb field 22
 
 -- the largest value of a field of the control block: 16 bits for mtu, interval, peer_window and acks, 8 for mode and
 -- threshold, 32 for the rest
@@ -121,13 +127,15 @@ ofNone name =
 unfoldable pub ofOne : ℕ → ℕ → Command
 ofOne name a =
     cond (named name "flush") (Flush a)
-    (cond (named name "read" && leb a 60000) (Read a) Malformed)
+    (cond (named name "update") (Update a)
+    (cond (named name "check") (Check a)
+    (cond (named name "read" && leb a 60000) (Read a) Malformed)))
 
 unfoldable pub ofTwo : ℕ → ℕ → ℕ → Command
 ofTwo name a b =
     cond (named name "jump") (Jump a b)
     (cond (named name "lend" && leb a 5) (Lend a b)
-    (cond (named name "poke" && leb a 18 && leb b (fieldMost a)) (Poke a b) Malformed))
+    (cond (named name "poke" && isField a && leb b (fieldMost a)) (Poke a b) Malformed))
 
 unfoldable pub ofFour : ℕ → ℕ → ℕ → ℕ → ℕ → Command
 ofFour name list index field value = cond (named name "hold" && hasField list field && leb value (heldMost list field)) (Hold list index field value) Malformed

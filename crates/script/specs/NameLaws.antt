@@ -1,4 +1,4 @@
--- No two words of bytes have one number as a name, but those of six letters or more, which have 0.
+-- No two words of bytes have one number as a name, but those of seven letters or more, which have 0.
 -- Assumes nothing.
 use mathlib.Core.Path.{_≡_, refl, sym, _∙_}
 use mathlib.Core.Bool.{Bool, true, false, cond}
@@ -17,7 +17,7 @@ Bytes (c ∷ w) = (c < 256) × Bytes w
 -- a name that is not 0 goes on with its next letter
 next : (n c : ℕ) (w : List ℕ) → (letters n (c ∷ w) ≡ 0 → ⊥) → letters n (c ∷ w) ≡ letters (256 * n + c) w
 unfolding letters
-next n c w d = go (leb 281474976710656 (256 * n + c)) d
+next n c w d = go (leb 72057594037927936 (256 * n + c)) d
   where
     go : (b : Bool) → (cond b 0 (letters (256 * n + c) w) ≡ 0 → ⊥) → cond b 0 (letters (256 * n + c) w) ≡ letters (256 * n + c) w
     go true d = absurd (d refl)

@@ -6,7 +6,7 @@ use notation::Bytes;
 use numbers::Numbers;
 ghost use mathlib.Core.Path.{_≡_};
 ghost use lib.ListN.{length, drop};
-ghost use Rattle.script.specs.Commands.{fieldMost, hasField, heldMost, ofNone, ofOne, ofTwo, ofFour, ofFive, withNumbers, withBytes, storedBytes, Parsed};
+ghost use Rattle.script.specs.Commands.{isField, fieldMost, hasField, heldMost, ofNone, ofOne, ofTwo, ofFour, ofFive, withNumbers, withBytes, storedBytes, Parsed};
 ghost use Rattle.script.specs.Reading.{readAs};
 
 // The most bytes of a line, its newline not counted, and of a script.
@@ -29,6 +29,8 @@ pub enum Command {
     Send(usize),
     Input(usize),
     Flush(u32),
+    Update(u32),
+    Check(u32),
     Read(u32),
     Size,
     Show,
@@ -82,10 +84,23 @@ fn of_one(name: u64, a: u32) -> Command
     if name == words::FLUSH {
         return Command::Flush(a);
     }
+    if name == words::UPDATE {
+        return Command::Update(a);
+    }
+    if name == words::CHECK {
+        return Command::Check(a);
+    }
     if (name == words::READ) & (a as usize <= ROOM_MOST) {
         return Command::Read(a);
     }
     Command::Malformed
+}
+
+// The fields of the control block that can be poked.
+fn is_field(field: u32) -> bool
+    ensures { λ r. ⌜ r ≡ isField field ⌝ }
+{
+    (field <= 18) | (field == 21) | (field == 22)
 }
 
 // The largest value of a field of the control block; nothing above its width is a value.
@@ -109,7 +124,7 @@ fn of_two(name: u64, a: u32, b: u32) -> Command
     if (name == words::LEND) & (a <= 5) {
         return Command::Lend { part: a, count: b };
     }
-    if (name == words::POKE) & (a <= 18) & (b <= field_most(a)) {
+    if (name == words::POKE) & is_field(a) & (b <= field_most(a)) {
         return Command::Poke { field: a, value: b };
     }
     Command::Malformed

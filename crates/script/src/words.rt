@@ -13,6 +13,10 @@ pub(crate) const INPUT: u64 = 0x1696e707574;
 
 pub(crate) const FLUSH: u64 = 0x1666c757368;
 
+pub(crate) const UPDATE: u64 = 0x1757064617465;
+
+pub(crate) const CHECK: u64 = 0x1636865636b;
+
 pub(crate) const READ: u64 = 0x172656164;
 
 pub(crate) const SIZE: u64 = 0x173697a65;
@@ -33,8 +37,8 @@ pub(crate) const HOLD: u64 = 0x1686f6c64;
 
 pub(crate) const REC: u64 = 0x1726563;
 
-// A name of six letters is at least this.
-const SIX: u64 = 0x1000000000000;
+// A name of seven letters is at least this.
+const SEVEN: u64 = 0x100000000000000;
 
 const SPACE: u8 = 32;
 
@@ -53,7 +57,7 @@ pub(crate) fn word_end(line: &[u8], from: usize) -> usize
     i
 }
 
-// A word as a number; 0 for one of six letters or more.
+// A word as a number; 0 for one of seven letters or more.
 pub(crate) fn name(word: &[u8]) -> u64
     ensures { λ r. ⌜ r ≡ nameOf (now (word .entry)) ⌝ }
 {
@@ -61,7 +65,7 @@ pub(crate) fn name(word: &[u8]) -> u64
     let mut i: usize = 0;
     while i < word.len() {
         n = 256 * n + (word[i] as u64);
-        if SIX <= n {
+        if SEVEN <= n {
             return 0;
         }
         i += 1;

@@ -72,13 +72,14 @@ abbrev pub flagOf : ℕ → ℕ
 flagOf x = cond (eqb x 0) 0 1
 
 -- snd_una snd_nxt rcv_nxt current peer_window srtt rttvar rto probe_wait probe_due ask tell dead acks queued outstanding
--- ready waiting
+-- ready waiting next_flush updated
 abbrev pub stateNumbers : Link → List ℕ
 stateNumbers l =
     l .flight .una ∷ l .flight .next ∷ l .arrival .expected ∷ l .clock .current ∷ l .flight .window
     ∷ l .flight .rtt .smoothed ∷ l .flight .rtt .variation ∷ l .flight .rtt .timeout ∷ l .clock .probe .wait ∷ l .clock .probe .due
     ∷ flagOf (l .clock .ask) ∷ flagOf (l .arrival .tell) ∷ flagOf (l .clock .dead) ∷ l .arrival .acks
-    ∷ l .flight .queued ∷ l .flight .outstanding ∷ l .arrival .ready ∷ l .arrival .waiting ∷ []
+    ∷ l .flight .queued ∷ l .flight .outstanding ∷ l .arrival .ready ∷ l .arrival .waiting
+    ∷ l .clock .«next_flush» ∷ flagOf (l .clock .updated) ∷ []
 
 unfoldable pub stateLine : Link → List ℕ
 stateLine l = ascii "state" ++ row (stateNumbers l) ++ (newline ∷ [])

@@ -26,8 +26,8 @@ fn flag(x: u8) -> u64
 }
 
 // snd_una snd_nxt rcv_nxt current peer_window srtt rttvar rto probe_wait probe_due ask tell dead acks queued outstanding
-// ready waiting
-fn numbers(link: Link) -> [u64; 18]
+// ready waiting next_flush updated
+fn numbers(link: Link) -> [u64; 20]
     ensures { λ r. ⌜ r ≡ stateNumbers link ⌝ }
 {
     [
@@ -49,6 +49,8 @@ fn numbers(link: Link) -> [u64; 18]
         link.flight.outstanding as u64,
         link.arrival.ready as u64,
         link.arrival.waiting as u64,
+        wide(link.clock.next_flush),
+        flag(link.clock.updated),
     ]
 }
 

@@ -1,5 +1,5 @@
--- The premises of the quiet theorem can be met by steps that keep the promises of the public calls: a sender whose first update, at 7, flushes; a check
--- at 8 that names 107; updates at 106 and then at 20, a clock that goes back, which both wait. Proved by computing.
+-- The premises of the quiet theorem can be met by steps that keep the promises of the public calls: a sender whose first update, at 7,
+-- flushes; a check at 8 that names 107; updates at 106 and then at 20, a clock that goes back, which both wait. Proved by computing.
 -- Assumes nothing.
 use mathlib.Core.Path.{refl}
 use mathlib.Core.List.{List, [], _∷_}
@@ -124,16 +124,21 @@ checks-it = record { answer = refl }
 
 pub waits : UpdatePromise 106 (updated .link) (updated .parts) output lengths update.Waited (rested .link) (rested .parts) output lengths
 unfolding updated rested rested-again countsFit stateOf pairs joining.joined blockValid updatesWith checksWith scheduling.updated corrected started following isAstray ahead earliest named updating checking signed isBefore isAfter isDue leastTimeout firstNumberOr startsAt ascending enough enoughToFlush occurs numbersFit waitingFits settled sendingValid receivingValid valid paired
-waits = record { answer = refl; leaves = record { stands = record { counts = refl; state = refl }; parts = refl; output = refl; sizes = refl } }
+waits =
+    record { answer = refl; leaves = record { stands = record { counts = refl; state = refl }; parts = refl; output = refl; sizes = refl } }
 
-pub waits-again : UpdatePromise 20 (rested .link) (rested .parts) output lengths update.Waited (rested-again .link) (rested-again .parts) output lengths
+pub waits-again : UpdatePromise 20 (rested .link) (rested .parts) output lengths update.Waited
+    (rested-again .link) (rested-again .parts) output lengths
 unfolding updated rested rested-again countsFit stateOf pairs joining.joined blockValid updatesWith checksWith scheduling.updated corrected started following isAstray ahead earliest named updating checking signed isBefore isAfter isDue leastTimeout firstNumberOr startsAt ascending enough enoughToFlush occurs numbersFit waitingFits settled sendingValid receivingValid valid paired
-waits-again = record { answer = refl; leaves = record { stands = record { counts = refl; state = refl }; parts = refl; output = refl; sizes = refl } }
+waits-again =
+    record { answer = refl; leaves = record { stands = record { counts = refl; state = refl }; parts = refl; output = refl; sizes = refl } }
 
 -- ---- since opening
 
 sender-runs : SinceOpening c (Call.send (104 ∷ 105 ∷ []) ∷ Call.update 7 ∷ [])
-    (record { call = Call.send (104 ∷ 105 ∷ []); answer = Answer.accepted } ∷ record { call = Call.update 7; answer = Answer.wrote (datagram ∷ []) } ∷ []) updated
+    (record { call = Call.send (104 ∷ 105 ∷ []); answer = Answer.accepted }
+    ∷ record { call = Call.update 7; answer = Answer.wrote (datagram ∷ []) }
+    ∷ []) updated
 sender-runs = record {
   first = fresh;
   opens = opens-fresh;
@@ -146,7 +151,8 @@ sender-runs = record {
 -- the theorem says something of them
 pub holds : StaysQuiet 8 107 updated (update.Waited ∷ update.Waited ∷ []) rested-again
 holds =
-    stays-quiet updated 8 107 (fits-since sender-runs) (omega arith) checks-it (106 ∷ 20 ∷ []) (update.Waited ∷ update.Waited ∷ []) rested-again
+    stays-quiet updated 8 107 (fits-since sender-runs) (omega arith) checks-it (106 ∷ 20 ∷ [])
+    (update.Waited ∷ update.Waited ∷ []) rested-again
     (record { fits = omega arith; before = omega arith }, (record { fits = omega arith; before = omega arith }, tt))
     (quiet.next updated 106 update.Waited rested output lengths output lengths waits
     (quiet.next rested 20 update.Waited rested-again output lengths output lengths waits-again quiet.start))

@@ -1,5 +1,6 @@
--- A session that is computed: a sender sends a message of two segments and one of one, flushes, or updates three times, and takes in two acks; a receiver takes the two
--- datagrams in and reads both messages. The second datagram has two segments, the last of the first message and the second message.
+-- A session that is computed: a sender sends a message of two segments and one of one, flushes, or updates three times, and takes in two
+-- acks; a receiver takes the two datagrams in and reads both messages. The second datagram has two segments, the last of the first
+-- message and the second message.
 -- Assumes nothing.
 use mathlib.Core.Path.{_≡_, refl}
 use mathlib.Core.Bool.{Bool, true, false}
@@ -102,7 +103,12 @@ unfoldable pub updated : Known
 updated = record { state = update .state; sendPool = bothSent .sendPool; receivePool = bothSent .receivePool }
 
 unfoldable pub rested : Known
-rested = record { state = withTimes (updated .state) 6 (updated .state .schedule); sendPool = updated .sendPool; receivePool = updated .receivePool }
+rested =
+    record {
+      state = withTimes (updated .state) 6 (updated .state .schedule);
+      sendPool = updated .sendPool;
+      receivePool = updated .receivePool;
+    }
 
 unfoldable pub laterUpdate : Flushed
 laterUpdate = flushing (withSchedule (rested .state) (record { next = 205; made = true })) 105 (rested .sendPool)

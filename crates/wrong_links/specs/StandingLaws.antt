@@ -164,7 +164,8 @@ module _ (l : Link) (p : Parts) (k : Known) (at : At l p k) (passes : Passes k) 
       (r .0, wrote x l′ p′ out lengths out′ lengths′ (r .1))
 
   module _ (t : ℕ) (out lengths : List ℕ) (a : Update) (l′ : Link) (p′ : Parts) (out′ lengths′ : List ℕ)
-      (o : leb outputLeast (length out) ≡ true) (n : leb lengthsLeast (length lengths) ≡ true) (h : UpdatePromise t l p out lengths a l′ p′ out′ lengths′) where
+      (o : leb outputLeast (length out) ≡ true) (n : leb lengthsLeast (length lengths) ≡ true)
+      (h : UpdatePromise t l p out lengths a l′ p′ out′ lengths′) where
     update-gives : (u : Updates) → updating (k .state) t (k .sendPool) ≡ u
         → (a ≡ updateAnswer (done u)) × UpdateLeaves (done u) l l′ p p′ out lengths out′ lengths′
     update-gives u e =
@@ -178,7 +179,9 @@ module _ (l : Link) (p : Parts) (k : Known) (at : At l p k) (passes : Passes k) 
 
     -- one that waits by the definition changes the state alone
     pub update-waits : (s : State) → updating (k .state) t (k .sendPool) ≡ waits s
-        → (a ≡ update.Waited) × At l′ p′ (record { state = s; sendPool = k .sendPool; receivePool = k .receivePool }) × (p′ ≡ p) × (out′ ≡ out) × (lengths′ ≡ lengths)
+        → (a ≡ update.Waited)
+        × At l′ p′ (record { state = s; sendPool = k .sendPool; receivePool = k .receivePool })
+        × (p′ ≡ p) × (out′ ≡ out) × (lengths′ ≡ lengths)
     update-waits s e =
         let r = update-gives (waits s) e in
         (r .0, record { stands = r .1 .stands; lends = rw (r .1 .parts) (at .lends) }, r .1 .parts, r .1 .output, r .1 .sizes)

@@ -1,8 +1,8 @@
 -- The wrong links of document 01, tried against the promises of the public calls. Whatever block and parts a link that keeps its promises has, it
 -- goes through the session of `Session` as computed there, from an accepted opening on; so none of these keeps them:
 -- - one that refuses everything: `refuses-opening` and those after it, and `show-first`;
--- - one whose updates always wait: `update-first`, `update-later`; or always flush: `update-next`; one that does not tell which it did: `update-next`,
---   `update-later`; one whose check always answers now: `check-later`;
+-- - one whose updates always wait: `update-first`, `update-later`; or always flush: `update-next`; one that does not tell which it did:
+--   `update-next`, `update-later`; one whose check always answers now: `check-later`;
 -- - one that always reads the same message: `read-second`, `read-none`;
 -- - one that takes datagrams and does nothing: `input-second` with `size-first` (the receiving half), `input-acks` (the sending half), and of any
 --   block `pushes-kept`, `acks-remove` (HalfLaws);
@@ -94,13 +94,16 @@ module _ (l : Link) (p : Parts) (l′ : Link) (p′ : Parts) where
       let r = flush-goes l p bothSent at (all-pass .both-sent) 5 out lengths a l′ p′ out′ lengths′ flush room number refl h in
       (rw (computed .datagram-count) at (r .0), r .1 .after, rw (computed .datagram-count) at (r .1 .output))
 
-  module _ (out lengths out′ lengths′ : List ℕ) (room : leb outputLeast (length out) ≡ true) (number : leb lengthsLeast (length lengths) ≡ true) where
+  module _ (out lengths out′ lengths′ : List ℕ) (room : leb outputLeast (length out) ≡ true)
+      (number : leb lengthsLeast (length lengths) ≡ true) where
     -- the first update writes the same
     pub update-first : (a : Update) → At l p bothSent → UpdatePromise 5 l p out lengths a l′ p′ out′ lengths′
         → (a ≡ update.Wrote 2) × At l′ p′ updated × Output datagrams out lengths 2 out′ lengths′
     unfolding updated
     update-first a at h =
-        let r = update-goes l p bothSent at (all-pass .both-sent) 5 out lengths a l′ p′ out′ lengths′ room number h session.update (computed .updates-first) in
+        let r =
+        update-goes l p bothSent at (all-pass .both-sent) 5 out lengths a l′ p′ out′ lengths′ room number h session.update
+        (computed .updates-first) in
         (rw (computed .update-count) at (r .0), r .1 .after, rw (computed .update-count, computed .update-datagrams) at (r .1 .output))
 
     -- the next one waits, and changes no lent byte
@@ -108,13 +111,15 @@ module _ (l : Link) (p : Parts) (l′ : Link) (p′ : Parts) where
         → (a ≡ update.Waited) × At l′ p′ rested × (p′ ≡ p) × (out′ ≡ out) × (lengths′ ≡ lengths)
     unfolding rested
     update-next a at h =
-        update-waits l p updated at (all-pass .one-updated) 6 out lengths a l′ p′ out′ lengths′ room number h (rested .state) (computed .updates-waiting)
+        update-waits l p updated at (all-pass .one-updated) 6 out lengths a l′ p′ out′ lengths′ room number h (rested .state)
+        (computed .updates-waiting)
 
     -- the one after it flushes and writes nothing, which is another answer
     pub update-later : (a : Update) → At l p rested → UpdatePromise 105 l p out lengths a l′ p′ out′ lengths′ → a ≡ update.Wrote 0
     update-later a at h =
         rw (computed .later-none) at
-        (update-goes l p rested at (all-pass .one-rested) 105 out lengths a l′ p′ out′ lengths′ room number h laterUpdate (computed .updates-later) .0)
+        (update-goes l p rested at (all-pass .one-rested) 105 out lengths a l′ p′ out′ lengths′ room number h laterUpdate
+        (computed .updates-later) .0)
 
   -- of the segments 0, 1 and 2 only the last is left outstanding
   pub input-acks : (a : Answer) → At l p flushed → InputPromise acks l p a l′ p′
@@ -188,7 +193,8 @@ module _ (l : Link) (p : Parts) (l′ : Link) (p′ : Parts) (r : Refusal) where
       → FlushPromise 5 l p out lengths (count.Refused r) l′ p′ out′ lengths′ → ⊥
   refuses-flush out lengths out′ lengths′ at room number h = not-refused-count (flush-both l p l′ p′ _ out lengths out′ lengths′ at room number h .0)
 
-  pub refuses-update : (out lengths out′ lengths′ : List ℕ) → At l p bothSent → leb outputLeast (length out) ≡ true → leb lengthsLeast (length lengths) ≡ true
+  pub refuses-update : (out lengths out′ lengths′ : List ℕ) → At l p bothSent → leb outputLeast (length out) ≡ true
+      → leb lengthsLeast (length lengths) ≡ true
       → UpdatePromise 5 l p out lengths (update.Refused r) l′ p′ out′ lengths′ → ⊥
   refuses-update out lengths out′ lengths′ at room number h =
       let e = update-first l p l′ p′ out lengths out′ lengths′ room number _ at h .0 in let z : _≡_ {A = ℕ} 0 1 = cc in omega arith

@@ -47,9 +47,9 @@ use Rattle.codes.proofs.Told.{told}
 use Rattle.from_cores.specs.Left.{FlushLeft}
 use Rattle.from_cores.proofs.Scattered.{put-back}
 use Rattle.from_cores.proofs.Flushing.{flush-promised}
-use Rattle.write_out.proofs.write_out as flushing
-use Rattle.write_out.proofs.write_out.Symbol as flushing-def
-use Rattle.write_out.proofs.write_out.Met as flushing-thm
+use Rattle.write_out.proofs.write_out as writing
+use Rattle.write_out.proofs.write_out.Symbol as writing-def
+use Rattle.write_out.proofs.write_out.Met as writing-thm
 use Rattle.results.proofs.flushed_words as words-of
 use Rattle.results.proofs.flushed_words.Symbol as words-of-def
 use Rattle.results.proofs.flushed_words.Met as words-of-thm
@@ -76,7 +76,7 @@ stayed = (gave-ref (0 ∷ []) tt (plain (λ _. L)), (stay-dropped _ yes, (stay-d
 module _ {M : Type 1} (𝓤 : URA M) (H : Heap 𝓤) (A : Atoms 𝓤) (W : Given 𝓤 H A) (at-mem : Memory → SProp 𝓤) (run : Routine → Fun 𝓤) where
   -- what is known of the callees
   abbrev Known : Calls 𝓤 H → Type 1
-  Known C = Triple 𝓤 (C flushing-def.name) (tripleOf 𝓤 H A flushing.signature (flushing.spec 𝓤 H A at-mem run))
+  Known C = Triple 𝓤 (C writing-def.name) (tripleOf 𝓤 H A writing.signature (writing.spec 𝓤 H A at-mem run))
       × Triple 𝓤 (C words-of-def.name) (tripleOf 𝓤 H A words-of.signature (words-of.spec 𝓤 H A at-mem run))
       × Triple 𝓤 (C count-of-def.name) (tripleOf 𝓤 H A count-of.signature (count-of.spec 𝓤 H A at-mem run))
       × Triple 𝓤 (C records-of-def.name) (tripleOf 𝓤 H A records-of.signature (records-of.spec 𝓤 H A at-mem run))
@@ -141,12 +141,12 @@ module _ {M : Type 1} (𝓤 : URA M) (H : Heap 𝓤) (A : Atoms 𝓤) (W : Given
     unfoldable Post : Val → SProp 𝓤
     Post = walkOf 𝓤 H A f.ended stayed (f.clauses 𝓤 H A at-mem run) .post (((κ₀, (κ₁, (κ₂, (κ₃, (κ₄, (κ₅, (κ₆, tt))))))), (q₀, (q₁, (q₂, (q₃, (q₄, (q₅, (q₆, tt))))))), tt, x, at), tt)
 
-    -- what flushing is called at, and that what it asks is had
-    abbrev to-flushing : (β₃ : ℕ) (δ₃ : GName) (y₀ : ℕ) (u₀ : Val) → tripleOf 𝓤 H A flushing.signature (flushing.spec 𝓤 H A at-mem run) .Ghost
-    to-flushing β₃ δ₃ y₀ u₀ = (((κ₀, (κ₁, (κ₂, ((β₃ ∷ []), (κ₄, (κ₅, (κ₆, tt))))))), (q₀, (q₁, (q₂, (fullShare, (q₄, (q₅, (q₆, tt))))))), tt, (x₀, (x₁, (x₂, ((shown-at₃ δ₃), (x₄, (y₀, (x₆, (x₇, tt)))))))), (s₀ ∷ [], (s₁ ∷ [], (s₂ ∷ [], (s₃ ∷ [], (s₄ ∷ [], (u₀ ∷ [], (s₆ ∷ [], (s₇ ∷ [], tt))))))))), tt)
+    -- what writing is called at, and that what it asks is had
+    abbrev to-writing : (β₃ : ℕ) (δ₃ : GName) (y₀ : ℕ) (u₀ : Val) → tripleOf 𝓤 H A writing.signature (writing.spec 𝓤 H A at-mem run) .Ghost
+    to-writing β₃ δ₃ y₀ u₀ = (((κ₀, (κ₁, (κ₂, ((β₃ ∷ []), (κ₄, (κ₅, (κ₆, tt))))))), (q₀, (q₁, (q₂, (fullShare, (q₄, (q₅, (q₆, tt))))))), tt, (x₀, (x₁, (x₂, ((shown-at₃ δ₃), (x₄, (y₀, (x₆, (x₇, tt)))))))), (s₀ ∷ [], (s₁ ∷ [], (s₂ ∷ [], (s₃ ∷ [], (s₄ ∷ [], (u₀ ∷ [], (s₆ ∷ [], (s₇ ∷ [], tt))))))))), tt)
 
-    asks-flushing : (β₃ : ℕ) (δ₃ : GName) → (y₀ : ℕ) (u₀ : Val) → Is u32 y₀ (u₀ ∷ []) → ent 𝓤 (⋆ 𝓤 H A (‵ (flft κ₀ q₀) ∷ ‵ Own₀ ∷ ‵ (flft κ₁ q₁) ∷ ‵ Own₁ ∷ ‵ (flft κ₂ q₂) ∷ ‵ Own₂ ∷ ‵ (flft (β₃ ∷ []) fullShare) ∷ ‵ (Shared₃ β₃ δ₃) ∷ ‵ (flft κ₄ q₄) ∷ ‵ Own₄ ∷ ‵ (flft κ₅ q₅) ∷ ‵ Own₆ ∷ ‵ (flft κ₆ q₆) ∷ ‵ Own₇ ∷ [])) (tripleOf 𝓤 H A flushing.signature (flushing.spec 𝓤 H A at-mem run) .pre (to-flushing β₃ δ₃ y₀ u₀))
-    asks-flushing β₃ δ₃ y₀ u₀ is₀ =
+    asks-writing : (β₃ : ℕ) (δ₃ : GName) → (y₀ : ℕ) (u₀ : Val) → Is u32 y₀ (u₀ ∷ []) → ent 𝓤 (⋆ 𝓤 H A (‵ (flft κ₀ q₀) ∷ ‵ Own₀ ∷ ‵ (flft κ₁ q₁) ∷ ‵ Own₁ ∷ ‵ (flft κ₂ q₂) ∷ ‵ Own₂ ∷ ‵ (flft (β₃ ∷ []) fullShare) ∷ ‵ (Shared₃ β₃ δ₃) ∷ ‵ (flft κ₄ q₄) ∷ ‵ Own₄ ∷ ‵ (flft κ₅ q₅) ∷ ‵ Own₆ ∷ ‵ (flft κ₆ q₆) ∷ ‵ Own₇ ∷ [])) (tripleOf 𝓤 H A writing.signature (writing.spec 𝓤 H A at-mem run) .pre (to-writing β₃ δ₃ y₀ u₀))
+    asks-writing β₃ δ₃ y₀ u₀ is₀ =
         qed W (‵ (flft κ₀ q₀) ∷ ‵ Own₀ ∷ ‵ (flft κ₁ q₁) ∷ ‵ Own₁ ∷ ‵ (flft κ₂ q₂) ∷ ‵ Own₂ ∷ ‵ (flft (β₃ ∷ []) fullShare) ∷ ‵ (Shared₃ β₃ δ₃) ∷ ‵ (flft κ₄ q₄) ∷ ‵ Own₄ ∷ ‵ (flft κ₅ q₅) ∷ ‵ Own₆ ∷ ‵ (flft κ₆ q₆) ∷ ‵ Own₇ ∷ []) ∵ nothing ! $ move ! (13 ∷ 0 ∷ []) $ join ! $ move ! (11 ∷ 0 ∷ []) $ join ! $ move ! (9 ∷ 0 ∷ []) $ join ! $ move ! (7 ∷ 0 ∷ []) $ join ! $ move ! (5 ∷ 0 ∷ []) $ join ! $ move ! (3 ∷ 0 ∷ []) $ join ! $ move ! (1 ∷ 0 ∷ []) $ join ! $ nothing ! $ move ! (8 ∷ 0 ∷ []) $ fjoin ! $ move ! (7 ∷ 0 ∷ []) $ fjoin ! $ owned ! u32 (Is u32) (uint-makes 𝓤 H A W w32) y₀ _ is₀ $ fjoin ! $ move ! (6 ∷ 0 ∷ []) $ fjoin ! $ move ! (5 ∷ 0 ∷ []) $ fjoin ! $ move ! (4 ∷ 0 ∷ []) $ fjoin ! $ move ! (3 ∷ 0 ∷ []) $ fjoin ! $ move ! (2 ∷ 0 ∷ []) $ fjoin ! $ move ! (1 ∷ 0 ∷ []) $ join ! $ nothing ! $ move ! (1 ∷ 0 ∷ []) $ done !
 
     -- what scatter is called at, and that what it asks is had
@@ -187,8 +187,8 @@ module _ {M : Type 1} (𝓤 : URA M) (H : Heap 𝓤) (A : Atoms 𝓤) (W : Given
           assigns ! {v = s₇} (agg ! (and-then ! (load ! (from ! (stop !)) (look ! 19 refl)) (and-then ! (load ! (from ! (fld ! refl (stop !))) (look-in ! 29 (sub ! 1 refl (whole !)))) (no-more !)))) (from ! (stop !)) (init ! 18 refl (tt, (tt, (record { fits = room₇ .0 }, tt)))) $
           lft-new ! tt (λ β₃. move ! (12 ∷ 5 ∷ []) $ use2 W (later (some (λ (δ : GName). ‵ (Shared₃ β₃ δ) ⊛ ‵ (LentShared R κ₃ (β₃ ∷ []) q₃ (x₃ .name) (x₃ .ptr .0) (x₃ .ptr .1) (x₃ .now))))) (lends-shared R κ₃ (β₃ ∷ []) q₃ (x₃ .name) (x₃ .ptr .0) (x₃ .ptr .1) (x₃ .now) 𝓤 H A W) $ await ! tt $ pick ! (λ β-name₃. split ! $
           -- [shown3; blent3; btok3; deaths; tok0; tok1; tok2; tok4; tok6; tok7; own0; own1; own2; own4; own6; own7; the locals]
-          move ! (4 ∷ 10 ∷ 5 ∷ 11 ∷ 6 ∷ 12 ∷ 2 ∷ 0 ∷ 7 ∷ 13 ∷ 8 ∷ 14 ∷ 9 ∷ 15 ∷ []) $ group ! 14 $ calls-fn ! fm flushing.ended (flushing.clauses 𝓤 H A at-mem run) (known .0) (to-flushing β₃ β-name₃ x₅ v₅) (λ t ws-t. FlushLeft x₅ (x₀ .now) (partsOf (x₁ .now) (x₂ .now) (x₃ .now) (x₄ .now)) (x₆ .now) (x₇ .now) (t .answer) (putBack t) (ws-t .0) (ws-t .1 .1 .1 .1 .1 .1 .0) (ws-t .1 .1 .1 .1 .1 .1 .1 .0)) (‵ (flft κ₀ q₀) ⊛ ‵ Own₀ ⊛ ‵ (flft κ₁ q₁) ⊛ ‵ Own₁ ⊛ ‵ (flft κ₂ q₂) ⊛ ‵ Own₂ ⊛ ‵ (flft (β₃ ∷ []) fullShare) ⊛ ‵ (Shared₃ β₃ β-name₃) ⊛ ‵ (flft κ₄ q₄) ⊛ ‵ Own₄ ⊛ ‵ (flft κ₅ q₅) ⊛ ‵ Own₆ ⊛ ‵ (flft κ₆ q₆) ⊛ ‵ Own₇)
-          (asks-flushing β₃ β-name₃ x₅ v₅ g₅) (λ t ws-t. id⊢ 𝓤 _)
+          move ! (4 ∷ 10 ∷ 5 ∷ 11 ∷ 6 ∷ 12 ∷ 2 ∷ 0 ∷ 7 ∷ 13 ∷ 8 ∷ 14 ∷ 9 ∷ 15 ∷ []) $ group ! 14 $ calls-fn ! fm writing.ended (writing.clauses 𝓤 H A at-mem run) (known .0) (to-writing β₃ β-name₃ x₅ v₅) (λ t ws-t. FlushLeft x₅ (x₀ .now) (partsOf (x₁ .now) (x₂ .now) (x₃ .now) (x₄ .now)) (x₆ .now) (x₇ .now) (t .answer) (putBack t) (ws-t .0) (ws-t .1 .1 .1 .1 .1 .1 .0) (ws-t .1 .1 .1 .1 .1 .1 .1 .0)) (‵ (flft κ₀ q₀) ⊛ ‵ Own₀ ⊛ ‵ (flft κ₁ q₁) ⊛ ‵ Own₁ ⊛ ‵ (flft κ₂ q₂) ⊛ ‵ Own₂ ⊛ ‵ (flft (β₃ ∷ []) fullShare) ⊛ ‵ (Shared₃ β₃ β-name₃) ⊛ ‵ (flft κ₄ q₄) ⊛ ‵ Own₄ ⊛ ‵ (flft κ₅ q₅) ⊛ ‵ Own₆ ⊛ ‵ (flft κ₆ q₆) ⊛ ‵ Own₇)
+          (asks-writing β₃ β-name₃ x₅ v₅ g₅) (λ t ws-t. id⊢ 𝓤 _)
           (and-then ! (load ! (from ! (stop !)) (look ! 12 refl)) (and-then ! (load ! (from ! (stop !)) (look ! 23 refl)) (and-then ! (load ! (from ! (stop !)) (look ! 22 refl)) (and-then ! (load ! (from ! (stop !)) (look ! 10 refl)) (and-then ! (load ! (from ! (stop !)) (look ! 20 refl)) (and-then ! (load ! (from ! (stop !)) (look ! 19 refl)) (and-then ! (load ! (from ! (stop !)) (look ! 8 refl)) (and-then ! (load ! (from ! (stop !)) (look ! 6 refl)) (no-more !))))))))) (λ t w-t ws-t e-t is-t. land ! (from ! (stop !)) (init ! 17 refl (LL.lawful flushed-row.the-type flushed-laws.the-laws 𝓤 H A W .typed t (w-t ∷ []) is-t .0)) $
           spread W (‵ (flft κ₀ q₀)) (‵ (flft κ₁ q₁) ∷ ‵ (flft κ₂ q₂) ∷ ‵ (flft (β₃ ∷ []) fullShare) ∷ ‵ (flft κ₄ q₄) ∷ ‵ (flft κ₅ q₅) ∷ ‵ (flft κ₆ q₆) ∷ ‵ ftrue ∷ []) (id⊢ 𝓤 _) $ move ! (8 ∷ []) $ spread W (‵ (fres (x₀ .name) (L .coded .code (ws-t .0)))) (‵ ftrue ∷ ‵ ftrue ∷ ‵ ftrue ∷ ‵ ftrue ∷ ‵ ftrue ∷ ‵ (fsep (finally u8 (x₆ .name) (ws-t .1 .1 .1 .1 .1 .1 .0)) (feq ℕ (length (ws-t .1 .1 .1 .1 .1 .1 .0)) (length (x₆ .now)))) ∷ ‵ (fsep (finally u16 (x₇ .name) (ws-t .1 .1 .1 .1 .1 .1 .1 .0)) (feq ℕ (length (ws-t .1 .1 .1 .1 .1 .1 .1 .0)) (length (x₇ .now)))) ∷ ‵ ftrue ∷ []) (id⊢ 𝓤 _) $ keep ! (0 ∷ 6 ∷ 7 ∷ 9 ∷ 10 ∷ 11 ∷ 12 ∷ 13 ∷ 14 ∷ 15 ∷ 17 ∷ 18 ∷ 19 ∷ 20 ∷ 21 ∷ 22 ∷ 23 ∷ 24 ∷ 25 ∷ 26 ∷ 27 ∷ 28 ∷ 29 ∷ 30 ∷ 31 ∷ 32 ∷ 33 ∷ 34 ∷ 35 ∷ 36 ∷ 37 ∷ 38 ∷ 39 ∷ 40 ∷ 41 ∷ []) $ move ! (1 ∷ []) $ fsplit ! $ move ! (1 ∷ []) $ feqL ! (λ len₆. move ! (2 ∷ []) $ fsplit ! $ move ! (1 ∷ []) $ feqL ! (λ len₇.
           -- [fin7; fin6; fin0; tok0; tok1; tok2; btok3; tok4; tok6; tok7; blent3; deaths; the locals]
@@ -230,7 +230,7 @@ ampferweg-flush-spec 𝓤 H 𝓜 𝓖 𝓡 =
     entered 𝓤 H (tripleOf 𝓤 H (𝓖 .A) f.signature (f.spec 𝓤 H (𝓖 .A) (𝓜 .mem) (𝓡 .run)))
     (tables 𝓤 H 𝓜 𝓡 code.env .C) (tables 𝓤 H 𝓜 𝓡 code.env .Λ) #f code.function (code.unfolded 𝓤 H 𝓜 𝓡)
     (f-meets 𝓤 H (𝓖 .A) (givenOf 𝓤 H 𝓜 𝓖) (𝓜 .mem) (𝓡 .run) (tablesOf 𝓤 H 𝓜 (tables 𝓤 H 𝓜 𝓡 code.env)) (
-      cited 𝓤 H (tripleOf 𝓤 H (𝓖 .A) flushing.signature (flushing.spec 𝓤 H (𝓖 .A) (𝓜 .mem) (𝓡 .run))) 𝓜 𝓡 code.env flushing-def.name flushing-def.routine code.calls-write-out·write-out (flushing-thm.met 𝓤 H 𝓜 𝓖 𝓡),
+      cited 𝓤 H (tripleOf 𝓤 H (𝓖 .A) writing.signature (writing.spec 𝓤 H (𝓖 .A) (𝓜 .mem) (𝓡 .run))) 𝓜 𝓡 code.env writing-def.name writing-def.routine code.calls-write-out·write-out (writing-thm.met 𝓤 H 𝓜 𝓖 𝓡),
       cited 𝓤 H (tripleOf 𝓤 H (𝓖 .A) words-of.signature (words-of.spec 𝓤 H (𝓖 .A) (𝓜 .mem) (𝓡 .run))) 𝓜 𝓡 code.env words-of-def.name words-of-def.routine code.calls-results·flushed-words (words-of-thm.met 𝓤 H 𝓜 𝓖 𝓡),
       cited 𝓤 H (tripleOf 𝓤 H (𝓖 .A) count-of.signature (count-of.spec 𝓤 H (𝓖 .A) (𝓜 .mem) (𝓡 .run))) 𝓜 𝓡 code.env count-of-def.name count-of-def.routine code.calls-results·flushed-changed (count-of-thm.met 𝓤 H 𝓜 𝓖 𝓡),
       cited 𝓤 H (tripleOf 𝓤 H (𝓖 .A) records-of.signature (records-of.spec 𝓤 H (𝓖 .A) (𝓜 .mem) (𝓡 .run))) 𝓜 𝓡 code.env records-of-def.name records-of-def.routine code.calls-results·flushed-records (records-of-thm.met 𝓤 H 𝓜 𝓖 𝓡),

@@ -174,9 +174,9 @@ module _ {M : Type 1} (𝓤 : URA M) (H : Heap 𝓤) (A : Atoms 𝓤) (W : Given
       abbrev Known₁ : Type 0
       Known₁ = (l₀ : ℕ) × (l₁ : ℕ) × (l₂ : ℕ) × (l₃ : ℕ) × (l₄ : ℕ) × (l₅ : ℕ) × (l₆ : ℕ) × (l₇ : ℕ) × (l₈ : ℕ) × (l₉ : ℕ) × (l₁₀ : ℕ) × (l₁₁ : ℕ) × (l₁₂ : ℕ) × (l₁₃ : ℕ) × (l₁₄ : ℕ) × (l₁₅ : ℕ) × (l₁₆ : ℕ) × (l₁₇ : ℕ) × (l₁₈ : ℕ) × (l₁₉ : ℕ) × (l₂₀ : ℕ) × (l₂₁ : ℕ) × (c : Settings) × (w-c : Val) × (e-c : c ≡ settingsOf x₁ x₂ x₃ x₄ x₅) × (m : ℕ) × (w-m : Val) × (e-m : m ≡ length (x₈ .now)) × (a : Opened) × (w-a : Val) × (e-a : (x : Arrays) → OpenCore (opensWith c (lentLengths m (x₆ .now) (x₇ .now) (x₉ .now))) (linkOf (h .settings) (h .flight) (h .arrival) (h .clock) x) (a .answer) (linkOf (a .settings) (a .flight) (a .arrival) (a .clock) x)) × (Is opened-row.the-row a (w-a ∷ []))
 
-      part₁ : (past : Known₁) → ent 𝓤 (⋆ 𝓤 H A (‵ (flft κ₁ q₁) ∷ ‵ (flft κ₂ q₂) ∷ ‵ (flft κ₄ q₄) ∷ ‵ (flft κ₃ q₃) ∷ ‵ (partAt clock-row.the-row fullShare (h .clock) b (o + 88)) ∷ ‵ (partAt arrival-row.the-row fullShare (h .arrival) b (o + 56)) ∷ ‵ (partAt flight-row.the-row fullShare (h .flight) b (o + 16)) ∷ ‵ (partAt settings-row.the-row fullShare (h .settings) b (o + 0)) ∷ ‵ (partAt (Array u32 128) fullShare (h .«waiting_numbers») b (o + 1800)) ∷ ‵ (partAt (Array u32 128) fullShare (h .waiting) b (o + 1288)) ∷ ‵ (partAt (Array u32 128) fullShare (h .ready) b (o + 776)) ∷ ‵ (partAt (Array u8 32) fullShare (h .transmissions) b (o + 744)) ∷ ‵ (partAt (Array u32 32) fullShare (h .outstanding) b (o + 616)) ∷ ‵ (partAt (Array u32 128) fullShare (h .queued) b (o + 104)) ∷ raw (Back 𝓤 H A fullShare b o) ∷ ‵ (Open b o γ κ₀ q₀ h) ∷ (‵ (fdies (tyInt w32) (past .0)) ⊛ ‵ (fdies (tyRef (named 0) mut (pointee (L .written))) (past .1)) ⊛ ‵ (fdies (tyInt w32) (past .2)) ⊛ ‵ (fdies (tyInt w32) (past .3)) ⊛ ‵ (fdies (tyInt w32) (past .4)) ⊛ ‵ (fdies (tyInt w32) (past .5)) ⊛ ‵ (fdies (tyInt w32) (past .6)) ⊛ ‵ (fdies (sliceTy (tyRef (named 1) imm (tyInt w8))) (past .7)) ⊛ ‵ (fdies (sliceTy (tyRef (named 2) imm (tyInt w8))) (past .8)) ⊛ ‵ (fdies (sliceTy (tyRef (named 3) imm (pointee (R .written)))) (past .9)) ⊛ ‵ (fdies (sliceTy (tyRef (named 4) imm (tyInt w32))) (past .10)) ⊛ ‵ (fdies settings-laws.mir (past .11)) ⊛ ‵ (fdies settings-laws.mir (past .12)) ⊛ ‵ (fdies flight-laws.mir (past .13)) ⊛ ‵ (fdies arrival-laws.mir (past .14)) ⊛ ‵ (fdies clock-laws.mir (past .15)) ⊛ ‵ (fdies (tyInt w64) (past .16)) ⊛ ‵ (fdies opened-laws.mir (past .17)) ⊛ ‵ (fdies settings-laws.mir (past .18)) ⊛ ‵ (fdies flight-laws.mir (past .19)) ⊛ ‵ (fdies arrival-laws.mir (past .20)) ⊛ ‵ (fdies clock-laws.mir (past .21))) ∷ ‵ (froom clock-laws.mir (past .21) 0) ∷ ‵ (froom arrival-laws.mir (past .20) 0) ∷ ‵ (froom flight-laws.mir (past .19) 0) ∷ ‵ (froom settings-laws.mir (past .18) 0) ∷ ‵ (fat fullShare opened-laws.mir (past .17) 0 ((past .29))) ∷ ‵ (fat fullShare (tyInt w64) (past .16) 0 ((past .26))) ∷ ‵ (fat fullShare clock-laws.mir (past .15) 0 ((only ((LL.vals clock-row.the-type clock-laws.the-laws) (h .clock))))) ∷ ‵ (fat fullShare arrival-laws.mir (past .14) 0 ((only ((LL.vals arrival-row.the-type arrival-laws.the-laws) (h .arrival))))) ∷ ‵ (fat fullShare flight-laws.mir (past .13) 0 ((only ((LL.vals flight-row.the-type flight-laws.the-laws) (h .flight))))) ∷ ‵ (fat fullShare settings-laws.mir (past .12) 0 ((only ((LL.vals settings-row.the-type settings-laws.the-laws) (h .settings))))) ∷ ‵ (fat fullShare settings-laws.mir (past .11) 0 ((past .23))) ∷ ‵ (fat fullShare (sliceTy (tyRef (named 4) imm (tyInt w32))) (past .10) 0 (s₉)) ∷ ‵ (fat fullShare (sliceTy (tyRef (named 3) imm (pointee (R .written)))) (past .9) 0 (s₈)) ∷ ‵ (fat fullShare (sliceTy (tyRef (named 2) imm (tyInt w8))) (past .8) 0 (s₇)) ∷ ‵ (fat fullShare (sliceTy (tyRef (named 1) imm (tyInt w8))) (past .7) 0 (s₆)) ∷ ‵ (fat fullShare (tyInt w32) (past .6) 0 (v₅)) ∷ ‵ (fat fullShare (tyInt w32) (past .5) 0 (v₄)) ∷ ‵ (fat fullShare (tyInt w32) (past .4) 0 (v₃)) ∷ ‵ (fat fullShare (tyInt w32) (past .3) 0 (v₂)) ∷ ‵ (fat fullShare (tyInt w32) (past .2) 0 (v₁)) ∷ ‵ (fat fullShare (tyRef (named 0) mut (pointee (L .written))) (past .1) 0 (vptr b o)) ∷ ‵ (froom (tyInt w32) (past .0) 0) ∷ [])) (Wp 𝓤 H C Λ (En (past .0) (past .1) (past .2) (past .3) (past .4) (past .5) (past .6) (past .7) (past .8) (past .9) (past .10) (past .11) (past .12) (past .13) (past .14) (past .15) (past .16) (past .17) (past .18) (past .19) (past .20) (past .21)) (behind 7 (code.function .body)) (atReturn 𝓤 H (En (past .0) (past .1) (past .2) (past .3) (past .4) (past .5) (past .6) (past .7) (past .8) (past .9) (past .10) (past .11) (past .12) (past .13) (past .14) (past .15) (past .16) (past .17) (past .18) (past .19) (past .20) (past .21)) Post))
+      part₁ : (past : Known₁) → ent 𝓤 (⋆ 𝓤 H A (‵ (flft κ₁ q₁) ∷ ‵ (flft κ₂ q₂) ∷ ‵ (flft κ₄ q₄) ∷ ‵ (flft κ₃ q₃) ∷ ‵ (partAt clock-row.the-row fullShare (h .clock) b (o + 88)) ∷ ‵ (partAt arrival-row.the-row fullShare (h .arrival) b (o + 56)) ∷ ‵ (partAt flight-row.the-row fullShare (h .flight) b (o + 16)) ∷ ‵ (partAt settings-row.the-row fullShare (h .settings) b (o + 0)) ∷ ‵ (partAt (Array u32 128) fullShare (h .«waiting_numbers») b (o + 1804)) ∷ ‵ (partAt (Array u32 128) fullShare (h .waiting) b (o + 1292)) ∷ ‵ (partAt (Array u32 128) fullShare (h .ready) b (o + 780)) ∷ ‵ (partAt (Array u8 32) fullShare (h .transmissions) b (o + 748)) ∷ ‵ (partAt (Array u32 32) fullShare (h .outstanding) b (o + 620)) ∷ ‵ (partAt (Array u32 128) fullShare (h .queued) b (o + 108)) ∷ raw (Back 𝓤 H A fullShare b o) ∷ ‵ (Open b o γ κ₀ q₀ h) ∷ (‵ (fdies (tyInt w32) (past .0)) ⊛ ‵ (fdies (tyRef (named 0) mut (pointee (L .written))) (past .1)) ⊛ ‵ (fdies (tyInt w32) (past .2)) ⊛ ‵ (fdies (tyInt w32) (past .3)) ⊛ ‵ (fdies (tyInt w32) (past .4)) ⊛ ‵ (fdies (tyInt w32) (past .5)) ⊛ ‵ (fdies (tyInt w32) (past .6)) ⊛ ‵ (fdies (sliceTy (tyRef (named 1) imm (tyInt w8))) (past .7)) ⊛ ‵ (fdies (sliceTy (tyRef (named 2) imm (tyInt w8))) (past .8)) ⊛ ‵ (fdies (sliceTy (tyRef (named 3) imm (pointee (R .written)))) (past .9)) ⊛ ‵ (fdies (sliceTy (tyRef (named 4) imm (tyInt w32))) (past .10)) ⊛ ‵ (fdies settings-laws.mir (past .11)) ⊛ ‵ (fdies settings-laws.mir (past .12)) ⊛ ‵ (fdies flight-laws.mir (past .13)) ⊛ ‵ (fdies arrival-laws.mir (past .14)) ⊛ ‵ (fdies clock-laws.mir (past .15)) ⊛ ‵ (fdies (tyInt w64) (past .16)) ⊛ ‵ (fdies opened-laws.mir (past .17)) ⊛ ‵ (fdies settings-laws.mir (past .18)) ⊛ ‵ (fdies flight-laws.mir (past .19)) ⊛ ‵ (fdies arrival-laws.mir (past .20)) ⊛ ‵ (fdies clock-laws.mir (past .21))) ∷ ‵ (froom clock-laws.mir (past .21) 0) ∷ ‵ (froom arrival-laws.mir (past .20) 0) ∷ ‵ (froom flight-laws.mir (past .19) 0) ∷ ‵ (froom settings-laws.mir (past .18) 0) ∷ ‵ (fat fullShare opened-laws.mir (past .17) 0 ((past .29))) ∷ ‵ (fat fullShare (tyInt w64) (past .16) 0 ((past .26))) ∷ ‵ (fat fullShare clock-laws.mir (past .15) 0 ((only ((LL.vals clock-row.the-type clock-laws.the-laws) (h .clock))))) ∷ ‵ (fat fullShare arrival-laws.mir (past .14) 0 ((only ((LL.vals arrival-row.the-type arrival-laws.the-laws) (h .arrival))))) ∷ ‵ (fat fullShare flight-laws.mir (past .13) 0 ((only ((LL.vals flight-row.the-type flight-laws.the-laws) (h .flight))))) ∷ ‵ (fat fullShare settings-laws.mir (past .12) 0 ((only ((LL.vals settings-row.the-type settings-laws.the-laws) (h .settings))))) ∷ ‵ (fat fullShare settings-laws.mir (past .11) 0 ((past .23))) ∷ ‵ (fat fullShare (sliceTy (tyRef (named 4) imm (tyInt w32))) (past .10) 0 (s₉)) ∷ ‵ (fat fullShare (sliceTy (tyRef (named 3) imm (pointee (R .written)))) (past .9) 0 (s₈)) ∷ ‵ (fat fullShare (sliceTy (tyRef (named 2) imm (tyInt w8))) (past .8) 0 (s₇)) ∷ ‵ (fat fullShare (sliceTy (tyRef (named 1) imm (tyInt w8))) (past .7) 0 (s₆)) ∷ ‵ (fat fullShare (tyInt w32) (past .6) 0 (v₅)) ∷ ‵ (fat fullShare (tyInt w32) (past .5) 0 (v₄)) ∷ ‵ (fat fullShare (tyInt w32) (past .4) 0 (v₃)) ∷ ‵ (fat fullShare (tyInt w32) (past .3) 0 (v₂)) ∷ ‵ (fat fullShare (tyInt w32) (past .2) 0 (v₁)) ∷ ‵ (fat fullShare (tyRef (named 0) mut (pointee (L .written))) (past .1) 0 (vptr b o)) ∷ ‵ (froom (tyInt w32) (past .0) 0) ∷ [])) (Wp 𝓤 H C Λ (En (past .0) (past .1) (past .2) (past .3) (past .4) (past .5) (past .6) (past .7) (past .8) (past .9) (past .10) (past .11) (past .12) (past .13) (past .14) (past .15) (past .16) (past .17) (past .18) (past .19) (past .20) (past .21)) (behind 7 (code.function .body)) (atReturn 𝓤 H (En (past .0) (past .1) (past .2) (past .3) (past .4) (past .5) (past .6) (past .7) (past .8) (past .9) (past .10) (past .11) (past .12) (past .13) (past .14) (past .15) (past .16) (past .17) (past .18) (past .19) (past .20) (past .21)) Post))
       part₁ past =
-          qed W (‵ (flft κ₁ q₁) ∷ ‵ (flft κ₂ q₂) ∷ ‵ (flft κ₄ q₄) ∷ ‵ (flft κ₃ q₃) ∷ ‵ (partAt clock-row.the-row fullShare (h .clock) b (o + 88)) ∷ ‵ (partAt arrival-row.the-row fullShare (h .arrival) b (o + 56)) ∷ ‵ (partAt flight-row.the-row fullShare (h .flight) b (o + 16)) ∷ ‵ (partAt settings-row.the-row fullShare (h .settings) b (o + 0)) ∷ ‵ (partAt (Array u32 128) fullShare (h .«waiting_numbers») b (o + 1800)) ∷ ‵ (partAt (Array u32 128) fullShare (h .waiting) b (o + 1288)) ∷ ‵ (partAt (Array u32 128) fullShare (h .ready) b (o + 776)) ∷ ‵ (partAt (Array u8 32) fullShare (h .transmissions) b (o + 744)) ∷ ‵ (partAt (Array u32 32) fullShare (h .outstanding) b (o + 616)) ∷ ‵ (partAt (Array u32 128) fullShare (h .queued) b (o + 104)) ∷ raw (Back 𝓤 H A fullShare b o) ∷ ‵ (Open b o γ κ₀ q₀ h) ∷ (‵ (fdies (tyInt w32) (past .0)) ⊛ ‵ (fdies (tyRef (named 0) mut (pointee (L .written))) (past .1)) ⊛ ‵ (fdies (tyInt w32) (past .2)) ⊛ ‵ (fdies (tyInt w32) (past .3)) ⊛ ‵ (fdies (tyInt w32) (past .4)) ⊛ ‵ (fdies (tyInt w32) (past .5)) ⊛ ‵ (fdies (tyInt w32) (past .6)) ⊛ ‵ (fdies (sliceTy (tyRef (named 1) imm (tyInt w8))) (past .7)) ⊛ ‵ (fdies (sliceTy (tyRef (named 2) imm (tyInt w8))) (past .8)) ⊛ ‵ (fdies (sliceTy (tyRef (named 3) imm (pointee (R .written)))) (past .9)) ⊛ ‵ (fdies (sliceTy (tyRef (named 4) imm (tyInt w32))) (past .10)) ⊛ ‵ (fdies settings-laws.mir (past .11)) ⊛ ‵ (fdies settings-laws.mir (past .12)) ⊛ ‵ (fdies flight-laws.mir (past .13)) ⊛ ‵ (fdies arrival-laws.mir (past .14)) ⊛ ‵ (fdies clock-laws.mir (past .15)) ⊛ ‵ (fdies (tyInt w64) (past .16)) ⊛ ‵ (fdies opened-laws.mir (past .17)) ⊛ ‵ (fdies settings-laws.mir (past .18)) ⊛ ‵ (fdies flight-laws.mir (past .19)) ⊛ ‵ (fdies arrival-laws.mir (past .20)) ⊛ ‵ (fdies clock-laws.mir (past .21))) ∷ ‵ (froom clock-laws.mir (past .21) 0) ∷ ‵ (froom arrival-laws.mir (past .20) 0) ∷ ‵ (froom flight-laws.mir (past .19) 0) ∷ ‵ (froom settings-laws.mir (past .18) 0) ∷ ‵ (fat fullShare opened-laws.mir (past .17) 0 ((past .29))) ∷ ‵ (fat fullShare (tyInt w64) (past .16) 0 ((past .26))) ∷ ‵ (fat fullShare clock-laws.mir (past .15) 0 ((only ((LL.vals clock-row.the-type clock-laws.the-laws) (h .clock))))) ∷ ‵ (fat fullShare arrival-laws.mir (past .14) 0 ((only ((LL.vals arrival-row.the-type arrival-laws.the-laws) (h .arrival))))) ∷ ‵ (fat fullShare flight-laws.mir (past .13) 0 ((only ((LL.vals flight-row.the-type flight-laws.the-laws) (h .flight))))) ∷ ‵ (fat fullShare settings-laws.mir (past .12) 0 ((only ((LL.vals settings-row.the-type settings-laws.the-laws) (h .settings))))) ∷ ‵ (fat fullShare settings-laws.mir (past .11) 0 ((past .23))) ∷ ‵ (fat fullShare (sliceTy (tyRef (named 4) imm (tyInt w32))) (past .10) 0 (s₉)) ∷ ‵ (fat fullShare (sliceTy (tyRef (named 3) imm (pointee (R .written)))) (past .9) 0 (s₈)) ∷ ‵ (fat fullShare (sliceTy (tyRef (named 2) imm (tyInt w8))) (past .8) 0 (s₇)) ∷ ‵ (fat fullShare (sliceTy (tyRef (named 1) imm (tyInt w8))) (past .7) 0 (s₆)) ∷ ‵ (fat fullShare (tyInt w32) (past .6) 0 (v₅)) ∷ ‵ (fat fullShare (tyInt w32) (past .5) 0 (v₄)) ∷ ‵ (fat fullShare (tyInt w32) (past .4) 0 (v₃)) ∷ ‵ (fat fullShare (tyInt w32) (past .3) 0 (v₂)) ∷ ‵ (fat fullShare (tyInt w32) (past .2) 0 (v₁)) ∷ ‵ (fat fullShare (tyRef (named 0) mut (pointee (L .written))) (past .1) 0 (vptr b o)) ∷ ‵ (froom (tyInt w32) (past .0) 0) ∷ []) ∵ exec ! C Λ (En (past .0) (past .1) (past .2) (past .3) (past .4) (past .5) (past .6) (past .7) (past .8) (past .9) (past .10) (past .11) (past .12) (past .13) (past .14) (past .15) (past .16) (past .17) (past .18) (past .19) (past .20) (past .21)) (behind 7 (code.function .body)) (atRet (En (past .0) (past .1) (past .2) (past .3) (past .4) (past .5) (past .6) (past .7) (past .8) (past .9) (past .10) (past .11) (past .12) (past .13) (past .14) (past .15) (past .16) (past .17) (past .18) (past .19) (past .20) (past .21)) Post) $
+          qed W (‵ (flft κ₁ q₁) ∷ ‵ (flft κ₂ q₂) ∷ ‵ (flft κ₄ q₄) ∷ ‵ (flft κ₃ q₃) ∷ ‵ (partAt clock-row.the-row fullShare (h .clock) b (o + 88)) ∷ ‵ (partAt arrival-row.the-row fullShare (h .arrival) b (o + 56)) ∷ ‵ (partAt flight-row.the-row fullShare (h .flight) b (o + 16)) ∷ ‵ (partAt settings-row.the-row fullShare (h .settings) b (o + 0)) ∷ ‵ (partAt (Array u32 128) fullShare (h .«waiting_numbers») b (o + 1804)) ∷ ‵ (partAt (Array u32 128) fullShare (h .waiting) b (o + 1292)) ∷ ‵ (partAt (Array u32 128) fullShare (h .ready) b (o + 780)) ∷ ‵ (partAt (Array u8 32) fullShare (h .transmissions) b (o + 748)) ∷ ‵ (partAt (Array u32 32) fullShare (h .outstanding) b (o + 620)) ∷ ‵ (partAt (Array u32 128) fullShare (h .queued) b (o + 108)) ∷ raw (Back 𝓤 H A fullShare b o) ∷ ‵ (Open b o γ κ₀ q₀ h) ∷ (‵ (fdies (tyInt w32) (past .0)) ⊛ ‵ (fdies (tyRef (named 0) mut (pointee (L .written))) (past .1)) ⊛ ‵ (fdies (tyInt w32) (past .2)) ⊛ ‵ (fdies (tyInt w32) (past .3)) ⊛ ‵ (fdies (tyInt w32) (past .4)) ⊛ ‵ (fdies (tyInt w32) (past .5)) ⊛ ‵ (fdies (tyInt w32) (past .6)) ⊛ ‵ (fdies (sliceTy (tyRef (named 1) imm (tyInt w8))) (past .7)) ⊛ ‵ (fdies (sliceTy (tyRef (named 2) imm (tyInt w8))) (past .8)) ⊛ ‵ (fdies (sliceTy (tyRef (named 3) imm (pointee (R .written)))) (past .9)) ⊛ ‵ (fdies (sliceTy (tyRef (named 4) imm (tyInt w32))) (past .10)) ⊛ ‵ (fdies settings-laws.mir (past .11)) ⊛ ‵ (fdies settings-laws.mir (past .12)) ⊛ ‵ (fdies flight-laws.mir (past .13)) ⊛ ‵ (fdies arrival-laws.mir (past .14)) ⊛ ‵ (fdies clock-laws.mir (past .15)) ⊛ ‵ (fdies (tyInt w64) (past .16)) ⊛ ‵ (fdies opened-laws.mir (past .17)) ⊛ ‵ (fdies settings-laws.mir (past .18)) ⊛ ‵ (fdies flight-laws.mir (past .19)) ⊛ ‵ (fdies arrival-laws.mir (past .20)) ⊛ ‵ (fdies clock-laws.mir (past .21))) ∷ ‵ (froom clock-laws.mir (past .21) 0) ∷ ‵ (froom arrival-laws.mir (past .20) 0) ∷ ‵ (froom flight-laws.mir (past .19) 0) ∷ ‵ (froom settings-laws.mir (past .18) 0) ∷ ‵ (fat fullShare opened-laws.mir (past .17) 0 ((past .29))) ∷ ‵ (fat fullShare (tyInt w64) (past .16) 0 ((past .26))) ∷ ‵ (fat fullShare clock-laws.mir (past .15) 0 ((only ((LL.vals clock-row.the-type clock-laws.the-laws) (h .clock))))) ∷ ‵ (fat fullShare arrival-laws.mir (past .14) 0 ((only ((LL.vals arrival-row.the-type arrival-laws.the-laws) (h .arrival))))) ∷ ‵ (fat fullShare flight-laws.mir (past .13) 0 ((only ((LL.vals flight-row.the-type flight-laws.the-laws) (h .flight))))) ∷ ‵ (fat fullShare settings-laws.mir (past .12) 0 ((only ((LL.vals settings-row.the-type settings-laws.the-laws) (h .settings))))) ∷ ‵ (fat fullShare settings-laws.mir (past .11) 0 ((past .23))) ∷ ‵ (fat fullShare (sliceTy (tyRef (named 4) imm (tyInt w32))) (past .10) 0 (s₉)) ∷ ‵ (fat fullShare (sliceTy (tyRef (named 3) imm (pointee (R .written)))) (past .9) 0 (s₈)) ∷ ‵ (fat fullShare (sliceTy (tyRef (named 2) imm (tyInt w8))) (past .8) 0 (s₇)) ∷ ‵ (fat fullShare (sliceTy (tyRef (named 1) imm (tyInt w8))) (past .7) 0 (s₆)) ∷ ‵ (fat fullShare (tyInt w32) (past .6) 0 (v₅)) ∷ ‵ (fat fullShare (tyInt w32) (past .5) 0 (v₄)) ∷ ‵ (fat fullShare (tyInt w32) (past .4) 0 (v₃)) ∷ ‵ (fat fullShare (tyInt w32) (past .3) 0 (v₂)) ∷ ‵ (fat fullShare (tyInt w32) (past .2) 0 (v₁)) ∷ ‵ (fat fullShare (tyRef (named 0) mut (pointee (L .written))) (past .1) 0 (vptr b o)) ∷ ‵ (froom (tyInt w32) (past .0) 0) ∷ []) ∵ exec ! C Λ (En (past .0) (past .1) (past .2) (past .3) (past .4) (past .5) (past .6) (past .7) (past .8) (past .9) (past .10) (past .11) (past .12) (past .13) (past .14) (past .15) (past .16) (past .17) (past .18) (past .19) (past .20) (past .21)) (behind 7 (code.function .body)) (atRet (En (past .0) (past .1) (past .2) (past .3) (past .4) (past .5) (past .6) (past .7) (past .8) (past .9) (past .10) (past .11) (past .12) (past .13) (past .14) (past .15) (past .16) (past .17) (past .18) (past .19) (past .20) (past .21)) Post) $
           nothing ! $ calls-fn ! fm opened-settings.ended (opened-settings.clauses 𝓤 H A at-mem run) (known .3) ((tt, tt, tt, ((past .28), tt), ((past .29) ∷ [], tt)), tt) (λ ks _. ks ≡ (past .28) .settings)
           (‵ ftrue) (plainly 𝓤 H A W (opened-row.the-row ∷ []) ((LL.makes opened-row.the-type opened-laws.the-plain 𝓤 H A), tt) ((past .28), tt) ((past .29) ∷ [], tt) ((past .31), tt)) (λ ks _. id⊢ 𝓤 _)
           (and-then ! (load ! (from ! (stop !)) (look ! 22 refl)) (no-more !)) (λ ks w-ks _ e-ks is-ks. drop ! $ drop ! $ land ! (from ! (stop !)) (init ! 20 refl (LL.lawful settings-row.the-type settings-laws.the-laws 𝓤 H A W .typed ks (w-ks ∷ []) is-ks .0)) $
@@ -189,7 +189,7 @@ module _ {M : Type 1} (𝓤 : URA M) (H : Heap 𝓤) (A : Atoms 𝓤) (W : Given
           move ! (7 ∷ []) $ cell-out ! fullShare arrival-row.the-row (LL.vals arrival-row.the-type arrival-laws.the-laws) (LL.tells arrival-row.the-type arrival-laws.the-laws) (h .arrival) b (o + 56) (λ was-arrival′. assigns ! (of-opd ! (load ! (from ! (stop !)) (look ! 18 refl))) (from ! (hop ! (look ! 37 refl) (fld ! {d = 56} refl (stop !)))) (store-raw ! 0 refl (LL.lawful arrival-row.the-type arrival-laws.the-laws 𝓤 H A W .typed ka (w-ka ∷ []) is-ka .0)) $ cell-in ! fullShare arrival-row.the-row (LL.makes arrival-row.the-type arrival-laws.the-plain 𝓤 H A) ka b (o + 56) w-ka is-ka $ nothing ! $ calls-fn ! fm opened-clock.ended (opened-clock.clauses 𝓤 H A at-mem run) (known .6) ((tt, tt, tt, ((past .28), tt), ((past .29) ∷ [], tt)), tt) (λ kc _. kc ≡ (past .28) .clock)
           (‵ ftrue) (plainly 𝓤 H A W (opened-row.the-row ∷ []) ((LL.makes opened-row.the-type opened-laws.the-plain 𝓤 H A), tt) ((past .28), tt) ((past .29) ∷ [], tt) ((past .31), tt)) (λ kc _. id⊢ 𝓤 _)
           (and-then ! (load ! (from ! (stop !)) (look ! 22 refl)) (no-more !)) (λ kc w-kc _ e-kc is-kc. drop ! $ drop ! $ land ! (from ! (stop !)) (init ! 17 refl (LL.lawful clock-row.the-type clock-laws.the-laws 𝓤 H A W .typed kc (w-kc ∷ []) is-kc .0)) $
-          move ! (7 ∷ []) $ cell-out ! fullShare clock-row.the-row (LL.vals clock-row.the-type clock-laws.the-laws) (LL.tells clock-row.the-type clock-laws.the-laws) (h .clock) b (o + 88) (λ was-clock′. assigns ! (of-opd ! (load ! (from ! (stop !)) (look ! 17 refl))) (from ! (hop ! (look ! 37 refl) (fld ! {d = 88} refl (stop !)))) (store-raw ! 0 refl (LL.lawful clock-row.the-type clock-laws.the-laws 𝓤 H A W .typed kc (w-kc ∷ []) is-kc .0)) $ cell-in ! fullShare clock-row.the-row (LL.makes clock-row.the-type clock-laws.the-plain 𝓤 H A) kc b (o + 88) w-kc is-kc $ move ! (13 ∷ []) $ tells-length ! fullShare u32 128 (h .queued) b (o + 104) (λ end-queued. move ! (13 ∷ []) $ tells-length ! fullShare u32 32 (h .outstanding) b (o + 616) (λ end-outstanding. move ! (13 ∷ []) $ tells-length ! fullShare u8 32 (h .transmissions) b (o + 744) (λ end-transmissions. move ! (13 ∷ []) $ tells-length ! fullShare u32 128 (h .ready) b (o + 776) (λ end-ready. move ! (13 ∷ []) $ tells-length ! fullShare u32 128 (h .waiting) b (o + 1288) (λ end-waiting. move ! (13 ∷ []) $ tells-length ! fullShare u32 128 (h .«waiting_numbers») b (o + 1800) (λ end-waiting-numbers. move ! (9 ∷ 8 ∷ 7 ∷ 6 ∷ 5 ∷ 4 ∷ 3 ∷ 2 ∷ 1 ∷ 0 ∷ 14 ∷ 15 ∷ []) $ closes-link b o γ ! tt h (record { settings = ks; flight = kf; arrival = ka; clock = kc; queued = (h .queued); outstanding = (h .outstanding); transmissions = (h .transmissions); ready = (h .ready); waiting = (h .waiting); «waiting_numbers» = (h .«waiting_numbers») }) $
+          move ! (7 ∷ []) $ cell-out ! fullShare clock-row.the-row (LL.vals clock-row.the-type clock-laws.the-laws) (LL.tells clock-row.the-type clock-laws.the-laws) (h .clock) b (o + 88) (λ was-clock′. assigns ! (of-opd ! (load ! (from ! (stop !)) (look ! 17 refl))) (from ! (hop ! (look ! 37 refl) (fld ! {d = 88} refl (stop !)))) (store-raw ! 0 refl (LL.lawful clock-row.the-type clock-laws.the-laws 𝓤 H A W .typed kc (w-kc ∷ []) is-kc .0)) $ cell-in ! fullShare clock-row.the-row (LL.makes clock-row.the-type clock-laws.the-plain 𝓤 H A) kc b (o + 88) w-kc is-kc $ move ! (13 ∷ []) $ tells-length ! fullShare u32 128 (h .queued) b (o + 108) (λ end-queued. move ! (13 ∷ []) $ tells-length ! fullShare u32 32 (h .outstanding) b (o + 620) (λ end-outstanding. move ! (13 ∷ []) $ tells-length ! fullShare u8 32 (h .transmissions) b (o + 748) (λ end-transmissions. move ! (13 ∷ []) $ tells-length ! fullShare u32 128 (h .ready) b (o + 780) (λ end-ready. move ! (13 ∷ []) $ tells-length ! fullShare u32 128 (h .waiting) b (o + 1292) (λ end-waiting. move ! (13 ∷ []) $ tells-length ! fullShare u32 128 (h .«waiting_numbers») b (o + 1804) (λ end-waiting-numbers. move ! (9 ∷ 8 ∷ 7 ∷ 6 ∷ 5 ∷ 4 ∷ 3 ∷ 2 ∷ 1 ∷ 0 ∷ 14 ∷ 15 ∷ []) $ closes-link b o γ ! tt h (record { settings = ks; flight = kf; arrival = ka; clock = kc; queued = (h .queued); outstanding = (h .outstanding); transmissions = (h .transmissions); ready = (h .ready); waiting = (h .waiting); «waiting_numbers» = (h .«waiting_numbers») }) $
           -- [own0; tok0; tok6; tok7; tok9; tok8; deaths; the locals]
           nothing ! $ calls-fn ! fm code-of.ended (code-of.clauses 𝓤 H A at-mem run) (known .7) ((tt, tt, tt, ((past .28), tt), ((past .29) ∷ [], tt)), tt) (λ r _. r ≡ answerCode ((past .28) .answer))
           (‵ ftrue) (plainly 𝓤 H A W (opened-row.the-row ∷ []) ((LL.makes opened-row.the-type opened-laws.the-plain 𝓤 H A), tt) ((past .28), tt) ((past .29) ∷ [], tt) ((past .31), tt)) (λ r _. id⊢ 𝓤 _)
@@ -207,7 +207,7 @@ module _ {M : Type 1} (𝓤 : URA M) (H : Heap 𝓤) (A : Atoms 𝓤) (W : Given
           -- [deaths; tok0; tok6; tok7; tok8; tok9; own0; own6; own7; own8; own9; the locals]
           move ! (6 ∷ 1 ∷ []) $ opens-link b o γ ! tt h $
           -- [F:settings; F:flight; F:arrival; F:clock; F:queued; F:outstanding; F:transmissions; F:ready; F:waiting; F:«waiting_numbers»; back; opened; deaths; tok6; tok7; tok8; tok9; own6; own7; own8; own9; the locals]
-          move ! (4 ∷ []) $ tells-length ! fullShare u32 128 (h .queued) b (o + 104) (λ len-queued. move ! (5 ∷ []) $ tells-length ! fullShare u32 32 (h .outstanding) b (o + 616) (λ len-outstanding. move ! (6 ∷ []) $ tells-length ! fullShare u8 32 (h .transmissions) b (o + 744) (λ len-transmissions. move ! (7 ∷ []) $ tells-length ! fullShare u32 128 (h .ready) b (o + 776) (λ len-ready. move ! (8 ∷ []) $ tells-length ! fullShare u32 128 (h .waiting) b (o + 1288) (λ len-waiting. move ! (9 ∷ []) $ tells-length ! fullShare u32 128 (h .«waiting_numbers») b (o + 1800) (λ len-waiting-numbers. nothing ! $ calls-fn ! fm settings-of.ended (settings-of.clauses 𝓤 H A at-mem run) (known .0) ((tt, tt, tt, (x₁, (x₂, (x₃, (x₄, (x₅, tt))))), (v₁ ∷ [], (v₂ ∷ [], (v₃ ∷ [], (v₄ ∷ [], (v₅ ∷ [], tt)))))), tt) (λ c _. c ≡ settingsOf x₁ x₂ x₃ x₄ x₅)
+          move ! (4 ∷ []) $ tells-length ! fullShare u32 128 (h .queued) b (o + 108) (λ len-queued. move ! (5 ∷ []) $ tells-length ! fullShare u32 32 (h .outstanding) b (o + 620) (λ len-outstanding. move ! (6 ∷ []) $ tells-length ! fullShare u8 32 (h .transmissions) b (o + 748) (λ len-transmissions. move ! (7 ∷ []) $ tells-length ! fullShare u32 128 (h .ready) b (o + 780) (λ len-ready. move ! (8 ∷ []) $ tells-length ! fullShare u32 128 (h .waiting) b (o + 1292) (λ len-waiting. move ! (9 ∷ []) $ tells-length ! fullShare u32 128 (h .«waiting_numbers») b (o + 1804) (λ len-waiting-numbers. nothing ! $ calls-fn ! fm settings-of.ended (settings-of.clauses 𝓤 H A at-mem run) (known .0) ((tt, tt, tt, (x₁, (x₂, (x₃, (x₄, (x₅, tt))))), (v₁ ∷ [], (v₂ ∷ [], (v₃ ∷ [], (v₄ ∷ [], (v₅ ∷ [], tt)))))), tt) (λ c _. c ≡ settingsOf x₁ x₂ x₃ x₄ x₅)
           (‵ ftrue) (plainly 𝓤 H A W (u32 ∷ u32 ∷ u32 ∷ u32 ∷ u32 ∷ []) ((uint-makes 𝓤 H A W w32), ((uint-makes 𝓤 H A W w32), ((uint-makes 𝓤 H A W w32), ((uint-makes 𝓤 H A W w32), ((uint-makes 𝓤 H A W w32), tt))))) (x₁, (x₂, (x₃, (x₄, (x₅, tt))))) (v₁ ∷ [], (v₂ ∷ [], (v₃ ∷ [], (v₄ ∷ [], (v₅ ∷ [], tt))))) (g₁, (g₂, (g₃, (g₄, (g₅, tt)))))) (λ c _. id⊢ 𝓤 _)
           (and-then ! (load ! (from ! (stop !)) (look ! 41 refl)) (and-then ! (load ! (from ! (stop !)) (look ! 40 refl)) (and-then ! (load ! (from ! (stop !)) (look ! 39 refl)) (and-then ! (load ! (from ! (stop !)) (look ! 38 refl)) (and-then ! (load ! (from ! (stop !)) (look ! 37 refl)) (no-more !)))))) (λ c w-c _ e-c is-c. drop ! $ drop ! $ land ! (from ! (stop !)) (init ! 31 refl (LL.lawful settings-row.the-type settings-laws.the-laws 𝓤 H A W .typed c (w-c ∷ []) is-c .0)) $
           move ! (6 ∷ []) $ cell-out ! fullShare settings-row.the-row (LL.vals settings-row.the-type settings-laws.the-laws) (LL.tells settings-row.the-type settings-laws.the-laws) (h .settings) b (o + 0) (λ was-settings.

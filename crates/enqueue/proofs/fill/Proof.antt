@@ -5,7 +5,7 @@ use Prim.Native.Nat.{_+_, _-_, _*_, _^_, _≤_, _<_}
 use native.Mathlib.Omega.{arith}
 use borrow.Author.Needs.{needs}
 use lib.ListN.{length, getD}
-use Rattle.enqueue.proofs.Lasts.{fills-none, fills-some, fill-end, low-byte}
+use Rattle.enqueue.proofs.Lasts.{fills-none, fills-some, fill-end, low-byte, last-low}
 use Rattle.enqueue.proofs.fill.Statement.{statement}
 use Rattle.enqueue.proofs.fill.Tie as tie
 
@@ -30,7 +30,7 @@ ends c =
     let s = c .before .before .before .before .before in
     let e = c .before .before in
     fill-end (getD (s .args .queued .now) (s .args .n - 1) 0) (s .args .mss) (s .args .room) (s .args .k) (length (s .args .pool .now)) (c .unpacked .ensures)
-    (s .pre .low (s .args .n - 1) (omega (arith, some e))) (s .pre .within (has e) .1) (omega (arith, s .pre .taken)) (s .pre .slots)
+    (last-low (s .args .queued .now) (s .args .n) (some e) (s .pre .most) (s .pre .whole) (s .pre .low)) (s .pre .within (has e) .1) (omega (arith, s .pre .taken)) (s .pre .slots)
 
 -- an address of the pool has 64 bits
 below : (s : tie.Start) → length (s .args .pool .now) < 2 ^ 64

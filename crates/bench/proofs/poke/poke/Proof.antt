@@ -1,11 +1,16 @@
 -- `bench::poke::poke` meets its contract: a setting, a number, or what is behind them.
 -- Assumes nothing.
+use mathlib.Core.Logic.{inl, inr}
 use mathlib.Core.Path.{_≡_, refl}
 use native.Mathlib.Omega.{arith}
 use borrow.Author.Needs.{needs}
 use Rattle.bench.specs.FieldLaws.{settings-first}
 use Rattle.bench.proofs.poke.poke.Statement.{statement}
 use Rattle.bench.proofs.poke.poke.Tie as tie
+
+behind : tie.Need-returns-4
+behind c (inl h) = absurd (omega arith)
+behind c (inr h) = c .schedule .ensures h
 
 pub poke-spec : {M : Type 1} → statement M
 poke-spec =
@@ -16,4 +21,6 @@ poke-spec =
     (search needs)
     (λ c h. c .number .ensures)
     (search needs)
-    (λ c. c .wish .ensures))
+    (λ c h. c .wish .ensures (omega arith))
+    (search needs)
+    behind)

@@ -30,4 +30,5 @@ returns-2 c =
     (sym (named-made _ _ _ _ (not-false _ (q .before .before .before .if1 .left))))
 
 pub check-spec : {M : Type 1} → statement M
-check-spec = tie.close (tie.spec returns (search needs) (search needs) (search needs) (search needs) (search needs) (search needs) returns-2)
+check-spec =
+    tie.close (tie.spec returns (search needs) (search needs) (search needs) (search needs) (search needs) (search needs) returns-2)

@@ -27,7 +27,8 @@ loop-again c =
     let v = c .before .before .before .before .loop .inv in (
       search needs,
       v .1,
-      v .2 ∙ earliest-next _ _ _ _ _ _ _ _ (c .before .before .before .loop-test .taken) (v .1) (c .before .ahead .ensures) (c .least .ensures),
+      v .2 ∙ earliest-next _ _ _ _ _ _ _ _ (c .before .before .before .loop-test .taken) (v .1) (c .before .ahead .ensures)
+          (c .least .ensures),
     )
 
 returns : tie.Need-returns Inv-loop μ-loop

@@ -1,4 +1,4 @@
--- `script::words::name` meets its contract: the number so far, of at most five letters, and the letters left make the name.
+-- `script::words::name` meets its contract: the number so far, of at most six letters, and the letters left make the name.
 -- Assumes nothing.
 use mathlib.Core.Path.{_≡_, refl, sym, _∙_}
 use Prim.Native.Nat.{_-_, _≤_, _<_}
@@ -11,7 +11,7 @@ use Rattle.script.proofs.words.name.Statement.{statement}
 use Rattle.script.proofs.words.name.Tie as tie
 
 abbrev Inv-loop : tie.InvT-loop
-Inv-loop word n₀ i₀ n i = (i ≤ length word) × (n < 281474976710656) × (nameOf word ≡ letters n (drop i word))
+Inv-loop word n₀ i₀ n i = (i ≤ length word) × (n < 72057594037927936) × (nameOf word ≡ letters n (drop i word))
 
 abbrev μ-loop : tie.MeasureT-loop
 μ-loop word n₀ i₀ n i = length word - i

@@ -1,0 +1,45 @@
+-- `run`: what the flush leaves, or what waiting leaves.
+-- Assumes nothing.
+use borrow.Author.Needs.{needs}
+use Rattle.control.specs.Views.{arrays}
+use Rattle.update_core.proofs.Runs.{flushed, waited}
+use Rattle.update_core.proofs.run.Statement.{statement}
+use Rattle.update_core.proofs.run.Tie as tie
+
+run-requires : tie.Need-run-requires
+run-requires c κs = c .before .before .before .before .before .before .before .before .before .before .before .pre
+
+returns : tie.Need-returns
+returns c ready waiting numbers whole =
+    let runs = c .before .before .before .before .before in
+    let branch = runs .before .before .before .before .before .before in
+    let steps = branch .before in
+    let start = steps .before .before .before .before .before in
+    let a = start .args in
+    flushed (a .settings) (a .flight) (a .arrival) (a .clock) (arrays (a .queued .now) (a .outstanding .now) (a .transmissions .now) ready waiting numbers)
+    (a .records) (a .acks .now) (a .t) (a .pool .now) (a .output .now) (a .lengths .now) _ (steps .moved-on .ensures) (branch .if1 .taken) _ _ (c .wrote .ensures) _ _ _
+    (runs .run .ensures ready waiting numbers whole)
+
+returns-2 : tie.Need-returns-2
+returns-2 c ready waiting numbers whole =
+    let branch = c .before .before .before in
+    let steps = branch .before in
+    let start = steps .before .before .before .before .before in
+    let a = start .args in
+    waited (a .settings) (a .flight) (a .arrival) (a .clock) (arrays (a .queued .now) (a .outstanding .now) (a .transmissions .now) ready waiting numbers)
+    (a .records) (a .acks .now) (a .t) (a .pool .now) (a .output .now) (a .lengths .now) _ (steps .moved-on .ensures) (branch .if1 .left) (start .pre .counts)
+    _ (c .before .current .ensures) _ _ (c .kept .ensures)
+
+pub run-spec : {M : Type 1} → statement M
+run-spec =
+    tie.close
+    (tie.spec
+    (λ c κs. search needs)
+    run-requires
+    (λ c κs. search needs)
+    (λ c κs. search needs)
+    (λ c κs. search needs)
+    (λ c. search needs)
+    (λ c. search needs)
+    returns
+    returns-2)
