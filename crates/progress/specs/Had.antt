@@ -41,7 +41,8 @@ use Rattle.session.specs.AllLaws.{all-append, all-weaker}
 use Rattle.delivery.specs.PlainReceiver.{pushNumbers}
 use Rattle.delivery.specs.FreeSlots.{occurs-append}
 use Rattle.delivery.specs.InsertLaws.{between-map, all-between}
-use Rattle.progress.specs.SmallNumbers.{before-small, or-left, or-right, or-split}
+use Rattle.delivery.specs.FedLaws.{or-true, or-right}
+use Rattle.progress.specs.SmallNumbers.{before-small, or-left}
 
 -- ---- what is had
 
@@ -230,7 +231,7 @@ module _ (m N : ℕ) (top : N ≤ 2 ^ 30) where
       one-kept : (l : List Ack) → PushedIn N r sn (movedUp (withLists (withNotes r l (r .tell)) (r .next) (r .ready) more))
       one-kept l = record {
         took = record {
-          keeps = λ n e. had n ∙ still n (or-split (ltb n (r .next)) (waits (r .waiting) n) e);
+          keeps = λ n e. had n ∙ still n (or-true (ltb n (r .next)) (waits (r .waiting) n) e);
           knows = λ n e. less n (eqb n sn) refl (sym (had n) ∙ e);
           up = grows .up;
           level = grows .level;

@@ -33,7 +33,8 @@ use Rattle.session.specs.SendOrder.{Numbers}
 use Rattle.session.specs.HeardLaws.{heard-outstanding}
 use Rattle.delivery.specs.FreeSlots.{occurs-append}
 use Rattle.delivery.specs.SendingFlushes.{flushedWith}
-use Rattle.progress.specs.SmallNumbers.{after-small, or-left, or-right, or-split, or-both}
+use Rattle.delivery.specs.FedLaws.{or-true, or-right}
+use Rattle.progress.specs.SmallNumbers.{after-small, or-left, or-both}
 use Rattle.progress.specs.Had.{has, waitingNumbers, Known, known-next}
 
 abbrev pub numbersOf : List Sent → List ℕ
@@ -86,7 +87,7 @@ Says r g = (g .header .una ≤ r .next) × (g .header .cmd ≡ ack → has r (g 
 -- what such a segment acknowledges is had
 said-had : (N next : ℕ) (r : Receiving) (g : Segment) → N ≤ 2 ^ 30 → Known N r → Says r g
     → (n : ℕ) → n < N → acknowledges next (g .header) n ≡ true → has r n ≡ true
-said-had N next r g top k s n l e = go (or-split byUna byAck e)
+said-had N next r g top k s n l e = go (or-true byUna byAck e)
   where
     byUna : Bool
     byUna = not (isAfter (g .header .una) next) && isAfter (g .header .una) n

@@ -2,13 +2,14 @@
 -- Assumes nothing.
 use mathlib.Core.Path.{_≡_, refl, _∙_}
 use mathlib.Core.Logic.{_⊎_, inl, inr}
-use mathlib.Core.Bool.{Bool, true, false, _||_, _&&_, or-true}
+use mathlib.Core.Bool.{Bool, true, false, _||_, _&&_}
 use Prim.Native.Nat.{ℕ, _^_, _<_}
 use native.Mathlib.Omega.{arith}
 use borrow.Author.Tests.{ltb-true, ltb-false, lt-ltb, le-ltb, le-leb, lt-leb}
 use lib.Dec.{leb, ltb}
 use Rattle.protocol.specs.Serial.{minus, isBefore, isAfter}
 use Rattle.protocol.specs.SerialLaws.{before-test, after-test}
+use Rattle.delivery.specs.FedLaws.{or-true, or-right}
 
 pub before-small : (a b : ℕ) → a < 2 ^ 31 → b < 2 ^ 31 → isBefore a b ≡ ltb a b
 before-small a b x y = before-test a b ∙ go (ltb a b) refl
@@ -34,15 +35,8 @@ after-small a b x y = after-test a b ∙ go (ltb b a) refl (ltb a b) refl
 pub or-left : (a b : Bool) → a ≡ true → (a || b) ≡ true
 or-left a b e = rw e
 
-pub or-right : (a b : Bool) → b ≡ true → (a || b) ≡ true
-or-right a b e = rw e (or-true a)
-
-pub or-split : (a b : Bool) → (a || b) ≡ true → (a ≡ true) ⊎ (b ≡ true)
-or-split true b e = inl refl
-or-split false b e = inr e
-
 pub or-both : (a b a′ b′ : Bool) → (a ≡ true → a′ ≡ true) → (b ≡ true → b′ ≡ true) → (a || b) ≡ true → (a′ || b′) ≡ true
-or-both a b a′ b′ f g e = go (or-split a b e)
+or-both a b a′ b′ f g e = go (or-true a b e)
   where
     go : (a ≡ true) ⊎ (b ≡ true) → (a′ || b′) ≡ true
     go (inl x) = or-left a′ b′ (f x)

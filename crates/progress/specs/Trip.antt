@@ -43,7 +43,8 @@ use Rattle.delivery.specs.SenderModel.{taken-same}
 use Rattle.delivery.specs.SendingStays.{half-in}
 use Rattle.delivery.specs.ReceivingLaws.{receiverOf, receiverFlushed, receiverAfter, own-receiver}
 use Rattle.delivery.specs.AlwaysValid.{InOrder}
-use Rattle.progress.specs.SmallNumbers.{after-small, or-split}
+use Rattle.delivery.specs.FedLaws.{or-true}
+use Rattle.progress.specs.SmallNumbers.{after-small}
 use Rattle.progress.specs.Had.{has, waitingNumbers, known-next, Pushes, TookAll, took-all-none, took-all-then, all-had, goes-in}
 use Rattle.progress.specs.Outstanding.{numbersOf, all-kept, floor-all, skips-numbers, una-least, una-is}
 use Rattle.progress.specs.Carried.{Carries, wroteBy, Flushable, in-order-flushable, flushable-rescheduled, flush-una, flush-some}
@@ -465,7 +466,7 @@ module _ (c : Settings) (range : inRange c ≡ true) (conv32 : c .conv < 2 ^ 32)
             una-least u N r (a₁ .state .sending .outstanding) (omega (arith, below, low))
             (all-weaker (λ (n : ℕ). n < N) (λ (n : ℕ). n < 2 ^ 30) (λ n h. omega (arith, low)) numbers₁ (j₁ .ab .under))
             ordered
-            (outstanding (or-split (occurs r numbers₁) (has (b .state .receiving) r) (j₁ .ab .gone r (ltb-true r N e))))
+            (outstanding (or-true (occurs r numbers₁) (has (b .state .receiving) r) (j₁ .ab .gone r (ltb-true r N e))))
 
     -- all arrive at the receiver
     from-a : All (λ (d : List ℕ). List·Memᴰ d (byA ++ ds)) there
@@ -491,7 +492,7 @@ module _ (c : Settings) (range : inRange c ≡ true) (conv32 : c .conv < 2 ^ 32)
 
     -- rcv_nxt has passed it
     past : u < v
-    past = go (ltb u v) refl (or-split (ltb u v) (occurs u (waitingNumbers (b₁ .state .receiving .waiting))) (got .0))
+    past = go (ltb u v) refl (or-true (ltb u v) (occurs u (waitingNumbers (b₁ .state .receiving .waiting))) (got .0))
       where
         go : (t : Bool) → ltb u v ≡ t → (ltb u v ≡ true) ⊎ (occurs u (waitingNumbers (b₁ .state .receiving .waiting)) ≡ true) → u < v
         go true e p = ltb-true u v e
