@@ -82,7 +82,7 @@ build() { # SUFFIX NAME FLAGS..
 program_checks() { # SUFFIX FLAGS..
     suffix=$1
     shift
-    for name in layout calls refusals strangers session settings replay; do
+    for name in layout calls refusals strangers session stream settings replay; do
         build "$suffix" $name "$@" || { failed=$((failed + 1)); echo "$name, $suffix: FAILED to build"; continue; }
         [ "$name" = replay ] || try "$name, $suffix" "$work/$name-$suffix"
     done
@@ -125,6 +125,7 @@ done
 cp "$work/play-O2" "$work/play"
 try "examples/tags" "$root/examples/tags/run.sh" "$(dirname "$archive")"
 try "examples/parity" "$root/examples/parity/run.sh" "$(dirname "$archive")"
+try "examples/logger" "$root/examples/logger/run.sh" "$(dirname "$archive")"
 if command -v pkg-config >/dev/null; then
     try "make install" installs
 else
