@@ -95,6 +95,17 @@ pub record SendingFits (mss : ℕ) (queued : List ℕ) (n : ℕ) (outstanding tr
 abbrev pub receiveSlotsIn : List ℕ → ℕ → List ℕ → ℕ → List ℕ
 receiveSlotsIn ready n waiting m = slotsOf (heldIn ready n) ++ slotsOf (heldIn waiting m)
 
+-- the slots of words are `from` and those after it, in order
+unfoldable pub inLine : ℕ → List ℕ → Bool
+inLine from [] = true
+inLine from (w ∷ l) = eqb (w % 256) from && inLine (from + 1) l
+
+-- the slots of both lists are marked; r tells whether none is held twice
+pub record HeldOnce (ready : List ℕ) (n : ℕ) (waiting : List ℕ) (m : ℕ) (marks : List ℕ) (r : Bool) : Type 0 where
+  pub whole : length marks ≡ 256
+  pub marked : marks ≡ markedAll none (receiveSlotsIn ready n waiting m)
+  pub held : r ≡ once (receiveSlotsIn ready n waiting m)
+
 abbrev pub receivingFits : ℕ → ℕ → List ℕ → ℕ → List ℕ → List ℕ → ℕ → Bool
 receivingFits mss expected ready n waiting numbers m =
     once (receiveSlotsIn ready n waiting m) && (all (wordFits mss) (take n ready) && all (wordFits mss) (take m waiting) && aheadFits expected n numbers m)

@@ -2,6 +2,7 @@
 // are marked on the way.
 pub mod ahead;
 pub mod flights;
+pub mod full;
 pub mod limits;
 pub mod numbers;
 
@@ -67,9 +68,7 @@ fn receiving_fits(
     ensures { λ r. ⌜ ReceivingFits mss expected (now (ready .entry)) n (now (waiting .entry)) (now («waiting_numbers» .entry)) m
         (now (marks .exit)) r ⌝ }
 {
-    let first = marks::mark(marks, ready, n);
-    let second = marks::mark(marks, waiting, m);
-    let once = first & second;
+    let once = full::mark_held(ready, n, waiting, m, marks);
     if !once {
         return false;
     }
