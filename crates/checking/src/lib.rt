@@ -18,7 +18,7 @@ ghost use lib.ListN.{length};
 ghost use Rattle.marks.specs.Marks.{none};
 ghost use Rattle.control.specs.Views.{arrays, linkOf, Whole};
 ghost use Rattle.checking.specs.Tests.{SendingFits, ReceivingFits};
-ghost use Rattle.checking.specs.Verdicts.{Checked, Admitted};
+ghost use Rattle.checking.specs.Verdicts.{Admitted, CheckedBy, AdmittedBy};
 
 // What the checks of 7 and 13 say.
 pub enum Verdict {
@@ -77,13 +77,14 @@ fn receiving_fits(
         & ahead::ahead_fits(waiting_numbers, m, expected, n)
 }
 
-// Whether a block is one that this link makes, with these records of its outstanding segments. The slots held are marked.
-pub fn valid(
+// Whether a block is one that this link makes, with records of its outstanding segments of which `flown` tells whether they fit. The slots
+// held are marked.
+fn valid(
     settings: Settings,
     flight: Flight,
     arrival: Arrival,
     clock: Clock,
-    records: [Record; 32],
+    flown: bool,
     queued: &[u32; 128],
     outstanding: &[u32; 32],
     transmissions: &[u8; 32],
@@ -95,22 +96,15 @@ pub fn valid(
 ) -> bool
     requires { ⌜ Whole (arrays (now queued) (now outstanding) (now transmissions) (now ready) (now waiting) (now «waiting_numbers»))
         × (now «send_marks» ≡ none) × (now «receive_marks» ≡ none) ⌝ }
-    ensures { λ r. ⌜ Checked (linkOf settings flight arrival clock (arrays (now (queued .entry)) (now (outstanding .entry))
+    ensures { λ r. ⌜ CheckedBy flown (linkOf settings flight arrival clock (arrays (now (queued .entry)) (now (outstanding .entry))
         (now (transmissions .entry)) (now (ready .entry)) (now (waiting .entry)) (now («waiting_numbers» .entry))))
-        records (now («send_marks» .exit)) (now («receive_marks» .exit)) r ⌝ }
+        (now («send_marks» .exit)) (now («receive_marks» .exit)) r ⌝ }
 {
     if !numbers::numbers_fit(settings, flight, arrival, clock) {
         return false;
     }
     let most = settings.mss();
     let mss = most as u32;
-    let flies = flights::flight_fits(
-        records,
-        flight.outstanding,
-        settings.mode,
-        flight.una,
-        flight.next,
-    );
     let sends = sending_fits(
         queued,
         flight.queued,
@@ -130,10 +124,59 @@ pub fn valid(
         mss,
         receive_marks,
     );
-    sends & flies & receives
+    sends & flown & receives
 }
 
-// 7 where the lent parts are not long enough, then 13 where the block is not valid; else the slots held are marked.
+// 7 where the lent parts are not long enough, then 13 where the block is not valid; else the slots held are marked. `flown` tells whether
+// the records of the outstanding segments fit.
+pub fn admit_flown(
+    long: bool,
+    settings: Settings,
+    flight: Flight,
+    arrival: Arrival,
+    clock: Clock,
+    flown: bool,
+    queued: &[u32; 128],
+    outstanding: &[u32; 32],
+    transmissions: &[u8; 32],
+    ready: &[u32; 128],
+    waiting: &[u32; 128],
+    waiting_numbers: &[u32; 128],
+    send_marks: &mut [u8; 256],
+    receive_marks: &mut [u8; 256],
+) -> Verdict
+    requires { ⌜ Whole (arrays (now queued) (now outstanding) (now transmissions) (now ready) (now waiting) (now «waiting_numbers»))
+        × (now «send_marks» ≡ none) × (now «receive_marks» ≡ none) ⌝ }
+    ensures { λ r. ⌜ AdmittedBy flown long (linkOf settings flight arrival clock (arrays (now (queued .entry)) (now (outstanding .entry))
+        (now (transmissions .entry)) (now (ready .entry)) (now (waiting .entry)) (now («waiting_numbers» .entry))))
+        (now («send_marks» .exit)) (now («receive_marks» .exit)) r ⌝ }
+{
+    if !long {
+        return Verdict::Refused(Refusal::ShortPart);
+    }
+    let made = valid(
+        settings,
+        flight,
+        arrival,
+        clock,
+        flown,
+        queued,
+        outstanding,
+        transmissions,
+        ready,
+        waiting,
+        waiting_numbers,
+        send_marks,
+        receive_marks,
+    );
+    if made {
+        Verdict::Passed
+    } else {
+        Verdict::Refused(Refusal::InvalidBlock)
+    }
+}
+
+// The same, with the records themselves.
 pub fn admit(
     long: bool,
     settings: Settings,
@@ -156,15 +199,14 @@ pub fn admit(
         (now (transmissions .entry)) (now (ready .entry)) (now (waiting .entry)) (now («waiting_numbers» .entry))))
         records (now («send_marks» .exit)) (now («receive_marks» .exit)) r ⌝ }
 {
-    if !long {
-        return Verdict::Refused(Refusal::ShortPart);
-    }
-    let made = valid(
+    let flown = flights::flight_fits(records, settings, flight);
+    admit_flown(
+        long,
         settings,
         flight,
         arrival,
         clock,
-        records,
+        flown,
         queued,
         outstanding,
         transmissions,
@@ -173,10 +215,5 @@ pub fn admit(
         waiting_numbers,
         send_marks,
         receive_marks,
-    );
-    if made {
-        Verdict::Passed
-    } else {
-        Verdict::Refused(Refusal::InvalidBlock)
-    }
+    )
 }

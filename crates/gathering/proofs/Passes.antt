@@ -1,0 +1,29 @@
+-- The turns of the loop that passes over the records of the outstanding segments.
+-- Assumes nothing.
+use mathlib.Core.Path.{_≡_, sym, ap, _∙_}
+use mathlib.Core.List.{List, _∷_}
+use Prim.Native.Nat.{ℕ, suc, _+_, _≤_, _<_}
+use native.Mathlib.Numerals.{add-one}
+use lib.ListN.{length, getD, drop, drop-of-length-le}
+use lib.Seq.{drop-cons}
+use Rattle.timing.specs.declared.Record.{Record}
+use Rattle.records.specs.Tables.{blank, gathered}
+use Rattle.checking.specs.Tests.{leastAfter, leastAfterAll}
+
+module _ (mode una next : ℕ) (table : List Record) (slots : List ℕ) (i : ℕ) where
+  abbrev passed : ℕ → List ℕ → ℕ
+  passed least l = leastAfterAll mode una next least (gathered table l)
+
+  -- one more record, at slot k
+  pub passes-more : (k a b goal : ℕ) (r : Record) → i < length slots → goal ≡ passed a (drop i slots) → k ≡ getD slots i 0 → r ≡ getD table k blank
+      → b ≡ leastAfter mode una next a r → goal ≡ passed b (drop (i + 1) slots)
+  unfolding leastAfterAll
+  passes-more k a b goal r h e e-k e-r e-b =
+      let at : r ≡ getD table (getD slots i 0) blank = e-r ∙ ap (λ (s : ℕ). getD table s blank) e-k in
+      let step : b ≡ leastAfter mode una next a (getD table (getD slots i 0) blank) = e-b ∙ ap (leastAfter mode una next a) at in
+      e ∙ ap (passed a) (drop-cons slots i 0 h) ∙ rw add-one (ap (λ (m : ℕ). passed m (drop (suc i) slots)) (sym step))
+
+  -- none is left
+  pub passes-all : (a goal : ℕ) → length slots ≤ i → goal ≡ passed a (drop i slots) → goal ≡ a
+  unfolding leastAfterAll
+  passes-all a goal h e = e ∙ ap (passed a) (drop-of-length-le slots {i = i} h)
