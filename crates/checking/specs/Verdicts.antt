@@ -28,6 +28,14 @@ pub record Flown (l : Link) (records : List Record) (flown : Bool) : Type 0 wher
   pub whole : length records ≡ 32
   pub fits : flown ≡ flightFits (l .settings .mode) (l .flight .una) (l .flight .next) (take (l .flight .outstanding) records)
 
+-- so it is for whatever records `flown` tells of
+abbrev pub ByFlown : Link → Bool → (List Record → Type 0) → Type 0
+ByFlown l flown holds = (records : List Record) → Flown l records flown → holds records
+
+-- there are such records
+abbrev pub Flies : Link → Bool → Type 0
+Flies l flown = (records : List Record) × Flown l records flown
+
 -- the lent sizes, then the block
 abbrev pub verdictOf : Bool → Bool → Verdict
 verdictOf long made = cond long (cond made Passed (Refused InvalidBlock)) (Refused ShortPart)
@@ -36,10 +44,3 @@ verdictOf long made = cond long (cond made Passed (Refused InvalidBlock)) (Refus
 pub record Admitted (long : Bool) (l : Link) (records : List Record) (send receive : List ℕ) (v : Verdict) : Type 0 where
   pub verdict : (acks : List ℕ) → v ≡ verdictOf long (blockValid l records acks)
   pub checked : v ≡ Passed → Checked l records send receive true
-
--- the same for whatever records `flown` tells of
-abbrev pub CheckedBy : Bool → Link → List ℕ → List ℕ → Bool → Type 0
-CheckedBy flown l send receive r = (records : List Record) → Flown l records flown → Checked l records send receive r
-
-abbrev pub AdmittedBy : Bool → Bool → Link → List ℕ → List ℕ → Verdict → Type 0
-AdmittedBy flown long l send receive v = (records : List Record) → Flown l records flown → Admitted long l records send receive v

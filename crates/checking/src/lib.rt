@@ -18,7 +18,7 @@ ghost use lib.ListN.{length};
 ghost use Rattle.marks.specs.Marks.{none};
 ghost use Rattle.control.specs.Views.{arrays, linkOf, Whole};
 ghost use Rattle.checking.specs.Tests.{SendingFits, ReceivingFits};
-ghost use Rattle.checking.specs.Verdicts.{Admitted, CheckedBy, AdmittedBy};
+ghost use Rattle.checking.specs.Verdicts.{Checked, Admitted, ByFlown};
 
 // What the checks of 7 and 13 say.
 pub enum Verdict {
@@ -96,9 +96,11 @@ fn valid(
 ) -> bool
     requires { ⌜ Whole (arrays (now queued) (now outstanding) (now transmissions) (now ready) (now waiting) (now «waiting_numbers»))
         × (now «send_marks» ≡ none) × (now «receive_marks» ≡ none) ⌝ }
-    ensures { λ r. ⌜ CheckedBy flown (linkOf settings flight arrival clock (arrays (now (queued .entry)) (now (outstanding .entry))
+    ensures { λ r. ⌜ ByFlown (linkOf settings flight arrival clock (arrays (now (queued .entry)) (now (outstanding .entry))
+        (now (transmissions .entry)) (now (ready .entry)) (now (waiting .entry)) (now («waiting_numbers» .entry)))) flown
+        (λ records. Checked (linkOf settings flight arrival clock (arrays (now (queued .entry)) (now (outstanding .entry))
         (now (transmissions .entry)) (now (ready .entry)) (now (waiting .entry)) (now («waiting_numbers» .entry))))
-        (now («send_marks» .exit)) (now («receive_marks» .exit)) r ⌝ }
+        records (now («send_marks» .exit)) (now («receive_marks» .exit)) r) ⌝ }
 {
     if !numbers::numbers_fit(settings, flight, arrival, clock) {
         return false;
@@ -147,9 +149,11 @@ pub fn admit_flown(
 ) -> Verdict
     requires { ⌜ Whole (arrays (now queued) (now outstanding) (now transmissions) (now ready) (now waiting) (now «waiting_numbers»))
         × (now «send_marks» ≡ none) × (now «receive_marks» ≡ none) ⌝ }
-    ensures { λ r. ⌜ AdmittedBy flown long (linkOf settings flight arrival clock (arrays (now (queued .entry)) (now (outstanding .entry))
+    ensures { λ r. ⌜ ByFlown (linkOf settings flight arrival clock (arrays (now (queued .entry)) (now (outstanding .entry))
+        (now (transmissions .entry)) (now (ready .entry)) (now (waiting .entry)) (now («waiting_numbers» .entry)))) flown
+        (λ records. Admitted long (linkOf settings flight arrival clock (arrays (now (queued .entry)) (now (outstanding .entry))
         (now (transmissions .entry)) (now (ready .entry)) (now (waiting .entry)) (now («waiting_numbers» .entry))))
-        (now («send_marks» .exit)) (now («receive_marks» .exit)) r ⌝ }
+        records (now («send_marks» .exit)) (now («receive_marks» .exit)) r) ⌝ }
 {
     if !long {
         return Verdict::Refused(Refusal::ShortPart);

@@ -1,13 +1,15 @@
 -- The turns of the loop that passes over the records of the outstanding segments.
 -- Assumes nothing.
 use mathlib.Core.Path.{_≡_, sym, ap, _∙_}
-use mathlib.Core.List.{List, _∷_}
-use Prim.Native.Nat.{ℕ, suc, _+_, _≤_, _<_}
+use mathlib.Core.List.{List, _∷_, append-nil}
+use Prim.Native.Nat.{ℕ, suc, _+_, _-_, _≤_, _<_, _%_, min}
+use native.Mathlib.Decide.{decLt}
 use native.Mathlib.Numerals.{add-one}
-use lib.ListN.{length, getD, drop, drop-of-length-le}
-use lib.Seq.{drop-cons}
+use native.Mathlib.Omega.{arith}
+use lib.ListN.{length, getD, take, drop, drop-of-length-le, length-map}
+use lib.Seq.{drop-cons, take-all, take-append-seam, length-take-le}
 use Rattle.timing.specs.declared.Record.{Record}
-use Rattle.records.specs.Tables.{blank, gathered}
+use Rattle.records.specs.Tables.{blank, slotsIn, gathered, padded}
 use Rattle.checking.specs.Tests.{leastAfter, leastAfterAll}
 
 module _ (mode una next : ℕ) (table : List Record) (slots : List ℕ) (i : ℕ) where
@@ -27,3 +29,22 @@ module _ (mode una next : ℕ) (table : List Record) (slots : List ℕ) (i : ℕ
   pub passes-all : (a goal : ℕ) → length slots ≤ i → goal ≡ passed a (drop i slots) → goal ≡ a
   unfolding leastAfterAll
   passes-all a goal h e = e ∙ ap (passed a) (drop-of-length-le slots {i = i} h)
+
+-- the records of n outstanding segments are the first n of 32
+pub first-padded : (table : List Record) (ws : List ℕ) (n : ℕ) → length ws ≡ 32 → take n (padded (gathered table (slotsIn ws n))) ≡ gathered table (slotsIn ws n)
+first-padded table ws n e = go (decLt n 32)
+  where
+    l : List Record
+    l = gathered table (slotsIn ws n)
+
+    counted : length l ≡ min n 32
+    counted =
+        length-map (slotsIn ws n) (λ (s : ℕ). getD table s blank)
+        ∙ length-map (take (min n 32) ws) (λ (w : ℕ). w % 256)
+        ∙ length-take-le (min n 32) ws (omega arith)
+
+    go : Dec (n < 32) → take n (padded l) ≡ l
+    go (yes h) = let q : n ≡ length l = omega (arith, counted) in ap (λ (k : ℕ). take k (padded l)) q ∙ take-append-seam l _
+    go (no h) =
+        let q : 32 - length l ≡ 0 = omega (arith, counted) in
+        rw (q, append-nil l) (take-all n l (omega (arith, counted)))

@@ -72,8 +72,8 @@ pub fn gather(table: &[Record], words: [u32; 32], n: usize) -> [Record; 32]
 // Whether the records of the outstanding segments fit (13), in one pass over them where they stand. Of the table the first 128 records
 // are read.
 pub fn fit(table: &[Record], words: [u32; 32], settings: Settings, flight: Flight) -> bool
-    ensures { λ r. ⌜ r ≡ flightFits (settings .mode) (flight .una) (flight .next)
-        (gathered (take sendSlots (now (table .entry))) (slotsIn words (flight .outstanding))) ⌝ }
+    ensures { λ r. ⌜ r ≡ flightFits (settings .mode) (flight .una) (flight .next) (take (flight .outstanding)
+        (padded (gathered (take sendSlots (now (table .entry))) (slotsIn words (flight .outstanding))))) ⌝ }
 {
     let count = flights::looked_at(flight);
     let mut least: usize = 0;

@@ -32,14 +32,14 @@ use denote.Triple.Walked.{stay-dropped, goes-dropped}
 use Rattle.timing.specs.declared.Record.{Record}
 use Rattle.timing.proofs.Record.Laws as T′
 use Rattle.protocol.specs.Protocol.{sendSlots}
-use Rattle.records.specs.Tables.{blank, slotsIn, gathered}
+use Rattle.records.specs.Tables.{blank, slotsIn, gathered, padded}
 use Rattle.records.proofs.Elements.{elem, holds-length, holds-at}
 use Rattle.records.proofs.Rows.{R, typed, makes, ref}
 use Rattle.records.proofs.Frame.{envOf}
 use Rattle.records.proofs.Call.{calls-fn, plainly, lent-first}
 use Rattle.gathering.specs.Reach.{reach}
 use Rattle.gathering.proofs.Listed.{bytes-4, slots-counted, slot-listed, reached}
-use Rattle.gathering.proofs.Passes.{passes-more, passes-all}
+use Rattle.gathering.proofs.Passes.{passes-more, passes-all, first-padded}
 use Rattle.protocol.specs.declared.Settings.{Settings}
 use Rattle.protocol.proofs.Settings as settings-row
 use Rattle.protocol.proofs.Settings.Laws as settings-laws
@@ -125,7 +125,7 @@ module _ {M : Type 1} (𝓤 : URA M) (H : Heap 𝓤) (A : Atoms 𝓤) (W : Given
     words-typed : {w : Val} → Is Ws ws (w ∷ []) → T (hasTy words-ty w) × WT w
     words-typed {w} g = array-typed u32 (uint-lawful 𝓤 H A W w32 .typed) 32 ws (w ∷ []) g .0
 
-    exits : (r : Bool) (w : Val) → r ≡ flightFits (c .mode) (g .una) (g .next) (recs slots) → Is Boolean r (w ∷ []) → ent 𝓤 (⋆ 𝓤 H A (‵ (flft κ q) ∷ [])) (Post w)
+    exits : (r : Bool) (w : Val) → r ≡ flightFits (c .mode) (g .una) (g .next) (take (g .outstanding) (padded (recs slots))) → Is Boolean r (w ∷ []) → ent 𝓤 (⋆ 𝓤 H A (‵ (flft κ q) ∷ [])) (Post w)
     exits r w e is =
         qed W (‵ (flft κ q) ∷ []) ∵ suffices ! _ (ends-at 𝓤 H A f.ended stayed (f.clauses 𝓤 H A mem run) W (((κ, tt), (q, tt), tt, x, at), tt) w r (tt, (tt, (tt, (tt, tt)))) (tt, (tt, (tt, (tt, tt))))) $ says ! e $
         nothing ! $ move ! (1 ∷ 0 ∷ []) $ join ! $ frame ! $ nothing ! $ nothing ! $ fjoin ! $ nothing ! $ fjoin ! $ nothing ! $ fjoin ! $ nothing ! $ fjoin ! $ frame ! $ owned ! Boolean (Is Boolean) (bool-makes 𝓤 H A W) r _ is $ done !
@@ -222,7 +222,7 @@ module _ {M : Type 1} (𝓤 : URA M) (H : Heap 𝓤) (A : Atoms 𝓤) (W : Given
             (and-then ! (load ! (from ! (stop !)) (look ! 23 refl)) (and-then ! (load ! (from ! (stop !)) (look ! 29 refl)) (no-more !))) (λ r v _ e-r is-r. drop ! $ drop ! $ land ! (from ! (stop !)) (init ! 36 refl (bool-lawful 𝓤 H A W .typed r _ is-r .0)) $
             returns ! (look ! 36 refl) $ forget ! 10 refl $ forget ! 20 refl $ forget ! 22 refl $ forget ! 24 refl $ forget ! 26 refl $ forget ! 28 refl $ forget ! 30 refl $ forget ! 32 refl $ forget ! 34 refl $ forget ! 36 refl $
             move ! (36 ∷ 37 ∷ []) $ free1 ! $ move ! (34 ∷ 35 ∷ []) $ free1 ! $ move ! (32 ∷ 33 ∷ []) $ free1 ! $ move ! (30 ∷ 31 ∷ []) $ free1 ! $ move ! (28 ∷ 29 ∷ []) $ free1 ! $ move ! (26 ∷ 27 ∷ []) $ free1 ! $ move ! (24 ∷ 25 ∷ []) $ free1 ! $ move ! (22 ∷ 23 ∷ []) $ free1 ! $ move ! (20 ∷ 21 ∷ []) $ free1 ! $ move ! (18 ∷ 19 ∷ []) $ free1 ! $ move ! (16 ∷ 17 ∷ []) $ free1 ! $ move ! (14 ∷ 15 ∷ []) $ free1 ! $ move ! (12 ∷ 13 ∷ []) $ free1 ! $ move ! (10 ∷ 11 ∷ []) $ free1 ! $ move ! (8 ∷ 9 ∷ []) $ free1 ! $ move ! (6 ∷ 7 ∷ []) $ free1 ! $ move ! (4 ∷ 5 ∷ []) $ free1 ! $ move ! (2 ∷ 3 ∷ []) $ free1 ! $ free0 ! $ keep ! (1 ∷ []) $
-            by ! (exits r v (e-r ∙ ap (flownBy (g .una) (g .next)) (sym (passes-all (c .mode) (g .una) (g .next) (take sendSlots ys) slots (t .0) (t .1) goal past (t .4))) ∙ flown-fits (c .mode) (g .una) (g .next) (recs slots)) is-r))
+            by ! (exits r v (e-r ∙ ap (flownBy (g .una) (g .next)) (sym (passes-all (c .mode) (g .una) (g .next) (take sendSlots ys) slots (t .0) (t .1) goal past (t .4))) ∙ flown-fits (c .mode) (g .una) (g .next) (recs slots) ∙ ap (flightFits (c .mode) (g .una) (g .next)) (sym (first-padded (take sendSlots ys) ws (g .outstanding) (gw .1 .0 .1)))) is-r))
           where
             past : length slots ≤ t .0
             past = rw (← counted) (nltb→le (t .0) n (not-T (ltb (t .0) n) (λ h. subst T z h)))
