@@ -32,7 +32,7 @@ NAMES = {
     'mathlib.Core.Path': '_∙_ sym subst', 'mathlib.Core.Bool': 'Bool', 'denote.Plain': 'Boolean bool-lawful bool-makes', 'lib.ListN': 'take',
     'Rattle.protocol.specs.Protocol': 'sendSlots', 'Rattle.records.specs.Tables': 'slotsIn gathered padded scattered',
     'Rattle.control.specs.Views': 'Whole Arrays arrays arraysOf linkOf',
-    'Rattle.checking.specs.Tests': 'flightFits', 'Rattle.checking.specs.Verdicts': 'Flies ByFlown',
+    'Rattle.checking.specs.Tests': 'flightFits', 'Rattle.checking.specs.Verdicts': 'Flown Flies ByFlown',
     'Rattle.promises.specs.Parts': 'lentLengths partsOf', 'Rattle.promises.specs.Answers': 'countOutcome',
     'Rattle.promises.specs.Outcomes': 'opensWith takesInWith tellsWith showsWith shows',
     'Rattle.promises.specs.Promises': 'OpenPromise SendPromise InputPromise FlushPromise ReadPromise SizePromise',
@@ -67,9 +67,9 @@ def last(result, i):
     return f'(ws-{result}' + ' .1' * i + ' .0)'
 
 
-def after(result, changed):
+def after(result, changed, first=FIRST):
     """The arrays behind the core, of which these have changed."""
-    return 'arrays ' + ' '.join(last(result, FIRST + i) if a in changed else f'(h .{a})' for i, a in enumerate(ARRAYS))
+    return 'arrays ' + ' '.join(last(result, first + i) if a in changed else f'(h .{a})' for i, a in enumerate(ARRAYS))
 
 
 def parts(*slices):
@@ -96,6 +96,12 @@ FLOWN = f'(record {{ whole = padded-whole {TABLE} (h .outstanding) {COUNT_OUT}; 
 FITTING = f'h {P} {RECORDS} m (gathers h {P} {COUNT_OUT} {RECORDS} m refl refl e-m)'
 LISTS = 'arrays ' + ' '.join(f'f-{a}' for a in PLAIN)
 FLIES = (f'Whole ({LISTS}) × Flies (linkOf y₀ y₁ y₂ y₃ ({LISTS})) y₄', f"{whole('len-')}, ({RECORDS}, {FLOWN})")
+
+
+# where records are gathered and tested: these are the ones that are told of
+FITTED = Call('fit', 'fl', f'fl ≡ flightFits (h .settings .mode) (h .flight .una) (h .flight .next) (take {COUNT_OUT} {RECORDS})')
+TESTED = (f'subst (λ l. Flown h l fl) (sym (e-recs ∙ ap (λ k. padded (gathered {TABLE} (slotsIn (h .outstanding) k))) e-n)) {FLOWN}')
+FLOWN_HERE = (f'Whole ({LISTS}) × Flown (linkOf y₀ y₁ y₂ y₃ ({LISTS})) y₅ y₄', f"{whole('len-')}, {TESTED}")
 
 
 def by_flown(says):
@@ -177,16 +183,16 @@ def show():
 
 
 def take_in():
-    link = f"(linkOf (h .settings) (a .flight) (a .arrival) (h .clock) ({after('a', ARRAYS[1:])}))"
-    pool, acks = last('a', FIRST + 7), last('a', FIRST + 8)
+    link = f"(linkOf (h .settings) (a .flight) (a .arrival) (h .clock) ({after('a', ARRAYS[1:], FIRST + 1)}))"
+    pool, acks = last('a', FIRST + 8), last('a', FIRST + 9)
     gives = f'(λ l. takesInWith l recs (x₄ .now) ({LENT}) (x₂ .now) (x₅ .now))'
     gathered = f'(gathers h {P} n recs m e-n e-recs e-m)'
     return dict(
         crate='take_in', name='take_in', result=TAKEN, about='The table is read; structs are copied, all lists are lent, and flight and arrival are stored.',
         pars=[Par('ref'), Par('shr', 'u8'), Par('mut', 'u8'), Par('shr', 'R'), Par('mut', 'u32'), Par('shr', 'u8')],
         said=f'InputLeft (x₅ .now) h {P} (r .answer) (takenBack r) k z₂ z₄',
-        calls=GATHER + [
-            Call('core', 'a', f"Takes {gives} (h .settings) (h .flight) (h .arrival) (h .clock) (arraysOf h) (x₂ .now) (x₄ .now) a ({after('a', ARRAYS[1:])}) {pool} {acks}", WHOLE),
+        calls=GATHER[:2] + [FITTED, GATHER[2]] + [
+            Call('core', 'a', f"Takes {gives} (h .settings) (h .flight) (h .arrival) (h .clock) (arraysOf h) (x₂ .now) (x₄ .now) a ({after('a', ARRAYS[1:], FIRST + 1)}) {pool} {acks}", FLOWN_HERE),
             Call('flight-of', 'kf', 'kf ≡ a .flight'), Call('arrival-of', 'ka', 'ka ≡ a .arrival'),
         ],
         proof=f"rw (e-kf, e-ka) (input-left (x₅ .now) h {P} (a .answer) (takenBack a) {link} {pool} {acks} recs m {gathered} ({whole('end-')}) e-a)")

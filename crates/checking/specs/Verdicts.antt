@@ -44,3 +44,7 @@ verdictOf long made = cond long (cond made Passed (Refused InvalidBlock)) (Refus
 pub record Admitted (long : Bool) (l : Link) (records : List Record) (send receive : List ℕ) (v : Verdict) : Type 0 where
   pub verdict : (acks : List ℕ) → v ≡ verdictOf long (blockValid l records acks)
   pub checked : v ≡ Passed → Checked l records send receive true
+
+-- the same, with some marks of the send slots
+abbrev pub AdmittedHearing : Bool → Link → List Record → List ℕ → Verdict → Type 0
+AdmittedHearing long l records receive v = (send : List ℕ) × Admitted long l records send receive v

@@ -3,6 +3,7 @@
 pub mod ahead;
 pub mod flights;
 pub mod full;
+pub mod hearing;
 pub mod limits;
 pub mod numbers;
 
@@ -27,7 +28,7 @@ pub enum Verdict {
 }
 
 // The segments of the sending half; their slots are marked.
-fn sending_fits(
+pub(crate) fn sending_fits(
     queued: &[u32; 128],
     n: usize,
     outstanding: &[u32; 32],
@@ -53,7 +54,7 @@ fn sending_fits(
 }
 
 // The segments of the receiving half; their slots are marked.
-fn receiving_fits(
+pub(crate) fn receiving_fits(
     ready: &[u32; 128],
     n: usize,
     waiting: &[u32; 128],
