@@ -198,12 +198,14 @@ pub fn input(
     let mut waiting = link.waiting;
     let mut waiting_numbers = link.waiting_numbers;
     let records = kept_table::gather(table, lent, outstanding, flight.outstanding);
+    let flown = flights::flight_fits(records, settings, flight);
     let n = kept_table::lent_count(lent);
     let done = input_core::input(
         settings,
         flight,
         arrival,
         clock,
+        flown,
         records,
         n,
         &queued,
