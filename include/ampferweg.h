@@ -35,7 +35,7 @@
  * Call flush about every `interval` milliseconds, and after a send that should not wait.
  *
  * The header has four parts: sizes and results; the seven calls, and settings files, which are proved; and
- * `ampferweg_station`, a thin layer of inline functions that holds the lent parts and passes them on. C99 or C++; x86-64 Linux, the archive's target.
+ * `ampferweg_station`, a thin layer of inline functions that holds the lent parts and passes them on. C99 or C++; x86-64 Linux; other machines in docs/BOARDS.md.
  * Counts are 64 bits wide everywhere, so that the block has one layout on 32-bit and 64-bit machines. */
 #ifndef AMPFERWEG_H
 #define AMPFERWEG_H

@@ -1,7 +1,7 @@
 -- What a segment makes of the segments in flight is what the definition makes of the sending half.
 -- Assumes nothing.
 use mathlib.Core.Path.{_≡_, refl, ap, _∙_}
-use mathlib.Core.Bool.{Bool, true, false, cond, not, _&&_}
+use mathlib.Core.Bool.{Bool, true, false, cond}
 use mathlib.Core.List.{List, [], _∷_}
 use Prim.Native.Nat.{ℕ, zero, suc, _+_, _^_, _<_}
 use native.Mathlib.Omega.{arith}
@@ -9,7 +9,7 @@ use borrow.Author.Tests.{eq-eqb, ne-eqb, lt-ltb}
 use lib.Dec.{ltb, eqb}
 use lib.ListN.{length, getD}
 use Rattle.protocol.specs.Protocol.{ack}
-use Rattle.protocol.specs.Serial.{minus, isAfter, isDue}
+use Rattle.protocol.specs.Serial.{minus, isDue}
 use Rattle.protocol.specs.declared.Settings.{Settings}
 use Rattle.wire.specs.declared.Header.{Header}
 use Rattle.timing.specs.RoundTrips.{sampled}
@@ -18,11 +18,11 @@ use Rattle.timing.specs.declared.RoundTrip.{RoundTrip}
 use Rattle.lists.specs.Joining.{joined}
 use Rattle.lists.specs.Orders.{sentOffset}
 use Rattle.lists.specs.Acknowledging.{select, keep, firstNumberOr}
-use Rattle.lists.specs.AcknowledgingLaws.{select-same, keep-both}
 use Rattle.lists.specs.declared.Sent.{Sent}
 use Rattle.lists.specs.declared.Acknowledges.the-variants as by
 use Rattle.session.specs.State.{Sending}
 use Rattle.session.specs.Input.{acknowledged, withWindow, sampledBy, heardBySending}
+use Rattle.session.specs.HeardLaws.{heard-outstanding, heard-una}
 use Rattle.session.specs.Decides.{All}
 use Rattle.session.specs.Ascending.{Ascends}
 use Rattle.session.specs.SendOrder.{NumberFits, Numbers, numbers-select}
@@ -49,42 +49,46 @@ module _ (c : Settings) (current : ℕ) (h : Header) (rtt : RoundTrip) where
 
 -- ---- a segment
 
-and-true : (b : Bool) → b ≡ (b && true)
-and-true true = refl
-and-true false = refl
-
--- the definition's segment, its parts apart
-heard-parts : (c : Settings) (current : ℕ) (s : Sending) (h : Header)
-    → heardBySending c current s h
-    ≡ record {
-      una = firstNumberOr (keep (staysBy h) (s .outstanding)) (s .next);
+-- the definition's segment: the window is taken, and an ack may bring a sample
+rest-parts : (c : Settings) (current : ℕ) (s : Sending) (h : Header) → let x = heardBySending c current s h in
+    x ≡ record {
+      una = x .una;
       next = s .next;
       queued = s .queued;
-      outstanding = keep (staysBy h) (s .outstanding);
+      outstanding = x .outstanding;
       window = h .wnd;
       roundTrip = timedBy c current h (s .roundTrip);
     }
 unfolding heardBySending acknowledged sampledBy timedBy
-heard-parts c current s h = go (eqb (h .cmd) ack)
+rest-parts c current s h = go (eqb (h .cmd) ack)
   where
-    l : List Sent
-    l = s .outstanding
-
     passed : Sending
     passed = acknowledged (by.Una (h .una)) (withWindow (h .wnd) s)
 
-    go : (t : Bool)
-        → cond t (acknowledged (by.Ack (h .sn)) (sampledBy c current (h .ts) passed)) passed
-        ≡ record {
-          una = firstNumberOr (keep (λ n. not (isAfter (h .una) n) && not (t && eqb n (h .sn))) l) (s .next);
+    go : (t : Bool) → let x = cond t (acknowledged (by.Ack (h .sn)) (sampledBy c current (h .ts) passed)) passed in
+        x ≡ record {
+          una = x .una;
           next = s .next;
           queued = s .queued;
-          outstanding = keep (λ n. not (isAfter (h .una) n) && not (t && eqb n (h .sn))) l;
+          outstanding = x .outstanding;
           window = h .wnd;
           roundTrip = cond t (cond (isDue current (h .ts)) (sampled (s .roundTrip) c (minus current (h .ts))) (s .roundTrip)) (s .roundTrip);
         }
-    go true = rw (keep-both (λ n. not (isAfter (h .una) n)) (λ n. not (eqb n (h .sn))) l)
-    go false = rw (select-same (λ (x : Sent). not (isAfter (h .una) (x .record .number))) (λ x. not (isAfter (h .una) (x .record .number)) && true) (λ x. and-true (not (isAfter (h .una) (x .record .number)))) l)
+    go true = refl
+    go false = refl
+
+-- its parts apart
+heard-parts : (c : Settings) (current : ℕ) (s : Sending) (h : Header)
+    → heardBySending c current s h
+    ≡ record {
+      una = firstNumberOr (keep (staysBy (s .next) h) (s .outstanding)) (s .next);
+      next = s .next;
+      queued = s .queued;
+      outstanding = keep (staysBy (s .next) h) (s .outstanding);
+      window = h .wnd;
+      roundTrip = timedBy c current h (s .roundTrip);
+    }
+heard-parts c current s h = rw (← (heard-outstanding c current s h), ← (heard-una c current s h)) (rest-parts c current s h)
 
 -- ---- what the code makes of the segments in flight
 
@@ -104,7 +108,7 @@ module _ (c : Settings) (current : ℕ) (v : View) (h : Header) (rtt : RoundTrip
   after una n = record { una = una; next = v .flight .next; rtt = rtt; window = h .wnd; queued = v .flight .queued; outstanding = n }
 
   -- those that stay are left
-  pub heard-some : (ws ts : List ℕ) (n : ℕ) (rs : List Record) (una : ℕ) (d : Record) → JoinedIn ws ts n rs (keep (staysBy h) (sentIn v)) → length rs ≡ 32
+  pub heard-some : (ws ts : List ℕ) (n : ℕ) (rs : List Record) (una : ℕ) (d : Record) → JoinedIn ws ts n rs (keep (staysBy (v .flight .next) h) (sentIn v)) → length rs ≡ 32
       → una ≡ cond (ltb 0 n) (getD rs 0 d .number) (v .flight .next)
       → FlightIs (view (after una n) ws ts rs) v (λ s. heardBySending c current s h)
   heard-some ws ts n rs una d l many g =
@@ -112,7 +116,7 @@ module _ (c : Settings) (current : ℕ) (v : View) (h : Header) (rtt : RoundTrip
       record { whole = l .whole; wholes = l .wholes; fits = l .fits; queue = refl; half = λ q. rw (heard-parts c current _ h, first, l .list, e) }
 
   -- all stay
-  pub heard-none : InOrder v → keep (staysBy h) (sentIn v) ≡ sentIn v
+  pub heard-none : InOrder v → keep (staysBy (v .flight .next) h) (sentIn v) ≡ sentIn v
       → FlightIs (view (after (v .flight .una) (v .flight .outstanding)) (v .words) (v .transmissions) (v .records)) v (λ s. heardBySending c current s h)
   heard-none o k =
       record { whole = o .whole; wholes = o .wholes; fits = o .fits; queue = refl; half = λ q. rw (heard-parts c current _ h, e, k, o .numbers .first) }
@@ -120,11 +124,11 @@ module _ (c : Settings) (current : ℕ) (v : View) (h : Header) (rtt : RoundTrip
 -- ---- the numbers
 
 -- where a segment concerns no number, all stay
-pub all-stay : (h : Header) (una next : ℕ) (r : Bool) → Concerns h una next r → r ≡ false → (l : List Sent) → All NumberFits l → Numbers una next l → keep (staysBy h) l ≡ l
+pub all-stay : (h : Header) (una next : ℕ) (r : Bool) → Concerns h una next r → r ≡ false → (l : List Sent) → All NumberFits l → Numbers una next l → keep (staysBy next h) l ≡ l
 unfolding select
 all-stay h una next r k e l fit o = go 0 l fit (o .ascends)
   where
-    go : (least : ℕ) (l : List Sent) → All NumberFits l → Ascends (sentOffset una) least (minus next una) l → keep (staysBy h) l ≡ l
+    go : (least : ℕ) (l : List Sent) → All NumberFits l → Ascends (sentOffset una) least (minus next una) l → keep (staysBy next h) l ≡ l
     go least [] fit a = refl
     go least (x ∷ l) fit a = rw (k .none e (o .apart) (x .record .number) (fit .0) (a .1), go (sentOffset una x + 1) l (fit .1) (a .2))
 
@@ -143,17 +147,17 @@ first-fits (x ∷ l) n a h = a .0
 pub heard-order : (c : Settings) (current : ℕ) (v′ v : View) (h : Header) → FlightIs v′ v (λ s. heardBySending c current s h) → Ordered v → Ordered v′
 heard-order c current v′ v h f o =
     let p = f .half [] ∙ heard-parts c current (halfWith [] v) h in
-    let left : sentIn v′ ≡ keep (staysBy h) (sentIn v) = ap (λ (s : Sending). s .outstanding) p in
-    let una : v′ .flight .una ≡ firstNumberOr (keep (staysBy h) (sentIn v)) (v .flight .next) = ap (λ (s : Sending). s .una) p in
+    let left : sentIn v′ ≡ keep (staysBy (v .flight .next) h) (sentIn v) = ap (λ (s : Sending). s .outstanding) p in
+    let una : v′ .flight .una ≡ firstNumberOr (keep (staysBy (v .flight .next) h) (sentIn v)) (v .flight .next) = ap (λ (s : Sending). s .una) p in
     let next : v′ .flight .next ≡ v .flight .next = ap (λ (s : Sending). s .next) p in
-    let fit : All NumberFits (keep (staysBy h) (sentIn v)) = all-select (λ (x : Sent). staysBy h (x .record .number)) NumberFits (sentIn v) (o .fit) in
+    let fit : All NumberFits (keep (staysBy (v .flight .next) h) (sentIn v)) = all-select (λ (x : Sent). staysBy (v .flight .next) h (x .record .number)) NumberFits (sentIn v) (o .fit) in
     let low : v .flight .una < 2 ^ 32 = rw (o .order .numbers .first) at (first-fits (sentIn v) (v .flight .next) (o .fit) (o .next32)) in
     record {
       order = record {
         whole = f .whole;
         wholes = f .wholes;
         fits = f .fits;
-        numbers = rw (una, next, left) (numbers-select (λ (x : Sent). staysBy h (x .record .number)) (v .flight .una) (v .flight .next) (sentIn v) low (o .next32) fit (o .order .numbers));
+        numbers = rw (una, next, left) (numbers-select (λ (x : Sent). staysBy (v .flight .next) h (x .record .number)) (v .flight .una) (v .flight .next) (sentIn v) low (o .next32) fit (o .order .numbers));
       };
       fit = rw left fit;
       next32 = rw next (o .next32);

@@ -1,25 +1,26 @@
 -- A segment as the sending half hears it: which numbers stay outstanding, the round trip, and a skip of a record. Definitions.
 -- Assumes nothing.
 use mathlib.Core.Path.{_≡_}
-use mathlib.Core.Bool.{Bool, true, false, cond, not, _&&_}
+use mathlib.Core.Bool.{Bool, true, false, cond, not}
 use Prim.Native.Nat.{ℕ, _^_, _≤_, _<_}
 use lib.Dec.{eqb}
 use Rattle.protocol.specs.Protocol.{ack, sendWindow}
-use Rattle.protocol.specs.Serial.{minus, isBefore, isAfter, isDue}
+use Rattle.protocol.specs.Serial.{minus, isBefore, isDue}
 use Rattle.protocol.specs.declared.Settings.{Settings}
 use Rattle.wire.specs.declared.Header.{Header}
 use Rattle.timing.specs.RoundTrips.{sampled}
 use Rattle.timing.specs.declared.Record.{Record}
 use Rattle.timing.specs.declared.RoundTrip.{RoundTrip}
 use Rattle.retransmission.specs.Transmissions.{skipped}
+use Rattle.session.specs.Input.{acknowledges}
 
--- una is not after the number, and no ack names it
-abbrev pub staysBy : Header → ℕ → Bool
-staysBy h n = not (isAfter (h .una) n) && not (eqb (h .cmd) ack && eqb n (h .sn))
+-- the segment does not acknowledge the number
+abbrev pub staysBy : ℕ → Header → ℕ → Bool
+staysBy next h n = not (acknowledges next h n)
 
 -- r is false only where a segment acknowledges no number from una on that is before next, these two at most 32 apart
 pub record Concerns (h : Header) (una next : ℕ) (r : Bool) : Type 0 where
-  pub none : r ≡ false → minus next una ≤ sendWindow → (n : ℕ) → n < 2 ^ 32 → minus n una < minus next una → staysBy h n ≡ true
+  pub none : r ≡ false → minus next una ≤ sendWindow → (n : ℕ) → n < 2 ^ 32 → minus n una < minus next una → staysBy next h n ≡ true
 
 -- an ack brings a sample if current - ts is 0 or more
 unfoldable pub timedBy : Settings → ℕ → Header → RoundTrip → RoundTrip

@@ -42,21 +42,24 @@ struct Furthest {
     number: u32,
 }
 
-// Whether the segment with that number stays outstanding after a segment is heard: una is not after it, and no ack names it.
-fn stays(h: Header, number: u32) -> bool
-    ensures { λ r. ⌜ r ≡ staysBy h number ⌝ }
+// Whether the segment with that number stays outstanding after a segment is heard: its una, if not after snd_nxt, is not after the
+// number, and no ack names it.
+fn stays(next: u32, h: Header, number: u32) -> bool
+    ensures { λ r. ⌜ r ≡ staysBy next h number ⌝ }
 {
-    !serial::after(h.una, number) & !((h.cmd == Protocol::ACK) & (number == h.sn))
+    let passed = !serial::after(h.una, next) & serial::after(h.una, number);
+    !(passed | ((h.cmd == Protocol::ACK) & (number == h.sn)))
 }
 
-// Whether a segment may acknowledge an outstanding number: these are from snd_una on, before snd_nxt, and 32 at most. Its una is
-// after one of the 32 numbers from snd_una on, or it is an ack that names a number before snd_nxt.
+// Whether a segment acknowledges an outstanding number: these are from snd_una on, before snd_nxt, and 32 at most. Its una is after
+// snd_una and at most snd_nxt, or it is an ack that names a number from snd_una on, before snd_nxt.
 fn concerns(h: Header, una: u32, next: u32) -> bool
     ensures { λ r. ⌜ Concerns h una next r ⌝ }
 {
     let ahead = serial::difference(h.una, una);
-    let named = serial::difference(h.sn, una) < serial::difference(next, una);
-    ((0 < ahead) & (ahead < 2147483680)) | ((h.cmd == Protocol::ACK) & named)
+    let span = serial::difference(next, una);
+    let named = serial::difference(h.sn, una) < span;
+    ((0 < ahead) & (ahead <= span)) | ((h.cmd == Protocol::ACK) & named)
 }
 
 // The first n outstanding segments without those that a segment acknowledges: words, transmissions and records side by side.
@@ -65,11 +68,12 @@ fn remaining(
     transmissions: &mut [u8; 32],
     records: [Record; 32],
     n: usize,
+    next: u32,
     h: Header,
 ) -> Left
     requires { ⌜ (length (now words) ≡ 32) × (length (now transmissions) ≡ 32) × (n ≤ 32) ⌝ }
     ensures { λ r. ⌜ JoinedIn (now (words .exit)) (now (transmissions .exit)) (r .count) (r .records)
-        (keep (staysBy h) (joined (outstandingIn (now (words .entry)) (now (transmissions .entry)) n) records)) ⌝ }
+        (keep (staysBy next h) (joined (outstandingIn (now (words .entry)) (now (transmissions .entry)) n) records)) ⌝ }
 {
     let mut rs = records;
     let mut i: usize = 0;
@@ -79,7 +83,7 @@ fn remaining(
         let sent = transmissions[i];
         let record = rs[i];
         i += 1;
-        if stays(h, record.number) {
+        if stays(next, h, record.number) {
             words[j] = word;
             transmissions[j] = sent;
             rs[j] = record;
@@ -216,7 +220,14 @@ pub fn hear(
         let before = f.rtt;
         f.rtt = timed(before, settings, current, header);
         if concerns(header, f.una, f.next) {
-            let left = remaining(outstanding, transmissions, rs, f.outstanding, header);
+            let left = remaining(
+                outstanding,
+                transmissions,
+                rs,
+                f.outstanding,
+                f.next,
+                header,
+            );
             let kept = left.records;
             rs = kept;
             f.outstanding = left.count;

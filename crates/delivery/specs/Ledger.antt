@@ -1,23 +1,20 @@
 -- The ledger of document 01: used send slots equal the fragments accepted less the segments acknowledged, over any calls since
--- opening. Acknowledged means: outstanding when an arriving ack named its number or an arriving una came after it. Definitions.
+-- opening. Acknowledged means: outstanding when an arriving ack named its number or an arriving una came after it and not after
+-- snd_nxt (`acknowledges`). Definitions.
 -- Assumes nothing.
 use mathlib.Core.Path.{_≡_}
-use mathlib.Core.Bool.{Bool, cond, _||_, _&&_}
+use mathlib.Core.Bool.{cond}
 use mathlib.Core.List.{List, [], _∷_}
 use Prim.Native.Nat.{ℕ, zero, suc, _+_}
-use lib.Dec.{eqb}
 use lib.ListN.{length}
-use Rattle.protocol.specs.Protocol.{ack, sendSlots}
+use Rattle.protocol.specs.Protocol.{sendSlots}
 use Rattle.protocol.specs.Ranges.{mss}
-use Rattle.protocol.specs.Serial.{isAfter}
-use Rattle.wire.specs.declared.Header.{Header}
 use Rattle.protocol.specs.declared.Settings.{Settings}
 use Rattle.datagram.specs.Datagrams.{Segment, Parsed, parse}
-use Rattle.lists.specs.declared.Sent.{Sent}
-use Rattle.lists.specs.Acknowledging.{select}
+use Rattle.lists.specs.Acknowledging.{keep}
 use Rattle.session.specs.Slots.{occurs}
 use Rattle.session.specs.State.{State, Sending, sendHeld, slots}
-use Rattle.session.specs.Input.{heardBySending}
+use Rattle.session.specs.Input.{acknowledges, heardBySending}
 use Rattle.session.specs.Calls.{Station, Call, Answer, Event, step, acceptedList}
 use Rattle.delivery.specs.PlainReceiver.{segmentsOf}
 
@@ -34,15 +31,11 @@ usedSlots s = usedBelow sendSlots (slots (sendHeld s))
 
 -- ---- segments acknowledged
 
--- an arriving una came after the segment's number, or an arriving ack named it
-abbrev pub acknowledges : Header → Sent → Bool
-acknowledges h x = isAfter (h .una) (x .record .number) || eqb (h .cmd) ack && eqb (x .record .number) (h .sn)
-
 -- by the segments of a datagram in turn: those that are outstanding when each arrives
 unfoldable pub acknowledgedByEach : Settings → ℕ → Sending → List Segment → ℕ
 acknowledgedByEach c current s [] = 0
 acknowledgedByEach c current s (g ∷ gs) =
-    length (select (acknowledges (g .header)) (s .outstanding)) + acknowledgedByEach c current (heardBySending c current s (g .header)) gs
+    length (keep (acknowledges (s .next) (g .header)) (s .outstanding)) + acknowledgedByEach c current (heardBySending c current s (g .header)) gs
 
 abbrev pub acknowledgedByParsed : State → Parsed → ℕ
 acknowledgedByParsed s (Parsed.refused r) = 0

@@ -1,29 +1,28 @@
 -- The ledger of document 01 holds over any calls since opening, whatever bytes are taken in.
 -- Assumes nothing.
 use mathlib.Core.Path.{_≡_, refl, sym, ap, _∙_, subst}
-use mathlib.Core.Bool.{Bool, true, false, cond, not, _||_, _&&_, or-false}
+use mathlib.Core.Bool.{Bool, true, false, cond, not, _||_, _&&_}
 use mathlib.Core.List.{List, [], _∷_, _++_, map}
 use Prim.Native.Nat.{ℕ, zero, suc, _+_, _≤_, _<_}
 use native.Mathlib.Omega.{arith}
 use borrow.Author.Tests.{eqb-true, eqb-false, ne-eqb}
 use lib.Dec.{eqb}
 use lib.ListN.{length, length-append, length-map}
-use Rattle.protocol.specs.Protocol.{ack, sendSlots}
+use Rattle.protocol.specs.Protocol.{sendSlots}
 use Rattle.protocol.specs.Ranges.{inRange, mss}
-use Rattle.protocol.specs.Serial.{isAfter, isBefore}
-use Rattle.wire.specs.declared.Header.{Header}
+use Rattle.protocol.specs.Serial.{isBefore}
 use Rattle.protocol.specs.declared.Settings.{Settings}
 use Rattle.protocol.specs.declared.Refusal.{Refusal}
 use Rattle.datagram.specs.Datagrams.{Segment}
 use Rattle.lists.specs.declared.Held.{Held}
 use Rattle.lists.specs.declared.Sent.{Sent}
-use Rattle.lists.specs.declared.Acknowledges.the-variants as by
 use Rattle.lists.specs.Acknowledging.{select, skipBefore}
 use Rattle.session.specs.Slots.{occurs}
 use Rattle.session.specs.State.{State, Sending, sendHeld, slots}
 use Rattle.session.specs.Opening.{opened}
 use Rattle.session.specs.Cutting.{cut}
-use Rattle.session.specs.Input.{acknowledged, withWindow, sampledBy, heardBySending, allBySending, furthest, skipped, skippedByAll, ackNumbers, applied}
+use Rattle.session.specs.HeardLaws.{heard-outstanding, heard-queued}
+use Rattle.session.specs.Input.{acknowledges, heardBySending, allBySending, furthest, skipped, skippedByAll, ackNumbers, applied}
 use Rattle.session.specs.Flushing.{numberedCount, flushing}
 use Rattle.session.specs.Calls.{Station, Call, Answer, Stepped, Event, own, history, after, acceptedBy, acceptedList}
 use Rattle.session.specs.Decides.{All}
@@ -41,7 +40,7 @@ use Rattle.delivery.specs.SendingTakesIn.{skip-held}
 use Rattle.delivery.specs.SendingSends.{withQueue}
 use Rattle.delivery.specs.SendingFlushes.{flushed-held, count-few, count-room}
 use Rattle.delivery.specs.SendingStays.{SendingInOrder, half-in, sending-stays, sending-always, opened-in-order}
-use Rattle.delivery.specs.Ledger.{usedBelow, usedSlots, acknowledges, acknowledgedByEach, acknowledgedBy, stationAcknowledged, Ledger}
+use Rattle.delivery.specs.Ledger.{usedBelow, usedSlots, acknowledgedByEach, acknowledgedBy, stationAcknowledged, Ledger}
 
 -- ---- slots are held once, so there are as many as segments
 
@@ -82,21 +81,6 @@ used-held c s h = used-all sendSlots (sendHeld s) (h .held .distinct) (h .held .
 -- ---- an arriving segment removes what it acknowledges
 
 module _ {A : Type 0} where
-  select-both : (f g : A → Bool) (l : List A) → select g (select f l) ≡ select (λ (x : A). f x && g x) l
-  unfolding select
-  select-both f g [] = refl
-  select-both f g (x ∷ l) = go (f x) (select-both f g l)
-    where
-      go : (b : Bool) → select g (select f l) ≡ select (λ (x : A). f x && g x) l →
-          select g (cond b (x ∷ select f l) (select f l)) ≡ cond (b && g x) (x ∷ select (λ (x : A). f x && g x) l) (select (λ (x : A). f x && g x) l)
-      go true i = rw i
-      go false i = i
-
-  select-same : (f g : A → Bool) → ((x : A) → f x ≡ g x) → (l : List A) → select f l ≡ select g l
-  unfolding select
-  select-same f g e [] = refl
-  select-same f g e (x ∷ l) = rw (e x, select-same f g e l)
-
   select-count : (f : A → Bool) (l : List A) → length (select (λ (x : A). not (f x)) l) + length (select f l) ≡ length l
   unfolding select
   select-count f [] = omega arith
@@ -106,47 +90,6 @@ module _ {A : Type 0} where
           length (cond (not b) (x ∷ select (λ (x : A). not (f x)) l) (select (λ (x : A). not (f x)) l)) + length (cond b (x ∷ select f l) (select f l)) ≡ suc (length l)
       go true i = omega arith
       go false i = omega arith
-
-module _ (c : Settings) (current : ℕ) where
-  heard-outstanding : (s : Sending) (h : Header) →
-      heardBySending c current s h .outstanding ≡ select (λ (x : Sent). not (acknowledges h x)) (s .outstanding)
-  unfolding heardBySending acknowledged sampledBy
-  heard-outstanding s h = go (eqb (h .cmd) ack)
-    where
-      Una : Sent → Bool
-      Una x = not (isAfter (h .una) (x .record .number))
-
-      Ack : Sent → Bool
-      Ack x = not (eqb (x .record .number) (h .sn))
-
-      passed : Sending
-      passed = acknowledged (by.Una (h .una)) (withWindow (h .wnd) s)
-
-      neither : (a b : Bool) → (not a && not b) ≡ not (a || b)
-      neither true b = refl
-      neither false b = refl
-
-      go : (b : Bool) → cond b (acknowledged (by.Ack (h .sn)) (sampledBy c current (h .ts) passed)) passed .outstanding
-          ≡ select (λ (x : Sent). not (isAfter (h .una) (x .record .number) || b && eqb (x .record .number) (h .sn))) (s .outstanding)
-      go true =
-          select-both Una Ack (s .outstanding)
-          ∙ select-same (λ (x : Sent). Una x && Ack x) (λ (x : Sent). not (isAfter (h .una) (x .record .number) || eqb (x .record .number) (h .sn)))
-          (λ x. neither (isAfter (h .una) (x .record .number)) (eqb (x .record .number) (h .sn)))
-          (s .outstanding)
-      go false =
-          select-same Una (λ (x : Sent). not (isAfter (h .una) (x .record .number) || false))
-          (λ x. ap not (sym (or-false (isAfter (h .una) (x .record .number))))) (s .outstanding)
-
-  heard-queued : (s : Sending) (h : Header) → heardBySending c current s h .queued ≡ s .queued
-  unfolding heardBySending acknowledged sampledBy
-  heard-queued s h = go (eqb (h .cmd) ack)
-    where
-      passed : Sending
-      passed = acknowledged (by.Una (h .una)) (withWindow (h .wnd) s)
-
-      go : (b : Bool) → cond b (acknowledged (by.Ack (h .sn)) (sampledBy c current (h .ts) passed)) passed .queued ≡ s .queued
-      go true = refl
-      go false = refl
 
 -- ---- how many segments are held
 
@@ -169,7 +112,7 @@ module _ (c : Settings) (current : ℕ) where
         held-parts s′,
         ap length (heard-outstanding c current s (g .header)),
         ap length (heard-queued c current s (g .header)),
-        select-count (acknowledges (g .header)) (s .outstanding),
+        select-count (λ (x : Sent). acknowledges (s .next) (g .header) (x .record .number)) (s .outstanding),
       )
 
 skipped-held : (s : Sending) (n : ℕ) → held (skipped s n) ≡ held s

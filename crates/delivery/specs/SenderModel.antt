@@ -82,7 +82,7 @@ module _ (P : Sent → Type 0) (skips : (n : ℕ) (x : Sent) → P x → P (skip
   keeps-acknowledged : (arrival : Acknowledges) (s : Sending) → Keeps s (acknowledged arrival s)
   unfolding acknowledged
   keeps-acknowledged arrival s =
-      record { next = refl; queued = refl; sent = all-select (λ (x : Sent). not (acknowledging.acknowledged arrival (x .record .number))) P (s .outstanding) }
+      record { next = refl; queued = refl; sent = all-select (λ (x : Sent). not (acknowledging.acknowledged (s .next) arrival (x .record .number))) P (s .outstanding) }
 
   keeps-sampled : (c : Settings) (current ts : ℕ) (s : Sending) → Keeps s (sampledBy c current ts s)
   unfolding sampledBy

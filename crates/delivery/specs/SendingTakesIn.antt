@@ -52,7 +52,7 @@ module _ (c : Settings) where
   }
     where
       stays : Sent → Bool
-      stays x = not (acknowledging.acknowledged arrival (x .record .number))
+      stays x = not (acknowledging.acknowledged (s .next) arrival (x .record .number))
 
       left : All (SentWell (c .mode)) (select stays (s .outstanding))
       left = all-select stays (SentWell (c .mode)) (s .outstanding) (h .sent)

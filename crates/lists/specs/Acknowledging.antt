@@ -1,6 +1,6 @@
 -- Outstanding segments: which are acknowledged, and which are skipped. Definitions.
 -- Assumes nothing.
-use mathlib.Core.Bool.{Bool, cond, not}
+use mathlib.Core.Bool.{Bool, cond, not, _&&_}
 use mathlib.Core.List.{List, [], _∷_}
 use Prim.Native.Nat.{ℕ}
 use lib.Dec.{eqb}
@@ -10,10 +10,11 @@ use Rattle.lists.specs.declared.Sent.{Sent}
 use Rattle.lists.specs.declared.Acknowledges.{Acknowledges}
 use Rattle.lists.specs.declared.Acknowledges.the-variants.{Una, Ack}
 
--- una acknowledges every number that it is after, an ack the number that it names
-abbrev pub acknowledged : Acknowledges → ℕ → Bool
-acknowledged (Una una) n = isAfter una n
-acknowledged (Ack sn) n = eqb n sn
+-- the rule, for every use: with snd_nxt as it is, a una acknowledges every number that it is after, unless it is after snd_nxt; an
+-- ack acknowledges the number that it names
+abbrev pub acknowledged : ℕ → Acknowledges → ℕ → Bool
+acknowledged next (Una una) n = not (isAfter una next) && isAfter una n
+acknowledged next (Ack sn) n = eqb n sn
 
 -- the entries that pass a test
 unfoldable pub select : {A : Type 0} → (A → Bool) → List A → List A
@@ -25,8 +26,8 @@ abbrev pub keep : (ℕ → Bool) → List Sent → List Sent
 keep test = select (λ s. test (s .record .number))
 
 -- the segments that an arrival does not acknowledge
-abbrev pub removed : Acknowledges → List Sent → List Sent
-removed arrival = keep (λ n. not (acknowledged arrival n))
+abbrev pub removed : ℕ → Acknowledges → List Sent → List Sent
+removed next arrival = keep (λ n. not (acknowledged next arrival n))
 
 -- the first number, else another one
 unfoldable pub firstNumberOr : List Sent → ℕ → ℕ

@@ -5,5 +5,6 @@ pub mod Receiving
 pub mod ReceivingLaws
 pub mod Acknowledging
 pub mod AcknowledgingLaws
+pub mod UnaEdges
 pub mod Joining
 pub mod JoiningLaws

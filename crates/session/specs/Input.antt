@@ -22,16 +22,17 @@ use Rattle.lists.specs.declared.Acknowledges.the-variants as by
 use Rattle.lists.specs.Orders.{waitingOffset, isHeld, insert}
 use Rattle.lists.specs.Receiving.{advance}
 use Rattle.lists.specs.Acknowledging.{removed, firstNumberOr, skipBefore}
+use Rattle.lists.specs.Acknowledging as rule
 use Rattle.session.specs.Slots.{lowestFree}
 use Rattle.session.specs.State.{State, Sending, Receiving, Ack, Outcome, receiveHeld, slots}
 
 -- ---- the sending half
 
--- una removes every outstanding segment that it is after, an ack the segment that it names (`removed`); after this, snd_una
--- becomes the first outstanding number, else snd_nxt
+-- una removes every outstanding segment that it is after, unless it is after snd_nxt; an ack the segment that it names (`removed`);
+-- after this, snd_una becomes the first outstanding number, else snd_nxt
 unfoldable pub acknowledged : Acknowledges → Sending → Sending
 acknowledged arrival s =
-    let left = removed arrival (s .outstanding) in
+    let left = removed (s .next) arrival (s .outstanding) in
     record { una = firstNumberOr left (s .next); next = s .next; queued = s .queued; outstanding = left; window = s .window; roundTrip = s .roundTrip }
 
 -- the segment's window is the peer's last window
@@ -49,6 +50,10 @@ sampledBy c current ts s =
       window = s .window;
       roundTrip = cond (isDue current ts) (sampled (s .roundTrip) c (minus current ts)) (s .roundTrip);
     }
+
+-- whether a segment acknowledges the number n, by its una or, if it is an ack, by its sn
+abbrev pub acknowledges : ℕ → Header → ℕ → Bool
+acknowledges next h n = rule.acknowledged next (by.Una (h .una)) n || eqb (h .cmd) ack && rule.acknowledged next (by.Ack (h .sn)) n
 
 -- each segment: take its window; una removes; then an ack: the sample, and the segment sn is removed
 unfoldable pub heardBySending : Settings → ℕ → Sending → Header → Sending

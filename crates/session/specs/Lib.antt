@@ -11,6 +11,7 @@ pub mod Opening
 pub mod Cutting
 pub mod Sending
 pub mod Flushing
+pub mod HeardLaws
 pub mod Input
 pub mod Reading
 pub mod Calls

@@ -4,7 +4,7 @@ use mathlib.Core.Path.{_≡_, refl}
 use mathlib.Core.Bool.{Bool, true, false, cond}
 use mathlib.Core.List.{List, [], _∷_, _++_, map}
 use Prim.Native.Nat.{ℕ}
-use lib.ListN.{length, replicate}
+use lib.ListN.{length, replicate, take}
 use Rattle.protocol.specs.Protocol.{push, ack, acksMost}
 use Rattle.protocol.specs.Serial.{signed, isBefore, isAfter, isDue}
 use Rattle.protocol.specs.declared.Settings.{Settings}
@@ -21,7 +21,7 @@ use Rattle.lists.specs.Acknowledging.{select, firstNumberOr, skipBefore}
 use Rattle.session.specs.Slots.{occurs, lowestFrom, lowestFree}
 use Rattle.session.specs.State.{Sending, Receiving, Outcome}
 use Rattle.session.specs.Opening.{opened}
-use Rattle.session.specs.Input.{Receiver, acknowledged, sampledBy, heardBySending, allBySending, ackNumbers, furthest, skipped, skippedByAll, pushed, input}
+use Rattle.session.specs.Input.{Receiver, Took, acknowledged, applied, allByReceiving, heardByReceiving, sampledBy, heardBySending, allBySending, ackNumbers, furthest, skipped, skippedByAll, pushed, input}
 
 abbrev small : Settings
 small = record { conv = 1; mtu = 50; interval = 100; mode = 0; threshold = 0 }
@@ -77,6 +77,31 @@ skipsAfter l = map (λ (x : Sent). x .record .skips) (afterAcks four l .outstand
 pub skips : (skipsAfter ((1 ∷ 2 ∷ []) ∷ []) ≡ 1 ∷ 0 ∷ []) × (skipsAfter ((1 ∷ []) ∷ (2 ∷ []) ∷ []) ≡ 2 ∷ 0 ∷ [])
 unfolding afterAcks acknowledged sampledBy heardBySending allBySending ackNumbers furthest skipped select firstNumberOr skipBefore signed isBefore isAfter isDue sampled nextSmoothed nextVariation leastTimeout timeoutOf opened
 skips = (refl, refl)
+
+-- ---- a peer that acknowledges what was never sent
+
+-- four are outstanding, and a push comes with una 900 and window 7
+unfoldable pub afterAhead : Took
+afterAhead =
+    let g : Segment = record {
+      header = record { conv = 1; cmd = push; frg = 0; wnd = 7; ts = 5; sn = 0; una = 900; len = 2 };
+      payload = 104 ∷ 105 ∷ [];
+    } in
+    let s = opened small in
+    applied
+    (record { settings = small; sending = four; receiving = s .receiving; probe = s .probe; current = 0; ask = false; dead = false })
+    (replicate 52 0) (g ∷ [])
+
+-- nothing is removed
+pub none-removed : (map (λ (x : Sent). x .record .number) (afterAhead .state .sending .outstanding) ≡ 0 ∷ 1 ∷ 2 ∷ 3 ∷ []) × (afterAhead .state .sending .una ≡ 0)
+unfolding afterAhead applied acknowledged heardBySending allBySending ackNumbers opened select firstNumberOr signed isAfter
+none-removed = (refl, refl)
+
+-- the rest is taken as ever: its window, its payload, and the ack for it
+pub rest-taken : (afterAhead .state .sending .window ≡ 7) × (take 2 (afterAhead .pool) ≡ 104 ∷ 105 ∷ [])
+    × (length (afterAhead .state .receiving .ready) ≡ 1) × (afterAhead .state .receiving .acks ≡ record { sn = 0; ts = 5 } ∷ [])
+unfolding afterAhead applied heardBySending allBySending allByReceiving heardByReceiving ackNumbers opened acknowledged pushed insert isHeld advance lowestFree lowestFrom occurs signed isBefore isAfter select
+rest-taken = (refl, refl, refl, refl)
 
 -- ---- refusing data when the ack list is full
 

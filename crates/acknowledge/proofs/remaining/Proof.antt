@@ -13,14 +13,14 @@ use Rattle.acknowledge.proofs.remaining.Statement.{statement}
 use Rattle.acknowledge.proofs.remaining.Tie as tie
 
 abbrev Inv-loop : tie.InvT-loop
-Inv-loop words₀ transmissions₀ n h rs₀ i₀ j₀ words transmissions rs i j =
+Inv-loop words₀ transmissions₀ n next h rs₀ i₀ j₀ words transmissions rs i j =
     (length words ≡ 32)
     × (length transmissions ≡ 32)
-    × Packed 32 n (beside words₀ transmissions₀ rs₀) (beside words transmissions rs) (keep (staysBy h) (drop i (take n (beside words₀ transmissions₀ rs₀))))
-    (keep (staysBy h) (take n (beside words₀ transmissions₀ rs₀))) i j
+    × Packed 32 n (beside words₀ transmissions₀ rs₀) (beside words transmissions rs) (keep (staysBy next h) (drop i (take n (beside words₀ transmissions₀ rs₀))))
+    (keep (staysBy next h) (take n (beside words₀ transmissions₀ rs₀))) i j
 
 abbrev μ-loop : tie.MeasureT-loop
-μ-loop words₀ transmissions₀ n h rs₀ i₀ j₀ words transmissions rs i j = n - i
+μ-loop words₀ transmissions₀ n next h rs₀ i₀ j₀ words transmissions rs i j = n - i
 
 loop-holds : tie.Need-loop-holds Inv-loop μ-loop
 loop-holds c =
