@@ -48,10 +48,14 @@ use Rattle.control.proofs.Clock.Laws as clock-laws
 use Rattle.answers.specs.declared.Count.{Count}
 use Rattle.answers.proofs.Count as count-row
 use Rattle.answers.proofs.Count.Laws as count-laws
+use mathlib.Core.Bool.{Bool}
+use denote.Plain.{Boolean, bool-lawful, bool-makes}
 use lib.ListN.{take}
 use Rattle.protocol.specs.Protocol.{sendSlots}
 use Rattle.records.specs.Tables.{slotsIn, gathered, padded}
-use Rattle.control.specs.Views.{Whole, arrays}
+use Rattle.control.specs.Views.{Whole, arrays, linkOf}
+use Rattle.checking.specs.Tests.{flightFits}
+use Rattle.checking.specs.Verdicts.{Flies, ByFlown}
 use Rattle.promises.specs.Parts.{lentLengths, partsOf}
 use Rattle.promises.specs.Answers.{countOutcome}
 use Rattle.promises.specs.Outcomes.{tellsWith}
@@ -59,14 +63,11 @@ use Rattle.promises.specs.Promises.{SizePromise}
 use Rattle.codes.specs.Codes.{countCode}
 use Rattle.codes.specs.Gives.{Gives}
 use Rattle.codes.proofs.Told.{told}
-use Rattle.from_cores.proofs.Gathered.{gathers}
+use Rattle.from_cores.proofs.Gathered.{gathers, padded-whole}
 use Rattle.from_cores.proofs.Asking.{size-promised}
-use Rattle.results.proofs.outstanding_count as count-of
-use Rattle.results.proofs.outstanding_count.Symbol as count-of-def
-use Rattle.results.proofs.outstanding_count.Met as count-of-thm
-use Rattle.gathering.proofs.gather as gather
-use Rattle.gathering.proofs.gather.Symbol as gather-def
-use Rattle.gathering.proofs.gather.Met as gather-thm
+use Rattle.gathering.proofs.fit as fit
+use Rattle.gathering.proofs.fit.Symbol as fit-def
+use Rattle.gathering.proofs.fit.Met as fit-thm
 use Rattle.records.proofs.table_len as table-len
 use Rattle.records.proofs.table_len.Symbol as table-len-def
 use Rattle.records.proofs.table_len.Met as table-len-thm
@@ -87,8 +88,7 @@ stayed = (stay-dropped _ yes, (stay-dropped _ yes, (stay-dropped _ yes, (stay-dr
 module _ {M : Type 1} (𝓤 : URA M) (H : Heap 𝓤) (A : Atoms 𝓤) (W : Given 𝓤 H A) (at-mem : Memory → SProp 𝓤) (run : Routine → Fun 𝓤) where
   -- what is known of the callees
   abbrev Known : Calls 𝓤 H → Type 1
-  Known C = Triple 𝓤 (C count-of-def.name) (tripleOf 𝓤 H A count-of.signature (count-of.spec 𝓤 H A at-mem run))
-      × Triple 𝓤 (C gather-def.name) (tripleOf 𝓤 H A gather.signature (gather.spec 𝓤 H A at-mem run))
+  Known C = Triple 𝓤 (C fit-def.name) (tripleOf 𝓤 H A fit.signature (fit.spec 𝓤 H A at-mem run))
       × Triple 𝓤 (C table-len-def.name) (tripleOf 𝓤 H A table-len.signature (table-len.spec 𝓤 H A at-mem run))
       × Triple 𝓤 (C core-def.name) (tripleOf 𝓤 H A core.signature (core.spec 𝓤 H A at-mem run))
       × Triple 𝓤 (C code-of-def.name) (tripleOf 𝓤 H A code-of.signature (code-of.spec 𝓤 H A at-mem run))
@@ -127,9 +127,9 @@ module _ {M : Type 1} (𝓤 : URA M) (H : Heap 𝓤) (A : Atoms 𝓤) (W : Given
     unfoldable Post : Val → SProp 𝓤
     Post = walkOf 𝓤 H A f.ended stayed (f.clauses 𝓤 H A at-mem run) .post (((κ₀, (κ₁, (κ₂, (κ₃, (κ₄, tt))))), (q₀, (q₁, (q₂, (q₃, (q₄, tt))))), tt, x, at), tt)
 
-    -- what gather is called at, and that what it asks is had
-    abbrev to-gather : (y₀ : (List ℕ)) (u₀ : Val) (y₁ : ℕ) (u₁ : Val) → tripleOf 𝓤 H A gather.signature (gather.spec 𝓤 H A at-mem run) .Ghost
-    to-gather y₀ u₀ y₁ u₁ = (((κ₃, tt), (q₃, tt), tt, (x₃, (y₀, (y₁, tt))), (s₃ ∷ [], (u₀ ∷ [], (u₁ ∷ [], tt)))), tt)
+    -- what fit is called at, and that what it asks is had
+    abbrev to-fit : (y₀ : (List ℕ)) (u₀ : Val) (y₁ : Settings) (u₁ : Val) (y₂ : Flight) (u₂ : Val) → tripleOf 𝓤 H A fit.signature (fit.spec 𝓤 H A at-mem run) .Ghost
+    to-fit y₀ u₀ y₁ u₁ y₂ u₂ = (((κ₃, tt), (q₃, tt), tt, (x₃, (y₀, (y₁, (y₂, tt)))), (s₃ ∷ [], (u₀ ∷ [], (u₁ ∷ [], (u₂ ∷ [], tt))))), tt)
 
     asks-gather : (y₀ : (List ℕ)) (u₀ : Val) → Is (Array u32 32) y₀ (u₀ ∷ []) → (y₁ : ℕ) (u₁ : Val) → Is usize y₁ (u₁ ∷ []) → ent 𝓤 (⋆ 𝓤 H A (‵ (flft κ₃ q₃) ∷ ‵ Own₃ ∷ [])) (tripleOf 𝓤 H A gather.signature (gather.spec 𝓤 H A at-mem run) .pre (to-gather y₀ u₀ y₁ u₁))
     asks-gather  y₀ u₀ is₀ y₁ u₁ is₁  =
@@ -166,12 +166,12 @@ module _ {M : Type 1} (𝓤 : URA M) (H : Heap 𝓤) (A : Atoms 𝓤) (W : Given
 
     module _ (C : Calls 𝓤 H) (Λ : Loops 𝓤 H) (fm : FmC 𝓤 H (W .laws) C) (known : Known C) where
       -- where the locals lie
-      abbrev En : (l₀ l₁ l₂ l₃ l₄ l₅ l₆ l₇ l₈ l₉ l₁₀ l₁₁ l₁₂ l₁₃ l₁₄ l₁₅ l₁₆ l₁₇ l₁₈ l₁₉ l₂₀ : ℕ) → Env 𝓤 H
-      En l₀ l₁ l₂ l₃ l₄ l₅ l₆ l₇ l₈ l₉ l₁₀ l₁₁ l₁₂ l₁₃ l₁₄ l₁₅ l₁₆ l₁₇ l₁₈ l₁₉ l₂₀ = envOf (code.function .locals) (l₀ ∷ l₁ ∷ l₂ ∷ l₃ ∷ l₄ ∷ l₅ ∷ l₆ ∷ l₇ ∷ l₈ ∷ l₉ ∷ l₁₀ ∷ l₁₁ ∷ l₁₂ ∷ l₁₃ ∷ l₁₄ ∷ l₁₅ ∷ l₁₆ ∷ l₁₇ ∷ l₁₈ ∷ l₁₉ ∷ l₂₀ ∷ [])
+      abbrev En : (l₀ l₁ l₂ l₃ l₄ l₅ l₆ l₇ l₈ l₉ l₁₀ l₁₁ l₁₂ l₁₃ l₁₄ l₁₅ l₁₆ l₁₇ l₁₈ l₁₉ : ℕ) → Env 𝓤 H
+      En l₀ l₁ l₂ l₃ l₄ l₅ l₆ l₇ l₈ l₉ l₁₀ l₁₁ l₁₂ l₁₃ l₁₄ l₁₅ l₁₆ l₁₇ l₁₈ l₁₉ = envOf (code.function .locals) (l₀ ∷ l₁ ∷ l₂ ∷ l₃ ∷ l₄ ∷ l₅ ∷ l₆ ∷ l₇ ∷ l₈ ∷ l₉ ∷ l₁₀ ∷ l₁₁ ∷ l₁₂ ∷ l₁₃ ∷ l₁₄ ∷ l₁₅ ∷ l₁₆ ∷ l₁₇ ∷ l₁₈ ∷ l₁₉ ∷ [])
 
       -- what part 2 knows
       abbrev Known₂ : Type 0
-      Known₂ = (l₀ : ℕ) × (l₁ : ℕ) × (l₂ : ℕ) × (l₃ : ℕ) × (l₄ : ℕ) × (l₅ : ℕ) × (l₆ : ℕ) × (l₇ : ℕ) × (l₈ : ℕ) × (l₉ : ℕ) × (l₁₀ : ℕ) × (l₁₁ : ℕ) × (l₁₂ : ℕ) × (l₁₃ : ℕ) × (l₁₄ : ℕ) × (l₁₅ : ℕ) × (l₁₆ : ℕ) × (l₁₇ : ℕ) × (l₁₈ : ℕ) × (l₁₉ : ℕ) × (l₂₀ : ℕ) × (q′ : Share) × (n : ℕ) × (w-n : Val) × (e-n : n ≡ h .flight .outstanding) × (recs : (List Record)) × (w-recs : Val) × (e-recs : recs ≡ padded (gathered (take sendSlots (x₃ .now)) (slotsIn (h .outstanding) n))) × (m : ℕ) × (w-m : Val) × (e-m : m ≡ length (x₃ .now)) × (a : Count) × (w-a : Val) × (e-a : countOutcome a ≡ tellsWith h recs (x₄ .now) (lentLengths m (x₁ .now) (x₂ .now) (x₄ .now))) × (Is count-row.the-row a (w-a ∷ []))
+      Known₂ = (l₀ : ℕ) × (l₁ : ℕ) × (l₂ : ℕ) × (l₃ : ℕ) × (l₄ : ℕ) × (l₅ : ℕ) × (l₆ : ℕ) × (l₇ : ℕ) × (l₈ : ℕ) × (l₉ : ℕ) × (l₁₀ : ℕ) × (l₁₁ : ℕ) × (l₁₂ : ℕ) × (l₁₃ : ℕ) × (l₁₄ : ℕ) × (l₁₅ : ℕ) × (l₁₆ : ℕ) × (l₁₇ : ℕ) × (l₁₈ : ℕ) × (l₁₉ : ℕ) × (q′ : Share) × (fl : Bool) × (w-fl : Val) × (e-fl : fl ≡ flightFits (h .settings .mode) (h .flight .una) (h .flight .next) (take (h .flight .outstanding) (padded (gathered (take sendSlots (x₃ .now)) (slotsIn (h .outstanding) (h .flight .outstanding)))))) × (m : ℕ) × (w-m : Val) × (e-m : m ≡ length (x₃ .now)) × (a : Count) × (w-a : Val) × (e-a : ByFlown h fl (λ recs. countOutcome a ≡ tellsWith h recs (x₄ .now) (lentLengths m (x₁ .now) (x₂ .now) (x₄ .now)))) × (Is count-row.the-row a (w-a ∷ []))
 
       part₂ : (past : Known₂) → ent 𝓤 (⋆ 𝓤 H A (‵ (partAt (Array u32 128) (past .21) (h .«waiting_numbers») b (o + 1820)) ∷ ‵ (partAt (Array u32 128) (past .21) (h .waiting) b (o + 1308)) ∷ ‵ (partAt (Array u32 128) (past .21) (h .ready) b (o + 796)) ∷ ‵ (partAt (Array u8 32) (past .21) (h .transmissions) b (o + 764)) ∷ ‵ (partAt (Array u32 32) (past .21) (h .outstanding) b (o + 636)) ∷ ‵ (partAt (Array u32 128) (past .21) (h .queued) b (o + 124)) ∷ ‵ (flft κ₁ q₁) ∷ ‵ (flft κ₂ q₂) ∷ ‵ (flft κ₄ q₄) ∷ ‵ (flft κ₃ q₃) ∷ ‵ (partAt clock-row.the-row (past .21) (h .clock) b (o + 104)) ∷ ‵ (partAt arrival-row.the-row (past .21) (h .arrival) b (o + 72)) ∷ ‵ (partAt flight-row.the-row (past .21) (h .flight) b (o + 16)) ∷ ‵ (partAt settings-row.the-row (past .21) (h .settings) b (o + 0)) ∷ raw (Back 𝓤 H A (past .21) b o) ∷ ‵ (fobor κ₀ q₀ (partAt L (past .21) h b o)) ∷ (‵ (fdies (tyInt w32) (past .0)) ⊛ ‵ (fdies (tyRef (named 0) imm (pointee (L .written))) (past .1)) ⊛ ‵ (fdies (sliceTy (tyRef (named 1) imm (tyInt w8))) (past .2)) ⊛ ‵ (fdies (sliceTy (tyRef (named 2) imm (tyInt w8))) (past .3)) ⊛ ‵ (fdies (sliceTy (tyRef (named 3) imm (pointee (R .written)))) (past .4)) ⊛ ‵ (fdies (sliceTy (tyRef (named 4) imm (tyInt w32))) (past .5)) ⊛ ‵ (fdies settings-laws.mir (past .6)) ⊛ ‵ (fdies flight-laws.mir (past .7)) ⊛ ‵ (fdies arrival-laws.mir (past .8)) ⊛ ‵ (fdies clock-laws.mir (past .9)) ⊛ ‵ (fdies (tyArray (tyInt w32) 32) (past .10)) ⊛ ‵ (fdies (tyInt w64) (past .11)) ⊛ ‵ (fdies (tyArray record-laws.mir 32) (past .12)) ⊛ ‵ (fdies (tyInt w64) (past .13)) ⊛ ‵ (fdies count-laws.mir (past .14)) ⊛ ‵ (fdies (tyRef erased imm (tyArray (tyInt w32) 128)) (past .15)) ⊛ ‵ (fdies (tyRef erased imm (tyArray (tyInt w32) 32)) (past .16)) ⊛ ‵ (fdies (tyRef erased imm (tyArray (tyInt w8) 32)) (past .17)) ⊛ ‵ (fdies (tyRef erased imm (tyArray (tyInt w32) 128)) (past .18)) ⊛ ‵ (fdies (tyRef erased imm (tyArray (tyInt w32) 128)) (past .19)) ⊛ ‵ (fdies (tyRef erased imm (tyArray (tyInt w32) 128)) (past .20))) ∷ ‵ (fat fullShare (tyRef erased imm (tyArray (tyInt w32) 128)) (past .20) 0 ((vptr b (o + 1820)))) ∷ ‵ (fat fullShare (tyRef erased imm (tyArray (tyInt w32) 128)) (past .19) 0 ((vptr b (o + 1308)))) ∷ ‵ (fat fullShare (tyRef erased imm (tyArray (tyInt w32) 128)) (past .18) 0 ((vptr b (o + 796)))) ∷ ‵ (fat fullShare (tyRef erased imm (tyArray (tyInt w8) 32)) (past .17) 0 ((vptr b (o + 764)))) ∷ ‵ (fat fullShare (tyRef erased imm (tyArray (tyInt w32) 32)) (past .16) 0 ((vptr b (o + 636)))) ∷ ‵ (fat fullShare (tyRef erased imm (tyArray (tyInt w32) 128)) (past .15) 0 ((vptr b (o + 124)))) ∷ ‵ (fat fullShare count-laws.mir (past .14) 0 ((past .32))) ∷ ‵ (fat fullShare (tyInt w64) (past .13) 0 ((past .29))) ∷ ‵ (fat fullShare (tyArray record-laws.mir 32) (past .12) 0 ((past .26))) ∷ ‵ (fat fullShare (tyInt w64) (past .11) 0 ((past .23))) ∷ ‵ (fat fullShare (tyArray (tyInt w32) 32) (past .10) 0 ((only ((array-vals (uint-vals w32)) (h .outstanding))))) ∷ ‵ (fat fullShare clock-laws.mir (past .9) 0 ((only ((LL.vals clock-row.the-type clock-laws.the-laws) (h .clock))))) ∷ ‵ (fat fullShare arrival-laws.mir (past .8) 0 ((only ((LL.vals arrival-row.the-type arrival-laws.the-laws) (h .arrival))))) ∷ ‵ (fat fullShare flight-laws.mir (past .7) 0 ((only ((LL.vals flight-row.the-type flight-laws.the-laws) (h .flight))))) ∷ ‵ (fat fullShare settings-laws.mir (past .6) 0 ((only ((LL.vals settings-row.the-type settings-laws.the-laws) (h .settings))))) ∷ ‵ (fat fullShare (sliceTy (tyRef (named 4) imm (tyInt w32))) (past .5) 0 (s₄)) ∷ ‵ (fat fullShare (sliceTy (tyRef (named 3) imm (pointee (R .written)))) (past .4) 0 (s₃)) ∷ ‵ (fat fullShare (sliceTy (tyRef (named 2) imm (tyInt w8))) (past .3) 0 (s₂)) ∷ ‵ (fat fullShare (sliceTy (tyRef (named 1) imm (tyInt w8))) (past .2) 0 (s₁)) ∷ ‵ (fat fullShare (tyRef (named 0) imm (pointee (L .written))) (past .1) 0 (vptr b o)) ∷ ‵ (froom (tyInt w32) (past .0) 0) ∷ [])) (Wp 𝓤 H C Λ (En (past .0) (past .1) (past .2) (past .3) (past .4) (past .5) (past .6) (past .7) (past .8) (past .9) (past .10) (past .11) (past .12) (past .13) (past .14) (past .15) (past .16) (past .17) (past .18) (past .19) (past .20)) (behind 15 (code.function .body)) (atReturn 𝓤 H (En (past .0) (past .1) (past .2) (past .3) (past .4) (past .5) (past .6) (past .7) (past .8) (past .9) (past .10) (past .11) (past .12) (past .13) (past .14) (past .15) (past .16) (past .17) (past .18) (past .19) (past .20)) Post))
       part₂ past =
@@ -187,7 +187,7 @@ module _ {M : Type 1} (𝓤 : URA M) (H : Heap 𝓤) (A : Atoms 𝓤) (W : Given
 
       -- what part 1 knows
       abbrev Known₁ : Type 0
-      Known₁ = (l₀ : ℕ) × (l₁ : ℕ) × (l₂ : ℕ) × (l₃ : ℕ) × (l₄ : ℕ) × (l₅ : ℕ) × (l₆ : ℕ) × (l₇ : ℕ) × (l₈ : ℕ) × (l₉ : ℕ) × (l₁₀ : ℕ) × (l₁₁ : ℕ) × (l₁₂ : ℕ) × (l₁₃ : ℕ) × (l₁₄ : ℕ) × (l₁₅ : ℕ) × (l₁₆ : ℕ) × (l₁₇ : ℕ) × (l₁₈ : ℕ) × (l₁₉ : ℕ) × (l₂₀ : ℕ) × (q′ : Share) × (len-queued : length (h .queued) ≡ 128) × (len-outstanding : length (h .outstanding) ≡ 32) × (len-transmissions : length (h .transmissions) ≡ 32) × (len-ready : length (h .ready) ≡ 128) × (len-waiting : length (h .waiting) ≡ 128) × (len-waiting-numbers : length (h .«waiting_numbers») ≡ 128) × (was-settings : Is settings-row.the-row (h .settings) ((LL.vals settings-row.the-type settings-laws.the-laws) (h .settings))) × (was-flight : Is flight-row.the-row (h .flight) ((LL.vals flight-row.the-type flight-laws.the-laws) (h .flight))) × (was-arrival : Is arrival-row.the-row (h .arrival) ((LL.vals arrival-row.the-type arrival-laws.the-laws) (h .arrival))) × (was-clock : Is clock-row.the-row (h .clock) ((LL.vals clock-row.the-type clock-laws.the-laws) (h .clock))) × (n : ℕ) × (w-n : Val) × (e-n : n ≡ h .flight .outstanding) × (recs : (List Record)) × (w-recs : Val) × (e-recs : recs ≡ padded (gathered (take sendSlots (x₃ .now)) (slotsIn (h .outstanding) n))) × (is-recs : Is Rs recs (w-recs ∷ [])) × (m : ℕ) × (w-m : Val) × (e-m : m ≡ length (x₃ .now)) × (Is usize m (w-m ∷ []))
+      Known₁ = (l₀ : ℕ) × (l₁ : ℕ) × (l₂ : ℕ) × (l₃ : ℕ) × (l₄ : ℕ) × (l₅ : ℕ) × (l₆ : ℕ) × (l₇ : ℕ) × (l₈ : ℕ) × (l₉ : ℕ) × (l₁₀ : ℕ) × (l₁₁ : ℕ) × (l₁₂ : ℕ) × (l₁₃ : ℕ) × (l₁₄ : ℕ) × (l₁₅ : ℕ) × (l₁₆ : ℕ) × (l₁₇ : ℕ) × (l₁₈ : ℕ) × (l₁₉ : ℕ) × (q′ : Share) × (len-queued : length (h .queued) ≡ 128) × (len-outstanding : length (h .outstanding) ≡ 32) × (len-transmissions : length (h .transmissions) ≡ 32) × (len-ready : length (h .ready) ≡ 128) × (len-waiting : length (h .waiting) ≡ 128) × (len-waiting-numbers : length (h .«waiting_numbers») ≡ 128) × (was-settings : Is settings-row.the-row (h .settings) ((LL.vals settings-row.the-type settings-laws.the-laws) (h .settings))) × (was-flight : Is flight-row.the-row (h .flight) ((LL.vals flight-row.the-type flight-laws.the-laws) (h .flight))) × (was-arrival : Is arrival-row.the-row (h .arrival) ((LL.vals arrival-row.the-type arrival-laws.the-laws) (h .arrival))) × (was-clock : Is clock-row.the-row (h .clock) ((LL.vals clock-row.the-type clock-laws.the-laws) (h .clock))) × (fl : Bool) × (w-fl : Val) × (e-fl : fl ≡ flightFits (h .settings .mode) (h .flight .una) (h .flight .next) (take (h .flight .outstanding) (padded (gathered (take sendSlots (x₃ .now)) (slotsIn (h .outstanding) (h .flight .outstanding)))))) × (is-fl : Is Boolean fl (w-fl ∷ [])) × (m : ℕ) × (w-m : Val) × (e-m : m ≡ length (x₃ .now)) × (Is usize m (w-m ∷ []))
 
       part₁ : (past : Known₁) → ent 𝓤 (⋆ 𝓤 H A (‵ (flft κ₃ q₃) ∷ ‵ (partAt (Array u32 32) (past .21) (h .outstanding) b (o + 636)) ∷ ‵ (partAt clock-row.the-row (past .21) (h .clock) b (o + 104)) ∷ ‵ (partAt arrival-row.the-row (past .21) (h .arrival) b (o + 72)) ∷ ‵ (partAt flight-row.the-row (past .21) (h .flight) b (o + 16)) ∷ ‵ (partAt settings-row.the-row (past .21) (h .settings) b (o + 0)) ∷ ‵ (partAt (Array u32 128) (past .21) (h .«waiting_numbers») b (o + 1820)) ∷ ‵ (partAt (Array u32 128) (past .21) (h .waiting) b (o + 1308)) ∷ ‵ (partAt (Array u32 128) (past .21) (h .ready) b (o + 796)) ∷ ‵ (partAt (Array u8 32) (past .21) (h .transmissions) b (o + 764)) ∷ ‵ (partAt (Array u32 128) (past .21) (h .queued) b (o + 124)) ∷ raw (Back 𝓤 H A (past .21) b o) ∷ ‵ (fobor κ₀ q₀ (partAt L (past .21) h b o)) ∷ (‵ (fdies (tyInt w32) (past .0)) ⊛ ‵ (fdies (tyRef (named 0) imm (pointee (L .written))) (past .1)) ⊛ ‵ (fdies (sliceTy (tyRef (named 1) imm (tyInt w8))) (past .2)) ⊛ ‵ (fdies (sliceTy (tyRef (named 2) imm (tyInt w8))) (past .3)) ⊛ ‵ (fdies (sliceTy (tyRef (named 3) imm (pointee (R .written)))) (past .4)) ⊛ ‵ (fdies (sliceTy (tyRef (named 4) imm (tyInt w32))) (past .5)) ⊛ ‵ (fdies settings-laws.mir (past .6)) ⊛ ‵ (fdies flight-laws.mir (past .7)) ⊛ ‵ (fdies arrival-laws.mir (past .8)) ⊛ ‵ (fdies clock-laws.mir (past .9)) ⊛ ‵ (fdies (tyArray (tyInt w32) 32) (past .10)) ⊛ ‵ (fdies (tyInt w64) (past .11)) ⊛ ‵ (fdies (tyArray record-laws.mir 32) (past .12)) ⊛ ‵ (fdies (tyInt w64) (past .13)) ⊛ ‵ (fdies count-laws.mir (past .14)) ⊛ ‵ (fdies (tyRef erased imm (tyArray (tyInt w32) 128)) (past .15)) ⊛ ‵ (fdies (tyRef erased imm (tyArray (tyInt w32) 32)) (past .16)) ⊛ ‵ (fdies (tyRef erased imm (tyArray (tyInt w8) 32)) (past .17)) ⊛ ‵ (fdies (tyRef erased imm (tyArray (tyInt w32) 128)) (past .18)) ⊛ ‵ (fdies (tyRef erased imm (tyArray (tyInt w32) 128)) (past .19)) ⊛ ‵ (fdies (tyRef erased imm (tyArray (tyInt w32) 128)) (past .20))) ∷ ‵ (flft κ₁ q₁) ∷ ‵ (flft κ₂ q₂) ∷ ‵ (flft κ₄ q₄) ∷ ‵ Own₁ ∷ ‵ Own₂ ∷ ‵ Own₄ ∷ ‵ (froom (tyRef erased imm (tyArray (tyInt w32) 128)) (past .20) 0) ∷ ‵ (froom (tyRef erased imm (tyArray (tyInt w32) 128)) (past .19) 0) ∷ ‵ (froom (tyRef erased imm (tyArray (tyInt w32) 128)) (past .18) 0) ∷ ‵ (froom (tyRef erased imm (tyArray (tyInt w8) 32)) (past .17) 0) ∷ ‵ (froom (tyRef erased imm (tyArray (tyInt w32) 32)) (past .16) 0) ∷ ‵ (froom (tyRef erased imm (tyArray (tyInt w32) 128)) (past .15) 0) ∷ ‵ (froom count-laws.mir (past .14) 0) ∷ ‵ (fat fullShare (tyInt w64) (past .13) 0 ((past .40))) ∷ ‵ (fat fullShare (tyArray record-laws.mir 32) (past .12) 0 ((past .36))) ∷ ‵ (fat fullShare (tyInt w64) (past .11) 0 ((past .33))) ∷ ‵ (fat fullShare (tyArray (tyInt w32) 32) (past .10) 0 ((only ((array-vals (uint-vals w32)) (h .outstanding))))) ∷ ‵ (fat fullShare clock-laws.mir (past .9) 0 ((only ((LL.vals clock-row.the-type clock-laws.the-laws) (h .clock))))) ∷ ‵ (fat fullShare arrival-laws.mir (past .8) 0 ((only ((LL.vals arrival-row.the-type arrival-laws.the-laws) (h .arrival))))) ∷ ‵ (fat fullShare flight-laws.mir (past .7) 0 ((only ((LL.vals flight-row.the-type flight-laws.the-laws) (h .flight))))) ∷ ‵ (fat fullShare settings-laws.mir (past .6) 0 ((only ((LL.vals settings-row.the-type settings-laws.the-laws) (h .settings))))) ∷ ‵ (fat fullShare (sliceTy (tyRef (named 4) imm (tyInt w32))) (past .5) 0 (s₄)) ∷ ‵ (fat fullShare (sliceTy (tyRef (named 3) imm (pointee (R .written)))) (past .4) 0 (s₃)) ∷ ‵ (fat fullShare (sliceTy (tyRef (named 2) imm (tyInt w8))) (past .3) 0 (s₂)) ∷ ‵ (fat fullShare (sliceTy (tyRef (named 1) imm (tyInt w8))) (past .2) 0 (s₁)) ∷ ‵ (fat fullShare (tyRef (named 0) imm (pointee (L .written))) (past .1) 0 (vptr b o)) ∷ ‵ (froom (tyInt w32) (past .0) 0) ∷ [])) (Wp 𝓤 H C Λ (En (past .0) (past .1) (past .2) (past .3) (past .4) (past .5) (past .6) (past .7) (past .8) (past .9) (past .10) (past .11) (past .12) (past .13) (past .14) (past .15) (past .16) (past .17) (past .18) (past .19) (past .20)) (behind 8 (code.function .body)) (atReturn 𝓤 H (En (past .0) (past .1) (past .2) (past .3) (past .4) (past .5) (past .6) (past .7) (past .8) (past .9) (past .10) (past .11) (past .12) (past .13) (past .14) (past .15) (past .16) (past .17) (past .18) (past .19) (past .20)) Post))
       part₁ past =
@@ -208,9 +208,9 @@ module _ {M : Type 1} (𝓤 : URA M) (H : Heap 𝓤) (A : Atoms 𝓤) (W : Given
       walk : ent 𝓤 (onEntry 𝓤 H A f.signature (κ₀, (κ₁, (κ₂, (κ₃, (κ₄, tt))))) (q₀, (q₁, (q₂, (q₃, (q₄, tt))))) x at) (WpFn 𝓤 H C Λ code.function (vptr b o ∷ s₁ ∷ s₂ ∷ s₃ ∷ s₄ ∷ []) Post)
       walk =
           qed W ((‵ (flft κ₀ q₀) ⊛ ‵ (flft κ₁ q₁) ⊛ ‵ (flft κ₂ q₂) ⊛ ‵ (flft κ₃ q₃) ⊛ ‵ (flft κ₄ q₄) ⊛ ‵ ftrue) ∷ ‵ (owns (ShrRef (named 0) κ₀ L ∷ ShrSlice (named 1) κ₁ u8 ∷ ShrSlice (named 2) κ₂ u8 ∷ ShrSlice (named 3) κ₃ R ∷ ShrSlice (named 4) κ₄ u32 ∷ []) x at) ∷ []) ∵ enter ! C Λ code.function (vptr b o ∷ s₁ ∷ s₂ ∷ s₃ ∷ s₄ ∷ []) _ $
-          alloc1 ! (λ l₀. alloc1 ! (λ l₁. alloc1 ! (λ l₂. alloc1 ! (λ l₃. alloc1 ! (λ l₄. alloc1 ! (λ l₅. alloc1 ! (λ l₆. alloc1 ! (λ l₇. alloc1 ! (λ l₈. alloc1 ! (λ l₉. alloc1 ! (λ l₁₀. alloc1 ! (λ l₁₁. alloc1 ! (λ l₁₂. alloc1 ! (λ l₁₃. alloc1 ! (λ l₁₄. alloc1 ! (λ l₁₅. alloc1 ! (λ l₁₆. alloc1 ! (λ l₁₇. alloc1 ! (λ l₁₈. alloc1 ! (λ l₁₉. alloc1 ! (λ l₂₀. alloc0 ! $ params1 ! $
-          pass1 ! (init ! 38 refl (tt, tt)) $ pass1 ! (init ! 36 refl (tt, (tt, (record { fits = room₁ .0 }, tt)))) $ pass1 ! (init ! 34 refl (tt, (tt, (record { fits = room₂ .0 }, tt)))) $ pass1 ! (init ! 32 refl (tt, (tt, (record { fits = room₃ .0 }, tt)))) $ pass1 ! (init ! 30 refl (tt, (tt, (record { fits = room₄ .0 }, tt)))) $ pass0 ! $
-          move ! (43 ∷ []) $ spread W (‵ (ShrRef (named 0) κ₀ L .own (ref-at b o γ h) (vptr b o ∷ []))) (‵ (ShrSlice (named 1) κ₁ u8 .own (x₁) (s₁ ∷ [])) ∷ ‵ (ShrSlice (named 2) κ₂ u8 .own (x₂) (s₂ ∷ [])) ∷ ‵ (ShrSlice (named 3) κ₃ R .own (x₃) (s₃ ∷ [])) ∷ ‵ (ShrSlice (named 4) κ₄ u32 .own (x₄) (s₄ ∷ [])) ∷ ‵ ftrue ∷ []) (id⊢ 𝓤 _) $ move ! (48 ∷ []) $ spread W (‵ (flft κ₀ q₀)) (‵ (flft κ₁ q₁) ∷ ‵ (flft κ₂ q₂) ∷ ‵ (flft κ₃ q₃) ∷ ‵ (flft κ₄ q₄) ∷ ‵ ftrue ∷ []) (id⊢ 𝓤 _) $ move ! (11 ∷ 5 ∷ []) $ drop ! $ drop ! $ move ! (51 ∷ 49 ∷ 47 ∷ 45 ∷ 43 ∷ 41 ∷ 39 ∷ 37 ∷ 35 ∷ 33 ∷ 31 ∷ 29 ∷ 27 ∷ 25 ∷ 23 ∷ 21 ∷ 19 ∷ 17 ∷ 15 ∷ 13 ∷ 11 ∷ []) $ group ! 21 $
+          alloc1 ! (λ l₀. alloc1 ! (λ l₁. alloc1 ! (λ l₂. alloc1 ! (λ l₃. alloc1 ! (λ l₄. alloc1 ! (λ l₅. alloc1 ! (λ l₆. alloc1 ! (λ l₇. alloc1 ! (λ l₈. alloc1 ! (λ l₉. alloc1 ! (λ l₁₀. alloc1 ! (λ l₁₁. alloc1 ! (λ l₁₂. alloc1 ! (λ l₁₃. alloc1 ! (λ l₁₄. alloc1 ! (λ l₁₅. alloc1 ! (λ l₁₆. alloc1 ! (λ l₁₇. alloc1 ! (λ l₁₈. alloc1 ! (λ l₁₉. alloc0 ! $ params1 ! $
+          pass1 ! (init ! 36 refl (tt, tt)) $ pass1 ! (init ! 34 refl (tt, (tt, (record { fits = room₁ .0 }, tt)))) $ pass1 ! (init ! 32 refl (tt, (tt, (record { fits = room₂ .0 }, tt)))) $ pass1 ! (init ! 30 refl (tt, (tt, (record { fits = room₃ .0 }, tt)))) $ pass1 ! (init ! 28 refl (tt, (tt, (record { fits = room₄ .0 }, tt)))) $ pass0 ! $
+          move ! (41 ∷ []) $ spread W (‵ (ShrRef (named 0) κ₀ L .own (ref-at b o γ h) (vptr b o ∷ []))) (‵ (ShrSlice (named 1) κ₁ u8 .own (x₁) (s₁ ∷ [])) ∷ ‵ (ShrSlice (named 2) κ₂ u8 .own (x₂) (s₂ ∷ [])) ∷ ‵ (ShrSlice (named 3) κ₃ R .own (x₃) (s₃ ∷ [])) ∷ ‵ (ShrSlice (named 4) κ₄ u32 .own (x₄) (s₄ ∷ [])) ∷ ‵ ftrue ∷ []) (id⊢ 𝓤 _) $ move ! (46 ∷ []) $ spread W (‵ (flft κ₀ q₀)) (‵ (flft κ₁ q₁) ∷ ‵ (flft κ₂ q₂) ∷ ‵ (flft κ₃ q₃) ∷ ‵ (flft κ₄ q₄) ∷ ‵ ftrue ∷ []) (id⊢ 𝓤 _) $ move ! (11 ∷ 5 ∷ []) $ drop ! $ drop ! $ move ! (49 ∷ 47 ∷ 45 ∷ 43 ∷ 41 ∷ 39 ∷ 37 ∷ 35 ∷ 33 ∷ 31 ∷ 29 ∷ 27 ∷ 25 ∷ 23 ∷ 21 ∷ 19 ∷ 17 ∷ 15 ∷ 13 ∷ 11 ∷ []) $ group ! 20 $
           -- [deaths; tok0; tok1; tok2; tok3; tok4; own0; own1; own2; own3; own4; the locals]
           move ! (6 ∷ 1 ∷ []) $ looks-link b o γ ! tt h (λ q′.
           -- [F:settings; F:flight; F:arrival; F:clock; F:queued; F:outstanding; F:transmissions; F:ready; F:waiting; F:«waiting_numbers»; back; opened; deaths; tok1; tok2; tok3; tok4; own1; own2; own3; own4; the locals]
@@ -237,7 +237,7 @@ module _ {M : Type 1} (𝓤 : URA M) (H : Heap 𝓤) (A : Atoms 𝓤) (W : Given
           (and-then ! (load ! (from ! (stop !)) (look ! 36 refl)) (no-more !)) (λ m w-m ws-m e-m is-m. land ! (from ! (stop !)) (init ! 28 refl (uint-lawful 𝓤 H A W w64 .typed m _ is-m .0)) $
           spread W (‵ (flft κ₃ q₃)) (‵ ftrue ∷ []) (id⊢ 𝓤 _) $ move ! (2 ∷ []) $ spread W (‵ ftrue) (‵ ftrue ∷ []) (id⊢ 𝓤 _) $ keep ! (2 ∷ 4 ∷ 5 ∷ 6 ∷ 7 ∷ 8 ∷ 9 ∷ 10 ∷ 11 ∷ 12 ∷ 13 ∷ 14 ∷ 15 ∷ 16 ∷ 17 ∷ 18 ∷ 19 ∷ 20 ∷ 21 ∷ 22 ∷ 23 ∷ 24 ∷ 25 ∷ 26 ∷ 27 ∷ 28 ∷ 29 ∷ 30 ∷ 31 ∷ 32 ∷ 33 ∷ 34 ∷ 35 ∷ 36 ∷ 37 ∷ 38 ∷ 39 ∷ 40 ∷ 41 ∷ 42 ∷ 43 ∷ []) $
           -- [tok3; F:outstanding; F:clock; F:arrival; F:flight; F:settings; F:«waiting_numbers»; F:waiting; F:ready; F:transmissions; F:queued; back; opened; deaths; tok1; tok2; tok4; own1; own2; own4; the locals]
-          by ! (part₁ (l₀, l₁, l₂, l₃, l₄, l₅, l₆, l₇, l₈, l₉, l₁₀, l₁₁, l₁₂, l₁₃, l₁₄, l₁₅, l₁₆, l₁₇, l₁₈, l₁₉, l₂₀, q′, len-queued, len-outstanding, len-transmissions, len-ready, len-waiting, len-waiting-numbers, was-settings, was-flight, was-arrival, was-clock, n, w-n, e-n, recs, w-recs, e-recs, is-recs, m, w-m, e-m, is-m))))))))))))))))))))))))))))))))))))))
+          by ! (part₁ (l₀, l₁, l₂, l₃, l₄, l₅, l₆, l₇, l₈, l₉, l₁₀, l₁₁, l₁₂, l₁₃, l₁₄, l₁₅, l₁₆, l₁₇, l₁₈, l₁₉, q′, len-queued, len-outstanding, len-transmissions, len-ready, len-waiting, len-waiting-numbers, was-settings, was-flight, was-arrival, was-clock, fl, w-fl, e-fl, is-fl, m, w-m, e-m, is-m))))))))))))))))))))))))))))))))))))
 
   f-meets : (𝓣 : Tables 𝓤 H) → Known (𝓣 .C) → Meets 𝓤 H A f.signature (WpFn 𝓤 H (𝓣 .C) (𝓣 .Λ) code.function) (f.spec 𝓤 H A at-mem run)
   unfolding Post
@@ -252,8 +252,7 @@ ampferweg-size-spec 𝓤 H 𝓜 𝓖 𝓡 =
     entered 𝓤 H (tripleOf 𝓤 H (𝓖 .A) f.signature (f.spec 𝓤 H (𝓖 .A) (𝓜 .mem) (𝓡 .run)))
     (tables 𝓤 H 𝓜 𝓡 code.env .C) (tables 𝓤 H 𝓜 𝓡 code.env .Λ) #f code.function (code.unfolded 𝓤 H 𝓜 𝓡)
     (f-meets 𝓤 H (𝓖 .A) (givenOf 𝓤 H 𝓜 𝓖) (𝓜 .mem) (𝓡 .run) (tablesOf 𝓤 H 𝓜 (tables 𝓤 H 𝓜 𝓡 code.env)) (
-      cited 𝓤 H (tripleOf 𝓤 H (𝓖 .A) count-of.signature (count-of.spec 𝓤 H (𝓖 .A) (𝓜 .mem) (𝓡 .run))) 𝓜 𝓡 code.env count-of-def.name count-of-def.routine code.calls-results·outstanding-count (count-of-thm.met 𝓤 H 𝓜 𝓖 𝓡),
-      cited 𝓤 H (tripleOf 𝓤 H (𝓖 .A) gather.signature (gather.spec 𝓤 H (𝓖 .A) (𝓜 .mem) (𝓡 .run))) 𝓜 𝓡 code.env gather-def.name gather-def.routine code.calls-gathering·gather (gather-thm.met 𝓤 H 𝓜 𝓖 𝓡),
+      cited 𝓤 H (tripleOf 𝓤 H (𝓖 .A) fit.signature (fit.spec 𝓤 H (𝓖 .A) (𝓜 .mem) (𝓡 .run))) 𝓜 𝓡 code.env fit-def.name fit-def.routine code.calls-gathering·fit (fit-thm.met 𝓤 H 𝓜 𝓖 𝓡),
       cited 𝓤 H (tripleOf 𝓤 H (𝓖 .A) table-len.signature (table-len.spec 𝓤 H (𝓖 .A) (𝓜 .mem) (𝓡 .run))) 𝓜 𝓡 code.env table-len-def.name table-len-def.routine code.calls-records·table-len (table-len-thm.met 𝓤 H 𝓜 𝓖 𝓡),
       cited 𝓤 H (tripleOf 𝓤 H (𝓖 .A) core.signature (core.spec 𝓤 H (𝓖 .A) (𝓜 .mem) (𝓡 .run))) 𝓜 𝓡 code.env core-def.name core-def.routine code.calls-read-core·size (core-thm.met 𝓤 H 𝓜 𝓖 𝓡),
       cited 𝓤 H (tripleOf 𝓤 H (𝓖 .A) code-of.signature (code-of.spec 𝓤 H (𝓖 .A) (𝓜 .mem) (𝓡 .run))) 𝓜 𝓡 code.env code-of-def.name code-of-def.routine code.calls-codes·count-code (code-of-thm.met 𝓤 H 𝓜 𝓖 𝓡),
