@@ -1,50 +1,92 @@
-# The C side: the archive, its installation, and the programs that try it. `.ci/run` is the gate of the proofs.
+# The C side: the archives, their installation, releases, and the programs that try them. `.ci/run` is the gate of the proofs.
 #
 #   make                    prove link, tags and parity and write their archives below target/staticlib (needs the Rattle kit's rt)
-#   make install            headers, archives and pkg-config file below PREFIX (default /usr/local; DESTDIR is put before it)
+#   make archive TARGET=T   the same for a board, below target/boards/T (boards/targets.txt, docs/BOARDS.md); FLAGS go to the compiler
+#   make install            headers, archives, files for pkg-config and CMake below PREFIX (default /usr/local; DESTDIR is put before it);
+#                           with TARGET=T those of a board. Proves nothing where the archives are there
+#   make dist               a release for every target below target/dist, usable without the kit (dist/make.sh);
+#                           VERDICT='N passed, 0 failed' where the gate has not run here
+#   make dist-check         unpacks the releases, builds against them without the kit and runs what was built
 #   make test               the C checks (tests/host)
 #   make demo               two stations on loopback over a bad network (examples/udp)
 #   make test-examples      the stations' options, endings and restarts, by scripts (examples/udp)
+#   make bare               two links on a Cortex-M4 without an operating system, under QEMU (examples/bare)
+#   make dissector-check    the Wireshark dissector, by tshark (examples/wireshark)
+#   make boards             every board's archives, made and tried under QEMU, and the figures of docs/BOARDS.md (boards)
 #   make bench              the workloads beside kcp-go's core, and docs/PERFORMANCE.md (bench)
 #   make interop            a station against kcp-go (tests/interop; installs Debian packages)
 #
-# ARCHIVE names another archive to install or to try.
+# ARCHIVE names another archive to install or to try, as that of a release.
 
 PREFIX = /usr/local
 DESTDIR =
 RT = rt
-ARCHIVE = target/staticlib/libampferweg.a
-TAGS = target/staticlib/libampferweg_tags.a
-PARITY = target/staticlib/libampferweg_parity.a
+TARGET = x86_64-linux
+FLAGS =
+VERDICT =
+FOLDER = $(if $(filter x86_64-linux,$(TARGET)),target/staticlib,target/boards/$(TARGET))
+ARCHIVE = $(FOLDER)/libampferweg.a
+TAGS = $(dir $(ARCHIVE))libampferweg_tags.a
+PARITY = $(dir $(ARCHIVE))libampferweg_parity.a
+ARCHIVES = $(ARCHIVE) $(TAGS) $(PARITY)
+NAMES = ampferweg ampferweg_tags ampferweg_parity
+TARGETS := $(shell sed -n 's/^\([a-z0-9_-]*\) *|.*/\1/p' boards/targets.txt)
 VERSION := $(shell sed -n 's/^\#define AMPFERWEG_VERSION "\(.*\)"$$/\1/p' include/ampferweg.h)
 SOURCES := $(shell find crates crates.txt -name '*.rt' -o -name '*.antt' -o -name crates.txt)
+RELEASES = $(TARGETS:%=target/dist/ampferweg-$(VERSION)-%.tar.gz)
+MODULES = $(NAMES:%=target/module/%.bc)
+BOARDS = $(foreach target,$(filter-out x86_64-linux,$(TARGETS)),$(NAMES:%=target/boards/$(target)/lib%.a))
 
-all: $(ARCHIVE) $(TAGS) $(PARITY)
+all: $(ARCHIVES)
 
-target/staticlib/libampferweg.a: $(SOURCES)
-	$(RT) staticlib ampferweg
+# What is written by the kit needs the kit.
+define kit
+@command -v $(RT) >/dev/null || { printf '%s\n' \
+    "make: $@ is proved and compiled by the Rattle kit, and there is no '$(RT)' on the PATH (README.md, 'The kit')." \
+    "Without the kit: unpack a release, ampferweg-$(VERSION)-TARGET.tar.gz, which needs no building, or try its archive from here:" \
+    "    make demo ARCHIVE=FOLDER/lib/libampferweg.a" >&2; exit 2; }
+endef
 
-target/staticlib/libampferweg_tags.a: $(SOURCES)
-	$(RT) staticlib ampferweg_tags
+$(NAMES:%=target/staticlib/lib%.a): target/staticlib/lib%.a: $(SOURCES)
+	$(kit)
+	$(RT) staticlib $*
 
-target/staticlib/libampferweg_parity.a: $(SOURCES)
-	$(RT) staticlib ampferweg_parity
+target/module/%.bc: $(SOURCES)
+	$(kit)
+	RT=$(RT) boards/module.sh $*
 
-install: $(ARCHIVE) $(TAGS) $(PARITY)
-	install -d $(DESTDIR)$(PREFIX)/include $(DESTDIR)$(PREFIX)/lib/pkgconfig
-	install -m 644 include/ampferweg.h include/ampferweg_tags.h include/ampferweg_parity.h $(DESTDIR)$(PREFIX)/include
-	install -m 644 $(ARCHIVE) $(DESTDIR)$(PREFIX)/lib/libampferweg.a
-	install -m 644 $(TAGS) $(DESTDIR)$(PREFIX)/lib/libampferweg_tags.a
-	install -m 644 $(PARITY) $(DESTDIR)$(PREFIX)/lib/libampferweg_parity.a
-	sed -e 's|@PREFIX@|$(PREFIX)|' -e 's|@VERSION@|$(VERSION)|' ampferweg.pc.in >$(DESTDIR)$(PREFIX)/lib/pkgconfig/ampferweg.pc
+target/bin/lister target/bin/replay: target/bin/%: $(SOURCES)
+	$(kit)
+	$(RT) check $*
+	touch $@
+
+archive: $(MODULES)
+	boards/archive.py $(TARGET) $(FLAGS)
+
+target/boards/%/libampferweg.a target/boards/%/libampferweg_tags.a target/boards/%/libampferweg_parity.a: $(MODULES) \
+    $(NAMES:%=include/%.h) boards/targets.txt boards/archive.py
+	boards/archive.py $*
+
+# An archive that is there is installed as it is.
+install: $(filter-out $(wildcard $(ARCHIVES)),$(ARCHIVES))
+	dist/install.sh $(DESTDIR)$(PREFIX) $(PREFIX) $(VERSION) $(ARCHIVES)
 
 uninstall:
-	for part in '' _tags _parity; do \
-	    rm -f $(DESTDIR)$(PREFIX)/include/ampferweg$$part.h $(DESTDIR)$(PREFIX)/lib/libampferweg$$part.a; \
+	for name in $(NAMES); do \
+	    rm -f $(DESTDIR)$(PREFIX)/include/$$name.h $(DESTDIR)$(PREFIX)/lib/lib$$name.a $(DESTDIR)$(PREFIX)/lib/pkgconfig/$$name.pc; \
 	done
-	rm -f $(DESTDIR)$(PREFIX)/lib/pkgconfig/ampferweg.pc
+	rm -rf $(DESTDIR)$(PREFIX)/lib/cmake/ampferweg
 
-test: $(ARCHIVE) $(TAGS) $(PARITY)
+verdict:
+	@VERDICT='$(VERDICT)' dist/verdict.sh
+
+dist: verdict $(ARCHIVES) $(BOARDS) target/bin/lister target/bin/replay
+	VERDICT='$(VERDICT)' dist/make.sh $(VERSION) $(TARGETS)
+
+dist-check:
+	dist/check.sh $(RELEASES)
+
+test: $(ARCHIVES)
 	tests/host/run.sh $(ARCHIVE)
 
 demo: $(ARCHIVE)
@@ -53,10 +95,20 @@ demo: $(ARCHIVE)
 test-examples: $(ARCHIVE)
 	examples/udp/check.sh $(ARCHIVE)
 
+bare: target/boards/thumbv7em/libampferweg.a
+	examples/bare/run.sh $<
+
+dissector-check: $(ARCHIVE)
+	examples/wireshark/check.py $(ARCHIVE)
+
+boards: $(MODULES)
+	boards/run.sh
+
 bench: $(ARCHIVE)
 	bench/run.py $(ARCHIVE)
 
 interop: $(ARCHIVE)
 	tests/interop/run.sh $(ARCHIVE)
 
-.PHONY: all install uninstall test demo test-examples bench interop
+.PHONY: all archive install uninstall verdict dist dist-check test demo test-examples bare dissector-check boards bench interop
+.SECONDARY:

@@ -31,7 +31,7 @@
  *         return count < 0;
  *     }
  *
- * Both calls are proved: what they answer and what they leave, for all arguments. C99 or C++; x86-64 Linux, the archive's target. */
+ * Both calls are proved: what they answer and what they leave, for all arguments. C99 or C++. Counts are 64 bits wide on every machine. */
 #ifndef AMPFERWEG_PARITY_H
 #define AMPFERWEG_PARITY_H
 
@@ -87,16 +87,16 @@ static inline const char *ampferweg_parity_text(int32_t result)
 /* Writes group `group` of k datagrams, each of 24 to mtu bytes: k data frames and two parity frames, with their lengths; what lies
  * beyond them is not touched. Answers k + 2, or refuses 7, 12, 21, 23, in this order. */
 int32_t ampferweg_parity_write(uint32_t group, uint32_t k, uint32_t mtu,
-    const uint8_t *datagrams, size_t datagrams_len, const uint16_t *lengths, size_t lengths_len,
-    uint8_t *frames, size_t frames_len, uint16_t *frame_lengths, size_t frame_lengths_len);
+    const uint8_t *datagrams, uint64_t datagrams_len, const uint16_t *lengths, uint64_t lengths_len,
+    uint8_t *frames, uint64_t frames_len, uint16_t *frame_lengths, uint64_t frame_lengths_len);
 
 /* Reads a group from frames of it, in any order, with repeats: its k datagrams by place, with their lengths; what lies beyond them is
  * not touched. Frames that are not the group's are refused, not left out: give the frames of one group, as their sequences say.
  * Answers k, or refuses 7, 12, 21 for a frame by itself or of another group than the first, 22, and 21 unless the datagrams found have
  * 24 to mtu bytes and their group holds every frame given. */
 int32_t ampferweg_parity_read(uint32_t k, uint32_t mtu,
-    const uint8_t *frames, size_t frames_len, const uint16_t *lengths, size_t lengths_len,
-    uint8_t *datagrams, size_t datagrams_len, uint16_t *datagram_lengths, size_t datagram_lengths_len);
+    const uint8_t *frames, uint64_t frames_len, const uint16_t *lengths, uint64_t lengths_len,
+    uint8_t *datagrams, uint64_t datagrams_len, uint16_t *datagram_lengths, uint64_t datagram_lengths_len);
 
 #ifdef __cplusplus
 }

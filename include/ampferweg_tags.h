@@ -36,7 +36,7 @@
  *         printf("%s: %.*s\n", name, (int)len, (const char *)value);
  *     }
  *
- * C99 or C++; x86-64 Linux, the archive's target. Link libampferweg_tags.a, and libampferweg.a for the link itself. */
+ * C99 or C++. Counts are 64 bits wide on every machine, as the link's. Link libampferweg_tags.a, and libampferweg.a for the link itself. */
 #ifndef AMPFERWEG_TAGS_H
 #define AMPFERWEG_TAGS_H
 
@@ -98,12 +98,12 @@ static inline const char *ampferweg_tag_text(ampferweg_result result)
 
 /* Writes the message of a name and a value at the start of `message`; what lies beyond it is not touched.
  * Answers its length, or refuses 7 for fewer than 98 bytes, then 17. */
-ampferweg_result ampferweg_tag_write(const uint8_t *name, size_t name_len, const uint8_t *value, size_t value_len,
-    uint8_t *message, size_t message_len);
+ampferweg_result ampferweg_tag_write(const uint8_t *name, uint64_t name_len, const uint8_t *value, uint64_t value_len,
+    uint8_t *message, uint64_t message_len);
 
 /* Reads a message, and stores the lengths of its name and its value: the name is at message + 1, the value at
  * message + 2 + *name_len. Answers 0, or refuses 17; a refused message stores nothing. */
-ampferweg_result ampferweg_tag_read(const uint8_t *message, size_t message_len, size_t *name_len, size_t *value_len);
+ampferweg_result ampferweg_tag_read(const uint8_t *message, uint64_t message_len, uint64_t *name_len, uint64_t *value_len);
 
 /* ---- Tables --------------------------------------------------------------------------------------------------------
  *
@@ -112,32 +112,33 @@ ampferweg_result ampferweg_tag_read(const uint8_t *message, size_t message_len, 
 
 /* Sets a tag: a known name's value is replaced, a new name takes the lowest free entry. Every other entry keeps all its bytes.
  * Answers 0, or refuses 7, 24, 17, and 18 for a new name in a full table. */
-ampferweg_result ampferweg_tag_set(uint8_t *table, size_t table_len, const uint8_t *name, size_t name_len,
-    const uint8_t *value, size_t value_len);
+ampferweg_result ampferweg_tag_set(uint8_t *table, uint64_t table_len, const uint8_t *name, uint64_t name_len,
+    const uint8_t *value, uint64_t value_len);
 
 /* Reads a message and sets its tag. No entry with another name changes. Answers 0, or refuses 7, 24, 17, 18. */
-ampferweg_result ampferweg_tag_take(uint8_t *table, size_t table_len, const uint8_t *message, size_t message_len);
+ampferweg_result ampferweg_tag_take(uint8_t *table, uint64_t table_len, const uint8_t *message, uint64_t message_len);
 
 /* Removes a name: its entry becomes free. Answers 0, or refuses 7, 24, 17, and 19 for a name that is not there. */
-ampferweg_result ampferweg_tag_remove(uint8_t *table, size_t table_len, const uint8_t *name, size_t name_len);
+ampferweg_result ampferweg_tag_remove(uint8_t *table, uint64_t table_len, const uint8_t *name, uint64_t name_len);
 
 /* Asks for the value of a name, in the station's own table, else in the line's defaults: answers 0 for the own table, 1 for the
  * defaults, and stores where the value's part starts in that table and its length. Never gives a refusal number: where asking
  * is refused (7, 24, 17) or nothing is found, it answers 0 and the part is empty. A value of no bytes is an empty part too, and
  * hides the default's. `start` and `len` may not lead to one number. */
-ampferweg_result ampferweg_tag_ask(const uint8_t *own, size_t own_len, const uint8_t *defaults, size_t defaults_len,
-    const uint8_t *name, size_t name_len, size_t *start, size_t *len);
+ampferweg_result ampferweg_tag_ask(const uint8_t *own, uint64_t own_len, const uint8_t *defaults, uint64_t defaults_len,
+    const uint8_t *name, uint64_t name_len, uint64_t *start, uint64_t *len);
 
 /* Whether a name is in the own table or in the defaults. Answers 1 or 0, or refuses 7, 24, 17. */
-ampferweg_result ampferweg_tag_found(const uint8_t *own, size_t own_len, const uint8_t *defaults, size_t defaults_len,
-    const uint8_t *name, size_t name_len);
+ampferweg_result ampferweg_tag_found(const uint8_t *own, uint64_t own_len, const uint8_t *defaults, uint64_t defaults_len,
+    const uint8_t *name, uint64_t name_len);
 
 /* The value of a name where it lies, and its length. Valid until its table is changed. */
 static inline const uint8_t *ampferweg_tag_value(const uint8_t *own, size_t own_len, const uint8_t *defaults, size_t defaults_len,
     const uint8_t *name, size_t name_len, size_t *len)
 {
-    size_t start = 0;
-    const ampferweg_result table = ampferweg_tag_ask(own, own_len, defaults, defaults_len, name, name_len, &start, len);
+    uint64_t start = 0, bytes = 0;
+    const ampferweg_result table = ampferweg_tag_ask(own, own_len, defaults, defaults_len, name, name_len, &start, &bytes);
+    *len = (size_t)bytes;
     return (table == 0 ? own : defaults) + start;
 }
 

@@ -8,6 +8,7 @@ here=$root/examples/udp
 work=$root/target/examples
 port=${AMPFERWEG_PORT:-46300}
 [ -f "$archive" ] || { echo "check.sh: $archive is missing: run 'make' first" >&2; exit 2; }
+archive=$(cd "$(dirname "$archive")" && pwd)/$(basename "$archive")
 rm -rf "$work"
 mkdir -p "$work"
 cd "$work" || exit 2

@@ -1,7 +1,8 @@
 #!/bin/sh
 # run.sh [ARCHIVE]: two stations on this machine send recipes to each other over a bad network, and print what arrives.
 # Builds all it needs, ends by itself in seconds, and says in its last line whether every recipe arrived in order.
-# AMPFERWEG_PORT is the first of three UDP ports (default 46100); AMPFERWEG_SEED gives other losses.
+# AMPFERWEG_PORT is the first of three UDP ports (default 46100); AMPFERWEG_SEED gives other losses; AMPFERWEG_PROGRAMS is a folder with
+# station and relay where they are built already.
 set -u
 root=$(cd "$(dirname "$0")/../.." && pwd)
 archive=${1:-$root/target/staticlib/libampferweg.a}
@@ -17,17 +18,20 @@ if [ "$port" -lt 1 ] || [ "$port" -gt 65533 ]; then
     exit 2
 fi
 other=$((port < 65400 ? port + 100 : 46100)) # advised where one of the ports is taken
-[ -f "$archive" ] || { echo "run.sh: $archive is missing: run 'make' first" >&2; exit 2; }
 mkdir -p "$work"
 rm -f "$work"/*.txt
 
+programs=${AMPFERWEG_PROGRAMS:-$work}
 flags="-std=c99 -O2 -Wall -Wextra -Wpedantic -Werror -I $root/include"
-# shellcheck disable=SC2086
-"${CC:-cc}" $flags "$here/station.c" "$here/options.c" "$here/udp.c" "$archive" -o "$work/station" &&
-    "${CC:-cc}" $flags "$here/relay.c" "$here/options.c" "$here/udp.c" -o "$work/relay" || exit 2
+if [ "$programs" = "$work" ]; then
+    [ -f "$archive" ] || { echo "run.sh: $archive is missing: run 'make' first" >&2; exit 2; }
+    # shellcheck disable=SC2086
+    "${CC:-cc}" $flags "$here/station.c" "$here/options.c" "$here/udp.c" "$archive" -o "$work/station" &&
+        "${CC:-cc}" $flags "$here/relay.c" "$here/options.c" "$here/udp.c" -o "$work/relay" || exit 2
+fi
 
 # both stations open with the settings of one file
-"$work/station" --name line --conv 7 --keep "$work/line.kls" || exit 1
+"$programs/station" --name line --conv 7 --keep "$work/line.kls" || exit 1
 
 middle=$port left=$((port + 1)) right=$((port + 2))
 relay='' one='' two=''
@@ -36,7 +40,7 @@ trap stop EXIT
 trap 'exit 130' INT TERM
 
 station() { # NAME OWN-PORT RECIPES HEARS
-    exec "$work/station" --name "$1" --port "$2" --peer "127.0.0.1:$middle" --settings "$work/line.kls" --hold 300 --send "$here/recipes/$3.txt" \
+    exec "$programs/station" --name "$1" --port "$2" --peer "127.0.0.1:$middle" --settings "$work/line.kls" --hold 300 --send "$here/recipes/$3.txt" \
         --expect "$(wc -l <"$here/recipes/$4.txt")" --save "$work/$1-heard.txt"
 }
 
@@ -51,7 +55,7 @@ listens() { # NAME
 }
 
 echo "left and right, over a network that loses 10 in 100 datagrams, repeats 5 and holds back 10"
-"$work/relay" --port "$middle" --left "127.0.0.1:$left" --right "127.0.0.1:$right" --seed "$seed" >"$work/relay.txt" &
+"$programs/relay" --port "$middle" --left "127.0.0.1:$left" --right "127.0.0.1:$right" --seed "$seed" >"$work/relay.txt" &
 relay=$!
 listens relay
 station left "$left" left right >"$work/left.txt" &

@@ -101,7 +101,7 @@ static int tag_write(void)
 
 static int tag_read(void)
 {
-    size_t name = 1000, value = 2000;
+    uint64_t name = 1000, value = 2000;
     ampferweg_result result;
     int changed = 0;
     if (words != 2 || !bytes_word(1, word_bytes[0], &word_bytes_len[0])) return 0;
@@ -111,8 +111,8 @@ static int tag_read(void)
         changed = name != 1000 || value != 2000;
     } else {
         printf("ok");
-        say_bytes(word_bytes[0] + 1, name);
-        say_bytes(word_bytes[0] + 2 + name, value);
+        say_bytes(word_bytes[0] + 1, (size_t)name);
+        say_bytes(word_bytes[0] + 2 + name, (size_t)value);
     }
     end_line(changed);
     return 1;
@@ -172,7 +172,7 @@ static int tag_remove(void)
 
 static int tag_ask(void)
 {
-    size_t start = 1000, len = 2000;
+    uint64_t start = 1000, len = 2000;
     ampferweg_result which;
     if (words != 2 || !bytes_word(1, word_bytes[0], &word_bytes_len[0])) return 0;
     remember();
@@ -182,7 +182,7 @@ static int tag_ask(void)
         printf(" -");
     } else {
         printf(" %ld %lu", (long)which, (unsigned long)start);
-        say_bytes(table[which] + start, len);
+        say_bytes(table[which] + start, (size_t)len);
     }
     end_line(changed_beyond(TABLES));
     return 1;

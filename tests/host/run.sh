@@ -3,6 +3,8 @@
 # Compiles the headers as C and C++, builds every check program at -O2 and with the sanitizers, runs them, plays the scripts
 # of tests/vectors and tests/extras, and installs into a folder of its own. The archives of tags and parity are beside ARCHIVE;
 # where one is missing, rt makes it. The last line is 'host: N passed, M failed'.
+# For another machine (boards/check.sh): CC and CXX are its compilers, CFLAGS more words for them, EMULATOR runs its programs, and WORK is
+# the folder for what is built. There -O0 stands in for the sanitizers, and installing is not tried.
 set -u
 root=$(cd "$(dirname "$0")/../.." && pwd)
 archive=${1:-$root/target/staticlib/libampferweg.a}
@@ -12,13 +14,15 @@ tags=$(dirname "$archive")/libampferweg_tags.a
 parity=$(dirname "$archive")/libampferweg_parity.a
 [ -f "$tags" ] || (cd "$root" && rt staticlib ampferweg_tags) >/dev/null || { echo "run.sh: $tags is missing" >&2; exit 2; }
 [ -f "$parity" ] || (cd "$root" && rt staticlib ampferweg_parity) >/dev/null || { echo "run.sh: $parity is missing" >&2; exit 2; }
-work=$root/target/host
+work=${WORK:-$root/target/host}
+emulator=${EMULATOR:-}
+export CFLAGS="${CFLAGS:-}"
 mkdir -p "$work"
 cd "$root/tests/host" || exit 2
 
 cc=${CC:-cc}
 cxx=${CXX:-c++}
-flags="-Wall -Wextra -Wpedantic -Wshadow -Wconversion -Werror -I $root/include"
+flags="$CFLAGS -Wall -Wextra -Wpedantic -Wshadow -Wconversion -Werror -I $root/include"
 passed=0
 failed=0
 
@@ -84,7 +88,8 @@ program_checks() { # SUFFIX FLAGS..
     shift
     for name in layout calls refusals strangers session settings replay; do
         build "$suffix" $name "$@" || { failed=$((failed + 1)); echo "$name, $suffix: FAILED to build"; continue; }
-        [ "$name" = replay ] || try "$name, $suffix" "$work/$name-$suffix"
+        # shellcheck disable=SC2086
+        [ "$name" = replay ] || try "$name, $suffix" $emulator "$work/$name-$suffix"
     done
     # shellcheck disable=SC2086
     "$cc" -std=c99 "$@" $flags play.c play_parity.c "$tags" "$parity" "$archive" -o "$work/play-$suffix" || { failed=$((failed + 1)); echo "play, $suffix: FAILED to build"; }
@@ -95,7 +100,8 @@ plays() { # PROGRAM SUFFIX FOLDER
     lines=0
     count=0
     for script in "$root/tests/$3"/*.script; do
-        "$work/$1-$2" <"$script" >"$work/answers" || return 1
+        # shellcheck disable=SC2086
+        $emulator "$work/$1-$2" <"$script" >"$work/answers" || return 1
         cmp "$work/answers" "${script%.script}.answers" || return 1
         count=$((count + 1))
         lines=$((lines + $(wc -l <"$script")))
@@ -117,15 +123,23 @@ installs() {
 
 header_checks
 program_checks O2 -O2
-program_checks sanitized -O1 -g -fsanitize=address,undefined -fno-sanitize-recover=all
-for suffix in O2 sanitized; do
-    try "vectors, $suffix" plays replay $suffix vectors
-    try "extras, $suffix" plays play $suffix extras
+if [ -z "$emulator" ]; then
+    second=sanitized
+    program_checks sanitized -O1 -g -fsanitize=address,undefined -fno-sanitize-recover=all
+else
+    second=O0
+    program_checks O0 -O0
+fi
+for suffix in O2 $second; do
+    try "vectors, $suffix" plays replay "$suffix" vectors
+    try "extras, $suffix" plays play "$suffix" extras
 done
 cp "$work/play-O2" "$work/play"
 try "examples/tags" "$root/examples/tags/run.sh" "$(dirname "$archive")"
 try "examples/parity" "$root/examples/parity/run.sh" "$(dirname "$archive")"
-if command -v pkg-config >/dev/null; then
+if [ -n "$emulator" ]; then
+    :
+elif command -v pkg-config >/dev/null; then
     try "make install" installs
 else
     echo "make install                 not checked: there is no pkg-config here"
