@@ -1,0 +1,1 @@
+// Una and ack numbers in whatever order: definitions and proofs, in specs/.
