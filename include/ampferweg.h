@@ -150,6 +150,7 @@ typedef struct ampferweg_settings {
     uint16_t interval; /* milliseconds between flushes, as the retransmission timeout reckons */
     uint8_t mode;      /* 0, 1 or 2: how the timeout grows at a retransmission */
     uint8_t threshold; /* skips before a fast retransmission; 0: off */
+    uint8_t stream;    /* 1: what is sent is a stream of bytes; 0: messages */
 } ampferweg_settings;
 
 /* A segment in a slot of a pool. */
@@ -217,7 +218,7 @@ typedef struct ampferweg_record { uint32_t number, due, timeout, skips; } ampfer
 #endif
 AMPFERWEG_LAYOUT(settings, sizeof(ampferweg_settings) == 12 && offsetof(ampferweg_settings, mtu) == 4 &&
     offsetof(ampferweg_settings, interval) == 6 && offsetof(ampferweg_settings, mode) == 8 &&
-    offsetof(ampferweg_settings, threshold) == 9);
+    offsetof(ampferweg_settings, threshold) == 9 && offsetof(ampferweg_settings, stream) == 10);
 AMPFERWEG_LAYOUT(held, sizeof(ampferweg_held) == 4 && offsetof(ampferweg_held, fragment) == 1 && offsetof(ampferweg_held, len) == 2);
 AMPFERWEG_LAYOUT(flight, sizeof(ampferweg_flight) == 40 && offsetof(ampferweg_flight, rtt) == 8 &&
     offsetof(ampferweg_flight, window) == 20 && offsetof(ampferweg_flight, queued) == 24 && offsetof(ampferweg_flight, outstanding) == 32);
@@ -257,14 +258,18 @@ AMPFERWEG_LAYOUT(record, sizeof(ampferweg_record) == 16 && offsetof(ampferweg_re
  * flushes; check asks for no output and no lengths. */
 
 /* Opens a link: whatever stood in *link, it becomes a fresh link. Lent bytes stay as they are.
- * conv any number; mtu 50 to 512; mode 0, 1 or 2; interval 10 to 5000; threshold 0 to 100, 0 being off.
- * Answers 0, or refuses 12, 7; a refused opening leaves the old link. */
+ * conv any number; mtu 50 to 512; mode 0, 1 or 2; interval 10 to 5000; threshold 0 to 100, 0 being off; stream 0 or 1.
+ * Answers 0, or refuses 12, 7; a refused opening leaves the old link. ampferweg_station_open_settings takes them by name. */
 ampferweg_result ampferweg_open(ampferweg_link *link, uint32_t conv, uint32_t mtu, uint32_t mode, uint32_t interval, uint32_t threshold,
-    const uint8_t *send_pool, uint64_t send_pool_len, const uint8_t *receive_pool, uint64_t receive_pool_len,
+    uint32_t stream, const uint8_t *send_pool, uint64_t send_pool_len, const uint8_t *receive_pool, uint64_t receive_pool_len,
     const ampferweg_record *table, uint64_t table_len, const uint32_t *acks, uint64_t acks_len);
 
 /* Accepts a message for sending, whole or not at all: it is copied to the send pool, and goes out with the next flushes.
- * An empty message is a message. Answers 0, or refuses 7, 13, 10, 11. */
+ * An empty message is a message. Answers 0, or refuses 7, 13, 10, 11.
+ * With stream 1 the bytes are what is accepted, and where one send ends and the next begins is not kept: they fill the last segment
+ * that no flush has taken yet, and the rest is cut into new ones. So many short lines share a header. The peer's reads give
+ * segments, of mss bytes at most, whose bytes joined are those sent; a line may end in the next one. An empty send adds nothing. 10
+ * and 11 count only new segments: 10 is for more than 127 of them. A refused send fills nothing. */
 ampferweg_result ampferweg_send(ampferweg_link *link, uint8_t *send_pool, uint64_t send_pool_len,
     const uint8_t *receive_pool, uint64_t receive_pool_len, const ampferweg_record *table, uint64_t table_len,
     const uint32_t *acks, uint64_t acks_len, const uint8_t *message, uint64_t message_len);
@@ -323,6 +328,7 @@ ampferweg_result ampferweg_show(const ampferweg_link *link, const uint8_t *send_
  * A link's settings in 15 bytes, for a controller that is swapped: the letters KLS, the version 1 in 2 bytes, then
  * conversation 4 bytes, mtu 2, mode 1, interval 2, threshold 1, all little-endian. What is written and read back is the same,
  * and each file that is read is the very one that writing its settings gives. Opening and keeping the file is the caller's.
+ * A file means stream 0: writing settings with stream 1 is refused 12.
  * The file has settings, not the state of a link: a board that opens with it has the conversation of the board before it, and its
  * messages are lost unless the peer opens anew as well (docs/C.md, 'When a station restarts or is swapped'). */
 
@@ -331,7 +337,7 @@ ampferweg_result ampferweg_show(const ampferweg_link *link, const uint8_t *send_
 /* Writes the file of these settings into the first 15 bytes of `file`; what lies beyond is not touched.
  * Answers 0, or refuses 7 for fewer than 15 bytes, then 12. */
 ampferweg_result ampferweg_settings_write(uint32_t conv, uint32_t mtu, uint32_t mode, uint32_t interval, uint32_t threshold,
-    uint8_t *file, uint64_t file_len);
+    uint32_t stream, uint8_t *file, uint64_t file_len);
 
 /* Reads a file of `file_len` bytes, and stores its settings, ready for opening. No two pointers may lead to one number.
  * Answers 0, or refuses 15 for fewer than 5 bytes or another mark, 16 for an unknown version, 15 for a wrong length, then 12;
@@ -356,7 +362,7 @@ typedef struct ampferweg_station {
 #ifdef __cplusplus
 #define AMPFERWEG_LINK_UNOPENED {}
 #else
-#define AMPFERWEG_LINK_UNOPENED {{0, 0, 0, 0, 0}, {0, 0, {0, 0, 0}, 0, 0, 0}, {0, 0, 0, 0, 0}, {{0, 0}, 0, 0, 0, 0, 0}, \
+#define AMPFERWEG_LINK_UNOPENED {{0, 0, 0, 0, 0, 0}, {0, 0, {0, 0, 0}, 0, 0, 0}, {0, 0, 0, 0, 0}, {{0, 0}, 0, 0, 0, 0, 0}, \
     {{0, 0, 0}}, {{0, 0, 0}}, {0}, {{0, 0, 0}}, {{0, 0, 0}}, {0}}
 #endif
 
@@ -385,10 +391,19 @@ typedef struct ampferweg_station {
     (station)->send_pool, (station)->send_pool_len, (station)->receive_pool, (station)->receive_pool_len, \
     (station)->table, (station)->table_len, (station)->acks, (station)->acks_len
 
+/* Opens with settings by name, so that no two of them can be exchanged unnoticed; what is left out is 0:
+ *     const ampferweg_settings logger = {.conv = 7, .mtu = 256, .mode = 1, .interval = 10, .threshold = 2, .stream = 1}; */
+static inline ampferweg_result ampferweg_station_open_settings(ampferweg_station *station, const ampferweg_settings *settings)
+{
+    return ampferweg_open(&station->link, settings->conv, settings->mtu, settings->mode, settings->interval, settings->threshold,
+        settings->stream, AMPFERWEG_PARTS(station));
+}
+
+/* Opens for messages: stream 0. */
 static inline ampferweg_result ampferweg_station_open(ampferweg_station *station,
     uint32_t conv, uint32_t mtu, uint32_t mode, uint32_t interval, uint32_t threshold)
 {
-    return ampferweg_open(&station->link, conv, mtu, mode, interval, threshold, AMPFERWEG_PARTS(station));
+    return ampferweg_open(&station->link, conv, mtu, mode, interval, threshold, 0, AMPFERWEG_PARTS(station));
 }
 
 static inline ampferweg_result ampferweg_station_send(ampferweg_station *station, const void *message, size_t message_len)

@@ -346,7 +346,7 @@ static void linger(uint32_t start)
 static void keep_settings(void)
 {
     uint8_t file[AMPFERWEG_SETTINGS_FILE_SIZE];
-    const ampferweg_result result = ampferweg_settings_write(conv, mtu, mode, interval, threshold, file, sizeof file);
+    const ampferweg_result result = ampferweg_settings_write(conv, mtu, mode, interval, threshold, 0, file, sizeof file);
     int out;
     if (result < 0) fail(keep_file, ampferweg_text(result));
     out = open(keep_file, O_WRONLY | O_CREAT | O_TRUNC, 0666);

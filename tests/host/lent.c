@@ -156,7 +156,7 @@ static int same_clock(const ampferweg_clock *a, const ampferweg_clock *b)
 int same_link(const ampferweg_link *a, const ampferweg_link *b)
 {
     const ampferweg_settings *s = &a->settings, *t = &b->settings;
-    return s->conv == t->conv && s->mtu == t->mtu && s->interval == t->interval && s->mode == t->mode && s->threshold == t->threshold &&
+    return s->conv == t->conv && s->mtu == t->mtu && s->interval == t->interval && s->mode == t->mode && s->threshold == t->threshold && s->stream == t->stream &&
         same_flight(&a->flight, &b->flight) && same_arrival(&a->arrival, &b->arrival) && same_clock(&a->clock, &b->clock) &&
         same_held(a->queued, b->queued, 128) && same_held(a->outstanding, b->outstanding, 32) &&
         memcmp(a->transmissions, b->transmissions, sizeof a->transmissions) == 0 && same_held(a->ready, b->ready, 128) &&
@@ -165,7 +165,12 @@ int same_link(const ampferweg_link *a, const ampferweg_link *b)
 
 ampferweg_result call_open(struct lent *lent, uint32_t conv, uint32_t mtu, uint32_t mode, uint32_t interval, uint32_t threshold)
 {
-    return ampferweg_open(lent->link, conv, mtu, mode, interval, threshold, AMPFERWEG_PARTS(&lent->station));
+    return ampferweg_open(lent->link, conv, mtu, mode, interval, threshold, 0, AMPFERWEG_PARTS(&lent->station));
+}
+
+ampferweg_result call_open_stream(struct lent *lent, uint32_t mtu, uint32_t stream)
+{
+    return ampferweg_open(lent->link, 7, mtu, 1, 10, 2, stream, AMPFERWEG_PARTS(&lent->station));
 }
 
 ampferweg_result call_send(struct lent *lent, const uint8_t *message, size_t len)

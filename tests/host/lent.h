@@ -46,6 +46,7 @@ int same_link(const ampferweg_link *a, const ampferweg_link *b);
 
 /* The calls on the parts. */
 ampferweg_result call_open(struct lent *lent, uint32_t conv, uint32_t mtu, uint32_t mode, uint32_t interval, uint32_t threshold);
+ampferweg_result call_open_stream(struct lent *lent, uint32_t mtu, uint32_t stream); /* conversation 7, mode 1, interval 10, threshold 2 */
 ampferweg_result call_send(struct lent *lent, const uint8_t *message, size_t len);
 ampferweg_result call_input(struct lent *lent, const uint8_t *datagram, size_t len);
 ampferweg_result call_flush(struct lent *lent, uint32_t now);

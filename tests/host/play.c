@@ -37,14 +37,14 @@ static size_t word_bytes_len[2];
 static int settings_write(void)
 {
     uint8_t file[FILE_HELD];
-    uint32_t room, value[5];
+    uint32_t room, value[6] = {0, 0, 0, 0, 0, 0}; /* stream, the last, may be left out */
     ampferweg_result result;
     size_t i;
-    if (words != 7 || !number_word(1, FILE_HELD, &room)) return 0;
-    for (i = 0; i < 5; i++)
+    if ((words != 7 && words != 8) || !number_word(1, FILE_HELD, &room)) return 0;
+    for (i = 0; i + 2 < words; i++)
         if (!number_word(i + 2, UINT32_MAX, &value[i])) return 0;
     memset(file, UNTOUCHED, sizeof file);
-    result = ampferweg_settings_write(value[0], value[1], value[2], value[3], value[4], file, room);
+    result = ampferweg_settings_write(value[0], value[1], value[2], value[3], value[4], value[5], file, room);
     if (result < 0) {
         say_refused(result);
         end_line(differs(file, sizeof file, UNTOUCHED));

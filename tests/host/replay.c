@@ -1,6 +1,6 @@
 /* Plays a script of calls (standard input) through the C interface and writes the answers (standard output).
  *
- * One command a line: open CONV MTU MODE INTERVAL THRESHOLD, send HEX, input HEX, flush TIME, update TIME, check TIME, read ROOM, size,
+ * One command a line: open CONV MTU MODE INTERVAL THRESHOLD [STREAM], send HEX, input HEX, flush TIME, update TIME, check TIME, read ROOM, size,
  * show, state, held, jump SND RCV, lend PART COUNT, poke FIELD VALUE, hold LIST INDEX FIELD VALUE, rec SLOT NUMBER DUE TIMEOUT SKIPS.
  * The parts are those of an mtu of 256. tests/vectors has scripts with the answers that they must get. */
 #include <ampferweg.h>
@@ -8,7 +8,7 @@
 #include <stdio.h>
 #include <string.h>
 
-enum { SCRIPT_MOST = 1 << 20, LINE_MOST = 65000, WORDS_MOST = 6, ROOM_MOST = 60000 };
+enum { SCRIPT_MOST = 1 << 20, LINE_MOST = 65000, WORDS_MOST = 7, ROOM_MOST = 60000 };
 
 AMPFERWEG_STATION_STORAGE(station, 256);
 
@@ -122,10 +122,10 @@ static void say_held(const char *list, const ampferweg_held *held)
 
 static void play_open(void)
 {
-    uint32_t v[5];
+    uint32_t v[6] = {0, 0, 0, 0, 0, 0};
     ampferweg_result result;
-    if (!numbers(v, 5)) { malformed(); return; }
-    result = ampferweg_station_open(&station, v[0], v[1], v[2], v[3], v[4]);
+    if (!numbers(v, 5) && !numbers(v, 6)) { malformed(); return; }
+    result = ampferweg_open(&station.link, v[0], v[1], v[2], v[3], v[4], v[5], AMPFERWEG_PARTS(&station));
     if (result >= 0) opened = just_opened = 1;
     say_done(result);
 }
@@ -291,6 +291,7 @@ static int poke(uint32_t field, uint32_t value)
     case 16: return store_flag(&l->arrival.tell, value);
     case 17: return store_flag(&l->clock.dead, value);
     case 18: return store_count(&l->arrival.acks, value);
+    case 19: return store8(&l->settings.stream, value);
     case 21: return store32(&l->clock.next_flush, value);
     case 22: return store_flag(&l->clock.updated, value);
     default: return 0;

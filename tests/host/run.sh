@@ -86,7 +86,7 @@ build() { # SUFFIX NAME FLAGS..
 program_checks() { # SUFFIX FLAGS..
     suffix=$1
     shift
-    for name in layout calls refusals strangers session settings replay; do
+    for name in layout calls refusals strangers session stream settings replay; do
         build "$suffix" $name "$@" || { failed=$((failed + 1)); echo "$name, $suffix: FAILED to build"; continue; }
         # shellcheck disable=SC2086
         [ "$name" = replay ] || try "$name, $suffix" $emulator "$work/$name-$suffix"
@@ -137,6 +137,7 @@ done
 cp "$work/play-O2" "$work/play"
 try "examples/tags" "$root/examples/tags/run.sh" "$(dirname "$archive")"
 try "examples/parity" "$root/examples/parity/run.sh" "$(dirname "$archive")"
+try "examples/logger" "$root/examples/logger/run.sh" "$(dirname "$archive")"
 if [ -n "$emulator" ]; then
     :
 elif command -v pkg-config >/dev/null; then

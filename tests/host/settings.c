@@ -6,14 +6,14 @@
 
 enum { SIZE = AMPFERWEG_SETTINGS_FILE_SIZE };
 
-struct numbers { uint32_t conv, mtu, mode, interval, threshold; };
+struct numbers { uint32_t conv, mtu, mode, interval, threshold, stream; };
 
 static const uint8_t example[SIZE] = {'K', 'L', 'S', 1, 0, 0x78, 0x56, 0x34, 0x12, 0, 1, 2, 0x88, 0x13, 100};
-static const struct numbers settings = {0x12345678, 256, 2, 5000, 100};
+static const struct numbers settings = {0x12345678, 256, 2, 5000, 100, 0};
 
 static ampferweg_result write_to(struct numbers n, uint8_t *file, size_t len)
 {
-    return ampferweg_settings_write(n.conv, n.mtu, n.mode, n.interval, n.threshold, file, len);
+    return ampferweg_settings_write(n.conv, n.mtu, n.mode, n.interval, n.threshold, n.stream, file, len);
 }
 
 static ampferweg_result read_from(const uint8_t *file, size_t len, struct numbers *n)
@@ -30,7 +30,7 @@ static int same(struct numbers a, struct numbers b)
 static void the_bytes(void)
 {
     uint8_t file[SIZE + 3];
-    struct numbers found = {0, 0, 0, 0, 0};
+    struct numbers found = {0, 0, 0, 0, 0, 0};
     memset(file, 0xEE, sizeof file);
     CHECK_EQUAL(write_to(settings, file, sizeof file), 0);
     CHECK(memcmp(file, example, SIZE) == 0);
@@ -68,12 +68,18 @@ static void writings_refused(void)
     n = settings;
     n.threshold = 101;
     refused_writing(n, SIZE, AMPFERWEG_SETTING_OUT_OF_RANGE);
+    n = settings;
+    n.stream = 1; /* in range, but no file has it */
+    refused_writing(n, SIZE, AMPFERWEG_SETTING_OUT_OF_RANGE);
+    n.stream = 256;
+    refused_writing(n, SIZE, AMPFERWEG_SETTING_OUT_OF_RANGE);
+    refused_writing(n, SIZE - 1, AMPFERWEG_SHORT_PART);
 }
 
 /* A file with one byte changed, at that length; a refused reading stores nothing. */
 static void refused_reading(size_t at, uint8_t byte, size_t len, int refusal)
 {
-    const struct numbers before = {1, 2, 3, 4, 5};
+    const struct numbers before = {1, 2, 3, 4, 5, 0};
     struct numbers found = before;
     uint8_t file[SIZE + 1] = {0};
     memcpy(file, example, SIZE);
@@ -104,7 +110,7 @@ static void readings_refused(void)
 static void round_trip(struct numbers n)
 {
     uint8_t file[SIZE], again[SIZE];
-    struct numbers found = {0, 0, 0, 0, 0};
+    struct numbers found = {0, 0, 0, 0, 0, 0};
     CHECK_EQUAL(write_to(n, file, SIZE), 0);
     CHECK_EQUAL(read_from(file, SIZE, &found), 0);
     CHECK(same(found, n));
@@ -114,7 +120,7 @@ static void round_trip(struct numbers n)
 
 static void round_trips(void)
 {
-    struct numbers n = {0, 50, 0, 10, 0};
+    struct numbers n = {0, 50, 0, 10, 0, 0};
     for (; n.mtu <= 512; n.mtu++, n.conv += 9295591, n.mode = n.mtu % 3, n.interval = 10 + n.mtu * 9, n.threshold = n.mtu % 101) round_trip(n);
     n.conv = 4294967295u;
     n.mtu = 512;

@@ -12,12 +12,13 @@ pub extern "C" fn ampferweg_settings_write(
     mode: u32,
     interval: u32,
     threshold: u32,
+    stream: u32,
     file: &mut [u8],
 ) -> i32
     ensures { λ r. ⌜ Gives writingCode
-        (λ a. Writes (settingsOf conv mtu mode interval threshold) (now (file .entry)) a (now (file .exit))) r ⌝ }
+        (λ a. Writes (settingsOf conv mtu mode interval threshold stream) (now (file .entry)) a (now (file .exit))) r ⌝ }
 {
-    settings_calls::write(conv, mtu, mode, interval, threshold, file)
+    settings_calls::write(conv, mtu, mode, interval, threshold, stream, file)
 }
 
 // Reads a file: 0, and its settings are stored; or the refusal, and nothing is.

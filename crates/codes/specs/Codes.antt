@@ -54,6 +54,13 @@ timeStored (time.At t) was = t
 timeStored (time.Refused r) was = was
 
 -- settings from plain numbers: one that is beyond its width becomes the largest of that width, which is out of range too
-abbrev pub settingsOf : ℕ → ℕ → ℕ → ℕ → ℕ → Settings
-settingsOf conv mtu mode interval threshold =
-    record { conv = conv; mtu = min mtu 65535; interval = min interval 65535; mode = min mode 255; threshold = min threshold 255 }
+abbrev pub settingsOf : ℕ → ℕ → ℕ → ℕ → ℕ → ℕ → Settings
+settingsOf conv mtu mode interval threshold stream =
+    record {
+      conv = conv;
+      mtu = min mtu 65535;
+      interval = min interval 65535;
+      mode = min mode 255;
+      threshold = min threshold 255;
+      stream = min stream 255;
+    }

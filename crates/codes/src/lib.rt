@@ -107,8 +107,15 @@ fn narrow8(x: u32) -> u8
 }
 
 // The settings of these numbers. One that is beyond its width becomes the largest of that width, which is out of range too.
-pub fn settings(conv: u32, mtu: u32, mode: u32, interval: u32, threshold: u32) -> Settings
-    ensures { λ r. ⌜ r ≡ settingsOf conv mtu mode interval threshold ⌝ }
+pub fn settings(
+    conv: u32,
+    mtu: u32,
+    mode: u32,
+    interval: u32,
+    threshold: u32,
+    stream: u32,
+) -> Settings
+    ensures { λ r. ⌜ r ≡ settingsOf conv mtu mode interval threshold stream ⌝ }
 {
     Protocol::settings(
         conv,
@@ -116,5 +123,6 @@ pub fn settings(conv: u32, mtu: u32, mode: u32, interval: u32, threshold: u32) -
         narrow8(mode),
         narrow16(interval),
         narrow8(threshold),
+        narrow8(stream),
     )
 }

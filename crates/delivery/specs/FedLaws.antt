@@ -20,11 +20,11 @@ use Rattle.delivery.specs.Claims.{FedIn, FedBelow, MissingFrom, Missing}
 absurd-bool : {A : Type 0} → false ≡ true → A
 absurd-bool e = absurd (let z : _≡_ {A = ℕ} 0 1 = cc in omega arith)
 
-or-true : (a b : Bool) → (a || b) ≡ true → (a ≡ true) ⊎ (b ≡ true)
+pub or-true : (a b : Bool) → (a || b) ≡ true → (a ≡ true) ⊎ (b ≡ true)
 or-true true b e = inl refl
 or-true false b e = inr e
 
-or-right : (a b : Bool) → b ≡ true → (a || b) ≡ true
+pub or-right : (a b : Bool) → b ≡ true → (a || b) ≡ true
 or-right true b e = refl
 or-right false b e = e
 

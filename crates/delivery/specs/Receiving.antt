@@ -38,7 +38,7 @@ FedGenuine c pieces (Call.update t ∷ xs) = FedGenuine c pieces xs
 FedGenuine c pieces (Call.check t ∷ xs) = FedGenuine c pieces xs
 FedGenuine c pieces (Call.read room ∷ xs) = FedGenuine c pieces xs
 
-member : {A : Type 0} (P : A → Type 0) {a : A} (l : List A) → List·Memᴰ a l → All P l → P a
+pub member : {A : Type 0} (P : A → Type 0) {a : A} (l : List A) → List·Memᴰ a l → All P l → P a
 member P (x ∷ l) (List·Memᴰ·head e) h = subst P (sym e) (h .0)
 member P (x ∷ l) (List·Memᴰ·tail m) h = member P l m (h .1)
 

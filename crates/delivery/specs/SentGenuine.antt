@@ -52,10 +52,10 @@ use Rattle.delivery.specs.SenderModel.{Shows, get-append, sends-taken, s
 -- ---- pushes
 
 -- what holds of a segment if it is a push
-abbrev IfPush : (Segment → Type 0) → Segment → Type 0
+abbrev pub IfPush : (Segment → Type 0) → Segment → Type 0
 IfPush P g = g .header .cmd ≡ push → P g
 
-abbrev Small : Segment → Type 0
+abbrev pub Small : Segment → Type 0
 Small g = g .header .sn < 2 ^ 30
 
 all-pushes : (P : Segment → Type 0) (gs : List Segment) → All (IfPush P) gs → All P (pushes gs)
@@ -88,7 +88,7 @@ small-datagram : (c : Settings) (d : List Segment) →
 unfolding pushesIn
 small-datagram c d e a = small-pushes d (subst (λ (p : Parsed). All (λ (sn : ℕ). sn < 2 ^ 30) (pushesOf p)) e a)
 
-small-datagrams : (c : Settings) (ds : List (List Segment)) →
+pub small-datagrams : (c : Settings) (ds : List (List Segment)) →
     All (λ (d : List Segment). parse (c .conv) (mss c) (bytesOfSegments d) ≡ Parsed.segments d) ds →
     FewPushes c (map bytesOfSegments ds) →
     All (All (IfPush Small)) ds
@@ -128,7 +128,7 @@ module _ (c : Settings) (link t : ℕ) where
   transmitted-new n (h ∷ q) = rw (new-sends n h) (ap {B = List Sent} (λ (r : List Sent). sentAfter c link t (numberedAs n h) ∷ r) (transmitted-new (plus n 1) q))
 
   -- what holds of each transmitted segment's number holds of the newly numbered ones
-  new-numbers : (P : ℕ → Type 0) (s : Sending) (k : ℕ) →
+  pub new-numbers : (P : ℕ → Type 0) (s : Sending) (k : ℕ) →
       All (λ (x : Sent). P (x .record .number)) (transmittedNow c link t (withNumbered s k)) →
       All (λ (x : Sent). P (x .record .number)) (numbered (s .next) (take k (s .queued)))
   unfolding withNumbered

@@ -1,4 +1,5 @@
 pub mod Counts
 pub mod Payloads
 pub mod Places
+pub mod Lasts
 pub mod Follow

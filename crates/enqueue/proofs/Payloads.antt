@@ -29,7 +29,7 @@ drop-least (suc k) [] = drop-nil (min (suc k) 0)
 drop-least (suc k) (x ∷ l) = rw suc-min-suc (drop-least k l)
 
 -- a slot's bytes are within the pool
-slot-end : (slot m n : ℕ) → slot < 128 → 128 * m ≤ n → slot * m + m ≤ n
+pub slot-end : (slot m n : ℕ) → slot < 128 → 128 * m ≤ n → slot * m + m ≤ n
 slot-end slot m n h g = let e : suc slot * m ≤ 128 * m = mul-le-mul-right m h in omega (arith, suc-mul slot m)
 
 pub slot-below : (slot m : ℕ) {n w : ℕ} → slot < 128 → 128 * m ≤ n → n < w → slot * m < w

@@ -1,6 +1,7 @@
 -- The loop that places a message's payloads: what is still to be placed, placed from here, completes the whole.
 -- Assumes nothing.
 use mathlib.Core.Path.{_≡_, refl, sym, ap, _∙_}
+use mathlib.Core.Bool.{Bool, true, false, cond}
 use mathlib.Core.List.{List, [], _∷_, _++_, map}
 use Prim.Native.Nat.{ℕ, zero, suc, _+_, _-_, _*_, _≤_, _<_}
 use native.Mathlib.Omega.{arith}
@@ -14,7 +15,7 @@ use Rattle.session.specs.Sending.{Placed, place}
 use Rattle.words.specs.Words.{unpack, heldIn}
 use Rattle.marks.specs.Marks.{Free, nextFree}
 use Rattle.marks.proofs.Frees.{free-lowest-of, free-low-of, free-next}
-use Rattle.enqueue.specs.Enqueueing.{Marked, Stored, Fills}
+use Rattle.enqueue.specs.Enqueueing.{Marked, Stored, Places}
 use Rattle.enqueue.proofs.Payloads.{length-pieces, stored-rest}
 
 -- ---- words of an array, as the segments that they stand for
@@ -31,30 +32,34 @@ set-map f (x ∷ l) (suc i) a = ap (λ (r : List _). f x ∷ r) (set-map f l i a
 
 -- ---- the loop
 
+pub fragment-most : (stream : Bool) (left f : ℕ) → f ≡ cond stream 0 left → f ≤ left
+fragment-most true left f e = omega arith
+fragment-most false left f e = omega arith
+
 -- `goal` is what is to be placed in all, behind `front`. The marks are those of the slots held at first. n segments are in the array of
 -- words, free slots are looked for from `from` on, and so many payloads of `rest` are left.
-pub record Placing (m : ℕ) (marks : List ℕ) (goal : Placed) (front : List Held) (ws pool rest : List ℕ) (n from left : ℕ) : Type 0 where
+pub record Placing (stream : Bool) (m : ℕ) (marks : List ℕ) (goal : Placed) (front : List Held) (ws pool rest : List ℕ) (n from left : ℕ) : Type 0 where
   -- the slots held now
   pub now : List ℕ
   pub free : Free marks now from
   pub room : length now + left ≤ 128
-  pub written : Written 128 (map unpack ws) (place m now pool (pieces m left rest) .segments) (front ++ goal .segments) n
-  pub pools : place m now pool (pieces m left rest) .pool ≡ goal .pool
+  pub written : Written 128 (map unpack ws) (place stream m now pool (pieces m left rest) .segments) (front ++ goal .segments) n
+  pub pools : place stream m now pool (pieces m left rest) .pool ≡ goal .pool
 
-pub placing-start : {m : ℕ} {marks ws pool message : List ℕ} {n count : ℕ} (h : Marked marks (128 - count)) → count ≤ 128 → length ws ≡ 128 → n ≤ 128
-    → Placing m marks (place m (h .now) pool (pieces m count message)) (heldIn ws n) ws pool message n 0 count
-placing-start {m = m} {ws = ws} {pool = pool} {message = message} {n = n} {count = count} h c e b =
+pub placing-start : {stream : Bool} {m : ℕ} {marks ws pool message : List ℕ} {n count : ℕ} (h : Marked marks (128 - count)) → count ≤ 128 → length ws ≡ 128 → n ≤ 128
+    → Placing stream m marks (place stream m (h .now) pool (pieces m count message)) (heldIn ws n) ws pool message n 0 count
+placing-start {stream = stream} {m = m} {ws = ws} {pool = pool} {message = message} {n = n} {count = count} h c e b =
     record {
       now = h .now;
       free = h .free;
       room = omega (arith, h .most);
-      written = rw (take-map unpack n ws) at (written-start {l = map unpack ws} (place m (h .now) pool (pieces m count message) .segments) n (length-map ws unpack ∙ e) b);
+      written = rw (take-map unpack n ws) at (written-start {l = map unpack ws} (place stream m (h .now) pool (pieces m count message) .segments) n (length-map ws unpack ∙ e) b);
       pools = refl;
     }
 
-module _ {m : ℕ} {marks : List ℕ} {goal : Placed} {front : List Held} {ws pool rest : List ℕ} {n from left : ℕ} (p : Placing m marks goal front ws pool rest n from left) where
+module _ {stream : Bool} {m : ℕ} {marks : List ℕ} {goal : Placed} {front : List Held} {ws pool rest : List ℕ} {n from left : ℕ} (p : Placing stream m marks goal front ws pool rest n from left) where
   -- nothing is left
-  pub placing-done : (before : List ℕ) (n₀ : ℕ) → front ≡ heldIn before n₀ → left ≤ 0 → Fills goal before n₀ ws n pool
+  pub placing-done : (before : List ℕ) (n₀ : ℕ) → front ≡ heldIn before n₀ → left ≤ 0 → Places goal before n₀ ws n pool
   unfolding pieces place
   placing-done before n₀ f h =
       let e : left ≡ 0 = omega arith in
@@ -70,15 +75,15 @@ module _ {m : ℕ} {marks : List ℕ} {goal : Placed} {front : List Held} {ws po
       lowest : lowestFree (p .now) 128 ≡ slot
       lowest = sym (e ∙ free-lowest-of (p .free) 128 (omega arith) (omega (arith, p .room)))
 
-      one : (k : ℕ) → left ≡ suc k → place m (p .now) pool (pieces m left rest) ≡ record {
-        segments = record { slot = slot; len = length (take m rest); fragment = k } ∷ place m (slot ∷ p .now) (sets pool (slot * m) (take m rest)) (pieces m k (drop m rest)) .segments;
-        pool = place m (slot ∷ p .now) (sets pool (slot * m) (take m rest)) (pieces m k (drop m rest)) .pool;
+      one : (k : ℕ) → left ≡ suc k → place stream m (p .now) pool (pieces m left rest) ≡ record {
+        segments = record { slot = slot; len = length (take m rest); fragment = cond stream 0 k } ∷ place stream m (slot ∷ p .now) (sets pool (slot * m) (take m rest)) (pieces m k (drop m rest)) .segments;
+        pool = place stream m (slot ∷ p .now) (sets pool (slot * m) (take m rest)) (pieces m k (drop m rest)) .pool;
       }
       unfolding pieces place
       one k q = rw (q, lowest, length-pieces m k (drop m rest))
 
-      next : (word : ℕ) → unpack word ≡ record { slot = slot; len = length (take m rest); fragment = left - 1 } → n < 128
-          → Placing m marks goal front (set ws n word) (sets pool (slot * m) (take m rest)) (drop m rest) (n + 1) (slot + 1) (left - 1)
+      next : (word : ℕ) → unpack word ≡ record { slot = slot; len = length (take m rest); fragment = cond stream 0 (left - 1) } → n < 128
+          → Placing stream m marks goal front (set ws n word) (sets pool (slot * m) (take m rest)) (drop m rest) (n + 1) (slot + 1) (left - 1)
       next word u h =
           let q = one (left - 1) (omega arith) in
           let low : slot < 128 = rw e next-low in
@@ -91,8 +96,8 @@ module _ {m : ℕ} {marks : List ℕ} {goal : Placed} {front : List Held} {ws po
           }
 
 -- a payload is stored in the next slot
-pub placing-next : {m : ℕ} {marks : List ℕ} {goal : Placed} {front : List Held} {ws pool message pool′ : List ℕ} {n left at from slot len : ℕ} (word : ℕ)
-    → Placing m marks goal front ws pool (drop at message) n from left → 0 < left → slot ≡ nextFree marks from → n < 128
-    → Stored m message at slot pool len pool′ → unpack word ≡ record { slot = slot; len = len; fragment = left - 1 }
-    → Placing m marks goal front (set ws n word) pool′ (drop (at + len) message) (n + 1) (slot + 1) (left - 1)
+pub placing-next : {stream : Bool} {m : ℕ} {marks : List ℕ} {goal : Placed} {front : List Held} {ws pool message pool′ : List ℕ} {n left at from slot len : ℕ} (word : ℕ)
+    → Placing stream m marks goal front ws pool (drop at message) n from left → 0 < left → slot ≡ nextFree marks from → n < 128
+    → Stored m message at slot pool len pool′ → unpack word ≡ record { slot = slot; len = len; fragment = cond stream 0 (left - 1) }
+    → Placing stream m marks goal front (set ws n word) pool′ (drop (at + len) message) (n + 1) (slot + 1) (left - 1)
 placing-next word p some e h s u = rw (stored-rest s, s .pool) (next p some e word (u ∙ rw (s .size) refl) h)

@@ -2,7 +2,7 @@
 -- Assumes nothing.
 use mathlib.Core.Path.{_≡_, refl, sym, ap, _∙_}
 use mathlib.Core.Bool.{Bool, true, false, cond}
-use mathlib.Core.List.{List, _++_}
+use mathlib.Core.List.{List, _++_, map}
 use Prim.Native.Nat.{ℕ, _+_, _-_, _*_, _^_, _≤_, _<_}
 use native.Mathlib.Omega.{arith}
 use borrow.Author.Tests.{le-leb, leb-true}
@@ -10,20 +10,23 @@ use lib.Dec.{ltb}
 use lib.ListN.{length, take, length-append, length-map}
 use lib.Seq.{length-take-le}
 use Rattle.protocol.specs.Protocol.{fragmentsMost, sendSlots}
-use Rattle.protocol.specs.Ranges.{inRange, mss}
+use Rattle.protocol.specs.Ranges.{mss, isStream}
 use Rattle.protocol.specs.declared.Refusal.{Refusal}
 use Rattle.protocol.specs.declared.Refusal.the-variants.{LongMessage, NoFreeSlots}
 use Rattle.protocol.specs.declared.Settings.{Settings}
 use Rattle.timing.specs.declared.Record.{Record}
 use Rattle.lists.specs.declared.Held.{Held}
+use Rattle.lists.specs.declared.Sent as outstanding
 use Rattle.sizes.specs.Sizes.{enough}
 use Rattle.sizes.specs.declared.Lengths.{Lengths}
-use Rattle.session.specs.Decides.{and-parts}
+use Rattle.session.specs.Decides.{All, and-parts}
 use Rattle.session.specs.State.{State, Outcome, refused, done, sendHeld, slots, withQueued}
-use Rattle.session.specs.Cutting.{fragmentCount, cut}
-use Rattle.session.specs.Sending.{Sends, sending, place}
-use Rattle.session.specs.Valid.{valid}
-use Rattle.session.specs.IsValid.{settings-decide}
+use Rattle.session.specs.Cutting.{segmentCount, cutAs}
+use Rattle.session.specs.Sending.{Sends, sending, place, filled}
+use Rattle.session.specs.AllLaws.{all-right, all-mapped}
+use Rattle.session.specs.Once.{Once, once-distinct}
+use Rattle.session.specs.UsedSlots.{distinct-few}
+use Rattle.session.specs.IsValid.{valid-decides}
 use Rattle.slots.specs.Slots.{slotsOf}
 use Rattle.words.specs.Words.{unpack, heldIn}
 use Rattle.marks.specs.Marks.{Free}
@@ -51,10 +54,13 @@ use Rattle.send_core.specs.Sending.{withCount, Enqueues}
 queued-alone : (s : State) (pool m : List ℕ) (x : Sends) → sending s pool m ≡ done x → x .state ≡ withQueued s (x .state .sending .queued)
 unfolding sending
 queued-alone s pool m x e =
+    let stream = isStream (s .settings) in
     let size = mss (s .settings) in
     let used = slots (sendHeld (s .sending)) in
-    let placed = place size used pool (cut size m) in
-    go (ltb (fragmentsMost * size) (length m)) (ltb (sendSlots - length used) (fragmentCount size (length m))) (s .sending .queued ++ placed .segments) (placed .pool) e
+    let f = filled stream size (s .sending .queued) pool m in
+    let placed = place stream size used (f .pool) (cutAs stream size (f .rest)) in
+    go (ltb (fragmentsMost * size) (length (f .rest))) (ltb (sendSlots - length used) (segmentCount stream size (length (f .rest))))
+    (f .queued ++ placed .segments) (placed .pool) e
   where
     go : (a b : Bool) (q : List Held) (p : List ℕ) → cond a (refused LongMessage) (cond b (refused NoFreeSlots) (done (record { state = withQueued s q; pool = p }))) ≡ done x
         → x .state ≡ withQueued s (x .state .sending .queued)
@@ -87,9 +93,17 @@ module _ (s : Settings) (f : Flight) (a : Arrival) (k : Clock) (x : Arrays) (rs 
       ∙ length-append (slotsOf (heldIn (x .outstanding) (f .outstanding))) (slotsOf (heldIn (x .queued) (f .queued)))
       ∙ rw (length-map (heldIn (x .outstanding) (f .outstanding)) (λ (h : Held). h .slot), length-map (heldIn (x .queued) (f .queued)) (λ (h : Held). h .slot), length-map (take (f .outstanding) (x .outstanding)) unpack, length-map (take (f .queued) (x .queued)) unpack, length-take-le (f .outstanding) (x .outstanding) o, length-take-le (f .queued) (x .queued) q)
 
+  -- and no more than there are slots, since none is held twice
+  used-few : Once used → All (λ (h : Held). h .slot < sendSlots) (sendHeld (stateOf link rs acks .sending)) → length used ≤ sendSlots
+  used-few o a =
+      distinct-few sendSlots used (once-distinct used o)
+      (all-mapped (λ (n : ℕ). n < sendSlots) (λ (h : Held). h .slot) (sendHeld (stateOf link rs acks .sending)) a)
+
   pub record Sendable (n : Lengths) (marks : List ℕ) : Type 0 where
     pub counts-fit : countsFit link ≡ true
     pub held : length used ≡ f .outstanding + f .queued
+    pub few : length used ≤ sendSlots
+    pub low : All (λ (h : Held). h .slot < sendSlots) (heldIn (x .queued) (f .queued))
     pub whole-marks : length marks ≡ 256
     pub free : Free marks used 0
     pub some : 0 < mss s
@@ -108,14 +122,19 @@ module _ (s : Settings) (f : Flight) (a : Arrival) (k : Clock) (x : Arrays) (rs 
       passing = passed-by long (blockValid link rs acks) v g p
 
       pub sendable : (send receive : List ℕ) → Checked link rs send receive true → Whole x → length rs ≡ 32 → Sendable n send
-      unfolding blockValid valid enough stateOf
+      unfolding blockValid enough stateOf
       sendable send receive c w l =
           let u = and-parts (countsFit link) _ (passing .valid-block) in
-          let range = settings-decide s .holds (and-parts (inRange s) _ (and-parts _ _ (and-parts _ _ (u .1) .0) .0) .0) in
+          let all = valid-decides (stateOf link rs acks) .holds (u .1) in
+          let range = all .settings in
+          let half = all .sending in
           let room = leb-true (sendSlots * mss s) (n .send) (and-parts _ _ (and-parts _ _ (and-parts _ _ (sym e ∙ passing .long-enough) .0) .0) .0) in
           record {
             counts-fit = u .0;
             held = used-count w l (u .0);
+            few = used-few (half .slots-once) (half .slots-below);
+            low = all-right (λ (h : Held). h .slot < sendSlots) (map (λ (y : outstanding.Sent). y .held) (stateOf link rs acks .sending .outstanding))
+                (heldIn (x .queued) (f .queued)) (half .slots-below);
             whole-marks = c .send-whole;
             free = c .send-free acks refl;
             some = omega (arith, range .mtu-least);
@@ -130,7 +149,7 @@ module _ (s : Settings) (f : Flight) (a : Arrival) (k : Clock) (x : Arrays) (rs 
 
   -- ---- enqueueing
 
-  module _ {n : Lengths} {marks : List ℕ} (p : Sendable n marks) {m : ℕ} (size : m ≡ mss s) where
+  module _ {n : Lengths} {marks : List ℕ} (p : Sendable n marks) {stream : Bool} {m : ℕ} (mode : stream ≡ isStream s) (size : m ≡ mss s) where
     pub enqueueable : Whole x → (pool : List ℕ) → n .send ≡ length pool → Enqueueable m (x .queued) (f .queued) (f .outstanding) marks pool
     unfolding countsFit
     enqueueable w pool l =
@@ -139,6 +158,8 @@ module _ (s : Settings) (f : Flight) (a : Arrival) (k : Clock) (x : Arrays) (rs 
           whole = w .whole-queued;
           queued-most = c .queued;
           outstanding-most = c .outstanding;
+          held-most = omega (arith, p .held, p .few);
+          low = p .low;
           marks-whole = p .whole-marks;
           marked = record { now = used; free = p .free; most = omega (arith, p .held) };
           some = rw size (p .some);
@@ -146,9 +167,9 @@ module _ (s : Settings) (f : Flight) (a : Arrival) (k : Clock) (x : Arrays) (rs 
           slots = rw (size, ← l) (p .long-enough);
         }
 
-    parts : PartsOf (stateOf link rs acks) m (x .queued) (f .queued) (f .outstanding) marks
+    parts : PartsOf (stateOf link rs acks) stream m (x .queued) (f .queued) (f .outstanding) marks
     unfolding stateOf
-    parts = record { size = sym size; queue = refl; held = p .held; free = p .free }
+    parts = record { mode = sym mode; size = sym size; queue = refl; held = p .held; free = p .free }
 
   counted : (c : ℕ) (q : List ℕ) → c ≤ 128 → countsFit link ≡ true → countsFit (linkOf s (withCount f c) a k (withWords x q)) ≡ true
   unfolding countsFit
@@ -173,8 +194,8 @@ module _ (s : Settings) (f : Flight) (a : Arrival) (k : Clock) (x : Arrays) (rs 
       }
 
   -- what sending past the checks gives, as the block
-  pub sent : {n : Lengths} {marks : List ℕ} (p : Sendable n marks) (m : ℕ) → m ≡ mss s → (pool message : List ℕ) (r : Sent) (q pool′ : List ℕ) → Enqueues m f (x .queued) marks pool message r q pool′
+  pub sent : {n : Lengths} {marks : List ℕ} (p : Sendable n marks) (stream : Bool) (m : ℕ) → stream ≡ isStream s → m ≡ mss s → (pool message : List ℕ) (r : Sent) (q pool′ : List ℕ) → Enqueues stream m f (x .queued) marks pool message r q pool′
       → SendCore (sending (stateOf link rs acks) pool message) link rs acks pool (r .answer) (linkOf s (r .flight) a k (withWords x q)) pool′
-  sent p m size pool message r q pool′ h =
+  sent p stream m mode size pool message r q pool′ h =
       let e : Enqueued = record { answer = r .answer; queued = r .flight .queued } in
-      rw (h .count-alone) (put-back pool message pool′ q e (sending (stateOf link rs acks) pool message) refl (h .follows (stateOf link rs acks) (parts p size)) (p .counts-fit))
+      rw (h .count-alone) (put-back pool message pool′ q e (sending (stateOf link rs acks) pool message) refl (h .follows (stateOf link rs acks) (parts p mode size)) (p .counts-fit))

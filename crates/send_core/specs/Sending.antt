@@ -1,6 +1,7 @@
 -- What sending leaves. Definitions.
 -- Assumes nothing.
 use mathlib.Core.Path.{_≡_}
+use mathlib.Core.Bool.{Bool}
 use mathlib.Core.List.{List}
 use Prim.Native.Nat.{ℕ}
 use Rattle.timing.specs.declared.Record.{Record}
@@ -20,9 +21,9 @@ abbrev pub withCount : Flight → ℕ → Flight
 withCount f n = record { una = f .una; next = f .next; rtt = f .rtt; window = f .window; queued = n; outstanding = f .outstanding }
 
 -- of the numbers the count alone changes, and with the list and the pool it is what sending gives
-pub record Enqueues (m : ℕ) (f : Flight) (queued marks pool message : List ℕ) (r : Sent) (queued′ pool′ : List ℕ) : Type 0 where
+pub record Enqueues (stream : Bool) (m : ℕ) (f : Flight) (queued marks pool message : List ℕ) (r : Sent) (queued′ pool′ : List ℕ) : Type 0 where
   pub count-alone : r .flight ≡ withCount f (r .flight .queued)
-  pub follows : (s : State) → PartsOf s m queued (f .queued) (f .outstanding) marks
+  pub follows : (s : State) → PartsOf s stream m queued (f .queued) (f .outstanding) marks
       → Follows (sending s pool message) queued (f .queued) pool (record { answer = r .answer; queued = r .flight .queued }) queued′ pool′
 
 -- by the block before and after it

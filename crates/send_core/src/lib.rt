@@ -19,6 +19,7 @@ pub struct Sent {
 
 // Sending where 7 and 13 have passed; the slots held are marked.
 fn send_checked(
+    stream: bool,
     mss: usize,
     flight: Flight,
     queued: &mut [u32; 128],
@@ -27,10 +28,11 @@ fn send_checked(
     message: &[u8],
 ) -> Sent
     requires { ⌜ Enqueueable mss (now queued) (flight .queued) (flight .outstanding) (now marks) (now pool) ⌝ }
-    ensures { λ r. ⌜ Enqueues mss flight (now (queued .entry)) (now (marks .entry)) (now (pool .entry)) (now (message .entry))
+    ensures { λ r. ⌜ Enqueues stream mss flight (now (queued .entry)) (now (marks .entry)) (now (pool .entry)) (now (message .entry))
         r (now (queued .exit)) (now (pool .exit)) ⌝ }
 {
     let result = enqueue::enqueue(
+        stream,
         mss,
         queued,
         flight.queued,
@@ -107,7 +109,16 @@ pub fn send(
         },
         Verdict::Passed => {
             let mss = settings.mss();
-            send_checked(mss, flight, queued, &send_marks, send_pool, message)
+            let stream = settings.stream == 1;
+            send_checked(
+                stream,
+                mss,
+                flight,
+                queued,
+                &send_marks,
+                send_pool,
+                message,
+            )
         }
     }
 }

@@ -18,11 +18,19 @@ fn writing_code(writing: Writing) -> i32
 }
 
 // Writes the file of these settings at the start of a part: 0, or the refusal.
-pub fn write(conv: u32, mtu: u32, mode: u32, interval: u32, threshold: u32, file: &mut [u8]) -> i32
+pub fn write(
+    conv: u32,
+    mtu: u32,
+    mode: u32,
+    interval: u32,
+    threshold: u32,
+    stream: u32,
+    file: &mut [u8],
+) -> i32
     ensures { λ r. ⌜ Gives writingCode
-        (λ a. Writes (settingsOf conv mtu mode interval threshold) (now (file .entry)) a (now (file .exit))) r ⌝ }
+        (λ a. Writes (settingsOf conv mtu mode interval threshold stream) (now (file .entry)) a (now (file .exit))) r ⌝ }
 {
-    let settings = codes::settings(conv, mtu, mode, interval, threshold);
+    let settings = codes::settings(conv, mtu, mode, interval, threshold, stream);
     let writing = settings_file::write(settings, file);
     writing_code(writing)
 }

@@ -3,3 +3,4 @@ pub mod OfStreams
 pub mod Blocks
 pub mod OfEndpoints
 pub mod OfQuiet
+pub mod OfTwoEnds

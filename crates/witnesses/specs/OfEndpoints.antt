@@ -177,6 +177,12 @@ opens-fresh = met .opens
 pub sends-it : Called fresh (Call.send (104 ∷ 105 ∷ [])) Answer.accepted sent
 sends-it = met .sends-it
 
+pub flushes-it : Called sent (Call.flush 7) (Answer.wrote (datagram ∷ [])) flushed
+flushes-it = met .flushes-it
+
+pub reads-nothing : Called fresh (Call.read 10) (Answer.refused NoMessage) fresh
+reads-nothing = met .reads-nothing
+
 -- ---- the three of them, since opening
 
 sender-runs : SinceOpening c calls events flushed

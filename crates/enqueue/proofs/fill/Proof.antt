@@ -1,93 +1,92 @@
--- `fill`: what is still to be placed, placed from here, completes the whole.
+-- `fill`: the last queued segment takes the bytes behind its payload, where it has room.
 -- Assumes nothing.
-use mathlib.Core.Path.{_≡_, refl}
-use Prim.Native.Nat.{_+_, _-_, _≤_, _<_}
+use mathlib.Core.Path.{_≡_}
+use Prim.Native.Nat.{_+_, _-_, _*_, _^_, _≤_, _<_}
 use native.Mathlib.Omega.{arith}
-use lib.ListN.{length, drop}
-use Rattle.session.specs.Cutting.{pieces}
-use Rattle.session.specs.Sending.{place}
-use Rattle.words.specs.Words.{heldIn}
-use Rattle.marks.specs.Marks.{nextFree}
-use Rattle.enqueue.specs.Enqueueing.{Marked, Fillable}
-use Rattle.enqueue.proofs.Payloads.{stored-short, stored-within}
-use Rattle.enqueue.proofs.Places.{Placing, placing-start, next-low, placing-next, placing-done}
 use borrow.Author.Needs.{needs}
+use lib.ListN.{length, getD}
+use Rattle.enqueue.proofs.Lasts.{fills-none, fills-some, fill-end, low-byte, last-low}
 use Rattle.enqueue.proofs.fill.Statement.{statement}
 use Rattle.enqueue.proofs.fill.Tie as tie
 
-abbrev Inv-loop : tie.InvT-loop
-Inv-loop mss queued₀ n marks pool₀ message count next₀ slot₀ at₀ left₀ queued pool next slot at left =
-    (at ≤ length message)
-    × (length pool ≡ length pool₀)
-    × (next + left ≤ 128)
-    × (slot ≤ 256)
-    × Fillable mss queued₀ n marks pool₀ count
-    × ((h : Marked marks (128 - count)) → Placing mss marks (place mss (h .now) pool₀ (pieces mss count message)) (heldIn queued₀ n) queued pool (drop at message) next slot left)
+returns : tie.Need-returns
+returns c = let p = c .before .before .before .pre in fills-none _ _ _ _ _ _ (p .whole) (p .most) (c .if1 .taken)
 
-abbrev μ-loop : tie.MeasureT-loop
-μ-loop mss queued₀ n marks pool₀ message count next₀ slot₀ at₀ left₀ queued pool next slot at left = left
+-- there is room, and one is queued
+has : (c : tie.Else1) → 0 < c .before .before .before .args .room
+has c = omega (arith, c .if1 .left)
 
-loop-holds : tie.Need-loop-holds Inv-loop μ-loop
-loop-holds c =
-    let p = c .before .before .pre in
-    (search needs, refl, search needs, search needs, p, λ h. placing-start h (omega (arith, p .room)) (p .whole) (omega (arith, p .room)))
+some : (c : tie.Else1) → 0 < c .before .before .before .args .n
+some c = c .before .before .before .pre .within (has c) .0
 
--- where a payload is left, a slot is free
-slot-low : (c : tie.In-loop Inv-loop μ-loop) → nextFree (c .before .before .before .before .args .marks .now) (c .before .loop .slot) < 128
-slot-low c = let v = c .before .loop .inv in next-low (v .5 (v .4 .marked)) (c .loop-test .taken)
+sub-unpacked : tie.Need-sub-unpacked
+sub-unpacked c = omega (arith, some c)
 
-free-from-requires : tie.Need-free-from-requires Inv-loop μ-loop
-free-from-requires c κs = let v = c .before .loop .inv in (v .4 .marks-whole, v .3, omega (arith, slot-low c))
+-- the slot is one of the pool, and what is filled stays within it
+ends : (c : tie.After-unpacked) →
+    let s = c .before .before .before .before .before in
+    (c .unpacked .result .slot * s .args .mss + s .args .mss ≤ length (s .args .pool .now)) × (c .unpacked .result .len + s .args .k ≤ s .args .mss)
+ends c =
+    let s = c .before .before .before .before .before in
+    let e = c .before .before in
+    fill-end (getD (s .args .queued .now) (s .args .n - 1) 0) (s .args .mss) (s .args .room) (s .args .k) (length (s .args .pool .now)) (c .unpacked .ensures)
+    (last-low (s .args .queued .now) (s .args .n) (some e) (s .pre .most) (s .pre .whole) (s .pre .low)) (s .pre .within (has e) .1) (omega (arith, s .pre .taken)) (s .pre .slots)
 
-store-requires : tie.Need-store-requires Inv-loop μ-loop
-store-requires c κs = let v = c .before .before .before .loop .inv in (v .0, omega (arith, slot-low (c .before .before), c .before .free-from .ensures), omega (arith, v .1, v .4 .slots))
+-- an address of the pool has 64 bits
+below : (s : tie.Start) → length (s .args .pool .now) < 2 ^ 64
+below s = search needs
 
--- the payload stored is short, and its slot a byte
-short : (c : tie.After-store Inv-loop μ-loop) → c .store .result < 65536
-short c = omega (arith, stored-short (c .store .ensures), c .before .before .before .before .loop .inv .4 .word)
+mul-copy-part : tie.Need-mul-copy-part
+mul-copy-part c =
+    let e = ends (c .before .before .before) in
+    record { fits = omega (arith, e .0, below (c .before .before .before .before .before .before .before .before)) }
 
-found : (c : tie.After-free-from Inv-loop μ-loop) → c .free-from .result < 128
-found c = omega (arith, slot-low (c .before), c .free-from .ensures)
+add-copy-part : tie.Need-add-copy-part
+add-copy-part c =
+    let e = ends (c .before .before .before) in
+    record { fits = omega (arith, e .0, e .1, below (c .before .before .before .before .before .before .before .before)) }
 
-word-of-requires : tie.Need-word-of-requires Inv-loop μ-loop
-word-of-requires c κs = let v = c .before .before .before .before .before .before .loop .inv in (omega (arith, found (c .before .before .before .before)), short (c .before .before), omega (arith, v .2))
+copy-part-requires : tie.Need-copy-part-requires
+copy-part-requires c κs =
+    let e = ends (c .before .before .before) in
+    let p = c .before .before .before .before .before .before .before .before .pre in
+    (omega (arith, p .taken), omega (arith, e .0, e .1))
 
-add-at : tie.Need-add-at Inv-loop μ-loop
-add-at c = omega (arith, stored-within (c .before .before .before .store .ensures) (c .before .before .before .before .before .before .before .loop .inv .0))
+word-of-requires : tie.Need-word-of-requires
+word-of-requires c κs =
+    let e = ends (c .before .before .before .before .before .before) in
+    let p = c .before .before .before .before .before .before .before .before .before .before .before .pre in
+    (omega (arith, low-byte (getD (c .before .before .before .before .before .before .before .before .before .before .before .args .queued .now) (c .before .before .before .before .before .before .before .before .before .before .before .args .n - 1) 0) (c .before .before .before .before .before .before .unpacked .ensures)), omega (arith, e .1, p .word), omega arith)
 
-loop-again : tie.Need-loop-again Inv-loop μ-loop
-loop-again c =
-    let v = c .before .before .before .before .before .before .before .loop .inv in
-    let s = c .before .before .before .store .ensures in
-    let f = c .before .before .before .before .before .free-from .ensures in (
-      stored-within s (v .0),
-      search needs,
-      search needs,
-      omega (arith, found (c .before .before .before .before .before)),
-      v .4,
-      λ h. placing-next (c .word-of .result) (v .5 h) (c .before .before .before .before .before .before .loop-test .taken) f (omega (arith, v .2, c .before .before .before .before .before .before .loop-test .taken)) s (c .word-of .ensures),
-    )
+sub-queued : tie.Need-sub-queued
+sub-queued c = omega (arith, some (c .before .before .before .before .before .before .before .before .before))
 
-returns : tie.Need-returns Inv-loop μ-loop
-returns c h = let v = c .before .loop .inv in placing-done (v .5 h) _ _ refl (c .loop-test .left)
+returns-2 : tie.Need-returns-2
+returns-2 c =
+    let s = c .before .before .before .before .before .before .before .before .before .before .before .before in
+    let e = c .before .before .before .before .before .before .before .before .before in
+    fills-some (s .args .mss) (s .args .queued .now) (s .args .n) (s .args .room) (s .args .pool .now) (s .args .message .now) (s .pre .whole) (s .pre .most)
+    (c .before .before .before .before .before .before .before .unpacked .result) (c .word-of .result) (s .args .k) _ (some e) (has e) (s .pre .taken) (c .before .before .before .before .before .before .before .unpacked .ensures) (c .word-of .ensures)
+    (c .before .before .before .copy-part .ensures)
 
 pub fill-spec : {M : Type 1} → statement M
 fill-spec =
     tie.close
     (tie.spec
-    Inv-loop
-    μ-loop
-    loop-holds
+    returns
+    sub-unpacked
     (λ c. search needs)
-    free-from-requires
-    store-requires
+    (λ c. search needs)
+    (λ c κs. search needs)
+    (λ c. search needs)
+    (λ c. search needs)
+    mul-copy-part
+    add-copy-part
+    copy-part-requires
+    (λ c. search needs)
     word-of-requires
+    sub-queued
     (λ c. search needs)
     (λ c. search needs)
     (λ c. search needs)
-    (λ c. omega (arith, found (c .before .before .before .before .before)))
-    add-at
-    (λ c. search needs)
-    loop-again
-    (λ c. search needs)
-    returns)
+    returns-2)

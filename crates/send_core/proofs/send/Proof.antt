@@ -5,6 +5,7 @@ use mathlib.Core.List.{List}
 use Prim.Native.Nat.{ℕ}
 use borrow.Author.Needs.{needs}
 use lib.ListN.{length}
+use Rattle.protocol.specs.Ranges.{isStream}
 use Rattle.lists.proofs.Loops.{length-mapped}
 use Rattle.control.specs.Views.{Arrays, arrays}
 use Rattle.promises.specs.Parts.{lentLengths}
@@ -39,8 +40,9 @@ checked c =
 
 send-checked-requires : tie.Need-send-checked-requires
 send-checked-requires c κs =
-    let s = c .before .before .before .before .before .before .before .before .before .before .before .before .before .before .before in
-    enqueueable (s .args .settings) (s .args .flight) (s .args .arrival) (s .args .clock) (lists s) (s .args .records) (s .args .acks .now) (checked (c .before .before .before .before)) (c .before .before .before .mss .ensures) (s .pre) _ refl
+    let s = c .before .before .before .before .before .before .before .before .before .before .before .before .before .before .before .before in
+    enqueueable (s .args .settings) (s .args .flight) (s .args .arrival) (s .args .clock) (lists s) (s .args .records) (s .args .acks .now)
+    (checked (c .before .before .before .before .before)) {stream = isStream (s .args .settings)} refl (c .before .before .before .before .mss .ensures) (s .pre) _ refl
 
 returns : tie.Need-returns
 returns c =
@@ -49,10 +51,12 @@ returns c =
 
 returns-2 : tie.Need-returns-2
 returns-2 c =
-    let s = c .before .before .before .before .before .before .before .before .before .before .before .before .before .before .before .before .before .before in
-    let p = checked (c .before .before .before .before .before .before .before) in
-    passes (s .args .settings) (s .args .flight) (s .args .arrival) (s .args .clock) (lists s) (s .args .records) (s .args .acks .now) (lent s) _ _ (c .before .before .before .before .before .before .before .before .before .before .before .before .before .enough .ensures) (c .before .before .before .before .before .before .before .before .before .admit .ensures .verdict _) (c .before .before .before .before .before .before .before .enum-told .given .1) _ _ _ _ _
-    (sent (s .args .settings) (s .args .flight) (s .args .arrival) (s .args .clock) (lists s) (s .args .records) (s .args .acks .now) p _ (c .before .before .before .before .before .before .mss .ensures) _ _ (c .before .before .send-checked .result) _ _ (c .before .before .send-checked .ensures))
+    let s = c .before .before .before .before .before .before .before .before .before .before .before .before .before .before .before .before .before .before .before in
+    let p = checked (c .before .before .before .before .before .before .before .before) in
+    passes (s .args .settings) (s .args .flight) (s .args .arrival) (s .args .clock) (lists s) (s .args .records) (s .args .acks .now) (lent s) _ _
+    (c .before .before .before .before .before .before .before .before .before .before .before .before .before .before .enough .ensures) (c .before .before .before .before .before .before .before .before .before .before .admit .ensures .verdict _) (c .before .before .before .before .before .before .before .before .enum-told .given .1) _ _ _ _ _
+    (sent (s .args .settings) (s .args .flight) (s .args .arrival) (s .args .clock) (lists s) (s .args .records) (s .args .acks .now) p
+    (isStream (s .args .settings)) _ refl (c .before .before .before .before .before .before .before .mss .ensures) _ _ (c .before .before .send-checked .result) _ _ (c .before .before .send-checked .ensures))
 
 pub send-spec : {M : Type 1} → statement M
 send-spec =

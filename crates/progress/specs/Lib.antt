@@ -1,0 +1,10 @@
+pub mod SmallNumbers
+pub mod Had
+pub mod Outstanding
+pub mod Carried
+pub mod TwoEnds
+pub mod Joint
+pub mod Trip
+pub mod Counting
+pub mod Moves
+pub mod RoundTrip

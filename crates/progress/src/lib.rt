@@ -1,0 +1,1 @@
+// One good round trip is enough: definitions and proofs, in specs/.
