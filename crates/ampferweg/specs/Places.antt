@@ -7,7 +7,8 @@ use Rattle.control.specs.declared.Link.{Link}
 use Rattle.promises.specs.Parts.{Parts}
 use Rattle.promises.specs.Outcomes.{shows}
 use Rattle.read_core.specs.declared.Place.{Place}
-use Rattle.read_core.specs.Places.{placeOf, PlaceIs}
+use Rattle.promises.specs.Promises.{placeOf}
+use Rattle.read_core.specs.Places.{PlaceIs}
 use Rattle.results.specs.PlaceCodes.{placeStart}
 
 -- showing changes nothing; it tells where in the receive pool the front segment's payload lies, 0 and 0 where it is refused, and stores the start

@@ -26,7 +26,7 @@ use Rattle.promises.specs.Outcomes.{opens, sends, takesIn, flushes, reads, tell
 use Rattle.promises.specs.Answers.{Accepts, Counts, countOutcome}
 use Rattle.promises.specs.Promises.{OpenPromise, SendPromise, InputPromise, FlushPromise, ReadPromise, SizePromise}
 use Rattle.read_core.specs.declared.Place.{Place}
-use Rattle.read_core.specs.Places.{placeOf}
+use Rattle.promises.specs.Promises.{placeOf}
 use Rattle.codes.specs.Codes.{refusalCode, answerCode, sizeCode, countCode}
 use Rattle.codes.specs.Gives.{Gives}
 use Rattle.results.specs.PlaceCodes.{placeCode}

@@ -7,7 +7,7 @@ use protocol::Settings;
 use timing::Record;
 ghost use mathlib.Core.Path.{_≡_};
 ghost use lib.ListN.{length, take, drop};
-ghost use Rattle.read_core.specs.Places.{ShowsPart};
+ghost use Rattle.promises.specs.Promises.{ShowsPart};
 ghost use Rattle.promises.specs.Parts.{partsOf};
 ghost use Rattle.promises.specs.Outcomes.{shows};
 ghost use Rattle.promises.specs.Promises.{OpenPromise, SendPromise, InputPromise, FlushPromise, ReadPromise, SizePromise};

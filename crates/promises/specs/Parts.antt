@@ -47,7 +47,8 @@ stateIn l p = stateOf l (recordsOf l p) (p .acks)
 abbrev pub isMade : Link → Parts → Bool
 isMade l p = blockValid l (recordsOf l p) (p .acks)
 
--- the block stands for a state: its counts are within the arrays, and its state is this one
+-- the block stands for a state: its counts are within the arrays, and its state is this one. Nothing is said of what is not state:
+-- entries past a count, and which value other than 0 a set flag has
 pub record Stands (l : Link) (p : Parts) (s : State) : Type 0 where
   pub counts : countsFit l ≡ true
   pub state : stateIn l p ≡ s

@@ -3,7 +3,7 @@
 -- Assumes nothing.
 use mathlib.Core.Path.{_≡_}
 use mathlib.Core.List.{List, map}
-use Prim.Native.Nat.{ℕ, _*_}
+use Prim.Native.Nat.{ℕ, _+_, _*_}
 use lib.ListN.{length, take, drop}
 use lib.Seq.{sets}
 use Rattle.protocol.specs.declared.Settings.{Settings}
@@ -150,6 +150,22 @@ abbrev pub shown : Outcome Part → List ℕ → List ℕ
 shown (refused r) pool = take 0 pool
 shown (done x) pool = take (x .count) (drop (x .start) pool)
 
--- showing changes nothing, and gives the front segment's payload
-pub record ShowPromise (l : Link) (p : Parts) (part : List ℕ) : Type 0 where
-  pub bytes : part ≡ shown (shows l p) (p .receivePool)
+-- where it begins, and how long it is; 0 and 0 where showing is refused
+unfoldable pub placeOf : Outcome Part → Part
+placeOf (refused r) = record { start = 0; count = 0 }
+placeOf (done x) = x
+
+-- an address is a block of memory and an offset in it: a part of the pool, from `start` on
+pub record LiesAt (start : ℕ) (pool part : ℕ × ℕ) : Type 0 where
+  pub block : part .0 ≡ pool .0
+  pub offset : part .1 ≡ pool .1 + start
+
+-- the very part of the pool at this address, and its bytes
+pub record ShowsPart (o : Outcome Part) (address : ℕ × ℕ) (pool : List ℕ) (address′ : ℕ × ℕ) (part : List ℕ) : Type 0 where
+  pub place : LiesAt (placeOf o .start) address address′
+  pub bytes : part ≡ shown o pool
+
+-- showing changes nothing, and gives the front segment's payload as the very part of the receive pool that holds it: the pool's address, and
+-- that of the part with its bytes; an empty one at the pool's start where it is refused
+abbrev pub ShowPromise : Link → Parts → ℕ × ℕ → ℕ × ℕ → List ℕ → Type 0
+ShowPromise l p address address′ part = ShowsPart (shows l p) address (p .receivePool) address′ part

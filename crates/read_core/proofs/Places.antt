@@ -20,13 +20,13 @@ use Rattle.control.specs.Views.{stateOf}
 use Rattle.control.specs.declared.Link.{Link}
 use Rattle.checking.specs.VerdictLaws.{Passes}
 use Rattle.promises.specs.Outcomes.{checked}
-use Rattle.promises.specs.Promises.{shown}
+use Rattle.promises.specs.Promises.{shown, placeOf, LiesAt, ShowsPart}
 use Rattle.deliver.specs.Messages.{InSlots}
 use Rattle.deliver.proofs.Fronts.{rest-next, rest-end}
 use Rattle.deliver.proofs.Copies.{in-slot}
 use Rattle.read_core.specs.declared.Place.{Place}
 use Rattle.read_core.specs.Messages.{Readable}
-use Rattle.read_core.specs.Places.{placeOf, frontOutcome, PlaceIs, LiesAt, ShowsPart}
+use Rattle.read_core.specs.Places.{frontOutcome, PlaceIs}
 
 -- ---- the front segment
 

@@ -20,7 +20,8 @@ ghost use Rattle.promises.specs.Parts.{lentLengths};
 ghost use Rattle.arriving.specs.Arrivals.{WholeLists, Fits};
 ghost use Rattle.deliver.specs.Messages.{InSlots, InPool, fittingOf};
 ghost use Rattle.read_core.specs.Messages.{ReadOver, ReadMessage};
-ghost use Rattle.read_core.specs.Places.{placeOf, frontOutcome, PlaceIs, LiesAt, ShowsPart};
+ghost use Rattle.promises.specs.Promises.{placeOf, LiesAt, ShowsPart};
+ghost use Rattle.read_core.specs.Places.{frontOutcome, PlaceIs};
 
 // The answer of reading, and the receiving half's numbers after it.
 pub struct Delivered {

@@ -38,7 +38,7 @@ use Rattle.session.specs.Reading as reading-of
 use Rattle.session.specs.Reading.{Reads, joinedIn, message, lengthOf, messageSize, reading, telling, showing}
 use Rattle.session.specs.Updating as session
 use Rattle.session.specs.Updating.{updating, checking}
-use Rattle.promises.specs.Promises.{shown}
+use Rattle.promises.specs.Promises.{shown, placeOf}
 use Rattle.wrong_links.specs.Standing.{Known, Passes, lengthsKnown}
 
 -- ---- both ends at first
@@ -186,7 +186,8 @@ pub record Computed : Type 0 where
   pub size-none : telling (oneHeard .state) ≡ refused NoMessage
   pub takes-second : isDone (input (oneHeard .state) (oneHeard .receivePool) (getD datagrams 1 [])) ≡ true
   pub size-first : telling (bothHeard .state) ≡ done 27
-  pub shown-first : shown (showing (bothHeard .state)) (bothHeard .receivePool) ≡ replicate 26 7
+  pub shown-first : (placeOf (showing (bothHeard .state)) .start ≡ 0) × (shown (showing (bothHeard .state)) (bothHeard .receivePool) ≡ replicate 26 7)
+  pub shown-second : (placeOf (showing (oneRead .state)) .start ≡ 52) × (shown (showing (oneRead .state)) (oneRead .receivePool) ≡ second)
   pub reads-first : isDone (reading (bothHeard .state) (bothHeard .receivePool) 30) ≡ true
   pub message-first : reads bothHeard .bytes ≡ first
   pub reads-second : isDone (reading (oneRead .state) (oneRead .receivePool) 30) ≡ true
@@ -209,7 +210,7 @@ all-pass = record {
 }
 
 pub computed : Computed
-unfolding sendPool receivePool first second oneSent bothSent flush flushed update updated rested laterUpdate datagrams acks acknowledged oneHeard bothHeard oneRead bothRead opened opening enough signed isBefore isAfter isDue front back encode decode bytesOf numberAt verdict segmentOf tail walk parse longerWait nextClock nextSmoothed nextVariation leastTimeout timeoutOf sampled firstDue growth longerTimeout isSkipped transmission select firstNumberOr skipBefore advance startsAt insert isHeld ascending fragmentCount segmentCount pieces cutAs filled numbered numberedCount withNumbered transmittedNow written bytesOfSegments packOne packed flushing input-of.acknowledged sampledBy heardBySending pushed heardByReceiving allBySending allByReceiving ackNumbers furthest skipped applied input joinedIn message lengthOf messageSize reading-of.afterRead reading telling showing place sending occurs lowestFrom lowestFree numbersFit waitingFits settled sendingValid receivingValid valid scheduling.updated isAstray corrected started following ahead earliest named updating checking
+unfolding placeOf sendPool receivePool first second oneSent bothSent flush flushed update updated rested laterUpdate datagrams acks acknowledged oneHeard bothHeard oneRead bothRead opened opening enough signed isBefore isAfter isDue front back encode decode bytesOf numberAt verdict segmentOf tail walk parse longerWait nextClock nextSmoothed nextVariation leastTimeout timeoutOf sampled firstDue growth longerTimeout isSkipped transmission select firstNumberOr skipBefore advance startsAt insert isHeld ascending fragmentCount segmentCount pieces cutAs filled numbered numberedCount withNumbered transmittedNow written bytesOfSegments packOne packed flushing input-of.acknowledged sampledBy heardBySending pushed heardByReceiving allBySending allByReceiving ackNumbers furthest skipped applied input joinedIn message lengthOf messageSize reading-of.afterRead reading telling showing place sending occurs lowestFrom lowestFree numbersFit waitingFits settled sendingValid receivingValid valid scheduling.updated isAstray corrected started following ahead earliest named updating checking
 computed = record {
   opens = refl;
   sends-first = refl;
@@ -230,7 +231,8 @@ computed = record {
   size-none = refl;
   takes-second = refl;
   size-first = refl;
-  shown-first = refl;
+  shown-first = (refl, refl);
+  shown-second = (refl, refl);
   reads-first = refl;
   message-first = refl;
   reads-second = refl;

@@ -34,7 +34,7 @@ use Rattle.answers.specs.declared.Time.{Time}
 use Rattle.promises.specs.Parts.{Parts, lengthsOf, isMade}
 use Rattle.promises.specs.Outcomes.{sendsWith, takesInWith, flushesWith, updatesWith, checksWith, readsWith, tellsWith, showsWith, opens, sends, takesIn, flushes, updates, checks, reads, tells, shows}
 use Rattle.promises.specs.Answers.{Accepts, Counts, countOutcome, updateAnswer, timeOutcome}
-use Rattle.promises.specs.Promises.{OpenPromise, OpenLeaves, SendPromise, SendLeaves, InputPromise, InputLeaves, Flushes, FlushPromise, FlushLeaves, UpdatePromise, UpdateLeaves, CheckPromise, ReadPromise, NoRead, ReadLeaves, SizePromise, ShowPromise, shown}
+use Rattle.promises.specs.Promises.{OpenPromise, OpenLeaves, SendPromise, SendLeaves, InputPromise, InputLeaves, Flushes, FlushPromise, FlushLeaves, UpdatePromise, UpdateLeaves, CheckPromise, ReadPromise, NoRead, ReadLeaves, SizePromise, ShowPromise, ShowsPart}
 use Rattle.wrong_links.specs.Standing.{Known, Lends, At, Passes, lengthsKnown}
 
 -- ---- opening
@@ -214,5 +214,6 @@ module _ (l : Link) (p : Parts) (k : Known) (at : At l p k) (passes : Passes k) 
   pub size-goes : (a : Count) → SizePromise l p a → countOutcome a ≡ telling (k .state)
   size-goes a h = h .answer ∙ tells-known
 
-  pub show-goes : (part : List ℕ) → ShowPromise l p part → part ≡ shown (showing (k .state)) (k .receivePool)
-  show-goes part h = h .bytes ∙ rw (shows-known, at .lends .receivePool)
+  pub show-goes : (address address′ : ℕ × ℕ) (part : List ℕ) → ShowPromise l p address address′ part
+      → ShowsPart (showing (k .state)) address (k .receivePool) address′ part
+  show-goes address address′ part h = rw (shows-known, at .lends .receivePool) at h

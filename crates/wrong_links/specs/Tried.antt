@@ -35,7 +35,7 @@ use Rattle.answers.specs.declared.Time.{Time}
 use Rattle.answers.specs.declared.Time.the-variants as time
 use Rattle.promises.specs.Parts.{Parts, stateIn}
 use Rattle.promises.specs.Answers.{countOutcome, timeOutcome}
-use Rattle.promises.specs.Promises.{OpenPromise, SendPromise, InputPromise, FlushPromise, UpdatePromise, CheckPromise, ReadPromise, SizePromise, ShowPromise}
+use Rattle.promises.specs.Promises.{OpenPromise, SendPromise, InputPromise, FlushPromise, UpdatePromise, CheckPromise, ReadPromise, SizePromise, ShowPromise, LiesAt}
 use Rattle.wrong_links.specs.Standing.{Lends, At}
 use Rattle.wrong_links.specs.StandingLaws.{opening-goes, send-goes, input-goes, flush-goes, update-goes, update-waits, check-goes, read-goes, read-refused, size-goes, show-goes}
 use Rattle.wrong_links.specs.Session as session
@@ -167,8 +167,18 @@ module _ (l : Link) (p : Parts) where
   pub size-first : (a : Count) → At l p bothHeard → SizePromise l p a → a ≡ count.Of 27
   size-first a at h = count-done a 27 (size-goes l p bothHeard at (all-pass .both-heard) a h ∙ computed .size-first)
 
-  pub show-first : (part : List ℕ) → At l p bothHeard → ShowPromise l p part → part ≡ replicate 26 7
-  show-first part at h = show-goes l p bothHeard at (all-pass .both-heard) part h ∙ computed .shown-first
+  -- the very part: the first segment in the pool's first slot, and the message behind it two slots further on
+  pub show-first : (address address′ : ℕ × ℕ) (part : List ℕ) → At l p bothHeard → ShowPromise l p address address′ part
+      → LiesAt 0 address address′ × (part ≡ replicate 26 7)
+  show-first address address′ part at h =
+      let r = show-goes l p bothHeard at (all-pass .both-heard) address address′ part h in
+      (rw (computed .shown-first .0) at (r .place), r .bytes ∙ computed .shown-first .1)
+
+  pub show-second : (address address′ : ℕ × ℕ) (part : List ℕ) → At l p oneRead → ShowPromise l p address address′ part
+      → LiesAt 52 address address′ × (part ≡ second)
+  show-second address address′ part at h =
+      let r = show-goes l p oneRead at (all-pass .one-read) address address′ part h in
+      (rw (computed .shown-second .0) at (r .place), r .bytes ∙ computed .shown-second .1)
 
   -- before the first update now; then the next flush time
   pub check-first : (a : Time) → At l p bothSent → CheckPromise 5 l p a → a ≡ time.At 5

@@ -54,7 +54,8 @@ use Rattle.records.specs.Tables.{slotsIn, gathered, padded}
 use Rattle.control.specs.Views.{Whole, arrays}
 use Rattle.promises.specs.Parts.{lentLengths, partsOf}
 use Rattle.promises.specs.Outcomes.{showsWith}
-use Rattle.read_core.specs.Places.{placeOf, PlaceIs}
+use Rattle.promises.specs.Promises.{placeOf}
+use Rattle.read_core.specs.Places.{PlaceIs}
 use Rattle.codes.specs.Gives.{Gives}
 use Rattle.codes.proofs.Told.{told}
 use Rattle.results.specs.PlaceCodes.{placeCode, placeStart}

@@ -10,7 +10,7 @@ use Rattle.from_cores.proofs.Gathered.{Gathers}
 use mathlib.Core.List.{List}
 use Rattle.session.specs.State.{Outcome}
 use Rattle.session.specs.Reading.{Part}
-use Rattle.read_core.specs.Places.{ShowsPart}
+use Rattle.promises.specs.Promises.{ShowsPart}
 use Rattle.kept_calls.proofs.Wholes.{whole-of, lent-length}
 use Rattle.kept_calls.proofs.show.Statement.{statement}
 use Rattle.kept_calls.proofs.show.Tie as tie
