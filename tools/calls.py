@@ -7,7 +7,7 @@
 import sys
 
 from mir import Call, write
-from rows import Declared, Nothing, Number, Numbers, Records, Signed
+from rows import Declared, Nothing, Number, Numbers, Records, Signed, Truth
 from walk import Par, low
 
 SETTINGS, FLIGHT = Declared('protocol', 'Settings'), Declared('control', 'Flight')
@@ -24,15 +24,16 @@ TYPES = {
     'open_core::Opened': OPENED, 'send_core::Sent': SENT, 'input_core::Taken': TAKEN, 'flush_core::Flushed': FLUSHED,
     'update_core::Updated': UPDATED, 'answers::Time': TIME,
     'read_core::Delivered': DELIVERED, 'read_core::Place': PLACE, 'answers::Count': COUNT,
-    'tyInt 64': Number('usize'), 'tyInt 32': CODE, 'tyUnit': Nothing(),
+    'tyInt 64': Number('usize'), 'tyInt 32': CODE, 'tyBool': Truth(), 'tyUnit': Nothing(),
     'tyArray timing::Record 32': Records(), 'tyArray tyInt 32 32': Numbers('u32', 32),
 }
 
 # what a proof names of the specs and laws
 NAMES = {
-    'mathlib.Core.Path': '_∙_ sym subst', 'lib.ListN': 'take',
+    'mathlib.Core.Path': '_∙_ sym subst', 'mathlib.Core.Bool': 'Bool', 'denote.Plain': 'Boolean bool-lawful bool-makes', 'lib.ListN': 'take',
     'Rattle.protocol.specs.Protocol': 'sendSlots', 'Rattle.records.specs.Tables': 'slotsIn gathered padded scattered',
     'Rattle.control.specs.Views': 'Whole Arrays arrays arraysOf linkOf',
+    'Rattle.checking.specs.Tests': 'flightFits', 'Rattle.checking.specs.Verdicts': 'Flown Flies ByFlown',
     'Rattle.promises.specs.Parts': 'lentLengths partsOf', 'Rattle.promises.specs.Answers': 'countOutcome timeOutcome',
     'Rattle.promises.specs.Outcomes': 'opensWith takesInWith tellsWith showsWith checksWith shows',
     'Rattle.promises.specs.Promises': 'OpenPromise SendPromise InputPromise FlushPromise UpdatePromise ReadPromise SizePromise placeOf',
@@ -43,7 +44,7 @@ NAMES = {
     'Rattle.codes.specs.Codes': 'answerCode countCode updateCode timeCode timeStored settingsOf', 'Rattle.codes.specs.Gives': 'Gives', 'Rattle.codes.proofs.Told': 'told',
     'Rattle.results.specs.PlaceCodes': 'placeCode placeStart', 'Rattle.results.specs.PutBacks': 'takenBack',
     'Rattle.from_cores.specs.Left': 'InputLeft FlushLeft UpdateLeft',
-    'Rattle.from_cores.proofs.Gathered': 'gathers', 'Rattle.from_cores.proofs.Scattered': 'put-back',
+    'Rattle.from_cores.proofs.Gathered': 'gathers padded-whole', 'Rattle.from_cores.proofs.Scattered': 'put-back',
     'Rattle.from_cores.proofs.Opening': 'open-promised', 'Rattle.from_cores.proofs.Sending': 'send-promised',
     'Rattle.from_cores.proofs.Reading': 'read-promised', 'Rattle.from_cores.proofs.Asking': 'size-promised shows-promised check-promised',
     'Rattle.from_cores.proofs.TakingIn': 'input-left input-promised', 'Rattle.from_cores.proofs.Flushing': 'flush-left flush-promised',
@@ -69,9 +70,9 @@ def last(result, i):
     return f'(ws-{result}' + ' .1' * i + ' .0)'
 
 
-def after(result, changed):
+def after(result, changed, first=FIRST):
     """The arrays behind the core, of which these have changed."""
-    return 'arrays ' + ' '.join(last(result, FIRST + i) if a in changed else f'(h .{a})' for i, a in enumerate(ARRAYS))
+    return 'arrays ' + ' '.join(last(result, first + i) if a in changed else f'(h .{a})' for i, a in enumerate(ARRAYS))
 
 
 def parts(*slices):
@@ -86,6 +87,30 @@ GATHER = [
     Call('table-len', 'm', 'm ≡ length (x₃ .now)'),
 ]
 GATHERED = f'h {P} recs m (gathers h {P} n recs m e-n e-recs e-m)'
+
+# where only the test of the records is wanted: it is made over the table, and no record is gathered
+COUNT_OUT, TABLE = '(h .flight .outstanding)', '(take sendSlots (x₃ .now))'
+RECORDS = f'(padded (gathered {TABLE} (slotsIn (h .outstanding) {COUNT_OUT})))'
+FIT = [
+    Call('fit', 'fl', f'fl ≡ flightFits (h .settings .mode) (h .flight .una) (h .flight .next) (take {COUNT_OUT} {RECORDS})'),
+    Call('table-len', 'm', 'm ≡ length (x₃ .now)'),
+]
+FLOWN = f'(record {{ whole = padded-whole {TABLE} (h .outstanding) {COUNT_OUT}; fits = e-fl }})'
+FITTING = f'h {P} {RECORDS} m (gathers h {P} {COUNT_OUT} {RECORDS} m refl refl e-m)'
+LISTS = 'arrays ' + ' '.join(f'f-{a}' for a in PLAIN)
+FLIES = (f'Whole ({LISTS}) × Flies (linkOf y₀ y₁ y₂ y₃ ({LISTS})) y₄', f"{whole('len-')}, ({RECORDS}, {FLOWN})")
+
+
+# where records are gathered and tested: these are the ones that are told of
+FITTED = Call('fit', 'fl', f'fl ≡ flightFits (h .settings .mode) (h .flight .una) (h .flight .next) (take {COUNT_OUT} {RECORDS})')
+TESTED = (f'subst (λ l. Flown h l fl) (sym (e-recs ∙ ap (λ k. padded (gathered {TABLE} (slotsIn (h .outstanding) k))) e-n)) {FLOWN}')
+FLOWN_HERE = (f'Whole ({LISTS}) × Flown (linkOf y₀ y₁ y₂ y₃ ({LISTS})) y₅ y₄', f"{whole('len-')}, {TESTED}")
+
+
+def by_flown(says):
+    """What a core ensures of whatever records it was told of."""
+    return f'ByFlown h fl (λ recs. {says})'
+
 SLICES = [Par('shr', 'u8'), Par('shr', 'u8'), Par('shr', 'R'), Par('shr', 'u32')]
 
 
@@ -117,11 +142,11 @@ def send():
         crate='ampferweg', name='ampferweg_send', result=CODE, about='The table is read; structs are copied, all lists are lent, and the flight is stored.',
         pars=[Par('ref'), Par('mut', 'u8')] + SLICES[1:] + [Par('shr', 'u8')],
         said=f'Gives answerCode (λ a. SendPromise (x₅ .now) h {P} a k {end}) r',
-        calls=GATHER + [
-            Call('core', 'a', f'SendLeaves h recs m (x₁ .now) (x₂ .now) (x₄ .now) (x₅ .now) (a .answer) {link} {pool}', WHOLE),
+        calls=FIT + [
+            Call('core', 'a', by_flown(f'SendLeaves h recs m (x₁ .now) (x₂ .now) (x₄ .now) (x₅ .now) (a .answer) {link} {pool}'), FLIES),
             Call('flight-of', 'kf', 'kf ≡ a .flight'), Call('code-of', 'r', 'r ≡ answerCode (a .answer)'),
         ],
-        proof=f'told answerCode _ (a .answer) e-r (rw e-kf (send-promised {GATHERED} (a .answer) {link} {pool} (x₅ .now) e-a))')
+        proof=f'told answerCode _ (a .answer) e-r (rw e-kf (send-promised {FITTING} (a .answer) {link} {pool} (x₅ .now) (e-a {RECORDS} {FLOWN})))')
 
 
 def read():
@@ -131,11 +156,11 @@ def read():
         crate='ampferweg', name='ampferweg_read', result=CODE, about='The table is read; structs are copied, all lists are lent, and the arrival is stored.',
         pars=[Par('ref')] + SLICES + [Par('mut', 'u8')],
         said=f'Gives countCode (λ a. ReadPromise h {P} (x₅ .now) a k {P} z₅) r',
-        calls=GATHER + [
-            Call('core', 'a', f'ReadOver h recs m (x₁ .now) (x₂ .now) (x₄ .now) (x₅ .now) (a .answer) {link} {buffer}', WHOLE),
+        calls=FIT + [
+            Call('core', 'a', by_flown(f'ReadOver h recs m (x₁ .now) (x₂ .now) (x₄ .now) (x₅ .now) (a .answer) {link} {buffer}'), FLIES),
             Call('arrival-of', 'ka', 'ka ≡ a .arrival'), Call('code-of', 'r', 'r ≡ countCode (a .answer)'),
         ],
-        proof=f'told countCode _ (a .answer) e-r (rw e-ka (read-promised {GATHERED} (x₅ .now) (a .answer) {link} {buffer} e-a))')
+        proof=f'told countCode _ (a .answer) e-r (rw e-ka (read-promised {FITTING} (x₅ .now) (a .answer) {link} {buffer} (e-a {RECORDS} {FLOWN})))')
 
 
 def size():
@@ -143,10 +168,10 @@ def size():
         crate='ampferweg', name='ampferweg_size', result=CODE, about='The block and the table are read through a `&`.',
         pars=[Par('sref')] + SLICES,
         said=f'Gives countCode (λ a. SizePromise h {P} a) r',
-        calls=GATHER + [
-            Call('core', 'a', f'countOutcome a ≡ tellsWith h recs (x₄ .now) ({LENT})', WHOLE), Call('code-of', 'r', 'r ≡ countCode a'),
+        calls=FIT + [
+            Call('core', 'a', by_flown(f'countOutcome a ≡ tellsWith h recs (x₄ .now) ({LENT})'), FLIES), Call('code-of', 'r', 'r ≡ countCode a'),
         ],
-        proof=f'told countCode _ a e-r (size-promised {GATHERED} a e-a)')
+        proof=f'told countCode _ a e-r (size-promised {FITTING} a (e-a {RECORDS} {FLOWN}))')
 
 
 def show():
@@ -154,11 +179,11 @@ def show():
         crate='ampferweg', name='ampferweg_show', result=CODE, about='The block and the table are read through a `&`; where the start goes is given to `tell_place`.',
         pars=[Par('sref')] + SLICES + [Par('given', 'u32')],
         said=f'Gives placeCode (λ a. PlacePromise h {P} a z₅) r',
-        calls=GATHER + [
-            Call('core', 'a', f'PlaceIs (placeOf (showsWith h recs (x₄ .now) ({LENT}))) (length (x₂ .now)) a', WHOLE),
+        calls=FIT + [
+            Call('core', 'a', by_flown(f'PlaceIs (placeOf (showsWith h recs (x₄ .now) ({LENT}))) (length (x₂ .now)) a'), FLIES),
             Call('code-of', 'r', f"(r ≡ placeCode a) × ({last('r', 1)} ≡ placeStart a)"),
         ],
-        proof=f'told placeCode _ a (e-r .0) (record {{ place = shows-promised {GATHERED} (λ o. PlaceIs (placeOf o) (length (x₂ .now)) a) e-a; start = e-r .1 }})')
+        proof=f'told placeCode _ a (e-r .0) (record {{ place = shows-promised {FITTING} (λ o. PlaceIs (placeOf o) (length (x₂ .now)) a) (e-a {RECORDS} {FLOWN}); start = e-r .1 }})')
 
 
 def check():
@@ -174,16 +199,16 @@ def check():
 
 
 def take_in():
-    link = f"(linkOf (h .settings) (a .flight) (a .arrival) (h .clock) ({after('a', ARRAYS[1:])}))"
-    pool, acks = last('a', FIRST + 7), last('a', FIRST + 8)
+    link = f"(linkOf (h .settings) (a .flight) (a .arrival) (h .clock) ({after('a', ARRAYS[1:], FIRST + 1)}))"
+    pool, acks = last('a', FIRST + 8), last('a', FIRST + 9)
     gives = f'(λ l. takesInWith l recs (x₄ .now) ({LENT}) (x₂ .now) (x₅ .now))'
     gathered = f'(gathers h {P} n recs m e-n e-recs e-m)'
     return dict(
         crate='take_in', name='take_in', result=TAKEN, about='The table is read; structs are copied, all lists are lent, and flight and arrival are stored.',
         pars=[Par('ref'), Par('shr', 'u8'), Par('mut', 'u8'), Par('shr', 'R'), Par('mut', 'u32'), Par('shr', 'u8')],
         said=f'InputLeft (x₅ .now) h {P} (r .answer) (takenBack r) k z₂ z₄',
-        calls=GATHER + [
-            Call('core', 'a', f"Takes {gives} (h .settings) (h .flight) (h .arrival) (h .clock) (arraysOf h) (x₂ .now) (x₄ .now) a ({after('a', ARRAYS[1:])}) {pool} {acks}", WHOLE),
+        calls=GATHER[:2] + [FITTED, GATHER[2]] + [
+            Call('core', 'a', f"Takes {gives} (h .settings) (h .flight) (h .arrival) (h .clock) (arraysOf h) (x₂ .now) (x₄ .now) a ({after('a', ARRAYS[1:], FIRST + 1)}) {pool} {acks}", FLOWN_HERE),
             Call('flight-of', 'kf', 'kf ≡ a .flight'), Call('arrival-of', 'ka', 'ka ≡ a .arrival'),
         ],
         proof=f"rw (e-kf, e-ka) (input-left (x₅ .now) h {P} (a .answer) (takenBack a) {link} {pool} {acks} recs m {gathered} ({whole('end-')}) e-a)")

@@ -45,6 +45,16 @@ class Signed:
         return '(sint-makes 𝓤 H A W w32)'
 
 
+class Truth:
+    row, denot, uses = 'Boolean', 'Bool', []
+
+    def typed(self, x, v, g):
+        return f'(bool-lawful 𝓤 H A W .typed {x} _ {g} .0)'
+
+    def makes(self):
+        return '(bool-makes 𝓤 H A W)'
+
+
 class Nothing:
     row, denot, uses = 'unit', 'Unit {0}', []
 

@@ -81,15 +81,14 @@ pub extern "C" fn ampferweg_send(
     let arrival = link.arrival;
     let clock = link.clock;
     let words = link.outstanding;
-    let n = results::outstanding_count(flight);
-    let records = gathering::gather(table, words, n);
+    let flown = gathering::fit(table, words, settings, flight);
     let lent = records::table_len(table);
     let sent = send_core::send(
         settings,
         flight,
         arrival,
         clock,
-        records,
+        flown,
         lent,
         &mut link.queued,
         &link.outstanding,
@@ -265,15 +264,14 @@ pub extern "C" fn ampferweg_read(
     let arrival = link.arrival;
     let clock = link.clock;
     let words = link.outstanding;
-    let n = results::outstanding_count(flight);
-    let records = gathering::gather(table, words, n);
+    let flown = gathering::fit(table, words, settings, flight);
     let lent = records::table_len(table);
     let delivered = read_core::read(
         settings,
         flight,
         arrival,
         clock,
-        records,
+        flown,
         lent,
         &link.queued,
         &link.outstanding,
@@ -308,15 +306,14 @@ pub extern "C" fn ampferweg_size(
     let arrival = link.arrival;
     let clock = link.clock;
     let words = link.outstanding;
-    let n = results::outstanding_count(flight);
-    let records = gathering::gather(table, words, n);
+    let flown = gathering::fit(table, words, settings, flight);
     let lent = records::table_len(table);
     let size = read_core::size(
         settings,
         flight,
         arrival,
         clock,
-        records,
+        flown,
         lent,
         &link.queued,
         &link.outstanding,
@@ -350,15 +347,14 @@ pub extern "C" fn ampferweg_show(
     let arrival = link.arrival;
     let clock = link.clock;
     let words = link.outstanding;
-    let n = results::outstanding_count(flight);
-    let records = gathering::gather(table, words, n);
+    let flown = gathering::fit(table, words, settings, flight);
     let lent = records::table_len(table);
     let place = read_core::locate(
         settings,
         flight,
         arrival,
         clock,
-        records,
+        flown,
         lent,
         &link.queued,
         &link.outstanding,

@@ -1,21 +1,22 @@
 -- The turns of the loops, at index i of the first n of an array.
 -- Assumes nothing.
 use mathlib.Core.Path.{_≡_, refl, sym, ap, _∙_}
-use mathlib.Core.Bool.{Bool, true, false, not, _&&_, and-true, and-assoc, false≢true}
+use mathlib.Core.Bool.{Bool, true, false, not, _&&_, _||_, and-true, and-assoc, false≢true}
 use mathlib.Core.List.{List, _∷_}
-use Prim.Native.Nat.{ℕ, _+_, _-_, _%_, _^_, _≤_, _<_}
+use Prim.Native.Nat.{ℕ, _+_, _-_, _%_, _^_, _≤_, _<_, min}
 use native.Mathlib.Decide.{decLt}
 use native.Mathlib.Omega.{arith}
 use borrow.Author.Tests.{lt-ltb, le-ltb, le-leb, lt-leb}
-use lib.Dec.{leb, ltb}
+use lib.Dec.{leb, ltb, eqb}
 use lib.ListN.{length, take, drop, getD, length-replicate}
+use lib.Seq.{take-all}
 use Rattle.protocol.specs.Serial.{minus}
 use Rattle.timing.specs.declared.Record.{Record}
 use Rattle.lists.proofs.Loops.{view-next, view-end}
 use Rattle.slots.specs.Slots.{once}
 use Rattle.session.specs.Valid.{all}
 use Rattle.marks.specs.Marks.{none, markedAll}
-use Rattle.checking.specs.Tests.{follows, neighbours, recordFits, recordsFit, wordFits, sendWordFits, sentFew, sendSlotsIn, SendingFits, receiveSlotsIn, aheadFits, ReceivingFits}
+use Rattle.checking.specs.Tests.{follows, neighbours, recordFits, leastAfter, leastAfterAll, wordFits, sendWordFits, sentFew, sendSlotsIn, SendingFits, receiveSlotsIn, aheadFits, ReceivingFits}
 
 pub not-true : (b : Bool) → not b ≡ true → b ≡ false
 not-true true e = sym e
@@ -64,22 +65,37 @@ follows-test a b d e h ed ee = let q : a % 2 ^ 32 ≡ a = omega arith in rw (q, 
     go (yes s) (no t) = rw (le-ltb e 127 (omega arith), le-leb 1 d (omega arith), lt-leb d 127 (omega arith)) refl
     go (no s) t = rw (le-ltb e 127 (omega arith), lt-leb 1 d (omega arith)) refl
 
--- records; o is the offset of the one at i
-module _ (mode una limit least : ℕ) (rs : List Record) (n i : ℕ) (goal : Bool) (inv : goal ≡ recordsFit mode una limit least (drop i (take n rs))) where
-  pub records-end : n ≤ i → true ≡ goal
-  unfolding recordsFit
-  records-end h = sym (inv ∙ rw (view-end rs n i h) refl)
+-- records; what is carried
+module _ (mode una next : ℕ) (rs : List Record) (n i goal least : ℕ) (inv : goal ≡ leastAfterAll mode una next least (drop i (take n rs))) where
+  pub least-next : (d : Record) (k : ℕ) → i < n → n ≤ length rs → k ≡ leastAfter mode una next least (getD rs i d) → goal ≡ leastAfterAll mode una next k (drop (i + 1) (take n rs))
+  unfolding leastAfterAll
+  least-next d k h g e =
+      inv
+      ∙ ap (leastAfterAll mode una next least) (view-next rs n i d h g)
+      ∙ ap (λ (m : ℕ). leastAfterAll mode una next m (drop (i + 1) (take n rs))) (sym e)
 
-  module _ (d : Record) (o : ℕ) (f : Bool) (h : i < n) (g : n ≤ length rs) (eo : o ≡ minus (getD rs i d .number) una) (ef : f ≡ recordFits mode (getD rs i d)) where
-    here : goal ≡ (leb least o && ltb o limit && f && recordsFit mode una limit (o + 1) (drop (i + 1) (take n rs)))
-    unfolding recordsFit
-    here = inv ∙ rw (view-next rs n i d h g, ← eo, ← ef) refl
+  pub least-end : n ≤ i → goal ≡ least
+  unfolding leastAfterAll
+  least-end h = inv ∙ rw (view-end rs n i h)
 
-    pub records-next : not (leb least o && ltb o limit && f) ≡ false → goal ≡ recordsFit mode una limit (o + 1) (drop (i + 1) (take n rs))
-    records-next t = here ∙ rw (not-false (leb least o && ltb o limit && f) t) refl
+-- one record, o being its offset
+module _ (mode una next least o limit : ℕ) (f : Bool) (r : Record) (eo : o ≡ minus (r .number) una) (el : limit ≡ minus next una) (ef : f ≡ recordFits mode r) where
+  abbrev tests : Bool
+  tests = (ltb 0 least || eqb (r .number) una) && leb least o && ltb o limit && f
 
-    pub records-fail : not (leb least o && ltb o limit && f) ≡ true → false ≡ goal
-    records-fail t = sym (here ∙ rw (not-true (leb least o && ltb o limit && f) t) refl)
+  pub least-fits : tests ≡ true → o + 1 ≡ leastAfter mode una next least r
+  least-fits t = rw (← eo, ← el, ← ef, t) refl
+
+  pub least-unfit : tests ≡ false → 2 ^ 32 ≡ leastAfter mode una next least r
+  least-unfit t = rw (← eo, ← el, ← ef, t) refl
+
+-- the records looked at are those of the count
+pub looked-all : (rs : List Record) (n m : ℕ) → length rs ≡ 32 → m ≡ min n 32 → take m rs ≡ take n rs
+looked-all rs n m e f = go (decLt n 32)
+  where
+    go : Dec (n < 32) → take m rs ≡ take n rs
+    go (yes h) = let q : m ≡ n = omega arith in rw q
+    go (no h) = take-all m rs (omega arith) ∙ sym (take-all n rs (omega arith))
 
 -- ---- the segments of a half
 

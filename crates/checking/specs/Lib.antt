@@ -1,3 +1,4 @@
 pub mod Tests
+pub mod FlownLaws
 pub mod Verdicts
 pub mod VerdictLaws

@@ -1,7 +1,7 @@
 -- What the check of a control block asks of its words, numbers and records, as the code takes it. Definitions.
 -- Assumes nothing.
 use mathlib.Core.Path.{_≡_}
-use mathlib.Core.Bool.{Bool, true, cond, not, _&&_}
+use mathlib.Core.Bool.{Bool, true, cond, not, _&&_, _||_}
 use mathlib.Core.List.{List, [], _∷_, _++_}
 use Prim.Native.Nat.{ℕ, _+_, _-_, _%_, _^_}
 use lib.Dec.{leb, ltb, eqb}
@@ -80,6 +80,21 @@ firstOf (r ∷ l) other = r .number
 abbrev pub flightFits : ℕ → ℕ → ℕ → List Record → Bool
 flightFits mode una next l = leb (minus next una) sendWindow && eqb (firstOf l next) una && recordsFit mode una (minus next una) 0 l
 
+-- the same in one pass, which carries the least offset from una that the next number may have: 0 at first, where the number is una; and
+-- 2^32, which no offset is, behind a record that does not fit
+abbrev pub leastAfter : ℕ → ℕ → ℕ → ℕ → Record → ℕ
+leastAfter mode una next least r =
+    let offset = minus (r .number) una in
+    cond ((ltb 0 least || eqb (r .number) una) && leb least offset && ltb offset (minus next una) && recordFits mode r) (offset + 1) (2 ^ 32)
+
+unfoldable pub leastAfterAll : ℕ → ℕ → ℕ → ℕ → List Record → ℕ
+leastAfterAll mode una next least [] = least
+leastAfterAll mode una next least (r ∷ l) = leastAfterAll mode una next (leastAfter mode una next least r) l
+
+-- what is carried in the end tells whether all fit
+abbrev pub flownBy : ℕ → ℕ → ℕ → Bool
+flownBy una next least = ltb least (2 ^ 32) && leb (minus next una) sendWindow && (ltb 0 least || eqb next una)
+
 -- ---- the segments of a half, and the marks left
 
 abbrev pub sendSlotsIn : List ℕ → ℕ → List ℕ → ℕ → List ℕ
@@ -96,6 +111,17 @@ pub record SendingFits (mss : ℕ) (queued : List ℕ) (n : ℕ) (outstanding tr
 
 abbrev pub receiveSlotsIn : List ℕ → ℕ → List ℕ → ℕ → List ℕ
 receiveSlotsIn ready n waiting m = slotsOf (heldIn ready n) ++ slotsOf (heldIn waiting m)
+
+-- the slots of words are `from` and those after it, in order
+unfoldable pub inLine : ℕ → List ℕ → Bool
+inLine from [] = true
+inLine from (w ∷ l) = eqb (w % 256) from && inLine (from + 1) l
+
+-- the slots of both lists are marked; r tells whether none is held twice
+pub record HeldOnce (ready : List ℕ) (n : ℕ) (waiting : List ℕ) (m : ℕ) (marks : List ℕ) (r : Bool) : Type 0 where
+  pub whole : length marks ≡ 256
+  pub marked : marks ≡ markedAll none (receiveSlotsIn ready n waiting m)
+  pub held : r ≡ once (receiveSlotsIn ready n waiting m)
 
 abbrev pub receivingFits : ℕ → ℕ → List ℕ → ℕ → List ℕ → List ℕ → ℕ → Bool
 receivingFits mss expected ready n waiting numbers m =

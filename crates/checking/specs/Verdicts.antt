@@ -4,13 +4,14 @@ use mathlib.Core.Path.{_≡_}
 use mathlib.Core.Bool.{Bool, true, cond}
 use mathlib.Core.List.{List}
 use Prim.Native.Nat.{ℕ}
-use lib.ListN.{length}
+use lib.ListN.{length, take}
 use Rattle.protocol.specs.declared.Refusal.the-variants.{ShortPart, InvalidBlock}
 use Rattle.timing.specs.declared.Record.{Record}
 use Rattle.session.specs.State.{sendHeld, receiveHeld, slots}
 use Rattle.marks.specs.Marks.{Free}
 use Rattle.control.specs.declared.Link.{Link}
 use Rattle.control.specs.Views.{stateOf, blockValid}
+use Rattle.checking.specs.Tests.{flightFits}
 use Rattle.checking.specs.declared.Verdict.{Verdict}
 use Rattle.checking.specs.declared.Verdict.the-variants.{Passed, Refused}
 
@@ -22,6 +23,19 @@ pub record Checked (l : Link) (records : List Record) (send receive : List ℕ) 
   pub send-free : (acks : List ℕ) → r ≡ true → Free send (slots (sendHeld (stateOf l records acks .sending))) 0
   pub receive-free : (acks : List ℕ) → r ≡ true → Free receive (slots (receiveHeld (stateOf l records acks .receiving))) 0
 
+-- `flown` tells whether these 32 records fit, of which the first are the outstanding segments'
+pub record Flown (l : Link) (records : List Record) (flown : Bool) : Type 0 where
+  pub whole : length records ≡ 32
+  pub fits : flown ≡ flightFits (l .settings .mode) (l .flight .una) (l .flight .next) (take (l .flight .outstanding) records)
+
+-- so it is for whatever records `flown` tells of
+abbrev pub ByFlown : Link → Bool → (List Record → Type 0) → Type 0
+ByFlown l flown holds = (records : List Record) → Flown l records flown → holds records
+
+-- there are such records
+abbrev pub Flies : Link → Bool → Type 0
+Flies l flown = (records : List Record) × Flown l records flown
+
 -- the lent sizes, then the block
 abbrev pub verdictOf : Bool → Bool → Verdict
 verdictOf long made = cond long (cond made Passed (Refused InvalidBlock)) (Refused ShortPart)
@@ -30,3 +44,7 @@ verdictOf long made = cond long (cond made Passed (Refused InvalidBlock)) (Refus
 pub record Admitted (long : Bool) (l : Link) (records : List Record) (send receive : List ℕ) (v : Verdict) : Type 0 where
   pub verdict : (acks : List ℕ) → v ≡ verdictOf long (blockValid l records acks)
   pub checked : v ≡ Passed → Checked l records send receive true
+
+-- the same, with some marks of the send slots
+abbrev pub AdmittedHearing : Bool → Link → List Record → List ℕ → Verdict → Type 0
+AdmittedHearing long l records receive v = (send : List ℕ) × Admitted long l records send receive v

@@ -1,12 +1,18 @@
-// The records of the outstanding segments, with their numbers.
+// The records of the outstanding segments, with their numbers, in one pass: what is carried from record to record is the least offset
+// from snd_una that the next number may have.
 use crate::numbers::timeout_fits;
+use control::Flight;
 use protocol::Protocol;
+use protocol::Settings;
 use protocol::serial;
 use timing::Record;
 ghost use mathlib.Core.Path.{_≡_};
-ghost use Prim.Native.Nat.{_≤_};
+ghost use Prim.Native.Nat.{_≤_, min};
 ghost use lib.ListN.{take};
-ghost use Rattle.checking.specs.Tests.{recordFits, recordsFit, firstOf, flightFits};
+ghost use Rattle.checking.specs.Tests.{recordFits, flightFits, leastAfter, flownBy};
+
+// What is carried behind a record that does not fit: no offset is as far.
+const UNFIT: usize = 4294967296;
 
 // Skips at most 255, and the timeout.
 fn record_fits(record: Record, mode: u8) -> bool
@@ -15,47 +21,48 @@ fn record_fits(record: Record, mode: u8) -> bool
     (record.skips <= Protocol::SKIPS_MOST) & timeout_fits(mode, record.timeout)
 }
 
-// Of n outstanding segments: the records fit, and their numbers ascend from una, less than `limit` after it.
-fn records_fit(records: [Record; 32], n: usize, mode: u8, una: u32, limit: u32) -> bool
-    requires { ⌜ n ≤ 32 ⌝ }
-    ensures { λ r. ⌜ r ≡ recordsFit mode una limit 0 (take n records) ⌝ }
+// How many records are looked at, 32 at most.
+pub fn looked_at(flight: Flight) -> usize
+    ensures { λ r. ⌜ (r ≡ min (flight .outstanding) 32) × (r ≤ 32) ⌝ }
 {
-    let mut least: usize = 0;
-    let mut i: usize = 0;
-    while i < n {
-        let record = records[i];
-        let offset = serial::difference(record.number, una);
-        let far = offset as usize;
-        let rises = (least <= far) & (offset < limit);
-        let fits = rises & record_fits(record, mode);
-        if !fits {
-            return false;
-        }
-        least = far + 1;
-        i += 1;
+    if flight.outstanding < 32 {
+        flight.outstanding
+    } else {
+        32
     }
-    true
 }
 
-// The first of n numbers; with none, snd_nxt.
-fn first_number(records: [Record; 32], n: usize, next: u32) -> u32
-    requires { ⌜ n ≤ 32 ⌝ }
-    ensures { λ r. ⌜ r ≡ firstOf (take n records) next ⌝ }
+// One record more: its number is at least `least` after snd_una, the first is snd_una, and each is before snd_nxt.
+pub fn next_least(least: usize, found: Record, settings: Settings, flight: Flight) -> usize
+    ensures { λ r. ⌜ r ≡ leastAfter (settings .mode) (flight .una) (flight .next) least found ⌝ }
 {
-    if 0 < n {
-        let record = records[0];
-        record.number
-    } else {
-        next
-    }
+    let offset = serial::difference(found.number, flight.una);
+    let far = offset as usize;
+    let limit = serial::difference(flight.next, flight.una);
+    let begins = (0 < least) | (found.number == flight.una);
+    let fits = begins & (least <= far) & (offset < limit) & record_fits(found, settings.mode);
+    if fits { far + 1 } else { UNFIT }
+}
+
+// What the pass says: snd_una and snd_nxt are at most 32 apart, and with no record they are the same.
+pub fn flown(least: usize, flight: Flight) -> bool
+    ensures { λ r. ⌜ r ≡ flownBy (flight .una) (flight .next) least ⌝ }
+{
+    let limit = serial::difference(flight.next, flight.una);
+    (least < UNFIT) & (limit <= Protocol::SEND_WINDOW) & ((0 < least) | (flight.next == flight.una))
 }
 
 // The outstanding segments' numbers and records: from snd_una on up to snd_nxt, at most 32 apart, the first being snd_una.
-pub fn flight_fits(records: [Record; 32], n: usize, mode: u8, una: u32, next: u32) -> bool
-    requires { ⌜ n ≤ 32 ⌝ }
-    ensures { λ r. ⌜ r ≡ flightFits mode una next (take n records) ⌝ }
+pub fn flight_fits(records: [Record; 32], settings: Settings, flight: Flight) -> bool
+    ensures { λ r. ⌜ r ≡ flightFits (settings .mode) (flight .una) (flight .next) (take (flight .outstanding) records) ⌝ }
 {
-    let limit = serial::difference(next, una);
-    let first = first_number(records, n, next);
-    (limit <= Protocol::SEND_WINDOW) & (first == una) & records_fit(records, n, mode, una, limit)
+    let n = looked_at(flight);
+    let mut least: usize = 0;
+    let mut i: usize = 0;
+    while i < n {
+        let found = records[i];
+        least = next_least(least, found, settings, flight);
+        i += 1;
+    }
+    flown(least, flight)
 }

@@ -2,6 +2,8 @@
 // are marked on the way.
 pub mod ahead;
 pub mod flights;
+pub mod full;
+pub mod hearing;
 pub mod limits;
 pub mod numbers;
 
@@ -17,7 +19,7 @@ ghost use lib.ListN.{length};
 ghost use Rattle.marks.specs.Marks.{none};
 ghost use Rattle.control.specs.Views.{arrays, linkOf, Whole};
 ghost use Rattle.checking.specs.Tests.{SendingFits, ReceivingFits};
-ghost use Rattle.checking.specs.Verdicts.{Checked, Admitted};
+ghost use Rattle.checking.specs.Verdicts.{Checked, Admitted, ByFlown};
 
 // What the checks of 7 and 13 say.
 pub enum Verdict {
@@ -26,7 +28,7 @@ pub enum Verdict {
 }
 
 // The segments of the sending half; their slots are marked.
-fn sending_fits(
+pub(crate) fn sending_fits(
     queued: &[u32; 128],
     n: usize,
     outstanding: &[u32; 32],
@@ -52,7 +54,7 @@ fn sending_fits(
 }
 
 // The segments of the receiving half; their slots are marked.
-fn receiving_fits(
+pub(crate) fn receiving_fits(
     ready: &[u32; 128],
     n: usize,
     waiting: &[u32; 128],
@@ -67,9 +69,7 @@ fn receiving_fits(
     ensures { λ r. ⌜ ReceivingFits mss expected (now (ready .entry)) n (now (waiting .entry)) (now («waiting_numbers» .entry)) m
         (now (marks .exit)) r ⌝ }
 {
-    let first = marks::mark(marks, ready, n);
-    let second = marks::mark(marks, waiting, m);
-    let once = first & second;
+    let once = full::mark_held(ready, n, waiting, m, marks);
     if !once {
         return false;
     }
@@ -78,13 +78,14 @@ fn receiving_fits(
         & ahead::ahead_fits(waiting_numbers, m, expected, n)
 }
 
-// Whether a block is one that this link makes, with these records of its outstanding segments. The slots held are marked.
-pub fn valid(
+// Whether a block is one that this link makes, with records of its outstanding segments of which `flown` tells whether they fit. The slots
+// held are marked.
+fn valid(
     settings: Settings,
     flight: Flight,
     arrival: Arrival,
     clock: Clock,
-    records: [Record; 32],
+    flown: bool,
     queued: &[u32; 128],
     outstanding: &[u32; 32],
     transmissions: &[u8; 32],
@@ -96,22 +97,17 @@ pub fn valid(
 ) -> bool
     requires { ⌜ Whole (arrays (now queued) (now outstanding) (now transmissions) (now ready) (now waiting) (now «waiting_numbers»))
         × (now «send_marks» ≡ none) × (now «receive_marks» ≡ none) ⌝ }
-    ensures { λ r. ⌜ Checked (linkOf settings flight arrival clock (arrays (now (queued .entry)) (now (outstanding .entry))
+    ensures { λ r. ⌜ ByFlown (linkOf settings flight arrival clock (arrays (now (queued .entry)) (now (outstanding .entry))
+        (now (transmissions .entry)) (now (ready .entry)) (now (waiting .entry)) (now («waiting_numbers» .entry)))) flown
+        (λ records. Checked (linkOf settings flight arrival clock (arrays (now (queued .entry)) (now (outstanding .entry))
         (now (transmissions .entry)) (now (ready .entry)) (now (waiting .entry)) (now («waiting_numbers» .entry))))
-        records (now («send_marks» .exit)) (now («receive_marks» .exit)) r ⌝ }
+        records (now («send_marks» .exit)) (now («receive_marks» .exit)) r) ⌝ }
 {
     if !numbers::numbers_fit(settings, flight, arrival, clock) {
         return false;
     }
     let most = settings.mss();
     let mss = most as u32;
-    let flies = flights::flight_fits(
-        records,
-        flight.outstanding,
-        settings.mode,
-        flight.una,
-        flight.next,
-    );
     let sends = sending_fits(
         queued,
         flight.queued,
@@ -131,10 +127,61 @@ pub fn valid(
         mss,
         receive_marks,
     );
-    sends & flies & receives
+    sends & flown & receives
 }
 
-// 7 where the lent parts are not long enough, then 13 where the block is not valid; else the slots held are marked.
+// 7 where the lent parts are not long enough, then 13 where the block is not valid; else the slots held are marked. `flown` tells whether
+// the records of the outstanding segments fit.
+pub fn admit_flown(
+    long: bool,
+    settings: Settings,
+    flight: Flight,
+    arrival: Arrival,
+    clock: Clock,
+    flown: bool,
+    queued: &[u32; 128],
+    outstanding: &[u32; 32],
+    transmissions: &[u8; 32],
+    ready: &[u32; 128],
+    waiting: &[u32; 128],
+    waiting_numbers: &[u32; 128],
+    send_marks: &mut [u8; 256],
+    receive_marks: &mut [u8; 256],
+) -> Verdict
+    requires { ⌜ Whole (arrays (now queued) (now outstanding) (now transmissions) (now ready) (now waiting) (now «waiting_numbers»))
+        × (now «send_marks» ≡ none) × (now «receive_marks» ≡ none) ⌝ }
+    ensures { λ r. ⌜ ByFlown (linkOf settings flight arrival clock (arrays (now (queued .entry)) (now (outstanding .entry))
+        (now (transmissions .entry)) (now (ready .entry)) (now (waiting .entry)) (now («waiting_numbers» .entry)))) flown
+        (λ records. Admitted long (linkOf settings flight arrival clock (arrays (now (queued .entry)) (now (outstanding .entry))
+        (now (transmissions .entry)) (now (ready .entry)) (now (waiting .entry)) (now («waiting_numbers» .entry))))
+        records (now («send_marks» .exit)) (now («receive_marks» .exit)) r) ⌝ }
+{
+    if !long {
+        return Verdict::Refused(Refusal::ShortPart);
+    }
+    let made = valid(
+        settings,
+        flight,
+        arrival,
+        clock,
+        flown,
+        queued,
+        outstanding,
+        transmissions,
+        ready,
+        waiting,
+        waiting_numbers,
+        send_marks,
+        receive_marks,
+    );
+    if made {
+        Verdict::Passed
+    } else {
+        Verdict::Refused(Refusal::InvalidBlock)
+    }
+}
+
+// The same, with the records themselves.
 pub fn admit(
     long: bool,
     settings: Settings,
@@ -157,15 +204,14 @@ pub fn admit(
         (now (transmissions .entry)) (now (ready .entry)) (now (waiting .entry)) (now («waiting_numbers» .entry))))
         records (now («send_marks» .exit)) (now («receive_marks» .exit)) r ⌝ }
 {
-    if !long {
-        return Verdict::Refused(Refusal::ShortPart);
-    }
-    let made = valid(
+    let flown = flights::flight_fits(records, settings, flight);
+    admit_flown(
+        long,
         settings,
         flight,
         arrival,
         clock,
-        records,
+        flown,
         queued,
         outstanding,
         transmissions,
@@ -174,10 +220,5 @@ pub fn admit(
         waiting_numbers,
         send_marks,
         receive_marks,
-    );
-    if made {
-        Verdict::Passed
-    } else {
-        Verdict::Refused(Refusal::InvalidBlock)
-    }
+    )
 }

@@ -4,11 +4,11 @@
 use mathlib.Core.Path.{_≡_, refl, sym, ap, _∙_}
 use mathlib.Core.Bool.{Bool, true, false}
 use mathlib.Core.List.{List, [], _∷_, _++_, map, append-nil}
-use Prim.Native.Nat.{ℕ, _-_, _≤_, _%_, min, zero-le}
+use Prim.Native.Nat.{ℕ, _+_, _-_, _≤_, _%_, min, zero-le}
 use native.Mathlib.Omega.{arith}
 use borrow.Author.Tests.{leb-true, leb-false}
 use lib.Dec.{leb}
-use lib.ListN.{length, take, getD, replicate, length-map, length-take}
+use lib.ListN.{length, take, getD, replicate, length-map, length-take, length-append, length-replicate}
 use Rattle.protocol.specs.Protocol.{sendSlots}
 use Rattle.protocol.specs.Ranges.{mss}
 use Rattle.timing.specs.declared.Record.{Record}
@@ -53,6 +53,14 @@ joined-padded ws ts n table = go (leb 32 (length records)) refl
         rw (none, append-nil records)
     go false h = joined-enough (outstandingIn ws ts n) records (replicate (32 - length records) blank)
         (omega (arith, many, leb-false 32 (length records) h, paired-most (take n ws) (take n ts), length-take n ws))
+
+-- with the blank ones there are 32
+pub padded-whole : (table : List Record) (ws : List ℕ) (n : ℕ) → length (padded (gathered table (slotsIn ws n))) ≡ 32
+padded-whole table ws n =
+    let records = gathered table (slotsIn ws n) in
+    let many = length-map (slotsIn ws n) (λ (s : ℕ). getD table s blank) ∙ length-map (take (min n 32) ws) (λ (w : ℕ). w % 256) ∙ length-take (min n 32) ws in
+    let few : length records ≤ 32 = omega (arith, many) in
+    length-append records (replicate (32 - length records) blank) ∙ rw (length-replicate {A = Record} (32 - length records) blank) (omega (arith, few))
 
 -- the state has the records joined to their segments
 pub state-joined : (l : Link) (r r′ : List Record) (acks : List ℕ)

@@ -1,11 +1,15 @@
 // The records of the outstanding segments, gathered from the lent table by the words of the block, and put back. A function
 // that has the table is proved by hand; the others are its steps on plain values.
+use checking::flights;
+use control::Flight;
+use protocol::Settings;
 use timing::Record;
 ghost use mathlib.Core.Path.{_≡_};
 ghost use Prim.Native.Nat.{_≤_, _%_, min};
 ghost use lib.ListN.{replicate, take};
 ghost use Rattle.protocol.specs.Protocol.{sendSlots};
 ghost use Rattle.records.specs.Tables.{blank, slotsIn, gathered, padded, scattered};
+ghost use Rattle.checking.specs.Tests.{flightFits};
 ghost use Rattle.gathering.specs.Reach.{reach};
 
 // How many are gathered, 32 at most.
@@ -63,6 +67,26 @@ pub fn gather(table: &[Record], words: [u32; 32], n: usize) -> [Record; 32]
         i += 1;
     }
     records
+}
+
+// Whether the records of the outstanding segments fit (13), in one pass over them where they stand. Of the table the first 128 records
+// are read.
+pub fn fit(table: &[Record], words: [u32; 32], settings: Settings, flight: Flight) -> bool
+    ensures { λ r. ⌜ r ≡ flightFits (settings .mode) (flight .una) (flight .next) (take (flight .outstanding)
+        (padded (gathered (take sendSlots (now (table .entry))) (slotsIn words (flight .outstanding))))) ⌝ }
+{
+    let count = flights::looked_at(flight);
+    let mut least: usize = 0;
+    let mut i = 0;
+    while i < count {
+        let word = words[i];
+        let slot = reach(word);
+        let found = records::read(table, slot);
+        let next = flights::next_least(least, found, settings, flight);
+        least = next;
+        i += 1;
+    }
+    flights::flown(least, flight)
 }
 
 // Each record is stored at the slot of its word, in their order; no other record changes.

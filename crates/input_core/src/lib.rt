@@ -1,6 +1,7 @@
 // Taking in a datagram over the block in place: its small structs and the records of the outstanding segments by value, its lists lent.
 use answers::Answer;
 use checking::Verdict;
+use checking::hearing;
 use control::Arrival;
 use control::Clock;
 use control::Flight;
@@ -11,6 +12,7 @@ use timing::Record;
 ghost use mathlib.Core.Path.{_≡_};
 ghost use Rattle.session.specs.Input.{input};
 ghost use Rattle.control.specs.Views.{arrays, linkOf, Whole, stateOf};
+ghost use Rattle.checking.specs.Verdicts.{Flown};
 ghost use Rattle.promises.specs.Parts.{lentLengths};
 ghost use Rattle.promises.specs.Outcomes.{takesInWith};
 ghost use Rattle.protocol.specs.Ranges.{mss};
@@ -115,12 +117,13 @@ fn hear(
     }
 }
 
-// Taking in checks 7, 13, then 1 to 6. `table` is the length of the lent table.
+// Taking in checks 7, 13, then 1 to 6. `table` is the length of the lent table, `flown` tells whether the records fit.
 pub fn input(
     settings: Settings,
     flight: Flight,
     arrival: Arrival,
     clock: Clock,
+    flown: bool,
     records: [Record; 32],
     table: usize,
     queued: &[u32; 128],
@@ -134,7 +137,9 @@ pub fn input(
     acks: &mut [u32],
     datagram: &[u8],
 ) -> Taken
-    requires { ⌜ Whole (arrays (now queued) (now outstanding) (now transmissions) (now ready) (now waiting) (now «waiting_numbers»)) ⌝ }
+    requires { ⌜ Whole (arrays (now queued) (now outstanding) (now transmissions) (now ready) (now waiting) (now «waiting_numbers»))
+        × Flown (linkOf settings flight arrival clock (arrays (now queued) (now outstanding)
+        (now transmissions) (now ready) (now waiting) (now «waiting_numbers»))) records flown ⌝ }
     ensures { λ r. ⌜ Takes (λ l. takesInWith l records (now (acks .entry))
         (lentLengths table (now («send_pool» .entry)) (now («receive_pool» .entry)) (now (acks .entry)))
         (now («receive_pool» .entry)) (now (datagram .entry)))
@@ -153,23 +158,21 @@ pub fn input(
         acks: acks.len(),
     };
     let long = sizes::enough(settings, lent);
-    let mut send_marks: [u8; 256] = [0; 256];
-    let mut receive_marks: [u8; 256] = [0; 256];
-    let verdict = checking::admit(
+    let mut marks: [u8; 256] = [0; 256];
+    let verdict = hearing::admit_hearing(
         long,
         settings,
         flight,
         arrival,
         clock,
-        records,
+        flown,
         queued,
         outstanding,
         transmissions,
         ready,
         waiting,
         waiting_numbers,
-        &mut send_marks,
-        &mut receive_marks,
+        &mut marks,
     );
     if let Verdict::Refused(q) = verdict {
         let words = *outstanding;
@@ -194,7 +197,7 @@ pub fn input(
         ready,
         waiting,
         waiting_numbers,
-        &receive_marks,
+        &marks,
         receive_pool,
         acks,
         datagram,

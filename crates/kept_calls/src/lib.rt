@@ -2,6 +2,7 @@
 // and of the table the first `lent` records, or all where it has fewer.
 use answers::Answer;
 use answers::Count;
+use checking::flights;
 use control::Link;
 use protocol::Settings;
 use timing::Record;
@@ -132,13 +133,14 @@ pub fn send(
     let waiting = link.waiting;
     let waiting_numbers = link.waiting_numbers;
     let records = kept_table::gather(table, lent, outstanding, flight.outstanding);
+    let flown = flights::flight_fits(records, settings, flight);
     let n = kept_table::lent_count(lent);
     let done = send_core::send(
         settings,
         flight,
         arrival,
         clock,
-        records,
+        flown,
         n,
         &mut queued,
         &outstanding,
@@ -196,12 +198,14 @@ pub fn input(
     let mut waiting = link.waiting;
     let mut waiting_numbers = link.waiting_numbers;
     let records = kept_table::gather(table, lent, outstanding, flight.outstanding);
+    let flown = flights::flight_fits(records, settings, flight);
     let n = kept_table::lent_count(lent);
     let done = input_core::input(
         settings,
         flight,
         arrival,
         clock,
+        flown,
         records,
         n,
         &queued,
@@ -349,13 +353,14 @@ pub fn read(
     let mut waiting = link.waiting;
     let mut waiting_numbers = link.waiting_numbers;
     let records = kept_table::gather(table, lent, outstanding, flight.outstanding);
+    let flown = flights::flight_fits(records, settings, flight);
     let n = kept_table::lent_count(lent);
     let done = read_core::read(
         settings,
         flight,
         arrival,
         clock,
-        records,
+        flown,
         n,
         &queued,
         &outstanding,
@@ -410,13 +415,14 @@ pub fn size(
     let waiting = link.waiting;
     let waiting_numbers = link.waiting_numbers;
     let records = kept_table::gather(table, lent, outstanding, flight.outstanding);
+    let flown = flights::flight_fits(records, settings, flight);
     let n = kept_table::lent_count(lent);
     read_core::size(
         settings,
         flight,
         arrival,
         clock,
-        records,
+        flown,
         n,
         &queued,
         &outstanding,
@@ -453,13 +459,14 @@ pub fn show<'a>(
     let waiting = link.waiting;
     let waiting_numbers = link.waiting_numbers;
     let records = kept_table::gather(table, lent, outstanding, flight.outstanding);
+    let flown = flights::flight_fits(records, settings, flight);
     let n = kept_table::lent_count(lent);
     read_core::show(
         settings,
         flight,
         arrival,
         clock,
-        records,
+        flown,
         n,
         &queued,
         &outstanding,

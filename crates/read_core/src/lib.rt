@@ -1,5 +1,5 @@
-// Reading a message, telling its size, and showing its first segment: the block's numbers and the records of the outstanding segments by
-// value, its lists and the other parts lent. Each checks 7, then 13, then its own.
+// Reading a message, telling its size, and showing its first segment: the block's numbers by value, its lists and the other parts lent.
+// Each is told whether the records of the outstanding segments fit, and checks 7, then 13, then its own.
 use answers::Count;
 use checking::Verdict;
 use control::Arrival;
@@ -7,13 +7,13 @@ use control::Clock;
 use control::Flight;
 use protocol::Settings;
 use sizes::Lengths;
-use timing::Record;
 ghost use mathlib.Core.Path.{_≡_};
 ghost use Prim.Native.Nat.{_+_, _*_, _≤_, _<_, _^_};
 ghost use lib.ListN.{length, take, drop};
 ghost use Rattle.protocol.specs.Protocol.{receiveSlots};
 ghost use Rattle.words.specs.Words.{heldIn};
 ghost use Rattle.control.specs.Views.{arrays, linkOf, Whole};
+ghost use Rattle.checking.specs.Verdicts.{Flies, ByFlown};
 ghost use Rattle.promises.specs.Answers.{countOutcome};
 ghost use Rattle.promises.specs.Outcomes.{tellsWith, showsWith};
 ghost use Rattle.promises.specs.Parts.{lentLengths};
@@ -73,7 +73,7 @@ pub fn read(
     flight: Flight,
     arrival: Arrival,
     clock: Clock,
-    records: [Record; 32],
+    flown: bool,
     table: usize,
     queued: &[u32; 128],
     outstanding: &[u32; 32],
@@ -86,15 +86,19 @@ pub fn read(
     acks: &[u32],
     buffer: &mut [u8],
 ) -> Delivered
-    requires { ⌜ Whole (arrays (now queued) (now outstanding) (now transmissions) (now ready) (now waiting) (now «waiting_numbers»)) ⌝ }
-    ensures { λ r. ⌜ ReadOver
+    requires { ⌜ Whole (arrays (now queued) (now outstanding) (now transmissions) (now ready) (now waiting) (now «waiting_numbers»))
+        × Flies (linkOf settings flight arrival clock (arrays (now queued) (now outstanding)
+        (now transmissions) (now ready) (now waiting) (now «waiting_numbers»))) flown ⌝ }
+    ensures { λ r. ⌜ ByFlown (linkOf settings flight arrival clock (arrays (now (queued .entry)) (now (outstanding .entry))
+        (now (transmissions .entry)) (now (ready .entry)) (now (waiting .entry)) (now («waiting_numbers» .entry)))) flown (λ records.
+        ReadOver
         (linkOf settings flight arrival clock (arrays (now (queued .entry)) (now (outstanding .entry)) (now (transmissions .entry))
         (now (ready .entry)) (now (waiting .entry)) (now («waiting_numbers» .entry))))
         records table (now («send_pool» .entry)) (now («receive_pool» .entry)) (now (acks .entry)) (now (buffer .entry))
         (r .answer)
         (linkOf settings flight (r .arrival) clock (arrays (now (queued .entry)) (now (outstanding .entry)) (now (transmissions .entry))
         (now (ready .exit)) (now (waiting .exit)) (now («waiting_numbers» .exit))))
-        (now (buffer .exit)) ⌝ }
+        (now (buffer .exit))) ⌝ }
 {
     let lent = Lengths {
         send: send_pool.len(),
@@ -105,13 +109,13 @@ pub fn read(
     let long = sizes::enough(settings, lent);
     let mut send_marks: [u8; 256] = [0; 256];
     let mut receive_marks: [u8; 256] = [0; 256];
-    let verdict = checking::admit(
+    let verdict = checking::admit_flown(
         long,
         settings,
         flight,
         arrival,
         clock,
-        records,
+        flown,
         queued,
         outstanding,
         transmissions,
@@ -147,7 +151,7 @@ pub fn size(
     flight: Flight,
     arrival: Arrival,
     clock: Clock,
-    records: [Record; 32],
+    flown: bool,
     table: usize,
     queued: &[u32; 128],
     outstanding: &[u32; 32],
@@ -159,11 +163,15 @@ pub fn size(
     receive_pool: &[u8],
     acks: &[u32],
 ) -> Count
-    requires { ⌜ Whole (arrays (now queued) (now outstanding) (now transmissions) (now ready) (now waiting) (now «waiting_numbers»)) ⌝ }
-    ensures { λ r. ⌜ countOutcome r ≡ tellsWith
+    requires { ⌜ Whole (arrays (now queued) (now outstanding) (now transmissions) (now ready) (now waiting) (now «waiting_numbers»))
+        × Flies (linkOf settings flight arrival clock (arrays (now queued) (now outstanding)
+        (now transmissions) (now ready) (now waiting) (now «waiting_numbers»))) flown ⌝ }
+    ensures { λ r. ⌜ ByFlown (linkOf settings flight arrival clock (arrays (now (queued .entry)) (now (outstanding .entry))
+        (now (transmissions .entry)) (now (ready .entry)) (now (waiting .entry)) (now («waiting_numbers» .entry)))) flown (λ records.
+        countOutcome r ≡ tellsWith
         (linkOf settings flight arrival clock (arrays (now (queued .entry)) (now (outstanding .entry)) (now (transmissions .entry))
         (now (ready .entry)) (now (waiting .entry)) (now («waiting_numbers» .entry))))
-        records (now (acks .entry)) (lentLengths table (now («send_pool» .entry)) (now («receive_pool» .entry)) (now (acks .entry))) ⌝ }
+        records (now (acks .entry)) (lentLengths table (now («send_pool» .entry)) (now («receive_pool» .entry)) (now (acks .entry)))) ⌝ }
 {
     let lent = Lengths {
         send: send_pool.len(),
@@ -174,13 +182,13 @@ pub fn size(
     let long = sizes::enough(settings, lent);
     let mut send_marks: [u8; 256] = [0; 256];
     let mut receive_marks: [u8; 256] = [0; 256];
-    let verdict = checking::admit(
+    let verdict = checking::admit_flown(
         long,
         settings,
         flight,
         arrival,
         clock,
-        records,
+        flown,
         queued,
         outstanding,
         transmissions,
@@ -219,7 +227,7 @@ pub fn locate(
     flight: Flight,
     arrival: Arrival,
     clock: Clock,
-    records: [Record; 32],
+    flown: bool,
     table: usize,
     queued: &[u32; 128],
     outstanding: &[u32; 32],
@@ -231,12 +239,16 @@ pub fn locate(
     receive_pool: &[u8],
     acks: &[u32],
 ) -> Place
-    requires { ⌜ Whole (arrays (now queued) (now outstanding) (now transmissions) (now ready) (now waiting) (now «waiting_numbers»)) ⌝ }
-    ensures { λ r. ⌜ PlaceIs (placeOf (showsWith
+    requires { ⌜ Whole (arrays (now queued) (now outstanding) (now transmissions) (now ready) (now waiting) (now «waiting_numbers»))
+        × Flies (linkOf settings flight arrival clock (arrays (now queued) (now outstanding)
+        (now transmissions) (now ready) (now waiting) (now «waiting_numbers»))) flown ⌝ }
+    ensures { λ r. ⌜ ByFlown (linkOf settings flight arrival clock (arrays (now (queued .entry)) (now (outstanding .entry))
+        (now (transmissions .entry)) (now (ready .entry)) (now (waiting .entry)) (now («waiting_numbers» .entry)))) flown (λ records.
+        PlaceIs (placeOf (showsWith
         (linkOf settings flight arrival clock (arrays (now (queued .entry)) (now (outstanding .entry)) (now (transmissions .entry))
         (now (ready .entry)) (now (waiting .entry)) (now («waiting_numbers» .entry))))
         records (now (acks .entry)) (lentLengths table (now («send_pool» .entry)) (now («receive_pool» .entry)) (now (acks .entry)))))
-        (length (now («receive_pool» .entry))) r ⌝ }
+        (length (now («receive_pool» .entry))) r) ⌝ }
 {
     let lent = Lengths {
         send: send_pool.len(),
@@ -247,13 +259,13 @@ pub fn locate(
     let long = sizes::enough(settings, lent);
     let mut send_marks: [u8; 256] = [0; 256];
     let mut receive_marks: [u8; 256] = [0; 256];
-    let verdict = checking::admit(
+    let verdict = checking::admit_flown(
         long,
         settings,
         flight,
         arrival,
         clock,
-        records,
+        flown,
         queued,
         outstanding,
         transmissions,
@@ -286,7 +298,7 @@ pub fn show<'a>(
     flight: Flight,
     arrival: Arrival,
     clock: Clock,
-    records: [Record; 32],
+    flown: bool,
     table: usize,
     queued: &[u32; 128],
     outstanding: &[u32; 32],
@@ -298,19 +310,23 @@ pub fn show<'a>(
     receive_pool: &'a [u8],
     acks: &[u32],
 ) -> &'a [u8]
-    requires { ⌜ Whole (arrays (now queued) (now outstanding) (now transmissions) (now ready) (now waiting) (now «waiting_numbers»)) ⌝ }
-    ensures { λ r. ⌜ ShowsPart (showsWith
+    requires { ⌜ Whole (arrays (now queued) (now outstanding) (now transmissions) (now ready) (now waiting) (now «waiting_numbers»))
+        × Flies (linkOf settings flight arrival clock (arrays (now queued) (now outstanding)
+        (now transmissions) (now ready) (now waiting) (now «waiting_numbers»))) flown ⌝ }
+    ensures { λ r. ⌜ ByFlown (linkOf settings flight arrival clock (arrays (now (queued .entry)) (now (outstanding .entry))
+        (now (transmissions .entry)) (now (ready .entry)) (now (waiting .entry)) (now («waiting_numbers» .entry)))) flown (λ records.
+        ShowsPart (showsWith
         (linkOf settings flight arrival clock (arrays (now (queued .entry)) (now (outstanding .entry)) (now (transmissions .entry))
         (now (ready .entry)) (now (waiting .entry)) (now («waiting_numbers» .entry))))
         records (now (acks .entry)) (lentLengths table (now («send_pool» .entry)) (now («receive_pool» .entry)) (now (acks .entry))))
-        ((«receive_pool» .entry) .ptr) (now («receive_pool» .entry)) (r .ptr) (now r) ⌝ }
+        ((«receive_pool» .entry) .ptr) (now («receive_pool» .entry)) (r .ptr) (now r)) ⌝ }
 {
     let place = locate(
         settings,
         flight,
         arrival,
         clock,
-        records,
+        flown,
         table,
         queued,
         outstanding,

@@ -1,4 +1,4 @@
-// Sending a message over the block in place, with the records of the outstanding segments by value.
+// Sending a message over the block in place. Of the records of the outstanding segments it is told whether they fit.
 use answers::Answer;
 use checking::Verdict;
 use control::Arrival;
@@ -6,8 +6,8 @@ use control::Clock;
 use control::Flight;
 use protocol::Settings;
 use sizes::Lengths;
-use timing::Record;
 ghost use Rattle.control.specs.Views.{arrays, linkOf, Whole};
+ghost use Rattle.checking.specs.Verdicts.{Flies, ByFlown};
 ghost use Rattle.enqueue.specs.Enqueueing.{Enqueueable};
 ghost use Rattle.send_core.specs.Sending.{Enqueues, SendLeaves};
 
@@ -50,13 +50,14 @@ fn send_checked(
     }
 }
 
-// Sending checks 7, 13, then 10 and 11. `table` is the length of the lent table.
+// Sending checks 7, 13, then 10 and 11. `table` is the length of the lent table, `flown` tells whether the records of the outstanding
+// segments fit.
 pub fn send(
     settings: Settings,
     flight: Flight,
     arrival: Arrival,
     clock: Clock,
-    records: [Record; 32],
+    flown: bool,
     table: usize,
     queued: &mut [u32; 128],
     outstanding: &[u32; 32],
@@ -69,13 +70,17 @@ pub fn send(
     acks: &[u32],
     message: &[u8],
 ) -> Sent
-    requires { ⌜ Whole (arrays (now queued) (now outstanding) (now transmissions) (now ready) (now waiting) (now «waiting_numbers»)) ⌝ }
-    ensures { λ r. ⌜ SendLeaves (linkOf settings flight arrival clock (arrays (now (queued .entry)) (now (outstanding .entry))
+    requires { ⌜ Whole (arrays (now queued) (now outstanding) (now transmissions) (now ready) (now waiting) (now «waiting_numbers»))
+        × Flies (linkOf settings flight arrival clock (arrays (now queued) (now outstanding)
+        (now transmissions) (now ready) (now waiting) (now «waiting_numbers»))) flown ⌝ }
+    ensures { λ r. ⌜ ByFlown (linkOf settings flight arrival clock (arrays (now (queued .entry)) (now (outstanding .entry))
+        (now (transmissions .entry)) (now (ready .entry)) (now (waiting .entry)) (now («waiting_numbers» .entry)))) flown (λ records.
+        SendLeaves (linkOf settings flight arrival clock (arrays (now (queued .entry)) (now (outstanding .entry))
         (now (transmissions .entry)) (now (ready .entry)) (now (waiting .entry)) (now («waiting_numbers» .entry))))
         records table (now («send_pool» .entry)) (now («receive_pool» .entry)) (now (acks .entry)) (now (message .entry)) (r .answer)
         (linkOf settings (r .flight) arrival clock (arrays (now (queued .exit)) (now (outstanding .entry))
         (now (transmissions .entry)) (now (ready .entry)) (now (waiting .entry)) (now («waiting_numbers» .entry))))
-        (now («send_pool» .exit)) ⌝ }
+        (now («send_pool» .exit))) ⌝ }
 {
     let lent = Lengths {
         send: send_pool.len(),
@@ -86,13 +91,13 @@ pub fn send(
     let long = sizes::enough(settings, lent);
     let mut send_marks: [u8; 256] = [0; 256];
     let mut receive_marks: [u8; 256] = [0; 256];
-    let verdict = checking::admit(
+    let verdict = checking::admit_flown(
         long,
         settings,
         flight,
         arrival,
         clock,
-        records,
+        flown,
         queued,
         outstanding,
         transmissions,

@@ -27,12 +27,14 @@ pub fn take_in(
     let words = link.outstanding;
     let n = results::outstanding_count(flight);
     let records = gathering::gather(table, words, n);
+    let flown = gathering::fit(table, words, settings, flight);
     let lent = records::table_len(table);
     let taken = input_core::input(
         settings,
         flight,
         arrival,
         clock,
+        flown,
         records,
         lent,
         &link.queued,

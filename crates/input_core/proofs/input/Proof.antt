@@ -8,13 +8,19 @@ use Rattle.input_core.proofs.input.Statement.{statement}
 use Rattle.input_core.proofs.input.Tie as tie
 
 returns : tie.Need-returns
-returns c = takes-nothing _ _ _ _ _ _ _ (refuses _ _ _ _ _ _ _ _ _ (c .before .before .before .before .before .before .before .before .before .before .before .before .enough .ensures) (c .before .before .before .before .admit .ensures) _ _ (c .before .before .verdict .given .1))
+returns c =
+    let s = c .before .before .before .before .before .before .before .before .before .before .before .before .before .before .before .before in
+    takes-nothing _ _ _ _ _ _ _ (refuses _ _ _ _ _ _ _ _ _ (c .before .before .before .before .before .before .before .before .before .before .before .enough .ensures) (c .before .before .before .before .admit-hearing .ensures (s .args .records) (s .pre .1) .1) _ _ (c .before .before .verdict .given .1))
 
 hear-requires : tie.Need-hear-requires
-hear-requires c κs = hearable _ _ _ _ _ _ _ _ _ (c .before .before .before .before .before .before .before .before .before .before .before .before .before .before .before .before .before .before .enough .ensures) (c .before .before .before .before .before .before .before .before .before .before .admit .ensures) (c .before .before .before .before .before .before .before .before .before .before .before .before .before .before .before .before .before .before .before .before .before .before .before .pre) (c .before .before .before .before .before .before .before .before .enum-told .given .1) refl refl
+hear-requires c κs =
+    let s = c .before .before .before .before .before .before .before .before .before .before .before .before .before .before .before .before .before .before .before .before .before .before in
+    hearable _ _ _ _ _ _ _ _ _ (c .before .before .before .before .before .before .before .before .before .before .before .before .before .before .before .before .before .enough .ensures) (c .before .before .before .before .before .before .before .before .before .before .admit-hearing .ensures (s .args .records) (s .pre .1) .1) (s .pre .0) (c .before .before .before .before .before .before .before .before .enum-told .given .1) refl refl
 
 returns-2 : tie.Need-returns-2
-returns-2 c = rw (admits _ _ _ _ _ _ _ _ _ (c .before .before .before .before .before .before .before .before .before .before .before .before .before .before .before .before .before .before .before .before .before .before .before .enough .ensures) (c .before .before .before .before .before .before .before .before .before .before .before .before .before .before .before .admit .ensures) _ (c .before .before .before .before .before .before .before .before .before .before .before .before .before .enum-told .given .1)) (c .before .before .before .before .hear .ensures)
+returns-2 c =
+    let s = c .before .before .before .before .before .before .before .before .before .before .before .before .before .before .before .before .before .before .before .before .before .before .before .before .before .before .before in
+    rw (admits _ _ _ _ _ _ _ _ _ (c .before .before .before .before .before .before .before .before .before .before .before .before .before .before .before .before .before .before .before .before .before .before .enough .ensures) (c .before .before .before .before .before .before .before .before .before .before .before .before .before .before .before .admit-hearing .ensures (s .args .records) (s .pre .1) .1) _ (c .before .before .before .before .before .before .before .before .before .before .before .before .before .enum-told .given .1)) (c .before .before .before .before .hear .ensures)
 
 pub input-spec : {M : Type 1} → statement M
 input-spec =

@@ -1,8 +1,63 @@
--- `flight_fits` meets its contract: each test is one of the definition's.
+-- `flight_fits`: the records before index i are passed.
 -- Assumes nothing.
+use mathlib.Core.Path.{_≡_, refl, sym, ap, _∙_}
+use mathlib.Core.List.{List}
+use Prim.Native.Nat.{_-_, _≤_}
+use native.Mathlib.Omega.{arith}
 use borrow.Author.Needs.{needs}
+use lib.ListN.{length, take, drop}
+use Rattle.timing.specs.declared.Record.{Record}
+use Rattle.lists.proofs.Loops.{length-mapped}
+use Rattle.checking.specs.Tests.{leastAfterAll, flownBy, flightFits}
+use Rattle.checking.specs.FlownLaws.{flown-fits}
+use Rattle.checking.proofs.Turns.{least-next, least-end, looked-all}
 use Rattle.checking.proofs.flights.flight_fits.Statement.{statement}
 use Rattle.checking.proofs.flights.flight_fits.Tie as tie
 
+abbrev Inv-loop : tie.InvT-loop
+Inv-loop settings flight records n least₀ i₀ least i =
+    (i ≤ n) × (length records ≡ 32)
+    × (leastAfterAll (settings .mode) (flight .una) (flight .next) 0 (take n records) ≡ leastAfterAll (settings .mode) (flight .una) (flight .next) least (drop i (take n records)))
+
+abbrev μ-loop : tie.MeasureT-loop
+μ-loop settings flight records n least₀ i₀ least i = n - i
+
+loop-holds : tie.Need-loop-holds Inv-loop μ-loop
+loop-holds c =
+    let rs : length (c .before .args .t1) ≡ 32 = search (needs, length-mapped) in
+    (search needs, rs, refl)
+
+loop-again : tie.Need-loop-again Inv-loop μ-loop
+loop-again c =
+    let l = c .before .before .before .loop in
+    let n = c .before .before .before .before .looked-at in
+    let few = n .ensures .1 in
+    (search needs, l .inv .1, least-next _ _ _ _ (n .result) (l .i) _ (l .least) (l .inv .2) _ _ (c .before .before .loop-test .taken) (omega (arith, few, l .inv .1)) (c .next-least .ensures))
+
+returns : tie.Need-returns Inv-loop μ-loop
+returns c =
+    let s = c .before .before .before .before .args in
+    let l = c .before .before .loop in
+    let n = c .before .before .before .looked-at in
+    let passed = least-end _ _ _ _ (n .result) (l .i) _ (l .least) (l .inv .2) (c .before .loop-test .left) in
+    c .flown .ensures
+    ∙ ap (flownBy (s .flight .una) (s .flight .next)) (sym passed)
+    ∙ flown-fits (s .settings .mode) (s .flight .una) (s .flight .next) _
+    ∙ ap (λ (rs : List Record). flightFits (s .settings .mode) (s .flight .una) (s .flight .next) rs) (looked-all _ _ _ (l .inv .1) (n .ensures .0))
+
 pub flight-fits-spec : {M : Type 1} → statement M
-flight-fits-spec = tie.close (tie.spec (λ c κs. search needs) (λ c κs. search needs) (λ c κs. search needs) (λ c. cc))
+flight-fits-spec =
+    tie.close
+    (tie.spec
+    Inv-loop
+    μ-loop
+    (λ c κs. search needs)
+    loop-holds
+    (λ c. search needs)
+    (λ c. search needs)
+    (λ c κs. search needs)
+    (λ c. search needs)
+    (λ c. search needs)
+    loop-again
+    (λ c κs. search needs)
+    returns)
