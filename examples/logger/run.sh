@@ -8,6 +8,7 @@ mkdir -p "$root/target/examples"
 # shellcheck disable=SC2086
 "${CC:-cc}" ${CFLAGS:-} -std=c99 -O2 -Wall -Wextra -Wpedantic -Werror -I "$root/include" "$root/examples/logger/logger.c" \
     "$folder/libampferweg.a" -o "$root/target/examples/logger"
+# shellcheck disable=SC2086
 ${EMULATOR:-} "$root/target/examples/logger" >"$root/target/examples/logger.out"
 cat "$root/target/examples/logger.out"
 cmp "$root/target/examples/logger.out" "$root/examples/logger/expected"

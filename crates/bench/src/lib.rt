@@ -46,6 +46,7 @@ fn blank() -> Link {
         interval: 0,
         mode: 0,
         threshold: 0,
+        stream: 0,
     };
     let rtt = RoundTrip {
         smoothed: 0,

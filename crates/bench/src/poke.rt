@@ -28,10 +28,10 @@ fn flag(value: u32) -> u8
     if value == 0 { 0 } else { 1 }
 }
 
-// Fields 0 to 4: conv, mtu, mode, interval, threshold.
+// Fields 0 to 4: conv, mtu, mode, interval, threshold. Stream, which is field 19, stays.
 fn setting(settings: Settings, field: u32, value: u32) -> Settings
     requires { ⌜ field < 5 ⌝ }
-    ensures { λ r. ⌜ settingsOf r ≡ set (settingsOf settings) field (stored field value) ⌝ }
+    ensures { λ r. ⌜ (settingsOf r ≡ set (settingsOf settings) field (stored field value)) × (r .stream ≡ settings .stream) ⌝ }
 {
     let mut next = settings;
     match field {
@@ -96,6 +96,16 @@ fn schedule(link: Link, field: u32, value: u32) -> Link
     next
 }
 
+// Field 19: stream.
+fn stream(link: Link, value: u32) -> Link
+    ensures { λ r. ⌜ Poked link 19 value r ⌝ }
+{
+    let set = byte(value);
+    let mut next = link;
+    next.settings.stream = set;
+    next
+}
+
 // The block with another value in a field.
 pub fn poke(link: Link, field: u32, value: u32) -> Link
     ensures { λ r. ⌜ (IsField field → Poked link field value r) ⌝ }
@@ -111,6 +121,9 @@ pub fn poke(link: Link, field: u32, value: u32) -> Link
     }
     if field < 19 {
         return wish(link, field, value);
+    }
+    if field == 19 {
+        return stream(link, value);
     }
     schedule(link, field, value)
 }

@@ -12,12 +12,14 @@ use Rattle.control.specs.declared.Link.{Link}
 use Rattle.answers.specs.declared.Answer.{Answer}
 use Rattle.answers.specs.declared.Answer.the-variants.{Accepted, Refused}
 use Rattle.answers.specs.declared.Count.{Count}
+use Rattle.answers.specs.declared.Time.{Time}
 use Rattle.promises.specs.Parts.{Parts, partsOf}
 use Rattle.promises.specs.Outcomes.{shows}
-use Rattle.promises.specs.Promises.{OpenPromise, SendPromise, InputPromise, FlushPromise, ReadPromise, SizePromise, shown}
+use Rattle.promises.specs.Promises.{OpenPromise, SendPromise, InputPromise, FlushPromise, UpdatePromise, CheckPromise, ReadPromise, SizePromise, shown}
 use Rattle.bench.specs.declared.Bench.{Bench}
 use Rattle.bench_calls.specs.declared.Answered.{Answered}
 use Rattle.bench_calls.specs.declared.Counted.{Counted}
+use Rattle.bench_calls.specs.declared.Updated.{Updated}
 
 -- the parts, as far as the bench lends them, with a table of records
 abbrev pub lentParts : Bench → List ℕ → List ℕ → List Record → List ℕ → Parts
@@ -55,6 +57,13 @@ pub record BenchFlushes (t : ℕ) (b : Bench) (s r a out lengths : List ℕ) (x 
   pub recordsBehind : drop (b .lent .records) (x .bench .table) ≡ drop (b .lent .records) (b .table)
   pub bench : x .bench ≡ after b (x .bench .link) (x .bench .table)
 
+pub record BenchUpdates (t : ℕ) (b : Bench) (s r a out lengths : List ℕ) (x : Updated) (out′ lengths′ : List ℕ) : Type 0 where
+  pub promise : UpdatePromise t (b .link) (lentParts b s r (b .table) a) (take (b .lent .output) out) (take (b .lent .lengths) lengths) (x .answer) (x .bench .link) (lentParts b s r (x .bench .table) a) (take (b .lent .output) out′) (take (b .lent .lengths) lengths′)
+  pub behind : drop (b .lent .output) out′ ≡ drop (b .lent .output) out
+  pub lengthsBehind : drop (b .lent .lengths) lengths′ ≡ drop (b .lent .lengths) lengths
+  pub recordsBehind : drop (b .lent .records) (x .bench .table) ≡ drop (b .lent .records) (b .table)
+  pub bench : x .bench ≡ after b (x .bench .link) (x .bench .table)
+
 -- the first `room` bytes of the buffer are lent
 pub record BenchReads (b : Bench) (s r a : List ℕ) (room : ℕ) (buffer : List ℕ) (x : Counted) (buffer′ : List ℕ) : Type 0 where
   pub promise : ReadPromise (b .link) (lentParts b s r (b .table) a) (take room buffer) (x .answer) (x .bench .link) (lentParts b s r (b .table) a) (take room buffer′)
@@ -63,6 +72,9 @@ pub record BenchReads (b : Bench) (s r a : List ℕ) (room : ℕ) (buffer : List
 
 abbrev pub BenchTells : Bench → List ℕ → List ℕ → List ℕ → Count → Type 0
 BenchTells b s r a n = SizePromise (b .link) (lentParts b s r (b .table) a) n
+
+abbrev pub BenchChecks : ℕ → Bench → List ℕ → List ℕ → List ℕ → Time → Type 0
+BenchChecks t b s r a time = CheckPromise t (b .link) (lentParts b s r (b .table) a) time
 
 abbrev pub BenchShows : Bench → List ℕ → List ℕ → List ℕ → List ℕ → Type 0
 BenchShows b s r a part = part ≡ shown (shows (b .link) (lentParts b s r (b .table) a)) (take (b .lent .receive) r)

@@ -1,13 +1,16 @@
 // The link's calls over the state of the bench: each is lent as much of every part as the bench says.
 use answers::Answer;
 use answers::Count;
+use answers::Time;
+use answers::Update;
 use bench::Bench;
 use kept_calls::FlushedOut;
 use kept_calls::TakenIn;
+use kept_calls::UpdatedOut;
 use protocol::Settings;
 ghost use mathlib.Core.Path.{_≡_};
 ghost use Rattle.bench_calls.specs.Fronts.{Front};
-ghost use Rattle.bench_calls.specs.BenchPromises.{after, afterOpen, BenchOpens, BenchSends, BenchTakesIn, BenchFlushes, BenchReads, BenchTells, BenchShows};
+ghost use Rattle.bench_calls.specs.BenchPromises.{after, afterOpen, BenchOpens, BenchSends, BenchTakesIn, BenchFlushes, BenchUpdates, BenchChecks, BenchReads, BenchTells, BenchShows};
 
 // The answer of opening, sending or taking in, and the bench after it.
 pub struct Answered {
@@ -18,6 +21,12 @@ pub struct Answered {
 // The answer of a flush or a read, and the bench after it.
 pub struct Counted {
     pub answer: Count,
+    pub bench: Bench,
+}
+
+// The answer of an update, and the bench after it.
+pub struct Updated {
+    pub answer: Update,
     pub bench: Bench,
 }
 
@@ -98,6 +107,18 @@ fn after_flush(bench: Bench, done: FlushedOut) -> Counted
     let table = done.table;
     let answer = done.answer;
     Counted {
+        answer,
+        bench: bench.with_table(done.link, table),
+    }
+}
+
+// The bench after an update.
+fn after_update(bench: Bench, done: UpdatedOut) -> Updated
+    ensures { λ r. ⌜ r ≡ record { answer = done .answer; bench = after bench (done .link) (done .table) } ⌝ }
+{
+    let table = done.table;
+    let answer = done.answer;
+    Updated {
         answer,
         bench: bench.with_table(done.link, table),
     }
@@ -220,6 +241,37 @@ pub fn flush(
     after_flush(bench, done)
 }
 
+pub fn update(
+    bench: Bench,
+    send_pool: &[u8],
+    receive_pool: &[u8],
+    acks: &[u32],
+    t: u32,
+    output: &mut [u8],
+    lengths: &mut [u16],
+) -> Updated
+    ensures { λ r. ⌜ BenchUpdates t bench (now («send_pool» .entry)) (now («receive_pool» .entry)) (now (acks .entry)) (now (output .entry)) (now (lengths .entry)) r (now (output .exit)) (now (lengths .exit)) ⌝ }
+{
+    let s = front(bench.lent.send, send_pool);
+    let r = front(bench.lent.receive, receive_pool);
+    let a = front_acks(bench.lent.acks, acks);
+    let o = front(bench.lent.output, output);
+    let l = front_lengths(bench.lent.lengths, lengths);
+    let table = bench.table;
+    let done = kept_calls::update(
+        bench.link,
+        &send_pool[..s],
+        &receive_pool[..r],
+        table,
+        bench.lent.records,
+        &acks[..a],
+        t,
+        &mut output[..o],
+        &mut lengths[..l],
+    );
+    after_update(bench, done)
+}
+
 // Reads into a buffer of `room` bytes.
 pub fn read(
     bench: Bench,
@@ -262,6 +314,24 @@ pub fn size(bench: Bench, send_pool: &[u8], receive_pool: &[u8], acks: &[u32]) -
         table,
         bench.lent.records,
         &acks[..a],
+    )
+}
+
+pub fn check(bench: Bench, send_pool: &[u8], receive_pool: &[u8], acks: &[u32], t: u32) -> Time
+    ensures { λ r. ⌜ BenchChecks t bench (now («send_pool» .entry)) (now («receive_pool» .entry)) (now (acks .entry)) r ⌝ }
+{
+    let s = front(bench.lent.send, send_pool);
+    let r = front(bench.lent.receive, receive_pool);
+    let a = front_acks(bench.lent.acks, acks);
+    let table = bench.table;
+    kept_calls::check(
+        bench.link,
+        &send_pool[..s],
+        &receive_pool[..r],
+        table,
+        bench.lent.records,
+        &acks[..a],
+        t,
     )
 }
 

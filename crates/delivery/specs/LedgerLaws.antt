@@ -229,7 +229,7 @@ station-messages c off (x ∷ xs) s e p =
       accepted-first s x xs p,
       messages-first (mss c) s x xs p,
       messages-by s (ap isStream e ∙ off) x (own s x .answer)
-      ∙ ap (λ (d : Settings). segmentsOf (mss d) (acceptedBy x (own s x .answer))) e,
+          ∙ ap (λ (d : Settings). segmentsOf (mss d) (acceptedBy x (own s x .answer))) e,
       station-messages c off xs (own s x .station) (own-settings s x ∙ e) (p .2),
     )
 

@@ -133,7 +133,7 @@ module _ (s : Station) (before : List Piece) (accepted : List (List ℕ)) (made 
       → Steps settings before accepted s (Call.update t) (afterFlush s (flushing (withSchedule (s .state) k) t (s .sendPool)))
   update-step t k time =
       let order : SendingInOrder settings (rescheduled s k) =
-          record { settings = o .settings; long = o .long; valid = o .valid; fits = o .fits; probe = o .probe } in
+      record { settings = o .settings; long = o .long; valid = o .valid; fits = o .fits; probe = o .probe } in
       let moved : Numbers settings before accepted (rescheduled s k) = record { next = n .next; cuts = n .cuts } in
       let w = flush-step (rescheduled s k) before accepted (valid-rescheduled (s .state) k ∙ made) conv32 order carry moved t time in
       record { then = record { next = w .then .next; cuts = w .then .cuts }; wrote = w .wrote }

@@ -257,7 +257,7 @@ module _ (s : Station) (pieces : List Piece) (made : valid (s .state) ≡ true) 
       → Wrote settings s pieces (afterFlush s (flushing (withSchedule (s .state) k) t (s .sendPool)))
   wrote-update t next time few =
       let order : SendingInOrder settings (rescheduled s next) =
-          record { settings = o .settings; long = o .long; valid = o .valid; fits = o .fits; probe = o .probe } in
+      record { settings = o .settings; long = o .long; valid = o .valid; fits = o .fits; probe = o .probe } in
       let w = wrote-flush (rescheduled s next) pieces (valid-rescheduled (s .state) next ∙ made) conv32 order carry h t time few in
       record { shows = w .shows; genuine = w .genuine }
 

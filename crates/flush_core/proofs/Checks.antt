@@ -43,7 +43,7 @@ module _ (c : Settings) (f : Flight) (a : Arrival) (k : Clock) (x : Arrays) (rec
     unfolding blockValid countsFit valid stateOf enoughToFlush enough
     flushable w =
         let made = and-parts (countsFit block) _ (passes .valid-block) in
-        let whole = and-parts _ _ (and-parts _ _ (made .1) .0) in
+        let whole = and-parts _ _ (and-parts _ _ (and-parts _ _ (made .1) .0) .0) in
         let halves = and-parts (inRange c) _ (whole .0) in
         let sizes = and-parts _ _ (sym e ∙ passes .long-enough) in
         let bytes = and-parts (enough (mss c) (lentLengths table sendPool receivePool acks)) _ (sizes .0) in

@@ -1,18 +1,23 @@
 -- What the checks of 7 and 13 give each part of a flush.
 -- Assumes nothing.
-use mathlib.Core.Path.{_≡_}
-use mathlib.Core.Bool.{true, _&&_}
+use mathlib.Core.Path.{_≡_, ap}
+use mathlib.Core.Bool.{Bool, true, _&&_}
 use mathlib.Core.List.{List}
-use Prim.Native.Nat.{ℕ, _≤_}
+use Prim.Native.Nat.{ℕ, _+_, _^_, _≤_, _<_}
 use native.Mathlib.Omega.{arith}
-use Rattle.protocol.specs.Protocol.{sendSlots}
-use Rattle.protocol.specs.Ranges.{mss}
+use Rattle.protocol.specs.Protocol.{sendSlots, sendWindow}
+use Rattle.protocol.specs.Serial.{plus, minus}
+use Rattle.protocol.specs.Ranges.{mss, controlsCongestion}
 use Rattle.protocol.specs.declared.Settings.{Settings}
+use Rattle.congestion.specs.Congestions.{Countable}
+use Rattle.congestion.specs.CongestionLaws.{used-most}
 use Rattle.timing.specs.declared.Record.{Record}
 use Rattle.session.specs.Decides.{and-parts}
 use Rattle.session.specs.State.{Sending, sendHeld}
 use Rattle.session.specs.Valid.{all, heldFits, slotsFit, sendingValid, numbersFit}
 use Rattle.session.specs.IsValid.{SettingsInRange, settings-decide}
+use Rattle.session.specs.SendingValid.{sending-decides}
+use Rattle.session.specs.Flushing.{numberedCount}
 use Rattle.control.specs.declared.Flight.{Flight}
 use Rattle.control.specs.declared.Arrival.{Arrival}
 use Rattle.control.specs.declared.Clock.{Clock}
@@ -23,13 +28,22 @@ use Rattle.numbering.specs.declared.Numbered.{Numbered}
 use Rattle.transmit.specs.Writing.{Writable}
 use Rattle.transmit.specs.ValidLaws.{valid-inside}
 use Rattle.flush_core.specs.declared.parts.Plan.{Plan}
-use Rattle.flush_core.specs.Parts.{Plans}
+use Rattle.flush_core.specs.Parts.{Plans, windowIn, lossesIn}
 use Rattle.flush_core.specs.Flushes.{Flushable}
 
 numbers-fit : (c : Settings) (s : Sending) → sendingValid c s ≡ true → numbersFit s ≡ true
 unfolding sendingValid
 numbers-fit c s e =
     and-parts (all (heldFits (mss c)) (sendHeld s) && slotsFit sendSlots (sendHeld s)) _ (and-parts _ _ (and-parts _ _ e .0) .0) .1
+
+-- what the window allows stays within 32 of snd_una
+count-fits : (w : ℕ) (s : Sending) → w ≤ sendWindow → minus (s .next) (s .una) ≤ sendWindow
+    → minus (s .next) (s .una) + numberedCount w s ≤ sendWindow
+unfolding numberedCount
+count-fits w s h k = omega arith
+
+flown-apart : (next una k : ℕ) → una < 2 ^ 32 → minus next una + k ≤ sendWindow → minus (plus next k) una ≤ sendWindow
+flown-apart next una k h e = omega arith
 
 module _ (c : Settings) (f : Flight) (a : Arrival) (queued outstanding transmissions : List ℕ) (records : List Record) (pool acks out lengths : List ℕ)
     (p : Flushable c f a queued outstanding transmissions records pool acks out lengths) where
@@ -44,9 +58,10 @@ module _ (c : Settings) (f : Flight) (a : Arrival) (queued outstanding transmiss
   few-ready = fit .ready
 
   -- for numbering
-  pub numberable : Numberable f queued outstanding transmissions records
-  numberable =
+  pub numberable : (w : ℕ) → w ≡ windowIn c f → Numberable f w queued outstanding transmissions records
+  numberable w e =
       record {
+        window-fits = rw e (used-most (controlsCongestion c) (f .window) (f .congestion .window));
         queued-whole = p .queued-whole;
         outstanding-whole = p .outstanding-whole;
         transmissions-whole = p .transmissions-whole;
@@ -55,10 +70,24 @@ module _ (c : Settings) (f : Flight) (a : Arrival) (queued outstanding transmiss
         numbers = numbers-fit c _ (p .sends);
       }
 
+  -- for the losses at its end
+  pub countable : (w : ℕ) (n : Numbered) (queued′ outstanding′ transmissions′ : List ℕ) → w ≡ windowIn c f → f .una < 2 ^ 32
+      → Numbers f w queued outstanding transmissions records n queued′ outstanding′ transmissions′
+      → (fast late : Bool) → Countable (mss c) (lossesIn c (n .flight) w fast late)
+  countable w n queued′ outstanding′ transmissions′ e below d fast late =
+      let half = sendingOf f queued outstanding transmissions records in
+      let k = numberedCount w half in
+      let apart = sending-decides c half .holds (p .sends) .apart in
+      let room = count-fits w half (numberable w e .window-fits) apart in
+      record {
+        most = omega (arith, range .mtu-most);
+        inflight = rw (ap (λ (g : Flight). g .next) (d .rest), ap (λ (g : Flight). g .una) (d .rest)) (flown-apart (f .next) (f .una) k below room);
+      }
+
   -- for writing
-  pub writable : (k : Clock) (t : ℕ) (plan : Plan) (n : Numbered) (queued′ outstanding′ transmissions′ : List ℕ) → Plans c f a k t plan → Numbers f queued outstanding transmissions records n queued′ outstanding′ transmissions′
+  pub writable : (k : Clock) (t w : ℕ) (plan : Plan) (n : Numbered) (queued′ outstanding′ transmissions′ : List ℕ) → Plans c f a k t plan → Numbers f w queued outstanding transmissions records n queued′ outstanding′ transmissions′
       → Writable (plan .flush) (a .acks) acks outstanding′ transmissions′ (n .records) (n .flight .outstanding) pool out lengths
-  writable k t plan n queued′ outstanding′ transmissions′ g e =
+  writable k t w plan n queued′ outstanding′ transmissions′ g e =
       rw (g .flush) (record {
         sendable = record {
           mtu = omega (arith, range .mtu-least);

@@ -8,10 +8,11 @@ use native.Mathlib.Omega.{arith}
 use borrow.Author.Tests.{le-leb}
 use lib.ListN.{length, take, length-map}
 use lib.Seq.{length-take-le}
+use Rattle.protocol.specs.Serial.{plus}
 use Rattle.protocol.specs.declared.Settings.{Settings}
 use Rattle.timing.specs.declared.Record.{Record}
 use Rattle.session.specs.State.{State}
-use Rattle.session.specs.Flushing.{bytesOfSegments, flushing}
+use Rattle.session.specs.Flushing.{numberedCount, bytesOfSegments, flushing}
 use Rattle.answers.specs.declared.Count.the-variants as count
 use Rattle.words.specs.Words.{unpack, heldIn}
 use Rattle.control.specs.declared.Flight.{Flight}
@@ -28,7 +29,7 @@ use Rattle.transmit.specs.Writing.{Writes}
 use Rattle.transmit.specs.Flushes.{FlushOf, FlushWrites}
 use Rattle.transmit.specs.FlushLaws.{flush-writes}
 use Rattle.flush_core.specs.declared.parts.Plan.{Plan}
-use Rattle.flush_core.specs.Parts.{goesBy, Plans, Moves, toldOf}
+use Rattle.flush_core.specs.Parts.{goesBy, Plans, windowIn, withLosses, Moves, toldOf}
 use Rattle.flush_core.specs.Flushes.{Runs}
 
 module _ (c : Settings) (f : Flight) (a : Arrival) (k : Clock) (queued outstanding transmissions ready waiting numbers : List ℕ) (records : List Record) (acks : List ℕ) (t : ℕ) where
@@ -45,8 +46,8 @@ module _ (c : Settings) (f : Flight) (a : Arrival) (k : Clock) (queued outstandi
       let held : length (heldIn ready (a .ready)) ≡ a .ready = length-map (take (a .ready) ready) unpack ∙ length-take-le (a .ready) ready (omega arith) in
       record { settings = refl; carries = rw held; timeout = refl; time = refl }
 
-  module _ (pool out lengths : List ℕ) (plan : Plan) (n : Numbered) (queued′ outstanding′ transmissions′ : List ℕ) (w : Written) (transmissions″ out′ lengths′ : List ℕ)
-      (plans : Plans c f a k t plan) (numbered : Numbers f queued outstanding transmissions records n queued′ outstanding′ transmissions′)
+  module _ (pool out lengths : List ℕ) (window : ℕ) (e₁ : window ≡ windowIn c f) (plan : Plan) (n : Numbered) (queued′ outstanding′ transmissions′ : List ℕ) (w : Written) (transmissions″ out′ lengths′ : List ℕ)
+      (plans : Plans c f a k t plan) (numbered : Numbers f window queued outstanding transmissions records n queued′ outstanding′ transmissions′)
       (writes : Writes (plan .flush) (pairs (a .acks) acks) (plan .ask) (plan .tell) (sentIn outstanding′ transmissions′ (n .records) (n .flight .outstanding)) outstanding′ (n .flight .outstanding) pool out lengths w transmissions″ out′ lengths′)
       (whole : length ready ≡ 128) (fit : counted f a ≡ true) where
     -- what is written is what the flush of the state writes
@@ -54,11 +55,35 @@ module _ (c : Settings) (f : Flight) (a : Arrival) (k : Clock) (queued outstandi
     unfolding stateOf
     written =
         flush-writes before t (goesBy c f a t) (goes-by whole (counts f a fit .ready)) pool outstanding′ (n .flight .outstanding) out lengths w transmissions″ out′ lengths′
-        (rw (plans .flush, plans .ask, plans .tell, numbered .sent .list) at writes)
+        (rw (plans .flush, plans .ask, plans .tell, numbered .sent .list, e₁) at writes)
 
-    module _ (a′ : Arrival) (k′ : Clock) (told : a′ ≡ toldOf a) (moves : Moves k (plan .probe) (w .dead) t k′) where
+    module _ (a′ : Arrival) (k′ : Clock) (f′ : Flight) (lost : f′ ≡ withLosses c (n .flight) window (w .fast) (w .late)) (told : a′ ≡ toldOf a) (moves : Moves k (plan .probe) (w .dead) t k′) where
       abbrev after : Link
-      after = linkOf c (n .flight) a′ k′ (arrays queued′ outstanding′ transmissions″ ready waiting numbers)
+      after = linkOf c f′ a′ k′ (arrays queued′ outstanding′ transmissions″ ready waiting numbers)
+
+      -- the numbers but for the congestion window, and that
+      flown : f′ ≡ record {
+        una = f .una;
+        next = plus (f .next) (numberedCount (windowIn c f) (before .sending));
+        rtt = f .rtt;
+        window = f .window;
+        congestion = f′ .congestion;
+        queued = n .flight .queued;
+        outstanding = n .flight .outstanding;
+      }
+      unfolding stateOf
+      flown = rw (lost, numbered .rest, e₁)
+
+      congested : f′ .congestion ≡ flushing before t pool .state .congestion
+      unfolding stateOf flushing
+      congested = rw (lost, numbered .rest, e₁, written .late, written .fast)
+
+      left : heldIn queued′ (f′ .queued) ≡ flushing before t pool .state .sending .queued
+      unfolding stateOf flushing
+      left = rw lost (numbered .left ∙ rw e₁)
+
+      sent : sentIn outstanding′ transmissions″ (w .records) (f′ .outstanding) ≡ flushing before t pool .state .sending .outstanding
+      sent = rw lost (written .sent .list)
 
       state : stateOf after (w .records) acks ≡ flushing before t pool .state
       unfolding stateOf flushing pairs
@@ -67,17 +92,18 @@ module _ (c : Settings) (f : Flight) (a : Arrival) (k : Clock) (queued outstandi
           record {
             settings = c;
             sending = record {
-              una = numbered .rest i .una;
-              next = numbered .rest i .next;
-              queued = numbered .left i;
-              outstanding = written .sent .list i;
-              window = numbered .rest i .window;
-              roundTrip = numbered .rest i .rtt;
+              una = flown i .una;
+              next = flown i .next;
+              queued = left i;
+              outstanding = sent i;
+              window = flown i .window;
+              roundTrip = flown i .rtt;
             };
             receiving = receivingOf (told i) ready waiting numbers (pairs (told i .acks) acks);
             probe = (ap (λ (y : Clock). y .probe) (moves .is) ∙ plans .probe) i;
             current = moves .is i .current;
             schedule = scheduleOf (moves .is i);
+            congestion = congested i;
             ask = isSet (moves .is i .ask);
             dead = (moves .flag ∙ written .dead) i;
           }
@@ -86,10 +112,10 @@ module _ (c : Settings) (f : Flight) (a : Arrival) (k : Clock) (queued outstandi
       unfolding countsFit
       counts-fit =
           let q = counts f a fit in
-          rw (told, le-leb _ _ (numbered .queued-fits), le-leb _ _ (numbered .sent .fits), le-leb _ _ (q .ready), le-leb _ _ (q .waiting))
+          rw (told, lost, le-leb _ _ (numbered .queued-fits), le-leb _ _ (numbered .sent .fits), le-leb _ _ (q .ready), le-leb _ _ (q .waiting))
 
       pub runs : (words : List ℕ) → words ≡ outstanding′
-          → Runs block records pool acks t out lengths (record { answer = count.Of (w .count); flight = n .flight; arrival = a′; clock = k′; words = words; changed = n .flight .outstanding; records = w .records }) after out′ lengths′
+          → Runs block records pool acks t out lengths (record { answer = count.Of (w .count); flight = f′; arrival = a′; clock = k′; words = words; changed = f′ .outstanding; records = w .records }) after out′ lengths′
       runs words e =
           let number = written .output .number ∙ length-map (flushing before t pool .datagrams) bytesOfSegments in
           record {

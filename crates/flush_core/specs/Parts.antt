@@ -4,7 +4,11 @@ use mathlib.Core.Path.{_≡_}
 use mathlib.Core.Bool.{Bool, _||_}
 use Prim.Native.Nat.{ℕ, _-_}
 use Rattle.protocol.specs.Protocol.{receiveWindow}
+use Rattle.protocol.specs.Ranges.{mss, controlsCongestion}
+use Rattle.protocol.specs.Serial.{minus}
 use Rattle.protocol.specs.declared.Settings.{Settings}
+use Rattle.congestion.specs.Congestions.{usedWindow, afterFlush}
+use Rattle.congestion.specs.declared.Losses.{Losses}
 use Rattle.timing.specs.Probes.{nextClock}
 use Rattle.timing.specs.declared.ProbeClock.{ProbeClock}
 use Rattle.control.specs.declared.Flight.{Flight}
@@ -30,6 +34,28 @@ pub record Plans (c : Settings) (f : Flight) (a : Arrival) (k : Clock) (t : ℕ)
   pub ask : r .ask ≡ (isSet (k .ask) || nextClock (k .probe) t (f .window) .ask)
   pub tell : r .tell ≡ isSet (a .tell)
   pub probe : r .probe ≡ nextClock (k .probe) t (f .window) .clock
+
+-- the window that it goes by
+abbrev pub windowIn : Settings → Flight → ℕ
+windowIn c f = usedWindow (controlsCongestion c) (f .window) (f .congestion .window)
+
+-- what it tells of losses, with these numbers at its end
+abbrev pub lossesIn : Settings → Flight → ℕ → Bool → Bool → Losses
+lossesIn c f window fast late =
+    record { fast = fast; late = late; skips = c .threshold; inflight = minus (f .next) (f .una); used = window }
+
+-- and these numbers with the congestion window after that
+abbrev pub withLosses : Settings → Flight → ℕ → Bool → Bool → Flight
+withLosses c f window fast late =
+    record {
+      una = f .una;
+      next = f .next;
+      rtt = f .rtt;
+      window = f .window;
+      congestion = afterFlush (f .congestion) (mss c) (lossesIn c f window fast late);
+      queued = f .queued;
+      outstanding = f .outstanding;
+    }
 
 -- the clock with this probe clock, t as the current time, the old schedule, and no wish for an ask; dead if it was, or if it is now
 pub record Moves (k : Clock) (probe : ProbeClock) (dead : Bool) (t : ℕ) (r : Clock) : Type 0 where

@@ -80,8 +80,9 @@ pub fn run(
         (now (output .exit)) (now (lengths .exit))) ⌝ }
 {
     let plan = parts::plan_of(settings, flight, arrival, clock, t);
-    let numbered = numbering::number(flight, queued, outstanding, transmissions, records);
-    let after = numbered.flight;
+    let window = parts::window_of(settings, flight);
+    let numbered = numbering::number(flight, window, queued, outstanding, transmissions, records);
+    let flown = numbered.flight;
     let numbered_records = numbered.records;
     let written = transmit::write(
         plan.flush,
@@ -92,13 +93,14 @@ pub fn run(
         outstanding,
         transmissions,
         numbered_records,
-        after.outstanding,
+        flown.outstanding,
         pool,
         output,
         lengths,
     );
     let words = *outstanding;
     let kept = written.records;
+    let after = parts::after_losses(settings, flown, window, written.fast, written.late);
     let moved = parts::moved(clock, plan.probe, written.dead, t);
     let told = parts::told(arrival);
     Flushed {

@@ -1,16 +1,21 @@
 // The parts of a flush: what it goes by, and the numbers that it leaves.
+use congestion::Losses;
+use congestion::rules;
 use control::Arrival;
 use control::Clock;
 use control::Flight;
 use packing::Carried;
 use protocol::Protocol;
 use protocol::Settings;
+use protocol::serial;
 use timing::ProbeClock;
 use transmit::Flush;
 ghost use mathlib.Core.Path.{_≡_};
 ghost use Prim.Native.Nat.{_≤_};
 ghost use Rattle.control.specs.Views.{isSet};
-ghost use Rattle.flush_core.specs.Parts.{Plans, Moves, toldOf};
+ghost use Rattle.protocol.specs.Ranges.{mss};
+ghost use Rattle.congestion.specs.Congestions.{Countable};
+ghost use Rattle.flush_core.specs.Parts.{Plans, windowIn, lossesIn, withLosses, Moves, toldOf};
 
 // What a flush goes by, whether it asks and tells, and the probe clock after it.
 pub(crate) struct Plan {
@@ -65,6 +70,39 @@ pub(crate) fn plan_of(
         tell: is_set(arrival.tell),
         probe,
     }
+}
+
+// The window that a flush goes by.
+pub(crate) fn window_of(settings: Settings, flight: Flight) -> u32
+    ensures { λ r. ⌜ r ≡ windowIn settings flight ⌝ }
+{
+    let congestion = flight.congestion;
+    rules::used_window(settings.congestion == 1, flight.window, congestion.window)
+}
+
+// The sending half's numbers at the end of a flush that used this window, with the congestion window after its losses.
+pub(crate) fn after_losses(
+    settings: Settings,
+    flight: Flight,
+    window: u32,
+    fast: bool,
+    late: bool,
+) -> Flight
+    requires { ⌜ Countable (mss settings) (lossesIn settings flight window fast late) ⌝ }
+    ensures { λ r. ⌜ r ≡ withLosses settings flight window fast late ⌝ }
+{
+    let most = settings.mss();
+    let losses = Losses {
+        fast,
+        late,
+        skips: settings.threshold,
+        inflight: serial::difference(flight.next, flight.una),
+        used: window,
+    };
+    let old = flight.congestion;
+    let mut after = flight;
+    after.congestion = old.after_flush(most as u32, losses);
+    after
 }
 
 // The clock after a flush at t: no ask is wanted, and the schedule is as it was.

@@ -2,6 +2,8 @@
 // and of the table the first `lent` records, or all where it has fewer.
 use answers::Answer;
 use answers::Count;
+use answers::Time;
+use answers::Update;
 use checking::flights;
 use control::Link;
 use protocol::Settings;
@@ -11,7 +13,7 @@ ghost use lib.ListN.{length, take, drop};
 ghost use Rattle.promises.specs.Promises.{ShowsPart};
 ghost use Rattle.promises.specs.Parts.{partsOf};
 ghost use Rattle.promises.specs.Outcomes.{shows};
-ghost use Rattle.promises.specs.Promises.{OpenPromise, SendPromise, InputPromise, FlushPromise, ReadPromise, SizePromise};
+ghost use Rattle.promises.specs.Promises.{OpenPromise, SendPromise, InputPromise, FlushPromise, UpdatePromise, CheckPromise, ReadPromise, SizePromise};
 
 // The answer of opening or sending, and the block after it.
 pub struct Answered {
@@ -35,6 +37,13 @@ pub struct TakenIn {
 // The answer of a flush, and block and table after it.
 pub struct FlushedOut {
     pub answer: Count,
+    pub link: Link,
+    pub table: [Record; 128],
+}
+
+// The answer of an update, and block and table after it.
+pub struct UpdatedOut {
+    pub answer: Update,
     pub link: Link,
     pub table: [Record; 128],
 }
@@ -329,6 +338,85 @@ pub fn flush(
     }
 }
 
+// An update at time t. The records that are not lent stay as they were.
+pub fn update(
+    link: Link,
+    send_pool: &[u8],
+    receive_pool: &[u8],
+    table: [Record; 128],
+    lent: usize,
+    acks: &[u32],
+    t: u32,
+    output: &mut [u8],
+    lengths: &mut [u16],
+) -> UpdatedOut
+    ensures { λ r. ⌜ UpdatePromise t link (partsOf (now («send_pool» .entry)) (now («receive_pool» .entry)) (take lent table) (now (acks .entry)))
+        (now (output .entry)) (now (lengths .entry))
+        (r .answer) (r .link) (partsOf (now («send_pool» .entry)) (now («receive_pool» .entry)) (take lent (r .table)) (now (acks .entry)))
+        (now (output .exit)) (now (lengths .exit)) × (drop lent (r .table) ≡ drop lent table) ⌝ }
+{
+    let settings = link.settings;
+    let flight = link.flight;
+    let arrival = link.arrival;
+    let clock = link.clock;
+    let mut queued = link.queued;
+    let mut outstanding = link.outstanding;
+    let mut transmissions = link.transmissions;
+    let ready = link.ready;
+    let waiting = link.waiting;
+    let waiting_numbers = link.waiting_numbers;
+    let records = kept_table::gather(table, lent, outstanding, flight.outstanding);
+    let n = kept_table::lent_count(lent);
+    let done = update_core::update(
+        settings,
+        flight,
+        arrival,
+        clock,
+        records,
+        n,
+        &mut queued,
+        &mut outstanding,
+        &mut transmissions,
+        &ready,
+        &waiting,
+        &waiting_numbers,
+        send_pool,
+        receive_pool,
+        acks,
+        t,
+        output,
+        lengths,
+    );
+    let answer = done.answer;
+    let sending = done.flight;
+    let receiving = done.arrival;
+    let moved = done.clock;
+    let words = done.words;
+    let left = done.records;
+    let _queued = is_list(queued);
+    let _outstanding = is_words(outstanding);
+    let _transmissions = is_counts(transmissions);
+    let _left = is_records(left);
+    let next = kept_table::scatter(table, lent, words, done.changed, left);
+    let after = Link {
+        settings,
+        flight: sending,
+        arrival: receiving,
+        clock: moved,
+        queued,
+        outstanding,
+        transmissions,
+        ready,
+        waiting,
+        waiting_numbers,
+    };
+    UpdatedOut {
+        answer,
+        link: after,
+        table: next,
+    }
+}
+
 // Reading a message into a buffer.
 pub fn read(
     link: Link,
@@ -433,6 +521,50 @@ pub fn size(
         send_pool,
         receive_pool,
         acks,
+    )
+}
+
+// Naming the time at which the next update is wanted.
+pub fn check(
+    link: Link,
+    send_pool: &[u8],
+    receive_pool: &[u8],
+    table: [Record; 128],
+    lent: usize,
+    acks: &[u32],
+    t: u32,
+) -> Time
+    ensures { λ r. ⌜ CheckPromise t link (partsOf (now («send_pool» .entry)) (now («receive_pool» .entry)) (take lent table) (now (acks .entry))) r ⌝ }
+{
+    let settings = link.settings;
+    let flight = link.flight;
+    let arrival = link.arrival;
+    let clock = link.clock;
+    let queued = link.queued;
+    let outstanding = link.outstanding;
+    let transmissions = link.transmissions;
+    let ready = link.ready;
+    let waiting = link.waiting;
+    let waiting_numbers = link.waiting_numbers;
+    let records = kept_table::gather(table, lent, outstanding, flight.outstanding);
+    let n = kept_table::lent_count(lent);
+    update_core::check(
+        settings,
+        flight,
+        arrival,
+        clock,
+        records,
+        n,
+        &queued,
+        &outstanding,
+        &transmissions,
+        &ready,
+        &waiting,
+        &waiting_numbers,
+        send_pool,
+        receive_pool,
+        acks,
+        t,
     )
 }
 

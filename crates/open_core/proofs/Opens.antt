@@ -7,6 +7,7 @@ use Prim.Native.Nat.{ℕ}
 use Rattle.protocol.specs.Ranges.{inRange, mss}
 use Rattle.protocol.specs.declared.Settings.{Settings}
 use Rattle.protocol.specs.declared.Refusal.the-variants.{SettingOutOfRange, ShortPart}
+use Rattle.congestion.specs.Congestions.{initial}
 use Rattle.timing.specs.declared.Record.{Record}
 use Rattle.lists.specs.Joining.{joined}
 use Rattle.sizes.specs.Sizes.{enough}
@@ -26,7 +27,15 @@ made c =
     record {
       answer = Accepted;
       settings = c;
-      flight = record { una = 0; next = 0; rtt = record { smoothed = 0; variation = 0; timeout = 200 }; window = 128; queued = 0; outstanding = 0 };
+      flight = record {
+        una = 0;
+        next = 0;
+        rtt = record { smoothed = 0; variation = 0; timeout = 200 };
+        window = 128;
+        congestion = initial;
+        queued = 0;
+        outstanding = 0;
+      };
       arrival = record { expected = 0; tell = 0; ready = 0; waiting = 0; acks = 0 };
       clock = record { probe = record { wait = 0; due = 0 }; current = 0; «next_flush» = 0; ask = 0; dead = 0; updated = 0 };
     }

@@ -1,5 +1,6 @@
 // Opening a link over the block in place: its numbers alone, since what stands in an array past its count is not state.
 use answers::Answer;
+use congestion::Congestion;
 use control::Arrival;
 use control::Clock;
 use control::Flight;
@@ -24,7 +25,7 @@ pub struct Opened {
     pub clock: Clock,
 }
 
-// The peer's window at 128, the link timeout at 200, all else at 0 or unset.
+// The peer's window at 128, the link timeout at 200, the congestion window as at opening, all else at 0 or unset.
 fn fresh(settings: Settings) -> Opened
     ensures { λ r. ⌜ IsFresh settings r ⌝ }
 {
@@ -38,6 +39,7 @@ fn fresh(settings: Settings) -> Opened
         next: 0,
         rtt,
         window: 128,
+        congestion: Congestion::new(),
         queued: 0,
         outstanding: 0,
     };

@@ -11,17 +11,21 @@ use Rattle.protocol.specs.declared.Settings.{Settings}
 use Rattle.protocol.specs.declared.Refusal.the-variants.{InvalidBlock}
 use Rattle.answers.specs.declared.Count.{Count}
 use Rattle.answers.specs.declared.Count.the-variants.{Of, Refused}
+use Rattle.answers.specs.declared.Update.{Update}
+use Rattle.answers.specs.declared.Update.the-variants as update
+use Rattle.answers.specs.declared.Time.{Time}
 use Rattle.timing.specs.declared.Record.{Record}
 use Rattle.control.specs.declared.Link.{Link}
 use Rattle.notation.specs.Ascii.{ascii}
 use Rattle.notation.specs.Puts.{Put}
-use Rattle.transcript.specs.Lines.{bytesLine, refusalLine, answerLine, countLine, datagramLines, stateLine, heldLine}
-use Rattle.bench.specs.Fields.{countsOf, Jumped, Poked, HasField, HeldChanged, holds}
+use Rattle.transcript.specs.Lines.{bytesLine, refusalLine, answerLine, countLine, timeLine, datagramLines, stateLine, heldLine}
+use Rattle.bench.specs.Fields.{countsOf, Jumped, IsField, Poked, HasField, HeldChanged, holds}
 use Rattle.bench.specs.declared.Lent.{Lent}
 use Rattle.bench.specs.declared.Bench.{Bench}
 use Rattle.bench_calls.specs.declared.Answered.{Answered}
 use Rattle.bench_calls.specs.declared.Counted.{Counted}
-use Rattle.bench_calls.specs.BenchPromises.{after, BenchOpens, BenchSends, BenchTakesIn, BenchFlushes, BenchReads, BenchTells, BenchShows}
+use Rattle.bench_calls.specs.declared.Updated.{Updated}
+use Rattle.bench_calls.specs.BenchPromises.{after, BenchOpens, BenchSends, BenchTakesIn, BenchFlushes, BenchUpdates, BenchChecks, BenchReads, BenchTells, BenchShows}
 use Rattle.script.specs.Commands.{Parsed}
 use Rattle.script.specs.declared.Command.{Command}
 use Rattle.script.specs.declared.Command.the-variants as command
@@ -73,6 +77,24 @@ pub record PlaysFlush (t : ℕ) (b : Bench) (s r a text : List ℕ) (x : Played)
   pub promise : BenchFlushes t b s r a (replicate 22576 0) (replicate 290 0) done output lengths
   pub says : Says (done .bench) (flushLines output lengths (done .answer)) text x text′
 
+-- of an update: the same where it flushes; where it does not, `ok` alone
+abbrev pub updateLines : List ℕ → List ℕ → Update → List ℕ
+updateLines output lengths update.Waited = ascii "ok\n"
+updateLines output lengths (update.Wrote n) = flushLines output lengths (Of n)
+updateLines output lengths (update.Refused e) = refusalLine e
+
+pub record PlaysUpdate (t : ℕ) (b : Bench) (s r a text : List ℕ) (x : Played) (text′ : List ℕ) : Type 0 where
+  pub done : Updated
+  pub output : List ℕ
+  pub lengths : List ℕ
+  pub promise : BenchUpdates t b s r a (replicate 22576 0) (replicate 290 0) done output lengths
+  pub says : Says (done .bench) (updateLines output lengths (done .answer)) text x text′
+
+pub record PlaysCheck (t : ℕ) (b : Bench) (s r a text : List ℕ) (x : Played) (text′ : List ℕ) : Type 0 where
+  pub time : Time
+  pub promise : BenchChecks t b s r a time
+  pub says : Says (still b) (timeLine time) text x text′
+
 abbrev pub readLine : List ℕ → Count → List ℕ
 readLine buffer (Of n) = bytesLine (ascii "message ") (take n buffer)
 readLine buffer (Refused e) = refusalLine e
@@ -113,7 +135,7 @@ pub record PlaysLend (part count : ℕ) (b : Bench) (text : List ℕ) (x : Playe
 
 pub record PlaysPoke (field value : ℕ) (b : Bench) (text : List ℕ) (x : Played) (text′ : List ℕ) : Type 0 where
   pub link : Link
-  pub poked : field ≤ 18 → Poked (b .link) field value link
+  pub poked : IsField field → Poked (b .link) field value link
   pub says : Ok (after b link (b .table)) text x text′
 
 pub record Changes (list index field value : ℕ) (b : Bench) (text : List ℕ) (x : Played) (text′ : List ℕ) : Type 0 where
@@ -134,10 +156,12 @@ PlaysTool (command.Lend part count) b = PlaysLend part count b
 PlaysTool (command.Poke field value) b = PlaysPoke field value b
 PlaysTool (command.Hold list index field value) b = PlaysHold list index field value b
 PlaysTool (command.Rec slot number due timeout skips) b = Ok (after b (b .link) (set (b .table) slot (record { number = number; due = due; timeout = timeout; skips = skips })))
-PlaysTool (command.Open conv mtu mode interval threshold) b = NoCommand b
+PlaysTool (command.Open conv mtu mode interval threshold stream) b = NoCommand b
 PlaysTool (command.Send n) b = NoCommand b
 PlaysTool (command.Input n) b = NoCommand b
 PlaysTool (command.Flush t) b = NoCommand b
+PlaysTool (command.Update t) b = NoCommand b
+PlaysTool (command.Check t) b = NoCommand b
 PlaysTool (command.Read room) b = NoCommand b
 PlaysTool command.Size b = NoCommand b
 PlaysTool command.Show b = NoCommand b
@@ -161,6 +185,8 @@ abbrev pub PlaysOnLink : Command → Bench → (s r a bytes text : List ℕ) →
 PlaysOnLink (command.Send n) b s r a bytes text x s′ r′ a′ text′ = Untouched s′ r a s′ r′ a′ × PlaysSend (take n bytes) b s r a text x s′ text′
 PlaysOnLink (command.Input n) b s r a bytes text x s′ r′ a′ text′ = Untouched s r′ a′ s′ r′ a′ × PlaysInput (take n bytes) b s r a text x r′ a′ text′
 PlaysOnLink (command.Flush t) b s r a bytes text x s′ r′ a′ text′ = Untouched s r a s′ r′ a′ × PlaysFlush t b s r a text x text′
+PlaysOnLink (command.Update t) b s r a bytes text x s′ r′ a′ text′ = Untouched s r a s′ r′ a′ × PlaysUpdate t b s r a text x text′
+PlaysOnLink (command.Check t) b s r a bytes text x s′ r′ a′ text′ = Untouched s r a s′ r′ a′ × PlaysCheck t b s r a text x text′
 PlaysOnLink (command.Read room) b s r a bytes text x s′ r′ a′ text′ = Untouched s r a s′ r′ a′ × PlaysRead room b s r a text x text′
 PlaysOnLink command.Size b s r a bytes text x s′ r′ a′ text′ = Untouched s r a s′ r′ a′ × PlaysSize b s r a text x text′
 PlaysOnLink command.Show b s r a bytes text x s′ r′ a′ text′ = Untouched s r a s′ r′ a′ × PlaysShow b s r a text x text′
@@ -171,22 +197,30 @@ PlaysOnLink (command.Lend part count) b s r a bytes text x s′ r′ a′ text�
 PlaysOnLink (command.Poke field value) b s r a bytes text x s′ r′ a′ text′ = Untouched s r a s′ r′ a′ × PlaysTool (command.Poke field value) b text x text′
 PlaysOnLink (command.Hold list index field value) b s r a bytes text x s′ r′ a′ text′ = Untouched s r a s′ r′ a′ × PlaysTool (command.Hold list index field value) b text x text′
 PlaysOnLink (command.Rec slot number due timeout skips) b s r a bytes text x s′ r′ a′ text′ = Untouched s r a s′ r′ a′ × PlaysTool (command.Rec slot number due timeout skips) b text x text′
-PlaysOnLink (command.Open conv mtu mode interval threshold) b s r a bytes text x s′ r′ a′ text′ = Untouched s r a s′ r′ a′ × NoCommand b text x text′
+PlaysOnLink (command.Open conv mtu mode interval threshold stream) b s r a bytes text x s′ r′ a′ text′ = Untouched s r a s′ r′ a′ × NoCommand b text x text′
 PlaysOnLink command.Malformed b s r a bytes text x s′ r′ a′ text′ = Untouched s r a s′ r′ a′ × NoCommand b text x text′
 
 -- neither `open` nor malformed
 pub record IsLater (c : Command) : Type 0 where
   pub notMalformed : c ≡ command.Malformed → ⊥
-  pub notOpen : (conv mtu mode interval threshold : ℕ) → c ≡ command.Open conv mtu mode interval threshold → ⊥
+  pub notOpen : (conv mtu mode interval threshold stream : ℕ) → c ≡ command.Open conv mtu mode interval threshold stream → ⊥
 
 -- the settings of `open`: one that is too large for its width becomes the largest of that width, which is out of range too
-abbrev pub settingsOf : ℕ → ℕ → ℕ → ℕ → ℕ → Settings
-settingsOf conv mtu mode interval threshold = record { conv = conv; mtu = min mtu 65535; interval = min interval 65535; mode = min mode 255; threshold = min threshold 255 }
+abbrev pub settingsOf : ℕ → ℕ → ℕ → ℕ → ℕ → ℕ → Settings
+settingsOf conv mtu mode interval threshold stream =
+    record {
+      conv = conv;
+      mtu = min mtu 65535;
+      interval = min interval 65535;
+      mode = min mode 255;
+      threshold = min threshold 255;
+      stream = min stream 255;
+    }
 
 -- `open` opens the link; every other command is refused before that
 pub record Plays (c : Command) (b : Bench) (s r a bytes text : List ℕ) (x : Played) (s′ r′ a′ text′ : List ℕ) : Type 0 where
   pub malformed : c ≡ command.Malformed → Untouched s r a s′ r′ a′ × NoCommand b text x text′
-  pub opens : (conv mtu mode interval threshold : ℕ) → c ≡ command.Open conv mtu mode interval threshold → Untouched s r a s′ r′ a′ × PlaysOpen (settingsOf conv mtu mode interval threshold) b s r a text x text′
+  pub opens : (conv mtu mode interval threshold stream : ℕ) → c ≡ command.Open conv mtu mode interval threshold stream → Untouched s r a s′ r′ a′ × PlaysOpen (settingsOf conv mtu mode interval threshold stream) b s r a text x text′
   pub onLink : IsLater c → b .opened ≡ true → PlaysOnLink c b s r a bytes text x s′ r′ a′ text′
   pub unopened : IsLater c → b .opened ≡ false → Untouched s r a s′ r′ a′ × PlaysUnopened c b text x text′
 

@@ -1,6 +1,7 @@
 // What each command of a script does, and its answer as text.
 use answers::Answer;
 use answers::Count;
+use answers::Update;
 use bench::Bench;
 use bench_calls::Answered;
 use notation::put;
@@ -17,7 +18,7 @@ ghost use mathlib.Core.List.{_++_};
 ghost use Rattle.notation.specs.Ascii.{ascii};
 ghost use Rattle.transcript.specs.Lines.{bytesLine, refusalLine, answerLine, countLine, datagramLines, stateLine, heldLine};
 ghost use Rattle.bench_calls.specs.BenchPromises.{after};
-ghost use Rattle.playing.specs.Plays.{Says, still, NoCommand, Ok, PlaysOpen, PlaysSend, PlaysInput, PlaysFlush, PlaysRead, PlaysSize, PlaysShow, PlaysJump, PlaysLend, PlaysPoke, PlaysHold, PlaysTool, PlaysUnopened, PlaysOnLink, settingsOf, Plays, PlaysLine};
+ghost use Rattle.playing.specs.Plays.{Says, still, NoCommand, Ok, PlaysOpen, PlaysSend, PlaysInput, PlaysFlush, PlaysUpdate, PlaysCheck, PlaysRead, PlaysSize, PlaysShow, PlaysJump, PlaysLend, PlaysPoke, PlaysHold, PlaysTool, PlaysUnopened, PlaysOnLink, settingsOf, Plays, PlaysLine};
 
 // The bench after a command, and the length of its answer.
 pub struct Played {
@@ -44,8 +45,15 @@ fn capped(value: u32, most: u32) -> u32
     if value < most { value } else { most }
 }
 
-fn settings_of(conv: u32, mtu: u32, mode: u32, interval: u32, threshold: u32) -> Settings
-    ensures { λ r. ⌜ r ≡ settingsOf conv mtu mode interval threshold ⌝ }
+fn settings_of(
+    conv: u32,
+    mtu: u32,
+    mode: u32,
+    interval: u32,
+    threshold: u32,
+    stream: u32,
+) -> Settings
+    ensures { λ r. ⌜ r ≡ settingsOf conv mtu mode interval threshold stream ⌝ }
 {
     Protocol::settings(
         conv,
@@ -53,6 +61,7 @@ fn settings_of(conv: u32, mtu: u32, mode: u32, interval: u32, threshold: u32) ->
         capped(mode, 255) as u8,
         capped(interval, 65535) as u16,
         capped(threshold, 255) as u8,
+        capped(stream, 255) as u8,
     )
 }
 
@@ -173,6 +182,61 @@ fn flush(
         Count::Of(n) => flushed(after, &output, &lengths, n, text),
         Count::Refused(r) => refused(after, r, text),
     }
+}
+
+// An update that did not flush.
+fn waited(bench: Bench, text: &mut [u8]) -> Played
+    ensures { λ r. ⌜ Ok bench (now (text .entry)) r (now (text .exit)) ⌝ }
+{
+    let len = transcript::answer(text, 0, Answer::Accepted);
+    Played { bench, len }
+}
+
+fn update(
+    bench: Bench,
+    send_pool: &[u8],
+    receive_pool: &[u8],
+    acks: &[u32],
+    t: u32,
+    text: &mut [u8],
+) -> Played
+    ensures { λ r. ⌜ PlaysUpdate t bench (now («send_pool» .entry)) (now («receive_pool» .entry)) (now (acks .entry))
+        (now (text .entry)) r (now (text .exit)) ⌝ }
+{
+    let mut output = [0u8; Protocol::OUTPUT_LEAST];
+    let mut lengths = [0u16; Protocol::LENGTHS_LEAST];
+    let done = bench_calls::update(
+        bench,
+        send_pool,
+        receive_pool,
+        acks,
+        t,
+        &mut output,
+        &mut lengths,
+    );
+    let after = done.bench;
+    let answer = done.answer;
+    match answer {
+        Update::Waited => waited(after, text),
+        Update::Wrote(n) => flushed(after, &output, &lengths, n, text),
+        Update::Refused(r) => refused(after, r, text),
+    }
+}
+
+fn check(
+    bench: Bench,
+    send_pool: &[u8],
+    receive_pool: &[u8],
+    acks: &[u32],
+    t: u32,
+    text: &mut [u8],
+) -> Played
+    ensures { λ r. ⌜ PlaysCheck t bench (now («send_pool» .entry)) (now («receive_pool» .entry)) (now (acks .entry))
+        (now (text .entry)) r (now (text .exit)) ⌝ }
+{
+    let answer = bench_calls::check(bench, send_pool, receive_pool, acks, t);
+    let len = transcript::time(text, 0, answer);
+    kept(bench, len)
 }
 
 // The message that was read: the first `count` bytes of `bytes`.
@@ -376,6 +440,8 @@ fn on_link(
         Command::Send(n) => send(bench, send_pool, receive_pool, acks, bytes, n, text),
         Command::Input(n) => input(bench, send_pool, receive_pool, acks, bytes, n, text),
         Command::Flush(t) => flush(bench, send_pool, receive_pool, acks, t, text),
+        Command::Update(t) => update(bench, send_pool, receive_pool, acks, t, text),
+        Command::Check(t) => check(bench, send_pool, receive_pool, acks, t, text),
         Command::Read(room) => read(bench, send_pool, receive_pool, acks, room, text),
         Command::Show => show(bench, send_pool, receive_pool, acks, text),
         Command::Size => size(bench, send_pool, receive_pool, acks, text),
@@ -403,8 +469,9 @@ pub fn play(
             mode,
             interval,
             threshold,
+            stream,
         } => {
-            let settings = settings_of(conv, mtu, mode, interval, threshold);
+            let settings = settings_of(conv, mtu, mode, interval, threshold, stream);
             open(bench, settings, send_pool, receive_pool, acks, text)
         }
         _ => {

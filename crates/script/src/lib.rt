@@ -6,7 +6,7 @@ use notation::Bytes;
 use numbers::Numbers;
 ghost use mathlib.Core.Path.{_≡_};
 ghost use lib.ListN.{length, drop};
-ghost use Rattle.script.specs.Commands.{isField, fieldMost, hasField, heldMost, ofNone, ofOne, ofTwo, ofFour, ofFive, withNumbers, withBytes, storedBytes, Parsed};
+ghost use Rattle.script.specs.Commands.{isField, fieldMost, hasField, heldMost, ofNone, ofOne, ofTwo, ofFour, ofFive, ofSix, withNumbers, withBytes, storedBytes, Parsed};
 ghost use Rattle.script.specs.Reading.{readAs};
 
 // The most bytes of a line, its newline not counted, and of a script.
@@ -25,6 +25,7 @@ pub enum Command {
         mode: u32,
         interval: u32,
         threshold: u32,
+        stream: u32,
     },
     Send(usize),
     Input(usize),
@@ -100,7 +101,7 @@ fn of_one(name: u64, a: u32) -> Command
 fn is_field(field: u32) -> bool
     ensures { λ r. ⌜ r ≡ isField field ⌝ }
 {
-    (field <= 18) | (field == 21) | (field == 22)
+    (field <= 19) | (field == 21) | (field == 22)
 }
 
 // The largest value of a field of the control block; nothing above its width is a value.
@@ -109,7 +110,7 @@ fn field_most(field: u32) -> u32
 {
     match field {
         1 | 3 | 9 | 18 => 65535,
-        2 | 4 => 255,
+        2 | 4 | 19 => 255,
         _ => 4294967295,
     }
 }
@@ -175,6 +176,7 @@ fn of_five(name: u64, a: u32, b: u32, c: u32, d: u32, e: u32) -> Command
             mode: c,
             interval: d,
             threshold: e,
+            stream: 0,
         };
     }
     if (name == words::REC) & (a < 128) & (e <= 65535) {
@@ -184,6 +186,23 @@ fn of_five(name: u64, a: u32, b: u32, c: u32, d: u32, e: u32) -> Command
             due: c,
             timeout: d,
             skips: e,
+        };
+    }
+    Command::Malformed
+}
+
+// Commands with six numbers.
+fn of_six(name: u64, a: u32, b: u32, c: u32, d: u32, e: u32, f: u32) -> Command
+    ensures { λ r. ⌜ r ≡ ofSix name a b c d e f ⌝ }
+{
+    if name == words::OPEN {
+        return Command::Open {
+            conv: a,
+            mtu: b,
+            mode: c,
+            interval: d,
+            threshold: e,
+            stream: f,
         };
     }
     Command::Malformed
@@ -201,6 +220,7 @@ fn of_numbers(name: u64, n: Numbers) -> Command
         2 => of_two(name, at[0], at[1]),
         4 => of_four(name, at[0], at[1], at[2], at[3]),
         5 => of_five(name, at[0], at[1], at[2], at[3], at[4]),
+        6 => of_six(name, at[0], at[1], at[2], at[3], at[4], at[5]),
         _ => Command::Malformed,
     }
 }

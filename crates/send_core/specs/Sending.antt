@@ -18,7 +18,16 @@ use Rattle.send_core.specs.declared.Sent.{Sent}
 
 -- the numbers with another count of queued segments
 abbrev pub withCount : Flight → ℕ → Flight
-withCount f n = record { una = f .una; next = f .next; rtt = f .rtt; window = f .window; queued = n; outstanding = f .outstanding }
+withCount f n =
+    record {
+      una = f .una;
+      next = f .next;
+      rtt = f .rtt;
+      window = f .window;
+      congestion = f .congestion;
+      queued = n;
+      outstanding = f .outstanding;
+    }
 
 -- of the numbers the count alone changes, and with the list and the pool it is what sending gives
 pub record Enqueues (stream : Bool) (m : ℕ) (f : Flight) (queued marks pool message : List ℕ) (r : Sent) (queued′ pool′ : List ℕ) : Type 0 where

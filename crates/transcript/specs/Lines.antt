@@ -11,6 +11,8 @@ use Rattle.answers.specs.declared.Answer.{Answer}
 use Rattle.answers.specs.declared.Answer.the-variants as answer
 use Rattle.answers.specs.declared.Count.{Count}
 use Rattle.answers.specs.declared.Count.the-variants as count
+use Rattle.answers.specs.declared.Time.{Time}
+use Rattle.answers.specs.declared.Time.the-variants as time
 use Rattle.timing.specs.declared.Record.{Record}
 use Rattle.lists.specs.declared.Held.{Held}
 use Rattle.lists.specs.declared.Outstanding.{Outstanding}
@@ -46,6 +48,11 @@ answerLine (answer.Refused r) = refusalLine r
 unfoldable pub countLine : Count → List ℕ
 countLine (count.Of n) = numberLine (ascii "ok ") n
 countLine (count.Refused r) = refusalLine r
+
+-- of a check
+unfoldable pub timeLine : Time → List ℕ
+timeLine (time.At t) = numberLine (ascii "ok ") t
+timeLine (time.Refused r) = refusalLine r
 
 -- a line for each datagram of these lengths, which stand one behind the other; none from the first that is not there whole
 unfoldable pub datagramLines : List ℕ → List ℕ → List ℕ

@@ -3,13 +3,14 @@ pub mod link;
 
 use answers::Answer;
 use answers::Count;
+use answers::Time;
 use notation::put;
 use protocol::Refusal;
 ghost use mathlib.Core.Path.{_≡_};
 ghost use Prim.Native.Nat.{_<_, min};
 ghost use lib.ListN.{take};
 ghost use Rattle.notation.specs.Puts.{Put};
-ghost use Rattle.transcript.specs.Lines.{numberLine, bytesLine, refusalLine, answerLine, countLine, datagramLines, row};
+ghost use Rattle.transcript.specs.Lines.{numberLine, bytesLine, refusalLine, answerLine, countLine, timeLine, datagramLines, row};
 
 const SPACE: u8 = 32;
 
@@ -56,6 +57,16 @@ pub fn count(out: &mut [u8], at: usize, count: Count) -> usize
     match count {
         Count::Of(n) => number_line(out, at, b"ok ", n as u64),
         Count::Refused(r) => refused(out, at, r),
+    }
+}
+
+// The answer of a check.
+pub fn time(out: &mut [u8], at: usize, time: Time) -> usize
+    ensures { λ r. ⌜ Put (now (out .entry)) at (timeLine time) r (now (out .exit)) ⌝ }
+{
+    match time {
+        Time::At(t) => number_line(out, at, b"ok ", t as u64),
+        Time::Refused(r) => refused(out, at, r),
     }
 }
 

@@ -45,6 +45,7 @@ module _ (c : Settings) (f : Flight) (a : Arrival) (k : Clock) (x : Arrays) (rec
         probe = (ap (λ (y : Clock). y .probe) e ∙ ap (λ (y : Clock). y .probe) (steps .is)) i;
         current = e i .current;
         schedule = (ap scheduleOf e ∙ steps .schedule) i;
+        congestion = f .congestion;
         ask = isSet ((ap (λ (y : Clock). y .ask) e ∙ ap (λ (y : Clock). y .ask) (steps .is)) i);
         dead = isSet ((ap (λ (y : Clock). y .dead) e ∙ ap (λ (y : Clock). y .dead) (steps .is)) i);
       }

@@ -54,8 +54,7 @@ place-requires : tie.Need-place-requires
 place-requires c κs =
     let s = c .before .before .before .before .before .before .before .before .before .before .before .before .before .before .before in
     let r = room (c .before .before .before .before .before .before .before) in
-    let f = c .before .before .before .before .fill .ensures (s .args .stream) (c .before .before .before .before .before .before .before .before .before .before .before .last-room .ensures) in
-    (
+    let f = c .before .before .before .before .fill .ensures (s .args .stream) (c .before .before .before .before .before .before .before .before .before .before .before .last-room .ensures) in (
       omega (arith, c .before .before .before .before .before .before .before .before .before .before .least .ensures),
       record {
         whole = f .whole;

@@ -51,8 +51,7 @@ found c = omega (arith, slot-low (c .before), c .free-from .ensures)
 
 word-of-requires : tie.Need-word-of-requires Inv-loop μ-loop
 word-of-requires c κs =
-    let v = c .before .before .before .before .before .before .before .loop .inv in
-    (
+    let v = c .before .before .before .before .before .before .before .loop .inv in (
       omega (arith, found (c .before .before .before .before .before)),
       short (c .before .before .before),
       omega (arith, v .2, fragment-most (c .before .before .before .before .before .before .before .before .before .before .args .stream) (c .before .before .before .before .before .before .before .loop .left - 1) (c .fragment-of .result) (c .fragment-of .ensures)),

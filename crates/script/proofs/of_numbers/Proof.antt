@@ -4,7 +4,7 @@ use mathlib.Core.Path.{_≡_, sym}
 use borrow.Author.Needs.{needs}
 use native.Mathlib.Omega.{arith}
 use lib.ListN.{length}
-use Rattle.script.specs.CommandLaws.{one-number, two-numbers, four-numbers, five-numbers, other-numbers}
+use Rattle.script.specs.CommandLaws.{one-number, two-numbers, four-numbers, five-numbers, six-numbers, other-numbers}
 use Rattle.script.proofs.of_numbers.Statement.{statement}
 use Rattle.script.proofs.of_numbers.Tie as tie
 
@@ -34,8 +34,14 @@ returns-5 c =
 
 returns-6 : tie.Need-returns-6
 returns-6 c =
+    let l = c .before .before .before .args .n .at in
+    let whole : length l ≡ 8 = search needs in
+    rw (c .of-six .ensures, c .before .match .keys6) (sym (six-numbers _ l (omega arith)))
+
+returns-7 : tie.Need-returns-7
+returns-7 c =
     let rest = c .match .rest in
-    other-numbers _ _ (rest .0 .0 .0 .0 .1) (rest .0 .0 .0 .1) (rest .0 .0 .1) (rest .0 .1) (rest .1) _ (search needs)
+    other-numbers _ _ (rest .0 .0 .0 .0 .0 .1) (rest .0 .0 .0 .0 .1) (rest .0 .0 .0 .1) (rest .0 .0 .1) (rest .0 .1) (rest .1) _ (search needs)
 
 pub of-numbers-spec : {M : Type 1} → statement M
 of-numbers-spec =
@@ -58,9 +64,17 @@ of-numbers-spec =
     (search needs)
     (search needs)
     (search needs)
+    (search needs)
+    (search needs)
+    (search needs)
+    (search needs)
+    (search needs)
+    (search needs)
+    (search needs)
     (λ c. rw (c .of-none .ensures, c .before .match .keys1))
     returns-2
     returns-3
     returns-4
     returns-5
-    returns-6)
+    returns-6
+    returns-7)

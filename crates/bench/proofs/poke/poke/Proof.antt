@@ -8,19 +8,26 @@ use Rattle.bench.specs.FieldLaws.{settings-first}
 use Rattle.bench.proofs.poke.poke.Statement.{statement}
 use Rattle.bench.proofs.poke.poke.Tie as tie
 
-behind : tie.Need-returns-4
+behind : tie.Need-returns-5
 behind c (inl h) = absurd (omega arith)
 behind c (inr h) = c .schedule .ensures h
+
+first : tie.Need-returns
+first c h =
+    let e = c .setting .ensures in
+    record { fields = rw (e .1) (settings-first _ _ _ _ _ (c .before .if1 .taken) (e .0)); counts = refl; lists = refl }
 
 pub poke-spec : {M : Type 1} → statement M
 poke-spec =
     tie.close
     (tie.spec
     (search needs)
-    (λ c h. record { fields = settings-first _ _ _ _ _ (c .before .if1 .taken) (c .setting .ensures); counts = refl; lists = refl })
+    first
     (search needs)
     (λ c h. c .number .ensures)
     (search needs)
     (λ c h. c .wish .ensures (omega arith))
+    (search needs)
+    (λ c h. rw (c .before .if4 .taken) (c .stream .ensures))
     (search needs)
     behind)
