@@ -170,8 +170,8 @@ def document(archive, divide, ours, theirs, calls):
         *table("heap, bytes", ours, theirs, "heap", number), "",
         "## Each call", "",
         "Time (the least of many repeats from one state) and stack (a painted one) of each call of ours. Near empty: a message of one byte;",
-        "full: 32 segments outstanding, 96 queued, 128 ready with a message of 127 at the front, 128 waiting, 256 noted acks. The update is one",
-        "that does not flush.", "",
+        "full: 32 segments outstanding, 96 queued, 128 ready with a message of 127 at the front, 128 waiting, 256 noted acks.",
+        "The update is one that does not flush.", "",
         *calls_table(calls), "",
         (HERE / "findings.md").read_text()])
 

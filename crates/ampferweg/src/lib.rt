@@ -1,6 +1,7 @@
 // What C calls: each function takes the block behind a pointer, and answers with a number, 0 or more where the call is done
-// and the refusal's number below zero where it is not; an update that is done and does not flush has a number of its own. The fields of the block are lent to the call's core, and changed in place;
-// of the table of records the first 128 are read and written. The functions that take the block are proved by walks.
+// and the refusal's number below zero where it is not; an update that is done and does not flush has a number of its own. The fields of the
+// block are lent to the call's core, and changed in place; of the table of records the first 128 are read and written. The functions that
+// take the block are proved by walks.
 pub mod settings;
 
 use control::Link;

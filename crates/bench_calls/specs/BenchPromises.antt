@@ -15,7 +15,8 @@ use Rattle.answers.specs.declared.Count.{Count}
 use Rattle.answers.specs.declared.Time.{Time}
 use Rattle.promises.specs.Parts.{Parts, partsOf}
 use Rattle.promises.specs.Outcomes.{shows}
-use Rattle.promises.specs.Promises.{OpenPromise, SendPromise, InputPromise, FlushPromise, UpdatePromise, CheckPromise, ReadPromise, SizePromise, shown}
+use Rattle.promises.specs.Promises.{OpenPromise, SendPromise, InputPromise, FlushPromise, ReadPromise, SizePromise, shown}
+use Rattle.promises.specs.Promises.{UpdatePromise, CheckPromise}
 use Rattle.bench.specs.declared.Bench.{Bench}
 use Rattle.bench_calls.specs.declared.Answered.{Answered}
 use Rattle.bench_calls.specs.declared.Counted.{Counted}
@@ -58,7 +59,8 @@ pub record BenchFlushes (t : ℕ) (b : Bench) (s r a out lengths : List ℕ) (x 
   pub bench : x .bench ≡ after b (x .bench .link) (x .bench .table)
 
 pub record BenchUpdates (t : ℕ) (b : Bench) (s r a out lengths : List ℕ) (x : Updated) (out′ lengths′ : List ℕ) : Type 0 where
-  pub promise : UpdatePromise t (b .link) (lentParts b s r (b .table) a) (take (b .lent .output) out) (take (b .lent .lengths) lengths) (x .answer) (x .bench .link) (lentParts b s r (x .bench .table) a) (take (b .lent .output) out′) (take (b .lent .lengths) lengths′)
+  pub promise : UpdatePromise t (b .link) (lentParts b s r (b .table) a) (take (b .lent .output) out) (take (b .lent .lengths) lengths)
+      (x .answer) (x .bench .link) (lentParts b s r (x .bench .table) a) (take (b .lent .output) out′) (take (b .lent .lengths) lengths′)
   pub behind : drop (b .lent .output) out′ ≡ drop (b .lent .output) out
   pub lengthsBehind : drop (b .lent .lengths) lengths′ ≡ drop (b .lent .lengths) lengths
   pub recordsBehind : drop (b .lent .records) (x .bench .table) ≡ drop (b .lent .records) (b .table)

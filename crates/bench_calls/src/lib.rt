@@ -10,7 +10,8 @@ use kept_calls::UpdatedOut;
 use protocol::Settings;
 ghost use mathlib.Core.Path.{_≡_};
 ghost use Rattle.bench_calls.specs.Fronts.{Front};
-ghost use Rattle.bench_calls.specs.BenchPromises.{after, afterOpen, BenchOpens, BenchSends, BenchTakesIn, BenchFlushes, BenchUpdates, BenchChecks, BenchReads, BenchTells, BenchShows};
+ghost use Rattle.bench_calls.specs.BenchPromises.{after, afterOpen, BenchOpens, BenchSends, BenchTakesIn, BenchFlushes, BenchReads, BenchTells, BenchShows};
+ghost use Rattle.bench_calls.specs.BenchPromises.{BenchUpdates, BenchChecks};
 
 // The answer of opening, sending or taking in, and the bench after it.
 pub struct Answered {
@@ -250,7 +251,8 @@ pub fn update(
     output: &mut [u8],
     lengths: &mut [u16],
 ) -> Updated
-    ensures { λ r. ⌜ BenchUpdates t bench (now («send_pool» .entry)) (now («receive_pool» .entry)) (now (acks .entry)) (now (output .entry)) (now (lengths .entry)) r (now (output .exit)) (now (lengths .exit)) ⌝ }
+    ensures { λ r. ⌜ BenchUpdates t bench (now («send_pool» .entry)) (now («receive_pool» .entry)) (now (acks .entry))
+        (now (output .entry)) (now (lengths .entry)) r (now (output .exit)) (now (lengths .exit)) ⌝ }
 {
     let s = front(bench.lent.send, send_pool);
     let r = front(bench.lent.receive, receive_pool);

@@ -13,7 +13,8 @@ ghost use lib.ListN.{length, take, drop};
 ghost use Rattle.promises.specs.Promises.{ShowsPart};
 ghost use Rattle.promises.specs.Parts.{partsOf};
 ghost use Rattle.promises.specs.Outcomes.{shows};
-ghost use Rattle.promises.specs.Promises.{OpenPromise, SendPromise, InputPromise, FlushPromise, UpdatePromise, CheckPromise, ReadPromise, SizePromise};
+ghost use Rattle.promises.specs.Promises.{OpenPromise, SendPromise, InputPromise, FlushPromise, ReadPromise, SizePromise};
+ghost use Rattle.promises.specs.Promises.{UpdatePromise, CheckPromise};
 
 // The answer of opening or sending, and the block after it.
 pub struct Answered {
@@ -350,7 +351,8 @@ pub fn update(
     output: &mut [u8],
     lengths: &mut [u16],
 ) -> UpdatedOut
-    ensures { λ r. ⌜ UpdatePromise t link (partsOf (now («send_pool» .entry)) (now («receive_pool» .entry)) (take lent table) (now (acks .entry)))
+    ensures { λ r. ⌜ UpdatePromise t link
+        (partsOf (now («send_pool» .entry)) (now («receive_pool» .entry)) (take lent table) (now (acks .entry)))
         (now (output .entry)) (now (lengths .entry))
         (r .answer) (r .link) (partsOf (now («send_pool» .entry)) (now («receive_pool» .entry)) (take lent (r .table)) (now (acks .entry)))
         (now (output .exit)) (now (lengths .exit)) × (drop lent (r .table) ≡ drop lent table) ⌝ }
@@ -534,7 +536,8 @@ pub fn check(
     acks: &[u32],
     t: u32,
 ) -> Time
-    ensures { λ r. ⌜ CheckPromise t link (partsOf (now («send_pool» .entry)) (now («receive_pool» .entry)) (take lent table) (now (acks .entry))) r ⌝ }
+    ensures { λ r. ⌜ CheckPromise t link
+        (partsOf (now («send_pool» .entry)) (now («receive_pool» .entry)) (take lent table) (now (acks .entry))) r ⌝ }
 {
     let settings = link.settings;
     let flight = link.flight;

@@ -19,6 +19,10 @@ use Rattle.playing.specs.Plays.{NoCommand, PlaysTool, Untouched, PlaysOn
 abbrev tag : Command → ℕ
 tag c = tagOf declared.the-type c
 
+-- no lent part was touched
+pub untouched : (s r a : List ℕ) → Untouched s r a s r a
+untouched s r a = record { sendPool = refl; receivePool = refl; acks = refl }
+
 -- a tag that is none of an arm's
 not-one : (k : ℕ) (ks : List ℕ) (n : ℕ) → isOneOf n (k ∷ ks) ≡ false → OneOf (k ∷ ks) n → ⊥
 not-one k ks n e h = let t = one-of k ks n h in let z : _≡_ {A = ℕ} 0 1 = cc in omega arith

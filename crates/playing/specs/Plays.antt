@@ -25,7 +25,8 @@ use Rattle.bench.specs.declared.Bench.{Bench}
 use Rattle.bench_calls.specs.declared.Answered.{Answered}
 use Rattle.bench_calls.specs.declared.Counted.{Counted}
 use Rattle.bench_calls.specs.declared.Updated.{Updated}
-use Rattle.bench_calls.specs.BenchPromises.{after, BenchOpens, BenchSends, BenchTakesIn, BenchFlushes, BenchUpdates, BenchChecks, BenchReads, BenchTells, BenchShows}
+use Rattle.bench_calls.specs.BenchPromises.{after, BenchOpens, BenchSends, BenchTakesIn, BenchFlushes, BenchReads, BenchTells, BenchShows}
+use Rattle.bench_calls.specs.BenchPromises.{BenchUpdates, BenchChecks}
 use Rattle.script.specs.Commands.{Parsed}
 use Rattle.script.specs.declared.Command.{Command}
 use Rattle.script.specs.declared.Command.the-variants as command

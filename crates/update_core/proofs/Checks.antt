@@ -25,14 +25,16 @@ use Rattle.promises.specs.Outcomes.{updatesWith}
 use Rattle.update_core.specs.declared.Updated.{Updated}
 use Rattle.update_core.specs.Updates.{keptOf, Runs, UpdateOver}
 
-module _ (c : Settings) (f : Flight) (a : Arrival) (k : Clock) (x : Arrays) (records : List Record) (table : ℕ) (sendPool receivePool acks out lengths : List ℕ) (long : Bool) (v : Verdict)
+module _ (c : Settings) (f : Flight) (a : Arrival) (k : Clock) (x : Arrays) (records : List Record) (table : ℕ)
+    (sendPool receivePool acks out lengths : List ℕ) (long : Bool) (v : Verdict)
     (e : long ≡ enoughToFlush (mss c) (lentLengths table sendPool receivePool acks) (length out) (length lengths))
     (d : v ≡ verdictOf long (blockValid (linkOf c f a k x) records acks)) where
   abbrev block : Link
   block = linkOf c f a k x
 
   -- both passed
-  pub ran : v ≡ Passed → (t : ℕ) (r : Updated) (l′ : Link) (out′ lengths′ : List ℕ) → Runs block records sendPool acks t out lengths r l′ out′ lengths′
+  pub ran : v ≡ Passed → (t : ℕ) (r : Updated) (l′ : Link) (out′ lengths′ : List ℕ)
+      → Runs block records sendPool acks t out lengths r l′ out′ lengths′
       → UpdateOver block records table sendPool receivePool acks t out lengths r l′ out′ lengths′
   unfolding updatesWith
   ran p t r l′ out′ lengths′ h =
@@ -41,7 +43,8 @@ module _ (c : Settings) (f : Flight) (a : Arrival) (k : Clock) (x : Arrays) (rec
 
   -- one failed
   pub kept : (q : Refusal) → v ≡ Refused q → (t : ℕ) (words : List ℕ) (r : Updated) → r ≡ keptOf (update.Refused q) f a k words records
-      → UpdateOver block records table sendPool receivePool acks t out lengths r (linkOf c (r .flight) (r .arrival) (r .clock) x) out lengths
+      → UpdateOver block records table sendPool receivePool acks t out lengths r
+      (linkOf c (r .flight) (r .arrival) (r .clock) x) out lengths
   unfolding updatesWith
   kept q p t words r w =
       rw (w, ← e, refused-by _ long (blockValid block records acks) v q d p)

@@ -48,9 +48,11 @@ module _ (l : Link) (whole : Whole (arraysOf l)) (records : List Record) (acks :
       (length-take-le n (l .transmissions) (omega (arith, whole .whole-transmissions))) in
       joined-dues (outstandingIn (l .outstanding) (l .transmissions) n) records ∙ ap (λ (k : ℕ). duesOf (take k records)) many
 
-  module _ (n : Lengths) (long : Bool) (v : Verdict) (e : long ≡ enough (mss (l .settings)) n) (d : v ≡ verdictOf long (blockValid l records acks)) (t : ℕ) where
+  module _ (n : Lengths) (long : Bool) (v : Verdict) (e : long ≡ enough (mss (l .settings)) n)
+      (d : v ≡ verdictOf long (blockValid l records acks)) (t : ℕ) where
     -- both checks passed
-    pub names : v ≡ Passed → (when : ℕ) → when ≡ named (scheduleOf (l .clock)) t (l .settings .interval) (duesOf (take (l .flight .outstanding) records))
+    pub names : v ≡ Passed → (when : ℕ)
+        → when ≡ named (scheduleOf (l .clock)) t (l .settings .interval) (duesOf (take (l .flight .outstanding) records))
         → timeOutcome (time.At when) ≡ checksWith l records acks n t
     unfolding checksWith checking blockValid countsFit stateOf
     names p when w =

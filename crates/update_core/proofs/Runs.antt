@@ -22,8 +22,8 @@ use Rattle.update_core.specs.declared.Updated.{Updated}
 use Rattle.update_core.specs.declared.Step.{Step}
 use Rattle.update_core.specs.Updates.{Steps, currentOf, updateOf, wroteOf, keptOf, Runs}
 
-module _ (c : Settings) (f : Flight) (a : Arrival) (k : Clock) (x : Arrays) (records : List Record) (acks : List ℕ) (t : ℕ) (pool out lengths : List ℕ) (s : Step)
-    (steps : Steps k t (c .interval) s) where
+module _ (c : Settings) (f : Flight) (a : Arrival) (k : Clock) (x : Arrays) (records : List Record) (acks : List ℕ)
+    (t : ℕ) (pool out lengths : List ℕ) (s : Step) (steps : Steps k t (c .interval) s) where
   abbrev block : Link
   block = linkOf c f a k x
 
@@ -34,7 +34,8 @@ module _ (c : Settings) (f : Flight) (a : Arrival) (k : Clock) (x : Arrays) (rec
   next = updated (before .schedule) t (before .settings .interval)
 
   -- the state with a current time and the next schedule
-  moved : (k′ : Clock) (n : ℕ) → k′ ≡ currentOf (s .clock) n → stateOf (linkOf c f a k′ x) records acks ≡ withTimes before n (next .schedule)
+  moved : (k′ : Clock) (n : ℕ) → k′ ≡ currentOf (s .clock) n
+      → stateOf (linkOf c f a k′ x) records acks ≡ withTimes before n (next .schedule)
   unfolding stateOf
   moved k′ n e =
       λ i.
@@ -55,7 +56,8 @@ module _ (c : Settings) (f : Flight) (a : Arrival) (k : Clock) (x : Arrays) (rec
   told = steps .flushes
 
   pub flushed : s .flushes ≡ true → (g : Flushed) (r : Updated) → r ≡ wroteOf g → (x′ : Arrays) (out′ lengths′ : List ℕ)
-      → flush.Runs (linkOf c f a (s .clock) x) records pool acks t out lengths g (linkOf c (g .flight) (g .arrival) (g .clock) x′) out′ lengths′
+      → flush.Runs (linkOf c f a (s .clock) x) records pool acks t out lengths g
+      (linkOf c (g .flight) (g .arrival) (g .clock) x′) out′ lengths′
       → Runs block records pool acks t out lengths r (linkOf c (r .flight) (r .arrival) (r .clock) x′) out′ lengths′
   unfolding updating stateOf
   flushed e g r w x′ out′ lengths′ h =
@@ -63,8 +65,10 @@ module _ (c : Settings) (f : Flight) (a : Arrival) (k : Clock) (x : Arrays) (rec
       let q = rw (moved (s .clock) (k .current) same) at h in
       rw (w, sym told ∙ e) (ap updateOf (q .answer), rw (q .answer) at q)
 
-  pub waited : s .flushes ≡ false → counted f a ≡ true → (k′ : Clock) → k′ ≡ currentOf (s .clock) t → (words : List ℕ) (r : Updated) → r ≡ keptOf Waited f a k′ words records
+  pub waited : s .flushes ≡ false → counted f a ≡ true → (k′ : Clock) → k′ ≡ currentOf (s .clock) t → (words : List ℕ) (r : Updated)
+      → r ≡ keptOf Waited f a k′ words records
       → Runs block records pool acks t out lengths r (linkOf c (r .flight) (r .arrival) (r .clock) x) out lengths
   unfolding updating countsFit
   waited e n k′ d words r w =
-      rw (w, sym told ∙ e) (record { answer = refl; counts = n; state = moved k′ t d; slots = refl; puts = refl; output = refl; sizes = refl })
+      rw (w, sym told ∙ e)
+      (record { answer = refl; counts = n; state = moved k′ t d; slots = refl; puts = refl; output = refl; sizes = refl })

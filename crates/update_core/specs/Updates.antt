@@ -29,7 +29,14 @@ use Rattle.update_core.specs.declared.Step.{Step}
 -- the next schedule is in the clock, which is as it was in all else
 pub record Steps (k : Clock) (t interval : ℕ) (r : Step) : Type 0 where
   pub is : r .clock
-      ≡ record { probe = k .probe; current = k .current; «next_flush» = r .clock .«next_flush»; ask = k .ask; dead = k .dead; updated = r .clock .updated }
+      ≡ record {
+        probe = k .probe;
+        current = k .current;
+        «next_flush» = r .clock .«next_flush»;
+        ask = k .ask;
+        dead = k .dead;
+        updated = r .clock .updated;
+      }
   pub schedule : scheduleOf (r .clock) ≡ updated (scheduleOf k) t interval .schedule
   pub flushes : r .flushes ≡ updated (scheduleOf k) t interval .flushes
 

@@ -6,7 +6,11 @@ use Rattle.bench_calls.proofs.check.Tie as tie
 
 returns : tie.Need-returns
 returns c =
-    rw (front-take _ _ _ (c .before .before .before .before .before .before .before .front .ensures), front-take _ _ _ (c .before .before .before .before .before .before .front2 .ensures), front-take _ _ _ (c .before .before .before .before .before .front-acks .ensures)) at (c .check .ensures)
+    let third = c .before .before .before .before .before in
+    let second = third .before in
+    let first = second .before in
+    rw (front-take _ _ _ (first .front .ensures), front-take _ _ _ (second .front2 .ensures), front-take _ _ _ (third .front-acks .ensures))
+    at (c .check .ensures)
 
 pub check-spec : {M : Type 1} → statement M
 check-spec =

@@ -1,4 +1,4 @@
--- `check`: the block's arrays have their lengths, and what the core leaves is what the call promises.
+-- `check`: the block's arrays have their lengths, and what the core answers is what the call promises.
 -- Assumes nothing.
 use mathlib.Core.Path.{_≡_, refl}
 use lib.ListN.{length, take}
@@ -12,15 +12,23 @@ use Rattle.kept_calls.proofs.check.Statement.{statement}
 use Rattle.kept_calls.proofs.check.Tie as tie
 
 check-requires : tie.Need-check-requires
-check-requires c κs = whole-of (c .before .before .before .before .before .before .before .before .before .before .before .before .before .before .before .before .before .before .before .before .before .args .link) _ (c .before .before .before .before .before .before .before .before .before .before .before .before .before .before .before .before .before .before .before .before .before .good .0)
+check-requires c κs =
+    let half = c .before .before .before .before .before .before .before .before .before .before in
+    let start = half .before .before .before .before .before .before .before .before .before .before .before in
+    whole-of (start .args .link) _ (start .good .0)
 
 returns : tie.Need-returns
 returns c =
-    let a = c .before .before .before .before .before .before .before .before .before .before .before .before .before .before .before .before .before .before .before .before .before .before .args in
+    let counts = c .before .before .before .before .before .before .before in
+    let gathers = counts .before in
+    let half = gathers .before .before .before .before .before .before .before in
+    let start = half .before .before .before .before .before .before .before in
+    let a = start .args in
     let p = partsOf (a .send-pool .now) (a .receive-pool .now) (take (a .lent) (a .table)) (a .acks .now) in
-    let whole : length (a .table) ≡ 128 = search (needs, length-mapped, c .before .before .before .before .before .before .before .before .before .before .before .before .before .before .before .before .before .before .before .before .before .before .good .1 .1 .1 .0) in
-    let len = lent-length (a .table) (a .lent) _ whole (c .before .before .before .before .before .before .before .lent-count .ensures .0) in
-    let g : Gathers (a .link) p (c .before .before .before .before .before .before .before .before .gather .result) (c .before .before .before .before .before .before .before .lent-count .result) = record { padding = c .before .before .before .before .before .before .before .before .gather .ensures; len = len } in
+    let whole : length (a .table) ≡ 128 = search (needs, length-mapped, start .good .1 .1 .1 .0) in
+    let len = lent-length (a .table) (a .lent) _ whole (counts .lent-count .ensures .0) in
+    let g : Gathers (a .link) p (gathers .gather .result) (counts .lent-count .result)
+        = record { padding = gathers .gather .ensures; len = len } in
     check-promised (a .link) p _ _ g (a .t) _ (c .check .ensures)
 
 pub check-spec : {M : Type 1} → statement M

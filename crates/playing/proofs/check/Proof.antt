@@ -5,7 +5,13 @@ use Rattle.playing.proofs.check.Statement.{statement}
 use Rattle.playing.proofs.check.Tie as tie
 
 returns : tie.Need-returns
-returns c = record { time = c .before .before .before .before .before .check .result; promise = c .before .before .before .before .before .check .ensures; says = rw (c .kept .ensures) (record { bench = refl; answer = c .before .before .before .time .ensures }) }
+returns c =
+    let checks = c .before .before .before .before .before in
+    record {
+      time = checks .check .result;
+      promise = checks .check .ensures;
+      says = rw (c .kept .ensures) (record { bench = refl; answer = c .before .before .before .time .ensures });
+    }
 
 pub check-spec : {M : Type 1} → statement M
 check-spec =

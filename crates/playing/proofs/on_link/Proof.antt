@@ -2,7 +2,7 @@
 -- Assumes nothing.
 use mathlib.Core.Path.{refl}
 use borrow.Author.Needs.{needs}
-use Rattle.playing.proofs.Arms.{no-call}
+use Rattle.playing.proofs.Arms.{untouched, no-call}
 use Rattle.playing.proofs.on_link.Statement.{statement}
 use Rattle.playing.proofs.on_link.Tie as tie
 
@@ -16,19 +16,24 @@ returns-3 : tie.Need-returns-3
 returns-3 c = rw (c .before .before .before .before .before .before .before .before .command3 .given .1) (record { sendPool = refl; receivePool = refl; acks = refl }, c .before .before .flush .ensures)
 
 returns-4 : tie.Need-returns-4
-returns-4 c = rw (c .before .before .before .before .before .before .before .before .command4 .given .1) (record { sendPool = refl; receivePool = refl; acks = refl }, c .before .before .update .ensures)
+returns-4 c = rw (c .before .before .before .before .before .before .before .before .command4 .given .1)
+    (untouched _ _ _, c .before .before .update .ensures)
 
 returns-5 : tie.Need-returns-5
-returns-5 c = rw (c .before .before .before .before .before .before .before .before .command5 .given .1) (record { sendPool = refl; receivePool = refl; acks = refl }, c .before .before .check .ensures)
+returns-5 c = rw (c .before .before .before .before .before .before .before .before .command5 .given .1)
+    (untouched _ _ _, c .before .before .check .ensures)
 
 returns-6 : tie.Need-returns-6
-returns-6 c = rw (c .before .before .before .before .before .before .before .before .command6 .given .1) (record { sendPool = refl; receivePool = refl; acks = refl }, c .before .before .read .ensures)
+returns-6 c = rw (c .before .before .before .before .before .before .before .before .command6 .given .1)
+    (untouched _ _ _, c .before .before .read .ensures)
 
 returns-7 : tie.Need-returns-7
-returns-7 c = rw (c .before .before .before .before .before .before .before .enum-told .given .1) (record { sendPool = refl; receivePool = refl; acks = refl }, c .before .before .show .ensures)
+returns-7 c = rw (c .before .before .before .before .before .before .before .enum-told .given .1)
+    (untouched _ _ _, c .before .before .show .ensures)
 
 returns-8 : tie.Need-returns-8
-returns-8 c = rw (c .before .before .before .before .before .before .before .enum-told2 .given .1) (record { sendPool = refl; receivePool = refl; acks = refl }, c .before .before .size .ensures)
+returns-8 c = rw (c .before .before .before .before .before .before .before .enum-told2 .given .1)
+    (untouched _ _ _, c .before .before .size .ensures)
 
 returns-9 : tie.Need-returns-9
 returns-9 c =

@@ -24,6 +24,7 @@ time-spec =
     (search needs)
     (search needs)
     (search needs)
+    (search needs)
     (λ c. put-length _ _ _ _ _ (returns c))
     returns
     (λ c. put-length _ _ _ _ _ (returns-2 c))

@@ -25,16 +25,19 @@ returns c =
     let checks = told .before .before in
     let start = checks .before .before .before .before .before in
     let a = start .args in
-    names (block start) (start .pre) (a .records) (a .acks .now) _ _ _ (checks .before .enough .ensures) (checks .checked .ensures _) (a .t) (told .enum-told .given .1) _
+    names (block start) (start .pre) (a .records) (a .acks .now) _ _ _ (checks .before .enough .ensures) (checks .checked .ensures _)
+    (a .t) (told .enum-told .given .1) _
     (c .check .ensures
-    ∙ ap (λ (s : Schedule). named s (a .t) (a .settings .interval) (duesOf (take (a .flight .outstanding) (a .records)))) (schedules .schedule-of .ensures))
+    ∙ ap (λ (s : Schedule). named s (a .t) (a .settings .interval)
+    (duesOf (take (a .flight .outstanding) (a .records)))) (schedules .schedule-of .ensures))
 
 returns-2 : tie.Need-returns-2
 returns-2 c =
     let checks = c .before .before .before in
     let start = checks .before .before .before .before .before in
     let a = start .args in
-    refuses (block start) (start .pre) (a .records) (a .acks .now) _ _ _ (checks .before .enough .ensures) (checks .checked .ensures _) (a .t) _ (c .before .verdict .given .1)
+    refuses (block start) (start .pre) (a .records) (a .acks .now) _ _ _ (checks .before .enough .ensures) (checks .checked .ensures _)
+    (a .t) _ (c .before .verdict .given .1)
 
 pub check-spec : {M : Type 1} → statement M
 check-spec =

@@ -18,7 +18,8 @@ returns c =
     = moves .update .ensures ∙ ap (λ (s : Schedule). updated s (a .t) (a .interval)) (moves .before .schedule-of .ensures) in
     record {
       is = refl;
-      schedule = (λ i. record { next = moves .update .result .schedule .next; made = c .flag .ensures i }) ∙ ap (λ (u : Updated). u .schedule) is;
+      schedule = (λ i. record { next = moves .update .result .schedule .next; made = c .flag .ensures i })
+          ∙ ap (λ (u : Updated). u .schedule) is;
       flushes = ap (λ (u : Updated). u .flushes) is;
     }
 

@@ -16,8 +16,10 @@ returns c ready waiting numbers whole =
     let steps = branch .before in
     let start = steps .before .before .before .before .before in
     let a = start .args in
-    flushed (a .settings) (a .flight) (a .arrival) (a .clock) (arrays (a .queued .now) (a .outstanding .now) (a .transmissions .now) ready waiting numbers)
-    (a .records) (a .acks .now) (a .t) (a .pool .now) (a .output .now) (a .lengths .now) _ (steps .moved-on .ensures) (branch .if1 .taken) _ _ (c .wrote .ensures) _ _ _
+    flushed (a .settings) (a .flight) (a .arrival) (a .clock)
+    (arrays (a .queued .now) (a .outstanding .now) (a .transmissions .now) ready waiting numbers)
+    (a .records) (a .acks .now) (a .t) (a .pool .now) (a .output .now) (a .lengths .now)
+    _ (steps .moved-on .ensures) (branch .if1 .taken) _ _ (c .wrote .ensures) _ _ _
     (runs .run .ensures ready waiting numbers whole)
 
 returns-2 : tie.Need-returns-2
@@ -26,8 +28,10 @@ returns-2 c ready waiting numbers whole =
     let steps = branch .before in
     let start = steps .before .before .before .before .before in
     let a = start .args in
-    waited (a .settings) (a .flight) (a .arrival) (a .clock) (arrays (a .queued .now) (a .outstanding .now) (a .transmissions .now) ready waiting numbers)
-    (a .records) (a .acks .now) (a .t) (a .pool .now) (a .output .now) (a .lengths .now) _ (steps .moved-on .ensures) (branch .if1 .left) (start .pre .counts)
+    waited (a .settings) (a .flight) (a .arrival) (a .clock)
+    (arrays (a .queued .now) (a .outstanding .now) (a .transmissions .now) ready waiting numbers)
+    (a .records) (a .acks .now) (a .t) (a .pool .now) (a .output .now) (a .lengths .now)
+    _ (steps .moved-on .ensures) (branch .if1 .left) (start .pre .counts)
     _ (c .before .current .ensures) _ _ (c .kept .ensures)
 
 pub run-spec : {M : Type 1} → statement M
