@@ -1,6 +1,6 @@
 -- What a sender has numbered, by what it wrote, and demand 3's accepted list in both modes. Definitions.
 -- Assumes nothing.
-use mathlib.Core.Bool.{cond, _&&_}
+use mathlib.Core.Bool.{Bool, cond, _&&_}
 use mathlib.Core.List.{List, [], _∷_, _++_}
 use Prim.Native.Nat.{ℕ, _%_, _^_}
 use lib.Dec.{eqb}
@@ -13,8 +13,11 @@ use Rattle.session.specs.Calls.{Event, acceptedList, datagramsBy}
 
 -- A segment is written in the flush that numbers it, so a push whose number is the next one (modulo 2^32) is a segment as finally
 -- numbered: its payload comes behind those numbered before. Every other push is a repeat.
+abbrev pub isNext : List (List ℕ) → Segment → Bool
+isNext l g = eqb (g .header .cmd) push && eqb (g .header .sn) (length l % 2 ^ 32)
+
 abbrev pub withPush : List (List ℕ) → Segment → List (List ℕ)
-withPush l g = cond (eqb (g .header .cmd) push && eqb (g .header .sn) (length l % 2 ^ 32)) (l ++ (g .payload ∷ [])) l
+withPush l g = cond (isNext l g) (l ++ (g .payload ∷ [])) l
 
 unfoldable pub numberedIn : List (List ℕ) → List Segment → List (List ℕ)
 numberedIn l [] = l

@@ -1,4 +1,5 @@
--- The segments numbered with those queued are the bytes accepted: in message mode the messages cut, in stream mode each may stand for a message.
+-- The segments numbered with those queued are the bytes accepted: in message mode the messages cut, in stream mode each may stand for a
+-- message.
 -- Assumes nothing.
 use mathlib.Core.Path.{_≡_, refl, sym, ap, ap₂, _∙_}
 use mathlib.Core.Bool.{Bool, true, false, cond, true≢false}
@@ -48,10 +49,12 @@ joined-cut-as : (stream : Bool) (m : ℕ) (b : List ℕ) → 0 < m → joined (f
 unfolding cutAs
 joined-cut-as stream m b h = joined-pieces stream m (segmentCount stream m (length b)) b (enough-segments stream m (length b) h)
 
-single-fragments : (stream : Bool) → stream ≡ true → (m : ℕ) (ps : List (List ℕ)) → All (λ (p : List ℕ). length p ≤ m) ps → All (Single m) (fragmented stream ps)
+single-fragments : (stream : Bool) → stream ≡ true → (m : ℕ) (ps : List (List ℕ)) → All (λ (p : List ℕ). length p ≤ m) ps →
+    All (Single m) (fragmented stream ps)
 unfolding fragmented
 single-fragments stream e m [] a = tt
-single-fragments stream e m (p ∷ ps) a = (record { fragment = ap (λ (b : Bool). cond b 0 (length ps)) e; short = a .0 }, single-fragments stream e m ps (a .1))
+single-fragments stream e m (p ∷ ps) a =
+    (record { fragment = ap (λ (b : Bool). cond b 0 (length ps)) e; short = a .0 }, single-fragments stream e m ps (a .1))
 
 -- message mode
 cut-off : (stream : Bool) → stream ≡ false → (m : ℕ) (b : List ℕ) → fragmented stream (cutAs stream m b) ≡ falling (cut m b)
@@ -68,8 +71,10 @@ unfolding piecesOf
 pieces-one m l b = piecesOf-append m l (b ∷ []) ∙ ap (λ (r : List Piece). piecesOf m l ++ r) (append-nil (falling (cut m b)))
 
 -- an accepted send, behind the pieces numbered before
-module _ (c : Settings) (s : Sending) (pool message : List ℕ) (h : Half c s) (some : 0 < mss c) (enough : sendSlots * mss c ≤ length pool) (room : Room c s pool message)
-    (before : List Piece) (accepted : List (List ℕ)) (w : CutFrom (isStream c) (mss c) (before ++ map (pieceIn (mss c) pool) (s .queued)) accepted) where
+module _ (c : Settings) (s : Sending) (pool message : List ℕ) (h : Half c s) (some : 0 < mss c)
+    (enough : sendSlots * mss c ≤ length pool) (room : Room c s pool message)
+    (before : List Piece) (accepted : List (List ℕ))
+    (w : CutFrom (isStream c) (mss c) (before ++ map (pieceIn (mss c) pool) (s .queued)) accepted) where
   abbrev stream : Bool
   stream = isStream c
 
@@ -121,7 +126,8 @@ module _ (c : Settings) (s : Sending) (pool message : List ℕ) (h : Half c s) (
   alone : stream ≡ true → All (Single m) (before ++ (Qf ++ ps))
   alone e =
       all-append (Single m) before (Qf ++ ps) (all-left (Single m) before Q (w .singles e))
-      (all-append (Single m) Qf ps (fills .singles (all-right (Single m) before Q (w .singles e))) (single-fragments stream e m (cutAs stream m (f .rest)) (cut-as-short stream m (f .rest))))
+      (all-append (Single m) Qf ps (fills .singles (all-right (Single m) before Q (w .singles e)))
+      (single-fragments stream e m (cutAs stream m (f .rest)) (cut-as-short stream m (f .rest))))
 
   pub cut-more : CutFrom stream m (before ++ map (pieceIn m (placed .pool)) (f .queued ++ placed .segments)) (accepted ++ (message ∷ []))
   cut-more = rw queue (record { bytes = joins; messages = cuts; singles = alone })

@@ -55,7 +55,8 @@ pub record FilledWell (m : ℕ) (pool : List ℕ) (q : List Held) (b : List ℕ)
   pub singles : All (Single m) (map (pieceIn m pool) q) → All (Single m) (map (pieceIn m (f .pool)) (f .queued))
   pub long : length (f .pool) ≡ length pool
 
-same-filled : (m : ℕ) (pool : List ℕ) (q : List Held) (b : List ℕ) → HeldWell m q → FilledWell m pool q b (record { queued = q; pool = pool; rest = b })
+same-filled : (m : ℕ) (pool : List ℕ) (q : List Held) (b : List ℕ) → HeldWell m q →
+    FilledWell m pool q b (record { queued = q; pool = pool; rest = b })
 same-filled m pool q b w = record {
   slots-same = refl;
   lengths = w .lengths;
@@ -76,7 +77,8 @@ all-apart : (l : List Held) (x : Held) → Distinct (slots (l ++ (x ∷ []))) �
 all-apart [] x d = tt
 all-apart (h ∷ l) x d = (not-last (h .slot) l x (d .0), all-apart l x (d .1))
 
-module _ (m : ℕ) (pool : List ℕ) (front : List Held) (x : Held) (b : List ℕ) (w : HeldWell m (front ++ (x ∷ []))) (enough : sendSlots * m ≤ length pool) where
+module _ (m : ℕ) (pool : List ℕ) (front : List Held) (x : Held) (b : List ℕ) (w : HeldWell m (front ++ (x ∷ [])))
+    (enough : sendSlots * m ≤ length pool) where
   abbrev n : ℕ
   n = min (length b) (m - x .len)
 
@@ -104,7 +106,8 @@ module _ (m : ℕ) (pool : List ℕ) (front : List Held) (x : Held) (b : List �
   apart : All (λ (h : Held). h .slot ≡ x .slot → ⊥) front
   apart = all-apart front x (w .distinct)
 
-  same-front : (l : List Held) → All (λ (h : Held). h .len ≤ m) l → All (λ (h : Held). h .slot ≡ x .slot → ⊥) l → map (pieceIn m pool′) l ≡ map (pieceIn m pool) l
+  same-front : (l : List Held) → All (λ (h : Held). h .len ≤ m) l → All (λ (h : Held). h .slot ≡ x .slot → ⊥) l →
+      map (pieceIn m pool′) l ≡ map (pieceIn m pool) l
   same-front [] a d = refl
   same-front (h ∷ l) a d =
       ap₂ {C = List Piece} (λ (p : List ℕ) (r : List Piece). record { fragment = h .fragment; payload = p } ∷ r)
@@ -118,34 +121,43 @@ module _ (m : ℕ) (pool : List ℕ) (front : List Held) (x : Held) (b : List �
   pieces′ : map (pieceIn m pool′) (front ++ (longer ∷ [])) ≡ map (pieceIn m pool) front ++ (pieceIn m pool′ longer ∷ [])
   pieces′ =
       map-append (pieceIn m pool′) front (longer ∷ [])
-      ∙ ap (λ (l : List Piece). l ++ (pieceIn m pool′ longer ∷ [])) (same-front front (all-left (λ (h : Held). h .len ≤ m) front (x ∷ []) (w .lengths)) apart)
+      ∙ ap (λ (l : List Piece). l ++ (pieceIn m pool′ longer ∷ []))
+      (same-front front (all-left (λ (h : Held). h .len ≤ m) front (x ∷ []) (w .lengths)) apart)
 
   pieces : map (pieceIn m pool) (front ++ (x ∷ [])) ≡ map (pieceIn m pool) front ++ (pieceIn m pool x ∷ [])
   pieces = map-append (pieceIn m pool) front (x ∷ [])
 
-  joined-filled : joined (map (pieceIn m pool′) (front ++ (longer ∷ []))) ++ drop n b ≡ joined (map (pieceIn m pool) (front ++ (x ∷ []))) ++ b
+  joined-filled : joined (map (pieceIn m pool′) (front ++ (longer ∷ []))) ++ drop n b ≡ joined (map (pieceIn m pool) (front ++ (x ∷ [])))
+      ++ b
   joined-filled =
       let F : List ℕ = joined (map (pieceIn m pool) front) in
       let P : List ℕ = pieceIn m pool x .payload in
       ap (λ (l : List ℕ). l ++ drop n b)
-      (ap joined pieces′ ∙ joined-one (map (pieceIn m pool) front) (pieceIn m pool′ longer) ∙ ap (λ (l : List ℕ). F ++ l) payload ∙ sym (append-assoc F P fill))
+      (ap joined pieces′ ∙ joined-one (map (pieceIn m pool) front) (pieceIn m pool′ longer) ∙ ap (λ (l : List ℕ). F ++ l) payload
+      ∙ sym (append-assoc F P fill))
       ∙ append-assoc (F ++ P) fill (drop n b)
       ∙ ap (λ (l : List ℕ). (F ++ P) ++ l) (take-append-drop n b)
       ∙ ap (λ (l : List ℕ). l ++ b) (sym (ap joined pieces ∙ joined-one (map (pieceIn m pool) front) (pieceIn m pool x)))
 
-  single-filled : All (Single m) (map (pieceIn m pool) (front ++ (x ∷ []))) → All (Single m) (map (pieceIn m pool′) (front ++ (longer ∷ [])))
+  single-filled : All (Single m) (map (pieceIn m pool) (front ++ (x ∷ []))) →
+      All (Single m) (map (pieceIn m pool′) (front ++ (longer ∷ [])))
   single-filled a =
       rw pieces′
-      (all-append (Single m) (map (pieceIn m pool) front) (pieceIn m pool′ longer ∷ []) (all-left (Single m) (map (pieceIn m pool) front) (pieceIn m pool x ∷ []) (rw pieces at a))
+      (all-append (Single m) (map (pieceIn m pool) front) (pieceIn m pool′ longer ∷ [])
+      (all-left (Single m) (map (pieceIn m pool) front) (pieceIn m pool x ∷ []) (rw pieces at a))
       (record { fragment = refl; short = simp length-take (omega (arith, last-short)) }, tt))
 
   fill-one : FilledWell m pool (front ++ (x ∷ [])) b (record { queued = front ++ (longer ∷ []); pool = pool′; rest = drop n b })
   fill-one = record {
     slots-same = map-append (λ (h : Held). h .slot) front (longer ∷ []) ∙ sym (map-append (λ (h : Held). h .slot) front (x ∷ []));
-    lengths = all-append (λ (h : Held). h .len ≤ m) front (longer ∷ []) (all-left (λ (h : Held). h .len ≤ m) front (x ∷ []) (w .lengths)) (omega (arith, last-short), tt);
-    fragments = all-append (λ (h : Held). h .fragment ≤ fragmentMost) front (longer ∷ []) (all-left (λ (h : Held). h .fragment ≤ fragmentMost) front (x ∷ []) (w .fragments)) (omega arith, tt);
-    low = all-append (λ (h : Held). h .slot < sendSlots) front (longer ∷ []) (all-left (λ (h : Held). h .slot < sendSlots) front (x ∷ []) (w .low)) (last-low, tt);
-    others = λ slot k e few. other-part m pool fill (x .slot) (x .len) slot k inside (omega (arith, count, last-short)) few (not-last slot front x e);
+    lengths = all-append (λ (h : Held). h .len ≤ m) front (longer ∷ []) (all-left (λ (h : Held). h .len ≤ m) front (x ∷ []) (w .lengths))
+        (omega (arith, last-short), tt);
+    fragments = all-append (λ (h : Held). h .fragment ≤ fragmentMost) front (longer ∷ [])
+        (all-left (λ (h : Held). h .fragment ≤ fragmentMost) front (x ∷ []) (w .fragments)) (omega arith, tt);
+    low = all-append (λ (h : Held). h .slot < sendSlots) front (longer ∷ [])
+        (all-left (λ (h : Held). h .slot < sendSlots) front (x ∷ []) (w .low)) (last-low, tt);
+    others = λ slot k e few. other-part m pool fill (x .slot) (x .len) slot k inside (omega (arith, count, last-short)) few
+        (not-last slot front x e);
     bytes = joined-filled;
     singles = single-filled;
     long = length-sets pool (x .slot * m + x .len) fill;
@@ -154,7 +166,8 @@ module _ (m : ℕ) (pool : List ℕ) (front : List Held) (x : Held) (b : List �
 -- in both modes
 pub filled-well : (stream : Bool) (m : ℕ) (pool : List ℕ) (q : List Held) (b : List ℕ) → HeldWell m q → sendSlots * m ≤ length pool →
     FilledWell m pool q b (filled stream m q pool b)
-filled-well stream m pool q b w enough = filled-cases m q pool b (FilledWell m pool q b) (same-filled m pool q b w) (λ x l e. last x l e) stream
+filled-well stream m pool q b w enough =
+    filled-cases m q pool b (FilledWell m pool q b) (same-filled m pool q b w) (λ x l e. last x l e) stream
   where
     last : (x : Held) (l : List Held) → drop (length q - 1) q ≡ x ∷ l →
         FilledWell m pool q b

@@ -27,7 +27,7 @@ use Rattle.session.specs.Calls.{Station}
 use Rattle.session.specs.Decides.{All}
 use Rattle.session.specs.AllLaws.{all-any, all-append, all-mapped}
 use Rattle.session.specs.Ascending.{Ascends}
-use Rattle.delivery.specs.Accepted.{withPush, numberedIn, numberedInParsed, numberedInAll}
+use Rattle.delivery.specs.Accepted.{isNext, withPush, numberedIn, numberedInParsed, numberedInAll}
 use Rattle.delivery.specs.StateRange.{CarryFits}
 use Rattle.session.specs.MapLaws.{map-append}
 use Rattle.delivery.specs.SendPool.{pieceIn}
@@ -49,7 +49,7 @@ numbered-append l (g ∷ a) b = numbered-append (withPush l g) a b
 
 -- segments that number nothing
 abbrev Other : List (List ℕ) → Segment → Type 0
-Other l g = (eqb (g .header .cmd) push && eqb (g .header .sn) (length l % 2 ^ 32)) ≡ false
+Other l g = isNext l g ≡ false
 
 numbers-none : (l : List (List ℕ)) (gs : List Segment) → All (Other l) gs → numberedIn l gs ≡ l
 unfolding numberedIn
@@ -67,7 +67,8 @@ in-all c l (d ∷ ds) a =
     ∙ in-all c (numberedIn l d) ds (a .1)
     ∙ sym (numbered-append l d (flatten ds))
 
-pub all-append-numbered : (c : Settings) (l : List (List ℕ)) (a b : List (List ℕ)) → numberedInAll c l (a ++ b) ≡ numberedInAll c (numberedInAll c l a) b
+pub all-append-numbered : (c : Settings) (l : List (List ℕ)) (a b : List (List ℕ)) →
+    numberedInAll c l (a ++ b) ≡ numberedInAll c (numberedInAll c l a) b
 unfolding numberedInAll
 all-append-numbered c l [] b = refl
 all-append-numbered c l (d ∷ a) b = all-append-numbered c (numberedInParsed l (parse (c .conv) (mss c) d)) a b
@@ -84,10 +85,12 @@ module _ (c : Settings) (link t : ℕ) (by : Carried) (m : ℕ) (pool : List ℕ
       let r : Record = record { number = n; due = 0; timeout = 0; skips = 0 } in
       let p : List ℕ = pieceIn m pool h .payload in
       rw (transmission-number c link t 0 r, eq-eqb n (length l % 2 ^ 32) e)
-      (numbers-new (plus n 1) q (l ++ (p ∷ [])) (simp length-append (omega (arith, e))) ∙ append-assoc l (p ∷ []) (payloads (map (pieceIn m pool) q)))
+      (numbers-new (plus n 1) q (l ++ (p ∷ [])) (simp length-append (omega (arith, e)))
+      ∙ append-assoc l (p ∷ []) (payloads (map (pieceIn m pool) q)))
 
 -- outstanding numbers are not the next one
-not-next : (una next least : ℕ) (l : List Sent) → Ascends (sentOffset una) least (minus next una) l → All (λ (x : Sent). x .record .number ≡ next → ⊥) l
+not-next : (una next least : ℕ) (l : List Sent) → Ascends (sentOffset una) least (minus next una) l →
+    All (λ (x : Sent). x .record .number ≡ next → ⊥) l
 not-next una next least [] a = tt
 not-next una next least (x ∷ l) a =
     ((λ e. absurd (omega (arith, a .1, ap (λ (n : ℕ). minus n una) e))), not-next una next (sentOffset una x + 1) l (a .2))
@@ -96,7 +99,8 @@ wished-all : (P : Segment → Type 0) (b : Bool) (g : Segment) → P g → All P
 wished-all P true g h = (h, tt)
 wished-all P false g h = tt
 
-module _ (s : Station) (made : valid (s .state) ≡ true) (conv32 : s .state .settings .conv < 2 ^ 32) (o : SendingInOrder (s .state .settings) s) (carry : CarryFits (s .state .receiving))
+module _ (s : Station) (made : valid (s .state) ≡ true) (conv32 : s .state .settings .conv < 2 ^ 32)
+    (o : SendingInOrder (s .state .settings) s) (carry : CarryFits (s .state .receiving))
     (t : ℕ) (time : t < 2 ^ 32) (l : List (List ℕ)) (e : s .state .sending .next ≡ length l % 2 ^ 32) where
   abbrev c : Settings
   c = s .state .settings
@@ -135,16 +139,20 @@ module _ (s : Station) (made : valid (s .state) ≡ true) (conv32 : s .state .se
 
   split : sentWith c t k d ≡ old ++ map (sentAfter c link t) (numbered (d .next) new)
   unfolding withNumbered
-  split = transmitted-append c link t (d .outstanding) (numbered (d .next) new) ∙ ap (λ (r : List Sent). old ++ r) (transmitted-new c link t (d .next) new)
+  split = transmitted-append c link t (d .outstanding) (numbered (d .next) new)
+      ∙ ap (λ (r : List Sent). old ++ r) (transmitted-new c link t (d .next) new)
 
   old-others : All (Other l) (map dataOf old)
   old-others =
       all-mapped (Other l) dataOf old
-      (all-transmitted c link t (λ (x : Sent). Other l (dataOf x)) (d .outstanding) (go (d .outstanding) (not-next (d .una) (d .next) 0 (d .outstanding) (half .numbers .ascends))))
+      (all-transmitted c link t (λ (x : Sent). Other l (dataOf x)) (d .outstanding)
+      (go (d .outstanding) (not-next (d .una) (d .next) 0 (d .outstanding) (half .numbers .ascends))))
     where
-      go : (r : List Sent) → All (λ (x : Sent). x .record .number ≡ d .next → ⊥) r → All (λ (x : Sent). Other l (dataOf x)) (map (sentAfter c link t) r)
+      go : (r : List Sent) → All (λ (x : Sent). x .record .number ≡ d .next → ⊥) r →
+          All (λ (x : Sent). Other l (dataOf x)) (map (sentAfter c link t) r)
       go [] a = tt
-      go (x ∷ r) a = (rw (transmission-number c link t (x .transmissions) (x .record)) (ne-eqb (x .record .number) (length l % 2 ^ 32) (λ q. a .0 (q ∙ sym e))), go r (a .1))
+      go (x ∷ r) a = (rw (transmission-number c link t (x .transmissions) (x .record))
+          (ne-eqb (x .record .number) (length l % 2 ^ 32) (λ q. a .0 (q ∙ sym e))), go r (a .1))
 
   abbrev acks : List Segment
   acks = map (ackSegment (carried (s .state))) (s .state .receiving .acks)
@@ -158,7 +166,8 @@ module _ (s : Station) (made : valid (s .state) ≡ true) (conv32 : s .state .se
   controls : All (Other l) (acks ++ (asks ++ tells))
   controls =
       all-append (Other l) acks (asks ++ tells)
-      (all-mapped (Other l) (ackSegment (carried (s .state))) (s .state .receiving .acks) (all-any (λ (a : Ack). Other l (ackSegment (carried (s .state)) a)) (λ a. refl) (s .state .receiving .acks)))
+      (all-mapped (Other l) (ackSegment (carried (s .state))) (s .state .receiving .acks)
+      (all-any (λ (a : Ack). Other l (ackSegment (carried (s .state)) a)) (λ a. refl) (s .state .receiving .acks)))
       (all-append (Other l) asks tells (wished-all (Other l) ask (control (carried (s .state)) windowAsk 0 0) refl)
       (wished-all (Other l) (s .state .receiving .tell) (control (carried (s .state)) windowTell 0 0) refl))
 
@@ -167,22 +176,29 @@ module _ (s : Station) (made : valid (s .state) ≡ true) (conv32 : s .state .se
   apart =
       written-parts (s .state) t (s .sendPool) ask (sentWith c t k d)
       ∙ ap (λ (r : List Sent). acks ++ (asks ++ (tells ++ map dataOf r))) split
-      ∙ ap (λ (r : List Segment). acks ++ (asks ++ (tells ++ r))) (map-append dataOf old (map (sentAfter c link t) (numbered (d .next) new)))
+      ∙ ap (λ (r : List Segment). acks ++ (asks ++ (tells ++ r)))
+      (map-append dataOf old (map (sentAfter c link t) (numbered (d .next) new)))
       ∙ sym
-      (ap (λ (r : List Segment). r ++ fresh) (append-assoc acks (asks ++ tells) (map dataOf old) ∙ ap (λ (r : List Segment). acks ++ r) (append-assoc asks tells (map dataOf old)))
+      (ap (λ (r : List Segment). r ++ fresh)
+      (append-assoc acks (asks ++ tells) (map dataOf old) ∙ ap (λ (r : List Segment). acks ++ r) (append-assoc asks tells (map dataOf old)))
       ∙ append-assoc acks (asks ++ (tells ++ map dataOf old)) fresh
-      ∙ ap (λ (r : List Segment). acks ++ r) (append-assoc asks (tells ++ map dataOf old) fresh ∙ ap (λ (r : List Segment). asks ++ r) (append-assoc tells (map dataOf old) fresh)))
+      ∙ ap (λ (r : List Segment). acks ++ r)
+      (append-assoc asks (tells ++ map dataOf old) fresh
+      ∙ ap (λ (r : List Segment). asks ++ r) (append-assoc tells (map dataOf old) fresh)))
     where
       fresh : List Segment
       fresh = map dataOf (map (sentAfter c link t) (numbered (d .next) new))
 
-  pub flush-numbers : numberedInAll c l (map bytesOfSegments (flushing (s .state) t (s .sendPool) .datagrams)) ≡ l ++ payloads (map (pieceIn (mss c) (s .sendPool)) new)
+  pub flush-numbers : numberedInAll c l (map bytesOfSegments (flushing (s .state) t (s .sendPool) .datagrams)) ≡ l ++ payloads
+      (map (pieceIn (mss c) (s .sendPool)) new)
   unfolding flushing
   flush-numbers =
       in-all c l (packed (c .mtu) segs) (parts .parsed)
       ∙ ap (numberedIn l) (packed-flat (c .mtu) segs ∙ apart)
       ∙ numbered-append l ((acks ++ (asks ++ tells)) ++ map dataOf old) fresh
-      ∙ ap (λ (r : List (List ℕ)). numberedIn r fresh) (numbers-none l ((acks ++ (asks ++ tells)) ++ map dataOf old) (all-append (Other l) (acks ++ (asks ++ tells)) (map dataOf old) controls old-others))
+      ∙ ap (λ (r : List (List ℕ)). numberedIn r fresh)
+      (numbers-none l ((acks ++ (asks ++ tells)) ++ map dataOf old)
+      (all-append (Other l) (acks ++ (asks ++ tells)) (map dataOf old) controls old-others))
       ∙ numbers-new c link t (carried (s .state)) (mss c) (s .sendPool) (d .next) new l e
     where
       fresh : List Segment

@@ -48,7 +48,8 @@ use Rattle.delivery.specs.Ledger.{usedSlots, fragmentsBy, stationAccepte
 pub used-held : (c : Settings) (s : Sending) → Half c s → usedSlots s ≡ length (sendHeld s)
 unfolding usedSlots
 used-held c s h =
-    used-all sendSlots (slots (sendHeld s)) (h .held .distinct) (all-mapped (λ (n : ℕ). n < sendSlots) (λ (x : Held). x .slot) (sendHeld s) (h .held .low))
+    used-all sendSlots (slots (sendHeld s)) (h .held .distinct)
+        (all-mapped (λ (n : ℕ). n < sendSlots) (λ (x : Held). x .slot) (sendHeld s) (h .held .low))
     ∙ length-map (sendHeld s) (λ (x : Held). x .slot)
 
 -- ---- an arriving segment removes what it acknowledges

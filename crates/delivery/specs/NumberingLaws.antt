@@ -56,8 +56,10 @@ record Steps (c : Settings) (before : List Piece) (accepted : List (List ℕ)) (
   then : Numbers c (before ++ numberedNow s (y .answer)) (accepted ++ acceptedBy x (y .answer)) (y .station)
   wrote : numberedInAll c (payloads before) (datagramsIn (y .answer)) ≡ payloads (before ++ numberedNow s (y .answer))
 
-module _ (s : Station) (before : List Piece) (accepted : List (List ℕ)) (made : valid (s .state) ≡ true) (conv32 : s .state .settings .conv < 2 ^ 32)
-    (o : SendingInOrder (s .state .settings) s) (carry : CarryFits (s .state .receiving)) (n : Numbers (s .state .settings) before accepted s) where
+module _ (s : Station) (before : List Piece) (accepted : List (List ℕ)) (made : valid (s .state) ≡ true)
+    (conv32 : s .state .settings .conv < 2 ^ 32)
+    (o : SendingInOrder (s .state .settings) s) (carry : CarryFits (s .state .receiving))
+    (n : Numbers (s .state .settings) before accepted s) where
   abbrev c : Settings
   c = s .state .settings
 
@@ -83,20 +85,24 @@ module _ (s : Station) (before : List Piece) (accepted : List (List ℕ)) (made 
   refused-step (Call.check t) r = record { then = still; wrote = nothing }
   refused-step (Call.read room) r = record { then = still; wrote = nothing }
 
-  send-step : (m : List ℕ) → Sendable (s .state) (s .sendPool) m → Steps c before accepted s (Call.send m) (afterSend s (Outcome.done (sentBy (s .state) (s .sendPool) m)))
+  send-step : (m : List ℕ) → Sendable (s .state) (s .sendPool) m →
+      Steps c before accepted s (Call.send m) (afterSend s (Outcome.done (sentBy (s .state) (s .sendPool) m)))
   send-step m ok = record {
     then = rw (append-nil before) (record {
       next = n .next;
-      cuts = cut-more c d (s .sendPool) m half (omega (arith, mtu-in-range c (valid-parts (s .state) made .range) .least)) (o .long) (ok .room) before accepted (n .cuts);
+      cuts = cut-more c d (s .sendPool) m half (omega (arith, mtu-in-range c (valid-parts (s .state) made .range) .least)) (o .long)
+          (ok .room) before accepted (n .cuts);
     });
     wrote = nothing;
   }
 
-  take-step : (b : List ℕ) (gs : List Segment) → Steps c before accepted s (Call.takeIn b) (afterTakeIn s (Outcome.done (applied (s .state) (s .receivePool) gs)))
+  take-step : (b : List ℕ) (gs : List Segment) →
+      Steps c before accepted s (Call.takeIn b) (afterTakeIn s (Outcome.done (applied (s .state) (s .receivePool) gs)))
   unfolding applied
   take-step b gs =
       let k = taken-same c (s .state .current) d gs (ackNumbers gs) in
-      record { then = rw (append-nil before, append-nil accepted) (record { next = k .0 ∙ n .next; cuts = rw (k .1) (n .cuts) }); wrote = nothing }
+      record { then = rw (append-nil before, append-nil accepted) (record { next = k .0 ∙ n .next; cuts = rw (k .1) (n .cuts) }); wrote =
+      nothing }
 
   flush-step : (t : ℕ) → t < 2 ^ 32 → Steps c before accepted s (Call.flush t) (afterFlush s (flushing (s .state) t (s .sendPool)))
   unfolding flushing
@@ -121,11 +127,14 @@ module _ (s : Station) (before : List Piece) (accepted : List (List ℕ)) (made 
           ≡ before ++ map (pieceIn (mss c) (s .sendPool)) (d .queued)
       whole =
           append-assoc before (map f (take k (d .queued))) (map f (drop k (d .queued)))
-          ∙ ap (λ (r : List Piece). before ++ r) (sym (map-append f (take k (d .queued)) (drop k (d .queued))) ∙ ap (map f) (take-append-drop k (d .queued)))
+          ∙ ap (λ (r : List Piece). before ++ r)
+          (sym (map-append f (take k (d .queued)) (drop k (d .queued))) ∙ ap (map f) (take-append-drop k (d .queued)))
 
 -- an update that flushes: the flush of the station with the schedule moved on
-module _ (s : Station) (before : List Piece) (accepted : List (List ℕ)) (made : valid (s .state) ≡ true) (conv32 : s .state .settings .conv < 2 ^ 32)
-    (o : SendingInOrder (s .state .settings) s) (carry : CarryFits (s .state .receiving)) (n : Numbers (s .state .settings) before accepted s) where
+module _ (s : Station) (before : List Piece) (accepted : List (List ℕ)) (made : valid (s .state) ≡ true)
+    (conv32 : s .state .settings .conv < 2 ^ 32)
+    (o : SendingInOrder (s .state .settings) s) (carry : CarryFits (s .state .receiving))
+    (n : Numbers (s .state .settings) before accepted s) where
   abbrev settings : Settings
   settings = s .state .settings
 
@@ -140,7 +149,8 @@ module _ (s : Station) (before : List Piece) (accepted : List (List ℕ)) (made 
 
   -- a call that changes neither queue nor numbers
   others-step : (state : State) → state .sending ≡ s .state .sending
-      → Numbers settings (before ++ []) (accepted ++ []) (record { state = state; sendPool = s .sendPool; receivePool = s .receivePool; lent = s .lent })
+      → Numbers settings (before ++ []) (accepted ++ [])
+          (record { state = state; sendPool = s .sendPool; receivePool = s .receivePool; lent = s .lent })
   others-step state e =
       rw (append-nil before, append-nil accepted)
       (record {
@@ -176,7 +186,8 @@ steps-by : (c : Settings) (s : Station) (before : List Piece) (accepted : List (
     CallFits x →
     Steps c before accepted s x (own s x)
 steps-by c s before accepted x made conv32 o carry n k =
-    subst (λ (c : Settings). c .conv < 2 ^ 32 → SendingInOrder c s → Numbers c before accepted s → Steps c before accepted s x (own s x)) (o .settings)
+    subst (λ (c : Settings). c .conv < 2 ^ 32 → SendingInOrder c s → Numbers c before accepted s → Steps c before accepted s x (own s x))
+        (o .settings)
     (λ conv32 o n. steps s before accepted made conv32 o carry n x k)
     conv32 o n
 
@@ -187,14 +198,16 @@ pub record Run (c : Settings) (before : List Piece) (accepted : List (List ℕ))
   pub wrote : numberedInAll c (payloads before) (datagramsBy (history s calls)) ≡ payloads (before ++ piecesNumbered s calls)
 
 -- the first call, and the others
-first-run : (c : Settings) (s : Station) (x : Call) (xs : List Call) → Passing s (x ∷ xs) → (before : List Piece) (accepted : List (List ℕ)) →
+first-run : (c : Settings) (s : Station) (x : Call) (xs : List Call) → Passing s (x ∷ xs) →
+    (before : List Piece) (accepted : List (List ℕ)) →
     Run c (before ++ numberedNow s (own s x .answer)) (accepted ++ acceptedBy x (own s x .answer)) (own s x .station) xs →
     numberedInAll c (payloads before) (datagramsIn (own s x .answer)) ≡ payloads (before ++ numberedNow s (own s x .answer)) →
     Run c before accepted s (x ∷ xs)
 unfolding piecesNumbered acceptedList datagramsBy
 first-run c s x xs p before accepted r e = record {
   then =
-      rw (after-first s x xs p, history-first s x xs p, ← append-assoc before now (piecesNumbered (own s x .station) xs), ← append-assoc accepted new (acceptedList (history (own s x .station) xs)))
+      rw (after-first s x xs p, history-first s x xs p, ← append-assoc before now (piecesNumbered (own s x .station) xs), ← append-assoc
+      accepted new (acceptedList (history (own s x .station) xs)))
       (r .then);
   wrote =
       rw (history-first s x xs p, ← append-assoc before now (piecesNumbered (own s x .station) xs))
@@ -222,7 +235,8 @@ run c taken [] s before accepted o carry n k p =
 run c taken (x ∷ xs) s before accepted o carry n k p =
     let t = steps-by c s before accepted x (p .1) (taken .conv) o carry n (k .0) in
     first-run c s x xs p before accepted
-    (run c taken xs (own s x .station) (before ++ numberedNow s (own s x .answer)) (accepted ++ acceptedBy x (own s x .answer)) (sending-stays c (taken .range) s x (k .0) o)
+    (run c taken xs (own s x .station) (before ++ numberedNow s (own s x .answer)) (accepted ++ acceptedBy x (own s x .answer))
+    (sending-stays c (taken .range) s x (k .0) o)
     (carry-stays s x (k .0) carry)
     (t .then)
     (k .1)
@@ -235,5 +249,7 @@ opened-numbers : (c : Settings) (s : Station) → Opened c s → Numbers c [] []
 unfolding opened joined flatten piecesOf
 opened-numbers c s p = rw (p .state) (record { next = refl; cuts = record { bytes = refl; messages = λ e. refl; singles = λ e. tt } })
 
-pub opened-run : (c : Settings) → Taken c → (s : Station) → Opened c s → (calls : List Call) → All CallFits calls → Passing s calls → Run c [] [] s calls
-opened-run c taken s p calls k q = run c taken calls s [] [] (opened-in-order c s p) (rw (p .state) (opened-carry c)) (opened-numbers c s p) k q
+pub opened-run : (c : Settings) → Taken c → (s : Station) → Opened c s → (calls : List Call) → All CallFits calls → Passing s calls →
+    Run c [] [] s calls
+opened-run c taken s p calls k q =
+    run c taken calls s [] [] (opened-in-order c s p) (rw (p .state) (opened-carry c)) (opened-numbers c s p) k q

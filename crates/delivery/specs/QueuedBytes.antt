@@ -52,14 +52,16 @@ one-piece : (m : ℕ) (q : Piece) → 0 < m → Single m q → falling (cut m (q
 unfolding fragmented cut pieces
 one-piece m q h s =
     rw (one-fragment m (length (q .payload)) h (s .short))
-    (ap₂ {C = List Piece} (λ (n : ℕ) (b : List ℕ). record { fragment = n; payload = b } ∷ []) (sym (s .fragment)) (take-all m (q .payload) (s .short)))
+    (ap₂ {C = List Piece} (λ (n : ℕ) (b : List ℕ). record { fragment = n; payload = b } ∷ []) (sym (s .fragment))
+    (take-all m (q .payload) (s .short)))
 
 single-pieces : (m : ℕ) (l : List Piece) → 0 < m → All (Single m) l → piecesOf m (payloads l) ≡ l
 unfolding piecesOf
 single-pieces m [] h a = refl
 single-pieces m (q ∷ l) h a = rw (one-piece m q h (a .0), single-pieces m l h (a .1))
 
-module _ (c : Settings) (taken : Taken c) (s : Station) (p : Opened c s) (calls : List Call) (k : All CallFits calls) (q : Passing s calls) where
+module _ (c : Settings) (taken : Taken c) (s : Station) (p : Opened c s) (calls : List Call) (k : All CallFits calls)
+    (q : Passing s calls) where
   abbrev events : List Event
   events = history s calls
 
@@ -79,23 +81,29 @@ module _ (c : Settings) (taken : Taken c) (s : Station) (p : Opened c s) (calls 
 
   -- snd_nxt is their count, modulo 2^32
   pub numbered-count : after s calls .state .sending .next ≡ length (numberedBy c events) % 2 ^ 32
-  numbered-count = whole .then .next ∙ ap (λ (n : ℕ). n % 2 ^ 32) (sym (ap length numbered-are ∙ length-map (piecesNumbered s calls) (λ (q : Piece). q .payload)))
+  numbered-count = whole .then .next
+      ∙ ap (λ (n : ℕ). n % 2 ^ 32) (sym (ap length numbered-are ∙ length-map (piecesNumbered s calls) (λ (q : Piece). q .payload)))
 
   -- the bytes numbered, and behind them those queued, are the bytes accepted
-  pub accepted-bytes : flatten (numberedBy c events) ++ joinedIn (mss c) (after s calls .sendPool) (after s calls .state .sending .queued) ≡ flatten (acceptedList events)
+  pub accepted-bytes : flatten (numberedBy c events) ++ joinedIn (mss c) (after s calls .sendPool)
+      (after s calls .state .sending .queued) ≡ flatten (acceptedList events)
   accepted-bytes =
-      ap₂ {C = List ℕ} (λ (a b : List ℕ). a ++ b) (ap flatten numbered-are ∙ joined-payloads (piecesNumbered s calls)) (sym (joined-held (mss c) (after s calls .sendPool) (after s calls .state .sending .queued)))
+      ap₂ {C = List ℕ} (λ (a b : List ℕ). a ++ b) (ap flatten numbered-are ∙ joined-payloads (piecesNumbered s calls))
+      (sym (joined-held (mss c) (after s calls .sendPool) (after s calls .state .sending .queued)))
       ∙ sym (joined-append (piecesNumbered s calls) queued)
       ∙ whole .then .cuts .bytes
 
   -- QUEUED PAYLOADS JOINED ARE THE BYTES ACCEPTED AND NOT YET NUMBERED
-  pub queued-bytes : joinedIn (mss c) (after s calls .sendPool) (after s calls .state .sending .queued) ≡ drop (length (flatten (numberedBy c events))) (flatten (acceptedList events))
+  pub queued-bytes : joinedIn (mss c) (after s calls .sendPool) (after s calls .state .sending .queued) ≡ drop
+      (length (flatten (numberedBy c events))) (flatten (acceptedList events))
   queued-bytes =
-      sym (drop-at (flatten (numberedBy c events)) (joinedIn (mss c) (after s calls .sendPool) (after s calls .state .sending .queued)) (length (flatten (numberedBy c events))) refl)
+      sym (drop-at (flatten (numberedBy c events)) (joinedIn (mss c) (after s calls .sendPool) (after s calls .state .sending .queued))
+      (length (flatten (numberedBy c events))) refl)
       ∙ ap (drop (length (flatten (numberedBy c events)))) accepted-bytes
 
   -- every push is the segment of its number of the accepted list
-  pub accepted-genuine : FewPushes c (datagramsBy (history s calls)) → All (GenuineDatagram c (piecesOf (mss c) (acceptedFor c (history s calls)))) (datagramsBy (history s calls))
+  pub accepted-genuine : FewPushes c (datagramsBy (history s calls)) →
+      All (GenuineDatagram c (piecesOf (mss c) (acceptedFor c (history s calls)))) (datagramsBy (history s calls))
   unfolding acceptedFor
   accepted-genuine few = go (isStream c) refl (sent-genuine c taken s p calls k q few)
     where
@@ -103,7 +111,9 @@ module _ (c : Settings) (taken : Taken c) (s : Station) (p : Opened c s) (calls 
           All (GenuineDatagram c (piecesOf (mss c) (cond b (numberedBy c events) (acceptedList events)))) (datagramsBy events)
       go true e g =
           subst (λ (l : List Piece). All (GenuineDatagram c l) (datagramsBy events))
-          (sym (ap (piecesOf (mss c)) numbered-are ∙ single-pieces (mss c) (piecesNumbered s calls) some (all-left (Single (mss c)) (piecesNumbered s calls) queued (whole .then .cuts .singles e))))
+          (sym (ap (piecesOf (mss c)) numbered-are
+          ∙ single-pieces (mss c) (piecesNumbered s calls) some
+          (all-left (Single (mss c)) (piecesNumbered s calls) queued (whole .then .cuts .singles e))))
           g
       go false e g =
           subst (λ (l : List Piece). All (GenuineDatagram c l) (datagramsBy events)) (whole .then .cuts .messages e)

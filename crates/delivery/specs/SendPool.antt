@@ -72,17 +72,21 @@ count-least m n = omega arith
 -- ---- its segments placed
 
 -- the pool keeps its length
-pub place-length : (stream : Bool) (m : ℕ) (used pool : List ℕ) (ps : List (List ℕ)) → length (place stream m used pool ps .pool) ≡ length pool
+pub place-length : (stream : Bool) (m : ℕ) (used pool : List ℕ) (ps : List (List ℕ)) →
+    length (place stream m used pool ps .pool) ≡ length pool
 unfolding place
 place-length stream m used pool [] = refl
 place-length stream m used pool (p ∷ ps) =
-    place-length stream m (lowestFree used sendSlots ∷ used) (sets pool (lowestFree used sendSlots * m) p) ps ∙ length-sets pool (lowestFree used sendSlots * m) p
+    place-length stream m (lowestFree used sendSlots ∷ used) (sets pool (lowestFree used sendSlots * m) p) ps
+    ∙ length-sets pool (lowestFree used sendSlots * m) p
 
 -- a segment for each payload
-pub place-count : (stream : Bool) (m : ℕ) (used pool : List ℕ) (ps : List (List ℕ)) → length (place stream m used pool ps .segments) ≡ length ps
+pub place-count : (stream : Bool) (m : ℕ) (used pool : List ℕ) (ps : List (List ℕ)) →
+    length (place stream m used pool ps .segments) ≡ length ps
 unfolding place
 place-count stream m used pool [] = refl
-place-count stream m used pool (p ∷ ps) = ap suc (place-count stream m (lowestFree used sendSlots ∷ used) (sets pool (lowestFree used sendSlots * m) p) ps)
+place-count stream m used pool (p ∷ ps) =
+    ap suc (place-count stream m (lowestFree used sendSlots ∷ used) (sets pool (lowestFree used sendSlots * m) p) ps)
 
 pub record PlacedWell (stream : Bool) (m : ℕ) (used pool : List ℕ) (ps : List (List ℕ)) (r : Placed) : Type 0 where
   -- used slots keep their bytes
@@ -101,7 +105,8 @@ fragment-low : (stream : Bool) (n : ℕ) → cond stream 0 n ≤ n
 fragment-low true n = omega arith
 fragment-low false n = omega arith
 
-module _ (stream : Bool) (m : ℕ) (p : List ℕ) (used pool : List ℕ) (short : length p ≤ m) (few : length used < sendSlots) (enough : sendSlots * m ≤ length pool) where
+module _ (stream : Bool) (m : ℕ) (p : List ℕ) (used pool : List ℕ) (short : length p ≤ m) (few : length used < sendSlots)
+    (enough : sendSlots * m ≤ length pool) where
   abbrev slot : ℕ
   slot = lowestFree used sendSlots
 

@@ -177,12 +177,15 @@ shows-in m pool pool′ pieces (x ∷ l) e a = (
 )
 
 -- more pieces are numbered
-shows-more : (m : ℕ) (pool : List ℕ) (pieces more : List Piece) (l : List Sent) → All (Shows m pool pieces) l → All (Shows m pool (pieces ++ more)) l
+shows-more : (m : ℕ) (pool : List ℕ) (pieces more : List Piece) (l : List Sent) → All (Shows m pool pieces) l →
+    All (Shows m pool (pieces ++ more)) l
 shows-more m pool pieces more [] a = tt
 shows-more m pool pieces more (x ∷ l) a =
-    (record { its-piece = get-append pieces more (x .record .number) (pieceIn m pool (x .held)) (a .0 .its-piece); small = a .0 .small }, shows-more m pool pieces more l (a .1))
+    (record { its-piece = get-append pieces more (x .record .number) (pieceIn m pool (x .held)) (a .0 .its-piece); small = a .0 .small },
+    shows-more m pool pieces more l (a .1))
 
-module _ (c : Settings) (s : Sending) (pool message : List ℕ) (h : Half c s) (enough : sendSlots * mss c ≤ length pool) (room : Room c s pool message) where
+module _ (c : Settings) (s : Sending) (pool message : List ℕ) (h : Half c s) (enough : sendSlots * mss c ≤ length pool)
+    (room : Room c s pool message) where
   abbrev f : Filled
   f = filling c s pool message
 
@@ -207,12 +210,15 @@ module _ (c : Settings) (s : Sending) (pool message : List ℕ) (h : Half c s) (
   -- outstanding segments show what they did
   same-sent : All (λ (x : Held). pieceIn (mss c) (placed .pool) x ≡ pieceIn (mss c) pool x) out
   same-sent =
-      all-weaker (λ (x : Held). (pieceIn (mss c) (placed .pool) x ≡ pieceIn (mss c) (f .pool) x) × (pieceIn (mss c) (f .pool) x ≡ pieceIn (mss c) pool x))
+      all-weaker (λ (x : Held). (pieceIn (mss c) (placed .pool) x ≡ pieceIn (mss c) (f .pool) x) ×
+          (pieceIn (mss c) (f .pool) x ≡ pieceIn (mss c) pool x))
       (λ (x : Held). pieceIn (mss c) (placed .pool) x ≡ pieceIn (mss c) pool x)
       (λ x e. e .0 ∙ e .1)
       out
-      (all-both (λ (x : Held). pieceIn (mss c) (placed .pool) x ≡ pieceIn (mss c) (f .pool) x) (λ (x : Held). pieceIn (mss c) (f .pool) x ≡ pieceIn (mss c) pool x) out
-      (old-pieces (mss c) (slots (sendHeld s)) (f .pool) (placed .pool) (places .old) out lengths (λ n e. rw held-slots (occurs-left n (slots out) (slots (s .queued)) e)))
+      (all-both (λ (x : Held). pieceIn (mss c) (placed .pool) x ≡ pieceIn (mss c) (f .pool) x)
+      (λ (x : Held). pieceIn (mss c) (f .pool) x ≡ pieceIn (mss c) pool x) out
+      (old-pieces (mss c) (slots (sendHeld s)) (f .pool) (placed .pool) (places .old) out lengths
+      (λ n e. rw held-slots (occurs-left n (slots out) (slots (s .queued)) e)))
       (old-pieces (mss c) (slots out) pool (f .pool)
       (λ n k e few. fills .others n k (distinct-apart (slots out) (slots (s .queued)) (rw held-slots at (h .held .distinct)) n e) few)
       out lengths (λ n e. e)))
@@ -221,7 +227,8 @@ module _ (c : Settings) (s : Sending) (pool message : List ℕ) (h : Half c s) (
       lengths = all-left (λ (x : Held). x .len ≤ mss c) out (s .queued) (h .held .lengths)
 
   -- the queue then: as filled, and the new segments behind it
-  pub new-queue : map (pieceIn (mss c) (placed .pool)) (f .queued ++ placed .segments) ≡ map (pieceIn (mss c) (f .pool)) (f .queued) ++ fragmented (isStream c) cuts
+  pub new-queue : map (pieceIn (mss c) (placed .pool)) (f .queued ++ placed .segments) ≡ map (pieceIn (mss c) (f .pool)) (f .queued) ++
+      fragmented (isStream c) cuts
   new-queue =
       map-append (pieceIn (mss c) (placed .pool)) (f .queued) (placed .segments)
       ∙ ap₂ {C = List Piece} (λ (a b : List Piece). a ++ b)
@@ -230,8 +237,10 @@ module _ (c : Settings) (s : Sending) (pool message : List ℕ) (h : Half c s) (
       (λ n e. rw held-slots (occurs-right n (slots out) (slots (s .queued)) (rw (fills .slots-same) at e)))))
       (places .new)
 
-  pub sends-more : (pieces : List Piece) → Sends (mss c) pool pieces s → Sends (mss c) (placed .pool) pieces (withQueue s (f .queued ++ placed .segments))
-  sends-more pieces m = record { low = m .low; counts = m .counts; sent = shows-in (mss c) pool (placed .pool) pieces (s .outstanding) same-sent (m .sent) }
+  pub sends-more : (pieces : List Piece) → Sends (mss c) pool pieces s →
+      Sends (mss c) (placed .pool) pieces (withQueue s (f .queued ++ placed .segments))
+  sends-more pieces m =
+      record { low = m .low; counts = m .counts; sent = shows-in (mss c) pool (placed .pool) pieces (s .outstanding) same-sent (m .sent) }
 
 -- ---- flushing
 
@@ -272,10 +281,13 @@ module _ (m : ℕ) (pool : List ℕ) (pieces : List Piece) (c : Settings) (t k :
   pub with-numbered : Sends m pool pieces s → All (Shows m pool more) (withNumbered s k)
   unfolding withNumbered
   with-numbered h =
-      all-append (Shows m pool more) (s .outstanding) (numbered (s .next) (take k (s .queued))) (shows-more m pool pieces (map (pieceIn m pool) (take k (s .queued))) (s .outstanding) (h .sent))
-      (numbered-shows m pool more (s .next) (take k (s .queued)) (rw count small) (drop-at pieces (map (pieceIn m pool) (take k (s .queued))) (s .next) (sym (h .counts))))
+      all-append (Shows m pool more) (s .outstanding) (numbered (s .next) (take k (s .queued)))
+      (shows-more m pool pieces (map (pieceIn m pool) (take k (s .queued))) (s .outstanding) (h .sent))
+      (numbered-shows m pool more (s .next) (take k (s .queued)) (rw count small)
+      (drop-at pieces (map (pieceIn m pool) (take k (s .queued))) (s .next) (sym (h .counts))))
 
-  pub sends-flushed : Sends m pool pieces s → All (Shows m pool more) (flushedWith c t k s .outstanding) → Sends m pool more (flushedWith c t k s)
+  pub sends-flushed : Sends m pool pieces s → All (Shows m pool more) (flushedWith c t k s .outstanding) →
+      Sends m pool more (flushedWith c t k s)
   sends-flushed h a = record {
     low = rw end small;
     counts = rw end (simp (length-append, length-map) (omega (arith, count, h .counts)));

@@ -40,7 +40,8 @@ held-append m l r a b apart = record {
   distinct = rw (map-append (λ (h : Held). h .slot) l r) (distinct-append (slots l) (slots r) (a .distinct) (b .distinct) apart);
 }
 
-module _ (c : Settings) (s : Sending) (pool message : List ℕ) (h : Half c s) (enough : sendSlots * mss c ≤ length pool) (room : Room c s pool message) where
+module _ (c : Settings) (s : Sending) (pool message : List ℕ) (h : Half c s) (enough : sendSlots * mss c ≤ length pool)
+    (room : Room c s pool message) where
   abbrev f : Filled
   f = filling c s pool message
 
@@ -58,7 +59,8 @@ module _ (c : Settings) (s : Sending) (pool message : List ℕ) (h : Half c s) (
     lengths = all-right (λ (x : Held). x .len ≤ mss c) out (s .queued) (h .held .lengths);
     fragments = all-right (λ (x : Held). x .fragment ≤ fragmentMost) out (s .queued) (h .held .fragments);
     low = all-right (λ (x : Held). x .slot < sendSlots) out (s .queued) (h .held .low);
-    distinct = distinct-right (slots out) (slots (s .queued)) (rw (map-append (λ (x : Held). x .slot) out (s .queued)) at (h .held .distinct));
+    distinct = distinct-right (slots out) (slots (s .queued))
+        (rw (map-append (λ (x : Held). x .slot) out (s .queued)) at (h .held .distinct));
   }
 
   pub send-filled : FilledWell (mss c) pool (s .queued) message f
@@ -89,16 +91,20 @@ module _ (c : Settings) (s : Sending) (pool message : List ℕ) (h : Half c s) (
 
   old : HeldWell (mss c) (sendHeld (withQueue s (f .queued)))
   old = record {
-    lengths = all-append (λ (x : Held). x .len ≤ mss c) out (f .queued) (all-left (λ (x : Held). x .len ≤ mss c) out (s .queued) (h .held .lengths)) (send-filled .lengths);
-    fragments = all-append (λ (x : Held). x .fragment ≤ fragmentMost) out (f .queued) (all-left (λ (x : Held). x .fragment ≤ fragmentMost) out (s .queued) (h .held .fragments)) (send-filled .fragments);
-    low = all-append (λ (x : Held). x .slot < sendSlots) out (f .queued) (all-left (λ (x : Held). x .slot < sendSlots) out (s .queued) (h .held .low)) (send-filled .low);
+    lengths = all-append (λ (x : Held). x .len ≤ mss c) out (f .queued)
+        (all-left (λ (x : Held). x .len ≤ mss c) out (s .queued) (h .held .lengths)) (send-filled .lengths);
+    fragments = all-append (λ (x : Held). x .fragment ≤ fragmentMost) out (f .queued)
+        (all-left (λ (x : Held). x .fragment ≤ fragmentMost) out (s .queued) (h .held .fragments)) (send-filled .fragments);
+    low = all-append (λ (x : Held). x .slot < sendSlots) out (f .queued)
+        (all-left (λ (x : Held). x .slot < sendSlots) out (s .queued) (h .held .low)) (send-filled .low);
     distinct = rw filled-slots (h .held .distinct);
   }
 
   new : length cuts ≤ fragmentsMost → HeldWell (mss c) (placed .segments)
   new most = record {
     lengths = send-placed .lengths;
-    fragments = all-weaker (λ (x : Held). x .fragment < length cuts) (λ (x : Held). x .fragment ≤ fragmentMost) (λ x k. omega (arith, most)) (placed .segments) (send-placed .fragments);
+    fragments = all-weaker (λ (x : Held). x .fragment < length cuts) (λ (x : Held). x .fragment ≤ fragmentMost)
+        (λ x k. omega (arith, most)) (placed .segments) (send-placed .fragments);
     low = send-placed .low;
     distinct = send-placed .distinct;
   }
@@ -106,7 +112,8 @@ module _ (c : Settings) (s : Sending) (pool message : List ℕ) (h : Half c s) (
   pub half-send : 0 < mss c → Short c s pool message → Half c (withQueue s (f .queued ++ placed .segments))
   half-send some short = record {
     held = rw (← append-assoc out (f .queued) (placed .segments))
-        (held-append (mss c) (sendHeld (withQueue s (f .queued))) (placed .segments) old (new (few some short)) (λ n e. rw filled-slots (send-placed .apart n e)));
+        (held-append (mss c) (sendHeld (withQueue s (f .queued))) (placed .segments) old (new (few some short))
+        (λ n e. rw filled-slots (send-placed .apart n e)));
     numbers = h .numbers;
     sent = h .sent;
     roundTrip = h .roundTrip;

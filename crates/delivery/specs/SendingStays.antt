@@ -53,7 +53,8 @@ own-send-pool s =
     own-cases (λ (x : Call) (y : Stepped). length (y .station .sendPool) ≡ length (s .sendPool)) s
     (λ x r. refl)
     (λ m ok.
-    place-length (isStream (s .state .settings)) (mss (s .state .settings)) (slots (sendHeld (s .state .sending))) (filling (s .state .settings) (s .state .sending) (s .sendPool) m .pool)
+    place-length (isStream (s .state .settings)) (mss (s .state .settings)) (slots (sendHeld (s .state .sending)))
+    (filling (s .state .settings) (s .state .sending) (s .sendPool) m .pool)
     (cutting (s .state .settings) (s .state .sending) (s .sendPool) m)
     ∙ filled-length (mss (s .state .settings)) (s .state .sending .queued) (s .sendPool) m (isStream (s .state .settings)))
     (λ d gs e. refl)

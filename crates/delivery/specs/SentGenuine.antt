@@ -268,7 +268,8 @@ module _ (s : Station) (pieces : List Piece) (made : valid (s .state) ≡ true) 
       (λ x r k few. record { shows = as-before; genuine = tt })
       (λ m ok k few. record {
         shows =
-            sends-more settings (s .state .sending) (s .sendPool) m (half s pieces made conv32 o carry h) (o .long) (ok .room) (pieces ++ [])
+            sends-more settings (s .state .sending) (s .sendPool) m (half s pieces made conv32 o carry h) (o .long) (ok .room)
+            (pieces ++ [])
             as-before;
         genuine = tt;
       })
@@ -337,7 +338,8 @@ module _ (c : Settings) (e : Event) (es : List Event) where
   unfolding datagramsBy
   genuine-both pieces now later a b =
       rw (← append-assoc pieces now later)
-      (all-append (GenuineDatagram c ((pieces ++ now) ++ later)) (datagramsIn (e .answer)) (datagramsBy es) (more-datagrams c (pieces ++ now) later (datagramsIn (e .answer)) a) b)
+      (all-append (GenuineDatagram c ((pieces ++ now) ++ later)) (datagramsIn (e .answer)) (datagramsBy es)
+      (more-datagrams c (pieces ++ now) later (datagramsIn (e .answer)) a) b)
 
 genuine-calls : (c : Settings) → Taken c → (calls : List Call) (s : Station) (pieces : List Piece) →
     SendingInOrder c s →
@@ -354,7 +356,9 @@ genuine-calls c taken (x ∷ xs) s pieces o carry h k p few =
     let later : List Event = history (own s x .station) xs in
     let few′ : FewPushes c (datagramsBy (e ∷ later)) = subst (λ (l : List Event). FewPushes c (datagramsBy l)) (history-first s x xs p) few in
     let w : Wrote c s pieces (own s x) = wrote-by c s pieces x (p .1) (taken .conv) o carry h (k .0) (few-first c e later few′) in
-    subst (λ (l : List Event). All (GenuineDatagram c (pieces ++ (numberedNow s (own s x .answer) ++ piecesNumbered (own s x .station) xs))) (datagramsBy l)) (sym (history-first s x xs p))
+    subst (λ (l : List Event). All
+        (GenuineDatagram c (pieces ++ (numberedNow s (own s x .answer) ++ piecesNumbered (own s x .station) xs))) (datagramsBy l))
+        (sym (history-first s x xs p))
     (genuine-both c e later pieces (numberedNow s (own s x .answer)) (piecesNumbered (own s x .station) xs) (w .genuine)
     (genuine-calls c taken xs (own s x .station) (pieces ++ numberedNow s (own s x .answer))
     (sending-stays c (taken .range) s x (k .0) o)

@@ -61,8 +61,10 @@ pub other-part :
     take n (drop (other * size) (sets pool (slot * size + from) bs)) ≡ take n (drop (other * size) pool)
 other-part size pool bs slot from other n fits short few apart = at (ltb slot other) refl
   where
-    at : (t : Bool) → ltb slot other ≡ t → take n (drop (other * size) (sets pool (slot * size + from) bs)) ≡ take n (drop (other * size) pool)
-    at true e = stays-behind pool (slot * size + from) bs fits (other * size) n (omega (arith, mul-le-mul-right size (ltb-true slot other e)))
+    at : (t : Bool) → ltb slot other ≡ t →
+        take n (drop (other * size) (sets pool (slot * size + from) bs)) ≡ take n (drop (other * size) pool)
+    at true e = stays-behind pool (slot * size + from) bs fits (other * size) n
+        (omega (arith, mul-le-mul-right size (ltb-true slot other e)))
     at false e =
         let less : suc other ≤ slot = omega (arith, ltb-false slot other e) in
         stays-before pool (slot * size + from) bs fits (other * size) n (omega (arith, mul-le-mul-right size less))
@@ -83,9 +85,11 @@ pub behind : {A : Type 0} (pool bs : List A) (at len : ℕ) → at + len + lengt
     → take (len + length bs) (drop at (sets pool (at + len) bs)) ≡ take len (drop at pool) ++ bs
 behind pool bs at len fits =
     take-more len (length bs) (drop at (sets pool (at + len) bs))
-    ∙ ap₂ (λ a b. a ++ b) (stays-before pool (at + len) bs fits at len (omega arith)) (ap (take (length bs)) (drop-drop len at (sets pool (at + len) bs)) ∙ stored pool (at + len) bs fits)
+    ∙ ap₂ (λ a b. a ++ b) (stays-before pool (at + len) bs fits at len (omega arith))
+    (ap (take (length bs)) (drop-drop len at (sets pool (at + len) bs)) ∙ stored pool (at + len) bs fits)
   where
     take-more : {A : Type 0} (a b : ℕ) (l : List A) → take (a + b) l ≡ take a l ++ take b (drop a l)
     take-more zero b l = rw (zero-add b)
     take-more (suc a) b [] = let e : suc a + b ≡ suc (a + b) = omega arith in rw e (sym (take-nil b))
-    take-more {A} (suc a) b (x ∷ l) = let e : suc a + b ≡ suc (a + b) = omega arith in rw e (ap {B = List A} (λ (t : List A). x ∷ t) (take-more a b l))
+    take-more {A} (suc a) b (x ∷ l) = let e : suc a + b ≡ suc (a + b) = omega arith in
+        rw e (ap {B = List A} (λ (t : List A). x ∷ t) (take-more a b l))

@@ -1,5 +1,6 @@
 -- Request 2026-05, once over both modes and all calls since opening: queued payloads joined are the bytes accepted and not yet numbered.
--- From the promises of the public calls alone: lent and changed as demand 3 says (`SinceOpening`), whatever is taken in, refused calls included.
+-- From the promises of the public calls alone: lent and changed as demand 3 says (`SinceOpening`), whatever is taken in, refused calls
+-- included.
 -- Assumes nothing.
 use mathlib.Core.List.{List}
 use Rattle.protocol.specs.declared.Settings.{Settings}
@@ -11,7 +12,8 @@ use Rattle.demands.specs.Stations.{stationOf}
 use Rattle.demands.specs.Claims.{QueuedBytes}
 use Rattle.demands.specs.RunLaws.{opens-station, taken, since-opening}
 
-pub queued-bytes : (c : Settings) (calls : List Call) (events : List Event) (e : Endpoint) → SinceOpening c calls events e → QueuedBytes c events e
+pub queued-bytes : (c : Settings) (calls : List Call) (events : List Event) (e : Endpoint) → SinceOpening c calls events e →
+    QueuedBytes c events e
 queued-bytes c calls events e h =
     let s : Station = stationOf (h .first) in
     let o = opens-station c (h .first) (h .opens) in

@@ -76,16 +76,21 @@ pub not-malformed : (c : Command) → OneOf (1 ∷ 2 ∷ 3 ∷ 4 ∷ 5 ∷ 6 ∷
 unfolding isOneOf
 not-malformed c h e = not-one 1 (2 ∷ 3 ∷ 4 ∷ 5 ∷ 6 ∷ 7 ∷ 8 ∷ 9 ∷ 10 ∷ 11 ∷ 12 ∷ 13 ∷ 14 ∷ 15 ∷ []) 16 refl (rw e at h)
 
-pub not-open : (c : Command) → OneOf (1 ∷ 2 ∷ 3 ∷ 4 ∷ 5 ∷ 6 ∷ 7 ∷ 8 ∷ 9 ∷ 10 ∷ 11 ∷ 12 ∷ 13 ∷ 14 ∷ 15 ∷ []) (tag c) → (conv mtu mode interval threshold stream : ℕ) → c ≡ Open conv mtu mode interval threshold stream → ⊥
+pub not-open : (c : Command) → OneOf (1 ∷ 2 ∷ 3 ∷ 4 ∷ 5 ∷ 6 ∷ 7 ∷ 8 ∷ 9 ∷ 10 ∷ 11 ∷ 12 ∷ 13 ∷ 14 ∷ 15 ∷ []) (tag c) →
+    (conv mtu mode interval threshold stream : ℕ) → c ≡ Open conv mtu mode interval threshold stream → ⊥
 unfolding isOneOf
-not-open c h conv mtu mode interval threshold stream e = not-one 1 (2 ∷ 3 ∷ 4 ∷ 5 ∷ 6 ∷ 7 ∷ 8 ∷ 9 ∷ 10 ∷ 11 ∷ 12 ∷ 13 ∷ 14 ∷ 15 ∷ []) 0 refl (rw e at h)
+not-open c h conv mtu mode interval threshold stream e =
+    not-one 1 (2 ∷ 3 ∷ 4 ∷ 5 ∷ 6 ∷ 7 ∷ 8 ∷ 9 ∷ 10 ∷ 11 ∷ 12 ∷ 13 ∷ 14 ∷ 15 ∷ []) 0 refl (rw e at h)
 
-pub apart : (c : Command) (conv mtu mode interval threshold stream : ℕ) → c ≡ Malformed → c ≡ Open conv mtu mode interval threshold stream → ⊥
+pub apart : (c : Command) (conv mtu mode interval threshold stream : ℕ) → c ≡ Malformed →
+    c ≡ Open conv mtu mode interval threshold stream → ⊥
 apart c conv mtu mode interval threshold stream e h = let z : _≡_ {A = ℕ} 0 1 = cc in omega arith
 
 pub both : (t : Bool) → t ≡ true → t ≡ false → ⊥
 both t e h = let z : _≡_ {A = ℕ} 0 1 = cc in omega arith
 
 -- one command has one set of settings
-pub same-settings : (c : Command) (conv mtu mode interval threshold stream conv′ mtu′ mode′ interval′ threshold′ stream′ : ℕ) → c ≡ Open conv mtu mode interval threshold stream → c ≡ Open conv′ mtu′ mode′ interval′ threshold′ stream′ → settingsOf conv mtu mode interval threshold stream ≡ settingsOf conv′ mtu′ mode′ interval′ threshold′ stream′
+pub same-settings : (c : Command) (conv mtu mode interval threshold stream conv′ mtu′ mode′ interval′ threshold′ stream′ : ℕ) →
+    c ≡ Open conv mtu mode interval threshold stream → c ≡ Open conv′ mtu′ mode′ interval′ threshold′ stream′ →
+    settingsOf conv mtu mode interval threshold stream ≡ settingsOf conv′ mtu′ mode′ interval′ threshold′ stream′
 same-settings c conv mtu mode interval threshold stream conv′ mtu′ mode′ interval′ threshold′ stream′ e h = cc

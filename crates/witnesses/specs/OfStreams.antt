@@ -1,4 +1,5 @@
--- The premises of demand 3 can be met in stream mode: two sends make two segments, which an update numbers; a third send fills neither of them. The first
+-- The premises of demand 3 can be met in stream mode: two sends make two segments, which an update numbers; a third send fills neither
+-- of them. The first
 -- receiver hears the second segment alone and reads nothing, the second one hears both and reads the first. Proved by computing.
 -- Assumes nothing.
 use mathlib.Core.Path.{_≡_, refl}

@@ -1,9 +1,12 @@
 -- `bench::poke::poke` meets its contract: a setting, a number, or what is behind them.
 -- Assumes nothing.
 use mathlib.Core.Logic.{inl, inr}
-use mathlib.Core.Path.{_≡_, refl}
+use mathlib.Core.Path.{_≡_, refl, ap, _∙_}
+use mathlib.Core.List.{_++_}
+use Prim.Native.Nat.{ℕ}
 use native.Mathlib.Omega.{arith}
 use borrow.Author.Needs.{needs}
+use Rattle.bench.specs.Fields.{settingsOf, behindSettings, stored}
 use Rattle.bench.specs.FieldLaws.{settings-first}
 use Rattle.bench.proofs.poke.poke.Statement.{statement}
 use Rattle.bench.proofs.poke.poke.Tie as tie
@@ -14,8 +17,16 @@ behind c (inr h) = c .schedule .ensures h
 
 first : tie.Need-returns
 first c h =
+    let a = c .before .before .args in
     let e = c .setting .ensures in
-    record { fields = rw (e .1) (settings-first _ _ _ _ _ (c .before .if1 .taken) (e .0)); counts = refl; lists = refl }
+    record {
+      fields =
+          ap (λ (n : ℕ). settingsOf (c .setting .result) ++ behindSettings (a .link) n) (e .1)
+          ∙ settings-first (a .link .settings) (c .setting .result) (behindSettings (a .link) (a .link .settings .stream)) (a .field)
+          (stored (a .field) (a .value)) (c .before .if1 .taken) (e .0);
+      counts = refl;
+      lists = refl;
+    }
 
 pub poke-spec : {M : Type 1} → statement M
 poke-spec =
