@@ -1,7 +1,7 @@
 -- The turns of the loops, at index i of the first n of an array.
 -- Assumes nothing.
 use mathlib.Core.Path.{_≡_, refl, sym, ap, _∙_}
-use mathlib.Core.Bool.{Bool, true, false, not, _&&_, _||_, and-true, and-assoc, false≢true}
+use mathlib.Core.Bool.{Bool, true, false, not, _&&_, _||_, and-true, and-false, and-assoc, false≢true}
 use mathlib.Core.List.{List, _∷_}
 use Prim.Native.Nat.{ℕ, _+_, _-_, _%_, _^_, _≤_, _<_, min}
 use native.Mathlib.Decide.{decLt}
@@ -78,16 +78,31 @@ module _ (mode una next : ℕ) (rs : List Record) (n i goal least : ℕ) (inv : 
   unfolding leastAfterAll
   least-end h = inv ∙ rw (view-end rs n i h)
 
--- one record, o being its offset
-module _ (mode una next least o limit : ℕ) (f : Bool) (r : Record) (eo : o ≡ minus (r .number) una) (el : limit ≡ minus next una) (ef : f ≡ recordFits mode r) where
-  abbrev tests : Bool
-  tests = (ltb 0 least || eqb (r .number) una) && leb least o && ltb o limit && f
+-- four tests of which one fails
+fails-in : (g a b f : Bool) → (a && b) ≡ false → (g && a && b && f) ≡ false
+fails-in true a b f e = rw e
+fails-in false a b f e = refl
 
-  pub least-fits : tests ≡ true → o + 1 ≡ leastAfter mode una next least r
-  least-fits t = rw (← eo, ← el, ← ef, t) refl
+-- one record, o being its offset; g: it may be the first
+module _ (mode una next least o limit : ℕ) (g : Bool) (r : Record) (eg : g ≡ (ltb 0 least || eqb (r .number) una)) (eo : o ≡ minus (r .number) una) (el : limit ≡ minus next una) where
+  abbrev rises : Bool
+  rises = leb least o && ltb o limit
 
-  pub least-unfit : tests ≡ false → 2 ^ 32 ≡ leastAfter mode una next least r
-  least-unfit t = rw (← eo, ← el, ← ef, t) refl
+  least-unfit : (f : Bool) → f ≡ recordFits mode r → (g && leb least o && ltb o limit && f) ≡ false → 2 ^ 32 ≡ leastAfter mode una next least r
+  least-unfit f ef t = rw (← eo, ← el, ← ef, ← eg, t) refl
+
+  pub least-apart : not rises ≡ true → 2 ^ 32 ≡ leastAfter mode una next least r
+  least-apart t = least-unfit (recordFits mode r) refl (fails-in g (leb least o) (ltb o limit) (recordFits mode r) (not-true rises t))
+
+  pub least-broken : (f : Bool) → f ≡ recordFits mode r → not f ≡ true → 2 ^ 32 ≡ leastAfter mode una next least r
+  least-broken f ef t = least-unfit f ef (rw (not-true f t) (and-false (g && leb least o && ltb o limit)))
+
+  module _ (f : Bool) (ef : f ≡ recordFits mode r) (h : not rises ≡ false) (k : not f ≡ false) where
+    pub least-late : g ≡ false → 2 ^ 32 ≡ leastAfter mode una next least r
+    least-late t = least-unfit f ef (rw t refl)
+
+    pub least-fits : g ≡ true → o + 1 ≡ leastAfter mode una next least r
+    least-fits t = rw (← eo, ← el, ← ef, ← eg, t, not-false rises h, not-false f k) refl
 
 -- the records looked at are those of the count
 pub looked-all : (rs : List Record) (n m : ℕ) → length rs ≡ 32 → m ≡ min n 32 → take m rs ≡ take n rs

@@ -39,9 +39,15 @@ pub fn next_least(least: usize, found: Record, settings: Settings, flight: Fligh
     let offset = serial::difference(found.number, flight.una);
     let far = offset as usize;
     let limit = serial::difference(flight.next, flight.una);
+    let rises = (least <= far) & (offset < limit);
+    if !rises {
+        return UNFIT;
+    }
+    if !record_fits(found, settings.mode) {
+        return UNFIT;
+    }
     let begins = (0 < least) | (found.number == flight.una);
-    let fits = begins & (least <= far) & (offset < limit) & record_fits(found, settings.mode);
-    if fits { far + 1 } else { UNFIT }
+    if begins { far + 1 } else { UNFIT }
 }
 
 // What the pass says: snd_una and snd_nxt are at most 32 apart, and with no record they are the same.
