@@ -115,17 +115,17 @@ SLICES = [Par('shr', 'u8'), Par('shr', 'u8'), Par('shr', 'R'), Par('shr', 'u32')
 
 
 def open_():
-    p = parts('(x₇ .now)', '(x₈ .now)', '(x₉ .now)', '(x₁₀ .now)')
-    lengths = 'lentLengths m (x₇ .now) (x₈ .now) (x₁₀ .now)'
-    new = 'settingsOf x₁ x₂ x₃ x₄ x₅ x₆'
+    p = parts('(x₈ .now)', '(x₉ .now)', '(x₁₀ .now)', '(x₁₁ .now)')
+    lengths = 'lentLengths m (x₈ .now) (x₉ .now) (x₁₁ .now)'
+    new = 'settingsOf x₁ x₂ x₃ x₄ x₅ x₆ x₇'
     link = 'linkOf (a .settings) (a .flight) (a .arrival) (a .clock)'
     made = f'open-promised c h {p} (a .answer) ({link} (arraysOf h)) m e-m (e-a (arraysOf h))'
     return dict(
         crate='ampferweg', name='ampferweg_open', result=CODE, about='Structs are copied and stored.',
-        pars=[Par('ref')] + [Par('val', U32) for _ in range(6)] + [Par('shr', 'u8'), Par('shr', 'u8'), Par('shr', 'R'), Par('shr', 'u32')],
+        pars=[Par('ref')] + [Par('val', U32) for _ in range(7)] + [Par('shr', 'u8'), Par('shr', 'u8'), Par('shr', 'R'), Par('shr', 'u32')],
         said=f'Gives answerCode (λ a. OpenPromise ({new}) h {p} a k {p}) r',
         calls=[
-            Call('settings-of', 'c', f'c ≡ {new}'), Call('table-len', 'm', 'm ≡ length (x₉ .now)'),
+            Call('settings-of', 'c', f'c ≡ {new}'), Call('table-len', 'm', 'm ≡ length (x₁₀ .now)'),
             Call('core', 'a', f'(x : Arrays) → OpenCore (opensWith c ({lengths})) (linkOf (h .settings) (h .flight) (h .arrival) (h .clock) x) (a .answer) ({link} x)'),
             Call('opened-settings', 'ks', 'ks ≡ a .settings'), Call('opened-flight', 'kf', 'kf ≡ a .flight'),
             Call('opened-arrival', 'ka', 'ka ≡ a .arrival'), Call('opened-clock', 'kc', 'kc ≡ a .clock'),

@@ -24,17 +24,18 @@ pub extern "C" fn ampferweg_open(
     interval: u32,
     threshold: u32,
     stream: u32,
+    congestion: u32,
     send_pool: &[u8],
     receive_pool: &[u8],
     table: &[Record],
     acks: &[u32],
 ) -> i32
-    ensures { λ r. ⌜ Gives answerCode (λ a. OpenPromise (settingsOf conv mtu mode interval threshold stream) (now (link .entry))
+    ensures { λ r. ⌜ Gives answerCode (λ a. OpenPromise (settingsOf conv mtu mode interval threshold stream congestion) (now (link .entry))
         (partsOf (now («send_pool» .entry)) (now («receive_pool» .entry)) (now (table .entry)) (now (acks .entry)))
         a (now (link .exit))
         (partsOf (now («send_pool» .entry)) (now («receive_pool» .entry)) (now (table .entry)) (now (acks .entry)))) r ⌝ }
 {
-    let new = codes::settings(conv, mtu, mode, interval, threshold, stream);
+    let new = codes::settings(conv, mtu, mode, interval, threshold, stream, congestion);
     let settings = link.settings;
     let flight = link.flight;
     let arrival = link.arrival;

@@ -13,12 +13,13 @@ pub extern "C" fn ampferweg_settings_write(
     interval: u32,
     threshold: u32,
     stream: u32,
+    congestion: u32,
     file: &mut [u8],
 ) -> i32
     ensures { λ r. ⌜ Gives writingCode
-        (λ a. Writes (settingsOf conv mtu mode interval threshold stream) (now (file .entry)) a (now (file .exit))) r ⌝ }
+        (λ a. Writes (settingsOf conv mtu mode interval threshold stream congestion) (now (file .entry)) a (now (file .exit))) r ⌝ }
 {
-    settings_calls::write(conv, mtu, mode, interval, threshold, stream, file)
+    settings_calls::write(conv, mtu, mode, interval, threshold, stream, congestion, file)
 }
 
 // Reads a file: 0, and its settings are stored; or the refusal, and nothing is.

@@ -51,24 +51,18 @@ abbrev pub settingsOf : Settings → List ℕ
 settingsOf s = s .conv ∷ s .mtu ∷ s .mode ∷ s .interval ∷ s .threshold ∷ []
 
 -- 0 to 4 the settings 5 snd_una 6 snd_nxt 7 rcv_nxt 8 current 9 peer_window 10 srtt 11 rttvar 12 rto 13 probe_wait 14 probe_due
--- 15 ask 16 tell 17 dead 18 acks 19 stream 21 next_flush 22 updated; 20 is none
-abbrev pub behindSettings : Link → ℕ → List ℕ
-behindSettings l stream =
-    l .flight .una ∷ l .flight .next ∷ l .arrival .expected ∷ l .clock .current ∷ l .flight .window
+-- 15 ask 16 tell 17 dead 18 acks 19 stream 20 congestion 21 next_flush 22 updated 23 cwnd 24 ssthresh 25 incr
+abbrev pub fieldsOf : Link → List ℕ
+fieldsOf l =
+    settingsOf (l .settings)
+    ++ l .flight .una ∷ l .flight .next ∷ l .arrival .expected ∷ l .clock .current ∷ l .flight .window
     ∷ l .flight .rtt .smoothed ∷ l .flight .rtt .variation ∷ l .flight .rtt .timeout
     ∷ l .clock .probe .wait ∷ l .clock .probe .due ∷ l .clock .ask ∷ l .arrival .tell ∷ l .clock .dead ∷ l .arrival .acks
-    ∷ stream ∷ 0 ∷ l .clock .«next_flush» ∷ l .clock .updated ∷ []
-
-abbrev pub fieldsOf : Link → List ℕ
-fieldsOf l = settingsOf (l .settings) ++ behindSettings l (l .settings .stream)
-
--- 21 and 22
-pub record OfSchedule (field : ℕ) : Type 0 where
-  pub least : 21 ≤ field
-  pub most : field ≤ 22
+    ∷ l .settings .stream ∷ l .settings .congestion ∷ l .clock .«next_flush» ∷ l .clock .updated
+    ∷ l .flight .congestion .window ∷ l .flight .congestion .threshold ∷ l .flight .congestion .allowance ∷ []
 
 abbrev pub IsField : ℕ → Type 0
-IsField field = (field ≤ 19) ⊎ OfSchedule field
+IsField field = field ≤ 25
 
 -- what each field stores
 abbrev pub widths : List (ℕ → ℕ)
@@ -77,7 +71,7 @@ widths =
     ∷ whole ∷ whole ∷ whole ∷ whole ∷ low16
     ∷ whole ∷ whole ∷ whole
     ∷ whole ∷ whole ∷ flag ∷ flag ∷ flag ∷ whole
-    ∷ low8 ∷ whole ∷ whole ∷ flag ∷ []
+    ∷ low8 ∷ low8 ∷ whole ∷ flag ∷ whole ∷ whole ∷ whole ∷ []
 
 abbrev pub stored : ℕ → ℕ → ℕ
 stored field value = getD widths field whole value

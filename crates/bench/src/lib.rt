@@ -1,6 +1,7 @@
 // The state of the bench: a link, its table of records, and how much of each part it is lent.
 pub mod poke;
 
+use congestion::Congestion;
 use control::Arrival;
 use control::Clock;
 use control::Flight;
@@ -47,17 +48,24 @@ fn blank() -> Link {
         mode: 0,
         threshold: 0,
         stream: 0,
+        congestion: 0,
     };
     let rtt = RoundTrip {
         smoothed: 0,
         variation: 0,
         timeout: 0,
     };
+    let congestion = Congestion {
+        window: 0,
+        threshold: 0,
+        allowance: 0,
+    };
     let flight = Flight {
         una: 0,
         next: 0,
         rtt,
         window: 0,
+        congestion,
         queued: 0,
         outstanding: 0,
     };

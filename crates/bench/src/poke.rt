@@ -7,8 +7,7 @@ ghost use Prim.Native.Nat.{_%_, _≤_, _<_};
 ghost use lib.Dec.{ltb};
 ghost use lib.ListN.{getD, set};
 ghost use Rattle.words.specs.Words.{unpack};
-ghost use Rattle.bench.specs.Fields.{OfSchedule, IsField};
-ghost use Rattle.bench.specs.Fields.{flag, settingsOf, stored, Poked, heldFields, storedIn, HasField, holds, Reworded, HeldChanged};
+ghost use Rattle.bench.specs.Fields.{flag, settingsOf, stored, IsField, Poked, heldFields, storedIn, HasField, holds, Reworded, HeldChanged};
 
 // The low 16 and 8 bits of a value.
 fn narrow(value: u32) -> u16
@@ -29,10 +28,11 @@ fn flag(value: u32) -> u8
     if value == 0 { 0 } else { 1 }
 }
 
-// Fields 0 to 4: conv, mtu, mode, interval, threshold. Stream, which is field 19, stays.
+// Fields 0 to 4: conv, mtu, mode, interval, threshold. Stream and congestion, fields 19 and 20, stay.
 fn setting(settings: Settings, field: u32, value: u32) -> Settings
     requires { ⌜ field < 5 ⌝ }
-    ensures { λ r. ⌜ (settingsOf r ≡ set (settingsOf settings) field (stored field value)) × (r .stream ≡ settings .stream) ⌝ }
+    ensures { λ r. ⌜ (settingsOf r ≡ set (settingsOf settings) field (stored field value)) × (r .stream ≡ settings .stream)
+        × (r .congestion ≡ settings .congestion) ⌝ }
 {
     let mut next = settings;
     match field {
@@ -84,26 +84,23 @@ fn wish(link: Link, field: u32, value: u32) -> Link
     next
 }
 
-// Fields 21 and 22: next_flush, updated.
-fn schedule(link: Link, field: u32, value: u32) -> Link
-    ensures { λ r. ⌜ (OfSchedule field → Poked link field value r) ⌝ }
+// Fields 19 to 25: stream, congestion, next_flush, updated, cwnd, ssthresh, incr.
+fn later(link: Link, field: u32, value: u32) -> Link
+    requires { ⌜ 19 ≤ field ⌝ }
+    ensures { λ r. ⌜ (field ≤ 25 → Poked link field value r) ⌝ }
 {
+    let small = byte(value);
     let set = flag(value);
     let mut next = link;
     match field {
+        19 => next.settings.stream = small,
+        20 => next.settings.congestion = small,
         21 => next.clock.next_flush = value,
-        _ => next.clock.updated = set,
+        22 => next.clock.updated = set,
+        23 => next.flight.congestion.window = value,
+        24 => next.flight.congestion.threshold = value,
+        _ => next.flight.congestion.allowance = value,
     }
-    next
-}
-
-// Field 19: stream.
-fn stream(link: Link, value: u32) -> Link
-    ensures { λ r. ⌜ Poked link 19 value r ⌝ }
-{
-    let set = byte(value);
-    let mut next = link;
-    next.settings.stream = set;
     next
 }
 
@@ -123,10 +120,7 @@ pub fn poke(link: Link, field: u32, value: u32) -> Link
     if field < 19 {
         return wish(link, field, value);
     }
-    if field == 19 {
-        return stream(link, value);
-    }
-    schedule(link, field, value)
+    later(link, field, value)
 }
 
 // A held segment with another slot, length or fragment.

@@ -54,8 +54,8 @@ timeStored (time.At t) was = t
 timeStored (time.Refused r) was = was
 
 -- settings from plain numbers: one that is beyond its width becomes the largest of that width, which is out of range too
-abbrev pub settingsOf : ℕ → ℕ → ℕ → ℕ → ℕ → ℕ → Settings
-settingsOf conv mtu mode interval threshold stream =
+abbrev pub settingsOf : ℕ → ℕ → ℕ → ℕ → ℕ → ℕ → ℕ → Settings
+settingsOf conv mtu mode interval threshold stream congestion =
     record {
       conv = conv;
       mtu = min mtu 65535;
@@ -63,4 +63,5 @@ settingsOf conv mtu mode interval threshold stream =
       mode = min mode 255;
       threshold = min threshold 255;
       stream = min stream 255;
+      congestion = min congestion 255;
     }

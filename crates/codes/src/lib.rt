@@ -114,8 +114,9 @@ pub fn settings(
     interval: u32,
     threshold: u32,
     stream: u32,
+    congestion: u32,
 ) -> Settings
-    ensures { λ r. ⌜ r ≡ settingsOf conv mtu mode interval threshold stream ⌝ }
+    ensures { λ r. ⌜ r ≡ settingsOf conv mtu mode interval threshold stream congestion ⌝ }
 {
     Protocol::settings(
         conv,
@@ -124,5 +125,6 @@ pub fn settings(
         narrow16(interval),
         narrow8(threshold),
         narrow8(stream),
+        narrow8(congestion),
     )
 }

@@ -9,7 +9,6 @@ use native.Mathlib.Omega.{arith}
 use lib.Dec.{eqb}
 use lib.ListN.{take, drop, take-append-drop}
 use Rattle.protocol.specs.Protocol.{sendSlots, ack}
-use Rattle.protocol.specs.Ranges.{inRange}
 use Rattle.protocol.specs.Serial.{plus, isBefore}
 use Rattle.protocol.specs.declared.Settings.{Settings}
 use Rattle.wire.specs.declared.Header.{Header}
@@ -22,12 +21,12 @@ use Rattle.lists.specs.declared.Acknowledges.{Acknowledges}
 use Rattle.lists.specs.declared.Acknowledges.the-variants as by
 use Rattle.session.specs.State.{State, Sending, sendHeld, slots, withWindow, withOutstanding}
 use Rattle.session.specs.Slots.{occurs}
-use Rattle.session.specs.Valid.{valid, sendingValid, receivingValid, probeFits}
-use Rattle.session.specs.Decides.{All, and-parts}
+use Rattle.session.specs.Valid.{valid}
+use Rattle.session.specs.Decides.{All}
 use Rattle.session.specs.AllLaws.{all-mapped}
 use Rattle.session.specs.Once.{Distinct, once-distinct, distinct-once}
-use Rattle.session.specs.SendingValid.{sending-decides}
-use Rattle.session.specs.Flushing.{numbered, numberedCount, withNumbered, sentAfter, flushing}
+use Rattle.session.specs.IsValid.{valid-decides}
+use Rattle.session.specs.Flushing.{numbered, windowOf, numberedCount, withNumbered, sentAfter, flushing}
 use Rattle.session.specs.Input.{acknowledged, sampledBy, heardBySending, allBySending, furthest, skipped, skippedByAll, ackNumbers, applied}
 use Rattle.records.specs.TableLaws.{AllBelow}
 use Rattle.from_cores.proofs.Scattered.{SlotsFit, slotsOf}
@@ -100,12 +99,8 @@ fit l f = record {
 
 -- those of a valid state
 held-fit : (s : State) → valid s ≡ true → Fit (slots (sendHeld (s .sending)))
-unfolding valid
 held-fit s v =
-    let c = s .settings in
-    let a = and-parts (inRange c && sendingValid c (s .sending) && receivingValid c (s .receiving)) (probeFits (s .probe)) v .0 in
-    let b = and-parts (inRange c && sendingValid c (s .sending)) (receivingValid c (s .receiving)) a .0 in
-    let i = sending-decides c (s .sending) .holds (and-parts (inRange c) (sendingValid c (s .sending)) b .1) in
+    let i = valid-decides s .holds v .sending in
     record {
       distinct = once-distinct (slots (sendHeld (s .sending))) (i .slots-once);
       below = all-mapped (λ (n : ℕ). n < sendSlots) (λ (h : Held). h .slot) (sendHeld (s .sending)) (i .slots-below);
@@ -151,7 +146,7 @@ pub flush-slots : (s : State) (t : ℕ) (pool : List ℕ) → valid s ≡ true �
 unfolding flushing
 flush-slots s t pool v =
     let d = s .sending in
-    let k = numberedCount d in
+    let k = numberedCount (windowOf s) d in
     let some : Some (sentSlots (withNumbered d k)) (slots (sendHeld d)) = rw (← flushed-slots d k) (some-first (sentSlots (withNumbered d k)) (slots (drop k (d .queued)))) in
     let same = same-slots (sentAfter (s .settings) (d .roundTrip .timeout) t) (λ x. refl) (withNumbered d k) in
     rw same (fit (sentSlots (withNumbered d k)) (fit-some some (held-fit s v)))

@@ -79,28 +79,28 @@ abbrev pub flight-at : Share → ℕ → ℕ → Flight → Fml
 flight-at s b o x = partAt flight-row.the-row s x b (o + 16)
 
 abbrev pub arrival-at : Share → ℕ → ℕ → Arrival → Fml
-arrival-at s b o x = partAt arrival-row.the-row s x b (o + 56)
+arrival-at s b o x = partAt arrival-row.the-row s x b (o + 72)
 
 abbrev pub clock-at : Share → ℕ → ℕ → Clock → Fml
-clock-at s b o x = partAt clock-row.the-row s x b (o + 88)
+clock-at s b o x = partAt clock-row.the-row s x b (o + 104)
 
 abbrev pub queued-at : Share → ℕ → ℕ → List ℕ → Fml
-queued-at s b o x = partAt (Array u32 128) s x b (o + 108)
+queued-at s b o x = partAt (Array u32 128) s x b (o + 124)
 
 abbrev pub outstanding-at : Share → ℕ → ℕ → List ℕ → Fml
-outstanding-at s b o x = partAt (Array u32 32) s x b (o + 620)
+outstanding-at s b o x = partAt (Array u32 32) s x b (o + 636)
 
 abbrev pub transmissions-at : Share → ℕ → ℕ → List ℕ → Fml
-transmissions-at s b o x = partAt (Array u8 32) s x b (o + 748)
+transmissions-at s b o x = partAt (Array u8 32) s x b (o + 764)
 
 abbrev pub ready-at : Share → ℕ → ℕ → List ℕ → Fml
-ready-at s b o x = partAt (Array u32 128) s x b (o + 780)
+ready-at s b o x = partAt (Array u32 128) s x b (o + 796)
 
 abbrev pub waiting-at : Share → ℕ → ℕ → List ℕ → Fml
-waiting-at s b o x = partAt (Array u32 128) s x b (o + 1292)
+waiting-at s b o x = partAt (Array u32 128) s x b (o + 1308)
 
 abbrev pub waiting-numbers-at : Share → ℕ → ℕ → List ℕ → Fml
-waiting-numbers-at s b o x = partAt (Array u32 128) s x b (o + 1804)
+waiting-numbers-at s b o x = partAt (Array u32 128) s x b (o + 1820)
 
 -- a struct within the block, at its tuple and at its record
 module _ (T : Declared) {M : Type 1} (𝓤 : URA M) (H : Heap 𝓤) (A : Atoms 𝓤) (s : Share) (x : T .D) (b o : ℕ) where
@@ -118,8 +118,8 @@ module _ (b o : ℕ) (γ : GName) where
     opens-link t z h = step (λ s. opens-fields (B.the-type .name) ms (B.the-type .D) (B.the-type .to) (B.the-type .to-one) b o γ t z (LL.lawfuls 𝓤 H A W (B.the-type .parts) B′.the-laws) h $
         fsplit t $ use1 W (‵ (settings-at fullShare b o (h .settings))) (as-record settings-row.the-type 𝓤 H A fullShare (h .settings) b (o + 0)) $ move t (1 ∷ []) $
         fsplit t $ use1 W (‵ (flight-at fullShare b o (h .flight))) (as-record flight-row.the-type 𝓤 H A fullShare (h .flight) b (o + 16)) $ move t (1 ∷ []) $
-        fsplit t $ use1 W (‵ (arrival-at fullShare b o (h .arrival))) (as-record arrival-row.the-type 𝓤 H A fullShare (h .arrival) b (o + 56)) $ move t (1 ∷ []) $
-        fsplit t $ use1 W (‵ (clock-at fullShare b o (h .clock))) (as-record clock-row.the-type 𝓤 H A fullShare (h .clock) b (o + 88)) $ move t (1 ∷ []) $
+        fsplit t $ use1 W (‵ (arrival-at fullShare b o (h .arrival))) (as-record arrival-row.the-type 𝓤 H A fullShare (h .arrival) b (o + 72)) $ move t (1 ∷ []) $
+        fsplit t $ use1 W (‵ (clock-at fullShare b o (h .clock))) (as-record clock-row.the-type 𝓤 H A fullShare (h .clock) b (o + 104)) $ move t (1 ∷ []) $
         fsplit t $ rewrite t 0 (λ (xs : List ℕ). ‵ (queued-at fullShare b o xs)) (map-id (h .queued)) refl $ move t (1 ∷ []) $
         fsplit t $ rewrite t 0 (λ (xs : List ℕ). ‵ (outstanding-at fullShare b o xs)) (map-id (h .outstanding)) refl $ move t (1 ∷ []) $
         fsplit t $ rewrite t 0 (λ (xs : List ℕ). ‵ (transmissions-at fullShare b o xs)) (map-id (h .transmissions)) refl $ move t (1 ∷ []) $
@@ -136,8 +136,8 @@ module _ (b o : ℕ) (γ : GName) where
         move t (7 ∷ 0 ∷ []) $ rewrite t 0 (λ (xs : List ℕ). ‵ (transmissions-at fullShare b o xs)) (sym (map-id (k .transmissions))) refl $ fjoin t $
         move t (6 ∷ 0 ∷ []) $ rewrite t 0 (λ (xs : List ℕ). ‵ (outstanding-at fullShare b o xs)) (sym (map-id (k .outstanding))) refl $ fjoin t $
         move t (5 ∷ 0 ∷ []) $ rewrite t 0 (λ (xs : List ℕ). ‵ (queued-at fullShare b o xs)) (sym (map-id (k .queued))) refl $ fjoin t $
-        move t (4 ∷ 0 ∷ []) $ use1 W (‵ (partAt (Struct (shape clock-row.the-type)) fullShare (clock-row.the-type .to (k .clock)) b (o + 88))) (as-tuple clock-row.the-type 𝓤 H A fullShare (k .clock) b (o + 88)) $ fjoin t $
-        move t (3 ∷ 0 ∷ []) $ use1 W (‵ (partAt (Struct (shape arrival-row.the-type)) fullShare (arrival-row.the-type .to (k .arrival)) b (o + 56))) (as-tuple arrival-row.the-type 𝓤 H A fullShare (k .arrival) b (o + 56)) $ fjoin t $
+        move t (4 ∷ 0 ∷ []) $ use1 W (‵ (partAt (Struct (shape clock-row.the-type)) fullShare (clock-row.the-type .to (k .clock)) b (o + 104))) (as-tuple clock-row.the-type 𝓤 H A fullShare (k .clock) b (o + 104)) $ fjoin t $
+        move t (3 ∷ 0 ∷ []) $ use1 W (‵ (partAt (Struct (shape arrival-row.the-type)) fullShare (arrival-row.the-type .to (k .arrival)) b (o + 72))) (as-tuple arrival-row.the-type 𝓤 H A fullShare (k .arrival) b (o + 72)) $ fjoin t $
         move t (2 ∷ 0 ∷ []) $ use1 W (‵ (partAt (Struct (shape flight-row.the-type)) fullShare (flight-row.the-type .to (k .flight)) b (o + 16))) (as-tuple flight-row.the-type 𝓤 H A fullShare (k .flight) b (o + 16)) $ fjoin t $
         move t (1 ∷ 0 ∷ []) $ use1 W (‵ (partAt (Struct (shape settings-row.the-type)) fullShare (settings-row.the-type .to (k .settings)) b (o + 0))) (as-tuple settings-row.the-type 𝓤 H A fullShare (k .settings) b (o + 0)) $ fjoin t $
         closes-fields (B.the-type .name) ms (B.the-type .D) (B.the-type .to) (B.the-type .to-one) b o γ t z h k $ s)
@@ -147,8 +147,8 @@ module _ (b o : ℕ) (γ : GName) where
     looks-link t z h k = looks-fields (B.the-type .name) ms (B.the-type .D) (B.the-type .to) (B.the-type .to-one) b o γ t z (LL.lawfuls 𝓤 H A W (B.the-type .parts) B′.the-laws) (LL.vals B.the-type B′.the-laws) (LL.tells B.the-type B′.the-laws) (LL.copy B.the-type B′.the-copy 𝓤 H A W) h (λ s.
         fsplit t $ use1 W (‵ (settings-at s b o (h .settings))) (as-record settings-row.the-type 𝓤 H A s (h .settings) b (o + 0)) $ move t (1 ∷ []) $
         fsplit t $ use1 W (‵ (flight-at s b o (h .flight))) (as-record flight-row.the-type 𝓤 H A s (h .flight) b (o + 16)) $ move t (1 ∷ []) $
-        fsplit t $ use1 W (‵ (arrival-at s b o (h .arrival))) (as-record arrival-row.the-type 𝓤 H A s (h .arrival) b (o + 56)) $ move t (1 ∷ []) $
-        fsplit t $ use1 W (‵ (clock-at s b o (h .clock))) (as-record clock-row.the-type 𝓤 H A s (h .clock) b (o + 88)) $ move t (1 ∷ []) $
+        fsplit t $ use1 W (‵ (arrival-at s b o (h .arrival))) (as-record arrival-row.the-type 𝓤 H A s (h .arrival) b (o + 72)) $ move t (1 ∷ []) $
+        fsplit t $ use1 W (‵ (clock-at s b o (h .clock))) (as-record clock-row.the-type 𝓤 H A s (h .clock) b (o + 104)) $ move t (1 ∷ []) $
         fsplit t $ rewrite t 0 (λ (xs : List ℕ). ‵ (queued-at s b o xs)) (map-id (h .queued)) refl $ move t (1 ∷ []) $
         fsplit t $ rewrite t 0 (λ (xs : List ℕ). ‵ (outstanding-at s b o xs)) (map-id (h .outstanding)) refl $ move t (1 ∷ []) $
         fsplit t $ rewrite t 0 (λ (xs : List ℕ). ‵ (transmissions-at s b o xs)) (map-id (h .transmissions)) refl $ move t (1 ∷ []) $
@@ -165,8 +165,8 @@ module _ (b o : ℕ) (γ : GName) where
         move t (7 ∷ 0 ∷ []) $ rewrite t 0 (λ (xs : List ℕ). ‵ (transmissions-at s b o xs)) (sym (map-id (h .transmissions))) refl $ fjoin t $
         move t (6 ∷ 0 ∷ []) $ rewrite t 0 (λ (xs : List ℕ). ‵ (outstanding-at s b o xs)) (sym (map-id (h .outstanding))) refl $ fjoin t $
         move t (5 ∷ 0 ∷ []) $ rewrite t 0 (λ (xs : List ℕ). ‵ (queued-at s b o xs)) (sym (map-id (h .queued))) refl $ fjoin t $
-        move t (4 ∷ 0 ∷ []) $ use1 W (‵ (partAt (Struct (shape clock-row.the-type)) s (clock-row.the-type .to (h .clock)) b (o + 88))) (as-tuple clock-row.the-type 𝓤 H A s (h .clock) b (o + 88)) $ fjoin t $
-        move t (3 ∷ 0 ∷ []) $ use1 W (‵ (partAt (Struct (shape arrival-row.the-type)) s (arrival-row.the-type .to (h .arrival)) b (o + 56))) (as-tuple arrival-row.the-type 𝓤 H A s (h .arrival) b (o + 56)) $ fjoin t $
+        move t (4 ∷ 0 ∷ []) $ use1 W (‵ (partAt (Struct (shape clock-row.the-type)) s (clock-row.the-type .to (h .clock)) b (o + 104))) (as-tuple clock-row.the-type 𝓤 H A s (h .clock) b (o + 104)) $ fjoin t $
+        move t (3 ∷ 0 ∷ []) $ use1 W (‵ (partAt (Struct (shape arrival-row.the-type)) s (arrival-row.the-type .to (h .arrival)) b (o + 72))) (as-tuple arrival-row.the-type 𝓤 H A s (h .arrival) b (o + 72)) $ fjoin t $
         move t (2 ∷ 0 ∷ []) $ use1 W (‵ (partAt (Struct (shape flight-row.the-type)) s (flight-row.the-type .to (h .flight)) b (o + 16))) (as-tuple flight-row.the-type 𝓤 H A s (h .flight) b (o + 16)) $ fjoin t $
         move t (1 ∷ 0 ∷ []) $ use1 W (‵ (partAt (Struct (shape settings-row.the-type)) s (settings-row.the-type .to (h .settings)) b (o + 0))) (as-tuple settings-row.the-type 𝓤 H A s (h .settings) b (o + 0)) $ fjoin t $
         shuts-fields (B.the-type .name) ms (B.the-type .D) (B.the-type .to) (B.the-type .to-one) b o γ t z s h $ k)

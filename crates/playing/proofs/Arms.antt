@@ -30,7 +30,7 @@ not-one k ks n e h = let t = one-of k ks n h in let z : _≡_ {A = ℕ} 0 1 = cc
 -- the last arm of `tool`, `on_link`, `unopened` and `play`
 pub no-tool : (c : Command) (b : Bench) (text : List ℕ) (x : Played) (text′ : List ℕ) → OneOf (0 ∷ 1 ∷ 2 ∷ 3 ∷ 4 ∷ 5 ∷ 6 ∷ 7 ∷ 8 ∷ 16 ∷ []) (tag c) → NoCommand b text x text′ → PlaysTool c b text x text′
 unfolding isOneOf
-no-tool (Open conv mtu mode interval threshold stream) b text x text′ h p = p
+no-tool (Open conv mtu mode interval threshold stream congestion) b text x text′ h p = p
 no-tool (Send n) b text x text′ h p = p
 no-tool (Input n) b text x text′ h p = p
 no-tool (Flush t) b text x text′ h p = p
@@ -50,7 +50,7 @@ no-tool Malformed b text x text′ h p = p
 
 pub no-call : (c : Command) (b : Bench) (s r a bytes text : List ℕ) (x : Played) (s′ r′ a′ text′ : List ℕ) → OneOf (0 ∷ 9 ∷ 10 ∷ 11 ∷ 12 ∷ 13 ∷ 14 ∷ 15 ∷ 16 ∷ []) (tag c) → Untouched s r a s′ r′ a′ → PlaysTool c b text x text′ → PlaysOnLink c b s r a bytes text x s′ r′ a′ text′
 unfolding isOneOf
-no-call (Open conv mtu mode interval threshold stream) b s r a bytes text x s′ r′ a′ text′ h u p = (u, p)
+no-call (Open conv mtu mode interval threshold stream congestion) b s r a bytes text x s′ r′ a′ text′ h u p = (u, p)
 no-call (Send n) b s r a bytes text x s′ r′ a′ text′ h u p = absurd (not-one 0 (9 ∷ 10 ∷ 11 ∷ 12 ∷ 13 ∷ 14 ∷ 15 ∷ 16 ∷ []) 1 refl h)
 no-call (Input n) b s r a bytes text x s′ r′ a′ text′ h u p = absurd (not-one 0 (9 ∷ 10 ∷ 11 ∷ 12 ∷ 13 ∷ 14 ∷ 15 ∷ 16 ∷ []) 2 refl h)
 no-call (Flush t) b s r a bytes text x s′ r′ a′ text′ h u p = absurd (not-one 0 (9 ∷ 10 ∷ 11 ∷ 12 ∷ 13 ∷ 14 ∷ 15 ∷ 16 ∷ []) 3 refl h)
@@ -76,21 +76,16 @@ pub not-malformed : (c : Command) → OneOf (1 ∷ 2 ∷ 3 ∷ 4 ∷ 5 ∷ 6 ∷
 unfolding isOneOf
 not-malformed c h e = not-one 1 (2 ∷ 3 ∷ 4 ∷ 5 ∷ 6 ∷ 7 ∷ 8 ∷ 9 ∷ 10 ∷ 11 ∷ 12 ∷ 13 ∷ 14 ∷ 15 ∷ []) 16 refl (rw e at h)
 
-pub not-open : (c : Command) → OneOf (1 ∷ 2 ∷ 3 ∷ 4 ∷ 5 ∷ 6 ∷ 7 ∷ 8 ∷ 9 ∷ 10 ∷ 11 ∷ 12 ∷ 13 ∷ 14 ∷ 15 ∷ []) (tag c) →
-    (conv mtu mode interval threshold stream : ℕ) → c ≡ Open conv mtu mode interval threshold stream → ⊥
+pub not-open : (c : Command) → OneOf (1 ∷ 2 ∷ 3 ∷ 4 ∷ 5 ∷ 6 ∷ 7 ∷ 8 ∷ 9 ∷ 10 ∷ 11 ∷ 12 ∷ 13 ∷ 14 ∷ 15 ∷ []) (tag c) → (conv mtu mode interval threshold stream congestion : ℕ) → c ≡ Open conv mtu mode interval threshold stream congestion → ⊥
 unfolding isOneOf
-not-open c h conv mtu mode interval threshold stream e =
-    not-one 1 (2 ∷ 3 ∷ 4 ∷ 5 ∷ 6 ∷ 7 ∷ 8 ∷ 9 ∷ 10 ∷ 11 ∷ 12 ∷ 13 ∷ 14 ∷ 15 ∷ []) 0 refl (rw e at h)
+not-open c h conv mtu mode interval threshold stream congestion e = not-one 1 (2 ∷ 3 ∷ 4 ∷ 5 ∷ 6 ∷ 7 ∷ 8 ∷ 9 ∷ 10 ∷ 11 ∷ 12 ∷ 13 ∷ 14 ∷ 15 ∷ []) 0 refl (rw e at h)
 
-pub apart : (c : Command) (conv mtu mode interval threshold stream : ℕ) → c ≡ Malformed →
-    c ≡ Open conv mtu mode interval threshold stream → ⊥
-apart c conv mtu mode interval threshold stream e h = let z : _≡_ {A = ℕ} 0 1 = cc in omega arith
+pub apart : (c : Command) (conv mtu mode interval threshold stream congestion : ℕ) → c ≡ Malformed → c ≡ Open conv mtu mode interval threshold stream congestion → ⊥
+apart c conv mtu mode interval threshold stream congestion e h = let z : _≡_ {A = ℕ} 0 1 = cc in omega arith
 
 pub both : (t : Bool) → t ≡ true → t ≡ false → ⊥
 both t e h = let z : _≡_ {A = ℕ} 0 1 = cc in omega arith
 
 -- one command has one set of settings
-pub same-settings : (c : Command) (conv mtu mode interval threshold stream conv′ mtu′ mode′ interval′ threshold′ stream′ : ℕ) →
-    c ≡ Open conv mtu mode interval threshold stream → c ≡ Open conv′ mtu′ mode′ interval′ threshold′ stream′ →
-    settingsOf conv mtu mode interval threshold stream ≡ settingsOf conv′ mtu′ mode′ interval′ threshold′ stream′
-same-settings c conv mtu mode interval threshold stream conv′ mtu′ mode′ interval′ threshold′ stream′ e h = cc
+pub same-settings : (c : Command) (conv mtu mode interval threshold stream congestion conv′ mtu′ mode′ interval′ threshold′ stream′ congestion′ : ℕ) → c ≡ Open conv mtu mode interval threshold stream congestion → c ≡ Open conv′ mtu′ mode′ interval′ threshold′ stream′ congestion′ → settingsOf conv mtu mode interval threshold stream congestion ≡ settingsOf conv′ mtu′ mode′ interval′ threshold′ stream′ congestion′
+same-settings c conv mtu mode interval threshold stream congestion conv′ mtu′ mode′ interval′ threshold′ stream′ congestion′ e h = cc

@@ -157,7 +157,7 @@ PlaysTool (command.Lend part count) b = PlaysLend part count b
 PlaysTool (command.Poke field value) b = PlaysPoke field value b
 PlaysTool (command.Hold list index field value) b = PlaysHold list index field value b
 PlaysTool (command.Rec slot number due timeout skips) b = Ok (after b (b .link) (set (b .table) slot (record { number = number; due = due; timeout = timeout; skips = skips })))
-PlaysTool (command.Open conv mtu mode interval threshold stream) b = NoCommand b
+PlaysTool (command.Open conv mtu mode interval threshold stream congestion) b = NoCommand b
 PlaysTool (command.Send n) b = NoCommand b
 PlaysTool (command.Input n) b = NoCommand b
 PlaysTool (command.Flush t) b = NoCommand b
@@ -198,18 +198,17 @@ PlaysOnLink (command.Lend part count) b s r a bytes text x s′ r′ a′ text�
 PlaysOnLink (command.Poke field value) b s r a bytes text x s′ r′ a′ text′ = Untouched s r a s′ r′ a′ × PlaysTool (command.Poke field value) b text x text′
 PlaysOnLink (command.Hold list index field value) b s r a bytes text x s′ r′ a′ text′ = Untouched s r a s′ r′ a′ × PlaysTool (command.Hold list index field value) b text x text′
 PlaysOnLink (command.Rec slot number due timeout skips) b s r a bytes text x s′ r′ a′ text′ = Untouched s r a s′ r′ a′ × PlaysTool (command.Rec slot number due timeout skips) b text x text′
-PlaysOnLink (command.Open conv mtu mode interval threshold stream) b s r a bytes text x s′ r′ a′ text′ =
-    Untouched s r a s′ r′ a′ × NoCommand b text x text′
+PlaysOnLink (command.Open conv mtu mode interval threshold stream congestion) b s r a bytes text x s′ r′ a′ text′ = Untouched s r a s′ r′ a′ × NoCommand b text x text′
 PlaysOnLink command.Malformed b s r a bytes text x s′ r′ a′ text′ = Untouched s r a s′ r′ a′ × NoCommand b text x text′
 
 -- neither `open` nor malformed
 pub record IsLater (c : Command) : Type 0 where
   pub notMalformed : c ≡ command.Malformed → ⊥
-  pub notOpen : (conv mtu mode interval threshold stream : ℕ) → c ≡ command.Open conv mtu mode interval threshold stream → ⊥
+  pub notOpen : (conv mtu mode interval threshold stream congestion : ℕ) → c ≡ command.Open conv mtu mode interval threshold stream congestion → ⊥
 
 -- the settings of `open`: one that is too large for its width becomes the largest of that width, which is out of range too
-abbrev pub settingsOf : ℕ → ℕ → ℕ → ℕ → ℕ → ℕ → Settings
-settingsOf conv mtu mode interval threshold stream =
+abbrev pub settingsOf : ℕ → ℕ → ℕ → ℕ → ℕ → ℕ → ℕ → Settings
+settingsOf conv mtu mode interval threshold stream congestion =
     record {
       conv = conv;
       mtu = min mtu 65535;
@@ -217,13 +216,13 @@ settingsOf conv mtu mode interval threshold stream =
       mode = min mode 255;
       threshold = min threshold 255;
       stream = min stream 255;
+      congestion = min congestion 255;
     }
 
 -- `open` opens the link; every other command is refused before that
 pub record Plays (c : Command) (b : Bench) (s r a bytes text : List ℕ) (x : Played) (s′ r′ a′ text′ : List ℕ) : Type 0 where
   pub malformed : c ≡ command.Malformed → Untouched s r a s′ r′ a′ × NoCommand b text x text′
-  pub opens : (conv mtu mode interval threshold stream : ℕ) → c ≡ command.Open conv mtu mode interval threshold stream →
-      Untouched s r a s′ r′ a′ × PlaysOpen (settingsOf conv mtu mode interval threshold stream) b s r a text x text′
+  pub opens : (conv mtu mode interval threshold stream congestion : ℕ) → c ≡ command.Open conv mtu mode interval threshold stream congestion → Untouched s r a s′ r′ a′ × PlaysOpen (settingsOf conv mtu mode interval threshold stream congestion) b s r a text x text′
   pub onLink : IsLater c → b .opened ≡ true → PlaysOnLink c b s r a bytes text x s′ r′ a′ text′
   pub unopened : IsLater c → b .opened ≡ false → Untouched s r a s′ r′ a′ × PlaysUnopened c b text x text′
 

@@ -53,8 +53,9 @@ fn settings_of(
     interval: u32,
     threshold: u32,
     stream: u32,
+    congestion: u32,
 ) -> Settings
-    ensures { λ r. ⌜ r ≡ settingsOf conv mtu mode interval threshold stream ⌝ }
+    ensures { λ r. ⌜ r ≡ settingsOf conv mtu mode interval threshold stream congestion ⌝ }
 {
     Protocol::settings(
         conv,
@@ -63,6 +64,7 @@ fn settings_of(
         capped(interval, 65535) as u16,
         capped(threshold, 255) as u8,
         capped(stream, 255) as u8,
+        capped(congestion, 255) as u8,
     )
 }
 
@@ -471,8 +473,11 @@ pub fn play(
             interval,
             threshold,
             stream,
+            congestion,
         } => {
-            let settings = settings_of(conv, mtu, mode, interval, threshold, stream);
+            let settings = settings_of(
+                conv, mtu, mode, interval, threshold, stream, congestion,
+            );
             open(bench, settings, send_pool, receive_pool, acks, text)
         }
         _ => {

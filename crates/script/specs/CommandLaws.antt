@@ -20,7 +20,7 @@ use Rattle.notation.specs.declared.Number.the-variants as number
 use Rattle.notation.specs.declared.Bytes.{Bytes}
 use Rattle.notation.specs.declared.Bytes.the-variants as bytes
 use Rattle.script.specs.declared.Command.the-variants.{Malformed}
-use Rattle.script.specs.Commands.{isOneOf, fieldMost, upTo, word, behindWord, onFirst, words, arguments, oneMore, numbersOf, letters, ofOne, ofTwo, ofFour, ofFive, ofSix, ofNumbers, withNumbers}
+use Rattle.script.specs.Commands.{isOneOf, fieldMost, upTo, word, behindWord, onFirst, words, arguments, oneMore, numbersOf, letters, ofOne, ofTwo, ofFour, ofFive, ofSix, ofSeven, ofNumbers, withNumbers}
 use Rattle.script.specs.Reading.{few}
 
 -- ---- words
@@ -135,11 +135,12 @@ unfolding isOneOf
 none-of k [] n d = rw (ne-eqb n k d)
 none-of k (m ∷ ks) n d = rw (ne-eqb n k (λ e. d (inl e)), none-of m ks n (λ h. d (inr h)))
 
-pub most-8 : (field : ℕ) → OneOf (2 ∷ 4 ∷ 19 ∷ []) field → 255 ≡ fieldMost field
+pub most-8 : (field : ℕ) → OneOf (2 ∷ 4 ∷ 19 ∷ 20 ∷ []) field → 255 ≡ fieldMost field
 unfolding isOneOf fieldMost
 most-8 field (inl e) = rw e
 most-8 field (inr (inl e)) = rw e
-most-8 field (inr (inr e)) = rw e
+most-8 field (inr (inr (inl e))) = rw e
+most-8 field (inr (inr (inr e))) = rw e
 
 -- ---- commands by how many numbers there are
 
@@ -178,7 +179,20 @@ module _ (name : ℕ) where
   six-numbers (a ∷ b ∷ c ∷ d ∷ e ∷ []) h = absurd (omega arith)
   six-numbers (a ∷ b ∷ c ∷ d ∷ e ∷ f ∷ l) h = refl
 
-  module _ (n : ℕ) (d₀ : n ≡ 0 → ⊥) (d₁ : n ≡ 1 → ⊥) (d₂ : n ≡ 2 → ⊥) (d₄ : n ≡ 4 → ⊥) (d₅ : n ≡ 5 → ⊥) (d₆ : n ≡ 6 → ⊥) where
+  pub seven-numbers : (l : List ℕ) → 7 ≤ length l →
+      ofNumbers name (take 7 l)
+      ≡ ofSeven name (getD l 0 0) (getD l 1 0) (getD l 2 0) (getD l 3 0) (getD l 4 0) (getD l 5 0) (getD l 6 0)
+  seven-numbers [] h = absurd (omega arith)
+  seven-numbers (a ∷ []) h = absurd (omega arith)
+  seven-numbers (a ∷ b ∷ []) h = absurd (omega arith)
+  seven-numbers (a ∷ b ∷ c ∷ []) h = absurd (omega arith)
+  seven-numbers (a ∷ b ∷ c ∷ d ∷ []) h = absurd (omega arith)
+  seven-numbers (a ∷ b ∷ c ∷ d ∷ e ∷ []) h = absurd (omega arith)
+  seven-numbers (a ∷ b ∷ c ∷ d ∷ e ∷ f ∷ []) h = absurd (omega arith)
+  seven-numbers (a ∷ b ∷ c ∷ d ∷ e ∷ f ∷ g ∷ l) h = refl
+
+  module _ (n : ℕ) (d₀ : n ≡ 0 → ⊥) (d₁ : n ≡ 1 → ⊥) (d₂ : n ≡ 2 → ⊥) (d₄ : n ≡ 4 → ⊥) (d₅ : n ≡ 5 → ⊥) (d₆ : n ≡ 6 → ⊥)
+      (d₇ : n ≡ 7 → ⊥) where
     no-command : (l : List ℕ) → n ≡ length l → ofNumbers name l ≡ Malformed
     no-command [] q = absurd (d₀ q)
     no-command (a ∷ []) q = absurd (d₁ q)
@@ -187,7 +201,8 @@ module _ (name : ℕ) where
     no-command (a ∷ b ∷ c ∷ d ∷ []) q = absurd (d₄ q)
     no-command (a ∷ b ∷ c ∷ d ∷ e ∷ []) q = absurd (d₅ q)
     no-command (a ∷ b ∷ c ∷ d ∷ e ∷ f ∷ []) q = absurd (d₆ q)
-    no-command (a ∷ b ∷ c ∷ d ∷ e ∷ f ∷ g ∷ l) q = refl
+    no-command (a ∷ b ∷ c ∷ d ∷ e ∷ f ∷ g ∷ []) q = absurd (d₇ q)
+    no-command (a ∷ b ∷ c ∷ d ∷ e ∷ f ∷ g ∷ h ∷ l) q = refl
 
     pub other-numbers : (l : List ℕ) → length l ≡ 8 → Malformed ≡ withNumbers name (cond (leb n 8) (some (take n l)) none)
     other-numbers l whole = go (decLe n 8)
@@ -203,7 +218,7 @@ module _ (name : ℕ) where
     where
       go : Dec (length ns ≤ 8) → withNumbers name (cond (leb (length ns) 8) (some ns) none) ≡ ofNumbers name ns
       go (yes h) = rw (le-leb (length ns) 8 h)
-      go (no h) = rw (lt-leb (length ns) 8 (omega arith)) (sym (no-command (length ns) (λ e. omega arith) (λ e. omega arith) (λ e. omega arith) (λ e. omega arith) (λ e. omega arith) (λ e. omega arith) ns refl))
+      go (no h) = rw (lt-leb (length ns) 8 (omega arith)) (sym (no-command (length ns) (λ e. omega arith) (λ e. omega arith) (λ e. omega arith) (λ e. omega arith) (λ e. omega arith) (λ e. omega arith) (λ e. omega arith) ns refl))
 
 -- ---- bytes
 

@@ -99,14 +99,14 @@ unfoldable pub isOneOf : ℕ → List ℕ → Bool
 isOneOf n [] = false
 isOneOf n (k ∷ ks) = eqb n k || isOneOf n ks
 
--- the fields of the control block that can be poked: 0 to 18, 19 stream, 21 next_flush, 22 updated
+-- the fields of the control block that can be poked
 abbrev pub isField : ℕ → Bool
-isField field = leb field 19 || eqb field 21 || eqb field 22
+isField field = leb field 25
 
 -- the largest value of a field of the control block: 16 bits for mtu, interval, peer_window and acks, 8 for mode,
--- threshold and stream, 32 for the rest
+-- threshold, stream and congestion, 32 for the rest
 unfoldable pub fieldMost : ℕ → ℕ
-fieldMost field = cond (isOneOf field (1 ∷ 3 ∷ 9 ∷ 18 ∷ [])) 65535 (cond (isOneOf field (2 ∷ 4 ∷ 19 ∷ [])) 255 4294967295)
+fieldMost field = cond (isOneOf field (1 ∷ 3 ∷ 9 ∷ 18 ∷ [])) 65535 (cond (isOneOf field (2 ∷ 4 ∷ 19 ∷ 20 ∷ [])) 255 4294967295)
 
 -- four lists, and fields 0 slot, 1 len, 2 frg, and 3 transmissions (list 1) or number (list 3)
 abbrev pub hasField : ℕ → ℕ → Bool
@@ -116,7 +116,7 @@ hasField list field = leb list 3 && leb field 3 && (ltb field 3 || eqb list 1 ||
 unfoldable pub heldMost : ℕ → ℕ → ℕ
 heldMost list field = cond (eqb field 1) 65535 (cond (ltb field 3 || eqb list 1) 255 4294967295)
 
--- commands without a number, with one, two, four, five and six
+-- commands without a number, with one, two, four, five, six and seven
 unfoldable pub ofNone : ℕ → Command
 ofNone name =
     cond (named name "size") Size
@@ -142,11 +142,14 @@ ofFour name list index field value = cond (named name "hold" && hasField list fi
 
 unfoldable pub ofFive : ℕ → ℕ → ℕ → ℕ → ℕ → ℕ → Command
 ofFive name a b c d e =
-    cond (named name "open") (Open a b c d e 0)
+    cond (named name "open") (Open a b c d e 0 0)
     (cond (named name "rec" && ltb a 128 && leb e 65535) (Rec a b c d e) Malformed)
 
 unfoldable pub ofSix : ℕ → ℕ → ℕ → ℕ → ℕ → ℕ → ℕ → Command
-ofSix name a b c d e f = cond (named name "open") (Open a b c d e f) Malformed
+ofSix name a b c d e f = cond (named name "open") (Open a b c d e f 0) Malformed
+
+unfoldable pub ofSeven : ℕ → ℕ → ℕ → ℕ → ℕ → ℕ → ℕ → ℕ → Command
+ofSeven name a b c d e f g = cond (named name "open") (Open a b c d e f g) Malformed
 
 abbrev pub ofNumbers : ℕ → List ℕ → Command
 ofNumbers name [] = ofNone name
@@ -156,7 +159,8 @@ ofNumbers name (a ∷ b ∷ c ∷ []) = Malformed
 ofNumbers name (a ∷ b ∷ c ∷ d ∷ []) = ofFour name a b c d
 ofNumbers name (a ∷ b ∷ c ∷ d ∷ e ∷ []) = ofFive name a b c d e
 ofNumbers name (a ∷ b ∷ c ∷ d ∷ e ∷ f ∷ []) = ofSix name a b c d e f
-ofNumbers name (a ∷ b ∷ c ∷ d ∷ e ∷ f ∷ g ∷ ns) = Malformed
+ofNumbers name (a ∷ b ∷ c ∷ d ∷ e ∷ f ∷ g ∷ []) = ofSeven name a b c d e f g
+ofNumbers name (a ∷ b ∷ c ∷ d ∷ e ∷ f ∷ g ∷ h ∷ ns) = Malformed
 
 abbrev pub withNumbers : ℕ → Option (List ℕ) → Command
 withNumbers name none = Malformed

@@ -6,8 +6,7 @@ use notation::Bytes;
 use numbers::Numbers;
 ghost use mathlib.Core.Path.{_≡_};
 ghost use lib.ListN.{length, drop};
-ghost use Rattle.script.specs.Commands.{isField};
-ghost use Rattle.script.specs.Commands.{fieldMost, hasField, heldMost, ofNone, ofOne, ofTwo, ofFour, ofFive, ofSix, withNumbers, withBytes, storedBytes, Parsed};
+ghost use Rattle.script.specs.Commands.{isField, fieldMost, hasField, heldMost, ofNone, ofOne, ofTwo, ofFour, ofFive, ofSix, ofSeven, withNumbers, withBytes, storedBytes, Parsed};
 ghost use Rattle.script.specs.Reading.{readAs};
 
 // The most bytes of a line, its newline not counted, and of a script.
@@ -27,6 +26,7 @@ pub enum Command {
         interval: u32,
         threshold: u32,
         stream: u32,
+        congestion: u32,
     },
     Send(usize),
     Input(usize),
@@ -102,7 +102,7 @@ fn of_one(name: u64, a: u32) -> Command
 fn is_field(field: u32) -> bool
     ensures { λ r. ⌜ r ≡ isField field ⌝ }
 {
-    (field <= 19) | (field == 21) | (field == 22)
+    field <= 25
 }
 
 // The largest value of a field of the control block; nothing above its width is a value.
@@ -111,7 +111,7 @@ fn field_most(field: u32) -> u32
 {
     match field {
         1 | 3 | 9 | 18 => 65535,
-        2 | 4 | 19 => 255,
+        2 | 4 | 19 | 20 => 255,
         _ => 4294967295,
     }
 }
@@ -178,6 +178,7 @@ fn of_five(name: u64, a: u32, b: u32, c: u32, d: u32, e: u32) -> Command
             interval: d,
             threshold: e,
             stream: 0,
+            congestion: 0,
         };
     }
     if (name == words::REC) & (a < 128) & (e <= 65535) {
@@ -204,6 +205,25 @@ fn of_six(name: u64, a: u32, b: u32, c: u32, d: u32, e: u32, f: u32) -> Command
             interval: d,
             threshold: e,
             stream: f,
+            congestion: 0,
+        };
+    }
+    Command::Malformed
+}
+
+// Commands with seven numbers.
+fn of_seven(name: u64, a: u32, b: u32, c: u32, d: u32, e: u32, f: u32, g: u32) -> Command
+    ensures { λ r. ⌜ r ≡ ofSeven name a b c d e f g ⌝ }
+{
+    if name == words::OPEN {
+        return Command::Open {
+            conv: a,
+            mtu: b,
+            mode: c,
+            interval: d,
+            threshold: e,
+            stream: f,
+            congestion: g,
         };
     }
     Command::Malformed
@@ -222,6 +242,7 @@ fn of_numbers(name: u64, n: Numbers) -> Command
         4 => of_four(name, at[0], at[1], at[2], at[3]),
         5 => of_five(name, at[0], at[1], at[2], at[3], at[4]),
         6 => of_six(name, at[0], at[1], at[2], at[3], at[4], at[5]),
+        7 => of_seven(name, at[0], at[1], at[2], at[3], at[4], at[5], at[6]),
         _ => Command::Malformed,
     }
 }

@@ -25,12 +25,13 @@ pub fn write(
     interval: u32,
     threshold: u32,
     stream: u32,
+    congestion: u32,
     file: &mut [u8],
 ) -> i32
     ensures { λ r. ⌜ Gives writingCode
-        (λ a. Writes (settingsOf conv mtu mode interval threshold stream) (now (file .entry)) a (now (file .exit))) r ⌝ }
+        (λ a. Writes (settingsOf conv mtu mode interval threshold stream congestion) (now (file .entry)) a (now (file .exit))) r ⌝ }
 {
-    let settings = codes::settings(conv, mtu, mode, interval, threshold, stream);
+    let settings = codes::settings(conv, mtu, mode, interval, threshold, stream, congestion);
     let writing = settings_file::write(settings, file);
     writing_code(writing)
 }

@@ -36,15 +36,16 @@ unfolding fileOf front back bytesOf
 length-file c = refl
 
 -- the settings of a file's bytes are those that it was written from
-settings-of-file : (c : Settings) → SettingsFit c → c .stream ≡ 0 → settingsAt (fileOf c) ≡ c
+settings-of-file : (c : Settings) → SettingsFit c → c .stream ≡ 0 → c .congestion ≡ 0 → settingsAt (fileOf c) ≡ c
 unfolding settingsAt fileOf front back bytesOf numberAt
-settings-of-file c r off = λ i. record {
+settings-of-file c r off none = λ i. record {
   conv = number-of-bytes 4 (c .conv) (r .conv) i;
   mtu = number-of-bytes 2 (c .mtu) (r .mtu) i;
   mode = number-of-bytes 1 (c .mode) (r .mode) i;
   interval = number-of-bytes 2 (c .interval) (r .interval) i;
   threshold = number-of-bytes 1 (c .threshold) (r .threshold) i;
   stream = sym off i;
+  congestion = sym none i;
 }
 
 -- ---- stored one behind the other
@@ -153,12 +154,13 @@ versioned : (c : Settings) → numberAt 2 (fileOf c) 3 ≡ 1
 unfolding fileOf front bytesOf numberAt
 versioned c = refl
 
--- settings in range, with stream off, that are written and read back are returned
+-- settings in range, with stream and congestion off, that are written and read back are returned
 pub read-written : (c : Settings) → SettingsFit c → inFile c ≡ true → readFrom (fileOf c) ≡ reading.Settings c
 read-written c r e =
-    let p = and-parts (inRange c) (eqb (c .stream) 0) e in
+    let q = and-parts (inRange c && eqb (c .stream) 0) (eqb (c .congestion) 0) e in
+    let p = and-parts (inRange c) (eqb (c .stream) 0) (q .0) in
     sym (whole-file (fileOf c) (marked c) (versioned c) (length-file c))
-    ∙ rw (settings-of-file c r (eqb-true (c .stream) 0 (p .1)), p .0)
+    ∙ rw (settings-of-file c r (eqb-true (c .stream) 0 (p .1)) (eqb-true (c .congestion) 0 (q .1)), p .0)
 
 -- what a file that is accepted has passed
 record Accepted (f : List ℕ) (c : Settings) : Type 0 where

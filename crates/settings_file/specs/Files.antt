@@ -53,11 +53,11 @@ back c = bytesOf 4 (c .conv) ++ bytesOf 2 (c .mtu) ++ bytesOf 1 (c .mode) ++ byt
 unfoldable pub fileOf : Settings → List ℕ
 fileOf c = front ++ back c
 
--- the settings that a file can have: in range, and stream off
+-- the settings that a file can have: in range, with stream and congestion off
 abbrev pub inFile : Settings → Bool
-inFile c = inRange c && eqb (c .stream) 0
+inFile c = inRange c && eqb (c .stream) 0 && eqb (c .congestion) 0
 
--- writing into a part this long gives 7, then 12, also for stream on
+-- writing into a part this long gives 7, then 12, also for stream or congestion on
 unfoldable pub writeInto : Settings → ℕ → Writing
 writeInto c n =
     cond (leb fileSize n) (cond (inFile c) writing.Whole (writing.Refused SettingOutOfRange)) (writing.Refused ShortPart)
@@ -82,7 +82,7 @@ sameFirst (suc n) a b = sameFirst n a b && eqb (getD a n 0) (getD b n 0)
 unfoldable pub isMarked : List ℕ → Bool
 isMarked f = sameFirst 3 f mark
 
--- the settings of its bytes, in range or not: a file means stream off
+-- the settings of its bytes, in range or not: a file means stream and congestion off
 unfoldable pub settingsAt : List ℕ → Settings
 settingsAt f =
     record {
@@ -92,6 +92,7 @@ settingsAt f =
       interval = numberAt 2 f 12;
       threshold = numberAt 1 f 14;
       stream = 0;
+      congestion = 0;
     }
 
 -- settings in range, or 12

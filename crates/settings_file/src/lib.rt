@@ -75,15 +75,15 @@ fn put_back(out: &mut [u8], settings: Settings)
     number::put_u8(out, 14, settings.threshold);
 }
 
-// Whether a file can have these settings: in range, and stream off.
+// Whether a file can have these settings: in range, with stream and congestion off.
 fn in_file(settings: Settings) -> bool
     ensures { λ r. ⌜ r ≡ inFile settings ⌝ }
 {
-    settings.in_range() & (settings.stream == 0)
+    settings.in_range() & (settings.stream == 0) & (settings.congestion == 0)
 }
 
-// Writes the file of these settings at the start of a part: 7 where the part is under 15 bytes, then 12, also for stream on. No other byte
-// changes.
+// Writes the file of these settings at the start of a part: 7 where the part is under 15 bytes, then 12, also for stream or congestion on. No
+// other byte changes.
 pub fn write(settings: Settings, out: &mut [u8]) -> Writing
     ensures { λ r. ⌜ Writes settings (now (out .entry)) r (now (out .exit)) ⌝ }
 {
@@ -114,7 +114,7 @@ fn is_marked(file: &[u8]) -> bool
     true
 }
 
-// The settings of a file's 15 bytes, in range or not: stream off.
+// The settings of a file's 15 bytes, in range or not: stream and congestion off.
 fn settings_at(file: &[u8]) -> Settings
     requires { ⌜ fileSize ≤ length (now file) ⌝ }
     ensures { λ r. ⌜ r ≡ settingsAt (now (file .entry)) ⌝ }
@@ -126,6 +126,7 @@ fn settings_at(file: &[u8]) -> Settings
         mode: number::read_u8(file, 11),
         threshold: number::read_u8(file, 14),
         stream: 0,
+        congestion: 0,
     }
 }
 

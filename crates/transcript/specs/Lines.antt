@@ -79,14 +79,15 @@ abbrev pub flagOf : ℕ → ℕ
 flagOf x = cond (eqb x 0) 0 1
 
 -- snd_una snd_nxt rcv_nxt current peer_window srtt rttvar rto probe_wait probe_due ask tell dead acks queued outstanding
--- ready waiting next_flush updated
+-- ready waiting next_flush updated cwnd ssthresh incr
 abbrev pub stateNumbers : Link → List ℕ
 stateNumbers l =
     l .flight .una ∷ l .flight .next ∷ l .arrival .expected ∷ l .clock .current ∷ l .flight .window
     ∷ l .flight .rtt .smoothed ∷ l .flight .rtt .variation ∷ l .flight .rtt .timeout ∷ l .clock .probe .wait ∷ l .clock .probe .due
     ∷ flagOf (l .clock .ask) ∷ flagOf (l .arrival .tell) ∷ flagOf (l .clock .dead) ∷ l .arrival .acks
     ∷ l .flight .queued ∷ l .flight .outstanding ∷ l .arrival .ready ∷ l .arrival .waiting
-    ∷ l .clock .«next_flush» ∷ flagOf (l .clock .updated) ∷ []
+    ∷ l .clock .«next_flush» ∷ flagOf (l .clock .updated)
+    ∷ l .flight .congestion .window ∷ l .flight .congestion .threshold ∷ l .flight .congestion .allowance ∷ []
 
 unfoldable pub stateLine : Link → List ℕ
 stateLine l = ascii "state" ++ row (stateNumbers l) ++ (newline ∷ [])

@@ -26,8 +26,8 @@ fn flag(x: u8) -> u64
 }
 
 // snd_una snd_nxt rcv_nxt current peer_window srtt rttvar rto probe_wait probe_due ask tell dead acks queued outstanding
-// ready waiting next_flush updated
-fn numbers(link: Link) -> [u64; 20]
+// ready waiting next_flush updated cwnd ssthresh incr
+fn numbers(link: Link) -> [u64; 23]
     ensures { λ r. ⌜ r ≡ stateNumbers link ⌝ }
 {
     [
@@ -51,6 +51,9 @@ fn numbers(link: Link) -> [u64; 20]
         link.arrival.waiting as u64,
         wide(link.clock.next_flush),
         flag(link.clock.updated),
+        wide(link.flight.congestion.window),
+        wide(link.flight.congestion.threshold),
+        wide(link.flight.congestion.allowance),
     ]
 }
 

@@ -36,6 +36,7 @@ linkOf s =
         next = sending .next;
         rtt = sending .roundTrip;
         window = sending .window;
+        congestion = s .congestion;
         queued = length (sending .queued);
         outstanding = length (sending .outstanding);
       };

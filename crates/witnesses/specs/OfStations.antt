@@ -54,7 +54,7 @@ bytes-by (x ∷ l) e (suc i) = bytes-by l (and-parts (ltb x 256) (byteTest l) e 
 -- ---- the three
 
 abbrev pub c : Settings
-c = record { conv = 1; mtu = 50; mode = 0; interval = 100; threshold = 2; stream = 0 }
+c = record { conv = 1; mtu = 50; mode = 0; interval = 100; threshold = 2; stream = 0; congestion = 0 }
 
 unfoldable pub station : Station
 station = record {

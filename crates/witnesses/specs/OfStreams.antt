@@ -41,7 +41,7 @@ use Rattle.delivery.specs.Demand3.{station-demand-3}
 use Rattle.witnesses.specs.OfStations.{bytes-by}
 
 abbrev pub c : Settings
-c = record { conv = 1; mtu = 50; mode = 0; interval = 100; threshold = 2; stream = 1 }
+c = record { conv = 1; mtu = 50; mode = 0; interval = 100; threshold = 2; stream = 1; congestion = 0 }
 
 unfoldable pub station : Station
 station = record {

@@ -44,7 +44,7 @@ use Rattle.wrong_links.specs.Standing.{Known, Passes, lengthsKnown}
 -- ---- both ends at first
 
 abbrev pub settings : Settings
-settings = record { conv = 1; mtu = 50; interval = 100; mode = 0; threshold = 2; stream = 0 }
+settings = record { conv = 1; mtu = 50; interval = 100; mode = 0; threshold = 2; stream = 0; congestion = 0 }
 
 -- what an opening is lent
 unfoldable pub sendPool : List ℕ

@@ -6,12 +6,15 @@ use Rattle.codes.proofs.settings.Tie as tie
 
 returns : tie.Need-returns
 returns c =
+    let threshold = c .before .before .before in
+    let mode = threshold .before .before in
     rw (
-      ← (c .before .before .before .before .before .narrow16 .ensures),
-      ← (c .before .before .before .before .narrow8 .ensures),
-      ← (c .before .before .before .narrow162 .ensures),
-      ← (c .before .before .narrow82 .ensures),
-      ← (c .before .narrow83 .ensures),
+      ← (mode .before .narrow16 .ensures),
+      ← (mode .narrow8 .ensures),
+      ← (threshold .before .narrow162 .ensures),
+      ← (threshold .narrow82 .ensures),
+      ← (c .before .before .narrow83 .ensures),
+      ← (c .before .narrow84 .ensures),
     )
     (c .settings .ensures)
 
@@ -19,6 +22,7 @@ pub settings-spec : {M : Type 1} → statement M
 settings-spec =
     tie.close
     (tie.spec
+    (λ c κs. search needs)
     (λ c κs. search needs)
     (λ c κs. search needs)
     (λ c κs. search needs)

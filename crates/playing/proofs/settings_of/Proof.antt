@@ -19,4 +19,6 @@ settings-of-spec =
     (search needs)
     (search needs)
     (search needs)
+    (search needs)
+    (search needs)
     (λ c. cc))

@@ -13,4 +13,4 @@ field-most-spec =
     (tie.spec
     (λ c. rw (one-of 1 (3 ∷ 9 ∷ 18 ∷ []) _ (c .match .keys1)))
     (λ c. most-8 _ (c .match .keys2))
-    (λ c. rw (none-of 1 (3 ∷ 9 ∷ 18 ∷ []) _ (c .match .rest .0 .1), none-of 2 (4 ∷ 19 ∷ []) _ (c .match .rest .1))))
+    (λ c. rw (none-of 1 (3 ∷ 9 ∷ 18 ∷ []) _ (c .match .rest .0 .1), none-of 2 (4 ∷ 19 ∷ 20 ∷ []) _ (c .match .rest .1))))

@@ -4,7 +4,7 @@ use mathlib.Core.Path.{_≡_, sym}
 use borrow.Author.Needs.{needs}
 use native.Mathlib.Omega.{arith}
 use lib.ListN.{length}
-use Rattle.script.specs.CommandLaws.{one-number, two-numbers, four-numbers, five-numbers, six-numbers, other-numbers}
+use Rattle.script.specs.CommandLaws.{one-number, two-numbers, four-numbers, five-numbers, six-numbers, seven-numbers, other-numbers}
 use Rattle.script.proofs.of_numbers.Statement.{statement}
 use Rattle.script.proofs.of_numbers.Tie as tie
 
@@ -40,13 +40,28 @@ returns-6 c =
 
 returns-7 : tie.Need-returns-7
 returns-7 c =
+    let l = c .before .before .before .args .n .at in
+    let whole : length l ≡ 8 = search needs in
+    rw (c .of-seven .ensures, c .before .match .keys7) (sym (seven-numbers _ l (omega arith)))
+
+returns-8 : tie.Need-returns-8
+returns-8 c =
     let rest = c .match .rest in
-    other-numbers _ _ (rest .0 .0 .0 .0 .0 .1) (rest .0 .0 .0 .0 .1) (rest .0 .0 .0 .1) (rest .0 .0 .1) (rest .0 .1) (rest .1) _ (search needs)
+    other-numbers _ _ (rest .0 .0 .0 .0 .0 .0 .1) (rest .0 .0 .0 .0 .0 .1) (rest .0 .0 .0 .0 .1) (rest .0 .0 .0 .1) (rest .0 .0 .1) (rest .0 .1)
+    (rest .1) _ (search needs)
 
 pub of-numbers-spec : {M : Type 1} → statement M
 of-numbers-spec =
     tie.close
     (tie.spec
+    (search needs)
+    (search needs)
+    (search needs)
+    (search needs)
+    (search needs)
+    (search needs)
+    (search needs)
+    (search needs)
     (search needs)
     (search needs)
     (search needs)
@@ -77,4 +92,5 @@ of-numbers-spec =
     returns-4
     returns-5
     returns-6
-    returns-7)
+    returns-7
+    returns-8)

@@ -14,6 +14,7 @@ returns c = λ i. record {
   mode = c .before .read-u8 .ensures i;
   threshold = c .read-u82 .ensures i;
   stream = 0;
+  congestion = 0;
 }
 
 pub settings-at-spec : {M : Type 1} → statement M

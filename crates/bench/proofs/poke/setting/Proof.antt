@@ -12,7 +12,7 @@ returns-5 c =
     let rest = c .before .match .rest in
     let n = c .before .before .args .field in
     let last : n ≡ 4 = omega (arith, past n 3 (past n 2 (past n 1 (past n 0 (omega arith) (rest .0 .0 .0 .1)) (rest .0 .0 .1)) (rest .0 .1)) (rest .1)) in
-    (rw (last, c .byte2 .ensures), refl)
+    (rw (last, c .byte2 .ensures), refl, refl)
 
 pub setting-spec : {M : Type 1} → statement M
 setting-spec =
@@ -22,8 +22,8 @@ setting-spec =
     (search needs)
     (search needs)
     (search needs)
-    (λ c. (rw (c .match .keys1), refl))
-    (λ c. (rw (c .before .match .keys2, c .narrow .ensures), refl))
-    (λ c. (rw (c .before .match .keys3, c .byte .ensures), refl))
-    (λ c. (rw (c .before .match .keys4, c .narrow2 .ensures), refl))
+    (λ c. (rw (c .match .keys1), refl, refl))
+    (λ c. (rw (c .before .match .keys2, c .narrow .ensures), refl, refl))
+    (λ c. (rw (c .before .match .keys3, c .byte .ensures), refl, refl))
+    (λ c. (rw (c .before .match .keys4, c .narrow2 .ensures), refl, refl))
     returns-5)
