@@ -13,7 +13,7 @@
  *     void transmit(void *socket, const uint8_t *datagram, size_t len);   // your network
  *     size_t receive(void *socket, uint8_t *datagram, size_t room, uint32_t wait); // waits so many ms at most; 0: none came
  *
- *     AMPFERWEG_STATION_STORAGE(station, 256);                            // static, about 117 KiB for an mtu of 256
+ *     AMPFERWEG_STATION_STORAGE(station, 256);                            // static, about 145 KiB for an mtu of 256
  *
  *     int run(void *socket)
  *     {
@@ -53,11 +53,11 @@ extern "C" {
 
 /* ---- Sizes ---------------------------------------------------------------------------------------------------------
  *
- * What every call is lent at least, for a link of the given mtu (50 to 512 bytes a datagram). A longer part is fine, and
+ * What every call is lent at least, for a link of the given mtu (50 to 1400 bytes a datagram). A longer part is fine, and
  * what lies beyond these sizes is neither read nor written. */
 
 #define AMPFERWEG_MTU_LEAST 50
-#define AMPFERWEG_MTU_MOST  512
+#define AMPFERWEG_MTU_MOST  1400
 
 /* The largest payload of a segment: the mtu without a header. */
 #define AMPFERWEG_MSS(mtu) ((size_t)(mtu) - 24)
@@ -71,7 +71,7 @@ extern "C" {
 
 #define AMPFERWEG_TABLE_LEN   128   /* records of the table, one for each send slot */
 #define AMPFERWEG_ACKS_LEN    512   /* entries of the ack list: 256 pairs of sn and ts */
-#define AMPFERWEG_OUTPUT_SIZE 22576 /* bytes of a flush's output, for any mtu */
+#define AMPFERWEG_OUTPUT_SIZE 50992 /* bytes of a flush's output, for any mtu */
 #define AMPFERWEG_LENGTHS_LEN 290   /* lengths of a flush, one for each datagram */
 
 /* ---- Results -------------------------------------------------------------------------------------------------------
@@ -104,7 +104,8 @@ enum ampferweg_refusal {
     AMPFERWEG_INVALID_BLOCK = 13,        /* any call but open: the control block is not one that this link makes */
     AMPFERWEG_TRAILING_BYTES = 14,       /* input: 1 to 23 bytes behind the last segment; tested after 1 to 6 */
     AMPFERWEG_NOT_SETTINGS = 15,         /* a settings file under 5 bytes, with another mark, or with a wrong length */
-    AMPFERWEG_UNKNOWN_VERSION = 16       /* a settings file of another version than 1 */
+    AMPFERWEG_UNKNOWN_VERSION = 16,      /* a settings file of another version than 1 and 2 */
+    AMPFERWEG_NEEDLESS_VERSION = 20      /* a settings file of version 2 whose settings fit version 1 */
 };
 
 /* The refusal number of a result, 0 where the call is done. */
@@ -134,6 +135,7 @@ static inline const char *ampferweg_text(ampferweg_result result)
     case AMPFERWEG_TRAILING_BYTES: return "refused 14: bytes are left behind the datagram's last segment";
     case AMPFERWEG_NOT_SETTINGS: return "refused 15: this is not a settings file";
     case AMPFERWEG_UNKNOWN_VERSION: return "refused 16: the settings file is of an unknown version";
+    case AMPFERWEG_NEEDLESS_VERSION: return "refused 20: the settings file is of version 2, and version 1 would do";
     default: return "refused: no number of this library";
     }
 }
@@ -258,7 +260,7 @@ AMPFERWEG_LAYOUT(record, sizeof(ampferweg_record) == 16 && offsetof(ampferweg_re
  * flushes; check asks for no output and no lengths. */
 
 /* Opens a link: whatever stood in *link, it becomes a fresh link. Lent bytes stay as they are.
- * conv any number; mtu 50 to 512; mode 0, 1 or 2; interval 10 to 5000; threshold 0 to 100, 0 being off; stream 0 or 1.
+ * conv any number; mtu 50 to 1400; mode 0, 1 or 2; interval 10 to 5000; threshold 0 to 100, 0 being off; stream 0 or 1.
  * Answers 0, or refuses 12, 7; a refused opening leaves the old link. ampferweg_station_open_settings takes them by name. */
 ampferweg_result ampferweg_open(ampferweg_link *link, uint32_t conv, uint32_t mtu, uint32_t mode, uint32_t interval, uint32_t threshold,
     uint32_t stream, const uint8_t *send_pool, uint64_t send_pool_len, const uint8_t *receive_pool, uint64_t receive_pool_len,
@@ -325,25 +327,26 @@ ampferweg_result ampferweg_show(const ampferweg_link *link, const uint8_t *send_
 
 /* ---- Settings files ------------------------------------------------------------------------------------------------
  *
- * A link's settings in 15 bytes, for a controller that is swapped: the letters KLS, the version 1 in 2 bytes, then
- * conversation 4 bytes, mtu 2, mode 1, interval 2, threshold 1, all little-endian. What is written and read back is the same,
- * and each file that is read is the very one that writing its settings gives. Opening and keeping the file is the caller's.
- * A file means stream 0: writing settings with stream 1 is refused 12.
+ * A link's settings in a file, for a controller that is swapped: the letters KLS, the version in 2 bytes, then conversation 4 bytes,
+ * mtu 2, mode 1, interval 2, threshold 1, all little-endian. That is version 1, of 15 bytes, for an mtu up to 512 with stream and
+ * congestion 0. All other settings have version 2, of 17 bytes, which adds one byte each for stream and congestion. What is written
+ * and read back is the same, and each file that is read is the very one that writing its settings gives: one setting has one file.
+ * Opening and keeping the file is the caller's.
  * The file has settings, not the state of a link: a board that opens with it has the conversation of the board before it, and its
  * messages are lost unless the peer opens anew as well (docs/C.md, 'When a station restarts or is swapped'). */
 
-#define AMPFERWEG_SETTINGS_FILE_SIZE 15
+#define AMPFERWEG_SETTINGS_FILE_SIZE 17 /* bytes that the writer is lent; a file has 15 or 17 */
 
-/* Writes the file of these settings into the first 15 bytes of `file`; what lies beyond is not touched.
- * Answers 0, or refuses 7 for fewer than 15 bytes, then 12. */
+/* Writes the file of these settings at the start of `file`; what lies beyond the file is not touched.
+ * Answers the file's bytes, 15 or 17, or refuses 7 for fewer than 17 bytes, also where 15 would do, then 12. */
 ampferweg_result ampferweg_settings_write(uint32_t conv, uint32_t mtu, uint32_t mode, uint32_t interval, uint32_t threshold,
-    uint32_t stream, uint8_t *file, uint64_t file_len);
+    uint32_t stream, uint32_t congestion, uint8_t *file, uint64_t file_len);
 
 /* Reads a file of `file_len` bytes, and stores its settings, ready for opening. No two pointers may lead to one number.
- * Answers 0, or refuses 15 for fewer than 5 bytes or another mark, 16 for an unknown version, 15 for a wrong length, then 12;
- * a refused file stores nothing. */
-ampferweg_result ampferweg_settings_read(const uint8_t *file, uint64_t file_len,
-    uint32_t *conv, uint32_t *mtu, uint32_t *mode, uint32_t *interval, uint32_t *threshold);
+ * Answers 0, or refuses 15 for fewer than 5 bytes or another mark, 16 for an unknown version, 15 for another length than the version
+ * has, then 12, also for an mtu above 512 in version 1, then 20 for a version 2 that is not needed; a refused file stores nothing. */
+ampferweg_result ampferweg_settings_read(const uint8_t *file, uint64_t file_len, uint32_t *conv, uint32_t *mtu, uint32_t *mode,
+    uint32_t *interval, uint32_t *threshold, uint32_t *stream, uint32_t *congestion);
 
 /* ---- A station: a link with its parts ------------------------------------------------------------------------------
  *

@@ -147,6 +147,16 @@ settings() {
     [ ! -f other.kls ]
 }
 
+# An mtu of 1,400, kept in a settings file of version 2: messages to 12,000 bytes, through a relay that loses one datagram in ten.
+full_frames() {
+    awk 'BEGIN { for (i = 1; i <= 40; i++) { s = i " "; while (length(s) < 300 * i) s = s "abcdefghijklmnopqrstuvwxyz"; print s } }' >long.txt
+    ./station --mtu 1400 --keep full.kls && [ "$(wc -c <full.kls)" -eq 17 ] && middle || return 1
+    begin hearer 1 0 --settings full.kls --seconds 20 --save heard.txt --expect 40 || return 1
+    hearer=$started
+    begin sender 2 0 --settings full.kls --seconds 20 --send long.txt --expect 0 || return 1
+    await "$started" && await "$hearer" && cmp long.txt heard.txt
+}
+
 # run.sh refuses ports that cannot be, and advises ports that can.
 ports() {
     for wrong in 0 65534 99999 070 x 4294967297; do
@@ -285,6 +295,7 @@ try 'the last acknowledgements arrive where half is lost' half_is_lost
 try 'a refused datagram is said with its reason' reasons
 try 'a wrong address is refused' addresses
 try 'an option beside a settings file is refused' settings
+try 'an mtu of 1,400, kept in a settings file of version 2' full_frames
 try "run.sh's ports" ports
 try 'a signal ends a station with its summary' interrupted
 try 'hellos, also late ones' ./hello_check

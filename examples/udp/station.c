@@ -13,7 +13,7 @@
 #include <string.h>
 #include <unistd.h>
 
-enum { MTU_MOST = 256, FILE_MOST = 1 << 18, HEADER = 24, PUSH = 81, TELL = 84, NUMBERS = 17 };
+enum { MTU_MOST = AMPFERWEG_MTU_MOST, FILE_MOST = 1 << 18, HEADER = 24, PUSH = 81, TELL = 84, NUMBERS = 17 };
 
 /* At its end a station stays until the peer has sent no data for QUIET_MS and four intervals, LINGER_MS at most, and says every
  * TELL_MS what it has. */
@@ -346,11 +346,11 @@ static void linger(uint32_t start)
 static void keep_settings(void)
 {
     uint8_t file[AMPFERWEG_SETTINGS_FILE_SIZE];
-    const ampferweg_result result = ampferweg_settings_write(conv, mtu, mode, interval, threshold, 0, file, sizeof file);
+    const ampferweg_result result = ampferweg_settings_write(conv, mtu, mode, interval, threshold, 0, 0, file, sizeof file);
     int out;
     if (result < 0) fail(keep_file, ampferweg_text(result));
     out = open(keep_file, O_WRONLY | O_CREAT | O_TRUNC, 0666);
-    if (out < 0 || write(out, file, sizeof file) != (ssize_t)sizeof file || close(out) < 0) fail(keep_file, "this file cannot be written");
+    if (out < 0 || write(out, file, (size_t)result) != result || close(out) < 0) fail(keep_file, "this file cannot be written");
     printf("%s: keeps the settings of conversation %lu\n", name, (unsigned long)conv);
 }
 
@@ -360,12 +360,13 @@ static void read_settings(void)
     uint8_t file[AMPFERWEG_SETTINGS_FILE_SIZE + 1];
     const int in = open(settings_file, O_RDONLY);
     const ssize_t len = in < 0 ? -1 : read(in, file, sizeof file);
+    uint32_t stream = 0, congestion = 0;
     ampferweg_result result;
     if (len < 0) fail(settings_file, "this file cannot be read");
     close(in);
-    result = ampferweg_settings_read(file, (size_t)len, &conv, &mtu, &mode, &interval, &threshold);
+    result = ampferweg_settings_read(file, (size_t)len, &conv, &mtu, &mode, &interval, &threshold, &stream, &congestion);
     if (result < 0) fail(settings_file, ampferweg_text(result));
-    if (mtu > MTU_MOST) fail(settings_file, "this station is built for an mtu of 256 at most");
+    if (stream != 0 || congestion != 0) fail(settings_file, "this station opens with stream and congestion off");
 }
 
 /* Numbers that no earlier boot had. */

@@ -1,6 +1,6 @@
 /* Plays a script of calls (standard input) on what stands beside the link, and writes the answers (standard output).
  *
- *   settings-write ROOM CONV MTU MODE INTERVAL THRESHOLD      settings-read HEX
+ *   settings-write ROOM CONV MTU MODE INTERVAL THRESHOLD [STREAM [CONGESTION]]                settings-read HEX
  *   tag-write ROOM NAME VALUE    tag-read HEX                 tag-set TABLE NAME VALUE     tag-take TABLE HEX
  *   tag-remove TABLE NAME        tag-ask NAME                 tag-found NAME               tag-entry TABLE INDEX
  *   tag-table TABLE              tag-poke TABLE OFFSET BYTE   tag-lend TABLE LEN
@@ -37,39 +37,39 @@ static size_t word_bytes_len[2];
 static int settings_write(void)
 {
     uint8_t file[FILE_HELD];
-    uint32_t room, value[6] = {0, 0, 0, 0, 0, 0}; /* stream, the last, may be left out */
+    uint32_t room, value[7] = {0, 0, 0, 0, 0, 0, 0}; /* the last, congestion, or the last two may be left out */
     ampferweg_result result;
     size_t i;
-    if ((words != 7 && words != 8) || !number_word(1, FILE_HELD, &room)) return 0;
+    if (words < 7 || words > 9 || !number_word(1, FILE_HELD, &room)) return 0;
     for (i = 0; i + 2 < words; i++)
         if (!number_word(i + 2, UINT32_MAX, &value[i])) return 0;
     memset(file, UNTOUCHED, sizeof file);
-    result = ampferweg_settings_write(value[0], value[1], value[2], value[3], value[4], value[5], file, room);
+    result = ampferweg_settings_write(value[0], value[1], value[2], value[3], value[4], value[5], value[6], file, room);
     if (result < 0) {
         say_refused(result);
         end_line(differs(file, sizeof file, UNTOUCHED));
     } else {
         printf("ok");
-        say_bytes(file, AMPFERWEG_SETTINGS_FILE_SIZE);
-        end_line(differs(file + AMPFERWEG_SETTINGS_FILE_SIZE, sizeof file - AMPFERWEG_SETTINGS_FILE_SIZE, UNTOUCHED));
+        say_bytes(file, (size_t)result);
+        end_line(differs(file + result, sizeof file - (size_t)result, UNTOUCHED));
     }
     return 1;
 }
 
 static int settings_read(void)
 {
-    uint32_t value[5] = {1, 2, 3, 4, 5};
+    uint32_t i, value[7] = {1, 2, 3, 4, 5, 6, 7};
     ampferweg_result result;
     int changed = 0;
     if (words != 2 || !bytes_word(1, word_bytes[0], &word_bytes_len[0])) return 0;
-    result = ampferweg_settings_read(word_bytes[0], word_bytes_len[0], &value[0], &value[1], &value[2], &value[3], &value[4]);
+    result = ampferweg_settings_read(word_bytes[0], word_bytes_len[0], &value[0], &value[1], &value[2], &value[3], &value[4], &value[5],
+        &value[6]);
     if (result < 0) {
-        uint32_t i;
         say_refused(result);
-        for (i = 0; i < 5; i++) changed |= value[i] != i + 1;
+        for (i = 0; i < 7; i++) changed |= value[i] != i + 1;
     } else {
-        printf("ok %lu %lu %lu %lu %lu", (unsigned long)value[0], (unsigned long)value[1], (unsigned long)value[2],
-            (unsigned long)value[3], (unsigned long)value[4]);
+        printf("ok");
+        for (i = 0; i < 7; i++) printf(" %lu", (unsigned long)value[i]);
     }
     end_line(changed);
     return 1;

@@ -238,7 +238,7 @@ static void number_10_and_11(void)
 static void number_12(void)
 {
     static const uint32_t bad[][4] = { /* mtu, mode, interval, threshold */
-        {49, 0, 10, 0}, {513, 0, 10, 0}, {0, 0, 10, 0}, {65536 + 256, 0, 10, 0}, {0x80000100, 0, 10, 0},
+        {49, 0, 10, 0}, {1401, 0, 10, 0}, {0, 0, 10, 0}, {65536 + 256, 0, 10, 0}, {0x80000100, 0, 10, 0},
         {256, 3, 10, 0}, {256, 256, 10, 0}, {256, 0x80000000, 10, 0},
         {256, 0, 9, 0}, {256, 0, 5001, 0}, {256, 0, 0, 0}, {256, 0, 65536 + 10, 0},
         {256, 0, 10, 101}, {256, 0, 10, 256}, {256, 0, 10, 0xFFFFFFFF},
@@ -289,10 +289,10 @@ int main(void)
     number_13();
     CHECK(guarded(&lent));
     give_back(&lent);
-    lend(&lent, 512, 0);
+    lend(&lent, 1400, 0);
     lend_message(&lent, 1000);
     buffer = lent.message;
-    number_7_of_parts(512);
+    number_7_of_parts(1400);
     CHECK(guarded(&lent));
     give_back(&lent);
     return check_report("refusals");

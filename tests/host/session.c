@@ -10,7 +10,7 @@ enum { MESSAGES = 60, STEP = 10, FLYING_MOST = 4096, STEPS_MOST = 60000 };
 struct flying {
     uint32_t to, at; /* where it goes, and the step in which it arrives */
     size_t len;
-    uint8_t bytes[512];
+    uint8_t bytes[AMPFERWEG_MTU_MOST];
 };
 
 struct end {
@@ -23,7 +23,7 @@ static struct end ends[2];
 static struct flying flying[FLYING_MOST];
 static size_t flying_count;
 static uint32_t step_now, lost_percent;
-static uint8_t message[AMPFERWEG_MESSAGE_SIZE(512)], buffer[AMPFERWEG_MESSAGE_SIZE(512)];
+static uint8_t message[AMPFERWEG_MESSAGE_SIZE(AMPFERWEG_MTU_MOST)], buffer[AMPFERWEG_MESSAGE_SIZE(AMPFERWEG_MTU_MOST)];
 
 /* The message that a station sends as its number n: its length and its bytes follow from both. */
 static size_t compose(uint32_t name, uint32_t n, size_t mss)
@@ -138,7 +138,7 @@ int main(void)
     for (mode = 0; mode < 3; mode++) {
         play(50, mode, 0, 10, 0, 0);
         play(256, mode, 2, 10, 0xFFFFFF80, 0xFFFFF000);
-        play(512, mode, 1, 20, 0x7FFFFFF0, 0x7FFFF000);
+        play(1400, mode, 1, 20, 0x7FFFFFF0, 0x7FFFF000);
     }
     play(256, 1, 2, 0, 0, 0);
     sends = ampferweg_station_update_to;

@@ -37,7 +37,7 @@ cases =
     -- an allowance under mss counts as mss
     ∷ record { is = grown (of 2 2 0) 26 128; wanted = of 2 2 53 }
     -- the largest values
-    ∷ record { is = grown (of 65534 16 (65535 * 488)) 488 65535; wanted = of 65535 16 (65535 * 488) }
+    ∷ record { is = grown (of 65534 16 (65535 * 1376)) 1376 65535; wanted = of 65535 16 (65535 * 1376) }
     -- loss by skips: half of what is in flight, 2 at least, and 2 more
     ∷ record { is = afterFlush (of 20 2 520) 26 (losing true false 10 20); wanted = of 7 5 182 }
     ∷ record { is = afterFlush (of 20 2 520) 26 (losing true false 3 20); wanted = of 4 2 104 }

@@ -1,5 +1,5 @@
 -- What a link writes, a link of the same settings takes in: each datagram of a flush is at most mtu bytes and parses to its segments;
--- and the output that a flush is lent suffices, 22,576 bytes and 290 lengths.
+-- and the output that a flush is lent suffices, 50,992 bytes and 290 lengths.
 -- Assumes nothing.
 use mathlib.Core.Path.{_≡_, refl, ap, _∙_}
 use mathlib.Core.Bool.{Bool, true, false, cond, _&&_, _||_}

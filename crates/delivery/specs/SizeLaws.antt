@@ -12,7 +12,7 @@ use Rattle.sizes.specs.declared.Lengths.{Lengths}
 use Rattle.session.specs.Decides.{and-parts}
 use Rattle.session.specs.IsValid.{settings-decide}
 
--- settings in range have an mtu of 50 to 512
+-- settings in range have an mtu of 50 to 1,400
 pub record MtuInRange (c : Settings) : Type 0 where
   pub least : mtuLeast ≤ c .mtu
   pub most : c .mtu ≤ mtuMost

@@ -1,5 +1,5 @@
 -- The segments that a flush writes: a link of the same settings takes each of them, none is longer than mtu, and all together they
--- are at most 290 segments and 22,576 bytes.
+-- are at most 290 segments and 50,992 bytes.
 -- Assumes nothing.
 use mathlib.Core.Path.{_≡_, refl, sym}
 use mathlib.Core.Bool.{Bool, true, false, cond}

@@ -60,7 +60,7 @@ payloadMost = mtuMost - headerSize
 
 -- ---- bytes of a message
 
--- a message is at most 127 segments of mss bytes, which is 61,976 bytes at the largest mtu
+-- a message is at most 127 segments of mss bytes, which is 174,752 bytes at the largest mtu
 pub record MessageFits (c : Settings) (n : ℕ) : Type 0 where
   pub bytes : n ≤ fragmentsMost * mss c
   pub payload : mss c ≤ payloadMost

@@ -7,7 +7,7 @@ use Prim.Native.Nat.{ℕ, _+_, _*_}
 use lib.Dec.{leb, eqb}
 use lib.ListN.{length}
 use lib.Seq.{sets}
-use Rattle.protocol.specs.Protocol.{headerSize, mtuLeast}
+use Rattle.protocol.specs.Protocol.{headerSize, mtuLeast, mtuMost}
 use Rattle.protocol.specs.Refusals as link
 use Rattle.protocol.specs.declared.Refusal.the-variants as linkRefusal
 use Rattle.frames.specs.declared.Refusal.{Refusal}
@@ -55,10 +55,7 @@ pub record Gives (o : Outcome) (out ns : List ℕ) (a : Answer) (out′ ns′ : 
 abbrev pub dataMost : ℕ
 dataMost = 10
 
-abbrev pub mtuMost : ℕ
-mtuMost = 1400
-
--- 1 to 10 datagrams in a group, an mtu of 50 to 1,400
+-- 1 to 10 datagrams in a group, and a link's mtu
 abbrev pub settingsOk : ℕ → ℕ → Bool
 settingsOk k mtu = leb 1 k && leb k dataMost && leb mtuLeast mtu && leb mtu mtuMost
 

@@ -45,10 +45,13 @@ pub fn lent_ok(
     packed(size, lengths) & (n * each <= room) & (n <= slots)
 }
 
+// 1 to 10 datagrams in a group, and a link's mtu.
 pub fn settings_ok(k: usize, mtu: usize) -> bool
     ensures { λ r. ⌜ r ≡ settingsOk k mtu ⌝ }
 {
-    (1 <= k) & (k <= Frames::DATA_MOST) & (50 <= mtu) & (mtu <= Frames::MTU_MOST)
+    let least = Protocol::MTU_LEAST as usize;
+    let most = Protocol::MTU_MOST as usize;
+    (1 <= k) & (k <= Frames::DATA_MOST) & (least <= mtu) & (mtu <= most)
 }
 
 // Each length is 24 to mtu.

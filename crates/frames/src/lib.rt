@@ -22,8 +22,6 @@ impl Frames {
 
     pub const FRAMES_MOST: usize = 12;
 
-    pub const MTU_MOST: usize = 1400;
-
     // No group starts here or later.
     pub const GROUPS_END: u64 = 4294967284;
 }

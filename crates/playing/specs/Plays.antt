@@ -7,6 +7,7 @@ use mathlib.Core.Bool.{Bool, true, false}
 use mathlib.Core.List.{List, _++_}
 use Prim.Native.Nat.{ℕ, _-_, _≤_, _<_, min}
 use lib.ListN.{length, take, drop, getD, set, replicate}
+use Rattle.protocol.specs.Protocol.{outputLeast, lengthsLeast}
 use Rattle.protocol.specs.declared.Settings.{Settings}
 use Rattle.protocol.specs.declared.Refusal.the-variants.{InvalidBlock}
 use Rattle.answers.specs.declared.Count.{Count}
@@ -75,7 +76,7 @@ pub record PlaysFlush (t : ℕ) (b : Bench) (s r a text : List ℕ) (x : Played)
   pub done : Counted
   pub output : List ℕ
   pub lengths : List ℕ
-  pub promise : BenchFlushes t b s r a (replicate 22576 0) (replicate 290 0) done output lengths
+  pub promise : BenchFlushes t b s r a (replicate outputLeast 0) (replicate lengthsLeast 0) done output lengths
   pub says : Says (done .bench) (flushLines output lengths (done .answer)) text x text′
 
 -- of an update: the same where it flushes; where it does not, `ok` alone
@@ -88,7 +89,7 @@ pub record PlaysUpdate (t : ℕ) (b : Bench) (s r a text : List ℕ) (x : Played
   pub done : Updated
   pub output : List ℕ
   pub lengths : List ℕ
-  pub promise : BenchUpdates t b s r a (replicate 22576 0) (replicate 290 0) done output lengths
+  pub promise : BenchUpdates t b s r a (replicate outputLeast 0) (replicate lengthsLeast 0) done output lengths
   pub says : Says (done .bench) (updateLines output lengths (done .answer)) text x text′
 
 pub record PlaysCheck (t : ℕ) (b : Bench) (s r a text : List ℕ) (x : Played) (text′ : List ℕ) : Type 0 where

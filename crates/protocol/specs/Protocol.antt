@@ -45,7 +45,7 @@ acksMost = 256
 
 -- what a flush is lent at least: bytes of output, and lengths of datagrams
 abbrev pub outputLeast : ℕ
-outputLeast = 22576
+outputLeast = 50992
 
 abbrev pub lengthsLeast : ℕ
 lengthsLeast = 290
@@ -91,7 +91,7 @@ abbrev pub mtuLeast : ℕ
 mtuLeast = 50
 
 abbrev pub mtuMost : ℕ
-mtuMost = 512
+mtuMost = 1400
 
 abbrev pub modeMost : ℕ
 modeMost = 2

@@ -6,7 +6,7 @@ use lib.Dec.{leb, eqb}
 use Rattle.protocol.specs.declared.Settings.{Settings}
 use Rattle.protocol.specs.Protocol.{headerSize, mtuLeast, mtuMost, modeMost, intervalLeast, intervalMost, thresholdMost, streamMost, congestionMost}
 
--- mtu 50 to 512; mode 0, 1 or 2; interval 10 to 5,000; threshold 0 to 100; stream and congestion 0 or 1; any conversation
+-- mtu 50 to 1,400; mode 0, 1 or 2; interval 10 to 5,000; threshold 0 to 100; stream and congestion 0 or 1; any conversation
 abbrev pub inRange : Settings → Bool
 inRange s =
     leb mtuLeast (s .mtu)

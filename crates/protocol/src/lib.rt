@@ -41,7 +41,7 @@ impl Protocol {
     pub const ACKS_MOST: usize = 256;
 
     // What a flush is lent at least: bytes of output, and lengths of datagrams.
-    pub const OUTPUT_LEAST: usize = 22576;
+    pub const OUTPUT_LEAST: usize = 50992;
 
     pub const LENGTHS_LEAST: usize = 290;
 
@@ -72,7 +72,7 @@ impl Protocol {
     // The ranges of the settings.
     pub const MTU_LEAST: u16 = 50;
 
-    pub const MTU_MOST: u16 = 512;
+    pub const MTU_MOST: u16 = 1400;
 
     pub const MODE_MOST: u8 = 2;
 

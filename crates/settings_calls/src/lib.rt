@@ -7,17 +7,17 @@ ghost use Rattle.settings_file.specs.Files.{Writes, readFrom};
 ghost use Rattle.codes.specs.Gives.{Gives};
 ghost use Rattle.settings_calls.specs.SettingsFiles.{writingCode, numbers, Stores};
 
-// 0, or the refusal.
+// The count of a file's bytes, or the refusal.
 fn writing_code(writing: Writing) -> i32
     ensures { λ r. ⌜ r ≡ writingCode writing ⌝ }
 {
     match writing {
-        Writing::Whole => 0,
+        Writing::Wrote(n) => codes::size_code(n),
         Writing::Refused(refusal) => codes::number_code(refusal.number()),
     }
 }
 
-// Writes the file of these settings at the start of a part: 0, or the refusal.
+// Writes the file of these settings at the start of a part: its count of bytes, or the refusal.
 pub fn write(
     conv: u32,
     mtu: u32,
@@ -44,10 +44,14 @@ pub fn read(
     mode: &mut u32,
     interval: &mut u32,
     threshold: &mut u32,
+    stream: &mut u32,
+    congestion: &mut u32,
 ) -> i32
     ensures { λ r. ⌜ Stores (readFrom (now (file .entry))) r
-        (numbers (now (conv .entry)) (now (mtu .entry)) (now (mode .entry)) (now (interval .entry)) (now (threshold .entry)))
-        (numbers (now (conv .exit)) (now (mtu .exit)) (now (mode .exit)) (now (interval .exit)) (now (threshold .exit))) ⌝ }
+        (numbers (now (conv .entry)) (now (mtu .entry)) (now (mode .entry)) (now (interval .entry)) (now (threshold .entry))
+        (now (stream .entry)) (now (congestion .entry)))
+        (numbers (now (conv .exit)) (now (mtu .exit)) (now (mode .exit)) (now (interval .exit)) (now (threshold .exit))
+        (now (stream .exit)) (now (congestion .exit))) ⌝ }
 {
     let reading = settings_file::read(file);
     match reading {
@@ -57,6 +61,8 @@ pub fn read(
             *mode = settings.mode as u32;
             *interval = settings.interval as u32;
             *threshold = settings.threshold as u32;
+            *stream = settings.stream as u32;
+            *congestion = settings.congestion as u32;
             0
         }
         Reading::Refused(refusal) => codes::number_code(refusal.number()),

@@ -1,4 +1,4 @@
--- Laws of `Files`: the two round trips.
+-- Laws of `Files`: the two round trips, and that one setting has one file.
 -- Assumes nothing.
 use mathlib.Core.Path.{_≡_, refl, sym, ap, _∙_}
 use mathlib.Core.Bool.{Bool, true, false, cond, _&&_}
@@ -16,9 +16,34 @@ use Rattle.protocol.specs.declared.Settings.{Settings}
 use Rattle.wire.specs.LittleEndian.{bytesOf, numberAt, AllBytes}
 use Rattle.wire.specs.LittleEndianLaws.{number-of-bytes, bytes-of-number, length-bytesOf}
 use Rattle.wire.specs.Stores.{sets-append}
-use Rattle.settings_file.specs.Files.{mark, front, back, fileOf, inFile, writeInto, Writes, sameFirst, isMarked, settingsAt, ranged, readFrom}
+use Rattle.settings_file.specs.Files.{
+  fitsFirst,
+  mark,
+  front,
+  back,
+  added,
+  firstOf,
+  secondOf,
+  fileOf,
+  writeInto,
+  Writes,
+  sameFirst,
+  isMarked,
+  settingsAt,
+  firstRanged,
+  secondRanged,
+  readFirst,
+  readSecond,
+  readFrom,
+}
 use Rattle.settings_file.specs.declared.FileRefusal.{FileRefusal}
-use Rattle.settings_file.specs.declared.FileRefusal.the-variants.{ShortPart, SettingOutOfRange, NotSettings, UnknownVersion}
+use Rattle.settings_file.specs.declared.FileRefusal.the-variants.{
+  ShortPart,
+  SettingOutOfRange,
+  NotSettings,
+  UnknownVersion,
+  NeedlessVersion,
+}
 use Rattle.settings_file.specs.declared.Reading.{Reading}
 use Rattle.settings_file.specs.declared.Writing.the-variants as writing
 use Rattle.settings_file.specs.declared.Reading.the-variants as reading
@@ -30,29 +55,47 @@ pub record SettingsFit (c : Settings) : Type 0 where
   pub mode : c .mode < 2 ^ 8
   pub interval : c .interval < 2 ^ 16
   pub threshold : c .threshold < 2 ^ 8
+  pub stream : c .stream < 2 ^ 8
+  pub congestion : c .congestion < 2 ^ 8
 
-pub length-file : (c : Settings) → length (fileOf c) ≡ 15
-unfolding fileOf front back bytesOf
-length-file c = refl
+length-first : (c : Settings) → length (firstOf c) ≡ 15
+unfolding firstOf front back bytesOf
+length-first c = refl
+
+length-second : (c : Settings) → length (secondOf c) ≡ 17
+unfolding secondOf front back added bytesOf
+length-second c = refl
 
 -- the settings of a file's bytes are those that it was written from
-settings-of-file : (c : Settings) → SettingsFit c → c .stream ≡ 0 → c .congestion ≡ 0 → settingsAt (fileOf c) ≡ c
-unfolding settingsAt fileOf front back bytesOf numberAt
-settings-of-file c r off none = λ i. record {
+settings-of-first : (c : Settings) → SettingsFit c → c .stream ≡ 0 → c .congestion ≡ 0 → settingsAt (firstOf c) 0 0 ≡ c
+unfolding settingsAt firstOf front back bytesOf numberAt
+settings-of-first c r stream congestion = λ i. record {
   conv = number-of-bytes 4 (c .conv) (r .conv) i;
   mtu = number-of-bytes 2 (c .mtu) (r .mtu) i;
   mode = number-of-bytes 1 (c .mode) (r .mode) i;
   interval = number-of-bytes 2 (c .interval) (r .interval) i;
   threshold = number-of-bytes 1 (c .threshold) (r .threshold) i;
-  stream = sym off i;
-  congestion = sym none i;
+  stream = sym stream i;
+  congestion = sym congestion i;
+}
+
+settings-of-second : (c : Settings) → SettingsFit c → settingsAt (secondOf c) (numberAt 1 (secondOf c) 15) (numberAt 1 (secondOf c) 16) ≡ c
+unfolding settingsAt secondOf front back added bytesOf numberAt
+settings-of-second c r = λ i. record {
+  conv = number-of-bytes 4 (c .conv) (r .conv) i;
+  mtu = number-of-bytes 2 (c .mtu) (r .mtu) i;
+  mode = number-of-bytes 1 (c .mode) (r .mode) i;
+  interval = number-of-bytes 2 (c .interval) (r .interval) i;
+  threshold = number-of-bytes 1 (c .threshold) (r .threshold) i;
+  stream = number-of-bytes 1 (c .stream) (r .stream) i;
+  congestion = number-of-bytes 1 (c .congestion) (r .congestion) i;
 }
 
 -- ---- stored one behind the other
 
-pub front-stored : (l : List ℕ) {x y : List ℕ} → x ≡ sets l 0 mark → y ≡ sets x 3 (bytesOf 2 1) → y ≡ sets l 0 front
+pub front-stored : (v : ℕ) (l : List ℕ) {x y : List ℕ} → x ≡ sets l 0 mark → y ≡ sets x 3 (bytesOf 2 v) → y ≡ sets l 0 (front v)
 unfolding front
-front-stored l p q = simp sets-append (cc)
+front-stored v l p q = simp sets-append (cc)
 
 pub back-stored :
     (c : Settings) (l : List ℕ) {x y z w v : List ℕ} →
@@ -65,13 +108,30 @@ pub back-stored :
 unfolding back
 back-stored c l p q r s t = simp (sets-append, length-append, length-bytesOf) (cc)
 
-length-front : length front ≡ 5
-unfolding front bytesOf
-length-front = refl
+pub added-stored : (c : Settings) (l : List ℕ) {x y : List ℕ} →
+    x ≡ sets l 15 (bytesOf 1 (c .stream)) → y ≡ sets x 16 (bytesOf 1 (c .congestion)) → y ≡ sets l 15 (added c)
+unfolding added
+added-stored c l p q = simp (sets-append, length-bytesOf) (cc)
 
-pub file-stored : (c : Settings) (l : List ℕ) {x y : List ℕ} → x ≡ sets l 0 front → y ≡ sets x 5 (back c) → y ≡ sets l 0 (fileOf c)
-unfolding fileOf
-file-stored c l p q = rw (sets-append, length-front) (cc)
+length-front : (v : ℕ) → length (front v) ≡ 5
+unfolding front bytesOf
+length-front v = refl
+
+length-back : (c : Settings) → length (back c) ≡ 10
+unfolding back bytesOf
+length-back c = refl
+
+module _ (c : Settings) (l : List ℕ) where
+  -- what is put for settings that fit version 1, and for others
+  pub first-put : {x y : List ℕ} → fitsFirst c ≡ true → x ≡ sets l 0 (front 1) → y ≡ sets x 5 (back c)
+      → (15 ≡ length (fileOf c)) × (y ≡ sets l 0 (fileOf c))
+  unfolding firstOf
+  first-put e p q = rw e (sym (length-first c), (rw (sets-append, length-front) (cc)))
+
+  pub second-put : {x y z : List ℕ} → fitsFirst c ≡ false → x ≡ sets l 0 (front 2) → y ≡ sets x 5 (back c) → z ≡ sets y 15 (added c)
+      → (17 ≡ length (fileOf c)) × (z ≡ sets l 0 (fileOf c))
+  unfolding secondOf
+  second-put e p q r = rw e (sym (length-second c), (simp (sets-append, length-append, length-front, length-back) (cc)))
 
 -- ---- the mark
 
@@ -111,64 +171,72 @@ first-same (suc n) a b p q e =
 ruleset tests = (eq-eqb, ne-eqb, le-leb, lt-leb)
 
 module _ (c : Settings) (l : List ℕ) where
-  pub no-room : length l < 15 → Writes c l (writing.Refused ShortPart) l
+  pub no-room : length l < 17 → Writes c l (writing.Refused ShortPart) l
   unfolding writeInto
-  no-room a = record { answer = simp tests; leaves = refl }
+  no-room a = record { answer = rw (lt-leb 17 (length l) a); leaves = refl }
 
-  pub out-of-range : 15 ≤ length l → inFile c ≡ false → Writes c l (writing.Refused SettingOutOfRange) l
+  pub out-of-range : 17 ≤ length l → inRange c ≡ false → Writes c l (writing.Refused SettingOutOfRange) l
   unfolding writeInto
-  out-of-range a b = record { answer = simp (b, tests); leaves = refl }
+  out-of-range a b = record { answer = rw (le-leb 17 (length l) a, b); leaves = refl }
 
-  pub written : {m : List ℕ} → 15 ≤ length l → inFile c ≡ true → m ≡ sets l 0 (fileOf c) → Writes c l writing.Whole m
+  pub written : {n : ℕ} {m : List ℕ} → 17 ≤ length l → inRange c ≡ true → n ≡ length (fileOf c) → m ≡ sets l 0 (fileOf c)
+      → Writes c l (writing.Wrote n) m
   unfolding writeInto
-  written a b e = record { answer = simp (b, tests); leaves = e }
+  written a b p e = record { answer = ap writing.Wrote p ∙ rw (le-leb 17 (length l) a, b); leaves = e }
 
 module _ (f : List ℕ) where
   pub short-file : length f < 5 → reading.Refused NotSettings ≡ readFrom f
   unfolding readFrom
-  short-file a = simp tests
+  short-file a = rw (lt-leb 5 (length f) a)
 
   pub unmarked : 5 ≤ length f → isMarked f ≡ false → reading.Refused NotSettings ≡ readFrom f
   unfolding readFrom
-  unmarked a b = simp (b, tests)
+  unmarked a b = rw (le-leb 5 (length f) a, b)
 
-  pub other-version : 5 ≤ length f → isMarked f ≡ true → (numberAt 2 f 3 ≡ 1 → ⊥) → reading.Refused UnknownVersion ≡ readFrom f
+  pub other-version : 5 ≤ length f → isMarked f ≡ true → (numberAt 2 f 3 ≡ 1 → ⊥) → (numberAt 2 f 3 ≡ 2 → ⊥)
+      → reading.Refused UnknownVersion ≡ readFrom f
   unfolding readFrom
-  other-version a b d = simp (b, tests)
+  other-version a b d e = rw (le-leb 5 (length f) a, b, ne-eqb (numberAt 2 f 3) 1 d, ne-eqb (numberAt 2 f 3) 2 e)
 
-  pub other-length : 5 ≤ length f → isMarked f ≡ true → numberAt 2 f 3 ≡ 1 → (length f ≡ 15 → ⊥) → reading.Refused NotSettings ≡ readFrom f
+  pub of-first : 5 ≤ length f → isMarked f ≡ true → numberAt 2 f 3 ≡ 1 → readFirst f ≡ readFrom f
   unfolding readFrom
-  other-length a b d e = simp (b, d, tests)
+  of-first a b d = rw (le-leb 5 (length f) a, b, d)
 
-  pub whole-file : isMarked f ≡ true → numberAt 2 f 3 ≡ 1 → length f ≡ 15 → ranged (settingsAt f) ≡ readFrom f
+  pub of-second : 5 ≤ length f → isMarked f ≡ true → numberAt 2 f 3 ≡ 2 → readSecond f ≡ readFrom f
   unfolding readFrom
-  whole-file b d e = simp (b, d, e)
+  of-second a b d = rw (le-leb 5 (length f) a, b, d)
 
 -- ---- the round trips
 
-marked : (c : Settings) → isMarked (fileOf c) ≡ true
-unfolding isMarked sameFirst fileOf front bytesOf
-marked c = refl
+first-marked : (c : Settings) → isMarked (firstOf c) ≡ true
+unfolding isMarked sameFirst firstOf front bytesOf
+first-marked c = refl
 
-versioned : (c : Settings) → numberAt 2 (fileOf c) 3 ≡ 1
-unfolding fileOf front bytesOf numberAt
-versioned c = refl
+first-version : (c : Settings) → numberAt 2 (firstOf c) 3 ≡ 1
+unfolding firstOf front bytesOf numberAt
+first-version c = refl
 
--- settings in range, with stream and congestion off, that are written and read back are returned
-pub read-written : (c : Settings) → SettingsFit c → inFile c ≡ true → readFrom (fileOf c) ≡ reading.Settings c
-read-written c r e =
-    let q = and-parts (inRange c && eqb (c .stream) 0) (eqb (c .congestion) 0) e in
-    let p = and-parts (inRange c) (eqb (c .stream) 0) (q .0) in
-    sym (whole-file (fileOf c) (marked c) (versioned c) (length-file c))
-    ∙ rw (settings-of-file c r (eqb-true (c .stream) 0 (p .1)) (eqb-true (c .congestion) 0 (q .1)), p .0)
+second-marked : (c : Settings) → isMarked (secondOf c) ≡ true
+unfolding isMarked sameFirst secondOf front bytesOf
+second-marked c = refl
 
--- what a file that is accepted has passed
-record Accepted (f : List ℕ) (c : Settings) : Type 0 where
-  marked : isMarked f ≡ true
-  versioned : numberAt 2 f 3 ≡ 1
-  whole : length f ≡ 15
-  settings : settingsAt f ≡ c
-  range : inRange c ≡ true
+second-version : (c : Settings) → numberAt 2 (secondOf c) 3 ≡ 2
+unfolding secondOf front bytesOf numberAt
+second-version c = refl
+
+-- settings in range that are written and read back are returned
+pub read-written : (c : Settings) → SettingsFit c → inRange c ≡ true → readFrom (fileOf c) ≡ reading.Settings c
+read-written c r range = go (fitsFirst c) refl
+  where
+    go : (b : Bool) → fitsFirst c ≡ b → readFrom (cond b (firstOf c) (secondOf c)) ≡ reading.Settings c
+    go true e =
+        let off = and-parts _ (eqb (c .congestion) 0) e in
+        let stream = eqb-true (c .stream) 0 (and-parts (leb (c .mtu) 512) (eqb (c .stream) 0) (off .0) .1) in
+        sym (of-first (firstOf c) (omega (arith, length-first c)) (first-marked c) (first-version c))
+        ∙ rw (length-first c, settings-of-first c r stream (eqb-true (c .congestion) 0 (off .1)), range, e)
+    go false e =
+        sym (of-second (secondOf c) (omega (arith, length-second c)) (second-marked c) (second-version c))
+        ∙ rw (length-second c, settings-of-second c r, range, e)
 
 same-settings : (c d : Settings) → reading.Settings c ≡ reading.Settings d → c ≡ d
 same-settings c d e = cc
@@ -176,101 +244,165 @@ same-settings c d e = cc
 not-refused : (r : FileRefusal) (c : Settings) → reading.Refused r ≡ reading.Settings c → ⊥
 not-refused r c e = let z : _≡_ {A = ℕ} 0 1 = cc in omega arith
 
-accepted-by : (f : List ℕ) (c : Settings) → readFrom f ≡ reading.Settings c → Accepted f c
-unfolding readFrom
-accepted-by f c e = go (leb 5 (length f) && isMarked f) refl (eqb (numberAt 2 f 3) 1) refl (eqb (length f) 15) refl (inRange (settingsAt f)) refl e
-  where
-    go : (a : Bool) → (leb 5 (length f) && isMarked f) ≡ a →
-        (b : Bool) → eqb (numberAt 2 f 3) 1 ≡ b →
-        (d : Bool) → eqb (length f) 15 ≡ d →
-        (g : Bool) → inRange (settingsAt f) ≡ g →
-        cond a
-        (cond b (cond d (cond g (reading.Settings (settingsAt f)) (reading.Refused SettingOutOfRange)) (reading.Refused NotSettings)) (reading.Refused UnknownVersion))
-        (reading.Refused NotSettings)
-        ≡ reading.Settings c →
-        Accepted f c
-    go true p true q true r true s h = record {
-      marked = and-parts (leb 5 (length f)) (isMarked f) p .1;
-      versioned = eqb-true (numberAt 2 f 3) 1 q;
-      whole = eqb-true (length f) 15 r;
-      settings = same-settings (settingsAt f) c h;
-      range = ap inRange (sym (same-settings (settingsAt f) c h)) ∙ s;
-    }
-    go true p true q true r false s h = absurd (not-refused SettingOutOfRange c h)
-    go true p true q false r g s h = absurd (not-refused NotSettings c h)
-    go true p false q d r g s h = absurd (not-refused UnknownVersion c h)
-    go false p b q d r g s h = absurd (not-refused NotSettings c h)
-
 -- the bytes of f from i on, a of them and then b
 join : (a b i : ℕ) (f : List ℕ) → take a (drop i f) ++ take b (drop (i + a) f) ≡ take (a + b) (drop i f)
 join a b i f = rw (take-add, drop-drop)
 
--- the mark, where f begins with it
-letters : (f : List ℕ) → length f ≡ 15 → isMarked f ≡ true → mark ≡ take 3 f
-unfolding isMarked
-letters f long e = sym (first-same 3 f mark (omega arith) (omega arith) e)
+module _ (f : List ℕ) (b : AllBytes f) where
+  -- the mark, where f begins with it, and its version
+  front-of : (v : ℕ) → 5 ≤ length f → isMarked f ≡ true → numberAt 2 f 3 ≡ v → front v ≡ take 5 f
+  unfolding isMarked front
+  front-of v long m e =
+      ap (λ (l : List ℕ). l ++ bytesOf 2 v) (sym (first-same 3 f mark (omega arith) (omega arith) m))
+      ∙ rw (← e, bytes-of-number 2 f 3 b (omega arith), join 3 2 0)
 
-front-of : (f : List ℕ) → AllBytes f → length f ≡ 15 → isMarked f ≡ true → numberAt 2 f 3 ≡ 1 → front ≡ take 5 f
-unfolding front
-front-of f b long m v = ap (λ (l : List ℕ). l ++ bytesOf 2 1) (letters f long m) ∙ rw (← v, bytes-of-number 2 f 3 b (omega arith), join 3 2 0)
+  back-of : (stream congestion : ℕ) → 15 ≤ length f → back (settingsAt f stream congestion) ≡ take 10 (drop 5 f)
+  unfolding back settingsAt
+  back-of stream congestion long =
+      rw (
+        bytes-of-number 4 f 5 b (omega arith),
+        bytes-of-number 2 f 9 b (omega arith),
+        bytes-of-number 1 f 11 b (omega arith),
+        bytes-of-number 2 f 12 b (omega arith),
+        bytes-of-number 1 f 14 b (omega arith),
+        join 4 2 5,
+        join 6 1 5,
+        join 7 2 5,
+        join 9 1 5,
+      )
 
-back-of : (f : List ℕ) → AllBytes f → length f ≡ 15 → back (settingsAt f) ≡ take 10 (drop 5 f)
-unfolding back settingsAt
-back-of f b long =
-    rw (
-      bytes-of-number 4 f 5 b (omega arith),
-      bytes-of-number 2 f 9 b (omega arith),
-      bytes-of-number 1 f 11 b (omega arith),
-      bytes-of-number 2 f 12 b (omega arith),
-      bytes-of-number 1 f 14 b (omega arith),
-      join 4 2 5,
-      join 6 1 5,
-      join 7 2 5,
-      join 9 1 5,
-    )
+  added-of : 17 ≤ length f → added (settingsAt f (numberAt 1 f 15) (numberAt 1 f 16)) ≡ take 2 (drop 15 f)
+  unfolding added settingsAt
+  added-of long = rw (bytes-of-number 1 f 15 b (omega arith), bytes-of-number 1 f 16 b (omega arith), join 1 1 15)
+
+  first-of : length f ≡ 15 → isMarked f ≡ true → numberAt 2 f 3 ≡ 1 → firstOf (settingsAt f 0 0) ≡ f
+  unfolding firstOf
+  first-of long m v =
+      rw (front-of 1 (omega (arith, long)) m v, back-of 0 0 (omega (arith, long)), join 5 10 0) (take-all 15 f (omega (arith, long)))
+
+  second-of : length f ≡ 17 → isMarked f ≡ true → numberAt 2 f 3 ≡ 2 → secondOf (settingsAt f (numberAt 1 f 15) (numberAt 1 f 16)) ≡ f
+  unfolding secondOf
+  second-of long m v =
+      rw (
+        front-of 2 (omega (arith, long)) m v,
+        back-of (numberAt 1 f 15) (numberAt 1 f 16) (omega (arith, long)),
+        join 5 10 0,
+        added-of (omega (arith, long)),
+        join 15 2 0,
+      )
+      (take-all 17 f (omega (arith, long)))
+
+  -- a file of version 1 that is accepted is the one that writing gives
+  first-read : (c : Settings) → isMarked f ≡ true → numberAt 2 f 3 ≡ 1 → readFirst f ≡ reading.Settings c → f ≡ fileOf c
+  first-read c m v e = go (eqb (length f) 15) refl (inRange s && fitsFirst s) refl e
+    where
+      s : Settings
+      s = settingsAt f 0 0
+
+      go : (d : Bool) → eqb (length f) 15 ≡ d → (g : Bool) → (inRange s && fitsFirst s) ≡ g
+          → cond d (cond g (reading.Settings s) (reading.Refused SettingOutOfRange)) (reading.Refused NotSettings) ≡ reading.Settings c
+          → f ≡ fileOf c
+      go true l true fit h =
+          let same : s ≡ c = same-settings s c h in
+          let fits : fitsFirst c ≡ true = ap fitsFirst (sym same) ∙ and-parts (inRange s) (fitsFirst s) fit .1 in
+          rw fits (sym (first-of (eqb-true (length f) 15 l) m v) ∙ ap firstOf same)
+      go true l false fit h = absurd (not-refused SettingOutOfRange c h)
+      go false l g fit h = absurd (not-refused NotSettings c h)
+
+  -- and so is one of version 2
+  second-read : (c : Settings) → isMarked f ≡ true → numberAt 2 f 3 ≡ 2 → readSecond f ≡ reading.Settings c → f ≡ fileOf c
+  second-read c m v e = go (eqb (length f) 17) refl (inRange s) refl (fitsFirst s) refl e
+    where
+      s : Settings
+      s = settingsAt f (numberAt 1 f 15) (numberAt 1 f 16)
+
+      go : (d : Bool) → eqb (length f) 17 ≡ d → (g : Bool) → inRange s ≡ g → (n : Bool) → fitsFirst s ≡ n
+          → cond d
+          (cond g (cond n (reading.Refused NeedlessVersion) (reading.Settings s)) (reading.Refused SettingOutOfRange))
+          (reading.Refused NotSettings)
+          ≡ reading.Settings c
+          → f ≡ fileOf c
+      go true l true range false fit h =
+          let same : s ≡ c = same-settings s c h in
+          let fits : fitsFirst c ≡ false = ap fitsFirst (sym same) ∙ fit in
+          rw fits (sym (second-of (eqb-true (length f) 17 l) m v) ∙ ap secondOf same)
+      go true l true range true fit h = absurd (not-refused NeedlessVersion c h)
+      go true l false range n fit h = absurd (not-refused SettingOutOfRange c h)
+      go false l g range n fit h = absurd (not-refused NotSettings c h)
 
 -- each file that is accepted is the one that writing gives
 pub written-read : (f : List ℕ) (c : Settings) → AllBytes f → readFrom f ≡ reading.Settings c → f ≡ fileOf c
-unfolding fileOf
-written-read f c b e =
-    let a = accepted-by f c e in
-    sym (rw (← a .settings, front-of f b (a .whole) (a .marked) (a .versioned), back-of f b (a .whole), join 5 10 0) (take-all 15 f (omega (arith, a .whole))))
+unfolding readFrom
+written-read f c b e = go (leb 5 (length f) && isMarked f) refl (eqb (numberAt 2 f 3) 1) refl (eqb (numberAt 2 f 3) 2) refl e
+  where
+    go : (a : Bool) → (leb 5 (length f) && isMarked f) ≡ a
+        → (p : Bool) → eqb (numberAt 2 f 3) 1 ≡ p
+        → (q : Bool) → eqb (numberAt 2 f 3) 2 ≡ q
+        → cond a (cond p (readFirst f) (cond q (readSecond f) (reading.Refused UnknownVersion))) (reading.Refused NotSettings)
+        ≡ reading.Settings c
+        → f ≡ fileOf c
+    go true m true v q w h = first-read f b c (and-parts (leb 5 (length f)) (isMarked f) m .1) (eqb-true (numberAt 2 f 3) 1 v) h
+    go true m false v true w h = second-read f b c (and-parts (leb 5 (length f)) (isMarked f) m .1) (eqb-true (numberAt 2 f 3) 2 w) h
+    go true m false v false w h = absurd (not-refused UnknownVersion c h)
+    go false m p v q w h = absurd (not-refused NotSettings c h)
+
+-- one setting has one file
+pub one-file : (f g : List ℕ) (c : Settings) → AllBytes f → AllBytes g
+    → readFrom f ≡ reading.Settings c → readFrom g ≡ reading.Settings c → f ≡ g
+one-file f g c a b p q = written-read f c a p ∙ sym (written-read g c b q)
 
 -- ---- the round trips, of the part that writing leaves
 
--- what was written is the file of settings that a file can have
-pub record Wrote (c : Settings) (before after : List ℕ) : Type 0 where
-  pub room : 15 ≤ length before
-  pub range : inFile c ≡ true
-  pub file : take 15 after ≡ fileOf c
+-- what was written is the file of settings in range
+pub record Wrote (c : Settings) (before after : List ℕ) (n : ℕ) : Type 0 where
+  pub room : 17 ≤ length before
+  pub range : inRange c ≡ true
+  pub file : take n after ≡ fileOf c
 
-whole-decides : (c : Settings) (n : ℕ) → writing.Whole ≡ writeInto c n → (15 ≤ n) × (inFile c ≡ true)
+decides : (c : Settings) (n k : ℕ) → writing.Wrote n ≡ writeInto c k → (17 ≤ k) × (inRange c ≡ true) × (n ≡ length (fileOf c))
 unfolding writeInto
-whole-decides c n e = go (leb 15 n) refl (inFile c) refl e
+decides c n k e = go (leb 17 k) refl (inRange c) refl e
   where
-    go : (a : Bool) → leb 15 n ≡ a → (b : Bool) → inFile c ≡ b
-        → writing.Whole ≡ cond a (cond b writing.Whole (writing.Refused SettingOutOfRange)) (writing.Refused ShortPart)
-        → (15 ≤ n) × (inFile c ≡ true)
-    go true p true q h = (leb-true 15 n p, q)
+    go : (a : Bool) → leb 17 k ≡ a → (b : Bool) → inRange c ≡ b
+        → writing.Wrote n
+        ≡ cond a (cond b (writing.Wrote (length (fileOf c))) (writing.Refused SettingOutOfRange)) (writing.Refused ShortPart)
+        → (17 ≤ k) × (inRange c ≡ true) × (n ≡ length (fileOf c))
+    go true p true q h = (leb-true 17 k p, q, cc)
     go true p false q h = absurd (let z : _≡_ {A = ℕ} 0 1 = cc in omega arith)
     go false p b q h = absurd (let z : _≡_ {A = ℕ} 0 1 = cc in omega arith)
 
-stored-front : (c : Settings) (l : List ℕ) → 15 ≤ length l → take 15 (sets l 0 (fileOf c)) ≡ fileOf c
-stored-front c l h =
-    ap (λ (n : ℕ). take n (sets l 0 (fileOf c))) (sym (length-file c))
-    ∙ rw (sets-eq (fileOf c) l 0 (omega (arith, length-file c))) (take-append-seam (fileOf c) (drop (0 + length (fileOf c)) l))
+-- a file has at most 17 bytes
+pub file-short : (c : Settings) → length (fileOf c) ≤ 17
+file-short c = go (fitsFirst c)
+  where
+    go : (b : Bool) → length (cond b (firstOf c) (secondOf c)) ≤ 17
+    go true = omega (arith, length-first c)
+    go false = omega (arith, length-second c)
 
-wrote : (c : Settings) (before after : List ℕ) → Writes c before writing.Whole after → Wrote c before after
-wrote c before after w =
-    let d = whole-decides c (length before) (w .answer) in
-    record { room = d .0; range = d .1; file = rw (w .leaves) (stored-front c before (d .0)) }
+stored-front : (f l : List ℕ) → length f ≤ length l → take (length f) (sets l 0 f) ≡ f
+stored-front f l h = rw (sets-eq f l 0 (omega arith)) (take-append-seam f (drop (0 + length f) l))
+
+wrote : (c : Settings) (before after : List ℕ) (n : ℕ) → Writes c before (writing.Wrote n) after → Wrote c before after n
+wrote c before after n w =
+    let d = decides c n (length before) (w .answer) in
+    record {
+      room = d .0;
+      range = d .1;
+      file = rw (d .2, w .leaves) (stored-front (fileOf c) before (omega (arith, d .0, file-short c)));
+    }
+
+-- what `write` counts is at most 17 bytes
+pub wrote-short : (c : Settings) (before after : List ℕ) (n : ℕ) → Writes c before (writing.Wrote n) after → n ≤ 17
+wrote-short c before after n w = omega (arith, decides c n (length before) (w .answer) .2, file-short c)
 
 -- the part that `write` leaves begins with a file that is read as these settings
-pub write-then-read : (c : Settings) (before after : List ℕ) → SettingsFit c → Writes c before writing.Whole after → readFrom (take 15 after) ≡ reading.Settings c
-write-then-read c before after fit w =
-    let h = wrote c before after w in
+pub write-then-read : (c : Settings) (before after : List ℕ) (n : ℕ) → SettingsFit c → Writes c before (writing.Wrote n) after
+    → readFrom (take n after) ≡ reading.Settings c
+write-then-read c before after n fit w =
+    let h = wrote c before after n w in
     rw (h .file) (read-written c fit (h .range))
 
 -- a file that is accepted is the one that `write` leaves for its settings
-pub read-then-write : (f : List ℕ) (c : Settings) (before after : List ℕ) → AllBytes f → readFrom f ≡ reading.Settings c → Writes c before writing.Whole after → take 15 after ≡ f
-read-then-write f c before after b e w = wrote c before after w .file ∙ sym (written-read f c b e)
+pub read-then-write : (f : List ℕ) (c : Settings) (before after : List ℕ) (n : ℕ) → AllBytes f → readFrom f ≡ reading.Settings c
+    → Writes c before (writing.Wrote n) after → take n after ≡ f
+read-then-write f c before after n b e w = wrote c before after n w .file ∙ sym (written-read f c b e)

@@ -13,7 +13,13 @@ use Rattle.protocol.specs.declared.Refusal.the-variants as linkRefusal
 use Rattle.protocol.specs.declared.Settings.{Settings}
 use Rattle.wire.specs.LittleEndian.{bytesOf, numberAt}
 use Rattle.settings_file.specs.declared.FileRefusal.{FileRefusal}
-use Rattle.settings_file.specs.declared.FileRefusal.the-variants.{ShortPart, SettingOutOfRange, NotSettings, UnknownVersion}
+use Rattle.settings_file.specs.declared.FileRefusal.the-variants.{
+  ShortPart,
+  SettingOutOfRange,
+  NotSettings,
+  UnknownVersion,
+  NeedlessVersion,
+}
 use Rattle.settings_file.specs.declared.Reading.{Reading}
 use Rattle.settings_file.specs.declared.Reading.the-variants as reading
 use Rattle.settings_file.specs.declared.Writing.{Writing}
@@ -25,46 +31,62 @@ numberOf ShortPart = link.numberOf linkRefusal.ShortPart
 numberOf SettingOutOfRange = link.numberOf linkRefusal.SettingOutOfRange
 -- under 5 bytes, another mark, or another length than the version has
 numberOf NotSettings = 15
--- another version than 1
+-- another version than 1 and 2
 numberOf UnknownVersion = 16
+-- version 2, with settings that fit version 1
+numberOf NeedlessVersion = 20
+
+-- ---- the two versions
+
+-- version 1 has 15 bytes, version 2 has 17
+abbrev pub firstSize : ℕ
+firstSize = 15
+
+abbrev pub secondSize : ℕ
+secondSize = 17
+
+-- the settings that fit version 1: mtu up to 512, stream and congestion off
+abbrev pub fitsFirst : Settings → Bool
+fitsFirst c = leb (c .mtu) 512 && eqb (c .stream) 0 && eqb (c .congestion) 0
 
 -- ---- writing
-
--- a file has 15 bytes
-abbrev pub fileSize : ℕ
-fileSize = 15
-
-abbrev pub version : ℕ
-version = 1
 
 -- the three letters KLS, first in every file
 abbrev pub mark : List ℕ
 mark = 75 ∷ 76 ∷ 83 ∷ []
 
 -- mark, and the version in 16 bits
-unfoldable pub front : List ℕ
-front = mark ++ bytesOf 2 version
+unfoldable pub front : ℕ → List ℕ
+front version = mark ++ bytesOf 2 version
 
 -- conversation 4 bytes, mtu 2, mode 1, interval 2, threshold 1
 unfoldable pub back : Settings → List ℕ
 back c = bytesOf 4 (c .conv) ++ bytesOf 2 (c .mtu) ++ bytesOf 1 (c .mode) ++ bytesOf 2 (c .interval) ++ bytesOf 1 (c .threshold)
 
--- the file of these settings
-unfoldable pub fileOf : Settings → List ℕ
-fileOf c = front ++ back c
+-- what version 2 adds: one byte each for stream and congestion
+unfoldable pub added : Settings → List ℕ
+added c = bytesOf 1 (c .stream) ++ bytesOf 1 (c .congestion)
 
--- the settings that a file can have: in range, with stream and congestion off
-abbrev pub inFile : Settings → Bool
-inFile c = inRange c && eqb (c .stream) 0 && eqb (c .congestion) 0
+unfoldable pub firstOf : Settings → List ℕ
+firstOf c = front 1 ++ back c
 
--- writing into a part this long gives 7, then 12, also for stream or congestion on
+unfoldable pub secondOf : Settings → List ℕ
+secondOf c = (front 2 ++ back c) ++ added c
+
+-- the file of these settings: version 1 exactly when they fit it
+abbrev pub fileOf : Settings → List ℕ
+fileOf c = cond (fitsFirst c) (firstOf c) (secondOf c)
+
+-- writing into a part this long: 7 for one under 17 bytes, then 12; else how many bytes the file has
 unfoldable pub writeInto : Settings → ℕ → Writing
 writeInto c n =
-    cond (leb fileSize n) (cond (inFile c) writing.Whole (writing.Refused SettingOutOfRange)) (writing.Refused ShortPart)
+    cond (leb secondSize n)
+    (cond (inRange c) (writing.Wrote (length (fileOf c))) (writing.Refused SettingOutOfRange))
+    (writing.Refused ShortPart)
 
 -- the part afterwards: the file at its start, which is as it was beyond it; refused, it is as it was
 abbrev pub Leaves : Settings → Writing → List ℕ → List ℕ → Type 0
-Leaves c writing.Whole before after = after ≡ sets before 0 (fileOf c)
+Leaves c (writing.Wrote n) before after = after ≡ sets before 0 (fileOf c)
 Leaves c (writing.Refused r) before after = after ≡ before
 
 pub record Writes (c : Settings) (before : List ℕ) (a : Writing) (after : List ℕ) : Type 0 where
@@ -82,28 +104,42 @@ sameFirst (suc n) a b = sameFirst n a b && eqb (getD a n 0) (getD b n 0)
 unfoldable pub isMarked : List ℕ → Bool
 isMarked f = sameFirst 3 f mark
 
--- the settings of its bytes, in range or not: a file means stream and congestion off
-unfoldable pub settingsAt : List ℕ → Settings
-settingsAt f =
+-- the settings of its bytes, in range or not, with this for stream and for congestion
+unfoldable pub settingsAt : List ℕ → ℕ → ℕ → Settings
+settingsAt f stream congestion =
     record {
       conv = numberAt 4 f 5;
       mtu = numberAt 2 f 9;
       mode = numberAt 1 f 11;
       interval = numberAt 2 f 12;
       threshold = numberAt 1 f 14;
-      stream = 0;
-      congestion = 0;
+      stream = stream;
+      congestion = congestion;
     }
 
--- settings in range, or 12
-abbrev pub ranged : Settings → Reading
-ranged c = cond (inRange c) (reading.Settings c) (reading.Refused SettingOutOfRange)
+-- version 1: stream and congestion are off; settings in range that fit it, or 12
+abbrev pub firstRanged : Settings → Reading
+firstRanged c = cond (inRange c && fitsFirst c) (reading.Settings c) (reading.Refused SettingOutOfRange)
 
--- 15 for under 5 bytes or a wrong mark, 16 for an unknown version, 15 for a wrong length, then 12
+abbrev pub readFirst : List ℕ → Reading
+readFirst f = cond (eqb (length f) firstSize) (firstRanged (settingsAt f 0 0)) (reading.Refused NotSettings)
+
+-- version 2: stream, then congestion, at its end; 12 for settings out of range, then 20 for those that fit version 1
+abbrev pub secondRanged : Settings → Reading
+secondRanged c =
+    cond (inRange c)
+    (cond (fitsFirst c) (reading.Refused NeedlessVersion) (reading.Settings c))
+    (reading.Refused SettingOutOfRange)
+
+abbrev pub readSecond : List ℕ → Reading
+readSecond f =
+    cond (eqb (length f) secondSize)
+    (secondRanged (settingsAt f (numberAt 1 f 15) (numberAt 1 f 16)))
+    (reading.Refused NotSettings)
+
+-- 15 for under 5 bytes or a wrong mark, 16 for an unknown version, then by the version: 15 for a wrong length, then 12, then 20
 unfoldable pub readFrom : List ℕ → Reading
 readFrom f =
     cond (leb 5 (length f) && isMarked f)
-    (cond (eqb (numberAt 2 f 3) version)
-    (cond (eqb (length f) fileSize) (ranged (settingsAt f)) (reading.Refused NotSettings))
-    (reading.Refused UnknownVersion))
+    (cond (eqb (numberAt 2 f 3) 1) (readFirst f) (cond (eqb (numberAt 2 f 3) 2) (readSecond f) (reading.Refused UnknownVersion)))
     (reading.Refused NotSettings)

@@ -1,23 +1,48 @@
-// The settings of a link in a file of 15 bytes: the letters KLS, the version 1 in 2 bytes, then conversation 4 bytes, mtu 2,
-// mode 1, interval 2 and threshold 1. Numbers are little-endian.
+// The settings of a link in a file: the letters KLS, the version in 2 bytes, then conversation 4 bytes, mtu 2, mode 1, interval 2 and
+// threshold 1. That is version 1, of 15 bytes, for an mtu up to 512 with stream and congestion off. Version 2, of 17 bytes, is for all
+// other settings and adds one byte each for stream and congestion. Numbers are little-endian.
 use protocol::Settings;
 use wire::number;
 ghost use mathlib.Core.Path.{_≡_};
 ghost use Prim.Native.Nat.{_≤_};
 ghost use lib.ListN.{length};
 ghost use lib.Seq.{sets};
-ghost use Rattle.settings_file.specs.Files.{fileSize, numberOf, front, back, fileOf, inFile, isMarked, settingsAt, ranged, readFrom, Writes};
+ghost use Rattle.settings_file.specs.Files.{
+  firstSize,
+  secondSize,
+  fitsFirst,
+  numberOf,
+  front,
+  back,
+  added,
+  fileOf,
+  isMarked,
+  settingsAt,
+  firstRanged,
+  secondRanged,
+  readFirst,
+  readSecond,
+  readFrom,
+  Writes,
+};
 
 // The mark, which every file begins with.
 const MARK: [u8; 3] = *b"KLS";
 
-// The bytes of a file, and its version.
-const SIZE: usize = 15;
-
-const VERSION: u16 = 1;
-
 // The bytes in which every version has its mark and its number.
 const FRONT: usize = 5;
+
+// The two versions and their bytes. A writer's part has room for both.
+const FIRST: u16 = 1;
+
+const FIRST_SIZE: usize = 15;
+
+const SECOND: u16 = 2;
+
+const SECOND_SIZE: usize = 17;
+
+// The largest mtu of version 1.
+const FIRST_MTU_MOST: u16 = 512;
 
 // Why a file is not read, or not written.
 pub enum FileRefusal {
@@ -25,6 +50,7 @@ pub enum FileRefusal {
     SettingOutOfRange,
     NotSettings,
     UnknownVersion,
+    NeedlessVersion,
 }
 
 // What a file is read as.
@@ -33,9 +59,9 @@ pub enum Reading {
     Refused(FileRefusal),
 }
 
-// Whether a file was written.
+// How many bytes of a file were written.
 pub enum Writing {
-    Whole,
+    Wrote(usize),
     Refused(FileRefusal),
 }
 
@@ -49,23 +75,31 @@ impl FileRefusal {
             FileRefusal::SettingOutOfRange => 12,
             FileRefusal::NotSettings => 15,
             FileRefusal::UnknownVersion => 16,
+            FileRefusal::NeedlessVersion => 20,
         }
     }
 }
 
+// Whether settings fit version 1.
+fn fits_first(settings: Settings) -> bool
+    ensures { λ r. ⌜ r ≡ fitsFirst settings ⌝ }
+{
+    (settings.mtu <= FIRST_MTU_MOST) & (settings.stream == 0) & (settings.congestion == 0)
+}
+
 // The mark and the version.
-fn put_front(out: &mut [u8])
-    requires { ⌜ fileSize ≤ length (now out) ⌝ }
-    ensures { λ _. ⌜ now (out .exit) ≡ sets (now (out .entry)) 0 front ⌝ }
+fn put_front(out: &mut [u8], version: u16)
+    requires { ⌜ firstSize ≤ length (now out) ⌝ }
+    ensures { λ _. ⌜ now (out .exit) ≡ sets (now (out .entry)) 0 (front version) ⌝ }
 {
     let mark = MARK;
     pools::copy_part(&mark, 0, 3, out, 0);
-    number::put_u16(out, 3, VERSION);
+    number::put_u16(out, 3, version);
 }
 
-// The settings, behind mark and version.
+// The settings of both versions, behind mark and version.
 fn put_back(out: &mut [u8], settings: Settings)
-    requires { ⌜ fileSize ≤ length (now out) ⌝ }
+    requires { ⌜ firstSize ≤ length (now out) ⌝ }
     ensures { λ _. ⌜ now (out .exit) ≡ sets (now (out .entry)) 5 (back settings) ⌝ }
 {
     number::put_u32(out, 5, settings.conv);
@@ -75,25 +109,41 @@ fn put_back(out: &mut [u8], settings: Settings)
     number::put_u8(out, 14, settings.threshold);
 }
 
-// Whether a file can have these settings: in range, with stream and congestion off.
-fn in_file(settings: Settings) -> bool
-    ensures { λ r. ⌜ r ≡ inFile settings ⌝ }
+// What version 2 adds.
+fn put_added(out: &mut [u8], settings: Settings)
+    requires { ⌜ secondSize ≤ length (now out) ⌝ }
+    ensures { λ _. ⌜ now (out .exit) ≡ sets (now (out .entry)) 15 (added settings) ⌝ }
 {
-    settings.in_range() & (settings.stream == 0) & (settings.congestion == 0)
+    number::put_u8(out, 15, settings.stream);
+    number::put_u8(out, 16, settings.congestion);
 }
 
-// Writes the file of these settings at the start of a part: 7 where the part is under 15 bytes, then 12, also for stream or congestion on. No
-// other byte changes.
+// The file of these settings, and how many bytes it has.
+fn put_file(out: &mut [u8], settings: Settings) -> usize
+    requires { ⌜ secondSize ≤ length (now out) ⌝ }
+    ensures { λ r. ⌜ (r ≡ length (fileOf settings)) × (now (out .exit) ≡ sets (now (out .entry)) 0 (fileOf settings)) ⌝ }
+{
+    if fits_first(settings) {
+        put_front(out, FIRST);
+        put_back(out, settings);
+        return FIRST_SIZE;
+    }
+    put_front(out, SECOND);
+    put_back(out, settings);
+    put_added(out, settings);
+    SECOND_SIZE
+}
+
+// Writes the file of these settings at the start of a part: 7 where the part is under 17 bytes, then 12. No other byte changes.
 pub fn write(settings: Settings, out: &mut [u8]) -> Writing
     ensures { λ r. ⌜ Writes settings (now (out .entry)) r (now (out .exit)) ⌝ }
 {
-    if out.len() < SIZE {
+    if out.len() < SECOND_SIZE {
         return Writing::Refused(FileRefusal::ShortPart);
     }
-    if in_file(settings) {
-        put_front(out);
-        put_back(out, settings);
-        return Writing::Whole;
+    if settings.in_range() {
+        let n = put_file(out, settings);
+        return Writing::Wrote(n);
     }
     Writing::Refused(FileRefusal::SettingOutOfRange)
 }
@@ -114,10 +164,10 @@ fn is_marked(file: &[u8]) -> bool
     true
 }
 
-// The settings of a file's 15 bytes, in range or not: stream and congestion off.
-fn settings_at(file: &[u8]) -> Settings
-    requires { ⌜ fileSize ≤ length (now file) ⌝ }
-    ensures { λ r. ⌜ r ≡ settingsAt (now (file .entry)) ⌝ }
+// The settings of a file's bytes, in range or not, with this for stream and for congestion.
+fn settings_at(file: &[u8], stream: u8, congestion: u8) -> Settings
+    requires { ⌜ firstSize ≤ length (now file) ⌝ }
+    ensures { λ r. ⌜ r ≡ settingsAt (now (file .entry)) stream congestion ⌝ }
 {
     Settings {
         conv: number::read_u32(file, 5),
@@ -125,23 +175,58 @@ fn settings_at(file: &[u8]) -> Settings
         interval: number::read_u16(file, 12),
         mode: number::read_u8(file, 11),
         threshold: number::read_u8(file, 14),
-        stream: 0,
-        congestion: 0,
+        stream,
+        congestion,
     }
 }
 
-// The settings, or 12.
-fn ranged(settings: Settings) -> Reading
-    ensures { λ r. ⌜ r ≡ ranged settings ⌝ }
+// The settings of a file of version 1, or 12.
+fn first_ranged(settings: Settings) -> Reading
+    ensures { λ r. ⌜ r ≡ firstRanged settings ⌝ }
 {
-    if settings.in_range() {
+    if settings.in_range() & fits_first(settings) {
         Reading::Settings(settings)
     } else {
         Reading::Refused(FileRefusal::SettingOutOfRange)
     }
 }
 
-// Reads a file: 15 for under 5 bytes or a wrong mark, 16 for an unknown version, 15 for a wrong length, then 12.
+// The settings of a file of version 2, or 12, then 20.
+fn second_ranged(settings: Settings) -> Reading
+    ensures { λ r. ⌜ r ≡ secondRanged settings ⌝ }
+{
+    if settings.in_range() {
+        if fits_first(settings) {
+            return Reading::Refused(FileRefusal::NeedlessVersion);
+        }
+        return Reading::Settings(settings);
+    }
+    Reading::Refused(FileRefusal::SettingOutOfRange)
+}
+
+// A file of version 1: 15 for a wrong length, then 12.
+fn read_first(file: &[u8]) -> Reading
+    ensures { λ r. ⌜ r ≡ readFirst (now (file .entry)) ⌝ }
+{
+    if file.len() != FIRST_SIZE {
+        return Reading::Refused(FileRefusal::NotSettings);
+    }
+    first_ranged(settings_at(file, 0, 0))
+}
+
+// A file of version 2: 15 for a wrong length, then 12, then 20.
+fn read_second(file: &[u8]) -> Reading
+    ensures { λ r. ⌜ r ≡ readSecond (now (file .entry)) ⌝ }
+{
+    if file.len() != SECOND_SIZE {
+        return Reading::Refused(FileRefusal::NotSettings);
+    }
+    let stream = number::read_u8(file, 15);
+    let congestion = number::read_u8(file, 16);
+    second_ranged(settings_at(file, stream, congestion))
+}
+
+// Reads a file: 15 for under 5 bytes or a wrong mark, 16 for an unknown version, then as the version says.
 pub fn read(file: &[u8]) -> Reading
     ensures { λ r. ⌜ r ≡ readFrom (now (file .entry)) ⌝ }
 {
@@ -149,13 +234,14 @@ pub fn read(file: &[u8]) -> Reading
         return Reading::Refused(FileRefusal::NotSettings);
     }
     if is_marked(file) {
-        if number::read_u16(file, 3) != VERSION {
-            return Reading::Refused(FileRefusal::UnknownVersion);
+        let version = number::read_u16(file, 3);
+        if version == FIRST {
+            return read_first(file);
         }
-        if file.len() != SIZE {
-            return Reading::Refused(FileRefusal::NotSettings);
+        if version == SECOND {
+            return read_second(file);
         }
-        return ranged(settings_at(file));
+        return Reading::Refused(FileRefusal::UnknownVersion);
     }
     Reading::Refused(FileRefusal::NotSettings)
 }

@@ -15,6 +15,6 @@ enough mss n =
     && leb sendSlots (n .table)
     && leb (2 * acksMost) (n .acks)
 
--- a flush is lent besides at least 22,576 bytes for output and at least 290 lengths
+-- a flush is lent besides at least 50,992 bytes for output and at least 290 lengths
 unfoldable pub enoughToFlush : ℕ → Lengths → ℕ → ℕ → Bool
 enoughToFlush mss n output lengths = enough mss n && leb outputLeast output && leb lengthsLeast lengths

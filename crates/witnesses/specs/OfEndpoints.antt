@@ -7,6 +7,7 @@ use Prim.Native.Nat.{ℕ}
 use native.Mathlib.Omega.{arith}
 use lib.ListN.{replicate}
 use lib.Seq.{sets}
+use Rattle.protocol.specs.Protocol.{outputLeast, lengthsLeast}
 use Rattle.protocol.specs.declared.Refusal.the-variants.{NoMessage}
 use Rattle.protocol.specs.Serial.{signed, isBefore, isAfter, isDue}
 use Rattle.wire.specs.LittleEndian.{AllBytes, bytesOf, numberAt}
@@ -61,7 +62,7 @@ unfoldable pub sent : Endpoint
 sent = afterSend fresh (sends (fresh .link) (fresh .parts) (104 ∷ 105 ∷ []))
 
 unfoldable pub flushed : Endpoint
-flushed = afterFlush sent (flushes (sent .link) (sent .parts) 22576 290 7)
+flushed = afterFlush sent (flushes (sent .link) (sent .parts) outputLeast lengthsLeast 7)
 
 unfoldable pub datagram : List ℕ
 datagram = 1 ∷ 0 ∷ 0 ∷ 0 ∷ 81 ∷ 0 ∷ 128 ∷ 0 ∷ 7 ∷ 0 ∷ 0 ∷ 0 ∷ 0 ∷ 0 ∷ 0 ∷ 0 ∷ 0 ∷ 0 ∷ 0 ∷ 0 ∷ 2 ∷ 0 ∷ 0 ∷ 0 ∷ 104 ∷ 105 ∷ []
@@ -123,12 +124,12 @@ met = record {
     sees = refl;
   };
   flushes-it = record {
-    output = replicate 22576 0;
-    lengths = replicate 290 0;
+    output = replicate outputLeast 0;
+    lengths = replicate lengthsLeast 0;
     room = record { long = omega arith; many = omega arith };
     gives = count.Of 1;
-    output′ = sets (replicate 22576 0) 0 datagram;
-    lengths′ = sets (replicate 290 0) 0 (26 ∷ []);
+    output′ = sets (replicate outputLeast 0) 0 datagram;
+    lengths′ = sets (replicate lengthsLeast 0) 0 (26 ∷ []);
     promise = record {
       answer = refl;
       leaves = record {

@@ -7,6 +7,7 @@ use Prim.Native.Nat.{ℕ}
 use native.Mathlib.Omega.{arith}
 use lib.ListN.{replicate}
 use lib.Seq.{sets}
+use Rattle.protocol.specs.Protocol.{outputLeast, lengthsLeast}
 use Rattle.protocol.specs.Serial.{signed, isBefore, isAfter, isDue}
 use Rattle.wire.specs.LittleEndian.{bytesOf}
 use Rattle.wire.specs.Headers.{encode, front, back}
@@ -88,10 +89,10 @@ unfoldable pub rested-again : Endpoint
 rested-again = at 20
 
 abbrev output : List ℕ
-output = replicate 22576 0
+output = replicate outputLeast 0
 
 abbrev lengths : List ℕ
-lengths = replicate 290 0
+lengths = replicate lengthsLeast 0
 
 -- ---- each call keeps its promise
 

@@ -9,6 +9,7 @@ use native.Mathlib.Omega.{arith}
 use lib.Dec.{ltb}
 use lib.ListN.{length, getD, replicate}
 use borrow.Author.Tests.{ltb-true}
+use Rattle.protocol.specs.Protocol.{outputLeast, lengthsLeast}
 use Rattle.protocol.specs.declared.Settings.{Settings}
 use Rattle.protocol.specs.declared.Refusal.the-variants.{NoMessage}
 use Rattle.protocol.specs.Serial.{signed, isBefore, isAfter, isDue}
@@ -61,7 +62,7 @@ station = record {
   state = opened c;
   sendPool = replicate 3328 0;
   receivePool = replicate 6656 0;
-  lent = record { table = 128; ackList = 512; output = 22576; lengths = 290 };
+  lent = record { table = 128; ackList = 512; output = outputLeast; lengths = lengthsLeast };
 }
 
 -- a message of two segments, one that is refused, and one of one segment; a flush after the first, and one when its segments are due again

@@ -7,6 +7,7 @@ use mathlib.Core.List.{List, [], _∷_, _++_, List·Memᴰ·head, List·Memᴰ·
 use Prim.Native.Nat.{ℕ}
 use native.Mathlib.Omega.{arith}
 use lib.ListN.{getD, replicate}
+use Rattle.protocol.specs.Protocol.{outputLeast, lengthsLeast}
 use Rattle.protocol.specs.declared.Settings.{Settings}
 use Rattle.protocol.specs.declared.Refusal.the-variants.{NoMessage}
 use Rattle.protocol.specs.Serial.{signed, isBefore, isAfter, isDue}
@@ -48,7 +49,7 @@ station = record {
   state = opened c;
   sendPool = replicate 3328 0;
   receivePool = replicate 6656 0;
-  lent = record { table = 128; ackList = 512; output = 22576; lengths = 290 };
+  lent = record { table = 128; ackList = 512; output = outputLeast; lengths = lengthsLeast };
 }
 
 -- the first update flushes

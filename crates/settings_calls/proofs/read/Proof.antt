@@ -8,8 +8,8 @@ use Rattle.settings_calls.proofs.read.Tie as tie
 
 returns : tie.Need-returns
 returns c =
-    let told = c .before .before .before .before .before .reading .given in
-    stored _ _ _ (told .0 .0) (c .before .before .before .before .before .before .before .read .ensures) (told .1)
+    let told = c .before .before .before .before .before .before .before .reading .given in
+    stored _ _ _ (told .0 .0) (c .before .before .before .before .before .before .before .before .before .read .ensures) (told .1)
 
 returns-2 : tie.Need-returns-2
 returns-2 c =
@@ -21,6 +21,8 @@ read-spec =
     tie.close
     (tie.spec
     (λ c κs. search needs)
+    (λ c. search needs)
+    (λ c. search needs)
     (λ c. search needs)
     (λ c. search needs)
     (λ c. search needs)

@@ -6,7 +6,7 @@ use Rattle.settings_file.proofs.put_front.Statement.{statement}
 use Rattle.settings_file.proofs.put_front.Tie as tie
 
 returns : tie.Need-returns
-returns c = front-stored _ (c .before .before .before .before .before .before .copy-part .ensures) (c .before .before .put-u16 .ensures)
+returns c = front-stored _ _ (c .before .before .before .before .before .before .copy-part .ensures) (c .before .before .put-u16 .ensures)
 
 pub put-front-spec : {M : Type 1} → statement M
 put-front-spec = tie.close (tie.spec (search needs) (search needs) (search needs) (search needs) returns)

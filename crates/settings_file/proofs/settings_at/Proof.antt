@@ -13,8 +13,8 @@ returns c = λ i. record {
   interval = c .before .before .read-u162 .ensures i;
   mode = c .before .read-u8 .ensures i;
   threshold = c .read-u82 .ensures i;
-  stream = 0;
-  congestion = 0;
+  stream = c .before .before .before .before .before .before .args .stream;
+  congestion = c .before .before .before .before .before .before .args .congestion;
 }
 
 pub settings-at-spec : {M : Type 1} → statement M
