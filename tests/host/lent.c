@@ -156,7 +156,8 @@ static int same_clock(const ampferweg_clock *a, const ampferweg_clock *b)
 int same_link(const ampferweg_link *a, const ampferweg_link *b)
 {
     const ampferweg_settings *s = &a->settings, *t = &b->settings;
-    return s->conv == t->conv && s->mtu == t->mtu && s->interval == t->interval && s->mode == t->mode && s->threshold == t->threshold && s->stream == t->stream &&
+    return s->conv == t->conv && s->mtu == t->mtu && s->interval == t->interval && s->mode == t->mode && s->threshold == t->threshold &&
+        s->stream == t->stream &&
         same_flight(&a->flight, &b->flight) && same_arrival(&a->arrival, &b->arrival) && same_clock(&a->clock, &b->clock) &&
         same_held(a->queued, b->queued, 128) && same_held(a->outstanding, b->outstanding, 32) &&
         memcmp(a->transmissions, b->transmissions, sizeof a->transmissions) == 0 && same_held(a->ready, b->ready, 128) &&

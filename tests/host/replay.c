@@ -1,7 +1,7 @@
 /* Plays a script of calls (standard input) through the C interface and writes the answers (standard output).
  *
- * One command a line: open CONV MTU MODE INTERVAL THRESHOLD [STREAM], send HEX, input HEX, flush TIME, update TIME, check TIME, read ROOM, size,
- * show, state, held, jump SND RCV, lend PART COUNT, poke FIELD VALUE, hold LIST INDEX FIELD VALUE, rec SLOT NUMBER DUE TIMEOUT SKIPS.
+ * One command a line: open CONV MTU MODE INTERVAL THRESHOLD [STREAM], send HEX, input HEX, flush TIME, update TIME, check TIME, read ROOM,
+ * size, show, state, held, jump SND RCV, lend PART COUNT, poke FIELD VALUE, hold LIST INDEX FIELD VALUE, rec SLOT NUMBER DUE TIMEOUT SKIPS.
  * The parts are those of an mtu of 256. tests/vectors has scripts with the answers that they must get. */
 #include <ampferweg.h>
 #include <inttypes.h>

@@ -76,16 +76,21 @@ pub not-malformed : (c : Command) → OneOf (1 ∷ 2 ∷ 3 ∷ 4 ∷ 5 ∷ 6 ∷
 unfolding isOneOf
 not-malformed c h e = not-one 1 (2 ∷ 3 ∷ 4 ∷ 5 ∷ 6 ∷ 7 ∷ 8 ∷ 9 ∷ 10 ∷ 11 ∷ 12 ∷ 13 ∷ 14 ∷ 15 ∷ []) 16 refl (rw e at h)
 
-pub not-open : (c : Command) → OneOf (1 ∷ 2 ∷ 3 ∷ 4 ∷ 5 ∷ 6 ∷ 7 ∷ 8 ∷ 9 ∷ 10 ∷ 11 ∷ 12 ∷ 13 ∷ 14 ∷ 15 ∷ []) (tag c) → (conv mtu mode interval threshold stream congestion : ℕ) → c ≡ Open conv mtu mode interval threshold stream congestion → ⊥
+pub not-open : (c : Command) → OneOf (1 ∷ 2 ∷ 3 ∷ 4 ∷ 5 ∷ 6 ∷ 7 ∷ 8 ∷ 9 ∷ 10 ∷ 11 ∷ 12 ∷ 13 ∷ 14 ∷ 15 ∷ []) (tag c) →
+    (conv mtu mode interval threshold stream congestion : ℕ) → c ≡ Open conv mtu mode interval threshold stream congestion → ⊥
 unfolding isOneOf
-not-open c h conv mtu mode interval threshold stream congestion e = not-one 1 (2 ∷ 3 ∷ 4 ∷ 5 ∷ 6 ∷ 7 ∷ 8 ∷ 9 ∷ 10 ∷ 11 ∷ 12 ∷ 13 ∷ 14 ∷ 15 ∷ []) 0 refl (rw e at h)
+not-open c h conv mtu mode interval threshold stream congestion e =
+    not-one 1 (2 ∷ 3 ∷ 4 ∷ 5 ∷ 6 ∷ 7 ∷ 8 ∷ 9 ∷ 10 ∷ 11 ∷ 12 ∷ 13 ∷ 14 ∷ 15 ∷ []) 0 refl (rw e at h)
 
-pub apart : (c : Command) (conv mtu mode interval threshold stream congestion : ℕ) → c ≡ Malformed → c ≡ Open conv mtu mode interval threshold stream congestion → ⊥
+pub apart : (c : Command) (conv mtu mode interval threshold stream congestion : ℕ) → c ≡ Malformed →
+    c ≡ Open conv mtu mode interval threshold stream congestion → ⊥
 apart c conv mtu mode interval threshold stream congestion e h = let z : _≡_ {A = ℕ} 0 1 = cc in omega arith
 
 pub both : (t : Bool) → t ≡ true → t ≡ false → ⊥
 both t e h = let z : _≡_ {A = ℕ} 0 1 = cc in omega arith
 
 -- one command has one set of settings
-pub same-settings : (c : Command) (conv mtu mode interval threshold stream congestion conv′ mtu′ mode′ interval′ threshold′ stream′ congestion′ : ℕ) → c ≡ Open conv mtu mode interval threshold stream congestion → c ≡ Open conv′ mtu′ mode′ interval′ threshold′ stream′ congestion′ → settingsOf conv mtu mode interval threshold stream congestion ≡ settingsOf conv′ mtu′ mode′ interval′ threshold′ stream′ congestion′
+pub same-settings : (c : Command) (conv mtu mode interval threshold stream congestion conv′ mtu′ mode′ interval′ threshold′ stream′ congestion′ : ℕ) →
+    c ≡ Open conv mtu mode interval threshold stream congestion → c ≡ Open conv′ mtu′ mode′ interval′ threshold′ stream′ congestion′ →
+    settingsOf conv mtu mode interval threshold stream congestion ≡ settingsOf conv′ mtu′ mode′ interval′ threshold′ stream′ congestion′
 same-settings c conv mtu mode interval threshold stream congestion conv′ mtu′ mode′ interval′ threshold′ stream′ congestion′ e h = cc

@@ -199,7 +199,8 @@ PlaysOnLink (command.Lend part count) b s r a bytes text x s′ r′ a′ text�
 PlaysOnLink (command.Poke field value) b s r a bytes text x s′ r′ a′ text′ = Untouched s r a s′ r′ a′ × PlaysTool (command.Poke field value) b text x text′
 PlaysOnLink (command.Hold list index field value) b s r a bytes text x s′ r′ a′ text′ = Untouched s r a s′ r′ a′ × PlaysTool (command.Hold list index field value) b text x text′
 PlaysOnLink (command.Rec slot number due timeout skips) b s r a bytes text x s′ r′ a′ text′ = Untouched s r a s′ r′ a′ × PlaysTool (command.Rec slot number due timeout skips) b text x text′
-PlaysOnLink (command.Open conv mtu mode interval threshold stream congestion) b s r a bytes text x s′ r′ a′ text′ = Untouched s r a s′ r′ a′ × NoCommand b text x text′
+PlaysOnLink (command.Open conv mtu mode interval threshold stream congestion) b s r a bytes text x s′ r′ a′ text′ =
+    Untouched s r a s′ r′ a′ × NoCommand b text x text′
 PlaysOnLink command.Malformed b s r a bytes text x s′ r′ a′ text′ = Untouched s r a s′ r′ a′ × NoCommand b text x text′
 
 -- neither `open` nor malformed
@@ -223,7 +224,8 @@ settingsOf conv mtu mode interval threshold stream congestion =
 -- `open` opens the link; every other command is refused before that
 pub record Plays (c : Command) (b : Bench) (s r a bytes text : List ℕ) (x : Played) (s′ r′ a′ text′ : List ℕ) : Type 0 where
   pub malformed : c ≡ command.Malformed → Untouched s r a s′ r′ a′ × NoCommand b text x text′
-  pub opens : (conv mtu mode interval threshold stream congestion : ℕ) → c ≡ command.Open conv mtu mode interval threshold stream congestion → Untouched s r a s′ r′ a′ × PlaysOpen (settingsOf conv mtu mode interval threshold stream congestion) b s r a text x text′
+  pub opens : (conv mtu mode interval threshold stream congestion : ℕ) → c ≡ command.Open conv mtu mode interval threshold stream congestion →
+      Untouched s r a s′ r′ a′ × PlaysOpen (settingsOf conv mtu mode interval threshold stream congestion) b s r a text x text′
   pub onLink : IsLater c → b .opened ≡ true → PlaysOnLink c b s r a bytes text x s′ r′ a′ text′
   pub unopened : IsLater c → b .opened ≡ false → Untouched s r a s′ r′ a′ × PlaysUnopened c b text x text′
 

@@ -6,7 +6,8 @@ use notation::Bytes;
 use numbers::Numbers;
 ghost use mathlib.Core.Path.{_≡_};
 ghost use lib.ListN.{length, drop};
-ghost use Rattle.script.specs.Commands.{isField, fieldMost, hasField, heldMost, ofNone, ofOne, ofTwo, ofFour, ofFive, ofSix, ofSeven, withNumbers, withBytes, storedBytes, Parsed};
+ghost use Rattle.script.specs.Commands.{isField, fieldMost, hasField, heldMost, ofNone, ofOne, ofTwo, ofFour, ofFive, ofSix, ofSeven};
+ghost use Rattle.script.specs.Commands.{withNumbers, withBytes, storedBytes, Parsed};
 ghost use Rattle.script.specs.Reading.{readAs};
 
 // The most bytes of a line, its newline not counted, and of a script.

@@ -3,14 +3,12 @@
 use mathlib.Core.Path.{_≡_, refl}
 use native.Mathlib.Omega.{arith}
 use borrow.Author.Needs.{needs}
-use Rattle.bench.specs.Fields.{settingsOf, behindSettings, stored}
 use Rattle.bench.specs.FieldLaws.{settings-first}
 use Rattle.bench.proofs.poke.poke.Statement.{statement}
 use Rattle.bench.proofs.poke.poke.Tie as tie
 
 first : tie.Need-returns
 first c h =
-    let a = c .before .before .args in
     let e = c .setting .ensures in
     record { fields = rw (e .1 .0, e .1 .1) (settings-first _ _ _ _ _ (c .before .if1 .taken) (e .0)); counts = refl; lists = refl }
 
