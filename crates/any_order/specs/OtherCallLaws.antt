@@ -4,10 +4,11 @@
 use mathlib.Core.Path.{_≡_, refl, sym, ap, _∙_}
 use mathlib.Core.Bool.{Bool, true, false}
 use mathlib.Core.List.{List, [], map, append-nil}
-use Prim.Native.Nat.{ℕ}
+use Prim.Native.Nat.{ℕ, _≤_}
 use native.Mathlib.Omega.{arith}
 use lib.ListN.{length}
 use Rattle.protocol.specs.Ranges.{mss}
+use Rattle.protocol.specs.Protocol.{sendWindow}
 use Rattle.protocol.specs.Serial.{plus}
 use Rattle.protocol.specs.declared.Settings.{Settings}
 use Rattle.sizes.specs.Sizes.{enough, enoughToFlush}
@@ -26,6 +27,7 @@ use Rattle.promises.specs.Parts.{Parts, lengthsOf, stateIn, isMade, Unchanged}
 use Rattle.promises.specs.Outcomes as outcomes
 use Rattle.promises.specs.Outcomes.{checked, sendsWith, readsWith, flushesWith, updatesWith}
 use Rattle.promises.specs.Promises.{SendLeaves, ReadLeaves, FlushLeaves, UpdateLeaves}
+use Rattle.delivery.specs.SendingFlushes.{window-most}
 use Rattle.delivery.specs.CallCases.{sending-cases, reading-cases, updating-cases, scheduledAt}
 use Rattle.any_order.specs.Numbers.{seenBy, untimed}
 use Rattle.any_order.specs.Hearing.{OtherCall, sends, reads, flushes, updates, NextFixed}
