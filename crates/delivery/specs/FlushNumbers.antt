@@ -151,8 +151,11 @@ module _ (s : Station) (made : valid (s .state) ≡ true) (conv32 : s .state .se
       go : (r : List Sent) → All (λ (x : Sent). x .record .number ≡ d .next → ⊥) r →
           All (λ (x : Sent). Other l (dataOf x)) (map (sentAfter c link t) r)
       go [] a = tt
-      go (x ∷ r) a = (rw (transmission-number c link t (x .transmissions) (x .record))
-          (ne-eqb (x .record .number) (length l % 2 ^ 32) (λ q. a .0 (q ∙ sym e))), go r (a .1))
+      go (x ∷ r) a = (
+        rw (transmission-number c link t (x .transmissions) (x .record))
+            (ne-eqb (x .record .number) (length l % 2 ^ 32) (λ q. a .0 (q ∙ sym e))),
+        go r (a .1),
+      )
 
   abbrev acks : List Segment
   acks = map (ackSegment (carried (s .state))) (s .state .receiving .acks)

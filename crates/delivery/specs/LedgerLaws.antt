@@ -49,7 +49,7 @@ pub used-held : (c : Settings) (s : Sending) → Half c s → usedSlots s ≡ le
 unfolding usedSlots
 used-held c s h =
     used-all sendSlots (slots (sendHeld s)) (h .held .distinct)
-        (all-mapped (λ (n : ℕ). n < sendSlots) (λ (x : Held). x .slot) (sendHeld s) (h .held .low))
+    (all-mapped (λ (n : ℕ). n < sendSlots) (λ (x : Held). x .slot) (sendHeld s) (h .held .low))
     ∙ length-map (sendHeld s) (λ (x : Held). x .slot)
 
 -- ---- an arriving segment removes what it acknowledges

@@ -101,8 +101,11 @@ module _ (s : Station) (before : List Piece) (accepted : List (List ℕ)) (made 
   unfolding applied
   take-step b gs =
       let k = taken-same c (s .state .current) d gs (ackNumbers gs) in
-      record { then = rw (append-nil before, append-nil accepted) (record { next = k .0 ∙ n .next; cuts = rw (k .1) (n .cuts) }); wrote =
-      nothing }
+      record {
+        then = rw (append-nil before, append-nil accepted) (record { next = k .0 ∙ n .next; cuts = rw (k .1) (n .cuts) });
+        wrote =
+            nothing;
+      }
 
   flush-step : (t : ℕ) → t < 2 ^ 32 → Steps c before accepted s (Call.flush t) (afterFlush s (flushing (s .state) t (s .sendPool)))
   unfolding flushing
@@ -150,7 +153,7 @@ module _ (s : Station) (before : List Piece) (accepted : List (List ℕ)) (made 
   -- a call that changes neither queue nor numbers
   others-step : (state : State) → state .sending ≡ s .state .sending
       → Numbers settings (before ++ []) (accepted ++ [])
-          (record { state = state; sendPool = s .sendPool; receivePool = s .receivePool; lent = s .lent })
+      (record { state = state; sendPool = s .sendPool; receivePool = s .receivePool; lent = s .lent })
   others-step state e =
       rw (append-nil before, append-nil accepted)
       (record {
@@ -187,7 +190,7 @@ steps-by : (c : Settings) (s : Station) (before : List Piece) (accepted : List (
     Steps c before accepted s x (own s x)
 steps-by c s before accepted x made conv32 o carry n k =
     subst (λ (c : Settings). c .conv < 2 ^ 32 → SendingInOrder c s → Numbers c before accepted s → Steps c before accepted s x (own s x))
-        (o .settings)
+    (o .settings)
     (λ conv32 o n. steps s before accepted made conv32 o carry n x k)
     conv32 o n
 
@@ -206,8 +209,13 @@ first-run : (c : Settings) (s : Station) (x : Call) (xs : List Call) → Passing
 unfolding piecesNumbered acceptedList datagramsBy
 first-run c s x xs p before accepted r e = record {
   then =
-      rw (after-first s x xs p, history-first s x xs p, ← append-assoc before now (piecesNumbered (own s x .station) xs), ← append-assoc
-      accepted new (acceptedList (history (own s x .station) xs)))
+      rw (
+        after-first s x xs p,
+        history-first s x xs p,
+        ← append-assoc before now (piecesNumbered (own s x .station) xs),
+        ← append-assoc
+            accepted new (acceptedList (history (own s x .station) xs)),
+      )
       (r .then);
   wrote =
       rw (history-first s x xs p, ← append-assoc before now (piecesNumbered (own s x .station) xs))

@@ -180,9 +180,10 @@ shows-in m pool pool′ pieces (x ∷ l) e a = (
 shows-more : (m : ℕ) (pool : List ℕ) (pieces more : List Piece) (l : List Sent) → All (Shows m pool pieces) l →
     All (Shows m pool (pieces ++ more)) l
 shows-more m pool pieces more [] a = tt
-shows-more m pool pieces more (x ∷ l) a =
-    (record { its-piece = get-append pieces more (x .record .number) (pieceIn m pool (x .held)) (a .0 .its-piece); small = a .0 .small },
-    shows-more m pool pieces more l (a .1))
+shows-more m pool pieces more (x ∷ l) a = (
+  record { its-piece = get-append pieces more (x .record .number) (pieceIn m pool (x .held)) (a .0 .its-piece); small = a .0 .small },
+  shows-more m pool pieces more l (a .1),
+)
 
 module _ (c : Settings) (s : Sending) (pool message : List ℕ) (h : Half c s) (enough : sendSlots * mss c ≤ length pool)
     (room : Room c s pool message) where
@@ -211,7 +212,7 @@ module _ (c : Settings) (s : Sending) (pool message : List ℕ) (h : Half c s) (
   same-sent : All (λ (x : Held). pieceIn (mss c) (placed .pool) x ≡ pieceIn (mss c) pool x) out
   same-sent =
       all-weaker (λ (x : Held). (pieceIn (mss c) (placed .pool) x ≡ pieceIn (mss c) (f .pool) x) ×
-          (pieceIn (mss c) (f .pool) x ≡ pieceIn (mss c) pool x))
+      (pieceIn (mss c) (f .pool) x ≡ pieceIn (mss c) pool x))
       (λ (x : Held). pieceIn (mss c) (placed .pool) x ≡ pieceIn (mss c) pool x)
       (λ x e. e .0 ∙ e .1)
       out

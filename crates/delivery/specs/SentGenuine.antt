@@ -357,8 +357,8 @@ genuine-calls c taken (x ∷ xs) s pieces o carry h k p few =
     let few′ : FewPushes c (datagramsBy (e ∷ later)) = subst (λ (l : List Event). FewPushes c (datagramsBy l)) (history-first s x xs p) few in
     let w : Wrote c s pieces (own s x) = wrote-by c s pieces x (p .1) (taken .conv) o carry h (k .0) (few-first c e later few′) in
     subst (λ (l : List Event). All
-        (GenuineDatagram c (pieces ++ (numberedNow s (own s x .answer) ++ piecesNumbered (own s x .station) xs))) (datagramsBy l))
-        (sym (history-first s x xs p))
+    (GenuineDatagram c (pieces ++ (numberedNow s (own s x .answer) ++ piecesNumbered (own s x .station) xs))) (datagramsBy l))
+    (sym (history-first s x xs p))
     (genuine-both c e later pieces (numberedNow s (own s x .answer)) (piecesNumbered (own s x .station) xs) (w .genuine)
     (genuine-calls c taken xs (own s x .station) (pieces ++ numberedNow s (own s x .answer))
     (sending-stays c (taken .range) s x (k .0) o)

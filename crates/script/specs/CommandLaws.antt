@@ -135,12 +135,13 @@ unfolding isOneOf
 none-of k [] n d = rw (ne-eqb n k d)
 none-of k (m ∷ ks) n d = rw (ne-eqb n k (λ e. d (inl e)), none-of m ks n (λ h. d (inr h)))
 
-pub most-8 : (field : ℕ) → OneOf (2 ∷ 4 ∷ 19 ∷ 20 ∷ []) field → 255 ≡ fieldMost field
-unfolding isOneOf fieldMost
-most-8 field (inl e) = rw e
-most-8 field (inr (inl e)) = rw e
-most-8 field (inr (inr (inl e))) = rw e
-most-8 field (inr (inr (inr e))) = rw e
+-- four tests joined from the left, and as `isOneOf` joins them
+pub or-four : (a b c d : Bool) → (((a || b) || c) || d) ≡ (a || (b || (c || (d || false))))
+or-four true b c d = refl
+or-four false true c d = refl
+or-four false false true d = refl
+or-four false false false true = refl
+or-four false false false false = refl
 
 -- ---- commands by how many numbers there are
 

@@ -16,9 +16,14 @@ returns c =
     let second = third .before in
     let output = fourth .front3 .ensures in
     let lengths = fifth .front-lengths .ensures in
-    let lent = rw (front-take _ _ _ (second .before .front .ensures), front-take _ _ _ (second .front2 .ensures),
-      front-take _ _ _ (third .front-acks .ensures), front-take _ _ _ output, front-take _ _ _ lengths)
-      at (calls .update .ensures .0) in
+    let lent = rw (
+      front-take _ _ _ (second .before .front .ensures),
+      front-take _ _ _ (second .front2 .ensures),
+      front-take _ _ _ (third .front-acks .ensures),
+      front-take _ _ _ output,
+      front-take _ _ _ lengths,
+    )
+    at (calls .update .ensures .0) in
     let bytes = calls .update .last .1 .1 .1 .1 .1 .1 .1 .0 in
     let sizes = calls .update .last .1 .1 .1 .1 .1 .1 .1 .1 .0 in
     let same : length bytes ≡ fourth .front3 .result = search needs in

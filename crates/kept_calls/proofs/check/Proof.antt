@@ -28,7 +28,7 @@ returns c =
     let whole : length (a .table) ≡ 128 = search (needs, length-mapped, start .good .1 .1 .1 .0) in
     let len = lent-length (a .table) (a .lent) _ whole (counts .lent-count .ensures .0) in
     let g : Gathers (a .link) p (gathers .gather .result) (counts .lent-count .result)
-        = record { padding = gathers .gather .ensures; len = len } in
+    = record { padding = gathers .gather .ensures; len = len } in
     check-promised (a .link) p _ _ g (a .t) _ (c .check .ensures)
 
 pub check-spec : {M : Type 1} → statement M

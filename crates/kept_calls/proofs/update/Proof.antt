@@ -31,21 +31,21 @@ returns c =
     let whole : length (a .table) ≡ 128 = search (needs, length-mapped, start .good .1 .1 .1 .0) in
     let len = lent-length (a .table) (a .lent) _ whole (counts .lent-count .ensures .0) in
     let g : Gathers (a .link) p (gathers .gather .result) (counts .lent-count .result)
-        = record { padding = gathers .gather .ensures; len = len } in
+    = record { padding = gathers .gather .ensures; len = len } in
     let b : PutBack = updatedBack (updates .update .result) in
     let few : length (b .records) ≡ 32 = c .before .is-records .ensures in
     let put = c .scatter .ensures in
     let old = whole-of (a .link) _ (start .good .0) in
     let left = update-left (a .t) (a .link) p (a .output .now) (a .lengths .now) _ b _ _ _ _ _ g
-      (record {
-        whole-queued = c .before .before .before .before .is-list .ensures;
-        whole-outstanding = c .before .before .before .is-words .ensures;
-        whole-transmissions = c .before .before .is-counts .ensures;
-        whole-ready = old .whole-ready;
-        whole-waiting = old .whole-waiting;
-        whole-numbers = old .whole-numbers;
-      })
-      (updates .update .ensures) in
+    (record {
+      whole-queued = c .before .before .before .before .is-list .ensures;
+      whole-outstanding = c .before .before .before .is-words .ensures;
+      whole-transmissions = c .before .before .is-counts .ensures;
+      whole-ready = old .whole-ready;
+      whole-waiting = old .whole-waiting;
+      whole-numbers = old .whole-numbers;
+    })
+    (updates .update .ensures) in
     (update-promised (a .t) (a .link) p (a .output .now) (a .lengths .now) _ b _ _ _ _ few (put .0) left, put .1)
 
 pub update-spec : {M : Type 1} → statement M
