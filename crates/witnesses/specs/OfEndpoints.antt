@@ -21,6 +21,8 @@ use Rattle.lists.specs.Orders.{insert, isHeld, ascending}
 use Rattle.lists.specs.Receiving.{advance, startsAt}
 use Rattle.lists.specs.Acknowledging.{select, firstNumberOr, skipBefore}
 use Rattle.sizes.specs.Sizes.{enough, enoughToFlush}
+use Rattle.congestion.specs.Congestions as congestion
+use Rattle.congestion.specs.Congestions.{usedWindow, slowStart, raised, widened, avoidance, limited, grown, afterDatagram, halved, bySkips, byTimeout, atLeastOne, fits}
 use Rattle.session.specs.Slots.{occurs, lowestFrom, lowestFree}
 use Rattle.session.specs.Valid.{numbersFit, waitingFits, settled, sendingValid, receivingValid, valid}
 use Rattle.session.specs.Cutting.{fragmentCount, segmentCount, pieces, cutAs}
@@ -111,7 +113,7 @@ record Met : Type 0 where
   bytes : AllBytes datagram
 
 met : Met
-unfolding sent flushed fresh heard finished datagram parts opened opening entriesOf countsFit stateOf pairs joining.joined blockValid scattered joined lengthsOf cutBy sendsWith takesInWith flushesWith readsWith signed isBefore isAfter isDue front back encode decode bytesOf numberAt verdict segmentOf tail walk parse longerWait nextClock nextSmoothed nextVariation leastTimeout timeoutOf sampled firstDue growth longerTimeout isSkipped transmission select firstNumberOr skipBefore advance startsAt insert isHeld ascending enough enoughToFlush datagramsBy pushesIn pushNumbers fragmentCount segmentCount pieces cutAs filled numbered numberedCount withNumbered transmittedNow written bytesOfSegments packOne packed flushing acknowledged sampledBy heardBySending pushed heardByReceiving allBySending allByReceiving ackNumbers furthest skipped applied input joinedIn message lengthOf messageSize afterRead reading place sending occurs lowestFrom lowestFree numbersFit waitingFits settled sendingValid receivingValid valid paired
+unfolding usedWindow slowStart raised widened avoidance limited grown afterDatagram halved bySkips byTimeout atLeastOne fits congestion.afterFlush sent flushed fresh heard finished datagram parts opened opening entriesOf countsFit stateOf pairs joining.joined blockValid scattered joined lengthsOf cutBy sendsWith takesInWith flushesWith readsWith signed isBefore isAfter isDue front back encode decode bytesOf numberAt verdict segmentOf tail walk parse longerWait nextClock nextSmoothed nextVariation leastTimeout timeoutOf sampled firstDue growth longerTimeout isSkipped transmission select firstNumberOr skipBefore advance startsAt insert isHeld ascending enough enoughToFlush datagramsBy pushesIn pushNumbers fragmentCount segmentCount pieces cutAs filled numbered numberedCount withNumbered transmittedNow written bytesOfSegments packOne packed flushing acknowledged sampledBy heardBySending pushed heardByReceiving allBySending allByReceiving ackNumbers furthest skipped applied input joinedIn message lengthOf messageSize afterRead reading place sending occurs lowestFrom lowestFree numbersFit waitingFits settled sendingValid receivingValid valid paired
 met = record {
   opens = record {
     block = linkOf (opened c);

@@ -21,6 +21,8 @@ use Rattle.lists.specs.Acknowledging.{firstNumberOr}
 use Rattle.sizes.specs.Sizes.{enough, enoughToFlush}
 use Rattle.schedule.specs.Schedules as scheduling
 use Rattle.schedule.specs.Schedules.{isAstray, corrected, started, following, ahead, earliest, named}
+use Rattle.congestion.specs.Congestions as congestion
+use Rattle.congestion.specs.Congestions.{usedWindow, slowStart, raised, widened, avoidance, limited, grown, afterDatagram, halved, bySkips, byTimeout, atLeastOne, fits}
 use Rattle.session.specs.Slots.{occurs, lowestFrom, lowestFree}
 use Rattle.session.specs.Valid.{numbersFit, waitingFits, settled, sendingValid, receivingValid, valid}
 use Rattle.session.specs.Cutting.{fragmentCount, segmentCount, pieces, cutAs}
@@ -59,6 +61,7 @@ at current =
           next = 1;
           rtt = record { smoothed = 0; variation = 0; timeout = 200 };
           window = 128;
+          congestion = record { window = 1; threshold = 2; allowance = 26 };
           queued = 0;
           outstanding = 1;
         };
@@ -97,7 +100,7 @@ lengths = replicate lengthsLeast 0
 -- ---- each call keeps its promise
 
 pub updates-it : Called sent (Call.update 7) (Answer.wrote (datagram ∷ [])) updated
-unfolding sent fresh updated datagram parts opened opening countsFit stateOf pairs joining.joined blockValid scattered joined lengthsOf cutBy sendsWith updatesWith checksWith scheduling.updated corrected started following isAstray ahead earliest named updating checking signed isBefore isAfter isDue front back encode bytesOf longerWait nextClock leastTimeout firstDue growth longerTimeout isSkipped transmission firstNumberOr startsAt ascending enough enoughToFlush fragmentCount segmentCount pieces cutAs filled numbered numberedCount withNumbered transmittedNow written bytesOfSegments packOne packed flushing place sending occurs lowestFrom lowestFree numbersFit waitingFits settled sendingValid receivingValid valid paired
+unfolding usedWindow slowStart raised widened avoidance limited grown afterDatagram halved bySkips byTimeout atLeastOne fits congestion.afterFlush sent fresh updated datagram parts opened opening countsFit stateOf pairs joining.joined blockValid scattered joined lengthsOf cutBy sendsWith updatesWith checksWith scheduling.updated corrected started following isAstray ahead earliest named updating checking signed isBefore isAfter isDue front back encode bytesOf longerWait nextClock leastTimeout firstDue growth longerTimeout isSkipped transmission firstNumberOr startsAt ascending enough enoughToFlush fragmentCount segmentCount pieces cutAs filled numbered numberedCount withNumbered transmittedNow written bytesOfSegments packOne packed flushing place sending occurs lowestFrom lowestFree numbersFit waitingFits settled sendingValid receivingValid valid paired
 updates-it = record {
   output = output;
   lengths = lengths;
@@ -120,17 +123,17 @@ updates-it = record {
 }
 
 pub checks-it : CheckPromise 8 (updated .link) (updated .parts) (time.At 107)
-unfolding updated rested rested-again countsFit stateOf pairs joining.joined blockValid updatesWith checksWith scheduling.updated corrected started following isAstray ahead earliest named updating checking signed isBefore isAfter isDue leastTimeout firstNumberOr startsAt ascending enough enoughToFlush occurs numbersFit waitingFits settled sendingValid receivingValid valid paired
+unfolding usedWindow slowStart raised widened avoidance limited grown afterDatagram halved bySkips byTimeout atLeastOne fits congestion.afterFlush updated rested rested-again countsFit stateOf pairs joining.joined blockValid updatesWith checksWith scheduling.updated corrected started following isAstray ahead earliest named updating checking signed isBefore isAfter isDue leastTimeout firstNumberOr startsAt ascending enough enoughToFlush occurs numbersFit waitingFits settled sendingValid receivingValid valid paired
 checks-it = record { answer = refl }
 
 pub waits : UpdatePromise 106 (updated .link) (updated .parts) output lengths update.Waited (rested .link) (rested .parts) output lengths
-unfolding updated rested rested-again countsFit stateOf pairs joining.joined blockValid updatesWith checksWith scheduling.updated corrected started following isAstray ahead earliest named updating checking signed isBefore isAfter isDue leastTimeout firstNumberOr startsAt ascending enough enoughToFlush occurs numbersFit waitingFits settled sendingValid receivingValid valid paired
+unfolding usedWindow slowStart raised widened avoidance limited grown afterDatagram halved bySkips byTimeout atLeastOne fits congestion.afterFlush updated rested rested-again countsFit stateOf pairs joining.joined blockValid updatesWith checksWith scheduling.updated corrected started following isAstray ahead earliest named updating checking signed isBefore isAfter isDue leastTimeout firstNumberOr startsAt ascending enough enoughToFlush occurs numbersFit waitingFits settled sendingValid receivingValid valid paired
 waits =
     record { answer = refl; leaves = record { stands = record { counts = refl; state = refl }; parts = refl; output = refl; sizes = refl } }
 
 pub waits-again : UpdatePromise 20 (rested .link) (rested .parts) output lengths update.Waited
     (rested-again .link) (rested-again .parts) output lengths
-unfolding updated rested rested-again countsFit stateOf pairs joining.joined blockValid updatesWith checksWith scheduling.updated corrected started following isAstray ahead earliest named updating checking signed isBefore isAfter isDue leastTimeout firstNumberOr startsAt ascending enough enoughToFlush occurs numbersFit waitingFits settled sendingValid receivingValid valid paired
+unfolding usedWindow slowStart raised widened avoidance limited grown afterDatagram halved bySkips byTimeout atLeastOne fits congestion.afterFlush updated rested rested-again countsFit stateOf pairs joining.joined blockValid updatesWith checksWith scheduling.updated corrected started following isAstray ahead earliest named updating checking signed isBefore isAfter isDue leastTimeout firstNumberOr startsAt ascending enough enoughToFlush occurs numbersFit waitingFits settled sendingValid receivingValid valid paired
 waits-again =
     record { answer = refl; leaves = record { stands = record { counts = refl; state = refl }; parts = refl; output = refl; sizes = refl } }
 

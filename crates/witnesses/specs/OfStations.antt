@@ -23,6 +23,8 @@ use Rattle.lists.specs.Orders.{insert, isHeld, ascending}
 use Rattle.lists.specs.Receiving.{advance, startsAt}
 use Rattle.lists.specs.Acknowledging.{select, firstNumberOr, skipBefore}
 use Rattle.sizes.specs.Sizes.{enough, enoughToFlush}
+use Rattle.congestion.specs.Congestions as congestion
+use Rattle.congestion.specs.Congestions.{usedWindow, slowStart, raised, widened, avoidance, limited, grown, afterDatagram, halved, bySkips, byTimeout, atLeastOne, fits}
 use Rattle.session.specs.Slots.{occurs, lowestFrom, lowestFree}
 use Rattle.session.specs.Valid.{numbersFit, waitingFits, settled, sendingValid, receivingValid, valid}
 use Rattle.session.specs.Cutting.{fragmentCount, segmentCount, pieces, cutAs}
@@ -106,7 +108,7 @@ pub record Met : Type 0 where
   pub second-reads : readAnswers (history station seconds) ≡ Answer.message (replicate 27 7) ∷ Answer.message (9 ∷ []) ∷ []
 
 pub met : Met
-unfolding firsts seconds wrote station calls pushNumbers pushesIn signed isBefore isAfter isDue front back encode decode bytesOf numberAt verdict segmentOf tail walk parse longerWait nextClock nextSmoothed nextVariation leastTimeout timeoutOf sampled firstDue growth longerTimeout isSkipped transmission select firstNumberOr skipBefore advance startsAt insert isHeld ascending enough enoughToFlush step history after datagramsBy fragmentCount segmentCount pieces cutAs filled numbered numberedCount withNumbered transmittedNow written bytesOfSegments packOne packed flushing acknowledged sampledBy heardBySending pushed heardByReceiving allBySending allByReceiving ackNumbers furthest skipped applied input opened joinedIn message lengthOf messageSize afterRead reading place sending occurs lowestFrom lowestFree numbersFit waitingFits settled sendingValid receivingValid valid
+unfolding usedWindow slowStart raised widened avoidance limited grown afterDatagram halved bySkips byTimeout atLeastOne fits congestion.afterFlush firsts seconds wrote station calls pushNumbers pushesIn signed isBefore isAfter isDue front back encode decode bytesOf numberAt verdict segmentOf tail walk parse longerWait nextClock nextSmoothed nextVariation leastTimeout timeoutOf sampled firstDue growth longerTimeout isSkipped transmission select firstNumberOr skipBefore advance startsAt insert isHeld ascending enough enoughToFlush step history after datagramsBy fragmentCount segmentCount pieces cutAs filled numbered numberedCount withNumbered transmittedNow written bytesOfSegments packOne packed flushing acknowledged sampledBy heardBySending pushed heardByReceiving allBySending allByReceiving ackNumbers furthest skipped applied input opened joinedIn message lengthOf messageSize afterRead reading place sending occurs lowestFrom lowestFree numbersFit waitingFits settled sendingValid receivingValid valid
 met = record {
   opens = record { state = refl; long = refl };
   sizes = refl;
