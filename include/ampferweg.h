@@ -153,6 +153,7 @@ typedef struct ampferweg_settings {
     uint8_t mode;      /* 0, 1 or 2: how the timeout grows at a retransmission */
     uint8_t threshold; /* skips before a fast retransmission; 0: off */
     uint8_t stream;    /* 1: what is sent is a stream of bytes; 0: messages */
+    uint8_t congestion; /* 1: flushes go by the congestion window; 0: off */
 } ampferweg_settings;
 
 /* A segment in a slot of a pool. */
@@ -161,15 +162,20 @@ typedef struct ampferweg_held { uint8_t slot, fragment; uint16_t len; } ampferwe
 /* Round trip, in milliseconds: smoothed time, variation, retransmission timeout. */
 typedef struct ampferweg_round_trip { uint32_t smoothed, variation, timeout; } ampferweg_round_trip;
 
+/* Congestion window in segments, the threshold up to which it grows by one a time, and the allowance in bytes. They move in every
+ * link; only with the setting on does a flush go by the window. */
+typedef struct ampferweg_congestion { uint32_t window, threshold, allowance; } ampferweg_congestion;
+
 /* Probe of a closed window: milliseconds between two asks (0: stopped), and when the next one is due. */
 typedef struct ampferweg_probe_clock { uint32_t wait, due; } ampferweg_probe_clock;
 
-/* The sending half: snd_una, snd_nxt, the round trip, the peer's last window; segments queued (accepted and not yet sent) and
+/* The sending half: snd_una, snd_nxt, the round trip, the peer's last window, the congestion window; segments queued (accepted and not yet sent) and
  * outstanding (sent and not acknowledged). */
 typedef struct ampferweg_flight {
     uint32_t una, next;
     ampferweg_round_trip rtt;
     uint16_t window;
+    ampferweg_congestion congestion;
     uint64_t queued, outstanding;
 } ampferweg_flight;
 
@@ -220,20 +226,22 @@ typedef struct ampferweg_record { uint32_t number, due, timeout, skips; } ampfer
 #endif
 AMPFERWEG_LAYOUT(settings, sizeof(ampferweg_settings) == 12 && offsetof(ampferweg_settings, mtu) == 4 &&
     offsetof(ampferweg_settings, interval) == 6 && offsetof(ampferweg_settings, mode) == 8 &&
-    offsetof(ampferweg_settings, threshold) == 9 && offsetof(ampferweg_settings, stream) == 10);
+    offsetof(ampferweg_settings, threshold) == 9 && offsetof(ampferweg_settings, stream) == 10 &&
+    offsetof(ampferweg_settings, congestion) == 11);
 AMPFERWEG_LAYOUT(held, sizeof(ampferweg_held) == 4 && offsetof(ampferweg_held, fragment) == 1 && offsetof(ampferweg_held, len) == 2);
-AMPFERWEG_LAYOUT(flight, sizeof(ampferweg_flight) == 40 && offsetof(ampferweg_flight, rtt) == 8 &&
-    offsetof(ampferweg_flight, window) == 20 && offsetof(ampferweg_flight, queued) == 24 && offsetof(ampferweg_flight, outstanding) == 32);
+AMPFERWEG_LAYOUT(flight, sizeof(ampferweg_flight) == 56 && offsetof(ampferweg_flight, rtt) == 8 &&
+    offsetof(ampferweg_flight, window) == 20 && offsetof(ampferweg_flight, congestion) == 24 &&
+    offsetof(ampferweg_flight, queued) == 40 && offsetof(ampferweg_flight, outstanding) == 48);
 AMPFERWEG_LAYOUT(arrival, sizeof(ampferweg_arrival) == 32 && offsetof(ampferweg_arrival, tell) == 4 &&
     offsetof(ampferweg_arrival, ready) == 8 && offsetof(ampferweg_arrival, waiting) == 16 && offsetof(ampferweg_arrival, acks) == 24);
 AMPFERWEG_LAYOUT(clock, sizeof(ampferweg_clock) == 20 && offsetof(ampferweg_clock, current) == 8 &&
     offsetof(ampferweg_clock, next_flush) == 12 && offsetof(ampferweg_clock, ask) == 16 && offsetof(ampferweg_clock, dead) == 17 &&
     offsetof(ampferweg_clock, updated) == 18);
-AMPFERWEG_LAYOUT(link, sizeof(ampferweg_link) == 2320 && offsetof(ampferweg_link, flight) == 16 &&
-    offsetof(ampferweg_link, arrival) == 56 && offsetof(ampferweg_link, clock) == 88 && offsetof(ampferweg_link, queued) == 108 &&
-    offsetof(ampferweg_link, outstanding) == 620 && offsetof(ampferweg_link, transmissions) == 748 &&
-    offsetof(ampferweg_link, ready) == 780 && offsetof(ampferweg_link, waiting) == 1292 &&
-    offsetof(ampferweg_link, waiting_numbers) == 1804);
+AMPFERWEG_LAYOUT(link, sizeof(ampferweg_link) == 2336 && offsetof(ampferweg_link, flight) == 16 &&
+    offsetof(ampferweg_link, arrival) == 72 && offsetof(ampferweg_link, clock) == 104 && offsetof(ampferweg_link, queued) == 124 &&
+    offsetof(ampferweg_link, outstanding) == 636 && offsetof(ampferweg_link, transmissions) == 764 &&
+    offsetof(ampferweg_link, ready) == 796 && offsetof(ampferweg_link, waiting) == 1308 &&
+    offsetof(ampferweg_link, waiting_numbers) == 1820);
 AMPFERWEG_LAYOUT(record, sizeof(ampferweg_record) == 16 && offsetof(ampferweg_record, due) == 4 &&
     offsetof(ampferweg_record, timeout) == 8 && offsetof(ampferweg_record, skips) == 12);
 
@@ -260,11 +268,12 @@ AMPFERWEG_LAYOUT(record, sizeof(ampferweg_record) == 16 && offsetof(ampferweg_re
  * flushes; check asks for no output and no lengths. */
 
 /* Opens a link: whatever stood in *link, it becomes a fresh link. Lent bytes stay as they are.
- * conv any number; mtu 50 to 1400; mode 0, 1 or 2; interval 10 to 5000; threshold 0 to 100, 0 being off; stream 0 or 1.
+ * conv any number; mtu 50 to 1400; mode 0, 1 or 2; interval 10 to 5000; threshold 0 to 100, 0 being off; stream and
+ * congestion 0 or 1.
  * Answers 0, or refuses 12, 7; a refused opening leaves the old link. ampferweg_station_open_settings takes them by name. */
 ampferweg_result ampferweg_open(ampferweg_link *link, uint32_t conv, uint32_t mtu, uint32_t mode, uint32_t interval, uint32_t threshold,
-    uint32_t stream, const uint8_t *send_pool, uint64_t send_pool_len, const uint8_t *receive_pool, uint64_t receive_pool_len,
-    const ampferweg_record *table, uint64_t table_len, const uint32_t *acks, uint64_t acks_len);
+    uint32_t stream, uint32_t congestion, const uint8_t *send_pool, uint64_t send_pool_len, const uint8_t *receive_pool,
+    uint64_t receive_pool_len, const ampferweg_record *table, uint64_t table_len, const uint32_t *acks, uint64_t acks_len);
 
 /* Accepts a message for sending, whole or not at all: it is copied to the send pool, and goes out with the next flushes.
  * An empty message is a message. Answers 0, or refuses 7, 13, 10, 11.
@@ -365,7 +374,7 @@ typedef struct ampferweg_station {
 #ifdef __cplusplus
 #define AMPFERWEG_LINK_UNOPENED {}
 #else
-#define AMPFERWEG_LINK_UNOPENED {{0, 0, 0, 0, 0, 0}, {0, 0, {0, 0, 0}, 0, 0, 0}, {0, 0, 0, 0, 0}, {{0, 0}, 0, 0, 0, 0, 0}, \
+#define AMPFERWEG_LINK_UNOPENED {{0, 0, 0, 0, 0, 0, 0}, {0, 0, {0, 0, 0}, 0, {0, 0, 0}, 0, 0}, {0, 0, 0, 0, 0}, {{0, 0}, 0, 0, 0, 0, 0}, \
     {{0, 0, 0}}, {{0, 0, 0}}, {0}, {{0, 0, 0}}, {{0, 0, 0}}, {0}}
 #endif
 
@@ -399,14 +408,14 @@ typedef struct ampferweg_station {
 static inline ampferweg_result ampferweg_station_open_settings(ampferweg_station *station, const ampferweg_settings *settings)
 {
     return ampferweg_open(&station->link, settings->conv, settings->mtu, settings->mode, settings->interval, settings->threshold,
-        settings->stream, AMPFERWEG_PARTS(station));
+        settings->stream, settings->congestion, AMPFERWEG_PARTS(station));
 }
 
-/* Opens for messages: stream 0. */
+/* Opens for messages, without the congestion window: stream and congestion 0. */
 static inline ampferweg_result ampferweg_station_open(ampferweg_station *station,
     uint32_t conv, uint32_t mtu, uint32_t mode, uint32_t interval, uint32_t threshold)
 {
-    return ampferweg_open(&station->link, conv, mtu, mode, interval, threshold, 0, AMPFERWEG_PARTS(station));
+    return ampferweg_open(&station->link, conv, mtu, mode, interval, threshold, 0, 0, AMPFERWEG_PARTS(station));
 }
 
 static inline ampferweg_result ampferweg_station_send(ampferweg_station *station, const void *message, size_t message_len)

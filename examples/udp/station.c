@@ -22,7 +22,8 @@ enum { QUIET_MS = 2000, LINGER_MS = 20000, TELL_MS = 100 };
 AMPFERWEG_STATION_STORAGE(station, MTU_MOST);
 
 static const char *name = "station", *peer_text, *send_file, *save_file, *settings_file, *keep_file;
-static uint32_t port, conv = 1, mtu = 256, mode = 1, interval = 10, threshold = 2, expect, hold, seconds = 20, hello_ms, silence = 5000;
+static uint32_t port, conv = 1, mtu = 256, mode = 1, interval = 10, threshold = 2, congestion;
+static uint32_t expect, hold, seconds = 20, hello_ms, silence = 5000;
 
 static const struct option options[] = {
     {"port", "PORT", "the port to listen on", NULL, &port, 1, 65535},
@@ -40,8 +41,9 @@ static const struct option options[] = {
     {"mode", "MODE", "how the timeout grows: 0, 1 or 2 (default 1)", NULL, &mode, 0, 2},
     {"interval", "MS", "milliseconds between flushes at most (default 10)", NULL, &interval, 10, 5000},
     {"threshold", "SKIPS", "skips before a fast retransmission, 0 for none (default 2)", NULL, &threshold, 0, 100},
-    {"keep", "FILE", "write these five settings to a settings file, and end", &keep_file, NULL, 0, 0},
-    {"settings", "FILE", "open with the five settings of a settings file", &settings_file, NULL, 0, 0},
+    {"congestion", "0|1", "1: send no more than the congestion window lets (default 0)", NULL, &congestion, 0, 1},
+    {"keep", "FILE", "write these settings to a settings file, and end", &keep_file, NULL, 0, 0},
+    {"settings", "FILE", "open with the settings of a settings file", &settings_file, NULL, 0, 0},
 };
 
 static struct sockaddr_in peer;
@@ -174,7 +176,8 @@ static void tell_again(void)
 /* Opens the link. What an earlier one did not get acknowledged is sent again. */
 static void open_link(uint32_t conversation)
 {
-    const ampferweg_result result = ampferweg_station_open(&station, conversation, mtu, mode, interval, threshold);
+    const ampferweg_result result =
+        ampferweg_open(&station.link, conversation, mtu, mode, interval, threshold, 0, congestion, AMPFERWEG_PARTS(&station));
     if (result < 0) fail("mtu, mode, interval or threshold", ampferweg_text(result));
     count.again += count.sent - count.acknowledged;
     count.sent = count.acknowledged;
@@ -346,7 +349,8 @@ static void linger(uint32_t start)
 static void keep_settings(void)
 {
     uint8_t file[AMPFERWEG_SETTINGS_FILE_SIZE];
-    const ampferweg_result result = ampferweg_settings_write(conv, mtu, mode, interval, threshold, 0, 0, file, sizeof file);
+    const ampferweg_result result = ampferweg_settings_write(conv, mtu, mode, interval, threshold, 0, congestion, file,
+        sizeof file);
     int out;
     if (result < 0) fail(keep_file, ampferweg_text(result));
     out = open(keep_file, O_WRONLY | O_CREAT | O_TRUNC, 0666);
@@ -360,13 +364,13 @@ static void read_settings(void)
     uint8_t file[AMPFERWEG_SETTINGS_FILE_SIZE + 1];
     const int in = open(settings_file, O_RDONLY);
     const ssize_t len = in < 0 ? -1 : read(in, file, sizeof file);
-    uint32_t stream = 0, congestion = 0;
+    uint32_t stream = 0;
     ampferweg_result result;
     if (len < 0) fail(settings_file, "this file cannot be read");
     close(in);
     result = ampferweg_settings_read(file, (size_t)len, &conv, &mtu, &mode, &interval, &threshold, &stream, &congestion);
     if (result < 0) fail(settings_file, ampferweg_text(result));
-    if (stream != 0 || congestion != 0) fail(settings_file, "this station opens with stream and congestion off");
+    if (stream != 0) fail(settings_file, "this station sends messages: stream is 1 in this file");
 }
 
 /* Numbers that no earlier boot had. */
@@ -393,15 +397,15 @@ static void prepare(void)
     printf("%s: listens on port %u\n", name, port);
 }
 
-/* A settings file says all five settings; an option beside it would say one of them twice. */
+/* A settings file says all settings; an option beside it would say one of them twice. */
 static void check_options(int argc, char **argv)
 {
-    static const char *const others[] = {"conv", "mtu", "mode", "interval", "threshold", "keep"};
+    static const char *const others[] = {"conv", "mtu", "mode", "interval", "threshold", "congestion", "keep"};
     size_t i;
     expects = option_given(argc, argv, "expect");
     for (i = 0; settings_file != NULL && i < sizeof others / sizeof *others; i++) {
         if (!option_given(argc, argv, others[i])) continue;
-        fprintf(stderr, "station: --%s does not go with --settings, whose file says all five settings\n", others[i]);
+        fprintf(stderr, "station: --%s does not go with --settings, whose file says all settings\n", others[i]);
         exit(2);
     }
 }
@@ -428,6 +432,8 @@ static void summary(void)
         count.datagrams_sent, count.datagrams_heard, count.datagrams_refused, count.pushes, count.retransmissions);
     for (number = 1; number < NUMBERS; number++)
         if (count.refused[number] > 0) printf("%s: %u datagrams %s\n", name, count.refused[number], ampferweg_text(-number));
+    printf("%s: congestion window %lu segments, threshold %lu%s\n", name, (unsigned long)station.link.flight.congestion.window,
+        (unsigned long)station.link.flight.congestion.threshold, congestion ? "" : ", not gone by");
     if (ampferweg_station_dead(&station)) fprintf(stderr, "%s: the link is dead: a segment was sent 20 times and not acknowledged\n", name);
     if (ended) fprintf(stderr, "%s: stopped by a signal\n", name);
     if (!all_acknowledged()) fprintf(stderr, "%s: ends before all of its messages were acknowledged\n", name);

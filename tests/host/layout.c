@@ -20,6 +20,8 @@ static void opening_writes(void)
     CHECK_EQUAL(l->settings.interval, 0x1234);
     CHECK_EQUAL(l->settings.threshold, 100);
     CHECK_EQUAL(l->settings.stream, 0);
+    CHECK_EQUAL(l->settings.congestion, 0);
+    CHECK(l->flight.congestion.window == 0 && l->flight.congestion.threshold == 2 && l->flight.congestion.allowance == 0);
     CHECK(l->flight.queued == 0 && l->flight.outstanding == 0 && l->arrival.ready == 0 && l->arrival.waiting == 0);
     CHECK(l->flight.una == 0 && l->flight.next == 0 && l->arrival.expected == 0);
     CHECK(l->flight.rtt.smoothed == 0 && l->flight.rtt.variation == 0);
@@ -58,6 +60,11 @@ static void numbers(void)
     REFUSED_13(settings.interval, 5001);
     REFUSED_13(settings.threshold, 101);
     REFUSED_13(settings.stream, 2);
+    REFUSED_13(settings.congestion, 2);
+    REFUSED_13(flight.congestion.window, 65536);
+    REFUSED_13(flight.congestion.threshold, 1);
+    REFUSED_13(flight.congestion.threshold, 17);
+    REFUSED_13(flight.congestion.allowance, 233);
     REFUSED_13(flight.una, 1);
     REFUSED_13(flight.next, 1);
     REFUSED_13(flight.rtt.smoothed, 0x80000000);

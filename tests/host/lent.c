@@ -139,7 +139,7 @@ static int same_held(const ampferweg_held *a, const ampferweg_held *b, size_t co
 static int same_flight(const ampferweg_flight *a, const ampferweg_flight *b)
 {
     return a->una == b->una && a->next == b->next && a->window == b->window && memcmp(&a->rtt, &b->rtt, sizeof a->rtt) == 0 &&
-        a->queued == b->queued && a->outstanding == b->outstanding;
+        memcmp(&a->congestion, &b->congestion, sizeof a->congestion) == 0 && a->queued == b->queued && a->outstanding == b->outstanding;
 }
 
 static int same_arrival(const ampferweg_arrival *a, const ampferweg_arrival *b)
@@ -157,7 +157,7 @@ int same_link(const ampferweg_link *a, const ampferweg_link *b)
 {
     const ampferweg_settings *s = &a->settings, *t = &b->settings;
     return s->conv == t->conv && s->mtu == t->mtu && s->interval == t->interval && s->mode == t->mode && s->threshold == t->threshold &&
-        s->stream == t->stream &&
+        s->stream == t->stream && s->congestion == t->congestion &&
         same_flight(&a->flight, &b->flight) && same_arrival(&a->arrival, &b->arrival) && same_clock(&a->clock, &b->clock) &&
         same_held(a->queued, b->queued, 128) && same_held(a->outstanding, b->outstanding, 32) &&
         memcmp(a->transmissions, b->transmissions, sizeof a->transmissions) == 0 && same_held(a->ready, b->ready, 128) &&
@@ -166,12 +166,12 @@ int same_link(const ampferweg_link *a, const ampferweg_link *b)
 
 ampferweg_result call_open(struct lent *lent, uint32_t conv, uint32_t mtu, uint32_t mode, uint32_t interval, uint32_t threshold)
 {
-    return ampferweg_open(lent->link, conv, mtu, mode, interval, threshold, 0, AMPFERWEG_PARTS(&lent->station));
+    return ampferweg_open(lent->link, conv, mtu, mode, interval, threshold, 0, 0, AMPFERWEG_PARTS(&lent->station));
 }
 
 ampferweg_result call_open_stream(struct lent *lent, uint32_t mtu, uint32_t stream)
 {
-    return ampferweg_open(lent->link, 7, mtu, 1, 10, 2, stream, AMPFERWEG_PARTS(&lent->station));
+    return ampferweg_open(lent->link, 7, mtu, 1, 10, 2, stream, 0, AMPFERWEG_PARTS(&lent->station));
 }
 
 ampferweg_result call_send(struct lent *lent, const uint8_t *message, size_t len)

@@ -1,6 +1,6 @@
 /* Plays a script of calls (standard input) through the C interface and writes the answers (standard output).
  *
- * One command a line: open CONV MTU MODE INTERVAL THRESHOLD [STREAM], send HEX, input HEX, flush TIME, update TIME, check TIME, read ROOM,
+ * One command a line: open CONV MTU MODE INTERVAL THRESHOLD [STREAM [CONGESTION]], send HEX, input HEX, flush TIME, update TIME, check TIME, read ROOM,
  * size, show, state, held, jump SND RCV, lend PART COUNT, poke FIELD VALUE, hold LIST INDEX FIELD VALUE, rec SLOT NUMBER DUE TIMEOUT SKIPS.
  * The parts are those of an mtu of 256. tests/vectors has scripts with the answers that they must get. */
 #include <ampferweg.h>
@@ -8,7 +8,7 @@
 #include <stdio.h>
 #include <string.h>
 
-enum { SCRIPT_MOST = 1 << 20, LINE_MOST = 65000, WORDS_MOST = 7, ROOM_MOST = 60000 };
+enum { SCRIPT_MOST = 1 << 20, LINE_MOST = 65000, WORDS_MOST = 8, ROOM_MOST = 60000 };
 
 AMPFERWEG_STATION_STORAGE(station, 256);
 
@@ -122,10 +122,10 @@ static void say_held(const char *list, const ampferweg_held *held)
 
 static void play_open(void)
 {
-    uint32_t v[6] = {0, 0, 0, 0, 0, 0};
+    uint32_t v[7] = {0, 0, 0, 0, 0, 0, 0};
     ampferweg_result result;
-    if (!numbers(v, 5) && !numbers(v, 6)) { malformed(); return; }
-    result = ampferweg_open(&station.link, v[0], v[1], v[2], v[3], v[4], v[5], AMPFERWEG_PARTS(&station));
+    if (!numbers(v, 5) && !numbers(v, 6) && !numbers(v, 7)) { malformed(); return; }
+    result = ampferweg_open(&station.link, v[0], v[1], v[2], v[3], v[4], v[5], v[6], AMPFERWEG_PARTS(&station));
     if (result >= 0) opened = just_opened = 1;
     say_done(result);
 }
@@ -205,11 +205,12 @@ static void play_state(void)
 {
     const ampferweg_link *l = &station.link;
     if (stops(words == 1)) return;
-    printf("state %u %u %u %u %u %u %u %u %u %u %d %d %d %" PRIu64 " %" PRIu64 " %" PRIu64 " %" PRIu64 " %" PRIu64 " %u %d\n",
+    printf("state %u %u %u %u %u %u %u %u %u %u %d %d %d %" PRIu64 " %" PRIu64 " %" PRIu64 " %" PRIu64 " %" PRIu64 " %u %d %u %u %u\n",
         l->flight.una, l->flight.next, l->arrival.expected, l->clock.current, (unsigned)l->flight.window, l->flight.rtt.smoothed,
         l->flight.rtt.variation, l->flight.rtt.timeout, l->clock.probe.wait, l->clock.probe.due,
         l->clock.ask != 0, l->arrival.tell != 0, l->clock.dead != 0, l->arrival.acks, l->flight.queued, l->flight.outstanding,
-        l->arrival.ready, l->arrival.waiting, l->clock.next_flush, l->clock.updated != 0);
+        l->arrival.ready, l->arrival.waiting, l->clock.next_flush, l->clock.updated != 0, l->flight.congestion.window,
+        l->flight.congestion.threshold, l->flight.congestion.allowance);
 }
 
 static void say_outstanding(const ampferweg_link *l, size_t i)
@@ -292,8 +293,12 @@ static int poke(uint32_t field, uint32_t value)
     case 17: return store_flag(&l->clock.dead, value);
     case 18: return store_count(&l->arrival.acks, value);
     case 19: return store8(&l->settings.stream, value);
+    case 20: return store8(&l->settings.congestion, value);
     case 21: return store32(&l->clock.next_flush, value);
     case 22: return store_flag(&l->clock.updated, value);
+    case 23: return store32(&l->flight.congestion.window, value);
+    case 24: return store32(&l->flight.congestion.threshold, value);
+    case 25: return store32(&l->flight.congestion.allowance, value);
     default: return 0;
     }
 }

@@ -90,7 +90,7 @@ static void step(void)
     bend();
     snapshot(&lent);
     result = any_call(&may);
-    CHECK((result >= -13 && result <= 3400 && result != -8 && result != -12) || result == AMPFERWEG_NOT_YET);
+    CHECK((result >= -14 && result <= 3400 && result != -8 && result != -12) || result == AMPFERWEG_NOT_YET);
     if (result == AMPFERWEG_NOT_YET) may = 1u << LINK;
     CHECK_EQUAL(changed(&lent) & ~(ampferweg_refusal_of(result) ? 0 : may), 0);
     CHECK(kept_from(&lent, SEND_POOL, AMPFERWEG_SEND_POOL_SIZE(50)) && kept_from(&lent, RECEIVE_POOL, AMPFERWEG_RECEIVE_POOL_SIZE(50)));
