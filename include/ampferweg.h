@@ -35,9 +35,9 @@
  * Sleep until the time that check names, then call update. A host with a timer of its own calls flush about every `interval`
  * milliseconds instead; so may anyone after a send that should not wait.
  *
- * The header has four parts: sizes and results; the nine calls, and settings files, which are proved; and
- * `ampferweg_station`, a thin layer of inline functions that holds the lent parts and passes them on. C99 or C++; x86-64 Linux; other
- * machines in docs/BOARDS.md.
+ * The header has four parts: sizes and results; the nine calls, and settings files, which are proved; and `ampferweg_station`, a
+ * thin layer of inline functions that holds the lent parts and passes them on. C99 or C++; x86-64 Linux, and other machines
+ * (docs/BOARDS.md).
  * Counts are 64 bits wide everywhere, so that the block has one layout on 32-bit and 64-bit machines. */
 #ifndef AMPFERWEG_H
 #define AMPFERWEG_H

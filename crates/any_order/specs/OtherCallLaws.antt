@@ -4,10 +4,11 @@
 use mathlib.Core.Path.{_≡_, refl, sym, ap, _∙_}
 use mathlib.Core.Bool.{Bool, true, false}
 use mathlib.Core.List.{List, [], map, append-nil}
-use Prim.Native.Nat.{ℕ}
+use Prim.Native.Nat.{ℕ, _≤_}
 use native.Mathlib.Omega.{arith}
 use lib.ListN.{length}
 use Rattle.protocol.specs.Ranges.{mss}
+use Rattle.protocol.specs.Protocol.{sendWindow}
 use Rattle.protocol.specs.Serial.{plus}
 use Rattle.protocol.specs.declared.Settings.{Settings}
 use Rattle.sizes.specs.Sizes.{enough, enoughToFlush}
@@ -15,7 +16,7 @@ use Rattle.retransmission.specs.TransmissionLaws.{transmission-number}
 use Rattle.lists.specs.declared.Sent.{Sent}
 use Rattle.session.specs.State.{State, Sending, Outcome, refused, done, withSchedule}
 use Rattle.session.specs.Sending.{Sends, sending}
-use Rattle.session.specs.Flushing.{Flushed, sentAfter, numbered, numberedCount, withNumbered, flushing}
+use Rattle.session.specs.Flushing.{Flushed, sentAfter, windowOf, numbered, numberedCount, withNumbered, flushing}
 use Rattle.session.specs.Reading.{Reads, reading}
 use Rattle.session.specs.Updating as outcome
 use Rattle.session.specs.Updating.{Updates, updating}
@@ -26,6 +27,7 @@ use Rattle.promises.specs.Parts.{Parts, lengthsOf, stateIn, isMade, Unchanged}
 use Rattle.promises.specs.Outcomes as outcomes
 use Rattle.promises.specs.Outcomes.{checked, sendsWith, readsWith, flushesWith, updatesWith}
 use Rattle.promises.specs.Promises.{SendLeaves, ReadLeaves, FlushLeaves, UpdateLeaves}
+use Rattle.delivery.specs.SendingFlushes.{window-most}
 use Rattle.delivery.specs.CallCases.{sending-cases, reading-cases, updating-cases, scheduledAt}
 use Rattle.any_order.specs.Numbers.{seenBy, untimed}
 use Rattle.any_order.specs.Hearing.{OtherCall, sends, reads, flushes, updates, NextFixed}
@@ -73,9 +75,9 @@ read-quiet : (s : State) (pool : List ℕ) (room : ℕ) → Done (ReadQuiet s) (
 read-quiet s pool room = reading-cases (Done (ReadQuiet s)) s pool room (λ r. tt) (record { settings = refl; in-flight = λ e. refl })
 
 -- a flush that leaves snd_nxt numbers nothing
-none-numbered : (s : Sending) → plus (s .next) (numberedCount s) ≡ s .next → numberedCount s ≡ 0
+none-numbered : (w : ℕ) (s : Sending) → w ≤ sendWindow → plus (s .next) (numberedCount w s) ≡ s .next → numberedCount w s ≡ 0
 unfolding numberedCount
-none-numbered s e = omega arith
+none-numbered w s h e = omega arith
 
 untimed-after : (c : Settings) (timeout t : ℕ) (x : Sent) → untimed (sentAfter c timeout t x) ≡ untimed x
 untimed-after c timeout t x = rw (transmission-number c timeout t (x .transmissions) (x .record))
@@ -87,10 +89,10 @@ flush-quiet s t pool = record {
   in-flight = λ e.
       let d = s .sending in
       let after : Sent → Sent = sentAfter (s .settings) (d .roundTrip .timeout) t in
-      let all = withNumbered d (numberedCount d) in
+      let all = withNumbered d (numberedCount (windowOf s) d) in
       let kept : map untimed (map after all) ≡ map untimed (d .outstanding) =
       map-kept untimed after (untimed-after (s .settings) (d .roundTrip .timeout) t) all
-      ∙ rw (none-numbered d e, append-nil (d .outstanding)) in
+      ∙ rw (none-numbered (windowOf s) d (window-most s) e, append-nil (d .outstanding)) in
       λ i. record { una = d .una; next = e i; outstanding = kept i };
 }
 

@@ -15,6 +15,7 @@ use Rattle.lists.specs.declared.Sent.{Sent}
 use Rattle.lists.specs.Acknowledging.{select, firstNumberOr, skipBefore}
 use Rattle.session.specs.State.{State, Sending, withQueued}
 use Rattle.session.specs.Opening.{opened}
+use Rattle.congestion.specs.Congestions.{usedWindow}
 use Rattle.session.specs.Flushing.{numbered, numberedCount, withNumbered, flushing}
 use Rattle.session.specs.Input.{acknowledged, sampledBy, heardBySending, allBySending, ackNumbers, furthest, skipped, applied}
 use Rattle.any_order.specs.Numbers.{numbersIn, appliedAll, seenBy, unskipped}
@@ -23,7 +24,7 @@ use Rattle.any_order.specs.NumberLaws.{same-of-all, same-in-any-order}
 -- ---- the link
 
 abbrev c : Settings
-c = record { conv = 1; mtu = 50; interval = 100; mode = 0; threshold = 2 }
+c = record { conv = 1; mtu = 50; interval = 100; mode = 0; threshold = 2; stream = 0; congestion = 0 }
 
 abbrev held : ℕ → Held
 held slot = record { slot = slot; len = 1; fragment = 0 }
@@ -104,7 +105,7 @@ pub seen-after :
     × (seen (after reversed) ≡ record { numbers = 1 ∷ []; una = 1; skips = 2 ∷ []; window = 40; smoothed = 95 })
     × (seen (after oneTwice) ≡ record { numbers = 1 ∷ []; una = 1; skips = 3 ∷ []; window = 40; smoothed = 64 })
     × (seen (after asOne) ≡ record { numbers = 1 ∷ []; una = 1; skips = 1 ∷ []; window = 60; smoothed = 65 })
-unfolding sent after appliedAll opened flushing numbered numberedCount withNumbered firstDue growth longerTimeout isSkipped transmission
+unfolding sent after appliedAll opened flushing usedWindow numbered numberedCount withNumbered firstDue growth longerTimeout isSkipped transmission
     applied acknowledged heardBySending allBySending ackNumbers furthest skipped sampledBy sampled nextSmoothed nextVariation
     leastTimeout timeoutOf select firstNumberOr skipBefore signed isBefore isAfter isDue
 seen-after = (refl, refl, refl, refl, refl)

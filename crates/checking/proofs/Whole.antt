@@ -140,7 +140,7 @@ module _ (s : Settings) (f : Flight) (a : Arrival) (k : Clock) (x : Arrays) (rs 
 pub counted-of : (s : Settings) (f : Flight) (a : Arrival) (k : Clock) (b : Bool) → b ≡ numbersFit s f a k → not b ≡ false → Counts f a
 counted-of s f a k b e t =
     let g₀ = and-parts (counted f a && inRange s && roundTripFits (s .mode) (f .rtt) && probeFits (k .probe)) (fits (f .congestion) (mss s))
-        (sym e ∙ not-false b t) in
+    (sym e ∙ not-false b t) in
     let g₁ = and-parts (counted f a && inRange s && roundTripFits (s .mode) (f .rtt)) (probeFits (k .probe)) (g₀ .0) in
     let g₂ = and-parts (counted f a && inRange s) (roundTripFits (s .mode) (f .rtt)) (g₁ .0) in
     counts f a (and-parts (counted f a) (inRange s) (g₂ .0) .0)

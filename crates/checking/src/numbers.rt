@@ -1,8 +1,8 @@
 // What is no list: counts, settings, round trip, probe clock and congestion window.
+use congestion::Congestion;
 use control::Arrival;
 use control::Clock;
 use control::Flight;
-use congestion::Congestion;
 use protocol::Protocol;
 use protocol::Settings;
 use timing::ProbeClock;

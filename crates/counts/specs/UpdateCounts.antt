@@ -58,6 +58,7 @@ below-refusal refusal.LongMessage = refl
 below-refusal refusal.NoFreeSlots = refl
 below-refusal refusal.SettingOutOfRange = refl
 below-refusal refusal.InvalidBlock = refl
+below-refusal refusal.TrailingBytes = refl
 
 pub no-refusal : (x : Refusal) → notYet ≡ refusalCode x → ⊥
 no-refusal x e = false≢true (ap (ltZ notYet) e ∙ below-refusal x)

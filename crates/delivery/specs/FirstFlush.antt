@@ -74,7 +74,7 @@ module _ (n : ℕ) where
       let w : Idle n (withWindow (h .wnd) s) = record { none = i .none; una = i .una; same = i .same } in
       let p = idle-acknowledged (by.Una (h .una)) (withWindow (h .wnd) s) w in
       let q : Idle n (sampledBy c current (h .ts) (acknowledged (by.Una (h .una)) (withWindow (h .wnd) s))) =
-          record { none = p .none; una = p .una; same = p .same } in
+      record { none = p .none; una = p .una; same = p .same } in
       either-way (Idle n) (eqb (h .cmd) ack) (idle-acknowledged (by.Ack (h .sn)) _ q) p
 
   idle-all : (c : Settings) (current : ℕ) (s : Sending) (gs : List Segment) → Idle n s → Idle n (allBySending c current s gs)
@@ -96,7 +96,7 @@ unfolding applied
 unsent-applied c s pool gs u =
     let d = s .sending in
     let i = idle-skips (d .next) (allBySending (s .settings) (s .current) d gs) (ackNumbers gs)
-        (idle-all (d .next) (s .settings) (s .current) d gs (record { none = u .none; una = u .equal; same = refl })) in
+    (idle-all (d .next) (s .settings) (s .current) d gs (record { none = u .none; una = u .equal; same = refl })) in
     record {
       settings = u .settings;
       none = i .none;

@@ -22,7 +22,7 @@ use Rattle.lists.specs.declared.Sent.{Sent}
 use Rattle.lists.specs.Orders.{sentOffset}
 use Rattle.session.specs.State.{Sending, Ack}
 use Rattle.session.specs.Valid.{valid}
-use Rattle.session.specs.Flushing.{numbered, windowOf, numberedCount, withNumbered, sentAfter, transmittedNow, Carried, carried, ackSegment, control, dataSegment, wished, written, bytesOfSegments, packed, flushing}
+use Rattle.session.specs.Flushing.{numbered, windowOf, windowOf, numberedCount, withNumbered, sentAfter, transmittedNow, Carried, carried, ackSegment, control, dataSegment, wished, written, bytesOfSegments, packed, flushing}
 use Rattle.session.specs.Calls.{Station}
 use Rattle.session.specs.Decides.{All}
 use Rattle.session.specs.AllLaws.{all-any, all-append, all-mapped}
@@ -32,7 +32,7 @@ use Rattle.delivery.specs.StateRange.{CarryFits}
 use Rattle.session.specs.MapLaws.{map-append}
 use Rattle.delivery.specs.SendPool.{pieceIn}
 use Rattle.delivery.specs.SendingHalf.{Half}
-use Rattle.delivery.specs.SendingFlushes.{window-most, count-few, count-room}
+use Rattle.delivery.specs.SendingFlushes.{window-most, window-most, count-few, count-room}
 use Rattle.delivery.specs.SendingStays.{SendingInOrder, half-in}
 use Rattle.delivery.specs.PackingLaws.{packed-flat}
 use Rattle.delivery.specs.WireLaws.{written-parts}

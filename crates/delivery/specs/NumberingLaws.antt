@@ -16,7 +16,7 @@ use Rattle.schedule.specs.declared.Schedule.{Schedule}
 use Rattle.session.specs.State.{State, Sending, Outcome, withReceiving, withTimes, withSchedule}
 use Rattle.session.specs.Valid.{valid}
 use Rattle.session.specs.Input.{applied, ackNumbers}
-use Rattle.session.specs.Flushing.{windowOf, numberedCount, flushing}
+use Rattle.session.specs.Flushing.{windowOf, windowOf, numberedCount, flushing}
 use Rattle.session.specs.Reading.{afterRead}
 use Rattle.session.specs.Calls.{Station, Call, Answer, Stepped, afterSend, afterTakeIn, afterFlush, own, history, after, acceptedBy, acceptedList, datagramsIn, datagramsBy}
 use Rattle.session.specs.Decides.{All}

@@ -25,7 +25,7 @@ use Rattle.session.specs.State.{Sending, Ack, withSchedule}
 use Rattle.session.specs.Valid.{valid}
 use Rattle.session.specs.Opening.{opened}
 use Rattle.session.specs.Input.{applied, ackNumbers}
-use Rattle.session.specs.Flushing.{numberedAs, numbered, windowOf, numberedCount, withNumbered, transmittedOf, sentAfter, transmittedNow, carried, ackSegment, dataSegment, written, bytesOfSegments, packed, flushing}
+use Rattle.session.specs.Flushing.{numberedAs, numbered, windowOf, windowOf, numberedCount, withNumbered, transmittedOf, sentAfter, transmittedNow, carried, ackSegment, dataSegment, written, bytesOfSegments, packed, flushing}
 use Rattle.session.specs.Calls.{Station, Call, Stepped, Event, afterFlush, own, history, datagramsIn, datagramsBy}
 use Rattle.session.specs.Decides.{All}
 use Rattle.session.specs.AllLaws.{all-any, all-append, all-left, all-right, all-unmapped, all-weaker}
@@ -40,7 +40,7 @@ use Rattle.delivery.specs.StateRange.{CarryFits}
 use Rattle.delivery.specs.SendingHalf.{Half}
 use Rattle.delivery.specs.SendPool.{pieceIn}
 use Rattle.delivery.specs.Numbering.{numberedNow, piecesNumbered}
-use Rattle.delivery.specs.SendingFlushes.{window-most, count-few, count-room}
+use Rattle.delivery.specs.SendingFlushes.{window-most, window-most, count-few, count-room}
 use Rattle.delivery.specs.SendingStays.{SendingInOrder, half-in, sending-stays, opened-in-order}
 use Rattle.delivery.specs.PackingLaws.{packed-flat, each-flat, flat-each}
 use Rattle.delivery.specs.WireLaws.{all-written, data-written}

@@ -23,8 +23,7 @@ pub marked-most : {marks : List ℕ} {k : ℕ} (l : ℕ) → k ≤ l → Marked 
 marked-most l h m = record { now = m .now; free = m .free; most = omega (arith, m .most) }
 
 module _ {s : State} {stream : Bool} {m : ℕ} {queued : List ℕ} {n k : ℕ} {marks : List ℕ} (p : PartsOf s stream m queued n k marks)
-    (pool message : List ℕ) {room first : ℕ} (has : room ≡ roomOf stream m (heldIn queued n))
-    (takes : first ≡ min (length message) room) where
+    (pool message : List ℕ) {room first : ℕ} (has : room ≡ roomOf stream m (heldIn queued n)) (takes : first ≡ min (length message) room) where
   abbrev used : List ℕ
   used = slots (sendHeld (s .sending))
 
@@ -69,8 +68,7 @@ module _ {s : State} {stream : Bool} {m : ℕ} {queued : List ℕ} {n k : ℕ} {
     abbrev new : Placed
     new = place stream m used (f .pool) (cutAs stream m (f .rest))
 
-    placed : k + n + count ≤ 128 →
-        sending s pool message ≡ done (record { state = withQueued s (f .queued ++ new .segments); pool = new .pool })
+    placed : k + n + count ≤ 128 → sending s pool message ≡ done (record { state = withQueued s (f .queued ++ new .segments); pool = new .pool })
     unfolding sending
     placed g =
         let enough : segmentCount stream m (length (f .rest)) ≤ 128 - length used = rw left-length (omega (arith, p .held)) in
@@ -82,10 +80,8 @@ module _ {s : State} {stream : Bool} {m : ℕ} {queued : List ℕ} {n k : ℕ} {
 
     -- accepted: the slots held are those of the state
     pub follows-placed : k + n + count ≤ 128 → (between pool₁ after : List ℕ) (r : ℕ) (pool′ : List ℕ)
-        → ((stream : Bool) → room ≡ roomOf stream m (heldIn queued n) →
-            Fills (filled stream m (heldIn queued n) pool message) n between pool₁)
-        → ((h : Marked marks (128 - count)) →
-            Places (place stream m (h .now) pool₁ (pieces m count (drop first message))) between n after r pool′)
+        → ((stream : Bool) → room ≡ roomOf stream m (heldIn queued n) → Fills (filled stream m (heldIn queued n) pool message) n between pool₁)
+        → ((h : Marked marks (128 - count)) → Places (place stream m (h .now) pool₁ (pieces m count (drop first message))) between n after r pool′)
         → Follows (sending s pool message) queued n pool (record { answer = Accepted; queued = r }) after pool′
     follows-placed g between pool₁ after r pool′ x y =
         let a = (rw (← p .queue) at (x stream has)) in

@@ -475,9 +475,7 @@ pub fn play(
             stream,
             congestion,
         } => {
-            let settings = settings_of(
-                conv, mtu, mode, interval, threshold, stream, congestion,
-            );
+            let settings = settings_of(conv, mtu, mode, interval, threshold, stream, congestion);
             open(bench, settings, send_pool, receive_pool, acks, text)
         }
         _ => {

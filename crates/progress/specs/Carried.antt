@@ -18,6 +18,7 @@ use Rattle.lists.specs.declared.Sent.{Sent}
 use Rattle.schedule.specs.declared.Schedule.{Schedule}
 use Rattle.session.specs.State.{State, Sending, Ack, withSchedule}
 use Rattle.session.specs.Flushing.{
+  windowOf,
   numberedCount,
   withNumbered,
   sentAfter,
@@ -39,7 +40,7 @@ use Rattle.delivery.specs.WireLaws.{all-written, data-written}
 use Rattle.delivery.specs.FlushLaws.{sentWith, all-transmitted, valid-parts, flush-writes-any}
 use Rattle.delivery.specs.SendingHalf.{Half}
 use Rattle.delivery.specs.SendingStays.{half-in}
-use Rattle.delivery.specs.SendingFlushes.{flushedWith, count-few, count-room}
+use Rattle.delivery.specs.SendingFlushes.{flushedWith, count-few, count-room, window-most}
 use Rattle.delivery.specs.AlwaysValid.{InOrder, in-order-valid}
 use Rattle.delivery.specs.SenderModel.{numbered-end}
 use Rattle.delivery.specs.SentGenuine.{IfPush, Small, small-datagrams, new-numbers}
@@ -159,7 +160,7 @@ module _ (s : State) (t k : ℕ) (pool : List ℕ) (ask : Bool) where
 
 -- how many queued segments it numbers
 abbrev pub numbers : State → ℕ
-numbers s = numberedCount (s .sending)
+numbers s = numberedCount (windowOf s) (s .sending)
 
 -- what it writes
 abbrev pub wroteBy : State → ℕ → List ℕ → List (List ℕ)
@@ -195,10 +196,10 @@ module _ (s : State) (pool : List ℕ) (f : Flushable s pool) where
   d = s .sending
 
   pub few-numbers : numbers s ≤ length (d .queued)
-  few-numbers = count-few d
+  few-numbers = count-few (windowOf s) d
 
   near-numbers : minus (d .next) (d .una) + numbers s ≤ sendWindow
-  near-numbers = count-room d (f .half .numbers .apart)
+  near-numbers = count-room (windowOf s) d (window-most s) (f .half .numbers .apart)
 
   module _ (t : ℕ) (time : t < 2 ^ 32) where
     abbrev asks : Bool

@@ -103,8 +103,15 @@ impl Protocol {
         stream: u8,
         congestion: u8,
     ) -> Settings
-        ensures { λ r. ⌜ r ≡ record { conv = conv; mtu = mtu; interval = interval; mode = mode; threshold = threshold; stream = stream;
-            congestion = congestion } ⌝ }
+        ensures { λ r. ⌜ r ≡ record {
+          conv = conv;
+          mtu = mtu;
+          interval = interval;
+          mode = mode;
+          threshold = threshold;
+          stream = stream;
+          congestion = congestion;
+        } ⌝ }
     {
         Settings {
             conv,

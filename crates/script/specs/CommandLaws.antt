@@ -135,24 +135,13 @@ unfolding isOneOf
 none-of k [] n d = rw (ne-eqb n k d)
 none-of k (m ∷ ks) n d = rw (ne-eqb n k (λ e. d (inl e)), none-of m ks n (λ h. d (inr h)))
 
-pub most-8 : (field : ℕ) → OneOf (2 ∷ 4 ∷ 19 ∷ []) field → 255 ≡ fieldMost field
-unfolding isOneOf fieldMost
-most-8 field (inl e) = rw e
-most-8 field (inr (inl e)) = rw e
-most-8 field (inr (inr e)) = rw e
-
-pub congestion-8 : (field : ℕ) → field ≡ 20 → 255 ≡ fieldMost field
-unfolding isOneOf fieldMost
-congestion-8 field e = rw e
-
-pub not-8 : (n : ℕ) → (OneOf (2 ∷ 4 ∷ 19 ∷ []) n → ⊥) → (n ≡ 20 → ⊥) → isOneOf n (2 ∷ 4 ∷ 19 ∷ 20 ∷ []) ≡ false
-not-8 n d f = none-of 2 (4 ∷ 19 ∷ 20 ∷ []) n go
-  where
-    go : OneOf (2 ∷ 4 ∷ 19 ∷ 20 ∷ []) n → ⊥
-    go (inl e) = d (inl e)
-    go (inr (inl e)) = d (inr (inl e))
-    go (inr (inr (inl e))) = d (inr (inr e))
-    go (inr (inr (inr e))) = f e
+-- four tests joined from the left, and as `isOneOf` joins them
+pub or-four : (a b c d : Bool) → (((a || b) || c) || d) ≡ (a || (b || (c || (d || false))))
+or-four true b c d = refl
+or-four false true c d = refl
+or-four false false true d = refl
+or-four false false false true = refl
+or-four false false false false = refl
 
 -- ---- commands by how many numbers there are
 

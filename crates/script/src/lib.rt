@@ -110,12 +110,13 @@ fn is_field(field: u32) -> bool
 fn field_most(field: u32) -> u32
     ensures { λ r. ⌜ r ≡ fieldMost field ⌝ }
 {
-    match field {
-        1 | 3 | 9 | 18 => 65535,
-        2 | 4 | 19 => 255,
-        20 => 255,
-        _ => 4294967295,
+    if (field == 1) | (field == 3) | (field == 9) | (field == 18) {
+        return 65535;
     }
+    if (field == 2) | (field == 4) | (field == 19) | (field == 20) {
+        return 255;
+    }
+    4294967295
 }
 
 // Commands with two numbers.

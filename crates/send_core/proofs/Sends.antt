@@ -133,8 +133,7 @@ module _ (s : Settings) (f : Flight) (a : Arrival) (k : Clock) (x : Arrays) (rs 
             counts-fit = u .0;
             held = used-count w l (u .0);
             few = used-few (half .slots-once) (half .slots-below);
-            low = all-right (λ (h : Held). h .slot < sendSlots)
-                (map (λ (y : outstanding.Sent). y .held) (stateOf link rs acks .sending .outstanding))
+            low = all-right (λ (h : Held). h .slot < sendSlots) (map (λ (y : outstanding.Sent). y .held) (stateOf link rs acks .sending .outstanding))
                 (heldIn (x .queued) (f .queued)) (half .slots-below);
             whole-marks = c .send-whole;
             free = c .send-free acks refl;
@@ -150,8 +149,7 @@ module _ (s : Settings) (f : Flight) (a : Arrival) (k : Clock) (x : Arrays) (rs 
 
   -- ---- enqueueing
 
-  module _ {n : Lengths} {marks : List ℕ} (p : Sendable n marks) {stream : Bool} {m : ℕ} (mode : stream ≡ isStream s)
-      (size : m ≡ mss s) where
+  module _ {n : Lengths} {marks : List ℕ} (p : Sendable n marks) {stream : Bool} {m : ℕ} (mode : stream ≡ isStream s) (size : m ≡ mss s) where
     pub enqueueable : Whole x → (pool : List ℕ) → n .send ≡ length pool → Enqueueable m (x .queued) (f .queued) (f .outstanding) marks pool
     unfolding countsFit
     enqueueable w pool l =
@@ -196,10 +194,8 @@ module _ (s : Settings) (f : Flight) (a : Arrival) (k : Clock) (x : Arrays) (rs 
       }
 
   -- what sending past the checks gives, as the block
-  pub sent : {n : Lengths} {marks : List ℕ} (p : Sendable n marks) (stream : Bool) (m : ℕ) → stream ≡ isStream s → m ≡ mss s →
-      (pool message : List ℕ) (r : Sent) (q pool′ : List ℕ) → Enqueues stream m f (x .queued) marks pool message r q pool′
+  pub sent : {n : Lengths} {marks : List ℕ} (p : Sendable n marks) (stream : Bool) (m : ℕ) → stream ≡ isStream s → m ≡ mss s → (pool message : List ℕ) (r : Sent) (q pool′ : List ℕ) → Enqueues stream m f (x .queued) marks pool message r q pool′
       → SendCore (sending (stateOf link rs acks) pool message) link rs acks pool (r .answer) (linkOf s (r .flight) a k (withWords x q)) pool′
   sent p stream m mode size pool message r q pool′ h =
       let e : Enqueued = record { answer = r .answer; queued = r .flight .queued } in
-      rw (h .count-alone) (put-back pool message pool′ q e (sending (stateOf link rs acks) pool message) refl
-      (h .follows (stateOf link rs acks) (parts p mode size)) (p .counts-fit))
+      rw (h .count-alone) (put-back pool message pool′ q e (sending (stateOf link rs acks) pool message) refl (h .follows (stateOf link rs acks) (parts p mode size)) (p .counts-fit))

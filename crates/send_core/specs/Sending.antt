@@ -30,8 +30,7 @@ withCount f n =
     }
 
 -- of the numbers the count alone changes, and with the list and the pool it is what sending gives
-pub record Enqueues (stream : Bool) (m : ℕ) (f : Flight) (queued marks pool message : List ℕ) (r : Sent) (queued′ pool′ : List ℕ) : Type
-    0 where
+pub record Enqueues (stream : Bool) (m : ℕ) (f : Flight) (queued marks pool message : List ℕ) (r : Sent) (queued′ pool′ : List ℕ) : Type 0 where
   pub count-alone : r .flight ≡ withCount f (r .flight .queued)
   pub follows : (s : State) → PartsOf s stream m queued (f .queued) (f .outstanding) marks
       → Follows (sending s pool message) queued (f .queued) pool (record { answer = r .answer; queued = r .flight .queued }) queued′ pool′

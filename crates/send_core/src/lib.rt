@@ -115,15 +115,7 @@ pub fn send(
         Verdict::Passed => {
             let mss = settings.mss();
             let stream = settings.stream == 1;
-            send_checked(
-                stream,
-                mss,
-                flight,
-                queued,
-                &send_marks,
-                send_pool,
-                message,
-            )
+            send_checked(stream, mss, flight, queued, &send_marks, send_pool, message)
         }
     }
 }

@@ -24,6 +24,8 @@ use Rattle.lists.specs.Receiving.{advance, startsAt}
 use Rattle.lists.specs.Acknowledging.{select, firstNumberOr, skipBefore}
 use Rattle.sizes.specs.Sizes.{enough, enoughToFlush}
 use Rattle.schedule.specs.Schedules.{updated, isAstray, corrected, started, following}
+use Rattle.congestion.specs.Congestions as congestion
+use Rattle.congestion.specs.Congestions.{usedWindow, slowStart, raised, widened, avoidance, limited, grown, afterDatagram, halved, bySkips, byTimeout, atLeastOne, fits}
 use Rattle.session.specs.State.{withNumbers, afterFlushing, withSchedule}
 use Rattle.session.specs.Slots.{occurs, lowestFrom, lowestFree}
 use Rattle.session.specs.Valid.{numbersFit, waitingFits, settled, sendingValid, receivingValid, valid}
@@ -102,7 +104,7 @@ resent =
     let s = opened c in
     record {
       link = linkOf
-          (withSchedule (afterFlushing s (withNumbers (s .sending) 1 [] (segment ∷ [])) (s .receiving) (s .probe) 300 false)
+          (withSchedule (afterFlushing s (withNumbers (s .sending) 1 [] (segment ∷ [])) (s .receiving) (s .probe) 300 (record { window = 1; threshold = 16; allowance = 26 }) false)
           (record { next = 400; made = true }));
       parts = record {
         sendPool = sets (replicate 3328 0) 0 (104 ∷ 105 ∷ []);
@@ -117,7 +119,7 @@ unfoldable pub heard : Endpoint
 heard = afterInput fresh (takesIn (fresh .link) (fresh .parts) again)
 
 unfoldable pub told : Endpoint
-told = afterFlush heard (flushes (heard .link) (heard .parts) 22576 290 9)
+told = afterFlush heard (flushes (heard .link) (heard .parts) 50992 290 9)
 
 unfoldable pub done : Endpoint
 done = afterInput resent (takesIn (resent .link) (resent .parts) acked)
@@ -134,7 +136,7 @@ record Met : Type 0 where
   una-after : done .link .flight .una ≡ 1
 
 met : Met
-unfolding again acked resent heard told done sent flushed fresh datagram parts opened entriesOf countsFit stateOf pairs joining.joined
+unfolding usedWindow slowStart raised widened avoidance limited grown afterDatagram halved bySkips byTimeout atLeastOne fits congestion.afterFlush again acked resent heard told done sent flushed fresh datagram parts opened entriesOf countsFit stateOf pairs joining.joined
     blockValid scattered joined lengthsOf cutBy sendsWith takesInWith flushesWith updatesWith updated isAstray corrected started following
     updating signed isBefore isAfter isDue front back encode decode bytesOf numberAt verdict segmentOf tail walk parse longerWait
     nextClock nextSmoothed nextVariation leastTimeout timeoutOf sampled firstDue growth longerTimeout isSkipped transmission select
@@ -144,11 +146,11 @@ unfolding again acked resent heard told done sent flushed fresh datagram parts o
     occurs lowestFrom lowestFree numbersFit waitingFits settled sendingValid receivingValid valid paired
 met = record {
   sends-again = record {
-    output = replicate 22576 0;
+    output = replicate 50992 0;
     lengths = replicate 290 0;
     room = record { long = omega arith; many = omega arith };
     gives = update.Wrote 1;
-    output′ = sets (replicate 22576 0) 0 again;
+    output′ = sets (replicate 50992 0) 0 again;
     lengths′ = sets (replicate 290 0) 0 (26 ∷ []);
     promise = record {
       answer = refl;
@@ -179,11 +181,11 @@ met = record {
     sees = refl;
   };
   tells-it = record {
-    output = replicate 22576 0;
+    output = replicate 50992 0;
     lengths = replicate 290 0;
     room = record { long = omega arith; many = omega arith };
     gives = count.Of 1;
-    output′ = sets (replicate 22576 0) 0 acked;
+    output′ = sets (replicate 50992 0) 0 acked;
     lengths′ = sets (replicate 290 0) 0 (24 ∷ []);
     promise = record {
       answer = refl;
@@ -249,7 +251,7 @@ of-b = record {
 }
 
 few-a : FewSegments of-a
-unfolding of-a fragmentsAccepted fragmentCount segmentCount filled stateOf fresh opened
+unfolding usedWindow slowStart raised widened avoidance limited grown afterDatagram halved bySkips byTimeout atLeastOne fits congestion.afterFlush of-a fragmentsAccepted fragmentCount segmentCount filled stateOf fresh opened
 few-a = omega arith
 
 few-b : FewSegments of-b

@@ -139,8 +139,8 @@ module _ {M : Type 1} (𝓤 : URA M) (H : Heap 𝓤) (A : Atoms 𝓤) (W : Given
     abbrev to-taking : (β₃ : ℕ) (δ₃ : GName) → tripleOf 𝓤 H A taking.signature (taking.spec 𝓤 H A at-mem run) .Ghost
     to-taking β₃ δ₃ = (((κ₀, (κ₁, (κ₂, ((β₃ ∷ []), (κ₄, (κ₅, tt)))))), (q₀, (q₁, (q₂, (fullShare, (q₄, (q₅, tt)))))), tt, (x₀, (x₁, (x₂, ((shown-at₃ δ₃), (x₄, (x₅, tt)))))), (s₀ ∷ [], (s₁ ∷ [], (s₂ ∷ [], (s₃ ∷ [], (s₄ ∷ [], (s₅ ∷ [], tt))))))), tt)
 
-    asks-taking : (β₃ : ℕ) (δ₃ : GName) →  ent 𝓤 (⋆ 𝓤 H A (‵ (flft κ₀ q₀) ∷ ‵ Own₀ ∷ ‵ (flft κ₁ q₁) ∷ ‵ Own₁ ∷ ‵ (flft κ₂ q₂) ∷ ‵ Own₂ ∷ ‵ (flft (β₃ ∷ []) fullShare) ∷ ‵ (Shared₃ β₃ δ₃) ∷ ‵ (flft κ₄ q₄) ∷ ‵ Own₄ ∷ ‵ (flft κ₅ q₅) ∷ ‵ Own₅ ∷ [])) (tripleOf 𝓤 H A taking.signature (taking.spec 𝓤 H A at-mem run) .pre (to-taking β₃ δ₃))
-    asks-taking β₃ δ₃   =
+    asks-taking : (β₃ : ℕ) (δ₃ : GName) → ent 𝓤 (⋆ 𝓤 H A (‵ (flft κ₀ q₀) ∷ ‵ Own₀ ∷ ‵ (flft κ₁ q₁) ∷ ‵ Own₁ ∷ ‵ (flft κ₂ q₂) ∷ ‵ Own₂ ∷ ‵ (flft (β₃ ∷ []) fullShare) ∷ ‵ (Shared₃ β₃ δ₃) ∷ ‵ (flft κ₄ q₄) ∷ ‵ Own₄ ∷ ‵ (flft κ₅ q₅) ∷ ‵ Own₅ ∷ [])) (tripleOf 𝓤 H A taking.signature (taking.spec 𝓤 H A at-mem run) .pre (to-taking β₃ δ₃))
+    asks-taking β₃ δ₃ =
         qed W (‵ (flft κ₀ q₀) ∷ ‵ Own₀ ∷ ‵ (flft κ₁ q₁) ∷ ‵ Own₁ ∷ ‵ (flft κ₂ q₂) ∷ ‵ Own₂ ∷ ‵ (flft (β₃ ∷ []) fullShare) ∷ ‵ (Shared₃ β₃ δ₃) ∷ ‵ (flft κ₄ q₄) ∷ ‵ Own₄ ∷ ‵ (flft κ₅ q₅) ∷ ‵ Own₅ ∷ []) ∵ nothing ! $ move ! (11 ∷ 0 ∷ []) $ join ! $ move ! (9 ∷ 0 ∷ []) $ join ! $ move ! (7 ∷ 0 ∷ []) $ join ! $ move ! (5 ∷ 0 ∷ []) $ join ! $ move ! (3 ∷ 0 ∷ []) $ join ! $ move ! (1 ∷ 0 ∷ []) $ join ! $ nothing ! $ move ! (7 ∷ 0 ∷ []) $ fjoin ! $ move ! (6 ∷ 0 ∷ []) $ fjoin ! $ move ! (5 ∷ 0 ∷ []) $ fjoin ! $ move ! (4 ∷ 0 ∷ []) $ fjoin ! $ move ! (3 ∷ 0 ∷ []) $ fjoin ! $ move ! (2 ∷ 0 ∷ []) $ fjoin ! $ move ! (1 ∷ 0 ∷ []) $ join ! $ nothing ! $ move ! (1 ∷ 0 ∷ []) $ done !
 
     -- what scatter is called at, and that what it asks is had
@@ -148,7 +148,7 @@ module _ {M : Type 1} (𝓤 : URA M) (H : Heap 𝓤) (A : Atoms 𝓤) (W : Given
     to-scatter y₀ u₀ y₁ u₁ y₂ u₂ = (((κ₃, tt), (q₃, tt), tt, (x₃, (y₀, (y₁, (y₂, tt)))), (s₃ ∷ [], (u₀ ∷ [], (u₁ ∷ [], (u₂ ∷ [], tt))))), tt)
 
     asks-scatter : (y₀ : (List ℕ)) (u₀ : Val) → Is (Array u32 32) y₀ (u₀ ∷ []) → (y₁ : ℕ) (u₁ : Val) → Is usize y₁ (u₁ ∷ []) → (y₂ : (List Record)) (u₂ : Val) → Is Rs y₂ (u₂ ∷ []) → ent 𝓤 (⋆ 𝓤 H A (‵ (flft κ₃ q₃) ∷ ‵ Own₃ ∷ [])) (tripleOf 𝓤 H A scatter.signature (scatter.spec 𝓤 H A at-mem run) .pre (to-scatter y₀ u₀ y₁ u₁ y₂ u₂))
-    asks-scatter  y₀ u₀ is₀ y₁ u₁ is₁ y₂ u₂ is₂  =
+    asks-scatter y₀ u₀ is₀ y₁ u₁ is₁ y₂ u₂ is₂ =
         qed W (‵ (flft κ₃ q₃) ∷ ‵ Own₃ ∷ []) ∵ nothing ! $ move ! (1 ∷ 0 ∷ []) $ join ! $ nothing ! $ owned ! Rs (Is Rs) (rs-makes 𝓤 H A W) y₂ _ is₂ $ fjoin ! $ owned ! usize (Is usize) (uint-makes 𝓤 H A W w64) y₁ _ is₁ $ fjoin ! $ owned ! (Array u32 32) (Is (Array u32 32)) (array-makes 𝓤 H A W u32 (uint-makes 𝓤 H A W w32) 32) y₀ _ is₀ $ fjoin ! $ move ! (2 ∷ 0 ∷ []) $ fjoin ! $ move ! (1 ∷ 0 ∷ []) $ join ! $ nothing ! $ move ! (1 ∷ 0 ∷ []) $ done !
 
     abbrev Had : (z₀ : Link) (z₂ : List ℕ) (z₃ : List Record) (z₄ : List ℕ) → List (Item 𝓤)
@@ -181,8 +181,8 @@ module _ {M : Type 1} (𝓤 : URA M) (H : Heap 𝓤) (A : Atoms 𝓤) (W : Given
           assigns ! {v = s₄} (agg ! (and-then ! (load ! (from ! (stop !)) (look ! 17 refl)) (and-then ! (load ! (from ! (fld ! refl (stop !))) (look-in ! 28 (sub ! 1 refl (whole !)))) (no-more !)))) (from ! (stop !)) (init ! 16 refl (tt, (tt, (record { fits = room₄ .0 }, tt)))) $
           lft-new ! tt (λ β₃. move ! (11 ∷ 5 ∷ []) $ use2 W (later (some (λ (δ : GName). ‵ (Shared₃ β₃ δ) ⊛ ‵ (LentShared R κ₃ (β₃ ∷ []) q₃ (x₃ .name) (x₃ .ptr .0) (x₃ .ptr .1) (x₃ .now))))) (lends-shared R κ₃ (β₃ ∷ []) q₃ (x₃ .name) (x₃ .ptr .0) (x₃ .ptr .1) (x₃ .now) 𝓤 H A W) $ await ! tt $ pick ! (λ β-name₃. split ! $
           -- [shown3; blent3; btok3; deaths; tok0; tok1; tok2; tok4; tok5; own0; own1; own2; own4; own5; the locals]
-          move ! (4 ∷ 9 ∷ 5 ∷ 10 ∷ 6 ∷ 11 ∷ 2 ∷ 0 ∷ 7 ∷ 12 ∷ 8 ∷ 13 ∷ []) $ group ! 12 $ calls-fn ! fm taking.ended (taking.clauses 𝓤 H A at-mem run) (known .0) (to-taking β₃ β-name₃ ) (λ t ws-t. InputLeft (x₅ .now) (x₀ .now) (partsOf (x₁ .now) (x₂ .now) (x₃ .now) (x₄ .now)) (t .answer) (takenBack t) (ws-t .0) (ws-t .1 .1 .0) (ws-t .1 .1 .1 .1 .0)) (‵ (flft κ₀ q₀) ⊛ ‵ Own₀ ⊛ ‵ (flft κ₁ q₁) ⊛ ‵ Own₁ ⊛ ‵ (flft κ₂ q₂) ⊛ ‵ Own₂ ⊛ ‵ (flft (β₃ ∷ []) fullShare) ⊛ ‵ (Shared₃ β₃ β-name₃) ⊛ ‵ (flft κ₄ q₄) ⊛ ‵ Own₄ ⊛ ‵ (flft κ₅ q₅) ⊛ ‵ Own₅)
-          (asks-taking β₃ β-name₃  ) (λ t ws-t. id⊢ 𝓤 _)
+          move ! (4 ∷ 9 ∷ 5 ∷ 10 ∷ 6 ∷ 11 ∷ 2 ∷ 0 ∷ 7 ∷ 12 ∷ 8 ∷ 13 ∷ []) $ group ! 12 $ calls-fn ! fm taking.ended (taking.clauses 𝓤 H A at-mem run) (known .0) (to-taking β₃ β-name₃) (λ t ws-t. InputLeft (x₅ .now) (x₀ .now) (partsOf (x₁ .now) (x₂ .now) (x₃ .now) (x₄ .now)) (t .answer) (takenBack t) (ws-t .0) (ws-t .1 .1 .0) (ws-t .1 .1 .1 .1 .0)) (‵ (flft κ₀ q₀) ⊛ ‵ Own₀ ⊛ ‵ (flft κ₁ q₁) ⊛ ‵ Own₁ ⊛ ‵ (flft κ₂ q₂) ⊛ ‵ Own₂ ⊛ ‵ (flft (β₃ ∷ []) fullShare) ⊛ ‵ (Shared₃ β₃ β-name₃) ⊛ ‵ (flft κ₄ q₄) ⊛ ‵ Own₄ ⊛ ‵ (flft κ₅ q₅) ⊛ ‵ Own₅)
+          (asks-taking β₃ β-name₃) (λ t ws-t. id⊢ 𝓤 _)
           (and-then ! (load ! (from ! (stop !)) (look ! 12 refl)) (and-then ! (load ! (from ! (stop !)) (look ! 21 refl)) (and-then ! (load ! (from ! (stop !)) (look ! 10 refl)) (and-then ! (load ! (from ! (stop !)) (look ! 8 refl)) (and-then ! (load ! (from ! (stop !)) (look ! 6 refl)) (and-then ! (load ! (from ! (stop !)) (look ! 17 refl)) (no-more !))))))) (λ t w-t ws-t e-t is-t. land ! (from ! (stop !)) (init ! 17 refl (LL.lawful taken-row.the-type taken-laws.the-laws 𝓤 H A W .typed t (w-t ∷ []) is-t .0)) $
           spread W (‵ (flft κ₀ q₀)) (‵ (flft κ₁ q₁) ∷ ‵ (flft κ₂ q₂) ∷ ‵ (flft (β₃ ∷ []) fullShare) ∷ ‵ (flft κ₄ q₄) ∷ ‵ (flft κ₅ q₅) ∷ ‵ ftrue ∷ []) (id⊢ 𝓤 _) $ move ! (7 ∷ []) $ spread W (‵ (fres (x₀ .name) (L .coded .code (ws-t .0)))) (‵ ftrue ∷ ‵ (fsep (finally u8 (x₂ .name) (ws-t .1 .1 .0)) (feq ℕ (length (ws-t .1 .1 .0)) (length (x₂ .now)))) ∷ ‵ ftrue ∷ ‵ (fsep (finally u32 (x₄ .name) (ws-t .1 .1 .1 .1 .0)) (feq ℕ (length (ws-t .1 .1 .1 .1 .0)) (length (x₄ .now)))) ∷ ‵ ftrue ∷ ‵ ftrue ∷ []) (id⊢ 𝓤 _) $ keep ! (0 ∷ 2 ∷ 4 ∷ 7 ∷ 8 ∷ 9 ∷ 10 ∷ 11 ∷ 12 ∷ 14 ∷ 15 ∷ 16 ∷ 17 ∷ 18 ∷ 19 ∷ 20 ∷ 21 ∷ 22 ∷ 23 ∷ 24 ∷ 25 ∷ 26 ∷ 27 ∷ 28 ∷ 29 ∷ 30 ∷ 31 ∷ 32 ∷ 33 ∷ 34 ∷ 35 ∷ 36 ∷ []) $ move ! (1 ∷ []) $ fsplit ! $ move ! (1 ∷ []) $ feqL ! (λ len₂. move ! (2 ∷ []) $ fsplit ! $ move ! (1 ∷ []) $ feqL ! (λ len₄.
           -- [fin4; fin2; fin0; tok0; tok1; tok2; btok3; tok4; tok5; blent3; deaths; the locals]
@@ -199,8 +199,8 @@ module _ {M : Type 1} (𝓤 : URA M) (H : Heap 𝓤) (A : Atoms 𝓤) (W : Given
           assigns ! {v = s₃} (agg ! (and-then ! (load ! (from ! (stop !)) (look ! 12 refl)) (and-then ! (load ! (from ! (fld ! refl (stop !))) (look-in ! 27 (sub ! 1 refl (whole !)))) (no-more !)))) (from ! (stop !)) (init ! 11 refl (tt, (tt, (record { fits = room₃ .0 }, tt)))) $
           move ! (6 ∷ 9 ∷ []) $ lft-end ! tt $ use2 W (later (‵ Own₃ ⊛ ‵ (flft κ₃ q₃))) (shared-back R κ₃ (β₃ ∷ []) q₃ (x₃ .name) (x₃ .ptr .0) (x₃ .ptr .1) (x₃ .now) 𝓤 H A W room₃) $ await ! tt $ split ! $
           -- [own3; tok3; fin4; fin2; fin0; tok0; tok1; tok2; tok4; tok5; deaths; the locals]
-          move ! (1 ∷ 0 ∷ []) $ join ! $ calls-fn ! fm scatter.ended (scatter.clauses 𝓤 H A at-mem run) (known .4) (to-scatter  words w-words n w-n after w-after) (λ u ws-u. (ws-u .0) ≡ scattered (x₃ .now) (slotsIn words n) after) (‵ (flft κ₃ q₃) ⊛ ‵ Own₃)
-          (asks-scatter  words w-words is-words n w-n is-n after w-after is-after ) (λ u ws-u. id⊢ 𝓤 _)
+          move ! (1 ∷ 0 ∷ []) $ join ! $ calls-fn ! fm scatter.ended (scatter.clauses 𝓤 H A at-mem run) (known .4) (to-scatter words w-words n w-n after w-after) (λ u ws-u. (ws-u .0) ≡ scattered (x₃ .now) (slotsIn words n) after) (‵ (flft κ₃ q₃) ⊛ ‵ Own₃)
+          (asks-scatter words w-words is-words n w-n is-n after w-after is-after) (λ u ws-u. id⊢ 𝓤 _)
           (and-then ! (load ! (from ! (stop !)) (look ! 10 refl)) (and-then ! (load ! (from ! (stop !)) (look ! 22 refl)) (and-then ! (load ! (from ! (stop !)) (look ! 21 refl)) (and-then ! (load ! (from ! (stop !)) (look ! 20 refl)) (no-more !))))) (λ u w-u ws-u e-u is-u. land ! (from ! (stop !)) (init ! 13 refl (nothing-lawful 𝓤 H A W .typed u _ is-u .0)) $
           spread W (‵ (flft κ₃ q₃)) (‵ ftrue ∷ []) (id⊢ 𝓤 _) $ move ! (2 ∷ []) $ spread W (‵ (fsep (finally R (x₃ .name) (ws-u .0)) (feq ℕ (length (ws-u .0)) (length (x₃ .now))))) (‵ ftrue ∷ ‵ ftrue ∷ ‵ ftrue ∷ ‵ ftrue ∷ []) (id⊢ 𝓤 _) $ keep ! (0 ∷ 5 ∷ 7 ∷ 8 ∷ 9 ∷ 10 ∷ 11 ∷ 12 ∷ 13 ∷ 14 ∷ 15 ∷ 16 ∷ 17 ∷ 18 ∷ 19 ∷ 20 ∷ 21 ∷ 22 ∷ 23 ∷ 24 ∷ 25 ∷ 26 ∷ 27 ∷ 28 ∷ 29 ∷ 30 ∷ 31 ∷ 32 ∷ 33 ∷ 34 ∷ 35 ∷ 36 ∷ []) $ fsplit ! $ move ! (1 ∷ []) $ feqL ! (λ len₃.
           -- [fin3; tok3; fin4; fin2; fin0; tok0; tok1; tok2; tok4; tok5; deaths; the locals]
@@ -209,7 +209,7 @@ module _ {M : Type 1} (𝓤 : URA M) (H : Heap 𝓤) (A : Atoms 𝓤) (W : Given
           (and-then ! (load ! (from ! (stop !)) (look ! 25 refl)) (no-more !)) (λ r w-r _ e-r is-r. drop ! $ drop ! $ land ! (from ! (stop !)) (init ! 31 refl (sint-lawful 𝓤 H A W w32 .typed r _ is-r .0)) $
           returns ! (look ! 31 refl) $
           move ! (10 ∷ []) $ spread W (‵ (fdies (tyInt w32) l₀)) (‵ (fdies (tyRef (named 0) mut (pointee (L .written))) l₁) ∷ ‵ (fdies (sliceTy (tyRef (named 1) imm (tyInt w8))) l₂) ∷ ‵ (fdies (sliceTy (tyRef (named 2) mut (tyInt w8))) l₃) ∷ ‵ (fdies (sliceTy (tyRef (named 3) mut (pointee (R .written)))) l₄) ∷ ‵ (fdies (sliceTy (tyRef (named 4) mut (tyInt w32))) l₅) ∷ ‵ (fdies (sliceTy (tyRef (named 5) imm (tyInt w8))) l₆) ∷ ‵ (fdies taken-laws.mir l₇) ∷ ‵ (fdies (tyArray (tyInt w32) 32) l₈) ∷ ‵ (fdies (tyInt w64) l₉) ∷ ‵ (fdies (tyArray record-laws.mir 32) l₁₀) ∷ ‵ (fdies (tyRef erased mut (pointee (L .written))) l₁₁) ∷ ‵ (fdies (tyRef erased mut (tyInt w8)) l₁₂) ∷ ‵ (fdies (sliceTy (tyRef erased mut (tyInt w8))) l₁₃) ∷ ‵ (fdies (tyRef erased imm (pointee (R .written))) l₁₄) ∷ ‵ (fdies (sliceTy (tyRef erased imm (pointee (R .written)))) l₁₅) ∷ ‵ (fdies (tyRef erased mut (tyInt w32)) l₁₆) ∷ ‵ (fdies (sliceTy (tyRef erased mut (tyInt w32))) l₁₇) ∷ ‵ (fdies tyUnit l₁₈) ∷ ‵ (fdies (tyRef erased mut (pointee (R .written))) l₁₉) ∷ ‵ (fdies (sliceTy (tyRef erased mut (pointee (R .written)))) l₂₀) ∷ []) (id⊢ 𝓤 _) $ move ! (51 ∷ 0 ∷ 50 ∷ 1 ∷ 49 ∷ 2 ∷ 48 ∷ 3 ∷ 47 ∷ 4 ∷ 46 ∷ 5 ∷ 45 ∷ 6 ∷ 44 ∷ 7 ∷ 43 ∷ 8 ∷ 42 ∷ 9 ∷ 41 ∷ 10 ∷ 40 ∷ 11 ∷ 39 ∷ 12 ∷ 38 ∷ 13 ∷ 37 ∷ 14 ∷ 36 ∷ 15 ∷ 35 ∷ 16 ∷ 34 ∷ 17 ∷ 33 ∷ 18 ∷ 32 ∷ 19 ∷ 31 ∷ 20 ∷ []) $ forget ! 0 refl $ free1 ! $ forget ! 0 refl $ free1 ! $ forget ! 0 refl $ free1 ! $ forget ! 0 refl $ free1 ! $ forget ! 0 refl $ free1 ! $ forget ! 0 refl $ free1 ! $ forget ! 0 refl $ free1 ! $ forget ! 0 refl $ free1 ! $ forget ! 0 refl $ free1 ! $ forget ! 0 refl $ free1 ! $ forget ! 0 refl $ free1 ! $ forget ! 0 refl $ free1 ! $ forget ! 0 refl $ free1 ! $ forget ! 0 refl $ free1 ! $ forget ! 0 refl $ free1 ! $ forget ! 0 refl $ free1 ! $ forget ! 0 refl $ free1 ! $ forget ! 0 refl $ free1 ! $ forget ! 0 refl $ free1 ! $ forget ! 0 refl $ free1 ! $ forget ! 0 refl $ free1 ! $ free0 ! $
-          move ! (4 ∷ 5 ∷ 6 ∷ 3 ∷ 7 ∷ 0 ∷ 1 ∷ 2 ∷ 8 ∷ 9 ∷ []) $ by ! (exits r w-r  (ws-t .0) (ws-t .1 .1 .0) (ws-u .0) (ws-t .1 .1 .1 .1 .0) (told answerCode _ (t .answer) e-r (input-promised (x₅ .now) (x₀ .now) (partsOf (x₁ .now) (x₂ .now) (x₃ .now) (x₄ .now)) (t .answer) (takenBack t) (ws-t .0) (ws-t .1 .1 .0) (ws-t .1 .1 .1 .1 .0) (ws-u .0) (ap length (sym e-after) ∙ is-after .1 .0 .1) (put-back (x₃ .now) (ws-u .0) (takenBack t) words n after e-words e-n e-after e-u) e-t)) len₂ len₃ len₄ is-r)))))))))))))))))))))))))))))))))
+          move ! (4 ∷ 5 ∷ 6 ∷ 3 ∷ 7 ∷ 0 ∷ 1 ∷ 2 ∷ 8 ∷ 9 ∷ []) $ by ! (exits r w-r (ws-t .0) (ws-t .1 .1 .0) (ws-u .0) (ws-t .1 .1 .1 .1 .0) (told answerCode _ (t .answer) e-r (input-promised (x₅ .now) (x₀ .now) (partsOf (x₁ .now) (x₂ .now) (x₃ .now) (x₄ .now)) (t .answer) (takenBack t) (ws-t .0) (ws-t .1 .1 .0) (ws-t .1 .1 .1 .1 .0) (ws-u .0) (ap length (sym e-after) ∙ is-after .1 .0 .1) (put-back (x₃ .now) (ws-u .0) (takenBack t) words n after e-words e-n e-after e-u) e-t)) len₂ len₃ len₄ is-r)))))))))))))))))))))))))))))))))
 
   f-meets : (𝓣 : Tables 𝓤 H) → Known (𝓣 .C) → Meets 𝓤 H A f.signature (WpFn 𝓤 H (𝓣 .C) (𝓣 .Λ) code.function) (f.spec 𝓤 H A at-mem run)
   unfolding Post

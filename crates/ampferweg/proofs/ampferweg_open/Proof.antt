@@ -138,10 +138,10 @@ module _ {M : Type 1} (𝓤 : URA M) (H : Heap 𝓤) (A : Atoms 𝓤) (W : Given
 
     -- what table-len is called at, and that what it asks is had
     abbrev to-table-len : tripleOf 𝓤 H A table-len.signature (table-len.spec 𝓤 H A at-mem run) .Ghost
-    to-table-len  = (((κ₃, tt), (q₃, tt), tt, (x₁₀, tt), (s₁₀ ∷ [], tt)), tt)
+    to-table-len = (((κ₃, tt), (q₃, tt), tt, (x₁₀, tt), (s₁₀ ∷ [], tt)), tt)
 
-    asks-table-len :  ent 𝓤 (⋆ 𝓤 H A (‵ (flft κ₃ q₃) ∷ ‵ Own₁₀ ∷ [])) (tripleOf 𝓤 H A table-len.signature (table-len.spec 𝓤 H A at-mem run) .pre (to-table-len ))
-    asks-table-len    =
+    asks-table-len : ent 𝓤 (⋆ 𝓤 H A (‵ (flft κ₃ q₃) ∷ ‵ Own₁₀ ∷ [])) (tripleOf 𝓤 H A table-len.signature (table-len.spec 𝓤 H A at-mem run) .pre (to-table-len))
+    asks-table-len =
         qed W (‵ (flft κ₃ q₃) ∷ ‵ Own₁₀ ∷ []) ∵ nothing ! $ move ! (1 ∷ 0 ∷ []) $ join ! $ nothing ! $ move ! (2 ∷ 0 ∷ []) $ fjoin ! $ move ! (1 ∷ 0 ∷ []) $ join ! $ nothing ! $ move ! (1 ∷ 0 ∷ []) $ done !
 
     -- what core is called at, and that what it asks is had
@@ -149,7 +149,7 @@ module _ {M : Type 1} (𝓤 : URA M) (H : Heap 𝓤) (A : Atoms 𝓤) (W : Given
     to-core y₀ u₀ y₁ u₁ y₂ u₂ y₃ u₃ y₄ u₄ y₅ u₅ = (((κ₁, (κ₂, (κ₄, tt))), (q₁, (q₂, (q₄, tt))), tt, (y₀, (y₁, (y₂, (y₃, (y₄, (y₅, (x₈, (x₉, (x₁₁, tt))))))))), (u₀ ∷ [], (u₁ ∷ [], (u₂ ∷ [], (u₃ ∷ [], (u₄ ∷ [], (u₅ ∷ [], (s₈ ∷ [], (s₉ ∷ [], (s₁₁ ∷ [], tt)))))))))), tt)
 
     asks-core : (y₀ : Settings) (u₀ : Val) → Is settings-row.the-row y₀ (u₀ ∷ []) → (y₁ : Settings) (u₁ : Val) → Is settings-row.the-row y₁ (u₁ ∷ []) → (y₂ : Flight) (u₂ : Val) → Is flight-row.the-row y₂ (u₂ ∷ []) → (y₃ : Arrival) (u₃ : Val) → Is arrival-row.the-row y₃ (u₃ ∷ []) → (y₄ : Clock) (u₄ : Val) → Is clock-row.the-row y₄ (u₄ ∷ []) → (y₅ : ℕ) (u₅ : Val) → Is usize y₅ (u₅ ∷ []) → ent 𝓤 (⋆ 𝓤 H A (‵ (flft κ₁ q₁) ∷ ‵ Own₈ ∷ ‵ (flft κ₂ q₂) ∷ ‵ Own₉ ∷ ‵ (flft κ₄ q₄) ∷ ‵ Own₁₁ ∷ [])) (tripleOf 𝓤 H A core.signature (core.spec 𝓤 H A at-mem run) .pre (to-core y₀ u₀ y₁ u₁ y₂ u₂ y₃ u₃ y₄ u₄ y₅ u₅))
-    asks-core  y₀ u₀ is₀ y₁ u₁ is₁ y₂ u₂ is₂ y₃ u₃ is₃ y₄ u₄ is₄ y₅ u₅ is₅  =
+    asks-core y₀ u₀ is₀ y₁ u₁ is₁ y₂ u₂ is₂ y₃ u₃ is₃ y₄ u₄ is₄ y₅ u₅ is₅ =
         qed W (‵ (flft κ₁ q₁) ∷ ‵ Own₈ ∷ ‵ (flft κ₂ q₂) ∷ ‵ Own₉ ∷ ‵ (flft κ₄ q₄) ∷ ‵ Own₁₁ ∷ []) ∵ nothing ! $ move ! (5 ∷ 0 ∷ []) $ join ! $ move ! (3 ∷ 0 ∷ []) $ join ! $ move ! (1 ∷ 0 ∷ []) $ join ! $ nothing ! $ move ! (4 ∷ 0 ∷ []) $ fjoin ! $ move ! (3 ∷ 0 ∷ []) $ fjoin ! $ move ! (2 ∷ 0 ∷ []) $ fjoin ! $ owned ! usize (Is usize) (uint-makes 𝓤 H A W w64) y₅ _ is₅ $ fjoin ! $ owned ! clock-row.the-row (Is clock-row.the-row) (LL.makes clock-row.the-type clock-laws.the-plain 𝓤 H A) y₄ _ is₄ $ fjoin ! $ owned ! arrival-row.the-row (Is arrival-row.the-row) (LL.makes arrival-row.the-type arrival-laws.the-plain 𝓤 H A) y₃ _ is₃ $ fjoin ! $ owned ! flight-row.the-row (Is flight-row.the-row) (LL.makes flight-row.the-type flight-laws.the-plain 𝓤 H A) y₂ _ is₂ $ fjoin ! $ owned ! settings-row.the-row (Is settings-row.the-row) (LL.makes settings-row.the-type settings-laws.the-plain 𝓤 H A) y₁ _ is₁ $ fjoin ! $ owned ! settings-row.the-row (Is settings-row.the-row) (LL.makes settings-row.the-type settings-laws.the-plain 𝓤 H A) y₀ _ is₀ $ fjoin ! $ move ! (1 ∷ 0 ∷ []) $ join ! $ nothing ! $ move ! (1 ∷ 0 ∷ []) $ done !
 
     abbrev Had : (k : Link) → List (Item 𝓤)
@@ -159,9 +159,9 @@ module _ {M : Type 1} (𝓤 : URA M) (H : Heap 𝓤) (A : Atoms 𝓤) (W : Given
     abbrev Said : (r : ℤ) (k : Link) → Type 0
     Said r k = Gives answerCode (λ a. OpenPromise (settingsOf x₁ x₂ x₃ x₄ x₅ x₆ x₇) h (partsOf (x₈ .now) (x₉ .now) (x₁₀ .now) (x₁₁ .now)) a k (partsOf (x₈ .now) (x₉ .now) (x₁₀ .now) (x₁₁ .now))) r
 
-    exits : (r : ℤ) (w : Val) (k : Link) → Said r k  → Is i32 r (w ∷ []) → ent 𝓤 (⋆ 𝓤 H A (Had k)) (Post w)
+    exits : (r : ℤ) (w : Val) (k : Link) → Said r k → Is i32 r (w ∷ []) → ent 𝓤 (⋆ 𝓤 H A (Had k)) (Post w)
     unfolding Post
-    exits r w k e  g =
+    exits r w k e g =
         qed W (Had k) ∵ suffices ! _ (ends-at 𝓤 H A f.ended stayed (f.clauses 𝓤 H A at-mem run) W (((κ₀, (κ₁, (κ₂, (κ₃, (κ₄, tt))))), (q₀, (q₁, (q₂, (q₃, (q₄, tt))))), tt, x, at), tt) w r (k, (tt, (tt, (tt, (tt, (tt, (tt, (tt, (tt, (tt, (tt, (tt, tt)))))))))))) (tt, (tt, (tt, (tt, (tt, (tt, (tt, (tt, (tt, (tt, (tt, (tt, tt))))))))))))) $ says ! e $
         nothing ! $ move ! (6 ∷ 0 ∷ []) $ join ! $ move ! (5 ∷ 0 ∷ []) $ join ! $ move ! (4 ∷ 0 ∷ []) $ join ! $ move ! (3 ∷ 0 ∷ []) $ join ! $ move ! (2 ∷ 0 ∷ []) $ join ! $ frame ! $ nothing ! $ nothing ! $ fjoin ! $ nothing ! $ fjoin ! $ nothing ! $ fjoin ! $ nothing ! $ fjoin ! $ nothing ! $ fjoin ! $ nothing ! $ fjoin ! $ nothing ! $ fjoin ! $ nothing ! $ fjoin ! $ nothing ! $ fjoin ! $ nothing ! $ fjoin ! $ nothing ! $ fjoin ! $ move ! (1 ∷ 0 ∷ []) $ fjoin ! $ frame ! $ owned ! i32 (Is i32) (sint-makes 𝓤 H A W w32) r _ g $ done !
 
@@ -196,7 +196,7 @@ module _ {M : Type 1} (𝓤 : URA M) (H : Heap 𝓤) (A : Atoms 𝓤) (W : Given
           (and-then ! (load ! (from ! (stop !)) (look ! 12 refl)) (no-more !)) (λ r w-r _ e-r is-r. drop ! $ drop ! $ land ! (from ! (stop !)) (init ! 30 refl (sint-lawful 𝓤 H A W w32 .typed r _ is-r .0)) $
           returns ! (look ! 30 refl) $
           move ! (6 ∷ []) $ spread W (‵ (fdies (tyInt w32) (past .0))) (‵ (fdies (tyRef (named 0) mut (pointee (L .written))) (past .1)) ∷ ‵ (fdies (tyInt w32) (past .2)) ∷ ‵ (fdies (tyInt w32) (past .3)) ∷ ‵ (fdies (tyInt w32) (past .4)) ∷ ‵ (fdies (tyInt w32) (past .5)) ∷ ‵ (fdies (tyInt w32) (past .6)) ∷ ‵ (fdies (tyInt w32) (past .7)) ∷ ‵ (fdies (tyInt w32) (past .8)) ∷ ‵ (fdies (sliceTy (tyRef (named 1) imm (tyInt w8))) (past .9)) ∷ ‵ (fdies (sliceTy (tyRef (named 2) imm (tyInt w8))) (past .10)) ∷ ‵ (fdies (sliceTy (tyRef (named 3) imm (pointee (R .written)))) (past .11)) ∷ ‵ (fdies (sliceTy (tyRef (named 4) imm (tyInt w32))) (past .12)) ∷ ‵ (fdies settings-laws.mir (past .13)) ∷ ‵ (fdies settings-laws.mir (past .14)) ∷ ‵ (fdies flight-laws.mir (past .15)) ∷ ‵ (fdies arrival-laws.mir (past .16)) ∷ ‵ (fdies clock-laws.mir (past .17)) ∷ ‵ (fdies (tyInt w64) (past .18)) ∷ ‵ (fdies opened-laws.mir (past .19)) ∷ ‵ (fdies settings-laws.mir (past .20)) ∷ ‵ (fdies flight-laws.mir (past .21)) ∷ ‵ (fdies arrival-laws.mir (past .22)) ∷ ‵ (fdies clock-laws.mir (past .23)) ∷ []) (id⊢ 𝓤 _) $ move ! (53 ∷ 0 ∷ 52 ∷ 1 ∷ 51 ∷ 2 ∷ 50 ∷ 3 ∷ 49 ∷ 4 ∷ 48 ∷ 5 ∷ 47 ∷ 6 ∷ 46 ∷ 7 ∷ 45 ∷ 8 ∷ 44 ∷ 9 ∷ 43 ∷ 10 ∷ 42 ∷ 11 ∷ 41 ∷ 12 ∷ 40 ∷ 13 ∷ 39 ∷ 14 ∷ 38 ∷ 15 ∷ 37 ∷ 16 ∷ 36 ∷ 17 ∷ 35 ∷ 18 ∷ 34 ∷ 19 ∷ 33 ∷ 20 ∷ 32 ∷ 21 ∷ 31 ∷ 22 ∷ 30 ∷ 23 ∷ []) $ forget ! 0 refl $ free1 ! $ forget ! 0 refl $ free1 ! $ forget ! 0 refl $ free1 ! $ forget ! 0 refl $ free1 ! $ forget ! 0 refl $ free1 ! $ forget ! 0 refl $ free1 ! $ forget ! 0 refl $ free1 ! $ forget ! 0 refl $ free1 ! $ forget ! 0 refl $ free1 ! $ forget ! 0 refl $ free1 ! $ forget ! 0 refl $ free1 ! $ forget ! 0 refl $ free1 ! $ forget ! 0 refl $ free1 ! $ forget ! 0 refl $ free1 ! $ forget ! 0 refl $ free1 ! $ forget ! 0 refl $ free1 ! $ forget ! 0 refl $ free1 ! $ forget ! 0 refl $ free1 ! $ forget ! 0 refl $ free1 ! $ forget ! 0 refl $ free1 ! $ forget ! 0 refl $ free1 ! $ forget ! 0 refl $ free1 ! $ forget ! 0 refl $ free1 ! $ forget ! 0 refl $ free1 ! $ free0 ! $
-          move ! (0 ∷ 1 ∷ 2 ∷ 3 ∷ 5 ∷ 4 ∷ []) $ by ! (exits r w-r (record { settings = ks; flight = kf; arrival = ka; clock = kc; queued = (h .queued); outstanding = (h .outstanding); transmissions = (h .transmissions); ready = (h .ready); waiting = (h .waiting); «waiting_numbers» = (h .«waiting_numbers») })  (told answerCode _ ((past .30) .answer) e-r (rw (e-ks, e-kf, e-ka, e-kc) (subst (λ (s : Settings). OpenPromise s h (partsOf (x₈ .now) (x₉ .now) (x₁₀ .now) (x₁₁ .now)) ((past .30) .answer) (linkOf ((past .30) .settings) ((past .30) .flight) ((past .30) .arrival) ((past .30) .clock) (arraysOf h)) (partsOf (x₈ .now) (x₉ .now) (x₁₀ .now) (x₁₁ .now))) (past .26) (open-promised (past .24) h (partsOf (x₈ .now) (x₉ .now) (x₁₀ .now) (x₁₁ .now)) ((past .30) .answer) (linkOf ((past .30) .settings) ((past .30) .flight) ((past .30) .arrival) ((past .30) .clock) (arraysOf h)) (past .27) (past .29) ((past .32) (arraysOf h))))))  is-r))))))))))))))))
+          move ! (0 ∷ 1 ∷ 2 ∷ 3 ∷ 5 ∷ 4 ∷ []) $ by ! (exits r w-r (record { settings = ks; flight = kf; arrival = ka; clock = kc; queued = (h .queued); outstanding = (h .outstanding); transmissions = (h .transmissions); ready = (h .ready); waiting = (h .waiting); «waiting_numbers» = (h .«waiting_numbers») }) (told answerCode _ ((past .30) .answer) e-r (rw (e-ks, e-kf, e-ka, e-kc) (subst (λ (s : Settings). OpenPromise s h (partsOf (x₈ .now) (x₉ .now) (x₁₀ .now) (x₁₁ .now)) ((past .30) .answer) (linkOf ((past .30) .settings) ((past .30) .flight) ((past .30) .arrival) ((past .30) .clock) (arraysOf h)) (partsOf (x₈ .now) (x₉ .now) (x₁₀ .now) (x₁₁ .now))) (past .26) (open-promised (past .24) h (partsOf (x₈ .now) (x₉ .now) (x₁₀ .now) (x₁₁ .now)) ((past .30) .answer) (linkOf ((past .30) .settings) ((past .30) .flight) ((past .30) .arrival) ((past .30) .clock) (arraysOf h)) (past .27) (past .29) ((past .32) (arraysOf h)))))) is-r))))))))))))))))
 
       walk : ent 𝓤 (onEntry 𝓤 H A f.signature (κ₀, (κ₁, (κ₂, (κ₃, (κ₄, tt))))) (q₀, (q₁, (q₂, (q₃, (q₄, tt))))) x at) (WpFn 𝓤 H C Λ code.function (vptr b o ∷ v₁ ∷ v₂ ∷ v₃ ∷ v₄ ∷ v₅ ∷ v₆ ∷ v₇ ∷ s₈ ∷ s₉ ∷ s₁₀ ∷ s₁₁ ∷ []) Post)
       walk =
@@ -218,13 +218,13 @@ module _ {M : Type 1} (𝓤 : URA M) (H : Heap 𝓤) (A : Atoms 𝓤) (W : Given
           assigns ! {v = (only ((LL.vals arrival-row.the-type arrival-laws.the-laws) (h .arrival)))} (of-opd ! (load ! (from ! (hop ! (look ! 43 refl) (fld ! {d = 72} refl (stop !)))) (look-raw ! 0 refl))) (from ! (stop !)) (init ! 28 refl (LL.lawful arrival-row.the-type arrival-laws.the-laws 𝓤 H A W .typed (h .arrival) ((only ((LL.vals arrival-row.the-type arrival-laws.the-laws) (h .arrival))) ∷ []) was-arrival .0)) $
           cell-in ! fullShare arrival-row.the-row (LL.makes arrival-row.the-type arrival-laws.the-plain 𝓤 H A) (h .arrival) b (o + 72) (only ((LL.vals arrival-row.the-type arrival-laws.the-laws) (h .arrival))) was-arrival $ move ! (9 ∷ []) $ cell-out ! fullShare clock-row.the-row (LL.vals clock-row.the-type clock-laws.the-laws) (LL.tells clock-row.the-type clock-laws.the-laws) (h .clock) b (o + 104) (λ was-clock.
           assigns ! {v = (only ((LL.vals clock-row.the-type clock-laws.the-laws) (h .clock)))} (of-opd ! (load ! (from ! (hop ! (look ! 43 refl) (fld ! {d = 104} refl (stop !)))) (look-raw ! 0 refl))) (from ! (stop !)) (init ! 27 refl (LL.lawful clock-row.the-type clock-laws.the-laws 𝓤 H A W .typed (h .clock) ((only ((LL.vals clock-row.the-type clock-laws.the-laws) (h .clock))) ∷ []) was-clock .0)) $
-          cell-in ! fullShare clock-row.the-row (LL.makes clock-row.the-type clock-laws.the-plain 𝓤 H A) (h .clock) b (o + 104) (only ((LL.vals clock-row.the-type clock-laws.the-laws) (h .clock))) was-clock $ move ! (15 ∷ 19 ∷ []) $ join ! $ calls-fn ! fm table-len.ended (table-len.clauses 𝓤 H A at-mem run) (known .1) (to-table-len  ) (λ m ws-m. m ≡ length (x₁₀ .now)) (‵ (flft κ₃ q₃) ⊛ ‵ Own₁₀)
-          (asks-table-len   ) (λ m ws-m. id⊢ 𝓤 _)
+          cell-in ! fullShare clock-row.the-row (LL.makes clock-row.the-type clock-laws.the-plain 𝓤 H A) (h .clock) b (o + 104) (only ((LL.vals clock-row.the-type clock-laws.the-laws) (h .clock))) was-clock $ move ! (15 ∷ 19 ∷ []) $ join ! $ calls-fn ! fm table-len.ended (table-len.clauses 𝓤 H A at-mem run) (known .1) (to-table-len) (λ m ws-m. m ≡ length (x₁₀ .now)) (‵ (flft κ₃ q₃) ⊛ ‵ Own₁₀)
+          (asks-table-len) (λ m ws-m. id⊢ 𝓤 _)
           (and-then ! (load ! (from ! (stop !)) (look ! 32 refl)) (no-more !)) (λ m w-m ws-m e-m is-m. land ! (from ! (stop !)) (init ! 26 refl (uint-lawful 𝓤 H A W w64 .typed m _ is-m .0)) $
           spread W (‵ (flft κ₃ q₃)) (‵ ftrue ∷ []) (id⊢ 𝓤 _) $ move ! (2 ∷ []) $ spread W (‵ ftrue) (‵ ftrue ∷ []) (id⊢ 𝓤 _) $ keep ! (2 ∷ 4 ∷ 5 ∷ 6 ∷ 7 ∷ 8 ∷ 9 ∷ 10 ∷ 11 ∷ 12 ∷ 13 ∷ 14 ∷ 15 ∷ 16 ∷ 17 ∷ 18 ∷ 19 ∷ 20 ∷ 21 ∷ 22 ∷ 23 ∷ 24 ∷ 25 ∷ 26 ∷ 27 ∷ 28 ∷ 29 ∷ 30 ∷ 31 ∷ 32 ∷ 33 ∷ 34 ∷ 35 ∷ 36 ∷ 37 ∷ 38 ∷ 39 ∷ 40 ∷ 41 ∷ 42 ∷ 43 ∷ 44 ∷ 45 ∷ 46 ∷ []) $
           -- [tok10; F:clock; F:arrival; F:flight; F:settings; F:«waiting_numbers»; F:waiting; F:ready; F:transmissions; F:outstanding; F:queued; back; opened; deaths; tok8; tok9; tok11; own8; own9; own11; the locals]
-          move ! (14 ∷ 17 ∷ 15 ∷ 18 ∷ 16 ∷ 19 ∷ []) $ group ! 6 $ calls-fn ! fm core.ended (core.clauses 𝓤 H A at-mem run) (known .2) (to-core  c w-c (h .settings) (only ((LL.vals settings-row.the-type settings-laws.the-laws) (h .settings))) (h .flight) (only ((LL.vals flight-row.the-type flight-laws.the-laws) (h .flight))) (h .arrival) (only ((LL.vals arrival-row.the-type arrival-laws.the-laws) (h .arrival))) (h .clock) (only ((LL.vals clock-row.the-type clock-laws.the-laws) (h .clock))) m w-m) (λ a ws-a. (x : Arrays) → OpenCore (opensWith c (lentLengths m (x₈ .now) (x₉ .now) (x₁₁ .now))) (linkOf (h .settings) (h .flight) (h .arrival) (h .clock) x) (a .answer) (linkOf (a .settings) (a .flight) (a .arrival) (a .clock) x)) (‵ (flft κ₁ q₁) ⊛ ‵ Own₈ ⊛ ‵ (flft κ₂ q₂) ⊛ ‵ Own₉ ⊛ ‵ (flft κ₄ q₄) ⊛ ‵ Own₁₁)
-          (asks-core  c w-c is-c (h .settings) (only ((LL.vals settings-row.the-type settings-laws.the-laws) (h .settings))) was-settings (h .flight) (only ((LL.vals flight-row.the-type flight-laws.the-laws) (h .flight))) was-flight (h .arrival) (only ((LL.vals arrival-row.the-type arrival-laws.the-laws) (h .arrival))) was-arrival (h .clock) (only ((LL.vals clock-row.the-type clock-laws.the-laws) (h .clock))) was-clock m w-m is-m ) (λ a ws-a. id⊢ 𝓤 _)
+          move ! (14 ∷ 17 ∷ 15 ∷ 18 ∷ 16 ∷ 19 ∷ []) $ group ! 6 $ calls-fn ! fm core.ended (core.clauses 𝓤 H A at-mem run) (known .2) (to-core c w-c (h .settings) (only ((LL.vals settings-row.the-type settings-laws.the-laws) (h .settings))) (h .flight) (only ((LL.vals flight-row.the-type flight-laws.the-laws) (h .flight))) (h .arrival) (only ((LL.vals arrival-row.the-type arrival-laws.the-laws) (h .arrival))) (h .clock) (only ((LL.vals clock-row.the-type clock-laws.the-laws) (h .clock))) m w-m) (λ a ws-a. (x : Arrays) → OpenCore (opensWith c (lentLengths m (x₈ .now) (x₉ .now) (x₁₁ .now))) (linkOf (h .settings) (h .flight) (h .arrival) (h .clock) x) (a .answer) (linkOf (a .settings) (a .flight) (a .arrival) (a .clock) x)) (‵ (flft κ₁ q₁) ⊛ ‵ Own₈ ⊛ ‵ (flft κ₂ q₂) ⊛ ‵ Own₉ ⊛ ‵ (flft κ₄ q₄) ⊛ ‵ Own₁₁)
+          (asks-core c w-c is-c (h .settings) (only ((LL.vals settings-row.the-type settings-laws.the-laws) (h .settings))) was-settings (h .flight) (only ((LL.vals flight-row.the-type flight-laws.the-laws) (h .flight))) was-flight (h .arrival) (only ((LL.vals arrival-row.the-type arrival-laws.the-laws) (h .arrival))) was-arrival (h .clock) (only ((LL.vals clock-row.the-type clock-laws.the-laws) (h .clock))) was-clock m w-m is-m) (λ a ws-a. id⊢ 𝓤 _)
           (and-then ! (load ! (from ! (stop !)) (look ! 25 refl)) (and-then ! (load ! (from ! (stop !)) (look ! 24 refl)) (and-then ! (load ! (from ! (stop !)) (look ! 23 refl)) (and-then ! (load ! (from ! (stop !)) (look ! 22 refl)) (and-then ! (load ! (from ! (stop !)) (look ! 21 refl)) (and-then ! (load ! (from ! (stop !)) (look ! 20 refl)) (and-then ! (load ! (from ! (stop !)) (look ! 29 refl)) (and-then ! (load ! (from ! (stop !)) (look ! 28 refl)) (and-then ! (load ! (from ! (stop !)) (look ! 26 refl)) (no-more !)))))))))) (λ a w-a ws-a e-a is-a. land ! (from ! (stop !)) (init ! 20 refl (LL.lawful opened-row.the-type opened-laws.the-laws 𝓤 H A W .typed a (w-a ∷ []) is-a .0)) $
           spread W (‵ (flft κ₁ q₁)) (‵ (flft κ₂ q₂) ∷ ‵ (flft κ₄ q₄) ∷ ‵ ftrue ∷ []) (id⊢ 𝓤 _) $ move ! (4 ∷ []) $ spread W (‵ ftrue) (‵ ftrue ∷ ‵ ftrue ∷ ‵ ftrue ∷ ‵ ftrue ∷ ‵ ftrue ∷ ‵ ftrue ∷ ‵ ftrue ∷ ‵ ftrue ∷ ‵ ftrue ∷ []) (id⊢ 𝓤 _) $ keep ! (10 ∷ 11 ∷ 12 ∷ 14 ∷ 15 ∷ 16 ∷ 17 ∷ 18 ∷ 19 ∷ 20 ∷ 21 ∷ 22 ∷ 23 ∷ 24 ∷ 25 ∷ 26 ∷ 27 ∷ 28 ∷ 29 ∷ 30 ∷ 31 ∷ 32 ∷ 33 ∷ 34 ∷ 35 ∷ 36 ∷ 37 ∷ 38 ∷ 39 ∷ 40 ∷ 41 ∷ 42 ∷ 43 ∷ 44 ∷ 45 ∷ 46 ∷ 47 ∷ 48 ∷ 49 ∷ 50 ∷ 51 ∷ []) $
           -- [tok8; tok9; tok11; tok10; F:clock; F:arrival; F:flight; F:settings; F:«waiting_numbers»; F:waiting; F:ready; F:transmissions; F:outstanding; F:queued; back; opened; deaths; the locals]

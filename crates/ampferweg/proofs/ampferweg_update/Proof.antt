@@ -146,7 +146,7 @@ module _ {M : Type 1} (𝓤 : URA M) (H : Heap 𝓤) (A : Atoms 𝓤) (W : Given
     to-writing β₃ δ₃ y₀ u₀ = (((κ₀, (κ₁, (κ₂, ((β₃ ∷ []), (κ₄, (κ₅, (κ₆, tt))))))), (q₀, (q₁, (q₂, (fullShare, (q₄, (q₅, (q₆, tt))))))), tt, (x₀, (x₁, (x₂, ((shown-at₃ δ₃), (x₄, (y₀, (x₆, (x₇, tt)))))))), (s₀ ∷ [], (s₁ ∷ [], (s₂ ∷ [], (s₃ ∷ [], (s₄ ∷ [], (u₀ ∷ [], (s₆ ∷ [], (s₇ ∷ [], tt))))))))), tt)
 
     asks-writing : (β₃ : ℕ) (δ₃ : GName) → (y₀ : ℕ) (u₀ : Val) → Is u32 y₀ (u₀ ∷ []) → ent 𝓤 (⋆ 𝓤 H A (‵ (flft κ₀ q₀) ∷ ‵ Own₀ ∷ ‵ (flft κ₁ q₁) ∷ ‵ Own₁ ∷ ‵ (flft κ₂ q₂) ∷ ‵ Own₂ ∷ ‵ (flft (β₃ ∷ []) fullShare) ∷ ‵ (Shared₃ β₃ δ₃) ∷ ‵ (flft κ₄ q₄) ∷ ‵ Own₄ ∷ ‵ (flft κ₅ q₅) ∷ ‵ Own₆ ∷ ‵ (flft κ₆ q₆) ∷ ‵ Own₇ ∷ [])) (tripleOf 𝓤 H A writing.signature (writing.spec 𝓤 H A at-mem run) .pre (to-writing β₃ δ₃ y₀ u₀))
-    asks-writing β₃ δ₃ y₀ u₀ is₀  =
+    asks-writing β₃ δ₃ y₀ u₀ is₀ =
         qed W (‵ (flft κ₀ q₀) ∷ ‵ Own₀ ∷ ‵ (flft κ₁ q₁) ∷ ‵ Own₁ ∷ ‵ (flft κ₂ q₂) ∷ ‵ Own₂ ∷ ‵ (flft (β₃ ∷ []) fullShare) ∷ ‵ (Shared₃ β₃ δ₃) ∷ ‵ (flft κ₄ q₄) ∷ ‵ Own₄ ∷ ‵ (flft κ₅ q₅) ∷ ‵ Own₆ ∷ ‵ (flft κ₆ q₆) ∷ ‵ Own₇ ∷ []) ∵ nothing ! $ move ! (13 ∷ 0 ∷ []) $ join ! $ move ! (11 ∷ 0 ∷ []) $ join ! $ move ! (9 ∷ 0 ∷ []) $ join ! $ move ! (7 ∷ 0 ∷ []) $ join ! $ move ! (5 ∷ 0 ∷ []) $ join ! $ move ! (3 ∷ 0 ∷ []) $ join ! $ move ! (1 ∷ 0 ∷ []) $ join ! $ nothing ! $ move ! (8 ∷ 0 ∷ []) $ fjoin ! $ move ! (7 ∷ 0 ∷ []) $ fjoin ! $ owned ! u32 (Is u32) (uint-makes 𝓤 H A W w32) y₀ _ is₀ $ fjoin ! $ move ! (6 ∷ 0 ∷ []) $ fjoin ! $ move ! (5 ∷ 0 ∷ []) $ fjoin ! $ move ! (4 ∷ 0 ∷ []) $ fjoin ! $ move ! (3 ∷ 0 ∷ []) $ fjoin ! $ move ! (2 ∷ 0 ∷ []) $ fjoin ! $ move ! (1 ∷ 0 ∷ []) $ join ! $ nothing ! $ move ! (1 ∷ 0 ∷ []) $ done !
 
     -- what scatter is called at, and that what it asks is had
@@ -154,7 +154,7 @@ module _ {M : Type 1} (𝓤 : URA M) (H : Heap 𝓤) (A : Atoms 𝓤) (W : Given
     to-scatter y₀ u₀ y₁ u₁ y₂ u₂ = (((κ₃, tt), (q₃, tt), tt, (x₃, (y₀, (y₁, (y₂, tt)))), (s₃ ∷ [], (u₀ ∷ [], (u₁ ∷ [], (u₂ ∷ [], tt))))), tt)
 
     asks-scatter : (y₀ : (List ℕ)) (u₀ : Val) → Is (Array u32 32) y₀ (u₀ ∷ []) → (y₁ : ℕ) (u₁ : Val) → Is usize y₁ (u₁ ∷ []) → (y₂ : (List Record)) (u₂ : Val) → Is Rs y₂ (u₂ ∷ []) → ent 𝓤 (⋆ 𝓤 H A (‵ (flft κ₃ q₃) ∷ ‵ Own₃ ∷ [])) (tripleOf 𝓤 H A scatter.signature (scatter.spec 𝓤 H A at-mem run) .pre (to-scatter y₀ u₀ y₁ u₁ y₂ u₂))
-    asks-scatter  y₀ u₀ is₀ y₁ u₁ is₁ y₂ u₂ is₂  =
+    asks-scatter y₀ u₀ is₀ y₁ u₁ is₁ y₂ u₂ is₂ =
         qed W (‵ (flft κ₃ q₃) ∷ ‵ Own₃ ∷ []) ∵ nothing ! $ move ! (1 ∷ 0 ∷ []) $ join ! $ nothing ! $ owned ! Rs (Is Rs) (rs-makes 𝓤 H A W) y₂ _ is₂ $ fjoin ! $ owned ! usize (Is usize) (uint-makes 𝓤 H A W w64) y₁ _ is₁ $ fjoin ! $ owned ! (Array u32 32) (Is (Array u32 32)) (array-makes 𝓤 H A W u32 (uint-makes 𝓤 H A W w32) 32) y₀ _ is₀ $ fjoin ! $ move ! (2 ∷ 0 ∷ []) $ fjoin ! $ move ! (1 ∷ 0 ∷ []) $ join ! $ nothing ! $ move ! (1 ∷ 0 ∷ []) $ done !
 
     abbrev Had : (z₀ : Link) (z₃ : List Record) (z₆ : List ℕ) (z₇ : List ℕ) → List (Item 𝓤)
@@ -188,7 +188,7 @@ module _ {M : Type 1} (𝓤 : URA M) (H : Heap 𝓤) (A : Atoms 𝓤) (W : Given
           lft-new ! tt (λ β₃. move ! (12 ∷ 5 ∷ []) $ use2 W (later (some (λ (δ : GName). ‵ (Shared₃ β₃ δ) ⊛ ‵ (LentShared R κ₃ (β₃ ∷ []) q₃ (x₃ .name) (x₃ .ptr .0) (x₃ .ptr .1) (x₃ .now))))) (lends-shared R κ₃ (β₃ ∷ []) q₃ (x₃ .name) (x₃ .ptr .0) (x₃ .ptr .1) (x₃ .now) 𝓤 H A W) $ await ! tt $ pick ! (λ β-name₃. split ! $
           -- [shown3; blent3; btok3; deaths; tok0; tok1; tok2; tok4; tok6; tok7; own0; own1; own2; own4; own6; own7; the locals]
           move ! (4 ∷ 10 ∷ 5 ∷ 11 ∷ 6 ∷ 12 ∷ 2 ∷ 0 ∷ 7 ∷ 13 ∷ 8 ∷ 14 ∷ 9 ∷ 15 ∷ []) $ group ! 14 $ calls-fn ! fm writing.ended (writing.clauses 𝓤 H A at-mem run) (known .0) (to-writing β₃ β-name₃ x₅ v₅) (λ t ws-t. UpdateLeft x₅ (x₀ .now) (partsOf (x₁ .now) (x₂ .now) (x₃ .now) (x₄ .now)) (x₆ .now) (x₇ .now) (t .answer) (updatedBack t) (ws-t .0) (ws-t .1 .1 .1 .1 .1 .1 .0) (ws-t .1 .1 .1 .1 .1 .1 .1 .0)) (‵ (flft κ₀ q₀) ⊛ ‵ Own₀ ⊛ ‵ (flft κ₁ q₁) ⊛ ‵ Own₁ ⊛ ‵ (flft κ₂ q₂) ⊛ ‵ Own₂ ⊛ ‵ (flft (β₃ ∷ []) fullShare) ⊛ ‵ (Shared₃ β₃ β-name₃) ⊛ ‵ (flft κ₄ q₄) ⊛ ‵ Own₄ ⊛ ‵ (flft κ₅ q₅) ⊛ ‵ Own₆ ⊛ ‵ (flft κ₆ q₆) ⊛ ‵ Own₇)
-          (asks-writing β₃ β-name₃ x₅ v₅ g₅ ) (λ t ws-t. id⊢ 𝓤 _)
+          (asks-writing β₃ β-name₃ x₅ v₅ g₅) (λ t ws-t. id⊢ 𝓤 _)
           (and-then ! (load ! (from ! (stop !)) (look ! 12 refl)) (and-then ! (load ! (from ! (stop !)) (look ! 23 refl)) (and-then ! (load ! (from ! (stop !)) (look ! 22 refl)) (and-then ! (load ! (from ! (stop !)) (look ! 10 refl)) (and-then ! (load ! (from ! (stop !)) (look ! 20 refl)) (and-then ! (load ! (from ! (stop !)) (look ! 19 refl)) (and-then ! (load ! (from ! (stop !)) (look ! 8 refl)) (and-then ! (load ! (from ! (stop !)) (look ! 6 refl)) (no-more !))))))))) (λ t w-t ws-t e-t is-t. land ! (from ! (stop !)) (init ! 17 refl (LL.lawful updated-row.the-type updated-laws.the-laws 𝓤 H A W .typed t (w-t ∷ []) is-t .0)) $
           spread W (‵ (flft κ₀ q₀)) (‵ (flft κ₁ q₁) ∷ ‵ (flft κ₂ q₂) ∷ ‵ (flft (β₃ ∷ []) fullShare) ∷ ‵ (flft κ₄ q₄) ∷ ‵ (flft κ₅ q₅) ∷ ‵ (flft κ₆ q₆) ∷ ‵ ftrue ∷ []) (id⊢ 𝓤 _) $ move ! (8 ∷ []) $ spread W (‵ (fres (x₀ .name) (L .coded .code (ws-t .0)))) (‵ ftrue ∷ ‵ ftrue ∷ ‵ ftrue ∷ ‵ ftrue ∷ ‵ ftrue ∷ ‵ (fsep (finally u8 (x₆ .name) (ws-t .1 .1 .1 .1 .1 .1 .0)) (feq ℕ (length (ws-t .1 .1 .1 .1 .1 .1 .0)) (length (x₆ .now)))) ∷ ‵ (fsep (finally u16 (x₇ .name) (ws-t .1 .1 .1 .1 .1 .1 .1 .0)) (feq ℕ (length (ws-t .1 .1 .1 .1 .1 .1 .1 .0)) (length (x₇ .now)))) ∷ ‵ ftrue ∷ []) (id⊢ 𝓤 _) $ keep ! (0 ∷ 6 ∷ 7 ∷ 9 ∷ 10 ∷ 11 ∷ 12 ∷ 13 ∷ 14 ∷ 15 ∷ 17 ∷ 18 ∷ 19 ∷ 20 ∷ 21 ∷ 22 ∷ 23 ∷ 24 ∷ 25 ∷ 26 ∷ 27 ∷ 28 ∷ 29 ∷ 30 ∷ 31 ∷ 32 ∷ 33 ∷ 34 ∷ 35 ∷ 36 ∷ 37 ∷ 38 ∷ 39 ∷ 40 ∷ 41 ∷ []) $ move ! (1 ∷ []) $ fsplit ! $ move ! (1 ∷ []) $ feqL ! (λ len₆. move ! (2 ∷ []) $ fsplit ! $ move ! (1 ∷ []) $ feqL ! (λ len₇.
           -- [fin7; fin6; fin0; tok0; tok1; tok2; btok3; tok4; tok6; tok7; blent3; deaths; the locals]
@@ -205,8 +205,8 @@ module _ {M : Type 1} (𝓤 : URA M) (H : Heap 𝓤) (A : Atoms 𝓤) (W : Given
           assigns ! {v = s₃} (agg ! (and-then ! (load ! (from ! (stop !)) (look ! 13 refl)) (and-then ! (load ! (from ! (fld ! refl (stop !))) (look-in ! 30 (sub ! 1 refl (whole !)))) (no-more !)))) (from ! (stop !)) (init ! 12 refl (tt, (tt, (record { fits = room₃ .0 }, tt)))) $
           move ! (6 ∷ 10 ∷ []) $ lft-end ! tt $ use2 W (later (‵ Own₃ ⊛ ‵ (flft κ₃ q₃))) (shared-back R κ₃ (β₃ ∷ []) q₃ (x₃ .name) (x₃ .ptr .0) (x₃ .ptr .1) (x₃ .now) 𝓤 H A W room₃) $ await ! tt $ split ! $
           -- [own3; tok3; fin7; fin6; fin0; tok0; tok1; tok2; tok4; tok6; tok7; deaths; the locals]
-          move ! (1 ∷ 0 ∷ []) $ join ! $ calls-fn ! fm scatter.ended (scatter.clauses 𝓤 H A at-mem run) (known .4) (to-scatter  words w-words n w-n after w-after) (λ u ws-u. (ws-u .0) ≡ scattered (x₃ .now) (slotsIn words n) after) (‵ (flft κ₃ q₃) ⊛ ‵ Own₃)
-          (asks-scatter  words w-words is-words n w-n is-n after w-after is-after ) (λ u ws-u. id⊢ 𝓤 _)
+          move ! (1 ∷ 0 ∷ []) $ join ! $ calls-fn ! fm scatter.ended (scatter.clauses 𝓤 H A at-mem run) (known .4) (to-scatter words w-words n w-n after w-after) (λ u ws-u. (ws-u .0) ≡ scattered (x₃ .now) (slotsIn words n) after) (‵ (flft κ₃ q₃) ⊛ ‵ Own₃)
+          (asks-scatter words w-words is-words n w-n is-n after w-after is-after) (λ u ws-u. id⊢ 𝓤 _)
           (and-then ! (load ! (from ! (stop !)) (look ! 11 refl)) (and-then ! (load ! (from ! (stop !)) (look ! 23 refl)) (and-then ! (load ! (from ! (stop !)) (look ! 22 refl)) (and-then ! (load ! (from ! (stop !)) (look ! 21 refl)) (no-more !))))) (λ u w-u ws-u e-u is-u. land ! (from ! (stop !)) (init ! 14 refl (nothing-lawful 𝓤 H A W .typed u _ is-u .0)) $
           spread W (‵ (flft κ₃ q₃)) (‵ ftrue ∷ []) (id⊢ 𝓤 _) $ move ! (2 ∷ []) $ spread W (‵ (fsep (finally R (x₃ .name) (ws-u .0)) (feq ℕ (length (ws-u .0)) (length (x₃ .now))))) (‵ ftrue ∷ ‵ ftrue ∷ ‵ ftrue ∷ ‵ ftrue ∷ []) (id⊢ 𝓤 _) $ keep ! (0 ∷ 5 ∷ 7 ∷ 8 ∷ 9 ∷ 10 ∷ 11 ∷ 12 ∷ 13 ∷ 14 ∷ 15 ∷ 16 ∷ 17 ∷ 18 ∷ 19 ∷ 20 ∷ 21 ∷ 22 ∷ 23 ∷ 24 ∷ 25 ∷ 26 ∷ 27 ∷ 28 ∷ 29 ∷ 30 ∷ 31 ∷ 32 ∷ 33 ∷ 34 ∷ 35 ∷ 36 ∷ 37 ∷ 38 ∷ 39 ∷ []) $ fsplit ! $ move ! (1 ∷ []) $ feqL ! (λ len₃.
           -- [fin3; tok3; fin7; fin6; fin0; tok0; tok1; tok2; tok4; tok6; tok7; deaths; the locals]
@@ -215,7 +215,7 @@ module _ {M : Type 1} (𝓤 : URA M) (H : Heap 𝓤) (A : Atoms 𝓤) (W : Given
           (and-then ! (load ! (from ! (stop !)) (look ! 26 refl)) (no-more !)) (λ r w-r _ e-r is-r. drop ! $ drop ! $ land ! (from ! (stop !)) (init ! 34 refl (sint-lawful 𝓤 H A W w32 .typed r _ is-r .0)) $
           returns ! (look ! 34 refl) $
           move ! (11 ∷ []) $ spread W (‵ (fdies (tyInt w32) l₀)) (‵ (fdies (tyRef (named 0) mut (pointee (L .written))) l₁) ∷ ‵ (fdies (sliceTy (tyRef (named 1) imm (tyInt w8))) l₂) ∷ ‵ (fdies (sliceTy (tyRef (named 2) imm (tyInt w8))) l₃) ∷ ‵ (fdies (sliceTy (tyRef (named 3) mut (pointee (R .written)))) l₄) ∷ ‵ (fdies (sliceTy (tyRef (named 4) imm (tyInt w32))) l₅) ∷ ‵ (fdies (tyInt w32) l₆) ∷ ‵ (fdies (sliceTy (tyRef (named 5) mut (tyInt w8))) l₇) ∷ ‵ (fdies (sliceTy (tyRef (named 6) mut (tyInt w16))) l₈) ∷ ‵ (fdies updated-laws.mir l₉) ∷ ‵ (fdies (tyArray (tyInt w32) 32) l₁₀) ∷ ‵ (fdies (tyInt w64) l₁₁) ∷ ‵ (fdies (tyArray record-laws.mir 32) l₁₂) ∷ ‵ (fdies (tyRef erased mut (pointee (L .written))) l₁₃) ∷ ‵ (fdies (tyRef erased imm (pointee (R .written))) l₁₄) ∷ ‵ (fdies (sliceTy (tyRef erased imm (pointee (R .written)))) l₁₅) ∷ ‵ (fdies (tyRef erased mut (tyInt w8)) l₁₆) ∷ ‵ (fdies (sliceTy (tyRef erased mut (tyInt w8))) l₁₇) ∷ ‵ (fdies (tyRef erased mut (tyInt w16)) l₁₈) ∷ ‵ (fdies (sliceTy (tyRef erased mut (tyInt w16))) l₁₉) ∷ ‵ (fdies tyUnit l₂₀) ∷ ‵ (fdies (tyRef erased mut (pointee (R .written))) l₂₁) ∷ ‵ (fdies (sliceTy (tyRef erased mut (pointee (R .written)))) l₂₂) ∷ []) (id⊢ 𝓤 _) $ move ! (56 ∷ 0 ∷ 55 ∷ 1 ∷ 54 ∷ 2 ∷ 53 ∷ 3 ∷ 52 ∷ 4 ∷ 51 ∷ 5 ∷ 50 ∷ 6 ∷ 49 ∷ 7 ∷ 48 ∷ 8 ∷ 47 ∷ 9 ∷ 46 ∷ 10 ∷ 45 ∷ 11 ∷ 44 ∷ 12 ∷ 43 ∷ 13 ∷ 42 ∷ 14 ∷ 41 ∷ 15 ∷ 40 ∷ 16 ∷ 39 ∷ 17 ∷ 38 ∷ 18 ∷ 37 ∷ 19 ∷ 36 ∷ 20 ∷ 35 ∷ 21 ∷ 34 ∷ 22 ∷ []) $ forget ! 0 refl $ free1 ! $ forget ! 0 refl $ free1 ! $ forget ! 0 refl $ free1 ! $ forget ! 0 refl $ free1 ! $ forget ! 0 refl $ free1 ! $ forget ! 0 refl $ free1 ! $ forget ! 0 refl $ free1 ! $ forget ! 0 refl $ free1 ! $ forget ! 0 refl $ free1 ! $ forget ! 0 refl $ free1 ! $ forget ! 0 refl $ free1 ! $ forget ! 0 refl $ free1 ! $ forget ! 0 refl $ free1 ! $ forget ! 0 refl $ free1 ! $ forget ! 0 refl $ free1 ! $ forget ! 0 refl $ free1 ! $ forget ! 0 refl $ free1 ! $ forget ! 0 refl $ free1 ! $ forget ! 0 refl $ free1 ! $ forget ! 0 refl $ free1 ! $ forget ! 0 refl $ free1 ! $ forget ! 0 refl $ free1 ! $ forget ! 0 refl $ free1 ! $ free0 ! $
-          move ! (4 ∷ 5 ∷ 6 ∷ 7 ∷ 0 ∷ 1 ∷ 8 ∷ 3 ∷ 9 ∷ 2 ∷ 10 ∷ []) $ by ! (exits r w-r  (ws-t .0) (ws-u .0) (ws-t .1 .1 .1 .1 .1 .1 .0) (ws-t .1 .1 .1 .1 .1 .1 .1 .0) (told updateCode _ (t .answer) e-r (update-promised x₅ (x₀ .now) (partsOf (x₁ .now) (x₂ .now) (x₃ .now) (x₄ .now)) (x₆ .now) (x₇ .now) (t .answer) (updatedBack t) (ws-t .0) (ws-t .1 .1 .1 .1 .1 .1 .0) (ws-t .1 .1 .1 .1 .1 .1 .1 .0) (ws-u .0) (ap length (sym e-after) ∙ is-after .1 .0 .1) (put-back (x₃ .now) (ws-u .0) (updatedBack t) words n after e-words e-n e-after e-u) e-t)) len₃ len₆ len₇ is-r)))))))))))))))))))))))))))))))))))
+          move ! (4 ∷ 5 ∷ 6 ∷ 7 ∷ 0 ∷ 1 ∷ 8 ∷ 3 ∷ 9 ∷ 2 ∷ 10 ∷ []) $ by ! (exits r w-r (ws-t .0) (ws-u .0) (ws-t .1 .1 .1 .1 .1 .1 .0) (ws-t .1 .1 .1 .1 .1 .1 .1 .0) (told updateCode _ (t .answer) e-r (update-promised x₅ (x₀ .now) (partsOf (x₁ .now) (x₂ .now) (x₃ .now) (x₄ .now)) (x₆ .now) (x₇ .now) (t .answer) (updatedBack t) (ws-t .0) (ws-t .1 .1 .1 .1 .1 .1 .0) (ws-t .1 .1 .1 .1 .1 .1 .1 .0) (ws-u .0) (ap length (sym e-after) ∙ is-after .1 .0 .1) (put-back (x₃ .now) (ws-u .0) (updatedBack t) words n after e-words e-n e-after e-u) e-t)) len₃ len₆ len₇ is-r)))))))))))))))))))))))))))))))))))
 
   f-meets : (𝓣 : Tables 𝓤 H) → Known (𝓣 .C) → Meets 𝓤 H A f.signature (WpFn 𝓤 H (𝓣 .C) (𝓣 .Λ) code.function) (f.spec 𝓤 H A at-mem run)
   unfolding Post

@@ -1,17 +1,18 @@
--- `script::field_most` meets its contract, arm by arm.
+-- `script::field_most` meets its contract, by two tests.
 -- Assumes nothing.
-use mathlib.Core.List.{[], _∷_}
-use Rattle.script.specs.Commands.{fieldMost}
-use Rattle.script.specs.CommandLaws.{one-of, none-of, most-8, congestion-8, not-8}
+use mathlib.Core.Path.{_≡_, sym, _∙_}
+use mathlib.Core.Bool.{Bool}
+use lib.Dec.{eqb}
+use Rattle.script.specs.Commands.{isOneOf, fieldMost}
+use Rattle.script.specs.CommandLaws.{or-four}
 use Rattle.script.proofs.field_most.Statement.{statement}
 use Rattle.script.proofs.field_most.Tie as tie
 
 pub field-most-spec : {M : Type 1} → statement M
-unfolding fieldMost
+unfolding fieldMost isOneOf
 field-most-spec =
     tie.close
     (tie.spec
-    (λ c. rw (one-of 1 (3 ∷ 9 ∷ 18 ∷ []) _ (c .match .keys1)))
-    (λ c. most-8 _ (c .match .keys2))
-    (λ c. congestion-8 _ (c .match .keys3))
-    (λ c. rw (none-of 1 (3 ∷ 9 ∷ 18 ∷ []) _ (c .match .rest .0 .0 .1), not-8 _ (c .match .rest .0 .1) (c .match .rest .1))))
+    (λ c. rw (← (or-four _ _ _ _), c .if1 .taken))
+    (λ c. rw (← (or-four _ _ _ _), c .before .if1 .left, ← (or-four _ _ _ _), c .if2 .taken))
+    (λ c. rw (← (or-four _ _ _ _), c .before .if1 .left, ← (or-four _ _ _ _), c .if2 .left)))
