@@ -163,7 +163,7 @@ static void number_7_of_parts(uint32_t mtu)
         *lengths[i] = 0;
         all_refused(AMPFERWEG_SHORT_PART);
         REFUSED(AMPFERWEG_SHORT_PART, call_open(&lent, 1, mtu, 0, 10, 2));
-        REFUSED(AMPFERWEG_SETTING_OUT_OF_RANGE, call_open(&lent, 1, 513, 0, 10, 2)); /* 12 before 7 */
+        REFUSED(AMPFERWEG_SETTING_OUT_OF_RANGE, call_open(&lent, 1, 1401, 0, 10, 2)); /* 12 before 7 */
         *lengths[i] = was;
     }
     for (i = 4; i < 6; i++) {
