@@ -1,6 +1,6 @@
 /* Runs a workload and prints one JSON object. README.md says what the workloads are.
  *
- *     bench_NAME W1|W2|W3|W4|W5a|W5b|W6 time|count|worst [DIVISOR [SEED]]
+ *     bench_NAME W1|W2|W3|W4|W5a|W5b|W6|W7 time|count|worst [DIVISOR [SEED]]
  *
  * time: processor time, nothing else measured. count: segments on the wire. worst: each call's time. */
 #include "kcp_impl.h"
@@ -12,7 +12,7 @@
 #include <string.h>
 
 static const struct kcp_impl *impl;
-static const struct kcp_settings settings = {0x11223344, 256, 1, 10, 2};
+static struct kcp_settings settings = {0x11223344, 256, 1, 10, 2};
 static int times_calls, checks_bytes;
 static uint32_t divisor = 1, first_state = 0x9E3779B9;
 static void *one, *two;
@@ -187,6 +187,7 @@ static uint32_t work(const char *name)
     if (strcmp(name, "W5a") == 0) return flood(1000000 / divisor, 0);
     if (strcmp(name, "W5b") == 0) return flood(1000000 / divisor, 1);
     if (strcmp(name, "W6") == 0) return idle(1000000 / divisor);
+    if (strcmp(name, "W7") == 0) return bulk(100000 / divisor, 2000);
     fail("no such workload");
     return 0;
 }
@@ -199,6 +200,7 @@ static uint32_t run(const char *name, uint64_t *taken)
     now = 0;
     refused = 0;
     lossy = strcmp(name, "W4") == 0;
+    settings.mtu = strcmp(name, "W7") == 0 ? 1400 : 256;
     clear_wire(&wires[0]);
     clear_wire(&wires[1]);
     one = impl->open(&settings, put_on_wire, &wires[0]);
@@ -228,7 +230,7 @@ int main(int argc, char **argv)
     uint64_t taken = 0;
     uint32_t count = 0;
     int i;
-    if (argc < 3) fail("usage: bench W1|W2|W3|W4|W5a|W5b|W6 time|count|worst [DIVISOR [SEED]]");
+    if (argc < 3) fail("usage: bench W1|W2|W3|W4|W5a|W5b|W6|W7 time|count|worst [DIVISOR [SEED]]");
     times_calls = strcmp(argv[2], "worst") == 0;
     counts_segments = checks_bytes = strcmp(argv[2], "count") == 0;
     if (argc > 3) divisor = (uint32_t)strtoul(argv[3], NULL, 0);

@@ -3,7 +3,7 @@
 
 #include <ampferweg.h>
 
-enum { MTU = 256, LINKS = 2 };
+enum { MTU = AMPFERWEG_MTU_MOST, LINKS = 2 };
 
 struct link {
     ampferweg_station *station;

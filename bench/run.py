@@ -32,6 +32,7 @@ WORKLOADS = {
     "W5a": "flood of a full receiver",
     "W5b": "the same, with flushes",
     "W6": "idle flush, 32 outstanding",
+    "W7": "2,000 bytes, mtu 1,400",
 }
 
 
@@ -153,7 +154,7 @@ def document(archive, divide, ours, theirs, calls):
     short = [f"A quick look: every workload was made {divide} times shorter.", ""] if divide > 1 else []
     return "\n".join([
         "# Performance", "",
-        "`make bench` writes this page. The workloads are those of bench/README.md: two ends in memory, virtual clock, mtu 256, windows",
+        "`make bench` writes this page. The workloads are those of bench/README.md: two ends in memory, virtual clock, mtu 256 (W7: 1,400), windows",
         "32 and 128, mode 1, interval 10, fast threshold 2. Ratios are ours to kcp-go's core.",
         f"Machine: {processor()}, {os.cpu_count()} processors.", "", *short,
         "## Time", "",

@@ -5,7 +5,7 @@
 #include <stddef.h>
 #include <stdint.h>
 
-enum { SLOT = 600, SLOTS = 8192 };
+enum { SLOT = 1500, SLOTS = 8192 };
 
 struct queue {
     uint8_t bytes[SLOTS][SLOT];

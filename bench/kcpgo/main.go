@@ -18,6 +18,7 @@ const (
 )
 
 var (
+	mtu int // of the workload
 	timesCalls, checksBytes, samplesHeap bool
 	divisor                              = uint32(1)
 	firstState                           = uint32(0x9E3779B9)
@@ -242,6 +243,8 @@ func work(name string) uint32 {
 		return flood(1000000/divisor, true)
 	case "W6":
 		return idle(1000000 / divisor)
+	case "W7":
+		return bulk(100000/divisor, 2000)
 	}
 	fail("no such workload")
 	return 0
@@ -249,7 +252,7 @@ func work(name string) uint32 {
 
 func open(w *wire) *kcpcore.KCP {
 	link := kcpcore.NewKCP(conv, w.put)
-	link.SetMtu(256)
+	link.SetMtu(mtu)
 	link.WndSize(32, 128)
 	link.NoDelay(1, 10, 2, 1)
 	return link
@@ -258,6 +261,10 @@ func open(w *wire) *kcpcore.KCP {
 // One run over fresh links: the messages, and the processor time.
 func run(name string) (count uint32, taken uint64) {
 	state, now, refused, lossy = firstState, 0, 0, name == "W4"
+	mtu = 256
+	if name == "W7" {
+		mtu = 1400
+	}
 	kcpcore.Now = 0
 	for i := range wires {
 		wires[i].clear()

@@ -10,7 +10,7 @@ import (
 )
 
 const (
-	slot  = 600
+	slot  = 1500
 	slots = 8192
 )
 

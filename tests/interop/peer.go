@@ -31,6 +31,7 @@ var (
 	mode     = flag.Int("mode", 1, "kcp-go's nodelay: 0 or 1")
 	interval = flag.Int("interval", 10, "milliseconds between flushes")
 	fast     = flag.Int("threshold", 2, "skips before a fast retransmission, 0 for none")
+	polite   = flag.Int("congestion", 0, "1: send no more than kcp-go's congestion window lets")
 )
 
 // must ends the program where something cannot be done.
@@ -58,7 +59,7 @@ func open() *station {
 	s.kcp = kcp.NewKCP(uint32(*conv), func(datagram []byte, size int) { s.udp.WriteToUDP(datagram[:size], to) })
 	s.kcp.SetMtu(*mtu)
 	s.kcp.WndSize(32, 128)
-	s.kcp.NoDelay(*mode, *interval, *fast, 1)
+	s.kcp.NoDelay(*mode, *interval, *fast, 1-*polite)
 	text, err := os.ReadFile(*sendFile)
 	must(err, "--send")
 	s.messages = bytes.Split(bytes.TrimSuffix(text, []byte("\n")), []byte("\n"))

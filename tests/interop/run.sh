@@ -1,6 +1,6 @@
 #!/bin/sh
-# run.sh [ARCHIVE]: our station against kcp-go, both sending, messages of 1 byte to 20 fragments, mtu 256 and 1,400, over a network
-# that loses one datagram in ten. Installs Debian's golang-go and golang-github-xtaci-kcp-dev where they are missing, and
+# run.sh [ARCHIVE]: our station against kcp-go, both sending, messages of 1 byte to 20 fragments, mtu 256 and 1,400, congestion off and
+# on, over a network that loses one datagram in ten. Installs Debian's golang-go and golang-github-xtaci-kcp-dev where they are missing, and
 # says so. The last line is 'interop: N passed, M failed'. Not part of the gate.
 # AMPFERWEG_PORT is the first of three UDP ports (default 46200).
 set -u
@@ -85,5 +85,6 @@ session "mode 0, fast retransmission" 2 --mode 0
 session "mode 1, no fast one" 3 --threshold 0
 session "mode 2, fast retransmission" 4 --mode 2
 session "mode 1, mtu 1,400" 5 --mtu 1400
+session "mode 1, both congestion windows on" 6 --congestion 1
 echo "interop: $passed passed, $failed failed"
 [ $failed -eq 0 ]
