@@ -21,7 +21,7 @@ use Rattle.control.specs.declared.Link.{Link}
 use Rattle.answers.specs.declared.Answer.{Answer}
 use Rattle.answers.specs.declared.Count.{Count}
 use Rattle.answers.specs.declared.Count.the-variants as count
-use Rattle.promises.specs.Parts.{Parts}
+use Rattle.promises.specs.Parts.{Parts, FlushParts}
 use Rattle.promises.specs.Outcomes.{opens, sends, takesIn, flushes, reads, tells, shows}
 use Rattle.promises.specs.Answers.{Accepts, Counts, countOutcome}
 use Rattle.promises.specs.Promises.{OpenPromise, SendPromise, InputPromise, FlushPromise, ReadPromise, SizePromise}
@@ -124,14 +124,14 @@ module _ (l : Link) (p : Parts) (r : ℤ) (l′ : Link) (p′ : Parts) where
 
 module _ (l : Link) (p : Parts) (r : ℤ) where
   -- a flush gives the number of its datagrams
-  pub flush-told : (t : ℕ) (out lengths : List ℕ) (l′ : Link) (p′ : Parts) (out′ lengths′ : List ℕ)
-      → Gives countCode (λ (a : Count). FlushPromise t l p out lengths a l′ p′ out′ lengths′) r
-      → Told (λ (x : Flushed). length (x .datagrams)) (flushes l p (length out) (length lengths) t) r
-  flush-told t out lengths l′ p′ out′ lengths′ g =
+  pub flush-told : (t : ℕ) (f : FlushParts) (l′ : Link) (p′ : Parts) (f′ : FlushParts)
+      → Gives countCode (λ (a : Count). FlushPromise t l p f a l′ p′ f′) r
+      → Told (λ (x : Flushed). length (x .datagrams)) (flushes l p f t) r
+  flush-told t f l′ p′ f′ g =
       rw (g .number)
       (code-told (λ (x : Flushed). length (x .datagrams)) (λ (x : Flushed). length (x .datagrams) ≤ lengthsLeast) (λ x h. omega arith)
-      (flushes l p (length out) (length lengths) t)
-      (flushes-few l p (length out) (length lengths) t)
+      (flushes l p f t)
+      (flushes-few l p f t)
       (g .answer)
       (g .promise .answer))
 

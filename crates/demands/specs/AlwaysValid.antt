@@ -12,7 +12,9 @@ use Rattle.session.specs.Reading.{messageSize, telling}
 use Rattle.session.specs.Calls.{Call, Answer, Event, own}
 use Rattle.session.specs.Decides.{All}
 use Rattle.promises.specs.Parts.{lengthsOf, stateIn, isMade}
+use Rattle.answers.specs.declared.Count.the-variants as count
 use Rattle.promises.specs.Outcomes.{tellsWith, tells}
+use Rattle.promises.specs.AnswerLaws.{count-number}
 use Rattle.delivery.specs.Hearing.{CallFits}
 use Rattle.demands.specs.Steps.{Endpoint, Runs, start, next, SinceOpening}
 use Rattle.demands.specs.Stations.{stationOf}
@@ -33,7 +35,9 @@ tells-size e long made = rw (long, made)
 module _ (c : Settings) (range : inRange c ≡ true) (conv : c .conv < 2 ^ 32) where
   short-buffer : (e : Endpoint) → Kept c e → (x : Call) → ShortRead (stationOf e) x → ShortBuffer e x
   short-buffer e k (Call.read room) h =
-      (messageSize (stateIn (e .link) (e .parts) .receiving), record { answer = sym (tells-size e (is-long c range conv e k) (is-made c range conv e k) ∙ h .0) }, h .1)
+      let answer = sym (tells-size e (is-long c range conv e k) (is-made c range conv e k) ∙ h .0) in
+      let size = messageSize (stateIn (e .link) (e .parts) .receiving) in
+      (size, record { answer = answer; number = count-number (count.Of size) (tells (e .link) (e .parts)) answer }, h .1)
   short-buffer e k (Call.send m) h = h
   short-buffer e k (Call.takeIn d) h = h
   short-buffer e k (Call.flush t) h = h

@@ -28,7 +28,7 @@ use Rattle.control.specs.Views.{stateOf, countsFit, blockValid}
 use Rattle.answers.specs.declared.Count.{Count}
 use Rattle.answers.specs.declared.Count.the-variants as count
 use Rattle.answers.specs.declared.Update.the-variants as update
-use Rattle.promises.specs.Parts.{Parts, lengthsOf, stateIn, isMade}
+use Rattle.promises.specs.Parts.{Parts, FlushParts, lengthsOf, stateIn, isMade}
 use Rattle.promises.specs.Outcomes.{checked, flushesWith, updatesWith, readsWith, tellsWith, showsWith, flushes, updates, reads, tells, shows}
 use Rattle.promises.specs.Answers.{Counts, countOutcome, updateAnswer}
 use Rattle.promises.specs.Promises.{FlushPromise, UpdatePromise, ReadPromise, SizePromise}
@@ -154,16 +154,16 @@ few-answered n (done (Updates.flushes x)) e h = let same : n ≡ length (x .data
 -- ---- what each call gives
 
 module _ (l : Link) (p : Parts) where
-  pub flushes-few : (out lengths t : ℕ) → OfResult (λ (x : Flushed). length (x .datagrams) ≤ lengthsLeast) (flushes l p out lengths t)
+  pub flushes-few : (f : FlushParts) (t : ℕ) → OfResult (λ (x : Flushed). length (x .datagrams) ≤ lengthsLeast) (flushes l p f t)
   unfolding flushesWith
-  flushes-few out lengths t =
-      made-result _ (enoughToFlush (mss (l .settings)) (lengthsOf p) out lengths) (isMade l p) _
+  flushes-few f t =
+      made-result _ (enoughToFlush (mss (l .settings)) (lengthsOf p) (length (f .output)) (length (f .lengths))) (isMade l p) _
       (λ h. flush-few (stateIn l p) t (p .sendPool) (made-valid l p h))
 
-  pub updates-few : (out lengths t : ℕ) → OfResult FewDatagrams (updates l p out lengths t)
+  pub updates-few : (f : FlushParts) (t : ℕ) → OfResult FewDatagrams (updates l p f t)
   unfolding updatesWith
-  updates-few out lengths t =
-      made-result FewDatagrams (enoughToFlush (mss (l .settings)) (lengthsOf p) out lengths) (isMade l p) _
+  updates-few f t =
+      made-result FewDatagrams (enoughToFlush (mss (l .settings)) (lengthsOf p) (length (f .output)) (length (f .lengths))) (isMade l p) _
       (λ h.
       updating-cases FewDatagrams (stateIn l p) t (p .sendPool)
       (flush-few (withSchedule (stateIn l p) _) t (p .sendPool) (valid-rescheduled (stateIn l p) _ ∙ made-valid l p h)) tt)
@@ -190,19 +190,19 @@ count-given P size a (done x) e h = rw e h
 
 module _ {l : Link} {p : Parts} {n : ℕ} where
   -- a flush that answers n wrote at most 290 datagrams
-  pub flush-counts : {t : ℕ} {out lengths : List ℕ} {l′ : Link} {p′ : Parts} {out′ lengths′ : List ℕ}
-      → FlushPromise t l p out lengths (count.Of n) l′ p′ out′ lengths′
+  pub flush-counts : {t : ℕ} {f : FlushParts} {l′ : Link} {p′ : Parts} {f′ : FlushParts}
+      → FlushPromise t l p f (count.Of n) l′ p′ f′
       → n ≤ lengthsLeast
-  flush-counts {t} {out} {lengths} h =
-      count-given (λ (n : ℕ). n ≤ lengthsLeast) (λ (x : Flushed). length (x .datagrams)) (count.Of n) (flushes l p (length out) (length lengths) t) (h .answer)
-      (flushes-few l p (length out) (length lengths) t)
+  flush-counts {t} {f} h =
+      count-given (λ (n : ℕ). n ≤ lengthsLeast) (λ (x : Flushed). length (x .datagrams)) (count.Of n) (flushes l p f t) (h .answer)
+      (flushes-few l p f t)
 
   -- so did an update
-  pub update-counts : {t : ℕ} {out lengths : List ℕ} {l′ : Link} {p′ : Parts} {out′ lengths′ : List ℕ}
-      → UpdatePromise t l p out lengths (update.Wrote n) l′ p′ out′ lengths′
+  pub update-counts : {t : ℕ} {f : FlushParts} {l′ : Link} {p′ : Parts} {f′ : FlushParts}
+      → UpdatePromise t l p f (update.Wrote n) l′ p′ f′
       → n ≤ lengthsLeast
-  update-counts {t} {out} {lengths} h =
-      few-answered n (updates l p (length out) (length lengths) t) (h .answer) (updates-few l p (length out) (length lengths) t)
+  update-counts {t} {f} h =
+      few-answered n (updates l p f t) (h .answer) (updates-few l p f t)
 
   -- a message that is read, or whose size is told, has at most 127 segments
   pub read-counts : {buffer : List ℕ} {l′ : Link} {p′ : Parts} {buffer′ : List ℕ} → ReadPromise l p buffer (count.Of n) l′ p′ buffer′ → MessageFits (l .settings) n

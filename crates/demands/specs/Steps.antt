@@ -18,7 +18,7 @@ use Rattle.answers.specs.declared.Update.{Update}
 use Rattle.answers.specs.declared.Update.the-variants as update
 use Rattle.answers.specs.declared.Time.{Time}
 use Rattle.answers.specs.declared.Time.the-variants as time
-use Rattle.promises.specs.Parts.{Parts}
+use Rattle.promises.specs.Parts.{Parts, FlushParts}
 use Rattle.promises.specs.Promises.{OpenPromise, SendPromise, InputPromise, FlushPromise, ReadPromise, UpdatePromise, CheckPromise}
 use Rattle.delivery.specs.Hearing.{CallFits}
 
@@ -40,15 +40,15 @@ cutBy [] bytes = []
 cutBy (n ∷ lengths) bytes = take n bytes ∷ cutBy lengths (drop n bytes)
 
 -- of a flush that answers n: the output cut by the first n lengths
-abbrev pub datagramsSeen : Count → List ℕ → List ℕ → Answer
-datagramsSeen (count.Of n) output lengths = Answer.wrote (cutBy (take n lengths) output)
-datagramsSeen (count.Refused r) output lengths = Answer.refused r
+abbrev pub datagramsSeen : Count → FlushParts → Answer
+datagramsSeen (count.Of n) f = Answer.wrote (cutBy (take n (f .lengths)) (f .output))
+datagramsSeen (count.Refused r) f = Answer.refused r
 
 -- of an update: that it waited, or the same of its flush
-abbrev pub updateSeen : Update → List ℕ → List ℕ → Answer
-updateSeen update.Waited output lengths = Answer.waited
-updateSeen (update.Wrote n) output lengths = datagramsSeen (count.Of n) output lengths
-updateSeen (update.Refused r) output lengths = Answer.refused r
+abbrev pub updateSeen : Update → FlushParts → Answer
+updateSeen update.Waited f = Answer.waited
+updateSeen (update.Wrote n) f = datagramsSeen (count.Of n) f
+updateSeen (update.Refused r) f = Answer.refused r
 
 -- of a check: the time
 abbrev pub timeSeen : Time → Answer
@@ -73,20 +73,18 @@ pub record TakenIn (datagram : List ℕ) (e : Endpoint) (a : Answer) (e′ : End
   pub sees : a ≡ acceptance gives
 
 -- output and lengths are as long as document 01 states
-pub record Room (output lengths : List ℕ) : Type 0 where
-  pub long : outputLeast ≤ length output
-  pub many : lengthsLeast ≤ length lengths
+pub record Room (f : FlushParts) : Type 0 where
+  pub long : outputLeast ≤ length (f .output)
+  pub many : lengthsLeast ≤ length (f .lengths)
 
 -- into any such output and lengths
 pub record Flushed (t : ℕ) (e : Endpoint) (a : Answer) (e′ : Endpoint) : Type 0 where
-  pub output : List ℕ
-  pub lengths : List ℕ
-  pub room : Room output lengths
+  pub lent : FlushParts
+  pub room : Room lent
   pub gives : Count
-  pub output′ : List ℕ
-  pub lengths′ : List ℕ
-  pub promise : FlushPromise t (e .link) (e .parts) output lengths gives (e′ .link) (e′ .parts) output′ lengths′
-  pub sees : a ≡ datagramsSeen gives output′ lengths′
+  pub after : FlushParts
+  pub promise : FlushPromise t (e .link) (e .parts) lent gives (e′ .link) (e′ .parts) after
+  pub sees : a ≡ datagramsSeen gives after
 
 -- into any buffer that long
 pub record Read (room : ℕ) (e : Endpoint) (a : Answer) (e′ : Endpoint) : Type 0 where
@@ -99,14 +97,12 @@ pub record Read (room : ℕ) (e : Endpoint) (a : Answer) (e′ : Endpoint) : Typ
 
 -- the same, whether or not it flushes
 pub record Updated (t : ℕ) (e : Endpoint) (a : Answer) (e′ : Endpoint) : Type 0 where
-  pub output : List ℕ
-  pub lengths : List ℕ
-  pub room : Room output lengths
+  pub lent : FlushParts
+  pub room : Room lent
   pub gives : Update
-  pub output′ : List ℕ
-  pub lengths′ : List ℕ
-  pub promise : UpdatePromise t (e .link) (e .parts) output lengths gives (e′ .link) (e′ .parts) output′ lengths′
-  pub sees : a ≡ updateSeen gives output′ lengths′
+  pub after : FlushParts
+  pub promise : UpdatePromise t (e .link) (e .parts) lent gives (e′ .link) (e′ .parts) after
+  pub sees : a ≡ updateSeen gives after
 
 -- block and parts are those before
 pub record Checked (t : ℕ) (e : Endpoint) (a : Answer) (e′ : Endpoint) : Type 0 where

@@ -12,6 +12,7 @@ use Rattle.answers.specs.declared.Count.{Count}
 use Rattle.promises.specs.Parts.{Parts, lentLengths}
 use Rattle.promises.specs.Outcomes.{readsWith, reads}
 use Rattle.promises.specs.Answers.{Counts}
+use Rattle.promises.specs.AnswerLaws.{counts-number}
 use Rattle.promises.specs.Promises.{ReadPromise, ReadLeaves}
 use Rattle.promises.specs.Cores.{ReadCore}
 use Rattle.from_cores.proofs.Gathered.{Gathers, outcome-in, stands-in}
@@ -32,4 +33,8 @@ module _ (l : Link) (p : Parts) (records : List Record) (n : ℕ) (g : Gathers l
   unfolding readsWith
   read-promised h =
       let k : Left (reads l p (length buffer)) = subst Left (outcome-in l p records n g (λ s. reading s (p .receivePool) (length buffer))) h in
-      record { answer = answers (reads l p (length buffer)) k; leaves = leaves (reads l p (length buffer)) k }
+      record {
+        answer = answers (reads l p (length buffer)) k;
+        number = counts-number (λ (x : Reads). length (x .bytes)) a (reads l p (length buffer)) (answers (reads l p (length buffer)) k);
+        leaves = leaves (reads l p (length buffer)) k;
+      }

@@ -20,6 +20,7 @@ use Rattle.answers.specs.declared.Answer.{Answer}
 use Rattle.promises.specs.Parts.{Parts, lengthsOf, lentLengths, partsOf, stateIn, isMade}
 use Rattle.promises.specs.Outcomes.{takesInWith, takesIn}
 use Rattle.promises.specs.Answers.{Accepts}
+use Rattle.promises.specs.AnswerLaws.{accepts-number}
 use Rattle.promises.specs.Promises.{InputPromise, InputLeaves}
 use Rattle.promises.specs.Cores.{PutBack, InputCore}
 use Rattle.from_cores.specs.Left.{InputLeft}
@@ -71,4 +72,9 @@ module _ (datagram : List ℕ) (l : Link) (p : Parts) (a : Answer) (b : PutBack)
   pub input-promised : (table′ : List Record) → length (b .records) ≡ 32 → table′ ≡ scattered (p .table) (slotsIn (b .words) (b .changed)) (b .records)
       → InputLeft datagram l p a b l′ pool′ acks′ → InputPromise datagram l p a l′ (partsOf (p .sendPool) pool′ table′ acks′)
   input-promised table′ few put h =
-      record { answer = answers table′ few put (h .whole) (takesIn l p datagram) (h .core); leaves = leaves table′ few put (h .whole) (takesIn l p datagram) refl (h .core) }
+      let answer = answers table′ few put (h .whole) (takesIn l p datagram) (h .core) in
+      record {
+        answer = answer;
+        number = accepts-number a (takesIn l p datagram) answer;
+        leaves = leaves table′ few put (h .whole) (takesIn l p datagram) refl (h .core);
+      }

@@ -3,6 +3,7 @@
 use mathlib.Core.Bool.{Bool, cond}
 use mathlib.Core.List.{List}
 use Prim.Native.Nat.{ℕ}
+use lib.ListN.{length}
 use Rattle.protocol.specs.Ranges.{mss}
 use Rattle.protocol.specs.declared.Settings.{Settings}
 use Rattle.protocol.specs.declared.Refusal.the-variants.{ShortPart, InvalidBlock}
@@ -18,7 +19,7 @@ use Rattle.timing.specs.declared.Record.{Record}
 use Rattle.sizes.specs.declared.Lengths.{Lengths}
 use Rattle.control.specs.Views.{stateOf, blockValid}
 use Rattle.control.specs.declared.Link.{Link}
-use Rattle.promises.specs.Parts.{Parts, lengthsOf, recordsOf}
+use Rattle.promises.specs.Parts.{Parts, FlushParts, lengthsOf, recordsOf}
 
 -- the lent sizes (7), then the block (13), then the call's own
 abbrev pub checked : {A : Type 0} → Bool → Bool → Outcome A → Outcome A
@@ -76,8 +77,8 @@ sends l p = sendsWith l (recordsOf l p) (p .acks) (lengthsOf p) (p .sendPool)
 abbrev pub takesIn : Link → Parts → List ℕ → Outcome Took
 takesIn l p = takesInWith l (recordsOf l p) (p .acks) (lengthsOf p) (p .receivePool)
 
-abbrev pub flushes : Link → Parts → ℕ → ℕ → ℕ → Outcome Flushed
-flushes l p = flushesWith l (recordsOf l p) (p .acks) (lengthsOf p) (p .sendPool)
+abbrev pub flushes : Link → Parts → FlushParts → ℕ → Outcome Flushed
+flushes l p f = flushesWith l (recordsOf l p) (p .acks) (lengthsOf p) (p .sendPool) (length (f .output)) (length (f .lengths))
 
 abbrev pub reads : Link → Parts → ℕ → Outcome Reads
 reads l p = readsWith l (recordsOf l p) (p .acks) (lengthsOf p) (p .receivePool)
@@ -85,8 +86,8 @@ reads l p = readsWith l (recordsOf l p) (p .acks) (lengthsOf p) (p .receivePool)
 abbrev pub tells : Link → Parts → Outcome ℕ
 tells l p = tellsWith l (recordsOf l p) (p .acks) (lengthsOf p)
 
-abbrev pub updates : Link → Parts → ℕ → ℕ → ℕ → Outcome Updates
-updates l p = updatesWith l (recordsOf l p) (p .acks) (lengthsOf p) (p .sendPool)
+abbrev pub updates : Link → Parts → FlushParts → ℕ → Outcome Updates
+updates l p f = updatesWith l (recordsOf l p) (p .acks) (lengthsOf p) (p .sendPool) (length (f .output)) (length (f .lengths))
 
 abbrev pub checks : Link → Parts → ℕ → Outcome ℕ
 checks l p = checksWith l (recordsOf l p) (p .acks) (lengthsOf p)

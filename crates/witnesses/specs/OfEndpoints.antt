@@ -38,7 +38,7 @@ use Rattle.records.specs.Tables.{blank, scattered}
 use Rattle.packing.specs.Packers.{joined, lengthsOf}
 use Rattle.answers.specs.declared.Answer.the-variants as answer
 use Rattle.answers.specs.declared.Count.the-variants as count
-use Rattle.promises.specs.Parts.{Parts}
+use Rattle.promises.specs.Parts.{Parts, flushPartsOf}
 use Rattle.promises.specs.Outcomes.{sendsWith, takesInWith, flushesWith, readsWith, sends, takesIn, flushes, reads}
 use Rattle.delivery.specs.Accepted.{acceptedFor}
 use Rattle.delivery.specs.PlainReceiver.{pushNumbers, pushesIn}
@@ -64,7 +64,7 @@ unfoldable pub sent : Endpoint
 sent = afterSend fresh (sends (fresh .link) (fresh .parts) (104 ∷ 105 ∷ []))
 
 unfoldable pub flushed : Endpoint
-flushed = afterFlush sent (flushes (sent .link) (sent .parts) outputLeast lengthsLeast 7)
+flushed = afterFlush sent (flushes (sent .link) (sent .parts) (flushPartsOf (replicate outputLeast 0) (replicate lengthsLeast 0)) 7)
 
 unfoldable pub datagram : List ℕ
 datagram = 1 ∷ 0 ∷ 0 ∷ 0 ∷ 81 ∷ 0 ∷ 128 ∷ 0 ∷ 7 ∷ 0 ∷ 0 ∷ 0 ∷ 0 ∷ 0 ∷ 0 ∷ 0 ∷ 0 ∷ 0 ∷ 0 ∷ 0 ∷ 2 ∷ 0 ∷ 0 ∷ 0 ∷ 104 ∷ 105 ∷ []
@@ -118,22 +118,21 @@ met = record {
   opens = record {
     block = linkOf (opened c);
     lent = parts;
-    promise = record { answer = refl; leaves = (record { counts = refl; state = refl }, refl) };
+    promise = record { answer = refl; number = refl; leaves = (record { counts = refl; state = refl }, refl) };
   };
   sends-it = record {
     gives = answer.Accepted;
-    promise = record { answer = refl; leaves = record { stands = record { counts = refl; state = refl }; sendPool = refl; receivePool = refl; table = refl; acks = refl } };
+    promise = record { answer = refl; number = refl; leaves = record { stands = record { counts = refl; state = refl }; sendPool = refl; receivePool = refl; table = refl; acks = refl } };
     sees = refl;
   };
   flushes-it = record {
-    output = replicate outputLeast 0;
-    lengths = replicate lengthsLeast 0;
+    lent = flushPartsOf (replicate outputLeast 0) (replicate lengthsLeast 0);
     room = record { long = omega arith; many = omega arith };
     gives = count.Of 1;
-    output′ = sets (replicate outputLeast 0) 0 datagram;
-    lengths′ = sets (replicate lengthsLeast 0) 0 (26 ∷ []);
+    after = flushPartsOf (sets (replicate outputLeast 0) 0 datagram) (sets (replicate lengthsLeast 0) 0 (26 ∷ []));
     promise = record {
       answer = refl;
+      number = refl;
       leaves = record {
         stands = record { counts = refl; state = refl };
         sendPool = refl;
@@ -150,13 +149,14 @@ met = record {
     long = refl;
     gives = count.Refused NoMessage;
     buffer′ = replicate 10 0;
-    promise = record { answer = refl; leaves = record { unchanged = record { link = refl; parts = refl }; bytes = refl } };
+    promise = record { answer = refl; number = refl; leaves = record { unchanged = record { link = refl; parts = refl }; bytes = refl } };
     sees = refl;
   };
   takes-it = record {
     gives = answer.Accepted;
     promise = record {
       answer = refl;
+      number = refl;
       leaves = record { stands = record { counts = refl; state = refl }; sendPool = refl; receivePool = refl; table = refl; ackLength = refl; ackRest = refl };
     };
     sees = refl;
@@ -166,7 +166,7 @@ met = record {
     long = refl;
     gives = count.Of 2;
     buffer′ = sets (replicate 10 0) 0 (104 ∷ 105 ∷ []);
-    promise = record { answer = refl; leaves = record { stands = record { counts = refl; state = refl }; parts = refl; bytes = refl } };
+    promise = record { answer = refl; number = refl; leaves = record { stands = record { counts = refl; state = refl }; parts = refl; bytes = refl } };
     sees = refl;
   };
   few = omega arith;

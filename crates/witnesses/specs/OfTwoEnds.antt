@@ -56,6 +56,7 @@ use Rattle.packing.specs.Packers.{joined, lengthsOf}
 use Rattle.answers.specs.declared.Answer.the-variants as answer
 use Rattle.answers.specs.declared.Count.the-variants as count
 use Rattle.answers.specs.declared.Update.the-variants as update
+use Rattle.promises.specs.Parts.{flushPartsOf}
 use Rattle.promises.specs.Outcomes.{sendsWith, takesInWith, flushesWith, updatesWith, takesIn, flushes}
 use Rattle.delivery.specs.PlainReceiver.{pushNumbers, pushesIn}
 use Rattle.demands.specs.Steps.{Endpoint, cutBy, Called, start, next}
@@ -119,7 +120,7 @@ unfoldable pub heard : Endpoint
 heard = afterInput fresh (takesIn (fresh .link) (fresh .parts) again)
 
 unfoldable pub told : Endpoint
-told = afterFlush heard (flushes (heard .link) (heard .parts) 50992 290 9)
+told = afterFlush heard (flushes (heard .link) (heard .parts) (flushPartsOf (replicate 50992 0) (replicate 290 0)) 9)
 
 unfoldable pub done : Endpoint
 done = afterInput resent (takesIn (resent .link) (resent .parts) acked)
@@ -146,14 +147,13 @@ unfolding usedWindow slowStart raised widened avoidance limited grown afterDatag
     occurs lowestFrom lowestFree numbersFit waitingFits settled sendingValid receivingValid valid paired
 met = record {
   sends-again = record {
-    output = replicate 50992 0;
-    lengths = replicate 290 0;
+    lent = flushPartsOf (replicate 50992 0) (replicate 290 0);
     room = record { long = omega arith; many = omega arith };
     gives = update.Wrote 1;
-    output′ = sets (replicate 50992 0) 0 again;
-    lengths′ = sets (replicate 290 0) 0 (26 ∷ []);
+    after = flushPartsOf (sets (replicate 50992 0) 0 again) (sets (replicate 290 0) 0 (26 ∷ []));
     promise = record {
       answer = refl;
+      number = refl;
       leaves = record {
         stands = record { counts = refl; state = refl };
         sendPool = refl;
@@ -169,6 +169,7 @@ met = record {
     gives = answer.Accepted;
     promise = record {
       answer = refl;
+      number = refl;
       leaves = record {
         stands = record { counts = refl; state = refl };
         sendPool = refl;
@@ -181,14 +182,13 @@ met = record {
     sees = refl;
   };
   tells-it = record {
-    output = replicate 50992 0;
-    lengths = replicate 290 0;
+    lent = flushPartsOf (replicate 50992 0) (replicate 290 0);
     room = record { long = omega arith; many = omega arith };
     gives = count.Of 1;
-    output′ = sets (replicate 50992 0) 0 acked;
-    lengths′ = sets (replicate 290 0) 0 (24 ∷ []);
+    after = flushPartsOf (sets (replicate 50992 0) 0 acked) (sets (replicate 290 0) 0 (24 ∷ []));
     promise = record {
       answer = refl;
+      number = refl;
       leaves = record {
         stands = record { counts = refl; state = refl };
         sendPool = refl;
@@ -204,6 +204,7 @@ met = record {
     gives = answer.Accepted;
     promise = record {
       answer = refl;
+      number = refl;
       leaves = record {
         stands = record { counts = refl; state = refl };
         sendPool = refl;

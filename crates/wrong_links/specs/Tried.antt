@@ -24,7 +24,6 @@ use Rattle.lists.specs.declared.Sent.{Sent}
 use Rattle.session.specs.State.{Outcome, refused, done}
 use Rattle.session.specs.Reading.{reading}
 use Rattle.control.specs.declared.Link.{Link}
-use Rattle.packing.specs.Packers.{Output}
 use Rattle.answers.specs.declared.Answer.{Answer}
 use Rattle.answers.specs.declared.Answer.the-variants as answer
 use Rattle.answers.specs.declared.Count.{Count}
@@ -33,9 +32,9 @@ use Rattle.answers.specs.declared.Update.{Update}
 use Rattle.answers.specs.declared.Update.the-variants as update
 use Rattle.answers.specs.declared.Time.{Time}
 use Rattle.answers.specs.declared.Time.the-variants as time
-use Rattle.promises.specs.Parts.{Parts, stateIn}
+use Rattle.promises.specs.Parts.{Parts, FlushParts, stateIn}
 use Rattle.promises.specs.Answers.{countOutcome, timeOutcome}
-use Rattle.promises.specs.Promises.{OpenPromise, SendPromise, InputPromise, FlushPromise, UpdatePromise, CheckPromise, ReadPromise, SizePromise, ShowPromise, LiesAt}
+use Rattle.promises.specs.Promises.{OpenPromise, SendPromise, InputPromise, WrittenTo, FlushPromise, UpdatePromise, CheckPromise, ReadPromise, SizePromise, ShowPromise, LiesAt}
 use Rattle.wrong_links.specs.Standing.{Lends, At}
 use Rattle.wrong_links.specs.StandingLaws.{opening-goes, send-goes, input-goes, flush-goes, update-goes, update-waits, check-goes, read-goes, read-refused, size-goes, show-goes}
 use Rattle.wrong_links.specs.Session as session
@@ -84,41 +83,41 @@ module _ (l : Link) (p : Parts) (l′ : Link) (p′ : Parts) where
   send-second a at h = send-goes l p oneSent at (all-pass .one-sent) second a l′ p′ _ (is-result _ _ (computed .sends-second)) h
 
   -- the output holds two datagrams of 50 bytes, with all three segments
-  pub flush-both : (a : Count) (out lengths out′ lengths′ : List ℕ) → At l p bothSent
-      → leb outputLeast (length out) ≡ true
-      → leb lengthsLeast (length lengths) ≡ true
-      → FlushPromise 5 l p out lengths a l′ p′ out′ lengths′
-      → (a ≡ count.Of 2) × At l′ p′ flushed × Output datagrams out lengths 2 out′ lengths′
+  pub flush-both : (a : Count) (f f′ : FlushParts) → At l p bothSent
+      → leb outputLeast (length (f .output)) ≡ true
+      → leb lengthsLeast (length (f .lengths)) ≡ true
+      → FlushPromise 5 l p f a l′ p′ f′
+      → (a ≡ count.Of 2) × At l′ p′ flushed × WrittenTo datagrams 2 f f′
   unfolding flushed datagrams flush
-  flush-both a out lengths out′ lengths′ at room number h =
-      let r = flush-goes l p bothSent at (all-pass .both-sent) 5 out lengths a l′ p′ out′ lengths′ flush room number refl h in
+  flush-both a f f′ at room number h =
+      let r = flush-goes l p bothSent at (all-pass .both-sent) 5 f a l′ p′ f′ flush room number refl h in
       (rw (computed .datagram-count) at (r .0), r .1 .after, rw (computed .datagram-count) at (r .1 .output))
 
-  module _ (out lengths out′ lengths′ : List ℕ) (room : leb outputLeast (length out) ≡ true)
-      (number : leb lengthsLeast (length lengths) ≡ true) where
+  module _ (f f′ : FlushParts) (room : leb outputLeast (length (f .output)) ≡ true)
+      (number : leb lengthsLeast (length (f .lengths)) ≡ true) where
     -- the first update writes the same
-    pub update-first : (a : Update) → At l p bothSent → UpdatePromise 5 l p out lengths a l′ p′ out′ lengths′
-        → (a ≡ update.Wrote 2) × At l′ p′ updated × Output datagrams out lengths 2 out′ lengths′
+    pub update-first : (a : Update) → At l p bothSent → UpdatePromise 5 l p f a l′ p′ f′
+        → (a ≡ update.Wrote 2) × At l′ p′ updated × WrittenTo datagrams 2 f f′
     unfolding updated
     update-first a at h =
         let r =
-        update-goes l p bothSent at (all-pass .both-sent) 5 out lengths a l′ p′ out′ lengths′ room number h session.update
+        update-goes l p bothSent at (all-pass .both-sent) 5 f a l′ p′ f′ room number h session.update
         (computed .updates-first) in
         (rw (computed .update-count) at (r .0), r .1 .after, rw (computed .update-count, computed .update-datagrams) at (r .1 .output))
 
     -- the next one waits, and changes no lent byte
-    pub update-next : (a : Update) → At l p updated → UpdatePromise 6 l p out lengths a l′ p′ out′ lengths′
-        → (a ≡ update.Waited) × At l′ p′ rested × (p′ ≡ p) × (out′ ≡ out) × (lengths′ ≡ lengths)
+    pub update-next : (a : Update) → At l p updated → UpdatePromise 6 l p f a l′ p′ f′
+        → (a ≡ update.Waited) × At l′ p′ rested × (p′ ≡ p) × (f′ ≡ f)
     unfolding rested
     update-next a at h =
-        update-waits l p updated at (all-pass .one-updated) 6 out lengths a l′ p′ out′ lengths′ room number h (rested .state)
+        update-waits l p updated at (all-pass .one-updated) 6 f a l′ p′ f′ room number h (rested .state)
         (computed .updates-waiting)
 
     -- the one after it flushes and writes nothing, which is another answer
-    pub update-later : (a : Update) → At l p rested → UpdatePromise 105 l p out lengths a l′ p′ out′ lengths′ → a ≡ update.Wrote 0
+    pub update-later : (a : Update) → At l p rested → UpdatePromise 105 l p f a l′ p′ f′ → a ≡ update.Wrote 0
     update-later a at h =
         rw (computed .later-none) at
-        (update-goes l p rested at (all-pass .one-rested) 105 out lengths a l′ p′ out′ lengths′ room number h laterUpdate
+        (update-goes l p rested at (all-pass .one-rested) 105 f a l′ p′ f′ room number h laterUpdate
         (computed .updates-later) .0)
 
   -- of the segments 0, 1 and 2 only the last is left outstanding
@@ -199,15 +198,15 @@ module _ (l : Link) (p : Parts) (l′ : Link) (p′ : Parts) (r : Refusal) where
   pub refuses-input : At l p fresh → InputPromise (getD datagrams 0 []) l p (answer.Refused r) l′ p′ → ⊥
   refuses-input at h = not-refused (input-first l p l′ p′ _ at h .0)
 
-  pub refuses-flush : (out lengths out′ lengths′ : List ℕ) → At l p bothSent → leb outputLeast (length out) ≡ true → leb lengthsLeast (length lengths) ≡ true
-      → FlushPromise 5 l p out lengths (count.Refused r) l′ p′ out′ lengths′ → ⊥
-  refuses-flush out lengths out′ lengths′ at room number h = not-refused-count (flush-both l p l′ p′ _ out lengths out′ lengths′ at room number h .0)
+  pub refuses-flush : (f f′ : FlushParts) → At l p bothSent → leb outputLeast (length (f .output)) ≡ true → leb lengthsLeast (length (f .lengths)) ≡ true
+      → FlushPromise 5 l p f (count.Refused r) l′ p′ f′ → ⊥
+  refuses-flush f f′ at room number h = not-refused-count (flush-both l p l′ p′ _ f f′ at room number h .0)
 
-  pub refuses-update : (out lengths out′ lengths′ : List ℕ) → At l p bothSent → leb outputLeast (length out) ≡ true
-      → leb lengthsLeast (length lengths) ≡ true
-      → UpdatePromise 5 l p out lengths (update.Refused r) l′ p′ out′ lengths′ → ⊥
-  refuses-update out lengths out′ lengths′ at room number h =
-      let e = update-first l p l′ p′ out lengths out′ lengths′ room number _ at h .0 in let z : _≡_ {A = ℕ} 0 1 = cc in omega arith
+  pub refuses-update : (f f′ : FlushParts) → At l p bothSent → leb outputLeast (length (f .output)) ≡ true
+      → leb lengthsLeast (length (f .lengths)) ≡ true
+      → UpdatePromise 5 l p f (update.Refused r) l′ p′ f′ → ⊥
+  refuses-update f f′ at room number h =
+      let e = update-first l p l′ p′ f f′ room number _ at h .0 in let z : _≡_ {A = ℕ} 0 1 = cc in omega arith
 
   pub refuses-read : (buffer buffer′ : List ℕ) → length buffer ≡ 30 → At l p bothHeard → ReadPromise l p buffer (count.Refused r) l′ p′ buffer′ → ⊥
   refuses-read buffer buffer′ room at h = not-refused-count (read-first l p l′ p′ _ buffer buffer′ room at h .0)
