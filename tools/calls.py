@@ -34,7 +34,7 @@ NAMES = {
     'Rattle.protocol.specs.Protocol': 'sendSlots', 'Rattle.records.specs.Tables': 'slotsIn gathered padded scattered',
     'Rattle.control.specs.Views': 'Whole Arrays arrays arraysOf linkOf',
     'Rattle.checking.specs.Tests': 'flightFits', 'Rattle.checking.specs.Verdicts': 'Flown Flies ByFlown',
-    'Rattle.promises.specs.Parts': 'lentLengths partsOf', 'Rattle.promises.specs.Answers': 'countOutcome timeOutcome',
+    'Rattle.promises.specs.Parts': 'lentLengths partsOf flushPartsOf', 'Rattle.promises.specs.Answers': 'countOutcome timeOutcome',
     'Rattle.promises.specs.Outcomes': 'opensWith takesInWith tellsWith showsWith checksWith shows',
     'Rattle.promises.specs.Promises': 'OpenPromise SendPromise InputPromise FlushPromise UpdatePromise ReadPromise SizePromise placeOf',
     'Rattle.promises.specs.Cores': 'OpenCore',
@@ -231,6 +231,10 @@ def input_():
         proof=f'told answerCode _ (t .answer) e-r (input-promised (x₅ .now) (x₀ .now) {p} (t .answer) (takenBack t) {link} {pool} {acks} {table} {few} {put} e-t)')
 
 
+# output and lengths before a flush and after it
+INTO, FILLED = '(flushPartsOf (x₆ .now) (x₇ .now))', '(flushPartsOf z₆ z₇)'
+
+
 def writing(crate, result, core, back, left, proof):
     """A flush, or what has its parameters and its shape: the core's contract, what goes back, and what is left before that."""
     link = f"(linkOf (h .settings) (a .flight) (a .arrival) (a .clock) ({after('a', ARRAYS[:3])}))"
@@ -239,12 +243,12 @@ def writing(crate, result, core, back, left, proof):
     return dict(
         crate=crate, name=crate, result=result, about='The table is read; structs are copied, all lists are lent, and flight, arrival and clock are stored.',
         pars=[Par('ref')] + SLICES + [Par('val', U32), Par('mut', 'u8'), Par('mut', 'u16')],
-        said=f'{left} x₅ h {P} (x₆ .now) (x₇ .now) (r .answer) ({back} r) k z₆ z₇',
+        said=f'{left} x₅ h {P} {INTO} (r .answer) ({back} r) k {FILLED}',
         calls=GATHER + [
             Call('core', 'a', f'{core} h recs m (x₁ .now) (x₂ .now) (x₄ .now) x₅ (x₆ .now) (x₇ .now) a {link} {output} {lengths}', WHOLE),
             Call('flight-of', 'kf', 'kf ≡ a .flight'), Call('arrival-of', 'ka', 'ka ≡ a .arrival'), Call('clock-of', 'kc', 'kc ≡ a .clock'),
         ],
-        proof=f"rw (e-kf, e-ka, e-kc) ({proof} x₅ h {P} (x₆ .now) (x₇ .now) (a .answer) ({back} a) {link} {output} {lengths} recs m {gathered} ({whole('end-')}) e-a)")
+        proof=f"rw (e-kf, e-ka, e-kc) ({proof} x₅ h {P} {INTO} (a .answer) ({back} a) {link} (flushPartsOf {output} {lengths}) recs m {gathered} ({whole('end-')}) e-a)")
 
 
 def write_out():
@@ -264,13 +268,13 @@ def written(name, by, code, promise, back, left, proof):
     return dict(
         crate='ampferweg', name=name, result=CODE, about=f'The block is given to `{by}`, and the table lent to it as `&`; then the table is given to `scatter`.',
         pars=[Par('given', 'L'), Par('shr', 'u8'), Par('shr', 'u8'), Par('mut', 'R'), Par('shr', 'u32'), Par('val', U32), Par('mut', 'u8'), Par('mut', 'u16')],
-        said=f"Gives {code} (λ a. {promise} x₅ (x₀ .now) {p} (x₆ .now) (x₇ .now) a z₀ {parts('(x₁ .now)', '(x₂ .now)', 'z₃', '(x₄ .now)')} z₆ z₇) r",
+        said=f"Gives {code} (λ a. {promise} x₅ (x₀ .now) {p} {INTO} a z₀ {parts('(x₁ .now)', '(x₂ .now)', 'z₃', '(x₄ .now)')} {FILLED}) r",
         calls=[
-            Call('writing', 't', f'{left} x₅ (x₀ .now) {p} (x₆ .now) (x₇ .now) (t .answer) ({back} t) {link} {output} {lengths}'),
+            Call('writing', 't', f'{left} x₅ (x₀ .now) {p} {INTO} (t .answer) ({back} t) {link} (flushPartsOf {output} {lengths})'),
             Call('words-of', 'words', 'words ≡ t .words'), Call('count-of', 'n', 'n ≡ t .changed'), Call('records-of', 'after', 'after ≡ t .records'),
             Call('scatter', 'u', f'{table} ≡ scattered (x₃ .now) (slotsIn words n) after'), Call('code-of', 'r', f'r ≡ {code} (t .answer)'),
         ],
-        proof=f'told {code} _ (t .answer) e-r ({proof} x₅ (x₀ .now) {p} (x₆ .now) (x₇ .now) (t .answer) ({back} t) {link} {output} {lengths} {table} {few} {put} e-t)')
+        proof=f'told {code} _ (t .answer) e-r ({proof} x₅ (x₀ .now) {p} {INTO} (t .answer) ({back} t) {link} (flushPartsOf {output} {lengths}) {table} {few} {put} e-t)')
 
 
 def flush():

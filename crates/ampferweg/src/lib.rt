@@ -6,7 +6,7 @@ pub mod settings;
 
 use control::Link;
 use timing::Record;
-ghost use Rattle.promises.specs.Parts.{partsOf};
+ghost use Rattle.promises.specs.Parts.{partsOf, flushPartsOf};
 ghost use Rattle.promises.specs.Promises.{OpenPromise, SendPromise, InputPromise, FlushPromise, UpdatePromise, ReadPromise, SizePromise};
 ghost use Rattle.codes.specs.Codes.{answerCode, countCode, updateCode, timeCode, settingsOf};
 ghost use Rattle.codes.specs.Gives.{Gives};
@@ -145,9 +145,9 @@ pub extern "C" fn ampferweg_flush(
 ) -> i32
     ensures { λ r. ⌜ Gives countCode (λ a. FlushPromise t (now (link .entry))
         (partsOf (now («send_pool» .entry)) (now («receive_pool» .entry)) (now (table .entry)) (now (acks .entry)))
-        (now (output .entry)) (now (lengths .entry)) a (now (link .exit))
+        (flushPartsOf (now (output .entry)) (now (lengths .entry))) a (now (link .exit))
         (partsOf (now («send_pool» .entry)) (now («receive_pool» .entry)) (now (table .exit)) (now (acks .entry)))
-        (now (output .exit)) (now (lengths .exit))) r ⌝ }
+        (flushPartsOf (now (output .exit)) (now (lengths .exit)))) r ⌝ }
 {
     let flushed = write_out::write_out(
         link,
@@ -180,9 +180,9 @@ pub extern "C" fn ampferweg_update(
 ) -> i32
     ensures { λ r. ⌜ Gives updateCode (λ a. UpdatePromise t (now (link .entry))
         (partsOf (now («send_pool» .entry)) (now («receive_pool» .entry)) (now (table .entry)) (now (acks .entry)))
-        (now (output .entry)) (now (lengths .entry)) a (now (link .exit))
+        (flushPartsOf (now (output .entry)) (now (lengths .entry))) a (now (link .exit))
         (partsOf (now («send_pool» .entry)) (now («receive_pool» .entry)) (now (table .exit)) (now (acks .entry)))
-        (now (output .exit)) (now (lengths .exit))) r ⌝ }
+        (flushPartsOf (now (output .exit)) (now (lengths .exit)))) r ⌝ }
 {
     let updated = update_out::update_out(
         link,

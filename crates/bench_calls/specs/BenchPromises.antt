@@ -13,7 +13,7 @@ use Rattle.answers.specs.declared.Answer.{Answer}
 use Rattle.answers.specs.declared.Answer.the-variants.{Accepted, Refused}
 use Rattle.answers.specs.declared.Count.{Count}
 use Rattle.answers.specs.declared.Time.{Time}
-use Rattle.promises.specs.Parts.{Parts, partsOf}
+use Rattle.promises.specs.Parts.{Parts, partsOf, FlushParts, flushPartsOf}
 use Rattle.promises.specs.Outcomes.{shows}
 use Rattle.promises.specs.Promises.{OpenPromise, SendPromise, InputPromise, FlushPromise, ReadPromise, SizePromise, shown}
 use Rattle.promises.specs.Promises.{UpdatePromise, CheckPromise}
@@ -25,6 +25,10 @@ use Rattle.bench_calls.specs.declared.Updated.{Updated}
 -- the parts, as far as the bench lends them, with a table of records
 abbrev pub lentParts : Bench → List ℕ → List ℕ → List Record → List ℕ → Parts
 lentParts b s r table a = partsOf (take (b .lent .send) s) (take (b .lent .receive) r) (take (b .lent .records) table) (take (b .lent .acks) a)
+
+-- output and lengths, as far as it lends them
+abbrev pub lentFlushParts : Bench → List ℕ → List ℕ → FlushParts
+lentFlushParts b out lengths = flushPartsOf (take (b .lent .output) out) (take (b .lent .lengths) lengths)
 
 -- the bench after a command that is no accepted opening
 abbrev pub after : Bench → Link → List Record → Bench
@@ -52,15 +56,16 @@ pub record BenchTakesIn (datagram : List ℕ) (b : Bench) (s r a : List ℕ) (x 
   pub bench : x .bench ≡ after b (x .bench .link) (x .bench .table)
 
 pub record BenchFlushes (t : ℕ) (b : Bench) (s r a out lengths : List ℕ) (x : Counted) (out′ lengths′ : List ℕ) : Type 0 where
-  pub promise : FlushPromise t (b .link) (lentParts b s r (b .table) a) (take (b .lent .output) out) (take (b .lent .lengths) lengths) (x .answer) (x .bench .link) (lentParts b s r (x .bench .table) a) (take (b .lent .output) out′) (take (b .lent .lengths) lengths′)
+  pub promise : FlushPromise t (b .link) (lentParts b s r (b .table) a) (lentFlushParts b out lengths)
+      (x .answer) (x .bench .link) (lentParts b s r (x .bench .table) a) (lentFlushParts b out′ lengths′)
   pub behind : drop (b .lent .output) out′ ≡ drop (b .lent .output) out
   pub lengthsBehind : drop (b .lent .lengths) lengths′ ≡ drop (b .lent .lengths) lengths
   pub recordsBehind : drop (b .lent .records) (x .bench .table) ≡ drop (b .lent .records) (b .table)
   pub bench : x .bench ≡ after b (x .bench .link) (x .bench .table)
 
 pub record BenchUpdates (t : ℕ) (b : Bench) (s r a out lengths : List ℕ) (x : Updated) (out′ lengths′ : List ℕ) : Type 0 where
-  pub promise : UpdatePromise t (b .link) (lentParts b s r (b .table) a) (take (b .lent .output) out) (take (b .lent .lengths) lengths)
-      (x .answer) (x .bench .link) (lentParts b s r (x .bench .table) a) (take (b .lent .output) out′) (take (b .lent .lengths) lengths′)
+  pub promise : UpdatePromise t (b .link) (lentParts b s r (b .table) a) (lentFlushParts b out lengths)
+      (x .answer) (x .bench .link) (lentParts b s r (x .bench .table) a) (lentFlushParts b out′ lengths′)
   pub behind : drop (b .lent .output) out′ ≡ drop (b .lent .output) out
   pub lengthsBehind : drop (b .lent .lengths) lengths′ ≡ drop (b .lent .lengths) lengths
   pub recordsBehind : drop (b .lent .records) (x .bench .table) ≡ drop (b .lent .records) (b .table)

@@ -11,7 +11,7 @@ use timing::Record;
 ghost use mathlib.Core.Path.{_≡_};
 ghost use lib.ListN.{length, take, drop};
 ghost use Rattle.promises.specs.Promises.{ShowsPart};
-ghost use Rattle.promises.specs.Parts.{partsOf};
+ghost use Rattle.promises.specs.Parts.{partsOf, flushPartsOf};
 ghost use Rattle.promises.specs.Outcomes.{shows};
 ghost use Rattle.promises.specs.Promises.{OpenPromise, SendPromise, InputPromise, FlushPromise, ReadPromise, SizePromise};
 ghost use Rattle.promises.specs.Promises.{UpdatePromise, CheckPromise};
@@ -273,9 +273,9 @@ pub fn flush(
     lengths: &mut [u16],
 ) -> FlushedOut
     ensures { λ r. ⌜ FlushPromise t link (partsOf (now («send_pool» .entry)) (now («receive_pool» .entry)) (take lent table) (now (acks .entry)))
-        (now (output .entry)) (now (lengths .entry))
+        (flushPartsOf (now (output .entry)) (now (lengths .entry)))
         (r .answer) (r .link) (partsOf (now («send_pool» .entry)) (now («receive_pool» .entry)) (take lent (r .table)) (now (acks .entry)))
-        (now (output .exit)) (now (lengths .exit)) × (drop lent (r .table) ≡ drop lent table) ⌝ }
+        (flushPartsOf (now (output .exit)) (now (lengths .exit))) × (drop lent (r .table) ≡ drop lent table) ⌝ }
 {
     let settings = link.settings;
     let flight = link.flight;
@@ -353,9 +353,9 @@ pub fn update(
 ) -> UpdatedOut
     ensures { λ r. ⌜ UpdatePromise t link
         (partsOf (now («send_pool» .entry)) (now («receive_pool» .entry)) (take lent table) (now (acks .entry)))
-        (now (output .entry)) (now (lengths .entry))
+        (flushPartsOf (now (output .entry)) (now (lengths .entry)))
         (r .answer) (r .link) (partsOf (now («send_pool» .entry)) (now («receive_pool» .entry)) (take lent (r .table)) (now (acks .entry)))
-        (now (output .exit)) (now (lengths .exit)) × (drop lent (r .table) ≡ drop lent table) ⌝ }
+        (flushPartsOf (now (output .exit)) (now (lengths .exit))) × (drop lent (r .table) ≡ drop lent table) ⌝ }
 {
     let settings = link.settings;
     let flight = link.flight;

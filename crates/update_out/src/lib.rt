@@ -3,7 +3,7 @@
 use control::Link;
 use timing::Record;
 use update_core::Updated;
-ghost use Rattle.promises.specs.Parts.{partsOf};
+ghost use Rattle.promises.specs.Parts.{partsOf, flushPartsOf};
 ghost use Rattle.from_cores.specs.Left.{UpdateLeft};
 ghost use Rattle.update_core.specs.Updates.{updatedBack};
 
@@ -20,8 +20,8 @@ pub fn update_out(
 ) -> Updated
     ensures { λ r. ⌜ UpdateLeft t (now (link .entry))
         (partsOf (now («send_pool» .entry)) (now («receive_pool» .entry)) (now (table .entry)) (now (acks .entry)))
-        (now (output .entry)) (now (lengths .entry)) (r .answer) (updatedBack r) (now (link .exit))
-        (now (output .exit)) (now (lengths .exit)) ⌝ }
+        (flushPartsOf (now (output .entry)) (now (lengths .entry))) (r .answer) (updatedBack r) (now (link .exit))
+        (flushPartsOf (now (output .exit)) (now (lengths .exit))) ⌝ }
 {
     let settings = link.settings;
     let flight = link.flight;

@@ -3,7 +3,7 @@
 use control::Link;
 use flush_core::Flushed;
 use timing::Record;
-ghost use Rattle.promises.specs.Parts.{partsOf};
+ghost use Rattle.promises.specs.Parts.{partsOf, flushPartsOf};
 ghost use Rattle.from_cores.specs.Left.{FlushLeft};
 ghost use Rattle.flush_core.specs.Flushes.{putBack};
 
@@ -20,8 +20,8 @@ pub fn write_out(
 ) -> Flushed
     ensures { λ r. ⌜ FlushLeft t (now (link .entry))
         (partsOf (now («send_pool» .entry)) (now («receive_pool» .entry)) (now (table .entry)) (now (acks .entry)))
-        (now (output .entry)) (now (lengths .entry)) (r .answer) (putBack r) (now (link .exit))
-        (now (output .exit)) (now (lengths .exit)) ⌝ }
+        (flushPartsOf (now (output .entry)) (now (lengths .entry))) (r .answer) (putBack r) (now (link .exit))
+        (flushPartsOf (now (output .exit)) (now (lengths .exit))) ⌝ }
 {
     let settings = link.settings;
     let flight = link.flight;

@@ -5,7 +5,7 @@ use mathlib.Core.Path.{_≡_, refl}
 use lib.ListN.{length, take}
 use borrow.Author.Needs.{needs}
 use Rattle.lists.proofs.Loops.{length-mapped}
-use Rattle.promises.specs.Parts.{Parts, partsOf}
+use Rattle.promises.specs.Parts.{Parts, partsOf, flushPartsOf}
 use Rattle.from_cores.proofs.Flushing.{flush-left, flush-promised}
 use Rattle.from_cores.proofs.Gathered.{Gathers}
 use Rattle.control.specs.Views.{Whole, arraysOf}
@@ -27,7 +27,7 @@ returns c =
     let few : length (b .records) ≡ 32 = c .before .is-records .ensures in
     let put = c .scatter .ensures in
     let old = whole-of (a .link) _ (c .before .before .before .before .before .before .before .before .before .before .before .before .before .before .before .before .before .before .before .before .before .before .before .before .before .before .before .before .before .before .before .before .before .before .before .before .before .before .before .before .good .0) in
-    (flush-promised (a .t) (a .link) p (a .output .now) (a .lengths .now) _ b _ _ _ _ few (put .0) (flush-left (a .t) (a .link) p (a .output .now) (a .lengths .now) _ b _ _ _ _ _ g (record { whole-queued = c .before .before .before .before .is-list .ensures; whole-outstanding = c .before .before .before .is-words .ensures; whole-transmissions = c .before .before .is-counts .ensures; whole-ready = old .whole-ready; whole-waiting = old .whole-waiting; whole-numbers = old .whole-numbers }) (c .before .before .before .before .before .before .before .before .before .before .before .before .before .before .flush .ensures)), put .1)
+    (flush-promised (a .t) (a .link) p (flushPartsOf (a .output .now) (a .lengths .now)) _ b _ _ _ few (put .0) (flush-left (a .t) (a .link) p (flushPartsOf (a .output .now) (a .lengths .now)) _ b _ (flushPartsOf _ _) _ _ g (record { whole-queued = c .before .before .before .before .is-list .ensures; whole-outstanding = c .before .before .before .is-words .ensures; whole-transmissions = c .before .before .is-counts .ensures; whole-ready = old .whole-ready; whole-waiting = old .whole-waiting; whole-numbers = old .whole-numbers }) (c .before .before .before .before .before .before .before .before .before .before .before .before .before .before .flush .ensures)), put .1)
 
 pub flush-spec : {M : Type 1} → statement M
 flush-spec = tie.close (tie.spec (λ c κs. search needs) (λ c κs. search needs) flush-requires (λ c κs. search needs) (λ c κs. search needs) (λ c κs. search needs) (λ c κs. search needs) (λ c κs. search needs) (λ c. search needs) (λ c. search needs) returns)

@@ -5,7 +5,7 @@ use lib.ListN.{length, take}
 use borrow.Author.Needs.{needs}
 use Rattle.lists.proofs.Loops.{length-mapped}
 use Rattle.promises.specs.Cores.{PutBack}
-use Rattle.promises.specs.Parts.{Parts, partsOf}
+use Rattle.promises.specs.Parts.{Parts, partsOf, flushPartsOf}
 use Rattle.from_cores.proofs.Updating.{update-left, update-promised}
 use Rattle.from_cores.proofs.Gathered.{Gathers}
 use Rattle.update_core.specs.Updates.{updatedBack}
@@ -36,7 +36,7 @@ returns c =
     let few : length (b .records) ≡ 32 = c .before .is-records .ensures in
     let put = c .scatter .ensures in
     let old = whole-of (a .link) _ (start .good .0) in
-    let left = update-left (a .t) (a .link) p (a .output .now) (a .lengths .now) _ b _ _ _ _ _ g
+    let left = update-left (a .t) (a .link) p (flushPartsOf (a .output .now) (a .lengths .now)) _ b _ (flushPartsOf _ _) _ _ g
     (record {
       whole-queued = c .before .before .before .before .is-list .ensures;
       whole-outstanding = c .before .before .before .is-words .ensures;
@@ -46,7 +46,7 @@ returns c =
       whole-numbers = old .whole-numbers;
     })
     (updates .update .ensures) in
-    (update-promised (a .t) (a .link) p (a .output .now) (a .lengths .now) _ b _ _ _ _ few (put .0) left, put .1)
+    (update-promised (a .t) (a .link) p (flushPartsOf (a .output .now) (a .lengths .now)) _ b _ _ _ few (put .0) left, put .1)
 
 pub update-spec : {M : Type 1} → statement M
 update-spec =
