@@ -53,7 +53,8 @@ pub fitting-fits : (l : List Held) (room n : ℕ) → done n ≡ fittingOf l roo
 unfolding fittingOf
 fitting-fits l room n = go (readable l) (leb (lengthOf (frontOf l)) room) refl refl
   where
-    go : (a b : Bool) → readable l ≡ a → leb (lengthOf (frontOf l)) room ≡ b → done n ≡ cond a (cond b (done (lengthOf (frontOf l))) (refused ShortPart)) (refused NoMessage)
+    go : (a b : Bool) → readable l ≡ a → leb (lengthOf (frontOf l)) room ≡ b
+        → done n ≡ cond a (cond b (done (lengthOf (frontOf l))) (refused ShortPart)) (refused NoMessage)
         → FitsIn l room × (n ≡ lengthOf (frontOf l))
     go true true s t e = (record { complete = s; within = leb-true _ _ t }, cc)
     go true false s t e = absurd (let z : _≡_ {A = ℕ} 0 1 = cc in omega arith)

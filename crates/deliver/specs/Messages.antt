@@ -34,7 +34,9 @@ pub record InPool (mss : ℕ) (pool : List ℕ) (l : List Held) : Type 0 where
 
 -- the length of the message at the front: 9 where there is none, then 7 for a buffer shorter than it
 unfoldable pub fittingOf : List Held → ℕ → Outcome ℕ
-fittingOf ready room = let size = lengthOf (frontOf ready) in cond (readable ready) (cond (leb size room) (done size) (refused ShortPart)) (refused NoMessage)
+fittingOf ready room =
+    let size = lengthOf (frontOf ready) in
+    cond (readable ready) (cond (leb size room) (done size) (refused ShortPart)) (refused NoMessage)
 
 -- a message can be read, and there is room for it
 pub record FitsIn (ready : List Held) (room : ℕ) : Type 0 where

@@ -13,7 +13,21 @@ use Rattle.protocol.specs.Protocol.{push}
 use Rattle.protocol.specs.Ranges.{mss}
 use Rattle.protocol.specs.declared.Settings.{Settings}
 use Rattle.protocol.specs.declared.Refusal.{Refusal}
-use Rattle.protocol.specs.declared.Refusal.the-variants.{ShortDatagram, OtherConversation, LengthPastEnd, UnknownCommand, LongPayload, HighFragment, ShortPart, NoMessage, LongMessage, NoFreeSlots, SettingOutOfRange, InvalidBlock, TrailingBytes}
+use Rattle.protocol.specs.declared.Refusal.the-variants.{
+  ShortDatagram,
+  OtherConversation,
+  LengthPastEnd,
+  UnknownCommand,
+  LongPayload,
+  HighFragment,
+  ShortPart,
+  NoMessage,
+  LongMessage,
+  NoFreeSlots,
+  SettingOutOfRange,
+  InvalidBlock,
+  TrailingBytes,
+}
 use Rattle.datagram.specs.Datagrams.{Segment, Parsed}
 use Rattle.timing.specs.Choices.{either-way}
 use Rattle.schedule.specs.Schedules.{updated}

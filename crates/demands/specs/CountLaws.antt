@@ -1,4 +1,5 @@
--- How much a call can count, from its promise alone: the datagrams of a flush, the bytes of a message, the place of a segment in the receive pool.
+-- How much a call can count, from its promise alone: the datagrams of a flush, the bytes of a message, the place of a segment in the
+-- receive pool; and how many segments are ready where no message can be read.
 -- It holds of every block and all lent parts: a count is given only of a block that passed 13.
 -- Assumes nothing.
 use mathlib.Core.Path.{_≡_, refl, sym, _∙_, subst}
@@ -19,7 +20,20 @@ use Rattle.lists.specs.declared.Held.{Held}
 use Rattle.session.specs.State.{State, Outcome, refused, done, withReceiving, withSchedule}
 use Rattle.session.specs.Valid.{valid}
 use Rattle.session.specs.Flushing.{Flushed}
-use Rattle.session.specs.Reading.{Reads, Part, readable, frontCount, frontPart, lengthOf, messageSize, message, afterRead, reading, telling, showing}
+use Rattle.session.specs.Reading.{
+  Reads,
+  Part,
+  readable,
+  frontCount,
+  frontPart,
+  lengthOf,
+  messageSize,
+  message,
+  afterRead,
+  reading,
+  telling,
+  showing,
+}
 use Rattle.session.specs.Updating.{Updates}
 use Rattle.session.specs.Decides.{All, and-parts}
 use Rattle.session.specs.AllLaws.{all-left}
@@ -106,7 +120,9 @@ module _ (s : State) (v : IsValid s) where
     where
       go : (a b : Bool)
           → OfResult (λ (x : Reads). MessageFits (s .settings) (length (x .bytes)))
-          (cond a (cond b (done (record { state = withReceiving s (afterRead (s .receiving)); bytes = message s pool })) (refused ShortPart)) (refused NoMessage))
+          (cond a
+          (cond b (done (record { state = withReceiving s (afterRead (s .receiving)); bytes = message s pool })) (refused ShortPart))
+          (refused NoMessage))
       go true true = message-fits (length (message s pool)) (message-short s pool)
       go true false = tt
       go false b = tt
@@ -216,7 +232,7 @@ module _ {l : Link} {p : Parts} {n : ℕ} where
   pub size-counts : SizePromise l p (count.Of n) → MessageFits (l .settings) n
   size-counts h = subst (OfResult (MessageFits (l .settings))) (sym (h .answer)) (tells-fit l p)
 
--- ---- segments ready where no message can be read
+-- ---- segments ready where no message can be read, of a block whose arrays are as long as their types say
 
 module _ (l : Link) (p : Parts) (whole : Whole (arraysOf l)) where
   -- on a block that passes 13: fewer than 128

@@ -11,7 +11,18 @@ use borrow.Author.Tests.{leb-false, not-true}
 use Rattle.protocol.specs.Protocol.{push, windowTell, headerSize, fragmentMost, sendSlots, fragmentsMost}
 use Rattle.protocol.specs.Ranges.{mss}
 use Rattle.protocol.specs.Refusals.{numberOf}
-use Rattle.protocol.specs.declared.Refusal.the-variants.{ShortPart, ShortDatagram, OtherConversation, LengthPastEnd, UnknownCommand, LongPayload, HighFragment, NoMessage, LongMessage, NoFreeSlots}
+use Rattle.protocol.specs.declared.Refusal.the-variants.{
+  ShortPart,
+  ShortDatagram,
+  OtherConversation,
+  LengthPastEnd,
+  UnknownCommand,
+  LongPayload,
+  HighFragment,
+  NoMessage,
+  LongMessage,
+  NoFreeSlots,
+}
 use Rattle.wire.specs.Headers.{decode}
 use Rattle.wire.specs.declared.Header.{Header}
 use Rattle.datagram.specs.declared.Verdict.{Verdict}

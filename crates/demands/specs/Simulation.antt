@@ -91,7 +91,12 @@ unfolding reading
 reading-fits s pool room = go (readable (s .receiving .ready)) (leb (messageSize (s .receiving)) room) refl
   where
     go : (a b : Bool) → leb (messageSize (s .receiving)) room ≡ b
-        → ReadFits room (cond a (cond b (Outcome.done (record { state = withReceiving s (afterRead (s .receiving)); bytes = message s pool })) (Outcome.refused ShortPart)) (Outcome.refused NoMessage))
+        → ReadFits room
+        (cond a
+        (cond b
+        (Outcome.done (record { state = withReceiving s (afterRead (s .receiving)); bytes = message s pool }))
+        (Outcome.refused ShortPart))
+        (Outcome.refused NoMessage))
     go true true f = omega (arith, message-short s pool, leb-true (messageSize (s .receiving)) room f)
     go true false f = tt
     go false b f = tt

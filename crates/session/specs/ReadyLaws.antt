@@ -24,7 +24,8 @@ unread-most [] a e = zero-le
 unread-most (h ∷ l) a e = omega (arith, a .0, leb-false (h .fragment + 1) (length (h ∷ l)) e)
 
 -- of a receiving half that passes 13
-pub half-below-window : (c : Settings) (r : Receiving) → ReceivingIsValid c r → readable (r .ready) ≡ false → length (r .ready) < receiveWindow
+pub half-below-window : (c : Settings) (r : Receiving) → ReceivingIsValid c r
+    → readable (r .ready) ≡ false → length (r .ready) < receiveWindow
 half-below-window c r v e =
     omega (arith, unread-most (r .ready) (all-left (λ (h : Held). h .fragment ≤ fragmentMost) (r .ready) _ (v .fragments)) e)
 
