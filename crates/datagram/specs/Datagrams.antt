@@ -77,7 +77,8 @@ tail [] = segments []
 tail (b ∷ t) = refused TrailingBytes
 
 module _ (conv mss : ℕ) where
-  -- the segments of s behind its first skip bytes. A segment that begins with b has 23 + len bytes more
+  -- the segments of s behind its first skip bytes. A segment that begins with b has 23 + len bytes more. It goes by bytes, so that it ends;
+  -- WalkLaws `walk-step` and `walk-short` say it segment by segment
   unfoldable pub walk : ℕ → List ℕ → Parsed
   walk skip [] = tail []
   walk zero (b ∷ s) =
