@@ -96,8 +96,7 @@ enum ampferweg_refusal {
     AMPFERWEG_LONG_PAYLOAD = 5,          /* input: a push with a payload above mss (the peer's mtu is larger than ours) */
     AMPFERWEG_HIGH_FRAGMENT = 6,         /* input: a push with a fragment number above 126 */
     AMPFERWEG_SHORT_PART = 7,            /* any call: a lent part is shorter than stated above; read: so is the buffer */
-    AMPFERWEG_FULL_UNREADABLE = 8,       /* read, size: 128 segments are ready and no message can be read */
-    AMPFERWEG_NO_MESSAGE = 9,            /* read, size: no message has arrived whole */
+    AMPFERWEG_NO_MESSAGE = 9,            /* read, size: no message has arrived whole. Number 8 is not used any more */
     AMPFERWEG_LONG_MESSAGE = 10,         /* send: the message is above 127 segments */
     AMPFERWEG_NO_FREE_SLOTS = 11,        /* send: more segments than free send slots; flush, take in, and try again */
     AMPFERWEG_SETTING_OUT_OF_RANGE = 12, /* open, settings files: a setting outside its range */
@@ -126,7 +125,6 @@ static inline const char *ampferweg_text(ampferweg_result result)
     case AMPFERWEG_LONG_PAYLOAD: return "refused 5: a segment's payload is too long for this mtu";
     case AMPFERWEG_HIGH_FRAGMENT: return "refused 6: a segment's fragment number is above 126";
     case AMPFERWEG_SHORT_PART: return "refused 7: a lent part or the read buffer is too short";
-    case AMPFERWEG_FULL_UNREADABLE: return "refused 8: 128 segments are ready and no message can be read";
     case AMPFERWEG_NO_MESSAGE: return "refused 9: no message has arrived whole";
     case AMPFERWEG_LONG_MESSAGE: return "refused 10: the message is above 127 segments";
     case AMPFERWEG_NO_FREE_SLOTS: return "refused 11: not enough free send slots";
@@ -263,8 +261,8 @@ AMPFERWEG_LAYOUT(record, sizeof(ampferweg_record) == 16 && offsetof(ampferweg_re
  * Times are milliseconds of 32 bits that may start anywhere and wrap. Any clock reading is answered, also one that goes
  * back.
  *
- * Order of the checks: open 12, 7. The others 7 for the lent parts, 13, then: input 1, and 2 to 6 for each segment in
- * turn; send 10, 11; size 8 or 9; read 8 or 9, then 7 for the buffer. An update checks what a flush checks, whether or not it
+ * Order of the checks: open 12, 7. The others 7 for the lent parts, 13, then: input 1, 2 to 6 for each segment in
+ * turn, then 14; send 10, 11; size 9; read 9, then 7 for the buffer. An update checks what a flush checks, whether or not it
  * flushes; check asks for no output and no lengths. */
 
 /* Opens a link: whatever stood in *link, it becomes a fresh link. Lent bytes stay as they are.
@@ -285,7 +283,7 @@ ampferweg_result ampferweg_send(ampferweg_link *link, uint8_t *send_pool, uint64
     const uint8_t *receive_pool, uint64_t receive_pool_len, const ampferweg_record *table, uint64_t table_len,
     const uint32_t *acks, uint64_t acks_len, const uint8_t *message, uint64_t message_len);
 
-/* Takes in a datagram that arrived, whole or not at all. Answers 0, or refuses 7, 13, 1 to 6. */
+/* Takes in a datagram that arrived, whole or not at all. Answers 0, or refuses 7, 13, 1 to 6, 14. */
 ampferweg_result ampferweg_input(ampferweg_link *link, const uint8_t *send_pool, uint64_t send_pool_len,
     uint8_t *receive_pool, uint64_t receive_pool_len, ampferweg_record *table, uint64_t table_len,
     uint32_t *acks, uint64_t acks_len, const uint8_t *datagram, uint64_t datagram_len);
@@ -318,12 +316,12 @@ ampferweg_result ampferweg_check(const ampferweg_link *link, const uint8_t *send
     const uint32_t *acks, uint64_t acks_len, uint32_t now, uint32_t *when);
 
 /* Reads the next message into the buffer, and frees its slots; the buffer beyond it is not touched.
- * Answers its bytes, or refuses 7, 13, 8 or 9, and 7 again for a buffer that is too short (the message stays). */
+ * Answers its bytes, or refuses 7, 13, 9, and 7 again for a buffer that is too short (the message stays). */
 ampferweg_result ampferweg_read(ampferweg_link *link, const uint8_t *send_pool, uint64_t send_pool_len,
     const uint8_t *receive_pool, uint64_t receive_pool_len, const ampferweg_record *table, uint64_t table_len,
     const uint32_t *acks, uint64_t acks_len, uint8_t *buffer, uint64_t buffer_len);
 
-/* Tells the size of the next message. Answers its bytes, or refuses 7, 13, 8 or 9. */
+/* Tells the size of the next message. Answers its bytes, or refuses 7, 13, 9. */
 ampferweg_result ampferweg_size(const ampferweg_link *link, const uint8_t *send_pool, uint64_t send_pool_len,
     const uint8_t *receive_pool, uint64_t receive_pool_len, const ampferweg_record *table, uint64_t table_len,
     const uint32_t *acks, uint64_t acks_len);

@@ -1,5 +1,5 @@
 /* Every refusal number of every call, and that a refused call changes no byte: not of the block, not of a lent part.
- * 8 is missing: a block that passes 13 has a front fragment of 126 at most, so 128 ready segments hold a message. */
+ * 8 is no refusal's number any more. */
 #include "check.h"
 #include "lent.h"
 #include "segments.h"

@@ -19,7 +19,6 @@ use Rattle.protocol.specs.declared.Refusal.the-variants.{
   LongPayload,
   HighFragment,
   ShortPart,
-  FullUnreadable,
   NoMessage,
   LongMessage,
   NoFreeSlots,
@@ -42,7 +41,6 @@ number-small UnknownCommand = omega arith
 number-small LongPayload = omega arith
 number-small HighFragment = omega arith
 number-small ShortPart = omega arith
-number-small FullUnreadable = omega arith
 number-small NoMessage = omega arith
 number-small LongMessage = omega arith
 number-small NoFreeSlots = omega arith

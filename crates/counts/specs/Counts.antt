@@ -91,7 +91,6 @@ refusal-below refusal.UnknownCommand = refl
 refusal-below refusal.LongPayload = refl
 refusal-below refusal.HighFragment = refl
 refusal-below refusal.ShortPart = refl
-refusal-below refusal.FullUnreadable = refl
 refusal-below refusal.NoMessage = refl
 refusal-below refusal.LongMessage = refl
 refusal-below refusal.NoFreeSlots = refl

@@ -52,7 +52,6 @@ below-refusal refusal.UnknownCommand = refl
 below-refusal refusal.LongPayload = refl
 below-refusal refusal.HighFragment = refl
 below-refusal refusal.ShortPart = refl
-below-refusal refusal.FullUnreadable = refl
 below-refusal refusal.NoMessage = refl
 below-refusal refusal.LongMessage = refl
 below-refusal refusal.NoFreeSlots = refl

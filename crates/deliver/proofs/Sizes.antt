@@ -5,14 +5,13 @@ use mathlib.Core.Bool.{Bool, true, false, cond}
 use mathlib.Core.List.{List}
 use Prim.Native.Nat.{ℕ, _≤_, _<_}
 use native.Mathlib.Omega.{arith}
-use borrow.Author.Tests.{eq-eqb, ne-eqb, le-leb, lt-leb, leb-true}
+use borrow.Author.Tests.{le-leb, lt-leb, leb-true}
 use lib.Dec.{leb}
-use lib.ListN.{length}
 use Rattle.protocol.specs.declared.Refusal.{Refusal}
-use Rattle.protocol.specs.declared.Refusal.the-variants.{ShortPart, FullUnreadable, NoMessage}
+use Rattle.protocol.specs.declared.Refusal.the-variants.{ShortPart, NoMessage}
 use Rattle.lists.specs.declared.Held.{Held}
 use Rattle.session.specs.State.{Outcome, refused, done}
-use Rattle.session.specs.Reading.{readable, unreadable, lengthOf}
+use Rattle.session.specs.Reading.{readable, lengthOf}
 use Rattle.promises.specs.Answers.{sizeOf}
 use Rattle.deliver.specs.Messages.{frontOf, fittingOf, FitsIn}
 
@@ -21,13 +20,9 @@ module _ (l : List Held) (b : Bool) (e : b ≡ readable l) where
   unfolding sizeOf
   front-readable n t q = rw (sym e ∙ t, q)
 
-  pub front-full : (count : ℕ) → count ≡ length l → b ≡ false → count ≡ 128 → refused FullUnreadable ≡ sizeOf l
+  pub front-none : b ≡ false → refused NoMessage ≡ sizeOf l
   unfolding sizeOf
-  front-full count q f h = rw (sym e ∙ f, eq-eqb (length l) 128 (sym q ∙ h))
-
-  pub front-none : (count : ℕ) → count ≡ length l → b ≡ false → (count ≡ 128 → ⊥) → refused NoMessage ≡ sizeOf l
-  unfolding sizeOf
-  front-none count q f h = rw (sym e ∙ f, ne-eqb (length l) 128 (λ x. h (q ∙ x)))
+  front-none f = rw (sym e ∙ f)
 
 -- a message that long in a buffer of so much room
 abbrev fittedIn : ℕ → Outcome ℕ → Outcome ℕ
@@ -38,8 +33,8 @@ by-size : (l : List Held) (room : ℕ) → fittingOf l room ≡ fittedIn room (s
 unfolding fittingOf sizeOf
 by-size l room = go (readable l)
   where
-    go : (a : Bool) → cond a (cond (leb (lengthOf (frontOf l)) room) (done (lengthOf (frontOf l))) (refused ShortPart)) (refused (unreadable l))
-        ≡ fittedIn room (cond a (done (lengthOf (frontOf l))) (refused (unreadable l)))
+    go : (a : Bool) → cond a (cond (leb (lengthOf (frontOf l)) room) (done (lengthOf (frontOf l))) (refused ShortPart)) (refused NoMessage)
+        ≡ fittedIn room (cond a (done (lengthOf (frontOf l))) (refused NoMessage))
     go true = refl
     go false = refl
 
@@ -58,7 +53,8 @@ pub fitting-fits : (l : List Held) (room n : ℕ) → done n ≡ fittingOf l roo
 unfolding fittingOf
 fitting-fits l room n = go (readable l) (leb (lengthOf (frontOf l)) room) refl refl
   where
-    go : (a b : Bool) → readable l ≡ a → leb (lengthOf (frontOf l)) room ≡ b → done n ≡ cond a (cond b (done (lengthOf (frontOf l))) (refused ShortPart)) (refused (unreadable l))
+    go : (a b : Bool) → readable l ≡ a → leb (lengthOf (frontOf l)) room ≡ b
+        → done n ≡ cond a (cond b (done (lengthOf (frontOf l))) (refused ShortPart)) (refused NoMessage)
         → FitsIn l room × (n ≡ lengthOf (frontOf l))
     go true true s t e = (record { complete = s; within = leb-true _ _ t }, cc)
     go true false s t e = absurd (let z : _≡_ {A = ℕ} 0 1 = cc in omega arith)

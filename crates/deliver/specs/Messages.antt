@@ -8,11 +8,11 @@ use lib.Dec.{leb}
 use lib.ListN.{length, take}
 use lib.Seq.{sets}
 use Rattle.protocol.specs.Protocol.{receiveSlots}
-use Rattle.protocol.specs.declared.Refusal.the-variants.{ShortPart}
+use Rattle.protocol.specs.declared.Refusal.the-variants.{ShortPart, NoMessage}
 use Rattle.lists.specs.declared.Held.{Held}
 use Rattle.session.specs.Decides.{All}
 use Rattle.session.specs.State.{Ack, Outcome, refused, done}
-use Rattle.session.specs.Reading.{frontCount, readable, unreadable, lengthOf, joinedIn, afterRead}
+use Rattle.session.specs.Reading.{frontCount, readable, lengthOf, joinedIn, afterRead}
 use Rattle.words.specs.Words.{heldIn}
 use Rattle.control.specs.Views.{receivingOf}
 use Rattle.control.specs.declared.Arrival.{Arrival}
@@ -32,9 +32,11 @@ pub record InPool (mss : ℕ) (pool : List ℕ) (l : List Held) : Type 0 where
   pub each : InSlots mss l
   pub whole : receiveSlots * mss ≤ length pool
 
--- the length of the message at the front: 8 or 9, then 7 for a buffer shorter than it
+-- the length of the message at the front: 9 where there is none, then 7 for a buffer shorter than it
 unfoldable pub fittingOf : List Held → ℕ → Outcome ℕ
-fittingOf ready room = let size = lengthOf (frontOf ready) in cond (readable ready) (cond (leb size room) (done size) (refused ShortPart)) (refused (unreadable ready))
+fittingOf ready room =
+    let size = lengthOf (frontOf ready) in
+    cond (readable ready) (cond (leb size room) (done size) (refused ShortPart)) (refused NoMessage)
 
 -- a message can be read, and there is room for it
 pub record FitsIn (ready : List Held) (room : ℕ) : Type 0 where

@@ -83,7 +83,7 @@ fn copy_first(pool: &[u8], mss: usize, ready: &[u32; 128], k: usize, out: &mut [
     }
 }
 
-// The length of the message at the front; 8 or 9 where none can be read.
+// The length of the message at the front; 9 where none can be read.
 pub fn front_size(ready: &[u32; 128], n: usize) -> Count
     requires { ⌜ (length (now ready) ≡ 128) × (n ≤ 128) ⌝ }
     ensures { λ r. ⌜ countOutcome r ≡ sizeOf (heldIn (now (ready .entry)) n) ⌝ }
@@ -91,9 +91,6 @@ pub fn front_size(ready: &[u32; 128], n: usize) -> Count
     let k = front_count(ready, n);
     if (0 < k) & (k <= n) {
         return Count::Of(total(ready, k));
-    }
-    if n == 128 {
-        return Count::Refused(Refusal::FullUnreadable);
     }
     Count::Refused(Refusal::NoMessage)
 }

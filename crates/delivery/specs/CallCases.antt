@@ -10,7 +10,7 @@ use Rattle.protocol.specs.Protocol.{sendSlots, fragmentsMost}
 use Rattle.protocol.specs.Ranges.{mss, isStream}
 use Rattle.protocol.specs.declared.Settings.{Settings}
 use Rattle.protocol.specs.declared.Refusal.{Refusal}
-use Rattle.protocol.specs.declared.Refusal.the-variants.{ShortPart, LongMessage, NoFreeSlots}
+use Rattle.protocol.specs.declared.Refusal.the-variants.{ShortPart, NoMessage, LongMessage, NoFreeSlots}
 use Rattle.datagram.specs.Datagrams.{Segment, Parsed, parse}
 use Rattle.schedule.specs.Schedules.{updated}
 use Rattle.schedule.specs.declared.Schedule.{Schedule}
@@ -23,7 +23,7 @@ use Rattle.session.specs.Input.{Took, applied, taking, input}
 use Rattle.session.specs.Flushing.{flushing}
 use Rattle.session.specs.Updating.{Updates, waits, flushes, updating}
 use Rattle.session.specs.Calls.{Station, Call, Answer, Stepped, afterSend, afterTakeIn, afterFlush, afterReading, afterUpdate, own}
-use Rattle.session.specs.Reading.{Reads, readable, unreadable, messageSize, message, afterRead, reading}
+use Rattle.session.specs.Reading.{Reads, readable, messageSize, message, afterRead, reading}
 
 -- a half with these settings: its queue filled, and what is left to cut
 abbrev pub filling : Settings → Sending → List ℕ → List ℕ → Filled
@@ -105,10 +105,10 @@ reading-cases P s pool room refused done = go (readable (s .receiving .ready)) (
     result : Reads
     result = record { state = withReceiving s (afterRead (s .receiving)); bytes = message s pool }
 
-    go : (a b : Bool) → P (cond a (cond b (Outcome.done result) (Outcome.refused ShortPart)) (Outcome.refused (unreadable (s .receiving .ready))))
+    go : (a b : Bool) → P (cond a (cond b (Outcome.done result) (Outcome.refused ShortPart)) (Outcome.refused NoMessage))
     go true true = done
     go true false = refused ShortPart
-    go false b = refused (unreadable (s .receiving .ready))
+    go false b = refused NoMessage
 
 -- the schedule after an update at t
 abbrev pub scheduledAt : State → ℕ → Schedule

@@ -18,7 +18,6 @@ use Rattle.protocol.specs.declared.Refusal.the-variants.{
   LongPayload,
   HighFragment,
   ShortPart,
-  FullUnreadable,
   NoMessage,
   LongMessage,
   NoFreeSlots,
@@ -30,14 +29,13 @@ use Rattle.session.specs.Cutting.{fragmentCount}
 use Rattle.session.specs.Calls.{Call, Answer, Event, readAnswers, messagesRead}
 use Rattle.delivery.specs.PlainReceiver.{Plain, atFirst, Found, pushesIn, firstWanted, nextExpected, hear, afterCall, plainAfter, plainAnswers}
 
--- the answer of a real read, as the plain receiver's: 8 and 9 are nothing found, 7 is a buffer that is too short. Any other
+-- the answer of a real read, as the plain receiver's: 9 is nothing found, 7 is a buffer that is too short. Any other
 -- answer is not a read's, and equals none of these
 pub data Seen : Type 0 where
   found : Found → Seen
   other : Seen
 
 abbrev pub seenRefusal : Refusal → Seen
-seenRefusal FullUnreadable = found Found.nothing
 seenRefusal NoMessage = found Found.nothing
 seenRefusal ShortPart = found Found.short
 seenRefusal ShortDatagram = other

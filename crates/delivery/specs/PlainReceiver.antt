@@ -23,7 +23,7 @@ pub record Plain : Type 0 where
 abbrev pub atFirst : Plain
 atFirst = record { heard = []; out = 0 }
 
--- what a read finds: nothing (8 or 9), a buffer that is too short (7), or a message
+-- what a read finds: nothing (9), a buffer that is too short (7), or a message
 pub data Found : Type 0 where
   nothing : Found
   short : Found

@@ -7,20 +7,34 @@ use mathlib.Core.Bool.{Bool, true, false, cond}
 use mathlib.Core.List.{List, [], _∷_, _++_, map, nil≢cons, head-eq-of-cons-eq, tail-eq-of-cons-eq}
 use Prim.Native.Nat.{ℕ, _<_}
 use lib.Dec.{leb, eqb}
-use lib.ListN.{length, take}
+use lib.ListN.{take}
 use borrow.Author.Tests.{eqb-true}
-use Rattle.protocol.specs.Protocol.{push, receiveWindow}
+use Rattle.protocol.specs.Protocol.{push}
 use Rattle.protocol.specs.Ranges.{mss}
 use Rattle.protocol.specs.declared.Settings.{Settings}
 use Rattle.protocol.specs.declared.Refusal.{Refusal}
-use Rattle.protocol.specs.declared.Refusal.the-variants.{ShortDatagram, OtherConversation, LengthPastEnd, UnknownCommand, LongPayload, HighFragment, ShortPart, FullUnreadable, NoMessage, LongMessage, NoFreeSlots, SettingOutOfRange, InvalidBlock, TrailingBytes}
+use Rattle.protocol.specs.declared.Refusal.the-variants.{
+  ShortDatagram,
+  OtherConversation,
+  LengthPastEnd,
+  UnknownCommand,
+  LongPayload,
+  HighFragment,
+  ShortPart,
+  NoMessage,
+  LongMessage,
+  NoFreeSlots,
+  SettingOutOfRange,
+  InvalidBlock,
+  TrailingBytes,
+}
 use Rattle.datagram.specs.Datagrams.{Segment, Parsed}
 use Rattle.timing.specs.Choices.{either-way}
 use Rattle.schedule.specs.Schedules.{updated}
 use Rattle.schedule.specs.declared.Updated.{Updated}
 use Rattle.session.specs.State.{State}
 use Rattle.session.specs.Opening.{opened}
-use Rattle.session.specs.Reading.{frontCount, readable, unreadable, joinedIn, messageSize, message, reading}
+use Rattle.session.specs.Reading.{frontCount, readable, joinedIn, messageSize, message, reading}
 use Rattle.session.specs.Input.{Receiver}
 use Rattle.session.specs.Calls.{Station, Call, Answer, own, messagesRead}
 use Rattle.session.specs.Decides.{All}
@@ -38,13 +52,6 @@ use Rattle.delivery.specs.ReceivePool.{waitingHeld, received, listedIn, 
 use Rattle.delivery.specs.ReceivingLaws.{ReceivingInOrder, receiverOf, good-in, receiverTakes, receiverReads, receiverAfter, own-receiver, receiving-stays, opened-receiving}
 
 -- ---- a read's answer
-
-seen-unreadable : (s : Station) → seen (Answer.refused (unreadable (s .state .receiving .ready))) ≡ found Found.nothing
-seen-unreadable s = go (eqb (length (s .state .receiving .ready)) receiveWindow)
-  where
-    go : (b : Bool) → seenRefusal (cond b FullUnreadable NoMessage) ≡ found Found.nothing
-    go true = refl
-    go false = refl
 
 -- what the lists give, by the entries
 abbrev entriesGive : ℕ → Receiver → ℕ → Found
@@ -71,7 +78,7 @@ read-found s room g =
         → seen (own s (Call.read room) .answer) ≡ found (entriesGive (mss (s .state .settings)) (receiverOf s) room)
     go true e true f = rw (e, f)
     go true e false f = rw (e, f)
-    go false e b f = rw e (seen-unreadable s)
+    go false e b f = rw e
 
 -- and it leaves the lists as those leave them
 reads-listed : (m : ℕ) (x : Receiver) (room : ℕ) → Good m x
@@ -196,7 +203,6 @@ none-refused UnknownCommand = refl
 none-refused LongPayload = refl
 none-refused HighFragment = refl
 none-refused ShortPart = refl
-none-refused FullUnreadable = refl
 none-refused NoMessage = refl
 none-refused LongMessage = refl
 none-refused NoFreeSlots = refl

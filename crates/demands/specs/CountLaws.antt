@@ -1,4 +1,5 @@
--- How much a call can count, from its promise alone: the datagrams of a flush, the bytes of a message, the place of a segment in the receive pool.
+-- How much a call can count, from its promise alone: the datagrams of a flush, the bytes of a message, the place of a segment in the
+-- receive pool; and how many segments are ready where no message can be read.
 -- It holds of every block and all lent parts: a count is given only of a block that passed 13.
 -- Assumes nothing.
 use mathlib.Core.Path.{_≡_, refl, sym, _∙_, subst}
@@ -8,23 +9,40 @@ use Prim.Native.Nat.{ℕ, zero, suc, _+_, _-_, _*_, _≤_, _<_, zero-le}
 use native.Mathlib.Nat.{mul-le-mul-right}
 use native.Mathlib.Omega.{arith}
 use lib.Dec.{leb}
-use lib.ListN.{length, take}
-use Rattle.protocol.specs.Protocol.{headerSize, mtuMost, fragmentMost, fragmentsMost, receiveSlots, lengthsLeast}
+use lib.ListN.{length, take, length-map}
+use lib.Seq.{length-take-le}
+use Rattle.protocol.specs.Protocol.{headerSize, mtuMost, fragmentMost, fragmentsMost, receiveSlots, receiveWindow, lengthsLeast}
 use Rattle.protocol.specs.Ranges.{mss}
 use Rattle.protocol.specs.declared.Settings.{Settings}
-use Rattle.protocol.specs.declared.Refusal.the-variants.{ShortPart}
+use Rattle.protocol.specs.declared.Refusal.the-variants.{ShortPart, NoMessage}
 use Rattle.sizes.specs.Sizes.{enough, enoughToFlush}
 use Rattle.lists.specs.declared.Held.{Held}
 use Rattle.session.specs.State.{State, Outcome, refused, done, withReceiving, withSchedule}
 use Rattle.session.specs.Valid.{valid}
 use Rattle.session.specs.Flushing.{Flushed}
-use Rattle.session.specs.Reading.{Reads, Part, readable, unreadable, frontCount, frontPart, lengthOf, messageSize, message, afterRead, reading, telling, showing}
+use Rattle.session.specs.Reading.{
+  Reads,
+  Part,
+  readable,
+  frontCount,
+  frontPart,
+  lengthOf,
+  messageSize,
+  message,
+  afterRead,
+  reading,
+  telling,
+  showing,
+}
 use Rattle.session.specs.Updating.{Updates}
 use Rattle.session.specs.Decides.{All, and-parts}
 use Rattle.session.specs.AllLaws.{all-left}
 use Rattle.session.specs.IsValid.{IsValid, valid-decides}
+use Rattle.session.specs.ReadyLaws.{ready-below-window}
+use Rattle.words.specs.Words.{unpack, heldIn}
 use Rattle.control.specs.declared.Link.{Link}
-use Rattle.control.specs.Views.{stateOf, countsFit, blockValid}
+use Rattle.control.specs.Views.{arraysOf, Whole, stateOf, countsFit, blockValid}
+use Rattle.control.specs.ViewLaws.{counts}
 use Rattle.answers.specs.declared.Count.{Count}
 use Rattle.answers.specs.declared.Count.the-variants as count
 use Rattle.answers.specs.declared.Update.the-variants as update
@@ -102,7 +120,9 @@ module _ (s : State) (v : IsValid s) where
     where
       go : (a b : Bool)
           → OfResult (λ (x : Reads). MessageFits (s .settings) (length (x .bytes)))
-          (cond a (cond b (done (record { state = withReceiving s (afterRead (s .receiving)); bytes = message s pool })) (refused ShortPart)) (refused (unreadable ready)))
+          (cond a
+          (cond b (done (record { state = withReceiving s (afterRead (s .receiving)); bytes = message s pool })) (refused ShortPart))
+          (refused NoMessage))
       go true true = message-fits (length (message s pool)) (message-short s pool)
       go true false = tt
       go false b = tt
@@ -111,7 +131,7 @@ module _ (s : State) (v : IsValid s) where
   unfolding telling
   telling-fits = go (readable ready)
     where
-      go : (a : Bool) → OfResult (MessageFits (s .settings)) (cond a (done (messageSize (s .receiving))) (refused (unreadable ready)))
+      go : (a : Bool) → OfResult (MessageFits (s .settings)) (cond a (done (messageSize (s .receiving))) (refused NoMessage))
       go true = message-fits (messageSize (s .receiving)) (omega arith)
       go false = tt
 
@@ -134,7 +154,7 @@ showing-fits s v = go (readable (s .receiving .ready))
     fits [] a b = record { count = zero-le; within = zero-le; payload = omega (arith, v .settings .mtu-most) }
     fits (h ∷ l) a b = record { count = a .0; within = omega (arith, a .0, mul-le-mul-right m (b .0)); payload = omega (arith, v .settings .mtu-most) }
 
-    go : (b : Bool) → OfResult (PlaceFits (s .settings)) (cond b (done (frontPart m (s .receiving .ready))) (refused (unreadable (s .receiving .ready))))
+    go : (b : Bool) → OfResult (PlaceFits (s .settings)) (cond b (done (frontPart m (s .receiving .ready))) (refused NoMessage))
     go true = fits (s .receiving .ready) (short s v) (low s v)
     go false = tt
 
@@ -211,3 +231,31 @@ module _ {l : Link} {p : Parts} {n : ℕ} where
 
   pub size-counts : SizePromise l p (count.Of n) → MessageFits (l .settings) n
   size-counts h = subst (OfResult (MessageFits (l .settings))) (sym (h .answer)) (tells-fit l p)
+
+-- ---- segments ready where no message can be read, of a block whose arrays are as long as their types say
+
+module _ (l : Link) (p : Parts) (whole : Whole (arraysOf l)) where
+  -- on a block that passes 13: fewer than 128
+  pub block-below-window : isMade l p ≡ true → readable (stateIn l p .receiving .ready) ≡ false → l .arrival .ready < receiveWindow
+  unfolding stateOf blockValid countsFit
+  block-below-window made e =
+      let c = counts (l .flight) (l .arrival) (and-parts _ _ made .0) in
+      let n : length (heldIn (l .ready) (l .arrival .ready)) ≡ l .arrival .ready =
+      length-map (take (l .arrival .ready) (l .ready)) unpack
+      ∙ length-take-le (l .arrival .ready) (l .ready) (omega (arith, c .ready, whole .whole-ready)) in
+      omega (arith, n, ready-below-window (stateIn l p) (is-valid l p made) e)
+
+  -- where the size of the next message is refused with 9, the block passes 13, and that holds of it
+  pub nine-below-window : SizePromise l p (count.Refused NoMessage) → (isMade l p ≡ true) × (l .arrival .ready < receiveWindow)
+  unfolding tellsWith telling stateOf
+  nine-below-window h = go (enough (mss (l .settings)) (lengthsOf p)) (isMade l p) refl (h .answer)
+    where
+      unread : (o : Bool) → refused NoMessage ≡ cond o (done (messageSize (stateIn l p .receiving))) (refused NoMessage) → o ≡ false
+      unread true t = absurd (let z : _≡_ {A = ℕ} 0 1 = cc in omega arith)
+      unread false t = refl
+
+      go : (long made : Bool) → isMade l p ≡ made → refused NoMessage ≡ checked long made (telling (stateIn l p))
+          → (isMade l p ≡ true) × (l .arrival .ready < receiveWindow)
+      go false made e t = absurd (let z : _≡_ {A = ℕ} 0 1 = cc in omega arith)
+      go true false e t = absurd (let z : _≡_ {A = ℕ} 0 1 = cc in omega arith)
+      go true true e t = (e, block-below-window e (unread (readable (stateIn l p .receiving .ready)) t))

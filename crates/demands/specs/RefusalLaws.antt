@@ -8,10 +8,21 @@ use native.Mathlib.Omega.{arith}
 use lib.Dec.{leb, ltb, eqb}
 use lib.ListN.{length}
 use borrow.Author.Tests.{leb-false, not-true}
-use Rattle.protocol.specs.Protocol.{push, windowTell, headerSize, fragmentMost, sendSlots, fragmentsMost, receiveWindow}
+use Rattle.protocol.specs.Protocol.{push, windowTell, headerSize, fragmentMost, sendSlots, fragmentsMost}
 use Rattle.protocol.specs.Ranges.{mss}
 use Rattle.protocol.specs.Refusals.{numberOf}
-use Rattle.protocol.specs.declared.Refusal.the-variants.{ShortPart, ShortDatagram, OtherConversation, LengthPastEnd, UnknownCommand, LongPayload, HighFragment, FullUnreadable, NoMessage, LongMessage, NoFreeSlots}
+use Rattle.protocol.specs.declared.Refusal.the-variants.{
+  ShortPart,
+  ShortDatagram,
+  OtherConversation,
+  LengthPastEnd,
+  UnknownCommand,
+  LongPayload,
+  HighFragment,
+  NoMessage,
+  LongMessage,
+  NoFreeSlots,
+}
 use Rattle.wire.specs.Headers.{decode}
 use Rattle.wire.specs.declared.Header.{Header}
 use Rattle.datagram.specs.declared.Verdict.{Verdict}
@@ -20,7 +31,7 @@ use Rattle.datagram.specs.Datagrams.{Segment, ofPush, verdict, segmentOf, Parse
 use Rattle.session.specs.State.{State, Outcome, sendHeld, slots, withReceiving}
 use Rattle.session.specs.Sending.{Sends, sending}
 use Rattle.session.specs.Input.{Took, taking, input}
-use Rattle.session.specs.Reading.{Reads, readable, unreadable, messageSize, message, afterRead, reading, telling}
+use Rattle.session.specs.Reading.{Reads, readable, messageSize, message, afterRead, reading, telling}
 use Rattle.session.specs.Updating.{Updates}
 use Rattle.session.specs.Calls.{Station, Call, Answer, afterSend, afterTakeIn, afterReading, afterUpdate, own}
 use Rattle.session.specs.Decides.{and-parts}
@@ -114,7 +125,7 @@ sending-clear s pool m =
     go false true = refl
     go false false = tt
 
--- ---- a read: 8 and 9, and 7 for its buffer
+-- ---- a read: 9, and 7 for its buffer
 
 -- the size of the message at the front is told, and the buffer is shorter
 abbrev pub Short : State → ℕ → Type 0
@@ -125,10 +136,6 @@ abbrev ClearRead : State → ℕ → Outcome Reads → Type 0
 ClearRead s room (Outcome.refused r) = (eqb (numberOf r) 13 ≡ false) × (numberOf r ≡ 7 → Short s room)
 ClearRead s room (Outcome.done x) = Unit {0}
 
-unreadable-clear : (s : State) (room : ℕ) (full : Bool) → ClearRead s room (Outcome.refused (cond full FullUnreadable NoMessage))
-unreadable-clear s room true = (refl, λ e. absurd (omega arith))
-unreadable-clear s room false = (refl, λ e. absurd (omega arith))
-
 reading-clear : (s : State) (pool : List ℕ) (room : ℕ) → ClearRead s room (reading s pool room)
 unfolding reading telling
 reading-clear s pool room = go (readable (s .receiving .ready)) refl (leb (messageSize (s .receiving)) room) refl
@@ -137,10 +144,10 @@ reading-clear s pool room = go (readable (s .receiving .ready)) refl (leb (messa
     result = Outcome.done (record { state = withReceiving s (afterRead (s .receiving)); bytes = message s pool })
 
     go : (a : Bool) → readable (s .receiving .ready) ≡ a → (b : Bool) → leb (messageSize (s .receiving)) room ≡ b
-        → ClearRead s room (cond a (cond b result (Outcome.refused ShortPart)) (Outcome.refused (unreadable (s .receiving .ready))))
+        → ClearRead s room (cond a (cond b result (Outcome.refused ShortPart)) (Outcome.refused NoMessage))
     go true e true f = tt
     go true e false f = (refl, λ n. (rw e, leb-false (messageSize (s .receiving)) room f))
-    go false e b f = unreadable-clear s room (eqb (length (s .receiving .ready)) receiveWindow)
+    go false e b f = (refl, λ n. absurd (omega arith))
 
 -- ---- answers
 

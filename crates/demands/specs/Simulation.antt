@@ -11,7 +11,7 @@ use borrow.Author.Tests.{leb-true, le-leb}
 use Rattle.protocol.specs.Protocol.{outputLeast, lengthsLeast}
 use Rattle.protocol.specs.Ranges.{inRange, mss}
 use Rattle.protocol.specs.declared.Settings.{Settings}
-use Rattle.protocol.specs.declared.Refusal.the-variants.{ShortPart}
+use Rattle.protocol.specs.declared.Refusal.the-variants.{ShortPart, NoMessage}
 use Rattle.sizes.specs.Sizes.{enough, enoughToFlush}
 use Rattle.sizes.specs.declared.Lengths.{Lengths}
 use Rattle.schedule.specs.declared.Schedule.{Schedule}
@@ -20,7 +20,7 @@ use Rattle.session.specs.Valid.{valid}
 use Rattle.session.specs.Sending.{Sends, sending}
 use Rattle.session.specs.Input.{Took, input}
 use Rattle.session.specs.Flushing.{Flushed, flushing, bytesOfSegments}
-use Rattle.session.specs.Reading.{Reads, readable, unreadable, messageSize, message, afterRead, reading}
+use Rattle.session.specs.Reading.{Reads, readable, messageSize, message, afterRead, reading}
 use Rattle.session.specs.Updating.{Updates, updating, checking}
 use Rattle.session.specs.Calls.{Call, Answer, Stepped, afterSend, afterTakeIn, afterFlush, afterReading, afterUpdate, own, step}
 use Rattle.control.specs.Views.{stateOf, countsFit, blockValid}
@@ -91,7 +91,12 @@ unfolding reading
 reading-fits s pool room = go (readable (s .receiving .ready)) (leb (messageSize (s .receiving)) room) refl
   where
     go : (a b : Bool) → leb (messageSize (s .receiving)) room ≡ b
-        → ReadFits room (cond a (cond b (Outcome.done (record { state = withReceiving s (afterRead (s .receiving)); bytes = message s pool })) (Outcome.refused ShortPart)) (Outcome.refused (unreadable (s .receiving .ready))))
+        → ReadFits room
+        (cond a
+        (cond b
+        (Outcome.done (record { state = withReceiving s (afterRead (s .receiving)); bytes = message s pool }))
+        (Outcome.refused ShortPart))
+        (Outcome.refused NoMessage))
     go true true f = omega (arith, message-short s pool, leb-true (messageSize (s .receiving)) room f)
     go true false f = tt
     go false b f = tt

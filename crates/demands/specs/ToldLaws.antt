@@ -12,14 +12,26 @@ use lib.Seq.{sets, sets-eq, length-take-le}
 use borrow.Author.Tests.{leb-true}
 use Rattle.protocol.specs.Protocol.{sendSlots, receiveSlots, acksMost}
 use Rattle.protocol.specs.Ranges.{mss}
-use Rattle.protocol.specs.declared.Refusal.the-variants.{ShortPart, InvalidBlock}
+use Rattle.protocol.specs.declared.Refusal.the-variants.{ShortPart, NoMessage, InvalidBlock}
 use Rattle.protocol.specs.declared.Refusal.{Refusal}
 use Rattle.sizes.specs.Sizes.{enough}
 use Rattle.sizes.specs.declared.Lengths.{Lengths}
 use Rattle.lists.specs.declared.Held.{Held}
 use Rattle.session.specs.State.{State, Outcome, refused, done, withReceiving}
 use Rattle.session.specs.Input.{Took, input}
-use Rattle.session.specs.Reading.{Reads, readable, unreadable, frontCount, payloadIn, joinedIn, lengthOf, messageSize, message, afterRead, reading, telling}
+use Rattle.session.specs.Reading.{
+  Reads,
+  readable,
+  frontCount,
+  payloadIn,
+  joinedIn,
+  lengthOf,
+  messageSize,
+  message,
+  afterRead,
+  reading,
+  telling,
+}
 use Rattle.session.specs.Decides.{All, and-parts}
 use Rattle.session.specs.IsValid.{IsValid}
 use Rattle.control.specs.declared.Link.{Link}
@@ -78,9 +90,11 @@ unfolding telling reading
 own-read s v pool room long a b = go (readable (s .receiving .ready)) (leb (messageSize (s .receiving)) room) refl a
   where
     go : (r f : Bool) → leb (messageSize (s .receiving)) room ≡ f → (a : Count)
-        → countOutcome a ≡ cond r (done (messageSize (s .receiving))) (refused (unreadable (s .receiving .ready)))
+        → countOutcome a ≡ cond r (done (messageSize (s .receiving))) (refused NoMessage)
         → Counts (λ (x : Reads). length (x .bytes)) b
-        (cond r (cond f (done (record { state = withReceiving s (afterRead (s .receiving)); bytes = message s pool })) (refused ShortPart)) (refused (unreadable (s .receiving .ready))))
+        (cond r
+        (cond f (done (record { state = withReceiving s (afterRead (s .receiving)); bytes = message s pool })) (refused ShortPart))
+        (refused NoMessage))
         → b ≡ readAs a room
     go true true e (count.Of n) t q =
         let m : n ≡ messageSize (s .receiving) = cc in

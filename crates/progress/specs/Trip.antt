@@ -9,13 +9,12 @@ use mathlib.Core.List.{List, [], _∷_, _++_, List·Memᴰ, List·Memᴰ·head, 
 use Prim.Native.Nat.{ℕ, _+_, _^_, _≤_, _<_}
 use native.Mathlib.Nat.{le-refl}
 use native.Mathlib.Omega.{arith}
-use borrow.Author.Tests.{ltb-true, ltb-false, lt-ltb, le-ltb, le-leb, eqb-true}
+use borrow.Author.Tests.{ltb-true, ltb-false, lt-ltb, le-ltb, eqb-true}
 use lib.Dec.{leb, ltb, eqb}
 use lib.ListN.{length}
-use Rattle.protocol.specs.Protocol.{push, receiveWindow, fragmentMost}
+use Rattle.protocol.specs.Protocol.{push, receiveWindow}
 use Rattle.protocol.specs.Ranges.{inRange, mss}
 use Rattle.protocol.specs.declared.Settings.{Settings}
-use Rattle.protocol.specs.declared.Refusal.{Refusal}
 use Rattle.protocol.specs.declared.Refusal.the-variants.{ShortPart, NoMessage}
 use Rattle.wire.specs.LittleEndian.{AllBytes}
 use Rattle.datagram.specs.Datagrams.{Segment, Parsed, parse}
@@ -28,12 +27,13 @@ use Rattle.session.specs.Slots.{occurs}
 use Rattle.session.specs.State.{State, Sending, Receiving, Outcome, withReceiving, withSchedule}
 use Rattle.session.specs.Input.{Receiver, allBySending, allByReceiving, ackNumbers, skippedByAll, applied, input}
 use Rattle.session.specs.Flushing.{flushing}
-use Rattle.session.specs.Reading.{Reads, readable, unreadable, messageSize, message, afterRead, reading}
+use Rattle.session.specs.Reading.{Reads, readable, messageSize, message, afterRead, reading}
 use Rattle.session.specs.Calls.{Station, Call, Answer, Stepped, afterTakeIn, afterFlush, afterReading, own, datagramsIn}
 use Rattle.session.specs.Decides.{All}
-use Rattle.session.specs.AllLaws.{all-left, all-weaker}
+use Rattle.session.specs.AllLaws.{all-weaker}
 use Rattle.session.specs.Ascending.{Ascends, ascending-ascends}
 use Rattle.session.specs.ReceivingValid.{ReceivingIsValid, StartsAt, receiving-decides}
+use Rattle.session.specs.ReadyLaws.{half-below-window}
 use Rattle.session.specs.SendOrder.{Numbers}
 use Rattle.delivery.specs.Hearing.{CallFits, FewPushes}
 use Rattle.delivery.specs.PlainReceiver.{pushNumbers, pushesIn}
@@ -152,26 +152,11 @@ pub record Nine (r : Receiving) : Type 0 where
   pub unread : readable (r .ready) ≡ false
   pub few : length (r .ready) < receiveWindow
 
--- 128 that are ready can be read: the front fragment number is at most 126
-full-readable : (l : List Held) → All (λ (h : Held). h .fragment ≤ fragmentMost) l → receiveWindow ≤ length l → readable l ≡ true
-full-readable [] a h = absurd (omega arith)
-full-readable (x ∷ l) a h = le-leb (x .fragment + 1) (length (x ∷ l)) (omega (arith, a .0))
-
-unread-nine : (c : Settings) (r : Receiving) → ReceivingIsValid c r → readable (r .ready) ≡ false → Nine r
-unread-nine c r v e = record { unread = e; few = go (ltb (length (r .ready)) receiveWindow) refl }
-  where
-    fragments : All (λ (h : Held). h .fragment ≤ fragmentMost) (r .ready)
-    fragments = all-left (λ (h : Held). h .fragment ≤ fragmentMost) (r .ready) _ (v .fragments)
-
-    go : (b : Bool) → ltb (length (r .ready)) receiveWindow ≡ b → length (r .ready) < receiveWindow
-    go true q = ltb-true (length (r .ready)) receiveWindow q
-    go false q = absurd (false≢true (sym e ∙ full-readable (r .ready) fragments (ltb-false (length (r .ready)) receiveWindow q)))
-
 -- a read that gives 9
 pub nine-given : (c : Settings) (s : Station) (room : ℕ) → ReceivingIsValid c (s .state .receiving)
     → own s (Call.read room) .answer ≡ Answer.refused NoMessage → Nine (own s (Call.read room) .station .state .receiving)
 unfolding reading
-nine-given c s room v = go (readable r) refl (leb (messageSize (s .state .receiving)) room) (unreadable r)
+nine-given c s room v = go (readable r) refl (leb (messageSize (s .state .receiving)) room)
   where
     r : List Held
     r = s .state .receiving .ready
@@ -179,14 +164,14 @@ nine-given c s room v = go (readable r) refl (leb (messageSize (s .state .receiv
     result : Reads
     result = record { state = withReceiving (s .state) (afterRead (s .state .receiving)); bytes = message (s .state) (s .receivePool) }
 
-    y : Bool → Bool → Refusal → Stepped
-    y a b f = afterReading s (cond a (cond b (Outcome.done result) (Outcome.refused ShortPart)) (Outcome.refused f))
+    y : Bool → Bool → Stepped
+    y a b = afterReading s (cond a (cond b (Outcome.done result) (Outcome.refused ShortPart)) (Outcome.refused NoMessage))
 
-    go : (a : Bool) → readable r ≡ a → (b : Bool) (f : Refusal) → y a b f .answer ≡ Answer.refused NoMessage
-        → Nine (y a b f .station .state .receiving)
-    go true p true f h = absurd (let z : _≡_ {A = ℕ} 0 1 = cc in omega arith)
-    go true p false f h = absurd (let z : _≡_ {A = ℕ} 0 1 = cc in omega arith)
-    go false p b f h = unread-nine c (s .state .receiving) v p
+    go : (a : Bool) → readable r ≡ a → (b : Bool) → y a b .answer ≡ Answer.refused NoMessage
+        → Nine (y a b .station .state .receiving)
+    go true p true h = absurd (let z : _≡_ {A = ℕ} 0 1 = cc in omega arith)
+    go true p false h = absurd (let z : _≡_ {A = ℕ} 0 1 = cc in omega arith)
+    go false p b h = record { unread = p; few = half-below-window c (s .state .receiving) v p }
 
 -- it stays so while nothing is taken in
 pub nine-stays : (s : Station) (x : Call) → TakesOneOf [] x → Nine (s .state .receiving) → Nine (own s x .station .state .receiving)

@@ -5,10 +5,11 @@ use mathlib.Core.Bool.{cond}
 use mathlib.Core.List.{List}
 use Prim.Native.Nat.{ℕ}
 use lib.ListN.{length, take}
+use Rattle.protocol.specs.declared.Refusal.the-variants.{NoMessage}
 use Rattle.lists.specs.declared.Held.{Held}
 use Rattle.session.specs.State.{Outcome, refused, done}
 use Rattle.session.specs.Flushing.{Flushed}
-use Rattle.session.specs.Reading.{readable, unreadable, frontCount, lengthOf}
+use Rattle.session.specs.Reading.{readable, frontCount, lengthOf}
 use Rattle.session.specs.Updating.{Updates, waits, flushes}
 use Rattle.answers.specs.declared.Answer.{Answer}
 use Rattle.answers.specs.declared.Answer.the-variants as answer
@@ -47,4 +48,4 @@ timeOutcome (time.Refused r) = refused r
 
 -- the size of the message at the front of what is ready
 unfoldable pub sizeOf : List Held → Outcome ℕ
-sizeOf ready = cond (readable ready) (done (lengthOf (take (frontCount ready) ready))) (refused (unreadable ready))
+sizeOf ready = cond (readable ready) (done (lengthOf (take (frontCount ready) ready))) (refused NoMessage)

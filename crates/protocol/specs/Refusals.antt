@@ -10,7 +10,6 @@ use Rattle.protocol.specs.declared.Refusal.the-variants.{
   LongPayload,
   HighFragment,
   ShortPart,
-  FullUnreadable,
   NoMessage,
   LongMessage,
   NoFreeSlots,
@@ -34,9 +33,7 @@ numberOf LongPayload = 5
 numberOf HighFragment = 6
 -- a lent part is shorter than stated, or the read buffer is shorter than the message
 numberOf ShortPart = 7
--- 128 segments are ready and no message can be read
-numberOf FullUnreadable = 8
--- no message can be read, fewer than 128 ready
+-- no message can be read; number 8 is not used
 numberOf NoMessage = 9
 -- message above 127 x mss bytes
 numberOf LongMessage = 10

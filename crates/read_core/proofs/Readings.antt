@@ -9,11 +9,11 @@ use lib.Dec.{leb}
 use lib.ListN.{length}
 use Rattle.protocol.specs.Ranges.{mss}
 use Rattle.protocol.specs.declared.Refusal.{Refusal}
-use Rattle.protocol.specs.declared.Refusal.the-variants.{ShortPart}
+use Rattle.protocol.specs.declared.Refusal.the-variants.{ShortPart, NoMessage}
 use Rattle.protocol.specs.declared.Settings.{Settings}
 use Rattle.timing.specs.declared.Record.{Record}
 use Rattle.session.specs.State.{State, Outcome, refused, done, withReceiving}
-use Rattle.session.specs.Reading.{Reads, reading, telling, readable, unreadable, frontCount, lengthOf, message, messageSize, afterRead}
+use Rattle.session.specs.Reading.{Reads, reading, telling, readable, frontCount, lengthOf, message, messageSize, afterRead}
 use Rattle.words.specs.Words.{heldIn}
 use Rattle.answers.specs.declared.Count.{Count}
 use Rattle.answers.specs.declared.Count.the-variants.{Of, Refused}
@@ -46,8 +46,8 @@ unfolding fittingOf reading messageSize
 read-by s pool room = go (readable (s .receiving .ready)) (leb (lengthOf (frontOf (s .receiving .ready))) room)
   where
     go : (a b : Bool)
-        → readBy s pool (cond a (cond b (done (lengthOf (frontOf (s .receiving .ready)))) (refused ShortPart)) (refused (unreadable (s .receiving .ready))))
-        ≡ cond a (cond b (done (readsOf s pool)) (refused ShortPart)) (refused (unreadable (s .receiving .ready)))
+        → readBy s pool (cond a (cond b (done (lengthOf (frontOf (s .receiving .ready)))) (refused ShortPart)) (refused NoMessage))
+        ≡ cond a (cond b (done (readsOf s pool)) (refused ShortPart)) (refused NoMessage)
     go true true = refl
     go true false = refl
     go false b = refl

@@ -4,14 +4,15 @@ use mathlib.Core.Path.{_≡_}
 use mathlib.Core.Bool.{cond}
 use mathlib.Core.List.{List}
 use Prim.Native.Nat.{ℕ, _+_, _≤_}
+use Rattle.protocol.specs.declared.Refusal.the-variants.{NoMessage}
 use Rattle.lists.specs.declared.Held.{Held}
 use Rattle.session.specs.State.{Outcome, refused, done}
-use Rattle.session.specs.Reading.{Part, readable, unreadable, frontPart}
+use Rattle.session.specs.Reading.{Part, readable, frontPart}
 use Rattle.read_core.specs.declared.Place.{Place}
 
--- showing, of the ready segments: checks 8 or 9
+-- showing, of the ready segments: checks 9
 unfoldable pub frontOutcome : ℕ → List Held → Outcome Part
-frontOutcome m ready = cond (readable ready) (done (frontPart m ready)) (refused (unreadable ready))
+frontOutcome m ready = cond (readable ready) (done (frontPart m ready)) (refused NoMessage)
 
 -- the numbers of this part, which ends within so many bytes
 pub record PlaceIs (p : Part) (size : ℕ) (r : Place) : Type 0 where

@@ -67,7 +67,7 @@ fn read_message(
     }
 }
 
-// Reading checks 7, 13, then 8 or 9, then 7 for the message buffer. `table` is the length of the lent table.
+// Reading checks 7, 13, then 9, then 7 for the message buffer. `table` is the length of the lent table.
 pub fn read(
     settings: Settings,
     flight: Flight,
@@ -145,7 +145,7 @@ pub fn read(
     }
 }
 
-// Telling the size of the message at the front checks 7, 13, then 8 or 9. `table` is the length of the lent table.
+// Telling the size of the message at the front checks 7, 13, then 9. `table` is the length of the lent table.
 pub fn size(
     settings: Settings,
     flight: Flight,
@@ -220,7 +220,7 @@ fn front_place(mss: usize, ready: &[u32; 128], n: usize) -> Place
     }
 }
 
-// Where the part that `show` gives lies in the receive pool: showing checks 7, 13, then 8 or 9, and gives 0 and 0 where it
+// Where the part that `show` gives lies in the receive pool: showing checks 7, 13, then 9, and gives 0 and 0 where it
 // is refused. `table` is the length of the lent table.
 pub fn locate(
     settings: Settings,

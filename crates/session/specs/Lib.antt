@@ -20,6 +20,7 @@ pub mod Updating
 pub mod Calls
 pub mod Marked
 pub mod IsValid
+pub mod ReadyLaws
 pub mod LooksRight
 pub mod StreamCases
 pub mod CongestionCases

@@ -7,8 +7,7 @@ use lib.Dec.{leb, ltb, eqb}
 use lib.ListN.{length, take, drop}
 use Rattle.protocol.specs.Protocol.{receiveWindow}
 use Rattle.protocol.specs.Ranges.{mss}
-use Rattle.protocol.specs.declared.Refusal.{Refusal}
-use Rattle.protocol.specs.declared.Refusal.the-variants.{ShortPart, FullUnreadable, NoMessage}
+use Rattle.protocol.specs.declared.Refusal.the-variants.{ShortPart, NoMessage}
 use Rattle.lists.specs.declared.Held.{Held}
 use Rattle.session.specs.Input.{movedUp}
 use Rattle.session.specs.State.{State, Receiving, Outcome, refused, done, withLists, withNotes, withReceiving}
@@ -22,10 +21,6 @@ frontCount (h ∷ l) = h .fragment + 1
 abbrev pub readable : List Held → Bool
 readable [] = false
 readable (h ∷ l) = leb (h .fragment + 1) (length (h ∷ l))
-
--- 8 where 128 segments are ready and no message can be read, 9 where fewer are
-abbrev pub unreadable : List Held → Refusal
-unreadable ready = cond (eqb (length ready) receiveWindow) FullUnreadable NoMessage
 
 -- a segment's payload, as the part of the receive pool from slot x mss on
 abbrev pub payloadIn : ℕ → List ℕ → Held → List ℕ
@@ -59,7 +54,7 @@ pub record Reads : Type 0 where
   pub state : State
   pub bytes : List ℕ
 
--- reading checks 8 or 9, then 7 for the message buffer
+-- reading checks 9, then 7 for the message buffer
 unfoldable pub reading : State → List ℕ → ℕ → Outcome Reads
 reading s pool room =
     let ready = s .receiving .ready in
@@ -67,11 +62,11 @@ reading s pool room =
     (cond (leb (messageSize (s .receiving)) room)
     (done (record { state = withReceiving s (afterRead (s .receiving)); bytes = message s pool }))
     (refused ShortPart))
-    (refused (unreadable ready))
+    (refused NoMessage)
 
 -- telling the size
 unfoldable pub telling : State → Outcome ℕ
-telling s = cond (readable (s .receiving .ready)) (done (messageSize (s .receiving))) (refused (unreadable (s .receiving .ready)))
+telling s = cond (readable (s .receiving .ready)) (done (messageSize (s .receiving))) (refused NoMessage)
 
 -- a part of the receive pool: where it starts, and its length
 pub record Part : Type 0 where
@@ -84,4 +79,4 @@ frontPart m (h ∷ l) = record { start = h .slot * m; count = h .len }
 
 -- showing gives the front segment's payload as the very part of the receive pool that holds it
 unfoldable pub showing : State → Outcome Part
-showing s = cond (readable (s .receiving .ready)) (done (frontPart (mss (s .settings)) (s .receiving .ready))) (refused (unreadable (s .receiving .ready)))
+showing s = cond (readable (s .receiving .ready)) (done (frontPart (mss (s .settings)) (s .receiving .ready))) (refused NoMessage)

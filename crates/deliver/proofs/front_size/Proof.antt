@@ -1,13 +1,12 @@
--- `front_size`: the length of the message where all its segments are ready, else which refusal it is.
+-- `front_size`: the length of the message where all its segments are ready, else 9.
 -- Assumes nothing.
-use mathlib.Core.Path.{sym, ap, _∙_}
+use mathlib.Core.Path.{ap, _∙_}
 use native.Mathlib.Omega.{arith}
 use borrow.Author.Needs.{needs}
 use Rattle.session.specs.Reading.{lengthOf}
 use Rattle.words.specs.Words.{heldIn}
-use Rattle.arriving.proofs.Views.{held-length}
 use Rattle.deliver.proofs.Fronts.{readable-is, tested-within, message-words}
-use Rattle.deliver.proofs.Sizes.{front-readable, front-full, front-none}
+use Rattle.deliver.proofs.Sizes.{front-readable, front-none}
 use Rattle.deliver.proofs.front_size.Statement.{statement}
 use Rattle.deliver.proofs.front_size.Tie as tie
 
@@ -25,17 +24,10 @@ returns c =
 
 returns-2 : tie.Need-returns-2
 returns-2 c =
-    let s = c .before .before .before in
+    let s = c .before .before in
     let w = s .args .ready .now in
     let n = s .args .n in
-    front-full (heldIn w n) _ (readable-is w n _ (omega (arith, s .pre)) (c .before .before .front-count .ensures)) n (sym (held-length w n (omega (arith, s .pre)))) (c .before .if1 .left) (c .if2 .taken)
-
-returns-3 : tie.Need-returns-3
-returns-3 c =
-    let s = c .before .before .before in
-    let w = s .args .ready .now in
-    let n = s .args .n in
-    front-none (heldIn w n) _ (readable-is w n _ (omega (arith, s .pre)) (c .before .before .front-count .ensures)) n (sym (held-length w n (omega (arith, s .pre)))) (c .before .if1 .left) (c .if2 .left)
+    front-none (heldIn w n) _ (readable-is w n _ (omega (arith, s .pre)) (c .before .front-count .ensures)) (c .if1 .left)
 
 pub front-size-spec : {M : Type 1} → statement M
-front-size-spec = tie.close (tie.spec (λ c κs. search needs) total-requires returns returns-2 returns-3)
+front-size-spec = tie.close (tie.spec (λ c κs. search needs) total-requires returns returns-2)
