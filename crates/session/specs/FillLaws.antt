@@ -62,7 +62,7 @@ module _ (m : ℕ) (q : List Held) (pool b : List ℕ) where
 
   -- the pool keeps its length
   pub filled-length : (stream : Bool) → length (filled stream m q pool b .pool) ≡ length pool
-  filled-length = filled-cases (λ (f : Filled). length (f .pool) ≡ length pool) refl (λ x l e. length-sets pool (x .slot * m + x .len) (take (min (length b) (m - x .len)) b))
+  filled-length = filled-cases (λ (f : Filled). length (f .pool) ≡ length pool) refl (λ x l e. simp length-sets)
 
   -- the bytes left are those behind the filled ones
   pub filled-rest : (stream : Bool) → filled stream m q pool b .rest ≡ drop (min (length b) (roomOf stream m q)) b
