@@ -22,7 +22,7 @@ use Rattle.session.specs.Sending.{Placed, place, Filled, filled, Sends, sending
 use Rattle.session.specs.Input.{Took, applied, taking, input}
 use Rattle.session.specs.Flushing.{flushing}
 use Rattle.session.specs.Updating.{Updates, waits, flushes, updating}
-use Rattle.session.specs.Calls.{Station, Call, Answer, Stepped, afterSend, afterTakeIn, afterFlush, afterReading, afterUpdate, own}
+use Rattle.session.specs.Calls.{Station, Call, Reply, Stepped, afterSend, afterTakeIn, afterFlush, afterReading, afterUpdate, own}
 use Rattle.session.specs.Reading.{Reads, readable, messageSize, message, afterRead, reading}
 
 -- a half with these settings: its queue filled, and what is left to cut
@@ -136,7 +136,7 @@ updating-cases P s t pool flushed waited = go (updated (s .schedule) t (s .setti
 
 -- all calls at once: each is refused and leaves the station, or goes on as it does
 pub own-cases : (Q : Call → Stepped → Type 0) (s : Station) →
-    ((x : Call) (r : Refusal) → Q x (record { station = s; answer = Answer.refused r })) →
+    ((x : Call) (r : Refusal) → Q x (record { station = s; answer = Reply.refused r })) →
     ((m : List ℕ) →
     Sendable (s .state) (s .sendPool) m →
     Q (Call.send m) (afterSend s (Outcome.done (sentBy (s .state) (s .sendPool) m)))) →

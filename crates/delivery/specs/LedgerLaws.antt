@@ -26,7 +26,7 @@ use Rattle.session.specs.FillLaws.{filled-queue}
 use Rattle.session.specs.HeardLaws.{heard-outstanding, heard-queued}
 use Rattle.session.specs.Input.{acknowledges, heardBySending, allBySending, furthest, skipped, skippedByAll, ackNumbers, applied}
 use Rattle.session.specs.Flushing.{windowOf, numberedCount, flushing}
-use Rattle.session.specs.Calls.{Station, Call, Answer, Stepped, Event, own, history, after, acceptedBy, acceptedList}
+use Rattle.session.specs.Calls.{Station, Call, Reply, Stepped, Event, own, history, after, acceptedBy, acceptedList}
 use Rattle.session.specs.Decides.{All}
 use Rattle.session.specs.AllLaws.{all-mapped}
 use Rattle.delivery.specs.PlainReceiver.{segmentsOf}
@@ -142,7 +142,7 @@ balances s o =
     flushed : (t : ℕ) → sendHeld (flushedWith c t (numberedCount (windowOf (s .state)) d) d) ≡ sendHeld d
     flushed t = flushed-held c t (numberedCount (windowOf (s .state)) d) d (count-few (windowOf (s .state)) d) (count-room (windowOf (s .state)) d (window-most (s .state)) (half-in c s o .numbers .apart))
 
-    nothing : (x : Call) (r : Refusal) → Balances s x (record { station = s; answer = Answer.refused r })
+    nothing : (x : Call) (r : Refusal) → Balances s x (record { station = s; answer = Reply.refused r })
     nothing (Call.send m) r = omega arith
     nothing (Call.takeIn b) r = omega arith
     nothing (Call.flush t) r = omega arith
@@ -203,17 +203,17 @@ unfolding filled segmentCount
 whole-cut false e m q pool b = refl
 whole-cut true e m q pool b = absurd (true≢false e)
 
-messages-by : (s : Station) → isStream (s .state .settings) ≡ false → (x : Call) (a : Answer) →
+messages-by : (s : Station) → isStream (s .state .settings) ≡ false → (x : Call) (a : Reply) →
     fragmentsBy s x a ≡ segmentsOf (mss (s .state .settings)) (acceptedBy x a)
 unfolding segmentsOf
-messages-by s e (Call.send m) Answer.accepted =
+messages-by s e (Call.send m) Reply.accepted =
     let c = s .state .settings in
     omega (arith, whole-cut (isStream c) e (mss c) (s .state .sending .queued) (s .sendPool) m)
-messages-by s e (Call.send m) (Answer.refused r) = refl
-messages-by s e (Call.send m) (Answer.wrote ds) = refl
-messages-by s e (Call.send m) (Answer.message b) = refl
-messages-by s e (Call.send m) Answer.waited = refl
-messages-by s e (Call.send m) (Answer.named t) = refl
+messages-by s e (Call.send m) (Reply.refused r) = refl
+messages-by s e (Call.send m) (Reply.wrote ds) = refl
+messages-by s e (Call.send m) (Reply.message b) = refl
+messages-by s e (Call.send m) Reply.waited = refl
+messages-by s e (Call.send m) (Reply.named t) = refl
 messages-by s e (Call.takeIn d) a = refl
 messages-by s e (Call.flush t) a = refl
 messages-by s e (Call.update t) a = refl

@@ -12,7 +12,7 @@ use Rattle.protocol.specs.declared.Settings.{Settings}
 use Rattle.sizes.specs.Sizes.{enough}
 use Rattle.sizes.specs.declared.Lengths.{Lengths}
 use Rattle.session.specs.Valid.{valid}
-use Rattle.session.specs.Calls.{Station, Call, Answer, Event, Stepped, lengthsOf, longEnough, own, step, history, after, readAnswers, messagesRead}
+use Rattle.session.specs.Calls.{Station, Call, Reply, Event, Stepped, lengthsOf, longEnough, own, step, history, after, readAnswers, messagesRead}
 use Rattle.session.specs.Decides.{All}
 use Rattle.delivery.specs.PlainReceiver.{Plain, atFirst, Found, plainAnswer, afterCall, plainAfter, plainAnswers}
 use Rattle.delivery.specs.Hearing.{Taken, CallFits, FedWith, HearsMore}
@@ -128,7 +128,7 @@ module _ (c : Settings) (taken : Taken c) (accepted : List (List ℕ)) where
         ∙ answer-follows c accepted some-bytes (after s calls) (plainAfter c accepted atFirst calls) room follows
 
     -- it finds nothing exactly when a message or a segment of it is missing
-    next-nothing : valid (after s calls .state) ≡ true → (room : ℕ) (a : Answer) → step (after s calls) (Call.read room) .answer ≡ a
+    next-nothing : valid (after s calls .state) ≡ true → (room : ℕ) (a : Reply) → step (after s calls) (Call.read room) .answer ≡ a
         → (seen a ≡ found Found.nothing) ↔ Missing c accepted calls
     next-nothing v room a e =
         let p : Plain = plainAfter c accepted atFirst calls in

@@ -36,7 +36,7 @@ use Rattle.session.specs.State.{State}
 use Rattle.session.specs.Opening.{opened}
 use Rattle.session.specs.Reading.{frontCount, readable, joinedIn, messageSize, message, reading}
 use Rattle.session.specs.Input.{Receiver}
-use Rattle.session.specs.Calls.{Station, Call, Answer, own, messagesRead}
+use Rattle.session.specs.Calls.{Station, Call, Reply, own, messagesRead}
 use Rattle.session.specs.Decides.{All}
 use Rattle.session.specs.AllLaws.{all-left}
 use Rattle.delivery.specs.PlainReceiver.{Plain, atFirst, Found, pushNumbers, pushesOf, pushesIn, feed, plainAnswer, leave, afterCall}
@@ -210,14 +210,14 @@ none-refused SettingOutOfRange = refl
 none-refused InvalidBlock = refl
 none-refused TrailingBytes = refl
 
-read-one : (a : Answer) (l : List Answer) → messagesRead (a ∷ l) ≡ messageIn (seen a) ++ messagesRead l
+read-one : (a : Reply) (l : List Reply) → messagesRead (a ∷ l) ≡ messageIn (seen a) ++ messagesRead l
 unfolding messagesRead
-read-one (Answer.refused r) l = rw (none-refused r)
-read-one Answer.accepted l = refl
-read-one (Answer.wrote ds) l = refl
-read-one (Answer.message m) l = refl
-read-one Answer.waited l = refl
-read-one (Answer.named t) l = refl
+read-one (Reply.refused r) l = rw (none-refused r)
+read-one Reply.accepted l = refl
+read-one (Reply.wrote ds) l = refl
+read-one (Reply.message m) l = refl
+read-one Reply.waited l = refl
+read-one (Reply.named t) l = refl
 
 found-one : (f : Found) (l : List Found) → messagesFound (f ∷ l) ≡ messageIn (found f) ++ messagesFound l
 unfolding messagesFound
@@ -226,7 +226,7 @@ found-one Found.short l = refl
 found-one (Found.message m) l = refl
 
 -- reads that answer as the plain receiver's bring its messages
-pub same-messages : (l : List Answer) (fs : List Found) → map seen l ≡ map found fs → messagesRead l ≡ messagesFound fs
+pub same-messages : (l : List Reply) (fs : List Found) → map seen l ≡ map found fs → messagesRead l ≡ messagesFound fs
 unfolding messagesRead messagesFound
 same-messages [] [] e = refl
 same-messages [] (f ∷ fs) e = absurd (nil≢cons e)

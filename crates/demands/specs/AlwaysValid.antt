@@ -9,7 +9,7 @@ use Rattle.protocol.specs.Ranges.{inRange, mss}
 use Rattle.protocol.specs.declared.Settings.{Settings}
 use Rattle.sizes.specs.Sizes.{enough}
 use Rattle.session.specs.Reading.{messageSize, telling}
-use Rattle.session.specs.Calls.{Call, Answer, Event, own}
+use Rattle.session.specs.Calls.{Call, Reply, Event, own}
 use Rattle.session.specs.Decides.{All}
 use Rattle.promises.specs.Parts.{lengthsOf, stateIn, isMade}
 use Rattle.answers.specs.declared.Count.the-variants as count
@@ -24,7 +24,7 @@ use Rattle.demands.specs.RefusalLaws.{ShortRead, own-passes}
 use Rattle.demands.specs.RunLaws.{opens-kept, taken, since-opening}
 
 -- what is asked of each call
-abbrev pub Answered : Endpoint → Call → Answer → Type 0
+abbrev pub Answered : Endpoint → Call → Reply → Type 0
 Answered e x a = Passes (ShortBuffer e x) a
 
 -- the size that the definition tells is the one promised
@@ -44,7 +44,7 @@ module _ (c : Settings) (range : inRange c ≡ true) (conv : c .conv < 2 ^ 32) w
   short-buffer e k (Call.update t) h = h
   short-buffer e k (Call.check t) h = h
 
-  answered : (e : Endpoint) (k : Kept c e) (x : Call) (a : Answer) → own (stationOf e) x .answer ≡ a → Answered e x a
+  answered : (e : Endpoint) (k : Kept c e) (x : Call) (a : Reply) → own (stationOf e) x .answer ≡ a → Answered e x a
   answered e k x a q =
       let p : Passes (ShortRead (stationOf e) x) a = rw q at (own-passes (stationOf e) x) in
       record { made = p .made; lent = λ h. short-buffer e k x (p .lent h) }

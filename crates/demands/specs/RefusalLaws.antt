@@ -33,7 +33,7 @@ use Rattle.session.specs.Sending.{Sends, sending}
 use Rattle.session.specs.Input.{Took, taking, input}
 use Rattle.session.specs.Reading.{Reads, readable, messageSize, message, afterRead, reading, telling}
 use Rattle.session.specs.Updating.{Updates}
-use Rattle.session.specs.Calls.{Station, Call, Answer, afterSend, afterTakeIn, afterReading, afterUpdate, own}
+use Rattle.session.specs.Calls.{Station, Call, Reply, afterSend, afterTakeIn, afterReading, afterUpdate, own}
 use Rattle.session.specs.Decides.{and-parts}
 use Rattle.delivery.specs.CallCases.{filling, newSegments, sentBy, updating-cases}
 use Rattle.demands.specs.Claims.{Passes}
@@ -152,37 +152,37 @@ reading-clear s pool room = go (readable (s .receiving .ready)) refl (leb (messa
 -- ---- answers
 
 -- the number of a refusal, else 0
-abbrev numberIn : Answer → ℕ
-numberIn (Answer.refused r) = numberOf r
-numberIn Answer.accepted = 0
-numberIn (Answer.wrote ds) = 0
-numberIn (Answer.message m) = 0
-numberIn Answer.waited = 0
-numberIn (Answer.named t) = 0
+abbrev numberIn : Reply → ℕ
+numberIn (Reply.refused r) = numberOf r
+numberIn Reply.accepted = 0
+numberIn (Reply.wrote ds) = 0
+numberIn (Reply.message m) = 0
+numberIn Reply.waited = 0
+numberIn (Reply.named t) = 0
 
 -- by its number
-passes-by : (short : Type 0) (a : Answer) → eqb (numberIn a) 13 ≡ false → (numberIn a ≡ 7 → short) → Passes short a
+passes-by : (short : Type 0) (a : Reply) → eqb (numberIn a) 13 ≡ false → (numberIn a ≡ 7 → short) → Passes short a
 passes-by short a made lent = record {
-  made = λ e. true≢false (sym (ap (λ (x : Answer). eqb (numberIn x) 13) e) ∙ made);
+  made = λ e. true≢false (sym (ap (λ (x : Reply). eqb (numberIn x) 13) e) ∙ made);
   lent = λ e. lent (ap numberIn e);
 }
 
-clear-passes : (a : Answer) → clear (numberIn a) ≡ true → Passes ⊥ a
+clear-passes : (a : Reply) → clear (numberIn a) ≡ true → Passes ⊥ a
 clear-passes a h =
     let p = and-parts (not (eqb (numberIn a) 7)) (not (eqb (numberIn a) 13)) h in
     passes-by ⊥ a (not-true _ (p .1)) (λ e. true≢false (sym (ap (λ (n : ℕ). eqb n 7) e) ∙ not-true _ (p .0)))
 
 sent-passes : (s : Station) (o : Outcome Sends) → Clear o → Passes ⊥ (afterSend s o .answer)
-sent-passes s (Outcome.refused r) h = clear-passes (Answer.refused r) h
-sent-passes s (Outcome.done x) h = clear-passes Answer.accepted refl
+sent-passes s (Outcome.refused r) h = clear-passes (Reply.refused r) h
+sent-passes s (Outcome.done x) h = clear-passes Reply.accepted refl
 
 took-passes : (s : Station) (o : Outcome Took) → Clear o → Passes ⊥ (afterTakeIn s o .answer)
-took-passes s (Outcome.refused r) h = clear-passes (Answer.refused r) h
-took-passes s (Outcome.done x) h = clear-passes Answer.accepted refl
+took-passes s (Outcome.refused r) h = clear-passes (Reply.refused r) h
+took-passes s (Outcome.done x) h = clear-passes Reply.accepted refl
 
 read-passes : (s : Station) (room : ℕ) (o : Outcome Reads) → ClearRead (s .state) room o → Passes (Short (s .state) room) (afterReading s o .answer)
-read-passes s room (Outcome.refused r) h = passes-by (Short (s .state) room) (Answer.refused r) (h .0) (h .1)
-read-passes s room (Outcome.done x) h = passes-by (Short (s .state) room) (Answer.message (x .bytes)) refl (λ e. absurd (omega arith))
+read-passes s room (Outcome.refused r) h = passes-by (Short (s .state) room) (Reply.refused r) (h .0) (h .1)
+read-passes s room (Outcome.done x) h = passes-by (Short (s .state) room) (Reply.message (x .bytes)) refl (λ e. absurd (omega arith))
 
 -- ---- all calls
 

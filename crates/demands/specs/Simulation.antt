@@ -22,7 +22,7 @@ use Rattle.session.specs.Input.{Took, input}
 use Rattle.session.specs.Flushing.{Flushed, flushing, bytesOfSegments}
 use Rattle.session.specs.Reading.{Reads, readable, messageSize, message, afterRead, reading}
 use Rattle.session.specs.Updating.{Updates, updating, checking}
-use Rattle.session.specs.Calls.{Call, Answer, Stepped, afterSend, afterTakeIn, afterFlush, afterReading, afterUpdate, own, step}
+use Rattle.session.specs.Calls.{Call, Reply, Stepped, afterSend, afterTakeIn, afterFlush, afterReading, afterUpdate, own, step}
 use Rattle.control.specs.Views.{stateOf, countsFit, blockValid}
 use Rattle.records.specs.TableLaws.{scattered-length}
 use Rattle.packing.specs.Packers.{joined}
@@ -47,7 +47,7 @@ use Rattle.demands.specs.Stations.{stationOf}
 use Rattle.demands.specs.OutputLaws.{front-again, joined-flatten, output-cut, message-short}
 
 -- the station after a call is that of the endpoint e′, the answer is a, and the counts of the block are within its arrays
-pub record Becomes (y : Stepped) (a : Answer) (e′ : Endpoint) : Type 0 where
+pub record Becomes (y : Stepped) (a : Reply) (e′ : Endpoint) : Type 0 where
   pub station : y .station ≡ stationOf e′
   pub answer : y .answer ≡ a
   pub counts : countsFit (e′ .link) ≡ true
@@ -59,7 +59,7 @@ module _ (e e′ : Endpoint) where
   same-station : Unchanged (e .link) (e′ .link) (e .parts) (e′ .parts) → stationOf e ≡ stationOf e′
   same-station u = λ i. stationOf (record { link = sym (u .link) i; parts = sym (u .parts) i })
 
-  refused-becomes : (a : Answer) → countsFit (e .link) ≡ true → Unchanged (e .link) (e′ .link) (e .parts) (e′ .parts)
+  refused-becomes : (a : Reply) → countsFit (e .link) ≡ true → Unchanged (e .link) (e′ .link) (e .parts) (e′ .parts)
       → Becomes (record { station = stationOf e; answer = a }) a e′
   refused-becomes a fit u = record { station = same-station u; answer = refl; counts = rw (u .link) fit }
 
@@ -118,7 +118,7 @@ UpdateFits (Updates.waits s) f = Unit {0}
 UpdateFits (Updates.flushes x) f = FlushFits x f
 
 -- a time that is not refused is seen
-named-seen : (g : Time) (t : ℕ) → timeOutcome g ≡ Outcome.done t → timeSeen g ≡ Answer.named t
+named-seen : (g : Time) (t : ℕ) → timeOutcome g ≡ Outcome.done t → timeSeen g ≡ Reply.named t
 named-seen (time.At n) t e = cc
 named-seen (time.Refused r) t e = absurd (let z : _≡_ {A = ℕ} 0 1 = cc in omega arith)
 
@@ -136,7 +136,7 @@ module _ (e e′ : Endpoint) (fit : countsFit (e .link) ≡ true) where
 
   sent-becomes : (o : Outcome Sends) (r : given.Answer) → Accepts r o → SendLeaves o (e .link) (e′ .link) (e .parts) (e′ .parts)
       → Becomes (afterSend (stationOf e) o) (acceptance r) e′
-  sent-becomes (Outcome.refused x) r ans u = rw ans (refused-becomes e e′ (Answer.refused x) fit u)
+  sent-becomes (Outcome.refused x) r ans u = rw ans (refused-becomes e e′ (Reply.refused x) fit u)
   sent-becomes (Outcome.done x) r ans q = record {
     station = with-state e e′ (x .state) (x .pool) (e .parts .receivePool) (q .stands .state) (q .sendPool) (q .receivePool)
         (record { table = ap length (q .table); acks = ap length (q .acks) });
@@ -146,7 +146,7 @@ module _ (e e′ : Endpoint) (fit : countsFit (e .link) ≡ true) where
 
   took-becomes : (o : Outcome Took) (r : given.Answer) → Accepts r o → InputLeaves o (e .link) (e′ .link) (e .parts) (e′ .parts)
       → Becomes (afterTakeIn (stationOf e) o) (acceptance r) e′
-  took-becomes (Outcome.refused x) r ans u = rw ans (refused-becomes e e′ (Answer.refused x) fit u)
+  took-becomes (Outcome.refused x) r ans u = rw ans (refused-becomes e e′ (Reply.refused x) fit u)
   took-becomes (Outcome.done x) r ans q = record {
     station = with-state e e′ (x .state) (e .parts .sendPool) (x .pool) (q .stands .state) (q .sendPool) (q .receivePool)
         (record {
@@ -168,7 +168,7 @@ module _ (e e′ : Endpoint) (fit : countsFit (e .link) ≡ true) where
           acks = ap length (q .acks);
         });
     answer = rw ans
-        (ap Answer.wrote
+        (ap Reply.wrote
         (sym
         (output-cut (map bytesOfSegments (x .datagrams)) (f .output) (f .lengths) (length (x .datagrams)) (f′ .output) (f′ .lengths)
         (q .output) (fits .bytes)
@@ -192,10 +192,10 @@ module _ (e e′ : Endpoint) (fit : countsFit (e .link) ≡ true) where
       → ReadLeaves o (e .link) (e′ .link) (e .parts) (e′ .parts) buffer buffer′
       → ReadFits (length buffer) o
       → Becomes (afterReading (stationOf e) o) (messageSeen r buffer′) e′
-  read-becomes buffer buffer′ (Outcome.refused x) r ans q f = rw ans (refused-becomes e e′ (Answer.refused x) fit (q .unchanged))
+  read-becomes buffer buffer′ (Outcome.refused x) r ans q f = rw ans (refused-becomes e e′ (Reply.refused x) fit (q .unchanged))
   read-becomes buffer buffer′ (Outcome.done x) r ans q f = record {
     station = same-parts (x .state) (q .stands .state) (q .parts);
-    answer = rw (ans, q .bytes) (ap Answer.message (sym (front-again buffer (x .bytes) f)));
+    answer = rw (ans, q .bytes) (ap Reply.message (sym (front-again buffer (x .bytes) f)));
     counts = q .stands .counts;
   }
 
@@ -274,7 +274,7 @@ module _ (c : Settings) (range : inRange c ≡ true) (conv : c .conv < 2 ^ 32) (
       (flush-fits t f (scheduledAt (stateIn (e .link) (e .parts)) t) time room) tt
 
   -- what the call promises makes it the station's own
-  pub own-call : (x : Call) (a : Answer) (e′ : Endpoint) → CallFits x → Called e x a e′ → Becomes (own (stationOf e) x) a e′
+  pub own-call : (x : Call) (a : Reply) (e′ : Endpoint) → CallFits x → Called e x a e′ → Becomes (own (stationOf e) x) a e′
   own-call (Call.send m) a e′ f h =
       rw (h .sees)
       (sent-becomes e e′ (k .counts) (sending (stateIn (e .link) (e .parts)) (e .parts .sendPool) m) (h .gives) (rw (sends-own e is-long is-made m) at (h .promise .answer))
@@ -315,12 +315,12 @@ module _ (c : Settings) (range : inRange c ≡ true) (conv : c .conv < 2 ^ 32) (
       (reading-fits (stateIn (e .link) (e .parts)) (e .parts .receivePool) (length (h .buffer))))
 
   -- and it leaves an endpoint in order
-  pub kept-call : (x : Call) (a : Answer) (e′ : Endpoint) → CallFits x → Called e x a e′ → Kept c e′
+  pub kept-call : (x : Call) (a : Reply) (e′ : Endpoint) → CallFits x → Called e x a e′ → Kept c e′
   kept-call x a e′ f h =
       let b = own-call x a e′ f h in
       record { counts = b .counts; order = rw (b .station) at (in-order-stays c range (stationOf e) x f (k .order)) }
 
-  pub step-call : (x : Call) (a : Answer) (e′ : Endpoint) → CallFits x → Called e x a e′ → step (stationOf e) x ≡ record { station = stationOf e′; answer = a }
+  pub step-call : (x : Call) (a : Reply) (e′ : Endpoint) → CallFits x → Called e x a e′ → step (stationOf e) x ≡ record { station = stationOf e′; answer = a }
   step-call x a e′ f h =
       let b = own-call x a e′ f h in
       step-own (stationOf e) x (in-order-long c range (stationOf e) x (k .order)) is-valid ∙ (λ i. record { station = b .station i; answer = b .answer i })

@@ -6,9 +6,8 @@ use Prim.Native.Nat.{ℕ}
 use lib.ListN.{length}
 use Rattle.protocol.specs.Ranges.{mss}
 use Rattle.protocol.specs.declared.Settings.{Settings}
-use Rattle.protocol.specs.declared.Refusal.the-variants.{ShortPart, InvalidBlock}
 use Rattle.sizes.specs.Sizes.{enough, enoughToFlush}
-use Rattle.session.specs.State.{State, Outcome, refused, done}
+use Rattle.session.specs.State.{State, Outcome, refused, done, admitted}
 use Rattle.session.specs.Opening.{opening}
 use Rattle.session.specs.Sending.{Sends, sending}
 use Rattle.session.specs.Input.{Took, input}
@@ -23,7 +22,7 @@ use Rattle.promises.specs.Parts.{Parts, FlushParts, lengthsOf, recordsOf
 
 -- the lent sizes (7), then the block (13), then the call's own
 abbrev pub checked : {A : Type 0} → Bool → Bool → Outcome A → Outcome A
-checked long made own = cond long (cond made own (refused InvalidBlock)) (refused ShortPart)
+checked = admitted refused
 
 -- ---- by block, records of the outstanding segments, ack list and lent lengths
 

@@ -31,7 +31,7 @@ use Rattle.session.specs.Flushing.{numbered, numberedCount, withNumbered, trans
 use Rattle.session.specs.Input.{acknowledged, sampledBy, heardBySending, pushed, heardByReceiving, allBySending, allByReceiving, ackNumbers, furthest, skipped, applied, input}
 use Rattle.session.specs.Reading.{joinedIn, message, lengthOf, messageSize, afterRead, reading}
 use Rattle.session.specs.Opening.{opened, opening}
-use Rattle.session.specs.Calls.{Call, Answer, Event, acceptedList, datagramsBy}
+use Rattle.session.specs.Calls.{Call, Reply, Event, acceptedList, datagramsBy}
 use Rattle.words.specs.Words.{paired}
 use Rattle.control.specs.Views.{pairs, stateOf, countsFit, blockValid}
 use Rattle.records.specs.Tables.{blank, scattered}
@@ -82,32 +82,32 @@ abbrev pub calls : List Call
 calls = Call.send (104 ∷ 105 ∷ []) ∷ Call.flush 7 ∷ []
 
 abbrev pub events : List Event
-events = record { call = Call.send (104 ∷ 105 ∷ []); answer = Answer.accepted } ∷ record { call = Call.flush 7; answer = Answer.wrote (datagram ∷ []) } ∷ []
+events = record { call = Call.send (104 ∷ 105 ∷ []); answer = Reply.accepted } ∷ record { call = Call.flush 7; answer = Reply.wrote (datagram ∷ []) } ∷ []
 
 abbrev pub firsts : List Call
 firsts = Call.read 10 ∷ []
 
 abbrev pub heard₁ : List Event
-heard₁ = record { call = Call.read 10; answer = Answer.refused NoMessage } ∷ []
+heard₁ = record { call = Call.read 10; answer = Reply.refused NoMessage } ∷ []
 
 abbrev pub seconds : List Call
 seconds = Call.takeIn datagram ∷ Call.read 10 ∷ []
 
 abbrev pub heard₂ : List Event
 heard₂ =
-    record { call = Call.takeIn datagram; answer = Answer.accepted }
-    ∷ record { call = Call.read 10; answer = Answer.message (104 ∷ 105 ∷ []) }
+    record { call = Call.takeIn datagram; answer = Reply.accepted }
+    ∷ record { call = Call.read 10; answer = Reply.message (104 ∷ 105 ∷ []) }
     ∷ []
 
 -- ---- each call keeps its promise
 
 record Met : Type 0 where
   opens : Opens c fresh
-  sends-it : Called fresh (Call.send (104 ∷ 105 ∷ [])) Answer.accepted sent
-  flushes-it : Called sent (Call.flush 7) (Answer.wrote (datagram ∷ [])) flushed
-  reads-nothing : Called fresh (Call.read 10) (Answer.refused NoMessage) fresh
-  takes-it : Called fresh (Call.takeIn datagram) Answer.accepted heard
-  reads-it : Called heard (Call.read 10) (Answer.message (104 ∷ 105 ∷ [])) finished
+  sends-it : Called fresh (Call.send (104 ∷ 105 ∷ [])) Reply.accepted sent
+  flushes-it : Called sent (Call.flush 7) (Reply.wrote (datagram ∷ [])) flushed
+  reads-nothing : Called fresh (Call.read 10) (Reply.refused NoMessage) fresh
+  takes-it : Called fresh (Call.takeIn datagram) Reply.accepted heard
+  reads-it : Called heard (Call.read 10) (Reply.message (104 ∷ 105 ∷ [])) finished
   few : FewPushes c (datagramsBy events)
   fed : FedWith (datagramsBy events) seconds
   bytes : AllBytes datagram
@@ -177,13 +177,13 @@ met = record {
 pub opens-fresh : Opens c fresh
 opens-fresh = met .opens
 
-pub sends-it : Called fresh (Call.send (104 ∷ 105 ∷ [])) Answer.accepted sent
+pub sends-it : Called fresh (Call.send (104 ∷ 105 ∷ [])) Reply.accepted sent
 sends-it = met .sends-it
 
-pub flushes-it : Called sent (Call.flush 7) (Answer.wrote (datagram ∷ [])) flushed
+pub flushes-it : Called sent (Call.flush 7) (Reply.wrote (datagram ∷ [])) flushed
 flushes-it = met .flushes-it
 
-pub reads-nothing : Called fresh (Call.read 10) (Answer.refused NoMessage) fresh
+pub reads-nothing : Called fresh (Call.read 10) (Reply.refused NoMessage) fresh
 reads-nothing = met .reads-nothing
 
 -- ---- the three of them, since opening
@@ -192,7 +192,7 @@ sender-runs : SinceOpening c calls events flushed
 sender-runs = record {
   first = fresh;
   opens = met .opens;
-  runs = next fresh (Call.send (104 ∷ 105 ∷ [])) Answer.accepted sent (met .sends-it) (next sent (Call.flush 7) (Answer.wrote (datagram ∷ [])) flushed (met .flushes-it) start);
+  runs = next fresh (Call.send (104 ∷ 105 ∷ [])) Reply.accepted sent (met .sends-it) (next sent (Call.flush 7) (Reply.wrote (datagram ∷ [])) flushed (met .flushes-it) start);
   conv = omega arith;
   fits = (bytes-by (104 ∷ 105 ∷ []) refl, (omega arith, tt));
 }
@@ -201,7 +201,7 @@ first-runs : SinceOpening c firsts heard₁ fresh
 first-runs = record {
   first = fresh;
   opens = met .opens;
-  runs = next fresh (Call.read 10) (Answer.refused NoMessage) fresh (met .reads-nothing) start;
+  runs = next fresh (Call.read 10) (Reply.refused NoMessage) fresh (met .reads-nothing) start;
   conv = omega arith;
   fits = (tt, tt);
 }
@@ -210,7 +210,7 @@ second-runs : SinceOpening c seconds heard₂ finished
 second-runs = record {
   first = fresh;
   opens = met .opens;
-  runs = next fresh (Call.takeIn datagram) Answer.accepted heard (met .takes-it) (next heard (Call.read 10) (Answer.message (104 ∷ 105 ∷ [])) finished (met .reads-it) start);
+  runs = next fresh (Call.takeIn datagram) Reply.accepted heard (met .takes-it) (next heard (Call.read 10) (Reply.message (104 ∷ 105 ∷ [])) finished (met .reads-it) start);
   conv = omega arith;
   fits = (met .bytes, (tt, tt));
 }

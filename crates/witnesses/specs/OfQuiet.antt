@@ -30,7 +30,7 @@ use Rattle.session.specs.Sending.{place, filled, sending}
 use Rattle.session.specs.Flushing.{numbered, numberedCount, withNumbered, transmittedNow, written, bytesOfSegments, packOne, packed, flushing}
 use Rattle.session.specs.Updating.{updating, checking}
 use Rattle.session.specs.Opening.{opened, opening}
-use Rattle.session.specs.Calls.{Call, Answer, Event}
+use Rattle.session.specs.Calls.{Call, Reply, Event}
 use Rattle.words.specs.Words.{paired}
 use Rattle.control.specs.Views.{pairs, stateOf, countsFit, blockValid}
 use Rattle.records.specs.Tables.{blank, scattered}
@@ -97,7 +97,7 @@ blank-parts = flushPartsOf (replicate outputLeast 0) (replicate lengthsLeast 0)
 
 -- ---- each call keeps its promise
 
-pub updates-it : Called sent (Call.update 7) (Answer.wrote (datagram ∷ [])) updated
+pub updates-it : Called sent (Call.update 7) (Reply.wrote (datagram ∷ [])) updated
 unfolding usedWindow slowStart raised widened avoidance limited grown afterDatagram halved bySkips byTimeout atLeastOne fits congestion.afterFlush sent fresh updated datagram parts opened opening countsFit stateOf pairs joining.joined blockValid scattered joined lengthsOf cutBy sendsWith updatesWith checksWith scheduling.updated corrected started following isAstray ahead earliest named updating checking signed isBefore isAfter isDue front back encode bytesOf longerWait nextClock leastTimeout firstDue growth longerTimeout isSkipped transmission firstNumberOr startsAt ascending enough enoughToFlush fragmentCount segmentCount pieces cutAs filled numbered numberedCount withNumbered transmittedNow written bytesOfSegments packOne packed flushing place sending occurs lowestFrom lowestFree numbersFit waitingFits settled sendingValid receivingValid valid paired
 updates-it = record {
   lent = blank-parts;
@@ -137,14 +137,14 @@ waits-again =
 -- ---- since opening
 
 sender-runs : SinceOpening c (Call.send (104 ∷ 105 ∷ []) ∷ Call.update 7 ∷ [])
-    (record { call = Call.send (104 ∷ 105 ∷ []); answer = Answer.accepted }
-    ∷ record { call = Call.update 7; answer = Answer.wrote (datagram ∷ []) }
+    (record { call = Call.send (104 ∷ 105 ∷ []); answer = Reply.accepted }
+    ∷ record { call = Call.update 7; answer = Reply.wrote (datagram ∷ []) }
     ∷ []) updated
 sender-runs = record {
   first = fresh;
   opens = opens-fresh;
-  runs = next fresh (Call.send (104 ∷ 105 ∷ [])) Answer.accepted sent sends-it
-      (next sent (Call.update 7) (Answer.wrote (datagram ∷ [])) updated updates-it start);
+  runs = next fresh (Call.send (104 ∷ 105 ∷ [])) Reply.accepted sent sends-it
+      (next sent (Call.update 7) (Reply.wrote (datagram ∷ [])) updated updates-it start);
   conv = omega arith;
   fits = (bytes-by (104 ∷ 105 ∷ []) refl, (omega arith, tt));
 }

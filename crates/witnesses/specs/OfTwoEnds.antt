@@ -48,7 +48,7 @@ use Rattle.session.specs.Input.{
 }
 use Rattle.session.specs.Updating.{updating}
 use Rattle.session.specs.Opening.{opened}
-use Rattle.session.specs.Calls.{Call, Answer}
+use Rattle.session.specs.Calls.{Call, Reply}
 use Rattle.words.specs.Words.{paired}
 use Rattle.control.specs.Views.{pairs, stateOf, countsFit, blockValid}
 use Rattle.records.specs.Tables.{blank, scattered}
@@ -128,10 +128,10 @@ done = afterInput resent (takesIn (resent .link) (resent .parts) acked)
 -- ---- each call keeps its promise
 
 record Met : Type 0 where
-  sends-again : Called flushed (Call.update 300) (Answer.wrote (again ∷ [])) resent
-  takes-it : Called fresh (Call.takeIn again) Answer.accepted heard
-  tells-it : Called heard (Call.flush 9) (Answer.wrote (acked ∷ [])) told
-  takes-ack : Called resent (Call.takeIn acked) Answer.accepted done
+  sends-again : Called flushed (Call.update 300) (Reply.wrote (again ∷ [])) resent
+  takes-it : Called fresh (Call.takeIn again) Reply.accepted heard
+  tells-it : Called heard (Call.flush 9) (Reply.wrote (acked ∷ [])) told
+  takes-ack : Called resent (Call.takeIn acked) Reply.accepted done
   out : GoesOut c (flushed .link .flight .una) (again ∷ [])
   una-before : flushed .link .flight .una ≡ 0
   una-after : done .link .flight .una ≡ 1
@@ -225,9 +225,9 @@ met = record {
 
 abbrev moves : List Move
 moves =
-    atA (Call.send (104 ∷ 105 ∷ [])) Answer.accepted
-    ∷ atA (Call.flush 7) (Answer.wrote (datagram ∷ []))
-    ∷ atB (Call.read 10) (Answer.refused NoMessage)
+    atA (Call.send (104 ∷ 105 ∷ [])) Reply.accepted
+    ∷ atA (Call.flush 7) (Reply.wrote (datagram ∷ []))
+    ∷ atB (Call.read 10) (Reply.refused NoMessage)
     ∷ []
 
 of-a : MadeBy c (eventsOfA moves) flushed
@@ -235,8 +235,8 @@ unfolding eventsOfA
 of-a = record {
   first = fresh;
   opens = opens-fresh;
-  runs = next fresh (Call.send (104 ∷ 105 ∷ [])) Answer.accepted sent sends-it
-      (next sent (Call.flush 7) (Answer.wrote (datagram ∷ [])) flushed flushes-it start);
+  runs = next fresh (Call.send (104 ∷ 105 ∷ [])) Reply.accepted sent sends-it
+      (next sent (Call.flush 7) (Reply.wrote (datagram ∷ [])) flushed flushes-it start);
   conv = omega arith;
   fits = (bytes-by (104 ∷ 105 ∷ []) refl, (omega arith, tt));
 }
@@ -246,7 +246,7 @@ unfolding eventsOfB
 of-b = record {
   first = fresh;
   opens = opens-fresh;
-  runs = next fresh (Call.read 10) (Answer.refused NoMessage) fresh reads-nothing start;
+  runs = next fresh (Call.read 10) (Reply.refused NoMessage) fresh reads-nothing start;
   conv = omega arith;
   fits = (tt, tt);
 }
@@ -273,8 +273,8 @@ there = record {
   flushes = met .sends-again;
   arrivals = again ∷ [];
   all-arrive = record { all = (List·Memᴰ·head refl, tt); only = (List·Memᴰ·head refl, tt) };
-  events = record { call = Call.takeIn again; answer = Answer.accepted } ∷ [];
-  hears = next fresh (Call.takeIn again) Answer.accepted heard (met .takes-it) start;
+  events = record { call = Call.takeIn again; answer = Reply.accepted } ∷ [];
+  hears = next fresh (Call.takeIn again) Reply.accepted heard (met .takes-it) start;
   fits = (omega arith, (bytes-by again refl, tt));
 }
 
@@ -286,8 +286,8 @@ back-again = record {
   flushes = met .tells-it;
   arrivals = acked ∷ [];
   all-arrive = record { all = (List·Memᴰ·head refl, tt); only = (List·Memᴰ·head refl, tt) };
-  events = record { call = Call.takeIn acked; answer = Answer.accepted } ∷ [];
-  hears = next resent (Call.takeIn acked) Answer.accepted done (met .takes-ack) start;
+  events = record { call = Call.takeIn acked; answer = Reply.accepted } ∷ [];
+  hears = next resent (Call.takeIn acked) Reply.accepted done (met .takes-ack) start;
   fits = (omega arith, (bytes-by acked refl, tt));
 }
 
