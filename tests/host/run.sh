@@ -86,13 +86,28 @@ build() { # SUFFIX NAME FLAGS..
 program_checks() { # SUFFIX FLAGS..
     suffix=$1
     shift
-    for name in layout calls refusals strangers session stream settings replay; do
+    for name in layout calls refusals strangers session stream settings station replay; do
         build "$suffix" $name "$@" || { failed=$((failed + 1)); echo "$name, $suffix: FAILED to build"; continue; }
         # shellcheck disable=SC2086
         [ "$name" = replay ] || try "$name, $suffix" $emulator "$work/$name-$suffix"
     done
     # shellcheck disable=SC2086
     "$cc" -std=c99 "$@" $flags play.c play_parity.c "$tags" "$parity" "$archive" -o "$work/play-$suffix" || { failed=$((failed + 1)); echo "play, $suffix: FAILED to build"; }
+}
+
+# Headers whose block is not the archive's, and no assertion to say so: opening a station tells.
+other_headers() {
+    mkdir -p "$work/other"
+    echo 'int main(void) { return ampferweg_station_open(&one, 7, 256, 1, 10, 2) != -13; }' | cat "$work/header.c" - >"$work/other.c"
+    for field in 'ampferweg_held waiting' 'ampferweg_held ready' 'ampferweg_held queued' 'uint8_t transmissions'; do
+        sed "s/^\(    ${field}\)\[\([0-9]*\)\]/\1[\2 + 4]/; s/^\(#define AMPFERWEG_LAYOUT(name, holds)\) .*/\1 struct ampferweg_link/" \
+            "$root/include/ampferweg.h" >"$work/other/ampferweg.h"
+        # shellcheck disable=SC2086
+        "$cc" -std=c99 $CFLAGS -I "$work/other" "$work/other.c" "$archive" -o "$work/other/opens" || return 1
+        # shellcheck disable=SC2086
+        $emulator "$work/other/opens" || { echo "$field: not told"; return 1; }
+    done
+    echo "four headers of another block are told by opening"
 }
 
 # Plays every script of a folder, and holds what is answered to the answers beside it.
@@ -134,6 +149,7 @@ for suffix in O2 $second; do
     try "vectors, $suffix" plays replay "$suffix" vectors
     try "extras, $suffix" plays play "$suffix" extras
 done
+try "headers of another block" other_headers
 cp "$work/play-O2" "$work/play"
 try "examples/tags" "$root/examples/tags/run.sh" "$(dirname "$archive")"
 try "examples/parity" "$root/examples/parity/run.sh" "$(dirname "$archive")"
