@@ -50,7 +50,7 @@ static struct sockaddr_in peer;
 static int udp, saved = -1, expects, opened;
 static struct hello hello;
 static struct {
-    unsigned sent, acknowledged, again, heard, datagrams_sent, datagrams_heard, datagrams_refused, pushes, retransmissions;
+    unsigned sent, acknowledged, again, heard, datagrams_sent, datagrams_heard, datagrams_refused;
     unsigned refused[NUMBERS]; /* by refusal number */
 } count;
 static volatile sig_atomic_t ended;
@@ -61,16 +61,11 @@ static void end(int signal)
     ended = 1;
 }
 
-static uint32_t number_at(const uint8_t *bytes)
-{
-    return bytes[0] | (uint32_t)bytes[1] << 8 | (uint32_t)bytes[2] << 16 | (uint32_t)bytes[3] << 24;
-}
-
 /* ---- what is sent ---- */
 
 static char lines[FILE_MOST];
 static const char *first_line, *next_line, *lines_end; /* the first that is not acknowledged, the next to be sent */
-static uint32_t first_number, top;                      /* of the first one's first segment, and past all that were sent */
+static uint32_t first_number;                           /* of the first one's first segment */
 
 static void fail(const char *what, const char *why)
 {
@@ -116,7 +111,7 @@ static void send_messages(void)
 static void acknowledge(uint32_t una)
 {
     static int said;
-    if ((int32_t)(una - top) > 0) {
+    if ((int32_t)(una - station.link.flight.next) > 0) {
         if (!said++) fprintf(stderr, "%s: the peer acknowledges what was never sent: the two were not opened together\n", name);
         return;
     }
@@ -131,21 +126,6 @@ static void acknowledge(uint32_t una)
     }
 }
 
-/* A push whose number is not beyond all before it is a retransmission. */
-static void count_pushes(const uint8_t *datagram, size_t len)
-{
-    while (len >= HEADER) {
-        const uint32_t sn = number_at(datagram + 12);
-        const size_t size = HEADER + number_at(datagram + 20);
-        if (datagram[4] == PUSH) {
-            count.pushes++;
-            if ((int32_t)(sn - top) < 0) count.retransmissions++; else top = sn + 1;
-        }
-        datagram += size;
-        len -= size;
-    }
-}
-
 static uint8_t last_header[HEADER]; /* of the last datagram: conversation, window, and in una all that has arrived */
 static int told;
 
@@ -153,7 +133,6 @@ static void transmit(void *context, const uint8_t *datagram, size_t len)
 {
     (void)context;
     count.datagrams_sent++;
-    count_pushes(datagram, len);
     memcpy(last_header, datagram, HEADER);
     told = 1;
     udp_send(udp, &peer, datagram, len);
@@ -176,13 +155,12 @@ static void tell_again(void)
 /* Opens the link. What an earlier one did not get acknowledged is sent again. */
 static void open_link(uint32_t conversation)
 {
-    const ampferweg_result result =
-        ampferweg_open(&station.link, conversation, mtu, mode, interval, threshold, 0, congestion, AMPFERWEG_PARTS(&station));
-    if (result < 0) fail("mtu, mode, interval or threshold", ampferweg_text(result));
+    if (ampferweg_station_open_numbers(&station, conversation, mtu, mode, interval, threshold, 0, congestion) < 0)
+        fail("the link cannot be opened", ampferweg_station_why(&station));
     count.again += count.sent - count.acknowledged;
     count.sent = count.acknowledged;
     next_line = first_line;
-    first_number = top = 0;
+    first_number = 0;
     told = 0;
     opened = 1;
 }
@@ -222,9 +200,9 @@ static uint32_t heard_at, data_at; /* when the peer was last heard, and last sen
 static void note(const uint8_t *datagram, size_t len)
 {
     while (len >= HEADER) {
-        const size_t size = HEADER + number_at(datagram + 20);
+        const size_t size = HEADER + ampferweg_number_at(datagram + 20);
         if (datagram[4] == PUSH) data_at = heard_at;
-        acknowledge(number_at(datagram + 16));
+        acknowledge(ampferweg_number_at(datagram + 16));
         datagram += size;
         len -= size;
     }
@@ -428,8 +406,9 @@ static void summary(void)
     if (count.again > 0) printf(", %u sent again", count.again);
     printf(", %u", count.heard);
     if (expects) printf(" of %lu", (unsigned long)expect);
-    printf(" heard; %u datagrams sent, %u heard, %u refused; %u segments sent, %u of them retransmissions\n",
-        count.datagrams_sent, count.datagrams_heard, count.datagrams_refused, count.pushes, count.retransmissions);
+    printf(" heard; %u datagrams sent, %u heard, %u refused; %lu segments sent, %lu of them retransmissions\n",
+        count.datagrams_sent, count.datagrams_heard, count.datagrams_refused, (unsigned long)station.counters.segments_out,
+        (unsigned long)station.counters.retransmissions);
     for (number = 1; number < NUMBERS; number++)
         if (count.refused[number] > 0) printf("%s: %u datagrams %s\n", name, count.refused[number], ampferweg_text(-number));
     printf("%s: congestion window %lu segments, threshold %lu%s\n", name, (unsigned long)station.link.flight.congestion.window,
