@@ -134,7 +134,8 @@ int main(int argc, char **argv)
     uint32_t start;
     lines_at_once();
     read_options(argc, argv, "usage: hub --port PORT [options]\n"
-        "Many links on one socket: sends back every message. Ends by --seconds, SIGINT or SIGTERM.", options, sizeof options / sizeof *options);
+        "Many links on one socket: sends back every message. Ends by --seconds, SIGINT or SIGTERM.",
+        options, sizeof options / sizeof *options);
     memset(&action, 0, sizeof action);
     action.sa_handler = end;
     sigaction(SIGINT, &action, NULL);

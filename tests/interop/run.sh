@@ -60,7 +60,8 @@ exchange() { # FILE DROP SECONDS OURS THEIRS
     relay=$started
     set -- --peer "127.0.0.1:$port" --expect "$count" --seconds "$bound" --hold 300
     # shellcheck disable=SC2086
-    start ours station --name ours --port $((port + 1)) --send "$work/ours-$file.txt" --save "$work/ours-heard.txt" "$@" $ours_options || return 1
+    start ours station --name ours --port $((port + 1)) --send "$work/ours-$file.txt" --save "$work/ours-heard.txt" "$@" $ours_options ||
+        return 1
     one=$started
     # shellcheck disable=SC2086
     start theirs peer --port $((port + 2)) --send "$work/theirs-$file.txt" --save "$work/theirs-heard.txt" "$@" $theirs_options || return 1
@@ -124,13 +125,15 @@ joins "congestion 1, and nc 1 there" once '--congestion 1' '--congestion 0'
 joins "windows of 4 and 32 there" once '' '--sndwnd 4 --rcvwnd 32'
 joins "windows of 1,024 and 1,024 there" once '' '--sndwnd 1024 --rcvwnd 1024 --slots 1024'
 joins "a receive window of 8 there, messages of one segment" short '' '--rcvwnd 8'
-parts "a receive window of 16 there, a message of 20 segments" once 5 '' '--rcvwnd 16' ours 'ends before all of its messages were acknowledged'
+parts "a receive window of 16 there, a message of 20 segments" once 5 '' '--rcvwnd 16' ours 'before all of its messages were acknowledged'
 parts "a message of 130 segments from there" long 4 '' '--slots 1024' ours 'refused 6: '
 joins "messages, to a session that has bytes" once '--raw 1' '--session'
 joins "a stream, to a session with stream mode off" once '--raw 1 --stream 1' '--session'
 joins "a stream, to a session with stream mode on" once '--raw 1 --stream 1' '--session --stream'
 parts "an empty message, to a session" empty 3 '' '--session' theirs ', 3 bytes heard'
+parts "an empty message, from the core type" empty 3 '' '' theirs 'send: a message of 0 bytes'
 parts "a session with FEC" once 3 '--raw 1' '--session --fec 10' ours 'refused 2: '
+parts "its frame of sequence 1, our conversation" once 3 '--raw 1' '--session --fec 10' ours 'refused 4: '
 parts "a session with a cipher" once 3 '--raw 1' '--session --cipher' ours 'refused 2: '
 echo "interop: $passed passed, $failed failed"
 [ $failed -eq 0 ]
