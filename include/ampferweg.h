@@ -171,8 +171,8 @@ typedef struct ampferweg_congestion { uint32_t window, threshold, allowance; } a
 /* Probe of a closed window: milliseconds between two asks (0: stopped), and when the next one is due. */
 typedef struct ampferweg_probe_clock { uint32_t wait, due; } ampferweg_probe_clock;
 
-/* The sending half: snd_una, snd_nxt, the round trip, the peer's last window, the congestion window; segments queued (accepted and not yet sent) and
- * outstanding (sent and not acknowledged). */
+/* The sending half: snd_una, snd_nxt, the round trip, the peer's last window, the congestion window; segments queued (accepted and
+ * not yet sent) and outstanding (sent and not acknowledged). */
 typedef struct ampferweg_flight {
     uint32_t una, next;
     ampferweg_round_trip rtt;
@@ -416,6 +416,7 @@ typedef struct ampferweg_station {
     AMPFERWEG_OUTPUT_STORAGE(name##_output); \
     AMPFERWEG_STATION_STORAGE_SHARED(name, mtu, name##_output)
 
+/* The four parts, as arguments of one of the nine calls: ampferweg_size(&station.link, AMPFERWEG_PARTS(&station)). */
 #define AMPFERWEG_PARTS(station) \
     (station)->send_pool, (station)->send_pool_len, (station)->receive_pool, (station)->receive_pool_len, \
     (station)->table, (station)->table_len, (station)->acks, (station)->acks_len
@@ -493,7 +494,7 @@ static inline const char *ampferweg_station_why(const ampferweg_station *station
 }
 
 /* Which setting is outside its range, in plain words; NULL where none is. */
-static inline const char *ampferweg_wrong_setting(uint32_t mtu, uint32_t mode, uint32_t interval, uint32_t threshold, uint32_t stream,
+static inline const char *ampferweg_inner_wrong_setting(uint32_t mtu, uint32_t mode, uint32_t interval, uint32_t threshold, uint32_t stream,
     uint32_t congestion)
 {
     if (mtu < AMPFERWEG_MTU_LEAST || mtu > AMPFERWEG_MTU_MOST) return "refused 12: mtu is not 50 to 1400";
@@ -505,7 +506,7 @@ static inline const char *ampferweg_wrong_setting(uint32_t mtu, uint32_t mode, u
 }
 
 /* Which of the four parts that every call is lent is too short for this mtu, in plain words; NULL where none is. */
-static inline const char *ampferweg_short_part(const ampferweg_station *station, uint32_t mtu)
+static inline const char *ampferweg_inner_short_part(const ampferweg_station *station, uint32_t mtu)
 {
     const size_t mss = mtu > 24 ? AMPFERWEG_MSS(mtu) : 0; /* that of a block that was never opened */
     if (station->send_pool_len < 128 * mss) return "refused 7: the send pool is shorter than 128 x (mtu - 24) bytes";
@@ -515,14 +516,14 @@ static inline const char *ampferweg_short_part(const ampferweg_station *station,
 }
 
 /* Counts a refusal and keeps its words; `rest` are those of a 7 where none of the four parts is short. */
-static inline ampferweg_result ampferweg_station_note(ampferweg_station *station, ampferweg_result result, const char *rest)
+static inline ampferweg_result ampferweg_inner_note(ampferweg_station *station, ampferweg_result result, const char *rest)
 {
     const int number = ampferweg_refusal_of(result);
     if (number == 0 || number >= (int)(sizeof station->counters.refused / sizeof *station->counters.refused)) return result;
     station->counters.refused[number]++;
     station->why = NULL;
     if (number == AMPFERWEG_SHORT_PART) {
-        station->why = ampferweg_short_part(station, station->link.settings.mtu);
+        station->why = ampferweg_inner_short_part(station, station->link.settings.mtu);
         if (station->why == NULL) station->why = rest;
     }
     if (station->why == NULL) station->why = ampferweg_text(result);
@@ -531,7 +532,7 @@ static inline ampferweg_result ampferweg_station_note(ampferweg_station *station
 
 /* Whether the archive has the block of this header, tried on a link just opened: both receiving lists are filled by hand, up to the
  * block's last entry, and a number that cannot be there is refused 13. The lists are empty again then. */
-static inline int ampferweg_station_fits(ampferweg_station *station)
+static inline int ampferweg_inner_fits(ampferweg_station *station)
 {
     ampferweg_link *link = &station->link;
     ampferweg_result good, bad;
@@ -560,13 +561,13 @@ static inline ampferweg_result ampferweg_station_open_numbers(ampferweg_station 
         AMPFERWEG_PARTS(station));
     if (result == 0) {
         if (is->conv == conv && is->mtu == mtu && is->mode == mode && is->interval == interval && is->threshold == threshold &&
-            is->stream == stream && is->congestion == congestion && ampferweg_station_fits(station)) return 0;
+            is->stream == stream && is->congestion == congestion && ampferweg_inner_fits(station)) return 0;
         result = -AMPFERWEG_INVALID_BLOCK;
     }
-    (void)ampferweg_station_note(station, result, NULL);
+    (void)ampferweg_inner_note(station, result, NULL);
     if (result == -AMPFERWEG_SETTING_OUT_OF_RANGE)
-        station->why = ampferweg_wrong_setting(mtu, mode, interval, threshold, stream, congestion);
-    if (result == -AMPFERWEG_SHORT_PART) station->why = ampferweg_short_part(station, mtu);
+        station->why = ampferweg_inner_wrong_setting(mtu, mode, interval, threshold, stream, congestion);
+    if (result == -AMPFERWEG_SHORT_PART) station->why = ampferweg_inner_short_part(station, mtu);
     if (result == -AMPFERWEG_INVALID_BLOCK) station->why = "refused 13: header and archive are of two versions: their blocks differ";
     return result;
 }
@@ -588,7 +589,7 @@ static inline ampferweg_result ampferweg_station_open(ampferweg_station *station
 
 static inline ampferweg_result ampferweg_station_send(ampferweg_station *station, const void *message, size_t message_len)
 {
-    return ampferweg_station_note(station,
+    return ampferweg_inner_note(station,
         ampferweg_send(&station->link, AMPFERWEG_PARTS(station), (const uint8_t *)message, message_len), NULL);
 }
 
@@ -596,11 +597,11 @@ static inline ampferweg_result ampferweg_station_input(ampferweg_station *statio
 {
     const ampferweg_result result = ampferweg_input(&station->link, AMPFERWEG_PARTS(station), (const uint8_t *)datagram, datagram_len);
     if (result == 0) station->counters.datagrams_in++;
-    return ampferweg_station_note(station, result, NULL);
+    return ampferweg_inner_note(station, result, NULL);
 }
 
 /* Counts what a flush or an update has written; a push whose number is not new is a retransmission. */
-static inline ampferweg_result ampferweg_station_count(ampferweg_station *station, ampferweg_result count, uint32_t next_before)
+static inline ampferweg_result ampferweg_inner_count(ampferweg_station *station, ampferweg_result count, uint32_t next_before)
 {
     uint32_t pushes = 0;
     size_t at = 0, end = 0;
@@ -610,7 +611,7 @@ static inline ampferweg_result ampferweg_station_count(ampferweg_station *statio
     if (count > 0) station->counters.datagrams_out += (uint32_t)count;
     station->counters.segments_out += pushes;
     station->counters.retransmissions += pushes - (station->link.flight.next - next_before);
-    return ampferweg_station_note(station, count, station->output_len < AMPFERWEG_OUTPUT_SIZE ?
+    return ampferweg_inner_note(station, count, station->output_len < AMPFERWEG_OUTPUT_SIZE ?
         "refused 7: the output is shorter than 50992 bytes" : "refused 7: the lengths are fewer than 290");
 }
 
@@ -618,7 +619,7 @@ static inline ampferweg_result ampferweg_station_count(ampferweg_station *statio
 static inline ampferweg_result ampferweg_station_flush(ampferweg_station *station, uint32_t now)
 {
     const uint32_t next = station->link.flight.next;
-    return ampferweg_station_count(station, ampferweg_flush(&station->link, AMPFERWEG_PARTS(station), now,
+    return ampferweg_inner_count(station, ampferweg_flush(&station->link, AMPFERWEG_PARTS(station), now,
         station->output, station->output_len, station->lengths, station->lengths_len), next);
 }
 
@@ -626,7 +627,7 @@ static inline ampferweg_result ampferweg_station_flush(ampferweg_station *statio
 static inline ampferweg_result ampferweg_station_update(ampferweg_station *station, uint32_t now)
 {
     const uint32_t next = station->link.flight.next;
-    return ampferweg_station_count(station, ampferweg_update(&station->link, AMPFERWEG_PARTS(station), now,
+    return ampferweg_inner_count(station, ampferweg_update(&station->link, AMPFERWEG_PARTS(station), now,
         station->output, station->output_len, station->lengths, station->lengths_len), next);
 }
 
@@ -682,7 +683,7 @@ static inline ampferweg_result ampferweg_station_run_to(ampferweg_station *stati
 
 static inline ampferweg_result ampferweg_station_read(ampferweg_station *station, void *buffer, size_t buffer_len)
 {
-    return ampferweg_station_note(station, ampferweg_read(&station->link, AMPFERWEG_PARTS(station), (uint8_t *)buffer, buffer_len),
+    return ampferweg_inner_note(station, ampferweg_read(&station->link, AMPFERWEG_PARTS(station), (uint8_t *)buffer, buffer_len),
         "refused 7: the read buffer is shorter than the message");
 }
 
@@ -717,15 +718,15 @@ static inline size_t ampferweg_station_pending(const ampferweg_station *station)
  * For a display, a log or a letter to the makers: every field of a block, a line at a time through the caller's hook. No libc. */
 
 /* A line that is put together from names and numbers; what does not fit is left out. */
-typedef struct ampferweg_line { char text[120]; size_t len; } ampferweg_line;
+typedef struct ampferweg_inner_line { char text[120]; size_t len; } ampferweg_inner_line;
 
-static inline void ampferweg_line_text(ampferweg_line *line, const char *text)
+static inline void ampferweg_inner_text(ampferweg_inner_line *line, const char *text)
 {
     while (*text != '\0' && line->len + 1 < sizeof line->text) line->text[line->len++] = *text++;
     line->text[line->len] = '\0';
 }
 
-static inline void ampferweg_line_number(ampferweg_line *line, const char *name, uint64_t number)
+static inline void ampferweg_inner_number(ampferweg_inner_line *line, const char *name, uint64_t number)
 {
     char digits[21];
     size_t at = sizeof digits - 1;
@@ -734,36 +735,36 @@ static inline void ampferweg_line_number(ampferweg_line *line, const char *name,
         digits[--at] = (char)('0' + number % 10);
         number /= 10;
     } while (number > 0);
-    ampferweg_line_text(line, name);
-    ampferweg_line_text(line, digits + at);
+    ampferweg_inner_text(line, name);
+    ampferweg_inner_text(line, digits + at);
 }
 
 /* A line of `count` numbers, each behind its name. */
-static inline void ampferweg_print_line(const char *head, const char *const *names, const uint64_t *numbers, size_t count,
+static inline void ampferweg_inner_print_line(const char *head, const char *const *names, const uint64_t *numbers, size_t count,
     void (*put)(void *context, const char *line), void *context)
 {
-    ampferweg_line line;
+    ampferweg_inner_line line;
     size_t i;
     line.len = 0;
-    ampferweg_line_text(&line, head);
-    for (i = 0; i < count; i++) ampferweg_line_number(&line, names[i], numbers[i]);
+    ampferweg_inner_text(&line, head);
+    for (i = 0; i < count; i++) ampferweg_inner_number(&line, names[i], numbers[i]);
     put(context, line.text);
 }
 
 /* A line for each segment of a list, never more than the list has room for; with transmissions, or with sequence numbers. */
-static inline void ampferweg_print_held(const char *head, const ampferweg_held *held, uint64_t count, size_t room,
+static inline void ampferweg_inner_print_held(const char *head, const ampferweg_held *held, uint64_t count, size_t room,
     const uint8_t *transmissions, const uint32_t *numbers, void (*put)(void *context, const char *line), void *context)
 {
     size_t i;
     for (i = 0; i < room && i < count; i++) {
-        ampferweg_line line;
+        ampferweg_inner_line line;
         line.len = 0;
-        ampferweg_line_number(&line, head, i);
-        ampferweg_line_number(&line, ": slot ", held[i].slot);
-        ampferweg_line_number(&line, ", fragment ", held[i].fragment);
-        ampferweg_line_number(&line, ", len ", held[i].len);
-        if (transmissions != NULL) ampferweg_line_number(&line, ", transmissions ", transmissions[i]);
-        if (numbers != NULL) ampferweg_line_number(&line, ", number ", numbers[i]);
+        ampferweg_inner_number(&line, head, i);
+        ampferweg_inner_number(&line, ": slot ", held[i].slot);
+        ampferweg_inner_number(&line, ", fragment ", held[i].fragment);
+        ampferweg_inner_number(&line, ", len ", held[i].len);
+        if (transmissions != NULL) ampferweg_inner_number(&line, ", transmissions ", transmissions[i]);
+        if (numbers != NULL) ampferweg_inner_number(&line, ", number ", numbers[i]);
         put(context, line.text);
     }
 }
@@ -783,21 +784,21 @@ static inline void ampferweg_print(const ampferweg_link *link, void (*put)(void 
     const ampferweg_clock *c = &link->clock;
     uint64_t n[7];
     n[0] = s->conv; n[1] = s->mtu; n[2] = s->mode; n[3] = s->interval; n[4] = s->threshold; n[5] = s->stream; n[6] = s->congestion;
-    ampferweg_print_line("settings: ", settings, n, 7, put, context);
+    ampferweg_inner_print_line("settings: ", settings, n, 7, put, context);
     n[0] = f->una; n[1] = f->next; n[2] = f->window; n[3] = f->queued; n[4] = f->outstanding;
-    ampferweg_print_line("sending: ", flight, n, 5, put, context);
+    ampferweg_inner_print_line("sending: ", flight, n, 5, put, context);
     n[0] = f->rtt.smoothed; n[1] = f->rtt.variation; n[2] = f->rtt.timeout;
-    ampferweg_print_line("round trip: ", rtt, n, 3, put, context);
+    ampferweg_inner_print_line("round trip: ", rtt, n, 3, put, context);
     n[0] = f->congestion.window; n[1] = f->congestion.threshold; n[2] = f->congestion.allowance;
-    ampferweg_print_line("congestion: ", congestion, n, 3, put, context);
+    ampferweg_inner_print_line("congestion: ", congestion, n, 3, put, context);
     n[0] = a->expected; n[1] = a->tell; n[2] = a->ready; n[3] = a->waiting; n[4] = a->acks;
-    ampferweg_print_line("receiving: ", arrival, n, 5, put, context);
+    ampferweg_inner_print_line("receiving: ", arrival, n, 5, put, context);
     n[0] = c->current; n[1] = c->next_flush; n[2] = c->probe.wait; n[3] = c->probe.due; n[4] = c->ask; n[5] = c->dead; n[6] = c->updated;
-    ampferweg_print_line("clock: ", clock, n, 7, put, context);
-    ampferweg_print_held("queued ", link->queued, f->queued, 128, NULL, NULL, put, context);
-    ampferweg_print_held("outstanding ", link->outstanding, f->outstanding, 32, link->transmissions, NULL, put, context);
-    ampferweg_print_held("ready ", link->ready, a->ready, 128, NULL, NULL, put, context);
-    ampferweg_print_held("waiting ", link->waiting, a->waiting, 128, NULL, link->waiting_numbers, put, context);
+    ampferweg_inner_print_line("clock: ", clock, n, 7, put, context);
+    ampferweg_inner_print_held("queued ", link->queued, f->queued, 128, NULL, NULL, put, context);
+    ampferweg_inner_print_held("outstanding ", link->outstanding, f->outstanding, 32, link->transmissions, NULL, put, context);
+    ampferweg_inner_print_held("ready ", link->ready, a->ready, 128, NULL, NULL, put, context);
+    ampferweg_inner_print_held("waiting ", link->waiting, a->waiting, 128, NULL, link->waiting_numbers, put, context);
 }
 
 #ifdef __cplusplus

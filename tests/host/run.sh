@@ -110,6 +110,20 @@ other_headers() {
     echo "four headers of another block are told by opening"
 }
 
+# The manual page: every function and macro of the header that a caller uses stands in it, and roff has nothing to say.
+manual() {
+    python3 "$root/dist/man.py" "$root/include/ampferweg.h" "$work/ampferweg.3" || return 1
+    if command -v groff >/dev/null; then
+        groff -ww -man -Tutf8 "$work/ampferweg.3" 2>&1 >/dev/null | grep . && return 1
+    fi
+    sed -n 's/^[a-z][a-z0-9_ ]*[ *]\(ampferweg_[a-z_]*\)(.*/\1/p' "$root/include/ampferweg.h" | grep -v inner_ >"$work/functions"
+    while read -r function; do
+        grep -q "[ *]$function(" "$work/ampferweg.3" || { echo "$function is not in the page"; return 1; }
+    done <"$work/functions"
+    count=$(wc -l <"$work/functions")
+    [ "$count" -ge 30 ] && echo "$count functions, each in the manual page"
+}
+
 # Plays every script of a folder, and holds what is answered to the answers beside it.
 plays() { # PROGRAM SUFFIX FOLDER
     lines=0
@@ -133,7 +147,9 @@ installs() {
     # shellcheck disable=SC2046
     "$cc" "$work/installed.c" -o "$work/installed" \
         $(PKG_CONFIG_PATH=$work/prefix/lib/pkgconfig pkg-config --cflags --libs ampferweg) || return 1
-    "$work/installed" && echo "installs, and pkg-config finds it"
+    "$work/installed" && echo "installs, and pkg-config finds it" || return 1
+    command -v python3 >/dev/null || return 0
+    [ -s "$work/prefix/share/man/man3/ampferweg.3" ] && echo "installs with its manual page, and pkg-config finds it"
 }
 
 header_checks
@@ -150,6 +166,7 @@ for suffix in O2 $second; do
     try "extras, $suffix" plays play "$suffix" extras
 done
 try "headers of another block" other_headers
+if command -v python3 >/dev/null; then try "manual page" manual; else echo "manual page                  not checked: there is no python3 here"; fi
 cp "$work/play-O2" "$work/play"
 try "examples/tags" "$root/examples/tags/run.sh" "$(dirname "$archive")"
 try "examples/parity" "$root/examples/parity/run.sh" "$(dirname "$archive")"
