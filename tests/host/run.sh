@@ -23,22 +23,8 @@ cd "$root/tests/host" || exit 2
 cc=${CC:-cc}
 cxx=${CXX:-c++}
 flags="$CFLAGS -Wall -Wextra -Wpedantic -Wshadow -Wconversion -Werror -I $root/include"
-passed=0
-failed=0
-
-# Runs a command, and prints one line: its name, and the last line that it wrote, or that it failed and why.
-try() { # NAME COMMAND..
-    name=$1
-    shift
-    if "$@" >"$work/log" 2>&1; then
-        passed=$((passed + 1))
-        printf '%-28s %s\n' "$name" "$(tail -n 1 "$work/log")"
-    else
-        failed=$((failed + 1))
-        printf '%-28s FAILED\n' "$name"
-        head -n 20 "$work/log"
-    fi
-}
+# shellcheck source=tests/try.sh
+. "$root/tests/try.sh"
 
 # The header with a station of its own, in each language, and the example at its top.
 compiles() { # COMPILER.. FILE
@@ -87,12 +73,12 @@ program_checks() { # SUFFIX FLAGS..
     suffix=$1
     shift
     for name in layout calls refusals strangers session stream settings station replay; do
-        build "$suffix" $name "$@" || { failed=$((failed + 1)); echo "$name, $suffix: FAILED to build"; continue; }
+        build "$suffix" $name "$@" || { broken "$name, $suffix"; continue; }
         # shellcheck disable=SC2086
         [ "$name" = replay ] || try "$name, $suffix" $emulator "$work/$name-$suffix"
     done
     # shellcheck disable=SC2086
-    "$cc" -std=c99 "$@" $flags play.c play_parity.c "$tags" "$parity" "$archive" -o "$work/play-$suffix" || { failed=$((failed + 1)); echo "play, $suffix: FAILED to build"; }
+    "$cc" -std=c99 "$@" $flags play.c play_parity.c "$tags" "$parity" "$archive" -o "$work/play-$suffix" || broken "play, $suffix"
 }
 
 # Headers whose block is not the archive's, and no assertion to say so: opening a station tells.
@@ -179,5 +165,4 @@ else
     echo "make install                 not checked: there is no pkg-config here"
 fi
 
-echo "host: $passed passed, $failed failed"
-[ "$failed" -eq 0 ]
+counted host
