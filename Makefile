@@ -14,7 +14,8 @@
 #   make bare               two links on a Cortex-M4 without an operating system, under QEMU (examples/bare)
 #   make dissector-check    the Wireshark dissector, by tshark (examples/wireshark)
 #   make boards             every board's archives, made and tried under QEMU, and the figures of docs/BOARDS.md (boards)
-#   make bench              the workloads beside kcp-go's core, and docs/PERFORMANCE.md (bench)
+#   make bench              the workloads beside kcp-go's core, docs/PERFORMANCE.md and its pictures (bench)
+#   make pictures           docs/pictures, from the data that is there (docs/pictures/draw.py)
 #   make interop            a station against kcp-go (tests/interop; installs Debian packages)
 #
 # ARCHIVE names another archive to install or to try, as that of a release.
@@ -111,8 +112,11 @@ boards: $(MODULES)
 bench: $(ARCHIVE)
 	bench/run.py $(ARCHIVE)
 
+pictures:
+	docs/pictures/draw.py
+
 interop: $(ARCHIVE)
 	tests/interop/run.sh $(ARCHIVE)
 
-.PHONY: all archive install uninstall man verdict dist dist-check test demo test-examples bare dissector-check boards bench interop
+.PHONY: all archive install uninstall man verdict dist dist-check test demo test-examples bare dissector-check boards bench pictures interop
 .SECONDARY:

@@ -44,7 +44,7 @@ header_checks() {
     if command -v "$cxx" >/dev/null; then
         for standard in c++98 c++17; do try "header as $standard" compiles "$cxx" -std=$standard "$work/header.cc"; done
     else
-        echo "header as C++                not checked: there is no $cxx here"
+        echo "header as C++                  not checked: there is no $cxx here"
     fi
 }
 
@@ -110,6 +110,16 @@ manual() {
     [ "$count" -ge 30 ] && echo "$count functions, each in the manual page"
 }
 
+# The pictures of docs are those of the data that is there.
+pictures() {
+    mkdir -p "$work/pictures"
+    python3 "$root/docs/pictures/draw.py" "$work/pictures" >/dev/null || return 1
+    for picture in times loss memory; do
+        cmp "$work/pictures/$picture.svg" "$root/docs/pictures/$picture.svg" || { echo "run 'make pictures'"; return 1; }
+    done
+    echo "three pictures, as their data has them"
+}
+
 # Plays every script of a folder, and holds what is answered to the answers beside it.
 plays() { # PROGRAM SUFFIX FOLDER
     lines=0
@@ -152,7 +162,12 @@ for suffix in O2 $second; do
     try "extras, $suffix" plays play "$suffix" extras
 done
 try "headers of another block" other_headers
-if command -v python3 >/dev/null; then try "manual page" manual; else echo "manual page                  not checked: there is no python3 here"; fi
+if command -v python3 >/dev/null; then
+    try "manual page" manual
+    try "pictures" pictures
+else
+    echo "manual page and pictures       not checked: there is no python3 here"
+fi
 cp "$work/play-O2" "$work/play"
 try "examples/tags" "$root/examples/tags/run.sh" "$(dirname "$archive")"
 try "examples/parity" "$root/examples/parity/run.sh" "$(dirname "$archive")"
@@ -162,7 +177,7 @@ if [ -n "$emulator" ]; then
 elif command -v pkg-config >/dev/null; then
     try "make install" installs
 else
-    echo "make install                 not checked: there is no pkg-config here"
+    echo "make install                   not checked: there is no pkg-config here"
 fi
 
 counted host
