@@ -441,7 +441,7 @@ static inline ampferweg_result ampferweg_station_init_shared(ampferweg_station *
     if (mtu < AMPFERWEG_MTU_LEAST || mtu > AMPFERWEG_MTU_MOST) return -AMPFERWEG_SETTING_OUT_OF_RANGE;
     if (len < AMPFERWEG_STATION_MEMORY_SHARED(mtu)) return -AMPFERWEG_SHORT_PART;
     for (i = 0; i < sizeof *station; i++) byte[i] = 0;
-    at += (4 - (uintptr_t)memory % 4) % 4; /* records and acks want it */
+    at += (4 - (size_t)memory % 4) % 4; /* records and acks want it */
     station->table = (ampferweg_record *)(void *)at;
     station->table_len = AMPFERWEG_TABLE_LEN;
     station->acks = (uint32_t *)(void *)(station->table + AMPFERWEG_TABLE_LEN);
