@@ -143,7 +143,7 @@ int main(int argc, char **argv)
     if (port == 0) fprintf(stderr, "hub: --port is wanted (--help lists the options)\n");
     if (port == 0 || !open_links()) return 2;
     udp = udp_open("hub", port);
-    printf("hub: listens on port %u\n", port);
+    printf("hub: Ampferweg %s, %lu links, listens on port %u\n", ampferweg_version(), (unsigned long)links, port);
     start = clock_now();
     while (!ended && clock_now() - start < 1000 * seconds) take_in(run_links(clock_now()));
     summary();

@@ -84,10 +84,11 @@ said() { # NAME GOOD WORDS: counts, and prints a line
 }
 
 equal() { # FILE
-    [ "$ours$theirs" = 00 ] && cmp "$work/ours-heard.txt" "$work/theirs-$1.txt" && cmp "$work/theirs-heard.txt" "$work/ours-$1.txt"
+    [ "$ours$theirs" = 00 ] && cmp "$work/ours-heard.txt" "$work/theirs-$1.txt" && cmp "$work/theirs-heard.txt" "$work/ours-$1.txt" &&
+        grep -q ' 0 refused; ' "$work/ours.out" && ! grep 'refused map\[.*:' "$work/theirs.out"
 }
 
-# Both ends hear all that the other one sent.
+# Both ends hear all that the other one sent, and refuse nothing.
 joins() { # NAME FILE OURS THEIRS
     exchange "$2" 10 30 "$3" "$4" && equal "$2"
     said "$1" $? "$count messages each way, all equal; $(tail -n 1 "$work/relay.out")"
