@@ -1,5 +1,5 @@
-/* Delivery under loss, in virtual time: one end sends a message of 64 bytes every 20 ms, both flush every 10 ms, a datagram takes 20 ms, and
- * so many in a hundred are lost, both ways. Prints one JSON object: how many milliseconds after its sending a message was read.
+/* Delivery under loss, in virtual time: one end sends a message of 64 bytes every 20 ms, both flush every 10 ms, a datagram takes 20 ms,
+ * and so many in a hundred are lost, both ways. Prints one JSON object: how many milliseconds after its sending a message was read.
  *
  *     loss_NAME PERCENT MODE [MESSAGES [SEED]] */
 #include "kcp_impl.h"

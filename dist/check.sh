@@ -83,7 +83,8 @@ for release in "$@"; do
     cc=${prefix}gcc
     try "$target, sums" unpack "$release"
     case $target in *-linux) ;; *)
-        missing arm-none-eabi-gcc qemu-system-arm || try "$target, examples/bare" "$work/shop/examples/bare/run.sh" "$work/shop/lib/libampferweg.a"
+        missing arm-none-eabi-gcc qemu-system-arm ||
+            try "$target, examples/bare" "$work/shop/examples/bare/run.sh" "$work/shop/lib/libampferweg.a"
         continue ;;
     esac
     missing "$cc" "$emulator" || { try "$target, by pkg-config" by_pkg_config; try "$target, by CMake" by_cmake; }

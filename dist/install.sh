@@ -1,6 +1,6 @@
 #!/bin/sh
-# install.sh FOLDER PREFIX VERSION ARCHIVE TAGS PARITY: headers, archives, files for pkg-config and CMake into FOLDER, for use at PREFIX; the
-# manual page too, where there is a python3 to make it.
+# install.sh FOLDER PREFIX VERSION ARCHIVE TAGS PARITY: headers, archives, files for pkg-config and CMake into FOLDER, for use at PREFIX;
+# the manual page too, where there is a python3 to make it.
 set -eu
 [ $# -eq 6 ] || { echo "usage: install.sh FOLDER PREFIX VERSION ARCHIVE TAGS PARITY" >&2; exit 2; }
 to=$1 prefix=$2 version=$3

@@ -38,7 +38,8 @@ class Picture:
                           f'stroke-dasharray="{dash}"/>')
 
     def bar(self, x, y, width, height, fill, stroke="none"):
-        self.parts.append(f'<rect x="{x:.1f}" y="{y:.1f}" width="{max(width, 0.5):.1f}" height="{height:.1f}" fill="{fill}" stroke="{stroke}"/>')
+        self.parts.append(f'<rect x="{x:.1f}" y="{y:.1f}" width="{max(width, 0.5):.1f}" height="{height:.1f}" fill="{fill}" '
+                          f'stroke="{stroke}"/>')
 
     def curve(self, points, stroke, dash=""):
         at = " ".join(f"{x:.1f},{y:.1f}" for x, y in points)
@@ -150,8 +151,8 @@ def parts_of(mtu):
         ("receive pool", f"{slots['RECEIVE']} slots of mtu - 24", slots["RECEIVE"] * mss, OURS_TOO),
         ("table", f"{size['TABLE_LEN']} records of 16", 16 * size["TABLE_LEN"], "#009e73"),
         ("ack list", f"{size['ACKS_LEN']} numbers of 4", 4 * size["ACKS_LEN"], "#8c8c00"),
-        ("output", f"{size['OUTPUT_SIZE']:,} and {size['LENGTHS_LEN']} lengths of 2; may be shared", size["OUTPUT_SIZE"] + 2 * size["LENGTHS_LEN"],
-         "#e69f00"),
+        ("output", f"{size['OUTPUT_SIZE']:,} and {size['LENGTHS_LEN']} lengths of 2; may be shared",
+         size["OUTPUT_SIZE"] + 2 * size["LENGTHS_LEN"], "#e69f00"),
     ]
 
 

@@ -55,7 +55,8 @@ static void not_laid_out(void)
     memset(&station, 0x5A, sizeof station);
     memcpy(&was, &station, sizeof was);
     CHECK_EQUAL(ampferweg_station_init(&station, memory[0], AMPFERWEG_STATION_MEMORY(MTU) - 1, MTU), -AMPFERWEG_SHORT_PART);
-    CHECK_EQUAL(ampferweg_station_init_shared(&station, memory[0], AMPFERWEG_STATION_MEMORY_SHARED(MTU) - 1, MTU, &other), -AMPFERWEG_SHORT_PART);
+    CHECK_EQUAL(ampferweg_station_init_shared(&station, memory[0], AMPFERWEG_STATION_MEMORY_SHARED(MTU) - 1, MTU, &other),
+        -AMPFERWEG_SHORT_PART);
     CHECK_EQUAL(ampferweg_station_init(&station, memory[0], sizeof memory[0], 49), -AMPFERWEG_SETTING_OUT_OF_RANGE);
     CHECK_EQUAL(ampferweg_station_init(&station, memory[0], sizeof memory[0], 1401), -AMPFERWEG_SETTING_OUT_OF_RANGE);
     CHECK_EQUAL(ampferweg_station_init(&station, memory[0], 0, 0), -AMPFERWEG_SETTING_OUT_OF_RANGE);
@@ -233,7 +234,7 @@ static void counts_the_wire(void)
     for (now = 0; now < 20000; now += 10) {
         if (sent < 300 && ampferweg_station_send(&station, message, sent % sizeof message) == 0) sent++;
         else if (sent < 300) full++;
-        (void)(now % 20 ? ampferweg_station_run_to(&station, now, lossy, &other) : ampferweg_station_flush_to(&station, now, lossy, &other));
+        (void)(now % 20 ? ampferweg_station_run_to : ampferweg_station_flush_to)(&station, now, lossy, &other);
         while (ampferweg_station_read(&other, message, sizeof message) >= 0) { }
         none++;
         (void)ampferweg_station_flush_to(&other, now, back, &station);
