@@ -36,6 +36,9 @@ static void laid_out(uint32_t mtu, size_t offset)
     for (i = 0; i < len; i++) message[i] = (uint8_t)(i * 7);
     CHECK_EQUAL(ampferweg_station_init(&station, memory[0] + offset, size, mtu), 0);
     CHECK_EQUAL(ampferweg_station_init_shared(&other, memory[1] + offset, AMPFERWEG_STATION_MEMORY_SHARED(mtu), mtu, &station), 0);
+    CHECK((size_t)station.table % 4 == 0 && (size_t)station.acks % 4 == 0 && (size_t)station.lengths % 2 == 0);
+    CHECK(station.output + station.output_len <= memory[0] + offset + size);
+    CHECK(other.receive_pool + other.receive_pool_len <= memory[1] + offset + AMPFERWEG_STATION_MEMORY_SHARED(mtu));
     CHECK_EQUAL(ampferweg_station_size(&station), -AMPFERWEG_INVALID_BLOCK);
     CHECK(ampferweg_station_open(&station, 7, mtu, 1, 10, 2) == 0 && ampferweg_station_open(&other, 7, mtu, 1, 10, 2) == 0);
     CHECK(ampferweg_station_send(&station, message, len) == 0 && ampferweg_station_send(&other, message, len) == 0);
@@ -244,6 +247,7 @@ static void counts_the_wire(void)
     CHECK_EQUAL(station.counters.segments_out, wire.pushes);
     CHECK_EQUAL(station.counters.retransmissions, wire.again);
     CHECK_EQUAL(other.counters.datagrams_in, wire.arrived);
+    CHECK(other.counters.datagrams_out > 0 && other.counters.segments_out == 0 && other.counters.retransmissions == 0); /* acks alone */
     CHECK_EQUAL(station.counters.refused[11], full);
     CHECK_EQUAL(other.counters.refused[9], none);
     CHECK_EQUAL(ampferweg_station_open(&station, 7, MTU, 1, 10, 2), 0);
