@@ -1,15 +1,19 @@
 -- `check`: the checks of 7 and 13, then what the schedule names.
 -- Assumes nothing.
-use mathlib.Core.Path.{ap, _∙_}
+use mathlib.Core.Path.{_≡_, ap, _∙_}
+use mathlib.Core.List.{List}
+use Prim.Native.Nat.{ℕ}
 use borrow.Author.Needs.{needs}
-use lib.ListN.{take}
+use lib.ListN.{length, take}
+use Rattle.lists.proofs.Loops.{length-mapped}
+use Rattle.checking.specs.Verdicts.{verdictOf}
 use Rattle.schedule.specs.Schedules.{duesOf, named}
 use Rattle.schedule.specs.declared.Schedule.{Schedule}
-use Rattle.control.specs.Views.{arrays, linkOf}
+use Rattle.control.specs.Views.{arrays, linkOf, blockValid}
 use Rattle.control.specs.declared.Link.{Link}
-use Rattle.update_core.proofs.Dues.{names, refuses}
-use Rattle.update_core.proofs.check.Statement.{statement}
-use Rattle.update_core.proofs.check.Tie as tie
+use Rattle.check_core.proofs.Dues.{names, refuses}
+use Rattle.check_core.proofs.check.Statement.{statement}
+use Rattle.check_core.proofs.check.Tie as tie
 
 -- the block
 abbrev block : tie.Start → Link
@@ -17,6 +21,13 @@ block s =
     let a = s .args in
     linkOf (a .settings) (a .flight) (a .arrival) (a .clock)
     (arrays (a .queued .now) (a .outstanding .now) (a .transmissions .now) (a .ready .now) (a .waiting .now) (a .waiting-numbers .now))
+
+-- what the checks say
+judged : (c : tie.After-admit-hearing) (acks : List ℕ)
+    → let sizes = c .before .before .before .before .before .before .before .before in
+    let start = sizes .before .before .before .before in
+    c .admit-hearing .result ≡ verdictOf (sizes .enough .result) (blockValid (block start) (start .args .records) acks)
+judged c acks = ?
 
 returns : tie.Need-returns
 returns c =
