@@ -54,6 +54,9 @@ class Truth:
     def makes(self):
         return '(bool-makes 𝓤 H A W)'
 
+    def slot(self):
+        return '(plain (λ _. Boolean))'
+
 
 class Nothing:
     row, denot, uses = 'unit', 'Unit {0}', []

@@ -24,19 +24,24 @@ block s =
 
 -- what the checks say
 judged : (c : tie.After-admit-hearing) (acks : List ℕ)
-    → let sizes = c .before .before .before .before .before .before .before .before in
+    → let sizes = c .before .before .before in
     let start = sizes .before .before .before .before in
     c .admit-hearing .result ≡ verdictOf (sizes .enough .result) (blockValid (block start) (start .args .records) acks)
-judged c acks = ?
+judged c acks =
+    let fits = c .before .before in
+    let start = fits .before .before .before .before .before in
+    let many : length (start .args .records) ≡ 32 = search (needs, length-mapped, start .good .1 .1 .1 .1 .0) in
+    c .admit-hearing .ensures (start .args .records) (record { whole = many; fits = fits .flight-fits .ensures }) .1 .verdict acks
 
 returns : tie.Need-returns
 returns c =
     let schedules = c .before in
     let told = schedules .before in
     let checks = told .before .before in
-    let start = checks .before .before .before .before .before in
+    let sizes = checks .before .before .before in
+    let start = sizes .before .before .before .before in
     let a = start .args in
-    names (block start) (start .pre) (a .records) (a .acks .now) _ _ _ (checks .before .enough .ensures) (checks .checked .ensures _)
+    names (block start) (start .pre) (a .records) (a .acks .now) _ _ _ (sizes .enough .ensures) (judged checks _)
     (a .t) (told .enum-told .given .1) _
     (c .check .ensures
     ∙ ap (λ (s : Schedule). named s (a .t) (a .settings .interval)
@@ -45,15 +50,17 @@ returns c =
 returns-2 : tie.Need-returns-2
 returns-2 c =
     let checks = c .before .before .before in
-    let start = checks .before .before .before .before .before in
+    let sizes = checks .before .before .before in
+    let start = sizes .before .before .before .before in
     let a = start .args in
-    refuses (block start) (start .pre) (a .records) (a .acks .now) _ _ _ (checks .before .enough .ensures) (checks .checked .ensures _)
+    refuses (block start) (start .pre) (a .records) (a .acks .now) _ _ _ (sizes .enough .ensures) (judged checks _)
     (a .t) _ (c .before .verdict .given .1)
 
 pub check-spec : {M : Type 1} → statement M
 check-spec =
     tie.close
     (tie.spec
+    (λ c κs. search needs)
     (λ c κs. search needs)
     (λ c κs. search needs)
     (λ c. search needs)
