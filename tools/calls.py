@@ -4,6 +4,7 @@
 #   z₁         what is behind parameter 1 at the end                       r             the result
 #   e-a, is-a  what the callee ensures whose result is a, and that a's machine value is a's;   end-queued: the field has its length
 # Run: python3 tools/calls.py [NAME ..], then rt fmt.
+import re
 import sys
 
 from mir import Call, write
@@ -30,7 +31,7 @@ TYPES = {
 
 # what a proof names of the specs and laws
 NAMES = {
-    'mathlib.Core.Path': '_∙_ sym subst', 'mathlib.Core.Bool': 'Bool true false', 'denote.Plain': 'Boolean bool-lawful bool-makes', 'lib.ListN': 'take',
+    'mathlib.Core.Path': '_∙_ sym subst', 'mathlib.Core.Bool': 'Bool true false', 'denote.Plain': 'Boolean bool-vals bool-tells bool-lawful bool-makes', 'mir.Val': 'vbool', 'lib.ListN': 'take',
     'Rattle.protocol.specs.Protocol': 'sendSlots', 'Rattle.records.specs.Tables': 'slotsIn gathered padded scattered',
     'Rattle.control.specs.Views': 'Whole Arrays arrays arraysOf linkOf',
     'Rattle.checking.specs.Tests': 'flightFits', 'Rattle.checking.specs.Verdicts': 'Flown Flies ByFlown',
@@ -292,6 +293,15 @@ def update():
 CALLS = {'open': open_, 'send': send, 'take_in': take_in, 'input': input_, 'write_out': write_out, 'put_back': put_back, 'flush': flush, 'update': update,
          'check': check, 'read': read, 'size': size, 'show': show}
 
+
+
+def named_from(crate):
+    """The modules of NAMES as this crate names them: one of its own as it stands, another's by its public name."""
+    outside = lambda m: m[0] if m[1] == crate else f'Rattle.{m[1]}.{m[2]}'
+    return {re.sub(r'^Rattle·(\w+)·(specs|proofs)\.\2', outside, module): what for module, what in NAMES.items()}
+
+
 if __name__ == '__main__':
     for which in sys.argv[1:] or CALLS:
-        write(types=TYPES, names=NAMES, declared=DECLARED, **CALLS[which]())
+        call = CALLS[which]()
+        write(types=TYPES, names=named_from(call['crate']), declared=DECLARED, **call)
