@@ -1,9 +1,9 @@
 // The verdict for a call that takes no send slots.
 use crate::Verdict;
+use crate::judged;
 use crate::numbers;
 use crate::receiving_fits;
 use crate::sending_fits;
-use crate::judged;
 use crate::within;
 use control::Arrival;
 use control::Clock;

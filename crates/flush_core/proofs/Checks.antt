@@ -81,7 +81,9 @@ module _ (c : Settings) (f : Flight) (a : Arrival) (k : Clock) (x : Arrays) (rec
 
     pub kept : (paced : Bool) → Core paced block records table sendPool receivePool acks t out lengths r after out lengths
     unfolding flushesWith updatesWith
-    kept false =
-        (count.Refused q, ap (λ (y : Flushed). y .answer) w,
-        rw (← e, refused-by _ long (blockValid block records acks) v q d p) nothing)
+    kept false = (
+      count.Refused q,
+      ap (λ (y : Flushed). y .answer) w,
+      rw (← e, refused-by _ long (blockValid block records acks) v q d p) nothing,
+    )
     kept true = rw (← e, refused-by _ long (blockValid block records acks) v q d p) (ap (λ (y : Flushed). y .answer) w, nothing)

@@ -117,8 +117,7 @@ module _ (c : Settings) (f : Flight) (a : Arrival) (k : Clock) (queued outstandi
       pub runs : (words : List ℕ) → words ≡ outstanding′
           → Wrote block records pool acks t out lengths (record { answer = update.Wrote (w .count); flight = f′; arrival = a′; clock = k′; words = words; changed = f′ .outstanding; records = w .records }) after out′ lengths′
       runs words e =
-          let number = written .output .number ∙ length-map (flushing before t pool .datagrams) bytesOfSegments in
-          (
+          let number = written .output .number ∙ length-map (flushing before t pool .datagrams) bytesOfSegments in (
             ap update.Wrote number,
             record {
               answer = refl;

@@ -138,15 +138,15 @@ module _ {M : Type 1} (𝓤 : URA M) (H : Heap 𝓤) (A : Atoms 𝓤) (W : Given
     to-gather y₀ u₀ y₁ u₁ = (((κ₃, tt), (q₃, tt), tt, (x₃, (y₀, (y₁, tt))), (s₃ ∷ [], (u₀ ∷ [], (u₁ ∷ [], tt)))), tt)
 
     asks-gather : (y₀ : (List ℕ)) (u₀ : Val) → Is (Array u32 32) y₀ (u₀ ∷ []) → (y₁ : ℕ) (u₁ : Val) → Is usize y₁ (u₁ ∷ []) → ent 𝓤 (⋆ 𝓤 H A (‵ (flft κ₃ q₃) ∷ ‵ Own₃ ∷ [])) (tripleOf 𝓤 H A gather.signature (gather.spec 𝓤 H A at-mem run) .pre (to-gather y₀ u₀ y₁ u₁))
-    asks-gather  y₀ u₀ is₀ y₁ u₁ is₁  =
+    asks-gather y₀ u₀ is₀ y₁ u₁ is₁ =
         qed W (‵ (flft κ₃ q₃) ∷ ‵ Own₃ ∷ []) ∵ nothing ! $ move ! (1 ∷ 0 ∷ []) $ join ! $ nothing ! $ owned ! usize (Is usize) (uint-makes 𝓤 H A W w64) y₁ _ is₁ $ fjoin ! $ owned ! (Array u32 32) (Is (Array u32 32)) (array-makes 𝓤 H A W u32 (uint-makes 𝓤 H A W w32) 32) y₀ _ is₀ $ fjoin ! $ move ! (2 ∷ 0 ∷ []) $ fjoin ! $ move ! (1 ∷ 0 ∷ []) $ join ! $ nothing ! $ move ! (1 ∷ 0 ∷ []) $ done !
 
     -- what table-len is called at, and that what it asks is had
     abbrev to-table-len : tripleOf 𝓤 H A table-len.signature (table-len.spec 𝓤 H A at-mem run) .Ghost
-    to-table-len  = (((κ₃, tt), (q₃, tt), tt, (x₃, tt), (s₃ ∷ [], tt)), tt)
+    to-table-len = (((κ₃, tt), (q₃, tt), tt, (x₃, tt), (s₃ ∷ [], tt)), tt)
 
-    asks-table-len :  ent 𝓤 (⋆ 𝓤 H A (‵ (flft κ₃ q₃) ∷ ‵ Own₃ ∷ [])) (tripleOf 𝓤 H A table-len.signature (table-len.spec 𝓤 H A at-mem run) .pre (to-table-len ))
-    asks-table-len    =
+    asks-table-len : ent 𝓤 (⋆ 𝓤 H A (‵ (flft κ₃ q₃) ∷ ‵ Own₃ ∷ [])) (tripleOf 𝓤 H A table-len.signature (table-len.spec 𝓤 H A at-mem run) .pre (to-table-len))
+    asks-table-len =
         qed W (‵ (flft κ₃ q₃) ∷ ‵ Own₃ ∷ []) ∵ nothing ! $ move ! (1 ∷ 0 ∷ []) $ join ! $ nothing ! $ move ! (2 ∷ 0 ∷ []) $ fjoin ! $ move ! (1 ∷ 0 ∷ []) $ join ! $ nothing ! $ move ! (1 ∷ 0 ∷ []) $ done !
 
     -- what core is called at, and that what it asks is had
@@ -162,7 +162,7 @@ module _ {M : Type 1} (𝓤 : URA M) (H : Heap 𝓤) (A : Atoms 𝓤) (W : Given
     to-code-of y₀ u₀ = (((κ₅, tt), (q₅, tt), tt, (y₀, (x₆, tt)), (u₀ ∷ [], (s₆ ∷ [], tt))), tt)
 
     asks-code-of : (y₀ : Time) (u₀ : Val) → Is time-row.the-row y₀ (u₀ ∷ []) → ent 𝓤 (⋆ 𝓤 H A (‵ (flft κ₅ q₅) ∷ ‵ Own₆ ∷ [])) (tripleOf 𝓤 H A code-of.signature (code-of.spec 𝓤 H A at-mem run) .pre (to-code-of y₀ u₀))
-    asks-code-of  y₀ u₀ is₀  =
+    asks-code-of y₀ u₀ is₀ =
         qed W (‵ (flft κ₅ q₅) ∷ ‵ Own₆ ∷ []) ∵ nothing ! $ move ! (1 ∷ 0 ∷ []) $ join ! $ nothing ! $ move ! (2 ∷ 0 ∷ []) $ fjoin ! $ owned ! time-row.the-row (Is time-row.the-row) (EL.makes time-row.the-type time-laws.the-plain 𝓤 H A) y₀ _ is₀ $ fjoin ! $ move ! (1 ∷ 0 ∷ []) $ join ! $ nothing ! $ move ! (1 ∷ 0 ∷ []) $ done !
 
     abbrev Had : (z₆ : ℕ) → List (Item 𝓤)
@@ -172,9 +172,9 @@ module _ {M : Type 1} (𝓤 : URA M) (H : Heap 𝓤) (A : Atoms 𝓤) (W : Given
     abbrev Said : (r : ℤ) (z₆ : ℕ) → Type 0
     Said r z₆ = Gives timeCode (λ a. TimePromise x₅ h (partsOf (x₁ .now) (x₂ .now) (x₃ .now) (x₄ .now)) a (x₆ .now) z₆) r
 
-    exits : (r : ℤ) (w : Val) (z₆ : ℕ) → Said r z₆  → Is i32 r (w ∷ []) → ent 𝓤 (⋆ 𝓤 H A (Had z₆)) (Post w)
+    exits : (r : ℤ) (w : Val) (z₆ : ℕ) → Said r z₆ → Is i32 r (w ∷ []) → ent 𝓤 (⋆ 𝓤 H A (Had z₆)) (Post w)
     unfolding Post
-    exits r w z₆ e  g =
+    exits r w z₆ e g =
         qed W (Had z₆) ∵ suffices ! _ (ends-at 𝓤 H A f.ended stayed (f.clauses 𝓤 H A at-mem run) W (((κ₀, (κ₁, (κ₂, (κ₃, (κ₄, (κ₅, tt)))))), (q₀, (q₁, (q₂, (q₃, (q₄, (q₅, tt)))))), tt, x, at), tt) w r (tt, (tt, (tt, (tt, (tt, (tt, (z₆, tt))))))) (tt, (tt, (tt, (tt, (tt, (tt, (tt, tt)))))))) $ says ! e $
         nothing ! $ move ! (7 ∷ 0 ∷ []) $ join ! $ move ! (5 ∷ 0 ∷ []) $ join ! $ move ! (4 ∷ 0 ∷ []) $ join ! $ move ! (3 ∷ 0 ∷ []) $ join ! $ move ! (2 ∷ 0 ∷ []) $ join ! $ move ! (1 ∷ 0 ∷ []) $ join ! $ frame ! $ nothing ! $ move ! (1 ∷ 0 ∷ []) $ fjoin ! $ nothing ! $ fjoin ! $ nothing ! $ fjoin ! $ nothing ! $ fjoin ! $ nothing ! $ fjoin ! $ nothing ! $ fjoin ! $ nothing ! $ fjoin ! $ frame ! $ owned ! i32 (Is i32) (sint-makes 𝓤 H A W w32) r _ g $ done !
 
@@ -191,8 +191,8 @@ module _ {M : Type 1} (𝓤 : URA M) (H : Heap 𝓤) (A : Atoms 𝓤) (W : Given
       part₂ past =
           qed W (‵ (partAt (Array u32 128) (past .24) (h .«waiting_numbers») b (o + 1820)) ∷ ‵ (partAt (Array u32 128) (past .24) (h .waiting) b (o + 1308)) ∷ ‵ (partAt (Array u32 128) (past .24) (h .ready) b (o + 796)) ∷ ‵ (partAt (Array u8 32) (past .24) (h .transmissions) b (o + 764)) ∷ ‵ (partAt (Array u32 32) (past .24) (h .outstanding) b (o + 636)) ∷ ‵ (partAt (Array u32 128) (past .24) (h .queued) b (o + 124)) ∷ ‵ (flft κ₁ q₁) ∷ ‵ (flft κ₂ q₂) ∷ ‵ (flft κ₄ q₄) ∷ ‵ (flft κ₃ q₃) ∷ ‵ (partAt clock-row.the-row (past .24) (h .clock) b (o + 104)) ∷ ‵ (partAt arrival-row.the-row (past .24) (h .arrival) b (o + 72)) ∷ ‵ (partAt flight-row.the-row (past .24) (h .flight) b (o + 16)) ∷ ‵ (partAt settings-row.the-row (past .24) (h .settings) b (o + 0)) ∷ raw (Back 𝓤 H A (past .24) b o) ∷ ‵ (fobor κ₀ q₀ (partAt L (past .24) h b o)) ∷ (‵ (fdies (tyInt w32) (past .0)) ⊛ ‵ (fdies (tyRef (named 0) imm (pointee (L .written))) (past .1)) ⊛ ‵ (fdies (sliceTy (tyRef (named 1) imm (tyInt w8))) (past .2)) ⊛ ‵ (fdies (sliceTy (tyRef (named 2) imm (tyInt w8))) (past .3)) ⊛ ‵ (fdies (sliceTy (tyRef (named 3) imm (pointee (R .written)))) (past .4)) ⊛ ‵ (fdies (sliceTy (tyRef (named 4) imm (tyInt w32))) (past .5)) ⊛ ‵ (fdies (tyInt w32) (past .6)) ⊛ ‵ (fdies (tyRef (named 5) mut (tyInt w32)) (past .7)) ⊛ ‵ (fdies settings-laws.mir (past .8)) ⊛ ‵ (fdies flight-laws.mir (past .9)) ⊛ ‵ (fdies arrival-laws.mir (past .10)) ⊛ ‵ (fdies clock-laws.mir (past .11)) ⊛ ‵ (fdies (tyArray (tyInt w32) 32) (past .12)) ⊛ ‵ (fdies (tyInt w64) (past .13)) ⊛ ‵ (fdies (tyArray record-laws.mir 32) (past .14)) ⊛ ‵ (fdies (tyInt w64) (past .15)) ⊛ ‵ (fdies time-laws.mir (past .16)) ⊛ ‵ (fdies (tyRef erased imm (tyArray (tyInt w32) 128)) (past .17)) ⊛ ‵ (fdies (tyRef erased imm (tyArray (tyInt w32) 32)) (past .18)) ⊛ ‵ (fdies (tyRef erased imm (tyArray (tyInt w8) 32)) (past .19)) ⊛ ‵ (fdies (tyRef erased imm (tyArray (tyInt w32) 128)) (past .20)) ⊛ ‵ (fdies (tyRef erased imm (tyArray (tyInt w32) 128)) (past .21)) ⊛ ‵ (fdies (tyRef erased imm (tyArray (tyInt w32) 128)) (past .22)) ⊛ ‵ (fdies (tyRef erased mut (tyInt w32)) (past .23))) ∷ ‵ (flft κ₅ q₅) ∷ ‵ Own₆ ∷ ‵ (froom (tyRef erased mut (tyInt w32)) (past .23) 0) ∷ ‵ (fat fullShare (tyRef erased imm (tyArray (tyInt w32) 128)) (past .22) 0 ((vptr b (o + 1820)))) ∷ ‵ (fat fullShare (tyRef erased imm (tyArray (tyInt w32) 128)) (past .21) 0 ((vptr b (o + 1308)))) ∷ ‵ (fat fullShare (tyRef erased imm (tyArray (tyInt w32) 128)) (past .20) 0 ((vptr b (o + 796)))) ∷ ‵ (fat fullShare (tyRef erased imm (tyArray (tyInt w8) 32)) (past .19) 0 ((vptr b (o + 764)))) ∷ ‵ (fat fullShare (tyRef erased imm (tyArray (tyInt w32) 32)) (past .18) 0 ((vptr b (o + 636)))) ∷ ‵ (fat fullShare (tyRef erased imm (tyArray (tyInt w32) 128)) (past .17) 0 ((vptr b (o + 124)))) ∷ ‵ (fat fullShare time-laws.mir (past .16) 0 ((past .35))) ∷ ‵ (fat fullShare (tyInt w64) (past .15) 0 ((past .32))) ∷ ‵ (fat fullShare (tyArray record-laws.mir 32) (past .14) 0 ((past .29))) ∷ ‵ (fat fullShare (tyInt w64) (past .13) 0 ((past .26))) ∷ ‵ (fat fullShare (tyArray (tyInt w32) 32) (past .12) 0 ((only ((array-vals (uint-vals w32)) (h .outstanding))))) ∷ ‵ (fat fullShare clock-laws.mir (past .11) 0 ((only ((LL.vals clock-row.the-type clock-laws.the-laws) (h .clock))))) ∷ ‵ (fat fullShare arrival-laws.mir (past .10) 0 ((only ((LL.vals arrival-row.the-type arrival-laws.the-laws) (h .arrival))))) ∷ ‵ (fat fullShare flight-laws.mir (past .9) 0 ((only ((LL.vals flight-row.the-type flight-laws.the-laws) (h .flight))))) ∷ ‵ (fat fullShare settings-laws.mir (past .8) 0 ((only ((LL.vals settings-row.the-type settings-laws.the-laws) (h .settings))))) ∷ ‵ (fat fullShare (tyRef (named 5) mut (tyInt w32)) (past .7) 0 (s₆)) ∷ ‵ (fat fullShare (tyInt w32) (past .6) 0 (v₅)) ∷ ‵ (fat fullShare (sliceTy (tyRef (named 4) imm (tyInt w32))) (past .5) 0 (s₄)) ∷ ‵ (fat fullShare (sliceTy (tyRef (named 3) imm (pointee (R .written)))) (past .4) 0 (s₃)) ∷ ‵ (fat fullShare (sliceTy (tyRef (named 2) imm (tyInt w8))) (past .3) 0 (s₂)) ∷ ‵ (fat fullShare (sliceTy (tyRef (named 1) imm (tyInt w8))) (past .2) 0 (s₁)) ∷ ‵ (fat fullShare (tyRef (named 0) imm (pointee (L .written))) (past .1) 0 (vptr b o)) ∷ ‵ (froom (tyInt w32) (past .0) 0) ∷ []) ∵ exec ! C Λ (En (past .0) (past .1) (past .2) (past .3) (past .4) (past .5) (past .6) (past .7) (past .8) (past .9) (past .10) (past .11) (past .12) (past .13) (past .14) (past .15) (past .16) (past .17) (past .18) (past .19) (past .20) (past .21) (past .22) (past .23)) (behind 15 (code.function .body)) (atRet (En (past .0) (past .1) (past .2) (past .3) (past .4) (past .5) (past .6) (past .7) (past .8) (past .9) (past .10) (past .11) (past .12) (past .13) (past .14) (past .15) (past .16) (past .17) (past .18) (past .19) (past .20) (past .21) (past .22) (past .23)) Post) $
           assigns ! {v = s₆} (addr ! (from ! (hop ! (look ! 35 refl) (stop !)))) (from ! (stop !)) (init ! 19 refl (tt, tt)) $
-          move ! (17 ∷ 18 ∷ []) $ join ! $ calls-fn ! fm code-of.ended (code-of.clauses 𝓤 H A at-mem run) (known .4) (to-code-of  (past .34) (past .35)) (λ r ws-r. (r ≡ timeCode (past .34)) × ((ws-r .1 .0) ≡ timeStored (past .34) (x₆ .now))) (‵ (flft κ₅ q₅) ⊛ ‵ Own₆)
-          (asks-code-of  (past .34) (past .35) (past .37) ) (λ r ws-r. id⊢ 𝓤 _)
+          move ! (17 ∷ 18 ∷ []) $ join ! $ calls-fn ! fm code-of.ended (code-of.clauses 𝓤 H A at-mem run) (known .4) (to-code-of (past .34) (past .35)) (λ r ws-r. (r ≡ timeCode (past .34)) × ((ws-r .1 .0) ≡ timeStored (past .34) (x₆ .now))) (‵ (flft κ₅ q₅) ⊛ ‵ Own₆)
+          (asks-code-of (past .34) (past .35) (past .37)) (λ r ws-r. id⊢ 𝓤 _)
           (and-then ! (load ! (from ! (stop !)) (look ! 25 refl)) (and-then ! (load ! (from ! (stop !)) (look ! 18 refl)) (no-more !))) (λ r w-r ws-r e-r is-r. land ! (from ! (stop !)) (init ! 42 refl (sint-lawful 𝓤 H A W w32 .typed r _ is-r .0)) $
           spread W (‵ (flft κ₅ q₅)) (‵ ftrue ∷ []) (id⊢ 𝓤 _) $ move ! (2 ∷ []) $ spread W (‵ ftrue) (‵ (fres (x₆ .name) (u32 .coded .code (ws-r .1 .0))) ∷ ‵ ftrue ∷ []) (id⊢ 𝓤 _) $ keep ! (1 ∷ 3 ∷ 5 ∷ 6 ∷ 7 ∷ 8 ∷ 9 ∷ 10 ∷ 11 ∷ 12 ∷ 13 ∷ 14 ∷ 15 ∷ 16 ∷ 17 ∷ 18 ∷ 19 ∷ 20 ∷ 21 ∷ 22 ∷ 23 ∷ 24 ∷ 25 ∷ 26 ∷ 27 ∷ 28 ∷ 29 ∷ 30 ∷ 31 ∷ 32 ∷ 33 ∷ 34 ∷ 35 ∷ 36 ∷ 37 ∷ 38 ∷ 39 ∷ 40 ∷ 41 ∷ 42 ∷ 43 ∷ 44 ∷ 45 ∷ []) $
           -- [fin6; tok6; F:«waiting_numbers»; F:waiting; F:ready; F:transmissions; F:outstanding; F:queued; tok1; tok2; tok4; tok3; F:clock; F:arrival; F:flight; F:settings; back; opened; deaths; the locals]
@@ -200,7 +200,7 @@ module _ {M : Type 1} (𝓤 : URA M) (H : Heap 𝓤) (A : Atoms 𝓤) (W : Given
           -- [tok0; fin6; tok6; tok1; tok2; tok4; tok3; deaths; the locals]
           returns ! (look ! 31 refl) $
           move ! (7 ∷ []) $ spread W (‵ (fdies (tyInt w32) (past .0))) (‵ (fdies (tyRef (named 0) imm (pointee (L .written))) (past .1)) ∷ ‵ (fdies (sliceTy (tyRef (named 1) imm (tyInt w8))) (past .2)) ∷ ‵ (fdies (sliceTy (tyRef (named 2) imm (tyInt w8))) (past .3)) ∷ ‵ (fdies (sliceTy (tyRef (named 3) imm (pointee (R .written)))) (past .4)) ∷ ‵ (fdies (sliceTy (tyRef (named 4) imm (tyInt w32))) (past .5)) ∷ ‵ (fdies (tyInt w32) (past .6)) ∷ ‵ (fdies (tyRef (named 5) mut (tyInt w32)) (past .7)) ∷ ‵ (fdies settings-laws.mir (past .8)) ∷ ‵ (fdies flight-laws.mir (past .9)) ∷ ‵ (fdies arrival-laws.mir (past .10)) ∷ ‵ (fdies clock-laws.mir (past .11)) ∷ ‵ (fdies (tyArray (tyInt w32) 32) (past .12)) ∷ ‵ (fdies (tyInt w64) (past .13)) ∷ ‵ (fdies (tyArray record-laws.mir 32) (past .14)) ∷ ‵ (fdies (tyInt w64) (past .15)) ∷ ‵ (fdies time-laws.mir (past .16)) ∷ ‵ (fdies (tyRef erased imm (tyArray (tyInt w32) 128)) (past .17)) ∷ ‵ (fdies (tyRef erased imm (tyArray (tyInt w32) 32)) (past .18)) ∷ ‵ (fdies (tyRef erased imm (tyArray (tyInt w8) 32)) (past .19)) ∷ ‵ (fdies (tyRef erased imm (tyArray (tyInt w32) 128)) (past .20)) ∷ ‵ (fdies (tyRef erased imm (tyArray (tyInt w32) 128)) (past .21)) ∷ ‵ (fdies (tyRef erased imm (tyArray (tyInt w32) 128)) (past .22)) ∷ ‵ (fdies (tyRef erased mut (tyInt w32)) (past .23)) ∷ []) (id⊢ 𝓤 _) $ move ! (54 ∷ 0 ∷ 53 ∷ 1 ∷ 52 ∷ 2 ∷ 51 ∷ 3 ∷ 50 ∷ 4 ∷ 49 ∷ 5 ∷ 48 ∷ 6 ∷ 47 ∷ 7 ∷ 46 ∷ 8 ∷ 45 ∷ 9 ∷ 44 ∷ 10 ∷ 43 ∷ 11 ∷ 42 ∷ 12 ∷ 41 ∷ 13 ∷ 40 ∷ 14 ∷ 39 ∷ 15 ∷ 38 ∷ 16 ∷ 37 ∷ 17 ∷ 36 ∷ 18 ∷ 35 ∷ 19 ∷ 34 ∷ 20 ∷ 33 ∷ 21 ∷ 32 ∷ 22 ∷ 31 ∷ 23 ∷ []) $ forget ! 0 refl $ free1 ! $ forget ! 0 refl $ free1 ! $ forget ! 0 refl $ free1 ! $ forget ! 0 refl $ free1 ! $ forget ! 0 refl $ free1 ! $ forget ! 0 refl $ free1 ! $ forget ! 0 refl $ free1 ! $ forget ! 0 refl $ free1 ! $ forget ! 0 refl $ free1 ! $ forget ! 0 refl $ free1 ! $ forget ! 0 refl $ free1 ! $ forget ! 0 refl $ free1 ! $ forget ! 0 refl $ free1 ! $ forget ! 0 refl $ free1 ! $ forget ! 0 refl $ free1 ! $ forget ! 0 refl $ free1 ! $ forget ! 0 refl $ free1 ! $ forget ! 0 refl $ free1 ! $ forget ! 0 refl $ free1 ! $ forget ! 0 refl $ free1 ! $ forget ! 0 refl $ free1 ! $ forget ! 0 refl $ free1 ! $ forget ! 0 refl $ free1 ! $ forget ! 0 refl $ free1 ! $ free0 ! $
-          move ! (0 ∷ 3 ∷ 4 ∷ 6 ∷ 5 ∷ 1 ∷ 2 ∷ []) $ by ! (exits r w-r  (ws-r .1 .0) (told timeCode _ (past .34) (e-r .0) (record { time = check-promised h (partsOf (x₁ .now) (x₂ .now) (x₃ .now) (x₄ .now)) (past .28) (past .31) (gathers h (partsOf (x₁ .now) (x₂ .now) (x₃ .now) (x₄ .now)) (past .25) (past .28) (past .31) (past .27) (past .30) (past .33)) x₅ (past .34) (past .36); when = e-r .1 }))  is-r))
+          move ! (0 ∷ 3 ∷ 4 ∷ 6 ∷ 5 ∷ 1 ∷ 2 ∷ []) $ by ! (exits r w-r (ws-r .1 .0) (told timeCode _ (past .34) (e-r .0) (record { time = check-promised h (partsOf (x₁ .now) (x₂ .now) (x₃ .now) (x₄ .now)) (past .28) (past .31) (gathers h (partsOf (x₁ .now) (x₂ .now) (x₃ .now) (x₄ .now)) (past .25) (past .28) (past .31) (past .27) (past .30) (past .33)) x₅ (past .34) (past .36); when = e-r .1 })) is-r))
 
       -- what part 1 knows
       abbrev Known₁ : Type 0
@@ -244,13 +244,13 @@ module _ {M : Type 1} (𝓤 : URA M) (H : Heap 𝓤) (A : Atoms 𝓤) (W : Given
           cell-in ! q′ (Array u32 32) (array-makes 𝓤 H A W u32 (uint-makes 𝓤 H A W w32) 32) (h .outstanding) b (o + 636) (only ((array-vals (uint-vals w32)) (h .outstanding))) was-outstanding $ nothing ! $ calls-fn ! fm count-of.ended (count-of.clauses 𝓤 H A at-mem run) (known .0) ((tt, tt, tt, ((h .flight), tt), ((only ((LL.vals flight-row.the-type flight-laws.the-laws) (h .flight))) ∷ [], tt)), tt) (λ n _. n ≡ h .flight .outstanding)
           (‵ ftrue) (plainly 𝓤 H A W (flight-row.the-row ∷ []) ((LL.makes flight-row.the-type flight-laws.the-plain 𝓤 H A), tt) ((h .flight), tt) ((only ((LL.vals flight-row.the-type flight-laws.the-laws) (h .flight))) ∷ [], tt) (was-flight, tt)) (λ n _. id⊢ 𝓤 _)
           (and-then ! (load ! (from ! (stop !)) (look ! 38 refl)) (no-more !)) (λ n w-n _ e-n is-n. drop ! $ drop ! $ land ! (from ! (stop !)) (init ! 33 refl (uint-lawful 𝓤 H A W w64 .typed n _ is-n .0)) $
-          move ! (20 ∷ []) $ use1 W (‵ Own₃ ⊛ ‵ Own₃) (shr-slice-copy 𝓤 H A W (named 0) κ₃ R .twice x₃ (s₃ ∷ [])) $ split ! $ move ! (17 ∷ 0 ∷ []) $ join ! $ calls-fn ! fm gather.ended (gather.clauses 𝓤 H A at-mem run) (known .1) (to-gather  (h .outstanding) (only ((array-vals (uint-vals w32)) (h .outstanding))) n w-n) (λ recs ws-recs. recs ≡ padded (gathered (take sendSlots (x₃ .now)) (slotsIn (h .outstanding) n))) (‵ (flft κ₃ q₃) ⊛ ‵ Own₃)
-          (asks-gather  (h .outstanding) (only ((array-vals (uint-vals w32)) (h .outstanding))) was-outstanding n w-n is-n ) (λ recs ws-recs. id⊢ 𝓤 _)
+          move ! (20 ∷ []) $ use1 W (‵ Own₃ ⊛ ‵ Own₃) (shr-slice-copy 𝓤 H A W (named 0) κ₃ R .twice x₃ (s₃ ∷ [])) $ split ! $ move ! (17 ∷ 0 ∷ []) $ join ! $ calls-fn ! fm gather.ended (gather.clauses 𝓤 H A at-mem run) (known .1) (to-gather (h .outstanding) (only ((array-vals (uint-vals w32)) (h .outstanding))) n w-n) (λ recs ws-recs. recs ≡ padded (gathered (take sendSlots (x₃ .now)) (slotsIn (h .outstanding) n))) (‵ (flft κ₃ q₃) ⊛ ‵ Own₃)
+          (asks-gather (h .outstanding) (only ((array-vals (uint-vals w32)) (h .outstanding))) was-outstanding n w-n is-n) (λ recs ws-recs. id⊢ 𝓤 _)
           (and-then ! (load ! (from ! (stop !)) (look ! 42 refl)) (and-then ! (load ! (from ! (stop !)) (look ! 34 refl)) (and-then ! (load ! (from ! (stop !)) (look ! 33 refl)) (no-more !)))) (λ recs w-recs ws-recs e-recs is-recs. land ! (from ! (stop !)) (init ! 33 refl (rs-typed 𝓤 H A W recs is-recs)) $
           spread W (‵ (flft κ₃ q₃)) (‵ ftrue ∷ []) (id⊢ 𝓤 _) $ move ! (2 ∷ []) $ spread W (‵ ftrue) (‵ ftrue ∷ ‵ ftrue ∷ ‵ ftrue ∷ []) (id⊢ 𝓤 _) $ keep ! (4 ∷ 6 ∷ 7 ∷ 8 ∷ 9 ∷ 10 ∷ 11 ∷ 12 ∷ 13 ∷ 14 ∷ 15 ∷ 16 ∷ 17 ∷ 18 ∷ 19 ∷ 20 ∷ 21 ∷ 22 ∷ 23 ∷ 24 ∷ 25 ∷ 26 ∷ 27 ∷ 28 ∷ 29 ∷ 30 ∷ 31 ∷ 32 ∷ 33 ∷ 34 ∷ 35 ∷ 36 ∷ 37 ∷ 38 ∷ 39 ∷ 40 ∷ 41 ∷ 42 ∷ 43 ∷ 44 ∷ 45 ∷ 46 ∷ 47 ∷ 48 ∷ 49 ∷ 50 ∷ 51 ∷ []) $
           -- [tok3; own3; F:outstanding; F:clock; F:arrival; F:flight; F:settings; F:«waiting_numbers»; F:waiting; F:ready; F:transmissions; F:queued; back; opened; deaths; tok1; tok2; tok4; tok6; own1; own2; own4; own6; the locals]
-          join ! $ calls-fn ! fm table-len.ended (table-len.clauses 𝓤 H A at-mem run) (known .2) (to-table-len  ) (λ m ws-m. m ≡ length (x₃ .now)) (‵ (flft κ₃ q₃) ⊛ ‵ Own₃)
-          (asks-table-len   ) (λ m ws-m. id⊢ 𝓤 _)
+          join ! $ calls-fn ! fm table-len.ended (table-len.clauses 𝓤 H A at-mem run) (known .2) (to-table-len) (λ m ws-m. m ≡ length (x₃ .now)) (‵ (flft κ₃ q₃) ⊛ ‵ Own₃)
+          (asks-table-len) (λ m ws-m. id⊢ 𝓤 _)
           (and-then ! (load ! (from ! (stop !)) (look ! 41 refl)) (no-more !)) (λ m w-m ws-m e-m is-m. land ! (from ! (stop !)) (init ! 31 refl (uint-lawful 𝓤 H A W w64 .typed m _ is-m .0)) $
           spread W (‵ (flft κ₃ q₃)) (‵ ftrue ∷ []) (id⊢ 𝓤 _) $ move ! (2 ∷ []) $ spread W (‵ ftrue) (‵ ftrue ∷ []) (id⊢ 𝓤 _) $ keep ! (2 ∷ 4 ∷ 5 ∷ 6 ∷ 7 ∷ 8 ∷ 9 ∷ 10 ∷ 11 ∷ 12 ∷ 13 ∷ 14 ∷ 15 ∷ 16 ∷ 17 ∷ 18 ∷ 19 ∷ 20 ∷ 21 ∷ 22 ∷ 23 ∷ 24 ∷ 25 ∷ 26 ∷ 27 ∷ 28 ∷ 29 ∷ 30 ∷ 31 ∷ 32 ∷ 33 ∷ 34 ∷ 35 ∷ 36 ∷ 37 ∷ 38 ∷ 39 ∷ 40 ∷ 41 ∷ 42 ∷ 43 ∷ 44 ∷ 45 ∷ 46 ∷ 47 ∷ 48 ∷ []) $
           -- [tok3; F:outstanding; F:clock; F:arrival; F:flight; F:settings; F:«waiting_numbers»; F:waiting; F:ready; F:transmissions; F:queued; back; opened; deaths; tok1; tok2; tok4; tok6; own1; own2; own4; own6; the locals]

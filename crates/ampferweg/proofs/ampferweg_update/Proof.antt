@@ -118,7 +118,7 @@ module _ {M : Type 1} (𝓤 : URA M) (H : Heap 𝓤) (A : Atoms 𝓤) (W : Given
     to-writing y₀ u₀ y₁ u₁ = (((κ₀, (κ₁, (κ₂, (κ₃, (κ₄, (κ₅, (κ₆, tt))))))), (q₀, (q₁, (q₂, (q₃, (q₄, (q₅, (q₆, tt))))))), tt, (x₀, (x₁, (x₂, (x₃, (x₄, (y₀, (y₁, (x₆, (x₇, tt))))))))), (s₀ ∷ [], (s₁ ∷ [], (s₂ ∷ [], (s₃ ∷ [], (s₄ ∷ [], (u₀ ∷ [], (u₁ ∷ [], (s₆ ∷ [], (s₇ ∷ [], tt)))))))))), tt)
 
     asks-writing : (y₀ : Bool) (u₀ : Val) → Is Boolean y₀ (u₀ ∷ []) → (y₁ : ℕ) (u₁ : Val) → Is u32 y₁ (u₁ ∷ []) → ent 𝓤 (⋆ 𝓤 H A (‵ (flft κ₀ q₀) ∷ ‵ Own₀ ∷ ‵ (flft κ₁ q₁) ∷ ‵ Own₁ ∷ ‵ (flft κ₂ q₂) ∷ ‵ Own₂ ∷ ‵ (flft κ₃ q₃) ∷ ‵ Own₃ ∷ ‵ (flft κ₄ q₄) ∷ ‵ Own₄ ∷ ‵ (flft κ₅ q₅) ∷ ‵ Own₆ ∷ ‵ (flft κ₆ q₆) ∷ ‵ Own₇ ∷ [])) (tripleOf 𝓤 H A writing.signature (writing.spec 𝓤 H A at-mem run) .pre (to-writing y₀ u₀ y₁ u₁))
-    asks-writing  y₀ u₀ is₀ y₁ u₁ is₁  =
+    asks-writing y₀ u₀ is₀ y₁ u₁ is₁ =
         qed W (‵ (flft κ₀ q₀) ∷ ‵ Own₀ ∷ ‵ (flft κ₁ q₁) ∷ ‵ Own₁ ∷ ‵ (flft κ₂ q₂) ∷ ‵ Own₂ ∷ ‵ (flft κ₃ q₃) ∷ ‵ Own₃ ∷ ‵ (flft κ₄ q₄) ∷ ‵ Own₄ ∷ ‵ (flft κ₅ q₅) ∷ ‵ Own₆ ∷ ‵ (flft κ₆ q₆) ∷ ‵ Own₇ ∷ []) ∵ nothing ! $ move ! (13 ∷ 0 ∷ []) $ join ! $ move ! (11 ∷ 0 ∷ []) $ join ! $ move ! (9 ∷ 0 ∷ []) $ join ! $ move ! (7 ∷ 0 ∷ []) $ join ! $ move ! (5 ∷ 0 ∷ []) $ join ! $ move ! (3 ∷ 0 ∷ []) $ join ! $ move ! (1 ∷ 0 ∷ []) $ join ! $ nothing ! $ move ! (8 ∷ 0 ∷ []) $ fjoin ! $ move ! (7 ∷ 0 ∷ []) $ fjoin ! $ owned ! u32 (Is u32) (uint-makes 𝓤 H A W w32) y₁ _ is₁ $ fjoin ! $ owned ! Boolean (Is Boolean) (bool-makes 𝓤 H A W) y₀ _ is₀ $ fjoin ! $ move ! (6 ∷ 0 ∷ []) $ fjoin ! $ move ! (5 ∷ 0 ∷ []) $ fjoin ! $ move ! (4 ∷ 0 ∷ []) $ fjoin ! $ move ! (3 ∷ 0 ∷ []) $ fjoin ! $ move ! (2 ∷ 0 ∷ []) $ fjoin ! $ move ! (1 ∷ 0 ∷ []) $ join ! $ nothing ! $ move ! (1 ∷ 0 ∷ []) $ done !
 
     abbrev Had : (z₀ : Link) (z₃ : List Record) (z₆ : List ℕ) (z₇ : List ℕ) → List (Item 𝓤)
@@ -152,14 +152,14 @@ module _ {M : Type 1} (𝓤 : URA M) (H : Heap 𝓤) (A : Atoms 𝓤) (W : Given
           assigns ! {v = s₆} (agg ! (and-then ! (load ! (from ! (stop !)) (look ! 18 refl)) (and-then ! (load ! (from ! (fld ! refl (stop !))) (look-in ! 24 (sub ! 1 refl (whole !)))) (no-more !)))) (from ! (stop !)) (init ! 17 refl (tt, (tt, (record { fits = room₆ .0 }, tt)))) $
           assigns ! {v = (vptr (x₇ .ptr .0) (x₇ .ptr .1))} (addr ! (from ! (fld ! refl (hop ! (look-in ! 23 (sub ! 0 refl (whole !))) (stop !))))) (from ! (stop !)) (init ! 16 refl (tt, tt)) $
           assigns ! {v = s₇} (agg ! (and-then ! (load ! (from ! (stop !)) (look ! 16 refl)) (and-then ! (load ! (from ! (fld ! refl (stop !))) (look-in ! 23 (sub ! 1 refl (whole !)))) (no-more !)))) (from ! (stop !)) (init ! 15 refl (tt, (tt, (record { fits = room₇ .0 }, tt)))) $
-          move ! (1 ∷ 8 ∷ 2 ∷ 9 ∷ 3 ∷ 10 ∷ 4 ∷ 11 ∷ 5 ∷ 12 ∷ 6 ∷ 13 ∷ 7 ∷ 14 ∷ []) $ group ! 14 $ calls-fn ! fm writing.ended (writing.clauses 𝓤 H A at-mem run) (known .1) (to-writing  b w-b x₅ v₅) (λ r ws-r. WrittenOut b x₅ (x₀ .now) (partsOf (x₁ .now) (x₂ .now) (x₃ .now) (x₄ .now)) (x₆ .now) (x₇ .now) (ws-r .0) (partsOf (x₁ .now) (x₂ .now) (ws-r .1 .1 .1 .0) (x₄ .now)) (ws-r .1 .1 .1 .1 .1 .1 .1 .0) (ws-r .1 .1 .1 .1 .1 .1 .1 .1 .0) r) (‵ (flft κ₀ q₀) ⊛ ‵ Own₀ ⊛ ‵ (flft κ₁ q₁) ⊛ ‵ Own₁ ⊛ ‵ (flft κ₂ q₂) ⊛ ‵ Own₂ ⊛ ‵ (flft κ₃ q₃) ⊛ ‵ Own₃ ⊛ ‵ (flft κ₄ q₄) ⊛ ‵ Own₄ ⊛ ‵ (flft κ₅ q₅) ⊛ ‵ Own₆ ⊛ ‵ (flft κ₆ q₆) ⊛ ‵ Own₇)
-          (asks-writing  b w-b is-b x₅ v₅ g₅ ) (λ r ws-r. id⊢ 𝓤 _)
+          move ! (1 ∷ 8 ∷ 2 ∷ 9 ∷ 3 ∷ 10 ∷ 4 ∷ 11 ∷ 5 ∷ 12 ∷ 6 ∷ 13 ∷ 7 ∷ 14 ∷ []) $ group ! 14 $ calls-fn ! fm writing.ended (writing.clauses 𝓤 H A at-mem run) (known .1) (to-writing b w-b x₅ v₅) (λ r ws-r. WrittenOut b x₅ (x₀ .now) (partsOf (x₁ .now) (x₂ .now) (x₃ .now) (x₄ .now)) (x₆ .now) (x₇ .now) (ws-r .0) (partsOf (x₁ .now) (x₂ .now) (ws-r .1 .1 .1 .0) (x₄ .now)) (ws-r .1 .1 .1 .1 .1 .1 .1 .0) (ws-r .1 .1 .1 .1 .1 .1 .1 .1 .0) r) (‵ (flft κ₀ q₀) ⊛ ‵ Own₀ ⊛ ‵ (flft κ₁ q₁) ⊛ ‵ Own₁ ⊛ ‵ (flft κ₂ q₂) ⊛ ‵ Own₂ ⊛ ‵ (flft κ₃ q₃) ⊛ ‵ Own₃ ⊛ ‵ (flft κ₄ q₄) ⊛ ‵ Own₄ ⊛ ‵ (flft κ₅ q₅) ⊛ ‵ Own₆ ⊛ ‵ (flft κ₆ q₆) ⊛ ‵ Own₇)
+          (asks-writing b w-b is-b x₅ v₅ g₅) (λ r ws-r. id⊢ 𝓤 _)
           (and-then ! (load ! (from ! (stop !)) (look ! 8 refl)) (and-then ! (load ! (from ! (stop !)) (look ! 16 refl)) (and-then ! (load ! (from ! (stop !)) (look ! 15 refl)) (and-then ! (load ! (from ! (stop !)) (look ! 6 refl)) (and-then ! (load ! (from ! (stop !)) (look ! 13 refl)) (and-then ! (load ! (from ! (stop !)) (look ! 9 refl)) (and-then ! (load ! (from ! (stop !)) (look ! 12 refl)) (and-then ! (load ! (from ! (stop !)) (look ! 4 refl)) (and-then ! (load ! (from ! (stop !)) (look ! 2 refl)) (no-more !)))))))))) (λ r w-r ws-r e-r is-r. land ! (from ! (stop !)) (init ! 19 refl (sint-lawful 𝓤 H A W w32 .typed r _ is-r .0)) $
           spread W (‵ (flft κ₀ q₀)) (‵ (flft κ₁ q₁) ∷ ‵ (flft κ₂ q₂) ∷ ‵ (flft κ₃ q₃) ∷ ‵ (flft κ₄ q₄) ∷ ‵ (flft κ₅ q₅) ∷ ‵ (flft κ₆ q₆) ∷ ‵ ftrue ∷ []) (id⊢ 𝓤 _) $ move ! (8 ∷ []) $ spread W (‵ (fres (x₀ .name) (L .coded .code (ws-r .0)))) (‵ ftrue ∷ ‵ ftrue ∷ ‵ (fsep (finally R (x₃ .name) (ws-r .1 .1 .1 .0)) (feq ℕ (length (ws-r .1 .1 .1 .0)) (length (x₃ .now)))) ∷ ‵ ftrue ∷ ‵ ftrue ∷ ‵ ftrue ∷ ‵ (fsep (finally u8 (x₆ .name) (ws-r .1 .1 .1 .1 .1 .1 .1 .0)) (feq ℕ (length (ws-r .1 .1 .1 .1 .1 .1 .1 .0)) (length (x₆ .now)))) ∷ ‵ (fsep (finally u16 (x₇ .name) (ws-r .1 .1 .1 .1 .1 .1 .1 .1 .0)) (feq ℕ (length (ws-r .1 .1 .1 .1 .1 .1 .1 .1 .0)) (length (x₇ .now)))) ∷ ‵ ftrue ∷ []) (id⊢ 𝓤 _) $ keep ! (0 ∷ 3 ∷ 7 ∷ 8 ∷ 10 ∷ 11 ∷ 12 ∷ 13 ∷ 14 ∷ 15 ∷ 16 ∷ 18 ∷ 19 ∷ 20 ∷ 21 ∷ 22 ∷ 23 ∷ 24 ∷ 25 ∷ 26 ∷ 27 ∷ 28 ∷ 29 ∷ 30 ∷ 31 ∷ 32 ∷ 33 ∷ 34 ∷ 35 ∷ []) $ move ! (1 ∷ []) $ fsplit ! $ move ! (1 ∷ []) $ feqL ! (λ len₃. move ! (2 ∷ []) $ fsplit ! $ move ! (1 ∷ []) $ feqL ! (λ len₆. move ! (3 ∷ []) $ fsplit ! $ move ! (1 ∷ []) $ feqL ! (λ len₇.
           -- [fin7; fin6; fin3; fin0; tok0; tok1; tok2; tok3; tok4; tok6; tok7; deaths; the locals]
           returns ! (look ! 28 refl) $
           move ! (11 ∷ []) $ spread W (‵ (fdies (tyInt w32) l₀)) (‵ (fdies (tyRef (named 0) mut (pointee (L .written))) l₁) ∷ ‵ (fdies (sliceTy (tyRef (named 1) imm (tyInt w8))) l₂) ∷ ‵ (fdies (sliceTy (tyRef (named 2) imm (tyInt w8))) l₃) ∷ ‵ (fdies (sliceTy (tyRef (named 3) mut (pointee (R .written)))) l₄) ∷ ‵ (fdies (sliceTy (tyRef (named 4) imm (tyInt w32))) l₅) ∷ ‵ (fdies (tyInt w32) l₆) ∷ ‵ (fdies (sliceTy (tyRef (named 5) mut (tyInt w8))) l₇) ∷ ‵ (fdies (sliceTy (tyRef (named 6) mut (tyInt w16))) l₈) ∷ ‵ (fdies tyBool l₉) ∷ ‵ (fdies (tyRef erased mut (pointee (L .written))) l₁₀) ∷ ‵ (fdies (tyRef erased mut (pointee (R .written))) l₁₁) ∷ ‵ (fdies (sliceTy (tyRef erased mut (pointee (R .written)))) l₁₂) ∷ ‵ (fdies (tyRef erased mut (tyInt w8)) l₁₃) ∷ ‵ (fdies (sliceTy (tyRef erased mut (tyInt w8))) l₁₄) ∷ ‵ (fdies (tyRef erased mut (tyInt w16)) l₁₅) ∷ ‵ (fdies (sliceTy (tyRef erased mut (tyInt w16))) l₁₆) ∷ []) (id⊢ 𝓤 _) $ move ! (44 ∷ 0 ∷ 43 ∷ 1 ∷ 42 ∷ 2 ∷ 41 ∷ 3 ∷ 40 ∷ 4 ∷ 39 ∷ 5 ∷ 38 ∷ 6 ∷ 37 ∷ 7 ∷ 36 ∷ 8 ∷ 35 ∷ 9 ∷ 34 ∷ 10 ∷ 33 ∷ 11 ∷ 32 ∷ 12 ∷ 31 ∷ 13 ∷ 30 ∷ 14 ∷ 29 ∷ 15 ∷ 28 ∷ 16 ∷ []) $ forget ! 0 refl $ free1 ! $ forget ! 0 refl $ free1 ! $ forget ! 0 refl $ free1 ! $ forget ! 0 refl $ free1 ! $ forget ! 0 refl $ free1 ! $ forget ! 0 refl $ free1 ! $ forget ! 0 refl $ free1 ! $ forget ! 0 refl $ free1 ! $ forget ! 0 refl $ free1 ! $ forget ! 0 refl $ free1 ! $ forget ! 0 refl $ free1 ! $ forget ! 0 refl $ free1 ! $ forget ! 0 refl $ free1 ! $ forget ! 0 refl $ free1 ! $ forget ! 0 refl $ free1 ! $ forget ! 0 refl $ free1 ! $ forget ! 0 refl $ free1 ! $ free0 ! $
-          move ! (3 ∷ 4 ∷ 5 ∷ 6 ∷ 2 ∷ 7 ∷ 8 ∷ 1 ∷ 9 ∷ 0 ∷ 10 ∷ []) $ by ! (exits r w-r  (ws-r .0) (ws-r .1 .1 .1 .0) (ws-r .1 .1 .1 .1 .1 .1 .1 .0) (ws-r .1 .1 .1 .1 .1 .1 .1 .1 .0) (subst (λ y. WrittenOut y x₅ (x₀ .now) (partsOf (x₁ .now) (x₂ .now) (x₃ .now) (x₄ .now)) (x₆ .now) (x₇ .now) (ws-r .0) (partsOf (x₁ .now) (x₂ .now) (ws-r .1 .1 .1 .0) (x₄ .now)) (ws-r .1 .1 .1 .1 .1 .1 .1 .0) (ws-r .1 .1 .1 .1 .1 .1 .1 .1 .0) r) e-b e-r) len₃ len₆ len₇ is-r)))))))))))))))))))))))
+          move ! (3 ∷ 4 ∷ 5 ∷ 6 ∷ 2 ∷ 7 ∷ 8 ∷ 1 ∷ 9 ∷ 0 ∷ 10 ∷ []) $ by ! (exits r w-r (ws-r .0) (ws-r .1 .1 .1 .0) (ws-r .1 .1 .1 .1 .1 .1 .1 .0) (ws-r .1 .1 .1 .1 .1 .1 .1 .1 .0) (subst (λ y. WrittenOut y x₅ (x₀ .now) (partsOf (x₁ .now) (x₂ .now) (x₃ .now) (x₄ .now)) (x₆ .now) (x₇ .now) (ws-r .0) (partsOf (x₁ .now) (x₂ .now) (ws-r .1 .1 .1 .0) (x₄ .now)) (ws-r .1 .1 .1 .1 .1 .1 .1 .0) (ws-r .1 .1 .1 .1 .1 .1 .1 .1 .0) r) e-b e-r) len₃ len₆ len₇ is-r)))))))))))))))))))))))
 
   f-meets : (𝓣 : Tables 𝓤 H) → Known (𝓣 .C) → Meets 𝓤 H A f.signature (WpFn 𝓤 H (𝓣 .C) (𝓣 .Λ) code.function) (f.spec 𝓤 H A at-mem run)
   unfolding Post

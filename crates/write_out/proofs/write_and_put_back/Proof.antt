@@ -146,7 +146,7 @@ module _ {M : Type 1} (𝓤 : URA M) (H : Heap 𝓤) (A : Atoms 𝓤) (W : Given
     to-writing β₃ δ₃ y₀ u₀ y₁ u₁ = (((κ₀, (κ₁, (κ₂, ((β₃ ∷ []), (κ₄, (κ₅, (κ₆, tt))))))), (q₀, (q₁, (q₂, (fullShare, (q₄, (q₅, (q₆, tt))))))), tt, (x₀, (x₁, (x₂, ((shown-at₃ δ₃), (x₄, (y₀, (y₁, (x₇, (x₈, tt))))))))), (s₀ ∷ [], (s₁ ∷ [], (s₂ ∷ [], (s₃ ∷ [], (s₄ ∷ [], (u₀ ∷ [], (u₁ ∷ [], (s₇ ∷ [], (s₈ ∷ [], tt)))))))))), tt)
 
     asks-writing : (β₃ : ℕ) (δ₃ : GName) → (y₀ : Bool) (u₀ : Val) → Is Boolean y₀ (u₀ ∷ []) → (y₁ : ℕ) (u₁ : Val) → Is u32 y₁ (u₁ ∷ []) → ent 𝓤 (⋆ 𝓤 H A (‵ (flft κ₀ q₀) ∷ ‵ Own₀ ∷ ‵ (flft κ₁ q₁) ∷ ‵ Own₁ ∷ ‵ (flft κ₂ q₂) ∷ ‵ Own₂ ∷ ‵ (flft (β₃ ∷ []) fullShare) ∷ ‵ (Shared₃ β₃ δ₃) ∷ ‵ (flft κ₄ q₄) ∷ ‵ Own₄ ∷ ‵ (flft κ₅ q₅) ∷ ‵ Own₇ ∷ ‵ (flft κ₆ q₆) ∷ ‵ Own₈ ∷ [])) (tripleOf 𝓤 H A writing.signature (writing.spec 𝓤 H A at-mem run) .pre (to-writing β₃ δ₃ y₀ u₀ y₁ u₁))
-    asks-writing β₃ δ₃ y₀ u₀ is₀ y₁ u₁ is₁  =
+    asks-writing β₃ δ₃ y₀ u₀ is₀ y₁ u₁ is₁ =
         qed W (‵ (flft κ₀ q₀) ∷ ‵ Own₀ ∷ ‵ (flft κ₁ q₁) ∷ ‵ Own₁ ∷ ‵ (flft κ₂ q₂) ∷ ‵ Own₂ ∷ ‵ (flft (β₃ ∷ []) fullShare) ∷ ‵ (Shared₃ β₃ δ₃) ∷ ‵ (flft κ₄ q₄) ∷ ‵ Own₄ ∷ ‵ (flft κ₅ q₅) ∷ ‵ Own₇ ∷ ‵ (flft κ₆ q₆) ∷ ‵ Own₈ ∷ []) ∵ nothing ! $ move ! (13 ∷ 0 ∷ []) $ join ! $ move ! (11 ∷ 0 ∷ []) $ join ! $ move ! (9 ∷ 0 ∷ []) $ join ! $ move ! (7 ∷ 0 ∷ []) $ join ! $ move ! (5 ∷ 0 ∷ []) $ join ! $ move ! (3 ∷ 0 ∷ []) $ join ! $ move ! (1 ∷ 0 ∷ []) $ join ! $ nothing ! $ move ! (8 ∷ 0 ∷ []) $ fjoin ! $ move ! (7 ∷ 0 ∷ []) $ fjoin ! $ owned ! u32 (Is u32) (uint-makes 𝓤 H A W w32) y₁ _ is₁ $ fjoin ! $ owned ! Boolean (Is Boolean) (bool-makes 𝓤 H A W) y₀ _ is₀ $ fjoin ! $ move ! (6 ∷ 0 ∷ []) $ fjoin ! $ move ! (5 ∷ 0 ∷ []) $ fjoin ! $ move ! (4 ∷ 0 ∷ []) $ fjoin ! $ move ! (3 ∷ 0 ∷ []) $ fjoin ! $ move ! (2 ∷ 0 ∷ []) $ fjoin ! $ move ! (1 ∷ 0 ∷ []) $ join ! $ nothing ! $ move ! (1 ∷ 0 ∷ []) $ done !
 
     -- what scatter is called at, and that what it asks is had
@@ -154,7 +154,7 @@ module _ {M : Type 1} (𝓤 : URA M) (H : Heap 𝓤) (A : Atoms 𝓤) (W : Given
     to-scatter y₀ u₀ y₁ u₁ y₂ u₂ = (((κ₃, tt), (q₃, tt), tt, (x₃, (y₀, (y₁, (y₂, tt)))), (s₃ ∷ [], (u₀ ∷ [], (u₁ ∷ [], (u₂ ∷ [], tt))))), tt)
 
     asks-scatter : (y₀ : (List ℕ)) (u₀ : Val) → Is (Array u32 32) y₀ (u₀ ∷ []) → (y₁ : ℕ) (u₁ : Val) → Is usize y₁ (u₁ ∷ []) → (y₂ : (List Record)) (u₂ : Val) → Is Rs y₂ (u₂ ∷ []) → ent 𝓤 (⋆ 𝓤 H A (‵ (flft κ₃ q₃) ∷ ‵ Own₃ ∷ [])) (tripleOf 𝓤 H A scatter.signature (scatter.spec 𝓤 H A at-mem run) .pre (to-scatter y₀ u₀ y₁ u₁ y₂ u₂))
-    asks-scatter  y₀ u₀ is₀ y₁ u₁ is₁ y₂ u₂ is₂  =
+    asks-scatter y₀ u₀ is₀ y₁ u₁ is₁ y₂ u₂ is₂ =
         qed W (‵ (flft κ₃ q₃) ∷ ‵ Own₃ ∷ []) ∵ nothing ! $ move ! (1 ∷ 0 ∷ []) $ join ! $ nothing ! $ owned ! Rs (Is Rs) (rs-makes 𝓤 H A W) y₂ _ is₂ $ fjoin ! $ owned ! usize (Is usize) (uint-makes 𝓤 H A W w64) y₁ _ is₁ $ fjoin ! $ owned ! (Array u32 32) (Is (Array u32 32)) (array-makes 𝓤 H A W u32 (uint-makes 𝓤 H A W w32) 32) y₀ _ is₀ $ fjoin ! $ move ! (2 ∷ 0 ∷ []) $ fjoin ! $ move ! (1 ∷ 0 ∷ []) $ join ! $ nothing ! $ move ! (1 ∷ 0 ∷ []) $ done !
 
     abbrev Had : (z₀ : Link) (z₃ : List Record) (z₇ : List ℕ) (z₈ : List ℕ) → List (Item 𝓤)
@@ -188,7 +188,7 @@ module _ {M : Type 1} (𝓤 : URA M) (H : Heap 𝓤) (A : Atoms 𝓤) (W : Given
           lft-new ! tt (λ β₃. move ! (12 ∷ 5 ∷ []) $ use2 W (later (some (λ (δ : GName). ‵ (Shared₃ β₃ δ) ⊛ ‵ (LentShared R κ₃ (β₃ ∷ []) q₃ (x₃ .name) (x₃ .ptr .0) (x₃ .ptr .1) (x₃ .now))))) (lends-shared R κ₃ (β₃ ∷ []) q₃ (x₃ .name) (x₃ .ptr .0) (x₃ .ptr .1) (x₃ .now) 𝓤 H A W) $ await ! tt $ pick ! (λ β-name₃. split ! $
           -- [shown3; blent3; btok3; deaths; tok0; tok1; tok2; tok4; tok7; tok8; own0; own1; own2; own4; own7; own8; the locals]
           move ! (4 ∷ 10 ∷ 5 ∷ 11 ∷ 6 ∷ 12 ∷ 2 ∷ 0 ∷ 7 ∷ 13 ∷ 8 ∷ 14 ∷ 9 ∷ 15 ∷ []) $ group ! 14 $ calls-fn ! fm writing.ended (writing.clauses 𝓤 H A at-mem run) (known .0) (to-writing β₃ β-name₃ x₅ v₅ x₆ v₆) (λ t ws-t. Left x₅ x₆ (x₀ .now) (partsOf (x₁ .now) (x₂ .now) (x₃ .now) (x₄ .now)) (x₇ .now) (x₈ .now) (t .answer) (putBack t) (ws-t .0) (ws-t .1 .1 .1 .1 .1 .1 .1 .0) (ws-t .1 .1 .1 .1 .1 .1 .1 .1 .0)) (‵ (flft κ₀ q₀) ⊛ ‵ Own₀ ⊛ ‵ (flft κ₁ q₁) ⊛ ‵ Own₁ ⊛ ‵ (flft κ₂ q₂) ⊛ ‵ Own₂ ⊛ ‵ (flft (β₃ ∷ []) fullShare) ⊛ ‵ (Shared₃ β₃ β-name₃) ⊛ ‵ (flft κ₄ q₄) ⊛ ‵ Own₄ ⊛ ‵ (flft κ₅ q₅) ⊛ ‵ Own₇ ⊛ ‵ (flft κ₆ q₆) ⊛ ‵ Own₈)
-          (asks-writing β₃ β-name₃ x₅ v₅ g₅ x₆ v₆ g₆ ) (λ t ws-t. id⊢ 𝓤 _)
+          (asks-writing β₃ β-name₃ x₅ v₅ g₅ x₆ v₆ g₆) (λ t ws-t. id⊢ 𝓤 _)
           (and-then ! (load ! (from ! (stop !)) (look ! 12 refl)) (and-then ! (load ! (from ! (stop !)) (look ! 24 refl)) (and-then ! (load ! (from ! (stop !)) (look ! 23 refl)) (and-then ! (load ! (from ! (stop !)) (look ! 10 refl)) (and-then ! (load ! (from ! (stop !)) (look ! 21 refl)) (and-then ! (load ! (from ! (stop !)) (look ! 20 refl)) (and-then ! (load ! (from ! (stop !)) (look ! 19 refl)) (and-then ! (load ! (from ! (stop !)) (look ! 8 refl)) (and-then ! (load ! (from ! (stop !)) (look ! 6 refl)) (no-more !)))))))))) (λ t w-t ws-t e-t is-t. land ! (from ! (stop !)) (init ! 17 refl (LL.lawful flushed-row.the-type flushed-laws.the-laws 𝓤 H A W .typed t (w-t ∷ []) is-t .0)) $
           spread W (‵ (flft κ₀ q₀)) (‵ (flft κ₁ q₁) ∷ ‵ (flft κ₂ q₂) ∷ ‵ (flft (β₃ ∷ []) fullShare) ∷ ‵ (flft κ₄ q₄) ∷ ‵ (flft κ₅ q₅) ∷ ‵ (flft κ₆ q₆) ∷ ‵ ftrue ∷ []) (id⊢ 𝓤 _) $ move ! (8 ∷ []) $ spread W (‵ (fres (x₀ .name) (L .coded .code (ws-t .0)))) (‵ ftrue ∷ ‵ ftrue ∷ ‵ ftrue ∷ ‵ ftrue ∷ ‵ ftrue ∷ ‵ ftrue ∷ ‵ (fsep (finally u8 (x₇ .name) (ws-t .1 .1 .1 .1 .1 .1 .1 .0)) (feq ℕ (length (ws-t .1 .1 .1 .1 .1 .1 .1 .0)) (length (x₇ .now)))) ∷ ‵ (fsep (finally u16 (x₈ .name) (ws-t .1 .1 .1 .1 .1 .1 .1 .1 .0)) (feq ℕ (length (ws-t .1 .1 .1 .1 .1 .1 .1 .1 .0)) (length (x₈ .now)))) ∷ ‵ ftrue ∷ []) (id⊢ 𝓤 _) $ keep ! (0 ∷ 7 ∷ 8 ∷ 10 ∷ 11 ∷ 12 ∷ 13 ∷ 14 ∷ 15 ∷ 16 ∷ 18 ∷ 19 ∷ 20 ∷ 21 ∷ 22 ∷ 23 ∷ 24 ∷ 25 ∷ 26 ∷ 27 ∷ 28 ∷ 29 ∷ 30 ∷ 31 ∷ 32 ∷ 33 ∷ 34 ∷ 35 ∷ 36 ∷ 37 ∷ 38 ∷ 39 ∷ 40 ∷ 41 ∷ 42 ∷ 43 ∷ []) $ move ! (1 ∷ []) $ fsplit ! $ move ! (1 ∷ []) $ feqL ! (λ len₇. move ! (2 ∷ []) $ fsplit ! $ move ! (1 ∷ []) $ feqL ! (λ len₈.
           -- [fin8; fin7; fin0; tok0; tok1; tok2; btok3; tok4; tok7; tok8; blent3; deaths; the locals]
@@ -205,8 +205,8 @@ module _ {M : Type 1} (𝓤 : URA M) (H : Heap 𝓤) (A : Atoms 𝓤) (W : Given
           assigns ! {v = s₃} (agg ! (and-then ! (load ! (from ! (stop !)) (look ! 13 refl)) (and-then ! (load ! (from ! (fld ! refl (stop !))) (look-in ! 31 (sub ! 1 refl (whole !)))) (no-more !)))) (from ! (stop !)) (init ! 12 refl (tt, (tt, (record { fits = room₃ .0 }, tt)))) $
           move ! (6 ∷ 10 ∷ []) $ lft-end ! tt $ use2 W (later (‵ Own₃ ⊛ ‵ (flft κ₃ q₃))) (shared-back R κ₃ (β₃ ∷ []) q₃ (x₃ .name) (x₃ .ptr .0) (x₃ .ptr .1) (x₃ .now) 𝓤 H A W room₃) $ await ! tt $ split ! $
           -- [own3; tok3; fin8; fin7; fin0; tok0; tok1; tok2; tok4; tok7; tok8; deaths; the locals]
-          move ! (1 ∷ 0 ∷ []) $ join ! $ calls-fn ! fm scatter.ended (scatter.clauses 𝓤 H A at-mem run) (known .4) (to-scatter  words w-words n w-n after w-after) (λ u ws-u. (ws-u .0) ≡ scattered (x₃ .now) (slotsIn words n) after) (‵ (flft κ₃ q₃) ⊛ ‵ Own₃)
-          (asks-scatter  words w-words is-words n w-n is-n after w-after is-after ) (λ u ws-u. id⊢ 𝓤 _)
+          move ! (1 ∷ 0 ∷ []) $ join ! $ calls-fn ! fm scatter.ended (scatter.clauses 𝓤 H A at-mem run) (known .4) (to-scatter words w-words n w-n after w-after) (λ u ws-u. (ws-u .0) ≡ scattered (x₃ .now) (slotsIn words n) after) (‵ (flft κ₃ q₃) ⊛ ‵ Own₃)
+          (asks-scatter words w-words is-words n w-n is-n after w-after is-after) (λ u ws-u. id⊢ 𝓤 _)
           (and-then ! (load ! (from ! (stop !)) (look ! 11 refl)) (and-then ! (load ! (from ! (stop !)) (look ! 23 refl)) (and-then ! (load ! (from ! (stop !)) (look ! 22 refl)) (and-then ! (load ! (from ! (stop !)) (look ! 21 refl)) (no-more !))))) (λ u w-u ws-u e-u is-u. land ! (from ! (stop !)) (init ! 14 refl (nothing-lawful 𝓤 H A W .typed u _ is-u .0)) $
           spread W (‵ (flft κ₃ q₃)) (‵ ftrue ∷ []) (id⊢ 𝓤 _) $ move ! (2 ∷ []) $ spread W (‵ (fsep (finally R (x₃ .name) (ws-u .0)) (feq ℕ (length (ws-u .0)) (length (x₃ .now))))) (‵ ftrue ∷ ‵ ftrue ∷ ‵ ftrue ∷ ‵ ftrue ∷ []) (id⊢ 𝓤 _) $ keep ! (0 ∷ 5 ∷ 7 ∷ 8 ∷ 9 ∷ 10 ∷ 11 ∷ 12 ∷ 13 ∷ 14 ∷ 15 ∷ 16 ∷ 17 ∷ 18 ∷ 19 ∷ 20 ∷ 21 ∷ 22 ∷ 23 ∷ 24 ∷ 25 ∷ 26 ∷ 27 ∷ 28 ∷ 29 ∷ 30 ∷ 31 ∷ 32 ∷ 33 ∷ 34 ∷ 35 ∷ 36 ∷ 37 ∷ 38 ∷ 39 ∷ 40 ∷ []) $ fsplit ! $ move ! (1 ∷ []) $ feqL ! (λ len₃.
           -- [fin3; tok3; fin8; fin7; fin0; tok0; tok1; tok2; tok4; tok7; tok8; deaths; the locals]
@@ -215,7 +215,7 @@ module _ {M : Type 1} (𝓤 : URA M) (H : Heap 𝓤) (A : Atoms 𝓤) (W : Given
           (and-then ! (load ! (from ! (stop !)) (look ! 26 refl)) (no-more !)) (λ r w-r _ e-r is-r. drop ! $ drop ! $ land ! (from ! (stop !)) (init ! 35 refl (sint-lawful 𝓤 H A W w32 .typed r _ is-r .0)) $
           returns ! (look ! 35 refl) $
           move ! (11 ∷ []) $ spread W (‵ (fdies (tyInt w32) l₀)) (‵ (fdies (tyRef (named 0) mut (pointee (L .written))) l₁) ∷ ‵ (fdies (sliceTy (tyRef (named 1) imm (tyInt w8))) l₂) ∷ ‵ (fdies (sliceTy (tyRef (named 2) imm (tyInt w8))) l₃) ∷ ‵ (fdies (sliceTy (tyRef (named 3) mut (pointee (R .written)))) l₄) ∷ ‵ (fdies (sliceTy (tyRef (named 4) imm (tyInt w32))) l₅) ∷ ‵ (fdies tyBool l₆) ∷ ‵ (fdies (tyInt w32) l₇) ∷ ‵ (fdies (sliceTy (tyRef (named 5) mut (tyInt w8))) l₈) ∷ ‵ (fdies (sliceTy (tyRef (named 6) mut (tyInt w16))) l₉) ∷ ‵ (fdies flushed-laws.mir l₁₀) ∷ ‵ (fdies (tyArray (tyInt w32) 32) l₁₁) ∷ ‵ (fdies (tyInt w64) l₁₂) ∷ ‵ (fdies (tyArray record-laws.mir 32) l₁₃) ∷ ‵ (fdies (tyRef erased mut (pointee (L .written))) l₁₄) ∷ ‵ (fdies (tyRef erased imm (pointee (R .written))) l₁₅) ∷ ‵ (fdies (sliceTy (tyRef erased imm (pointee (R .written)))) l₁₆) ∷ ‵ (fdies (tyRef erased mut (tyInt w8)) l₁₇) ∷ ‵ (fdies (sliceTy (tyRef erased mut (tyInt w8))) l₁₈) ∷ ‵ (fdies (tyRef erased mut (tyInt w16)) l₁₉) ∷ ‵ (fdies (sliceTy (tyRef erased mut (tyInt w16))) l₂₀) ∷ ‵ (fdies tyUnit l₂₁) ∷ ‵ (fdies (tyRef erased mut (pointee (R .written))) l₂₂) ∷ ‵ (fdies (sliceTy (tyRef erased mut (pointee (R .written)))) l₂₃) ∷ []) (id⊢ 𝓤 _) $ move ! (58 ∷ 0 ∷ 57 ∷ 1 ∷ 56 ∷ 2 ∷ 55 ∷ 3 ∷ 54 ∷ 4 ∷ 53 ∷ 5 ∷ 52 ∷ 6 ∷ 51 ∷ 7 ∷ 50 ∷ 8 ∷ 49 ∷ 9 ∷ 48 ∷ 10 ∷ 47 ∷ 11 ∷ 46 ∷ 12 ∷ 45 ∷ 13 ∷ 44 ∷ 14 ∷ 43 ∷ 15 ∷ 42 ∷ 16 ∷ 41 ∷ 17 ∷ 40 ∷ 18 ∷ 39 ∷ 19 ∷ 38 ∷ 20 ∷ 37 ∷ 21 ∷ 36 ∷ 22 ∷ 35 ∷ 23 ∷ []) $ forget ! 0 refl $ free1 ! $ forget ! 0 refl $ free1 ! $ forget ! 0 refl $ free1 ! $ forget ! 0 refl $ free1 ! $ forget ! 0 refl $ free1 ! $ forget ! 0 refl $ free1 ! $ forget ! 0 refl $ free1 ! $ forget ! 0 refl $ free1 ! $ forget ! 0 refl $ free1 ! $ forget ! 0 refl $ free1 ! $ forget ! 0 refl $ free1 ! $ forget ! 0 refl $ free1 ! $ forget ! 0 refl $ free1 ! $ forget ! 0 refl $ free1 ! $ forget ! 0 refl $ free1 ! $ forget ! 0 refl $ free1 ! $ forget ! 0 refl $ free1 ! $ forget ! 0 refl $ free1 ! $ forget ! 0 refl $ free1 ! $ forget ! 0 refl $ free1 ! $ forget ! 0 refl $ free1 ! $ forget ! 0 refl $ free1 ! $ forget ! 0 refl $ free1 ! $ forget ! 0 refl $ free1 ! $ free0 ! $
-          move ! (4 ∷ 5 ∷ 6 ∷ 7 ∷ 0 ∷ 1 ∷ 8 ∷ 3 ∷ 9 ∷ 2 ∷ 10 ∷ []) $ by ! (exits r w-r  (ws-t .0) (ws-u .0) (ws-t .1 .1 .1 .1 .1 .1 .1 .0) (ws-t .1 .1 .1 .1 .1 .1 .1 .1 .0) (gives x₅ x₆ (x₀ .now) (partsOf (x₁ .now) (x₂ .now) (x₃ .now) (x₄ .now)) (x₇ .now) (x₈ .now) (t .answer) (putBack t) (ws-t .0) (ws-t .1 .1 .1 .1 .1 .1 .1 .0) (ws-t .1 .1 .1 .1 .1 .1 .1 .1 .0) (ws-u .0) (ap length (sym e-after) ∙ is-after .1 .0 .1) (put-back (x₃ .now) (ws-u .0) (putBack t) words n after e-words e-n e-after e-u) e-t r e-r) len₃ len₇ len₈ is-r))))))))))))))))))))))))))))))))))))
+          move ! (4 ∷ 5 ∷ 6 ∷ 7 ∷ 0 ∷ 1 ∷ 8 ∷ 3 ∷ 9 ∷ 2 ∷ 10 ∷ []) $ by ! (exits r w-r (ws-t .0) (ws-u .0) (ws-t .1 .1 .1 .1 .1 .1 .1 .0) (ws-t .1 .1 .1 .1 .1 .1 .1 .1 .0) (gives x₅ x₆ (x₀ .now) (partsOf (x₁ .now) (x₂ .now) (x₃ .now) (x₄ .now)) (x₇ .now) (x₈ .now) (t .answer) (putBack t) (ws-t .0) (ws-t .1 .1 .1 .1 .1 .1 .1 .0) (ws-t .1 .1 .1 .1 .1 .1 .1 .1 .0) (ws-u .0) (ap length (sym e-after) ∙ is-after .1 .0 .1) (put-back (x₃ .now) (ws-u .0) (putBack t) words n after e-words e-n e-after e-u) e-t r e-r) len₃ len₇ len₈ is-r))))))))))))))))))))))))))))))))))))
 
   f-meets : (𝓣 : Tables 𝓤 H) → Known (𝓣 .C) → Meets 𝓤 H A f.signature (WpFn 𝓤 H (𝓣 .C) (𝓣 .Λ) code.function) (f.spec 𝓤 H A at-mem run)
   unfolding Post
