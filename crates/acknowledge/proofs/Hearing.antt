@@ -73,7 +73,7 @@ heard-parts c current s h = rw (← (heard-outstanding c current s h), ← (hear
 -- ---- what the code makes of the segments in flight
 
 -- the first number, by the count
-first-is : (ws ts : List ℕ) (rs : List Record) (n next : ℕ) (d : Record) → length ws ≡ 32 → length ts ≡ 32 → length rs ≡ 32
+pub first-is : (ws ts : List ℕ) (rs : List Record) (n next : ℕ) (d : Record) → length ws ≡ 32 → length ts ≡ 32 → length rs ≡ 32
     → cond (ltb 0 n) (getD rs 0 d .number) next ≡ firstNumberOr (joined (outstandingIn ws ts n) rs) next
 unfolding firstNumberOr joined paired
 first-is ws ts rs zero next d e f g = refl
@@ -97,11 +97,10 @@ module _ (c : Settings) (current : ℕ) (v : View) (h : Header) (rtt : RoundTrip
       }
 
   -- those that stay are left
-  pub heard-some : (ws ts : List ℕ) (n : ℕ) (rs : List Record) (una : ℕ) (d : Record) → JoinedIn ws ts n rs (keep (staysBy (v .flight .next) h) (sentIn v)) → length rs ≡ 32
-      → una ≡ cond (ltb 0 n) (getD rs 0 d .number) (v .flight .next)
+  pub heard-some : (ws ts : List ℕ) (n : ℕ) (rs : List Record) (una : ℕ) → JoinedIn ws ts n rs (keep (staysBy (v .flight .next) h) (sentIn v))
+      → una ≡ firstNumberOr (keep (staysBy (v .flight .next) h) (sentIn v)) (v .flight .next)
       → FlightIs (view (after una n) ws ts rs) v (λ s. heardBySending c current s h)
-  heard-some ws ts n rs una d l many g =
-      let first = g ∙ first-is ws ts rs n (v .flight .next) d (l .whole) (l .wholes) many in
+  heard-some ws ts n rs una l first =
       record { whole = l .whole; wholes = l .wholes; fits = l .fits; queue = refl; half = λ q. rw (heard-parts c current _ h, first, l .list, e) }
 
   -- all stay

@@ -149,21 +149,18 @@ pub extern "C" fn ampferweg_flush(
         (partsOf (now («send_pool» .entry)) (now («receive_pool» .entry)) (now (table .exit)) (now (acks .entry)))
         (flushPartsOf (now (output .exit)) (now (lengths .exit)))) r ⌝ }
 {
-    let flushed = write_out::write_out(
+    let paced = results::at_once();
+    write_out::write_and_put_back(
         link,
         send_pool,
         receive_pool,
         table,
         acks,
+        paced,
         t,
         output,
         lengths,
-    );
-    let words = results::flushed_words(flushed);
-    let n = results::flushed_changed(flushed);
-    let records = results::flushed_records(flushed);
-    gathering::scatter(table, words, n, records);
-    results::flushed_code(flushed)
+    )
 }
 
 // An update at time t: the datagrams of its flush, the number of one that does not flush, or the refusal.
@@ -184,21 +181,18 @@ pub extern "C" fn ampferweg_update(
         (partsOf (now («send_pool» .entry)) (now («receive_pool» .entry)) (now (table .exit)) (now (acks .entry)))
         (flushPartsOf (now (output .exit)) (now (lengths .exit)))) r ⌝ }
 {
-    let updated = update_out::update_out(
+    let paced = results::by_schedule();
+    write_out::write_and_put_back(
         link,
         send_pool,
         receive_pool,
         table,
         acks,
+        paced,
         t,
         output,
         lengths,
-    );
-    let words = results::updated_words(updated);
-    let n = results::updated_changed(updated);
-    let records = results::updated_records(updated);
-    gathering::scatter(table, words, n, records);
-    results::updated_code(updated)
+    )
 }
 
 // Naming the time at which the next update is wanted: it is stored, and 0 returned, or the refusal, and nothing is stored.
@@ -224,7 +218,7 @@ pub extern "C" fn ampferweg_check(
     let n = results::outstanding_count(flight);
     let records = gathering::gather(table, words, n);
     let lent = records::table_len(table);
-    let time = update_core::check(
+    let time = check_core::check(
         settings,
         flight,
         arrival,

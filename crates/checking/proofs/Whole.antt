@@ -1,9 +1,9 @@
 -- The whole block: its numbers, then its halves.
 -- Assumes nothing.
 use mathlib.Core.Path.{_≡_, refl, sym, ap, _∙_}
-use mathlib.Core.Bool.{Bool, true, false, not, _&&_, and-false, and-true, false≢true}
+use mathlib.Core.Bool.{Bool, true, false, _&&_, and-false, and-true, false≢true}
 use mathlib.Core.List.{List}
-use Prim.Native.Nat.{ℕ, _≤_, _<_, _^_}
+use Prim.Native.Nat.{ℕ, _≤_, _<_, _^_, min}
 use native.Mathlib.Omega.{arith}
 use lib.ListN.{length, take}
 use Rattle.protocol.specs.Ranges.{inRange, mss}
@@ -24,7 +24,6 @@ use Rattle.control.specs.ViewLaws.{pairs-most, Counts, counts}
 use Rattle.checking.specs.Tests.{numbersFit, flightFits, sendSlotsIn, receiveSlotsIn, sendingFits, receivingFits, SendingFits, ReceivingFits}
 use Rattle.checking.specs.Verdicts.{Checked}
 use Rattle.checking.proofs.Joins.{both-low}
-use Rattle.checking.proofs.Turns.{none-whole, not-true, not-false}
 use Rattle.checking.proofs.Halves.{send-slots, sending-checked, receive-slots, receiving-checked}
 
 module _ (s : Settings) (f : Flight) (a : Arrival) (k : Clock) (x : Arrays) (rs : List Record) (whole : Whole x) (many : length rs ≡ 32) (below : a .expected < 2 ^ 32) where
@@ -90,12 +89,12 @@ module _ (s : Settings) (f : Flight) (a : Arrival) (k : Clock) (x : Arrays) (rs 
     got-free = rw (receive-slots a (x .ready) (x .waiting) (x .numbers) ready waiting side (pairs (a .acks) acks)) (free-start receiveHolds (both-low (take (a .ready) (x .ready)) (take (a .waiting) (x .waiting))))
 
   -- the numbers do not fit
-  pub unfit : (b : Bool) (send receive : List ℕ) → b ≡ numbersFit s f a k → not b ≡ true → send ≡ none → receive ≡ none → Checked link rs send receive false
+  unfit : (send receive : List ℕ) → false ≡ numbersFit s f a k → length send ≡ 256 → length receive ≡ 256 → Checked link rs send receive false
   unfolding blockValid countsFit
-  unfit b send receive e t es er =
+  unfit send receive e es er =
       record {
-        send-whole = none-whole send es;
-        receive-whole = none-whole receive er;
+        send-whole = es;
+        receive-whole = er;
         fits = λ acks. go acks (counted f a) refl;
         send-free = λ acks z. absurd (false≢true z);
         receive-free = λ acks z. absurd (false≢true z);
@@ -110,14 +109,14 @@ module _ (s : Settings) (f : Flight) (a : Arrival) (k : Clock) (x : Arrays) (rs 
 
       go : (acks : List ℕ) (z : Bool) → counted f a ≡ z → false ≡ blockValid link rs acks
       go acks false z = rw z refl
-      go acks true z = never (inRange s) trip (probeFits (k .probe)) congested (sends && flies) receives (sym (rw z at e) ∙ not-true b t) ∙ sym (block-parts acks z)
+      go acks true z = never (inRange s) trip (probeFits (k .probe)) congested (sends && flies) receives (sym (rw z at e)) ∙ sym (block-parts acks z)
 
   -- they do
-  pub checked : (b : Bool) (p : ℕ) (send receive : List ℕ) (y₁ y₂ y₃ : Bool) → b ≡ numbersFit s f a k → not b ≡ false → p ≡ mss s
+  fit : (p : ℕ) (send receive : List ℕ) (y₁ y₂ y₃ : Bool) → true ≡ numbersFit s f a k → p ≡ mss s
       → SendingFits p (x .queued) (f .queued) (x .outstanding) (x .transmissions) (f .outstanding) send y₁ → y₂ ≡ flies
       → ReceivingFits p (a .expected) (x .ready) (a .ready) (x .waiting) (x .numbers) (a .waiting) receive y₃ → Checked link rs send receive (y₁ && y₂ && y₃)
-  checked b p send receive y₁ y₂ y₃ e t ep h₁ h₂ h₃ =
-      let g₀ = and-parts (counted f a && inRange s && trip && probeFits (k .probe)) congested (sym e ∙ not-false b t) in
+  fit p send receive y₁ y₂ y₃ e ep h₁ h₂ h₃ =
+      let g₀ = and-parts (counted f a && inRange s && trip && probeFits (k .probe)) congested (sym e) in
       let g₁ = and-parts (counted f a && inRange s && trip) (probeFits (k .probe)) (g₀ .0) in
       let g₂ = and-parts (counted f a && inRange s) trip (g₁ .0) in
       let g₃ = and-parts (counted f a) (inRange s) (g₂ .0) in
@@ -136,11 +135,24 @@ module _ (s : Settings) (f : Flight) (a : Arrival) (k : Clock) (x : Arrays) (rs 
           ∙ and-true (b₁ && b₂ && b₃ && true)
           ∙ and-true (b₁ && b₂ && b₃))
 
--- the counts fit
-pub counted-of : (s : Settings) (f : Flight) (a : Arrival) (k : Clock) (b : Bool) → b ≡ numbersFit s f a k → not b ≡ false → Counts f a
-counted-of s f a k b e t =
-    let g₀ = and-parts (counted f a && inRange s && roundTripFits (s .mode) (f .rtt) && probeFits (k .probe)) (fits (f .congestion) (mss s))
-    (sym e ∙ not-false b t) in
-    let g₁ = and-parts (counted f a && inRange s && roundTripFits (s .mode) (f .rtt)) (probeFits (k .probe)) (g₀ .0) in
-    let g₂ = and-parts (counted f a && inRange s) (roundTripFits (s .mode) (f .rtt)) (g₁ .0) in
-    counts f a (and-parts (counted f a) (inRange s) (g₂ .0) .0)
+  -- the counts fit
+  counted-of : true ≡ numbersFit s f a k → Counts f a
+  counted-of e =
+      let g₀ = and-parts (counted f a && inRange s && trip && probeFits (k .probe)) congested (sym e) in
+      let g₁ = and-parts (counted f a && inRange s && trip) (probeFits (k .probe)) (g₀ .0) in
+      let g₂ = and-parts (counted f a && inRange s) trip (g₁ .0) in
+      counts f a (and-parts (counted f a) (inRange s) (g₂ .0) .0)
+
+  -- all tests: the lists are looked at up to their counts, and no further than the arrays go
+  pub checked : (b : Bool) (p : ℕ) (send receive : List ℕ) (n₁ n₂ n₃ n₄ : ℕ) (y₁ y₂ y₃ : Bool) → b ≡ numbersFit s f a k → p ≡ mss s
+      → n₁ ≡ min (f .queued) 128 → n₂ ≡ min (f .outstanding) 32 → n₃ ≡ min (a .ready) 128 → n₄ ≡ min (a .waiting) 128
+      → SendingFits p (x .queued) n₁ (x .outstanding) (x .transmissions) n₂ send y₁ → y₂ ≡ flies
+      → ReceivingFits p (a .expected) (x .ready) n₃ (x .waiting) (x .numbers) n₄ receive y₃ → Checked link rs send receive (b && y₁ && y₂ && y₃)
+  checked false p send receive n₁ n₂ n₃ n₄ y₁ y₂ y₃ e ep e₁ e₂ e₃ e₄ h₁ h₂ h₃ = unfit send receive e (h₁ .whole) (h₃ .whole)
+  checked true p send receive n₁ n₂ n₃ n₄ y₁ y₂ y₃ e ep e₁ e₂ e₃ e₄ h₁ h₂ h₃ =
+      let n = counted-of e in
+      let d₁ : n₁ ≡ f .queued = omega (arith, e₁, n .queued) in
+      let d₂ : n₂ ≡ f .outstanding = omega (arith, e₂, n .outstanding) in
+      let d₃ : n₃ ≡ a .ready = omega (arith, e₃, n .ready) in
+      let d₄ : n₄ ≡ a .waiting = omega (arith, e₄, n .waiting) in
+      fit p send receive y₁ y₂ y₃ e ep (rw (d₁, d₂) at h₁) h₂ (rw (d₃, d₄) at h₃)

@@ -13,7 +13,7 @@ use Rattle.protocol.specs.declared.Settings.{Settings}
 use Rattle.timing.specs.declared.Record.{Record}
 use Rattle.session.specs.State.{State}
 use Rattle.session.specs.Flushing.{numberedCount, bytesOfSegments, flushing}
-use Rattle.answers.specs.declared.Count.the-variants as count
+use Rattle.answers.specs.declared.Update.the-variants as update
 use Rattle.words.specs.Words.{unpack, heldIn}
 use Rattle.control.specs.declared.Flight.{Flight}
 use Rattle.control.specs.declared.Arrival.{Arrival}
@@ -30,7 +30,7 @@ use Rattle.transmit.specs.Flushes.{FlushOf, FlushWrites}
 use Rattle.transmit.specs.FlushLaws.{flush-writes}
 use Rattle.flush_core.specs.declared.parts.Plan.{Plan}
 use Rattle.flush_core.specs.Parts.{goesBy, Plans, windowIn, withLosses, Moves, toldOf}
-use Rattle.flush_core.specs.Flushes.{Runs}
+use Rattle.flush_core.specs.Flushes.{Wrote}
 
 module _ (c : Settings) (f : Flight) (a : Arrival) (k : Clock) (queued outstanding transmissions ready waiting numbers : List ℕ) (records : List Record) (acks : List ℕ) (t : ℕ) where
   abbrev block : Link
@@ -115,13 +115,15 @@ module _ (c : Settings) (f : Flight) (a : Arrival) (k : Clock) (queued outstandi
           rw (told, lost, le-leb _ _ (numbered .queued-fits), le-leb _ _ (numbered .sent .fits), le-leb _ _ (q .ready), le-leb _ _ (q .waiting))
 
       pub runs : (words : List ℕ) → words ≡ outstanding′
-          → Runs block records pool acks t out lengths (record { answer = count.Of (w .count); flight = f′; arrival = a′; clock = k′; words = words; changed = f′ .outstanding; records = w .records }) after out′ lengths′
+          → Wrote block records pool acks t out lengths (record { answer = update.Wrote (w .count); flight = f′; arrival = a′; clock = k′; words = words; changed = f′ .outstanding; records = w .records }) after out′ lengths′
       runs words e =
-          let number = written .output .number ∙ length-map (flushing before t pool .datagrams) bytesOfSegments in
-          record {
-            answer = ap count.Of number;
-            counts = counts-fit;
-            state = state;
-            puts = record { words = e; changed = refl };
-            output = rw number at (written .output);
-          }
+          let number = written .output .number ∙ length-map (flushing before t pool .datagrams) bytesOfSegments in (
+            ap update.Wrote number,
+            record {
+              answer = refl;
+              counts = counts-fit;
+              state = state;
+              puts = record { words = e; changed = refl };
+              output = rw number at (written .output);
+            },
+          )

@@ -15,6 +15,8 @@ ghost use Rattle.promises.specs.Parts.{partsOf, flushPartsOf};
 ghost use Rattle.promises.specs.Outcomes.{shows};
 ghost use Rattle.promises.specs.Promises.{OpenPromise, SendPromise, InputPromise, FlushPromise, ReadPromise, SizePromise};
 ghost use Rattle.promises.specs.Promises.{UpdatePromise, CheckPromise};
+ghost use Rattle.answers.specs.declared.Count.{Count};
+ghost use Rattle.flush_core.specs.Flushes.{updateOf};
 
 // The answer of opening or sending, and the block after it.
 pub struct Answered {
@@ -260,6 +262,17 @@ pub fn input(
     }
 }
 
+// A flush's answer as a count.
+fn count_of(update: Update) -> Count
+    ensures { λ r. ⌜ ((n : Count) → update ≡ updateOf n → r ≡ n) ⌝ }
+{
+    match update {
+        Update::Waited => Count::Of(0),
+        Update::Wrote(n) => Count::Of(n),
+        Update::Refused(refusal) => Count::Refused(refusal),
+    }
+}
+
 // A flush at time t. The records that are not lent stay as they were.
 pub fn flush(
     link: Link,
@@ -296,6 +309,7 @@ pub fn flush(
         clock,
         records,
         n,
+        false,
         &mut queued,
         &mut outstanding,
         &mut transmissions,
@@ -309,7 +323,8 @@ pub fn flush(
         output,
         lengths,
     );
-    let answer = done.answer;
+    let written = done.answer;
+    let answer = count_of(written);
     let sending = done.flight;
     let receiving = done.arrival;
     let moved = done.clock;
@@ -369,13 +384,14 @@ pub fn update(
     let waiting_numbers = link.waiting_numbers;
     let records = kept_table::gather(table, lent, outstanding, flight.outstanding);
     let n = kept_table::lent_count(lent);
-    let done = update_core::update(
+    let done = flush_core::flush(
         settings,
         flight,
         arrival,
         clock,
         records,
         n,
+        true,
         &mut queued,
         &mut outstanding,
         &mut transmissions,
@@ -551,7 +567,7 @@ pub fn check(
     let waiting_numbers = link.waiting_numbers;
     let records = kept_table::gather(table, lent, outstanding, flight.outstanding);
     let n = kept_table::lent_count(lent);
-    update_core::check(
+    check_core::check(
         settings,
         flight,
         arrival,

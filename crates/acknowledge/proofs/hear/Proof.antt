@@ -6,7 +6,6 @@ use borrow.Author.Needs.{needs}
 use lib.ListN.{length}
 use Rattle.datagram.specs.Datagrams.{stepAt}
 use Rattle.datagram.specs.declared.Step.the-variants as step
-use Rattle.lists.proofs.Loops.{length-mapped}
 use Rattle.acknowledge.specs.Flights.{view}
 use Rattle.acknowledge.proofs.Hearing.{heard-some, heard-none, all-stay}
 use Rattle.acknowledge.proofs.Owned.{numbers-owned, sent-owned}
@@ -35,18 +34,17 @@ found : (c : tie.After-known-told Inv-loop μ-loop) →
 found c = sym (c .before .before .before .segment-at .ensures) ∙ c .before .step .given .1
 
 loop-less : tie.Need-loop-less Inv-loop μ-loop
-loop-less c = let k = c .before .before .before .before .before .before .before .before .before .before .before in walking-less _ _ _ _ _ _ _ (k .before .before .before .before .loop .inv) _ _ _ (found k)
+loop-less c = let k = c .before .before .before .before .before .before .before .before .before in walking-less _ _ _ _ _ _ _ (k .before .before .before .before .loop .inv) _ _ _ (found k)
 
 loop-less-2 : tie.Need-loop-less-2 Inv-loop μ-loop
 loop-less-2 c = let k = c .before .before .before .before .before in walking-less _ _ _ _ _ _ _ (k .before .before .before .before .loop .inv) _ _ _ (found k)
 
 loop-again : tie.Need-loop-again Inv-loop μ-loop
 loop-again c =
-    let left = c .before .before .before .remaining in
-    let many : length (left .result .records) ≡ 32 = search (needs, length-mapped) in
-    let k = c .before .before .before .before .before .before .before .before .before .before .before in
-    walking-more _ _ _ _ _ _ _ (k .before .before .before .before .loop .inv) _ _ _ (found k) _ _ (c .before .before .before .before .before .before .before .before .before .before .after .ensures)
-    (heard-some _ _ _ _ _ (c .before .before .before .before .before .before .before .before .timed .ensures) _ _ _ _ _ _ (left .ensures) many (c .first-number .ensures))
+    let left = c .before .remaining in
+    let k = c .before .before .before .before .before .before .before .before .before in
+    walking-more _ _ _ _ _ _ _ (k .before .before .before .before .loop .inv) _ _ _ (found k) _ _ (c .before .before .before .before .before .before .before .before .after .ensures)
+    (heard-some _ _ _ _ _ (c .before .before .before .before .before .before .timed .ensures) _ _ _ _ _ (left .ensures .0) (left .ensures .1))
 
 loop-again-2 : tie.Need-loop-again-2 Inv-loop μ-loop
 loop-again-2 c =
@@ -90,8 +88,6 @@ hear-spec =
     (λ c κs. tt)
     (λ c κs. tt)
     (λ c κs. let o = c .before .before .before .before .before .before .before .before .before .before .before .loop .inv .ordered .order in (o .whole, o .wholes, o .fits))
-    (λ c. search needs)
-    (λ c κs. tt)
     loop-less
     loop-again
     loop-less-2

@@ -70,9 +70,9 @@ use Rattle.gathering.proofs.gather.Met as gather-thm
 use Rattle.records.proofs.table_len as table-len
 use Rattle.records.proofs.table_len.Symbol as table-len-def
 use Rattle.records.proofs.table_len.Met as table-len-thm
-use Rattle.update_core.proofs.check as core
-use Rattle.update_core.proofs.check.Symbol as core-def
-use Rattle.update_core.proofs.check.Met as core-thm
+use Rattle.check_core.proofs.check as core
+use Rattle.check_core.proofs.check.Symbol as core-def
+use Rattle.check_core.proofs.check.Met as core-thm
 use Rattle.codes.proofs.tell_time as code-of
 use Rattle.codes.proofs.tell_time.Symbol as code-of-def
 use Rattle.codes.proofs.tell_time.Met as code-of-thm
@@ -272,6 +272,6 @@ ampferweg-check-spec 𝓤 H 𝓜 𝓖 𝓡 =
       cited 𝓤 H (tripleOf 𝓤 H (𝓖 .A) count-of.signature (count-of.spec 𝓤 H (𝓖 .A) (𝓜 .mem) (𝓡 .run))) 𝓜 𝓡 code.env count-of-def.name count-of-def.routine code.calls-results·outstanding-count (count-of-thm.met 𝓤 H 𝓜 𝓖 𝓡),
       cited 𝓤 H (tripleOf 𝓤 H (𝓖 .A) gather.signature (gather.spec 𝓤 H (𝓖 .A) (𝓜 .mem) (𝓡 .run))) 𝓜 𝓡 code.env gather-def.name gather-def.routine code.calls-gathering·gather (gather-thm.met 𝓤 H 𝓜 𝓖 𝓡),
       cited 𝓤 H (tripleOf 𝓤 H (𝓖 .A) table-len.signature (table-len.spec 𝓤 H (𝓖 .A) (𝓜 .mem) (𝓡 .run))) 𝓜 𝓡 code.env table-len-def.name table-len-def.routine code.calls-records·table-len (table-len-thm.met 𝓤 H 𝓜 𝓖 𝓡),
-      cited 𝓤 H (tripleOf 𝓤 H (𝓖 .A) core.signature (core.spec 𝓤 H (𝓖 .A) (𝓜 .mem) (𝓡 .run))) 𝓜 𝓡 code.env core-def.name core-def.routine code.calls-update-core·check (core-thm.met 𝓤 H 𝓜 𝓖 𝓡),
+      cited 𝓤 H (tripleOf 𝓤 H (𝓖 .A) core.signature (core.spec 𝓤 H (𝓖 .A) (𝓜 .mem) (𝓡 .run))) 𝓜 𝓡 code.env core-def.name core-def.routine code.calls-check-core·check (core-thm.met 𝓤 H 𝓜 𝓖 𝓡),
       cited 𝓤 H (tripleOf 𝓤 H (𝓖 .A) code-of.signature (code-of.spec 𝓤 H (𝓖 .A) (𝓜 .mem) (𝓡 .run))) 𝓜 𝓡 code.env code-of-def.name code-of-def.routine code.calls-codes·tell-time (code-of-thm.met 𝓤 H 𝓜 𝓖 𝓡),
     ))

@@ -1,4 +1,4 @@
--- `moved_on`: the next schedule, stored in the clock.
+-- `step_of`: the next schedule, stored in the clock, or the clock as it was.
 -- Assumes nothing.
 use mathlib.Core.Path.{_≡_, refl, ap, _∙_}
 use borrow.Author.Needs.{needs}
@@ -6,22 +6,26 @@ use Rattle.schedule.specs.Schedules.{updated}
 use Rattle.schedule.specs.declared.Schedule.{Schedule}
 use Rattle.schedule.specs.declared.Updated.{Updated}
 use Rattle.control.specs.Views.{scheduleOf}
-use Rattle.update_core.proofs.moved_on.Statement.{statement}
-use Rattle.update_core.proofs.moved_on.Tie as tie
+use Rattle.checking.proofs.Turns.{not-true, not-false}
+use Rattle.flush_core.proofs.parts.step_of.Statement.{statement}
+use Rattle.flush_core.proofs.parts.step_of.Tie as tie
 
 returns : tie.Need-returns
-returns c =
+returns c = let a = c .before .args in rw (not-true (a .paced) (c .if1 .taken))
+
+returns-2 : tie.Need-returns-2
+returns-2 c =
     let moves = c .before .before in
-    let start = moves .before .before in
-    let a = start .args in
+    let branch = moves .before .before in
+    let a = branch .before .args in
     let is : moves .update .result ≡ updated (scheduleOf (a .clock)) (a .t) (a .interval)
     = moves .update .ensures ∙ ap (λ (s : Schedule). updated s (a .t) (a .interval)) (moves .before .schedule-of .ensures) in
-    record {
+    rw (not-false (a .paced) (branch .if1 .left)) (record {
       is = refl;
       schedule = (λ i. record { next = moves .update .result .schedule .next; made = c .flag .ensures i })
           ∙ ap (λ (u : Updated). u .schedule) is;
       flushes = ap (λ (u : Updated). u .flushes) is;
-    }
+    })
 
-pub moved-on-spec : {M : Type 1} → statement M
-moved-on-spec = tie.close (tie.spec (λ c κs. search needs) (λ c κs. search needs) (λ c κs. search needs) returns)
+pub step-of-spec : {M : Type 1} → statement M
+step-of-spec = tie.close (tie.spec returns (λ c κs. search needs) (λ c κs. search needs) (λ c κs. search needs) returns-2)
