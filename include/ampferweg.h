@@ -46,7 +46,7 @@
 #include <stddef.h>
 #include <stdint.h>
 
-#define AMPFERWEG_VERSION "0.3.0"
+#define AMPFERWEG_VERSION "0.4.0"
 
 #ifdef __cplusplus
 extern "C" {

@@ -109,7 +109,8 @@ pub extern "C" fn ampferweg_tag_ask(
     start: &mut usize,
     len: &mut usize,
 ) -> i32
-    ensures { λ r. ⌜ TellsPlace (findIn (now (own .entry)) (now (defaults .entry)) (now (name .entry))) r (now (start .exit)) (now (len .exit)) ⌝ }
+    ensures { λ r. ⌜ TellsPlace (findIn (now (own .entry)) (now (defaults .entry)) (now (name .entry))) r (now (start .exit))
+        (now (len .exit)) ⌝ }
 {
     match tag_find::find(own, defaults, name) {
         Finding::Own(part) => {

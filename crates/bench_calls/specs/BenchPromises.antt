@@ -24,7 +24,8 @@ use Rattle.bench_calls.specs.declared.Updated.{Updated}
 
 -- the parts, as far as the bench lends them, with a table of records
 abbrev pub lentParts : Bench → List ℕ → List ℕ → List Record → List ℕ → Parts
-lentParts b s r table a = partsOf (take (b .lent .send) s) (take (b .lent .receive) r) (take (b .lent .records) table) (take (b .lent .acks) a)
+lentParts b s r table a = partsOf (take (b .lent .send) s) (take (b .lent .receive) r) (take (b .lent .records) table)
+    (take (b .lent .acks) a)
 
 -- output and lengths, as far as it lends them
 abbrev pub lentFlushParts : Bench → List ℕ → List ℕ → FlushParts
@@ -49,7 +50,8 @@ pub record BenchSends (message : List ℕ) (b : Bench) (s r a : List ℕ) (x : A
   pub bench : x .bench ≡ after b (x .bench .link) (b .table)
 
 pub record BenchTakesIn (datagram : List ℕ) (b : Bench) (s r a : List ℕ) (x : Answered) (r′ a′ : List ℕ) : Type 0 where
-  pub promise : InputPromise datagram (b .link) (lentParts b s r (b .table) a) (x .answer) (x .bench .link) (lentParts b s r′ (x .bench .table) a′)
+  pub promise : InputPromise datagram (b .link) (lentParts b s r (b .table) a) (x .answer) (x .bench .link)
+      (lentParts b s r′ (x .bench .table) a′)
   pub behind : drop (b .lent .receive) r′ ≡ drop (b .lent .receive) r
   pub acksBehind : drop (b .lent .acks) a′ ≡ drop (b .lent .acks) a
   pub recordsBehind : drop (b .lent .records) (x .bench .table) ≡ drop (b .lent .records) (b .table)
@@ -73,7 +75,8 @@ pub record BenchUpdates (t : ℕ) (b : Bench) (s r a out lengths : List ℕ) (x 
 
 -- the first `room` bytes of the buffer are lent
 pub record BenchReads (b : Bench) (s r a : List ℕ) (room : ℕ) (buffer : List ℕ) (x : Counted) (buffer′ : List ℕ) : Type 0 where
-  pub promise : ReadPromise (b .link) (lentParts b s r (b .table) a) (take room buffer) (x .answer) (x .bench .link) (lentParts b s r (b .table) a) (take room buffer′)
+  pub promise : ReadPromise (b .link) (lentParts b s r (b .table) a) (take room buffer) (x .answer) (x .bench .link)
+      (lentParts b s r (b .table) a) (take room buffer′)
   pub behind : drop room buffer′ ≡ drop room buffer
   pub bench : x .bench ≡ after b (x .bench .link) (b .table)
 

@@ -1,5 +1,5 @@
--- What C gets of an update and of a check, whatever block and parts they are given: the count of an update's datagrams as it is, one number alone where
--- it does not flush, which is no count's and no refusal's, and the time that a check names.
+-- What C gets of an update and of a check, whatever block and parts they are given: the count of an update's datagrams as it is, one number
+-- alone where it does not flush, which is no count's and no refusal's, and the time that a check names.
 -- Assumes nothing.
 use mathlib.Core.Path.{_≡_, refl, sym, ap, _∙_, subst}
 use mathlib.Core.Bool.{true, false, false≢true}
@@ -77,8 +77,10 @@ module _ (l : Link) (p : Parts) (r : ℤ) where
       rw (g .number)
       (update-code (updates l p f t) (updates-few l p f t) (g .answer) (g .promise .answer))
 
-  pub check-told : (t was stored : ℕ) → Gives timeCode (λ (a : Time). TimePromise t l p a was stored) r → TimeTold (checks l p t) was r stored
-  check-told t was stored g = subst (λ (o : Outcome ℕ). TimeTold o was r stored) (g .promise .time .answer) (rw (g .number, g .promise .when) (go (g .answer)))
+  pub check-told : (t was stored : ℕ) → Gives timeCode (λ (a : Time). TimePromise t l p a was stored) r
+      → TimeTold (checks l p t) was r stored
+  check-told t was stored g = subst (λ (o : Outcome ℕ). TimeTold o was r stored) (g .promise .time .answer)
+      (rw (g .number, g .promise .when) (go (g .answer)))
     where
       go : (a : Time) → TimeTold (timeOutcome a) was (timeCode a) (timeStored a was)
       go (At when) = (refl, refl)

@@ -9,7 +9,15 @@ use Rattle.wire.specs.Headers.{decode}
 use Rattle.protocol.specs.Protocol.{push, windowTell, headerSize, fragmentMost}
 use Rattle.wire.specs.declared.Header.{Header}
 use Rattle.protocol.specs.declared.Refusal.{Refusal}
-use Rattle.protocol.specs.declared.Refusal.the-variants.{ShortDatagram, OtherConversation, LengthPastEnd, UnknownCommand, LongPayload, HighFragment, TrailingBytes}
+use Rattle.protocol.specs.declared.Refusal.the-variants.{
+  ShortDatagram,
+  OtherConversation,
+  LengthPastEnd,
+  UnknownCommand,
+  LongPayload,
+  HighFragment,
+  TrailingBytes,
+}
 use Rattle.datagram.specs.declared.Verdict.{Verdict}
 use Rattle.datagram.specs.declared.Verdict.the-variants.{Passes, Fails}
 use Rattle.datagram.specs.declared.Checked.{Checked}

@@ -27,7 +27,18 @@ use Rattle.protocol.specs.declared.Refusal.the-variants.{
 }
 use Rattle.session.specs.Cutting.{fragmentCount}
 use Rattle.session.specs.Calls.{Call, Reply, Event, readAnswers, messagesRead}
-use Rattle.delivery.specs.PlainReceiver.{Plain, atFirst, Found, pushesIn, firstWanted, nextExpected, hear, afterCall, plainAfter, plainAnswers}
+use Rattle.delivery.specs.PlainReceiver.{
+  Plain,
+  atFirst,
+  Found,
+  pushesIn,
+  firstWanted,
+  nextExpected,
+  hear,
+  afterCall,
+  plainAfter,
+  plainAnswers,
+}
 
 -- the answer of a real read, as the plain receiver's: 9 is nothing found, 7 is a buffer that is too short. Any other
 -- answer is not a read's, and equals none of these
@@ -94,7 +105,8 @@ Missing c accepted calls = MissingFrom c accepted calls (getElem? accepted (plai
 
 -- ---- the claims
 
--- what is seen of a receiver: the calls that it made, with their answers; whether a read of so many bytes that comes next is answered so; and rcv_nxt
+-- what is seen of a receiver: the calls that it made, with their answers; whether a read of so many bytes that comes next is answered so;
+-- and rcv_nxt
 pub record Observed : Type 1 where
   pub calls : List Call
   pub events : List Event

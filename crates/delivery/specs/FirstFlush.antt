@@ -44,7 +44,8 @@ unfolding flushing usedWindow written
 off-datagrams s x t pool e = rw e
 
 pub off-state : (s : State) (x : Congestion) (t : ℕ) (pool : List ℕ) → controlsCongestion (s .settings) ≡ false
-    → withCongestion (flushing (withCongestion s x) t pool .state) (s .congestion) ≡ withCongestion (flushing s t pool .state) (s .congestion)
+    → withCongestion (flushing (withCongestion s x) t pool .state) (s .congestion) ≡ withCongestion (flushing s t pool .state)
+    (s .congestion)
 unfolding flushing usedWindow
 off-state s x t pool e = rw e
 

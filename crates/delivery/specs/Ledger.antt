@@ -54,7 +54,8 @@ stationAccepted s (x ∷ xs) = fragmentsBy s x (step s x .answer) + stationAccep
 unfoldable pub acknowledgedByEach : Settings → ℕ → Sending → List Segment → ℕ
 acknowledgedByEach c current s [] = 0
 acknowledgedByEach c current s (g ∷ gs) =
-    length (keep (acknowledges (s .next) (g .header)) (s .outstanding)) + acknowledgedByEach c current (heardBySending c current s (g .header)) gs
+    length (keep (acknowledges (s .next) (g .header)) (s .outstanding))
+    + acknowledgedByEach c current (heardBySending c current s (g .header)) gs
 
 abbrev pub acknowledgedByParsed : State → Parsed → ℕ
 acknowledgedByParsed s (Parsed.refused r) = 0
@@ -62,7 +63,8 @@ acknowledgedByParsed s (Parsed.segments gs) = acknowledgedByEach (s .settings) (
 
 -- by a call with this answer: a datagram that is not refused
 abbrev pub acknowledgedBy : Station → Call → Reply → ℕ
-acknowledgedBy s (Call.takeIn d) Reply.accepted = acknowledgedByParsed (s .state) (parse (s .state .settings .conv) (mss (s .state .settings)) d)
+acknowledgedBy s (Call.takeIn d) Reply.accepted =
+    acknowledgedByParsed (s .state) (parse (s .state .settings .conv) (mss (s .state .settings)) d)
 acknowledgedBy s (Call.takeIn d) (Reply.refused r) = 0
 acknowledgedBy s (Call.takeIn d) (Reply.wrote ds) = 0
 acknowledgedBy s (Call.takeIn d) (Reply.message b) = 0

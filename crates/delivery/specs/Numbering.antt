@@ -12,7 +12,8 @@ use Rattle.delivery.specs.SendPool.{pieceIn}
 -- by a call with this answer: a flush, and an update that flushes, numbers the first queued segments
 abbrev pub numberedNow : Station → Reply → List Piece
 numberedNow s (Reply.wrote ds) =
-    map (pieceIn (mss (s .state .settings)) (s .sendPool)) (take (numberedCount (windowOf (s .state)) (s .state .sending)) (s .state .sending .queued))
+    map (pieceIn (mss (s .state .settings)) (s .sendPool))
+    (take (numberedCount (windowOf (s .state)) (s .state .sending)) (s .state .sending .queued))
 numberedNow s Reply.accepted = []
 numberedNow s (Reply.refused r) = []
 numberedNow s (Reply.message b) = []

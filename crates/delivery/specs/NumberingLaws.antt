@@ -18,7 +18,22 @@ use Rattle.session.specs.Valid.{valid}
 use Rattle.session.specs.Input.{applied, ackNumbers}
 use Rattle.session.specs.Flushing.{windowOf, windowOf, numberedCount, flushing}
 use Rattle.session.specs.Reading.{afterRead}
-use Rattle.session.specs.Calls.{Station, Call, Reply, Stepped, afterSend, afterTakeIn, afterFlush, own, history, after, acceptedBy, acceptedList, datagramsIn, datagramsBy}
+use Rattle.session.specs.Calls.{
+  Station,
+  Call,
+  Reply,
+  Stepped,
+  afterSend,
+  afterTakeIn,
+  afterFlush,
+  own,
+  history,
+  after,
+  acceptedBy,
+  acceptedList,
+  datagramsIn,
+  datagramsBy,
+}
 use Rattle.session.specs.Decides.{All}
 use Rattle.delivery.specs.Accepted.{numberedInAll}
 use Rattle.delivery.specs.Hearing.{Taken, CallFits}
@@ -126,7 +141,8 @@ module _ (s : Station) (before : List Piece) (accepted : List (List ℕ)) (made 
       f x = pieceIn (mss c) (s .sendPool) x
 
       -- numbered and queued together stay as they were
-      whole : (before ++ map (pieceIn (mss c) (s .sendPool)) (take (numberedCount (windowOf (s .state)) d) (d .queued))) ++ map (pieceIn (mss c) (s .sendPool)) (drop (numberedCount (windowOf (s .state)) d) (d .queued))
+      whole : (before ++ map (pieceIn (mss c) (s .sendPool)) (take (numberedCount (windowOf (s .state)) d) (d .queued)))
+          ++ map (pieceIn (mss c) (s .sendPool)) (drop (numberedCount (windowOf (s .state)) d) (d .queued))
           ≡ before ++ map (pieceIn (mss c) (s .sendPool)) (d .queued)
       whole =
           append-assoc before (map f (take k (d .queued))) (map f (drop k (d .queued)))

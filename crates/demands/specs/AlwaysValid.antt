@@ -1,5 +1,5 @@
--- Validity: after an accepted opening no list of calls ever gives 13, nor 7 for a lent part (7 is left for a read whose buffer is shorter than the
--- message), and the block that they leave is one that 13 does not refuse. From the promises of the public calls alone.
+-- Validity: after an accepted opening no list of calls ever gives 13, nor 7 for a lent part (7 is left for a read whose buffer is shorter
+-- than the message), and the block that they leave is one that 13 does not refuse. From the promises of the public calls alone.
 -- Assumes nothing.
 use mathlib.Core.Path.{_≡_, sym, _∙_}
 use mathlib.Core.Bool.{true}
@@ -28,7 +28,8 @@ abbrev pub Answered : Endpoint → Call → Reply → Type 0
 Answered e x a = Passes (ShortBuffer e x) a
 
 -- the size that the definition tells is the one promised
-tells-size : (e : Endpoint) → enough (mss (e .link .settings)) (lengthsOf (e .parts)) ≡ true → isMade (e .link) (e .parts) ≡ true → tells (e .link) (e .parts) ≡ telling (stateIn (e .link) (e .parts))
+tells-size : (e : Endpoint) → enough (mss (e .link .settings)) (lengthsOf (e .parts)) ≡ true → isMade (e .link) (e .parts) ≡ true
+    → tells (e .link) (e .parts) ≡ telling (stateIn (e .link) (e .parts))
 unfolding tellsWith
 tells-size e long made = rw (long, made)
 
@@ -49,13 +50,18 @@ module _ (c : Settings) (range : inRange c ≡ true) (conv : c .conv < 2 ^ 32) w
       let p : Passes (ShortRead (stationOf e) x) a = rw q at (own-passes (stationOf e) x) in
       record { made = p .made; lent = λ h. short-buffer e k x (p .lent h) }
 
-  each-answered : {e e′ : Endpoint} {xs : List Call} {events : List Event} (r : Runs e xs events e′) → All CallFits xs → Kept c e → Each Answered r
+  each-answered : {e e′ : Endpoint} {xs : List Call} {events : List Event} (r : Runs e xs events e′) → All CallFits xs → Kept c e
+      → Each Answered r
   each-answered start fits k = tt
-  each-answered (next e x a e′ h r) fits k =
-      (answered e k x a (own-call c range conv e k x a e′ (fits .0) h .answer), each-answered r (fits .1) (kept-call c range conv e k x a e′ (fits .0) h))
+  each-answered (next e x a e′ h r) fits k = (
+    answered e k x a (own-call c range conv e k x a e′ (fits .0) h .answer),
+    each-answered r (fits .1) (kept-call c range conv e k x a e′ (fits .0) h),
+  )
 
 -- each call of any list passes the checks of 7 and 13, and so does the block that they leave
 pub always-valid : (c : Settings) (calls : List Call) (events : List Event) (e : Endpoint) (h : SinceOpening c calls events e)
     → Each Answered (h .runs) × (isMade (e .link) (e .parts) ≡ true)
-always-valid c calls events e h =
-    (each-answered c (taken h .range) (h .conv) (h .runs) (h .fits) (opens-kept c (h .first) (h .opens)), is-made c (taken h .range) (h .conv) e (since-opening h .kept))
+always-valid c calls events e h = (
+  each-answered c (taken h .range) (h .conv) (h .runs) (h .fits) (opens-kept c (h .first) (h .opens)),
+  is-made c (taken h .range) (h .conv) e (since-opening h .kept),
+)

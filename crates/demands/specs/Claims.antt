@@ -35,7 +35,8 @@ pub record Passes (short : Type 0) (a : Reply) : Type 0 where
   pub lent : a ≡ Reply.refused ShortPart → short
 
 -- of each call of a list
-abbrev pub Each : (Endpoint → Call → Reply → Type 0) → {e e′ : Endpoint} {xs : List Call} {events : List Event} → Runs e xs events e′ → Type 0
+abbrev pub Each : (Endpoint → Call → Reply → Type 0) → {e e′ : Endpoint} {xs : List Call} {events : List Event} → Runs e xs events e′
+    → Type 0
 Each P start = Unit {0}
 Each P (next e x a e′ h r) = P e x a × Each P r
 

@@ -47,7 +47,19 @@ use Rattle.answers.specs.declared.Count.{Count}
 use Rattle.answers.specs.declared.Count.the-variants as count
 use Rattle.answers.specs.declared.Update.the-variants as update
 use Rattle.promises.specs.Parts.{Parts, FlushParts, lengthsOf, stateIn, isMade}
-use Rattle.promises.specs.Outcomes.{checked, flushesWith, updatesWith, readsWith, tellsWith, showsWith, flushes, updates, reads, tells, shows}
+use Rattle.promises.specs.Outcomes.{
+  checked,
+  flushesWith,
+  updatesWith,
+  readsWith,
+  tellsWith,
+  showsWith,
+  flushes,
+  updates,
+  reads,
+  tells,
+  shows,
+}
 use Rattle.promises.specs.Answers.{Counts, countOutcome, updateAnswer}
 use Rattle.promises.specs.Promises.{FlushPromise, UpdatePromise, ReadPromise, SizePromise}
 use Rattle.delivery.specs.FlushLaws.{flush-few}
@@ -60,7 +72,8 @@ OfResult P (refused r) = Unit {0}
 OfResult P (done x) = P x
 
 -- a result is given only of a block that passed 13
-made-result : {A : Type 0} (P : A → Type 0) (long made : Bool) (own : Outcome A) → (made ≡ true → OfResult P own) → OfResult P (checked long made own)
+made-result : {A : Type 0} (P : A → Type 0) (long made : Bool) (own : Outcome A) → (made ≡ true → OfResult P own)
+    → OfResult P (checked long made own)
 made-result P false made own h = tt
 made-result P true false own h = tt
 made-result P true true own h = h refl
@@ -110,7 +123,11 @@ module _ (s : State) (v : IsValid s) where
   message-fits : (n : ℕ) → n ≤ messageSize (s .receiving) → MessageFits (s .settings) n
   unfolding messageSize
   message-fits n h = record {
-    bytes = omega (arith, lengths-most (mss (s .settings)) (frontCount ready) ready short, mul-le-mul-right (mss (s .settings)) (front-few ready fragments));
+    bytes = omega (
+      arith,
+      lengths-most (mss (s .settings)) (frontCount ready) ready short,
+      mul-le-mul-right (mss (s .settings)) (front-few ready fragments),
+    );
     payload = omega (arith, v .settings .mtu-most);
   }
 
@@ -150,9 +167,14 @@ showing-fits s v = go (readable (s .receiving .ready))
     m : ℕ
     m = mss (s .settings)
 
-    fits : (l : List Held) → All (λ (h : Held). h .len ≤ m) l → All (λ (h : Held). h .slot < receiveSlots) l → PlaceFits (s .settings) (frontPart m l)
+    fits : (l : List Held) → All (λ (h : Held). h .len ≤ m) l → All (λ (h : Held). h .slot < receiveSlots) l
+        → PlaceFits (s .settings) (frontPart m l)
     fits [] a b = record { count = zero-le; within = zero-le; payload = omega (arith, v .settings .mtu-most) }
-    fits (h ∷ l) a b = record { count = a .0; within = omega (arith, a .0, mul-le-mul-right m (b .0)); payload = omega (arith, v .settings .mtu-most) }
+    fits (h ∷ l) a b = record {
+      count = a .0;
+      within = omega (arith, a .0, mul-le-mul-right m (b .0));
+      payload = omega (arith, v .settings .mtu-most);
+    }
 
     go : (b : Bool) → OfResult (PlaceFits (s .settings)) (cond b (done (frontPart m (s .receiving .ready))) (refused NoMessage))
     go true = fits (s .receiving .ready) (short s v) (low s v)
@@ -190,7 +212,8 @@ module _ (l : Link) (p : Parts) where
 
   pub reads-fit : (room : ℕ) → OfResult (λ (x : Reads). MessageFits (l .settings) (length (x .bytes))) (reads l p room)
   unfolding readsWith stateOf
-  reads-fit room = made-result _ (enough (mss (l .settings)) (lengthsOf p)) (isMade l p) _ (λ h. reading-fits (stateIn l p) (is-valid l p h) (p .receivePool) room)
+  reads-fit room = made-result _ (enough (mss (l .settings)) (lengthsOf p)) (isMade l p) _
+      (λ h. reading-fits (stateIn l p) (is-valid l p h) (p .receivePool) room)
 
   pub tells-fit : OfResult (MessageFits (l .settings)) (tells l p)
   unfolding tellsWith stateOf
@@ -225,9 +248,11 @@ module _ {l : Link} {p : Parts} {n : ℕ} where
       few-answered n (updates l p f t) (h .answer) (updates-few l p f t)
 
   -- a message that is read, or whose size is told, has at most 127 segments
-  pub read-counts : {buffer : List ℕ} {l′ : Link} {p′ : Parts} {buffer′ : List ℕ} → ReadPromise l p buffer (count.Of n) l′ p′ buffer′ → MessageFits (l .settings) n
+  pub read-counts : {buffer : List ℕ} {l′ : Link} {p′ : Parts} {buffer′ : List ℕ} → ReadPromise l p buffer (count.Of n) l′ p′ buffer′
+      → MessageFits (l .settings) n
   read-counts {buffer} h =
-      count-given (MessageFits (l .settings)) (λ (x : Reads). length (x .bytes)) (count.Of n) (reads l p (length buffer)) (h .answer) (reads-fit l p (length buffer))
+      count-given (MessageFits (l .settings)) (λ (x : Reads). length (x .bytes)) (count.Of n) (reads l p (length buffer)) (h .answer)
+      (reads-fit l p (length buffer))
 
   pub size-counts : SizePromise l p (count.Of n) → MessageFits (l .settings) n
   size-counts h = subst (OfResult (MessageFits (l .settings))) (sym (h .answer)) (tells-fit l p)

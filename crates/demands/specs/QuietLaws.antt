@@ -109,7 +109,8 @@ rests-by : (s : State) (e : Endpoint) (t : ℕ) (a : Update) (e′ : Endpoint) (
 unfolding updatesWith
 rests-by s e t a e′ f f′ q h =
     rests s e a e′ f f′ (updating (stateIn (e .link) (e .parts)) t (e .parts .sendPool)) q
-    (enoughToFlush (mss (e .link .settings)) (lengthsOf (e .parts)) (length (f .output)) (length (f .lengths))) (isMade (e .link) (e .parts))
+    (enoughToFlush (mss (e .link .settings)) (lengthsOf (e .parts)) (length (f .output)) (length (f .lengths)))
+    (isMade (e .link) (e .parts))
     (h .answer) (h .leaves)
 
 -- ---- of a list of updates
@@ -196,7 +197,8 @@ module _ (e : Endpoint) (now named : ℕ) (f : Fits (stateIn (e .link) (e .parts
   flushes-at q a e′ f f′ lent h =
       let p = told now named e check in
       let room =
-      long-flush (mss (e .link .settings)) (lengthsOf (e .parts)) (length (f .output)) (length (f .lengths)) (p .long) (lent .long) (lent .many) in
+      long-flush (mss (e .link .settings)) (lengthsOf (e .parts)) (length (f .output)) (length (f .lengths)) (p .long) (lent .long)
+      (lent .many) in
       let s = stateIn (e .link) (e .parts) in
       (length (flushing (withSchedule s (scheduledAt s named)) named (e .parts .sendPool) .datagrams), h .answer ∙ rw (room, p .made, q))
 

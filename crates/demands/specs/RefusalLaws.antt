@@ -63,13 +63,15 @@ ClearParsed (Parsed.segments gs) = Unit {0}
 verdict-clear : (conv m room : ℕ) (h : Header) → ClearVerdict (verdict conv m room h)
 unfolding verdict
 verdict-clear conv m room h =
-    go (eqb (h .conv) conv) (leb (h .len) room) (leb push (h .cmd) && leb (h .cmd) windowTell) (ofPush h (leb (h .len) m)) (ofPush h (leb (h .frg) fragmentMost))
+    go (eqb (h .conv) conv) (leb (h .len) room) (leb push (h .cmd) && leb (h .cmd) windowTell) (ofPush h (leb (h .len) m))
+    (ofPush h (leb (h .frg) fragmentMost))
   where
     -- the tests of 2 to 6
     go : (conversation inside command payload fragment : Bool)
         → ClearVerdict
         (cond conversation
-        (cond inside (cond command (cond payload (cond fragment verdict.Passes (verdict.Fails HighFragment)) (verdict.Fails LongPayload)) (verdict.Fails UnknownCommand)) (verdict.Fails LengthPastEnd))
+        (cond inside (cond command (cond payload (cond fragment verdict.Passes (verdict.Fails HighFragment)) (verdict.Fails LongPayload))
+        (verdict.Fails UnknownCommand)) (verdict.Fails LengthPastEnd))
         (verdict.Fails OtherConversation))
     go false b c d e = refl
     go true false c d e = refl
@@ -95,7 +97,8 @@ module _ (conv m : ℕ) where
       let v : Verdict = verdict conv m (length (x ∷ s) - headerSize) (decode (x ∷ s) 0) in
       let rest : Parsed = walk conv m (23 + decode (x ∷ s) 0 .len) s in
       either-clear (leb headerSize (length (x ∷ s))) (inFront v (segmentOf (x ∷ s)) rest) (tail (x ∷ s))
-      (front-clear v (segmentOf (x ∷ s)) rest (verdict-clear conv m (length (x ∷ s) - headerSize) (decode (x ∷ s) 0)) (walk-clear (23 + decode (x ∷ s) 0 .len) s))
+      (front-clear v (segmentOf (x ∷ s)) rest (verdict-clear conv m (length (x ∷ s) - headerSize) (decode (x ∷ s) 0))
+      (walk-clear (23 + decode (x ∷ s) 0 .len) s))
       refl
   walk-clear (suc skip) (x ∷ s) = walk-clear skip s
 
@@ -180,7 +183,8 @@ took-passes : (s : Station) (o : Outcome Took) → Clear o → Passes ⊥ (after
 took-passes s (Outcome.refused r) h = clear-passes (Reply.refused r) h
 took-passes s (Outcome.done x) h = clear-passes Reply.accepted refl
 
-read-passes : (s : Station) (room : ℕ) (o : Outcome Reads) → ClearRead (s .state) room o → Passes (Short (s .state) room) (afterReading s o .answer)
+read-passes : (s : Station) (room : ℕ) (o : Outcome Reads) → ClearRead (s .state) room o
+    → Passes (Short (s .state) room) (afterReading s o .answer)
 read-passes s room (Outcome.refused r) h = passes-by (Short (s .state) room) (Reply.refused r) (h .0) (h .1)
 read-passes s room (Outcome.done x) h = passes-by (Short (s .state) room) (Reply.message (x .bytes)) refl (λ e. absurd (omega arith))
 
@@ -203,4 +207,5 @@ own-passes s (Call.update t) =
     updating-cases (λ (y : Updates). Passes ⊥ (afterUpdate s y .answer)) (s .state) t (s .sendPool) (clear-passes _ refl)
     (clear-passes _ refl)
 own-passes s (Call.check t) = clear-passes (own s (Call.check t) .answer) refl
-own-passes s (Call.read room) = read-passes s room (reading (s .state) (s .receivePool) room) (reading-clear (s .state) (s .receivePool) room)
+own-passes s (Call.read room) =
+    read-passes s room (reading (s .state) (s .receivePool) room) (reading-clear (s .state) (s .receivePool) room)

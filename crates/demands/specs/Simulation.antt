@@ -33,7 +33,20 @@ use Rattle.answers.specs.declared.Update.{Update}
 use Rattle.answers.specs.declared.Time.{Time}
 use Rattle.answers.specs.declared.Time.the-variants as time
 use Rattle.promises.specs.Parts.{Parts, FlushParts, lengthsOf, stateIn, isMade, Unchanged}
-use Rattle.promises.specs.Outcomes.{sendsWith, takesInWith, flushesWith, readsWith, updatesWith, checksWith, sends, takesIn, flushes, reads, updates, checks}
+use Rattle.promises.specs.Outcomes.{
+  sendsWith,
+  takesInWith,
+  flushesWith,
+  readsWith,
+  updatesWith,
+  checksWith,
+  sends,
+  takesIn,
+  flushes,
+  reads,
+  updates,
+  checks,
+}
 use Rattle.promises.specs.Answers.{Accepts, Counts, updateAnswer, timeOutcome}
 use Rattle.promises.specs.Promises.{SendLeaves, InputLeaves, Flushes, UpdateLeaves, ReadLeaves}
 use Rattle.delivery.specs.Hearing.{CallFits}
@@ -69,7 +82,8 @@ module _ (e e′ : Endpoint) where
     acks : length (e′ .parts .acks) ≡ length (e .parts .acks)
 
   -- a station with this state and these pools, all else as it was
-  with-state : (s : State) (send receive : List ℕ) → stateIn (e′ .link) (e′ .parts) ≡ s → e′ .parts .sendPool ≡ send → e′ .parts .receivePool ≡ receive → SameLengths
+  with-state : (s : State) (send receive : List ℕ) → stateIn (e′ .link) (e′ .parts) ≡ s → e′ .parts .sendPool ≡ send
+      → e′ .parts .receivePool ≡ receive → SameLengths
       → record { state = s; sendPool = send; receivePool = receive; lent = stationOf e .lent } ≡ stationOf e′
   with-state s send receive p q r n =
       λ i. record {
@@ -201,22 +215,23 @@ module _ (e e′ : Endpoint) (fit : countsFit (e .link) ≡ true) where
 
 -- ---- calls that pass the checks of 7 and 13
 
-module _ (e : Endpoint) (long : enough (mss (e .link .settings)) (lengthsOf (e .parts)) ≡ true) (made : isMade (e .link) (e .parts) ≡ true) where
-  sends-own : (m : List ℕ) → sends (e .link) (e .parts) m ≡ sending (stateIn (e .link) (e .parts)) (e .parts .sendPool) m
-  unfolding sendsWith
-  sends-own m = rw (long, made)
+module _ (e : Endpoint) (long : enough (mss (e .link .settings)) (lengthsOf (e .parts)) ≡ true) (made : isMade (e .link) (e .parts) ≡ true)
+  where
+    sends-own : (m : List ℕ) → sends (e .link) (e .parts) m ≡ sending (stateIn (e .link) (e .parts)) (e .parts .sendPool) m
+    unfolding sendsWith
+    sends-own m = rw (long, made)
 
-  takes-own : (d : List ℕ) → takesIn (e .link) (e .parts) d ≡ input (stateIn (e .link) (e .parts)) (e .parts .receivePool) d
-  unfolding takesInWith
-  takes-own d = rw (long, made)
+    takes-own : (d : List ℕ) → takesIn (e .link) (e .parts) d ≡ input (stateIn (e .link) (e .parts)) (e .parts .receivePool) d
+    unfolding takesInWith
+    takes-own d = rw (long, made)
 
-  reads-own : (room : ℕ) → reads (e .link) (e .parts) room ≡ reading (stateIn (e .link) (e .parts)) (e .parts .receivePool) room
-  unfolding readsWith
-  reads-own room = rw (long, made)
+    reads-own : (room : ℕ) → reads (e .link) (e .parts) room ≡ reading (stateIn (e .link) (e .parts)) (e .parts .receivePool) room
+    unfolding readsWith
+    reads-own room = rw (long, made)
 
-  checks-own : (t : ℕ) → checks (e .link) (e .parts) t ≡ Outcome.done (checking (stateIn (e .link) (e .parts)) t)
-  unfolding checksWith
-  checks-own t = rw (long, made)
+    checks-own : (t : ℕ) → checks (e .link) (e .parts) t ≡ Outcome.done (checking (stateIn (e .link) (e .parts)) t)
+    unfolding checksWith
+    checks-own t = rw (long, made)
 
 updates-own : (e : Endpoint) (t : ℕ) (f : FlushParts)
     → enoughToFlush (mss (e .link .settings)) (lengthsOf (e .parts)) (length (f .output)) (length (f .lengths)) ≡ true
@@ -250,7 +265,8 @@ module _ (c : Settings) (range : inRange c ≡ true) (conv : c .conv < 2 ^ 32) (
   pub is-long : enough (mss (e .link .settings)) (lengthsOf (e .parts)) ≡ true
   unfolding stateOf
   is-long =
-      flush-enough (mss (e .link .settings)) (lengthsOf (e .parts)) outputLeast lengthsLeast (in-order-long c range (stationOf e) (Call.flush 0) (k .order))
+      flush-enough (mss (e .link .settings)) (lengthsOf (e .parts)) outputLeast lengthsLeast
+      (in-order-long c range (stationOf e) (Call.flush 0) (k .order))
 
   -- whatever its schedule
   flush-fits : (t : ℕ) (f : FlushParts) (x : Schedule) → t < 2 ^ 32 → Room f
@@ -277,15 +293,18 @@ module _ (c : Settings) (range : inRange c ≡ true) (conv : c .conv < 2 ^ 32) (
   pub own-call : (x : Call) (a : Reply) (e′ : Endpoint) → CallFits x → Called e x a e′ → Becomes (own (stationOf e) x) a e′
   own-call (Call.send m) a e′ f h =
       rw (h .sees)
-      (sent-becomes e e′ (k .counts) (sending (stateIn (e .link) (e .parts)) (e .parts .sendPool) m) (h .gives) (rw (sends-own e is-long is-made m) at (h .promise .answer))
+      (sent-becomes e e′ (k .counts) (sending (stateIn (e .link) (e .parts)) (e .parts .sendPool) m) (h .gives)
+      (rw (sends-own e is-long is-made m) at (h .promise .answer))
       (rw (sends-own e is-long is-made m) at (h .promise .leaves)))
   own-call (Call.takeIn d) a e′ f h =
       rw (h .sees)
-      (took-becomes e e′ (k .counts) (input (stateIn (e .link) (e .parts)) (e .parts .receivePool) d) (h .gives) (rw (takes-own e is-long is-made d) at (h .promise .answer))
+      (took-becomes e e′ (k .counts) (input (stateIn (e .link) (e .parts)) (e .parts .receivePool) d) (h .gives)
+      (rw (takes-own e is-long is-made d) at (h .promise .answer))
       (rw (takes-own e is-long is-made d) at (h .promise .leaves)))
   own-call (Call.flush t) a e′ f h =
       let o = flushes-own e t (h .lent)
-      (long-flush (mss (e .link .settings)) (lengthsOf (e .parts)) (length (h .lent .output)) (length (h .lent .lengths)) is-long (h .room .long)
+      (long-flush (mss (e .link .settings)) (lengthsOf (e .parts)) (length (h .lent .output)) (length (h .lent .lengths)) is-long
+      (h .room .long)
       (h .room .many)) is-made in
       rw (h .sees)
       (flush-becomes e e′ (k .counts) (h .lent) (h .after) (flushing (stateIn (e .link) (e .parts)) t (e .parts .sendPool)) (h .gives)
@@ -294,7 +313,8 @@ module _ (c : Settings) (range : inRange c ≡ true) (conv : c .conv < 2 ^ 32) (
       (flush-fits t (h .lent) (stationOf e .state .schedule) f (h .room)))
   own-call (Call.update t) a e′ f h =
       let o = updates-own e t (h .lent)
-      (long-flush (mss (e .link .settings)) (lengthsOf (e .parts)) (length (h .lent .output)) (length (h .lent .lengths)) is-long (h .room .long)
+      (long-flush (mss (e .link .settings)) (lengthsOf (e .parts)) (length (h .lent .output)) (length (h .lent .lengths)) is-long
+      (h .room .long)
       (h .room .many)) is-made in
       rw (h .sees)
       (update-becomes e e′ (k .counts) (h .lent) (h .after)
@@ -309,7 +329,8 @@ module _ (c : Settings) (range : inRange c ≡ true) (conv : c .conv < 2 ^ 32) (
   }
   own-call (Call.read room) a e′ f h =
       rw (h .sees, ← h .long)
-      (read-becomes e e′ (k .counts) (h .buffer) (h .buffer′) (reading (stateIn (e .link) (e .parts)) (e .parts .receivePool) (length (h .buffer))) (h .gives)
+      (read-becomes e e′ (k .counts) (h .buffer) (h .buffer′)
+      (reading (stateIn (e .link) (e .parts)) (e .parts .receivePool) (length (h .buffer))) (h .gives)
       (rw (reads-own e is-long is-made (length (h .buffer))) at (h .promise .answer))
       (rw (reads-own e is-long is-made (length (h .buffer))) at (h .promise .leaves))
       (reading-fits (stateIn (e .link) (e .parts)) (e .parts .receivePool) (length (h .buffer))))
@@ -320,7 +341,9 @@ module _ (c : Settings) (range : inRange c ≡ true) (conv : c .conv < 2 ^ 32) (
       let b = own-call x a e′ f h in
       record { counts = b .counts; order = rw (b .station) at (in-order-stays c range (stationOf e) x f (k .order)) }
 
-  pub step-call : (x : Call) (a : Reply) (e′ : Endpoint) → CallFits x → Called e x a e′ → step (stationOf e) x ≡ record { station = stationOf e′; answer = a }
+  pub step-call : (x : Call) (a : Reply) (e′ : Endpoint) → CallFits x → Called e x a e′
+      → step (stationOf e) x ≡ record { station = stationOf e′; answer = a }
   step-call x a e′ f h =
       let b = own-call x a e′ f h in
-      step-own (stationOf e) x (in-order-long c range (stationOf e) x (k .order)) is-valid ∙ (λ i. record { station = b .station i; answer = b .answer i })
+      step-own (stationOf e) x (in-order-long c range (stationOf e) x (k .order))
+      is-valid ∙ (λ i. record { station = b .station i; answer = b .answer i })

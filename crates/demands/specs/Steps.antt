@@ -122,8 +122,8 @@ Called e (Call.check t) a e′ = CheckCall t e a e′
 
 -- ---- lists of calls
 
--- each call gets block and parts as the last one left them. Telling the size and showing may stand anywhere between them, and are not listed: they
--- give neither block nor parts back, so the next call gets those of the call before
+-- each call gets block and parts as the last one left them. Telling the size and showing may stand anywhere between them, and are not
+-- listed: they give neither block nor parts back, so the next call gets those of the call before
 pub data Runs : Endpoint → List Call → List Event → Endpoint → Type 0 where
   start : {e : Endpoint} → Runs e [] [] e
   next : (e : Endpoint) (x : Call) (a : Reply) (e′ : Endpoint) {xs : List Call} {events : List Event} {e″ : Endpoint}

@@ -11,7 +11,17 @@ use Rattle.protocol.specs.Ranges.{mss}
 use Rattle.protocol.specs.Serial.{isDue}
 use Rattle.sizes.specs.Sizes.{enoughToFlush}
 use Rattle.schedule.specs.Schedules.{isAstray, corrected, started, updated}
-use Rattle.schedule.specs.ScheduleLaws.{either, due-by, corrected-astray, corrected-kept, started-made, started-first, near, when-reached, when-waiting}
+use Rattle.schedule.specs.ScheduleLaws.{
+  either,
+  due-by,
+  corrected-astray,
+  corrected-kept,
+  started-made,
+  started-first,
+  near,
+  when-reached,
+  when-waiting,
+}
 use Rattle.schedule.specs.declared.Schedule.{Schedule}
 use Rattle.schedule.specs.declared.Updated.{Updated}
 use Rattle.session.specs.State.{State, Outcome, withTimes, withSchedule}

@@ -34,7 +34,9 @@ module _ (l : Link) (p : Parts) (records : List Record) (n : ℕ) (g : Gathers l
       let s = stands-in l p records n g l′ (x .state) (h .slots) (h .counts) (h .state) in
       record { stands = record { counts = s .counts; state = s .state }; sendPool = h .pool; receivePool = refl; table = refl; acks = refl }
 
-  pub send-promised : (message : List ℕ) → Left (sendsWith l records (p .acks) (lentLengths n (p .sendPool) (p .receivePool) (p .acks)) (p .sendPool) message) → SendPromise message l p a l′ after
+  pub send-promised : (message : List ℕ)
+      → Left (sendsWith l records (p .acks) (lentLengths n (p .sendPool) (p .receivePool) (p .acks)) (p .sendPool) message)
+      → SendPromise message l p a l′ after
   unfolding sendsWith
   send-promised message h =
       let k : Left (sends l p message) = subst Left (outcome-in l p records n g (λ s. sending s (p .sendPool) message)) h in

@@ -1,5 +1,5 @@
--- What taking in, a flush and an update have left before the records of the outstanding segments are put back into the table: the promise's own
--- outcome, and arrays that have their lengths. Definitions.
+-- What taking in, a flush and an update have left before the records of the outstanding segments are put back into the table: the promise's
+-- own outcome, and arrays that have their lengths. Definitions.
 -- Assumes nothing.
 use mathlib.Core.List.{List}
 use Prim.Native.Nat.{ℕ}
@@ -20,7 +20,8 @@ pub record FlushLeft (t : ℕ) (l : Link) (p : Parts) (f : FlushParts) (a : Coun
   pub core : FlushCore (flushes l p f t) l (p .acks) (f .output) (f .lengths) a l′ b (f′ .output) (f′ .lengths)
   pub whole : Whole (arraysOf l′)
 
-pub record UpdateLeft (t : ℕ) (l : Link) (p : Parts) (f : FlushParts) (a : Update) (b : PutBack) (l′ : Link) (f′ : FlushParts) : Type 0 where
-  pub core :
-    UpdateCore (updates l p f t) l (recordsOf l p) (p .acks) (f .output) (f .lengths) a l′ b (f′ .output) (f′ .lengths)
-  pub whole : Whole (arraysOf l′)
+pub record UpdateLeft (t : ℕ) (l : Link) (p : Parts) (f : FlushParts) (a : Update) (b : PutBack) (l′ : Link) (f′ : FlushParts) : Type 0
+  where
+    pub core :
+        UpdateCore (updates l p f t) l (recordsOf l p) (p .acks) (f .output) (f .lengths) a l′ b (f′ .output) (f′ .lengths)
+    pub whole : Whole (arraysOf l′)

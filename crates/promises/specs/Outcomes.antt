@@ -44,7 +44,8 @@ module _ (l : Link) (records : List Record) (acks : List ℕ) (n : Lengths) wher
   -- a flush at t, with output and lengths this long
   unfoldable pub flushesWith : List ℕ → ℕ → ℕ → ℕ → Outcome Flushed
   flushesWith pool output lengths t =
-      checked (enoughToFlush (mss (l .settings)) n output lengths) (blockValid l records acks) (done (flushing (stateOf l records acks) t pool))
+      checked (enoughToFlush (mss (l .settings)) n output lengths) (blockValid l records acks)
+      (done (flushing (stateOf l records acks) t pool))
 
   -- a read into a buffer that long
   unfoldable pub readsWith : List ℕ → ℕ → Outcome Reads

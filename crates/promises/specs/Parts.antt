@@ -27,7 +27,8 @@ pub record FlushParts : Type 0 where
 
 -- the lengths of the parts, with that of the table by itself
 abbrev pub lentLengths : ℕ → List ℕ → List ℕ → List ℕ → Lengths
-lentLengths table sendPool receivePool acks = record { send = length sendPool; receive = length receivePool; table = table; acks = length acks }
+lentLengths table sendPool receivePool acks =
+    record { send = length sendPool; receive = length receivePool; table = table; acks = length acks }
 
 abbrev pub lengthsOf : Parts → Lengths
 lengthsOf p = lentLengths (length (p .table)) (p .sendPool) (p .receivePool) (p .acks)

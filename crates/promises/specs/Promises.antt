@@ -40,7 +40,8 @@ use Rattle.promises.specs.Answers.{
 
 -- the table with the records of a state's outstanding segments at their slots: no other record changes
 abbrev pub tableOf : List Record → State → List Record
-tableOf table s = scattered table (map (λ (x : Sent). x .held .slot) (s .sending .outstanding)) (map (λ (x : Sent). x .record) (s .sending .outstanding))
+tableOf table s = scattered table (map (λ (x : Sent). x .held .slot) (s .sending .outstanding))
+    (map (λ (x : Sent). x .record) (s .sending .outstanding))
 
 -- opening writes no lent byte; refused, it leaves the old block
 abbrev pub OpenLeaves : Outcome State → Link → Link → Parts → Parts → Type 0
@@ -71,7 +72,8 @@ pub record SendPromise (message : List ℕ) (l : Link) (p : Parts) (a : Answer) 
   pub number : answerNumber a ≡ outcomeNumber (sends l p message)
   pub leaves : SendLeaves (sends l p message) l l′ p p′
 
--- a datagram taken in: the receive pool as the definition has it, the records of the outstanding segments, and the ack list behind its pairs as it was
+-- a datagram taken in: the receive pool as the definition has it, the records of the outstanding segments, and the ack list behind its
+-- pairs as it was
 pub record TookIn (x : Took) (l′ : Link) (p p′ : Parts) : Type 0 where
   pub stands : Stands l′ p′ (x .state)
   pub sendPool : p′ .sendPool ≡ p .sendPool
@@ -113,10 +115,11 @@ FlushLeaves (refused r) l l′ p p′ f f′ = NoFlush l l′ p p′ f f′
 FlushLeaves (done x) l l′ p p′ f f′ = Flushes x l′ p p′ f f′
 
 -- a flush at t answers the number of its datagrams
-pub record FlushPromise (t : ℕ) (l : Link) (p : Parts) (f : FlushParts) (a : Count) (l′ : Link) (p′ : Parts) (f′ : FlushParts) : Type 0 where
-  pub answer : Counts (λ (x : Flushed). length (x .datagrams)) a (outcomes.flushes l p f t)
-  pub number : countNumber a ≡ outcomeNumber (outcomes.flushes l p f t)
-  pub leaves : FlushLeaves (outcomes.flushes l p f t) l l′ p p′ f f′
+pub record FlushPromise (t : ℕ) (l : Link) (p : Parts) (f : FlushParts) (a : Count) (l′ : Link) (p′ : Parts) (f′ : FlushParts) : Type 0
+  where
+    pub answer : Counts (λ (x : Flushed). length (x .datagrams)) a (outcomes.flushes l p f t)
+    pub number : countNumber a ≡ outcomeNumber (outcomes.flushes l p f t)
+    pub leaves : FlushLeaves (outcomes.flushes l p f t) l l′ p p′ f f′
 
 -- an update that waits: the block has the new current time and schedule; every lent byte and record is as it was
 pub record Waits (s : State) (l′ : Link) (p p′ : Parts) (f f′ : FlushParts) : Type 0 where
@@ -130,10 +133,11 @@ UpdateLeaves (done (waits s)) l l′ p p′ f f′ = Waits s l′ p p′ f f′
 UpdateLeaves (done (flushes x)) l l′ p p′ f f′ = Flushes x l′ p p′ f f′
 
 -- an update at t answers that it waited, or the number of its flush's datagrams
-pub record UpdatePromise (t : ℕ) (l : Link) (p : Parts) (f : FlushParts) (a : Update) (l′ : Link) (p′ : Parts) (f′ : FlushParts) : Type 0 where
-  pub answer : a ≡ updateAnswer (updates l p f t)
-  pub number : updateNumber a ≡ outcomeNumber (updates l p f t)
-  pub leaves : UpdateLeaves (updates l p f t) l l′ p p′ f f′
+pub record UpdatePromise (t : ℕ) (l : Link) (p : Parts) (f : FlushParts) (a : Update) (l′ : Link) (p′ : Parts) (f′ : FlushParts) : Type 0
+  where
+    pub answer : a ≡ updateAnswer (updates l p f t)
+    pub number : updateNumber a ≡ outcomeNumber (updates l p f t)
+    pub leaves : UpdateLeaves (updates l p f t) l l′ p p′ f f′
 
 -- a check at t changes nothing
 pub record CheckPromise (t : ℕ) (l : Link) (p : Parts) (a : Time) : Type 0 where
@@ -185,7 +189,7 @@ pub record ShowsPart (o : Outcome Part) (address : ℕ × ℕ) (pool : List ℕ)
   pub place : LiesAt (placeOf o .start) address address′
   pub bytes : part ≡ shown o pool
 
--- showing changes nothing, and gives the front segment's payload as the very part of the receive pool that holds it: the pool's address, and
--- that of the part with its bytes; an empty one at the pool's start where it is refused
+-- showing changes nothing, and gives the front segment's payload as the very part of the receive pool that holds it: the pool's address,
+-- and that of the part with its bytes; an empty one at the pool's start where it is refused
 abbrev pub ShowPromise : Link → Parts → ℕ × ℕ → ℕ × ℕ → List ℕ → Type 0
 ShowPromise l p address address′ part = ShowsPart (shows l p) address (p .receivePool) address′ part

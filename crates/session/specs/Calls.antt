@@ -73,11 +73,16 @@ refusedStep s r = record { station = s; answer = Reply.refused r }
 
 abbrev pub afterSend : Station → Outcome Sends → Stepped
 afterSend s (Outcome.refused r) = refusedStep s r
-afterSend s (Outcome.done x) = record { station = record { state = x .state; sendPool = x .pool; receivePool = s .receivePool; lent = s .lent }; answer = accepted }
+afterSend s (Outcome.done x) = record {
+  station = record
+      { state = x .state; sendPool = x .pool; receivePool = s .receivePool; lent = s .lent };
+  answer = accepted;
+}
 
 abbrev pub afterTakeIn : Station → Outcome Took → Stepped
 afterTakeIn s (Outcome.refused r) = refusedStep s r
-afterTakeIn s (Outcome.done x) = record { station = record { state = x .state; sendPool = s .sendPool; receivePool = x .pool; lent = s .lent }; answer = accepted }
+afterTakeIn s (Outcome.done x) =
+    record { station = record { state = x .state; sendPool = s .sendPool; receivePool = x .pool; lent = s .lent }; answer = accepted }
 
 abbrev pub afterFlush : Station → Flushed → Stepped
 afterFlush s x =
@@ -88,7 +93,11 @@ afterFlush s x =
 
 abbrev pub afterReading : Station → Outcome Reads → Stepped
 afterReading s (Outcome.refused r) = refusedStep s r
-afterReading s (Outcome.done x) = record { station = record { state = x .state; sendPool = s .sendPool; receivePool = s .receivePool; lent = s .lent }; answer = message (x .bytes) }
+afterReading s (Outcome.done x) =
+    record {
+      station = record { state = x .state; sendPool = s .sendPool; receivePool = s .receivePool; lent = s .lent };
+      answer = message (x .bytes);
+    }
 
 abbrev pub afterUpdate : Station → Updates → Stepped
 afterUpdate s (waits x) =

@@ -141,7 +141,8 @@ fn outstanding(
     count: usize,
     table: [Record; 128],
 ) -> usize
-    ensures { λ r. ⌜ Put (now (out .entry)) at (each (outstandingEntry table) (outstandingIn words transmissions count)) r (now (out .exit)) ⌝ }
+    ensures { λ r. ⌜ Put (now (out .entry)) at (each (outstandingEntry table) (outstandingIn words transmissions count)) r (now (out .exit))
+        ⌝ }
 {
     let n = least(count, 32);
     let mut here = at;

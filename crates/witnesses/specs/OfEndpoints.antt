@@ -1,5 +1,5 @@
--- The premises of demand 3 can be met by steps that keep the promises of the public calls: a sender, a receiver that hears nothing and gets 9, and one
--- that hears the datagram and reads the message. Proved by computing.
+-- The premises of demand 3 can be met by steps that keep the promises of the public calls: a sender, a receiver that hears nothing and gets
+-- 9, and one that hears the datagram and reads the message. Proved by computing.
 -- Assumes nothing.
 use mathlib.Core.Path.{refl}
 use mathlib.Core.List.{List, [], _∷_, List·Memᴰ·head}
@@ -22,13 +22,50 @@ use Rattle.lists.specs.Receiving.{advance, startsAt}
 use Rattle.lists.specs.Acknowledging.{select, firstNumberOr, skipBefore}
 use Rattle.sizes.specs.Sizes.{enough, enoughToFlush}
 use Rattle.congestion.specs.Congestions as congestion
-use Rattle.congestion.specs.Congestions.{usedWindow, slowStart, raised, widened, avoidance, limited, grown, afterDatagram, halved, bySkips, byTimeout, atLeastOne, fits}
+use Rattle.congestion.specs.Congestions.{
+  usedWindow,
+  slowStart,
+  raised,
+  widened,
+  avoidance,
+  limited,
+  grown,
+  afterDatagram,
+  halved,
+  bySkips,
+  byTimeout,
+  atLeastOne,
+  fits,
+}
 use Rattle.session.specs.Slots.{occurs, lowestFrom, lowestFree}
 use Rattle.session.specs.Valid.{numbersFit, waitingFits, settled, sendingValid, receivingValid, valid}
 use Rattle.session.specs.Cutting.{fragmentCount, segmentCount, pieces, cutAs}
 use Rattle.session.specs.Sending.{place, filled, sending}
-use Rattle.session.specs.Flushing.{numbered, numberedCount, withNumbered, transmittedNow, written, bytesOfSegments, packOne, packed, flushing}
-use Rattle.session.specs.Input.{acknowledged, sampledBy, heardBySending, pushed, heardByReceiving, allBySending, allByReceiving, ackNumbers, furthest, skipped, applied, input}
+use Rattle.session.specs.Flushing.{
+  numbered,
+  numberedCount,
+  withNumbered,
+  transmittedNow,
+  written,
+  bytesOfSegments,
+  packOne,
+  packed,
+  flushing,
+}
+use Rattle.session.specs.Input.{
+  acknowledged,
+  sampledBy,
+  heardBySending,
+  pushed,
+  heardByReceiving,
+  allBySending,
+  allByReceiving,
+  ackNumbers,
+  furthest,
+  skipped,
+  applied,
+  input,
+}
 use Rattle.session.specs.Reading.{joinedIn, message, lengthOf, messageSize, afterRead, reading}
 use Rattle.session.specs.Opening.{opened, opening}
 use Rattle.session.specs.Calls.{Call, Reply, Event, acceptedList, datagramsBy}
@@ -82,7 +119,8 @@ abbrev pub calls : List Call
 calls = Call.send (104 ∷ 105 ∷ []) ∷ Call.flush 7 ∷ []
 
 abbrev pub events : List Event
-events = record { call = Call.send (104 ∷ 105 ∷ []); answer = Reply.accepted } ∷ record { call = Call.flush 7; answer = Reply.wrote (datagram ∷ []) } ∷ []
+events = record { call = Call.send (104 ∷ 105 ∷ []); answer = Reply.accepted }
+    ∷ record { call = Call.flush 7; answer = Reply.wrote (datagram ∷ []) } ∷ []
 
 abbrev pub firsts : List Call
 firsts = Call.read 10 ∷ []
@@ -113,7 +151,15 @@ record Met : Type 0 where
   bytes : AllBytes datagram
 
 met : Met
-unfolding usedWindow slowStart raised widened avoidance limited grown afterDatagram halved bySkips byTimeout atLeastOne fits congestion.afterFlush sent flushed fresh heard finished datagram parts opened opening entriesOf countsFit stateOf pairs joining.joined blockValid scattered joined lengthsOf cutBy sendsWith takesInWith flushesWith readsWith signed isBefore isAfter isDue front back encode decode bytesOf numberAt verdict segmentOf tail walk parse longerWait nextClock nextSmoothed nextVariation leastTimeout timeoutOf sampled firstDue growth longerTimeout isSkipped transmission select firstNumberOr skipBefore advance startsAt insert isHeld ascending enough enoughToFlush datagramsBy pushesIn pushNumbers fragmentCount segmentCount pieces cutAs filled numbered numberedCount withNumbered transmittedNow written bytesOfSegments packOne packed flushing acknowledged sampledBy heardBySending pushed heardByReceiving allBySending allByReceiving ackNumbers furthest skipped applied input joinedIn message lengthOf messageSize afterRead reading place sending occurs lowestFrom lowestFree numbersFit waitingFits settled sendingValid receivingValid valid paired
+unfolding usedWindow slowStart raised widened avoidance limited grown afterDatagram halved bySkips byTimeout atLeastOne fits
+    congestion.afterFlush sent flushed fresh heard finished datagram parts opened opening entriesOf countsFit stateOf pairs joining.joined
+    blockValid scattered joined lengthsOf cutBy sendsWith takesInWith flushesWith readsWith signed isBefore isAfter isDue front back encode
+    decode bytesOf numberAt verdict segmentOf tail walk parse longerWait nextClock nextSmoothed nextVariation leastTimeout timeoutOf sampled
+    firstDue growth longerTimeout isSkipped transmission select firstNumberOr skipBefore advance startsAt insert isHeld ascending enough
+    enoughToFlush datagramsBy pushesIn pushNumbers fragmentCount segmentCount pieces cutAs filled numbered numberedCount withNumbered
+    transmittedNow written bytesOfSegments packOne packed flushing acknowledged sampledBy heardBySending pushed heardByReceiving
+    allBySending allByReceiving ackNumbers furthest skipped applied input joinedIn message lengthOf messageSize afterRead reading place
+    sending occurs lowestFrom lowestFree numbersFit waitingFits settled sendingValid receivingValid valid paired
 met = record {
   opens = record {
     block = linkOf (opened c);
@@ -122,7 +168,11 @@ met = record {
   };
   sends-it = record {
     gives = answer.Accepted;
-    promise = record { answer = refl; number = refl; leaves = record { stands = record { counts = refl; state = refl }; sendPool = refl; receivePool = refl; table = refl; acks = refl } };
+    promise = record {
+      answer = refl;
+      number = refl;
+      leaves = record { stands = record { counts = refl; state = refl }; sendPool = refl; receivePool = refl; table = refl; acks = refl };
+    };
     sees = refl;
   };
   flushes-it = record {
@@ -157,7 +207,14 @@ met = record {
     promise = record {
       answer = refl;
       number = refl;
-      leaves = record { stands = record { counts = refl; state = refl }; sendPool = refl; receivePool = refl; table = refl; ackLength = refl; ackRest = refl };
+      leaves = record {
+        stands = record { counts = refl; state = refl };
+        sendPool = refl;
+        receivePool = refl;
+        table = refl;
+        ackLength = refl;
+        ackRest = refl;
+      };
     };
     sees = refl;
   };
@@ -166,7 +223,11 @@ met = record {
     long = refl;
     gives = count.Of 2;
     buffer′ = sets (replicate 10 0) 0 (104 ∷ 105 ∷ []);
-    promise = record { answer = refl; number = refl; leaves = record { stands = record { counts = refl; state = refl }; parts = refl; bytes = refl } };
+    promise = record {
+      answer = refl;
+      number = refl;
+      leaves = record { stands = record { counts = refl; state = refl }; parts = refl; bytes = refl };
+    };
     sees = refl;
   };
   few = omega arith;
@@ -192,7 +253,8 @@ sender-runs : SinceOpening c calls events flushed
 sender-runs = record {
   first = fresh;
   opens = met .opens;
-  runs = next fresh (Call.send (104 ∷ 105 ∷ [])) Reply.accepted sent (met .sends-it) (next sent (Call.flush 7) (Reply.wrote (datagram ∷ [])) flushed (met .flushes-it) start);
+  runs = next fresh (Call.send (104 ∷ 105 ∷ [])) Reply.accepted sent (met .sends-it)
+      (next sent (Call.flush 7) (Reply.wrote (datagram ∷ [])) flushed (met .flushes-it) start);
   conv = omega arith;
   fits = (bytes-by (104 ∷ 105 ∷ []) refl, (omega arith, tt));
 }
@@ -210,7 +272,8 @@ second-runs : SinceOpening c seconds heard₂ finished
 second-runs = record {
   first = fresh;
   opens = met .opens;
-  runs = next fresh (Call.takeIn datagram) Reply.accepted heard (met .takes-it) (next heard (Call.read 10) (Reply.message (104 ∷ 105 ∷ [])) finished (met .reads-it) start);
+  runs = next fresh (Call.takeIn datagram) Reply.accepted heard (met .takes-it)
+      (next heard (Call.read 10) (Reply.message (104 ∷ 105 ∷ [])) finished (met .reads-it) start);
   conv = omega arith;
   fits = (met .bytes, (tt, tt));
 }

@@ -22,12 +22,36 @@ use Rattle.sizes.specs.Sizes.{enough, enoughToFlush}
 use Rattle.schedule.specs.Schedules as scheduling
 use Rattle.schedule.specs.Schedules.{isAstray, corrected, started, following, ahead, earliest, named}
 use Rattle.congestion.specs.Congestions as congestion
-use Rattle.congestion.specs.Congestions.{usedWindow, slowStart, raised, widened, avoidance, limited, grown, afterDatagram, halved, bySkips, byTimeout, atLeastOne, fits}
+use Rattle.congestion.specs.Congestions.{
+  usedWindow,
+  slowStart,
+  raised,
+  widened,
+  avoidance,
+  limited,
+  grown,
+  afterDatagram,
+  halved,
+  bySkips,
+  byTimeout,
+  atLeastOne,
+  fits,
+}
 use Rattle.session.specs.Slots.{occurs, lowestFrom, lowestFree}
 use Rattle.session.specs.Valid.{numbersFit, waitingFits, settled, sendingValid, receivingValid, valid}
 use Rattle.session.specs.Cutting.{fragmentCount, segmentCount, pieces, cutAs}
 use Rattle.session.specs.Sending.{place, filled, sending}
-use Rattle.session.specs.Flushing.{numbered, numberedCount, withNumbered, transmittedNow, written, bytesOfSegments, packOne, packed, flushing}
+use Rattle.session.specs.Flushing.{
+  numbered,
+  numberedCount,
+  withNumbered,
+  transmittedNow,
+  written,
+  bytesOfSegments,
+  packOne,
+  packed,
+  flushing,
+}
 use Rattle.session.specs.Updating.{updating, checking}
 use Rattle.session.specs.Opening.{opened, opening}
 use Rattle.session.specs.Calls.{Call, Reply, Event}
@@ -98,7 +122,13 @@ blank-parts = flushPartsOf (replicate outputLeast 0) (replicate lengthsLeast 0)
 -- ---- each call keeps its promise
 
 pub updates-it : Called sent (Call.update 7) (Reply.wrote (datagram ∷ [])) updated
-unfolding usedWindow slowStart raised widened avoidance limited grown afterDatagram halved bySkips byTimeout atLeastOne fits congestion.afterFlush sent fresh updated datagram parts opened opening countsFit stateOf pairs joining.joined blockValid scattered joined lengthsOf cutBy sendsWith updatesWith checksWith scheduling.updated corrected started following isAstray ahead earliest named updating checking signed isBefore isAfter isDue front back encode bytesOf longerWait nextClock leastTimeout firstDue growth longerTimeout isSkipped transmission firstNumberOr startsAt ascending enough enoughToFlush fragmentCount segmentCount pieces cutAs filled numbered numberedCount withNumbered transmittedNow written bytesOfSegments packOne packed flushing place sending occurs lowestFrom lowestFree numbersFit waitingFits settled sendingValid receivingValid valid paired
+unfolding usedWindow slowStart raised widened avoidance limited grown afterDatagram halved bySkips byTimeout atLeastOne fits
+    congestion.afterFlush sent fresh updated datagram parts opened opening countsFit stateOf pairs joining.joined blockValid scattered
+    joined lengthsOf cutBy sendsWith updatesWith checksWith scheduling.updated corrected started following isAstray ahead earliest named
+    updating checking signed isBefore isAfter isDue front back encode bytesOf longerWait nextClock leastTimeout firstDue growth
+    longerTimeout isSkipped transmission firstNumberOr startsAt ascending enough enoughToFlush fragmentCount segmentCount pieces cutAs
+    filled numbered numberedCount withNumbered transmittedNow written bytesOfSegments packOne packed flushing place sending occurs
+    lowestFrom lowestFree numbersFit waitingFits settled sendingValid receivingValid valid paired
 updates-it = record {
   lent = blank-parts;
   room = record { long = omega arith; many = omega arith };
@@ -120,19 +150,39 @@ updates-it = record {
 }
 
 pub checks-it : CheckPromise 8 (updated .link) (updated .parts) (time.At 107)
-unfolding usedWindow slowStart raised widened avoidance limited grown afterDatagram halved bySkips byTimeout atLeastOne fits congestion.afterFlush updated rested rested-again countsFit stateOf pairs joining.joined blockValid updatesWith checksWith scheduling.updated corrected started following isAstray ahead earliest named updating checking signed isBefore isAfter isDue leastTimeout firstNumberOr startsAt ascending enough enoughToFlush occurs numbersFit waitingFits settled sendingValid receivingValid valid paired
+unfolding usedWindow slowStart raised widened avoidance limited grown afterDatagram halved bySkips byTimeout atLeastOne fits
+    congestion.afterFlush updated rested rested-again countsFit stateOf pairs joining.joined blockValid updatesWith checksWith
+    scheduling.updated corrected started following isAstray ahead earliest named updating checking signed isBefore isAfter isDue
+    leastTimeout firstNumberOr startsAt ascending enough enoughToFlush occurs numbersFit waitingFits settled sendingValid receivingValid
+    valid paired
 checks-it = record { answer = refl; number = refl }
 
 pub waits : UpdatePromise 106 (updated .link) (updated .parts) blank-parts update.Waited (rested .link) (rested .parts) blank-parts
-unfolding usedWindow slowStart raised widened avoidance limited grown afterDatagram halved bySkips byTimeout atLeastOne fits congestion.afterFlush updated rested rested-again countsFit stateOf pairs joining.joined blockValid updatesWith checksWith scheduling.updated corrected started following isAstray ahead earliest named updating checking signed isBefore isAfter isDue leastTimeout firstNumberOr startsAt ascending enough enoughToFlush occurs numbersFit waitingFits settled sendingValid receivingValid valid paired
+unfolding usedWindow slowStart raised widened avoidance limited grown afterDatagram halved bySkips byTimeout atLeastOne fits
+    congestion.afterFlush updated rested rested-again countsFit stateOf pairs joining.joined blockValid updatesWith checksWith
+    scheduling.updated corrected started following isAstray ahead earliest named updating checking signed isBefore isAfter isDue
+    leastTimeout firstNumberOr startsAt ascending enough enoughToFlush occurs numbersFit waitingFits settled sendingValid receivingValid
+    valid paired
 waits =
-    record { answer = refl; number = refl; leaves = record { stands = record { counts = refl; state = refl }; parts = refl; flushParts = refl } }
+    record {
+      answer = refl;
+      number = refl;
+      leaves = record { stands = record { counts = refl; state = refl }; parts = refl; flushParts = refl };
+    }
 
 pub waits-again : UpdatePromise 20 (rested .link) (rested .parts) blank-parts update.Waited
     (rested-again .link) (rested-again .parts) blank-parts
-unfolding usedWindow slowStart raised widened avoidance limited grown afterDatagram halved bySkips byTimeout atLeastOne fits congestion.afterFlush updated rested rested-again countsFit stateOf pairs joining.joined blockValid updatesWith checksWith scheduling.updated corrected started following isAstray ahead earliest named updating checking signed isBefore isAfter isDue leastTimeout firstNumberOr startsAt ascending enough enoughToFlush occurs numbersFit waitingFits settled sendingValid receivingValid valid paired
+unfolding usedWindow slowStart raised widened avoidance limited grown afterDatagram halved bySkips byTimeout atLeastOne fits
+    congestion.afterFlush updated rested rested-again countsFit stateOf pairs joining.joined blockValid updatesWith checksWith
+    scheduling.updated corrected started following isAstray ahead earliest named updating checking signed isBefore isAfter isDue
+    leastTimeout firstNumberOr startsAt ascending enough enoughToFlush occurs numbersFit waitingFits settled sendingValid receivingValid
+    valid paired
 waits-again =
-    record { answer = refl; number = refl; leaves = record { stands = record { counts = refl; state = refl }; parts = refl; flushParts = refl } }
+    record {
+      answer = refl;
+      number = refl;
+      leaves = record { stands = record { counts = refl; state = refl }; parts = refl; flushParts = refl };
+    }
 
 -- ---- since opening
 

@@ -25,13 +25,37 @@ use Rattle.lists.specs.Acknowledging.{select, firstNumberOr, skipBefore}
 use Rattle.sizes.specs.Sizes.{enough, enoughToFlush}
 use Rattle.schedule.specs.Schedules.{updated, isAstray, corrected, started, following}
 use Rattle.congestion.specs.Congestions as congestion
-use Rattle.congestion.specs.Congestions.{usedWindow, slowStart, raised, widened, avoidance, limited, grown, afterDatagram, halved, bySkips, byTimeout, atLeastOne, fits}
+use Rattle.congestion.specs.Congestions.{
+  usedWindow,
+  slowStart,
+  raised,
+  widened,
+  avoidance,
+  limited,
+  grown,
+  afterDatagram,
+  halved,
+  bySkips,
+  byTimeout,
+  atLeastOne,
+  fits,
+}
 use Rattle.session.specs.State.{withNumbers, afterFlushing, withSchedule}
 use Rattle.session.specs.Slots.{occurs, lowestFrom, lowestFree}
 use Rattle.session.specs.Valid.{numbersFit, waitingFits, settled, sendingValid, receivingValid, valid}
 use Rattle.session.specs.Cutting.{fragmentCount, segmentCount, pieces, cutAs}
 use Rattle.session.specs.Sending.{place, filled, sending}
-use Rattle.session.specs.Flushing.{numbered, numberedCount, withNumbered, transmittedNow, written, bytesOfSegments, packOne, packed, flushing}
+use Rattle.session.specs.Flushing.{
+  numbered,
+  numberedCount,
+  withNumbered,
+  transmittedNow,
+  written,
+  bytesOfSegments,
+  packOne,
+  packed,
+  flushing,
+}
 use Rattle.session.specs.Input.{
   acknowledged,
   sampledBy,
@@ -105,7 +129,8 @@ resent =
     let s = opened c in
     record {
       link = linkOf
-          (withSchedule (afterFlushing s (withNumbers (s .sending) 1 [] (segment ∷ [])) (s .receiving) (s .probe) 300 (record { window = 1; threshold = 16; allowance = 26 }) false)
+          (withSchedule (afterFlushing s (withNumbers (s .sending) 1 [] (segment ∷ [])) (s .receiving) (s .probe) 300
+          (record { window = 1; threshold = 16; allowance = 26 }) false)
           (record { next = 400; made = true }));
       parts = record {
         sendPool = sets (replicate 3328 0) 0 (104 ∷ 105 ∷ []);
@@ -137,7 +162,9 @@ record Met : Type 0 where
   una-after : done .link .flight .una ≡ 1
 
 met : Met
-unfolding usedWindow slowStart raised widened avoidance limited grown afterDatagram halved bySkips byTimeout atLeastOne fits congestion.afterFlush again acked resent heard told done sent flushed fresh datagram parts opened entriesOf countsFit stateOf pairs joining.joined
+unfolding usedWindow slowStart raised widened avoidance limited grown afterDatagram halved bySkips byTimeout atLeastOne fits
+    congestion.afterFlush again acked resent heard told done sent flushed fresh datagram parts opened entriesOf countsFit stateOf pairs
+    joining.joined
     blockValid scattered joined lengthsOf cutBy sendsWith takesInWith flushesWith updatesWith updated isAstray corrected started following
     updating signed isBefore isAfter isDue front back encode decode bytesOf numberAt verdict segmentOf tail walk parse longerWait
     nextClock nextSmoothed nextVariation leastTimeout timeoutOf sampled firstDue growth longerTimeout isSkipped transmission select
@@ -252,7 +279,8 @@ of-b = record {
 }
 
 few-a : FewSegments of-a
-unfolding usedWindow slowStart raised widened avoidance limited grown afterDatagram halved bySkips byTimeout atLeastOne fits congestion.afterFlush of-a fragmentsAccepted fragmentCount segmentCount filled stateOf fresh opened
+unfolding usedWindow slowStart raised widened avoidance limited grown afterDatagram halved bySkips byTimeout atLeastOne fits
+    congestion.afterFlush of-a fragmentsAccepted fragmentCount segmentCount filled stateOf fresh opened
 few-a = omega arith
 
 few-b : FewSegments of-b

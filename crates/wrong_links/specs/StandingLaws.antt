@@ -31,16 +31,55 @@ use Rattle.answers.specs.declared.Update.{Update}
 use Rattle.answers.specs.declared.Update.the-variants as update
 use Rattle.answers.specs.declared.Time.{Time}
 use Rattle.promises.specs.Parts.{Parts, FlushParts, lengthsOf, isMade}
-use Rattle.promises.specs.Outcomes.{sendsWith, takesInWith, flushesWith, updatesWith, checksWith, readsWith, tellsWith, showsWith, opens, sends, takesIn, flushes, updates, checks, reads, tells, shows}
+use Rattle.promises.specs.Outcomes.{
+  sendsWith,
+  takesInWith,
+  flushesWith,
+  updatesWith,
+  checksWith,
+  readsWith,
+  tellsWith,
+  showsWith,
+  opens,
+  sends,
+  takesIn,
+  flushes,
+  updates,
+  checks,
+  reads,
+  tells,
+  shows,
+}
 use Rattle.promises.specs.Answers.{Accepts, Counts, countOutcome, updateAnswer, timeOutcome}
-use Rattle.promises.specs.Promises.{OpenPromise, OpenLeaves, SendPromise, SendLeaves, InputPromise, InputLeaves, WrittenTo, Flushes, FlushPromise, FlushLeaves, UpdatePromise, UpdateLeaves, CheckPromise, ReadPromise, NoRead, ReadLeaves, SizePromise, ShowPromise, ShowsPart}
+use Rattle.promises.specs.Promises.{
+  OpenPromise,
+  OpenLeaves,
+  SendPromise,
+  SendLeaves,
+  InputPromise,
+  InputLeaves,
+  WrittenTo,
+  Flushes,
+  FlushPromise,
+  FlushLeaves,
+  UpdatePromise,
+  UpdateLeaves,
+  CheckPromise,
+  ReadPromise,
+  NoRead,
+  ReadLeaves,
+  SizePromise,
+  ShowPromise,
+  ShowsPart,
+}
 use Rattle.wrong_links.specs.Standing.{Known, Lends, At, Passes, lengthsKnown}
 
 -- ---- opening
 
 -- opening with parts that have these pools, 128 records and 512 entries for acks
 module _ (c : Settings) (l : Link) (p : Parts) (l′ : Link) (p′ : Parts) (k : Known) (a : Answer) where
-  pub opening-goes : Lends p (k .sendPool) (k .receivePool) → opening c (lengthsKnown k) ≡ done (k .state) → OpenPromise c l p a l′ p′ → (a ≡ answer.Accepted) × At l′ p′ k
+  pub opening-goes : Lends p (k .sendPool) (k .receivePool) → opening c (lengthsKnown k) ≡ done (k .state) → OpenPromise c l p a l′ p′
+      → (a ≡ answer.Accepted) × At l′ p′ k
   opening-goes lends e h =
       let o : opens c p ≡ done (k .state) = rw (lends .sendPool, lends .receivePool, lends .table, lends .acks) e in
       let r = subst (λ (o : Outcome State). Accepts a o × OpenLeaves o l l′ p p′) o (h .answer, h .leaves) in

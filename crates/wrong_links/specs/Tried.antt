@@ -1,11 +1,11 @@
--- The wrong links of document 01, tried against the promises of the public calls. Whatever block and parts a link that keeps its promises has, it
--- goes through the session of `Session` as computed there, from an accepted opening on; so none of these keeps them:
+-- The wrong links of document 01, tried against the promises of the public calls. Whatever block and parts a link that keeps its promises
+-- has, it goes through the session of `Session` as computed there, from an accepted opening on; so none of these keeps them:
 -- - one that refuses everything: `refuses-opening` and those after it, and `show-first`;
 -- - one whose updates always wait: `update-first`, `update-later`; or always flush: `update-next`; one that does not tell which it did:
 --   `update-next`, `update-later`; one whose check always answers now: `check-later`;
 -- - one that always reads the same message: `read-second`, `read-none`;
--- - one that takes datagrams and does nothing: `input-second` with `size-first` (the receiving half), `input-acks` (the sending half), and of any
---   block `pushes-kept`, `acks-remove` (HalfLaws);
+-- - one that takes datagrams and does nothing: `input-second` with `size-first` (the receiving half), `input-acks` (the sending half), and
+-- of any   block `pushes-kept`, `acks-remove` (HalfLaws);
 -- - one that handles the first segment or the first message only: `send-second`, `flush-both`, `input-acks`, `input-second`, `read-second`;
 -- - one that invents the datagram count or the message size: `flush-both`, `size-none`, `size-first`, `read-first`, `read-second`.
 -- Assumes nothing.
@@ -34,11 +34,61 @@ use Rattle.answers.specs.declared.Time.{Time}
 use Rattle.answers.specs.declared.Time.the-variants as time
 use Rattle.promises.specs.Parts.{Parts, FlushParts, stateIn}
 use Rattle.promises.specs.Answers.{countOutcome, timeOutcome}
-use Rattle.promises.specs.Promises.{OpenPromise, SendPromise, InputPromise, WrittenTo, FlushPromise, UpdatePromise, CheckPromise, ReadPromise, SizePromise, ShowPromise, LiesAt}
+use Rattle.promises.specs.Promises.{
+  OpenPromise,
+  SendPromise,
+  InputPromise,
+  WrittenTo,
+  FlushPromise,
+  UpdatePromise,
+  CheckPromise,
+  ReadPromise,
+  SizePromise,
+  ShowPromise,
+  LiesAt,
+}
 use Rattle.wrong_links.specs.Standing.{Lends, At}
-use Rattle.wrong_links.specs.StandingLaws.{opening-goes, send-goes, input-goes, flush-goes, update-goes, update-waits, check-goes, read-goes, read-refused, size-goes, show-goes}
+use Rattle.wrong_links.specs.StandingLaws.{
+  opening-goes,
+  send-goes,
+  input-goes,
+  flush-goes,
+  update-goes,
+  update-waits,
+  check-goes,
+  read-goes,
+  read-refused,
+  size-goes,
+  show-goes,
+}
 use Rattle.wrong_links.specs.Session as session
-use Rattle.wrong_links.specs.Session.{isDone, resultOr, settings, sendPool, receivePool, fresh, first, second, oneSent, bothSent, flush, flushed, updated, rested, laterUpdate, datagrams, acks, acknowledged, oneHeard, bothHeard, oneRead, bothRead, reads, all-pass, computed}
+use Rattle.wrong_links.specs.Session.{
+  isDone,
+  resultOr,
+  settings,
+  sendPool,
+  receivePool,
+  fresh,
+  first,
+  second,
+  oneSent,
+  bothSent,
+  flush,
+  flushed,
+  updated,
+  rested,
+  laterUpdate,
+  datagrams,
+  acks,
+  acknowledged,
+  oneHeard,
+  bothHeard,
+  oneRead,
+  bothRead,
+  reads,
+  all-pass,
+  computed,
+}
 
 -- an accepted call is not refused, whatever the refusal
 not-refused : {r : Refusal} → answer.Refused r ≡ answer.Accepted → ⊥
@@ -134,7 +184,8 @@ module _ (l : Link) (p : Parts) (l′ : Link) (p′ : Parts) where
   unfolding oneHeard
   input-first a at h = input-goes l p fresh at (all-pass .at-first) _ a l′ p′ _ (is-result _ _ (computed .takes-first)) h
 
-  pub input-second : (a : Answer) → At l p oneHeard → InputPromise (getD datagrams 1 []) l p a l′ p′ → (a ≡ answer.Accepted) × At l′ p′ bothHeard
+  pub input-second : (a : Answer) → At l p oneHeard → InputPromise (getD datagrams 1 []) l p a l′ p′
+      → (a ≡ answer.Accepted) × At l′ p′ bothHeard
   unfolding bothHeard
   input-second a at h = input-goes l p oneHeard at (all-pass .one-heard) _ a l′ p′ _ (is-result _ _ (computed .takes-second)) h
 
@@ -143,18 +194,22 @@ module _ (l : Link) (p : Parts) (l′ : Link) (p′ : Parts) where
       → (a ≡ count.Of 27) × At l′ p′ oneRead × (buffer′ ≡ sets buffer 0 first)
   unfolding oneRead first
   read-first a buffer buffer′ room at h =
-      let e : reading (bothHeard .state) (bothHeard .receivePool) (length buffer) ≡ done (reads bothHeard) = rw room (is-result _ _ (computed .reads-first)) in
+      let e : reading (bothHeard .state) (bothHeard .receivePool) (length buffer) ≡ done (reads bothHeard) =
+      rw room (is-result _ _ (computed .reads-first)) in
       rw (computed .message-first) at (read-goes l p bothHeard at (all-pass .both-heard) buffer a l′ p′ buffer′ _ e h)
 
   pub read-second : (a : Count) (buffer buffer′ : List ℕ) → length buffer ≡ 30 → At l p oneRead → ReadPromise l p buffer a l′ p′ buffer′
       → (a ≡ count.Of 1) × At l′ p′ bothRead × (buffer′ ≡ sets buffer 0 second)
   unfolding bothRead second
   read-second a buffer buffer′ room at h =
-      let e : reading (oneRead .state) (oneRead .receivePool) (length buffer) ≡ done (reads oneRead) = rw room (is-result _ _ (computed .reads-second)) in
+      let e : reading (oneRead .state) (oneRead .receivePool) (length buffer) ≡ done (reads oneRead) =
+      rw room (is-result _ _ (computed .reads-second)) in
       rw (computed .message-second) at (read-goes l p oneRead at (all-pass .one-read) buffer a l′ p′ buffer′ _ e h)
 
-  pub read-none : (a : Count) (buffer buffer′ : List ℕ) → length buffer ≡ 30 → At l p bothRead → ReadPromise l p buffer a l′ p′ buffer′ → a ≡ count.Refused NoMessage
-  read-none a buffer buffer′ room at h = read-refused l p bothRead at (all-pass .both-read) buffer a l′ p′ buffer′ NoMessage (rw room (computed .reads-none)) h .0
+  pub read-none : (a : Count) (buffer buffer′ : List ℕ) → length buffer ≡ 30 → At l p bothRead → ReadPromise l p buffer a l′ p′ buffer′
+      → a ≡ count.Refused NoMessage
+  read-none a buffer buffer′ room at h =
+      read-refused l p bothRead at (all-pass .both-read) buffer a l′ p′ buffer′ NoMessage (rw room (computed .reads-none)) h .0
 
 -- ---- calls that change nothing
 
@@ -198,7 +253,8 @@ module _ (l : Link) (p : Parts) (l′ : Link) (p′ : Parts) (r : Refusal) where
   pub refuses-input : At l p fresh → InputPromise (getD datagrams 0 []) l p (answer.Refused r) l′ p′ → ⊥
   refuses-input at h = not-refused (input-first l p l′ p′ _ at h .0)
 
-  pub refuses-flush : (f f′ : FlushParts) → At l p bothSent → leb outputLeast (length (f .output)) ≡ true → leb lengthsLeast (length (f .lengths)) ≡ true
+  pub refuses-flush : (f f′ : FlushParts) → At l p bothSent → leb outputLeast (length (f .output)) ≡ true
+      → leb lengthsLeast (length (f .lengths)) ≡ true
       → FlushPromise 5 l p f (count.Refused r) l′ p′ f′ → ⊥
   refuses-flush f f′ at room number h = not-refused-count (flush-both l p l′ p′ _ f f′ at room number h .0)
 
@@ -208,7 +264,8 @@ module _ (l : Link) (p : Parts) (l′ : Link) (p′ : Parts) (r : Refusal) where
   refuses-update f f′ at room number h =
       let e = update-first l p l′ p′ f f′ room number _ at h .0 in let z : _≡_ {A = ℕ} 0 1 = cc in omega arith
 
-  pub refuses-read : (buffer buffer′ : List ℕ) → length buffer ≡ 30 → At l p bothHeard → ReadPromise l p buffer (count.Refused r) l′ p′ buffer′ → ⊥
+  pub refuses-read : (buffer buffer′ : List ℕ) → length buffer ≡ 30 → At l p bothHeard
+      → ReadPromise l p buffer (count.Refused r) l′ p′ buffer′ → ⊥
   refuses-read buffer buffer′ room at h = not-refused-count (read-first l p l′ p′ _ buffer buffer′ room at h .0)
 
 pub refuses-size : (l : Link) (p : Parts) (r : Refusal) → At l p bothHeard → SizePromise l p (count.Refused r) → ⊥
