@@ -47,6 +47,7 @@
 #include <stdint.h>
 
 #define AMPFERWEG_VERSION "0.4.0"
+#define AMPFERWEG_VERSION_NUMBER 400 /* 10,000 for the first number, 100 for the second, 1 for the third */
 
 #ifdef __cplusplus
 extern "C" {
@@ -334,6 +335,11 @@ ampferweg_result ampferweg_show(const ampferweg_link *link, const uint8_t *send_
     const uint8_t *receive_pool, uint64_t receive_pool_len, const ampferweg_record *table, uint64_t table_len,
     const uint32_t *acks, uint64_t acks_len, uint32_t *start);
 
+/* The version of the archive, as AMPFERWEG_VERSION_NUMBER has that of this header, and the bytes of its control block. Opening a
+ * station compares both. */
+uint32_t ampferweg_version_number(void);
+uint32_t ampferweg_block_size(void);
+
 /* ---- Settings files ------------------------------------------------------------------------------------------------
  *
  * A link's settings in a file, for a controller that is swapped: the letters KLS, the version in 2 bytes, then conversation 4 bytes,
@@ -482,7 +488,7 @@ static inline int64_t ampferweg_conversation_of(const void *datagram, size_t dat
     return datagram_len < 24 ? -AMPFERWEG_SHORT_DATAGRAM : (int64_t)ampferweg_number_at((const uint8_t *)datagram);
 }
 
-/* The version of this header. The archive has none: that it has the same block is tried at each opening of a station. */
+/* The version of this header, in words. */
 static inline const char *ampferweg_version(void) { return AMPFERWEG_VERSION; }
 
 /* Why the last refused call of this station was refused, by the name of the part (7) or of the setting (12). */
@@ -528,45 +534,25 @@ static inline ampferweg_result ampferweg_inner_note(ampferweg_station *station, 
     return result;
 }
 
-/* Whether the archive has the block of this header, tried on a link just opened: both receiving lists are filled by hand, up to the
- * block's last entry, and a number that cannot be there is refused 13. The lists are empty again then. */
-static inline int ampferweg_inner_fits(ampferweg_station *station)
+/* Whether the archive is of this header's version, and has its block. */
+static inline int ampferweg_inner_fits(void)
 {
-    ampferweg_link *link = &station->link;
-    ampferweg_result good, bad;
-    size_t i;
-    for (i = 0; i < 128; i++) {
-        const ampferweg_held none = {0, 0, 0};
-        link->ready[i] = link->waiting[i] = none;
-        link->ready[i].slot = (uint8_t)(128 + i);
-        link->waiting[i].slot = (uint8_t)i;
-        link->waiting_numbers[i] = (uint32_t)i;
-    }
-    link->arrival.ready = link->arrival.waiting = 128;
-    good = ampferweg_size(link, AMPFERWEG_PARTS(station));
-    link->waiting_numbers[127]++;
-    bad = ampferweg_size(link, AMPFERWEG_PARTS(station));
-    link->arrival.ready = link->arrival.waiting = 0;
-    return good == 0 && bad == -AMPFERWEG_INVALID_BLOCK && link->flight.rtt.timeout == 200 && link->flight.window == 128;
+    return ampferweg_version_number() == AMPFERWEG_VERSION_NUMBER && ampferweg_block_size() == AMPFERWEG_BLOCK_SIZE;
 }
 
-/* Opens with seven numbers. Besides ampferweg_open's refusals it gives 13 where header and archive differ in the block. */
+/* Opens with seven numbers. Besides ampferweg_open's refusals it gives 13 where header and archive are of two versions. */
 static inline ampferweg_result ampferweg_station_open_numbers(ampferweg_station *station, uint32_t conv, uint32_t mtu, uint32_t mode,
     uint32_t interval, uint32_t threshold, uint32_t stream, uint32_t congestion)
 {
-    const ampferweg_settings *is = &station->link.settings;
-    ampferweg_result result = ampferweg_open(&station->link, conv, mtu, mode, interval, threshold, stream, congestion,
-        AMPFERWEG_PARTS(station));
-    if (result == 0) {
-        if (is->conv == conv && is->mtu == mtu && is->mode == mode && is->interval == interval && is->threshold == threshold &&
-            is->stream == stream && is->congestion == congestion && ampferweg_inner_fits(station)) return 0;
-        result = -AMPFERWEG_INVALID_BLOCK;
-    }
+    ampferweg_result result = -AMPFERWEG_INVALID_BLOCK;
+    if (ampferweg_inner_fits())
+        result = ampferweg_open(&station->link, conv, mtu, mode, interval, threshold, stream, congestion, AMPFERWEG_PARTS(station));
+    if (result == 0) return 0;
     (void)ampferweg_inner_note(station, result, NULL);
     if (result == -AMPFERWEG_SETTING_OUT_OF_RANGE)
         station->why = ampferweg_inner_wrong_setting(mtu, mode, interval, threshold, stream, congestion);
     if (result == -AMPFERWEG_SHORT_PART) station->why = ampferweg_inner_short_part(station, mtu);
-    if (result == -AMPFERWEG_INVALID_BLOCK) station->why = "refused 13: header and archive are of two versions: their blocks differ";
+    if (result == -AMPFERWEG_INVALID_BLOCK) station->why = "refused 13: header and archive are of two versions";
     return result;
 }
 

@@ -4,6 +4,7 @@
 #include "lent.h"
 #include "segments.h"
 
+#include <stdio.h>
 #include <string.h>
 
 enum { LINKS = 4, MTU = 256, MESSAGES = 40, ROOM = 4096, GUARD_BYTE = 0xC3 };
@@ -331,6 +332,18 @@ static void prints(void)
     CHECK_EQUAL(printed_lines, 6 + 128 + 32 + 128 + 128); /* lists as long as their room, whatever their counts say */
 }
 
+/* One version in words and as a number, in header and archive. */
+static void versions(void)
+{
+    char words[24];
+    snprintf(words, sizeof words, "%d.%d.%d", AMPFERWEG_VERSION_NUMBER / 10000, AMPFERWEG_VERSION_NUMBER / 100 % 100,
+        AMPFERWEG_VERSION_NUMBER % 100);
+    CHECK(strcmp(words, AMPFERWEG_VERSION) == 0);
+    CHECK(strcmp(ampferweg_version(), AMPFERWEG_VERSION) == 0);
+    CHECK(ampferweg_version_number() == AMPFERWEG_VERSION_NUMBER);
+    CHECK(ampferweg_block_size() == sizeof(ampferweg_link));
+}
+
 int main(void)
 {
     size_t offset;
@@ -343,6 +356,6 @@ int main(void)
     counts_the_wire();
     counts_refusals();
     prints();
-    CHECK(strcmp(ampferweg_version(), AMPFERWEG_VERSION) == 0);
+    versions();
     return check_report("station");
 }

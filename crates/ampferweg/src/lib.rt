@@ -11,6 +11,8 @@ ghost use Rattle.promises.specs.Promises.{OpenPromise, SendPromise, InputPromis
 ghost use Rattle.codes.specs.Codes.{answerCode, countCode, updateCode, timeCode, settingsOf};
 ghost use Rattle.codes.specs.Gives.{Gives};
 ghost use Rattle.results.specs.PlaceCodes.{placeCode};
+ghost use mathlib.Core.Path.{_≡_};
+ghost use Rattle.ampferweg.specs.Blocks.{blockSize, versionNumber};
 ghost use Rattle.ampferweg.specs.Places.{PlacePromise};
 ghost use Rattle.ampferweg.specs.Times.{TimePromise};
 
@@ -363,4 +365,20 @@ pub extern "C" fn ampferweg_show(
         acks,
     );
     results::tell_place(place, start)
+}
+
+// The bytes of the control block that these functions have, for a host that compares them with its header's.
+#[no_mangle]
+pub extern "C" fn ampferweg_block_size() -> u32
+    ensures { λ r. ⌜ r ≡ blockSize ⌝ }
+{
+    2336
+}
+
+// The version of these functions, as one number.
+#[no_mangle]
+pub extern "C" fn ampferweg_version_number() -> u32
+    ensures { λ r. ⌜ r ≡ versionNumber ⌝ }
+{
+    400
 }
