@@ -534,25 +534,52 @@ static inline ampferweg_result ampferweg_inner_note(ampferweg_station *station, 
     return result;
 }
 
-/* Whether the archive is of this header's version, and has its block. */
-static inline int ampferweg_inner_fits(void)
+/* Whether the archive has the very block of this header, tried on a link just opened: both receiving lists are filled by hand, up to the
+ * block's last entry, and a number that cannot be there is refused 13. The lists are empty again then. */
+static inline int ampferweg_inner_same_block(ampferweg_station *station)
 {
-    return ampferweg_version_number() == AMPFERWEG_VERSION_NUMBER && ampferweg_block_size() == AMPFERWEG_BLOCK_SIZE;
+    ampferweg_link *link = &station->link;
+    ampferweg_result good, bad;
+    size_t i;
+    for (i = 0; i < 128; i++) {
+        const ampferweg_held none = {0, 0, 0};
+        link->ready[i] = link->waiting[i] = none;
+        link->ready[i].slot = (uint8_t)(128 + i);
+        link->waiting[i].slot = (uint8_t)i;
+        link->waiting_numbers[i] = (uint32_t)i;
+    }
+    link->arrival.ready = link->arrival.waiting = 128;
+    good = ampferweg_size(link, AMPFERWEG_PARTS(station));
+    link->waiting_numbers[127]++;
+    bad = ampferweg_size(link, AMPFERWEG_PARTS(station));
+    link->arrival.ready = link->arrival.waiting = 0;
+    return good == 0 && bad == -AMPFERWEG_INVALID_BLOCK && link->flight.rtt.timeout == 200 && link->flight.window == 128;
+}
+
+/* Whether the archive is of this header's version, with a block of as many bytes. */
+static inline int ampferweg_inner_same_version(void)
+{
+    return ampferweg_version_number() == AMPFERWEG_VERSION_NUMBER && ampferweg_block_size() == sizeof(ampferweg_link);
 }
 
 /* Opens with seven numbers. Besides ampferweg_open's refusals it gives 13 where header and archive are of two versions. */
 static inline ampferweg_result ampferweg_station_open_numbers(ampferweg_station *station, uint32_t conv, uint32_t mtu, uint32_t mode,
     uint32_t interval, uint32_t threshold, uint32_t stream, uint32_t congestion)
 {
+    const ampferweg_settings *is = &station->link.settings;
     ampferweg_result result = -AMPFERWEG_INVALID_BLOCK;
-    if (ampferweg_inner_fits())
+    if (ampferweg_inner_same_version())
         result = ampferweg_open(&station->link, conv, mtu, mode, interval, threshold, stream, congestion, AMPFERWEG_PARTS(station));
-    if (result == 0) return 0;
+    if (result == 0) {
+        if (is->conv == conv && is->mtu == mtu && is->mode == mode && is->interval == interval && is->threshold == threshold &&
+            is->stream == stream && is->congestion == congestion && ampferweg_inner_same_block(station)) return 0;
+        result = -AMPFERWEG_INVALID_BLOCK;
+    }
     (void)ampferweg_inner_note(station, result, NULL);
     if (result == -AMPFERWEG_SETTING_OUT_OF_RANGE)
         station->why = ampferweg_inner_wrong_setting(mtu, mode, interval, threshold, stream, congestion);
     if (result == -AMPFERWEG_SHORT_PART) station->why = ampferweg_inner_short_part(station, mtu);
-    if (result == -AMPFERWEG_INVALID_BLOCK) station->why = "refused 13: header and archive are of two versions";
+    if (result == -AMPFERWEG_INVALID_BLOCK) station->why = "refused 13: header and archive are of two versions: their blocks differ";
     return result;
 }
 
