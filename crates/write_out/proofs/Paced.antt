@@ -39,8 +39,9 @@ same-code : (n : Count) → updateCode (updateOf n) ≡ countCode n
 same-code (count.Of n) = refl
 same-code (count.Refused q) = refl
 
-pub gives : (paced : Bool) (t : ℕ) (l : Link) (p : Parts) (out lengths : List ℕ) (a : Update) (b : PutBack) (l′ : Link) (out′ lengths′ : List ℕ)
-    (table′ : List Record) → length (b .records) ≡ 32 → table′ ≡ scattered (p .table) (slotsIn (b .words) (b .changed)) (b .records)
+pub gives : (paced : Bool) (t : ℕ) (l : Link) (p : Parts) (out lengths : List ℕ) (a : Update) (b : PutBack) (l′ : Link)
+    (out′ lengths′ : List ℕ) (table′ : List Record) → length (b .records) ≡ 32
+    → table′ ≡ scattered (p .table) (slotsIn (b .words) (b .changed)) (b .records)
     → Left paced t l p out lengths a b l′ out′ lengths′ → (r : ℤ) → r ≡ updateCode a
     → WrittenOut paced t l p out lengths l′ (partsOf (p .sendPool) (p .receivePool) table′ (p .acks)) out′ lengths′ r
 gives false t l p out lengths a b l′ out′ lengths′ table′ few put h r e =
