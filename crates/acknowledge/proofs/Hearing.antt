@@ -97,7 +97,8 @@ module _ (c : Settings) (current : ℕ) (v : View) (h : Header) (rtt : RoundTrip
       }
 
   -- those that stay are left
-  pub heard-some : (ws ts : List ℕ) (n : ℕ) (rs : List Record) (una : ℕ) → JoinedIn ws ts n rs (keep (staysBy (v .flight .next) h) (sentIn v))
+  pub heard-some : (ws ts : List ℕ) (n : ℕ) (rs : List Record) (una : ℕ)
+      → JoinedIn ws ts n rs (keep (staysBy (v .flight .next) h) (sentIn v))
       → una ≡ firstNumberOr (keep (staysBy (v .flight .next) h) (sentIn v)) (v .flight .next)
       → FlightIs (view (after una n) ws ts rs) v (λ s. heardBySending c current s h)
   heard-some ws ts n rs una l first =

@@ -89,7 +89,8 @@ module _ (s : Settings) (f : Flight) (a : Arrival) (k : Clock) (x : Arrays) (rs 
     got-free = rw (receive-slots a (x .ready) (x .waiting) (x .numbers) ready waiting side (pairs (a .acks) acks)) (free-start receiveHolds (both-low (take (a .ready) (x .ready)) (take (a .waiting) (x .waiting))))
 
   -- the numbers do not fit
-  unfit : (send receive : List ℕ) → false ≡ numbersFit s f a k → length send ≡ 256 → length receive ≡ 256 → Checked link rs send receive false
+  unfit : (send receive : List ℕ) → false ≡ numbersFit s f a k → length send ≡ 256 → length receive ≡ 256
+      → Checked link rs send receive false
   unfolding blockValid countsFit
   unfit send receive e es er =
       record {
@@ -109,7 +110,9 @@ module _ (s : Settings) (f : Flight) (a : Arrival) (k : Clock) (x : Arrays) (rs 
 
       go : (acks : List ℕ) (z : Bool) → counted f a ≡ z → false ≡ blockValid link rs acks
       go acks false z = rw z refl
-      go acks true z = never (inRange s) trip (probeFits (k .probe)) congested (sends && flies) receives (sym (rw z at e)) ∙ sym (block-parts acks z)
+      go acks true z =
+          never (inRange s) trip (probeFits (k .probe)) congested (sends && flies) receives (sym (rw z at e))
+          ∙ sym (block-parts acks z)
 
   -- they do
   fit : (p : ℕ) (send receive : List ℕ) (y₁ y₂ y₃ : Bool) → true ≡ numbersFit s f a k → p ≡ mss s
@@ -147,7 +150,8 @@ module _ (s : Settings) (f : Flight) (a : Arrival) (k : Clock) (x : Arrays) (rs 
   pub checked : (b : Bool) (p : ℕ) (send receive : List ℕ) (n₁ n₂ n₃ n₄ : ℕ) (y₁ y₂ y₃ : Bool) → b ≡ numbersFit s f a k → p ≡ mss s
       → n₁ ≡ min (f .queued) 128 → n₂ ≡ min (f .outstanding) 32 → n₃ ≡ min (a .ready) 128 → n₄ ≡ min (a .waiting) 128
       → SendingFits p (x .queued) n₁ (x .outstanding) (x .transmissions) n₂ send y₁ → y₂ ≡ flies
-      → ReceivingFits p (a .expected) (x .ready) n₃ (x .waiting) (x .numbers) n₄ receive y₃ → Checked link rs send receive (b && y₁ && y₂ && y₃)
+      → ReceivingFits p (a .expected) (x .ready) n₃ (x .waiting) (x .numbers) n₄ receive y₃
+      → Checked link rs send receive (b && y₁ && y₂ && y₃)
   checked false p send receive n₁ n₂ n₃ n₄ y₁ y₂ y₃ e ep e₁ e₂ e₃ e₄ h₁ h₂ h₃ = unfit send receive e (h₁ .whole) (h₃ .whole)
   checked true p send receive n₁ n₂ n₃ n₄ y₁ y₂ y₃ e ep e₁ e₂ e₃ e₄ h₁ h₂ h₃ =
       let n = counted-of e in

@@ -40,7 +40,7 @@ pub fn admit_hearing(
 {
     let numbers = numbers::numbers_fit(settings, flight, arrival, clock);
     let most = settings.mss();
-    let mss = most as u32;
+    let mss = most as u16;
     let sends = sending_fits(
         queued,
         within(flight.queued, 128),

@@ -54,7 +54,7 @@ pub(crate) fn sending_fits(
     outstanding: &[u32; 32],
     transmissions: &[u8; 32],
     m: usize,
-    mss: u32,
+    mss: u16,
     marks: &mut [u8; 256],
 ) -> bool
     requires { ⌜ (length (now queued) ≡ 128) × (n ≤ 128) × (length (now outstanding) ≡ 32) × (length (now transmissions) ≡ 32) × (m ≤ 32)
@@ -81,7 +81,7 @@ pub(crate) fn receiving_fits(
     waiting_numbers: &[u32; 128],
     m: usize,
     expected: u32,
-    mss: u32,
+    mss: u16,
     marks: &mut [u8; 256],
 ) -> bool
     requires { ⌜ (length (now ready) ≡ 128) × (n ≤ 128) × (length (now waiting) ≡ 128) × (length (now «waiting_numbers») ≡ 128) × (m ≤ 128)
@@ -125,7 +125,7 @@ fn valid(
 {
     let numbers = numbers::numbers_fit(settings, flight, arrival, clock);
     let most = settings.mss();
-    let mss = most as u32;
+    let mss = most as u16;
     let sends = sending_fits(
         queued,
         within(flight.queued, 128),

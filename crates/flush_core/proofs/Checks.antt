@@ -72,7 +72,8 @@ module _ (c : Settings) (f : Flight) (a : Arrival) (k : Clock) (x : Arrays) (rec
     ran true t r l′ out′ lengths′ h = rw (← e, passes .long-enough, passes .valid-block) h
 
   -- one failed
-  module _ (q : Refusal) (p : v ≡ Refused q) (t : ℕ) (words : List ℕ) (r : Flushed) (w : r ≡ keptOf (update.Refused q) f a k words records) where
+  module _ (q : Refusal) (p : v ≡ Refused q) (t : ℕ) (words : List ℕ) (r : Flushed)
+      (w : r ≡ keptOf (update.Refused q) f a k words records) where
     abbrev after : Link
     after = linkOf c (r .flight) (r .arrival) (r .clock) x
 

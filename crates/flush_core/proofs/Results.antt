@@ -115,7 +115,17 @@ module _ (c : Settings) (f : Flight) (a : Arrival) (k : Clock) (queued outstandi
           rw (told, lost, le-leb _ _ (numbered .queued-fits), le-leb _ _ (numbered .sent .fits), le-leb _ _ (q .ready), le-leb _ _ (q .waiting))
 
       pub runs : (words : List ℕ) → words ≡ outstanding′
-          → Wrote block records pool acks t out lengths (record { answer = update.Wrote (w .count); flight = f′; arrival = a′; clock = k′; words = words; changed = f′ .outstanding; records = w .records }) after out′ lengths′
+          → Wrote block records pool acks t out lengths
+          (record {
+            answer = update.Wrote (w .count);
+            flight = f′;
+            arrival = a′;
+            clock = k′;
+            words = words;
+            changed = f′ .outstanding;
+            records = w .records;
+          })
+          after out′ lengths′
       runs words e =
           let number = written .output .number ∙ length-map (flushing before t pool .datagrams) bytesOfSegments in (
             ap update.Wrote number,

@@ -56,7 +56,8 @@ keptOf a f v k words records = record { answer = a; flight = f; arrival = v; clo
 -- the flush itself
 abbrev pub Wrote : Link → List Record → List ℕ → List ℕ → ℕ → List ℕ → List ℕ → Flushed → Link → List ℕ → List ℕ → Type 0
 Wrote l records pool acks t out lengths r l′ out′ lengths′ =
-    UpdateCore (done (flushes (flushing (stateOf l records acks) t pool))) l records acks out lengths (r .answer) l′ (putBack r) out′ lengths′
+    UpdateCore (done (flushes (flushing (stateOf l records acks) t pool)))
+    l records acks out lengths (r .answer) l′ (putBack r) out′ lengths′
 
 -- the answer of a flush as that of an update
 abbrev pub updateOf : Count → Update

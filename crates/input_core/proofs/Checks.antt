@@ -59,12 +59,14 @@ module _ (l : Link) (records : List Record) (n : Lengths) (pool acks send marks 
   admits s r = let p = passed-by long (blockValid l records acks) v (a .verdict acks) r in rw (← e, p .long-enough, p .valid-block)
 
   -- x is what all checks say of the datagram s
-  module _ (m : ℕ) (d : m ≡ mss (l .settings)) (s : List ℕ) (x : Checked) (w : x ≡ checkedBy v (counted 0 (parse (l .settings .conv) m s))) where
+  module _ (m : ℕ) (d : m ≡ mss (l .settings)) (s : List ℕ) (x : Checked)
+      (w : x ≡ checkedBy v (counted 0 (parse (l .settings .conv) m s))) where
     pub refuses : (q : Refusal) → x ≡ checked.Refused q → takesInWith l records acks n pool s ≡ refused q
     unfolding takesInWith
     refuses q r = go v refl w
       where
-        go : (u : Verdict) → v ≡ u → x ≡ checkedBy u (counted 0 (parse (l .settings .conv) m s)) → takesInWith l records acks n pool s ≡ refused q
+        go : (u : Verdict) → v ≡ u → x ≡ checkedBy u (counted 0 (parse (l .settings .conv) m s))
+            → takesInWith l records acks n pool s ≡ refused q
         go Passed p y = admits s p ∙ refused-over (l .settings) m s x y d l records acks pool q refl r
         go (Refused z) p y =
             let same : z ≡ q = cc in

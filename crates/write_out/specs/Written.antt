@@ -1,4 +1,5 @@
--- What a flush, or where it is paced an update, has left before its records are put back, and what it gives C with them put back. Definitions.
+-- What a flush, or where it is paced an update, has left before its records are put back, and what it gives C with them put back.
+-- Definitions.
 -- Assumes nothing.
 use mathlib.Core.Path.{_≡_}
 use mathlib.Core.Bool.{Bool, true, false}

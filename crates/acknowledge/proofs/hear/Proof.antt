@@ -34,7 +34,9 @@ found : (c : tie.After-known-told Inv-loop μ-loop) →
 found c = sym (c .before .before .before .segment-at .ensures) ∙ c .before .step .given .1
 
 loop-less : tie.Need-loop-less Inv-loop μ-loop
-loop-less c = let k = c .before .before .before .before .before .before .before .before .before in walking-less _ _ _ _ _ _ _ (k .before .before .before .before .loop .inv) _ _ _ (found k)
+loop-less c =
+    let k = c .before .before .before .before .before .before .before .before .before in
+    walking-less _ _ _ _ _ _ _ (k .before .before .before .before .loop .inv) _ _ _ (found k)
 
 loop-less-2 : tie.Need-loop-less-2 Inv-loop μ-loop
 loop-less-2 c = let k = c .before .before .before .before .before in walking-less _ _ _ _ _ _ _ (k .before .before .before .before .loop .inv) _ _ _ (found k)
@@ -42,9 +44,10 @@ loop-less-2 c = let k = c .before .before .before .before .before in walking-les
 loop-again : tie.Need-loop-again Inv-loop μ-loop
 loop-again c =
     let left = c .before .remaining in
-    let k = c .before .before .before .before .before .before .before .before .before in
-    walking-more _ _ _ _ _ _ _ (k .before .before .before .before .loop .inv) _ _ _ (found k) _ _ (c .before .before .before .before .before .before .before .before .after .ensures)
-    (heard-some _ _ _ _ _ (c .before .before .before .before .before .before .timed .ensures) _ _ _ _ _ (left .ensures .0) (left .ensures .1))
+    let times = c .before .before .before .before .before .before in
+    let k = times .before .before .before in
+    walking-more _ _ _ _ _ _ _ (k .before .before .before .before .loop .inv) _ _ _ (found k) _ _ (times .before .before .after .ensures)
+    (heard-some _ _ _ _ _ (times .timed .ensures) _ _ _ _ _ (left .ensures .0) (left .ensures .1))
 
 loop-again-2 : tie.Need-loop-again-2 Inv-loop μ-loop
 loop-again-2 c =

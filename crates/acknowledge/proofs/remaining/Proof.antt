@@ -32,21 +32,30 @@ abbrev μ-loop : tie.MeasureT-loop
 loop-holds : tie.Need-loop-holds Inv-loop μ-loop
 loop-holds c =
     let many : length (c .args .records) ≡ 32 = search (needs, length-mapped) in
-    (c .pre .0, c .pre .1, many, packed-start _ _ _ (search needs) (search needs) (search needs) (beside-length _ _ _ _ (c .pre .0) (c .pre .1) many))
+    let long = beside-length _ _ _ _ (c .pre .0) (c .pre .1) many in
+    (c .pre .0, c .pre .1, many, packed-start _ _ _ (search needs) (search needs) (search needs) long)
 
 loop-again : tie.Need-loop-again Inv-loop μ-loop
 loop-again c =
-    let l = c .before .before .before .before .before .before .loop in (
+    let turn = c .before .before .before .before .before in
+    let l = turn .before .loop in (
       simp length-set (l .inv .0),
       simp length-set (l .inv .1),
       simp length-set (l .inv .2),
-      removal-keeps _ _ _ _ _ (c .before .before .before .before .before .loop-test .taken) (l .inv .0) (l .inv .1) (l .inv .3) (sym (c .before .stays .ensures) ∙ c .if1 .taken),
+      removal-keeps _ _ _ _ _ (turn .loop-test .taken) (l .inv .0) (l .inv .1) (l .inv .3)
+          (sym (c .before .stays .ensures) ∙ c .if1 .taken),
     )
 
 loop-again-2 : tie.Need-loop-again-2 Inv-loop μ-loop
 loop-again-2 c =
-    let l = c .before .before .before .before .before .before .loop in
-    (l .inv .0, l .inv .1, l .inv .2, removal-drops _ _ _ _ _ (c .before .before .before .before .before .loop-test .taken) (l .inv .0) (l .inv .1) (l .inv .3) (sym (c .before .stays .ensures) ∙ c .if1 .left))
+    let turn = c .before .before .before .before .before in
+    let l = turn .before .loop in (
+      l .inv .0,
+      l .inv .1,
+      l .inv .2,
+      removal-drops _ _ _ _ _ (turn .loop-test .taken) (l .inv .0) (l .inv .1) (l .inv .3)
+          (sym (c .before .stays .ensures) ∙ c .if1 .left),
+    )
 
 returns : tie.Need-returns Inv-loop μ-loop
 returns c =
@@ -57,7 +66,8 @@ returns c =
     (keep (staysBy (a .next) (a .h)) (joined (outstandingIn (a .words .now) (a .transmissions .now) (a .n)) (a .records)))
     = rw (← (beside-front (a .words .now) (a .transmissions .now) (a .records) (a .n)))
     (in-front _ _ _ _ _ (l .0) (l .1) (packed-done (select-end _ _ _ _ (c .before .before .loop-test .left)) (l .3))) in
-    let first = first-is (loop .loop .words) (loop .loop .transmissions) (loop .loop .rs) (loop .loop .j) (a .next) _ (l .0) (l .1) (l .2) in
+    let first = first-is (loop .loop .words) (loop .loop .transmissions) (loop .loop .rs) (loop .loop .j) (a .next) _
+    (l .0) (l .1) (l .2) in
     (left, c .first-number .ensures ∙ first ∙ ap (λ (x : List Sent). firstNumberOr x (a .next)) (left .list))
 
 pub remaining-spec : {M : Type 1} → statement M

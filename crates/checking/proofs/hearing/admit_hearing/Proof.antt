@@ -30,14 +30,12 @@ returns c = λ rs f.
     let outstanding = first .before .before in
     let parts = outstanding .before .before in
     let s = parts .before .before in
-    let a = s .args in (
-      _,
-      admitted _ _ _ _ _ _ _ (c .judged .ensures)
-          (checked (a .settings) (a .flight) (a .arrival) (a .clock) (lists s) rs (s .pre .0) (f .whole) (search (needs, s .good .1 .1 .1 .0))
-          _ _ _ _ _ _ _ _ _ _ _ (parts .before .numbers-fit .ensures) (parts .mss .ensures)
-          (outstanding .before .within .ensures) (outstanding .within2 .ensures) (second .before .within3 .ensures) (second .within4 .ensures)
-          (first .sending-fits .ensures) (f .fits) (receives .receiving-fits .ensures)),
-    )
+    let a = s .args in
+    let tested = checked (a .settings) (a .flight) (a .arrival) (a .clock) (lists s) rs (s .pre .0) (f .whole)
+    (search (needs, s .good .1 .1 .1 .0)) _ _ _ _ _ _ _ _ _ _ _ (parts .before .numbers-fit .ensures) (parts .mss .ensures)
+    (outstanding .before .within .ensures) (outstanding .within2 .ensures) (second .before .within3 .ensures) (second .within4 .ensures)
+    (first .sending-fits .ensures) (f .fits) (receives .receiving-fits .ensures) in
+    (_, admitted _ _ _ _ _ _ _ (c .judged .ensures) tested)
 
 pub admit-hearing-spec : {M : Type 1} → statement M
 admit-hearing-spec =
