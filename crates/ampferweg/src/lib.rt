@@ -338,7 +338,8 @@ pub extern "C" fn ampferweg_show(
     start: &mut u32,
 ) -> i32
     ensures { λ r. ⌜ Gives placeCode (λ a. PlacePromise (now (link .entry))
-        (partsOf (now («send_pool» .entry)) (now («receive_pool» .entry)) (now (table .entry)) (now (acks .entry))) a (now (start .exit))) r ⌝ }
+        (partsOf (now («send_pool» .entry)) (now («receive_pool» .entry)) (now (table .entry)) (now (acks .entry))) a (now (start .exit))) r
+        ⌝ }
 {
     let settings = link.settings;
     let flight = link.flight;

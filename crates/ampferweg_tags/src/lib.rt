@@ -10,7 +10,8 @@ ghost use Rattle.codes.specs.Codes.{numberCode};
 ghost use Rattle.tag_message.specs.Tags.{numberOf};
 ghost use Rattle.tag_message.specs.Messages.{readFrom};
 ghost use Rattle.tag_find.specs.Findings.{findIn, foundBy};
-ghost use Rattle.ampferweg_tags.specs.TagCodes.{changingCode, presenceCode, TellsWriting, Stores, TellsSet, TellsTake, TellsRemove, TellsPlace};
+ghost use Rattle.ampferweg_tags.specs.TagCodes.{changingCode, presenceCode, TellsWriting, Stores};
+ghost use Rattle.ampferweg_tags.specs.TagCodes.{TellsSet, TellsTake, TellsRemove, TellsPlace};
 
 fn refusal_code(refusal: TagRefusal) -> i32
     ensures { λ r. ⌜ r ≡ numberCode (numberOf refusal) ⌝ }

@@ -10,7 +10,8 @@ use kept_calls::UpdatedOut;
 use protocol::Settings;
 ghost use mathlib.Core.Path.{_≡_};
 ghost use Rattle.bench_calls.specs.Fronts.{Front};
-ghost use Rattle.bench_calls.specs.BenchPromises.{after, afterOpen, BenchOpens, BenchSends, BenchTakesIn, BenchFlushes, BenchReads, BenchTells, BenchShows};
+ghost use Rattle.bench_calls.specs.BenchPromises.{after, afterOpen, BenchOpens, BenchSends, BenchTakesIn};
+ghost use Rattle.bench_calls.specs.BenchPromises.{BenchFlushes, BenchReads, BenchTells, BenchShows};
 ghost use Rattle.bench_calls.specs.BenchPromises.{BenchUpdates, BenchChecks};
 
 // The answer of opening, sending or taking in, and the bench after it.

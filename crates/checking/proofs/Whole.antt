@@ -21,12 +21,22 @@ use Rattle.control.specs.declared.Arrival.{Arrival}
 use Rattle.control.specs.declared.Clock.{Clock}
 use Rattle.control.specs.Views.{pairs, Arrays, linkOf, Whole, stateOf, counted, countsFit, blockValid}
 use Rattle.control.specs.ViewLaws.{pairs-most, Counts, counts}
-use Rattle.checking.specs.Tests.{numbersFit, flightFits, sendSlotsIn, receiveSlotsIn, sendingFits, receivingFits, SendingFits, ReceivingFits}
+use Rattle.checking.specs.Tests.{
+  numbersFit,
+  flightFits,
+  sendSlotsIn,
+  receiveSlotsIn,
+  sendingFits,
+  receivingFits,
+  SendingFits,
+  ReceivingFits,
+}
 use Rattle.checking.specs.Verdicts.{Checked}
 use Rattle.checking.proofs.Joins.{both-low}
 use Rattle.checking.proofs.Halves.{send-slots, sending-checked, receive-slots, receiving-checked}
 
-module _ (s : Settings) (f : Flight) (a : Arrival) (k : Clock) (x : Arrays) (rs : List Record) (whole : Whole x) (many : length rs ≡ 32) (below : a .expected < 2 ^ 32) where
+module _ (s : Settings) (f : Flight) (a : Arrival) (k : Clock) (x : Arrays) (rs : List Record) (whole : Whole x) (many : length rs ≡ 32)
+    (below : a .expected < 2 ^ 32) where
   abbrev link : Link
   link = linkOf s f a k x
 
@@ -78,15 +88,22 @@ module _ (s : Settings) (f : Flight) (a : Arrival) (k : Clock) (x : Arrays) (rs 
     unfolding blockValid countsFit valid stateOf
     block-parts =
         let noted : length (pairs (a .acks) acks) ≤ 256 = omega (arith, pairs-most (a .acks) acks, n .acks) in
-        rw (e, ← sending-checked f (x .queued) (x .outstanding) (x .transmissions) rs long sent has s, ← receiving-checked a (x .ready) (x .waiting) (x .numbers) ready waiting side (pairs (a .acks) acks) s (n .ready) (n .waiting) noted below) refl
+        rw (
+          e,
+          ← sending-checked f (x .queued) (x .outstanding) (x .transmissions) rs long sent has s,
+          ← receiving-checked a (x .ready) (x .waiting) (x .numbers) ready waiting side (pairs (a .acks) acks) s (n .ready) (n .waiting) noted
+              below,
+        ) refl
 
     sent-free : Free (markedAll none sendHolds) (slots (sendHeld (stateOf link rs acks .sending))) 0
     unfolding stateOf
-    sent-free = rw (send-slots f (x .queued) (x .outstanding) (x .transmissions) rs long sent has) (free-start sendHolds (both-low (take (f .outstanding) (x .outstanding)) (take (f .queued) (x .queued))))
+    sent-free = rw (send-slots f (x .queued) (x .outstanding) (x .transmissions) rs long sent has)
+        (free-start sendHolds (both-low (take (f .outstanding) (x .outstanding)) (take (f .queued) (x .queued))))
 
     got-free : Free (markedAll none receiveHolds) (slots (receiveHeld (stateOf link rs acks .receiving))) 0
     unfolding stateOf
-    got-free = rw (receive-slots a (x .ready) (x .waiting) (x .numbers) ready waiting side (pairs (a .acks) acks)) (free-start receiveHolds (both-low (take (a .ready) (x .ready)) (take (a .waiting) (x .waiting))))
+    got-free = rw (receive-slots a (x .ready) (x .waiting) (x .numbers) ready waiting side (pairs (a .acks) acks))
+        (free-start receiveHolds (both-low (take (a .ready) (x .ready)) (take (a .waiting) (x .waiting))))
 
   -- the numbers do not fit
   unfit : (send receive : List ℕ) → false ≡ numbersFit s f a k → length send ≡ 256 → length receive ≡ 256
@@ -117,7 +134,8 @@ module _ (s : Settings) (f : Flight) (a : Arrival) (k : Clock) (x : Arrays) (rs 
   -- they do
   fit : (p : ℕ) (send receive : List ℕ) (y₁ y₂ y₃ : Bool) → true ≡ numbersFit s f a k → p ≡ mss s
       → SendingFits p (x .queued) (f .queued) (x .outstanding) (x .transmissions) (f .outstanding) send y₁ → y₂ ≡ flies
-      → ReceivingFits p (a .expected) (x .ready) (a .ready) (x .waiting) (x .numbers) (a .waiting) receive y₃ → Checked link rs send receive (y₁ && y₂ && y₃)
+      → ReceivingFits p (a .expected) (x .ready) (a .ready) (x .waiting) (x .numbers) (a .waiting) receive y₃
+      → Checked link rs send receive (y₁ && y₂ && y₃)
   fit p send receive y₁ y₂ y₃ e ep h₁ h₂ h₃ =
       let g₀ = and-parts (counted f a && inRange s && trip && probeFits (k .probe)) congested (sym e) in
       let g₁ = and-parts (counted f a && inRange s && trip) (probeFits (k .probe)) (g₀ .0) in

@@ -31,7 +31,8 @@ use Rattle.answers.specs.declared.Update.the-variants as update
 use Rattle.flush_core.specs.declared.Flushed.{Flushed}
 use Rattle.flush_core.specs.Flushes.{Flushable, putBack, keptOf, Runs, Core}
 
-module _ (c : Settings) (f : Flight) (a : Arrival) (k : Clock) (x : Arrays) (records : List Record) (table : ℕ) (sendPool receivePool acks out lengths : List ℕ) (long : Bool) (v : Verdict)
+module _ (c : Settings) (f : Flight) (a : Arrival) (k : Clock) (x : Arrays) (records : List Record) (table : ℕ)
+    (sendPool receivePool acks out lengths : List ℕ) (long : Bool) (v : Verdict)
     (e : long ≡ enoughToFlush (mss c) (lentLengths table sendPool receivePool acks) (length out) (length lengths))
     (d : v ≡ verdictOf long (blockValid (linkOf c f a k x) records acks)) where
   abbrev block : Link

@@ -32,7 +32,8 @@ use Rattle.flush_core.specs.declared.parts.Plan.{Plan}
 use Rattle.flush_core.specs.Parts.{goesBy, Plans, windowIn, withLosses, Moves, toldOf}
 use Rattle.flush_core.specs.Flushes.{Wrote}
 
-module _ (c : Settings) (f : Flight) (a : Arrival) (k : Clock) (queued outstanding transmissions ready waiting numbers : List ℕ) (records : List Record) (acks : List ℕ) (t : ℕ) where
+module _ (c : Settings) (f : Flight) (a : Arrival) (k : Clock) (queued outstanding transmissions ready waiting numbers : List ℕ)
+    (records : List Record) (acks : List ℕ) (t : ℕ) where
   abbrev block : Link
   block = linkOf c f a k (arrays queued outstanding transmissions ready waiting numbers)
 
@@ -43,21 +44,28 @@ module _ (c : Settings) (f : Flight) (a : Arrival) (k : Clock) (queued outstandi
   goes-by : length ready ≡ 128 → a .ready ≤ 128 → FlushOf before t (goesBy c f a t)
   unfolding stateOf
   goes-by e h =
-      let held : length (heldIn ready (a .ready)) ≡ a .ready = length-map (take (a .ready) ready) unpack ∙ length-take-le (a .ready) ready (omega arith) in
+      let held : length (heldIn ready (a .ready)) ≡ a .ready =
+      length-map (take (a .ready) ready) unpack ∙ length-take-le (a .ready) ready (omega arith) in
       record { settings = refl; carries = rw held; timeout = refl; time = refl }
 
-  module _ (pool out lengths : List ℕ) (window : ℕ) (e₁ : window ≡ windowIn c f) (plan : Plan) (n : Numbered) (queued′ outstanding′ transmissions′ : List ℕ) (w : Written) (transmissions″ out′ lengths′ : List ℕ)
-      (plans : Plans c f a k t plan) (numbered : Numbers f window queued outstanding transmissions records n queued′ outstanding′ transmissions′)
-      (writes : Writes (plan .flush) (pairs (a .acks) acks) (plan .ask) (plan .tell) (sentIn outstanding′ transmissions′ (n .records) (n .flight .outstanding)) outstanding′ (n .flight .outstanding) pool out lengths w transmissions″ out′ lengths′)
+  module _ (pool out lengths : List ℕ) (window : ℕ) (e₁ : window ≡ windowIn c f) (plan : Plan) (n : Numbered)
+      (queued′ outstanding′ transmissions′ : List ℕ) (w : Written) (transmissions″ out′ lengths′ : List ℕ)
+      (plans : Plans c f a k t plan) (numbered : Numbers f window queued outstanding transmissions records n queued′ outstanding′
+      transmissions′)
+      (writes : Writes (plan .flush) (pairs (a .acks) acks) (plan .ask) (plan .tell)
+      (sentIn outstanding′ transmissions′ (n .records) (n .flight .outstanding)) outstanding′ (n .flight .outstanding) pool out lengths w
+      transmissions″ out′ lengths′)
       (whole : length ready ≡ 128) (fit : counted f a ≡ true) where
     -- what is written is what the flush of the state writes
     written : FlushWrites before t outstanding′ (n .flight .outstanding) pool out lengths w transmissions″ out′ lengths′
     unfolding stateOf
     written =
-        flush-writes before t (goesBy c f a t) (goes-by whole (counts f a fit .ready)) pool outstanding′ (n .flight .outstanding) out lengths w transmissions″ out′ lengths′
+        flush-writes before t (goesBy c f a t) (goes-by whole (counts f a fit .ready)) pool outstanding′ (n .flight .outstanding) out
+        lengths w transmissions″ out′ lengths′
         (rw (plans .flush, plans .ask, plans .tell, numbered .sent .list, e₁) at writes)
 
-    module _ (a′ : Arrival) (k′ : Clock) (f′ : Flight) (lost : f′ ≡ withLosses c (n .flight) window (w .fast) (w .late)) (told : a′ ≡ toldOf a) (moves : Moves k (plan .probe) (w .dead) t k′) where
+    module _ (a′ : Arrival) (k′ : Clock) (f′ : Flight) (lost : f′ ≡ withLosses c (n .flight) window (w .fast) (w .late))
+        (told : a′ ≡ toldOf a) (moves : Moves k (plan .probe) (w .dead) t k′) where
       abbrev after : Link
       after = linkOf c f′ a′ k′ (arrays queued′ outstanding′ transmissions″ ready waiting numbers)
 
@@ -112,7 +120,14 @@ module _ (c : Settings) (f : Flight) (a : Arrival) (k : Clock) (queued outstandi
       unfolding countsFit
       counts-fit =
           let q = counts f a fit in
-          rw (told, lost, le-leb _ _ (numbered .queued-fits), le-leb _ _ (numbered .sent .fits), le-leb _ _ (q .ready), le-leb _ _ (q .waiting))
+          rw (
+            told,
+            lost,
+            le-leb _ _ (numbered .queued-fits),
+            le-leb _ _ (numbered .sent .fits),
+            le-leb _ _ (q .ready),
+            le-leb _ _ (q .waiting),
+          )
 
       pub runs : (words : List ℕ) → words ≡ outstanding′
           → Wrote block records pool acks t out lengths

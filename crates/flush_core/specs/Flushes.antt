@@ -31,7 +31,8 @@ use Rattle.flush_core.specs.declared.Flushed.{Flushed}
 -- ---- after the checks
 
 -- what the checks of 7 and 13 have established
-pub record Flushable (c : Settings) (f : Flight) (a : Arrival) (queued outstanding transmissions : List ℕ) (records : List Record) (pool acks out lengths : List ℕ) : Type 0 where
+pub record Flushable (c : Settings) (f : Flight) (a : Arrival) (queued outstanding transmissions : List ℕ) (records : List Record)
+    (pool acks out lengths : List ℕ) : Type 0 where
   pub queued-whole : length queued ≡ 128
   pub outstanding-whole : length outstanding ≡ 32
   pub transmissions-whole : length transmissions ≡ 32

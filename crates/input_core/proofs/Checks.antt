@@ -47,13 +47,15 @@ unfolding enough
 long-enough m n e =
     let d =
     and-decides
-    (and-decides (and-decides (leb-decides (sendSlots * m) (n .send)) (leb-decides (receiveSlots * m) (n .receive))) (leb-decides sendSlots (n .table)))
+    (and-decides (and-decides (leb-decides (sendSlots * m) (n .send)) (leb-decides (receiveSlots * m) (n .receive)))
+    (leb-decides sendSlots (n .table)))
     (leb-decides (2 * acksMost) (n .acks)) in
     let h = d .holds e in
     record { receive = h .0 .0 .1; acks = h .1 }
 
 -- v is the verdict on the block l with parts of these lengths
-module _ (l : Link) (records : List Record) (n : Lengths) (pool acks send marks : List ℕ) (long : Bool) (v : Verdict) (e : long ≡ enough (mss (l .settings)) n) (a : Admitted long l records send marks v) where
+module _ (l : Link) (records : List Record) (n : Lengths) (pool acks send marks : List ℕ) (long : Bool) (v : Verdict)
+    (e : long ≡ enough (mss (l .settings)) n) (a : Admitted long l records send marks v) where
   pub admits : (s : List ℕ) → v ≡ Passed → takesInWith l records acks n pool s ≡ input (stateOf l records acks) pool s
   unfolding takesInWith
   admits s r = let p = passed-by long (blockValid l records acks) v (a .verdict acks) r in rw (← e, p .long-enough, p .valid-block)
@@ -97,15 +99,19 @@ module _ (l : Link) (records : List Record) (n : Lengths) (pool acks send marks 
           wholes = whole .whole-transmissions;
           fits = few .outstanding;
           numbers = record {
-            ascends = ascending-ascends (sentOffset (l .flight .una)) (minus (l .flight .next) (l .flight .una)) (sentIn (flightOf l records)) (made .sending .ascending);
+            ascends = ascending-ascends (sentOffset (l .flight .una)) (minus (l .flight .next) (l .flight .una))
+                (sentIn (flightOf l records)) (made .sending .ascending);
             apart = made .sending .apart;
             first = made .sending .first;
           };
         };
-        marked = marked-start (l .arrival) (l .ready) (l .waiting) (l .«waiting_numbers») marks (pairs (l .arrival .acks) acks) (k .receive-whole) (k .receive-free acks refl);
-        sound = sound-start (l .arrival) (l .ready) (l .waiting) (l .«waiting_numbers») (l .settings) (l .flight) (pairs (l .arrival .acks) acks) acks pool few (made .settings) (made .receiving)
+        marked = marked-start (l .arrival) (l .ready) (l .waiting) (l .«waiting_numbers») marks (pairs (l .arrival .acks) acks)
+            (k .receive-whole) (k .receive-free acks refl);
+        sound = sound-start (l .arrival) (l .ready) (l .waiting) (l .«waiting_numbers») (l .settings) (l .flight)
+            (pairs (l .arrival .acks) acks) acks pool few (made .settings) (made .receiving)
             (rw (← wide) (lent .acks))
             (rw (← many) (lent .receive));
-        growable = growable (mss (l .settings)) (l .flight .congestion) (omega (arith, made .settings .mtu-least)) (omega (arith, made .settings .mtu-most))
+        growable = growable (mss (l .settings)) (l .flight .congestion) (omega (arith, made .settings .mtu-least))
+            (omega (arith, made .settings .mtu-most))
             (made .congestion);
       }

@@ -86,7 +86,8 @@ pub fn open(
     lent: usize,
     acks: &[u32],
 ) -> Answered
-    ensures { λ r. ⌜ OpenPromise new link (partsOf (now («send_pool» .entry)) (now («receive_pool» .entry)) (take lent table) (now (acks .entry)))
+    ensures { λ r. ⌜ OpenPromise new link (partsOf (now («send_pool» .entry)) (now («receive_pool» .entry)) (take lent table)
+        (now (acks .entry)))
         (r .answer) (r .link) (partsOf (now («send_pool» .entry)) (now («receive_pool» .entry)) (take lent table) (now (acks .entry))) ⌝ }
 {
     let settings = link.settings;
@@ -131,7 +132,8 @@ pub fn send(
     acks: &[u32],
     message: &[u8],
 ) -> Answered
-    ensures { λ r. ⌜ SendPromise (now (message .entry)) link (partsOf (now («send_pool» .entry)) (now («receive_pool» .entry)) (take lent table) (now (acks .entry)))
+    ensures { λ r. ⌜ SendPromise (now (message .entry)) link
+        (partsOf (now («send_pool» .entry)) (now («receive_pool» .entry)) (take lent table) (now (acks .entry)))
         (r .answer) (r .link) (partsOf (now («send_pool» .exit)) (now («receive_pool» .entry)) (take lent table) (now (acks .entry))) ⌝ }
 {
     let settings = link.settings;
@@ -195,7 +197,8 @@ pub fn input(
     acks: &mut [u32],
     datagram: &[u8],
 ) -> TakenIn
-    ensures { λ r. ⌜ InputPromise (now (datagram .entry)) link (partsOf (now («send_pool» .entry)) (now («receive_pool» .entry)) (take lent table) (now (acks .entry)))
+    ensures { λ r. ⌜ InputPromise (now (datagram .entry)) link
+        (partsOf (now («send_pool» .entry)) (now («receive_pool» .entry)) (take lent table) (now (acks .entry)))
         (r .answer) (r .link) (partsOf (now («send_pool» .entry)) (now («receive_pool» .exit)) (take lent (r .table)) (now (acks .exit)))
         × (drop lent (r .table) ≡ drop lent table) ⌝ }
 {
@@ -285,7 +288,8 @@ pub fn flush(
     output: &mut [u8],
     lengths: &mut [u16],
 ) -> FlushedOut
-    ensures { λ r. ⌜ FlushPromise t link (partsOf (now («send_pool» .entry)) (now («receive_pool» .entry)) (take lent table) (now (acks .entry)))
+    ensures { λ r. ⌜ FlushPromise t link (partsOf (now («send_pool» .entry)) (now («receive_pool» .entry)) (take lent table)
+        (now (acks .entry)))
         (flushPartsOf (now (output .entry)) (now (lengths .entry)))
         (r .answer) (r .link) (partsOf (now («send_pool» .entry)) (now («receive_pool» .entry)) (take lent (r .table)) (now (acks .entry)))
         (flushPartsOf (now (output .exit)) (now (lengths .exit))) × (drop lent (r .table) ≡ drop lent table) ⌝ }
@@ -445,8 +449,10 @@ pub fn read(
     acks: &[u32],
     buffer: &mut [u8],
 ) -> Counted
-    ensures { λ r. ⌜ ReadPromise link (partsOf (now («send_pool» .entry)) (now («receive_pool» .entry)) (take lent table) (now (acks .entry))) (now (buffer .entry))
-        (r .answer) (r .link) (partsOf (now («send_pool» .entry)) (now («receive_pool» .entry)) (take lent table) (now (acks .entry))) (now (buffer .exit)) ⌝ }
+    ensures { λ r. ⌜ ReadPromise link (partsOf (now («send_pool» .entry)) (now («receive_pool» .entry)) (take lent table)
+        (now (acks .entry))) (now (buffer .entry))
+        (r .answer) (r .link) (partsOf (now («send_pool» .entry)) (now («receive_pool» .entry)) (take lent table) (now (acks .entry)))
+        (now (buffer .exit)) ⌝ }
 {
     let settings = link.settings;
     let flight = link.flight;
@@ -508,7 +514,8 @@ pub fn size(
     lent: usize,
     acks: &[u32],
 ) -> Count
-    ensures { λ r. ⌜ SizePromise link (partsOf (now («send_pool» .entry)) (now («receive_pool» .entry)) (take lent table) (now (acks .entry))) r ⌝ }
+    ensures { λ r. ⌜ SizePromise link (partsOf (now («send_pool» .entry)) (now («receive_pool» .entry)) (take lent table)
+        (now (acks .entry))) r ⌝ }
 {
     let settings = link.settings;
     let flight = link.flight;

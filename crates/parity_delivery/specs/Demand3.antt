@@ -161,7 +161,8 @@ module _ (n k mtu : ℕ) (s ns : List ℕ) (room slots : ℕ) (by : AllBytes s) 
       let j = joined-most (λ p. getD (parts s ns) p []) mtu (length (parts s ns)) (w .most) in
       let m : length (parts s ns) * mtu ≤ 10 * mtu = mul-le-mul-right mtu few-parts in
       let r = lent-parts size lens 10 mtu back slots′ e in (
-        rw (listed-getD (parts s ns)) at (let z : length (joined (listed (λ p. getD (parts s ns) p []) (length (parts s ns)))) ≤ back = omega
+        rw (listed-getD (parts s ns)) at (let z : length (joined (listed (λ p. getD (parts s ns) p []) (length (parts s ns)))) ≤
+            back = omega
             (arith, j, m, r .0) in z),
         omega (arith, few-parts, r .1),
       )

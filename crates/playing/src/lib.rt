@@ -18,7 +18,8 @@ ghost use mathlib.Core.List.{_++_};
 ghost use Rattle.notation.specs.Ascii.{ascii};
 ghost use Rattle.transcript.specs.Lines.{bytesLine, refusalLine, answerLine, countLine, datagramLines, stateLine, heldLine};
 ghost use Rattle.bench_calls.specs.BenchPromises.{after};
-ghost use Rattle.playing.specs.Plays.{PlaysUpdate, PlaysCheck};
+ghost use Rattle.playing.specs.Plays.{PlaysUpdate};
+ghost use Rattle.playing.specs.Plays.{PlaysCheck};
 ghost use Rattle.playing.specs.Plays.{Says, still, NoCommand, Ok, PlaysOpen, PlaysSend, PlaysInput, PlaysFlush, PlaysRead, PlaysSize, PlaysShow, PlaysJump, PlaysLend, PlaysPoke, PlaysHold, PlaysTool, PlaysUnopened, PlaysOnLink, settingsOf, Plays, PlaysLine};
 
 // The bench after a command, and the length of its answer.
@@ -249,7 +250,8 @@ fn check(
 
 // The message that was read: the first `count` bytes of `bytes`.
 fn message(bench: Bench, bytes: &[u8], count: usize, text: &mut [u8]) -> Played
-    ensures { λ r. ⌜ Says bench (bytesLine (ascii "message ") (take count (now (bytes .entry)))) (now (text .entry)) r (now (text .exit)) ⌝ }
+    ensures { λ r. ⌜ Says bench (bytesLine (ascii "message ") (take count (now (bytes .entry))))
+        (now (text .entry)) r (now (text .exit)) ⌝ }
 {
     let n = bench_calls::front(count, bytes);
     let len = transcript::bytes_line(text, 0, b"message ", &bytes[..n]);

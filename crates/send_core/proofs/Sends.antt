@@ -172,7 +172,8 @@ module _ (s : Settings) (f : Flight) (a : Arrival) (k : Clock) (x : Arrays) (rs 
 
   module _ {n : Lengths} {marks : List ℕ} (p : Sendable n marks) {stream : Bool} {m : ℕ} (mode : stream ≡ isStream s) (size : m ≡ mss s)
     where
-      pub enqueueable : Whole x → (pool : List ℕ) → n .send ≡ length pool → Enqueueable m (x .queued) (f .queued) (f .outstanding) marks pool
+      pub enqueueable : Whole x → (pool : List ℕ) → n .send ≡ length pool
+          → Enqueueable m (x .queued) (f .queued) (f .outstanding) marks pool
       unfolding countsFit
       enqueueable w pool l =
           let c = counts f a (p .counts-fit) in

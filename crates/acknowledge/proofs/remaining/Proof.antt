@@ -23,7 +23,8 @@ Inv-loop words₀ transmissions₀ n next h rs₀ i₀ j₀ words transmissions 
     (length words ≡ 32)
     × (length transmissions ≡ 32)
     × (length rs ≡ 32)
-    × Packed 32 n (beside words₀ transmissions₀ rs₀) (beside words transmissions rs) (keep (staysBy next h) (drop i (take n (beside words₀ transmissions₀ rs₀))))
+    × Packed 32 n (beside words₀ transmissions₀ rs₀) (beside words transmissions rs)
+    (keep (staysBy next h) (drop i (take n (beside words₀ transmissions₀ rs₀))))
     (keep (staysBy next h) (take n (beside words₀ transmissions₀ rs₀))) i j
 
 abbrev μ-loop : tie.MeasureT-loop

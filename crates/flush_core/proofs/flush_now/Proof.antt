@@ -33,7 +33,8 @@ after-losses-requires c κs =
     let numbers = writes .before .before .before .before .before .before .before in
     let window = numbers .before .before .before .before in
     let start = window .before .before .before .before .before .before in
-    countable _ _ _ _ _ _ _ _ _ _ _ (start .pre) _ _ _ _ _ (window .window-of .ensures) (una-fits (window .before .before)) (numbers .number .ensures) _ _
+    countable _ _ _ _ _ _ _ _ _ _ _ (start .pre) _ _ _ _ _ (window .window-of .ensures) (una-fits (window .before .before))
+    (numbers .number .ensures) _ _
 
 returns : tie.Need-returns
 returns c ready waiting numbers whole =
@@ -43,8 +44,10 @@ returns c ready waiting numbers whole =
     let plans = window .before in
     let start = plans .before .before .before .before .before in
     let a = start .args in
-    runs (a .settings) (a .flight) (a .arrival) (a .clock) (a .queued .now) (a .outstanding .now) (a .transmissions .now) ready waiting numbers (a .records) (a .acks .now) (a .t)
-    (a .pool .now) _ _ _ (window .window-of .ensures) _ _ _ _ _ _ _ _ _ (plans .plan-of .ensures) (numbered .number .ensures) (writes .write .ensures) whole (start .pre .counts)
+    runs (a .settings) (a .flight) (a .arrival) (a .clock) (a .queued .now) (a .outstanding .now) (a .transmissions .now) ready waiting
+    numbers (a .records) (a .acks .now) (a .t)
+    (a .pool .now) _ _ _ (window .window-of .ensures) _ _ _ _ _ _ _ _ _ (plans .plan-of .ensures) (numbered .number .ensures)
+    (writes .write .ensures) whole (start .pre .counts)
     _ _ _ (c .before .before .after-losses .ensures) (c .told .ensures) (c .before .moved .ensures) _ refl
 
 pub flush-now-spec : {M : Type 1} → statement M

@@ -30,7 +30,8 @@ returns c =
     let received = c .before .before .before .before .before .before .before in
     let sent = received .before .before .before .before .before .before in
     let start = sent .before .before .before .before .before .before in
-    takes-all (linkOf (start .args .settings) (start .args .flight) (start .args .arrival) (start .args .clock) _) _ _ _ _ (sent .hear .result .flight) _ _ _ _ _ _ _ _ _ _
+    takes-all (linkOf (start .args .settings) (start .args .flight) (start .args .arrival) (start .args .clock) _) _ _ _ _
+    (sent .hear .result .flight) _ _ _ _ _ _ _ _ _ _
     (start .pre .1 .1)
     (sent .hear .ensures)
     (received .hear2 .ensures .1)

@@ -55,8 +55,10 @@ scan-requires c κs =
           (c .before .before .before .before .before .before .before .before .before .before .before .before .before .args .mtu)
           (c .before .before .before .before .before .before .before .before .before .before .before .before .before .args .frames .now)
           (c .before .before .before .before .before .before .before .before .before .before .before .before .before .args .lengths .now)
-          (length (c .before .before .before .before .before .before .before .before .before .before .before .before .before .args .out .now))
-          (length (c .before .before .before .before .before .before .before .before .before .before .before .before .before .args .out-lengths
+          (length (c .before .before .before .before .before .before .before .before .before .before .before .before .before .args .out
+          .now))
+          (length (c .before .before .before .before .before .before .before .before .before .before .before .before .before .args
+          .out-lengths
           .now)) l,
       omega (
         arith,
@@ -65,8 +67,10 @@ scan-requires c κs =
             (c .before .before .before .before .before .before .before .before .before .before .before .before .before .args .mtu)
             (c .before .before .before .before .before .before .before .before .before .before .before .before .before .args .frames .now)
             (c .before .before .before .before .before .before .before .before .before .before .before .before .before .args .lengths .now)
-            (length (c .before .before .before .before .before .before .before .before .before .before .before .before .before .args .out .now))
-            (length (c .before .before .before .before .before .before .before .before .before .before .before .before .before .args .out-lengths
+            (length (c .before .before .before .before .before .before .before .before .before .before .before .before .before .args .out
+            .now))
+            (length (c .before .before .before .before .before .before .before .before .before .before .before .before .before .args
+            .out-lengths
             .now)) l t,
       ),
       omega (
@@ -76,8 +80,10 @@ scan-requires c κs =
             (c .before .before .before .before .before .before .before .before .before .before .before .before .before .args .mtu)
             (c .before .before .before .before .before .before .before .before .before .before .before .before .before .args .frames .now)
             (c .before .before .before .before .before .before .before .before .before .before .before .before .before .args .lengths .now)
-            (length (c .before .before .before .before .before .before .before .before .before .before .before .before .before .args .out .now))
-            (length (c .before .before .before .before .before .before .before .before .before .before .before .before .before .args .out-lengths
+            (length (c .before .before .before .before .before .before .before .before .before .before .before .before .before .args .out
+            .now))
+            (length (c .before .before .before .before .before .before .before .before .before .before .before .before .before .args
+            .out-lengths
             .now)) l t,
       ),
     )
@@ -142,15 +148,20 @@ read-held-requires c κs =
         c .before .before .before .wide6 .ensures,
         few (c .before .before .before .before .before .before .before .before .before .before .before .before .before .before .before
             .before .before .before .before .before .args .k)
-            (c .before .before .before .before .before .before .before .before .before .before .before .before .before .before .before .before
+            (c .before .before .before .before .before .before .before .before .before .before .before .before .before .before .before
+            .before
             .before .before .before .before .args .mtu)
-            (c .before .before .before .before .before .before .before .before .before .before .before .before .before .before .before .before
+            (c .before .before .before .before .before .before .before .before .before .before .before .before .before .before .before
+            .before
             .before .before .before .before .args .frames .now)
-            (c .before .before .before .before .before .before .before .before .before .before .before .before .before .before .before .before
+            (c .before .before .before .before .before .before .before .before .before .before .before .before .before .before .before
+            .before
             .before .before .before .before .args .lengths .now)
-            (length (c .before .before .before .before .before .before .before .before .before .before .before .before .before .before .before
+            (length (c .before .before .before .before .before .before .before .before .before .before .before .before .before .before
+            .before
             .before .before .before .before .before .args .out .now))
-            (length (c .before .before .before .before .before .before .before .before .before .before .before .before .before .before .before
+            (length (c .before .before .before .before .before .before .before .before .before .before .before .before .before .before
+            .before
             .before .before .before .before .before .args .out-lengths .now)) l t,
       ),
       omega (
@@ -158,15 +169,20 @@ read-held-requires c κs =
         c .before .before .wide7 .ensures,
         small (c .before .before .before .before .before .before .before .before .before .before .before .before .before .before .before
             .before .before .before .before .before .args .k)
-            (c .before .before .before .before .before .before .before .before .before .before .before .before .before .before .before .before
+            (c .before .before .before .before .before .before .before .before .before .before .before .before .before .before .before
+            .before
             .before .before .before .before .args .mtu)
-            (c .before .before .before .before .before .before .before .before .before .before .before .before .before .before .before .before
+            (c .before .before .before .before .before .before .before .before .before .before .before .before .before .before .before
+            .before
             .before .before .before .before .args .frames .now)
-            (c .before .before .before .before .before .before .before .before .before .before .before .before .before .before .before .before
+            (c .before .before .before .before .before .before .before .before .before .before .before .before .before .before .before
+            .before
             .before .before .before .before .args .lengths .now)
-            (length (c .before .before .before .before .before .before .before .before .before .before .before .before .before .before .before
+            (length (c .before .before .before .before .before .before .before .before .before .before .before .before .before .before
+            .before
             .before .before .before .before .before .args .out .now))
-            (length (c .before .before .before .before .before .before .before .before .before .before .before .before .before .before .before
+            (length (c .before .before .before .before .before .before .before .before .before .before .before .before .before .before
+            .before
             .before .before .before .before .before .args .out-lengths .now)) l t,
       ),
       whole (c .before .before .before .before .before .before .before .before .before .before .before .before .before .before .before
@@ -210,15 +226,20 @@ read-held-requires c κs =
         c .before .before .wide7 .ensures,
         roomy (c .before .before .before .before .before .before .before .before .before .before .before .before .before .before .before
             .before .before .before .before .before .args .k)
-            (c .before .before .before .before .before .before .before .before .before .before .before .before .before .before .before .before
+            (c .before .before .before .before .before .before .before .before .before .before .before .before .before .before .before
+            .before
             .before .before .before .before .args .mtu)
-            (c .before .before .before .before .before .before .before .before .before .before .before .before .before .before .before .before
+            (c .before .before .before .before .before .before .before .before .before .before .before .before .before .before .before
+            .before
             .before .before .before .before .args .frames .now)
-            (c .before .before .before .before .before .before .before .before .before .before .before .before .before .before .before .before
+            (c .before .before .before .before .before .before .before .before .before .before .before .before .before .before .before
+            .before
             .before .before .before .before .args .lengths .now)
-            (length (c .before .before .before .before .before .before .before .before .before .before .before .before .before .before .before
+            (length (c .before .before .before .before .before .before .before .before .before .before .before .before .before .before
+            .before
             .before .before .before .before .before .args .out .now))
-            (length (c .before .before .before .before .before .before .before .before .before .before .before .before .before .before .before
+            (length (c .before .before .before .before .before .before .before .before .before .before .before .before .before .before
+            .before
             .before .before .before .before .before .args .out-lengths .now)) l,
       ),
       slotted (c .before .before .before .before .before .before .before .before .before .before .before .before .before .before .before

@@ -204,15 +204,19 @@ verified-requires c κs =
           .before .pre .1,
     ) in (
       ready (c .before .before .before .before .before .before .before .before .before .before .before .before .before .before .before
-          .before .before .args .k) (c .before .before .before .before .before .before .before .before .before .before .before .before .before
+          .before .before .args .k) (c .before .before .before .before .before .before .before .before .before .before .before .before
+          .before
           .before .before .before .before .args .mtu)
           (c .before .before .before .before .before .before .before .before .before .before .before .before .before .before .before .before
-          .before .args .group) (c .before .before .before .before .before .before .before .before .before .before .before .before .before .before
+          .before .args .group) (c .before .before .before .before .before .before .before .before .before .before .before .before .before
+          .before
           .before .before .before .args .s .now) (c .before .before .before .before .before .before .before .before .before .before .before
           .before .before .before .before .before .before .args .lengths .now)
           (c .before .before .before .before .before .before .before .before .before .before .before .before .before .before .before .before
-          .before .args .h) (c .before .before .before .before .before .before .before .before .before .before .before .before .before .before
-          .before .before .before .pre .3) (c .before .before .before .before .before .before .before .before .before .before .before .before
+          .before .args .h) (c .before .before .before .before .before .before .before .before .before .before .before .before .before
+          .before
+          .before .before .before .pre .3) (c .before .before .before .before .before .before .before .before .before .before .before
+          .before
           .before .before .before .before .before .pre .4)
           (c .before .before .before .before .before .before .before .before .before .before .before .before .count-held .result)
           (c .before .before .before .before .before .before .before .before .before .before .other-lost .result)
@@ -223,8 +227,10 @@ verified-requires c κs =
                 .before .before .shared-slice-known .given i,
           ))
           (c .before .before .before .before .before .before .before .before .before .before .before .before .before .before .before .before
-          .before .pre .0) (c .before .before .before .before .before .before .before .before .before .before .before .before .before .before
-          .before .before .before .pre .1) (c .before .before .before .before .before .before .before .before .before .before .before .before
+          .before .pre .0) (c .before .before .before .before .before .before .before .before .before .before .before .before .before
+          .before
+          .before .before .before .pre .1) (c .before .before .before .before .before .before .before .before .before .before .before
+          .before
           .count-held .ensures) (c .before .before .before .before .before .before .before .before .before .before .before .if1 .left)
           (c .before .before .before .before .before .before .before .before .before .before .other-lost .ensures)
           (c .before .before .before .before .before .before .before .before .before .other-lost2 .ensures)

@@ -19,8 +19,10 @@ use Rattle.parity_writer.proofs.write_group.Tie as tie
 mul-start : tie.Need-mul-start
 mul-start c = record {
   fits = product-fits
-      (c .before .before .before .before .before .before .before .before .before .before .before .before .before .before .before .args .group)
-      (c .before .before .before .before .before .before .before .before .before .before .before .before .before .before .before .args .k + 2)
+      (c .before .before .before .before .before .before .before .before .before .before .before .before .before .before .before .args
+      .group)
+      (c .before .before .before .before .before .before .before .before .before .before .before .before .before .before .before .args .k
+      + 2)
       (search needs) (search needs);
 }
 

@@ -44,7 +44,8 @@ loop-again c = (
       (c .before .before .before .before .before .before .before .args .other .now))
       (c .before .before .before .before .before .before .before .args .at + c .before .before .before .before .loop .i)
       (c .before .before .before .before .before .before .before .args .row .now) (c .before .before .before .before .loop .row)
-      (c .add .result) (c .before .before .before .before .loop .inv .1) (omega (arith, c .before .before .before .before .loop .inv .1 .size))
+      (c .add .result) (c .before .before .before .before .loop .inv .1)
+      (omega (arith, c .before .before .before .before .loop .inv .1 .size))
       (c .add .ensures ∙ ap (λ (b : ℕ). plus b (getD (c .before .before .before .before .before .before .before .args .other .now)
       (c .before .before .before .before .loop .i) 0))
       (c .before .before .before .before .loop .inv .1 .kept

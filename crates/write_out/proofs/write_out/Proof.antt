@@ -355,7 +355,13 @@ module _ {M : Type 1} (𝓤 : URA M) (H : Heap 𝓤) (A : Atoms 𝓤) (W : Given
               (α-queued ∷ []),
               (
                 (α-outstanding ∷ []),
-                ((α-transmissions ∷ []), ((α-ready ∷ []), ((α-waiting ∷ []), ((α-waiting-numbers ∷ []), (κ₁, (κ₂, (κ₄, (κ₅, (κ₆, tt))))))))),
+                (
+                  (α-transmissions ∷ []),
+                  (
+                    (α-ready ∷ []),
+                    ((α-waiting ∷ []), ((α-waiting-numbers ∷ []), (κ₁, (κ₂, (κ₄, (κ₅, (κ₆, tt))))))),
+                  ),
+                ),
               ),
             ),
             (fullShare, (fullShare, (fullShare, (fullShare, (fullShare, (fullShare, (q₁, (q₂, (q₄, (q₅, (q₆, tt))))))))))),

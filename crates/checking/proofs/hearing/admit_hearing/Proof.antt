@@ -11,7 +11,8 @@ use Rattle.checking.proofs.hearing.admit_hearing.Tie as tie
 
 -- the arrays lent
 abbrev lists : tie.Start → Arrays
-lists s = let a = s .args in arrays (a .queued .now) (a .outstanding .now) (a .transmissions .now) (a .ready .now) (a .waiting .now) (a .waiting-numbers .now)
+lists s = let a = s .args in arrays (a .queued .now) (a .outstanding .now) (a .transmissions .now) (a .ready .now) (a .waiting .now)
+    (a .waiting-numbers .now)
 
 receiving-fits-requires : tie.Need-receiving-fits-requires
 receiving-fits-requires c κs =

@@ -83,7 +83,8 @@ add-requires c κs =
       z,
       length-shard (datagramIn
           (c .before .before .before .before .before .before .before .before .before .before .before .before .before .before .before .before
-          .args .g) (c .before .before .before .before .before .before .before .before .before .before .before .before .before .before .before
+          .args .g) (c .before .before .before .before .before .before .before .before .before .before .before .before .before .before
+          .before
           .before .args .s .now) (c .before .before .before .before .before .before .before .loop .p - 1)),
       c .before .before .before .step .ensures .size,
       c .before .before .before .before .before .before .before .loop .inv .1 .size,
