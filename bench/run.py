@@ -152,7 +152,6 @@ def undefined(archive):
 
 
 def document(archive, divide, ours, theirs, calls):
-    lent = next(iter(ours.values()))["lent"]
     short = [f"A quick look: every workload was made {divide} times shorter.", ""] if divide > 1 else []
     return "\n".join([
         "# Performance", "",
@@ -169,8 +168,8 @@ def document(archive, divide, ours, theirs, calls):
         "## Retransmissions", "",
         *table("segments", ours, theirs, "retransmissions", number), "",
         "## Memory", "",
-        f"Our link has no heap: the archive takes only {undefined(archive)} from outside. A link of mtu 256 is lent {number(lent)} bytes, the",
-        "control block and a flush's output among them. kcp-go's heap is the most that both ends hold after a collection.", "",
+        f"Our link has no heap: the archive takes only {undefined(archive)} from outside. What it is lent is in",
+        "[C.md](C.md): 147,092 bytes at an mtu of 256, the control block and a flush's output among them. kcp-go's heap is the most that both ends hold after a collection.", "",
         *table("heap, bytes", ours, theirs, "heap", number), "",
         "## Each call", "",
         "Time (the least of many repeats from one state) and stack (a painted one) of each call of ours. Near empty: a message of one byte;",

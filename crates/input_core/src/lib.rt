@@ -44,7 +44,7 @@ fn grown(settings: Settings, before: Flight, after: Flight) -> Flight
     flight
 }
 
-// What the checks of 7 and 13 say, then those of the datagram, 1 to 6.
+// What the checks of 7 and 13 say, then those of the datagram, 1 to 6 and 14.
 fn checked_by(verdict: Verdict, datagram: &[u8], conv: u32, mss: usize) -> Checked
     ensures { λ r. ⌜ r ≡ checkedBy verdict (counted 0 (parse conv mss (now (datagram .entry)))) ⌝ }
 {
@@ -117,7 +117,7 @@ fn hear(
     }
 }
 
-// Taking in checks 7, 13, then 1 to 6; nothing is applied until all segments have passed. `table` is the length of the lent table, `flown`
+// Taking in checks 7, 13, then 1 to 6 and 14; nothing is applied until all segments have passed. `table` is the length of the lent table, `flown`
 // tells whether the records fit.
 pub fn input(
     settings: Settings,
