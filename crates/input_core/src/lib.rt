@@ -117,8 +117,8 @@ fn hear(
     }
 }
 
-// Taking in checks 7, 13, then 1 to 6 and 14; nothing is applied until all segments have passed. `table` is the length of the lent table, `flown`
-// tells whether the records fit.
+// Taking in checks 7, 13, then 1 to 6 and 14; nothing is applied until all segments have passed. `table` is the length of the lent table,
+// `flown` tells whether the records fit.
 pub fn input(
     settings: Settings,
     flight: Flight,
