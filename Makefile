@@ -2,18 +2,20 @@
 #
 #   make                    prove link, tags and parity and write their archives below target/staticlib (needs the Rattle kit's rt)
 #   make archive TARGET=T   the same for a board, below target/boards/T (boards/targets.txt, docs/BOARDS.md); FLAGS go to the compiler
-#   make install            headers, archives, files for pkg-config and CMake below PREFIX (default /usr/local; DESTDIR is put before it);
-#                           with TARGET=T those of a board. Proves nothing where the archives are there
+#   make install            headers, archives, manual, files for pkg-config and CMake below PREFIX (default /usr/local; DESTDIR is put
+#                           before it); with TARGET=T those of a board. Proves nothing where the archives are there
 #   make dist               a release for every target below target/dist, usable without the kit (dist/make.sh);
 #                           VERDICT='N passed, 0 failed' where the gate has not run here
 #   make dist-check         unpacks the releases, builds against them without the kit and runs what was built
+#   make man                target/man/ampferweg.3, from the comments of include/ampferweg.h: man -l target/man/ampferweg.3
 #   make test               the C checks (tests/host)
 #   make demo               two stations on loopback over a bad network (examples/udp)
 #   make test-examples      the stations' options, endings and restarts, by scripts (examples/udp)
 #   make bare               two links on a Cortex-M4 without an operating system, under QEMU (examples/bare)
 #   make dissector-check    the Wireshark dissector, by tshark (examples/wireshark)
 #   make boards             every board's archives, made and tried under QEMU, and the figures of docs/BOARDS.md (boards)
-#   make bench              the workloads beside kcp-go's core, and docs/PERFORMANCE.md (bench)
+#   make bench              the workloads beside kcp-go's core, docs/PERFORMANCE.md and its pictures (bench)
+#   make pictures           docs/pictures, from the data that is there (docs/pictures/draw.py)
 #   make interop            a station against kcp-go (tests/interop; installs Debian packages)
 #
 # ARCHIVE names another archive to install or to try, as that of a release.
@@ -75,7 +77,7 @@ uninstall:
 	for name in $(NAMES); do \
 	    rm -f $(DESTDIR)$(PREFIX)/include/$$name.h $(DESTDIR)$(PREFIX)/lib/lib$$name.a $(DESTDIR)$(PREFIX)/lib/pkgconfig/$$name.pc; \
 	done
-	rm -rf $(DESTDIR)$(PREFIX)/lib/cmake/ampferweg
+	rm -rf $(DESTDIR)$(PREFIX)/lib/cmake/ampferweg $(DESTDIR)$(PREFIX)/share/man/man3/ampferweg.3
 
 verdict:
 	@VERDICT='$(VERDICT)' dist/verdict.sh
@@ -85,6 +87,9 @@ dist: verdict $(ARCHIVES) $(BOARDS) target/bin/lister target/bin/replay
 
 dist-check:
 	dist/check.sh $(RELEASES)
+
+man:
+	dist/man.py
 
 test: $(ARCHIVES)
 	tests/host/run.sh $(ARCHIVE)
@@ -107,8 +112,11 @@ boards: $(MODULES)
 bench: $(ARCHIVE)
 	bench/run.py $(ARCHIVE)
 
+pictures:
+	docs/pictures/draw.py
+
 interop: $(ARCHIVE)
 	tests/interop/run.sh $(ARCHIVE)
 
-.PHONY: all archive install uninstall verdict dist dist-check test demo test-examples bare dissector-check boards bench interop
+.PHONY: all archive install uninstall man verdict dist dist-check test demo test-examples bare dissector-check boards bench pictures interop
 .SECONDARY:

@@ -41,19 +41,22 @@ static size_t used_by(void (*call)(void))
 
 static void nothing(void) {}
 
-/* ---- the calls ---- */
+/* ---- the calls, without the station layer, which counts ---- */
 
-static void call_open(void) { result = ampferweg_station_open(&station, 1, MTU, 1, 10, 2); }
-static void call_send(void) { result = ampferweg_station_send(&station, message, message_len); }
-static void call_input(void) { result = ampferweg_station_input(&station, datagram, datagram_len); }
-static void call_flush(void) { result = ampferweg_station_flush(&station, 100); }
-static void call_read(void) { result = ampferweg_station_read(&station, buffer, sizeof buffer); }
-static void call_size(void) { result = ampferweg_station_size(&station); }
+#define LENT &station.link, AMPFERWEG_PARTS(&station)
+#define FLUSHED station.output, station.output_len, station.lengths, station.lengths_len
+
+static void call_open(void) { result = ampferweg_open(&station.link, 1, MTU, 1, 10, 2, 0, 0, AMPFERWEG_PARTS(&station)); }
+static void call_send(void) { result = ampferweg_send(LENT, message, message_len); }
+static void call_input(void) { result = ampferweg_input(LENT, datagram, datagram_len); }
+static void call_flush(void) { result = ampferweg_flush(LENT, 100, FLUSHED); }
+static void call_read(void) { result = ampferweg_read(LENT, buffer, sizeof buffer); }
+static void call_size(void) { result = ampferweg_size(LENT); }
 
 /* Early by a millisecond, so that it does not flush. */
 static void call_update(void)
 {
-    result = ampferweg_station_update(&station, station.link.clock.next_flush - 1);
+    result = ampferweg_update(LENT, station.link.clock.next_flush - 1, FLUSHED);
     if (result == AMPFERWEG_NOT_YET) result = 0;
 }
 
@@ -153,7 +156,7 @@ static void fill(void)
     call_open();
     message_len = MSS;
     for (sn = 0; sn < 128; sn++) call_send();
-    result = ampferweg_station_update(&station, 100);
+    result = ampferweg_update(LENT, 100, FLUSHED);
     for (sn = 0; sn < 256; sn++) take_in_push(sn, (uint8_t)(sn < 127 ? 126 - sn : 0));
 }
 
@@ -163,7 +166,7 @@ static void near_empty(void)
     message_len = 1;
     say("send", call_send, 0);
     say("flush", call_flush, 0);
-    result = ampferweg_station_update(&station, 100);
+    result = ampferweg_update(LENT, 100, FLUSHED);
     say("update", call_update, 0);
     say("check", call_check, 0);
     datagram_len = 0;

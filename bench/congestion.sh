@@ -5,40 +5,29 @@
 set -eu
 root=$(cd "$(dirname "$0")/.." && pwd)
 archive=${1:-$root/target/staticlib/libampferweg.a}
-udp=$root/examples/udp
 work=$root/target/congestion
 port=${AMPFERWEG_PORT:-46300}
-[ -f "$archive" ] || { echo "congestion.sh: $archive is missing: run 'make' first" >&2; exit 2; }
-mkdir -p "$work"
-flags="-std=c99 -O2 -Wall -Wextra -Werror -I $root/include"
-# shellcheck disable=SC2086
-"${CC:-cc}" $flags "$udp/station.c" "$udp/options.c" "$udp/udp.c" "$archive" -o "$work/station"
-# shellcheck disable=SC2086
-"${CC:-cc}" $flags "$udp/relay.c" "$udp/options.c" "$udp/udp.c" -o "$work/relay"
+# shellcheck source=examples/udp/programs.sh
+. "$root/examples/udp/programs.sh"
+build "$archive" station relay
 awk 'BEGIN { for (i = 0; i < 1200; i++) printf "%050d\n", i }' >"$work/lines.txt"
-relay='' hears=''
-trap 'for p in $relay $hears; do kill "$p" 2>/dev/null; done' EXIT
 
 run() { # LOST-PERCENT CONGESTION
-    "$work/relay" --port "$port" --left "127.0.0.1:$((port + 1))" --right "127.0.0.1:$((port + 2))" --drop "$1" --repeat 0 --shuffle 0 \
-        --seed 1 >"$work/relay.txt" &
-    relay=$!
-    "$work/station" --name hears --port $((port + 2)) --peer "127.0.0.1:$port" --expect 1200 --seconds 120 --save "$work/heard.txt" \
-        >"$work/hears.txt" &
-    hears=$!
-    sleep 0.3
+    start relay relay --port "$port" --left "127.0.0.1:$((port + 1))" --right "127.0.0.1:$((port + 2))" --drop "$1" --repeat 0 --shuffle 0 \
+        --seed 1
+    relay=$started
+    start hears station --name hears --port $((port + 2)) --peer "127.0.0.1:$port" --expect 1200 --seconds 120 --save "$work/heard.txt"
+    hears=$started
     began=$(date +%s%N)
-    "$work/station" --name sends --port $((port + 1)) --peer "127.0.0.1:$port" --send "$work/lines.txt" --expect 0 --seconds 120 \
-        --congestion "$2" >"$work/sends.txt"
-    wait "$hears"
-    hears=''
+    start sends station --name sends --port $((port + 1)) --peer "127.0.0.1:$port" --send "$work/lines.txt" --expect 0 --seconds 120 \
+        --congestion "$2"
+    await "$started"
+    await "$hears"
     took=$((($(date +%s%N) - began) / 1000000))
-    kill "$relay"
-    wait "$relay" || :
-    relay=''
+    end "$relay" || :
     cmp "$work/heard.txt" "$work/lines.txt"
-    datagrams=$(sed -n 's/.* \([0-9][0-9]*\) datagrams.*/\1/p' "$work/relay.txt" | head -n 1)
-    again=$(sed -n 's/.* \([0-9][0-9]*\) of them retransmissions.*/\1/p' "$work/sends.txt")
+    datagrams=$(sed -n 's/.* \([0-9][0-9]*\) datagrams.*/\1/p' "$work/relay.out" | head -n 1)
+    again=$(sed -n 's/.* \([0-9][0-9]*\) of them retransmissions.*/\1/p' "$work/sends.out")
     echo "| $1 % lost | $([ "$2" = 1 ] && echo on || echo off) | $((took / 1000)).$(printf %03d $((took % 1000))) | $datagrams | $again |"
 }
 

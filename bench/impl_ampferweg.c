@@ -1,4 +1,4 @@
-/* The link, through its C interface. */
+/* The link, through the nine calls of its C interface; the station layer only holds the parts, and does not count here. */
 #include "kcp_impl.h"
 
 #include <ampferweg.h>
@@ -32,24 +32,30 @@ static void close_link(void *link) { ((struct link *)link)->taken = 0; }
 
 static int send_message(void *link, const uint8_t *message, size_t len)
 {
-    const ampferweg_result result = ampferweg_station_send(((struct link *)link)->station, message, len);
+    ampferweg_station *s = ((struct link *)link)->station;
+    const ampferweg_result result = ampferweg_send(&s->link, AMPFERWEG_PARTS(s), message, len);
     return result == -AMPFERWEG_NO_FREE_SLOTS ? KCP_FULL : (int)result;
 }
 
 static int input(void *link, const uint8_t *datagram, size_t len)
 {
-    return (int)ampferweg_station_input(((struct link *)link)->station, datagram, len);
+    ampferweg_station *s = ((struct link *)link)->station;
+    return (int)ampferweg_input(&s->link, AMPFERWEG_PARTS(s), datagram, len);
 }
 
 static int flush(void *link, uint32_t now)
 {
     const struct link *l = link;
-    return (int)ampferweg_station_flush_to(l->station, now, l->emit, l->context);
+    ampferweg_station *s = l->station;
+    const ampferweg_result count =
+        ampferweg_flush(&s->link, AMPFERWEG_PARTS(s), now, s->output, s->output_len, s->lengths, s->lengths_len);
+    return (int)ampferweg_station_transmit(s, count, l->emit, l->context);
 }
 
 static int receive(void *link, uint8_t *buffer, size_t room)
 {
-    const ampferweg_result result = ampferweg_station_read(((struct link *)link)->station, buffer, room);
+    ampferweg_station *s = ((struct link *)link)->station;
+    const ampferweg_result result = ampferweg_read(&s->link, AMPFERWEG_PARTS(s), buffer, room);
     return result == -AMPFERWEG_NO_MESSAGE ? KCP_NONE : (int)result;
 }
 

@@ -1,5 +1,5 @@
 #!/usr/bin/env python3
-"""Builds the driver over our archive and over kcp-go's core, runs every workload, and writes docs/PERFORMANCE.md.
+"""Builds the driver over our archive and over kcp-go's core, runs every workload, and writes docs/PERFORMANCE.md and its pictures.
 
     bench/run.py [ARCHIVE] [--divide N] [--output FILE] [--without-go]
 
@@ -19,6 +19,7 @@ import sys
 ROOT = pathlib.Path(__file__).resolve().parent.parent
 HERE = ROOT / "bench"
 WORK = ROOT / "target" / "bench"
+PAGE = ROOT / "docs" / "PERFORMANCE.md"
 KCP_GO = pathlib.Path("/usr/share/gocode/src/github.com/xtaci/kcp-go")
 FLAGS = ["-std=c99", "-O2", "-Wall", "-Wextra", "-Wpedantic", "-Werror", "-Wl,-z,now", "-I", str(ROOT / "include")]
 ROUNDS = 9  # of the time pass: in each, one program after the other
@@ -52,8 +53,8 @@ def build_ours(archive):
     return WORK / "bench_ampferweg"
 
 
-def build_kcp_go():
-    """kcp-go's core as a package of its own: two of its files, renamed, with the driver's clock in place of its own."""
+def build_kcp_go(folder="kcpgo", to="bench_kcpgo"):
+    """A driver over kcp-go's core as a package of its own: two of its files, renamed, with the driver's clock in place of its own."""
     if not KCP_GO.is_dir() or not shutil.which("go"):
         sys.exit("bench: install golang-go and golang-github-xtaci-kcp-dev first, or leave kcp-go out with --without-go")
     path = WORK / "go"
@@ -67,11 +68,12 @@ def build_kcp_go():
         (core / name).write_text("\n".join(lines))
     for name in ("shim.go", "tick_amd64.s"):
         shutil.copy(HERE / "kcpgo" / name, core)
-    for name in ("main.go", "wire.go", "measure.go"):
-        shutil.copy(HERE / "kcpgo" / name, driver)
+    for file in (HERE / folder).glob("*.go"):
+        if file.name != "shim.go":
+            shutil.copy(file, driver)
     environment = dict(os.environ, GO111MODULE="off", GOPATH=str(path), GOCACHE=str(WORK / "go-cache"))
-    run("go", "build", "-o", WORK / "bench_kcpgo", ".", cwd=driver, env=environment)
-    return WORK / "bench_kcpgo"
+    run("go", "build", "-o", WORK / to, ".", cwd=driver, env=environment)
+    return WORK / to
 
 
 def one(program, workload, kind, divide):
@@ -150,7 +152,6 @@ def undefined(archive):
 
 
 def document(archive, divide, ours, theirs, calls):
-    lent = next(iter(ours.values()))["lent"]
     short = [f"A quick look: every workload was made {divide} times shorter.", ""] if divide > 1 else []
     return "\n".join([
         "# Performance", "",
@@ -161,13 +162,14 @@ def document(archive, divide, ours, theirs, calls):
         f"Processor time for a message (W5: a datagram, W6: a flush), with all calls of both ends: the least of {ROUNDS} rounds. The two programs take",
         "turns in every round; the ratio is the median of the rounds' own ratios.", "",
         *times_table(ours, theirs), "",
+        "![Processor time for a message, Ampferweg and kcp-go's core](pictures/times.svg)", "",
         "The worst single call: the largest of all calls' own times, each the least of seven repeats.", "",
         *table("µs", ours, theirs, "worst", microseconds), "",
         "## Retransmissions", "",
         *table("segments", ours, theirs, "retransmissions", number), "",
         "## Memory", "",
-        f"Our link has no heap: the archive takes only {undefined(archive)} from outside. A link of mtu 256 is lent {number(lent)} bytes, the",
-        "control block and a flush's output among them. kcp-go's heap is the most that both ends hold after a collection.", "",
+        f"Our link has no heap: the archive takes only {undefined(archive)} from outside. What it is lent is in",
+        "[C.md](C.md): 147,092 bytes at an mtu of 256, the control block and a flush's output among them. kcp-go's heap is the most that both ends hold after a collection.", "",
         *table("heap, bytes", ours, theirs, "heap", number), "",
         "## Each call", "",
         "Time (the least of many repeats from one state) and stack (a painted one) of each call of ours. Near empty: a message of one byte;",
@@ -181,7 +183,7 @@ def main():
     parser = argparse.ArgumentParser(description="Runs the workloads and writes docs/PERFORMANCE.md.")
     parser.add_argument("archive", nargs="?", default=ROOT / "target" / "staticlib" / "libampferweg.a", type=pathlib.Path)
     parser.add_argument("--divide", type=int, default=1, help="make every workload so many times shorter")
-    parser.add_argument("--output", type=pathlib.Path, default=ROOT / "docs" / "PERFORMANCE.md")
+    parser.add_argument("--output", type=pathlib.Path, default=PAGE)
     parser.add_argument("--without-go", action="store_true", help="leave kcp-go's core out")
     options = parser.parse_args()
     if not options.archive.is_file():
@@ -199,6 +201,8 @@ def main():
     text = document(options.archive, options.divide, results["ours"], results["theirs"], calls)
     options.output.write_text(text)
     print(text)
+    if options.output == PAGE:
+        print(run(ROOT / "docs/pictures/draw.py"), end="")
 
 
 if __name__ == "__main__":

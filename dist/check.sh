@@ -8,7 +8,9 @@ set -u
 root=$(cd "$(dirname "$0")/.." && pwd)
 work=$(mktemp -d)
 trap 'rm -rf "$work"' EXIT
-passed=0 failed=0 target=''
+target=''
+# shellcheck source=tests/try.sh
+. "$root/tests/try.sh"
 
 # A PATH on which everything is but rt.
 mkdir "$work/path"
@@ -20,19 +22,6 @@ done
 # shellcheck disable=SC2123
 PATH=$work/path
 if command -v rt; then echo "check.sh: rt is still on the PATH" >&2; exit 2; fi
-
-try() { # NAME COMMAND..
-    what="$target, $1"
-    shift
-    if "$@" >"$work/log" 2>&1; then
-        passed=$((passed + 1))
-        printf '%-32s %s\n' "$what" "$(tail -n 1 "$work/log")"
-    else
-        failed=$((failed + 1))
-        printf '%-32s FAILED\n' "$what"
-        tail -n 20 "$work/log"
-    fi
-}
 
 column() { sed -n "s/^$target *| *//p" "$root/boards/targets.txt" | cut -d'|' -f"$1" | tr -d ' '; }
 
@@ -92,13 +81,13 @@ for release in "$@"; do
     target=$(basename "$release" .tar.gz | sed 's/^ampferweg-[^-]*-//')
     prefix=$(column 3) emulator=$(column 4)
     cc=${prefix}gcc
-    try 'sums' unpack "$release"
+    try "$target, sums" unpack "$release"
     case $target in *-linux) ;; *)
-        missing arm-none-eabi-gcc qemu-system-arm || try 'examples/bare' "$work/shop/examples/bare/run.sh" "$work/shop/lib/libampferweg.a"
+        missing arm-none-eabi-gcc qemu-system-arm ||
+            try "$target, examples/bare" "$work/shop/examples/bare/run.sh" "$work/shop/lib/libampferweg.a"
         continue ;;
     esac
-    missing "$cc" "$emulator" || { try 'by pkg-config' by_pkg_config; try 'by CMake' by_cmake; }
-    [ ! -d "$work/shop/bin" ] || try 'programs' programs
+    missing "$cc" "$emulator" || { try "$target, by pkg-config" by_pkg_config; try "$target, by CMake" by_cmake; }
+    [ ! -d "$work/shop/bin" ] || try "$target, programs" programs
 done
-echo "dist: $passed passed, $failed failed"
-[ "$failed" -eq 0 ]
+counted dist

@@ -21,7 +21,7 @@ pack() { # TARGET
     sed -i 's|^prefix=.*|prefix=${pcfiledir}/../..|' "$to"/lib/pkgconfig/*.pc
     if [ "$1" = x86_64-linux ]; then install -D -t "$to/bin" target/bin/lister target/bin/replay; fi
     install -d "$to/docs"
-    install -m 644 docs/C.md docs/BOARDS.md docs/TAGS.md docs/PARITY.md "$to/docs"
+    install -m 644 docs/C.md docs/BOARDS.md docs/JOINING.md docs/TAGS.md docs/PARITY.md "$to/docs"
     cp -R examples "$to"
     install -m 644 LICENSE "$to"
     sed "s|@VERSION@|$version|; s|@TARGET@|$1|" dist/README.md.in >"$to/README.md"

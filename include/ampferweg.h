@@ -18,7 +18,8 @@
  *     int run(void *socket)
  *     {
  *         static uint8_t datagram[2048], message[AMPFERWEG_MESSAGE_SIZE(256)];
- *         ampferweg_result result = ampferweg_station_open(&station, 7, 256, 1, 10, 2);
+ *         const ampferweg_settings line = {.conv = 7, .mtu = 256, .mode = 1, .interval = 10, .threshold = 2};
+ *         ampferweg_result result = ampferweg_station_open_settings(&station, &line);
  *         if (result == 0) result = ampferweg_station_send(&station, "seat 12: 4 holes", 16);
  *         while (!ampferweg_refusal_of(result) && !ampferweg_station_dead(&station)) {
  *             ampferweg_result count;
@@ -28,7 +29,7 @@
  *                 printf("%.*s\n", (int)count, (const char *)message);
  *             result = ampferweg_station_run_to(&station, milliseconds(), transmit, socket);
  *         }
- *         if (ampferweg_refusal_of(result)) fprintf(stderr, "%s\n", ampferweg_text(result));
+ *         if (ampferweg_refusal_of(result)) fprintf(stderr, "%s\n", ampferweg_station_why(&station));
  *         return ampferweg_refusal_of(result);
  *     }
  *
@@ -36,8 +37,8 @@
  * milliseconds instead; so may anyone after a send that should not wait.
  *
  * The header has four parts: sizes and results; the nine calls, and settings files, which are proved; and `ampferweg_station`, a
- * thin layer of inline functions that holds the lent parts and passes them on. C99 or C++; x86-64 Linux, and other machines
- * (docs/BOARDS.md).
+ * layer of inline functions that holds the lent parts, passes them on, counts, and says by name why a call was refused. C99 or
+ * C++; x86-64 Linux, and other machines (docs/BOARDS.md).
  * Counts are 64 bits wide everywhere, so that the block has one layout on 32-bit and 64-bit machines. */
 #ifndef AMPFERWEG_H
 #define AMPFERWEG_H
@@ -45,7 +46,8 @@
 #include <stddef.h>
 #include <stdint.h>
 
-#define AMPFERWEG_VERSION "0.3.0"
+#define AMPFERWEG_VERSION "0.4.0"
+#define AMPFERWEG_VERSION_NUMBER 400 /* 10,000 for the first number, 100 for the second, 1 for the third */
 
 #ifdef __cplusplus
 extern "C" {
@@ -73,6 +75,7 @@ extern "C" {
 #define AMPFERWEG_ACKS_LEN    512   /* entries of the ack list: 256 pairs of sn and ts */
 #define AMPFERWEG_OUTPUT_SIZE 50992 /* bytes of a flush's output, for any mtu */
 #define AMPFERWEG_LENGTHS_LEN 290   /* lengths of a flush, one for each datagram */
+#define AMPFERWEG_BLOCK_SIZE  2336  /* bytes of the control block, for any mtu */
 
 /* ---- Results -------------------------------------------------------------------------------------------------------
  *
@@ -129,7 +132,7 @@ static inline const char *ampferweg_text(ampferweg_result result)
     case AMPFERWEG_LONG_MESSAGE: return "refused 10: the message is above 127 segments";
     case AMPFERWEG_NO_FREE_SLOTS: return "refused 11: not enough free send slots";
     case AMPFERWEG_SETTING_OUT_OF_RANGE: return "refused 12: a setting is outside its range";
-    case AMPFERWEG_INVALID_BLOCK: return "refused 13: the control block is not valid";
+    case AMPFERWEG_INVALID_BLOCK: return "refused 13: the control block is not valid: was it opened?";
     case AMPFERWEG_TRAILING_BYTES: return "refused 14: bytes are left behind the datagram's last segment";
     case AMPFERWEG_NOT_SETTINGS: return "refused 15: this is not a settings file";
     case AMPFERWEG_UNKNOWN_VERSION: return "refused 16: the settings file is of an unknown version";
@@ -167,8 +170,8 @@ typedef struct ampferweg_congestion { uint32_t window, threshold, allowance; } a
 /* Probe of a closed window: milliseconds between two asks (0: stopped), and when the next one is due. */
 typedef struct ampferweg_probe_clock { uint32_t wait, due; } ampferweg_probe_clock;
 
-/* The sending half: snd_una, snd_nxt, the round trip, the peer's last window, the congestion window; segments queued (accepted and not yet sent) and
- * outstanding (sent and not acknowledged). */
+/* The sending half: snd_una, snd_nxt, the round trip, the peer's last window, the congestion window; segments queued (accepted and
+ * not yet sent) and outstanding (sent and not acknowledged). */
 typedef struct ampferweg_flight {
     uint32_t una, next;
     ampferweg_round_trip rtt;
@@ -235,7 +238,7 @@ AMPFERWEG_LAYOUT(arrival, sizeof(ampferweg_arrival) == 32 && offsetof(ampferweg_
 AMPFERWEG_LAYOUT(clock, sizeof(ampferweg_clock) == 20 && offsetof(ampferweg_clock, current) == 8 &&
     offsetof(ampferweg_clock, next_flush) == 12 && offsetof(ampferweg_clock, ask) == 16 && offsetof(ampferweg_clock, dead) == 17 &&
     offsetof(ampferweg_clock, updated) == 18);
-AMPFERWEG_LAYOUT(link, sizeof(ampferweg_link) == 2336 && offsetof(ampferweg_link, flight) == 16 &&
+AMPFERWEG_LAYOUT(link, sizeof(ampferweg_link) == AMPFERWEG_BLOCK_SIZE && offsetof(ampferweg_link, flight) == 16 &&
     offsetof(ampferweg_link, arrival) == 72 && offsetof(ampferweg_link, clock) == 104 && offsetof(ampferweg_link, queued) == 124 &&
     offsetof(ampferweg_link, outstanding) == 636 && offsetof(ampferweg_link, transmissions) == 764 &&
     offsetof(ampferweg_link, ready) == 796 && offsetof(ampferweg_link, waiting) == 1308 &&
@@ -332,6 +335,11 @@ ampferweg_result ampferweg_show(const ampferweg_link *link, const uint8_t *send_
     const uint8_t *receive_pool, uint64_t receive_pool_len, const ampferweg_record *table, uint64_t table_len,
     const uint32_t *acks, uint64_t acks_len, uint32_t *start);
 
+/* The version of the archive, as AMPFERWEG_VERSION_NUMBER has that of this header, and the bytes of its control block. Opening a
+ * station compares both. */
+uint32_t ampferweg_version_number(void);
+uint32_t ampferweg_block_size(void);
+
 /* ---- Settings files ------------------------------------------------------------------------------------------------
  *
  * A link's settings in a file, for a controller that is swapped: the letters KLS, the version in 2 bytes, then conversation 4 bytes,
@@ -357,7 +365,17 @@ ampferweg_result ampferweg_settings_read(const uint8_t *file, uint64_t file_len,
 
 /* ---- A station: a link with its parts ------------------------------------------------------------------------------
  *
- * Holds the pointers and counts that the calls above ask for, and passes them on; nothing else. */
+ * Holds the pointers and counts that the calls above ask for, and passes them on. Besides it counts, and says why a call was
+ * refused. Plain C over the proved calls: tested, not proved. */
+
+/* What a station has counted since it was declared or initialized; opening anew goes on counting. Each number wraps at 2^32. */
+typedef struct ampferweg_counters {
+    uint32_t datagrams_out;   /* written by flushes and updates */
+    uint32_t datagrams_in;    /* accepted by input */
+    uint32_t segments_out;    /* pushes in the datagrams out */
+    uint32_t retransmissions; /* those of them that had gone out before */
+    uint32_t refused[15];     /* refusals by number, of open, send, input, flush, update and read; 9 and 11 come in ordinary use */
+} ampferweg_counters;
 
 typedef struct ampferweg_station {
     uint8_t *send_pool;       size_t send_pool_len;
@@ -367,13 +385,17 @@ typedef struct ampferweg_station {
     uint8_t *output;          size_t output_len;   /* of flushes; stations that flush one after the other may share it */
     uint16_t *lengths;        size_t lengths_len;  /* and these */
     ampferweg_link link;
+    ampferweg_counters counters;
+    const char *why;          /* of the last refusal; NULL where there was none */
 } ampferweg_station;
 
 #ifdef __cplusplus
 #define AMPFERWEG_LINK_UNOPENED {}
+#define AMPFERWEG_COUNTERS_NONE {}
 #else
 #define AMPFERWEG_LINK_UNOPENED {{0, 0, 0, 0, 0, 0, 0}, {0, 0, {0, 0, 0}, 0, {0, 0, 0}, 0, 0}, {0, 0, 0, 0, 0}, {{0, 0}, 0, 0, 0, 0, 0}, \
     {{0, 0, 0}}, {{0, 0, 0}}, {0}, {{0, 0, 0}}, {{0, 0, 0}}, {0}}
+#define AMPFERWEG_COUNTERS_NONE {0, 0, 0, 0, {0}}
 #endif
 
 /* Declares a static output and its lengths, to be shared by stations. */
@@ -390,54 +412,234 @@ typedef struct ampferweg_station {
     static ampferweg_station name = { \
         name##_send_pool, sizeof name##_send_pool, name##_receive_pool, sizeof name##_receive_pool, \
         name##_table, AMPFERWEG_TABLE_LEN, name##_acks, AMPFERWEG_ACKS_LEN, \
-        output##_bytes, AMPFERWEG_OUTPUT_SIZE, output##_lengths, AMPFERWEG_LENGTHS_LEN, AMPFERWEG_LINK_UNOPENED}
+        output##_bytes, AMPFERWEG_OUTPUT_SIZE, output##_lengths, AMPFERWEG_LENGTHS_LEN, \
+        AMPFERWEG_LINK_UNOPENED, AMPFERWEG_COUNTERS_NONE, NULL}
 
 /* Declares a static station with all its parts. Open it before use: until then every call is refused 13. */
 #define AMPFERWEG_STATION_STORAGE(name, mtu) \
     AMPFERWEG_OUTPUT_STORAGE(name##_output); \
     AMPFERWEG_STATION_STORAGE_SHARED(name, mtu, name##_output)
 
+/* The four parts, as arguments of one of the nine calls: ampferweg_size(&station.link, AMPFERWEG_PARTS(&station)). */
 #define AMPFERWEG_PARTS(station) \
     (station)->send_pool, (station)->send_pool_len, (station)->receive_pool, (station)->receive_pool_len, \
     (station)->table, (station)->table_len, (station)->acks, (station)->acks_len
+
+/* Bytes of memory that hold all parts of a station, and all but an output that another station has. */
+#define AMPFERWEG_STATION_MEMORY_SHARED(mtu) ((size_t)4 + sizeof(ampferweg_record) * AMPFERWEG_TABLE_LEN + \
+    sizeof(uint32_t) * AMPFERWEG_ACKS_LEN + AMPFERWEG_SEND_POOL_SIZE(mtu) + AMPFERWEG_RECEIVE_POOL_SIZE(mtu))
+#define AMPFERWEG_STATION_MEMORY(mtu) \
+    (AMPFERWEG_STATION_MEMORY_SHARED(mtu) + sizeof(uint16_t) * AMPFERWEG_LENGTHS_LEN + AMPFERWEG_OUTPUT_SIZE)
+
+/* Lays the parts of a station into one piece of memory, at any address, and takes the output of another station; for arrays of
+ * links. Counters are 0 then, and it is to be opened. Answers 0, or refuses 12 for an mtu out of range and 7 for memory shorter
+ * than AMPFERWEG_STATION_MEMORY_SHARED(mtu): then nothing has changed.
+ *     static ampferweg_station stations[8];
+ *     static uint8_t memory[8][AMPFERWEG_STATION_MEMORY(256)];
+ *     for (i = 0; i < 8; i++) ampferweg_station_init(&stations[i], memory[i], sizeof memory[i], 256); */
+static inline ampferweg_result ampferweg_station_init_shared(ampferweg_station *station, void *memory, size_t len, uint32_t mtu,
+    const ampferweg_station *flushes)
+{
+    uint8_t *at = (uint8_t *)memory, *byte = (uint8_t *)station;
+    size_t i;
+    if (mtu < AMPFERWEG_MTU_LEAST || mtu > AMPFERWEG_MTU_MOST) return -AMPFERWEG_SETTING_OUT_OF_RANGE;
+    if (len < AMPFERWEG_STATION_MEMORY_SHARED(mtu)) return -AMPFERWEG_SHORT_PART;
+    for (i = 0; i < sizeof *station; i++) byte[i] = 0;
+    at += (4 - (size_t)memory % 4) % 4; /* records and acks want it */
+    station->table = (ampferweg_record *)(void *)at;
+    station->table_len = AMPFERWEG_TABLE_LEN;
+    station->acks = (uint32_t *)(void *)(station->table + AMPFERWEG_TABLE_LEN);
+    station->acks_len = AMPFERWEG_ACKS_LEN;
+    station->send_pool = (uint8_t *)(station->acks + AMPFERWEG_ACKS_LEN);
+    station->send_pool_len = AMPFERWEG_SEND_POOL_SIZE(mtu);
+    station->receive_pool = station->send_pool + station->send_pool_len;
+    station->receive_pool_len = AMPFERWEG_RECEIVE_POOL_SIZE(mtu);
+    station->output = flushes->output;
+    station->output_len = flushes->output_len;
+    station->lengths = flushes->lengths;
+    station->lengths_len = flushes->lengths_len;
+    return 0;
+}
+
+/* The same with an output of its own; refuses 7 for memory shorter than AMPFERWEG_STATION_MEMORY(mtu). */
+static inline ampferweg_result ampferweg_station_init(ampferweg_station *station, void *memory, size_t len, uint32_t mtu)
+{
+    ampferweg_result result;
+    if (mtu >= AMPFERWEG_MTU_LEAST && mtu <= AMPFERWEG_MTU_MOST && len < AMPFERWEG_STATION_MEMORY(mtu)) return -AMPFERWEG_SHORT_PART;
+    result = ampferweg_station_init_shared(station, memory, len, mtu, station);
+    if (result != 0) return result;
+    station->lengths = (uint16_t *)(void *)(station->receive_pool + station->receive_pool_len);
+    station->lengths_len = AMPFERWEG_LENGTHS_LEN;
+    station->output = (uint8_t *)(station->lengths + AMPFERWEG_LENGTHS_LEN);
+    station->output_len = AMPFERWEG_OUTPUT_SIZE;
+    return 0;
+}
+
+/* A number of four bytes, as the wire has it. */
+static inline uint32_t ampferweg_number_at(const uint8_t *bytes)
+{
+    return bytes[0] | (uint32_t)bytes[1] << 8 | (uint32_t)bytes[2] << 16 | (uint32_t)bytes[3] << 24;
+}
+
+/* The conversation of a datagram, for many links on one socket: input it to the station whose link.settings.conv it is. -1 for
+ * fewer than 24 bytes, which no link accepts (refusal 1). */
+static inline int64_t ampferweg_conversation_of(const void *datagram, size_t datagram_len)
+{
+    return datagram_len < 24 ? -AMPFERWEG_SHORT_DATAGRAM : (int64_t)ampferweg_number_at((const uint8_t *)datagram);
+}
+
+/* The version of this header, in words. */
+static inline const char *ampferweg_version(void) { return AMPFERWEG_VERSION; }
+
+/* Why the last refused call of this station was refused, by the name of the part (7) or of the setting (12). */
+static inline const char *ampferweg_station_why(const ampferweg_station *station)
+{
+    return station->why == NULL ? "no call was refused" : station->why;
+}
+
+/* Which setting is outside its range, in plain words; NULL where none is. */
+static inline const char *ampferweg_inner_wrong_setting(uint32_t mtu, uint32_t mode, uint32_t interval, uint32_t threshold, uint32_t stream,
+    uint32_t congestion)
+{
+    if (mtu < AMPFERWEG_MTU_LEAST || mtu > AMPFERWEG_MTU_MOST) return "refused 12: mtu is not 50 to 1400";
+    if (mode > 2) return "refused 12: mode is not 0, 1 or 2";
+    if (interval < 10 || interval > 5000) return "refused 12: interval is not 10 to 5000";
+    if (threshold > 100) return "refused 12: threshold is not 0 to 100";
+    if (stream > 1) return "refused 12: stream is not 0 or 1";
+    return congestion > 1 ? "refused 12: congestion is not 0 or 1" : NULL;
+}
+
+/* Which of the four parts that every call is lent is too short for this mtu, in plain words; NULL where none is. */
+static inline const char *ampferweg_inner_short_part(const ampferweg_station *station, uint32_t mtu)
+{
+    const size_t mss = mtu > 24 ? AMPFERWEG_MSS(mtu) : 0; /* that of a block that was never opened */
+    if (station->send_pool_len < 128 * mss) return "refused 7: the send pool is shorter than 128 x (mtu - 24) bytes";
+    if (station->receive_pool_len < 256 * mss) return "refused 7: the receive pool is shorter than 256 x (mtu - 24) bytes";
+    if (station->table_len < AMPFERWEG_TABLE_LEN) return "refused 7: the table is shorter than 128 records";
+    return station->acks_len < AMPFERWEG_ACKS_LEN ? "refused 7: the ack list is shorter than 512 entries" : NULL;
+}
+
+/* Counts a refusal and keeps its words; `rest` are those of a 7 where none of the four parts is short. */
+static inline ampferweg_result ampferweg_inner_note(ampferweg_station *station, ampferweg_result result, const char *rest)
+{
+    const int number = ampferweg_refusal_of(result);
+    if (number == 0 || number >= (int)(sizeof station->counters.refused / sizeof *station->counters.refused)) return result;
+    station->counters.refused[number]++;
+    station->why = NULL;
+    if (number == AMPFERWEG_SHORT_PART) {
+        station->why = ampferweg_inner_short_part(station, station->link.settings.mtu);
+        if (station->why == NULL) station->why = rest;
+    }
+    if (station->why == NULL) station->why = ampferweg_text(result);
+    return result;
+}
+
+/* Whether the archive has the very block of this header, tried on a link just opened: both receiving lists are filled by hand, up to the
+ * block's last entry, and a number that cannot be there is refused 13. The lists are empty again then. */
+static inline int ampferweg_inner_same_block(ampferweg_station *station)
+{
+    ampferweg_link *link = &station->link;
+    ampferweg_result good, bad;
+    size_t i;
+    for (i = 0; i < 128; i++) {
+        const ampferweg_held none = {0, 0, 0};
+        link->ready[i] = link->waiting[i] = none;
+        link->ready[i].slot = (uint8_t)(128 + i);
+        link->waiting[i].slot = (uint8_t)i;
+        link->waiting_numbers[i] = (uint32_t)i;
+    }
+    link->arrival.ready = link->arrival.waiting = 128;
+    good = ampferweg_size(link, AMPFERWEG_PARTS(station));
+    link->waiting_numbers[127]++;
+    bad = ampferweg_size(link, AMPFERWEG_PARTS(station));
+    link->arrival.ready = link->arrival.waiting = 0;
+    return good == 0 && bad == -AMPFERWEG_INVALID_BLOCK && link->flight.rtt.timeout == 200 && link->flight.window == 128;
+}
+
+/* Whether the archive is of this header's version, with a block of as many bytes. */
+static inline int ampferweg_inner_same_version(void)
+{
+    return ampferweg_version_number() == AMPFERWEG_VERSION_NUMBER && ampferweg_block_size() == sizeof(ampferweg_link);
+}
+
+/* Opens with seven numbers. Besides ampferweg_open's refusals it gives 13 where header and archive are of two versions. */
+static inline ampferweg_result ampferweg_station_open_numbers(ampferweg_station *station, uint32_t conv, uint32_t mtu, uint32_t mode,
+    uint32_t interval, uint32_t threshold, uint32_t stream, uint32_t congestion)
+{
+    const ampferweg_settings *is = &station->link.settings;
+    ampferweg_result result = -AMPFERWEG_INVALID_BLOCK;
+    if (ampferweg_inner_same_version())
+        result = ampferweg_open(&station->link, conv, mtu, mode, interval, threshold, stream, congestion, AMPFERWEG_PARTS(station));
+    if (result == 0) {
+        if (is->conv == conv && is->mtu == mtu && is->mode == mode && is->interval == interval && is->threshold == threshold &&
+            is->stream == stream && is->congestion == congestion && ampferweg_inner_same_block(station)) return 0;
+        result = -AMPFERWEG_INVALID_BLOCK;
+    }
+    (void)ampferweg_inner_note(station, result, NULL);
+    if (result == -AMPFERWEG_SETTING_OUT_OF_RANGE)
+        station->why = ampferweg_inner_wrong_setting(mtu, mode, interval, threshold, stream, congestion);
+    if (result == -AMPFERWEG_SHORT_PART) station->why = ampferweg_inner_short_part(station, mtu);
+    if (result == -AMPFERWEG_INVALID_BLOCK) station->why = "refused 13: header and archive are of two versions: their blocks differ";
+    return result;
+}
 
 /* Opens with settings by name, so that no two of them can be exchanged unnoticed; what is left out is 0:
  *     const ampferweg_settings logger = {.conv = 7, .mtu = 256, .mode = 1, .interval = 10, .threshold = 2, .stream = 1}; */
 static inline ampferweg_result ampferweg_station_open_settings(ampferweg_station *station, const ampferweg_settings *settings)
 {
-    return ampferweg_open(&station->link, settings->conv, settings->mtu, settings->mode, settings->interval, settings->threshold,
-        settings->stream, settings->congestion, AMPFERWEG_PARTS(station));
+    return ampferweg_station_open_numbers(station, settings->conv, settings->mtu, settings->mode, settings->interval, settings->threshold,
+        settings->stream, settings->congestion);
 }
 
 /* Opens for messages, without the congestion window: stream and congestion 0. */
 static inline ampferweg_result ampferweg_station_open(ampferweg_station *station,
     uint32_t conv, uint32_t mtu, uint32_t mode, uint32_t interval, uint32_t threshold)
 {
-    return ampferweg_open(&station->link, conv, mtu, mode, interval, threshold, 0, 0, AMPFERWEG_PARTS(station));
+    return ampferweg_station_open_numbers(station, conv, mtu, mode, interval, threshold, 0, 0);
 }
 
 static inline ampferweg_result ampferweg_station_send(ampferweg_station *station, const void *message, size_t message_len)
 {
-    return ampferweg_send(&station->link, AMPFERWEG_PARTS(station), (const uint8_t *)message, message_len);
+    return ampferweg_inner_note(station,
+        ampferweg_send(&station->link, AMPFERWEG_PARTS(station), (const uint8_t *)message, message_len), NULL);
 }
 
 static inline ampferweg_result ampferweg_station_input(ampferweg_station *station, const void *datagram, size_t datagram_len)
 {
-    return ampferweg_input(&station->link, AMPFERWEG_PARTS(station), (const uint8_t *)datagram, datagram_len);
+    const ampferweg_result result = ampferweg_input(&station->link, AMPFERWEG_PARTS(station), (const uint8_t *)datagram, datagram_len);
+    if (result == 0) station->counters.datagrams_in++;
+    return ampferweg_inner_note(station, result, NULL);
+}
+
+/* Counts what a flush or an update has written; a push whose number is not new is a retransmission. */
+static inline ampferweg_result ampferweg_inner_count(ampferweg_station *station, ampferweg_result count, uint32_t next_before)
+{
+    uint32_t pushes = 0;
+    size_t at = 0, end = 0;
+    ampferweg_result i;
+    for (i = 0; i < count; i++) end += station->lengths[i];
+    for (; at < end; at += 24 + ampferweg_number_at(station->output + at + 20)) pushes += station->output[at + 4] == 81;
+    if (count > 0) station->counters.datagrams_out += (uint32_t)count;
+    station->counters.segments_out += pushes;
+    station->counters.retransmissions += pushes - (station->link.flight.next - next_before);
+    return ampferweg_inner_note(station, count, station->output_len < AMPFERWEG_OUTPUT_SIZE ?
+        "refused 7: the output is shorter than 50992 bytes" : "refused 7: the lengths are fewer than 290");
 }
 
 /* The datagrams stand in station->output, one behind the other, and their lengths in station->lengths. */
 static inline ampferweg_result ampferweg_station_flush(ampferweg_station *station, uint32_t now)
 {
-    return ampferweg_flush(&station->link, AMPFERWEG_PARTS(station), now,
-        station->output, station->output_len, station->lengths, station->lengths_len);
+    const uint32_t next = station->link.flight.next;
+    return ampferweg_inner_count(station, ampferweg_flush(&station->link, AMPFERWEG_PARTS(station), now,
+        station->output, station->output_len, station->lengths, station->lengths_len), next);
 }
 
 /* The same, where it is time to flush; else AMPFERWEG_NOT_YET. */
 static inline ampferweg_result ampferweg_station_update(ampferweg_station *station, uint32_t now)
 {
-    return ampferweg_update(&station->link, AMPFERWEG_PARTS(station), now,
-        station->output, station->output_len, station->lengths, station->lengths_len);
+    const uint32_t next = station->link.flight.next;
+    return ampferweg_inner_count(station, ampferweg_update(&station->link, AMPFERWEG_PARTS(station), now,
+        station->output, station->output_len, station->lengths, station->lengths_len), next);
 }
 
 static inline ampferweg_result ampferweg_station_check(const ampferweg_station *station, uint32_t now, uint32_t *when)
@@ -492,7 +694,8 @@ static inline ampferweg_result ampferweg_station_run_to(ampferweg_station *stati
 
 static inline ampferweg_result ampferweg_station_read(ampferweg_station *station, void *buffer, size_t buffer_len)
 {
-    return ampferweg_read(&station->link, AMPFERWEG_PARTS(station), (uint8_t *)buffer, buffer_len);
+    return ampferweg_inner_note(station, ampferweg_read(&station->link, AMPFERWEG_PARTS(station), (uint8_t *)buffer, buffer_len),
+        "refused 7: the read buffer is shorter than the message");
 }
 
 static inline ampferweg_result ampferweg_station_size(const ampferweg_station *station)
@@ -519,6 +722,94 @@ static inline int ampferweg_station_dead(const ampferweg_station *station) { ret
 static inline size_t ampferweg_station_pending(const ampferweg_station *station)
 {
     return (size_t)(station->link.flight.queued + station->link.flight.outstanding);
+}
+
+/* ---- A block in words ----------------------------------------------------------------------------------------------
+ *
+ * For a display, a log or a letter to the makers: every field of a block, a line at a time through the caller's hook. No libc. */
+
+/* A line that is put together from names and numbers; what does not fit is left out. */
+typedef struct ampferweg_inner_line { char text[120]; size_t len; } ampferweg_inner_line;
+
+static inline void ampferweg_inner_text(ampferweg_inner_line *line, const char *text)
+{
+    while (*text != '\0' && line->len + 1 < sizeof line->text) line->text[line->len++] = *text++;
+    line->text[line->len] = '\0';
+}
+
+static inline void ampferweg_inner_number(ampferweg_inner_line *line, const char *name, uint64_t number)
+{
+    char digits[21];
+    size_t at = sizeof digits - 1;
+    digits[at] = '\0';
+    do {
+        digits[--at] = (char)('0' + number % 10);
+        number /= 10;
+    } while (number > 0);
+    ampferweg_inner_text(line, name);
+    ampferweg_inner_text(line, digits + at);
+}
+
+/* A line of `count` numbers, each behind its name. */
+static inline void ampferweg_inner_print_line(const char *head, const char *const *names, const uint64_t *numbers, size_t count,
+    void (*put)(void *context, const char *line), void *context)
+{
+    ampferweg_inner_line line;
+    size_t i;
+    line.len = 0;
+    ampferweg_inner_text(&line, head);
+    for (i = 0; i < count; i++) ampferweg_inner_number(&line, names[i], numbers[i]);
+    put(context, line.text);
+}
+
+/* A line for each segment of a list, never more than the list has room for; with transmissions, or with sequence numbers. */
+static inline void ampferweg_inner_print_held(const char *head, const ampferweg_held *held, uint64_t count, size_t room,
+    const uint8_t *transmissions, const uint32_t *numbers, void (*put)(void *context, const char *line), void *context)
+{
+    size_t i;
+    for (i = 0; i < room && i < count; i++) {
+        ampferweg_inner_line line;
+        line.len = 0;
+        ampferweg_inner_number(&line, head, i);
+        ampferweg_inner_number(&line, ": slot ", held[i].slot);
+        ampferweg_inner_number(&line, ", fragment ", held[i].fragment);
+        ampferweg_inner_number(&line, ", len ", held[i].len);
+        if (transmissions != NULL) ampferweg_inner_number(&line, ", transmissions ", transmissions[i]);
+        if (numbers != NULL) ampferweg_inner_number(&line, ", number ", numbers[i]);
+        put(context, line.text);
+    }
+}
+
+/* Prints a block, valid or not. `put` is called with one line after the other, without a newline. */
+static inline void ampferweg_print(const ampferweg_link *link, void (*put)(void *context, const char *line), void *context)
+{
+    static const char *const settings[] = {"conv ", ", mtu ", ", mode ", ", interval ", ", threshold ", ", stream ", ", congestion "};
+    static const char *const flight[] = {"una ", ", next ", ", window ", ", queued ", ", outstanding "};
+    static const char *const rtt[] = {"smoothed ", ", variation ", ", timeout "};
+    static const char *const congestion[] = {"window ", ", threshold ", ", allowance "};
+    static const char *const arrival[] = {"expected ", ", tell ", ", ready ", ", waiting ", ", acks "};
+    static const char *const clock[] = {"current ", ", next flush ", ", probe wait ", ", probe due ", ", ask ", ", dead ", ", updated "};
+    const ampferweg_settings *s = &link->settings;
+    const ampferweg_flight *f = &link->flight;
+    const ampferweg_arrival *a = &link->arrival;
+    const ampferweg_clock *c = &link->clock;
+    uint64_t n[7];
+    n[0] = s->conv; n[1] = s->mtu; n[2] = s->mode; n[3] = s->interval; n[4] = s->threshold; n[5] = s->stream; n[6] = s->congestion;
+    ampferweg_inner_print_line("settings: ", settings, n, 7, put, context);
+    n[0] = f->una; n[1] = f->next; n[2] = f->window; n[3] = f->queued; n[4] = f->outstanding;
+    ampferweg_inner_print_line("sending: ", flight, n, 5, put, context);
+    n[0] = f->rtt.smoothed; n[1] = f->rtt.variation; n[2] = f->rtt.timeout;
+    ampferweg_inner_print_line("round trip: ", rtt, n, 3, put, context);
+    n[0] = f->congestion.window; n[1] = f->congestion.threshold; n[2] = f->congestion.allowance;
+    ampferweg_inner_print_line("congestion: ", congestion, n, 3, put, context);
+    n[0] = a->expected; n[1] = a->tell; n[2] = a->ready; n[3] = a->waiting; n[4] = a->acks;
+    ampferweg_inner_print_line("receiving: ", arrival, n, 5, put, context);
+    n[0] = c->current; n[1] = c->next_flush; n[2] = c->probe.wait; n[3] = c->probe.due; n[4] = c->ask; n[5] = c->dead; n[6] = c->updated;
+    ampferweg_inner_print_line("clock: ", clock, n, 7, put, context);
+    ampferweg_inner_print_held("queued ", link->queued, f->queued, 128, NULL, NULL, put, context);
+    ampferweg_inner_print_held("outstanding ", link->outstanding, f->outstanding, 32, link->transmissions, NULL, put, context);
+    ampferweg_inner_print_held("ready ", link->ready, a->ready, 128, NULL, NULL, put, context);
+    ampferweg_inner_print_held("waiting ", link->waiting, a->waiting, 128, NULL, link->waiting_numbers, put, context);
 }
 
 #ifdef __cplusplus

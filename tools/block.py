@@ -4,6 +4,7 @@ import os
 
 from layout import ROOT, fields
 from rows import Declared, row
+from wrap import wrapped
 
 CRATE = 'control'
 
@@ -165,4 +166,4 @@ if __name__ == '__main__':
     folder = os.path.join(ROOT, 'crates', 'lending', 'proofs')
     os.makedirs(folder, exist_ok=True)
     with open(os.path.join(folder, 'Block.antt'), 'w') as f:
-        f.write(block())
+        f.write(wrapped(block()))

@@ -4,6 +4,7 @@
 #   z₁         what is behind parameter 1 at the end                       r             the result
 #   e-a, is-a  what the callee ensures whose result is a, and that a's machine value is a's;   end-queued: the field has its length
 # Run: python3 tools/calls.py [NAME ..], then rt fmt.
+import re
 import sys
 
 from mir import Call, write
@@ -14,15 +15,15 @@ SETTINGS, FLIGHT = Declared('protocol', 'Settings'), Declared('control', 'Flight
 ARRIVAL, CLOCK = Declared('control', 'Arrival'), Declared('control', 'Clock')
 OPENED, SENT, TAKEN = Declared('open_core', 'Opened'), Declared('send_core', 'Sent'), Declared('input_core', 'Taken')
 FLUSHED, DELIVERED, PLACE = Declared('flush_core', 'Flushed'), Declared('read_core', 'Delivered'), Declared('read_core', 'Place')
-UPDATED, COUNT, TIME = Declared('update_core', 'Updated'), Declared('answers', 'Count', 'EL'), Declared('answers', 'Time', 'EL')
-DECLARED = [SETTINGS, FLIGHT, ARRIVAL, CLOCK, OPENED, SENT, TAKEN, FLUSHED, UPDATED, DELIVERED, PLACE, COUNT, TIME]
+COUNT, TIME = Declared('answers', 'Count', 'EL'), Declared('answers', 'Time', 'EL')
+DECLARED = [SETTINGS, FLIGHT, ARRIVAL, CLOCK, OPENED, SENT, TAKEN, FLUSHED, DELIVERED, PLACE, COUNT, TIME]
 U32, CODE = Number('u32'), Signed()
 
 # the types of locals, as `rt mir` writes them
 TYPES = {
     'protocol::Settings': SETTINGS, 'control::Flight': FLIGHT, 'control::Arrival': ARRIVAL, 'control::Clock': CLOCK,
     'open_core::Opened': OPENED, 'send_core::Sent': SENT, 'input_core::Taken': TAKEN, 'flush_core::Flushed': FLUSHED,
-    'update_core::Updated': UPDATED, 'answers::Time': TIME,
+    'answers::Time': TIME,
     'read_core::Delivered': DELIVERED, 'read_core::Place': PLACE, 'answers::Count': COUNT,
     'tyInt 64': Number('usize'), 'tyInt 32': CODE, 'tyBool': Truth(), 'tyUnit': Nothing(),
     'tyArray timing::Record 32': Records(), 'tyArray tyInt 32 32': Numbers('u32', 32),
@@ -30,25 +31,25 @@ TYPES = {
 
 # what a proof names of the specs and laws
 NAMES = {
-    'mathlib.Core.Path': '_∙_ sym subst', 'mathlib.Core.Bool': 'Bool', 'denote.Plain': 'Boolean bool-lawful bool-makes', 'lib.ListN': 'take',
+    'mathlib.Core.Path': '_∙_ sym subst', 'mathlib.Core.Bool': 'Bool true false', 'denote.Plain': 'Boolean bool-vals bool-tells bool-lawful bool-makes', 'mir.Val': 'vbool', 'lib.ListN': 'take',
     'Rattle.protocol.specs.Protocol': 'sendSlots', 'Rattle.records.specs.Tables': 'slotsIn gathered padded scattered',
     'Rattle.control.specs.Views': 'Whole Arrays arrays arraysOf linkOf',
     'Rattle.checking.specs.Tests': 'flightFits', 'Rattle.checking.specs.Verdicts': 'Flown Flies ByFlown',
-    'Rattle.promises.specs.Parts': 'lentLengths partsOf', 'Rattle.promises.specs.Answers': 'countOutcome timeOutcome',
+    'Rattle.promises.specs.Parts': 'lentLengths partsOf flushPartsOf', 'Rattle.promises.specs.Answers': 'countOutcome timeOutcome',
     'Rattle.promises.specs.Outcomes': 'opensWith takesInWith tellsWith showsWith checksWith shows',
     'Rattle.promises.specs.Promises': 'OpenPromise SendPromise InputPromise FlushPromise UpdatePromise ReadPromise SizePromise placeOf',
     'Rattle.promises.specs.Cores': 'OpenCore',
     'Rattle.send_core.specs.Sending': 'SendLeaves', 'Rattle.read_core.specs.Messages': 'ReadOver', 'Rattle.read_core.specs.Places': 'PlaceIs',
     'Rattle.input_core.specs.Taking': 'Takes', 'Rattle.flush_core.specs.Flushes': 'Core putBack',
-    'Rattle.update_core.specs.Updates': 'UpdateOver updatedBack',
+    'Rattle.write_out.specs.Written': 'Left WrittenOut',
+    'Rattle.write_out.proofs.Paced': 'left gives',
     'Rattle.codes.specs.Codes': 'answerCode countCode updateCode timeCode timeStored settingsOf', 'Rattle.codes.specs.Gives': 'Gives', 'Rattle.codes.proofs.Told': 'told',
     'Rattle.results.specs.PlaceCodes': 'placeCode placeStart', 'Rattle.results.specs.PutBacks': 'takenBack',
-    'Rattle.from_cores.specs.Left': 'InputLeft FlushLeft UpdateLeft',
+    'Rattle.from_cores.specs.Left': 'InputLeft',
     'Rattle.from_cores.proofs.Gathered': 'gathers padded-whole', 'Rattle.from_cores.proofs.Scattered': 'put-back',
     'Rattle.from_cores.proofs.Opening': 'open-promised', 'Rattle.from_cores.proofs.Sending': 'send-promised',
     'Rattle.from_cores.proofs.Reading': 'read-promised', 'Rattle.from_cores.proofs.Asking': 'size-promised shows-promised check-promised',
-    'Rattle.from_cores.proofs.TakingIn': 'input-left input-promised', 'Rattle.from_cores.proofs.Flushing': 'flush-left flush-promised',
-    'Rattle.from_cores.proofs.Updating': 'update-left update-promised',
+    'Rattle.from_cores.proofs.TakingIn': 'input-left input-promised',
     'Rattle.ampferweg.specs.Places': 'PlacePromise', 'Rattle.ampferweg.specs.Times': 'TimePromise',
 }
 
@@ -231,59 +232,80 @@ def input_():
         proof=f'told answerCode _ (t .answer) e-r (input-promised (x₅ .now) (x₀ .now) {p} (t .answer) (takenBack t) {link} {pool} {acks} {table} {few} {put} e-t)')
 
 
-def writing(crate, result, core, back, left, proof):
-    """A flush, or what has its parameters and its shape: the core's contract, what goes back, and what is left before that."""
-    link = f"(linkOf (h .settings) (a .flight) (a .arrival) (a .clock) ({after('a', ARRAYS[:3])}))"
-    output, lengths = last('a', FIRST + 10), last('a', FIRST + 11)
-    gathered = f'(gathers h {P} n recs m e-n e-recs e-m)'
-    return dict(
-        crate=crate, name=crate, result=result, about='The table is read; structs are copied, all lists are lent, and flight, arrival and clock are stored.',
-        pars=[Par('ref')] + SLICES + [Par('val', U32), Par('mut', 'u8'), Par('mut', 'u16')],
-        said=f'{left} x₅ h {P} (x₆ .now) (x₇ .now) (r .answer) ({back} r) k z₆ z₇',
-        calls=GATHER + [
-            Call('core', 'a', f'{core} h recs m (x₁ .now) (x₂ .now) (x₄ .now) x₅ (x₆ .now) (x₇ .now) a {link} {output} {lengths}', WHOLE),
-            Call('flight-of', 'kf', 'kf ≡ a .flight'), Call('arrival-of', 'ka', 'ka ≡ a .arrival'), Call('clock-of', 'kc', 'kc ≡ a .clock'),
-        ],
-        proof=f"rw (e-kf, e-ka, e-kc) ({proof} x₅ h {P} (x₆ .now) (x₇ .now) (a .answer) ({back} a) {link} {output} {lengths} recs m {gathered} ({whole('end-')}) e-a)")
+# output and lengths before a flush and after it
+INTO, FILLED = '(flushPartsOf (x₇ .now) (x₈ .now))', '(flushPartsOf z₇ z₈)'
 
 
 def write_out():
-    return writing('write_out', FLUSHED, 'Core', 'putBack', 'FlushLeft', 'flush-left')
+    link = f"(linkOf (h .settings) (a .flight) (a .arrival) (a .clock) ({after('a', ARRAYS[:3], FIRST + 1)}))"
+    output, lengths = last('a', FIRST + 11), last('a', FIRST + 12)
+    gathered = f'(gathers h {P} n recs m e-n e-recs e-m)'
+    return dict(
+        crate='write_out', name='write_out', result=FLUSHED, about='The table is read; structs are copied, all lists are lent, and flight, arrival and clock are stored.',
+        pars=[Par('ref')] + SLICES + [Par('val', Truth()), Par('val', U32), Par('mut', 'u8'), Par('mut', 'u16')],
+        said=f'Left x₅ x₆ h {P} {INTO} (r .answer) (putBack r) k {FILLED}',
+        calls=GATHER + [
+            Call('core', 'a', f'Core x₅ h recs m (x₁ .now) (x₂ .now) (x₄ .now) x₆ (x₇ .now) (x₈ .now) a {link} {output} {lengths}', WHOLE),
+            Call('flight-of', 'kf', 'kf ≡ a .flight'), Call('arrival-of', 'ka', 'ka ≡ a .arrival'), Call('clock-of', 'kc', 'kc ≡ a .clock'),
+        ],
+        proof=f"rw (e-kf, e-ka, e-kc) (left x₅ x₆ h {P} {INTO} a {link} (flushPartsOf {output} {lengths}) recs m {gathered} ({whole('end-')}) e-a)")
 
 
-def update_out():
-    return writing('update_out', UPDATED, 'UpdateOver', 'updatedBack', 'UpdateLeft', 'update-left')
-
-
-def written(name, by, code, promise, back, left, proof):
+def put_back():
     """The same with the records put back, for C."""
     p = parts('(x₁ .now)', '(x₂ .now)', '(x₃ .now)', '(x₄ .now)')
-    link, output, lengths, table = last('t', 0), last('t', 6), last('t', 7), last('u', 0)
+    link, output, lengths, table = last('t', 0), last('t', 7), last('t', 8), last('u', 0)
     few = '(ap length (sym e-after) ∙ is-after .1 .0 .1)'
-    put = f'(put-back (x₃ .now) {table} ({back} t) words n after e-words e-n e-after e-u)'
+    put = f'(put-back (x₃ .now) {table} (putBack t) words n after e-words e-n e-after e-u)'
     return dict(
-        crate='ampferweg', name=name, result=CODE, about=f'The block is given to `{by}`, and the table lent to it as `&`; then the table is given to `scatter`.',
-        pars=[Par('given', 'L'), Par('shr', 'u8'), Par('shr', 'u8'), Par('mut', 'R'), Par('shr', 'u32'), Par('val', U32), Par('mut', 'u8'), Par('mut', 'u16')],
-        said=f"Gives {code} (λ a. {promise} x₅ (x₀ .now) {p} (x₆ .now) (x₇ .now) a z₀ {parts('(x₁ .now)', '(x₂ .now)', 'z₃', '(x₄ .now)')} z₆ z₇) r",
+        crate='write_out', name='write_and_put_back', result=CODE, about='The block is given to `write_out`, and the table lent to it as `&`; then the table is given to `scatter`.',
+        pars=[Par('given', 'L')] + WRITING + [Par('val', Truth()), Par('val', U32), Par('mut', 'u8'), Par('mut', 'u16')],
+        said=f"WrittenOut x₅ x₆ (x₀ .now) {p} {INTO} z₀ {parts('(x₁ .now)', '(x₂ .now)', 'z₃', '(x₄ .now)')} {FILLED} r",
         calls=[
-            Call('writing', 't', f'{left} x₅ (x₀ .now) {p} (x₆ .now) (x₇ .now) (t .answer) ({back} t) {link} {output} {lengths}'),
+            Call('writing', 't', f'Left x₅ x₆ (x₀ .now) {p} {INTO} (t .answer) (putBack t) {link} (flushPartsOf {output} {lengths})'),
             Call('words-of', 'words', 'words ≡ t .words'), Call('count-of', 'n', 'n ≡ t .changed'), Call('records-of', 'after', 'after ≡ t .records'),
-            Call('scatter', 'u', f'{table} ≡ scattered (x₃ .now) (slotsIn words n) after'), Call('code-of', 'r', f'r ≡ {code} (t .answer)'),
+            Call('scatter', 'u', f'{table} ≡ scattered (x₃ .now) (slotsIn words n) after'), Call('code-of', 'r', 'r ≡ updateCode (t .answer)'),
         ],
-        proof=f'told {code} _ (t .answer) e-r ({proof} x₅ (x₀ .now) {p} (x₆ .now) (x₇ .now) (t .answer) ({back} t) {link} {output} {lengths} {table} {few} {put} e-t)')
+        proof=f'gives x₅ x₆ (x₀ .now) {p} {INTO} (t .answer) (putBack t) {link} (flushPartsOf {output} {lengths}) {table} {few} {put} e-t r e-r')
+
+
+WRITING = [Par('shr', 'u8'), Par('shr', 'u8'), Par('mut', 'R'), Par('shr', 'u32')]
+
+
+def written(name, code, promise, paced):
+    """A flush or an update for C: all is given to `write_and_put_back`."""
+    p = parts('(x₁ .now)', '(x₂ .now)', '(x₃ .now)', '(x₄ .now)')
+    link, table, output, lengths = last('r', 0), last('r', 3), last('r', 7), last('r', 8)
+    now = '(x₀ .now) ' + p + ' (flushPartsOf (x₆ .now) (x₇ .now))'
+    end = f"{link} {parts('(x₁ .now)', '(x₂ .now)', table, '(x₄ .now)')} (flushPartsOf {output} {lengths}) r"
+    return dict(
+        crate='ampferweg', name=name, result=CODE, about='Block and table are given to `write_and_put_back`.',
+        pars=[Par('given', 'L')] + WRITING + [Par('val', U32), Par('mut', 'u8'), Par('mut', 'u16')],
+        said=f"Gives {code} (λ a. {promise} x₅ {now} a z₀ {parts('(x₁ .now)', '(x₂ .now)', 'z₃', '(x₄ .now)')} (flushPartsOf z₆ z₇)) r",
+        calls=[Call('paced-of', 'b', f'b ≡ {paced}'), Call('writing', 'r', f'WrittenOut b x₅ {now} {end}')],
+        proof=f'subst (λ y. WrittenOut y x₅ {now} {end}) e-b e-r')
 
 
 def flush():
-    return written('ampferweg_flush', 'write_out', 'countCode', 'FlushPromise', 'putBack', 'FlushLeft', 'flush-promised')
+    return written('ampferweg_flush', 'countCode', 'FlushPromise', 'false')
 
 
 def update():
-    return written('ampferweg_update', 'update_out', 'updateCode', 'UpdatePromise', 'updatedBack', 'UpdateLeft', 'update-promised')
+    return written('ampferweg_update', 'updateCode', 'UpdatePromise', 'true')
 
 
-CALLS = {'open': open_, 'send': send, 'take_in': take_in, 'input': input_, 'write_out': write_out, 'flush': flush, 'update_out': update_out, 'update': update,
+CALLS = {'open': open_, 'send': send, 'take_in': take_in, 'input': input_, 'write_out': write_out, 'put_back': put_back, 'flush': flush, 'update': update,
          'check': check, 'read': read, 'size': size, 'show': show}
+
+
+
+def named_from(crate):
+    """The modules of NAMES as this crate names them: one of its own as it stands, another's by its public name."""
+    outside = lambda m: m[0] if m[1] == crate else f'Rattle.{m[1]}.{m[2]}'
+    return {re.sub(r'^Rattle·(\w+)·(specs|proofs)\.\2', outside, module): what for module, what in NAMES.items()}
+
 
 if __name__ == '__main__':
     for which in sys.argv[1:] or CALLS:
-        write(types=TYPES, names=NAMES, declared=DECLARED, **CALLS[which]())
+        call = CALLS[which]()
+        write(types=TYPES, names=named_from(call['crate']), declared=DECLARED, **call)

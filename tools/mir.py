@@ -9,6 +9,7 @@ from layout import ROOT, fields
 from proof import proof_file
 from rows import row
 from walk import Walk, low, words
+from wrap import wrapped
 
 
 def parse(text):
@@ -247,4 +248,4 @@ def write(crate, name, pars, result, said, proof, calls, types, names, declared,
     folder = os.path.join(ROOT, 'crates', crate, 'proofs', name)
     os.makedirs(folder, exist_ok=True)
     with open(os.path.join(folder, 'Proof.antt'), 'w') as f:
-        f.write(proof_file(walk))
+        f.write(wrapped(proof_file(walk)))

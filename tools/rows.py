@@ -54,6 +54,18 @@ class Truth:
     def makes(self):
         return '(bool-makes 𝓤 H A W)'
 
+    def vals(self):
+        return 'bool-vals'
+
+    def tells(self):
+        return 'bool-tells'
+
+    def val(self, x):
+        return f'(vbool ({x}))'
+
+    def slot(self):
+        return '(plain (λ _. Boolean))'
+
 
 class Nothing:
     row, denot, uses = 'unit', 'Unit {0}', []

@@ -4,42 +4,16 @@
 set -u
 root=$(cd "$(dirname "$0")/../.." && pwd)
 archive=${1:-$root/target/staticlib/libampferweg.a}
-here=$root/examples/udp
-work=$root/target/examples
+work=$root/target/examples/udp
 port=${AMPFERWEG_PORT:-46300}
-[ -f "$archive" ] || { echo "check.sh: $archive is missing: run 'make' first" >&2; exit 2; }
-archive=$(cd "$(dirname "$archive")" && pwd)/$(basename "$archive")
 rm -rf "$work"
-mkdir -p "$work"
+# shellcheck source=examples/udp/programs.sh
+. "$root/examples/udp/programs.sh"
+build "$archive" station relay hub hello_check
+archive=$(cd "$(dirname "$archive")" && pwd)/$(basename "$archive")
 cd "$work" || exit 2
-
-flags="-std=c99 -O2 -Wall -Wextra -Wpedantic -Wshadow -Wconversion -Werror -I $root/include"
-# shellcheck disable=SC2086
-"${CC:-cc}" $flags "$here/station.c" "$here/options.c" "$here/udp.c" "$archive" -o station &&
-    "${CC:-cc}" $flags "$here/relay.c" "$here/options.c" "$here/udp.c" -o relay &&
-    "${CC:-cc}" $flags "$here/hello_check.c" "$archive" -o hello_check || exit 2
-
-# Programs that were started and not waited for.
-running=''
-stop() {
-    for p in $running; do kill -9 "$p"; done 2>/dev/null
-    for p in $running; do wait "$p"; done 2>/dev/null
-    running=''
-}
-trap stop EXIT
-trap 'exit 130' INT TERM
 passed=0
 failed=0
-
-# Waits for a program's end, and gives its status.
-await() { # PROCESS
-    wait "$1"
-    status=$?
-    left=''
-    for p in $running; do [ "$p" = "$1" ] || left="$left $p"; done
-    running=$left
-    return $status
-}
 
 # Runs a check, and ends what it has left running.
 try() { # NAME FUNCTION
@@ -53,23 +27,6 @@ try() { # NAME FUNCTION
     fi
     stop
     rm -f ./*.out
-}
-
-# Starts a program under a name: what it says goes to NAME.out, its process is $started.
-start() { # NAME PROGRAM OPTIONS..
-    out=$1.out
-    shift
-    program=$1
-    shift
-    : >"$out" # what an earlier one said is not its own
-    "./$program" "$@" >"$out" 2>&1 &
-    started=$!
-    running="$running $started"
-    for _ in 1 2 3 4 5 6 7 8 9 10 11 12 13 14 15 16 17 18 19 20; do
-        grep -q 'listens on port' "$out" && return 0
-        sleep 0.05
-    done
-    return 1
 }
 
 # A station on port FIRST + N whose peer is on FIRST + M.
@@ -112,13 +69,13 @@ half_is_lost() {
         n=$((3 * seed - 3))
         start "relay$seed" relay --port $((port + n)) --left 127.0.0.1:$((port + n + 1)) --right 127.0.0.1:$((port + n + 2)) \
             --drop 50 --seed "$seed" || return 1
-        begin "left$seed" $((n + 1)) "$n" --mode 2 --expect 24 --send "$here/recipes/left.txt" --save "left$seed.txt" --seconds 25 || return 1
+        begin "left$seed" $((n + 1)) "$n" --mode 2 --expect 24 --send "$udp/recipes/left.txt" --save "left$seed.txt" --seconds 25 || return 1
         pids="$pids $started"
-        begin "right$seed" $((n + 2)) "$n" --mode 2 --expect 24 --send "$here/recipes/right.txt" --save "right$seed.txt" --seconds 25 || return 1
+        begin "right$seed" $((n + 2)) "$n" --mode 2 --expect 24 --send "$udp/recipes/right.txt" --save "right$seed.txt" --seconds 25 || return 1
         pids="$pids $started"
     done
     for process in $pids; do await "$process" || return 1; done
-    for seed in 1 2 3; do cmp "left$seed.txt" "$here/recipes/right.txt" && cmp "right$seed.txt" "$here/recipes/left.txt" || return 1; done
+    for seed in 1 2 3; do cmp "left$seed.txt" "$udp/recipes/right.txt" && cmp "right$seed.txt" "$udp/recipes/left.txt" || return 1; done
 }
 
 reasons() {
@@ -160,10 +117,10 @@ full_frames() {
 # run.sh refuses ports that cannot be, and advises ports that can.
 ports() {
     for wrong in 0 65534 99999 070 x 4294967297; do
-        refused 'is the first of three ports' env AMPFERWEG_PORT=$wrong "$here/run.sh" "$archive" || return 1
+        refused 'is the first of three ports' env AMPFERWEG_PORT=$wrong "$udp/run.sh" "$archive" || return 1
     done
     start taken relay --port 65502 --left 127.0.0.1:1 --right 127.0.0.1:2 || return 1
-    AMPFERWEG_PORT=65500 "$here/run.sh" "$archive" >advice.out 2>&1 && return 1
+    AMPFERWEG_PORT=65500 "$udp/run.sh" "$archive" >advice.out 2>&1 && return 1
     grep -q 'AMPFERWEG_PORT=46100 .* tries other ports' advice.out
 }
 
@@ -289,6 +246,25 @@ silence() {
     grep -q 'heard nothing for 500 ms' waits.out && ! grep 'heard nothing' idle.out
 }
 
+# Three stations speak to the hub's one port, each on a link of its own; a fourth one's conversation is no link's.
+hub() {
+    start hub hub --port "$port" --links 4 --conv 10 --print 1 || return 1
+    middle=$started
+    pids=''
+    for n in 1 2 3; do
+        sed "s/^/line $n: /" "$udp/recipes/left.txt" >"said$n.txt"
+        begin "line$n" "$n" 0 --conv $((9 + n)) --expect 24 --send "said$n.txt" --save "back$n.txt" --seconds 15 || return 1
+        pids="$pids $started"
+    done
+    begin stranger 4 0 --conv 99 --expect 1 --send said1.txt --seconds 1 || return 1
+    await "$started" && return 1
+    for process in $pids; do await "$process" || return 1; done
+    end "$middle" || return 1
+    for n in 1 2 3; do cmp "said$n.txt" "back$n.txt" && grep -q "^link $((9 + n)): 24 messages; " hub.out || return 1; done
+    grep -q '^link 13: 0 messages; 0 datagrams in, 0 out' hub.out && grep -q '^hub: [1-9][0-9]* datagrams of no link' hub.out &&
+        grep -q '^link 12: settings: conv 12, mtu 256, mode 1' hub.out
+}
+
 try 'a file without a final newline is sent whole' no_final_newline
 try 'without --expect a station runs on' runs_on
 try 'the last acknowledgements arrive where half is lost' half_is_lost
@@ -296,6 +272,7 @@ try 'a refused datagram is said with its reason' reasons
 try 'a wrong address is refused' addresses
 try 'an option beside a settings file is refused' settings
 try 'an mtu of 1,400, kept in a settings file of version 2' full_frames
+try 'an array of links on one socket' hub
 try "run.sh's ports" ports
 try 'a signal ends a station with its summary' interrupted
 try 'hellos, also late ones' ./hello_check

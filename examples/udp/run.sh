@@ -6,7 +6,6 @@
 set -u
 root=$(cd "$(dirname "$0")/../.." && pwd)
 archive=${1:-$root/target/staticlib/libampferweg.a}
-here=$root/examples/udp
 work=$root/target/demo
 port=${AMPFERWEG_PORT:-46100}
 seed=${AMPFERWEG_SEED:-1}
@@ -18,62 +17,43 @@ if [ "$port" -lt 1 ] || [ "$port" -gt 65533 ]; then
     exit 2
 fi
 other=$((port < 65400 ? port + 100 : 46100)) # advised where one of the ports is taken
-mkdir -p "$work"
+# shellcheck source=examples/udp/programs.sh
+. "$root/examples/udp/programs.sh"
 rm -f "$work"/*.txt
-
-programs=${AMPFERWEG_PROGRAMS:-$work}
-flags="-std=c99 -O2 -Wall -Wextra -Wpedantic -Werror -I $root/include"
-if [ "$programs" = "$work" ]; then
-    [ -f "$archive" ] || { echo "run.sh: $archive is missing: run 'make' first" >&2; exit 2; }
-    # shellcheck disable=SC2086
-    "${CC:-cc}" $flags "$here/station.c" "$here/options.c" "$here/udp.c" "$archive" -o "$work/station" &&
-        "${CC:-cc}" $flags "$here/relay.c" "$here/options.c" "$here/udp.c" -o "$work/relay" || exit 2
-fi
+[ "$programs" != "$work" ] || build "$archive" station relay
 
 # both stations open with the settings of one file
 "$programs/station" --name line --conv 7 --keep "$work/line.kls" || exit 1
 
 middle=$port left=$((port + 1)) right=$((port + 2))
-relay='' one='' two=''
-stop() { for p in $relay $one $two; do kill "$p" 2>/dev/null; done; }
-trap stop EXIT
-trap 'exit 130' INT TERM
 
-station() { # NAME OWN-PORT RECIPES HEARS
-    exec "$programs/station" --name "$1" --port "$2" --peer "127.0.0.1:$middle" --settings "$work/line.kls" --hold 300 --send "$here/recipes/$3.txt" \
-        --expect "$(wc -l <"$here/recipes/$4.txt")" --save "$work/$1-heard.txt"
-}
-
-# Waits until a program says that it listens; it says why on standard error where it cannot.
-listens() { # NAME
-    for _ in 1 2 3 4 5 6 7 8 9 10 11 12 13 14 15 16 17 18 19 20; do
-        grep -qs 'listens on port' "$work/$1.txt" && return 0
-        sleep 0.1
-    done
+# Starts a program, or says why it does not run.
+runs() { # NAME PROGRAM OPTIONS..
+    start "$@" && return 0
+    cat "$work/$1.out" >&2
     echo "demo: FAILED: $1 does not run. AMPFERWEG_PORT=$other $0 tries other ports." >&2
     exit 1
 }
 
-echo "left and right, over a network that loses 10 in 100 datagrams, repeats 5 and holds back 10"
-"$programs/relay" --port "$middle" --left "127.0.0.1:$left" --right "127.0.0.1:$right" --seed "$seed" >"$work/relay.txt" &
-relay=$!
-listens relay
-station left "$left" left right >"$work/left.txt" &
-one=$!
-station right "$right" right left >"$work/right.txt" &
-two=$!
-listens left
-listens right
-wait "$one"; left_status=$?
-wait "$two"; right_status=$?
-one='' two=''
-kill "$relay" 2>/dev/null
-wait "$relay"
-relay=''
+station() { # NAME OWN-PORT RECIPES HEARS
+    runs "$1" station --name "$1" --port "$2" --peer "127.0.0.1:$middle" --settings "$work/line.kls" --hold 300 --send "$udp/recipes/$3.txt" \
+        --expect "$(wc -l <"$udp/recipes/$4.txt")" --save "$work/$1-heard.txt"
+}
 
-cat "$work/left.txt" "$work/right.txt" "$work/relay.txt"
-same() { cmp "$work/left-heard.txt" "$here/recipes/right.txt" && cmp "$work/right-heard.txt" "$here/recipes/left.txt"; }
-number() { sed -n "s/.* \([0-9]*\) $1.*/\1/p" "$work/relay.txt" "$work/left.txt" "$work/right.txt" | awk '{ sum += $1 } END { print sum + 0 }'; }
+echo "left and right, over a network that loses 10 in 100 datagrams, repeats 5 and holds back 10"
+runs relay relay --port "$middle" --left "127.0.0.1:$left" --right "127.0.0.1:$right" --seed "$seed"
+relay=$started
+station left "$left" left right
+one=$started
+station right "$right" right left
+two=$started
+await "$one"; left_status=$?
+await "$two"; right_status=$?
+end "$relay"
+
+cat "$work/left.out" "$work/right.out" "$work/relay.out"
+same() { cmp "$work/left-heard.txt" "$udp/recipes/right.txt" && cmp "$work/right-heard.txt" "$udp/recipes/left.txt"; }
+number() { sed -n "s/.* \([0-9]*\) $1.*/\1/p" "$work/relay.out" "$work/left.out" "$work/right.out" | awk '{ sum += $1 } END { print sum + 0 }'; }
 if [ "$left_status" -eq 0 ] && [ "$right_status" -eq 0 ] && same; then
     echo "demo: $(number 'messages sent') recipes sent, all delivered once and in order;" \
         "$(number lost) datagrams lost, $(number 'of them retransmissions') retransmissions"

@@ -22,8 +22,8 @@ enum { QUIET_MS = 2000, LINGER_MS = 20000, TELL_MS = 100 };
 AMPFERWEG_STATION_STORAGE(station, MTU_MOST);
 
 static const char *name = "station", *peer_text, *send_file, *save_file, *settings_file, *keep_file;
-static uint32_t port, conv = 1, mtu = 256, mode = 1, interval = 10, threshold = 2, congestion;
-static uint32_t expect, hold, seconds = 20, hello_ms, silence = 5000;
+static uint32_t port, conv = 1, mtu = 256, mode = 1, interval = 10, threshold = 2, stream, congestion;
+static uint32_t expect, hold, seconds = 20, hello_ms, silence = 5000, raw;
 
 static const struct option options[] = {
     {"port", "PORT", "the port to listen on", NULL, &port, 1, 65535},
@@ -42,6 +42,8 @@ static const struct option options[] = {
     {"interval", "MS", "milliseconds between flushes at most (default 10)", NULL, &interval, 10, 5000},
     {"threshold", "SKIPS", "skips before a fast retransmission, 0 for none (default 2)", NULL, &threshold, 0, 100},
     {"congestion", "0|1", "1: send no more than the congestion window lets (default 0)", NULL, &congestion, 0, 1},
+    {"stream", "0|1", "1: send a stream of bytes, not messages; wants --raw 1 (default 0)", NULL, &stream, 0, 1},
+    {"raw", "0|1", "1: a line goes with its newline, and bytes are saved as they come: --expect is newlines (default 0)", NULL, &raw, 0, 1},
     {"keep", "FILE", "write these settings to a settings file, and end", &keep_file, NULL, 0, 0},
     {"settings", "FILE", "open with the settings of a settings file", &settings_file, NULL, 0, 0},
 };
@@ -50,7 +52,7 @@ static struct sockaddr_in peer;
 static int udp, saved = -1, expects, opened;
 static struct hello hello;
 static struct {
-    unsigned sent, acknowledged, again, heard, datagrams_sent, datagrams_heard, datagrams_refused, pushes, retransmissions;
+    unsigned sent, acknowledged, again, heard, datagrams_sent, datagrams_heard, datagrams_refused;
     unsigned refused[NUMBERS]; /* by refusal number */
 } count;
 static volatile sig_atomic_t ended;
@@ -61,16 +63,11 @@ static void end(int signal)
     ended = 1;
 }
 
-static uint32_t number_at(const uint8_t *bytes)
-{
-    return bytes[0] | (uint32_t)bytes[1] << 8 | (uint32_t)bytes[2] << 16 | (uint32_t)bytes[3] << 24;
-}
-
 /* ---- what is sent ---- */
 
 static char lines[FILE_MOST];
 static const char *first_line, *next_line, *lines_end; /* the first that is not acknowledged, the next to be sent */
-static uint32_t first_number, top;                      /* of the first one's first segment, and past all that were sent */
+static uint32_t first_number;                           /* of the first one's first segment */
 
 static void fail(const char *what, const char *why)
 {
@@ -90,20 +87,21 @@ static void read_lines(void)
     lines_end = lines + all;
 }
 
-/* The end of the message that begins here, and where the next one begins. */
-static const char *end_of(const char *line, const char **next)
+/* The bytes of the message that begins here, and where the next one begins. */
+static size_t message_at(const char *line, const char **next)
 {
     const char *end = memchr(line, '\n', (size_t)(lines_end - line));
     *next = end == NULL ? lines_end : end + 1;
-    return end == NULL ? lines_end : end;
+    return (size_t)((end == NULL || raw ? *next : end) - line);
 }
 
 /* Gives the link as many messages as it has slots for. */
 static void send_messages(void)
 {
     while (next_line < lines_end) {
-        const char *next, *end_line = end_of(next_line, &next);
-        const ampferweg_result result = ampferweg_station_send(&station, next_line, (size_t)(end_line - next_line));
+        const char *next;
+        const size_t len = message_at(next_line, &next);
+        const ampferweg_result result = ampferweg_station_send(&station, next_line, len);
         if (result == -AMPFERWEG_NO_FREE_SLOTS) return;
         if (result < 0) fail("a message cannot be sent", ampferweg_text(result));
         count.sent++;
@@ -116,33 +114,18 @@ static void send_messages(void)
 static void acknowledge(uint32_t una)
 {
     static int said;
-    if ((int32_t)(una - top) > 0) {
+    if ((int32_t)(una - station.link.flight.next) > 0) {
         if (!said++) fprintf(stderr, "%s: the peer acknowledges what was never sent: the two were not opened together\n", name);
         return;
     }
     while (first_line < next_line) {
         const char *next;
-        const size_t len = (size_t)(end_of(first_line, &next) - first_line), mss = AMPFERWEG_MSS(mtu);
+        const size_t len = message_at(first_line, &next), mss = AMPFERWEG_MSS(mtu);
         const uint32_t after = first_number + (uint32_t)(len == 0 ? 1 : (len + mss - 1) / mss);
-        if ((int32_t)(una - after) < 0) return;
+        if (stream ? ampferweg_station_pending(&station) > 0 : (int32_t)(una - after) < 0) return; /* a stream's lines share segments */
         count.acknowledged++;
         first_line = next;
         first_number = after;
-    }
-}
-
-/* A push whose number is not beyond all before it is a retransmission. */
-static void count_pushes(const uint8_t *datagram, size_t len)
-{
-    while (len >= HEADER) {
-        const uint32_t sn = number_at(datagram + 12);
-        const size_t size = HEADER + number_at(datagram + 20);
-        if (datagram[4] == PUSH) {
-            count.pushes++;
-            if ((int32_t)(sn - top) < 0) count.retransmissions++; else top = sn + 1;
-        }
-        datagram += size;
-        len -= size;
     }
 }
 
@@ -153,7 +136,6 @@ static void transmit(void *context, const uint8_t *datagram, size_t len)
 {
     (void)context;
     count.datagrams_sent++;
-    count_pushes(datagram, len);
     memcpy(last_header, datagram, HEADER);
     told = 1;
     udp_send(udp, &peer, datagram, len);
@@ -176,13 +158,12 @@ static void tell_again(void)
 /* Opens the link. What an earlier one did not get acknowledged is sent again. */
 static void open_link(uint32_t conversation)
 {
-    const ampferweg_result result =
-        ampferweg_open(&station.link, conversation, mtu, mode, interval, threshold, 0, congestion, AMPFERWEG_PARTS(&station));
-    if (result < 0) fail("mtu, mode, interval or threshold", ampferweg_text(result));
+    if (ampferweg_station_open_numbers(&station, conversation, mtu, mode, interval, threshold, stream, congestion) < 0)
+        fail("the link cannot be opened", ampferweg_station_why(&station));
     count.again += count.sent - count.acknowledged;
     count.sent = count.acknowledged;
     next_line = first_line;
-    first_number = top = 0;
+    first_number = 0;
     told = 0;
     opened = 1;
 }
@@ -195,15 +176,22 @@ static void save(const char *line, size_t len)
     if (saved >= 0 && write(saved, line, len) != (ssize_t)len) fail(save_file, "this file cannot be written");
 }
 
+/* Counts what is heard: messages, or newlines of bytes that come as they come. */
+static void count_heard(const char *bytes, size_t len)
+{
+    if (!raw) count.heard++;
+    for (; raw && len > 0; len--) count.heard += *bytes++ == '\n';
+}
+
 static void read_messages(void)
 {
     static char message[AMPFERWEG_MESSAGE_SIZE(MTU_MOST) + 1];
     ampferweg_result len;
     while ((len = ampferweg_station_read(&station, message, sizeof message - 1)) >= 0) {
-        count.heard++;
+        count_heard(message, (size_t)len);
         message[len] = '\n';
-        save(message, (size_t)len + 1);
-        printf("%s hears %u: %.*s%s (%d bytes)\n", name, count.heard, len < 60 ? (int)len : 60, message, len < 60 ? "" : " ..", (int)len);
+        save(message, (size_t)len + !raw);
+        if (!raw) printf("%s hears %u: %.*s%s (%d bytes)\n", name, count.heard, len < 60 ? (int)len : 60, message, len < 60 ? "" : " ..", (int)len);
     }
 }
 
@@ -222,9 +210,9 @@ static uint32_t heard_at, data_at; /* when the peer was last heard, and last sen
 static void note(const uint8_t *datagram, size_t len)
 {
     while (len >= HEADER) {
-        const size_t size = HEADER + number_at(datagram + 20);
+        const size_t size = HEADER + ampferweg_number_at(datagram + 20);
         if (datagram[4] == PUSH) data_at = heard_at;
-        acknowledge(number_at(datagram + 16));
+        acknowledge(ampferweg_number_at(datagram + 16));
         datagram += size;
         len -= size;
     }
@@ -349,8 +337,7 @@ static void linger(uint32_t start)
 static void keep_settings(void)
 {
     uint8_t file[AMPFERWEG_SETTINGS_FILE_SIZE];
-    const ampferweg_result result = ampferweg_settings_write(conv, mtu, mode, interval, threshold, 0, congestion, file,
-        sizeof file);
+    const ampferweg_result result = ampferweg_settings_write(conv, mtu, mode, interval, threshold, stream, congestion, file, sizeof file);
     int out;
     if (result < 0) fail(keep_file, ampferweg_text(result));
     out = open(keep_file, O_WRONLY | O_CREAT | O_TRUNC, 0666);
@@ -364,13 +351,11 @@ static void read_settings(void)
     uint8_t file[AMPFERWEG_SETTINGS_FILE_SIZE + 1];
     const int in = open(settings_file, O_RDONLY);
     const ssize_t len = in < 0 ? -1 : read(in, file, sizeof file);
-    uint32_t stream = 0;
     ampferweg_result result;
     if (len < 0) fail(settings_file, "this file cannot be read");
     close(in);
     result = ampferweg_settings_read(file, (size_t)len, &conv, &mtu, &mode, &interval, &threshold, &stream, &congestion);
     if (result < 0) fail(settings_file, ampferweg_text(result));
-    if (stream != 0) fail(settings_file, "this station sends messages: stream is 1 in this file");
 }
 
 /* Numbers that no earlier boot had. */
@@ -389,6 +374,7 @@ static void prepare(void)
     if (port == 0 || peer_text == NULL) fail("--port and --peer are wanted", "--help lists the options");
     peer = udp_address("station", peer_text);
     if (settings_file != NULL) read_settings();
+    if (stream && !raw) fail("a stream keeps no ends of lines", "say --raw 1 too");
     if (hello_ms > 0) begin_hello();
     else open_link(conv);
     if (send_file != NULL) read_lines();
@@ -400,7 +386,7 @@ static void prepare(void)
 /* A settings file says all settings; an option beside it would say one of them twice. */
 static void check_options(int argc, char **argv)
 {
-    static const char *const others[] = {"conv", "mtu", "mode", "interval", "threshold", "congestion", "keep"};
+    static const char *const others[] = {"conv", "mtu", "mode", "interval", "threshold", "stream", "congestion", "keep"};
     size_t i;
     expects = option_given(argc, argv, "expect");
     for (i = 0; settings_file != NULL && i < sizeof others / sizeof *others; i++) {
@@ -428,8 +414,9 @@ static void summary(void)
     if (count.again > 0) printf(", %u sent again", count.again);
     printf(", %u", count.heard);
     if (expects) printf(" of %lu", (unsigned long)expect);
-    printf(" heard; %u datagrams sent, %u heard, %u refused; %u segments sent, %u of them retransmissions\n",
-        count.datagrams_sent, count.datagrams_heard, count.datagrams_refused, count.pushes, count.retransmissions);
+    printf(" heard; %u datagrams sent, %u heard, %u refused; %lu segments sent, %lu of them retransmissions\n",
+        count.datagrams_sent, count.datagrams_heard, count.datagrams_refused, (unsigned long)station.counters.segments_out,
+        (unsigned long)station.counters.retransmissions);
     for (number = 1; number < NUMBERS; number++)
         if (count.refused[number] > 0) printf("%s: %u datagrams %s\n", name, count.refused[number], ampferweg_text(-number));
     printf("%s: congestion window %lu segments, threshold %lu%s\n", name, (unsigned long)station.link.flight.congestion.window,

@@ -1,57 +1,22 @@
 /* Plays a script of calls (standard input) through the C interface and writes the answers (standard output).
  *
- * One command a line: open CONV MTU MODE INTERVAL THRESHOLD [STREAM [CONGESTION]], send HEX, input HEX, flush TIME, update TIME, check TIME, read ROOM,
- * size, show, state, held, jump SND RCV, lend PART COUNT, poke FIELD VALUE, hold LIST INDEX FIELD VALUE, rec SLOT NUMBER DUE TIMEOUT SKIPS.
+ * One command a line: open CONV MTU MODE INTERVAL THRESHOLD [STREAM [CONGESTION]], send HEX, input HEX, flush TIME, update TIME,
+ * check TIME, read ROOM, size, show, state, held, jump SND RCV, lend PART COUNT, poke FIELD VALUE, hold LIST INDEX FIELD VALUE,
+ * rec SLOT NUMBER DUE TIMEOUT SKIPS.
  * The parts are those of an mtu of 256. tests/vectors has scripts with the answers that they must get. */
+#include "script.h"
 #include <ampferweg.h>
 #include <inttypes.h>
-#include <stdio.h>
-#include <string.h>
 
-enum { SCRIPT_MOST = 1 << 20, LINE_MOST = 65000, WORDS_MOST = 8, ROOM_MOST = 60000 };
+enum { ROOM_MOST = 60000 };
 
 AMPFERWEG_STATION_STORAGE(station, 256);
 
-static char script[SCRIPT_MOST + 1];
 static uint8_t bytes[LINE_MOST];          /* of a send or an input */
 static uint8_t buffer[ROOM_MOST];         /* of a read */
 static int opened, just_opened, after_open; /* after_open: the last line was an accepted open */
 
-static const char *word[WORDS_MOST];
-static size_t word_len[WORDS_MOST], words;
-
 /* ---- reading a line ---- */
-
-/* Cuts a line into words parted by single spaces; 0 where it is not so made. */
-static int cut_line(const char *line, size_t len)
-{
-    size_t i, start = 0;
-    words = 0;
-    for (i = 0; i <= len; i++) {
-        if (i < len && line[i] != ' ') continue;
-        if (i == start || words == WORDS_MOST) return 0;
-        word[words] = line + start;
-        word_len[words++] = i - start;
-        start = i + 1;
-    }
-    return 1;
-}
-
-static int is(size_t i, const char *text) { return word_len[i] == strlen(text) && memcmp(word[i], text, word_len[i]) == 0; }
-
-/* A decimal number without leading zeros, at most 4294967295. */
-static int number_at(size_t i, uint32_t *value)
-{
-    uint64_t sum = 0;
-    size_t k;
-    if (word_len[i] > 10 || (word_len[i] > 1 && word[i][0] == '0')) return 0;
-    for (k = 0; k < word_len[i]; k++) {
-        if (word[i][k] < '0' || word[i][k] > '9') return 0;
-        sum = 10 * sum + (uint64_t)(word[i][k] - '0');
-    }
-    *value = (uint32_t)sum;
-    return sum <= UINT32_MAX;
-}
 
 /* All words from the second on as numbers, `count` of them. */
 static int numbers(uint32_t *values, size_t count)
@@ -59,42 +24,21 @@ static int numbers(uint32_t *values, size_t count)
     size_t i;
     if (words != count + 1) return 0;
     for (i = 0; i < count; i++)
-        if (!number_at(i + 1, &values[i])) return 0;
+        if (!number_word(i + 1, UINT32_MAX, &values[i])) return 0;
     return 1;
-}
-
-static int digit(char c)
-{
-    if (c >= '0' && c <= '9') return c - '0';
-    return c >= 'a' && c <= 'f' ? c - 'a' + 10 : -1;
 }
 
 /* The second word as bytes in lower-case hex, `-` for none. */
-static int hex(size_t *len)
-{
-    size_t k;
-    *len = 0;
-    if (words != 2) return 0;
-    if (is(1, "-")) return 1;
-    if (word_len[1] % 2 != 0) return 0;
-    for (k = 0; k < word_len[1]; k += 2) {
-        const int high = digit(word[1][k]), low = digit(word[1][k + 1]);
-        if (high < 0 || low < 0) return 0;
-        bytes[(*len)++] = (uint8_t)(16 * high + low);
-    }
-    return 1;
-}
+static int hex(size_t *len) { return words == 2 && bytes_word(1, bytes, len); }
 
 /* ---- writing an answer ---- */
 
 static void malformed(void) { puts("malformed"); }
 
-static void say_bytes(const char *what, const uint8_t *from, size_t len)
+static void say_part(const char *what, const uint8_t *from, size_t len)
 {
-    size_t i;
-    printf("%s ", what);
-    if (len == 0) putchar('-');
-    for (i = 0; i < len; i++) printf("%02x", (unsigned)from[i]);
+    fputs(what, stdout);
+    say_bytes(from, len);
     putchar('\n');
 }
 
@@ -145,7 +89,7 @@ static void play_input(void)
 static void say_datagram(void *context, const uint8_t *datagram, size_t len)
 {
     (void)context;
-    say_bytes("datagram", datagram, len);
+    say_part("datagram", datagram, len);
 }
 
 static void play_flush(void)
@@ -183,7 +127,7 @@ static void play_read(void)
     ampferweg_result count;
     if (!numbers(&room, 1) || room > ROOM_MOST) { malformed(); return; }
     count = ampferweg_station_read(&station, buffer, room);
-    if (count < 0) say_refused(count); else say_bytes("message", buffer, (size_t)count);
+    if (count < 0) say_refused(count); else say_part("message", buffer, (size_t)count);
 }
 
 static void play_size(void)
@@ -198,7 +142,7 @@ static void play_show(void)
 {
     size_t len;
     const uint8_t *part = ampferweg_station_show(&station, &len);
-    if (words != 1) malformed(); else say_bytes("part", part, len);
+    if (words != 1) malformed(); else say_part("part", part, len);
 }
 
 static void play_state(void)
@@ -359,27 +303,14 @@ static const struct { const char *name; void (*play)(void); } commands[] = {
     {"jump", play_jump}, {"lend", play_lend}, {"poke", play_poke}, {"hold", play_hold}, {"rec", play_rec},
 };
 
-static void play_line(const char *line, size_t len)
+static int play_line(void)
 {
     size_t i;
     after_open = just_opened;
     just_opened = 0;
-    if (len > LINE_MOST || !cut_line(line, len)) { malformed(); return; }
     for (i = 0; i < sizeof commands / sizeof *commands; i++)
-        if (is(0, commands[i].name)) { commands[i].play(); return; }
-    malformed();
-}
-
-int main(void)
-{
-    const size_t len = fread(script, 1, sizeof script, stdin);
-    size_t i, start = 0;
-    if (len > SCRIPT_MOST) { puts("too long"); return 0; }
-    for (i = 0; i < len; i++) {
-        if (script[i] != '\n') continue;
-        play_line(script + start, i - start);
-        start = i + 1;
-    }
-    if (start < len) malformed();
+        if (is_word(0, commands[i].name)) { commands[i].play(); return 1; }
     return 0;
 }
+
+int main(void) { return play_script(play_line); }

@@ -23,22 +23,8 @@ cd "$root/tests/host" || exit 2
 cc=${CC:-cc}
 cxx=${CXX:-c++}
 flags="$CFLAGS -Wall -Wextra -Wpedantic -Wshadow -Wconversion -Werror -I $root/include"
-passed=0
-failed=0
-
-# Runs a command, and prints one line: its name, and the last line that it wrote, or that it failed and why.
-try() { # NAME COMMAND..
-    name=$1
-    shift
-    if "$@" >"$work/log" 2>&1; then
-        passed=$((passed + 1))
-        printf '%-28s %s\n' "$name" "$(tail -n 1 "$work/log")"
-    else
-        failed=$((failed + 1))
-        printf '%-28s FAILED\n' "$name"
-        head -n 20 "$work/log"
-    fi
-}
+# shellcheck source=tests/try.sh
+. "$root/tests/try.sh"
 
 # The header with a station of its own, in each language, and the example at its top.
 compiles() { # COMPILER.. FILE
@@ -58,7 +44,7 @@ header_checks() {
     if command -v "$cxx" >/dev/null; then
         for standard in c++98 c++17; do try "header as $standard" compiles "$cxx" -std=$standard "$work/header.cc"; done
     else
-        echo "header as C++                not checked: there is no $cxx here"
+        echo "header as C++                  not checked: there is no $cxx here"
     fi
 }
 
@@ -86,13 +72,52 @@ build() { # SUFFIX NAME FLAGS..
 program_checks() { # SUFFIX FLAGS..
     suffix=$1
     shift
-    for name in layout calls refusals strangers session stream settings replay; do
-        build "$suffix" $name "$@" || { failed=$((failed + 1)); echo "$name, $suffix: FAILED to build"; continue; }
+    for name in layout calls refusals strangers session stream settings station replay; do
+        build "$suffix" $name "$@" || { broken "$name, $suffix"; continue; }
         # shellcheck disable=SC2086
         [ "$name" = replay ] || try "$name, $suffix" $emulator "$work/$name-$suffix"
     done
     # shellcheck disable=SC2086
-    "$cc" -std=c99 "$@" $flags play.c play_parity.c "$tags" "$parity" "$archive" -o "$work/play-$suffix" || { failed=$((failed + 1)); echo "play, $suffix: FAILED to build"; }
+    "$cc" -std=c99 "$@" $flags play.c play_parity.c "$tags" "$parity" "$archive" -o "$work/play-$suffix" || broken "play, $suffix"
+}
+
+# Headers whose block is not the archive's, and no assertion to say so: opening a station tells.
+other_headers() {
+    mkdir -p "$work/other"
+    echo 'int main(void) { return ampferweg_station_open(&one, 7, 256, 1, 10, 2) != -13; }' | cat "$work/header.c" - >"$work/other.c"
+    for field in 'ampferweg_held waiting' 'ampferweg_held ready' 'ampferweg_held queued' 'uint8_t transmissions'; do
+        sed "s/^\(    ${field}\)\[\([0-9]*\)\]/\1[\2 + 4]/; s/^\(#define AMPFERWEG_LAYOUT(name, holds)\) .*/\1 struct ampferweg_link/" \
+            "$root/include/ampferweg.h" >"$work/other/ampferweg.h"
+        # shellcheck disable=SC2086
+        "$cc" -std=c99 $CFLAGS -I "$work/other" "$work/other.c" "$archive" -o "$work/other/opens" || return 1
+        # shellcheck disable=SC2086
+        $emulator "$work/other/opens" || { echo "$field: not told"; return 1; }
+    done
+    echo "four headers of another block are told by opening"
+}
+
+# The manual page: every function and macro of the header that a caller uses stands in it, and roff has nothing to say.
+manual() {
+    python3 "$root/dist/man.py" "$root/include/ampferweg.h" "$work/ampferweg.3" || return 1
+    if command -v groff >/dev/null; then
+        groff -ww -man -Tutf8 "$work/ampferweg.3" 2>&1 >/dev/null | grep . && return 1
+    fi
+    sed -n 's/^[a-z][a-z0-9_ ]*[ *]\(ampferweg_[a-z_]*\)(.*/\1/p' "$root/include/ampferweg.h" | grep -v inner_ >"$work/functions"
+    while read -r function; do
+        grep -q "[ *]$function(" "$work/ampferweg.3" || { echo "$function is not in the page"; return 1; }
+    done <"$work/functions"
+    count=$(wc -l <"$work/functions")
+    [ "$count" -ge 30 ] && echo "$count functions, each in the manual page"
+}
+
+# The pictures of docs are those of the data that is there.
+pictures() {
+    mkdir -p "$work/pictures"
+    python3 "$root/docs/pictures/draw.py" "$work/pictures" >/dev/null || return 1
+    for picture in times loss memory; do
+        cmp "$work/pictures/$picture.svg" "$root/docs/pictures/$picture.svg" || { echo "run 'make pictures'"; return 1; }
+    done
+    echo "three pictures, as their data has them"
 }
 
 # Plays every script of a folder, and holds what is answered to the answers beside it.
@@ -118,7 +143,9 @@ installs() {
     # shellcheck disable=SC2046
     "$cc" "$work/installed.c" -o "$work/installed" \
         $(PKG_CONFIG_PATH=$work/prefix/lib/pkgconfig pkg-config --cflags --libs ampferweg) || return 1
-    "$work/installed" && echo "installs, and pkg-config finds it"
+    "$work/installed" && echo "installs, and pkg-config finds it" || return 1
+    command -v python3 >/dev/null || return 0
+    [ -s "$work/prefix/share/man/man3/ampferweg.3" ] && echo "installs with its manual page, and pkg-config finds it"
 }
 
 header_checks
@@ -134,6 +161,13 @@ for suffix in O2 $second; do
     try "vectors, $suffix" plays replay "$suffix" vectors
     try "extras, $suffix" plays play "$suffix" extras
 done
+try "headers of another block" other_headers
+if command -v python3 >/dev/null; then
+    try "manual page" manual
+    try "pictures" pictures
+else
+    echo "manual page and pictures       not checked: there is no python3 here"
+fi
 cp "$work/play-O2" "$work/play"
 try "examples/tags" "$root/examples/tags/run.sh" "$(dirname "$archive")"
 try "examples/parity" "$root/examples/parity/run.sh" "$(dirname "$archive")"
@@ -143,8 +177,7 @@ if [ -n "$emulator" ]; then
 elif command -v pkg-config >/dev/null; then
     try "make install" installs
 else
-    echo "make install                 not checked: there is no pkg-config here"
+    echo "make install                   not checked: there is no pkg-config here"
 fi
 
-echo "host: $passed passed, $failed failed"
-[ "$failed" -eq 0 ]
+counted host

@@ -73,16 +73,23 @@ static void say_bytes(const uint8_t *bytes, size_t len)
     for (i = 0; i < len; i++) printf("%02x", (unsigned)bytes[i]);
 }
 
-/* Plays standard input, line by line; a line that is too long or not cut, or that `play` does not know, is malformed. */
+/* Plays standard input, line by line; a line that is too long or not cut, or that `play` does not know, is malformed, and so is a last
+ * one without its newline. `play` sees a line that is not cut as one empty word. */
 static int play_script(int (*play)(void))
 {
-    const size_t size = fread(script_text, 1, SCRIPT_MOST, stdin);
+    const size_t size = fread(script_text, 1, SCRIPT_MOST + 1, stdin);
     size_t start = 0, i;
+    if (size > SCRIPT_MOST) { puts("too long"); return 0; }
     for (i = 0; i < size; i++) {
         if (script_text[i] != '\n') continue;
-        if (i - start > LINE_MOST || !cut_line(script_text + start, i - start) || !play()) puts("malformed");
+        if (i - start > LINE_MOST || !cut_line(script_text + start, i - start)) {
+            words = 1;
+            word_len[0] = 0;
+        }
+        if (!play()) puts("malformed");
         start = i + 1;
     }
+    if (start < size) puts("malformed");
     return ferror(stdin) || fflush(stdout) != 0;
 }
 

@@ -1,5 +1,5 @@
-// A station that speaks through kcp-go's core type: no encryption, no parity, whole messages. It takes the same options
-// as examples/udp/station, and does the same.
+// A station that speaks through kcp-go: its core type, whole messages, no encryption and no parity; or one of its sessions (session.go).
+// It takes the same options as examples/udp/station, and does the same.
 package main
 
 import (
@@ -13,10 +13,7 @@ import (
 	kcp "github.com/xtaci/kcp-go"
 )
 
-const (
-	sendSlots = 128         // segments accepted and not acknowledged, as our own link has
-	quiet     = time.Second // how long the other station must be silent at the end
-)
+const quiet = time.Second // how long the other station must be silent at the end
 
 var (
 	port     = flag.Int("port", 0, "the port to listen on")
@@ -32,6 +29,9 @@ var (
 	interval = flag.Int("interval", 10, "milliseconds between flushes")
 	fast     = flag.Int("threshold", 2, "skips before a fast retransmission, 0 for none")
 	polite   = flag.Int("congestion", 0, "1: send no more than kcp-go's congestion window lets")
+	sndWnd   = flag.Int("sndwnd", 32, "segments in flight")
+	rcvWnd   = flag.Int("rcvwnd", 128, "segments that may wait to be read")
+	slots    = flag.Int("slots", 128, "segments accepted and not acknowledged")
 )
 
 // must ends the program where something cannot be done.
@@ -48,17 +48,18 @@ type station struct {
 	messages [][]byte
 	heard    [][]byte
 	sent     int
+	refused  map[int]int // by kcp-go's answer
 }
 
 func open() *station {
-	s := &station{}
+	s := &station{refused: map[int]int{}}
 	to, err := net.ResolveUDPAddr("udp4", *peer)
 	must(err, "--peer")
 	s.udp, err = net.ListenUDP("udp4", &net.UDPAddr{Port: *port})
 	must(err, "--port")
 	s.kcp = kcp.NewKCP(uint32(*conv), func(datagram []byte, size int) { s.udp.WriteToUDP(datagram[:size], to) })
 	s.kcp.SetMtu(*mtu)
-	s.kcp.WndSize(32, 128)
+	s.kcp.WndSize(*sndWnd, *rcvWnd)
 	s.kcp.NoDelay(*mode, *interval, *fast, 1-*polite)
 	text, err := os.ReadFile(*sendFile)
 	must(err, "--send")
@@ -71,7 +72,7 @@ func (s *station) send() {
 	mss := *mtu - 24
 	for s.sent < len(s.messages) {
 		message := s.messages[s.sent]
-		if s.kcp.WaitSnd()+(len(message)+mss-1)/mss > sendSlots {
+		if s.kcp.WaitSnd()+(len(message)+mss-1)/mss > *slots {
 			return
 		}
 		if s.kcp.Send(message) != 0 {
@@ -92,7 +93,7 @@ func (s *station) takeIn(until time.Time) (came bool) {
 		}
 		came = true
 		if refused := s.kcp.Input(datagram[:size], true, false); refused != 0 {
-			must(fmt.Errorf("kcp-go answers %d", refused), "input")
+			s.refused[refused]++
 		}
 	}
 }
@@ -111,6 +112,10 @@ func (s *station) complete() bool {
 
 func main() {
 	flag.Parse()
+	if *session {
+		runSession()
+		return
+	}
 	s := open()
 	fmt.Printf("kcp-go: listens on port %d\n", *port)
 	start := time.Now()
@@ -126,7 +131,7 @@ func main() {
 		s.read()
 	}
 	must(os.WriteFile(*saveFile, append(bytes.Join(s.heard, []byte("\n")), '\n'), 0o666), "--save")
-	fmt.Printf("kcp-go: %d of %d messages sent, %d of %d heard\n", s.sent, len(s.messages), len(s.heard), *expect)
+	fmt.Printf("kcp-go: %d of %d messages sent, %d of %d heard, refused %v\n", s.sent, len(s.messages), len(s.heard), *expect, s.refused)
 	if !s.complete() {
 		must(fmt.Errorf("not complete after %d seconds", *seconds), "kcp-go")
 	}

@@ -46,7 +46,8 @@ behind x n una a b c h e = go (decLt (minus x n) (2 ^ 31)) (decLt 0 (minus x n))
 past : (p q : ℕ) → p < q → (not (ltb 0 p && ltb p (2 ^ 31)) && (ltb 0 q && ltb q (2 ^ 31))) ≡ false ⊎ (p ≡ 0)
 past p q h = go (decLt 0 p) (decLt p (2 ^ 31)) (decLt q (2 ^ 31))
   where
-    go : Dec (0 < p) → Dec (p < 2 ^ 31) → Dec (q < 2 ^ 31) → ((not (ltb 0 p && ltb p (2 ^ 31)) && (ltb 0 q && ltb q (2 ^ 31))) ≡ false) ⊎ (p ≡ 0)
+    go : Dec (0 < p) → Dec (p < 2 ^ 31) → Dec (q < 2 ^ 31)
+        → ((not (ltb 0 p && ltb p (2 ^ 31)) && (ltb 0 q && ltb q (2 ^ 31))) ≡ false) ⊎ (p ≡ 0)
     go (no a) b c = inr (omega arith)
     go (yes a) (yes b) c = inl (rw (lt-ltb 0 p a, lt-ltb p (2 ^ 31) b))
     go (yes a) (no b) c = inl (rw (le-ltb q (2 ^ 31) (omega arith), lt-ltb 0 q (omega arith)) (and-false (not (ltb 0 p && ltb p (2 ^ 31)))))
@@ -66,12 +67,14 @@ module _ (una next n : ℕ) (una32 : una < 2 ^ 32) (next32 : next < 2 ^ 32) (n32
     where
       go : (ltb 0 (minus x una) ≡ false) ⊎ (leb (minus x una) (minus next una) ≡ false)
           → (not (ltb 0 (minus x next) && ltb (minus x next) (2 ^ 31)) && (ltb 0 (minus x n) && ltb (minus x n) (2 ^ 31))) ≡ false
-      go (inl f) = rw (behind x n una x32 n32 una32 (omega arith) (omega (arith, ltb-false 0 (minus x una) f))) (and-false (not (ltb 0 (minus x next) && ltb (minus x next) (2 ^ 31))))
+      go (inl f) = rw (behind x n una x32 n32 una32 (omega arith) (omega (arith, ltb-false 0 (minus x una) f)))
+          (and-false (not (ltb 0 (minus x next) && ltb (minus x next) (2 ^ 31))))
       go (inr f) =
           let h : minus next una < minus x una = leb-false (minus x una) (minus next una) f in
           let p = by-way x next una x32 next32 una32 (omega arith) in
           let q = by-way x n una x32 n32 una32 (omega arith) in
-          ⊎-elim (λ r. r) (λ r. absurd (ahead (minus x next) (minus next una) (minus x una) p h r)) (past (minus x next) (minus x n) (less p q near))
+          ⊎-elim (λ r. r) (λ r. absurd (ahead (minus x next) (minus next una) (minus x una) p h r))
+          (past (minus x next) (minus x n) (less p q near))
 
   -- an ack that names none of them
   not-named : (x : ℕ) (b : Bool) → (b && ltb (minus x una) (minus next una)) ≡ false → (b && eqb n x) ≡ false
@@ -82,7 +85,8 @@ neither : (a b : Bool) → a ≡ false → b ≡ false → not (a || b) ≡ true
 neither a b e f = rw (e, f)
 
 pub concerns-is : (h : Header) (una next : ℕ) (r : Bool) → una < 2 ^ 32 → next < 2 ^ 32 → h .una < 2 ^ 32
-    → r ≡ (ltb 0 (minus (h .una) una) && leb (minus (h .una) una) (minus next una) || (eqb (h .cmd) ack && ltb (minus (h .sn) una) (minus next una)))
+    → r ≡ (ltb 0 (minus (h .una) una) && leb (minus (h .una) una) (minus next una)
+    || (eqb (h .cmd) ack && ltb (minus (h .sn) una) (minus next una)))
     → Concerns h una next r
 concerns-is h una next r una32 next32 h32 e = record {
   none = λ f apart n n32 near.

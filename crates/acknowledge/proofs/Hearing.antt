@@ -35,7 +35,8 @@ use Rattle.acknowledge.specs.Hearing.{staysBy, Concerns, timedBy}
 -- ---- the round trip
 
 module _ (c : Settings) (current : ℕ) (h : Header) (rtt : RoundTrip) where
-  pub timed-ack : (r : RoundTrip) → h .cmd ≡ 82 → isDue current (h .ts) ≡ true → r ≡ sampled rtt c (minus current (h .ts)) → r ≡ timedBy c current h rtt
+  pub timed-ack : (r : RoundTrip) → h .cmd ≡ 82 → isDue current (h .ts) ≡ true → r ≡ sampled rtt c (minus current (h .ts))
+      → r ≡ timedBy c current h rtt
   unfolding timedBy
   timed-ack r e d q = rw (eq-eqb (h .cmd) 82 e, d) q
 
@@ -73,7 +74,7 @@ heard-parts c current s h = rw (← (heard-outstanding c current s h), ← (hear
 -- ---- what the code makes of the segments in flight
 
 -- the first number, by the count
-first-is : (ws ts : List ℕ) (rs : List Record) (n next : ℕ) (d : Record) → length ws ≡ 32 → length ts ≡ 32 → length rs ≡ 32
+pub first-is : (ws ts : List ℕ) (rs : List Record) (n next : ℕ) (d : Record) → length ws ≡ 32 → length ts ≡ 32 → length rs ≡ 32
     → cond (ltb 0 n) (getD rs 0 d .number) next ≡ firstNumberOr (joined (outstandingIn ws ts n) rs) next
 unfolding firstNumberOr joined paired
 first-is ws ts rs zero next d e f g = refl
@@ -97,23 +98,37 @@ module _ (c : Settings) (current : ℕ) (v : View) (h : Header) (rtt : RoundTrip
       }
 
   -- those that stay are left
-  pub heard-some : (ws ts : List ℕ) (n : ℕ) (rs : List Record) (una : ℕ) (d : Record) → JoinedIn ws ts n rs (keep (staysBy (v .flight .next) h) (sentIn v)) → length rs ≡ 32
-      → una ≡ cond (ltb 0 n) (getD rs 0 d .number) (v .flight .next)
+  pub heard-some : (ws ts : List ℕ) (n : ℕ) (rs : List Record) (una : ℕ)
+      → JoinedIn ws ts n rs (keep (staysBy (v .flight .next) h) (sentIn v))
+      → una ≡ firstNumberOr (keep (staysBy (v .flight .next) h) (sentIn v)) (v .flight .next)
       → FlightIs (view (after una n) ws ts rs) v (λ s. heardBySending c current s h)
-  heard-some ws ts n rs una d l many g =
-      let first = g ∙ first-is ws ts rs n (v .flight .next) d (l .whole) (l .wholes) many in
-      record { whole = l .whole; wholes = l .wholes; fits = l .fits; queue = refl; half = λ q. rw (heard-parts c current _ h, first, l .list, e) }
+  heard-some ws ts n rs una l first =
+      record {
+        whole = l .whole;
+        wholes = l .wholes;
+        fits = l .fits;
+        queue = refl;
+        half = λ q. rw (heard-parts c current _ h, first, l .list, e);
+      }
 
   -- all stay
   pub heard-none : InOrder v → keep (staysBy (v .flight .next) h) (sentIn v) ≡ sentIn v
-      → FlightIs (view (after (v .flight .una) (v .flight .outstanding)) (v .words) (v .transmissions) (v .records)) v (λ s. heardBySending c current s h)
+      → FlightIs (view (after (v .flight .una) (v .flight .outstanding)) (v .words) (v .transmissions) (v .records)) v
+      (λ s. heardBySending c current s h)
   heard-none o k =
-      record { whole = o .whole; wholes = o .wholes; fits = o .fits; queue = refl; half = λ q. rw (heard-parts c current _ h, e, k, o .numbers .first) }
+      record {
+        whole = o .whole;
+        wholes = o .wholes;
+        fits = o .fits;
+        queue = refl;
+        half = λ q. rw (heard-parts c current _ h, e, k, o .numbers .first);
+      }
 
 -- ---- the numbers
 
 -- where a segment concerns no number, all stay
-pub all-stay : (h : Header) (una next : ℕ) (r : Bool) → Concerns h una next r → r ≡ false → (l : List Sent) → All NumberFits l → Numbers una next l → keep (staysBy next h) l ≡ l
+pub all-stay : (h : Header) (una next : ℕ) (r : Bool) → Concerns h una next r → r ≡ false → (l : List Sent) → All NumberFits l
+    → Numbers una next l → keep (staysBy next h) l ≡ l
 unfolding select
 all-stay h una next r k e l fit o = go 0 l fit (o .ascends)
   where
@@ -133,20 +148,24 @@ first-fits [] n a h = h
 first-fits (x ∷ l) n a h = a .0
 
 -- it holds after a segment
-pub heard-order : (c : Settings) (current : ℕ) (v′ v : View) (h : Header) → FlightIs v′ v (λ s. heardBySending c current s h) → Ordered v → Ordered v′
+pub heard-order : (c : Settings) (current : ℕ) (v′ v : View) (h : Header) → FlightIs v′ v (λ s. heardBySending c current s h) → Ordered v
+    → Ordered v′
 heard-order c current v′ v h f o =
     let p = f .half [] ∙ heard-parts c current (halfWith [] v) h in
     let left : sentIn v′ ≡ keep (staysBy (v .flight .next) h) (sentIn v) = ap (λ (s : Sending). s .outstanding) p in
-    let una : v′ .flight .una ≡ firstNumberOr (keep (staysBy (v .flight .next) h) (sentIn v)) (v .flight .next) = ap (λ (s : Sending). s .una) p in
+    let una : v′ .flight .una ≡ firstNumberOr (keep (staysBy (v .flight .next) h) (sentIn v)) (v .flight .next) =
+    ap (λ (s : Sending). s .una) p in
     let next : v′ .flight .next ≡ v .flight .next = ap (λ (s : Sending). s .next) p in
-    let fit : All NumberFits (keep (staysBy (v .flight .next) h) (sentIn v)) = all-select (λ (x : Sent). staysBy (v .flight .next) h (x .record .number)) NumberFits (sentIn v) (o .fit) in
+    let fit : All NumberFits (keep (staysBy (v .flight .next) h) (sentIn v)) =
+    all-select (λ (x : Sent). staysBy (v .flight .next) h (x .record .number)) NumberFits (sentIn v) (o .fit) in
     let low : v .flight .una < 2 ^ 32 = rw (o .order .numbers .first) at (first-fits (sentIn v) (v .flight .next) (o .fit) (o .next32)) in
     record {
       order = record {
         whole = f .whole;
         wholes = f .wholes;
         fits = f .fits;
-        numbers = rw (una, next, left) (numbers-select (λ (x : Sent). staysBy (v .flight .next) h (x .record .number)) (v .flight .una) (v .flight .next) (sentIn v) low (o .next32) fit (o .order .numbers));
+        numbers = rw (una, next, left) (numbers-select (λ (x : Sent). staysBy (v .flight .next) h (x .record .number)) (v .flight .una)
+            (v .flight .next) (sentIn v) low (o .next32) fit (o .order .numbers));
       };
       fit = rw left fit;
       next32 = rw next (o .next32);

@@ -14,7 +14,8 @@ use Rattle.lists.specs.declared.Outstanding.{Outstanding}
 use Rattle.session.specs.Decides.{All}
 use Rattle.session.specs.SendOrder.{NumberFits}
 
-pub numbers-owned : (rs : List Record) (us : List Val) → shadow (each Record (eStruct T.the-type T′.the-laws T′.the-copy .ty .own) rs us) → All (λ (r : Record). r .number < 2 ^ 32) rs
+pub numbers-owned : (rs : List Record) (us : List Val) → shadow (each Record (eStruct T.the-type T′.the-laws T′.the-copy .ty .own) rs us)
+    → All (λ (r : Record). r .number < 2 ^ 32) rs
 numbers-owned [] [] p = tt
 numbers-owned [] (u ∷ us) p = absurd p
 numbers-owned (r ∷ rs) [] p = absurd p

@@ -31,7 +31,8 @@ module _ (ws ts : List ℕ) (rs : List Record) where
 
   -- the first n
   pub beside-front : (n : ℕ) → take n (beside ws ts rs) ≡ joined (outstandingIn ws ts n) rs
-  beside-front n = take-joined n (paired outstandingAt ws ts) rs ∙ ap (λ (os : List Outstanding). joined os rs) (sym (paired-take outstandingAt n ws ts))
+  beside-front n = take-joined n (paired outstandingAt ws ts) rs ∙ ap (λ (os : List Outstanding). joined os rs)
+      (sym (paired-take outstandingAt n ws ts))
 
   beside-get : (i : ℕ) (r : Record) → i < length ws → i < length ts → i < length (beside ws ts rs)
       → getD (beside ws ts rs) i (withRecord (outstandingAt 0 0) r) ≡ withRecord (outstandingAt (getD ws i 0) (getD ts i 0)) (getD rs i r)
@@ -39,7 +40,8 @@ module _ (ws ts : List ℕ) (rs : List Record) where
       get-joined (paired outstandingAt ws ts) rs i (outstandingAt 0 0) r c
       ∙ ap (λ (o : Outstanding). withRecord o (getD rs i r)) (paired-get outstandingAt ws ts i (outstandingAt 0 0) a b)
 
-  beside-set : (j w t : ℕ) (r : Record) → set (beside ws ts rs) j (withRecord (outstandingAt w t) r) ≡ beside (set ws j w) (set ts j t) (set rs j r)
+  beside-set : (j w t : ℕ) (r : Record)
+      → set (beside ws ts rs) j (withRecord (outstandingAt w t) r) ≡ beside (set ws j w) (set ts j t) (set rs j r)
   beside-set j w t r =
       set-joined (paired outstandingAt ws ts) rs j (outstandingAt w t) r
       ∙ ap (λ (os : List Outstanding). joined os (set rs j r)) (paired-set outstandingAt ws ts j w t)
@@ -50,7 +52,8 @@ module _ (ws ts : List ℕ) (rs : List Record) where
 
 -- ---- the turns: segments before i have been handled, and those that stay are before j
 
-module _ {n : ℕ} {l₀ goal : List Sent} {i j : ℕ} (ws ts : List ℕ) (rs : List Record) (r : Record) (test : ℕ → Bool) (h : i < n) (e : length ws ≡ 32) (f : length ts ≡ 32)
+module _ {n : ℕ} {l₀ goal : List Sent} {i j : ℕ} (ws ts : List ℕ) (rs : List Record) (r : Record) (test : ℕ → Bool) (h : i < n)
+    (e : length ws ≡ 32) (f : length ts ≡ 32)
     (p : Packed 32 n l₀ (beside ws ts rs) (keep test (drop i (take n l₀))) goal i j) where
   abbrev next : Sent
   next = withRecord (outstandingAt (getD ws i 0) (getD ts i 0)) (getD rs i r)
@@ -61,11 +64,14 @@ module _ {n : ℕ} {l₀ goal : List Sent} {i j : ℕ} (ws ts : List ℕ) (rs : 
 
   -- it stays
   pub removal-keeps : test (getD rs i r .number) ≡ true
-      → Packed 32 n l₀ (beside (set ws j (getD ws i 0)) (set ts j (getD ts i 0)) (set rs j (getD rs i r))) (keep test (drop (i + 1) (take n l₀))) goal (i + 1) (j + 1)
+      → Packed 32 n l₀ (beside (set ws j (getD ws i 0)) (set ts j (getD ts i 0)) (set rs j (getD rs i r)))
+      (keep test (drop (i + 1) (take n l₀))) goal (i + 1) (j + 1)
   removal-keeps t =
       let s : test (getD (beside ws ts rs) i (withRecord (outstandingAt 0 0) r) .record .number) ≡ true = rw read t in
-      rw (← (beside-set ws ts rs j (getD ws i 0) (getD ts i 0) (getD rs i r))) (rw read at (packed-pass (withRecord (outstandingAt 0 0) r) h (λ (x : Sent). test (x .record .number)) s p))
+      rw (← (beside-set ws ts rs j (getD ws i 0) (getD ts i 0) (getD rs i r)))
+      (rw read at (packed-pass (withRecord (outstandingAt 0 0) r) h (λ (x : Sent). test (x .record .number)) s p))
 
   -- it is removed
-  pub removal-drops : test (getD rs i r .number) ≡ false → Packed 32 n l₀ (beside ws ts rs) (keep test (drop (i + 1) (take n l₀))) goal (i + 1) j
+  pub removal-drops : test (getD rs i r .number) ≡ false
+      → Packed 32 n l₀ (beside ws ts rs) (keep test (drop (i + 1) (take n l₀))) goal (i + 1) j
   removal-drops t = packed-fail (withRecord (outstandingAt 0 0) r) h (λ (x : Sent). test (x .record .number)) (rw read t) p

@@ -35,7 +35,8 @@ module _ (f : Furthest) (h : Header) where
     unfolding furtherBy further
     stays t = rw (eq-eqb (h .cmd) 82 e, ← g) (go (f .any) b t)
       where
-        go : (any b : Bool) → any && not b ≡ true → f ≡ cond any (cond b (record { any = true; number = h .sn }) f) (record { any = true; number = h .sn })
+        go : (any b : Bool) → any && not b ≡ true
+            → f ≡ cond any (cond b (record { any = true; number = h .sn }) f) (record { any = true; number = h .sn })
         go true false t = refl
         go true true t = absurd (false≢true t)
         go false b t = absurd (false≢true t)
@@ -44,7 +45,9 @@ module _ (f : Furthest) (h : Header) where
     unfolding furtherBy further
     replaced t = rw (eq-eqb (h .cmd) 82 e, ← g) (go (f .any) b t)
       where
-        go : (any b : Bool) → any && not b ≡ false → record { any = true; number = h .sn } ≡ cond any (cond b (record { any = true; number = h .sn }) f) (record { any = true; number = h .sn })
+        go : (any b : Bool) → any && not b ≡ false
+            → record { any = true; number = h .sn } ≡ cond any (cond b (record { any = true; number = h .sn }) f)
+            (record { any = true; number = h .sn })
         go true false t = absurd (true≢false t)
         go true true t = refl
         go false b t = refl
@@ -83,8 +86,10 @@ joined-front (suc k) [] rs = refl
 joined-front (suc k) (o ∷ os) [] = refl
 joined-front (suc k) (o ∷ os) (r ∷ rs) = ap (λ (l : List Sent). withRecord o r ∷ l) (joined-front k os rs)
 
-module _ (v : View) (n : Furthest) (b : Bool) (o : InOrder v) (g : b ≡ (not (isBefore (n .number) (v .flight .una)) && isBefore (n .number) (v .flight .next))) where
-  pub skips-are : (rs : List Record) → n .any && b ≡ true → take (v .flight .outstanding) rs ≡ map (skipRecord (n .number)) (take (v .flight .outstanding) (v .records))
+module _ (v : View) (n : Furthest) (b : Bool) (o : InOrder v)
+    (g : b ≡ (not (isBefore (n .number) (v .flight .una)) && isBefore (n .number) (v .flight .next))) where
+  pub skips-are : (rs : List Record) → n .any && b ≡ true
+      → take (v .flight .outstanding) rs ≡ map (skipRecord (n .number)) (take (v .flight .outstanding) (v .records))
       → FlightIs (view (v .flight) (v .words) (v .transmissions) rs) v (skippedBy n)
   unfolding skippedBy input.skipped
   skips-are rs t s =
@@ -97,4 +102,10 @@ module _ (v : View) (n : Furthest) (b : Bool) (o : InOrder v) (g : b ≡ (not (i
 
   pub no-skips : n .any && b ≡ false → FlightIs v v (skippedBy n)
   unfolding skippedBy input.skipped
-  no-skips t = record { whole = o .whole; wholes = o .wholes; fits = o .fits; queue = refl; half = λ q. rw (← g) (sym (neither (n .any) b t _ _)) }
+  no-skips t = record {
+    whole = o .whole;
+    wholes = o .wholes;
+    fits = o .fits;
+    queue = refl;
+    half = λ q. rw (← g) (sym (neither (n .any) b t _ _));
+  }

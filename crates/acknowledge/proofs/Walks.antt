@@ -51,7 +51,8 @@ module _ (c : Settings) (current : ℕ) (s : List ℕ) (v₀ : View) where
       pub walking-less : length s - next < length s - at
       walking-less = omega (arith, first .follows, first .inside)
 
-      pub walking-more : (v′ : View) (furthest′ : Furthest) → furthest′ ≡ furtherBy furthest header → FlightIs v′ v (λ x. heardBySending c current x header) → Walking v′ furthest′ next
+      pub walking-more : (v′ : View) (furthest′ : Furthest) → furthest′ ≡ furtherBy furthest header
+          → FlightIs v′ v (λ x. heardBySending c current x header) → Walking v′ furthest′ next
       unfolding allBySending furtherByAll
       walking-more v′ furthest′ b a = record {
         all = w .all;
@@ -77,7 +78,8 @@ module _ (c : Settings) (current : ℕ) (s : List ℕ) (v₀ : View) where
       unfolding furtherByAll
       all-acked = rw none at (w .acked)
 
-      heard-all : (r : View) → FlightIs r v (skippedBy furthest) → FlightIs r v₀ (λ x. skippedByAll (allBySending c current x (w .all)) (ackNumbers (w .all)))
+      heard-all : (r : View) → FlightIs r v (skippedBy furthest)
+          → FlightIs r v₀ (λ x. skippedByAll (allBySending c current x (w .all)) (ackNumbers (w .all)))
       heard-all r k = record {
         whole = k .whole;
         wholes = k .wholes;

@@ -61,4 +61,5 @@ pub record FlightIs (v′ v : View) (change : Sending → Sending) : Type 0 wher
 -- v′ is what the segments of the datagram s, and the skips after them, make of v
 abbrev pub HearsAll : Settings → ℕ → List ℕ → View → View → Type 0
 HearsAll c current s v v′ =
-    (gs : List Segment) → parse (c .conv) (mss c) s ≡ segments gs → FlightIs v′ v (λ x. skippedByAll (allBySending c current x gs) (ackNumbers gs))
+    (gs : List Segment) → parse (c .conv) (mss c) s ≡ segments gs
+    → FlightIs v′ v (λ x. skippedByAll (allBySending c current x gs) (ackNumbers gs))

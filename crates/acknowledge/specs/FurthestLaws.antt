@@ -36,7 +36,8 @@ from-first n (k ∷ l) = go (isAfter k n) (from-first k l) (from-first n l)
   where
     go : (t : Bool) → onward (record { any = true; number = k }) l ≡ record { any = true; number = furthest k l }
         → onward (record { any = true; number = n }) l ≡ record { any = true; number = furthest n l }
-        → onward (cond t (record { any = true; number = k }) (record { any = true; number = n })) l ≡ record { any = true; number = furthest (cond t k n) l }
+        → onward (cond t (record { any = true; number = k }) (record { any = true; number = n })) l ≡ record
+        { any = true; number = furthest (cond t k n) l }
     go true a b = a
     go false a b = b
 

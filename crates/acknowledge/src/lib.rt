@@ -18,7 +18,7 @@ ghost use Rattle.protocol.specs.Ranges.{mss};
 ghost use Rattle.protocol.specs.Serial.{isBefore};
 ghost use Rattle.datagram.specs.StepLaws.{Begun};
 ghost use Rattle.lists.specs.Joining.{joined};
-ghost use Rattle.lists.specs.Acknowledging.{keep};
+ghost use Rattle.lists.specs.Acknowledging.{keep, firstNumberOr};
 ghost use Rattle.words.specs.Words.{outstandingIn};
 ghost use Rattle.acknowledge.specs.Flights.{JoinedIn, InOrder, HearsAll, view};
 ghost use Rattle.acknowledge.specs.Furthest.{noneYet, furtherBy};
@@ -30,9 +30,10 @@ pub struct InFlight {
     pub records: [Record; 32],
 }
 
-// The segments that stay outstanding: how many, and their records.
+// The segments that stay outstanding: how many, the first one's number (with none, snd_nxt), and their records.
 struct Left {
     count: usize,
+    first: u32,
     records: [Record; 32],
 }
 
@@ -62,6 +63,13 @@ fn concerns(h: Header, una: u32, next: u32) -> bool
     ((0 < ahead) & (ahead <= span)) | ((h.cmd == Protocol::ACK) & named)
 }
 
+// The number of the first of n outstanding segments; with none, snd_nxt.
+fn first_number(n: usize, first: Record, next: u32) -> u32
+    ensures { λ r. ⌜ r ≡ cond (ltb 0 n) (first .number) next ⌝ }
+{
+    if 0 < n { first.number } else { next }
+}
+
 // The first n outstanding segments without those that a segment acknowledges: words, transmissions and records side by side.
 fn remaining(
     words: &mut [u32; 32],
@@ -73,7 +81,9 @@ fn remaining(
 ) -> Left
     requires { ⌜ (length (now words) ≡ 32) × (length (now transmissions) ≡ 32) × (n ≤ 32) ⌝ }
     ensures { λ r. ⌜ JoinedIn (now (words .exit)) (now (transmissions .exit)) (r .count) (r .records)
-        (keep (staysBy next h) (joined (outstandingIn (now (words .entry)) (now (transmissions .entry)) n) records)) ⌝ }
+        (keep (staysBy next h) (joined (outstandingIn (now (words .entry)) (now (transmissions .entry)) n) records))
+        × (r .first ≡ firstNumberOr
+        (keep (staysBy next h) (joined (outstandingIn (now (words .entry)) (now (transmissions .entry)) n) records)) next) ⌝ }
 {
     let mut rs = records;
     let mut i: usize = 0;
@@ -90,17 +100,12 @@ fn remaining(
             j += 1;
         }
     }
+    let first = rs[0];
     Left {
         count: j,
+        first: first_number(j, first, next),
         records: rs,
     }
-}
-
-// The number of the first of n outstanding segments; with none, snd_nxt.
-fn first_number(n: usize, first: Record, next: u32) -> u32
-    ensures { λ r. ⌜ r ≡ cond (ltb 0 n) (first .number) next ⌝ }
-{
-    if 0 < n { first.number } else { next }
 }
 
 // The round trip after a segment is heard: if it is an ack and current - ts is 0 or more, that is a sample.
@@ -231,8 +236,7 @@ pub fn hear(
             let kept = left.records;
             rs = kept;
             f.outstanding = left.count;
-            let first = rs[0];
-            f.una = first_number(left.count, first, f.next);
+            f.una = left.first;
         }
     }
 }

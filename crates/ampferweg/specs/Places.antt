@@ -11,7 +11,8 @@ use Rattle.promises.specs.Promises.{placeOf}
 use Rattle.read_core.specs.Places.{PlaceIs}
 use Rattle.results.specs.PlaceCodes.{placeStart}
 
--- showing changes nothing; it tells where in the receive pool the front segment's payload lies, 0 and 0 where it is refused, and stores the start
+-- showing changes nothing; it tells where in the receive pool the front segment's payload lies, 0 and 0 where it is refused, and stores the
+-- start
 pub record PlacePromise (l : Link) (p : Parts) (a : Place) (stored : ℕ) : Type 0 where
   pub place : PlaceIs (placeOf (shows l p)) (length (p .receivePool)) a
   pub start : stored ≡ placeStart a

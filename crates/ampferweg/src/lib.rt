@@ -6,11 +6,13 @@ pub mod settings;
 
 use control::Link;
 use timing::Record;
-ghost use Rattle.promises.specs.Parts.{partsOf};
+ghost use Rattle.promises.specs.Parts.{partsOf, flushPartsOf};
 ghost use Rattle.promises.specs.Promises.{OpenPromise, SendPromise, InputPromise, FlushPromise, UpdatePromise, ReadPromise, SizePromise};
 ghost use Rattle.codes.specs.Codes.{answerCode, countCode, updateCode, timeCode, settingsOf};
 ghost use Rattle.codes.specs.Gives.{Gives};
 ghost use Rattle.results.specs.PlaceCodes.{placeCode};
+ghost use mathlib.Core.Path.{_≡_};
+ghost use Rattle.ampferweg.specs.Blocks.{blockSize, versionNumber};
 ghost use Rattle.ampferweg.specs.Places.{PlacePromise};
 ghost use Rattle.ampferweg.specs.Times.{TimePromise};
 
@@ -145,25 +147,22 @@ pub extern "C" fn ampferweg_flush(
 ) -> i32
     ensures { λ r. ⌜ Gives countCode (λ a. FlushPromise t (now (link .entry))
         (partsOf (now («send_pool» .entry)) (now («receive_pool» .entry)) (now (table .entry)) (now (acks .entry)))
-        (now (output .entry)) (now (lengths .entry)) a (now (link .exit))
+        (flushPartsOf (now (output .entry)) (now (lengths .entry))) a (now (link .exit))
         (partsOf (now («send_pool» .entry)) (now («receive_pool» .entry)) (now (table .exit)) (now (acks .entry)))
-        (now (output .exit)) (now (lengths .exit))) r ⌝ }
+        (flushPartsOf (now (output .exit)) (now (lengths .exit)))) r ⌝ }
 {
-    let flushed = write_out::write_out(
+    let paced = results::at_once();
+    write_out::write_and_put_back(
         link,
         send_pool,
         receive_pool,
         table,
         acks,
+        paced,
         t,
         output,
         lengths,
-    );
-    let words = results::flushed_words(flushed);
-    let n = results::flushed_changed(flushed);
-    let records = results::flushed_records(flushed);
-    gathering::scatter(table, words, n, records);
-    results::flushed_code(flushed)
+    )
 }
 
 // An update at time t: the datagrams of its flush, the number of one that does not flush, or the refusal.
@@ -180,25 +179,22 @@ pub extern "C" fn ampferweg_update(
 ) -> i32
     ensures { λ r. ⌜ Gives updateCode (λ a. UpdatePromise t (now (link .entry))
         (partsOf (now («send_pool» .entry)) (now («receive_pool» .entry)) (now (table .entry)) (now (acks .entry)))
-        (now (output .entry)) (now (lengths .entry)) a (now (link .exit))
+        (flushPartsOf (now (output .entry)) (now (lengths .entry))) a (now (link .exit))
         (partsOf (now («send_pool» .entry)) (now («receive_pool» .entry)) (now (table .exit)) (now (acks .entry)))
-        (now (output .exit)) (now (lengths .exit))) r ⌝ }
+        (flushPartsOf (now (output .exit)) (now (lengths .exit)))) r ⌝ }
 {
-    let updated = update_out::update_out(
+    let paced = results::by_schedule();
+    write_out::write_and_put_back(
         link,
         send_pool,
         receive_pool,
         table,
         acks,
+        paced,
         t,
         output,
         lengths,
-    );
-    let words = results::updated_words(updated);
-    let n = results::updated_changed(updated);
-    let records = results::updated_records(updated);
-    gathering::scatter(table, words, n, records);
-    results::updated_code(updated)
+    )
 }
 
 // Naming the time at which the next update is wanted: it is stored, and 0 returned, or the refusal, and nothing is stored.
@@ -224,7 +220,7 @@ pub extern "C" fn ampferweg_check(
     let n = results::outstanding_count(flight);
     let records = gathering::gather(table, words, n);
     let lent = records::table_len(table);
-    let time = update_core::check(
+    let time = check_core::check(
         settings,
         flight,
         arrival,
@@ -342,7 +338,8 @@ pub extern "C" fn ampferweg_show(
     start: &mut u32,
 ) -> i32
     ensures { λ r. ⌜ Gives placeCode (λ a. PlacePromise (now (link .entry))
-        (partsOf (now («send_pool» .entry)) (now («receive_pool» .entry)) (now (table .entry)) (now (acks .entry))) a (now (start .exit))) r ⌝ }
+        (partsOf (now («send_pool» .entry)) (now («receive_pool» .entry)) (now (table .entry)) (now (acks .entry))) a (now (start .exit))) r
+        ⌝ }
 {
     let settings = link.settings;
     let flight = link.flight;
@@ -369,4 +366,20 @@ pub extern "C" fn ampferweg_show(
         acks,
     );
     results::tell_place(place, start)
+}
+
+// The bytes of the control block that these functions have, for a host that compares them with its header's.
+#[no_mangle]
+pub extern "C" fn ampferweg_block_size() -> u32
+    ensures { λ r. ⌜ r ≡ blockSize ⌝ }
+{
+    2336
+}
+
+// The version of these functions, as one number.
+#[no_mangle]
+pub extern "C" fn ampferweg_version_number() -> u32
+    ensures { λ r. ⌜ r ≡ versionNumber ⌝ }
+{
+    400
 }

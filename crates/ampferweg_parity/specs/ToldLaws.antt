@@ -54,21 +54,31 @@ pub data Few : Outcome → Type 0 where
 
 settings-few : (k mtu : ℕ) → settingsOk k mtu ≡ true → k ≤ 10
 settings-few k mtu b =
-    leb-true k 10 (and-right (leb 1 k) (leb k 10) (and-left (leb 1 k && leb k 10) (leb 50 mtu) (and-left (leb 1 k && leb k 10 && leb 50 mtu) (leb mtu 1400) b)))
+    leb-true k 10 (and-right (leb 1 k) (leb k 10)
+    (and-left (leb 1 k && leb k 10) (leb 50 mtu) (and-left (leb 1 k && leb k 10 && leb 50 mtu) (leb mtu 1400) b)))
 
 pub write-few : (n k mtu : ℕ) (s ns : List ℕ) (room slots : ℕ) → Few (writeOf n k mtu s ns room slots)
 unfolding writeOf group
 write-few n k mtu s ns room slots =
-    go (lentOk (length s) ns 12 (mtu + 8) room slots) (settingsOk k mtu) refl (eqb (length ns) k && lengthsOk mtu ns) refl (leb groupsEnd (n * (k + 2)))
+    go (lentOk (length s) ns 12 (mtu + 8) room slots) (settingsOk k mtu) refl (eqb (length ns) k && lengthsOk mtu ns) refl
+    (leb groupsEnd (n * (k + 2)))
   where
     go : (a b : Bool) → settingsOk k mtu ≡ b → (c : Bool) → (eqb (length ns) k && lengthsOk mtu ns) ≡ c → (d : Bool) →
-        Few (cond (not a) (refused ShortPart) (cond (not b) (refused SettingOutOfRange) (cond (not c) (refused NotAGroup) (cond d (refused LateGroup) (wrote (group (n * (k + 2)) (parts s ns)))))))
+        Few (cond (not a) (refused ShortPart) (cond (not b) (refused SettingOutOfRange)
+        (cond (not c) (refused NotAGroup) (cond d (refused LateGroup) (wrote (group (n * (k + 2)) (parts s ns)))))))
     go false b eb c ec d = none
     go true false eb c ec d = none
     go true true eb false ec d = none
     go true true eb true ec true = none
     go true true eb true ec false =
-        some {l = group (n * (k + 2)) (parts s ns)} (omega (arith, length-listed (frameAt (n * (k + 2)) (parts s ns)) (length (parts s ns) + 2), length-parts s ns, eqb-true (length ns) k (and-left (eqb (length ns) k) (lengthsOk mtu ns) ec), settings-few k mtu eb))
+        some {l = group (n * (k + 2)) (parts s ns)}
+        (omega (
+          arith,
+          length-listed (frameAt (n * (k + 2)) (parts s ns)) (length (parts s ns) + 2),
+          length-parts s ns,
+          eqb-true (length ns) k (and-left (eqb (length ns) k) (lengthsOk mtu ns) ec),
+          settings-few k mtu eb,
+        ))
 
 pub read-few : (k mtu : ℕ) (s ns : List ℕ) (room slots : ℕ) → Few (readOf k mtu s ns room slots)
 unfolding readOf readFrames readGroup found
@@ -80,14 +90,16 @@ read-few k mtu s ns room slots =
   where
     go : (a b : Bool) → settingsOk k mtu ≡ b → (c d e : Bool) →
         Few (cond (not a) (refused ShortPart) (cond (not b) (refused SettingOutOfRange)
-        (cond (not c) (refused NotAGroup) (cond d (refused TooFewFrames) (cond (not e) (refused NotAGroup) (wrote (found k (heldShard k (parts s ns)))))))))
+        (cond (not c) (refused NotAGroup) (cond d (refused TooFewFrames)
+        (cond (not e) (refused NotAGroup) (wrote (found k (heldShard k (parts s ns)))))))))
     go false b eb c d e = none
     go true false eb c d e = none
     go true true eb false d e = none
     go true true eb true true e = none
     go true true eb true false false = none
     go true true eb true false true =
-        some {l = found k (heldShard k (parts s ns))} (omega (arith, length-listed (datagramAt k (heldShard k (parts s ns))) k, settings-few k mtu eb))
+        some {l = found k (heldShard k (parts s ns))}
+        (omega (arith, length-listed (datagramAt k (heldShard k (parts s ns))) k, settings-few k mtu eb))
 
 -- ---- the number of an outcome
 
@@ -95,5 +107,7 @@ pub answer-told : (o : Outcome) → Few o → answerCode (answerOf o) ≡ outcom
 answer-told (refused r) few = refl
 answer-told (wrote l) (some h) = let e : min (length l) 12 ≡ length l = omega arith in ap pos e
 
-pub told : (o : Outcome) (out ns : List ℕ) (a : Answer) (r : ℤ) (out′ ns′ : List ℕ) → Few o → r ≡ answerCode a → Gives o out ns a out′ ns′ → Told o out ns r out′ ns′
-told o out ns a r out′ ns′ few e g = record { number = e ∙ ap answerCode (g .answer) ∙ answer-told o few; bytes = g .bytes; lengths = g .lengths }
+pub told : (o : Outcome) (out ns : List ℕ) (a : Answer) (r : ℤ) (out′ ns′ : List ℕ) → Few o → r ≡ answerCode a → Gives o out ns a out′ ns′
+    → Told o out ns r out′ ns′
+told o out ns a r out′ ns′ few e g =
+    record { number = e ∙ ap answerCode (g .answer) ∙ answer-told o few; bytes = g .bytes; lengths = g .lengths }

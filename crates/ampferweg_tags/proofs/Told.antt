@@ -50,14 +50,20 @@ pub tells-change :
     (answer : Changing) (es : List (List ℕ)) (before : List ℕ) (a : Changing) (after : List ℕ) {r : ℤ} →
     change.Changes answer es before a after → r ≡ changingCode a → TellsChange answer es before r after
 tells-change answer es before a after p e =
-    record { number = e ∙ ap changingCode (p .answered); leaves = subst (λ (x : Changing). change.Leaves es x before after) (p .answered) (p .leaves) }
+    record {
+      number = e ∙ ap changingCode (p .answered);
+      leaves = subst (λ (x : Changing). change.Leaves es x before after) (p .answered) (p .leaves);
+    }
 
 -- a message, told by its length
 pub tells-writing :
     (name value before : List ℕ) (a : Writing) (after : List ℕ) {r : ℤ} →
     message.Writes name value before a after → r ≡ writingCode a → TellsWriting name value before r after
 tells-writing name value before a after p e =
-    record { number = e ∙ ap writingCode (p .answer); leaves = subst (λ (x : Writing). message.Leaves name value x before after) (p .answer) (p .leaves) }
+    record {
+      number = e ∙ ap writingCode (p .answer);
+      leaves = subst (λ (x : Writing). message.Leaves name value x before after) (p .answer) (p .leaves);
+    }
 
 -- which is at most 98
 pub written-short : (name value : List ℕ) (n k : ℕ) → writing.Written n ≡ message.writeInto name value k → n ≤ 98
@@ -65,7 +71,8 @@ unfolding message.writeInto
 written-short name value n k e = go (leb 98 k) (isTag name value) refl e
   where
     go : (x t : Bool) → isTag name value ≡ t →
-        writing.Written n ≡ cond x (cond t (writing.Written (length (message.messageOf name value))) (writing.Refused NotATag)) (writing.Refused OtherSize) → n ≤ 98
+        writing.Written n ≡ cond x (cond t (writing.Written (length (message.messageOf name value))) (writing.Refused NotATag))
+        (writing.Refused OtherSize) → n ≤ 98
     go true true q h =
         let l : n ≡ length (message.messageOf name value) = cc in
         omega (arith, l, length-message name value, tag-lengths name value q)

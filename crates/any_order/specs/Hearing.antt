@@ -13,7 +13,7 @@ use Rattle.answers.specs.declared.Answer.{Answer}
 use Rattle.answers.specs.declared.Answer.the-variants as answer
 use Rattle.answers.specs.declared.Count.{Count}
 use Rattle.answers.specs.declared.Update.{Update}
-use Rattle.promises.specs.Parts.{Parts, stateIn}
+use Rattle.promises.specs.Parts.{Parts, FlushParts, stateIn}
 use Rattle.promises.specs.Promises.{SendPromise, InputPromise, FlushPromise, UpdatePromise, ReadPromise}
 use Rattle.any_order.specs.Numbers.{ofAll, numbersIn}
 
@@ -49,10 +49,10 @@ NoCall l p l′ p′ = ⊥
 pub data OtherCall (l : Link) (p : Parts) (l′ : Link) (p′ : Parts) : Type 0 where
   sends : (message : List ℕ) (a : Answer) → SendPromise message l p a l′ p′ → OtherCall l p l′ p′
   reads : (buffer : List ℕ) (a : Count) (buffer′ : List ℕ) → ReadPromise l p buffer a l′ p′ buffer′ → OtherCall l p l′ p′
-  flushes : (t : ℕ) (out lengths : List ℕ) (a : Count) (out′ lengths′ : List ℕ)
-      → FlushPromise t l p out lengths a l′ p′ out′ lengths′ → OtherCall l p l′ p′
-  updates : (t : ℕ) (out lengths : List ℕ) (a : Update) (out′ lengths′ : List ℕ)
-      → UpdatePromise t l p out lengths a l′ p′ out′ lengths′ → OtherCall l p l′ p′
+  flushes : (t : ℕ) (f : FlushParts) (a : Count) (f′ : FlushParts)
+      → FlushPromise t l p f a l′ p′ f′ → OtherCall l p l′ p′
+  updates : (t : ℕ) (f : FlushParts) (a : Update) (f′ : FlushParts)
+      → UpdatePromise t l p f a l′ p′ f′ → OtherCall l p l′ p′
 
 -- such a call that leaves snd_nxt as it was
 pub record NextFixed (l : Link) (p : Parts) (l′ : Link) (p′ : Parts) : Type 0 where

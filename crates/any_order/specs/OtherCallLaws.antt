@@ -23,7 +23,7 @@ use Rattle.session.specs.Updating.{Updates, updating}
 use Rattle.session.specs.MapLaws.{map-kept}
 use Rattle.control.specs.Views.{stateOf}
 use Rattle.control.specs.declared.Link.{Link}
-use Rattle.promises.specs.Parts.{Parts, lengthsOf, stateIn, isMade, Unchanged}
+use Rattle.promises.specs.Parts.{Parts, FlushParts, lengthsOf, stateIn, isMade, Unchanged}
 use Rattle.promises.specs.Outcomes as outcomes
 use Rattle.promises.specs.Outcomes.{checked, sendsWith, readsWith, flushesWith, updatesWith}
 use Rattle.promises.specs.Promises.{SendLeaves, ReadLeaves, FlushLeaves, UpdateLeaves}
@@ -112,8 +112,8 @@ module _ (l : Link) (p : Parts) (l′ : Link) (p′ : Parts) (fixed : l′ .flig
   abbrev long : Bool
   long = enough (mss (l .settings)) (lengthsOf p)
 
-  abbrev longToFlush : ℕ → ℕ → Bool
-  longToFlush out lengths = enoughToFlush (mss (l .settings)) (lengthsOf p) out lengths
+  abbrev longToFlush : FlushParts → Bool
+  longToFlush f = enoughToFlush (mss (l .settings)) (lengthsOf p) (length (f .output)) (length (f .lengths))
 
   unchanged : Unchanged l l′ p p′ → Leaves untimed l p l′ p′
   unchanged u = record { settings = ap (λ (x : Link). x .settings) (u .link); in-flight = rw (u .link, u .parts) }
@@ -137,14 +137,14 @@ module _ (l : Link) (p : Parts) (l′ : Link) (p′ : Parts) (fixed : l′ .flig
   read (refused r) buffer buffer′ d h = unchanged (h .unchanged)
   read (done x) buffer buffer′ d h = stands (x .state) (h .stands .state) d
 
-  module _ (out lengths out′ lengths′ : List ℕ) where
+  module _ (f f′ : FlushParts) where
     flushed : (o : Outcome Flushed) → Done (FlushQuiet before) o
-        → FlushLeaves o l l′ p p′ out lengths out′ lengths′ → Leaves untimed l p l′ p′
+        → FlushLeaves o l l′ p p′ f f′ → Leaves untimed l p l′ p′
     flushed (refused r) d h = unchanged (h .unchanged)
     flushed (done x) d h = stands (x .state) (h .stands .state) d
 
     updated : (o : Outcome Updates) → Done (UpdateQuiet before) o
-        → UpdateLeaves o l l′ p p′ out lengths out′ lengths′ → Leaves untimed l p l′ p′
+        → UpdateLeaves o l l′ p p′ f f′ → Leaves untimed l p l′ p′
     updated (refused r) d h = unchanged (h .unchanged)
     updated (done (outcome.waits s)) d h = stands s (h .stands .state) d
     updated (done (outcome.flushes x)) d h = stands (x .state) (h .stands .state) d
@@ -160,14 +160,14 @@ module _ (l : Link) (p : Parts) (l′ : Link) (p′ : Parts) (fixed : l′ .flig
       read (outcomes.reads l p room) buffer buffer′
       (checked-done (ReadQuiet before) long (isMade l p) (reading before (p .receivePool) room) (read-quiet before (p .receivePool) room))
       (h .leaves)
-  other-leaves (flushes t out lengths a out′ lengths′ h) =
-      flushed out lengths out′ lengths′ (outcomes.flushes l p (length out) (length lengths) t)
-      (checked-done (FlushQuiet before) (longToFlush (length out) (length lengths)) (isMade l p) (done (flushing before t (p .sendPool)))
+  other-leaves (flushes t f a f′ h) =
+      flushed f f′ (outcomes.flushes l p f t)
+      (checked-done (FlushQuiet before) (longToFlush f) (isMade l p) (done (flushing before t (p .sendPool)))
       (flush-quiet before t (p .sendPool)))
       (h .leaves)
-  other-leaves (updates t out lengths a out′ lengths′ h) =
-      updated out lengths out′ lengths′ (outcomes.updates l p (length out) (length lengths) t)
-      (checked-done (UpdateQuiet before) (longToFlush (length out) (length lengths)) (isMade l p) (done (updating before t (p .sendPool)))
+  other-leaves (updates t f a f′ h) =
+      updated f f′ (outcomes.updates l p f t)
+      (checked-done (UpdateQuiet before) (longToFlush f) (isMade l p) (done (updating before t (p .sendPool)))
       (update-quiet before t (p .sendPool)))
       (h .leaves)
 

@@ -105,7 +105,8 @@ pub seen-after :
     × (seen (after reversed) ≡ record { numbers = 1 ∷ []; una = 1; skips = 2 ∷ []; window = 40; smoothed = 95 })
     × (seen (after oneTwice) ≡ record { numbers = 1 ∷ []; una = 1; skips = 3 ∷ []; window = 40; smoothed = 64 })
     × (seen (after asOne) ≡ record { numbers = 1 ∷ []; una = 1; skips = 1 ∷ []; window = 60; smoothed = 65 })
-unfolding sent after appliedAll opened flushing usedWindow numbered numberedCount withNumbered firstDue growth longerTimeout isSkipped transmission
+unfolding sent after appliedAll opened flushing usedWindow numbered numberedCount withNumbered firstDue growth longerTimeout isSkipped
+    transmission
     applied acknowledged heardBySending allBySending ackNumbers furthest skipped sampledBy sampled nextSmoothed nextVariation
     leastTimeout timeoutOf select firstNumberOr skipBefore signed isBefore isAfter isDue
 seen-after = (refl, refl, refl, refl, refl)

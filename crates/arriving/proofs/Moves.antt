@@ -19,7 +19,8 @@ use Rattle.arriving.proofs.Views.{take-map, waiting-parts}
 
 -- ---- the run of numbers, with any words beside them
 
-module _ (ws ns : List ℕ) (n i k total : ℕ) (e : length ws ≡ 128) (f : length ns ≡ 128) (g : n ≤ 128) (inv : total ≡ i + runOf k (drop i (take n (paired waitingAt ws ns)))) where
+module _ (ws ns : List ℕ) (n i k total : ℕ) (e : length ws ≡ 128) (f : length ns ≡ 128) (g : n ≤ 128)
+    (inv : total ≡ i + runOf k (drop i (take n (paired waitingAt ws ns)))) where
   long : n ≤ length (paired waitingAt ws ns)
   long = rw (paired-length waitingAt ws ns 128 e f) g
 
@@ -45,11 +46,16 @@ written-next src k m h g b w = written-put b (rw (view-next src k m 0 h g) at w)
 -- ---- the whole
 
 module _ (r w ns r′ w′ ns′ : List ℕ) (i j k : ℕ) (whole : WholeLists r w ns) (few : j ≤ 128) (within : k ≤ j)
-    (up : Front 128 r′ (i + k) (take i r ++ take k w)) (left : Front 128 w′ (j - k) (drop k (take j w))) (numbers : Front 128 ns′ (j - k) (drop k (take j ns))) where
+    (up : Front 128 r′ (i + k) (take i r ++ take k w)) (left : Front 128 w′ (j - k) (drop k (take j w)))
+    (numbers : Front 128 ns′ (j - k) (drop k (take j ns))) where
   held-up : HeldIs (readyList r′ (i + k)) (take i (map unpack r) ++ map waitingPart (take k (take j (paired waitingAt w ns))))
   held-up =
       let front = waiting-parts w ns k (whole .whole-waiting) (whole .whole-numbers) (omega arith) in
-      record { fits = up .fits; list = take-map unpack (i + k) r′ ∙ ap (map unpack) (up .list) ∙ map-append unpack (take i r) (take k w) ∙ rw (take-map unpack i r, take-take k j (paired waitingAt w ns) within, front) }
+      record {
+        fits = up .fits;
+        list = take-map unpack (i + k) r′ ∙ ap (map unpack) (up .list) ∙ map-append unpack (take i r)
+            (take k w) ∙ rw (take-map unpack i r, take-take k j (paired waitingAt w ns) within, front);
+      }
 
   waits-left : WaitingIs (waitingList w′ ns′ (j - k)) (drop k (take j (paired waitingAt w ns)))
   waits-left =
@@ -61,16 +67,22 @@ module _ (r w ns r′ w′ ns′ : List ℕ) (i j k : ℕ) (whole : WholeLists r
             ∙ ap (drop k) (paired-take waitingAt j w ns);
       }
 
-  pub moved-up : (next n next′ : ℕ) → next < 2 ^ 32 → i ≤ 128 → n ≡ min (128 - i) j → k ≡ runOf next (take n (paired waitingAt w ns)) → next′ ≡ plus next k
-      → ReceivingIs (record { next = next′; ready = readyList r′ (i + k); waiting = waitingList w′ ns′ (j - k) }) (advance next (take i (map unpack r)) (take j (paired waitingAt w ns)))
+  pub moved-up : (next n next′ : ℕ) → next < 2 ^ 32 → i ≤ 128 → n ≡ min (128 - i) j → k ≡ runOf next (take n (paired waitingAt w ns))
+      → next′ ≡ plus next k
+      → ReceivingIs (record { next = next′; ready = readyList r′ (i + k); waiting = waitingList w′ ns′ (j - k) })
+      (advance next (take i (map unpack r)) (take j (paired waitingAt w ns)))
   moved-up next n next′ low g e f q =
-      advanced next i j n k next′ (map unpack r) (paired waitingAt w ns) (readyList r′ (i + k)) (waitingList w′ ns′ (j - k)) low (rw (length-map r unpack, whole .whole-ready) g) e f q held-up waits-left
+      advanced next i j n k next′ (map unpack r) (paired waitingAt w ns) (readyList r′ (i + k)) (waitingList w′ ns′ (j - k)) low
+      (rw (length-map r unpack, whole .whole-ready) g) e f q held-up waits-left
 
 -- none moves
-pub none-up : (r w ns : List ℕ) (i j n next : ℕ) → WholeLists r w ns → next < 2 ^ 32 → i ≤ 128 → j ≤ 128 → n ≡ min (128 - i) j → 0 ≡ runOf next (take n (paired waitingAt w ns))
-    → ReceivingIs (record { next = next; ready = readyList r i; waiting = waitingList w ns j }) (advance next (take i (map unpack r)) (take j (paired waitingAt w ns)))
+pub none-up : (r w ns : List ℕ) (i j n next : ℕ) → WholeLists r w ns → next < 2 ^ 32 → i ≤ 128 → j ≤ 128 → n ≡ min (128 - i) j
+    → 0 ≡ runOf next (take n (paired waitingAt w ns))
+    → ReceivingIs (record { next = next; ready = readyList r i; waiting = waitingList w ns j })
+    (advance next (take i (map unpack r)) (take j (paired waitingAt w ns)))
 none-up r w ns i j n next whole low g h e f =
-    advanced next i j n 0 next (map unpack r) (paired waitingAt w ns) (readyList r i) (waitingList w ns j) low (rw (length-map r unpack, whole .whole-ready) g) e f (omega arith)
+    advanced next i j n 0 next (map unpack r) (paired waitingAt w ns) (readyList r i) (waitingList w ns j) low
+    (rw (length-map r unpack, whole .whole-ready) g) e f (omega arith)
     (record { fits = g; list = sym (append-nil (take i (map unpack r))) }) (record { fits = h; list = refl })
 
 pub front-written : {l todo goal : List ℕ} {j : ℕ} (m : ℕ) → j ≡ m → todo ≡ [] → Written 128 l todo goal j → Front 128 l m goal

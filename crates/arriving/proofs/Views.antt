@@ -39,7 +39,8 @@ ready-view words n = take-map unpack n words
 pub waiting-view : (words numbers : List ℕ) (n : ℕ) → waitingOf (waitingList words numbers n) ≡ waitingIn words numbers n
 waiting-view words numbers n = sym (paired-take waitingAt n words numbers)
 
-pub waiting-parts : (words numbers : List ℕ) (n : ℕ) → length words ≡ 128 → length numbers ≡ 128 → n ≤ 128 → map waitingPart (take n (paired waitingAt words numbers)) ≡ heldIn words n
+pub waiting-parts : (words numbers : List ℕ) (n : ℕ) → length words ≡ 128 → length numbers ≡ 128 → n ≤ 128
+    → map waitingPart (take n (paired waitingAt words numbers)) ≡ heldIn words n
 waiting-parts words numbers n e f h =
     ap (map waitingPart) (sym (paired-take waitingAt n words numbers))
     ∙ paired-parts (take n words) (take n numbers) (length-take-le n words (omega arith) ∙ sym (length-take-le n numbers (omega arith)))

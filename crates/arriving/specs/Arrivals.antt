@@ -24,7 +24,8 @@ abbrev pub waitingList : List ℕ → List ℕ → ℕ → WaitingList
 waitingList words numbers n = record { at = paired waitingAt words numbers; count = n }
 
 abbrev pub listsOf : Arrival → List ℕ → List ℕ → List ℕ → lists.Receiving
-listsOf a ready waiting numbers = record { next = a .expected; ready = readyList ready (a .ready); waiting = waitingList waiting numbers (a .waiting) }
+listsOf a ready waiting numbers =
+    record { next = a .expected; ready = readyList ready (a .ready); waiting = waitingList waiting numbers (a .waiting) }
 
 -- the half's arrays have their lengths
 pub record WholeLists (ready waiting numbers : List ℕ) : Type 0 where
@@ -38,7 +39,8 @@ pub record Fits (a : Arrival) : Type 0 where
   pub few-waiting : a .waiting ≤ 128
 
 -- r with the arrays is what advancing makes of these lists; acks and tell are as they were in a
-pub record Advanced (a : Arrival) (next : ℕ) (held : List Held) (waits : List Waiting) (r : Arrival) (ready waiting numbers : List ℕ) : Type 0 where
+pub record Advanced (a : Arrival) (next : ℕ) (held : List Held) (waits : List Waiting) (r : Arrival) (ready waiting numbers : List ℕ) : Type
+    0 where
   pub whole : WholeLists ready waiting numbers
   pub is : receiving.ReceivingIs (listsOf r ready waiting numbers) (receiving.advance next held waits)
   pub same-acks : r .acks ≡ a .acks

@@ -136,7 +136,8 @@ changed segments index field v = set segments index (set (getD segments index []
 pub record Reworded (list : List ℕ) (index field value : ℕ) (r : List ℕ) : Type 0 where
   pub word : ℕ
   pub is : r ≡ set list index word
-  pub fields : index < length list → field < 3 → heldFields (unpack word) ≡ set (heldFields (unpack (getD list index 0))) field (storedIn 0 field value)
+  pub fields : index < length list → field < 3
+      → heldFields (unpack word) ≡ set (heldFields (unpack (getD list index 0))) field (storedIn 0 field value)
 
 -- a field of the segment at an index of a list has another value
 pub record HeldChanged (l : Link) (list index field value : ℕ) (r : Link) : Type 0 where

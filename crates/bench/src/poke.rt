@@ -7,7 +7,8 @@ ghost use Prim.Native.Nat.{_%_, _≤_, _<_};
 ghost use lib.Dec.{ltb};
 ghost use lib.ListN.{getD, set};
 ghost use Rattle.words.specs.Words.{unpack};
-ghost use Rattle.bench.specs.Fields.{flag, settingsOf, stored, IsField, Poked, heldFields, storedIn, HasField, holds, Reworded, HeldChanged};
+ghost use Rattle.bench.specs.Fields.{flag, settingsOf, stored, IsField, Poked, heldFields};
+ghost use Rattle.bench.specs.Fields.{storedIn, HasField, holds, Reworded, HeldChanged};
 
 // The low 16 and 8 bits of a value.
 fn narrow(value: u32) -> u16

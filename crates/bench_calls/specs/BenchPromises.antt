@@ -13,7 +13,7 @@ use Rattle.answers.specs.declared.Answer.{Answer}
 use Rattle.answers.specs.declared.Answer.the-variants.{Accepted, Refused}
 use Rattle.answers.specs.declared.Count.{Count}
 use Rattle.answers.specs.declared.Time.{Time}
-use Rattle.promises.specs.Parts.{Parts, partsOf}
+use Rattle.promises.specs.Parts.{Parts, partsOf, FlushParts, flushPartsOf}
 use Rattle.promises.specs.Outcomes.{shows}
 use Rattle.promises.specs.Promises.{OpenPromise, SendPromise, InputPromise, FlushPromise, ReadPromise, SizePromise, shown}
 use Rattle.promises.specs.Promises.{UpdatePromise, CheckPromise}
@@ -24,7 +24,12 @@ use Rattle.bench_calls.specs.declared.Updated.{Updated}
 
 -- the parts, as far as the bench lends them, with a table of records
 abbrev pub lentParts : Bench → List ℕ → List ℕ → List Record → List ℕ → Parts
-lentParts b s r table a = partsOf (take (b .lent .send) s) (take (b .lent .receive) r) (take (b .lent .records) table) (take (b .lent .acks) a)
+lentParts b s r table a = partsOf (take (b .lent .send) s) (take (b .lent .receive) r) (take (b .lent .records) table)
+    (take (b .lent .acks) a)
+
+-- output and lengths, as far as it lends them
+abbrev pub lentFlushParts : Bench → List ℕ → List ℕ → FlushParts
+lentFlushParts b out lengths = flushPartsOf (take (b .lent .output) out) (take (b .lent .lengths) lengths)
 
 -- the bench after a command that is no accepted opening
 abbrev pub after : Bench → Link → List Record → Bench
@@ -45,22 +50,24 @@ pub record BenchSends (message : List ℕ) (b : Bench) (s r a : List ℕ) (x : A
   pub bench : x .bench ≡ after b (x .bench .link) (b .table)
 
 pub record BenchTakesIn (datagram : List ℕ) (b : Bench) (s r a : List ℕ) (x : Answered) (r′ a′ : List ℕ) : Type 0 where
-  pub promise : InputPromise datagram (b .link) (lentParts b s r (b .table) a) (x .answer) (x .bench .link) (lentParts b s r′ (x .bench .table) a′)
+  pub promise : InputPromise datagram (b .link) (lentParts b s r (b .table) a) (x .answer) (x .bench .link)
+      (lentParts b s r′ (x .bench .table) a′)
   pub behind : drop (b .lent .receive) r′ ≡ drop (b .lent .receive) r
   pub acksBehind : drop (b .lent .acks) a′ ≡ drop (b .lent .acks) a
   pub recordsBehind : drop (b .lent .records) (x .bench .table) ≡ drop (b .lent .records) (b .table)
   pub bench : x .bench ≡ after b (x .bench .link) (x .bench .table)
 
 pub record BenchFlushes (t : ℕ) (b : Bench) (s r a out lengths : List ℕ) (x : Counted) (out′ lengths′ : List ℕ) : Type 0 where
-  pub promise : FlushPromise t (b .link) (lentParts b s r (b .table) a) (take (b .lent .output) out) (take (b .lent .lengths) lengths) (x .answer) (x .bench .link) (lentParts b s r (x .bench .table) a) (take (b .lent .output) out′) (take (b .lent .lengths) lengths′)
+  pub promise : FlushPromise t (b .link) (lentParts b s r (b .table) a) (lentFlushParts b out lengths)
+      (x .answer) (x .bench .link) (lentParts b s r (x .bench .table) a) (lentFlushParts b out′ lengths′)
   pub behind : drop (b .lent .output) out′ ≡ drop (b .lent .output) out
   pub lengthsBehind : drop (b .lent .lengths) lengths′ ≡ drop (b .lent .lengths) lengths
   pub recordsBehind : drop (b .lent .records) (x .bench .table) ≡ drop (b .lent .records) (b .table)
   pub bench : x .bench ≡ after b (x .bench .link) (x .bench .table)
 
 pub record BenchUpdates (t : ℕ) (b : Bench) (s r a out lengths : List ℕ) (x : Updated) (out′ lengths′ : List ℕ) : Type 0 where
-  pub promise : UpdatePromise t (b .link) (lentParts b s r (b .table) a) (take (b .lent .output) out) (take (b .lent .lengths) lengths)
-      (x .answer) (x .bench .link) (lentParts b s r (x .bench .table) a) (take (b .lent .output) out′) (take (b .lent .lengths) lengths′)
+  pub promise : UpdatePromise t (b .link) (lentParts b s r (b .table) a) (lentFlushParts b out lengths)
+      (x .answer) (x .bench .link) (lentParts b s r (x .bench .table) a) (lentFlushParts b out′ lengths′)
   pub behind : drop (b .lent .output) out′ ≡ drop (b .lent .output) out
   pub lengthsBehind : drop (b .lent .lengths) lengths′ ≡ drop (b .lent .lengths) lengths
   pub recordsBehind : drop (b .lent .records) (x .bench .table) ≡ drop (b .lent .records) (b .table)
@@ -68,7 +75,8 @@ pub record BenchUpdates (t : ℕ) (b : Bench) (s r a out lengths : List ℕ) (x 
 
 -- the first `room` bytes of the buffer are lent
 pub record BenchReads (b : Bench) (s r a : List ℕ) (room : ℕ) (buffer : List ℕ) (x : Counted) (buffer′ : List ℕ) : Type 0 where
-  pub promise : ReadPromise (b .link) (lentParts b s r (b .table) a) (take room buffer) (x .answer) (x .bench .link) (lentParts b s r (b .table) a) (take room buffer′)
+  pub promise : ReadPromise (b .link) (lentParts b s r (b .table) a) (take room buffer) (x .answer) (x .bench .link)
+      (lentParts b s r (b .table) a) (take room buffer′)
   pub behind : drop room buffer′ ≡ drop room buffer
   pub bench : x .bench ≡ after b (x .bench .link) (b .table)
 

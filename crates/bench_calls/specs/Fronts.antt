@@ -35,7 +35,9 @@ module _ (count n : ℕ) (part front : List ℕ) (f : Front count n part) (same 
     where
       go : Dec (count ≤ length part) → take count (front ++ drop n part) ≡ front
       go (yes h) = let here : count ≡ length front = omega arith in rw here (take-append-seam front (drop n part))
-      go (no h) = let whole : length (front ++ drop n part) ≤ count = omega (arith, length-append front (drop n part), length-drop n part) in take-all count (front ++ drop n part) whole ∙ rw (drop-of-length-le part {i = n} (omega arith), append-nil)
+      go (no h) = let whole : length (front ++ drop n part) ≤ count =
+          omega (arith, length-append front (drop n part), length-drop n part) in
+          take-all count (front ++ drop n part) whole ∙ rw (drop-of-length-le part {i = n} (omega arith), append-nil)
 
   pub front-behind : drop count (front ++ drop n part) ≡ drop count part
   front-behind = go (decLe count (length part))

@@ -10,7 +10,8 @@ use kept_calls::UpdatedOut;
 use protocol::Settings;
 ghost use mathlib.Core.Path.{_≡_};
 ghost use Rattle.bench_calls.specs.Fronts.{Front};
-ghost use Rattle.bench_calls.specs.BenchPromises.{after, afterOpen, BenchOpens, BenchSends, BenchTakesIn, BenchFlushes, BenchReads, BenchTells, BenchShows};
+ghost use Rattle.bench_calls.specs.BenchPromises.{after, afterOpen, BenchOpens, BenchSends, BenchTakesIn};
+ghost use Rattle.bench_calls.specs.BenchPromises.{BenchFlushes, BenchReads, BenchTells, BenchShows};
 ghost use Rattle.bench_calls.specs.BenchPromises.{BenchUpdates, BenchChecks};
 
 // The answer of opening, sending or taking in, and the bench after it.
@@ -168,7 +169,8 @@ pub fn send(
     acks: &[u32],
     message: &[u8],
 ) -> Answered
-    ensures { λ r. ⌜ BenchSends (now (message .entry)) bench (now («send_pool» .entry)) (now («receive_pool» .entry)) (now (acks .entry)) r (now («send_pool» .exit)) ⌝ }
+    ensures { λ r. ⌜ BenchSends (now (message .entry)) bench (now («send_pool» .entry)) (now («receive_pool» .entry)) (now (acks .entry)) r
+        (now («send_pool» .exit)) ⌝ }
 {
     let s = front(bench.lent.send, send_pool);
     let r = front(bench.lent.receive, receive_pool);
@@ -193,7 +195,8 @@ pub fn input(
     acks: &mut [u32],
     datagram: &[u8],
 ) -> Answered
-    ensures { λ r. ⌜ BenchTakesIn (now (datagram .entry)) bench (now («send_pool» .entry)) (now («receive_pool» .entry)) (now (acks .entry)) r (now («receive_pool» .exit)) (now (acks .exit)) ⌝ }
+    ensures { λ r. ⌜ BenchTakesIn (now (datagram .entry)) bench (now («send_pool» .entry)) (now («receive_pool» .entry)) (now (acks .entry))
+        r (now («receive_pool» .exit)) (now (acks .exit)) ⌝ }
 {
     let s = front(bench.lent.send, send_pool);
     let r = front(bench.lent.receive, receive_pool);
@@ -220,7 +223,8 @@ pub fn flush(
     output: &mut [u8],
     lengths: &mut [u16],
 ) -> Counted
-    ensures { λ r. ⌜ BenchFlushes t bench (now («send_pool» .entry)) (now («receive_pool» .entry)) (now (acks .entry)) (now (output .entry)) (now (lengths .entry)) r (now (output .exit)) (now (lengths .exit)) ⌝ }
+    ensures { λ r. ⌜ BenchFlushes t bench (now («send_pool» .entry)) (now («receive_pool» .entry)) (now (acks .entry)) (now (output .entry))
+        (now (lengths .entry)) r (now (output .exit)) (now (lengths .exit)) ⌝ }
 {
     let s = front(bench.lent.send, send_pool);
     let r = front(bench.lent.receive, receive_pool);
@@ -283,7 +287,8 @@ pub fn read(
     room: usize,
     buffer: &mut [u8],
 ) -> Counted
-    ensures { λ r. ⌜ BenchReads bench (now («send_pool» .entry)) (now («receive_pool» .entry)) (now (acks .entry)) room (now (buffer .entry)) r (now (buffer .exit)) ⌝ }
+    ensures { λ r. ⌜ BenchReads bench (now («send_pool» .entry)) (now («receive_pool» .entry)) (now (acks .entry)) room
+        (now (buffer .entry)) r (now (buffer .exit)) ⌝ }
 {
     let s = front(bench.lent.send, send_pool);
     let r = front(bench.lent.receive, receive_pool);

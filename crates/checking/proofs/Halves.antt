@@ -25,7 +25,18 @@ use Rattle.slots.specs.SlotLaws.{slots-append}
 use Rattle.slots.specs.Agree.{distinct-agrees}
 use Rattle.session.specs.Decides.{and-parts}
 use Rattle.session.specs.State.{Ack, Sending, Receiving, sendHeld, receiveHeld, slots}
-use Rattle.session.specs.Valid.{all, heldFits, sentFits, slotsFit, roundTripFits, numbersFit, waitingFits, settled, sendingValid, receivingValid}
+use Rattle.session.specs.Valid.{
+  all,
+  heldFits,
+  sentFits,
+  slotsFit,
+  roundTripFits,
+  numbersFit,
+  waitingFits,
+  settled,
+  sendingValid,
+  receivingValid,
+}
 use Rattle.words.specs.Words.{unpack, heldIn, waitingAt, outstandingAt, outstandingIn}
 use Rattle.words.proofs.Pairs.{paired-length}
 use Rattle.control.specs.declared.Flight.{Flight}
@@ -69,7 +80,8 @@ module _ (f : Flight) (queued outstanding transmissions : List ℕ) (rs : List R
   held-parts : sendHeld sends ≡ heldIn outstanding (f .outstanding) ++ heldIn queued (f .queued)
   held-parts =
       ap (λ (l : List Held). l ++ heldIn queued (f .queued))
-      (joined-held os rs room ∙ paired-words outstandingAt outstandingPart unpack (λ w n. refl) (take (f .outstanding) outstanding) (take (f .outstanding) transmissions) even)
+      (joined-held os rs room ∙ paired-words outstandingAt outstandingPart unpack (λ w n. refl) (take (f .outstanding) outstanding)
+      (take (f .outstanding) transmissions) even)
 
   pub send-slots : slots (sendHeld sends) ≡ sendSlotsIn queued (f .queued) outstanding (f .outstanding)
   send-slots = ap slots held-parts ∙ slots-append (heldIn outstanding (f .outstanding)) (heldIn queued (f .queued))
@@ -91,27 +103,42 @@ module _ (f : Flight) (queued outstanding transmissions : List ℕ) (rs : List R
     o = once (sendSlotsIn queued (f .queued) outstanding (f .outstanding))
 
     held-all : all (heldFits (mss c)) (sendHeld sends) ≡ (h₁ && h₂)
-    held-all = ap (all (heldFits (mss c))) held-parts ∙ all-append (heldFits (mss c)) (heldIn outstanding (f .outstanding)) (heldIn queued (f .queued))
+    held-all = ap (all (heldFits (mss c))) held-parts ∙ all-append (heldFits (mss c)) (heldIn outstanding (f .outstanding))
+        (heldIn queued (f .queued))
 
     slots-all : slotsFit sendSlots (sendHeld sends) ≡ (b₁ && b₂ && o)
     slots-all =
         sym (distinct-agrees sendSlots (sendHeld sends))
         ∙ ap (λ (l : List ℕ). allBelow sendSlots l && once l) send-slots
-        ∙ ap (λ (b : Bool). b && o) (below-append sendSlots (slotsOf (heldIn outstanding (f .outstanding))) (slotsOf (heldIn queued (f .queued))))
+        ∙ ap (λ (b : Bool). b && o) (below-append sendSlots (slotsOf (heldIn outstanding (f .outstanding)))
+        (slotsOf (heldIn queued (f .queued))))
 
-    pub sending-checked : (sendingFits (mss c) queued (f .queued) outstanding transmissions (f .outstanding) && flightFits (c .mode) (f .una) (f .next) (take (f .outstanding) rs) && roundTripFits (c .mode) (f .rtt))
+    pub sending-checked : (sendingFits (mss c) queued (f .queued) outstanding transmissions (f .outstanding)
+        && flightFits (c .mode) (f .una) (f .next) (take (f .outstanding) rs) && roundTripFits (c .mode) (f .rtt))
         ≡ sendingValid c sends
     unfolding sendingValid numbersFit
     sending-checked =
         let joins = (rw count at (records-joined (c .mode) (f .una) (minus (f .next) (f .una)) 0 os rs room)) in
         let first = (rw count at (first-joined os rs (f .next) room)) in
-        rw (held-all, slots-all, first, send-words-all (mss c) (take (f .queued) queued), send-words-all (mss c) (take (f .outstanding) outstanding), ← paired-few (take (f .outstanding) outstanding) (take (f .outstanding) transmissions) even)
-        (turn h₁ h₂ b₁ b₂ o (all few os) (recordsFit (c .mode) (f .una) (minus (f .next) (f .una)) 0 (take (f .outstanding) rs)) (ascending (sentOffset (f .una)) 0 (minus (f .next) (f .una)) (joined os rs)) (all (sentFits (c .mode)) (joined os rs)) (leb (minus (f .next) (f .una)) sendWindow) (eqb (firstOf (take (f .outstanding) rs) (f .next)) (f .una)) (roundTripFits (c .mode) (f .rtt)) joins)
+        rw (
+          held-all,
+          slots-all,
+          first,
+          send-words-all (mss c) (take (f .queued) queued),
+          send-words-all (mss c) (take (f .outstanding) outstanding),
+          ← paired-few (take (f .outstanding) outstanding) (take (f .outstanding) transmissions) even,
+        )
+        (turn h₁ h₂ b₁ b₂ o (all few os) (recordsFit (c .mode) (f .una) (minus (f .next) (f .una)) 0 (take (f .outstanding) rs))
+        (ascending (sentOffset (f .una)) 0 (minus (f .next) (f .una)) (joined os rs)) (all (sentFits (c .mode)) (joined os rs))
+        (leb (minus (f .next) (f .una)) sendWindow) (eqb (firstOf (take (f .outstanding) rs) (f .next)) (f .una))
+        (roundTripFits (c .mode) (f .rtt)) joins)
       where
-        turn : (h₁ h₂ b₁ b₂ o t r a s w g z : Bool) → (t && r) ≡ (a && s) → (h₂ && b₂ && (h₁ && b₁) && t && o && (w && g && r) && z) ≡ (h₁ && h₂ && (b₁ && b₂ && o) && (a && w && g) && s && z)
+        turn : (h₁ h₂ b₁ b₂ o t r a s w g z : Bool) → (t && r) ≡ (a && s)
+            → (h₂ && b₂ && (h₁ && b₁) && t && o && (w && g && r) && z) ≡ (h₁ && h₂ && (b₁ && b₂ && o) && (a && w && g) && s && z)
         turn h₁ h₂ b₁ b₂ o t r a s w g z e = same _ _ there back
           where
-            there : (h₂ && b₂ && (h₁ && b₁) && t && o && (w && g && r) && z) ≡ true → (h₁ && h₂ && (b₁ && b₂ && o) && (a && w && g) && s && z) ≡ true
+            there : (h₂ && b₂ && (h₁ && b₁) && t && o && (w && g && r) && z) ≡ true
+                → (h₁ && h₂ && (b₁ && b₂ && o) && (a && w && g) && s && z) ≡ true
             there q =
                 let p₁ = and-parts (h₂ && b₂ && (h₁ && b₁) && t && o && (w && g && r)) z q in
                 let p₂ = and-parts (h₂ && b₂ && (h₁ && b₁) && t && o) (w && g && r) (p₁ .0) in
@@ -123,9 +150,11 @@ module _ (f : Flight) (queued outstanding transmissions : List ℕ) (rs : List R
                 let p₈ = and-parts h₂ b₂ (p₇ .0) in
                 let p₉ = and-parts h₁ b₁ (p₇ .1) in
                 let i = and-parts a s (sym e ∙ both t r (p₆ .1) (p₃ .1)) in
-                both _ _ (both _ _ (both _ _ (both _ _ (both h₁ h₂ (p₉ .0) (p₈ .0)) (both _ _ (both b₁ b₂ (p₉ .1) (p₈ .1)) (p₅ .1))) (both _ _ (both a w (i .0) (p₄ .0)) (p₄ .1))) (i .1)) (p₁ .1)
+                both _ _ (both _ _ (both _ _ (both _ _ (both h₁ h₂ (p₉ .0) (p₈ .0)) (both _ _ (both b₁ b₂ (p₉ .1) (p₈ .1)) (p₅ .1)))
+                (both _ _ (both a w (i .0) (p₄ .0)) (p₄ .1))) (i .1)) (p₁ .1)
 
-            back : (h₁ && h₂ && (b₁ && b₂ && o) && (a && w && g) && s && z) ≡ true → (h₂ && b₂ && (h₁ && b₁) && t && o && (w && g && r) && z) ≡ true
+            back : (h₁ && h₂ && (b₁ && b₂ && o) && (a && w && g) && s && z) ≡ true
+                → (h₂ && b₂ && (h₁ && b₁) && t && o && (w && g && r) && z) ≡ true
             back q =
                 let p₁ = and-parts (h₁ && h₂ && (b₁ && b₂ && o) && (a && w && g) && s) z q in
                 let p₂ = and-parts (h₁ && h₂ && (b₁ && b₂ && o) && (a && w && g)) s (p₁ .0) in
@@ -137,11 +166,13 @@ module _ (f : Flight) (queued outstanding transmissions : List ℕ) (rs : List R
                 let p₈ = and-parts (b₁ && b₂) o (p₆ .1) in
                 let p₉ = and-parts b₁ b₂ (p₈ .0) in
                 let i = and-parts t r (e ∙ both a s (p₅ .0) (p₂ .1)) in
-                both _ _ (both _ _ (both _ _ (both _ _ (both _ _ (both h₂ b₂ (p₇ .1) (p₉ .1)) (both h₁ b₁ (p₇ .0) (p₉ .0))) (i .0)) (p₈ .1)) (both _ _ (both w g (p₅ .1) (p₄ .1)) (i .1))) (p₁ .1)
+                both _ _ (both _ _ (both _ _ (both _ _ (both _ _ (both h₂ b₂ (p₇ .1) (p₉ .1)) (both h₁ b₁ (p₇ .0) (p₉ .0))) (i .0)) (p₈ .1))
+                (both _ _ (both w g (p₅ .1) (p₄ .1)) (i .1))) (p₁ .1)
 
 -- ---- receiving
 
-module _ (a : Arrival) (ready waiting numbers : List ℕ) (long : a .ready ≤ length ready) (wide : a .waiting ≤ length waiting) (side : a .waiting ≤ length numbers) (acks : List Ack) where
+module _ (a : Arrival) (ready waiting numbers : List ℕ) (long : a .ready ≤ length ready) (wide : a .waiting ≤ length waiting)
+    (side : a .waiting ≤ length numbers) (acks : List Ack) where
   abbrev takes : Receiving
   takes = receivingOf a ready waiting numbers acks
 
@@ -149,7 +180,8 @@ module _ (a : Arrival) (ready waiting numbers : List ℕ) (long : a .ready ≤ l
   level = length-take-le (a .waiting) waiting wide ∙ sym (length-take-le (a .waiting) numbers side)
 
   got-parts : receiveHeld takes ≡ heldIn ready (a .ready) ++ heldIn waiting (a .waiting)
-  got-parts = ap (λ (l : List Held). heldIn ready (a .ready) ++ l) (paired-words waitingAt waitingPart unpack (λ w n. refl) (take (a .waiting) waiting) (take (a .waiting) numbers) level)
+  got-parts = ap (λ (l : List Held). heldIn ready (a .ready) ++ l)
+      (paired-words waitingAt waitingPart unpack (λ w n. refl) (take (a .waiting) waiting) (take (a .waiting) numbers) level)
 
   pub receive-slots : slots (receiveHeld takes) ≡ receiveSlotsIn ready (a .ready) waiting (a .waiting)
   receive-slots = ap slots got-parts ∙ slots-append (heldIn ready (a .ready)) (heldIn waiting (a .waiting))
@@ -176,9 +208,22 @@ module _ (a : Arrival) (ready waiting numbers : List ℕ) (long : a .ready ≤ l
     pub receiving-checked : receivingFits (mss c) (a .expected) ready (a .ready) waiting numbers (a .waiting) ≡ receivingValid c takes
     unfolding receivingValid waitingFits settled
     receiving-checked =
-        let count : length (heldIn ready (a .ready)) ≡ a .ready = length-map (take (a .ready) ready) unpack ∙ length-take-le (a .ready) ready long in
-        rw (words-all (mss c) (take (a .ready) ready), words-all (mss c) (take (a .waiting) waiting), got-all, got-slots, count, le-leb (a .ready) 128 few, le-leb (length acks) 256 noted, ahead-ascending (a .expected) fits (a .ready) numbers (a .waiting) most side, paired-ascending (a .expected) 0 128 (take (a .waiting) waiting) (take (a .waiting) numbers) level, paired-starts (a .expected) fits (take (a .waiting) waiting) (take (a .waiting) numbers) level)
-        (turn u g₁ g₂ (ascending (off (a .expected) fits) 0 128 (take (a .waiting) numbers)) (not (begins (a .expected) fits (take (a .waiting) numbers) && ltb (a .ready) 128)))
+        let count : length (heldIn ready (a .ready)) ≡ a .ready =
+        length-map (take (a .ready) ready) unpack ∙ length-take-le (a .ready) ready long in
+        rw (
+          words-all (mss c) (take (a .ready) ready),
+          words-all (mss c) (take (a .waiting) waiting),
+          got-all,
+          got-slots,
+          count,
+          le-leb (a .ready) 128 few,
+          le-leb (length acks) 256 noted,
+          ahead-ascending (a .expected) fits (a .ready) numbers (a .waiting) most side,
+          paired-ascending (a .expected) 0 128 (take (a .waiting) waiting) (take (a .waiting) numbers) level,
+          paired-starts (a .expected) fits (take (a .waiting) waiting) (take (a .waiting) numbers) level,
+        )
+        (turn u g₁ g₂ (ascending (off (a .expected) fits) 0 128 (take (a .waiting) numbers))
+        (not (begins (a .expected) fits (take (a .waiting) numbers) && ltb (a .ready) 128)))
       where
         turn : (u g₁ g₂ x y : Bool) → (u && (g₁ && g₂ && (x && y))) ≡ (g₁ && g₂ && u && true && x && y && true)
         turn u g₁ g₂ x y = same _ _ there back

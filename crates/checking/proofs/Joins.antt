@@ -31,7 +31,8 @@ pub words-all : (mss : ℕ) (ws : List ℕ) → all (wordFits mss) ws ≡ all (h
 words-all mss [] = refl
 words-all mss (w ∷ ws) = rw (words-all mss ws) refl
 
-pub send-words-all : (mss : ℕ) (ws : List ℕ) → all (sendWordFits mss) ws ≡ (all (heldFits mss) (map unpack ws) && allBelow sendSlots (slotsOf (map unpack ws)))
+pub send-words-all : (mss : ℕ) (ws : List ℕ)
+    → all (sendWordFits mss) ws ≡ (all (heldFits mss) (map unpack ws) && allBelow sendSlots (slotsOf (map unpack ws)))
 unfolding allBelow
 send-words-all mss [] = refl
 send-words-all mss (w ∷ ws) = rw (send-words-all mss ws) (turn (heldFits mss (unpack w)) (ltb (w % 256) sendSlots) _ _)
@@ -45,7 +46,8 @@ send-words-all mss (w ∷ ws) = rw (send-words-all mss ws) (turn (heldFits mss (
 -- ---- two arrays side by side
 
 -- what goes by the words alone
-pub paired-words : {A B : Type 0} (entry : ℕ → ℕ → A) (part : A → B) (of : ℕ → B) → ((w n : ℕ) → part (entry w n) ≡ of w) → (ws ns : List ℕ) → length ws ≡ length ns → map part (paired entry ws ns) ≡ map of ws
+pub paired-words : {A B : Type 0} (entry : ℕ → ℕ → A) (part : A → B) (of : ℕ → B) → ((w n : ℕ) → part (entry w n) ≡ of w) → (ws ns : List ℕ)
+    → length ws ≡ length ns → map part (paired entry ws ns) ≡ map of ws
 unfolding paired
 paired-words entry part of same [] ns e = refl
 paired-words entry part of same (w ∷ ws) [] e = absurd (omega arith)
@@ -93,13 +95,16 @@ module _ (a b : List ℕ) where
 
 -- transmissions, numbers and records of outstanding segments
 pub records-joined : (mode una limit least : ℕ) (os : List Outstanding) (rs : List Record) → length os ≤ length rs
-    → (all few os && recordsFit mode una limit least (take (length os) rs)) ≡ (ascending (sentOffset una) least limit (joined os rs) && all (sentFits mode) (joined os rs))
+    → (all few os && recordsFit mode una limit least (take (length os) rs)) ≡
+    (ascending (sentOffset una) least limit (joined os rs) && all (sentFits mode) (joined os rs))
 unfolding recordsFit ascending joined
 records-joined mode una limit least [] rs h = refl
 records-joined mode una limit least (o ∷ os) [] h = absurd (omega arith)
 records-joined mode una limit least (o ∷ os) (r ∷ rs) h =
     let m : ℕ = minus (r .number) una in
-    turn (few o) (all few os) (leb least m && ltb m limit) (leb (r .skips) skipsMost) (timeoutFits mode (r .timeout)) (recordsFit mode una limit (m + 1) (take (length os) rs)) (ascending (sentOffset una) (m + 1) limit (joined os rs)) (all (sentFits mode) (joined os rs)) (records-joined mode una limit (m + 1) os rs (omega arith))
+    turn (few o) (all few os) (leb least m && ltb m limit) (leb (r .skips) skipsMost) (timeoutFits mode (r .timeout))
+    (recordsFit mode una limit (m + 1) (take (length os) rs)) (ascending (sentOffset una) (m + 1) limit (joined os rs))
+    (all (sentFits mode) (joined os rs)) (records-joined mode una limit (m + 1) os rs (omega arith))
   where
     turn : (t ts l s q rs ns fs : Bool) → (ts && rs) ≡ (ns && fs) → (t && ts && (l && (s && q) && rs)) ≡ (l && ns && (t && s && q && fs))
     turn t ts l s q rs ns fs ih = same _ _ there back
@@ -124,7 +129,8 @@ records-joined mode una limit least (o ∷ os) (r ∷ rs) h =
             let i = and-parts ts rs (ih ∙ both ns fs (p₁ .1) (p₂ .1)) in
             both _ _ (both t ts (p₄ .0) (i .0)) (both _ _ (both _ _ (p₁ .0) (both _ _ (p₄ .1) (p₃ .1))) (i .1))
 
-pub first-joined : (os : List Outstanding) (rs : List Record) (next : ℕ) → length os ≤ length rs → firstNumberOr (joined os rs) next ≡ firstOf (take (length os) rs) next
+pub first-joined : (os : List Outstanding) (rs : List Record) (next : ℕ) → length os ≤ length rs
+    → firstNumberOr (joined os rs) next ≡ firstOf (take (length os) rs) next
 unfolding joined firstNumberOr firstOf
 first-joined [] rs next h = refl
 first-joined (o ∷ os) [] next h = absurd (omega arith)

@@ -21,8 +21,10 @@ use Rattle.checking.specs.Tests.{inLine, receiveSlotsIn, HeldOnce}
 pub line-start : (from : ℕ) (l : List ℕ) → inLine from l ≡ (true && inLine (from + 0) (drop 0 l))
 line-start from l = let z : from + 0 ≡ from = omega arith in rw z refl
 
-module _ (ws : List ℕ) (from i : ℕ) (goal fit : Bool) (long : length ws ≡ 128) (inv : goal ≡ (fit && inLine (from + i) (drop i (take 128 ws)))) where
-  pub line-next : (t : Bool) (slot : ℕ) → i < 128 → slot ≡ from + i → t ≡ eqb (getD ws i 0 % 256) slot → goal ≡ (fit && t && inLine (from + (i + 1)) (drop (i + 1) (take 128 ws)))
+module _ (ws : List ℕ) (from i : ℕ) (goal fit : Bool) (long : length ws ≡ 128)
+    (inv : goal ≡ (fit && inLine (from + i) (drop i (take 128 ws)))) where
+  pub line-next : (t : Bool) (slot : ℕ) → i < 128 → slot ≡ from + i → t ≡ eqb (getD ws i 0 % 256) slot
+      → goal ≡ (fit && t && inLine (from + (i + 1)) (drop (i + 1) (take 128 ws)))
   unfolding inLine
   line-next t slot h s e =
       let next : from + i + 1 ≡ from + (i + 1) = omega arith in
@@ -58,8 +60,10 @@ unfolding upFrom markedAll
 every-marked = refl
 
 -- every slot is held in order
-pub full-held : (ready : List ℕ) (n : ℕ) (waiting : List ℕ) (m : ℕ) (x y : Bool) → length ready ≡ 128 → n ≤ 128 → length waiting ≡ 128 → m ≤ 128 → n + m ≡ 256
-    → x ≡ inLine 0 (take 128 ready) → y ≡ inLine 128 (take 128 waiting) → (x && y) ≡ true → HeldOnce ready n waiting m (replicate 256 1) true
+pub full-held : (ready : List ℕ) (n : ℕ) (waiting : List ℕ) (m : ℕ) (x y : Bool) → length ready ≡ 128 → n ≤ 128 → length waiting ≡ 128
+    → m ≤ 128 → n + m ≡ 256
+    → x ≡ inLine 0 (take 128 ready) → y ≡ inLine 128 (take 128 waiting) → (x && y) ≡ true
+    → HeldOnce ready n waiting m (replicate 256 1) true
 full-held ready n waiting m x y lr hn lw hm s ex ey t =
     let p = and-parts x y t in
     let en : n ≡ 128 = omega (arith, hn, hm, s) in
@@ -69,4 +73,8 @@ full-held ready n waiting m x y lr hn lw hm s ex ey t =
     let ew : slotsOf (map unpack (take m waiting)) ≡ upFrom 128 128 =
     rw em (line-slots 128 (take 128 waiting) (sym ey ∙ p .1) ∙ ap (upFrom 128) (length-take-le 128 waiting (omega (arith, lw)))) in
     let all : receiveSlotsIn ready n waiting m ≡ every = rw (er, ew) refl in
-    record { whole = length-replicate {A = ℕ} 256 1; marked = sym (ap (markedAll none) all ∙ every-marked); held = sym (ap once all ∙ every-once) }
+    record {
+      whole = length-replicate {A = ℕ} 256 1;
+      marked = sym (ap (markedAll none) all ∙ every-marked);
+      held = sym (ap once all ∙ every-once);
+    }

@@ -16,7 +16,21 @@ use Rattle.lists.proofs.Loops.{view-next, view-end}
 use Rattle.slots.specs.Slots.{once}
 use Rattle.session.specs.Valid.{all}
 use Rattle.marks.specs.Marks.{none, markedAll}
-use Rattle.checking.specs.Tests.{follows, neighbours, recordFits, leastAfter, leastAfterAll, wordFits, sendWordFits, sentFew, sendSlotsIn, SendingFits, receiveSlotsIn, aheadFits, ReceivingFits}
+use Rattle.checking.specs.Tests.{
+  follows,
+  neighbours,
+  recordFits,
+  leastAfter,
+  leastAfterAll,
+  wordFits,
+  sendWordFits,
+  sentFew,
+  sendSlotsIn,
+  SendingFits,
+  receiveSlotsIn,
+  aheadFits,
+  ReceivingFits,
+}
 
 pub not-true : (b : Bool) → not b ≡ true → b ≡ false
 not-true true e = sym e
@@ -35,15 +49,18 @@ module _ (test : ℕ → Bool) (ws : List ℕ) (n i : ℕ) (goal fit : Bool) (in
   all-end h = inv ∙ rw (view-end ws n i h) (and-true fit)
 
 -- neighbours, the one at i and the one before it
-module _ (ws : List ℕ) (n i : ℕ) (goal fit : Bool) (low : 1 ≤ i) (g : n ≤ length ws) (inv : goal ≡ (fit && neighbours (drop (i - 1) (take n ws)))) where
+module _ (ws : List ℕ) (n i : ℕ) (goal fit : Bool) (low : 1 ≤ i) (g : n ≤ length ws)
+    (inv : goal ≡ (fit && neighbours (drop (i - 1) (take n ws)))) where
   near-front : i - 1 < n → drop (i - 1) (take n ws) ≡ getD ws (i - 1) 0 ∷ drop i (take n ws)
   near-front h = let q : i - 1 + 1 ≡ i = omega arith in rw q at (view-next ws n (i - 1) 0 h g)
 
-  pub near-next : (t : Bool) → i < n → t ≡ follows (getD ws (i - 1) 0) (getD ws i 0) → goal ≡ (fit && t && neighbours (drop (i + 1 - 1) (take n ws)))
+  pub near-next : (t : Bool) → i < n → t ≡ follows (getD ws (i - 1) 0) (getD ws i 0)
+      → goal ≡ (fit && t && neighbours (drop (i + 1 - 1) (take n ws)))
   unfolding neighbours
   near-next t h e =
       let q : i + 1 - 1 ≡ i = omega arith in
-      inv ∙ ap (λ (l : List ℕ). fit && neighbours l) (near-front (omega arith)) ∙ ap (λ (b : Bool). fit && b) step ∙ rw q (sym (and-assoc fit t _))
+      inv ∙ ap (λ (l : List ℕ). fit && neighbours l) (near-front (omega arith)) ∙ ap (λ (b : Bool). fit && b) step ∙ rw q
+      (sym (and-assoc fit t _))
     where
       step : neighbours (getD ws (i - 1) 0 ∷ drop i (take n ws)) ≡ (t && neighbours (drop i (take n ws)))
       step = rw (view-next ws n i 0 h g, ← e) refl
@@ -66,17 +83,19 @@ follows-test a b d e h ed ee = let q : a % 2 ^ 32 ≡ a = omega arith in rw (q, 
     go (no s) t = rw (le-ltb e 127 (omega arith), lt-leb 1 d (omega arith)) refl
 
 -- records; what is carried
-module _ (mode una next : ℕ) (rs : List Record) (n i goal least : ℕ) (inv : goal ≡ leastAfterAll mode una next least (drop i (take n rs))) where
-  pub least-next : (d : Record) (k : ℕ) → i < n → n ≤ length rs → k ≡ leastAfter mode una next least (getD rs i d) → goal ≡ leastAfterAll mode una next k (drop (i + 1) (take n rs))
-  unfolding leastAfterAll
-  least-next d k h g e =
-      inv
-      ∙ ap (leastAfterAll mode una next least) (view-next rs n i d h g)
-      ∙ ap (λ (m : ℕ). leastAfterAll mode una next m (drop (i + 1) (take n rs))) (sym e)
+module _ (mode una next : ℕ) (rs : List Record) (n i goal least : ℕ) (inv : goal ≡ leastAfterAll mode una next least (drop i (take n rs)))
+  where
+    pub least-next : (d : Record) (k : ℕ) → i < n → n ≤ length rs → k ≡ leastAfter mode una next least (getD rs i d)
+        → goal ≡ leastAfterAll mode una next k (drop (i + 1) (take n rs))
+    unfolding leastAfterAll
+    least-next d k h g e =
+        inv
+        ∙ ap (leastAfterAll mode una next least) (view-next rs n i d h g)
+        ∙ ap (λ (m : ℕ). leastAfterAll mode una next m (drop (i + 1) (take n rs))) (sym e)
 
-  pub least-end : n ≤ i → goal ≡ least
-  unfolding leastAfterAll
-  least-end h = inv ∙ rw (view-end rs n i h)
+    pub least-end : n ≤ i → goal ≡ least
+    unfolding leastAfterAll
+    least-end h = inv ∙ rw (view-end rs n i h)
 
 -- four tests of which one fails
 fails-in : (g a b f : Bool) → (a && b) ≡ false → (g && a && b && f) ≡ false
@@ -84,11 +103,13 @@ fails-in true a b f e = rw e
 fails-in false a b f e = refl
 
 -- one record, o being its offset; g: it may be the first
-module _ (mode una next least o limit : ℕ) (g : Bool) (r : Record) (eg : g ≡ (ltb 0 least || eqb (r .number) una)) (eo : o ≡ minus (r .number) una) (el : limit ≡ minus next una) where
+module _ (mode una next least o limit : ℕ) (g : Bool) (r : Record) (eg : g ≡ (ltb 0 least || eqb (r .number) una))
+    (eo : o ≡ minus (r .number) una) (el : limit ≡ minus next una) where
   abbrev rises : Bool
   rises = leb least o && ltb o limit
 
-  least-unfit : (f : Bool) → f ≡ recordFits mode r → (g && leb least o && ltb o limit && f) ≡ false → 2 ^ 32 ≡ leastAfter mode una next least r
+  least-unfit : (f : Bool) → f ≡ recordFits mode r → (g && leb least o && ltb o limit && f) ≡ false
+      → 2 ^ 32 ≡ leastAfter mode una next least r
   least-unfit f ef t = rw (← eo, ← el, ← ef, ← eg, t) refl
 
   pub least-apart : not rises ≡ true → 2 ^ 32 ≡ leastAfter mode una next least r
@@ -118,7 +139,8 @@ pub none-whole : (m : List ℕ) → m ≡ none → length m ≡ 256
 none-whole m e = ap length e ∙ length-replicate {A = ℕ} 256 0
 
 module _ (mss : ℕ) (queued : List ℕ) (n : ℕ) (outstanding transmissions : List ℕ) (m : ℕ) (x y z : Bool) (marks : List ℕ)
-    (ex : x ≡ all (sendWordFits mss) (take n queued)) (ey : y ≡ all (sendWordFits mss) (take m outstanding)) (ez : z ≡ all sentFew (take m transmissions)) where
+    (ex : x ≡ all (sendWordFits mss) (take n queued)) (ey : y ≡ all (sendWordFits mss) (take m outstanding))
+    (ez : z ≡ all sentFew (take m transmissions)) where
   pub limits-fail : marks ≡ none → not (x && y && z) ≡ true → SendingFits mss queued n outstanding transmissions m marks false
   limits-fail e t =
       record {
@@ -127,13 +149,17 @@ module _ (mss : ℕ) (queued : List ℕ) (n : ℕ) (outstanding transmissions : 
         marked = λ z. absurd (false≢true z);
       }
 
-  pub limits-fit : (r : Bool) → not (x && y && z) ≡ false → r ≡ once (sendSlotsIn queued n outstanding m) → length marks ≡ 256 → marks ≡ markedAll none (sendSlotsIn queued n outstanding m)
+  pub limits-fit : (r : Bool) → not (x && y && z) ≡ false → r ≡ once (sendSlotsIn queued n outstanding m) → length marks ≡ 256
+      → marks ≡ markedAll none (sendSlotsIn queued n outstanding m)
       → SendingFits mss queued n outstanding transmissions m marks r
   limits-fit r t er w e = record { whole = w; fits = rw (← ex, ← ey, ← ez, not-false (x && y && z) t) er; marked = λ z. e }
 
-module _ (mss expected : ℕ) (ready : List ℕ) (n : ℕ) (waiting numbers : List ℕ) (m : ℕ) (marks : List ℕ) (x : Bool) (w : length marks ≡ 256) (e : marks ≡ markedAll none (receiveSlotsIn ready n waiting m)) (ex : x ≡ once (receiveSlotsIn ready n waiting m)) where
+module _ (mss expected : ℕ) (ready : List ℕ) (n : ℕ) (waiting numbers : List ℕ) (m : ℕ) (marks : List ℕ) (x : Bool) (w : length marks ≡ 256)
+    (e : marks ≡ markedAll none (receiveSlotsIn ready n waiting m)) (ex : x ≡ once (receiveSlotsIn ready n waiting m)) where
   pub slots-fail : not x ≡ true → ReceivingFits mss expected ready n waiting numbers m marks false
   slots-fail t = record { whole = w; fits = sym (rw (← ex, not-true x t) refl); marked = λ z. e }
 
-  pub slots-fit : (r : Bool) → not x ≡ false → r ≡ (all (wordFits mss) (take n ready) && all (wordFits mss) (take m waiting) && aheadFits expected n numbers m) → ReceivingFits mss expected ready n waiting numbers m marks r
+  pub slots-fit : (r : Bool) → not x ≡ false
+      → r ≡ (all (wordFits mss) (take n ready) && all (wordFits mss) (take m waiting) && aheadFits expected n numbers m)
+      → ReceivingFits mss expected ready n waiting numbers m marks r
   slots-fit r t er = record { whole = w; fits = rw (← ex, not-false x t) er; marked = λ z. e }

@@ -43,12 +43,18 @@ module _ (mode una next : ℕ) where
   carried [] least h g = record { some = h; fits = lt-ltb least (2 ^ 32) g }
   carried (r ∷ l) least h g = go (leb least (off r) && ltb (off r) limit && recordFits mode r) refl (carried l (off r + 1) (omega arith))
     where
-      go : (b : Bool) → (leb least (off r) && ltb (off r) limit && recordFits mode r) ≡ b → (off r + 1 < 2 ^ 32 → Carried l (off r + 1)) → Carried (r ∷ l) least
+      go : (b : Bool) → (leb least (off r) && ltb (off r) limit && recordFits mode r) ≡ b → (off r + 1 < 2 ^ 32 → Carried l (off r + 1))
+          → Carried (r ∷ l) least
       go true e rest =
-          let less : off r < limit = ltb-true (off r) limit (and-parts (leb least (off r)) (ltb (off r) limit) (and-parts (leb least (off r) && ltb (off r) limit) (recordFits mode r) e .0) .1) in
+          let less : off r < limit = ltb-true (off r) limit
+          (and-parts (leb least (off r)) (ltb (off r) limit) (and-parts (leb least (off r) && ltb (off r) limit) (recordFits mode r) e .0)
+          .1) in
           let k = rest (omega (arith, less)) in
           record { some = rw (lt-ltb 0 least h, e) (k .some); fits = rw (lt-ltb 0 least h, e) (k .fits) }
-      go false e rest = record { some = rw (lt-ltb 0 least h, e, stays-refused l) (omega arith); fits = rw (lt-ltb 0 least h, e, stays-refused l) refl }
+      go false e rest = record {
+        some = rw (lt-ltb 0 least h, e, stays-refused l) (omega arith);
+        fits = rw (lt-ltb 0 least h, e, stays-refused l) refl;
+      }
 
   pub flown-fits : (l : List Record) → flownBy una next (passed 0 l) ≡ flightFits mode una next l
   unfolding leastAfterAll recordsFit firstOf
@@ -60,9 +66,11 @@ module _ (mode una next : ℕ) where
       turn false b = refl
   flown-fits (r ∷ l) = go (eqb (r .number) una) refl (leb 0 (off r) && ltb (off r) limit && recordFits mode r) refl
     where
-      go : (s : Bool) → eqb (r .number) una ≡ s → (b : Bool) → (leb 0 (off r) && ltb (off r) limit && recordFits mode r) ≡ b → flownBy una next (passed 0 (r ∷ l)) ≡ flightFits mode una next (r ∷ l)
+      go : (s : Bool) → eqb (r .number) una ≡ s → (b : Bool) → (leb 0 (off r) && ltb (off r) limit && recordFits mode r) ≡ b
+          → flownBy una next (passed 0 (r ∷ l)) ≡ flightFits mode una next (r ∷ l)
       go true d true e =
-          let less : off r < limit = ltb-true (off r) limit (and-parts (leb 0 (off r)) (ltb (off r) limit) (and-parts (leb 0 (off r) && ltb (off r) limit) (recordFits mode r) e .0) .1) in
+          let less : off r < limit = ltb-true (off r) limit
+          (and-parts (leb 0 (off r)) (ltb (off r) limit) (and-parts (leb 0 (off r) && ltb (off r) limit) (recordFits mode r) e .0) .1) in
           let k = carried l (off r + 1) (omega arith) (omega (arith, less)) in
           rw (d, e, k .fits, lt-ltb 0 _ (k .some)) (turn (recordsFit mode una limit (off r + 1) l) (leb limit sendWindow))
         where

@@ -49,7 +49,8 @@ neighbours (a ∷ b ∷ l) = follows a b && neighbours (b ∷ l)
 
 abbrev pub endsFit : ℕ → ℕ → ℕ → ℕ → Bool
 endsFit first last expected ready =
-    ltb (minus first expected) receiveWindow && ltb (minus last expected) receiveWindow && not (eqb (minus first expected) 0 && ltb ready receiveWindow)
+    ltb (minus first expected) receiveWindow && ltb (minus last expected) receiveWindow
+    && not (eqb (minus first expected) 0 && ltb ready receiveWindow)
 
 -- the first n numbers of an array
 abbrev pub aheadFits : ℕ → ℕ → List ℕ → ℕ → Bool
@@ -71,7 +72,8 @@ recordFits mode r = leb (r .skips) skipsMost && timeoutFits mode (r .timeout)
 unfoldable pub recordsFit : ℕ → ℕ → ℕ → ℕ → List Record → Bool
 recordsFit mode una limit least [] = true
 recordsFit mode una limit least (r ∷ l) =
-    leb least (minus (r .number) una) && ltb (minus (r .number) una) limit && recordFits mode r && recordsFit mode una limit (minus (r .number) una + 1) l
+    leb least (minus (r .number) una) && ltb (minus (r .number) una) limit && recordFits mode r
+    && recordsFit mode una limit (minus (r .number) una + 1) l
 
 unfoldable pub firstOf : List Record → ℕ → ℕ
 firstOf [] other = other
@@ -85,7 +87,8 @@ flightFits mode una next l = leb (minus next una) sendWindow && eqb (firstOf l n
 abbrev pub leastAfter : ℕ → ℕ → ℕ → ℕ → Record → ℕ
 leastAfter mode una next least r =
     let offset = minus (r .number) una in
-    cond ((ltb 0 least || eqb (r .number) una) && leb least offset && ltb offset (minus next una) && recordFits mode r) (offset + 1) (2 ^ 32)
+    cond ((ltb 0 least || eqb (r .number) una) && leb least offset && ltb offset (minus next una) && recordFits mode r) (offset + 1)
+    (2 ^ 32)
 
 unfoldable pub leastAfterAll : ℕ → ℕ → ℕ → ℕ → List Record → ℕ
 leastAfterAll mode una next least [] = least
@@ -102,12 +105,14 @@ sendSlotsIn queued n outstanding m = slotsOf (heldIn outstanding m) ++ slotsOf (
 
 abbrev pub sendingFits : ℕ → List ℕ → ℕ → List ℕ → List ℕ → ℕ → Bool
 sendingFits mss queued n outstanding transmissions m =
-    all (sendWordFits mss) (take n queued) && all (sendWordFits mss) (take m outstanding) && all sentFew (take m transmissions) && once (sendSlotsIn queued n outstanding m)
+    all (sendWordFits mss) (take n queued) && all (sendWordFits mss) (take m outstanding) && all sentFew (take m transmissions)
+    && once (sendSlotsIn queued n outstanding m)
 
-pub record SendingFits (mss : ℕ) (queued : List ℕ) (n : ℕ) (outstanding transmissions : List ℕ) (m : ℕ) (marks : List ℕ) (r : Bool) : Type 0 where
-  pub whole : length marks ≡ 256
-  pub fits : r ≡ sendingFits mss queued n outstanding transmissions m
-  pub marked : r ≡ true → marks ≡ markedAll none (sendSlotsIn queued n outstanding m)
+pub record SendingFits (mss : ℕ) (queued : List ℕ) (n : ℕ) (outstanding transmissions : List ℕ) (m : ℕ) (marks : List ℕ) (r : Bool) : Type 0
+  where
+    pub whole : length marks ≡ 256
+    pub fits : r ≡ sendingFits mss queued n outstanding transmissions m
+    pub marked : r ≡ true → marks ≡ markedAll none (sendSlotsIn queued n outstanding m)
 
 abbrev pub receiveSlotsIn : List ℕ → ℕ → List ℕ → ℕ → List ℕ
 receiveSlotsIn ready n waiting m = slotsOf (heldIn ready n) ++ slotsOf (heldIn waiting m)
@@ -125,9 +130,11 @@ pub record HeldOnce (ready : List ℕ) (n : ℕ) (waiting : List ℕ) (m : ℕ) 
 
 abbrev pub receivingFits : ℕ → ℕ → List ℕ → ℕ → List ℕ → List ℕ → ℕ → Bool
 receivingFits mss expected ready n waiting numbers m =
-    once (receiveSlotsIn ready n waiting m) && (all (wordFits mss) (take n ready) && all (wordFits mss) (take m waiting) && aheadFits expected n numbers m)
+    once (receiveSlotsIn ready n waiting m)
+    && (all (wordFits mss) (take n ready) && all (wordFits mss) (take m waiting) && aheadFits expected n numbers m)
 
-pub record ReceivingFits (mss expected : ℕ) (ready : List ℕ) (n : ℕ) (waiting numbers : List ℕ) (m : ℕ) (marks : List ℕ) (r : Bool) : Type 0 where
-  pub whole : length marks ≡ 256
-  pub fits : r ≡ receivingFits mss expected ready n waiting numbers m
-  pub marked : r ≡ true → marks ≡ markedAll none (receiveSlotsIn ready n waiting m)
+pub record ReceivingFits (mss expected : ℕ) (ready : List ℕ) (n : ℕ) (waiting numbers : List ℕ) (m : ℕ) (marks : List ℕ) (r : Bool) : Type 0
+  where
+    pub whole : length marks ≡ 256
+    pub fits : r ≡ receivingFits mss expected ready n waiting numbers m
+    pub marked : r ≡ true → marks ≡ markedAll none (receiveSlotsIn ready n waiting m)

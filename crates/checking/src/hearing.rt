@@ -1,12 +1,13 @@
-// The verdict for a call that takes receive slots alone.
+// The verdict for a call that takes no send slots.
 use crate::Verdict;
+use crate::judged;
 use crate::numbers;
 use crate::receiving_fits;
 use crate::sending_fits;
+use crate::within;
 use control::Arrival;
 use control::Clock;
 use control::Flight;
-use protocol::Refusal;
 use protocol::Settings;
 ghost use mathlib.Core.Path.{_≡_};
 ghost use Rattle.marks.specs.Marks.{none};
@@ -37,37 +38,28 @@ pub fn admit_hearing(
         (now (transmissions .entry)) (now (ready .entry)) (now (waiting .entry)) (now («waiting_numbers» .entry))))
         records (now (marks .exit)) r) ⌝ }
 {
-    if !long {
-        return Verdict::Refused(Refusal::ShortPart);
-    }
-    if !numbers::numbers_fit(settings, flight, arrival, clock) {
-        return Verdict::Refused(Refusal::InvalidBlock);
-    }
+    let numbers = numbers::numbers_fit(settings, flight, arrival, clock);
     let most = settings.mss();
-    let mss = most as u32;
+    let mss = most as u16;
     let sends = sending_fits(
         queued,
-        flight.queued,
+        within(flight.queued, 128),
         outstanding,
         transmissions,
-        flight.outstanding,
+        within(flight.outstanding, 32),
         mss,
         marks,
     );
     *marks = [0; 256];
     let receives = receiving_fits(
         ready,
-        arrival.ready,
+        within(arrival.ready, 128),
         waiting,
         waiting_numbers,
-        arrival.waiting,
+        within(arrival.waiting, 128),
         arrival.expected,
         mss,
         marks,
     );
-    if sends & flown & receives {
-        Verdict::Passed
-    } else {
-        Verdict::Refused(Refusal::InvalidBlock)
-    }
+    judged(long, numbers & sends & flown & receives)
 }

@@ -7,21 +7,21 @@ ghost use Rattle.session.specs.Valid.{all};
 ghost use Rattle.checking.specs.Tests.{wordFits, sendWordFits, sentFew};
 
 // Length at most mss, fragment number at most 126.
-fn word_fits(word: u32, mss: u32) -> bool
+fn word_fits(word: u32, mss: u16) -> bool
     ensures { λ r. ⌜ r ≡ wordFits mss word ⌝ }
 {
-    (word / 65536 <= mss) & (word / 256 % 256 <= 126)
+    (word / 65536 <= mss as u32) & (word / 256 % 256 <= 126)
 }
 
 // The same, and the slot below 128.
-fn send_word_fits(word: u32, mss: u32) -> bool
+fn send_word_fits(word: u32, mss: u16) -> bool
     ensures { λ r. ⌜ r ≡ sendWordFits mss word ⌝ }
 {
-    (word / 65536 <= mss) & (word / 256 % 256 <= 126) & (word % 256 < 128)
+    (word / 65536 <= mss as u32) & (word / 256 % 256 <= 126) & (word % 256 < 128)
 }
 
 // Each of n words of the receiving half fits.
-pub fn held_fit(words: &[u32; 128], n: usize, mss: u32) -> bool
+pub fn held_fit(words: &[u32; 128], n: usize, mss: u16) -> bool
     requires { ⌜ (length (now words) ≡ 128) × (n ≤ 128) ⌝ }
     ensures { λ r. ⌜ r ≡ all (wordFits mss) (take n (now (words .entry))) ⌝ }
 {
@@ -35,7 +35,7 @@ pub fn held_fit(words: &[u32; 128], n: usize, mss: u32) -> bool
 }
 
 // Each of n queued words fits.
-pub fn queued_fit(words: &[u32; 128], n: usize, mss: u32) -> bool
+pub fn queued_fit(words: &[u32; 128], n: usize, mss: u16) -> bool
     requires { ⌜ (length (now words) ≡ 128) × (n ≤ 128) ⌝ }
     ensures { λ r. ⌜ r ≡ all (sendWordFits mss) (take n (now (words .entry))) ⌝ }
 {
@@ -49,7 +49,7 @@ pub fn queued_fit(words: &[u32; 128], n: usize, mss: u32) -> bool
 }
 
 // Each of n outstanding words fits.
-pub fn outstanding_fit(words: &[u32; 32], n: usize, mss: u32) -> bool
+pub fn outstanding_fit(words: &[u32; 32], n: usize, mss: u16) -> bool
     requires { ⌜ (length (now words) ≡ 32) × (n ≤ 32) ⌝ }
     ensures { λ r. ⌜ r ≡ all (sendWordFits mss) (take n (now (words .entry))) ⌝ }
 {

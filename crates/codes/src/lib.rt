@@ -8,7 +8,8 @@ use protocol::Refusal;
 use protocol::Settings;
 ghost use mathlib.Core.Path.{_≡_};
 ghost use Prim.Native.Nat.{min};
-ghost use Rattle.codes.specs.Codes.{numberCode, refusalCode, answerCode, sizeCode, countCode, updateCode, timeCode, timeStored, settingsOf};
+ghost use Rattle.codes.specs.Codes.{numberCode, refusalCode, answerCode, sizeCode, countCode};
+ghost use Rattle.codes.specs.Codes.{updateCode, timeCode, timeStored, settingsOf};
 
 // A count is told up to this one.
 const COUNT_MOST: usize = 2147483647;

@@ -4,7 +4,21 @@ use mathlib.Core.Path.{_≡_, refl}
 use mathlib.Core.Bool.{Bool, true, false}
 use mathlib.Core.List.{List, [], _∷_, map}
 use Prim.Native.Nat.{ℕ, _*_}
-use Rattle.congestion.specs.Congestions.{initial, usedWindow, slowStart, raised, widened, avoidance, limited, grown, halved, bySkips, byTimeout, atLeastOne, afterFlush}
+use Rattle.congestion.specs.Congestions.{
+  initial,
+  usedWindow,
+  slowStart,
+  raised,
+  widened,
+  avoidance,
+  limited,
+  grown,
+  halved,
+  bySkips,
+  byTimeout,
+  atLeastOne,
+  afterFlush,
+}
 use Rattle.congestion.specs.declared.Congestion.{Congestion}
 use Rattle.congestion.specs.declared.Losses.{Losses}
 

@@ -10,7 +10,24 @@ use borrow.Author.Tests.{lt-ltb, le-ltb, le-leb, lt-leb, eq-eqb}
 use lib.Dec.{leb, ltb, eqb}
 use Rattle.protocol.specs.Protocol.{sendWindow, congestionWindowMost}
 use Rattle.timing.specs.Choices.{either-way}
-use Rattle.congestion.specs.Congestions.{initial, usedWindow, slowStart, raised, widened, avoidance, limited, grown, afterDatagram, halved, bySkips, byTimeout, atLeastOne, afterFlush, InRange, Growable}
+use Rattle.congestion.specs.Congestions.{
+  initial,
+  usedWindow,
+  slowStart,
+  raised,
+  widened,
+  avoidance,
+  limited,
+  grown,
+  afterDatagram,
+  halved,
+  bySkips,
+  byTimeout,
+  atLeastOne,
+  afterFlush,
+  InRange,
+  Growable,
+}
 use Rattle.congestion.specs.declared.Congestion.{Congestion}
 use Rattle.congestion.specs.declared.Losses.{Losses}
 
@@ -128,7 +145,12 @@ limited-in-range m peer c h r = go (decLt peer (c .window))
         })
     go (no k) =
         rw (le-ltb peer (c .window) (omega arith))
-        (record { window = omega arith; threshold-least = r .threshold-least; threshold-most = r .threshold-most; allowance = r .allowance })
+        (record {
+          window = omega arith;
+          threshold-least = r .threshold-least;
+          threshold-most = r .threshold-most;
+          allowance = r .allowance;
+        })
 
 -- growth stays in it, whatever the peer's window
 pub grown-in-range : (m peer : ℕ) (c : Congestion) → 0 < m → peer ≤ congestionWindowMost → InRange m c → InRange m (grown c m peer)
@@ -171,7 +193,12 @@ skips-in-range m l h k =
 timeout-in-range : (m : ℕ) (l : Losses) → l .used ≤ sendWindow → InRange m (byTimeout l m)
 unfolding byTimeout
 timeout-in-range m l h =
-    record { window = omega arith; threshold-least = halved-least (l .used); threshold-most = halved-most (l .used) h; allowance = omega arith }
+    record {
+      window = omega arith;
+      threshold-least = halved-least (l .used);
+      threshold-most = halved-most (l .used) h;
+      allowance = omega arith;
+    }
 
 one-in-range : (m : ℕ) (c : Congestion) → InRange m c → InRange m (atLeastOne c m)
 unfolding atLeastOne

@@ -34,4 +34,10 @@ counts f a e =
     let b = and-parts _ _ (p .0) in
     let c = and-parts _ _ (b .0) in
     let d = and-parts _ _ (c .0) in
-    record { queued = leb-true _ _ (d .0); outstanding = leb-true _ _ (d .1); ready = leb-true _ _ (c .1); waiting = leb-true _ _ (b .1); acks = leb-true _ _ (p .1) }
+    record {
+      queued = leb-true _ _ (d .0);
+      outstanding = leb-true _ _ (d .1);
+      ready = leb-true _ _ (c .1);
+      waiting = leb-true _ _ (b .1);
+      acks = leb-true _ _ (p .1);
+    }

@@ -43,7 +43,14 @@ pub record Arrays : Type 0 where
 
 abbrev pub arrays : List ℕ → List ℕ → List ℕ → List ℕ → List ℕ → List ℕ → Arrays
 arrays queued outstanding transmissions ready waiting numbers =
-    record { queued = queued; outstanding = outstanding; transmissions = transmissions; ready = ready; waiting = waiting; numbers = numbers }
+    record {
+      queued = queued;
+      outstanding = outstanding;
+      transmissions = transmissions;
+      ready = ready;
+      waiting = waiting;
+      numbers = numbers;
+    }
 
 abbrev pub arraysOf : Link → Arrays
 arraysOf l =
@@ -98,7 +105,13 @@ sendingOf f queued outstanding transmissions records =
 -- the receiving half, with the acks noted
 abbrev pub receivingOf : Arrival → List ℕ → List ℕ → List ℕ → List Ack → Receiving
 receivingOf a ready waiting numbers acks =
-    record { next = a .expected; ready = heldIn ready (a .ready); waiting = waitingIn waiting numbers (a .waiting); acks = acks; tell = isSet (a .tell) }
+    record {
+      next = a .expected;
+      ready = heldIn ready (a .ready);
+      waiting = waitingIn waiting numbers (a .waiting);
+      acks = acks;
+      tell = isSet (a .tell);
+    }
 
 -- the schedule of flushes
 abbrev pub scheduleOf : Clock → Schedule

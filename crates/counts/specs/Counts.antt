@@ -1,5 +1,6 @@
--- C gets counts as they are: whatever block and parts a call is given, the number that it answers is the count of its result, 0 of one that counts
--- nothing, or the refusal's number below zero; it is below zero exactly where the call is refused. The codes tell no number above 2^31 - 1, nor a start above 2^32 - 1; no call comes near (crate `demands`, CountLaws).
+-- C gets counts as they are: whatever block and parts a call is given, the number that it answers is the count of its result, 0 of one that
+-- counts nothing, or the refusal's number below zero; it is below zero exactly where the call is refused. The codes tell no number above
+-- 2^31 - 1, nor a start above 2^32 - 1; no call comes near (crate `demands`, CountLaws).
 -- Assumes nothing.
 use mathlib.Core.Path.{_≡_, refl, ap, _∙_, subst}
 use mathlib.Core.Bool.{Bool, true, false}
@@ -21,7 +22,7 @@ use Rattle.control.specs.declared.Link.{Link}
 use Rattle.answers.specs.declared.Answer.{Answer}
 use Rattle.answers.specs.declared.Count.{Count}
 use Rattle.answers.specs.declared.Count.the-variants as count
-use Rattle.promises.specs.Parts.{Parts}
+use Rattle.promises.specs.Parts.{Parts, FlushParts}
 use Rattle.promises.specs.Outcomes.{opens, sends, takesIn, flushes, reads, tells, shows}
 use Rattle.promises.specs.Answers.{Accepts, Counts, countOutcome}
 use Rattle.promises.specs.Promises.{OpenPromise, SendPromise, InputPromise, FlushPromise, ReadPromise, SizePromise}
@@ -113,24 +114,26 @@ module _ (l : Link) (p : Parts) (r : ℤ) (l′ : Link) (p′ : Parts) where
   pub open-told : (c : Settings) → Gives answerCode (λ (a : Answer). OpenPromise c l p a l′ p′) r → Told nothing (opens c p) r
   open-told c g = rw (g .number) (accept-told (opens c p) (g .answer) (g .promise .answer))
 
-  pub send-told : (message : List ℕ) → Gives answerCode (λ (a : Answer). SendPromise message l p a l′ p′) r → Told nothing (sends l p message) r
+  pub send-told : (message : List ℕ) → Gives answerCode (λ (a : Answer). SendPromise message l p a l′ p′) r
+      → Told nothing (sends l p message) r
   send-told message g = rw (g .number) (accept-told (sends l p message) (g .answer) (g .promise .answer))
 
-  pub input-told : (datagram : List ℕ) → Gives answerCode (λ (a : Answer). InputPromise datagram l p a l′ p′) r → Told nothing (takesIn l p datagram) r
+  pub input-told : (datagram : List ℕ) → Gives answerCode (λ (a : Answer). InputPromise datagram l p a l′ p′) r
+      → Told nothing (takesIn l p datagram) r
   input-told datagram g = rw (g .number) (accept-told (takesIn l p datagram) (g .answer) (g .promise .answer))
 
 -- ---- the calls that count
 
 module _ (l : Link) (p : Parts) (r : ℤ) where
   -- a flush gives the number of its datagrams
-  pub flush-told : (t : ℕ) (out lengths : List ℕ) (l′ : Link) (p′ : Parts) (out′ lengths′ : List ℕ)
-      → Gives countCode (λ (a : Count). FlushPromise t l p out lengths a l′ p′ out′ lengths′) r
-      → Told (λ (x : Flushed). length (x .datagrams)) (flushes l p (length out) (length lengths) t) r
-  flush-told t out lengths l′ p′ out′ lengths′ g =
+  pub flush-told : (t : ℕ) (f : FlushParts) (l′ : Link) (p′ : Parts) (f′ : FlushParts)
+      → Gives countCode (λ (a : Count). FlushPromise t l p f a l′ p′ f′) r
+      → Told (λ (x : Flushed). length (x .datagrams)) (flushes l p f t) r
+  flush-told t f l′ p′ f′ g =
       rw (g .number)
       (code-told (λ (x : Flushed). length (x .datagrams)) (λ (x : Flushed). length (x .datagrams) ≤ lengthsLeast) (λ x h. omega arith)
-      (flushes l p (length out) (length lengths) t)
-      (flushes-few l p (length out) (length lengths) t)
+      (flushes l p f t)
+      (flushes-few l p f t)
       (g .answer)
       (g .promise .answer))
 
@@ -140,7 +143,8 @@ module _ (l : Link) (p : Parts) (r : ℤ) where
       → Told (λ (x : Reads). length (x .bytes)) (reads l p (length buffer)) r
   read-told buffer l′ p′ buffer′ g =
       rw (g .number)
-      (code-told (λ (x : Reads). length (x .bytes)) (λ (x : Reads). MessageFits (l .settings) (length (x .bytes))) (λ x. message-small (l .settings) (length (x .bytes)))
+      (code-told (λ (x : Reads). length (x .bytes)) (λ (x : Reads). MessageFits (l .settings) (length (x .bytes)))
+      (λ x. message-small (l .settings) (length (x .bytes)))
       (reads l p (length buffer))
       (reads-fit l p (length buffer))
       (g .answer)

@@ -51,7 +51,8 @@ reading-below (reading.Settings c) r before after h = rw (h .0)
 reading-below (reading.Refused q) r before after h = rw (h .0) (refusal-below q)
 
 -- the count of a file that was written is told as it is
-pub written-told : (c : Settings) (part part′ : List ℕ) (n : ℕ) → Writes c part (writing.Wrote n) part′ → writingCode (writing.Wrote n) ≡ pos n
+pub written-told : (c : Settings) (part part′ : List ℕ) (n : ℕ) → Writes c part (writing.Wrote n) part′
+    → writingCode (writing.Wrote n) ≡ pos n
 written-told c part part′ n w = ap pos (omega (arith, wrote-short c part part′ n w))
 
 -- the file that was written, read back: 0, and the seven settings

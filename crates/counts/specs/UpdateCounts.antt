@@ -1,5 +1,5 @@
--- What C gets of an update and of a check, whatever block and parts they are given: the count of an update's datagrams as it is, one number alone where
--- it does not flush, which is no count's and no refusal's, and the time that a check names.
+-- What C gets of an update and of a check, whatever block and parts they are given: the count of an update's datagrams as it is, one number
+-- alone where it does not flush, which is no count's and no refusal's, and the time that a check names.
 -- Assumes nothing.
 use mathlib.Core.Path.{_≡_, refl, sym, ap, _∙_, subst}
 use mathlib.Core.Bool.{true, false, false≢true}
@@ -18,7 +18,7 @@ use Rattle.control.specs.declared.Link.{Link}
 use Rattle.answers.specs.declared.Update.{Update}
 use Rattle.answers.specs.declared.Time.{Time}
 use Rattle.answers.specs.declared.Time.the-variants.{At, Refused}
-use Rattle.promises.specs.Parts.{Parts}
+use Rattle.promises.specs.Parts.{Parts, FlushParts}
 use Rattle.promises.specs.Outcomes.{updates, checks}
 use Rattle.promises.specs.Answers.{updateAnswer, timeOutcome}
 use Rattle.promises.specs.Promises.{UpdatePromise}
@@ -70,15 +70,17 @@ update-code (done (waits s)) few a e = ap updateCode e
 update-code (done (flushes x)) few a e = ap updateCode e ∙ ap pos (omega (arith, few))
 
 module _ (l : Link) (p : Parts) (r : ℤ) where
-  pub update-told : (t : ℕ) (out lengths : List ℕ) (l′ : Link) (p′ : Parts) (out′ lengths′ : List ℕ)
-      → Gives updateCode (λ (a : Update). UpdatePromise t l p out lengths a l′ p′ out′ lengths′) r
-      → UpdateTold (updates l p (length out) (length lengths) t) r
-  update-told t out lengths l′ p′ out′ lengths′ g =
+  pub update-told : (t : ℕ) (f : FlushParts) (l′ : Link) (p′ : Parts) (f′ : FlushParts)
+      → Gives updateCode (λ (a : Update). UpdatePromise t l p f a l′ p′ f′) r
+      → UpdateTold (updates l p f t) r
+  update-told t f l′ p′ f′ g =
       rw (g .number)
-      (update-code (updates l p (length out) (length lengths) t) (updates-few l p (length out) (length lengths) t) (g .answer) (g .promise .answer))
+      (update-code (updates l p f t) (updates-few l p f t) (g .answer) (g .promise .answer))
 
-  pub check-told : (t was stored : ℕ) → Gives timeCode (λ (a : Time). TimePromise t l p a was stored) r → TimeTold (checks l p t) was r stored
-  check-told t was stored g = subst (λ (o : Outcome ℕ). TimeTold o was r stored) (g .promise .time .answer) (rw (g .number, g .promise .when) (go (g .answer)))
+  pub check-told : (t was stored : ℕ) → Gives timeCode (λ (a : Time). TimePromise t l p a was stored) r
+      → TimeTold (checks l p t) was r stored
+  check-told t was stored g = subst (λ (o : Outcome ℕ). TimeTold o was r stored) (g .promise .time .answer)
+      (rw (g .number, g .promise .when) (go (g .answer)))
     where
       go : (a : Time) → TimeTold (timeOutcome a) was (timeCode a) (timeStored a was)
       go (At when) = (refl, refl)

@@ -9,7 +9,15 @@ use Rattle.wire.specs.Headers.{decode}
 use Rattle.protocol.specs.Protocol.{push, windowTell, headerSize, fragmentMost}
 use Rattle.wire.specs.declared.Header.{Header}
 use Rattle.protocol.specs.declared.Refusal.{Refusal}
-use Rattle.protocol.specs.declared.Refusal.the-variants.{ShortDatagram, OtherConversation, LengthPastEnd, UnknownCommand, LongPayload, HighFragment, TrailingBytes}
+use Rattle.protocol.specs.declared.Refusal.the-variants.{
+  ShortDatagram,
+  OtherConversation,
+  LengthPastEnd,
+  UnknownCommand,
+  LongPayload,
+  HighFragment,
+  TrailingBytes,
+}
 use Rattle.datagram.specs.declared.Verdict.{Verdict}
 use Rattle.datagram.specs.declared.Verdict.the-variants.{Passes, Fails}
 use Rattle.datagram.specs.declared.Checked.{Checked}
@@ -77,7 +85,8 @@ tail [] = segments []
 tail (b ∷ t) = refused TrailingBytes
 
 module _ (conv mss : ℕ) where
-  -- the segments of s behind its first skip bytes. A segment that begins with b has 23 + len bytes more
+  -- the segments of s behind its first skip bytes. A segment that begins with b has 23 + len bytes more. It goes by bytes, so that it ends;
+  -- WalkLaws `walk-step` and `walk-short` say it segment by segment
   unfoldable pub walk : ℕ → List ℕ → Parsed
   walk skip [] = tail []
   walk zero (b ∷ s) =

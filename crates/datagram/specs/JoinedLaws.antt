@@ -54,11 +54,13 @@ module _ (conv mss : ℕ) (g : Segment) (v : Valid conv mss g) (t : List ℕ) wh
 
   walk-front : walk conv mss 0 (bytes g ++ t) ≡ inFront Passes g (walk conv mss 0 t)
   walk-front =
-      let passes : verdict conv mss (length (bytes g ++ t) - 24) (g .header) ≡ Passes = verdict-more conv mss _ _ _ (omega (arith, length-front)) (v .passes) in
+      let passes : verdict conv mss (length (bytes g ++ t) - 24) (g .header) ≡ Passes =
+      verdict-more conv mss _ _ _ (omega (arith, length-front)) (v .passes) in
       rw (walk-step conv mss (bytes g ++ t) (omega (arith, length-front)), head, found, next, passes)
 
 -- valid segments stand in front of whatever follows them
-pub walk-joined : (conv mss : ℕ) (gs : List Segment) (t : List ℕ) → AllValid conv mss gs → walk conv mss 0 (joined gs ++ t) ≡ allInFront gs (walk conv mss 0 t)
+pub walk-joined : (conv mss : ℕ) (gs : List Segment) (t : List ℕ) → AllValid conv mss gs
+    → walk conv mss 0 (joined gs ++ t) ≡ allInFront gs (walk conv mss 0 t)
 unfolding joined
 walk-joined conv mss [] t v = refl
 walk-joined conv mss (g ∷ gs) t v = rw (append-assoc, walk-front conv mss g (v .0) (joined gs ++ t), walk-joined conv mss gs t (v .1))
@@ -76,7 +78,8 @@ parse-joined conv mss g gs t v h =
     rw (parse-long conv mss (joined (g ∷ gs) ++ t) long, walk-joined conv mss (g ∷ gs) t v, walk-short conv mss t h)
 
 -- with nothing behind them
-pub parse-whole : (conv mss : ℕ) (g : Segment) (gs : List Segment) → AllValid conv mss (g ∷ gs) → parse conv mss (joined (g ∷ gs)) ≡ segments (g ∷ gs)
+pub parse-whole : (conv mss : ℕ) (g : Segment) (gs : List Segment) → AllValid conv mss (g ∷ gs)
+    → parse conv mss (joined (g ∷ gs)) ≡ segments (g ∷ gs)
 parse-whole conv mss g gs v =
     rw append-nil at (parse-joined conv mss g gs [] v (omega arith)) ∙ rw (tail-empty [] refl) (all-in-front (g ∷ gs))
 

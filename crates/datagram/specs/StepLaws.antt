@@ -85,7 +85,8 @@ module _ (conv mss : ℕ) (s : List ℕ) (i : ℕ) (gs : List Segment) (r : Rema
   short : length s < i + 24 → gs ≡ []
   short h = tail-none (drop i s) gs (sym (walk-end conv mss s i h) ∙ r .walked)
 
-  front-at : i + 24 ≤ length s → Front (verdict conv mss (length s - (i + 24)) (decode s i)) (segmentOf (drop i s)) (walk conv mss 0 (drop (i + 24 + decode s i .len) s)) gs
+  front-at : i + 24 ≤ length s → Front (verdict conv mss (length s - (i + 24)) (decode s i)) (segmentOf (drop i s))
+      (walk conv mss 0 (drop (i + 24 + decode s i .len) s)) gs
   front-at h = front _ _ _ gs (sym (walk-at conv mss s i h) ∙ r .walked)
 
   -- where a header stands, all of its segment does

@@ -18,7 +18,20 @@ use Rattle.protocol.specs.declared.Refusal.the-variants.{ShortDatagram, Trailin
 use Rattle.datagram.specs.declared.Verdict.{Verdict}
 use Rattle.datagram.specs.declared.Verdict.the-variants.{Passes, Fails}
 use Rattle.datagram.specs.declared.Checked.the-variants.{Accepted}
-use Rattle.datagram.specs.Datagrams.{Segment, ofPush, verdict, segmentOf, Parsed, refused, segments, inFront, tail, walk, parse, counted}
+use Rattle.datagram.specs.Datagrams.{
+  Segment,
+  ofPush,
+  verdict,
+  segmentOf,
+  Parsed,
+  refused,
+  segments,
+  inFront,
+  tail,
+  walk,
+  parse,
+  counted,
+}
 
 -- ---- a tail
 
@@ -116,7 +129,8 @@ module _ (conv mss : ℕ) where
 
   pub walk-at : (s : List ℕ) (i : ℕ) → i + 24 ≤ length s →
       walk conv mss 0 (drop i s)
-      ≡ inFront (verdict conv mss (length s - (i + 24)) (decode s i)) (segmentOf (drop i s)) (walk conv mss 0 (drop (i + 24 + decode s i .len) s))
+      ≡ inFront (verdict conv mss (length s - (i + 24)) (decode s i)) (segmentOf (drop i s))
+      (walk conv mss 0 (drop (i + 24 + decode s i .len) s))
   walk-at s i h =
       let room : length s - i - 24 ≡ length s - (i + 24) = omega arith in
       rw (walk-step (drop i s) (rw length-drop (omega arith)), length-drop, decode-drop, room, drop-drop, ← add-assoc)

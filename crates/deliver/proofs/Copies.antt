@@ -50,34 +50,45 @@ pub record Next (mss : ℕ) (pool : List ℕ) (out : List ℕ) (at slot len : �
   pub from : slot * mss + len ≤ length pool
   pub to : at + len ≤ length out
 
-module _ (mss : ℕ) (pool : List ℕ) (h : Held) (left : List Held) (goal out : List ℕ) (at : ℕ) (c : Copying mss pool (h ∷ left) goal out at) where
-  copying-next : Next mss pool out at (h .slot) (h .len)
-  unfolding lengthOf
-  copying-next = record {
-    low = c .inside .each .slots .0;
-    from = in-slot mss (h .slot) (h .len) (length pool) (c .inside .each .slots .0) (c .inside .each .lengths .0) (c .inside .whole);
-    to = omega (arith, c .fits);
-  }
+module _ (mss : ℕ) (pool : List ℕ) (h : Held) (left : List Held) (goal out : List ℕ) (at : ℕ) (c : Copying mss pool (h ∷ left) goal out at)
+  where
+    copying-next : Next mss pool out at (h .slot) (h .len)
+    unfolding lengthOf
+    copying-next = record {
+      low = c .inside .each .slots .0;
+      from = in-slot mss (h .slot) (h .len) (length pool) (c .inside .each .slots .0) (c .inside .each .lengths .0) (c .inside .whole);
+      to = omega (arith, c .fits);
+    }
 
-  -- the segment's payload is stored
-  copying-put : Copying mss pool left goal (sets out at (part pool (h .slot * mss) (h .len))) (at + h .len)
-  unfolding lengthOf joinedIn
-  copying-put =
-      let long : length (part pool (h .slot * mss) (h .len)) ≡ h .len = length-take-le (h .len) (drop (h .slot * mss) pool) (rw length-drop (omega (arith, copying-next .from))) in
-      record {
-        inside = record { each = record { lengths = c .inside .each .lengths .1; slots = c .inside .each .slots .1 }; whole = c .inside .whole };
-        fits = rw length-sets (omega (arith, c .fits));
-        whole = rw (sets-append, long) at (c .whole);
-      }
+    -- the segment's payload is stored
+    copying-put : Copying mss pool left goal (sets out at (part pool (h .slot * mss) (h .len))) (at + h .len)
+    unfolding lengthOf joinedIn
+    copying-put =
+        let long : length (part pool (h .slot * mss) (h .len)) ≡ h .len =
+        length-take-le (h .len) (drop (h .slot * mss) pool) (rw length-drop (omega (arith, copying-next .from))) in
+        record {
+          inside = record {
+            each = record { lengths = c .inside .each .lengths .1; slots = c .inside .each .slots .1 };
+            whole = c .inside .whole;
+          };
+          fits = rw length-sets (omega (arith, c .fits));
+          whole = rw (sets-append, long) at (c .whole);
+        }
 
 -- the loop stands at index i
 module _ (mss : ℕ) (pool ws : List ℕ) (k i : ℕ) (goal out : List ℕ) (at : ℕ) (c : Copying mss pool (rest ws k i) goal out at) where
-  module _ (slot len : ℕ) (h : i < k) (g : k ≤ length ws) (e : slot ≡ unpack (getD ws i 0) .slot) (f : len ≡ unpack (getD ws i 0) .len) where
-    pub copying-at : Next mss pool out at slot len
-    copying-at = rw (e, f) (copying-next mss pool (unpack (getD ws i 0)) (rest ws k (i + 1)) goal out at (rw (rest-next ws k i h g) at c))
+  module _ (slot len : ℕ) (h : i < k) (g : k ≤ length ws) (e : slot ≡ unpack (getD ws i 0) .slot) (f : len ≡ unpack (getD ws i 0) .len)
+    where
+      pub copying-at : Next mss pool out at slot len
+      copying-at = rw (e, f) (copying-next mss pool (unpack (getD ws i 0)) (rest ws k (i + 1)) goal out at (rw (rest-next ws k i h g) at c))
 
-    pub copying-more : (out′ : List ℕ) → out′ ≡ sets out at (part pool (slot * mss) len) → Copying mss pool (rest ws k (i + 1)) goal out′ (at + len)
-    copying-more out′ q = rw (q, e, f) (copying-put mss pool (unpack (getD ws i 0)) (rest ws k (i + 1)) goal out at (rw (rest-next ws k i h g) at c))
+      pub copying-more : (out′ : List ℕ) → out′ ≡ sets out at (part pool (slot * mss) len)
+          → Copying mss pool (rest ws k (i + 1)) goal out′ (at + len)
+      copying-more out′ q = rw (
+        q,
+        e,
+        f,
+      ) (copying-put mss pool (unpack (getD ws i 0)) (rest ws k (i + 1)) goal out at (rw (rest-next ws k i h g) at c))
 
   pub copying-end : k ≤ i → out ≡ goal
   unfolding joinedIn
@@ -104,7 +115,15 @@ pub joined-length : (mss : ℕ) (pool : List ℕ) (l : List Held) → InPool mss
 unfolding joinedIn lengthOf
 joined-length mss pool [] i = refl
 joined-length mss pool (h ∷ l) i =
-    let left : InPool mss pool l = record { each = record { lengths = i .each .lengths .1; slots = i .each .slots .1 }; whole = i .whole } in
+    let left : InPool mss pool l = record {
+      each = record { lengths = i .each .lengths .1; slots = i .each .slots .1 };
+      whole = i .whole;
+    } in
     let first : length (part pool (h .slot * mss) (h .len)) ≡ h .len =
-    length-take-le (h .len) (drop (h .slot * mss) pool) (rw length-drop (omega (arith, in-slot mss (h .slot) (h .len) (length pool) (i .each .slots .0) (i .each .lengths .0) (i .whole)))) in
+    length-take-le (h .len) (drop (h .slot * mss) pool)
+    (rw length-drop (omega (
+      arith,
+      in-slot mss (h .slot) (h .len) (length pool) (i .each .slots .0) (i .each .lengths .0)
+          (i .whole),
+    ))) in
     rw (length-append, first, joined-length mss pool l left)

@@ -54,4 +54,5 @@ module _ (ws : List ℕ) (n r : ℕ) (g : n ≤ length ws) (e : r ≡ frontCount
 
   -- its segments are those of the first r words
   pub message-words : r ≤ n → heldIn ws r ≡ frontOf (heldIn ws n)
-  message-words h = sym (ap (λ (j : ℕ). take j (heldIn ws n)) (sym e) ∙ take-map unpack r (take n ws) ∙ ap (map unpack) (take-take r n ws h))
+  message-words h = sym (ap (λ (j : ℕ). take j (heldIn ws n)) (sym e) ∙ take-map unpack r (take n ws) ∙ ap (map unpack)
+      (take-take r n ws h))

@@ -44,7 +44,8 @@ pub record FitsIn (ready : List Held) (room : ℕ) : Type 0 where
   pub within : lengthOf (frontOf ready) ≤ room
 
 -- the message is read: it stands at the start of the buffer, which is as it was beyond it, and r is the half after reading
-pub record Taken (a : Arrival) (mss : ℕ) (ready waiting numbers pool buffer : List ℕ) (r : Arrival) (ready′ waiting′ numbers′ buffer′ : List ℕ) : Type 0 where
+pub record Taken (a : Arrival) (mss : ℕ) (ready waiting numbers pool buffer : List ℕ) (r : Arrival)
+    (ready′ waiting′ numbers′ buffer′ : List ℕ) : Type 0 where
   pub whole : WholeLists ready′ waiting′ numbers′
   pub counts : Fits r
   pub same-acks : r .acks ≡ a .acks

@@ -78,7 +78,8 @@ module _ (s : Station) (range : inRange (s .state .settings) ≡ true) (o : Send
   own-congestion : (x : Call) → CallFits x → InRange m (own s x .station .state .congestion)
   unfolding applied flushing
   own-congestion x fits =
-      own-cases (λ (x : Call) (y : Stepped). CallFits x → SendingInOrder (s .state .settings) (y .station) → InRange m (y .station .state .congestion)) s
+      own-cases (λ (x : Call) (y : Stepped). CallFits x → SendingInOrder (s .state .settings) (y .station)
+      → InRange m (y .station .state .congestion)) s
       (λ x r k p. h)
       (λ b ok k p. h)
       (λ d gs e k p.
@@ -102,10 +103,12 @@ module _ (s : Station) (range : inRange (s .state .settings) ≡ true) (o : Send
 congestion-stays : (c : Settings) → inRange c ≡ true → (s : Station) (x : Call) → CallFits x → SendingInOrder c s
     → InRange (mss c) (s .state .congestion) → InRange (mss c) (own s x .station .state .congestion)
 congestion-stays c range s x fits o h =
-    subst (λ (c : Settings). inRange c ≡ true → SendingInOrder c s → InRange (mss c) (s .state .congestion) → InRange (mss c) (own s x .station .state .congestion))
+    subst (λ (c : Settings). inRange c ≡ true → SendingInOrder c s → InRange (mss c) (s .state .congestion)
+    → InRange (mss c) (own s x .station .state .congestion))
     (o .settings) (λ r p k. own-congestion s r p k x fits) range o h
 
-valid-of : (s : State) → inRange (s .settings) ≡ true → sendingValid (s .settings) (s .sending) ≡ true → receivingValid (s .settings) (s .receiving) ≡ true
+valid-of : (s : State) → inRange (s .settings) ≡ true → sendingValid (s .settings) (s .sending) ≡ true
+    → receivingValid (s .settings) (s .receiving) ≡ true
     → probeFits (s .probe) ≡ true → fits (s .congestion) (mss (s .settings)) ≡ true → valid s ≡ true
 unfolding valid
 valid-of s a b d e f = rw (a, b, d, e, f)
@@ -143,7 +146,8 @@ module _ (c : Settings) (range : inRange c ≡ true) where
   unfolding after
   always-in-order [] s fits o = o
   always-in-order (x ∷ xs) s fits o =
-      rw (step-own s x (in-order-long s x o) (in-order-valid s o)) (always-in-order xs (own s x .station) (fits .1) (in-order-stays s x (fits .0) o))
+      rw (step-own s x (in-order-long s x o) (in-order-valid s o))
+      (always-in-order xs (own s x .station) (fits .1) (in-order-stays s x (fits .0) o))
 
 pub opened-all : (c : Settings) (s : Station) → Opened c s → InOrder c s
 opened-all c s o = record {
@@ -158,5 +162,7 @@ opened-all c s o = record {
 pub station-always-valid : (c : Settings) → Taken c → (s : Station) → Opened c s → (calls : List Call) → All CallFits calls
     → Passing s calls × (valid (after s calls .state) ≡ true)
 station-always-valid c taken s o calls fits =
-    let i = opened-all c s o in
-    (always-passing c (taken .range) calls s fits i, in-order-valid c (taken .range) (after s calls) (always-in-order c (taken .range) calls s fits i))
+    let i = opened-all c s o in (
+      always-passing c (taken .range) calls s fits i,
+      in-order-valid c (taken .range) (after s calls) (always-in-order c (taken .range) calls s fits i),
+    )

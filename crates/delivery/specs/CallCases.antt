@@ -22,7 +22,7 @@ use Rattle.session.specs.Sending.{Placed, place, Filled, filled, Sends, sending
 use Rattle.session.specs.Input.{Took, applied, taking, input}
 use Rattle.session.specs.Flushing.{flushing}
 use Rattle.session.specs.Updating.{Updates, waits, flushes, updating}
-use Rattle.session.specs.Calls.{Station, Call, Answer, Stepped, afterSend, afterTakeIn, afterFlush, afterReading, afterUpdate, own}
+use Rattle.session.specs.Calls.{Station, Call, Reply, Stepped, afterSend, afterTakeIn, afterFlush, afterReading, afterUpdate, own}
 use Rattle.session.specs.Reading.{Reads, readable, messageSize, message, afterRead, reading}
 
 -- a half with these settings: its queue filled, and what is left to cut
@@ -136,7 +136,7 @@ updating-cases P s t pool flushed waited = go (updated (s .schedule) t (s .setti
 
 -- all calls at once: each is refused and leaves the station, or goes on as it does
 pub own-cases : (Q : Call → Stepped → Type 0) (s : Station) →
-    ((x : Call) (r : Refusal) → Q x (record { station = s; answer = Answer.refused r })) →
+    ((x : Call) (r : Refusal) → Q x (record { station = s; answer = Reply.refused r })) →
     ((m : List ℕ) →
     Sendable (s .state) (s .sendPool) m →
     Q (Call.send m) (afterSend s (Outcome.done (sentBy (s .state) (s .sendPool) m)))) →
@@ -146,7 +146,11 @@ pub own-cases : (Q : Call → Stepped → Type 0) (s : Station) →
     ((t : ℕ) → Q (Call.flush t) (afterFlush s (flushing (s .state) t (s .sendPool)))) →
     ((room : ℕ) →
     Q (Call.read room)
-    (afterReading s (Outcome.done (record { state = withReceiving (s .state) (afterRead (s .state .receiving)); bytes = message (s .state) (s .receivePool) })))) →
+    (afterReading s
+    (Outcome.done (record {
+      state = withReceiving (s .state) (afterRead (s .state .receiving));
+      bytes = message (s .state) (s .receivePool);
+    })))) →
     ((t : ℕ) → Q (Call.update t) (afterFlush s (flushing (withSchedule (s .state) (scheduledAt (s .state) t)) t (s .sendPool)))) →
     ((t : ℕ) → Q (Call.update t) (afterUpdate s (waits (withTimes (s .state) t (scheduledAt (s .state) t))))) →
     ((t : ℕ) → Q (Call.check t) (own s (Call.check t))) →
@@ -155,10 +159,12 @@ pub own-cases : (Q : Call → Stepped → Type 0) (s : Station) →
 own-cases Q s refused sends takes flushed reads updates waited checks (Call.send m) =
     sending-cases (λ (y : Outcome Sends). Q (Call.send m) (afterSend s y)) (s .state) (s .sendPool) m (refused (Call.send m)) (sends m)
 own-cases Q s refused sends takes flushed reads updates waited checks (Call.takeIn d) =
-    input-cases (λ (y : Outcome Took). Q (Call.takeIn d) (afterTakeIn s y)) (s .state) (s .receivePool) d (refused (Call.takeIn d)) (takes d)
+    input-cases (λ (y : Outcome Took). Q (Call.takeIn d) (afterTakeIn s y)) (s .state) (s .receivePool) d (refused (Call.takeIn d))
+    (takes d)
 own-cases Q s refused sends takes flushed reads updates waited checks (Call.flush t) = flushed t
 own-cases Q s refused sends takes flushed reads updates waited checks (Call.update t) =
     updating-cases (λ (y : Updates). Q (Call.update t) (afterUpdate s y)) (s .state) t (s .sendPool) (updates t) (waited t)
 own-cases Q s refused sends takes flushed reads updates waited checks (Call.check t) = checks t
 own-cases Q s refused sends takes flushed reads updates waited checks (Call.read room) =
-    reading-cases (λ (y : Outcome Reads). Q (Call.read room) (afterReading s y)) (s .state) (s .receivePool) room (refused (Call.read room)) (reads room)
+    reading-cases (λ (y : Outcome Reads). Q (Call.read room) (afterReading s y)) (s .state) (s .receivePool) room (refused (Call.read room))
+    (reads room)

@@ -15,7 +15,21 @@ use Rattle.lists.specs.declared.Held.{Held}
 use Rattle.lists.specs.declared.Waiting.{Waiting}
 use Rattle.lists.specs.Receiving.{isNext, advance}
 use Rattle.session.specs.State.{Receiving}
-use Rattle.session.specs.Input.{Receiver, inWindow, noted, isNew, kept, movedUp, movedUpIn, withAcks, pushed, asked, heardByReceiving, allByReceiving, applied}
+use Rattle.session.specs.Input.{
+  Receiver,
+  inWindow,
+  noted,
+  isNew,
+  kept,
+  movedUp,
+  movedUpIn,
+  withAcks,
+  pushed,
+  asked,
+  heardByReceiving,
+  allByReceiving,
+  applied,
+}
 use Rattle.session.specs.Flushing.{flushing}
 use Rattle.session.specs.Reading.{afterRead}
 use Rattle.session.specs.Calls.{Station, Call, Stepped, own}
@@ -29,7 +43,8 @@ use Rattle.delivery.specs.StateRange.{AckFits, CarryFits}
 advance-fits : (next : ℕ) (ready : List Held) (l : List Waiting) → next < 2 ^ 32 → advance next ready l .next < 2 ^ 32
 unfolding advance
 advance-fits next ready [] h = h
-advance-fits next ready (w ∷ l) h = go (isNext next w && ltb (length ready) receiveWindow) (advance-fits (plus next 1) (ready ++ (w .held ∷ [])) l (omega arith))
+advance-fits next ready (w ∷ l) h =
+    go (isNext next w && ltb (length ready) receiveWindow) (advance-fits (plus next 1) (ready ++ (w .held ∷ [])) l (omega arith))
   where
     go : (b : Bool) →
         advance (plus next 1) (ready ++ (w .held ∷ [])) l .next < 2 ^ 32 →
@@ -44,7 +59,8 @@ noted-fits : (r : Receiving) (g : Segment) → HeaderFits g → All AckFits (r .
 noted-fits r g h a = go (ltb (length (r .acks)) acksMost)
   where
     go : (b : Bool) → All AckFits (cond b (r .acks ++ (record { sn = g .header .sn; ts = g .header .ts } ∷ [])) (r .acks))
-    go true = all-append AckFits (r .acks) (record { sn = g .header .sn; ts = g .header .ts } ∷ []) a (record { sn = h .sn; ts = h .ts }, tt)
+    go true = all-append AckFits (r .acks) (record { sn = g .header .sn; ts = g .header .ts } ∷ []) a
+        (record { sn = h .sn; ts = h .ts }, tt)
     go false = a
 
 pushed-fits : (m : ℕ) (x : Receiver) (g : Segment) → HeaderFits g → CarryFits (x .half) → CarryFits (pushed m x g .half)

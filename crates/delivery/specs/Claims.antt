@@ -26,8 +26,19 @@ use Rattle.protocol.specs.declared.Refusal.the-variants.{
   TrailingBytes,
 }
 use Rattle.session.specs.Cutting.{fragmentCount}
-use Rattle.session.specs.Calls.{Call, Answer, Event, readAnswers, messagesRead}
-use Rattle.delivery.specs.PlainReceiver.{Plain, atFirst, Found, pushesIn, firstWanted, nextExpected, hear, afterCall, plainAfter, plainAnswers}
+use Rattle.session.specs.Calls.{Call, Reply, Event, readAnswers, messagesRead}
+use Rattle.delivery.specs.PlainReceiver.{
+  Plain,
+  atFirst,
+  Found,
+  pushesIn,
+  firstWanted,
+  nextExpected,
+  hear,
+  afterCall,
+  plainAfter,
+  plainAnswers,
+}
 
 -- the answer of a real read, as the plain receiver's: 9 is nothing found, 7 is a buffer that is too short. Any other
 -- answer is not a read's, and equals none of these
@@ -50,13 +61,13 @@ seenRefusal SettingOutOfRange = other
 seenRefusal InvalidBlock = other
 seenRefusal TrailingBytes = other
 
-abbrev pub seen : Answer → Seen
-seen (Answer.refused r) = seenRefusal r
-seen (Answer.message m) = found (Found.message m)
-seen Answer.accepted = other
-seen (Answer.wrote ds) = other
-seen Answer.waited = other
-seen (Answer.named t) = other
+abbrev pub seen : Reply → Seen
+seen (Reply.refused r) = seenRefusal r
+seen (Reply.message m) = found (Found.message m)
+seen Reply.accepted = other
+seen (Reply.wrote ds) = other
+seen Reply.waited = other
+seen (Reply.named t) = other
 
 -- a begins b
 pub record Begins {A : Type 0} (a b : List A) : Type 0 where
@@ -94,11 +105,12 @@ Missing c accepted calls = MissingFrom c accepted calls (getElem? accepted (plai
 
 -- ---- the claims
 
--- what is seen of a receiver: the calls that it made, with their answers; whether a read of so many bytes that comes next is answered so; and rcv_nxt
+-- what is seen of a receiver: the calls that it made, with their answers; whether a read of so many bytes that comes next is answered so;
+-- and rcv_nxt
 pub record Observed : Type 1 where
   pub calls : List Call
   pub events : List Event
-  pub NextRead : ℕ → Answer → Type 0
+  pub NextRead : ℕ → Reply → Type 0
   pub expected : ℕ
 
 -- what holds of one receiver: each read answers as the plain receiver's, its messages begin the accepted list, a read that comes next finds
@@ -106,7 +118,7 @@ pub record Observed : Type 1 where
 pub record Receives (c : Settings) (accepted : List (List ℕ)) (r : Observed) : Type 0 where
   pub answers : map seen (readAnswers (r .events)) ≡ map found (plainAnswers c accepted atFirst (r .calls))
   pub begins : Begins (messagesRead (readAnswers (r .events))) accepted
-  pub nothing : (room : ℕ) (a : Answer) → r .NextRead room a → (seen a ≡ found Found.nothing) ↔ Missing c accepted (r .calls)
+  pub nothing : (room : ℕ) (a : Reply) → r .NextRead room a → (seen a ≡ found Found.nothing) ↔ Missing c accepted (r .calls)
   pub next-expected : r .expected ≡ nextExpected c accepted (plainAfter c accepted atFirst (r .calls))
 
 -- what demand 3 claims of two

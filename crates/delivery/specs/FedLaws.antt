@@ -14,7 +14,20 @@ use Rattle.protocol.specs.Protocol.{receiveWindow}
 use Rattle.protocol.specs.declared.Settings.{Settings}
 use Rattle.session.specs.Slots.{occurs}
 use Rattle.session.specs.Calls.{Call}
-use Rattle.delivery.specs.PlainReceiver.{Plain, atFirst, Found, pushesIn, UnheardFrom, Unheard, nextExpected, hear, feed, plainAnswer, leave, plainAfter}
+use Rattle.delivery.specs.PlainReceiver.{
+  Plain,
+  atFirst,
+  Found,
+  pushesIn,
+  UnheardFrom,
+  Unheard,
+  nextExpected,
+  hear,
+  feed,
+  plainAnswer,
+  leave,
+  plainAfter,
+}
 use Rattle.delivery.specs.Claims.{FedIn, FedBelow, MissingFrom, Missing}
 
 absurd-bool : {A : Type 0} → false ≡ true → A
@@ -55,11 +68,13 @@ module _ (c : Settings) (accepted : List (List ℕ)) (n : ℕ) where
   unfolding occurs
   hear-only p sn = go (ltb sn (nextExpected c accepted p + receiveWindow)) refl
     where
-      go : (b : Bool) → ltb sn (nextExpected c accepted p + receiveWindow) ≡ b → Heard (cond b (record { heard = sn ∷ p .heard; out = p .out }) p)
+      go : (b : Bool) → ltb sn (nextExpected c accepted p + receiveWindow) ≡ b
+          → Heard (cond b (record { heard = sn ∷ p .heard; out = p .out }) p)
           → Heard p ⊎ ((sn ≡ n) × (n < nextExpected c accepted p + receiveWindow))
       go true e h =
           ⊎-elim
-          (λ q. let s : sn ≡ n = omega (arith, eqb-true n sn q) in inr (s, omega (arith, ltb-true sn (nextExpected c accepted p + receiveWindow) e)))
+          (λ q. let s : sn ≡ n = omega (arith, eqb-true n sn q) in
+          inr (s, omega (arith, ltb-true sn (nextExpected c accepted p + receiveWindow) e)))
           (λ q. inl q) (or-true (eqb n sn) (occurs n (p .heard)) h)
       go false e h = inl h
 

@@ -21,12 +21,12 @@ use Rattle.congestion.specs.declared.Congestion.{Congestion}
 use Rattle.lists.specs.Acknowledging.{select, firstNumberOr}
 use Rattle.lists.specs.declared.Acknowledges.{Acknowledges}
 use Rattle.lists.specs.declared.Acknowledges.the-variants as by
-use Rattle.session.specs.State.{State, Sending, withWindow, withCongestion}
+use Rattle.session.specs.State.{State, Sending, withWindow, withCongestion, admitted}
 use Rattle.session.specs.Valid.{valid}
 use Rattle.session.specs.Opening.{opened}
 use Rattle.session.specs.Flushing.{windowOf, numberedCount, withNumbered, numbered, transmittedNow, written, packed, flushing}
 use Rattle.session.specs.Input.{applied, acknowledged, sampledBy, heardBySending, allBySending, ackNumbers, furthest, skipped, skippedByAll}
-use Rattle.session.specs.Calls.{Station, Call, Answer, Stepped, own, checked, longEnough, step, Event, history, after}
+use Rattle.session.specs.Calls.{Station, Call, Reply, Stepped, refusedStep, own, longEnough, step, Event, history, after}
 use Rattle.session.specs.Decides.{All}
 use Rattle.delivery.specs.Stations.{Opened}
 use Rattle.delivery.specs.CallCases.{own-cases}
@@ -44,7 +44,8 @@ unfolding flushing usedWindow written
 off-datagrams s x t pool e = rw e
 
 pub off-state : (s : State) (x : Congestion) (t : ℕ) (pool : List ℕ) → controlsCongestion (s .settings) ≡ false
-    → withCongestion (flushing (withCongestion s x) t pool .state) (s .congestion) ≡ withCongestion (flushing s t pool .state) (s .congestion)
+    → withCongestion (flushing (withCongestion s x) t pool .state) (s .congestion) ≡ withCongestion (flushing s t pool .state)
+    (s .congestion)
 unfolding flushing usedWindow
 off-state s x t pool e = rw e
 
@@ -105,13 +106,13 @@ unsent-applied c s pool gs u =
     }
 
 -- no flush has run
-abbrev pub NoFlush : Answer → Type 0
-NoFlush (Answer.wrote ds) = ⊥
-NoFlush (Answer.refused r) = Unit {0}
-NoFlush Answer.accepted = Unit {0}
-NoFlush (Answer.message b) = Unit {0}
-NoFlush Answer.waited = Unit {0}
-NoFlush (Answer.named t) = Unit {0}
+abbrev pub NoFlush : Reply → Type 0
+NoFlush (Reply.wrote ds) = ⊥
+NoFlush (Reply.refused r) = Unit {0}
+NoFlush Reply.accepted = Unit {0}
+NoFlush (Reply.message b) = Unit {0}
+NoFlush Reply.waited = Unit {0}
+NoFlush (Reply.named t) = Unit {0}
 
 module _ (c : Settings) where
   unsent-own : (s : Station) → Unsent c (s .state) → (x : Call) → NoFlush (own s x .answer) → Unsent c (own s x .station .state)
@@ -130,7 +131,8 @@ module _ (c : Settings) where
   unfolding step
   unsent-step s u x = go (longEnough s x) (valid (s .state))
     where
-      go : (a b : Bool) → NoFlush (checked a b (own s x) s .answer) → Unsent c (checked a b (own s x) s .station .state)
+      go : (a b : Bool) → NoFlush (admitted (refusedStep s) a b (own s x) .answer)
+          → Unsent c (admitted (refusedStep s) a b (own s x) .station .state)
       go true true q = unsent-own s u x q
       go true false q = u
       go false b q = u

@@ -22,7 +22,19 @@ use Rattle.lists.specs.declared.Sent.{Sent}
 use Rattle.lists.specs.Orders.{sentOffset}
 use Rattle.session.specs.State.{State, Sending, Receiving, sendHeld, receiveHeld}
 use Rattle.session.specs.Valid.{all, heldFits, slotsFit, waitingFits, settled, sendingValid, receivingValid, valid}
-use Rattle.session.specs.Flushing.{numbered, windowOf, numberedCount, withNumbered, transmittedOf, sentAfter, transmittedNow, written, bytesOfSegments, packed, flushing}
+use Rattle.session.specs.Flushing.{
+  numbered,
+  windowOf,
+  numberedCount,
+  withNumbered,
+  transmittedOf,
+  sentAfter,
+  transmittedNow,
+  written,
+  bytesOfSegments,
+  packed,
+  flushing,
+}
 use Rattle.session.specs.Calls.{Station, Call, lengthsOf, longEnough}
 use Rattle.session.specs.Decides.{All, and-parts}
 use Rattle.session.specs.AllLaws.{all-any, all-left, all-unmapped, all-weaker}
@@ -77,7 +89,10 @@ half-data c s h =
         All (SentWell (c .mode)) l →
         All (DataFits (mss c)) l
     go [] a b d e = tt
-    go (x ∷ l) a b d e = (record { len = a .0; fragment = b .0; slot = d .0; number = e .0 .fits .number }, go l (a .1) (b .1) (d .1) (e .1))
+    go (x ∷ l) a b d e = (
+      record { len = a .0; fragment = b .0; slot = d .0; number = e .0 .fits .number },
+      go l (a .1) (b .1) (d .1) (e .1),
+    )
 
 -- ---- a flush's datagrams
 
@@ -127,7 +142,8 @@ module _ (c : Settings) (t k : ℕ) (d : Sending) (few : k ≤ length (d .queued
       let after : Sending = flushedWith c t k d in
       let held : All Short (sendHeld after) = rw (flushed-held c t k d few room) a in
       all-transmitted c (d .roundTrip .timeout) t (λ (x : Sent). Short (x .held)) (withNumbered d k)
-      (all-unmapped Short (λ (x : Sent). x .held) (after .outstanding) (all-left Short (map (λ (x : Sent). x .held) (after .outstanding)) (after .queued) held))
+      (all-unmapped Short (λ (x : Sent). x .held) (after .outstanding)
+      (all-left Short (map (λ (x : Sent). x .held) (after .outstanding)) (after .queued) held))
     where
       Short : Held → Type 0
       Short h = h .len ≤ mss c
@@ -154,13 +170,15 @@ module _ (s : State) (t k : ℕ) (pool : List ℕ) (ask : Bool)
 
     -- each datagram has some segments, of each of which P holds where it holds of all that is written
     datagrams-each : (P : Segment → Type 0) → All P (written s t pool ask sent) → All (Datagram P (s .settings .mtu)) ds
-    datagrams-each P a = packed-each P (s .settings .mtu) (written s t pool ask sent) a (written-short s t pool ask sent range fewAcks short most)
+    datagrams-each P a = packed-each P (s .settings .mtu) (written s t pool ask sent) a
+        (written-short s t pool ask sent range fewAcks short most)
 
     datagrams-few : length ds ≤ lengthsLeast
     datagrams-few =
         omega (
           arith,
-          packed-count Any (s .settings .mtu) (written s t pool ask sent) (datagrams-each Any (all-any Any (λ g. tt) (written s t pool ask sent))),
+          packed-count Any (s .settings .mtu) (written s t pool ask sent)
+              (datagrams-each Any (all-any Any (λ g. tt) (written s t pool ask sent))),
           written-few s t pool ask sent range fewAcks short most,
         )
       where
@@ -168,7 +186,8 @@ module _ (s : State) (t k : ℕ) (pool : List ℕ) (ask : Bool)
         Any g = Unit {0}
 
     datagrams-bytes : length (flatten (map bytesOfSegments ds)) ≤ outputLeast
-    datagrams-bytes = rw (packed-bytes (s .settings .mtu) (written s t pool ask sent)) (written-bytes s t pool ask sent range fewAcks short most)
+    datagrams-bytes = rw (packed-bytes (s .settings .mtu) (written s t pool ask sent))
+        (written-bytes s t pool ask sent range fewAcks short most)
 
   module _ (half : Half (s .settings) (s .sending))
       (conv32 : s .settings .conv < 2 ^ 32)
@@ -186,7 +205,8 @@ module _ (s : State) (t k : ℕ) (pool : List ℕ) (ask : Bool)
         datagrams-each (half .held .lengths) (half .numbers .ascends) (Valid (s .settings .conv) (mss (s .settings)))
         (written-valid s t pool ask sent range conv32 carry time long sent-fit)
 
-    pub flush-writes-any : FlushWrites (s .settings) (packed (s .settings .mtu) (written s t pool ask (sentWith (s .settings) t k (s .sending))))
+    pub flush-writes-any : FlushWrites (s .settings)
+        (packed (s .settings .mtu) (written s t pool ask (sentWith (s .settings) t k (s .sending))))
     flush-writes-any = record {
       fit = all-weaker D (λ (d : List Segment). length (bytesOfSegments d) ≤ s .settings .mtu) (λ d h. h .fits) ds datagrams-valid;
       parsed = all-weaker D (λ (d : List Segment). parse (s .settings .conv) (mss (s .settings)) (bytesOfSegments d) ≡ Parsed.segments d)
@@ -210,7 +230,8 @@ few-acks : (c : Settings) (r : Receiving) → receivingValid c r ≡ true → le
 unfolding receivingValid
 few-acks c r e =
     leb-true (length (r .acks)) acksMost
-    (and-parts (all (heldFits (mss c)) (receiveHeld r) && slotsFit receiveSlots (receiveHeld r) && leb (length (r .ready)) receiveWindow && waitingFits r && settled r) _ e .1)
+    (and-parts (all (heldFits (mss c)) (receiveHeld r) && slotsFit receiveSlots (receiveHeld r) && leb (length (r .ready)) receiveWindow
+    && waitingFits r && settled r) _ e .1)
 
 pub valid-parts : (s : State) → valid s ≡ true → ValidParts s
 unfolding valid
@@ -234,7 +255,9 @@ flush-writes s t v f carry conv32 long time =
     let c : Settings = s .state .settings in
     let d : Sending = s .state .sending in
     let half : Half c d = half-of c d (sending-decides c d .holds (p .sending)) f in
-    flush-writes-any (s .state) t (numberedCount (windowOf (s .state)) d) (s .sendPool) (s .state .ask || nextClock (s .state .probe) t (d .window) .ask) (p .range) (p .fewAcks) (count-few (windowOf (s .state)) d) (count-room (windowOf (s .state)) d (window-most (s .state)) (half .numbers .apart)) half conv32 carry time
+    flush-writes-any (s .state) t (numberedCount (windowOf (s .state)) d) (s .sendPool)
+    (s .state .ask || nextClock (s .state .probe) t (d .window) .ask) (p .range) (p .fewAcks) (count-few (windowOf (s .state)) d)
+    (count-room (windowOf (s .state)) d (window-most (s .state)) (half .numbers .apart)) half conv32 carry time
     (enough-pool (mss c) (lengthsOf s) (s .lent .output) (s .lent .lengths) long)
 
 -- A flush of any valid state, its numbers in range or not, writes at most 290 datagrams
@@ -244,5 +267,6 @@ flush-few s t pool v =
     let p = valid-parts s v in
     let d : Sending = s .sending in
     let h = sending-decides (s .settings) d .holds (p .sending) in
-    datagrams-few s t (numberedCount (windowOf s) d) pool (s .ask || nextClock (s .probe) t (d .window) .ask) (p .range) (p .fewAcks) (count-few (windowOf s) d) (count-room (windowOf s) d (window-most s) (h .apart)) (h .lengths)
+    datagrams-few s t (numberedCount (windowOf s) d) pool (s .ask || nextClock (s .probe) t (d .window) .ask) (p .range) (p .fewAcks)
+    (count-few (windowOf s) d) (count-room (windowOf s) d (window-most s) (h .apart)) (h .lengths)
     (ascending-ascends (sentOffset (d .una)) (minus (d .next) (d .una)) (d .outstanding) (h .ascending))

@@ -22,7 +22,25 @@ use Rattle.lists.specs.declared.Sent.{Sent}
 use Rattle.lists.specs.Orders.{sentOffset}
 use Rattle.session.specs.State.{Sending, Ack}
 use Rattle.session.specs.Valid.{valid}
-use Rattle.session.specs.Flushing.{numbered, windowOf, windowOf, numberedCount, withNumbered, sentAfter, transmittedNow, Carried, carried, ackSegment, control, dataSegment, wished, written, bytesOfSegments, packed, flushing}
+use Rattle.session.specs.Flushing.{
+  numbered,
+  windowOf,
+  windowOf,
+  numberedCount,
+  withNumbered,
+  sentAfter,
+  transmittedNow,
+  Carried,
+  carried,
+  ackSegment,
+  control,
+  dataSegment,
+  wished,
+  written,
+  bytesOfSegments,
+  packed,
+  flushing,
+}
 use Rattle.session.specs.Calls.{Station}
 use Rattle.session.specs.Decides.{All}
 use Rattle.session.specs.AllLaws.{all-any, all-append, all-mapped}
@@ -132,7 +150,8 @@ module _ (s : Station) (made : valid (s .state) ≡ true) (conv32 : s .state .se
   parts : FlushWrites c (packed (c .mtu) segs)
   parts =
       let p = valid-parts (s .state) made in
-      flush-writes-any (s .state) t k (s .sendPool) ask (p .range) (p .fewAcks) (count-few (windowOf (s .state)) d) (count-room (windowOf (s .state)) d (window-most (s .state)) (half .numbers .apart)) half conv32 carry time (o .long)
+      flush-writes-any (s .state) t k (s .sendPool) ask (p .range) (p .fewAcks) (count-few (windowOf (s .state)) d)
+      (count-room (windowOf (s .state)) d (window-most (s .state)) (half .numbers .apart)) half conv32 carry time (o .long)
 
   abbrev old : List Sent
   old = transmittedNow c link t (d .outstanding)

@@ -85,7 +85,8 @@ distinct-apart (x ∷ a) b d n e = go (eqb n x) refl (distinct-apart a b (d .1) 
 -- two lists of distinct numbers that have none in common
 pub distinct-append : (a b : List ℕ) → Distinct a → Distinct b → ((n : ℕ) → occurs n b ≡ true → occurs n a ≡ false) → Distinct (a ++ b)
 distinct-append [] b p q d = q
-distinct-append (x ∷ a) b p q d = (not-append x a b (p .0) (apart (occurs x b) refl), distinct-append a b (p .1) q (λ n e. not-later n x a (d n e)))
+distinct-append (x ∷ a) b p q d =
+    (not-append x a b (p .0) (apart (occurs x b) refl), distinct-append a b (p .1) q (λ n e. not-later n x a (d n e)))
   where
     apart : (t : Bool) → occurs x b ≡ t → t ≡ false
     apart true e = absurd (true≢false (sym (occurs-first x a) ∙ d x e))

@@ -60,9 +60,11 @@ unfolding walk tail
 walk-fits conv mss skip [] b = tt
 walk-fits conv mss zero (x ∷ s) b =
     either HeaderFits (leb headerSize (length (x ∷ s)))
-    (inFront (verdict conv mss (length (x ∷ s) - headerSize) (decode (x ∷ s) 0)) (segmentOf (x ∷ s)) (walk conv mss (23 + decode (x ∷ s) 0 .len) s))
+    (inFront (verdict conv mss (length (x ∷ s) - headerSize) (decode (x ∷ s) 0)) (segmentOf (x ∷ s))
+    (walk conv mss (23 + decode (x ∷ s) 0 .len) s))
     (tail (x ∷ s))
-    (in-front HeaderFits (verdict conv mss (length (x ∷ s) - headerSize) (decode (x ∷ s) 0)) (segmentOf (x ∷ s)) (walk conv mss (23 + decode (x ∷ s) 0 .len) s)
+    (in-front HeaderFits (verdict conv mss (length (x ∷ s) - headerSize) (decode (x ∷ s) 0)) (segmentOf (x ∷ s))
+    (walk conv mss (23 + decode (x ∷ s) 0 .len) s)
     (segment-fits (x ∷ s) b)
     (walk-fits conv mss (23 + decode (x ∷ s) 0 .len) s (λ i. b (suc i))))
     tt

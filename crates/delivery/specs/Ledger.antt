@@ -16,7 +16,7 @@ use Rattle.session.specs.State.{State, Sending, sendHeld, slots}
 use Rattle.session.specs.Cutting.{segmentCount}
 use Rattle.session.specs.Sending.{filled}
 use Rattle.session.specs.Input.{acknowledges, heardBySending}
-use Rattle.session.specs.Calls.{Station, Call, Answer, step}
+use Rattle.session.specs.Calls.{Station, Call, Reply, step}
 
 -- ---- used send slots
 
@@ -27,16 +27,16 @@ usedSlots s = usedBelow sendSlots (slots (sendHeld s))
 -- ---- fragments accepted
 
 -- the new segments of a send that is not refused: a message's fragments; in stream mode those of what is left after filling
-abbrev pub fragmentsBy : Station → Call → Answer → ℕ
-fragmentsBy s (Call.send m) Answer.accepted =
+abbrev pub fragmentsBy : Station → Call → Reply → ℕ
+fragmentsBy s (Call.send m) Reply.accepted =
     let c = s .state .settings in
     let left = filled (isStream c) (mss c) (s .state .sending .queued) (s .sendPool) m .rest in
     segmentCount (isStream c) (mss c) (length left)
-fragmentsBy s (Call.send m) (Answer.refused r) = 0
-fragmentsBy s (Call.send m) (Answer.wrote ds) = 0
-fragmentsBy s (Call.send m) (Answer.message b) = 0
-fragmentsBy s (Call.send m) Answer.waited = 0
-fragmentsBy s (Call.send m) (Answer.named t) = 0
+fragmentsBy s (Call.send m) (Reply.refused r) = 0
+fragmentsBy s (Call.send m) (Reply.wrote ds) = 0
+fragmentsBy s (Call.send m) (Reply.message b) = 0
+fragmentsBy s (Call.send m) Reply.waited = 0
+fragmentsBy s (Call.send m) (Reply.named t) = 0
 fragmentsBy s (Call.takeIn d) a = 0
 fragmentsBy s (Call.flush t) a = 0
 fragmentsBy s (Call.update t) a = 0
@@ -54,20 +54,22 @@ stationAccepted s (x ∷ xs) = fragmentsBy s x (step s x .answer) + stationAccep
 unfoldable pub acknowledgedByEach : Settings → ℕ → Sending → List Segment → ℕ
 acknowledgedByEach c current s [] = 0
 acknowledgedByEach c current s (g ∷ gs) =
-    length (keep (acknowledges (s .next) (g .header)) (s .outstanding)) + acknowledgedByEach c current (heardBySending c current s (g .header)) gs
+    length (keep (acknowledges (s .next) (g .header)) (s .outstanding))
+    + acknowledgedByEach c current (heardBySending c current s (g .header)) gs
 
 abbrev pub acknowledgedByParsed : State → Parsed → ℕ
 acknowledgedByParsed s (Parsed.refused r) = 0
 acknowledgedByParsed s (Parsed.segments gs) = acknowledgedByEach (s .settings) (s .current) (s .sending) gs
 
 -- by a call with this answer: a datagram that is not refused
-abbrev pub acknowledgedBy : Station → Call → Answer → ℕ
-acknowledgedBy s (Call.takeIn d) Answer.accepted = acknowledgedByParsed (s .state) (parse (s .state .settings .conv) (mss (s .state .settings)) d)
-acknowledgedBy s (Call.takeIn d) (Answer.refused r) = 0
-acknowledgedBy s (Call.takeIn d) (Answer.wrote ds) = 0
-acknowledgedBy s (Call.takeIn d) (Answer.message b) = 0
-acknowledgedBy s (Call.takeIn d) Answer.waited = 0
-acknowledgedBy s (Call.takeIn d) (Answer.named t) = 0
+abbrev pub acknowledgedBy : Station → Call → Reply → ℕ
+acknowledgedBy s (Call.takeIn d) Reply.accepted =
+    acknowledgedByParsed (s .state) (parse (s .state .settings .conv) (mss (s .state .settings)) d)
+acknowledgedBy s (Call.takeIn d) (Reply.refused r) = 0
+acknowledgedBy s (Call.takeIn d) (Reply.wrote ds) = 0
+acknowledgedBy s (Call.takeIn d) (Reply.message b) = 0
+acknowledgedBy s (Call.takeIn d) Reply.waited = 0
+acknowledgedBy s (Call.takeIn d) (Reply.named t) = 0
 acknowledgedBy s (Call.send m) a = 0
 acknowledgedBy s (Call.flush t) a = 0
 acknowledgedBy s (Call.update t) a = 0

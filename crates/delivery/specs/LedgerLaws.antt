@@ -26,7 +26,7 @@ use Rattle.session.specs.FillLaws.{filled-queue}
 use Rattle.session.specs.HeardLaws.{heard-outstanding, heard-queued}
 use Rattle.session.specs.Input.{acknowledges, heardBySending, allBySending, furthest, skipped, skippedByAll, ackNumbers, applied}
 use Rattle.session.specs.Flushing.{windowOf, numberedCount, flushing}
-use Rattle.session.specs.Calls.{Station, Call, Answer, Stepped, Event, own, history, after, acceptedBy, acceptedList}
+use Rattle.session.specs.Calls.{Station, Call, Reply, Stepped, Event, own, history, after, acceptedBy, acceptedList}
 use Rattle.session.specs.Decides.{All}
 use Rattle.session.specs.AllLaws.{all-mapped}
 use Rattle.delivery.specs.PlainReceiver.{segmentsOf}
@@ -41,7 +41,15 @@ use Rattle.delivery.specs.SendingHalf.{Half}
 use Rattle.delivery.specs.SendingTakesIn.{skip-held}
 use Rattle.delivery.specs.SendingFlushes.{flushedWith, flushed-held, window-most, count-few, count-room}
 use Rattle.delivery.specs.SendingStays.{SendingInOrder, own-settings, half-in, sending-stays, sending-always, opened-in-order}
-use Rattle.delivery.specs.Ledger.{usedSlots, fragmentsBy, stationAccepted, acknowledgedByEach, acknowledgedBy, stationAcknowledged, Ledger}
+use Rattle.delivery.specs.Ledger.{
+  usedSlots,
+  fragmentsBy,
+  stationAccepted,
+  acknowledgedByEach,
+  acknowledgedBy,
+  stationAcknowledged,
+  Ledger,
+}
 
 -- ---- slots are held once, so there are as many as segments
 
@@ -61,7 +69,8 @@ module _ {A : Type 0} where
   select-count f (x ∷ l) = go (f x) (select-count f l)
     where
       go : (b : Bool) → length (select (λ (x : A). not (f x)) l) + length (select f l) ≡ length l →
-          length (cond (not b) (x ∷ select (λ (x : A). not (f x)) l) (select (λ (x : A). not (f x)) l)) + length (cond b (x ∷ select f l) (select f l)) ≡ suc (length l)
+          length (cond (not b) (x ∷ select (λ (x : A). not (f x)) l) (select (λ (x : A). not (f x)) l))
+          + length (cond b (x ∷ select f l) (select f l)) ≡ suc (length l)
       go true i = omega arith
       go false i = omega arith
 
@@ -122,7 +131,11 @@ balances s o =
       place-count (isStream c) (mss c) (slots (sendHeld d)) (filling c d (s .sendPool) m .pool) (cutting c d (s .sendPool) m),
       length-cut-as (isStream c) (mss c) (filling c d (s .sendPool) m .rest),
     ))
-    (λ b gs e. rw e (omega (arith, each-held c (s .state .current) d gs, skips-held (allBySending c (s .state .current) d gs) (ackNumbers gs))))
+    (λ b gs e. rw e (omega (
+      arith,
+      each-held c (s .state .current) d gs,
+      skips-held (allBySending c (s .state .current) d gs) (ackNumbers gs),
+    )))
     (λ t. omega (arith, ap length (flushed t)))
     (λ room. omega arith)
     (λ t. omega (arith, ap length (flushed t)))
@@ -140,9 +153,10 @@ balances s o =
     filled-count m = filled-queue (mss c) (d .queued) (s .sendPool) m (isStream c)
 
     flushed : (t : ℕ) → sendHeld (flushedWith c t (numberedCount (windowOf (s .state)) d) d) ≡ sendHeld d
-    flushed t = flushed-held c t (numberedCount (windowOf (s .state)) d) d (count-few (windowOf (s .state)) d) (count-room (windowOf (s .state)) d (window-most (s .state)) (half-in c s o .numbers .apart))
+    flushed t = flushed-held c t (numberedCount (windowOf (s .state)) d) d (count-few (windowOf (s .state)) d)
+        (count-room (windowOf (s .state)) d (window-most (s .state)) (half-in c s o .numbers .apart))
 
-    nothing : (x : Call) (r : Refusal) → Balances s x (record { station = s; answer = Answer.refused r })
+    nothing : (x : Call) (r : Refusal) → Balances s x (record { station = s; answer = Reply.refused r })
     nothing (Call.send m) r = omega arith
     nothing (Call.takeIn b) r = omega arith
     nothing (Call.flush t) r = omega arith
@@ -167,7 +181,8 @@ accepted-first s x xs p = rw (step-own s x (p .0) (p .1))
 balances-by : (c : Settings) (s : Station) (x : Call) → SendingInOrder c s → Balances s x (own s x)
 balances-by c s x o = subst (λ (c : Settings). SendingInOrder c s → Balances s x (own s x)) (o .settings) (λ o. balances s o x) o
 
-all-balance : (c : Settings) → inRange c ≡ true → (calls : List Call) (s : Station) → All CallFits calls → Passing s calls → SendingInOrder c s →
+all-balance : (c : Settings) → inRange c ≡ true → (calls : List Call) (s : Station) → All CallFits calls → Passing s calls
+    → SendingInOrder c s →
     held (after s calls .state .sending) + stationAcknowledged s calls ≡ held (s .state .sending) + stationAccepted s calls
 unfolding after stationAcknowledged stationAccepted
 all-balance c range [] s k p o = omega arith
@@ -203,17 +218,17 @@ unfolding filled segmentCount
 whole-cut false e m q pool b = refl
 whole-cut true e m q pool b = absurd (true≢false e)
 
-messages-by : (s : Station) → isStream (s .state .settings) ≡ false → (x : Call) (a : Answer) →
+messages-by : (s : Station) → isStream (s .state .settings) ≡ false → (x : Call) (a : Reply) →
     fragmentsBy s x a ≡ segmentsOf (mss (s .state .settings)) (acceptedBy x a)
 unfolding segmentsOf
-messages-by s e (Call.send m) Answer.accepted =
+messages-by s e (Call.send m) Reply.accepted =
     let c = s .state .settings in
     omega (arith, whole-cut (isStream c) e (mss c) (s .state .sending .queued) (s .sendPool) m)
-messages-by s e (Call.send m) (Answer.refused r) = refl
-messages-by s e (Call.send m) (Answer.wrote ds) = refl
-messages-by s e (Call.send m) (Answer.message b) = refl
-messages-by s e (Call.send m) Answer.waited = refl
-messages-by s e (Call.send m) (Answer.named t) = refl
+messages-by s e (Call.send m) (Reply.refused r) = refl
+messages-by s e (Call.send m) (Reply.wrote ds) = refl
+messages-by s e (Call.send m) (Reply.message b) = refl
+messages-by s e (Call.send m) Reply.waited = refl
+messages-by s e (Call.send m) (Reply.named t) = refl
 messages-by s e (Call.takeIn d) a = refl
 messages-by s e (Call.flush t) a = refl
 messages-by s e (Call.update t) a = refl
@@ -240,14 +255,15 @@ opened-held : (c : Settings) → held (opened c .sending) ≡ 0
 unfolding opened
 opened-held c = refl
 
-module _ (c : Settings) (taken : Taken c) (s : Station) (p : Opened c s) (calls : List Call) (k : All CallFits calls) (q : Passing s calls) where
-  pub station-ledger : Ledger (after s calls .state .sending) (stationAccepted s calls) (stationAcknowledged s calls)
-  station-ledger =
-      let o : SendingInOrder c s = opened-in-order c s p in
-      let after-all : SendingInOrder c (after s calls) = sending-always c (taken .range) calls s k q o in
-      omega (
-        arith,
-        used-held c (after s calls .state .sending) (half-in c (after s calls) after-all),
-        all-balance c (taken .range) calls s k q o,
-        ap (λ (x : State). held (x .sending)) (p .state) ∙ opened-held c,
-      )
+module _ (c : Settings) (taken : Taken c) (s : Station) (p : Opened c s) (calls : List Call) (k : All CallFits calls) (q : Passing s calls)
+  where
+    pub station-ledger : Ledger (after s calls .state .sending) (stationAccepted s calls) (stationAcknowledged s calls)
+    station-ledger =
+        let o : SendingInOrder c s = opened-in-order c s p in
+        let after-all : SendingInOrder c (after s calls) = sending-always c (taken .range) calls s k q o in
+        omega (
+          arith,
+          used-held c (after s calls .state .sending) (half-in c (after s calls) after-all),
+          all-balance c (taken .range) calls s k q o,
+          ap (λ (x : State). held (x .sending)) (p .state) ∙ opened-held c,
+        )

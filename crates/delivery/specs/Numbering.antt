@@ -5,19 +5,20 @@ use Prim.Native.Nat.{ℕ}
 use lib.ListN.{take}
 use Rattle.protocol.specs.Ranges.{mss}
 use Rattle.session.specs.Flushing.{windowOf, numberedCount}
-use Rattle.session.specs.Calls.{Station, Call, Answer, own}
+use Rattle.session.specs.Calls.{Station, Call, Reply, own}
 use Rattle.delivery.specs.Pieces.{Piece}
 use Rattle.delivery.specs.SendPool.{pieceIn}
 
 -- by a call with this answer: a flush, and an update that flushes, numbers the first queued segments
-abbrev pub numberedNow : Station → Answer → List Piece
-numberedNow s (Answer.wrote ds) =
-    map (pieceIn (mss (s .state .settings)) (s .sendPool)) (take (numberedCount (windowOf (s .state)) (s .state .sending)) (s .state .sending .queued))
-numberedNow s Answer.accepted = []
-numberedNow s (Answer.refused r) = []
-numberedNow s (Answer.message b) = []
-numberedNow s Answer.waited = []
-numberedNow s (Answer.named t) = []
+abbrev pub numberedNow : Station → Reply → List Piece
+numberedNow s (Reply.wrote ds) =
+    map (pieceIn (mss (s .state .settings)) (s .sendPool))
+    (take (numberedCount (windowOf (s .state)) (s .state .sending)) (s .state .sending .queued))
+numberedNow s Reply.accepted = []
+numberedNow s (Reply.refused r) = []
+numberedNow s (Reply.message b) = []
+numberedNow s Reply.waited = []
+numberedNow s (Reply.named t) = []
 
 -- by calls that pass the checks
 unfoldable pub piecesNumbered : Station → List Call → List Piece

@@ -18,7 +18,22 @@ use Rattle.session.specs.Valid.{valid}
 use Rattle.session.specs.Input.{applied, ackNumbers}
 use Rattle.session.specs.Flushing.{windowOf, windowOf, numberedCount, flushing}
 use Rattle.session.specs.Reading.{afterRead}
-use Rattle.session.specs.Calls.{Station, Call, Answer, Stepped, afterSend, afterTakeIn, afterFlush, own, history, after, acceptedBy, acceptedList, datagramsIn, datagramsBy}
+use Rattle.session.specs.Calls.{
+  Station,
+  Call,
+  Reply,
+  Stepped,
+  afterSend,
+  afterTakeIn,
+  afterFlush,
+  own,
+  history,
+  after,
+  acceptedBy,
+  acceptedList,
+  datagramsIn,
+  datagramsBy,
+}
 use Rattle.session.specs.Decides.{All}
 use Rattle.delivery.specs.Accepted.{numberedInAll}
 use Rattle.delivery.specs.Hearing.{Taken, CallFits}
@@ -77,7 +92,7 @@ module _ (s : Station) (before : List Piece) (accepted : List (List ℕ)) (made 
   unfolding numberedInAll
   nothing = ap payloads (sym (append-nil before))
 
-  refused-step : (x : Call) (r : Refusal) → Steps c before accepted s x (record { station = s; answer = Answer.refused r })
+  refused-step : (x : Call) (r : Refusal) → Steps c before accepted s x (record { station = s; answer = Reply.refused r })
   refused-step (Call.send m) r = record { then = still; wrote = nothing }
   refused-step (Call.takeIn b) r = record { then = still; wrote = nothing }
   refused-step (Call.flush t) r = record { then = still; wrote = nothing }
@@ -126,7 +141,8 @@ module _ (s : Station) (before : List Piece) (accepted : List (List ℕ)) (made 
       f x = pieceIn (mss c) (s .sendPool) x
 
       -- numbered and queued together stay as they were
-      whole : (before ++ map (pieceIn (mss c) (s .sendPool)) (take (numberedCount (windowOf (s .state)) d) (d .queued))) ++ map (pieceIn (mss c) (s .sendPool)) (drop (numberedCount (windowOf (s .state)) d) (d .queued))
+      whole : (before ++ map (pieceIn (mss c) (s .sendPool)) (take (numberedCount (windowOf (s .state)) d) (d .queued)))
+          ++ map (pieceIn (mss c) (s .sendPool)) (drop (numberedCount (windowOf (s .state)) d) (d .queued))
           ≡ before ++ map (pieceIn (mss c) (s .sendPool)) (d .queued)
       whole =
           append-assoc before (map f (take k (d .queued))) (map f (drop k (d .queued)))

@@ -30,7 +30,11 @@ pub length-bytes-append : (a b : List Segment) → length (bytesOfSegments (a ++
 unfolding bytesOfSegments
 length-bytes-append [] b = omega arith
 length-bytes-append (g ∷ a) b =
-    rw (length-append (bytesOfSegment g) (bytesOfSegments (a ++ b)), length-append (bytesOfSegment g) (bytesOfSegments a), length-bytes-append a b) (omega arith)
+    rw (
+      length-append (bytesOfSegment g) (bytesOfSegments (a ++ b)),
+      length-append (bytesOfSegment g) (bytesOfSegments a),
+      length-bytes-append a b,
+    ) (omega arith)
 
 length-one : (g : Segment) → length (bytesOfSegments (g ∷ [])) ≡ length (bytesOfSegment g)
 unfolding bytesOfSegments
@@ -44,8 +48,10 @@ length-none = refl
 
 -- what holds of both packings holds of the next one, by the test on the length
 packed-one : (P : Packing → Type 0) (mtu : ℕ) (p : Packing) (g : Segment) →
-    (length (bytesOfSegments (p .filling)) + length (bytesOfSegment g) ≤ mtu → P (record { closed = p .closed; filling = p .filling ++ (g ∷ []) })) →
-    (mtu < length (bytesOfSegments (p .filling)) + length (bytesOfSegment g) → P (record { closed = p .closed ++ (p .filling ∷ []); filling = g ∷ [] })) →
+    (length (bytesOfSegments (p .filling)) + length (bytesOfSegment g) ≤ mtu
+    → P (record { closed = p .closed; filling = p .filling ++ (g ∷ []) })) →
+    (mtu < length (bytesOfSegments (p .filling)) + length (bytesOfSegment g)
+    → P (record { closed = p .closed ++ (p .filling ∷ []); filling = g ∷ [] })) →
     P (packOne mtu p g)
 unfolding packOne
 packed-one P mtu p g same next = go (leb total mtu) refl
@@ -55,7 +61,8 @@ packed-one P mtu p g same next = go (leb total mtu) refl
 
     go : (b : Bool) →
         leb total mtu ≡ b →
-        P (cond b (record { closed = p .closed; filling = p .filling ++ (g ∷ []) }) (record { closed = p .closed ++ (p .filling ∷ []); filling = g ∷ [] }))
+        P (cond b (record { closed = p .closed; filling = p .filling ++ (g ∷ []) })
+        (record { closed = p .closed ++ (p .filling ∷ []); filling = g ∷ [] }))
     go true e = same (leb-true total mtu e)
     go false e = next (leb-false total mtu e)
 
@@ -75,11 +82,13 @@ unfolding flatten
 one-in mtu p g =
     packed-one (λ (q : Packing). segmentsIn q ≡ segmentsIn p ++ (g ∷ [])) mtu p g
     (λ h. sym (append-assoc (flatten (p .closed)) (p .filling) (g ∷ [])))
-    (λ h. ap (λ (l : List Segment). l ++ (g ∷ [])) (flatten-append (p .closed) (p .filling ∷ []) ∙ ap (λ (l : List Segment). flatten (p .closed) ++ l) (append-nil (p .filling))))
+    (λ h. ap (λ (l : List Segment). l ++ (g ∷ []))
+    (flatten-append (p .closed) (p .filling ∷ []) ∙ ap (λ (l : List Segment). flatten (p .closed) ++ l) (append-nil (p .filling))))
 
 all-in : (mtu : ℕ) (gs : List Segment) (p : Packing) → segmentsIn (foldl (packOne mtu) p gs) ≡ segmentsIn p ++ gs
 all-in mtu [] p = sym (append-nil (segmentsIn p))
-all-in mtu (g ∷ gs) p = all-in mtu gs (packOne mtu p g) ∙ ap (λ (l : List Segment). l ++ gs) (one-in mtu p g) ∙ append-assoc (segmentsIn p) (g ∷ []) gs
+all-in mtu (g ∷ gs) p = all-in mtu gs (packOne mtu p g) ∙ ap (λ (l : List Segment). l ++ gs) (one-in mtu p g) ∙ append-assoc (segmentsIn p)
+    (g ∷ []) gs
 
 closed-in : (closed : List (List Segment)) (filling : List Segment) → flatten (datagramsOf closed filling) ≡ flatten closed ++ filling
 unfolding flatten
@@ -140,9 +149,11 @@ module _ (P : Segment → Type 0) (mtu : ℕ) where
       length (bytesOfSegments filling) ≤ mtu →
       All (Datagram P mtu) (datagramsOf closed filling)
   each-datagram closed [] a b h = a
-  each-datagram closed (g ∷ gs) a b h = all-append (Datagram P mtu) closed ((g ∷ gs) ∷ []) a (record { some = omega arith; each = b; fits = h }, tt)
+  each-datagram closed (g ∷ gs) a b h =
+      all-append (Datagram P mtu) closed ((g ∷ gs) ∷ []) a (record { some = omega arith; each = b; fits = h }, tt)
 
-  pub packed-each : (gs : List Segment) → All P gs → All (λ (g : Segment). length (bytesOfSegment g) ≤ mtu) gs → All (Datagram P mtu) (packed mtu gs)
+  pub packed-each : (gs : List Segment) → All P gs → All (λ (g : Segment). length (bytesOfSegment g) ≤ mtu) gs
+      → All (Datagram P mtu) (packed mtu gs)
   unfolding packed
   packed-each gs a b =
       let r = packs-all gs (record { closed = []; filling = [] }) a b (record { closed = tt; each = tt; fits = rw length-none zero-le }) in
@@ -167,13 +178,18 @@ count-flat P mtu [] a = zero-le
 count-flat P mtu (d ∷ ds) a = simp length-append (omega (arith, a .0 .some, count-flat P mtu ds (a .1)))
 
 -- there are no more datagrams than segments
-pub packed-count : (P : Segment → Type 0) (mtu : ℕ) (gs : List Segment) → All (Datagram P mtu) (packed mtu gs) → length (packed mtu gs) ≤ length gs
+pub packed-count : (P : Segment → Type 0) (mtu : ℕ) (gs : List Segment) → All (Datagram P mtu) (packed mtu gs)
+    → length (packed mtu gs) ≤ length gs
 packed-count P mtu gs a = omega (arith, count-flat P mtu (packed mtu gs) a, ap length (packed-flat mtu gs))
 
 flat-bytes : (ds : List (List Segment)) → length (flatten (map bytesOfSegments ds)) ≡ length (bytesOfSegments (flatten ds))
 unfolding flatten bytesOfSegments
 flat-bytes [] = refl
-flat-bytes (d ∷ ds) = rw (length-append (bytesOfSegments d) (flatten (map bytesOfSegments ds)), flat-bytes ds, length-bytes-append d (flatten ds))
+flat-bytes (d ∷ ds) = rw (
+  length-append (bytesOfSegments d) (flatten (map bytesOfSegments ds)),
+  flat-bytes ds,
+  length-bytes-append d (flatten ds),
+)
 
 -- all bytes of the datagrams are those of the segments
 pub packed-bytes : (mtu : ℕ) (gs : List Segment) → length (flatten (map bytesOfSegments (packed mtu gs))) ≡ length (bytesOfSegments gs)

@@ -26,7 +26,8 @@ pub record SegmentFits (m : ℕ) (g : Segment) : Type 0 where
   pub push-fragment : g .header .cmd ≡ push → g .header .frg ≤ fragmentMost
 
 module _ (conv m : ℕ) where
-  segment-fits : (s : List ℕ) → AllBytes s → headerSize ≤ length s → verdict conv m (length s - headerSize) (decode s 0) ≡ Passes → SegmentFits m (segmentOf s)
+  segment-fits : (s : List ℕ) → AllBytes s → headerSize ≤ length s → verdict conv m (length s - headerSize) (decode s 0) ≡ Passes
+      → SegmentFits m (segmentOf s)
   unfolding segmentOf
   segment-fits s b h e =
       let p = passed conv m (length s - headerSize) (decode s 0) e in
@@ -37,7 +38,8 @@ module _ (conv m : ℕ) where
         push-fragment = p .fragment;
       }
 
-  in-front-fits : (v : Verdict) (g : Segment) (x : Parsed) → (v ≡ Passes → SegmentFits m g) → Each (SegmentFits m) x → Each (SegmentFits m) (inFront v g x)
+  in-front-fits : (v : Verdict) (g : Segment) (x : Parsed) → (v ≡ Passes → SegmentFits m g) → Each (SegmentFits m) x
+      → Each (SegmentFits m) (inFront v g x)
   in-front-fits Passes g (Parsed.refused r) f a = tt
   in-front-fits Passes g (Parsed.segments gs) f a = (f refl, a)
   in-front-fits (Fails r) g x f a = tt
@@ -50,7 +52,8 @@ module _ (conv m : ℕ) where
       go : (t : Bool) → leb headerSize (length (x ∷ s)) ≡ t → Each (SegmentFits m) (walk conv m (23 + decode (x ∷ s) 0 .len) s)
           → Each (SegmentFits m)
           (cond t
-          (inFront (verdict conv m (length (x ∷ s) - headerSize) (decode (x ∷ s) 0)) (segmentOf (x ∷ s)) (walk conv m (23 + decode (x ∷ s) 0 .len) s))
+          (inFront (verdict conv m (length (x ∷ s) - headerSize) (decode (x ∷ s) 0)) (segmentOf (x ∷ s))
+          (walk conv m (23 + decode (x ∷ s) 0 .len) s))
           (tail (x ∷ s)))
       go true e a = in-front-fits _ _ _ (segment-fits (x ∷ s) b (leb-true headerSize (length (x ∷ s)) e)) a
       go false e a = tt
@@ -60,6 +63,7 @@ module _ (conv m : ℕ) where
   unfolding parse
   parse-fits d b = go (leb headerSize (length d)) (walk-fits 0 d b)
     where
-      go : (t : Bool) → Each (SegmentFits m) (walk conv m 0 d) → Each (SegmentFits m) (cond t (walk conv m 0 d) (Parsed.refused ShortDatagram))
+      go : (t : Bool) → Each (SegmentFits m) (walk conv m 0 d)
+          → Each (SegmentFits m) (cond t (walk conv m 0 d) (Parsed.refused ShortDatagram))
       go true a = a
       go false a = tt

@@ -17,8 +17,40 @@ use Rattle.protocol.specs.declared.Settings.{Settings}
 use Rattle.session.specs.Slots.{occurs}
 use Rattle.session.specs.Cutting.{fragmentCount}
 use Rattle.session.specs.Calls.{Call}
-use Rattle.delivery.specs.PlainReceiver.{Plain, atFirst, Found, pushesIn, segmentsOf, allHeard, firstWanted, UnheardFrom, Unheard, nextExpected, hear, feed, answerFor, plainAnswer, leave, plainAfter, plainAnswers}
-use Rattle.delivery.specs.Hearing.{HearsMore, start, both-take, both-read, takes-more, first-sends, first-flushes, first-updates, first-checks, second-sends, second-flushes, second-updates, second-checks}
+use Rattle.delivery.specs.PlainReceiver.{
+  Plain,
+  atFirst,
+  Found,
+  pushesIn,
+  segmentsOf,
+  allHeard,
+  firstWanted,
+  UnheardFrom,
+  Unheard,
+  nextExpected,
+  hear,
+  feed,
+  answerFor,
+  plainAnswer,
+  leave,
+  plainAfter,
+  plainAnswers,
+}
+use Rattle.delivery.specs.Hearing.{
+  HearsMore,
+  start,
+  both-take,
+  both-read,
+  takes-more,
+  first-sends,
+  first-flushes,
+  first-updates,
+  first-checks,
+  second-sends,
+  second-flushes,
+  second-updates,
+  second-checks,
+}
 use Rattle.delivery.specs.Claims.{Begins}
 use Rattle.delivery.specs.SearchLaws.{Within, within-cons, lowest-mono}
 use Rattle.delivery.specs.FreeSlots.{occurs-later}
@@ -37,7 +69,8 @@ unfolding allHeard
 all-heard-each l n zero a j f h = absurd (omega arith)
 all-heard-each l n (suc k) a j f h = go (occurs n l) refl a (λ t. all-heard-each l (suc n) k t j)
   where
-    go : (b : Bool) → occurs n l ≡ b → (b && allHeard l (suc n) k) ≡ true → (allHeard l (suc n) k ≡ true → suc n ≤ j → j < suc n + k → occurs j l ≡ true)
+    go : (b : Bool) → occurs n l ≡ b → (b && allHeard l (suc n) k) ≡ true
+        → (allHeard l (suc n) k ≡ true → suc n ≤ j → j < suc n + k → occurs j l ≡ true)
         → occurs j l ≡ true
     go true e i rest = at (eqb j n) refl
       where
@@ -151,7 +184,8 @@ module _ (c : Settings) (accepted : List (List ℕ)) where
 
   -- with as much out and no less heard, a message that the one reads the other reads
   answer-mono : (h k : List ℕ) (o room : ℕ) (m : List ℕ) → Within h k
-      → plainAnswer c accepted (record { heard = h; out = o }) room ≡ Found.message m → plainAnswer c accepted (record { heard = k; out = o }) room ≡ Found.message m
+      → plainAnswer c accepted (record { heard = h; out = o }) room ≡ Found.message m
+      → plainAnswer c accepted (record { heard = k; out = o }) room ≡ Found.message m
   unfolding plainAnswer
   answer-mono h k o room m w = go (getElem? accepted o)
     where
@@ -176,7 +210,8 @@ module _ (c : Settings) (accepted : List (List ℕ)) where
       → Ahead (leave c accepted p (plainAnswer c accepted p room)) (leave c accepted q (plainAnswer c accepted q room))
   read-both p q room a = go (plainAnswer c accepted p room) refl
     where
-      go : (f : Found) → plainAnswer c accepted p room ≡ f → Ahead (leave c accepted p f) (leave c accepted q (plainAnswer c accepted q room))
+      go : (f : Found) → plainAnswer c accepted p room ≡ f
+          → Ahead (leave c accepted p f) (leave c accepted q (plainAnswer c accepted q room))
       go Found.nothing e = leave-further p q (plainAnswer c accepted q room) a
       go Found.short e = leave-further p q (plainAnswer c accepted q room) a
       go (Found.message m) e = by (ltb (p .out) (q .out)) refl
@@ -188,11 +223,14 @@ module _ (c : Settings) (accepted : List (List ℕ)) where
               (record { hears = a .hears; outs = ltb-true (p .out) (q .out) l })
           by false l =
               let o : p .out ≡ q .out = omega (arith, ltb-false, a .outs) in
-              let r : plainAnswer c accepted q room ≡ Found.message m = subst (λ (o : ℕ). plainAnswer c accepted (record { heard = q .heard; out = o }) room ≡ Found.message m) o (answer-mono (p .heard) (q .heard) (p .out) room m (a .hears) e) in
+              let r : plainAnswer c accepted q room ≡ Found.message m =
+              subst (λ (o : ℕ). plainAnswer c accepted (record { heard = q .heard; out = o }) room ≡ Found.message m) o
+              (answer-mono (p .heard) (q .heard) (p .out) room m (a .hears) e) in
               rw r (record { hears = a .hears; outs = omega arith })
 
   -- who hears more stays ahead
-  ahead-after : {xs ys : List Call} → HearsMore xs ys → (p q : Plain) → Ahead p q → Ahead (plainAfter c accepted p xs) (plainAfter c accepted q ys)
+  ahead-after : {xs ys : List Call} → HearsMore xs ys → (p q : Plain) → Ahead p q
+      → Ahead (plainAfter c accepted p xs) (plainAfter c accepted q ys)
   unfolding plainAfter
   ahead-after start p q a = a
   ahead-after (both-take {d = d} h) p q a = ahead-after h _ _ (feed-both (pushesIn c d) p q a)
@@ -222,7 +260,8 @@ module _ (c : Settings) (accepted : List (List ℕ)) where
       go none f e = absurd (let z : _≡_ {A = ℕ} 0 1 = cc in omega arith)
       go (some a) f e = all (allHeard (p .heard) (firstWanted c accepted p) (fragmentCount (mss c) (length a))) refl (ltb room (length a)) e
         where
-          all : (b : Bool) → allHeard (p .heard) (firstWanted c accepted p) (fragmentCount (mss c) (length a)) ≡ b → (s : Bool) → foundIn b s a ≡ Found.message m
+          all : (b : Bool) → allHeard (p .heard) (firstWanted c accepted p) (fragmentCount (mss c) (length a)) ≡ b → (s : Bool)
+              → foundIn b s a ≡ Found.message m
               → ComesOut p m
           all true t true r = absurd (let z : _≡_ {A = ℕ} 0 1 = cc in omega arith)
           all true t false r = let q : a ≡ m = cc in record { is-next = rw q at f; is-heard = rw q at t }
@@ -242,12 +281,14 @@ module _ (c : Settings) (accepted : List (List ℕ)) where
   unfolding plainAfter plainAnswers messagesFound
   messages-after [] p = append-nil _
   messages-after (Call.takeIn d ∷ xs) p =
-      ap {B = List (List ℕ)} (λ (o : ℕ). take o accepted ++ messagesFound (plainAnswers c accepted (feed c accepted p (pushesIn c d)) xs)) (sym (feed-out (pushesIn c d) p))
+      ap {B = List (List ℕ)} (λ (o : ℕ). take o accepted ++ messagesFound (plainAnswers c accepted (feed c accepted p (pushesIn c d)) xs))
+      (sym (feed-out (pushesIn c d) p))
       ∙ messages-after xs (feed c accepted p (pushesIn c d))
   messages-after (Call.read room ∷ xs) p = go (plainAnswer c accepted p room) refl (λ q. messages-after xs q)
     where
       go : (f : Found) → plainAnswer c accepted p room ≡ f
-          → ((q : Plain) → take (q .out) accepted ++ messagesFound (plainAnswers c accepted q xs) ≡ take (plainAfter c accepted q xs .out) accepted)
+          → ((q : Plain) → take (q .out) accepted
+          ++ messagesFound (plainAnswers c accepted q xs) ≡ take (plainAfter c accepted q xs .out) accepted)
           → take (p .out) accepted ++ messagesFound (f ∷ plainAnswers c accepted (leave c accepted p f) xs)
           ≡ take (plainAfter c accepted (leave c accepted p f) xs .out) accepted
       go Found.nothing e rest = rest p
@@ -255,7 +296,8 @@ module _ (c : Settings) (accepted : List (List ℕ)) where
       go (Found.message m) e rest =
           let q : Plain = record { heard = p .heard; out = suc (p .out) } in
           sym (append-snoc (take (p .out) accepted) m (messagesFound (plainAnswers c accepted q xs)))
-          ∙ ap (λ (l : List (List ℕ)). l ++ messagesFound (plainAnswers c accepted q xs)) (take-one-more accepted (p .out) m (answer-message p room m e .is-next))
+          ∙ ap (λ (l : List (List ℕ)). l ++ messagesFound (plainAnswers c accepted q xs))
+          (take-one-more accepted (p .out) m (answer-message p room m e .is-next))
           ∙ rest q
   messages-after (Call.send m ∷ xs) p = messages-after xs p
   messages-after (Call.flush t ∷ xs) p = messages-after xs p
@@ -272,7 +314,8 @@ module _ (c : Settings) (accepted : List (List ℕ)) where
   -- hearing more never loses a message
   pub plain-more : {xs ys : List Call} → HearsMore xs ys → Begins (plainMessages xs) (plainMessages ys)
   plain-more {xs} {ys} h =
-      let a : Ahead (plainAfter c accepted atFirst xs) (plainAfter c accepted atFirst ys) = ahead-after h atFirst atFirst (record { hears = λ n e. e; outs = zero-le }) in
+      let a : Ahead (plainAfter c accepted atFirst xs) (plainAfter c accepted atFirst ys) =
+      ahead-after h atFirst atFirst (record { hears = λ n e. e; outs = zero-le }) in
       rw (messages-out xs, messages-out ys) (begins-take accepted _ _ (a .outs))
 
   -- no message is invented, changed or put out of order
@@ -289,7 +332,8 @@ module _ (c : Settings) (accepted : List (List ℕ)) where
       go none e = tt
       go (some a) e = all (allHeard (p .heard) (firstWanted c accepted p) (fragmentCount (mss c) (length a))) refl (ltb room (length a)) e
         where
-          all : (b : Bool) → allHeard (p .heard) (firstWanted c accepted p) (fragmentCount (mss c) (length a)) ≡ b → (s : Bool) → foundIn b s a ≡ Found.nothing
+          all : (b : Bool) → allHeard (p .heard) (firstWanted c accepted p) (fragmentCount (mss c) (length a)) ≡ b → (s : Bool)
+              → foundIn b s a ≡ Found.nothing
               → UnheardFrom c accepted p (some a)
           all true t true r = absurd (let z : _≡_ {A = ℕ} 0 1 = cc in omega arith)
           all true t false r = absurd (let z : _≡_ {A = ℕ} 0 1 = cc in omega arith)

@@ -114,7 +114,8 @@ module _ (c : Settings) (accepted : List (List ℕ)) where
 abbrev pub UnheardFrom : Settings → List (List ℕ) → Plain → Option (List ℕ) → Type 0
 UnheardFrom c accepted p none = Unit {0}
 UnheardFrom c accepted p (some m) =
-    (n : ℕ) × (firstWanted c accepted p ≤ n) × (n < firstWanted c accepted p + fragmentCount (mss c) (length m)) × (occurs n (p .heard) ≡ false)
+    (n : ℕ) × (firstWanted c accepted p ≤ n) × (n < firstWanted c accepted p + fragmentCount (mss c) (length m)) ×
+    (occurs n (p .heard) ≡ false)
 
 abbrev pub Unheard : Settings → List (List ℕ) → Plain → Type 0
 Unheard c accepted p = UnheardFrom c accepted p (getElem? accepted (p .out))

@@ -20,14 +20,35 @@ use Rattle.datagram.specs.Datagrams.{Segment}
 use Rattle.lists.specs.declared.Held.{Held}
 use Rattle.lists.specs.declared.Waiting.{Waiting}
 use Rattle.lists.specs.Orders.{ascending, isHeld, insert, waitingOffset}
-use Rattle.lists.specs.OrderLaws.{Between, ascending-first, ascending-length, insert-ascending, insert-held, insert-between, ascending-moved, offset-plus}
+use Rattle.lists.specs.OrderLaws.{
+  Between,
+  ascending-first,
+  ascending-length,
+  insert-ascending,
+  insert-held,
+  insert-between,
+  ascending-moved,
+  offset-plus,
+}
 use Rattle.lists.specs.Receiving.{Received, isNext, advance}
 use Rattle.session.specs.Slots.{occurs, lowestFree}
 use Rattle.session.specs.State.{Receiving, Ack, slots}
 use Rattle.lists.specs.Receiving.{startsAt}
 use Rattle.session.specs.Valid.{once}
 use Rattle.session.specs.Reading.{frontCount, readable, payloadIn, joinedIn, lengthOf, afterRead}
-use Rattle.session.specs.Input.{Receiver, inWindow, noted, isNew, kept, movedUpIn, withAcks, pushed, asked, heardByReceiving, allByReceiving}
+use Rattle.session.specs.Input.{
+  Receiver,
+  inWindow,
+  noted,
+  isNew,
+  kept,
+  movedUpIn,
+  withAcks,
+  pushed,
+  asked,
+  heardByReceiving,
+  allByReceiving,
+}
 use Rattle.session.specs.Decides.{All, and-parts}
 use Rattle.session.specs.AllLaws.{all-append, all-left, all-right, all-take, all-drop, all-unmapped}
 use Rattle.delivery.specs.PlainReceiver.{Found}
@@ -37,9 +58,29 @@ use Rattle.delivery.specs.SlotBytes.{stored, other-slot}
 use Rattle.delivery.specs.SendPool.{pieceIn}
 use Rattle.session.specs.MapLaws.{map-take, map-drop}
 use Rattle.delivery.specs.SearchLaws.{occurs-apart}
-use Rattle.delivery.specs.InsertLaws.{between-length, between-behind, between-map, all-between, once-between, map-ascending, map-held, map-insert}
+use Rattle.delivery.specs.InsertLaws.{
+  between-length,
+  between-behind,
+  between-map,
+  all-between,
+  once-between,
+  map-ascending,
+  map-held,
+  map-insert,
+}
 use Rattle.delivery.specs.ParsedLaws.{SegmentFits}
-use Rattle.delivery.specs.ReceiverModel.{Numbered, Listed, numberedOffset, listAdvance, listKept, listPush, listPushes, joined, listAnswer, listRest}
+use Rattle.delivery.specs.ReceiverModel.{
+  Numbered,
+  Listed,
+  numberedOffset,
+  listAdvance,
+  listKept,
+  listPush,
+  listPushes,
+  joined,
+  listAnswer,
+  listRest,
+}
 
 -- ---- what the entries stand for
 
@@ -83,15 +124,19 @@ pub record Settled (m : ℕ) (pool : List ℕ) (r : Received) : Type 0 where
 
 -- ---- numbers near one another, anywhere in the 32 bits
 
-in-window : (n a : ℕ) → n < 2 ^ 32 → a < 2 ^ 32 → isBefore a (plus n receiveWindow) ≡ true → isBefore a n ≡ false → minus a n < receiveWindow
+in-window : (n a : ℕ) → n < 2 ^ 32 → a < 2 ^ 32 → isBefore a (plus n receiveWindow) ≡ true → isBefore a n ≡ false
+    → minus a n < receiveWindow
 in-window n a hn ha p q =
-    let x : 2 ^ 31 ≤ minus a (plus n receiveWindow) = leb-true (2 ^ 31) (minus a (plus n receiveWindow)) (sym (before-test a (plus n receiveWindow)) ∙ p) in
+    let x : 2 ^ 31 ≤ minus a (plus n receiveWindow) =
+    leb-true (2 ^ 31) (minus a (plus n receiveWindow)) (sym (before-test a (plus n receiveWindow)) ∙ p) in
     let y : minus a n < 2 ^ 31 = leb-false (2 ^ 31) (minus a n) (sym (before-test a n) ∙ q) in
     omega arith
 
 -- after one step of rcv_nxt
-window-step : (n : ℕ) (l : List Waiting) → n < 2 ^ 32 → ascending (waitingOffset n) 1 receiveWindow l ≡ true → ascending (waitingOffset (plus n 1)) 0 receiveWindow l ≡ true
-window-step n l h = ascending-moved (waitingOffset n) (waitingOffset (plus n 1)) 1 (λ w u. offset-plus n 1 (w .number) h u) 1 receiveWindow receiveWindow l (omega arith) (omega arith)
+window-step : (n : ℕ) (l : List Waiting) → n < 2 ^ 32 → ascending (waitingOffset n) 1 receiveWindow l ≡ true
+    → ascending (waitingOffset (plus n 1)) 0 receiveWindow l ≡ true
+window-step n l h = ascending-moved (waitingOffset n) (waitingOffset (plus n 1)) 1 (λ w u. offset-plus n 1 (w .number) h u) 1 receiveWindow
+    receiveWindow l (omega arith) (omega arith)
 
 -- ---- segments that leave
 
@@ -107,9 +152,11 @@ module _ (m : ℕ) (pool : List ℕ) where
       → listedIn m pool (advance n r l) ≡ listAdvance n (map (pieceIn m pool) r) (map (numberedIn m pool) l)
   unfolding advance listAdvance
   advance-listed n r [] = refl
-  advance-listed n r (w ∷ l) = rw (length-map r (pieceIn m pool)) (go (isNext n w && ltb (length r) receiveWindow) (advance-listed (plus n 1) (r ++ (w .held ∷ [])) l))
+  advance-listed n r (w ∷ l) = rw (length-map r (pieceIn m pool))
+      (go (isNext n w && ltb (length r) receiveWindow) (advance-listed (plus n 1) (r ++ (w .held ∷ [])) l))
     where
-      go : (b : Bool) → listedIn m pool (advance (plus n 1) (r ++ (w .held ∷ [])) l) ≡ listAdvance (plus n 1) (map (pieceIn m pool) (r ++ (w .held ∷ []))) (map (numberedIn m pool) l)
+      go : (b : Bool) → listedIn m pool (advance (plus n 1) (r ++ (w .held ∷ [])) l) ≡ listAdvance (plus n 1)
+          (map (pieceIn m pool) (r ++ (w .held ∷ []))) (map (numberedIn m pool) l)
           → listedIn m pool (cond b (advance (plus n 1) (r ++ (w .held ∷ [])) l) (record { next = n; ready = r; waiting = w ∷ l }))
           ≡ cond b
           (listAdvance (plus n 1) (map (pieceIn m pool) r ++ (pieceIn m pool (w .held) ∷ [])) (map (numberedIn m pool) l))
@@ -117,13 +164,15 @@ module _ (m : ℕ) (pool : List ℕ) where
       go true i = rw (map-append (pieceIn m pool) r (w .held ∷ [])) at i
       go false i = refl
 
-  advance-settled : (n : ℕ) (r : List Held) (l : List Waiting) → Sound m pool (record { next = n; ready = r; waiting = l }) → Settled m pool (advance n r l)
+  advance-settled : (n : ℕ) (r : List Held) (l : List Waiting) → Sound m pool (record { next = n; ready = r; waiting = l })
+      → Settled m pool (advance n r l)
   unfolding advance startsAt
   advance-settled n r [] s = record { sound = s; settled = refl }
   advance-settled n r (w ∷ l) s = go (isNext n w && ltb (length r) receiveWindow) refl (advance-settled (plus n 1) (r ++ (w .held ∷ [])) l)
     where
       go : (b : Bool) → (isNext n w && ltb (length r) receiveWindow) ≡ b
-          → (Sound m pool (record { next = plus n 1; ready = r ++ (w .held ∷ []); waiting = l }) → Settled m pool (advance (plus n 1) (r ++ (w .held ∷ [])) l))
+          → (Sound m pool (record { next = plus n 1; ready = r ++ (w .held ∷ []); waiting = l })
+          → Settled m pool (advance (plus n 1) (r ++ (w .held ∷ [])) l))
           → Settled m pool (cond b (advance (plus n 1) (r ++ (w .held ∷ [])) l) (record { next = n; ready = r; waiting = w ∷ l }))
       go false e rest = record { sound = s; settled = e }
       go true e rest =
@@ -144,14 +193,17 @@ module _ (m : ℕ) (pool : List ℕ) where
 -- ---- a payload stored in a slot that is not used
 
 -- entries of other slots stand for what they stood for
-unmoved : {A B : Type 0} (held : A → Held) (make : A → Piece → B) (m : ℕ) (pool payload : List ℕ) (slot : ℕ) → slot * m + length payload ≤ length pool → length payload ≤ m
+unmoved : {A B : Type 0} (held : A → Held) (make : A → Piece → B) (m : ℕ) (pool payload : List ℕ) (slot : ℕ) → slot * m
+    + length payload ≤ length pool → length payload ≤ m
     → (l : List A) → All (λ (a : A). HeldFits m (held a)) l → occurs slot (map (λ (a : A). held a .slot) l) ≡ false
     → map (λ a. make a (pieceIn m (sets pool (slot * m) payload) (held a))) l ≡ map (λ a. make a (pieceIn m pool (held a))) l
 unmoved held make m pool payload slot room u [] f e = refl
 unmoved {A} {B} held make m pool payload slot room u (a ∷ l) f e =
     let others : List ℕ = map (λ (a : A). held a .slot) l in
-    let p = other-slot m pool payload slot (held a .slot) (held a .len) room u (f .0 .short) (λ i. not-first slot (held a .slot) others e (sym i)) in
-    ap₂ {C = List B} (λ (x : List ℕ) (r : List B). make a (record { fragment = held a .fragment; payload = x }) ∷ r) p (unmoved held make m pool payload slot room u l (f .1) (not-later slot (held a .slot) others e))
+    let p = other-slot m pool payload slot (held a .slot) (held a .len) room u (f .0 .short)
+    (λ i. not-first slot (held a .slot) others e (sym i)) in
+    ap₂ {C = List B} (λ (x : List ℕ) (r : List B). make a (record { fragment = held a .fragment; payload = x }) ∷ r) p
+    (unmoved held make m pool payload slot room u l (f .1) (not-later slot (held a .slot) others e))
 
 -- ---- a push
 
@@ -168,7 +220,8 @@ pub record Pushed (m : ℕ) (x : Receiver) (sn : ℕ) (q : Piece) (y : Receiver)
 noted-few : (r : Receiving) (h : Header) → length (r .acks) ≤ acksMost → length (noted r h) ≤ acksMost
 noted-few r h a = go (ltb (length (r .acks)) acksMost) refl
   where
-    go : (b : Bool) → ltb (length (r .acks)) acksMost ≡ b → length (cond b (r .acks ++ (record { sn = h .sn; ts = h .ts } ∷ [])) (r .acks)) ≤ acksMost
+    go : (b : Bool) → ltb (length (r .acks)) acksMost ≡ b
+        → length (cond b (r .acks ++ (record { sn = h .sn; ts = h .ts } ∷ [])) (r .acks)) ≤ acksMost
     go true e = simp length-append (omega (arith, ltb-true (length (r .acks)) acksMost e))
     go false e = a
 
@@ -191,7 +244,8 @@ module _ (m : ℕ) (x : Receiver) (g : Segment) (good : Good m x) (fits : Segmen
       → listKept (listedBy m x) sn (pieceOf g) ≡ map (numberedIn m (x .pool)) (x .half .waiting)
       → Pushed m x sn (pieceOf g) (movedUpIn (withAcks l x))
   old-push l a same = record {
-    listed = advance-listed m (x .pool) next (x .half .ready) (x .half .waiting) ∙ ap (listAdvance next (map (pieceIn m (x .pool)) (x .half .ready))) (sym same);
+    listed = advance-listed m (x .pool) next (x .half .ready) (x .half .waiting) ∙ ap
+        (listAdvance next (map (pieceIn m (x .pool)) (x .half .ready))) (sym same);
     good = record { settles = advance-settled m (x .pool) next (x .half .ready) (x .half .waiting) (good .settles .sound); few-acks = a };
   }
 
@@ -201,8 +255,12 @@ module _ (m : ℕ) (x : Receiver) (g : Segment) (good : Good m x) (fits : Segmen
   new-push p q h = record {
     listed =
         advance-listed m pool′ next ready (insert offset w waiting)
-        ∙ rw (p, q) (ap₂ (listAdvance next) old-ready (map-insert (numberedIn m pool′) offset shown (λ v. refl) w waiting ∙ ap₂ (insert shown) new old-waiting));
-    good = record { settles = advance-settled m pool′ next ready (insert offset w waiting) sound′; few-acks = noted-few (x .half) (g .header) (good .few-acks) };
+        ∙ rw (p, q) (ap₂ (listAdvance next) old-ready
+        (map-insert (numberedIn m pool′) offset shown (λ v. refl) w waiting ∙ ap₂ (insert shown) new old-waiting));
+    good = record {
+      settles = advance-settled m pool′ next ready (insert offset w waiting) sound′;
+      few-acks = noted-few (x .half) (g .header) (good .few-acks);
+    };
   }
     where
       sound : Sound m (x .pool) (received (x .half))
@@ -236,10 +294,12 @@ module _ (m : ℕ) (x : Receiver) (g : Segment) (good : Good m x) (fits : Segmen
       whole = between-behind ready (between-map waitingHeld i)
 
       ascends : ascending offset 0 receiveWindow (insert offset w waiting) ≡ true
-      ascends = insert-ascending offset w 0 receiveWindow waiting zero-le (in-window next sn (sound .next-small) (fits .fields .sn) p q) (sound .window)
+      ascends = insert-ascending offset w 0 receiveWindow waiting zero-le (in-window next sn (sound .next-small) (fits .fields .sn) p q)
+          (sound .window)
 
       few : length (slots all) < receiveSlots
-      few = simp (length-map, length-append) (omega (arith, sound .few-ready, between-length i, ascending-length offset 0 receiveWindow _ zero-le ascends))
+      few = simp (length-map, length-append) (omega
+          (arith, sound .few-ready, between-length i, ascending-length offset 0 receiveWindow _ zero-le ascends))
 
       found : Free (slots all) receiveSlots
       found = free (slots all) receiveSlots few
@@ -250,7 +310,8 @@ module _ (m : ℕ) (x : Receiver) (g : Segment) (good : Good m x) (fits : Segmen
       sound′ : Sound m pool′ (record { next = next; ready = ready; waiting = insert offset w waiting })
       sound′ = record {
         pool-long = rw (length-sets (x .pool) (slot * m) (g .payload)) (sound .pool-long);
-        held = all-between (HeldFits m) whole (sound .held) (record { short = fits .push-length is-push; fragment = fits .push-fragment is-push; low = found .low });
+        held = all-between (HeldFits m) whole (sound .held)
+            (record { short = fits .push-length is-push; fragment = fits .push-fragment is-push; low = found .low });
         slots-once = once-between (between-map (λ (d : Held). d .slot) whole) (sound .slots-once) (found .unused);
         few-ready = sound .few-ready;
         next-small = sound .next-small;
@@ -259,23 +320,30 @@ module _ (m : ℕ) (x : Receiver) (g : Segment) (good : Good m x) (fits : Segmen
       }
 
       apart : (occurs slot (slots ready) ≡ false) × (occurs slot (slots (map waitingHeld waiting)) ≡ false)
-      apart = occurs-apart slot (slots ready) (slots (map waitingHeld waiting)) (sym (ap (occurs slot) (map-append (λ (d : Held). d .slot) ready (map waitingHeld waiting))) ∙ found .unused)
+      apart = occurs-apart slot (slots ready) (slots (map waitingHeld waiting))
+          (sym (ap (occurs slot) (map-append (λ (d : Held). d .slot) ready (map waitingHeld waiting))) ∙ found .unused)
 
       old-ready : map (pieceIn m pool′) ready ≡ map (pieceIn m (x .pool)) ready
-      old-ready = unmoved (λ (d : Held). d) (λ (d : Held) (y : Piece). y) m (x .pool) (g .payload) slot room short ready (all-left (HeldFits m) ready (map waitingHeld waiting) (sound .held)) (apart .0)
+      old-ready = unmoved (λ (d : Held). d) (λ (d : Held) (y : Piece). y) m (x .pool) (g .payload) slot room short ready
+          (all-left (HeldFits m) ready (map waitingHeld waiting) (sound .held)) (apart .0)
 
       old-waiting : map (numberedIn m pool′) waiting ≡ map (numberedIn m (x .pool)) waiting
-      old-waiting = unmoved waitingHeld (λ (v : Waiting) (y : Piece). record { number = v .number; piece = y }) m (x .pool) (g .payload) slot room short waiting (all-unmapped (HeldFits m) waitingHeld waiting (all-right (HeldFits m) ready (map waitingHeld waiting) (sound .held))) (sym (ap (occurs slot) (map-map (λ (d : Held). d .slot) waitingHeld waiting)) ∙ apart .1)
+      old-waiting = unmoved waitingHeld (λ (v : Waiting) (y : Piece). record { number = v .number; piece = y }) m (x .pool) (g .payload)
+          slot room short waiting (all-unmapped (HeldFits m) waitingHeld waiting
+          (all-right (HeldFits m) ready (map waitingHeld waiting) (sound .held)))
+          (sym (ap (occurs slot) (map-map (λ (d : Held). d .slot) waitingHeld waiting)) ∙ apart .1)
 
       new : numberedIn m pool′ w ≡ record { number = sn; piece = pieceOf g }
       new =
-          let e : take (g .header .len) (drop (slot * m) pool′) ≡ g .payload = rw (fits .payload) at (stored (x .pool) (slot * m) (g .payload) room) in
+          let e : take (g .header .len) (drop (slot * m) pool′) ≡ g .payload =
+          rw (fits .payload) at (stored (x .pool) (slot * m) (g .payload) room) in
           ap (λ (y : List ℕ). record { number = sn; piece = record { fragment = g .header .frg; payload = y } }) e
 
   -- A PUSH ON THE HALF AND ITS POOL is a push on the lists that they stand for
   pub push-listed : Pushed m x (g .header .sn) (pieceOf g) (pushed m x g)
   unfolding pushed
-  push-listed = go (isBefore sn (plus next receiveWindow)) (isBefore sn next) (isHeld offset (minus sn next) (x .half .waiting)) refl refl refl
+  push-listed = go (isBefore sn (plus next receiveWindow)) (isBefore sn next) (isHeld offset (minus sn next) (x .half .waiting)) refl refl
+      refl
     where
       noted′ : length (noted (x .half) (g .header)) ≤ acksMost
       noted′ = noted-few (x .half) (g .header) (good .few-acks)
@@ -285,7 +353,8 @@ module _ (m : ℕ) (x : Receiver) (g : Segment) (good : Good m x) (fits : Segmen
           ≡ map (numberedIn m (x .pool)) (x .half .waiting)
       held-already h =
           insert-held shown (record { number = sn; piece = pieceOf g }) 0 receiveWindow (map (numberedIn m (x .pool)) (x .half .waiting))
-          (map-ascending (numberedIn m (x .pool)) offset shown (λ v. refl) 0 receiveWindow (x .half .waiting) ∙ good .settles .sound .window)
+          (map-ascending (numberedIn m (x .pool)) offset shown (λ v. refl) 0 receiveWindow (x .half .waiting) ∙ good .settles .sound
+          .window)
           (map-held (numberedIn m (x .pool)) offset shown (λ v. refl) (minus sn next) (x .half .waiting) ∙ h)
 
       go : (a b c : Bool) → isBefore sn (plus next receiveWindow) ≡ a → isBefore sn next ≡ b
@@ -314,7 +383,8 @@ took-all m (g ∷ gs) x f good = go (eqb (g .header .cmd) push) (eqb (g .header 
         let p = push-listed m x g good (f .0) (eqb-true (g .header .cmd) push e) in
         let r = rest (pushed m x g) (p .good) in
         record { listed = r .listed ∙ ap (λ (y : Listed). listPushes y (pushes gs)) (p .listed); good = r .good }
-    go false true e rest = let r = rest (asked x) (record { settles = good .settles; few-acks = good .few-acks }) in record { listed = r .listed; good = r .good }
+    go false true e rest = let r = rest (asked x) (record { settles = good .settles; few-acks = good .few-acks }) in
+        record { listed = r .listed; good = r .good }
     go false false e rest = rest x good
 
 -- the pool is as long as before, whatever the segments
@@ -349,11 +419,13 @@ module _ (m : ℕ) (pool : List ℕ) where
   joined-in (h ∷ l) = rw (joined-in l)
 
   -- the size of a message is its length
-  joined-length : (l : List Held) → receiveSlots * m ≤ length pool → All (HeldFits m) l → length (joined (map (pieceIn m pool) l)) ≡ lengthOf l
+  joined-length : (l : List Held) → receiveSlots * m ≤ length pool → All (HeldFits m) l
+      → length (joined (map (pieceIn m pool) l)) ≡ lengthOf l
   unfolding joined lengthOf
   joined-length [] long f = refl
   joined-length (h ∷ l) long f =
-      let e : length (payloadIn m pool h) ≡ h .len = simp (length-take, length-drop) (omega (arith, f .0 .short, mul-le-mul-right m (f .0 .low))) in
+      let e : length (payloadIn m pool h) ≡ h .len =
+      simp (length-take, length-drop) (omega (arith, f .0 .short, mul-le-mul-right m (f .0 .low))) in
       simp length-append (omega (arith, e, joined-length l long (f .1)))
 
   -- what is ready behind the message at the front
@@ -361,10 +433,13 @@ module _ (m : ℕ) (pool : List ℕ) where
   rest-listed [] = refl
   rest-listed (h ∷ r) = map-drop (pieceIn m pool) (h .fragment + 1) (h ∷ r)
 
-  drop-sound : (k n : ℕ) (r : List Held) (l : List Waiting) → Sound m pool (record { next = n; ready = r; waiting = l }) → Sound m pool (record { next = n; ready = drop k r; waiting = l })
+  drop-sound : (k n : ℕ) (r : List Held) (l : List Waiting) → Sound m pool (record { next = n; ready = r; waiting = l })
+      → Sound m pool (record { next = n; ready = drop k r; waiting = l })
   drop-sound k n r l s = record {
     pool-long = s .pool-long;
-    held = all-append (HeldFits m) (drop k r) (map waitingHeld l) (all-drop (HeldFits m) k r (all-left (HeldFits m) r (map waitingHeld l) (s .held))) (all-right (HeldFits m) r (map waitingHeld l) (s .held));
+    held = all-append (HeldFits m) (drop k r) (map waitingHeld l)
+        (all-drop (HeldFits m) k r (all-left (HeldFits m) r (map waitingHeld l) (s .held)))
+        (all-right (HeldFits m) r (map waitingHeld l) (s .held));
     slots-once = once-drop k r (map waitingHeld l) (s .slots-once);
     few-ready = simp length-drop (omega (arith, s .few-ready));
     next-small = s .next-small;
@@ -377,16 +452,19 @@ abbrev pub readFrom : Receiver → Receiver
 readFrom x = record { half = afterRead (x .half); pool = x .pool }
 
 pub read-listed : (m : ℕ) (x : Receiver)
-    → listedBy m (readFrom x) ≡ listAdvance (x .half .next) (listRest (map (pieceIn m (x .pool)) (x .half .ready))) (map (numberedIn m (x .pool)) (x .half .waiting))
+    → listedBy m (readFrom x) ≡ listAdvance (x .half .next) (listRest (map (pieceIn m (x .pool)) (x .half .ready)))
+    (map (numberedIn m (x .pool)) (x .half .waiting))
 unfolding afterRead
 read-listed m x =
     advance-listed m (x .pool) (x .half .next) (drop (frontCount (x .half .ready)) (x .half .ready)) (x .half .waiting)
-    ∙ ap (λ (r : List Piece). listAdvance (x .half .next) r (map (numberedIn m (x .pool)) (x .half .waiting))) (rest-listed m (x .pool) (x .half .ready))
+    ∙ ap (λ (r : List Piece). listAdvance (x .half .next) r (map (numberedIn m (x .pool)) (x .half .waiting)))
+    (rest-listed m (x .pool) (x .half .ready))
 
 pub read-good : (m : ℕ) (x : Receiver) → Good m x → Good m (readFrom x)
 unfolding afterRead
 read-good m x good = record {
-  settles = advance-settled m (x .pool) (x .half .next) (drop (frontCount (x .half .ready)) (x .half .ready)) (x .half .waiting) (drop-sound m (x .pool) (frontCount (x .half .ready)) (x .half .next) (x .half .ready) (x .half .waiting) (good .settles .sound));
+  settles = advance-settled m (x .pool) (x .half .next) (drop (frontCount (x .half .ready)) (x .half .ready)) (x .half .waiting)
+      (drop-sound m (x .pool) (frontCount (x .half .ready)) (x .half .next) (x .half .ready) (x .half .waiting) (good .settles .sound));
   few-acks = good .few-acks;
 }
 
@@ -401,10 +479,13 @@ turned n room a b = go (leb n room) refl
 -- what a read finds, by the entries
 pub answer-listed : (m : ℕ) (pool : List ℕ) (room : ℕ) (l : List Held) → receiveSlots * m ≤ length pool → All (HeldFits m) l
     → listAnswer (map (pieceIn m pool) l) room
-    ≡ cond (readable l) (cond (leb (lengthOf (take (frontCount l) l)) room) (Found.message (joinedIn m pool (take (frontCount l) l))) Found.short) Found.nothing
+    ≡ cond (readable l) (cond (leb (lengthOf (take (frontCount l) l)) room) (Found.message (joinedIn m pool (take (frontCount l) l)))
+    Found.short) Found.nothing
 answer-listed m pool room [] long f = refl
 answer-listed m pool room (h ∷ l) long f =
     let t : List Held = take (h .fragment + 1) (h ∷ l) in
-    let e : joined (take (h .fragment + 1) (map (pieceIn m pool) (h ∷ l))) ≡ joinedIn m pool t = ap joined (sym (map-take (pieceIn m pool) (h .fragment + 1) (h ∷ l))) ∙ sym (joined-in m pool t) in
-    let n : length (joinedIn m pool t) ≡ lengthOf t = ap length (joined-in m pool t) ∙ joined-length m pool t long (all-take (HeldFits m) (h .fragment + 1) (h ∷ l) f) in
+    let e : joined (take (h .fragment + 1) (map (pieceIn m pool) (h ∷ l))) ≡ joinedIn m pool t =
+    ap joined (sym (map-take (pieceIn m pool) (h .fragment + 1) (h ∷ l))) ∙ sym (joined-in m pool t) in
+    let n : length (joinedIn m pool t) ≡ lengthOf t =
+    ap length (joined-in m pool t) ∙ joined-length m pool t long (all-take (HeldFits m) (h .fragment + 1) (h ∷ l) f) in
     rw (length-map l (pieceIn m pool), e, n, turned (lengthOf t) room Found.short (Found.message (joinedIn m pool t)))

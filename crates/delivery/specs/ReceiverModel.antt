@@ -60,7 +60,8 @@ abbrev pub listAnswer : List Piece → ℕ → Found
 listAnswer [] room = Found.nothing
 listAnswer (q ∷ l) room =
     cond (leb (q .fragment + 1) (length (q ∷ l)))
-    (cond (ltb room (length (joined (take (q .fragment + 1) (q ∷ l))))) Found.short (Found.message (joined (take (q .fragment + 1) (q ∷ l)))))
+    (cond (ltb room (length (joined (take (q .fragment + 1) (q ∷ l))))) Found.short
+    (Found.message (joined (take (q .fragment + 1) (q ∷ l)))))
     Found.nothing
 
 -- what is ready behind the message at the front

@@ -12,7 +12,21 @@ use Rattle.protocol.specs.declared.Settings.{Settings}
 use Rattle.sizes.specs.Sizes.{enough}
 use Rattle.sizes.specs.declared.Lengths.{Lengths}
 use Rattle.session.specs.Valid.{valid}
-use Rattle.session.specs.Calls.{Station, Call, Answer, Event, Stepped, lengthsOf, longEnough, own, step, history, after, readAnswers, messagesRead}
+use Rattle.session.specs.Calls.{
+  Station,
+  Call,
+  Reply,
+  Event,
+  Stepped,
+  lengthsOf,
+  longEnough,
+  own,
+  step,
+  history,
+  after,
+  readAnswers,
+  messagesRead,
+}
 use Rattle.session.specs.Decides.{All}
 use Rattle.delivery.specs.PlainReceiver.{Plain, atFirst, Found, plainAnswer, afterCall, plainAfter, plainAnswers}
 use Rattle.delivery.specs.Hearing.{Taken, CallFits, FedWith, HearsMore}
@@ -43,7 +57,8 @@ member P (x ∷ l) (List·Memᴰ·head e) h = subst P (sym e) (h .0)
 member P (x ∷ l) (List·Memᴰ·tail m) h = member P l m (h .1)
 
 -- fed with some of these datagrams, all of them genuine
-pub fed-genuine : (c : Settings) (pieces : List Piece) (ds : List (List ℕ)) → All (GenuineDatagram c pieces) ds → (calls : List Call) → FedWith ds calls → FedGenuine c pieces calls
+pub fed-genuine : (c : Settings) (pieces : List Piece) (ds : List (List ℕ)) → All (GenuineDatagram c pieces) ds → (calls : List Call)
+    → FedWith ds calls → FedGenuine c pieces calls
 fed-genuine c pieces ds g [] f = tt
 fed-genuine c pieces ds g (Call.takeIn d ∷ xs) f = (member (GenuineDatagram c pieces) ds (f .0) g, fed-genuine c pieces ds g xs (f .1))
 fed-genuine c pieces ds g (Call.send m ∷ xs) f = fed-genuine c pieces ds g xs f
@@ -62,7 +77,8 @@ pub record FedReceiver (c : Settings) (accepted : List (List ℕ)) (s : Station)
 -- ---- lists of calls
 
 module _ (c : Settings) (accepted : List (List ℕ)) (some-bytes : 0 < mss c) where
-  head-genuine : (x : Call) (xs : List Call) → FedGenuine c (piecesOf (mss c) accepted) (x ∷ xs) → Genuinely c accepted x × FedGenuine c (piecesOf (mss c) accepted) xs
+  head-genuine : (x : Call) (xs : List Call) → FedGenuine c (piecesOf (mss c) accepted) (x ∷ xs)
+      → Genuinely c accepted x × FedGenuine c (piecesOf (mss c) accepted) xs
   head-genuine (Call.takeIn d) xs g = g
   head-genuine (Call.send m) xs g = (tt, g)
   head-genuine (Call.flush t) xs g = (tt, g)
@@ -70,27 +86,32 @@ module _ (c : Settings) (accepted : List (List ℕ)) (some-bytes : 0 < mss c) wh
   head-genuine (Call.check t) xs g = (tt, g)
   head-genuine (Call.read room) xs g = (tt, g)
 
-  follows-all : (xs : List Call) (s : Station) (p : Plain) → All CallFits xs → Passing s xs → FedGenuine c (piecesOf (mss c) accepted) xs → Follows c accepted s p
+  follows-all : (xs : List Call) (s : Station) (p : Plain) → All CallFits xs → Passing s xs → FedGenuine c (piecesOf (mss c) accepted) xs
+      → Follows c accepted s p
       → Follows c accepted (after s xs) (plainAfter c accepted p xs)
   unfolding after plainAfter
   follows-all [] s p fits pass g f = f
   follows-all (x ∷ xs) s p fits pass g f =
       let h = head-genuine x xs g in
       rw (after-first s x xs pass)
-      (follows-all xs (own s x .station) (afterCall c accepted p x) (fits .1) (pass .2) (h .1) (follows-call c accepted some-bytes s p x (fits .0) (h .0) f))
+      (follows-all xs (own s x .station) (afterCall c accepted p x) (fits .1) (pass .2) (h .1)
+      (follows-call c accepted some-bytes s p x (fits .0) (h .0) f))
 
-  answers-all : (xs : List Call) (s : Station) (p : Plain) → All CallFits xs → Passing s xs → FedGenuine c (piecesOf (mss c) accepted) xs → Follows c accepted s p
+  answers-all : (xs : List Call) (s : Station) (p : Plain) → All CallFits xs → Passing s xs → FedGenuine c (piecesOf (mss c) accepted) xs
+      → Follows c accepted s p
       → map seen (readAnswers (history s xs)) ≡ map found (plainAnswers c accepted p xs)
   unfolding history plainAnswers
   answers-all [] s p fits pass g f = refl
   answers-all (x ∷ xs) s p fits pass g f =
       let h = head-genuine x xs g in
       ap (λ (l : List Event). map seen (readAnswers l)) (history-first s x xs pass)
-      ∙ one x f (answers-all xs (own s x .station) (afterCall c accepted p x) (fits .1) (pass .2) (h .1) (follows-call c accepted some-bytes s p x (fits .0) (h .0) f))
+      ∙ one x f (answers-all xs (own s x .station) (afterCall c accepted p x) (fits .1) (pass .2) (h .1)
+      (follows-call c accepted some-bytes s p x (fits .0) (h .0) f))
     where
       one : (x : Call) → Follows c accepted s p
           → map seen (readAnswers (history (own s x .station) xs)) ≡ map found (plainAnswers c accepted (afterCall c accepted p x) xs)
-          → map seen (readAnswers (record { call = x; answer = own s x .answer } ∷ history (own s x .station) xs)) ≡ map found (plainAnswers c accepted p (x ∷ xs))
+          → map seen (readAnswers (record { call = x; answer = own s x .answer } ∷ history (own s x .station) xs)) ≡ map found
+          (plainAnswers c accepted p (x ∷ xs))
       one (Call.send m) f rest = rest
       one (Call.takeIn d) f rest = rest
       one (Call.flush t) f rest = rest
@@ -123,17 +144,20 @@ module _ (c : Settings) (taken : Taken c) (accepted : List (List ℕ)) where
     pub next-answer : valid (after s calls .state) ≡ true → (room : ℕ)
         → seen (step (after s calls) (Call.read room) .answer) ≡ found (plainAnswer c accepted (plainAfter c accepted atFirst calls) room)
     next-answer v room =
-        let long : longEnough (after s calls) (Call.read room) ≡ true = ap₂ (λ (a : Settings) (n : Lengths). enough (mss a) n) (follows .order .settings) (after-lengths calls s (r .passes)) ∙ flush-enough (mss c) (lengthsOf s) (s .lent .output) (s .lent .lengths) (r .opens .long) in
+        let long : longEnough (after s calls) (Call.read room) ≡ true =
+        ap₂ (λ (a : Settings) (n : Lengths). enough (mss a) n) (follows .order .settings) (after-lengths calls s (r .passes)) ∙ flush-enough
+        (mss c) (lengthsOf s) (s .lent .output) (s .lent .lengths) (r .opens .long) in
         ap (λ (x : Stepped). seen (x .answer)) (step-own (after s calls) (Call.read room) long v)
         ∙ answer-follows c accepted some-bytes (after s calls) (plainAfter c accepted atFirst calls) room follows
 
     -- it finds nothing exactly when a message or a segment of it is missing
-    next-nothing : valid (after s calls .state) ≡ true → (room : ℕ) (a : Answer) → step (after s calls) (Call.read room) .answer ≡ a
+    next-nothing : valid (after s calls .state) ≡ true → (room : ℕ) (a : Reply) → step (after s calls) (Call.read room) .answer ≡ a
         → (seen a ≡ found Found.nothing) ↔ Missing c accepted calls
     next-nothing v room a e =
         let p : Plain = plainAfter c accepted atFirst calls in
         let q : seen a ≡ found (plainAnswer c accepted p room) = ap seen (sym e) ∙ next-answer v room in (
-          (λ h. let n : found (plainAnswer c accepted p room) ≡ found Found.nothing = sym q ∙ h in unheard-missing c accepted calls (nothing-unheard c accepted p room (cc))),
+          (λ h. let n : found (plainAnswer c accepted p room) ≡ found Found.nothing = sym q ∙ h in
+              unheard-missing c accepted calls (nothing-unheard c accepted p room (cc))),
           (λ m. q ∙ ap found (unheard-nothing c accepted p room (missing-unheard c accepted calls m))),
         )
 
@@ -147,7 +171,8 @@ module _ (c : Settings) (taken : Taken c) (accepted : List (List ℕ)) where
     }
 
   -- HEARING MORE NEVER LOSES A MESSAGE
-  pub delivered-by-receivers : (first second : Station) (firsts seconds : List Call) → FedReceiver c accepted first firsts → FedReceiver c accepted second seconds
+  pub delivered-by-receivers : (first second : Station) (firsts seconds : List Call) → FedReceiver c accepted first firsts
+      → FedReceiver c accepted second seconds
       → valid (after first firsts .state) ≡ true → valid (after second seconds .state) ≡ true → HearsMore firsts seconds
       → Delivered c accepted (observed first firsts) (observed second seconds)
   delivered-by-receivers first second firsts seconds a b v w h = record {

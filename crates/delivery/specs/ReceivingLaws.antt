@@ -77,13 +77,15 @@ Short m h = (h .len ≤ m) × (h .fragment ≤ fragmentMost)
 abbrev Low : Held → Type 0
 Low h = h .slot < receiveSlots
 
-held-decide : (m : ℕ) (l : List Held) → Decides (all (heldFits m) l && all (λ (h : Held). ltb (h .slot) receiveSlots) l) (All (HeldFits m) l)
+held-decide : (m : ℕ) (l : List Held)
+    → Decides (all (heldFits m) l && all (λ (h : Held). ltb (h .slot) receiveSlots) l) (All (HeldFits m) l)
 held-decide m l =
     via
     (and-decides
     (all-decides (heldFits m) (Short m) (λ h. and-decides (leb-decides (h .len) m) (leb-decides (h .fragment) fragmentMost)) l)
     (all-decides (λ (h : Held). ltb (h .slot) receiveSlots) Low (λ h. ltb-decides (h .slot) receiveSlots) l))
-    (λ p. all-weaker (λ h. Short m h × Low h) (HeldFits m) (λ h q. record { short = q .0 .0; fragment = q .0 .1; low = q .1 }) l (all-both (Short m) Low l (p .0) (p .1)))
+    (λ p. all-weaker (λ h. Short m h × Low h) (HeldFits m) (λ h q. record { short = q .0 .0; fragment = q .0 .1; low = q .1 }) l
+    (all-both (Short m) Low l (p .0) (p .1)))
     (λ a. (all-weaker (HeldFits m) (Short m) (λ h q. (q .short, q .fragment)) l a, all-weaker (HeldFits m) Low (λ h q. q .low) l a))
 
 conditions : (c : Settings) (r : Receiving) → Decides (receivingValid c r) (Conditions c r)
@@ -94,11 +96,19 @@ conditions c r =
     (and-decides
     (and-decides
     (and-decides
-    (and-decides (and-decides (held-decide (mss c) (receiveHeld r)) (itself (once (slots (receiveHeld r))))) (leb-decides (length (r .ready)) receiveWindow))
+    (and-decides (and-decides (held-decide (mss c) (receiveHeld r)) (itself (once (slots (receiveHeld r)))))
+    (leb-decides (length (r .ready)) receiveWindow))
     (itself (ascending (waitingOffset (r .next)) 0 receiveWindow (r .waiting))))
     (not-decides (startsAt (r .next) (r .waiting) && ltb (length (r .ready)) receiveWindow)))
     (leb-decides (length (r .acks)) acksMost))
-    (λ p. record { held = p .0 .0 .0 .0 .0; slots-once = p .0 .0 .0 .0 .1; few-ready = p .0 .0 .0 .1; window = p .0 .0 .1; settles = p .0 .1; few-acks = p .1 })
+    (λ p. record {
+      held = p .0 .0 .0 .0 .0;
+      slots-once = p .0 .0 .0 .0 .1;
+      few-ready = p .0 .0 .0 .1;
+      window = p .0 .0 .1;
+      settles = p .0 .1;
+      few-acks = p .1;
+    })
     (λ v. (((((v .held, v .slots-once), v .few-ready), v .window), v .settles), v .few-acks)))
 
 -- a station's receiving half with its pool
@@ -124,7 +134,8 @@ good-in c s o =
       few-acks = v .few-acks;
     }
 
-in-order : (c : Settings) (s : Station) → s .state .settings ≡ c → CarryFits (s .state .receiving) → Good (mss c) (receiverOf s) → ReceivingInOrder c s
+in-order : (c : Settings) (s : Station) → s .state .settings ≡ c → CarryFits (s .state .receiving) → Good (mss c) (receiverOf s)
+    → ReceivingInOrder c s
 in-order c s e f g =
     let x = g .settles .sound in
     record {
@@ -172,7 +183,8 @@ take-receiver : (s : Station) (d : List ℕ)
 unfolding input applied
 take-receiver s d = go (parse (s .state .settings .conv) (mss (s .state .settings)) d)
   where
-    go : (p : Parsed) → receiverOf (afterTakeIn s (taking (s .state) (s .receivePool) p) .station) ≡ receiverTakes (mss (s .state .settings)) (receiverOf s) p
+    go : (p : Parsed) → receiverOf (afterTakeIn s (taking (s .state) (s .receivePool) p) .station) ≡ receiverTakes
+        (mss (s .state .settings)) (receiverOf s) p
     go (Parsed.refused r) = refl
     go (Parsed.segments gs) = refl
 
@@ -201,7 +213,8 @@ pub own-receiver : (s : Station) (x : Call)
     → receiverOf (own s x .station) ≡ receiverAfter (s .state .settings) (s .state .schedule) (receiverOf s) x
 unfolding flushing
 own-receiver s (Call.send m) =
-    sending-cases (λ (y : Outcome Sends). receiverOf (afterSend s y .station) ≡ receiverOf s) (s .state) (s .sendPool) m (λ r. refl) (λ ok. refl)
+    sending-cases (λ (y : Outcome Sends). receiverOf (afterSend s y .station) ≡ receiverOf s) (s .state) (s .sendPool) m (λ r. refl)
+    (λ ok. refl)
 own-receiver s (Call.takeIn d) = take-receiver s d
 own-receiver s (Call.flush t) = refl
 own-receiver s (Call.read room) = read-receiver s room
@@ -292,7 +305,8 @@ opened-receiving c s p =
     (record {
       settles = record {
         sound = record {
-          pool-long = enough-receive (mss c) (lengthsOf s) (flush-enough (mss c) (lengthsOf s) (s .lent .output) (s .lent .lengths) (p .long));
+          pool-long = enough-receive (mss c) (lengthsOf s)
+              (flush-enough (mss c) (lengthsOf s) (s .lent .output) (s .lent .lengths) (p .long));
           held = tt;
           slots-once = refl;
           few-ready = zero-le;
@@ -308,11 +322,13 @@ opened-receiving c s p =
 -- ---- lists of calls
 
 -- after calls that pass the checks
-pub receiving-stays-all : (c : Settings) (xs : List Call) (s : Station) → All CallFits xs → Passing s xs → ReceivingInOrder c s → ReceivingInOrder c (after s xs)
+pub receiving-stays-all : (c : Settings) (xs : List Call) (s : Station) → All CallFits xs → Passing s xs → ReceivingInOrder c s
+    → ReceivingInOrder c (after s xs)
 unfolding after
 receiving-stays-all c [] s f p o = o
 receiving-stays-all c (x ∷ xs) s f p o =
-    subst (ReceivingInOrder c) (sym (after-first s x xs p)) (receiving-stays-all c xs (own s x .station) (f .1) (p .2) (receiving-stays c s x (f .0) o))
+    subst (ReceivingInOrder c) (sym (after-first s x xs p))
+    (receiving-stays-all c xs (own s x .station) (f .1) (p .2) (receiving-stays c s x (f .0) o))
 
 -- the lent lengths are as at first
 pub after-lengths : (xs : List Call) (s : Station) → Passing s xs → lengthsOf (after s xs) ≡ lengthsOf s

@@ -36,7 +36,7 @@ use Rattle.session.specs.State.{State}
 use Rattle.session.specs.Opening.{opened}
 use Rattle.session.specs.Reading.{frontCount, readable, joinedIn, messageSize, message, reading}
 use Rattle.session.specs.Input.{Receiver}
-use Rattle.session.specs.Calls.{Station, Call, Answer, own, messagesRead}
+use Rattle.session.specs.Calls.{Station, Call, Reply, own, messagesRead}
 use Rattle.session.specs.Decides.{All}
 use Rattle.session.specs.AllLaws.{all-left}
 use Rattle.delivery.specs.PlainReceiver.{Plain, atFirst, Found, pushNumbers, pushesOf, pushesIn, feed, plainAnswer, leave, afterCall}
@@ -48,8 +48,28 @@ use Rattle.delivery.specs.PlainLaws.{messagesFound}
 use Rattle.delivery.specs.ParsedLaws.{SegmentFits, parse-fits}
 use Rattle.delivery.specs.ReceiverModel.{Listed, listPushes, listAnswer, listLeave}
 use Rattle.delivery.specs.Refinement.{listedAs, Fed, AllArrive, feed-as, answer-as, fed-leave, leave-as, fed-first, listed-first}
-use Rattle.delivery.specs.ReceivePool.{waitingHeld, received, listedIn, listedBy, HeldFits, Good, took-all, read-listed, answer-listed}
-use Rattle.delivery.specs.ReceivingLaws.{ReceivingInOrder, receiverOf, good-in, receiverTakes, receiverReads, receiverAfter, own-receiver, receiving-stays, opened-receiving}
+use Rattle.delivery.specs.ReceivePool.{
+  waitingHeld,
+  received,
+  listedIn,
+  listedBy,
+  HeldFits,
+  Good,
+  took-all,
+  read-listed,
+  answer-listed,
+}
+use Rattle.delivery.specs.ReceivingLaws.{
+  ReceivingInOrder,
+  receiverOf,
+  good-in,
+  receiverTakes,
+  receiverReads,
+  receiverAfter,
+  own-receiver,
+  receiving-stays,
+  opened-receiving,
+}
 
 -- ---- a read's answer
 
@@ -57,14 +77,16 @@ use Rattle.delivery.specs.ReceivingLaws.{ReceivingInOrder, receiverOf, g
 abbrev entriesGive : ℕ → Receiver → ℕ → Found
 entriesGive m x room =
     cond (readable (x .half .ready))
-    (cond (leb (messageSize (x .half)) room) (Found.message (joinedIn m (x .pool) (take (frontCount (x .half .ready)) (x .half .ready)))) Found.short)
+    (cond (leb (messageSize (x .half)) room) (Found.message (joinedIn m (x .pool) (take (frontCount (x .half .ready)) (x .half .ready))))
+    Found.short)
     Found.nothing
 
 entries-give : (m : ℕ) (x : Receiver) (room : ℕ) → Good m x → listAnswer (listedBy m x .ready) room ≡ entriesGive m x room
 unfolding messageSize
 entries-give m x room g =
     let s = g .settles .sound in
-    answer-listed m (x .pool) room (x .half .ready) (s .pool-long) (all-left (HeldFits m) (x .half .ready) (map waitingHeld (x .half .waiting)) (s .held))
+    answer-listed m (x .pool) room (x .half .ready) (s .pool-long)
+    (all-left (HeldFits m) (x .half .ready) (map waitingHeld (x .half .waiting)) (s .held))
 
 -- what a read of a station finds is what the lists that it stands for give
 read-found : (s : Station) (room : ℕ) → Good (mss (s .state .settings)) (receiverOf s)
@@ -84,7 +106,8 @@ read-found s room g =
 reads-listed : (m : ℕ) (x : Receiver) (room : ℕ) → Good m x
     → listedBy m (receiverReads x room) ≡ listLeave (listedBy m x) (listAnswer (listedBy m x .ready) room)
 reads-listed m x room g =
-    go (readable (x .half .ready)) refl (leb (messageSize (x .half)) room) refl ∙ ap (listLeave (listedBy m x)) (sym (entries-give m x room g))
+    go (readable (x .half .ready)) refl (leb (messageSize (x .half)) room) refl ∙ ap (listLeave (listedBy m x))
+    (sym (entries-give m x room g))
   where
     go : (a : Bool) → readable (x .half .ready) ≡ a → (b : Bool) → leb (messageSize (x .half)) room ≡ b
         → listedBy m (receiverReads x room) ≡ listLeave (listedBy m x) (entriesGive m x room)
@@ -95,7 +118,8 @@ reads-listed m x room g =
 -- ---- a datagram's pushes
 
 -- a genuine push that was taken in arrives at the list receiver
-all-arrive : (c : Settings) (accepted : List (List ℕ)) (gs : List Segment) → All (SegmentFits (mss c)) gs → All (Genuine (piecesOf (mss c) accepted)) (pushes gs)
+all-arrive : (c : Settings) (accepted : List (List ℕ)) (gs : List Segment) → All (SegmentFits (mss c)) gs
+    → All (Genuine (piecesOf (mss c) accepted)) (pushes gs)
     → AllArrive c accepted (pushes gs)
 unfolding pushes
 all-arrive c accepted [] f a = tt
@@ -137,7 +161,8 @@ module _ (c : Settings) (accepted : List (List ℕ)) where
   Genuinely (Call.check t) = Unit {0}
   Genuinely (Call.read room) = Unit {0}
 
-  follows-take : (s : Station) (p : Plain) (d : List ℕ) → CallFits (Call.takeIn d) → GenuineDatagram c (piecesOf (mss c) accepted) d → Follows s p
+  follows-take : (s : Station) (p : Plain) (d : List ℕ) → CallFits (Call.takeIn d) → GenuineDatagram c (piecesOf (mss c) accepted) d
+      → Follows s p
       → Follows (own s (Call.takeIn d) .station) (afterCall c accepted p (Call.takeIn d))
   unfolding pushesIn
   follows-take s p d fits g f =
@@ -155,14 +180,16 @@ module _ (c : Settings) (accepted : List (List ℕ)) where
       ∙ ap (λ (ns : List ℕ). listedAs c accepted (feed c accepted p ns)) (sym numbers))
 
   module _ (some-bytes : 0 < mss c) where
-    pub answer-follows : (s : Station) (p : Plain) (room : ℕ) → Follows s p → seen (own s (Call.read room) .answer) ≡ found (plainAnswer c accepted p room)
+    pub answer-follows : (s : Station) (p : Plain) (room : ℕ) → Follows s p
+        → seen (own s (Call.read room) .answer) ≡ found (plainAnswer c accepted p room)
     answer-follows s p room f =
         read-found s room (rw (f .order .settings) (good-in c s (f .order)))
         ∙ ap (λ (k : Settings). found (listAnswer (listedBy (mss k) (receiverOf s) .ready) room)) (f .order .settings)
         ∙ ap (λ (y : Listed). found (listAnswer (y .ready) room)) (f .listed)
         ∙ ap found (answer-as c accepted some-bytes p room (f .fed))
 
-    pub follows-call : (s : Station) (p : Plain) (x : Call) → CallFits x → Genuinely x → Follows s p → Follows (own s x .station) (afterCall c accepted p x)
+    pub follows-call : (s : Station) (p : Plain) (x : Call) → CallFits x → Genuinely x → Follows s p
+        → Follows (own s x .station) (afterCall c accepted p x)
     follows-call s p (Call.send m) fits g f = follows-own s p p (Call.send m) fits f (f .fed) (f .listed)
     follows-call s p (Call.takeIn d) fits g f = follows-take s p d fits g f
     follows-call s p (Call.flush t) fits g f = follows-own s p p (Call.flush t) fits f (f .fed) (f .listed)
@@ -210,14 +237,14 @@ none-refused SettingOutOfRange = refl
 none-refused InvalidBlock = refl
 none-refused TrailingBytes = refl
 
-read-one : (a : Answer) (l : List Answer) → messagesRead (a ∷ l) ≡ messageIn (seen a) ++ messagesRead l
+read-one : (a : Reply) (l : List Reply) → messagesRead (a ∷ l) ≡ messageIn (seen a) ++ messagesRead l
 unfolding messagesRead
-read-one (Answer.refused r) l = rw (none-refused r)
-read-one Answer.accepted l = refl
-read-one (Answer.wrote ds) l = refl
-read-one (Answer.message m) l = refl
-read-one Answer.waited l = refl
-read-one (Answer.named t) l = refl
+read-one (Reply.refused r) l = rw (none-refused r)
+read-one Reply.accepted l = refl
+read-one (Reply.wrote ds) l = refl
+read-one (Reply.message m) l = refl
+read-one Reply.waited l = refl
+read-one (Reply.named t) l = refl
 
 found-one : (f : Found) (l : List Found) → messagesFound (f ∷ l) ≡ messageIn (found f) ++ messagesFound l
 unfolding messagesFound
@@ -226,7 +253,7 @@ found-one Found.short l = refl
 found-one (Found.message m) l = refl
 
 -- reads that answer as the plain receiver's bring its messages
-pub same-messages : (l : List Answer) (fs : List Found) → map seen l ≡ map found fs → messagesRead l ≡ messagesFound fs
+pub same-messages : (l : List Reply) (fs : List Found) → map seen l ≡ map found fs → messagesRead l ≡ messagesFound fs
 unfolding messagesRead messagesFound
 same-messages [] [] e = refl
 same-messages [] (f ∷ fs) e = absurd (nil≢cons e)

@@ -24,15 +24,49 @@ use Rattle.lists.specs.Orders.{insert}
 use Rattle.session.specs.Slots.{occurs, lowestFrom}
 use Rattle.session.specs.Cutting.{fragmentCount, cut}
 use Rattle.session.specs.Decides.{All}
-use Rattle.delivery.specs.PlainReceiver.{Plain, atFirst, Found, pushNumbers, segmentsOf, allHeard, firstWanted, nextExpected, hear, feed, answerFor, plainAnswer, leave}
+use Rattle.delivery.specs.PlainReceiver.{
+  Plain,
+  atFirst,
+  Found,
+  pushNumbers,
+  segmentsOf,
+  allHeard,
+  firstWanted,
+  nextExpected,
+  hear,
+  feed,
+  answerFor,
+  plainAnswer,
+  leave,
+}
 use Rattle.delivery.specs.Pieces.{Piece, fragmented, falling, piecesOf, pieceOf, pushes}
 use Rattle.delivery.specs.FreeSlots.{occurs-later}
-use Rattle.delivery.specs.SearchLaws.{occurs-other, occurs-here, occurs-either, lowest-from, lowest-most, lowest-passed, lowest-stops, lowest-skips}
+use Rattle.delivery.specs.SearchLaws.{
+  occurs-other,
+  occurs-here,
+  occurs-either,
+  lowest-from,
+  lowest-most,
+  lowest-passed,
+  lowest-stops,
+  lowest-skips,
+}
 use Rattle.delivery.specs.PlainLaws.{all-heard-each, each-all-heard, not-all-heard, take-one-more, ComesOut, answer-message}
 use Rattle.delivery.specs.ListLaws.{none≢some, entry-inside, drop-entry, entry-of-drop, drop-take}
 use Rattle.delivery.specs.PieceLaws.{length-falling, joined-cut, none-behind, message-behind, segments-one-more}
 use Rattle.delivery.specs.SendPool.{length-cut, count-least}
-use Rattle.delivery.specs.ReceiverModel.{Numbered, Listed, numberedOffset, listAdvance, listPush, listPushes, joined, listAnswer, listRest, listLeave}
+use Rattle.delivery.specs.ReceiverModel.{
+  Numbered,
+  Listed,
+  numberedOffset,
+  listAdvance,
+  listPush,
+  listPushes,
+  joined,
+  listAnswer,
+  listRest,
+  listLeave,
+}
 
 -- ---- numbers that do not wrap
 
@@ -65,7 +99,8 @@ Small h = (k : ℕ) → occurs k h ≡ true → k < 2 ^ 30
 
 -- one below all of them goes to the front
 insert-lower : (base k : ℕ) (p : Piece) (qs : List Piece) (h : List ℕ) (n : ℕ) → Small h → base ≤ k → k < n
-    → insert (numberedOffset base) (record { number = k; piece = p }) (heardFrom h n qs) ≡ record { number = k; piece = p } ∷ heardFrom h n qs
+    → insert (numberedOffset base) (record { number = k; piece = p }) (heardFrom h n qs) ≡ record { number = k; piece = p }
+    ∷ heardFrom h n qs
 unfolding heardFrom insert
 insert-lower base k p [] h n s b l = refl
 insert-lower base k p (q ∷ qs) h n s b l = go (occurs n h) refl (insert-lower base k p qs h (suc n) s b (omega arith))
@@ -82,7 +117,8 @@ insert-lower base k p (q ∷ qs) h n s b l = go (occurs n h) refl (insert-lower 
     go false e i = i
 
 -- one of them that is put in is one more heard
-insert-heard : (base k : ℕ) (p : Piece) (qs : List Piece) (h : List ℕ) (n i : ℕ) → Small h → k < 2 ^ 30 → base ≤ n → getElem? qs i ≡ some p → k ≡ n + i
+insert-heard : (base k : ℕ) (p : Piece) (qs : List Piece) (h : List ℕ) (n i : ℕ) → Small h → k < 2 ^ 30 → base ≤ n → getElem? qs i ≡ some p
+    → k ≡ n + i
     → insert (numberedOffset base) (record { number = k; piece = p }) (heardFrom h n qs) ≡ heardFrom (k ∷ h) n qs
 unfolding heardFrom insert
 insert-heard base k p [] h n i s u b e q = absurd (none≢some e)
@@ -96,11 +132,13 @@ insert-heard base k p (x ∷ qs) h n zero s u b e q =
     n≡k = omega arith
 
     go : (t : Bool)
-        → insert (numberedOffset base) (record { number = k; piece = p }) (cond t (record { number = n; piece = x } ∷ heardFrom h (suc n) qs) (heardFrom h (suc n) qs))
+        → insert (numberedOffset base) (record { number = k; piece = p })
+        (cond t (record { number = n; piece = x } ∷ heardFrom h (suc n) qs) (heardFrom h (suc n) qs))
         ≡ record { number = n; piece = x } ∷ heardFrom h (suc n) qs
     go true = rw (eq-eqb (minus n base) (minus k base) (ap (λ (j : ℕ). minus j base) n≡k))
     go false = insert-lower base k p qs h (suc n) s (omega arith) (omega arith) ∙ rw (x≡p, n≡k)
-insert-heard base k p (x ∷ qs) h n (suc i) s u b e q = go (occurs n h) refl (insert-heard base k p qs h (suc n) i s u (omega arith) e (omega arith))
+insert-heard base k p (x ∷ qs) h n (suc i) s u b e q =
+    go (occurs n h) refl (insert-heard base k p qs h (suc n) i s u (omega arith) e (omega arith))
   where
     new : Numbered
     new = record { number = k; piece = p }
@@ -108,7 +146,13 @@ insert-heard base k p (x ∷ qs) h n (suc i) s u b e q = go (occurs n h) refl (i
     go : (t : Bool) → occurs n h ≡ t → insert (numberedOffset base) new (heardFrom h (suc n) qs) ≡ heardFrom (k ∷ h) (suc n) qs
         → insert (numberedOffset base) new (heardFrom h n (x ∷ qs)) ≡ heardFrom (k ∷ h) n (x ∷ qs)
     go true f r =
-        rw (f, occurs-later n k h f, ne-eqb (minus n base) (minus k base) (omega arith), le-ltb (minus k base) (minus n base) (omega arith), r)
+        rw (
+          f,
+          occurs-later n k h f,
+          ne-eqb (minus n base) (minus k base) (omega arith),
+          le-ltb (minus k base) (minus n base) (omega arith),
+          r,
+        )
     go false f r = rw (occurs-other n k h (omega arith), f) r
 
 -- ---- waiting segments become ready
@@ -117,7 +161,8 @@ insert-heard base k p (x ∷ qs) h n (suc i) s u b e q = go (occurs n h) refl (i
 abbrev pub holding : List Piece → List ℕ → ℕ → ℕ → Listed
 holding S h base n = record { next = n; ready = take (n - base) (drop base S); waiting = heardFrom h n (drop n S) }
 
-advance-full : (n : ℕ) (r : List Piece) (l : List Numbered) → length r ≡ receiveWindow → listAdvance n r l ≡ record { next = n; ready = r; waiting = l }
+advance-full : (n : ℕ) (r : List Piece) (l : List Numbered) → length r ≡ receiveWindow
+    → listAdvance n r l ≡ record { next = n; ready = r; waiting = l }
 unfolding listAdvance
 advance-full n r [] e = refl
 advance-full n r (w ∷ l) e = rw (le-ltb (length r) receiveWindow (omega arith), and-false (eqb (minus (w .number) n) 0))
@@ -132,7 +177,11 @@ advance-none n r (q ∷ qs) h m s l = go (occurs m h) refl (advance-none n r qs 
     go : (t : Bool) → occurs m h ≡ t
         → listAdvance n r (heardFrom h (suc m) qs) ≡ record { next = n; ready = r; waiting = heardFrom h (suc m) qs }
         → listAdvance n r (cond t (record { number = m; piece = q } ∷ heardFrom h (suc m) qs) (heardFrom h (suc m) qs))
-        ≡ record { next = n; ready = r; waiting = cond t (record { number = m; piece = q } ∷ heardFrom h (suc m) qs) (heardFrom h (suc m) qs) }
+        ≡ record {
+          next = n;
+          ready = r;
+          waiting = cond t (record { number = m; piece = q } ∷ heardFrom h (suc m) qs) (heardFrom h (suc m) qs);
+        }
     go true e i = let u = s m e in rw (ne-eqb (minus m n) 0 (omega arith))
     go false e i = i
 
@@ -160,20 +209,23 @@ module _ (S : List Piece) (h : List ℕ) (known : (k : ℕ) → occurs k h ≡ t
   moved base (suc k) n e f u = go (occurs n h) refl (moved base k (suc n) (omega arith) (omega arith))
     where
       go : (t : Bool) → occurs n h ≡ t
-          → (suc n ≤ length S → listAdvance (suc n) (take (suc n - base) (drop base S)) (heardFrom h (suc n) (drop (suc n) S)) ≡ holding S h base (lowestFrom h (suc n) k))
+          → (suc n ≤ length S → listAdvance (suc n) (take (suc n - base) (drop base S)) (heardFrom h (suc n) (drop (suc n) S)) ≡ holding S h
+          base (lowestFrom h (suc n) k))
           → listAdvance n (take (n - base) (drop base S)) (heardFrom h n (drop n S)) ≡ holding S h base (cond t (lowestFrom h (suc n) k) n)
       go false t rest = advance-unheard n (take (n - base) (drop base S)) (drop n S) h small-heard t
       go true t rest =
           let q : Piece = known n t .piece in
           let at : getElem? S n ≡ some q = known n t .its-piece in
           let low : n < 2 ^ 30 = known n t .small in
-          let i : getElem? (drop base S) (n - base) ≡ some q = entry-of-drop S base (n - base) ∙ ap (λ (j : ℕ). getElem? S j) (let z : base + (n - base) ≡ n = omega arith in z) ∙ at in
+          let i : getElem? (drop base S) (n - base) ≡ some q =
+          entry-of-drop S base (n - base) ∙ ap (λ (j : ℕ). getElem? S j) (let z : base + (n - base) ≡ n = omega arith in z) ∙ at in
           let l : length (take (n - base) (drop base S)) < receiveWindow = simp (length-take, length-drop) (omega arith) in
           step q (drop-entry S n q at) low l (take-one-more (drop base S) (n - base) q i) (rest (entry-inside S n q at))
         where
           step : (q : Piece) → drop n S ≡ q ∷ drop (suc n) S → n < 2 ^ 30 → length (take (n - base) (drop base S)) < receiveWindow
               → take (n - base) (drop base S) ++ (q ∷ []) ≡ take (suc (n - base)) (drop base S)
-              → listAdvance (suc n) (take (suc n - base) (drop base S)) (heardFrom h (suc n) (drop (suc n) S)) ≡ holding S h base (lowestFrom h (suc n) k)
+              → listAdvance (suc n) (take (suc n - base) (drop base S)) (heardFrom h (suc n) (drop (suc n) S)) ≡ holding S h base
+              (lowestFrom h (suc n) k)
               → listAdvance n (take (n - base) (drop base S)) (heardFrom h n (drop n S)) ≡ holding S h base (lowestFrom h (suc n) k)
           step q d low l more rec =
               let z : minus n n ≡ 0 = omega arith in
@@ -186,7 +238,9 @@ module _ (S : List Piece) (h : List ℕ) (known : (k : ℕ) → occurs k h ≡ t
   settled base n f l u a =
       let k : ℕ = base + receiveWindow - n in
       let e : n + k ≡ base + receiveWindow = omega arith in
-      let q : lowestFrom h 0 (base + receiveWindow) ≡ lowestFrom h n k = ap (λ (x : ℕ). lowestFrom h 0 x) (sym e) ∙ lowest-skips h 0 n k (λ i _ t. a i (rw (zero-add n) at t)) ∙ ap (λ (x : ℕ). lowestFrom h x k) (zero-add n) in
+      let q : lowestFrom h 0 (base + receiveWindow) ≡ lowestFrom h n k =
+      ap (λ (x : ℕ). lowestFrom h 0 x) (sym e) ∙ lowest-skips h 0 n k (λ i _ t. a i (rw (zero-add n) at t)) ∙ ap
+      (λ (x : ℕ). lowestFrom h x k) (zero-add n) in
       moved base k n e f u ∙ ap (λ (x : ℕ). holding S h base x) (sym q)
 
 -- ---- the two receivers side by side
@@ -227,7 +281,8 @@ module _ (c : Settings) (accepted : List (List ℕ)) where
     next-least : base p ≤ next p
     next-least =
         let b : ℕ = base p in
-        let e : lowestFrom (p .heard) 0 (b + receiveWindow) ≡ lowestFrom (p .heard) (0 + b) receiveWindow = lowest-skips (p .heard) 0 b receiveWindow (λ i _ l. fed .out-heard i (rw (zero-add b) at l)) in
+        let e : lowestFrom (p .heard) 0 (b + receiveWindow) ≡ lowestFrom (p .heard) (0 + b) receiveWindow =
+        lowest-skips (p .heard) 0 b receiveWindow (λ i _ l. fed .out-heard i (rw (zero-add b) at l)) in
         omega (arith, e, lowest-from (p .heard) (0 + b) receiveWindow)
 
     next-inside : (next p ≤ length S) × (next p ≤ 2 ^ 30)
@@ -268,7 +323,8 @@ module _ (c : Settings) (accepted : List (List ℕ)) where
 
       -- whether it is kept or not, what waits is what is heard
       kept : (t : Bool) → ltb sn (next p) ≡ t
-          → cond (not (isBefore sn (next p))) (insert (numberedOffset (next p)) (record { number = sn; piece = q }) (heardFrom (p .heard) (next p) (drop (next p) S))) (heardFrom (p .heard) (next p) (drop (next p) S))
+          → cond (not (isBefore sn (next p))) (insert (numberedOffset (next p)) (record { number = sn; piece = q })
+          (heardFrom (p .heard) (next p) (drop (next p) S))) (heardFrom (p .heard) (next p) (drop (next p) S))
           ≡ heardFrom (sn ∷ p .heard) (next p) (drop (next p) S)
       kept true l =
           rw (before-less sn (next p) (ltb-true sn (next p) l) (omega (arith, top)))
@@ -277,16 +333,23 @@ module _ (c : Settings) (accepted : List (List ℕ)) where
           let f : next p ≤ sn = ltb-false sn (next p) l in
           let i : next p + (sn - next p) ≡ sn = omega arith in
           rw (before-not-less sn (next p) f (omega (arith, g .small)))
-          (insert-heard (next p) sn q (drop (next p) S) (p .heard) (next p) (sn - next p) (small-heard S (p .heard) (fed .known)) (g .small) (le-refl (next p)) (entry-of-drop S (next p) (sn - next p) ∙ ap (λ (j : ℕ). getElem? S j) i ∙ g .its-piece) (sym i))
+          (insert-heard (next p) sn q (drop (next p) S) (p .heard) (next p) (sn - next p) (small-heard S (p .heard) (fed .known)) (g .small)
+          (le-refl (next p)) (entry-of-drop S (next p) (sn - next p) ∙ ap (λ (j : ℕ). getElem? S j) i ∙ g .its-piece) (sym i))
 
       go : (t : Bool) → ltb sn (next p + receiveWindow) ≡ t → Fed (cond t (record { heard = sn ∷ p .heard; out = p .out }) p)
           → listPush (listedAs p) sn q ≡ listedAs (cond t (record { heard = sn ∷ p .heard; out = p .out }) p)
       go false e f =
           rw (wide, before-not-less sn (next p + receiveWindow) (ltb-false sn (next p + receiveWindow) e) (omega (arith, g .small)))
-          (settled S (p .heard) (fed .known) (base p) (next p) (next-least p fed) (next-most p fed) (next-inside p fed .0) (next-heard p fed))
+          (settled S (p .heard) (fed .known) (base p) (next p) (next-least p fed) (next-most p fed) (next-inside p fed .0)
+          (next-heard p fed))
       go true e f =
-          rw (wide, before-less sn (next p + receiveWindow) (ltb-true sn (next p + receiveWindow) e) (omega (arith, top)), kept (ltb sn (next p)) refl)
-          (settled S (sn ∷ p .heard) (f .known) (base p) (next p) (next-least p fed) (next-most p fed) (next-inside p fed .0) (λ i l. occurs-later i sn (p .heard) (next-heard p fed i l)))
+          rw (
+            wide,
+            before-less sn (next p + receiveWindow) (ltb-true sn (next p + receiveWindow) e) (omega (arith, top)),
+            kept (ltb sn (next p)) refl,
+          )
+          (settled S (sn ∷ p .heard) (f .known) (base p) (next p) (next-least p fed) (next-most p fed) (next-inside p fed .0)
+          (λ i l. occurs-later i sn (p .heard) (next-heard p fed i l)))
 
   -- ---- a read
 
@@ -311,7 +374,8 @@ module _ (c : Settings) (accepted : List (List ℕ)) where
         behind = piecesOf (mss c) (drop (suc (p .out)) accepted);
         cuts = q;
         count = sym (length-cut (mss c) x) ∙ ap length q;
-        stands = message-behind (mss c) accepted (p .out) x e ∙ ap (λ (l : List (List ℕ)). falling l ++ piecesOf (mss c) (drop (suc (p .out)) accepted)) q;
+        stands = message-behind (mss c) accepted (p .out) x e ∙ ap
+            (λ (l : List (List ℕ)). falling l ++ piecesOf (mss c) (drop (suc (p .out)) accepted)) q;
       }
 
   module _ (p : Plain) (fed : Fed p) (x : List ℕ) (m : NextMessage p x) where
@@ -339,15 +403,19 @@ module _ (c : Settings) (accepted : List (List ℕ)) where
 
     ready-length : (j : ℕ) → next p - base p ≡ suc j → length (take j (falling (m .others) ++ m .behind)) ≡ j
     ready-length j q =
-        let long : length S - base p ≡ suc (length (falling (m .others) ++ m .behind)) = sym (length-drop (base p) S) ∙ ap length (m .stands) in
+        let long : length S - base p ≡ suc (length (falling (m .others) ++ m .behind)) =
+        sym (length-drop (base p) S) ∙ ap length (m .stands) in
         simp length-take (omega (arith, long, next-inside p fed .0, next-least p fed))
 
     -- its segments at the front of the ready list, joined
     front-joined : 0 < mss c → (j : ℕ) → length (m .others) ≤ j
-        → joined (take (length (m .others) + 1) (record { fragment = length (m .others); payload = m .first } ∷ take j (falling (m .others) ++ m .behind))) ≡ x
+        → joined (take (length (m .others) + 1) (record { fragment = length (m .others); payload = m .first }
+        ∷ take j (falling (m .others) ++ m .behind))) ≡ x
     unfolding fragmented joined
     front-joined some-bytes j l =
-        let t : take (length (m .others)) (take j (falling (m .others) ++ m .behind)) ≡ falling (m .others) = take-take (length (m .others)) j (falling (m .others) ++ m .behind) l ∙ take-at (falling (m .others)) (m .behind) (length (m .others)) (length-falling (m .others)) in
+        let t : take (length (m .others)) (take j (falling (m .others) ++ m .behind)) ≡ falling (m .others) =
+        take-take (length (m .others)) j (falling (m .others) ++ m .behind) l ∙ take-at (falling (m .others)) (m .behind)
+        (length (m .others)) (length-falling (m .others)) in
         rw (add-one (length (m .others)), t) (rw (m .cuts) at (joined-cut (mss c) x some-bytes))
 
     answer-some : 0 < mss c → (room : ℕ) → listAnswer (listedAs p .ready) room ≡ answerFor c accepted p room (some x)
@@ -370,7 +438,8 @@ module _ (c : Settings) (accepted : List (List ℕ)) where
 
             at : (t : Bool) → leb (length (m .others) + 1) (suc j) ≡ t
                 → cond t
-                (cond (ltb room (length (joined (take (length (m .others) + 1) ready)))) Found.short (Found.message (joined (take (length (m .others) + 1) ready))))
+                (cond (ltb room (length (joined (take (length (m .others) + 1) ready)))) Found.short
+                (Found.message (joined (take (length (m .others) + 1) ready))))
                 Found.nothing
                 ≡ answerFor c accepted p room (some x)
             at true l =
@@ -438,7 +507,8 @@ module _ (c : Settings) (accepted : List (List ℕ)) where
         go : (b : Bool) → ltb (next p) (segmentsOf (mss c) (take (suc (p .out)) accepted)) ≡ b
             → segmentsOf (mss c) (take (suc (p .out)) accepted) ≤ next p
         go false u = ltb-false (next p) (segmentsOf (mss c) (take (suc (p .out)) accepted)) u
-        go true u = absurd (false≢true (sym (next-unheard p fed (near (ltb (base p) (next p)) refl)) ∙ fed-message .out-heard (next p) below))
+        go true u = absurd (false≢true (sym (next-unheard p fed (near (ltb (base p) (next p)) refl)) ∙ fed-message .out-heard (next p)
+            below))
           where
             below : next p < segmentsOf (mss c) (take (suc (p .out)) accepted)
             below = ltb-true (next p) (segmentsOf (mss c) (take (suc (p .out)) accepted)) u
@@ -449,7 +519,8 @@ module _ (c : Settings) (accepted : List (List ℕ)) where
                 omega (arith, few, m .count, one-more, below)
             near false l = omega (arith, ltb-false (base p) (next p) l)
 
-    message-as : listAdvance (next p) (listRest (listedAs p .ready)) (listedAs p .waiting) ≡ listedAs (record { heard = p .heard; out = suc (p .out) })
+    message-as : listAdvance (next p) (listRest (listedAs p .ready)) (listedAs p .waiting) ≡ listedAs
+        (record { heard = p .heard; out = suc (p .out) })
     message-as =
         rw (rest-as p fed x (next-message p x (out .is-next)) (omega (arith, one-more, reached)), ← one-more)
         (settled S (p .heard) (fed .known) (segmentsOf (mss c) (take (suc (p .out)) accepted)) (next p) reached
@@ -492,7 +563,8 @@ module _ (c : Settings) (accepted : List (List ℕ)) where
       sn : ℕ
       sn = g .header .sn
 
-      go : (b : Bool) → AllArrive (cond b (g ∷ pushes gs) (pushes gs)) → ((q : Plain) → AllArrive (pushes gs) → Fed q → FeedsAs q (pushes gs) (pushNumbers gs))
+      go : (b : Bool) → AllArrive (cond b (g ∷ pushes gs) (pushes gs))
+          → ((q : Plain) → AllArrive (pushes gs) → Fed q → FeedsAs q (pushes gs) (pushNumbers gs))
           → FeedsAs p (cond b (g ∷ pushes gs) (pushes gs)) (cond b (sn ∷ pushNumbers gs) (pushNumbers gs))
       go true a rest =
           let r = rest (hear c accepted p sn) (a .1) (fed-hear p sn (pieceOf g) fed (a .0)) in

@@ -98,7 +98,8 @@ lowest-stops l n (suc k) h = go (occurs n l) refl h (lowest-stops l (suc n) k)
     go false e i rest = e
 
 -- the search may start at any number below which all are in the list
-pub lowest-skips : (l : List ℕ) (n j k : ℕ) → ((i : ℕ) → n ≤ i → i < n + j → occurs i l ≡ true) → lowestFrom l n (j + k) ≡ lowestFrom l (n + j) k
+pub lowest-skips : (l : List ℕ) (n j k : ℕ) → ((i : ℕ) → n ≤ i → i < n + j → occurs i l ≡ true)
+    → lowestFrom l n (j + k) ≡ lowestFrom l (n + j) k
 unfolding lowestFrom
 lowest-skips l n zero k a = rw (zero-add k, add-zero n)
 lowest-skips l n (suc j) k a =
@@ -112,6 +113,7 @@ lowest-mono l m w n zero k′ h = lowest-from m n k′
 lowest-mono l m w n (suc k) zero h = absurd (not-suc-le-zero h)
 lowest-mono l m w n (suc k) (suc k′) h = go (occurs n l) refl (lowest-mono l m w (suc n) k k′ (le-of-suc-le-suc h))
   where
-    go : (b : Bool) → occurs n l ≡ b → lowestFrom l (suc n) k ≤ lowestFrom m (suc n) k′ → cond b (lowestFrom l (suc n) k) n ≤ lowestFrom m n (suc k′)
+    go : (b : Bool) → occurs n l ≡ b → lowestFrom l (suc n) k ≤ lowestFrom m (suc n) k′
+        → cond b (lowestFrom l (suc n) k) n ≤ lowestFrom m n (suc k′)
     go true e i = rw (w n e) i
     go false e i = lowest-from m n (suc k′)

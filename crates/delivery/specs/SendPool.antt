@@ -1,4 +1,5 @@
--- A message's segments in the send pool: they stand in free slots, those held before stay as they were, and what they show is the message cut.
+-- A message's segments in the send pool: they stand in free slots, those held before stay as they were, and what they show is the message
+-- cut.
 -- Assumes nothing.
 use mathlib.Core.Path.{_≡_, refl, sym, ap, ap₂, _∙_}
 use mathlib.Core.Bool.{Bool, true, false, cond, false≢true, true≢false}
@@ -158,7 +159,15 @@ pub placed-well : (stream : Bool) (m : ℕ) (ps : List (List ℕ)) (used pool : 
     PlacedWell stream m used pool ps (place stream m used pool ps)
 unfolding place fragmented
 placed-well stream m [] used pool short few enough =
-    record { old = λ s n e k. refl; new = refl; distinct = tt; apart = λ s e. absurd (false≢true (sym (none-occurs s) ∙ e)); low = tt; lengths = tt; fragments = tt }
+    record {
+      old = λ s n e k. refl;
+      new = refl;
+      distinct = tt;
+      apart = λ s e. absurd (false≢true (sym (none-occurs s) ∙ e));
+      low = tt;
+      lengths = tt;
+      fragments = tt;
+    }
 placed-well stream m (p ∷ ps) used pool short few enough =
     one stream m p used pool (short .0) (omega arith) enough ps
     (placed-well stream m ps (lowestFree used sendSlots ∷ used) (sets pool (lowestFree used sendSlots * m) p) (short .1) (omega arith)

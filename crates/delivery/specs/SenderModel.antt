@@ -85,7 +85,11 @@ module _ (P : Sent → Type 0) (skips : (n : ℕ) (x : Sent) → P x → P (skip
   keeps-acknowledged : (arrival : Acknowledges) (s : Sending) → Keeps s (acknowledged arrival s)
   unfolding acknowledged
   keeps-acknowledged arrival s =
-      record { next = refl; queued = refl; sent = all-select (λ (x : Sent). not (acknowledging.acknowledged (s .next) arrival (x .record .number))) P (s .outstanding) }
+      record {
+        next = refl;
+        queued = refl;
+        sent = all-select (λ (x : Sent). not (acknowledging.acknowledged (s .next) arrival (x .record .number))) P (s .outstanding);
+      }
 
   keeps-sampled : (c : Settings) (current ts : ℕ) (s : Sending) → Keeps s (sampledBy c current ts s)
   unfolding sampledBy
@@ -99,7 +103,8 @@ module _ (P : Sent → Type 0) (skips : (n : ℕ) (x : Sent) → P x → P (skip
       passed = acknowledged (by.Una (g .una)) (withWindow (g .wnd) s)
 
       first : Keeps s passed
-      first = both s (withWindow (g .wnd) s) passed (record { next = refl; queued = refl; sent = λ h. h }) (keeps-acknowledged (by.Una (g .una)) (withWindow (g .wnd) s))
+      first = both s (withWindow (g .wnd) s) passed (record { next = refl; queued = refl; sent = λ h. h })
+          (keeps-acknowledged (by.Una (g .una)) (withWindow (g .wnd) s))
 
       go : (b : Bool) → Keeps s (cond b (acknowledged (by.Ack (g .sn)) (sampledBy c current (g .ts) passed)) passed)
       go true =
@@ -112,7 +117,8 @@ module _ (P : Sent → Type 0) (skips : (n : ℕ) (x : Sent) → P x → P (skip
   unfolding allBySending
   keeps-all c current s [] = record { next = refl; queued = refl; sent = λ h. h }
   keeps-all c current s (g ∷ gs) =
-      both s (heardBySending c current s (g .header)) (allBySending c current (heardBySending c current s (g .header)) gs) (keeps-heard c current s (g .header))
+      both s (heardBySending c current s (g .header)) (allBySending c current (heardBySending c current s (g .header)) gs)
+      (keeps-heard c current s (g .header))
       (keeps-all c current (heardBySending c current s (g .header)) gs)
 
   all-skip : (n : ℕ) (l : List Sent) → All P l → All P (map (skipBefore n) l)
@@ -132,14 +138,18 @@ module _ (P : Sent → Type 0) (skips : (n : ℕ) (x : Sent) → P x → P (skip
   keeps-skips s [] = record { next = refl; queued = refl; sent = λ h. h }
   keeps-skips s (n ∷ l) = keeps-skipped s (furthest n l)
 
-  keeps-taken : (c : Settings) (current : ℕ) (s : Sending) (gs : List Segment) (l : List ℕ) → Keeps s (skippedByAll (allBySending c current s gs) l)
+  keeps-taken : (c : Settings) (current : ℕ) (s : Sending) (gs : List Segment) (l : List ℕ)
+      → Keeps s (skippedByAll (allBySending c current s gs) l)
   keeps-taken c current s gs l =
-      both s (allBySending c current s gs) (skippedByAll (allBySending c current s gs) l) (keeps-all c current s gs) (keeps-skips (allBySending c current s gs) l)
+      both s (allBySending c current s gs) (skippedByAll (allBySending c current s gs) l) (keeps-all c current s gs)
+      (keeps-skips (allBySending c current s gs) l)
 
 skip-shows : (m : ℕ) (pool : List ℕ) (pieces : List Piece) (n : ℕ) (x : Sent) → Shows m pool pieces x → Shows m pool pieces (skipBefore n x)
-skip-shows m pool pieces n x h = record { its-piece = rw (skip-number n x, skip-held n x) (h .its-piece); small = rw (skip-number n x) (h .small) }
+skip-shows m pool pieces n x h =
+    record { its-piece = rw (skip-number n x, skip-held n x) (h .its-piece); small = rw (skip-number n x) (h .small) }
 
-pub sends-taken : (m : ℕ) (pool : List ℕ) (pieces : List Piece) (c : Settings) (current : ℕ) (s : Sending) (gs : List Segment) (l : List ℕ) →
+pub sends-taken : (m : ℕ) (pool : List ℕ) (pieces : List Piece) (c : Settings) (current : ℕ) (s : Sending) (gs : List Segment) (l : List ℕ)
+    →
     Sends m pool pieces s →
     Sends m pool pieces (skippedByAll (allBySending c current s gs) l)
 sends-taken m pool pieces c current s gs l h =
@@ -162,7 +172,8 @@ old-pieces : (m : ℕ) (used pool pool′ : List ℕ) →
     All (λ (h : Held). pieceIn m pool′ h ≡ pieceIn m pool h) l
 old-pieces m used pool pool′ same [] a i = tt
 old-pieces m used pool pool′ same (h ∷ l) a i = (
-  ap (λ (b : List ℕ). record { fragment = h .fragment; payload = b }) (same (h .slot) (h .len) (i (h .slot) (occurs-first (h .slot) (slots l))) (a .0)),
+  ap (λ (b : List ℕ). record { fragment = h .fragment; payload = b })
+      (same (h .slot) (h .len) (i (h .slot) (occurs-first (h .slot) (slots l))) (a .0)),
   old-pieces m used pool pool′ same l (a .1) (λ s e. i s (occurs-later s (h .slot) (slots l) e)),
 )
 
@@ -270,7 +281,8 @@ numbered-end n (x ∷ q) h k a =
     let i = numbered-end (plus n 1) q (omega (arith, a .0)) (omega arith) (a .1) in
     omega (arith, w, i)
 
-module _ (m : ℕ) (pool : List ℕ) (pieces : List Piece) (c : Settings) (t k : ℕ) (s : Sending) (few : k ≤ length (s .queued)) (small : s .next + k ≤ 2 ^ 30) where
+module _ (m : ℕ) (pool : List ℕ) (pieces : List Piece) (c : Settings) (t k : ℕ) (s : Sending) (few : k ≤ length (s .queued))
+    (small : s .next + k ≤ 2 ^ 30) where
   count : length (take k (s .queued)) ≡ k
   count = simp length-take (omega arith)
 

@@ -12,7 +12,13 @@ use Rattle.protocol.specs.declared.Settings.{Settings}
 use Rattle.congestion.specs.CongestionLaws.{used-most}
 use Rattle.timing.specs.TimeRanges.{TimeoutInRange}
 use Rattle.retransmission.specs.Transmissions.{firstTransmission, sending, transmission}
-use Rattle.retransmission.specs.TransmissionLaws.{when-never-sent, transmission-in-range, transmission-count, transmission-number, transmission-fits}
+use Rattle.retransmission.specs.TransmissionLaws.{
+  when-never-sent,
+  transmission-in-range,
+  transmission-count,
+  transmission-number,
+  transmission-fits,
+}
 use Rattle.timing.specs.declared.Record.{Record}
 use Rattle.lists.specs.declared.Held.{Held}
 use Rattle.lists.specs.declared.Sent.{Sent}
@@ -91,10 +97,13 @@ module _ (c : Settings) (t k : ℕ) (s : Sending) (few : k ≤ length (s .queued
   unfolding withNumbered
   half-flushed h = record {
     held = rw flushed-held (h .held);
-    numbers = numbers-mapped (sentAfter c link t) (after-number c link t (h .roundTrip .timeout)) (s .una) (plus (s .next) k) (withNumbered s k)
-        (rw count at (numbers-more (s .una) (s .next) (s .outstanding) (take k (s .queued)) (h .una) (h .next) (rw count room) (h .numbers)));
+    numbers = numbers-mapped (sentAfter c link t) (after-number c link t (h .roundTrip .timeout)) (s .una) (plus (s .next) k)
+        (withNumbered s k)
+        (rw count at (numbers-more (s .una) (s .next) (s .outstanding) (take k (s .queued)) (h .una) (h .next) (rw count room)
+        (h .numbers)));
     sent = rw (map-append (sentAfter c link t) (s .outstanding) (numbered (s .next) (take k (s .queued))))
-        (all-append (SentWell (c .mode)) (map (sentAfter c link t) (s .outstanding)) (map (sentAfter c link t) (numbered (s .next) (take k (s .queued))))
+        (all-append (SentWell (c .mode)) (map (sentAfter c link t) (s .outstanding))
+        (map (sentAfter c link t) (numbered (s .next) (take k (s .queued))))
         (all-map (SentWell (c .mode)) (sentAfter c link t) (after-well c link t (h .roundTrip .timeout)) (s .outstanding) (h .sent))
         (new-all c link t (h .roundTrip .timeout) (s .next) (take k (s .queued)) (h .next)));
     roundTrip = h .roundTrip;

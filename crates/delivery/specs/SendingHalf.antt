@@ -55,13 +55,24 @@ sent-of : (mode : ℕ) (l : List Sent) →
     All (λ (x : Sent). RecordFits (x .record)) l →
     All (SentWell mode) l
 sent-of mode [] a b d f = tt
-sent-of mode (x ∷ l) a b d f =
-    (record { transmissions = a .0; range = record { timeout = d .0; skips = b .0 }; fits = f .0 }, sent-of mode l (a .1) (b .1) (d .1) (f .1))
+sent-of mode (x ∷ l) a b d f = (
+  record { transmissions = a .0; range = record { timeout = d .0; skips = b .0 }; fits = f .0 },
+  sent-of mode l (a .1) (b .1) (d .1) (f .1),
+)
 
 pub half-of : (c : Settings) (s : Sending) → SendingIsValid c s → SendingFits s → Half c s
 half-of c s v f = record {
-  held = record { lengths = v .lengths; fragments = v .fragments; low = v .slots-below; distinct = once-distinct (slots (sendHeld s)) (v .slots-once) };
-  numbers = record { ascends = ascending-ascends (sentOffset (s .una)) (minus (s .next) (s .una)) (s .outstanding) (v .ascending); apart = v .apart; first = v .first };
+  held = record {
+    lengths = v .lengths;
+    fragments = v .fragments;
+    low = v .slots-below;
+    distinct = once-distinct (slots (sendHeld s)) (v .slots-once);
+  };
+  numbers = record {
+    ascends = ascending-ascends (sentOffset (s .una)) (minus (s .next) (s .una)) (s .outstanding) (v .ascending);
+    apart = v .apart;
+    first = v .first;
+  };
   sent = sent-of (c .mode) (s .outstanding) (v .transmissions) (v .skips) (v .timeouts) (f .records);
   roundTrip = record { smoothed = v .smoothed; variation = v .variation; timeout = v .timeout };
   una = f .una;
@@ -88,7 +99,8 @@ half-valid c s h = record {
   smoothed = h .roundTrip .smoothed;
   variation = h .roundTrip .variation;
   timeout = h .roundTrip .timeout;
-  timeouts = each-sent (c .mode) (λ (x : Sent). TimeoutInRange (c .mode) (x .record .timeout)) (λ x w. w .range .timeout) (s .outstanding) (h .sent);
+  timeouts = each-sent (c .mode) (λ (x : Sent). TimeoutInRange (c .mode) (x .record .timeout)) (λ x w. w .range .timeout) (s .outstanding)
+      (h .sent);
 }
 
 pub half-fits : (c : Settings) (s : Sending) → Half c s → SendingFits s
@@ -112,7 +124,8 @@ module _ (test : Sent → Bool) where
   all-held P l q a =
       all-append P (map (λ (x : Sent). x .held) (select test l)) q
       (all-mapped P (λ (x : Sent). x .held) (select test l)
-      (all-select test (λ (x : Sent). P (x .held)) l (all-unmapped P (λ (x : Sent). x .held) l (all-left P (map (λ (x : Sent). x .held) l) q a))))
+      (all-select test (λ (x : Sent). P (x .held)) l
+      (all-unmapped P (λ (x : Sent). x .held) l (all-left P (map (λ (x : Sent). x .held) l) q a))))
       (all-right P (map (λ (x : Sent). x .held) l) q a)
 
   not-occurs : (n : ℕ) (l : List Sent) (q : List Held) →
@@ -133,7 +146,8 @@ module _ (test : Sent → Bool) where
   distinct-select [] q d = d
   distinct-select (x ∷ l) q d = go (test x) (distinct-select l q (d .1))
     where
-      go : (b : Bool) → Distinct (slots (heldWith (select test l) q)) → Distinct (slots (heldWith (cond b (x ∷ select test l) (select test l)) q))
+      go : (b : Bool) → Distinct (slots (heldWith (select test l) q))
+          → Distinct (slots (heldWith (cond b (x ∷ select test l) (select test l)) q))
       go true i = (not-occurs (x .held .slot) l q (d .0), i)
       go false i = i
 

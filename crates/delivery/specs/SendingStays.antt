@@ -1,5 +1,5 @@
--- The sending half stays valid and in range: after an accepted opening it is, and after every call it is again, whatever bytes are taken in.
--- So do the send pool's length and the probe clock's wait.
+-- The sending half stays valid and in range: after an accepted opening it is, and after every call it is again, whatever bytes are taken
+-- in. So do the send pool's length and the probe clock's wait.
 -- Assumes nothing.
 use mathlib.Core.Path.{_≡_, refl, ap, _∙_, subst}
 use mathlib.Core.Bool.{true}
@@ -44,7 +44,8 @@ use Rattle.delivery.specs.SendingFlushes.{half-flushed, flushedWith, win
 pub own-settings : (s : Station) (x : Call) → own s x .station .state .settings ≡ s .state .settings
 unfolding applied flushing
 own-settings s =
-    own-cases (λ (x : Call) (y : Stepped). y .station .state .settings ≡ s .state .settings) s (λ x r. refl) (λ m ok. refl) (λ d gs e. refl) (λ t. refl) (λ room. refl)
+    own-cases (λ (x : Call) (y : Stepped). y .station .state .settings ≡ s .state .settings) s (λ x r. refl) (λ m ok. refl) (λ d gs e. refl)
+    (λ t. refl) (λ room. refl)
     (λ t. refl) (λ t. refl) (λ t. refl)
 
 -- the send pool is as long as before
@@ -119,7 +120,8 @@ module _ (s : Station) (range : inRange (s .state .settings) ≡ true) (o : Send
       (λ t k. half)
     where
       flushed : (t : ℕ) → Half c (flushedWith c t (numberedCount (windowOf (s .state)) d) d)
-      flushed t = half-flushed c t (numberedCount (windowOf (s .state)) d) d (count-few (windowOf (s .state)) d) (count-room (windowOf (s .state)) d (window-most (s .state)) (half .numbers .apart)) half
+      flushed t = half-flushed c t (numberedCount (windowOf (s .state)) d) d (count-few (windowOf (s .state)) d)
+          (count-room (windowOf (s .state)) d (window-most (s .state)) (half .numbers .apart)) half
 
   own-probe : (x : Call) → probeFits (own s x .station .state .probe) ≡ true
   unfolding applied flushing
@@ -150,7 +152,8 @@ pub sending-stays : (c : Settings) →
     SendingInOrder c s →
     SendingInOrder c (own s x .station)
 sending-stays c range s x k o =
-    subst (λ (c : Settings). inRange c ≡ true → SendingInOrder c s → SendingInOrder c (own s x .station)) (o .settings) (λ r p. stays s r p x k) range o
+    subst (λ (c : Settings). inRange c ≡ true → SendingInOrder c s → SendingInOrder c (own s x .station)) (o .settings)
+    (λ r p. stays s r p x k) range o
 
 -- After every list of calls that pass it is in order
 pub sending-always : (c : Settings) →
@@ -162,7 +165,8 @@ pub sending-always : (c : Settings) →
     SendingInOrder c (after s calls)
 unfolding after
 sending-always c range [] s k p o = o
-sending-always c range (x ∷ xs) s k p o = rw (after-first s x xs p) (sending-always c range xs (own s x .station) (k .1) (p .2) (sending-stays c range s x (k .0) o))
+sending-always c range (x ∷ xs) s k p o =
+    rw (after-first s x xs p) (sending-always c range xs (own s x .station) (k .1) (p .2) (sending-stays c range s x (k .0) o))
 
 -- A flush may number any count k of queued segments within 32 of snd_una (it numbers `numberedCount`)
 pub flush-any : (c : Settings) (t k : ℕ) (s : Sending) →
@@ -192,7 +196,8 @@ opened-half c = record {
 pub opened-in-order : (c : Settings) (s : Station) → Opened c s → SendingInOrder c s
 unfolding opened
 opened-in-order c s p =
-    half-order c s (ap (λ (x : State). x .settings) (p .state) ∙ settings) (enough-pool (mss c) (lengthsOf s) (s .lent .output) (s .lent .lengths) (p .long))
+    half-order c s (ap (λ (x : State). x .settings) (p .state) ∙ settings)
+    (enough-pool (mss c) (lengthsOf s) (s .lent .output) (s .lent .lengths) (p .long))
     (rw (p .state) (opened-half c)) (rw (p .state) probe)
   where
     settings : opened c .settings ≡ c

@@ -61,14 +61,31 @@ module _ (c : Settings) where
       fit = numbers-fit (c .mode) (select stays (s .outstanding)) left
 
   half-window : (w : ℕ) (s : Sending) → w < 2 ^ 16 → Half c s → Half c (withWindow w s)
-  half-window w s k h = record { held = h .held; numbers = h .numbers; sent = h .sent; roundTrip = h .roundTrip; una = h .una; next = h .next; window = k }
+  half-window w s k h = record {
+    held = h .held;
+    numbers = h .numbers;
+    sent = h .sent;
+    roundTrip = h .roundTrip;
+    una = h .una;
+    next = h .next;
+    window = k;
+  }
 
   half-sampled : (current ts : ℕ) (s : Sending) → Half c s → Half c (sampledBy c current ts s)
   unfolding sampledBy
   half-sampled current ts s h =
-      record { held = h .held; numbers = h .numbers; sent = h .sent; roundTrip = go (isDue current ts) refl; una = h .una; next = h .next; window = h .window }
+      record {
+        held = h .held;
+        numbers = h .numbers;
+        sent = h .sent;
+        roundTrip = go (isDue current ts) refl;
+        una = h .una;
+        next = h .next;
+        window = h .window;
+      }
     where
-      go : (b : Bool) → isDue current ts ≡ b → RoundTripInRange (c .mode) (cond b (sampled (s .roundTrip) c (minus current ts)) (s .roundTrip))
+      go : (b : Bool) → isDue current ts ≡ b
+          → RoundTripInRange (c .mode) (cond b (sampled (s .roundTrip) c (minus current ts)) (s .roundTrip))
       go true e =
           sampled-in-range (s .roundTrip) c (minus current ts) (h .roundTrip .smoothed) (h .roundTrip .variation)
           (ltb-true (minus current ts) (2 ^ 31) (sym (due-test current ts) ∙ e))
@@ -91,7 +108,8 @@ module _ (c : Settings) where
   pub half-all : (current : ℕ) (s : Sending) (gs : List Segment) → All HeaderFits gs → Half c s → Half c (allBySending c current s gs)
   unfolding allBySending
   half-all current s [] a h = h
-  half-all current s (g ∷ gs) a h = half-all current (heardBySending c current s (g .header)) gs (a .1) (half-heard current s (g .header) (a .0 .wnd) h)
+  half-all current s (g ∷ gs) a h =
+      half-all current (heardBySending c current s (g .header)) gs (a .1) (half-heard current s (g .header) (a .0 .wnd) h)
 
 -- ---- skips
 

@@ -25,7 +25,24 @@ use Rattle.session.specs.State.{Sending, Ack, withSchedule}
 use Rattle.session.specs.Valid.{valid}
 use Rattle.session.specs.Opening.{opened}
 use Rattle.session.specs.Input.{applied, ackNumbers}
-use Rattle.session.specs.Flushing.{numberedAs, numbered, windowOf, windowOf, numberedCount, withNumbered, transmittedOf, sentAfter, transmittedNow, carried, ackSegment, dataSegment, written, bytesOfSegments, packed, flushing}
+use Rattle.session.specs.Flushing.{
+  numberedAs,
+  numbered,
+  windowOf,
+  windowOf,
+  numberedCount,
+  withNumbered,
+  transmittedOf,
+  sentAfter,
+  transmittedNow,
+  carried,
+  ackSegment,
+  dataSegment,
+  written,
+  bytesOfSegments,
+  packed,
+  flushing,
+}
 use Rattle.session.specs.Calls.{Station, Call, Stepped, Event, afterFlush, own, history, datagramsIn, datagramsBy}
 use Rattle.session.specs.Decides.{All}
 use Rattle.session.specs.AllLaws.{all-any, all-append, all-left, all-right, all-unmapped, all-weaker}
@@ -100,8 +117,10 @@ genuine-datagrams : (c : Settings) (pieces : List Piece) (ds : List (List Segmen
     All (All (IfPush (Genuine pieces))) ds →
     All (GenuineDatagram c pieces) (map bytesOfSegments ds)
 genuine-datagrams c pieces [] e a = tt
-genuine-datagrams c pieces (d ∷ ds) e a =
-    (record { its-segments = d; parses = e .0; genuine = all-pushes (Genuine pieces) d (a .0) }, genuine-datagrams c pieces ds (e .1) (a .1))
+genuine-datagrams c pieces (d ∷ ds) e a = (
+  record { its-segments = d; parses = e .0; genuine = all-pushes (Genuine pieces) d (a .0) },
+  genuine-datagrams c pieces ds (e .1) (a .1),
+)
 
 -- ---- all newly numbered segments are transmitted
 
@@ -120,12 +139,14 @@ module _ (c : Settings) (link t : ℕ) where
   new-sends : (n : ℕ) (h : Held) → transmittedOf c link t (numberedAs n h) .sends ≡ true
   new-sends n h =
       let r : Record = record { number = n; due = 0; timeout = 0; skips = 0 } in
-      sym (ap (λ (x : Transmission). x .sends) (when-never-sent c link t 0 r {x = sending 0 (firstTransmission (c .mode) link t r)} refl refl))
+      sym (ap (λ (x : Transmission). x .sends) (when-never-sent c link t 0 r {x = sending 0 (firstTransmission (c .mode) link t r)} refl
+      refl))
 
   pub transmitted-new : (n : ℕ) (q : List Held) → transmittedNow c link t (numbered n q) ≡ map (sentAfter c link t) (numbered n q)
   unfolding transmittedNow numbered
   transmitted-new n [] = refl
-  transmitted-new n (h ∷ q) = rw (new-sends n h) (ap {B = List Sent} (λ (r : List Sent). sentAfter c link t (numberedAs n h) ∷ r) (transmitted-new (plus n 1) q))
+  transmitted-new n (h ∷ q) = rw (new-sends n h)
+      (ap {B = List Sent} (λ (r : List Sent). sentAfter c link t (numberedAs n h) ∷ r) (transmitted-new (plus n 1) q))
 
   -- what holds of each transmitted segment's number holds of the newly numbered ones
   pub new-numbers : (P : ℕ → Type 0) (s : Sending) (k : ℕ) →
@@ -136,7 +157,8 @@ module _ (c : Settings) (link t : ℕ) where
       same (numbered (s .next) (take k (s .queued)))
       (all-unmapped (λ (x : Sent). P (x .record .number)) (sentAfter c link t) (numbered (s .next) (take k (s .queued)))
       (rw (transmitted-new (s .next) (take k (s .queued))) at
-      (all-right (λ (x : Sent). P (x .record .number)) (transmittedNow c link t (s .outstanding)) (transmittedNow c link t (numbered (s .next) (take k (s .queued))))
+      (all-right (λ (x : Sent). P (x .record .number)) (transmittedNow c link t (s .outstanding))
+      (transmittedNow c link t (numbered (s .next) (take k (s .queued))))
       (rw (transmitted-append (s .outstanding) (numbered (s .next) (take k (s .queued)))) at a))))
     where
       same : (l : List Sent) → All (λ (x : Sent). P (sentAfter c link t x .record .number)) l → All (λ (x : Sent). P (x .record .number)) l
@@ -177,7 +199,8 @@ module _ (s : Station) (pieces : List Piece) (made : valid (s .state) ≡ true) 
   same : model.Sends (mss c) (s .sendPool) (pieces ++ []) d
   same = rw (append-nil pieces) h
 
-  module _ (t : ℕ) (time : t < 2 ^ 32) (few : FewPushes (s .state .settings) (map bytesOfSegments (flushing (s .state) t (s .sendPool) .datagrams))) where
+  module _ (t : ℕ) (time : t < 2 ^ 32) (few : FewPushes (s .state .settings)
+      (map bytesOfSegments (flushing (s .state) t (s .sendPool) .datagrams))) where
     abbrev k : ℕ
     k = numberedCount (windowOf (s .state)) (s .state .sending)
 
@@ -197,24 +220,34 @@ module _ (s : Station) (pieces : List Piece) (made : valid (s .state) ≡ true) 
     writes : FlushWrites c (packed (c .mtu) segs)
     writes =
         let p = valid-parts (s .state) made in
-        flush-writes-any (s .state) t k (s .sendPool) ask (p .range) (p .fewAcks) (count-few (windowOf (s .state)) d) (count-room (windowOf (s .state)) d (window-most (s .state)) (half .numbers .apart)) half conv32 carry time (o .long)
+        flush-writes-any (s .state) t k (s .sendPool) ask (p .range) (p .fewAcks) (count-few (windowOf (s .state)) d)
+        (count-room (windowOf (s .state)) d (window-most (s .state)) (half .numbers .apart)) half conv32 carry time (o .long)
 
     -- the numbers of what is transmitted
     small-sent : All (λ (x : Sent). x .record .number < 2 ^ 30) (sentWith c t k d)
     small-sent =
-        all-weaker (λ (x : Sent). IfPush Small (dataSegment (carried (s .state)) (mss c) t (s .sendPool) x)) (λ (x : Sent). x .record .number < 2 ^ 30) (λ x f. f refl) (sentWith c t k d)
+        all-weaker (λ (x : Sent). IfPush Small (dataSegment (carried (s .state)) (mss c) t (s .sendPool) x))
+        (λ (x : Sent). x .record .number < 2 ^ 30) (λ x f. f refl) (sentWith c t k d)
         (data-written (s .state) t (s .sendPool) ask (sentWith c t k d) (IfPush Small)
-        (rw (packed-flat (c .mtu) segs) at (each-flat (IfPush Small) (packed (c .mtu) segs) (small-datagrams c (packed (c .mtu) segs) (writes .parsed) (rw flush-datagrams at few)))))
+        (rw (packed-flat (c .mtu) segs) at (each-flat (IfPush Small) (packed (c .mtu) segs)
+        (small-datagrams c (packed (c .mtu) segs) (writes .parsed) (rw flush-datagrams at few)))))
 
     end : d .next + k ≤ 2 ^ 30
     end =
         let count : length (take k (d .queued)) ≡ k = simp length-take (omega (arith, count-few (windowOf (s .state)) d)) in
-        let few32 : length (take k (d .queued)) ≤ sendWindow = omega (arith, count, count-room (windowOf (s .state)) d (window-most (s .state)) (half .numbers .apart)) in
-        omega (arith, count, numbered-end (d .next) (take k (d .queued)) (h .low) few32 (new-numbers c link t (λ (n : ℕ). n < 2 ^ 30) d k small-sent))
+        let few32 : length (take k (d .queued)) ≤ sendWindow =
+        omega (arith, count, count-room (windowOf (s .state)) d (window-most (s .state)) (half .numbers .apart)) in
+        omega (
+          arith,
+          count,
+          numbered-end (d .next) (take k (d .queued)) (h .low) few32
+              (new-numbers c link t (λ (n : ℕ). n < 2 ^ 30) d k small-sent),
+        )
 
     -- the pieces numbered then
     abbrev more : List Piece
-    more = pieces ++ map (pieceIn (mss (s .state .settings)) (s .sendPool)) (take (numberedCount (windowOf (s .state)) (s .state .sending)) (s .state .sending .queued))
+    more = pieces ++ map (pieceIn (mss (s .state .settings)) (s .sendPool))
+        (take (numberedCount (windowOf (s .state)) (s .state .sending)) (s .state .sending .queued))
 
     shown : All (Shows (mss c) (s .sendPool) more) (map (sentAfter c link t) (withNumbered d k))
     shown =
@@ -311,14 +344,19 @@ wrote-by c s pieces x made conv32 o carry h k few =
 -- more pieces
 more-genuine : (pieces more : List Piece) (gs : List Segment) → All (Genuine pieces) gs → All (Genuine (pieces ++ more)) gs
 more-genuine pieces more =
-    all-weaker (Genuine pieces) (Genuine (pieces ++ more)) (λ g h. record { its-piece = get-append pieces more (g .header .sn) (pieceOf g) (h .its-piece); small = h .small })
+    all-weaker (Genuine pieces) (Genuine (pieces ++ more))
+    (λ g h. record { its-piece = get-append pieces more (g .header .sn) (pieceOf g) (h .its-piece); small = h .small })
 
 pub more-datagrams : (c : Settings) (pieces more : List Piece) (ds : List (List ℕ)) →
     All (GenuineDatagram c pieces) ds →
     All (GenuineDatagram c (pieces ++ more)) ds
 more-datagrams c pieces more =
     all-weaker (GenuineDatagram c pieces) (GenuineDatagram c (pieces ++ more))
-    (λ d h. record { its-segments = h .its-segments; parses = h .parses; genuine = more-genuine pieces more (pushes (h .its-segments)) (h .genuine) })
+    (λ d h. record {
+      its-segments = h .its-segments;
+      parses = h .parses;
+      genuine = more-genuine pieces more (pushes (h .its-segments)) (h .genuine);
+    })
 
 -- the events of a list, the first and the others
 module _ (c : Settings) (e : Event) (es : List Event) where
@@ -354,7 +392,8 @@ genuine-calls c taken [] s pieces o carry h k p few = tt
 genuine-calls c taken (x ∷ xs) s pieces o carry h k p few =
     let e : Event = record { call = x; answer = own s x .answer } in
     let later : List Event = history (own s x .station) xs in
-    let few′ : FewPushes c (datagramsBy (e ∷ later)) = subst (λ (l : List Event). FewPushes c (datagramsBy l)) (history-first s x xs p) few in
+    let few′ : FewPushes c (datagramsBy (e ∷ later)) =
+    subst (λ (l : List Event). FewPushes c (datagramsBy l)) (history-first s x xs p) few in
     let w : Wrote c s pieces (own s x) = wrote-by c s pieces x (p .1) (taken .conv) o carry h (k .0) (few-first c e later few′) in
     subst (λ (l : List Event). All
     (GenuineDatagram c (pieces ++ (numberedNow s (own s x .answer) ++ piecesNumbered (own s x .station) xs))) (datagramsBy l))
@@ -383,4 +422,5 @@ pub sent-genuine : (c : Settings) → Taken c → (s : Station) → Opened c s �
     FewPushes c (datagramsBy (history s calls)) →
     All (GenuineDatagram c (piecesNumbered s calls)) (datagramsBy (history s calls))
 sent-genuine c taken s p calls k q few =
-    genuine-calls c taken calls s [] (opened-in-order c s p) (rw (p .state) (opened-carry c)) (rw (p .state) (opened-sends c (mss c) (s .sendPool))) k q few
+    genuine-calls c taken calls s [] (opened-in-order c s p) (rw (p .state) (opened-carry c))
+    (rw (p .state) (opened-sends c (mss c) (s .sendPool))) k q few

@@ -10,7 +10,20 @@ use native.Mathlib.Omega.{arith}
 use borrow.Author.Tests.{eqb-true, eq-eqb, le-leb}
 use lib.Dec.{eqb, leb}
 use lib.ListN.{length, take, drop, length-take, length-drop, length-append, length-map}
-use Rattle.protocol.specs.Protocol.{push, ack, windowAsk, windowTell, headerSize, fragmentMost, sendSlots, sendWindow, acksMost, outputLeast, lengthsLeast, mtuMost}
+use Rattle.protocol.specs.Protocol.{
+  push,
+  ack,
+  windowAsk,
+  windowTell,
+  headerSize,
+  fragmentMost,
+  sendSlots,
+  sendWindow,
+  acksMost,
+  outputLeast,
+  lengthsLeast,
+  mtuMost,
+}
 use Rattle.protocol.specs.Ranges.{inRange, mss}
 use Rattle.wire.specs.Headers.{encode}
 use Rattle.wire.specs.declared.Header.{Header}
@@ -74,7 +87,14 @@ control-valid c m cmd sn ts f low high n k = record {
   fits = record { conv = f .conv; cmd = omega arith; frg = omega arith; wnd = f .wnd; ts = k; sn = n; una = f .una; len = omega arith };
   len = refl;
   passes = passes (c .conv) m 0 (control c cmd sn ts .header)
-      (record { conversation = refl; inside = zero-le; command-least = omega arith; command-most = high; payload = λ e. zero-le; fragment = λ e. zero-le });
+      (record {
+        conversation = refl;
+        inside = zero-le;
+        command-least = omega arith;
+        command-most = high;
+        payload = λ e. zero-le;
+        fragment = λ e. zero-le;
+      });
 }
 
 data-length : (m : ℕ) (pool : List ℕ) (x : Sent) →
@@ -155,10 +175,12 @@ module _ (s : State) (t : ℕ) (pool : List ℕ) (ask : Bool) (sent : List Sent)
     pub data-written : All P (written s t pool ask sent) → All (λ (x : Sent). P (dataSegment (carried s) (mss (s .settings)) t pool x)) sent
     data-written a =
         all-unmapped P (dataSegment (carried s) (mss (s .settings)) t pool) sent
-        (all-right P tellOf dataOf (all-right P askOf (tellOf ++ dataOf) (all-right P acksOf (askOf ++ (tellOf ++ dataOf)) (rw written-parts at a))))
+        (all-right P tellOf dataOf (all-right P askOf (tellOf ++ dataOf)
+        (all-right P acksOf (askOf ++ (tellOf ++ dataOf)) (rw written-parts at a))))
 
 -- segments of at most n bytes each
-bytes-most : (n : ℕ) (gs : List Segment) → All (λ (g : Segment). length (bytesOfSegment g) ≤ n) gs → length (bytesOfSegments gs) ≤ n * length gs
+bytes-most : (n : ℕ) (gs : List Segment) → All (λ (g : Segment). length (bytesOfSegment g) ≤ n) gs
+    → length (bytesOfSegments gs) ≤ n * length gs
 unfolding bytesOfSegments
 bytes-most n [] a = zero-le
 bytes-most n (g ∷ gs) a = simp length-append (omega (arith, a .0, bytes-most n gs (a .1), length-append (encode (g .header)) (g .payload)))
@@ -197,20 +219,27 @@ module _ (s : State) (t : ℕ) (pool : List ℕ) (ask : Bool) (sent : List Sent)
         fit)
 
   -- how many they are, and how long, whatever numbers they carry
-  module _ (fewAcks : length (s .receiving .acks) ≤ acksMost) (short : All (λ (x : Sent). x .held .len ≤ mss (s .settings)) sent) (few : length sent ≤ sendWindow) where
+  module _ (fewAcks : length (s .receiving .acks) ≤ acksMost) (short : All (λ (x : Sent). x .held .len ≤ mss (s .settings)) sent)
+      (few : length sent ≤ sendWindow) where
     control-short : (cmd sn ts : ℕ) → length (bytesOfSegment (control c cmd sn ts)) ≤ headerSize
     control-short cmd sn ts = omega (arith, length-segment (control c cmd sn ts))
 
     data-short : All (λ (x : Sent). length (bytesOfSegment (dataSegment c m t pool x)) ≤ s .settings .mtu) sent
     data-short =
         all-weaker (λ (x : Sent). x .held .len ≤ m) (λ (x : Sent). length (bytesOfSegment (dataSegment c m t pool x)) ≤ s .settings .mtu)
-        (λ x f. omega (arith, length-segment (dataSegment c m t pool x), length-take (x .held .len) (drop (x .held .slot * m) pool), mtu .least)) sent short
+        (λ x f. omega (
+          arith,
+          length-segment (dataSegment c m t pool x),
+          length-take (x .held .len) (drop (x .held .slot * m) pool),
+          mtu .least,
+        )) sent short
 
     -- no segment is longer than mtu
     pub written-short : All (λ (g : Segment). length (bytesOfSegment g) ≤ s .settings .mtu) (written s t pool ask sent)
     written-short =
         all-written s t pool ask sent (λ (g : Segment). length (bytesOfSegment g) ≤ s .settings .mtu)
-        (all-any (λ (a : Ack). length (bytesOfSegment (ackSegment c a)) ≤ s .settings .mtu) (λ a. omega (arith, control-short ack (a .sn) (a .ts), mtu .least)) (s .receiving .acks))
+        (all-any (λ (a : Ack). length (bytesOfSegment (ackSegment c a)) ≤ s .settings .mtu)
+        (λ a. omega (arith, control-short ack (a .sn) (a .ts), mtu .least)) (s .receiving .acks))
         (omega (arith, control-short windowAsk 0 0, mtu .least))
         (omega (arith, control-short windowTell 0 0, mtu .least))
         data-short
@@ -224,14 +253,20 @@ module _ (s : State) (t : ℕ) (pool : List ℕ) (ask : Bool) (sent : List Sent)
 
     pub written-bytes : length (bytesOfSegments (written s t pool ask sent)) ≤ outputLeast
     written-bytes =
-        rw (written-parts s t pool ask sent, length-bytes-append acks (asks ++ (tells ++ pushes)), length-bytes-append asks (tells ++ pushes), length-bytes-append tells pushes)
+        rw (
+          written-parts s t pool ask sent,
+          length-bytes-append acks (asks ++ (tells ++ pushes)),
+          length-bytes-append asks (tells ++ pushes),
+          length-bytes-append tells pushes,
+        )
         (omega (
           arith,
           bytes-most headerSize acks
               (all-mapped Control (ackSegment c) (s .receiving .acks)
               (all-any (λ (a : Ack). Control (ackSegment c a)) (λ a. control-short ack (a .sn) (a .ts)) (s .receiving .acks))),
           bytes-most headerSize asks (all-wished s t pool ask sent Control ask (control c windowAsk 0 0) (control-short windowAsk 0 0)),
-          bytes-most headerSize tells (all-wished s t pool ask sent Control (s .receiving .tell) (control c windowTell 0 0) (control-short windowTell 0 0)),
+          bytes-most headerSize tells (all-wished s t pool ask sent Control (s .receiving .tell) (control c windowTell 0 0)
+              (control-short windowTell 0 0)),
           bytes-most mtuMost pushes
               (all-mapped (λ (g : Segment). length (bytesOfSegment g) ≤ mtuMost) (dataSegment c m t pool) sent
               (all-weaker

@@ -8,7 +8,7 @@ use Rattle.protocol.specs.Ranges.{mss}
 use Rattle.protocol.specs.declared.Settings.{Settings}
 use Rattle.protocol.specs.declared.Refusal.the-variants.{ShortPart, InvalidBlock}
 use Rattle.session.specs.Reading.{joinedIn}
-use Rattle.session.specs.Calls.{Call, Answer, Event, acceptedList}
+use Rattle.session.specs.Calls.{Call, Reply, Event, acceptedList}
 use Rattle.delivery.specs.Accepted.{numberedBy}
 use Rattle.delivery.specs.Claims.{Observed}
 use Rattle.delivery.specs.Ledger.{fragmentsBy, acknowledgedBy}
@@ -30,12 +30,13 @@ ShortBuffer e (Call.update t) = ⊥
 ShortBuffer e (Call.check t) = ⊥
 
 -- the answer is not 13, and it is 7 only where the buffer is short
-pub record Passes (short : Type 0) (a : Answer) : Type 0 where
-  pub made : a ≡ Answer.refused InvalidBlock → ⊥
-  pub lent : a ≡ Answer.refused ShortPart → short
+pub record Passes (short : Type 0) (a : Reply) : Type 0 where
+  pub made : a ≡ Reply.refused InvalidBlock → ⊥
+  pub lent : a ≡ Reply.refused ShortPart → short
 
 -- of each call of a list
-abbrev pub Each : (Endpoint → Call → Answer → Type 0) → {e e′ : Endpoint} {xs : List Call} {events : List Event} → Runs e xs events e′ → Type 0
+abbrev pub Each : (Endpoint → Call → Reply → Type 0) → {e e′ : Endpoint} {xs : List Call} {events : List Event} → Runs e xs events e′
+    → Type 0
 Each P start = Unit {0}
 Each P (next e x a e′ h r) = P e x a × Each P r
 

@@ -46,8 +46,20 @@ use Rattle.control.specs.ViewLaws.{counts}
 use Rattle.answers.specs.declared.Count.{Count}
 use Rattle.answers.specs.declared.Count.the-variants as count
 use Rattle.answers.specs.declared.Update.the-variants as update
-use Rattle.promises.specs.Parts.{Parts, lengthsOf, stateIn, isMade}
-use Rattle.promises.specs.Outcomes.{checked, flushesWith, updatesWith, readsWith, tellsWith, showsWith, flushes, updates, reads, tells, shows}
+use Rattle.promises.specs.Parts.{Parts, FlushParts, lengthsOf, stateIn, isMade}
+use Rattle.promises.specs.Outcomes.{
+  checked,
+  flushesWith,
+  updatesWith,
+  readsWith,
+  tellsWith,
+  showsWith,
+  flushes,
+  updates,
+  reads,
+  tells,
+  shows,
+}
 use Rattle.promises.specs.Answers.{Counts, countOutcome, updateAnswer}
 use Rattle.promises.specs.Promises.{FlushPromise, UpdatePromise, ReadPromise, SizePromise}
 use Rattle.delivery.specs.FlushLaws.{flush-few}
@@ -60,7 +72,8 @@ OfResult P (refused r) = Unit {0}
 OfResult P (done x) = P x
 
 -- a result is given only of a block that passed 13
-made-result : {A : Type 0} (P : A → Type 0) (long made : Bool) (own : Outcome A) → (made ≡ true → OfResult P own) → OfResult P (checked long made own)
+made-result : {A : Type 0} (P : A → Type 0) (long made : Bool) (own : Outcome A) → (made ≡ true → OfResult P own)
+    → OfResult P (checked long made own)
 made-result P false made own h = tt
 made-result P true false own h = tt
 made-result P true true own h = h refl
@@ -110,7 +123,11 @@ module _ (s : State) (v : IsValid s) where
   message-fits : (n : ℕ) → n ≤ messageSize (s .receiving) → MessageFits (s .settings) n
   unfolding messageSize
   message-fits n h = record {
-    bytes = omega (arith, lengths-most (mss (s .settings)) (frontCount ready) ready short, mul-le-mul-right (mss (s .settings)) (front-few ready fragments));
+    bytes = omega (
+      arith,
+      lengths-most (mss (s .settings)) (frontCount ready) ready short,
+      mul-le-mul-right (mss (s .settings)) (front-few ready fragments),
+    );
     payload = omega (arith, v .settings .mtu-most);
   }
 
@@ -150,9 +167,14 @@ showing-fits s v = go (readable (s .receiving .ready))
     m : ℕ
     m = mss (s .settings)
 
-    fits : (l : List Held) → All (λ (h : Held). h .len ≤ m) l → All (λ (h : Held). h .slot < receiveSlots) l → PlaceFits (s .settings) (frontPart m l)
+    fits : (l : List Held) → All (λ (h : Held). h .len ≤ m) l → All (λ (h : Held). h .slot < receiveSlots) l
+        → PlaceFits (s .settings) (frontPart m l)
     fits [] a b = record { count = zero-le; within = zero-le; payload = omega (arith, v .settings .mtu-most) }
-    fits (h ∷ l) a b = record { count = a .0; within = omega (arith, a .0, mul-le-mul-right m (b .0)); payload = omega (arith, v .settings .mtu-most) }
+    fits (h ∷ l) a b = record {
+      count = a .0;
+      within = omega (arith, a .0, mul-le-mul-right m (b .0));
+      payload = omega (arith, v .settings .mtu-most);
+    }
 
     go : (b : Bool) → OfResult (PlaceFits (s .settings)) (cond b (done (frontPart m (s .receiving .ready))) (refused NoMessage))
     go true = fits (s .receiving .ready) (short s v) (low s v)
@@ -174,23 +196,24 @@ few-answered n (done (Updates.flushes x)) e h = let same : n ≡ length (x .data
 -- ---- what each call gives
 
 module _ (l : Link) (p : Parts) where
-  pub flushes-few : (out lengths t : ℕ) → OfResult (λ (x : Flushed). length (x .datagrams) ≤ lengthsLeast) (flushes l p out lengths t)
+  pub flushes-few : (f : FlushParts) (t : ℕ) → OfResult (λ (x : Flushed). length (x .datagrams) ≤ lengthsLeast) (flushes l p f t)
   unfolding flushesWith
-  flushes-few out lengths t =
-      made-result _ (enoughToFlush (mss (l .settings)) (lengthsOf p) out lengths) (isMade l p) _
+  flushes-few f t =
+      made-result _ (enoughToFlush (mss (l .settings)) (lengthsOf p) (length (f .output)) (length (f .lengths))) (isMade l p) _
       (λ h. flush-few (stateIn l p) t (p .sendPool) (made-valid l p h))
 
-  pub updates-few : (out lengths t : ℕ) → OfResult FewDatagrams (updates l p out lengths t)
+  pub updates-few : (f : FlushParts) (t : ℕ) → OfResult FewDatagrams (updates l p f t)
   unfolding updatesWith
-  updates-few out lengths t =
-      made-result FewDatagrams (enoughToFlush (mss (l .settings)) (lengthsOf p) out lengths) (isMade l p) _
+  updates-few f t =
+      made-result FewDatagrams (enoughToFlush (mss (l .settings)) (lengthsOf p) (length (f .output)) (length (f .lengths))) (isMade l p) _
       (λ h.
       updating-cases FewDatagrams (stateIn l p) t (p .sendPool)
       (flush-few (withSchedule (stateIn l p) _) t (p .sendPool) (valid-rescheduled (stateIn l p) _ ∙ made-valid l p h)) tt)
 
   pub reads-fit : (room : ℕ) → OfResult (λ (x : Reads). MessageFits (l .settings) (length (x .bytes))) (reads l p room)
   unfolding readsWith stateOf
-  reads-fit room = made-result _ (enough (mss (l .settings)) (lengthsOf p)) (isMade l p) _ (λ h. reading-fits (stateIn l p) (is-valid l p h) (p .receivePool) room)
+  reads-fit room = made-result _ (enough (mss (l .settings)) (lengthsOf p)) (isMade l p) _
+      (λ h. reading-fits (stateIn l p) (is-valid l p h) (p .receivePool) room)
 
   pub tells-fit : OfResult (MessageFits (l .settings)) (tells l p)
   unfolding tellsWith stateOf
@@ -210,24 +233,26 @@ count-given P size a (done x) e h = rw e h
 
 module _ {l : Link} {p : Parts} {n : ℕ} where
   -- a flush that answers n wrote at most 290 datagrams
-  pub flush-counts : {t : ℕ} {out lengths : List ℕ} {l′ : Link} {p′ : Parts} {out′ lengths′ : List ℕ}
-      → FlushPromise t l p out lengths (count.Of n) l′ p′ out′ lengths′
+  pub flush-counts : {t : ℕ} {f : FlushParts} {l′ : Link} {p′ : Parts} {f′ : FlushParts}
+      → FlushPromise t l p f (count.Of n) l′ p′ f′
       → n ≤ lengthsLeast
-  flush-counts {t} {out} {lengths} h =
-      count-given (λ (n : ℕ). n ≤ lengthsLeast) (λ (x : Flushed). length (x .datagrams)) (count.Of n) (flushes l p (length out) (length lengths) t) (h .answer)
-      (flushes-few l p (length out) (length lengths) t)
+  flush-counts {t} {f} h =
+      count-given (λ (n : ℕ). n ≤ lengthsLeast) (λ (x : Flushed). length (x .datagrams)) (count.Of n) (flushes l p f t) (h .answer)
+      (flushes-few l p f t)
 
   -- so did an update
-  pub update-counts : {t : ℕ} {out lengths : List ℕ} {l′ : Link} {p′ : Parts} {out′ lengths′ : List ℕ}
-      → UpdatePromise t l p out lengths (update.Wrote n) l′ p′ out′ lengths′
+  pub update-counts : {t : ℕ} {f : FlushParts} {l′ : Link} {p′ : Parts} {f′ : FlushParts}
+      → UpdatePromise t l p f (update.Wrote n) l′ p′ f′
       → n ≤ lengthsLeast
-  update-counts {t} {out} {lengths} h =
-      few-answered n (updates l p (length out) (length lengths) t) (h .answer) (updates-few l p (length out) (length lengths) t)
+  update-counts {t} {f} h =
+      few-answered n (updates l p f t) (h .answer) (updates-few l p f t)
 
   -- a message that is read, or whose size is told, has at most 127 segments
-  pub read-counts : {buffer : List ℕ} {l′ : Link} {p′ : Parts} {buffer′ : List ℕ} → ReadPromise l p buffer (count.Of n) l′ p′ buffer′ → MessageFits (l .settings) n
+  pub read-counts : {buffer : List ℕ} {l′ : Link} {p′ : Parts} {buffer′ : List ℕ} → ReadPromise l p buffer (count.Of n) l′ p′ buffer′
+      → MessageFits (l .settings) n
   read-counts {buffer} h =
-      count-given (MessageFits (l .settings)) (λ (x : Reads). length (x .bytes)) (count.Of n) (reads l p (length buffer)) (h .answer) (reads-fit l p (length buffer))
+      count-given (MessageFits (l .settings)) (λ (x : Reads). length (x .bytes)) (count.Of n) (reads l p (length buffer)) (h .answer)
+      (reads-fit l p (length buffer))
 
   pub size-counts : SizePromise l p (count.Of n) → MessageFits (l .settings) n
   size-counts h = subst (OfResult (MessageFits (l .settings))) (sym (h .answer)) (tells-fit l p)

@@ -9,9 +9,9 @@
 -- (`datagramsBy`: the bytes of its output, cut by its lengths), late, repeated or shuffled (`FedWith`). The second has the first one's
 -- feeds and reads, in that order and with read buffers as long, and further datagrams of that sender put in anywhere; both send,
 -- flush, update and check at any point (`HearsMore`).
--- Then (`Delivered`) the first one's messages begin the second one's list, and both begin the list accepted for sending; each read answered as the
--- plain receiver's; a receiver's read finds nothing exactly when no next message was accepted, or a segment of it has never been fed while
--- below the next expected number plus 128 (`Missing`, `FedBelow`); and rcv_nxt is the plain receiver's next expected number.
+-- Then (`Delivered`) the first one's messages begin the second one's list, and both begin the list accepted for sending; each read answered
+-- as the plain receiver's; a receiver's read finds nothing exactly when no next message was accepted, or a segment of it has never been fed
+-- while below the next expected number plus 128 (`Missing`, `FedBelow`); and rcv_nxt is the plain receiver's next expected number.
 -- In stream mode each segment as finally numbered is taken for a message, and these in order are the accepted list (`acceptedFor`).
 -- Assumes nothing.
 use mathlib.Core.Path.{_≡_, ap, _∙_, subst}
@@ -31,7 +31,8 @@ use Rattle.demands.specs.Simulation.{step-call}
 use Rattle.demands.specs.RunLaws.{opens-station, taken, since-opening}
 
 -- what holds of a receiver's station holds of the receiver
-receives : {c : Settings} {calls : List Call} {events : List Event} {e : Endpoint} (accepted : List (List ℕ)) (h : SinceOpening c calls events e)
+receives : {c : Settings} {calls : List Call} {events : List Event} {e : Endpoint} (accepted : List (List ℕ))
+    (h : SinceOpening c calls events e)
     → Receives c accepted (stations.observed (stationOf (h .first)) calls) → Receives c accepted (observed calls events e)
 receives {c} {calls} {events} {e} accepted h r =
     let f = since-opening h in

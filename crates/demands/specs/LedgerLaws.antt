@@ -1,5 +1,6 @@
 -- The ledger of document 01: used send slots equal the fragments accepted less the segments acknowledged, over any calls since opening.
--- From the promises of the public calls alone: the slots are those that the block holds, the fragments those of the sends that were accepted.
+-- From the promises of the public calls alone: the slots are those that the block holds, the fragments those of the sends that were
+-- accepted.
 -- Assumes nothing.
 use mathlib.Core.Path.{_≡_, refl, sym, ap, _∙_}
 use mathlib.Core.Bool.{true, false}
@@ -24,12 +25,16 @@ use Rattle.demands.specs.Simulation.{Kept, kept-call, step-call}
 use Rattle.demands.specs.RunLaws.{opens-station, opens-kept, taken, since-opening}
 
 -- what the calls acknowledge is what the station's do
-acknowledged-same : (c : Settings) → inRange c ≡ true → c .conv < 2 ^ 32 → {e e′ : Endpoint} {xs : List Call} {events : List Event} (r : Runs e xs events e′) → All CallFits xs → Kept c e
+acknowledged-same : (c : Settings) → inRange c ≡ true → c .conv < 2 ^ 32
+    → {e e′ : Endpoint} {xs : List Call} {events : List Event} (r : Runs e xs events e′) → All CallFits xs → Kept c e
     → segmentsAcknowledged r ≡ station.stationAcknowledged (stationOf e) xs
 unfolding segmentsAcknowledged station.stationAcknowledged
 acknowledged-same c range conv start fits k = refl
 acknowledged-same c range conv (next e x a e′ h r) fits k =
-    rw (step-call c range conv e k x a e′ (fits .0) h, acknowledged-same c range conv r (fits .1) (kept-call c range conv e k x a e′ (fits .0) h))
+    rw (
+      step-call c range conv e k x a e′ (fits .0) h,
+      acknowledged-same c range conv r (fits .1) (kept-call c range conv e k x a e′ (fits .0) h),
+    )
 
 -- what they accept is what the station's do
 accepted-same : (c : Settings) → inRange c ≡ true → c .conv < 2 ^ 32 →

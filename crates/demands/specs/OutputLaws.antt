@@ -49,7 +49,12 @@ joined-short : (m : ℕ) (pool : List ℕ) (l : List Held) → length (joinedIn 
 unfolding joinedIn lengthOf
 joined-short m pool [] = zero-le
 joined-short m pool (h ∷ l) =
-    omega (arith, joined-short m pool l, length-append (payloadIn m pool h) (joinedIn m pool l), length-take (h .len) (drop (h .slot * m) pool))
+    omega (
+      arith,
+      joined-short m pool l,
+      length-append (payloadIn m pool h) (joinedIn m pool l),
+      length-take (h .len) (drop (h .slot * m) pool),
+    )
 
 -- a message is no longer than its segments say
 pub message-short : (s : State) (pool : List ℕ) → length (message s pool) ≤ messageSize (s .receiving)

@@ -15,7 +15,7 @@ use Rattle.session.specs.Updating.{dues}
 use Rattle.session.specs.Decides.{All}
 use Rattle.answers.specs.declared.Update.{Update}
 use Rattle.answers.specs.declared.Update.the-variants as update
-use Rattle.promises.specs.Parts.{stateIn}
+use Rattle.promises.specs.Parts.{FlushParts, stateIn}
 use Rattle.promises.specs.Promises.{UpdatePromise}
 use Rattle.demands.specs.Steps.{Endpoint, Room}
 
@@ -28,9 +28,9 @@ pub record Within (now named t : ℕ) : Type 0 where
 -- left them
 pub data Updates : Endpoint → List ℕ → List Update → Endpoint → Type 0 where
   start : {e : Endpoint} → Updates e [] [] e
-  next : (e : Endpoint) (t : ℕ) (a : Update) (e′ : Endpoint) (out lengths out′ lengths′ : List ℕ)
+  next : (e : Endpoint) (t : ℕ) (a : Update) (e′ : Endpoint) (f f′ : FlushParts)
       {ts : List ℕ} {given : List Update} {e″ : Endpoint}
-      → UpdatePromise t (e .link) (e .parts) out lengths a (e′ .link) (e′ .parts) out′ lengths′
+      → UpdatePromise t (e .link) (e .parts) f a (e′ .link) (e′ .parts) f′
       → Updates e′ ts given e″ → Updates e (t ∷ ts) (a ∷ given) e″
 
 -- the answer of an update that does not flush
@@ -54,8 +54,8 @@ pub record StaysQuiet (now named : ℕ) (e : Endpoint) (given : List Update) (e�
 -- every update at t that has output and lengths as document 01 states flushes
 abbrev pub FlushesAt : ℕ → Endpoint → Type 0
 FlushesAt t e =
-    (a : Update) (e′ : Endpoint) (out lengths out′ lengths′ : List ℕ) → Room out lengths
-    → UpdatePromise t (e .link) (e .parts) out lengths a (e′ .link) (e′ .parts) out′ lengths′
+    (a : Update) (e′ : Endpoint) (f f′ : FlushParts) → Room f
+    → UpdatePromise t (e .link) (e .parts) f a (e′ .link) (e′ .parts) f′
     → (n : ℕ) × (a ≡ update.Wrote n)
 
 -- and the named time is no sooner than it need be: it is one interval away, or an update then flushes, or a segment is due then

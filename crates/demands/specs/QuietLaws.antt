@@ -30,7 +30,7 @@ use Rattle.control.specs.Views.{stateOf}
 use Rattle.answers.specs.declared.Update.{Update}
 use Rattle.answers.specs.declared.Update.the-variants as update
 use Rattle.answers.specs.declared.Time.the-variants as time
-use Rattle.promises.specs.Parts.{lengthsOf, stateIn, isMade}
+use Rattle.promises.specs.Parts.{FlushParts, lengthsOf, stateIn, isMade}
 use Rattle.promises.specs.Outcomes.{checked, updatesWith, checksWith}
 use Rattle.promises.specs.Answers.{updateAnswer}
 use Rattle.promises.specs.Promises.{UpdateLeaves, UpdatePromise, CheckPromise}
@@ -81,10 +81,10 @@ record Rests (s : State) (e : Endpoint) (a : Update) (e′ : Endpoint) : Type 0 
   parts : e′ .parts ≡ e .parts
   state : (stateIn (e′ .link) (e′ .parts) ≡ stateIn (e .link) (e .parts)) ⊎ (stateIn (e′ .link) (e′ .parts) ≡ s)
 
-module _ (s : State) (e : Endpoint) (a : Update) (e′ : Endpoint) (out lengths out′ lengths′ : List ℕ) (u : session.Updates)
+module _ (s : State) (e : Endpoint) (a : Update) (e′ : Endpoint) (f f′ : FlushParts) (u : session.Updates)
     (q : u ≡ session.waits s) where
   abbrev Leaves : Outcome session.Updates → Type 0
-  Leaves o = UpdateLeaves o (e .link) (e′ .link) (e .parts) (e′ .parts) out lengths out′ lengths′
+  Leaves o = UpdateLeaves o (e .link) (e′ .link) (e .parts) (e′ .parts) f f′
 
   rests : (long made : Bool) → a ≡ updateAnswer (checked long made (Outcome.done u)) → Leaves (checked long made (Outcome.done u))
       → Rests s e a e′
@@ -102,14 +102,15 @@ module _ (s : State) (e : Endpoint) (a : Update) (e′ : Endpoint) (out lengths 
       let w = subst (λ (y : session.Updates). Leaves (Outcome.done y)) q h in
       record { idle = rw (ans, q) waited; parts = w .parts; state = inr (w .stands .state) }
 
-rests-by : (s : State) (e : Endpoint) (t : ℕ) (a : Update) (e′ : Endpoint) (out lengths out′ lengths′ : List ℕ)
+rests-by : (s : State) (e : Endpoint) (t : ℕ) (a : Update) (e′ : Endpoint) (f f′ : FlushParts)
     → updating (stateIn (e .link) (e .parts)) t (e .parts .sendPool) ≡ session.waits s
-    → UpdatePromise t (e .link) (e .parts) out lengths a (e′ .link) (e′ .parts) out′ lengths′
+    → UpdatePromise t (e .link) (e .parts) f a (e′ .link) (e′ .parts) f′
     → Rests s e a e′
 unfolding updatesWith
-rests-by s e t a e′ out lengths out′ lengths′ q h =
-    rests s e a e′ out lengths out′ lengths′ (updating (stateIn (e .link) (e .parts)) t (e .parts .sendPool)) q
-    (enoughToFlush (mss (e .link .settings)) (lengthsOf (e .parts)) (length out) (length lengths)) (isMade (e .link) (e .parts))
+rests-by s e t a e′ f f′ q h =
+    rests s e a e′ f f′ (updating (stateIn (e .link) (e .parts)) t (e .parts .sendPool)) q
+    (enoughToFlush (mss (e .link .settings)) (lengthsOf (e .parts)) (length (f .output)) (length (f .lengths)))
+    (isMade (e .link) (e .parts))
     (h .answer) (h .leaves)
 
 -- ---- of a list of updates
@@ -154,10 +155,10 @@ module _ (e : Endpoint) (now : ℕ) (f : Fits (stateIn (e .link) (e .parts))) (h
   all-rest : {e₁ e₂ : Endpoint} {ts : List ℕ} {given : List Update} → Updates e₁ ts given e₂ → All (Within now n) ts → Same e₁
       → Quietly given e₂
   all-rest start w m = record { idle = tt; same = m }
-  all-rest (next e₁ t a e₂ out lengths out′ lengths′ h r) w m =
+  all-rest (next e₁ t a e₂ lent after h r) w m =
       let q : updating (stateIn (e₁ .link) (e₁ .parts)) t (e₁ .parts .sendPool) ≡ session.waits (withTimes s t (s .schedule)) =
       rw (m .state) (waits-at s now f hn (m .current) t (e₁ .parts .sendPool) (w .0)) in
-      let one = rests-by (withTimes s t (s .schedule)) e₁ t a e₂ out lengths out′ lengths′ q h in
+      let one = rests-by (withTimes s t (s .schedule)) e₁ t a e₂ lent after q h in
       let later = all-rest r (w .1) (same-after e₁ e₂ t a m one) in
       record { idle = (one .idle, later .idle); same = later .same }
     where
@@ -193,10 +194,11 @@ module _ (e : Endpoint) (now named : ℕ) (f : Fits (stateIn (e .link) (e .parts
   flushes-at : updated (stateIn (e .link) (e .parts) .schedule) named (stateIn (e .link) (e .parts) .settings .interval) .flushes ≡ true
       → FlushesAt named e
   unfolding updatesWith updating
-  flushes-at q a e′ out lengths out′ lengths′ lent h =
+  flushes-at q a e′ f f′ lent h =
       let p = told now named e check in
       let room =
-      long-flush (mss (e .link .settings)) (lengthsOf (e .parts)) (length out) (length lengths) (p .long) (lent .long) (lent .many) in
+      long-flush (mss (e .link .settings)) (lengthsOf (e .parts)) (length (f .output)) (length (f .lengths)) (p .long) (lent .long)
+      (lent .many) in
       let s = stateIn (e .link) (e .parts) in
       (length (flushing (withSchedule s (scheduledAt s named)) named (e .parts .sendPool) .datagrams), h .answer ∙ rw (room, p .made, q))
 

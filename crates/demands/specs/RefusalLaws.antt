@@ -33,7 +33,7 @@ use Rattle.session.specs.Sending.{Sends, sending}
 use Rattle.session.specs.Input.{Took, taking, input}
 use Rattle.session.specs.Reading.{Reads, readable, messageSize, message, afterRead, reading, telling}
 use Rattle.session.specs.Updating.{Updates}
-use Rattle.session.specs.Calls.{Station, Call, Answer, afterSend, afterTakeIn, afterReading, afterUpdate, own}
+use Rattle.session.specs.Calls.{Station, Call, Reply, afterSend, afterTakeIn, afterReading, afterUpdate, own}
 use Rattle.session.specs.Decides.{and-parts}
 use Rattle.delivery.specs.CallCases.{filling, newSegments, sentBy, updating-cases}
 use Rattle.demands.specs.Claims.{Passes}
@@ -63,13 +63,15 @@ ClearParsed (Parsed.segments gs) = Unit {0}
 verdict-clear : (conv m room : ℕ) (h : Header) → ClearVerdict (verdict conv m room h)
 unfolding verdict
 verdict-clear conv m room h =
-    go (eqb (h .conv) conv) (leb (h .len) room) (leb push (h .cmd) && leb (h .cmd) windowTell) (ofPush h (leb (h .len) m)) (ofPush h (leb (h .frg) fragmentMost))
+    go (eqb (h .conv) conv) (leb (h .len) room) (leb push (h .cmd) && leb (h .cmd) windowTell) (ofPush h (leb (h .len) m))
+    (ofPush h (leb (h .frg) fragmentMost))
   where
     -- the tests of 2 to 6
     go : (conversation inside command payload fragment : Bool)
         → ClearVerdict
         (cond conversation
-        (cond inside (cond command (cond payload (cond fragment verdict.Passes (verdict.Fails HighFragment)) (verdict.Fails LongPayload)) (verdict.Fails UnknownCommand)) (verdict.Fails LengthPastEnd))
+        (cond inside (cond command (cond payload (cond fragment verdict.Passes (verdict.Fails HighFragment)) (verdict.Fails LongPayload))
+        (verdict.Fails UnknownCommand)) (verdict.Fails LengthPastEnd))
         (verdict.Fails OtherConversation))
     go false b c d e = refl
     go true false c d e = refl
@@ -95,7 +97,8 @@ module _ (conv m : ℕ) where
       let v : Verdict = verdict conv m (length (x ∷ s) - headerSize) (decode (x ∷ s) 0) in
       let rest : Parsed = walk conv m (23 + decode (x ∷ s) 0 .len) s in
       either-clear (leb headerSize (length (x ∷ s))) (inFront v (segmentOf (x ∷ s)) rest) (tail (x ∷ s))
-      (front-clear v (segmentOf (x ∷ s)) rest (verdict-clear conv m (length (x ∷ s) - headerSize) (decode (x ∷ s) 0)) (walk-clear (23 + decode (x ∷ s) 0 .len) s))
+      (front-clear v (segmentOf (x ∷ s)) rest (verdict-clear conv m (length (x ∷ s) - headerSize) (decode (x ∷ s) 0))
+      (walk-clear (23 + decode (x ∷ s) 0 .len) s))
       refl
   walk-clear (suc skip) (x ∷ s) = walk-clear skip s
 
@@ -152,37 +155,38 @@ reading-clear s pool room = go (readable (s .receiving .ready)) refl (leb (messa
 -- ---- answers
 
 -- the number of a refusal, else 0
-abbrev numberIn : Answer → ℕ
-numberIn (Answer.refused r) = numberOf r
-numberIn Answer.accepted = 0
-numberIn (Answer.wrote ds) = 0
-numberIn (Answer.message m) = 0
-numberIn Answer.waited = 0
-numberIn (Answer.named t) = 0
+abbrev numberIn : Reply → ℕ
+numberIn (Reply.refused r) = numberOf r
+numberIn Reply.accepted = 0
+numberIn (Reply.wrote ds) = 0
+numberIn (Reply.message m) = 0
+numberIn Reply.waited = 0
+numberIn (Reply.named t) = 0
 
 -- by its number
-passes-by : (short : Type 0) (a : Answer) → eqb (numberIn a) 13 ≡ false → (numberIn a ≡ 7 → short) → Passes short a
+passes-by : (short : Type 0) (a : Reply) → eqb (numberIn a) 13 ≡ false → (numberIn a ≡ 7 → short) → Passes short a
 passes-by short a made lent = record {
-  made = λ e. true≢false (sym (ap (λ (x : Answer). eqb (numberIn x) 13) e) ∙ made);
+  made = λ e. true≢false (sym (ap (λ (x : Reply). eqb (numberIn x) 13) e) ∙ made);
   lent = λ e. lent (ap numberIn e);
 }
 
-clear-passes : (a : Answer) → clear (numberIn a) ≡ true → Passes ⊥ a
+clear-passes : (a : Reply) → clear (numberIn a) ≡ true → Passes ⊥ a
 clear-passes a h =
     let p = and-parts (not (eqb (numberIn a) 7)) (not (eqb (numberIn a) 13)) h in
     passes-by ⊥ a (not-true _ (p .1)) (λ e. true≢false (sym (ap (λ (n : ℕ). eqb n 7) e) ∙ not-true _ (p .0)))
 
 sent-passes : (s : Station) (o : Outcome Sends) → Clear o → Passes ⊥ (afterSend s o .answer)
-sent-passes s (Outcome.refused r) h = clear-passes (Answer.refused r) h
-sent-passes s (Outcome.done x) h = clear-passes Answer.accepted refl
+sent-passes s (Outcome.refused r) h = clear-passes (Reply.refused r) h
+sent-passes s (Outcome.done x) h = clear-passes Reply.accepted refl
 
 took-passes : (s : Station) (o : Outcome Took) → Clear o → Passes ⊥ (afterTakeIn s o .answer)
-took-passes s (Outcome.refused r) h = clear-passes (Answer.refused r) h
-took-passes s (Outcome.done x) h = clear-passes Answer.accepted refl
+took-passes s (Outcome.refused r) h = clear-passes (Reply.refused r) h
+took-passes s (Outcome.done x) h = clear-passes Reply.accepted refl
 
-read-passes : (s : Station) (room : ℕ) (o : Outcome Reads) → ClearRead (s .state) room o → Passes (Short (s .state) room) (afterReading s o .answer)
-read-passes s room (Outcome.refused r) h = passes-by (Short (s .state) room) (Answer.refused r) (h .0) (h .1)
-read-passes s room (Outcome.done x) h = passes-by (Short (s .state) room) (Answer.message (x .bytes)) refl (λ e. absurd (omega arith))
+read-passes : (s : Station) (room : ℕ) (o : Outcome Reads) → ClearRead (s .state) room o
+    → Passes (Short (s .state) room) (afterReading s o .answer)
+read-passes s room (Outcome.refused r) h = passes-by (Short (s .state) room) (Reply.refused r) (h .0) (h .1)
+read-passes s room (Outcome.done x) h = passes-by (Short (s .state) room) (Reply.message (x .bytes)) refl (λ e. absurd (omega arith))
 
 -- ---- all calls
 
@@ -203,4 +207,5 @@ own-passes s (Call.update t) =
     updating-cases (λ (y : Updates). Passes ⊥ (afterUpdate s y .answer)) (s .state) t (s .sendPool) (clear-passes _ refl)
     (clear-passes _ refl)
 own-passes s (Call.check t) = clear-passes (own s (Call.check t) .answer) refl
-own-passes s (Call.read room) = read-passes s room (reading (s .state) (s .receivePool) room) (reading-clear (s .state) (s .receivePool) room)
+own-passes s (Call.read room) =
+    read-passes s room (reading (s .state) (s .receivePool) room) (reading-clear (s .state) (s .receivePool) room)

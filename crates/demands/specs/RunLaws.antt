@@ -40,13 +40,16 @@ record Fresh (c : Settings) (l : Link) (p : Parts) : Type 0 where
 refusal-not-accepted : {A : Type 0} {r : Refusal} → answer.Accepted ≡ answer.Refused r → A
 refusal-not-accepted e = absurd (let z : _≡_ {A = ℕ} 0 1 = cc in omega arith)
 
-fresh : (c : Settings) (block l : Link) (lent p : Parts) → Accepts answer.Accepted (opening c (lengthsOf lent)) → OpenLeaves (opening c (lengthsOf lent)) block l lent p → Fresh c l p
+fresh : (c : Settings) (block l : Link) (lent p : Parts) → Accepts answer.Accepted (opening c (lengthsOf lent))
+    → OpenLeaves (opening c (lengthsOf lent)) block l lent p → Fresh c l p
 unfolding opening
 fresh c block l lent p = go (inRange c) refl (enough (mss c) (lengthsOf lent)) refl
   where
     go : (a : Bool) → inRange c ≡ a → (b : Bool) → enough (mss c) (lengthsOf lent) ≡ b
-        → Accepts answer.Accepted (cond a (cond b (Outcome.done (opened c)) (Outcome.refused ShortPart)) (Outcome.refused SettingOutOfRange))
-        → OpenLeaves (cond a (cond b (Outcome.done (opened c)) (Outcome.refused ShortPart)) (Outcome.refused SettingOutOfRange)) block l lent p
+        → Accepts answer.Accepted (cond a (cond b (Outcome.done (opened c)) (Outcome.refused ShortPart))
+        (Outcome.refused SettingOutOfRange))
+        → OpenLeaves (cond a (cond b (Outcome.done (opened c)) (Outcome.refused ShortPart)) (Outcome.refused SettingOutOfRange)) block l
+        lent p
         → Fresh c l p
     go true e true f ans h = record { range = e; long = rw (h .1) f; counts = h .0 .counts; state = h .0 .state }
     go true e false f ans h = refusal-not-accepted ans
@@ -61,7 +64,10 @@ module _ (c : Settings) (e : Endpoint) (o : Opens c e) where
 
   -- it is an accepted opening of its station
   pub opens-station : Opened c (stationOf e)
-  opens-station = record { state = is-fresh .state; long = long-flush (mss c) (lengthsOf (e .parts)) outputLeast lengthsLeast (is-fresh .long) (omega arith) (omega arith) }
+  opens-station = record {
+    state = is-fresh .state;
+    long = long-flush (mss c) (lengthsOf (e .parts)) outputLeast lengthsLeast (is-fresh .long) (omega arith) (omega arith);
+  }
 
   pub opens-kept : Kept c e
   opens-kept = record { counts = is-fresh .counts; order = opened-all c (stationOf e) opens-station }
@@ -75,7 +81,8 @@ pub record Follows (c : Settings) (e : Endpoint) (xs : List Call) (events : List
   pub kept : Kept c e′
 
 module _ (c : Settings) (range : inRange c ≡ true) (conv : c .conv < 2 ^ 32) where
-  pub follows : {e e′ : Endpoint} {xs : List Call} {events : List Event} → Runs e xs events e′ → All CallFits xs → Kept c e → Follows c e xs events e′
+  pub follows : {e e′ : Endpoint} {xs : List Call} {events : List Event} → Runs e xs events e′ → All CallFits xs → Kept c e
+      → Follows c e xs events e′
   unfolding history after
   follows start fits k = record { events-are = refl; now = refl; kept = k }
   follows (next e x a e′ h r) fits k =

@@ -1,4 +1,5 @@
--- The station that an endpoint stands for: its state, its pools, and how long its other lent parts are. Output and lengths are as long as a flush asks.
+-- The station that an endpoint stands for: its state, its pools, and how long its other lent parts are. Output and lengths are as long as a
+-- flush asks.
 -- Assumes nothing.
 use lib.ListN.{length}
 use Rattle.protocol.specs.Protocol.{outputLeast, lengthsLeast}

@@ -7,7 +7,7 @@ use Prim.Native.Nat.{ℕ, _^_, _≤_, _<_}
 use lib.ListN.{length, take, drop}
 use Rattle.protocol.specs.Protocol.{outputLeast, lengthsLeast}
 use Rattle.protocol.specs.declared.Settings.{Settings}
-use Rattle.session.specs.Calls.{Call, Answer, Event}
+use Rattle.session.specs.Calls.{Call, Reply, Event}
 use Rattle.session.specs.Decides.{All}
 use Rattle.control.specs.declared.Link.{Link}
 use Rattle.answers.specs.declared.Answer as given
@@ -18,7 +18,7 @@ use Rattle.answers.specs.declared.Update.{Update}
 use Rattle.answers.specs.declared.Update.the-variants as update
 use Rattle.answers.specs.declared.Time.{Time}
 use Rattle.answers.specs.declared.Time.the-variants as time
-use Rattle.promises.specs.Parts.{Parts}
+use Rattle.promises.specs.Parts.{Parts, FlushParts}
 use Rattle.promises.specs.Promises.{OpenPromise, SendPromise, InputPromise, FlushPromise, ReadPromise, UpdatePromise, CheckPromise}
 use Rattle.delivery.specs.Hearing.{CallFits}
 
@@ -30,9 +30,9 @@ pub record Endpoint : Type 0 where
 -- ---- what the caller sees
 
 -- of a message sent or a datagram taken in: accepted, or the refusal
-abbrev pub acceptance : given.Answer → Answer
-acceptance answer.Accepted = Answer.accepted
-acceptance (answer.Refused r) = Answer.refused r
+abbrev pub acceptance : given.Answer → Reply
+acceptance answer.Accepted = Reply.accepted
+acceptance (answer.Refused r) = Reply.refused r
 
 -- bytes cut into datagrams of these lengths, one behind the other
 unfoldable pub cutBy : List ℕ → List ℕ → List (List ℕ)
@@ -40,56 +40,54 @@ cutBy [] bytes = []
 cutBy (n ∷ lengths) bytes = take n bytes ∷ cutBy lengths (drop n bytes)
 
 -- of a flush that answers n: the output cut by the first n lengths
-abbrev pub datagramsSeen : Count → List ℕ → List ℕ → Answer
-datagramsSeen (count.Of n) output lengths = Answer.wrote (cutBy (take n lengths) output)
-datagramsSeen (count.Refused r) output lengths = Answer.refused r
+abbrev pub datagramsSeen : Count → FlushParts → Reply
+datagramsSeen (count.Of n) f = Reply.wrote (cutBy (take n (f .lengths)) (f .output))
+datagramsSeen (count.Refused r) f = Reply.refused r
 
 -- of an update: that it waited, or the same of its flush
-abbrev pub updateSeen : Update → List ℕ → List ℕ → Answer
-updateSeen update.Waited output lengths = Answer.waited
-updateSeen (update.Wrote n) output lengths = datagramsSeen (count.Of n) output lengths
-updateSeen (update.Refused r) output lengths = Answer.refused r
+abbrev pub updateSeen : Update → FlushParts → Reply
+updateSeen update.Waited f = Reply.waited
+updateSeen (update.Wrote n) f = datagramsSeen (count.Of n) f
+updateSeen (update.Refused r) f = Reply.refused r
 
 -- of a check: the time
-abbrev pub timeSeen : Time → Answer
-timeSeen (time.At t) = Answer.named t
-timeSeen (time.Refused r) = Answer.refused r
+abbrev pub timeSeen : Time → Reply
+timeSeen (time.At t) = Reply.named t
+timeSeen (time.Refused r) = Reply.refused r
 
 -- of a read that answers n: the first n bytes of the buffer
-abbrev pub messageSeen : Count → List ℕ → Answer
-messageSeen (count.Of n) buffer = Answer.message (take n buffer)
-messageSeen (count.Refused r) buffer = Answer.refused r
+abbrev pub messageSeen : Count → List ℕ → Reply
+messageSeen (count.Of n) buffer = Reply.message (take n buffer)
+messageSeen (count.Refused r) buffer = Reply.refused r
 
 -- ---- one call
 
-pub record Sent (message : List ℕ) (e : Endpoint) (a : Answer) (e′ : Endpoint) : Type 0 where
+pub record SendCall (message : List ℕ) (e : Endpoint) (a : Reply) (e′ : Endpoint) : Type 0 where
   pub gives : given.Answer
   pub promise : SendPromise message (e .link) (e .parts) gives (e′ .link) (e′ .parts)
   pub sees : a ≡ acceptance gives
 
-pub record TakenIn (datagram : List ℕ) (e : Endpoint) (a : Answer) (e′ : Endpoint) : Type 0 where
+pub record InputCall (datagram : List ℕ) (e : Endpoint) (a : Reply) (e′ : Endpoint) : Type 0 where
   pub gives : given.Answer
   pub promise : InputPromise datagram (e .link) (e .parts) gives (e′ .link) (e′ .parts)
   pub sees : a ≡ acceptance gives
 
 -- output and lengths are as long as document 01 states
-pub record Room (output lengths : List ℕ) : Type 0 where
-  pub long : outputLeast ≤ length output
-  pub many : lengthsLeast ≤ length lengths
+pub record Room (f : FlushParts) : Type 0 where
+  pub long : outputLeast ≤ length (f .output)
+  pub many : lengthsLeast ≤ length (f .lengths)
 
 -- into any such output and lengths
-pub record Flushed (t : ℕ) (e : Endpoint) (a : Answer) (e′ : Endpoint) : Type 0 where
-  pub output : List ℕ
-  pub lengths : List ℕ
-  pub room : Room output lengths
+pub record FlushCall (t : ℕ) (e : Endpoint) (a : Reply) (e′ : Endpoint) : Type 0 where
+  pub lent : FlushParts
+  pub room : Room lent
   pub gives : Count
-  pub output′ : List ℕ
-  pub lengths′ : List ℕ
-  pub promise : FlushPromise t (e .link) (e .parts) output lengths gives (e′ .link) (e′ .parts) output′ lengths′
-  pub sees : a ≡ datagramsSeen gives output′ lengths′
+  pub after : FlushParts
+  pub promise : FlushPromise t (e .link) (e .parts) lent gives (e′ .link) (e′ .parts) after
+  pub sees : a ≡ datagramsSeen gives after
 
 -- into any buffer that long
-pub record Read (room : ℕ) (e : Endpoint) (a : Answer) (e′ : Endpoint) : Type 0 where
+pub record ReadCall (room : ℕ) (e : Endpoint) (a : Reply) (e′ : Endpoint) : Type 0 where
   pub buffer : List ℕ
   pub long : length buffer ≡ room
   pub gives : Count
@@ -98,39 +96,37 @@ pub record Read (room : ℕ) (e : Endpoint) (a : Answer) (e′ : Endpoint) : Typ
   pub sees : a ≡ messageSeen gives buffer′
 
 -- the same, whether or not it flushes
-pub record Updated (t : ℕ) (e : Endpoint) (a : Answer) (e′ : Endpoint) : Type 0 where
-  pub output : List ℕ
-  pub lengths : List ℕ
-  pub room : Room output lengths
+pub record UpdateCall (t : ℕ) (e : Endpoint) (a : Reply) (e′ : Endpoint) : Type 0 where
+  pub lent : FlushParts
+  pub room : Room lent
   pub gives : Update
-  pub output′ : List ℕ
-  pub lengths′ : List ℕ
-  pub promise : UpdatePromise t (e .link) (e .parts) output lengths gives (e′ .link) (e′ .parts) output′ lengths′
-  pub sees : a ≡ updateSeen gives output′ lengths′
+  pub after : FlushParts
+  pub promise : UpdatePromise t (e .link) (e .parts) lent gives (e′ .link) (e′ .parts) after
+  pub sees : a ≡ updateSeen gives after
 
 -- block and parts are those before
-pub record Checked (t : ℕ) (e : Endpoint) (a : Answer) (e′ : Endpoint) : Type 0 where
+pub record CheckCall (t : ℕ) (e : Endpoint) (a : Reply) (e′ : Endpoint) : Type 0 where
   pub gives : Time
   pub promise : CheckPromise t (e .link) (e .parts) gives
   pub sees : a ≡ timeSeen gives
   pub same : e′ ≡ e
 
 -- the call x of the endpoint e was answered with a, and left e′
-abbrev pub Called : Endpoint → Call → Answer → Endpoint → Type 0
-Called e (Call.send m) a e′ = Sent m e a e′
-Called e (Call.takeIn d) a e′ = TakenIn d e a e′
-Called e (Call.flush t) a e′ = Flushed t e a e′
-Called e (Call.read room) a e′ = Read room e a e′
-Called e (Call.update t) a e′ = Updated t e a e′
-Called e (Call.check t) a e′ = Checked t e a e′
+abbrev pub Called : Endpoint → Call → Reply → Endpoint → Type 0
+Called e (Call.send m) a e′ = SendCall m e a e′
+Called e (Call.takeIn d) a e′ = InputCall d e a e′
+Called e (Call.flush t) a e′ = FlushCall t e a e′
+Called e (Call.read room) a e′ = ReadCall room e a e′
+Called e (Call.update t) a e′ = UpdateCall t e a e′
+Called e (Call.check t) a e′ = CheckCall t e a e′
 
 -- ---- lists of calls
 
--- each call gets block and parts as the last one left them. Telling the size and showing may stand anywhere between them, and are not listed: they
--- give neither block nor parts back, so the next call gets those of the call before
+-- each call gets block and parts as the last one left them. Telling the size and showing may stand anywhere between them, and are not
+-- listed: they give neither block nor parts back, so the next call gets those of the call before
 pub data Runs : Endpoint → List Call → List Event → Endpoint → Type 0 where
   start : {e : Endpoint} → Runs e [] [] e
-  next : (e : Endpoint) (x : Call) (a : Answer) (e′ : Endpoint) {xs : List Call} {events : List Event} {e″ : Endpoint}
+  next : (e : Endpoint) (x : Call) (a : Reply) (e′ : Endpoint) {xs : List Call} {events : List Event} {e″ : Endpoint}
       → Called e x a e′ → Runs e′ xs events e″ → Runs e (x ∷ xs) (record { call = x; answer = a } ∷ events) e″
 
 -- an accepted opening with the settings c, whatever block and bytes were there

@@ -13,13 +13,12 @@ use Rattle.session.specs.State.{Ack, Outcome, refused, done, withTimes, withSch
 use Rattle.session.specs.Input.{Took}
 use Rattle.session.specs.Flushing.{bytesOfSegments, flushing}
 use Rattle.control.specs.declared.Link.{Link}
-use Rattle.packing.specs.Packers.{Output}
 use Rattle.answers.specs.declared.Count.{Count}
 use Rattle.answers.specs.declared.Count.the-variants as count
 use Rattle.answers.specs.declared.Update.{Update}
 use Rattle.answers.specs.declared.Update.the-variants as update
-use Rattle.promises.specs.Parts.{Parts, stateIn, Stands}
-use Rattle.promises.specs.Promises.{tableOf}
+use Rattle.promises.specs.Parts.{Parts, FlushParts, stateIn, Stands}
+use Rattle.promises.specs.Promises.{tableOf, WrittenTo}
 
 -- where telling the size answers so, a read into so many bytes answers the same; 7 where they are fewer than that size
 abbrev pub readAs : Count → ℕ → Count
@@ -39,8 +38,7 @@ acksAfter (done x) acks = sets acks 0 (entriesOf (x .state .receiving .acks))
 -- ---- an update
 
 -- a flush at t of the same block and parts, but that the next flush time and the mark are the schedule's
-pub record AsFlush (t : ℕ) (l : Link) (p : Parts) (out lengths : List ℕ) (n : ℕ) (l′ : Link) (p′ : Parts)
-    (out′ lengths′ : List ℕ) : Type 0 where
+pub record AsFlush (t : ℕ) (l : Link) (p : Parts) (f : FlushParts) (n : ℕ) (l′ : Link) (p′ : Parts) (f′ : FlushParts) : Type 0 where
   pub count : n ≡ length (flushing (stateIn l p) t (p .sendPool) .datagrams)
   pub schedule : Schedule
   pub stands : Stands l′ p′ (withSchedule (flushing (stateIn l p) t (p .sendPool) .state) schedule)
@@ -48,18 +46,16 @@ pub record AsFlush (t : ℕ) (l : Link) (p : Parts) (out lengths : List ℕ) (n 
   pub receivePool : p′ .receivePool ≡ p .receivePool
   pub table : p′ .table ≡ tableOf (p .table) (flushing (stateIn l p) t (p .sendPool) .state)
   pub acks : p′ .acks ≡ p .acks
-  pub output : Output (map bytesOfSegments (flushing (stateIn l p) t (p .sendPool) .datagrams)) out lengths n out′ lengths′
+  pub output : WrittenTo (map bytesOfSegments (flushing (stateIn l p) t (p .sendPool) .datagrams)) n f f′
 
 -- the current time alone
-pub record CurrentAlone (t : ℕ) (l : Link) (p : Parts) (out lengths : List ℕ) (l′ : Link) (p′ : Parts)
-    (out′ lengths′ : List ℕ) : Type 0 where
+pub record CurrentAlone (t : ℕ) (l : Link) (p : Parts) (f : FlushParts) (l′ : Link) (p′ : Parts) (f′ : FlushParts) : Type 0 where
   pub stands : Stands l′ p′ (withTimes (stateIn l p) t (stateIn l p .schedule))
   pub parts : p′ ≡ p
-  pub output : out′ ≡ out
-  pub sizes : lengths′ ≡ lengths
+  pub flushParts : f′ ≡ f
 
 -- by the answer
-abbrev pub Treated : ℕ → Link → Parts → List ℕ → List ℕ → Update → Link → Parts → List ℕ → List ℕ → Type 0
-Treated t l p out lengths update.Waited l′ p′ out′ lengths′ = CurrentAlone t l p out lengths l′ p′ out′ lengths′
-Treated t l p out lengths (update.Wrote n) l′ p′ out′ lengths′ = AsFlush t l p out lengths n l′ p′ out′ lengths′
-Treated t l p out lengths (update.Refused r) l′ p′ out′ lengths′ = Unit {0}
+abbrev pub Treated : ℕ → Link → Parts → FlushParts → Update → Link → Parts → FlushParts → Type 0
+Treated t l p f update.Waited l′ p′ f′ = CurrentAlone t l p f l′ p′ f′
+Treated t l p f (update.Wrote n) l′ p′ f′ = AsFlush t l p f n l′ p′ f′
+Treated t l p f (update.Refused r) l′ p′ f′ = Unit {0}

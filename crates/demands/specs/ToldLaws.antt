@@ -1,4 +1,5 @@
--- What size tells is what read gives, and the ack list after an input as one equality: from the promises alone, of every block and all lent parts.
+-- What size tells is what read gives, and the ack list after an input as one equality: from the promises alone, of every block and all lent
+-- parts.
 -- Assumes nothing.
 use mathlib.Core.Path.{_≡_, refl, sym, ap, _∙_}
 use mathlib.Core.Bool.{Bool, true, false, cond, _&&_}
@@ -52,19 +53,22 @@ module _ (m : ℕ) (n : Lengths) (h : enough m n ≡ true) where
   enough-parts : (receiveSlots * m ≤ n .receive) × (2 * acksMost ≤ n .acks)
   unfolding enough
   enough-parts =
-      let a = and-parts (leb (sendSlots * m) (n .send) && leb (receiveSlots * m) (n .receive) && leb sendSlots (n .table)) (leb (2 * acksMost) (n .acks)) h in
+      let a = and-parts (leb (sendSlots * m) (n .send) && leb (receiveSlots * m) (n .receive) && leb sendSlots (n .table))
+      (leb (2 * acksMost) (n .acks)) h in
       let b = and-parts (leb (sendSlots * m) (n .send) && leb (receiveSlots * m) (n .receive)) (leb sendSlots (n .table)) (a .0) in
       let d = and-parts (leb (sendSlots * m) (n .send)) (leb (receiveSlots * m) (n .receive)) (b .0) in
       (leb-true (receiveSlots * m) (n .receive) (d .1), leb-true (2 * acksMost) (n .acks) (a .1))
 
 -- ---- a message is as long as its segments say, where the receive pool has all slots
 
-payload-length : (m : ℕ) (pool : List ℕ) (h : Held) → receiveSlots * m ≤ length pool → h .len ≤ m → h .slot < receiveSlots → length (payloadIn m pool h) ≡ h .len
+payload-length : (m : ℕ) (pool : List ℕ) (h : Held) → receiveSlots * m ≤ length pool → h .len ≤ m → h .slot < receiveSlots
+    → length (payloadIn m pool h) ≡ h .len
 payload-length m pool h room len slot =
     let top : suc (h .slot) * m ≤ receiveSlots * m = mul-le-mul-right m slot in
     omega (arith, length-take (h .len) (drop (h .slot * m) pool), length-drop (h .slot * m) pool, top)
 
-joined-length : (m k : ℕ) (pool : List ℕ) (l : List Held) → receiveSlots * m ≤ length pool → All (λ (h : Held). h .len ≤ m) l → All (λ (h : Held). h .slot < receiveSlots) l
+joined-length : (m k : ℕ) (pool : List ℕ) (l : List Held) → receiveSlots * m ≤ length pool → All (λ (h : Held). h .len ≤ m) l
+    → All (λ (h : Held). h .slot < receiveSlots) l
     → length (joinedIn m pool (take k l)) ≡ lengthOf (take k l)
 unfolding joinedIn lengthOf
 joined-length m zero pool l room a b = refl
@@ -77,9 +81,11 @@ joined-length m (suc k) pool (h ∷ l) room a b =
       joined-length m k pool l room (a .1) (b .1),
     )
 
-message-length : (s : State) (v : IsValid s) (pool : List ℕ) → receiveSlots * mss (s .settings) ≤ length pool → length (message s pool) ≡ messageSize (s .receiving)
+message-length : (s : State) (v : IsValid s) (pool : List ℕ) → receiveSlots * mss (s .settings) ≤ length pool
+    → length (message s pool) ≡ messageSize (s .receiving)
 unfolding message messageSize
-message-length s v pool room = joined-length (mss (s .settings)) (frontCount (s .receiving .ready)) pool (s .receiving .ready) room (short s v) (low s v)
+message-length s v pool room = joined-length (mss (s .settings)) (frontCount (s .receiving .ready)) pool (s .receiving .ready) room
+    (short s v) (low s v)
 
 -- ---- size and read
 
@@ -122,7 +128,8 @@ module _ (l : Link) (p : Parts) where
           → Counts (λ (x : Reads). length (x .bytes)) b (checked long made (reading (stateIn l p) (p .receivePool) (length buffer)))
           → b ≡ readAs a (length buffer)
       go true e true f t q =
-          own-read (stateIn l p) (is-valid l p f) (p .receivePool) (length buffer) (enough-parts (mss (l .settings)) (lengthsOf p) e .0) a b t q
+          own-read (stateIn l p) (is-valid l p f) (p .receivePool) (length buffer) (enough-parts (mss (l .settings)) (lengthsOf p) e .0) a b
+          t q
       go true e false f t q = refused-read a b InvalidBlock (length buffer) t q
       go false e made f t q = refused-read a b ShortPart (length buffer) t q
 
@@ -139,13 +146,15 @@ pairs-entries (suc n) (a ∷ b ∷ l) h =
     rw (e, pairs-entries n l (omega arith))
 
 -- entries put at the start, where the rest is as it was
-entries-put : (n : ℕ) (before after : List ℕ) → 2 * n ≤ length before → length after ≡ length before → drop (2 * n) after ≡ drop (2 * n) before
+entries-put : (n : ℕ) (before after : List ℕ) → 2 * n ≤ length before → length after ≡ length before
+    → drop (2 * n) after ≡ drop (2 * n) before
     → after ≡ sets before 0 (entriesOf (pairs n after))
 entries-put n before after room long rest =
     let t : length (take (2 * n) after) ≡ 2 * n = length-take-le (2 * n) after (omega arith) in
     let z : 0 + 2 * n ≡ 2 * n = omega arith in
     sym
-    (rw (pairs-entries n after (omega arith), sets-eq (take (2 * n) after) before 0 (omega arith), t, z, ← rest) (take-append-drop (2 * n) after))
+    (rw (pairs-entries n after (omega arith), sets-eq (take (2 * n) after) before 0 (omega arith), t, z, ← rest)
+    (take-append-drop (2 * n) after))
 
 and-false : (a : Bool) → (a && false) ≡ false
 and-false true = refl
@@ -166,14 +175,18 @@ took : (l : Link) (p : Parts) (l′ : Link) (p′ : Parts) (x : Took) → 2 * ac
     → p′ .acks ≡ sets (p .acks) 0 (entriesOf (x .state .receiving .acks))
 unfolding stateOf
 took l p l′ p′ x room q =
-    rw (← q .stands .state) (entries-put (l′ .arrival .acks) (p .acks) (p′ .acks) (omega (arith, acks-fit l′ (q .stands .counts))) (q .ackLength) (q .ackRest))
+    rw (← q .stands .state) (entries-put (l′ .arrival .acks) (p .acks) (p′ .acks) (omega (arith, acks-fit l′ (q .stands .counts)))
+    (q .ackLength) (q .ackRest))
 
 -- the ack list after an input, refused or not
-pub input-acks : (l : Link) (p : Parts) (d : List ℕ) (a : Answer) (l′ : Link) (p′ : Parts) → InputPromise d l p a l′ p′ → p′ .acks ≡ acksAfter (takesIn l p d) (p .acks)
+pub input-acks : (l : Link) (p : Parts) (d : List ℕ) (a : Answer) (l′ : Link) (p′ : Parts) → InputPromise d l p a l′ p′
+    → p′ .acks ≡ acksAfter (takesIn l p d) (p .acks)
 unfolding takesInWith
-input-acks l p d a l′ p′ h = go (enough (mss (l .settings)) (lengthsOf p)) refl (isMade l p) (input (stateIn l p) (p .receivePool) d) (h .leaves)
+input-acks l p d a l′ p′ h = go (enough (mss (l .settings)) (lengthsOf p)) refl (isMade l p) (input (stateIn l p) (p .receivePool) d)
+    (h .leaves)
   where
-    go : (long : Bool) → enough (mss (l .settings)) (lengthsOf p) ≡ long → (made : Bool) (own : Outcome Took) → InputLeaves (checked long made own) l l′ p p′
+    go : (long : Bool) → enough (mss (l .settings)) (lengthsOf p) ≡ long → (made : Bool) (own : Outcome Took)
+        → InputLeaves (checked long made own) l l′ p p′
         → p′ .acks ≡ acksAfter (checked long made own) (p .acks)
     go true e true (done x) q = took l p l′ p′ x (enough-parts (mss (l .settings)) (lengthsOf p) e .1) q
     go true e true (refused r) q = ap (λ (y : Parts). y .acks) (q .parts)

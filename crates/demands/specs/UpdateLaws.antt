@@ -11,7 +11,17 @@ use Rattle.protocol.specs.Ranges.{mss}
 use Rattle.protocol.specs.Serial.{isDue}
 use Rattle.sizes.specs.Sizes.{enoughToFlush}
 use Rattle.schedule.specs.Schedules.{isAstray, corrected, started, updated}
-use Rattle.schedule.specs.ScheduleLaws.{either, due-by, corrected-astray, corrected-kept, started-made, started-first, near, when-reached, when-waiting}
+use Rattle.schedule.specs.ScheduleLaws.{
+  either,
+  due-by,
+  corrected-astray,
+  corrected-kept,
+  started-made,
+  started-first,
+  near,
+  when-reached,
+  when-waiting,
+}
 use Rattle.schedule.specs.declared.Schedule.{Schedule}
 use Rattle.schedule.specs.declared.Updated.{Updated}
 use Rattle.session.specs.State.{State, Outcome, withTimes, withSchedule}
@@ -21,7 +31,7 @@ use Rattle.session.specs.Updating.{updating}
 use Rattle.control.specs.declared.Link.{Link}
 use Rattle.answers.specs.declared.Update.{Update}
 use Rattle.answers.specs.declared.Update.the-variants as update
-use Rattle.promises.specs.Parts.{Parts, lengthsOf, stateIn, isMade}
+use Rattle.promises.specs.Parts.{Parts, FlushParts, lengthsOf, stateIn, isMade}
 use Rattle.promises.specs.Outcomes.{checked, updatesWith}
 use Rattle.promises.specs.Answers.{updateAnswer}
 use Rattle.promises.specs.Promises.{UpdateLeaves, UpdatePromise}
@@ -85,37 +95,37 @@ gives s t pool ht = go (updated (s .schedule) t (s .settings .interval) .flushes
 
 -- ---- of an update
 
-module _ (t : ℕ) (l : Link) (p : Parts) (out lengths : List ℕ) (a : Update) (l′ : Link) (p′ : Parts) (out′ lengths′ : List ℕ) where
+module _ (t : ℕ) (l : Link) (p : Parts) (f : FlushParts) (a : Update) (l′ : Link) (p′ : Parts) (f′ : FlushParts) where
   treated-by : (u : session.Updates) → Gives (stateIn l p) t (p .sendPool) u → a ≡ updateAnswer (Outcome.done u)
-      → UpdateLeaves (Outcome.done u) l l′ p p′ out lengths out′ lengths′ → Treated t l p out lengths a l′ p′ out′ lengths′
+      → UpdateLeaves (Outcome.done u) l l′ p p′ f f′ → Treated t l p f a l′ p′ f′
   treated-by (session.waits x) g e h =
-      rw e (record { stands = rw g at (h .stands); parts = h .parts; output = h .output; sizes = h .sizes })
+      rw e (record { stands = rw g at (h .stands); parts = h .parts; flushParts = h .flushParts })
   treated-by (session.flushes x) g e h =
       let q = g .1 ∙ flush-scheduled (stateIn l p) (g .0) t (p .sendPool) in
-      let f = rw q at h in
+      let d = rw q at h in
       rw (e, q)
       (record {
         count = refl;
         schedule = g .0;
-        stands = f .stands;
-        sendPool = f .sendPool;
-        receivePool = f .receivePool;
-        table = f .table;
-        acks = f .acks;
-        output = f .output;
+        stands = d .stands;
+        sendPool = d .sendPool;
+        receivePool = d .receivePool;
+        table = d .table;
+        acks = d .acks;
+        output = d .output;
       })
 
   treated-checked : (long made : Bool) (u : session.Updates) → Gives (stateIn l p) t (p .sendPool) u
       → a ≡ updateAnswer (checked long made (Outcome.done u))
-      → UpdateLeaves (checked long made (Outcome.done u)) l l′ p p′ out lengths out′ lengths′
-      → Treated t l p out lengths a l′ p′ out′ lengths′
+      → UpdateLeaves (checked long made (Outcome.done u)) l l′ p p′ f f′
+      → Treated t l p f a l′ p′ f′
   treated-checked false made u g e h = rw e tt
   treated-checked true false u g e h = rw e tt
   treated-checked true true u g e h = treated-by u g e h
 
   -- AN UPDATE IS A FLUSH, OR A NEW CURRENT TIME ALONE
-  pub update-treated : t < 2 ^ 32 → UpdatePromise t l p out lengths a l′ p′ out′ lengths′ → Treated t l p out lengths a l′ p′ out′ lengths′
+  pub update-treated : t < 2 ^ 32 → UpdatePromise t l p f a l′ p′ f′ → Treated t l p f a l′ p′ f′
   unfolding updatesWith
   update-treated ht h =
-      treated-checked (enoughToFlush (mss (l .settings)) (lengthsOf p) (length out) (length lengths)) (isMade l p)
+      treated-checked (enoughToFlush (mss (l .settings)) (lengthsOf p) (length (f .output)) (length (f .lengths))) (isMade l p)
       (updating (stateIn l p) t (p .sendPool)) (gives (stateIn l p) t (p .sendPool) ht) (h .answer) (h .leaves)

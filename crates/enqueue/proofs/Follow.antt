@@ -23,74 +23,78 @@ pub marked-most : {marks : List ℕ} {k : ℕ} (l : ℕ) → k ≤ l → Marked 
 marked-most l h m = record { now = m .now; free = m .free; most = omega (arith, m .most) }
 
 module _ {s : State} {stream : Bool} {m : ℕ} {queued : List ℕ} {n k : ℕ} {marks : List ℕ} (p : PartsOf s stream m queued n k marks)
-    (pool message : List ℕ) {room first : ℕ} (has : room ≡ roomOf stream m (heldIn queued n)) (takes : first ≡ min (length message) room) where
-  abbrev used : List ℕ
-  used = slots (sendHeld (s .sending))
+    (pool message : List ℕ) {room first : ℕ} (has : room ≡ roomOf stream m (heldIn queued n)) (takes : first ≡ min (length message) room)
+  where
+    abbrev used : List ℕ
+    used = slots (sendHeld (s .sending))
 
-  abbrev f : Filled
-  f = filled stream m (s .sending .queued) pool message
+    abbrev f : Filled
+    f = filled stream m (s .sending .queued) pool message
 
-  -- what is left to cut
-  left : f .rest ≡ drop first message
-  left =
-      filled-rest m (s .sending .queued) pool message stream
-      ∙ ap (λ (q : List Held). drop (min (length message) (roomOf stream m q)) message) (p .queue)
-      ∙ ap (λ (r : ℕ). drop (min (length message) r) message) (sym has)
-      ∙ ap (λ (r : ℕ). drop r message) (sym takes)
+    -- what is left to cut
+    left : f .rest ≡ drop first message
+    left =
+        filled-rest m (s .sending .queued) pool message stream
+        ∙ ap (λ (q : List Held). drop (min (length message) (roomOf stream m q)) message) (p .queue)
+        ∙ ap (λ (r : ℕ). drop (min (length message) r) message) (sym has)
+        ∙ ap (λ (r : ℕ). drop r message) (sym takes)
 
-  left-length : length (f .rest) ≡ length message - first
-  left-length = ap length left ∙ length-drop first message
+    left-length : length (f .rest) ≡ length message - first
+    left-length = ap length left ∙ length-drop first message
 
-  long : 127 * m < length message - first → sending s pool message ≡ refused LongMessage
-  unfolding sending
-  long h = let g : 127 * m < length (f .rest) = omega (arith, left-length) in rw (p .mode, p .size, lt-ltb (127 * m) (length (f .rest)) g)
-
-  -- 10
-  pub follows-long : 127 * m < length message - first
-      → Follows (sending s pool message) queued n pool (record { answer = Refused LongMessage; queued = n }) queued pool
-  follows-long h = rw (long h) (record { answer = refl; count = refl; list = refl; pool-same = refl })
-
-  module _ {count : ℕ} (e : count ≡ segmentCount stream m (length message - first)) (h : length message - first ≤ 127 * m) where
-    short : ltb (127 * m) (length (f .rest)) ≡ false
-    short = le-ltb (127 * m) (length (f .rest)) (omega (arith, left-length))
-
-    full : k + n ≤ 128 → 128 < k + n + count → sending s pool message ≡ refused NoFreeSlots
+    long : 127 * m < length message - first → sending s pool message ≡ refused LongMessage
     unfolding sending
-    full most g =
-        let few : 128 - length used < segmentCount stream m (length (f .rest)) = rw left-length (omega (arith, p .held)) in
-        rw (p .mode, p .size, short, lt-ltb (128 - length used) (segmentCount stream m (length (f .rest))) few)
+    long h = let g : 127 * m < length (f .rest) = omega (arith, left-length) in rw (p .mode, p .size, lt-ltb (127 * m) (length (f .rest)) g)
 
-    -- 11
-    pub follows-full : k + n ≤ 128 → 128 < k + n + count
-        → Follows (sending s pool message) queued n pool (record { answer = Refused NoFreeSlots; queued = n }) queued pool
-    follows-full most g = rw (full most g) (record { answer = refl; count = refl; list = refl; pool-same = refl })
+    -- 10
+    pub follows-long : 127 * m < length message - first
+        → Follows (sending s pool message) queued n pool (record { answer = Refused LongMessage; queued = n }) queued pool
+    follows-long h = rw (long h) (record { answer = refl; count = refl; list = refl; pool-same = refl })
 
-    abbrev new : Placed
-    new = place stream m used (f .pool) (cutAs stream m (f .rest))
+    module _ {count : ℕ} (e : count ≡ segmentCount stream m (length message - first)) (h : length message - first ≤ 127 * m) where
+      short : ltb (127 * m) (length (f .rest)) ≡ false
+      short = le-ltb (127 * m) (length (f .rest)) (omega (arith, left-length))
 
-    placed : k + n + count ≤ 128 → sending s pool message ≡ done (record { state = withQueued s (f .queued ++ new .segments); pool = new .pool })
-    unfolding sending
-    placed g =
-        let enough : segmentCount stream m (length (f .rest)) ≤ 128 - length used = rw left-length (omega (arith, p .held)) in
-        rw (p .mode, p .size, short, le-ltb (128 - length used) (segmentCount stream m (length (f .rest))) enough)
+      full : k + n ≤ 128 → 128 < k + n + count → sending s pool message ≡ refused NoFreeSlots
+      unfolding sending
+      full most g =
+          let few : 128 - length used < segmentCount stream m (length (f .rest)) = rw left-length (omega (arith, p .held)) in
+          rw (p .mode, p .size, short, lt-ltb (128 - length used) (segmentCount stream m (length (f .rest))) few)
 
-    cuts : cutAs stream m (f .rest) ≡ pieces m count (drop first message)
-    unfolding cutAs
-    cuts = rw (left-length, ← e, left)
+      -- 11
+      pub follows-full : k + n ≤ 128 → 128 < k + n + count
+          → Follows (sending s pool message) queued n pool (record { answer = Refused NoFreeSlots; queued = n }) queued pool
+      follows-full most g = rw (full most g) (record { answer = refl; count = refl; list = refl; pool-same = refl })
 
-    -- accepted: the slots held are those of the state
-    pub follows-placed : k + n + count ≤ 128 → (between pool₁ after : List ℕ) (r : ℕ) (pool′ : List ℕ)
-        → ((stream : Bool) → room ≡ roomOf stream m (heldIn queued n) → Fills (filled stream m (heldIn queued n) pool message) n between pool₁)
-        → ((h : Marked marks (128 - count)) → Places (place stream m (h .now) pool₁ (pieces m count (drop first message))) between n after r pool′)
-        → Follows (sending s pool message) queued n pool (record { answer = Accepted; queued = r }) after pool′
-    follows-placed g between pool₁ after r pool′ x y =
-        let a = (rw (← p .queue) at (x stream has)) in
-        let b = (rw (← cuts, a .pool-is) at (y (record { now = used; free = p .free; most = omega (arith, p .held) }))) in
-        rw (placed g)
-        (record {
-          answer = refl;
-          whole = b .whole;
-          fits = b .fits;
-          list = b .list ∙ ap (λ (l : List Held). l ++ new .segments) (a .list);
-          pool = b .pool;
-        })
+      abbrev new : Placed
+      new = place stream m used (f .pool) (cutAs stream m (f .rest))
+
+      placed : k + n + count ≤ 128 → sending s pool message ≡ done
+          (record { state = withQueued s (f .queued ++ new .segments); pool = new .pool })
+      unfolding sending
+      placed g =
+          let enough : segmentCount stream m (length (f .rest)) ≤ 128 - length used = rw left-length (omega (arith, p .held)) in
+          rw (p .mode, p .size, short, le-ltb (128 - length used) (segmentCount stream m (length (f .rest))) enough)
+
+      cuts : cutAs stream m (f .rest) ≡ pieces m count (drop first message)
+      unfolding cutAs
+      cuts = rw (left-length, ← e, left)
+
+      -- accepted: the slots held are those of the state
+      pub follows-placed : k + n + count ≤ 128 → (between pool₁ after : List ℕ) (r : ℕ) (pool′ : List ℕ)
+          → ((stream : Bool) → room ≡ roomOf stream m (heldIn queued n)
+          → Fills (filled stream m (heldIn queued n) pool message) n between pool₁)
+          → ((h : Marked marks (128 - count))
+          → Places (place stream m (h .now) pool₁ (pieces m count (drop first message))) between n after r pool′)
+          → Follows (sending s pool message) queued n pool (record { answer = Accepted; queued = r }) after pool′
+      follows-placed g between pool₁ after r pool′ x y =
+          let a = (rw (← p .queue) at (x stream has)) in
+          let b = (rw (← cuts, a .pool-is) at (y (record { now = used; free = p .free; most = omega (arith, p .held) }))) in
+          rw (placed g)
+          (record {
+            answer = refl;
+            whole = b .whole;
+            fits = b .fits;
+            list = b .list ∙ ap (λ (l : List Held). l ++ new .segments) (a .list);
+            pool = b .pool;
+          })

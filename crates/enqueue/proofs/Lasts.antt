@@ -81,8 +81,10 @@ has-room true m ws (suc n) most h = (omega arith, omega (arith, room-some true r
 -- ---- filling
 
 module _ (m : ℕ) (ws : List ℕ) (n room : ℕ) (pool message : List ℕ) (whole : length ws ≡ 128) (most : n ≤ 128) where
-  pub fills-none : room ≡ 0 → (stream : Bool) → room ≡ roomOf stream m (heldIn ws n) → Fills (filled stream m (heldIn ws n) pool message) n ws pool
-  fills-none z stream e = rw (filled-none m (heldIn ws n) pool message stream (omega arith)) (record { whole = whole; list = refl; pool-is = refl })
+  pub fills-none : room ≡ 0 → (stream : Bool) → room ≡ roomOf stream m (heldIn ws n)
+      → Fills (filled stream m (heldIn ws n) pool message) n ws pool
+  fills-none z stream e = rw (filled-none m (heldIn ws n) pool message stream (omega arith))
+      (record { whole = whole; list = refl; pool-is = refl })
 
   -- the word w is put in place of the last one, h, and k bytes are stored behind its payload
   pub fills-some : (h : Held) (w k : ℕ) (pool′ : List ℕ) → 0 < n → 0 < room → k ≡ min (length message) room → h ≡ unpack (getD ws (n - 1) 0)

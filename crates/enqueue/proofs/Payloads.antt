@@ -36,12 +36,14 @@ pub slot-below : (slot m : ℕ) {n w : ℕ} → slot < 128 → 128 * m ≤ n →
 slot-below slot m {n} h g b = omega (arith, slot-end slot m n h g)
 
 -- the part that is copied: `total` bytes of the message, `room` bytes of the pool
-pub part-within : (m at len total room slot : ℕ) → at ≤ total → slot < 128 → 128 * m ≤ room → len ≡ min m (total - at) → (at + len ≤ total) × (slot * m + len ≤ room)
+pub part-within : (m at len total room slot : ℕ) → at ≤ total → slot < 128 → 128 * m ≤ room → len ≡ min m (total - at)
+    → (at + len ≤ total) × (slot * m + len ≤ room)
 part-within m at len total room slot h s g e = (omega arith, omega (arith, slot-end slot m room s g))
 
 module _ {m : ℕ} {message : List ℕ} {at slot : ℕ} {before : List ℕ} {len : ℕ} {after : List ℕ} where
   -- the part that is copied is the payload
-  pub part-stored : len ≡ min m (length message - at) → after ≡ sets before (slot * m) (part message at len) → Stored m message at slot before len after
+  pub part-stored : len ≡ min m (length message - at) → after ≡ sets before (slot * m) (part message at len)
+      → Stored m message at slot before len after
   part-stored e f =
       let q : len ≡ min m (length (drop at message)) = rw (length-drop at message) e in
       record { size = q ∙ sym (length-take m (drop at message)); pool = f ∙ rw (q, take-least m (drop at message)) }

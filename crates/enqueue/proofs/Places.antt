@@ -38,7 +38,8 @@ fragment-most false left f e = omega arith
 
 -- `goal` is what is to be placed in all, behind `front`. The marks are those of the slots held at first. n segments are in the array of
 -- words, free slots are looked for from `from` on, and so many payloads of `rest` are left.
-pub record Placing (stream : Bool) (m : ℕ) (marks : List ℕ) (goal : Placed) (front : List Held) (ws pool rest : List ℕ) (n from left : ℕ) : Type 0 where
+pub record Placing (stream : Bool) (m : ℕ) (marks : List ℕ) (goal : Placed) (front : List Held) (ws pool rest : List ℕ)
+    (n from left : ℕ) : Type 0 where
   -- the slots held now
   pub now : List ℕ
   pub free : Free marks now from
@@ -46,25 +47,33 @@ pub record Placing (stream : Bool) (m : ℕ) (marks : List ℕ) (goal : Placed) 
   pub written : Written 128 (map unpack ws) (place stream m now pool (pieces m left rest) .segments) (front ++ goal .segments) n
   pub pools : place stream m now pool (pieces m left rest) .pool ≡ goal .pool
 
-pub placing-start : {stream : Bool} {m : ℕ} {marks ws pool message : List ℕ} {n count : ℕ} (h : Marked marks (128 - count)) → count ≤ 128 → length ws ≡ 128 → n ≤ 128
+pub placing-start : {stream : Bool} {m : ℕ} {marks ws pool message : List ℕ} {n count : ℕ} (h : Marked marks (128 - count)) → count ≤ 128
+    → length ws ≡ 128 → n ≤ 128
     → Placing stream m marks (place stream m (h .now) pool (pieces m count message)) (heldIn ws n) ws pool message n 0 count
 placing-start {stream = stream} {m = m} {ws = ws} {pool = pool} {message = message} {n = n} {count = count} h c e b =
     record {
       now = h .now;
       free = h .free;
       room = omega (arith, h .most);
-      written = rw (take-map unpack n ws) at (written-start {l = map unpack ws} (place stream m (h .now) pool (pieces m count message) .segments) n (length-map ws unpack ∙ e) b);
+      written = rw (take-map unpack n ws) at (written-start {l = map unpack ws}
+          (place stream m (h .now) pool (pieces m count message) .segments) n (length-map ws unpack ∙ e) b);
       pools = refl;
     }
 
-module _ {stream : Bool} {m : ℕ} {marks : List ℕ} {goal : Placed} {front : List Held} {ws pool rest : List ℕ} {n from left : ℕ} (p : Placing stream m marks goal front ws pool rest n from left) where
+module _ {stream : Bool} {m : ℕ} {marks : List ℕ} {goal : Placed} {front : List Held} {ws pool rest : List ℕ} {n from left : ℕ}
+    (p : Placing stream m marks goal front ws pool rest n from left) where
   -- nothing is left
   pub placing-done : (before : List ℕ) (n₀ : ℕ) → front ≡ heldIn before n₀ → left ≤ 0 → Places goal before n₀ ws n pool
   unfolding pieces place
   placing-done before n₀ f h =
       let e : left ≡ 0 = omega arith in
       let w = written-done (rw e) (p .written) in
-      record { whole = sym (length-map ws unpack) ∙ p .written .whole; fits = w .fits; list = sym (take-map unpack n ws) ∙ w .list ∙ rw f refl; pool = rw e at (p .pools) }
+      record {
+        whole = sym (length-map ws unpack) ∙ p .written .whole;
+        fits = w .fits;
+        list = sym (take-map unpack n ws) ∙ w .list ∙ rw f refl;
+        pool = rw e at (p .pools);
+      }
 
   -- the next slot
   module _ (some : 0 < left) where
@@ -76,14 +85,16 @@ module _ {stream : Bool} {m : ℕ} {marks : List ℕ} {goal : Placed} {front : L
       lowest = sym (e ∙ free-lowest-of (p .free) 128 (omega arith) (omega (arith, p .room)))
 
       one : (k : ℕ) → left ≡ suc k → place stream m (p .now) pool (pieces m left rest) ≡ record {
-        segments = record { slot = slot; len = length (take m rest); fragment = cond stream 0 k } ∷ place stream m (slot ∷ p .now) (sets pool (slot * m) (take m rest)) (pieces m k (drop m rest)) .segments;
+        segments = record { slot = slot; len = length (take m rest); fragment = cond stream 0 k }
+            ∷ place stream m (slot ∷ p .now) (sets pool (slot * m) (take m rest)) (pieces m k (drop m rest)) .segments;
         pool = place stream m (slot ∷ p .now) (sets pool (slot * m) (take m rest)) (pieces m k (drop m rest)) .pool;
       }
       unfolding pieces place
       one k q = rw (q, lowest, length-pieces m k (drop m rest))
 
       next : (word : ℕ) → unpack word ≡ record { slot = slot; len = length (take m rest); fragment = cond stream 0 (left - 1) } → n < 128
-          → Placing stream m marks goal front (set ws n word) (sets pool (slot * m) (take m rest)) (drop m rest) (n + 1) (slot + 1) (left - 1)
+          → Placing stream m marks goal front (set ws n word) (sets pool (slot * m) (take m rest)) (drop m rest) (n + 1) (slot + 1)
+          (left - 1)
       next word u h =
           let q = one (left - 1) (omega arith) in
           let low : slot < 128 = rw e next-low in
@@ -96,7 +107,8 @@ module _ {stream : Bool} {m : ℕ} {marks : List ℕ} {goal : Placed} {front : L
           }
 
 -- a payload is stored in the next slot
-pub placing-next : {stream : Bool} {m : ℕ} {marks : List ℕ} {goal : Placed} {front : List Held} {ws pool message pool′ : List ℕ} {n left at from slot len : ℕ} (word : ℕ)
+pub placing-next : {stream : Bool} {m : ℕ} {marks : List ℕ} {goal : Placed} {front : List Held} {ws pool message pool′ : List ℕ}
+    {n left at from slot len : ℕ} (word : ℕ)
     → Placing stream m marks goal front ws pool (drop at message) n from left → 0 < left → slot ≡ nextFree marks from → n < 128
     → Stored m message at slot pool len pool′ → unpack word ≡ record { slot = slot; len = len; fragment = cond stream 0 (left - 1) }
     → Placing stream m marks goal front (set ws n word) pool′ (drop (at + len) message) (n + 1) (slot + 1) (left - 1)

@@ -111,7 +111,8 @@ fn fragment_of(stream: bool, left: usize) -> usize
     if stream { 0 } else { left }
 }
 
-// The first `count` payloads of a message from an index on take the lowest free slots, behind the n that are queued. How many are queued then.
+// The first `count` payloads of a message from an index on take the lowest free slots, behind the n that are queued. How many are queued
+// then.
 fn place(
     stream: bool,
     mss: usize,
@@ -144,7 +145,8 @@ fn place(
     next
 }
 
-// A message is sent, n segments being queued and m outstanding, whose slots are marked: 10, then 11, of what is left to cut; else it is queued.
+// A message is sent, n segments being queued and m outstanding, whose slots are marked: 10, then 11, of what is left to cut; else it is
+// queued.
 pub fn enqueue(
     stream: bool,
     mss: usize,

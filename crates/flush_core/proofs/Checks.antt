@@ -1,7 +1,7 @@
--- What a flush leaves by its checks: the flush where both pass, the refusal where one fails.
+-- What a flush and an update leave by their checks: what they do where both pass, the refusal where one fails.
 -- Assumes nothing.
-use mathlib.Core.Path.{_≡_, sym, _∙_, refl}
-use mathlib.Core.Bool.{Bool}
+use mathlib.Core.Path.{_≡_, refl, sym, ap, _∙_}
+use mathlib.Core.Bool.{Bool, true, false}
 use mathlib.Core.List.{List}
 use Prim.Native.Nat.{ℕ, _*_}
 use borrow.Author.Tests.{leb-true}
@@ -24,11 +24,15 @@ use Rattle.checking.specs.declared.Verdict.the-variants.{Passed, Refused}
 use Rattle.checking.specs.Verdicts.{verdictOf}
 use Rattle.checking.specs.VerdictLaws.{refused-by, Passes, passed-by}
 use Rattle.promises.specs.Parts.{lentLengths}
-use Rattle.promises.specs.Outcomes.{flushesWith}
+use Rattle.promises.specs.Outcomes.{flushesWith, updatesWith}
+use Rattle.promises.specs.Cores.{NoFlush}
+use Rattle.answers.specs.declared.Count.the-variants as count
+use Rattle.answers.specs.declared.Update.the-variants as update
 use Rattle.flush_core.specs.declared.Flushed.{Flushed}
-use Rattle.flush_core.specs.Flushes.{Flushable, Refuses, Runs, Core}
+use Rattle.flush_core.specs.Flushes.{Flushable, putBack, keptOf, Runs, Core}
 
-module _ (c : Settings) (f : Flight) (a : Arrival) (k : Clock) (x : Arrays) (records : List Record) (table : ℕ) (sendPool receivePool acks out lengths : List ℕ) (long : Bool) (v : Verdict)
+module _ (c : Settings) (f : Flight) (a : Arrival) (k : Clock) (x : Arrays) (records : List Record) (table : ℕ)
+    (sendPool receivePool acks out lengths : List ℕ) (long : Bool) (v : Verdict)
     (e : long ≡ enoughToFlush (mss c) (lentLengths table sendPool receivePool acks) (length out) (length lengths))
     (d : v ≡ verdictOf long (blockValid (linkOf c f a k x) records acks)) where
   abbrev block : Link
@@ -38,7 +42,6 @@ module _ (c : Settings) (f : Flight) (a : Arrival) (k : Clock) (x : Arrays) (rec
     passes : Passes long (blockValid block records acks)
     passes = passed-by long (blockValid block records acks) v d p
 
-    -- both checks passed
     pub flushable : Whole x → Flushable c f a (x .queued) (x .outstanding) (x .transmissions) records sendPool acks out lengths
     unfolding blockValid countsFit valid stateOf enoughToFlush enough
     flushable w =
@@ -61,15 +64,28 @@ module _ (c : Settings) (f : Flight) (a : Arrival) (k : Clock) (x : Arrays) (rec
           sizes = leb-true lengthsLeast (length lengths) (sizes .1);
         }
 
-    pub flushed : (t : ℕ) (r : Flushed) (l′ : Link) (out′ lengths′ : List ℕ) → Runs block records sendPool acks t out lengths r l′ out′ lengths′
-        → Core block records table sendPool receivePool acks t out lengths r l′ out′ lengths′
-    unfolding flushesWith
-    flushed t r l′ out′ lengths′ h = rw (← e, passes .long-enough, passes .valid-block) h
+    -- both checks passed
+    pub ran : (paced : Bool) (t : ℕ) (r : Flushed) (l′ : Link) (out′ lengths′ : List ℕ)
+        → Runs paced block records sendPool acks t out lengths r l′ out′ lengths′
+        → Core paced block records table sendPool receivePool acks t out lengths r l′ out′ lengths′
+    unfolding flushesWith updatesWith
+    ran false t r l′ out′ lengths′ h = (h .0, h .1, rw (← e, passes .long-enough, passes .valid-block) (h .2))
+    ran true t r l′ out′ lengths′ h = rw (← e, passes .long-enough, passes .valid-block) h
 
   -- one failed
-  pub kept : (q : Refusal) → v ≡ Refused q → (t : ℕ) (r : Flushed) → Refuses q f a k r
-      → Core block records table sendPool receivePool acks t out lengths r (linkOf c (r .flight) (r .arrival) (r .clock) x) out lengths
-  unfolding flushesWith
-  kept q p t r h =
-      rw (← e, refused-by _ long (blockValid block records acks) v q d p)
-      (record { answer = h .answer; link = rw (h .flight, h .arrival, h .clock); puts = h .changed; output = refl; sizes = refl })
+  module _ (q : Refusal) (p : v ≡ Refused q) (t : ℕ) (words : List ℕ) (r : Flushed)
+      (w : r ≡ keptOf (update.Refused q) f a k words records) where
+    abbrev after : Link
+    after = linkOf c (r .flight) (r .arrival) (r .clock) x
+
+    nothing : NoFlush q block out lengths (count.Refused q) after (putBack r) out lengths
+    nothing = rw w (record { answer = refl; link = refl; puts = refl; output = refl; sizes = refl })
+
+    pub kept : (paced : Bool) → Core paced block records table sendPool receivePool acks t out lengths r after out lengths
+    unfolding flushesWith updatesWith
+    kept false = (
+      count.Refused q,
+      ap (λ (y : Flushed). y .answer) w,
+      rw (← e, refused-by _ long (blockValid block records acks) v q d p) nothing,
+    )
+    kept true = rw (← e, refused-by _ long (blockValid block records acks) v q d p) (ap (λ (y : Flushed). y .answer) w, nothing)

@@ -1,3 +1,4 @@
 pub mod Ready
 pub mod Results
+pub mod Paces
 pub mod Checks

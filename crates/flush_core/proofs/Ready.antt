@@ -45,7 +45,8 @@ count-fits w s h k = omega arith
 flown-apart : (next una k : ℕ) → una < 2 ^ 32 → minus next una + k ≤ sendWindow → minus (plus next k) una ≤ sendWindow
 flown-apart next una k h e = omega arith
 
-module _ (c : Settings) (f : Flight) (a : Arrival) (queued outstanding transmissions : List ℕ) (records : List Record) (pool acks out lengths : List ℕ)
+module _ (c : Settings) (f : Flight) (a : Arrival) (queued outstanding transmissions : List ℕ) (records : List Record)
+    (pool acks out lengths : List ℕ)
     (p : Flushable c f a queued outstanding transmissions records pool acks out lengths) where
   range : SettingsInRange c
   range = settings-decide c .holds (p .range)
@@ -81,11 +82,13 @@ module _ (c : Settings) (f : Flight) (a : Arrival) (queued outstanding transmiss
       let room = count-fits w half (numberable w e .window-fits) apart in
       record {
         most = omega (arith, range .mtu-most);
-        inflight = rw (ap (λ (g : Flight). g .next) (d .rest), ap (λ (g : Flight). g .una) (d .rest)) (flown-apart (f .next) (f .una) k below room);
+        inflight = rw (ap (λ (g : Flight). g .next) (d .rest), ap (λ (g : Flight). g .una) (d .rest))
+            (flown-apart (f .next) (f .una) k below room);
       }
 
   -- for writing
-  pub writable : (k : Clock) (t w : ℕ) (plan : Plan) (n : Numbered) (queued′ outstanding′ transmissions′ : List ℕ) → Plans c f a k t plan → Numbers f w queued outstanding transmissions records n queued′ outstanding′ transmissions′
+  pub writable : (k : Clock) (t w : ℕ) (plan : Plan) (n : Numbered) (queued′ outstanding′ transmissions′ : List ℕ) → Plans c f a k t plan
+      → Numbers f w queued outstanding transmissions records n queued′ outstanding′ transmissions′
       → Writable (plan .flush) (a .acks) acks outstanding′ transmissions′ (n .records) (n .flight .outstanding) pool out lengths
   writable k t w plan n queued′ outstanding′ transmissions′ g e =
       rw (g .flush) (record {

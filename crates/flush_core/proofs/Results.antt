@@ -13,7 +13,7 @@ use Rattle.protocol.specs.declared.Settings.{Settings}
 use Rattle.timing.specs.declared.Record.{Record}
 use Rattle.session.specs.State.{State}
 use Rattle.session.specs.Flushing.{numberedCount, bytesOfSegments, flushing}
-use Rattle.answers.specs.declared.Count.the-variants as count
+use Rattle.answers.specs.declared.Update.the-variants as update
 use Rattle.words.specs.Words.{unpack, heldIn}
 use Rattle.control.specs.declared.Flight.{Flight}
 use Rattle.control.specs.declared.Arrival.{Arrival}
@@ -30,9 +30,10 @@ use Rattle.transmit.specs.Flushes.{FlushOf, FlushWrites}
 use Rattle.transmit.specs.FlushLaws.{flush-writes}
 use Rattle.flush_core.specs.declared.parts.Plan.{Plan}
 use Rattle.flush_core.specs.Parts.{goesBy, Plans, windowIn, withLosses, Moves, toldOf}
-use Rattle.flush_core.specs.Flushes.{Runs}
+use Rattle.flush_core.specs.Flushes.{Wrote}
 
-module _ (c : Settings) (f : Flight) (a : Arrival) (k : Clock) (queued outstanding transmissions ready waiting numbers : List ℕ) (records : List Record) (acks : List ℕ) (t : ℕ) where
+module _ (c : Settings) (f : Flight) (a : Arrival) (k : Clock) (queued outstanding transmissions ready waiting numbers : List ℕ)
+    (records : List Record) (acks : List ℕ) (t : ℕ) where
   abbrev block : Link
   block = linkOf c f a k (arrays queued outstanding transmissions ready waiting numbers)
 
@@ -43,21 +44,28 @@ module _ (c : Settings) (f : Flight) (a : Arrival) (k : Clock) (queued outstandi
   goes-by : length ready ≡ 128 → a .ready ≤ 128 → FlushOf before t (goesBy c f a t)
   unfolding stateOf
   goes-by e h =
-      let held : length (heldIn ready (a .ready)) ≡ a .ready = length-map (take (a .ready) ready) unpack ∙ length-take-le (a .ready) ready (omega arith) in
+      let held : length (heldIn ready (a .ready)) ≡ a .ready =
+      length-map (take (a .ready) ready) unpack ∙ length-take-le (a .ready) ready (omega arith) in
       record { settings = refl; carries = rw held; timeout = refl; time = refl }
 
-  module _ (pool out lengths : List ℕ) (window : ℕ) (e₁ : window ≡ windowIn c f) (plan : Plan) (n : Numbered) (queued′ outstanding′ transmissions′ : List ℕ) (w : Written) (transmissions″ out′ lengths′ : List ℕ)
-      (plans : Plans c f a k t plan) (numbered : Numbers f window queued outstanding transmissions records n queued′ outstanding′ transmissions′)
-      (writes : Writes (plan .flush) (pairs (a .acks) acks) (plan .ask) (plan .tell) (sentIn outstanding′ transmissions′ (n .records) (n .flight .outstanding)) outstanding′ (n .flight .outstanding) pool out lengths w transmissions″ out′ lengths′)
+  module _ (pool out lengths : List ℕ) (window : ℕ) (e₁ : window ≡ windowIn c f) (plan : Plan) (n : Numbered)
+      (queued′ outstanding′ transmissions′ : List ℕ) (w : Written) (transmissions″ out′ lengths′ : List ℕ)
+      (plans : Plans c f a k t plan) (numbered : Numbers f window queued outstanding transmissions records n queued′ outstanding′
+      transmissions′)
+      (writes : Writes (plan .flush) (pairs (a .acks) acks) (plan .ask) (plan .tell)
+      (sentIn outstanding′ transmissions′ (n .records) (n .flight .outstanding)) outstanding′ (n .flight .outstanding) pool out lengths w
+      transmissions″ out′ lengths′)
       (whole : length ready ≡ 128) (fit : counted f a ≡ true) where
     -- what is written is what the flush of the state writes
     written : FlushWrites before t outstanding′ (n .flight .outstanding) pool out lengths w transmissions″ out′ lengths′
     unfolding stateOf
     written =
-        flush-writes before t (goesBy c f a t) (goes-by whole (counts f a fit .ready)) pool outstanding′ (n .flight .outstanding) out lengths w transmissions″ out′ lengths′
+        flush-writes before t (goesBy c f a t) (goes-by whole (counts f a fit .ready)) pool outstanding′ (n .flight .outstanding) out
+        lengths w transmissions″ out′ lengths′
         (rw (plans .flush, plans .ask, plans .tell, numbered .sent .list, e₁) at writes)
 
-    module _ (a′ : Arrival) (k′ : Clock) (f′ : Flight) (lost : f′ ≡ withLosses c (n .flight) window (w .fast) (w .late)) (told : a′ ≡ toldOf a) (moves : Moves k (plan .probe) (w .dead) t k′) where
+    module _ (a′ : Arrival) (k′ : Clock) (f′ : Flight) (lost : f′ ≡ withLosses c (n .flight) window (w .fast) (w .late))
+        (told : a′ ≡ toldOf a) (moves : Moves k (plan .probe) (w .dead) t k′) where
       abbrev after : Link
       after = linkOf c f′ a′ k′ (arrays queued′ outstanding′ transmissions″ ready waiting numbers)
 
@@ -112,16 +120,35 @@ module _ (c : Settings) (f : Flight) (a : Arrival) (k : Clock) (queued outstandi
       unfolding countsFit
       counts-fit =
           let q = counts f a fit in
-          rw (told, lost, le-leb _ _ (numbered .queued-fits), le-leb _ _ (numbered .sent .fits), le-leb _ _ (q .ready), le-leb _ _ (q .waiting))
+          rw (
+            told,
+            lost,
+            le-leb _ _ (numbered .queued-fits),
+            le-leb _ _ (numbered .sent .fits),
+            le-leb _ _ (q .ready),
+            le-leb _ _ (q .waiting),
+          )
 
       pub runs : (words : List ℕ) → words ≡ outstanding′
-          → Runs block records pool acks t out lengths (record { answer = count.Of (w .count); flight = f′; arrival = a′; clock = k′; words = words; changed = f′ .outstanding; records = w .records }) after out′ lengths′
+          → Wrote block records pool acks t out lengths
+          (record {
+            answer = update.Wrote (w .count);
+            flight = f′;
+            arrival = a′;
+            clock = k′;
+            words = words;
+            changed = f′ .outstanding;
+            records = w .records;
+          })
+          after out′ lengths′
       runs words e =
-          let number = written .output .number ∙ length-map (flushing before t pool .datagrams) bytesOfSegments in
-          record {
-            answer = ap count.Of number;
-            counts = counts-fit;
-            state = state;
-            puts = record { words = e; changed = refl };
-            output = rw number at (written .output);
-          }
+          let number = written .output .number ∙ length-map (flushing before t pool .datagrams) bytesOfSegments in (
+            ap update.Wrote number,
+            record {
+              answer = refl;
+              counts = counts-fit;
+              state = state;
+              puts = record { words = e; changed = refl };
+              output = rw number at (written .output);
+            },
+          )

@@ -1,32 +1,38 @@
--- What the core of a flush leaves. Definitions.
+-- What the core of a flush and of an update leaves. Definitions.
 -- Assumes nothing.
 use mathlib.Core.Path.{_≡_}
-use mathlib.Core.Bool.{true}
+use mathlib.Core.Bool.{Bool, true, false}
 use mathlib.Core.List.{List}
 use Prim.Native.Nat.{ℕ, _*_, _≤_}
 use lib.ListN.{length}
 use Rattle.protocol.specs.Protocol.{sendSlots, acksMost, outputLeast, lengthsLeast}
 use Rattle.protocol.specs.Ranges.{inRange, mss}
-use Rattle.protocol.specs.declared.Refusal.{Refusal}
 use Rattle.protocol.specs.declared.Settings.{Settings}
 use Rattle.timing.specs.declared.Record.{Record}
 use Rattle.session.specs.Valid.{sendingValid}
+use Rattle.session.specs.State.{Outcome, done}
+use Rattle.session.specs.Flushing as session
 use Rattle.session.specs.Flushing.{flushing}
+use Rattle.session.specs.Updating.{flushes, updating}
+use Rattle.answers.specs.declared.Count.{Count}
 use Rattle.answers.specs.declared.Count.the-variants as count
+use Rattle.answers.specs.declared.Update.{Update}
+use Rattle.answers.specs.declared.Update.the-variants as update
 use Rattle.control.specs.declared.Flight.{Flight}
 use Rattle.control.specs.declared.Arrival.{Arrival}
 use Rattle.control.specs.declared.Clock.{Clock}
 use Rattle.control.specs.declared.Link.{Link}
 use Rattle.control.specs.Views.{sendingOf, stateOf, counted}
 use Rattle.promises.specs.Parts.{lentLengths}
-use Rattle.promises.specs.Outcomes.{flushesWith}
-use Rattle.promises.specs.Cores.{PutBack, Flushes, FlushCore}
+use Rattle.promises.specs.Outcomes.{flushesWith, updatesWith}
+use Rattle.promises.specs.Cores.{PutBack, FlushCore, UpdateCore}
 use Rattle.flush_core.specs.declared.Flushed.{Flushed}
 
 -- ---- after the checks
 
 -- what the checks of 7 and 13 have established
-pub record Flushable (c : Settings) (f : Flight) (a : Arrival) (queued outstanding transmissions : List ℕ) (records : List Record) (pool acks out lengths : List ℕ) : Type 0 where
+pub record Flushable (c : Settings) (f : Flight) (a : Arrival) (queued outstanding transmissions : List ℕ) (records : List Record)
+    (pool acks out lengths : List ℕ) : Type 0 where
   pub queued-whole : length queued ≡ 128
   pub outstanding-whole : length outstanding ≡ 32
   pub transmissions-whole : length transmissions ≡ 32
@@ -42,23 +48,40 @@ pub record Flushable (c : Settings) (f : Flight) (a : Arrival) (queued outstandi
 abbrev pub putBack : Flushed → PutBack
 putBack r = record { words = r .words; changed = r .changed; records = r .records }
 
--- a flush of the block l at t, after which it is l′
-abbrev pub Runs : Link → List Record → List ℕ → List ℕ → ℕ → List ℕ → List ℕ → Flushed → Link → List ℕ → List ℕ → Type 0
-Runs l records pool acks t out lengths r l′ out′ lengths′ =
-    Flushes (flushing (stateOf l records acks) t pool) acks out lengths (r .answer) l′ (putBack r) out′ lengths′
+-- nothing
+abbrev pub keptOf : Update → Flight → Arrival → Clock → List ℕ → List Record → Flushed
+keptOf a f v k words records = record { answer = a; flight = f; arrival = v; clock = k; words = words; changed = 0; records = records }
 
--- ---- a refusal: its number alone, and the very numbers
+-- ---- of the block l at t, after which it is l′
 
-pub record Refuses (q : Refusal) (f : Flight) (a : Arrival) (k : Clock) (r : Flushed) : Type 0 where
-  pub answer : r .answer ≡ count.Refused q
-  pub flight : r .flight ≡ f
-  pub arrival : r .arrival ≡ a
-  pub clock : r .clock ≡ k
-  pub changed : r .changed ≡ 0
+-- the flush itself
+abbrev pub Wrote : Link → List Record → List ℕ → List ℕ → ℕ → List ℕ → List ℕ → Flushed → Link → List ℕ → List ℕ → Type 0
+Wrote l records pool acks t out lengths r l′ out′ lengths′ =
+    UpdateCore (done (flushes (flushing (stateOf l records acks) t pool)))
+    l records acks out lengths (r .answer) l′ (putBack r) out′ lengths′
 
--- ---- the core: of the block l with the lent parts, which is l′ after it
+-- the answer of a flush as that of an update
+abbrev pub updateOf : Count → Update
+updateOf (count.Of n) = update.Wrote n
+updateOf (count.Refused r) = update.Refused r
 
-abbrev pub Core : Link → List Record → ℕ → List ℕ → List ℕ → List ℕ → ℕ → List ℕ → List ℕ → Flushed → Link → List ℕ → List ℕ → Type 0
-Core l records table sendPool receivePool acks t out lengths r l′ out′ lengths′ =
-    FlushCore (flushesWith l records acks (lentLengths table sendPool receivePool acks) sendPool (length out) (length lengths) t)
-    l acks out lengths (r .answer) l′ (putBack r) out′ lengths′
+-- what a flush leaves, with its count
+abbrev pub FlushLeaves : Outcome session.Flushed → Link → List ℕ → List ℕ → List ℕ → Flushed → Link → List ℕ → List ℕ → Type 0
+FlushLeaves o l acks out lengths r l′ out′ lengths′ =
+    (n : Count) × (r .answer ≡ updateOf n) × FlushCore o l acks out lengths n l′ (putBack r) out′ lengths′
+
+-- behind the checks: a flush, or where it is paced an update
+abbrev pub Runs : Bool → Link → List Record → List ℕ → List ℕ → ℕ → List ℕ → List ℕ → Flushed → Link → List ℕ → List ℕ → Type 0
+Runs false l records pool acks t out lengths r l′ out′ lengths′ =
+    FlushLeaves (done (flushing (stateOf l records acks) t pool)) l acks out lengths r l′ out′ lengths′
+Runs true l records pool acks t out lengths r l′ out′ lengths′ =
+    UpdateCore (done (updating (stateOf l records acks) t pool)) l records acks out lengths (r .answer) l′ (putBack r) out′ lengths′
+
+-- with them, and the lent parts
+abbrev pub Core : Bool → Link → List Record → ℕ → List ℕ → List ℕ → List ℕ → ℕ → List ℕ → List ℕ → Flushed → Link → List ℕ → List ℕ → Type 0
+Core false l records table sendPool receivePool acks t out lengths r l′ out′ lengths′ =
+    FlushLeaves (flushesWith l records acks (lentLengths table sendPool receivePool acks) sendPool (length out) (length lengths) t)
+    l acks out lengths r l′ out′ lengths′
+Core true l records table sendPool receivePool acks t out lengths r l′ out′ lengths′ =
+    UpdateCore (updatesWith l records acks (lentLengths table sendPool receivePool acks) sendPool (length out) (length lengths) t)
+    l records acks out lengths (r .answer) l′ (putBack r) out′ lengths′

@@ -1,7 +1,7 @@
 -- What a flush goes by, and the numbers that it leaves. Definitions.
 -- Assumes nothing.
 use mathlib.Core.Path.{_≡_}
-use mathlib.Core.Bool.{Bool, _||_}
+use mathlib.Core.Bool.{Bool, true, false, _||_}
 use Prim.Native.Nat.{ℕ, _-_}
 use Rattle.protocol.specs.Protocol.{receiveWindow}
 use Rattle.protocol.specs.Ranges.{mss, controlsCongestion}
@@ -14,9 +14,11 @@ use Rattle.timing.specs.declared.ProbeClock.{ProbeClock}
 use Rattle.control.specs.declared.Flight.{Flight}
 use Rattle.control.specs.declared.Arrival.{Arrival}
 use Rattle.control.specs.declared.Clock.{Clock}
-use Rattle.control.specs.Views.{isSet}
+use Rattle.control.specs.Views.{isSet, scheduleOf}
+use Rattle.schedule.specs.Schedules.{updated}
 use Rattle.transmit.specs.declared.Flush.{Flush}
 use Rattle.flush_core.specs.declared.parts.Plan.{Plan}
+use Rattle.flush_core.specs.declared.parts.Step.{Step}
 
 -- the settings, the link's timeout and the time; its segments carry window 128 minus ready count, and una = rcv_nxt
 abbrev pub goesBy : Settings → Flight → Arrival → ℕ → Flush
@@ -65,3 +67,28 @@ pub record Moves (k : Clock) (probe : ProbeClock) (dead : Bool) (t : ℕ) (r : C
 -- no acks, and no wish for a tell
 abbrev pub toldOf : Arrival → Arrival
 toldOf a = record { expected = a .expected; tell = 0; ready = a .ready; waiting = a .waiting; acks = 0 }
+
+-- ---- whether it flushes
+
+-- the next schedule is in the clock, which is as it was in all else
+pub record Moved (k : Clock) (t interval : ℕ) (r : Step) : Type 0 where
+  pub is : r .clock
+      ≡ record {
+        probe = k .probe;
+        current = k .current;
+        «next_flush» = r .clock .«next_flush»;
+        ask = k .ask;
+        dead = k .dead;
+        updated = r .clock .updated;
+      }
+  pub schedule : scheduleOf (r .clock) ≡ updated (scheduleOf k) t interval .schedule
+  pub flushes : r .flushes ≡ updated (scheduleOf k) t interval .flushes
+
+-- a flush leaves the schedule, and runs; an update, which is paced, moves it on, and runs if it is due
+abbrev pub Steps : Bool → Clock → ℕ → ℕ → Step → Type 0
+Steps false k t interval r = r ≡ record { clock = k; flushes = true }
+Steps true k t interval r = Moved k t interval r
+
+-- t is the current time
+abbrev pub currentOf : Clock → ℕ → Clock
+currentOf k t = record { probe = k .probe; current = t; «next_flush» = k .«next_flush»; ask = k .ask; dead = k .dead; updated = k .updated }

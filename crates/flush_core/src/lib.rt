@@ -1,12 +1,13 @@
-// The core of a flush: the numbers of a block and the records of its outstanding segments by value, its arrays lent.
-mod parts;
+// The core of a flush and of an update: the numbers of a block and the records of its outstanding segments by value, its arrays lent.
+pub mod parts;
 
-use answers::Count;
+use answers::Update;
 use checking::Verdict;
+use checking::flights;
+use checking::hearing;
 use control::Arrival;
 use control::Clock;
 use control::Flight;
-use protocol::Refusal;
 use protocol::Settings;
 use sizes::Lengths;
 use timing::Record;
@@ -14,14 +15,13 @@ ghost use mathlib.Core.Path.{_≡_};
 ghost use Prim.Native.Nat.{ℕ};
 ghost use mathlib.Core.List.{List};
 ghost use lib.ListN.{length};
-ghost use Rattle.control.specs.Views.{arrays, linkOf, Whole, blockValid};
-ghost use Rattle.checking.specs.Verdicts.{verdictOf};
-ghost use Rattle.flush_core.specs.Flushes.{Flushable, Refuses, Runs, Core};
+ghost use Rattle.control.specs.Views.{arrays, linkOf, Whole};
+ghost use Rattle.flush_core.specs.Flushes.{Flushable, keptOf, Wrote, Runs, Core};
 
-// The answer of a flush, the block's numbers after it, and what is to be put back into the table: by the words of so many
-// outstanding segments, their records.
+// The answer of an update, which a flush has too, the block's numbers after it, and what is to be put back into the table: by the words
+// of so many outstanding segments, their records.
 pub struct Flushed {
-    pub answer: Count,
+    pub answer: Update,
     pub flight: Flight,
     pub arrival: Arrival,
     pub clock: Clock,
@@ -30,18 +30,17 @@ pub struct Flushed {
     pub records: [Record; 32],
 }
 
-// A refusal leaves the numbers as they were, and nothing is to be put back.
-fn refused(
-    refusal: Refusal,
+// What did not flush, or was refused: the numbers are those given, and nothing is to be put back.
+fn kept(
+    answer: Update,
     flight: Flight,
     arrival: Arrival,
     clock: Clock,
     words: [u32; 32],
     records: [Record; 32],
 ) -> Flushed
-    ensures { λ r. ⌜ Refuses refusal flight arrival clock r ⌝ }
+    ensures { λ r. ⌜ r ≡ keptOf answer flight arrival clock words records ⌝ }
 {
-    let answer = Count::Refused(refusal);
     Flushed {
         answer,
         flight,
@@ -54,7 +53,7 @@ fn refused(
 }
 
 // A flush over a block that has passed the checks of 7 and 13.
-pub fn run(
+fn flush_now(
     settings: Settings,
     flight: Flight,
     arrival: Arrival,
@@ -71,7 +70,7 @@ pub fn run(
 ) -> Flushed
     requires { ⌜ Flushable settings flight arrival (now queued) (now outstanding) (now transmissions) records (now pool) (now acks)
         (now output) (now lengths) ⌝ }
-    ensures { λ r. ⌜ ((ready waiting numbers : List ℕ) → length ready ≡ 128 → Runs
+    ensures { λ r. ⌜ ((ready waiting numbers : List ℕ) → length ready ≡ 128 → Wrote
         (linkOf settings flight arrival clock (arrays (now (queued .entry)) (now (outstanding .entry)) (now (transmissions .entry))
         ready waiting numbers))
         records (now (pool .entry)) (now (acks .entry)) t (now (output .entry)) (now (lengths .entry)) r
@@ -104,7 +103,7 @@ pub fn run(
     let moved = parts::moved(clock, plan.probe, written.dead, t);
     let told = parts::told(arrival);
     Flushed {
-        answer: Count::Of(written.count),
+        answer: Update::Wrote(written.count),
         flight: after,
         arrival: told,
         clock: moved,
@@ -114,47 +113,59 @@ pub fn run(
     }
 }
 
-// The lent sizes, then the block.
-pub fn checked(
-    long: bool,
+// A flush, or where it is paced an update, over a block that has passed the checks of 7 and 13. An update moves the schedule on, and
+// flushes only where it is due; else the current time changes, and that alone.
+fn run(
     settings: Settings,
     flight: Flight,
     arrival: Arrival,
     clock: Clock,
     records: [Record; 32],
-    queued: &[u32; 128],
-    outstanding: &[u32; 32],
-    transmissions: &[u8; 32],
-    ready: &[u32; 128],
-    waiting: &[u32; 128],
-    waiting_numbers: &[u32; 128],
-) -> Verdict
-    requires { ⌜ Whole (arrays (now queued) (now outstanding) (now transmissions) (now ready) (now waiting) (now «waiting_numbers»)) ⌝ }
-    ensures { λ r. ⌜ ((acks : List ℕ) → r ≡ verdictOf long (blockValid (linkOf settings flight arrival clock (arrays (now (queued .entry))
-        (now (outstanding .entry)) (now (transmissions .entry)) (now (ready .entry)) (now (waiting .entry))
-        (now («waiting_numbers» .entry)))) records acks)) ⌝ }
+    paced: bool,
+    queued: &mut [u32; 128],
+    outstanding: &mut [u32; 32],
+    transmissions: &mut [u8; 32],
+    pool: &[u8],
+    acks: &[u32],
+    t: u32,
+    output: &mut [u8],
+    lengths: &mut [u16],
+) -> Flushed
+    requires { ⌜ Flushable settings flight arrival (now queued) (now outstanding) (now transmissions) records (now pool) (now acks)
+        (now output) (now lengths) ⌝ }
+    ensures { λ r. ⌜ ((ready waiting numbers : List ℕ) → length ready ≡ 128 → Runs paced
+        (linkOf settings flight arrival clock (arrays (now (queued .entry)) (now (outstanding .entry)) (now (transmissions .entry))
+        ready waiting numbers))
+        records (now (pool .entry)) (now (acks .entry)) t (now (output .entry)) (now (lengths .entry)) r
+        (linkOf settings (r .flight) (r .arrival) (r .clock) (arrays (now (queued .exit)) (now (outstanding .exit))
+        (now (transmissions .exit)) ready waiting numbers))
+        (now (output .exit)) (now (lengths .exit))) ⌝ }
 {
-    let mut send_marks = [0u8; 256];
-    let mut receive_marks = [0u8; 256];
-    checking::admit(
-        long,
-        settings,
-        flight,
-        arrival,
-        clock,
-        records,
-        queued,
-        outstanding,
-        transmissions,
-        ready,
-        waiting,
-        waiting_numbers,
-        &mut send_marks,
-        &mut receive_marks,
-    )
+    let next = parts::step_of(paced, clock, t, settings.interval);
+    if next.flushes {
+        flush_now(
+            settings,
+            flight,
+            arrival,
+            next.clock,
+            records,
+            queued,
+            outstanding,
+            transmissions,
+            pool,
+            acks,
+            t,
+            output,
+            lengths,
+        )
+    } else {
+        let words = *outstanding;
+        let waits = parts::current(next.clock, t);
+        kept(Update::Waited, flight, arrival, waits, words, records)
+    }
 }
 
-// A flush checks 7, then 13. `table` is the length of the lent table.
+// A flush and an update check 7, then 13. `table` is the length of the lent table; an update is paced.
 pub fn flush(
     settings: Settings,
     flight: Flight,
@@ -162,6 +173,7 @@ pub fn flush(
     clock: Clock,
     records: [Record; 32],
     table: usize,
+    paced: bool,
     queued: &mut [u32; 128],
     outstanding: &mut [u32; 32],
     transmissions: &mut [u8; 32],
@@ -176,7 +188,7 @@ pub fn flush(
     lengths: &mut [u16],
 ) -> Flushed
     requires { ⌜ Whole (arrays (now queued) (now outstanding) (now transmissions) (now ready) (now waiting) (now «waiting_numbers»)) ⌝ }
-    ensures { λ r. ⌜ Core
+    ensures { λ r. ⌜ Core paced
         (linkOf settings flight arrival clock (arrays (now (queued .entry)) (now (outstanding .entry)) (now (transmissions .entry))
         (now (ready .entry)) (now (waiting .entry)) (now («waiting_numbers» .entry))))
         records table (now («send_pool» .entry)) (now («receive_pool» .entry)) (now (acks .entry)) t
@@ -192,19 +204,22 @@ pub fn flush(
         acks: acks.len(),
     };
     let long = sizes::enough_to_flush(settings, lent, output.len(), lengths.len());
-    let verdict = checked(
+    let flown = flights::flight_fits(records, settings, flight);
+    let mut marks: [u8; 256] = [0; 256];
+    let verdict = hearing::admit_hearing(
         long,
         settings,
         flight,
         arrival,
         clock,
-        records,
+        flown,
         queued,
         outstanding,
         transmissions,
         ready,
         waiting,
         waiting_numbers,
+        &mut marks,
     );
     match verdict {
         Verdict::Passed => run(
@@ -213,6 +228,7 @@ pub fn flush(
             arrival,
             clock,
             records,
+            paced,
             queued,
             outstanding,
             transmissions,
@@ -224,7 +240,14 @@ pub fn flush(
         ),
         Verdict::Refused(refusal) => {
             let words = *outstanding;
-            refused(refusal, flight, arrival, clock, words, records)
+            kept(
+                Update::Refused(refusal),
+                flight,
+                arrival,
+                clock,
+                words,
+                records,
+            )
         }
     }
 }

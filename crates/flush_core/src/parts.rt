@@ -1,4 +1,4 @@
-// The parts of a flush: what it goes by, and the numbers that it leaves.
+// The parts of a flush and of an update: what they go by, and the numbers that they leave.
 use congestion::Losses;
 use congestion::rules;
 use control::Arrival;
@@ -8,14 +8,15 @@ use packing::Carried;
 use protocol::Protocol;
 use protocol::Settings;
 use protocol::serial;
+use schedule::Schedule;
 use timing::ProbeClock;
 use transmit::Flush;
 ghost use mathlib.Core.Path.{_≡_};
 ghost use Prim.Native.Nat.{_≤_};
-ghost use Rattle.control.specs.Views.{isSet};
+ghost use Rattle.control.specs.Views.{isSet, scheduleOf};
 ghost use Rattle.protocol.specs.Ranges.{mss};
 ghost use Rattle.congestion.specs.Congestions.{Countable};
-ghost use Rattle.flush_core.specs.Parts.{Plans, windowIn, lossesIn, withLosses, Moves, toldOf};
+ghost use Rattle.flush_core.specs.Parts.{Plans, windowIn, lossesIn, withLosses, Moves, toldOf, Steps, currentOf};
 
 // What a flush goes by, whether it asks and tells, and the probe clock after it.
 pub(crate) struct Plan {
@@ -130,4 +131,50 @@ pub(crate) fn told(arrival: Arrival) -> Arrival
         waiting: arrival.waiting,
         acks: 0,
     }
+}
+
+// The clock with the next schedule, and whether the flush runs.
+pub(crate) struct Step {
+    pub(crate) clock: Clock,
+    pub(crate) flushes: bool,
+}
+
+// The schedule in a clock.
+pub fn schedule_of(clock: Clock) -> Schedule
+    ensures { λ r. ⌜ r ≡ scheduleOf clock ⌝ }
+{
+    Schedule {
+        next: clock.next_flush,
+        made: clock.updated != 0,
+    }
+}
+
+// Where it is paced the schedule is moved on by an update at t; else it is as it was, and the flush runs.
+pub(crate) fn step_of(paced: bool, clock: Clock, t: u32, interval: u16) -> Step
+    ensures { λ r. ⌜ Steps paced clock t interval r ⌝ }
+{
+    if !paced {
+        return Step {
+            clock,
+            flushes: true,
+        };
+    }
+    let updated = schedule_of(clock).update(t, interval);
+    let schedule = updated.schedule;
+    let mut moved = clock;
+    moved.next_flush = schedule.next;
+    moved.updated = flag(schedule.made);
+    Step {
+        clock: moved,
+        flushes: updated.flushes,
+    }
+}
+
+// The clock with t as the current time.
+pub(crate) fn current(clock: Clock, t: u32) -> Clock
+    ensures { λ r. ⌜ r ≡ currentOf clock t ⌝ }
+{
+    let mut next = clock;
+    next.current = t;
+    next
 }

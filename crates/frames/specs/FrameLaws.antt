@@ -70,7 +70,8 @@ parity-at w ds x = go (ltb x (longest ds)) refl
     go true e = getD-listed (parityByte w ds) (longest ds) x 0 (ltb-true x (longest ds) e)
     go false e =
         let l : longest ds ≤ x = ltb-false x (longest ds) e in
-        List·getD-eq-default (listed (parityByte w ds) (longest ds)) 0 (rw (length-listed (parityByte w ds) (longest ds)) l) ∙ sym (parity-past w ds x l)
+        List·getD-eq-default (listed (parityByte w ds) (longest ds)) 0 (rw (length-listed (parityByte w ds) (longest ds)) l) ∙ sym
+        (parity-past w ds x l)
 
 pub shardAt-data : (ds : List (List ℕ)) (p : ℕ) → p < length ds → shardAt ds p ≡ shard (getD ds p [])
 unfolding shardAt
@@ -132,7 +133,8 @@ pub type-at : (s : ℕ) (ds : List (List ℕ)) (p : ℕ) → numberAt 2 (frameAt
 unfolding frameAt
 type-at s ds p = type-of (s + p) (typeAt (length ds) p) (shardAt ds p) (type-lt (length ds) p)
 
-pub len-at : (s : ℕ) (ds : List (List ℕ)) (p : ℕ) → p < length ds → length (getD ds p []) + 2 < 65536 → numberAt 2 (frameAt s ds p) 6 ≡ length (getD ds p []) + 2
+pub len-at : (s : ℕ) (ds : List (List ℕ)) (p : ℕ) → p < length ds → length (getD ds p []) + 2 < 65536
+    → numberAt 2 (frameAt s ds p) 6 ≡ length (getD ds p []) + 2
 unfolding frameAt
 len-at s ds p h l =
     len-of (s + p) (typeAt (length ds) p) (shardAt ds p) ∙ ap (λ (c : List ℕ). numberAt 2 c 0) (shardAt-data ds p h)

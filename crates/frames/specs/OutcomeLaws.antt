@@ -51,7 +51,8 @@ unfolding lengthsOk addUp largest
 add-up-most mtu [] e = (omega arith, omega arith)
 add-up-most mtu (n ∷ ns) e = go (lengthOk mtu n) refl e (λ f. add-up-most mtu ns f)
   where
-    go : (b : Bool) → lengthOk mtu n ≡ b → cond b (lengthsOk mtu ns) false ≡ true → (lengthsOk mtu ns ≡ true → (addUp ns ≤ length ns * mtu) × (largest ns ≤ mtu))
+    go : (b : Bool) → lengthOk mtu n ≡ b → cond b (lengthsOk mtu ns) false ≡ true
+        → (lengthsOk mtu ns ≡ true → (addUp ns ≤ length ns * mtu) × (largest ns ≤ mtu))
         → (n + addUp ns ≤ suc (length ns) * mtu) × (max n (largest ns) ≤ mtu)
     go false q f ih = let z : _≡_ {A = ℕ} 0 1 = cc in absurd (omega arith)
     go true q f ih =

@@ -115,7 +115,8 @@ largest-le m (d ∷ ds) h =
     let b : largest (lengthsOf ds) ≤ m = largest-le m ds (λ p l. h (suc p) (omega arith)) in
     omega arith
 
-pub largest-ge : (m : ℕ) (ds : List (List ℕ)) → 1 ≤ length ds → ((p : ℕ) → p < length ds → m ≤ length (getD ds p [])) → m ≤ largest (lengthsOf ds)
+pub largest-ge : (m : ℕ) (ds : List (List ℕ)) → 1 ≤ length ds → ((p : ℕ) → p < length ds → m ≤ length (getD ds p []))
+    → m ≤ largest (lengthsOf ds)
 unfolding lengthsOf largest
 largest-ge m [] l h = absurd (omega arith)
 largest-ge m (d ∷ ds) l h = let a : m ≤ length d = h 0 (omega arith) in omega arith
@@ -129,7 +130,8 @@ joined-append (x ∷ xs) ys = ap (λ (l : List ℕ). x ++ l) (joined-append xs y
 
 pub joined-next : (f : ℕ → List ℕ) (n : ℕ) → joined (listed f (n + 1)) ≡ joined (listed f n) ++ f n
 unfolding joined
-joined-next f n = ap joined (listed-next f n) ∙ joined-append (listed f n) (f n ∷ []) ∙ ap (λ (l : List ℕ). joined (listed f n) ++ l) (append-nil (f n))
+joined-next f n = ap joined (listed-next f n) ∙ joined-append (listed f n) (f n ∷ []) ∙ ap (λ (l : List ℕ). joined (listed f n) ++ l)
+    (append-nil (f n))
 
 lengths-append : (xs ys : List (List ℕ)) → lengthsOf (xs ++ ys) ≡ lengthsOf xs ++ lengthsOf ys
 unfolding lengthsOf
@@ -146,7 +148,8 @@ unfolding lengthsOf
 lengths-next f n = ap lengthsOf (listed-next f n) ∙ lengths-append (listed f n) (f n ∷ [])
 
 -- one more part behind those that stand there
-pub stored : (f : ℕ → List ℕ) (p at : ℕ) (out₀ out next : List ℕ) → out ≡ sets out₀ 0 (joined (listed f p)) → at ≡ length (joined (listed f p))
+pub stored : (f : ℕ → List ℕ) (p at : ℕ) (out₀ out next : List ℕ) → out ≡ sets out₀ 0 (joined (listed f p))
+    → at ≡ length (joined (listed f p))
     → next ≡ sets out at (f p) → next ≡ sets out₀ 0 (joined (listed f (p + 1)))
 stored f p at out₀ out next e l s =
     s ∙ ap₂ (λ (o : List ℕ) (a : ℕ). sets o a (f p)) e (l ∙ sym (zero-add (length (joined (listed f p)))))

@@ -101,7 +101,8 @@ unfolding total
 total-two f zero i j l m d h = absurd (not-suc-le-zero l)
 total-two f (suc n) i j l m d h = go (eqb n i) refl (eqb n j) refl (λ li lj. total-two f n i j li lj d (λ p q. h p (omega arith)))
   where
-    go : (b : Bool) → eqb n i ≡ b → (c : Bool) → eqb n j ≡ c → (i < n → j < n → total f n ≡ plus (f i) (f j)) → plus (total f n) (f n) ≡ plus (f i) (f j)
+    go : (b : Bool) → eqb n i ≡ b → (c : Bool) → eqb n j ≡ c → (i < n → j < n → total f n ≡ plus (f i) (f j))
+        → plus (total f n) (f n) ≡ plus (f i) (f j)
     go true e c g ih =
         let q : n ≡ i = eqb-true n i e in
         let lj : j < n = omega arith in

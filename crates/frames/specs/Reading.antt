@@ -94,7 +94,8 @@ holds k s ds f = same f (frameAt s ds (placeOf k f))
 unfoldable pub readGroup : ℕ → ℕ → ℕ → List (List ℕ) → Outcome
 readGroup k mtu n fs =
     cond (ltb (different (map sequenceOf fs)) k) (refused TooFewFrames)
-    (cond (not (lengthsOk mtu (lengthsOf (found k (heldShard k fs))) && every (holds k (n * (k + 2)) (found k (heldShard k fs))) fs)) (refused NotAGroup)
+    (cond (not (lengthsOk mtu (lengthsOf (found k (heldShard k fs))) && every (holds k (n * (k + 2)) (found k (heldShard k fs))) fs))
+    (refused NotAGroup)
     (wrote (found k (heldShard k fs))))
 
 -- 21 for a frame that does not pass by itself, or is of another group than the first

@@ -9,7 +9,18 @@ use lib.ListN.{length, getD}
 use lib.Seq.{ext-getD}
 use borrow.Author.Tests.{le-ltb}
 use Rattle.galois.specs.Field.{plus, double, mul, doubled, power}
-use Rattle.galois.specs.FieldLaws.{plus-comm, plus-assoc, plus-lt, zero-plus, double-plus, double-small, mul-lt, one-mul, double-mul, power-lt}
+use Rattle.galois.specs.FieldLaws.{
+  plus-comm,
+  plus-assoc,
+  plus-lt,
+  zero-plus,
+  double-plus,
+  double-small,
+  mul-lt,
+  one-mul,
+  double-mul,
+  power-lt,
+}
 use Rattle.rows.specs.Rows.{Row, behind, stepped}
 use Rattle.frames.specs.Lists.{listed, total}
 use Rattle.frames.specs.Frames.{weight}
@@ -75,7 +86,8 @@ module _ (w : ℕ) (f : ℕ → ℕ) where
   tail-all k =
       let e : k - 0 ≡ k = omega arith in
       ap (total (λ q. mul (weight w q) (f (0 + q)))) e
-      ∙ total-same (λ q. mul (weight w q) (f (0 + q))) (λ q. mul (weight w q) (f q)) k (λ q l. ap (λ (x : ℕ). mul (weight w q) (f x)) (zero-add q))
+      ∙ total-same (λ q. mul (weight w q) (f (0 + q))) (λ q. mul (weight w q) (f q)) k
+      (λ q l. ap (λ (x : ℕ). mul (weight w q) (f x)) (zero-add q))
 
   pub tail-next : ((q : ℕ) → f q < 256) → (p k : ℕ) → p < k → tail w f p k ≡ plus (stepped w (tail w f (p + 1) k)) (f p)
   unfolding tail
@@ -84,7 +96,8 @@ module _ (w : ℕ) (f : ℕ → ℕ) where
       ap (total (λ q. mul (weight w q) (f (p + q)))) e
       ∙ total-first (λ q. mul (weight w q) (f (p + q))) (k - (p + 1))
       ∙ ap₂ plus
-      (total-same (λ q. mul (weight w (suc q)) (f (p + suc q))) (λ q. mul (weight w (suc q)) (f (p + 1 + q))) (k - (p + 1)) (λ q m. ap (λ (x : ℕ). mul (weight w (suc q)) (f x)) (shift q))
+      (total-same (λ q. mul (weight w (suc q)) (f (p + suc q))) (λ q. mul (weight w (suc q)) (f (p + 1 + q))) (k - (p + 1))
+      (λ q m. ap (λ (x : ℕ). mul (weight w (suc q)) (f x)) (shift q))
       ∙ weight-next w (λ q. f (p + 1 + q)) (λ q. h (p + 1 + q)) (k - (p + 1)))
       (weight-first w (f (p + 0)) ∙ ap f (add-zero p))
     where
@@ -103,7 +116,8 @@ pub row-same : (f g : ℕ → ℕ) (n : ℕ) (row : List ℕ) → ((x : ℕ) →
 row-same f g n row h r = record { size = r .size; byte = λ x l. r .byte x l ∙ h x l }
 
 -- a list added from its first byte on
-pub added-from-0 : (was l row : List ℕ) → Row (λ x. plus (getD was x 0) (behind 0 l x)) (length was) row → Row (λ x. plus (getD was x 0) (getD l x 0)) (length was) row
+pub added-from-0 : (was l row : List ℕ) → Row (λ x. plus (getD was x 0) (behind 0 l x)) (length was) row
+    → Row (λ x. plus (getD was x 0) (getD l x 0)) (length was) row
 unfolding behind
 added-from-0 was l row r =
     record { size = r .size; byte = λ x m. r .byte x m ∙ (let e : x - 0 ≡ x = omega arith in rw (le-ltb x 0 (omega arith), e)) }
@@ -131,7 +145,8 @@ module _ (w : ℕ) (f : ℕ → ℕ → ℕ) (small : (x q : ℕ) → f x q < 25
             ∙ sym (tail-next w (f x) (small x) q k l);
       }
 
-  pub steps-done : (p m n : ℕ) (row : List ℕ) → p ≤ 0 → m ≡ n → Row (λ x. tail w (f x) p k) m row → Row (λ x. total (λ q. mul (weight w q) (f x q)) k) n row
+  pub steps-done : (p m n : ℕ) (row : List ℕ) → p ≤ 0 → m ≡ n → Row (λ x. tail w (f x) p k) m row
+      → Row (λ x. total (λ q. mul (weight w q) (f x q)) k) n row
   steps-done p m n row l e r =
       let z : p ≡ 0 = omega arith in
       record { size = r .size ∙ e; byte = λ x i. r .byte x (rw e i) ∙ ap (λ (q : ℕ). tail w (f x) q k) z ∙ tail-all w (f x) k }

@@ -36,9 +36,12 @@ pub table-long : (m : ℕ) (p : Parts) → enough m (lengthsOf p) ≡ true → s
 unfolding enough
 table-long m p e =
     let pools = leb (sendSlots * m) (length (p .sendPool)) && leb (receiveSlots * m) (length (p .receivePool)) in
-    leb-true sendSlots (length (p .table)) (and-parts pools (leb sendSlots (length (p .table))) (and-parts (pools && leb sendSlots (length (p .table))) (leb (2 * acksMost) (length (p .acks))) e .0) .1)
+    leb-true sendSlots (length (p .table)) (and-parts pools (leb sendSlots (length (p .table)))
+    (and-parts (pools && leb sendSlots (length (p .table))) (leb (2 * acksMost) (length (p .acks))) e .0) .1)
 
-pub flush-enough : (m : ℕ) (p : Parts) (output lengths : ℕ) → enoughToFlush m (lengthsOf p) output lengths ≡ true → enough m (lengthsOf p) ≡ true
+pub flush-enough : (m : ℕ) (p : Parts) (output lengths : ℕ) → enoughToFlush m (lengthsOf p) output lengths ≡ true
+    → enough m (lengthsOf p) ≡ true
 unfolding enoughToFlush
 flush-enough m p output lengths e =
-    and-parts (enough m (lengthsOf p)) (leb outputLeast output) (and-parts (enough m (lengthsOf p) && leb outputLeast output) (leb lengthsLeast lengths) e .0) .0
+    and-parts (enough m (lengthsOf p)) (leb outputLeast output)
+    (and-parts (enough m (lengthsOf p) && leb outputLeast output) (leb lengthsLeast lengths) e .0) .0

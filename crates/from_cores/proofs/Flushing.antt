@@ -14,9 +14,10 @@ use Rattle.control.specs.Views.{Whole, arraysOf}
 use Rattle.control.specs.declared.Link.{Link}
 use Rattle.records.specs.Tables.{slotsIn, scattered}
 use Rattle.answers.specs.declared.Count.{Count}
-use Rattle.promises.specs.Parts.{Parts, lengthsOf, lentLengths, partsOf, stateIn, isMade}
+use Rattle.promises.specs.Parts.{Parts, FlushParts, lengthsOf, lentLengths, partsOf, stateIn, isMade}
 use Rattle.promises.specs.Outcomes.{flushesWith, flushes}
 use Rattle.promises.specs.Answers.{Counts}
+use Rattle.promises.specs.AnswerLaws.{counts-number}
 use Rattle.promises.specs.Promises.{Flushes, FlushPromise, FlushLeaves}
 use Rattle.promises.specs.Cores as core
 use Rattle.promises.specs.Cores.{PutBack, FlushCore}
@@ -26,14 +27,20 @@ use Rattle.from_cores.proofs.Scattered.{SlotsFit, slotsOf, puts-nothing
 use Rattle.from_cores.proofs.SlotsAfter.{flush-slots}
 use Rattle.from_cores.proofs.Checked.{passed, made-valid, table-long, flush-enough}
 
+-- parts that hold the same are the same
+pub same-parts : (f f′ : FlushParts) → f′ .output ≡ f .output → f′ .lengths ≡ f .lengths → f′ ≡ f
+same-parts f f′ out lengths = λ i. record { output = out i; lengths = lengths i }
+
 -- what a flush leaves, with its records put back, whatever it is a flush of
-pub flush-leaves : (p : Parts) (out lengths : List ℕ) (a : Count) (b : PutBack) (l′ : Link) (out′ lengths′ : List ℕ) (table′ : List Record) → length (b .records) ≡ 32
+pub flush-leaves : (p : Parts) (f : FlushParts) (a : Count) (b : PutBack) (l′ : Link) (f′ : FlushParts) (table′ : List Record)
+    → length (b .records) ≡ 32
     → table′ ≡ scattered (p .table) (slotsIn (b .words) (b .changed)) (b .records) → Whole (arraysOf l′) → sendSlots ≤ length (p .table)
-    → (x : Flushed) → SlotsFit (slotsOf (x .state)) → core.Flushes x (p .acks) out lengths a l′ b out′ lengths′
-    → Flushes x l′ p (partsOf (p .sendPool) (p .receivePool) table′ (p .acks)) out lengths out′ lengths′
-flush-leaves p out lengths a b l′ out′ lengths′ table′ few put whole long x slots h =
+    → (x : Flushed) → SlotsFit (slotsOf (x .state)) → core.Flushes x (p .acks) (f .output) (f .lengths) a l′ b (f′ .output) (f′ .lengths)
+    → Flushes x l′ p (partsOf (p .sendPool) (p .receivePool) table′ (p .acks)) f f′
+flush-leaves p f a b l′ f′ table′ few put whole long x slots h =
     record {
-      stands = stands-after l′ b (h .puts) few (p .acks) (h .counts) whole (x .state) (h .state) (p .table) table′ put (p .sendPool) (p .receivePool) slots long;
+      stands = stands-after l′ b (h .puts) few (p .acks) (h .counts) whole (x .state) (h .state) (p .table) table′ put (p .sendPool)
+          (p .receivePool) slots long;
       sendPool = refl;
       receivePool = refl;
       table = table-after l′ b (h .puts) few (p .acks) (h .counts) whole (x .state) (h .state) (p .table) table′ put;
@@ -41,40 +48,53 @@ flush-leaves p out lengths a b l′ out′ lengths′ table′ few put whole lon
       output = h .output;
     }
 
-module _ (t : ℕ) (l : Link) (p : Parts) (out lengths : List ℕ) (a : Count) (b : PutBack) (l′ : Link) (out′ lengths′ : List ℕ) where
+module _ (t : ℕ) (l : Link) (p : Parts) (f : FlushParts) (a : Count) (b : PutBack) (l′ : Link) (f′ : FlushParts) where
   abbrev Left : Outcome Flushed → Type 0
-  Left o = FlushCore o l (p .acks) out lengths a l′ b out′ lengths′
+  Left o = FlushCore o l (p .acks) (f .output) (f .lengths) a l′ b (f′ .output) (f′ .lengths)
 
   abbrev flushed : Outcome Flushed
-  flushed = flushes l p (length out) (length lengths) t
+  flushed = flushes l p f t
 
   -- the records of the table, by value
   pub flush-left : (records : List Record) (n : ℕ) → Gathers l p records n → Whole (arraysOf l′)
-      → Left (flushesWith l records (p .acks) (lentLengths n (p .sendPool) (p .receivePool) (p .acks)) (p .sendPool) (length out) (length lengths) t) → FlushLeft t l p out lengths a b l′ out′ lengths′
+      → Left (flushesWith l records (p .acks) (lentLengths n (p .sendPool) (p .receivePool) (p .acks)) (p .sendPool) (length (f .output))
+      (length (f .lengths)) t) → FlushLeft t l p f a b l′ f′
   unfolding flushesWith
   flush-left records n g whole h =
-      let long = enoughToFlush (mss (l .settings)) (lengthsOf p) (length out) (length lengths) in
-      record { core = subst Left (checked-in l p records n g long (λ s. done (flushing s t (p .sendPool)))) (rw (g .len) at h); whole = whole }
+      let long = enoughToFlush (mss (l .settings)) (lengthsOf p) (length (f .output)) (length (f .lengths)) in
+      record {
+        core = subst Left (checked-in l p records n g long (λ s. done (flushing s t (p .sendPool)))) (rw (g .len) at h);
+        whole = whole;
+      }
 
-  module _ (table′ : List Record) (few : length (b .records) ≡ 32) (put : table′ ≡ scattered (p .table) (slotsIn (b .words) (b .changed)) (b .records)) (whole : Whole (arraysOf l′)) where
+  module _ (table′ : List Record) (few : length (b .records) ≡ 32)
+      (put : table′ ≡ scattered (p .table) (slotsIn (b .words) (b .changed)) (b .records)) (whole : Whole (arraysOf l′)) where
     answers : (o : Outcome Flushed) → Left o → Counts (λ (x : Flushed). length (x .datagrams)) a o
     answers (refused q) h = h .answer
     answers (done x) h = h .answer
 
-    leaves : (o : Outcome Flushed) → flushed ≡ o → Left o → FlushLeaves o l l′ p (partsOf (p .sendPool) (p .receivePool) table′ (p .acks)) out lengths out′ lengths′
+    leaves : (o : Outcome Flushed) → flushed ≡ o → Left o
+        → FlushLeaves o l l′ p (partsOf (p .sendPool) (p .receivePool) table′ (p .acks)) f f′
     unfolding flushesWith
     leaves (refused q) e h =
         let same = puts-nothing (p .table) table′ b (h .puts) put in
-        record { unchanged = record { link = h .link; parts = rw same }; output = h .output; sizes = h .sizes }
+        record { unchanged = record { link = h .link; parts = rw same }; flushParts = same-parts f f′ (h .output) (h .sizes) }
     leaves (done x) e h =
         let m = mss (l .settings) in
-        let c = passed (enoughToFlush m (lengthsOf p) (length out) (length lengths)) (isMade l p) (done (flushing (stateIn l p) t (p .sendPool))) x e in
+        let c = passed (enoughToFlush m (lengthsOf p) (length (f .output)) (length (f .lengths))) (isMade l p)
+        (done (flushing (stateIn l p) t (p .sendPool))) x e in
         let same : flushing (stateIn l p) t (p .sendPool) ≡ x = let d = c .result in cc in
         let slots : SlotsFit (slotsOf (x .state)) = rw (← same) (flush-slots (stateIn l p) t (p .sendPool) (made-valid l p (c .block))) in
-        let long = table-long m p (flush-enough m p (length out) (length lengths) (c .sizes)) in
-        flush-leaves p out lengths a b l′ out′ lengths′ table′ few put whole long x slots h
+        let long = table-long m p (flush-enough m p (length (f .output)) (length (f .lengths)) (c .sizes)) in
+        flush-leaves p f a b l′ f′ table′ few put whole long x slots h
 
-  pub flush-promised : (table′ : List Record) → length (b .records) ≡ 32 → table′ ≡ scattered (p .table) (slotsIn (b .words) (b .changed)) (b .records)
-      → FlushLeft t l p out lengths a b l′ out′ lengths′ → FlushPromise t l p out lengths a l′ (partsOf (p .sendPool) (p .receivePool) table′ (p .acks)) out′ lengths′
+  pub flush-promised : (table′ : List Record) → length (b .records) ≡ 32
+      → table′ ≡ scattered (p .table) (slotsIn (b .words) (b .changed)) (b .records)
+      → FlushLeft t l p f a b l′ f′ → FlushPromise t l p f a l′ (partsOf (p .sendPool) (p .receivePool) table′ (p .acks)) f′
   flush-promised table′ few put h =
-      record { answer = answers table′ few put (h .whole) flushed (h .core); leaves = leaves table′ few put (h .whole) flushed refl (h .core) }
+      let answer = answers table′ few put (h .whole) flushed (h .core) in
+      record {
+        answer = answer;
+        number = counts-number (λ (x : Flushed). length (x .datagrams)) a flushed answer;
+        leaves = leaves table′ few put (h .whole) flushed refl (h .core);
+      }

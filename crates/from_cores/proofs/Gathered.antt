@@ -38,14 +38,17 @@ paired-most (w ∷ ws) [] = zero-le
 paired-most (w ∷ ws) (n ∷ ns) = omega (arith, paired-most ws ns)
 
 -- a segment of a block has a record among those gathered, but for segments past 32
-joined-padded : (ws ts : List ℕ) (n : ℕ) (table : List Record) → joined (outstandingIn ws ts n) (padded (gathered table (slotsIn ws n))) ≡ joined (outstandingIn ws ts n) (gathered table (slotsIn ws n))
+joined-padded : (ws ts : List ℕ) (n : ℕ) (table : List Record)
+    → joined (outstandingIn ws ts n) (padded (gathered table (slotsIn ws n))) ≡ joined (outstandingIn ws ts n)
+    (gathered table (slotsIn ws n))
 joined-padded ws ts n table = go (leb 32 (length records)) refl
   where
     records : List Record
     records = gathered table (slotsIn ws n)
 
     many : length records ≡ min (min n 32) (length ws)
-    many = length-map (slotsIn ws n) (λ (s : ℕ). getD table s blank) ∙ length-map (take (min n 32) ws) (λ (w : ℕ). w % 256) ∙ length-take (min n 32) ws
+    many = length-map (slotsIn ws n) (λ (s : ℕ). getD table s blank) ∙ length-map (take (min n 32) ws) (λ (w : ℕ). w % 256) ∙ length-take
+        (min n 32) ws
 
     go : (b : Bool) → leb 32 (length records) ≡ b → joined (outstandingIn ws ts n) (padded records) ≡ joined (outstandingIn ws ts n) records
     go true h =
@@ -58,23 +61,28 @@ joined-padded ws ts n table = go (leb 32 (length records)) refl
 pub padded-whole : (table : List Record) (ws : List ℕ) (n : ℕ) → length (padded (gathered table (slotsIn ws n))) ≡ 32
 padded-whole table ws n =
     let records = gathered table (slotsIn ws n) in
-    let many = length-map (slotsIn ws n) (λ (s : ℕ). getD table s blank) ∙ length-map (take (min n 32) ws) (λ (w : ℕ). w % 256) ∙ length-take (min n 32) ws in
+    let many = length-map (slotsIn ws n) (λ (s : ℕ). getD table s blank) ∙ length-map (take (min n 32) ws)
+    (λ (w : ℕ). w % 256) ∙ length-take (min n 32) ws in
     let few : length records ≤ 32 = omega (arith, many) in
-    length-append records (replicate (32 - length records) blank) ∙ rw (length-replicate {A = Record} (32 - length records) blank) (omega (arith, few))
+    length-append records (replicate (32 - length records) blank) ∙ rw (length-replicate {A = Record} (32 - length records) blank)
+    (omega (arith, few))
 
 -- the state has the records joined to their segments
 pub state-joined : (l : Link) (r r′ : List Record) (acks : List ℕ)
-    → joined (outstandingIn (l .outstanding) (l .transmissions) (l .flight .outstanding)) r ≡ joined (outstandingIn (l .outstanding) (l .transmissions) (l .flight .outstanding)) r′ → stateOf l r acks ≡ stateOf l r′ acks
+    → joined (outstandingIn (l .outstanding) (l .transmissions) (l .flight .outstanding)) r ≡ joined
+    (outstandingIn (l .outstanding) (l .transmissions) (l .flight .outstanding)) r′ → stateOf l r acks ≡ stateOf l r′ acks
 unfolding stateOf
 state-joined l r r′ acks e = rw e
 
 -- blank records behind those of the table are no state
 pub state-padded : (l : Link) (p : Parts) → stateOf l (padded (recordsOf l p)) (p .acks) ≡ stateIn l p
 state-padded l p =
-    state-joined l (padded (recordsOf l p)) (recordsOf l p) (p .acks) (joined-padded (l .outstanding) (l .transmissions) (l .flight .outstanding) (take sendSlots (p .table)))
+    state-joined l (padded (recordsOf l p)) (recordsOf l p) (p .acks)
+    (joined-padded (l .outstanding) (l .transmissions) (l .flight .outstanding) (take sendSlots (p .table)))
 
 -- a call's outcome looks at the state alone
-same-checked : {B : Type 0} (long : Bool) (l : Link) (r r′ : List Record) (acks : List ℕ) (own : State → Outcome B) → stateOf l r acks ≡ stateOf l r′ acks
+same-checked : {B : Type 0} (long : Bool) (l : Link) (r r′ : List Record) (acks : List ℕ) (own : State → Outcome B)
+    → stateOf l r acks ≡ stateOf l r′ acks
     → checked long (blockValid l r acks) (own (stateOf l r acks)) ≡ checked long (blockValid l r′ acks) (own (stateOf l r′ acks))
 unfolding blockValid
 same-checked long l r r′ acks own e = rw e
@@ -88,24 +96,32 @@ pub record Gathers (l : Link) (p : Parts) (records : List Record) (n : ℕ) : Ty
 
 -- by the count that was passed
 pub gathers : (l : Link) (p : Parts) (count : ℕ) (records : List Record) (n : ℕ) → count ≡ l .flight .outstanding
-    → records ≡ padded (gathered (take sendSlots (p .table)) (slotsIn (l .outstanding) count)) → n ≡ length (p .table) → Gathers l p records n
+    → records ≡ padded (gathered (take sendSlots (p .table)) (slotsIn (l .outstanding) count)) → n ≡ length (p .table)
+    → Gathers l p records n
 gathers l p count records n e-count e-records e-n =
-    record { padding = e-records ∙ ap (λ (k : ℕ). padded (gathered (take sendSlots (p .table)) (slotsIn (l .outstanding) k))) e-count; len = e-n }
+    record {
+      padding = e-records ∙ ap (λ (k : ℕ). padded (gathered (take sendSlots (p .table)) (slotsIn (l .outstanding) k))) e-count;
+      len = e-n;
+    }
 
 module _ (l : Link) (p : Parts) (records : List Record) (n : ℕ) (g : Gathers l p records n) where
   pub state-gathered : stateOf l records (p .acks) ≡ stateIn l p
   state-gathered = ap (λ (r : List Record). stateOf l r (p .acks)) (g .padding) ∙ state-padded l p
 
   -- the outcome, where the sizes are checked in a way of the call's own
-  pub checked-in : {B : Type 0} (long : Bool) (own : State → Outcome B) → checked long (blockValid l records (p .acks)) (own (stateOf l records (p .acks))) ≡ checked long (isMade l p) (own (stateIn l p))
+  pub checked-in : {B : Type 0} (long : Bool) (own : State → Outcome B)
+      → checked long (blockValid l records (p .acks)) (own (stateOf l records (p .acks))) ≡ checked long (isMade l p) (own (stateIn l p))
   checked-in long own = same-checked long l records (recordsOf l p) (p .acks) own state-gathered
 
   pub outcome-in : {B : Type 0} (own : State → Outcome B)
-      → ownChecked l records (p .acks) (lentLengths n (p .sendPool) (p .receivePool) (p .acks)) (own (stateOf l records (p .acks))) ≡ ownChecked l (recordsOf l p) (p .acks) (lengthsOf p) (own (stateIn l p))
+      → ownChecked l records (p .acks) (lentLengths n (p .sendPool) (p .receivePool) (p .acks)) (own (stateOf l records (p .acks))) ≡
+      ownChecked l (recordsOf l p) (p .acks) (lengthsOf p) (own (stateIn l p))
   outcome-in own = rw (g .len) (checked-in (enough (mss (l .settings)) (lengthsOf p)) own)
 
   -- a block whose outstanding segments have the same slots stands for its state in the same table
-  pub stands-in : (l′ : Link) (x : State) → outstandingSlots l′ ≡ outstandingSlots l → countsFit l′ ≡ true → stateOf l′ records (p .acks) ≡ x → Stands l′ p x
+  pub stands-in : (l′ : Link) (x : State) → outstandingSlots l′ ≡ outstandingSlots l → countsFit l′ ≡ true
+      → stateOf l′ records (p .acks) ≡ x → Stands l′ p x
   stands-in l′ x f c e =
-      let same : padded (recordsOf l′ p) ≡ records = ap (λ (slots : List ℕ). padded (gathered (take sendSlots (p .table)) slots)) f ∙ sym (g .padding) in
+      let same : padded (recordsOf l′ p) ≡ records =
+      ap (λ (slots : List ℕ). padded (gathered (take sendSlots (p .table)) slots)) f ∙ sym (g .padding) in
       record { counts = c; state = sym (state-padded l′ p) ∙ ap (λ (r : List Record). stateOf l′ r (p .acks)) same ∙ e }

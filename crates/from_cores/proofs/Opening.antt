@@ -10,6 +10,7 @@ use Rattle.answers.specs.declared.Answer.{Answer}
 use Rattle.promises.specs.Parts.{Parts, recordsOf, lentLengths}
 use Rattle.promises.specs.Outcomes.{opensWith, opens}
 use Rattle.promises.specs.Answers.{Accepts}
+use Rattle.promises.specs.AnswerLaws.{accepts-number}
 use Rattle.promises.specs.Promises.{OpenPromise, OpenLeaves}
 use Rattle.promises.specs.Cores.{OpenCore}
 
@@ -22,7 +23,12 @@ module _ (c : Settings) (l : Link) (p : Parts) (a : Answer) (l′ : Link) where
   leaves (refused q) h = record { link = h .1; parts = refl }
   leaves (done s) h = (record { counts = h .counts; state = h .state (recordsOf l′ p) (p .acks) }, refl)
 
-  pub open-promised : (n : ℕ) → n ≡ length (p .table) → OpenCore (opensWith c (lentLengths n (p .sendPool) (p .receivePool) (p .acks))) l a l′ → OpenPromise c l p a l′ p
+  pub open-promised : (n : ℕ) → n ≡ length (p .table)
+      → OpenCore (opensWith c (lentLengths n (p .sendPool) (p .receivePool) (p .acks))) l a l′ → OpenPromise c l p a l′ p
   open-promised n e h =
       let k : OpenCore (opens c p) l a l′ = rw e at h in
-      record { answer = answers (opens c p) k; leaves = leaves (opens c p) k }
+      record {
+        answer = answers (opens c p) k;
+        number = accepts-number a (opens c p) (answers (opens c p) k);
+        leaves = leaves (opens c p) k;
+      }

@@ -40,7 +40,8 @@ pub record SlotsFit (l : List ℕ) : Type 0 where
 abbrev heldSlots : List Outstanding → List ℕ
 heldSlots = map (λ (o : Outstanding). o .held .slot)
 
-joined-slots : (l : List Outstanding) (rs : List Record) → length l ≤ length rs → map (λ (x : Sent). x .held .slot) (joined l rs) ≡ heldSlots l
+joined-slots : (l : List Outstanding) (rs : List Record) → length l ≤ length rs
+    → map (λ (x : Sent). x .held .slot) (joined l rs) ≡ heldSlots l
 unfolding joined
 joined-slots [] rs h = refl
 joined-slots (o ∷ l) [] h = absurd (omega arith)
@@ -52,7 +53,8 @@ joined-take [] rs = refl
 joined-take (o ∷ l) [] = refl
 joined-take (o ∷ l) (r ∷ rs) = rw (joined-take l rs)
 
-scattered-take : (table : List Record) (slots : List ℕ) (rs : List Record) → length slots ≤ length rs → scattered table slots (take (length slots) rs) ≡ scattered table slots rs
+scattered-take : (table : List Record) (slots : List ℕ) (rs : List Record) → length slots ≤ length rs
+    → scattered table slots (take (length slots) rs) ≡ scattered table slots rs
 scattered-take table slots rs h =
     sym (scattered-append table slots (take (length slots) rs) (drop (length slots) rs) (simp length-take (omega arith)))
     ∙ ap (scattered table slots) (take-append-drop (length slots) rs)
@@ -64,24 +66,29 @@ paired-slots (w ∷ ws) [] h = absurd (omega arith)
 paired-slots (w ∷ ws) (t ∷ ts) h = rw (paired-slots ws ts (omega arith))
 
 -- slots below 128 are read among the first 128 records
-gathered-first : (table : List Record) (slots : List ℕ) → AllBelow sendSlots slots → gathered (take sendSlots table) slots ≡ gathered table slots
+gathered-first : (table : List Record) (slots : List ℕ) → AllBelow sendSlots slots
+    → gathered (take sendSlots table) slots ≡ gathered table slots
 gathered-first table [] below = refl
-gathered-first table (s ∷ slots) below = rw (getD-take sendSlots table s blank (below zero (omega arith)), gathered-first table slots (λ i h. below (suc i) (omega arith)))
+gathered-first table (s ∷ slots) below =
+    rw (getD-take sendSlots table s blank (below zero (omega arith)), gathered-first table slots (λ i h. below (suc i) (omega arith)))
 
 -- ---- what scattering left
 
 -- by the words, the count and the records that were passed
-pub put-back : (table table′ : List Record) (b : PutBack) (words : List ℕ) (n : ℕ) (records : List Record) → words ≡ b .words → n ≡ b .changed → records ≡ b .records
+pub put-back : (table table′ : List Record) (b : PutBack) (words : List ℕ) (n : ℕ) (records : List Record) → words ≡ b .words
+    → n ≡ b .changed → records ≡ b .records
     → table′ ≡ scattered table (slotsIn words n) records → table′ ≡ scattered table (slotsIn (b .words) (b .changed)) (b .records)
 put-back table table′ b words n records e-words e-n e-records e = rw (← e-words, ← e-n, ← e-records) e
 
-pub puts-nothing : (table table′ : List Record) (b : PutBack) → PutsNothing b → table′ ≡ scattered table (slotsIn (b .words) (b .changed)) (b .records) → table′ ≡ table
+pub puts-nothing : (table table′ : List Record) (b : PutBack) → PutsNothing b
+    → table′ ≡ scattered table (slotsIn (b .words) (b .changed)) (b .records) → table′ ≡ table
 unfolding scattered
 puts-nothing table table′ b none e = rw none at e
 
 -- ---- a block after a call, with its records put back
 
-module _ (l : Link) (records : List Record) (acks : List ℕ) (fits : countsFit l ≡ true) (whole : Whole (arraysOf l)) (few : length records ≡ 32) where
+module _ (l : Link) (records : List Record) (acks : List ℕ) (fits : countsFit l ≡ true) (whole : Whole (arraysOf l))
+    (few : length records ≡ 32) where
   abbrev segments : List Outstanding
   segments = outstandingIn (l .outstanding) (l .transmissions) (l .flight .outstanding)
 
@@ -97,7 +104,13 @@ module _ (l : Link) (records : List Record) (acks : List ℕ) (fits : countsFit 
       let n = l .flight .outstanding in
       let all : min n 32 ≡ n = omega (arith, within) in
       rw all (paired-slots (take n (l .outstanding)) (take n (l .transmissions))
-      (omega (arith, whole .whole-outstanding, whole .whole-transmissions, length-take n (l .outstanding), length-take n (l .transmissions))))
+      (omega (
+        arith,
+        whole .whole-outstanding,
+        whole .whole-transmissions,
+        length-take n (l .outstanding),
+        length-take n (l .transmissions),
+      )))
 
   slot-count : length slots ≡ length segments
   slot-count = ap length (sym segment-slots) ∙ length-map segments (λ (o : Outstanding). o .held .slot)
@@ -105,7 +118,13 @@ module _ (l : Link) (records : List Record) (acks : List ℕ) (fits : countsFit 
   enough-slots : length slots ≤ length records
   enough-slots =
       let n = l .flight .outstanding in
-      omega (arith, few, within, length-map (take (min n 32) (l .outstanding)) (λ (w : ℕ). w % 256), length-take (min n 32) (l .outstanding))
+      omega (
+        arith,
+        few,
+        within,
+        length-map (take (min n 32) (l .outstanding)) (λ (w : ℕ). w % 256),
+        length-take (min n 32) (l .outstanding),
+      )
 
   enough-records : length segments ≤ length records
   enough-records = omega (arith, enough-slots, slot-count)
@@ -128,10 +147,13 @@ module _ (l : Link) (records : List Record) (acks : List ℕ) (fits : countsFit 
       let below : AllBelow sendSlots slots = rw state-slots at (s .below) in
       let again = gathered-scattered table slots records once (λ i h. omega (arith, below i h)) enough-slots in
       state-joined l _ records acks
-      (ap (joined segments) (gathered-first (scattered table slots records) slots below ∙ again ∙ ap (λ (n : ℕ). take n records) slot-count) ∙ joined-take segments records)
+      (ap (joined segments) (gathered-first (scattered table slots records) slots below ∙ again ∙ ap (λ (n : ℕ). take n records)
+      slot-count) ∙ joined-take segments records)
 
-module _ (l : Link) (b : PutBack) (puts : PutsAll l b) (few : length (b .records) ≡ 32) (acks : List ℕ) (fits : countsFit l ≡ true) (whole : Whole (arraysOf l))
-    (x : State) (e : stateOf l (b .records) acks ≡ x) (table table′ : List Record) (put : table′ ≡ scattered table (slotsIn (b .words) (b .changed)) (b .records)) where
+module _ (l : Link) (b : PutBack) (puts : PutsAll l b) (few : length (b .records) ≡ 32) (acks : List ℕ) (fits : countsFit l ≡ true)
+    (whole : Whole (arraysOf l))
+    (x : State) (e : stateOf l (b .records) acks ≡ x) (table table′ : List Record)
+    (put : table′ ≡ scattered table (slotsIn (b .words) (b .changed)) (b .records)) where
   put-slots : table′ ≡ scattered table (outstandingSlots l) (b .records)
   put-slots = rw (puts .words, puts .changed) at put
 
@@ -140,7 +162,12 @@ module _ (l : Link) (b : PutBack) (puts : PutsAll l b) (few : length (b .records
   table-after = put-slots ∙ table-promised l (b .records) acks fits whole few table ∙ ap (tableOf table) e
 
   -- the block stands for the state in the new table
-  pub stands-after : (sendPool receivePool : List ℕ) → SlotsFit (slotsOf x) → sendSlots ≤ length table → Stands l (partsOf sendPool receivePool table′ acks) x
+  pub stands-after : (sendPool receivePool : List ℕ) → SlotsFit (slotsOf x) → sendSlots ≤ length table
+      → Stands l (partsOf sendPool receivePool table′ acks) x
   stands-after sendPool receivePool s long =
       let again = state-again l (b .records) acks fits whole few table (rw (← e) at s) long in
-      record { counts = fits; state = ap (λ (t : List Record). stateOf l (gathered (take sendSlots t) (outstandingSlots l)) acks) put-slots ∙ again ∙ e }
+      record {
+        counts = fits;
+        state = ap (λ (t : List Record). stateOf l (gathered (take sendSlots t) (outstandingSlots l)) acks)
+            put-slots ∙ again ∙ e;
+      }

@@ -11,6 +11,7 @@ use Rattle.answers.specs.declared.Answer.{Answer}
 use Rattle.promises.specs.Parts.{Parts, lentLengths, partsOf}
 use Rattle.promises.specs.Outcomes.{sendsWith, sends}
 use Rattle.promises.specs.Answers.{Accepts}
+use Rattle.promises.specs.AnswerLaws.{accepts-number}
 use Rattle.promises.specs.Promises.{SendPromise, SendLeaves}
 use Rattle.promises.specs.Cores.{SendCore}
 use Rattle.from_cores.proofs.Gathered.{Gathers, outcome-in, stands-in}
@@ -33,8 +34,14 @@ module _ (l : Link) (p : Parts) (records : List Record) (n : ℕ) (g : Gathers l
       let s = stands-in l p records n g l′ (x .state) (h .slots) (h .counts) (h .state) in
       record { stands = record { counts = s .counts; state = s .state }; sendPool = h .pool; receivePool = refl; table = refl; acks = refl }
 
-  pub send-promised : (message : List ℕ) → Left (sendsWith l records (p .acks) (lentLengths n (p .sendPool) (p .receivePool) (p .acks)) (p .sendPool) message) → SendPromise message l p a l′ after
+  pub send-promised : (message : List ℕ)
+      → Left (sendsWith l records (p .acks) (lentLengths n (p .sendPool) (p .receivePool) (p .acks)) (p .sendPool) message)
+      → SendPromise message l p a l′ after
   unfolding sendsWith
   send-promised message h =
       let k : Left (sends l p message) = subst Left (outcome-in l p records n g (λ s. sending s (p .sendPool) message)) h in
-      record { answer = answers (sends l p message) k; leaves = leaves (sends l p message) k }
+      record {
+        answer = answers (sends l p message) k;
+        number = accepts-number a (sends l p message) (answers (sends l p message) k);
+        leaves = leaves (sends l p message) k;
+      }

@@ -147,7 +147,8 @@ unfolding flushing
 flush-slots s t pool v =
     let d = s .sending in
     let k = numberedCount (windowOf s) d in
-    let some : Some (sentSlots (withNumbered d k)) (slots (sendHeld d)) = rw (← flushed-slots d k) (some-first (sentSlots (withNumbered d k)) (slots (drop k (d .queued)))) in
+    let some : Some (sentSlots (withNumbered d k)) (slots (sendHeld d)) =
+    rw (← flushed-slots d k) (some-first (sentSlots (withNumbered d k)) (slots (drop k (d .queued)))) in
     let same = same-slots (sentAfter (s .settings) (d .roundTrip .timeout) t) (λ x. refl) (withNumbered d k) in
     rw same (fit (sentSlots (withNumbered d k)) (fit-some some (held-fit s v)))
 
@@ -196,5 +197,7 @@ unfolding applied
 input-slots s pool gs v =
     let d = s .sending in
     let held = held-fit s v in
-    let first : Some (sentSlots (d .outstanding)) (slots (sendHeld d)) = rw (slots-append (map (λ (x : Sent). x .held) (d .outstanding)) (d .queued), sent-slots (d .outstanding)) (some-first (sentSlots (d .outstanding)) (slots (d .queued))) in
+    let first : Some (sentSlots (d .outstanding)) (slots (sendHeld d)) =
+    rw (slots-append (map (λ (x : Sent). x .held) (d .outstanding)) (d .queued), sent-slots (d .outstanding))
+    (some-first (sentSlots (d .outstanding)) (slots (d .queued))) in
     fit _ (fit-skips _ (ackNumbers gs) (fit-all (s .settings) (s .current) d gs (fit-some first held)))

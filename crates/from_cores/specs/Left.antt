@@ -1,15 +1,14 @@
--- What taking in, a flush and an update have left before the records of the outstanding segments are put back into the table: the promise's own
--- outcome, and arrays that have their lengths. Definitions.
+-- What taking in, a flush and an update have left before the records of the outstanding segments are put back into the table: the promise's
+-- own outcome, and arrays that have their lengths. Definitions.
 -- Assumes nothing.
 use mathlib.Core.List.{List}
 use Prim.Native.Nat.{ℕ}
-use lib.ListN.{length}
 use Rattle.control.specs.Views.{Whole, arraysOf}
 use Rattle.control.specs.declared.Link.{Link}
 use Rattle.answers.specs.declared.Answer.{Answer}
 use Rattle.answers.specs.declared.Count.{Count}
 use Rattle.answers.specs.declared.Update.{Update}
-use Rattle.promises.specs.Parts.{Parts, recordsOf}
+use Rattle.promises.specs.Parts.{Parts, FlushParts, recordsOf}
 use Rattle.promises.specs.Outcomes.{takesIn, flushes, updates}
 use Rattle.promises.specs.Cores.{PutBack, InputCore, FlushCore, UpdateCore}
 
@@ -17,10 +16,12 @@ pub record InputLeft (datagram : List ℕ) (l : Link) (p : Parts) (a : Answer) (
   pub core : InputCore (takesIn l p datagram) l (p .receivePool) (p .acks) a l′ b pool′ acks′
   pub whole : Whole (arraysOf l′)
 
-pub record FlushLeft (t : ℕ) (l : Link) (p : Parts) (out lengths : List ℕ) (a : Count) (b : PutBack) (l′ : Link) (out′ lengths′ : List ℕ) : Type 0 where
-  pub core : FlushCore (flushes l p (length out) (length lengths) t) l (p .acks) out lengths a l′ b out′ lengths′
+pub record FlushLeft (t : ℕ) (l : Link) (p : Parts) (f : FlushParts) (a : Count) (b : PutBack) (l′ : Link) (f′ : FlushParts) : Type 0 where
+  pub core : FlushCore (flushes l p f t) l (p .acks) (f .output) (f .lengths) a l′ b (f′ .output) (f′ .lengths)
   pub whole : Whole (arraysOf l′)
 
-pub record UpdateLeft (t : ℕ) (l : Link) (p : Parts) (out lengths : List ℕ) (a : Update) (b : PutBack) (l′ : Link) (out′ lengths′ : List ℕ) : Type 0 where
-  pub core : UpdateCore (updates l p (length out) (length lengths) t) l (recordsOf l p) (p .acks) out lengths a l′ b out′ lengths′
-  pub whole : Whole (arraysOf l′)
+pub record UpdateLeft (t : ℕ) (l : Link) (p : Parts) (f : FlushParts) (a : Update) (b : PutBack) (l′ : Link) (f′ : FlushParts) : Type 0
+  where
+    pub core :
+        UpdateCore (updates l p f t) l (recordsOf l p) (p .acks) (f .output) (f .lengths) a l′ b (f′ .output) (f′ .lengths)
+    pub whole : Whole (arraysOf l′)

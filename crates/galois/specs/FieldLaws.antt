@@ -36,7 +36,8 @@ low : (a : ℕ) → a % 2 < 2
 low a = mod-lt a (zero-lt-suc 1)
 
 xor-odd : (a b : ℕ) → bitXor a b % 2 ≡ differ (a % 2) (b % 2)
-xor-odd a b = ap (λ (x : ℕ). x % 2) (xor-step a b) ∙ last (bitXor (a / 2) (b / 2)) (differ (a % 2) (b % 2)) (differ-lt (a % 2) (b % 2) (low a) (low b))
+xor-odd a b = ap (λ (x : ℕ). x % 2) (xor-step a b) ∙ last (bitXor (a / 2) (b / 2)) (differ (a % 2) (b % 2))
+    (differ-lt (a % 2) (b % 2) (low a) (low b))
   where
     last : (h d : ℕ) → d < 2 → (h * 2 + d) % 2 ≡ d
     last h d hd = omega arith
@@ -186,7 +187,8 @@ pub element : (P : ℕ → Type 0) → P 0 → P 1 → ((a : ℕ) → a < 256 �
     → ((a b : ℕ) → a < 256 → b < 256 → P a → P b → P (plus a b)) → (x : ℕ) → x < 256 → P x
 element P p0 p1 pd pp =
     bin-ind (λ (n : ℕ). n < 256 → P n) (λ h. p0)
-    (λ n ih h. subst P (whole n h) (pp (double (n / 2)) (n % 2) (double-lt (n / 2) (omega arith)) (omega arith) (pd (n / 2) (omega arith) (ih (omega arith))) (bit (n % 2) (low n))))
+    (λ n ih h. subst P (whole n h) (pp (double (n / 2)) (n % 2) (double-lt (n / 2) (omega arith)) (omega arith)
+    (pd (n / 2) (omega arith) (ih (omega arith))) (bit (n % 2) (low n))))
   where
     bit : (b : ℕ) → b < 2 → P b
     bit zero h = p0
@@ -203,7 +205,8 @@ times-none (suc n) x = let e : 0 * x ≡ 0 = omega arith in rw (e, times-none n 
 times-lt : (n a x : ℕ) → x < 256 → times n a x < 256
 unfolding times
 times-lt zero a x h = omega arith
-times-lt (suc n) a x h = plus-lt (a % 2 * x) (times n (a / 2) (double x)) (bit (a % 2) (low a)) (times-lt n (a / 2) (double x) (double-lt x h))
+times-lt (suc n) a x h = plus-lt (a % 2 * x) (times n (a / 2) (double x)) (bit (a % 2) (low a))
+    (times-lt n (a / 2) (double x) (double-lt x h))
   where
     bit : (b : ℕ) → b < 2 → b * x < 256
     bit zero l = omega arith
@@ -260,7 +263,8 @@ unfolding times
 times-double zero a x h = sym (double-small 0 (omega arith))
 times-double (suc n) a x h =
     ap₂ plus (bit-double (a % 2) x (low a)) (times-double n (a / 2) (double x) (double-lt x h))
-    ∙ sym (double-plus (a % 2 * x) (times n (a / 2) (double x)) (bit-lt (a % 2) x (low a) h) (times-lt n (a / 2) (double x) (double-lt x h)))
+    ∙ sym (double-plus (a % 2 * x) (times n (a / 2) (double x)) (bit-lt (a % 2) x (low a) h)
+    (times-lt n (a / 2) (double x) (double-lt x h)))
 
 -- a number of n bits has no more bits to go through
 times-short : (n a x : ℕ) → a < 2 ^ n → times (suc n) a x ≡ times n a x

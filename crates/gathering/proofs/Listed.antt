@@ -23,17 +23,20 @@ slots-counted ws n k e f = f ∙ sym (length-map (take (min n 32) ws) (λ (w : �
 pub slot-listed : (ws : List ℕ) (n i s : ℕ) → s ≡ getD ws i 0 % 256 → i < length (slotsIn ws n) → s ≡ getD (slotsIn ws n) i 0
 slot-listed ws n i s e h =
     let within : i < min n 32 = omega (arith, length-map (take (min n 32) ws) (λ (w : ℕ). w % 256), length-take (min n 32) ws) in
-    e ∙ ap (λ (w : ℕ). w % 256) (sym (getD-take (min n 32) ws i 0 within)) ∙ sym (List·getD-map (λ (w : ℕ). w % 256) (take (min n 32) ws) i 0)
+    e ∙ ap (λ (w : ℕ). w % 256) (sym (getD-take (min n 32) ws i 0 within)) ∙ sym
+    (List·getD-map (λ (w : ℕ). w % 256) (take (min n 32) ws) i 0)
 
 -- what is read for a word is the record at its slot among the first 128
-pub reached : (table : List Record) (word k : ℕ) (r : Record) → length table < 2 ^ 64 → k ≡ reach word → r ≡ getD table k blank → r ≡ getD (take sendSlots table) (word % 256) blank
+pub reached : (table : List Record) (word k : ℕ) (r : Record) → length table < 2 ^ 64 → k ≡ reach word → r ≡ getD table k blank
+    → r ≡ getD (take sendSlots table) (word % 256) blank
 reached table word k r room e f = f ∙ go (ltb (word % 256) sendSlots) refl
   where
     go : (b : Bool) → ltb (word % 256) sendSlots ≡ b → getD table k blank ≡ getD (take sendSlots table) (word % 256) blank
     go true h = rw (e, h) (sym (getD-take sendSlots table (word % 256) blank (ltb-true _ _ h)))
     go false h =
         let past : sendSlots ≤ word % 256 = ltb-false _ _ h in
-        rw (e, h) (List·getD-eq-default table blank (omega arith) ∙ sym (List·getD-eq-default (take sendSlots table) blank (omega (arith, past, length-take sendSlots table))))
+        rw (e, h) (List·getD-eq-default table blank (omega arith) ∙ sym
+        (List·getD-eq-default (take sendSlots table) blank (omega (arith, past, length-take sendSlots table))))
 
 pub reach-slot : (word s : ℕ) → s ≡ word % 256 → s < sendSlots → s ≡ reach word
 reach-slot word s e h = rw (← e, lt-ltb s sendSlots h)

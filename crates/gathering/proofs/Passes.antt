@@ -17,7 +17,8 @@ module _ (mode una next : ℕ) (table : List Record) (slots : List ℕ) (i : ℕ
   passed least l = leastAfterAll mode una next least (gathered table l)
 
   -- one more record, at slot k
-  pub passes-more : (k a b goal : ℕ) (r : Record) → i < length slots → goal ≡ passed a (drop i slots) → k ≡ getD slots i 0 → r ≡ getD table k blank
+  pub passes-more : (k a b goal : ℕ) (r : Record) → i < length slots → goal ≡ passed a (drop i slots) → k ≡ getD slots i 0
+      → r ≡ getD table k blank
       → b ≡ leastAfter mode una next a r → goal ≡ passed b (drop (i + 1) slots)
   unfolding leastAfterAll
   passes-more k a b goal r h e e-k e-r e-b =
@@ -31,7 +32,8 @@ module _ (mode una next : ℕ) (table : List Record) (slots : List ℕ) (i : ℕ
   passes-all a goal h e = e ∙ ap (passed a) (drop-of-length-le slots {i = i} h)
 
 -- the records of n outstanding segments are the first n of 32
-pub first-padded : (table : List Record) (ws : List ℕ) (n : ℕ) → length ws ≡ 32 → take n (padded (gathered table (slotsIn ws n))) ≡ gathered table (slotsIn ws n)
+pub first-padded : (table : List Record) (ws : List ℕ) (n : ℕ) → length ws ≡ 32
+    → take n (padded (gathered table (slotsIn ws n))) ≡ gathered table (slotsIn ws n)
 first-padded table ws n e = go (decLt n 32)
   where
     l : List Record

@@ -8,6 +8,10 @@ use Rattle.protocol.specs.Ranges.{mss}
 use Rattle.protocol.specs.declared.Settings.{Settings}
 use Rattle.congestion.specs.Congestions.{afterDatagram, Growable}
 use Rattle.timing.specs.declared.Record.{Record}
+use Rattle.datagram.specs.declared.Checked.{Checked}
+use Rattle.datagram.specs.declared.Checked.the-variants as checked
+use Rattle.checking.specs.declared.Verdict.{Verdict}
+use Rattle.checking.specs.declared.Verdict.the-variants as verdict
 use Rattle.session.specs.State.{Outcome}
 use Rattle.session.specs.Input.{Took}
 use Rattle.control.specs.Views.{Arrays, arraysOf, linkOf, Whole, countsFit}
@@ -20,6 +24,11 @@ use Rattle.acknowledge.specs.Flights.{View, view, InOrder}
 use Rattle.receive.specs.Halves.{Half, halfOf, Sound}
 use Rattle.receive.specs.Pushes.{Marked}
 use Rattle.input_core.specs.declared.Taken.{Taken}
+
+-- what the checks of 7 and 13 say, then those of the datagram
+abbrev pub checkedBy : Verdict → Checked → Checked
+checkedBy verdict.Passed x = x
+checkedBy (verdict.Refused q) x = checked.Refused q
 
 -- the segments in flight of a block, and its receiving half
 abbrev pub flightOf : Link → List Record → View
@@ -52,7 +61,9 @@ grownFrom c before after =
 
 -- what the call leaves: `gives` is what the definition gives for the block with the numbers f and a and the arrays x; the answer, the
 -- numbers afterwards and what goes back into the table are t's
-abbrev pub Takes : (Link → Outcome Took) → Settings → Flight → Arrival → Clock → Arrays → List ℕ → List ℕ → Taken → Arrays → List ℕ → List ℕ → Type 0
+abbrev pub Takes : (Link → Outcome Took) → Settings → Flight → Arrival → Clock → Arrays → List ℕ → List ℕ → Taken → Arrays → List ℕ → List ℕ
+    → Type 0
 Takes gives c f a k x pool acks t x′ pool′ acks′ =
     let l = linkOf c f a k x in
-    InputCore (gives l) l pool acks (t .answer) (linkOf c (t .flight) (t .arrival) k x′) (record { words = t .words; changed = t .changed; records = t .records }) pool′ acks′
+    InputCore (gives l) l pool acks (t .answer) (linkOf c (t .flight) (t .arrival) k x′)
+    (record { words = t .words; changed = t .changed; records = t .records }) pool′ acks′

@@ -10,6 +10,7 @@ use protocol::Settings;
 use sizes::Lengths;
 use timing::Record;
 ghost use mathlib.Core.Path.{_≡_};
+ghost use Prim.Native.Nat.{ℕ};
 ghost use Rattle.session.specs.Input.{input};
 ghost use Rattle.control.specs.Views.{arrays, linkOf, Whole, stateOf};
 ghost use Rattle.checking.specs.Verdicts.{Flown};
@@ -17,7 +18,9 @@ ghost use Rattle.promises.specs.Parts.{lentLengths};
 ghost use Rattle.promises.specs.Outcomes.{takesInWith};
 ghost use Rattle.protocol.specs.Ranges.{mss};
 ghost use Rattle.congestion.specs.Congestions.{Growable};
-ghost use Rattle.input_core.specs.Taking.{Hearable, grownFrom, Takes};
+ghost use Rattle.datagram.specs.Datagrams.{parse, counted};
+ghost use Rattle.datagram.specs.StepLaws.{Begun};
+ghost use Rattle.input_core.specs.Taking.{checkedBy, Hearable, grownFrom, Takes};
 
 // The answer, the numbers of both halves, and what goes back into the table: the first `changed` of the records, by their words.
 pub struct Taken {
@@ -41,8 +44,17 @@ fn grown(settings: Settings, before: Flight, after: Flight) -> Flight
     flight
 }
 
-// A datagram over a block that has passed the checks of 7 and 13. Nothing is applied until all its segments have passed; then both
-// halves hear it.
+// What the checks of 7 and 13 say, then those of the datagram, 1 to 6 and 14.
+fn checked_by(verdict: Verdict, datagram: &[u8], conv: u32, mss: usize) -> Checked
+    ensures { λ r. ⌜ r ≡ checkedBy verdict (counted 0 (parse conv mss (now (datagram .entry)))) ⌝ }
+{
+    match verdict {
+        Verdict::Passed => datagram::check(datagram, conv, mss),
+        Verdict::Refused(refusal) => Checked::Refused(refusal),
+    }
+}
+
+// A datagram that has passed all checks is heard by both halves.
 fn hear(
     settings: Settings,
     flight: Flight,
@@ -61,7 +73,8 @@ fn hear(
     datagram: &[u8],
 ) -> Taken
     requires { ⌜ Hearable (linkOf settings flight arrival clock (arrays (now queued) (now outstanding) (now transmissions)
-        (now ready) (now waiting) (now «waiting_numbers»))) records (now marks) (now acks) (now «receive_pool») ⌝ }
+        (now ready) (now waiting) (now «waiting_numbers»))) records (now marks) (now acks) (now «receive_pool»)
+        × ((n : ℕ) × Begun (settings .conv) (mss settings) (now datagram) n) ⌝ }
     ensures { λ r. ⌜ Takes (λ l. input (stateOf l records (now (acks .entry))) (now («receive_pool» .entry)) (now (datagram .entry)))
         settings flight arrival clock
         (arrays (now (queued .entry)) (now (outstanding .entry)) (now (transmissions .entry))
@@ -71,19 +84,6 @@ fn hear(
         (now (ready .exit)) (now (waiting .exit)) (now («waiting_numbers» .exit)))
         (now («receive_pool» .exit)) (now (acks .exit)) ⌝ }
 {
-    let mss = settings.mss();
-    let verdict = datagram::check(datagram, settings.conv, mss);
-    if let Checked::Refused(q) = verdict {
-        let words = *outstanding;
-        return Taken {
-            answer: Answer::Refused(q),
-            flight,
-            arrival,
-            words,
-            changed: 0,
-            records,
-        };
-    }
     let sent = acknowledge::hear(
         flight,
         records,
@@ -117,7 +117,8 @@ fn hear(
     }
 }
 
-// Taking in checks 7, 13, then 1 to 6. `table` is the length of the lent table, `flown` tells whether the records fit.
+// Taking in checks 7, 13, then 1 to 6 and 14; nothing is applied until all segments have passed. `table` is the length of the lent table,
+// `flown` tells whether the records fit.
 pub fn input(
     settings: Settings,
     flight: Flight,
@@ -174,7 +175,9 @@ pub fn input(
         waiting_numbers,
         &mut marks,
     );
-    if let Verdict::Refused(q) = verdict {
+    let mss = settings.mss();
+    let checked = checked_by(verdict, datagram, settings.conv, mss);
+    if let Checked::Refused(q) = checked {
         let words = *outstanding;
         return Taken {
             answer: Answer::Refused(q),

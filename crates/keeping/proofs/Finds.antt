@@ -28,7 +28,8 @@ ltb-suc i n = go (decLt i n)
     go (no h) = le-ltb (suc i) (suc n) (omega arith) ∙ sym (le-ltb i n (omega arith))
 
 -- the list is in order, and index i is the first whose offset is not below k: k is held there or not at all
-place-held : {A : Type 0} (offset : A → ℕ) (k : ℕ) (l : List A) (i : ℕ) (d : A) (least limit : ℕ) → i ≤ length l → ((j : ℕ) → j < i → offset (getD l j d) < k) → (i < length l → k ≤ offset (getD l i d))
+place-held : {A : Type 0} (offset : A → ℕ) (k : ℕ) (l : List A) (i : ℕ) (d : A) (least limit : ℕ) → i ≤ length l
+    → ((j : ℕ) → j < i → offset (getD l j d) < k) → (i < length l → k ≤ offset (getD l i d))
     → ascending offset least limit l ≡ true → isHeld offset k l ≡ (ltb i (length l) && eqb (offset (getD l i d)) k)
 unfolding isHeld
 place-held offset k [] zero d least limit w b g a = refl
@@ -36,15 +37,21 @@ place-held offset k [] (suc i) d least limit w b g a = absurd (not-suc-le-zero w
 place-held offset k (x ∷ l) zero d least limit w b g a = rw (lt-ltb 0 (suc (length l)) (omega arith)) (go (isHeld offset k l) refl)
   where
     go : (t : Bool) → isHeld offset k l ≡ t → (eqb (offset x) k || t) ≡ eqb (offset x) k
-    go true e = absurd (omega (arith, g (omega arith), ascending-held offset k (offset x + 1) limit l (ascending-first offset least limit x l a .later) e .0))
+    go true e = absurd (omega (
+      arith,
+      g (omega arith),
+      ascending-held offset k (offset x + 1) limit l (ascending-first offset least limit x l a .later) e .0,
+    ))
     go false e = or-false (eqb (offset x) k)
 place-held offset k (x ∷ l) (suc i) d least limit w b g a =
     let less : offset x < k = b 0 (omega arith) in
     rw (ne-eqb (offset x) k (λ q. omega arith), ltb-suc i (length l))
-    (place-held offset k l i d (offset x + 1) limit (le-of-suc-le-suc w) (λ j h. b (suc j) (omega arith)) (λ h. g (omega arith)) (ascending-first offset least limit x l a .later))
+    (place-held offset k l i d (offset x + 1) limit (le-of-suc-le-suc w) (λ j h. b (suc j) (omega arith)) (λ h. g (omega arith))
+    (ascending-first offset least limit x l a .later))
 
 module _ (next sn : ℕ) (ns : List ℕ) (n i : ℕ) (f : length ns ≡ 128) (few : n ≤ 128) (p : Placed next (minus sn next) ns n i) where
-  is-held : (ws : List ℕ) → length ws ≡ 128 → Ascends next n ws ns → isHeld (waitingOffset next) (minus sn next) (take n (paired waitingAt ws ns)) ≡ isAt ns n i next (minus sn next)
+  is-held : (ws : List ℕ) → length ws ≡ 128 → Ascends next n ws ns
+      → isHeld (waitingOffset next) (minus sn next) (take n (paired waitingAt ws ns)) ≡ isAt ns n i next (minus sn next)
   is-held ws e a =
       place-held (waitingOffset next) (minus sn next) (take n (paired waitingAt ws ns)) i blank 0 128 (rw size (p .within))
       (λ j h. rw (here j (omega (arith, p .within))) (p .below j h)) (λ h. let q : i < n = (rw size at h) in rw (here i q) (p .here q)) a
@@ -56,7 +63,8 @@ module _ (next sn : ℕ) (ns : List ℕ) (n i : ℕ) (f : length ns ≡ 128) (fe
       here : (j : ℕ) → j < n → waitingOffset next (getD (take n (paired waitingAt ws ns)) j blank) ≡ minus (getD ns j 0) next
       here j h = rw (getD-take n (paired waitingAt ws ns) j blank h, paired-get waitingAt ws ns j blank (omega arith) (omega arith)) refl
 
-      go : Dec (i < n) → (ltb i n && eqb (waitingOffset next (getD (take n (paired waitingAt ws ns)) i blank)) (minus sn next)) ≡ isAt ns n i next (minus sn next)
+      go : Dec (i < n) → (ltb i n && eqb (waitingOffset next (getD (take n (paired waitingAt ws ns)) i blank)) (minus sn next)) ≡ isAt ns n
+          i next (minus sn next)
       go (yes h) = rw (here i h) refl
       go (no h) = rw (le-ltb i n (omega arith)) refl
 
@@ -73,12 +81,21 @@ module _ (next sn : ℕ) (ns : List ℕ) (n i : ℕ) (f : length ns ≡ 128) (fe
 
     -- it is held
     pub found-held : isAt ns n i next (minus sn next) ≡ true → Found next sn ns n 256
-    found-held z = record { place = λ h. absurd (omega arith); kept = λ h. absurd (omega arith); passed = λ h ws e o. sym (searched next sn (take n (paired waitingAt ws ns)) a b ea eb true (sym (is-held ws e o ∙ z)) t) }
+    found-held z = record {
+      place = λ h. absurd (omega arith);
+      kept = λ h. absurd (omega arith);
+      passed = λ h ws e o. sym (searched next sn (take n (paired waitingAt ws ns)) a b ea eb true (sym (is-held ws e o ∙ z)) t);
+    }
 
 -- it is not in the window, or before rcv_nxt
-pub found-not : (next sn : ℕ) (ns : List ℕ) (n : ℕ) (a b : Bool) → a ≡ isInWindow next sn → b ≡ isBefore sn next → a && not b ≡ false → Found next sn ns n 256
+pub found-not : (next sn : ℕ) (ns : List ℕ) (n : ℕ) (a b : Bool) → a ≡ isInWindow next sn → b ≡ isBefore sn next → a && not b ≡ false
+    → Found next sn ns n 256
 found-not next sn ns n a b ea eb t =
-    record { place = λ h. absurd (omega arith); kept = λ h. absurd (omega arith); passed = λ h ws e o. sym (outside next sn (take n (paired waitingAt ws ns)) a b ea eb t) }
+    record {
+      place = λ h. absurd (omega arith);
+      kept = λ h. absurd (omega arith);
+      passed = λ h ws e o. sym (outside next sn (take n (paired waitingAt ws ns)) a b ea eb t);
+    }
 
 pub not-true : (b : Bool) → not b ≡ true → b ≡ false
 not-true true e = sym e

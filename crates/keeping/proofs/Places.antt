@@ -39,7 +39,8 @@ new-parts false b h e = absurd (false≢true e)
 
 -- the tests in turn
 module _ (next sn : ℕ) (waiting : List Waiting) (a b : Bool) (e : a ≡ isInWindow next sn) (f : b ≡ isBefore sn next) where
-  pub searched : (h : Bool) → h ≡ isHeld (waitingOffset next) (minus sn next) waiting → a && not b ≡ true → not h ≡ (isInWindow next sn && isNewIn next waiting sn)
+  pub searched : (h : Bool) → h ≡ isHeld (waitingOffset next) (minus sn next) waiting → a && not b ≡ true
+      → not h ≡ (isInWindow next sn && isNewIn next waiting sn)
   searched h g t = rw (← e, ← f, ← g) (go a b t)
     where
       go : (a b : Bool) → a && not b ≡ true → not h ≡ (a && (not b && not h))
@@ -57,8 +58,10 @@ module _ (next sn : ℕ) (waiting : List Waiting) (a b : Bool) (e : a ≡ isInWi
 
 -- ---- a push that is kept
 
-module _ (next sn : ℕ) (ready : HeldList) (waiting : WaitingList) (next-low : next < 2 ^ 32) (sn-low : sn < 2 ^ 32) (few : ready .count ≤ 128)
-    (ascends : ascending (waitingOffset next) 0 128 (waitingOf waiting) ≡ true) (new : isInWindow next sn && isNewIn next (waitingOf waiting) sn ≡ true) where
+module _ (next sn : ℕ) (ready : HeldList) (waiting : WaitingList) (next-low : next < 2 ^ 32) (sn-low : sn < 2 ^ 32)
+    (few : ready .count ≤ 128)
+    (ascends : ascending (waitingOffset next) 0 128 (waitingOf waiting) ≡ true)
+    (new : isInWindow next sn && isNewIn next (waitingOf waiting) sn ≡ true) where
   parts : New (isInWindow next sn) (isBefore sn next) (isHeld (waitingOffset next) (minus sn next) (waitingOf waiting))
   parts = new-parts _ _ _ new
 
@@ -68,7 +71,8 @@ module _ (next sn : ℕ) (ready : HeldList) (waiting : WaitingList) (next-low : 
   -- a slot is free
   pub new-free : length (usedBy ready waiting) < 256
   new-free =
-      let room = ascending-room (waitingOffset next) (minus sn next) 0 128 (waitingOf waiting) (omega arith) new-offset ascends (parts .lacks) in
+      let room = ascending-room (waitingOffset next) (minus sn next) 0 128 (waitingOf waiting) (omega arith) new-offset ascends
+      (parts .lacks) in
       rw (length-map, length-append, length-map) (omega (arith, length-take (ready .count) (ready .at)))
 
   -- the entry fits among those that wait

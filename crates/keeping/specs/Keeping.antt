@@ -31,10 +31,11 @@ pub record Storable (marks : List ℕ) (k mss : ℕ) (s : List ℕ) (start : ℕ
   pub slots : receiveSlots * mss ≤ length pool
 
 -- the payload is stored in the first free slot
-pub record Stored (marks : List ℕ) (k mss : ℕ) (s : List ℕ) (start : ℕ) (h : Header) (pool : List ℕ) (slot : ℕ) (pool′ : List ℕ) : Type 0 where
-  pub is : slot ≡ nextFree marks k
-  pub low : slot < 256
-  pub pool-after : pool′ ≡ sets pool (slot * mss) (part s start (h .len))
+pub record Stored (marks : List ℕ) (k mss : ℕ) (s : List ℕ) (start : ℕ) (h : Header) (pool : List ℕ) (slot : ℕ) (pool′ : List ℕ) : Type 0
+  where
+    pub is : slot ≡ nextFree marks k
+    pub low : slot < 256
+    pub pool-after : pool′ ≡ sets pool (slot * mss) (part s start (h .len))
 
 -- ---- where a push goes among those that wait
 
@@ -73,7 +74,8 @@ pub record Keepable (l : Receiving) (marks : List ℕ) (k mss : ℕ) (s : List �
 
 -- those that wait, with the push where it is kept
 abbrev pub waitsThen : Receiving → Header → List Waiting
-waitsThen l h = cond (isKept l h) (insert (waitingOffset (l .next)) (entryOf h (heldFor (l .ready) (l .waiting) h)) (waitingOf (l .waiting))) (waitingOf (l .waiting))
+waitsThen l h = cond (isKept l h) (insert (waitingOffset (l .next)) (entryOf h (heldFor (l .ready) (l .waiting) h))
+    (waitingOf (l .waiting))) (waitingOf (l .waiting))
 
 -- the pool, with its payload in the lowest free slot where it is kept
 abbrev pub poolThen : Receiving → ℕ → List ℕ → ℕ → Header → List ℕ → List ℕ

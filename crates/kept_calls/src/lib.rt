@@ -11,10 +11,12 @@ use timing::Record;
 ghost use mathlib.Core.Path.{_≡_};
 ghost use lib.ListN.{length, take, drop};
 ghost use Rattle.promises.specs.Promises.{ShowsPart};
-ghost use Rattle.promises.specs.Parts.{partsOf};
+ghost use Rattle.promises.specs.Parts.{partsOf, flushPartsOf};
 ghost use Rattle.promises.specs.Outcomes.{shows};
 ghost use Rattle.promises.specs.Promises.{OpenPromise, SendPromise, InputPromise, FlushPromise, ReadPromise, SizePromise};
 ghost use Rattle.promises.specs.Promises.{UpdatePromise, CheckPromise};
+ghost use Rattle.answers.specs.declared.Count.{Count};
+ghost use Rattle.flush_core.specs.Flushes.{updateOf};
 
 // The answer of opening or sending, and the block after it.
 pub struct Answered {
@@ -84,7 +86,8 @@ pub fn open(
     lent: usize,
     acks: &[u32],
 ) -> Answered
-    ensures { λ r. ⌜ OpenPromise new link (partsOf (now («send_pool» .entry)) (now («receive_pool» .entry)) (take lent table) (now (acks .entry)))
+    ensures { λ r. ⌜ OpenPromise new link (partsOf (now («send_pool» .entry)) (now («receive_pool» .entry)) (take lent table)
+        (now (acks .entry)))
         (r .answer) (r .link) (partsOf (now («send_pool» .entry)) (now («receive_pool» .entry)) (take lent table) (now (acks .entry))) ⌝ }
 {
     let settings = link.settings;
@@ -129,7 +132,8 @@ pub fn send(
     acks: &[u32],
     message: &[u8],
 ) -> Answered
-    ensures { λ r. ⌜ SendPromise (now (message .entry)) link (partsOf (now («send_pool» .entry)) (now («receive_pool» .entry)) (take lent table) (now (acks .entry)))
+    ensures { λ r. ⌜ SendPromise (now (message .entry)) link
+        (partsOf (now («send_pool» .entry)) (now («receive_pool» .entry)) (take lent table) (now (acks .entry)))
         (r .answer) (r .link) (partsOf (now («send_pool» .exit)) (now («receive_pool» .entry)) (take lent table) (now (acks .entry))) ⌝ }
 {
     let settings = link.settings;
@@ -193,7 +197,8 @@ pub fn input(
     acks: &mut [u32],
     datagram: &[u8],
 ) -> TakenIn
-    ensures { λ r. ⌜ InputPromise (now (datagram .entry)) link (partsOf (now («send_pool» .entry)) (now («receive_pool» .entry)) (take lent table) (now (acks .entry)))
+    ensures { λ r. ⌜ InputPromise (now (datagram .entry)) link
+        (partsOf (now («send_pool» .entry)) (now («receive_pool» .entry)) (take lent table) (now (acks .entry)))
         (r .answer) (r .link) (partsOf (now («send_pool» .entry)) (now («receive_pool» .exit)) (take lent (r .table)) (now (acks .exit)))
         × (drop lent (r .table) ≡ drop lent table) ⌝ }
 {
@@ -260,6 +265,17 @@ pub fn input(
     }
 }
 
+// A flush's answer as a count.
+fn count_of(update: Update) -> Count
+    ensures { λ r. ⌜ ((n : Count) → update ≡ updateOf n → r ≡ n) ⌝ }
+{
+    match update {
+        Update::Waited => Count::Of(0),
+        Update::Wrote(n) => Count::Of(n),
+        Update::Refused(refusal) => Count::Refused(refusal),
+    }
+}
+
 // A flush at time t. The records that are not lent stay as they were.
 pub fn flush(
     link: Link,
@@ -272,10 +288,11 @@ pub fn flush(
     output: &mut [u8],
     lengths: &mut [u16],
 ) -> FlushedOut
-    ensures { λ r. ⌜ FlushPromise t link (partsOf (now («send_pool» .entry)) (now («receive_pool» .entry)) (take lent table) (now (acks .entry)))
-        (now (output .entry)) (now (lengths .entry))
+    ensures { λ r. ⌜ FlushPromise t link (partsOf (now («send_pool» .entry)) (now («receive_pool» .entry)) (take lent table)
+        (now (acks .entry)))
+        (flushPartsOf (now (output .entry)) (now (lengths .entry)))
         (r .answer) (r .link) (partsOf (now («send_pool» .entry)) (now («receive_pool» .entry)) (take lent (r .table)) (now (acks .entry)))
-        (now (output .exit)) (now (lengths .exit)) × (drop lent (r .table) ≡ drop lent table) ⌝ }
+        (flushPartsOf (now (output .exit)) (now (lengths .exit))) × (drop lent (r .table) ≡ drop lent table) ⌝ }
 {
     let settings = link.settings;
     let flight = link.flight;
@@ -296,6 +313,7 @@ pub fn flush(
         clock,
         records,
         n,
+        false,
         &mut queued,
         &mut outstanding,
         &mut transmissions,
@@ -309,7 +327,8 @@ pub fn flush(
         output,
         lengths,
     );
-    let answer = done.answer;
+    let written = done.answer;
+    let answer = count_of(written);
     let sending = done.flight;
     let receiving = done.arrival;
     let moved = done.clock;
@@ -353,9 +372,9 @@ pub fn update(
 ) -> UpdatedOut
     ensures { λ r. ⌜ UpdatePromise t link
         (partsOf (now («send_pool» .entry)) (now («receive_pool» .entry)) (take lent table) (now (acks .entry)))
-        (now (output .entry)) (now (lengths .entry))
+        (flushPartsOf (now (output .entry)) (now (lengths .entry)))
         (r .answer) (r .link) (partsOf (now («send_pool» .entry)) (now («receive_pool» .entry)) (take lent (r .table)) (now (acks .entry)))
-        (now (output .exit)) (now (lengths .exit)) × (drop lent (r .table) ≡ drop lent table) ⌝ }
+        (flushPartsOf (now (output .exit)) (now (lengths .exit))) × (drop lent (r .table) ≡ drop lent table) ⌝ }
 {
     let settings = link.settings;
     let flight = link.flight;
@@ -369,13 +388,14 @@ pub fn update(
     let waiting_numbers = link.waiting_numbers;
     let records = kept_table::gather(table, lent, outstanding, flight.outstanding);
     let n = kept_table::lent_count(lent);
-    let done = update_core::update(
+    let done = flush_core::flush(
         settings,
         flight,
         arrival,
         clock,
         records,
         n,
+        true,
         &mut queued,
         &mut outstanding,
         &mut transmissions,
@@ -429,8 +449,10 @@ pub fn read(
     acks: &[u32],
     buffer: &mut [u8],
 ) -> Counted
-    ensures { λ r. ⌜ ReadPromise link (partsOf (now («send_pool» .entry)) (now («receive_pool» .entry)) (take lent table) (now (acks .entry))) (now (buffer .entry))
-        (r .answer) (r .link) (partsOf (now («send_pool» .entry)) (now («receive_pool» .entry)) (take lent table) (now (acks .entry))) (now (buffer .exit)) ⌝ }
+    ensures { λ r. ⌜ ReadPromise link (partsOf (now («send_pool» .entry)) (now («receive_pool» .entry)) (take lent table)
+        (now (acks .entry))) (now (buffer .entry))
+        (r .answer) (r .link) (partsOf (now («send_pool» .entry)) (now («receive_pool» .entry)) (take lent table) (now (acks .entry)))
+        (now (buffer .exit)) ⌝ }
 {
     let settings = link.settings;
     let flight = link.flight;
@@ -492,7 +514,8 @@ pub fn size(
     lent: usize,
     acks: &[u32],
 ) -> Count
-    ensures { λ r. ⌜ SizePromise link (partsOf (now («send_pool» .entry)) (now («receive_pool» .entry)) (take lent table) (now (acks .entry))) r ⌝ }
+    ensures { λ r. ⌜ SizePromise link (partsOf (now («send_pool» .entry)) (now («receive_pool» .entry)) (take lent table)
+        (now (acks .entry))) r ⌝ }
 {
     let settings = link.settings;
     let flight = link.flight;
@@ -551,7 +574,7 @@ pub fn check(
     let waiting_numbers = link.waiting_numbers;
     let records = kept_table::gather(table, lent, outstanding, flight.outstanding);
     let n = kept_table::lent_count(lent);
-    update_core::check(
+    check_core::check(
         settings,
         flight,
         arrival,

@@ -19,7 +19,8 @@ slots-counted ws n k e f = f ∙ sym (length-map (take (min n 32) ws) (λ (w : �
 pub slot-listed : (ws : List ℕ) (n i s : ℕ) → s ≡ getD ws i 0 % 256 → i < length (slotsIn ws n) → s ≡ getD (slotsIn ws n) i 0
 slot-listed ws n i s e h =
     let within : i < min n 32 = omega (arith, length-map (take (min n 32) ws) (λ (w : ℕ). w % 256), length-take (min n 32) ws) in
-    e ∙ ap (λ (w : ℕ). w % 256) (sym (getD-take (min n 32) ws i 0 within)) ∙ sym (List·getD-map (λ (w : ℕ). w % 256) (take (min n 32) ws) i 0)
+    e ∙ ap (λ (w : ℕ). w % 256) (sym (getD-take (min n 32) ws i 0 within)) ∙ sym
+    (List·getD-map (λ (w : ℕ). w % 256) (take (min n 32) ws) i 0)
 
 -- of 128 records, the count that is lent
 module _ (table : List Record) (lent most : ℕ) (whole : length table ≡ 128) (e : most ≡ min lent 128) where
@@ -35,7 +36,8 @@ module _ (table : List Record) (lent most : ℕ) (whole : length table ≡ 128) 
     where
       go : Dec (lent ≤ 128) → drop most table ≡ drop lent table
       go (yes h) = let q : most ≡ lent = omega arith in rw q
-      go (no h) = let q : most ≡ 128 = omega arith in rw q (drop-of-length-le table {i = 128} (omega arith) ∙ sym (drop-of-length-le table {i = lent} (omega arith)))
+      go (no h) = let q : most ≡ 128 = omega arith in
+          rw q (drop-of-length-le table {i = 128} (omega arith) ∙ sym (drop-of-length-le table {i = lent} (omega arith)))
 
   pub front-all : take 128 (take lent table) ≡ take most table
   front-all = rw (← lent-front) (take-all 128 (take most table) (omega (arith, length-take most table)))

@@ -1,6 +1,6 @@
--- The block behind a `&mut Link`, as steps of a walk: it is taken out of the borrow, field by field, and put back. Written by tools/block.py.
---     opens-link     each field in memory, an item of its own, in the block's order; then the way back, and what stands beside while the borrow is open
---     closes-link    the reference at the new block, and the token
+-- The block behind a `&mut Link`, as steps of a walk: it is taken out of the borrow, field by field, and put back. Written by
+-- tools/block.py.     opens-link     each field in memory, an item of its own, in the block's order; then the way back, and what stands
+-- beside while the borrow is open     closes-link    the reference at the new block, and the token
 --     looks-link, shuts-link    of a `&Link`: some share of each field, and back
 -- Assumes `Given`.
 use mathlib.Core.Path.{refl, sym}
@@ -114,40 +114,74 @@ module _ (T : Declared) {M : Type 1} (𝓤 : URA M) (H : Heap 𝓤) (A : Atoms �
 
 module _ (b o : ℕ) (γ : GName) where
   module _ {M : Type 1} {𝓤 : URA M} {H : Heap 𝓤} {A : Atoms 𝓤} {K : Type 0} {W : Given 𝓤 H A} {Γ : List (Item 𝓤)} {G : Goal 𝓤 H} where
-    pub opens-link : K → Soaks G → {κ : Lft} {q : Share} (h : Link) → Step K W (‵ (settings-at fullShare b o (h .settings)) ∷ ‵ (flight-at fullShare b o (h .flight)) ∷ ‵ (arrival-at fullShare b o (h .arrival)) ∷ ‵ (clock-at fullShare b o (h .clock)) ∷ ‵ (queued-at fullShare b o (h .queued)) ∷ ‵ (outstanding-at fullShare b o (h .outstanding)) ∷ ‵ (transmissions-at fullShare b o (h .transmissions)) ∷ ‵ (ready-at fullShare b o (h .ready)) ∷ ‵ (waiting-at fullShare b o (h .waiting)) ∷ ‵ (waiting-numbers-at fullShare b o (h .«waiting_numbers»)) ∷ raw (Back 𝓤 H A fullShare b o) ∷ ‵ (Open b o γ κ q h) ∷ Γ) G (‵ (link-own κ b o γ h) ∷ ‵ (flft κ q) ∷ Γ) G
-    opens-link t z h = step (λ s. opens-fields (B.the-type .name) ms (B.the-type .D) (B.the-type .to) (B.the-type .to-one) b o γ t z (LL.lawfuls 𝓤 H A W (B.the-type .parts) B′.the-laws) h $
-        fsplit t $ use1 W (‵ (settings-at fullShare b o (h .settings))) (as-record settings-row.the-type 𝓤 H A fullShare (h .settings) b (o + 0)) $ move t (1 ∷ []) $
-        fsplit t $ use1 W (‵ (flight-at fullShare b o (h .flight))) (as-record flight-row.the-type 𝓤 H A fullShare (h .flight) b (o + 16)) $ move t (1 ∷ []) $
-        fsplit t $ use1 W (‵ (arrival-at fullShare b o (h .arrival))) (as-record arrival-row.the-type 𝓤 H A fullShare (h .arrival) b (o + 72)) $ move t (1 ∷ []) $
-        fsplit t $ use1 W (‵ (clock-at fullShare b o (h .clock))) (as-record clock-row.the-type 𝓤 H A fullShare (h .clock) b (o + 104)) $ move t (1 ∷ []) $
+    pub opens-link : K → Soaks G → {κ : Lft} {q : Share} (h : Link)
+        → Step K W (‵ (settings-at fullShare b o (h .settings)) ∷ ‵ (flight-at fullShare b o (h .flight))
+        ∷ ‵ (arrival-at fullShare b o (h .arrival)) ∷ ‵ (clock-at fullShare b o (h .clock)) ∷ ‵ (queued-at fullShare b o (h .queued))
+        ∷ ‵ (outstanding-at fullShare b o (h .outstanding)) ∷ ‵ (transmissions-at fullShare b o (h .transmissions))
+        ∷ ‵ (ready-at fullShare b o (h .ready)) ∷ ‵ (waiting-at fullShare b o (h .waiting))
+        ∷ ‵ (waiting-numbers-at fullShare b o (h .«waiting_numbers»)) ∷ raw (Back 𝓤 H A fullShare b o) ∷ ‵ (Open b o γ κ q h) ∷ Γ) G
+        (‵ (link-own κ b o γ h) ∷ ‵ (flft κ q) ∷ Γ) G
+    opens-link t z h = step (λ s. opens-fields (B.the-type .name) ms (B.the-type .D) (B.the-type .to) (B.the-type .to-one) b o γ t z
+        (LL.lawfuls 𝓤 H A W (B.the-type .parts) B′.the-laws) h $
+        fsplit t $ use1 W (‵ (settings-at fullShare b o (h .settings)))
+        (as-record settings-row.the-type 𝓤 H A fullShare (h .settings) b (o + 0)) $ move t (1 ∷ []) $
+        fsplit t $ use1 W (‵ (flight-at fullShare b o (h .flight))) (as-record flight-row.the-type 𝓤 H A fullShare (h .flight) b (o + 16)) $
+        move t (1 ∷ []) $
+        fsplit t $ use1 W (‵ (arrival-at fullShare b o (h .arrival)))
+        (as-record arrival-row.the-type 𝓤 H A fullShare (h .arrival) b (o + 72)) $ move t (1 ∷ []) $
+        fsplit t $ use1 W (‵ (clock-at fullShare b o (h .clock))) (as-record clock-row.the-type 𝓤 H A fullShare (h .clock) b (o + 104)) $
+        move t (1 ∷ []) $
         fsplit t $ rewrite t 0 (λ (xs : List ℕ). ‵ (queued-at fullShare b o xs)) (map-id (h .queued)) refl $ move t (1 ∷ []) $
         fsplit t $ rewrite t 0 (λ (xs : List ℕ). ‵ (outstanding-at fullShare b o xs)) (map-id (h .outstanding)) refl $ move t (1 ∷ []) $
         fsplit t $ rewrite t 0 (λ (xs : List ℕ). ‵ (transmissions-at fullShare b o xs)) (map-id (h .transmissions)) refl $ move t (1 ∷ []) $
         fsplit t $ rewrite t 0 (λ (xs : List ℕ). ‵ (ready-at fullShare b o xs)) (map-id (h .ready)) refl $ move t (1 ∷ []) $
         fsplit t $ rewrite t 0 (λ (xs : List ℕ). ‵ (waiting-at fullShare b o xs)) (map-id (h .waiting)) refl $ move t (1 ∷ []) $
-        fsplit t $ rewrite t 0 (λ (xs : List ℕ). ‵ (waiting-numbers-at fullShare b o xs)) (map-id (h .«waiting_numbers»)) refl $ move t (1 ∷ []) $
+        fsplit t $ rewrite t 0 (λ (xs : List ℕ). ‵ (waiting-numbers-at fullShare b o xs)) (map-id (h .«waiting_numbers»)) refl $
+        move t (1 ∷ []) $
         drop t $ move t (9 ∷ 8 ∷ 7 ∷ 6 ∷ 5 ∷ 4 ∷ 3 ∷ 2 ∷ 1 ∷ 0 ∷ []) $ s)
 
-    pub closes-link : K → Soaks G → {κ : Lft} {q : Share} (h k : Link) → Step K W (‵ (link-own κ b o γ k) ∷ ‵ (flft κ q) ∷ Γ) G (‵ (settings-at fullShare b o (k .settings)) ∷ ‵ (flight-at fullShare b o (k .flight)) ∷ ‵ (arrival-at fullShare b o (k .arrival)) ∷ ‵ (clock-at fullShare b o (k .clock)) ∷ ‵ (queued-at fullShare b o (k .queued)) ∷ ‵ (outstanding-at fullShare b o (k .outstanding)) ∷ ‵ (transmissions-at fullShare b o (k .transmissions)) ∷ ‵ (ready-at fullShare b o (k .ready)) ∷ ‵ (waiting-at fullShare b o (k .waiting)) ∷ ‵ (waiting-numbers-at fullShare b o (k .«waiting_numbers»)) ∷ raw (Back 𝓤 H A fullShare b o) ∷ ‵ (Open b o γ κ q h) ∷ Γ) G
+    pub closes-link : K → Soaks G → {κ : Lft} {q : Share} (h k : Link)
+        → Step K W (‵ (link-own κ b o γ k) ∷ ‵ (flft κ q) ∷ Γ) G
+        (‵ (settings-at fullShare b o (k .settings)) ∷ ‵ (flight-at fullShare b o (k .flight)) ∷ ‵ (arrival-at fullShare b o (k .arrival))
+        ∷ ‵ (clock-at fullShare b o (k .clock)) ∷ ‵ (queued-at fullShare b o (k .queued))
+        ∷ ‵ (outstanding-at fullShare b o (k .outstanding)) ∷ ‵ (transmissions-at fullShare b o (k .transmissions))
+        ∷ ‵ (ready-at fullShare b o (k .ready)) ∷ ‵ (waiting-at fullShare b o (k .waiting))
+        ∷ ‵ (waiting-numbers-at fullShare b o (k .«waiting_numbers»)) ∷ raw (Back 𝓤 H A fullShare b o) ∷ ‵ (Open b o γ κ q h) ∷ Γ) G
     closes-link t z h k = step (λ s. nothing t $
-        move t (10 ∷ 0 ∷ []) $ rewrite t 0 (λ (xs : List ℕ). ‵ (waiting-numbers-at fullShare b o xs)) (sym (map-id (k .«waiting_numbers»))) refl $ fjoin t $
+        move t (10 ∷ 0 ∷ []) $ rewrite t 0 (λ (xs : List ℕ). ‵ (waiting-numbers-at fullShare b o xs)) (sym (map-id (k .«waiting_numbers»)))
+        refl $ fjoin t $
         move t (9 ∷ 0 ∷ []) $ rewrite t 0 (λ (xs : List ℕ). ‵ (waiting-at fullShare b o xs)) (sym (map-id (k .waiting))) refl $ fjoin t $
         move t (8 ∷ 0 ∷ []) $ rewrite t 0 (λ (xs : List ℕ). ‵ (ready-at fullShare b o xs)) (sym (map-id (k .ready))) refl $ fjoin t $
-        move t (7 ∷ 0 ∷ []) $ rewrite t 0 (λ (xs : List ℕ). ‵ (transmissions-at fullShare b o xs)) (sym (map-id (k .transmissions))) refl $ fjoin t $
-        move t (6 ∷ 0 ∷ []) $ rewrite t 0 (λ (xs : List ℕ). ‵ (outstanding-at fullShare b o xs)) (sym (map-id (k .outstanding))) refl $ fjoin t $
+        move t (7 ∷ 0 ∷ []) $ rewrite t 0 (λ (xs : List ℕ). ‵ (transmissions-at fullShare b o xs)) (sym (map-id (k .transmissions))) refl $
+        fjoin t $
+        move t (6 ∷ 0 ∷ []) $ rewrite t 0 (λ (xs : List ℕ). ‵ (outstanding-at fullShare b o xs)) (sym (map-id (k .outstanding))) refl $
+        fjoin t $
         move t (5 ∷ 0 ∷ []) $ rewrite t 0 (λ (xs : List ℕ). ‵ (queued-at fullShare b o xs)) (sym (map-id (k .queued))) refl $ fjoin t $
-        move t (4 ∷ 0 ∷ []) $ use1 W (‵ (partAt (Struct (shape clock-row.the-type)) fullShare (clock-row.the-type .to (k .clock)) b (o + 104))) (as-tuple clock-row.the-type 𝓤 H A fullShare (k .clock) b (o + 104)) $ fjoin t $
-        move t (3 ∷ 0 ∷ []) $ use1 W (‵ (partAt (Struct (shape arrival-row.the-type)) fullShare (arrival-row.the-type .to (k .arrival)) b (o + 72))) (as-tuple arrival-row.the-type 𝓤 H A fullShare (k .arrival) b (o + 72)) $ fjoin t $
-        move t (2 ∷ 0 ∷ []) $ use1 W (‵ (partAt (Struct (shape flight-row.the-type)) fullShare (flight-row.the-type .to (k .flight)) b (o + 16))) (as-tuple flight-row.the-type 𝓤 H A fullShare (k .flight) b (o + 16)) $ fjoin t $
-        move t (1 ∷ 0 ∷ []) $ use1 W (‵ (partAt (Struct (shape settings-row.the-type)) fullShare (settings-row.the-type .to (k .settings)) b (o + 0))) (as-tuple settings-row.the-type 𝓤 H A fullShare (k .settings) b (o + 0)) $ fjoin t $
+        move t (4 ∷ 0 ∷ []) $ use1 W (‵ (partAt (Struct (shape clock-row.the-type)) fullShare (clock-row.the-type .to (k .clock)) b
+        (o + 104))) (as-tuple clock-row.the-type 𝓤 H A fullShare (k .clock) b (o + 104)) $ fjoin t $
+        move t (3 ∷ 0 ∷ []) $ use1 W (‵ (partAt (Struct (shape arrival-row.the-type)) fullShare (arrival-row.the-type .to (k .arrival)) b
+        (o + 72))) (as-tuple arrival-row.the-type 𝓤 H A fullShare (k .arrival) b (o + 72)) $ fjoin t $
+        move t (2 ∷ 0 ∷ []) $ use1 W (‵ (partAt (Struct (shape flight-row.the-type)) fullShare (flight-row.the-type .to (k .flight)) b
+        (o + 16))) (as-tuple flight-row.the-type 𝓤 H A fullShare (k .flight) b (o + 16)) $ fjoin t $
+        move t (1 ∷ 0 ∷ []) $ use1 W (‵ (partAt (Struct (shape settings-row.the-type)) fullShare (settings-row.the-type .to (k .settings)) b
+        (o + 0))) (as-tuple settings-row.the-type 𝓤 H A fullShare (k .settings) b (o + 0)) $ fjoin t $
         closes-fields (B.the-type .name) ms (B.the-type .D) (B.the-type .to) (B.the-type .to-one) b o γ t z h k $ s)
 
     pub looks-link : K → Soaks G → {κ : Lft} {q : Share} (h : Link)
-        → ((s : Share) → Seq K W (‵ (settings-at s b o (h .settings)) ∷ ‵ (flight-at s b o (h .flight)) ∷ ‵ (arrival-at s b o (h .arrival)) ∷ ‵ (clock-at s b o (h .clock)) ∷ ‵ (queued-at s b o (h .queued)) ∷ ‵ (outstanding-at s b o (h .outstanding)) ∷ ‵ (transmissions-at s b o (h .transmissions)) ∷ ‵ (ready-at s b o (h .ready)) ∷ ‵ (waiting-at s b o (h .waiting)) ∷ ‵ (waiting-numbers-at s b o (h .«waiting_numbers»)) ∷ raw (Back 𝓤 H A s b o) ∷ ‵ (fobor κ q (partAt L s h b o)) ∷ Γ) G) → Seq K W (‵ (link-shr κ b o γ h) ∷ ‵ (flft κ q) ∷ Γ) G
-    looks-link t z h k = looks-fields (B.the-type .name) ms (B.the-type .D) (B.the-type .to) (B.the-type .to-one) b o γ t z (LL.lawfuls 𝓤 H A W (B.the-type .parts) B′.the-laws) (LL.vals B.the-type B′.the-laws) (LL.tells B.the-type B′.the-laws) (LL.copy B.the-type B′.the-copy 𝓤 H A W) h (λ s.
-        fsplit t $ use1 W (‵ (settings-at s b o (h .settings))) (as-record settings-row.the-type 𝓤 H A s (h .settings) b (o + 0)) $ move t (1 ∷ []) $
-        fsplit t $ use1 W (‵ (flight-at s b o (h .flight))) (as-record flight-row.the-type 𝓤 H A s (h .flight) b (o + 16)) $ move t (1 ∷ []) $
-        fsplit t $ use1 W (‵ (arrival-at s b o (h .arrival))) (as-record arrival-row.the-type 𝓤 H A s (h .arrival) b (o + 72)) $ move t (1 ∷ []) $
+        → ((s : Share) → Seq K W (‵ (settings-at s b o (h .settings)) ∷ ‵ (flight-at s b o (h .flight)) ∷ ‵ (arrival-at s b o (h .arrival))
+        ∷ ‵ (clock-at s b o (h .clock)) ∷ ‵ (queued-at s b o (h .queued)) ∷ ‵ (outstanding-at s b o (h .outstanding))
+        ∷ ‵ (transmissions-at s b o (h .transmissions)) ∷ ‵ (ready-at s b o (h .ready)) ∷ ‵ (waiting-at s b o (h .waiting))
+        ∷ ‵ (waiting-numbers-at s b o (h .«waiting_numbers»)) ∷ raw (Back 𝓤 H A s b o) ∷ ‵ (fobor κ q (partAt L s h b o)) ∷ Γ) G)
+        → Seq K W (‵ (link-shr κ b o γ h) ∷ ‵ (flft κ q) ∷ Γ) G
+    looks-link t z h k = looks-fields (B.the-type .name) ms (B.the-type .D) (B.the-type .to) (B.the-type .to-one) b o γ t z
+        (LL.lawfuls 𝓤 H A W (B.the-type .parts) B′.the-laws) (LL.vals B.the-type B′.the-laws) (LL.tells B.the-type B′.the-laws)
+        (LL.copy B.the-type B′.the-copy 𝓤 H A W) h (λ s.
+        fsplit t $ use1 W (‵ (settings-at s b o (h .settings))) (as-record settings-row.the-type 𝓤 H A s (h .settings) b (o + 0)) $
+        move t (1 ∷ []) $
+        fsplit t $ use1 W (‵ (flight-at s b o (h .flight))) (as-record flight-row.the-type 𝓤 H A s (h .flight) b (o + 16)) $
+        move t (1 ∷ []) $
+        fsplit t $ use1 W (‵ (arrival-at s b o (h .arrival))) (as-record arrival-row.the-type 𝓤 H A s (h .arrival) b (o + 72)) $
+        move t (1 ∷ []) $
         fsplit t $ use1 W (‵ (clock-at s b o (h .clock))) (as-record clock-row.the-type 𝓤 H A s (h .clock) b (o + 104)) $ move t (1 ∷ []) $
         fsplit t $ rewrite t 0 (λ (xs : List ℕ). ‵ (queued-at s b o xs)) (map-id (h .queued)) refl $ move t (1 ∷ []) $
         fsplit t $ rewrite t 0 (λ (xs : List ℕ). ‵ (outstanding-at s b o xs)) (map-id (h .outstanding)) refl $ move t (1 ∷ []) $
@@ -157,16 +191,27 @@ module _ (b o : ℕ) (γ : GName) where
         fsplit t $ rewrite t 0 (λ (xs : List ℕ). ‵ (waiting-numbers-at s b o xs)) (map-id (h .«waiting_numbers»)) refl $ move t (1 ∷ []) $
         drop t $ move t (9 ∷ 8 ∷ 7 ∷ 6 ∷ 5 ∷ 4 ∷ 3 ∷ 2 ∷ 1 ∷ 0 ∷ []) $ k s)
 
-    pub shuts-link : K → Soaks G → {κ : Lft} {q : Share} (s : Share) (h : Link) → Step K W (‵ (flft κ q) ∷ Γ) G (‵ (settings-at s b o (h .settings)) ∷ ‵ (flight-at s b o (h .flight)) ∷ ‵ (arrival-at s b o (h .arrival)) ∷ ‵ (clock-at s b o (h .clock)) ∷ ‵ (queued-at s b o (h .queued)) ∷ ‵ (outstanding-at s b o (h .outstanding)) ∷ ‵ (transmissions-at s b o (h .transmissions)) ∷ ‵ (ready-at s b o (h .ready)) ∷ ‵ (waiting-at s b o (h .waiting)) ∷ ‵ (waiting-numbers-at s b o (h .«waiting_numbers»)) ∷ raw (Back 𝓤 H A s b o) ∷ ‵ (fobor κ q (partAt L s h b o)) ∷ Γ) G
+    pub shuts-link : K → Soaks G → {κ : Lft} {q : Share} (s : Share) (h : Link)
+        → Step K W (‵ (flft κ q) ∷ Γ) G (‵ (settings-at s b o (h .settings)) ∷ ‵ (flight-at s b o (h .flight))
+        ∷ ‵ (arrival-at s b o (h .arrival)) ∷ ‵ (clock-at s b o (h .clock)) ∷ ‵ (queued-at s b o (h .queued))
+        ∷ ‵ (outstanding-at s b o (h .outstanding)) ∷ ‵ (transmissions-at s b o (h .transmissions)) ∷ ‵ (ready-at s b o (h .ready))
+        ∷ ‵ (waiting-at s b o (h .waiting)) ∷ ‵ (waiting-numbers-at s b o (h .«waiting_numbers»)) ∷ raw (Back 𝓤 H A s b o)
+        ∷ ‵ (fobor κ q (partAt L s h b o)) ∷ Γ) G
     shuts-link t z s h = step (λ k. nothing t $
-        move t (10 ∷ 0 ∷ []) $ rewrite t 0 (λ (xs : List ℕ). ‵ (waiting-numbers-at s b o xs)) (sym (map-id (h .«waiting_numbers»))) refl $ fjoin t $
+        move t (10 ∷ 0 ∷ []) $ rewrite t 0 (λ (xs : List ℕ). ‵ (waiting-numbers-at s b o xs)) (sym (map-id (h .«waiting_numbers»))) refl $
+        fjoin t $
         move t (9 ∷ 0 ∷ []) $ rewrite t 0 (λ (xs : List ℕ). ‵ (waiting-at s b o xs)) (sym (map-id (h .waiting))) refl $ fjoin t $
         move t (8 ∷ 0 ∷ []) $ rewrite t 0 (λ (xs : List ℕ). ‵ (ready-at s b o xs)) (sym (map-id (h .ready))) refl $ fjoin t $
-        move t (7 ∷ 0 ∷ []) $ rewrite t 0 (λ (xs : List ℕ). ‵ (transmissions-at s b o xs)) (sym (map-id (h .transmissions))) refl $ fjoin t $
+        move t (7 ∷ 0 ∷ []) $ rewrite t 0 (λ (xs : List ℕ). ‵ (transmissions-at s b o xs)) (sym (map-id (h .transmissions))) refl $
+        fjoin t $
         move t (6 ∷ 0 ∷ []) $ rewrite t 0 (λ (xs : List ℕ). ‵ (outstanding-at s b o xs)) (sym (map-id (h .outstanding))) refl $ fjoin t $
         move t (5 ∷ 0 ∷ []) $ rewrite t 0 (λ (xs : List ℕ). ‵ (queued-at s b o xs)) (sym (map-id (h .queued))) refl $ fjoin t $
-        move t (4 ∷ 0 ∷ []) $ use1 W (‵ (partAt (Struct (shape clock-row.the-type)) s (clock-row.the-type .to (h .clock)) b (o + 104))) (as-tuple clock-row.the-type 𝓤 H A s (h .clock) b (o + 104)) $ fjoin t $
-        move t (3 ∷ 0 ∷ []) $ use1 W (‵ (partAt (Struct (shape arrival-row.the-type)) s (arrival-row.the-type .to (h .arrival)) b (o + 72))) (as-tuple arrival-row.the-type 𝓤 H A s (h .arrival) b (o + 72)) $ fjoin t $
-        move t (2 ∷ 0 ∷ []) $ use1 W (‵ (partAt (Struct (shape flight-row.the-type)) s (flight-row.the-type .to (h .flight)) b (o + 16))) (as-tuple flight-row.the-type 𝓤 H A s (h .flight) b (o + 16)) $ fjoin t $
-        move t (1 ∷ 0 ∷ []) $ use1 W (‵ (partAt (Struct (shape settings-row.the-type)) s (settings-row.the-type .to (h .settings)) b (o + 0))) (as-tuple settings-row.the-type 𝓤 H A s (h .settings) b (o + 0)) $ fjoin t $
+        move t (4 ∷ 0 ∷ []) $ use1 W (‵ (partAt (Struct (shape clock-row.the-type)) s (clock-row.the-type .to (h .clock)) b (o + 104)))
+        (as-tuple clock-row.the-type 𝓤 H A s (h .clock) b (o + 104)) $ fjoin t $
+        move t (3 ∷ 0 ∷ []) $ use1 W (‵ (partAt (Struct (shape arrival-row.the-type)) s (arrival-row.the-type .to (h .arrival)) b (o + 72)))
+        (as-tuple arrival-row.the-type 𝓤 H A s (h .arrival) b (o + 72)) $ fjoin t $
+        move t (2 ∷ 0 ∷ []) $ use1 W (‵ (partAt (Struct (shape flight-row.the-type)) s (flight-row.the-type .to (h .flight)) b (o + 16)))
+        (as-tuple flight-row.the-type 𝓤 H A s (h .flight) b (o + 16)) $ fjoin t $
+        move t (1 ∷ 0 ∷ []) $ use1 W (‵ (partAt (Struct (shape settings-row.the-type)) s (settings-row.the-type .to (h .settings)) b
+        (o + 0))) (as-tuple settings-row.the-type 𝓤 H A s (h .settings) b (o + 0)) $ fjoin t $
         shuts-fields (B.the-type .name) ms (B.the-type .D) (B.the-type .to) (B.the-type .to-one) b o γ t z s h $ k)

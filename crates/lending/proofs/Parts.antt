@@ -24,6 +24,7 @@ behind (suc n) return = skip
 behind (suc n) (call f xs d) = skip
 
 -- an item that is the star of others becomes these, in one step
-pub spread : {M : Type 1} {𝓤 : URA M} {H : Heap 𝓤} {A : Atoms 𝓤} {K : Type 0} (W : Given 𝓤 H A) {Γ : List (Item 𝓤)} {G : Goal 𝓤 H} {i : Item 𝓤} (j : Item 𝓤) (js : List (Item 𝓤))
+pub spread : {M : Type 1} {𝓤 : URA M} {H : Heap 𝓤} {A : Atoms 𝓤} {K : Type 0} (W : Given 𝓤 H A) {Γ : List (Item 𝓤)} {G : Goal 𝓤 H}
+    {i : Item 𝓤} (j : Item 𝓤) (js : List (Item 𝓤))
     → ent 𝓤 (mean 𝓤 H A i) (⋆ 𝓤 H A (j ∷ js)) → Step K W ((j ∷ js) ++ Γ) G (i ∷ Γ) G
 spread W {Γ} {i = i} j js h = cut (i ∷ []) (j ∷ js) Γ h

@@ -18,7 +18,8 @@ caseA =
     0x01 ∷ 0 ∷ 0 ∷ 0 ∷ 0x51 ∷ 0 ∷ 0x80 ∷ 0 ∷ 0 ∷ 0 ∷ 0 ∷ 0 ∷ 0 ∷ 0 ∷ 0 ∷ 0 ∷ 0 ∷ 0 ∷ 0 ∷ 0 ∷ 0x02 ∷ 0 ∷ 0 ∷ 0 ∷ 0x68 ∷ 0x69 ∷ []
 
 pub case-a : listingOf caseA ≡ ascii "conv cmd frg wnd ts sn una len\n1 81 0 128 0 0 0 2\nok 1\n"
-unfolding listingOf listed parse walk tail verdict segmentOf decode numberAt body segmentLines segmentLine row field decimal digits countLine columnLine ascii
+unfolding listingOf listed parse walk tail verdict segmentOf decode numberAt body segmentLines segmentLine row field decimal digits
+    countLine columnLine ascii
 case-a = refl
 
 -- a byte of its payload is missing
@@ -28,7 +29,8 @@ cut = refl
 
 -- it comes twice
 pub twice : listingOf (caseA ++ caseA) ≡ ascii "conv cmd frg wnd ts sn una len\n1 81 0 128 0 0 0 2\n1 81 0 128 0 0 0 2\nok 2\n"
-unfolding listingOf listed parse walk tail verdict segmentOf decode numberAt body segmentLines segmentLine row field decimal digits countLine columnLine ascii
+unfolding listingOf listed parse walk tail verdict segmentOf decode numberAt body segmentLines segmentLine row field decimal digits
+    countLine columnLine ascii
 twice = refl
 
 -- a tail of 1 and of 23 bytes behind it

@@ -19,7 +19,8 @@ use Rattle.listing.specs.Puts.{front, back, Added}
 pub added-none : (l : Line) → Added l [] l
 added-none l = record { text = rw append-nil; len = rw add-zero }
 
-pub added-byte : (l : Line) (b : ℕ) → l .len < length (l .bytes) → Added l (b ∷ []) (record { bytes = set (l .bytes) (l .len) b; len = l .len + 1 })
+pub added-byte : (l : Line) (b : ℕ) → l .len < length (l .bytes)
+    → Added l (b ∷ []) (record { bytes = set (l .bytes) (l .len) b; len = l .len + 1 })
 added-byte l b h = record { text = rw (add-one, take-suc-set (l .bytes) (l .len) b h); len = refl }
 
 pub added-then : (l m r : Line) (t u : List ℕ) → Added l t m → Added m u r → Added l (t ++ u) r
@@ -50,7 +51,8 @@ pub length-field : (k n end : ℕ) → 0 < k → n < 10 ^ k → length (field n 
 length-field k n end p h = omega (arith, length-field-one n end, length-decimal k n p h)
 
 -- one byte more of s
-pub added-next : (l m r : Line) (s : List ℕ) (i : ℕ) → Added l (take i s) m → Added m (getD s i 0 ∷ []) r → i < length s → Added l (take (i + 1) s) r
+pub added-next : (l m r : Line) (s : List ℕ) (i : ℕ) → Added l (take i s) m → Added m (getD s i 0 ∷ []) r → i < length s
+    → Added l (take (i + 1) s) r
 added-next l m r s i a b h = rw (add-one, take-suc s i 0) (added-then l m r _ _ a b)
 
 -- ---- a segment's line

@@ -80,8 +80,10 @@ pub left-begin : (was : List ℕ) (i : ℕ) (t u : List ℕ) → t ≡ u → Lef
 left-begin was i t u e = record { bytes = rw e; next = rw e }
 
 -- the line of the first segment that is left
-pub left-line : (was : List ℕ) (i : ℕ) (t now : List ℕ) (j : ℕ) (gs : List Segment) (g : Segment) (others : List Segment) (last : List ℕ) (line : Line) (k : ℕ) (is : List ℕ) →
-    Left was i t now j (segmentLines gs ++ last) → gs ≡ g ∷ others → Holds (segmentLine (g .header)) line → Wrote now j (textOf line) k is → Left was i t is k (segmentLines others ++ last)
+pub left-line : (was : List ℕ) (i : ℕ) (t now : List ℕ) (j : ℕ) (gs : List Segment) (g : Segment) (others : List Segment) (last : List ℕ)
+    (line : Line) (k : ℕ) (is : List ℕ) →
+    Left was i t now j (segmentLines gs ++ last) → gs ≡ g ∷ others → Holds (segmentLine (g .header)) line → Wrote now j (textOf line) k is
+    → Left was i t is k (segmentLines others ++ last)
 unfolding segmentLines
 left-line was i t now j gs g others last line k is l e h w =
     left-more was i t now j (segmentLine (g .header)) (segmentLines others ++ last) k is (rw (e, append-assoc) at l) (rw (h .text) at w)
@@ -101,7 +103,8 @@ wrote-refused s r line was i k is e h w = rw (body-refused s r e) (rw (h .text) 
 pub wrote-none : (was s : List ℕ) → length was < 220000 → WroteListing was s 0 was
 wrote-none was s h = record { bytes = rw (lt-leb _ _ h); count = rw (lt-leb _ _ h); inside = omega arith }
 
-pub wrote-all : (was s : List ℕ) (r : ℕ) (is : List ℕ) → 220000 ≤ length was → Wrote was 0 (columnLine ++ body (listed s)) r is → WroteListing was s r is
+pub wrote-all : (was s : List ℕ) (r : ℕ) (is : List ℕ) → 220000 ≤ length was → Wrote was 0 (columnLine ++ body (listed s)) r is
+    → WroteListing was s r is
 unfolding listingOf
 wrote-all was s r is h w =
     record {

@@ -30,5 +30,6 @@ module _ (next i j n k next′ : ℕ) (r : List Held) (w : List Waiting) (up : H
       → HeldIs up (take i r ++ map waitingPart (take k (take j w))) → WaitingIs left (drop k (take j w))
       → ReceivingIs (record { next = next′; ready = up; waiting = left }) (advance next (take i r) (take j w))
   advanced b g e f q u v =
-      let whole : advance next (take i r) (take j w) ≡ raised next (take i r) (take j w) k = advance-run next (take i r) (take j w) b ∙ ap (raised next (take i r) (take j w)) (run-is g e f) in
+      let whole : advance next (take i r) (take j w) ≡ raised next (take i r) (take j w) k =
+      advance-run next (take i r) (take j w) b ∙ ap (raised next (take i r) (take j w)) (run-is g e f) in
       rw whole (record { next = q; ready = u; waiting = v })

@@ -34,7 +34,8 @@ module _ {A : Type 0} where
   holds-as h e = record { fits = h .fits; list = h .list ∙ e }
 
   -- one element more
-  pub holds-put : {size : ℕ} (l : List A) (n : ℕ) (a : A) → length l ≡ size → n < size → Holds size (set l n a) (n + 1) (take n l ++ (a ∷ []))
+  pub holds-put : {size : ℕ} (l : List A) (n : ℕ) (a : A) → length l ≡ size → n < size
+      → Holds size (set l n a) (n + 1) (take n l ++ (a ∷ []))
   holds-put l n a e h = record { fits = omega arith; list = take-put l n a (omega arith) }
 
   drop-more : (l m : List A) (i : ℕ) → drop i l ≡ drop i m → drop (i + 1) l ≡ drop (i + 1) m
@@ -46,13 +47,18 @@ pub record Written {A : Type 0} (size : ℕ) (l todo goal : List A) (j : ℕ) : 
   pub within : j ≤ size
   pub front : take j l ++ todo ≡ goal
 
-pub written-start : {A : Type 0} {size : ℕ} {l : List A} (todo : List A) (j : ℕ) → length l ≡ size → j ≤ size → Written size l todo (take j l ++ todo) j
+pub written-start : {A : Type 0} {size : ℕ} {l : List A} (todo : List A) (j : ℕ) → length l ≡ size → j ≤ size
+    → Written size l todo (take j l ++ todo) j
 written-start todo j h g = record { whole = h; within = g; front = refl }
 
 module _ {A : Type 0} {size : ℕ} {l goal : List A} {j : ℕ} where
   -- the next element is written
   pub written-put : {a : A} {todo : List A} → j < size → Written size l (a ∷ todo) goal j → Written size (set l j a) todo goal (j + 1)
-  written-put {a} h w = record { whole = length-set l j a ∙ w .whole; within = omega arith; front = rw (take-put l j a (omega arith), append-snoc) (w .front) }
+  written-put {a} h w = record {
+    whole = length-set l j a ∙ w .whole;
+    within = omega arith;
+    front = rw (take-put l j a (omega arith), append-snoc) (w .front);
+  }
 
   -- nothing is left to do
   pub written-done : {todo : List A} → todo ≡ [] → Written size l todo goal j → Holds size l j goal
@@ -67,12 +73,15 @@ pub record Packed {A : Type 0} (size n : ℕ) (l₀ l todo goal : List A) (i j :
   pub written : Written size l todo goal j
   pub rest : drop i l ≡ drop i l₀
 
-pub packed-start : {A : Type 0} {size n : ℕ} {l : List A} (todo : List A) (i j : ℕ) → j ≤ i → i ≤ n → n ≤ size → length l ≡ size → Packed size n l l todo (take j l ++ todo) i j
-packed-start todo i j a b g e = record { under = a; upto = b; room = g; whole = e; written = written-start todo j e (omega arith); rest = refl }
+pub packed-start : {A : Type 0} {size n : ℕ} {l : List A} (todo : List A) (i j : ℕ) → j ≤ i → i ≤ n → n ≤ size → length l ≡ size
+    → Packed size n l l todo (take j l ++ todo) i j
+packed-start todo i j a b g e =
+    record { under = a; upto = b; room = g; whole = e; written = written-start todo j e (omega arith); rest = refl }
 
 module _ {A : Type 0} {size n : ℕ} {l₀ l goal : List A} {i j : ℕ} where
   -- the next element is written, or passed over
-  pub packed-put : {a : A} {todo : List A} → i < n → Packed size n l₀ l (a ∷ todo) goal i j → Packed size n l₀ (set l j a) todo goal (i + 1) (j + 1)
+  pub packed-put : {a : A} {todo : List A} → i < n → Packed size n l₀ l (a ∷ todo) goal i j
+      → Packed size n l₀ (set l j a) todo goal (i + 1) (j + 1)
   packed-put {a} h p =
       record {
         under = omega arith;
@@ -84,13 +93,22 @@ module _ {A : Type 0} {size n : ℕ} {l₀ l goal : List A} {i j : ℕ} where
       }
 
   pub packed-skip : {todo : List A} → i < n → Packed size n l₀ l todo goal i j → Packed size n l₀ l todo goal (i + 1) j
-  packed-skip h p = record { under = omega arith; upto = omega arith; room = p .room; whole = p .whole; written = p .written; rest = drop-more l l₀ i (p .rest) }
+  packed-skip h p = record {
+    under = omega arith;
+    upto = omega arith;
+    room = p .room;
+    whole = p .whole;
+    written = p .written;
+    rest = drop-more l l₀ i (p .rest);
+  }
 
   -- what is read next is what was there at first
-  pub packed-next : {todo : List A} (d : A) → i < n → Packed size n l₀ l todo goal i j → drop i (take n l₀) ≡ getD l i d ∷ drop (i + 1) (take n l₀)
+  pub packed-next : {todo : List A} (d : A) → i < n → Packed size n l₀ l todo goal i j → drop i (take n l₀) ≡ getD l i d
+      ∷ drop (i + 1) (take n l₀)
   packed-next d h p =
       let q : i + 0 ≡ i = omega arith in
-      let e : getD l₀ i d ≡ getD l i d = rw q at (sym (getD-drop i l₀ 0 d) ∙ ap (λ (r : List A). getD r 0 d) (sym (p .rest)) ∙ getD-drop i l 0 d) in
+      let e : getD l₀ i d ≡ getD l i d =
+      rw q at (sym (getD-drop i l₀ 0 d) ∙ ap (λ (r : List A). getD r 0 d) (sym (p .rest)) ∙ getD-drop i l 0 d) in
       rw e at (view-next l₀ n i d h (omega arith))
 
   pub packed-done : {todo : List A} → todo ≡ [] → Packed size n l₀ l todo goal i j → Holds size l j goal

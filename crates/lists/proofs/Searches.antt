@@ -38,9 +38,17 @@ module _ {A : Type 0} (offset : A → ℕ) (a : A) (l : List A) (n i : ℕ) (g :
   insert-end h = inv ∙ rw (view-end l n i h)
 
   -- the list with one more is within its size
-  pub insert-room : (size : ℕ) → length (insert offset a (take n l)) ≤ size → insert offset a (take n l) ≡ take i (take n l) ++ (a ∷ drop i (take n l)) → n < size
+  pub insert-room : (size : ℕ) → length (insert offset a (take n l)) ≤ size → insert offset a (take n l) ≡ take i (take n l)
+      ++ (a ∷ drop i (take n l)) → n < size
   insert-room size b e =
-      omega (arith, ap length e, length-append (take i (take n l)) (a ∷ drop i (take n l)), length-take i (take n l), length-drop i (take n l), length-take-le n l g)
+      omega (
+        arith,
+        ap length e,
+        length-append (take i (take n l)) (a ∷ drop i (take n l)),
+        length-take i (take n l),
+        length-drop i (take n l),
+        length-take-le n l g,
+      )
 
   -- o is the offset of the entry at i, k that of a
   module _ (d : A) (o k : ℕ) (h : i < n) (e : o ≡ offset (getD l i d)) (f : k ≡ offset a) where
@@ -52,7 +60,8 @@ module _ {A : Type 0} (offset : A → ℕ) (a : A) (l : List A) (n i : ℕ) (g :
     unfolding insert
     insert-here p q = inv ∙ rw (view-next l n i d h g, ← e, ← f, ne-eqb o k p, lt-ltb k o q)
 
-    pub insert-later : (o ≡ k → ⊥) → o ≤ k → insert offset a (take n l) ≡ take (i + 1) (take n l) ++ insert offset a (drop (i + 1) (take n l))
+    pub insert-later : (o ≡ k → ⊥) → o ≤ k → insert offset a (take n l) ≡ take (i + 1) (take n l)
+        ++ insert offset a (drop (i + 1) (take n l))
     unfolding insert
     insert-later p q =
         let s : i < length (take n l) = rw (length-take-le n l g) h in

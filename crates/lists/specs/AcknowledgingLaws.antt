@@ -40,14 +40,16 @@ module _ {A : Type 0} where
       go false h = omega arith
 
   -- an ascending list stays ascending
-  pub select-ascending : (offset : A → ℕ) (test : A → Bool) (least limit : ℕ) (l : List A) → ascending offset least limit l ≡ true → ascending offset least limit (select test l) ≡ true
+  pub select-ascending : (offset : A → ℕ) (test : A → Bool) (least limit : ℕ) (l : List A) → ascending offset least limit l ≡ true
+      → ascending offset least limit (select test l) ≡ true
   unfolding select
   select-ascending offset test least limit [] h = h
   select-ascending offset test least limit (x ∷ l) h =
       let f = ascending-first offset least limit x l h in
       go (test x) f (select-ascending offset test (offset x + 1) limit l (f .later))
     where
-      go : (t : Bool) → First least (offset x) limit (ascending offset (offset x + 1) limit l) → ascending offset (offset x + 1) limit (select test l) ≡ true
+      go : (t : Bool) → First least (offset x) limit (ascending offset (offset x + 1) limit l)
+          → ascending offset (offset x + 1) limit (select test l) ≡ true
           → ascending offset least limit (cond t (x ∷ select test l) (select test l)) ≡ true
       go true f ih = ascending-cons offset least limit x (select test l) (record { low = f .low; high = f .high; later = ih })
       go false f ih = ascending-lower offset least (offset x + 1) limit (select test l) (omega (arith, f .low)) ih

@@ -41,14 +41,16 @@ take-joined (suc n) [] rs = refl
 take-joined (suc n) (o ∷ os) [] = refl
 take-joined (suc n) (o ∷ os) (r ∷ rs) = ap (λ (l : List Sent). withRecord o r ∷ l) (take-joined n os rs)
 
-pub get-joined : (os : List Outstanding) (rs : List Record) (i : ℕ) (o : Outstanding) (r : Record) → i < length (joined os rs) → getD (joined os rs) i (withRecord o r) ≡ withRecord (getD os i o) (getD rs i r)
+pub get-joined : (os : List Outstanding) (rs : List Record) (i : ℕ) (o : Outstanding) (r : Record) → i < length (joined os rs)
+    → getD (joined os rs) i (withRecord o r) ≡ withRecord (getD os i o) (getD rs i r)
 unfolding joined
 get-joined [] rs i o r h = absurd (omega arith)
 get-joined (p ∷ os) [] i o r h = absurd (omega arith)
 get-joined (p ∷ os) (q ∷ rs) zero o r h = refl
 get-joined (p ∷ os) (q ∷ rs) (suc i) o r h = get-joined os rs i o r (omega arith)
 
-pub set-joined : (os : List Outstanding) (rs : List Record) (i : ℕ) (o : Outstanding) (r : Record) → set (joined os rs) i (withRecord o r) ≡ joined (set os i o) (set rs i r)
+pub set-joined : (os : List Outstanding) (rs : List Record) (i : ℕ) (o : Outstanding) (r : Record)
+    → set (joined os rs) i (withRecord o r) ≡ joined (set os i o) (set rs i r)
 unfolding joined
 set-joined [] rs i o r = refl
 set-joined (p ∷ os) [] i o r = go i

@@ -35,7 +35,8 @@ first-wider test k zero g h l = absurd (omega arith)
 first-wider test k (suc f) zero h l = absurd (omega arith)
 first-wider test k (suc f) (suc g) h l = go (test k) l (first-wider test (k + 1) f g (omega arith))
   where
-    go : (t : Bool) → cond t (firstNot test (k + 1) f) k < k + suc f → (firstNot test (k + 1) f < k + 1 + f → firstNot test (k + 1) g ≡ firstNot test (k + 1) f)
+    go : (t : Bool) → cond t (firstNot test (k + 1) f) k < k + suc f
+        → (firstNot test (k + 1) f < k + 1 + f → firstNot test (k + 1) g ≡ firstNot test (k + 1) f)
         → cond t (firstNot test (k + 1) g) k ≡ cond t (firstNot test (k + 1) f) k
     go true l ih = ih (omega arith)
     go false l ih = refl
@@ -44,7 +45,8 @@ first-wider test k (suc f) (suc g) h l = go (test k) l (first-wider test (k + 1)
 pub slot-low : (marks : List ℕ) (k : ℕ) → nextFree marks k < 256 → k < 256
 slot-low marks k h = omega (arith, first-least (isMarked marks) k (256 - k))
 
-pub free-more : (marks : List ℕ) (k total : ℕ) → total ≡ nextFree marks k → total < 256 → (getD marks k 0 ≡ 0 → ⊥) → total ≡ nextFree marks (k + 1)
+pub free-more : (marks : List ℕ) (k total : ℕ) → total ≡ nextFree marks k → total < 256 → (getD marks k 0 ≡ 0 → ⊥)
+    → total ≡ nextFree marks (k + 1)
 free-more marks k total e h n = e ∙ first-more (isMarked marks) 256 k (slot-low marks k (rw (← e) h)) (rw (ne-eqb _ _ n) refl)
 
 pub further : (marks : List ℕ) (k total : ℕ) → total ≡ nextFree marks k → total < 256 → (getD marks k 0 ≡ 0 → ⊥) → k + 1 < 256
@@ -77,9 +79,15 @@ module _ {marks now : List ℕ} {k : ℕ} (f : Free marks now k) where
   free-low l = free-low-of 256 (omega arith) l
 
   -- it is taken
-  pub free-next : (s : ℕ) → s ≡ nextFree marks k → s < 256 → (now′ : List ℕ) → ((i : ℕ) → isUsed i now′ ≡ isUsed i (s ∷ now)) → Free marks now′ (s + 1)
+  pub free-next : (s : ℕ) → s ≡ nextFree marks k → s < 256 → (now′ : List ℕ) → ((i : ℕ) → isUsed i now′ ≡ isUsed i (s ∷ now))
+      → Free marks now′ (s + 1)
   free-next s e h now′ same =
-      record { used = f .used; marked = f .marked; walked = walked-as now′ same (walked-next now (f .used) 256 k s (e ∙ by-used) (f .walked)); within = omega arith }
+      record {
+        used = f .used;
+        marked = f .marked;
+        walked = walked-as now′ same (walked-next now (f .used) 256 k s (e ∙ by-used) (f .walked));
+        within = omega arith;
+      }
 
 -- the payload fits the slot
 pub slot-inside : (slots mss slot len size : ℕ) → slot < slots → len ≤ mss → slots * mss ≤ size → slot * mss + len ≤ size

@@ -27,13 +27,15 @@ pub marking-start : (before ws : List ℕ) (n : ℕ) → length before ≡ 256 �
 marking-start before ws n e = record { whole = e; marked = refl; unmarked = refl }
 
 module _ {before ws : List ℕ} {n : ℕ} {m : List ℕ} {twice i : ℕ} (p : Marking before ws n m twice i) where
-  pub marking-next : (s : ℕ) → s ≡ getD ws i 0 % 256 → i < n → n ≤ length ws → Marking before ws n (set m s 1) (bitOr twice (getD m s 0)) (i + 1)
+  pub marking-next : (s : ℕ) → s ≡ getD ws i 0 % 256 → i < n → n ≤ length ws
+      → Marking before ws n (set m s 1) (bitOr twice (getD m s 0)) (i + 1)
   unfolding markedAll unmarkedAll
   marking-next s e h g =
       record {
         whole = length-set m s 1 ∙ p .whole;
         marked = p .marked ∙ rw (view-next ws n i 0 h g, ← e) refl;
-        unmarked = p .unmarked ∙ rw (view-next ws n i 0 h g, ← e, or-none twice (getD m s 0)) (sym (and-assoc (eqb twice 0) (eqb (getD m s 0) 0) _));
+        unmarked = p .unmarked ∙ rw (view-next ws n i 0 h g, ← e, or-none twice (getD m s 0))
+            (sym (and-assoc (eqb twice 0) (eqb (getD m s 0) 0) _));
       }
 
   pub marking-end : n ≤ i → Marks before (left ws n 0) m (eqb twice 0)

@@ -33,7 +33,8 @@ free-set m s (t ∷ l) h = go (eqb t s) refl (free-set m s l h)
     swap false true c = refl
     swap false false c = refl
 
-    go : (z : Bool) → eqb t s ≡ z → free (set m s 1) l ≡ (not (isUsed s l) && free m l) → (eqb (getD (set m s 1) t 0) 0 && free (set m s 1) l) ≡ (not (z || isUsed s l) && (eqb (getD m t 0) 0 && free m l))
+    go : (z : Bool) → eqb t s ≡ z → free (set m s 1) l ≡ (not (isUsed s l) && free m l)
+        → (eqb (getD (set m s 1) t 0) 0 && free (set m s 1) l) ≡ (not (z || isUsed s l) && (eqb (getD m t 0) 0 && free m l))
     go true e ih = let q : t ≡ s = eqb-true t s e in rw (q, getD-set-same m s 1 0 h)
     go false e ih = rw (getD-set-other m s t 1 0 (eqb-false t s e), ih) (swap (eqb (getD m t 0) 0) (not (isUsed s l)) (free m l))
 
@@ -52,7 +53,8 @@ flag-once [] m h = refl
 flag-once (s ∷ l) m h =
     let parts = and-parts (ltb s (length m)) (allBelow (length m) l) h in
     let w : s < length m = ltb-true s (length m) (parts .0) in
-    rw (flag-once l (set m s 1) (rw (length-set m s 1) (parts .1)), free-set m s l w) (turn (eqb (getD m s 0) 0) (isUsed s l) (free m l) (once l))
+    rw (flag-once l (set m s 1) (rw (length-set m s 1) (parts .1)), free-set m s l w)
+    (turn (eqb (getD m s 0) 0) (isUsed s l) (free m l) (once l))
   where
     turn : (e u f o : Bool) → (e && (not u && f && o)) ≡ (e && f && (not u && o))
     turn false u f o = refl
@@ -70,7 +72,8 @@ flagged-once l h = once-flagged 256 l h
 pub flag-append : (m a b : List ℕ) → unmarkedAll m (a ++ b) ≡ (unmarkedAll m a && unmarkedAll (markedAll m a) b)
 unfolding unmarkedAll markedAll
 flag-append m [] b = refl
-flag-append m (s ∷ a) b = rw (flag-append (set m s 1) a b) (sym (and-assoc (eqb (getD m s 0) 0) (unmarkedAll (set m s 1) a) (unmarkedAll (markedAll (set m s 1) a) b)))
+flag-append m (s ∷ a) b = rw (flag-append (set m s 1) a b)
+    (sym (and-assoc (eqb (getD m s 0) 0) (unmarkedAll (set m s 1) a) (unmarkedAll (markedAll (set m s 1) a) b)))
 
 -- an or is 0 exactly where both are
 pub or-none : (a b : ℕ) → eqb (bitOr a b) 0 ≡ (eqb a 0 && eqb b 0)
@@ -100,7 +103,8 @@ unfolding markedAll allBelow isUsed
 marked-used [] m i h = refl
 marked-used (s ∷ l) m i h =
     let parts = and-parts (ltb s (length m)) (allBelow (length m) l) h in
-    marked-used l (set m s 1) i (rw (length-set m s 1) (parts .1)) ∙ rw (marked-set m s i (ltb-true s (length m) (parts .0))) (turn (isUsed i l) (eqb s i) (isMarked m i))
+    marked-used l (set m s 1) i (rw (length-set m s 1) (parts .1)) ∙ rw (marked-set m s i (ltb-true s (length m) (parts .0)))
+    (turn (isUsed i l) (eqb s i) (isMarked m i))
   where
     turn : (a b c : Bool) → (a || (b || c)) ≡ (b || a || c)
     turn true true c = refl

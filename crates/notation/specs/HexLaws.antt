@@ -70,7 +70,8 @@ unhex-more s i h =
     rw (drop-cons s (2 * i) 0, ← add-one (2 * i), drop-cons s (2 * i + 1) 0, ← add-one (2 * i + 1), next)
 
 -- their byte stored: what is left completes the whole
-pub decode-step : (s out whole : List ℕ) (i v : ℕ) → i < length s / 2 → v ≡ 16 * hexValue (getD s (2 * i) 0) + hexValue (getD s (2 * i + 1) 0) →
+pub decode-step : (s out whole : List ℕ) (i v : ℕ) → i < length s / 2 → v ≡ 16 * hexValue (getD s (2 * i) 0)
+    + hexValue (getD s (2 * i + 1) 0) →
     sets out i (unhex (drop (2 * i) s)) ≡ whole → sets (set out i v) (i + 1) (unhex (drop (2 * (i + 1)) s)) ≡ whole
 decode-step s out whole i v h e w =
     ap (λ (k : ℕ). sets (set out i v) k (unhex (drop (2 * (i + 1)) s))) (add-one i) ∙ rw e (rw (unhex-more s i h) at w)
@@ -95,7 +96,8 @@ pub read-hex : (w was is : List ℕ) → isDash w ≡ false → ltb 0 (length w 
 unfolding isBytes bytesOf
 read-hex w was is dash hex e = record { answer = rw (dash, hex, length-unhex); bytes = rw (dash, hex) e }
 
-pub read-none : (w was : List ℕ) → isDash w ≡ false → ltb 0 (length w / 2) && leb (length w / 2) (length was) && isHex w ≡ false → ReadBytes w was Malformed was
+pub read-none : (w was : List ℕ) → isDash w ≡ false → ltb 0 (length w / 2) && leb (length w / 2) (length was) && isHex w ≡ false
+    → ReadBytes w was Malformed was
 unfolding isBytes bytesOf
 read-none w was dash hex = record { answer = rw (dash, hex); bytes = rw (dash, hex) }
 
@@ -115,7 +117,8 @@ hexValue-hexDigit d h = go (decLt d 10)
         (rw (lt-ltb d 10 low, digit), rw (lt-ltb d 10 low, digit) (omega arith))
     go (no high) =
         let other : isDigit (87 + d) ≡ false = rw (lt-leb (87 + d) 57 (omega arith), and-false) in
-        let letter : leb 97 (87 + d) && leb (87 + d) 102 ≡ true = rw (le-leb 97 (87 + d) (omega arith), le-leb (87 + d) 102 (omega arith)) in
+        let letter : leb 97 (87 + d) && leb (87 + d) 102 ≡ true =
+        rw (le-leb 97 (87 + d) (omega arith), le-leb (87 + d) 102 (omega arith)) in
         (rw (le-ltb d 10 (omega arith), other, letter), rw (le-ltb d 10 (omega arith), other, letter) (omega arith))
 
 -- each is a byte
@@ -126,7 +129,8 @@ AreBytes (b ∷ l) = (b < 256) × AreBytes l
 every-hexOf : (l : List ℕ) → AreBytes l → every isHexDigit (hexOf l) ≡ true
 unfolding every hexOf
 every-hexOf [] h = refl
-every-hexOf (b ∷ l) h = rw (hexValue-hexDigit (b / 16) (omega (arith, h .0)) .0, hexValue-hexDigit (b % 16) (omega arith) .0) (every-hexOf l (h .1))
+every-hexOf (b ∷ l) h = rw (hexValue-hexDigit (b / 16) (omega (arith, h .0)) .0, hexValue-hexDigit (b % 16) (omega arith) .0)
+    (every-hexOf l (h .1))
 
 unhex-hexOf : (l : List ℕ) → AreBytes l → unhex (hexOf l) ≡ l
 unfolding unhex hexOf
@@ -141,7 +145,8 @@ length-hexOf [] = refl
 length-hexOf (b ∷ l) = omega (arith, length-hexOf l)
 
 -- bytes that are printed are read again
-pub read-printed : (l : List ℕ) (room : ℕ) → AreBytes l → length l ≤ room → (isBytes (bytesWord l) room ≡ true) × (bytesOf (bytesWord l) ≡ l)
+pub read-printed : (l : List ℕ) (room : ℕ) → AreBytes l → length l ≤ room
+    → (isBytes (bytesWord l) room ≡ true) × (bytesOf (bytesWord l) ≡ l)
 unfolding isBytes bytesOf isHex
 read-printed [] room h small = (refl, refl)
 read-printed (b ∷ l) room h small =

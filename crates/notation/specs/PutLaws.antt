@@ -41,12 +41,14 @@ put-then was mid is i j k t u a b = go (decLe (i + length t) (length was))
         let past : length mid ≤ j = omega (arith, long, a .next) in
         let past′ : length (sets was i t) ≤ i + length t = rw (length-sets was i t) (omega arith) in
         record {
-          bytes = rw (sets-append was i t u, sets-past (sets was i t) (i + length t) u past′) (b .bytes ∙ sets-past mid j u past ∙ a .bytes);
+          bytes = rw (sets-append was i t u, sets-past (sets was i t) (i + length t) u past′)
+              (b .bytes ∙ sets-past mid j u past ∙ a .bytes);
           next = next;
         }
 
 -- one byte more of s
-pub put-next : (was mid is : List ℕ) (i j k : ℕ) (s : List ℕ) (n : ℕ) → n < length s → Put was i (take n s) j mid → Put mid j (getD s n 0 ∷ []) k is → Put was i (take (n + 1) s) k is
+pub put-next : (was mid is : List ℕ) (i j k : ℕ) (s : List ℕ) (n : ℕ) → n < length s → Put was i (take n s) j mid
+    → Put mid j (getD s n 0 ∷ []) k is → Put was i (take (n + 1) s) k is
 put-next was mid is i j k s n h a b = rw (add-one, take-suc s n 0) (put-then was mid is i j k _ _ a b)
 
 -- the output keeps its length
@@ -65,7 +67,8 @@ pub partly-none : (l : List ℕ) (i : ℕ) (all : List ℕ) → Partly l i all i
 partly-none l i all = record { first = []; put = put-none l i; whole = refl }
 
 -- one part more
-pub partly-more : (was mid is : List ℕ) (i j k : ℕ) (all rest t u : List ℕ) → Partly was i all j mid rest → rest ≡ t ++ u → Put mid j t k is → Partly was i all k is u
+pub partly-more : (was mid is : List ℕ) (i j k : ℕ) (all rest t u : List ℕ) → Partly was i all j mid rest → rest ≡ t ++ u → Put mid j t k is
+    → Partly was i all k is u
 partly-more was mid is i j k all rest t u p e q =
     record { first = p .first ++ t; put = put-then _ _ _ _ _ _ _ _ (p .put) q; whole = rw append-assoc (rw e at (p .whole)) }
 

@@ -48,13 +48,15 @@ pub too-large : (w : List ℕ) → 4294967295 < value 0 w → numberOf w ≡ Mal
 unfolding numberOf
 too-large w h = rw (lt-leb _ _ h, and-false)
 
-pub is-number : (w : List ℕ) → 0 < length w → leadingZero w ≡ false → every isDigit w ≡ true → value 0 w ≤ 4294967295 → numberOf w ≡ Of (value 0 w)
+pub is-number : (w : List ℕ) → 0 < length w → leadingZero w ≡ false → every isDigit w ≡ true → value 0 w ≤ 4294967295
+    → numberOf w ≡ Of (value 0 w)
 unfolding numberOf isDecimal
 is-number w some no-zero digits small = rw (lt-ltb _ _ some, no-zero, digits, le-leb _ _ small)
 
 -- ---- byte by byte
 
-pub every-more : (test : ℕ → Bool) (s : List ℕ) (i : ℕ) → i < length s → test (getD s i 0) ≡ true → every test (drop i s) ≡ every test (drop (i + 1) s)
+pub every-more : (test : ℕ → Bool) (s : List ℕ) (i : ℕ) → i < length s → test (getD s i 0) ≡ true
+    → every test (drop i s) ≡ every test (drop (i + 1) s)
 unfolding every
 every-more test s i h e = rw (drop-cons s i 0, add-one, e)
 
@@ -154,7 +156,8 @@ decimal-value (c ∷ d ∷ ds) h =
     let parts = and-both (ltb 0 (length (c ∷ d ∷ ds)) && not (leadingZero (c ∷ d ∷ ds))) (every isDigit (c ∷ d ∷ ds)) h in
     let digits = and-both (isDigit c) (every isDigit (d ∷ ds)) (parts .1) in
     let range = digit-range c (digits .0) in
-    let plain = not-true (leadingZero (c ∷ d ∷ ds)) (and-both (ltb 0 (length (c ∷ d ∷ ds))) (not (leadingZero (c ∷ d ∷ ds))) (parts .0) .1) in
+    let plain = not-true (leadingZero (c ∷ d ∷ ds))
+    (and-both (ltb 0 (length (c ∷ d ∷ ds))) (not (leadingZero (c ∷ d ∷ ds))) (parts .0) .1) in
     let first : c ≡ 48 → ⊥ = eqb-false c 48 (rw (le-ltb (length (c ∷ d ∷ ds)) 2 (omega arith)) at plain) in
     rw (decimal-behind (10 * 0 + (c - 48)) (d ∷ ds) (omega arith) (digits .1), decimal-one c (digits .0))
 

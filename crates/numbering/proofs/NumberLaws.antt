@@ -29,15 +29,18 @@ use Rattle.numbering.proofs.SentLaws.{sents, sents-take, sents-set, sen
 -- ---- the loop
 
 -- i of the k queued segments stand behind the n outstanding ones
-pub record Numbering (queued : List ℕ) (k n next : ℕ) (ws₀ ts₀ : List ℕ) (rs₀ : List Record) (ws ts : List ℕ) (rs : List Record) (number i j : ℕ) : Type 0 where
+pub record Numbering (queued : List ℕ) (k n next : ℕ) (ws₀ ts₀ : List ℕ) (rs₀ : List Record) (ws ts : List ℕ) (rs : List Record)
+    (number i j : ℕ) : Type 0 where
   pub within : i ≤ k
   pub place : j ≡ n + i
   pub whole : length ws ≡ 32
   pub wholes : length ts ≡ 32
-  pub written : Written 32 (sents ws ts rs) (numbered number (map unpack (drop i (take k queued)))) (sentIn ws₀ ts₀ rs₀ n ++ numbered next (heldIn queued k)) j
+  pub written : Written 32 (sents ws ts rs) (numbered number (map unpack (drop i (take k queued))))
+      (sentIn ws₀ ts₀ rs₀ n ++ numbered next (heldIn queued k)) j
 
 module _ (queued : List ℕ) (k n next : ℕ) (ws₀ ts₀ : List ℕ) (rs₀ : List Record) where
-  pub numbering-start : n + k ≤ 32 → length ws₀ ≡ 32 → length ts₀ ≡ 32 → length rs₀ ≡ 32 → Numbering queued k n next ws₀ ts₀ rs₀ ws₀ ts₀ rs₀ next 0 n
+  pub numbering-start : n + k ≤ 32 → length ws₀ ≡ 32 → length ts₀ ≡ 32 → length rs₀ ≡ 32
+      → Numbering queued k n next ws₀ ts₀ rs₀ ws₀ ts₀ rs₀ next 0 n
   numbering-start h e f g =
       record {
         within = omega arith;
@@ -59,7 +62,8 @@ module _ (queued : List ℕ) (k n next : ℕ) (ws₀ ts₀ : List ℕ) (rs₀ : 
           place = omega (arith, w .place);
           whole = length-set ws j (getD queued i 0) ∙ w .whole;
           wholes = length-set ts j 0 ∙ w .wholes;
-          written = rw (← (sents-set ws ts rs j (getD queued i 0) 0 r), e, f) (written-put (omega (arith, w .place)) (rw (view-next queued k i 0 h (omega arith)) at (w .written)));
+          written = rw (← (sents-set ws ts rs j (getD queued i 0) 0 r), e, f)
+              (written-put (omega (arith, w .place)) (rw (view-next queued k i 0 h (omega arith)) at (w .written)));
         }
 
     -- all are
@@ -72,7 +76,8 @@ module _ (queued : List ℕ) (k n next : ℕ) (ws₀ ts₀ : List ℕ) (rs₀ : 
 -- ---- how many
 
 -- a list in number order is no longer than the span of its offsets
-ascending-short : {A : Type 0} (offset : A → ℕ) (least limit : ℕ) (l : List A) → ascending offset least limit l ≡ true → length l ≤ limit - least
+ascending-short : {A : Type 0} (offset : A → ℕ) (least limit : ℕ) (l : List A) → ascending offset least limit l ≡ true
+    → length l ≤ limit - least
 unfolding ascending
 ascending-short offset least limit [] e = omega arith
 ascending-short offset least limit (x ∷ l) e =
@@ -109,7 +114,13 @@ module _ (f : Flight) (window : ℕ) (queued outstanding transmissions : List �
   enough = omega arith
 
   pub few : length records ≡ 32 → f .outstanding + k ≤ 32
-  few g = omega (arith, valid-few window half (n .window-fits) (n .numbers), counted, front-length outstanding transmissions records (n .outstanding-whole) (n .transmissions-whole) g (f .outstanding) (n .outstanding-fits))
+  few g = omega (
+    arith,
+    valid-few window half (n .window-fits) (n .numbers),
+    counted,
+    front-length outstanding transmissions records (n .outstanding-whole) (n .transmissions-whole) g (f .outstanding)
+        (n .outstanding-fits),
+  )
 
   -- ---- what is left
 
@@ -128,7 +139,8 @@ module _ (f : Flight) (window : ℕ) (queued outstanding transmissions : List �
 
   -- some are numbered
   pub numbers-some : (next : ℕ) (queued′ outstanding′ transmissions′ : List ℕ) (records′ : List Record)
-      → SentFront outstanding′ transmissions′ records′ (f .outstanding + k) (sentIn outstanding transmissions records (f .outstanding) ++ numbered (f .next) (heldIn queued k))
+      → SentFront outstanding′ transmissions′ records′ (f .outstanding + k)
+      (sentIn outstanding transmissions records (f .outstanding) ++ numbered (f .next) (heldIn queued k))
       → Front 128 queued′ (f .queued - k) (drop k (take (f .queued) queued))
       → next ≡ plus (f .next) k
       → Numbers f window queued outstanding transmissions records
@@ -137,10 +149,16 @@ module _ (f : Flight) (window : ℕ) (queued outstanding transmissions : List �
   unfolding withNumbered
   numbers-some next queued′ outstanding′ transmissions′ records′ s r p =
       record {
-        sent = record { whole = s .whole; wholes = s .wholes; fits = s .fits; list = s .list ∙ ap (λ (q : List Held). half .outstanding ++ numbered (f .next) q) first ∙ ap (withNumbered half) counted };
+        sent = record {
+          whole = s .whole;
+          wholes = s .wholes;
+          fits = s .fits;
+          list = s .list ∙ ap (λ (q : List Held). half .outstanding ++ numbered (f .next) q) first ∙ ap (withNumbered half) counted;
+        };
         queued-whole = r .whole;
         queued-fits = r .fits;
-        left = ap (map unpack) (r .list) ∙ map-drop unpack k (take (f .queued) queued) ∙ ap (λ (m : ℕ). drop m (heldIn queued (f .queued))) counted;
+        left = ap (map unpack) (r .list) ∙ map-drop unpack k (take (f .queued) queued) ∙ ap (λ (m : ℕ). drop m (heldIn queued (f .queued)))
+            counted;
         rest = with-next (p ∙ ap (plus (f .next)) counted);
       }
     where
@@ -151,7 +169,9 @@ module _ (f : Flight) (window : ℕ) (queued outstanding transmissions : List �
       with-next q = rw q
 
   -- none is
-  pub numbers-none : k ≡ 0 → f .next < 2 ^ 32 → Numbers f window queued outstanding transmissions records (record { flight = f; records = records }) queued outstanding transmissions
+  pub numbers-none : k ≡ 0 → f .next < 2 ^ 32
+      → Numbers f window queued outstanding transmissions records (record { flight = f; records = records }) queued outstanding
+      transmissions
   unfolding withNumbered numbered
   numbers-none z h =
       let none : numberedCount window half ≡ 0 = sym counted ∙ z in

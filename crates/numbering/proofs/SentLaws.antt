@@ -23,11 +23,14 @@ module _ (ws ts : List ℕ) (rs : List Record) where
 
   -- their front
   pub sents-take : (n : ℕ) → sentIn ws ts rs n ≡ take n sents
-  sents-take n = ap (λ (os : List Outstanding). joined os rs) (paired-take outstandingAt n ws ts) ∙ sym (take-joined n (paired outstandingAt ws ts) rs)
+  sents-take n = ap (λ (os : List Outstanding). joined os rs) (paired-take outstandingAt n ws ts) ∙ sym
+      (take-joined n (paired outstandingAt ws ts) rs)
 
   -- a store at the same index of each
-  pub sents-set : (i w t : ℕ) (r : Record) → set sents i (withRecord (outstandingAt w t) r) ≡ joined (paired outstandingAt (set ws i w) (set ts i t)) (set rs i r)
-  sents-set i w t r = set-joined (paired outstandingAt ws ts) rs i (outstandingAt w t) r ∙ ap (λ (os : List Outstanding). joined os (set rs i r)) (paired-set outstandingAt ws ts i w t)
+  pub sents-set : (i w t : ℕ) (r : Record)
+      → set sents i (withRecord (outstandingAt w t) r) ≡ joined (paired outstandingAt (set ws i w) (set ts i t)) (set rs i r)
+  sents-set i w t r = set-joined (paired outstandingAt ws ts) rs i (outstandingAt w t) r ∙ ap
+      (λ (os : List Outstanding). joined os (set rs i r)) (paired-set outstandingAt ws ts i w t)
 
   module _ (e : length ws ≡ 32) (f : length ts ≡ 32) (g : length rs ≡ 32) where
     pub sents-length : length sents ≡ 32
@@ -38,7 +41,8 @@ module _ (ws ts : List ℕ) (rs : List Record) where
     front-length n h = ap length (sents-take n) ∙ length-take-le n sents (omega (arith, sents-length))
 
   -- a read at the same index of each
-  pub sents-get : (i : ℕ) (r : Record) → i < length ws → i < length ts → i < length sents → getD sents i (withRecord (outstandingAt 0 0) r) ≡ withRecord (outstandingAt (getD ws i 0) (getD ts i 0)) (getD rs i r)
+  pub sents-get : (i : ℕ) (r : Record) → i < length ws → i < length ts → i < length sents
+      → getD sents i (withRecord (outstandingAt 0 0) r) ≡ withRecord (outstandingAt (getD ws i 0) (getD ts i 0)) (getD rs i r)
   sents-get i r h g l =
       get-joined (paired outstandingAt ws ts) rs i (outstandingAt 0 0) r l
       ∙ ap (λ (o : Outstanding). withRecord o (getD rs i r)) (paired-get outstandingAt ws ts i (outstandingAt 0 0) h g)

@@ -45,7 +45,8 @@ module _ (c : Settings) where
   unfolding countsFit
   counted x = refl
 
-  fresh-state : (x : Arrays) (records : List Record) (acks : List ℕ) → stateOf (linkOf c (made c .flight) (made c .arrival) (made c .clock) x) records acks ≡ opened c
+  fresh-state : (x : Arrays) (records : List Record) (acks : List ℕ)
+      → stateOf (linkOf c (made c .flight) (made c .arrival) (made c .clock) x) records acks ≡ opened c
   unfolding stateOf opened pairs joined paired
   fresh-state x records acks = refl
 
@@ -61,7 +62,8 @@ module _ (c : Settings) (n : Lengths) (l : Link) (fit : Bool) (e : fit ≡ inRan
         passed true q = refl
         passed false q = sym q
 
-    pub accepts : long ≡ true → (o : Opened) → IsFresh c o → (x : Arrays) → OpenCore (opening c n) l (o .answer) (linkOf (o .settings) (o .flight) (o .arrival) (o .clock) x)
+    pub accepts : long ≡ true → (o : Opened) → IsFresh c o → (x : Arrays)
+        → OpenCore (opening c n) l (o .answer) (linkOf (o .settings) (o .flight) (o .arrival) (o .clock) x)
     unfolding opening
     accepts u o i x = rw (in-range, sym f ∙ u) (record { answer = i .answer; counts = i .counts x; state = i .state x })
 

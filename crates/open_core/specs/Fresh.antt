@@ -15,4 +15,5 @@ use Rattle.open_core.specs.declared.Opened.{Opened}
 pub record IsFresh (c : Settings) (o : Opened) : Type 0 where
   pub answer : o .answer ≡ Accepted
   pub counts : (x : Arrays) → countsFit (linkOf (o .settings) (o .flight) (o .arrival) (o .clock) x) ≡ true
-  pub state : (x : Arrays) (records : List Record) (acks : List ℕ) → stateOf (linkOf (o .settings) (o .flight) (o .arrival) (o .clock) x) records acks ≡ opened c
+  pub state : (x : Arrays) (records : List Record) (acks : List ℕ)
+      → stateOf (linkOf (o .settings) (o .flight) (o .arrival) (o .clock) x) records acks ≡ opened c

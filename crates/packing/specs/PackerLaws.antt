@@ -14,7 +14,22 @@ use Rattle.wire.specs.Stores.{sets-append}
 use Rattle.datagram.specs.Datagrams.{Segment}
 use Rattle.session.specs.Flushing.{Packing, bytesOfSegment, bytesOfSegments, packOne, datagramsOf}
 use Rattle.packing.specs.declared.Packer.{Packer}
-use Rattle.packing.specs.Packers.{joined, lengthsOf, bytesOfDatagrams, Output, none, begun, Packs, Fills, Room, Adds, fits, withLength, Puts, Finishes}
+use Rattle.packing.specs.Packers.{
+  joined,
+  lengthsOf,
+  bytesOfDatagrams,
+  Output,
+  none,
+  begun,
+  Packs,
+  Fills,
+  Room,
+  Adds,
+  fits,
+  withLength,
+  Puts,
+  Finishes,
+}
 
 -- ---- datagrams and segments joined
 
@@ -50,10 +65,12 @@ length-lengths [] = refl
 length-lengths (d ∷ ds) = rw (length-lengths ds)
 
 -- a datagram more
-joined-datagrams : (ds : List (List Segment)) (d : List Segment) → joined (bytesOfDatagrams (ds ++ (d ∷ []))) ≡ joined (bytesOfDatagrams ds) ++ bytesOfSegments d
+joined-datagrams : (ds : List (List Segment)) (d : List Segment) → joined (bytesOfDatagrams (ds ++ (d ∷ []))) ≡ joined (bytesOfDatagrams ds)
+    ++ bytesOfSegments d
 joined-datagrams ds d = rw (map-append, joined-more)
 
-lengths-datagrams : (ds : List (List Segment)) (d : List Segment) → lengthsOf (bytesOfDatagrams (ds ++ (d ∷ []))) ≡ lengthsOf (bytesOfDatagrams ds) ++ (length (bytesOfSegments d) ∷ [])
+lengths-datagrams : (ds : List (List Segment)) (d : List Segment)
+    → lengthsOf (bytesOfDatagrams (ds ++ (d ∷ []))) ≡ lengthsOf (bytesOfDatagrams ds) ++ (length (bytesOfSegments d) ∷ [])
 lengths-datagrams ds d = rw (map-append, lengths-more)
 
 -- ---- stores from the front on
@@ -76,15 +93,20 @@ module _ (out₀ lengths₀ : List ℕ) (p : Packing) (k : Packer) (out lengths 
   -- the length of the datagram that is being filled is noted
   lengths-noted : withLength k lengths ≡ sets lengths₀ 0 (lengthsOf (bytesOfDatagrams (p .closed ++ (p .filling ∷ []))))
   lengths-noted =
-      rw (filled, lengths-datagrams) (stored-behind lengths₀ lengths (lengthsOf (bytesOfDatagrams (p .closed))) (length (bytesOfSegments (p .filling)) ∷ []) (k .count) (w .sizes) (length-lengths (p .closed) ∙ sym (w .count)))
+      rw (filled, lengths-datagrams) (stored-behind lengths₀ lengths (lengthsOf (bytesOfDatagrams (p .closed)))
+      (length (bytesOfSegments (p .filling)) ∷ []) (k .count) (w .sizes) (length-lengths (p .closed) ∙ sym (w .count)))
 
   -- what is put comes behind all that is packed
-  put-behind : (ys : List ℕ) → sets out (k .at) ys ≡ sets out₀ 0 (joined (bytesOfDatagrams (p .closed)) ++ bytesOfSegments (p .filling) ++ ys)
-  put-behind ys = stored-behind out₀ out (joined (bytesOfDatagrams (p .closed)) ++ bytesOfSegments (p .filling)) ys (k .at) (w .bytes) packed-end
+  put-behind : (ys : List ℕ) → sets out (k .at) ys ≡ sets out₀ 0
+      (joined (bytesOfDatagrams (p .closed)) ++ bytesOfSegments (p .filling) ++ ys)
+  put-behind ys = stored-behind out₀ out (joined (bytesOfDatagrams (p .closed)) ++ bytesOfSegments (p .filling)) ys (k .at) (w .bytes)
+      packed-end
 
-  module _ (mtu n : ℕ) (g : Segment) (k′ : Packer) (out′ lengths′ : List ℕ) (size : length (bytesOfSegment g) ≡ n) (u : Puts mtu n (bytesOfSegment g) k out lengths k′ out′ lengths′) where
+  module _ (mtu n : ℕ) (g : Segment) (k′ : Packer) (out′ lengths′ : List ℕ) (size : length (bytesOfSegment g) ≡ n)
+      (u : Puts mtu n (bytesOfSegment g) k out lengths k′ out′ lengths′) where
     -- it stays in the datagram
-    same-datagram : fits mtu n k ≡ true → Packs out₀ lengths₀ (record { closed = p .closed; filling = p .filling ++ (g ∷ []) }) k′ out′ lengths′
+    same-datagram : fits mtu n k ≡ true
+        → Packs out₀ lengths₀ (record { closed = p .closed; filling = p .filling ++ (g ∷ []) }) k′ out′ lengths′
     same-datagram e =
         record {
           bytes = u .output ∙ put-behind (bytesOfSegment g) ∙ rw (segments-append, segments-one, append-assoc);
@@ -95,7 +117,8 @@ module _ (out₀ lengths₀ : List ℕ) (p : Packing) (k : Packer) (out lengths 
         }
 
     -- it starts a new one
-    new-datagram : fits mtu n k ≡ false → Packs out₀ lengths₀ (record { closed = p .closed ++ (p .filling ∷ []); filling = g ∷ [] }) k′ out′ lengths′
+    new-datagram : fits mtu n k ≡ false
+        → Packs out₀ lengths₀ (record { closed = p .closed ++ (p .filling ∷ []); filling = g ∷ [] }) k′ out′ lengths′
     new-datagram e =
         record {
           bytes = u .output ∙ put-behind (bytesOfSegment g) ∙ rw (joined-datagrams, segments-one);
@@ -110,7 +133,9 @@ module _ (out₀ lengths₀ : List ℕ) (p : Packing) (k : Packer) (out lengths 
     unfolding packOne
     packs-put = rw (size, ← filled) (by-test (fits mtu n k) refl)
       where
-        by-test : (b : Bool) → fits mtu n k ≡ b → Packs out₀ lengths₀ (cond b (record { closed = p .closed; filling = p .filling ++ (g ∷ []) }) (record { closed = p .closed ++ (p .filling ∷ []); filling = g ∷ [] })) k′ out′ lengths′
+        by-test : (b : Bool) → fits mtu n k ≡ b
+            → Packs out₀ lengths₀ (cond b (record { closed = p .closed; filling = p .filling ++ (g ∷ []) })
+            (record { closed = p .closed ++ (p .filling ∷ []); filling = g ∷ [] })) k′ out′ lengths′
         by-test true e = same-datagram e
         by-test false e = new-datagram e
 
@@ -118,7 +143,8 @@ module _ (out₀ lengths₀ : List ℕ) (p : Packing) (k : Packer) (out lengths 
 
 -- a segment of n bytes that is put is added
 module _ (mtu n : ℕ) (g : Segment) (k : Packer) (out lengths : List ℕ) (k′ : Packer) (out′ lengths′ : List ℕ)
-    (size : length (bytesOfSegment g) ≡ n) (small : n ≤ mtu) (f : Fills mtu k) (u : Puts mtu n (bytesOfSegment g) k out lengths k′ out′ lengths′) where
+    (size : length (bytesOfSegment g) ≡ n) (small : n ≤ mtu) (f : Fills mtu k)
+    (u : Puts mtu n (bytesOfSegment g) k out lengths k′ out′ lengths′) where
   long : 24 ≤ n
   long = omega (arith, length-segment g)
 
@@ -153,11 +179,21 @@ module _ (mtu n : ℕ) (g : Segment) (k : Packer) (out lengths : List ℕ) (k′
 
 -- none
 pub adds-none : (mtu : ℕ) (k : Packer) (out lengths : List ℕ) → Fills mtu k → Adds mtu [] 0 0 k out lengths k out lengths
-adds-none mtu k out lengths f = record { packs = λ out₀ lengths₀ p w. w; fills = f; bytes = omega arith; datagrams = omega arith; out-length = refl; lengths-length = refl }
+adds-none mtu k out lengths f =
+    record {
+      packs = λ out₀ lengths₀ p w. w;
+      fills = f;
+      bytes = omega arith;
+      datagrams = omega arith;
+      out-length = refl;
+      lengths-length = refl;
+    }
 
-module _ {mtu : ℕ} {gs : List Segment} {n m : ℕ} {k : Packer} {out lengths : List ℕ} {k′ : Packer} {out′ lengths′ : List ℕ} (a : Adds mtu gs n m k out lengths k′ out′ lengths′) where
+module _ {mtu : ℕ} {gs : List Segment} {n m : ℕ} {k : Packer} {out lengths : List ℕ} {k′ : Packer} {out′ lengths′ : List ℕ}
+    (a : Adds mtu gs n m k out lengths k′ out′ lengths′) where
   -- more behind them
-  pub adds-append : {hs : List Segment} {i j : ℕ} {k″ : Packer} {out″ lengths″ : List ℕ} → Adds mtu hs i j k′ out′ lengths′ k″ out″ lengths″ → Adds mtu (gs ++ hs) (n + i) (m + j) k out lengths k″ out″ lengths″
+  pub adds-append : {hs : List Segment} {i j : ℕ} {k″ : Packer} {out″ lengths″ : List ℕ} → Adds mtu hs i j k′ out′ lengths′ k″ out″ lengths″
+      → Adds mtu (gs ++ hs) (n + i) (m + j) k out lengths k″ out″ lengths″
   adds-append {hs} b =
       record {
         packs = λ out₀ lengths₀ p w. rw foldl-append (b .packs out₀ lengths₀ (foldl (packOne mtu) p gs) (a .packs out₀ lengths₀ p w));
@@ -181,7 +217,8 @@ module _ {mtu : ℕ} {gs : List Segment} {n m : ℕ} {k : Packer} {out lengths :
       }
 
   -- the room that is left
-  pub room-left : {i j more further : ℕ} → Room mtu more further k out lengths → n + i ≤ more → m + j ≤ further → Room mtu i j k′ out′ lengths′
+  pub room-left : {i j more further : ℕ} → Room mtu more further k out lengths → n + i ≤ more → m + j ≤ further
+      → Room mtu i j k′ out′ lengths′
   room-left r h g =
       record {
         fills = a .fills;
@@ -197,9 +234,11 @@ unfolding joined bytesOfSegments lengthsOf
 packs-none out lengths = record { bytes = refl; sizes = refl; start = refl; at = refl; count = refl }
 
 -- the last datagram is closed, unless it is empty
-module _ (out₀ lengths₀ : List ℕ) (k : Packer) (out lengths : List ℕ) (count : ℕ) (lengths′ : List ℕ) (c : Finishes k lengths count lengths′) where
+module _ (out₀ lengths₀ : List ℕ) (k : Packer) (out lengths : List ℕ) (count : ℕ) (lengths′ : List ℕ)
+    (c : Finishes k lengths count lengths′) where
   -- it is empty
-  finishes-empty : (ds : List (List Segment)) → Packs out₀ lengths₀ (record { closed = ds; filling = [] }) k out lengths → Output (bytesOfDatagrams ds) out₀ lengths₀ count out lengths′
+  finishes-empty : (ds : List (List Segment)) → Packs out₀ lengths₀ (record { closed = ds; filling = [] }) k out lengths
+      → Output (bytesOfDatagrams ds) out₀ lengths₀ count out lengths′
   unfolding bytesOfSegments
   finishes-empty ds w =
       let same : k .at ≡ k .start = omega (arith, w .at) in
@@ -209,18 +248,23 @@ module _ (out₀ lengths₀ : List ℕ) (k : Packer) (out lengths : List ℕ) (c
         number = rw length-map (omega (arith, c .number, w .count));
       }
 
-  finishes-last : (ds : List (List Segment)) (d : List Segment) → 0 < length (bytesOfSegments d) → Packs out₀ lengths₀ (record { closed = ds; filling = d }) k out lengths → Output (bytesOfDatagrams (ds ++ (d ∷ []))) out₀ lengths₀ count out lengths′
+  finishes-last : (ds : List (List Segment)) (d : List Segment) → 0 < length (bytesOfSegments d)
+      → Packs out₀ lengths₀ (record { closed = ds; filling = d }) k out lengths
+      → Output (bytesOfDatagrams (ds ++ (d ∷ []))) out₀ lengths₀ count out lengths′
   finishes-last ds d h w =
       let further : k .at ≡ k .start → ⊥ = λ e. omega (arith, w .at) in
       record {
         bytes = w .bytes ∙ rw joined-datagrams;
-        sizes = rw (ne-eqb (k .at) (k .start) further) at (c .sizes) ∙ lengths-noted out₀ lengths₀ (record { closed = ds; filling = d }) k out lengths w;
+        sizes = rw (ne-eqb (k .at) (k .start) further) at (c .sizes) ∙ lengths-noted out₀ lengths₀ (record { closed = ds; filling = d }) k
+            out lengths w;
         number = rw (length-map, length-append) (omega (arith, c .number, w .count, w .at));
       }
 
-  pub finishes-output : (p : Packing) → Packs out₀ lengths₀ p k out lengths → Output (bytesOfDatagrams (datagramsOf (p .closed) (p .filling))) out₀ lengths₀ count out lengths′
+  pub finishes-output : (p : Packing) → Packs out₀ lengths₀ p k out lengths
+      → Output (bytesOfDatagrams (datagramsOf (p .closed) (p .filling))) out₀ lengths₀ count out lengths′
   finishes-output p w = go (p .closed) (p .filling) w
     where
-      go : (ds : List (List Segment)) (d : List Segment) → Packs out₀ lengths₀ (record { closed = ds; filling = d }) k out lengths → Output (bytesOfDatagrams (datagramsOf ds d)) out₀ lengths₀ count out lengths′
+      go : (ds : List (List Segment)) (d : List Segment) → Packs out₀ lengths₀ (record { closed = ds; filling = d }) k out lengths
+          → Output (bytesOfDatagrams (datagramsOf ds d)) out₀ lengths₀ count out lengths′
       go ds [] v = finishes-empty ds v
       go ds (g ∷ gs) v = finishes-last ds (g ∷ gs) (some-bytes g gs) v

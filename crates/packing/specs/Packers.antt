@@ -70,13 +70,15 @@ pub record Room (mtu n m : ℕ) (k : Packer) (out lengths : List ℕ) : Type 0 w
   pub datagrams : begun k + m ≤ length lengths
 
 -- segments are packed behind whatever was packed: at most n bytes, in at most m datagrams more
-pub record Adds (mtu : ℕ) (gs : List Segment) (n m : ℕ) (k : Packer) (out lengths : List ℕ) (k′ : Packer) (out′ lengths′ : List ℕ) : Type 0 where
-  pub packs : (out₀ lengths₀ : List ℕ) (p : Packing) → Packs out₀ lengths₀ p k out lengths → Packs out₀ lengths₀ (foldl (packOne mtu) p gs) k′ out′ lengths′
-  pub fills : Fills mtu k′
-  pub bytes : k′ .at ≤ k .at + n
-  pub datagrams : begun k′ ≤ begun k + m
-  pub out-length : length out′ ≡ length out
-  pub lengths-length : length lengths′ ≡ length lengths
+pub record Adds (mtu : ℕ) (gs : List Segment) (n m : ℕ) (k : Packer) (out lengths : List ℕ) (k′ : Packer) (out′ lengths′ : List ℕ) : Type 0
+  where
+    pub packs : (out₀ lengths₀ : List ℕ) (p : Packing) → Packs out₀ lengths₀ p k out lengths
+        → Packs out₀ lengths₀ (foldl (packOne mtu) p gs) k′ out′ lengths′
+    pub fills : Fills mtu k′
+    pub bytes : k′ .at ≤ k .at + n
+    pub datagrams : begun k′ ≤ begun k + m
+    pub out-length : length out′ ≡ length out
+    pub lengths-length : length lengths′ ≡ length lengths
 
 -- ---- the steps of a packer
 

@@ -64,7 +64,8 @@ fn make_room(packer: Packer, mtu: usize, size: usize, lengths: &mut [u16]) -> Pa
 // A header, with room for its payload behind it.
 fn put_header(packer: Packer, mtu: usize, h: Header, out: &mut [u8], lengths: &mut [u16]) -> Packer
     requires { ⌜ Room mtu (24 + h .len) 1 packer (now out) (now lengths) × (24 + h .len ≤ mtu) ⌝ }
-    ensures { λ r. ⌜ Puts mtu (24 + h .len) (encode h) packer (now (out .entry)) (now (lengths .entry)) r (now (out .exit)) (now (lengths .exit)) ⌝ }
+    ensures { λ r. ⌜ Puts mtu (24 + h .len) (encode h) packer (now (out .entry)) (now (lengths .entry)) r (now (out .exit))
+        (now (lengths .exit)) ⌝ }
 {
     let at = packer.at;
     let room = make_room(packer, mtu, Protocol::HEADER + h.len as usize, lengths);
@@ -88,7 +89,8 @@ pub fn put_control(
     lengths: &mut [u16],
 ) -> Packer
     requires { ⌜ Room mtu 24 1 packer (now out) (now lengths) × (24 ≤ mtu) ⌝ }
-    ensures { λ r. ⌜ Puts mtu 24 (bytesOfSegment (control (carriedOf carried) cmd sn ts)) packer (now (out .entry)) (now (lengths .entry)) r (now (out .exit)) (now (lengths .exit)) ⌝ }
+    ensures { λ r. ⌜ Puts mtu 24 (bytesOfSegment (control (carriedOf carried) cmd sn ts)) packer (now (out .entry)) (now (lengths .entry)) r
+        (now (out .exit)) (now (lengths .exit)) ⌝ }
 {
     let header = Header {
         conv: carried.conv,
@@ -114,8 +116,11 @@ pub fn put_data(
     out: &mut [u8],
     lengths: &mut [u16],
 ) -> Packer
-    requires { ⌜ Room mtu (24 + sent .held .len) 1 packer (now out) (now lengths) × (24 + sent .held .len ≤ mtu) × (sent .held .slot * (mtu - 24) + sent .held .len ≤ length (now pool)) ⌝ }
-    ensures { λ r. ⌜ Puts mtu (24 + sent .held .len) (bytesOfSegment (dataSegment (carriedOf carried) (mtu - 24) t (now (pool .entry)) sent)) packer (now (out .entry)) (now (lengths .entry)) r (now (out .exit)) (now (lengths .exit)) ⌝ }
+    requires { ⌜ Room mtu (24 + sent .held .len) 1 packer (now out) (now lengths) × (24 + sent .held .len ≤ mtu) ×
+        (sent .held .slot * (mtu - 24) + sent .held .len ≤ length (now pool)) ⌝ }
+    ensures { λ r. ⌜ Puts mtu (24 + sent .held .len)
+        (bytesOfSegment (dataSegment (carriedOf carried) (mtu - 24) t (now (pool .entry)) sent)) packer (now (out .entry))
+        (now (lengths .entry)) r (now (out .exit)) (now (lengths .exit)) ⌝ }
 {
     let held = sent.held;
     let len = held.len as usize;

@@ -29,7 +29,8 @@ pub seen-again : (l : List (List ℕ)) (out lens : List ℕ) → length (joined 
     parts (sets out 0 (joined l)) (take (length l) (sets lens 0 (lengthsOf l))) ≡ l
 seen-again l out lens h g =
     ap₂ parts (sets-front out (joined l) h)
-    (ap (take (length l)) (sets-front lens (lengthsOf l) (rw (length-lengths l) g)) ∙ take-at (lengthsOf l) (drop (length (lengthsOf l)) lens) (length l) (length-lengths l))
+    (ap (take (length l)) (sets-front lens (lengthsOf l) (rw (length-lengths l) g)) ∙ take-at (lengthsOf l)
+    (drop (length (lengthsOf l)) lens) (length l) (length-lengths l))
     ∙ parts-joined l (drop (length (joined l)) out)
 
 -- n parts of at most b bytes each
@@ -54,7 +55,8 @@ saw (refused r) n e = let z : _≡_ {A = ℕ} 0 1 = cc in absurd (omega arith)
 saw (wrote l) n e = record { parts = l; is = refl; count = cc }
 
 -- what a caller sees of it
-pub seen-parts : (o : Outcome) (l : List (List ℕ)) (n : ℕ) (out lens out′ lens′ : List ℕ) → Gives o out lens (Written n) out′ lens′ → o ≡ wrote l →
+pub seen-parts : (o : Outcome) (l : List (List ℕ)) (n : ℕ) (out lens out′ lens′ : List ℕ) → Gives o out lens (Written n) out′ lens′
+    → o ≡ wrote l →
     length (joined l) ≤ length out → length l ≤ length lens → parts out′ (take n lens′) ≡ l
 seen-parts o l n out lens out′ lens′ g e h k =
     let q : n ≡ length l = (let z : Written n ≡ answerOf (wrote l) = g .answer ∙ ap answerOf e in cc) in

@@ -29,7 +29,8 @@ pub record Recovered (sent : List (List ℕ)) (d : List ℕ) : Type 0 where
   pub count : ℕ
   pub out′ : List ℕ
   pub outLengths′ : List ℕ
-  pub writes : Gives (writeOf group k mtu datagrams lengths (length out) (length outLengths)) out outLengths (Written count) out′ outLengths′
+  pub writes : Gives (writeOf group k mtu datagrams lengths (length out) (length outLengths)) out outLengths (Written count) out′
+      outLengths′
   -- the reader is lent frames that it wrote
   pub frames : List ℕ
   pub frameLengths : List ℕ
@@ -39,7 +40,8 @@ pub record Recovered (sent : List (List ℕ)) (d : List ℕ) : Type 0 where
   pub backCount : ℕ
   pub back′ : List ℕ
   pub backLengths′ : List ℕ
-  pub reads : Gives (readOf k mtu frames frameLengths (length back) (length backLengths)) back backLengths (Written backCount) back′ backLengths′
+  pub reads : Gives (readOf k mtu frames frameLengths (length back) (length backLengths)) back backLengths (Written backCount) back′
+      backLengths′
   pub among : List·Memᴰ d (parts back′ (take backCount backLengths′))
 
 -- every datagram taken in is one that was sent, as it came or by way of the reader

@@ -5,18 +5,74 @@ use mathlib.Core.Logic.{_⊎_, inl, inr, ⊎-elim}
 use mathlib.Core.Bool.{Bool, true, false, cond, _&&_, _||_, not}
 use mathlib.Core.List.{List, [], _∷_, _++_, map, append-assoc, append-nil}
 use Prim.Native.Nat.{ℕ, zero, suc, _+_, _-_, _*_, _/_, _%_, _≤_, _<_, max}
-use native.Mathlib.Nat.{not-suc-le-zero, zero-lt-suc, add-comm, add-zero, zero-add, suc-mul, mul-add-mod-self-right, add-mul-div-right, mod-eq-of-lt, div-eq-of-lt, mul-le-mul-right, mul-le-mul-left, le-of-lt}
+use native.Mathlib.Nat.{
+  not-suc-le-zero,
+  zero-lt-suc,
+  add-comm,
+  add-zero,
+  zero-add,
+  suc-mul,
+  mul-add-mod-self-right,
+  add-mul-div-right,
+  mod-eq-of-lt,
+  div-eq-of-lt,
+  mul-le-mul-right,
+  mul-le-mul-left,
+  le-of-lt,
+}
 use native.Mathlib.Numerals.{add-one}
 use native.Mathlib.Omega.{arith}
 use borrow.Author.Tests.{leb-true, leb-false, eqb-true, eqb-false, ltb-true, ltb-false, lt-ltb, le-ltb, le-leb, lt-leb, eq-eqb, ne-eqb}
 use lib.Dec.{eqb, ltb, leb}
-use lib.ListN.{length, getD, take, drop, set, length-append, length-take, length-drop, length-set, drop-of-length-le, List·getD-append, List·getD-eq-default}
-use lib.Seq.{take-all, sets, length-sets, drop-cons, take-suc, take-all, getD-take, getD-drop, drop-drop, ext-getD, getD-append-seam, getD-set-same, getD-set-other}
+use lib.ListN.{
+  length,
+  getD,
+  take,
+  drop,
+  set,
+  length-append,
+  length-take,
+  length-drop,
+  length-set,
+  drop-of-length-le,
+  List·getD-append,
+  List·getD-eq-default,
+}
+use lib.Seq.{
+  take-all,
+  sets,
+  length-sets,
+  drop-cons,
+  take-suc,
+  take-all,
+  getD-take,
+  getD-drop,
+  drop-drop,
+  ext-getD,
+  getD-append-seam,
+  getD-set-same,
+  getD-set-other,
+}
 use Rattle.wire.specs.LittleEndian.{bytesOf, numberAt, AllBytes}
 use Rattle.wire.specs.LittleEndianLaws.{length-bytesOf}
 use Rattle.wire.specs.Stores.{sets-append}
 use Rattle.galois.specs.Field.{plus, double, mul, power, inverse}
-use Rattle.galois.specs.FieldLaws.{plus-zero, zero-plus, plus-self, plus-swap, plus-comm, plus-assoc, plus-twice, plus-lt, mul-lt, mul-zero, one-mul, mul-plus, mul-plus-left, power-lt}
+use Rattle.galois.specs.FieldLaws.{
+  plus-zero,
+  zero-plus,
+  plus-self,
+  plus-swap,
+  plus-comm,
+  plus-assoc,
+  plus-twice,
+  plus-lt,
+  mul-lt,
+  mul-zero,
+  one-mul,
+  mul-plus,
+  mul-plus-left,
+  power-lt,
+}
 use Rattle.galois.specs.TableLaws.{power-positive, power-differs, undo-mul}
 use Rattle.frames.specs.declared.Refusal.{Refusal}
 use Rattle.frames.specs.declared.Refusal.the-variants.{ShortPart, SettingOutOfRange, NotAGroup, TooFewFrames, LateGroup}
@@ -24,11 +80,112 @@ use Rattle.frames.specs.declared.Answer.{Answer}
 use Rattle.frames.specs.declared.Answer.the-variants.{Written, Refused}
 use Rattle.frames.specs.Lists.{listed, joined, lengthsOf, parts, addUp, largest, total, count, other, every, among, different}
 use Rattle.frames.specs.Frames.{shard, longest, weight, parityByte, parityShard, typeAt, shardAt, frame, frameAt, group}
-use Rattle.frames.specs.Outcomes.{Outcome, refused, wrote, answerOf, bytesAfter, lengthsAfter, Gives, settingsOk, lentOk, lengthOk, lengthsOk, groupsEnd, writeOf}
-use Rattle.frames.specs.Reading.{sequenceOf, groupOf, placeOf, frameOk, firstGroup, heldShard, has, rest, solved, byteAt, lenAt, datagramAt, found, same, holds, readGroup, readFrames, readOf}
-use Rattle.frames.specs.PlaceLaws.{length-listed, getD-listed, listed-same, listed-next, listed-getD, listed-bytes, total-same, total-plus, total-none, total-one, total-two, total-next, count-none, count-three, other-none, other-some, Lost}
-use Rattle.frames.specs.PartLaws.{length-part, packed-step, packed-short, packed-end, lengths-step, lengths-bad, lengths-end, largest-step, largest-end, length-parts, part-at, add-up-next, add-up-le, length-part, joined-append, joined-next, length-lengths, lengths-next, stored, noted, lengths-parts, getD-largest, length-joined-next, largest-le, largest-ge, size-le}
-use Rattle.frames.specs.FrameLaws.{length-shard, parity-at, shardAt-data, shardAt-parity, seq-of, type-of, len-of, shard-of, length-frame, len-shard, two-bytes, behind, shard-bytes, shard-low, shard-high, shard-byte, type-lt, length-parityShard, length-frameAt, drop-frameAt, type-at, len-at}
+use Rattle.frames.specs.Outcomes.{
+  Outcome,
+  refused,
+  wrote,
+  answerOf,
+  bytesAfter,
+  lengthsAfter,
+  Gives,
+  settingsOk,
+  lentOk,
+  lengthOk,
+  lengthsOk,
+  groupsEnd,
+  writeOf,
+}
+use Rattle.frames.specs.Reading.{
+  sequenceOf,
+  groupOf,
+  placeOf,
+  frameOk,
+  firstGroup,
+  heldShard,
+  has,
+  rest,
+  solved,
+  byteAt,
+  lenAt,
+  datagramAt,
+  found,
+  same,
+  holds,
+  readGroup,
+  readFrames,
+  readOf,
+}
+use Rattle.frames.specs.PlaceLaws.{
+  length-listed,
+  getD-listed,
+  listed-same,
+  listed-next,
+  listed-getD,
+  listed-bytes,
+  total-same,
+  total-plus,
+  total-none,
+  total-one,
+  total-two,
+  total-next,
+  count-none,
+  count-three,
+  other-none,
+  other-some,
+  Lost,
+}
+use Rattle.frames.specs.PartLaws.{
+  length-part,
+  packed-step,
+  packed-short,
+  packed-end,
+  lengths-step,
+  lengths-bad,
+  lengths-end,
+  largest-step,
+  largest-end,
+  length-parts,
+  part-at,
+  add-up-next,
+  add-up-le,
+  length-part,
+  joined-append,
+  joined-next,
+  length-lengths,
+  lengths-next,
+  stored,
+  noted,
+  lengths-parts,
+  getD-largest,
+  length-joined-next,
+  largest-le,
+  largest-ge,
+  size-le,
+}
+use Rattle.frames.specs.FrameLaws.{
+  length-shard,
+  parity-at,
+  shardAt-data,
+  shardAt-parity,
+  seq-of,
+  type-of,
+  len-of,
+  shard-of,
+  length-frame,
+  len-shard,
+  two-bytes,
+  behind,
+  shard-bytes,
+  shard-low,
+  shard-high,
+  shard-byte,
+  type-lt,
+  length-parityShard,
+  length-frameAt,
+  drop-frameAt,
+  type-at,
+  len-at,
+}
 use Rattle.frames.specs.OutcomeLaws.{and-left, and-right}
 use Rattle.parity_scan.specs.Held.{shardIn}
 use Rattle.parity_found.specs.declared.Group.{Group}
@@ -52,7 +209,8 @@ lengthsOk-append mtu (x ∷ xs) v = go (lengthOk mtu x) (lengthsOk-append mtu xs
     go false e = refl
 
 module _ (mtu : ℕ) (f : ℕ → List ℕ) where
-  lengthsOk-next : (n : ℕ) → lengthsOk mtu (lengthsOf (listed f (n + 1))) ≡ (lengthsOk mtu (lengthsOf (listed f n)) && lengthOk mtu (length (f n)))
+  lengthsOk-next : (n : ℕ) → lengthsOk mtu (lengthsOf (listed f (n + 1))) ≡
+      (lengthsOk mtu (lengthsOf (listed f n)) && lengthOk mtu (length (f n)))
   lengthsOk-next n = ap (lengthsOk mtu) (lengths-next f n) ∙ lengthsOk-append mtu (lengthsOf (listed f n)) (length (f n))
 
   pub lengths-good : (n m : ℕ) → m ≡ length (f n) → lengthsOk mtu (lengthsOf (listed f n)) ≡ true → 24 ≤ m → leb m mtu ≡ true
@@ -65,7 +223,8 @@ module _ (mtu : ℕ) (f : ℕ → List ℕ) where
       subst (λ (q : ℕ). lengthsOk mtu (lengthsOf (listed f q)) ≡ false) (add-one n)
       (lengthsOk-next n ∙ go (eqb i n) refl (λ m. lengths-wrong n i m e))
     where
-      go : (b : Bool) → eqb i n ≡ b → (i < n → lengthsOk mtu (lengthsOf (listed f n)) ≡ false) → (lengthsOk mtu (lengthsOf (listed f n)) && lengthOk mtu (length (f n))) ≡ false
+      go : (b : Bool) → eqb i n ≡ b → (i < n → lengthsOk mtu (lengthsOf (listed f n)) ≡ false)
+          → (lengthsOk mtu (lengthsOf (listed f n)) && lengthOk mtu (length (f n))) ≡ false
       go true q ih = both (lengthsOk mtu (lengthsOf (listed f n))) (ap (λ (r : ℕ). lengthOk mtu (length (f r))) (sym (eqb-true i n q)) ∙ e)
         where
           both : (c : Bool) → lengthOk mtu (length (f n)) ≡ false → (c && lengthOk mtu (length (f n))) ≡ false
@@ -96,7 +255,8 @@ pub record LenOf (k : ℕ) (b : ℕ → List ℕ) (i n : ℕ) : Type 0 where
   pub low : byteAt k b i 0 < 256
   pub high : byteAt k b i 1 < 256
 
-datagram-byte : (k : ℕ) (b : ℕ → List ℕ) (i n x : ℕ) → n ≡ lenAt k b i → x + 2 < n → getD (datagramAt k b i) (suc (suc x) - 2) 0 ≡ byteAt k b i (suc (suc x))
+datagram-byte : (k : ℕ) (b : ℕ → List ℕ) (i n x : ℕ) → n ≡ lenAt k b i → x + 2 < n
+    → getD (datagramAt k b i) (suc (suc x) - 2) 0 ≡ byteAt k b i (suc (suc x))
 unfolding datagramAt
 datagram-byte k b i n x h l =
     let e : suc (suc x) - 2 ≡ x = omega arith in
@@ -161,9 +321,11 @@ lens-most mtu f n i l e = go (lengthOk mtu (length (f i))) refl
     go true q = leb-true (length (f i)) mtu (and-right (leb 24 (length (f i))) (leb (length (f i)) mtu) q)
     go false q = let z : _≡_ {A = ℕ} 0 1 = cc (lengths-wrong mtu f n i l q) in absurd (omega arith)
 
-pub found-most : (k : ℕ) (b : ℕ → List ℕ) (mtu i n : ℕ) → n ≡ lenAt k b i → i < k → lengthsOk mtu (lengthsOf (found k b)) ≡ true → n - 2 ≤ mtu
+pub found-most : (k : ℕ) (b : ℕ → List ℕ) (mtu i n : ℕ) → n ≡ lenAt k b i → i < k → lengthsOk mtu (lengthsOf (found k b)) ≡ true
+    → n - 2 ≤ mtu
 unfolding found
-found-most k b mtu i n h l e = let m : length (datagramAt k b i) ≤ mtu = lens-most mtu (datagramAt k b) k i l e in omega (arith, length-datagram k b i n h)
+found-most k b mtu i n h l e = let m : length (datagramAt k b i) ≤ mtu = lens-most mtu (datagramAt k b) k i l e in
+    omega (arith, length-datagram k b i n h)
 
 -- ---- a slice that begins with a shard
 
@@ -213,5 +375,6 @@ itself g s a b r p at n l pos ea en ok =
     let z : length (take n (drop (getD (g .held .at) p 0) s)) ≡ n = length-part s (getD (g .held .at) p 0) n (omega (arith, i)) in
     ap (λ (q : ℕ). take n (drop q s)) ea
     ∙ sym (take-all n (take n (drop (getD (g .held .at) p 0) s)) (omega (arith, z)))
-    ∙ whole-trimmed g s p (take n (drop (getD (g .held .at) p 0) s)) w n e (omega (arith, e, lens-least (g .k) (shardIn s (g .held)) (g .mtu) p l ok))
+    ∙ whole-trimmed g s p (take n (drop (getD (g .held .at) p 0) s)) w n e
+    (omega (arith, e, lens-least (g .k) (shardIn s (g .held)) (g .mtu) p l ok))
     (omega (arith, found-most (g .k) (shardIn s (g .held)) (g .mtu) p n e l ok))

@@ -25,7 +25,8 @@ unfolding other
 other-last h i j zero l e d f = absurd (d (sym e))
 other-last h i j (suc n) l e d f = go (h n) refl (rw (ne-eqb n 12 (λ q. omega arith)) at e) (λ q. other-last h i j n (omega arith) q d f)
   where
-    go : (b : Bool) → h n ≡ b → cond (b || false) (other h 12 n) n ≡ i → (other h 12 n ≡ i → other h j n ≡ i) → cond (b || eqb n j) (other h j n) n ≡ i
+    go : (b : Bool) → h n ≡ b → cond (b || false) (other h 12 n) n ≡ i → (other h 12 n ≡ i → other h j n ≡ i)
+        → cond (b || eqb n j) (other h j n) n ≡ i
     go true q e ih = ih e
     go false q e ih = last (eqb n j) refl
       where
@@ -49,7 +50,8 @@ module _ (g : Group) (s a b : List ℕ) (r : Ready g s a b) where
 
   second-lost : (g .second ≡ 12 → ⊥) → Lost (sized (g .held)) (g .first) (g .k) (g .second)
   second-lost d =
-      subst (Lost (sized (g .held)) (g .first) (g .k)) (sym (r .second)) (other-some (sized (g .held)) (g .first) (g .k) (λ q. d (r .second ∙ q)))
+      subst (Lost (sized (g .held)) (g .first) (g .k)) (sym (r .second))
+      (other-some (sized (g .held)) (g .first) (g .k) (λ q. d (r .second ∙ q)))
 
   -- all else is held
   else-held : (p : ℕ) → p < g .k → (p ≡ g .first → ⊥) → (p ≡ g .second → ⊥) → sized (g .held) p ≡ true
@@ -68,7 +70,8 @@ module _ (g : Group) (s a b : List ℕ) (r : Ready g s a b) where
           by-count false z =
               let u = first-lost (second-later two) in
               let v = second-lost two in
-              let n = count-three (sized (g .held)) (g .k + 2) (g .first) (g .second) p (omega (arith, u .below)) (omega (arith, v .below)) (omega arith)
+              let n = count-three (sized (g .held)) (g .k + 2) (g .first) (g .second) p (omega (arith, u .below)) (omega (arith, v .below))
+              (omega arith)
               (λ x. v .apart (sym x)) (λ x. d (sym x)) (λ x. e (sym x)) (u .none) (v .none) z in
               absurd (omega (arith, n, r .enough))
 
@@ -78,10 +81,12 @@ module _ (g : Group) (s a b : List ℕ) (r : Ready g s a b) where
   unfolding byteAt
   byte-held p x e = rw (ap (λ (t : ℕ → Bool). t p) held-is ∙ e)
 
-  byte-lost : (p q x : ℕ) → sized (g .held) p ≡ false → other (sized (g .held)) p (g .k) ≡ q → byteIn g s p x ≡ solved (g .k) (shardIn s (g .held)) p q x
+  byte-lost : (p q x : ℕ) → sized (g .held) p ≡ false → other (sized (g .held)) p (g .k) ≡ q
+      → byteIn g s p x ≡ solved (g .k) (shardIn s (g .held)) p q x
   unfolding byteAt
   byte-lost p q x e f =
-      rw (ap (λ (t : ℕ → Bool). t p) held-is ∙ e) (ap (λ (j : ℕ). solved (g .k) (shardIn s (g .held)) p j x) (ap (λ (t : ℕ → Bool). other t p (g .k)) held-is ∙ f))
+      rw (ap (λ (t : ℕ → Bool). t p) held-is ∙ e)
+      (ap (λ (j : ℕ). solved (g .k) (shardIn s (g .held)) p j x) (ap (λ (t : ℕ → Bool). other t p (g .k)) held-is ∙ f))
 
   lost-12 : (p i : ℕ) → p < g .k → p ≡ i → i ≡ 12 → ⊥
   lost-12 p i l e f = omega (arith, r .few)
@@ -104,7 +109,8 @@ module _ (g : Group) (s a b : List ℕ) (r : Ready g s a b) where
       let d : g .second ≡ 12 → ⊥ = lost-12 p (g .second) l e in
       let f : g .first ≡ 12 → ⊥ = second-later d in
       let w = r .restored .second f d in
-      let back = other-last (sized (g .held)) (g .first) (g .second) (g .k) (omega (arith, r .few)) (sym (r .first)) f (second-lost d .apart) in
+      let back = other-last (sized (g .held)) (g .first) (g .second) (g .k) (omega (arith, r .few)) (sym (r .first)) f
+      (second-lost d .apart) in
       record {
         small = r .restored .bytesB;
         two = omega (arith, r .restored .sizeB);
@@ -117,7 +123,8 @@ module _ (g : Group) (s a b : List ℕ) (r : Ready g s a b) where
   len-held : (p : ℕ) → p < g .k → sized (g .held) p ≡ true → lenIn g s p ≡ getD (g .held .size) p 0
   unfolding lenAt numberAt
   len-held p l e =
-      ap₂ (λ (x y : ℕ). x + 256 * y) (byte-held p 0 e) (byte-held p 1 e) ∙ flat (getD (shardIn s (g .held) p) 0 0) (getD (shardIn s (g .held) p) 1 0) ∙ r .len p l e
+      ap₂ (λ (x y : ℕ). x + 256 * y) (byte-held p 0 e) (byte-held p 1 e) ∙ flat (getD (shardIn s (g .held) p) 0 0)
+      (getD (shardIn s (g .held) p) 1 0) ∙ r .len p l e
     where
       flat : (x y : ℕ) → x + 256 * y ≡ x + 256 * (y + 256 * 0)
       flat x y = omega arith

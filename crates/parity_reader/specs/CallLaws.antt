@@ -5,18 +5,78 @@ use mathlib.Core.Logic.{_⊎_, inl, inr, ⊎-elim}
 use mathlib.Core.Bool.{Bool, true, false, cond, _&&_, _||_, not}
 use mathlib.Core.List.{List, [], _∷_, _++_, map, append-assoc, append-nil}
 use Prim.Native.Nat.{ℕ, zero, suc, _+_, _-_, _*_, _/_, _%_, _≤_, _<_, max}
-use native.Mathlib.Nat.{div-add-mod', add-mul, not-suc-le-zero, zero-lt-suc, add-comm, add-zero, zero-add, suc-mul, mul-add-mod-self-right, add-mul-div-right, mod-eq-of-lt, div-eq-of-lt, mul-le-mul-right, mul-le-mul-left, le-of-lt}
+use native.Mathlib.Nat.{
+  div-add-mod',
+  add-mul,
+  not-suc-le-zero,
+  zero-lt-suc,
+  add-comm,
+  add-zero,
+  zero-add,
+  suc-mul,
+  mul-add-mod-self-right,
+  add-mul-div-right,
+  mod-eq-of-lt,
+  div-eq-of-lt,
+  mul-le-mul-right,
+  mul-le-mul-left,
+  le-of-lt,
+}
 use native.Mathlib.Numerals.{add-one}
 use native.Mathlib.Omega.{arith}
 use borrow.Author.Tests.{leb-true, leb-false, eqb-true, eqb-false, ltb-true, ltb-false, lt-ltb, le-ltb, le-leb, lt-leb, eq-eqb, ne-eqb}
 use lib.Dec.{eqb, ltb, leb}
-use lib.ListN.{length, getD, take, drop, set, length-append, length-take, length-drop, length-set, take-append-drop, drop-of-length-le, List·getD-append, List·getD-eq-default}
-use lib.Seq.{take-at, length-take-le, sets, length-sets, drop-cons, take-suc, take-all, getD-take, getD-drop, drop-drop, ext-getD, getD-append-seam, getD-set-same, getD-set-other}
+use lib.ListN.{
+  length,
+  getD,
+  take,
+  drop,
+  set,
+  length-append,
+  length-take,
+  length-drop,
+  length-set,
+  take-append-drop,
+  drop-of-length-le,
+  List·getD-append,
+  List·getD-eq-default,
+}
+use lib.Seq.{
+  take-at,
+  length-take-le,
+  sets,
+  length-sets,
+  drop-cons,
+  take-suc,
+  take-all,
+  getD-take,
+  getD-drop,
+  drop-drop,
+  ext-getD,
+  getD-append-seam,
+  getD-set-same,
+  getD-set-other,
+}
 use Rattle.wire.specs.LittleEndian.{bytesOf, numberAt, AllBytes}
 use Rattle.wire.specs.LittleEndianLaws.{numberAt-drop, length-bytesOf, bytes-of-number}
 use Rattle.wire.specs.Stores.{sets-append}
 use Rattle.galois.specs.Field.{plus, double, mul, power, inverse}
-use Rattle.galois.specs.FieldLaws.{plus-zero, zero-plus, plus-self, plus-swap, plus-comm, plus-assoc, plus-twice, plus-lt, mul-lt, mul-zero, one-mul, mul-plus, mul-plus-left, power-lt}
+use Rattle.galois.specs.FieldLaws.{
+  plus-zero,
+  zero-plus,
+  plus-self,
+  plus-swap,
+  plus-comm,
+  plus-assoc,
+  plus-twice,
+  plus-lt,
+  mul-lt,
+  mul-zero,
+  one-mul,
+  mul-plus,
+  mul-plus-left,
+  power-lt,
+}
 use Rattle.galois.specs.TableLaws.{power-positive, power-differs, undo-mul}
 use Rattle.frames.specs.declared.Refusal.{Refusal}
 use Rattle.frames.specs.declared.Refusal.the-variants.{ShortPart, SettingOutOfRange, NotAGroup, TooFewFrames, LateGroup}
@@ -24,11 +84,110 @@ use Rattle.frames.specs.declared.Answer.{Answer}
 use Rattle.frames.specs.declared.Answer.the-variants.{Written, Refused}
 use Rattle.frames.specs.Lists.{listed, joined, lengthsOf, parts, addUp, largest, total, count, other, every, among, different}
 use Rattle.frames.specs.Frames.{shard, longest, weight, parityByte, parityShard, typeAt, shardAt, frame, frameAt, group}
-use Rattle.frames.specs.Outcomes.{Outcome, refused, wrote, answerOf, bytesAfter, lengthsAfter, Gives, settingsOk, lentOk, lengthOk, lengthsOk, groupsEnd, writeOf}
-use Rattle.frames.specs.Reading.{sequenceOf, groupOf, placeOf, frameOk, firstGroup, heldShard, has, rest, solved, byteAt, lenAt, datagramAt, found, same, holds, readGroup, readFrames, readOf}
-use Rattle.frames.specs.PlaceLaws.{length-listed, getD-listed, listed-same, listed-next, listed-getD, listed-bytes, total-same, total-plus, total-none, total-one, total-two, total-next, count-none, count-three, other-none, other-some, Lost}
-use Rattle.frames.specs.PartLaws.{packed-step, packed-short, packed-end, lengths-step, lengths-bad, lengths-end, largest-step, largest-end, length-parts, part-at, add-up-next, add-up-le, length-part, joined-append, joined-next, length-lengths, lengths-next, stored, noted, lengths-parts, getD-largest, length-joined-next, largest-le, largest-ge, size-le}
-use Rattle.frames.specs.FrameLaws.{length-shard, parity-at, shardAt-data, shardAt-parity, seq-of, type-of, len-of, shard-of, length-frame, len-shard, two-bytes, shard-bytes, shard-low, shard-high, shard-byte, type-lt, length-parityShard, length-frameAt, drop-frameAt, type-at, len-at}
+use Rattle.frames.specs.Outcomes.{
+  Outcome,
+  refused,
+  wrote,
+  answerOf,
+  bytesAfter,
+  lengthsAfter,
+  Gives,
+  settingsOk,
+  lentOk,
+  lengthOk,
+  lengthsOk,
+  groupsEnd,
+  writeOf,
+}
+use Rattle.frames.specs.Reading.{
+  sequenceOf,
+  groupOf,
+  placeOf,
+  frameOk,
+  firstGroup,
+  heldShard,
+  has,
+  rest,
+  solved,
+  byteAt,
+  lenAt,
+  datagramAt,
+  found,
+  same,
+  holds,
+  readGroup,
+  readFrames,
+  readOf,
+}
+use Rattle.frames.specs.PlaceLaws.{
+  length-listed,
+  getD-listed,
+  listed-same,
+  listed-next,
+  listed-getD,
+  listed-bytes,
+  total-same,
+  total-plus,
+  total-none,
+  total-one,
+  total-two,
+  total-next,
+  count-none,
+  count-three,
+  other-none,
+  other-some,
+  Lost,
+}
+use Rattle.frames.specs.PartLaws.{
+  packed-step,
+  packed-short,
+  packed-end,
+  lengths-step,
+  lengths-bad,
+  lengths-end,
+  largest-step,
+  largest-end,
+  length-parts,
+  part-at,
+  add-up-next,
+  add-up-le,
+  length-part,
+  joined-append,
+  joined-next,
+  length-lengths,
+  lengths-next,
+  stored,
+  noted,
+  lengths-parts,
+  getD-largest,
+  length-joined-next,
+  largest-le,
+  largest-ge,
+  size-le,
+}
+use Rattle.frames.specs.FrameLaws.{
+  length-shard,
+  parity-at,
+  shardAt-data,
+  shardAt-parity,
+  seq-of,
+  type-of,
+  len-of,
+  shard-of,
+  length-frame,
+  len-shard,
+  two-bytes,
+  shard-bytes,
+  shard-low,
+  shard-high,
+  shard-byte,
+  type-lt,
+  length-parityShard,
+  length-frameAt,
+  drop-frameAt,
+  type-at,
+  len-at,
+}
 use Rattle.frames.specs.OutcomeLaws.{and-left, and-right, same-self}
 use Rattle.rows.specs.Rows.{Row, behind, stepped}
 use Rattle.recovery.specs.ReadingLaws.{Passes, passes, every-first, places-held}
@@ -103,8 +262,10 @@ module _ (k mtu g : ℕ) (s ns : List ℕ) (h : Held) (all : every (frameOk k mt
       Restored k (shardIn s h) i j m a b →
       Ready (record { k = k; mtu = mtu; first = i; second = j; held = h }) s (take (mtu + 2) (a ++ ra)) (take (mtu + 2) (b ++ rb))
   ready c i j m a b ra rb by few small ec enough ei ej em r =
-      subst (Ready (record { k = k; mtu = mtu; first = i; second = j; held = h }) s (take (mtu + 2) (a ++ ra))) (sym (take-at b rb (mtu + 2) (r .sizeB ∙ em)))
-      (subst (λ (x : List ℕ). Ready (record { k = k; mtu = mtu; first = i; second = j; held = h }) s x b) (sym (take-at a ra (mtu + 2) (r .sizeA ∙ em)))
+      subst (Ready (record { k = k; mtu = mtu; first = i; second = j; held = h }) s (take (mtu + 2) (a ++ ra)))
+      (sym (take-at b rb (mtu + 2) (r .sizeB ∙ em)))
+      (subst (λ (x : List ℕ). Ready (record { k = k; mtu = mtu; first = i; second = j; held = h }) s x b)
+      (sym (take-at a ra (mtu + 2) (r .sizeA ∙ em)))
       (record {
         bytes = by;
         few = few;
@@ -135,7 +296,8 @@ module _ (k mtu g : ℕ) (s ns : List ℕ) (h : Held) (all : every (frameOk k mt
       readGroup k mtu g (parts s ns) ≡ refused NotAGroup
   unfolding readGroup verdict
   after-21 n e l v =
-      let w : (lengthsOk mtu (lengthsOf (found k (heldShard k (parts s ns)))) && every (holds k (g * (k + 2)) (found k (heldShard k (parts s ns)))) (parts s ns)) ≡ false =
+      let w : (lengthsOk mtu (lengthsOf (found k (heldShard k (parts s ns))))
+      && every (holds k (g * (k + 2)) (found k (heldShard k (parts s ns)))) (parts s ns)) ≡ false =
       ap verdict (sym shards-are) ∙ v in
       rw (counts-are, ← e, le-ltb n k l, w)
 
@@ -144,7 +306,8 @@ module _ (k mtu g : ℕ) (s ns : List ℕ) (h : Held) (all : every (frameOk k mt
       readGroup k mtu g (parts s ns) ≡ wrote (found k (shardIn s h))
   unfolding readGroup verdict
   after-all n e l v =
-      let w : (lengthsOk mtu (lengthsOf (found k (heldShard k (parts s ns)))) && every (holds k (g * (k + 2)) (found k (heldShard k (parts s ns)))) (parts s ns)) ≡ true =
+      let w : (lengthsOk mtu (lengthsOf (found k (heldShard k (parts s ns))))
+      && every (holds k (g * (k + 2)) (found k (heldShard k (parts s ns)))) (parts s ns)) ≡ true =
       ap verdict (sym shards-are) ∙ v in
       rw (counts-are, ← e, le-ltb n k l, w) (ap (λ (b : ℕ → List ℕ). wrote (found k b)) (sym shards-are))
 
@@ -165,10 +328,12 @@ module _ (k i j m n : ℕ) (shards : ℕ → List ℕ) (a b rest : List ℕ) (r 
 
 module _ (k mtu : ℕ) (s ns : List ℕ) (room slots : ℕ) (lent : lentOk (length s) ns 10 mtu room slots ≡ true) where
   pub whole : addUp ns ≤ length s
-  whole = leb-true (addUp ns) (length s) (and-left (leb (addUp ns) (length s)) (leb (10 * mtu) room) (and-left (leb (addUp ns) (length s) && leb (10 * mtu) room) (leb 10 slots) lent))
+  whole = leb-true (addUp ns) (length s) (and-left (leb (addUp ns) (length s)) (leb (10 * mtu) room)
+      (and-left (leb (addUp ns) (length s) && leb (10 * mtu) room) (leb 10 slots) lent))
 
   pub roomy : 10 * mtu ≤ room
-  roomy = leb-true (10 * mtu) room (and-right (leb (addUp ns) (length s)) (leb (10 * mtu) room) (and-left (leb (addUp ns) (length s) && leb (10 * mtu) room) (leb 10 slots) lent))
+  roomy = leb-true (10 * mtu) room (and-right (leb (addUp ns) (length s)) (leb (10 * mtu) room)
+      (and-left (leb (addUp ns) (length s) && leb (10 * mtu) room) (leb 10 slots) lent))
 
   pub slotted : 10 ≤ slots
   slotted = leb-true 10 slots (and-right (leb (addUp ns) (length s) && leb (10 * mtu) room) (leb 10 slots) lent)
@@ -179,16 +344,19 @@ module _ (k mtu : ℕ) (s ns : List ℕ) (room slots : ℕ) (lent : lentOk (leng
 
   module _ (settings : settingsOk k mtu ≡ true) where
     pub few : k ≤ 10
-    few = leb-true k 10 (and-right (leb 1 k) (leb k 10) (and-left (leb 1 k && leb k 10) (leb 50 mtu) (and-left (leb 1 k && leb k 10 && leb 50 mtu) (leb mtu 1400) settings)))
+    few = leb-true k 10 (and-right (leb 1 k) (leb k 10)
+        (and-left (leb 1 k && leb k 10) (leb 50 mtu) (and-left (leb 1 k && leb k 10 && leb 50 mtu) (leb mtu 1400) settings)))
 
     pub small : mtu ≤ 1400
     small = leb-true mtu 1400 (and-right (leb 1 k && leb k 10 && leb 50 mtu) (leb mtu 1400) settings)
 
-    pub read-21 : (r : Scanned) → Scans s ns k mtu (firstGroup k (parts s ns)) r → r .ok ≡ false → readOf k mtu s ns room slots ≡ refused NotAGroup
+    pub read-21 : (r : Scanned) → Scans s ns k mtu (firstGroup k (parts s ns)) r → r .ok ≡ false
+        → readOf k mtu s ns room slots ≡ refused NotAGroup
     unfolding readOf readFrames
     read-21 r f e = rw (lent, settings, sym (f .right) ∙ e)
 
-    pub passed : (r : Scanned) → Scans s ns k mtu (firstGroup k (parts s ns)) r → r .ok ≡ true → every (frameOk k mtu (r .group)) (parts s ns) ≡ true
+    pub passed : (r : Scanned) → Scans s ns k mtu (firstGroup k (parts s ns)) r → r .ok ≡ true
+        → every (frameOk k mtu (r .group)) (parts s ns) ≡ true
     passed r f e = ap (λ (n : ℕ). every (frameOk k mtu n) (parts s ns)) (f .group e) ∙ sym (f .right) ∙ e
 
     pub read-rest : (r : Scanned) → Scans s ns k mtu (firstGroup k (parts s ns)) r → r .ok ≡ true →
@@ -196,10 +364,12 @@ module _ (k mtu : ℕ) (s ns : List ℕ) (room slots : ℕ) (lent : lentOk (leng
     unfolding readOf readFrames
     read-rest r f e = rw (lent, settings, sym (f .right) ∙ e) (ap (λ (n : ℕ). readGroup k mtu n (parts s ns)) (f .group e))
 
-pub read-7 : (k mtu : ℕ) (s ns : List ℕ) (room slots : ℕ) → lentOk (length s) ns 10 mtu room slots ≡ false → readOf k mtu s ns room slots ≡ refused ShortPart
+pub read-7 : (k mtu : ℕ) (s ns : List ℕ) (room slots : ℕ) → lentOk (length s) ns 10 mtu room slots ≡ false
+    → readOf k mtu s ns room slots ≡ refused ShortPart
 unfolding readOf
 read-7 k mtu s ns room slots a = rw a
 
 -- the same answer by an equal outcome
-pub carried : (o p : Outcome) (a : Answer) (out lens out′ lens′ : List ℕ) → o ≡ p → Gives o out lens a out′ lens′ → Gives p out lens a out′ lens′
+pub carried : (o p : Outcome) (a : Answer) (out lens out′ lens′ : List ℕ) → o ≡ p → Gives o out lens a out′ lens′
+    → Gives p out lens a out′ lens′
 carried o p a out lens out′ lens′ e t = subst (λ (q : Outcome). Gives q out lens a out′ lens′) e t

@@ -5,18 +5,76 @@ use mathlib.Core.Logic.{_⊎_, inl, inr, ⊎-elim}
 use mathlib.Core.Bool.{Bool, true, false, cond, _&&_, _||_, not}
 use mathlib.Core.List.{List, [], _∷_, _++_, map, append-assoc, append-nil}
 use Prim.Native.Nat.{ℕ, zero, suc, _+_, _-_, _*_, _/_, _%_, _≤_, _<_, max}
-use native.Mathlib.Nat.{div-add-mod', add-mul, not-suc-le-zero, zero-lt-suc, add-comm, add-zero, zero-add, suc-mul, mul-add-mod-self-right, add-mul-div-right, mod-eq-of-lt, div-eq-of-lt, mul-le-mul-right, mul-le-mul-left, le-of-lt}
+use native.Mathlib.Nat.{
+  div-add-mod',
+  add-mul,
+  not-suc-le-zero,
+  zero-lt-suc,
+  add-comm,
+  add-zero,
+  zero-add,
+  suc-mul,
+  mul-add-mod-self-right,
+  add-mul-div-right,
+  mod-eq-of-lt,
+  div-eq-of-lt,
+  mul-le-mul-right,
+  mul-le-mul-left,
+  le-of-lt,
+}
 use native.Mathlib.Numerals.{add-one}
 use native.Mathlib.Omega.{arith}
 use borrow.Author.Tests.{leb-true, leb-false, eqb-true, eqb-false, ltb-true, ltb-false, lt-ltb, le-ltb, le-leb, lt-leb, eq-eqb, ne-eqb}
 use lib.Dec.{eqb, ltb, leb}
-use lib.ListN.{length, getD, take, drop, set, length-append, length-take, length-drop, length-set, take-append-drop, drop-of-length-le, List·getD-append, List·getD-eq-default}
-use lib.Seq.{sets, length-sets, drop-cons, take-suc, take-all, getD-take, getD-drop, drop-drop, ext-getD, getD-append-seam, getD-set-same, getD-set-other}
+use lib.ListN.{
+  length,
+  getD,
+  take,
+  drop,
+  set,
+  length-append,
+  length-take,
+  length-drop,
+  length-set,
+  take-append-drop,
+  drop-of-length-le,
+  List·getD-append,
+  List·getD-eq-default,
+}
+use lib.Seq.{
+  sets,
+  length-sets,
+  drop-cons,
+  take-suc,
+  take-all,
+  getD-take,
+  getD-drop,
+  drop-drop,
+  ext-getD,
+  getD-append-seam,
+  getD-set-same,
+  getD-set-other,
+}
 use Rattle.wire.specs.LittleEndian.{bytesOf, numberAt, AllBytes}
 use Rattle.wire.specs.LittleEndianLaws.{length-bytesOf, bytes-of-number}
 use Rattle.wire.specs.Stores.{sets-append}
 use Rattle.galois.specs.Field.{plus, double, mul, power, inverse}
-use Rattle.galois.specs.FieldLaws.{plus-zero, zero-plus, plus-self, plus-swap, plus-comm, plus-assoc, plus-twice, plus-lt, mul-lt, mul-zero, one-mul, mul-plus, mul-plus-left, power-lt}
+use Rattle.galois.specs.FieldLaws.{
+  plus-zero,
+  zero-plus,
+  plus-self,
+  plus-swap,
+  plus-comm,
+  plus-assoc,
+  plus-twice,
+  plus-lt,
+  mul-lt,
+  mul-zero,
+  one-mul,
+  mul-plus,
+  mul-plus-left,
+  power-lt,
+}
 use Rattle.galois.specs.TableLaws.{power-positive, power-differs, undo-mul}
 use Rattle.frames.specs.declared.Refusal.{Refusal}
 use Rattle.frames.specs.declared.Refusal.the-variants.{ShortPart, SettingOutOfRange, NotAGroup, TooFewFrames, LateGroup}
@@ -24,11 +82,111 @@ use Rattle.frames.specs.declared.Answer.{Answer}
 use Rattle.frames.specs.declared.Answer.the-variants.{Written, Refused}
 use Rattle.frames.specs.Lists.{listed, joined, lengthsOf, parts, addUp, largest, total, count, other, every, among, different}
 use Rattle.frames.specs.Frames.{shard, longest, weight, parityByte, parityShard, typeAt, shardAt, frame, frameAt, group}
-use Rattle.frames.specs.Outcomes.{Outcome, refused, wrote, answerOf, bytesAfter, lengthsAfter, Gives, settingsOk, lentOk, lengthOk, lengthsOk, groupsEnd, writeOf}
-use Rattle.frames.specs.Reading.{sequenceOf, groupOf, placeOf, frameOk, firstGroup, heldShard, has, rest, solved, byteAt, lenAt, datagramAt, found, same, holds, readGroup, readFrames, readOf}
-use Rattle.frames.specs.PlaceLaws.{length-listed, getD-listed, listed-same, listed-next, listed-getD, listed-bytes, total-same, total-plus, total-none, total-one, total-two, total-next, count-none, count-three, other-none, other-some, Lost}
-use Rattle.frames.specs.PartLaws.{part-bytes, packed-step, packed-short, packed-end, lengths-step, lengths-bad, lengths-end, largest-step, largest-end, length-parts, part-at, add-up-next, add-up-le, length-part, joined-append, joined-next, length-lengths, lengths-next, stored, noted, lengths-parts, getD-largest, length-joined-next, largest-le, largest-ge, size-le}
-use Rattle.frames.specs.FrameLaws.{length-shard, parity-at, shardAt-data, shardAt-parity, seq-of, type-of, len-of, shard-of, length-frame, len-shard, two-bytes, shard-bytes, shard-low, shard-high, shard-byte, type-lt, length-parityShard, length-frameAt, drop-frameAt, type-at, len-at}
+use Rattle.frames.specs.Outcomes.{
+  Outcome,
+  refused,
+  wrote,
+  answerOf,
+  bytesAfter,
+  lengthsAfter,
+  Gives,
+  settingsOk,
+  lentOk,
+  lengthOk,
+  lengthsOk,
+  groupsEnd,
+  writeOf,
+}
+use Rattle.frames.specs.Reading.{
+  sequenceOf,
+  groupOf,
+  placeOf,
+  frameOk,
+  firstGroup,
+  heldShard,
+  has,
+  rest,
+  solved,
+  byteAt,
+  lenAt,
+  datagramAt,
+  found,
+  same,
+  holds,
+  readGroup,
+  readFrames,
+  readOf,
+}
+use Rattle.frames.specs.PlaceLaws.{
+  length-listed,
+  getD-listed,
+  listed-same,
+  listed-next,
+  listed-getD,
+  listed-bytes,
+  total-same,
+  total-plus,
+  total-none,
+  total-one,
+  total-two,
+  total-next,
+  count-none,
+  count-three,
+  other-none,
+  other-some,
+  Lost,
+}
+use Rattle.frames.specs.PartLaws.{
+  part-bytes,
+  packed-step,
+  packed-short,
+  packed-end,
+  lengths-step,
+  lengths-bad,
+  lengths-end,
+  largest-step,
+  largest-end,
+  length-parts,
+  part-at,
+  add-up-next,
+  add-up-le,
+  length-part,
+  joined-append,
+  joined-next,
+  length-lengths,
+  lengths-next,
+  stored,
+  noted,
+  lengths-parts,
+  getD-largest,
+  length-joined-next,
+  largest-le,
+  largest-ge,
+  size-le,
+}
+use Rattle.frames.specs.FrameLaws.{
+  length-shard,
+  parity-at,
+  shardAt-data,
+  shardAt-parity,
+  seq-of,
+  type-of,
+  len-of,
+  shard-of,
+  length-frame,
+  len-shard,
+  two-bytes,
+  shard-bytes,
+  shard-low,
+  shard-high,
+  shard-byte,
+  type-lt,
+  length-parityShard,
+  length-frameAt,
+  drop-frameAt,
+  type-at,
+  len-at,
+}
 use Rattle.frames.specs.OutcomeLaws.{and-left, and-right, same-self}
 use Rattle.rows.specs.Rows.{Row, behind, stepped}
 use Rattle.recovery.specs.ReadingLaws.{Passes, passes, places-held}
@@ -86,8 +244,10 @@ pub packed-all :
     i ≡ k →
     (out ≡ sets out₀ 0 (joined (found k b))) × (lens ≡ sets lens₀ 0 (lengthsOf (found k b)))
 unfolding found
-packed-all k b mtu out₀ lens₀ out lens at i p e =
-    (p .bytes ∙ ap (λ (n : ℕ). sets out₀ 0 (joined (listed (datagramAt k b) n))) e, p .lengths ∙ ap (λ (n : ℕ). sets lens₀ 0 (lengthsOf (listed (datagramAt k b) n))) e)
+packed-all k b mtu out₀ lens₀ out lens at i p e = (
+  p .bytes ∙ ap (λ (n : ℕ). sets out₀ 0 (joined (listed (datagramAt k b) n))) e,
+  p .lengths ∙ ap (λ (n : ℕ). sets lens₀ 0 (lengthsOf (listed (datagramAt k b) n))) e,
+)
 
 -- the datagram behind the len of its shard
 pub behind-len : (d t : List ℕ) (n : ℕ) → t ≡ shard d → n ≡ length t - 2 → (n ≡ length d) × (take n (drop 2 t) ≡ d)

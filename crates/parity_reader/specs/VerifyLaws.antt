@@ -5,18 +5,77 @@ use mathlib.Core.Logic.{_⊎_, inl, inr, ⊎-elim}
 use mathlib.Core.Bool.{Bool, true, false, cond, _&&_, _||_, not}
 use mathlib.Core.List.{List, [], _∷_, _++_, map, append-assoc, append-nil}
 use Prim.Native.Nat.{ℕ, zero, suc, _+_, _-_, _*_, _/_, _%_, _≤_, _<_, max}
-use native.Mathlib.Nat.{div-add-mod', add-mul, not-suc-le-zero, zero-lt-suc, add-comm, add-zero, zero-add, suc-mul, mul-add-mod-self-right, add-mul-div-right, mod-eq-of-lt, div-eq-of-lt, mul-le-mul-right, mul-le-mul-left, le-of-lt}
+use native.Mathlib.Nat.{
+  div-add-mod',
+  add-mul,
+  not-suc-le-zero,
+  zero-lt-suc,
+  add-comm,
+  add-zero,
+  zero-add,
+  suc-mul,
+  mul-add-mod-self-right,
+  add-mul-div-right,
+  mod-eq-of-lt,
+  div-eq-of-lt,
+  mul-le-mul-right,
+  mul-le-mul-left,
+  le-of-lt,
+}
 use native.Mathlib.Numerals.{add-one}
 use native.Mathlib.Omega.{arith}
 use borrow.Author.Tests.{leb-true, leb-false, eqb-true, eqb-false, ltb-true, ltb-false, lt-ltb, le-ltb, le-leb, lt-leb, eq-eqb, ne-eqb}
 use lib.Dec.{eqb, ltb, leb}
-use lib.ListN.{length, getD, take, drop, set, length-append, length-take, length-drop, length-set, take-append-drop, drop-of-length-le, List·getD-append, List·getD-eq-default}
-use lib.Seq.{take-at, sets, length-sets, drop-cons, take-suc, take-all, getD-take, getD-drop, drop-drop, ext-getD, getD-append-seam, getD-set-same, getD-set-other}
+use lib.ListN.{
+  length,
+  getD,
+  take,
+  drop,
+  set,
+  length-append,
+  length-take,
+  length-drop,
+  length-set,
+  take-append-drop,
+  drop-of-length-le,
+  List·getD-append,
+  List·getD-eq-default,
+}
+use lib.Seq.{
+  take-at,
+  sets,
+  length-sets,
+  drop-cons,
+  take-suc,
+  take-all,
+  getD-take,
+  getD-drop,
+  drop-drop,
+  ext-getD,
+  getD-append-seam,
+  getD-set-same,
+  getD-set-other,
+}
 use Rattle.wire.specs.LittleEndian.{bytesOf, numberAt, AllBytes}
 use Rattle.wire.specs.LittleEndianLaws.{length-bytesOf, bytes-of-number}
 use Rattle.wire.specs.Stores.{sets-append}
 use Rattle.galois.specs.Field.{plus, double, mul, power, inverse}
-use Rattle.galois.specs.FieldLaws.{plus-zero, zero-plus, plus-self, plus-swap, plus-comm, plus-assoc, plus-twice, plus-lt, mul-lt, mul-zero, one-mul, mul-plus, mul-plus-left, power-lt}
+use Rattle.galois.specs.FieldLaws.{
+  plus-zero,
+  zero-plus,
+  plus-self,
+  plus-swap,
+  plus-comm,
+  plus-assoc,
+  plus-twice,
+  plus-lt,
+  mul-lt,
+  mul-zero,
+  one-mul,
+  mul-plus,
+  mul-plus-left,
+  power-lt,
+}
 use Rattle.galois.specs.TableLaws.{power-positive, power-differs, undo-mul}
 use Rattle.frames.specs.declared.Refusal.{Refusal}
 use Rattle.frames.specs.declared.Refusal.the-variants.{ShortPart, SettingOutOfRange, NotAGroup, TooFewFrames, LateGroup}
@@ -24,11 +83,113 @@ use Rattle.frames.specs.declared.Answer.{Answer}
 use Rattle.frames.specs.declared.Answer.the-variants.{Written, Refused}
 use Rattle.frames.specs.Lists.{listed, joined, lengthsOf, parts, addUp, largest, total, count, other, every, among, different}
 use Rattle.frames.specs.Frames.{shard, longest, weight, parityByte, parityShard, typeAt, shardAt, frame, frameAt, group}
-use Rattle.frames.specs.Outcomes.{Outcome, refused, wrote, answerOf, bytesAfter, lengthsAfter, Gives, settingsOk, lentOk, lengthOk, lengthsOk, groupsEnd, writeOf}
-use Rattle.frames.specs.Reading.{sequenceOf, groupOf, placeOf, frameOk, firstGroup, heldShard, has, rest, solved, byteAt, lenAt, datagramAt, found, same, holds, readGroup, readFrames, readOf}
-use Rattle.frames.specs.PlaceLaws.{length-listed, getD-listed, listed-same, listed-next, listed-getD, listed-bytes, total-same, total-plus, total-none, total-one, total-two, total-next, count-none, count-three, other-none, other-some, Lost}
-use Rattle.frames.specs.PartLaws.{size-le, part-bytes, packed-step, packed-short, packed-end, lengths-step, lengths-bad, lengths-end, largest-step, largest-end, length-parts, part-at, add-up-next, add-up-le, length-part, joined-append, joined-next, length-lengths, lengths-next, stored, noted, lengths-parts, getD-largest, length-joined-next, largest-le, largest-ge, size-le}
-use Rattle.frames.specs.FrameLaws.{length-parityShard, length-shard, parity-at, shardAt-data, shardAt-parity, seq-of, type-of, len-of, shard-of, length-frame, len-shard, two-bytes, shard-bytes, shard-low, shard-high, shard-byte, type-lt, length-parityShard, length-frameAt, drop-frameAt, type-at, len-at}
+use Rattle.frames.specs.Outcomes.{
+  Outcome,
+  refused,
+  wrote,
+  answerOf,
+  bytesAfter,
+  lengthsAfter,
+  Gives,
+  settingsOk,
+  lentOk,
+  lengthOk,
+  lengthsOk,
+  groupsEnd,
+  writeOf,
+}
+use Rattle.frames.specs.Reading.{
+  sequenceOf,
+  groupOf,
+  placeOf,
+  frameOk,
+  firstGroup,
+  heldShard,
+  has,
+  rest,
+  solved,
+  byteAt,
+  lenAt,
+  datagramAt,
+  found,
+  same,
+  holds,
+  readGroup,
+  readFrames,
+  readOf,
+}
+use Rattle.frames.specs.PlaceLaws.{
+  length-listed,
+  getD-listed,
+  listed-same,
+  listed-next,
+  listed-getD,
+  listed-bytes,
+  total-same,
+  total-plus,
+  total-none,
+  total-one,
+  total-two,
+  total-next,
+  count-none,
+  count-three,
+  other-none,
+  other-some,
+  Lost,
+}
+use Rattle.frames.specs.PartLaws.{
+  size-le,
+  part-bytes,
+  packed-step,
+  packed-short,
+  packed-end,
+  lengths-step,
+  lengths-bad,
+  lengths-end,
+  largest-step,
+  largest-end,
+  length-parts,
+  part-at,
+  add-up-next,
+  add-up-le,
+  length-part,
+  joined-append,
+  joined-next,
+  length-lengths,
+  lengths-next,
+  stored,
+  noted,
+  lengths-parts,
+  getD-largest,
+  length-joined-next,
+  largest-le,
+  largest-ge,
+  size-le,
+}
+use Rattle.frames.specs.FrameLaws.{
+  length-parityShard,
+  length-shard,
+  parity-at,
+  shardAt-data,
+  shardAt-parity,
+  seq-of,
+  type-of,
+  len-of,
+  shard-of,
+  length-frame,
+  len-shard,
+  two-bytes,
+  shard-bytes,
+  shard-low,
+  shard-high,
+  shard-byte,
+  type-lt,
+  length-parityShard,
+  length-frameAt,
+  drop-frameAt,
+  type-at,
+  len-at,
+}
 use Rattle.frames.specs.OutcomeLaws.{add-up-most, and-left, and-right, same-self}
 use Rattle.frames.specs.WeightLaws.{tail, row-listed, row-same, steps-none, steps-next, steps-done, added-from-0}
 use Rattle.rows.specs.Rows.{Row, behind, stepped}
@@ -46,13 +207,15 @@ use Rattle.parity_restore.specs.RestoreLaws.{rest-small}
 
 -- ---- lists compared
 
-pub same-step : (a c : List ℕ) (x : ℕ) → x < length a → length a ≡ length c → getD a x 0 ≡ getD c x 0 → same (drop x a) (drop x c) ≡ same (drop (x + 1) a) (drop (x + 1) c)
+pub same-step : (a c : List ℕ) (x : ℕ) → x < length a → length a ≡ length c → getD a x 0 ≡ getD c x 0
+    → same (drop x a) (drop x c) ≡ same (drop (x + 1) a) (drop (x + 1) c)
 unfolding same
 same-step a c x l e q =
     let m : x < length c = omega arith in
     rw (add-one, drop-cons a x 0, drop-cons c x 0, eq-eqb (getD a x 0) (getD c x 0) q)
 
-pub same-stop : (a c : List ℕ) (x : ℕ) → x < length a → length a ≡ length c → (getD a x 0 ≡ getD c x 0 → ⊥) → same (drop x a) (drop x c) ≡ false
+pub same-stop : (a c : List ℕ) (x : ℕ) → x < length a → length a ≡ length c → (getD a x 0 ≡ getD c x 0 → ⊥)
+    → same (drop x a) (drop x c) ≡ false
 unfolding same
 same-stop a c x l e q =
     let m : x < length c = omega arith in
@@ -114,7 +277,8 @@ solved-small k s h by i j x = go (eqb j 12) (has (shardIn s h) k)
     go true false = mul-lt (inverse (power i)) (rest 1 k (shardIn s h) x) (small 1)
     go false d =
         mul-lt (inverse (plus (power i) (power j))) (plus (rest 1 k (shardIn s h) x) (mul (power j) (rest 0 k (shardIn s h) x)))
-        (plus-lt (rest 1 k (shardIn s h) x) (mul (power j) (rest 0 k (shardIn s h) x)) (small 1) (mul-lt (power j) (rest 0 k (shardIn s h) x) (small 0)))
+        (plus-lt (rest 1 k (shardIn s h) x) (mul (power j) (rest 0 k (shardIn s h) x)) (small 1)
+        (mul-lt (power j) (rest 0 k (shardIn s h) x) (small 0)))
 
 byte-small : (k : ℕ) (s : List ℕ) (h : Held) → AllBytes s → (i x : ℕ) → byteAt k (shardIn s h) i x < 256
 unfolding byteAt shardIn
@@ -166,12 +330,14 @@ module _ (w : ℕ) (g : Group) (s : List ℕ) (small : (x q : ℕ) → foundByte
       (λ x m. ap (λ (c : List ℕ). plus (getD row₁ x 0) (getD c x 0)) (et ∙ ap shard (sym (found-at (g .k) (shardIn s (g .held)) q l))))
       (added-from-0 row₁ t row₂ r₂))
 
-  pub found-done : (p n : ℕ) (row : List ℕ) → p ≤ 0 → n ≡ largest (lengthsOf (foundIn g s)) + 2 → Row (λ x. tail w (foundByte g s x) p (g .k)) n row →
+  pub found-done : (p n : ℕ) (row : List ℕ) → p ≤ 0 → n ≡ largest (lengthsOf (foundIn g s)) + 2
+      → Row (λ x. tail w (foundByte g s x) p (g .k)) n row →
       row ≡ parityShard w (foundIn g s)
   unfolding parityShard parityByte longest
   found-done p n row l e r =
       row-listed (λ x. total (λ q. mul (weight w q) (foundByte g s x q)) (length (foundIn g s))) (largest (lengthsOf (foundIn g s)) + 2) row
-      (rw (length-found (g .k) (shardIn s (g .held))) (steps-done w (foundByte g s) small (g .k) p n (largest (lengthsOf (foundIn g s)) + 2) row l e r))
+      (rw (length-found (g .k) (shardIn s (g .held)))
+      (steps-done w (foundByte g s) small (g .k) p n (largest (lengthsOf (foundIn g s)) + 2) row l e r))
 
 -- the row that holds a parity shard at its start
 module _ (m w : ℕ) (ds : List (List ℕ)) (ys rest : List ℕ) (e : ys ≡ parityShard w ds) (em : m ≡ largest (lengthsOf ds) + 2) where
@@ -192,12 +358,14 @@ pub most-small : (g : Group) (s : List ℕ) → lengthsOk (g .mtu) (lengthsOf (f
 most-small g s e = add-up-most (g .mtu) (lengthsOf (foundIn g s)) e .1
 
 -- what is found is listed place by place
-pub listed-found : (g : Group) (s : List ℕ) → lengthsOk (g .mtu) (lengthsOf (foundIn g s)) ≡ true → lengthsOk (g .mtu) (lengthsOf (listed (datagramIn g s) (g .k))) ≡ true
+pub listed-found : (g : Group) (s : List ℕ) → lengthsOk (g .mtu) (lengthsOf (foundIn g s)) ≡ true
+    → lengthsOk (g .mtu) (lengthsOf (listed (datagramIn g s) (g .k))) ≡ true
 unfolding found
 listed-found g s e = e
 
 pub size-most : (g : Group) (s : List ℕ) (q : ℕ) → q < g .k → length (datagramIn g s q) ≤ largest (lengthsOf (foundIn g s))
-size-most g s q l = subst (λ (d : List ℕ). length d ≤ largest (lengthsOf (foundIn g s))) (found-at (g .k) (shardIn s (g .held)) q l) (size-le (foundIn g s) q)
+size-most g s q l = subst (λ (d : List ℕ). length d ≤ largest (lengthsOf (foundIn g s))) (found-at (g .k) (shardIn s (g .held)) q l)
+    (size-le (foundIn g s) q)
 
 -- ---- a frame that passed is in the group where its shard is
 
@@ -240,7 +408,8 @@ every-done t s ns i l =
     rw (drop-of-length-le (parts s ns) m)
 
 module _ (s ns : List ℕ) (k mtu g : ℕ) (ds : List (List ℕ)) (by : AllBytes s) (el : length ds ≡ k) (whole : addUp ns ≤ length s)
-    (all : every (frameOk k mtu g) (parts s ns) ≡ true) (at i n : ℕ) (ea : at ≡ addUp (take i ns)) (more : i < length ns) (en : n ≡ getD ns i 0) where
+    (all : every (frameOk k mtu g) (parts s ns) ≡ true) (at i n : ℕ) (ea : at ≡ addUp (take i ns)) (more : i < length ns)
+    (en : n ≡ getD ns i 0) where
   part-is : getD (parts s ns) i [] ≡ take n (drop at s)
   part-is = part-at s ns i more ∙ ap₂ (λ (m a : ℕ). take m (drop a s)) (sym en) (sym ea)
 
@@ -248,15 +417,18 @@ module _ (s ns : List ℕ) (k mtu g : ℕ) (ds : List (List ℕ)) (by : AllBytes
   given-room = omega (arith, add-up-next ns i more, add-up-le ns (i + 1))
 
   right : Passes k mtu g (take n (drop at s))
-  right = passes k mtu g (take n (drop at s)) (ap (frameOk k mtu g) (sym part-is) ∙ every-get (frameOk k mtu g) (parts s ns) i (rw (length-parts s ns) more) all)
+  right = passes k mtu g (take n (drop at s))
+      (ap (frameOk k mtu g) (sym part-is) ∙ every-get (frameOk k mtu g) (parts s ns) i (rw (length-parts s ns) more) all)
 
   pub given-long : 32 ≤ n
   given-long = let l : 32 ≤ length (take n (drop at s)) = right .long in omega (arith, length-part s at n given-room)
 
-  given-is : holds k (g * (k + 2)) ds (getD (parts s ns) i []) ≡ same (take (n - 6) (drop (at + 6) s)) (shardAt ds (placeOf k (take n (drop at s))))
+  given-is : holds k (g * (k + 2)) ds (getD (parts s ns) i []) ≡ same (take (n - 6) (drop (at + 6) s))
+      (shardAt ds (placeOf k (take n (drop at s))))
   given-is =
       ap (holds k (g * (k + 2)) ds) part-is ∙ holds-shard k mtu g ds (take n (drop at s)) el (part-bytes s at n by) right
-      ∙ ap (λ (l : List ℕ). same l (shardAt ds (placeOf k (take n (drop at s))))) (drop-take 6 n (drop at s) ∙ ap (take (n - 6)) (drop-drop 6 at s))
+      ∙ ap (λ (l : List ℕ). same l (shardAt ds (placeOf k (take n (drop at s)))))
+      (drop-take 6 n (drop at s) ∙ ap (take (n - 6)) (drop-drop 6 at s))
 
   pub given-step : same (take (n - 6) (drop (at + 6) s)) (shardAt ds (placeOf k (take n (drop at s)))) ≡ true →
       every (holds k (g * (k + 2)) ds) (drop i (parts s ns)) ≡ every (holds k (g * (k + 2)) ds) (drop (i + 1) (parts s ns))

@@ -11,7 +11,19 @@ use lib.Dec.{eqb, ltb}
 use lib.ListN.{length, getD, take, drop}
 use Rattle.wire.specs.LittleEndian.{AllBytes}
 use Rattle.galois.specs.Field.{plus, mul, power, inverse}
-use Rattle.galois.specs.FieldLaws.{plus-zero, zero-plus, plus-self, plus-comm, plus-assoc, plus-twice, plus-lt, mul-lt, mul-plus, mul-plus-left, power-lt}
+use Rattle.galois.specs.FieldLaws.{
+  plus-zero,
+  zero-plus,
+  plus-self,
+  plus-comm,
+  plus-assoc,
+  plus-twice,
+  plus-lt,
+  mul-lt,
+  mul-plus,
+  mul-plus-left,
+  power-lt,
+}
 use Rattle.galois.specs.TableLaws.{power-differs, undo-mul}
 use Rattle.rows.specs.Rows.{Row, behind, stepped}
 use Rattle.frames.specs.Lists.{total, other}
@@ -34,7 +46,8 @@ heldByte s h x q = getD (shardIn s h q) x 0
 pub row-sized : (f : ℕ → ℕ) (m n : ℕ) (row : List ℕ) → m ≡ n → Row f m row → Row f n row
 row-sized f m n row e r = record { size = r .size ∙ e; byte = λ x l. r .byte x (rw e l) }
 
-pub row-only : (k : ℕ) (shards : ℕ → List ℕ) (i j n : ℕ) (row : List ℕ) → j ≡ 12 → Row (solved k shards i 12) n row → Row (solved k shards i j) n row
+pub row-only : (k : ℕ) (shards : ℕ → List ℕ) (i j n : ℕ) (row : List ℕ) → j ≡ 12 → Row (solved k shards i 12) n row
+    → Row (solved k shards i j) n row
 row-only k shards i j n row e r = record { size = r .size; byte = λ x l. r .byte x l ∙ ap (λ (q : ℕ). solved k shards i q x) (sym e) }
 
 module _ (w : ℕ) (s : List ℕ) (h : Held) (bytes : AllBytes s) where
@@ -127,7 +140,8 @@ turned : (f g p q : ℕ) → f < 256 → g < 256 → p < 256 → q < 256 → 0 <
     plus p (mul (inverse (plus f g)) (plus q (mul g p))) ≡ mul (inverse (plus g f)) (plus q (mul f p))
 turned f g p q hf hg hp hq pos =
     ap (λ (y : ℕ). plus y (mul (inverse (plus f g)) (plus q (mul g p)))) (sym (undo-mul (plus f g) p pos (plus-lt f g hf hg) hp))
-    ∙ sym (mul-plus (inverse (plus f g)) (mul (plus f g) p) (plus q (mul g p)) (mul-lt (plus f g) p hp) (plus-lt q (mul g p) hq (mul-lt g p hp)))
+    ∙ sym (mul-plus (inverse (plus f g)) (mul (plus f g) p) (plus q (mul g p)) (mul-lt (plus f g) p hp)
+    (plus-lt q (mul g p) hq (mul-lt g p hp)))
     ∙ ap₂ (λ (u v : ℕ). mul (inverse u) v) (plus-comm f g) inner
   where
     inner : plus (mul (plus f g) p) (plus q (mul g p)) ≡ plus q (mul f p)
@@ -179,7 +193,8 @@ module _ (k : ℕ) (shards : ℕ → List ℕ) (i j n f g u d : ℕ) (li : i < 1
         byte = λ x m.
             rw near
             (r₁ .byte x (omega (arith, rb .size)) ∙ ap₂ plus (rb .byte x m) (ra .byte x m ∙ rw far refl)
-            ∙ turned (power i) (power j) (rest 0 k shards x) (rest 1 k shards x) (power-lt i) (power-lt j) (small 0 x) (small 1 x) (apart i j li lj differ));
+            ∙ turned (power i) (power j) (rest 0 k shards x) (rest 1 k shards x) (power-lt i) (power-lt j) (small 0 x) (small 1 x)
+            (apart i j li lj differ));
       }
 
 -- the rest of a parity is a byte
@@ -190,7 +205,8 @@ rest-small k s h bytes w x =
   where
     sum : (m : ℕ) → total (λ p. mul (weight w p) (heldByte s h x p)) m < 256
     sum zero = omega arith
-    sum (suc m) = plus-lt (total (λ p. mul (weight w p) (heldByte s h x p)) m) (mul (weight w m) (heldByte s h x m)) (sum m) (mul-lt (weight w m) (heldByte s h x m) (small w s h bytes x m))
+    sum (suc m) = plus-lt (total (λ p. mul (weight w p) (heldByte s h x p)) m) (mul (weight w m) (heldByte s h x m)) (sum m)
+        (mul-lt (weight w m) (heldByte s h x m) (small w s h bytes x m))
 
 -- ---- which places are lost
 

@@ -5,18 +5,76 @@ use mathlib.Core.Logic.{_⊎_, inl, inr, ⊎-elim}
 use mathlib.Core.Bool.{Bool, true, false, cond, _&&_, _||_, not}
 use mathlib.Core.List.{List, [], _∷_, _++_, map, append-assoc, append-nil}
 use Prim.Native.Nat.{ℕ, zero, suc, _+_, _-_, _*_, _/_, _%_, _≤_, _<_, max}
-use native.Mathlib.Nat.{not-suc-le-zero, zero-lt-suc, add-comm, add-zero, zero-add, suc-mul, mul-add-mod-self-right, add-mul-div-right, mod-eq-of-lt, div-eq-of-lt, mul-le-mul-right, mul-le-mul-left, le-of-lt}
+use native.Mathlib.Nat.{
+  not-suc-le-zero,
+  zero-lt-suc,
+  add-comm,
+  add-zero,
+  zero-add,
+  suc-mul,
+  mul-add-mod-self-right,
+  add-mul-div-right,
+  mod-eq-of-lt,
+  div-eq-of-lt,
+  mul-le-mul-right,
+  mul-le-mul-left,
+  le-of-lt,
+}
 use native.Mathlib.Numerals.{add-one}
 use native.Mathlib.Omega.{arith}
 use borrow.Author.Tests.{leb-true, leb-false, eqb-true, eqb-false, ltb-true, ltb-false, lt-ltb, le-ltb, le-leb, lt-leb, eq-eqb, ne-eqb}
 use lib.Dec.{eqb, ltb, leb}
-use lib.ListN.{length, getD, take, drop, set, length-append, length-take, length-drop, length-set, replicate, length-replicate, drop-of-length-le, List·getD-append, List·getD-eq-default}
-use lib.Seq.{sets, length-sets, drop-cons, take-suc, take-all, getD-take, getD-drop, drop-drop, ext-getD, getD-append-seam, getD-set-same, getD-set-other, take-nil}
+use lib.ListN.{
+  length,
+  getD,
+  take,
+  drop,
+  set,
+  length-append,
+  length-take,
+  length-drop,
+  length-set,
+  replicate,
+  length-replicate,
+  drop-of-length-le,
+  List·getD-append,
+  List·getD-eq-default,
+}
+use lib.Seq.{
+  sets,
+  length-sets,
+  drop-cons,
+  take-suc,
+  take-all,
+  getD-take,
+  getD-drop,
+  drop-drop,
+  ext-getD,
+  getD-append-seam,
+  getD-set-same,
+  getD-set-other,
+  take-nil,
+}
 use Rattle.wire.specs.LittleEndian.{bytesOf, numberAt, AllBytes}
 use Rattle.wire.specs.LittleEndianLaws.{length-bytesOf}
 use Rattle.wire.specs.Stores.{sets-append}
 use Rattle.galois.specs.Field.{plus, double, mul, power, inverse}
-use Rattle.galois.specs.FieldLaws.{plus-zero, zero-plus, plus-self, plus-swap, plus-comm, plus-assoc, plus-twice, plus-lt, mul-lt, mul-zero, one-mul, mul-plus, mul-plus-left, power-lt}
+use Rattle.galois.specs.FieldLaws.{
+  plus-zero,
+  zero-plus,
+  plus-self,
+  plus-swap,
+  plus-comm,
+  plus-assoc,
+  plus-twice,
+  plus-lt,
+  mul-lt,
+  mul-zero,
+  one-mul,
+  mul-plus,
+  mul-plus-left,
+  power-lt,
+}
 use Rattle.galois.specs.TableLaws.{power-positive, power-differs, undo-mul}
 use Rattle.frames.specs.declared.Refusal.{Refusal}
 use Rattle.frames.specs.declared.Refusal.the-variants.{ShortPart, SettingOutOfRange, NotAGroup, TooFewFrames, LateGroup}
@@ -24,11 +82,109 @@ use Rattle.frames.specs.declared.Answer.{Answer}
 use Rattle.frames.specs.declared.Answer.the-variants.{Written, Refused}
 use Rattle.frames.specs.Lists.{listed, joined, lengthsOf, parts, addUp, largest, total, count, other, every, among, different}
 use Rattle.frames.specs.Frames.{shard, longest, weight, parityByte, parityShard, typeAt, shardAt, frame, frameAt, group}
-use Rattle.frames.specs.Outcomes.{Outcome, refused, wrote, answerOf, bytesAfter, lengthsAfter, Gives, settingsOk, lentOk, lengthOk, lengthsOk, groupsEnd, writeOf}
-use Rattle.frames.specs.Reading.{sequenceOf, groupOf, placeOf, frameOk, firstGroup, heldShard, has, rest, solved, byteAt, lenAt, datagramAt, found, same, holds, readGroup, readFrames, readOf}
-use Rattle.frames.specs.PlaceLaws.{length-listed, getD-listed, listed-same, listed-next, listed-getD, listed-bytes, total-same, total-plus, total-none, total-one, total-two, total-next, count-none, count-three, other-none, other-some, Lost}
-use Rattle.frames.specs.PartLaws.{packed-step, packed-short, packed-end, lengths-step, lengths-bad, lengths-end, largest-step, largest-end, length-parts, part-at, add-up-next, add-up-le, length-part, joined-append, joined-next, length-lengths, lengths-next, stored, lengths-parts, getD-largest, length-joined-next, largest-le, largest-ge, size-le}
-use Rattle.frames.specs.FrameLaws.{length-shard, parity-at, shardAt-data, shardAt-parity, seq-of, type-of, len-of, shard-of, len-shard, two-bytes, behind, shard-bytes, shard-low, shard-high, shard-byte, type-lt, length-parityShard, length-frameAt, drop-frameAt, type-at, len-at}
+use Rattle.frames.specs.Outcomes.{
+  Outcome,
+  refused,
+  wrote,
+  answerOf,
+  bytesAfter,
+  lengthsAfter,
+  Gives,
+  settingsOk,
+  lentOk,
+  lengthOk,
+  lengthsOk,
+  groupsEnd,
+  writeOf,
+}
+use Rattle.frames.specs.Reading.{
+  sequenceOf,
+  groupOf,
+  placeOf,
+  frameOk,
+  firstGroup,
+  heldShard,
+  has,
+  rest,
+  solved,
+  byteAt,
+  lenAt,
+  datagramAt,
+  found,
+  same,
+  holds,
+  readGroup,
+  readFrames,
+  readOf,
+}
+use Rattle.frames.specs.PlaceLaws.{
+  length-listed,
+  getD-listed,
+  listed-same,
+  listed-next,
+  listed-getD,
+  listed-bytes,
+  total-same,
+  total-plus,
+  total-none,
+  total-one,
+  total-two,
+  total-next,
+  count-none,
+  count-three,
+  other-none,
+  other-some,
+  Lost,
+}
+use Rattle.frames.specs.PartLaws.{
+  packed-step,
+  packed-short,
+  packed-end,
+  lengths-step,
+  lengths-bad,
+  lengths-end,
+  largest-step,
+  largest-end,
+  length-parts,
+  part-at,
+  add-up-next,
+  add-up-le,
+  length-part,
+  joined-append,
+  joined-next,
+  length-lengths,
+  lengths-next,
+  stored,
+  lengths-parts,
+  getD-largest,
+  length-joined-next,
+  largest-le,
+  largest-ge,
+  size-le,
+}
+use Rattle.frames.specs.FrameLaws.{
+  length-shard,
+  parity-at,
+  shardAt-data,
+  shardAt-parity,
+  seq-of,
+  type-of,
+  len-of,
+  shard-of,
+  len-shard,
+  two-bytes,
+  behind,
+  shard-bytes,
+  shard-low,
+  shard-high,
+  shard-byte,
+  type-lt,
+  length-parityShard,
+  length-frameAt,
+  drop-frameAt,
+  type-at,
+  len-at,
+}
 use Rattle.frames.specs.OutcomeLaws.{and-left, and-right, refusing, writing, add-up-most, same-self, lengths-at}
 use Rattle.wire.specs.LittleEndianLaws.{numberAt-drop}
 use Rattle.parity_scan.specs.declared.Held.{Held}
@@ -83,7 +239,8 @@ drop-take (suc m) (suc n) (x ∷ l) = let e : n - m ≡ suc n - suc m = omega ar
 pub nonempty : List ℕ → List ℕ → List ℕ
 nonempty a b = cond (ltb 0 (length a)) a b
 
-pub every-cons : (t : List ℕ → Bool) (fs : List (List ℕ)) (i : ℕ) → i < length fs → t (getD fs i []) ≡ true → every t (drop i fs) ≡ every t (drop (i + 1) fs)
+pub every-cons : (t : List ℕ → Bool) (fs : List (List ℕ)) (i : ℕ) → i < length fs → t (getD fs i []) ≡ true
+    → every t (drop i fs) ≡ every t (drop (i + 1) fs)
 unfolding every
 every-cons t fs i h e = rw (add-one, drop-cons fs i [], e)
 
@@ -168,13 +325,15 @@ module _ (s ns : List ℕ) (k mtu g : ℕ) (h : Held) (at i n : ℕ) (seen : See
     next-own p e =
         let a : q < length (h .at) = rw (seen .places) lq in
         let b : q < length (h .size) = rw (seen .sizes) lq in
-        subst (λ (r : ℕ). take (getD (set (h .size) q (n - 6)) r 0) (drop (getD (set (h .at) q (at + 6)) r 0) s) ≡ take (n - 6) (drop (at + 6) s)) e
+        subst (λ (r : ℕ). take (getD (set (h .size) q (n - 6)) r 0) (drop (getD (set (h .at) q (at + 6)) r 0) s) ≡ take (n - 6)
+        (drop (at + 6) s)) e
         (ap₂ (λ (x y : ℕ). take x (drop y s)) (getD-set-same (h .size) q (n - 6) 0 b) (getD-set-same (h .at) q (at + 6) 0 a))
 
     next-other : (p : ℕ) → (q ≡ p → ⊥) → shardIn s next p ≡ shardIn s h p
     unfolding shardIn next
     next-other p d =
-        ap₂ (λ (x y : ℕ). take x (drop y s)) (getD-set-other (h .size) q p (n - 6) 0 (λ e. d (sym e))) (getD-set-other (h .at) q p (at + 6) 0 (λ e. d (sym e)))
+        ap₂ (λ (x y : ℕ). take x (drop y s)) (getD-set-other (h .size) q p (n - 6) 0 (λ e. d (sym e)))
+        (getD-set-other (h .at) q p (at + 6) 0 (λ e. d (sym e)))
 
     next-inside : (p : ℕ) → getD (next .at) p 0 + getD (next .size) p 0 ≤ length s
     unfolding next
@@ -191,21 +350,31 @@ module _ (s ns : List ℕ) (k mtu g : ℕ) (h : Held) (at i n : ℕ) (seen : See
             (omega (arith, getD-set-same (h .size) q (n - 6) 0 b, getD-set-same (h .at) q (at + 6) 0 a))
         go false e =
             let d : q ≡ p → ⊥ = eqb-false q p e in
-            omega (arith, getD-set-other (h .size) q p (n - 6) 0 (λ e. d (sym e)), getD-set-other (h .at) q p (at + 6) 0 (λ e. d (sym e)), old-inside p)
+            omega (
+              arith,
+              getD-set-other (h .size) q p (n - 6) 0 (λ e. d (sym e)),
+              getD-set-other (h .at) q p (at + 6) 0 (λ e. d (sym e)),
+              old-inside p,
+            )
 
     -- one more frame seen, where its place had a shard
-    had-shard : sized h q ≡ true → (p : ℕ) → nonempty (shardIn s h p) (heldShard k (drop i (parts s ns)) p) ≡ nonempty (shardIn s h p) (heldShard k (drop (i + 1) (parts s ns)) p)
+    had-shard : sized h q ≡ true → (p : ℕ)
+        → nonempty (shardIn s h p) (heldShard k (drop i (parts s ns)) p) ≡ nonempty (shardIn s h p)
+        (heldShard k (drop (i + 1) (parts s ns)) p)
     unfolding nonempty sized
     had-shard e p = ap (λ (l : List ℕ). cond (ltb 0 (length (shardIn s h p))) (shardIn s h p) l) (shard-cons p) ∙ go (eqb q p) refl
       where
         go : (b : Bool) → eqb q p ≡ b
             → cond (ltb 0 (length (shardIn s h p))) (shardIn s h p) (cond b own (heldShard k (drop (i + 1) (parts s ns)) p))
             ≡ cond (ltb 0 (length (shardIn s h p))) (shardIn s h p) (heldShard k (drop (i + 1) (parts s ns)) p)
-        go true f = rw (ap (λ (m : ℕ). ltb 0 m) (length-shardIn s h (seen .inside) p ∙ ap (λ (r : ℕ). getD (h .size) r 0) (sym (eqb-true q p f))) ∙ e)
+        go true f = rw (ap (λ (m : ℕ). ltb 0 m) (length-shardIn s h (seen .inside) p ∙ ap (λ (r : ℕ). getD (h .size) r 0)
+            (sym (eqb-true q p f))) ∙ e)
         go false f = refl
 
     -- and where it had none
-    no-shard : sized h q ≡ false → (p : ℕ) → nonempty (shardIn s h p) (heldShard k (drop i (parts s ns)) p) ≡ nonempty (shardIn s next p) (heldShard k (drop (i + 1) (parts s ns)) p)
+    no-shard : sized h q ≡ false → (p : ℕ)
+        → nonempty (shardIn s h p) (heldShard k (drop i (parts s ns)) p) ≡ nonempty (shardIn s next p)
+        (heldShard k (drop (i + 1) (parts s ns)) p)
     unfolding nonempty sized
     no-shard e p = ap (λ (l : List ℕ). cond (ltb 0 (length (shardIn s h p))) (shardIn s h p) l) (shard-cons p) ∙ go (eqb q p) refl
       where
@@ -232,7 +401,8 @@ module _ (s ns : List ℕ) (k mtu g : ℕ) (h : Held) (at i n : ℕ) (seen : See
         c : every (frameOk k mtu g) (parts s ns) ≡ every (frameOk k mtu g) (drop (i + 1) (parts s ns))
         c = seen .checked ∙ every-cons (frameOk k mtu g) (parts s ns) i more-cut (ap (frameOk k mtu g) part-is ∙ ok)
 
-        go : (b : Bool) → sized h q ≡ b → Seen s ns k mtu g (cond b h (record { at = set (h .at) q (at + 6); size = set (h .size) q (n - 6) })) (at + n) (i + 1)
+        go : (b : Bool) → sized h q ≡ b
+            → Seen s ns k mtu g (cond b h (record { at = set (h .at) q (at + 6); size = set (h .size) q (n - 6) })) (at + n) (i + 1)
         go true e = record {
           within = w;
           place = a;
@@ -259,7 +429,11 @@ seen-all s ns k mtu g h at i seen l =
     let m : length (parts s ns) ≤ i = rw (length-parts s ns) l in
     let e : drop i (parts s ns) ≡ [] = drop-of-length-le (parts s ns) m in (
       sym (seen .checked ∙ ap (every (frameOk k mtu g)) e),
-      record { inside = seen .inside; shards = λ p. sym (seen .shards p ∙ ap (λ (fs : List (List ℕ)). nonempty (shardIn s h p) (heldShard k fs p)) e ∙ self (shardIn s h p)) },
+      record {
+        inside = seen .inside;
+        shards = λ p. sym (seen .shards p ∙ ap (λ (fs : List (List ℕ)). nonempty (shardIn s h p) (heldShard k fs p)) e ∙ self
+            (shardIn s h p));
+      },
     )
   where
     self : (l : List ℕ) → cond (ltb 0 (length l)) l [] ≡ l
@@ -282,7 +456,8 @@ scan-right s ns k mtu n g h q e = record { right = e .0; group = λ z. q; held =
 pub scan-none : (s ns : List ℕ) (k mtu : ℕ) (h : Held) → Empty h → length (h .at) ≡ 12 → length (h .size) ≡ 12 → length ns ≡ 0
     → Scans s ns k mtu (firstGroup k (parts s ns)) (record { ok = true; group = 0; held = h })
 unfolding firstGroup parts
-scan-none s [] k mtu h e a b z = scan-right s [] k mtu 0 0 h refl (seen-all s [] k mtu 0 h 0 0 (seen-none s [] k mtu 0 h e a b) (omega arith))
+scan-none s [] k mtu h e a b z =
+    scan-right s [] k mtu 0 0 h refl (seen-all s [] k mtu 0 h 0 0 (seen-none s [] k mtu 0 h e a b) (omega arith))
 scan-none s (n ∷ ns) k mtu h e a b z = absurd (omega arith)
 
 first-is : (s ns : List ℕ) → 0 < length ns → (k : ℕ) → firstGroup k (parts s ns) ≡ groupOf k (take (getD ns 0 0) (drop 0 s))
@@ -290,7 +465,8 @@ unfolding firstGroup parts
 first-is s [] h k = absurd (omega arith)
 first-is s (n ∷ ns) h k = refl
 
-pub scan-first : (s ns : List ℕ) (k mtu n g : ℕ) (r : Scanned) → 0 < length ns → n ≡ getD ns 0 0 → g ≡ groupOf k (take n (drop 0 s)) → Scans s ns k mtu g r
+pub scan-first : (s ns : List ℕ) (k mtu n g : ℕ) (r : Scanned) → 0 < length ns → n ≡ getD ns 0 0 → g ≡ groupOf k (take n (drop 0 s))
+    → Scans s ns k mtu g r
     → Scans s ns k mtu (firstGroup k (parts s ns)) r
 scan-first s ns k mtu n g r h en eg f =
     subst (λ (q : ℕ). Scans s ns k mtu q r) (eg ∙ ap (λ (m : ℕ). groupOf k (take m (drop 0 s))) en ∙ sym (first-is s ns h k)) f
@@ -301,7 +477,8 @@ unfolding parts every addUp
 first-short s [] k mtu n h w l e z = absurd (omega arith)
 first-short s (m ∷ ns) k mtu n h w l e z =
     scan-wrong s (m ∷ ns) k mtu (firstGroup k (take m s ∷ parts (drop m s) ns)) 0 h
-    (rw (sym (frame-short k mtu (firstGroup k (take m s ∷ parts (drop m s) ns)) (take m s) m (length-part s 0 m (omega arith)) (omega arith))))
+    (rw (sym (frame-short k mtu (firstGroup k (take m s ∷ parts (drop m s) ns)) (take m s) m (length-part s 0 m (omega arith))
+    (omega arith))))
 
 zeros : (n p : ℕ) → _≡_ {A = ℕ} (getD (replicate n 0) p 0) 0
 zeros zero p = refl

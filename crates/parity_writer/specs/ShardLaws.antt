@@ -66,7 +66,8 @@ module _ (w : ℕ) (s ns : List ℕ) (bytes : AllBytes s) where
   small : (x q : ℕ) → shardByte s ns x q < 256
   small x q = shard-bytes (getD (parts s ns) q []) (parts-bytes s ns bytes q) x
 
-  pub parity-none : (m n : ℕ) (row : List ℕ) → m ≡ n → Row (λ x. 0) m row → Row (λ x. tail w (shardByte s ns x) (length ns) (length ns)) n row
+  pub parity-none : (m n : ℕ) (row : List ℕ) → m ≡ n → Row (λ x. 0) m row
+      → Row (λ x. tail w (shardByte s ns x) (length ns) (length ns)) n row
   parity-none = steps-none w (shardByte s ns) small (length ns)
 
   pub parity-next :
@@ -81,13 +82,17 @@ module _ (w : ℕ) (s ns : List ℕ) (bytes : AllBytes s) where
       Row (λ x. tail w (shardByte s ns x) q (length ns)) size row₂
   parity-next p q from n size row row₁ row₂ ep l ef en r r₁ r₂ =
       steps-next w (shardByte s ns) small (length ns) p q size row row₁ row₂ ep l r r₁
-      (row-same (λ x. plus (getD row₁ x 0) (getD (shard (take n (drop from s))) x 0)) (λ x. plus (getD row₁ x 0) (shardByte s ns x q)) (length row₁) row₂
-      (λ x m. ap (λ (d : List ℕ). plus (getD row₁ x 0) (getD (shard d) x 0)) (ap₂ (λ (i j : ℕ). take i (drop j s)) en ef ∙ sym (part-at s ns q l))) r₂)
+      (row-same (λ x. plus (getD row₁ x 0) (getD (shard (take n (drop from s))) x 0)) (λ x. plus (getD row₁ x 0) (shardByte s ns x q))
+      (length row₁) row₂
+      (λ x m. ap (λ (d : List ℕ). plus (getD row₁ x 0) (getD (shard d) x 0))
+      (ap₂ (λ (i j : ℕ). take i (drop j s)) en ef ∙ sym (part-at s ns q l))) r₂)
 
-  pub parity-done : (p : ℕ) (row : List ℕ) → addUp ns ≤ length s → p ≤ 0 → Row (λ x. tail w (shardByte s ns x) p (length ns)) (largest ns + 2) row →
+  pub parity-done : (p : ℕ) (row : List ℕ) → addUp ns ≤ length s → p ≤ 0
+      → Row (λ x. tail w (shardByte s ns x) p (length ns)) (largest ns + 2) row →
       row ≡ parityShard w (parts s ns)
   unfolding parityShard parityByte longest
   parity-done p row h l r =
       row-listed (λ x. total (λ q. mul (weight w q) (shardByte s ns x q)) (length (parts s ns))) (largest (lengthsOf (parts s ns)) + 2) row
-      (rw (length-parts s ns) (steps-done w (shardByte s ns) small (length ns) p (largest ns + 2) (largest (lengthsOf (parts s ns)) + 2) row l
+      (rw (length-parts s ns) (steps-done w (shardByte s ns) small (length ns) p (largest ns + 2) (largest (lengthsOf (parts s ns)) + 2) row
+      l
       (ap (λ (m : List ℕ). largest m + 2) (sym (lengths-parts s ns h))) r))

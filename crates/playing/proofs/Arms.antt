@@ -10,7 +10,25 @@ use types.Run.{OneOf}
 use Rattle.script.specs.Commands.{isOneOf}
 use Rattle.script.specs.CommandLaws.{one-of}
 use Rattle.script.specs.declared.Command.{Command}
-use Rattle.script.specs.declared.Command.the-variants.{Open, Send, Input, Flush, Update, Check, Read, Size, Show, State, Held, Jump, Lend, Poke, Hold, Rec, Malformed}
+use Rattle.script.specs.declared.Command.the-variants.{
+  Open,
+  Send,
+  Input,
+  Flush,
+  Update,
+  Check,
+  Read,
+  Size,
+  Show,
+  State,
+  Held,
+  Jump,
+  Lend,
+  Poke,
+  Hold,
+  Rec,
+  Malformed,
+}
 use Rattle.script.proofs.Command as declared
 use Rattle.bench.specs.declared.Bench.{Bench}
 use Rattle.playing.specs.declared.Played.{Played}
@@ -28,7 +46,8 @@ not-one : (k : ℕ) (ks : List ℕ) (n : ℕ) → isOneOf n (k ∷ ks) ≡ false
 not-one k ks n e h = let t = one-of k ks n h in let z : _≡_ {A = ℕ} 0 1 = cc in omega arith
 
 -- the last arm of `tool`, `on_link`, `unopened` and `play`
-pub no-tool : (c : Command) (b : Bench) (text : List ℕ) (x : Played) (text′ : List ℕ) → OneOf (0 ∷ 1 ∷ 2 ∷ 3 ∷ 4 ∷ 5 ∷ 6 ∷ 7 ∷ 8 ∷ 16 ∷ []) (tag c) → NoCommand b text x text′ → PlaysTool c b text x text′
+pub no-tool : (c : Command) (b : Bench) (text : List ℕ) (x : Played) (text′ : List ℕ)
+    → OneOf (0 ∷ 1 ∷ 2 ∷ 3 ∷ 4 ∷ 5 ∷ 6 ∷ 7 ∷ 8 ∷ 16 ∷ []) (tag c) → NoCommand b text x text′ → PlaysTool c b text x text′
 unfolding isOneOf
 no-tool (Open conv mtu mode interval threshold stream congestion) b text x text′ h p = p
 no-tool (Send n) b text x text′ h p = p
@@ -48,7 +67,9 @@ no-tool (Hold list index field value) b text x text′ h p = absurd (not-one 0 (
 no-tool (Rec slot number due timeout skips) b text x text′ h p = absurd (not-one 0 (1 ∷ 2 ∷ 3 ∷ 4 ∷ 5 ∷ 6 ∷ 7 ∷ 8 ∷ 16 ∷ []) 15 refl h)
 no-tool Malformed b text x text′ h p = p
 
-pub no-call : (c : Command) (b : Bench) (s r a bytes text : List ℕ) (x : Played) (s′ r′ a′ text′ : List ℕ) → OneOf (0 ∷ 9 ∷ 10 ∷ 11 ∷ 12 ∷ 13 ∷ 14 ∷ 15 ∷ 16 ∷ []) (tag c) → Untouched s r a s′ r′ a′ → PlaysTool c b text x text′ → PlaysOnLink c b s r a bytes text x s′ r′ a′ text′
+pub no-call : (c : Command) (b : Bench) (s r a bytes text : List ℕ) (x : Played) (s′ r′ a′ text′ : List ℕ)
+    → OneOf (0 ∷ 9 ∷ 10 ∷ 11 ∷ 12 ∷ 13 ∷ 14 ∷ 15 ∷ 16 ∷ []) (tag c) → Untouched s r a s′ r′ a′ → PlaysTool c b text x text′
+    → PlaysOnLink c b s r a bytes text x s′ r′ a′ text′
 unfolding isOneOf
 no-call (Open conv mtu mode interval threshold stream congestion) b s r a bytes text x s′ r′ a′ text′ h u p = (u, p)
 no-call (Send n) b s r a bytes text x s′ r′ a′ text′ h u p = absurd (not-one 0 (9 ∷ 10 ∷ 11 ∷ 12 ∷ 13 ∷ 14 ∷ 15 ∷ 16 ∷ []) 1 refl h)
@@ -90,7 +111,8 @@ pub both : (t : Bool) → t ≡ true → t ≡ false → ⊥
 both t e h = let z : _≡_ {A = ℕ} 0 1 = cc in omega arith
 
 -- one command has one set of settings
-pub same-settings : (c : Command) (conv mtu mode interval threshold stream congestion conv′ mtu′ mode′ interval′ threshold′ stream′ congestion′ : ℕ) →
+pub same-settings : (c : Command) (conv mtu mode interval threshold stream congestion conv′ mtu′ mode′ interval′ threshold′ stream′
+    congestion′ : ℕ) →
     c ≡ Open conv mtu mode interval threshold stream congestion → c ≡ Open conv′ mtu′ mode′ interval′ threshold′ stream′ congestion′ →
     settingsOf conv mtu mode interval threshold stream congestion ≡ settingsOf conv′ mtu′ mode′ interval′ threshold′ stream′ congestion′
 same-settings c conv mtu mode interval threshold stream congestion conv′ mtu′ mode′ interval′ threshold′ stream′ congestion′ e h = cc

@@ -157,7 +157,8 @@ PlaysTool (command.Jump snd rcv) b = PlaysJump snd rcv b
 PlaysTool (command.Lend part count) b = PlaysLend part count b
 PlaysTool (command.Poke field value) b = PlaysPoke field value b
 PlaysTool (command.Hold list index field value) b = PlaysHold list index field value b
-PlaysTool (command.Rec slot number due timeout skips) b = Ok (after b (b .link) (set (b .table) slot (record { number = number; due = due; timeout = timeout; skips = skips })))
+PlaysTool (command.Rec slot number due timeout skips) b =
+    Ok (after b (b .link) (set (b .table) slot (record { number = number; due = due; timeout = timeout; skips = skips })))
 PlaysTool (command.Open conv mtu mode interval threshold stream congestion) b = NoCommand b
 PlaysTool (command.Send n) b = NoCommand b
 PlaysTool (command.Input n) b = NoCommand b
@@ -184,8 +185,10 @@ pub record Untouched (s r a s′ r′ a′ : List ℕ) : Type 0 where
 
 -- on a link that has been opened; the first bytes of `bytes` are the message or the datagram
 abbrev pub PlaysOnLink : Command → Bench → (s r a bytes text : List ℕ) → Played → (s′ r′ a′ text′ : List ℕ) → Type 0
-PlaysOnLink (command.Send n) b s r a bytes text x s′ r′ a′ text′ = Untouched s′ r a s′ r′ a′ × PlaysSend (take n bytes) b s r a text x s′ text′
-PlaysOnLink (command.Input n) b s r a bytes text x s′ r′ a′ text′ = Untouched s r′ a′ s′ r′ a′ × PlaysInput (take n bytes) b s r a text x r′ a′ text′
+PlaysOnLink (command.Send n) b s r a bytes text x s′ r′ a′ text′ =
+    Untouched s′ r a s′ r′ a′ × PlaysSend (take n bytes) b s r a text x s′ text′
+PlaysOnLink (command.Input n) b s r a bytes text x s′ r′ a′ text′ =
+    Untouched s r′ a′ s′ r′ a′ × PlaysInput (take n bytes) b s r a text x r′ a′ text′
 PlaysOnLink (command.Flush t) b s r a bytes text x s′ r′ a′ text′ = Untouched s r a s′ r′ a′ × PlaysFlush t b s r a text x text′
 PlaysOnLink (command.Update t) b s r a bytes text x s′ r′ a′ text′ = Untouched s r a s′ r′ a′ × PlaysUpdate t b s r a text x text′
 PlaysOnLink (command.Check t) b s r a bytes text x s′ r′ a′ text′ = Untouched s r a s′ r′ a′ × PlaysCheck t b s r a text x text′
@@ -194,11 +197,16 @@ PlaysOnLink command.Size b s r a bytes text x s′ r′ a′ text′ = Untouched
 PlaysOnLink command.Show b s r a bytes text x s′ r′ a′ text′ = Untouched s r a s′ r′ a′ × PlaysShow b s r a text x text′
 PlaysOnLink command.State b s r a bytes text x s′ r′ a′ text′ = Untouched s r a s′ r′ a′ × PlaysTool command.State b text x text′
 PlaysOnLink command.Held b s r a bytes text x s′ r′ a′ text′ = Untouched s r a s′ r′ a′ × PlaysTool command.Held b text x text′
-PlaysOnLink (command.Jump snd rcv) b s r a bytes text x s′ r′ a′ text′ = Untouched s r a s′ r′ a′ × PlaysTool (command.Jump snd rcv) b text x text′
-PlaysOnLink (command.Lend part count) b s r a bytes text x s′ r′ a′ text′ = Untouched s r a s′ r′ a′ × PlaysTool (command.Lend part count) b text x text′
-PlaysOnLink (command.Poke field value) b s r a bytes text x s′ r′ a′ text′ = Untouched s r a s′ r′ a′ × PlaysTool (command.Poke field value) b text x text′
-PlaysOnLink (command.Hold list index field value) b s r a bytes text x s′ r′ a′ text′ = Untouched s r a s′ r′ a′ × PlaysTool (command.Hold list index field value) b text x text′
-PlaysOnLink (command.Rec slot number due timeout skips) b s r a bytes text x s′ r′ a′ text′ = Untouched s r a s′ r′ a′ × PlaysTool (command.Rec slot number due timeout skips) b text x text′
+PlaysOnLink (command.Jump snd rcv) b s r a bytes text x s′ r′ a′ text′ =
+    Untouched s r a s′ r′ a′ × PlaysTool (command.Jump snd rcv) b text x text′
+PlaysOnLink (command.Lend part count) b s r a bytes text x s′ r′ a′ text′ =
+    Untouched s r a s′ r′ a′ × PlaysTool (command.Lend part count) b text x text′
+PlaysOnLink (command.Poke field value) b s r a bytes text x s′ r′ a′ text′ =
+    Untouched s r a s′ r′ a′ × PlaysTool (command.Poke field value) b text x text′
+PlaysOnLink (command.Hold list index field value) b s r a bytes text x s′ r′ a′ text′ =
+    Untouched s r a s′ r′ a′ × PlaysTool (command.Hold list index field value) b text x text′
+PlaysOnLink (command.Rec slot number due timeout skips) b s r a bytes text x s′ r′ a′ text′ =
+    Untouched s r a s′ r′ a′ × PlaysTool (command.Rec slot number due timeout skips) b text x text′
 PlaysOnLink (command.Open conv mtu mode interval threshold stream congestion) b s r a bytes text x s′ r′ a′ text′ =
     Untouched s r a s′ r′ a′ × NoCommand b text x text′
 PlaysOnLink command.Malformed b s r a bytes text x s′ r′ a′ text′ = Untouched s r a s′ r′ a′ × NoCommand b text x text′
@@ -206,7 +214,8 @@ PlaysOnLink command.Malformed b s r a bytes text x s′ r′ a′ text′ = Unto
 -- neither `open` nor malformed
 pub record IsLater (c : Command) : Type 0 where
   pub notMalformed : c ≡ command.Malformed → ⊥
-  pub notOpen : (conv mtu mode interval threshold stream congestion : ℕ) → c ≡ command.Open conv mtu mode interval threshold stream congestion → ⊥
+  pub notOpen : (conv mtu mode interval threshold stream congestion : ℕ)
+      → c ≡ command.Open conv mtu mode interval threshold stream congestion → ⊥
 
 -- the settings of `open`: one that is too large for its width becomes the largest of that width, which is out of range too
 abbrev pub settingsOf : ℕ → ℕ → ℕ → ℕ → ℕ → ℕ → ℕ → Settings
@@ -224,7 +233,8 @@ settingsOf conv mtu mode interval threshold stream congestion =
 -- `open` opens the link; every other command is refused before that
 pub record Plays (c : Command) (b : Bench) (s r a bytes text : List ℕ) (x : Played) (s′ r′ a′ text′ : List ℕ) : Type 0 where
   pub malformed : c ≡ command.Malformed → Untouched s r a s′ r′ a′ × NoCommand b text x text′
-  pub opens : (conv mtu mode interval threshold stream congestion : ℕ) → c ≡ command.Open conv mtu mode interval threshold stream congestion →
+  pub opens : (conv mtu mode interval threshold stream congestion : ℕ)
+      → c ≡ command.Open conv mtu mode interval threshold stream congestion →
       Untouched s r a s′ r′ a′ × PlaysOpen (settingsOf conv mtu mode interval threshold stream congestion) b s r a text x text′
   pub onLink : IsLater c → b .opened ≡ true → PlaysOnLink c b s r a bytes text x s′ r′ a′ text′
   pub unopened : IsLater c → b .opened ≡ false → Untouched s r a s′ r′ a′ × PlaysUnopened c b text x text′

@@ -18,7 +18,8 @@ ghost use mathlib.Core.List.{_++_};
 ghost use Rattle.notation.specs.Ascii.{ascii};
 ghost use Rattle.transcript.specs.Lines.{bytesLine, refusalLine, answerLine, countLine, datagramLines, stateLine, heldLine};
 ghost use Rattle.bench_calls.specs.BenchPromises.{after};
-ghost use Rattle.playing.specs.Plays.{PlaysUpdate, PlaysCheck};
+ghost use Rattle.playing.specs.Plays.{PlaysUpdate};
+ghost use Rattle.playing.specs.Plays.{PlaysCheck};
 ghost use Rattle.playing.specs.Plays.{Says, still, NoCommand, Ok, PlaysOpen, PlaysSend, PlaysInput, PlaysFlush, PlaysRead, PlaysSize, PlaysShow, PlaysJump, PlaysLend, PlaysPoke, PlaysHold, PlaysTool, PlaysUnopened, PlaysOnLink, settingsOf, Plays, PlaysLine};
 
 // The bench after a command, and the length of its answer.
@@ -102,7 +103,8 @@ fn open(
     acks: &[u32],
     text: &mut [u8],
 ) -> Played
-    ensures { λ r. ⌜ PlaysOpen settings bench (now («send_pool» .entry)) (now («receive_pool» .entry)) (now (acks .entry)) (now (text .entry)) r (now (text .exit)) ⌝ }
+    ensures { λ r. ⌜ PlaysOpen settings bench (now («send_pool» .entry)) (now («receive_pool» .entry)) (now (acks .entry))
+        (now (text .entry)) r (now (text .exit)) ⌝ }
 {
     let done = bench_calls::open(bench, settings, send_pool, receive_pool, acks);
     answered(done, text)
@@ -118,7 +120,8 @@ fn send(
     count: usize,
     text: &mut [u8],
 ) -> Played
-    ensures { λ r. ⌜ PlaysSend (take count (now (bytes .entry))) bench (now («send_pool» .entry)) (now («receive_pool» .entry)) (now (acks .entry)) (now (text .entry)) r (now («send_pool» .exit)) (now (text .exit)) ⌝ }
+    ensures { λ r. ⌜ PlaysSend (take count (now (bytes .entry))) bench (now («send_pool» .entry)) (now («receive_pool» .entry))
+        (now (acks .entry)) (now (text .entry)) r (now («send_pool» .exit)) (now (text .exit)) ⌝ }
 {
     let n = bench_calls::front(count, bytes);
     let done = bench_calls::send(bench, send_pool, receive_pool, acks, &bytes[..n]);
@@ -135,7 +138,8 @@ fn input(
     count: usize,
     text: &mut [u8],
 ) -> Played
-    ensures { λ r. ⌜ PlaysInput (take count (now (bytes .entry))) bench (now («send_pool» .entry)) (now («receive_pool» .entry)) (now (acks .entry)) (now (text .entry)) r (now («receive_pool» .exit)) (now (acks .exit)) (now (text .exit)) ⌝ }
+    ensures { λ r. ⌜ PlaysInput (take count (now (bytes .entry))) bench (now («send_pool» .entry)) (now («receive_pool» .entry))
+        (now (acks .entry)) (now (text .entry)) r (now («receive_pool» .exit)) (now (acks .exit)) (now (text .exit)) ⌝ }
 {
     let n = bench_calls::front(count, bytes);
     let done = bench_calls::input(bench, send_pool, receive_pool, acks, &bytes[..n]);
@@ -144,7 +148,8 @@ fn input(
 
 // The datagrams of a flush, and their count.
 fn flushed(bench: Bench, packed: &[u8], lengths: &[u16], n: usize, text: &mut [u8]) -> Played
-    ensures { λ r. ⌜ Says bench (datagramLines (now (packed .entry)) (take n (now (lengths .entry))) ++ countLine (Count.Of n)) (now (text .entry)) r (now (text .exit)) ⌝ }
+    ensures { λ r. ⌜ Says bench (datagramLines (now (packed .entry)) (take n (now (lengths .entry))) ++ countLine (Count.Of n))
+        (now (text .entry)) r (now (text .exit)) ⌝ }
 {
     let at = transcript::datagrams(text, 0, packed, lengths, n);
     let len = transcript::count(text, at, Count::Of(n));
@@ -166,7 +171,8 @@ fn flush(
     t: u32,
     text: &mut [u8],
 ) -> Played
-    ensures { λ r. ⌜ PlaysFlush t bench (now («send_pool» .entry)) (now («receive_pool» .entry)) (now (acks .entry)) (now (text .entry)) r (now (text .exit)) ⌝ }
+    ensures { λ r. ⌜ PlaysFlush t bench (now («send_pool» .entry)) (now («receive_pool» .entry)) (now (acks .entry)) (now (text .entry)) r
+        (now (text .exit)) ⌝ }
 {
     let mut output = [0u8; Protocol::OUTPUT_LEAST];
     let mut lengths = [0u16; Protocol::LENGTHS_LEAST];
@@ -244,7 +250,8 @@ fn check(
 
 // The message that was read: the first `count` bytes of `bytes`.
 fn message(bench: Bench, bytes: &[u8], count: usize, text: &mut [u8]) -> Played
-    ensures { λ r. ⌜ Says bench (bytesLine (ascii "message ") (take count (now (bytes .entry)))) (now (text .entry)) r (now (text .exit)) ⌝ }
+    ensures { λ r. ⌜ Says bench (bytesLine (ascii "message ") (take count (now (bytes .entry))))
+        (now (text .entry)) r (now (text .exit)) ⌝ }
 {
     let n = bench_calls::front(count, bytes);
     let len = transcript::bytes_line(text, 0, b"message ", &bytes[..n]);
@@ -259,7 +266,8 @@ fn read(
     room: u32,
     text: &mut [u8],
 ) -> Played
-    ensures { λ r. ⌜ PlaysRead room bench (now («send_pool» .entry)) (now («receive_pool» .entry)) (now (acks .entry)) (now (text .entry)) r (now (text .exit)) ⌝ }
+    ensures { λ r. ⌜ PlaysRead room bench (now («send_pool» .entry)) (now («receive_pool» .entry)) (now (acks .entry)) (now (text .entry)) r
+        (now (text .exit)) ⌝ }
 {
     let mut buffer = [0u8; script::ROOM_MOST];
     let done = bench_calls::read(
@@ -285,7 +293,8 @@ fn size(
     acks: &[u32],
     text: &mut [u8],
 ) -> Played
-    ensures { λ r. ⌜ PlaysSize bench (now («send_pool» .entry)) (now («receive_pool» .entry)) (now (acks .entry)) (now (text .entry)) r (now (text .exit)) ⌝ }
+    ensures { λ r. ⌜ PlaysSize bench (now («send_pool» .entry)) (now («receive_pool» .entry)) (now (acks .entry)) (now (text .entry)) r
+        (now (text .exit)) ⌝ }
 {
     let answer = bench_calls::size(bench, send_pool, receive_pool, acks);
     let len = transcript::count(text, 0, answer);
@@ -299,7 +308,8 @@ fn show(
     acks: &[u32],
     text: &mut [u8],
 ) -> Played
-    ensures { λ r. ⌜ PlaysShow bench (now («send_pool» .entry)) (now («receive_pool» .entry)) (now (acks .entry)) (now (text .entry)) r (now (text .exit)) ⌝ }
+    ensures { λ r. ⌜ PlaysShow bench (now («send_pool» .entry)) (now («receive_pool» .entry)) (now (acks .entry)) (now (text .entry)) r
+        (now (text .exit)) ⌝ }
 {
     let part = bench_calls::show(bench, send_pool, receive_pool, acks);
     let len = transcript::bytes_line(text, 0, b"part ", part);
@@ -437,7 +447,9 @@ fn on_link(
     bytes: &[u8],
     text: &mut [u8],
 ) -> Played
-    ensures { λ r. ⌜ PlaysOnLink command bench (now («send_pool» .entry)) (now («receive_pool» .entry)) (now (acks .entry)) (now (bytes .entry)) (now (text .entry)) r (now («send_pool» .exit)) (now («receive_pool» .exit)) (now (acks .exit)) (now (text .exit)) ⌝ }
+    ensures { λ r. ⌜ PlaysOnLink command bench (now («send_pool» .entry)) (now («receive_pool» .entry)) (now (acks .entry))
+        (now (bytes .entry)) (now (text .entry)) r (now («send_pool» .exit)) (now («receive_pool» .exit)) (now (acks .exit))
+        (now (text .exit)) ⌝ }
 {
     match command {
         Command::Send(n) => send(bench, send_pool, receive_pool, acks, bytes, n, text),
@@ -462,7 +474,8 @@ pub fn play(
     bytes: &[u8],
     text: &mut [u8],
 ) -> Played
-    ensures { λ r. ⌜ Plays command bench (now («send_pool» .entry)) (now («receive_pool» .entry)) (now (acks .entry)) (now (bytes .entry)) (now (text .entry)) r (now («send_pool» .exit)) (now («receive_pool» .exit)) (now (acks .exit)) (now (text .exit)) ⌝ }
+    ensures { λ r. ⌜ Plays command bench (now («send_pool» .entry)) (now («receive_pool» .entry)) (now (acks .entry)) (now (bytes .entry))
+        (now (text .entry)) r (now («send_pool» .exit)) (now («receive_pool» .exit)) (now (acks .exit)) (now (text .exit)) ⌝ }
 {
     match command {
         Command::Malformed => malformed(bench, text),

@@ -22,7 +22,7 @@ use Rattle.session.specs.Opening.{opened}
 use Rattle.session.specs.FillLaws.{filled-queue}
 use Rattle.session.specs.Input.{allBySending, ackNumbers, applied}
 use Rattle.session.specs.Flushing.{flushing}
-use Rattle.session.specs.Calls.{Station, Call, Answer, Event, Stepped, afterFlush, own, datagramsIn, datagramsBy}
+use Rattle.session.specs.Calls.{Station, Call, Reply, Event, Stepped, afterFlush, own, datagramsIn, datagramsBy}
 use Rattle.session.specs.Decides.{All}
 use Rattle.session.specs.AllLaws.{all-append, all-weaker}
 use Rattle.delivery.specs.Hearing.{CallFits, FewPushes}
@@ -86,7 +86,7 @@ record Counts (c : Settings) (s : Station) (n : ℕ) (x : Call) (y : Stepped) : 
   few : FewPushes c (datagramsIn (y .answer))
 
 -- a call that is refused, and one that writes, makes no segment
-refused-makes-none : (s : Station) (x : Call) (r : Refusal) → fragmentsBy s x (Answer.refused r) ≡ 0
+refused-makes-none : (s : Station) (x : Call) (r : Refusal) → fragmentsBy s x (Reply.refused r) ≡ 0
 refused-makes-none s (Call.send m) r = refl
 refused-makes-none s (Call.takeIn d) r = refl
 refused-makes-none s (Call.flush t) r = refl
@@ -94,7 +94,7 @@ refused-makes-none s (Call.read room) r = refl
 refused-makes-none s (Call.update t) r = refl
 refused-makes-none s (Call.check t) r = refl
 
-pub writer-makes-none : (s : Station) (x : Call) (ds : List (List ℕ)) → fragmentsBy s x (Answer.wrote ds) ≡ 0
+pub writer-makes-none : (s : Station) (x : Call) (ds : List (List ℕ)) → fragmentsBy s x (Reply.wrote ds) ≡ 0
 writer-makes-none s (Call.send m) ds = refl
 writer-makes-none s (Call.takeIn d) ds = refl
 writer-makes-none s (Call.flush t) ds = refl
@@ -140,7 +140,7 @@ module _ (s : Station) (n : ℕ) (range : inRange (s .state .settings) ≡ true)
   -- filling adds no segment, and all that is cut is queued
   send-counts : (m : List ℕ) →
       length (filling c d (s .sendPool) m .queued ++ placing c d (s .sendPool) m .segments)
-      ≡ length (d .queued) + fragmentsBy s (Call.send m) Answer.accepted
+      ≡ length (d .queued) + fragmentsBy s (Call.send m) Reply.accepted
   send-counts m = omega (
     arith,
     length-append (filling c d (s .sendPool) m .queued) (placing c d (s .sendPool) m .segments),
@@ -153,7 +153,7 @@ module _ (s : Station) (n : ℕ) (range : inRange (s .state .settings) ≡ true)
   unfolding applied
   own-counts =
       own-cases (λ (x : Call) (y : Stepped). CallFits x → n ≤ 2 ^ 30 → Counts c s n x y) s
-      (λ x r fits most. record { counted = same (fragmentsBy s x (Answer.refused r)) (refused-makes-none s x r); few = tt })
+      (λ x r fits most. record { counted = same (fragmentsBy s x (Reply.refused r)) (refused-makes-none s x r); few = tt })
       (λ m ok fits most. record { counted = record { total = omega (arith, h .total, send-counts m); under = h .under }; few = tt })
       (λ b gs e fits most.
       let k = taken-same c (s .state .current) d gs (ackNumbers gs) in
@@ -194,11 +194,11 @@ module _ (c : Settings) (range : inRange c ≡ true) (conv32 : c .conv < 2 ^ 32)
     counted : Counted n (stationOf e)
     most : n ≤ 2 ^ 30
 
-  record CallMade (n : ℕ) (e : Endpoint) (x : Call) (y : Answer) (e′ : Endpoint) : Type 0 where
+  record CallMade (n : ℕ) (e : Endpoint) (x : Call) (y : Reply) (e′ : Endpoint) : Type 0 where
     counted : Counted (n + fragmentsBy (stationOf e) x y) (stationOf e′)
     few : FewPushes c (datagramsIn y)
 
-  call-made : (n : ℕ) (e e′ : Endpoint) (x : Call) (y : Answer) → CallFits x → Called e x y e′ → Made n e → CallMade n e x y e′
+  call-made : (n : ℕ) (e e′ : Endpoint) (x : Call) (y : Reply) → CallFits x → Called e x y e′ → Made n e → CallMade n e x y e′
   call-made n e e′ x y fits h m =
       let s = own-call c range conv32 e (m .kept) x y e′ fits h in
       let w = counts-call c range conv32 (stationOf e) n x (m .kept .order) fits (m .most) (m .counted) in
@@ -231,9 +231,9 @@ module _ (c : Settings) (range : inRange c ≡ true) (conv32 : c .conv < 2 ^ 32)
       }
 
   -- a call that writes: its pushes are few
-  pub writes-few : (n : ℕ) (e e′ : Endpoint) (x : Call) (ds : List (List ℕ)) → CallFits x → Called e x (Answer.wrote ds) e′ → Made n e
+  pub writes-few : (n : ℕ) (e e′ : Endpoint) (x : Call) (ds : List (List ℕ)) → CallFits x → Called e x (Reply.wrote ds) e′ → Made n e
       → FewPushes c ds
-  writes-few n e e′ x ds fits h m = call-made n e e′ x (Answer.wrote ds) fits h m .few
+  writes-few n e e′ x ds fits h m = call-made n e e′ x (Reply.wrote ds) fits h m .few
 
   -- feeds make no segment
   feeds-make-none : (ds : List (List ℕ)) {e e″ : Endpoint} {events : List Event} (r : Runs e (map Call.takeIn ds) events e″)

@@ -11,7 +11,7 @@ use Rattle.protocol.specs.declared.Settings.{Settings}
 use Rattle.protocol.specs.declared.Refusal.the-variants.{NoMessage}
 use Rattle.wire.specs.LittleEndian.{AllBytes}
 use Rattle.session.specs.ReceivingValid.{receiving-decides}
-use Rattle.session.specs.Calls.{Station, Call, Answer, Event, own, datagramsIn, datagramsBy}
+use Rattle.session.specs.Calls.{Station, Call, Reply, Event, own, datagramsIn, datagramsBy}
 use Rattle.session.specs.Decides.{All}
 use Rattle.session.specs.AllLaws.{all-left, all-right, all-unmapped}
 use Rattle.control.specs.Views.{stateOf}
@@ -62,12 +62,12 @@ module _ (c : Settings) (l r : List (List ℕ)) where
 
 -- the read that gave 9
 abbrev nineEvent : ℕ → Event
-nineEvent room = record { call = Call.read room; answer = Answer.refused NoMessage }
+nineEvent room = record { call = Call.read room; answer = Reply.refused NoMessage }
 
 module _ (c : Settings) (range : inRange c ≡ true) (conv32 : c .conv < 2 ^ 32) where
   -- ---- one call of an end
 
-  call-joint : (a b a′ : Endpoint) (byA byB : List (List ℕ)) (x : Call) (y : Answer) → Kept c a → CallFits x → Called a x y a′
+  call-joint : (a b a′ : Endpoint) (byA byB : List (List ℕ)) (x : Call) (y : Reply) → Kept c a → CallFits x → Called a x y a′
       → TakesOneOf byB x → FewPushes c (datagramsIn y) → Joint c (stationOf a) byA (stationOf b) byB
       → Joint c (stationOf a′) (byA ++ datagramsIn y) (stationOf b) byB
   call-joint a b a′ byA byB x y k fits h from few j =
@@ -121,8 +121,8 @@ module _ (c : Settings) (range : inRange c ≡ true) (conv32 : c .conv < 2 ^ 32)
   nine-after [] room since e e″ r fits none k =
       let p = split r in
       let half = stationOf e .state .receiving in
-      let s = own-call c range conv32 e k (Call.read room) (Answer.refused NoMessage) (p .0) tt (p .1) in
-      let k′ = kept-call c range conv32 e k (Call.read room) (Answer.refused NoMessage) (p .0) tt (p .1) in
+      let s = own-call c range conv32 e k (Call.read room) (Reply.refused NoMessage) (p .0) tt (p .1) in
+      let k′ = kept-call c range conv32 e k (Call.read room) (Reply.refused NoMessage) (p .0) tt (p .1) in
       nine-since since (p .0) e″ (p .2) (fits .1) none k′
       (subst (λ (x : Station). Nine (x .state .receiving)) (s .station)
       (nine-given c (stationOf e) room (receiving-decides c half .holds (k .order .receives .valid)) (s .answer)))
@@ -182,10 +182,10 @@ passed-by-pushes c moves a b a″ ha hb heard read trip few-a few-b =
     let ka = since-opening ha .kept in
     let bytes = all-unmapped CallFits Call.takeIn (f .arrivals) (f .fits .1) in
     let bytes′ = all-unmapped CallFits Call.takeIn (g .arrivals) (g .fits .1) in
-    let sa = own-call c range conv32 a ka (f .call) (Answer.wrote (f .writes)) (trip .a′) (f .fits .0) (f .flushes) in
-    let ka′ = kept-call c range conv32 a ka (f .call) (Answer.wrote (f .writes)) (trip .a′) (f .fits .0) (f .flushes) in
+    let sa = own-call c range conv32 a ka (f .call) (Reply.wrote (f .writes)) (trip .a′) (f .fits .0) (f .flushes) in
+    let ka′ = kept-call c range conv32 a ka (f .call) (Reply.wrote (f .writes)) (trip .a′) (f .fits .0) (f .flushes) in
     let fb = fed-runs c range conv32 (f .arrivals) b (trip .b′) (f .events) (f .hears) bytes (since-opening hb .kept) in
-    let sb = own-call c range conv32 (trip .b′) (fb .kept) (g .call) (Answer.wrote (g .writes)) (trip .b″) (g .fits .0) (g .flushes) in
+    let sb = own-call c range conv32 (trip .b′) (fb .kept) (g .call) (Reply.wrote (g .writes)) (trip .b″) (g .fits .0) (g .flushes) in
     let fa = fed-runs c range conv32 (g .arrivals) (trip .a′) a″ (g .events) (g .hears) bytes′ ka′ in
     subst (λ (s : Station). Passed (a .link .flight .una) (s .state .sending .una))
     (ap (λ (x : Station). fed x (g .arrivals)) (sa .station) ∙ sym (fa .station))

@@ -28,7 +28,7 @@ use Rattle.session.specs.State.{State, Sending, Receiving, Outcome, withReceivi
 use Rattle.session.specs.Input.{Receiver, allBySending, allByReceiving, ackNumbers, skippedByAll, applied, input}
 use Rattle.session.specs.Flushing.{flushing}
 use Rattle.session.specs.Reading.{Reads, readable, messageSize, message, afterRead, reading}
-use Rattle.session.specs.Calls.{Station, Call, Answer, Stepped, afterTakeIn, afterFlush, afterReading, own, datagramsIn}
+use Rattle.session.specs.Calls.{Station, Call, Reply, Stepped, afterTakeIn, afterFlush, afterReading, own, datagramsIn}
 use Rattle.session.specs.Decides.{All}
 use Rattle.session.specs.AllLaws.{all-weaker}
 use Rattle.session.specs.Ascending.{Ascends, ascending-ascends}
@@ -99,9 +99,9 @@ record IsFlush (s : Station) (x : Call) (y : Stepped) : Type 0 where
   is : y ≡ afterFlush s (flushing (withSchedule (s .state) schedule) t (s .sendPool))
   takes-none : (ds : List (List ℕ)) → TakesOneOf ds x
 
-is-flush : (s : Station) (x : Call) (ds : List (List ℕ)) → CallFits x → own s x .answer ≡ Answer.wrote ds → IsFlush s x (own s x)
+is-flush : (s : Station) (x : Call) (ds : List (List ℕ)) → CallFits x → own s x .answer ≡ Reply.wrote ds → IsFlush s x (own s x)
 is-flush s x ds fits wrote =
-    own-cases (λ (x : Call) (y : Stepped). CallFits x → y .answer ≡ Answer.wrote ds → IsFlush s x y) s
+    own-cases (λ (x : Call) (y : Stepped). CallFits x → y .answer ≡ Reply.wrote ds → IsFlush s x y) s
     (λ x r f e. absurd (let z : _≡_ {A = ℕ} 0 1 = cc in omega arith))
     (λ m ok f e. absurd (let z : _≡_ {A = ℕ} 0 1 = cc in omega arith))
     (λ d gs p f e. absurd (let z : _≡_ {A = ℕ} 0 1 = cc in omega arith))
@@ -125,7 +125,7 @@ record Answers (c : Settings) (s : Station) (ds : List (List ℕ)) : Type 0 wher
   some : 0 < length (s .state .receiving .acks) → 0 < length ds
 
 flush-answers-own : (s : Station) → inRange (s .state .settings) ≡ true → s .state .settings .conv < 2 ^ 32 → InOrder (s .state .settings) s
-    → (x : Call) (ds : List (List ℕ)) → CallFits x → own s x .answer ≡ Answer.wrote ds → Answers (s .state .settings) s ds
+    → (x : Call) (ds : List (List ℕ)) → CallFits x → own s x .answer ≡ Reply.wrote ds → Answers (s .state .settings) s ds
 flush-answers-own s range conv32 o x ds fits e =
     let f = is-flush s x ds fits e in
     let state : State = withSchedule (s .state) (f .schedule) in
@@ -139,7 +139,7 @@ flush-answers-own s range conv32 o x ds fits e =
 
 -- by any name of the settings
 flush-answers : (c : Settings) → inRange c ≡ true → c .conv < 2 ^ 32 → (s : Station) → InOrder c s
-    → (x : Call) (ds : List (List ℕ)) → CallFits x → own s x .answer ≡ Answer.wrote ds → Answers c s ds
+    → (x : Call) (ds : List (List ℕ)) → CallFits x → own s x .answer ≡ Reply.wrote ds → Answers c s ds
 flush-answers c range conv32 s o x ds fits e =
     subst (λ (c : Settings). inRange c ≡ true → c .conv < 2 ^ 32 → InOrder c s → Answers c s ds) (o .sends .settings)
     (λ range conv32 o. flush-answers-own s range conv32 o x ds fits e)
@@ -154,7 +154,7 @@ pub record Nine (r : Receiving) : Type 0 where
 
 -- a read that gives 9
 pub nine-given : (c : Settings) (s : Station) (room : ℕ) → ReceivingIsValid c (s .state .receiving)
-    → own s (Call.read room) .answer ≡ Answer.refused NoMessage → Nine (own s (Call.read room) .station .state .receiving)
+    → own s (Call.read room) .answer ≡ Reply.refused NoMessage → Nine (own s (Call.read room) .station .state .receiving)
 unfolding reading
 nine-given c s room v = go (readable r) refl (leb (messageSize (s .state .receiving)) room)
   where
@@ -167,7 +167,7 @@ nine-given c s room v = go (readable r) refl (leb (messageSize (s .state .receiv
     y : Bool → Bool → Stepped
     y a b = afterReading s (cond a (cond b (Outcome.done result) (Outcome.refused ShortPart)) (Outcome.refused NoMessage))
 
-    go : (a : Bool) → readable r ≡ a → (b : Bool) → y a b .answer ≡ Answer.refused NoMessage
+    go : (a : Bool) → readable r ≡ a → (b : Bool) → y a b .answer ≡ Reply.refused NoMessage
         → Nine (y a b .station .state .receiving)
     go true p true h = absurd (let z : _≡_ {A = ℕ} 0 1 = cc in omega arith)
     go true p false h = absurd (let z : _≡_ {A = ℕ} 0 1 = cc in omega arith)
@@ -238,7 +238,7 @@ module _ (c : Settings) (range : inRange c ≡ true) (conv32 : c .conv < 2 ^ 32)
 
   -- an end writes
   joint-writes : (a b : Station) (byA byB : List (List ℕ)) (x : Call) (ds : List (List ℕ)) → CallFits x
-      → own a x .answer ≡ Answer.wrote ds → FewPushes c ds → Joint c a byA b byB → Joint c (own a x .station) (byA ++ ds) b byB
+      → own a x .answer ≡ Reply.wrote ds → FewPushes c ds → Joint c a byA b byB → Joint c (own a x .station) (byA ++ ds) b byB
   joint-writes a b byA byB x ds fits e few j =
       rw e at (joint-step c range conv32 a b byA byB x fits (is-flush a x ds fits e .takes-none byB) (rw e few) j)
 
@@ -403,7 +403,7 @@ module _ (c : Settings) (range : inRange c ≡ true) (conv32 : c .conv < 2 ^ 32)
   module _ (a b : Station) (byA byB : List (List ℕ)) (x x′ : Call) (ds ds′ there back : List (List ℕ))
       (j : Joint c a byA b byB) (nine : Nine (b .state .receiving))
       (fits : CallFits x) (fits′ : CallFits x′) (bytes : All AllBytes there) (bytes′ : All AllBytes back)
-      (writes : own a x .answer ≡ Answer.wrote ds) (writes′ : own (fed b there) x′ .answer ≡ Answer.wrote ds′)
+      (writes : own a x .answer ≡ Reply.wrote ds) (writes′ : own (fed b there) x′ .answer ≡ Reply.wrote ds′)
       (all-there : AllArrive ds there) (all-back : AllArrive ds′ back)
       (few : FewPushes c ds) (few′ : FewPushes c ds′) (out : GoesOut c (a .state .sending .una) ds) where
     -- the sender after its flush

@@ -9,7 +9,7 @@ use Rattle.protocol.specs.Serial.{isAfter}
 use Rattle.protocol.specs.declared.Settings.{Settings}
 use Rattle.protocol.specs.declared.Refusal.the-variants.{NoMessage}
 use Rattle.session.specs.Slots.{occurs}
-use Rattle.session.specs.Calls.{Call, Answer, Event, datagramsIn}
+use Rattle.session.specs.Calls.{Call, Reply, Event, datagramsIn}
 use Rattle.session.specs.Decides.{All}
 use Rattle.delivery.specs.PlainReceiver.{pushesIn}
 use Rattle.delivery.specs.Hearing.{CallFits}
@@ -20,8 +20,8 @@ use Rattle.demands.specs.Claims.{fragmentsAccepted}
 
 -- a call of the end A or of the end B, with its answer
 pub data Move : Type 0 where
-  atA : Call → Answer → Move
-  atB : Call → Answer → Move
+  atA : Call → Reply → Move
+  atB : Call → Reply → Move
 
 -- the calls of each end, with their answers
 unfoldable pub eventsOfA : List Move → List Event
@@ -75,7 +75,7 @@ pub record ReadUntil9 (events : List Event) : Type 0 where
   pub before : List Event
   pub room : ℕ
   pub since : List Event
-  pub are : events ≡ before ++ (record { call = Call.read room; answer = Answer.refused NoMessage } ∷ since)
+  pub are : events ≡ before ++ (record { call = Call.read room; answer = Reply.refused NoMessage } ∷ since)
   pub unheard : All TakesNone since
 
 -- ---- a good round trip
@@ -96,7 +96,7 @@ pub record AllArrive (ds arrivals : List (List ℕ)) : Type 0 where
 pub record FlushArrives (a b a′ b′ : Endpoint) : Type 0 where
   pub call : Call
   pub writes : List (List ℕ)
-  pub flushes : Called a call (Answer.wrote writes) a′
+  pub flushes : Called a call (Reply.wrote writes) a′
   pub arrivals : List (List ℕ)
   pub all-arrive : AllArrive writes arrivals
   pub events : List Event

@@ -3,8 +3,9 @@
 use mathlib.Core.Path.{_≡_}
 use mathlib.Core.Bool.{cond}
 use mathlib.Core.List.{List}
-use Prim.Native.Nat.{ℕ}
+use Prim.Native.Nat.{ℕ, suc}
 use lib.ListN.{length, take}
+use Rattle.protocol.specs.Refusals.{numberOf}
 use Rattle.protocol.specs.declared.Refusal.the-variants.{NoMessage}
 use Rattle.lists.specs.declared.Held.{Held}
 use Rattle.session.specs.State.{Outcome, refused, done}
@@ -20,7 +21,7 @@ use Rattle.answers.specs.declared.Update.the-variants as update
 use Rattle.answers.specs.declared.Time.{Time}
 use Rattle.answers.specs.declared.Time.the-variants as time
 
--- accepted, or the refusal (its number in document 01 is `numberOf`)
+-- accepted, or the refusal
 abbrev pub Accepts : {A : Type 0} → Answer → Outcome A → Type 0
 Accepts a (refused r) = a ≡ answer.Refused r
 Accepts a (done x) = a ≡ answer.Accepted
@@ -49,3 +50,26 @@ timeOutcome (time.Refused r) = refused r
 -- the size of the message at the front of what is ready
 unfoldable pub sizeOf : List Held → Outcome ℕ
 sizeOf ready = cond (readable ready) (done (lengthOf (take (frontCount ready) ready))) (refused NoMessage)
+
+-- ---- by number: that of the refusal in document 01, and 0, which no refusal has, where the call is done
+
+abbrev pub outcomeNumber : {A : Type 0} → Outcome A → ℕ
+outcomeNumber (refused r) = numberOf r
+outcomeNumber (done x) = 0
+
+abbrev pub answerNumber : Answer → ℕ
+answerNumber (answer.Refused r) = numberOf r
+answerNumber answer.Accepted = 0
+
+abbrev pub countNumber : Count → ℕ
+countNumber (count.Refused r) = numberOf r
+countNumber (count.Of n) = 0
+
+abbrev pub updateNumber : Update → ℕ
+updateNumber (update.Refused r) = numberOf r
+updateNumber (update.Wrote n) = 0
+updateNumber update.Waited = 0
+
+abbrev pub timeNumber : Time → ℕ
+timeNumber (time.Refused r) = numberOf r
+timeNumber (time.At t) = 0

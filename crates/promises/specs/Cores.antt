@@ -79,12 +79,13 @@ pub record TookIn (x : Took) (acks : List ℕ) (a : Answer) (l′ : Link) (b : P
   pub ack-rest : drop (2 * l′ .arrival .acks) acks′ ≡ drop (2 * l′ .arrival .acks) acks
 
 -- refused: the number alone, the very block, pool and ack list
-pub record TookNothing (r : Refusal) (l : Link) (pool acks : List ℕ) (a : Answer) (l′ : Link) (b : PutBack) (pool′ acks′ : List ℕ) : Type 0 where
-  pub answer : a ≡ answer.Refused r
-  pub link : l′ ≡ l
-  pub puts : PutsNothing b
-  pub pool-same : pool′ ≡ pool
-  pub acks-same : acks′ ≡ acks
+pub record TookNothing (r : Refusal) (l : Link) (pool acks : List ℕ) (a : Answer) (l′ : Link) (b : PutBack) (pool′ acks′ : List ℕ) : Type 0
+  where
+    pub answer : a ≡ answer.Refused r
+    pub link : l′ ≡ l
+    pub puts : PutsNothing b
+    pub pool-same : pool′ ≡ pool
+    pub acks-same : acks′ ≡ acks
 
 abbrev pub InputCore : Outcome Took → Link → List ℕ → List ℕ → Answer → Link → PutBack → List ℕ → List ℕ → Type 0
 InputCore (refused r) l pool acks a l′ b pool′ acks′ = TookNothing r l pool acks a l′ b pool′ acks′
@@ -101,12 +102,13 @@ pub record Flushes (x : Flushed) (acks out lengths : List ℕ) (a : Count) (l′
   pub output : Output (map bytesOfSegments (x .datagrams)) out lengths (length (x .datagrams)) out′ lengths′
 
 -- refused: nothing is written
-pub record NoFlush (r : Refusal) (l : Link) (out lengths : List ℕ) (a : Count) (l′ : Link) (b : PutBack) (out′ lengths′ : List ℕ) : Type 0 where
-  pub answer : a ≡ count.Refused r
-  pub link : l′ ≡ l
-  pub puts : PutsNothing b
-  pub output : out′ ≡ out
-  pub sizes : lengths′ ≡ lengths
+pub record NoFlush (r : Refusal) (l : Link) (out lengths : List ℕ) (a : Count) (l′ : Link) (b : PutBack) (out′ lengths′ : List ℕ) : Type 0
+  where
+    pub answer : a ≡ count.Refused r
+    pub link : l′ ≡ l
+    pub puts : PutsNothing b
+    pub output : out′ ≡ out
+    pub sizes : lengths′ ≡ lengths
 
 abbrev pub FlushCore : Outcome Flushed → Link → List ℕ → List ℕ → List ℕ → Count → Link → PutBack → List ℕ → List ℕ → Type 0
 FlushCore (refused r) l acks out lengths a l′ b out′ lengths′ = NoFlush r l out lengths a l′ b out′ lengths′
@@ -135,12 +137,13 @@ UpdateCore (done (flushes x)) l records acks out lengths a l′ b out′ lengths
 
 -- ---- reading: the receiving half and the buffer alone change
 
-pub record ReadIt (x : Reads) (l : Link) (records : List Record) (acks buffer : List ℕ) (a : Count) (l′ : Link) (buffer′ : List ℕ) : Type 0 where
-  pub answer : a ≡ count.Of (length (x .bytes))
-  pub counts : countsFit l′ ≡ true
-  pub state : stateOf l′ records acks ≡ x .state
-  pub slots : outstandingSlots l′ ≡ outstandingSlots l
-  pub bytes : buffer′ ≡ sets buffer 0 (x .bytes)
+pub record ReadIt (x : Reads) (l : Link) (records : List Record) (acks buffer : List ℕ) (a : Count) (l′ : Link) (buffer′ : List ℕ) : Type 0
+  where
+    pub answer : a ≡ count.Of (length (x .bytes))
+    pub counts : countsFit l′ ≡ true
+    pub state : stateOf l′ records acks ≡ x .state
+    pub slots : outstandingSlots l′ ≡ outstandingSlots l
+    pub bytes : buffer′ ≡ sets buffer 0 (x .bytes)
 
 abbrev pub ReadCore : Outcome Reads → Link → List Record → List ℕ → List ℕ → Count → Link → List ℕ → Type 0
 ReadCore (refused r) l records acks buffer a l′ buffer′ = (a ≡ count.Refused r) × (l′ ≡ l) × (buffer′ ≡ buffer)

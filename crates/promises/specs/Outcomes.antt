@@ -3,11 +3,11 @@
 use mathlib.Core.Bool.{Bool, cond}
 use mathlib.Core.List.{List}
 use Prim.Native.Nat.{ℕ}
+use lib.ListN.{length}
 use Rattle.protocol.specs.Ranges.{mss}
 use Rattle.protocol.specs.declared.Settings.{Settings}
-use Rattle.protocol.specs.declared.Refusal.the-variants.{ShortPart, InvalidBlock}
 use Rattle.sizes.specs.Sizes.{enough, enoughToFlush}
-use Rattle.session.specs.State.{State, Outcome, refused, done}
+use Rattle.session.specs.State.{State, Outcome, refused, done, admitted}
 use Rattle.session.specs.Opening.{opening}
 use Rattle.session.specs.Sending.{Sends, sending}
 use Rattle.session.specs.Input.{Took, input}
@@ -18,11 +18,11 @@ use Rattle.timing.specs.declared.Record.{Record}
 use Rattle.sizes.specs.declared.Lengths.{Lengths}
 use Rattle.control.specs.Views.{stateOf, blockValid}
 use Rattle.control.specs.declared.Link.{Link}
-use Rattle.promises.specs.Parts.{Parts, lengthsOf, recordsOf}
+use Rattle.promises.specs.Parts.{Parts, FlushParts, lengthsOf, recordsOf}
 
 -- the lent sizes (7), then the block (13), then the call's own
 abbrev pub checked : {A : Type 0} → Bool → Bool → Outcome A → Outcome A
-checked long made own = cond long (cond made own (refused InvalidBlock)) (refused ShortPart)
+checked = admitted refused
 
 -- ---- by block, records of the outstanding segments, ack list and lent lengths
 
@@ -44,7 +44,8 @@ module _ (l : Link) (records : List Record) (acks : List ℕ) (n : Lengths) wher
   -- a flush at t, with output and lengths this long
   unfoldable pub flushesWith : List ℕ → ℕ → ℕ → ℕ → Outcome Flushed
   flushesWith pool output lengths t =
-      checked (enoughToFlush (mss (l .settings)) n output lengths) (blockValid l records acks) (done (flushing (stateOf l records acks) t pool))
+      checked (enoughToFlush (mss (l .settings)) n output lengths) (blockValid l records acks)
+      (done (flushing (stateOf l records acks) t pool))
 
   -- a read into a buffer that long
   unfoldable pub readsWith : List ℕ → ℕ → Outcome Reads
@@ -76,8 +77,8 @@ sends l p = sendsWith l (recordsOf l p) (p .acks) (lengthsOf p) (p .sendPool)
 abbrev pub takesIn : Link → Parts → List ℕ → Outcome Took
 takesIn l p = takesInWith l (recordsOf l p) (p .acks) (lengthsOf p) (p .receivePool)
 
-abbrev pub flushes : Link → Parts → ℕ → ℕ → ℕ → Outcome Flushed
-flushes l p = flushesWith l (recordsOf l p) (p .acks) (lengthsOf p) (p .sendPool)
+abbrev pub flushes : Link → Parts → FlushParts → ℕ → Outcome Flushed
+flushes l p f = flushesWith l (recordsOf l p) (p .acks) (lengthsOf p) (p .sendPool) (length (f .output)) (length (f .lengths))
 
 abbrev pub reads : Link → Parts → ℕ → Outcome Reads
 reads l p = readsWith l (recordsOf l p) (p .acks) (lengthsOf p) (p .receivePool)
@@ -85,8 +86,8 @@ reads l p = readsWith l (recordsOf l p) (p .acks) (lengthsOf p) (p .receivePool)
 abbrev pub tells : Link → Parts → Outcome ℕ
 tells l p = tellsWith l (recordsOf l p) (p .acks) (lengthsOf p)
 
-abbrev pub updates : Link → Parts → ℕ → ℕ → ℕ → Outcome Updates
-updates l p = updatesWith l (recordsOf l p) (p .acks) (lengthsOf p) (p .sendPool)
+abbrev pub updates : Link → Parts → FlushParts → ℕ → Outcome Updates
+updates l p f = updatesWith l (recordsOf l p) (p .acks) (lengthsOf p) (p .sendPool) (length (f .output)) (length (f .lengths))
 
 abbrev pub checks : Link → Parts → ℕ → Outcome ℕ
 checks l p = checksWith l (recordsOf l p) (p .acks) (lengthsOf p)

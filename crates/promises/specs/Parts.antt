@@ -20,9 +20,15 @@ pub record Parts : Type 0 where
   pub table : List Record
   pub acks : List ℕ
 
+-- what is lent to a flush besides: where its datagrams go, one behind the other, and where their lengths go
+pub record FlushParts : Type 0 where
+  pub output : List ℕ
+  pub lengths : List ℕ
+
 -- the lengths of the parts, with that of the table by itself
 abbrev pub lentLengths : ℕ → List ℕ → List ℕ → List ℕ → Lengths
-lentLengths table sendPool receivePool acks = record { send = length sendPool; receive = length receivePool; table = table; acks = length acks }
+lentLengths table sendPool receivePool acks =
+    record { send = length sendPool; receive = length receivePool; table = table; acks = length acks }
 
 abbrev pub lengthsOf : Parts → Lengths
 lengthsOf p = lentLengths (length (p .table)) (p .sendPool) (p .receivePool) (p .acks)
@@ -30,6 +36,9 @@ lengthsOf p = lentLengths (length (p .table)) (p .sendPool) (p .receivePool) (p 
 -- what is lent to a call, by the contents of its slices
 abbrev pub partsOf : List ℕ → List ℕ → List Record → List ℕ → Parts
 partsOf sendPool receivePool table acks = record { sendPool = sendPool; receivePool = receivePool; table = table; acks = acks }
+
+abbrev pub flushPartsOf : List ℕ → List ℕ → FlushParts
+flushPartsOf output lengths = record { output = output; lengths = lengths }
 
 -- the slots of the outstanding segments
 abbrev pub outstandingSlots : Link → List ℕ

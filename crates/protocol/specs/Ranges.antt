@@ -4,7 +4,17 @@ use mathlib.Core.Bool.{Bool, _&&_}
 use Prim.Native.Nat.{ℕ, _-_}
 use lib.Dec.{leb, eqb}
 use Rattle.protocol.specs.declared.Settings.{Settings}
-use Rattle.protocol.specs.Protocol.{headerSize, mtuLeast, mtuMost, modeMost, intervalLeast, intervalMost, thresholdMost, streamMost, congestionMost}
+use Rattle.protocol.specs.Protocol.{
+  headerSize,
+  mtuLeast,
+  mtuMost,
+  modeMost,
+  intervalLeast,
+  intervalMost,
+  thresholdMost,
+  streamMost,
+  congestionMost,
+}
 
 -- mtu 50 to 1,400; mode 0, 1 or 2; interval 10 to 5,000; threshold 0 to 100; stream and congestion 0 or 1; any conversation
 abbrev pub inRange : Settings → Bool

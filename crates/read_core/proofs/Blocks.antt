@@ -38,9 +38,11 @@ pool-whole m n e =
     let send = leb (sendSlots * m) (n .send) in
     let receive = leb (receiveSlots * m) (n .receive) in
     let table = leb sendSlots (n .table) in
-    leb-true (receiveSlots * m) (n .receive) (and-parts send receive (and-parts (send && receive) table (and-parts (send && receive && table) _ e .0) .0) .1)
+    leb-true (receiveSlots * m) (n .receive) (and-parts send receive
+    (and-parts (send && receive) table (and-parts (send && receive && table) _ e .0) .0) .1)
 
-readable-block : (l : Link) (records : List Record) (acks : List ℕ) (n : Lengths) (pool : List ℕ) → enough (mss (l .settings)) n ≡ true → blockValid l records acks ≡ true → n .receive ≡ length pool → Readable l pool
+readable-block : (l : Link) (records : List Record) (acks : List ℕ) (n : Lengths) (pool : List ℕ) → enough (mss (l .settings)) n ≡ true
+    → blockValid l records acks ≡ true → n .receive ≡ length pool → Readable l pool
 unfolding blockValid stateOf
 readable-block l records acks n pool g b long =
     let v = and-parts (countsFit l) _ b in
@@ -69,10 +71,12 @@ block-counts l e = counts (l .flight) (l .arrival) e
 module _ (l : Link) (records : List Record) (acks : List ℕ) (n : Lengths) (long : Bool) (e : long ≡ enough (mss (l .settings)) n)
     (v : Verdict) (verdict : (acks : List ℕ) → v ≡ verdictOf long (blockValid l records acks)) where
   pub passes : v ≡ Passed → Passes (enough (mss (l .settings)) n) (blockValid l records acks)
-  passes t = let p = passed-by long (blockValid l records acks) v (verdict acks) t in record { long-enough = sym e ∙ p .long-enough; valid-block = p .valid-block }
+  passes t = let p = passed-by long (blockValid l records acks) v (verdict acks) t in
+      record { long-enough = sym e ∙ p .long-enough; valid-block = p .valid-block }
 
   pub passes-readable : v ≡ Passed → (pool : List ℕ) → n .receive ≡ length pool → Readable l pool
   passes-readable t pool q = let p = passes t in readable-block l records acks n pool (p .long-enough) (p .valid-block) q
 
-  pub refuses : {A : Type 0} (own : Outcome A) (r : Refusal) → v ≡ Refused r → checked (enough (mss (l .settings)) n) (blockValid l records acks) own ≡ refused r
+  pub refuses : {A : Type 0} (own : Outcome A) (r : Refusal) → v ≡ Refused r
+      → checked (enough (mss (l .settings)) n) (blockValid l records acks) own ≡ refused r
   refuses own r t = rw (← e) (refused-by own long (blockValid l records acks) v r (verdict acks) t)

@@ -48,7 +48,8 @@ module _ (m : ℕ) (ws : List ℕ) (n : ℕ) (b : Bool) (e : b ≡ readable (hel
       go (yes h) = h
       go (no h) = absurd (false≢true (sym (rw (rest-end ws n 0 (omega arith)) at e) ∙ t))
 
-  pub front-placed : b ≡ true → n ≤ length ws → InSlots m (heldIn ws n) → (slot len : ℕ) → slot ≡ unpack (getD ws 0 0) .slot → len ≡ unpack (getD ws 0 0) .len
+  pub front-placed : b ≡ true → n ≤ length ws → InSlots m (heldIn ws n) → (slot len : ℕ) → slot ≡ unpack (getD ws 0 0) .slot
+      → len ≡ unpack (getD ws 0 0) .len
       → PlaceIs (placeOf (frontOutcome m (heldIn ws n))) (receiveSlots * m) (record { start = slot * m; count = len })
   unfolding frontOutcome placeOf
   front-placed t g i slot len p q =
@@ -62,13 +63,15 @@ module _ (m : ℕ) (ws : List ℕ) (n : ℕ) (b : Bool) (e : b ≡ readable (hel
 
 -- ---- behind the checks, and where they refuse
 
-pub placed : (l : Link) (records : List Record) (acks pool : List ℕ) (long made : Bool) → Passes long made → Readable l pool → (m : ℕ) → m ≡ mss (l .settings) → (r : Place)
+pub placed : (l : Link) (records : List Record) (acks pool : List ℕ) (long made : Bool) → Passes long made → Readable l pool → (m : ℕ)
+    → m ≡ mss (l .settings) → (r : Place)
     → PlaceIs (placeOf (frontOutcome m (heldIn (l .ready) (l .arrival .ready)))) (receiveSlots * m) r
     → PlaceIs (placeOf (checked long made (showing (stateOf l records acks)))) (length pool) r
 unfolding showing stateOf frontOutcome placeOf
 placed l records acks pool long made p ok m e r h =
     let q = rw e at h in
-    rw (p .long-enough, p .valid-block) (record { start = q .start; count = q .count; within = omega (arith, q .within, ok .inside .whole) })
+    rw (p .long-enough, p .valid-block) (record
+    { start = q .start; count = q .count; within = omega (arith, q .within, ok .inside .whole) })
 
 pub unplaced : (o : Outcome Part) (q : Refusal) → o ≡ refused q → (size : ℕ) → PlaceIs (placeOf o) size (record { start = 0; count = 0 })
 unfolding placeOf
@@ -76,7 +79,8 @@ unplaced o q e size = rw e (record { start = refl; count = refl; within = omega 
 
 -- ---- the part itself
 
-pub shows-part : (o : Outcome Part) (pool : List ℕ) (p : Place) → PlaceIs (placeOf o) (length pool) p → (address address′ : ℕ × ℕ) (part : List ℕ) → LiesAt (p .start) address address′
+pub shows-part : (o : Outcome Part) (pool : List ℕ) (p : Place) → PlaceIs (placeOf o) (length pool) p
+    → (address address′ : ℕ × ℕ) (part : List ℕ) → LiesAt (p .start) address address′
     → part ≡ take (p .count) (drop (p .start) pool) → ShowsPart o address pool address′ part
 unfolding placeOf
 shows-part o pool p q address address′ part at b = record { place = rw (q .start) at at; bytes = b ∙ rw (q .start, q .count) (go o) }

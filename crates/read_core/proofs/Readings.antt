@@ -54,17 +54,28 @@ read-by s pool room = go (readable (s .receiving .ready)) (leb (lengthOf (frontO
 
 -- ---- by the size that was found
 
-module _ (a : Arrival) (m : ℕ) (ready waiting numbers pool buffer : List ℕ) (found : Count) (o : Outcome ℕ) (e : countOutcome found ≡ o) where
-  pub message-taken : (n : ℕ) → found ≡ Of n → (r : Arrival) (ready′ waiting′ numbers′ buffer′ : List ℕ) → Taken a m ready waiting numbers pool buffer r ready′ waiting′ numbers′ buffer′
-      → ReadMessage o a m ready waiting numbers pool buffer (Of n) r ready′ waiting′ numbers′ buffer′
-  message-taken n f r ready′ waiting′ numbers′ buffer′ t = rw (← e, f) (refl, t)
+module _ (a : Arrival) (m : ℕ) (ready waiting numbers pool buffer : List ℕ) (found : Count) (o : Outcome ℕ) (e : countOutcome found ≡ o)
+  where
+    pub message-taken : (n : ℕ) → found ≡ Of n → (r : Arrival) (ready′ waiting′ numbers′ buffer′ : List ℕ)
+        → Taken a m ready waiting numbers pool buffer r ready′ waiting′ numbers′ buffer′
+        → ReadMessage o a m ready waiting numbers pool buffer (Of n) r ready′ waiting′ numbers′ buffer′
+    message-taken n f r ready′ waiting′ numbers′ buffer′ t = rw (← e, f) (refl, t)
 
-  pub message-kept : (q : Refusal) → found ≡ Refused q → ReadMessage o a m ready waiting numbers pool buffer (Refused q) a ready waiting numbers buffer
-  message-kept q f = rw (← e, f) (record { told = refl; arrival = refl; ready-same = refl; waiting-same = refl; numbers-same = refl; bytes-same = refl })
+    pub message-kept : (q : Refusal) → found ≡ Refused q
+        → ReadMessage o a m ready waiting numbers pool buffer (Refused q) a ready waiting numbers buffer
+    message-kept q f = rw (← e, f) (record {
+      told = refl;
+      arrival = refl;
+      ready-same = refl;
+      waiting-same = refl;
+      numbers-same = refl;
+      bytes-same = refl;
+    })
 
 -- ---- the block after a read
 
-module _ (c : Settings) (f : Flight) (a : Arrival) (k : Clock) (queued outstanding transmissions ready waiting numbers : List ℕ) (records : List Record) (acks : List ℕ) (pool buffer : List ℕ)
+module _ (c : Settings) (f : Flight) (a : Arrival) (k : Clock) (queued outstanding transmissions ready waiting numbers : List ℕ)
+    (records : List Record) (acks : List ℕ) (pool buffer : List ℕ)
     (r : Arrival) (ready′ waiting′ numbers′ buffer′ : List ℕ) (answer : Count) where
   abbrev before : Link
   before = linkOf c f a k (arrays queued outstanding transmissions ready waiting numbers)
@@ -72,9 +83,18 @@ module _ (c : Settings) (f : Flight) (a : Arrival) (k : Clock) (queued outstandi
   abbrev after : Link
   after = linkOf c f r k (arrays queued outstanding transmissions ready′ waiting′ numbers′)
 
-  counted : Taken a (mss c) ready waiting numbers pool buffer r ready′ waiting′ numbers′ buffer′ → countsFit before ≡ true → countsFit after ≡ true
+  counted : Taken a (mss c) ready waiting numbers pool buffer r ready′ waiting′ numbers′ buffer′ → countsFit before ≡ true
+      → countsFit after ≡ true
   unfolding countsFit
-  counted t e = let n = block-counts before e in rw (le-leb _ _ (n .queued), le-leb _ _ (n .outstanding), le-leb _ _ (t .counts .few-ready), le-leb _ _ (t .counts .few-waiting), t .same-acks, le-leb _ _ (n .acks)) refl
+  counted t e = let n = block-counts before e in
+      rw (
+        le-leb _ _ (n .queued),
+        le-leb _ _ (n .outstanding),
+        le-leb _ _ (t .counts .few-ready),
+        le-leb _ _ (t .counts .few-waiting),
+        t .same-acks,
+        le-leb _ _ (n .acks),
+      ) refl
 
   after-state : Taken a (mss c) ready waiting numbers pool buffer r ready′ waiting′ numbers′ buffer′
       → stateOf after records acks ≡ withReceiving (stateOf before records acks) (afterRead (stateOf before records acks .receiving))
@@ -89,7 +109,8 @@ module _ (c : Settings) (f : Flight) (a : Arrival) (k : Clock) (queued outstandi
   by-outcome ok (done n) e m =
       let l = heldIn ready (a .ready) in
       record {
-        answer = m .0 ∙ ap Of (fitting-fits l (length buffer) n (sym e) .1 ∙ sym (joined-length (mss c) pool (frontOf l) (in-pool-take (mss c) pool (frontCount l) l (ok .inside))));
+        answer = m .0 ∙ ap Of (fitting-fits l (length buffer) n (sym e) .1 ∙ sym
+            (joined-length (mss c) pool (frontOf l) (in-pool-take (mss c) pool (frontCount l) l (ok .inside))));
         counts = counted (m .1) (ok .counts);
         state = after-state (m .1);
         slots = refl;
@@ -97,23 +118,29 @@ module _ (c : Settings) (f : Flight) (a : Arrival) (k : Clock) (queued outstandi
       }
 
   -- m is the mss that was asked for
-  pub reads-block : (m : ℕ) → m ≡ mss c → Readable before pool → ReadMessage (fittingOf (heldIn ready (a .ready)) (length buffer)) a m ready waiting numbers pool buffer answer r ready′ waiting′ numbers′ buffer′
+  pub reads-block : (m : ℕ) → m ≡ mss c → Readable before pool
+      → ReadMessage (fittingOf (heldIn ready (a .ready)) (length buffer)) a m ready waiting numbers pool buffer answer r ready′ waiting′
+      numbers′ buffer′
       → ReadCore (reading (stateOf before records acks) pool (length buffer)) before records acks buffer answer after buffer′
   unfolding stateOf
-  reads-block m q ok h = rw (← read-by (stateOf before records acks) pool (length buffer)) (by-outcome ok (fittingOf (heldIn ready (a .ready)) (length buffer)) refl (rw q at h))
+  reads-block m q ok h = rw (← read-by (stateOf before records acks) pool (length buffer))
+      (by-outcome ok (fittingOf (heldIn ready (a .ready)) (length buffer)) refl (rw q at h))
 
 -- ---- behind the checks, and where they refuse
 
-pub own-read : (l : Link) (records : List Record) (acks buffer : List ℕ) (answer : Count) (l′ : Link) (buffer′ : List ℕ) (long made : Bool) (own : Outcome Reads) → Passes long made
+pub own-read : (l : Link) (records : List Record) (acks buffer : List ℕ) (answer : Count) (l′ : Link) (buffer′ : List ℕ) (long made : Bool)
+    (own : Outcome Reads) → Passes long made
     → ReadCore own l records acks buffer answer l′ buffer′ → ReadCore (checked long made own) l records acks buffer answer l′ buffer′
 own-read l records acks buffer answer l′ buffer′ long made own p h = rw (p .long-enough, p .valid-block) h
 
-pub not-read : (o : Outcome Reads) (q : Refusal) → o ≡ refused q → (l : Link) (records : List Record) (acks buffer : List ℕ) → ReadCore o l records acks buffer (Refused q) l buffer
+pub not-read : (o : Outcome Reads) (q : Refusal) → o ≡ refused q → (l : Link) (records : List Record) (acks buffer : List ℕ)
+    → ReadCore o l records acks buffer (Refused q) l buffer
 not-read o q e l records acks buffer = rw e (refl, refl, refl)
 
 -- ---- telling
 
-pub tells-block : (l : Link) (records : List Record) (acks : List ℕ) (long made : Bool) → Passes long made → (r : Count) → countOutcome r ≡ sizeOf (heldIn (l .ready) (l .arrival .ready))
+pub tells-block : (l : Link) (records : List Record) (acks : List ℕ) (long made : Bool) → Passes long made → (r : Count)
+    → countOutcome r ≡ sizeOf (heldIn (l .ready) (l .arrival .ready))
     → countOutcome r ≡ checked long made (telling (stateOf l records acks))
 unfolding sizeOf telling messageSize stateOf
 tells-block l records acks long made p r e = rw (p .long-enough, p .valid-block) e

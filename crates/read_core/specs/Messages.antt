@@ -23,7 +23,8 @@ use Rattle.deliver.specs.Messages.{InPool, Taken}
 -- reading, with the lent parts: l is the block before, l′ the one after
 abbrev pub ReadOver : Link → List Record → ℕ → List ℕ → List ℕ → List ℕ → List ℕ → Count → Link → List ℕ → Type 0
 ReadOver l records table sendPool receivePool acks buffer a l′ buffer′ =
-    ReadCore (readsWith l records acks (lentLengths table sendPool receivePool acks) receivePool (length buffer)) l records acks buffer a l′ buffer′
+    ReadCore (readsWith l records acks (lentLengths table sendPool receivePool acks) receivePool (length buffer)) l records acks buffer a l′
+    buffer′
 
 -- what the checks of 7 and 13 have established
 pub record Readable (l : Link) (pool : List ℕ) : Type 0 where
@@ -32,7 +33,8 @@ pub record Readable (l : Link) (pool : List ℕ) : Type 0 where
   pub inside : InPool (mss (l .settings)) pool (heldIn (l .ready) (l .arrival .ready))
 
 -- a refusal: its number alone, the very half and buffer
-pub record NotRead (q : Refusal) (a : Arrival) (ready waiting numbers buffer : List ℕ) (answer : Count) (r : Arrival) (ready′ waiting′ numbers′ buffer′ : List ℕ) : Type 0 where
+pub record NotRead (q : Refusal) (a : Arrival) (ready waiting numbers buffer : List ℕ) (answer : Count) (r : Arrival)
+    (ready′ waiting′ numbers′ buffer′ : List ℕ) : Type 0 where
   pub told : answer ≡ Refused q
   pub arrival : r ≡ a
   pub ready-same : ready′ ≡ ready
@@ -41,7 +43,8 @@ pub record NotRead (q : Refusal) (a : Arrival) (ready waiting numbers buffer : L
   pub bytes-same : buffer′ ≡ buffer
 
 -- by the size of the message, where there is room for it
-abbrev pub ReadMessage : Outcome ℕ → Arrival → ℕ → List ℕ → List ℕ → List ℕ → List ℕ → List ℕ → Count → Arrival → List ℕ → List ℕ → List ℕ → List ℕ → Type 0
+abbrev pub ReadMessage : Outcome ℕ → Arrival → ℕ → List ℕ → List ℕ → List ℕ → List ℕ → List ℕ → Count → Arrival → List ℕ → List ℕ → List ℕ
+    → List ℕ → Type 0
 ReadMessage (refused q) a m ready waiting numbers pool buffer answer r ready′ waiting′ numbers′ buffer′ =
     NotRead q a ready waiting numbers buffer answer r ready′ waiting′ numbers′ buffer′
 ReadMessage (done n) a m ready waiting numbers pool buffer answer r ready′ waiting′ numbers′ buffer′ =

@@ -41,7 +41,8 @@ pairs-length (suc n) (a ∷ []) h = absurd (omega arith)
 pairs-length (suc n) (a ∷ b ∷ l) h = ap suc (pairs-length n l (omega arith))
 
 -- one more behind n pairs
-pairs-more : (n : ℕ) (l : List ℕ) (sn ts : ℕ) → 2 * n + 2 ≤ length l → pairs (n + 1) (sets l (2 * n) (sn ∷ ts ∷ [])) ≡ pairs n l ++ (record { sn = sn; ts = ts } ∷ [])
+pairs-more : (n : ℕ) (l : List ℕ) (sn ts : ℕ) → 2 * n + 2 ≤ length l → pairs (n + 1) (sets l (2 * n) (sn ∷ ts ∷ [])) ≡ pairs n l
+    ++ (record { sn = sn; ts = ts } ∷ [])
 unfolding pairs
 pairs-more zero [] sn ts h = absurd (omega arith)
 pairs-more zero (a ∷ []) sn ts h = absurd (omega arith)
@@ -52,7 +53,8 @@ pairs-more (suc n) (a ∷ b ∷ l) sn ts h =
     rw (add-one, two-more n)
     (ap (λ (r : List Ack). record { sn = a; ts = b } ∷ r) (rw add-one at (pairs-more n l sn ts (omega arith))))
 
-module _ (next : ℕ) (h : Header) (was : List ℕ) (n : ℕ) (is : List ℕ) (m : ℕ) (few : n ≤ 256) (long : 512 ≤ length was) (e : Noted next h was n is m) where
+module _ (next : ℕ) (h : Header) (was : List ℕ) (n : ℕ) (is : List ℕ) (m : ℕ) (few : n ≤ 256) (long : 512 ≤ length was)
+    (e : Noted next h was n is m) where
   -- the acks noted, as the definition has them
   abbrev acks-then : Bool → List Ack
   acks-then t = cond (t && ltb (length (pairs n was)) 256) (pairs n was ++ (record { sn = h .sn; ts = h .ts } ∷ [])) (pairs n was)
@@ -72,7 +74,8 @@ module _ (next : ℕ) (h : Header) (was : List ℕ) (n : ℕ) (is : List ℕ) (m
   noted-beyond = rw (e .count, e .list) (go (isInWindow next (h .sn) && ltb n 256))
     where
       go : (t : Bool) → drop (2 * cond t (n + 1) n) (cond t (sets was (2 * n) (h .sn ∷ h .ts ∷ [])) was) ≡ drop (2 * cond t (n + 1) n) was
-      go true = drop-set-lt (2 * (n + 1)) (set was (2 * n) (h .sn)) (suc (2 * n)) (h .ts) (omega arith) ∙ drop-set-lt (2 * (n + 1)) was (2 * n) (h .sn) (omega arith)
+      go true = drop-set-lt (2 * (n + 1)) (set was (2 * n) (h .sn)) (suc (2 * n)) (h .ts) (omega arith) ∙ drop-set-lt (2 * (n + 1)) was
+          (2 * n) (h .sn) (omega arith)
       go false = refl
 
   pub noted-more : n ≤ m

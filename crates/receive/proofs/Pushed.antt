@@ -19,7 +19,8 @@ use Rattle.receive.proofs.Steps.{pushed-is, heard-other}
 abbrev withNoted : Arrival → ℕ → Arrival
 withNoted a n = record { expected = a .expected; tell = a .tell; ready = a .ready; waiting = a .waiting; acks = n }
 
-module _ (a : Arrival) (r w ns marks : List ℕ) (k m : ℕ) (s : List ℕ) (start : ℕ) (h : Header) (pool acks : List ℕ) (p : Pushable (halfOf a r w ns) marks k m s start h pool acks) where
+module _ (a : Arrival) (r w ns marks : List ℕ) (k m : ℕ) (s : List ℕ) (start : ℕ) (h : Header) (pool acks : List ℕ)
+    (p : Pushable (halfOf a r w ns) marks k m s start h pool acks) where
   -- what keeping asks
   pub keepable : Keepable (listsOf a r w ns) marks k m s start h pool
   keepable =
@@ -46,19 +47,23 @@ module _ (a : Arrival) (r w ns marks : List ℕ) (k m : ℕ) (s : List ℕ) (sta
       record {
         marked = record { whole = p .marked .whole; free = kept .free };
         is = rw (kept .same-acks, kept .same-tell)
-            (pushed-is m (listsOf a r w ns) (a .acks) (isSet (a .tell)) acks pool h (p .sound) next-low sn-low s start n acks′ noted (listsOf x r′ w′ ns′) (kept .is) pool′ (kept .stored));
+            (pushed-is m (listsOf a r w ns) (a .acks) (isSet (a .tell)) acks pool h (p .sound) next-low sn-low s start n acks′ noted
+            (listsOf x r′ w′ ns′) (kept .is) pool′ (kept .stored));
       }
 
 -- ---- in the loop
 
 -- n is the mss that was asked for
-pub pushable : (half : Half) (marks : List ℕ) (k m : ℕ) (s : List ℕ) (start : ℕ) (h : Header) (pool acks : List ℕ) (n : ℕ) → n ≡ m → Sound half m acks pool → Marked half marks k → start + h .len ≤ length s → h .len ≤ m
+pub pushable : (half : Half) (marks : List ℕ) (k m : ℕ) (s : List ℕ) (start : ℕ) (h : Header) (pool acks : List ℕ) (n : ℕ) → n ≡ m
+    → Sound half m acks pool → Marked half marks k → start + h .len ≤ length s → h .len ≤ m
     → Pushable half marks k n s start h pool acks
 pushable half marks k m s start h pool acks n e u d i f = rw e (record { sound = u; marked = d; inside = i; fits = f })
 
 -- not a push: a tell may be wanted
-pub heard-asked : (m : ℕ) (a : Arrival) (r w ns acks pool s : List ℕ) (start : ℕ) (h : Header) (tell : ℕ) → isSet tell ≡ (isSet (a .tell) || eqb (h .cmd) 83) → (h .cmd ≡ 81 → ⊥)
+pub heard-asked : (m : ℕ) (a : Arrival) (r w ns acks pool s : List ℕ) (start : ℕ) (h : Header) (tell : ℕ)
+    → isSet tell ≡ (isSet (a .tell) || eqb (h .cmd) 83) → (h .cmd ≡ 81 → ⊥)
     → Sound (halfOf a r w ns) m acks pool → a .expected < 2 ^ 32
-    → HalfIs m (halfOf a r w ns) (halfOf (record { expected = a .expected; tell = tell; ready = a .ready; waiting = a .waiting; acks = a .acks }) r w ns) acks acks pool
+    → HalfIs m (halfOf a r w ns) (halfOf (record
+    { expected = a .expected; tell = tell; ready = a .ready; waiting = a .waiting; acks = a .acks }) r w ns) acks acks pool
     (heardByReceiving m (receiverOf (halfOf a r w ns) acks pool) (segmentAt s start h))
 heard-asked m a r w ns acks pool s start h tell e n u low = rw e (heard-other m (halfOf a r w ns) acks pool s start h n u low)

@@ -30,7 +30,8 @@ use Rattle.receive.specs.Halves.{halfOf, receiverOf, Sound}
 use Rattle.receive.specs.Pushes.{Marked}
 
 -- none waits that could be ready
-settles : (next : ℕ) (ready : List Held) (waiting : List Waiting) → (length ready < receiveWindow → StartsAt next waiting → ⊥) → (startsAt next waiting && ltb (length ready) receiveWindow) ≡ false
+settles : (next : ℕ) (ready : List Held) (waiting : List Waiting) → (length ready < receiveWindow → StartsAt next waiting → ⊥)
+    → (startsAt next waiting && ltb (length ready) receiveWindow) ≡ false
 unfolding startsAt
 settles next ready [] f = refl
 settles next ready (w ∷ l) f = go (eqb (waitingOffset next w) 0) (ltb (length ready) receiveWindow) refl refl
@@ -42,20 +43,25 @@ settles next ready (w ∷ l) f = go (eqb (waitingOffset next w) 0) (ltb (length 
 
 module _ (a : Arrival) (r w ns : List ℕ) where
   -- the half is the block's
-  pub receiver-view : (acks pool : List ℕ) → receiverOf (halfOf a r w ns) acks pool ≡ record { half = receivingOf a r w ns (pairs (a .acks) acks); pool = pool }
+  pub receiver-view : (acks pool : List ℕ)
+      → receiverOf (halfOf a r w ns) acks pool ≡ record { half = receivingOf a r w ns (pairs (a .acks) acks); pool = pool }
   receiver-view acks pool = rw (ready-view r (a .ready), waiting-view w ns (a .waiting)) refl
 
-  pub marked-start : (marks : List ℕ) (acks : List Ack) → length marks ≡ 256 → Free marks (slots (receiveHeld (receivingOf a r w ns acks))) 0 → Marked (halfOf a r w ns) marks 0
+  pub marked-start : (marks : List ℕ) (acks : List Ack) → length marks ≡ 256
+      → Free marks (slots (receiveHeld (receivingOf a r w ns acks))) 0 → Marked (halfOf a r w ns) marks 0
   marked-start marks acks e f = record { whole = e; free = rw (ready-view r (a .ready), waiting-view w ns (a .waiting)) f }
 
-  pub sound-start : (c : Settings) (f : Flight) (noted : List Ack) (acks pool : List ℕ) → Counts f a → SettingsInRange c → ReceivingIsValid c (receivingOf a r w ns noted)
+  pub sound-start : (c : Settings) (f : Flight) (noted : List Ack) (acks pool : List ℕ) → Counts f a → SettingsInRange c
+      → ReceivingIsValid c (receivingOf a r w ns noted)
       → 2 * acksMost ≤ length acks → receiveSlots * mss c ≤ length pool → Sound (halfOf a r w ns) (mss c) acks pool
   sound-start c f noted acks pool k range v long-acks long-pool =
       record {
         ready = k .ready;
         waiting = k .waiting;
-        ascends = rw (waiting-view w ns (a .waiting)) (ascending-decides (waitingOffset (a .expected)) receiveWindow (waitingIn w ns (a .waiting)) .passes (v .ascending));
-        settled = rw (ready-view r (a .ready), waiting-view w ns (a .waiting)) (settles (a .expected) (heldIn r (a .ready)) (waitingIn w ns (a .waiting)) (v .settles));
+        ascends = rw (waiting-view w ns (a .waiting))
+            (ascending-decides (waitingOffset (a .expected)) receiveWindow (waitingIn w ns (a .waiting)) .passes (v .ascending));
+        settled = rw (ready-view r (a .ready), waiting-view w ns (a .waiting))
+            (settles (a .expected) (heldIn r (a .ready)) (waitingIn w ns (a .waiting)) (v .settles));
         noted = k .acks;
         ack-list = long-acks;
         slots = long-pool;

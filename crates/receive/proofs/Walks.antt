@@ -34,7 +34,8 @@ module _ (c : Settings) (s : List ℕ) (h₀ : Half) (acks₀ pool₀ : List ℕ
     pub sound : Sound h (mss c) acks pool
     pub low : h .lists .next < 2 ^ 32
 
-  pub walking-start : Sound h₀ (mss c) acks₀ pool₀ → h₀ .lists .next < 2 ^ 32 → (n : ℕ) → Begun (c .conv) (mss c) s n → Walking h₀ acks₀ pool₀ 0
+  pub walking-start : Sound h₀ (mss c) acks₀ pool₀ → h₀ .lists .next < 2 ^ 32 → (n : ℕ) → Begun (c .conv) (mss c) s n
+      → Walking h₀ acks₀ pool₀ 0
   walking-start sound low n g = record {
     all = g .all;
     rest = g .all;
@@ -62,7 +63,9 @@ module _ (c : Settings) (s : List ℕ) (h₀ : Half) (acks₀ pool₀ : List ℕ
       pub walking-less : length s - next < length s - at
       walking-less = omega (arith, first .follows, first .inside)
 
-      pub walking-more : (h′ : Half) (acks′ pool′ : List ℕ) → HalfIs (mss c) h h′ acks acks′ pool′ (heardByReceiving (mss c) (receiverOf h acks pool) (segmentAt s start header)) → Walking h′ acks′ pool′ next
+      pub walking-more : (h′ : Half) (acks′ pool′ : List ℕ)
+          → HalfIs (mss c) h h′ acks acks′ pool′ (heardByReceiving (mss c) (receiverOf h acks pool) (segmentAt s start header))
+          → Walking h′ acks′ pool′ next
       unfolding allByReceiving
       walking-more h′ acks′ pool′ d = record {
         all = w .all;

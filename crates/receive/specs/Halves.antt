@@ -34,7 +34,16 @@ halfOf a ready waiting numbers = record { lists = listsOf a ready waiting number
 -- the half with the acks of the lent list, and the pool
 abbrev pub receiverOf : Half → List ℕ → List ℕ → Receiver
 receiverOf h acks pool =
-    record { half = record { next = h .lists .next; ready = heldOf (h .lists .ready); waiting = waitingOf (h .lists .waiting); acks = pairs (h .acks) acks; tell = h .tell }; pool = pool }
+    record {
+      half = record {
+        next = h .lists .next;
+        ready = heldOf (h .lists .ready);
+        waiting = waitingOf (h .lists .waiting);
+        acks = pairs (h .acks) acks;
+        tell = h .tell;
+      };
+      pool = pool;
+    }
 
 -- a datagram's segment: its header, and its payload from start on
 abbrev pub segmentAt : List ℕ → ℕ → Header → Segment
@@ -63,4 +72,5 @@ pub record HalfIs (mss : ℕ) (h r : Half) (was acks pool : List ℕ) (x : Recei
 
 -- r is what the segments of the datagram s make of h
 abbrev pub HearsAll : Settings → List ℕ → Half → List ℕ → List ℕ → Half → List ℕ → List ℕ → Type 0
-HearsAll c s h acks pool r acks′ pool′ = (gs : List Segment) → parse (c .conv) (mss c) s ≡ segments gs → HalfIs (mss c) h r acks acks′ pool′ (allByReceiving (mss c) (receiverOf h acks pool) gs)
+HearsAll c s h acks pool r acks′ pool′ = (gs : List Segment) → parse (c .conv) (mss c) s ≡ segments gs
+    → HalfIs (mss c) h r acks acks′ pool′ (allByReceiving (mss c) (receiverOf h acks pool) gs)

@@ -1,7 +1,8 @@
 -- One record of a lent table, as steps of a walk (`Types/Kit.antt`'s calculus): it is taken out of the slice, and put back.
 --     looks-record, shuts-record    of a `&κ [Record]`: some share of the record's cell, to be read, and back
 --     opens-record, closes-record   of a `&κ mut [Record]`: the record's cell, to be stored to, and the slice with the new record in it
--- And what is known of the machine values of the parameters: a record, 32 records, the list of outstanding segments and the entries of its array.
+-- And what is known of the machine values of the parameters: a record, 32 records, the list of outstanding segments and the entries of its
+-- array.
 -- Assumes `Given`.
 use mathlib.Core.Path.{_≡_, sym, ap, subst, _∙_}
 use Prim.Native.Nat.{ℕ, _<_, _^_, _*_}
@@ -62,7 +63,8 @@ pub bytes-16 : {i : ℕ} → i < 32 → i * 16 < 2 ^ 64
 bytes-16 within = omega arith
 
 -- a record's machine value has the record's type
-pub typed : {M : Type 1} (𝓤 : URA M) (H : Heap 𝓤) (A : Atoms 𝓤) → Given 𝓤 H A → (d : Record) {w : Val} → Is R d (w ∷ []) → T (hasTy T′.mir w) × WT w
+pub typed : {M : Type 1} (𝓤 : URA M) (H : Heap 𝓤) (A : Atoms 𝓤) → Given 𝓤 H A → (d : Record) {w : Val} → Is R d (w ∷ [])
+    → T (hasTy T′.mir w) × WT w
 typed 𝓤 H A W d {w} g = LL.lawful T.the-type T′.the-laws 𝓤 H A W .typed d (w ∷ []) g .0
 
 pub makes : {M : Type 1} (𝓤 : URA M) (H : Heap 𝓤) (A : Atoms 𝓤) → Makes 𝓤 H A R (Is R)
@@ -72,7 +74,8 @@ makes 𝓤 H A = LL.makes T.the-type T′.the-plain 𝓤 H A
 abbrev pub Rs : RattleType
 Rs = Array R 32
 
-pub rs-typed : {M : Type 1} (𝓤 : URA M) (H : Heap 𝓤) (A : Atoms 𝓤) → Given 𝓤 H A → (l : List Record) {w : Val} → Is Rs l (w ∷ []) → T (hasTy (tyArray T′.mir 32) w) × WT w
+pub rs-typed : {M : Type 1} (𝓤 : URA M) (H : Heap 𝓤) (A : Atoms 𝓤) → Given 𝓤 H A → (l : List Record) {w : Val} → Is Rs l (w ∷ [])
+    → T (hasTy (tyArray T′.mir 32) w) × WT w
 rs-typed 𝓤 H A W l {w} g = array-typed R (LL.lawful T.the-type T′.the-laws 𝓤 H A W .typed) 32 l (w ∷ []) g .0
 
 pub rs-makes : {M : Type 1} (𝓤 : URA M) (H : Heap 𝓤) (A : Atoms 𝓤) → Given 𝓤 H A → Makes 𝓤 H A Rs (Is Rs)
@@ -82,7 +85,8 @@ rs-makes 𝓤 H A W = array-makes 𝓤 H A W R (makes 𝓤 H A) 32
 abbrev pub Ls : RattleType
 Ls = L.the-row
 
-pub ls-typed : {M : Type 1} (𝓤 : URA M) (H : Heap 𝓤) (A : Atoms 𝓤) → Given 𝓤 H A → (l : OutstandingList) {w : Val} → Is Ls l (w ∷ []) → T (hasTy L′.mir w) × WT w
+pub ls-typed : {M : Type 1} (𝓤 : URA M) (H : Heap 𝓤) (A : Atoms 𝓤) → Given 𝓤 H A → (l : OutstandingList) {w : Val} → Is Ls l (w ∷ [])
+    → T (hasTy L′.mir w) × WT w
 ls-typed 𝓤 H A W l {w} g = LL.lawful L.the-type L′.the-laws 𝓤 H A W .typed l (w ∷ []) g .0
 
 pub ls-makes : {M : Type 1} (𝓤 : URA M) (H : Heap 𝓤) (A : Atoms 𝓤) → Makes 𝓤 H A Ls (Is Ls)
@@ -95,9 +99,13 @@ entries list = map (λ e. O′.lowered e) (list .at)
 pub entry-is : (list : OutstandingList) (i : ℕ) → getD (entries list) i (O′.lowered none) ≡ O′.lowered (getD (list .at) i none)
 entry-is list i = List·getD-map (λ (e : Outstanding). O′.lowered e) (list .at) i none
 
-module _ {M : Type 1} (𝓤 : URA M) (H : Heap 𝓤) (A : Atoms 𝓤) (W : Given 𝓤 H A) (list : OutstandingList) (g : Is Ls list (L′.lowered list ∷ [])) where
+module _ {M : Type 1} (𝓤 : URA M) (H : Heap 𝓤) (A : Atoms 𝓤) (W : Given 𝓤 H A) (list : OutstandingList)
+    (g : Is Ls list (L′.lowered list ∷ [])) where
   pub entries-typed : T (hasTy (tyArray O′.mir 32) (arrayVal (entries list))) × WT (arrayVal (entries list))
-  entries-typed = (and-yes (hasTy (tyArray O′.mir 32) (arrayVal (entries list))) true (ls-typed 𝓤 H A W list g .0) .0, ls-typed 𝓤 H A W list g .1 .0)
+  entries-typed = (
+    and-yes (hasTy (tyArray O′.mir 32) (arrayVal (entries list))) true (ls-typed 𝓤 H A W list g .0) .0,
+    ls-typed 𝓤 H A W list g .1 .0,
+  )
 
   pub entries-length : length (entries list) ≡ 32
   entries-length = typed-length O′.mir 32 (entries list) (entries-typed .0)
@@ -122,35 +130,51 @@ module _ (b o : ℕ) (γ : GName) where
 
   -- what stands beside the cell of record i while it is read
   abbrev pub Seen : Lft → Share → Share → List Record → ℕ → ℕ → Fml
-  Seen κ q q′ ys n i = fsep (fsep (fsep (fsep (fsep (R .own (getD ys i blank) (mach (getD ys i blank) ∷ [])) (others (shares R) q′ ys i b o)) (fobor κ q (arr-parts (shares R) (length ys) .part q′ ys b o)))
-      (fshr-bor κ (λ s. arr-parts (shares R) (length ys) .part s ys b o))) (fres γ (codedHoleys R .code (heres R ys)))) (at-slice R (ref ys) (sliceVal (b, o) n ∷ []))
+  Seen κ q q′ ys n i = fsep
+      (fsep (fsep (fsep (fsep (R .own (getD ys i blank) (mach (getD ys i blank) ∷ [])) (others (shares R) q′ ys i b o))
+      (fobor κ q (arr-parts (shares R) (length ys) .part q′ ys b o)))
+      (fshr-bor κ (λ s. arr-parts (shares R) (length ys) .part s ys b o))) (fres γ (codedHoleys R .code (heres R ys))))
+      (at-slice R (ref ys) (sliceVal (b, o) n ∷ []))
 
   -- what stands beside the cell of record i while it is stored to
   abbrev pub Open : Lft → Share → List Record → ℕ → Fml
-  Open κ q ys i = fsep (fsep (fsep (others (shares R) fullShare ys i b o) (fobor κ q (Held R (length ys) b o γ))) (fobs γ (codedHoleys R .code (heres R ys)))) (fauth γ (codedHoleys R .code (heres R ys)))
+  Open κ q ys i = fsep (fsep (fsep (others (shares R) fullShare ys i b o) (fobor κ q (Held R (length ys) b o γ)))
+      (fobs γ (codedHoleys R .code (heres R ys)))) (fauth γ (codedHoleys R .code (heres R ys)))
 
   module _ {M : Type 1} {𝓤 : URA M} {H : Heap 𝓤} {A : Atoms 𝓤} {K : Type 0} {W : Given 𝓤 H A} {Γ : List (Item 𝓤)} {G : Goal 𝓤 H} where
     pub looks-record : K → Soaks G → {κ : Lft} {q : Share} (ys : List Record) (n i : ℕ) → i < length ys
-        → ((q′ : Share) → Is R (getD ys i blank) (mach (getD ys i blank) ∷ []) → Seq K W (‵ (cellAt q′ (R .mir) (mach (getD ys i blank) ∷ []) b (place 16 o i)) ∷ ‵ (Seen κ q q′ ys n i) ∷ Γ) G)
+        → ((q′ : Share) → Is R (getD ys i blank) (mach (getD ys i blank) ∷ [])
+        → Seq K W (‵ (cellAt q′ (R .mir) (mach (getD ys i blank) ∷ []) b (place 16 o i)) ∷ ‵ (Seen κ q q′ ys n i) ∷ Γ) G)
         → Seq K W (‵ (ShrSlice (named 0) κ R .own (ref ys) (sliceVal (b, o) n ∷ [])) ∷ ‵ (flft κ q) ∷ Γ) G
     looks-record t z ys n i l k = fsplit t $ move t (1 ∷ []) $ fsplit t $ move t (1 ∷ 3 ∷ []) $
-        looks-slice t z R (Is R) (shows 𝓤 H A R) (LL.vals T.the-type T′.the-laws) (LL.tells T.the-type T′.the-laws) (LL.copy T.the-type T′.the-copy 𝓤 H A W) ys b o (λ q′.
+        looks-slice t z R (Is R) (shows 𝓤 H A R) (LL.vals T.the-type T′.the-laws) (LL.tells T.the-type T′.the-laws)
+        (LL.copy T.the-type T′.the-copy 𝓤 H A W) ys b o (λ q′.
         elem-out t R (Is R) (shows 𝓤 H A R) (LL.vals T.the-type T′.the-laws) (LL.tells T.the-type T′.the-laws) q′ ys i blank b o l (λ g.
         move t (1 ∷ 2 ∷ 3 ∷ 4 ∷ 5 ∷ 6 ∷ []) $ fjoin t $ fjoin t $ fjoin t $ fjoin t $ fjoin t $ move t (1 ∷ 0 ∷ []) $ k q′ g))
 
     pub shuts-record : K → Soaks G → {κ : Lft} {q : Share} (q′ : Share) (ys : List Record) (n i : ℕ) → i < length ys
-        → Step K W (‵ (ShrSlice (named 0) κ R .own (ref ys) (sliceVal (b, o) n ∷ [])) ∷ ‵ (flft κ q) ∷ Γ) G (‵ (cellAt q′ (R .mir) (mach (getD ys i blank) ∷ []) b (place 16 o i)) ∷ ‵ (Seen κ q q′ ys n i) ∷ Γ) G
-    shuts-record t z q′ ys n i l = step (λ s. move t (1 ∷ []) $ fsplit t $ fsplit t $ fsplit t $ fsplit t $ fsplit t $ move t (6 ∷ 0 ∷ 1 ∷ []) $
-        elem-back t R q′ ys i blank (mach (getD ys i blank) ∷ []) b o l $ shuts-slice t z R q′ ys b o $ move t (2 ∷ 1 ∷ []) $ fjoin t $ move t (2 ∷ 0 ∷ []) $ fjoin t $ s)
+        → Step K W (‵ (ShrSlice (named 0) κ R .own (ref ys) (sliceVal (b, o) n ∷ [])) ∷ ‵ (flft κ q) ∷ Γ) G
+        (‵ (cellAt q′ (R .mir) (mach (getD ys i blank) ∷ []) b (place 16 o i)) ∷ ‵ (Seen κ q q′ ys n i) ∷ Γ) G
+    shuts-record t z q′ ys n i l = step (λ s. move t (1 ∷ []) $ fsplit t $ fsplit t $ fsplit t $ fsplit t $ fsplit t $
+        move t (6 ∷ 0 ∷ 1 ∷ []) $
+        elem-back t R q′ ys i blank (mach (getD ys i blank) ∷ []) b o l $ shuts-slice t z R q′ ys b o $ move t (2 ∷ 1 ∷ []) $ fjoin t $
+        move t (2 ∷ 0 ∷ []) $ fjoin t $ s)
 
     pub opens-record : K → Soaks G → {κ : Lft} {q : Share} (ys : List Record) (n i : ℕ) → i < length ys
-        → Step K W (‵ (cellAt fullShare (R .mir) (mach (getD ys i blank) ∷ []) b (place 16 o i)) ∷ ‵ (Open κ q ys i) ∷ Γ) G (‵ (MutSlice (named 0) κ R .own (ref ys) (sliceVal (b, o) n ∷ [])) ∷ ‵ (flft κ q) ∷ Γ) G
+        → Step K W (‵ (cellAt fullShare (R .mir) (mach (getD ys i blank) ∷ []) b (place 16 o i)) ∷ ‵ (Open κ q ys i) ∷ Γ) G
+        (‵ (MutSlice (named 0) κ R .own (ref ys) (sliceVal (b, o) n ∷ [])) ∷ ‵ (flft κ q) ∷ Γ) G
     opens-record t z ys n i l = step (λ s. fsplit t $ drop t $ fsplit t $ opens-slice t z R ys b o $
-        elem-out t R (Is R) (shows 𝓤 H A R) (LL.vals T.the-type T′.the-laws) (LL.tells T.the-type T′.the-laws) fullShare ys i blank b o l (λ _.
+        elem-out t R (Is R) (shows 𝓤 H A R) (LL.vals T.the-type T′.the-laws) (LL.tells T.the-type T′.the-laws) fullShare ys i blank b o l
+        (λ _.
         move t (1 ∷ []) $ drop t $ move t (1 ∷ 2 ∷ 3 ∷ 4 ∷ []) $ fjoin t $ fjoin t $ fjoin t $ move t (1 ∷ 0 ∷ []) $ s))
 
-    pub closes-record : K → Soaks G → {κ : Lft} {q : Share} (ys : List Record) (n i : ℕ) → i < length ys → length ys ≡ n → Room R n → (v : Record) → Is R v (mach v ∷ [])
-        → Step K W (‵ (MutSlice (named 0) κ R .own (ref (set ys i v)) (sliceVal (b, o) n ∷ [])) ∷ ‵ (flft κ q) ∷ Γ) G (‵ (cellAt fullShare (R .mir) (mach v ∷ []) b (place 16 o i)) ∷ ‵ (Open κ q ys i) ∷ Γ) G
+    pub closes-record : K → Soaks G → {κ : Lft} {q : Share} (ys : List Record) (n i : ℕ) → i < length ys → length ys ≡ n → Room R n
+        → (v : Record) → Is R v (mach v ∷ [])
+        → Step K W (‵ (MutSlice (named 0) κ R .own (ref (set ys i v)) (sliceVal (b, o) n ∷ [])) ∷ ‵ (flft κ q) ∷ Γ) G
+        (‵ (cellAt fullShare (R .mir) (mach v ∷ []) b (place 16 o i)) ∷ ‵ (Open κ q ys i) ∷ Γ) G
     closes-record t z ys n i l e room v g = step (λ s. move t (1 ∷ []) $ fsplit t $ fsplit t $ fsplit t $ move t (4 ∷ []) $
-        owned t R (Is R) (makes 𝓤 H A) v (mach v ∷ []) g $ move t (1 ∷ 0 ∷ []) $ elem-put t R fullShare ys i v (mach v ∷ []) b o l $ closes-slice t z R ys (set ys i v) (length-set ys i v) b o $
-        fjoin t $ pureI t (at-slice R (ref (set ys i v)) (sliceVal (b, o) n ∷ [])) (tt, (tt, tt)) (ap (λ (m : ℕ). sliceVal (b, o) m ∷ []) (sym (length-set ys i v ∙ e)), subst (Room R) (sym (length-set ys i v ∙ e)) room) $ fjoin t $ s)
+        owned t R (Is R) (makes 𝓤 H A) v (mach v ∷ []) g $ move t (1 ∷ 0 ∷ []) $ elem-put t R fullShare ys i v (mach v ∷ []) b o l $
+        closes-slice t z R ys (set ys i v) (length-set ys i v) b o $
+        fjoin t $ pureI t (at-slice R (ref (set ys i v)) (sliceVal (b, o) n ∷ [])) (tt, (tt, tt))
+        (ap (λ (m : ℕ). sliceVal (b, o) m ∷ []) (sym (length-set ys i v ∙ e)), subst (Room R) (sym (length-set ys i v ∙ e)) room) $
+        fjoin t $ s)

@@ -32,14 +32,16 @@ padded-length l h = rw (length-append, length-replicate) (omega arith)
 
 -- ---- scattering
 
-pub scattered-length : (table : List Record) (slots : List ℕ) (records : List Record) → length (scattered table slots records) ≡ length table
+pub scattered-length : (table : List Record) (slots : List ℕ) (records : List Record)
+    → length (scattered table slots records) ≡ length table
 unfolding scattered
 scattered-length table [] records = refl
 scattered-length table (s ∷ slots) [] = refl
 scattered-length table (s ∷ slots) (r ∷ records) = scattered-length (set table s r) slots records ∙ length-set table s r
 
 -- a record whose slot is not named stays
-pub scattered-spared : (table : List Record) (slots : List ℕ) (records : List Record) (k : ℕ) → Spared k slots → getD (scattered table slots records) k blank ≡ getD table k blank
+pub scattered-spared : (table : List Record) (slots : List ℕ) (records : List Record) (k : ℕ) → Spared k slots
+    → getD (scattered table slots records) k blank ≡ getD table k blank
 unfolding scattered
 scattered-spared table [] records k h = refl
 scattered-spared table (s ∷ slots) [] k h = refl
@@ -48,7 +50,8 @@ scattered-spared table (s ∷ slots) (r ∷ records) k h =
     ∙ getD-set-other table s k r blank (λ e. h 0 (omega arith) (sym e))
 
 -- what stands behind the last slot's record is not looked at
-pub scattered-append : (table : List Record) (slots : List ℕ) (records more : List Record) → length slots ≤ length records → scattered table slots (records ++ more) ≡ scattered table slots records
+pub scattered-append : (table : List Record) (slots : List ℕ) (records more : List Record) → length slots ≤ length records
+    → scattered table slots (records ++ more) ≡ scattered table slots records
 unfolding scattered
 scattered-append table [] records more h = refl
 scattered-append table (s ∷ slots) [] more h = absurd (not-suc-le-zero h)
@@ -64,11 +67,13 @@ scattered-gathered table (s ∷ slots) = rw (set-getD table s blank) (scattered-
 
 pub scattered-padded : (table : List Record) (slots : List ℕ) → scattered table slots (padded (gathered table slots)) ≡ table
 scattered-padded table slots =
-    scattered-append table slots (gathered table slots) (replicate (32 - length (gathered table slots)) blank) (omega (arith, length-map slots (λ (s : ℕ). getD table s blank)))
+    scattered-append table slots (gathered table slots) (replicate (32 - length (gathered table slots)) blank)
+    (omega (arith, length-map slots (λ (s : ℕ). getD table s blank)))
     ∙ scattered-gathered table slots
 
 -- what was put back at slots of the table, none of them twice, is gathered again
-pub gathered-scattered : (table : List Record) (slots : List ℕ) (records : List Record) → NoneTwice slots → AllBelow (length table) slots → length slots ≤ length records
+pub gathered-scattered : (table : List Record) (slots : List ℕ) (records : List Record) → NoneTwice slots → AllBelow (length table) slots
+    → length slots ≤ length records
     → gathered (scattered table slots records) slots ≡ take (length slots) records
 unfolding scattered
 gathered-scattered table [] records once below h = refl

@@ -92,7 +92,8 @@ module _ (h : ℕ → Bool) (q : ℕ) where
       there false false c = refl
 
       go : (b : Bool) → eqb q n ≡ b → (q < n → count (with-place h q) n ≡ cond (h q) (count h n) (suc (count h n))) →
-          cond (b || h n) (suc (count (with-place h q) n)) (count (with-place h q) n) ≡ cond (h q) (cond (h n) (suc (count h n)) (count h n)) (suc (cond (h n) (suc (count h n)) (count h n)))
+          cond (b || h n) (suc (count (with-place h q) n)) (count (with-place h q) n) ≡ cond (h q)
+          (cond (h n) (suc (count h n)) (count h n)) (suc (cond (h n) (suc (count h n)) (count h n)))
       go true e ih =
           let z : q ≡ n = eqb-true q n e in
           rw (count-beyond n (omega arith), z) (here (h n) (count h n))
@@ -120,12 +121,16 @@ module _ (k mtu n : ℕ) where
       let y : sequenceOf g ≡ n * (k + 2) + placeOf k g = sequence-is g b in
       go (eqb (placeOf k f) (placeOf k g)) refl x y
     where
-      go : (c : Bool) → eqb (placeOf k f) (placeOf k g) ≡ c → sequenceOf f ≡ n * (k + 2) + placeOf k f → sequenceOf g ≡ n * (k + 2) + placeOf k g → eqb (sequenceOf f) (sequenceOf g) ≡ c
-      go true e x y = let z : placeOf k f ≡ placeOf k g = eqb-true (placeOf k f) (placeOf k g) e in eq-eqb (sequenceOf f) (sequenceOf g) (omega arith)
-      go false e x y = let z : placeOf k f ≡ placeOf k g → ⊥ = eqb-false (placeOf k f) (placeOf k g) e in ne-eqb (sequenceOf f) (sequenceOf g) (λ q. z (omega arith))
+      go : (c : Bool) → eqb (placeOf k f) (placeOf k g) ≡ c → sequenceOf f ≡ n * (k + 2) + placeOf k f → sequenceOf g ≡ n * (k + 2)
+          + placeOf k g → eqb (sequenceOf f) (sequenceOf g) ≡ c
+      go true e x y = let z : placeOf k f ≡ placeOf k g = eqb-true (placeOf k f) (placeOf k g) e in
+          eq-eqb (sequenceOf f) (sequenceOf g) (omega arith)
+      go false e x y = let z : placeOf k f ≡ placeOf k g → ⊥ = eqb-false (placeOf k f) (placeOf k g) e in
+          ne-eqb (sequenceOf f) (sequenceOf g) (λ q. z (omega arith))
 
   -- a place is held where a frame of it is
-  has-frame : (f : List ℕ) (fs : List (List ℕ)) → 32 ≤ length f → (p : ℕ) → has (heldShard k (f ∷ fs)) p ≡ with-place (has (heldShard k fs)) (placeOf k f) p
+  has-frame : (f : List ℕ) (fs : List (List ℕ)) → 32 ≤ length f → (p : ℕ)
+      → has (heldShard k (f ∷ fs)) p ≡ with-place (has (heldShard k fs)) (placeOf k f) p
   unfolding heldShard with-place
   has-frame f fs l p = go (eqb (placeOf k f) p)
     where
@@ -143,11 +148,13 @@ module _ (k mtu n : ℕ) where
       rw (same-place g f (u .group) e, among-is f gs e (t .1)) (sym (has-frame g gs (u .long) (placeOf k f)))
 
   -- 22 speaks of different sequences: these are the places held
-  pub places-held : (fs : List (List ℕ)) → every (frameOk k mtu n) fs ≡ true → different (map sequenceOf fs) ≡ count (has (heldShard k fs)) (k + 2)
+  pub places-held : (fs : List (List ℕ)) → every (frameOk k mtu n) fs ≡ true
+      → different (map sequenceOf fs) ≡ count (has (heldShard k fs)) (k + 2)
   unfolding different heldShard
   places-held [] h = sym (count-none (λ p. false) (λ p. refl) (k + 2))
   places-held (f ∷ fs) h =
       let t = every-first (frameOk k mtu n) f fs h in
       let u = passes k mtu n f (t .0) in
       rw (among-is f fs (u .group) (t .1), places-held fs (t .1))
-      (sym (ap (λ (g : ℕ → Bool). count g (k + 2)) (λ i p. has-frame f fs (u .long) p i) ∙ count-with (has (heldShard k fs)) (placeOf k f) (k + 2) (place-lt f)))
+      (sym (ap (λ (g : ℕ → Bool). count g (k + 2)) (λ i p. has-frame f fs (u .long) p i) ∙ count-with (has (heldShard k fs)) (placeOf k f)
+      (k + 2) (place-lt f)))

@@ -10,7 +10,18 @@ use borrow.Author.Tests.{eqb-true, eqb-false, ltb-true, ltb-false, ne-eqb}
 use lib.Dec.{eqb}
 use lib.ListN.{length, getD}
 use Rattle.galois.specs.Field.{plus, mul, power, inverse}
-use Rattle.galois.specs.FieldLaws.{plus-zero, plus-self, plus-swap, plus-twice, plus-lt, mul-zero, one-mul, mul-plus, mul-plus-left, power-lt}
+use Rattle.galois.specs.FieldLaws.{
+  plus-zero,
+  plus-self,
+  plus-swap,
+  plus-twice,
+  plus-lt,
+  mul-zero,
+  one-mul,
+  mul-plus,
+  mul-plus-left,
+  power-lt,
+}
 use Rattle.galois.specs.TableLaws.{power-positive, power-differs, undo-mul}
 use Rattle.frames.specs.Lists.{total, count, other}
 use Rattle.frames.specs.Frames.{shard, weight, parityByte, shardAt}
@@ -73,7 +84,8 @@ module _ (ds : List (List ℕ)) (b : ℕ → List ℕ) (held : Held ds b) (x : �
       ap (λ (c : ℕ). plus c (total (λ p. mul (weight w p) (getD (b p) x 0)) (length ds)))
       (ap (λ (c : List ℕ). getD c x 0) (there (length ds + w) (omega arith) h ∙ shardAt-parity ds w) ∙ parity-at w ds x)
       ∙ total-plus (λ p. mul (weight w p) (byte p)) (λ p. mul (weight w p) (getD (b p) x 0)) (length ds)
-      ∙ total-same (λ p. plus (mul (weight w p) (byte p)) (mul (weight w p) (getD (b p) x 0))) (λ p. mul (weight w p) (lostByte p)) (length ds)
+      ∙ total-same (λ p. plus (mul (weight w p) (byte p)) (mul (weight w p) (getD (b p) x 0))) (λ p. mul (weight w p) (lostByte p))
+      (length ds)
       (λ p m. difference w p m)
 
   kept : (w p : ℕ) → has b p ≡ true → mul (weight w p) (lostByte p) ≡ 0
@@ -196,7 +208,8 @@ module _ (ds : List (List ℕ)) (b : ℕ → List ℕ) (held : Held ds b) (x : �
       found ni true e =
           let q : other (has b) i (length ds) ≡ 12 = eqb-true (other (has b) i (length ds)) 12 e in
           ap (λ (j : ℕ). solved (length ds) b i j x) q ∙ solved-one i li ni q
-      found ni false e = solved-two i (other (has b) i (length ds)) li ni (other-some (has b) i (length ds) (eqb-false (other (has b) i (length ds)) 12 e))
+      found ni false e = solved-two i (other (has b) i (length ds)) li ni
+          (other-some (has b) i (length ds) (eqb-false (other (has b) i (length ds)) 12 e))
 
       go : (c : Bool) → has b i ≡ c → cond c (getD (b i) x 0) (solved (length ds) b i (other (has b) i (length ds)) x) ≡ byte i
       go true h = data-there i li h

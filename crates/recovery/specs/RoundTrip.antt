@@ -16,10 +16,37 @@ use Rattle.frames.specs.declared.Refusal.the-variants.{ShortPart, SettingOutOfR
 use Rattle.frames.specs.Lists.{listed, lengthsOf, parts, addUp, largest, count, every, different}
 use Rattle.frames.specs.Frames.{shard, parityShard, typeAt, shardAt, frameAt, group}
 use Rattle.frames.specs.Outcomes.{refused, wrote, settingsOk, lentOk, lengthOk, lengthsOk, writeOf}
-use Rattle.frames.specs.Reading.{sequenceOf, groupOf, placeOf, frameOk, firstGroup, heldShard, has, byteAt, lenAt, datagramAt, found, holds, readGroup, readFrames}
+use Rattle.frames.specs.Reading.{
+  sequenceOf,
+  groupOf,
+  placeOf,
+  frameOk,
+  firstGroup,
+  heldShard,
+  has,
+  byteAt,
+  lenAt,
+  datagramAt,
+  found,
+  holds,
+  readGroup,
+  readFrames,
+}
 use Rattle.frames.specs.PlaceLaws.{listed-same, listed-getD, listed-bytes, count-none}
 use Rattle.frames.specs.PartLaws.{parts-bytes, length-parts, part-at, add-up-next, add-up-le, length-part, largest-le, largest-ge}
-use Rattle.frames.specs.FrameLaws.{length-shard, shardAt-data, seq-of, len-shard, behind, shard-bytes, length-parityShard, length-frameAt, drop-frameAt, type-at, len-at}
+use Rattle.frames.specs.FrameLaws.{
+  length-shard,
+  shardAt-data,
+  seq-of,
+  len-shard,
+  behind,
+  shard-bytes,
+  length-parityShard,
+  length-frameAt,
+  drop-frameAt,
+  type-at,
+  len-at,
+}
 use Rattle.frames.specs.OutcomeLaws.{and-left, and-right, same-self, lengths-at}
 use Rattle.recovery.specs.Recovery.{Held, recovered}
 use Rattle.recovery.specs.ReadingLaws.{places-held}
@@ -78,7 +105,8 @@ module _ (n mtu : ℕ) (ds : List (List ℕ)) (w : Writable n mtu ds) where
       base = largest-ge 24 ds (w .some) (w .least)
 
       go : (b : Bool) → ltb p (length ds) ≡ b
-          → (26 ≤ length (cond b (shard (getD ds p [])) (parityShard (p - length ds) ds))) × (length (cond b (shard (getD ds p [])) (parityShard (p - length ds) ds)) ≤ mtu + 2)
+          → (26 ≤ length (cond b (shard (getD ds p [])) (parityShard (p - length ds) ds))) ×
+          (length (cond b (shard (getD ds p [])) (parityShard (p - length ds) ds)) ≤ mtu + 2)
       go true e =
           let l : p < length ds = ltb-true p (length ds) e in
           let a : 24 ≤ length (getD ds p []) = w .least p l in
@@ -125,11 +153,13 @@ module _ (n mtu : ℕ) (ds : List (List ℕ)) (w : Writable n mtu ds) where
   held-at (more {fs} q l g) p h = rw (place-at q l) (go (heldShard (length ds) fs p) (eqb q p) refl (held-at g p h))
     where
       go : (c : List ℕ) (b : Bool) → eqb q p ≡ b → (c ≡ shardAt ds p) ⊎ (c ≡ [])
-          → (cond b (drop 6 (frameAt (n * (length ds + 2)) ds q)) c ≡ shardAt ds p) ⊎ (cond b (drop 6 (frameAt (n * (length ds + 2)) ds q)) c ≡ [])
+          → (cond b (drop 6 (frameAt (n * (length ds + 2)) ds q)) c ≡ shardAt ds p) ⊎
+          (cond b (drop 6 (frameAt (n * (length ds + 2)) ds q)) c ≡ [])
       go c true e ih = inl (drop-frameAt (n * (length ds + 2)) ds q ∙ ap (shardAt ds) (eqb-true q p e))
       go c false e ih = ih
 
-  module _ (fs : List (List ℕ)) (g : Given (n * (length ds + 2)) ds fs) (enough : length ds ≤ count (has (heldShard (length ds) fs)) (length ds + 2)) where
+  module _ (fs : List (List ℕ)) (g : Given (n * (length ds + 2)) ds fs)
+      (enough : length ds ≤ count (has (heldShard (length ds) fs)) (length ds + 2)) where
     held : Held ds (heldShard (length ds) fs)
     held = record {
       few = w .few;
@@ -143,8 +173,10 @@ module _ (n mtu : ℕ) (ds : List (List ℕ)) (w : Writable n mtu ds) where
     datagram i h =
         let m : length (getD ds i []) ≤ mtu = w .most i h in
         let z : mtu ≤ 1400 = w .small in
-        let e : byteAt (length ds) (heldShard (length ds) fs) i 0 + 256 * byteAt (length ds) (heldShard (length ds) fs) i 1 - 2 ≡ length (getD ds i []) =
-        ap₂ (λ (a b : ℕ). a + 256 * b - 2) (recovered ds (heldShard (length ds) fs) held 0 i h) (recovered ds (heldShard (length ds) fs) held 1 i h)
+        let e : byteAt (length ds) (heldShard (length ds) fs) i 0
+        + 256 * byteAt (length ds) (heldShard (length ds) fs) i 1 - 2 ≡ length (getD ds i []) =
+        ap₂ (λ (a b : ℕ). a + 256 * b - 2) (recovered ds (heldShard (length ds) fs) held 0 i h)
+        (recovered ds (heldShard (length ds) fs) held 1 i h)
         ∙ ap (λ (a : ℕ). a - 2) (len-shard (getD ds i []) (omega arith)) ∙ omega arith in
         ap (listed (λ x. byteAt (length ds) (heldShard (length ds) fs) i (x + 2))) e
         ∙ listed-same (λ x. byteAt (length ds) (heldShard (length ds) fs) i (x + 2)) (λ x. getD (getD ds i []) x 0) (length (getD ds i []))
@@ -161,7 +193,8 @@ module _ (n mtu : ℕ) (ds : List (List ℕ)) (w : Writable n mtu ds) where
   every-given t h none = refl
   every-given t h (more p l g) = rw (h p l) (every-given t h g)
 
-  first-given : {fs : List (List ℕ)} → Given (n * (length ds + 2)) ds fs → length ds ≤ count (has (heldShard (length ds) fs)) (length ds + 2) → firstGroup (length ds) fs ≡ n
+  first-given : {fs : List (List ℕ)} → Given (n * (length ds + 2)) ds fs
+      → length ds ≤ count (has (heldShard (length ds) fs)) (length ds + 2) → firstGroup (length ds) fs ≡ n
   unfolding firstGroup heldShard
   first-given none e =
       let z : count (λ p. ltb 0 0) (length ds + 2) ≡ 0 = count-none (λ p. ltb 0 0) (λ p. refl) (length ds + 2) in
@@ -174,7 +207,8 @@ module _ (n mtu : ℕ) (ds : List (List ℕ)) (w : Writable n mtu ds) where
   holds-at p h = rw (place-at p h) (same-self (frameAt (n * (length ds + 2)) ds p))
 
   -- any of the group's frames, in any order, with repeats, of k different sequences
-  pub returned : (fs : List (List ℕ)) → Given (n * (length ds + 2)) ds fs → length ds ≤ different (map sequenceOf fs) → readFrames (length ds) mtu fs ≡ wrote ds
+  pub returned : (fs : List (List ℕ)) → Given (n * (length ds + 2)) ds fs → length ds ≤ different (map sequenceOf fs)
+      → readFrames (length ds) mtu fs ≡ wrote ds
   unfolding readFrames readGroup
   returned fs g e =
       let a = every-given (frameOk (length ds) mtu n) ok-at g in
@@ -197,14 +231,17 @@ pub record Accepted (n k mtu : ℕ) (s ns : List ℕ) (room slots : ℕ) : Type 
   pub right : (eqb (length ns) k && lengthsOk mtu ns) ≡ true
   pub early : leb 4294967284 (n * (k + 2)) ≡ false
 
-pub accepted : (n k mtu : ℕ) (s ns : List ℕ) (room slots : ℕ) (l : List (List ℕ)) → writeOf n k mtu s ns room slots ≡ wrote l → Accepted n k mtu s ns room slots
+pub accepted : (n k mtu : ℕ) (s ns : List ℕ) (room slots : ℕ) (l : List (List ℕ)) → writeOf n k mtu s ns room slots ≡ wrote l
+    → Accepted n k mtu s ns room slots
 unfolding writeOf
 accepted n k mtu s ns room slots l e =
-    go (lentOk (length s) ns 12 (mtu + 8) room slots) refl (settingsOk k mtu) refl (eqb (length ns) k && lengthsOk mtu ns) refl (leb 4294967284 (n * (k + 2))) refl e
+    go (lentOk (length s) ns 12 (mtu + 8) room slots) refl (settingsOk k mtu) refl (eqb (length ns) k && lengthsOk mtu ns) refl
+    (leb 4294967284 (n * (k + 2))) refl e
   where
     go : (a : Bool) → lentOk (length s) ns 12 (mtu + 8) room slots ≡ a → (b : Bool) → settingsOk k mtu ≡ b
         → (c : Bool) → (eqb (length ns) k && lengthsOk mtu ns) ≡ c → (d : Bool) → leb 4294967284 (n * (k + 2)) ≡ d
-        → cond (not a) (refused ShortPart) (cond (not b) (refused SettingOutOfRange) (cond (not c) (refused NotAGroup) (cond d (refused LateGroup) (wrote (group (n * (k + 2)) (parts s ns)))))) ≡ wrote l
+        → cond (not a) (refused ShortPart) (cond (not b) (refused SettingOutOfRange)
+        (cond (not c) (refused NotAGroup) (cond d (refused LateGroup) (wrote (group (n * (k + 2)) (parts s ns)))))) ≡ wrote l
         → Accepted n k mtu s ns room slots
     go false ea b eb c ec d ed e = let z : _≡_ {A = ℕ} 0 1 = cc in absurd (omega arith)
     go true ea false eb c ec d ed e = let z : _≡_ {A = ℕ} 0 1 = cc in absurd (omega arith)
@@ -229,7 +266,8 @@ module _ (n k mtu : ℕ) (s ns : List ℕ) (room slots : ℕ) (by : AllBytes s) 
   count-is = length-parts s ns ∙ eqb-true (length ns) k (and-left (eqb (length ns) k) (lengthsOk mtu ns) (a .right))
 
   whole : addUp ns ≤ length s
-  whole = leb-true (addUp ns) (length s) (and-left (leb (addUp ns) (length s)) (leb (12 * (mtu + 8)) room) (and-left (leb (addUp ns) (length s) && leb (12 * (mtu + 8)) room) (leb 12 slots) (a .lent)))
+  whole = leb-true (addUp ns) (length s) (and-left (leb (addUp ns) (length s)) (leb (12 * (mtu + 8)) room)
+      (and-left (leb (addUp ns) (length s) && leb (12 * (mtu + 8)) room) (leb 12 slots) (a .lent)))
 
   size-is : (p : ℕ) → p < length ns → length (getD (parts s ns) p []) ≡ getD ns p 0
   size-is p h =
@@ -239,7 +277,8 @@ module _ (n k mtu : ℕ) (s ns : List ℕ) (room slots : ℕ) (by : AllBytes s) 
   pub written : Writable n mtu (parts s ns)
   written =
       let e : length (parts s ns) ≡ k = count-is in
-      let f : (leb 1 k && leb k 10) ≡ true = and-left (leb 1 k && leb k 10) (leb 50 mtu) (and-left (leb 1 k && leb k 10 && leb 50 mtu) (leb mtu 1400) (a .settings)) in
+      let f : (leb 1 k && leb k 10) ≡ true =
+      and-left (leb 1 k && leb k 10) (leb 50 mtu) (and-left (leb 1 k && leb k 10 && leb 50 mtu) (leb mtu 1400) (a .settings)) in
       let o : 1 ≤ k = leb-true 1 k (and-left (leb 1 k) (leb k 10) f) in
       let t : k ≤ 10 = leb-true k 10 (and-right (leb 1 k) (leb k 10) f) in
       let r : lengthsOk mtu ns ≡ true = and-right (eqb (length ns) k) (lengthsOk mtu ns) (a .right) in
@@ -274,7 +313,8 @@ round-trip n k mtu s ns room slots l fs by e g c =
     (subst (λ (m : ℕ). m ≤ different (map sequenceOf fs)) (sym q) c))
 
 -- a call of the writer that was not refused wrote the group
-pub wrote-group : (n k mtu : ℕ) (s ns : List ℕ) (room slots : ℕ) (l : List (List ℕ)) → writeOf n k mtu s ns room slots ≡ wrote l → l ≡ group (n * (k + 2)) (parts s ns)
+pub wrote-group : (n k mtu : ℕ) (s ns : List ℕ) (room slots : ℕ) (l : List (List ℕ)) → writeOf n k mtu s ns room slots ≡ wrote l
+    → l ≡ group (n * (k + 2)) (parts s ns)
 unfolding writeOf
 wrote-group n k mtu s ns room slots l e =
     let a = accepted n k mtu s ns room slots l e in

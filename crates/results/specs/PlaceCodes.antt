@@ -1,4 +1,5 @@
--- A place in the receive pool as C gets it: its count as a number, and its start in 32 bits, both as they are (crate `counts`). Definitions.
+-- A place in the receive pool as C gets it: its count as a number, and its start in 32 bits, both as they are (crate `counts`).
+-- Definitions.
 -- Assumes nothing.
 use Prim.Native.Nat.{ℕ, min}
 use lib.IntN.{ℤ}

@@ -10,8 +10,8 @@ use read_core::Delivered;
 use read_core::Place;
 use send_core::Sent;
 use timing::Record;
-use update_core::Updated;
 ghost use mathlib.Core.Path.{_≡_};
+ghost use mathlib.Core.Bool.{true, false};
 ghost use Rattle.codes.specs.Codes.{answerCode, countCode, updateCode};
 ghost use Rattle.results.specs.PlaceCodes.{placeCode, placeStart};
 
@@ -109,7 +109,21 @@ pub fn taken_code(taken: Taken) -> i32
     codes::answer_code(answer)
 }
 
-// ---- of a flush
+// ---- of a flush and of an update
+
+// A flush runs at once.
+pub fn at_once() -> bool
+    ensures { λ r. ⌜ r ≡ false ⌝ }
+{
+    false
+}
+
+// An update runs by the schedule.
+pub fn by_schedule() -> bool
+    ensures { λ r. ⌜ r ≡ true ⌝ }
+{
+    true
+}
 
 pub fn flushed_flight(flushed: Flushed) -> Flight
     ensures { λ r. ⌜ r ≡ flushed .flight ⌝ }
@@ -148,54 +162,9 @@ pub fn flushed_records(flushed: Flushed) -> [Record; 32]
 }
 
 pub fn flushed_code(flushed: Flushed) -> i32
-    ensures { λ r. ⌜ r ≡ countCode (flushed .answer) ⌝ }
+    ensures { λ r. ⌜ r ≡ updateCode (flushed .answer) ⌝ }
 {
     let answer = flushed.answer;
-    codes::count_code(answer)
-}
-
-// ---- of an update
-
-pub fn updated_flight(updated: Updated) -> Flight
-    ensures { λ r. ⌜ r ≡ updated .flight ⌝ }
-{
-    updated.flight
-}
-
-pub fn updated_arrival(updated: Updated) -> Arrival
-    ensures { λ r. ⌜ r ≡ updated .arrival ⌝ }
-{
-    updated.arrival
-}
-
-pub fn updated_clock(updated: Updated) -> Clock
-    ensures { λ r. ⌜ r ≡ updated .clock ⌝ }
-{
-    updated.clock
-}
-
-pub fn updated_words(updated: Updated) -> [u32; 32]
-    ensures { λ r. ⌜ r ≡ updated .words ⌝ }
-{
-    updated.words
-}
-
-pub fn updated_changed(updated: Updated) -> usize
-    ensures { λ r. ⌜ r ≡ updated .changed ⌝ }
-{
-    updated.changed
-}
-
-pub fn updated_records(updated: Updated) -> [Record; 32]
-    ensures { λ r. ⌜ r ≡ updated .records ⌝ }
-{
-    updated.records
-}
-
-pub fn updated_code(updated: Updated) -> i32
-    ensures { λ r. ⌜ r ≡ updateCode (updated .answer) ⌝ }
-{
-    let answer = updated.answer;
     codes::update_code(answer)
 }
 

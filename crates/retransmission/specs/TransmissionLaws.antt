@@ -86,7 +86,8 @@ module _ (s : Settings) (link t n : ℕ) (r : Record) where
       either-way P (eqb n 0) first (either-way P (isDue t (r .due)) due (either-way P (isSkipped (s .threshold) n (r .skips)) fast kept))
 
   -- the record stays in range
-  pub transmission-in-range : TimeoutInRange (s .mode) link → RecordInRange (s .mode) r → RecordInRange (s .mode) (transmission s link t n r .updated)
+  pub transmission-in-range : TimeoutInRange (s .mode) link → RecordInRange (s .mode) r
+      → RecordInRange (s .mode) (transmission s link t n r .updated)
   transmission-in-range l h =
       each-way (λ x. RecordInRange (s .mode) (x .updated))
       (record { timeout = l; skips = h .skips })
@@ -139,7 +140,8 @@ module _ (s : Settings) (link t n : ℕ) (r : Record) where
       go false false false = refl
 
   -- fast exactly where it was sent before, is not due, and was skipped
-  pub transmission-fast : transmission s link t n r .fast ≡ (not (eqb n 0) && not (isDue t (r .due)) && isSkipped (s .threshold) n (r .skips))
+  pub transmission-fast : transmission s link t n r .fast ≡
+      (not (eqb n 0) && not (isDue t (r .due)) && isSkipped (s .threshold) n (r .skips))
   unfolding transmission
   transmission-fast = go (eqb n 0) (isDue t (r .due)) (isSkipped (s .threshold) n (r .skips))
     where

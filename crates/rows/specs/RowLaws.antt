@@ -75,7 +75,8 @@ module _ (was : List ℕ) (at : ℕ) (l : List ℕ) where
   pub sum-none : Done (sum was at l) at was was
   sum-none = record { size = refl; done = λ x h. sum-below x h; kept = λ x h. refl }
 
-  pub sum-all : (i : ℕ) (row : List ℕ) → Done (sum was at l) (at + i) was row → length l ≤ i → i ≤ length l → Row (sum was at l) (length was) row
+  pub sum-all : (i : ℕ) (row : List ℕ) → Done (sum was at l) (at + i) was row → length l ≤ i → i ≤ length l
+      → Row (sum was at l) (length was) row
   sum-all i row d h g = done-part (sum was at l) (at + i) was row d (λ x m. sum-past x (omega arith))
 
 -- ---- steps

@@ -9,7 +9,35 @@ use Prim.Native.Nat.{ℕ, _^_, _≤_, _<_, min}
 use native.Mathlib.Omega.{arith}
 use Rattle.protocol.specs.Serial.{plus, minus, isDue}
 use Rattle.schedule.specs.Schedules.{isAstray, corrected, started, following, updated, ahead, earliest, named}
-use Rattle.schedule.specs.ScheduleLaws.{either, near, not-astray, is-due, not-due, due-by, ahead-due, ahead-undue, ahead-now, ahead-fits, later, not-yet, Each, anyDue, earliest-most, earliest-below, earliest-found, corrected-astray, corrected-kept, started-made, started-first, when-reached, when-waiting, named-first, named-made, corrected-fits, started-fits}
+use Rattle.schedule.specs.ScheduleLaws.{
+  either,
+  near,
+  not-astray,
+  is-due,
+  not-due,
+  due-by,
+  ahead-due,
+  ahead-undue,
+  ahead-now,
+  ahead-fits,
+  later,
+  not-yet,
+  Each,
+  anyDue,
+  earliest-most,
+  earliest-below,
+  earliest-found,
+  corrected-astray,
+  corrected-kept,
+  started-made,
+  started-first,
+  when-reached,
+  when-waiting,
+  named-first,
+  named-made,
+  corrected-fits,
+  started-fits,
+}
 use Rattle.schedule.specs.declared.Schedule.{Schedule}
 use Rattle.schedule.specs.declared.Updated.{Updated}
 

@@ -20,7 +20,27 @@ use Rattle.notation.specs.declared.Number.the-variants as number
 use Rattle.notation.specs.declared.Bytes.{Bytes}
 use Rattle.notation.specs.declared.Bytes.the-variants as bytes
 use Rattle.script.specs.declared.Command.the-variants.{Malformed}
-use Rattle.script.specs.Commands.{isOneOf, fieldMost, upTo, word, behindWord, onFirst, words, arguments, oneMore, numbersOf, letters, ofOne, ofTwo, ofFour, ofFive, ofSix, ofSeven, ofNumbers, withNumbers}
+use Rattle.script.specs.Commands.{
+  isOneOf,
+  fieldMost,
+  upTo,
+  word,
+  behindWord,
+  onFirst,
+  words,
+  arguments,
+  oneMore,
+  numbersOf,
+  letters,
+  ofOne,
+  ofTwo,
+  ofFour,
+  ofFive,
+  ofSix,
+  ofSeven,
+  ofNumbers,
+  withNumbers,
+}
 use Rattle.script.specs.Reading.{few}
 
 -- ---- words
@@ -41,7 +61,8 @@ module _ (stop : ℕ) (l : List ℕ) (i : ℕ) where
 -- ---- names
 
 module _ (w : List ℕ) (i n : ℕ) where
-  pub letters-next : i < length w → 256 * n + getD w i 0 < 72057594037927936 → letters n (drop i w) ≡ letters (256 * n + getD w i 0) (drop (i + 1) w)
+  pub letters-next : i < length w → 256 * n + getD w i 0 < 72057594037927936
+      → letters n (drop i w) ≡ letters (256 * n + getD w i 0) (drop (i + 1) w)
   unfolding letters
   letters-next h g = rw (drop-cons w i 0 h, add-one, lt-leb 72057594037927936 (256 * n + getD w i 0) g)
 
@@ -70,7 +91,8 @@ unfolding upTo words
 words-first [] = refl
 words-first (c ∷ l) = go (eqb c 32) (words-first l)
   where
-    go : (b : Bool) → words l ≡ word l ∷ arguments (behindWord l) → cond b ([] ∷ words l) (onFirst c (words l)) ≡ cond b [] (c ∷ word l) ∷ arguments (drop (length (cond b [] (c ∷ word l))) (c ∷ l))
+    go : (b : Bool) → words l ≡ word l ∷ arguments (behindWord l) → cond b ([] ∷ words l) (onFirst c (words l)) ≡ cond b [] (c ∷ word l)
+        ∷ arguments (drop (length (cond b [] (c ∷ word l))) (c ∷ l))
     go true e = refl
     go false e = rw e
 
@@ -80,7 +102,8 @@ pub arguments-next : (line : List ℕ) (here e : ℕ) → here < length line →
 arguments-next line here e h q =
     let rest = drop (here + 1) line in
     let count : e - (here + 1) ≡ length (word rest) = omega arith in
-    let there : drop (length (word rest)) rest ≡ drop e line = drop-drop (length (word rest)) (here + 1) line ∙ ap (λ (k : ℕ). drop k line) (sym q) in
+    let there : drop (length (word rest)) rest ≡ drop e line =
+    drop-drop (length (word rest)) (here + 1) line ∙ ap (λ (k : ℕ). drop k line) (sym q) in
     ap arguments (drop-cons line here 0 h) ∙ ap (λ (k : ℕ). words (drop k line)) (sym (add-one here))
     ∙ words-first rest
     ∙ ap (λ (m : List ℕ). word rest ∷ arguments m) there
@@ -101,7 +124,8 @@ prepend-none none = refl
 prepend-none (some ms) = refl
 
 -- a word that is a number, and one that is none
-pub numbers-next : (ns w : List ℕ) (n : ℕ) (ws : List (List ℕ)) → numberOf w ≡ number.Of n → prepend ns (numbersOf (w ∷ ws)) ≡ prepend (ns ++ (n ∷ [])) (numbersOf ws)
+pub numbers-next : (ns w : List ℕ) (n : ℕ) (ws : List (List ℕ)) → numberOf w ≡ number.Of n
+    → prepend ns (numbersOf (w ∷ ws)) ≡ prepend (ns ++ (n ∷ [])) (numbersOf ws)
 unfolding numbersOf
 numbers-next ns w n ws e = rw e (go (numbersOf ws))
   where
@@ -155,14 +179,16 @@ module _ (name : ℕ) where
   two-numbers (a ∷ []) h = absurd (omega arith)
   two-numbers (a ∷ b ∷ l) h = refl
 
-  pub four-numbers : (l : List ℕ) → 4 ≤ length l → ofNumbers name (take 4 l) ≡ ofFour name (getD l 0 0) (getD l 1 0) (getD l 2 0) (getD l 3 0)
+  pub four-numbers : (l : List ℕ) → 4 ≤ length l
+      → ofNumbers name (take 4 l) ≡ ofFour name (getD l 0 0) (getD l 1 0) (getD l 2 0) (getD l 3 0)
   four-numbers [] h = absurd (omega arith)
   four-numbers (a ∷ []) h = absurd (omega arith)
   four-numbers (a ∷ b ∷ []) h = absurd (omega arith)
   four-numbers (a ∷ b ∷ c ∷ []) h = absurd (omega arith)
   four-numbers (a ∷ b ∷ c ∷ d ∷ l) h = refl
 
-  pub five-numbers : (l : List ℕ) → 5 ≤ length l → ofNumbers name (take 5 l) ≡ ofFive name (getD l 0 0) (getD l 1 0) (getD l 2 0) (getD l 3 0) (getD l 4 0)
+  pub five-numbers : (l : List ℕ) → 5 ≤ length l
+      → ofNumbers name (take 5 l) ≡ ofFive name (getD l 0 0) (getD l 1 0) (getD l 2 0) (getD l 3 0) (getD l 4 0)
   five-numbers [] h = absurd (omega arith)
   five-numbers (a ∷ []) h = absurd (omega arith)
   five-numbers (a ∷ b ∷ []) h = absurd (omega arith)
@@ -219,15 +245,19 @@ module _ (name : ℕ) where
     where
       go : Dec (length ns ≤ 8) → withNumbers name (cond (leb (length ns) 8) (some ns) none) ≡ ofNumbers name ns
       go (yes h) = rw (le-leb (length ns) 8 h)
-      go (no h) = rw (lt-leb (length ns) 8 (omega arith)) (sym (no-command (length ns) (λ e. omega arith) (λ e. omega arith) (λ e. omega arith) (λ e. omega arith) (λ e. omega arith) (λ e. omega arith) (λ e. omega arith) ns refl))
+      go (no h) = rw (lt-leb (length ns) 8 (omega arith))
+          (sym (no-command (length ns) (λ e. omega arith) (λ e. omega arith) (λ e. omega arith) (λ e. omega arith) (λ e. omega arith)
+          (λ e. omega arith) (λ e. omega arith) ns refl))
 
 -- ---- bytes
 
 -- what stands behind a space
-pub behind-space : (line : List ℕ) (e : ℕ) → e < length line → drop e line ≡ getD line e 0 ∷ take (length line - (e + 1)) (drop (e + 1) line)
+pub behind-space : (line : List ℕ) (e : ℕ) → e < length line → drop e line ≡ getD line e 0
+    ∷ take (length line - (e + 1)) (drop (e + 1) line)
 behind-space line e h =
     drop-cons line e 0 h ∙ ap (λ (k : ℕ). getD line e 0 ∷ drop k line) (sym (add-one e))
-    ∙ ap (λ (l : List ℕ). getD line e 0 ∷ l) (sym (take-all (length line - (e + 1)) (drop (e + 1) line) (omega (arith, length-drop (e + 1) line))))
+    ∙ ap (λ (l : List ℕ). getD line e 0
+    ∷ l) (sym (take-all (length line - (e + 1)) (drop (e + 1) line) (omega (arith, length-drop (e + 1) line))))
 
 -- what the answer of reading bytes tells
 pub not-bytes : (b : Bool) (k : ℕ) → bytes.Malformed ≡ cond b (bytes.Count k) bytes.Malformed → b ≡ false

@@ -138,7 +138,8 @@ ofTwo name a b =
     (cond (named name "poke" && isField a && leb b (fieldMost a)) (Poke a b) Malformed))
 
 unfoldable pub ofFour : ℕ → ℕ → ℕ → ℕ → ℕ → Command
-ofFour name list index field value = cond (named name "hold" && hasField list field && leb value (heldMost list field)) (Hold list index field value) Malformed
+ofFour name list index field value =
+    cond (named name "hold" && hasField list field && leb value (heldMost list field)) (Hold list index field value) Malformed
 
 unfoldable pub ofFive : ℕ → ℕ → ℕ → ℕ → ℕ → ℕ → Command
 ofFive name a b c d e =
@@ -172,7 +173,8 @@ takesBytes name = named name "send" || named name "input"
 
 abbrev pub withBytes : ℕ → List ℕ → ℕ → Command
 withBytes name [] room = Malformed
-withBytes name (c ∷ w) room = cond (isBytes w room) (cond (named name "send") (Send (length (bytesOf w))) (Input (length (bytesOf w)))) Malformed
+withBytes name (c ∷ w) room = cond (isBytes w room) (cond (named name "send") (Send (length (bytesOf w))) (Input (length (bytesOf w))))
+    Malformed
 
 -- the bytes of a command at the start of `was`
 abbrev pub storedBytes : List ℕ → List ℕ → List ℕ

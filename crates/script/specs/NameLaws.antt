@@ -29,7 +29,8 @@ grows n [] d = omega arith
 grows n (c ∷ w) d = let e = next n c w d in let g = grows (256 * n + c) w (λ z. d (e ∙ z)) in omega arith
 
 -- words of one length
-same : (n m : ℕ) (v w : List ℕ) → Bytes v → Bytes w → length v ≡ length w → letters n v ≡ letters m w → (letters n v ≡ 0 → ⊥) → (n ≡ m) × (v ≡ w)
+same : (n m : ℕ) (v w : List ℕ) → Bytes v → Bytes w → length v ≡ length w → letters n v ≡ letters m w → (letters n v ≡ 0 → ⊥)
+    → (n ≡ m) × (v ≡ w)
 unfolding letters
 same n m [] [] bv bw l q d = (q, refl)
 same n m [] (x ∷ w) bv bw l q d = absurd (omega arith)

@@ -252,7 +252,8 @@ fn of_numbers(name: u64, n: Numbers) -> Command
 
 // A command with bytes, which are stored at the start of `bytes`: they are the whole of the line behind one space.
 fn of_bytes(name: u64, line: &[u8], end: usize, bytes: &mut [u8]) -> Command
-    ensures { λ r. ⌜ (r ≡ withBytes name (drop end (now (line .entry))) (length (now (bytes .entry)))) × (now (bytes .exit) ≡ storedBytes (drop end (now (line .entry))) (now (bytes .entry))) ⌝ }
+    ensures { λ r. ⌜ (r ≡ withBytes name (drop end (now (line .entry))) (length (now (bytes .entry)))) ×
+        (now (bytes .exit) ≡ storedBytes (drop end (now (line .entry))) (now (bytes .entry))) ⌝ }
 {
     if end < line.len() {
         let read = notation::read::bytes(&line[end + 1..], bytes);

@@ -62,7 +62,8 @@ queued-alone s pool m x e =
     go (ltb (fragmentsMost * size) (length (f .rest))) (ltb (sendSlots - length used) (segmentCount stream size (length (f .rest))))
     (f .queued ++ placed .segments) (placed .pool) e
   where
-    go : (a b : Bool) (q : List Held) (p : List ℕ) → cond a (refused LongMessage) (cond b (refused NoFreeSlots) (done (record { state = withQueued s q; pool = p }))) ≡ done x
+    go : (a b : Bool) (q : List Held) (p : List ℕ)
+        → cond a (refused LongMessage) (cond b (refused NoFreeSlots) (done (record { state = withQueued s q; pool = p }))) ≡ done x
         → x .state ≡ withQueued s (x .state .sending .queued)
     go true b q p e = absurd (let z : _≡_ {A = ℕ} 0 1 = cc in omega arith)
     go false true q p e = absurd (let z : _≡_ {A = ℕ} 0 1 = cc in omega arith)
@@ -70,7 +71,14 @@ queued-alone s pool m x e =
 
 -- the arrays with other queued segments
 abbrev pub withWords : Arrays → List ℕ → Arrays
-withWords x q = record { queued = q; outstanding = x .outstanding; transmissions = x .transmissions; ready = x .ready; waiting = x .waiting; numbers = x .numbers }
+withWords x q = record {
+  queued = q;
+  outstanding = x .outstanding;
+  transmissions = x .transmissions;
+  ready = x .ready;
+  waiting = x .waiting;
+  numbers = x .numbers;
+}
 
 module _ (s : Settings) (f : Flight) (a : Arrival) (k : Clock) (x : Arrays) (rs : List Record) (acks : List ℕ) where
   abbrev link : Link
@@ -91,7 +99,14 @@ module _ (s : Settings) (f : Flight) (a : Arrival) (k : Clock) (x : Arrays) (rs 
       let q : f .queued ≤ length (x .queued) = omega (arith, n .queued, w .whole-queued) in
       ap length (send-slots f (x .queued) (x .outstanding) (x .transmissions) rs o t (omega (arith, n .outstanding)))
       ∙ length-append (slotsOf (heldIn (x .outstanding) (f .outstanding))) (slotsOf (heldIn (x .queued) (f .queued)))
-      ∙ rw (length-map (heldIn (x .outstanding) (f .outstanding)) (λ (h : Held). h .slot), length-map (heldIn (x .queued) (f .queued)) (λ (h : Held). h .slot), length-map (take (f .outstanding) (x .outstanding)) unpack, length-map (take (f .queued) (x .queued)) unpack, length-take-le (f .outstanding) (x .outstanding) o, length-take-le (f .queued) (x .queued) q)
+      ∙ rw (
+        length-map (heldIn (x .outstanding) (f .outstanding)) (λ (h : Held). h .slot),
+        length-map (heldIn (x .queued) (f .queued)) (λ (h : Held). h .slot),
+        length-map (take (f .outstanding) (x .outstanding)) unpack,
+        length-map (take (f .queued) (x .queued)) unpack,
+        length-take-le (f .outstanding) (x .outstanding) o,
+        length-take-le (f .queued) (x .queued) q,
+      )
 
   -- and no more than there are slots, since none is held twice
   used-few : Once used → All (λ (h : Held). h .slot < sendSlots) (sendHeld (stateOf link rs acks .sending)) → length used ≤ sendSlots
@@ -113,9 +128,11 @@ module _ (s : Settings) (f : Flight) (a : Arrival) (k : Clock) (x : Arrays) (rs 
   -- by the lent sizes and the verdict
   module _ (n : Lengths) (long : Bool) (v : Verdict) (e : long ≡ enough (mss s) n) (g : v ≡ verdictOf long (blockValid link rs acks)) where
     -- refused: nothing changes
-    pub refuses : (r : Refusal) (pool message : List ℕ) → v ≡ verdict.Refused r → SendCore (sendsWith link rs acks n pool message) link rs acks pool (Refused r) link pool
+    pub refuses : (r : Refusal) (pool message : List ℕ) → v ≡ verdict.Refused r
+        → SendCore (sendsWith link rs acks n pool message) link rs acks pool (Refused r) link pool
     unfolding sendsWith
-    refuses r pool message q = rw (← e, refused-by (sending (stateOf link rs acks) pool message) long (blockValid link rs acks) v r g q) (refl, refl, refl)
+    refuses r pool message q = rw (← e, refused-by (sending (stateOf link rs acks) pool message) long (blockValid link rs acks) v r g q)
+        (refl, refl, refl)
 
     module _ (p : v ≡ verdict.Passed) where
       passing : Passes long (blockValid link rs acks)
@@ -128,12 +145,14 @@ module _ (s : Settings) (f : Flight) (a : Arrival) (k : Clock) (x : Arrays) (rs 
           let all = valid-decides (stateOf link rs acks) .holds (u .1) in
           let range = all .settings in
           let half = all .sending in
-          let room = leb-true (sendSlots * mss s) (n .send) (and-parts _ _ (and-parts _ _ (and-parts _ _ (sym e ∙ passing .long-enough) .0) .0) .0) in
+          let room = leb-true (sendSlots * mss s) (n .send)
+          (and-parts _ _ (and-parts _ _ (and-parts _ _ (sym e ∙ passing .long-enough) .0) .0) .0) in
           record {
             counts-fit = u .0;
             held = used-count w l (u .0);
             few = used-few (half .slots-once) (half .slots-below);
-            low = all-right (λ (h : Held). h .slot < sendSlots) (map (λ (y : outstanding.Sent). y .held) (stateOf link rs acks .sending .outstanding))
+            low = all-right (λ (h : Held). h .slot < sendSlots)
+                (map (λ (y : outstanding.Sent). y .held) (stateOf link rs acks .sending .outstanding))
                 (heldIn (x .queued) (f .queued)) (half .slots-below);
             whole-marks = c .send-whole;
             free = c .send-free acks refl;
@@ -143,33 +162,37 @@ module _ (s : Settings) (f : Flight) (a : Arrival) (k : Clock) (x : Arrays) (rs 
           }
 
       -- what is left of the call's own
-      pub passes : (pool message : List ℕ) (b : Answer) (l′ : Link) (pool′ : List ℕ) → SendCore (sending (stateOf link rs acks) pool message) link rs acks pool b l′ pool′ → SendCore (sendsWith link rs acks n pool message) link rs acks pool b l′ pool′
+      pub passes : (pool message : List ℕ) (b : Answer) (l′ : Link) (pool′ : List ℕ)
+          → SendCore (sending (stateOf link rs acks) pool message) link rs acks pool b l′ pool′
+          → SendCore (sendsWith link rs acks n pool message) link rs acks pool b l′ pool′
       unfolding sendsWith
       passes pool message b l′ pool′ h = rw (sym e ∙ passing .long-enough, passing .valid-block) h
 
   -- ---- enqueueing
 
-  module _ {n : Lengths} {marks : List ℕ} (p : Sendable n marks) {stream : Bool} {m : ℕ} (mode : stream ≡ isStream s) (size : m ≡ mss s) where
-    pub enqueueable : Whole x → (pool : List ℕ) → n .send ≡ length pool → Enqueueable m (x .queued) (f .queued) (f .outstanding) marks pool
-    unfolding countsFit
-    enqueueable w pool l =
-        let c = counts f a (p .counts-fit) in
-        record {
-          whole = w .whole-queued;
-          queued-most = c .queued;
-          outstanding-most = c .outstanding;
-          held-most = omega (arith, p .held, p .few);
-          low = p .low;
-          marks-whole = p .whole-marks;
-          marked = record { now = used; free = p .free; most = omega (arith, p .held) };
-          some = rw size (p .some);
-          word = rw size (p .word);
-          slots = rw (size, ← l) (p .long-enough);
-        }
+  module _ {n : Lengths} {marks : List ℕ} (p : Sendable n marks) {stream : Bool} {m : ℕ} (mode : stream ≡ isStream s) (size : m ≡ mss s)
+    where
+      pub enqueueable : Whole x → (pool : List ℕ) → n .send ≡ length pool
+          → Enqueueable m (x .queued) (f .queued) (f .outstanding) marks pool
+      unfolding countsFit
+      enqueueable w pool l =
+          let c = counts f a (p .counts-fit) in
+          record {
+            whole = w .whole-queued;
+            queued-most = c .queued;
+            outstanding-most = c .outstanding;
+            held-most = omega (arith, p .held, p .few);
+            low = p .low;
+            marks-whole = p .whole-marks;
+            marked = record { now = used; free = p .free; most = omega (arith, p .held) };
+            some = rw size (p .some);
+            word = rw size (p .word);
+            slots = rw (size, ← l) (p .long-enough);
+          }
 
-    parts : PartsOf (stateOf link rs acks) stream m (x .queued) (f .queued) (f .outstanding) marks
-    unfolding stateOf
-    parts = record { mode = sym mode; size = sym size; queue = refl; held = p .held; free = p .free }
+      parts : PartsOf (stateOf link rs acks) stream m (x .queued) (f .queued) (f .outstanding) marks
+      unfolding stateOf
+      parts = record { mode = sym mode; size = sym size; queue = refl; held = p .held; free = p .free }
 
   counted : (c : ℕ) (q : List ℕ) → c ≤ 128 → countsFit link ≡ true → countsFit (linkOf s (withCount f c) a k (withWords x q)) ≡ true
   unfolding countsFit
@@ -177,25 +200,31 @@ module _ (s : Settings) (f : Flight) (a : Arrival) (k : Clock) (x : Arrays) (rs 
       let n = counts f a e in
       rw (le-leb _ _ h, le-leb _ _ (n .outstanding), le-leb _ _ (n .ready), le-leb _ _ (n .waiting), le-leb _ _ (n .acks))
 
-  after-state : (c : ℕ) (q : List ℕ) → stateOf (linkOf s (withCount f c) a k (withWords x q)) rs acks ≡ withQueued (stateOf link rs acks) (heldIn q c)
+  after-state : (c : ℕ) (q : List ℕ)
+      → stateOf (linkOf s (withCount f c) a k (withWords x q)) rs acks ≡ withQueued (stateOf link rs acks) (heldIn q c)
   unfolding stateOf
   after-state c q = refl
 
-  put-back : (pool m pool′ q : List ℕ) (e : Enqueued) (o : Outcome Sends) → sending (stateOf link rs acks) pool m ≡ o → Follows o (x .queued) (f .queued) pool e q pool′ → countsFit link ≡ true
+  put-back : (pool m pool′ q : List ℕ) (e : Enqueued) (o : Outcome Sends) → sending (stateOf link rs acks) pool m ≡ o
+      → Follows o (x .queued) (f .queued) pool e q pool′ → countsFit link ≡ true
       → SendCore o link rs acks pool (e .answer) (linkOf s (withCount f (e .queued)) a k (withWords x q)) pool′
   put-back pool m pool′ q e (refused r) i h c = (h .answer, rw (h .count, h .list) refl, h .pool-same)
   put-back pool m pool′ q e (done y) i h c =
       record {
         answer = h .answer;
         counts = counted (e .queued) q (h .fits) c;
-        state = after-state (e .queued) q ∙ ap (withQueued (stateOf link rs acks)) (h .list) ∙ sym (queued-alone (stateOf link rs acks) pool m y i);
+        state = after-state (e .queued) q ∙ ap (withQueued (stateOf link rs acks)) (h .list) ∙ sym
+            (queued-alone (stateOf link rs acks) pool m y i);
         slots = refl;
         pool = h .pool;
       }
 
   -- what sending past the checks gives, as the block
-  pub sent : {n : Lengths} {marks : List ℕ} (p : Sendable n marks) (stream : Bool) (m : ℕ) → stream ≡ isStream s → m ≡ mss s → (pool message : List ℕ) (r : Sent) (q pool′ : List ℕ) → Enqueues stream m f (x .queued) marks pool message r q pool′
-      → SendCore (sending (stateOf link rs acks) pool message) link rs acks pool (r .answer) (linkOf s (r .flight) a k (withWords x q)) pool′
+  pub sent : {n : Lengths} {marks : List ℕ} (p : Sendable n marks) (stream : Bool) (m : ℕ) → stream ≡ isStream s → m ≡ mss s
+      → (pool message : List ℕ) (r : Sent) (q pool′ : List ℕ) → Enqueues stream m f (x .queued) marks pool message r q pool′
+      → SendCore (sending (stateOf link rs acks) pool message) link rs acks pool (r .answer) (linkOf s (r .flight) a k (withWords x q))
+      pool′
   sent p stream m mode size pool message r q pool′ h =
       let e : Enqueued = record { answer = r .answer; queued = r .flight .queued } in
-      rw (h .count-alone) (put-back pool message pool′ q e (sending (stateOf link rs acks) pool message) refl (h .follows (stateOf link rs acks) (parts p mode size)) (p .counts-fit))
+      rw (h .count-alone) (put-back pool message pool′ q e (sending (stateOf link rs acks) pool message) refl
+      (h .follows (stateOf link rs acks) (parts p mode size)) (p .counts-fit))

@@ -30,12 +30,14 @@ withCount f n =
     }
 
 -- of the numbers the count alone changes, and with the list and the pool it is what sending gives
-pub record Enqueues (stream : Bool) (m : ℕ) (f : Flight) (queued marks pool message : List ℕ) (r : Sent) (queued′ pool′ : List ℕ) : Type 0 where
-  pub count-alone : r .flight ≡ withCount f (r .flight .queued)
-  pub follows : (s : State) → PartsOf s stream m queued (f .queued) (f .outstanding) marks
-      → Follows (sending s pool message) queued (f .queued) pool (record { answer = r .answer; queued = r .flight .queued }) queued′ pool′
+pub record Enqueues (stream : Bool) (m : ℕ) (f : Flight) (queued marks pool message : List ℕ) (r : Sent) (queued′ pool′ : List ℕ) : Type 0
+  where
+    pub count-alone : r .flight ≡ withCount f (r .flight .queued)
+    pub follows : (s : State) → PartsOf s stream m queued (f .queued) (f .outstanding) marks
+        → Follows (sending s pool message) queued (f .queued) pool (record { answer = r .answer; queued = r .flight .queued }) queued′ pool′
 
 -- by the block before and after it
 abbrev pub SendLeaves : Link → List Record → ℕ → List ℕ → List ℕ → List ℕ → List ℕ → Answer → Link → List ℕ → Type 0
 SendLeaves l records table sendPool receivePool acks message a l′ sendPool′ =
-    SendCore (sendsWith l records acks (lentLengths table sendPool receivePool acks) sendPool message) l records acks sendPool a l′ sendPool′
+    SendCore (sendsWith l records acks (lentLengths table sendPool receivePool acks) sendPool message) l records acks sendPool a l′
+    sendPool′

@@ -54,8 +54,10 @@ module _ {A : Type 0} (offset : A → ℕ) where
       Ascends least limit l
   rising-ascends least limit [] a from = tt
   rising-ascends least limit (x ∷ l) a from =
-      let rest : Ascending offset limit l = record { rising = λ i j h k. a .rising (suc i) (suc j) (omega arith) (omega arith); below = a .below .1 } in
-      let above : (i : ℕ) → i < length (map offset l) → offset x + 1 ≤ getD (map offset l) i 0 = λ i h. omega (arith, a .rising 0 (suc i) (omega arith) (omega arith)) in
+      let rest : Ascending offset limit l =
+      record { rising = λ i j h k. a .rising (suc i) (suc j) (omega arith) (omega arith); below = a .below .1 } in
+      let above : (i : ℕ) → i < length (map offset l) → offset x + 1 ≤ getD (map offset l) i 0 =
+      λ i h. omega (arith, a .rising 0 (suc i) (omega arith) (omega arith)) in
       (from 0 (omega arith), a .below .0, rising-ascends (offset x + 1) limit l rest above)
 
   pub ascends-ascending : (limit : ℕ) (l : List A) → Ascends 0 limit l → Ascending offset limit l

@@ -1,14 +1,13 @@
 -- Whole calls, and lists of them: what a station with its lent parts answers, and what it is afterwards.
 -- Assumes nothing.
-use mathlib.Core.Bool.{Bool, cond}
+use mathlib.Core.Bool.{Bool}
 use mathlib.Core.List.{List, [], _∷_, _++_, map}
 use Prim.Native.Nat.{ℕ}
 use lib.ListN.{length}
 use Rattle.protocol.specs.Ranges.{mss}
 use Rattle.protocol.specs.declared.Refusal.{Refusal}
-use Rattle.protocol.specs.declared.Refusal.the-variants.{ShortPart, InvalidBlock}
 use Rattle.datagram.specs.Datagrams.{Segment}
-use Rattle.session.specs.State.{State, Outcome}
+use Rattle.session.specs.State.{State, Outcome, admitted}
 use Rattle.sizes.specs.Sizes.{enough, enoughToFlush}
 use Rattle.sizes.specs.declared.Lengths.{Lengths}
 use Rattle.session.specs.Valid.{valid}
@@ -46,41 +45,44 @@ pub data Call : Type 0 where
   -- name the time at which the next update is wanted
   check : ℕ → Call
 
-pub data Answer : Type 0 where
-  refused : Refusal → Answer
+-- what the caller sees of a call
+pub data Reply : Type 0 where
+  refused : Refusal → Reply
   -- a message sent, or a datagram taken in
-  accepted : Answer
+  accepted : Reply
   -- a flush's datagrams, or those of an update that flushes
-  wrote : List (List ℕ) → Answer
+  wrote : List (List ℕ) → Reply
   -- the message read
-  message : List ℕ → Answer
+  message : List ℕ → Reply
   -- an update that does not flush
-  waited : Answer
+  waited : Reply
   -- the time that a check names
-  named : ℕ → Answer
+  named : ℕ → Reply
 
 -- a station after a call, and the call's answer
 pub record Stepped : Type 0 where
   pub station : Station
-  pub answer : Answer
+  pub answer : Reply
 
 abbrev pub lengthsOf : Station → Lengths
 lengthsOf s = record { send = length (s .sendPool); receive = length (s .receivePool); table = s .lent .table; acks = s .lent .ackList }
 
--- every call but opening checks the lent sizes (7), then the control block (13)
-abbrev pub checked : Bool → Bool → Stepped → Station → Stepped
-checked long made own s =
-    cond long
-    (cond made own (record { station = s; answer = Answer.refused InvalidBlock }))
-    (record { station = s; answer = Answer.refused ShortPart })
+-- a refused call leaves the station as it was
+abbrev pub refusedStep : Station → Refusal → Stepped
+refusedStep s r = record { station = s; answer = Reply.refused r }
 
 abbrev pub afterSend : Station → Outcome Sends → Stepped
-afterSend s (Outcome.refused r) = record { station = s; answer = Answer.refused r }
-afterSend s (Outcome.done x) = record { station = record { state = x .state; sendPool = x .pool; receivePool = s .receivePool; lent = s .lent }; answer = accepted }
+afterSend s (Outcome.refused r) = refusedStep s r
+afterSend s (Outcome.done x) = record {
+  station = record
+      { state = x .state; sendPool = x .pool; receivePool = s .receivePool; lent = s .lent };
+  answer = accepted;
+}
 
 abbrev pub afterTakeIn : Station → Outcome Took → Stepped
-afterTakeIn s (Outcome.refused r) = record { station = s; answer = Answer.refused r }
-afterTakeIn s (Outcome.done x) = record { station = record { state = x .state; sendPool = s .sendPool; receivePool = x .pool; lent = s .lent }; answer = accepted }
+afterTakeIn s (Outcome.refused r) = refusedStep s r
+afterTakeIn s (Outcome.done x) =
+    record { station = record { state = x .state; sendPool = s .sendPool; receivePool = x .pool; lent = s .lent }; answer = accepted }
 
 abbrev pub afterFlush : Station → Flushed → Stepped
 afterFlush s x =
@@ -90,8 +92,12 @@ afterFlush s x =
     }
 
 abbrev pub afterReading : Station → Outcome Reads → Stepped
-afterReading s (Outcome.refused r) = record { station = s; answer = Answer.refused r }
-afterReading s (Outcome.done x) = record { station = record { state = x .state; sendPool = s .sendPool; receivePool = s .receivePool; lent = s .lent }; answer = message (x .bytes) }
+afterReading s (Outcome.refused r) = refusedStep s r
+afterReading s (Outcome.done x) =
+    record {
+      station = record { state = x .state; sendPool = s .sendPool; receivePool = s .receivePool; lent = s .lent };
+      answer = message (x .bytes);
+    }
 
 abbrev pub afterUpdate : Station → Updates → Stepped
 afterUpdate s (waits x) =
@@ -117,14 +123,14 @@ longEnough s (update t) = enoughToFlush (mss (s .state .settings)) (lengthsOf s)
 longEnough s (check t) = enough (mss (s .state .settings)) (lengthsOf s)
 
 unfoldable pub step : Station → Call → Stepped
-step s x = checked (longEnough s x) (valid (s .state)) (own s x) s
+step s x = admitted (refusedStep s) (longEnough s x) (valid (s .state)) (own s x)
 
 -- ---- lists of calls
 
 -- a call with its answer
 pub record Event : Type 0 where
   pub call : Call
-  pub answer : Answer
+  pub answer : Reply
 
 -- the calls of a list with their answers: each gets the station as the last one left it
 unfoldable pub history : Station → List Call → List Event
@@ -137,9 +143,9 @@ after s [] = s
 after s (x ∷ xs) = after (step s x .station) xs
 
 -- the sends not refused make the accepted list
-abbrev pub acceptedBy : Call → Answer → List (List ℕ)
+abbrev pub acceptedBy : Call → Reply → List (List ℕ)
 acceptedBy (send m) accepted = m ∷ []
-acceptedBy (send m) (Answer.refused r) = []
+acceptedBy (send m) (Reply.refused r) = []
 acceptedBy (send m) (wrote ds) = []
 acceptedBy (send m) (message b) = []
 acceptedBy (send m) waited = []
@@ -155,10 +161,10 @@ acceptedList [] = []
 acceptedList (e ∷ es) = acceptedBy (e .call) (e .answer) ++ acceptedList es
 
 -- its datagrams are its flushes' output
-abbrev pub datagramsIn : Answer → List (List ℕ)
+abbrev pub datagramsIn : Reply → List (List ℕ)
 datagramsIn (wrote ds) = ds
 datagramsIn accepted = []
-datagramsIn (Answer.refused r) = []
+datagramsIn (Reply.refused r) = []
 datagramsIn (message b) = []
 datagramsIn waited = []
 datagramsIn (named t) = []
@@ -168,11 +174,11 @@ datagramsBy [] = []
 datagramsBy (e ∷ es) = datagramsIn (e .answer) ++ datagramsBy es
 
 -- the answers of the reads
-abbrev pub readAnswers : List Event → List Answer
+abbrev pub readAnswers : List Event → List Reply
 readAnswers [] = []
 readAnswers (e ∷ es) = ofRead (e .call) (e .answer) ++ readAnswers es
   where
-    ofRead : Call → Answer → List Answer
+    ofRead : Call → Reply → List Reply
     ofRead (read room) a = a ∷ []
     ofRead (send m) a = []
     ofRead (takeIn d) a = []
@@ -181,11 +187,11 @@ readAnswers (e ∷ es) = ofRead (e .call) (e .answer) ++ readAnswers es
     ofRead (check t) a = []
 
 -- the messages read
-unfoldable pub messagesRead : List Answer → List (List ℕ)
+unfoldable pub messagesRead : List Reply → List (List ℕ)
 messagesRead [] = []
 messagesRead (message b ∷ l) = b ∷ messagesRead l
 messagesRead (accepted ∷ l) = messagesRead l
-messagesRead (Answer.refused r ∷ l) = messagesRead l
+messagesRead (Reply.refused r ∷ l) = messagesRead l
 messagesRead (wrote ds ∷ l) = messagesRead l
 messagesRead (waited ∷ l) = messagesRead l
 messagesRead (named t ∷ l) = messagesRead l

@@ -10,7 +10,18 @@ use Rattle.protocol.specs.declared.Settings.{Settings}
 use Rattle.datagram.specs.Datagrams.{Segment}
 use Rattle.timing.specs.Probes.{nextClock}
 use Rattle.timing.specs.RoundTrips.{sampled, nextSmoothed, nextVariation, leastTimeout, timeoutOf}
-use Rattle.congestion.specs.Congestions.{usedWindow, slowStart, limited, grown, afterDatagram, halved, bySkips, byTimeout, atLeastOne, afterFlush}
+use Rattle.congestion.specs.Congestions.{
+  usedWindow,
+  slowStart,
+  limited,
+  grown,
+  afterDatagram,
+  halved,
+  bySkips,
+  byTimeout,
+  atLeastOne,
+  afterFlush,
+}
 use Rattle.congestion.specs.declared.Congestion.{Congestion}
 use Rattle.retransmission.specs.Transmissions.{firstDue, growth, longerTimeout, isSkipped, transmission}
 use Rattle.lists.specs.declared.Held.{Held}
@@ -65,19 +76,29 @@ first-off = refl
 
 -- growth is once a datagram: two acks in one that moved snd_una, and a datagram that did not move it
 once : told (heard (flushed (fresh 0) 0) (0 ∷ 1 ∷ [])) ≡ 1 ∷ 2 ∷ 2 ∷ 52 ∷ []
-unfolding flushed heard opened flushing usedWindow numberedCount withNumbered numbered transmission isDue signed firstDue atLeastOne afterFlush input.applied input.allBySending input.heardBySending input.acknowledged input.sampledBy select skipBefore firstNumberOr isAfter isBefore input.ackNumbers input.furthest input.skipped sampled nextSmoothed nextVariation leastTimeout timeoutOf afterDatagram grown slowStart limited
+unfolding flushed heard opened flushing usedWindow numberedCount withNumbered numbered transmission isDue signed firstDue atLeastOne
+    afterFlush input.applied input.allBySending input.heardBySending input.acknowledged input.sampledBy select skipBefore firstNumberOr
+    isAfter isBefore input.ackNumbers input.furthest input.skipped sampled nextSmoothed nextVariation leastTimeout timeoutOf afterDatagram
+    grown slowStart limited
 once = refl
 
 unmoved : told (heard (flushed (fresh 0) 0) (1 ∷ 2 ∷ [])) ≡ 1 ∷ 1 ∷ 2 ∷ 26 ∷ []
-unfolding flushed heard opened flushing usedWindow numberedCount withNumbered numbered transmission isDue signed firstDue atLeastOne afterFlush input.applied input.allBySending input.heardBySending input.acknowledged input.sampledBy select skipBefore firstNumberOr isAfter isBefore input.ackNumbers input.furthest input.skipped sampled nextSmoothed nextVariation leastTimeout timeoutOf afterDatagram grown slowStart limited
+unfolding flushed heard opened flushing usedWindow numberedCount withNumbered numbered transmission isDue signed firstDue atLeastOne
+    afterFlush input.applied input.allBySending input.heardBySending input.acknowledged input.sampledBy select skipBefore firstNumberOr
+    isAfter isBefore input.ackNumbers input.furthest input.skipped sampled nextSmoothed nextVariation leastTimeout timeoutOf afterDatagram
+    grown slowStart limited
 unmoved = refl
 
 -- loss by skips counts what is in flight when the flush has numbered: 0 is skipped, and with 5 more numbers 8 are in flight
 skips : told (flushed (withQueued (heard (flushed (fresh 0) 0) (2 ∷ [])) (queue 5)) 1) ≡ 7 ∷ 5 ∷ 4 ∷ 130 ∷ []
-unfolding flushed heard opened flushing usedWindow numberedCount withNumbered numbered transmission isDue isSkipped signed firstDue atLeastOne afterFlush bySkips halved input.applied input.allBySending input.heardBySending input.acknowledged input.sampledBy select skipBefore firstNumberOr isAfter isBefore input.ackNumbers input.furthest input.skipped sampled nextSmoothed nextVariation leastTimeout timeoutOf afterDatagram
+unfolding flushed heard opened flushing usedWindow numberedCount withNumbered numbered transmission isDue isSkipped signed firstDue
+    atLeastOne afterFlush bySkips halved input.applied input.allBySending input.heardBySending input.acknowledged input.sampledBy select
+    skipBefore firstNumberOr isAfter isBefore input.ackNumbers input.furthest input.skipped sampled nextSmoothed nextVariation leastTimeout
+    timeoutOf afterDatagram
 skips = refl
 
 -- loss by timeout halves the window used, here 32
 late : told (flushed (flushed (fresh 0) 0) 200) ≡ 3 ∷ 1 ∷ 16 ∷ 26 ∷ []
-unfolding flushed opened flushing usedWindow numberedCount withNumbered numbered transmission isDue signed firstDue growth longerTimeout atLeastOne afterFlush byTimeout halved
+unfolding flushed opened flushing usedWindow numberedCount withNumbered numbered transmission isDue signed firstDue growth longerTimeout
+    atLeastOne afterFlush byTimeout halved
 late = refl

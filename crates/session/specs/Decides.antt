@@ -49,6 +49,7 @@ and-decides {a} {b} p q = record {
 pub via : {b : Bool} {P Q : Type 0} → Decides b P → (P → Q) → (Q → P) → Decides b Q
 via d f g = record { holds = λ e. f (d .holds e); passes = λ x. d .passes (g x) }
 
-pub all-decides : {A : Type 0} (test : A → Bool) (P : A → Type 0) → ((x : A) → Decides (test x) (P x)) → (l : List A) → Decides (all test l) (All P l)
+pub all-decides : {A : Type 0} (test : A → Bool) (P : A → Type 0) → ((x : A) → Decides (test x) (P x)) → (l : List A)
+    → Decides (all test l) (All P l)
 all-decides test P d [] = record { holds = λ e. tt; passes = λ x. refl }
 all-decides test P d (x ∷ l) = and-decides (d x) (all-decides test P d l)

@@ -14,7 +14,8 @@ use Rattle.session.specs.State.{slots}
 use Rattle.session.specs.Sending.{Filled, lengthened, fillLast, filled}
 
 -- message mode fills nothing
-pub fill-off : (stream : Bool) → stream ≡ false → (m : ℕ) (q : List Held) (pool b : List ℕ) → filled stream m q pool b ≡ record { queued = q; pool = pool; rest = b }
+pub fill-off : (stream : Bool) → stream ≡ false → (m : ℕ) (q : List Held) (pool b : List ℕ)
+    → filled stream m q pool b ≡ record { queued = q; pool = pool; rest = b }
 unfolding filled
 fill-off false e m q pool b = refl
 fill-off true e m q pool b = absurd (true≢false e)
@@ -48,21 +49,24 @@ module _ (m : ℕ) (q : List Held) (pool b : List ℕ) where
 
   -- the same slots, so no segment is added
   pub filled-slots : (stream : Bool) → slots (filled stream m q pool b .queued) ≡ slots q
-  filled-slots = filled-cases (λ (f : Filled). slots (f .queued) ≡ slots q) refl (λ x l e. split (take (length q - 1) q) x _ l ∙ ap slots (whole (x ∷ l) e))
+  filled-slots = filled-cases (λ (f : Filled). slots (f .queued) ≡ slots q) refl
+      (λ x l e. split (take (length q - 1) q) x _ l ∙ ap slots (whole (x ∷ l) e))
     where
       whole : (l : List Held) → drop (length q - 1) q ≡ l → take (length q - 1) q ++ l ≡ q
       whole l e = ap (λ (l : List Held). take (length q - 1) q ++ l) (sym e) ∙ take-append-drop (length q - 1) q
 
-      split : (a : List Held) (x : Held) (n : ℕ) (l : List Held) → slots (a ++ (record { slot = x .slot; len = n; fragment = 0 } ∷ l)) ≡ slots (a ++ (x ∷ l))
+      split : (a : List Held) (x : Held) (n : ℕ) (l : List Held)
+          → slots (a ++ (record { slot = x .slot; len = n; fragment = 0 } ∷ l)) ≡ slots (a ++ (x ∷ l))
       split [] x n l = refl
       split (h ∷ a) x n l = ap {B = List ℕ} (λ (r : List ℕ). h .slot ∷ r) (split a x n l)
 
   pub filled-queue : (stream : Bool) → length (filled stream m q pool b .queued) ≡ length q
-  filled-queue stream = sym (length-map (filled stream m q pool b .queued) (λ (h : Held). h .slot)) ∙ ap length (filled-slots stream) ∙ length-map q (λ (h : Held). h .slot)
+  filled-queue stream = sym (length-map (filled stream m q pool b .queued) (λ (h : Held). h .slot)) ∙ ap length
+      (filled-slots stream) ∙ length-map q (λ (h : Held). h .slot)
 
   -- the pool keeps its length
   pub filled-length : (stream : Bool) → length (filled stream m q pool b .pool) ≡ length pool
-  filled-length = filled-cases (λ (f : Filled). length (f .pool) ≡ length pool) refl (λ x l e. length-sets pool (x .slot * m + x .len) (take (min (length b) (m - x .len)) b))
+  filled-length = filled-cases (λ (f : Filled). length (f .pool) ≡ length pool) refl (λ x l e. simp length-sets)
 
   -- the bytes left are those behind the filled ones
   pub filled-rest : (stream : Bool) → filled stream m q pool b .rest ≡ drop (min (length b) (roomOf stream m q)) b

@@ -183,18 +183,20 @@ pub record Flushed : Type 0 where
   pub state : State
   pub datagrams : List (List Segment)
 
+-- in the order of document 01: queued segments are numbered, the rule is used on each outstanding one, the probe clock is moved on before
+-- anything is written; then acks, ask, tell and data are packed, and acks and both wishes are cleared
 unfoldable pub flushing : State → ℕ → List ℕ → Flushed
 flushing s t pool =
     let c = s .settings in
     let d = s .sending in
-    let r = s .receiving in
     let k = numberedCount (windowOf s) d in
     let before = withNumbered d k in
+    let after = map (sentAfter c (d .roundTrip .timeout) t) before in
     let sent = transmittedNow c (d .roundTrip .timeout) t before in
     let probed = nextClock (s .probe) t (d .window) in
     record {
-      state =
-          afterFlushing s (withNumbers d (plus (d .next) k) (drop k (d .queued)) (map (sentAfter c (d .roundTrip .timeout) t) before))
-          (withNotes r [] false) (probed .clock) t (afterFlush (s .congestion) (mss c) (lossesOf s t)) (s .dead || someDead sent);
       datagrams = packed (c .mtu) (written s t pool (s .ask || probed .ask) sent);
+      state =
+          afterFlushing s (withNumbers d (plus (d .next) k) (drop k (d .queued)) after) (withNotes (s .receiving) [] false)
+          (probed .clock) t (afterFlush (s .congestion) (mss c) (lossesOf s t)) (s .dead || someDead sent);
     }

@@ -26,7 +26,22 @@ use Rattle.lists.specs.Receiving.{advance}
 use Rattle.lists.specs.Acknowledging.{removed, firstNumberOr, skipBefore}
 use Rattle.lists.specs.Acknowledging as rule
 use Rattle.session.specs.Slots.{lowestFree}
-use Rattle.session.specs.State.{State, Sending, Receiving, Ack, Outcome, receiveHeld, slots, withOutstanding, withWindow, withRoundTrip, withLists, withNotes, withHalves, withCongestion}
+use Rattle.session.specs.State.{
+  State,
+  Sending,
+  Receiving,
+  Ack,
+  Outcome,
+  receiveHeld,
+  slots,
+  withOutstanding,
+  withWindow,
+  withRoundTrip,
+  withLists,
+  withNotes,
+  withHalves,
+  withCongestion,
+}
 
 -- ---- the sending half
 

@@ -65,7 +65,8 @@ valid-decides s =
     via
     (and-decides
     (and-decides
-    (and-decides (and-decides (settings-decide (s .settings)) (sending-decides (s .settings) (s .sending))) (receiving-decides (s .settings) (s .receiving)))
+    (and-decides (and-decides (settings-decide (s .settings)) (sending-decides (s .settings) (s .sending)))
+    (receiving-decides (s .settings) (s .receiving)))
     (probe-decides (s .probe)))
     (congestion-decides (mss (s .settings)) (s .congestion)))
     (λ x. record { settings = x .0 .0 .0 .0; sending = x .0 .0 .0 .1; receiving = x .0 .0 .1; probe = x .0 .1; congestion = x .1 })

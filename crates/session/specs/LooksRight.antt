@@ -21,13 +21,32 @@ use Rattle.lists.specs.Acknowledging.{select, firstNumberOr, skipBefore}
 use Rattle.session.specs.Slots.{occurs, lowestFrom, lowestFree}
 use Rattle.session.specs.State.{Sending, Receiving, Outcome, withNumbers, withLists, withNotes, withSending}
 use Rattle.session.specs.Opening.{opened}
-use Rattle.session.specs.Input.{Receiver, Took, acknowledged, applied, allByReceiving, heardByReceiving, sampledBy, heardBySending, allBySending, ackNumbers, furthest, skipped, skippedByAll, pushed, input}
+use Rattle.session.specs.Input.{
+  Receiver,
+  Took,
+  acknowledged,
+  applied,
+  allByReceiving,
+  heardByReceiving,
+  sampledBy,
+  heardBySending,
+  allBySending,
+  ackNumbers,
+  furthest,
+  skipped,
+  skippedByAll,
+  pushed,
+  input,
+}
 
 abbrev small : Settings
 small = record { conv = 1; mtu = 50; interval = 100; mode = 0; threshold = 0; stream = 0; congestion = 0 }
 
 abbrev segment : ℕ → ℕ → ℕ → Segment
-segment cmd fragment sn = record { header = record { conv = 1; cmd = cmd; frg = fragment; wnd = 128; ts = 0; sn = sn; una = 0; len = 0 }; payload = [] }
+segment cmd fragment sn = record {
+  header = record { conv = 1; cmd = cmd; frg = fragment; wnd = 128; ts = 0; sn = sn; una = 0; len = 0 };
+  payload = [];
+}
 
 -- ---- comparing sn as plain numbers
 
@@ -48,7 +67,11 @@ kept-past-last = (refl, refl, refl, refl)
 -- ---- a skip per ack
 
 abbrev sentAs : ℕ → Sent
-sentAs n = record { held = record { slot = n; len = 0; fragment = 0 }; transmissions = 1; «record» = record { number = n; due = 0; timeout = 100; skips = 0 } }
+sentAs n = record {
+  held = record { slot = n; len = 0; fragment = 0 };
+  transmissions = 1;
+  «record» = record { number = n; due = 0; timeout = 100; skips = 0 };
+}
 
 -- outstanding 0 to 3
 abbrev four : Sending
@@ -68,7 +91,8 @@ skipsAfter l = map (λ (x : Sent). x .record .skips) (afterAcks four l .outstand
 
 -- one datagram with acks 1 and 2 gives segment 0 one skip; two datagrams give two
 pub skips : (skipsAfter ((1 ∷ 2 ∷ []) ∷ []) ≡ 1 ∷ 0 ∷ []) × (skipsAfter ((1 ∷ []) ∷ (2 ∷ []) ∷ []) ≡ 2 ∷ 0 ∷ [])
-unfolding afterAcks acknowledged sampledBy heardBySending allBySending ackNumbers furthest skipped select firstNumberOr skipBefore signed isBefore isAfter isDue sampled nextSmoothed nextVariation leastTimeout timeoutOf opened
+unfolding afterAcks acknowledged sampledBy heardBySending allBySending ackNumbers furthest skipped select firstNumberOr skipBefore signed
+    isBefore isAfter isDue sampled nextSmoothed nextVariation leastTimeout timeoutOf opened
 skips = (refl, refl)
 
 -- ---- a peer that acknowledges what was never sent
@@ -83,14 +107,16 @@ afterAhead =
     applied (withSending (opened small) four) (replicate 52 0) (g ∷ [])
 
 -- nothing is removed
-pub none-removed : (map (λ (x : Sent). x .record .number) (afterAhead .state .sending .outstanding) ≡ 0 ∷ 1 ∷ 2 ∷ 3 ∷ []) × (afterAhead .state .sending .una ≡ 0)
+pub none-removed : (map (λ (x : Sent). x .record .number) (afterAhead .state .sending .outstanding) ≡ 0 ∷ 1 ∷ 2 ∷ 3 ∷ []) ×
+    (afterAhead .state .sending .una ≡ 0)
 unfolding afterAhead applied acknowledged heardBySending allBySending ackNumbers opened select firstNumberOr signed isAfter
 none-removed = (refl, refl)
 
 -- the rest is taken as ever: its window, its payload, and the ack for it
 pub rest-taken : (afterAhead .state .sending .window ≡ 7) × (take 2 (afterAhead .pool) ≡ 104 ∷ 105 ∷ [])
     × (length (afterAhead .state .receiving .ready) ≡ 1) × (afterAhead .state .receiving .acks ≡ record { sn = 0; ts = 5 } ∷ [])
-unfolding afterAhead applied heardBySending allBySending allByReceiving heardByReceiving ackNumbers opened acknowledged pushed insert isHeld advance lowestFree lowestFrom occurs signed isBefore isAfter select
+unfolding afterAhead applied heardBySending allBySending allByReceiving heardByReceiving ackNumbers opened acknowledged pushed insert isHeld
+    advance lowestFree lowestFrom occurs signed isBefore isAfter select
 rest-taken = (refl, refl, refl, refl)
 
 -- ---- refusing data when the ack list is full
@@ -109,6 +135,7 @@ still-taken = (refl, refl, refl)
 -- ---- applying segments until the bad one
 
 -- a good push, and one with fragment number 127 behind it: refused whole
-pub refused-whole : input (opened small) [] (encode (segment push 0 0 .header) ++ encode (segment push 127 1 .header)) ≡ Outcome.refused HighFragment
+pub refused-whole : input (opened small) [] (encode (segment push 0 0 .header) ++ encode (segment push 127 1 .header)) ≡ Outcome.refused
+    HighFragment
 unfolding input opened parse walk tail verdict segmentOf encode front back decode bytesOf numberAt
 refused-whole = refl

@@ -30,7 +30,19 @@ use Rattle.session.specs.State.{State, Sending, Receiving, Ack, Outcome,
 use Rattle.session.specs.Opening.{opened}
 use Rattle.session.specs.Cutting.{fragmentCount, segmentCount, pieces, cut, cutAs}
 use Rattle.session.specs.Sending.{Sends, sending, place, Placed, filled}
-use Rattle.session.specs.Flushing.{Flushed, flushing, numberedCount, withNumbered, numbered, transmittedNow, written, packed, packOne, bytesOfSegment, bytesOfSegments}
+use Rattle.session.specs.Flushing.{
+  Flushed,
+  flushing,
+  numberedCount,
+  withNumbered,
+  numbered,
+  transmittedNow,
+  written,
+  packed,
+  packOne,
+  bytesOfSegment,
+  bytesOfSegments,
+}
 use Rattle.session.specs.Input.{Receiver, pushed}
 
 -- whether a flush sends a segment, and when the segment is due then
@@ -65,7 +77,8 @@ hi =
     }
 
 abbrev hi-bytes : List ℕ
-hi-bytes = 0x01 ∷ 0x00 ∷ 0x00 ∷ 0x00 ∷ 0x51 ∷ 0x00 ∷ 0x80 ∷ 0x00 ∷ 0x00 ∷ 0x00 ∷ 0x00 ∷ 0x00 ∷ 0x00 ∷ 0x00 ∷ 0x00 ∷ 0x00 ∷ 0x00 ∷ 0x00 ∷ 0x00 ∷ 0x00 ∷ 0x02 ∷ 0x00 ∷ 0x00 ∷ 0x00 ∷ 0x68 ∷ 0x69 ∷ []
+hi-bytes = 0x01 ∷ 0x00 ∷ 0x00 ∷ 0x00 ∷ 0x51 ∷ 0x00 ∷ 0x80 ∷ 0x00 ∷ 0x00 ∷ 0x00 ∷ 0x00 ∷ 0x00 ∷ 0x00 ∷ 0x00 ∷ 0x00 ∷ 0x00 ∷ 0x00 ∷ 0x00
+    ∷ 0x00 ∷ 0x00 ∷ 0x02 ∷ 0x00 ∷ 0x00 ∷ 0x00 ∷ 0x68 ∷ 0x69 ∷ []
 
 -- ---- C and D: mss 26
 
@@ -153,7 +166,8 @@ cases =
     -- E
     ∷ record {
       is = roundTrips (afterSamples small (opened small .sending .roundTrip) (50 ∷ 90 ∷ []));
-      wanted = roundTrips (record { smoothed = 50; variation = 25; timeout = 150 } ∷ record { smoothed = 55; variation = 28; timeout = 167 } ∷ []);
+      wanted = roundTrips (record { smoothed = 50; variation = 25; timeout = 150 } ∷ record { smoothed = 55; variation = 28; timeout = 167 }
+          ∷ []);
     }
     -- F
     ∷ record {
@@ -178,9 +192,15 @@ cases =
     ∷ record { is = received 127; wanted = noted (127 ∷ []) (record { sn = 127; ts = 7 } ∷ []) }
     ∷ record { is = received 128; wanted = noted [] [] }
     -- J
-    ∷ record { is = lengths (map (λ d. length (bytesOfSegments d)) (flushing withThreeAcks 0 [] .datagrams)); wanted = lengths (48 ∷ 24 ∷ []) }
+    ∷ record {
+      is = lengths (map (λ d. length (bytesOfSegments d)) (flushing withThreeAcks 0 [] .datagrams));
+      wanted = lengths (48 ∷ 24 ∷ []);
+    }
     ∷ []
 
 pub marked : map (λ (c : Case). c .is) cases ≡ map (λ (c : Case). c .wanted) cases
-unfolding cases encode front back decode bytesOf numberAt bytesOfSegments parse walk tail verdict segmentOf signed isBefore isAfter isDue opened fragmentCount segmentCount pieces cut cutAs filled sending place lowestFree lowestFrom occurs pushed insert isHeld advance flushing usedWindow numberedCount withNumbered numbered transmittedNow written packed packOne nextClock afterSamples afterFlushes waitsAt sampled nextSmoothed nextVariation leastTimeout timeoutOf transmission firstDue growth longerTimeout isSkipped longerWait
+unfolding cases encode front back decode bytesOf numberAt bytesOfSegments parse walk tail verdict segmentOf signed isBefore isAfter isDue
+    opened fragmentCount segmentCount pieces cut cutAs filled sending place lowestFree lowestFrom occurs pushed insert isHeld advance
+    flushing usedWindow numberedCount withNumbered numbered transmittedNow written packed packOne nextClock afterSamples afterFlushes
+    waitsAt sampled nextSmoothed nextVariation leastTimeout timeoutOf transmission firstDue growth longerTimeout isSkipped longerWait
 marked = refl

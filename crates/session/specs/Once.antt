@@ -54,12 +54,16 @@ pub distinct-once : (l : List ℕ) → Distinct l → Once l
 distinct-once [] d i j hi hj e = absurd (omega arith)
 distinct-once (x ∷ l) d zero zero hi hj e = refl
 distinct-once (x ∷ l) d (suc i) (suc j) hi hj e = ap suc (distinct-once l (d .1) i j (omega arith) (omega arith) e)
-distinct-once (x ∷ l) d zero (suc j) hi hj e = absurd (true≢false (sym (at-occurs l j (omega arith)) ∙ ap (λ (n : ℕ). occurs n l) (sym e) ∙ d .0))
+distinct-once (x ∷ l) d zero (suc j) hi hj e =
+    absurd (true≢false (sym (at-occurs l j (omega arith)) ∙ ap (λ (n : ℕ). occurs n l) (sym e) ∙ d .0))
 distinct-once (x ∷ l) d (suc i) zero hi hj e = absurd (true≢false (sym (at-occurs l i (omega arith)) ∙ ap (λ (n : ℕ). occurs n l) e ∙ d .0))
 
 pub once-distinct : (l : List ℕ) → Once l → Distinct l
 once-distinct [] o = tt
-once-distinct (x ∷ l) o = (apart (occurs x l) refl, once-distinct l (λ i j hi hj e. rest i j (o (suc i) (suc j) (omega arith) (omega arith) e)))
+once-distinct (x ∷ l) o = (
+  apart (occurs x l) refl,
+  once-distinct l (λ i j hi hj e. rest i j (o (suc i) (suc j) (omega arith) (omega arith) e)),
+)
   where
     rest : (i j : ℕ) → suc i ≡ suc j → i ≡ j
     rest i j e = omega arith

@@ -16,7 +16,14 @@ unfoldable pub opened : Settings → State
 opened c =
     record {
       settings = c;
-      sending = record { una = 0; next = 0; queued = []; outstanding = []; window = receiveWindow; roundTrip = record { smoothed = 0; variation = 0; timeout = timeoutFirst } };
+      sending = record {
+        una = 0;
+        next = 0;
+        queued = [];
+        outstanding = [];
+        window = receiveWindow;
+        roundTrip = record { smoothed = 0; variation = 0; timeout = timeoutFirst };
+      };
       receiving = record { next = 0; ready = []; waiting = []; acks = []; tell = false };
       probe = record { wait = 0; due = 0 };
       current = 0;

@@ -51,7 +51,8 @@ abbrev Fragment : Held → Type 0
 Fragment h = h .fragment ≤ fragmentMost
 
 held-decide : (m : ℕ) (l : List Held) → Decides (all (heldFits m) l) (All (λ (h : Held). Short m h × Fragment h) l)
-held-decide m = all-decides (heldFits m) (λ (h : Held). Short m h × Fragment h) (λ h. and-decides (leb-decides (h .len) m) (leb-decides (h .fragment) fragmentMost))
+held-decide m = all-decides (heldFits m) (λ (h : Held). Short m h × Fragment h)
+    (λ h. and-decides (leb-decides (h .len) m) (leb-decides (h .fragment) fragmentMost))
 
 starts-decides : (n : ℕ) (l : List Waiting) → Decides (startsAt n l) (StartsAt n l)
 unfolding startsAt
@@ -100,7 +101,10 @@ receiving-decides c r =
     })
     (λ v. (
       (
-        (((all-both (Short (mss c)) Fragment held (v .lengths) (v .fragments), (v .slots-below, v .slots-once)), v .few-ready), v .ascending),
+        (
+          ((all-both (Short (mss c)) Fragment held (v .lengths) (v .fragments), (v .slots-below, v .slots-once)), v .few-ready),
+          v .ascending,
+        ),
         v .settles,
       ),
       v .few-acks,

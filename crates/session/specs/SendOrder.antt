@@ -23,12 +23,14 @@ module _ {A : Type 0} (offset : A → ℕ) where
   from-lower least other limit [] h a = tt
   from-lower least other limit (x ∷ l) h a = (omega (arith, a .0), a .1, a .2)
 
-  pub ascends-select : (test : A → Bool) (least limit : ℕ) (l : List A) → Ascends offset least limit l → Ascends offset least limit (select test l)
+  pub ascends-select : (test : A → Bool) (least limit : ℕ) (l : List A) → Ascends offset least limit l
+      → Ascends offset least limit (select test l)
   unfolding select
   ascends-select test least limit [] a = tt
   ascends-select test least limit (x ∷ l) a = go (test x) (ascends-select test (offset x + 1) limit l (a .2))
     where
-      go : (b : Bool) → Ascends offset (offset x + 1) limit (select test l) → Ascends offset least limit (cond b (x ∷ select test l) (select test l))
+      go : (b : Bool) → Ascends offset (offset x + 1) limit (select test l)
+          → Ascends offset least limit (cond b (x ∷ select test l) (select test l))
       go true i = (a .0, a .1, i)
       go false i = from-lower least (offset x + 1) limit (select test l) (omega (arith, a .0)) i
 
@@ -48,7 +50,8 @@ module _ {A : Type 0} (offset : A → ℕ) where
       Ascends offset seam limit b →
       Ascends offset least limit (a ++ b)
   ascends-append least seam limit [] b h k p q = from-lower least seam limit b h q
-  ascends-append least seam limit (x ∷ a) b h k p q = (p .0, omega (arith, p .1), ascends-append (offset x + 1) seam limit a b (omega (arith, p .1)) k (p .2) q)
+  ascends-append least seam limit (x ∷ a) b h k p q =
+      (p .0, omega (arith, p .1), ascends-append (offset x + 1) seam limit a b (omega (arith, p .1)) k (p .2) q)
 
   -- there are no more than the span has numbers
   pub ascends-length : (least limit : ℕ) (l : List A) → least ≤ limit → Ascends offset least limit l → least + length l ≤ limit
@@ -103,12 +106,15 @@ pub numbers-select : (test : Sent → Bool) (una next : ℕ) (l : List Sent) →
     Numbers una next l →
     Numbers (firstNumberOr (select test l) next) next (select test l)
 unfolding firstNumberOr
-numbers-select test una next l una32 next32 fit n = go (select test l) fit (ascends-select (sentOffset una) test 0 (minus next una) l (n .ascends))
+numbers-select test una next l una32 next32 fit n =
+    go (select test l) fit (ascends-select (sentOffset una) test 0 (minus next una) l (n .ascends))
   where
-    go : (left : List Sent) → All NumberFits left → Ascends (sentOffset una) 0 (minus next una) left → Numbers (firstNumberOr left next) next left
+    go : (left : List Sent) → All NumberFits left → Ascends (sentOffset una) 0 (minus next una) left
+        → Numbers (firstNumberOr left next) next left
     go [] fit a = record { ascends = tt; apart = omega arith; first = refl }
     go (x ∷ left) fit a = record {
-      ascends = ascends-rebased una (x .record .number) next una32 (fit .0) next32 (n .apart) (omega (arith, a .1)) (sentOffset una x) 0 (x ∷ left)
+      ascends = ascends-rebased una (x .record .number) next una32 (fit .0) next32 (n .apart) (omega (arith, a .1)) (sentOffset una x) 0
+          (x ∷ left)
           (omega arith)
           fit
           (omega arith, a .1, a .2);
@@ -161,7 +167,8 @@ pub numbers-more : (una next : ℕ) (l : List Sent) (q : List Held) →
     Numbers una (plus next (length q)) (l ++ numbered next q)
 unfolding firstNumberOr numbered
 numbers-more una next l q una32 next32 h n = record {
-  ascends = rw end (ascends-append (sentOffset una) 0 (minus next una) (minus next una + length q) l (numbered next q) (omega arith) (omega arith) (n .ascends)
+  ascends = rw end (ascends-append (sentOffset una) 0 (minus next una) (minus next una + length q) l (numbered next q) (omega arith)
+      (omega arith) (n .ascends)
       (ascends-numbered una (minus next una + length q) next q next32 una32 h (omega arith)));
   apart = omega (arith, end);
   first = go l q (n .first);

@@ -6,7 +6,19 @@ use mathlib.Core.Logic.{_⊎_, inl, inr}
 use mathlib.Core.Bool.{Bool, true, false, _||_, or-true}
 use mathlib.Core.List.{List}
 use Prim.Native.Nat.{ℕ, _+_, _*_, _^_, _≤_, _<_}
-use Rattle.protocol.specs.Protocol.{fragmentMost, sendSlots, sendWindow, deadAfter, skipsMost, timeoutMost, probeWaitLeast, probeWaitMost, congestionWindowMost, congestionThresholdLeast, congestionThresholdMost}
+use Rattle.protocol.specs.Protocol.{
+  fragmentMost,
+  sendSlots,
+  sendWindow,
+  deadAfter,
+  skipsMost,
+  timeoutMost,
+  probeWaitLeast,
+  probeWaitMost,
+  congestionWindowMost,
+  congestionThresholdLeast,
+  congestionThresholdMost,
+}
 use Rattle.protocol.specs.Ranges.{mss}
 use Rattle.protocol.specs.Serial.{minus}
 use Rattle.protocol.specs.declared.Settings.{Settings}
@@ -73,7 +85,8 @@ numbers-decide :
 unfolding numbersFit
 numbers-decide s =
     via (and-decides
-    (and-decides (ascending-decides (sentOffset (s .una)) (minus (s .next) (s .una)) (s .outstanding)) (leb-decides (minus (s .next) (s .una)) sendWindow))
+    (and-decides (ascending-decides (sentOffset (s .una)) (minus (s .next) (s .una)) (s .outstanding))
+    (leb-decides (minus (s .next) (s .una)) sendWindow))
     (eqb-decides (firstNumberOr (s .outstanding) (s .next)) (s .una)))
     (λ h. (h .0 .0, h .0 .1, h .1))
     (λ h. ((h .0, h .1), h .2))
@@ -81,7 +94,8 @@ numbers-decide s =
 sent-decides : (mode : ℕ) (x : Sent) →
     Decides (sentFits mode x) (((x .transmissions ≤ deadAfter) × (x .record .skips ≤ skipsMost)) × TimeoutInRange mode (x .record .timeout))
 sent-decides mode x =
-    and-decides (and-decides (leb-decides (x .transmissions) deadAfter) (leb-decides (x .record .skips) skipsMost)) (timeout-decides mode (x .record .timeout))
+    and-decides (and-decides (leb-decides (x .transmissions) deadAfter) (leb-decides (x .record .skips) skipsMost))
+    (timeout-decides mode (x .record .timeout))
 
 round-trip-decides : (mode : ℕ) (p : RoundTrip) →
     Decides (roundTripFits mode p) (((p .smoothed < 2 ^ 31) × (p .variation < 2 ^ 31)) × TimeoutInRange mode (p .timeout))
@@ -139,8 +153,12 @@ module _ (c : Settings) (s : Sending) where
       })
       (λ v. (
         (
-          ((all-both Short Low (sendHeld s) (v .lengths) (v .fragments), (v .slots-below, v .slots-once)), (v .ascending, v .apart, v .first)),
-          all-both (λ (x : Sent). Few x × Skips x) InTime (s .outstanding) (all-both Few Skips (s .outstanding) (v .transmissions) (v .skips)) (v .timeouts),
+          (
+            (all-both Short Low (sendHeld s) (v .lengths) (v .fragments), (v .slots-below, v .slots-once)),
+            (v .ascending, v .apart, v .first),
+          ),
+          all-both (λ (x : Sent). Few x × Skips x) InTime (s .outstanding)
+              (all-both Few Skips (s .outstanding) (v .transmissions) (v .skips)) (v .timeouts),
         ),
         ((v .smoothed, v .variation), v .timeout),
       ))
@@ -173,4 +191,5 @@ congestion-decides m c =
 
 -- probe wait 0 or 7,000 to 120,000
 pub probe-decides : (p : ProbeClock) → Decides (probeFits p) (WaitInRange (p .wait))
-probe-decides p = or-decides (eqb-decides (p .wait) 0) (and-decides (leb-decides probeWaitLeast (p .wait)) (leb-decides (p .wait) probeWaitMost))
+probe-decides p = or-decides (eqb-decides (p .wait) 0)
+    (and-decides (leb-decides probeWaitLeast (p .wait)) (leb-decides (p .wait) probeWaitMost))

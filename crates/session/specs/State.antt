@@ -1,10 +1,11 @@
 -- The state of a link: what document 01 speaks of, as lists and numbers.
 -- Assumes nothing.
-use mathlib.Core.Bool.{Bool, false}
+use mathlib.Core.Bool.{Bool, false, cond}
 use mathlib.Core.List.{List, _++_, map}
 use Prim.Native.Nat.{ℕ}
 use Rattle.protocol.specs.declared.Settings.{Settings}
 use Rattle.protocol.specs.declared.Refusal.{Refusal}
+use Rattle.protocol.specs.declared.Refusal.the-variants.{ShortPart, InvalidBlock}
 use Rattle.timing.specs.declared.RoundTrip.{RoundTrip}
 use Rattle.timing.specs.declared.ProbeClock.{ProbeClock}
 use Rattle.lists.specs.declared.Held.{Held}
@@ -168,6 +169,11 @@ afterFlushing s d r probe t x dead =
 pub data Outcome (A : Type 0) : Type 0 where
   refused : Refusal → Outcome A
   done : A → Outcome A
+
+-- every call but opening checks the lent sizes (7), then the control block (13), then its own: what it gives where both pass, and what a
+-- refusal of it gives
+abbrev pub admitted : {A : Type 0} → (Refusal → A) → Bool → Bool → A → A
+admitted refusal long made own = cond long (cond made own (refusal InvalidBlock)) (refusal ShortPart)
 
 -- the segments of the two pools
 abbrev pub sendHeld : Sending → List Held

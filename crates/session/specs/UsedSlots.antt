@@ -23,7 +23,8 @@ used-more zero x l h e = absurd (omega arith)
 used-more (suc n) x l h e = go (eqb n x) refl (used-more n x l)
   where
     go : (b : Bool) → eqb n x ≡ b → (x < n → occurs x l ≡ false → usedBelow n (x ∷ l) ≡ suc (usedBelow n l)) →
-        cond (b || occurs n l) (suc (usedBelow n (x ∷ l))) (usedBelow n (x ∷ l)) ≡ suc (cond (occurs n l) (suc (usedBelow n l)) (usedBelow n l))
+        cond (b || occurs n l) (suc (usedBelow n (x ∷ l))) (usedBelow n (x ∷ l)) ≡ suc
+        (cond (occurs n l) (suc (usedBelow n l)) (usedBelow n l))
     go true q later =
         let none : occurs n l ≡ false = ap (λ (j : ℕ). occurs j l) (eqb-true n x q) ∙ e in
         rw (none, used-above n x l (omega (arith, eqb-true n x q)))

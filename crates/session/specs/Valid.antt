@@ -5,7 +5,19 @@ use mathlib.Core.List.{List, [], _∷_, _++_, map}
 use Prim.Native.Nat.{ℕ, suc, _^_}
 use lib.Dec.{leb, ltb, eqb}
 use lib.ListN.{length}
-use Rattle.protocol.specs.Protocol.{fragmentMost, sendSlots, receiveSlots, sendWindow, receiveWindow, acksMost, deadAfter, skipsMost, timeoutMost, probeWaitLeast, probeWaitMost}
+use Rattle.protocol.specs.Protocol.{
+  fragmentMost,
+  sendSlots,
+  receiveSlots,
+  sendWindow,
+  receiveWindow,
+  acksMost,
+  deadAfter,
+  skipsMost,
+  timeoutMost,
+  probeWaitLeast,
+  probeWaitMost,
+}
 use Rattle.protocol.specs.Ranges.{inRange, mss}
 use Rattle.protocol.specs.Serial.{minus}
 use Rattle.protocol.specs.declared.Settings.{Settings}
@@ -44,7 +56,8 @@ heldFits m h = leb (h .len) m && leb (h .fragment) fragmentMost
 abbrev pub slotsFit : ℕ → List Held → Bool
 slotsFit n l = all (λ (h : Held). ltb (h .slot) n) l && once (slots l)
 
--- outstanding numbers ascending from snd_una up to but not including snd_nxt, these two at most 32 apart, the first being snd_una (none: the two are equal)
+-- outstanding numbers ascending from snd_una up to but not including snd_nxt, these two at most 32 apart, the first being snd_una (none:
+-- the two are equal)
 unfoldable pub numbersFit : Sending → Bool
 numbersFit s =
     ascending (sentOffset (s .una)) 0 (minus (s .next) (s .una)) (s .outstanding)

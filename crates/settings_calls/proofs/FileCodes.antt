@@ -43,5 +43,6 @@ module _ (f : List ℕ) (x : Reading) (before : Numbers) where
   pub stored : (c : Settings) → x ≡ readFrom f → x ≡ reading.Settings c → Stores (readFrom f) (pos 0) before (numbersOf c)
   stored c e h = rw (sym e ∙ h) (refl, refl)
 
-  pub left-alone : (q : FileRefusal) (r : ℤ) → x ≡ readFrom f → x ≡ reading.Refused q → r ≡ numberCode (numberOf q) → Stores (readFrom f) r before before
+  pub left-alone : (q : FileRefusal) (r : ℤ) → x ≡ readFrom f → x ≡ reading.Refused q → r ≡ numberCode (numberOf q)
+      → Stores (readFrom f) r before before
   left-alone q r e h p = rw (sym e ∙ h) (p, refl)

@@ -41,7 +41,8 @@ module _ (test : ℕ → Bool) where
   first-before k zero i h g = absurd (omega arith)
   first-before k (suc f) i h g = go (test k) refl g (first-before (k + 1) f i)
     where
-      go : (t : Bool) → test k ≡ t → i < cond t (firstNot test (k + 1) f) k → (k + 1 ≤ i → i < firstNot test (k + 1) f → test i ≡ true) → test i ≡ true
+      go : (t : Bool) → test k ≡ t → i < cond t (firstNot test (k + 1) f) k → (k + 1 ≤ i → i < firstNot test (k + 1) f → test i ≡ true)
+          → test i ≡ true
       go true e g ih = here (decLt k i)
         where
           here : Dec (k < i) → test i ≡ true
@@ -55,16 +56,19 @@ module _ (test : ℕ → Bool) where
   first-itself k zero h = absurd (omega arith)
   first-itself k (suc f) h = go (test k) refl h (first-itself (k + 1) f)
     where
-      go : (t : Bool) → test k ≡ t → cond t (firstNot test (k + 1) f) k < k + suc f → (firstNot test (k + 1) f < k + 1 + f → test (firstNot test (k + 1) f) ≡ false)
+      go : (t : Bool) → test k ≡ t → cond t (firstNot test (k + 1) f) k < k + suc f
+          → (firstNot test (k + 1) f < k + 1 + f → test (firstNot test (k + 1) f) ≡ false)
           → test (cond t (firstNot test (k + 1) f) k) ≡ false
       go true e h ih = ih (omega arith)
       go false e h ih = e
 
 -- two tests that agree
-pub first-same : (test test′ : ℕ → Bool) (k f : ℕ) → ((i : ℕ) → k ≤ i → i < k + f → test i ≡ test′ i) → firstNot test k f ≡ firstNot test′ k f
+pub first-same : (test test′ : ℕ → Bool) (k f : ℕ) → ((i : ℕ) → k ≤ i → i < k + f → test i ≡ test′ i)
+    → firstNot test k f ≡ firstNot test′ k f
 unfolding firstNot
 first-same test test′ k zero e = refl
-first-same test test′ k (suc f) e = rw (e k (omega arith) (omega arith), first-same test test′ (k + 1) f (λ i h g. e i (omega arith) (omega arith)))
+first-same test test′ k (suc f) e =
+    rw (e k (omega arith) (omega arith), first-same test test′ (k + 1) f (λ i h g. e i (omega arith) (omega arith)))
 
 -- those from k on, where all below pass
 pub first-skip : (test : ℕ → Bool) (n k : ℕ) → k ≤ n → ((i : ℕ) → i < k → test i ≡ true) → firstNot test 0 n ≡ firstNot test k (n - k)
@@ -111,7 +115,8 @@ pub record Walked (now used : List ℕ) (k : ℕ) : Type 0 where
 pub walked-start : (used : List ℕ) → Walked used used 0
 walked-start used = record { below = λ i h. absurd (omega arith); above = λ i h. refl }
 
-pub walked-as : {now used : List ℕ} {k : ℕ} (now′ : List ℕ) → ((i : ℕ) → isUsed i now′ ≡ isUsed i now) → Walked now used k → Walked now′ used k
+pub walked-as : {now used : List ℕ} {k : ℕ} (now′ : List ℕ) → ((i : ℕ) → isUsed i now′ ≡ isUsed i now) → Walked now used k
+    → Walked now′ used k
 walked-as now′ e w = record { below = λ i h. e i ∙ w .below i h; above = λ i h. e i ∙ w .above i h }
 
 -- the lowest free slot is the first from k on that was free at first
@@ -132,7 +137,8 @@ walked-over {now} {used} {k} e w = record { below = below; above = λ i h. w .ab
 
 -- and the walk goes on behind it
 pub walked-next : (now used : List ℕ) (n k s : ℕ) → s ≡ freeFrom used k (n - k) → Walked now used k → Walked (s ∷ now) used (s + 1)
-walked-next now used n k s e w = record { below = below; above = λ i h. used-other i s now (λ q. omega arith) ∙ w .above i (omega (arith, least)) }
+walked-next now used n k s e w =
+    record { below = below; above = λ i h. used-other i s now (λ q. omega arith) ∙ w .above i (omega (arith, least)) }
   where
     least : k ≤ s
     least = rw e (first-least (λ i. isUsed i used) k (n - k))
@@ -142,7 +148,8 @@ walked-next now used n k s e w = record { below = below; above = λ i h. used-ot
       where
         go : Dec (i < k) → Dec (i < s) → isUsed i (s ∷ now) ≡ true
         go (yes l) d = used-later i s now (w .below i l)
-        go (no l) (yes m) = used-later i s now (w .above i (omega arith) ∙ first-before (λ j. isUsed j used) k (n - k) i (omega arith) (rw e at m))
+        go (no l) (yes m) = used-later i s now (w .above i (omega arith) ∙ first-before (λ j. isUsed j used) k (n - k) i (omega arith)
+            (rw e at m))
         go (no l) (no m) = let q : s ≡ i = omega arith in rw q (used-here i now)
 
 -- How many are free.
@@ -162,12 +169,14 @@ unfolding freeCount
 count-used s used zero h f = absurd (omega arith)
 count-used s used (suc n) h f = go (decLt s n) (count-used s used n)
   where
-    step : (t : Bool) → suc (freeCount (s ∷ used) n) ≡ freeCount used n → suc (cond t (freeCount (s ∷ used) n) (suc (freeCount (s ∷ used) n))) ≡ cond t (freeCount used n) (suc (freeCount used n))
+    step : (t : Bool) → suc (freeCount (s ∷ used) n) ≡ freeCount used n
+        → suc (cond t (freeCount (s ∷ used) n) (suc (freeCount (s ∷ used) n))) ≡ cond t (freeCount used n) (suc (freeCount used n))
     step true e = e
     step false e = ap suc e
 
     go : Dec (s < n) → (s < n → isUsed s used ≡ false → suc (freeCount (s ∷ used) n) ≡ freeCount used n)
-        → suc (cond (isUsed n (s ∷ used)) (freeCount (s ∷ used) n) (suc (freeCount (s ∷ used) n))) ≡ cond (isUsed n used) (freeCount used n) (suc (freeCount used n))
+        → suc (cond (isUsed n (s ∷ used)) (freeCount (s ∷ used) n) (suc (freeCount (s ∷ used) n))) ≡ cond (isUsed n used) (freeCount used n)
+        (suc (freeCount used n))
     go (yes l) ih = rw (used-other n s used (λ q. omega arith)) (step (isUsed n used) (ih l f))
     go (no l) ih =
         let q : s ≡ n = omega arith in
@@ -285,7 +294,8 @@ used-mid k s (x ∷ a) b = rw (used-mid k s a b) (either (eqb x k) (eqb s k) (is
 once-mid : (s : ℕ) (a b : List ℕ) → once (a ++ (s ∷ b)) ≡ (not (isUsed s (a ++ b)) && once (a ++ b))
 unfolding once isUsed
 once-mid s [] b = refl
-once-mid s (x ∷ a) b = rw (used-mid x s a b, once-mid s a b, eqb-sym s x) (neither (eqb x s) (isUsed x (a ++ b)) (isUsed s (a ++ b)) (once (a ++ b)))
+once-mid s (x ∷ a) b = rw (used-mid x s a b, once-mid s a b, eqb-sym s x)
+    (neither (eqb x s) (isUsed x (a ++ b)) (isUsed s (a ++ b)) (once (a ++ b)))
 
 pub distinct-mid : (n s : ℕ) (a b : List ℕ) → distinct n (a ++ (s ∷ b)) ≡ distinct n (s ∷ (a ++ b))
 unfolding allBelow once

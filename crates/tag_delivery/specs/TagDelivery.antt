@@ -10,7 +10,22 @@ use Prim.Native.Nat.{ℕ}
 use Rattle.protocol.specs.declared.Settings.{Settings}
 use Rattle.session.specs.Calls.{Call, Event, datagramsBy, readAnswers, messagesRead}
 use Rattle.delivery.specs.Accepted.{acceptedFor}
-use Rattle.delivery.specs.Hearing.{FewPushes, FedWith, HearsMore, start, both-take, both-read, first-sends, first-flushes, first-updates, first-checks, second-sends, second-flushes, second-updates, second-checks}
+use Rattle.delivery.specs.Hearing.{
+  FewPushes,
+  FedWith,
+  HearsMore,
+  start,
+  both-take,
+  both-read,
+  first-sends,
+  first-flushes,
+  first-updates,
+  first-checks,
+  second-sends,
+  second-flushes,
+  second-updates,
+  second-checks,
+}
 use Rattle.demands.specs.Steps.{Endpoint, SinceOpening}
 use Rattle.demands.specs.Demand3.{demand-3}
 use Rattle.tag_message.specs.Messages.{nameIn}
@@ -32,7 +47,8 @@ hears-itself (Call.check t ∷ xs) = first-checks (second-checks (hears-itself x
 -- messages taken into a table, one after the other, refused ones included
 pub data Takes : List (List ℕ) → List ℕ → List ℕ → Type 0 where
   none : {t : List ℕ} → Takes [] t t
-  next : {m before between after : List ℕ} {ms : List (List ℕ)} (a : Changing) → TakesTag m before a between → Takes ms between after → Takes (m ∷ ms) before after
+  next : {m before between after : List ℕ} {ms : List (List ℕ)} (a : Changing) → TakesTag m before a between → Takes ms between after
+      → Takes (m ∷ ms) before after
 
 -- an entry whose name no message has is, byte for byte, as it was
 pub all-keep :
@@ -57,7 +73,8 @@ module _
     -- what the receiver has read, the sender was given
     pub read-given : (m : List ℕ) → List·Memᴰ m (messagesRead (readAnswers answers)) → List·Memᴰ m (acceptedFor c events)
     read-given m k =
-        let b = demand-3 c calls heard heard events answers answers sender receiver receiver sends hears hears few fed fed (hears-itself heard) .first-receives .begins in
+        let b = demand-3 c calls heard heard events answers answers sender receiver receiver sends hears hears few fed fed
+        (hears-itself heard) .first-receives .begins in
         subst (λ (l : List (List ℕ)). List·Memᴰ m l) (b .whole) (Memᴰ·append-left (b .rest) k)
 
     -- one message that it has read, taken into a table

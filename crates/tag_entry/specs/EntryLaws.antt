@@ -22,7 +22,8 @@ use Rattle.tag_entry.specs.Fingerprints.{mixed}
 
 module _ (a b : List ℕ) (i : ℕ) where
   -- the first of what is left, and the rest
-  pub same-step : i < length a → i < length b → sameBytes (drop i a) (drop i b) ≡ (eqb (getD a i 0) (getD b i 0) && sameBytes (drop (i + 1) a) (drop (i + 1) b))
+  pub same-step : i < length a → i < length b
+      → sameBytes (drop i a) (drop i b) ≡ (eqb (getD a i 0) (getD b i 0) && sameBytes (drop (i + 1) a) (drop (i + 1) b))
   unfolding sameBytes
   same-step h k = rw (drop-cons a i 0 h, drop-cons b i 0 k, add-one i)
 
@@ -39,7 +40,8 @@ unfolding mixed
 mixed-end l f i h = rw (drop-of-length-le l h)
 
 -- a zero more
-pub zeros-step : (out : List ℕ) (at len i : ℕ) → i < len → sets out (at + i) (replicate (len - i) 0) ≡ sets (set out (at + i) 0) (at + (i + 1)) (replicate (len - (i + 1)) 0)
+pub zeros-step : (out : List ℕ) (at len i : ℕ) → i < len
+    → sets out (at + i) (replicate (len - i) 0) ≡ sets (set out (at + i) 0) (at + (i + 1)) (replicate (len - (i + 1)) 0)
 zeros-step out at len i h =
     let n : len - i ≡ suc (len - (i + 1)) = omega arith in
     rw (n, add-one i, add-suc)

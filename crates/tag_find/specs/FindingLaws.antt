@@ -23,7 +23,8 @@ use Rattle.tag_find.specs.declared.Finding.{Finding}
 use Rattle.tag_find.specs.declared.Finding.the-variants as finding
 
 -- the bytes of an entry's value
-pub value-at : (t : List ℕ) (i : ℕ) → i < 64 → _≡_ {A = Part} (record { start = 98 * i + 34; len = getD t (98 * i + 33) 0 }) (valueAt (entriesIn t) i)
+pub value-at : (t : List ℕ) (i : ℕ) → i < 64
+    → _≡_ {A = Part} (record { start = 98 * i + 34; len = getD t (98 * i + 33) 0 }) (valueAt (entriesIn t) i)
 value-at t i h =
     let e : getD t (98 * i + 33) 0 ≡ valueLength (entryAt (entriesIn t) i) =
     sym (ap valueLength (entry-at t i h) ∙ getD-take 98 (drop (98 * i) t) 33 0 (omega arith) ∙ getD-drop (98 * i) t 33 0) in
@@ -62,7 +63,8 @@ module _ (own defaults name : List ℕ) where
     unfolding findIn
     defaults-rules e = rw (eq-eqb (length own) 6272 h, eq-eqb (length defaults) 6272 k, e, and-false)
 
-    pub no-name : isTable (entriesIn own) ≡ true → isTable (entriesIn defaults) ≡ true → isName name ≡ false → finding.Refused NotATag ≡ findIn own defaults name
+    pub no-name : isTable (entriesIn own) ≡ true → isTable (entriesIn defaults) ≡ true → isName name ≡ false
+        → finding.Refused NotATag ≡ findIn own defaults name
     unfolding findIn
     no-name e f n = rw (eq-eqb (length own) 6272 h, eq-eqb (length defaults) 6272 k, e, f, n)
 
@@ -95,7 +97,8 @@ Lies (finding.Refused r) own defaults = Unit
 pub lies : (own defaults name : List ℕ) → Lies (findIn own defaults name) own defaults
 unfolding findIn firstOf
 lies own defaults name =
-    go (eqb (length own) 6272) refl (eqb (length defaults) 6272) refl (isTable (entriesIn own)) refl (isTable (entriesIn defaults)) refl (isName name)
+    go (eqb (length own) 6272) refl (eqb (length defaults) 6272) refl (isTable (entriesIn own)) refl (isTable (entriesIn defaults)) refl
+    (isName name)
     (ltb i 64) refl (ltb j 64) refl
   where
     i : ℕ
@@ -110,7 +113,8 @@ lies own defaults name =
         Lies
         (cond (a && b)
         (cond (d && e)
-        (cond n (cond x (finding.Own (valueAt (entriesIn own) i)) (cond y (finding.Defaults (valueAt (entriesIn defaults) j)) finding.Missing)) (finding.Refused NotATag))
+        (cond n (cond x (finding.Own (valueAt (entriesIn own) i))
+        (cond y (finding.Defaults (valueAt (entriesIn defaults) j)) finding.Missing)) (finding.Refused NotATag))
         (finding.Refused NotATable))
         (finding.Refused OtherSize))
         own defaults

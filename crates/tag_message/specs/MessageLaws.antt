@@ -13,7 +13,18 @@ use lib.Seq.{sets, take-all, take-length, drop-cons, drop-drop, length-take-le, 
 use Rattle.wire.specs.Stores.{sets-append}
 use Rattle.tag_message.specs.Tags.{isName, isValue, isTag}
 use Rattle.tag_message.specs.TagLaws.{and-parts, and-false}
-use Rattle.tag_message.specs.Messages.{counted, messageOf, writeInto, Writes, nameLength, valueLength, nameIn, valueIn, isMessage, readFrom}
+use Rattle.tag_message.specs.Messages.{
+  counted,
+  messageOf,
+  writeInto,
+  Writes,
+  nameLength,
+  valueLength,
+  nameIn,
+  valueIn,
+  isMessage,
+  readFrom,
+}
 use Rattle.tag_message.specs.declared.TagRefusal.{TagRefusal}
 use Rattle.tag_message.specs.declared.TagRefusal.the-variants.{OtherSize, NotATag}
 use Rattle.tag_message.specs.declared.Reading.the-variants as reading
@@ -169,7 +180,8 @@ module _ (m : List ℕ) (p : Passed m) where
       let name = take n (drop 1 m) in
       let first : m ≡ n ∷ drop 1 m = drop-cons m 0 0 (omega (arith, p .whole)) in
       let rest : name ++ drop (1 + n) m ≡ drop 1 m = rw (← drop-drop n 1 m) (take-append-drop n (drop 1 m)) in
-      let second : drop (1 + n) m ≡ valueLength m ∷ drop (1 + n + 1) m = rw (add-one (1 + n)) (drop-cons m (1 + n) 0 (omega (arith, p .whole))) in
+      let second : drop (1 + n) m ≡ valueLength m ∷ drop (1 + n + 1) m =
+      rw (add-one (1 + n)) (drop-cons m (1 + n) 0 (omega (arith, p .whole))) in
       let last : take (valueLength m) (drop (1 + n + 1) m) ≡ drop (1 + n + 1) m =
       take-all (valueLength m) (drop (1 + n + 1) m) (rw length-drop (omega (arith, p .whole))) in
       let back : counted (valueIn m) ≡ drop (1 + n) m =
@@ -191,7 +203,8 @@ pub tag-read : (m : List ℕ) (n v : ℕ) → readFrom m ≡ reading.Tag n v →
 unfolding readFrom
 tag-read m n v e = go (isMessage m) refl e
   where
-    go : (t : Bool) → isMessage m ≡ t → cond t (reading.Tag (nameLength m) (valueLength m)) (reading.Refused NotATag) ≡ reading.Tag n v → Read m n v
+    go : (t : Bool) → isMessage m ≡ t → cond t (reading.Tag (nameLength m) (valueLength m)) (reading.Refused NotATag) ≡ reading.Tag n v
+        → Read m n v
     go true q r = record { message = q; named = cc; valued = cc }
     go false q r = absurd (let z : _≡_ {A = ℕ} 0 1 = cc in omega arith)
 
@@ -199,6 +212,7 @@ pub none-read : (m : List ℕ) (q : TagRefusal) → readFrom m ≡ reading.Refus
 unfolding readFrom
 none-read m r e = go (isMessage m) refl e
   where
-    go : (t : Bool) → isMessage m ≡ t → cond t (reading.Tag (nameLength m) (valueLength m)) (reading.Refused NotATag) ≡ reading.Refused r → t ≡ false
+    go : (t : Bool) → isMessage m ≡ t → cond t (reading.Tag (nameLength m) (valueLength m)) (reading.Refused NotATag) ≡ reading.Refused r
+        → t ≡ false
     go true q h = absurd (let z : _≡_ {A = ℕ} 0 1 = cc in omega arith)
     go false q h = refl

@@ -103,10 +103,12 @@ module _ (t : List ℕ) where
       let n : length (take i (entriesIn t)) ≡ i = length-take-le i (entriesIn t) (omega (arith, length-entries t)) in
       rw (← getD-take i (entriesIn t) j [] h) (every-at isEntry (take i (entriesIn t)) j [] (omega arith) e)
 
-  pub asks-named : (i j : ℕ) → j < i → i ≤ 64 → length t ≡ 6272 → every isEntry (take i (entriesIn t)) ≡ true → (length (lent t j) ≡ 98) × (nameLength (lent t j) ≤ 32)
+  pub asks-named : (i j : ℕ) → j < i → i ≤ 64 → length t ≡ 6272 → every isEntry (take i (entriesIn t)) ≡ true
+      → (length (lent t j) ≡ 98) × (nameLength (lent t j) ≤ 32)
   asks-named i j h k l e = (lent-size j (omega arith) l, lent-short j (omega arith) (among i j h k e))
 
-  pub named-here : (name : List ℕ) (i j : ℕ) {b : Bool} → j < i → i ≤ 64 → b ≡ isNamed name (lent t j) → b ≡ true → true ≡ some (isNamed name) (take i (entriesIn t))
+  pub named-here : (name : List ℕ) (i j : ℕ) {b : Bool} → j < i → i ≤ 64 → b ≡ isNamed name (lent t j) → b ≡ true
+      → true ≡ some (isNamed name) (take i (entriesIn t))
   named-here name i j h k p q =
       let n : length (take i (entriesIn t)) ≡ i = length-take-le i (entriesIn t) (omega (arith, length-entries t)) in
       let e : isNamed name (entryAt (entriesIn t) j) ≡ true = ap (isNamed name) (sym (lent-entry t j (omega arith))) ∙ sym p ∙ q in
@@ -130,11 +132,13 @@ module _ (t : List ℕ) where
         (true ≡ isFresh (take i (entriesIn t)) (entryAt (entriesIn t) i)) × Marks marks (take (i + 1) (entriesIn t))
     unfolding isFresh
     free-fresh marks z m =
-        let f : isFree (entryAt (entriesIn t) i) ≡ true = eq-eqb (nameLength (entryAt (entriesIn t) i)) 0 (ap nameLength (sym lent-is) ∙ z) in (
+        let f : isFree (entryAt (entriesIn t) i) ≡ true =
+        eq-eqb (nameLength (entryAt (entriesIn t) i)) 0 (ap nameLength (sym lent-is) ∙ z) in (
           rw f,
           record {
             size = m .size;
-            all = rw (take-more t i h) (marked-snoc marks (take i (entriesIn t)) (entryAt (entriesIn t) i) (m .all) (λ g. absurd (let x : _≡_ {A = ℕ} 0 1 = cc in omega arith)));
+            all = rw (take-more t i h) (marked-snoc marks (take i (entriesIn t)) (entryAt (entriesIn t) i) (m .all)
+                (λ g. absurd (let x : _≡_ {A = ℕ} 0 1 = cc in omega arith)));
           },
         )
 
@@ -155,7 +159,8 @@ module _ (t : List ℕ) where
         record {
           size = length-set marks f 1 ∙ m .size;
           all = rw (take-more t i h)
-              (marked-snoc (set marks f 1) (take i (entriesIn t)) (entryAt (entriesIn t) i) (marked-set marks f (take i (entriesIn t)) k (m .all))
+              (marked-snoc (set marks f 1) (take i (entriesIn t)) (entryAt (entriesIn t) i)
+              (marked-set marks f (take i (entriesIn t)) k (m .all))
               (λ g. rw (← q) (getD-set-same marks f 1 0 k)));
         }
 
@@ -167,11 +172,13 @@ module _ (t : List ℕ) where
     unfolding isFresh
     unmarked-fresh marks f z e k p l u m =
         let q : f ≡ fingerprint (nameOf (entryAt (entriesIn t) i)) = p ∙ ap fingerprint lent-name in
-        let s : length (nameOf (entryAt (entriesIn t) i)) ≡ nameLength (entryAt (entriesIn t) i) = length-name (entryAt (entriesIn t) i) (entry-size t i h k) (entry-short (entryAt (entriesIn t) i) e) in
+        let s : length (nameOf (entryAt (entriesIn t) i)) ≡ nameLength (entryAt (entriesIn t) i) =
+        length-name (entryAt (entriesIn t) i) (entry-size t i h k) (entry-short (entryAt (entriesIn t) i) e) in
         let g = used-not-free z in
         let one : 1 ≤ length (nameOf (entryAt (entriesIn t) i)) = omega (arith, eqb-false (nameLength (entryAt (entriesIn t) i)) 0 g) in
         let none : some (isNamed (nameOf (entryAt (entriesIn t) i))) (take i (entriesIn t)) ≡ false =
-        unmarked marks (nameOf (entryAt (entriesIn t) i)) (take i (entriesIn t)) one (m .all) (λ y. omega (arith, ap (λ (n : ℕ). getD marks n 0) q, u, y)) in
+        unmarked marks (nameOf (entryAt (entriesIn t) i)) (take i (entriesIn t)) one (m .all)
+        (λ y. omega (arith, ap (λ (n : ℕ). getD marks n 0) q, u, y)) in
         (rw (g, none), marks-more marks f q l m)
 
     pub compared-fresh :
@@ -188,11 +195,13 @@ module _ (t : List ℕ) where
 -- the first i entries of those that were tested
 pub tested-before : (t : List ℕ) (i : ℕ) → Tested t i → every isEntry (take i (entriesIn t)) ≡ true
 tested-before t i p =
-    and-parts (every isEntry (take i (entriesIn t))) _ (sym (every-more isEntry (entriesIn t) i [] (omega (arith, length-entries t, p .below))) ∙ p .entries) .0
+    and-parts (every isEntry (take i (entriesIn t))) _
+    (sym (every-more isEntry (entriesIn t) i [] (omega (arith, length-entries t, p .below))) ∙ p .entries) .0
 
 pub tested-here : (t : List ℕ) (i : ℕ) → Tested t i → isEntry (entryAt (entriesIn t) i) ≡ true
 tested-here t i p =
-    and-parts (every isEntry (take i (entriesIn t))) _ (sym (every-more isEntry (entriesIn t) i [] (omega (arith, length-entries t, p .below))) ∙ p .entries) .1
+    and-parts (every isEntry (take i (entriesIn t))) _
+    (sym (every-more isEntry (entriesIn t) i [] (omega (arith, length-entries t, p .below))) ∙ p .entries) .1
 
 -- ---- the pass
 
@@ -207,7 +216,14 @@ pub record Progress (t name marks : List ℕ) (seen : Seen) (i : ℕ) : Type 0 w
 
 pub starts : (t name marks : List ℕ) → length marks ≡ 256 → Progress t name marks (record { named = 0; free = 0 }) 0
 unfolding every firstWhere Marked
-starts t name marks k = record { most = omega arith; entries = refl; fresh = refl; marked = record { size = k; all = tt }; named = refl; free = refl }
+starts t name marks k = record {
+  most = omega arith;
+  entries = refl;
+  fresh = refl;
+  marked = record { size = k; all = tt };
+  named = refl;
+  free = refl;
+}
 
 module _ (t name marks : List ℕ) (seen : Seen) (i : ℕ) (p : Progress t name marks seen i) (h : i < 64) where
   pub broken : {b : Bool} → b ≡ isEntry (lent t i) → b ≡ false → surveyed.Broken ≡ surveyOf name (entriesIn t)
@@ -216,11 +232,13 @@ module _ (t name marks : List ℕ) (seen : Seen) (i : ℕ) (p : Progress t name 
       let e : isEntry (entryAt (entriesIn t) i) ≡ false = ap isEntry (sym (lent-entry t i h)) ∙ sym q ∙ r in
       rw (every-fails isEntry (entriesIn t) i [] (below-length t i h) e)
 
-  rest : allFresh (take i (entriesIn t)) (drop i (entriesIn t)) ≡ (isFresh (take i (entriesIn t)) (entryAt (entriesIn t) i) && allFresh (take (i + 1) (entriesIn t)) (drop (i + 1) (entriesIn t)))
+  rest : allFresh (take i (entriesIn t)) (drop i (entriesIn t)) ≡
+      (isFresh (take i (entriesIn t)) (entryAt (entriesIn t) i) && allFresh (take (i + 1) (entriesIn t)) (drop (i + 1) (entriesIn t)))
   unfolding allFresh
   rest = rw (take-more t i h, add-one i, drop-cons (entriesIn t) i [] (below-length t i h))
 
-  pub twice : {b : Bool} → b ≡ isFresh (take i (entriesIn t)) (entryAt (entriesIn t) i) → b ≡ false → surveyed.Broken ≡ surveyOf name (entriesIn t)
+  pub twice : {b : Bool} → b ≡ isFresh (take i (entriesIn t)) (entryAt (entriesIn t) i) → b ≡ false
+      → surveyed.Broken ≡ surveyOf name (entriesIn t)
   unfolding surveyOf isTable
   twice q r =
       let e : allFresh [] (entriesIn t) ≡ false = sym (p .fresh) ∙ rest ∙ rw (sym q ∙ r) in
@@ -240,11 +258,14 @@ module _ (t name marks : List ℕ) (seen : Seen) (i : ℕ) (p : Progress t name 
         entries = z .entries;
         fresh = rw (sym q ∙ r) at (sym rest ∙ p .fresh);
         marked = m;
-        named = ap (λ (x : Seen). x .named) e ∙ rw (lent-entry t i h, p .named) (sym (first-more (isNamed name) (entriesIn t) i [] (below-length t i h)));
-        free = ap (λ (x : Seen). x .free) e ∙ rw (lent-entry t i h, p .free) (sym (first-more isFree (entriesIn t) i [] (below-length t i h)));
+        named = ap (λ (x : Seen). x .named) e ∙ rw (lent-entry t i h, p .named)
+            (sym (first-more (isNamed name) (entriesIn t) i [] (below-length t i h)));
+        free = ap (λ (x : Seen). x .free) e ∙ rw (lent-entry t i h, p .free)
+            (sym (first-more isFree (entriesIn t) i [] (below-length t i h)));
       }
 
-pub ends : (t name marks : List ℕ) (seen : Seen) (i : ℕ) → Progress t name marks seen i → 64 ≤ i → surveyed.Of seen ≡ surveyOf name (entriesIn t)
+pub ends : (t name marks : List ℕ) (seen : Seen) (i : ℕ) → Progress t name marks seen i → 64 ≤ i
+    → surveyed.Of seen ≡ surveyOf name (entriesIn t)
 unfolding surveyOf isTable placeOf allFresh
 ends t name marks seen i p h =
     let whole : take i (entriesIn t) ≡ entriesIn t = take-all i (entriesIn t) (omega (arith, length-entries t)) in
@@ -267,7 +288,9 @@ pub sees : (name : List ℕ) (es : List (List ℕ)) (seen : Seen) → surveyOf n
 unfolding surveyOf
 sees name es seen e = go (isTable es) refl e
   where
-    go : (t : Bool) → isTable es ≡ t → cond t (surveyed.Of (record { named = placeOf name es; free = firstWhere isFree es })) surveyed.Broken ≡ surveyed.Of seen → Sees name es seen
+    go : (t : Bool) → isTable es ≡ t
+        → cond t (surveyed.Of (record { named = placeOf name es; free = firstWhere isFree es })) surveyed.Broken ≡ surveyed.Of seen
+        → Sees name es seen
     go true q r =
         let s : seen ≡ record { named = placeOf name es; free = firstWhere isFree es } = cc in
         record { table = q; named = ap (λ (x : Seen). x .named) s; free = ap (λ (x : Seen). x .free) s }
@@ -277,7 +300,9 @@ pub no-table : (name : List ℕ) (es : List (List ℕ)) → surveyOf name es ≡
 unfolding surveyOf
 no-table name es e = go (isTable es) refl e
   where
-    go : (t : Bool) → isTable es ≡ t → cond t (surveyed.Of (record { named = placeOf name es; free = firstWhere isFree es })) surveyed.Broken ≡ surveyed.Broken → t ≡ false
+    go : (t : Bool) → isTable es ≡ t
+        → cond t (surveyed.Of (record { named = placeOf name es; free = firstWhere isFree es })) surveyed.Broken ≡ surveyed.Broken
+        → t ≡ false
     go true q r = absurd (let z : _≡_ {A = ℕ} 0 1 = cc in omega arith)
     go false q r = refl
 
@@ -295,4 +320,5 @@ entry-value e l h = go (isFree e) refl h
 -- an entry of a table in its rules
 pub table-entry : (t : List ℕ) (i : ℕ) → i < 64 → isTable (entriesIn t) ≡ true → isEntry (entryAt (entriesIn t) i) ≡ true
 unfolding isTable
-table-entry t i h e = every-at isEntry (entriesIn t) i [] (below-length t i h) (and-parts (every isEntry (entriesIn t)) (allFresh [] (entriesIn t)) e .0)
+table-entry t i h e = every-at isEntry (entriesIn t) i [] (below-length t i h)
+    (and-parts (every isEntry (entriesIn t)) (allFresh [] (entriesIn t)) e .0)

@@ -48,10 +48,12 @@ take-sets n l i (v ∷ vs) h = take-sets n (set l i v) (suc i) vs (omega arith) 
 
 drop-sets : (n : ℕ) (l : List ℕ) (i : ℕ) (vs : List ℕ) → drop n (sets l (n + i) vs) ≡ sets (drop n l) i vs
 drop-sets n l i [] = refl
-drop-sets n l i (v ∷ vs) = rw (← add-suc) (drop-sets n (set l (n + i) v) (suc i) vs ∙ ap (λ (k : List ℕ). sets k (suc i) vs) (drop-set-add n l i v))
+drop-sets n l i (v ∷ vs) = rw (← add-suc)
+    (drop-sets n (set l (n + i) v) (suc i) vs ∙ ap (λ (k : List ℕ). sets k (suc i) vs) (drop-set-add n l i v))
 
 -- an entry that is stored at its place replaces that entry, and no other
-setOf-entry : (n i : ℕ) (t e : List ℕ) → i < n → 98 * n ≤ length t → length e ≡ 98 → entriesOf n (sets t (98 * i) e) ≡ set (entriesOf n t) i e
+setOf-entry : (n i : ℕ) (t e : List ℕ) → i < n → 98 * n ≤ length t → length e ≡ 98
+    → entriesOf n (sets t (98 * i) e) ≡ set (entriesOf n t) i e
 unfolding entriesOf
 setOf-entry zero i t e h k l = absurd (omega arith)
 setOf-entry (suc n) zero t e h k l =
@@ -63,7 +65,8 @@ setOf-entry (suc n) (suc i) t e h k l =
     rw (p, take-sets 98 t (98 + 98 * i) e (omega arith), drop-sets 98 t (98 * i) e)
     (ap (λ (es : List (List ℕ)). take 98 t ∷ es) (setOf-entry n i (drop 98 t) e (omega arith) (rw length-drop (omega arith)) l))
 
-pub set-entry : (t : List ℕ) (i : ℕ) (e : List ℕ) → i < 64 → length t ≡ 6272 → length e ≡ 98 → entriesIn (sets t (98 * i) e) ≡ set (entriesIn t) i e
+pub set-entry : (t : List ℕ) (i : ℕ) (e : List ℕ) → i < 64 → length t ≡ 6272 → length e ≡ 98
+    → entriesIn (sets t (98 * i) e) ≡ set (entriesIn t) i e
 unfolding entriesIn
 set-entry t i e h k l = setOf-entry 64 i t e h (omega arith) l
 
@@ -124,14 +127,17 @@ module _ {A : Type 0} (p : A → Bool) where
   first-snoc [] x = refl
   first-snoc (y ∷ ys) x = rw (first-snoc ys x) (go (p y) (firstWhere p ys) (eqb (firstWhere p ys) (length ys)) refl (p x))
     where
-      go : (b : Bool) (k : ℕ) (t : Bool) → eqb k (length ys) ≡ t → (d : Bool) → cond b 0 (suc (cond (eqb k (length ys)) (cond d (length ys) (length ys + 1)) k)) ≡ stepped d (suc (length ys)) (cond b 0 (suc k))
+      go : (b : Bool) (k : ℕ) (t : Bool) → eqb k (length ys) ≡ t → (d : Bool)
+          → cond b 0 (suc (cond (eqb k (length ys)) (cond d (length ys) (length ys + 1)) k)) ≡ stepped d (suc (length ys))
+          (cond b 0 (suc k))
       go true k t e d = rw (eqb·zero-suc (length ys))
       go false k true e true = rw (eqb·suc-suc k (length ys), e)
       go false k true e false = rw (eqb·suc-suc k (length ys), e) (omega arith)
       go false k false e d = rw (eqb·suc-suc k (length ys), e)
 
   -- one element more
-  pub first-more : (l : List A) (i : ℕ) (d : A) → i < length l → firstWhere p (take (i + 1) l) ≡ stepped (p (getD l i d)) i (firstWhere p (take i l))
+  pub first-more : (l : List A) (i : ℕ) (d : A) → i < length l
+      → firstWhere p (take (i + 1) l) ≡ stepped (p (getD l i d)) i (firstWhere p (take i l))
   first-more l i d h =
       ap (firstWhere p) (ap (λ (n : ℕ). take n l) (add-one i) ∙ take-suc l i d h)
       ∙ first-snoc (take i l) (getD l i d)

@@ -56,16 +56,19 @@ module _ (t : List ℕ) (formed : Bool) (place : ℕ) (none : TagRefusal) (es : 
   pub refuses-table : length t ≡ 6272 → isTable (entriesIn t) ≡ false → Changes (answerTo t formed place none) es t (Refused NotATable) t
   refuses-table h k = record { answered = out-of-rules t formed place none h k; leaves = refl }
 
-  pub refuses-form : length t ≡ 6272 → isTable (entriesIn t) ≡ true → formed ≡ false → Changes (answerTo t formed place none) es t (Refused NotATag) t
+  pub refuses-form : length t ≡ 6272 → isTable (entriesIn t) ≡ true → formed ≡ false
+      → Changes (answerTo t formed place none) es t (Refused NotATag) t
   refuses-form h k f = record { answered = not-formed t formed place none h k f; leaves = refl }
 
-  pub refuses-place : length t ≡ 6272 → isTable (entriesIn t) ≡ true → formed ≡ true → 64 ≤ place → Changes (answerTo t formed place none) es t (Refused none) t
+  pub refuses-place : length t ≡ 6272 → isTable (entriesIn t) ≡ true → formed ≡ true → 64 ≤ place
+      → Changes (answerTo t formed place none) es t (Refused none) t
   refuses-place h k f p = record { answered = no-place t formed place none h k f p; leaves = refl }
 
 -- ---- set
 
 -- where the tag goes
-pub place-for : (name : List ℕ) (es : List (List ℕ)) (s : Seen) (at : ℕ) → Sees name es s → at ≡ firstPlace (s .named) (s .free) → at ≡ placeFor name es
+pub place-for : (name : List ℕ) (es : List (List ℕ)) (s : Seen) (at : ℕ) → Sees name es s → at ≡ firstPlace (s .named) (s .free)
+    → at ≡ placeFor name es
 unfolding placeFor
 place-for name es s at p e = e ∙ rw (p .named, p .free)
 
@@ -79,7 +82,8 @@ tag-set name value t after at h k f p e w =
       answered = done t (isTag name value) (placeFor name (entriesIn t)) Full h k f (rw (← e) p);
       leaves = (
         ap length w ∙ length-sets t (98 * at) (entryOf name value),
-        ap entriesIn w ∙ set-entry t at (entryOf name value) p h (length-entry name value (l .most) (l .short)) ∙ ap (λ (i : ℕ). set (entriesIn t) i (entryOf name value)) e,
+        ap entriesIn w ∙ set-entry t at (entryOf name value) p h (length-entry name value (l .most) (l .short)) ∙ ap
+            (λ (i : ℕ). set (entriesIn t) i (entryOf name value)) e,
       );
     }
 
@@ -101,7 +105,8 @@ tag-removed name t after at h k f p e w =
 -- ---- take
 
 -- where nothing is of the form, nothing is done
-never-done : (t : List ℕ) (place : ℕ) (none : TagRefusal) (es fs : List (List ℕ)) (a : Changing) (after : List ℕ) → a ≡ answerTo t false place none → Leaves es a t after → Leaves fs a t after
+never-done : (t : List ℕ) (place : ℕ) (none : TagRefusal) (es fs : List (List ℕ)) (a : Changing) (after : List ℕ)
+    → a ≡ answerTo t false place none → Leaves es a t after → Leaves fs a t after
 unfolding answerTo
 never-done t place none es fs Done after e l = absurd (go (eqb (length t) 6272) (isTable (entriesIn t)) e)
   where
@@ -116,7 +121,8 @@ unfolding answerTo isTag isName
 not-taken m t a after e p =
     record {
       answered = rw e (p .answered);
-      leaves = never-done t (placeFor [] (entriesIn t)) Full (withTag [] [] (entriesIn t)) (withTag (nameIn m) (valueIn m) (entriesIn t)) a after (p .answered) (p .leaves);
+      leaves = never-done t (placeFor [] (entriesIn t)) Full (withTag [] [] (entriesIn t)) (withTag (nameIn m) (valueIn m) (entriesIn t)) a
+          after (p .answered) (p .leaves);
     }
 
 pub taken :
@@ -131,7 +137,8 @@ taken m t n v a after r p =
     let y : take (1 + n + 1 + v - (1 + n + 1)) (drop (1 + n + 1) m) ≡ valueIn m =
     ap (λ (l : ℕ). take l (drop (1 + n + 1) m)) k ∙ ap (λ (l : ℕ). take (valueLength m) (drop l m)) j in
     let q : SetsTag (nameIn m) (valueIn m) t a after =
-    subst (λ (w : List ℕ). SetsTag (nameIn m) w t a after) y (subst (λ (w : List ℕ). SetsTag w (take (1 + n + 1 + v - (1 + n + 1)) (drop (1 + n + 1) m)) t a after) x p) in
+    subst (λ (w : List ℕ). SetsTag (nameIn m) w t a after) y
+    (subst (λ (w : List ℕ). SetsTag w (take (1 + n + 1 + v - (1 + n + 1)) (drop (1 + n + 1) m)) t a after) x p) in
     let f : isTag (nameIn m) (valueIn m) ≡ isMessage m = read-tag m (passed m (r .message)) ∙ sym (r .message) in
     record {
       answered = q .answered ∙ ap (λ (d : Bool). answerTo t d (placeFor (nameIn m) (entriesIn t)) Full) f;

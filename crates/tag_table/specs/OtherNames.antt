@@ -27,7 +27,8 @@ pub record Other (name e : List ℕ) : Type 0 where
 
 -- every entry of a table with another name is, byte for byte, as it was
 abbrev pub KeepsOthers : List ℕ → List ℕ → List ℕ → Type 0
-KeepsOthers name before after = (i : ℕ) → Other name (entryAt (entriesIn before) i) → entryAt (entriesIn after) i ≡ entryAt (entriesIn before) i
+KeepsOthers name before after = (i : ℕ) → Other name (entryAt (entriesIn before) i)
+    → entryAt (entriesIn after) i ≡ entryAt (entriesIn before) i
 
 -- the test holds at the first place
 first-holds : {A : Type 0} (p : A → Bool) (l : List A) (d : A) → firstWhere p l < length l → p (getD l (firstWhere p l) d) ≡ true
@@ -45,7 +46,8 @@ module _ (name t : List ℕ) where
   unfolding placeOf isNamed
   other-named i h e o =
       let p : firstWhere (isNamed name) (entriesIn t) < length (entriesIn t) = omega (arith, length-entries t, e) in
-      o .differs (rw e (same-equal name (nameOf (entryAt (entriesIn t) (firstWhere (isNamed name) (entriesIn t)))) (first-holds (isNamed name) (entriesIn t) [] p)))
+      o .differs (rw e (same-equal name (nameOf (entryAt (entriesIn t) (firstWhere (isNamed name) (entriesIn t))))
+      (first-holds (isNamed name) (entriesIn t) [] p)))
 
   other-free : (i : ℕ) → i < 64 → i ≡ firstWhere isFree (entriesIn t) → Other name (entryAt (entriesIn t) i) → ⊥
   other-free i h e o =
@@ -88,14 +90,16 @@ changed-keeps name before formed place none e Done after n p i o =
     ∙ getD-set-other (entriesIn before) place i e [] (λ q. n i (rw q (placed before formed place none (p .answered))) q o)
 
 -- no tag that is set alters an entry with another name
-pub set-keeps : (name value before : List ℕ) (a : Changing) (after : List ℕ) → SetsTag name value before a after → KeepsOthers name before after
+pub set-keeps : (name value before : List ℕ) (a : Changing) (after : List ℕ) → SetsTag name value before a after
+    → KeepsOthers name before after
 unfolding withTag
 set-keeps name value before a after p = changed-keeps name before _ _ _ (entryOf name value) a after (other-place name before) p
 
 -- no tag message that is read and set does
 pub take-keeps : (m before : List ℕ) (a : Changing) (after : List ℕ) → TakesTag m before a after → KeepsOthers (nameIn m) before after
 unfolding withTag
-take-keeps m before a after p = changed-keeps (nameIn m) before _ _ _ (entryOf (nameIn m) (valueIn m)) a after (other-place (nameIn m) before) p
+take-keeps m before a after p =
+    changed-keeps (nameIn m) before _ _ _ (entryOf (nameIn m) (valueIn m)) a after (other-place (nameIn m) before) p
 
 -- nor does a name that is removed
 pub remove-keeps : (name before : List ℕ) (a : Changing) (after : List ℕ) → RemovesTag name before a after → KeepsOthers name before after

@@ -27,13 +27,17 @@ least-most mode = either-way (λ x. x ≤ timeoutMost) (eqb mode 0) (omega arith
 -- the timeout at opening is in range in every mode
 pub first-timeout-in-range : (mode : ℕ) → TimeoutInRange mode timeoutFirst
 unfolding leastTimeout
-first-timeout-in-range mode = record { least = either-way (λ x. x ≤ timeoutFirst) (eqb mode 0) (omega arith) (omega arith); most = omega arith }
+first-timeout-in-range mode = record {
+  least = either-way (λ x. x ≤ timeoutFirst) (eqb mode 0) (omega arith) (omega arith);
+  most = omega arith;
+}
 
 pub timeout-in-range : (s : Settings) (smoothed variation : ℕ) → TimeoutInRange (s .mode) (timeoutOf s smoothed variation)
 unfolding timeoutOf
 timeout-in-range s smoothed variation = record { least = omega (arith, least-most (s .mode)); most = omega arith }
 
-pub sampled-in-range : (p : RoundTrip) (s : Settings) (r : ℕ) → p .smoothed < 2 ^ 31 → p .variation < 2 ^ 31 → r < 2 ^ 31 → RoundTripInRange (s .mode) (sampled p s r)
+pub sampled-in-range : (p : RoundTrip) (s : Settings) (r : ℕ) → p .smoothed < 2 ^ 31 → p .variation < 2 ^ 31 → r < 2 ^ 31
+    → RoundTripInRange (s .mode) (sampled p s r)
 unfolding sampled
 sampled-in-range p s r h v k = record {
   smoothed = smoothed-below (2 ^ 31) (p .smoothed) r (omega arith) h k;

@@ -23,7 +23,8 @@ each-one : {A : Type 0} (f : A → List ℕ) (x : A) → each f (x ∷ []) ≡ f
 unfolding each
 each-one f x = append-nil (f x)
 
-each-next : {A : Type 0} (f : A → List ℕ) (l : List A) (i : ℕ) (d : A) → i < length l → each f (take (i + 1) l) ≡ each f (take i l) ++ f (getD l i d)
+each-next : {A : Type 0} (f : A → List ℕ) (l : List A) (i : ℕ) (d : A) → i < length l → each f (take (i + 1) l) ≡ each f (take i l)
+    ++ f (getD l i d)
 each-next f l i d h = rw (add-one, take-suc l i d, each-append, each-one)
 
 -- a list cut at its array's size
@@ -74,7 +75,8 @@ module _ (packed lengths : List ℕ) (n from i : ℕ) where
 
   -- the next line, of a datagram that ends at e
   pub lines-next : (k e : ℕ) → i < min n (length lengths) → k ≡ getD lengths i 0 → e ≡ from + k → k ≤ length packed - from →
-      left ≡ bytesLine (ascii "datagram ") (take (e - from) (drop from packed)) ++ datagramLines (drop e packed) (drop (i + 1) (take n lengths))
+      left ≡ bytesLine (ascii "datagram ") (take (e - from) (drop from packed))
+      ++ datagramLines (drop e packed) (drop (i + 1) (take n lengths))
   unfolding datagramLines
   lines-next k e h is end whole =
       let inside : getD lengths i 0 ≤ length (drop from packed) = rw length-drop (omega arith) in

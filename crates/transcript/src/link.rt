@@ -11,7 +11,8 @@ use timing::Record;
 ghost use mathlib.Core.Path.{_≡_};
 ghost use Rattle.notation.specs.Puts.{Put};
 ghost use Rattle.words.specs.Words.{heldIn, outstandingIn, waitingIn};
-ghost use Rattle.transcript.specs.Lines.{each, flagOf, stateNumbers, stateLine, entry, heldEntry, recordAt, sentEntry, outstandingEntry, waitingEntry, heldLine};
+ghost use Rattle.transcript.specs.Lines.{each, flagOf, stateNumbers, stateLine, entry, heldEntry};
+ghost use Rattle.transcript.specs.Lines.{recordAt, sentEntry, outstandingEntry, waitingEntry, heldLine};
 
 fn wide(x: u32) -> u64
     ensures { λ r. ⌜ r ≡ x ⌝ }
@@ -141,7 +142,8 @@ fn outstanding(
     count: usize,
     table: [Record; 128],
 ) -> usize
-    ensures { λ r. ⌜ Put (now (out .entry)) at (each (outstandingEntry table) (outstandingIn words transmissions count)) r (now (out .exit)) ⌝ }
+    ensures { λ r. ⌜ Put (now (out .entry)) at (each (outstandingEntry table) (outstandingIn words transmissions count)) r (now (out .exit))
+        ⌝ }
 {
     let n = least(count, 32);
     let mut here = at;

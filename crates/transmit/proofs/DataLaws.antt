@@ -42,12 +42,18 @@ module _ (f : Flush) (word : ℕ) (x : Transmission) (held : Held) (pool : List 
 
   -- what putting it asks
   pub data-room : (k : Packer) (out lengths : List ℕ) → Room (f .settings .mtu) (f .settings .mtu) 1 k out lengths
-      → Room (f .settings .mtu) (24 + held .len) 1 k out lengths × (24 + held .len ≤ f .settings .mtu) × (held .slot * (f .settings .mtu - 24) + held .len ≤ length pool)
-  data-room k out lengths r = (record { fills = r .fills; bytes = omega (arith, small, r .bytes); datagrams = r .datagrams }, small, payload-end)
+      → Room (f .settings .mtu) (24 + held .len) 1 k out lengths × (24 + held .len ≤ f .settings .mtu) ×
+      (held .slot * (f .settings .mtu - 24) + held .len ≤ length pool)
+  data-room k out lengths r = (
+    record { fills = r .fills; bytes = omega (arith, small, r .bytes); datagrams = r .datagrams },
+    small,
+    payload-end,
+  )
 
   -- what is put is added
   pub data-adds : (k : Packer) (out lengths : List ℕ) (k′ : Packer) (out′ lengths′ : List ℕ) → Fills (f .settings .mtu) k
       → Puts (f .settings .mtu) (24 + held .len) (bytesOfSegment (dataOf f pool read)) k out lengths k′ out′ lengths′
       → Adds (f .settings .mtu) (dataOf f pool (sentAs word x) ∷ []) (f .settings .mtu) 1 k out lengths k′ out′ lengths′
   data-adds k out lengths k′ out′ lengths′ q u =
-      adds-as (puts-adds (f .settings .mtu) (24 + held .len) (dataOf f pool read) k out lengths k′ out′ lengths′ data-size small q u) (rw e) small (omega arith)
+      adds-as (puts-adds (f .settings .mtu) (24 + held .len) (dataOf f pool read) k out lengths k′ out′ lengths′ data-size small q u) (rw e)
+      small (omega arith)

@@ -52,12 +52,14 @@ some-more test l y = rw (some-append test l (y ∷ []), or-false)
 
 -- ---- those that are sent
 
-sent-append : (c : Settings) (timeout t : ℕ) (l m : List Sent) → transmittedNow c timeout t (l ++ m) ≡ transmittedNow c timeout t l ++ transmittedNow c timeout t m
+sent-append : (c : Settings) (timeout t : ℕ) (l m : List Sent) → transmittedNow c timeout t (l ++ m) ≡ transmittedNow c timeout t l
+    ++ transmittedNow c timeout t m
 unfolding transmittedNow
 sent-append c timeout t [] m = refl
 sent-append c timeout t (x ∷ l) m = rw (sent-append c timeout t l m) (by-rule (transmittedOf c timeout t x .sends))
   where
-    by-rule : (b : Bool) → cond b (sentAfter c timeout t x ∷ (transmittedNow c timeout t l ++ transmittedNow c timeout t m)) (transmittedNow c timeout t l ++ transmittedNow c timeout t m)
+    by-rule : (b : Bool) → cond b (sentAfter c timeout t x ∷ (transmittedNow c timeout t l ++ transmittedNow c timeout t m))
+        (transmittedNow c timeout t l ++ transmittedNow c timeout t m)
         ≡ cond b (sentAfter c timeout t x ∷ transmittedNow c timeout t l) (transmittedNow c timeout t l) ++ transmittedNow c timeout t m
     by-rule true = refl
     by-rule false = refl
@@ -68,8 +70,10 @@ module _ (f : Flush) (y x : Sent) (sends : Bool) (p : sends ≡ ruleOf f y .send
   unfolding transmittedNow
   one-sent = rw (p, q)
 
-  sent-data : (pool : List ℕ) (l : List Sent) → map (dataOf f pool) (sentBy f (l ++ (y ∷ []))) ≡ map (dataOf f pool) (sentBy f l) ++ wished sends (dataOf f pool x)
-  sent-data pool l = rw (sent-append, one-sent, map-append) (ap (λ (r : List Segment). map (dataOf f pool) (sentBy f l) ++ r) (by-rule sends))
+  sent-data : (pool : List ℕ) (l : List Sent) → map (dataOf f pool) (sentBy f (l ++ (y ∷ []))) ≡ map (dataOf f pool) (sentBy f l)
+      ++ wished sends (dataOf f pool x)
+  sent-data pool l = rw (sent-append, one-sent, map-append)
+      (ap (λ (r : List Segment). map (dataOf f pool) (sentBy f l) ++ r) (by-rule sends))
     where
       by-rule : (b : Bool) → map (dataOf f pool) (cond b (x ∷ []) []) ≡ wished b (dataOf f pool x)
       by-rule true = refl
@@ -85,23 +89,27 @@ module _ (f : Flush) (y x : Sent) (sends : Bool) (p : sends ≡ ruleOf f y .send
 -- ---- the loop
 
 -- The first i of the n segments have been handled.
-pub record Walking (f : Flush) (n : ℕ) (pool : List ℕ) (k₀ : Packer) (out₀ lengths₀ : List ℕ) (l₀ : List Sent) (ws ts : List ℕ) (rs : List Record) (k : Packer) (out lengths : List ℕ) (b b₁ b₂ : Bool) (i : ℕ) : Type 0 where
+pub record Walking (f : Flush) (n : ℕ) (pool : List ℕ) (k₀ : Packer) (out₀ lengths₀ : List ℕ) (l₀ : List Sent) (ws ts : List ℕ)
+    (rs : List Record) (k : Packer) (out lengths : List ℕ) (b b₁ b₂ : Bool) (i : ℕ) : Type 0 where
   pub wholes : length ts ≡ 32
   pub list : Packed 32 n l₀ (sents ws ts rs) (map (afterFlush f) (drop i (take n l₀))) (map (afterFlush f) (take n l₀)) i i
-  pub adds : Adds (f .settings .mtu) (map (dataOf f pool) (sentBy f (take i (take n l₀)))) (i * f .settings .mtu) i k₀ out₀ lengths₀ k out lengths
+  pub adds : Adds (f .settings .mtu) (map (dataOf f pool) (sentBy f (take i (take n l₀)))) (i * f .settings .mtu) i k₀ out₀ lengths₀ k out
+      lengths
   pub dead : b ≡ someDead (sentBy f (take i (take n l₀)))
   pub late : b₁ ≡ lateBy f (take i (take n l₀))
   pub fast : b₂ ≡ fastBy f (take i (take n l₀))
 
 -- the same, by other names
-pub walking-as : {f : Flush} {n : ℕ} {pool : List ℕ} {k₀ : Packer} {out₀ lengths₀ : List ℕ} {l₀ : List Sent} {ws ts ts′ : List ℕ} {rs rs′ : List Record} {k k′ : Packer} {out out′ lengths lengths′ : List ℕ} {b b′ late late′ fast fast′ : Bool} {i : ℕ}
+pub walking-as : {f : Flush} {n : ℕ} {pool : List ℕ} {k₀ : Packer} {out₀ lengths₀ : List ℕ} {l₀ : List Sent} {ws ts ts′ : List ℕ}
+    {rs rs′ : List Record} {k k′ : Packer} {out out′ lengths lengths′ : List ℕ} {b b′ late late′ fast fast′ : Bool} {i : ℕ}
     → ts′ ≡ ts → out′ ≡ out → lengths′ ≡ lengths → rs′ ≡ rs → k′ ≡ k → b′ ≡ b → late′ ≡ late → fast′ ≡ fast
     → Walking f n pool k₀ out₀ lengths₀ l₀ ws ts rs k out lengths b late fast i
     → Walking f n pool k₀ out₀ lengths₀ l₀ ws ts′ rs′ k′ out′ lengths′ b′ late′ fast′ i
 walking-as et eo el er ek eb ea ef w = rw (et, eo, el, er, ek, eb, ea, ef) w
 
 pub walking-start : (f : Flush) (n : ℕ) (pool : List ℕ) (k₀ : Packer) (out₀ lengths₀ : List ℕ) (ws ts : List ℕ) (rs : List Record)
-    → n ≤ 32 → length ws ≡ 32 → length ts ≡ 32 → length rs ≡ 32 → Fills (f .settings .mtu) k₀ → Walking f n pool k₀ out₀ lengths₀ (sents ws ts rs) ws ts rs k₀ out₀ lengths₀ false false false 0
+    → n ≤ 32 → length ws ≡ 32 → length ts ≡ 32 → length rs ≡ 32 → Fills (f .settings .mtu) k₀
+    → Walking f n pool k₀ out₀ lengths₀ (sents ws ts rs) ws ts rs k₀ out₀ lengths₀ false false false 0
 unfolding transmittedNow
 walking-start f n pool k₀ out₀ lengths₀ ws ts rs h ew et er q =
     record {
@@ -113,11 +121,13 @@ walking-start f n pool k₀ out₀ lengths₀ ws ts rs h ew et er q =
       fast = refl;
     }
 
-module _ (f : Flush) (n : ℕ) (pool : List ℕ) (k₀ : Packer) (out₀ lengths₀ : List ℕ) (l₀ : List Sent) (ws ts : List ℕ) (rs : List Record) (k : Packer) (out lengths : List ℕ) (dead late fast : Bool) (i : ℕ)
+module _ (f : Flush) (n : ℕ) (pool : List ℕ) (k₀ : Packer) (out₀ lengths₀ : List ℕ) (l₀ : List Sent) (ws ts : List ℕ) (rs : List Record)
+    (k : Packer) (out lengths : List ℕ) (dead late fast : Bool) (i : ℕ)
     (w : Walking f n pool k₀ out₀ lengths₀ l₀ ws ts rs k out lengths dead late fast i) where
   module _ (h : i < n) where
     -- there is room for the next one
-    pub walking-room : Room (f .settings .mtu) (32 * f .settings .mtu) 32 k₀ out₀ lengths₀ → Room (f .settings .mtu) (f .settings .mtu) 1 k out lengths
+    pub walking-room : Room (f .settings .mtu) (32 * f .settings .mtu) 32 k₀ out₀ lengths₀
+        → Room (f .settings .mtu) (f .settings .mtu) 1 k out lengths
     walking-room a =
         let below : suc i ≤ 32 = omega (arith, w .list .room) in
         room-left (w .adds) a (omega (arith, mul-le-mul-right (f .settings .mtu) below)) (omega arith)
@@ -128,7 +138,8 @@ module _ (f : Flush) (n : ℕ) (pool : List ℕ) (k₀ : Packer) (out₀ lengths
       read = withRecord (outstandingAt (getD ws i 0) (getD ts i 0)) (getD rs i r)
 
       here : getD (sents ws ts rs) i (withRecord (outstandingAt 0 0) r) ≡ read
-      here = sents-get ws ts rs i r (omega (arith, w .list .room)) (omega (arith, w .list .room, w .wholes)) (omega (arith, w .list .room, w .list .written .whole))
+      here = sents-get ws ts rs i r (omega (arith, w .list .room)) (omega (arith, w .list .room, w .wholes))
+          (omega (arith, w .list .room, w .list .written .whole))
 
       next : drop i (take n l₀) ≡ read ∷ drop (i + 1) (take n l₀)
       next = rw here at (packed-next (withRecord (outstandingAt 0 0) r) h (w .list))
@@ -144,7 +155,8 @@ module _ (f : Flush) (n : ℕ) (pool : List ℕ) (k₀ : Packer) (out₀ lengths
         -- a turn
         turn : (ts′ : List ℕ) (rs′ : List Record) (k′ : Packer) (out′ lengths′ : List ℕ) (b : Bool)
             → length ts′ ≡ 32 → set (sents ws ts rs) i (sentAs (getD ws i 0) x) ≡ sents ws ts′ rs′
-            → Adds (f .settings .mtu) (wished (x .sends) (dataOf f pool (sentAs (getD ws i 0) x))) (f .settings .mtu) 1 k out lengths k′ out′ lengths′
+            → Adds (f .settings .mtu) (wished (x .sends) (dataOf f pool (sentAs (getD ws i 0) x))) (f .settings .mtu) 1 k out lengths k′
+            out′ lengths′
             → b ≡ (x .sends && eqb (x .transmissions) 20)
             → Walking f n pool k₀ out₀ lengths₀ l₀ ws ts′ rs′ k′ out′ lengths′ (dead || b) (late || x .late) (fast || x .fast) (i + 1)
         turn ts′ rs′ k′ out′ lengths′ b l s a t =
@@ -153,7 +165,8 @@ module _ (f : Flush) (n : ℕ) (pool : List ℕ) (k₀ : Packer) (out₀ lengths
             record {
               wholes = l;
               list = rw (← s, after) (packed-put h (rw next at (w .list)));
-              adds = rw (more, sent-data f read (sentAs (getD ws i 0) x) (x .sends) sends after) (adds-as (adds-append (w .adds) a) refl (omega arith) (omega arith));
+              adds = rw (more, sent-data f read (sentAs (getD ws i 0) x) (x .sends) sends after)
+                  (adds-as (adds-append (w .adds) a) refl (omega arith) (omega arith));
               dead = rw (more, sent-dead f read (sentAs (getD ws i 0) x) (x .sends) sends after, ← (w .dead), ← t);
               late = rw (more, some-more, ← (w .late), ← e);
               fast = rw (more, some-more, ← (w .fast), ← e);
@@ -162,7 +175,8 @@ module _ (f : Flush) (n : ℕ) (pool : List ℕ) (k₀ : Packer) (out₀ lengths
         -- it is sent
         pub walking-sent : (k′ : Packer) (out′ lengths′ : List ℕ) → x .sends ≡ true
             → Adds (f .settings .mtu) (dataOf f pool (sentAs (getD ws i 0) x) ∷ []) (f .settings .mtu) 1 k out lengths k′ out′ lengths′
-            → Walking f n pool k₀ out₀ lengths₀ l₀ ws (set ts i (x .transmissions)) (set rs i (x .updated)) k′ out′ lengths′ (dead || eqb (x .transmissions) 20) (late || x .late) (fast || x .fast) (i + 1)
+            → Walking f n pool k₀ out₀ lengths₀ l₀ ws (set ts i (x .transmissions)) (set rs i (x .updated)) k′ out′ lengths′
+            (dead || eqb (x .transmissions) 20) (late || x .late) (fast || x .fast) (i + 1)
         walking-sent k′ out′ lengths′ s a =
             turn (set ts i (x .transmissions)) (set rs i (x .updated)) k′ out′ lengths′ (eqb (x .transmissions) 20)
             (length-set ts i (x .transmissions) ∙ w .wholes)
@@ -173,17 +187,20 @@ module _ (f : Flush) (n : ℕ) (pool : List ℕ) (k₀ : Packer) (out₀ lengths
         -- it is not sent, and stays
         pub walking-kept : x .sends ≡ false → Walking f n pool k₀ out₀ lengths₀ l₀ ws ts rs k out lengths dead late fast (i + 1)
         walking-kept s =
-            let kept = e ∙ transmission-not-sent (f .settings) (f .timeout) (f .t) (getD ts i 0) (getD rs i r) (sym (ap (λ (y : Transmission). y .sends) e) ∙ s) in
+            let kept = e ∙ transmission-not-sent (f .settings) (f .timeout) (f .t) (getD ts i 0) (getD rs i r)
+            (sym (ap (λ (y : Transmission). y .sends) e) ∙ s) in
             let on-time : x .late ≡ false = ap (λ (y : Transmission). y .late) kept in
             let in-turn : x .fast ≡ false = ap (λ (y : Transmission). y .fast) kept in
             rw (on-time, in-turn, or-false dead, or-false late, or-false fast) at (turn ts rs k out lengths false (w .wholes)
-            (ap (λ (y : Sent). set (sents ws ts rs) i y) (ap (sentAs (getD ws i 0)) kept ∙ sym here) ∙ set-getD (sents ws ts rs) i (withRecord (outstandingAt 0 0) r))
+            (ap (λ (y : Sent). set (sents ws ts rs) i y) (ap (sentAs (getD ws i 0)) kept ∙ sym here) ∙ set-getD (sents ws ts rs) i
+            (withRecord (outstandingAt 0 0) r))
             (wished-none _ _ _ _ k out lengths (x .sends) s (w .adds .fills))
             (rw s))
 
   -- all are handled
   pub walking-done : (ts₀ : List ℕ) (rs₀ : List Record) → l₀ ≡ sents ws ts₀ rs₀ → length ws ≡ 32 → n ≤ i
-      → Walks f (sentIn ws ts₀ rs₀ n) ws n pool k₀ out₀ lengths₀ (record { records = rs; packer = k; dead = dead; late = late; fast = fast }) ts out lengths
+      → Walks f (sentIn ws ts₀ rs₀ n) ws n pool k₀ out₀ lengths₀
+      (record { records = rs; packer = k; dead = dead; late = late; fast = fast }) ts out lengths
   walking-done ts₀ rs₀ q whole h =
       let all : i ≡ n = omega (arith, w .list .upto) in
       let here : take n l₀ ≡ sentIn ws ts₀ rs₀ n = rw q (sym (sents-take ws ts₀ rs₀ n)) in

@@ -21,7 +21,8 @@ use Rattle.transmit.specs.Writing.{Writable, Walks, Writes}
 
 -- ---- room
 
-module _ (f : Flush) (noted : ℕ) (acks words transmissions : List ℕ) (records : List Record) (n : ℕ) (pool out lengths : List ℕ) (w : Writable f noted acks words transmissions records n pool out lengths) where
+module _ (f : Flush) (noted : ℕ) (acks words transmissions : List ℕ) (records : List Record) (n : ℕ) (pool out lengths : List ℕ)
+    (w : Writable f noted acks words transmissions records n pool out lengths) where
   whole-room : f .settings .mtu < 2 ^ 16 → Room (f .settings .mtu) (258 * 24 + 32 * f .settings .mtu) 290 none out lengths
   whole-room h =
       record {
@@ -31,36 +32,52 @@ module _ (f : Flush) (noted : ℕ) (acks words transmissions : List ℕ) (record
       }
 
   -- for the controls
-  pub controls-room : (k : Packer) → k ≡ none → f .settings .mtu < 2 ^ 16 → Room (f .settings .mtu) (24 * noted + 48) (noted + 2) k out lengths
-  controls-room k e h = rw e (record { fills = whole-room h .fills; bytes = omega (arith, w .few, w .bytes); datagrams = omega (arith, w .few, w .sizes) })
+  pub controls-room : (k : Packer) → k ≡ none → f .settings .mtu < 2 ^ 16
+      → Room (f .settings .mtu) (24 * noted + 48) (noted + 2) k out lengths
+  controls-room k e h = rw e (record {
+    fills = whole-room h .fills;
+    bytes = omega (arith, w .few, w .bytes);
+    datagrams = omega (arith, w .few, w .sizes);
+  })
 
-  module _ (gs : List Segment) (k₀ k : Packer) (out′ lengths′ : List ℕ) (e : k₀ ≡ none) (a : Adds (f .settings .mtu) gs (24 * noted + 48) (noted + 2) k₀ out lengths k out′ lengths′) where
+  module _ (gs : List Segment) (k₀ k : Packer) (out′ lengths′ : List ℕ) (e : k₀ ≡ none)
+      (a : Adds (f .settings .mtu) gs (24 * noted + 48) (noted + 2) k₀ out lengths k out′ lengths′) where
     -- for the data
     pub data-left : Room (f .settings .mtu) (32 * f .settings .mtu) 32 k out′ lengths′
     data-left = room-left (rw e at a) (whole-room (a .fills .word)) (omega (arith, w .few)) (omega (arith, w .few))
 
     -- for the last length
-    pub last-left : (l : List Sent) (r : Walked) (transmissions′ out″ lengths″ : List ℕ) → Walks f l words n pool k out′ lengths′ r transmissions′ out″ lengths″ → Fills (f .settings .mtu) (r .packer) × (begun (r .packer) ≤ length lengths″)
-    last-left l r transmissions′ out″ lengths″ v = (v .adds .fills, omega (arith, v .adds .datagrams, v .adds .lengths-length, data-left .datagrams))
+    pub last-left : (l : List Sent) (r : Walked) (transmissions′ out″ lengths″ : List ℕ)
+        → Walks f l words n pool k out′ lengths′ r transmissions′ out″ lengths″
+        → Fills (f .settings .mtu) (r .packer) × (begun (r .packer) ≤ length lengths″)
+    last-left l r transmissions′ out″ lengths″ v =
+        (v .adds .fills, omega (arith, v .adds .datagrams, v .adds .lengths-length, data-left .datagrams))
 
 -- ---- what is written
 
-output-of : (mtu n m : ℕ) (gs : List Segment) (k₀ : Packer) (out lengths : List ℕ) (k : Packer) (out′ lengths′ : List ℕ) (count : ℕ) (lengths″ : List ℕ)
-    → k₀ ≡ none → Adds mtu gs n m k₀ out lengths k out′ lengths′ → Finishes k lengths′ count lengths″ → Output (bytesOfDatagrams (packed mtu gs)) out lengths count out′ lengths″
+output-of : (mtu n m : ℕ) (gs : List Segment) (k₀ : Packer) (out lengths : List ℕ) (k : Packer) (out′ lengths′ : List ℕ) (count : ℕ)
+    (lengths″ : List ℕ)
+    → k₀ ≡ none → Adds mtu gs n m k₀ out lengths k out′ lengths′ → Finishes k lengths′ count lengths″
+    → Output (bytesOfDatagrams (packed mtu gs)) out lengths count out′ lengths″
 unfolding packed
 output-of mtu n m gs k₀ out lengths k out′ lengths′ count lengths″ e a c =
     finishes-output out lengths k out′ lengths′ count lengths″ c (foldl (packOne mtu) (record { closed = []; filling = [] }) gs)
     ((rw e at a) .packs out lengths (record { closed = []; filling = [] }) (packs-none out lengths))
 
-pub writes-all : (f : Flush) (acks : List Ack) (ask tell : Bool) (l : List Sent) (words : List ℕ) (count : ℕ) (pool : List ℕ) (n m : ℕ) (k₀ : Packer) (out lengths : List ℕ) (k : Packer) (out′ lengths′ : List ℕ) (r : Walked) (transmissions′ out″ lengths″ : List ℕ) (number : ℕ) (lengths‴ : List ℕ)
+pub writes-all : (f : Flush) (acks : List Ack) (ask tell : Bool) (l : List Sent) (words : List ℕ) (count : ℕ) (pool : List ℕ) (n m : ℕ)
+    (k₀ : Packer) (out lengths : List ℕ) (k : Packer) (out′ lengths′ : List ℕ) (r : Walked) (transmissions′ out″ lengths″ : List ℕ)
+    (number : ℕ) (lengths‴ : List ℕ)
     → k₀ ≡ none
-    → Adds (f .settings .mtu) (map (ackSegment (carriedOf (f .carried))) acks ++ wished ask (control (carriedOf (f .carried)) windowAsk 0 0) ++ wished tell (control (carriedOf (f .carried)) windowTell 0 0)) n m k₀ out lengths k out′ lengths′
+    → Adds (f .settings .mtu) (map (ackSegment (carriedOf (f .carried))) acks ++ wished ask (control (carriedOf (f .carried)) windowAsk 0 0)
+    ++ wished tell (control (carriedOf (f .carried)) windowTell 0 0)) n m k₀ out lengths k out′ lengths′
     → Walks f l words count pool k out′ lengths′ r transmissions′ out″ lengths″
     → Finishes (r .packer) lengths″ number lengths‴
-    → Writes f acks ask tell l words count pool out lengths (record { records = r .records; dead = r .dead; late = r .late; fast = r .fast; count = number }) transmissions′ out″ lengths‴
+    → Writes f acks ask tell l words count pool out lengths
+    (record { records = r .records; dead = r .dead; late = r .late; fast = r .fast; count = number }) transmissions′ out″ lengths‴
 writes-all f acks ask tell l words count pool n m k₀ out lengths k out′ lengths′ r transmissions′ out″ lengths″ number lengths‴ e a v c =
     record {
-      output = rw (append-assoc, append-assoc) at (output-of _ _ _ _ k₀ out lengths (r .packer) out″ lengths″ number lengths‴ e (adds-append a (v .adds)) c);
+      output = rw (append-assoc, append-assoc) at
+          (output-of _ _ _ _ k₀ out lengths (r .packer) out″ lengths″ number lengths‴ e (adds-append a (v .adds)) c);
       sent = v .sent;
       dead = v .dead;
       late = v .late;

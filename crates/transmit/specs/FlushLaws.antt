@@ -13,14 +13,16 @@ use Rattle.transmit.specs.Writing.{segmentsOf, sentBy, afterFlush, Write
 use Rattle.transmit.specs.Flushes.{FlushOf, outstandingNow, asks, FlushWrites}
 
 module _ (s : State) (t : ℕ) (f : Flush) (e : FlushOf s t f) (pool : List ℕ) where
-  same-segments : (ask : Bool) (sent : List Sent) → segmentsOf f (s .receiving .acks) ask (s .receiving .tell) pool sent ≡ written s t pool ask sent
+  same-segments : (ask : Bool) (sent : List Sent)
+      → segmentsOf f (s .receiving .acks) ask (s .receiving .tell) pool sent ≡ written s t pool ask sent
   unfolding written
   same-segments ask sent = rw (e .settings, e .carries, e .time)
 
   same-sent : (l : List Sent) → sentBy f l ≡ transmittedNow (s .settings) (s .sending .roundTrip .timeout) t l
   same-sent l = rw (e .settings, e .timeout, e .time)
 
-  same-datagrams : packed (f .settings .mtu) (segmentsOf f (s .receiving .acks) (asks s t) (s .receiving .tell) pool (sentBy f (outstandingNow s))) ≡ flushing s t pool .datagrams
+  same-datagrams : packed (f .settings .mtu)
+      (segmentsOf f (s .receiving .acks) (asks s t) (s .receiving .tell) pool (sentBy f (outstandingNow s))) ≡ flushing s t pool .datagrams
   unfolding flushing
   same-datagrams = rw (same-segments, same-sent, e .settings)
 
@@ -29,7 +31,8 @@ module _ (s : State) (t : ℕ) (f : Flush) (e : FlushOf s t f) (pool : List ℕ)
   same-outstanding = rw (e .settings, e .timeout, e .time)
 
   pub flush-writes : (words : List ℕ) (n : ℕ) (out lengths : List ℕ) (r : Written) (transmissions′ out′ lengths′ : List ℕ)
-      → Writes f (s .receiving .acks) (asks s t) (s .receiving .tell) (outstandingNow s) words n pool out lengths r transmissions′ out′ lengths′
+      → Writes f (s .receiving .acks) (asks s t) (s .receiving .tell) (outstandingNow s) words n pool out lengths r transmissions′ out′
+      lengths′
       → FlushWrites s t words n pool out lengths r transmissions′ out′ lengths′
   unfolding flushing
   flush-writes words n out lengths r transmissions′ out′ lengths′ w =

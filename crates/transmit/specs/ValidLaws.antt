@@ -27,7 +27,8 @@ in-slots m (h ∷ l) p q =
     (record { len = leb-true _ _ (and-parts _ _ (a .0) .0); slot = ltb-true _ _ (b .0) }, in-slots m l (a .1) (b .1))
 
 -- the held parts of these are those
-outstanding-inside : (m : ℕ) (l : List Sent) (q : List Held) (r : List Sent) → (All (InSlot m) q → AllInSlots m r) → All (InSlot m) (map (λ (x : Sent). x .held) l ++ q) → AllInSlots m (l ++ r)
+outstanding-inside : (m : ℕ) (l : List Sent) (q : List Held) (r : List Sent) → (All (InSlot m) q → AllInSlots m r)
+    → All (InSlot m) (map (λ (x : Sent). x .held) l ++ q) → AllInSlots m (l ++ r)
 outstanding-inside m [] q r f a = f a
 outstanding-inside m (x ∷ l) q r f a = (a .0, outstanding-inside m l q r f (a .1))
 
@@ -41,5 +42,6 @@ pub valid-inside : (c : Settings) (s : Sending) (k : ℕ) → sendingValid c s �
 unfolding sendingValid withNumbered
 valid-inside c s k e =
     let held = and-parts _ _ (and-parts _ _ (and-parts _ _ (and-parts _ _ e .0) .0) .0) in
-    outstanding-inside (mss c) (s .outstanding) (s .queued) (numbered (s .next) (take k (s .queued))) (numbered-inside (mss c) k (s .next) (s .queued))
+    outstanding-inside (mss c) (s .outstanding) (s .queued) (numbered (s .next) (take k (s .queued)))
+    (numbered-inside (mss c) k (s .next) (s .queued))
     (in-slots (mss c) (sendHeld s) (held .0) (and-parts _ _ (held .1) .0))

@@ -14,7 +14,19 @@ use Rattle.lists.specs.declared.Sent.{Sent}
 use Rattle.datagram.specs.Datagrams.{Segment}
 use Rattle.session.specs.State.{Ack}
 use Rattle.session.specs.Decides.{All}
-use Rattle.session.specs.Flushing.{transmittedOf, sentAfter, transmittedNow, someDead, someLate, someFast, control, ackSegment, dataSegment, wished, packed}
+use Rattle.session.specs.Flushing.{
+  transmittedOf,
+  sentAfter,
+  transmittedNow,
+  someDead,
+  someLate,
+  someFast,
+  control,
+  ackSegment,
+  dataSegment,
+  wished,
+  packed,
+}
 use Rattle.packing.specs.declared.Packer.{Packer}
 use Rattle.packing.specs.Packers.{carriedOf, Output, bytesOfDatagrams, Adds}
 use Rattle.words.specs.Words.{unpack}
@@ -59,7 +71,8 @@ AllInSlots m = All (λ (x : Sent). InSlot m (x .held))
 abbrev pub sentAs : ℕ → Transmission → Sent
 sentAs word x = record { held = unpack word; transmissions = x .transmissions; «record» = x .updated }
 
--- what the checks of a flush have established of n outstanding segments: there are at most 32, each in its slot, and the send pool has 128 slots
+-- what the checks of a flush have established of n outstanding segments: there are at most 32, each in its slot, and the send pool has 128
+-- slots
 pub record Sendable (f : Flush) (words transmissions : List ℕ) (records : List Record) (n : ℕ) (pool : List ℕ) : Type 0 where
   pub mtu : 24 ≤ f .settings .mtu
   pub whole : length words ≡ 32
@@ -68,9 +81,10 @@ pub record Sendable (f : Flush) (words transmissions : List ℕ) (records : List
   pub inside : AllInSlots (mss (f .settings)) (sentIn words transmissions records n)
   pub slots : 128 * mss (f .settings) ≤ length pool
 
--- all n segments of l are handled: those sent are put as data, each is as its rule leaves it, and it is told whether one sent was transmitted
--- 20 times, due or skipped
-pub record Walks (f : Flush) (l : List Sent) (words : List ℕ) (n : ℕ) (pool : List ℕ) (k : Packer) (out lengths : List ℕ) (r : Walked) (transmissions′ out′ lengths′ : List ℕ) : Type 0 where
+-- all n segments of l are handled: those sent are put as data, each is as its rule leaves it, and it is told whether one sent was
+-- transmitted 20 times, due or skipped
+pub record Walks (f : Flush) (l : List Sent) (words : List ℕ) (n : ℕ) (pool : List ℕ) (k : Packer) (out lengths : List ℕ) (r : Walked)
+    (transmissions′ out′ lengths′ : List ℕ) : Type 0 where
   pub adds : Adds (f .settings .mtu) (map (dataOf f pool) (sentBy f l)) (32 * f .settings .mtu) 32 k out lengths (r .packer) out′ lengths′
   pub sent : SentFront words transmissions′ (r .records) n (map (afterFlush f) l)
   pub dead : r .dead ≡ someDead (sentBy f l)
@@ -87,18 +101,22 @@ segmentsOf f acks ask tell pool sent =
     ++ (wished tell (control (carriedOf (f .carried)) windowTell 0 0)
     ++ map (dataOf f pool) sent))
 
--- what the checks of a flush have established besides: at most 256 acks, within the ack list; room for 258 headers and 32 whole datagrams, and for 290 lengths
-pub record Writable (f : Flush) (noted : ℕ) (acks words transmissions : List ℕ) (records : List Record) (n : ℕ) (pool out lengths : List ℕ) : Type 0 where
+-- what the checks of a flush have established besides: at most 256 acks, within the ack list; room for 258 headers and 32 whole datagrams,
+-- and for 290 lengths
+pub record Writable (f : Flush) (noted : ℕ) (acks words transmissions : List ℕ) (records : List Record) (n : ℕ)
+    (pool out lengths : List ℕ) : Type 0 where
   pub sendable : Sendable f words transmissions records n pool
   pub few : noted ≤ 256
   pub pairs : 2 * noted ≤ length acks
   pub bytes : 258 * 24 + 32 * f .settings .mtu ≤ length out
   pub sizes : 290 ≤ length lengths
 
--- what a flush writes: the output has its datagrams, each outstanding segment of l is as its rule leaves it, and it is told whether one sent
--- was transmitted 20 times, due or skipped
-pub record Writes (f : Flush) (acks : List Ack) (ask tell : Bool) (l : List Sent) (words : List ℕ) (n : ℕ) (pool out lengths : List ℕ) (r : Written) (transmissions′ out′ lengths′ : List ℕ) : Type 0 where
-  pub output : Output (bytesOfDatagrams (packed (f .settings .mtu) (segmentsOf f acks ask tell pool (sentBy f l)))) out lengths (r .count) out′ lengths′
+-- what a flush writes: the output has its datagrams, each outstanding segment of l is as its rule leaves it, and it is told whether one
+-- sent was transmitted 20 times, due or skipped
+pub record Writes (f : Flush) (acks : List Ack) (ask tell : Bool) (l : List Sent) (words : List ℕ) (n : ℕ) (pool out lengths : List ℕ)
+    (r : Written) (transmissions′ out′ lengths′ : List ℕ) : Type 0 where
+  pub output : Output (bytesOfDatagrams (packed (f .settings .mtu) (segmentsOf f acks ask tell pool (sentBy f l)))) out lengths (r .count)
+      out′ lengths′
   pub sent : SentFront words transmissions′ (r .records) n (map (afterFlush f) l)
   pub dead : r .dead ≡ someDead (sentBy f l)
   pub late : r .late ≡ lateBy f l

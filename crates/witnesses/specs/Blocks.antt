@@ -68,7 +68,10 @@ linkOf s =
 abbrev pub afterSend : Endpoint → Outcome Sends → Endpoint
 afterSend e (refused r) = e
 afterSend e (done x) =
-    record { link = linkOf (x .state); parts = record { sendPool = x .pool; receivePool = e .parts .receivePool; table = e .parts .table; acks = e .parts .acks } }
+    record {
+      link = linkOf (x .state);
+      parts = record { sendPool = x .pool; receivePool = e .parts .receivePool; table = e .parts .table; acks = e .parts .acks };
+    }
 
 abbrev pub afterInput : Endpoint → Outcome Took → Endpoint
 afterInput e (refused r) = e
@@ -88,7 +91,12 @@ afterFlush e (refused r) = e
 afterFlush e (done x) =
     record {
       link = linkOf (x .state);
-      parts = record { sendPool = e .parts .sendPool; receivePool = e .parts .receivePool; table = tableOf (e .parts .table) (x .state); acks = e .parts .acks };
+      parts = record {
+        sendPool = e .parts .sendPool;
+        receivePool = e .parts .receivePool;
+        table = tableOf (e .parts .table) (x .state);
+        acks = e .parts .acks;
+      };
     }
 
 abbrev pub afterReading : Endpoint → Outcome Reads → Endpoint

@@ -22,15 +22,39 @@ use Rattle.sizes.specs.Sizes.{enough, enoughToFlush}
 use Rattle.schedule.specs.Schedules as scheduling
 use Rattle.schedule.specs.Schedules.{isAstray, corrected, started, following, ahead, earliest, named}
 use Rattle.congestion.specs.Congestions as congestion
-use Rattle.congestion.specs.Congestions.{usedWindow, slowStart, raised, widened, avoidance, limited, grown, afterDatagram, halved, bySkips, byTimeout, atLeastOne, fits}
+use Rattle.congestion.specs.Congestions.{
+  usedWindow,
+  slowStart,
+  raised,
+  widened,
+  avoidance,
+  limited,
+  grown,
+  afterDatagram,
+  halved,
+  bySkips,
+  byTimeout,
+  atLeastOne,
+  fits,
+}
 use Rattle.session.specs.Slots.{occurs, lowestFrom, lowestFree}
 use Rattle.session.specs.Valid.{numbersFit, waitingFits, settled, sendingValid, receivingValid, valid}
 use Rattle.session.specs.Cutting.{fragmentCount, segmentCount, pieces, cutAs}
 use Rattle.session.specs.Sending.{place, filled, sending}
-use Rattle.session.specs.Flushing.{numbered, numberedCount, withNumbered, transmittedNow, written, bytesOfSegments, packOne, packed, flushing}
+use Rattle.session.specs.Flushing.{
+  numbered,
+  numberedCount,
+  withNumbered,
+  transmittedNow,
+  written,
+  bytesOfSegments,
+  packOne,
+  packed,
+  flushing,
+}
 use Rattle.session.specs.Updating.{updating, checking}
 use Rattle.session.specs.Opening.{opened, opening}
-use Rattle.session.specs.Calls.{Call, Answer, Event}
+use Rattle.session.specs.Calls.{Call, Reply, Event}
 use Rattle.words.specs.Words.{paired}
 use Rattle.control.specs.Views.{pairs, stateOf, countsFit, blockValid}
 use Rattle.records.specs.Tables.{blank, scattered}
@@ -38,6 +62,7 @@ use Rattle.packing.specs.Packers.{joined, lengthsOf}
 use Rattle.answers.specs.declared.Update.{Update}
 use Rattle.answers.specs.declared.Update.the-variants as update
 use Rattle.answers.specs.declared.Time.the-variants as time
+use Rattle.promises.specs.Parts.{FlushParts, flushPartsOf}
 use Rattle.promises.specs.Outcomes.{sendsWith, updatesWith, checksWith}
 use Rattle.promises.specs.Promises.{UpdatePromise, CheckPromise}
 use Rattle.demands.specs.Steps.{Endpoint, cutBy, Called, start, next, SinceOpening}
@@ -91,25 +116,27 @@ rested = at 106
 unfoldable pub rested-again : Endpoint
 rested-again = at 20
 
-abbrev output : List ℕ
-output = replicate outputLeast 0
-
-abbrev lengths : List ℕ
-lengths = replicate lengthsLeast 0
+abbrev blank-parts : FlushParts
+blank-parts = flushPartsOf (replicate outputLeast 0) (replicate lengthsLeast 0)
 
 -- ---- each call keeps its promise
 
-pub updates-it : Called sent (Call.update 7) (Answer.wrote (datagram ∷ [])) updated
-unfolding usedWindow slowStart raised widened avoidance limited grown afterDatagram halved bySkips byTimeout atLeastOne fits congestion.afterFlush sent fresh updated datagram parts opened opening countsFit stateOf pairs joining.joined blockValid scattered joined lengthsOf cutBy sendsWith updatesWith checksWith scheduling.updated corrected started following isAstray ahead earliest named updating checking signed isBefore isAfter isDue front back encode bytesOf longerWait nextClock leastTimeout firstDue growth longerTimeout isSkipped transmission firstNumberOr startsAt ascending enough enoughToFlush fragmentCount segmentCount pieces cutAs filled numbered numberedCount withNumbered transmittedNow written bytesOfSegments packOne packed flushing place sending occurs lowestFrom lowestFree numbersFit waitingFits settled sendingValid receivingValid valid paired
+pub updates-it : Called sent (Call.update 7) (Reply.wrote (datagram ∷ [])) updated
+unfolding usedWindow slowStart raised widened avoidance limited grown afterDatagram halved bySkips byTimeout atLeastOne fits
+    congestion.afterFlush sent fresh updated datagram parts opened opening countsFit stateOf pairs joining.joined blockValid scattered
+    joined lengthsOf cutBy sendsWith updatesWith checksWith scheduling.updated corrected started following isAstray ahead earliest named
+    updating checking signed isBefore isAfter isDue front back encode bytesOf longerWait nextClock leastTimeout firstDue growth
+    longerTimeout isSkipped transmission firstNumberOr startsAt ascending enough enoughToFlush fragmentCount segmentCount pieces cutAs
+    filled numbered numberedCount withNumbered transmittedNow written bytesOfSegments packOne packed flushing place sending occurs
+    lowestFrom lowestFree numbersFit waitingFits settled sendingValid receivingValid valid paired
 updates-it = record {
-  output = output;
-  lengths = lengths;
+  lent = blank-parts;
   room = record { long = omega arith; many = omega arith };
   gives = update.Wrote 1;
-  output′ = sets output 0 datagram;
-  lengths′ = sets lengths 0 (26 ∷ []);
+  after = flushPartsOf (sets (blank-parts .output) 0 datagram) (sets (blank-parts .lengths) 0 (26 ∷ []));
   promise = record {
     answer = refl;
+    number = refl;
     leaves = record {
       stands = record { counts = refl; state = refl };
       sendPool = refl;
@@ -123,31 +150,51 @@ updates-it = record {
 }
 
 pub checks-it : CheckPromise 8 (updated .link) (updated .parts) (time.At 107)
-unfolding usedWindow slowStart raised widened avoidance limited grown afterDatagram halved bySkips byTimeout atLeastOne fits congestion.afterFlush updated rested rested-again countsFit stateOf pairs joining.joined blockValid updatesWith checksWith scheduling.updated corrected started following isAstray ahead earliest named updating checking signed isBefore isAfter isDue leastTimeout firstNumberOr startsAt ascending enough enoughToFlush occurs numbersFit waitingFits settled sendingValid receivingValid valid paired
-checks-it = record { answer = refl }
+unfolding usedWindow slowStart raised widened avoidance limited grown afterDatagram halved bySkips byTimeout atLeastOne fits
+    congestion.afterFlush updated rested rested-again countsFit stateOf pairs joining.joined blockValid updatesWith checksWith
+    scheduling.updated corrected started following isAstray ahead earliest named updating checking signed isBefore isAfter isDue
+    leastTimeout firstNumberOr startsAt ascending enough enoughToFlush occurs numbersFit waitingFits settled sendingValid receivingValid
+    valid paired
+checks-it = record { answer = refl; number = refl }
 
-pub waits : UpdatePromise 106 (updated .link) (updated .parts) output lengths update.Waited (rested .link) (rested .parts) output lengths
-unfolding usedWindow slowStart raised widened avoidance limited grown afterDatagram halved bySkips byTimeout atLeastOne fits congestion.afterFlush updated rested rested-again countsFit stateOf pairs joining.joined blockValid updatesWith checksWith scheduling.updated corrected started following isAstray ahead earliest named updating checking signed isBefore isAfter isDue leastTimeout firstNumberOr startsAt ascending enough enoughToFlush occurs numbersFit waitingFits settled sendingValid receivingValid valid paired
+pub waits : UpdatePromise 106 (updated .link) (updated .parts) blank-parts update.Waited (rested .link) (rested .parts) blank-parts
+unfolding usedWindow slowStart raised widened avoidance limited grown afterDatagram halved bySkips byTimeout atLeastOne fits
+    congestion.afterFlush updated rested rested-again countsFit stateOf pairs joining.joined blockValid updatesWith checksWith
+    scheduling.updated corrected started following isAstray ahead earliest named updating checking signed isBefore isAfter isDue
+    leastTimeout firstNumberOr startsAt ascending enough enoughToFlush occurs numbersFit waitingFits settled sendingValid receivingValid
+    valid paired
 waits =
-    record { answer = refl; leaves = record { stands = record { counts = refl; state = refl }; parts = refl; output = refl; sizes = refl } }
+    record {
+      answer = refl;
+      number = refl;
+      leaves = record { stands = record { counts = refl; state = refl }; parts = refl; flushParts = refl };
+    }
 
-pub waits-again : UpdatePromise 20 (rested .link) (rested .parts) output lengths update.Waited
-    (rested-again .link) (rested-again .parts) output lengths
-unfolding usedWindow slowStart raised widened avoidance limited grown afterDatagram halved bySkips byTimeout atLeastOne fits congestion.afterFlush updated rested rested-again countsFit stateOf pairs joining.joined blockValid updatesWith checksWith scheduling.updated corrected started following isAstray ahead earliest named updating checking signed isBefore isAfter isDue leastTimeout firstNumberOr startsAt ascending enough enoughToFlush occurs numbersFit waitingFits settled sendingValid receivingValid valid paired
+pub waits-again : UpdatePromise 20 (rested .link) (rested .parts) blank-parts update.Waited
+    (rested-again .link) (rested-again .parts) blank-parts
+unfolding usedWindow slowStart raised widened avoidance limited grown afterDatagram halved bySkips byTimeout atLeastOne fits
+    congestion.afterFlush updated rested rested-again countsFit stateOf pairs joining.joined blockValid updatesWith checksWith
+    scheduling.updated corrected started following isAstray ahead earliest named updating checking signed isBefore isAfter isDue
+    leastTimeout firstNumberOr startsAt ascending enough enoughToFlush occurs numbersFit waitingFits settled sendingValid receivingValid
+    valid paired
 waits-again =
-    record { answer = refl; leaves = record { stands = record { counts = refl; state = refl }; parts = refl; output = refl; sizes = refl } }
+    record {
+      answer = refl;
+      number = refl;
+      leaves = record { stands = record { counts = refl; state = refl }; parts = refl; flushParts = refl };
+    }
 
 -- ---- since opening
 
 sender-runs : SinceOpening c (Call.send (104 ∷ 105 ∷ []) ∷ Call.update 7 ∷ [])
-    (record { call = Call.send (104 ∷ 105 ∷ []); answer = Answer.accepted }
-    ∷ record { call = Call.update 7; answer = Answer.wrote (datagram ∷ []) }
+    (record { call = Call.send (104 ∷ 105 ∷ []); answer = Reply.accepted }
+    ∷ record { call = Call.update 7; answer = Reply.wrote (datagram ∷ []) }
     ∷ []) updated
 sender-runs = record {
   first = fresh;
   opens = opens-fresh;
-  runs = next fresh (Call.send (104 ∷ 105 ∷ [])) Answer.accepted sent sends-it
-      (next sent (Call.update 7) (Answer.wrote (datagram ∷ [])) updated updates-it start);
+  runs = next fresh (Call.send (104 ∷ 105 ∷ [])) Reply.accepted sent sends-it
+      (next sent (Call.update 7) (Reply.wrote (datagram ∷ [])) updated updates-it start);
   conv = omega arith;
   fits = (bytes-by (104 ∷ 105 ∷ []) refl, (omega arith, tt));
 }
@@ -158,8 +205,8 @@ holds =
     stays-quiet updated 8 107 (fits-since sender-runs) (omega arith) checks-it (106 ∷ 20 ∷ [])
     (update.Waited ∷ update.Waited ∷ []) rested-again
     (record { fits = omega arith; before = omega arith }, (record { fits = omega arith; before = omega arith }, tt))
-    (quiet.next updated 106 update.Waited rested output lengths output lengths waits
-    (quiet.next rested 20 update.Waited rested-again output lengths output lengths waits-again quiet.start))
+    (quiet.next updated 106 update.Waited rested blank-parts blank-parts waits
+    (quiet.next rested 20 update.Waited rested-again blank-parts blank-parts waits-again quiet.start))
 
 -- and the named time is less than an interval away, so it is wanted
 pub wanted : NoSooner 8 107 updated

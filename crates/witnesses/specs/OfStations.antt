@@ -1,5 +1,5 @@
--- The premises of demand 3 can be met: a sender whose first flush is lost in part and sent again, and two receivers that are fed late and shuffled. The
--- first hears one datagram and reads nothing; the second hears one more, twice, and reads both messages. Proved by computing.
+-- The premises of demand 3 can be met: a sender whose first flush is lost in part and sent again, and two receivers that are fed late and
+-- shuffled. The first hears one datagram and reads nothing; the second hears one more, twice, and reads both messages. Proved by computing.
 -- Assumes nothing.
 use mathlib.Core.Path.{_≡_, refl}
 use mathlib.Core.Bool.{Bool, true, _&&_}
@@ -24,16 +24,53 @@ use Rattle.lists.specs.Receiving.{advance, startsAt}
 use Rattle.lists.specs.Acknowledging.{select, firstNumberOr, skipBefore}
 use Rattle.sizes.specs.Sizes.{enough, enoughToFlush}
 use Rattle.congestion.specs.Congestions as congestion
-use Rattle.congestion.specs.Congestions.{usedWindow, slowStart, raised, widened, avoidance, limited, grown, afterDatagram, halved, bySkips, byTimeout, atLeastOne, fits}
+use Rattle.congestion.specs.Congestions.{
+  usedWindow,
+  slowStart,
+  raised,
+  widened,
+  avoidance,
+  limited,
+  grown,
+  afterDatagram,
+  halved,
+  bySkips,
+  byTimeout,
+  atLeastOne,
+  fits,
+}
 use Rattle.session.specs.Slots.{occurs, lowestFrom, lowestFree}
 use Rattle.session.specs.Valid.{numbersFit, waitingFits, settled, sendingValid, receivingValid, valid}
 use Rattle.session.specs.Cutting.{fragmentCount, segmentCount, pieces, cutAs}
 use Rattle.session.specs.Sending.{place, filled, sending}
-use Rattle.session.specs.Flushing.{numbered, numberedCount, withNumbered, transmittedNow, written, bytesOfSegments, packOne, packed, flushing}
-use Rattle.session.specs.Input.{acknowledged, sampledBy, heardBySending, pushed, heardByReceiving, allBySending, allByReceiving, ackNumbers, furthest, skipped, applied, input}
+use Rattle.session.specs.Flushing.{
+  numbered,
+  numberedCount,
+  withNumbered,
+  transmittedNow,
+  written,
+  bytesOfSegments,
+  packOne,
+  packed,
+  flushing,
+}
+use Rattle.session.specs.Input.{
+  acknowledged,
+  sampledBy,
+  heardBySending,
+  pushed,
+  heardByReceiving,
+  allBySending,
+  allByReceiving,
+  ackNumbers,
+  furthest,
+  skipped,
+  applied,
+  input,
+}
 use Rattle.session.specs.Reading.{joinedIn, message, lengthOf, messageSize, afterRead, reading}
 use Rattle.session.specs.Opening.{opened}
-use Rattle.session.specs.Calls.{Station, Call, Answer, step, history, after, acceptedList, datagramsBy, readAnswers}
+use Rattle.session.specs.Calls.{Station, Call, Reply, step, history, after, acceptedList, datagramsBy, readAnswers}
 use Rattle.session.specs.Decides.{All, and-parts}
 use Rattle.delivery.specs.Accepted.{acceptedFor}
 use Rattle.delivery.specs.PlainReceiver.{pushNumbers, pushesIn}
@@ -91,7 +128,8 @@ seconds =
 
 more : HearsMore firsts seconds
 unfolding firsts seconds
-more = HearsMore.both-take (HearsMore.second-sends (HearsMore.takes-more (HearsMore.takes-more (HearsMore.first-flushes (HearsMore.both-read (HearsMore.both-read HearsMore.start))))))
+more = HearsMore.both-take (HearsMore.second-sends
+    (HearsMore.takes-more (HearsMore.takes-more (HearsMore.first-flushes (HearsMore.both-read (HearsMore.both-read HearsMore.start))))))
 
 -- ---- what is computed
 
@@ -104,11 +142,18 @@ pub record Met : Type 0 where
   pub fits : All CallFits calls
   pub fits-first : All CallFits firsts
   pub fits-second : All CallFits seconds
-  pub first-reads : readAnswers (history station firsts) ≡ Answer.refused NoMessage ∷ Answer.refused NoMessage ∷ []
-  pub second-reads : readAnswers (history station seconds) ≡ Answer.message (replicate 27 7) ∷ Answer.message (9 ∷ []) ∷ []
+  pub first-reads : readAnswers (history station firsts) ≡ Reply.refused NoMessage ∷ Reply.refused NoMessage ∷ []
+  pub second-reads : readAnswers (history station seconds) ≡ Reply.message (replicate 27 7) ∷ Reply.message (9 ∷ []) ∷ []
 
 pub met : Met
-unfolding usedWindow slowStart raised widened avoidance limited grown afterDatagram halved bySkips byTimeout atLeastOne fits congestion.afterFlush firsts seconds wrote station calls pushNumbers pushesIn signed isBefore isAfter isDue front back encode decode bytesOf numberAt verdict segmentOf tail walk parse longerWait nextClock nextSmoothed nextVariation leastTimeout timeoutOf sampled firstDue growth longerTimeout isSkipped transmission select firstNumberOr skipBefore advance startsAt insert isHeld ascending enough enoughToFlush step history after datagramsBy fragmentCount segmentCount pieces cutAs filled numbered numberedCount withNumbered transmittedNow written bytesOfSegments packOne packed flushing acknowledged sampledBy heardBySending pushed heardByReceiving allBySending allByReceiving ackNumbers furthest skipped applied input opened joinedIn message lengthOf messageSize afterRead reading place sending occurs lowestFrom lowestFree numbersFit waitingFits settled sendingValid receivingValid valid
+unfolding usedWindow slowStart raised widened avoidance limited grown afterDatagram halved bySkips byTimeout atLeastOne fits
+    congestion.afterFlush firsts seconds wrote station calls pushNumbers pushesIn signed isBefore isAfter isDue front back encode decode
+    bytesOf numberAt verdict segmentOf tail walk parse longerWait nextClock nextSmoothed nextVariation leastTimeout timeoutOf sampled
+    firstDue growth longerTimeout isSkipped transmission select firstNumberOr skipBefore advance startsAt insert isHeld ascending enough
+    enoughToFlush step history after datagramsBy fragmentCount segmentCount pieces cutAs filled numbered numberedCount withNumbered
+    transmittedNow written bytesOfSegments packOne packed flushing acknowledged sampledBy heardBySending pushed heardByReceiving
+    allBySending allByReceiving ackNumbers furthest skipped applied input opened joinedIn message lengthOf messageSize afterRead reading
+    place sending occurs lowestFrom lowestFree numbersFit waitingFits settled sendingValid receivingValid valid
 met = record {
   opens = record { state = refl; long = refl };
   sizes = refl;
@@ -117,8 +162,10 @@ met = record {
   fed-second = (List·Memᴰ·tail (List·Memᴰ·tail (List·Memᴰ·tail (List·Memᴰ·head refl))), (List·Memᴰ·head refl, (List·Memᴰ·head refl, tt)));
   fits = (bytes-by (replicate 27 7) refl, (omega arith, (bytes-by (replicate 3303 1) refl, (bytes-by (9 ∷ []) refl, (omega arith, tt)))));
   fits-first = (bytes-by (getD wrote 3 []) refl, (omega arith, (tt, (tt, tt))));
-  fits-second =
-      (bytes-by (getD wrote 3 []) refl, (bytes-by (1 ∷ []) refl, (bytes-by (getD wrote 0 []) refl, (bytes-by (getD wrote 0 []) refl, (tt, (tt, tt))))));
+  fits-second = (
+    bytes-by (getD wrote 3 []) refl,
+    (bytes-by (1 ∷ []) refl, (bytes-by (getD wrote 0 []) refl, (bytes-by (getD wrote 0 []) refl, (tt, (tt, tt))))),
+  );
   first-reads = refl;
   second-reads = refl;
 }
@@ -127,7 +174,8 @@ met = record {
 pub holds : Delivered c (acceptedList (history station calls)) (observed station firsts) (observed station seconds)
 unfolding acceptedFor
 holds =
-    station-demand-3 c (record { range = refl; conv = omega arith }) station station station (met .opens) (met .opens) (met .opens) calls firsts seconds (met .fits) (met .fits-first)
+    station-demand-3 c (record { range = refl; conv = omega arith }) station station station (met .opens) (met .opens) (met .opens) calls
+    firsts seconds (met .fits) (met .fits-first)
     (met .fits-second)
     (met .few)
     (met .fed-first)

@@ -23,17 +23,54 @@ use Rattle.lists.specs.Acknowledging.{select, firstNumberOr, skipBefore}
 use Rattle.sizes.specs.Sizes.{enough, enoughToFlush}
 use Rattle.schedule.specs.Schedules.{isAstray, corrected, started, following, updated}
 use Rattle.congestion.specs.Congestions as congestion
-use Rattle.congestion.specs.Congestions.{usedWindow, slowStart, raised, widened, avoidance, limited, grown, afterDatagram, halved, bySkips, byTimeout, atLeastOne, fits}
+use Rattle.congestion.specs.Congestions.{
+  usedWindow,
+  slowStart,
+  raised,
+  widened,
+  avoidance,
+  limited,
+  grown,
+  afterDatagram,
+  halved,
+  bySkips,
+  byTimeout,
+  atLeastOne,
+  fits,
+}
 use Rattle.session.specs.Slots.{occurs, lowestFrom, lowestFree}
 use Rattle.session.specs.Valid.{numbersFit, waitingFits, settled, sendingValid, receivingValid, valid}
 use Rattle.session.specs.Cutting.{fragmentCount, segmentCount, pieces, cutAs}
 use Rattle.session.specs.Sending.{place, filled, sending}
-use Rattle.session.specs.Flushing.{numbered, numberedCount, withNumbered, transmittedNow, written, bytesOfSegments, packOne, packed, flushing}
+use Rattle.session.specs.Flushing.{
+  numbered,
+  numberedCount,
+  withNumbered,
+  transmittedNow,
+  written,
+  bytesOfSegments,
+  packOne,
+  packed,
+  flushing,
+}
 use Rattle.session.specs.Updating.{updating}
-use Rattle.session.specs.Input.{acknowledged, sampledBy, heardBySending, pushed, heardByReceiving, allBySending, allByReceiving, ackNumbers, furthest, skipped, applied, input}
+use Rattle.session.specs.Input.{
+  acknowledged,
+  sampledBy,
+  heardBySending,
+  pushed,
+  heardByReceiving,
+  allBySending,
+  allByReceiving,
+  ackNumbers,
+  furthest,
+  skipped,
+  applied,
+  input,
+}
 use Rattle.session.specs.Reading.{joinedIn, message, lengthOf, messageSize, afterRead, reading}
 use Rattle.session.specs.Opening.{opened}
-use Rattle.session.specs.Calls.{Station, Call, Answer, step, history, after, datagramsBy, readAnswers}
+use Rattle.session.specs.Calls.{Station, Call, Reply, step, history, after, datagramsBy, readAnswers}
 use Rattle.session.specs.Decides.{All}
 use Rattle.delivery.specs.Accepted.{numberedIn, numberedInAll, numberedBy, acceptedFor}
 use Rattle.delivery.specs.PlainReceiver.{pushNumbers, pushesIn}
@@ -84,11 +121,19 @@ pub record Met : Type 0 where
   pub fits : All CallFits calls
   pub fits-first : All CallFits firsts
   pub fits-second : All CallFits seconds
-  pub first-reads : readAnswers (history station firsts) ≡ Answer.refused NoMessage ∷ []
-  pub second-reads : readAnswers (history station seconds) ≡ Answer.message (replicate 10 7 ++ replicate 16 8) ∷ []
+  pub first-reads : readAnswers (history station firsts) ≡ Reply.refused NoMessage ∷ []
+  pub second-reads : readAnswers (history station seconds) ≡ Reply.message (replicate 10 7 ++ replicate 16 8) ∷ []
 
 pub met : Met
-unfolding usedWindow slowStart raised widened avoidance limited grown afterDatagram halved bySkips byTimeout atLeastOne fits congestion.afterFlush firsts seconds wrote station calls pushNumbers pushesIn signed isBefore isAfter isDue front back encode decode bytesOf numberAt verdict segmentOf tail walk parse longerWait nextClock nextSmoothed nextVariation leastTimeout timeoutOf sampled firstDue growth longerTimeout isSkipped transmission select firstNumberOr skipBefore advance startsAt insert isHeld ascending enough enoughToFlush step history after datagramsBy fragmentCount segmentCount pieces cutAs filled numbered numberedCount withNumbered transmittedNow written bytesOfSegments packOne packed flushing acknowledged sampledBy heardBySending pushed heardByReceiving allBySending allByReceiving ackNumbers furthest skipped applied input opened joinedIn message lengthOf messageSize afterRead reading place sending updated corrected started following isAstray updating acceptedFor numberedBy numberedInAll numberedIn occurs lowestFrom lowestFree numbersFit waitingFits settled sendingValid receivingValid valid
+unfolding usedWindow slowStart raised widened avoidance limited grown afterDatagram halved bySkips byTimeout atLeastOne fits
+    congestion.afterFlush firsts seconds wrote station calls pushNumbers pushesIn signed isBefore isAfter isDue front back encode decode
+    bytesOf numberAt verdict segmentOf tail walk parse longerWait nextClock nextSmoothed nextVariation leastTimeout timeoutOf sampled
+    firstDue growth longerTimeout isSkipped transmission select firstNumberOr skipBefore advance startsAt insert isHeld ascending enough
+    enoughToFlush step history after datagramsBy fragmentCount segmentCount pieces cutAs filled numbered numberedCount withNumbered
+    transmittedNow written bytesOfSegments packOne packed flushing acknowledged sampledBy heardBySending pushed heardByReceiving
+    allBySending allByReceiving ackNumbers furthest skipped applied input opened joinedIn message lengthOf messageSize afterRead reading
+    place sending updated corrected started following isAstray updating acceptedFor numberedBy numberedInAll numberedIn occurs lowestFrom
+    lowestFree numbersFit waitingFits settled sendingValid receivingValid valid
 met = record {
   opens = record { state = refl; long = refl };
   accepted = refl;

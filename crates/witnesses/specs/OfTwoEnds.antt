@@ -25,13 +25,37 @@ use Rattle.lists.specs.Acknowledging.{select, firstNumberOr, skipBefore}
 use Rattle.sizes.specs.Sizes.{enough, enoughToFlush}
 use Rattle.schedule.specs.Schedules.{updated, isAstray, corrected, started, following}
 use Rattle.congestion.specs.Congestions as congestion
-use Rattle.congestion.specs.Congestions.{usedWindow, slowStart, raised, widened, avoidance, limited, grown, afterDatagram, halved, bySkips, byTimeout, atLeastOne, fits}
+use Rattle.congestion.specs.Congestions.{
+  usedWindow,
+  slowStart,
+  raised,
+  widened,
+  avoidance,
+  limited,
+  grown,
+  afterDatagram,
+  halved,
+  bySkips,
+  byTimeout,
+  atLeastOne,
+  fits,
+}
 use Rattle.session.specs.State.{withNumbers, afterFlushing, withSchedule}
 use Rattle.session.specs.Slots.{occurs, lowestFrom, lowestFree}
 use Rattle.session.specs.Valid.{numbersFit, waitingFits, settled, sendingValid, receivingValid, valid}
 use Rattle.session.specs.Cutting.{fragmentCount, segmentCount, pieces, cutAs}
 use Rattle.session.specs.Sending.{place, filled, sending}
-use Rattle.session.specs.Flushing.{numbered, numberedCount, withNumbered, transmittedNow, written, bytesOfSegments, packOne, packed, flushing}
+use Rattle.session.specs.Flushing.{
+  numbered,
+  numberedCount,
+  withNumbered,
+  transmittedNow,
+  written,
+  bytesOfSegments,
+  packOne,
+  packed,
+  flushing,
+}
 use Rattle.session.specs.Input.{
   acknowledged,
   sampledBy,
@@ -48,7 +72,7 @@ use Rattle.session.specs.Input.{
 }
 use Rattle.session.specs.Updating.{updating}
 use Rattle.session.specs.Opening.{opened}
-use Rattle.session.specs.Calls.{Call, Answer}
+use Rattle.session.specs.Calls.{Call, Reply}
 use Rattle.words.specs.Words.{paired}
 use Rattle.control.specs.Views.{pairs, stateOf, countsFit, blockValid}
 use Rattle.records.specs.Tables.{blank, scattered}
@@ -56,6 +80,7 @@ use Rattle.packing.specs.Packers.{joined, lengthsOf}
 use Rattle.answers.specs.declared.Answer.the-variants as answer
 use Rattle.answers.specs.declared.Count.the-variants as count
 use Rattle.answers.specs.declared.Update.the-variants as update
+use Rattle.promises.specs.Parts.{flushPartsOf}
 use Rattle.promises.specs.Outcomes.{sendsWith, takesInWith, flushesWith, updatesWith, takesIn, flushes}
 use Rattle.delivery.specs.PlainReceiver.{pushNumbers, pushesIn}
 use Rattle.demands.specs.Steps.{Endpoint, cutBy, Called, start, next}
@@ -104,7 +129,8 @@ resent =
     let s = opened c in
     record {
       link = linkOf
-          (withSchedule (afterFlushing s (withNumbers (s .sending) 1 [] (segment ∷ [])) (s .receiving) (s .probe) 300 (record { window = 1; threshold = 16; allowance = 26 }) false)
+          (withSchedule (afterFlushing s (withNumbers (s .sending) 1 [] (segment ∷ [])) (s .receiving) (s .probe) 300
+          (record { window = 1; threshold = 16; allowance = 26 }) false)
           (record { next = 400; made = true }));
       parts = record {
         sendPool = sets (replicate 3328 0) 0 (104 ∷ 105 ∷ []);
@@ -119,7 +145,7 @@ unfoldable pub heard : Endpoint
 heard = afterInput fresh (takesIn (fresh .link) (fresh .parts) again)
 
 unfoldable pub told : Endpoint
-told = afterFlush heard (flushes (heard .link) (heard .parts) 50992 290 9)
+told = afterFlush heard (flushes (heard .link) (heard .parts) (flushPartsOf (replicate 50992 0) (replicate 290 0)) 9)
 
 unfoldable pub done : Endpoint
 done = afterInput resent (takesIn (resent .link) (resent .parts) acked)
@@ -127,16 +153,18 @@ done = afterInput resent (takesIn (resent .link) (resent .parts) acked)
 -- ---- each call keeps its promise
 
 record Met : Type 0 where
-  sends-again : Called flushed (Call.update 300) (Answer.wrote (again ∷ [])) resent
-  takes-it : Called fresh (Call.takeIn again) Answer.accepted heard
-  tells-it : Called heard (Call.flush 9) (Answer.wrote (acked ∷ [])) told
-  takes-ack : Called resent (Call.takeIn acked) Answer.accepted done
+  sends-again : Called flushed (Call.update 300) (Reply.wrote (again ∷ [])) resent
+  takes-it : Called fresh (Call.takeIn again) Reply.accepted heard
+  tells-it : Called heard (Call.flush 9) (Reply.wrote (acked ∷ [])) told
+  takes-ack : Called resent (Call.takeIn acked) Reply.accepted done
   out : GoesOut c (flushed .link .flight .una) (again ∷ [])
   una-before : flushed .link .flight .una ≡ 0
   una-after : done .link .flight .una ≡ 1
 
 met : Met
-unfolding usedWindow slowStart raised widened avoidance limited grown afterDatagram halved bySkips byTimeout atLeastOne fits congestion.afterFlush again acked resent heard told done sent flushed fresh datagram parts opened entriesOf countsFit stateOf pairs joining.joined
+unfolding usedWindow slowStart raised widened avoidance limited grown afterDatagram halved bySkips byTimeout atLeastOne fits
+    congestion.afterFlush again acked resent heard told done sent flushed fresh datagram parts opened entriesOf countsFit stateOf pairs
+    joining.joined
     blockValid scattered joined lengthsOf cutBy sendsWith takesInWith flushesWith updatesWith updated isAstray corrected started following
     updating signed isBefore isAfter isDue front back encode decode bytesOf numberAt verdict segmentOf tail walk parse longerWait
     nextClock nextSmoothed nextVariation leastTimeout timeoutOf sampled firstDue growth longerTimeout isSkipped transmission select
@@ -146,14 +174,13 @@ unfolding usedWindow slowStart raised widened avoidance limited grown afterDatag
     occurs lowestFrom lowestFree numbersFit waitingFits settled sendingValid receivingValid valid paired
 met = record {
   sends-again = record {
-    output = replicate 50992 0;
-    lengths = replicate 290 0;
+    lent = flushPartsOf (replicate 50992 0) (replicate 290 0);
     room = record { long = omega arith; many = omega arith };
     gives = update.Wrote 1;
-    output′ = sets (replicate 50992 0) 0 again;
-    lengths′ = sets (replicate 290 0) 0 (26 ∷ []);
+    after = flushPartsOf (sets (replicate 50992 0) 0 again) (sets (replicate 290 0) 0 (26 ∷ []));
     promise = record {
       answer = refl;
+      number = refl;
       leaves = record {
         stands = record { counts = refl; state = refl };
         sendPool = refl;
@@ -169,6 +196,7 @@ met = record {
     gives = answer.Accepted;
     promise = record {
       answer = refl;
+      number = refl;
       leaves = record {
         stands = record { counts = refl; state = refl };
         sendPool = refl;
@@ -181,14 +209,13 @@ met = record {
     sees = refl;
   };
   tells-it = record {
-    output = replicate 50992 0;
-    lengths = replicate 290 0;
+    lent = flushPartsOf (replicate 50992 0) (replicate 290 0);
     room = record { long = omega arith; many = omega arith };
     gives = count.Of 1;
-    output′ = sets (replicate 50992 0) 0 acked;
-    lengths′ = sets (replicate 290 0) 0 (24 ∷ []);
+    after = flushPartsOf (sets (replicate 50992 0) 0 acked) (sets (replicate 290 0) 0 (24 ∷ []));
     promise = record {
       answer = refl;
+      number = refl;
       leaves = record {
         stands = record { counts = refl; state = refl };
         sendPool = refl;
@@ -204,6 +231,7 @@ met = record {
     gives = answer.Accepted;
     promise = record {
       answer = refl;
+      number = refl;
       leaves = record {
         stands = record { counts = refl; state = refl };
         sendPool = refl;
@@ -224,9 +252,9 @@ met = record {
 
 abbrev moves : List Move
 moves =
-    atA (Call.send (104 ∷ 105 ∷ [])) Answer.accepted
-    ∷ atA (Call.flush 7) (Answer.wrote (datagram ∷ []))
-    ∷ atB (Call.read 10) (Answer.refused NoMessage)
+    atA (Call.send (104 ∷ 105 ∷ [])) Reply.accepted
+    ∷ atA (Call.flush 7) (Reply.wrote (datagram ∷ []))
+    ∷ atB (Call.read 10) (Reply.refused NoMessage)
     ∷ []
 
 of-a : MadeBy c (eventsOfA moves) flushed
@@ -234,8 +262,8 @@ unfolding eventsOfA
 of-a = record {
   first = fresh;
   opens = opens-fresh;
-  runs = next fresh (Call.send (104 ∷ 105 ∷ [])) Answer.accepted sent sends-it
-      (next sent (Call.flush 7) (Answer.wrote (datagram ∷ [])) flushed flushes-it start);
+  runs = next fresh (Call.send (104 ∷ 105 ∷ [])) Reply.accepted sent sends-it
+      (next sent (Call.flush 7) (Reply.wrote (datagram ∷ [])) flushed flushes-it start);
   conv = omega arith;
   fits = (bytes-by (104 ∷ 105 ∷ []) refl, (omega arith, tt));
 }
@@ -245,13 +273,14 @@ unfolding eventsOfB
 of-b = record {
   first = fresh;
   opens = opens-fresh;
-  runs = next fresh (Call.read 10) (Answer.refused NoMessage) fresh reads-nothing start;
+  runs = next fresh (Call.read 10) (Reply.refused NoMessage) fresh reads-nothing start;
   conv = omega arith;
   fits = (tt, tt);
 }
 
 few-a : FewSegments of-a
-unfolding usedWindow slowStart raised widened avoidance limited grown afterDatagram halved bySkips byTimeout atLeastOne fits congestion.afterFlush of-a fragmentsAccepted fragmentCount segmentCount filled stateOf fresh opened
+unfolding usedWindow slowStart raised widened avoidance limited grown afterDatagram halved bySkips byTimeout atLeastOne fits
+    congestion.afterFlush of-a fragmentsAccepted fragmentCount segmentCount filled stateOf fresh opened
 few-a = omega arith
 
 few-b : FewSegments of-b
@@ -272,8 +301,8 @@ there = record {
   flushes = met .sends-again;
   arrivals = again ∷ [];
   all-arrive = record { all = (List·Memᴰ·head refl, tt); only = (List·Memᴰ·head refl, tt) };
-  events = record { call = Call.takeIn again; answer = Answer.accepted } ∷ [];
-  hears = next fresh (Call.takeIn again) Answer.accepted heard (met .takes-it) start;
+  events = record { call = Call.takeIn again; answer = Reply.accepted } ∷ [];
+  hears = next fresh (Call.takeIn again) Reply.accepted heard (met .takes-it) start;
   fits = (omega arith, (bytes-by again refl, tt));
 }
 
@@ -285,8 +314,8 @@ back-again = record {
   flushes = met .tells-it;
   arrivals = acked ∷ [];
   all-arrive = record { all = (List·Memᴰ·head refl, tt); only = (List·Memᴰ·head refl, tt) };
-  events = record { call = Call.takeIn acked; answer = Answer.accepted } ∷ [];
-  hears = next resent (Call.takeIn acked) Answer.accepted done (met .takes-ack) start;
+  events = record { call = Call.takeIn acked; answer = Reply.accepted } ∷ [];
+  hears = next resent (Call.takeIn acked) Reply.accepted done (met .takes-ack) start;
   fits = (omega arith, (bytes-by acked refl, tt));
 }
 

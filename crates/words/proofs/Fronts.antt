@@ -24,6 +24,8 @@ module _ {A : Type 0} {size : ℕ} where
   front-packed e p = front (p .written .whole) (packed-done e p)
 
   -- what is carried is put behind the last
-  pub front-carried : {n : ℕ} {l₀ l goal : List A} {a : A} {j : ℕ} (m : ℕ) → n ≤ j → n < size → n + 1 ≡ m → Packed size n l₀ l (a ∷ drop j (take n l₀)) goal j j → Front size (set l j a) m goal
+  pub front-carried : {n : ℕ} {l₀ l goal : List A} {a : A} {j : ℕ} (m : ℕ) → n ≤ j → n < size → n + 1 ≡ m
+      → Packed size n l₀ l (a ∷ drop j (take n l₀)) goal j j → Front size (set l j a) m goal
   front-carried {n} {l₀} {l} {goal} {a} {j} m h g e p =
-      front-at m (omega (arith, p .upto)) (front (length-set l j a ∙ p .written .whole) (written-done (view-end l₀ n j h) (written-put (omega (arith, p .upto)) (p .written))))
+      front-at m (omega (arith, p .upto)) (front (length-set l j a ∙ p .written .whole)
+      (written-done (view-end l₀ n j h) (written-put (omega (arith, p .upto)) (p .written))))

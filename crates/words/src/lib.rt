@@ -58,7 +58,8 @@ pub fn drop_first(list: &mut [u32; 128], n: usize, k: usize)
 // A word goes in at index i of n.
 pub fn insert_at(list: &mut [u32; 128], n: usize, i: usize, word: u32)
     requires { ⌜ (length (now list) ≡ 128) × (n < 128) × (i ≤ n) ⌝ }
-    ensures { λ _. ⌜ Front 128 (now (list .exit)) (n + 1) (take i (take n (now (list .entry))) ++ (word ∷ drop i (take n (now (list .entry))))) ⌝ }
+    ensures { λ _. ⌜ Front 128 (now (list .exit)) (n + 1)
+        (take i (take n (now (list .entry))) ++ (word ∷ drop i (take n (now (list .entry))))) ⌝ }
 {
     let mut carried = word;
     let mut j = i;
@@ -107,8 +108,10 @@ pub fn insert(
     word: u32,
     number: u32,
 ) -> usize
-    requires { ⌜ (length (now words) ≡ 128) × (length (now numbers) ≡ 128) × (n ≤ 128) × (length (insert (waitingOffset base) (waitingAt word number) (waitingIn (now words) (now numbers) n)) ≤ 128) ⌝ }
-    ensures { λ r. ⌜ Sides waitingAt 128 (now (words .exit)) (now (numbers .exit)) r (insert (waitingOffset base) (waitingAt word number) (waitingIn (now (words .entry)) (now (numbers .entry)) n)) ⌝ }
+    requires { ⌜ (length (now words) ≡ 128) × (length (now numbers) ≡ 128) × (n ≤ 128) ×
+        (length (insert (waitingOffset base) (waitingAt word number) (waitingIn (now words) (now numbers) n)) ≤ 128) ⌝ }
+    ensures { λ r. ⌜ Sides waitingAt 128 (now (words .exit)) (now (numbers .exit)) r
+        (insert (waitingOffset base) (waitingAt word number) (waitingIn (now (words .entry)) (now (numbers .entry)) n)) ⌝ }
 {
     let offset = serial::difference(number, base);
     let i = place(numbers, n, base, offset);

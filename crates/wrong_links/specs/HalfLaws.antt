@@ -1,5 +1,5 @@
--- A link that takes datagrams and does nothing: whatever block a link that keeps its promises has, an accepted datagram leaves no number outstanding
--- that one of its acks names, and each of its pushes that is new is held, in its turn.
+-- A link that takes datagrams and does nothing: whatever block a link that keeps its promises has, an accepted datagram leaves no number
+-- outstanding that one of its acks names, and each of its pushes that is new is held, in its turn.
 -- Assumes nothing.
 use mathlib.Core.Path.{_≡_, refl, sym, ap, _∙_}
 use mathlib.Core.Bool.{Bool, true, false, cond, not, _&&_, _||_}
@@ -25,7 +25,30 @@ use Rattle.lists.specs.Orders.{waitingOffset, isHeld, insert}
 use Rattle.lists.specs.ReceivingLaws.{advance-held}
 use Rattle.session.specs.Slots.{occurs, lowestFree}
 use Rattle.session.specs.State.{State, Sending, Receiving, receiveHeld, slots, withWindow, withOutstanding}
-use Rattle.session.specs.Input.{acknowledged, sampledBy, heardBySending, allBySending, ackNumbers, skipped, skippedByAll, furthest, Receiver, kept, withAcks, noted, movedUp, inWindow, isNew, pushed, asked, heardByReceiving, allByReceiving, applied, taking, input}
+use Rattle.session.specs.Input.{
+  acknowledged,
+  sampledBy,
+  heardBySending,
+  allBySending,
+  ackNumbers,
+  skipped,
+  skippedByAll,
+  furthest,
+  Receiver,
+  kept,
+  withAcks,
+  noted,
+  movedUp,
+  inWindow,
+  isNew,
+  pushed,
+  asked,
+  heardByReceiving,
+  allByReceiving,
+  applied,
+  taking,
+  input,
+}
 use Rattle.sizes.specs.Sizes.{enough}
 use Rattle.control.specs.Views.{stateOf}
 use Rattle.control.specs.declared.Link.{Link}
@@ -73,7 +96,8 @@ ack-gone n (x ∷ l) = go (eqb (x .record .number) n) refl (ack-gone n l)
             absurd (let z : _≡_ {A = ℕ} 0 1 = cc in omega arith)
 
     go : (b : Bool) → eqb (x .record .number) n ≡ b → Gone n (select (λ (x : Sent). not (eqb (x .record .number) n)) l)
-        → Gone n (cond (not b) (x ∷ select (λ (x : Sent). not (eqb (x .record .number) n)) l) (select (λ (x : Sent). not (eqb (x .record .number) n)) l))
+        → Gone n (cond (not b) (x ∷ select (λ (x : Sent). not (eqb (x .record .number) n)) l)
+        (select (λ (x : Sent). not (eqb (x .record .number) n)) l))
     go true e r = r
     go false e r = rw (turned e, r)
 
@@ -113,11 +137,13 @@ module _ (c : Settings) (current n : ℕ) where
       go false e h later = later h
       go true e h later = one (eqb n (x .header .sn)) refl h
         where
-          one : (b : Bool) → eqb n (x .header .sn) ≡ b → (b || occurs n (ackNumbers gs)) ≡ true → Gone n (allBySending c current there gs .outstanding)
+          one : (b : Bool) → eqb n (x .header .sn) ≡ b → (b || occurs n (ackNumbers gs)) ≡ true
+              → Gone n (allBySending c current there gs .outstanding)
           one true f h = all-gone gs there (acked-gone s (x .header) e (sym (eqb-true n (x .header .sn) f)))
           one false f h = later h
 
-skip-numbers : (k : ℕ) (l : List Sent) → map (λ (x : Sent). x .record .number) (map (skipBefore k) l) ≡ map (λ (x : Sent). x .record .number) l
+skip-numbers : (k : ℕ) (l : List Sent)
+    → map (λ (x : Sent). x .record .number) (map (skipBefore k) l) ≡ map (λ (x : Sent). x .record .number) l
 skip-numbers k [] = refl
 skip-numbers k (x ∷ l) = rw (skip-number k x, skip-numbers k l)
 
@@ -131,27 +157,35 @@ skips-gone n s (k ∷ l) h = go (not (isBefore (furthest k l) (s .una)) && isBef
     go true = rw (skip-numbers (furthest k l) (s .outstanding)) h
     go false = h
 
-applied-gone : (s : State) (pool : List ℕ) (gs : List Segment) (n : ℕ) → occurs n (ackNumbers gs) ≡ true → occurs n (outstandingNumbers (applied s pool gs .state .sending)) ≡ false
+applied-gone : (s : State) (pool : List ℕ) (gs : List Segment) (n : ℕ) → occurs n (ackNumbers gs) ≡ true
+    → occurs n (outstandingNumbers (applied s pool gs .state .sending)) ≡ false
 unfolding applied
 applied-gone s pool gs n h =
-    skips-gone n (allBySending (s .settings) (s .current) (s .sending) gs) (ackNumbers gs) (all-acked (s .settings) (s .current) n gs (s .sending) h)
+    skips-gone n (allBySending (s .settings) (s .current) (s .sending) gs) (ackNumbers gs)
+    (all-acked (s .settings) (s .current) n gs (s .sending) h)
 
 -- ---- the receiving half
 
 held-sum : (r : Receiving) → heldCount r ≡ length (r .ready) + length (r .waiting)
-held-sum r = omega (arith, length-append (r .ready) (map (λ (w : Waiting). w .held) (r .waiting)), length-map (r .waiting) (λ (w : Waiting). w .held))
+held-sum r = omega (
+  arith,
+  length-append (r .ready) (map (λ (w : Waiting). w .held) (r .waiting)),
+  length-map (r .waiting) (λ (w : Waiting). w .held),
+)
 
 moved-held : (r : Receiving) → heldCount (movedUp r) ≡ heldCount r
 moved-held r = ap length (advance-held (r .next) (r .ready) (r .waiting))
 
-insert-length : (offset : Waiting → ℕ) (a : Waiting) (l : List Waiting) → isHeld offset (offset a) l ≡ false → length (insert offset a l) ≡ suc (length l)
+insert-length : (offset : Waiting → ℕ) (a : Waiting) (l : List Waiting) → isHeld offset (offset a) l ≡ false
+    → length (insert offset a l) ≡ suc (length l)
 unfolding isHeld insert
 insert-length offset a [] h = refl
 insert-length offset a (x ∷ l) h =
     let p = or-false (eqb (offset x) (offset a)) (isHeld offset (offset a) l) h in
     rw (p .0) (go (ltb (offset a) (offset x)) (insert-length offset a l (p .1)))
   where
-    go : (b : Bool) → length (insert offset a l) ≡ suc (length l) → length (cond b (a ∷ x ∷ l) (x ∷ insert offset a l)) ≡ suc (length (x ∷ l))
+    go : (b : Bool) → length (insert offset a l) ≡ suc (length l)
+        → length (cond b (a ∷ x ∷ l) (x ∷ insert offset a l)) ≡ suc (length (x ∷ l))
     go true e = refl
     go false e = ap suc e
 
@@ -163,32 +197,42 @@ new-free r sn = go (not (isBefore sn (r .next))) (isHeld (waitingOffset (r .next
     go true true e = absurd (let z : _≡_ {A = ℕ} 0 1 = cc in omega arith)
     go false true e = absurd (let z : _≡_ {A = ℕ} 0 1 = cc in omega arith)
 
-kept-held : (m : ℕ) (x : Receiver) (g : Segment) → isNew (x .half) (g .header .sn) ≡ true → heldCount (kept m x g .half) ≡ suc (heldCount (x .half))
+kept-held : (m : ℕ) (x : Receiver) (g : Segment) → isNew (x .half) (g .header .sn) ≡ true
+    → heldCount (kept m x g .half) ≡ suc (heldCount (x .half))
 kept-held m x g h =
     let r = x .half in
     let slot = lowestFree (slots (receiveHeld r)) receiveSlots in
     let w : Waiting = record { number = g .header .sn; held = record { slot = slot; len = g .header .len; fragment = g .header .frg } } in
-    omega (arith, held-sum (kept m x g .half), held-sum r, insert-length (waitingOffset (r .next)) w (r .waiting) (new-free r (g .header .sn) h))
+    omega (
+      arith,
+      held-sum (kept m x g .half),
+      held-sum r,
+      insert-length (waitingOffset (r .next)) w (r .waiting) (new-free r (g .header .sn) h),
+    )
 
 push-held : (m : ℕ) (x : Receiver) (g : Segment)
-    → heldCount (pushed m x g .half) ≡ cond (inWindow (x .half) (g .header .sn) && isNew (x .half) (g .header .sn)) 1 0 + heldCount (x .half)
+    → heldCount (pushed m x g .half) ≡ cond (inWindow (x .half) (g .header .sn) && isNew (x .half) (g .header .sn)) 1 0
+    + heldCount (x .half)
 unfolding pushed
 push-held m x g = go (inWindow (x .half) (g .header .sn)) (isNew (x .half) (g .header .sn)) refl
   where
     y : Receiver
     y = withAcks (noted (x .half) (g .header)) x
 
-    go : (a b : Bool) → isNew (x .half) (g .header .sn) ≡ b → heldCount (movedUp (cond a (cond b (kept m y g) y) x .half)) ≡ cond (a && b) 1 0 + heldCount (x .half)
+    go : (a b : Bool) → isNew (x .half) (g .header .sn) ≡ b
+        → heldCount (movedUp (cond a (cond b (kept m y g) y) x .half)) ≡ cond (a && b) 1 0 + heldCount (x .half)
     go true true e = moved-held (kept m y g .half) ∙ omega (arith, kept-held m y g e)
     go true false e = moved-held (y .half) ∙ omega arith
     go false b e = moved-held (x .half) ∙ omega arith
 
-heard-held : (m : ℕ) (x : Receiver) (g : Segment) → heldCount (heardByReceiving m x g .half) ≡ cond (isKept (x .half) g) 1 0 + heldCount (x .half)
+heard-held : (m : ℕ) (x : Receiver) (g : Segment) → heldCount (heardByReceiving m x g .half) ≡ cond (isKept (x .half) g) 1 0
+    + heldCount (x .half)
 unfolding heardByReceiving
 heard-held m x g = go (eqb (g .header .cmd) push) (eqb (g .header .cmd) windowAsk)
   where
     go : (a b : Bool)
-        → heldCount (cond a (pushed m x g) (cond b (asked x) x) .half) ≡ cond (a && (inWindow (x .half) (g .header .sn) && isNew (x .half) (g .header .sn))) 1 0 + heldCount (x .half)
+        → heldCount (cond a (pushed m x g) (cond b (asked x) x) .half) ≡ cond
+        (a && (inWindow (x .half) (g .header .sn) && isNew (x .half) (g .header .sn))) 1 0 + heldCount (x .half)
     go true b = push-held m x g
     go false true = omega arith
     go false false = omega arith
@@ -210,8 +254,10 @@ module _ (l : Link) (p : Parts) (l′ : Link) (p′ : Parts) (d : List ℕ) (gs 
   unfolding takesInWith input stateOf
   input-applied = go (enough (mss (l .settings)) (lengthsOf p)) (isMade l p) (h .answer) (h .leaves)
     where
-      go : (long made : Bool) → Accepts answer.Accepted (checked long made (taking (stateIn l p) (p .receivePool) (parse (l .settings .conv) (mss (l .settings)) d)))
-          → InputLeaves (checked long made (taking (stateIn l p) (p .receivePool) (parse (l .settings .conv) (mss (l .settings)) d))) l l′ p p′
+      go : (long made : Bool) → Accepts answer.Accepted
+          (checked long made (taking (stateIn l p) (p .receivePool) (parse (l .settings .conv) (mss (l .settings)) d)))
+          → InputLeaves (checked long made (taking (stateIn l p) (p .receivePool) (parse (l .settings .conv) (mss (l .settings)) d))) l l′ p
+          p′
           → stateIn l′ p′ ≡ applied (stateIn l p) (p .receivePool) gs .state
       go true true a q = let t : TookIn (applied (stateIn l p) (p .receivePool) gs) l′ p p′ = rw is at q in t .stands .state
       go true false a q = not-accepted a
@@ -222,7 +268,9 @@ module _ (l : Link) (p : Parts) (l′ : Link) (p′ : Parts) (d : List ℕ) (gs 
   acks-remove n e = rw input-applied (applied-gone (stateIn l p) (p .receivePool) gs n e)
 
   -- each of its pushes that is new is held, in its turn
-  pub pushes-kept : heldCount (stateIn l′ p′ .receiving) ≡ keptOf (mss (l .settings)) (record { half = stateIn l p .receiving; pool = p .receivePool }) gs + heldCount (stateIn l p .receiving)
+  pub pushes-kept : heldCount (stateIn l′ p′ .receiving) ≡ keptOf (mss (l .settings))
+      (record { half = stateIn l p .receiving; pool = p .receivePool }) gs + heldCount (stateIn l p .receiving)
   unfolding applied stateOf
   pushes-kept =
-      ap (λ (s : State). heldCount (s .receiving)) input-applied ∙ all-held (mss (l .settings)) gs (record { half = stateIn l p .receiving; pool = p .receivePool })
+      ap (λ (s : State). heldCount (s .receiving)) input-applied ∙ all-held (mss (l .settings)) gs
+      (record { half = stateIn l p .receiving; pool = p .receivePool })

@@ -26,15 +26,54 @@ use Rattle.sizes.specs.Sizes.{enough}
 use Rattle.schedule.specs.Schedules as scheduling
 use Rattle.schedule.specs.Schedules.{isAstray, corrected, started, following, ahead, earliest, named}
 use Rattle.session.specs.Slots.{occurs, lowestFrom, lowestFree}
-use Rattle.congestion.specs.Congestions.{usedWindow, slowStart, raised, widened, avoidance, limited, grown, afterDatagram, halved, bySkips, byTimeout, atLeastOne, afterFlush, fits}
+use Rattle.congestion.specs.Congestions.{
+  usedWindow,
+  slowStart,
+  raised,
+  widened,
+  avoidance,
+  limited,
+  grown,
+  afterDatagram,
+  halved,
+  bySkips,
+  byTimeout,
+  atLeastOne,
+  afterFlush,
+  fits,
+}
 use Rattle.session.specs.State.{Outcome, refused, done, withTimes, withSchedule}
 use Rattle.session.specs.Valid.{numbersFit, waitingFits, settled, sendingValid, receivingValid, valid}
 use Rattle.session.specs.Opening.{opened, opening}
 use Rattle.session.specs.Cutting.{fragmentCount, segmentCount, pieces, cutAs}
 use Rattle.session.specs.Sending.{Sends, place, filled, sending}
-use Rattle.session.specs.Flushing.{Flushed, numbered, numberedCount, withNumbered, transmittedNow, written, bytesOfSegments, packOne, packed, flushing}
+use Rattle.session.specs.Flushing.{
+  Flushed,
+  numbered,
+  numberedCount,
+  withNumbered,
+  transmittedNow,
+  written,
+  bytesOfSegments,
+  packOne,
+  packed,
+  flushing,
+}
 use Rattle.session.specs.Input as input-of
-use Rattle.session.specs.Input.{Took, sampledBy, heardBySending, pushed, heardByReceiving, allBySending, allByReceiving, ackNumbers, furthest, skipped, applied, input}
+use Rattle.session.specs.Input.{
+  Took,
+  sampledBy,
+  heardBySending,
+  pushed,
+  heardByReceiving,
+  allBySending,
+  allByReceiving,
+  ackNumbers,
+  furthest,
+  skipped,
+  applied,
+  input,
+}
 use Rattle.session.specs.Reading as reading-of
 use Rattle.session.specs.Reading.{Reads, joinedIn, message, lengthOf, messageSize, reading, telling, showing}
 use Rattle.session.specs.Updating as session
@@ -187,7 +226,8 @@ pub record Computed : Type 0 where
   pub size-none : telling (oneHeard .state) ≡ refused NoMessage
   pub takes-second : isDone (input (oneHeard .state) (oneHeard .receivePool) (getD datagrams 1 [])) ≡ true
   pub size-first : telling (bothHeard .state) ≡ done 27
-  pub shown-first : (placeOf (showing (bothHeard .state)) .start ≡ 0) × (shown (showing (bothHeard .state)) (bothHeard .receivePool) ≡ replicate 26 7)
+  pub shown-first : (placeOf (showing (bothHeard .state)) .start ≡ 0) ×
+      (shown (showing (bothHeard .state)) (bothHeard .receivePool) ≡ replicate 26 7)
   pub shown-second : (placeOf (showing (oneRead .state)) .start ≡ 52) × (shown (showing (oneRead .state)) (oneRead .receivePool) ≡ second)
   pub reads-first : isDone (reading (bothHeard .state) (bothHeard .receivePool) 30) ≡ true
   pub message-first : reads bothHeard .bytes ≡ first
@@ -196,7 +236,15 @@ pub record Computed : Type 0 where
   pub reads-none : reading (bothRead .state) (bothRead .receivePool) 30 ≡ refused NoMessage
 
 pub all-pass : AllPass
-unfolding usedWindow slowStart raised widened avoidance limited grown afterDatagram halved bySkips byTimeout atLeastOne afterFlush fits sendPool receivePool first second oneSent bothSent flush flushed update updated rested laterUpdate datagrams acks acknowledged oneHeard bothHeard oneRead bothRead opened opening enough signed isBefore isAfter isDue front back encode decode bytesOf numberAt verdict segmentOf tail walk parse longerWait nextClock nextSmoothed nextVariation leastTimeout timeoutOf sampled firstDue growth longerTimeout isSkipped transmission select firstNumberOr skipBefore advance startsAt insert isHeld ascending fragmentCount segmentCount pieces cutAs filled numbered numberedCount withNumbered transmittedNow written bytesOfSegments packOne packed flushing input-of.acknowledged sampledBy heardBySending pushed heardByReceiving allBySending allByReceiving ackNumbers furthest skipped applied input joinedIn message lengthOf messageSize reading-of.afterRead reading telling showing place sending occurs lowestFrom lowestFree numbersFit waitingFits settled sendingValid receivingValid valid
+unfolding usedWindow slowStart raised widened avoidance limited grown afterDatagram halved bySkips byTimeout atLeastOne afterFlush fits
+    sendPool receivePool first second oneSent bothSent flush flushed update updated rested laterUpdate datagrams acks acknowledged oneHeard
+    bothHeard oneRead bothRead opened opening enough signed isBefore isAfter isDue front back encode decode bytesOf numberAt verdict
+    segmentOf tail walk parse longerWait nextClock nextSmoothed nextVariation leastTimeout timeoutOf sampled firstDue growth longerTimeout
+    isSkipped transmission select firstNumberOr skipBefore advance startsAt insert isHeld ascending fragmentCount segmentCount pieces cutAs
+    filled numbered numberedCount withNumbered transmittedNow written bytesOfSegments packOne packed flushing input-of.acknowledged
+    sampledBy heardBySending pushed heardByReceiving allBySending allByReceiving ackNumbers furthest skipped applied input joinedIn message
+    lengthOf messageSize reading-of.afterRead reading telling showing place sending occurs lowestFrom lowestFree numbersFit waitingFits
+    settled sendingValid receivingValid valid
 all-pass = record {
   at-first = record { long = refl; made = refl };
   one-sent = record { long = refl; made = refl };
@@ -211,7 +259,16 @@ all-pass = record {
 }
 
 pub computed : Computed
-unfolding placeOf usedWindow slowStart raised widened avoidance limited grown afterDatagram halved bySkips byTimeout atLeastOne afterFlush fits sendPool receivePool first second oneSent bothSent flush flushed update updated rested laterUpdate datagrams acks acknowledged oneHeard bothHeard oneRead bothRead opened opening enough signed isBefore isAfter isDue front back encode decode bytesOf numberAt verdict segmentOf tail walk parse longerWait nextClock nextSmoothed nextVariation leastTimeout timeoutOf sampled firstDue growth longerTimeout isSkipped transmission select firstNumberOr skipBefore advance startsAt insert isHeld ascending fragmentCount segmentCount pieces cutAs filled numbered numberedCount withNumbered transmittedNow written bytesOfSegments packOne packed flushing input-of.acknowledged sampledBy heardBySending pushed heardByReceiving allBySending allByReceiving ackNumbers furthest skipped applied input joinedIn message lengthOf messageSize reading-of.afterRead reading telling showing place sending occurs lowestFrom lowestFree numbersFit waitingFits settled sendingValid receivingValid valid scheduling.updated isAstray corrected started following ahead earliest named updating checking
+unfolding placeOf usedWindow slowStart raised widened avoidance limited grown afterDatagram halved bySkips byTimeout atLeastOne afterFlush
+    fits sendPool receivePool first second oneSent bothSent flush flushed update updated rested laterUpdate datagrams acks acknowledged
+    oneHeard bothHeard oneRead bothRead opened opening enough signed isBefore isAfter isDue front back encode decode bytesOf numberAt
+    verdict segmentOf tail walk parse longerWait nextClock nextSmoothed nextVariation leastTimeout timeoutOf sampled firstDue growth
+    longerTimeout isSkipped transmission select firstNumberOr skipBefore advance startsAt insert isHeld ascending fragmentCount segmentCount
+    pieces cutAs filled numbered numberedCount withNumbered transmittedNow written bytesOfSegments packOne packed flushing
+    input-of.acknowledged sampledBy heardBySending pushed heardByReceiving allBySending allByReceiving ackNumbers furthest skipped applied
+    input joinedIn message lengthOf messageSize reading-of.afterRead reading telling showing place sending occurs lowestFrom lowestFree
+    numbersFit waitingFits settled sendingValid receivingValid valid scheduling.updated isAstray corrected started following ahead earliest
+    named updating checking
 computed = record {
   opens = refl;
   sends-first = refl;

@@ -23,7 +23,6 @@ use Rattle.session.specs.Updating.{Updates, waits, updating, checking}
 use Rattle.control.specs.Views.{stateOf, blockValid}
 use Rattle.control.specs.declared.Link.{Link}
 use Rattle.records.specs.TableLaws.{scattered-length}
-use Rattle.packing.specs.Packers.{Output}
 use Rattle.answers.specs.declared.Answer.{Answer}
 use Rattle.answers.specs.declared.Answer.the-variants as answer
 use Rattle.answers.specs.declared.Count.{Count}
@@ -31,17 +30,56 @@ use Rattle.answers.specs.declared.Count.the-variants as count
 use Rattle.answers.specs.declared.Update.{Update}
 use Rattle.answers.specs.declared.Update.the-variants as update
 use Rattle.answers.specs.declared.Time.{Time}
-use Rattle.promises.specs.Parts.{Parts, lengthsOf, isMade}
-use Rattle.promises.specs.Outcomes.{sendsWith, takesInWith, flushesWith, updatesWith, checksWith, readsWith, tellsWith, showsWith, opens, sends, takesIn, flushes, updates, checks, reads, tells, shows}
+use Rattle.promises.specs.Parts.{Parts, FlushParts, lengthsOf, isMade}
+use Rattle.promises.specs.Outcomes.{
+  sendsWith,
+  takesInWith,
+  flushesWith,
+  updatesWith,
+  checksWith,
+  readsWith,
+  tellsWith,
+  showsWith,
+  opens,
+  sends,
+  takesIn,
+  flushes,
+  updates,
+  checks,
+  reads,
+  tells,
+  shows,
+}
 use Rattle.promises.specs.Answers.{Accepts, Counts, countOutcome, updateAnswer, timeOutcome}
-use Rattle.promises.specs.Promises.{OpenPromise, OpenLeaves, SendPromise, SendLeaves, InputPromise, InputLeaves, Flushes, FlushPromise, FlushLeaves, UpdatePromise, UpdateLeaves, CheckPromise, ReadPromise, NoRead, ReadLeaves, SizePromise, ShowPromise, ShowsPart}
+use Rattle.promises.specs.Promises.{
+  OpenPromise,
+  OpenLeaves,
+  SendPromise,
+  SendLeaves,
+  InputPromise,
+  InputLeaves,
+  WrittenTo,
+  Flushes,
+  FlushPromise,
+  FlushLeaves,
+  UpdatePromise,
+  UpdateLeaves,
+  CheckPromise,
+  ReadPromise,
+  NoRead,
+  ReadLeaves,
+  SizePromise,
+  ShowPromise,
+  ShowsPart,
+}
 use Rattle.wrong_links.specs.Standing.{Known, Lends, At, Passes, lengthsKnown}
 
 -- ---- opening
 
 -- opening with parts that have these pools, 128 records and 512 entries for acks
 module _ (c : Settings) (l : Link) (p : Parts) (l′ : Link) (p′ : Parts) (k : Known) (a : Answer) where
-  pub opening-goes : Lends p (k .sendPool) (k .receivePool) → opening c (lengthsKnown k) ≡ done (k .state) → OpenPromise c l p a l′ p′ → (a ≡ answer.Accepted) × At l′ p′ k
+  pub opening-goes : Lends p (k .sendPool) (k .receivePool) → opening c (lengthsKnown k) ≡ done (k .state) → OpenPromise c l p a l′ p′
+      → (a ≡ answer.Accepted) × At l′ p′ k
   opening-goes lends e h =
       let o : opens c p ≡ done (k .state) = rw (lends .sendPool, lends .receivePool, lends .table, lends .acks) e in
       let r = subst (λ (o : Outcome State). Accepts a o × OpenLeaves o l l′ p p′) o (h .answer, h .leaves) in
@@ -69,14 +107,15 @@ module _ (l : Link) (p : Parts) (k : Known) (at : At l p k) (passes : Passes k) 
   unfolding takesInWith
   takes-known d = rw (long-known, made-known, at .stands .state, at .lends .receivePool)
 
-  flushes-known : (out lengths t : ℕ) → leb outputLeast out ≡ true → leb lengthsLeast lengths ≡ true → flushes l p out lengths t ≡ done (flushing (k .state) t (k .sendPool))
+  flushes-known : (f : FlushParts) (t : ℕ) → leb outputLeast (length (f .output)) ≡ true → leb lengthsLeast (length (f .lengths)) ≡ true
+      → flushes l p f t ≡ done (flushing (k .state) t (k .sendPool))
   unfolding flushesWith enoughToFlush
-  flushes-known out lengths t o n = rw (long-known, o, n, made-known, at .stands .state, at .lends .sendPool)
+  flushes-known f t o n = rw (long-known, o, n, made-known, at .stands .state, at .lends .sendPool)
 
-  updates-known : (out lengths t : ℕ) → leb outputLeast out ≡ true → leb lengthsLeast lengths ≡ true
-      → updates l p out lengths t ≡ done (updating (k .state) t (k .sendPool))
+  updates-known : (f : FlushParts) (t : ℕ) → leb outputLeast (length (f .output)) ≡ true → leb lengthsLeast (length (f .lengths)) ≡ true
+      → updates l p f t ≡ done (updating (k .state) t (k .sendPool))
   unfolding updatesWith enoughToFlush
-  updates-known out lengths t o n = rw (long-known, o, n, made-known, at .stands .state, at .lends .sendPool)
+  updates-known f t o n = rw (long-known, o, n, made-known, at .stands .state, at .lends .sendPool)
 
   checks-known : (t : ℕ) → checks l p t ≡ done (checking (k .state) t)
   unfolding checksWith
@@ -131,13 +170,13 @@ module _ (l : Link) (p : Parts) (k : Known) (at : At l p k) (passes : Passes k) 
       )
 
   -- what a flush leaves
-  pub record Wrote (x : Flushed) (l′ : Link) (p′ : Parts) (out lengths out′ lengths′ : List ℕ) : Type 0 where
+  pub record Wrote (x : Flushed) (l′ : Link) (p′ : Parts) (f f′ : FlushParts) : Type 0 where
     pub after : At l′ p′ (record { state = x .state; sendPool = k .sendPool; receivePool = k .receivePool })
-    pub output : Output (map bytesOfSegments (x .datagrams)) out lengths (length (x .datagrams)) out′ lengths′
+    pub output : WrittenTo (map bytesOfSegments (x .datagrams)) (length (x .datagrams)) f f′
 
-  wrote : (x : Flushed) (l′ : Link) (p′ : Parts) (out lengths out′ lengths′ : List ℕ) → Flushes x l′ p p′ out lengths out′ lengths′
-      → Wrote x l′ p′ out lengths out′ lengths′
-  wrote x l′ p′ out lengths out′ lengths′ h = record {
+  wrote : (x : Flushed) (l′ : Link) (p′ : Parts) (f f′ : FlushParts) → Flushes x l′ p p′ f f′
+      → Wrote x l′ p′ f f′
+  wrote x l′ p′ f f′ h = record {
     after = record {
       stands = h .stands;
       lends = record {
@@ -151,40 +190,40 @@ module _ (l : Link) (p : Parts) (k : Known) (at : At l p k) (passes : Passes k) 
   }
 
   -- a flush answers the number of the definition's datagrams, and these stand in its output
-  pub flush-goes : (t : ℕ) (out lengths : List ℕ) (a : Count) (l′ : Link) (p′ : Parts) (out′ lengths′ : List ℕ) (x : Flushed)
-      → leb outputLeast (length out) ≡ true
-      → leb lengthsLeast (length lengths) ≡ true
+  pub flush-goes : (t : ℕ) (f : FlushParts) (a : Count) (l′ : Link) (p′ : Parts) (f′ : FlushParts) (x : Flushed)
+      → leb outputLeast (length (f .output)) ≡ true
+      → leb lengthsLeast (length (f .lengths)) ≡ true
       → flushing (k .state) t (k .sendPool) ≡ x
-      → FlushPromise t l p out lengths a l′ p′ out′ lengths′
-      → (a ≡ count.Of (length (x .datagrams))) × Wrote x l′ p′ out lengths out′ lengths′
-  flush-goes t out lengths a l′ p′ out′ lengths′ x o n e h =
+      → FlushPromise t l p f a l′ p′ f′
+      → (a ≡ count.Of (length (x .datagrams))) × Wrote x l′ p′ f f′
+  flush-goes t f a l′ p′ f′ x o n e h =
       let r =
-      subst (λ (o : Outcome Flushed). Counts (λ (y : Flushed). length (y .datagrams)) a o × FlushLeaves o l l′ p p′ out lengths out′ lengths′)
-      (flushes-known (length out) (length lengths) t o n ∙ ap done e) (h .answer, h .leaves) in
-      (r .0, wrote x l′ p′ out lengths out′ lengths′ (r .1))
+      subst (λ (o : Outcome Flushed). Counts (λ (y : Flushed). length (y .datagrams)) a o × FlushLeaves o l l′ p p′ f f′)
+      (flushes-known f t o n ∙ ap done e) (h .answer, h .leaves) in
+      (r .0, wrote x l′ p′ f f′ (r .1))
 
-  module _ (t : ℕ) (out lengths : List ℕ) (a : Update) (l′ : Link) (p′ : Parts) (out′ lengths′ : List ℕ)
-      (o : leb outputLeast (length out) ≡ true) (n : leb lengthsLeast (length lengths) ≡ true)
-      (h : UpdatePromise t l p out lengths a l′ p′ out′ lengths′) where
+  module _ (t : ℕ) (f : FlushParts) (a : Update) (l′ : Link) (p′ : Parts) (f′ : FlushParts)
+      (o : leb outputLeast (length (f .output)) ≡ true) (n : leb lengthsLeast (length (f .lengths)) ≡ true)
+      (h : UpdatePromise t l p f a l′ p′ f′) where
     update-gives : (u : Updates) → updating (k .state) t (k .sendPool) ≡ u
-        → (a ≡ updateAnswer (done u)) × UpdateLeaves (done u) l l′ p p′ out lengths out′ lengths′
+        → (a ≡ updateAnswer (done u)) × UpdateLeaves (done u) l l′ p p′ f f′
     update-gives u e =
-        subst (λ (o : Outcome Updates). (a ≡ updateAnswer o) × UpdateLeaves o l l′ p p′ out lengths out′ lengths′)
-        (updates-known (length out) (length lengths) t o n ∙ ap done e) (h .answer, h .leaves)
+        subst (λ (o : Outcome Updates). (a ≡ updateAnswer o) × UpdateLeaves o l l′ p p′ f f′)
+        (updates-known f t o n ∙ ap done e) (h .answer, h .leaves)
 
     -- an update that flushes by the definition answers and leaves the same
     pub update-goes : (x : Flushed) → updating (k .state) t (k .sendPool) ≡ session.flushes x
-        → (a ≡ update.Wrote (length (x .datagrams))) × Wrote x l′ p′ out lengths out′ lengths′
-    update-goes x e = let r = update-gives (session.flushes x) e in (r .0, wrote x l′ p′ out lengths out′ lengths′ (r .1))
+        → (a ≡ update.Wrote (length (x .datagrams))) × Wrote x l′ p′ f f′
+    update-goes x e = let r = update-gives (session.flushes x) e in (r .0, wrote x l′ p′ f f′ (r .1))
 
     -- one that waits by the definition changes the state alone
     pub update-waits : (s : State) → updating (k .state) t (k .sendPool) ≡ waits s
         → (a ≡ update.Waited)
         × At l′ p′ (record { state = s; sendPool = k .sendPool; receivePool = k .receivePool })
-        × (p′ ≡ p) × (out′ ≡ out) × (lengths′ ≡ lengths)
+        × (p′ ≡ p) × (f′ ≡ f)
     update-waits s e =
         let r = update-gives (waits s) e in
-        (r .0, record { stands = r .1 .stands; lends = rw (r .1 .parts) (at .lends) }, r .1 .parts, r .1 .output, r .1 .sizes)
+        (r .0, record { stands = r .1 .stands; lends = rw (r .1 .parts) (at .lends) }, r .1 .parts, r .1 .flushParts)
 
   pub check-goes : (t : ℕ) (a : Time) → CheckPromise t l p a → timeOutcome a ≡ done (checking (k .state) t)
   check-goes t a h = h .answer ∙ checks-known t

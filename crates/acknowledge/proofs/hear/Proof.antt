@@ -6,7 +6,6 @@ use borrow.Author.Needs.{needs}
 use lib.ListN.{length}
 use Rattle.datagram.specs.Datagrams.{stepAt}
 use Rattle.datagram.specs.declared.Step.the-variants as step
-use Rattle.lists.proofs.Loops.{length-mapped}
 use Rattle.acknowledge.specs.Flights.{view}
 use Rattle.acknowledge.proofs.Hearing.{heard-some, heard-none, all-stay}
 use Rattle.acknowledge.proofs.Owned.{numbers-owned, sent-owned}
@@ -26,44 +25,56 @@ loop-holds : tie.Need-loop-holds Inv-loop μ-loop
 loop-holds c =
     let a = c .before .before in
     rw (c .new .ensures)
-    (walking-start _ _ _ _ (record { order = a .pre .0; fit = sent-owned _ _ (numbers-owned (a .args .records) (a .good .1 .0 .0) (a .good .1 .0 .1 .1)); next32 = search needs }) _ (a .pre .1 .1))
+    (walking-start _ _ _ _ (record {
+      order = a .pre .0;
+      fit = sent-owned _ _ (numbers-owned (a .args .records) (a .good .1 .0 .0) (a .good .1 .0 .1 .1));
+      next32 = search needs;
+    }) _
+    (a .pre .1 .1))
 
 -- a segment was found
 found : (c : tie.After-known-told Inv-loop μ-loop) →
     let l = c .before .before .before .before in
-    (stepAt (l .before .before .before .args .s .now) (l .loop .at) ≡ step.Segment (c .before .step .given .0 .0) (c .before .step .given .0 .1 .0) (c .before .step .given .0 .1 .1 .0))
+    (stepAt (l .before .before .before .args .s .now) (l .loop .at) ≡ step.Segment (c .before .step .given .0 .0)
+    (c .before .step .given .0 .1 .0) (c .before .step .given .0 .1 .1 .0))
 found c = sym (c .before .before .before .segment-at .ensures) ∙ c .before .step .given .1
 
 loop-less : tie.Need-loop-less Inv-loop μ-loop
-loop-less c = let k = c .before .before .before .before .before .before .before .before .before .before .before in walking-less _ _ _ _ _ _ _ (k .before .before .before .before .loop .inv) _ _ _ (found k)
+loop-less c =
+    let k = c .before .before .before .before .before .before .before .before .before in
+    walking-less _ _ _ _ _ _ _ (k .before .before .before .before .loop .inv) _ _ _ (found k)
 
 loop-less-2 : tie.Need-loop-less-2 Inv-loop μ-loop
-loop-less-2 c = let k = c .before .before .before .before .before in walking-less _ _ _ _ _ _ _ (k .before .before .before .before .loop .inv) _ _ _ (found k)
+loop-less-2 c = let k = c .before .before .before .before .before in
+    walking-less _ _ _ _ _ _ _ (k .before .before .before .before .loop .inv) _ _ _ (found k)
 
 loop-again : tie.Need-loop-again Inv-loop μ-loop
 loop-again c =
-    let left = c .before .before .before .remaining in
-    let many : length (left .result .records) ≡ 32 = search (needs, length-mapped) in
-    let k = c .before .before .before .before .before .before .before .before .before .before .before in
-    walking-more _ _ _ _ _ _ _ (k .before .before .before .before .loop .inv) _ _ _ (found k) _ _ (c .before .before .before .before .before .before .before .before .before .before .after .ensures)
-    (heard-some _ _ _ _ _ (c .before .before .before .before .before .before .before .before .timed .ensures) _ _ _ _ _ _ (left .ensures) many (c .first-number .ensures))
+    let left = c .before .remaining in
+    let times = c .before .before .before .before .before .before in
+    let k = times .before .before .before in
+    walking-more _ _ _ _ _ _ _ (k .before .before .before .before .loop .inv) _ _ _ (found k) _ _ (times .before .before .after .ensures)
+    (heard-some _ _ _ _ _ (times .timed .ensures) _ _ _ _ _ (left .ensures .0) (left .ensures .1))
 
 loop-again-2 : tie.Need-loop-again-2 Inv-loop μ-loop
 loop-again-2 c =
     let k = c .before .before .before .before .before in
     let w = k .before .before .before .before .loop .inv in
     walking-more _ _ _ _ _ _ _ w _ _ _ (found k) _ _ (c .before .before .before .before .after .ensures)
-    (heard-none _ _ _ _ _ (c .before .before .timed .ensures) (w .ordered .order) (all-stay _ _ _ _ (c .before .concerns .ensures) (c .if2 .left) _ (w .ordered .fit) (w .ordered .order .numbers)))
+    (heard-none _ _ _ _ _ (c .before .before .timed .ensures) (w .ordered .order)
+    (all-stay _ _ _ _ (c .before .concerns .ensures) (c .if2 .left) _ (w .ordered .fit) (w .ordered .order .numbers)))
 
 -- none is left
-ended : (c : tie.After-enum-told Inv-loop μ-loop) → let l = c .before .before .before in (stepAt (l .before .before .before .args .s .now) (l .loop .at) ≡ step.End)
+ended : (c : tie.After-enum-told Inv-loop μ-loop) → let l = c .before .before .before in
+    (stepAt (l .before .before .before .args .s .now) (l .loop .at) ≡ step.End)
 ended c = sym (c .before .before .segment-at .ensures) ∙ c .enum-told .given .1
 
 returns : tie.Need-returns Inv-loop μ-loop
 returns c =
     let e = c .before .before .before .before in
     let w = e .before .before .before .loop .inv in
-    walking-end _ _ _ _ _ _ _ w (ended e) _ (skips-are _ _ _ (w .ordered .order) (c .before .before .before .counts .ensures) _ (c .before .if1 .taken) (c .skip-before .ensures))
+    walking-end _ _ _ _ _ _ _ w (ended e) _ (skips-are _ _ _ (w .ordered .order) (c .before .before .before .counts .ensures) _
+    (c .before .if1 .taken) (c .skip-before .ensures))
 
 returns-2 : tie.Need-returns-2 Inv-loop μ-loop
 returns-2 c =
@@ -89,9 +100,8 @@ hear-spec =
     (λ c κs. tt)
     (λ c κs. tt)
     (λ c κs. tt)
-    (λ c κs. let o = c .before .before .before .before .before .before .before .before .before .before .before .loop .inv .ordered .order in (o .whole, o .wholes, o .fits))
-    (λ c. search needs)
-    (λ c κs. tt)
+    (λ c κs. let o = c .before .before .before .before .before .before .before .before .before .before .before .loop .inv .ordered .order in
+    (o .whole, o .wholes, o .fits))
     loop-less
     loop-again
     loop-less-2

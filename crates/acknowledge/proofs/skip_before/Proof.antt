@@ -12,7 +12,8 @@ use Rattle.acknowledge.proofs.skip_before.Statement.{statement}
 use Rattle.acknowledge.proofs.skip_before.Tie as tie
 
 abbrev Inv-loop : tie.InvT-loop
-Inv-loop n number rs₀ i₀ rs i = Packed 32 n rs₀ rs (map (skipRecord number) (drop i (take n rs₀))) (map (skipRecord number) (take n rs₀)) i i
+Inv-loop n number rs₀ i₀ rs i =
+    Packed 32 n rs₀ rs (map (skipRecord number) (drop i (take n rs₀))) (map (skipRecord number) (take n rs₀)) i i
 
 abbrev μ-loop : tie.MeasureT-loop
 μ-loop n number rs₀ i₀ rs i = n - i

@@ -1,7 +1,150 @@
--- `ampferweg::ampferweg_flush` meets its contract: a walk of its MIR. The block is given to `write_out`, and the table lent to it as `&`; then the table is given to `scatter`.
+-- `ampferweg::ampferweg_flush` meets its contract: a walk of its MIR. Block and table are given to `write_and_put_back`.
 -- Of each callee the proof knows only that it meets its contract. Written by tools/calls.py.
 -- Assumes nothing.
-use Rattle.records.proofs.Walk.{_≡_, refl, ap, ℕ, _+_, List, [], _∷_, length, set, URA, fullShare, named, w8, w32, w64, Val, vint, vptr, SProp, ent, emp, via, fst∗, id⊢, Lft, GName, Share, Fml, ftrue, flft, Memory, Routine, Heap, Calls, Loops, WpFn, Tables, Atoms, Fun, givenOf, tables, tablesOf, Given, Item, ‵, some, later, _⊛_, ⋆, _$_, _∵_, !, qed, by, move, drop, use1, use2, split, join, pick, await, fsplit, fjoin, feqL, suffices, frame, done, look, look-raw, look-in, sub, whole, init, store, store-raw, forget, stop, hop, fld, from, load, of-opd, agg, addr, and-then, no-more, assigns, returns, enter, alloc1, alloc0, params1, pass1, pass0, free1, free0, land, WpFn-mono, FmC, fmOf, owns, Is, uint-vals, uint-tells, uint-makes, RefT, sliceVal, MutSlice, ShrSlice, Room, slice-vals, mut-slice-tells, shr-slice-tells, finally, plain, u8, u32, usize, nothing, owned, only, Vals, onEntry, Triple, Meets, tripleOf, entered, cited, says, Stays, gave-slice, goes-gave-slice, walkOf, ends-at, walked, walk-meets, yes, fat, keep, exec}
+use Rattle.records.proofs.Walk.{
+  _≡_,
+  refl,
+  ap,
+  ℕ,
+  _+_,
+  List,
+  [],
+  _∷_,
+  length,
+  set,
+  URA,
+  fullShare,
+  named,
+  w8,
+  w32,
+  w64,
+  Val,
+  vint,
+  vptr,
+  SProp,
+  ent,
+  emp,
+  via,
+  fst∗,
+  id⊢,
+  Lft,
+  GName,
+  Share,
+  Fml,
+  ftrue,
+  flft,
+  Memory,
+  Routine,
+  Heap,
+  Calls,
+  Loops,
+  WpFn,
+  Tables,
+  Atoms,
+  Fun,
+  givenOf,
+  tables,
+  tablesOf,
+  Given,
+  Item,
+  ‵,
+  some,
+  later,
+  _⊛_,
+  ⋆,
+  _$_,
+  _∵_,
+  !,
+  qed,
+  by,
+  move,
+  drop,
+  use1,
+  use2,
+  split,
+  join,
+  pick,
+  await,
+  fsplit,
+  fjoin,
+  feqL,
+  suffices,
+  frame,
+  done,
+  look,
+  look-raw,
+  look-in,
+  sub,
+  whole,
+  init,
+  store,
+  store-raw,
+  forget,
+  stop,
+  hop,
+  fld,
+  from,
+  load,
+  of-opd,
+  agg,
+  addr,
+  and-then,
+  no-more,
+  assigns,
+  returns,
+  enter,
+  alloc1,
+  alloc0,
+  params1,
+  pass1,
+  pass0,
+  free1,
+  free0,
+  land,
+  WpFn-mono,
+  FmC,
+  fmOf,
+  owns,
+  Is,
+  uint-vals,
+  uint-tells,
+  uint-makes,
+  RefT,
+  sliceVal,
+  MutSlice,
+  ShrSlice,
+  Room,
+  slice-vals,
+  mut-slice-tells,
+  shr-slice-tells,
+  finally,
+  plain,
+  u8,
+  u32,
+  usize,
+  nothing,
+  owned,
+  only,
+  Vals,
+  onEntry,
+  Triple,
+  Meets,
+  tripleOf,
+  entered,
+  cited,
+  says,
+  Stays,
+  gave-slice,
+  goes-gave-slice,
+  walkOf,
+  ends-at,
+  walked,
+  walk-meets,
+  yes,
+  fat,
+  keep,
+  exec,
+}
 use Rattle.records.proofs.Call.{calls-fn, plainly}
 use Rattle.records.proofs.Shared.{LentShared, lends-shared, shared-back}
 use Rattle.records.proofs.Rows.{R, Rs, rs-typed, rs-makes}
@@ -33,58 +176,59 @@ use denote.Signature.Array.{arrayOf}
 use denote.Struct.Laws as LL
 use denote.Enum.Laws as EL
 use denote.Triple.Walked.{stay-ref, goes-ref, gave-ref, goes-gave-ref, stay-dropped, goes-dropped}
-use Rattle.flush_core.specs.declared.Flushed.{Flushed}
-use Rattle.flush_core.proofs.Flushed as flushed-row
-use Rattle.flush_core.proofs.Flushed.Laws as flushed-laws
-use mathlib.Core.Path.{_∙_, sym}
-use Rattle.records.specs.Tables.{slotsIn, scattered}
-use Rattle.promises.specs.Parts.{partsOf}
+use mathlib.Core.Path.{subst}
+use mathlib.Core.Bool.{Bool, false}
+use denote.Plain.{Boolean, bool-lawful, bool-makes}
+use Rattle.promises.specs.Parts.{partsOf, flushPartsOf}
 use Rattle.promises.specs.Promises.{FlushPromise}
-use Rattle.flush_core.specs.Flushes.{putBack}
+use Rattle.write_out.specs.Written.{WrittenOut}
 use Rattle.codes.specs.Codes.{countCode}
 use Rattle.codes.specs.Gives.{Gives}
-use Rattle.codes.proofs.Told.{told}
-use Rattle.from_cores.specs.Left.{FlushLeft}
-use Rattle.from_cores.proofs.Scattered.{put-back}
-use Rattle.from_cores.proofs.Flushing.{flush-promised}
-use Rattle.write_out.proofs.write_out as writing
-use Rattle.write_out.proofs.write_out.Symbol as writing-def
-use Rattle.write_out.proofs.write_out.Met as writing-thm
-use Rattle.results.proofs.flushed_words as words-of
-use Rattle.results.proofs.flushed_words.Symbol as words-of-def
-use Rattle.results.proofs.flushed_words.Met as words-of-thm
-use Rattle.results.proofs.flushed_changed as count-of
-use Rattle.results.proofs.flushed_changed.Symbol as count-of-def
-use Rattle.results.proofs.flushed_changed.Met as count-of-thm
-use Rattle.results.proofs.flushed_records as records-of
-use Rattle.results.proofs.flushed_records.Symbol as records-of-def
-use Rattle.results.proofs.flushed_records.Met as records-of-thm
-use Rattle.gathering.proofs.scatter as scatter
-use Rattle.gathering.proofs.scatter.Symbol as scatter-def
-use Rattle.gathering.proofs.scatter.Met as scatter-thm
-use Rattle.results.proofs.flushed_code as code-of
-use Rattle.results.proofs.flushed_code.Symbol as code-of-def
-use Rattle.results.proofs.flushed_code.Met as code-of-thm
+use Rattle.results.proofs.at_once as paced-of
+use Rattle.results.proofs.at_once.Symbol as paced-of-def
+use Rattle.results.proofs.at_once.Met as paced-of-thm
+use Rattle.write_out.proofs.write_and_put_back as writing
+use Rattle.write_out.proofs.write_and_put_back.Symbol as writing-def
+use Rattle.write_out.proofs.write_and_put_back.Met as writing-thm
 use Rattle.ampferweg.proofs.ampferweg_flush.Key.{name as #f}
 use Rattle.ampferweg.proofs.ampferweg_flush as f
 use Rattle.ampferweg.proofs.ampferweg_flush.Statement as stated
 use Rattle.ampferweg.proofs.ampferweg_flush.Code as code
 
 abbrev stayed : Stays (f.ended .signature .params) (f.ended .kept)
-stayed = (gave-ref (0 ∷ []) tt (plain (λ _. L)), (stay-dropped _ yes, (stay-dropped _ yes, (gave-slice (3 ∷ []) tt (plain (λ _. R)), (stay-dropped _ yes, (stay-dropped _ yes, (gave-slice (5 ∷ []) tt (plain (λ _. u8)), (gave-slice (6 ∷ []) tt (plain (λ _. u16)), tt))))))))
+stayed = (
+  gave-ref (0 ∷ []) tt (plain (λ _. L)),
+  (
+    stay-dropped _ yes,
+    (
+      stay-dropped _ yes,
+      (
+        gave-slice (3 ∷ []) tt (plain (λ _. R)),
+        (
+          stay-dropped _ yes,
+          (
+            stay-dropped _ yes,
+            (gave-slice (5 ∷ []) tt (plain (λ _. u8)), (gave-slice (6 ∷ []) tt (plain (λ _. u16)), tt)),
+          ),
+        ),
+      ),
+    ),
+  ),
+)
 
 module _ {M : Type 1} (𝓤 : URA M) (H : Heap 𝓤) (A : Atoms 𝓤) (W : Given 𝓤 H A) (at-mem : Memory → SProp 𝓤) (run : Routine → Fun 𝓤) where
   -- what is known of the callees
   abbrev Known : Calls 𝓤 H → Type 1
-  Known C = Triple 𝓤 (C writing-def.name) (tripleOf 𝓤 H A writing.signature (writing.spec 𝓤 H A at-mem run))
-      × Triple 𝓤 (C words-of-def.name) (tripleOf 𝓤 H A words-of.signature (words-of.spec 𝓤 H A at-mem run))
-      × Triple 𝓤 (C count-of-def.name) (tripleOf 𝓤 H A count-of.signature (count-of.spec 𝓤 H A at-mem run))
-      × Triple 𝓤 (C records-of-def.name) (tripleOf 𝓤 H A records-of.signature (records-of.spec 𝓤 H A at-mem run))
-      × Triple 𝓤 (C scatter-def.name) (tripleOf 𝓤 H A scatter.signature (scatter.spec 𝓤 H A at-mem run))
-      × Triple 𝓤 (C code-of-def.name) (tripleOf 𝓤 H A code-of.signature (code-of.spec 𝓤 H A at-mem run))
+  Known C = Triple 𝓤 (C paced-of-def.name) (tripleOf 𝓤 H A paced-of.signature (paced-of.spec 𝓤 H A at-mem run))
+      × Triple 𝓤 (C writing-def.name) (tripleOf 𝓤 H A writing.signature (writing.spec 𝓤 H A at-mem run))
 
-  module _ (κ₀ κ₁ κ₂ κ₃ κ₄ κ₅ κ₆ : Lft) (q₀ q₁ q₂ q₃ q₄ q₅ q₆ : Share) (x₀ : RefT Link) (x₁ : RefT (List ℕ)) (room₁ : Room u8 (length (x₁ .now))) (x₂ : RefT (List ℕ)) (room₂ : Room u8 (length (x₂ .now))) (x₃ : RefT (List Record)) (room₃ : Room R (length (x₃ .now))) (x₄ : RefT (List ℕ)) (room₄ : Room u32 (length (x₄ .now))) (x₅ : ℕ) (v₅ : Val) (g₅ : Is u32 x₅ (v₅ ∷ [])) (x₆ : RefT (List ℕ)) (room₆ : Room u8 (length (x₆ .now))) (x₇ : RefT (List ℕ)) (room₇ : Room u16 (length (x₇ .now))) where
-    abbrev x : RefT Link × (RefT (List ℕ) × (RefT (List ℕ) × (RefT (List Record) × (RefT (List ℕ) × (ℕ × (RefT (List ℕ) × (RefT (List ℕ) × Unit {0})))))))
+  module _ (κ₀ κ₁ κ₂ κ₃ κ₄ κ₅ κ₆ : Lft) (q₀ q₁ q₂ q₃ q₄ q₅ q₆ : Share) (x₀ : RefT Link) (x₁ : RefT (List ℕ))
+      (room₁ : Room u8 (length (x₁ .now))) (x₂ : RefT (List ℕ)) (room₂ : Room u8 (length (x₂ .now))) (x₃ : RefT (List Record))
+      (room₃ : Room R (length (x₃ .now))) (x₄ : RefT (List ℕ)) (room₄ : Room u32 (length (x₄ .now))) (x₅ : ℕ) (v₅ : Val)
+      (g₅ : Is u32 x₅ (v₅ ∷ [])) (x₆ : RefT (List ℕ)) (room₆ : Room u8 (length (x₆ .now))) (x₇ : RefT (List ℕ))
+      (room₇ : Room u16 (length (x₇ .now))) where
+    abbrev x : RefT Link × (RefT (List ℕ) × (RefT (List ℕ) ×
+        (RefT (List Record) × (RefT (List ℕ) × (ℕ × (RefT (List ℕ) × (RefT (List ℕ) × Unit {0})))))))
     x = (x₀, (x₁, (x₂, (x₃, (x₄, (x₅, (x₆, (x₇, tt))))))))
 
     abbrev s₀ : Val
@@ -111,12 +255,6 @@ module _ {M : Type 1} (𝓤 : URA M) (H : Heap 𝓤) (A : Atoms 𝓤) (W : Given
     abbrev Own₃ : Fml
     Own₃ = MutSlice (named 0) κ₃ R .own x₃ (s₃ ∷ [])
 
-    abbrev shown-at₃ : GName → RefT (List Record)
-    shown-at₃ δ = record { ptr = x₃ .ptr; name = δ; now = x₃ .now }
-
-    abbrev Shared₃ : ℕ → GName → Fml
-    Shared₃ β δ = ShrSlice (named 0) (β ∷ []) R .own (shown-at₃ δ) (s₃ ∷ [])
-
     abbrev s₄ : Val
     s₄ = sliceVal (x₄ .ptr) (length (x₄ .now))
 
@@ -139,90 +277,221 @@ module _ {M : Type 1} (𝓤 : URA M) (H : Heap 𝓤) (A : Atoms 𝓤) (W : Given
     at = (s₀ ∷ [], (s₁ ∷ [], (s₂ ∷ [], (s₃ ∷ [], (s₄ ∷ [], (v₅ ∷ [], (s₆ ∷ [], (s₇ ∷ [], tt))))))))
 
     unfoldable Post : Val → SProp 𝓤
-    Post = walkOf 𝓤 H A f.ended stayed (f.clauses 𝓤 H A at-mem run) .post (((κ₀, (κ₁, (κ₂, (κ₃, (κ₄, (κ₅, (κ₆, tt))))))), (q₀, (q₁, (q₂, (q₃, (q₄, (q₅, (q₆, tt))))))), tt, x, at), tt)
+    Post = walkOf 𝓤 H A f.ended stayed (f.clauses 𝓤 H A at-mem run) .post
+        (((κ₀, (κ₁, (κ₂, (κ₃, (κ₄, (κ₅, (κ₆, tt))))))), (q₀, (q₁, (q₂, (q₃, (q₄, (q₅, (q₆, tt))))))), tt, x, at), tt)
 
     -- what writing is called at, and that what it asks is had
-    abbrev to-writing : (β₃ : ℕ) (δ₃ : GName) (y₀ : ℕ) (u₀ : Val) → tripleOf 𝓤 H A writing.signature (writing.spec 𝓤 H A at-mem run) .Ghost
-    to-writing β₃ δ₃ y₀ u₀ = (((κ₀, (κ₁, (κ₂, ((β₃ ∷ []), (κ₄, (κ₅, (κ₆, tt))))))), (q₀, (q₁, (q₂, (fullShare, (q₄, (q₅, (q₆, tt))))))), tt, (x₀, (x₁, (x₂, ((shown-at₃ δ₃), (x₄, (y₀, (x₆, (x₇, tt)))))))), (s₀ ∷ [], (s₁ ∷ [], (s₂ ∷ [], (s₃ ∷ [], (s₄ ∷ [], (u₀ ∷ [], (s₆ ∷ [], (s₇ ∷ [], tt))))))))), tt)
+    abbrev to-writing : (y₀ : Bool) (u₀ : Val) (y₁ : ℕ) (u₁ : Val) → tripleOf 𝓤 H A writing.signature (writing.spec 𝓤 H A at-mem run) .Ghost
+    to-writing y₀ u₀ y₁ u₁ = (
+      (
+        (κ₀, (κ₁, (κ₂, (κ₃, (κ₄, (κ₅, (κ₆, tt))))))),
+        (q₀, (q₁, (q₂, (q₃, (q₄, (q₅, (q₆, tt))))))),
+        tt,
+        (x₀, (x₁, (x₂, (x₃, (x₄, (y₀, (y₁, (x₆, (x₇, tt))))))))),
+        (s₀ ∷ [], (s₁ ∷ [], (s₂ ∷ [], (s₃ ∷ [], (s₄ ∷ [], (u₀ ∷ [], (u₁ ∷ [], (s₆ ∷ [], (s₇ ∷ [], tt))))))))),
+      ),
+      tt,
+    )
 
-    asks-writing : (β₃ : ℕ) (δ₃ : GName) → (y₀ : ℕ) (u₀ : Val) → Is u32 y₀ (u₀ ∷ []) → ent 𝓤 (⋆ 𝓤 H A (‵ (flft κ₀ q₀) ∷ ‵ Own₀ ∷ ‵ (flft κ₁ q₁) ∷ ‵ Own₁ ∷ ‵ (flft κ₂ q₂) ∷ ‵ Own₂ ∷ ‵ (flft (β₃ ∷ []) fullShare) ∷ ‵ (Shared₃ β₃ δ₃) ∷ ‵ (flft κ₄ q₄) ∷ ‵ Own₄ ∷ ‵ (flft κ₅ q₅) ∷ ‵ Own₆ ∷ ‵ (flft κ₆ q₆) ∷ ‵ Own₇ ∷ [])) (tripleOf 𝓤 H A writing.signature (writing.spec 𝓤 H A at-mem run) .pre (to-writing β₃ δ₃ y₀ u₀))
-    asks-writing β₃ δ₃ y₀ u₀ is₀ =
-        qed W (‵ (flft κ₀ q₀) ∷ ‵ Own₀ ∷ ‵ (flft κ₁ q₁) ∷ ‵ Own₁ ∷ ‵ (flft κ₂ q₂) ∷ ‵ Own₂ ∷ ‵ (flft (β₃ ∷ []) fullShare) ∷ ‵ (Shared₃ β₃ δ₃) ∷ ‵ (flft κ₄ q₄) ∷ ‵ Own₄ ∷ ‵ (flft κ₅ q₅) ∷ ‵ Own₆ ∷ ‵ (flft κ₆ q₆) ∷ ‵ Own₇ ∷ []) ∵ nothing ! $ move ! (13 ∷ 0 ∷ []) $ join ! $ move ! (11 ∷ 0 ∷ []) $ join ! $ move ! (9 ∷ 0 ∷ []) $ join ! $ move ! (7 ∷ 0 ∷ []) $ join ! $ move ! (5 ∷ 0 ∷ []) $ join ! $ move ! (3 ∷ 0 ∷ []) $ join ! $ move ! (1 ∷ 0 ∷ []) $ join ! $ nothing ! $ move ! (8 ∷ 0 ∷ []) $ fjoin ! $ move ! (7 ∷ 0 ∷ []) $ fjoin ! $ owned ! u32 (Is u32) (uint-makes 𝓤 H A W w32) y₀ _ is₀ $ fjoin ! $ move ! (6 ∷ 0 ∷ []) $ fjoin ! $ move ! (5 ∷ 0 ∷ []) $ fjoin ! $ move ! (4 ∷ 0 ∷ []) $ fjoin ! $ move ! (3 ∷ 0 ∷ []) $ fjoin ! $ move ! (2 ∷ 0 ∷ []) $ fjoin ! $ move ! (1 ∷ 0 ∷ []) $ join ! $ nothing ! $ move ! (1 ∷ 0 ∷ []) $ done !
-
-    -- what scatter is called at, and that what it asks is had
-    abbrev to-scatter : (y₀ : (List ℕ)) (u₀ : Val) (y₁ : ℕ) (u₁ : Val) (y₂ : (List Record)) (u₂ : Val) → tripleOf 𝓤 H A scatter.signature (scatter.spec 𝓤 H A at-mem run) .Ghost
-    to-scatter y₀ u₀ y₁ u₁ y₂ u₂ = (((κ₃, tt), (q₃, tt), tt, (x₃, (y₀, (y₁, (y₂, tt)))), (s₃ ∷ [], (u₀ ∷ [], (u₁ ∷ [], (u₂ ∷ [], tt))))), tt)
-
-    asks-scatter : (y₀ : (List ℕ)) (u₀ : Val) → Is (Array u32 32) y₀ (u₀ ∷ []) → (y₁ : ℕ) (u₁ : Val) → Is usize y₁ (u₁ ∷ []) → (y₂ : (List Record)) (u₂ : Val) → Is Rs y₂ (u₂ ∷ []) → ent 𝓤 (⋆ 𝓤 H A (‵ (flft κ₃ q₃) ∷ ‵ Own₃ ∷ [])) (tripleOf 𝓤 H A scatter.signature (scatter.spec 𝓤 H A at-mem run) .pre (to-scatter y₀ u₀ y₁ u₁ y₂ u₂))
-    asks-scatter y₀ u₀ is₀ y₁ u₁ is₁ y₂ u₂ is₂ =
-        qed W (‵ (flft κ₃ q₃) ∷ ‵ Own₃ ∷ []) ∵ nothing ! $ move ! (1 ∷ 0 ∷ []) $ join ! $ nothing ! $ owned ! Rs (Is Rs) (rs-makes 𝓤 H A W) y₂ _ is₂ $ fjoin ! $ owned ! usize (Is usize) (uint-makes 𝓤 H A W w64) y₁ _ is₁ $ fjoin ! $ owned ! (Array u32 32) (Is (Array u32 32)) (array-makes 𝓤 H A W u32 (uint-makes 𝓤 H A W w32) 32) y₀ _ is₀ $ fjoin ! $ move ! (2 ∷ 0 ∷ []) $ fjoin ! $ move ! (1 ∷ 0 ∷ []) $ join ! $ nothing ! $ move ! (1 ∷ 0 ∷ []) $ done !
+    asks-writing : (y₀ : Bool) (u₀ : Val) → Is Boolean y₀ (u₀ ∷ []) → (y₁ : ℕ) (u₁ : Val) → Is u32 y₁ (u₁ ∷ [])
+        → ent 𝓤 (⋆ 𝓤 H A (‵ (flft κ₀ q₀) ∷ ‵ Own₀ ∷ ‵ (flft κ₁ q₁) ∷ ‵ Own₁ ∷ ‵ (flft κ₂ q₂) ∷ ‵ Own₂ ∷ ‵ (flft κ₃ q₃) ∷ ‵ Own₃
+        ∷ ‵ (flft κ₄ q₄) ∷ ‵ Own₄ ∷ ‵ (flft κ₅ q₅) ∷ ‵ Own₆ ∷ ‵ (flft κ₆ q₆) ∷ ‵ Own₇ ∷ []))
+        (tripleOf 𝓤 H A writing.signature (writing.spec 𝓤 H A at-mem run) .pre (to-writing y₀ u₀ y₁ u₁))
+    asks-writing y₀ u₀ is₀ y₁ u₁ is₁ =
+        qed W (‵ (flft κ₀ q₀) ∷ ‵ Own₀ ∷ ‵ (flft κ₁ q₁) ∷ ‵ Own₁ ∷ ‵ (flft κ₂ q₂) ∷ ‵ Own₂ ∷ ‵ (flft κ₃ q₃) ∷ ‵ Own₃ ∷ ‵ (flft κ₄ q₄)
+        ∷ ‵ Own₄ ∷ ‵ (flft κ₅ q₅) ∷ ‵ Own₆ ∷ ‵ (flft κ₆ q₆) ∷ ‵ Own₇ ∷ []) ∵ nothing ! $ move ! (13 ∷ 0 ∷ []) $ join ! $
+        move ! (11 ∷ 0 ∷ []) $ join ! $ move ! (9 ∷ 0 ∷ []) $ join ! $ move ! (7 ∷ 0 ∷ []) $ join ! $ move ! (5 ∷ 0 ∷ []) $ join ! $
+        move ! (3 ∷ 0 ∷ []) $ join ! $ move ! (1 ∷ 0 ∷ []) $ join ! $ nothing ! $ move ! (8 ∷ 0 ∷ []) $ fjoin ! $ move ! (7 ∷ 0 ∷ []) $
+        fjoin ! $ owned ! u32 (Is u32) (uint-makes 𝓤 H A W w32) y₁ _ is₁ $ fjoin ! $
+        owned ! Boolean (Is Boolean) (bool-makes 𝓤 H A W) y₀ _ is₀ $ fjoin ! $ move ! (6 ∷ 0 ∷ []) $ fjoin ! $ move ! (5 ∷ 0 ∷ []) $
+        fjoin ! $ move ! (4 ∷ 0 ∷ []) $ fjoin ! $ move ! (3 ∷ 0 ∷ []) $ fjoin ! $ move ! (2 ∷ 0 ∷ []) $ fjoin ! $ move ! (1 ∷ 0 ∷ []) $
+        join ! $ nothing ! $ move ! (1 ∷ 0 ∷ []) $ done !
 
     abbrev Had : (z₀ : Link) (z₃ : List Record) (z₆ : List ℕ) (z₇ : List ℕ) → List (Item 𝓤)
-    Had z₀ z₃ z₆ z₇ = ‵ (fres (x₀ .name) (L .coded .code z₀)) ∷ ‵ (flft κ₀ q₀) ∷ ‵ (flft κ₁ q₁) ∷ ‵ (flft κ₂ q₂) ∷ ‵ (finally R (x₃ .name) z₃) ∷ ‵ (flft κ₃ q₃) ∷ ‵ (flft κ₄ q₄) ∷ ‵ (finally u8 (x₆ .name) z₆) ∷ ‵ (flft κ₅ q₅) ∷ ‵ (finally u16 (x₇ .name) z₇) ∷ ‵ (flft κ₆ q₆) ∷ []
+    Had z₀ z₃ z₆ z₇ = ‵ (fres (x₀ .name) (L .coded .code z₀)) ∷ ‵ (flft κ₀ q₀) ∷ ‵ (flft κ₁ q₁) ∷ ‵ (flft κ₂ q₂)
+        ∷ ‵ (finally R (x₃ .name) z₃) ∷ ‵ (flft κ₃ q₃) ∷ ‵ (flft κ₄ q₄) ∷ ‵ (finally u8 (x₆ .name) z₆) ∷ ‵ (flft κ₅ q₅)
+        ∷ ‵ (finally u16 (x₇ .name) z₇) ∷ ‵ (flft κ₆ q₆) ∷ []
 
     -- what the contract says
     abbrev Said : (r : ℤ) (z₀ : Link) (z₃ : List Record) (z₆ : List ℕ) (z₇ : List ℕ) → Type 0
-    Said r z₀ z₃ z₆ z₇ = Gives countCode (λ a. FlushPromise x₅ (x₀ .now) (partsOf (x₁ .now) (x₂ .now) (x₃ .now) (x₄ .now)) (x₆ .now) (x₇ .now) a z₀ (partsOf (x₁ .now) (x₂ .now) z₃ (x₄ .now)) z₆ z₇) r
+    Said r z₀ z₃ z₆ z₇ = Gives countCode (λ a. FlushPromise x₅ (x₀ .now) (partsOf (x₁ .now) (x₂ .now) (x₃ .now) (x₄ .now))
+        (flushPartsOf (x₆ .now) (x₇ .now)) a z₀ (partsOf (x₁ .now) (x₂ .now) z₃ (x₄ .now)) (flushPartsOf z₆ z₇)) r
 
-    exits : (r : ℤ) (w : Val) (z₀ : Link) (z₃ : List Record) (z₆ : List ℕ) (z₇ : List ℕ) → Said r z₀ z₃ z₆ z₇ → length z₃ ≡ length (x₃ .now) → length z₆ ≡ length (x₆ .now) → length z₇ ≡ length (x₇ .now) → Is i32 r (w ∷ []) → ent 𝓤 (⋆ 𝓤 H A (Had z₀ z₃ z₆ z₇)) (Post w)
+    exits : (r : ℤ) (w : Val) (z₀ : Link) (z₃ : List Record) (z₆ : List ℕ) (z₇ : List ℕ) → Said r z₀ z₃ z₆ z₇ → length z₃ ≡ length (x₃ .now)
+        → length z₆ ≡ length (x₆ .now) → length z₇ ≡ length (x₇ .now) → Is i32 r (w ∷ []) → ent 𝓤 (⋆ 𝓤 H A (Had z₀ z₃ z₆ z₇)) (Post w)
     unfolding Post
     exits r w z₀ z₃ z₆ z₇ e len₃ len₆ len₇ g =
-        qed W (Had z₀ z₃ z₆ z₇) ∵ suffices ! _ (ends-at 𝓤 H A f.ended stayed (f.clauses 𝓤 H A at-mem run) W (((κ₀, (κ₁, (κ₂, (κ₃, (κ₄, (κ₅, (κ₆, tt))))))), (q₀, (q₁, (q₂, (q₃, (q₄, (q₅, (q₆, tt))))))), tt, x, at), tt) w r (z₀, (tt, (tt, (z₃, (tt, (tt, (z₆, (z₇, tt)))))))) (tt, (tt, (tt, (len₃, (tt, (tt, (len₆, (len₇, tt))))))))) $ says ! e $
-        nothing ! $ move ! (11 ∷ 0 ∷ []) $ join ! $ move ! (9 ∷ 0 ∷ []) $ join ! $ move ! (7 ∷ 0 ∷ []) $ join ! $ move ! (6 ∷ 0 ∷ []) $ join ! $ move ! (4 ∷ 0 ∷ []) $ join ! $ move ! (3 ∷ 0 ∷ []) $ join ! $ move ! (2 ∷ 0 ∷ []) $ join ! $ frame ! $ nothing ! $ move ! (4 ∷ 0 ∷ []) $ fjoin ! $ move ! (3 ∷ 0 ∷ []) $ fjoin ! $ nothing ! $ fjoin ! $ nothing ! $ fjoin ! $ move ! (2 ∷ 0 ∷ []) $ fjoin ! $ nothing ! $ fjoin ! $ nothing ! $ fjoin ! $ move ! (1 ∷ 0 ∷ []) $ fjoin ! $ frame ! $ owned ! i32 (Is i32) (sint-makes 𝓤 H A W w32) r _ g $ done !
+        qed W (Had z₀ z₃ z₆ z₇) ∵ suffices ! _ (ends-at 𝓤 H A f.ended stayed (f.clauses 𝓤 H A at-mem run) W
+        (((κ₀, (κ₁, (κ₂, (κ₃, (κ₄, (κ₅, (κ₆, tt))))))), (q₀, (q₁, (q₂, (q₃, (q₄, (q₅, (q₆, tt))))))), tt, x, at), tt) w r
+        (z₀, (tt, (tt, (z₃, (tt, (tt, (z₆, (z₇, tt)))))))) (tt, (tt, (tt, (len₃, (tt, (tt, (len₆, (len₇, tt))))))))) $ says ! e $
+        nothing ! $ move ! (11 ∷ 0 ∷ []) $ join ! $ move ! (9 ∷ 0 ∷ []) $ join ! $ move ! (7 ∷ 0 ∷ []) $ join ! $ move ! (6 ∷ 0 ∷ []) $
+        join ! $ move ! (4 ∷ 0 ∷ []) $ join ! $ move ! (3 ∷ 0 ∷ []) $ join ! $ move ! (2 ∷ 0 ∷ []) $ join ! $ frame ! $ nothing ! $
+        move ! (4 ∷ 0 ∷ []) $ fjoin ! $ move ! (3 ∷ 0 ∷ []) $ fjoin ! $ nothing ! $ fjoin ! $ nothing ! $ fjoin ! $
+        move ! (2 ∷ 0 ∷ []) $ fjoin ! $ nothing ! $ fjoin ! $ nothing ! $ fjoin ! $ move ! (1 ∷ 0 ∷ []) $ fjoin ! $ frame ! $
+        owned ! i32 (Is i32) (sint-makes 𝓤 H A W w32) r _ g $ done !
 
     module _ (C : Calls 𝓤 H) (Λ : Loops 𝓤 H) (fm : FmC 𝓤 H (W .laws) C) (known : Known C) where
-      walk : ent 𝓤 (onEntry 𝓤 H A f.signature (κ₀, (κ₁, (κ₂, (κ₃, (κ₄, (κ₅, (κ₆, tt))))))) (q₀, (q₁, (q₂, (q₃, (q₄, (q₅, (q₆, tt))))))) x at) (WpFn 𝓤 H C Λ code.function (s₀ ∷ s₁ ∷ s₂ ∷ s₃ ∷ s₄ ∷ v₅ ∷ s₆ ∷ s₇ ∷ []) Post)
+      walk : ent 𝓤 (onEntry 𝓤 H A f.signature (κ₀, (κ₁, (κ₂, (κ₃, (κ₄, (κ₅, (κ₆, tt))))))) (q₀, (q₁, (q₂, (q₃, (q₄, (q₅, (q₆, tt))))))) x
+          at) (WpFn 𝓤 H C Λ code.function (s₀ ∷ s₁ ∷ s₂ ∷ s₃ ∷ s₄ ∷ v₅ ∷ s₆ ∷ s₇ ∷ []) Post)
       walk =
-          qed W ((‵ (flft κ₀ q₀) ⊛ ‵ (flft κ₁ q₁) ⊛ ‵ (flft κ₂ q₂) ⊛ ‵ (flft κ₃ q₃) ⊛ ‵ (flft κ₄ q₄) ⊛ ‵ (flft κ₅ q₅) ⊛ ‵ (flft κ₆ q₆) ⊛ ‵ ftrue) ∷ ‵ (owns (MutRef (named 0) κ₀ L ∷ ShrSlice (named 1) κ₁ u8 ∷ ShrSlice (named 2) κ₂ u8 ∷ MutSlice (named 3) κ₃ R ∷ ShrSlice (named 4) κ₄ u32 ∷ u32 ∷ MutSlice (named 5) κ₅ u8 ∷ MutSlice (named 6) κ₆ u16 ∷ []) x at) ∷ []) ∵ enter ! C Λ code.function (s₀ ∷ s₁ ∷ s₂ ∷ s₃ ∷ s₄ ∷ v₅ ∷ s₆ ∷ s₇ ∷ []) _ $
-          alloc1 ! (λ l₀. alloc1 ! (λ l₁. alloc1 ! (λ l₂. alloc1 ! (λ l₃. alloc1 ! (λ l₄. alloc1 ! (λ l₅. alloc1 ! (λ l₆. alloc1 ! (λ l₇. alloc1 ! (λ l₈. alloc1 ! (λ l₉. alloc1 ! (λ l₁₀. alloc1 ! (λ l₁₁. alloc1 ! (λ l₁₂. alloc1 ! (λ l₁₃. alloc1 ! (λ l₁₄. alloc1 ! (λ l₁₅. alloc1 ! (λ l₁₆. alloc1 ! (λ l₁₇. alloc1 ! (λ l₁₈. alloc1 ! (λ l₁₉. alloc1 ! (λ l₂₀. alloc1 ! (λ l₂₁. alloc1 ! (λ l₂₂. alloc0 ! $ params1 ! $
-          pass1 ! (init ! 42 refl (tt, tt)) $ pass1 ! (init ! 40 refl (tt, (tt, (record { fits = room₁ .0 }, tt)))) $ pass1 ! (init ! 38 refl (tt, (tt, (record { fits = room₂ .0 }, tt)))) $ pass1 ! (init ! 36 refl (tt, (tt, (record { fits = room₃ .0 }, tt)))) $ pass1 ! (init ! 34 refl (tt, (tt, (record { fits = room₄ .0 }, tt)))) $ pass1 ! (init ! 32 refl (uint-lawful 𝓤 H A W w32 .typed x₅ _ g₅ .0)) $ pass1 ! (init ! 30 refl (tt, (tt, (record { fits = room₆ .0 }, tt)))) $ pass1 ! (init ! 28 refl (tt, (tt, (record { fits = room₇ .0 }, tt)))) $ pass0 ! $
-          move ! (47 ∷ []) $ spread W (‵ (MutRef (named 0) κ₀ L .own (x₀) (s₀ ∷ []))) (‵ (ShrSlice (named 1) κ₁ u8 .own (x₁) (s₁ ∷ [])) ∷ ‵ (ShrSlice (named 2) κ₂ u8 .own (x₂) (s₂ ∷ [])) ∷ ‵ (MutSlice (named 3) κ₃ R .own (x₃) (s₃ ∷ [])) ∷ ‵ (ShrSlice (named 4) κ₄ u32 .own (x₄) (s₄ ∷ [])) ∷ ‵ (u32 .own (x₅) (v₅ ∷ [])) ∷ ‵ (MutSlice (named 5) κ₅ u8 .own (x₆) (s₆ ∷ [])) ∷ ‵ (MutSlice (named 6) κ₆ u16 .own (x₇) (s₇ ∷ [])) ∷ ‵ ftrue ∷ []) (id⊢ 𝓤 _) $ move ! (55 ∷ []) $ spread W (‵ (flft κ₀ q₀)) (‵ (flft κ₁ q₁) ∷ ‵ (flft κ₂ q₂) ∷ ‵ (flft κ₃ q₃) ∷ ‵ (flft κ₄ q₄) ∷ ‵ (flft κ₅ q₅) ∷ ‵ (flft κ₆ q₆) ∷ ‵ ftrue ∷ []) (id⊢ 𝓤 _) $ keep ! (0 ∷ 1 ∷ 2 ∷ 3 ∷ 4 ∷ 5 ∷ 6 ∷ 8 ∷ 9 ∷ 10 ∷ 11 ∷ 12 ∷ 14 ∷ 15 ∷ 17 ∷ 18 ∷ 19 ∷ 20 ∷ 21 ∷ 22 ∷ 23 ∷ 24 ∷ 25 ∷ 26 ∷ 27 ∷ 28 ∷ 29 ∷ 30 ∷ 31 ∷ 32 ∷ 33 ∷ 34 ∷ 35 ∷ 36 ∷ 37 ∷ 38 ∷ 39 ∷ 40 ∷ 41 ∷ 42 ∷ 43 ∷ 44 ∷ 45 ∷ 46 ∷ 47 ∷ 48 ∷ 49 ∷ 50 ∷ 51 ∷ 52 ∷ 53 ∷ 54 ∷ 55 ∷ 56 ∷ 57 ∷ 58 ∷ 59 ∷ 60 ∷ 61 ∷ 62 ∷ []) $ move ! (59 ∷ 57 ∷ 55 ∷ 53 ∷ 51 ∷ 49 ∷ 47 ∷ 45 ∷ 43 ∷ 41 ∷ 39 ∷ 37 ∷ 35 ∷ 33 ∷ 31 ∷ 29 ∷ 27 ∷ 25 ∷ 23 ∷ 21 ∷ 19 ∷ 17 ∷ 15 ∷ []) $ group ! 23 $
+          qed W ((‵ (flft κ₀ q₀) ⊛ ‵ (flft κ₁ q₁) ⊛ ‵ (flft κ₂ q₂) ⊛ ‵ (flft κ₃ q₃) ⊛ ‵ (flft κ₄ q₄) ⊛ ‵ (flft κ₅ q₅) ⊛ ‵ (flft κ₆ q₆) ⊛ ‵
+          ftrue) ∷ ‵ (owns (MutRef (named 0) κ₀ L ∷ ShrSlice (named 1) κ₁ u8 ∷ ShrSlice (named 2) κ₂ u8 ∷ MutSlice (named 3) κ₃ R
+          ∷ ShrSlice (named 4) κ₄ u32 ∷ u32 ∷ MutSlice (named 5) κ₅ u8 ∷ MutSlice (named 6) κ₆ u16 ∷ []) x at) ∷ []) ∵
+          enter ! C Λ code.function (s₀ ∷ s₁ ∷ s₂ ∷ s₃ ∷ s₄ ∷ v₅ ∷ s₆ ∷ s₇ ∷ []) _ $
+          alloc1 ! (λ l₀. alloc1 ! (λ l₁. alloc1 ! (λ l₂.
+          alloc1 ! (λ l₃. alloc1 ! (λ l₄. alloc1 ! (λ l₅.
+          alloc1 ! (λ l₆. alloc1 ! (λ l₇. alloc1 ! (λ l₈.
+          alloc1 ! (λ l₉. alloc1 ! (λ l₁₀. alloc1 ! (λ l₁₁.
+          alloc1 ! (λ l₁₂. alloc1 ! (λ l₁₃. alloc1 ! (λ l₁₄. alloc1 ! (λ l₁₅. alloc1 ! (λ l₁₆. alloc0 ! $ params1 ! $
+          pass1 ! (init ! 30 refl (tt, tt)) $ pass1 ! (init ! 28 refl (tt, (tt, (record { fits = room₁ .0 }, tt)))) $
+          pass1 ! (init ! 26 refl (tt, (tt, (record { fits = room₂ .0 }, tt)))) $
+          pass1 ! (init ! 24 refl (tt, (tt, (record { fits = room₃ .0 }, tt)))) $
+          pass1 ! (init ! 22 refl (tt, (tt, (record { fits = room₄ .0 }, tt)))) $
+          pass1 ! (init ! 20 refl (uint-lawful 𝓤 H A W w32 .typed x₅ _ g₅ .0)) $
+          pass1 ! (init ! 18 refl (tt, (tt, (record { fits = room₆ .0 }, tt)))) $
+          pass1 ! (init ! 16 refl (tt, (tt, (record { fits = room₇ .0 }, tt)))) $ pass0 ! $
+          move ! (35 ∷ []) $ spread W (‵ (MutRef (named 0) κ₀ L .own (x₀) (s₀ ∷ [])))
+          (‵ (ShrSlice (named 1) κ₁ u8 .own (x₁) (s₁ ∷ [])) ∷ ‵ (ShrSlice (named 2) κ₂ u8 .own (x₂) (s₂ ∷ []))
+          ∷ ‵ (MutSlice (named 3) κ₃ R .own (x₃) (s₃ ∷ [])) ∷ ‵ (ShrSlice (named 4) κ₄ u32 .own (x₄) (s₄ ∷ []))
+          ∷ ‵ (u32 .own (x₅) (v₅ ∷ [])) ∷ ‵ (MutSlice (named 5) κ₅ u8 .own (x₆) (s₆ ∷ []))
+          ∷ ‵ (MutSlice (named 6) κ₆ u16 .own (x₇) (s₇ ∷ [])) ∷ ‵ ftrue ∷ []) (id⊢ 𝓤 _) $ move ! (43 ∷ []) $
+          spread W (‵ (flft κ₀ q₀)) (‵ (flft κ₁ q₁) ∷ ‵ (flft κ₂ q₂) ∷ ‵ (flft κ₃ q₃) ∷ ‵ (flft κ₄ q₄) ∷ ‵ (flft κ₅ q₅) ∷ ‵ (flft κ₆ q₆)
+          ∷ ‵ ftrue ∷ []) (id⊢ 𝓤 _) $ keep ! (0 ∷ 1 ∷ 2 ∷ 3 ∷ 4 ∷ 5 ∷ 6 ∷ 8 ∷ 9 ∷ 10 ∷ 11 ∷ 12 ∷ 14 ∷ 15 ∷ 17 ∷ 18 ∷ 19 ∷ 20 ∷ 21 ∷ 22
+          ∷ 23 ∷ 24 ∷ 25 ∷ 26 ∷ 27 ∷ 28 ∷ 29 ∷ 30 ∷ 31 ∷ 32 ∷ 33 ∷ 34 ∷ 35 ∷ 36 ∷ 37 ∷ 38 ∷ 39 ∷ 40 ∷ 41 ∷ 42 ∷ 43 ∷ 44 ∷ 45 ∷ 46 ∷ 47
+          ∷ 48 ∷ 49 ∷ 50 ∷ []) $ move ! (47 ∷ 45 ∷ 43 ∷ 41 ∷ 39 ∷ 37 ∷ 35 ∷ 33 ∷ 31 ∷ 29 ∷ 27 ∷ 25 ∷ 23 ∷ 21 ∷ 19 ∷ 17 ∷ 15 ∷ []) $
+          group ! 17 $
           -- [deaths; tok0; tok1; tok2; tok3; tok4; tok6; tok7; own0; own1; own2; own3; own4; own6; own7; the locals]
-          assigns ! {v = s₀} (addr ! (from ! (hop ! (look ! 36 refl) (stop !)))) (from ! (stop !)) (init ! 24 refl (tt, tt)) $
-          assigns ! {v = (vptr (x₃ .ptr .0) (x₃ .ptr .1))} (addr ! (from ! (fld ! refl (hop ! (look-in ! 33 (sub ! 0 refl (whole !))) (stop !))))) (from ! (stop !)) (init ! 23 refl (tt, tt)) $
-          assigns ! {v = s₃} (agg ! (and-then ! (load ! (from ! (stop !)) (look ! 23 refl)) (and-then ! (load ! (from ! (fld ! refl (stop !))) (look-in ! 33 (sub ! 1 refl (whole !)))) (no-more !)))) (from ! (stop !)) (init ! 22 refl (tt, (tt, (record { fits = room₃ .0 }, tt)))) $
-          assigns ! {v = (vptr (x₆ .ptr .0) (x₆ .ptr .1))} (addr ! (from ! (fld ! refl (hop ! (look-in ! 30 (sub ! 0 refl (whole !))) (stop !))))) (from ! (stop !)) (init ! 21 refl (tt, tt)) $
-          assigns ! {v = s₆} (agg ! (and-then ! (load ! (from ! (stop !)) (look ! 21 refl)) (and-then ! (load ! (from ! (fld ! refl (stop !))) (look-in ! 30 (sub ! 1 refl (whole !)))) (no-more !)))) (from ! (stop !)) (init ! 20 refl (tt, (tt, (record { fits = room₆ .0 }, tt)))) $
-          assigns ! {v = (vptr (x₇ .ptr .0) (x₇ .ptr .1))} (addr ! (from ! (fld ! refl (hop ! (look-in ! 29 (sub ! 0 refl (whole !))) (stop !))))) (from ! (stop !)) (init ! 19 refl (tt, tt)) $
-          assigns ! {v = s₇} (agg ! (and-then ! (load ! (from ! (stop !)) (look ! 19 refl)) (and-then ! (load ! (from ! (fld ! refl (stop !))) (look-in ! 29 (sub ! 1 refl (whole !)))) (no-more !)))) (from ! (stop !)) (init ! 18 refl (tt, (tt, (record { fits = room₇ .0 }, tt)))) $
-          lft-new ! tt (λ β₃. move ! (12 ∷ 5 ∷ []) $ use2 W (later (some (λ (δ : GName). ‵ (Shared₃ β₃ δ) ⊛ ‵ (LentShared R κ₃ (β₃ ∷ []) q₃ (x₃ .name) (x₃ .ptr .0) (x₃ .ptr .1) (x₃ .now))))) (lends-shared R κ₃ (β₃ ∷ []) q₃ (x₃ .name) (x₃ .ptr .0) (x₃ .ptr .1) (x₃ .now) 𝓤 H A W) $ await ! tt $ pick ! (λ β-name₃. split ! $
-          -- [shown3; blent3; btok3; deaths; tok0; tok1; tok2; tok4; tok6; tok7; own0; own1; own2; own4; own6; own7; the locals]
-          move ! (4 ∷ 10 ∷ 5 ∷ 11 ∷ 6 ∷ 12 ∷ 2 ∷ 0 ∷ 7 ∷ 13 ∷ 8 ∷ 14 ∷ 9 ∷ 15 ∷ []) $ group ! 14 $ calls-fn ! fm writing.ended (writing.clauses 𝓤 H A at-mem run) (known .0) (to-writing β₃ β-name₃ x₅ v₅) (λ t ws-t. FlushLeft x₅ (x₀ .now) (partsOf (x₁ .now) (x₂ .now) (x₃ .now) (x₄ .now)) (x₆ .now) (x₇ .now) (t .answer) (putBack t) (ws-t .0) (ws-t .1 .1 .1 .1 .1 .1 .0) (ws-t .1 .1 .1 .1 .1 .1 .1 .0)) (‵ (flft κ₀ q₀) ⊛ ‵ Own₀ ⊛ ‵ (flft κ₁ q₁) ⊛ ‵ Own₁ ⊛ ‵ (flft κ₂ q₂) ⊛ ‵ Own₂ ⊛ ‵ (flft (β₃ ∷ []) fullShare) ⊛ ‵ (Shared₃ β₃ β-name₃) ⊛ ‵ (flft κ₄ q₄) ⊛ ‵ Own₄ ⊛ ‵ (flft κ₅ q₅) ⊛ ‵ Own₆ ⊛ ‵ (flft κ₆ q₆) ⊛ ‵ Own₇)
-          (asks-writing β₃ β-name₃ x₅ v₅ g₅) (λ t ws-t. id⊢ 𝓤 _)
-          (and-then ! (load ! (from ! (stop !)) (look ! 12 refl)) (and-then ! (load ! (from ! (stop !)) (look ! 23 refl)) (and-then ! (load ! (from ! (stop !)) (look ! 22 refl)) (and-then ! (load ! (from ! (stop !)) (look ! 10 refl)) (and-then ! (load ! (from ! (stop !)) (look ! 20 refl)) (and-then ! (load ! (from ! (stop !)) (look ! 19 refl)) (and-then ! (load ! (from ! (stop !)) (look ! 8 refl)) (and-then ! (load ! (from ! (stop !)) (look ! 6 refl)) (no-more !))))))))) (λ t w-t ws-t e-t is-t. land ! (from ! (stop !)) (init ! 17 refl (LL.lawful flushed-row.the-type flushed-laws.the-laws 𝓤 H A W .typed t (w-t ∷ []) is-t .0)) $
-          spread W (‵ (flft κ₀ q₀)) (‵ (flft κ₁ q₁) ∷ ‵ (flft κ₂ q₂) ∷ ‵ (flft (β₃ ∷ []) fullShare) ∷ ‵ (flft κ₄ q₄) ∷ ‵ (flft κ₅ q₅) ∷ ‵ (flft κ₆ q₆) ∷ ‵ ftrue ∷ []) (id⊢ 𝓤 _) $ move ! (8 ∷ []) $ spread W (‵ (fres (x₀ .name) (L .coded .code (ws-t .0)))) (‵ ftrue ∷ ‵ ftrue ∷ ‵ ftrue ∷ ‵ ftrue ∷ ‵ ftrue ∷ ‵ (fsep (finally u8 (x₆ .name) (ws-t .1 .1 .1 .1 .1 .1 .0)) (feq ℕ (length (ws-t .1 .1 .1 .1 .1 .1 .0)) (length (x₆ .now)))) ∷ ‵ (fsep (finally u16 (x₇ .name) (ws-t .1 .1 .1 .1 .1 .1 .1 .0)) (feq ℕ (length (ws-t .1 .1 .1 .1 .1 .1 .1 .0)) (length (x₇ .now)))) ∷ ‵ ftrue ∷ []) (id⊢ 𝓤 _) $ keep ! (0 ∷ 6 ∷ 7 ∷ 9 ∷ 10 ∷ 11 ∷ 12 ∷ 13 ∷ 14 ∷ 15 ∷ 17 ∷ 18 ∷ 19 ∷ 20 ∷ 21 ∷ 22 ∷ 23 ∷ 24 ∷ 25 ∷ 26 ∷ 27 ∷ 28 ∷ 29 ∷ 30 ∷ 31 ∷ 32 ∷ 33 ∷ 34 ∷ 35 ∷ 36 ∷ 37 ∷ 38 ∷ 39 ∷ 40 ∷ 41 ∷ []) $ move ! (1 ∷ []) $ fsplit ! $ move ! (1 ∷ []) $ feqL ! (λ len₆. move ! (2 ∷ []) $ fsplit ! $ move ! (1 ∷ []) $ feqL ! (λ len₇.
-          -- [fin7; fin6; fin0; tok0; tok1; tok2; btok3; tok4; tok6; tok7; blent3; deaths; the locals]
-          nothing ! $ calls-fn ! fm words-of.ended (words-of.clauses 𝓤 H A at-mem run) (known .1) ((tt, tt, tt, (t, tt), (w-t ∷ [], tt)), tt) (λ words _. words ≡ t .words)
-          (‵ ftrue) (plainly 𝓤 H A W (flushed-row.the-row ∷ []) ((LL.makes flushed-row.the-type flushed-laws.the-plain 𝓤 H A), tt) (t, tt) (w-t ∷ [], tt) (is-t, tt)) (λ words _. id⊢ 𝓤 _)
-          (and-then ! (load ! (from ! (stop !)) (look ! 26 refl)) (no-more !)) (λ words w-words _ e-words is-words. drop ! $ drop ! $ land ! (from ! (stop !)) (init ! 24 refl (array-typed u32 (uint-lawful 𝓤 H A W w32 .typed) 32 words (w-words ∷ []) is-words .0)) $
-          nothing ! $ calls-fn ! fm count-of.ended (count-of.clauses 𝓤 H A at-mem run) (known .2) ((tt, tt, tt, (t, tt), (w-t ∷ [], tt)), tt) (λ n _. n ≡ t .changed)
-          (‵ ftrue) (plainly 𝓤 H A W (flushed-row.the-row ∷ []) ((LL.makes flushed-row.the-type flushed-laws.the-plain 𝓤 H A), tt) (t, tt) (w-t ∷ [], tt) (is-t, tt)) (λ n _. id⊢ 𝓤 _)
-          (and-then ! (load ! (from ! (stop !)) (look ! 26 refl)) (no-more !)) (λ n w-n _ e-n is-n. drop ! $ drop ! $ land ! (from ! (stop !)) (init ! 23 refl (uint-lawful 𝓤 H A W w64 .typed n _ is-n .0)) $
-          nothing ! $ calls-fn ! fm records-of.ended (records-of.clauses 𝓤 H A at-mem run) (known .3) ((tt, tt, tt, (t, tt), (w-t ∷ [], tt)), tt) (λ after _. after ≡ t .records)
-          (‵ ftrue) (plainly 𝓤 H A W (flushed-row.the-row ∷ []) ((LL.makes flushed-row.the-type flushed-laws.the-plain 𝓤 H A), tt) (t, tt) (w-t ∷ [], tt) (is-t, tt)) (λ after _. id⊢ 𝓤 _)
-          (and-then ! (load ! (from ! (stop !)) (look ! 26 refl)) (no-more !)) (λ after w-after _ e-after is-after. drop ! $ drop ! $ land ! (from ! (stop !)) (init ! 22 refl (rs-typed 𝓤 H A W after is-after)) $
-          assigns ! {v = (vptr (x₃ .ptr .0) (x₃ .ptr .1))} (addr ! (from ! (fld ! refl (hop ! (look-in ! 30 (sub ! 0 refl (whole !))) (stop !))))) (from ! (stop !)) (init ! 13 refl (tt, tt)) $
-          assigns ! {v = s₃} (agg ! (and-then ! (load ! (from ! (stop !)) (look ! 13 refl)) (and-then ! (load ! (from ! (fld ! refl (stop !))) (look-in ! 30 (sub ! 1 refl (whole !)))) (no-more !)))) (from ! (stop !)) (init ! 12 refl (tt, (tt, (record { fits = room₃ .0 }, tt)))) $
-          move ! (6 ∷ 10 ∷ []) $ lft-end ! tt $ use2 W (later (‵ Own₃ ⊛ ‵ (flft κ₃ q₃))) (shared-back R κ₃ (β₃ ∷ []) q₃ (x₃ .name) (x₃ .ptr .0) (x₃ .ptr .1) (x₃ .now) 𝓤 H A W room₃) $ await ! tt $ split ! $
-          -- [own3; tok3; fin7; fin6; fin0; tok0; tok1; tok2; tok4; tok6; tok7; deaths; the locals]
-          move ! (1 ∷ 0 ∷ []) $ join ! $ calls-fn ! fm scatter.ended (scatter.clauses 𝓤 H A at-mem run) (known .4) (to-scatter words w-words n w-n after w-after) (λ u ws-u. (ws-u .0) ≡ scattered (x₃ .now) (slotsIn words n) after) (‵ (flft κ₃ q₃) ⊛ ‵ Own₃)
-          (asks-scatter words w-words is-words n w-n is-n after w-after is-after) (λ u ws-u. id⊢ 𝓤 _)
-          (and-then ! (load ! (from ! (stop !)) (look ! 11 refl)) (and-then ! (load ! (from ! (stop !)) (look ! 23 refl)) (and-then ! (load ! (from ! (stop !)) (look ! 22 refl)) (and-then ! (load ! (from ! (stop !)) (look ! 21 refl)) (no-more !))))) (λ u w-u ws-u e-u is-u. land ! (from ! (stop !)) (init ! 14 refl (nothing-lawful 𝓤 H A W .typed u _ is-u .0)) $
-          spread W (‵ (flft κ₃ q₃)) (‵ ftrue ∷ []) (id⊢ 𝓤 _) $ move ! (2 ∷ []) $ spread W (‵ (fsep (finally R (x₃ .name) (ws-u .0)) (feq ℕ (length (ws-u .0)) (length (x₃ .now))))) (‵ ftrue ∷ ‵ ftrue ∷ ‵ ftrue ∷ ‵ ftrue ∷ []) (id⊢ 𝓤 _) $ keep ! (0 ∷ 5 ∷ 7 ∷ 8 ∷ 9 ∷ 10 ∷ 11 ∷ 12 ∷ 13 ∷ 14 ∷ 15 ∷ 16 ∷ 17 ∷ 18 ∷ 19 ∷ 20 ∷ 21 ∷ 22 ∷ 23 ∷ 24 ∷ 25 ∷ 26 ∷ 27 ∷ 28 ∷ 29 ∷ 30 ∷ 31 ∷ 32 ∷ 33 ∷ 34 ∷ 35 ∷ 36 ∷ 37 ∷ 38 ∷ 39 ∷ []) $ fsplit ! $ move ! (1 ∷ []) $ feqL ! (λ len₃.
-          -- [fin3; tok3; fin7; fin6; fin0; tok0; tok1; tok2; tok4; tok6; tok7; deaths; the locals]
-          nothing ! $ calls-fn ! fm code-of.ended (code-of.clauses 𝓤 H A at-mem run) (known .5) ((tt, tt, tt, (t, tt), (w-t ∷ [], tt)), tt) (λ r _. r ≡ countCode (t .answer))
-          (‵ ftrue) (plainly 𝓤 H A W (flushed-row.the-row ∷ []) ((LL.makes flushed-row.the-type flushed-laws.the-plain 𝓤 H A), tt) (t, tt) (w-t ∷ [], tt) (is-t, tt)) (λ r _. id⊢ 𝓤 _)
-          (and-then ! (load ! (from ! (stop !)) (look ! 26 refl)) (no-more !)) (λ r w-r _ e-r is-r. drop ! $ drop ! $ land ! (from ! (stop !)) (init ! 34 refl (sint-lawful 𝓤 H A W w32 .typed r _ is-r .0)) $
-          returns ! (look ! 34 refl) $
-          move ! (11 ∷ []) $ spread W (‵ (fdies (tyInt w32) l₀)) (‵ (fdies (tyRef (named 0) mut (pointee (L .written))) l₁) ∷ ‵ (fdies (sliceTy (tyRef (named 1) imm (tyInt w8))) l₂) ∷ ‵ (fdies (sliceTy (tyRef (named 2) imm (tyInt w8))) l₃) ∷ ‵ (fdies (sliceTy (tyRef (named 3) mut (pointee (R .written)))) l₄) ∷ ‵ (fdies (sliceTy (tyRef (named 4) imm (tyInt w32))) l₅) ∷ ‵ (fdies (tyInt w32) l₆) ∷ ‵ (fdies (sliceTy (tyRef (named 5) mut (tyInt w8))) l₇) ∷ ‵ (fdies (sliceTy (tyRef (named 6) mut (tyInt w16))) l₈) ∷ ‵ (fdies flushed-laws.mir l₉) ∷ ‵ (fdies (tyArray (tyInt w32) 32) l₁₀) ∷ ‵ (fdies (tyInt w64) l₁₁) ∷ ‵ (fdies (tyArray record-laws.mir 32) l₁₂) ∷ ‵ (fdies (tyRef erased mut (pointee (L .written))) l₁₃) ∷ ‵ (fdies (tyRef erased imm (pointee (R .written))) l₁₄) ∷ ‵ (fdies (sliceTy (tyRef erased imm (pointee (R .written)))) l₁₅) ∷ ‵ (fdies (tyRef erased mut (tyInt w8)) l₁₆) ∷ ‵ (fdies (sliceTy (tyRef erased mut (tyInt w8))) l₁₇) ∷ ‵ (fdies (tyRef erased mut (tyInt w16)) l₁₈) ∷ ‵ (fdies (sliceTy (tyRef erased mut (tyInt w16))) l₁₉) ∷ ‵ (fdies tyUnit l₂₀) ∷ ‵ (fdies (tyRef erased mut (pointee (R .written))) l₂₁) ∷ ‵ (fdies (sliceTy (tyRef erased mut (pointee (R .written)))) l₂₂) ∷ []) (id⊢ 𝓤 _) $ move ! (56 ∷ 0 ∷ 55 ∷ 1 ∷ 54 ∷ 2 ∷ 53 ∷ 3 ∷ 52 ∷ 4 ∷ 51 ∷ 5 ∷ 50 ∷ 6 ∷ 49 ∷ 7 ∷ 48 ∷ 8 ∷ 47 ∷ 9 ∷ 46 ∷ 10 ∷ 45 ∷ 11 ∷ 44 ∷ 12 ∷ 43 ∷ 13 ∷ 42 ∷ 14 ∷ 41 ∷ 15 ∷ 40 ∷ 16 ∷ 39 ∷ 17 ∷ 38 ∷ 18 ∷ 37 ∷ 19 ∷ 36 ∷ 20 ∷ 35 ∷ 21 ∷ 34 ∷ 22 ∷ []) $ forget ! 0 refl $ free1 ! $ forget ! 0 refl $ free1 ! $ forget ! 0 refl $ free1 ! $ forget ! 0 refl $ free1 ! $ forget ! 0 refl $ free1 ! $ forget ! 0 refl $ free1 ! $ forget ! 0 refl $ free1 ! $ forget ! 0 refl $ free1 ! $ forget ! 0 refl $ free1 ! $ forget ! 0 refl $ free1 ! $ forget ! 0 refl $ free1 ! $ forget ! 0 refl $ free1 ! $ forget ! 0 refl $ free1 ! $ forget ! 0 refl $ free1 ! $ forget ! 0 refl $ free1 ! $ forget ! 0 refl $ free1 ! $ forget ! 0 refl $ free1 ! $ forget ! 0 refl $ free1 ! $ forget ! 0 refl $ free1 ! $ forget ! 0 refl $ free1 ! $ forget ! 0 refl $ free1 ! $ forget ! 0 refl $ free1 ! $ forget ! 0 refl $ free1 ! $ free0 ! $
-          move ! (4 ∷ 5 ∷ 6 ∷ 7 ∷ 0 ∷ 1 ∷ 8 ∷ 3 ∷ 9 ∷ 2 ∷ 10 ∷ []) $ by ! (exits r w-r (ws-t .0) (ws-u .0) (ws-t .1 .1 .1 .1 .1 .1 .0) (ws-t .1 .1 .1 .1 .1 .1 .1 .0) (told countCode _ (t .answer) e-r (flush-promised x₅ (x₀ .now) (partsOf (x₁ .now) (x₂ .now) (x₃ .now) (x₄ .now)) (x₆ .now) (x₇ .now) (t .answer) (putBack t) (ws-t .0) (ws-t .1 .1 .1 .1 .1 .1 .0) (ws-t .1 .1 .1 .1 .1 .1 .1 .0) (ws-u .0) (ap length (sym e-after) ∙ is-after .1 .0 .1) (put-back (x₃ .now) (ws-u .0) (putBack t) words n after e-words e-n e-after e-u) e-t)) len₃ len₆ len₇ is-r)))))))))))))))))))))))))))))))))))
+          nothing ! $ calls-fn ! fm paced-of.ended (paced-of.clauses 𝓤 H A at-mem run) (known .0) ((tt, tt, tt, tt, tt), tt)
+          (λ b _. b ≡ false)
+          (‵ ftrue) (plainly 𝓤 H A W ([]) tt tt tt tt) (λ b _. id⊢ 𝓤 _)
+          (no-more !) (λ b w-b _ e-b is-b. drop ! $ drop ! $
+          land ! (from ! (stop !)) (init ! 22 refl (bool-lawful 𝓤 H A W .typed b _ is-b .0)) $
+          assigns ! {v = s₀} (addr ! (from ! (hop ! (look ! 30 refl) (stop !)))) (from ! (stop !)) (init ! 21 refl (tt, tt)) $
+          assigns ! {v = (vptr (x₃ .ptr .0) (x₃ .ptr .1))}
+          (addr ! (from ! (fld ! refl (hop ! (look-in ! 27 (sub ! 0 refl (whole !))) (stop !))))) (from ! (stop !))
+          (init ! 20 refl (tt, tt)) $
+          assigns ! {v = s₃} (agg ! (and-then ! (load ! (from ! (stop !)) (look ! 20 refl))
+          (and-then ! (load ! (from ! (fld ! refl (stop !))) (look-in ! 27 (sub ! 1 refl (whole !)))) (no-more !)))) (from ! (stop !))
+          (init ! 19 refl (tt, (tt, (record { fits = room₃ .0 }, tt)))) $
+          assigns ! {v = (vptr (x₆ .ptr .0) (x₆ .ptr .1))}
+          (addr ! (from ! (fld ! refl (hop ! (look-in ! 24 (sub ! 0 refl (whole !))) (stop !))))) (from ! (stop !))
+          (init ! 18 refl (tt, tt)) $
+          assigns ! {v = s₆} (agg ! (and-then ! (load ! (from ! (stop !)) (look ! 18 refl))
+          (and-then ! (load ! (from ! (fld ! refl (stop !))) (look-in ! 24 (sub ! 1 refl (whole !)))) (no-more !)))) (from ! (stop !))
+          (init ! 17 refl (tt, (tt, (record { fits = room₆ .0 }, tt)))) $
+          assigns ! {v = (vptr (x₇ .ptr .0) (x₇ .ptr .1))}
+          (addr ! (from ! (fld ! refl (hop ! (look-in ! 23 (sub ! 0 refl (whole !))) (stop !))))) (from ! (stop !))
+          (init ! 16 refl (tt, tt)) $
+          assigns ! {v = s₇} (agg ! (and-then ! (load ! (from ! (stop !)) (look ! 16 refl))
+          (and-then ! (load ! (from ! (fld ! refl (stop !))) (look-in ! 23 (sub ! 1 refl (whole !)))) (no-more !)))) (from ! (stop !))
+          (init ! 15 refl (tt, (tt, (record { fits = room₇ .0 }, tt)))) $
+          move ! (1 ∷ 8 ∷ 2 ∷ 9 ∷ 3 ∷ 10 ∷ 4 ∷ 11 ∷ 5 ∷ 12 ∷ 6 ∷ 13 ∷ 7 ∷ 14 ∷ []) $ group ! 14 $
+          calls-fn ! fm writing.ended (writing.clauses 𝓤 H A at-mem run) (known .1) (to-writing b w-b x₅ v₅)
+          (λ r ws-r. WrittenOut b x₅ (x₀ .now) (partsOf (x₁ .now) (x₂ .now) (x₃ .now) (x₄ .now)) (flushPartsOf (x₆ .now) (x₇ .now))
+          (ws-r .0) (partsOf (x₁ .now) (x₂ .now) (ws-r .1 .1 .1 .0) (x₄ .now))
+          (flushPartsOf (ws-r .1 .1 .1 .1 .1 .1 .1 .0) (ws-r .1 .1 .1 .1 .1 .1 .1 .1 .0)) r)
+          (‵ (flft κ₀ q₀) ⊛ ‵ Own₀ ⊛ ‵ (flft κ₁ q₁) ⊛ ‵ Own₁ ⊛ ‵ (flft κ₂ q₂) ⊛ ‵ Own₂ ⊛ ‵ (flft κ₃ q₃) ⊛ ‵ Own₃ ⊛ ‵ (flft κ₄ q₄) ⊛ ‵
+          Own₄ ⊛ ‵ (flft κ₅ q₅) ⊛ ‵ Own₆ ⊛ ‵ (flft κ₆ q₆) ⊛ ‵ Own₇)
+          (asks-writing b w-b is-b x₅ v₅ g₅) (λ r ws-r. id⊢ 𝓤 _)
+          (and-then ! (load ! (from ! (stop !)) (look ! 8 refl))
+          (and-then ! (load ! (from ! (stop !)) (look ! 16 refl))
+          (and-then ! (load ! (from ! (stop !)) (look ! 15 refl))
+          (and-then ! (load ! (from ! (stop !)) (look ! 6 refl))
+          (and-then ! (load ! (from ! (stop !)) (look ! 13 refl))
+          (and-then ! (load ! (from ! (stop !)) (look ! 9 refl))
+          (and-then ! (load ! (from ! (stop !)) (look ! 12 refl))
+          (and-then ! (load ! (from ! (stop !)) (look ! 4 refl)) (and-then ! (load ! (from ! (stop !)) (look ! 2 refl)) (no-more !))))))))))
+          (λ r w-r ws-r e-r is-r. land ! (from ! (stop !)) (init ! 19 refl (sint-lawful 𝓤 H A W w32 .typed r _ is-r .0)) $
+          spread W (‵ (flft κ₀ q₀)) (‵ (flft κ₁ q₁) ∷ ‵ (flft κ₂ q₂) ∷ ‵ (flft κ₃ q₃) ∷ ‵ (flft κ₄ q₄) ∷ ‵ (flft κ₅ q₅) ∷ ‵ (flft κ₆ q₆)
+          ∷ ‵ ftrue ∷ []) (id⊢ 𝓤 _) $ move ! (8 ∷ []) $
+          spread W (‵ (fres (x₀ .name) (L .coded .code (ws-r .0))))
+          (‵ ftrue ∷ ‵ ftrue ∷ ‵ (fsep (finally R (x₃ .name) (ws-r .1 .1 .1 .0)) (feq ℕ (length (ws-r .1 .1 .1 .0)) (length (x₃ .now))))
+          ∷ ‵ ftrue ∷ ‵ ftrue ∷ ‵ ftrue ∷ ‵ (fsep (finally u8 (x₆ .name) (ws-r .1 .1 .1 .1 .1 .1 .1 .0))
+          (feq ℕ (length (ws-r .1 .1 .1 .1 .1 .1 .1 .0)) (length (x₆ .now))))
+          ∷ ‵ (fsep (finally u16 (x₇ .name) (ws-r .1 .1 .1 .1 .1 .1 .1 .1 .0))
+          (feq ℕ (length (ws-r .1 .1 .1 .1 .1 .1 .1 .1 .0)) (length (x₇ .now)))) ∷ ‵ ftrue ∷ []) (id⊢ 𝓤 _) $
+          keep ! (0 ∷ 3 ∷ 7 ∷ 8 ∷ 10 ∷ 11 ∷ 12 ∷ 13 ∷ 14 ∷ 15 ∷ 16 ∷ 18 ∷ 19 ∷ 20 ∷ 21 ∷ 22 ∷ 23 ∷ 24 ∷ 25 ∷ 26 ∷ 27 ∷ 28 ∷ 29 ∷ 30 ∷ 31
+          ∷ 32 ∷ 33 ∷ 34 ∷ 35 ∷ []) $ move ! (1 ∷ []) $ fsplit ! $ move ! (1 ∷ []) $
+          feqL ! (λ len₃. move ! (2 ∷ []) $ fsplit ! $ move ! (1 ∷ []) $
+          feqL ! (λ len₆. move ! (3 ∷ []) $ fsplit ! $ move ! (1 ∷ []) $ feqL ! (λ len₇.
+          -- [fin7; fin6; fin3; fin0; tok0; tok1; tok2; tok3; tok4; tok6; tok7; deaths; the locals]
+          returns ! (look ! 28 refl) $
+          move ! (11 ∷ []) $ spread W (‵ (fdies (tyInt w32) l₀))
+          (‵ (fdies (tyRef (named 0) mut (pointee (L .written))) l₁) ∷ ‵ (fdies (sliceTy (tyRef (named 1) imm (tyInt w8))) l₂)
+          ∷ ‵ (fdies (sliceTy (tyRef (named 2) imm (tyInt w8))) l₃)
+          ∷ ‵ (fdies (sliceTy (tyRef (named 3) mut (pointee (R .written)))) l₄)
+          ∷ ‵ (fdies (sliceTy (tyRef (named 4) imm (tyInt w32))) l₅) ∷ ‵ (fdies (tyInt w32) l₆)
+          ∷ ‵ (fdies (sliceTy (tyRef (named 5) mut (tyInt w8))) l₇) ∷ ‵ (fdies (sliceTy (tyRef (named 6) mut (tyInt w16))) l₈)
+          ∷ ‵ (fdies tyBool l₉) ∷ ‵ (fdies (tyRef erased mut (pointee (L .written))) l₁₀)
+          ∷ ‵ (fdies (tyRef erased mut (pointee (R .written))) l₁₁) ∷ ‵ (fdies (sliceTy (tyRef erased mut (pointee (R .written)))) l₁₂)
+          ∷ ‵ (fdies (tyRef erased mut (tyInt w8)) l₁₃) ∷ ‵ (fdies (sliceTy (tyRef erased mut (tyInt w8))) l₁₄)
+          ∷ ‵ (fdies (tyRef erased mut (tyInt w16)) l₁₅) ∷ ‵ (fdies (sliceTy (tyRef erased mut (tyInt w16))) l₁₆) ∷ []) (id⊢ 𝓤 _) $
+          move ! (44 ∷ 0 ∷ 43 ∷ 1 ∷ 42 ∷ 2 ∷ 41 ∷ 3 ∷ 40 ∷ 4 ∷ 39 ∷ 5 ∷ 38 ∷ 6 ∷ 37 ∷ 7 ∷ 36 ∷ 8 ∷ 35 ∷ 9 ∷ 34 ∷ 10 ∷ 33 ∷ 11 ∷ 32 ∷ 12
+          ∷ 31 ∷ 13 ∷ 30 ∷ 14 ∷ 29 ∷ 15 ∷ 28 ∷ 16 ∷ []) $ forget ! 0 refl $ free1 ! $ forget ! 0 refl $ free1 ! $ forget ! 0 refl $
+          free1 ! $ forget ! 0 refl $ free1 ! $ forget ! 0 refl $ free1 ! $ forget ! 0 refl $ free1 ! $ forget ! 0 refl $ free1 ! $
+          forget ! 0 refl $ free1 ! $ forget ! 0 refl $ free1 ! $ forget ! 0 refl $ free1 ! $ forget ! 0 refl $ free1 ! $
+          forget ! 0 refl $ free1 ! $ forget ! 0 refl $ free1 ! $ forget ! 0 refl $ free1 ! $ forget ! 0 refl $ free1 ! $
+          forget ! 0 refl $ free1 ! $ forget ! 0 refl $ free1 ! $ free0 ! $
+          move ! (3 ∷ 4 ∷ 5 ∷ 6 ∷ 2 ∷ 7 ∷ 8 ∷ 1 ∷ 9 ∷ 0 ∷ 10 ∷ []) $
+          by ! (exits r w-r (ws-r .0) (ws-r .1 .1 .1 .0) (ws-r .1 .1 .1 .1 .1 .1 .1 .0) (ws-r .1 .1 .1 .1 .1 .1 .1 .1 .0)
+          (subst (λ y. WrittenOut y x₅ (x₀ .now) (partsOf (x₁ .now) (x₂ .now) (x₃ .now) (x₄ .now)) (flushPartsOf (x₆ .now) (x₇ .now))
+          (ws-r .0) (partsOf (x₁ .now) (x₂ .now) (ws-r .1 .1 .1 .0) (x₄ .now))
+          (flushPartsOf (ws-r .1 .1 .1 .1 .1 .1 .1 .0) (ws-r .1 .1 .1 .1 .1 .1 .1 .1 .0)) r) e-b e-r) len₃ len₆ len₇
+          is-r)))))))))))))))))))))))
 
   f-meets : (𝓣 : Tables 𝓤 H) → Known (𝓣 .C) → Meets 𝓤 H A f.signature (WpFn 𝓤 H (𝓣 .C) (𝓣 .Λ) code.function) (f.spec 𝓤 H A at-mem run)
   unfolding Post
-  f-meets 𝓣 known = walk-meets 𝓤 H A f.ended stayed W (goes-gave-ref 𝓤 H A W 7 0 tt (plain (λ _. L)), (goes-dropped 𝓤 H A W 7 (shrSliceOf (1 ∷ []) tt (plain (λ _. u8))) yes (λ κs x f. refl), (goes-dropped 𝓤 H A W 7 (shrSliceOf (2 ∷ []) tt (plain (λ _. u8))) yes (λ κs x f. refl), (goes-gave-slice 𝓤 H A W 7 3 tt (plain (λ _. R)), (goes-dropped 𝓤 H A W 7 (shrSliceOf (4 ∷ []) tt (plain (λ _. u32))) yes (λ κs x f. refl), (goes-dropped 𝓤 H A W 7 (plain (λ _. u32)) yes (λ κs x f. refl), (goes-gave-slice 𝓤 H A W 7 5 tt (plain (λ _. u8)), (goes-gave-slice 𝓤 H A W 7 6 tt (plain (λ _. u16)), tt))))))))
+  f-meets 𝓣 known = walk-meets 𝓤 H A f.ended stayed W (
+    goes-gave-ref 𝓤 H A W 7 0 tt (plain (λ _. L)),
+    (
+      goes-dropped 𝓤 H A W 7 (shrSliceOf (1 ∷ []) tt (plain (λ _. u8))) yes (λ κs x f. refl),
+      (
+        goes-dropped 𝓤 H A W 7 (shrSliceOf (2 ∷ []) tt (plain (λ _. u8))) yes (λ κs x f. refl),
+        (
+          goes-gave-slice 𝓤 H A W 7 3 tt (plain (λ _. R)),
+          (
+            goes-dropped 𝓤 H A W 7 (shrSliceOf (4 ∷ []) tt (plain (λ _. u32))) yes (λ κs x f. refl),
+            (
+              goes-dropped 𝓤 H A W 7 (plain (λ _. u32)) yes (λ κs x f. refl),
+              (goes-gave-slice 𝓤 H A W 7 5 tt (plain (λ _. u8)), (goes-gave-slice 𝓤 H A W 7 6 tt (plain (λ _. u16)), tt)),
+            ),
+          ),
+        ),
+      ),
+    ),
+  )
       (f.clauses 𝓤 H A at-mem run) (WpFn 𝓤 H (𝓣 .C) (𝓣 .Λ) code.function) (WpFn-mono 𝓤 H (W .laws) 𝓣 code.function)
-      (walked 𝓤 H A f.ended stayed (f.clauses 𝓤 H A at-mem run) (WpFn 𝓤 H (𝓣 .C) (𝓣 .Λ) code.function) (λ κs. (ptr-vals, (slice-vals, (slice-vals, (slice-vals, (slice-vals, ((uint-vals w32), (slice-vals, (slice-vals, tt))))))))) (λ κs. (mut-tells (named 0) (κs .0) L, (shr-slice-tells (named 1) (κs .1 .0) u8, (shr-slice-tells (named 2) (κs .1 .1 .0) u8, (mut-slice-tells (named 3) (κs .1 .1 .1 .0) R, (shr-slice-tells (named 4) (κs .1 .1 .1 .1 .0) u32, ((uint-tells w32), (mut-slice-tells (named 5) (κs .1 .1 .1 .1 .1 .0) u8, (mut-slice-tells (named 6) (κs .1 .1 .1 .1 .1 .1 .0) u16, tt)))))))))
-      (λ κs qs bounds a g are. via 𝓤 _ (fst∗ 𝓤 _ (emp 𝓤)) (walk (κs .0) (κs .1 .0) (κs .1 .1 .0) (κs .1 .1 .1 .0) (κs .1 .1 .1 .1 .0) (κs .1 .1 .1 .1 .1 .0) (κs .1 .1 .1 .1 .1 .1 .0) (qs .0) (qs .1 .0) (qs .1 .1 .0) (qs .1 .1 .1 .0) (qs .1 .1 .1 .1 .0) (qs .1 .1 .1 .1 .1 .0) (qs .1 .1 .1 .1 .1 .1 .0) (a .0) (a .1 .0) (are .1 .0 .0 .1) (a .1 .1 .0) (are .1 .1 .0 .0 .1) (a .1 .1 .1 .0) (are .1 .1 .1 .0 .0 .1) (a .1 .1 .1 .1 .0) (are .1 .1 .1 .1 .0 .0 .1) (a .1 .1 .1 .1 .1 .0) (vint w32 (a .1 .1 .1 .1 .1 .0)) (are .1 .1 .1 .1 .1 .0) (a .1 .1 .1 .1 .1 .1 .0) (are .1 .1 .1 .1 .1 .1 .0 .0 .1) (a .1 .1 .1 .1 .1 .1 .1 .0) (are .1 .1 .1 .1 .1 .1 .1 .0 .0 .1) (𝓣 .C) (𝓣 .Λ) (fmOf 𝓤 H (W .laws) 𝓣) known)))
+      (walked 𝓤 H A f.ended stayed (f.clauses 𝓤 H A at-mem run) (WpFn 𝓤 H (𝓣 .C) (𝓣 .Λ) code.function)
+      (λ κs. (ptr-vals, (slice-vals, (slice-vals, (slice-vals, (slice-vals, ((uint-vals w32), (slice-vals, (slice-vals, tt)))))))))
+      (λ κs. (
+        mut-tells (named 0) (κs .0) L,
+        (
+          shr-slice-tells (named 1) (κs .1 .0) u8,
+          (
+            shr-slice-tells (named 2) (κs .1 .1 .0) u8,
+            (
+              mut-slice-tells (named 3) (κs .1 .1 .1 .0) R,
+              (
+                shr-slice-tells (named 4) (κs .1 .1 .1 .1 .0) u32,
+                (
+                  (uint-tells w32),
+                  (
+                    mut-slice-tells (named 5) (κs .1 .1 .1 .1 .1 .0) u8,
+                    (mut-slice-tells (named 6) (κs .1 .1 .1 .1 .1 .1 .0) u16, tt),
+                  ),
+                ),
+              ),
+            ),
+          ),
+        ),
+      ))
+      (λ κs qs bounds a g are. via 𝓤 _ (fst∗ 𝓤 _ (emp 𝓤))
+      (walk (κs .0) (κs .1 .0) (κs .1 .1 .0) (κs .1 .1 .1 .0) (κs .1 .1 .1 .1 .0) (κs .1 .1 .1 .1 .1 .0) (κs .1 .1 .1 .1 .1 .1 .0) (qs .0)
+      (qs .1 .0) (qs .1 .1 .0) (qs .1 .1 .1 .0) (qs .1 .1 .1 .1 .0) (qs .1 .1 .1 .1 .1 .0) (qs .1 .1 .1 .1 .1 .1 .0) (a .0) (a .1 .0)
+      (are .1 .0 .0 .1) (a .1 .1 .0) (are .1 .1 .0 .0 .1) (a .1 .1 .1 .0) (are .1 .1 .1 .0 .0 .1) (a .1 .1 .1 .1 .0)
+      (are .1 .1 .1 .1 .0 .0 .1) (a .1 .1 .1 .1 .1 .0) (vint w32 (a .1 .1 .1 .1 .1 .0)) (are .1 .1 .1 .1 .1 .0) (a .1 .1 .1 .1 .1 .1 .0)
+      (are .1 .1 .1 .1 .1 .1 .0 .0 .1) (a .1 .1 .1 .1 .1 .1 .1 .0) (are .1 .1 .1 .1 .1 .1 .1 .0 .0 .1) (𝓣 .C) (𝓣 .Λ) (fmOf 𝓤 H (W .laws) 𝓣)
+      known)))
 
 pub ampferweg-flush-spec : {M : Type 1} → stated.statement M
 unfolding code.routine tablesOf
@@ -230,10 +499,8 @@ ampferweg-flush-spec 𝓤 H 𝓜 𝓖 𝓡 =
     entered 𝓤 H (tripleOf 𝓤 H (𝓖 .A) f.signature (f.spec 𝓤 H (𝓖 .A) (𝓜 .mem) (𝓡 .run)))
     (tables 𝓤 H 𝓜 𝓡 code.env .C) (tables 𝓤 H 𝓜 𝓡 code.env .Λ) #f code.function (code.unfolded 𝓤 H 𝓜 𝓡)
     (f-meets 𝓤 H (𝓖 .A) (givenOf 𝓤 H 𝓜 𝓖) (𝓜 .mem) (𝓡 .run) (tablesOf 𝓤 H 𝓜 (tables 𝓤 H 𝓜 𝓡 code.env)) (
-      cited 𝓤 H (tripleOf 𝓤 H (𝓖 .A) writing.signature (writing.spec 𝓤 H (𝓖 .A) (𝓜 .mem) (𝓡 .run))) 𝓜 𝓡 code.env writing-def.name writing-def.routine code.calls-write-out·write-out (writing-thm.met 𝓤 H 𝓜 𝓖 𝓡),
-      cited 𝓤 H (tripleOf 𝓤 H (𝓖 .A) words-of.signature (words-of.spec 𝓤 H (𝓖 .A) (𝓜 .mem) (𝓡 .run))) 𝓜 𝓡 code.env words-of-def.name words-of-def.routine code.calls-results·flushed-words (words-of-thm.met 𝓤 H 𝓜 𝓖 𝓡),
-      cited 𝓤 H (tripleOf 𝓤 H (𝓖 .A) count-of.signature (count-of.spec 𝓤 H (𝓖 .A) (𝓜 .mem) (𝓡 .run))) 𝓜 𝓡 code.env count-of-def.name count-of-def.routine code.calls-results·flushed-changed (count-of-thm.met 𝓤 H 𝓜 𝓖 𝓡),
-      cited 𝓤 H (tripleOf 𝓤 H (𝓖 .A) records-of.signature (records-of.spec 𝓤 H (𝓖 .A) (𝓜 .mem) (𝓡 .run))) 𝓜 𝓡 code.env records-of-def.name records-of-def.routine code.calls-results·flushed-records (records-of-thm.met 𝓤 H 𝓜 𝓖 𝓡),
-      cited 𝓤 H (tripleOf 𝓤 H (𝓖 .A) scatter.signature (scatter.spec 𝓤 H (𝓖 .A) (𝓜 .mem) (𝓡 .run))) 𝓜 𝓡 code.env scatter-def.name scatter-def.routine code.calls-gathering·scatter (scatter-thm.met 𝓤 H 𝓜 𝓖 𝓡),
-      cited 𝓤 H (tripleOf 𝓤 H (𝓖 .A) code-of.signature (code-of.spec 𝓤 H (𝓖 .A) (𝓜 .mem) (𝓡 .run))) 𝓜 𝓡 code.env code-of-def.name code-of-def.routine code.calls-results·flushed-code (code-of-thm.met 𝓤 H 𝓜 𝓖 𝓡),
+      cited 𝓤 H (tripleOf 𝓤 H (𝓖 .A) paced-of.signature (paced-of.spec 𝓤 H (𝓖 .A) (𝓜 .mem) (𝓡 .run))) 𝓜 𝓡 code.env paced-of-def.name
+          paced-of-def.routine code.calls-results·at-once (paced-of-thm.met 𝓤 H 𝓜 𝓖 𝓡),
+      cited 𝓤 H (tripleOf 𝓤 H (𝓖 .A) writing.signature (writing.spec 𝓤 H (𝓖 .A) (𝓜 .mem) (𝓡 .run))) 𝓜 𝓡 code.env writing-def.name
+          writing-def.routine code.calls-write-out·write-and-put-back (writing-thm.met 𝓤 H 𝓜 𝓖 𝓡),
     ))

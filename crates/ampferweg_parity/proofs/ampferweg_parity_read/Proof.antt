@@ -17,7 +17,23 @@ use Rattle.ampferweg_parity.proofs.ampferweg_parity_read.Tie as tie
 
 returns : tie.Need-returns
 returns c =
-    told (readOf (c .before .before .before .before .before .before .before .before .before .before .before .before .args .k) (c .before .before .before .before .before .before .before .before .before .before .before .before .args .mtu) (c .before .before .before .before .before .before .before .before .before .before .before .before .args .frames .now) (c .before .before .before .before .before .before .before .before .before .before .before .before .args .lengths .now) (length (c .before .before .before .before .before .before .before .before .before .before .before .before .args .out .now)) (length (c .before .before .before .before .before .before .before .before .before .before .before .before .args .out-lengths .now))) (c .before .before .before .before .before .before .before .before .before .before .before .before .args .out .now) (c .before .before .before .before .before .before .before .before .before .before .before .before .args .out-lengths .now) (c .before .before .before .before .before .read-group .result) _ _ _ (read-few (c .before .before .before .before .before .before .before .before .before .before .before .before .args .k) (c .before .before .before .before .before .before .before .before .before .before .before .before .args .mtu) (c .before .before .before .before .before .before .before .before .before .before .before .before .args .frames .now) (c .before .before .before .before .before .before .before .before .before .before .before .before .args .lengths .now) (length (c .before .before .before .before .before .before .before .before .before .before .before .before .args .out .now)) (length (c .before .before .before .before .before .before .before .before .before .before .before .before .args .out-lengths .now))) (passed _ (answer-fits (c .before .before .before .before .before .read-group .result)) (c .answer-code .ensures)) (c .before .before .before .before .before .read-group .ensures)
+    told (readOf (c .before .before .before .before .before .before .before .before .before .before .before .before .args .k)
+    (c .before .before .before .before .before .before .before .before .before .before .before .before .args .mtu)
+    (c .before .before .before .before .before .before .before .before .before .before .before .before .args .frames .now)
+    (c .before .before .before .before .before .before .before .before .before .before .before .before .args .lengths .now)
+    (length (c .before .before .before .before .before .before .before .before .before .before .before .before .args .out .now))
+    (length (c .before .before .before .before .before .before .before .before .before .before .before .before .args .out-lengths
+    .now))) (c .before .before .before .before .before .before .before .before .before .before .before .before .args .out .now)
+    (c .before .before .before .before .before .before .before .before .before .before .before .before .args .out-lengths .now)
+    (c .before .before .before .before .before .read-group .result) _ _ _
+    (read-few (c .before .before .before .before .before .before .before .before .before .before .before .before .args .k)
+    (c .before .before .before .before .before .before .before .before .before .before .before .before .args .mtu)
+    (c .before .before .before .before .before .before .before .before .before .before .before .before .args .frames .now)
+    (c .before .before .before .before .before .before .before .before .before .before .before .before .args .lengths .now)
+    (length (c .before .before .before .before .before .before .before .before .before .before .before .before .args .out .now))
+    (length (c .before .before .before .before .before .before .before .before .before .before .before .before .args .out-lengths
+    .now))) (passed _ (answer-fits (c .before .before .before .before .before .read-group .result)) (c .answer-code .ensures))
+    (c .before .before .before .before .before .read-group .ensures)
 
 pub ampferweg-parity-read-spec : {M : Type 1} → statement M
 ampferweg-parity-read-spec =

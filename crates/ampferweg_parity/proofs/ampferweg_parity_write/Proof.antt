@@ -17,7 +17,25 @@ use Rattle.ampferweg_parity.proofs.ampferweg_parity_write.Tie as tie
 
 returns : tie.Need-returns
 returns c =
-    told (writeOf (c .before .before .before .before .before .before .before .before .before .before .before .before .args .group) (c .before .before .before .before .before .before .before .before .before .before .before .before .args .k) (c .before .before .before .before .before .before .before .before .before .before .before .before .args .mtu) (c .before .before .before .before .before .before .before .before .before .before .before .before .args .datagrams .now) (c .before .before .before .before .before .before .before .before .before .before .before .before .args .lengths .now) (length (c .before .before .before .before .before .before .before .before .before .before .before .before .args .out .now)) (length (c .before .before .before .before .before .before .before .before .before .before .before .before .args .out-lengths .now))) (c .before .before .before .before .before .before .before .before .before .before .before .before .args .out .now) (c .before .before .before .before .before .before .before .before .before .before .before .before .args .out-lengths .now) (c .before .before .before .before .before .write-group .result) _ _ _ (write-few (c .before .before .before .before .before .before .before .before .before .before .before .before .args .group) (c .before .before .before .before .before .before .before .before .before .before .before .before .args .k) (c .before .before .before .before .before .before .before .before .before .before .before .before .args .mtu) (c .before .before .before .before .before .before .before .before .before .before .before .before .args .datagrams .now) (c .before .before .before .before .before .before .before .before .before .before .before .before .args .lengths .now) (length (c .before .before .before .before .before .before .before .before .before .before .before .before .args .out .now)) (length (c .before .before .before .before .before .before .before .before .before .before .before .before .args .out-lengths .now))) (passed _ (answer-fits (c .before .before .before .before .before .write-group .result)) (c .answer-code .ensures)) (c .before .before .before .before .before .write-group .ensures)
+    told (writeOf (c .before .before .before .before .before .before .before .before .before .before .before .before .args .group)
+    (c .before .before .before .before .before .before .before .before .before .before .before .before .args .k)
+    (c .before .before .before .before .before .before .before .before .before .before .before .before .args .mtu)
+    (c .before .before .before .before .before .before .before .before .before .before .before .before .args .datagrams .now)
+    (c .before .before .before .before .before .before .before .before .before .before .before .before .args .lengths .now)
+    (length (c .before .before .before .before .before .before .before .before .before .before .before .before .args .out .now))
+    (length (c .before .before .before .before .before .before .before .before .before .before .before .before .args .out-lengths
+    .now))) (c .before .before .before .before .before .before .before .before .before .before .before .before .args .out .now)
+    (c .before .before .before .before .before .before .before .before .before .before .before .before .args .out-lengths .now)
+    (c .before .before .before .before .before .write-group .result) _ _ _
+    (write-few (c .before .before .before .before .before .before .before .before .before .before .before .before .args .group)
+    (c .before .before .before .before .before .before .before .before .before .before .before .before .args .k)
+    (c .before .before .before .before .before .before .before .before .before .before .before .before .args .mtu)
+    (c .before .before .before .before .before .before .before .before .before .before .before .before .args .datagrams .now)
+    (c .before .before .before .before .before .before .before .before .before .before .before .before .args .lengths .now)
+    (length (c .before .before .before .before .before .before .before .before .before .before .before .before .args .out .now))
+    (length (c .before .before .before .before .before .before .before .before .before .before .before .before .args .out-lengths
+    .now))) (passed _ (answer-fits (c .before .before .before .before .before .write-group .result)) (c .answer-code .ensures))
+    (c .before .before .before .before .before .write-group .ensures)
 
 pub ampferweg-parity-write-spec : {M : Type 1} → statement M
 ampferweg-parity-write-spec =

@@ -27,7 +27,8 @@ returns c =
 returns-2 : tie.Need-returns-2
 returns-2 c =
     let told = c .before .before .refusal .given in
-    rw (sym (c .before .before .before .before .read .ensures) ∙ told .1) (passed _ (refusal-fits (told .0 .0)) (c .refusal-code .ensures), refl, refl)
+    rw (sym (c .before .before .before .before .read .ensures) ∙ told .1)
+    (passed _ (refusal-fits (told .0 .0)) (c .refusal-code .ensures), refl, refl)
 
 pub ampferweg-tag-read-spec : {M : Type 1} → statement M
 ampferweg-tag-read-spec =

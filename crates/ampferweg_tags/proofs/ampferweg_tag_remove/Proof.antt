@@ -18,7 +18,8 @@ same-length c = search needs
 returns : tie.Need-returns
 returns c =
     let call = c .before .before .before in
-    tells-change _ _ _ (call .remove .result) _ (call .remove .ensures) (passed _ (changing-fits (call .remove .result)) (c .changing-code .ensures))
+    tells-change _ _ _ (call .remove .result) _ (call .remove .ensures)
+    (passed _ (changing-fits (call .remove .result)) (c .changing-code .ensures))
 
 pub ampferweg-tag-remove-spec : {M : Type 1} → statement M
 ampferweg-tag-remove-spec =

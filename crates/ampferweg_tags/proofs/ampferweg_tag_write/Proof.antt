@@ -34,7 +34,8 @@ returns : tie.Need-returns
 returns c =
     let call = c .before .before .before .before .before in
     tells-writing _ _ _ (call .write .result) _ (call .write .ensures)
-    (rw (c .before .len .given .1) (toZ-pos w32 (c .before .len .given .0 .0) (omega (arith, written-short _ _ _ _ (sym (c .before .len .given .1) ∙ call .write .ensures .answer)))))
+    (rw (c .before .len .given .1) (toZ-pos w32 (c .before .len .given .0 .0)
+    (omega (arith, written-short _ _ _ _ (sym (c .before .len .given .1) ∙ call .write .ensures .answer)))))
 
 same-length-2 : tie.Need-same-length-2
 same-length-2 c = search needs
@@ -43,7 +44,8 @@ returns-2 : tie.Need-returns-2
 returns-2 c =
     let call = c .before .before .before .before .before .before in
     let told = c .before .before .refusal .given in
-    tells-writing _ _ _ (call .write .result) _ (call .write .ensures) (rw (told .1) (passed _ (refusal-fits (told .0 .0)) (c .refusal-code .ensures)))
+    tells-writing _ _ _ (call .write .result) _ (call .write .ensures)
+    (rw (told .1) (passed _ (refusal-fits (told .0 .0)) (c .refusal-code .ensures)))
 
 pub ampferweg-tag-write-spec : {M : Type 1} → statement M
 ampferweg-tag-write-spec =

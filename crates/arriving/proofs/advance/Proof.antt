@@ -18,8 +18,10 @@ returns c =
     record {
       whole = p .0;
       is =
-          none-up (a .ready .now) (a .waiting .now) (a .numbers .now) (a .arrival .ready) (a .arrival .waiting) _ (a .arrival .expected) (p .0) (low start) (p .1 .few-ready) (p .1 .few-waiting)
-          (c .before .before .before .least .ensures) (sym (c .if1 .taken) ∙ c .before .run .ensures .1 (a .waiting .now) (p .0 .whole-waiting));
+          none-up (a .ready .now) (a .waiting .now) (a .numbers .now) (a .arrival .ready) (a .arrival .waiting) _ (a .arrival .expected)
+          (p .0) (low start) (p .1 .few-ready) (p .1 .few-waiting)
+          (c .before .before .before .least .ensures)
+          (sym (c .if1 .taken) ∙ c .before .run .ensures .1 (a .waiting .now) (p .0 .whole-waiting));
       same-acks = refl;
       same-tell = refl;
     }
@@ -36,8 +38,10 @@ returns-2 c =
     record {
       whole = record { whole-ready = up .whole; whole-waiting = left .whole; whole-numbers = numbers .whole };
       is =
-          moved-up (a .ready .now) (a .waiting .now) (a .numbers .now) _ _ _ (a .arrival .ready) (a .arrival .waiting) _ (p .0) (p .1 .few-waiting) (search needs) up left numbers
-          (a .arrival .expected) _ _ (low start) (p .1 .few-ready) (i .before .before .before .least .ensures) (i .before .run .ensures .1 (a .waiting .now) (p .0 .whole-waiting)) (c .sum .ensures);
+          moved-up (a .ready .now) (a .waiting .now) (a .numbers .now) _ _ _ (a .arrival .ready) (a .arrival .waiting) _ (p .0)
+          (p .1 .few-waiting) (search needs) up left numbers
+          (a .arrival .expected) _ _ (low start) (p .1 .few-ready) (i .before .before .before .least .ensures)
+          (i .before .run .ensures .1 (a .waiting .now) (p .0 .whole-waiting)) (c .sum .ensures);
       same-acks = refl;
       same-tell = refl;
     }

@@ -14,7 +14,8 @@ use Rattle.arriving.proofs.run.Tie as tie
 
 abbrev Inv-loop : tie.InvT-loop
 Inv-loop numbers n next expected₀ i₀ expected i =
-    (i ≤ n) × ((words : List ℕ) → length words ≡ 128 → runOf next (take n (paired waitingAt words numbers)) ≡ i + runOf expected (drop i (take n (paired waitingAt words numbers))))
+    (i ≤ n) × ((words : List ℕ) → length words ≡ 128 → runOf next (take n (paired waitingAt words numbers)) ≡ i
+    + runOf expected (drop i (take n (paired waitingAt words numbers))))
 
 abbrev μ-loop : tie.MeasureT-loop
 μ-loop numbers n next expected₀ i₀ expected i = n - i
@@ -22,14 +23,21 @@ abbrev μ-loop : tie.MeasureT-loop
 loop-again : tie.Need-loop-again Inv-loop μ-loop
 loop-again c =
     let v = c .before .before .before .before .before .loop .inv in
-    let p = c .before .before .before .before .before .before .pre in
-    (search needs, λ words e. runs-more words _ _ _ _ _ e (p .0) (p .1) (v .1 words e) _ (c .before .before .before .before .loop-test .taken) (c .before .before .difference .ensures) _ (c .sum .ensures) (c .before .if1 .taken))
+    let p = c .before .before .before .before .before .before .pre in (
+      search needs,
+      λ words e. runs-more words _ _ _ _ _ e (p .0) (p .1) (v .1 words e) _
+          (c .before .before .before .before .loop-test .taken) (c .before .before .difference .ensures) _ (c .sum .ensures)
+          (c .before .if1 .taken),
+    )
 
 returns : tie.Need-returns Inv-loop μ-loop
 returns c =
     let v = c .before .before .before .before .loop .inv in
-    let p = c .before .before .before .before .before .pre in
-    (search needs, λ words e. sym (runs-stop words _ _ _ _ _ e (p .0) (p .1) (v .1 words e) _ (c .before .before .before .loop-test .taken) (c .before .difference .ensures) (c .if1 .left)))
+    let p = c .before .before .before .before .before .pre in (
+      search needs,
+      λ words e. sym (runs-stop words _ _ _ _ _ e (p .0) (p .1) (v .1 words e) _ (c .before .before .before .loop-test .taken)
+          (c .before .difference .ensures) (c .if1 .left)),
+    )
 
 returns-2 : tie.Need-returns-2 Inv-loop μ-loop
 returns-2 c =

@@ -10,14 +10,34 @@ use Rattle.bench_calls.proofs.flush.Tie as tie
 returns : tie.Need-returns
 returns c =
     let flushed = c .before .before .before .before .before .flush in
-    let output = c .before .before .before .before .before .before .before .before .before .before .before .before .before .before .front3 .ensures in
-    let lengths = c .before .before .before .before .before .before .before .before .before .before .before .before .front-lengths .ensures in
-    let kept = rw (front-take _ _ _ (c .before .before .before .before .before .before .before .before .before .before .before .before .before .before .before .before .before .before .front .ensures), front-take _ _ _ (c .before .before .before .before .before .before .before .before .before .before .before .before .before .before .before .before .before .front2 .ensures), front-take _ _ _ (c .before .before .before .before .before .before .before .before .before .before .before .before .before .before .before .before .front-acks .ensures), front-take _ _ _ output, front-take _ _ _ lengths) at (flushed .ensures .0) in
+    let output = c .before .before .before .before .before .before .before .before .before .before .before .before .before .before .front3
+    .ensures in
+    let lengths = c .before .before .before .before .before .before .before .before .before .before .before .before .front-lengths
+    .ensures in
+    let kept = rw (
+      front-take _ _ _ (c .before .before .before .before .before .before .before .before .before .before .before .before
+          .before .before .before .before .before .before .front .ensures),
+      front-take _ _ _ (c .before .before .before .before .before .before .before .before .before .before .before .before .before .before
+          .before .before .before .front2 .ensures),
+      front-take _ _ _ (c .before .before .before .before .before .before .before .before .before .before .before .before .before .before
+          .before .before .front-acks .ensures),
+      front-take _ _ _ output,
+      front-take _ _ _ lengths,
+    ) at (flushed .ensures .0) in
     let bytes = flushed .last .1 .1 .1 .1 .1 .1 .1 .0 in
     let sizes = flushed .last .1 .1 .1 .1 .1 .1 .1 .1 .0 in
-    let same : length bytes ≡ c .before .before .before .before .before .before .before .before .before .before .before .before .before .before .front3 .result = search needs in
-    let also : length sizes ≡ c .before .before .before .before .before .before .before .before .before .before .before .before .front-lengths .result = search needs in
-    rw (c .after-flush .ensures) (record { promise = rw (front-new _ _ _ bytes output same, front-new _ _ _ sizes lengths also) kept; behind = front-behind _ _ _ bytes output same; lengthsBehind = front-behind _ _ _ sizes lengths also; recordsBehind = flushed .ensures .1; bench = refl })
+    let same : length bytes ≡ c .before .before .before .before .before .before .before .before .before .before .before .before .before
+    .before .front3 .result = search needs in
+    let also : length sizes ≡ c .before .before .before .before .before .before .before .before .before .before .before .before
+    .front-lengths .result = search needs in
+    rw (c .after-flush .ensures) (record {
+      promise = rw (front-new _ _ _ bytes output same, front-new _ _ _ sizes lengths also) kept;
+      behind = front-behind _ _ _ bytes output same;
+      lengthsBehind = front-behind _ _ _ sizes lengths also;
+      recordsBehind =
+          flushed .ensures .1;
+      bench = refl;
+    })
 
 pub flush-spec : {M : Type 1} → statement M
 flush-spec =

@@ -12,12 +12,25 @@ returns c =
     let taken = c .before .before .before .before .before .input in
     let receive = c .before .before .before .before .before .before .before .before .before .before .before .before .front2 .ensures in
     let acks = c .before .before .before .before .before .before .before .before .before .before .front-acks .ensures in
-    let kept = rw (front-take _ _ _ (c .before .before .before .before .before .before .before .before .before .before .before .before .before .before .front .ensures), front-take _ _ _ receive, front-take _ _ _ acks) at (taken .ensures .0) in
+    let kept = rw (
+      front-take _ _ _ (c .before .before .before .before .before .before .before .before .before .before .before .before
+          .before .before .front .ensures),
+      front-take _ _ _ receive,
+      front-take _ _ _ acks,
+    ) at (taken .ensures .0) in
     let pool = taken .last .1 .1 .0 in
     let pairs = taken .last .1 .1 .1 .1 .1 .0 in
-    let same : length pool ≡ c .before .before .before .before .before .before .before .before .before .before .before .before .front2 .result = search needs in
-    let also : length pairs ≡ c .before .before .before .before .before .before .before .before .before .before .front-acks .result = search needs in
-    rw (c .after-input .ensures) (record { promise = rw (front-new _ _ _ pool receive same, front-new _ _ _ pairs acks also) kept; behind = front-behind _ _ _ pool receive same; acksBehind = front-behind _ _ _ pairs acks also; recordsBehind = taken .ensures .1; bench = refl })
+    let same : length pool ≡ c .before .before .before .before .before .before .before .before .before .before .before .before .front2
+    .result = search needs in
+    let also : length pairs ≡ c .before .before .before .before .before .before .before .before .before .before .front-acks .result =
+    search needs in
+    rw (c .after-input .ensures) (record {
+      promise = rw (front-new _ _ _ pool receive same, front-new _ _ _ pairs acks also) kept;
+      behind = front-behind _ _ _ pool receive same;
+      acksBehind = front-behind _ _ _ pairs acks also;
+      recordsBehind = taken .ensures .1;
+      bench = refl;
+    })
 
 pub input-spec : {M : Type 1} → statement M
 input-spec =

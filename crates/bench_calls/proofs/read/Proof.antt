@@ -11,10 +11,21 @@ returns : tie.Need-returns
 returns c =
     let got = c .before .before .before .read in
     let buffer = c .before .before .before .before .before .before .before .before .before .front3 .ensures in
-    let kept = rw (front-take _ _ _ (c .before .before .before .before .before .before .before .before .before .before .before .before .before .front .ensures), front-take _ _ _ (c .before .before .before .before .before .before .before .before .before .before .before .before .front2 .ensures), front-take _ _ _ (c .before .before .before .before .before .before .before .before .before .before .before .front-acks .ensures), front-take _ _ _ buffer) at (got .ensures) in
+    let kept = rw (
+      front-take _ _ _ (c .before .before .before .before .before .before .before .before .before .before .before .before
+          .before .front .ensures),
+      front-take _ _ _
+          (c .before .before .before .before .before .before .before .before .before .before .before .before .front2 .ensures),
+      front-take _ _ _ (c .before .before .before .before .before .before .before .before .before .before .before .front-acks .ensures),
+      front-take _ _ _ buffer,
+    ) at (got .ensures) in
     let new = got .last .1 .1 .1 .1 .1 .1 .0 in
     let same : length new ≡ c .before .before .before .before .before .before .before .before .before .front3 .result = search needs in
-    rw (c .after-read .ensures) (record { promise = rw (front-new _ _ _ new buffer same) kept; behind = front-behind _ _ _ new buffer same; bench = refl })
+    rw (c .after-read .ensures) (record {
+      promise = rw (front-new _ _ _ new buffer same) kept;
+      behind = front-behind _ _ _ new buffer same;
+      bench = refl;
+    })
 
 pub read-spec : {M : Type 1} → statement M
 read-spec =

@@ -11,10 +11,19 @@ returns : tie.Need-returns
 returns c =
     let sent = c .before .before .before .send in
     let front = c .before .before .before .before .before .before .before .before .before .before .front .ensures in
-    let kept = rw (front-take _ _ _ front, front-take _ _ _ (c .before .before .before .before .before .before .before .before .before .front2 .ensures), front-take _ _ _ (c .before .before .before .before .before .before .before .before .front-acks .ensures)) at (sent .ensures) in
+    let kept = rw (
+      front-take _ _ _ front,
+      front-take _ _ _ (c .before .before .before .before .before .before .before .before .before .front2 .ensures),
+      front-take _ _ _ (c .before .before .before .before .before .before .before .before .front-acks .ensures),
+    ) at (sent .ensures) in
     let new = sent .last .1 .0 in
-    let same : length new ≡ c .before .before .before .before .before .before .before .before .before .before .front .result = search needs in
-    rw (c .after-send .ensures) (record { promise = rw (front-new _ _ _ new front same) kept; behind = front-behind _ _ _ new front same; bench = refl })
+    let same : length new ≡ c .before .before .before .before .before .before .before .before .before .before .front .result =
+    search needs in
+    rw (c .after-send .ensures) (record {
+      promise = rw (front-new _ _ _ new front same) kept;
+      behind = front-behind _ _ _ new front same;
+      bench = refl;
+    })
 
 pub send-spec : {M : Type 1} → statement M
 send-spec =

@@ -6,7 +6,11 @@ use Rattle.bench_calls.proofs.show.Tie as tie
 
 returns : tie.Need-returns
 returns c =
-    rw (front-take _ _ _ (c .before .before .before .before .before .before .before .front .ensures), front-take _ _ _ (c .before .before .before .before .before .before .front2 .ensures), front-take _ _ _ (c .before .before .before .before .before .front-acks .ensures)) at (c .show .ensures .bytes)
+    rw (
+      front-take _ _ _ (c .before .before .before .before .before .before .before .front .ensures),
+      front-take _ _ _ (c .before .before .before .before .before .before .front2 .ensures),
+      front-take _ _ _ (c .before .before .before .before .before .front-acks .ensures),
+    ) at (c .show .ensures .bytes)
 
 pub show-spec : {M : Type 1} → statement M
 show-spec =

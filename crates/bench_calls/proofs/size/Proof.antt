@@ -6,7 +6,11 @@ use Rattle.bench_calls.proofs.size.Tie as tie
 
 returns : tie.Need-returns
 returns c =
-    rw (front-take _ _ _ (c .before .before .before .before .before .before .before .front .ensures), front-take _ _ _ (c .before .before .before .before .before .before .front2 .ensures), front-take _ _ _ (c .before .before .before .before .before .front-acks .ensures)) at (c .size .ensures)
+    rw (
+      front-take _ _ _ (c .before .before .before .before .before .before .before .front .ensures),
+      front-take _ _ _ (c .before .before .before .before .before .before .front2 .ensures),
+      front-take _ _ _ (c .before .before .before .before .before .front-acks .ensures),
+    ) at (c .size .ensures)
 
 pub size-spec : {M : Type 1} → statement M
 size-spec =

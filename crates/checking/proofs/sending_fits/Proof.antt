@@ -10,7 +10,9 @@ use Rattle.checking.proofs.sending_fits.Tie as tie
 returns : tie.Need-returns
 returns c =
     let s = c .before .before .before .before in
-    limits-fail (s .args .mss) (s .args .queued .now) (s .args .n) (s .args .outstanding .now) (s .args .transmissions .now) (s .args .m) _ _ _ _ (c .before .before .before .queued-fit .ensures) (c .before .before .outstanding-fit .ensures) (c .before .transmissions-fit .ensures) (s .pre .5) (c .if1 .taken)
+    limits-fail (s .args .mss) (s .args .queued .now) (s .args .n) (s .args .outstanding .now) (s .args .transmissions .now) (s .args .m) _
+    _ _ _ (c .before .before .before .queued-fit .ensures) (c .before .before .outstanding-fit .ensures)
+    (c .before .transmissions-fit .ensures) (s .pre .5) (c .if1 .taken)
 
 returns-2 : tie.Need-returns-2
 returns-2 c =
@@ -19,7 +21,8 @@ returns-2 c =
     let a = s .args in
     let first = c .before .before .mark-outstanding in
     let second = c .mark in
-    limits-fit (a .mss) (a .queued .now) (a .n) (a .outstanding .now) (a .transmissions .now) (a .m) _ _ _ _ (l .before .before .queued-fit .ensures) (l .before .outstanding-fit .ensures) (l .transmissions-fit .ensures)
+    limits-fit (a .mss) (a .queued .now) (a .n) (a .outstanding .now) (a .transmissions .now) (a .m) _ _ _ _
+    (l .before .before .queued-fit .ensures) (l .before .outstanding-fit .ensures) (l .transmissions-fit .ensures)
     _
     (c .before .before .before .before .if1 .left)
     (both-once (take (a .m) (a .outstanding .now)) (take (a .n) (a .queued .now)) (s .pre .5) (first .ensures) (second .ensures))

@@ -9,7 +9,8 @@ returns : tie.Need-returns
 returns c = rw (c .enum-told .given .1)
 
 returns-2 : tie.Need-returns-2
-returns-2 c = rw (c .before .before .answer .given .1) (passed _ (code-fits (c .before .before .answer .given .0 .0)) (c .refusal-code .ensures))
+returns-2 c = rw (c .before .before .answer .given .1)
+    (passed _ (code-fits (c .before .before .answer .given .0 .0)) (c .refusal-code .ensures))
 
 pub answer-code-spec : {M : Type 1} → statement M
 answer-code-spec =

@@ -9,7 +9,8 @@ returns : tie.Need-returns
 returns c = rw (c .before .before .count .given .1) (passed _ (size-fits (c .before .before .count .given .0 .0)) (c .size-code .ensures))
 
 returns-2 : tie.Need-returns-2
-returns-2 c = rw (c .before .before .count2 .given .1) (passed _ (code-fits (c .before .before .count2 .given .0 .0)) (c .refusal-code .ensures))
+returns-2 c = rw (c .before .before .count2 .given .1)
+    (passed _ (code-fits (c .before .before .count2 .given .0 .0)) (c .refusal-code .ensures))
 
 pub count-code-spec : {M : Type 1} → statement M
 count-code-spec =

@@ -9,10 +9,12 @@ returns : tie.Need-returns
 returns c = rw (c .enum-told .given .1)
 
 returns-2 : tie.Need-returns-2
-returns-2 c = rw (c .before .before .update .given .1) (passed _ (size-fits (c .before .before .update .given .0 .0)) (c .size-code .ensures))
+returns-2 c = rw (c .before .before .update .given .1)
+    (passed _ (size-fits (c .before .before .update .given .0 .0)) (c .size-code .ensures))
 
 returns-3 : tie.Need-returns-3
-returns-3 c = rw (c .before .before .update2 .given .1) (passed _ (code-fits (c .before .before .update2 .given .0 .0)) (c .refusal-code .ensures))
+returns-3 c = rw (c .before .before .update2 .given .1)
+    (passed _ (code-fits (c .before .before .update2 .given .0 .0)) (c .refusal-code .ensures))
 
 pub update-code-spec : {M : Type 1} → statement M
 update-code-spec =

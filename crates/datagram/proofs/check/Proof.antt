@@ -22,7 +22,8 @@ use Rattle.datagram.proofs.check.Statement.{statement}
 use Rattle.datagram.proofs.check.Tie as tie
 
 abbrev Inv-loop : tie.InvT-loop
-Inv-loop s conv mss at₀ count₀ at count = (at ≤ length s) × (count ≤ at) × (counted count (walk conv mss 0 (drop at s)) ≡ counted 0 (parse conv mss s))
+Inv-loop s conv mss at₀ count₀ at count =
+    (at ≤ length s) × (count ≤ at) × (counted count (walk conv mss 0 (drop at s)) ≡ counted 0 (parse conv mss s))
 
 abbrev μ-loop : tie.MeasureT-loop
 μ-loop s conv mss at₀ count₀ at count = length s - at
@@ -65,10 +66,12 @@ went-on : (c : tie.After-enum-told2 Inv-loop μ-loop) →
     let known = c .before .before .before in
     let loop = known .before .before .before .before in
     let a = loop .before .before .before .args in
-    GoesOn (a .conv) (a .mss) (a .s .now) (loop .loop .at) (loop .loop .count) (counted 0 (parse (a .conv) (a .mss) (a .s .now))) (known .before .found .given .0 .0)
+    GoesOn (a .conv) (a .mss) (a .s .now) (loop .loop .at) (loop .loop .count) (counted 0 (parse (a .conv) (a .mss) (a .s .now)))
+    (known .before .found .given .0 .0)
 went-on c =
     let known = c .before .before .before in
-    goes-on _ _ _ _ _ _ (known .before .before .before .before .loop .inv .2) _ (found known) (sym (c .before .before .judge .ensures) ∙ c .enum-told2 .given .1)
+    goes-on _ _ _ _ _ _ (known .before .before .before .before .loop .inv .2) _ (found known)
+    (sym (c .before .before .judge .ensures) ∙ c .enum-told2 .given .1)
 
 loop-holds : tie.Need-loop-holds Inv-loop μ-loop
 loop-holds c = (omega arith, omega arith, rw (parse-long _ _ _ (c .if1 .left)))
@@ -76,17 +79,20 @@ loop-holds c = (omega arith, omega arith, rw (parse-long _ _ _ (c .if1 .left)))
 returns-2 : tie.Need-returns-2 Inv-loop μ-loop
 returns-2 c =
     let call = c .before .before .before in
-    refuses-tail _ _ _ _ _ _ (call .before .loop .inv .2) (sym (call .find-header .ensures) ∙ c .before .enum-told .given .1) (c .if2 .taken)
+    refuses-tail _ _ _ _ _ _ (call .before .loop .inv .2) (sym (call .find-header .ensures) ∙ c .before .enum-told .given .1)
+    (c .if2 .taken)
 
 returns-3 : tie.Need-returns-3 Inv-loop μ-loop
 returns-3 c =
     let call = c .before .before .before in
-    stops _ _ _ _ _ _ (call .before .loop .inv .2) (sym (call .find-header .ensures) ∙ c .before .enum-told .given .1) (omega (arith, c .if2 .left))
+    stops _ _ _ _ _ _ (call .before .loop .inv .2) (sym (call .find-header .ensures) ∙ c .before .enum-told .given .1)
+    (omega (arith, c .if2 .left))
 
 returns-4 : tie.Need-returns-4 Inv-loop μ-loop
 returns-4 c =
     let call = c .before .before .before in
-    refuses _ _ _ _ _ _ (call .before .before .before .before .before .loop .inv .2) _ (found (call .before)) _ (sym (call .judge .ensures) ∙ c .before .verdict .given .1)
+    refuses _ _ _ _ _ _ (call .before .before .before .before .before .loop .inv .2) _ (found (call .before)) _
+    (sym (call .judge .ensures) ∙ c .before .verdict .given .1)
 
 loop-again : tie.Need-loop-again Inv-loop μ-loop
 loop-again c = let w = went-on (c .before) in (w .inside, omega arith, w .rest)

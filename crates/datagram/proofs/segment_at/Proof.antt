@@ -35,7 +35,9 @@ module _ (s : List ℕ) (i : ℕ) where
         rw (← w .header, le-leb _ _ (w .inside), le-leb (i + 24 + h .len) (length s) (omega arith))
 
 -- a header was found
-found : (c : tie.After-known-told) → headerAt (c .before .before .before .before .before .args .s .now) (c .before .before .before .before .before .args .at) ≡ Whole (c .before .found .given .0 .0)
+found : (c : tie.After-known-told)
+    → headerAt (c .before .before .before .before .before .args .s .now) (c .before .before .before .before .before .args .at) ≡ Whole
+    (c .before .found .given .0 .0)
 found c = sym (c .before .before .before .find-header .ensures) ∙ c .before .found .given .1
 
 pub segment-at-spec : {M : Type 1} → statement M

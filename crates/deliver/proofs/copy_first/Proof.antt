@@ -28,7 +28,8 @@ next-at : (c : tie.After-slot-of Inv-loop μ-loop) →
 next-at c =
     let l = c .before .before .before .before in
     let a = l .before .before .before in
-    copying-at _ _ (a .args .ready .now) (a .args .k) (l .loop .i) _ _ _ (l .loop .inv .2) _ _ (c .before .before .before .loop-test .taken) (omega (arith, a .pre .0, a .pre .1)) (c .slot-of .ensures .0) (c .before .len-of .ensures .0)
+    copying-at _ _ (a .args .ready .now) (a .args .k) (l .loop .i) _ _ _ (l .loop .inv .2) _ _ (c .before .before .before .loop-test .taken)
+    (omega (arith, a .pre .0, a .pre .1)) (c .slot-of .ensures .0) (c .before .len-of .ensures .0)
 
 loop-again : tie.Need-loop-again Inv-loop μ-loop
 loop-again c =
@@ -38,7 +39,9 @@ loop-again c =
     let v = l .loop .inv in (
       search needs,
       c .before .before .copy-part .kept .1 .1 .1 .0 ∙ v .1,
-      copying-more _ _ (a .args .ready .now) (a .args .k) (l .loop .i) _ _ _ (v .2) _ _ (w .before .before .before .loop-test .taken) (omega (arith, a .pre .0, a .pre .1)) (w .slot-of .ensures .0) (w .before .len-of .ensures .0) _ (c .before .before .copy-part .ensures),
+      copying-more _ _ (a .args .ready .now) (a .args .k) (l .loop .i) _ _ _ (v .2) _ _ (w .before .before .before .loop-test .taken)
+          (omega (arith, a .pre .0, a .pre .1)) (w .slot-of .ensures .0) (w .before .len-of .ensures .0) _
+          (c .before .before .copy-part .ensures),
     )
 
 returns : tie.Need-returns Inv-loop μ-loop

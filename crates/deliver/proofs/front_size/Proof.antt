@@ -11,7 +11,8 @@ use Rattle.deliver.proofs.front_size.Statement.{statement}
 use Rattle.deliver.proofs.front_size.Tie as tie
 
 total-requires : tie.Need-total-requires
-total-requires c κs = let p = c .before .before .pre in (p .0, omega (arith, p .1, tested-within (c .before .front-count .result) (c .before .before .args .n) (c .if1 .taken)))
+total-requires c κs = let p = c .before .before .pre in
+    (p .0, omega (arith, p .1, tested-within (c .before .front-count .result) (c .before .before .args .n) (c .if1 .taken)))
 
 returns : tie.Need-returns
 returns c =
@@ -20,7 +21,9 @@ returns c =
     let n = s .args .n in
     let k = c .before .before .front-count in
     let e = readable-is w n _ (omega (arith, s .pre)) (k .ensures) in
-    front-readable (heldIn w n) _ e _ (c .before .if1 .taken) (c .total .ensures ∙ ap lengthOf (message-words w n _ (omega (arith, s .pre)) (k .ensures) (tested-within _ _ (c .before .if1 .taken))))
+    front-readable (heldIn w n) _ e _ (c .before .if1 .taken)
+    (c .total .ensures ∙ ap lengthOf (message-words w n _ (omega (arith, s .pre)) (k .ensures)
+    (tested-within _ _ (c .before .if1 .taken))))
 
 returns-2 : tie.Need-returns-2
 returns-2 c =

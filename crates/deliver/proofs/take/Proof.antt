@@ -18,18 +18,24 @@ long a = omega (arith, a .pre .0 .whole-ready, a .pre .1 .few-ready)
 
 -- the message's segments are among them
 within : (c : tie.After-front-count) → c .front-count .result ≤ c .before .before .before .before .args .arrival .ready
-within c = let a = c .before .before .before .before in message-within (a .args .ready .now) _ _ (long a) (c .front-count .ensures) (a .pre .3 .complete)
+within c = let a = c .before .before .before .before in
+    message-within (a .args .ready .now) _ _ (long a) (c .front-count .ensures) (a .pre .3 .complete)
 
 copy-first-requires : tie.Need-copy-first-requires
 copy-first-requires c κs =
     let k = c .before .before in
     let a = k .before .before .before .before in
     let w = a .args .ready .now in
-    let e = message-words w (a .args .arrival .ready) _ (long a) (k .front-count .ensures) (within k) in
-    (a .pre .0 .whole-ready, omega (arith, within k, a .pre .1 .few-ready), rw e (in-pool-take _ _ (frontCount (heldIn w (a .args .arrival .ready))) (heldIn w (a .args .arrival .ready)) (a .pre .2)), rw e (a .pre .3 .within))
+    let e = message-words w (a .args .arrival .ready) _ (long a) (k .front-count .ensures) (within k) in (
+      a .pre .0 .whole-ready,
+      omega (arith, within k, a .pre .1 .few-ready),
+      rw e (in-pool-take _ _ (frontCount (heldIn w (a .args .arrival .ready))) (heldIn w (a .args .arrival .ready)) (a .pre .2)),
+      rw e (a .pre .3 .within),
+    )
 
 freed-requires : tie.Need-freed-requires
-freed-requires c κs = let k = c .before .before .before .before .before .before .before .before in let a = k .before .before .before .before in (a .pre .0, a .pre .1, omega (arith, within k))
+freed-requires c κs = let k = c .before .before .before .before .before .before .before .before in let a =
+    k .before .before .before .before in (a .pre .0, a .pre .1, omega (arith, within k))
 
 returns : tie.Need-returns
 returns c =
@@ -41,7 +47,8 @@ returns c =
       counts = f .counts;
       same-acks = f .same-acks;
       reads = λ acks. f .reads acks (sym (k .front-count .ensures));
-      bytes = rw (message-words (a .args .ready .now) (a .args .arrival .ready) _ (long a) (k .front-count .ensures) (within k)) at (c .before .before .before .before .before .before .copy-first .ensures);
+      bytes = rw (message-words (a .args .ready .now) (a .args .arrival .ready) _ (long a) (k .front-count .ensures) (within k)) at
+          (c .before .before .before .before .before .before .copy-first .ensures);
     }
 
 pub take-spec : {M : Type 1} → statement M

@@ -20,8 +20,12 @@ abbrev μ-loop : tie.MeasureT-loop
 loop-again : tie.Need-loop-again Inv-loop μ-loop
 loop-again c =
     let l = c .before .before .before in
-    let a = l .before in
-    (search needs, search needs, total-more (a .args .ready .now) (a .args .k) (l .loop .i) _ (l .loop .sum) (l .loop .inv .2) _ (c .before .before .loop-test .taken) (omega (arith, a .pre)) (c .len-of .ensures .0))
+    let a = l .before in (
+      search needs,
+      search needs,
+      total-more (a .args .ready .now) (a .args .k) (l .loop .i) _ (l .loop .sum) (l .loop .inv .2) _
+          (c .before .before .loop-test .taken) (omega (arith, a .pre)) (c .len-of .ensures .0),
+    )
 
 returns : tie.Need-returns Inv-loop μ-loop
 returns c =

@@ -25,12 +25,15 @@ sub-unpacked c = omega (arith, some c)
 -- the slot is one of the pool, and what is filled stays within it
 ends : (c : tie.After-unpacked) →
     let s = c .before .before .before .before .before in
-    (c .unpacked .result .slot * s .args .mss + s .args .mss ≤ length (s .args .pool .now)) × (c .unpacked .result .len + s .args .k ≤ s .args .mss)
+    (c .unpacked .result .slot * s .args .mss + s .args .mss ≤ length (s .args .pool .now)) ×
+    (c .unpacked .result .len + s .args .k ≤ s .args .mss)
 ends c =
     let s = c .before .before .before .before .before in
     let e = c .before .before in
-    fill-end (getD (s .args .queued .now) (s .args .n - 1) 0) (s .args .mss) (s .args .room) (s .args .k) (length (s .args .pool .now)) (c .unpacked .ensures)
-    (last-low (s .args .queued .now) (s .args .n) (some e) (s .pre .most) (s .pre .whole) (s .pre .low)) (s .pre .within (has e) .1) (omega (arith, s .pre .taken)) (s .pre .slots)
+    fill-end (getD (s .args .queued .now) (s .args .n - 1) 0) (s .args .mss) (s .args .room) (s .args .k) (length (s .args .pool .now))
+    (c .unpacked .ensures)
+    (last-low (s .args .queued .now) (s .args .n) (some e) (s .pre .most) (s .pre .whole) (s .pre .low)) (s .pre .within (has e) .1)
+    (omega (arith, s .pre .taken)) (s .pre .slots)
 
 -- an address of the pool has 64 bits
 below : (s : tie.Start) → length (s .args .pool .now) < 2 ^ 64
@@ -55,8 +58,16 @@ copy-part-requires c κs =
 word-of-requires : tie.Need-word-of-requires
 word-of-requires c κs =
     let e = ends (c .before .before .before .before .before .before) in
-    let p = c .before .before .before .before .before .before .before .before .before .before .before .pre in
-    (omega (arith, low-byte (getD (c .before .before .before .before .before .before .before .before .before .before .before .args .queued .now) (c .before .before .before .before .before .before .before .before .before .before .before .args .n - 1) 0) (c .before .before .before .before .before .before .unpacked .ensures)), omega (arith, e .1, p .word), omega arith)
+    let p = c .before .before .before .before .before .before .before .before .before .before .before .pre in (
+      omega (
+        arith,
+        low-byte (getD (c .before .before .before .before .before .before .before .before .before .before .before .args .queued
+            .now) (c .before .before .before .before .before .before .before .before .before .before .before .args .n - 1) 0)
+            (c .before .before .before .before .before .before .unpacked .ensures),
+      ),
+      omega (arith, e .1, p .word),
+      omega arith,
+    )
 
 sub-queued : tie.Need-sub-queued
 sub-queued c = omega (arith, some (c .before .before .before .before .before .before .before .before .before))
@@ -65,8 +76,10 @@ returns-2 : tie.Need-returns-2
 returns-2 c =
     let s = c .before .before .before .before .before .before .before .before .before .before .before .before in
     let e = c .before .before .before .before .before .before .before .before .before in
-    fills-some (s .args .mss) (s .args .queued .now) (s .args .n) (s .args .room) (s .args .pool .now) (s .args .message .now) (s .pre .whole) (s .pre .most)
-    (c .before .before .before .before .before .before .before .unpacked .result) (c .word-of .result) (s .args .k) _ (some e) (has e) (s .pre .taken) (c .before .before .before .before .before .before .before .unpacked .ensures) (c .word-of .ensures)
+    fills-some (s .args .mss) (s .args .queued .now) (s .args .n) (s .args .room) (s .args .pool .now) (s .args .message .now)
+    (s .pre .whole) (s .pre .most)
+    (c .before .before .before .before .before .before .before .unpacked .result) (c .word-of .result) (s .args .k) _ (some e) (has e)
+    (s .pre .taken) (c .before .before .before .before .before .before .before .unpacked .ensures) (c .word-of .ensures)
     (c .before .before .before .copy-part .ensures)
 
 pub fill-spec : {M : Type 1} → statement M

@@ -22,15 +22,23 @@ Inv-loop stream mss queued₀ n marks pool₀ message from count next₀ slot₀
     × (next + left ≤ 128)
     × (slot ≤ 256)
     × Placeable mss queued₀ n marks pool₀ count
-    × ((h : Marked marks (128 - count)) → Placing stream mss marks (place stream mss (h .now) pool₀ (pieces mss count (drop from message))) (heldIn queued₀ n) queued pool (drop at message) next slot left)
+    × ((h : Marked marks (128 - count))
+    → Placing stream mss marks (place stream mss (h .now) pool₀ (pieces mss count (drop from message))) (heldIn queued₀ n) queued pool
+    (drop at message) next slot left)
 
 abbrev μ-loop : tie.MeasureT-loop
 μ-loop stream mss queued₀ n marks pool₀ message from count next₀ slot₀ at₀ left₀ queued pool next slot at left = left
 
 loop-holds : tie.Need-loop-holds Inv-loop μ-loop
 loop-holds c =
-    let p = c .before .before .pre .1 in
-    (c .before .before .pre .0, refl, search needs, search needs, p, λ h. placing-start h (omega (arith, p .room)) (p .whole) (omega (arith, p .room)))
+    let p = c .before .before .pre .1 in (
+      c .before .before .pre .0,
+      refl,
+      search needs,
+      search needs,
+      p,
+      λ h. placing-start h (omega (arith, p .room)) (p .whole) (omega (arith, p .room)),
+    )
 
 -- where a payload is left, a slot is free
 slot-low : (c : tie.In-loop Inv-loop μ-loop) → nextFree (c .before .before .before .before .args .marks .now) (c .before .loop .slot) < 128
@@ -40,7 +48,8 @@ free-from-requires : tie.Need-free-from-requires Inv-loop μ-loop
 free-from-requires c κs = let v = c .before .loop .inv in (v .4 .marks-whole, v .3, omega (arith, slot-low c))
 
 store-requires : tie.Need-store-requires Inv-loop μ-loop
-store-requires c κs = let v = c .before .before .before .loop .inv in (v .0, omega (arith, slot-low (c .before .before), c .before .free-from .ensures), omega (arith, v .1, v .4 .slots))
+store-requires c κs = let v = c .before .before .before .loop .inv in
+    (v .0, omega (arith, slot-low (c .before .before), c .before .free-from .ensures), omega (arith, v .1, v .4 .slots))
 
 -- the payload stored is short, and its slot a byte
 short : (c : tie.After-store Inv-loop μ-loop) → c .store .result < 65536
@@ -54,14 +63,20 @@ word-of-requires c κs =
     let v = c .before .before .before .before .before .before .before .loop .inv in (
       omega (arith, found (c .before .before .before .before .before)),
       short (c .before .before .before),
-      omega (arith, v .2, fragment-most (c .before .before .before .before .before .before .before .before .before .before .args .stream) (c .before .before .before .before .before .before .before .loop .left - 1) (c .fragment-of .result) (c .fragment-of .ensures)),
+      omega (
+        arith,
+        v .2,
+        fragment-most (c .before .before .before .before .before .before .before .before .before .before .args .stream)
+            (c .before .before .before .before .before .before .before .loop .left - 1) (c .fragment-of .result) (c .fragment-of .ensures),
+      ),
     )
 
 add-at : tie.Need-add-at Inv-loop μ-loop
 add-at c =
     omega (
       arith,
-      stored-within (c .before .before .before .before .store .ensures) (c .before .before .before .before .before .before .before .before .loop .inv .0),
+      stored-within (c .before .before .before .before .store .ensures)
+          (c .before .before .before .before .before .before .before .before .loop .inv .0),
     )
 
 loop-again : tie.Need-loop-again Inv-loop μ-loop
@@ -75,7 +90,8 @@ loop-again c =
       search needs,
       omega (arith, found (c .before .before .before .before .before .before)),
       v .4,
-      λ h. placing-next (c .word-of .result) (v .5 h) t f (omega (arith, v .2, t)) s (c .word-of .ensures ∙ rw (c .before .fragment-of .ensures)),
+      λ h. placing-next (c .word-of .result) (v .5 h) t f (omega (arith, v .2, t)) s
+          (c .word-of .ensures ∙ rw (c .before .fragment-of .ensures)),
     )
 
 returns : tie.Need-returns Inv-loop μ-loop

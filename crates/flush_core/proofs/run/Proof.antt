@@ -1,63 +1,48 @@
--- `run`: what its parts give, put together.
+-- `run`: what the flush leaves, or what waiting leaves.
 -- Assumes nothing.
-use mathlib.Core.Path.{refl}
-use Prim.Native.Nat.{_<_, _^_}
 use borrow.Author.Needs.{needs}
-use Rattle.flush_core.proofs.Ready.{few-ready, numberable, countable, writable}
-use Rattle.flush_core.proofs.Results.{runs}
+use Rattle.control.specs.Views.{arrays}
+use Rattle.flush_core.proofs.Paces.{flushed, waited}
 use Rattle.flush_core.proofs.run.Statement.{statement}
 use Rattle.flush_core.proofs.run.Tie as tie
 
-plan-of-requires : tie.Need-plan-of-requires
-plan-of-requires c κs = few-ready _ _ _ _ _ _ _ _ _ _ _ (c .before .before .before .before .pre)
-
-number-requires : tie.Need-number-requires
-number-requires c κs =
-    let window = c .before .before .before in
-    let start = window .before .before .before .before .before .before in
-    numberable _ _ _ _ _ _ _ _ _ _ _ (start .pre) _ (window .window-of .ensures)
-
-write-requires : tie.Need-write-requires
-write-requires c κs =
-    let numbers = c .before .before .before .before .before .before in
-    let plans = numbers .before .before .before .before .before in
-    let start = plans .before .before .before .before .before in
-    writable _ _ _ _ _ _ _ _ _ _ _ (start .pre) _ _ _ _ _ _ _ _ (plans .plan-of .ensures) (numbers .number .ensures)
-
-una-fits : (c : tie.After-slice-known2) → c .before .before .before .before .args .flight .una < 2 ^ 32
-una-fits c = search needs
-
-after-losses-requires : tie.Need-after-losses-requires
-after-losses-requires c κs =
-    let writes = c .before .before .before .before .before .before in
-    let numbers = writes .before .before .before .before .before .before .before in
-    let window = numbers .before .before .before .before in
-    let start = window .before .before .before .before .before .before in
-    countable _ _ _ _ _ _ _ _ _ _ _ (start .pre) _ _ _ _ _ (window .window-of .ensures) (una-fits (window .before .before)) (numbers .number .ensures) _ _
+flush-now-requires : tie.Need-flush-now-requires
+flush-now-requires c κs = c .before .before .before .before .before .before .before .before .before .before .before .pre
 
 returns : tie.Need-returns
 returns c ready waiting numbers whole =
-    let writes = c .before .before .before .before .before .before .before .before .before in
-    let numbered = writes .before .before .before .before .before .before .before in
-    let window = numbered .before .before .before .before in
-    let plans = window .before in
-    let start = plans .before .before .before .before .before in
+    let runs = c .before .before .before .before in
+    let branch = runs .before .before .before .before .before .before in
+    let steps = branch .before in
+    let start = steps .before .before .before .before .before in
     let a = start .args in
-    runs (a .settings) (a .flight) (a .arrival) (a .clock) (a .queued .now) (a .outstanding .now) (a .transmissions .now) ready waiting numbers (a .records) (a .acks .now) (a .t)
-    (a .pool .now) _ _ _ (window .window-of .ensures) _ _ _ _ _ _ _ _ _ (plans .plan-of .ensures) (numbered .number .ensures) (writes .write .ensures) whole (start .pre .counts)
-    _ _ _ (c .before .before .after-losses .ensures) (c .told .ensures) (c .before .moved .ensures) _ refl
+    flushed (a .settings) (a .flight) (a .arrival) (a .clock)
+    (arrays (a .queued .now) (a .outstanding .now) (a .transmissions .now) ready waiting numbers)
+    (a .records) (a .acks .now) (a .t) (a .pool .now) (a .output .now) (a .lengths .now)
+    _ _ _ _ (runs .flush-now .result) (a .paced) (steps .step-of .ensures) (branch .if1 .taken)
+    (runs .flush-now .ensures ready waiting numbers whole)
+
+returns-2 : tie.Need-returns-2
+returns-2 c ready waiting numbers whole =
+    let branch = c .before .before .before in
+    let steps = branch .before in
+    let start = steps .before .before .before .before .before in
+    let a = start .args in
+    waited (a .settings) (a .flight) (a .arrival) (a .clock)
+    (arrays (a .queued .now) (a .outstanding .now) (a .transmissions .now) ready waiting numbers)
+    (a .records) (a .acks .now) (a .t) (a .pool .now) (a .output .now) (a .lengths .now)
+    _ (a .paced) (steps .step-of .ensures) (branch .if1 .left) (start .pre .counts)
+    _ (c .before .current .ensures) _ _ (c .kept .ensures)
 
 pub run-spec : {M : Type 1} → statement M
 run-spec =
     tie.close
     (tie.spec
-    plan-of-requires
     (λ c κs. search needs)
-    number-requires
-    write-requires
-    after-losses-requires
+    flush-now-requires
     (λ c κs. search needs)
     (λ c κs. search needs)
     (λ c. search needs)
     (λ c. search needs)
-    returns)
+    returns
+    returns-2)

@@ -17,7 +17,8 @@ returns : tie.Need-returns
 returns c = omega (arith, double-small (c .before .args .a) (search needs))
 
 returns-2 : tie.Need-returns-2
-returns-2 c = c .add .ensures ∙ ap (λ (x : ℕ). plus x 29) (twice (c .before .before .args .a)) ∙ sym (double-large (c .before .before .args .a) (search needs) (search needs))
+returns-2 c = c .add .ensures ∙ ap (λ (x : ℕ). plus x 29) (twice (c .before .before .args .a)) ∙ sym
+    (double-large (c .before .before .args .a) (search needs) (search needs))
 
 pub double-spec : {M : Type 1} → statement M
 double-spec =

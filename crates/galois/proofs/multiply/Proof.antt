@@ -15,7 +15,8 @@ returns-2 : tie.Need-returns-2
 returns-2 c = rw (c .if2 .taken) (sym (mul-zero _))
 
 returns-3 : tie.Need-returns-3
-returns-3 c = c .power .ensures ∙ product-of _ _ _ _ (c .before .before .logarithm .ensures) (c .before .logarithm2 .ensures) (search needs) (search needs)
+returns-3 c = c .power .ensures ∙ product-of _ _ _ _ (c .before .before .logarithm .ensures) (c .before .logarithm2 .ensures) (search needs)
+    (search needs)
 
 pub multiply-spec : {M : Type 1} → statement M
 multiply-spec = tie.close (tie.spec returns returns-2 (search needs) (search needs) (search needs) (search needs) returns-3)

@@ -1,9 +1,169 @@
--- `fit` meets its contract: a walk of its MIR, by hand, with a loop. Each turn reads a word in place (`Elements.antt`), and calls `reach`, `read` and `next_least`.
--- The loop's invariant: over the records that are left, what is carried gives the goal.
+-- `fit` meets its contract: a walk of its MIR, by hand, with a loop. Each turn reads a word in place (`Elements.antt`), and calls `reach`,
+-- `read` and `next_least`. The loop's invariant: over the records that are left, what is carried gives the goal.
 -- Assumes nothing.
-use Rattle.records.proofs.Walk.{_≡_, refl, sym, ap, subst, ℕ, _<_, _≤_, _^_, _+_, _-_, List, [], _∷_, length, getD, set, length-set, URA, fullShare, named, w32, w64, tyPtr, tyBool, tyInt, Val, vunit, vint, vbool, SProp, ent, emp, via, fst∗, id⊢, Lft, GName, Share, Fml, ftrue, fat, flft, Memory, Routine, Heap, Calls, Loops, WpFn, Tables, Atoms, Fun, givenOf, tables, tablesOf}
-use Rattle.records.proofs.Walk.{Given, Item, ‵, some, later, _⊛_, ⋆, _$_, _∵_, !, qed, by, move, keep, drop, use1, use2, use3, split, join, pick, rewrite, fsplit, fjoin, feqL, feqI, suffices, frame, await, done, agg, whole, sub, look-in, store-in, look, init, store, forget, stop, hop, fld, from, load, lit, unit-lit, of-opd, un, bin, addr, and-then, no-more, assigns, assigns-last, first, returns, enter, alloc1, alloc0, params1, pass1, pass0, free1, free0, land, exec}
-use Rattle.records.proofs.Walk.{WpFn-mono, fmOf, owns, Is, uint-vals, uint-tells, uint-makes, RefT, sliceVal, MutSlice, ShrSlice, Room, slice-vals, mut-slice-tells, shr-slice-tells, u32, usize, nothing, owned, only, Vals, onEntry, Triple, Meets, tripleOf, entered, cited, says, Stays, stay-slice, goes-slice, walkOf, ends-at, walked, walk-meets, yes}
+use Rattle.records.proofs.Walk.{
+  _≡_,
+  refl,
+  sym,
+  ap,
+  subst,
+  ℕ,
+  _<_,
+  _≤_,
+  _^_,
+  _+_,
+  _-_,
+  List,
+  [],
+  _∷_,
+  length,
+  getD,
+  set,
+  length-set,
+  URA,
+  fullShare,
+  named,
+  w32,
+  w64,
+  tyPtr,
+  tyBool,
+  tyInt,
+  Val,
+  vunit,
+  vint,
+  vbool,
+  SProp,
+  ent,
+  emp,
+  via,
+  fst∗,
+  id⊢,
+  Lft,
+  GName,
+  Share,
+  Fml,
+  ftrue,
+  fat,
+  flft,
+  Memory,
+  Routine,
+  Heap,
+  Calls,
+  Loops,
+  WpFn,
+  Tables,
+  Atoms,
+  Fun,
+  givenOf,
+  tables,
+  tablesOf,
+}
+use Rattle.records.proofs.Walk.{
+  Given,
+  Item,
+  ‵,
+  some,
+  later,
+  _⊛_,
+  ⋆,
+  _$_,
+  _∵_,
+  !,
+  qed,
+  by,
+  move,
+  keep,
+  drop,
+  use1,
+  use2,
+  use3,
+  split,
+  join,
+  pick,
+  rewrite,
+  fsplit,
+  fjoin,
+  feqL,
+  feqI,
+  suffices,
+  frame,
+  await,
+  done,
+  agg,
+  whole,
+  sub,
+  look-in,
+  store-in,
+  look,
+  init,
+  store,
+  forget,
+  stop,
+  hop,
+  fld,
+  from,
+  load,
+  lit,
+  unit-lit,
+  of-opd,
+  un,
+  bin,
+  addr,
+  and-then,
+  no-more,
+  assigns,
+  assigns-last,
+  first,
+  returns,
+  enter,
+  alloc1,
+  alloc0,
+  params1,
+  pass1,
+  pass0,
+  free1,
+  free0,
+  land,
+  exec,
+}
+use Rattle.records.proofs.Walk.{
+  WpFn-mono,
+  fmOf,
+  owns,
+  Is,
+  uint-vals,
+  uint-tells,
+  uint-makes,
+  RefT,
+  sliceVal,
+  MutSlice,
+  ShrSlice,
+  Room,
+  slice-vals,
+  mut-slice-tells,
+  shr-slice-tells,
+  u32,
+  usize,
+  nothing,
+  owned,
+  only,
+  Vals,
+  onEntry,
+  Triple,
+  Meets,
+  tripleOf,
+  entered,
+  cited,
+  says,
+  Stays,
+  stay-slice,
+  goes-slice,
+  walkOf,
+  ends-at,
+  walked,
+  walk-meets,
+  yes,
+}
 use Prim.Native.Nat.{zero-le, _%_, min}
 use native.Mathlib.Nat.{lt-of-le-of-lt, lt-of-lt-of-le}
 use native.Mathlib.Numerals.{add-one-le, add-one-dec}
@@ -88,175 +248,280 @@ module _ {M : Type 1} (𝓤 : URA M) (H : Heap 𝓤) (A : Atoms 𝓤) (W : Given
       × Triple 𝓤 (C next-of-def.name) (tripleOf 𝓤 H A next-of.signature (next-of.spec 𝓤 H A mem run))
       × Triple 𝓤 (C flown-def.name) (tripleOf 𝓤 H A flown.signature (flown.spec 𝓤 H A mem run))
 
-  module _ (κ : Lft) (q : Share) (b o : ℕ) (γ : GName) (ys : List Record) (room : Room R (length ys)) (ws : List ℕ) (wv : Val) (gw : Is Ws ws (wv ∷ []))
-      (c : Settings) (sv : Val) (gs : Is settings-row.the-row c (sv ∷ [])) (g : Flight) (fv : Val) (gf : Is flight-row.the-row g (fv ∷ [])) where
-    abbrev x : RefT (List Record) × (List ℕ × (Settings × (Flight × Unit {0})))
-    x = (ref b o γ ys, (ws, (c, (g, tt))))
+  module _ (κ : Lft) (q : Share) (b o : ℕ) (γ : GName) (ys : List Record) (room : Room R (length ys)) (ws : List ℕ) (wv : Val)
+      (gw : Is Ws ws (wv ∷ []))
+      (c : Settings) (sv : Val) (gs : Is settings-row.the-row c (sv ∷ [])) (g : Flight) (fv : Val) (gf : Is flight-row.the-row g (fv ∷ []))
+    where
+      abbrev x : RefT (List Record) × (List ℕ × (Settings × (Flight × Unit {0})))
+      x = (ref b o γ ys, (ws, (c, (g, tt))))
 
-    abbrev s : Val
-    s = sliceVal (b, o) (length ys)
+      abbrev s : Val
+      s = sliceVal (b, o) (length ys)
 
-    abbrev at : Vals f.signature (κ, tt)
-    at = (s ∷ [], (wv ∷ [], (sv ∷ [], (fv ∷ [], tt))))
+      abbrev at : Vals f.signature (κ, tt)
+      at = (s ∷ [], (wv ∷ [], (sv ∷ [], (fv ∷ [], tt))))
 
-    abbrev slots : List ℕ
-    slots = slotsIn ws (g .outstanding)
+      abbrev slots : List ℕ
+      slots = slotsIn ws (g .outstanding)
 
-    -- the records that are looked at
-    abbrev recs : List ℕ → List Record
-    recs = gathered (take sendSlots ys)
+      -- the records that are looked at
+      abbrev recs : List ℕ → List Record
+      recs = gathered (take sendSlots ys)
 
-    abbrev passed : ℕ → List Record → ℕ
-    passed = leastAfterAll (c .mode) (g .una) (g .next)
+      abbrev passed : ℕ → List Record → ℕ
+      passed = leastAfterAll (c .mode) (g .una) (g .next)
 
-    abbrev goal : ℕ
-    goal = passed 0 (recs slots)
+      abbrev goal : ℕ
+      goal = passed 0 (recs slots)
 
-    -- the words' machine values
-    abbrev us : List Val
-    us = gw .0
+      -- the words' machine values
+      abbrev us : List Val
+      us = gw .0
 
-    abbrev Own : Fml
-    Own = ShrSlice (named 0) κ R .own (ref b o γ ys) (s ∷ [])
+      abbrev Own : Fml
+      Own = ShrSlice (named 0) κ R .own (ref b o γ ys) (s ∷ [])
 
-    abbrev Post : Val → SProp 𝓤
-    Post = walkOf 𝓤 H A f.ended stayed (f.clauses 𝓤 H A mem run) .post (((κ, tt), (q, tt), tt, x, at), tt)
+      abbrev Post : Val → SProp 𝓤
+      Post = walkOf 𝓤 H A f.ended stayed (f.clauses 𝓤 H A mem run) .post (((κ, tt), (q, tt), tt, x, at), tt)
 
-    words-typed : {w : Val} → Is Ws ws (w ∷ []) → T (hasTy words-ty w) × WT w
-    words-typed {w} g = array-typed u32 (uint-lawful 𝓤 H A W w32 .typed) 32 ws (w ∷ []) g .0
+      words-typed : {w : Val} → Is Ws ws (w ∷ []) → T (hasTy words-ty w) × WT w
+      words-typed {w} g = array-typed u32 (uint-lawful 𝓤 H A W w32 .typed) 32 ws (w ∷ []) g .0
 
-    exits : (r : Bool) (w : Val) → r ≡ flightFits (c .mode) (g .una) (g .next) (take (g .outstanding) (padded (recs slots))) → Is Boolean r (w ∷ []) → ent 𝓤 (⋆ 𝓤 H A (‵ (flft κ q) ∷ [])) (Post w)
-    exits r w e is =
-        qed W (‵ (flft κ q) ∷ []) ∵ suffices ! _ (ends-at 𝓤 H A f.ended stayed (f.clauses 𝓤 H A mem run) W (((κ, tt), (q, tt), tt, x, at), tt) w r (tt, (tt, (tt, (tt, tt)))) (tt, (tt, (tt, (tt, tt))))) $ says ! e $
-        nothing ! $ move ! (1 ∷ 0 ∷ []) $ join ! $ frame ! $ nothing ! $ nothing ! $ fjoin ! $ nothing ! $ fjoin ! $ nothing ! $ fjoin ! $ nothing ! $ fjoin ! $ frame ! $ owned ! Boolean (Is Boolean) (bool-makes 𝓤 H A W) r _ is $ done !
+      exits : (r : Bool) (w : Val) → r ≡ flightFits (c .mode) (g .una) (g .next) (take (g .outstanding) (padded (recs slots)))
+          → Is Boolean r (w ∷ []) → ent 𝓤 (⋆ 𝓤 H A (‵ (flft κ q) ∷ [])) (Post w)
+      exits r w e is =
+          qed W (‵ (flft κ q) ∷ []) ∵ suffices ! _ (ends-at 𝓤 H A f.ended stayed (f.clauses 𝓤 H A mem run) W
+          (((κ, tt), (q, tt), tt, x, at), tt) w r (tt, (tt, (tt, (tt, tt)))) (tt, (tt, (tt, (tt, tt))))) $ says ! e $
+          nothing ! $ move ! (1 ∷ 0 ∷ []) $ join ! $ frame ! $ nothing ! $ nothing ! $ fjoin ! $ nothing ! $ fjoin ! $ nothing ! $ fjoin ! $
+          nothing ! $ fjoin ! $ frame ! $ owned ! Boolean (Is Boolean) (bool-makes 𝓤 H A W) r _ is $ done !
 
-    -- n records are looked at
-    module _ (n : ℕ) (gn : n < 2 ^ 64) (counted : n ≡ length slots) (small : n ≤ 32) where
-      -- where the loop stands: a is carried over the records from i on
-      abbrev At : Type 0
-      At = (i : ℕ) × (a : ℕ) × (a < 2 ^ 64) × (i ≤ n) × (goal ≡ passed a (recs (behind i slots)))
+      -- n records are looked at
+      module _ (n : ℕ) (gn : n < 2 ^ 64) (counted : n ≡ length slots) (small : n ≤ 32) where
+        -- where the loop stands: a is carried over the records from i on
+        abbrev At : Type 0
+        At = (i : ℕ) × (a : ℕ) × (a < 2 ^ 64) × (i ≤ n) × (goal ≡ passed a (recs (behind i slots)))
 
-      abbrev Nearer : At → At → Type 0
-      Nearer u t = n - u .0 < n - t .0
+        abbrev Nearer : At → At → Type 0
+        Nearer u t = n - u .0 < n - t .0
 
-      Nearer-wf : WellFounded Nearer
-      Nearer-wf = InvImage·wf (λ (t : At). n - t .0) (Nat·lt-wfRel .wf)
+        Nearer-wf : WellFounded Nearer
+        Nearer-wf = InvImage·wf (λ (t : At). n - t .0) (Nat·lt-wfRel .wf)
 
-      module _ (𝓣 : Tables 𝓤 H) (known : Known (𝓣 .C)) (l₀ l₁ l₂ l₃ l₄ l₅ l₆ l₇ l₈ l₉ l₁₀ l₁₁ l₁₂ l₁₃ l₁₄ l₁₅ l₁₆ l₁₇ : ℕ) where
-        abbrev C : Calls 𝓤 H
-        C = 𝓣 .C
+        module _ (𝓣 : Tables 𝓤 H) (known : Known (𝓣 .C)) (l₀ l₁ l₂ l₃ l₄ l₅ l₆ l₇ l₈ l₉ l₁₀ l₁₁ l₁₂ l₁₃ l₁₄ l₁₅ l₁₆ l₁₇ : ℕ) where
+          abbrev C : Calls 𝓤 H
+          C = 𝓣 .C
 
-        abbrev Λ : Loops 𝓤 H
-        Λ = 𝓣 .Λ
+          abbrev Λ : Loops 𝓤 H
+          Λ = 𝓣 .Λ
 
-        abbrev word : Ty
-        word = tyInt w64
+          abbrev word : Ty
+          word = tyInt w64
 
-        abbrev slice : Ty
-        slice = sliceTy (tyRef (named 0) imm (pointee (R .written)))
+          abbrev slice : Ty
+          slice = sliceTy (tyRef (named 0) imm (pointee (R .written)))
 
-        abbrev En : Env 𝓤 H
-        En = envOf (code.function .locals) (l₀ ∷ l₁ ∷ l₂ ∷ l₃ ∷ l₄ ∷ l₅ ∷ l₆ ∷ l₇ ∷ l₈ ∷ l₉ ∷ l₁₀ ∷ l₁₁ ∷ l₁₂ ∷ l₁₃ ∷ l₁₄ ∷ l₁₅ ∷ l₁₆ ∷ l₁₇ ∷ [])
+          abbrev En : Env 𝓤 H
+          En = envOf (code.function .locals) (l₀ ∷ l₁ ∷ l₂ ∷ l₃ ∷ l₄ ∷ l₅ ∷ l₆ ∷ l₇ ∷ l₈ ∷ l₉ ∷ l₁₀ ∷ l₁₁ ∷ l₁₂ ∷ l₁₃ ∷ l₁₄ ∷ l₁₅ ∷ l₁₆ ∷ l₁₇
+              ∷ [])
 
-        abbrev Inv : At → List (Item 𝓤)
-        Inv t = ‵ Own ∷ ‵ (flft κ q) ∷ ‵ (froom (tyInt w32) l₁₇ 0) ∷ ‵ (fdies (tyInt w32) l₁₇) ∷ ‵ (froom tyPtr l₁₆ 0) ∷ ‵ (fdies tyPtr l₁₆) ∷ ‵ (froom tyPtr l₁₅ 0) ∷ ‵ (fdies tyPtr l₁₅) ∷ ‵ (froom word l₁₄ 0) ∷ ‵ (fdies word l₁₄) ∷ ‵ (froom tyBool l₁₃ 0) ∷ ‵ (fdies tyBool l₁₃) ∷ ‵ (froom word l₁₂ 0) ∷ ‵ (fdies word l₁₂) ∷ ‵ (froom T′.mir l₁₁ 0) ∷ ‵ (fdies T′.mir l₁₁) ∷ ‵ (froom word l₁₀ 0) ∷ ‵ (fdies word l₁₀) ∷ ‵ (froom (tyInt w32) l₉ 0) ∷ ‵ (fdies (tyInt w32) l₉) ∷ ‵ (fat fullShare word l₈ 0 (vint w64 (t .0))) ∷ ‵ (fdies word l₈) ∷ ‵ (fat fullShare word l₇ 0 (vint w64 (t .1))) ∷ ‵ (fdies word l₇) ∷ ‵ (fat fullShare word l₆ 0 (vint w64 n)) ∷ ‵ (fdies word l₆) ∷ ‵ (fat fullShare words-ty l₅ 0 (arrayVal us)) ∷ ‵ (fdies words-ty l₅) ∷ ‵ (fat fullShare flight-laws.mir l₄ 0 fv) ∷ ‵ (fdies flight-laws.mir l₄) ∷ ‵ (fat fullShare settings-laws.mir l₃ 0 sv) ∷ ‵ (fdies settings-laws.mir l₃) ∷ ‵ (fat fullShare words-ty l₂ 0 wv) ∷ ‵ (fdies words-ty l₂) ∷ ‵ (fat fullShare slice l₁ 0 s) ∷ ‵ (fdies slice l₁) ∷ ‵ (froom tyBool l₀ 0) ∷ ‵ (fdies tyBool l₀) ∷ []
+          abbrev Inv : At → List (Item 𝓤)
+          Inv t = ‵ Own ∷ ‵ (flft κ q) ∷ ‵ (froom (tyInt w32) l₁₇ 0) ∷ ‵ (fdies (tyInt w32) l₁₇) ∷ ‵ (froom tyPtr l₁₆ 0) ∷ ‵ (fdies tyPtr l₁₆)
+              ∷ ‵ (froom tyPtr l₁₅ 0) ∷ ‵ (fdies tyPtr l₁₅) ∷ ‵ (froom word l₁₄ 0) ∷ ‵ (fdies word l₁₄) ∷ ‵ (froom tyBool l₁₃ 0)
+              ∷ ‵ (fdies tyBool l₁₃) ∷ ‵ (froom word l₁₂ 0) ∷ ‵ (fdies word l₁₂) ∷ ‵ (froom T′.mir l₁₁ 0) ∷ ‵ (fdies T′.mir l₁₁)
+              ∷ ‵ (froom word l₁₀ 0) ∷ ‵ (fdies word l₁₀) ∷ ‵ (froom (tyInt w32) l₉ 0) ∷ ‵ (fdies (tyInt w32) l₉)
+              ∷ ‵ (fat fullShare word l₈ 0 (vint w64 (t .0))) ∷ ‵ (fdies word l₈) ∷ ‵ (fat fullShare word l₇ 0 (vint w64 (t .1)))
+              ∷ ‵ (fdies word l₇) ∷ ‵ (fat fullShare word l₆ 0 (vint w64 n)) ∷ ‵ (fdies word l₆)
+              ∷ ‵ (fat fullShare words-ty l₅ 0 (arrayVal us)) ∷ ‵ (fdies words-ty l₅) ∷ ‵ (fat fullShare flight-laws.mir l₄ 0 fv)
+              ∷ ‵ (fdies flight-laws.mir l₄) ∷ ‵ (fat fullShare settings-laws.mir l₃ 0 sv) ∷ ‵ (fdies settings-laws.mir l₃)
+              ∷ ‵ (fat fullShare words-ty l₂ 0 wv) ∷ ‵ (fdies words-ty l₂) ∷ ‵ (fat fullShare slice l₁ 0 s) ∷ ‵ (fdies slice l₁)
+              ∷ ‵ (froom tyBool l₀ 0) ∷ ‵ (fdies tyBool l₀) ∷ []
 
-        abbrev Turned : At → Out → SProp 𝓤
-        Turned t = afterTurn 𝓤 H (Below 𝓤 H A Nearer Inv t) (afterBlock 𝓤 H (afterSeq 𝓤 H (Wp 𝓤 H C Λ En body.t-6 (atReturn 𝓤 H En Post)) (atReturn 𝓤 H En Post)))
+          abbrev Turned : At → Out → SProp 𝓤
+          Turned t = afterTurn 𝓤 H (Below 𝓤 H A Nearer Inv t)
+              (afterBlock 𝓤 H (afterSeq 𝓤 H (Wp 𝓤 H C Λ En body.t-6 (atReturn 𝓤 H En Post)) (atReturn 𝓤 H En Post)))
 
-        turn : (t : At) (z : Bool) → ltb (t .0) n ≡ z → Sq W (Inv t) (runs C Λ En body.turn-1 (anyQ (Turned t)))
-        unfolding afterTurn
-        turn t true z =
-            assigns ! (bin ! (load ! (from ! (stop !)) (look ! 20 refl)) (load ! (from ! (stop !)) (look ! 24 refl)) tt) (from ! (stop !)) (init ! 10 refl (tt, tt)) $
-            rewrite ! 10 (λ (u : Bool). ‵ (fat fullShare tyBool l₁₃ 0 (vbool u))) z refl $ stays ! (load ! (from ! (stop !)) (look ! 10 refl)) $
-            -- the word, and its slot
-            assigns ! (bin ! (load ! (from ! (stop !)) (look ! 20 refl)) (lit ! tt) (record { fits = bytes-4 small-i })) (from ! (stop !)) (init ! 8 refl (tt, record { fits = bytes-4 small-i })) $
-            assigns ! (addr ! (from ! (stop !))) (from ! (stop !)) (init ! 6 refl (tt, tt)) $
-            assigns ! (bin ! (load ! (from ! (stop !)) (look ! 6 refl)) (load ! (from ! (stop !)) (look ! 8 refl)) tt) (from ! (stop !)) (init ! 4 refl (tt, tt)) $
-            assigns ! (of-opd ! (load ! (from ! (hop ! (look ! 4 refl) (stop !))) (look-in ! 26 (elem ! us (t .0) vunit (holds-length u32 ws us (gw .1 .1) ∙ gw .1 .0 .1) small-i (whole !))))) (from ! (stop !)) (init ! 2 refl (uint-lawful 𝓤 H A W w32 .typed (getD ws (t .0) 0) _ is-w .0)) $
-            assigns ! (of-opd ! (load ! (from ! (stop !)) (look ! 2 refl))) (from ! (stop !)) (init ! 18 refl (uint-lawful 𝓤 H A W w32 .typed (getD ws (t .0) 0) _ is-w .0)) $
-            nothing ! $ calls-fn ! (fmOf 𝓤 H (W .laws) 𝓣) reach-of.ended (reach-of.clauses 𝓤 H A mem run) (known .1) ((tt, tt, tt, (getD ws (t .0) 0, tt), (getD us (t .0) vunit ∷ [], tt)), tt) (λ k _. k ≡ reach (getD ws (t .0) 0))
-            (‵ ftrue) (plainly 𝓤 H A W (u32 ∷ []) (uint-makes 𝓤 H A W w32, tt) (getD ws (t .0) 0, tt) (getD us (t .0) vunit ∷ [], tt) (is-w, tt)) (λ k _. id⊢ 𝓤 _)
-            (and-then ! (load ! (from ! (stop !)) (look ! 19 refl)) (no-more !)) (λ k wk _ e-k is-k. drop ! $ drop ! $ land ! (from ! (stop !)) (init ! 16 refl (uint-lawful 𝓤 H A W w64 .typed k _ is-k .0)) $
-            -- the record
-            use1 W (‵ Own ⊛ ‵ Own) (shr-slice-copy 𝓤 H A W (named 0) κ R .twice (ref b o γ ys) (s ∷ [])) $ split ! $ move ! (2 ∷ 0 ∷ []) $ join ! $
-            calls-fn ! (fmOf 𝓤 H (W .laws) 𝓣) read.ended (read.clauses 𝓤 H A mem run) (known .2) (((κ, tt), (q, tt), tt, (ref b o γ ys, (k, tt)), (s ∷ [], (wk ∷ [], tt))), tt) (λ r _. r ≡ getD ys k blank)
-            (‵ (flft κ q) ⊛ ‵ Own) (lent-first 𝓤 H A W (usize ∷ []) (uint-makes 𝓤 H A W w64, tt) (k, tt) (wk ∷ [], tt) (is-k, tt) (ShrSlice (named 0) κ R) (ref b o γ ys) (s ∷ []) κ q) (λ r _. id⊢ 𝓤 _)
-            (and-then ! (load ! (from ! (stop !)) (look ! 34 refl)) (and-then ! (load ! (from ! (stop !)) (look ! 16 refl)) (no-more !))) (λ r v _ e-r is-r.
-            use1 W (‵ (flft κ q) ⊛ ‵ ftrue) (id⊢ 𝓤 _) $ split ! $ move ! (1 ∷ 2 ∷ []) $ drop ! $ drop ! $ move ! (1 ∷ 0 ∷ []) $
-            land ! (from ! (stop !)) (init ! 14 refl (typed 𝓤 H A W r is-r)) $
-            -- what is carried
-            nothing ! $ calls-fn ! (fmOf 𝓤 H (W .laws) 𝓣) next-of.ended (next-of.clauses 𝓤 H A mem run) (known .3) ((tt, tt, tt, (t .1, (r, (c, (g, tt)))), (vint w64 (t .1) ∷ [], (v ∷ [], (sv ∷ [], (fv ∷ [], tt))))), tt) (λ a _. a ≡ leastAfter (c .mode) (g .una) (g .next) (t .1) r)
-            (‵ ftrue) (plainly 𝓤 H A W (usize ∷ R ∷ settings-row.the-row ∷ flight-row.the-row ∷ []) (uint-makes 𝓤 H A W w64, (makes 𝓤 H A, (LL.makes settings-row.the-type settings-laws.the-plain 𝓤 H A, (LL.makes flight-row.the-type flight-laws.the-plain 𝓤 H A, tt)))) (t .1, (r, (c, (g, tt)))) (vint w64 (t .1) ∷ [], (v ∷ [], (sv ∷ [], (fv ∷ [], tt)))) ((refl, t .2), (is-r, (gs, (gf, tt))))) (λ a _. id⊢ 𝓤 _)
-            (and-then ! (load ! (from ! (stop !)) (look ! 23 refl)) (and-then ! (load ! (from ! (stop !)) (look ! 15 refl)) (and-then ! (load ! (from ! (stop !)) (look ! 31 refl)) (and-then ! (load ! (from ! (stop !)) (look ! 29 refl)) (no-more !))))) (λ a va _ e-a is-a. drop ! $ drop ! $ land ! (from ! (stop !)) (init ! 12 refl (uint-lawful 𝓤 H A W w64 .typed a _ is-a .0)) $
-            assigns ! (of-opd ! (load ! (from ! (stop !)) (look ! 12 refl))) (from ! (stop !)) (store ! 22 refl (uint-lawful 𝓤 H A W w64 .typed a _ is-a .0)) $ rewrite ! 22 (λ (u : Val). ‵ (fat fullShare (tyInt w64) l₇ 0 u)) (ap only (is-a .0)) refl $
-            assigns-last ! (bin ! (load ! (from ! (stop !)) (look ! 20 refl)) (lit ! tt) (record { fits = next })) (from ! (stop !)) (store ! 20 refl (tt, record { fits = next })) $
-            forget ! 2 refl $ forget ! 4 refl $ forget ! 6 refl $ forget ! 8 refl $ forget ! 10 refl $ forget ! 12 refl $ forget ! 14 refl $ forget ! 16 refl $ forget ! 18 refl $
-            again ! Nearer Inv t (
-              t .0 + 1,
-              a,
-              is-a .1,
-              add-one-le less,
-              passes-more (c .mode) (g .una) (g .next) (take sendSlots ys) slots (t .0) (getD ws (t .0) 0 % 256) (t .1) a goal r within (t .4) (slot-listed ws (g .outstanding) (t .0) (getD ws (t .0) 0 % 256) refl within) (reached ys (getD ws (t .0) 0) k r (room .0) e-k e-r) e-a,
-            ) (add-one-dec n (t .0) less))))
-          where
-            less : t .0 < n
-            less = ltb→lt (t .0) n (subst T (sym z) tt)
+          turn : (t : At) (z : Bool) → ltb (t .0) n ≡ z → Sq W (Inv t) (runs C Λ En body.turn-1 (anyQ (Turned t)))
+          unfolding afterTurn
+          turn t true z =
+              assigns ! (bin ! (load ! (from ! (stop !)) (look ! 20 refl)) (load ! (from ! (stop !)) (look ! 24 refl)) tt) (from ! (stop !))
+              (init ! 10 refl (tt, tt)) $
+              rewrite ! 10 (λ (u : Bool). ‵ (fat fullShare tyBool l₁₃ 0 (vbool u))) z refl $
+              stays ! (load ! (from ! (stop !)) (look ! 10 refl)) $
+              -- the word, and its slot
+              assigns ! (bin ! (load ! (from ! (stop !)) (look ! 20 refl)) (lit ! tt) (record { fits = bytes-4 small-i })) (from ! (stop !))
+              (init ! 8 refl (tt, record { fits = bytes-4 small-i })) $
+              assigns ! (addr ! (from ! (stop !))) (from ! (stop !)) (init ! 6 refl (tt, tt)) $
+              assigns ! (bin ! (load ! (from ! (stop !)) (look ! 6 refl)) (load ! (from ! (stop !)) (look ! 8 refl)) tt) (from ! (stop !))
+              (init ! 4 refl (tt, tt)) $
+              assigns ! (of-opd ! (load ! (from ! (hop ! (look ! 4 refl) (stop !)))
+              (look-in ! 26 (elem ! us (t .0) vunit (holds-length u32 ws us (gw .1 .1) ∙ gw .1 .0 .1) small-i (whole !)))))
+              (from ! (stop !)) (init ! 2 refl (uint-lawful 𝓤 H A W w32 .typed (getD ws (t .0) 0) _ is-w .0)) $
+              assigns ! (of-opd ! (load ! (from ! (stop !)) (look ! 2 refl))) (from ! (stop !))
+              (init ! 18 refl (uint-lawful 𝓤 H A W w32 .typed (getD ws (t .0) 0) _ is-w .0)) $
+              nothing ! $ calls-fn ! (fmOf 𝓤 H (W .laws) 𝓣) reach-of.ended (reach-of.clauses 𝓤 H A mem run) (known .1)
+              ((tt, tt, tt, (getD ws (t .0) 0, tt), (getD us (t .0) vunit ∷ [], tt)), tt) (λ k _. k ≡ reach (getD ws (t .0) 0))
+              (‵ ftrue) (plainly 𝓤 H A W (u32 ∷ []) (uint-makes 𝓤 H A W w32, tt) (getD ws (t .0) 0, tt) (getD us (t .0) vunit ∷ [], tt)
+              (is-w, tt)) (λ k _. id⊢ 𝓤 _)
+              (and-then ! (load ! (from ! (stop !)) (look ! 19 refl)) (no-more !))
+              (λ k wk _ e-k is-k. drop ! $ drop ! $ land ! (from ! (stop !)) (init ! 16 refl (uint-lawful 𝓤 H A W w64 .typed k _ is-k .0)) $
+              -- the record
+              use1 W (‵ Own ⊛ ‵ Own) (shr-slice-copy 𝓤 H A W (named 0) κ R .twice (ref b o γ ys) (s ∷ [])) $ split ! $ move ! (2 ∷ 0 ∷ []) $
+              join ! $
+              calls-fn ! (fmOf 𝓤 H (W .laws) 𝓣) read.ended (read.clauses 𝓤 H A mem run) (known .2)
+              (((κ, tt), (q, tt), tt, (ref b o γ ys, (k, tt)), (s ∷ [], (wk ∷ [], tt))), tt) (λ r _. r ≡ getD ys k blank)
+              (‵ (flft κ q) ⊛ ‵ Own) (lent-first 𝓤 H A W (usize ∷ []) (uint-makes 𝓤 H A W w64, tt) (k, tt) (wk ∷ [], tt) (is-k, tt)
+              (ShrSlice (named 0) κ R) (ref b o γ ys) (s ∷ []) κ q) (λ r _. id⊢ 𝓤 _)
+              (and-then ! (load ! (from ! (stop !)) (look ! 34 refl)) (and-then ! (load ! (from ! (stop !)) (look ! 16 refl)) (no-more !)))
+              (λ r v _ e-r is-r.
+              use1 W (‵ (flft κ q) ⊛ ‵ ftrue) (id⊢ 𝓤 _) $ split ! $ move ! (1 ∷ 2 ∷ []) $ drop ! $ drop ! $ move ! (1 ∷ 0 ∷ []) $
+              land ! (from ! (stop !)) (init ! 14 refl (typed 𝓤 H A W r is-r)) $
+              -- what is carried
+              nothing ! $ calls-fn ! (fmOf 𝓤 H (W .laws) 𝓣) next-of.ended (next-of.clauses 𝓤 H A mem run) (known .3)
+              ((tt, tt, tt, (t .1, (r, (c, (g, tt)))), (vint w64 (t .1) ∷ [], (v ∷ [], (sv ∷ [], (fv ∷ [], tt))))), tt)
+              (λ a _. a ≡ leastAfter (c .mode) (g .una) (g .next) (t .1) r)
+              (‵ ftrue) (plainly 𝓤 H A W (usize ∷ R ∷ settings-row.the-row ∷ flight-row.the-row ∷ []) (
+                uint-makes 𝓤 H A W w64,
+                (
+                  makes 𝓤 H A,
+                  (LL.makes settings-row.the-type settings-laws.the-plain 𝓤 H A, (LL.makes flight-row.the-type flight-laws.the-plain 𝓤 H A, tt)),
+                ),
+              )
+              (t .1, (r, (c, (g, tt)))) (vint w64 (t .1) ∷ [], (v ∷ [], (sv ∷ [], (fv ∷ [], tt)))) ((refl, t .2), (is-r, (gs, (gf, tt)))))
+              (λ a _. id⊢ 𝓤 _)
+              (and-then ! (load ! (from ! (stop !)) (look ! 23 refl))
+              (and-then ! (load ! (from ! (stop !)) (look ! 15 refl))
+              (and-then ! (load ! (from ! (stop !)) (look ! 31 refl)) (and-then ! (load ! (from ! (stop !)) (look ! 29 refl)) (no-more !)))))
+              (λ a va _ e-a is-a. drop ! $ drop ! $ land ! (from ! (stop !)) (init ! 12 refl (uint-lawful 𝓤 H A W w64 .typed a _ is-a .0)) $
+              assigns ! (of-opd ! (load ! (from ! (stop !)) (look ! 12 refl))) (from ! (stop !))
+              (store ! 22 refl (uint-lawful 𝓤 H A W w64 .typed a _ is-a .0)) $
+              rewrite ! 22 (λ (u : Val). ‵ (fat fullShare (tyInt w64) l₇ 0 u)) (ap only (is-a .0)) refl $
+              assigns-last ! (bin ! (load ! (from ! (stop !)) (look ! 20 refl)) (lit ! tt) (record { fits = next })) (from ! (stop !))
+              (store ! 20 refl (tt, record { fits = next })) $
+              forget ! 2 refl $ forget ! 4 refl $ forget ! 6 refl $ forget ! 8 refl $ forget ! 10 refl $ forget ! 12 refl $ forget ! 14 refl $
+              forget ! 16 refl $ forget ! 18 refl $
+              again ! Nearer Inv t (
+                t .0 + 1,
+                a,
+                is-a .1,
+                add-one-le less,
+                passes-more (c .mode) (g .una) (g .next) (take sendSlots ys) slots (t .0) (getD ws (t .0) 0 % 256) (t .1) a goal r within
+                    (t .4) (slot-listed ws (g .outstanding) (t .0) (getD ws (t .0) 0 % 256) refl within)
+                    (reached ys (getD ws (t .0) 0) k r (room .0) e-k e-r) e-a,
+              ) (add-one-dec n (t .0) less))))
+            where
+              less : t .0 < n
+              less = ltb→lt (t .0) n (subst T (sym z) tt)
 
-            within : t .0 < length slots
-            within = rw (← counted) less
+              within : t .0 < length slots
+              within = rw (← counted) less
 
-            small-i : t .0 < 32
-            small-i = lt-of-lt-of-le less small
+              small-i : t .0 < 32
+              small-i = lt-of-lt-of-le less small
 
-            is-w : Is u32 (getD ws (t .0) 0) (getD us (t .0) vunit ∷ [])
-            is-w = holds-at u32 ws us (t .0) 0 vunit (rw (gw .1 .0 .1) small-i) (gw .1 .1)
+              is-w : Is u32 (getD ws (t .0) 0) (getD us (t .0) vunit ∷ [])
+              is-w = holds-at u32 ws us (t .0) 0 vunit (rw (gw .1 .0 .1) small-i) (gw .1 .1)
 
-            next : t .0 + 1 < 2 ^ 64
-            next = lt-of-le-of-lt (add-one-le less) gn
-        turn t false z =
-            assigns ! (bin ! (load ! (from ! (stop !)) (look ! 20 refl)) (load ! (from ! (stop !)) (look ! 24 refl)) tt) (from ! (stop !)) (init ! 10 refl (tt, tt)) $
-            rewrite ! 10 (λ (u : Bool). ‵ (fat fullShare tyBool l₁₃ 0 (vbool u))) z refl $ leaves-loop ! (load ! (from ! (stop !)) (look ! 10 refl)) $ exec ! C Λ En body.t-6 (atRet En Post) $
-            nothing ! $ calls-fn ! (fmOf 𝓤 H (W .laws) 𝓣) flown.ended (flown.clauses 𝓤 H A mem run) (known .4) ((tt, tt, tt, (t .1, (g, tt)), (vint w64 (t .1) ∷ [], (fv ∷ [], tt))), tt) (λ r _. r ≡ flownBy (g .una) (g .next) (t .1))
-            (‵ ftrue) (plainly 𝓤 H A W (usize ∷ flight-row.the-row ∷ []) (uint-makes 𝓤 H A W w64, (LL.makes flight-row.the-type flight-laws.the-plain 𝓤 H A, tt)) (t .1, (g, tt)) (vint w64 (t .1) ∷ [], (fv ∷ [], tt)) ((refl, t .2), (gf, tt))) (λ r _. id⊢ 𝓤 _)
-            (and-then ! (load ! (from ! (stop !)) (look ! 23 refl)) (and-then ! (load ! (from ! (stop !)) (look ! 29 refl)) (no-more !))) (λ r v _ e-r is-r. drop ! $ drop ! $ land ! (from ! (stop !)) (init ! 36 refl (bool-lawful 𝓤 H A W .typed r _ is-r .0)) $
-            returns ! (look ! 36 refl) $ forget ! 10 refl $ forget ! 20 refl $ forget ! 22 refl $ forget ! 24 refl $ forget ! 26 refl $ forget ! 28 refl $ forget ! 30 refl $ forget ! 32 refl $ forget ! 34 refl $ forget ! 36 refl $
-            move ! (36 ∷ 37 ∷ []) $ free1 ! $ move ! (34 ∷ 35 ∷ []) $ free1 ! $ move ! (32 ∷ 33 ∷ []) $ free1 ! $ move ! (30 ∷ 31 ∷ []) $ free1 ! $ move ! (28 ∷ 29 ∷ []) $ free1 ! $ move ! (26 ∷ 27 ∷ []) $ free1 ! $ move ! (24 ∷ 25 ∷ []) $ free1 ! $ move ! (22 ∷ 23 ∷ []) $ free1 ! $ move ! (20 ∷ 21 ∷ []) $ free1 ! $ move ! (18 ∷ 19 ∷ []) $ free1 ! $ move ! (16 ∷ 17 ∷ []) $ free1 ! $ move ! (14 ∷ 15 ∷ []) $ free1 ! $ move ! (12 ∷ 13 ∷ []) $ free1 ! $ move ! (10 ∷ 11 ∷ []) $ free1 ! $ move ! (8 ∷ 9 ∷ []) $ free1 ! $ move ! (6 ∷ 7 ∷ []) $ free1 ! $ move ! (4 ∷ 5 ∷ []) $ free1 ! $ move ! (2 ∷ 3 ∷ []) $ free1 ! $ free0 ! $ keep ! (1 ∷ []) $
-            by ! (exits r v (e-r ∙ ap (flownBy (g .una) (g .next)) (sym (passes-all (c .mode) (g .una) (g .next) (take sendSlots ys) slots (t .0) (t .1) goal past (t .4))) ∙ flown-fits (c .mode) (g .una) (g .next) (recs slots) ∙ ap (flightFits (c .mode) (g .una) (g .next)) (sym (first-padded (take sendSlots ys) ws (g .outstanding) (gw .1 .0 .1)))) is-r))
-          where
-            past : length slots ≤ t .0
-            past = rw (← counted) (nltb→le (t .0) n (not-T (ltb (t .0) n) (λ h. subst T z h)))
+              next : t .0 + 1 < 2 ^ 64
+              next = lt-of-le-of-lt (add-one-le less) gn
+          turn t false z =
+              assigns ! (bin ! (load ! (from ! (stop !)) (look ! 20 refl)) (load ! (from ! (stop !)) (look ! 24 refl)) tt) (from ! (stop !))
+              (init ! 10 refl (tt, tt)) $
+              rewrite ! 10 (λ (u : Bool). ‵ (fat fullShare tyBool l₁₃ 0 (vbool u))) z refl $
+              leaves-loop ! (load ! (from ! (stop !)) (look ! 10 refl)) $ exec ! C Λ En body.t-6 (atRet En Post) $
+              nothing ! $ calls-fn ! (fmOf 𝓤 H (W .laws) 𝓣) flown.ended (flown.clauses 𝓤 H A mem run) (known .4)
+              ((tt, tt, tt, (t .1, (g, tt)), (vint w64 (t .1) ∷ [], (fv ∷ [], tt))), tt) (λ r _. r ≡ flownBy (g .una) (g .next) (t .1))
+              (‵ ftrue) (plainly 𝓤 H A W (usize ∷ flight-row.the-row ∷ [])
+              (uint-makes 𝓤 H A W w64, (LL.makes flight-row.the-type flight-laws.the-plain 𝓤 H A, tt)) (t .1, (g, tt))
+              (vint w64 (t .1) ∷ [], (fv ∷ [], tt)) ((refl, t .2), (gf, tt))) (λ r _. id⊢ 𝓤 _)
+              (and-then ! (load ! (from ! (stop !)) (look ! 23 refl)) (and-then ! (load ! (from ! (stop !)) (look ! 29 refl)) (no-more !)))
+              (λ r v _ e-r is-r. drop ! $ drop ! $ land ! (from ! (stop !)) (init ! 36 refl (bool-lawful 𝓤 H A W .typed r _ is-r .0)) $
+              returns ! (look ! 36 refl) $ forget ! 10 refl $ forget ! 20 refl $ forget ! 22 refl $ forget ! 24 refl $ forget ! 26 refl $
+              forget ! 28 refl $ forget ! 30 refl $ forget ! 32 refl $ forget ! 34 refl $ forget ! 36 refl $
+              move ! (36 ∷ 37 ∷ []) $ free1 ! $ move ! (34 ∷ 35 ∷ []) $ free1 ! $ move ! (32 ∷ 33 ∷ []) $ free1 ! $ move ! (30 ∷ 31 ∷ []) $
+              free1 ! $ move ! (28 ∷ 29 ∷ []) $ free1 ! $ move ! (26 ∷ 27 ∷ []) $ free1 ! $ move ! (24 ∷ 25 ∷ []) $ free1 ! $
+              move ! (22 ∷ 23 ∷ []) $ free1 ! $ move ! (20 ∷ 21 ∷ []) $ free1 ! $ move ! (18 ∷ 19 ∷ []) $ free1 ! $
+              move ! (16 ∷ 17 ∷ []) $ free1 ! $ move ! (14 ∷ 15 ∷ []) $ free1 ! $ move ! (12 ∷ 13 ∷ []) $ free1 ! $
+              move ! (10 ∷ 11 ∷ []) $ free1 ! $ move ! (8 ∷ 9 ∷ []) $ free1 ! $ move ! (6 ∷ 7 ∷ []) $ free1 ! $ move ! (4 ∷ 5 ∷ []) $
+              free1 ! $ move ! (2 ∷ 3 ∷ []) $ free1 ! $ free0 ! $ keep ! (1 ∷ []) $
+              by ! (exits r v (e-r ∙ ap (flownBy (g .una) (g .next))
+              (sym (passes-all (c .mode) (g .una) (g .next) (take sendSlots ys) slots (t .0) (t .1) goal past (t .4))) ∙ flown-fits
+              (c .mode) (g .una) (g .next) (recs slots) ∙ ap (flightFits (c .mode) (g .una) (g .next))
+              (sym (first-padded (take sendSlots ys) ws (g .outstanding) (gw .1 .0 .1)))) is-r))
+            where
+              past : length slots ≤ t .0
+              past = rw (← counted) (nltb→le (t .0) n (not-T (ltb (t .0) n) (λ h. subst T z h)))
 
-        turns : (t : At) → Sq W (Inv t) (runs C Λ En body.turn-1 (anyQ (Turned t)))
-        turns t = turn t (ltb (t .0) n) refl
+          turns : (t : At) → Sq W (Inv t) (runs C Λ En body.turn-1 (anyQ (Turned t)))
+          turns t = turn t (ltb (t .0) n) refl
 
-        -- the loop, with nothing looked at yet
-        looped : ent 𝓤 (⋆ 𝓤 H A (Inv (0, 0, lit< tt, zero-le, refl))) (Wp 𝓤 H C Λ En body.t-5 (atReturn 𝓤 H En Post))
-        looped =
-            qed W (Inv (0, 0, lit< tt, zero-le, refl)) ∵ exec ! C Λ En body.t-5 (atRet En Post) $ first ! $ blocks ! $ loops ! 𝓣 Nearer Nearer-wf Inv turns (0, 0, lit< tt, zero-le, refl)
+          -- the loop, with nothing looked at yet
+          looped : ent 𝓤 (⋆ 𝓤 H A (Inv (0, 0, lit< tt, zero-le, refl))) (Wp 𝓤 H C Λ En body.t-5 (atReturn 𝓤 H En Post))
+          looped =
+              qed W (Inv (0, 0, lit< tt, zero-le, refl)) ∵ exec ! C Λ En body.t-5 (atRet En Post) $ first ! $ blocks ! $
+              loops ! 𝓣 Nearer Nearer-wf Inv turns (0, 0, lit< tt, zero-le, refl)
 
-    walk : (𝓣 : Tables 𝓤 H) → Known (𝓣 .C) → ent 𝓤 (onEntry 𝓤 H A f.signature (κ, tt) (q, tt) x at) (WpFn 𝓤 H (𝓣 .C) (𝓣 .Λ) code.function (s ∷ wv ∷ sv ∷ fv ∷ []) Post)
-    walk 𝓣 known =
-        qed W ((‵ (flft κ q) ⊛ ‵ ftrue) ∷ ‵ (owns (ShrSlice (named 0) κ R ∷ Ws ∷ settings-row.the-row ∷ flight-row.the-row ∷ []) x at) ∷ []) ∵ enter ! (𝓣 .C) (𝓣 .Λ) code.function (s ∷ wv ∷ sv ∷ fv ∷ []) _ $
-        alloc1 ! (λ l₀. alloc1 ! (λ l₁. alloc1 ! (λ l₂. alloc1 ! (λ l₃. alloc1 ! (λ l₄. alloc1 ! (λ l₅. alloc1 ! (λ l₆. alloc1 ! (λ l₇. alloc1 ! (λ l₈. alloc1 ! (λ l₉. alloc1 ! (λ l₁₀. alloc1 ! (λ l₁₁. alloc1 ! (λ l₁₂. alloc1 ! (λ l₁₃. alloc1 ! (λ l₁₄. alloc1 ! (λ l₁₅. alloc1 ! (λ l₁₆. alloc1 ! (λ l₁₇. alloc0 ! $ params1 ! $
-        pass1 ! (init ! 32 refl (tt, (tt, (record { fits = room .0 }, tt)))) $ pass1 ! (init ! 30 refl (words-typed gw)) $ pass1 ! (init ! 28 refl (LL.lawful settings-row.the-type settings-laws.the-laws 𝓤 H A W .typed c (sv ∷ []) gs .0)) $ pass1 ! (init ! 26 refl (LL.lawful flight-row.the-type flight-laws.the-laws 𝓤 H A W .typed g (fv ∷ []) gf .0)) $ pass0 ! $
-        assigns ! (of-opd ! (load ! (from ! (stop !)) (look ! 30 refl))) (from ! (stop !)) (init ! 24 refl (words-typed gw)) $ rewrite ! 24 (λ (u : Val). ‵ (fat fullShare words-ty l₅ 0 u)) (ap only (gw .1 .0 .0)) refl $
-        nothing ! $ calls-fn ! (fmOf 𝓤 H (W .laws) 𝓣) count.ended (count.clauses 𝓤 H A mem run) (known .0) ((tt, tt, tt, (g, tt), (fv ∷ [], tt)), tt) (λ n _. (n ≡ min (g .outstanding) 32) × (n ≤ 32))
-        (‵ ftrue) (plainly 𝓤 H A W (flight-row.the-row ∷ []) (LL.makes flight-row.the-type flight-laws.the-plain 𝓤 H A, tt) (g, tt) (fv ∷ [], tt) (gf, tt)) (λ n _. id⊢ 𝓤 _)
-        (and-then ! (load ! (from ! (stop !)) (look ! 27 refl)) (no-more !)) (λ n v _ e-n is-n. drop ! $ drop ! $
-        land ! (from ! (stop !)) (init ! 22 refl (uint-lawful 𝓤 H A W w64 .typed n _ is-n .0)) $ rewrite ! 22 (λ (u : Val). ‵ (fat fullShare (tyInt w64) l₆ 0 u)) (ap only (is-n .0)) refl $
-        assigns ! (of-opd ! (lit ! tt)) (from ! (stop !)) (init ! 20 refl (tt, record { fits = lit< tt })) $
-        assigns ! (of-opd ! (lit ! tt)) (from ! (stop !)) (init ! 18 refl (tt, record { fits = lit< tt })) $
-        move ! (37 ∷ []) $ fsplit ! $ move ! (38 ∷ []) $ split ! $ keep ! (2 ∷ 0 ∷ 4 ∷ 5 ∷ 6 ∷ 7 ∷ 8 ∷ 9 ∷ 10 ∷ 11 ∷ 12 ∷ 13 ∷ 14 ∷ 15 ∷ 16 ∷ 17 ∷ 18 ∷ 19 ∷ 20 ∷ 21 ∷ 22 ∷ 23 ∷ 24 ∷ 25 ∷ 26 ∷ 27 ∷ 28 ∷ 29 ∷ 30 ∷ 31 ∷ 32 ∷ 33 ∷ 34 ∷ 35 ∷ 36 ∷ 37 ∷ 38 ∷ 39 ∷ []) $
-        by ! (looped n (is-n .1) (slots-counted ws (g .outstanding) n (gw .1 .0 .1) (e-n .0)) (e-n .1) 𝓣 known l₀ l₁ l₂ l₃ l₄ l₅ l₆ l₇ l₈ l₉ l₁₀ l₁₁ l₁₂ l₁₃ l₁₄ l₁₅ l₁₆ l₁₇))))))))))))))))))))
+      walk : (𝓣 : Tables 𝓤 H) → Known (𝓣 .C)
+          → ent 𝓤 (onEntry 𝓤 H A f.signature (κ, tt) (q, tt) x at) (WpFn 𝓤 H (𝓣 .C) (𝓣 .Λ) code.function (s ∷ wv ∷ sv ∷ fv ∷ []) Post)
+      walk 𝓣 known =
+          qed W ((‵ (flft κ q) ⊛ ‵ ftrue) ∷ ‵ (owns (ShrSlice (named 0) κ R ∷ Ws ∷ settings-row.the-row ∷ flight-row.the-row ∷ []) x at) ∷ [])
+          ∵ enter ! (𝓣 .C) (𝓣 .Λ) code.function (s ∷ wv ∷ sv ∷ fv ∷ []) _ $
+          alloc1 ! (λ l₀. alloc1 ! (λ l₁. alloc1 ! (λ l₂.
+          alloc1 ! (λ l₃. alloc1 ! (λ l₄. alloc1 ! (λ l₅.
+          alloc1 ! (λ l₆. alloc1 ! (λ l₇. alloc1 ! (λ l₈.
+          alloc1 ! (λ l₉. alloc1 ! (λ l₁₀. alloc1 ! (λ l₁₁.
+          alloc1 ! (λ l₁₂. alloc1 ! (λ l₁₃. alloc1 ! (λ l₁₄. alloc1 ! (λ l₁₅. alloc1 ! (λ l₁₆. alloc1 ! (λ l₁₇. alloc0 ! $ params1 ! $
+          pass1 ! (init ! 32 refl (tt, (tt, (record { fits = room .0 }, tt)))) $ pass1 ! (init ! 30 refl (words-typed gw)) $
+          pass1 ! (init ! 28 refl (LL.lawful settings-row.the-type settings-laws.the-laws 𝓤 H A W .typed c (sv ∷ []) gs .0)) $
+          pass1 ! (init ! 26 refl (LL.lawful flight-row.the-type flight-laws.the-laws 𝓤 H A W .typed g (fv ∷ []) gf .0)) $ pass0 ! $
+          assigns ! (of-opd ! (load ! (from ! (stop !)) (look ! 30 refl))) (from ! (stop !)) (init ! 24 refl (words-typed gw)) $
+          rewrite ! 24 (λ (u : Val). ‵ (fat fullShare words-ty l₅ 0 u)) (ap only (gw .1 .0 .0)) refl $
+          nothing ! $ calls-fn ! (fmOf 𝓤 H (W .laws) 𝓣) count.ended (count.clauses 𝓤 H A mem run) (known .0)
+          ((tt, tt, tt, (g, tt), (fv ∷ [], tt)), tt) (λ n _. (n ≡ min (g .outstanding) 32) × (n ≤ 32))
+          (‵ ftrue) (plainly 𝓤 H A W (flight-row.the-row ∷ []) (LL.makes flight-row.the-type flight-laws.the-plain 𝓤 H A, tt) (g, tt)
+          (fv ∷ [], tt) (gf, tt)) (λ n _. id⊢ 𝓤 _)
+          (and-then ! (load ! (from ! (stop !)) (look ! 27 refl)) (no-more !)) (λ n v _ e-n is-n. drop ! $ drop ! $
+          land ! (from ! (stop !)) (init ! 22 refl (uint-lawful 𝓤 H A W w64 .typed n _ is-n .0)) $
+          rewrite ! 22 (λ (u : Val). ‵ (fat fullShare (tyInt w64) l₆ 0 u)) (ap only (is-n .0)) refl $
+          assigns ! (of-opd ! (lit ! tt)) (from ! (stop !)) (init ! 20 refl (tt, record { fits = lit< tt })) $
+          assigns ! (of-opd ! (lit ! tt)) (from ! (stop !)) (init ! 18 refl (tt, record { fits = lit< tt })) $
+          move ! (37 ∷ []) $ fsplit ! $ move ! (38 ∷ []) $ split ! $
+          keep ! (2 ∷ 0 ∷ 4 ∷ 5 ∷ 6 ∷ 7 ∷ 8 ∷ 9 ∷ 10 ∷ 11 ∷ 12 ∷ 13 ∷ 14 ∷ 15 ∷ 16 ∷ 17 ∷ 18 ∷ 19 ∷ 20 ∷ 21 ∷ 22 ∷ 23 ∷ 24 ∷ 25 ∷ 26 ∷ 27
+          ∷ 28 ∷ 29 ∷ 30 ∷ 31 ∷ 32 ∷ 33 ∷ 34 ∷ 35 ∷ 36 ∷ 37 ∷ 38 ∷ 39 ∷ []) $
+          by ! (looped n (is-n .1) (slots-counted ws (g .outstanding) n (gw .1 .0 .1) (e-n .0)) (e-n .1) 𝓣 known l₀ l₁ l₂ l₃ l₄ l₅ l₆ l₇ l₈ l₉
+          l₁₀ l₁₁ l₁₂ l₁₃ l₁₄ l₁₅ l₁₆ l₁₇))))))))))))))))))))
 
   f-meets : (𝓣 : Tables 𝓤 H) → Known (𝓣 .C) → Meets 𝓤 H A f.signature (WpFn 𝓤 H (𝓣 .C) (𝓣 .Λ) code.function) (f.spec 𝓤 H A mem run)
-  f-meets 𝓣 known = walk-meets 𝓤 H A f.ended stayed W (goes-dropped 𝓤 H A W 1 (shrSliceOf (0 ∷ []) tt (plain (λ _. R))) yes (λ κs x f. refl), (goes-dropped 𝓤 H A W 1 (arrayOf (plain (λ _. u32)) 32) yes (λ κs x f. refl), (goes-dropped 𝓤 H A W 1 (plain (λ _. settings-row.the-row)) yes (λ κs x f. refl), (goes-dropped 𝓤 H A W 1 (plain (λ _. flight-row.the-row)) yes (λ κs x f. refl), tt))))
+  f-meets 𝓣 known = walk-meets 𝓤 H A f.ended stayed W (
+    goes-dropped 𝓤 H A W 1 (shrSliceOf (0 ∷ []) tt (plain (λ _. R))) yes (λ κs x f. refl),
+    (
+      goes-dropped 𝓤 H A W 1 (arrayOf (plain (λ _. u32)) 32) yes (λ κs x f. refl),
+      (
+        goes-dropped 𝓤 H A W 1 (plain (λ _. settings-row.the-row)) yes (λ κs x f. refl),
+        (goes-dropped 𝓤 H A W 1 (plain (λ _. flight-row.the-row)) yes (λ κs x f. refl), tt),
+      ),
+    ),
+  )
       (f.clauses 𝓤 H A mem run) (WpFn 𝓤 H (𝓣 .C) (𝓣 .Λ) code.function) (WpFn-mono 𝓤 H (W .laws) 𝓣 code.function)
-      (walked 𝓤 H A f.ended stayed (f.clauses 𝓤 H A mem run) (WpFn 𝓤 H (𝓣 .C) (𝓣 .Λ) code.function) (λ κs. (slice-vals, (array-vals (uint-vals w32), (LL.vals settings-row.the-type settings-laws.the-laws, (LL.vals flight-row.the-type flight-laws.the-laws, tt)))))
-      (λ κs. (shr-slice-tells (named 0) (κs .0) R, (array-tells u32 (uint-vals w32) (uint-tells w32) 32, (LL.tells settings-row.the-type settings-laws.the-laws, (LL.tells flight-row.the-type flight-laws.the-laws, tt)))))
-      (λ κs qs bounds a g are. via 𝓤 _ (fst∗ 𝓤 _ (emp 𝓤)) (walk (κs .0) (qs .0) (a .0 .ptr .0) (a .0 .ptr .1) (a .0 .name) (a .0 .now) (are .0 .0 .1) (a .1 .0) (only (array-vals (uint-vals w32) (a .1 .0))) (are .1 .0)
-      (a .1 .1 .0) (LL.val settings-row.the-type settings-laws.the-laws (a .1 .1 .0)) (are .1 .1 .0) (a .1 .1 .1 .0) (LL.val flight-row.the-type flight-laws.the-laws (a .1 .1 .1 .0)) (are .1 .1 .1 .0) 𝓣 known)))
+      (walked 𝓤 H A f.ended stayed (f.clauses 𝓤 H A mem run) (WpFn 𝓤 H (𝓣 .C) (𝓣 .Λ) code.function)
+      (λ κs. (
+        slice-vals,
+        (
+          array-vals (uint-vals w32),
+          (LL.vals settings-row.the-type settings-laws.the-laws, (LL.vals flight-row.the-type flight-laws.the-laws, tt)),
+        ),
+      ))
+      (λ κs. (
+        shr-slice-tells (named 0) (κs .0) R,
+        (
+          array-tells u32 (uint-vals w32) (uint-tells w32) 32,
+          (LL.tells settings-row.the-type settings-laws.the-laws, (LL.tells flight-row.the-type flight-laws.the-laws, tt)),
+        ),
+      ))
+      (λ κs qs bounds a g are. via 𝓤 _ (fst∗ 𝓤 _ (emp 𝓤))
+      (walk (κs .0) (qs .0) (a .0 .ptr .0) (a .0 .ptr .1) (a .0 .name) (a .0 .now) (are .0 .0 .1) (a .1 .0)
+      (only (array-vals (uint-vals w32) (a .1 .0))) (are .1 .0)
+      (a .1 .1 .0) (LL.val settings-row.the-type settings-laws.the-laws (a .1 .1 .0)) (are .1 .1 .0) (a .1 .1 .1 .0)
+      (LL.val flight-row.the-type flight-laws.the-laws (a .1 .1 .1 .0)) (are .1 .1 .1 .0) 𝓣 known)))
 
 pub fit-spec : {M : Type 1} → stated.statement M
 unfolding code.routine tablesOf
@@ -264,9 +529,14 @@ fit-spec 𝓤 H 𝓜 𝓖 𝓡 =
     entered 𝓤 H (tripleOf 𝓤 H (𝓖 .A) f.signature (f.spec 𝓤 H (𝓖 .A) (𝓜 .mem) (𝓡 .run)))
     (tables 𝓤 H 𝓜 𝓡 code.env .C) (tables 𝓤 H 𝓜 𝓡 code.env .Λ) #f code.function (code.unfolded 𝓤 H 𝓜 𝓡)
     (f-meets 𝓤 H (𝓖 .A) (givenOf 𝓤 H 𝓜 𝓖) (𝓜 .mem) (𝓡 .run) (tablesOf 𝓤 H 𝓜 (tables 𝓤 H 𝓜 𝓡 code.env)) (
-      cited 𝓤 H (tripleOf 𝓤 H (𝓖 .A) count.signature (count.spec 𝓤 H (𝓖 .A) (𝓜 .mem) (𝓡 .run))) 𝓜 𝓡 code.env count-def.name count-def.routine code.calls-checking·flights·looked-at (count-thm.met 𝓤 H 𝓜 𝓖 𝓡),
-      cited 𝓤 H (tripleOf 𝓤 H (𝓖 .A) reach-of.signature (reach-of.spec 𝓤 H (𝓖 .A) (𝓜 .mem) (𝓡 .run))) 𝓜 𝓡 code.env reach-of-def.name reach-of-def.routine code.calls-gathering·reach (reach-of-thm.met 𝓤 H 𝓜 𝓖 𝓡),
-      cited 𝓤 H (tripleOf 𝓤 H (𝓖 .A) read.signature (read.spec 𝓤 H (𝓖 .A) (𝓜 .mem) (𝓡 .run))) 𝓜 𝓡 code.env read-def.name read-def.routine code.calls-records·read (read-thm.met 𝓤 H 𝓜 𝓖 𝓡),
-      cited 𝓤 H (tripleOf 𝓤 H (𝓖 .A) next-of.signature (next-of.spec 𝓤 H (𝓖 .A) (𝓜 .mem) (𝓡 .run))) 𝓜 𝓡 code.env next-of-def.name next-of-def.routine code.calls-checking·flights·next-least (next-of-thm.met 𝓤 H 𝓜 𝓖 𝓡),
-      cited 𝓤 H (tripleOf 𝓤 H (𝓖 .A) flown.signature (flown.spec 𝓤 H (𝓖 .A) (𝓜 .mem) (𝓡 .run))) 𝓜 𝓡 code.env flown-def.name flown-def.routine code.calls-checking·flights·flown (flown-thm.met 𝓤 H 𝓜 𝓖 𝓡),
+      cited 𝓤 H (tripleOf 𝓤 H (𝓖 .A) count.signature (count.spec 𝓤 H (𝓖 .A) (𝓜 .mem) (𝓡 .run))) 𝓜 𝓡 code.env count-def.name
+          count-def.routine code.calls-checking·flights·looked-at (count-thm.met 𝓤 H 𝓜 𝓖 𝓡),
+      cited 𝓤 H (tripleOf 𝓤 H (𝓖 .A) reach-of.signature (reach-of.spec 𝓤 H (𝓖 .A) (𝓜 .mem) (𝓡 .run))) 𝓜 𝓡 code.env reach-of-def.name
+          reach-of-def.routine code.calls-gathering·reach (reach-of-thm.met 𝓤 H 𝓜 𝓖 𝓡),
+      cited 𝓤 H (tripleOf 𝓤 H (𝓖 .A) read.signature (read.spec 𝓤 H (𝓖 .A) (𝓜 .mem) (𝓡 .run))) 𝓜 𝓡 code.env read-def.name read-def.routine
+          code.calls-records·read (read-thm.met 𝓤 H 𝓜 𝓖 𝓡),
+      cited 𝓤 H (tripleOf 𝓤 H (𝓖 .A) next-of.signature (next-of.spec 𝓤 H (𝓖 .A) (𝓜 .mem) (𝓡 .run))) 𝓜 𝓡 code.env next-of-def.name
+          next-of-def.routine code.calls-checking·flights·next-least (next-of-thm.met 𝓤 H 𝓜 𝓖 𝓡),
+      cited 𝓤 H (tripleOf 𝓤 H (𝓖 .A) flown.signature (flown.spec 𝓤 H (𝓖 .A) (𝓜 .mem) (𝓡 .run))) 𝓜 𝓡 code.env flown-def.name
+          flown-def.routine code.calls-checking·flights·flown (flown-thm.met 𝓤 H 𝓜 𝓖 𝓡),
     ))

@@ -1,9 +1,170 @@
--- `scatter` meets its contract: a walk of its MIR, by hand, with a loop. Each turn reads a word and a record in place (`Elements.antt`), and calls `slot_of` and `replace`.
--- The loop's invariant: what is left to put back, put into the table as it is now, gives the table that is promised.
+-- `scatter` meets its contract: a walk of its MIR, by hand, with a loop. Each turn reads a word and a record in place (`Elements.antt`),
+-- and calls `slot_of` and `replace`. The loop's invariant: what is left to put back, put into the table as it is now, gives the table that
+-- is promised.
 -- Assumes nothing.
-use Rattle.records.proofs.Walk.{_≡_, refl, sym, ap, subst, ℕ, _<_, _≤_, _^_, _+_, _-_, List, [], _∷_, length, getD, set, length-set, URA, fullShare, named, w32, w64, tyPtr, tyBool, tyInt, Val, vunit, vint, vbool, SProp, ent, emp, via, fst∗, id⊢, Lft, GName, Share, Fml, ftrue, fat, flft, Memory, Routine, Heap, Calls, Loops, WpFn, Tables, Atoms, Fun, givenOf, tables, tablesOf}
-use Rattle.records.proofs.Walk.{Given, Item, ‵, some, later, _⊛_, ⋆, _$_, _∵_, !, qed, by, move, keep, drop, use1, use2, use3, split, join, pick, rewrite, fsplit, fjoin, feqL, feqI, suffices, frame, await, done, agg, whole, sub, look-in, store-in, look, init, store, forget, stop, hop, fld, from, load, lit, unit-lit, of-opd, un, bin, addr, and-then, no-more, assigns, assigns-last, first, returns, enter, alloc1, alloc0, params1, pass1, pass0, free1, free0, land, exec}
-use Rattle.records.proofs.Walk.{WpFn-mono, fmOf, owns, Is, uint-vals, uint-tells, uint-makes, RefT, sliceVal, MutSlice, ShrSlice, Room, slice-vals, mut-slice-tells, shr-slice-tells, u32, usize, nothing, owned, only, Vals, onEntry, Triple, Meets, tripleOf, entered, cited, says, Stays, stay-slice, goes-slice, walkOf, ends-at, walked, walk-meets, yes}
+use Rattle.records.proofs.Walk.{
+  _≡_,
+  refl,
+  sym,
+  ap,
+  subst,
+  ℕ,
+  _<_,
+  _≤_,
+  _^_,
+  _+_,
+  _-_,
+  List,
+  [],
+  _∷_,
+  length,
+  getD,
+  set,
+  length-set,
+  URA,
+  fullShare,
+  named,
+  w32,
+  w64,
+  tyPtr,
+  tyBool,
+  tyInt,
+  Val,
+  vunit,
+  vint,
+  vbool,
+  SProp,
+  ent,
+  emp,
+  via,
+  fst∗,
+  id⊢,
+  Lft,
+  GName,
+  Share,
+  Fml,
+  ftrue,
+  fat,
+  flft,
+  Memory,
+  Routine,
+  Heap,
+  Calls,
+  Loops,
+  WpFn,
+  Tables,
+  Atoms,
+  Fun,
+  givenOf,
+  tables,
+  tablesOf,
+}
+use Rattle.records.proofs.Walk.{
+  Given,
+  Item,
+  ‵,
+  some,
+  later,
+  _⊛_,
+  ⋆,
+  _$_,
+  _∵_,
+  !,
+  qed,
+  by,
+  move,
+  keep,
+  drop,
+  use1,
+  use2,
+  use3,
+  split,
+  join,
+  pick,
+  rewrite,
+  fsplit,
+  fjoin,
+  feqL,
+  feqI,
+  suffices,
+  frame,
+  await,
+  done,
+  agg,
+  whole,
+  sub,
+  look-in,
+  store-in,
+  look,
+  init,
+  store,
+  forget,
+  stop,
+  hop,
+  fld,
+  from,
+  load,
+  lit,
+  unit-lit,
+  of-opd,
+  un,
+  bin,
+  addr,
+  and-then,
+  no-more,
+  assigns,
+  assigns-last,
+  first,
+  returns,
+  enter,
+  alloc1,
+  alloc0,
+  params1,
+  pass1,
+  pass0,
+  free1,
+  free0,
+  land,
+  exec,
+}
+use Rattle.records.proofs.Walk.{
+  WpFn-mono,
+  fmOf,
+  owns,
+  Is,
+  uint-vals,
+  uint-tells,
+  uint-makes,
+  RefT,
+  sliceVal,
+  MutSlice,
+  ShrSlice,
+  Room,
+  slice-vals,
+  mut-slice-tells,
+  shr-slice-tells,
+  u32,
+  usize,
+  nothing,
+  owned,
+  only,
+  Vals,
+  onEntry,
+  Triple,
+  Meets,
+  tripleOf,
+  entered,
+  cited,
+  says,
+  Stays,
+  stay-slice,
+  goes-slice,
+  walkOf,
+  ends-at,
+  walked,
+  walk-meets,
+  yes,
+}
 use Prim.Native.Nat.{zero-le, _%_, min}
 use native.Mathlib.Nat.{lt-of-le-of-lt, lt-of-lt-of-le}
 use native.Mathlib.Numerals.{add-one-le, add-one-dec}
@@ -70,7 +231,9 @@ module _ {M : Type 1} (𝓤 : URA M) (H : Heap 𝓤) (A : Atoms 𝓤) (W : Given
       × Triple 𝓤 (C slot-of-def.name) (tripleOf 𝓤 H A slot-of.signature (slot-of.spec 𝓤 H A mem run))
       × Triple 𝓤 (C replace-def.name) (tripleOf 𝓤 H A replace.signature (replace.spec 𝓤 H A mem run))
 
-  module _ (κ : Lft) (q : Share) (b o : ℕ) (γ : GName) (ys : List Record) (room : Room R (length ys)) (ws : List ℕ) (wv : Val) (gw : Is Ws ws (wv ∷ [])) (lent : ℕ) (nv : Val) (gv : Is usize lent (nv ∷ [])) (records : List Record) (rv : Val) (gr : Is Rs records (rv ∷ [])) where
+  module _ (κ : Lft) (q : Share) (b o : ℕ) (γ : GName) (ys : List Record) (room : Room R (length ys)) (ws : List ℕ) (wv : Val)
+      (gw : Is Ws ws (wv ∷ [])) (lent : ℕ) (nv : Val) (gv : Is usize lent (nv ∷ [])) (records : List Record) (rv : Val)
+      (gr : Is Rs records (rv ∷ [])) where
     abbrev x : RefT (List Record) × (List ℕ × (ℕ × (List Record × Unit {0})))
     x = (ref b o γ ys, (ws, (lent, (records, tt))))
 
@@ -104,15 +267,29 @@ module _ {M : Type 1} (𝓤 : URA M) (H : Heap 𝓤) (A : Atoms 𝓤) (W : Given
     words-typed : {w : Val} → Is Ws ws (w ∷ []) → T (hasTy words-ty w) × WT w
     words-typed {w} g = array-typed u32 (uint-lawful 𝓤 H A W w32 .typed) 32 ws (w ∷ []) g .0
 
-    exits : (zs : List Record) → zs ≡ scattered ys slots records → length zs ≡ length ys → ent 𝓤 (⋆ 𝓤 H A (‵ (Own κ γ zs (length zs)) ∷ ‵ (flft κ q) ∷ [])) (Post vunit)
+    exits : (zs : List Record) → zs ≡ scattered ys slots records → length zs ≡ length ys
+        → ent 𝓤 (⋆ 𝓤 H A (‵ (Own κ γ zs (length zs)) ∷ ‵ (flft κ q) ∷ [])) (Post vunit)
     exits zs e e-len =
-        qed W (‵ (Own κ γ zs (length zs)) ∷ ‵ (flft κ q) ∷ []) ∵ suffices ! _ (ends-at 𝓤 H A f.ended stayed (f.clauses 𝓤 H A mem run) W (((κ, tt), (q, tt), tt, x, at), tt) vunit tt (zs, (tt, (tt, (tt, tt)))) (e-len, (tt, (tt, (tt, tt))))) $ says ! e $
+        qed W (‵ (Own κ γ zs (length zs)) ∷ ‵ (flft κ q) ∷ []) ∵
+        suffices ! _ (ends-at 𝓤 H A f.ended stayed (f.clauses 𝓤 H A mem run) W (((κ, tt), (q, tt), tt, x, at), tt) vunit tt
+        (zs, (tt, (tt, (tt, tt)))) (e-len, (tt, (tt, (tt, tt))))) $ says ! e $
         nothing ! $ move ! (2 ∷ 0 ∷ []) $ join ! $ frame ! $ rewrite ! 0 (λ (m : ℕ). ‵ (Own κ γ zs m)) e-len refl $
-        nothing ! $ nothing ! $ fjoin ! $ nothing ! $ fjoin ! $ nothing ! $ fjoin ! $ move ! (1 ∷ 0 ∷ []) $ fjoin ! $ frame ! $ feqI ! (List Val) (vunit ∷ []) (vunit ∷ []) refl $ done !
+        nothing ! $ nothing ! $ fjoin ! $ nothing ! $ fjoin ! $ nothing ! $ fjoin ! $ move ! (1 ∷ 0 ∷ []) $ fjoin ! $ frame ! $
+        feqI ! (List Val) (vunit ∷ []) (vunit ∷ []) refl $ done !
 
     -- what `replace` is called at, with the table lent again for ν under δ
-    abbrev to-replace : ℕ → GName → List Record → ℕ → Val → Record → Val → tripleOf 𝓤 H A replace.signature (replace.spec 𝓤 H A mem run) .Ghost
-    to-replace ν δ zs k wk r w = (((ν ∷ [], tt), (fullShare, tt), tt, (ref b o δ zs, (k, (r, tt))), (s (length zs) ∷ [], (wk ∷ [], (w ∷ [], tt)))), tt)
+    abbrev to-replace : ℕ → GName → List Record → ℕ → Val → Record → Val
+        → tripleOf 𝓤 H A replace.signature (replace.spec 𝓤 H A mem run) .Ghost
+    to-replace ν δ zs k wk r w = (
+      (
+        (ν ∷ [], tt),
+        (fullShare, tt),
+        tt,
+        (ref b o δ zs, (k, (r, tt))),
+        (s (length zs) ∷ [], (wk ∷ [], (w ∷ [], tt))),
+      ),
+      tt,
+    )
 
     -- n records are put back
     module _ (n : ℕ) (gn : n < 2 ^ 64) (counted : n ≡ length slots) (small : n ≤ 32) where
@@ -126,7 +303,8 @@ module _ {M : Type 1} (𝓤 : URA M) (H : Heap 𝓤) (A : Atoms 𝓤) (W : Given
       Nearer-wf : WellFounded Nearer
       Nearer-wf = InvImage·wf (λ (t : At). n - t .0) (Nat·lt-wfRel .wf)
 
-      module _ (𝓣 : Tables 𝓤 H) (known : Known (𝓣 .C)) (l₀ l₁ l₂ l₃ l₄ l₅ l₆ l₇ l₈ l₉ l₁₀ l₁₁ l₁₂ l₁₃ l₁₄ l₁₅ l₁₆ l₁₇ l₁₈ l₁₉ l₂₀ l₂₁ l₂₂ : ℕ) where
+      module _ (𝓣 : Tables 𝓤 H) (known : Known (𝓣 .C))
+          (l₀ l₁ l₂ l₃ l₄ l₅ l₆ l₇ l₈ l₉ l₁₀ l₁₁ l₁₂ l₁₃ l₁₄ l₁₅ l₁₆ l₁₇ l₁₈ l₁₉ l₂₀ l₂₁ l₂₂ : ℕ) where
         abbrev C : Calls 𝓤 H
         C = 𝓣 .C
 
@@ -146,50 +324,103 @@ module _ {M : Type 1} (𝓤 : URA M) (H : Heap 𝓤) (A : Atoms 𝓤) (W : Given
         lent-ty = tyRef erased mut (pointee (R .written))
 
         abbrev En : Env 𝓤 H
-        En = envOf (code.function .locals) (l₀ ∷ l₁ ∷ l₂ ∷ l₃ ∷ l₄ ∷ l₅ ∷ l₆ ∷ l₇ ∷ l₈ ∷ l₉ ∷ l₁₀ ∷ l₁₁ ∷ l₁₂ ∷ l₁₃ ∷ l₁₄ ∷ l₁₅ ∷ l₁₆ ∷ l₁₇ ∷ l₁₈ ∷ l₁₉ ∷ l₂₀ ∷ l₂₁ ∷ l₂₂ ∷ [])
+        En = envOf (code.function .locals) (l₀ ∷ l₁ ∷ l₂ ∷ l₃ ∷ l₄ ∷ l₅ ∷ l₆ ∷ l₇ ∷ l₈ ∷ l₉ ∷ l₁₀ ∷ l₁₁ ∷ l₁₂ ∷ l₁₃ ∷ l₁₄ ∷ l₁₅ ∷ l₁₆ ∷ l₁₇
+            ∷ l₁₈ ∷ l₁₉ ∷ l₂₀ ∷ l₂₁ ∷ l₂₂ ∷ [])
 
         abbrev Inv : At → List (Item 𝓤)
-        Inv t = ‵ (Own κ γ (t .1) (length (t .1))) ∷ ‵ (flft κ q) ∷ ‵ (froom (sliceTy lent-ty) l₂₂ 0) ∷ ‵ (fdies (sliceTy lent-ty) l₂₂) ∷ ‵ (froom lent-ty l₂₁ 0) ∷ ‵ (fdies lent-ty l₂₁) ∷ ‵ (froom tyUnit l₂₀ 0) ∷ ‵ (fdies tyUnit l₂₀) ∷ ‵ (froom T′.mir l₁₉ 0) ∷ ‵ (fdies T′.mir l₁₉) ∷ ‵ (froom tyPtr l₁₈ 0) ∷ ‵ (fdies tyPtr l₁₈) ∷ ‵ (froom tyPtr l₁₇ 0) ∷ ‵ (fdies tyPtr l₁₇) ∷ ‵ (froom (tyInt w32) l₁₆ 0) ∷ ‵ (fdies (tyInt w32) l₁₆) ∷ ‵ (froom tyPtr l₁₅ 0) ∷ ‵ (fdies tyPtr l₁₅) ∷ ‵ (froom tyPtr l₁₄ 0) ∷ ‵ (fdies tyPtr l₁₄) ∷ ‵ (froom word l₁₃ 0) ∷ ‵ (fdies word l₁₃) ∷ ‵ (froom tyBool l₁₂ 0) ∷ ‵ (fdies tyBool l₁₂) ∷ ‵ (froom T′.mir l₁₁ 0) ∷ ‵ (fdies T′.mir l₁₁) ∷ ‵ (froom word l₁₀ 0) ∷ ‵ (fdies word l₁₀) ∷ ‵ (froom (tyInt w32) l₉ 0) ∷ ‵ (fdies (tyInt w32) l₉) ∷ ‵ (fat fullShare word l₈ 0 (vint w64 (t .0))) ∷ ‵ (fdies word l₈) ∷ ‵ (fat fullShare word l₇ 0 (vint w64 n)) ∷ ‵ (fdies word l₇) ∷ ‵ (fat fullShare recs l₆ 0 (arrayVal (gr .0))) ∷ ‵ (fdies recs l₆) ∷ ‵ (fat fullShare words-ty l₅ 0 (arrayVal us)) ∷ ‵ (fdies words-ty l₅) ∷ ‵ (fat fullShare recs l₄ 0 rv) ∷ ‵ (fdies recs l₄) ∷ ‵ (fat fullShare word l₃ 0 nv) ∷ ‵ (fdies word l₃) ∷ ‵ (fat fullShare words-ty l₂ 0 wv) ∷ ‵ (fdies words-ty l₂) ∷ ‵ (fat fullShare slice l₁ 0 (s (length (t .1)))) ∷ ‵ (fdies slice l₁) ∷ ‵ (froom tyUnit l₀ 0) ∷ ‵ (fdies tyUnit l₀) ∷ []
+        Inv t = ‵ (Own κ γ (t .1) (length (t .1))) ∷ ‵ (flft κ q) ∷ ‵ (froom (sliceTy lent-ty) l₂₂ 0) ∷ ‵ (fdies (sliceTy lent-ty) l₂₂)
+            ∷ ‵ (froom lent-ty l₂₁ 0) ∷ ‵ (fdies lent-ty l₂₁) ∷ ‵ (froom tyUnit l₂₀ 0) ∷ ‵ (fdies tyUnit l₂₀) ∷ ‵ (froom T′.mir l₁₉ 0)
+            ∷ ‵ (fdies T′.mir l₁₉) ∷ ‵ (froom tyPtr l₁₈ 0) ∷ ‵ (fdies tyPtr l₁₈) ∷ ‵ (froom tyPtr l₁₇ 0) ∷ ‵ (fdies tyPtr l₁₇)
+            ∷ ‵ (froom (tyInt w32) l₁₆ 0) ∷ ‵ (fdies (tyInt w32) l₁₆) ∷ ‵ (froom tyPtr l₁₅ 0) ∷ ‵ (fdies tyPtr l₁₅) ∷ ‵ (froom tyPtr l₁₄ 0)
+            ∷ ‵ (fdies tyPtr l₁₄) ∷ ‵ (froom word l₁₃ 0) ∷ ‵ (fdies word l₁₃) ∷ ‵ (froom tyBool l₁₂ 0) ∷ ‵ (fdies tyBool l₁₂)
+            ∷ ‵ (froom T′.mir l₁₁ 0) ∷ ‵ (fdies T′.mir l₁₁) ∷ ‵ (froom word l₁₀ 0) ∷ ‵ (fdies word l₁₀) ∷ ‵ (froom (tyInt w32) l₉ 0)
+            ∷ ‵ (fdies (tyInt w32) l₉) ∷ ‵ (fat fullShare word l₈ 0 (vint w64 (t .0))) ∷ ‵ (fdies word l₈)
+            ∷ ‵ (fat fullShare word l₇ 0 (vint w64 n)) ∷ ‵ (fdies word l₇) ∷ ‵ (fat fullShare recs l₆ 0 (arrayVal (gr .0)))
+            ∷ ‵ (fdies recs l₆) ∷ ‵ (fat fullShare words-ty l₅ 0 (arrayVal us)) ∷ ‵ (fdies words-ty l₅) ∷ ‵ (fat fullShare recs l₄ 0 rv)
+            ∷ ‵ (fdies recs l₄) ∷ ‵ (fat fullShare word l₃ 0 nv) ∷ ‵ (fdies word l₃) ∷ ‵ (fat fullShare words-ty l₂ 0 wv)
+            ∷ ‵ (fdies words-ty l₂) ∷ ‵ (fat fullShare slice l₁ 0 (s (length (t .1)))) ∷ ‵ (fdies slice l₁) ∷ ‵ (froom tyUnit l₀ 0)
+            ∷ ‵ (fdies tyUnit l₀) ∷ []
 
         abbrev Turned : At → Out → SProp 𝓤
-        Turned t = afterTurn 𝓤 H (Below 𝓤 H A Nearer Inv t) (afterBlock 𝓤 H (afterSeq 𝓤 H (Wp 𝓤 H C Λ En body.t-6 (atReturn 𝓤 H En Post)) (atReturn 𝓤 H En Post)))
+        Turned t = afterTurn 𝓤 H (Below 𝓤 H A Nearer Inv t)
+            (afterBlock 𝓤 H (afterSeq 𝓤 H (Wp 𝓤 H C Λ En body.t-6 (atReturn 𝓤 H En Post)) (atReturn 𝓤 H En Post)))
 
         turn : (t : At) (z : Bool) → ltb (t .0) n ≡ z → Sq W (Inv t) (runs C Λ En body.turn-1 (anyQ (Turned t)))
         unfolding afterTurn
         turn t true z =
-            assigns ! (bin ! (load ! (from ! (stop !)) (look ! 30 refl)) (load ! (from ! (stop !)) (look ! 32 refl)) tt) (from ! (stop !)) (init ! 22 refl (tt, tt)) $
-            rewrite ! 22 (λ (u : Bool). ‵ (fat fullShare tyBool l₁₂ 0 (vbool u))) z refl $ stays ! (load ! (from ! (stop !)) (look ! 22 refl)) $
+            assigns ! (bin ! (load ! (from ! (stop !)) (look ! 30 refl)) (load ! (from ! (stop !)) (look ! 32 refl)) tt) (from ! (stop !))
+            (init ! 22 refl (tt, tt)) $
+            rewrite ! 22 (λ (u : Bool). ‵ (fat fullShare tyBool l₁₂ 0 (vbool u))) z refl $
+            stays ! (load ! (from ! (stop !)) (look ! 22 refl)) $
             -- the word, and its slot
-            assigns ! (bin ! (load ! (from ! (stop !)) (look ! 30 refl)) (lit ! tt) (record { fits = bytes-4 small-i })) (from ! (stop !)) (init ! 20 refl (tt, record { fits = bytes-4 small-i })) $
+            assigns ! (bin ! (load ! (from ! (stop !)) (look ! 30 refl)) (lit ! tt) (record { fits = bytes-4 small-i })) (from ! (stop !))
+            (init ! 20 refl (tt, record { fits = bytes-4 small-i })) $
             assigns ! (addr ! (from ! (stop !))) (from ! (stop !)) (init ! 18 refl (tt, tt)) $
-            assigns ! (bin ! (load ! (from ! (stop !)) (look ! 18 refl)) (load ! (from ! (stop !)) (look ! 20 refl)) tt) (from ! (stop !)) (init ! 16 refl (tt, tt)) $
-            assigns ! (of-opd ! (load ! (from ! (hop ! (look ! 16 refl) (stop !))) (look-in ! 36 (elem ! us (t .0) vunit (holds-length u32 ws us (gw .1 .1) ∙ gw .1 .0 .1) small-i (whole !))))) (from ! (stop !)) (init ! 14 refl (uint-lawful 𝓤 H A W w32 .typed (getD ws (t .0) 0) _ is-w .0)) $
-            assigns ! (of-opd ! (load ! (from ! (stop !)) (look ! 14 refl))) (from ! (stop !)) (init ! 28 refl (uint-lawful 𝓤 H A W w32 .typed (getD ws (t .0) 0) _ is-w .0)) $
-            nothing ! $ calls-fn ! (fmOf 𝓤 H (W .laws) 𝓣) slot-of.ended (slot-of.clauses 𝓤 H A mem run) (known .1) ((tt, tt, tt, (getD ws (t .0) 0, tt), (getD us (t .0) vunit ∷ [], tt)), tt) (λ k _. k ≡ getD ws (t .0) 0 % 256)
-            (‵ ftrue) (plainly 𝓤 H A W (u32 ∷ []) (uint-makes 𝓤 H A W w32, tt) (getD ws (t .0) 0, tt) (getD us (t .0) vunit ∷ [], tt) (is-w, tt)) (λ k _. id⊢ 𝓤 _)
-            (and-then ! (load ! (from ! (stop !)) (look ! 29 refl)) (no-more !)) (λ k wk _ e-k is-k. drop ! $ drop ! $ land ! (from ! (stop !)) (init ! 26 refl (uint-lawful 𝓤 H A W w64 .typed k _ is-k .0)) $
+            assigns ! (bin ! (load ! (from ! (stop !)) (look ! 18 refl)) (load ! (from ! (stop !)) (look ! 20 refl)) tt) (from ! (stop !))
+            (init ! 16 refl (tt, tt)) $
+            assigns ! (of-opd ! (load ! (from ! (hop ! (look ! 16 refl) (stop !)))
+            (look-in ! 36 (elem ! us (t .0) vunit (holds-length u32 ws us (gw .1 .1) ∙ gw .1 .0 .1) small-i (whole !)))))
+            (from ! (stop !)) (init ! 14 refl (uint-lawful 𝓤 H A W w32 .typed (getD ws (t .0) 0) _ is-w .0)) $
+            assigns ! (of-opd ! (load ! (from ! (stop !)) (look ! 14 refl))) (from ! (stop !))
+            (init ! 28 refl (uint-lawful 𝓤 H A W w32 .typed (getD ws (t .0) 0) _ is-w .0)) $
+            nothing ! $ calls-fn ! (fmOf 𝓤 H (W .laws) 𝓣) slot-of.ended (slot-of.clauses 𝓤 H A mem run) (known .1)
+            ((tt, tt, tt, (getD ws (t .0) 0, tt), (getD us (t .0) vunit ∷ [], tt)), tt) (λ k _. k ≡ getD ws (t .0) 0 % 256)
+            (‵ ftrue) (plainly 𝓤 H A W (u32 ∷ []) (uint-makes 𝓤 H A W w32, tt) (getD ws (t .0) 0, tt) (getD us (t .0) vunit ∷ [], tt)
+            (is-w, tt)) (λ k _. id⊢ 𝓤 _)
+            (and-then ! (load ! (from ! (stop !)) (look ! 29 refl)) (no-more !))
+            (λ k wk _ e-k is-k. drop ! $ drop ! $ land ! (from ! (stop !)) (init ! 26 refl (uint-lawful 𝓤 H A W w64 .typed k _ is-k .0)) $
             -- the record
-            assigns ! (bin ! (load ! (from ! (stop !)) (look ! 30 refl)) (lit ! tt) (record { fits = bytes-16 small-i })) (from ! (stop !)) (store ! 20 refl (tt, record { fits = bytes-16 small-i })) $
+            assigns ! (bin ! (load ! (from ! (stop !)) (look ! 30 refl)) (lit ! tt) (record { fits = bytes-16 small-i })) (from ! (stop !))
+            (store ! 20 refl (tt, record { fits = bytes-16 small-i })) $
             assigns ! (addr ! (from ! (stop !))) (from ! (stop !)) (init ! 12 refl (tt, tt)) $
-            assigns ! (bin ! (load ! (from ! (stop !)) (look ! 12 refl)) (load ! (from ! (stop !)) (look ! 20 refl)) tt) (from ! (stop !)) (init ! 10 refl (tt, tt)) $
-            assigns ! (of-opd ! (load ! (from ! (hop ! (look ! 10 refl) (stop !))) (look-in ! 34 (elem ! (gr .0) (t .0) vunit (holds-length R records (gr .0) (gr .1 .1) ∙ gr .1 .0 .1) small-i (whole !))))) (from ! (stop !)) (init ! 8 refl (typed 𝓤 H A W (rec (t .0)) is-r)) $
-            assigns ! (of-opd ! (load ! (from ! (stop !)) (look ! 8 refl))) (from ! (stop !)) (init ! 24 refl (typed 𝓤 H A W (rec (t .0)) is-r)) $
+            assigns ! (bin ! (load ! (from ! (stop !)) (look ! 12 refl)) (load ! (from ! (stop !)) (look ! 20 refl)) tt) (from ! (stop !))
+            (init ! 10 refl (tt, tt)) $
+            assigns ! (of-opd ! (load ! (from ! (hop ! (look ! 10 refl) (stop !)))
+            (look-in ! 34 (elem ! (gr .0) (t .0) vunit (holds-length R records (gr .0) (gr .1 .1) ∙ gr .1 .0 .1) small-i (whole !)))))
+            (from ! (stop !)) (init ! 8 refl (typed 𝓤 H A W (rec (t .0)) is-r)) $
+            assigns ! (of-opd ! (load ! (from ! (stop !)) (look ! 8 refl))) (from ! (stop !))
+            (init ! 24 refl (typed 𝓤 H A W (rec (t .0)) is-r)) $
             -- the table is lent again for a lifetime ν of the call
-            assigns ! (addr ! (from ! (fld ! refl (hop ! (look-in ! 44 (sub ! 0 refl (whole !))) (stop !))))) (from ! (stop !)) (init ! 4 refl (tt, tt)) $
-            assigns ! (agg ! (and-then ! (load ! (from ! (stop !)) (look ! 4 refl)) (and-then ! (load ! (from ! (fld ! refl (stop !))) (look-in ! 44 (sub ! 1 refl (whole !)))) (no-more !)))) (from ! (stop !)) (init ! 2 refl (tt, (tt, (record { fits = has-room .0 }, tt)))) $
+            assigns ! (addr ! (from ! (fld ! refl (hop ! (look-in ! 44 (sub ! 0 refl (whole !))) (stop !))))) (from ! (stop !))
+            (init ! 4 refl (tt, tt)) $
+            assigns ! (agg ! (and-then ! (load ! (from ! (stop !)) (look ! 4 refl))
+            (and-then ! (load ! (from ! (fld ! refl (stop !))) (look-in ! 44 (sub ! 1 refl (whole !)))) (no-more !)))) (from ! (stop !))
+            (init ! 2 refl (tt, (tt, (record { fits = has-room .0 }, tt)))) $
             lft-new ! tt (λ ν. move ! (1 ∷ 2 ∷ []) $
-            use2 W (later (some (λ (δ : GName). ‵ (Own (ν ∷ []) δ (t .1) (length (t .1))) ⊛ ‵ (LentAgain R κ (ν ∷ []) q γ b o δ (t .1))))) (lends-again R κ (ν ∷ []) q γ b o 𝓤 H A W (named 0) (named 0) (t .1)) $ await ! tt $ pick ! (λ δ. split ! $ move ! (2 ∷ 0 ∷ []) $ join ! $
-            calls-fn ! (fmOf 𝓤 H (W .laws) 𝓣) replace.ended (replace.clauses 𝓤 H A mem run) (known .2) (to-replace ν δ (t .1) k wk (rec (t .0)) (val (t .0))) (λ _ zs. zs .0 ≡ set (t .1) k (rec (t .0))) (‵ (flft (ν ∷ []) fullShare) ⊛ ‵ (Own (ν ∷ []) δ (t .1) (length (t .1))))
-            (lent-first 𝓤 H A W (usize ∷ R ∷ []) (uint-makes 𝓤 H A W w64, (makes 𝓤 H A, tt)) (k, (rec (t .0), tt)) (wk ∷ [], (val (t .0) ∷ [], tt)) (is-k, (is-r, tt)) (MutSlice (named 0) (ν ∷ []) R) (ref b o δ (t .1)) (s (length (t .1)) ∷ []) (ν ∷ []) fullShare) (λ _ zs. id⊢ 𝓤 _)
-            (and-then ! (load ! (from ! (stop !)) (look ! 2 refl)) (and-then ! (load ! (from ! (stop !)) (look ! 26 refl)) (and-then ! (load ! (from ! (stop !)) (look ! 24 refl)) (no-more !)))) (λ u w zs e-z is-u.
+            use2 W (later (some (λ (δ : GName). ‵ (Own (ν ∷ []) δ (t .1) (length (t .1))) ⊛ ‵ (LentAgain R κ (ν ∷ []) q γ b o δ (t .1)))))
+            (lends-again R κ (ν ∷ []) q γ b o 𝓤 H A W (named 0) (named 0) (t .1)) $ await ! tt $
+            pick ! (λ δ. split ! $ move ! (2 ∷ 0 ∷ []) $ join ! $
+            calls-fn ! (fmOf 𝓤 H (W .laws) 𝓣) replace.ended (replace.clauses 𝓤 H A mem run) (known .2)
+            (to-replace ν δ (t .1) k wk (rec (t .0)) (val (t .0))) (λ _ zs. zs .0 ≡ set (t .1) k (rec (t .0)))
+            (‵ (flft (ν ∷ []) fullShare) ⊛ ‵ (Own (ν ∷ []) δ (t .1) (length (t .1))))
+            (lent-first 𝓤 H A W (usize ∷ R ∷ []) (uint-makes 𝓤 H A W w64, (makes 𝓤 H A, tt)) (k, (rec (t .0), tt))
+            (wk ∷ [], (val (t .0) ∷ [], tt)) (is-k, (is-r, tt)) (MutSlice (named 0) (ν ∷ []) R) (ref b o δ (t .1)) (s (length (t .1)) ∷ [])
+            (ν ∷ []) fullShare) (λ _ zs. id⊢ 𝓤 _)
+            (and-then ! (load ! (from ! (stop !)) (look ! 2 refl))
+            (and-then ! (load ! (from ! (stop !)) (look ! 26 refl)) (and-then ! (load ! (from ! (stop !)) (look ! 24 refl)) (no-more !))))
+            (λ u w zs e-z is-u.
             land ! (from ! (stop !)) (init ! 7 refl (nothing-lawful 𝓤 H A W .typed u _ is-u .0)) $
             -- the lifetime is ended, and the table comes back at its last list
-            use1 W (‵ (flft (ν ∷ []) fullShare) ⊛ ‵ ftrue) (id⊢ 𝓤 _) $ split ! $ lft-end ! tt $ move ! (2 ∷ []) $ fsplit ! $ fsplit ! $ move ! (1 ∷ []) $ feqL ! (λ e-len. move ! (2 ∷ 4 ∷ 0 ∷ []) $
-            use3 W (later (‵ (Own κ γ (zs .0) (length (t .1))) ⊛ ‵ (flft κ q))) (comes-back R κ (ν ∷ []) q γ b o 𝓤 H A W (named 0) (named 0) (t .1) δ (zs .0) has-room e-len) $ await ! tt $ split ! $ move ! (2 ∷ 3 ∷ []) $ drop ! $ drop ! $
-            assigns-last ! (bin ! (load ! (from ! (stop !)) (look ! 30 refl)) (lit ! tt) (record { fits = next })) (from ! (stop !)) (store ! 30 refl (tt, record { fits = next })) $
-            forget ! 2 refl $ forget ! 4 refl $ forget ! 6 refl $ forget ! 8 refl $ forget ! 10 refl $ forget ! 12 refl $ forget ! 14 refl $ forget ! 16 refl $ forget ! 18 refl $ forget ! 20 refl $ forget ! 22 refl $ forget ! 24 refl $ forget ! 26 refl $ forget ! 28 refl $
-            rewrite ! 0 (λ (m : ℕ). ‵ (Own κ γ (zs .0) m)) (sym e-len) refl $ rewrite ! 44 (λ (m : ℕ). ‵ (fat fullShare slice l₁ 0 (s m))) (sym e-len) refl $
-            again ! Nearer Inv t (t .0 + 1, zs .0, add-one-le less, e-len ∙ t .3, scatters-more (t .1) (zs .0) records slots (t .0) k within whole-records (t .4) (slot-listed ws lent (t .0) k e-k within) e-z) (add-one-dec n (t .0) less))))))
+            use1 W (‵ (flft (ν ∷ []) fullShare) ⊛ ‵ ftrue) (id⊢ 𝓤 _) $ split ! $ lft-end ! tt $ move ! (2 ∷ []) $ fsplit ! $ fsplit ! $
+            move ! (1 ∷ []) $ feqL ! (λ e-len. move ! (2 ∷ 4 ∷ 0 ∷ []) $
+            use3 W (later (‵ (Own κ γ (zs .0) (length (t .1))) ⊛ ‵ (flft κ q)))
+            (comes-back R κ (ν ∷ []) q γ b o 𝓤 H A W (named 0) (named 0) (t .1) δ (zs .0) has-room e-len) $ await ! tt $ split ! $
+            move ! (2 ∷ 3 ∷ []) $ drop ! $ drop ! $
+            assigns-last ! (bin ! (load ! (from ! (stop !)) (look ! 30 refl)) (lit ! tt) (record { fits = next })) (from ! (stop !))
+            (store ! 30 refl (tt, record { fits = next })) $
+            forget ! 2 refl $ forget ! 4 refl $ forget ! 6 refl $ forget ! 8 refl $ forget ! 10 refl $ forget ! 12 refl $ forget ! 14 refl $
+            forget ! 16 refl $ forget ! 18 refl $ forget ! 20 refl $ forget ! 22 refl $ forget ! 24 refl $ forget ! 26 refl $
+            forget ! 28 refl $
+            rewrite ! 0 (λ (m : ℕ). ‵ (Own κ γ (zs .0) m)) (sym e-len) refl $
+            rewrite ! 44 (λ (m : ℕ). ‵ (fat fullShare slice l₁ 0 (s m))) (sym e-len) refl $
+            again ! Nearer Inv t (
+              t .0 + 1,
+              zs .0,
+              add-one-le less,
+              e-len ∙ t .3,
+              scatters-more (t .1) (zs .0) records slots (t .0) k within whole-records (t .4) (slot-listed ws lent (t .0) k e-k within)
+                  e-z,
+            ) (add-one-dec n (t .0) less))))))
           where
             less : t .0 < n
             less = ltb→lt (t .0) n (subst T (sym z) tt)
@@ -215,11 +446,20 @@ module _ {M : Type 1} (𝓤 : URA M) (H : Heap 𝓤) (A : Atoms 𝓤) (W : Given
             has-room : Room R (length (t .1))
             has-room = subst (Room R) (sym (t .3)) room
         turn t false z =
-            assigns ! (bin ! (load ! (from ! (stop !)) (look ! 30 refl)) (load ! (from ! (stop !)) (look ! 32 refl)) tt) (from ! (stop !)) (init ! 22 refl (tt, tt)) $
-            rewrite ! 22 (λ (u : Bool). ‵ (fat fullShare tyBool l₁₂ 0 (vbool u))) z refl $ leaves-loop ! (load ! (from ! (stop !)) (look ! 22 refl)) $ exec ! C Λ En body.t-6 (atRet En Post) $
+            assigns ! (bin ! (load ! (from ! (stop !)) (look ! 30 refl)) (load ! (from ! (stop !)) (look ! 32 refl)) tt) (from ! (stop !))
+            (init ! 22 refl (tt, tt)) $
+            rewrite ! 22 (λ (u : Bool). ‵ (fat fullShare tyBool l₁₂ 0 (vbool u))) z refl $
+            leaves-loop ! (load ! (from ! (stop !)) (look ! 22 refl)) $ exec ! C Λ En body.t-6 (atRet En Post) $
             assigns ! (of-opd ! (unit-lit !)) (from ! (stop !)) (init ! 46 refl (tt, tt)) $
-            returns ! (look ! 46 refl) $ forget ! 22 refl $ forget ! 30 refl $ forget ! 32 refl $ forget ! 34 refl $ forget ! 36 refl $ forget ! 38 refl $ forget ! 40 refl $ forget ! 42 refl $ forget ! 44 refl $ forget ! 46 refl $
-            move ! (46 ∷ 47 ∷ []) $ free1 ! $ move ! (44 ∷ 45 ∷ []) $ free1 ! $ move ! (42 ∷ 43 ∷ []) $ free1 ! $ move ! (40 ∷ 41 ∷ []) $ free1 ! $ move ! (38 ∷ 39 ∷ []) $ free1 ! $ move ! (36 ∷ 37 ∷ []) $ free1 ! $ move ! (34 ∷ 35 ∷ []) $ free1 ! $ move ! (32 ∷ 33 ∷ []) $ free1 ! $ move ! (30 ∷ 31 ∷ []) $ free1 ! $ move ! (28 ∷ 29 ∷ []) $ free1 ! $ move ! (26 ∷ 27 ∷ []) $ free1 ! $ move ! (24 ∷ 25 ∷ []) $ free1 ! $ move ! (22 ∷ 23 ∷ []) $ free1 ! $ move ! (20 ∷ 21 ∷ []) $ free1 ! $ move ! (18 ∷ 19 ∷ []) $ free1 ! $ move ! (16 ∷ 17 ∷ []) $ free1 ! $ move ! (14 ∷ 15 ∷ []) $ free1 ! $ move ! (12 ∷ 13 ∷ []) $ free1 ! $ move ! (10 ∷ 11 ∷ []) $ free1 ! $ move ! (8 ∷ 9 ∷ []) $ free1 ! $ move ! (6 ∷ 7 ∷ []) $ free1 ! $ move ! (4 ∷ 5 ∷ []) $ free1 ! $ move ! (2 ∷ 3 ∷ []) $ free1 ! $ free0 ! $
+            returns ! (look ! 46 refl) $ forget ! 22 refl $ forget ! 30 refl $ forget ! 32 refl $ forget ! 34 refl $ forget ! 36 refl $
+            forget ! 38 refl $ forget ! 40 refl $ forget ! 42 refl $ forget ! 44 refl $ forget ! 46 refl $
+            move ! (46 ∷ 47 ∷ []) $ free1 ! $ move ! (44 ∷ 45 ∷ []) $ free1 ! $ move ! (42 ∷ 43 ∷ []) $ free1 ! $ move ! (40 ∷ 41 ∷ []) $
+            free1 ! $ move ! (38 ∷ 39 ∷ []) $ free1 ! $ move ! (36 ∷ 37 ∷ []) $ free1 ! $ move ! (34 ∷ 35 ∷ []) $ free1 ! $
+            move ! (32 ∷ 33 ∷ []) $ free1 ! $ move ! (30 ∷ 31 ∷ []) $ free1 ! $ move ! (28 ∷ 29 ∷ []) $ free1 ! $
+            move ! (26 ∷ 27 ∷ []) $ free1 ! $ move ! (24 ∷ 25 ∷ []) $ free1 ! $ move ! (22 ∷ 23 ∷ []) $ free1 ! $
+            move ! (20 ∷ 21 ∷ []) $ free1 ! $ move ! (18 ∷ 19 ∷ []) $ free1 ! $ move ! (16 ∷ 17 ∷ []) $ free1 ! $
+            move ! (14 ∷ 15 ∷ []) $ free1 ! $ move ! (12 ∷ 13 ∷ []) $ free1 ! $ move ! (10 ∷ 11 ∷ []) $ free1 ! $ move ! (8 ∷ 9 ∷ []) $
+            free1 ! $ move ! (6 ∷ 7 ∷ []) $ free1 ! $ move ! (4 ∷ 5 ∷ []) $ free1 ! $ move ! (2 ∷ 3 ∷ []) $ free1 ! $ free0 ! $
             by ! (exits (t .1) (scatters-all (t .1) records slots (t .0) past (t .4)) (t .3))
           where
             past : length slots ≤ t .0
@@ -231,29 +471,66 @@ module _ {M : Type 1} (𝓤 : URA M) (H : Heap 𝓤) (A : Atoms 𝓤) (W : Given
         -- the loop, with nothing put back yet
         looped : ent 𝓤 (⋆ 𝓤 H A (Inv (0, ys, zero-le, refl, refl))) (Wp 𝓤 H C Λ En body.t-5 (atReturn 𝓤 H En Post))
         looped =
-            qed W (Inv (0, ys, zero-le, refl, refl)) ∵ exec ! C Λ En body.t-5 (atRet En Post) $ first ! $ blocks ! $ loops ! 𝓣 Nearer Nearer-wf Inv turns (0, ys, zero-le, refl, refl)
+            qed W (Inv (0, ys, zero-le, refl, refl)) ∵ exec ! C Λ En body.t-5 (atRet En Post) $ first ! $ blocks ! $
+            loops ! 𝓣 Nearer Nearer-wf Inv turns (0, ys, zero-le, refl, refl)
 
-    walk : (𝓣 : Tables 𝓤 H) → Known (𝓣 .C) → ent 𝓤 (onEntry 𝓤 H A f.signature (κ, tt) (q, tt) x at) (WpFn 𝓤 H (𝓣 .C) (𝓣 .Λ) code.function (s (length ys) ∷ wv ∷ nv ∷ rv ∷ []) Post)
+    walk : (𝓣 : Tables 𝓤 H) → Known (𝓣 .C)
+        → ent 𝓤 (onEntry 𝓤 H A f.signature (κ, tt) (q, tt) x at)
+        (WpFn 𝓤 H (𝓣 .C) (𝓣 .Λ) code.function (s (length ys) ∷ wv ∷ nv ∷ rv ∷ []) Post)
     walk 𝓣 known =
-        qed W ((‵ (flft κ q) ⊛ ‵ ftrue) ∷ ‵ (owns (MutSlice (named 0) κ R ∷ Ws ∷ usize ∷ Rs ∷ []) x at) ∷ []) ∵ enter ! (𝓣 .C) (𝓣 .Λ) code.function (s (length ys) ∷ wv ∷ nv ∷ rv ∷ []) _ $
-        alloc1 ! (λ l₀. alloc1 ! (λ l₁. alloc1 ! (λ l₂. alloc1 ! (λ l₃. alloc1 ! (λ l₄. alloc1 ! (λ l₅. alloc1 ! (λ l₆. alloc1 ! (λ l₇. alloc1 ! (λ l₈. alloc1 ! (λ l₉. alloc1 ! (λ l₁₀. alloc1 ! (λ l₁₁. alloc1 ! (λ l₁₂. alloc1 ! (λ l₁₃. alloc1 ! (λ l₁₄. alloc1 ! (λ l₁₅. alloc1 ! (λ l₁₆. alloc1 ! (λ l₁₇. alloc1 ! (λ l₁₈. alloc1 ! (λ l₁₉. alloc1 ! (λ l₂₀. alloc1 ! (λ l₂₁. alloc1 ! (λ l₂₂. alloc0 ! $ params1 ! $
-        pass1 ! (init ! 42 refl (tt, (tt, (record { fits = room .0 }, tt)))) $ pass1 ! (init ! 40 refl (words-typed gw)) $ pass1 ! (init ! 38 refl (uint-lawful 𝓤 H A W w64 .typed lent _ gv .0)) $ pass1 ! (init ! 36 refl (rs-typed 𝓤 H A W records gr)) $ pass0 ! $
-        assigns ! (of-opd ! (load ! (from ! (stop !)) (look ! 40 refl))) (from ! (stop !)) (init ! 34 refl (words-typed gw)) $ rewrite ! 34 (λ (u : Val). ‵ (fat fullShare words-ty l₅ 0 u)) (ap only (gw .1 .0 .0)) refl $
-        assigns ! (of-opd ! (load ! (from ! (stop !)) (look ! 36 refl))) (from ! (stop !)) (init ! 32 refl (rs-typed 𝓤 H A W records gr)) $ rewrite ! 32 (λ (u : Val). ‵ (fat fullShare (tyArray T′.mir 32) l₆ 0 u)) (ap only (gr .1 .0 .0)) refl $
-        nothing ! $ calls-fn ! (fmOf 𝓤 H (W .laws) 𝓣) count.ended (count.clauses 𝓤 H A mem run) (known .0) ((tt, tt, tt, (lent, tt), (nv ∷ [], tt)), tt) (λ n _. (n ≡ min lent 32) × (n ≤ 32))
+        qed W ((‵ (flft κ q) ⊛ ‵ ftrue) ∷ ‵ (owns (MutSlice (named 0) κ R ∷ Ws ∷ usize ∷ Rs ∷ []) x at) ∷ []) ∵
+        enter ! (𝓣 .C) (𝓣 .Λ) code.function (s (length ys) ∷ wv ∷ nv ∷ rv ∷ []) _ $
+        alloc1 ! (λ l₀. alloc1 ! (λ l₁. alloc1 ! (λ l₂.
+        alloc1 ! (λ l₃. alloc1 ! (λ l₄. alloc1 ! (λ l₅.
+        alloc1 ! (λ l₆. alloc1 ! (λ l₇. alloc1 ! (λ l₈.
+        alloc1 ! (λ l₉. alloc1 ! (λ l₁₀. alloc1 ! (λ l₁₁.
+        alloc1 ! (λ l₁₂. alloc1 ! (λ l₁₃. alloc1 ! (λ l₁₄.
+        alloc1 ! (λ l₁₅. alloc1 ! (λ l₁₆. alloc1 ! (λ l₁₇.
+        alloc1 ! (λ l₁₈. alloc1 ! (λ l₁₉. alloc1 ! (λ l₂₀. alloc1 ! (λ l₂₁. alloc1 ! (λ l₂₂. alloc0 ! $ params1 ! $
+        pass1 ! (init ! 42 refl (tt, (tt, (record { fits = room .0 }, tt)))) $ pass1 ! (init ! 40 refl (words-typed gw)) $
+        pass1 ! (init ! 38 refl (uint-lawful 𝓤 H A W w64 .typed lent _ gv .0)) $
+        pass1 ! (init ! 36 refl (rs-typed 𝓤 H A W records gr)) $ pass0 ! $
+        assigns ! (of-opd ! (load ! (from ! (stop !)) (look ! 40 refl))) (from ! (stop !)) (init ! 34 refl (words-typed gw)) $
+        rewrite ! 34 (λ (u : Val). ‵ (fat fullShare words-ty l₅ 0 u)) (ap only (gw .1 .0 .0)) refl $
+        assigns ! (of-opd ! (load ! (from ! (stop !)) (look ! 36 refl))) (from ! (stop !)) (init ! 32 refl (rs-typed 𝓤 H A W records gr)) $
+        rewrite ! 32 (λ (u : Val). ‵ (fat fullShare (tyArray T′.mir 32) l₆ 0 u)) (ap only (gr .1 .0 .0)) refl $
+        nothing ! $ calls-fn ! (fmOf 𝓤 H (W .laws) 𝓣) count.ended (count.clauses 𝓤 H A mem run) (known .0)
+        ((tt, tt, tt, (lent, tt), (nv ∷ [], tt)), tt) (λ n _. (n ≡ min lent 32) × (n ≤ 32))
         (‵ ftrue) (plainly 𝓤 H A W (usize ∷ []) (uint-makes 𝓤 H A W w64, tt) (lent, tt) (nv ∷ [], tt) (gv, tt)) (λ n _. id⊢ 𝓤 _)
         (and-then ! (load ! (from ! (stop !)) (look ! 39 refl)) (no-more !)) (λ n v _ e-n is-n. drop ! $ drop ! $
-        land ! (from ! (stop !)) (init ! 30 refl (uint-lawful 𝓤 H A W w64 .typed n _ is-n .0)) $ rewrite ! 30 (λ (u : Val). ‵ (fat fullShare (tyInt w64) l₇ 0 u)) (ap only (is-n .0)) refl $
+        land ! (from ! (stop !)) (init ! 30 refl (uint-lawful 𝓤 H A W w64 .typed n _ is-n .0)) $
+        rewrite ! 30 (λ (u : Val). ‵ (fat fullShare (tyInt w64) l₇ 0 u)) (ap only (is-n .0)) refl $
         assigns ! (of-opd ! (lit ! tt)) (from ! (stop !)) (init ! 28 refl (tt, record { fits = lit< tt })) $
-        move ! (47 ∷ []) $ fsplit ! $ move ! (48 ∷ []) $ split ! $ keep ! (2 ∷ 0 ∷ 4 ∷ 5 ∷ 6 ∷ 7 ∷ 8 ∷ 9 ∷ 10 ∷ 11 ∷ 12 ∷ 13 ∷ 14 ∷ 15 ∷ 16 ∷ 17 ∷ 18 ∷ 19 ∷ 20 ∷ 21 ∷ 22 ∷ 23 ∷ 24 ∷ 25 ∷ 26 ∷ 27 ∷ 28 ∷ 29 ∷ 30 ∷ 31 ∷ 32 ∷ 33 ∷ 34 ∷ 35 ∷ 36 ∷ 37 ∷ 38 ∷ 39 ∷ 40 ∷ 41 ∷ 42 ∷ 43 ∷ 44 ∷ 45 ∷ 46 ∷ 47 ∷ 48 ∷ 49 ∷ []) $
-        by ! (looped n (is-n .1) (slots-counted ws lent n (gw .1 .0 .1) (e-n .0)) (e-n .1) 𝓣 known l₀ l₁ l₂ l₃ l₄ l₅ l₆ l₇ l₈ l₉ l₁₀ l₁₁ l₁₂ l₁₃ l₁₄ l₁₅ l₁₆ l₁₇ l₁₈ l₁₉ l₂₀ l₂₁ l₂₂)))))))))))))))))))))))))
+        move ! (47 ∷ []) $ fsplit ! $ move ! (48 ∷ []) $ split ! $
+        keep ! (2 ∷ 0 ∷ 4 ∷ 5 ∷ 6 ∷ 7 ∷ 8 ∷ 9 ∷ 10 ∷ 11 ∷ 12 ∷ 13 ∷ 14 ∷ 15 ∷ 16 ∷ 17 ∷ 18 ∷ 19 ∷ 20 ∷ 21 ∷ 22 ∷ 23 ∷ 24 ∷ 25 ∷ 26 ∷ 27
+        ∷ 28 ∷ 29 ∷ 30 ∷ 31 ∷ 32 ∷ 33 ∷ 34 ∷ 35 ∷ 36 ∷ 37 ∷ 38 ∷ 39 ∷ 40 ∷ 41 ∷ 42 ∷ 43 ∷ 44 ∷ 45 ∷ 46 ∷ 47 ∷ 48 ∷ 49 ∷ []) $
+        by ! (looped n (is-n .1) (slots-counted ws lent n (gw .1 .0 .1) (e-n .0)) (e-n .1) 𝓣 known l₀ l₁ l₂ l₃ l₄ l₅ l₆ l₇ l₈ l₉ l₁₀ l₁₁ l₁₂
+        l₁₃ l₁₄ l₁₅ l₁₆ l₁₇ l₁₈ l₁₉ l₂₀ l₂₁ l₂₂)))))))))))))))))))))))))
 
   f-meets : (𝓣 : Tables 𝓤 H) → Known (𝓣 .C) → Meets 𝓤 H A f.signature (WpFn 𝓤 H (𝓣 .C) (𝓣 .Λ) code.function) (f.spec 𝓤 H A mem run)
-  f-meets 𝓣 known = walk-meets 𝓤 H A f.ended stayed W (goes-slice 𝓤 H A W 1 0 tt (plain (λ _. R)), (goes-dropped 𝓤 H A W 1 (arrayOf (plain (λ _. u32)) 32) yes (λ κs x f. refl), (goes-dropped 𝓤 H A W 1 (plain (λ _. usize)) yes (λ κs x f. refl), (goes-dropped 𝓤 H A W 1 (arrayOf (plain (λ _. R)) 32) yes (λ κs x f. refl), tt))))
+  f-meets 𝓣 known = walk-meets 𝓤 H A f.ended stayed W (
+    goes-slice 𝓤 H A W 1 0 tt (plain (λ _. R)),
+    (
+      goes-dropped 𝓤 H A W 1 (arrayOf (plain (λ _. u32)) 32) yes (λ κs x f. refl),
+      (
+        goes-dropped 𝓤 H A W 1 (plain (λ _. usize)) yes (λ κs x f. refl),
+        (goes-dropped 𝓤 H A W 1 (arrayOf (plain (λ _. R)) 32) yes (λ κs x f. refl), tt),
+      ),
+    ),
+  )
       (f.clauses 𝓤 H A mem run) (WpFn 𝓤 H (𝓣 .C) (𝓣 .Λ) code.function) (WpFn-mono 𝓤 H (W .laws) 𝓣 code.function)
-      (walked 𝓤 H A f.ended stayed (f.clauses 𝓤 H A mem run) (WpFn 𝓤 H (𝓣 .C) (𝓣 .Λ) code.function) (λ κs. (slice-vals, (array-vals (uint-vals w32), (uint-vals w64, (array-vals (λ r. mach r ∷ []), tt)))))
-      (λ κs. (mut-slice-tells (named 0) (κs .0) R, (array-tells u32 (uint-vals w32) (uint-tells w32) 32, (uint-tells w64, (array-tells R (λ r. mach r ∷ []) (T′.lowers .val-is) 32, tt)))))
-      (λ κs qs bounds a g are. via 𝓤 _ (fst∗ 𝓤 _ (emp 𝓤)) (walk (κs .0) (qs .0) (a .0 .ptr .0) (a .0 .ptr .1) (a .0 .name) (a .0 .now) (are .0 .0 .1) (a .1 .0) (only (array-vals (uint-vals w32) (a .1 .0))) (are .1 .0) (a .1 .1 .0) (vint w64 (a .1 .1 .0)) (are .1 .1 .0)
+      (walked 𝓤 H A f.ended stayed (f.clauses 𝓤 H A mem run) (WpFn 𝓤 H (𝓣 .C) (𝓣 .Λ) code.function)
+      (λ κs. (slice-vals, (array-vals (uint-vals w32), (uint-vals w64, (array-vals (λ r. mach r ∷ []), tt)))))
+      (λ κs. (
+        mut-slice-tells (named 0) (κs .0) R,
+        (
+          array-tells u32 (uint-vals w32) (uint-tells w32) 32,
+          (uint-tells w64, (array-tells R (λ r. mach r ∷ []) (T′.lowers .val-is) 32, tt)),
+        ),
+      ))
+      (λ κs qs bounds a g are. via 𝓤 _ (fst∗ 𝓤 _ (emp 𝓤))
+      (walk (κs .0) (qs .0) (a .0 .ptr .0) (a .0 .ptr .1) (a .0 .name) (a .0 .now) (are .0 .0 .1) (a .1 .0)
+      (only (array-vals (uint-vals w32) (a .1 .0))) (are .1 .0) (a .1 .1 .0) (vint w64 (a .1 .1 .0)) (are .1 .1 .0)
       (a .1 .1 .1 .0) (only (array-vals (λ r. mach r ∷ []) (a .1 .1 .1 .0))) (are .1 .1 .1 .0) 𝓣 known)))
 
 pub scatter-spec : {M : Type 1} → stated.statement M
@@ -262,7 +539,10 @@ scatter-spec 𝓤 H 𝓜 𝓖 𝓡 =
     entered 𝓤 H (tripleOf 𝓤 H (𝓖 .A) f.signature (f.spec 𝓤 H (𝓖 .A) (𝓜 .mem) (𝓡 .run)))
     (tables 𝓤 H 𝓜 𝓡 code.env .C) (tables 𝓤 H 𝓜 𝓡 code.env .Λ) #f code.function (code.unfolded 𝓤 H 𝓜 𝓡)
     (f-meets 𝓤 H (𝓖 .A) (givenOf 𝓤 H 𝓜 𝓖) (𝓜 .mem) (𝓡 .run) (tablesOf 𝓤 H 𝓜 (tables 𝓤 H 𝓜 𝓡 code.env)) (
-      cited 𝓤 H (tripleOf 𝓤 H (𝓖 .A) count.signature (count.spec 𝓤 H (𝓖 .A) (𝓜 .mem) (𝓡 .run))) 𝓜 𝓡 code.env count-def.name count-def.routine code.calls-gathering·within (count-thm.met 𝓤 H 𝓜 𝓖 𝓡),
-      cited 𝓤 H (tripleOf 𝓤 H (𝓖 .A) slot-of.signature (slot-of.spec 𝓤 H (𝓖 .A) (𝓜 .mem) (𝓡 .run))) 𝓜 𝓡 code.env slot-of-def.name slot-of-def.routine code.calls-gathering·slot-of (slot-of-thm.met 𝓤 H 𝓜 𝓖 𝓡),
-      cited 𝓤 H (tripleOf 𝓤 H (𝓖 .A) replace.signature (replace.spec 𝓤 H (𝓖 .A) (𝓜 .mem) (𝓡 .run))) 𝓜 𝓡 code.env replace-def.name replace-def.routine code.calls-records·replace (replace-thm.met 𝓤 H 𝓜 𝓖 𝓡),
+      cited 𝓤 H (tripleOf 𝓤 H (𝓖 .A) count.signature (count.spec 𝓤 H (𝓖 .A) (𝓜 .mem) (𝓡 .run))) 𝓜 𝓡 code.env count-def.name
+          count-def.routine code.calls-gathering·within (count-thm.met 𝓤 H 𝓜 𝓖 𝓡),
+      cited 𝓤 H (tripleOf 𝓤 H (𝓖 .A) slot-of.signature (slot-of.spec 𝓤 H (𝓖 .A) (𝓜 .mem) (𝓡 .run))) 𝓜 𝓡 code.env slot-of-def.name
+          slot-of-def.routine code.calls-gathering·slot-of (slot-of-thm.met 𝓤 H 𝓜 𝓖 𝓡),
+      cited 𝓤 H (tripleOf 𝓤 H (𝓖 .A) replace.signature (replace.spec 𝓤 H (𝓖 .A) (𝓜 .mem) (𝓡 .run))) 𝓜 𝓡 code.env replace-def.name
+          replace-def.routine code.calls-records·replace (replace-thm.met 𝓤 H 𝓜 𝓖 𝓡),
     ))

@@ -12,7 +12,8 @@ pool-low : (a : tie.Start) → length (a .args .pool .now) < 2 ^ 64
 pool-low a = search needs
 
 -- the payload fits the slot that was found
-inside : (c : tie.After-free-from) → let a = c .before .before .before .args in c .free-from .result * a .mss + a .h .len ≤ length (a .pool .now)
+inside : (c : tie.After-free-from) → let a = c .before .before .before .args in c .free-from .result * a .mss
+    + a .h .len ≤ length (a .pool .now)
 inside c = let p = c .before .before .before .pre in slot-inside 256 _ _ _ _ (rw (c .free-from .ensures) (p .free)) (p .fits) (p .slots)
 
 pub store-spec : {M : Type 1} → statement M

@@ -14,7 +14,13 @@ returns : tie.Need-returns
 returns c =
     let a = c .before .before .before .before .before .before .before .before .before .before .before .before .before .args in
     let p = partsOf (a .send-pool .now) (a .receive-pool .now) (take (a .lent) (a .table)) (a .acks .now) in
-    let whole : length (a .table) ≡ 128 = search (needs, length-mapped, c .before .before .before .before .before .before .before .before .before .before .before .before .before .good .1 .1 .1 .1 .0) in
+    let whole : length (a .table) ≡ 128 =
+    search (
+      needs,
+      length-mapped,
+      c .before .before .before .before .before .before .before .before .before .before .before .before .before
+          .good .1 .1 .1 .1 .0,
+    ) in
     let len = lent-length (a .table) (a .lent) _ whole (c .before .before .before .before .before .lent-count .ensures .0) in
     open-promised (a .new) (a .link) p _ _ _ len (c .before .before .before .before .«open» .ensures _)
 

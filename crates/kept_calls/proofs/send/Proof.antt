@@ -13,17 +13,51 @@ use Rattle.kept_calls.proofs.send.Tie as tie
 
 send-requires : tie.Need-send-requires
 send-requires c κs =
-    let s = c .before .before .before .before .before .before .before .before .before .before .before .before .before .before .before .before .before .before .before .before .before .before .before .before in
-    (whole-of (s .args .link) _ (s .good .0), (_, record { whole = ap length (c .before .before .before .before .before .before .before .before .before .gather .ensures) ∙ padded-whole (take 128 (take (s .args .lent) (s .args .table))) (s .args .link .outstanding) (s .args .link .flight .outstanding); fits = c .before .before .before .before .before .before .before .before .flight-fits .ensures }))
+    let s = c .before .before .before .before .before .before .before .before .before .before .before .before .before .before .before
+    .before .before .before .before .before .before .before .before .before in (
+      whole-of (s .args .link) _ (s .good .0),
+      (
+        _,
+        record {
+          whole = ap length (c .before .before .before .before .before .before .before .before .before .gather .ensures) ∙
+              padded-whole (take 128 (take (s .args .lent) (s .args .table))) (s .args .link .outstanding) (s .args .link .flight .outstanding);
+          fits = c .before .before .before .before .before .before .before .before .flight-fits .ensures;
+        },
+      ),
+    )
 
 returns : tie.Need-returns
 returns c =
-    let a = c .before .before .before .before .before .before .before .before .before .before .before .before .before .before .before .before .before .before .before .before .before .before .before .before .before .before .before .before .args in
+    let a = c .before .before .before .before .before .before .before .before .before .before .before .before .before .before .before
+    .before .before .before .before .before .before .before .before .before .before .before .before .before .args in
     let p = partsOf (a .send-pool .now) (a .receive-pool .now) (take (a .lent) (a .table)) (a .acks .now) in
-    let whole : length (a .table) ≡ 128 = search (needs, length-mapped, c .before .before .before .before .before .before .before .before .before .before .before .before .before .before .before .before .before .before .before .before .before .before .before .before .before .before .before .before .good .1 .1 .1 .0) in
-    let len = lent-length (a .table) (a .lent) _ whole (c .before .before .before .before .before .before .before .before .before .before .before .lent-count .ensures .0) in
-    let g : Gathers (a .link) p (c .before .before .before .before .before .before .before .before .before .before .before .before .before .gather .result) (c .before .before .before .before .before .before .before .before .before .before .before .lent-count .result) = record { padding = c .before .before .before .before .before .before .before .before .before .before .before .before .before .gather .ensures; len = len } in
-    send-promised (a .link) p _ _ g _ _ _ (a .message .now) (c .before .before .before .send .ensures _ (record { whole = ap length (c .before .before .before .before .before .before .before .before .before .before .before .before .before .gather .ensures) ∙ padded-whole (take 128 (take (a .lent) (a .table))) (a .link .outstanding) (a .link .flight .outstanding); fits = c .before .before .before .before .before .before .before .before .before .before .before .before .flight-fits .ensures }))
+    let whole : length (a .table) ≡ 128 =
+    search (
+      needs,
+      length-mapped,
+      c .before .before .before .before .before .before .before .before .before .before .before .before .before
+          .before .before .before .before .before .before .before .before .before .before .before .before .before .before .before .good .1 .1 .1
+          .0,
+    ) in
+    let len = lent-length (a .table) (a .lent) _ whole
+    (c .before .before .before .before .before .before .before .before .before .before .before .lent-count .ensures .0) in
+    let g : Gathers (a .link) p (c .before .before .before .before .before .before .before .before .before .before .before .before .before
+    .gather .result) (c .before .before .before .before .before .before .before .before .before .before .before .lent-count .result) =
+    record {
+      padding = c .before .before .before .before .before .before .before .before .before .before .before .before .before .gather
+          .ensures;
+      len = len;
+    } in
+    send-promised (a .link) p _ _ g _ _ _ (a .message .now)
+    (c .before .before .before .send .ensures _
+    (record {
+      whole = ap length (c .before .before .before .before .before .before .before .before .before .before .before .before
+          .before .gather .ensures) ∙ padded-whole (take 128 (take (a .lent) (a .table))) (a .link .outstanding)
+          (a .link .flight .outstanding);
+      fits =
+          c .before .before .before .before .before .before .before .before .before .before .before .before .flight-fits .ensures;
+    }))
 
 pub send-spec : {M : Type 1} → statement M
-send-spec = tie.close (tie.spec (λ c κs. search needs) (λ c κs. search needs) (λ c κs. search needs) send-requires (λ c. search needs) returns)
+send-spec = tie.close (tie.spec (λ c κs. search needs) (λ c κs. search needs) (λ c κs. search needs) send-requires (λ c. search needs)
+    returns)

@@ -5,16 +5,16 @@ use lib.ListN.{length, take}
 use borrow.Author.Needs.{needs}
 use Rattle.lists.proofs.Loops.{length-mapped}
 use Rattle.promises.specs.Cores.{PutBack}
-use Rattle.promises.specs.Parts.{Parts, partsOf}
+use Rattle.promises.specs.Parts.{Parts, partsOf, flushPartsOf}
 use Rattle.from_cores.proofs.Updating.{update-left, update-promised}
 use Rattle.from_cores.proofs.Gathered.{Gathers}
-use Rattle.update_core.specs.Updates.{updatedBack}
+use Rattle.flush_core.specs.Flushes.{putBack}
 use Rattle.kept_calls.proofs.Wholes.{whole-of, lent-length}
 use Rattle.kept_calls.proofs.update.Statement.{statement}
 use Rattle.kept_calls.proofs.update.Tie as tie
 
-update-requires : tie.Need-update-requires
-update-requires c κs =
+flush-requires : tie.Need-flush-requires
+flush-requires c κs =
     let half = c .before .before .before .before .before .before .before .before .before .before .before .before in
     let start = half .before .before .before .before .before .before .before .before .before .before .before .before .before in
     whole-of (start .args .link) _ (start .good .0)
@@ -32,11 +32,11 @@ returns c =
     let len = lent-length (a .table) (a .lent) _ whole (counts .lent-count .ensures .0) in
     let g : Gathers (a .link) p (gathers .gather .result) (counts .lent-count .result)
     = record { padding = gathers .gather .ensures; len = len } in
-    let b : PutBack = updatedBack (updates .update .result) in
+    let b : PutBack = putBack (updates .flush .result) in
     let few : length (b .records) ≡ 32 = c .before .is-records .ensures in
     let put = c .scatter .ensures in
     let old = whole-of (a .link) _ (start .good .0) in
-    let left = update-left (a .t) (a .link) p (a .output .now) (a .lengths .now) _ b _ _ _ _ _ g
+    let left = update-left (a .t) (a .link) p (flushPartsOf (a .output .now) (a .lengths .now)) _ b _ (flushPartsOf _ _) _ _ g
     (record {
       whole-queued = c .before .before .before .before .is-list .ensures;
       whole-outstanding = c .before .before .before .is-words .ensures;
@@ -45,8 +45,8 @@ returns c =
       whole-waiting = old .whole-waiting;
       whole-numbers = old .whole-numbers;
     })
-    (updates .update .ensures) in
-    (update-promised (a .t) (a .link) p (a .output .now) (a .lengths .now) _ b _ _ _ _ few (put .0) left, put .1)
+    (updates .flush .ensures) in
+    (update-promised (a .t) (a .link) p (flushPartsOf (a .output .now) (a .lengths .now)) _ b _ _ _ few (put .0) left, put .1)
 
 pub update-spec : {M : Type 1} → statement M
 update-spec =
@@ -54,7 +54,7 @@ update-spec =
     (tie.spec
     (λ c κs. search needs)
     (λ c κs. search needs)
-    update-requires
+    flush-requires
     (λ c κs. search needs)
     (λ c κs. search needs)
     (λ c κs. search needs)

@@ -72,7 +72,9 @@ loop-again c =
       v .1,
       v .2,
       simp length-set (v .3),
-      gathers-more (take (c .before .before .before .before .lent-count .result) (a .table)) _ (slotsIn (a .t3) (a .n)) i _ _ h (omega (arith, v .2, c .before .before .loop-test .taken)) (v .4) (slot-listed (a .t3) (a .n) i _ (c .before .slot-of .ensures) h) (c .read .ensures),
+      gathers-more (take (c .before .before .before .before .lent-count .result) (a .table)) _ (slotsIn (a .t3) (a .n)) i _ _ h
+          (omega (arith, v .2, c .before .before .loop-test .taken)) (v .4) (slot-listed (a .t3) (a .n) i _ (c .before .slot-of .ensures) h)
+          (c .read .ensures),
     )
 
 returns : tie.Need-returns Inv-loop μ-loop
@@ -80,8 +82,10 @@ returns c =
     let v = c .before .loop .inv in
     let a = c .before .before .before .before .args in
     let s = slotsIn (a .t3) (a .n) in
-    let e = front-all (a .table) (a .lent) (c .before .before .lent-count .result) (search (needs, length-mapped)) (c .before .before .lent-count .ensures .0) in
-    gathers-all (take (c .before .before .lent-count .result) (a .table)) _ s (c .before .loop .i) (omega (arith, v .1, c .loop-test .left)) (v .4) ∙ ap (λ (t : List Record). padded (gathered t s)) (sym e)
+    let e = front-all (a .table) (a .lent) (c .before .before .lent-count .result) (search (needs, length-mapped))
+    (c .before .before .lent-count .ensures .0) in
+    gathers-all (take (c .before .before .lent-count .result) (a .table)) _ s (c .before .loop .i) (omega (arith, v .1, c .loop-test .left))
+    (v .4) ∙ ap (λ (t : List Record). padded (gathered t s)) (sym e)
 
 pub gather-spec : {M : Type 1} → statement M
 gather-spec =

@@ -15,7 +15,10 @@ array-set-from-next : tie.Need-array-set-from-next
 array-set-from-next c = search needs
 
 returns : tie.Need-returns
-returns c = (take-set-lt (c .before .args .most) _ (c .before .args .slot) _ (c .if1 .taken), drop-set-lt (c .before .args .most) _ (c .before .args .slot) _ (c .if1 .taken))
+returns c = (
+  take-set-lt (c .before .args .most) _ (c .before .args .slot) _ (c .if1 .taken),
+  drop-set-lt (c .before .args .most) _ (c .before .args .slot) _ (c .if1 .taken),
+)
 
 returns-2 : tie.Need-returns-2
 returns-2 c = (sym (set-past (c .before .args .most) _ (c .before .args .slot) _ (c .if1 .left)), refl)

@@ -36,8 +36,14 @@ lent-count-requires c κs = search needs
 
 loop-holds : tie.Need-loop-holds Inv-loop μ-loop
 loop-holds c =
-    let a = c .before .before .args in
-    (search needs, slots-counted (a .t3) (a .n) _ (search needs) (c .before .within .ensures .0), c .before .within .ensures .1, search (needs, length-mapped), refl, refl)
+    let a = c .before .before .args in (
+      search needs,
+      slots-counted (a .t3) (a .n) _ (search needs) (c .before .within .ensures .0),
+      c .before .within .ensures .1,
+      search (needs, length-mapped),
+      refl,
+      refl,
+    )
 
 mul-slot-of : tie.Need-mul-slot-of Inv-loop μ-loop
 mul-slot-of c = search needs
@@ -73,7 +79,8 @@ loop-again c =
       v .1,
       v .2,
       search (needs, length-mapped),
-      scatters-more _ _ _ (slotsIn (a .t3) (a .n)) i _ h (search (needs, room)) (v .4) (slot-listed (a .t3) (a .n) i _ (c .before .before .slot-of .ensures) h) (c .replace .ensures .0),
+      scatters-more _ _ _ (slotsIn (a .t3) (a .n)) i _ h (search (needs, room)) (v .4)
+          (slot-listed (a .t3) (a .n) i _ (c .before .before .slot-of .ensures) h) (c .replace .ensures .0),
       c .replace .ensures .1 ∙ v .5,
     )
 
@@ -85,7 +92,8 @@ returns c =
     let m = c .before .before .lent-count .result in
     let e = c .before .before .lent-count .ensures .0 in
     let whole : length (a .table) ≡ 128 = search (needs, length-mapped) in (
-      sym (lent-front (c .before .loop .next) (a .lent) m (v .3) e) ∙ scatters-all _ _ s (c .before .loop .i) (omega (arith, v .1, c .loop-test .left)) (v .4)
+      sym (lent-front (c .before .loop .next) (a .lent) m (v .3) e) ∙ scatters-all _ _ s (c .before .loop .i)
+          (omega (arith, v .1, c .loop-test .left)) (v .4)
           ∙ ap (λ (t : List Record). scattered t s (a .t5)) (lent-front (a .table) (a .lent) m whole e),
       sym (lent-rest (c .before .loop .next) (a .lent) m (v .3) e) ∙ v .5 ∙ lent-rest (a .table) (a .lent) m whole e,
     )

@@ -12,8 +12,10 @@ use Rattle.listing.proofs.listing.Tie as tie
 put-segments-requires : tie.Need-put-segments-requires
 put-segments-requires c κs =
     let call = c .before .before .before .before in
-    let put = call .before .before .before in
-    (sym (call .judge .ensures) ∙ c .before .before .checked2 .given .1, omega (arith, put .put-text .ensures .next, put .put-text .kept .0, put .before .before .before .if1 .left))
+    let put = call .before .before .before in (
+      sym (call .judge .ensures) ∙ c .before .before .checked2 .given .1,
+      omega (arith, put .put-text .ensures .next, put .put-text .kept .0, put .before .before .before .if1 .left),
+    )
 
 returns-2 : tie.Need-returns-2
 unfolding columnLine ascii
@@ -24,14 +26,16 @@ returns-2 c =
     let put = call .before .before .before in
     wrote-all _ _ _ _ (put .before .before .before .if1 .left)
     (wrote-then _ _ _ _ _ _ _ _ (put .put-text .ensures)
-    (wrote-refused _ _ _ _ _ _ _ (sym (call .judge .ensures) ∙ told .checked .given .1) (last .before .refusal-line .ensures) (last .put-line .ensures)))
+    (wrote-refused _ _ _ _ _ _ _ (sym (call .judge .ensures) ∙ told .checked .given .1) (last .before .refusal-line .ensures)
+    (last .put-line .ensures)))
 
 returns-3 : tie.Need-returns-3
 unfolding columnLine ascii
 returns-3 c =
     let last = c .before .before in
     let put = last .before .before .before .before .before .before .before .before in
-    wrote-all _ _ _ _ (put .before .before .before .if1 .left) (wrote-then _ _ _ _ _ _ _ _ (put .put-text .ensures) (last .put-segments .ensures))
+    wrote-all _ _ _ _ (put .before .before .before .if1 .left)
+    (wrote-then _ _ _ _ _ _ _ _ (put .put-text .ensures) (last .put-segments .ensures))
 
 pub listing-spec : {M : Type 1} → statement M
 listing-spec =

@@ -17,8 +17,10 @@ returns : tie.Need-returns
 returns c =
     let front = c .before in
     let start = front .before .before in
-    let before = holds-added _ _ _ _ (front .before .empty .ensures) (front .put-front .ensures) (omega (arith, length-front _ (fits start))) in
-    rw segment-parts (holds-added _ _ _ _ before (c .put-back .ensures) (omega (arith, length-front _ (fits start), length-back _ (fits start))))
+    let before = holds-added _ _ _ _ (front .before .empty .ensures) (front .put-front .ensures)
+    (omega (arith, length-front _ (fits start))) in
+    rw segment-parts (holds-added _ _ _ _ before (c .put-back .ensures)
+    (omega (arith, length-front _ (fits start), length-back _ (fits start))))
 
 pub segment-line-spec : {M : Type 1} → statement M
 segment-line-spec = tie.close (tie.spec (search needs) (search needs) put-back-requires returns)

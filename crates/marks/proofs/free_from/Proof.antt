@@ -29,4 +29,5 @@ free-from-spec =
     let v = l .loop .inv in
     let m = l .before .args .marks .now in
     (v .0, free-more m (l .loop .slot) _ (v .1) (v .0) (c .if1 .taken), further m (l .loop .slot) _ (v .1) (v .0) (c .if1 .taken)))
-    (λ c. free-stop (c .before .before .before .args .marks .now) (c .before .before .loop .slot) _ (c .before .before .loop .inv .1) (c .before .before .loop .inv .0) (c .if1 .left)))
+    (λ c. free-stop (c .before .before .before .args .marks .now) (c .before .before .loop .slot) _ (c .before .before .loop .inv .1)
+    (c .before .before .loop .inv .0) (c .if1 .left)))

@@ -16,8 +16,11 @@ abbrev μ-loop : tie.MeasureT-loop
 loop-again : tie.Need-loop-again Inv-loop μ-loop
 loop-again c =
     let start = c .before .before .before .before .before in
-    let v = c .before .before .before .before .loop in
-    (search needs, marking-next (v .inv .1) (c .before .slot-of .result) (c .before .slot-of .ensures .0) (c .before .before .before .loop-test .taken) (omega (arith, start .pre)))
+    let v = c .before .before .before .before .loop in (
+      search needs,
+      marking-next (v .inv .1) (c .before .slot-of .result) (c .before .slot-of .ensures .0)
+          (c .before .before .before .loop-test .taken) (omega (arith, start .pre)),
+    )
 
 pub mark-spec : {M : Type 1} → statement M
 mark-spec =

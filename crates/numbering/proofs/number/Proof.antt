@@ -10,14 +10,20 @@ returns : tie.Need-returns
 returns c =
     let start = c .before .before in
     let a = start .args in
-    numbers-none (a .flight) (a .window) (a .queued .now) (a .outstanding .now) (a .transmissions .now) (a .records) _ (start .pre) (c .before .numbered-count .ensures) (c .if1 .taken) (search needs)
+    numbers-none (a .flight) (a .window) (a .queued .now) (a .outstanding .now) (a .transmissions .now) (a .records) _ (start .pre)
+    (c .before .numbered-count .ensures) (c .if1 .taken) (search needs)
 
 number-first-requires : tie.Need-number-first-requires
 number-first-requires c κs =
     let start = c .before .before .before .before .before in
     let p = start .pre in
-    let a = start .args in
-    (p .queued-whole, p .outstanding-whole, p .transmissions-whole, few (a .flight) (a .window) (a .queued .now) (a .outstanding .now) (a .transmissions .now) (a .records) _ p (c .before .before .before .before .numbered-count .ensures) (search (needs, length-mapped)))
+    let a = start .args in (
+      p .queued-whole,
+      p .outstanding-whole,
+      p .transmissions-whole,
+      few (a .flight) (a .window) (a .queued .now) (a .outstanding .now) (a .transmissions .now) (a .records) _ p
+          (c .before .before .before .before .numbered-count .ensures) (search (needs, length-mapped)),
+    )
 
 returns-2 : tie.Need-returns-2
 returns-2 c =
@@ -25,7 +31,9 @@ returns-2 c =
     let count = first .before .before .before .before .before in
     let start = count .before in
     let a = start .args in
-    numbers-some (a .flight) (a .window) (a .queued .now) (a .outstanding .now) (a .transmissions .now) (a .records) _ (start .pre) (count .numbered-count .ensures) _ _ _ _ _ (first .number-first .ensures) (c .before .before .before .drop-first .ensures) (c .before .before .sum .ensures)
+    numbers-some (a .flight) (a .window) (a .queued .now) (a .outstanding .now) (a .transmissions .now) (a .records) _ (start .pre)
+    (count .numbered-count .ensures) _ _ _ _ _ (first .number-first .ensures) (c .before .before .before .drop-first .ensures)
+    (c .before .before .sum .ensures)
 
 pub number-spec : {M : Type 1} → statement M
 number-spec =

@@ -22,7 +22,8 @@ loop-again : tie.Need-loop-again Inv-loop μ-loop
 loop-again c =
     let turn = c .before .before .before in
     let p = turn .before .before .pre in
-    numbering-more _ _ _ _ _ _ _ _ _ _ _ _ _ (turn .before .loop .inv) _ _ (p .0) (p .3) (turn .loop-test .taken) (c .before .numbered-record .ensures) (c .sum .ensures)
+    numbering-more _ _ _ _ _ _ _ _ _ _ _ _ _ (turn .before .loop .inv) _ _ (p .0) (p .3) (turn .loop-test .taken)
+    (c .before .numbered-record .ensures) (c .sum .ensures)
 
 returns : tie.Need-returns Inv-loop μ-loop
 returns c = numbering-done _ _ _ _ _ _ _ _ _ _ _ _ _ (c .before .loop .inv) (c .loop-test .left)

@@ -15,7 +15,8 @@ module _ (k : Packer) (lengths : List ℕ) where
   empty : k .at ≡ k .start → Finishes k lengths (k .count) lengths
   empty e = record { number = omega arith; sizes = rw (eq-eqb (k .at) (k .start) e) }
 
-  last : (k′ : Packer) (lengths′ : List ℕ) → (k .at ≡ k .start → ⊥) → k .start ≤ k .at → k′ ≡ closed k → lengths′ ≡ withLength k lengths → Finishes k lengths (k′ .count) lengths′
+  last : (k′ : Packer) (lengths′ : List ℕ) → (k .at ≡ k .start → ⊥) → k .start ≤ k .at → k′ ≡ closed k → lengths′ ≡ withLength k lengths
+      → Finishes k lengths (k′ .count) lengths′
   last k′ lengths′ e h p q = record { number = rw p (omega arith); sizes = rw (ne-eqb (k .at) (k .start) e) q }
 
 pub finish-spec : {M : Type 1} → statement M
@@ -25,4 +26,5 @@ finish-spec =
     (λ c. empty _ _ (c .if1 .taken))
     (search needs)
     (search needs)
-    (λ c. let call = c .before .before in last _ _ _ _ (call .before .before .if1 .left) (search needs) (call .close .ensures .0) (call .close .ensures .1)))
+    (λ c. let call = c .before .before in
+    last _ _ _ _ (call .before .before .if1 .left) (search needs) (call .close .ensures .0) (call .close .ensures .1)))

@@ -14,7 +14,8 @@ module _ (mtu n : ℕ) (k : Packer) (lengths : List ℕ) where
   fitting : fits mtu n k ≡ true → MakesRoom mtu n k lengths k lengths
   fitting e = record { packer = rw e; sizes = rw e }
 
-  closing : (k′ : Packer) (lengths′ : List ℕ) → fits mtu n k ≡ false → k′ ≡ closed k → lengths′ ≡ withLength k lengths → MakesRoom mtu n k lengths k′ lengths′
+  closing : (k′ : Packer) (lengths′ : List ℕ) → fits mtu n k ≡ false → k′ ≡ closed k → lengths′ ≡ withLength k lengths
+      → MakesRoom mtu n k lengths k′ lengths′
   closing k′ lengths′ e p q = record { packer = rw e p; sizes = rw e q }
 
 pub make-room-spec : {M : Type 1} → statement M
@@ -26,4 +27,5 @@ make-room-spec =
     (λ c. fitting _ _ _ _ (c .if1 .taken))
     (search needs)
     (search needs)
-    (λ c. let call = c .before .before in closing _ _ _ _ _ _ (call .before .before .if1 .left) (call .close .ensures .0) (call .close .ensures .1)))
+    (λ c. let call = c .before .before in
+    closing _ _ _ _ _ _ (call .before .before .if1 .left) (call .close .ensures .0) (call .close .ensures .1)))

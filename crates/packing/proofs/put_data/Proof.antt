@@ -18,8 +18,10 @@ use Rattle.packing.proofs.put_data.Statement.{statement}
 use Rattle.packing.proofs.put_data.Tie as tie
 
 payload-puts : (mtu n : ℕ) (h : Header) (k q : Packer) (out lengths headed lengths′ out′ pool : List ℕ) (from len : ℕ)
-    → Puts mtu n (encode h) k out lengths q headed lengths′ → out′ ≡ sets headed (k .at + 24) (part pool from len) → from + len ≤ length pool
-    → Puts mtu n (encode h ++ part pool from len) k out lengths (record { at = k .at + 24 + len; start = q .start; count = q .count }) out′ lengths′
+    → Puts mtu n (encode h) k out lengths q headed lengths′ → out′ ≡ sets headed (k .at + 24) (part pool from len) → from
+    + len ≤ length pool
+    → Puts mtu n (encode h ++ part pool from len) k out lengths (record { at = k .at + 24 + len; start = q .start; count = q .count }) out′
+    lengths′
 payload-puts mtu n h k q out lengths headed lengths′ out′ pool from len p e enough =
     let size : length (part pool from len) ≡ len = simp (length-take, length-drop) (omega arith) in
     record {

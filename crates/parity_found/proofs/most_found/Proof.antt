@@ -11,7 +11,17 @@ use Rattle.frames.specs.Reading.{datagramAt, found, lenAt}
 use Rattle.parity_scan.specs.Held.{shardIn}
 use Rattle.parity_found.specs.Ready.{lenIn, datagramIn}
 use Rattle.parity_found.specs.ReadyLaws.{whole-first, whole-second, whole-held}
-use Rattle.parity_found.specs.FoundLaws.{lengths-good, lengths-short, lengths-long, largest-next, length-datagram, lens-least, found-most, whole-len, whole-trimmed}
+use Rattle.parity_found.specs.FoundLaws.{
+  lengths-good,
+  lengths-short,
+  lengths-long,
+  largest-next,
+  length-datagram,
+  lens-least,
+  found-most,
+  whole-len,
+  whole-trimmed,
+}
 use Rattle.parity_found.proofs.most_found.Statement.{statement}
 use Rattle.parity_found.proofs.most_found.Tie as tie
 
@@ -27,21 +37,36 @@ loop-holds c = (omega arith, refl, omega arith)
 
 loop-again : tie.Need-loop-again Inv-loop μ-loop
 loop-again c =
-    let n = largest-next (datagramAt (c .before .before .before .before .before .before .before .before .args .g .k) (shardIn (c .before .before .before .before .before .before .before .before .args .s .now) (c .before .before .before .before .before .before .before .before .args .g .held))) (c .before .before .before .before .loop .p) in
-    let l = length-datagram (c .before .before .before .before .before .before .before .before .args .g .k) (shardIn (c .before .before .before .before .before .before .before .before .args .s .now) (c .before .before .before .before .before .before .before .before .args .g .held)) (c .before .before .before .before .loop .p) (c .before .len-of .result) (c .before .len-of .ensures .0) in
+    let n = largest-next (datagramAt (c .before .before .before .before .before .before .before .before .args .g .k)
+    (shardIn (c .before .before .before .before .before .before .before .before .args .s .now)
+    (c .before .before .before .before .before .before .before .before .args .g .held))) (c .before .before .before .before .loop .p) in
+    let l = length-datagram (c .before .before .before .before .before .before .before .before .args .g .k)
+    (shardIn (c .before .before .before .before .before .before .before .before .args .s .now)
+    (c .before .before .before .before .before .before .before .before .args .g .held)) (c .before .before .before .before .loop .p)
+    (c .before .len-of .result) (c .before .len-of .ensures .0) in
     (omega arith, omega (arith, n, l, c .before .before .before .before .loop .inv .1), omega (arith, c .before .len-of .ensures .1))
 
 loop-again-2 : tie.Need-loop-again-2 Inv-loop μ-loop
 loop-again-2 c =
-    let n = largest-next (datagramAt (c .before .before .before .before .before .before .before .before .args .g .k) (shardIn (c .before .before .before .before .before .before .before .before .args .s .now) (c .before .before .before .before .before .before .before .before .args .g .held))) (c .before .before .before .before .loop .p) in
-    let l = length-datagram (c .before .before .before .before .before .before .before .before .args .g .k) (shardIn (c .before .before .before .before .before .before .before .before .args .s .now) (c .before .before .before .before .before .before .before .before .args .g .held)) (c .before .before .before .before .loop .p) (c .before .len-of .result) (c .before .len-of .ensures .0) in
+    let n = largest-next (datagramAt (c .before .before .before .before .before .before .before .before .args .g .k)
+    (shardIn (c .before .before .before .before .before .before .before .before .args .s .now)
+    (c .before .before .before .before .before .before .before .before .args .g .held))) (c .before .before .before .before .loop .p) in
+    let l = length-datagram (c .before .before .before .before .before .before .before .before .args .g .k)
+    (shardIn (c .before .before .before .before .before .before .before .before .args .s .now)
+    (c .before .before .before .before .before .before .before .before .args .g .held)) (c .before .before .before .before .loop .p)
+    (c .before .len-of .result) (c .before .len-of .ensures .0) in
     (omega arith, omega (arith, n, l, c .before .before .before .before .loop .inv .1), omega arith)
 
 returns : tie.Need-returns Inv-loop μ-loop
 unfolding found
 returns c =
-    let e : c .before .before .loop .p ≡ c .before .before .before .before .before .before .args .g .k = omega arith in
-    (c .before .before .loop .inv .1 ∙ ap (λ (n : ℕ). largest (lengthsOf (listed (datagramAt (c .before .before .before .before .before .before .args .g .k) (shardIn (c .before .before .before .before .before .before .args .s .now) (c .before .before .before .before .before .before .args .g .held))) n))) e, c .before .before .loop .inv .2)
+    let e : c .before .before .loop .p ≡ c .before .before .before .before .before .before .args .g .k = omega arith in (
+      c .before .before .loop .inv .1 ∙ ap (λ (n : ℕ). largest
+          (lengthsOf (listed (datagramAt (c .before .before .before .before .before .before .args .g .k)
+          (shardIn (c .before .before .before .before .before .before .args .s .now)
+          (c .before .before .before .before .before .before .args .g .held))) n))) e,
+      c .before .before .loop .inv .2,
+    )
 
 pub most-found-spec : {M : Type 1} → statement M
 most-found-spec =

@@ -13,7 +13,21 @@ use Rattle.frames.specs.Lists.{other}
 use Rattle.frames.specs.PartLaws.{length-part}
 use Rattle.frames.specs.WeightLaws.{tail, added-from-0}
 use Rattle.parity_scan.specs.Held.{shardIn, sized}
-use Rattle.parity_restore.specs.RestoreLaws.{heldByte, rest-none, rest-next, rest-done, other-passed, other-found, solved-first, solved-second, both-first, both-second, rest-small, other-lt, other-apart}
+use Rattle.parity_restore.specs.RestoreLaws.{
+  heldByte,
+  rest-none,
+  rest-next,
+  rest-done,
+  other-passed,
+  other-found,
+  solved-first,
+  solved-second,
+  both-first,
+  both-second,
+  rest-small,
+  other-lt,
+  other-apart,
+}
 use Rattle.parity_restore.proofs.other_lost.Statement.{statement}
 use Rattle.parity_restore.proofs.other_lost.Tie as tie
 
@@ -29,14 +43,24 @@ loop-holds c = (omega arith, refl)
 
 loop-again : tie.Need-loop-again Inv-loop μ-loop
 unfolding sized
-loop-again c = (omega arith, c .before .before .before .loop .inv .1 ∙ sym (other-passed (sized (c .before .before .before .before .args .t1)) (c .before .before .before .before .args .i) (c .before .before .before .loop .p) (c .if1 .taken)))
+loop-again c = (
+  omega arith,
+  c .before .before .before .loop .inv .1 ∙ sym
+      (other-passed (sized (c .before .before .before .before .args .t1)) (c .before .before .before .before .args .i)
+      (c .before .before .before .loop .p) (c .if1 .taken)),
+)
 
 loop-again-2 : tie.Need-loop-again-2 Inv-loop μ-loop
 unfolding sized
-loop-again-2 c = (omega arith, sym (other-found (sized (c .before .before .before .before .args .t1)) (c .before .before .before .before .args .i) (c .before .before .before .loop .p) (c .if1 .left)))
+loop-again-2 c = (
+  omega arith,
+  sym (other-found (sized (c .before .before .before .before .args .t1))
+      (c .before .before .before .before .args .i) (c .before .before .before .loop .p) (c .if1 .left)),
+)
 
 returns : tie.Need-returns Inv-loop μ-loop
-returns c = let e : c .before .loop .p ≡ c .before .before .args .k = omega arith in c .before .loop .inv .1 ∙ ap (other (sized (c .before .before .args .t1)) (c .before .before .args .i)) e
+returns c = let e : c .before .loop .p ≡ c .before .before .args .k = omega arith in
+    c .before .loop .inv .1 ∙ ap (other (sized (c .before .before .args .t1)) (c .before .before .args .i)) e
 
 pub other-lost-spec : {M : Type 1} → statement M
 other-lost-spec =

@@ -14,7 +14,23 @@ use Rattle.frames.specs.Reading.{rest, solved}
 use Rattle.frames.specs.PartLaws.{length-part}
 use Rattle.frames.specs.WeightLaws.{tail, added-from-0}
 use Rattle.parity_scan.specs.Held.{shardIn, sized}
-use Rattle.parity_restore.specs.RestoreLaws.{row-sized, row-only, heldByte, rest-none, rest-next, rest-done, other-passed, other-found, solved-first, solved-second, both-first, both-second, rest-small, other-lt, other-apart}
+use Rattle.parity_restore.specs.RestoreLaws.{
+  row-sized,
+  row-only,
+  heldByte,
+  rest-none,
+  rest-next,
+  rest-done,
+  other-passed,
+  other-found,
+  solved-first,
+  solved-second,
+  both-first,
+  both-second,
+  rest-small,
+  other-lt,
+  other-apart,
+}
 use Rattle.parity_restore.proofs.restore.Statement.{statement}
 use Rattle.parity_restore.proofs.restore.Tie as tie
 
@@ -22,9 +38,29 @@ solve-two-requires : tie.Need-solve-two-requires
 solve-two-requires c κs =
     let d : c .before .before .before .before .before .before .before .args .i ≡ 12 → ⊥ = c .before .before .before .if1 .left in
     let e : c .before .before .before .before .before .before .before .args .j ≡ 12 → ⊥ = c .before .before .if2 .left in
-    let i : c .before .before .before .before .before .before .before .args .i < 10 = subst (λ (n : ℕ). n < 10) (sym (c .before .before .before .before .before .before .before .pre .4)) (other-lt (sized (c .before .before .before .before .before .before .before .args .h)) 12 (c .before .before .before .before .before .before .before .args .k) (search needs) (λ q. d (c .before .before .before .before .before .before .before .pre .4 ∙ q))) in
-    let j : c .before .before .before .before .before .before .before .args .j < 10 = subst (λ (n : ℕ). n < 10) (sym (c .before .before .before .before .before .before .before .pre .5)) (other-lt (sized (c .before .before .before .before .before .before .before .args .h)) (c .before .before .before .before .before .before .before .args .i) (c .before .before .before .before .before .before .before .args .k) (search needs) (λ q. e (c .before .before .before .before .before .before .before .pre .5 ∙ q))) in
-    (search needs, c .before .before .before .before .before .before .before .pre .1, c .before .before .before .before .before .before .before .pre .2, c .before .before .before .before .before .before .before .pre .3, i, j, λ q. other-apart (sized (c .before .before .before .before .before .before .before .args .h)) (c .before .before .before .before .before .before .before .args .i) (c .before .before .before .before .before .before .before .args .k) (λ r. e (c .before .before .before .before .before .before .before .pre .5 ∙ r)) (sym (c .before .before .before .before .before .before .before .pre .5) ∙ sym q))
+    let i : c .before .before .before .before .before .before .before .args .i < 10 =
+    subst (λ (n : ℕ). n < 10) (sym (c .before .before .before .before .before .before .before .pre .4))
+    (other-lt (sized (c .before .before .before .before .before .before .before .args .h)) 12
+    (c .before .before .before .before .before .before .before .args .k) (search needs)
+    (λ q. d (c .before .before .before .before .before .before .before .pre .4 ∙ q))) in
+    let j : c .before .before .before .before .before .before .before .args .j < 10 =
+    subst (λ (n : ℕ). n < 10) (sym (c .before .before .before .before .before .before .before .pre .5))
+    (other-lt (sized (c .before .before .before .before .before .before .before .args .h))
+    (c .before .before .before .before .before .before .before .args .i)
+    (c .before .before .before .before .before .before .before .args .k) (search needs)
+    (λ q. e (c .before .before .before .before .before .before .before .pre .5 ∙ q))) in (
+      search needs,
+      c .before .before .before .before .before .before .before .pre .1,
+      c .before .before .before .before .before .before .before .pre .2,
+      c .before .before .before .before .before .before .before .pre .3,
+      i,
+      j,
+      λ q. other-apart (sized (c .before .before .before .before .before .before .before .args .h))
+          (c .before .before .before .before .before .before .before .args .i)
+          (c .before .before .before .before .before .before .before .args .k)
+          (λ r. e (c .before .before .before .before .before .before .before .pre .5 ∙ r))
+          (sym (c .before .before .before .before .before .before .before .pre .5) ∙ sym q),
+    )
 
 returns : tie.Need-returns
 returns c = record {
@@ -42,7 +78,13 @@ returns-2 c = record {
   sizeB = c .before .before .before .before .before .before .before .before .before .pre .3;
   bytesA = λ x. omega (arith, c .slice-known3 .given x);
   bytesB = λ x. omega (arith, c .before .before .before .before .before .before .slice-known2 .given x);
-  first = λ d. row-only (c .before .before .before .before .before .before .before .before .before .args .k) (shardIn (c .before .before .before .before .before .before .before .before .before .args .s .now) (c .before .before .before .before .before .before .before .before .before .args .h)) (c .before .before .before .before .before .before .before .before .before .args .i) (c .before .before .before .before .before .before .before .before .before .args .j) (length (c .before .before .before .before .before .before .before .before .before .args .a .now)) _ (c .before .before .before .before .if2 .taken) (c .before .before .solve-one .ensures);
+  first = λ d. row-only (c .before .before .before .before .before .before .before .before .before .args .k)
+      (shardIn (c .before .before .before .before .before .before .before .before .before .args .s .now)
+      (c .before .before .before .before .before .before .before .before .before .args .h))
+      (c .before .before .before .before .before .before .before .before .before .args .i)
+      (c .before .before .before .before .before .before .before .before .before .args .j)
+      (length (c .before .before .before .before .before .before .before .before .before .args .a .now)) _
+      (c .before .before .before .before .if2 .taken) (c .before .before .solve-one .ensures);
   second = λ d e. absurd (e (c .before .before .before .before .if2 .taken));
 }
 

@@ -13,12 +13,32 @@ use Rattle.frames.specs.Reading.{groupOf, placeOf}
 use Rattle.frames.specs.PartLaws.{add-up-next, add-up-le, length-part}
 use Rattle.parity_scan.specs.Held.{noted, sized}
 use Rattle.parity_scan.specs.HeldLaws.{count-more, count-same}
-use Rattle.parity_scan.specs.ScanLaws.{numberAt-part, type-data, type-parity, frame-right, frame-short, Seen, seen-none, seen-room, seen-stop, frame-long, seen-next, seen-all, scan-wrong, scan-right, scan-none, scan-first, first-short, empty-held}
+use Rattle.parity_scan.specs.ScanLaws.{
+  numberAt-part,
+  type-data,
+  type-parity,
+  frame-right,
+  frame-short,
+  Seen,
+  seen-none,
+  seen-room,
+  seen-stop,
+  frame-long,
+  seen-next,
+  seen-all,
+  scan-wrong,
+  scan-right,
+  scan-none,
+  scan-first,
+  first-short,
+  empty-held,
+}
 use Rattle.parity_scan.proofs.half_at.Statement.{statement}
 use Rattle.parity_scan.proofs.half_at.Tie as tie
 
 returns : tie.Need-returns
-returns c = c .read-u16 .ensures ∙ sym (numberAt-part 2 (c .before .before .args .s .now) (c .before .before .args .at) (c .before .before .args .n) (c .before .before .args .i) (search needs))
+returns c = c .read-u16 .ensures ∙ sym (numberAt-part 2 (c .before .before .args .s .now) (c .before .before .args .at)
+    (c .before .before .args .n) (c .before .before .args .i) (search needs))
 
 pub half-at-spec : {M : Type 1} → statement M
 half-at-spec =

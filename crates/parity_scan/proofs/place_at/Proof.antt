@@ -13,7 +13,26 @@ use Rattle.frames.specs.Reading.{groupOf, placeOf}
 use Rattle.frames.specs.PartLaws.{add-up-next, add-up-le, length-part}
 use Rattle.parity_scan.specs.Held.{noted, sized}
 use Rattle.parity_scan.specs.HeldLaws.{count-more, count-same}
-use Rattle.parity_scan.specs.ScanLaws.{numberAt-part, type-data, type-parity, frame-right, frame-short, Seen, seen-none, seen-room, seen-stop, frame-long, seen-next, seen-all, scan-wrong, scan-right, scan-none, scan-first, first-short, empty-held}
+use Rattle.parity_scan.specs.ScanLaws.{
+  numberAt-part,
+  type-data,
+  type-parity,
+  frame-right,
+  frame-short,
+  Seen,
+  seen-none,
+  seen-room,
+  seen-stop,
+  frame-long,
+  seen-next,
+  seen-all,
+  scan-wrong,
+  scan-right,
+  scan-none,
+  scan-first,
+  first-short,
+  empty-held,
+}
 use Rattle.parity_scan.proofs.place_at.Statement.{statement}
 use Rattle.parity_scan.proofs.place_at.Tie as tie
 

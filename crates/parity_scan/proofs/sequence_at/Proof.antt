@@ -13,12 +13,33 @@ use Rattle.frames.specs.Reading.{groupOf, placeOf}
 use Rattle.frames.specs.PartLaws.{add-up-next, add-up-le, length-part}
 use Rattle.parity_scan.specs.Held.{noted, sized}
 use Rattle.parity_scan.specs.HeldLaws.{count-more, count-same}
-use Rattle.parity_scan.specs.ScanLaws.{numberAt-part, type-data, type-parity, frame-right, frame-short, Seen, seen-none, seen-room, seen-stop, frame-long, seen-next, seen-all, scan-wrong, scan-right, scan-none, scan-first, first-short, empty-held}
+use Rattle.parity_scan.specs.ScanLaws.{
+  numberAt-part,
+  type-data,
+  type-parity,
+  frame-right,
+  frame-short,
+  Seen,
+  seen-none,
+  seen-room,
+  seen-stop,
+  frame-long,
+  seen-next,
+  seen-all,
+  scan-wrong,
+  scan-right,
+  scan-none,
+  scan-first,
+  first-short,
+  empty-held,
+}
 use Rattle.parity_scan.proofs.sequence_at.Statement.{statement}
 use Rattle.parity_scan.proofs.sequence_at.Tie as tie
 
 returns : tie.Need-returns
-returns c = c .wide .ensures ∙ c .before .read-u32 .ensures ∙ sym (numberAt-part 4 (c .before .before .before .args .s .now) (c .before .before .before .args .at) (c .before .before .before .args .n) 0 (search needs) ∙ rw add-zero)
+returns c = c .wide .ensures ∙ c .before .read-u32 .ensures ∙ sym
+    (numberAt-part 4 (c .before .before .before .args .s .now) (c .before .before .before .args .at) (c .before .before .before .args .n) 0
+    (search needs) ∙ rw add-zero)
 
 pub sequence-at-spec : {M : Type 1} → statement M
 sequence-at-spec =

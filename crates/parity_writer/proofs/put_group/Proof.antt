@@ -15,9 +15,37 @@ slice-write-out-lengths-2 c = simp length-set (search needs)
 
 returns : tie.Need-returns
 returns c = (
-  group-bytes (c .before .before .before .before .before .before .before .before .before .before .before .before .before .before .before .before .before .before .before .before .before .args .start) (c .before .before .before .before .before .before .before .before .before .before .before .before .before .before .before .before .before .before .before .before .before .args .s .now) (c .before .before .before .before .before .before .before .before .before .before .before .before .before .before .before .before .before .before .before .before .before .args .lengths .now) (search needs) (c .before .before .before .before .before .before .before .before .before .before .before .before .before .before .before .before .before .before .before .before .before .args .out .now) _ _ _ (c .before .before .before .before .before .before .before .before .before .before .before .before .before .put-all-data .result) (c .before .before .before .before .before .before .before .before .wide .result) (c .before .before .before .before .before .before .before .before .before .before .before .before .before .before .before .before .before .before .before .before .before .args .start + length (c .before .before .before .before .before .before .before .before .before .before .before .before .before .before .before .before .before .before .before .before .before .args .lengths .now))
-      (c .before .before .before .before .before .before .before .before .before .before .before .before .before .put-all-data .ensures .1 .0) (c .before .before .before .before .before .before .before .before .before .before .before .before .before .put-all-data .ensures .0) (c .before .before .before .before .before .before .before .before .wide .ensures ∙ c .before .before .before .before .before .before .before .before .before .before .before .before .before .before .before .before .largest-of .ensures) refl (c .before .before .before .before .before .before .put-parity .ensures) (c .before .before .put-parity2 .ensures),
-  group-lengths (c .before .before .before .before .before .before .before .before .before .before .before .before .before .before .before .before .before .before .before .before .before .args .start) (c .before .before .before .before .before .before .before .before .before .before .before .before .before .before .before .before .before .before .before .before .before .args .s .now) (c .before .before .before .before .before .before .before .before .before .before .before .before .before .before .before .before .before .before .before .before .before .args .lengths .now) (search needs) (c .before .before .before .before .before .before .before .before .before .before .before .before .before .before .before .before .before .before .before .before .before .args .out-lengths .now) _ (c .before .before .before .before .before .before .before .before .before .before .before .before .before .before .before .before .largest-of .result) (c .before .before .before .before .before .before .before .before .before .before .before .before .before .put-all-data .ensures .1 .1) (c .before .before .before .before .before .before .before .before .before .before .before .before .before .before .before .before .largest-of .ensures),
+  group-bytes (c .before .before .before .before .before .before .before .before .before .before .before .before .before .before .before
+      .before .before .before .before .before .before .args .start)
+      (c .before .before .before .before .before .before .before .before .before .before .before .before .before .before .before .before
+      .before .before .before .before .before .args .s .now)
+      (c .before .before .before .before .before .before .before .before .before .before .before .before .before .before .before .before
+      .before .before .before .before .before .args .lengths .now) (search needs)
+      (c .before .before .before .before .before .before .before .before .before .before .before .before .before .before .before .before
+      .before .before .before .before .before .args .out .now) _ _ _
+      (c .before .before .before .before .before .before .before .before .before .before .before .before .before .put-all-data .result)
+      (c .before .before .before .before .before .before .before .before .wide .result)
+      (c .before .before .before .before .before .before .before .before .before .before .before .before .before .before .before .before
+      .before .before .before .before .before .args .start
+      + length (c .before .before .before .before .before .before .before .before .before .before .before .before .before .before .before
+      .before .before .before .before .before .before .args .lengths .now))
+      (c .before .before .before .before .before .before .before .before .before .before .before .before .before .put-all-data .ensures .1
+      .0) (c .before .before .before .before .before .before .before .before .before .before .before .before .before .put-all-data .ensures
+      .0) (c .before .before .before .before .before .before .before .before .wide .ensures ∙ c .before .before .before .before .before
+      .before .before .before .before .before .before .before .before .before .before .before .largest-of .ensures) refl
+      (c .before .before .before .before .before .before .put-parity .ensures) (c .before .before .put-parity2 .ensures),
+  group-lengths (c .before .before .before .before .before .before .before .before .before .before .before .before .before .before .before
+      .before .before .before .before .before .before .args .start)
+      (c .before .before .before .before .before .before .before .before .before .before .before .before .before .before .before .before
+      .before .before .before .before .before .args .s .now)
+      (c .before .before .before .before .before .before .before .before .before .before .before .before .before .before .before .before
+      .before .before .before .before .before .args .lengths .now) (search needs)
+      (c .before .before .before .before .before .before .before .before .before .before .before .before .before .before .before .before
+      .before .before .before .before .before .args .out-lengths .now) _
+      (c .before .before .before .before .before .before .before .before .before .before .before .before .before .before .before .before
+      .largest-of .result) (c .before .before .before .before .before .before .before .before .before .before .before .before .before
+      .put-all-data .ensures .1 .1) (c .before .before .before .before .before .before .before .before .before .before .before .before
+      .before .before .before .before .largest-of .ensures),
 )
 
 pub put-group-spec : {M : Type 1} → statement M

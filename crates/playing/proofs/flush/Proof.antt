@@ -7,12 +7,24 @@ use Rattle.playing.proofs.flush.Tie as tie
 returns : tie.Need-returns
 returns c =
     let done = c .before .before .before .before .before .before .before .before .before .before .before .before .flush in
-    record { done = done .result; output = done .last .1 .1 .1 .1 .1 .0; lengths = done .last .1 .1 .1 .1 .1 .1 .0; promise = done .ensures; says = rw (c .before .before .before .before .before .before .before .answer .given .1) (c .before .before .flushed .ensures) }
+    record {
+      done = done .result;
+      output = done .last .1 .1 .1 .1 .1 .0;
+      lengths = done .last .1 .1 .1 .1 .1 .1 .0;
+      promise = done .ensures;
+      says = rw (c .before .before .before .before .before .before .before .answer .given .1) (c .before .before .flushed .ensures);
+    }
 
 returns-2 : tie.Need-returns-2
 returns-2 c =
     let done = c .before .before .before .before .before .before .before .before .before .before .flush in
-    record { done = done .result; output = done .last .1 .1 .1 .1 .1 .0; lengths = done .last .1 .1 .1 .1 .1 .1 .0; promise = done .ensures; says = rw (c .before .before .before .before .before .answer2 .given .1) (c .before .before .refused .ensures) }
+    record {
+      done = done .result;
+      output = done .last .1 .1 .1 .1 .1 .0;
+      lengths = done .last .1 .1 .1 .1 .1 .1 .0;
+      promise = done .ensures;
+      says = rw (c .before .before .before .before .before .answer2 .given .1) (c .before .before .refused .ensures);
+    }
 
 pub flush-spec : {M : Type 1} → statement M
 flush-spec =

@@ -5,7 +5,12 @@ use Rattle.playing.proofs.input.Statement.{statement}
 use Rattle.playing.proofs.input.Tie as tie
 
 returns : tie.Need-returns
-returns c = record { done = c .before .before .before .before .before .before .before .before .input .result; promise = rw (front-take _ _ _ (c .before .before .before .before .before .before .before .before .before .before .before .before .front .ensures)) at (c .before .before .before .before .before .before .before .before .input .ensures); says = c .before .before .answered .ensures }
+returns c = record {
+  done = c .before .before .before .before .before .before .before .before .input .result;
+  promise = rw (front-take _ _ _ (c .before .before .before .before .before .before .before .before .before .before .before .before .front
+      .ensures)) at (c .before .before .before .before .before .before .before .before .input .ensures);
+  says = c .before .before .answered .ensures;
+}
 
 pub input-spec : {M : Type 1} → statement M
 input-spec =

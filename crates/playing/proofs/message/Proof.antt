@@ -9,7 +9,11 @@ use Rattle.playing.proofs.message.Tie as tie
 
 returns : tie.Need-returns
 unfolding ascii
-returns c = record { bench = refl; answer = rw (front-take _ _ _ (c .before .before .before .before .before .before .front .ensures)) at (c .before .before .bytes-line .ensures) }
+returns c = record {
+  bench = refl;
+  answer = rw (front-take _ _ _ (c .before .before .before .before .before .before .front .ensures)) at
+      (c .before .before .bytes-line .ensures);
+}
 
 pub message-spec : {M : Type 1} → statement M
 message-spec = tie.close (tie.spec (search needs) (search needs) (search needs) (search needs) (search needs) returns)

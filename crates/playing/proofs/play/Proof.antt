@@ -40,11 +40,13 @@ returns-2 c =
 
 returns-3 : tie.Need-returns-3
 returns-3 c =
-    let k = c .before .before .before .before .before .before .before .before .before .before .before .before .before .before .match .keys3 in
+    let k = c .before .before .before .before .before .before .before .before .before .before .before .before .before .before .match
+    .keys3 in
     record {
       malformed = λ h. absurd (not-malformed _ k h);
       opens =
-          λ conv mtu mode interval threshold stream congestion h. absurd (not-open _ k conv mtu mode interval threshold stream congestion h);
+          λ conv mtu mode interval threshold stream congestion h. absurd
+          (not-open _ k conv mtu mode interval threshold stream congestion h);
       onLink =
           λ l o. c .before .before .before .before .before .before .before .before .on-link .ensures;
       unopened =
@@ -58,7 +60,8 @@ returns-4 c =
     record {
       malformed = λ h. absurd (not-malformed _ k h);
       opens =
-          λ conv mtu mode interval threshold stream congestion h. absurd (not-open _ k conv mtu mode interval threshold stream congestion h);
+          λ conv mtu mode interval threshold stream congestion h. absurd
+          (not-open _ k conv mtu mode interval threshold stream congestion h);
       onLink =
           λ l o. absurd (both _ o (c .before .before .before .before .if1 .left));
       unopened =

@@ -5,7 +5,12 @@ use Rattle.playing.proofs.send.Statement.{statement}
 use Rattle.playing.proofs.send.Tie as tie
 
 returns : tie.Need-returns
-returns c = record { done = c .before .before .before .before .before .before .send .result; promise = rw (front-take _ _ _ (c .before .before .before .before .before .before .before .before .before .front .ensures)) at (c .before .before .before .before .before .before .send .ensures); says = c .before .before .answered .ensures }
+returns c = record {
+  done = c .before .before .before .before .before .before .send .result;
+  promise = rw (front-take _ _ _ (c .before .before .before .before .before .before .before .before .before .front .ensures)) at
+      (c .before .before .before .before .before .before .send .ensures);
+  says = c .before .before .answered .ensures;
+}
 
 pub send-spec : {M : Type 1} → statement M
 send-spec =

@@ -8,7 +8,12 @@ use Rattle.playing.proofs.show.Tie as tie
 
 returns : tie.Need-returns
 unfolding ascii
-returns c = record { part = c .before .before .before .before .before .before .show .result .now; promise = c .before .before .before .before .before .before .show .ensures; says = rw (c .kept .ensures) (record { bench = refl; answer = c .before .before .before .bytes-line .ensures }) }
+returns c = record {
+  part = c .before .before .before .before .before .before .show .result .now;
+  promise = c .before .before .before .before .before .before .show .ensures;
+  says =
+      rw (c .kept .ensures) (record { bench = refl; answer = c .before .before .before .bytes-line .ensures });
+}
 
 pub show-spec : {M : Type 1} → statement M
 show-spec =

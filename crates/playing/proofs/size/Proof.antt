@@ -5,7 +5,12 @@ use Rattle.playing.proofs.size.Statement.{statement}
 use Rattle.playing.proofs.size.Tie as tie
 
 returns : tie.Need-returns
-returns c = record { count = c .before .before .before .before .before .size .result; promise = c .before .before .before .before .before .size .ensures; says = rw (c .kept .ensures) (record { bench = refl; answer = c .before .before .before .count .ensures }) }
+returns c = record {
+  count = c .before .before .before .before .before .size .result;
+  promise = c .before .before .before .before .before .size .ensures;
+  says =
+      rw (c .kept .ensures) (record { bench = refl; answer = c .before .before .before .count .ensures });
+}
 
 pub size-spec : {M : Type 1} → statement M
 size-spec =

@@ -27,7 +27,8 @@ returns-7 : tie.Need-returns-7
 returns-7 c = rw (c .before .before .before .before .before .command5 .given .1) (c .before .before .rec .ensures)
 
 returns-8 : tie.Need-returns-8
-returns-8 c = no-tool (c .before .before .before .before .before .before .args .command) _ _ _ _ (c .before .before .before .before .match .keys8) (c .before .before .malformed .ensures)
+returns-8 c = no-tool (c .before .before .before .before .before .before .args .command) _ _ _ _
+    (c .before .before .before .before .match .keys8) (c .before .before .malformed .ensures)
 
 pub tool-spec : {M : Type 1} → statement M
 tool-spec =

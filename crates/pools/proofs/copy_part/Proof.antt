@@ -19,12 +19,14 @@ part-cons l i n m e h = rw (e, drop-cons l i 0)
 
 step : (src out out₀ : List ℕ) (from at len i : ℕ) → i < len → from + len ≤ length src
     → sets out (at + i) (part src (from + i) (len - i)) ≡ sets out₀ at (part src from len)
-    → sets (set out (at + i) (getD src (from + i) 0)) (at + (i + 1)) (part src (from + (i + 1)) (len - (i + 1))) ≡ sets out₀ at (part src from len)
+    → sets (set out (at + i) (getD src (from + i) 0)) (at + (i + 1)) (part src (from + (i + 1)) (len - (i + 1))) ≡ sets out₀ at
+    (part src from len)
 step src out out₀ from at len i more long e =
     rw (add-one i, add-suc, add-suc) (rw (part-cons src (from + i) (len - i) (len - suc i) (omega arith) (omega arith)) at e)
 
 abbrev Inv-loop : tie.InvT-loop
-Inv-loop src from len out₀ at i₀ out i = (i ≤ len) × (length out ≡ length out₀) × (sets out (at + i) (part src (from + i) (len - i)) ≡ sets out₀ at (part src from len))
+Inv-loop src from len out₀ at i₀ out i =
+    (i ≤ len) × (length out ≡ length out₀) × (sets out (at + i) (part src (from + i) (len - i)) ≡ sets out₀ at (part src from len))
 
 abbrev μ-loop : tie.MeasureT-loop
 μ-loop src from len out₀ at i₀ out i = len - i
@@ -35,8 +37,11 @@ loop-holds c = (omega arith, refl, rw (add-zero, add-zero, sub-zero))
 loop-again : tie.Need-loop-again Inv-loop μ-loop
 loop-again c =
     let l = c .before .before .loop in
-    let a = c .before .before .before .args in
-    (omega arith, simp length-set (l .inv .1), step (a .src .now) (l .out) (a .out .now) (a .from) (a .at) (a .len) (l .i) (omega arith) (omega arith) (l .inv .2))
+    let a = c .before .before .before .args in (
+      omega arith,
+      simp length-set (l .inv .1),
+      step (a .src .now) (l .out) (a .out .now) (a .from) (a .at) (a .len) (l .i) (omega arith) (omega arith) (l .inv .2),
+    )
 
 returns : tie.Need-returns Inv-loop μ-loop
 returns c =

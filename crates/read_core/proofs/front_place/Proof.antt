@@ -9,10 +9,13 @@ use Rattle.read_core.proofs.front_place.Tie as tie
 returns : tie.Need-returns
 returns c =
     let a = c .before .before .before .before .before in
-    front-placed _ (a .args .ready .now) (a .args .n) _ (c .before .before .before .before .readable .ensures) (c .before .before .before .if1 .taken) (omega (arith, a .pre .0, a .pre .1)) (a .pre .2) _ _ (c .before .slot-of .ensures .0) (c .len-of .ensures .0)
+    front-placed _ (a .args .ready .now) (a .args .n) _ (c .before .before .before .before .readable .ensures)
+    (c .before .before .before .if1 .taken) (omega (arith, a .pre .0, a .pre .1)) (a .pre .2) _ _ (c .before .slot-of .ensures .0)
+    (c .len-of .ensures .0)
 
 returns-2 : tie.Need-returns-2
-returns-2 c = let a = c .before .before in front-unplaced _ (a .args .ready .now) (a .args .n) _ (c .before .readable .ensures) (c .if1 .left)
+returns-2 c = let a = c .before .before in
+    front-unplaced _ (a .args .ready .now) (a .args .n) _ (c .before .readable .ensures) (c .if1 .left)
 
 pub front-place-spec : {M : Type 1} → statement M
 front-place-spec =

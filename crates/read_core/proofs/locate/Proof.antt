@@ -16,15 +16,26 @@ use Rattle.read_core.proofs.locate.Tie as tie
 
 -- the block
 abbrev block : tie.Start → Link
-block s = let a = s .args in linkOf (a .settings) (a .flight) (a .arrival) (a .clock) (arrays (a .queued .now) (a .outstanding .now) (a .transmissions .now) (a .ready .now) (a .waiting .now) (a .waiting-numbers .now))
+block s = let a = s .args in linkOf (a .settings) (a .flight) (a .arrival) (a .clock)
+    (arrays (a .queued .now) (a .outstanding .now) (a .transmissions .now) (a .ready .now) (a .waiting .now) (a .waiting-numbers .now))
 
 -- the lengths of the lent parts
 abbrev lent : tie.Start → Lengths
 lent s = let a = s .args in lentLengths (a .table) (a .send-pool .now) (a .receive-pool .now) (a .acks .now)
 
 -- it has passed the checks
-passed : (c : tie.After-enum-told) → Readable (block (c .before .before .before .before .before .before .before .before .before)) (c .before .before .before .before .before .before .before .before .before .args .receive-pool .now)
-passed c = passes-readable (block (c .before .before .before .before .before .before .before .before .before)) (c .before .before .before .before .before .before .before .before .before .pre .1 .0) (c .before .before .before .before .before .before .before .before .before .args .acks .now) (lent (c .before .before .before .before .before .before .before .before .before)) (c .before .before .before .before .before .enough .result) (c .before .before .before .before .before .enough .ensures) (c .before .before .admit-flown .result) (c .before .before .admit-flown .ensures (c .before .before .before .before .before .before .before .before .before .pre .1 .0) (c .before .before .before .before .before .before .before .before .before .pre .1 .1) .verdict) (c .enum-told .given .1) (c .before .before .before .before .before .before .before .before .before .args .receive-pool .now) refl
+passed : (c : tie.After-enum-told)
+    → Readable (block (c .before .before .before .before .before .before .before .before .before))
+    (c .before .before .before .before .before .before .before .before .before .args .receive-pool .now)
+passed c = passes-readable (block (c .before .before .before .before .before .before .before .before .before))
+    (c .before .before .before .before .before .before .before .before .before .pre .1 .0)
+    (c .before .before .before .before .before .before .before .before .before .args .acks .now)
+    (lent (c .before .before .before .before .before .before .before .before .before))
+    (c .before .before .before .before .before .enough .result) (c .before .before .before .before .before .enough .ensures)
+    (c .before .before .admit-flown .result) (c .before .before .admit-flown .ensures
+    (c .before .before .before .before .before .before .before .before .before .pre .1 .0)
+    (c .before .before .before .before .before .before .before .before .before .pre .1 .1) .verdict) (c .enum-told .given .1)
+    (c .before .before .before .before .before .before .before .before .before .args .receive-pool .now) refl
 
 front-place-requires : tie.Need-front-place-requires
 front-place-requires c κs =
@@ -42,11 +53,19 @@ unfolding showsWith
 returns c = λ rs w.
     let k = c .before .before in
     let s = k .before .before .before .before .before .before .before .before .before in
-    placed (block s) _ (s .args .acks .now) (s .args .receive-pool .now) _ _ (passes (block s) rs (s .args .acks .now) (lent s) (k .before .before .before .before .before .enough .result) (k .before .before .before .before .before .enough .ensures) (k .before .before .admit-flown .result) (k .before .before .admit-flown .ensures rs w .verdict) (k .enum-told .given .1)) (passed k) _ (c .before .mss .ensures) _ (c .front-place .ensures)
+    placed (block s) _ (s .args .acks .now) (s .args .receive-pool .now) _ _
+    (passes (block s) rs (s .args .acks .now) (lent s) (k .before .before .before .before .before .enough .result)
+    (k .before .before .before .before .before .enough .ensures) (k .before .before .admit-flown .result)
+    (k .before .before .admit-flown .ensures rs w .verdict) (k .enum-told .given .1)) (passed k) _ (c .before .mss .ensures) _
+    (c .front-place .ensures)
 
 returns-2 : tie.Need-returns-2
 unfolding showsWith
-returns-2 c = λ rs w. let s = c .before .before .before .before .before .before .before .before .before .before in unplaced _ _ (refuses (block s) rs (s .args .acks .now) (lent s) (c .before .before .before .before .before .before .enough .result) (c .before .before .before .before .before .before .enough .ensures) (c .before .before .before .admit-flown .result) (c .before .before .before .admit-flown .ensures rs w .verdict) _ _ (c .before .verdict .given .1)) (length (s .args .receive-pool .now))
+returns-2 c = λ rs w. let s = c .before .before .before .before .before .before .before .before .before .before in
+    unplaced _ _ (refuses (block s) rs (s .args .acks .now) (lent s) (c .before .before .before .before .before .before .enough .result)
+    (c .before .before .before .before .before .before .enough .ensures) (c .before .before .before .admit-flown .result)
+    (c .before .before .before .admit-flown .ensures rs w .verdict) _ _ (c .before .verdict .given .1))
+    (length (s .args .receive-pool .now))
 
 pub locate-spec : {M : Type 1} → statement M
 locate-spec =

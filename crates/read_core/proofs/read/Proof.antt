@@ -15,21 +15,35 @@ use Rattle.read_core.proofs.read.Tie as tie
 
 -- the block before
 abbrev block : tie.Start → Link
-block s = let a = s .args in linkOf (a .settings) (a .flight) (a .arrival) (a .clock) (arrays (a .queued .now) (a .outstanding .now) (a .transmissions .now) (a .ready .now) (a .waiting .now) (a .waiting-numbers .now))
+block s = let a = s .args in linkOf (a .settings) (a .flight) (a .arrival) (a .clock)
+    (arrays (a .queued .now) (a .outstanding .now) (a .transmissions .now) (a .ready .now) (a .waiting .now) (a .waiting-numbers .now))
 
 -- the lengths of the lent parts
 abbrev lent : tie.Start → Lengths
 lent s = let a = s .args in lentLengths (a .table) (a .send-pool .now) (a .receive-pool .now) (a .acks .now)
 
 -- it has passed the checks
-passed : (c : tie.After-enum-told) → Readable (block (c .before .before .before .before .before .before .before .before .before .before .before .before .before)) (c .before .before .before .before .before .before .before .before .before .before .before .before .before .args .receive-pool .now)
-passed c = passes-readable (block (c .before .before .before .before .before .before .before .before .before .before .before .before .before)) (c .before .before .before .before .before .before .before .before .before .before .before .before .before .pre .1 .0) (c .before .before .before .before .before .before .before .before .before .before .before .before .before .args .acks .now) (lent (c .before .before .before .before .before .before .before .before .before .before .before .before .before)) (c .before .before .before .before .before .before .before .before .enough .result) (c .before .before .before .before .before .before .before .before .enough .ensures) (c .before .before .admit-flown .result) (c .before .before .admit-flown .ensures (c .before .before .before .before .before .before .before .before .before .before .before .before .before .pre .1 .0) (c .before .before .before .before .before .before .before .before .before .before .before .before .before .pre .1 .1) .verdict) (c .enum-told .given .1) (c .before .before .before .before .before .before .before .before .before .before .before .before .before .args .receive-pool .now) refl
+passed : (c : tie.After-enum-told)
+    → Readable (block (c .before .before .before .before .before .before .before .before .before .before .before .before .before))
+    (c .before .before .before .before .before .before .before .before .before .before .before .before .before .args .receive-pool .now)
+passed c = passes-readable (block (c .before .before .before .before .before .before .before .before .before .before .before .before
+    .before)) (c .before .before .before .before .before .before .before .before .before .before .before .before .before .pre .1 .0)
+    (c .before .before .before .before .before .before .before .before .before .before .before .before .before .args .acks .now)
+    (lent (c .before .before .before .before .before .before .before .before .before .before .before .before .before))
+    (c .before .before .before .before .before .before .before .before .enough .result)
+    (c .before .before .before .before .before .before .before .before .enough .ensures) (c .before .before .admit-flown .result)
+    (c .before .before .admit-flown .ensures (c .before .before .before .before .before .before .before .before .before .before .before
+    .before .before .pre .1 .0) (c .before .before .before .before .before .before .before .before .before .before .before .before .before
+    .pre .1 .1) .verdict) (c .enum-told .given .1)
+    (c .before .before .before .before .before .before .before .before .before .before .before .before .before .args .receive-pool .now)
+    refl
 
 read-message-requires : tie.Need-read-message-requires
 read-message-requires c κs =
     let k = c .before .before .before .before .before in
     let w = k .before .before .before .before .before .before .before .before .before .before .before .before .before .pre .0 in
-    let n = block-counts (block (k .before .before .before .before .before .before .before .before .before .before .before .before .before)) (passed k .counts) in (
+    let n = block-counts (block (k .before .before .before .before .before .before .before .before .before .before .before .before .before))
+    (passed k .counts) in (
       record { whole-ready = w .whole-ready; whole-waiting = w .whole-waiting; whole-numbers = w .whole-numbers },
       record { few-ready = n .ready; few-waiting = n .waiting },
       rw (c .before .before .before .before .mss .ensures) (passed k .inside),
@@ -41,14 +55,23 @@ returns c = λ rs w.
     let k = c .before .before .before .before .before .before .before .before in
     let s = k .before .before .before .before .before .before .before .before .before .before .before .before .before in
     let a = s .args in
-    own-read (block s) _ _ _ _ _ _ _ _ _ (passes (block s) rs (a .acks .now) (lent s) (k .before .before .before .before .before .before .before .before .enough .result) (k .before .before .before .before .before .before .before .before .enough .ensures) (k .before .before .admit-flown .result) (k .before .before .admit-flown .ensures rs w .verdict) (k .enum-told .given .1))
-    (reads-block (a .settings) (a .flight) (a .arrival) (a .clock) (a .queued .now) (a .outstanding .now) (a .transmissions .now) (a .ready .now) (a .waiting .now) (a .waiting-numbers .now) _ (a .acks .now) (a .receive-pool .now) (a .buffer .now) _ _ _ _ _ _ _ (c .before .before .before .before .before .before .before .mss .ensures) (passed k) (c .before .before .read-message .ensures))
+    own-read (block s) _ _ _ _ _ _ _ _ _ (passes (block s) rs (a .acks .now) (lent s)
+    (k .before .before .before .before .before .before .before .before .enough .result)
+    (k .before .before .before .before .before .before .before .before .enough .ensures) (k .before .before .admit-flown .result)
+    (k .before .before .admit-flown .ensures rs w .verdict) (k .enum-told .given .1))
+    (reads-block (a .settings) (a .flight) (a .arrival) (a .clock) (a .queued .now) (a .outstanding .now) (a .transmissions .now)
+    (a .ready .now) (a .waiting .now) (a .waiting-numbers .now) _ (a .acks .now) (a .receive-pool .now) (a .buffer .now) _ _ _ _ _ _ _
+    (c .before .before .before .before .before .before .before .mss .ensures) (passed k) (c .before .before .read-message .ensures))
 
 returns-2 : tie.Need-returns-2
 unfolding readsWith
 returns-2 c = λ rs w.
     let s = c .before .before .before .before .before .before .before .before .before .before .before .before .before .before in
-    not-read _ _ (refuses (block s) rs (s .args .acks .now) (lent s) (c .before .before .before .before .before .before .before .before .before .enough .result) (c .before .before .before .before .before .before .before .before .before .enough .ensures) (c .before .before .before .admit-flown .result) (c .before .before .before .admit-flown .ensures rs w .verdict) _ _ (c .before .verdict .given .1)) (block s) _ _ (s .args .buffer .now)
+    not-read _ _ (refuses (block s) rs (s .args .acks .now) (lent s)
+    (c .before .before .before .before .before .before .before .before .before .enough .result)
+    (c .before .before .before .before .before .before .before .before .before .enough .ensures)
+    (c .before .before .before .admit-flown .result) (c .before .before .before .admit-flown .ensures rs w .verdict) _ _
+    (c .before .verdict .given .1)) (block s) _ _ (s .args .buffer .now)
 
 pub read-spec : {M : Type 1} → statement M
 read-spec =

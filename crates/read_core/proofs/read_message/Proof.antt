@@ -10,14 +10,24 @@ use Rattle.read_core.proofs.read_message.Tie as tie
 
 take-requires : tie.Need-take-requires
 take-requires c κs =
-    let p = c .before .before .before .before .before .before .before .before .before .before .before .pre in
-    (p .0, p .1, p .2, fitting-fits _ _ _ (sym (ap countOutcome (c .before .before .before .before .before .found .given .1)) ∙ c .before .before .before .before .before .before .before .fitting .ensures) .0)
+    let p = c .before .before .before .before .before .before .before .before .before .before .before .pre in (
+      p .0,
+      p .1,
+      p .2,
+      fitting-fits _ _ _ (sym (ap countOutcome (c .before .before .before .before .before .found .given .1)) ∙ c .before
+          .before .before .before .before .before .before .fitting .ensures) .0,
+    )
 
 returns : tie.Need-returns
-returns c = let a = c .before .before .before .before .before .before .before .before .before .before .before .before .before .before .args in message-taken (a .arrival) (a .mss) (a .ready .now) (a .waiting .now) (a .numbers .now) (a .pool .now) (a .buffer .now) _ _ (c .before .before .before .before .before .before .before .before .before .before .fitting .ensures) _ (c .before .before .before .before .before .before .before .before .found .given .1) _ _ _ _ _ (c .before .before .take .ensures)
+returns c = let a = c .before .before .before .before .before .before .before .before .before .before .before .before .before .before
+    .args in message-taken (a .arrival) (a .mss) (a .ready .now) (a .waiting .now) (a .numbers .now) (a .pool .now) (a .buffer .now) _ _
+    (c .before .before .before .before .before .before .before .before .before .before .fitting .ensures) _
+    (c .before .before .before .before .before .before .before .before .found .given .1) _ _ _ _ _ (c .before .before .take .ensures)
 
 returns-2 : tie.Need-returns-2
-returns-2 c = let a = c .before .before .before .before .before .before .before .args in message-kept (a .arrival) (a .mss) (a .ready .now) (a .waiting .now) (a .numbers .now) (a .pool .now) (a .buffer .now) _ _ (c .before .before .before .fitting .ensures) _ (c .before .found2 .given .1)
+returns-2 c = let a = c .before .before .before .before .before .before .before .args in
+    message-kept (a .arrival) (a .mss) (a .ready .now) (a .waiting .now) (a .numbers .now) (a .pool .now) (a .buffer .now) _ _
+    (c .before .before .before .fitting .ensures) _ (c .before .found2 .given .1)
 
 pub read-message-spec : {M : Type 1} → statement M
 read-message-spec =

@@ -17,7 +17,8 @@ abbrev outcome : tie.Start → List Record → Outcome Part
 outcome s rs =
     let a = s .args in
     showsWith
-    (linkOf (a .settings) (a .flight) (a .arrival) (a .clock) (arrays (a .queued .now) (a .outstanding .now) (a .transmissions .now) (a .ready .now) (a .waiting .now) (a .waiting-numbers .now)))
+    (linkOf (a .settings) (a .flight) (a .arrival) (a .clock)
+    (arrays (a .queued .now) (a .outstanding .now) (a .transmissions .now) (a .ready .now) (a .waiting .now) (a .waiting-numbers .now)))
     rs (a .acks .now) (lentLengths (a .table) (a .send-pool .now) (a .receive-pool .now) (a .acks .now))
 
 returns : tie.Need-returns
@@ -25,7 +26,8 @@ returns c = λ rs w.
     let p = c .before .locate in
     let r = c .part-at in
     let pool = c .before .before .before .before .before .args .receive-pool in
-    shows-part (outcome (c .before .before .before .before .before) rs) (pool .now) (p .result) (p .ensures rs w) (pool .ptr) (r .result .ptr) (r .result .now) (r .ensures .0) (r .ensures .1)
+    shows-part (outcome (c .before .before .before .before .before) rs) (pool .now) (p .result) (p .ensures rs w) (pool .ptr)
+    (r .result .ptr) (r .result .now) (r .ensures .0) (r .ensures .1)
 
 pub show-spec : {M : Type 1} → statement M
 show-spec =

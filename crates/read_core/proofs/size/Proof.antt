@@ -15,7 +15,8 @@ use Rattle.read_core.proofs.size.Tie as tie
 
 -- the block
 abbrev block : tie.Start → Link
-block s = let a = s .args in linkOf (a .settings) (a .flight) (a .arrival) (a .clock) (arrays (a .queued .now) (a .outstanding .now) (a .transmissions .now) (a .ready .now) (a .waiting .now) (a .waiting-numbers .now))
+block s = let a = s .args in linkOf (a .settings) (a .flight) (a .arrival) (a .clock)
+    (arrays (a .queued .now) (a .outstanding .now) (a .transmissions .now) (a .ready .now) (a .waiting .now) (a .waiting-numbers .now))
 
 -- the lengths of the lent parts
 abbrev lent : tie.Start → Lengths
@@ -24,7 +25,10 @@ lent s = let a = s .args in lentLengths (a .table) (a .send-pool .now) (a .recei
 front-size-requires : tie.Need-front-size-requires
 front-size-requires c κs =
     let s = c .before .before .before .before .before .before .before .before .before in
-    let ok = passes-readable (block s) (s .pre .1 .0) (s .args .acks .now) (lent s) (c .before .before .before .before .before .enough .result) (c .before .before .before .before .before .enough .ensures) (c .before .before .admit-flown .result) (c .before .before .admit-flown .ensures (s .pre .1 .0) (s .pre .1 .1) .verdict) (c .enum-told .given .1) (s .args .receive-pool .now) refl in
+    let ok = passes-readable (block s) (s .pre .1 .0) (s .args .acks .now) (lent s)
+    (c .before .before .before .before .before .enough .result) (c .before .before .before .before .before .enough .ensures)
+    (c .before .before .admit-flown .result) (c .before .before .admit-flown .ensures (s .pre .1 .0) (s .pre .1 .1) .verdict)
+    (c .enum-told .given .1) (s .args .receive-pool .now) refl in
     let n = block-counts (block s) (ok .counts) in
     (s .pre .0 .whole-ready, omega (arith, n .ready, n .waiting))
 
@@ -32,11 +36,18 @@ returns : tie.Need-returns
 unfolding tellsWith
 returns c = λ rs w.
     let s = c .before .before .before .before .before .before .before .before .before .before in
-    tells-block (block s) _ (s .args .acks .now) _ _ (passes (block s) rs (s .args .acks .now) (lent s) (c .before .before .before .before .before .before .enough .result) (c .before .before .before .before .before .before .enough .ensures) (c .before .before .before .admit-flown .result) (c .before .before .before .admit-flown .ensures rs w .verdict) (c .before .enum-told .given .1)) (c .front-size .result) (c .front-size .ensures)
+    tells-block (block s) _ (s .args .acks .now) _ _
+    (passes (block s) rs (s .args .acks .now) (lent s) (c .before .before .before .before .before .before .enough .result)
+    (c .before .before .before .before .before .before .enough .ensures) (c .before .before .before .admit-flown .result)
+    (c .before .before .before .admit-flown .ensures rs w .verdict) (c .before .enum-told .given .1)) (c .front-size .result)
+    (c .front-size .ensures)
 
 returns-2 : tie.Need-returns-2
 unfolding tellsWith
-returns-2 c = λ rs w. let s = c .before .before .before .before .before .before .before .before .before .before in sym (refuses (block s) rs (s .args .acks .now) (lent s) (c .before .before .before .before .before .before .enough .result) (c .before .before .before .before .before .before .enough .ensures) (c .before .before .before .admit-flown .result) (c .before .before .before .admit-flown .ensures rs w .verdict) _ _ (c .before .verdict .given .1))
+returns-2 c = λ rs w. let s = c .before .before .before .before .before .before .before .before .before .before in
+    sym (refuses (block s) rs (s .args .acks .now) (lent s) (c .before .before .before .before .before .before .enough .result)
+    (c .before .before .before .before .before .before .enough .ensures) (c .before .before .before .admit-flown .result)
+    (c .before .before .before .admit-flown .ensures rs w .verdict) _ _ (c .before .verdict .given .1))
 
 pub size-spec : {M : Type 1} → statement M
 size-spec =

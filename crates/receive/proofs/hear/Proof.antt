@@ -39,12 +39,14 @@ loop-holds c =
 -- a segment was found
 found : (k : tie.After-known-told Inv-loop μ-loop) →
     let l = k .before .before .before .before in
-    (stepAt (l .before .before .before .before .args .s .now) (l .loop .at) ≡ step.Segment (k .before .step .given .0 .0) (k .before .step .given .0 .1 .0) (k .before .step .given .0 .1 .1 .0))
+    (stepAt (l .before .before .before .before .args .s .now) (l .loop .at) ≡ step.Segment (k .before .step .given .0 .0)
+    (k .before .step .given .0 .1 .0) (k .before .step .given .0 .1 .1 .0))
 found k = sym (k .before .before .before .segment-at .ensures) ∙ k .before .step .given .1
 
 less : (k : tie.After-known-told Inv-loop μ-loop) →
     let l = k .before .before .before .before in
-    length (l .before .before .before .before .args .s .now) - k .before .step .given .0 .1 .1 .0 < length (l .before .before .before .before .args .s .now) - l .loop .at
+    length (l .before .before .before .before .args .s .now) - k .before .step .given .0 .1 .1 .0 < length
+    (l .before .before .before .before .args .s .now) - l .loop .at
 less k = walking-less _ _ _ _ _ _ _ _ _ (k .before .before .before .before .loop .inv .1) _ _ _ (found k)
 
 returns : tie.Need-returns Inv-loop μ-loop
@@ -60,7 +62,9 @@ loop-again c =
     let g = k .before .step .given .0 in (
       v .0,
       walking-more _ _ _ _ _ _ _ _ _ (v .1) _ _ _ (found k) _ _ _
-          (heard-asked _ (l .loop .a) (l .loop .ready) (l .loop .waiting) (l .loop .numbers) _ _ (l .before .before .before .before .args .s .now) (g .1 .0) (g .0) (c .asked .result) (c .asked .ensures) (c .before .if1 .taken) (v .1 .sound) (v .1 .low)),
+          (heard-asked _ (l .loop .a) (l .loop .ready) (l .loop .waiting) (l .loop .numbers) _ _
+          (l .before .before .before .before .args .s .now) (g .1 .0) (g .0) (c .asked .result) (c .asked .ensures) (c .before .if1 .taken)
+          (v .1 .sound) (v .1 .low)),
       record { whole = v .2 .whole; free = v .2 .free },
       v .3,
       v .4,
@@ -70,8 +74,12 @@ push-requires : tie.Need-push-requires Inv-loop μ-loop
 push-requires c κs =
     let k = c .before .before .before .before .before .before .before .before in
     let l = k .before .before .before .before in
-    let v = l .loop .inv in
-    (v .0, pushable _ _ _ _ _ _ (k .before .step .given .0 .0) _ _ _ (c .before .before .before .before .before .mss .ensures) (v .1 .sound) (v .2) (walking-inside _ _ _ _ _ _ _ _ _ (v .1) _ _ _ (found k)) (walking-fits _ _ _ _ _ _ _ _ _ (v .1) _ _ _ (found k) (c .before .before .before .before .before .before .if1 .left)))
+    let v = l .loop .inv in (
+      v .0,
+      pushable _ _ _ _ _ _ (k .before .step .given .0 .0) _ _ _ (c .before .before .before .before .before .mss .ensures) (v .1 .sound)
+          (v .2) (walking-inside _ _ _ _ _ _ _ _ _ (v .1) _ _ _ (found k))
+          (walking-fits _ _ _ _ _ _ _ _ _ (v .1) _ _ _ (found k) (c .before .before .before .before .before .before .if1 .left)),
+    )
 
 loop-again-2 : tie.Need-loop-again-2 Inv-loop μ-loop
 loop-again-2 c =
@@ -82,7 +90,9 @@ loop-again-2 c =
     let e = c .before .before .before .before .before .push .ensures in (
       e .0,
       walking-more _ _ _ _ _ _ _ _ _ (v .1) _ _ _ (found k) _ _ _
-          (heard-push _ _ _ _ (l .before .before .before .before .args .s .now) (g .1 .0) (g .0) _ _ _ (c .before .before .before .before .before .before .before .before .before .before .before .before .if1 .left) (rw (c .before .before .before .before .before .before .before .before .before .before .before .mss .ensures) at (e .1 .is))),
+          (heard-push _ _ _ _ (l .before .before .before .before .args .s .now) (g .1 .0) (g .0) _ _ _
+          (c .before .before .before .before .before .before .before .before .before .before .before .before .if1 .left)
+          (rw (c .before .before .before .before .before .before .before .before .before .before .before .mss .ensures) at (e .1 .is))),
       e .1 .marked,
       search needs,
       search needs,

@@ -22,8 +22,11 @@ returns : tie.Need-returns
 returns c =
     let a = c .before .before .before .before .before .before .before .before .before .before .before .before .before .before in
     let g = a .args in
-    let e = c .before .before .keep .ensures in
-    (e .0, heard (g .arrival) (g .ready .now) (g .waiting .now) (g .numbers .now) _ _ _ _ _ _ _ _ (a .pre .1) (low a) (sn-low a) _ _ (c .before .before .before .before .before .before .before .before .before .note .ensures) _ _ _ _ (e .0) _ _ (e .1))
+    let e = c .before .before .keep .ensures in (
+      e .0,
+      heard (g .arrival) (g .ready .now) (g .waiting .now) (g .numbers .now) _ _ _ _ _ _ _ _ (a .pre .1) (low a) (sn-low a) _ _
+          (c .before .before .before .before .before .before .before .before .before .note .ensures) _ _ _ _ (e .0) _ _ (e .1),
+    )
 
 pub push-spec : {M : Type 1} → statement M
 push-spec = tie.close (tie.spec (λ c κs. search needs) keep-requires (λ c. search needs) (λ c. search needs) returns)

@@ -10,7 +10,8 @@ abbrev Inv-loop : tie.InvT-loop
 Inv-loop script bench₀ send-pool₀ receive-pool₀ acks₀ bytes₀ text₀ from₀ bench send-pool receive-pool acks bytes text from = Unit {0}
 
 abbrev μ-loop : tie.MeasureT-loop
-μ-loop script bench₀ send-pool₀ receive-pool₀ acks₀ bytes₀ text₀ from₀ bench send-pool receive-pool acks bytes text from = length script - from
+μ-loop script bench₀ send-pool₀ receive-pool₀ acks₀ bytes₀ text₀ from₀ bench send-pool receive-pool acks bytes text from =
+    length script - from
 
 line-end-requires : tie.Need-line-end-requires Inv-loop μ-loop
 line-end-requires c κs = omega (arith, c .loop-test .taken)

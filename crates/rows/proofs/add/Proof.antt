@@ -18,7 +18,11 @@ abbrev μ-loop : tie.MeasureT-loop
 μ-loop row₀ at other i₀ row i = length other - i
 
 loop-holds : tie.Need-loop-holds Inv-loop μ-loop
-loop-holds c = (omega arith, rw add-zero (sum-none (c .before .before .args .row .now) (c .before .before .args .at) (c .before .before .args .other .now)))
+loop-holds c = (
+  omega arith,
+  rw add-zero (sum-none (c .before .before .args .row .now) (c .before .before .args .at)
+      (c .before .before .args .other .now)),
+)
 
 slice-read-add : tie.Need-slice-read-add Inv-loop μ-loop
 slice-read-add c = omega (arith, c .before .before .loop .inv .1 .size)
@@ -35,16 +39,29 @@ add-row c = record { fits = omega arith }
 loop-again : tie.Need-loop-again Inv-loop μ-loop
 loop-again c = (
   omega arith,
-  rw (← add-assoc) (done-next (sum (c .before .before .before .before .before .before .before .args .row .now) (c .before .before .before .before .before .before .before .args .at) (c .before .before .before .before .before .before .before .args .other .now)) (c .before .before .before .before .before .before .before .args .at + c .before .before .before .before .loop .i) (c .before .before .before .before .before .before .before .args .row .now) (c .before .before .before .before .loop .row) (c .add .result) (c .before .before .before .before .loop .inv .1) (omega (arith, c .before .before .before .before .loop .inv .1 .size))
-      (c .add .ensures ∙ ap (λ (b : ℕ). plus b (getD (c .before .before .before .before .before .before .before .args .other .now) (c .before .before .before .before .loop .i) 0)) (c .before .before .before .before .loop .inv .1 .kept (c .before .before .before .before .before .before .before .args .at + c .before .before .before .before .loop .i) (omega arith))
-      ∙ sum-at (c .before .before .before .before .before .before .before .args .row .now) (c .before .before .before .before .before .before .before .args .at) (c .before .before .before .before .before .before .before .args .other .now) (c .before .before .before .before .loop .i))),
+  rw (← add-assoc) (done-next (sum (c .before .before .before .before .before .before .before .args .row .now)
+      (c .before .before .before .before .before .before .before .args .at)
+      (c .before .before .before .before .before .before .before .args .other .now))
+      (c .before .before .before .before .before .before .before .args .at + c .before .before .before .before .loop .i)
+      (c .before .before .before .before .before .before .before .args .row .now) (c .before .before .before .before .loop .row)
+      (c .add .result) (c .before .before .before .before .loop .inv .1)
+      (omega (arith, c .before .before .before .before .loop .inv .1 .size))
+      (c .add .ensures ∙ ap (λ (b : ℕ). plus b (getD (c .before .before .before .before .before .before .before .args .other .now)
+      (c .before .before .before .before .loop .i) 0))
+      (c .before .before .before .before .loop .inv .1 .kept
+      (c .before .before .before .before .before .before .before .args .at + c .before .before .before .before .loop .i) (omega arith))
+      ∙ sum-at (c .before .before .before .before .before .before .before .args .row .now)
+      (c .before .before .before .before .before .before .before .args .at)
+      (c .before .before .before .before .before .before .before .args .other .now) (c .before .before .before .before .loop .i))),
 )
 
 same-length : tie.Need-same-length Inv-loop μ-loop
 same-length c = c .before .loop .inv .1 .size
 
 returns : tie.Need-returns Inv-loop μ-loop
-returns c = sum-all (c .before .before .before .before .args .row .now) (c .before .before .before .before .args .at) (c .before .before .before .before .args .other .now) (c .before .loop .i) (c .before .loop .row) (c .before .loop .inv .1) (c .loop-test .left) (c .before .loop .inv .0)
+returns c = sum-all (c .before .before .before .before .args .row .now) (c .before .before .before .before .args .at)
+    (c .before .before .before .before .args .other .now) (c .before .loop .i) (c .before .loop .row) (c .before .loop .inv .1)
+    (c .loop-test .left) (c .before .loop .inv .0)
 
 pub add-spec : {M : Type 1} → statement M
 add-spec =

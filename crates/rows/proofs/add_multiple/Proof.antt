@@ -17,20 +17,37 @@ abbrev μ-loop : tie.MeasureT-loop
 μ-loop row₀ c other table i₀ row i = length other - i
 
 loop-holds : tie.Need-loop-holds Inv-loop μ-loop
-loop-holds c = (omega arith, done-none (λ x. plus (getD (c .before .before .before .args .row .now) x 0) (mul (c .before .before .before .args .c) (getD (c .before .before .before .args .other .now) x 0))) (c .before .before .before .args .row .now))
+loop-holds c = (
+  omega arith,
+  done-none (λ x. plus (getD (c .before .before .before .args .row .now) x 0)
+      (mul (c .before .before .before .args .c) (getD (c .before .before .before .args .other .now) x 0)))
+      (c .before .before .before .args .row .now),
+)
 
 loop-again : tie.Need-loop-again Inv-loop μ-loop
 loop-again c = (
   omega arith,
-  done-next (λ x. plus (getD (c .before .before .before .before .before .before .before .before .before .args .row .now) x 0) (mul (c .before .before .before .before .before .before .before .before .before .args .c) (getD (c .before .before .before .before .before .before .before .before .before .args .other .now) x 0))) (c .before .before .before .before .before .loop .i) (c .before .before .before .before .before .before .before .before .before .args .row .now) (c .before .before .before .before .before .loop .row) _ (c .before .before .before .before .before .loop .inv .1) (omega (arith, c .before .before .before .before .before .loop .inv .1 .size))
-      (c .add .ensures ∙ ap₂ plus (c .before .before .before .before .before .loop .inv .1 .kept (c .before .before .before .before .before .loop .i) (omega arith)) (c .before .before .before .before .before .before .products .ensures .byte (c .before .before .wide .result) (search needs) ∙ ap (mul (c .before .before .before .before .before .before .before .before .before .args .c)) (c .before .before .wide .ensures .0))),
+  done-next (λ x. plus (getD (c .before .before .before .before .before .before .before .before .before .args .row .now) x 0)
+      (mul (c .before .before .before .before .before .before .before .before .before .args .c)
+      (getD (c .before .before .before .before .before .before .before .before .before .args .other .now) x 0)))
+      (c .before .before .before .before .before .loop .i)
+      (c .before .before .before .before .before .before .before .before .before .args .row .now)
+      (c .before .before .before .before .before .loop .row) _ (c .before .before .before .before .before .loop .inv .1)
+      (omega (arith, c .before .before .before .before .before .loop .inv .1 .size))
+      (c .add .ensures ∙ ap₂ plus (c .before .before .before .before .before .loop .inv .1 .kept
+      (c .before .before .before .before .before .loop .i) (omega arith))
+      (c .before .before .before .before .before .before .products .ensures .byte (c .before .before .wide .result) (search needs) ∙ ap
+      (mul (c .before .before .before .before .before .before .before .before .before .args .c)) (c .before .before .wide .ensures .0))),
 )
 
 same-length : tie.Need-same-length Inv-loop μ-loop
 same-length c = c .before .loop .inv .1 .size
 
 returns : tie.Need-returns Inv-loop μ-loop
-returns c = done-all (λ x. plus (getD (c .before .before .before .before .before .args .row .now) x 0) (mul (c .before .before .before .before .before .args .c) (getD (c .before .before .before .before .before .args .other .now) x 0))) (c .before .loop .i) (c .before .before .before .before .before .args .row .now) (c .before .loop .row) (c .before .loop .inv .1) (omega (arith, c .before .loop .inv .1 .size))
+returns c = done-all (λ x. plus (getD (c .before .before .before .before .before .args .row .now) x 0)
+    (mul (c .before .before .before .before .before .args .c) (getD (c .before .before .before .before .before .args .other .now) x 0)))
+    (c .before .loop .i) (c .before .before .before .before .before .args .row .now) (c .before .loop .row) (c .before .loop .inv .1)
+    (omega (arith, c .before .loop .inv .1 .size))
 
 pub add-multiple-spec : {M : Type 1} → statement M
 add-multiple-spec =

@@ -22,13 +22,15 @@ loop-less : tie.Need-loop-less Inv-loop μ-loop
 loop-less c = simp length-set (omega arith)
 
 loop-again : tie.Need-loop-again Inv-loop μ-loop
-loop-again c = done-next (λ x. 0) (c .before .loop .i) (c .before .before .args .row .now) (c .before .loop .row) 0 (c .before .loop .inv) (omega (arith, c .before .loop .inv .size)) refl
+loop-again c = done-next (λ x. 0) (c .before .loop .i) (c .before .before .args .row .now) (c .before .loop .row) 0 (c .before .loop .inv)
+    (omega (arith, c .before .loop .inv .size)) refl
 
 same-length : tie.Need-same-length Inv-loop μ-loop
 same-length c = c .before .loop .inv .size
 
 returns : tie.Need-returns Inv-loop μ-loop
-returns c = done-all (λ x. 0) (c .before .loop .i) (c .before .before .args .row .now) (c .before .loop .row) (c .before .loop .inv) (omega (arith, c .before .loop .inv .size))
+returns c = done-all (λ x. 0) (c .before .loop .i) (c .before .before .args .row .now) (c .before .loop .row) (c .before .loop .inv)
+    (omega (arith, c .before .loop .inv .size))
 
 pub clear-spec : {M : Type 1} → statement M
 clear-spec =

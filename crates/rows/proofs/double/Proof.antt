@@ -24,14 +24,17 @@ loop-less c = simp length-set (omega arith)
 
 loop-again : tie.Need-loop-again Inv-loop μ-loop
 loop-again c =
-    done-next (λ x. double (getD (c .before .before .before .before .before .args .row .now) x 0)) (c .before .before .before .loop .i) (c .before .before .before .before .before .args .row .now) (c .before .before .before .loop .row) (c .double .result) (c .before .before .before .loop .inv) (omega (arith, c .before .before .before .loop .inv .size))
+    done-next (λ x. double (getD (c .before .before .before .before .before .args .row .now) x 0)) (c .before .before .before .loop .i)
+    (c .before .before .before .before .before .args .row .now) (c .before .before .before .loop .row) (c .double .result)
+    (c .before .before .before .loop .inv) (omega (arith, c .before .before .before .loop .inv .size))
     (c .double .ensures ∙ ap double (c .before .before .before .loop .inv .kept (c .before .before .before .loop .i) (omega arith)))
 
 same-length : tie.Need-same-length Inv-loop μ-loop
 same-length c = c .before .loop .inv .size
 
 returns : tie.Need-returns Inv-loop μ-loop
-returns c = done-all (λ x. double (getD (c .before .before .before .args .row .now) x 0)) (c .before .loop .i) (c .before .before .before .args .row .now) (c .before .loop .row) (c .before .loop .inv) (omega (arith, c .before .loop .inv .size))
+returns c = done-all (λ x. double (getD (c .before .before .before .args .row .now) x 0)) (c .before .loop .i)
+    (c .before .before .before .args .row .now) (c .before .loop .row) (c .before .loop .inv) (omega (arith, c .before .loop .inv .size))
 
 pub double-spec : {M : Type 1} → statement M
 double-spec =

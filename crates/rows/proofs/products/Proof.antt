@@ -20,12 +20,17 @@ loop-holds : tie.Need-loop-holds Inv-loop μ-loop
 loop-holds c = (omega arith, length-replicate {A = ℕ} 256 0, done-none (λ x. mul (c .args .c) x) _)
 
 loop-again : tie.Need-loop-again Inv-loop μ-loop
-loop-again c =
-    (omega arith, c .before .before .loop .inv .1, done-next (λ x. mul (c .before .before .before .args .c) x) (c .before .before .loop .i) _ (c .before .before .loop .table) (c .multiply .result) (c .before .before .loop .inv .2) (omega (arith, c .before .before .loop .inv .1)) (c .multiply .ensures))
+loop-again c = (
+  omega arith,
+  c .before .before .loop .inv .1,
+  done-next (λ x. mul (c .before .before .before .args .c) x) (c .before .before .loop .i) _ (c .before .before .loop .table)
+      (c .multiply .result) (c .before .before .loop .inv .2) (omega (arith, c .before .before .loop .inv .1)) (c .multiply .ensures),
+)
 
 returns : tie.Need-returns Inv-loop μ-loop
 returns c =
-    let r = done-all (λ x. mul (c .before .before .args .c) x) (c .before .loop .i) _ (c .before .loop .table) (c .before .loop .inv .2) (omega (arith, c .before .loop .inv .1)) in
+    let r = done-all (λ x. mul (c .before .before .args .c) x) (c .before .loop .i) _ (c .before .loop .table) (c .before .loop .inv .2)
+    (omega (arith, c .before .loop .inv .1)) in
     record { size = r .size ∙ c .before .loop .inv .1; byte = λ x l. r .byte x (omega (arith, c .before .loop .inv .1)) }
 
 pub products-spec : {M : Type 1} → statement M

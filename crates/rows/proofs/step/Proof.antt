@@ -13,7 +13,12 @@ unfolding stepped
 returns c = record { size = refl; byte = λ x l. rw (c .if1 .taken) }
 
 returns-2 : tie.Need-returns-2
-returns-2 c = record { size = c .before .before .double .ensures .size; byte = λ x l. c .before .before .double .ensures .byte x l ∙ sym (stepped-second (c .before .before .before .before .before .before .args .w) (getD (c .before .before .before .before .before .before .args .row .now) x 0) (c .before .before .before .before .if1 .left)) }
+returns-2 c = record {
+  size = c .before .before .double .ensures .size;
+  byte = λ x l. c .before .before .double .ensures .byte x l ∙ sym
+      (stepped-second (c .before .before .before .before .before .before .args .w)
+      (getD (c .before .before .before .before .before .before .args .row .now) x 0) (c .before .before .before .before .if1 .left));
+}
 
 pub step-spec : {M : Type 1} → statement M
 step-spec =

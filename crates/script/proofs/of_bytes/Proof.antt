@@ -27,8 +27,10 @@ returns-2 c =
     let read = c .before .before .before .before .before .before .bytes .ensures in
     let a = c .before .before .before .before .before .before .before .before .before .before .before .before .args in
     let w = take (length (a .line .now) - (a .end + 1)) (drop (a .end + 1) (a .line .now)) in
-    let some = are-bytes (isBytes w (length (a .bytes .now))) (length (bytesOf w)) _ (sym (c .before .before .read .given .1) ∙ read .answer) in
-    rw (behind-space (a .line .now) (a .end) (c .before .before .before .before .before .before .before .before .before .if1 .taken)) (rw (some .0, some .1, c .if2 .taken), read .bytes)
+    let some = are-bytes (isBytes w (length (a .bytes .now))) (length (bytesOf w)) _
+    (sym (c .before .before .read .given .1) ∙ read .answer) in
+    rw (behind-space (a .line .now) (a .end) (c .before .before .before .before .before .before .before .before .before .if1 .taken))
+    (rw (some .0, some .1, c .if2 .taken), read .bytes)
 
 returns-3 : tie.Need-returns-3
 unfolding letters ascii
@@ -36,8 +38,10 @@ returns-3 c =
     let read = c .before .before .before .before .before .before .bytes .ensures in
     let a = c .before .before .before .before .before .before .before .before .before .before .before .before .args in
     let w = take (length (a .line .now) - (a .end + 1)) (drop (a .end + 1) (a .line .now)) in
-    let some = are-bytes (isBytes w (length (a .bytes .now))) (length (bytesOf w)) _ (sym (c .before .before .read .given .1) ∙ read .answer) in
-    rw (behind-space (a .line .now) (a .end) (c .before .before .before .before .before .before .before .before .before .if1 .taken)) (rw (some .0, some .1, ne-eqb _ _ (c .if2 .left)), read .bytes)
+    let some = are-bytes (isBytes w (length (a .bytes .now))) (length (bytesOf w)) _
+    (sym (c .before .before .read .given .1) ∙ read .answer) in
+    rw (behind-space (a .line .now) (a .end) (c .before .before .before .before .before .before .before .before .before .if1 .taken))
+    (rw (some .0, some .1, ne-eqb _ _ (c .if2 .left)), read .bytes)
 
 returns-4 : tie.Need-returns-4
 returns-4 c =

@@ -47,7 +47,8 @@ returns-7 c =
 returns-8 : tie.Need-returns-8
 returns-8 c =
     let rest = c .match .rest in
-    other-numbers _ _ (rest .0 .0 .0 .0 .0 .0 .1) (rest .0 .0 .0 .0 .0 .1) (rest .0 .0 .0 .0 .1) (rest .0 .0 .0 .1) (rest .0 .0 .1) (rest .0 .1)
+    other-numbers _ _ (rest .0 .0 .0 .0 .0 .0 .1) (rest .0 .0 .0 .0 .0 .1) (rest .0 .0 .0 .0 .1) (rest .0 .0 .0 .1) (rest .0 .0 .1)
+    (rest .0 .1)
     (rest .1) _ (search needs)
 
 pub of-numbers-spec : {M : Type 1} → statement M

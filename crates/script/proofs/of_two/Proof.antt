@@ -16,5 +16,17 @@ of-two-spec =
     (λ c. rw (ne-eqb _ _ (c .before .if1 .left), c .if2 .taken))
     (search needs)
     (search needs)
-    (λ c. rw (ne-eqb _ _ (c .before .before .before .before .if1 .left), c .before .before .before .if2 .left, ← c .before .before .is-field .ensures, ← c .before .field-most .ensures, c .if3 .taken))
-    (λ c. rw (ne-eqb _ _ (c .before .before .before .before .if1 .left), c .before .before .before .if2 .left, ← c .before .before .is-field .ensures, ← c .before .field-most .ensures, c .if3 .left)))
+    (λ c. rw (
+      ne-eqb _ _ (c .before .before .before .before .if1 .left),
+      c .before .before .before .if2 .left,
+      ← c .before .before .is-field .ensures,
+      ← c .before .field-most .ensures,
+      c .if3 .taken,
+    ))
+    (λ c. rw (
+      ne-eqb _ _ (c .before .before .before .before .if1 .left),
+      c .before .before .before .if2 .left,
+      ← c .before .before .is-field .ensures,
+      ← c .before .field-most .ensures,
+      c .if3 .left,
+    )))

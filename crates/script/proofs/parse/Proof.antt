@@ -21,17 +21,44 @@ returns-2 : tie.Need-returns-2
 unfolding commandOf bytesLeft letters ascii
 returns-2 c =
     let line = c .before .before .before .before .before .before .before .before .before .before .before .args .line .now in
-    let end : c .before .before .before .before .before .before .before .word-end .result ≡ length (word line) = omega (arith, c .before .before .before .before .before .before .before .word-end .ensures .0) in
-    let name : c .before .before .before .before .before .name .result ≡ nameOf (word line) = c .before .before .before .before .before .name .ensures ∙ ap nameOf (ap (λ (k : ℕ). take k line) end ∙ word-front line) in
-    record { command = rw (le-ltb _ _ (c .before .before .before .before .before .before .before .before .if1 .left), ← name, c .before .before .before .before .if2 .taken, ← end) (c .before .before .of-bytes .ensures .0); bytes = rw (le-ltb _ _ (c .before .before .before .before .before .before .before .before .if1 .left), ← name, c .before .before .before .before .if2 .taken, ← end) (c .before .before .of-bytes .ensures .1) }
+    let end : c .before .before .before .before .before .before .before .word-end .result ≡ length (word line) =
+    omega (arith, c .before .before .before .before .before .before .before .word-end .ensures .0) in
+    let name : c .before .before .before .before .before .name .result ≡ nameOf (word line) =
+    c .before .before .before .before .before .name .ensures ∙ ap nameOf (ap (λ (k : ℕ). take k line) end ∙ word-front line) in
+    record {
+      command = rw (
+        le-ltb _ _ (c .before .before .before .before .before .before .before .before .if1 .left),
+        ← name,
+        c .before .before .before .before .if2 .taken,
+        ← end,
+      ) (c .before .before .of-bytes .ensures .0);
+      bytes = rw (
+        le-ltb _ _ (c .before .before .before .before .before .before .before .before .if1 .left),
+        ← name,
+        c .before .before .before .before .if2 .taken,
+        ← end,
+      ) (c .before .before .of-bytes .ensures .1);
+    }
 
 returns-3 : tie.Need-returns-3
 unfolding commandOf bytesLeft letters ascii
 returns-3 c =
     let line = c .before .before .before .before .before .before .before .before .before .args .line .now in
-    let end : c .before .before .before .before .before .word-end .result ≡ length (word line) = omega (arith, c .before .before .before .before .before .word-end .ensures .0) in
-    let name : c .before .before .before .name .result ≡ nameOf (word line) = c .before .before .before .name .ensures ∙ ap nameOf (ap (λ (k : ℕ). take k line) end ∙ word-front line) in
-    record { command = rw (le-ltb _ _ (c .before .before .before .before .before .before .if1 .left), ← name, c .before .before .if2 .left, ← end) (c .of-numbers .ensures ∙ rw (c .before .behind .ensures) (few-enough (c .before .before .before .name .result) (numbersOf (arguments (drop (c .before .before .before .before .before .word-end .result) line))))); bytes = rw (le-ltb _ _ (c .before .before .before .before .before .before .if1 .left), ← name, c .before .before .if2 .left) }
+    let end : c .before .before .before .before .before .word-end .result ≡ length (word line) =
+    omega (arith, c .before .before .before .before .before .word-end .ensures .0) in
+    let name : c .before .before .before .name .result ≡ nameOf (word line) =
+    c .before .before .before .name .ensures ∙ ap nameOf (ap (λ (k : ℕ). take k line) end ∙ word-front line) in
+    record {
+      command = rw (
+        le-ltb _ _ (c .before .before .before .before .before .before .if1 .left),
+        ← name,
+        c .before .before .if2 .left,
+        ← end,
+      ) (c .of-numbers .ensures ∙ rw (c .before .behind .ensures)
+          (few-enough (c .before .before .before .name .result)
+          (numbersOf (arguments (drop (c .before .before .before .before .before .word-end .result) line)))));
+      bytes = rw (le-ltb _ _ (c .before .before .before .before .before .before .if1 .left), ← name, c .before .before .if2 .left);
+    }
 
 pub parse-spec : {M : Type 1} → statement M
 parse-spec =

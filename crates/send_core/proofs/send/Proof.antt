@@ -18,7 +18,8 @@ use Rattle.send_core.proofs.send.Tie as tie
 
 -- the arrays and the lengths lent
 abbrev lists : tie.Start → Arrays
-lists s = let a = s .args in arrays (a .queued .now) (a .outstanding .now) (a .transmissions .now) (a .ready .now) (a .waiting .now) (a .waiting-numbers .now)
+lists s = let a = s .args in arrays (a .queued .now) (a .outstanding .now) (a .transmissions .now) (a .ready .now) (a .waiting .now)
+    (a .waiting-numbers .now)
 
 abbrev lent : tie.Start → Lengths
 lent s = let a = s .args in lentLengths (a .table) (a .send-pool .now) (a .receive-pool .now) (a .acks .now)
@@ -34,16 +35,21 @@ sendMarks c = c .admit-flown .last .1 .1 .1 .1 .1 .1 .1 .1 .1 .1 .1 .1 .0
 abbrev receiveMarks : tie.After-admit-flown → List ℕ
 receiveMarks c = c .admit-flown .last .1 .1 .1 .1 .1 .1 .1 .1 .1 .1 .1 .1 .1 .0
 
-checked : (c : tie.After-enum-told) (rs : List Record) → let s = c .before .before .before .before .before .before .before .before .before .before .before in Flown (block s) rs (s .args .flown) → Sendable (s .args .settings) (s .args .flight) (s .args .arrival) (s .args .clock) (lists s) rs (s .args .acks .now) (lent s) (sendMarks (c .before .before))
+checked : (c : tie.After-enum-told) (rs : List Record) → let s =
+    c .before .before .before .before .before .before .before .before .before .before .before in Flown (block s) rs (s .args .flown)
+    → Sendable (s .args .settings) (s .args .flight) (s .args .arrival) (s .args .clock) (lists s) rs (s .args .acks .now) (lent s)
+    (sendMarks (c .before .before))
 checked c rs w =
     let s = c .before .before .before .before .before .before .before .before .before .before .before in
     let a = c .before .before .admit-flown .ensures rs w in
-    sendable (s .args .settings) (s .args .flight) (s .args .arrival) (s .args .clock) (lists s) rs (s .args .acks .now) (lent s) _ _ (c .before .before .before .before .before .before .enough .ensures) (a .verdict _) (c .enum-told .given .1)
+    sendable (s .args .settings) (s .args .flight) (s .args .arrival) (s .args .clock) (lists s) rs (s .args .acks .now) (lent s) _ _
+    (c .before .before .before .before .before .before .enough .ensures) (a .verdict _) (c .enum-told .given .1)
     (sendMarks (c .before .before)) (receiveMarks (c .before .before)) (a .checked (c .enum-told .given .1)) (s .pre .0) (w .whole)
 
 send-checked-requires : tie.Need-send-checked-requires
 send-checked-requires c κs =
-    let s = c .before .before .before .before .before .before .before .before .before .before .before .before .before .before .before .before in
+    let s = c .before .before .before .before .before .before .before .before .before .before .before .before .before .before .before
+    .before in
     enqueueable (s .args .settings) (s .args .flight) (s .args .arrival) (s .args .clock) (lists s) (s .pre .1 .0) (s .args .acks .now)
     (checked (c .before .before .before .before .before) (s .pre .1 .0) (s .pre .1 .1)) {stream = isStream (s .args .settings)} refl
     (c .before .before .before .before .mss .ensures) (s .pre .0) _ refl
@@ -51,16 +57,22 @@ send-checked-requires c κs =
 returns : tie.Need-returns
 returns c = λ rs w.
     let s = c .before .before .before .before .before .before .before .before .before .before .before .before in
-    refuses (s .args .settings) (s .args .flight) (s .args .arrival) (s .args .clock) (lists s) rs (s .args .acks .now) (lent s) _ _ (c .before .before .before .before .before .before .before .enough .ensures) (c .before .before .before .admit-flown .ensures rs w .verdict _) _ _ _ (c .before .verdict .given .1)
+    refuses (s .args .settings) (s .args .flight) (s .args .arrival) (s .args .clock) (lists s) rs (s .args .acks .now) (lent s) _ _
+    (c .before .before .before .before .before .before .before .enough .ensures)
+    (c .before .before .before .admit-flown .ensures rs w .verdict _) _ _ _ (c .before .verdict .given .1)
 
 returns-2 : tie.Need-returns-2
 returns-2 c = λ rs w.
-    let s = c .before .before .before .before .before .before .before .before .before .before .before .before .before .before .before .before .before .before .before in
+    let s = c .before .before .before .before .before .before .before .before .before .before .before .before .before .before .before
+    .before .before .before .before in
     let p = checked (c .before .before .before .before .before .before .before .before) rs w in
     passes (s .args .settings) (s .args .flight) (s .args .arrival) (s .args .clock) (lists s) rs (s .args .acks .now) (lent s) _ _
-    (c .before .before .before .before .before .before .before .before .before .before .before .before .before .before .enough .ensures) (c .before .before .before .before .before .before .before .before .before .before .admit-flown .ensures rs w .verdict _) (c .before .before .before .before .before .before .before .before .enum-told .given .1) _ _ _ _ _
+    (c .before .before .before .before .before .before .before .before .before .before .before .before .before .before .enough .ensures)
+    (c .before .before .before .before .before .before .before .before .before .before .admit-flown .ensures rs w .verdict _)
+    (c .before .before .before .before .before .before .before .before .enum-told .given .1) _ _ _ _ _
     (sent (s .args .settings) (s .args .flight) (s .args .arrival) (s .args .clock) (lists s) rs (s .args .acks .now) p
-    (isStream (s .args .settings)) _ refl (c .before .before .before .before .before .before .before .mss .ensures) _ _ (c .before .before .send-checked .result) _ _ (c .before .before .send-checked .ensures))
+    (isStream (s .args .settings)) _ refl (c .before .before .before .before .before .before .before .mss .ensures) _ _
+    (c .before .before .send-checked .result) _ _ (c .before .before .send-checked .ensures))
 
 pub send-spec : {M : Type 1} → statement M
 send-spec =

@@ -14,7 +14,8 @@ returns c =
 returns-2 : tie.Need-returns-2
 returns-2 c =
     let told = c .before .before .before .reading2 .given in
-    left-alone _ _ _ (told .0 .0) _ (c .before .before .before .before .before .read .ensures) (told .1) (passed _ (refusal-fits (told .0 .0)) (rw (c .before .number .ensures) at (c .number-code .ensures)))
+    left-alone _ _ _ (told .0 .0) _ (c .before .before .before .before .before .read .ensures) (told .1)
+    (passed _ (refusal-fits (told .0 .0)) (rw (c .before .number .ensures) at (c .number-code .ensures)))
 
 pub read-spec : {M : Type 1} → statement M
 read-spec =

@@ -46,4 +46,5 @@ returns-2 c =
     rw e (sym (c .before .loop .inv .1))
 
 pub is-marked-spec : {M : Type 1} → statement M
-is-marked-spec = tie.close (tie.spec Inv-loop μ-loop loop-holds shared-slice-read-if1 array-read-if1 returns add-i loop-less loop-again returns-2)
+is-marked-spec = tie.close (tie.spec Inv-loop μ-loop loop-holds shared-slice-read-if1 array-read-if1 returns add-i loop-less loop-again
+    returns-2)

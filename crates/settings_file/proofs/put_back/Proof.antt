@@ -8,7 +8,8 @@ use Rattle.settings_file.proofs.put_back.Tie as tie
 returns : tie.Need-returns
 returns c =
     back-stored _ _
-    (c .before .before .before .before .before .before .before .before .before .before .before .before .before .before .before .before .before .before .put-u32 .ensures)
+    (c .before .before .before .before .before .before .before .before .before .before .before .before .before .before .before .before
+    .before .before .put-u32 .ensures)
     (c .before .before .before .before .before .before .before .before .before .before .before .before .before .before .put-u16 .ensures)
     (c .before .before .before .before .before .before .before .before .before .before .put-u8 .ensures)
     (c .before .before .before .before .before .before .put-u162 .ensures)

@@ -10,7 +10,8 @@ returns : tie.Need-returns
 returns c = named-by (c .before .before .before .before .before .before .args .e .now) _ (c .same .ensures)
 
 returns-2 : tie.Need-returns-2
-returns-2 c = other-length (c .before .before .before .before .args .e .now) _ (c .before .before .before .before .pre .0) (c .before .before .before .before .pre .1) (c .if1 .left)
+returns-2 c = other-length (c .before .before .before .before .args .e .now) _ (c .before .before .before .before .pre .0)
+    (c .before .before .before .before .pre .1) (c .if1 .left)
 
 pub is-named-spec : {M : Type 1} → statement M
 is-named-spec =

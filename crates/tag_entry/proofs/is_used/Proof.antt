@@ -23,7 +23,8 @@ returns-3 : tie.Need-returns-3
 returns-3 c =
     let z = c .before .before in
     let n = z .before .before in
-    used _ (n .before .before .before .if1 .left) (n .before .before .if2 .left) (n .is-name .ensures) (z .all-zero .ensures) (c .all-zero2 .ensures)
+    used _ (n .before .before .before .if1 .left) (n .before .before .if2 .left) (n .is-name .ensures) (z .all-zero .ensures)
+    (c .all-zero2 .ensures)
 
 pub is-used-spec : {M : Type 1} → statement M
 is-used-spec =

@@ -19,7 +19,8 @@ put-padded-requires-2 c κs =
 returns : tie.Need-returns
 returns c =
     let k = c .before .before .before .before .before .before in
-    entry-stored _ _ _ _ (tag-lengths _ _ (k .before .before .before .before .before .pre .0) .most) (k .put-padded .ensures) (c .before .before .put-padded2 .ensures)
+    entry-stored _ _ _ _ (tag-lengths _ _ (k .before .before .before .before .before .pre .0) .most) (k .put-padded .ensures)
+    (c .before .before .put-padded2 .ensures)
 
 pub put-entry-spec : {M : Type 1} → statement M
 put-entry-spec = tie.close (tie.spec put-padded-requires (λ c. search needs) put-padded-requires-2 (λ c. search needs) returns)

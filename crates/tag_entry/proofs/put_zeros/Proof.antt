@@ -12,7 +12,8 @@ use Rattle.tag_entry.proofs.put_zeros.Statement.{statement}
 use Rattle.tag_entry.proofs.put_zeros.Tie as tie
 
 abbrev Inv-loop : tie.InvT-loop
-Inv-loop out₀ at len i₀ out i = (i ≤ len) × (length out ≡ length out₀) × (sets out (at + i) (replicate (len - i) 0) ≡ sets out₀ at (replicate len 0))
+Inv-loop out₀ at len i₀ out i =
+    (i ≤ len) × (length out ≡ length out₀) × (sets out (at + i) (replicate (len - i) 0) ≡ sets out₀ at (replicate len 0))
 
 abbrev μ-loop : tie.MeasureT-loop
 μ-loop out₀ at len i₀ out i = len - i

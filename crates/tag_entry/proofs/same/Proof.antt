@@ -24,13 +24,17 @@ returns : tie.Need-returns Inv-loop μ-loop
 returns c =
     let l = c .before .before .before .before .loop in
     let x = c .before .before .before .before .before .args in
-    sym (rw (ne-eqb (getD (x .a .now) (l .i) 0) (getD (x .b .now) (l .i) 0) (c .if1 .taken)) at (same-step (x .a .now) (x .b .now) (l .i) (omega arith) (omega arith))) ∙ l .inv .1
+    sym (rw (ne-eqb (getD (x .a .now) (l .i) 0) (getD (x .b .now) (l .i) 0) (c .if1 .taken)) at
+    (same-step (x .a .now) (x .b .now) (l .i) (omega arith) (omega arith))) ∙ l .inv .1
 
 loop-again : tie.Need-loop-again Inv-loop μ-loop
 loop-again c =
     let l = c .before .before .before .before .loop in
-    let x = c .before .before .before .before .before .args in
-    (omega arith, sym (rw (eq-eqb (getD (x .a .now) (l .i) 0) (getD (x .b .now) (l .i) 0) (c .if1 .left)) at (same-step (x .a .now) (x .b .now) (l .i) (omega arith) (omega arith))) ∙ l .inv .1)
+    let x = c .before .before .before .before .before .args in (
+      omega arith,
+      sym (rw (eq-eqb (getD (x .a .now) (l .i) 0) (getD (x .b .now) (l .i) 0) (c .if1 .left)) at
+          (same-step (x .a .now) (x .b .now) (l .i) (omega arith) (omega arith))) ∙ l .inv .1,
+    )
 
 returns-2 : tie.Need-returns-2 Inv-loop μ-loop
 returns-2 c =

@@ -9,10 +9,12 @@ use Rattle.tag_find.proofs.ask.Statement.{statement}
 use Rattle.tag_find.proofs.ask.Tie as tie
 
 -- the part lies in its table
-in-own : (c : tie.After-known-told) → finding.Inside (c .before .before .before .before .before .before .before .args .own .now) (c .before .part .given .0 .0)
+in-own : (c : tie.After-known-told)
+    → finding.Inside (c .before .before .before .before .before .before .before .args .own .now) (c .before .part .given .0 .0)
 in-own c = finding.in-own-table _ _ _ _ (c .before .before .before .find .ensures) _ (c .before .part .given .1)
 
-in-defaults : (c : tie.After-known-told2) → finding.Inside (c .before .before .before .before .before .before .before .args .defaults .now) (c .before .part2 .given .0 .0)
+in-defaults : (c : tie.After-known-told2)
+    → finding.Inside (c .before .before .before .before .before .before .before .args .defaults .now) (c .before .part2 .given .0 .0)
 in-defaults c = finding.in-defaults-table _ _ _ _ (c .before .before .before .find .ensures) _ (c .before .part2 .given .1)
 
 returns : tie.Need-returns

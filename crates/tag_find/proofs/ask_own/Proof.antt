@@ -9,7 +9,8 @@ use Rattle.tag_find.proofs.ask_own.Statement.{statement}
 use Rattle.tag_find.proofs.ask_own.Tie as tie
 
 -- the part lies in its table
-inside : (c : tie.After-known-told) → finding.Inside (c .before .before .before .before .before .before .before .args .own .now) (c .before .part .given .0 .0)
+inside : (c : tie.After-known-told)
+    → finding.Inside (c .before .before .before .before .before .before .before .args .own .now) (c .before .part .given .0 .0)
 inside c = finding.in-own-table _ _ _ _ (c .before .before .before .find .ensures) _ (c .before .part .given .1)
 
 returns : tie.Need-returns

@@ -23,13 +23,15 @@ behind c = survey.sees _ _ _ (sym (c .before .before .before .survey2 .ensures) 
 returns-3 : tie.Need-returns-3
 returns-3 c =
     let call = c .before .before in
-    finding.own-rules _ _ _ (call .before .before .if1 .left) (call .before .if2 .left) (survey.no-table _ _ (sym (call .survey .ensures) ∙ c .enum-told .given .1))
+    finding.own-rules _ _ _ (call .before .before .if1 .left) (call .before .if2 .left)
+    (survey.no-table _ _ (sym (call .survey .ensures) ∙ c .enum-told .given .1))
 
 returns-4 : tie.Need-returns-4
 returns-4 c =
     let call = c .before .before in
     let sizes = call .before .before .before .before .before in
-    finding.defaults-rules _ _ _ (sizes .before .if1 .left) (sizes .if2 .left) (survey.no-table _ _ (sym (call .survey2 .ensures) ∙ c .enum-told2 .given .1))
+    finding.defaults-rules _ _ _ (sizes .before .if1 .left) (sizes .if2 .left)
+    (survey.no-table _ _ (sym (call .survey2 .ensures) ∙ c .enum-told2 .given .1))
 
 returns-5 : tie.Need-returns-5
 returns-5 c =
@@ -44,7 +46,8 @@ returns-6 c =
     let k = c .before .before in
     let h = here (k .before .before .before .before) in
     let sizes = k .before .before .before .before .before .before .before .before in
-    finding.no-name _ _ _ (sizes .before .if1 .left) (sizes .if2 .left) (h .table) (behind k .table) (sym (c .before .is-name .ensures) ∙ c .if3 .left)
+    finding.no-name _ _ _ (sizes .before .if1 .left) (sizes .if2 .left) (h .table) (behind k .table)
+    (sym (c .before .is-name .ensures) ∙ c .if3 .left)
 
 pub find-spec : {M : Type 1} → statement M
 find-spec =

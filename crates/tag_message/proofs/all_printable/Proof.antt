@@ -24,8 +24,11 @@ loop-holds c = (search needs, refl)
 loop-again : tie.Need-loop-again Inv-loop μ-loop
 loop-again c =
     let l = c .before .before .loop in
-    let s = c .before .before .before .args .s .now in
-    (search needs, rw (l .inv .1, and-assoc (every isPrintable (take (l .i) s)) _ _) (sym (every-more isPrintable s (l .i) 0 (omega arith))))
+    let s = c .before .before .before .args .s .now in (
+      search needs,
+      rw (l .inv .1, and-assoc (every isPrintable (take (l .i) s)) _ _)
+          (sym (every-more isPrintable s (l .i) 0 (omega arith))),
+    )
 
 returns : tie.Need-returns Inv-loop μ-loop
 returns c =

@@ -16,7 +16,8 @@ same-length : tie.Need-same-length
 same-length c = c .before .before .copy-part .kept .1 .1 .1 .0 ∙ simp length-set
 
 returns : tie.Need-returns
-returns c = c .before .before .copy-part .ensures ∙ rw (add-one, take-length (c .before .before .before .before .before .before .args .bytes .now))
+returns c = c .before .before .copy-part .ensures ∙ rw
+    (add-one, take-length (c .before .before .before .before .before .before .args .bytes .now))
 
 pub put-counted-spec : {M : Type 1} → statement M
 put-counted-spec =

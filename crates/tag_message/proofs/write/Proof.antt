@@ -16,7 +16,11 @@ put-counted-requires c κs = omega (arith, tag-lengths _ _ (sym (c .before .befo
 put-counted-requires-2 : tie.Need-put-counted-requires-2
 put-counted-requires-2 c κs =
     let k = c .before .before .before in
-    omega (arith, k .put-counted .kept .0, tag-lengths _ _ (sym (k .before .before .before .is-tag .ensures) ∙ k .before .before .if2 .taken))
+    omega (
+      arith,
+      k .put-counted .kept .0,
+      tag-lengths _ _ (sym (k .before .before .before .is-tag .ensures) ∙ k .before .before .if2 .taken),
+    )
 
 add-t16 : tie.Need-add-t16
 add-t16 c =
@@ -26,7 +30,8 @@ add-t16 c =
 returns-2 : tie.Need-returns-2
 returns-2 c =
     let k = c .before .before .before .before .before .before in
-    written _ _ _ (omega (arith, k .before .before .before .before)) (sym (k .before .before .before .is-tag .ensures) ∙ k .before .before .if2 .taken)
+    written _ _ _ (omega (arith, k .before .before .before .before))
+    (sym (k .before .before .before .is-tag .ensures) ∙ k .before .before .if2 .taken)
     (message-stored _ _ _ (k .put-counted .ensures) (c .before .before .put-counted2 .ensures))
 
 returns-3 : tie.Need-returns-3

@@ -24,7 +24,11 @@ part-name-end c =
     let s = c .before .before .before .before in
     let t = s .args .table .now in
     let p = s .pre .0 in
-    omega (arith, law.lent-size t (s .args .i) (p .below) (p .size), law.lent-short t (s .args .i) (p .below) (law.tested-here t (s .args .i) p))
+    omega (
+      arith,
+      law.lent-size t (s .args .i) (p .below) (p .size),
+      law.lent-short t (s .args .i) (p .below) (law.tested-here t (s .args .i) p),
+    )
 
 returns-2 : tie.Need-returns-2
 returns-2 c =

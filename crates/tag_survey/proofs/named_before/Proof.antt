@@ -37,8 +37,11 @@ returns c =
 loop-again : tie.Need-loop-again Inv-loop μ-loop
 loop-again c =
     let l = c .before .before .before .before .loop in
-    let a = c .before .before .before .before .before .before .before .args in
-    (omega arith, law.named-not (a .table .now) (a .name .now) (l .j) (omega arith) (c .before .is-named .ensures) (c .if1 .left) (l .inv .1))
+    let a = c .before .before .before .before .before .before .before .args in (
+      omega arith,
+      law.named-not (a .table .now) (a .name .now) (l .j) (omega arith) (c .before .is-named .ensures) (c .if1 .left)
+          (l .inv .1),
+    )
 
 returns-2 : tie.Need-returns-2 Inv-loop μ-loop
 returns-2 c =

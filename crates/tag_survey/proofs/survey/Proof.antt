@@ -26,18 +26,23 @@ is-entry-requires c κs =
 returns : tie.Need-returns Inv-loop μ-loop
 returns c =
     let l = c .before .before .before .before .loop in
-    law.broken _ _ _ _ (l .i) (l .inv) (c .before .before .before .loop-test .taken) (c .before .is-entry .ensures) (not-true _ (c .if1 .taken))
+    law.broken _ _ _ _ (l .i) (l .inv) (c .before .before .before .loop-test .taken) (c .before .is-entry .ensures)
+    (not-true _ (c .if1 .taken))
 
 is-fresh-requires : tie.Need-is-fresh-requires Inv-loop μ-loop
 is-fresh-requires c κs =
     let l = c .before .before .before .before .before .loop in
-    let s = c .before .before .before .before .before .before .before .before in
-    (law.tested _ _ _ _ (l .i) (l .inv) (c .before .before .before .before .loop-test .taken) (s .pre) (c .before .before .is-entry .ensures) (not-false _ (c .before .if1 .left)), l .inv .marked)
+    let s = c .before .before .before .before .before .before .before .before in (
+      law.tested _ _ _ _ (l .i) (l .inv) (c .before .before .before .before .loop-test .taken) (s .pre)
+          (c .before .before .is-entry .ensures) (not-false _ (c .before .if1 .left)),
+      l .inv .marked,
+    )
 
 returns-2 : tie.Need-returns-2 Inv-loop μ-loop
 returns-2 c =
     let l = c .before .before .before .before .before .before .before .loop in
-    law.twice _ _ _ _ (l .i) (l .inv) (c .before .before .before .before .before .before .loop-test .taken) (c .before .is-fresh .ensures .0) (not-true _ (c .if2 .taken))
+    law.twice _ _ _ _ (l .i) (l .inv) (c .before .before .before .before .before .before .loop-test .taken)
+    (c .before .is-fresh .ensures .0) (not-true _ (c .if2 .taken))
 
 with-requires : tie.Need-with-requires Inv-loop μ-loop
 with-requires c κs =
@@ -46,7 +51,8 @@ with-requires c κs =
     let s = entry .before .before .before .before .before .before in
     let t = s .args .table .now in
     let below = entry .before .before .loop-test .taken in
-    let z = law.tested t _ _ _ (l .i) (l .inv) below (s .pre) (entry .is-entry .ensures) (not-false _ (c .before .before .before .if1 .left)) in
+    let z = law.tested t _ _ _ (l .i) (l .inv) below (s .pre) (entry .is-entry .ensures)
+    (not-false _ (c .before .before .before .if1 .left)) in
     (below, law.lent-size t (l .i) below (s .pre), law.lent-short t (l .i) below (law.tested-here t (l .i) z))
 
 loop-again : tie.Need-loop-again Inv-loop μ-loop
@@ -56,8 +62,10 @@ loop-again c =
     let s = entry .before .before .before .before .before .before in
     let t = s .args .table .now in
     let below = entry .before .before .loop-test .taken in
-    let z = law.tested t _ _ _ (l .i) (l .inv) below (s .pre) (entry .is-entry .ensures) (not-false _ (c .before .before .before .before .if1 .left)) in
-    law.goes-on t _ _ _ (l .i) (l .inv) below _ z (c .before .before .is-fresh .ensures .0) (not-false _ (c .before .if2 .left)) (c .before .before .is-fresh .ensures .1) (c .with .ensures)
+    let z = law.tested t _ _ _ (l .i) (l .inv) below (s .pre) (entry .is-entry .ensures)
+    (not-false _ (c .before .before .before .before .if1 .left)) in
+    law.goes-on t _ _ _ (l .i) (l .inv) below _ z (c .before .before .is-fresh .ensures .0) (not-false _ (c .before .if2 .left))
+    (c .before .before .is-fresh .ensures .1) (c .with .ensures)
 
 returns-3 : tie.Need-returns-3 Inv-loop μ-loop
 returns-3 c =

@@ -19,17 +19,23 @@ seen c = survey.sees _ _ _ (sym (c .before .before .before .survey .ensures) ∙
 returns-2 : tie.Need-returns-2
 returns-2 c =
     let call = c .before .before in
-    change.refuses-table _ _ _ _ _ (call .before .before .if1 .left) (survey.no-table _ _ (sym (call .survey .ensures) ∙ c .enum-told .given .1))
+    change.refuses-table _ _ _ _ _ (call .before .before .if1 .left)
+    (survey.no-table _ _ (sym (call .survey .ensures) ∙ c .enum-told .given .1))
 
 put-zeros-requires : tie.Need-put-zeros-requires
-put-zeros-requires c κs = omega (arith, c .before .before .before .before .before .before .before .before .before .if1 .left, c .before .if3 .taken)
+put-zeros-requires c κs = omega (
+  arith,
+  c .before .before .before .before .before .before .before .before .before .if1 .left,
+  c .before .if3 .taken,
+)
 
 returns-3 : tie.Need-returns-3
 returns-3 c =
     let named = c .before .before .before .before .before .before in
     let s = seen (named .before) in
     change.tag-removed _ _ _ _ (named .before .before .before .before .before .before .if1 .left) (s .table)
-    (sym (named .is-name .ensures) ∙ c .before .before .before .before .before .if2 .taken) (c .before .before .before .before .if3 .taken) (s .named) (c .before .before .put-zeros .ensures)
+    (sym (named .is-name .ensures) ∙ c .before .before .before .before .before .if2 .taken) (c .before .before .before .before .if3 .taken)
+    (s .named) (c .before .before .put-zeros .ensures)
 
 returns-4 : tie.Need-returns-4
 returns-4 c =
@@ -41,7 +47,8 @@ returns-4 c =
 returns-5 : tie.Need-returns-5
 returns-5 c =
     let named = c .before in
-    change.refuses-form _ _ _ _ _ (named .before .before .before .before .before .before .if1 .left) (seen (named .before) .table) (sym (named .is-name .ensures) ∙ c .if2 .left)
+    change.refuses-form _ _ _ _ _ (named .before .before .before .before .before .before .if1 .left) (seen (named .before) .table)
+    (sym (named .is-name .ensures) ∙ c .if2 .left)
 
 pub remove-spec : {M : Type 1} → statement M
 remove-spec =

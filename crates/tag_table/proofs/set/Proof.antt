@@ -19,12 +19,15 @@ seen c = survey.sees _ _ _ (sym (c .before .before .before .survey .ensures) ∙
 returns-2 : tie.Need-returns-2
 returns-2 c =
     let call = c .before .before in
-    change.refuses-table _ _ _ _ _ (call .before .before .if1 .left) (survey.no-table _ _ (sym (call .survey .ensures) ∙ c .enum-told .given .1))
+    change.refuses-table _ _ _ _ _ (call .before .before .if1 .left)
+    (survey.no-table _ _ (sym (call .survey .ensures) ∙ c .enum-told .given .1))
 
 put-entry-requires : tie.Need-put-entry-requires
 put-entry-requires c κs =
-    let tag = c .before .before .before .before in
-    (sym (tag .is-tag .ensures) ∙ c .before .before .before .if2 .taken, omega (arith, tag .before .before .before .before .before .before .if1 .left, c .before .if3 .taken))
+    let tag = c .before .before .before .before in (
+      sym (tag .is-tag .ensures) ∙ c .before .before .before .if2 .taken,
+      omega (arith, tag .before .before .before .before .before .before .if1 .left, c .before .if3 .taken),
+    )
 
 returns-3 : tie.Need-returns-3
 returns-3 c =
@@ -46,7 +49,8 @@ returns-4 c =
 returns-5 : tie.Need-returns-5
 returns-5 c =
     let tag = c .before in
-    change.refuses-form _ _ _ _ _ (tag .before .before .before .before .before .before .if1 .left) (seen (tag .before) .table) (sym (tag .is-tag .ensures) ∙ c .if2 .left)
+    change.refuses-form _ _ _ _ _ (tag .before .before .before .before .before .before .if1 .left) (seen (tag .before) .table)
+    (sym (tag .is-tag .ensures) ∙ c .if2 .left)
 
 pub set-spec : {M : Type 1} → statement M
 set-spec =

@@ -11,11 +11,14 @@ use Rattle.tag_table.proofs.take.Statement.{statement}
 use Rattle.tag_table.proofs.take.Tie as tie
 
 -- what was read
-read : (c : tie.After-known-told) → message.Read (c .before .before .before .before .before .before .args .message .now) (c .before .name .given .0 .0) (c .before .name .given .0 .1 .0)
+read : (c : tie.After-known-told)
+    → message.Read (c .before .before .before .before .before .before .args .message .now) (c .before .name .given .0 .0)
+    (c .before .name .given .0 .1 .0)
 read c = message.tag-read _ _ _ (sym (c .before .before .before .read .ensures) ∙ c .before .name .given .1)
 
 -- the message ends behind its value
-whole : (c : tie.After-known-told) → length (c .before .before .before .before .before .before .args .message .now) ≡ 1 + c .before .name .given .0 .0 + 1 + c .before .name .given .0 .1 .0
+whole : (c : tie.After-known-told) → length (c .before .before .before .before .before .before .args .message .now) ≡ 1
+    + c .before .name .given .0 .0 + 1 + c .before .name .given .0 .1 .0
 whole c =
     let r = read c in
     omega (arith, r .named, r .valued, message.passed _ (r .message) .whole)
@@ -26,7 +29,8 @@ returns c = change.taken _ _ _ _ _ _ (read (c .before .before .before .before .b
 returns-2 : tie.Need-returns-2
 returns-2 c =
     let told = c .before .before .before .before .before .before in
-    change.not-taken _ _ _ _ (message.none-read _ _ (sym (told .before .before .read .ensures) ∙ told .enum-told .given .1)) (c .before .before .set2 .ensures)
+    change.not-taken _ _ _ _ (message.none-read _ _ (sym (told .before .before .read .ensures) ∙ told .enum-told .given .1))
+    (c .before .before .set2 .ensures)
 
 pub take-spec : {M : Type 1} → statement M
 take-spec =

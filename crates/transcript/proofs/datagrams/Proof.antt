@@ -34,12 +34,16 @@ loop-again : tie.Need-loop-again Inv-loop μ-loop
 unfolding ascii
 loop-again c =
     let l = c .before .before .before .before .before .before .before .before .before .before .loop in
-    let a = c .before .before .before .before .before .before .before .before .before .before .before .before .before .before .before .args in
+    let a = c .before .before .before .before .before .before .before .before .before .before .before .before .before .before .before
+    .args in
     let read = c .before .before .before .before .before .before .before .wide .ensures .0 in (
       omega arith,
       l .inv .1,
       omega arith,
-      partly-more _ _ _ _ _ _ _ _ _ _ (l .inv .3) (lines-next (a .packed .now) (a .lengths .now) (a .n) (l .from) (l .i) (c .before .before .before .before .before .before .before .wide .result) _ (omega arith) read refl (omega arith)) (c .before .before .bytes-line .ensures),
+      partly-more _ _ _ _ _ _ _ _ _ _ (l .inv .3)
+          (lines-next (a .packed .now) (a .lengths .now) (a .n) (l .from) (l .i)
+          (c .before .before .before .before .before .before .before .wide .result) _ (omega arith) read refl (omega arith))
+          (c .before .before .bytes-line .ensures),
     )
 
 returns-2 : tie.Need-returns-2 Inv-loop μ-loop

@@ -9,7 +9,9 @@ use Rattle.transcript.proofs.number_line.Tie as tie
 returns : tie.Need-returns
 unfolding numberLine
 returns c =
-    put-then _ _ _ _ _ _ _ _ (put-then _ _ _ _ _ _ _ _ (c .before .before .before .before .before .before .before .before .before .before .bytes .ensures) (c .before .before .before .before .before .before .number .ensures)) (c .before .before .byte .ensures)
+    put-then _ _ _ _ _ _ _ _ (put-then _ _ _ _ _ _ _ _
+    (c .before .before .before .before .before .before .before .before .before .before .bytes .ensures)
+    (c .before .before .before .before .before .before .number .ensures)) (c .before .before .byte .ensures)
 
 pub number-line-spec : {M : Type 1} → statement M
 number-line-spec =

@@ -26,9 +26,12 @@ loop-again : tie.Need-loop-again Inv-loop μ-loop
 unfolding cell ascii
 loop-again c =
     let l = c .before .before .before .before .before .before .before .before .before .before .loop in
-    let numbers = c .before .before .before .before .before .before .before .before .before .before .before .before .before .args .numbers .now in (
+    let numbers = c .before .before .before .before .before .before .before .before .before .before .before .before .before .args .numbers
+    .now in (
       omega arith,
-      each-put cell numbers (l .i) 0 _ _ _ _ _ _ (search needs) (l .inv .1) (put-then _ _ _ _ _ _ _ _ (c .before .before .before .before .before .before .before .byte .ensures) (c .before .before .number .ensures)),
+      each-put cell numbers (l .i) 0 _ _ _ _ _ _ (search needs) (l .inv .1)
+          (put-then _ _ _ _ _ _ _ _ (c .before .before .before .before .before .before .before .byte .ensures)
+          (c .before .before .number .ensures)),
     )
 
 returns : tie.Need-returns Inv-loop μ-loop

@@ -28,7 +28,8 @@ finish-requires c κs =
     let put = walked .before .before .before .before .before .before .before .before in
     let began = put .before .before .before in
     let w = began .before .before .before .before .before .before .pre in
-    last-left _ _ _ _ _ _ _ _ _ _ w _ _ _ _ _ (began .new .ensures) (put .put-controls .ensures) _ _ _ _ _ (walked .put-outstanding .ensures)
+    last-left _ _ _ _ _ _ _ _ _ _ w _ _ _ _ _ (began .new .ensures) (put .put-controls .ensures) _ _ _ _ _
+    (walked .put-outstanding .ensures)
 
 returns : tie.Need-returns
 returns c =
@@ -36,7 +37,8 @@ returns c =
     let walked = finished .before .before .before .before .before .before in
     let put = walked .before .before .before .before .before .before .before .before in
     let began = put .before .before .before in
-    writes-all _ _ _ _ _ _ _ _ _ _ _ _ _ _ _ _ _ _ _ _ _ _ (began .new .ensures) (put .put-controls .ensures) (walked .put-outstanding .ensures) (finished .finish .ensures)
+    writes-all _ _ _ _ _ _ _ _ _ _ _ _ _ _ _ _ _ _ _ _ _ _ (began .new .ensures) (put .put-controls .ensures)
+    (walked .put-outstanding .ensures) (finished .finish .ensures)
 
 pub write-spec : {M : Type 1} → statement M
 write-spec =

@@ -13,7 +13,8 @@ use Rattle.words.proofs.insert_at.Statement.{statement}
 use Rattle.words.proofs.insert_at.Tie as tie
 
 abbrev Inv-loop : tie.InvT-loop
-Inv-loop list₀ n i word carried₀ j₀ list carried j = Packed 128 n list₀ list (carried ∷ drop j (take n list₀)) (take i (take n list₀) ++ (word ∷ drop i (take n list₀))) j j
+Inv-loop list₀ n i word carried₀ j₀ list carried j =
+    Packed 128 n list₀ list (carried ∷ drop j (take n list₀)) (take i (take n list₀) ++ (word ∷ drop i (take n list₀))) j j
 
 pub insert-at-spec : {M : Type 1} → statement M
 insert-at-spec =

@@ -22,8 +22,21 @@ place-spec =
     (λ c. search needs)
     (λ c. search needs)
     (λ c κs. search needs)
-    (λ c. record { within = c .before .before .before .before .loop .inv .0; below = c .before .before .before .before .loop .inv .1; here = λ h. omega (arith, c .if1 .taken, c .before .difference .ensures) })
+    (λ c. record {
+      within = c .before .before .before .before .loop .inv .0;
+      below = c .before .before .before .before .loop .inv .1;
+      here = λ h. omega (arith, c .if1 .taken, c .before .difference .ensures);
+    })
     (λ c. search needs)
     (λ c. search needs)
-    (λ c. (search needs, more-below _ _ (c .before .before .before .before .before .args .numbers .now) (c .before .before .before .before .loop .i) (omega (arith, c .if1 .left, c .before .difference .ensures)) (c .before .before .before .before .loop .inv .1)))
-    (λ c. record { within = c .before .loop .inv .0; below = c .before .loop .inv .1; here = λ h. absurd (omega (arith, c .loop-test .left)) }))
+    (λ c. (
+      search needs,
+      more-below _ _ (c .before .before .before .before .before .args .numbers .now)
+          (c .before .before .before .before .loop .i) (omega (arith, c .if1 .left, c .before .difference .ensures))
+          (c .before .before .before .before .loop .inv .1),
+    ))
+    (λ c. record {
+      within = c .before .loop .inv .0;
+      below = c .before .loop .inv .1;
+      here = λ h. absurd (omega (arith, c .loop-test .left));
+    }))

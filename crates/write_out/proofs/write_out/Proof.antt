@@ -1,7 +1,150 @@
--- `write_out::write_out` meets its contract: a walk of its MIR. The table is read; structs are copied, all lists are lent, and flight, arrival and clock are stored.
--- Of each callee the proof knows only that it meets its contract. Written by tools/calls.py.
+-- `write_out::write_out` meets its contract: a walk of its MIR. The table is read; structs are copied, all lists are lent, and flight,
+-- arrival and clock are stored. Of each callee the proof knows only that it meets its contract. Written by tools/calls.py.
 -- Assumes nothing.
-use Rattle.records.proofs.Walk.{_≡_, refl, ap, ℕ, _+_, List, [], _∷_, length, set, URA, fullShare, named, w8, w32, w64, Val, vint, vptr, SProp, ent, emp, via, fst∗, id⊢, Lft, GName, Share, Fml, ftrue, flft, Memory, Routine, Heap, Calls, Loops, WpFn, Tables, Atoms, Fun, givenOf, tables, tablesOf, Given, Item, ‵, some, later, _⊛_, ⋆, _$_, _∵_, !, qed, by, move, drop, use1, use2, split, join, pick, await, fsplit, fjoin, feqL, suffices, frame, done, look, look-raw, look-in, sub, whole, init, store, store-raw, forget, stop, hop, fld, from, load, of-opd, agg, addr, and-then, no-more, assigns, returns, enter, alloc1, alloc0, params1, pass1, pass0, free1, free0, land, WpFn-mono, FmC, fmOf, owns, Is, uint-vals, uint-tells, uint-makes, RefT, sliceVal, MutSlice, ShrSlice, Room, slice-vals, mut-slice-tells, shr-slice-tells, finally, plain, u8, u32, usize, nothing, owned, only, Vals, onEntry, Triple, Meets, tripleOf, entered, cited, says, Stays, gave-slice, goes-gave-slice, walkOf, ends-at, walked, walk-meets, yes, fat, keep, exec}
+use Rattle.records.proofs.Walk.{
+  _≡_,
+  refl,
+  ap,
+  ℕ,
+  _+_,
+  List,
+  [],
+  _∷_,
+  length,
+  set,
+  URA,
+  fullShare,
+  named,
+  w8,
+  w32,
+  w64,
+  Val,
+  vint,
+  vptr,
+  SProp,
+  ent,
+  emp,
+  via,
+  fst∗,
+  id⊢,
+  Lft,
+  GName,
+  Share,
+  Fml,
+  ftrue,
+  flft,
+  Memory,
+  Routine,
+  Heap,
+  Calls,
+  Loops,
+  WpFn,
+  Tables,
+  Atoms,
+  Fun,
+  givenOf,
+  tables,
+  tablesOf,
+  Given,
+  Item,
+  ‵,
+  some,
+  later,
+  _⊛_,
+  ⋆,
+  _$_,
+  _∵_,
+  !,
+  qed,
+  by,
+  move,
+  drop,
+  use1,
+  use2,
+  split,
+  join,
+  pick,
+  await,
+  fsplit,
+  fjoin,
+  feqL,
+  suffices,
+  frame,
+  done,
+  look,
+  look-raw,
+  look-in,
+  sub,
+  whole,
+  init,
+  store,
+  store-raw,
+  forget,
+  stop,
+  hop,
+  fld,
+  from,
+  load,
+  of-opd,
+  agg,
+  addr,
+  and-then,
+  no-more,
+  assigns,
+  returns,
+  enter,
+  alloc1,
+  alloc0,
+  params1,
+  pass1,
+  pass0,
+  free1,
+  free0,
+  land,
+  WpFn-mono,
+  FmC,
+  fmOf,
+  owns,
+  Is,
+  uint-vals,
+  uint-tells,
+  uint-makes,
+  RefT,
+  sliceVal,
+  MutSlice,
+  ShrSlice,
+  Room,
+  slice-vals,
+  mut-slice-tells,
+  shr-slice-tells,
+  finally,
+  plain,
+  u8,
+  u32,
+  usize,
+  nothing,
+  owned,
+  only,
+  Vals,
+  onEntry,
+  Triple,
+  Meets,
+  tripleOf,
+  entered,
+  cited,
+  says,
+  Stays,
+  gave-slice,
+  goes-gave-slice,
+  walkOf,
+  ends-at,
+  walked,
+  walk-meets,
+  yes,
+  fat,
+  keep,
+  exec,
+}
 use Rattle.records.proofs.Call.{calls-fn, plainly}
 use Rattle.records.proofs.Shared.{LentShared, lends-shared, shared-back}
 use Rattle.records.proofs.Rows.{R, Rs, rs-typed, rs-makes}
@@ -48,15 +191,18 @@ use Rattle.control.proofs.Clock.Laws as clock-laws
 use Rattle.flush_core.specs.declared.Flushed.{Flushed}
 use Rattle.flush_core.proofs.Flushed as flushed-row
 use Rattle.flush_core.proofs.Flushed.Laws as flushed-laws
+use mathlib.Core.Bool.{Bool}
+use denote.Plain.{Boolean, bool-vals, bool-tells, bool-lawful, bool-makes}
+use mir.Val.{vbool}
 use lib.ListN.{take}
 use Rattle.protocol.specs.Protocol.{sendSlots}
 use Rattle.records.specs.Tables.{slotsIn, gathered, padded}
 use Rattle.control.specs.Views.{Whole, arrays, linkOf}
-use Rattle.promises.specs.Parts.{partsOf}
+use Rattle.promises.specs.Parts.{partsOf, flushPartsOf}
 use Rattle.flush_core.specs.Flushes.{Core, putBack}
-use Rattle.from_cores.specs.Left.{FlushLeft}
+use Rattle.write_out.specs.Written.{Left}
+use Rattle.write_out.proofs.Paced.{left}
 use Rattle.from_cores.proofs.Gathered.{gathers}
-use Rattle.from_cores.proofs.Flushing.{flush-left}
 use Rattle.results.proofs.outstanding_count as count-of
 use Rattle.results.proofs.outstanding_count.Symbol as count-of-def
 use Rattle.results.proofs.outstanding_count.Met as count-of-thm
@@ -84,7 +230,28 @@ use Rattle.write_out.proofs.write_out.Statement as stated
 use Rattle.write_out.proofs.write_out.Code as code
 
 abbrev stayed : Stays (f.ended .signature .params) (f.ended .kept)
-stayed = (stay-ref (0 ∷ []) tt (plain (λ _. L)), (stay-dropped _ yes, (stay-dropped _ yes, (stay-dropped _ yes, (stay-dropped _ yes, (stay-dropped _ yes, (gave-slice (5 ∷ []) tt (plain (λ _. u8)), (gave-slice (6 ∷ []) tt (plain (λ _. u16)), tt))))))))
+stayed = (
+  stay-ref (0 ∷ []) tt (plain (λ _. L)),
+  (
+    stay-dropped _ yes,
+    (
+      stay-dropped _ yes,
+      (
+        stay-dropped _ yes,
+        (
+          stay-dropped _ yes,
+          (
+            stay-dropped _ yes,
+            (
+              stay-dropped _ yes,
+              (gave-slice (5 ∷ []) tt (plain (λ _. u8)), (gave-slice (6 ∷ []) tt (plain (λ _. u16)), tt)),
+            ),
+          ),
+        ),
+      ),
+    ),
+  ),
+)
 
 module _ {M : Type 1} (𝓤 : URA M) (H : Heap 𝓤) (A : Atoms 𝓤) (W : Given 𝓤 H A) (at-mem : Memory → SProp 𝓤) (run : Routine → Fun 𝓤) where
   -- what is known of the callees
@@ -97,9 +264,14 @@ module _ {M : Type 1} (𝓤 : URA M) (H : Heap 𝓤) (A : Atoms 𝓤) (W : Given
       × Triple 𝓤 (C arrival-of-def.name) (tripleOf 𝓤 H A arrival-of.signature (arrival-of.spec 𝓤 H A at-mem run))
       × Triple 𝓤 (C clock-of-def.name) (tripleOf 𝓤 H A clock-of.signature (clock-of.spec 𝓤 H A at-mem run))
 
-  module _ (κ₀ κ₁ κ₂ κ₃ κ₄ κ₅ κ₆ : Lft) (q₀ q₁ q₂ q₃ q₄ q₅ q₆ : Share) (b o : ℕ) (γ : GName) (h : Link) (x₁ : RefT (List ℕ)) (room₁ : Room u8 (length (x₁ .now))) (x₂ : RefT (List ℕ)) (room₂ : Room u8 (length (x₂ .now))) (x₃ : RefT (List Record)) (room₃ : Room R (length (x₃ .now))) (x₄ : RefT (List ℕ)) (room₄ : Room u32 (length (x₄ .now))) (x₅ : ℕ) (v₅ : Val) (g₅ : Is u32 x₅ (v₅ ∷ [])) (x₆ : RefT (List ℕ)) (room₆ : Room u8 (length (x₆ .now))) (x₇ : RefT (List ℕ)) (room₇ : Room u16 (length (x₇ .now))) where
-    abbrev x : RefT Link × (RefT (List ℕ) × (RefT (List ℕ) × (RefT (List Record) × (RefT (List ℕ) × (ℕ × (RefT (List ℕ) × (RefT (List ℕ) × Unit {0})))))))
-    x = (ref-at b o γ h, (x₁, (x₂, (x₃, (x₄, (x₅, (x₆, (x₇, tt))))))))
+  module _ (κ₀ κ₁ κ₂ κ₃ κ₄ κ₅ κ₆ : Lft) (q₀ q₁ q₂ q₃ q₄ q₅ q₆ : Share) (b o : ℕ) (γ : GName) (h : Link) (x₁ : RefT (List ℕ))
+      (room₁ : Room u8 (length (x₁ .now))) (x₂ : RefT (List ℕ)) (room₂ : Room u8 (length (x₂ .now))) (x₃ : RefT (List Record))
+      (room₃ : Room R (length (x₃ .now))) (x₄ : RefT (List ℕ)) (room₄ : Room u32 (length (x₄ .now))) (x₅ : Bool) (v₅ : Val)
+      (g₅ : Is Boolean x₅ (v₅ ∷ [])) (x₆ : ℕ) (v₆ : Val) (g₆ : Is u32 x₆ (v₆ ∷ [])) (x₇ : RefT (List ℕ))
+      (room₇ : Room u8 (length (x₇ .now))) (x₈ : RefT (List ℕ)) (room₈ : Room u16 (length (x₈ .now))) where
+    abbrev x : RefT Link × (RefT (List ℕ) × (RefT (List ℕ) ×
+        (RefT (List Record) × (RefT (List ℕ) × (Bool × (ℕ × (RefT (List ℕ) × (RefT (List ℕ) × Unit {0}))))))))
+    x = (ref-at b o γ h, (x₁, (x₂, (x₃, (x₄, (x₅, (x₆, (x₇, (x₈, tt)))))))))
 
     abbrev s₁ : Val
     s₁ = sliceVal (x₁ .ptr) (length (x₁ .now))
@@ -125,153 +297,1070 @@ module _ {M : Type 1} (𝓤 : URA M) (H : Heap 𝓤) (A : Atoms 𝓤) (W : Given
     abbrev Own₄ : Fml
     Own₄ = ShrSlice (named 0) κ₄ u32 .own x₄ (s₄ ∷ [])
 
-    abbrev s₆ : Val
-    s₆ = sliceVal (x₆ .ptr) (length (x₆ .now))
-
-    abbrev Own₆ : Fml
-    Own₆ = MutSlice (named 0) κ₅ u8 .own x₆ (s₆ ∷ [])
-
     abbrev s₇ : Val
     s₇ = sliceVal (x₇ .ptr) (length (x₇ .now))
 
     abbrev Own₇ : Fml
-    Own₇ = MutSlice (named 0) κ₆ u16 .own x₇ (s₇ ∷ [])
+    Own₇ = MutSlice (named 0) κ₅ u8 .own x₇ (s₇ ∷ [])
+
+    abbrev s₈ : Val
+    s₈ = sliceVal (x₈ .ptr) (length (x₈ .now))
+
+    abbrev Own₈ : Fml
+    Own₈ = MutSlice (named 0) κ₆ u16 .own x₈ (s₈ ∷ [])
 
     abbrev at : Vals f.signature (κ₀, (κ₁, (κ₂, (κ₃, (κ₄, (κ₅, (κ₆, tt)))))))
-    at = (vptr b o ∷ [], (s₁ ∷ [], (s₂ ∷ [], (s₃ ∷ [], (s₄ ∷ [], (v₅ ∷ [], (s₆ ∷ [], (s₇ ∷ [], tt))))))))
+    at = (vptr b o ∷ [], (s₁ ∷ [], (s₂ ∷ [], (s₃ ∷ [], (s₄ ∷ [], (v₅ ∷ [], (v₆ ∷ [], (s₇ ∷ [], (s₈ ∷ [], tt)))))))))
 
     unfoldable Post : Val → SProp 𝓤
-    Post = walkOf 𝓤 H A f.ended stayed (f.clauses 𝓤 H A at-mem run) .post (((κ₀, (κ₁, (κ₂, (κ₃, (κ₄, (κ₅, (κ₆, tt))))))), (q₀, (q₁, (q₂, (q₃, (q₄, (q₅, (q₆, tt))))))), tt, x, at), tt)
+    Post = walkOf 𝓤 H A f.ended stayed (f.clauses 𝓤 H A at-mem run) .post
+        (((κ₀, (κ₁, (κ₂, (κ₃, (κ₄, (κ₅, (κ₆, tt))))))), (q₀, (q₁, (q₂, (q₃, (q₄, (q₅, (q₆, tt))))))), tt, x, at), tt)
 
     -- what gather is called at, and that what it asks is had
-    abbrev to-gather : (y₀ : (List ℕ)) (u₀ : Val) (y₁ : ℕ) (u₁ : Val) → tripleOf 𝓤 H A gather.signature (gather.spec 𝓤 H A at-mem run) .Ghost
+    abbrev to-gather : (y₀ : (List ℕ)) (u₀ : Val) (y₁ : ℕ) (u₁ : Val)
+        → tripleOf 𝓤 H A gather.signature (gather.spec 𝓤 H A at-mem run) .Ghost
     to-gather y₀ u₀ y₁ u₁ = (((κ₃, tt), (q₃, tt), tt, (x₃, (y₀, (y₁, tt))), (s₃ ∷ [], (u₀ ∷ [], (u₁ ∷ [], tt)))), tt)
 
-    asks-gather : (y₀ : (List ℕ)) (u₀ : Val) → Is (Array u32 32) y₀ (u₀ ∷ []) → (y₁ : ℕ) (u₁ : Val) → Is usize y₁ (u₁ ∷ []) → ent 𝓤 (⋆ 𝓤 H A (‵ (flft κ₃ q₃) ∷ ‵ Own₃ ∷ [])) (tripleOf 𝓤 H A gather.signature (gather.spec 𝓤 H A at-mem run) .pre (to-gather y₀ u₀ y₁ u₁))
+    asks-gather : (y₀ : (List ℕ)) (u₀ : Val) → Is (Array u32 32) y₀ (u₀ ∷ []) → (y₁ : ℕ) (u₁ : Val) → Is usize y₁ (u₁ ∷ [])
+        → ent 𝓤 (⋆ 𝓤 H A (‵ (flft κ₃ q₃) ∷ ‵ Own₃ ∷ []))
+        (tripleOf 𝓤 H A gather.signature (gather.spec 𝓤 H A at-mem run) .pre (to-gather y₀ u₀ y₁ u₁))
     asks-gather y₀ u₀ is₀ y₁ u₁ is₁ =
-        qed W (‵ (flft κ₃ q₃) ∷ ‵ Own₃ ∷ []) ∵ nothing ! $ move ! (1 ∷ 0 ∷ []) $ join ! $ nothing ! $ owned ! usize (Is usize) (uint-makes 𝓤 H A W w64) y₁ _ is₁ $ fjoin ! $ owned ! (Array u32 32) (Is (Array u32 32)) (array-makes 𝓤 H A W u32 (uint-makes 𝓤 H A W w32) 32) y₀ _ is₀ $ fjoin ! $ move ! (2 ∷ 0 ∷ []) $ fjoin ! $ move ! (1 ∷ 0 ∷ []) $ join ! $ nothing ! $ move ! (1 ∷ 0 ∷ []) $ done !
+        qed W (‵ (flft κ₃ q₃) ∷ ‵ Own₃ ∷ []) ∵ nothing ! $ move ! (1 ∷ 0 ∷ []) $ join ! $ nothing ! $
+        owned ! usize (Is usize) (uint-makes 𝓤 H A W w64) y₁ _ is₁ $ fjoin ! $
+        owned ! (Array u32 32) (Is (Array u32 32)) (array-makes 𝓤 H A W u32 (uint-makes 𝓤 H A W w32) 32) y₀ _ is₀ $ fjoin ! $
+        move ! (2 ∷ 0 ∷ []) $ fjoin ! $ move ! (1 ∷ 0 ∷ []) $ join ! $ nothing ! $ move ! (1 ∷ 0 ∷ []) $ done !
 
     -- what table-len is called at, and that what it asks is had
     abbrev to-table-len : tripleOf 𝓤 H A table-len.signature (table-len.spec 𝓤 H A at-mem run) .Ghost
     to-table-len = (((κ₃, tt), (q₃, tt), tt, (x₃, tt), (s₃ ∷ [], tt)), tt)
 
-    asks-table-len : ent 𝓤 (⋆ 𝓤 H A (‵ (flft κ₃ q₃) ∷ ‵ Own₃ ∷ [])) (tripleOf 𝓤 H A table-len.signature (table-len.spec 𝓤 H A at-mem run) .pre (to-table-len))
+    asks-table-len : ent 𝓤 (⋆ 𝓤 H A (‵ (flft κ₃ q₃) ∷ ‵ Own₃ ∷ []))
+        (tripleOf 𝓤 H A table-len.signature (table-len.spec 𝓤 H A at-mem run) .pre (to-table-len))
     asks-table-len =
-        qed W (‵ (flft κ₃ q₃) ∷ ‵ Own₃ ∷ []) ∵ nothing ! $ move ! (1 ∷ 0 ∷ []) $ join ! $ nothing ! $ move ! (2 ∷ 0 ∷ []) $ fjoin ! $ move ! (1 ∷ 0 ∷ []) $ join ! $ nothing ! $ move ! (1 ∷ 0 ∷ []) $ done !
+        qed W (‵ (flft κ₃ q₃) ∷ ‵ Own₃ ∷ []) ∵ nothing ! $ move ! (1 ∷ 0 ∷ []) $ join ! $ nothing ! $ move ! (2 ∷ 0 ∷ []) $ fjoin ! $
+        move ! (1 ∷ 0 ∷ []) $ join ! $ nothing ! $ move ! (1 ∷ 0 ∷ []) $ done !
 
     -- what core is called at, and that what it asks is had
-    abbrev to-core : (α-queued : ℕ) (δ-queued : GName) (f-queued : (List ℕ)) (α-outstanding : ℕ) (δ-outstanding : GName) (f-outstanding : (List ℕ)) (α-transmissions : ℕ) (δ-transmissions : GName) (f-transmissions : (List ℕ)) (α-ready : ℕ) (δ-ready : GName) (f-ready : (List ℕ)) (α-waiting : ℕ) (δ-waiting : GName) (f-waiting : (List ℕ)) (α-waiting-numbers : ℕ) (δ-waiting-numbers : GName) (f-waiting-numbers : (List ℕ)) (y₀ : Settings) (u₀ : Val) (y₁ : Flight) (u₁ : Val) (y₂ : Arrival) (u₂ : Val) (y₃ : Clock) (u₃ : Val) (y₄ : (List Record)) (u₄ : Val) (y₅ : ℕ) (u₅ : Val) (y₆ : ℕ) (u₆ : Val) → tripleOf 𝓤 H A core.signature (core.spec 𝓤 H A at-mem run) .Ghost
-    to-core α-queued δ-queued f-queued α-outstanding δ-outstanding f-outstanding α-transmissions δ-transmissions f-transmissions α-ready δ-ready f-ready α-waiting δ-waiting f-waiting α-waiting-numbers δ-waiting-numbers f-waiting-numbers y₀ u₀ y₁ u₁ y₂ u₂ y₃ u₃ y₄ u₄ y₅ u₅ y₆ u₆ = ((((α-queued ∷ []), ((α-outstanding ∷ []), ((α-transmissions ∷ []), ((α-ready ∷ []), ((α-waiting ∷ []), ((α-waiting-numbers ∷ []), (κ₁, (κ₂, (κ₄, (κ₅, (κ₆, tt))))))))))), (fullShare, (fullShare, (fullShare, (fullShare, (fullShare, (fullShare, (q₁, (q₂, (q₄, (q₅, (q₆, tt))))))))))), tt, (y₀, (y₁, (y₂, (y₃, (y₄, (y₅, ((ref-at b (o + 124) δ-queued f-queued), ((ref-at b (o + 636) δ-outstanding f-outstanding), ((ref-at b (o + 764) δ-transmissions f-transmissions), ((ref-at b (o + 796) δ-ready f-ready), ((ref-at b (o + 1308) δ-waiting f-waiting), ((ref-at b (o + 1820) δ-waiting-numbers f-waiting-numbers), (x₁, (x₂, (x₄, (y₆, (x₆, (x₇, tt)))))))))))))))))), (u₀ ∷ [], (u₁ ∷ [], (u₂ ∷ [], (u₃ ∷ [], (u₄ ∷ [], (u₅ ∷ [], ((vptr b (o + 124)) ∷ [], ((vptr b (o + 636)) ∷ [], ((vptr b (o + 764)) ∷ [], ((vptr b (o + 796)) ∷ [], ((vptr b (o + 1308)) ∷ [], ((vptr b (o + 1820)) ∷ [], (s₁ ∷ [], (s₂ ∷ [], (s₄ ∷ [], (u₆ ∷ [], (s₆ ∷ [], (s₇ ∷ [], tt))))))))))))))))))), tt)
+    abbrev to-core : (α-queued : ℕ) (δ-queued : GName) (f-queued : (List ℕ)) (α-outstanding : ℕ) (δ-outstanding : GName)
+        (f-outstanding : (List ℕ)) (α-transmissions : ℕ) (δ-transmissions : GName) (f-transmissions : (List ℕ)) (α-ready : ℕ)
+        (δ-ready : GName) (f-ready : (List ℕ)) (α-waiting : ℕ) (δ-waiting : GName) (f-waiting : (List ℕ)) (α-waiting-numbers : ℕ)
+        (δ-waiting-numbers : GName) (f-waiting-numbers : (List ℕ)) (y₀ : Settings) (u₀ : Val) (y₁ : Flight) (u₁ : Val) (y₂ : Arrival)
+        (u₂ : Val) (y₃ : Clock) (u₃ : Val) (y₄ : (List Record)) (u₄ : Val) (y₅ : ℕ) (u₅ : Val) (y₆ : Bool) (u₆ : Val) (y₇ : ℕ) (u₇ : Val)
+        → tripleOf 𝓤 H A core.signature (core.spec 𝓤 H A at-mem run) .Ghost
+    to-core α-queued δ-queued f-queued α-outstanding δ-outstanding f-outstanding α-transmissions δ-transmissions f-transmissions α-ready
+        δ-ready f-ready α-waiting δ-waiting f-waiting α-waiting-numbers δ-waiting-numbers f-waiting-numbers y₀ u₀ y₁ u₁ y₂ u₂ y₃ u₃ y₄ u₄ y₅
+        u₅ y₆ u₆ y₇ u₇ = (
+          (
+            (
+              (α-queued ∷ []),
+              (
+                (α-outstanding ∷ []),
+                (
+                  (α-transmissions ∷ []),
+                  (
+                    (α-ready ∷ []),
+                    ((α-waiting ∷ []), ((α-waiting-numbers ∷ []), (κ₁, (κ₂, (κ₄, (κ₅, (κ₆, tt))))))),
+                  ),
+                ),
+              ),
+            ),
+            (fullShare, (fullShare, (fullShare, (fullShare, (fullShare, (fullShare, (q₁, (q₂, (q₄, (q₅, (q₆, tt))))))))))),
+            tt,
+            (
+              y₀,
+              (
+                y₁,
+                (
+                  y₂,
+                  (
+                    y₃,
+                    (
+                      y₄,
+                      (
+                        y₅,
+                        (
+                          y₆,
+                          (
+                            (ref-at b (o + 124) δ-queued f-queued),
+                            (
+                              (ref-at b (o + 636) δ-outstanding f-outstanding),
+                              (
+                                (ref-at b (o + 764) δ-transmissions f-transmissions),
+                                (
+                                  (ref-at b (o + 796) δ-ready f-ready),
+                                  (
+                                    (ref-at b (o + 1308) δ-waiting f-waiting),
+                                    ((ref-at b (o + 1820) δ-waiting-numbers f-waiting-numbers), (x₁, (x₂, (x₄, (y₇, (x₇, (x₈, tt))))))),
+                                  ),
+                                ),
+                              ),
+                            ),
+                          ),
+                        ),
+                      ),
+                    ),
+                  ),
+                ),
+              ),
+            ),
+            (
+              u₀ ∷ [],
+              (
+                u₁ ∷ [],
+                (
+                  u₂ ∷ [],
+                  (
+                    u₃ ∷ [],
+                    (
+                      u₄ ∷ [],
+                      (
+                        u₅ ∷ [],
+                        (
+                          u₆ ∷ [],
+                          (
+                            (vptr b (o + 124)) ∷ [],
+                            (
+                              (vptr b (o + 636)) ∷ [],
+                              (
+                                (vptr b (o + 764)) ∷ [],
+                                (
+                                  (vptr b (o + 796)) ∷ [],
+                                  (
+                                    (vptr b (o + 1308)) ∷ [],
+                                    ((vptr b (o + 1820)) ∷ [], (s₁ ∷ [], (s₂ ∷ [], (s₄ ∷ [], (u₇ ∷ [], (s₇ ∷ [], (s₈ ∷ [], tt))))))),
+                                  ),
+                                ),
+                              ),
+                            ),
+                          ),
+                        ),
+                      ),
+                    ),
+                  ),
+                ),
+              ),
+            ),
+          ),
+          tt,
+        )
 
-    asks-core : (α-queued : ℕ) (δ-queued : GName) (f-queued : (List ℕ)) (α-outstanding : ℕ) (δ-outstanding : GName) (f-outstanding : (List ℕ)) (α-transmissions : ℕ) (δ-transmissions : GName) (f-transmissions : (List ℕ)) (α-ready : ℕ) (δ-ready : GName) (f-ready : (List ℕ)) (α-waiting : ℕ) (δ-waiting : GName) (f-waiting : (List ℕ)) (α-waiting-numbers : ℕ) (δ-waiting-numbers : GName) (f-waiting-numbers : (List ℕ)) → (y₀ : Settings) (u₀ : Val) → Is settings-row.the-row y₀ (u₀ ∷ []) → (y₁ : Flight) (u₁ : Val) → Is flight-row.the-row y₁ (u₁ ∷ []) → (y₂ : Arrival) (u₂ : Val) → Is arrival-row.the-row y₂ (u₂ ∷ []) → (y₃ : Clock) (u₃ : Val) → Is clock-row.the-row y₃ (u₃ ∷ []) → (y₄ : (List Record)) (u₄ : Val) → Is Rs y₄ (u₄ ∷ []) → (y₅ : ℕ) (u₅ : Val) → Is usize y₅ (u₅ ∷ []) → (y₆ : ℕ) (u₆ : Val) → Is u32 y₆ (u₆ ∷ []) → (Whole (arrays f-queued f-outstanding f-transmissions f-ready f-waiting f-waiting-numbers)) → ent 𝓤 (⋆ 𝓤 H A (‵ (flft (α-queued ∷ []) fullShare) ∷ ‵ (MutRef (named 0) (α-queued ∷ []) (Array u32 128) .own (ref-at b (o + 124) δ-queued f-queued) ((vptr b (o + 124)) ∷ [])) ∷ ‵ (flft (α-outstanding ∷ []) fullShare) ∷ ‵ (MutRef (named 0) (α-outstanding ∷ []) (Array u32 32) .own (ref-at b (o + 636) δ-outstanding f-outstanding) ((vptr b (o + 636)) ∷ [])) ∷ ‵ (flft (α-transmissions ∷ []) fullShare) ∷ ‵ (MutRef (named 0) (α-transmissions ∷ []) (Array u8 32) .own (ref-at b (o + 764) δ-transmissions f-transmissions) ((vptr b (o + 764)) ∷ [])) ∷ ‵ (flft (α-ready ∷ []) fullShare) ∷ ‵ (ShrRef (named 0) (α-ready ∷ []) (Array u32 128) .own (ref-at b (o + 796) δ-ready f-ready) ((vptr b (o + 796)) ∷ [])) ∷ ‵ (flft (α-waiting ∷ []) fullShare) ∷ ‵ (ShrRef (named 0) (α-waiting ∷ []) (Array u32 128) .own (ref-at b (o + 1308) δ-waiting f-waiting) ((vptr b (o + 1308)) ∷ [])) ∷ ‵ (flft (α-waiting-numbers ∷ []) fullShare) ∷ ‵ (ShrRef (named 0) (α-waiting-numbers ∷ []) (Array u32 128) .own (ref-at b (o + 1820) δ-waiting-numbers f-waiting-numbers) ((vptr b (o + 1820)) ∷ [])) ∷ ‵ (flft κ₁ q₁) ∷ ‵ Own₁ ∷ ‵ (flft κ₂ q₂) ∷ ‵ Own₂ ∷ ‵ (flft κ₄ q₄) ∷ ‵ Own₄ ∷ ‵ (flft κ₅ q₅) ∷ ‵ Own₆ ∷ ‵ (flft κ₆ q₆) ∷ ‵ Own₇ ∷ [])) (tripleOf 𝓤 H A core.signature (core.spec 𝓤 H A at-mem run) .pre (to-core α-queued δ-queued f-queued α-outstanding δ-outstanding f-outstanding α-transmissions δ-transmissions f-transmissions α-ready δ-ready f-ready α-waiting δ-waiting f-waiting α-waiting-numbers δ-waiting-numbers f-waiting-numbers y₀ u₀ y₁ u₁ y₂ u₂ y₃ u₃ y₄ u₄ y₅ u₅ y₆ u₆))
-    asks-core α-queued δ-queued f-queued α-outstanding δ-outstanding f-outstanding α-transmissions δ-transmissions f-transmissions α-ready δ-ready f-ready α-waiting δ-waiting f-waiting α-waiting-numbers δ-waiting-numbers f-waiting-numbers y₀ u₀ is₀ y₁ u₁ is₁ y₂ u₂ is₂ y₃ u₃ is₃ y₄ u₄ is₄ y₅ u₅ is₅ y₆ u₆ is₆ req =
-        qed W (‵ (flft (α-queued ∷ []) fullShare) ∷ ‵ (MutRef (named 0) (α-queued ∷ []) (Array u32 128) .own (ref-at b (o + 124) δ-queued f-queued) ((vptr b (o + 124)) ∷ [])) ∷ ‵ (flft (α-outstanding ∷ []) fullShare) ∷ ‵ (MutRef (named 0) (α-outstanding ∷ []) (Array u32 32) .own (ref-at b (o + 636) δ-outstanding f-outstanding) ((vptr b (o + 636)) ∷ [])) ∷ ‵ (flft (α-transmissions ∷ []) fullShare) ∷ ‵ (MutRef (named 0) (α-transmissions ∷ []) (Array u8 32) .own (ref-at b (o + 764) δ-transmissions f-transmissions) ((vptr b (o + 764)) ∷ [])) ∷ ‵ (flft (α-ready ∷ []) fullShare) ∷ ‵ (ShrRef (named 0) (α-ready ∷ []) (Array u32 128) .own (ref-at b (o + 796) δ-ready f-ready) ((vptr b (o + 796)) ∷ [])) ∷ ‵ (flft (α-waiting ∷ []) fullShare) ∷ ‵ (ShrRef (named 0) (α-waiting ∷ []) (Array u32 128) .own (ref-at b (o + 1308) δ-waiting f-waiting) ((vptr b (o + 1308)) ∷ [])) ∷ ‵ (flft (α-waiting-numbers ∷ []) fullShare) ∷ ‵ (ShrRef (named 0) (α-waiting-numbers ∷ []) (Array u32 128) .own (ref-at b (o + 1820) δ-waiting-numbers f-waiting-numbers) ((vptr b (o + 1820)) ∷ [])) ∷ ‵ (flft κ₁ q₁) ∷ ‵ Own₁ ∷ ‵ (flft κ₂ q₂) ∷ ‵ Own₂ ∷ ‵ (flft κ₄ q₄) ∷ ‵ Own₄ ∷ ‵ (flft κ₅ q₅) ∷ ‵ Own₆ ∷ ‵ (flft κ₆ q₆) ∷ ‵ Own₇ ∷ []) ∵ says ! req $ nothing ! $ move ! (21 ∷ 0 ∷ []) $ join ! $ move ! (19 ∷ 0 ∷ []) $ join ! $ move ! (17 ∷ 0 ∷ []) $ join ! $ move ! (15 ∷ 0 ∷ []) $ join ! $ move ! (13 ∷ 0 ∷ []) $ join ! $ move ! (11 ∷ 0 ∷ []) $ join ! $ move ! (9 ∷ 0 ∷ []) $ join ! $ move ! (7 ∷ 0 ∷ []) $ join ! $ move ! (5 ∷ 0 ∷ []) $ join ! $ move ! (3 ∷ 0 ∷ []) $ join ! $ move ! (1 ∷ 0 ∷ []) $ join ! $ nothing ! $ move ! (12 ∷ 0 ∷ []) $ fjoin ! $ move ! (11 ∷ 0 ∷ []) $ fjoin ! $ owned ! u32 (Is u32) (uint-makes 𝓤 H A W w32) y₆ _ is₆ $ fjoin ! $ move ! (10 ∷ 0 ∷ []) $ fjoin ! $ move ! (9 ∷ 0 ∷ []) $ fjoin ! $ move ! (8 ∷ 0 ∷ []) $ fjoin ! $ move ! (7 ∷ 0 ∷ []) $ fjoin ! $ move ! (6 ∷ 0 ∷ []) $ fjoin ! $ move ! (5 ∷ 0 ∷ []) $ fjoin ! $ move ! (4 ∷ 0 ∷ []) $ fjoin ! $ move ! (3 ∷ 0 ∷ []) $ fjoin ! $ move ! (2 ∷ 0 ∷ []) $ fjoin ! $ owned ! usize (Is usize) (uint-makes 𝓤 H A W w64) y₅ _ is₅ $ fjoin ! $ owned ! Rs (Is Rs) (rs-makes 𝓤 H A W) y₄ _ is₄ $ fjoin ! $ owned ! clock-row.the-row (Is clock-row.the-row) (LL.makes clock-row.the-type clock-laws.the-plain 𝓤 H A) y₃ _ is₃ $ fjoin ! $ owned ! arrival-row.the-row (Is arrival-row.the-row) (LL.makes arrival-row.the-type arrival-laws.the-plain 𝓤 H A) y₂ _ is₂ $ fjoin ! $ owned ! flight-row.the-row (Is flight-row.the-row) (LL.makes flight-row.the-type flight-laws.the-plain 𝓤 H A) y₁ _ is₁ $ fjoin ! $ owned ! settings-row.the-row (Is settings-row.the-row) (LL.makes settings-row.the-type settings-laws.the-plain 𝓤 H A) y₀ _ is₀ $ fjoin ! $ move ! (1 ∷ 0 ∷ []) $ done !
+    asks-core : (α-queued : ℕ) (δ-queued : GName) (f-queued : (List ℕ)) (α-outstanding : ℕ) (δ-outstanding : GName)
+        (f-outstanding : (List ℕ)) (α-transmissions : ℕ) (δ-transmissions : GName) (f-transmissions : (List ℕ)) (α-ready : ℕ)
+        (δ-ready : GName) (f-ready : (List ℕ)) (α-waiting : ℕ) (δ-waiting : GName) (f-waiting : (List ℕ)) (α-waiting-numbers : ℕ)
+        (δ-waiting-numbers : GName) (f-waiting-numbers : (List ℕ)) → (y₀ : Settings) (u₀ : Val) → Is settings-row.the-row y₀ (u₀ ∷ [])
+        → (y₁ : Flight) (u₁ : Val) → Is flight-row.the-row y₁ (u₁ ∷ []) → (y₂ : Arrival) (u₂ : Val) → Is arrival-row.the-row y₂ (u₂ ∷ [])
+        → (y₃ : Clock) (u₃ : Val) → Is clock-row.the-row y₃ (u₃ ∷ []) → (y₄ : (List Record)) (u₄ : Val) → Is Rs y₄ (u₄ ∷ [])
+        → (y₅ : ℕ) (u₅ : Val) → Is usize y₅ (u₅ ∷ []) → (y₆ : Bool) (u₆ : Val) → Is Boolean y₆ (u₆ ∷ []) → (y₇ : ℕ) (u₇ : Val)
+        → Is u32 y₇ (u₇ ∷ []) → (Whole (arrays f-queued f-outstanding f-transmissions f-ready f-waiting f-waiting-numbers))
+        → ent 𝓤 (⋆ 𝓤 H A (‵ (flft (α-queued ∷ []) fullShare)
+        ∷ ‵ (MutRef (named 0) (α-queued ∷ []) (Array u32 128) .own (ref-at b (o + 124) δ-queued f-queued) ((vptr b (o + 124)) ∷ []))
+        ∷ ‵ (flft (α-outstanding ∷ []) fullShare)
+        ∷ ‵ (MutRef (named 0) (α-outstanding ∷ []) (Array u32 32) .own (ref-at b (o + 636) δ-outstanding f-outstanding)
+        ((vptr b (o + 636)) ∷ [])) ∷ ‵ (flft (α-transmissions ∷ []) fullShare)
+        ∷ ‵ (MutRef (named 0) (α-transmissions ∷ []) (Array u8 32) .own (ref-at b (o + 764) δ-transmissions f-transmissions)
+        ((vptr b (o + 764)) ∷ [])) ∷ ‵ (flft (α-ready ∷ []) fullShare)
+        ∷ ‵ (ShrRef (named 0) (α-ready ∷ []) (Array u32 128) .own (ref-at b (o + 796) δ-ready f-ready) ((vptr b (o + 796)) ∷ []))
+        ∷ ‵ (flft (α-waiting ∷ []) fullShare)
+        ∷ ‵ (ShrRef (named 0) (α-waiting ∷ []) (Array u32 128) .own (ref-at b (o + 1308) δ-waiting f-waiting) ((vptr b (o + 1308)) ∷ []))
+        ∷ ‵ (flft (α-waiting-numbers ∷ []) fullShare)
+        ∷ ‵ (ShrRef (named 0) (α-waiting-numbers ∷ []) (Array u32 128) .own (ref-at b (o + 1820) δ-waiting-numbers f-waiting-numbers)
+        ((vptr b (o + 1820)) ∷ [])) ∷ ‵ (flft κ₁ q₁) ∷ ‵ Own₁ ∷ ‵ (flft κ₂ q₂) ∷ ‵ Own₂ ∷ ‵ (flft κ₄ q₄) ∷ ‵ Own₄ ∷ ‵ (flft κ₅ q₅) ∷ ‵ Own₇
+        ∷ ‵ (flft κ₆ q₆) ∷ ‵ Own₈ ∷ [])) (tripleOf 𝓤 H A core.signature (core.spec 𝓤 H A at-mem run) .pre
+        (to-core α-queued δ-queued f-queued α-outstanding δ-outstanding f-outstanding α-transmissions δ-transmissions f-transmissions
+        α-ready δ-ready f-ready α-waiting δ-waiting f-waiting α-waiting-numbers δ-waiting-numbers f-waiting-numbers y₀ u₀ y₁ u₁ y₂ u₂ y₃ u₃
+        y₄ u₄ y₅ u₅ y₆ u₆ y₇ u₇))
+    asks-core α-queued δ-queued f-queued α-outstanding δ-outstanding f-outstanding α-transmissions δ-transmissions f-transmissions α-ready
+        δ-ready f-ready α-waiting δ-waiting f-waiting α-waiting-numbers δ-waiting-numbers f-waiting-numbers y₀ u₀ is₀ y₁ u₁ is₁ y₂ u₂ is₂ y₃
+        u₃ is₃ y₄ u₄ is₄ y₅ u₅ is₅ y₆ u₆ is₆ y₇ u₇ is₇ req =
+        qed W (‵ (flft (α-queued ∷ []) fullShare)
+        ∷ ‵ (MutRef (named 0) (α-queued ∷ []) (Array u32 128) .own (ref-at b (o + 124) δ-queued f-queued) ((vptr b (o + 124)) ∷ []))
+        ∷ ‵ (flft (α-outstanding ∷ []) fullShare)
+        ∷ ‵ (MutRef (named 0) (α-outstanding ∷ []) (Array u32 32) .own (ref-at b (o + 636) δ-outstanding f-outstanding)
+        ((vptr b (o + 636)) ∷ [])) ∷ ‵ (flft (α-transmissions ∷ []) fullShare)
+        ∷ ‵ (MutRef (named 0) (α-transmissions ∷ []) (Array u8 32) .own (ref-at b (o + 764) δ-transmissions f-transmissions)
+        ((vptr b (o + 764)) ∷ [])) ∷ ‵ (flft (α-ready ∷ []) fullShare)
+        ∷ ‵ (ShrRef (named 0) (α-ready ∷ []) (Array u32 128) .own (ref-at b (o + 796) δ-ready f-ready) ((vptr b (o + 796)) ∷ []))
+        ∷ ‵ (flft (α-waiting ∷ []) fullShare)
+        ∷ ‵ (ShrRef (named 0) (α-waiting ∷ []) (Array u32 128) .own (ref-at b (o + 1308) δ-waiting f-waiting)
+        ((vptr b (o + 1308)) ∷ [])) ∷ ‵ (flft (α-waiting-numbers ∷ []) fullShare)
+        ∷ ‵ (ShrRef (named 0) (α-waiting-numbers ∷ []) (Array u32 128) .own (ref-at b (o + 1820) δ-waiting-numbers f-waiting-numbers)
+        ((vptr b (o + 1820)) ∷ [])) ∷ ‵ (flft κ₁ q₁) ∷ ‵ Own₁ ∷ ‵ (flft κ₂ q₂) ∷ ‵ Own₂ ∷ ‵ (flft κ₄ q₄) ∷ ‵ Own₄ ∷ ‵ (flft κ₅ q₅)
+        ∷ ‵ Own₇ ∷ ‵ (flft κ₆ q₆) ∷ ‵ Own₈ ∷ []) ∵ says ! req $ nothing ! $ move ! (21 ∷ 0 ∷ []) $ join ! $ move ! (19 ∷ 0 ∷ []) $
+        join ! $ move ! (17 ∷ 0 ∷ []) $ join ! $ move ! (15 ∷ 0 ∷ []) $ join ! $ move ! (13 ∷ 0 ∷ []) $ join ! $ move ! (11 ∷ 0 ∷ []) $
+        join ! $ move ! (9 ∷ 0 ∷ []) $ join ! $ move ! (7 ∷ 0 ∷ []) $ join ! $ move ! (5 ∷ 0 ∷ []) $ join ! $ move ! (3 ∷ 0 ∷ []) $
+        join ! $ move ! (1 ∷ 0 ∷ []) $ join ! $ nothing ! $ move ! (12 ∷ 0 ∷ []) $ fjoin ! $ move ! (11 ∷ 0 ∷ []) $ fjoin ! $
+        owned ! u32 (Is u32) (uint-makes 𝓤 H A W w32) y₇ _ is₇ $ fjoin ! $ move ! (10 ∷ 0 ∷ []) $ fjoin ! $ move ! (9 ∷ 0 ∷ []) $
+        fjoin ! $ move ! (8 ∷ 0 ∷ []) $ fjoin ! $ move ! (7 ∷ 0 ∷ []) $ fjoin ! $ move ! (6 ∷ 0 ∷ []) $ fjoin ! $ move ! (5 ∷ 0 ∷ []) $
+        fjoin ! $ move ! (4 ∷ 0 ∷ []) $ fjoin ! $ move ! (3 ∷ 0 ∷ []) $ fjoin ! $ move ! (2 ∷ 0 ∷ []) $ fjoin ! $
+        owned ! Boolean (Is Boolean) (bool-makes 𝓤 H A W) y₆ _ is₆ $ fjoin ! $
+        owned ! usize (Is usize) (uint-makes 𝓤 H A W w64) y₅ _ is₅ $ fjoin ! $ owned ! Rs (Is Rs) (rs-makes 𝓤 H A W) y₄ _ is₄ $
+        fjoin ! $ owned ! clock-row.the-row (Is clock-row.the-row) (LL.makes clock-row.the-type clock-laws.the-plain 𝓤 H A) y₃ _ is₃ $
+        fjoin ! $ owned ! arrival-row.the-row (Is arrival-row.the-row) (LL.makes arrival-row.the-type arrival-laws.the-plain 𝓤 H A) y₂ _
+        is₂ $ fjoin ! $ owned ! flight-row.the-row (Is flight-row.the-row) (LL.makes flight-row.the-type flight-laws.the-plain 𝓤 H A) y₁
+        _ is₁ $ fjoin ! $ owned ! settings-row.the-row (Is settings-row.the-row)
+        (LL.makes settings-row.the-type settings-laws.the-plain 𝓤 H A) y₀ _ is₀ $ fjoin ! $ move ! (1 ∷ 0 ∷ []) $ done !
 
-    abbrev Had : (k : Link) (z₆ : List ℕ) (z₇ : List ℕ) → List (Item 𝓤)
-    Had k z₆ z₇ = ‵ (link-own κ₀ b o γ k) ∷ ‵ (flft κ₀ q₀) ∷ ‵ (flft κ₁ q₁) ∷ ‵ (flft κ₂ q₂) ∷ ‵ (flft κ₃ q₃) ∷ ‵ (flft κ₄ q₄) ∷ ‵ (finally u8 (x₆ .name) z₆) ∷ ‵ (flft κ₅ q₅) ∷ ‵ (finally u16 (x₇ .name) z₇) ∷ ‵ (flft κ₆ q₆) ∷ []
+    abbrev Had : (k : Link) (z₇ : List ℕ) (z₈ : List ℕ) → List (Item 𝓤)
+    Had k z₇ z₈ = ‵ (link-own κ₀ b o γ k) ∷ ‵ (flft κ₀ q₀) ∷ ‵ (flft κ₁ q₁) ∷ ‵ (flft κ₂ q₂) ∷ ‵ (flft κ₃ q₃) ∷ ‵ (flft κ₄ q₄)
+        ∷ ‵ (finally u8 (x₇ .name) z₇) ∷ ‵ (flft κ₅ q₅) ∷ ‵ (finally u16 (x₈ .name) z₈) ∷ ‵ (flft κ₆ q₆) ∷ []
 
     -- what the contract says
-    abbrev Said : (r : Flushed) (k : Link) (z₆ : List ℕ) (z₇ : List ℕ) → Type 0
-    Said r k z₆ z₇ = FlushLeft x₅ h (partsOf (x₁ .now) (x₂ .now) (x₃ .now) (x₄ .now)) (x₆ .now) (x₇ .now) (r .answer) (putBack r) k z₆ z₇
+    abbrev Said : (r : Flushed) (k : Link) (z₇ : List ℕ) (z₈ : List ℕ) → Type 0
+    Said r k z₇ z₈ = Left x₅ x₆ h (partsOf (x₁ .now) (x₂ .now) (x₃ .now) (x₄ .now)) (flushPartsOf (x₇ .now) (x₈ .now)) (r .answer)
+        (putBack r) k (flushPartsOf z₇ z₈)
 
-    exits : (r : Flushed) (w : Val) (k : Link) (z₆ : List ℕ) (z₇ : List ℕ) → Said r k z₆ z₇ → length z₆ ≡ length (x₆ .now) → length z₇ ≡ length (x₇ .now) → Is flushed-row.the-row r (w ∷ []) → ent 𝓤 (⋆ 𝓤 H A (Had k z₆ z₇)) (Post w)
+    exits : (r : Flushed) (w : Val) (k : Link) (z₇ : List ℕ) (z₈ : List ℕ) → Said r k z₇ z₈ → length z₇ ≡ length (x₇ .now)
+        → length z₈ ≡ length (x₈ .now) → Is flushed-row.the-row r (w ∷ []) → ent 𝓤 (⋆ 𝓤 H A (Had k z₇ z₈)) (Post w)
     unfolding Post
-    exits r w k z₆ z₇ e len₆ len₇ g =
-        qed W (Had k z₆ z₇) ∵ suffices ! _ (ends-at 𝓤 H A f.ended stayed (f.clauses 𝓤 H A at-mem run) W (((κ₀, (κ₁, (κ₂, (κ₃, (κ₄, (κ₅, (κ₆, tt))))))), (q₀, (q₁, (q₂, (q₃, (q₄, (q₅, (q₆, tt))))))), tt, x, at), tt) w r (k, (tt, (tt, (tt, (tt, (tt, (z₆, (z₇, tt)))))))) (tt, (tt, (tt, (tt, (tt, (tt, (len₆, (len₇, tt))))))))) $ says ! e $
-        nothing ! $ move ! (10 ∷ 0 ∷ []) $ join ! $ move ! (8 ∷ 0 ∷ []) $ join ! $ move ! (6 ∷ 0 ∷ []) $ join ! $ move ! (5 ∷ 0 ∷ []) $ join ! $ move ! (4 ∷ 0 ∷ []) $ join ! $ move ! (3 ∷ 0 ∷ []) $ join ! $ move ! (2 ∷ 0 ∷ []) $ join ! $ frame ! $ nothing ! $ move ! (3 ∷ 0 ∷ []) $ fjoin ! $ move ! (2 ∷ 0 ∷ []) $ fjoin ! $ nothing ! $ fjoin ! $ nothing ! $ fjoin ! $ nothing ! $ fjoin ! $ nothing ! $ fjoin ! $ nothing ! $ fjoin ! $ move ! (1 ∷ 0 ∷ []) $ fjoin ! $ frame ! $ owned ! flushed-row.the-row (Is flushed-row.the-row) (LL.makes flushed-row.the-type flushed-laws.the-plain 𝓤 H A) r _ g $ done !
+    exits r w k z₇ z₈ e len₇ len₈ g =
+        qed W (Had k z₇ z₈) ∵ suffices ! _ (ends-at 𝓤 H A f.ended stayed (f.clauses 𝓤 H A at-mem run) W
+        (((κ₀, (κ₁, (κ₂, (κ₃, (κ₄, (κ₅, (κ₆, tt))))))), (q₀, (q₁, (q₂, (q₃, (q₄, (q₅, (q₆, tt))))))), tt, x, at), tt) w r
+        (k, (tt, (tt, (tt, (tt, (tt, (tt, (z₇, (z₈, tt))))))))) (tt, (tt, (tt, (tt, (tt, (tt, (tt, (len₇, (len₈, tt)))))))))) $
+        says ! e $
+        nothing ! $ move ! (10 ∷ 0 ∷ []) $ join ! $ move ! (8 ∷ 0 ∷ []) $ join ! $ move ! (6 ∷ 0 ∷ []) $ join ! $ move ! (5 ∷ 0 ∷ []) $
+        join ! $ move ! (4 ∷ 0 ∷ []) $ join ! $ move ! (3 ∷ 0 ∷ []) $ join ! $ move ! (2 ∷ 0 ∷ []) $ join ! $ frame ! $ nothing ! $
+        move ! (3 ∷ 0 ∷ []) $ fjoin ! $ move ! (2 ∷ 0 ∷ []) $ fjoin ! $ nothing ! $ fjoin ! $ nothing ! $ fjoin ! $ nothing ! $
+        fjoin ! $ nothing ! $ fjoin ! $ nothing ! $ fjoin ! $ nothing ! $ fjoin ! $ move ! (1 ∷ 0 ∷ []) $ fjoin ! $ frame ! $
+        owned ! flushed-row.the-row (Is flushed-row.the-row) (LL.makes flushed-row.the-type flushed-laws.the-plain 𝓤 H A) r _ g $ done !
 
     module _ (C : Calls 𝓤 H) (Λ : Loops 𝓤 H) (fm : FmC 𝓤 H (W .laws) C) (known : Known C) where
       -- where the locals lie
-      abbrev En : (l₀ l₁ l₂ l₃ l₄ l₅ l₆ l₇ l₈ l₉ l₁₀ l₁₁ l₁₂ l₁₃ l₁₄ l₁₅ l₁₆ l₁₇ l₁₈ l₁₉ l₂₀ l₂₁ l₂₂ l₂₃ l₂₄ l₂₅ l₂₆ l₂₇ l₂₈ l₂₉ l₃₀ : ℕ) → Env 𝓤 H
-      En l₀ l₁ l₂ l₃ l₄ l₅ l₆ l₇ l₈ l₉ l₁₀ l₁₁ l₁₂ l₁₃ l₁₄ l₁₅ l₁₆ l₁₇ l₁₈ l₁₉ l₂₀ l₂₁ l₂₂ l₂₃ l₂₄ l₂₅ l₂₆ l₂₇ l₂₈ l₂₉ l₃₀ = envOf (code.function .locals) (l₀ ∷ l₁ ∷ l₂ ∷ l₃ ∷ l₄ ∷ l₅ ∷ l₆ ∷ l₇ ∷ l₈ ∷ l₉ ∷ l₁₀ ∷ l₁₁ ∷ l₁₂ ∷ l₁₃ ∷ l₁₄ ∷ l₁₅ ∷ l₁₆ ∷ l₁₇ ∷ l₁₈ ∷ l₁₉ ∷ l₂₀ ∷ l₂₁ ∷ l₂₂ ∷ l₂₃ ∷ l₂₄ ∷ l₂₅ ∷ l₂₆ ∷ l₂₇ ∷ l₂₈ ∷ l₂₉ ∷ l₃₀ ∷ [])
+      abbrev En : (l₀ l₁ l₂ l₃ l₄ l₅ l₆ l₇ l₈ l₉ l₁₀ l₁₁ l₁₂ l₁₃ l₁₄ l₁₅ l₁₆ l₁₇ l₁₈ l₁₉ l₂₀ l₂₁ l₂₂ l₂₃ l₂₄ l₂₅ l₂₆ l₂₇ l₂₈ l₂₉ l₃₀
+          l₃₁ : ℕ) → Env 𝓤 H
+      En l₀ l₁ l₂ l₃ l₄ l₅ l₆ l₇ l₈ l₉ l₁₀ l₁₁ l₁₂ l₁₃ l₁₄ l₁₅ l₁₆ l₁₇ l₁₈ l₁₉ l₂₀ l₂₁ l₂₂ l₂₃ l₂₄ l₂₅ l₂₆ l₂₇ l₂₈ l₂₉ l₃₀ l₃₁ =
+          envOf (code.function .locals) (l₀ ∷ l₁ ∷ l₂ ∷ l₃ ∷ l₄ ∷ l₅ ∷ l₆ ∷ l₇ ∷ l₈ ∷ l₉ ∷ l₁₀ ∷ l₁₁ ∷ l₁₂ ∷ l₁₃ ∷ l₁₄ ∷ l₁₅ ∷ l₁₆ ∷ l₁₇
+          ∷ l₁₈ ∷ l₁₉ ∷ l₂₀ ∷ l₂₁ ∷ l₂₂ ∷ l₂₃ ∷ l₂₄ ∷ l₂₅ ∷ l₂₆ ∷ l₂₇ ∷ l₂₈ ∷ l₂₉ ∷ l₃₀ ∷ l₃₁ ∷ [])
 
       -- what part 2 knows
       abbrev Known₂ : Type 0
-      Known₂ = (z₇ : List ℕ) × (z₆ : List ℕ) × (z-transmissions : List ℕ) × (z-outstanding : List ℕ) × (z-queued : List ℕ) × (l₀ : ℕ) × (l₁ : ℕ) × (l₂ : ℕ) × (l₃ : ℕ) × (l₄ : ℕ) × (l₅ : ℕ) × (l₆ : ℕ) × (l₇ : ℕ) × (l₈ : ℕ) × (l₉ : ℕ) × (l₁₀ : ℕ) × (l₁₁ : ℕ) × (l₁₂ : ℕ) × (l₁₃ : ℕ) × (l₁₄ : ℕ) × (l₁₅ : ℕ) × (l₁₆ : ℕ) × (l₁₇ : ℕ) × (l₁₈ : ℕ) × (l₁₉ : ℕ) × (l₂₀ : ℕ) × (l₂₁ : ℕ) × (l₂₂ : ℕ) × (l₂₃ : ℕ) × (l₂₄ : ℕ) × (l₂₅ : ℕ) × (l₂₆ : ℕ) × (l₂₇ : ℕ) × (l₂₈ : ℕ) × (l₂₉ : ℕ) × (l₃₀ : ℕ) × (n : ℕ) × (w-n : Val) × (e-n : n ≡ h .flight .outstanding) × (recs : (List Record)) × (w-recs : Val) × (e-recs : recs ≡ padded (gathered (take sendSlots (x₃ .now)) (slotsIn (h .outstanding) n))) × (m : ℕ) × (w-m : Val) × (e-m : m ≡ length (x₃ .now)) × (a : Flushed) × (w-a : Val) × (e-a : Core h recs m (x₁ .now) (x₂ .now) (x₄ .now) x₅ (x₆ .now) (x₇ .now) a (linkOf (h .settings) (a .flight) (a .arrival) (a .clock) (arrays z-queued z-outstanding z-transmissions (h .ready) (h .waiting) (h .«waiting_numbers»))) z₆ z₇) × (is-a : Is flushed-row.the-row a (w-a ∷ [])) × (len₆ : length z₆ ≡ length (x₆ .now)) × (length z₇ ≡ length (x₇ .now))
+      Known₂ = (z₈ : List ℕ) × (z₇ : List ℕ) × (z-transmissions : List ℕ) × (z-outstanding : List ℕ) × (z-queued : List ℕ) × (l₀ : ℕ) ×
+          (l₁ : ℕ) × (l₂ : ℕ) × (l₃ : ℕ) × (l₄ : ℕ) × (l₅ : ℕ) × (l₆ : ℕ) × (l₇ : ℕ) × (l₈ : ℕ) × (l₉ : ℕ) × (l₁₀ : ℕ) × (l₁₁ : ℕ) ×
+          (l₁₂ : ℕ) × (l₁₃ : ℕ) × (l₁₄ : ℕ) × (l₁₅ : ℕ) × (l₁₆ : ℕ) × (l₁₇ : ℕ) × (l₁₈ : ℕ) × (l₁₉ : ℕ) × (l₂₀ : ℕ) × (l₂₁ : ℕ) ×
+          (l₂₂ : ℕ) × (l₂₃ : ℕ) × (l₂₄ : ℕ) × (l₂₅ : ℕ) × (l₂₆ : ℕ) × (l₂₇ : ℕ) × (l₂₈ : ℕ) × (l₂₉ : ℕ) × (l₃₀ : ℕ) × (l₃₁ : ℕ) × (n : ℕ) ×
+          (w-n : Val) × (e-n : n ≡ h .flight .outstanding) × (recs : (List Record)) × (w-recs : Val) ×
+          (e-recs : recs ≡ padded (gathered (take sendSlots (x₃ .now)) (slotsIn (h .outstanding) n))) × (m : ℕ) × (w-m : Val) ×
+          (e-m : m ≡ length (x₃ .now)) × (a : Flushed) × (w-a : Val) ×
+          (e-a : Core x₅ h recs m (x₁ .now) (x₂ .now) (x₄ .now) x₆ (x₇ .now) (x₈ .now) a
+          (linkOf (h .settings) (a .flight) (a .arrival) (a .clock)
+          (arrays z-queued z-outstanding z-transmissions (h .ready) (h .waiting) (h .«waiting_numbers»))) z₇ z₈) ×
+          (is-a : Is flushed-row.the-row a (w-a ∷ [])) × (len₇ : length z₇ ≡ length (x₇ .now)) × (length z₈ ≡ length (x₈ .now))
 
-      part₂ : (past : Known₂) → ent 𝓤 (⋆ 𝓤 H A (‵ (partAt (Array u32 128) fullShare (h .«waiting_numbers») b (o + 1820)) ∷ ‵ (partAt (Array u32 128) fullShare (h .waiting) b (o + 1308)) ∷ ‵ (partAt (Array u32 128) fullShare (h .ready) b (o + 796)) ∷ ‵ (partAt (Array u8 32) fullShare (past .2) b (o + 764)) ∷ ‵ (partAt (Array u32 32) fullShare (past .3) b (o + 636)) ∷ ‵ (partAt (Array u32 128) fullShare (past .4) b (o + 124)) ∷ ‵ (finally u16 (x₇ .name) (past .0)) ∷ ‵ (finally u8 (x₆ .name) (past .1)) ∷ ‵ (flft κ₁ q₁) ∷ ‵ (flft κ₂ q₂) ∷ ‵ (flft κ₄ q₄) ∷ ‵ (flft κ₅ q₅) ∷ ‵ (flft κ₆ q₆) ∷ ‵ (flft κ₃ q₃) ∷ ‵ (partAt clock-row.the-row fullShare (h .clock) b (o + 104)) ∷ ‵ (partAt arrival-row.the-row fullShare (h .arrival) b (o + 72)) ∷ ‵ (partAt flight-row.the-row fullShare (h .flight) b (o + 16)) ∷ ‵ (partAt settings-row.the-row fullShare (h .settings) b (o + 0)) ∷ raw (Back 𝓤 H A fullShare b o) ∷ ‵ (Open b o γ κ₀ q₀ h) ∷ (‵ (fdies flushed-laws.mir (past .5)) ⊛ ‵ (fdies (tyRef (named 0) mut (pointee (L .written))) (past .6)) ⊛ ‵ (fdies (sliceTy (tyRef (named 1) imm (tyInt w8))) (past .7)) ⊛ ‵ (fdies (sliceTy (tyRef (named 2) imm (tyInt w8))) (past .8)) ⊛ ‵ (fdies (sliceTy (tyRef (named 3) imm (pointee (R .written)))) (past .9)) ⊛ ‵ (fdies (sliceTy (tyRef (named 4) imm (tyInt w32))) (past .10)) ⊛ ‵ (fdies (tyInt w32) (past .11)) ⊛ ‵ (fdies (sliceTy (tyRef (named 5) mut (tyInt w8))) (past .12)) ⊛ ‵ (fdies (sliceTy (tyRef (named 6) mut (tyInt w16))) (past .13)) ⊛ ‵ (fdies settings-laws.mir (past .14)) ⊛ ‵ (fdies flight-laws.mir (past .15)) ⊛ ‵ (fdies arrival-laws.mir (past .16)) ⊛ ‵ (fdies clock-laws.mir (past .17)) ⊛ ‵ (fdies (tyArray (tyInt w32) 32) (past .18)) ⊛ ‵ (fdies (tyInt w64) (past .19)) ⊛ ‵ (fdies (tyArray record-laws.mir 32) (past .20)) ⊛ ‵ (fdies (tyInt w64) (past .21)) ⊛ ‵ (fdies flushed-laws.mir (past .22)) ⊛ ‵ (fdies flight-laws.mir (past .23)) ⊛ ‵ (fdies arrival-laws.mir (past .24)) ⊛ ‵ (fdies clock-laws.mir (past .25)) ⊛ ‵ (fdies (tyRef erased mut (tyArray (tyInt w32) 128)) (past .26)) ⊛ ‵ (fdies (tyRef erased mut (tyArray (tyInt w32) 32)) (past .27)) ⊛ ‵ (fdies (tyRef erased mut (tyArray (tyInt w8) 32)) (past .28)) ⊛ ‵ (fdies (tyRef erased imm (tyArray (tyInt w32) 128)) (past .29)) ⊛ ‵ (fdies (tyRef erased imm (tyArray (tyInt w32) 128)) (past .30)) ⊛ ‵ (fdies (tyRef erased imm (tyArray (tyInt w32) 128)) (past .31)) ⊛ ‵ (fdies (tyRef erased mut (tyInt w8)) (past .32)) ⊛ ‵ (fdies (sliceTy (tyRef erased mut (tyInt w8))) (past .33)) ⊛ ‵ (fdies (tyRef erased mut (tyInt w16)) (past .34)) ⊛ ‵ (fdies (sliceTy (tyRef erased mut (tyInt w16))) (past .35))) ∷ ‵ (fat fullShare (sliceTy (tyRef erased mut (tyInt w16))) (past .35) 0 (s₇)) ∷ ‵ (fat fullShare (tyRef erased mut (tyInt w16)) (past .34) 0 ((vptr (x₇ .ptr .0) (x₇ .ptr .1)))) ∷ ‵ (fat fullShare (sliceTy (tyRef erased mut (tyInt w8))) (past .33) 0 (s₆)) ∷ ‵ (fat fullShare (tyRef erased mut (tyInt w8)) (past .32) 0 ((vptr (x₆ .ptr .0) (x₆ .ptr .1)))) ∷ ‵ (fat fullShare (tyRef erased imm (tyArray (tyInt w32) 128)) (past .31) 0 ((vptr b (o + 1820)))) ∷ ‵ (fat fullShare (tyRef erased imm (tyArray (tyInt w32) 128)) (past .30) 0 ((vptr b (o + 1308)))) ∷ ‵ (fat fullShare (tyRef erased imm (tyArray (tyInt w32) 128)) (past .29) 0 ((vptr b (o + 796)))) ∷ ‵ (fat fullShare (tyRef erased mut (tyArray (tyInt w8) 32)) (past .28) 0 ((vptr b (o + 764)))) ∷ ‵ (fat fullShare (tyRef erased mut (tyArray (tyInt w32) 32)) (past .27) 0 ((vptr b (o + 636)))) ∷ ‵ (fat fullShare (tyRef erased mut (tyArray (tyInt w32) 128)) (past .26) 0 ((vptr b (o + 124)))) ∷ ‵ (froom clock-laws.mir (past .25) 0) ∷ ‵ (froom arrival-laws.mir (past .24) 0) ∷ ‵ (froom flight-laws.mir (past .23) 0) ∷ ‵ (fat fullShare flushed-laws.mir (past .22) 0 ((past .46))) ∷ ‵ (fat fullShare (tyInt w64) (past .21) 0 ((past .43))) ∷ ‵ (fat fullShare (tyArray record-laws.mir 32) (past .20) 0 ((past .40))) ∷ ‵ (fat fullShare (tyInt w64) (past .19) 0 ((past .37))) ∷ ‵ (fat fullShare (tyArray (tyInt w32) 32) (past .18) 0 ((only ((array-vals (uint-vals w32)) (h .outstanding))))) ∷ ‵ (fat fullShare clock-laws.mir (past .17) 0 ((only ((LL.vals clock-row.the-type clock-laws.the-laws) (h .clock))))) ∷ ‵ (fat fullShare arrival-laws.mir (past .16) 0 ((only ((LL.vals arrival-row.the-type arrival-laws.the-laws) (h .arrival))))) ∷ ‵ (fat fullShare flight-laws.mir (past .15) 0 ((only ((LL.vals flight-row.the-type flight-laws.the-laws) (h .flight))))) ∷ ‵ (fat fullShare settings-laws.mir (past .14) 0 ((only ((LL.vals settings-row.the-type settings-laws.the-laws) (h .settings))))) ∷ ‵ (fat fullShare (sliceTy (tyRef (named 6) mut (tyInt w16))) (past .13) 0 (s₇)) ∷ ‵ (fat fullShare (sliceTy (tyRef (named 5) mut (tyInt w8))) (past .12) 0 (s₆)) ∷ ‵ (fat fullShare (tyInt w32) (past .11) 0 (v₅)) ∷ ‵ (fat fullShare (sliceTy (tyRef (named 4) imm (tyInt w32))) (past .10) 0 (s₄)) ∷ ‵ (fat fullShare (sliceTy (tyRef (named 3) imm (pointee (R .written)))) (past .9) 0 (s₃)) ∷ ‵ (fat fullShare (sliceTy (tyRef (named 2) imm (tyInt w8))) (past .8) 0 (s₂)) ∷ ‵ (fat fullShare (sliceTy (tyRef (named 1) imm (tyInt w8))) (past .7) 0 (s₁)) ∷ ‵ (fat fullShare (tyRef (named 0) mut (pointee (L .written))) (past .6) 0 (vptr b o)) ∷ ‵ (froom flushed-laws.mir (past .5) 0) ∷ [])) (Wp 𝓤 H C Λ (En (past .5) (past .6) (past .7) (past .8) (past .9) (past .10) (past .11) (past .12) (past .13) (past .14) (past .15) (past .16) (past .17) (past .18) (past .19) (past .20) (past .21) (past .22) (past .23) (past .24) (past .25) (past .26) (past .27) (past .28) (past .29) (past .30) (past .31) (past .32) (past .33) (past .34) (past .35)) (behind 19 (code.function .body)) (atReturn 𝓤 H (En (past .5) (past .6) (past .7) (past .8) (past .9) (past .10) (past .11) (past .12) (past .13) (past .14) (past .15) (past .16) (past .17) (past .18) (past .19) (past .20) (past .21) (past .22) (past .23) (past .24) (past .25) (past .26) (past .27) (past .28) (past .29) (past .30) (past .31) (past .32) (past .33) (past .34) (past .35)) Post))
+      part₂ : (past : Known₂) → ent 𝓤 (⋆ 𝓤 H A (‵ (partAt (Array u32 128) fullShare (h .«waiting_numbers») b (o + 1820))
+          ∷ ‵ (partAt (Array u32 128) fullShare (h .waiting) b (o + 1308)) ∷ ‵ (partAt (Array u32 128) fullShare (h .ready) b (o + 796))
+          ∷ ‵ (partAt (Array u8 32) fullShare (past .2) b (o + 764)) ∷ ‵ (partAt (Array u32 32) fullShare (past .3) b (o + 636))
+          ∷ ‵ (partAt (Array u32 128) fullShare (past .4) b (o + 124)) ∷ ‵ (finally u16 (x₈ .name) (past .0))
+          ∷ ‵ (finally u8 (x₇ .name) (past .1)) ∷ ‵ (flft κ₁ q₁) ∷ ‵ (flft κ₂ q₂) ∷ ‵ (flft κ₄ q₄) ∷ ‵ (flft κ₅ q₅) ∷ ‵ (flft κ₆ q₆)
+          ∷ ‵ (flft κ₃ q₃) ∷ ‵ (partAt clock-row.the-row fullShare (h .clock) b (o + 104))
+          ∷ ‵ (partAt arrival-row.the-row fullShare (h .arrival) b (o + 72))
+          ∷ ‵ (partAt flight-row.the-row fullShare (h .flight) b (o + 16))
+          ∷ ‵ (partAt settings-row.the-row fullShare (h .settings) b (o + 0)) ∷ raw (Back 𝓤 H A fullShare b o) ∷ ‵ (Open b o γ κ₀ q₀ h)
+          ∷ (‵ (fdies flushed-laws.mir (past .5)) ⊛ ‵ (fdies (tyRef (named 0) mut (pointee (L .written))) (past .6)) ⊛ ‵
+          (fdies (sliceTy (tyRef (named 1) imm (tyInt w8))) (past .7)) ⊛ ‵ (fdies (sliceTy (tyRef (named 2) imm (tyInt w8))) (past .8)) ⊛ ‵
+          (fdies (sliceTy (tyRef (named 3) imm (pointee (R .written)))) (past .9)) ⊛ ‵
+          (fdies (sliceTy (tyRef (named 4) imm (tyInt w32))) (past .10)) ⊛ ‵ (fdies tyBool (past .11)) ⊛ ‵ (fdies (tyInt w32) (past .12)) ⊛
+          ‵ (fdies (sliceTy (tyRef (named 5) mut (tyInt w8))) (past .13)) ⊛ ‵ (fdies (sliceTy (tyRef (named 6) mut (tyInt w16))) (past .14))
+          ⊛ ‵ (fdies settings-laws.mir (past .15)) ⊛ ‵ (fdies flight-laws.mir (past .16)) ⊛ ‵ (fdies arrival-laws.mir (past .17)) ⊛ ‵
+          (fdies clock-laws.mir (past .18)) ⊛ ‵ (fdies (tyArray (tyInt w32) 32) (past .19)) ⊛ ‵ (fdies (tyInt w64) (past .20)) ⊛ ‵
+          (fdies (tyArray record-laws.mir 32) (past .21)) ⊛ ‵ (fdies (tyInt w64) (past .22)) ⊛ ‵ (fdies flushed-laws.mir (past .23)) ⊛ ‵
+          (fdies flight-laws.mir (past .24)) ⊛ ‵ (fdies arrival-laws.mir (past .25)) ⊛ ‵ (fdies clock-laws.mir (past .26)) ⊛ ‵
+          (fdies (tyRef erased mut (tyArray (tyInt w32) 128)) (past .27)) ⊛ ‵ (fdies (tyRef erased mut (tyArray (tyInt w32) 32)) (past .28))
+          ⊛ ‵ (fdies (tyRef erased mut (tyArray (tyInt w8) 32)) (past .29)) ⊛ ‵
+          (fdies (tyRef erased imm (tyArray (tyInt w32) 128)) (past .30)) ⊛ ‵
+          (fdies (tyRef erased imm (tyArray (tyInt w32) 128)) (past .31)) ⊛ ‵
+          (fdies (tyRef erased imm (tyArray (tyInt w32) 128)) (past .32)) ⊛ ‵ (fdies (tyRef erased mut (tyInt w8)) (past .33)) ⊛ ‵
+          (fdies (sliceTy (tyRef erased mut (tyInt w8))) (past .34)) ⊛ ‵ (fdies (tyRef erased mut (tyInt w16)) (past .35)) ⊛ ‵
+          (fdies (sliceTy (tyRef erased mut (tyInt w16))) (past .36)))
+          ∷ ‵ (fat fullShare (sliceTy (tyRef erased mut (tyInt w16))) (past .36) 0 (s₈))
+          ∷ ‵ (fat fullShare (tyRef erased mut (tyInt w16)) (past .35) 0 ((vptr (x₈ .ptr .0) (x₈ .ptr .1))))
+          ∷ ‵ (fat fullShare (sliceTy (tyRef erased mut (tyInt w8))) (past .34) 0 (s₇))
+          ∷ ‵ (fat fullShare (tyRef erased mut (tyInt w8)) (past .33) 0 ((vptr (x₇ .ptr .0) (x₇ .ptr .1))))
+          ∷ ‵ (fat fullShare (tyRef erased imm (tyArray (tyInt w32) 128)) (past .32) 0 ((vptr b (o + 1820))))
+          ∷ ‵ (fat fullShare (tyRef erased imm (tyArray (tyInt w32) 128)) (past .31) 0 ((vptr b (o + 1308))))
+          ∷ ‵ (fat fullShare (tyRef erased imm (tyArray (tyInt w32) 128)) (past .30) 0 ((vptr b (o + 796))))
+          ∷ ‵ (fat fullShare (tyRef erased mut (tyArray (tyInt w8) 32)) (past .29) 0 ((vptr b (o + 764))))
+          ∷ ‵ (fat fullShare (tyRef erased mut (tyArray (tyInt w32) 32)) (past .28) 0 ((vptr b (o + 636))))
+          ∷ ‵ (fat fullShare (tyRef erased mut (tyArray (tyInt w32) 128)) (past .27) 0 ((vptr b (o + 124))))
+          ∷ ‵ (froom clock-laws.mir (past .26) 0) ∷ ‵ (froom arrival-laws.mir (past .25) 0) ∷ ‵ (froom flight-laws.mir (past .24) 0)
+          ∷ ‵ (fat fullShare flushed-laws.mir (past .23) 0 ((past .47))) ∷ ‵ (fat fullShare (tyInt w64) (past .22) 0 ((past .44)))
+          ∷ ‵ (fat fullShare (tyArray record-laws.mir 32) (past .21) 0 ((past .41)))
+          ∷ ‵ (fat fullShare (tyInt w64) (past .20) 0 ((past .38)))
+          ∷ ‵ (fat fullShare (tyArray (tyInt w32) 32) (past .19) 0 ((only ((array-vals (uint-vals w32)) (h .outstanding)))))
+          ∷ ‵ (fat fullShare clock-laws.mir (past .18) 0 ((only ((LL.vals clock-row.the-type clock-laws.the-laws) (h .clock)))))
+          ∷ ‵ (fat fullShare arrival-laws.mir (past .17) 0 ((only ((LL.vals arrival-row.the-type arrival-laws.the-laws) (h .arrival)))))
+          ∷ ‵ (fat fullShare flight-laws.mir (past .16) 0 ((only ((LL.vals flight-row.the-type flight-laws.the-laws) (h .flight)))))
+          ∷ ‵ (fat fullShare settings-laws.mir (past .15) 0 ((only ((LL.vals settings-row.the-type settings-laws.the-laws) (h .settings)))))
+          ∷ ‵ (fat fullShare (sliceTy (tyRef (named 6) mut (tyInt w16))) (past .14) 0 (s₈))
+          ∷ ‵ (fat fullShare (sliceTy (tyRef (named 5) mut (tyInt w8))) (past .13) 0 (s₇)) ∷ ‵ (fat fullShare (tyInt w32) (past .12) 0 (v₆))
+          ∷ ‵ (fat fullShare tyBool (past .11) 0 (v₅)) ∷ ‵ (fat fullShare (sliceTy (tyRef (named 4) imm (tyInt w32))) (past .10) 0 (s₄))
+          ∷ ‵ (fat fullShare (sliceTy (tyRef (named 3) imm (pointee (R .written)))) (past .9) 0 (s₃))
+          ∷ ‵ (fat fullShare (sliceTy (tyRef (named 2) imm (tyInt w8))) (past .8) 0 (s₂))
+          ∷ ‵ (fat fullShare (sliceTy (tyRef (named 1) imm (tyInt w8))) (past .7) 0 (s₁))
+          ∷ ‵ (fat fullShare (tyRef (named 0) mut (pointee (L .written))) (past .6) 0 (vptr b o)) ∷ ‵ (froom flushed-laws.mir (past .5) 0)
+          ∷ [])) (Wp 𝓤 H C Λ (En (past .5) (past .6) (past .7) (past .8) (past .9) (past .10) (past .11) (past .12) (past .13) (past .14)
+          (past .15) (past .16) (past .17) (past .18) (past .19) (past .20) (past .21) (past .22) (past .23) (past .24) (past .25)
+          (past .26) (past .27) (past .28) (past .29) (past .30) (past .31) (past .32) (past .33) (past .34) (past .35) (past .36))
+          (behind 19 (code.function .body)) (atReturn 𝓤 H
+          (En (past .5) (past .6) (past .7) (past .8) (past .9) (past .10) (past .11) (past .12) (past .13) (past .14) (past .15) (past .16)
+          (past .17) (past .18) (past .19) (past .20) (past .21) (past .22) (past .23) (past .24) (past .25) (past .26) (past .27)
+          (past .28) (past .29) (past .30) (past .31) (past .32) (past .33) (past .34) (past .35) (past .36)) Post))
       part₂ past =
-          qed W (‵ (partAt (Array u32 128) fullShare (h .«waiting_numbers») b (o + 1820)) ∷ ‵ (partAt (Array u32 128) fullShare (h .waiting) b (o + 1308)) ∷ ‵ (partAt (Array u32 128) fullShare (h .ready) b (o + 796)) ∷ ‵ (partAt (Array u8 32) fullShare (past .2) b (o + 764)) ∷ ‵ (partAt (Array u32 32) fullShare (past .3) b (o + 636)) ∷ ‵ (partAt (Array u32 128) fullShare (past .4) b (o + 124)) ∷ ‵ (finally u16 (x₇ .name) (past .0)) ∷ ‵ (finally u8 (x₆ .name) (past .1)) ∷ ‵ (flft κ₁ q₁) ∷ ‵ (flft κ₂ q₂) ∷ ‵ (flft κ₄ q₄) ∷ ‵ (flft κ₅ q₅) ∷ ‵ (flft κ₆ q₆) ∷ ‵ (flft κ₃ q₃) ∷ ‵ (partAt clock-row.the-row fullShare (h .clock) b (o + 104)) ∷ ‵ (partAt arrival-row.the-row fullShare (h .arrival) b (o + 72)) ∷ ‵ (partAt flight-row.the-row fullShare (h .flight) b (o + 16)) ∷ ‵ (partAt settings-row.the-row fullShare (h .settings) b (o + 0)) ∷ raw (Back 𝓤 H A fullShare b o) ∷ ‵ (Open b o γ κ₀ q₀ h) ∷ (‵ (fdies flushed-laws.mir (past .5)) ⊛ ‵ (fdies (tyRef (named 0) mut (pointee (L .written))) (past .6)) ⊛ ‵ (fdies (sliceTy (tyRef (named 1) imm (tyInt w8))) (past .7)) ⊛ ‵ (fdies (sliceTy (tyRef (named 2) imm (tyInt w8))) (past .8)) ⊛ ‵ (fdies (sliceTy (tyRef (named 3) imm (pointee (R .written)))) (past .9)) ⊛ ‵ (fdies (sliceTy (tyRef (named 4) imm (tyInt w32))) (past .10)) ⊛ ‵ (fdies (tyInt w32) (past .11)) ⊛ ‵ (fdies (sliceTy (tyRef (named 5) mut (tyInt w8))) (past .12)) ⊛ ‵ (fdies (sliceTy (tyRef (named 6) mut (tyInt w16))) (past .13)) ⊛ ‵ (fdies settings-laws.mir (past .14)) ⊛ ‵ (fdies flight-laws.mir (past .15)) ⊛ ‵ (fdies arrival-laws.mir (past .16)) ⊛ ‵ (fdies clock-laws.mir (past .17)) ⊛ ‵ (fdies (tyArray (tyInt w32) 32) (past .18)) ⊛ ‵ (fdies (tyInt w64) (past .19)) ⊛ ‵ (fdies (tyArray record-laws.mir 32) (past .20)) ⊛ ‵ (fdies (tyInt w64) (past .21)) ⊛ ‵ (fdies flushed-laws.mir (past .22)) ⊛ ‵ (fdies flight-laws.mir (past .23)) ⊛ ‵ (fdies arrival-laws.mir (past .24)) ⊛ ‵ (fdies clock-laws.mir (past .25)) ⊛ ‵ (fdies (tyRef erased mut (tyArray (tyInt w32) 128)) (past .26)) ⊛ ‵ (fdies (tyRef erased mut (tyArray (tyInt w32) 32)) (past .27)) ⊛ ‵ (fdies (tyRef erased mut (tyArray (tyInt w8) 32)) (past .28)) ⊛ ‵ (fdies (tyRef erased imm (tyArray (tyInt w32) 128)) (past .29)) ⊛ ‵ (fdies (tyRef erased imm (tyArray (tyInt w32) 128)) (past .30)) ⊛ ‵ (fdies (tyRef erased imm (tyArray (tyInt w32) 128)) (past .31)) ⊛ ‵ (fdies (tyRef erased mut (tyInt w8)) (past .32)) ⊛ ‵ (fdies (sliceTy (tyRef erased mut (tyInt w8))) (past .33)) ⊛ ‵ (fdies (tyRef erased mut (tyInt w16)) (past .34)) ⊛ ‵ (fdies (sliceTy (tyRef erased mut (tyInt w16))) (past .35))) ∷ ‵ (fat fullShare (sliceTy (tyRef erased mut (tyInt w16))) (past .35) 0 (s₇)) ∷ ‵ (fat fullShare (tyRef erased mut (tyInt w16)) (past .34) 0 ((vptr (x₇ .ptr .0) (x₇ .ptr .1)))) ∷ ‵ (fat fullShare (sliceTy (tyRef erased mut (tyInt w8))) (past .33) 0 (s₆)) ∷ ‵ (fat fullShare (tyRef erased mut (tyInt w8)) (past .32) 0 ((vptr (x₆ .ptr .0) (x₆ .ptr .1)))) ∷ ‵ (fat fullShare (tyRef erased imm (tyArray (tyInt w32) 128)) (past .31) 0 ((vptr b (o + 1820)))) ∷ ‵ (fat fullShare (tyRef erased imm (tyArray (tyInt w32) 128)) (past .30) 0 ((vptr b (o + 1308)))) ∷ ‵ (fat fullShare (tyRef erased imm (tyArray (tyInt w32) 128)) (past .29) 0 ((vptr b (o + 796)))) ∷ ‵ (fat fullShare (tyRef erased mut (tyArray (tyInt w8) 32)) (past .28) 0 ((vptr b (o + 764)))) ∷ ‵ (fat fullShare (tyRef erased mut (tyArray (tyInt w32) 32)) (past .27) 0 ((vptr b (o + 636)))) ∷ ‵ (fat fullShare (tyRef erased mut (tyArray (tyInt w32) 128)) (past .26) 0 ((vptr b (o + 124)))) ∷ ‵ (froom clock-laws.mir (past .25) 0) ∷ ‵ (froom arrival-laws.mir (past .24) 0) ∷ ‵ (froom flight-laws.mir (past .23) 0) ∷ ‵ (fat fullShare flushed-laws.mir (past .22) 0 ((past .46))) ∷ ‵ (fat fullShare (tyInt w64) (past .21) 0 ((past .43))) ∷ ‵ (fat fullShare (tyArray record-laws.mir 32) (past .20) 0 ((past .40))) ∷ ‵ (fat fullShare (tyInt w64) (past .19) 0 ((past .37))) ∷ ‵ (fat fullShare (tyArray (tyInt w32) 32) (past .18) 0 ((only ((array-vals (uint-vals w32)) (h .outstanding))))) ∷ ‵ (fat fullShare clock-laws.mir (past .17) 0 ((only ((LL.vals clock-row.the-type clock-laws.the-laws) (h .clock))))) ∷ ‵ (fat fullShare arrival-laws.mir (past .16) 0 ((only ((LL.vals arrival-row.the-type arrival-laws.the-laws) (h .arrival))))) ∷ ‵ (fat fullShare flight-laws.mir (past .15) 0 ((only ((LL.vals flight-row.the-type flight-laws.the-laws) (h .flight))))) ∷ ‵ (fat fullShare settings-laws.mir (past .14) 0 ((only ((LL.vals settings-row.the-type settings-laws.the-laws) (h .settings))))) ∷ ‵ (fat fullShare (sliceTy (tyRef (named 6) mut (tyInt w16))) (past .13) 0 (s₇)) ∷ ‵ (fat fullShare (sliceTy (tyRef (named 5) mut (tyInt w8))) (past .12) 0 (s₆)) ∷ ‵ (fat fullShare (tyInt w32) (past .11) 0 (v₅)) ∷ ‵ (fat fullShare (sliceTy (tyRef (named 4) imm (tyInt w32))) (past .10) 0 (s₄)) ∷ ‵ (fat fullShare (sliceTy (tyRef (named 3) imm (pointee (R .written)))) (past .9) 0 (s₃)) ∷ ‵ (fat fullShare (sliceTy (tyRef (named 2) imm (tyInt w8))) (past .8) 0 (s₂)) ∷ ‵ (fat fullShare (sliceTy (tyRef (named 1) imm (tyInt w8))) (past .7) 0 (s₁)) ∷ ‵ (fat fullShare (tyRef (named 0) mut (pointee (L .written))) (past .6) 0 (vptr b o)) ∷ ‵ (froom flushed-laws.mir (past .5) 0) ∷ []) ∵ exec ! C Λ (En (past .5) (past .6) (past .7) (past .8) (past .9) (past .10) (past .11) (past .12) (past .13) (past .14) (past .15) (past .16) (past .17) (past .18) (past .19) (past .20) (past .21) (past .22) (past .23) (past .24) (past .25) (past .26) (past .27) (past .28) (past .29) (past .30) (past .31) (past .32) (past .33) (past .34) (past .35)) (behind 19 (code.function .body)) (atRet (En (past .5) (past .6) (past .7) (past .8) (past .9) (past .10) (past .11) (past .12) (past .13) (past .14) (past .15) (past .16) (past .17) (past .18) (past .19) (past .20) (past .21) (past .22) (past .23) (past .24) (past .25) (past .26) (past .27) (past .28) (past .29) (past .30) (past .31) (past .32) (past .33) (past .34) (past .35)) Post) $
-          nothing ! $ calls-fn ! fm flight-of.ended (flight-of.clauses 𝓤 H A at-mem run) (known .4) ((tt, tt, tt, ((past .45), tt), ((past .46) ∷ [], tt)), tt) (λ kf _. kf ≡ (past .45) .flight)
-          (‵ ftrue) (plainly 𝓤 H A W (flushed-row.the-row ∷ []) ((LL.makes flushed-row.the-type flushed-laws.the-plain 𝓤 H A), tt) ((past .45), tt) ((past .46) ∷ [], tt) ((past .48), tt)) (λ kf _. id⊢ 𝓤 _)
-          (and-then ! (load ! (from ! (stop !)) (look ! 35 refl)) (no-more !)) (λ kf w-kf _ e-kf is-kf. drop ! $ drop ! $ land ! (from ! (stop !)) (init ! 33 refl (LL.lawful flight-row.the-type flight-laws.the-laws 𝓤 H A W .typed kf (w-kf ∷ []) is-kf .0)) $
-          move ! (16 ∷ []) $ cell-out ! fullShare flight-row.the-row (LL.vals flight-row.the-type flight-laws.the-laws) (LL.tells flight-row.the-type flight-laws.the-laws) (h .flight) b (o + 16) (λ was-flight′. assigns ! (of-opd ! (load ! (from ! (stop !)) (look ! 33 refl))) (from ! (hop ! (look ! 50 refl) (fld ! {d = 16} refl (stop !)))) (store-raw ! 0 refl (LL.lawful flight-row.the-type flight-laws.the-laws 𝓤 H A W .typed kf (w-kf ∷ []) is-kf .0)) $ cell-in ! fullShare flight-row.the-row (LL.makes flight-row.the-type flight-laws.the-plain 𝓤 H A) kf b (o + 16) w-kf is-kf $ nothing ! $ calls-fn ! fm arrival-of.ended (arrival-of.clauses 𝓤 H A at-mem run) (known .5) ((tt, tt, tt, ((past .45), tt), ((past .46) ∷ [], tt)), tt) (λ ka _. ka ≡ (past .45) .arrival)
-          (‵ ftrue) (plainly 𝓤 H A W (flushed-row.the-row ∷ []) ((LL.makes flushed-row.the-type flushed-laws.the-plain 𝓤 H A), tt) ((past .45), tt) ((past .46) ∷ [], tt) ((past .48), tt)) (λ ka _. id⊢ 𝓤 _)
-          (and-then ! (load ! (from ! (stop !)) (look ! 35 refl)) (no-more !)) (λ ka w-ka _ e-ka is-ka. drop ! $ drop ! $ land ! (from ! (stop !)) (init ! 32 refl (LL.lawful arrival-row.the-type arrival-laws.the-laws 𝓤 H A W .typed ka (w-ka ∷ []) is-ka .0)) $
-          move ! (16 ∷ []) $ cell-out ! fullShare arrival-row.the-row (LL.vals arrival-row.the-type arrival-laws.the-laws) (LL.tells arrival-row.the-type arrival-laws.the-laws) (h .arrival) b (o + 72) (λ was-arrival′. assigns ! (of-opd ! (load ! (from ! (stop !)) (look ! 32 refl))) (from ! (hop ! (look ! 50 refl) (fld ! {d = 72} refl (stop !)))) (store-raw ! 0 refl (LL.lawful arrival-row.the-type arrival-laws.the-laws 𝓤 H A W .typed ka (w-ka ∷ []) is-ka .0)) $ cell-in ! fullShare arrival-row.the-row (LL.makes arrival-row.the-type arrival-laws.the-plain 𝓤 H A) ka b (o + 72) w-ka is-ka $ nothing ! $ calls-fn ! fm clock-of.ended (clock-of.clauses 𝓤 H A at-mem run) (known .6) ((tt, tt, tt, ((past .45), tt), ((past .46) ∷ [], tt)), tt) (λ kc _. kc ≡ (past .45) .clock)
-          (‵ ftrue) (plainly 𝓤 H A W (flushed-row.the-row ∷ []) ((LL.makes flushed-row.the-type flushed-laws.the-plain 𝓤 H A), tt) ((past .45), tt) ((past .46) ∷ [], tt) ((past .48), tt)) (λ kc _. id⊢ 𝓤 _)
-          (and-then ! (load ! (from ! (stop !)) (look ! 35 refl)) (no-more !)) (λ kc w-kc _ e-kc is-kc. drop ! $ drop ! $ land ! (from ! (stop !)) (init ! 31 refl (LL.lawful clock-row.the-type clock-laws.the-laws 𝓤 H A W .typed kc (w-kc ∷ []) is-kc .0)) $
-          move ! (16 ∷ []) $ cell-out ! fullShare clock-row.the-row (LL.vals clock-row.the-type clock-laws.the-laws) (LL.tells clock-row.the-type clock-laws.the-laws) (h .clock) b (o + 104) (λ was-clock′. assigns ! (of-opd ! (load ! (from ! (stop !)) (look ! 31 refl))) (from ! (hop ! (look ! 50 refl) (fld ! {d = 104} refl (stop !)))) (store-raw ! 0 refl (LL.lawful clock-row.the-type clock-laws.the-laws 𝓤 H A W .typed kc (w-kc ∷ []) is-kc .0)) $ cell-in ! fullShare clock-row.the-row (LL.makes clock-row.the-type clock-laws.the-plain 𝓤 H A) kc b (o + 104) w-kc is-kc $ move ! (8 ∷ []) $ tells-length ! fullShare u32 128 (past .4) b (o + 124) (λ end-queued. move ! (8 ∷ []) $ tells-length ! fullShare u32 32 (past .3) b (o + 636) (λ end-outstanding. move ! (8 ∷ []) $ tells-length ! fullShare u8 32 (past .2) b (o + 764) (λ end-transmissions. move ! (8 ∷ []) $ tells-length ! fullShare u32 128 (h .ready) b (o + 796) (λ end-ready. move ! (8 ∷ []) $ tells-length ! fullShare u32 128 (h .waiting) b (o + 1308) (λ end-waiting. move ! (8 ∷ []) $ tells-length ! fullShare u32 128 (h .«waiting_numbers») b (o + 1820) (λ end-waiting-numbers. move ! (17 ∷ 8 ∷ 7 ∷ 6 ∷ 5 ∷ 4 ∷ 3 ∷ 2 ∷ 1 ∷ 0 ∷ 18 ∷ 19 ∷ []) $ closes-link b o γ ! tt h (record { settings = (h .settings); flight = kf; arrival = ka; clock = kc; queued = (past .4); outstanding = (past .3); transmissions = (past .2); ready = (h .ready); waiting = (h .waiting); «waiting_numbers» = (h .«waiting_numbers») }) $
-          -- [own0; tok0; fin7; fin6; tok1; tok2; tok4; tok6; tok7; tok3; deaths; the locals]
-          assigns ! {v = (past .46)} (of-opd ! (load ! (from ! (stop !)) (look ! 24 refl))) (from ! (stop !)) (init ! 41 refl (LL.lawful flushed-row.the-type flushed-laws.the-laws 𝓤 H A W .typed (past .45) ((past .46) ∷ []) (past .48) .0)) $
-          returns ! (look ! 41 refl) $
-          move ! (10 ∷ []) $ spread W (‵ (fdies flushed-laws.mir (past .5))) (‵ (fdies (tyRef (named 0) mut (pointee (L .written))) (past .6)) ∷ ‵ (fdies (sliceTy (tyRef (named 1) imm (tyInt w8))) (past .7)) ∷ ‵ (fdies (sliceTy (tyRef (named 2) imm (tyInt w8))) (past .8)) ∷ ‵ (fdies (sliceTy (tyRef (named 3) imm (pointee (R .written)))) (past .9)) ∷ ‵ (fdies (sliceTy (tyRef (named 4) imm (tyInt w32))) (past .10)) ∷ ‵ (fdies (tyInt w32) (past .11)) ∷ ‵ (fdies (sliceTy (tyRef (named 5) mut (tyInt w8))) (past .12)) ∷ ‵ (fdies (sliceTy (tyRef (named 6) mut (tyInt w16))) (past .13)) ∷ ‵ (fdies settings-laws.mir (past .14)) ∷ ‵ (fdies flight-laws.mir (past .15)) ∷ ‵ (fdies arrival-laws.mir (past .16)) ∷ ‵ (fdies clock-laws.mir (past .17)) ∷ ‵ (fdies (tyArray (tyInt w32) 32) (past .18)) ∷ ‵ (fdies (tyInt w64) (past .19)) ∷ ‵ (fdies (tyArray record-laws.mir 32) (past .20)) ∷ ‵ (fdies (tyInt w64) (past .21)) ∷ ‵ (fdies flushed-laws.mir (past .22)) ∷ ‵ (fdies flight-laws.mir (past .23)) ∷ ‵ (fdies arrival-laws.mir (past .24)) ∷ ‵ (fdies clock-laws.mir (past .25)) ∷ ‵ (fdies (tyRef erased mut (tyArray (tyInt w32) 128)) (past .26)) ∷ ‵ (fdies (tyRef erased mut (tyArray (tyInt w32) 32)) (past .27)) ∷ ‵ (fdies (tyRef erased mut (tyArray (tyInt w8) 32)) (past .28)) ∷ ‵ (fdies (tyRef erased imm (tyArray (tyInt w32) 128)) (past .29)) ∷ ‵ (fdies (tyRef erased imm (tyArray (tyInt w32) 128)) (past .30)) ∷ ‵ (fdies (tyRef erased imm (tyArray (tyInt w32) 128)) (past .31)) ∷ ‵ (fdies (tyRef erased mut (tyInt w8)) (past .32)) ∷ ‵ (fdies (sliceTy (tyRef erased mut (tyInt w8))) (past .33)) ∷ ‵ (fdies (tyRef erased mut (tyInt w16)) (past .34)) ∷ ‵ (fdies (sliceTy (tyRef erased mut (tyInt w16))) (past .35)) ∷ []) (id⊢ 𝓤 _) $ move ! (71 ∷ 0 ∷ 70 ∷ 1 ∷ 69 ∷ 2 ∷ 68 ∷ 3 ∷ 67 ∷ 4 ∷ 66 ∷ 5 ∷ 65 ∷ 6 ∷ 64 ∷ 7 ∷ 63 ∷ 8 ∷ 62 ∷ 9 ∷ 61 ∷ 10 ∷ 60 ∷ 11 ∷ 59 ∷ 12 ∷ 58 ∷ 13 ∷ 57 ∷ 14 ∷ 56 ∷ 15 ∷ 55 ∷ 16 ∷ 54 ∷ 17 ∷ 53 ∷ 18 ∷ 52 ∷ 19 ∷ 51 ∷ 20 ∷ 50 ∷ 21 ∷ 49 ∷ 22 ∷ 48 ∷ 23 ∷ 47 ∷ 24 ∷ 46 ∷ 25 ∷ 45 ∷ 26 ∷ 44 ∷ 27 ∷ 43 ∷ 28 ∷ 42 ∷ 29 ∷ 41 ∷ 30 ∷ []) $ forget ! 0 refl $ free1 ! $ forget ! 0 refl $ free1 ! $ forget ! 0 refl $ free1 ! $ forget ! 0 refl $ free1 ! $ forget ! 0 refl $ free1 ! $ forget ! 0 refl $ free1 ! $ forget ! 0 refl $ free1 ! $ forget ! 0 refl $ free1 ! $ forget ! 0 refl $ free1 ! $ forget ! 0 refl $ free1 ! $ forget ! 0 refl $ free1 ! $ forget ! 0 refl $ free1 ! $ forget ! 0 refl $ free1 ! $ forget ! 0 refl $ free1 ! $ forget ! 0 refl $ free1 ! $ forget ! 0 refl $ free1 ! $ forget ! 0 refl $ free1 ! $ forget ! 0 refl $ free1 ! $ forget ! 0 refl $ free1 ! $ forget ! 0 refl $ free1 ! $ forget ! 0 refl $ free1 ! $ forget ! 0 refl $ free1 ! $ forget ! 0 refl $ free1 ! $ forget ! 0 refl $ free1 ! $ forget ! 0 refl $ free1 ! $ forget ! 0 refl $ free1 ! $ forget ! 0 refl $ free1 ! $ forget ! 0 refl $ free1 ! $ forget ! 0 refl $ free1 ! $ forget ! 0 refl $ free1 ! $ forget ! 0 refl $ free1 ! $ free0 ! $
-          move ! (0 ∷ 1 ∷ 4 ∷ 5 ∷ 9 ∷ 6 ∷ 3 ∷ 7 ∷ 2 ∷ 8 ∷ []) $ by ! (exits (past .45) (past .46) (record { settings = (h .settings); flight = kf; arrival = ka; clock = kc; queued = (past .4); outstanding = (past .3); transmissions = (past .2); ready = (h .ready); waiting = (h .waiting); «waiting_numbers» = (h .«waiting_numbers») }) ((past .1)) ((past .0)) (rw (e-kf, e-ka, e-kc) (flush-left x₅ h (partsOf (x₁ .now) (x₂ .now) (x₃ .now) (x₄ .now)) (x₆ .now) (x₇ .now) ((past .45) .answer) (putBack (past .45)) (linkOf (h .settings) ((past .45) .flight) ((past .45) .arrival) ((past .45) .clock) (arrays (past .4) (past .3) (past .2) (h .ready) (h .waiting) (h .«waiting_numbers»))) (past .1) (past .0) (past .39) (past .42) (gathers h (partsOf (x₁ .now) (x₂ .now) (x₃ .now) (x₄ .now)) (past .36) (past .39) (past .42) (past .38) (past .41) (past .44)) (record { whole-queued = end-queued; whole-outstanding = end-outstanding; whole-transmissions = end-transmissions; whole-ready = end-ready; whole-waiting = end-waiting; whole-numbers = end-waiting-numbers }) (past .47))) (past .49) (past .50) (past .48))))))))))))))
+          qed W (‵ (partAt (Array u32 128) fullShare (h .«waiting_numbers») b (o + 1820))
+          ∷ ‵ (partAt (Array u32 128) fullShare (h .waiting) b (o + 1308)) ∷ ‵ (partAt (Array u32 128) fullShare (h .ready) b (o + 796))
+          ∷ ‵ (partAt (Array u8 32) fullShare (past .2) b (o + 764)) ∷ ‵ (partAt (Array u32 32) fullShare (past .3) b (o + 636))
+          ∷ ‵ (partAt (Array u32 128) fullShare (past .4) b (o + 124)) ∷ ‵ (finally u16 (x₈ .name) (past .0))
+          ∷ ‵ (finally u8 (x₇ .name) (past .1)) ∷ ‵ (flft κ₁ q₁) ∷ ‵ (flft κ₂ q₂) ∷ ‵ (flft κ₄ q₄) ∷ ‵ (flft κ₅ q₅) ∷ ‵ (flft κ₆ q₆)
+          ∷ ‵ (flft κ₃ q₃) ∷ ‵ (partAt clock-row.the-row fullShare (h .clock) b (o + 104))
+          ∷ ‵ (partAt arrival-row.the-row fullShare (h .arrival) b (o + 72))
+          ∷ ‵ (partAt flight-row.the-row fullShare (h .flight) b (o + 16))
+          ∷ ‵ (partAt settings-row.the-row fullShare (h .settings) b (o + 0)) ∷ raw (Back 𝓤 H A fullShare b o) ∷ ‵ (Open b o γ κ₀ q₀ h)
+          ∷ (‵ (fdies flushed-laws.mir (past .5)) ⊛ ‵ (fdies (tyRef (named 0) mut (pointee (L .written))) (past .6)) ⊛ ‵
+          (fdies (sliceTy (tyRef (named 1) imm (tyInt w8))) (past .7)) ⊛ ‵ (fdies (sliceTy (tyRef (named 2) imm (tyInt w8))) (past .8))
+          ⊛ ‵ (fdies (sliceTy (tyRef (named 3) imm (pointee (R .written)))) (past .9)) ⊛ ‵
+          (fdies (sliceTy (tyRef (named 4) imm (tyInt w32))) (past .10)) ⊛ ‵ (fdies tyBool (past .11)) ⊛ ‵
+          (fdies (tyInt w32) (past .12)) ⊛ ‵ (fdies (sliceTy (tyRef (named 5) mut (tyInt w8))) (past .13)) ⊛ ‵
+          (fdies (sliceTy (tyRef (named 6) mut (tyInt w16))) (past .14)) ⊛ ‵ (fdies settings-laws.mir (past .15)) ⊛ ‵
+          (fdies flight-laws.mir (past .16)) ⊛ ‵ (fdies arrival-laws.mir (past .17)) ⊛ ‵ (fdies clock-laws.mir (past .18)) ⊛ ‵
+          (fdies (tyArray (tyInt w32) 32) (past .19)) ⊛ ‵ (fdies (tyInt w64) (past .20)) ⊛ ‵
+          (fdies (tyArray record-laws.mir 32) (past .21)) ⊛ ‵ (fdies (tyInt w64) (past .22)) ⊛ ‵ (fdies flushed-laws.mir (past .23)) ⊛ ‵
+          (fdies flight-laws.mir (past .24)) ⊛ ‵ (fdies arrival-laws.mir (past .25)) ⊛ ‵ (fdies clock-laws.mir (past .26)) ⊛ ‵
+          (fdies (tyRef erased mut (tyArray (tyInt w32) 128)) (past .27)) ⊛ ‵
+          (fdies (tyRef erased mut (tyArray (tyInt w32) 32)) (past .28)) ⊛ ‵
+          (fdies (tyRef erased mut (tyArray (tyInt w8) 32)) (past .29)) ⊛ ‵
+          (fdies (tyRef erased imm (tyArray (tyInt w32) 128)) (past .30)) ⊛ ‵
+          (fdies (tyRef erased imm (tyArray (tyInt w32) 128)) (past .31)) ⊛ ‵
+          (fdies (tyRef erased imm (tyArray (tyInt w32) 128)) (past .32)) ⊛ ‵ (fdies (tyRef erased mut (tyInt w8)) (past .33)) ⊛ ‵
+          (fdies (sliceTy (tyRef erased mut (tyInt w8))) (past .34)) ⊛ ‵ (fdies (tyRef erased mut (tyInt w16)) (past .35)) ⊛ ‵
+          (fdies (sliceTy (tyRef erased mut (tyInt w16))) (past .36)))
+          ∷ ‵ (fat fullShare (sliceTy (tyRef erased mut (tyInt w16))) (past .36) 0 (s₈))
+          ∷ ‵ (fat fullShare (tyRef erased mut (tyInt w16)) (past .35) 0 ((vptr (x₈ .ptr .0) (x₈ .ptr .1))))
+          ∷ ‵ (fat fullShare (sliceTy (tyRef erased mut (tyInt w8))) (past .34) 0 (s₇))
+          ∷ ‵ (fat fullShare (tyRef erased mut (tyInt w8)) (past .33) 0 ((vptr (x₇ .ptr .0) (x₇ .ptr .1))))
+          ∷ ‵ (fat fullShare (tyRef erased imm (tyArray (tyInt w32) 128)) (past .32) 0 ((vptr b (o + 1820))))
+          ∷ ‵ (fat fullShare (tyRef erased imm (tyArray (tyInt w32) 128)) (past .31) 0 ((vptr b (o + 1308))))
+          ∷ ‵ (fat fullShare (tyRef erased imm (tyArray (tyInt w32) 128)) (past .30) 0 ((vptr b (o + 796))))
+          ∷ ‵ (fat fullShare (tyRef erased mut (tyArray (tyInt w8) 32)) (past .29) 0 ((vptr b (o + 764))))
+          ∷ ‵ (fat fullShare (tyRef erased mut (tyArray (tyInt w32) 32)) (past .28) 0 ((vptr b (o + 636))))
+          ∷ ‵ (fat fullShare (tyRef erased mut (tyArray (tyInt w32) 128)) (past .27) 0 ((vptr b (o + 124))))
+          ∷ ‵ (froom clock-laws.mir (past .26) 0) ∷ ‵ (froom arrival-laws.mir (past .25) 0) ∷ ‵ (froom flight-laws.mir (past .24) 0)
+          ∷ ‵ (fat fullShare flushed-laws.mir (past .23) 0 ((past .47))) ∷ ‵ (fat fullShare (tyInt w64) (past .22) 0 ((past .44)))
+          ∷ ‵ (fat fullShare (tyArray record-laws.mir 32) (past .21) 0 ((past .41)))
+          ∷ ‵ (fat fullShare (tyInt w64) (past .20) 0 ((past .38)))
+          ∷ ‵ (fat fullShare (tyArray (tyInt w32) 32) (past .19) 0 ((only ((array-vals (uint-vals w32)) (h .outstanding)))))
+          ∷ ‵ (fat fullShare clock-laws.mir (past .18) 0 ((only ((LL.vals clock-row.the-type clock-laws.the-laws) (h .clock)))))
+          ∷ ‵ (fat fullShare arrival-laws.mir (past .17) 0 ((only ((LL.vals arrival-row.the-type arrival-laws.the-laws) (h .arrival)))))
+          ∷ ‵ (fat fullShare flight-laws.mir (past .16) 0 ((only ((LL.vals flight-row.the-type flight-laws.the-laws) (h .flight)))))
+          ∷ ‵ (fat fullShare settings-laws.mir (past .15) 0
+          ((only ((LL.vals settings-row.the-type settings-laws.the-laws) (h .settings)))))
+          ∷ ‵ (fat fullShare (sliceTy (tyRef (named 6) mut (tyInt w16))) (past .14) 0 (s₈))
+          ∷ ‵ (fat fullShare (sliceTy (tyRef (named 5) mut (tyInt w8))) (past .13) 0 (s₇))
+          ∷ ‵ (fat fullShare (tyInt w32) (past .12) 0 (v₆)) ∷ ‵ (fat fullShare tyBool (past .11) 0 (v₅))
+          ∷ ‵ (fat fullShare (sliceTy (tyRef (named 4) imm (tyInt w32))) (past .10) 0 (s₄))
+          ∷ ‵ (fat fullShare (sliceTy (tyRef (named 3) imm (pointee (R .written)))) (past .9) 0 (s₃))
+          ∷ ‵ (fat fullShare (sliceTy (tyRef (named 2) imm (tyInt w8))) (past .8) 0 (s₂))
+          ∷ ‵ (fat fullShare (sliceTy (tyRef (named 1) imm (tyInt w8))) (past .7) 0 (s₁))
+          ∷ ‵ (fat fullShare (tyRef (named 0) mut (pointee (L .written))) (past .6) 0 (vptr b o))
+          ∷ ‵ (froom flushed-laws.mir (past .5) 0) ∷ []) ∵
+          exec ! C Λ (En (past .5) (past .6) (past .7) (past .8) (past .9) (past .10) (past .11) (past .12) (past .13) (past .14)
+          (past .15) (past .16) (past .17) (past .18) (past .19) (past .20) (past .21) (past .22) (past .23) (past .24) (past .25)
+          (past .26) (past .27) (past .28) (past .29) (past .30) (past .31) (past .32) (past .33) (past .34) (past .35) (past .36))
+          (behind 19 (code.function .body)) (atRet (En (past .5) (past .6) (past .7) (past .8) (past .9) (past .10) (past .11)
+          (past .12) (past .13) (past .14) (past .15) (past .16) (past .17) (past .18) (past .19) (past .20) (past .21) (past .22)
+          (past .23) (past .24) (past .25) (past .26) (past .27) (past .28) (past .29) (past .30) (past .31) (past .32) (past .33)
+          (past .34) (past .35) (past .36)) Post) $
+          nothing ! $ calls-fn ! fm flight-of.ended (flight-of.clauses 𝓤 H A at-mem run) (known .4)
+          ((tt, tt, tt, ((past .46), tt), ((past .47) ∷ [], tt)), tt) (λ kf _. kf ≡ (past .46) .flight)
+          (‵ ftrue) (plainly 𝓤 H A W (flushed-row.the-row ∷ []) ((LL.makes flushed-row.the-type flushed-laws.the-plain 𝓤 H A), tt)
+          ((past .46), tt) ((past .47) ∷ [], tt) ((past .49), tt)) (λ kf _. id⊢ 𝓤 _)
+          (and-then ! (load ! (from ! (stop !)) (look ! 35 refl)) (no-more !))
+          (λ kf w-kf _ e-kf is-kf. drop ! $ drop ! $
+          land ! (from ! (stop !)) (init ! 33 refl (LL.lawful flight-row.the-type flight-laws.the-laws 𝓤 H A W .typed kf (w-kf ∷ []) is-kf
+          .0)) $
+          move ! (16 ∷ []) $ cell-out ! fullShare flight-row.the-row (LL.vals flight-row.the-type flight-laws.the-laws)
+          (LL.tells flight-row.the-type flight-laws.the-laws) (h .flight) b (o + 16)
+          (λ was-flight′. assigns ! (of-opd ! (load ! (from ! (stop !)) (look ! 33 refl)))
+          (from ! (hop ! (look ! 51 refl) (fld ! {d = 16} refl (stop !))))
+          (store-raw ! 0 refl (LL.lawful flight-row.the-type flight-laws.the-laws 𝓤 H A W .typed kf (w-kf ∷ []) is-kf .0)) $
+          cell-in ! fullShare flight-row.the-row (LL.makes flight-row.the-type flight-laws.the-plain 𝓤 H A) kf b (o + 16) w-kf is-kf $
+          nothing ! $ calls-fn ! fm arrival-of.ended (arrival-of.clauses 𝓤 H A at-mem run) (known .5)
+          ((tt, tt, tt, ((past .46), tt), ((past .47) ∷ [], tt)), tt) (λ ka _. ka ≡ (past .46) .arrival)
+          (‵ ftrue) (plainly 𝓤 H A W (flushed-row.the-row ∷ []) ((LL.makes flushed-row.the-type flushed-laws.the-plain 𝓤 H A), tt)
+          ((past .46), tt) ((past .47) ∷ [], tt) ((past .49), tt)) (λ ka _. id⊢ 𝓤 _)
+          (and-then ! (load ! (from ! (stop !)) (look ! 35 refl)) (no-more !))
+          (λ ka w-ka _ e-ka is-ka. drop ! $ drop ! $
+          land ! (from ! (stop !)) (init ! 32 refl (LL.lawful arrival-row.the-type arrival-laws.the-laws 𝓤 H A W .typed ka (w-ka ∷ []) is-ka
+          .0)) $
+          move ! (16 ∷ []) $ cell-out ! fullShare arrival-row.the-row (LL.vals arrival-row.the-type arrival-laws.the-laws)
+          (LL.tells arrival-row.the-type arrival-laws.the-laws) (h .arrival) b (o + 72)
+          (λ was-arrival′. assigns ! (of-opd ! (load ! (from ! (stop !)) (look ! 32 refl)))
+          (from ! (hop ! (look ! 51 refl) (fld ! {d = 72} refl (stop !))))
+          (store-raw ! 0 refl (LL.lawful arrival-row.the-type arrival-laws.the-laws 𝓤 H A W .typed ka (w-ka ∷ []) is-ka .0)) $
+          cell-in ! fullShare arrival-row.the-row (LL.makes arrival-row.the-type arrival-laws.the-plain 𝓤 H A) ka b (o + 72) w-ka
+          is-ka $ nothing ! $ calls-fn ! fm clock-of.ended (clock-of.clauses 𝓤 H A at-mem run) (known .6)
+          ((tt, tt, tt, ((past .46), tt), ((past .47) ∷ [], tt)), tt) (λ kc _. kc ≡ (past .46) .clock)
+          (‵ ftrue) (plainly 𝓤 H A W (flushed-row.the-row ∷ []) ((LL.makes flushed-row.the-type flushed-laws.the-plain 𝓤 H A), tt)
+          ((past .46), tt) ((past .47) ∷ [], tt) ((past .49), tt)) (λ kc _. id⊢ 𝓤 _)
+          (and-then ! (load ! (from ! (stop !)) (look ! 35 refl)) (no-more !))
+          (λ kc w-kc _ e-kc is-kc. drop ! $ drop ! $
+          land ! (from ! (stop !)) (init ! 31 refl (LL.lawful clock-row.the-type clock-laws.the-laws 𝓤 H A W .typed kc (w-kc ∷ []) is-kc
+          .0)) $
+          move ! (16 ∷ []) $ cell-out ! fullShare clock-row.the-row (LL.vals clock-row.the-type clock-laws.the-laws)
+          (LL.tells clock-row.the-type clock-laws.the-laws) (h .clock) b (o + 104)
+          (λ was-clock′. assigns ! (of-opd ! (load ! (from ! (stop !)) (look ! 31 refl)))
+          (from ! (hop ! (look ! 51 refl) (fld ! {d = 104} refl (stop !))))
+          (store-raw ! 0 refl (LL.lawful clock-row.the-type clock-laws.the-laws 𝓤 H A W .typed kc (w-kc ∷ []) is-kc .0)) $
+          cell-in ! fullShare clock-row.the-row (LL.makes clock-row.the-type clock-laws.the-plain 𝓤 H A) kc b (o + 104) w-kc is-kc $
+          move ! (8 ∷ []) $ tells-length ! fullShare u32 128 (past .4) b (o + 124)
+          (λ end-queued. move ! (8 ∷ []) $
+          tells-length ! fullShare u32 32 (past .3) b (o + 636)
+          (λ end-outstanding. move ! (8 ∷ []) $
+          tells-length ! fullShare u8 32 (past .2) b (o + 764)
+          (λ end-transmissions. move ! (8 ∷ []) $
+          tells-length ! fullShare u32 128 (h .ready) b (o + 796)
+          (λ end-ready. move ! (8 ∷ []) $
+          tells-length ! fullShare u32 128 (h .waiting) b (o + 1308)
+          (λ end-waiting. move ! (8 ∷ []) $
+          tells-length ! fullShare u32 128 (h .«waiting_numbers») b (o + 1820)
+          (λ end-waiting-numbers. move ! (17 ∷ 8 ∷ 7 ∷ 6 ∷ 5 ∷ 4 ∷ 3 ∷ 2 ∷ 1 ∷ 0 ∷ 18 ∷ 19 ∷ []) $
+          closes-link b o γ ! tt h (record {
+            settings = (h .settings);
+            flight = kf;
+            arrival = ka;
+            clock = kc;
+            queued = (past .4);
+            outstanding = (past .3);
+            transmissions = (past .2);
+            ready = (h .ready);
+            waiting = (h .waiting);
+            «waiting_numbers» =
+                (h .«waiting_numbers»);
+          }) $
+          -- [own0; tok0; fin8; fin7; tok1; tok2; tok4; tok7; tok8; tok3; deaths; the locals]
+          assigns ! {v = (past .47)} (of-opd ! (load ! (from ! (stop !)) (look ! 24 refl))) (from ! (stop !))
+          (init ! 42 refl (LL.lawful flushed-row.the-type flushed-laws.the-laws 𝓤 H A W .typed (past .46) ((past .47) ∷ []) (past .49)
+          .0)) $
+          returns ! (look ! 42 refl) $
+          move ! (10 ∷ []) $ spread W (‵ (fdies flushed-laws.mir (past .5)))
+          (‵ (fdies (tyRef (named 0) mut (pointee (L .written))) (past .6))
+          ∷ ‵ (fdies (sliceTy (tyRef (named 1) imm (tyInt w8))) (past .7))
+          ∷ ‵ (fdies (sliceTy (tyRef (named 2) imm (tyInt w8))) (past .8))
+          ∷ ‵ (fdies (sliceTy (tyRef (named 3) imm (pointee (R .written)))) (past .9))
+          ∷ ‵ (fdies (sliceTy (tyRef (named 4) imm (tyInt w32))) (past .10)) ∷ ‵ (fdies tyBool (past .11))
+          ∷ ‵ (fdies (tyInt w32) (past .12)) ∷ ‵ (fdies (sliceTy (tyRef (named 5) mut (tyInt w8))) (past .13))
+          ∷ ‵ (fdies (sliceTy (tyRef (named 6) mut (tyInt w16))) (past .14)) ∷ ‵ (fdies settings-laws.mir (past .15))
+          ∷ ‵ (fdies flight-laws.mir (past .16)) ∷ ‵ (fdies arrival-laws.mir (past .17)) ∷ ‵ (fdies clock-laws.mir (past .18))
+          ∷ ‵ (fdies (tyArray (tyInt w32) 32) (past .19)) ∷ ‵ (fdies (tyInt w64) (past .20))
+          ∷ ‵ (fdies (tyArray record-laws.mir 32) (past .21)) ∷ ‵ (fdies (tyInt w64) (past .22)) ∷ ‵ (fdies flushed-laws.mir (past .23))
+          ∷ ‵ (fdies flight-laws.mir (past .24)) ∷ ‵ (fdies arrival-laws.mir (past .25)) ∷ ‵ (fdies clock-laws.mir (past .26))
+          ∷ ‵ (fdies (tyRef erased mut (tyArray (tyInt w32) 128)) (past .27))
+          ∷ ‵ (fdies (tyRef erased mut (tyArray (tyInt w32) 32)) (past .28))
+          ∷ ‵ (fdies (tyRef erased mut (tyArray (tyInt w8) 32)) (past .29))
+          ∷ ‵ (fdies (tyRef erased imm (tyArray (tyInt w32) 128)) (past .30))
+          ∷ ‵ (fdies (tyRef erased imm (tyArray (tyInt w32) 128)) (past .31))
+          ∷ ‵ (fdies (tyRef erased imm (tyArray (tyInt w32) 128)) (past .32)) ∷ ‵ (fdies (tyRef erased mut (tyInt w8)) (past .33))
+          ∷ ‵ (fdies (sliceTy (tyRef erased mut (tyInt w8))) (past .34)) ∷ ‵ (fdies (tyRef erased mut (tyInt w16)) (past .35))
+          ∷ ‵ (fdies (sliceTy (tyRef erased mut (tyInt w16))) (past .36)) ∷ []) (id⊢ 𝓤 _) $
+          move ! (73 ∷ 0 ∷ 72 ∷ 1 ∷ 71 ∷ 2 ∷ 70 ∷ 3 ∷ 69 ∷ 4 ∷ 68 ∷ 5 ∷ 67 ∷ 6 ∷ 66 ∷ 7 ∷ 65 ∷ 8 ∷ 64 ∷ 9 ∷ 63 ∷ 10 ∷ 62 ∷ 11 ∷ 61 ∷ 12
+          ∷ 60 ∷ 13 ∷ 59 ∷ 14 ∷ 58 ∷ 15 ∷ 57 ∷ 16 ∷ 56 ∷ 17 ∷ 55 ∷ 18 ∷ 54 ∷ 19 ∷ 53 ∷ 20 ∷ 52 ∷ 21 ∷ 51 ∷ 22 ∷ 50 ∷ 23 ∷ 49 ∷ 24 ∷ 48
+          ∷ 25 ∷ 47 ∷ 26 ∷ 46 ∷ 27 ∷ 45 ∷ 28 ∷ 44 ∷ 29 ∷ 43 ∷ 30 ∷ 42 ∷ 31 ∷ []) $ forget ! 0 refl $ free1 ! $ forget ! 0 refl $
+          free1 ! $ forget ! 0 refl $ free1 ! $ forget ! 0 refl $ free1 ! $ forget ! 0 refl $ free1 ! $ forget ! 0 refl $ free1 ! $
+          forget ! 0 refl $ free1 ! $ forget ! 0 refl $ free1 ! $ forget ! 0 refl $ free1 ! $ forget ! 0 refl $ free1 ! $
+          forget ! 0 refl $ free1 ! $ forget ! 0 refl $ free1 ! $ forget ! 0 refl $ free1 ! $ forget ! 0 refl $ free1 ! $
+          forget ! 0 refl $ free1 ! $ forget ! 0 refl $ free1 ! $ forget ! 0 refl $ free1 ! $ forget ! 0 refl $ free1 ! $
+          forget ! 0 refl $ free1 ! $ forget ! 0 refl $ free1 ! $ forget ! 0 refl $ free1 ! $ forget ! 0 refl $ free1 ! $
+          forget ! 0 refl $ free1 ! $ forget ! 0 refl $ free1 ! $ forget ! 0 refl $ free1 ! $ forget ! 0 refl $ free1 ! $
+          forget ! 0 refl $ free1 ! $ forget ! 0 refl $ free1 ! $ forget ! 0 refl $ free1 ! $ forget ! 0 refl $ free1 ! $
+          forget ! 0 refl $ free1 ! $ forget ! 0 refl $ free1 ! $ free0 ! $
+          move ! (0 ∷ 1 ∷ 4 ∷ 5 ∷ 9 ∷ 6 ∷ 3 ∷ 7 ∷ 2 ∷ 8 ∷ []) $
+          by ! (exits (past .46) (past .47) (record {
+            settings = (h .settings);
+            flight = kf;
+            arrival = ka;
+            clock = kc;
+            queued = (past .4);
+            outstanding = (past .3);
+            transmissions = (past .2);
+            ready = (h .ready);
+            waiting = (h .waiting);
+            «waiting_numbers» = (h .«waiting_numbers»);
+          })
+          ((past .1)) ((past .0)) (rw (e-kf, e-ka, e-kc)
+          (left x₅ x₆ h (partsOf (x₁ .now) (x₂ .now) (x₃ .now) (x₄ .now)) (flushPartsOf (x₇ .now) (x₈ .now)) (past .46)
+          (linkOf (h .settings) ((past .46) .flight) ((past .46) .arrival) ((past .46) .clock)
+          (arrays (past .4) (past .3) (past .2) (h .ready) (h .waiting) (h .«waiting_numbers»))) (flushPartsOf (past .1) (past .0))
+          (past .40) (past .43) (gathers h (partsOf (x₁ .now) (x₂ .now) (x₃ .now) (x₄ .now)) (past .37) (past .40) (past .43) (past .39)
+          (past .42) (past .45)) (record {
+            whole-queued = end-queued;
+            whole-outstanding = end-outstanding;
+            whole-transmissions = end-transmissions;
+            whole-ready = end-ready;
+            whole-waiting = end-waiting;
+            whole-numbers =
+                end-waiting-numbers;
+          }) (past .48))) (past .50) (past .51) (past .49))))))))))))))
 
       -- what part 1 knows
       abbrev Known₁ : Type 0
-      Known₁ = (l₀ : ℕ) × (l₁ : ℕ) × (l₂ : ℕ) × (l₃ : ℕ) × (l₄ : ℕ) × (l₅ : ℕ) × (l₆ : ℕ) × (l₇ : ℕ) × (l₈ : ℕ) × (l₉ : ℕ) × (l₁₀ : ℕ) × (l₁₁ : ℕ) × (l₁₂ : ℕ) × (l₁₃ : ℕ) × (l₁₄ : ℕ) × (l₁₅ : ℕ) × (l₁₆ : ℕ) × (l₁₇ : ℕ) × (l₁₈ : ℕ) × (l₁₉ : ℕ) × (l₂₀ : ℕ) × (l₂₁ : ℕ) × (l₂₂ : ℕ) × (l₂₃ : ℕ) × (l₂₄ : ℕ) × (l₂₅ : ℕ) × (l₂₆ : ℕ) × (l₂₇ : ℕ) × (l₂₈ : ℕ) × (l₂₉ : ℕ) × (l₃₀ : ℕ) × (len-queued : length (h .queued) ≡ 128) × (len-outstanding : length (h .outstanding) ≡ 32) × (len-transmissions : length (h .transmissions) ≡ 32) × (len-ready : length (h .ready) ≡ 128) × (len-waiting : length (h .waiting) ≡ 128) × (len-waiting-numbers : length (h .«waiting_numbers») ≡ 128) × (was-settings : Is settings-row.the-row (h .settings) ((LL.vals settings-row.the-type settings-laws.the-laws) (h .settings))) × (was-flight : Is flight-row.the-row (h .flight) ((LL.vals flight-row.the-type flight-laws.the-laws) (h .flight))) × (was-arrival : Is arrival-row.the-row (h .arrival) ((LL.vals arrival-row.the-type arrival-laws.the-laws) (h .arrival))) × (was-clock : Is clock-row.the-row (h .clock) ((LL.vals clock-row.the-type clock-laws.the-laws) (h .clock))) × (n : ℕ) × (w-n : Val) × (e-n : n ≡ h .flight .outstanding) × (recs : (List Record)) × (w-recs : Val) × (e-recs : recs ≡ padded (gathered (take sendSlots (x₃ .now)) (slotsIn (h .outstanding) n))) × (is-recs : Is Rs recs (w-recs ∷ [])) × (m : ℕ) × (w-m : Val) × (e-m : m ≡ length (x₃ .now)) × (Is usize m (w-m ∷ []))
+      Known₁ = (l₀ : ℕ) × (l₁ : ℕ) × (l₂ : ℕ) × (l₃ : ℕ) × (l₄ : ℕ) × (l₅ : ℕ) × (l₆ : ℕ) × (l₇ : ℕ) × (l₈ : ℕ) × (l₉ : ℕ) × (l₁₀ : ℕ) ×
+          (l₁₁ : ℕ) × (l₁₂ : ℕ) × (l₁₃ : ℕ) × (l₁₄ : ℕ) × (l₁₅ : ℕ) × (l₁₆ : ℕ) × (l₁₇ : ℕ) × (l₁₈ : ℕ) × (l₁₉ : ℕ) × (l₂₀ : ℕ) ×
+          (l₂₁ : ℕ) × (l₂₂ : ℕ) × (l₂₃ : ℕ) × (l₂₄ : ℕ) × (l₂₅ : ℕ) × (l₂₆ : ℕ) × (l₂₇ : ℕ) × (l₂₈ : ℕ) × (l₂₉ : ℕ) × (l₃₀ : ℕ) ×
+          (l₃₁ : ℕ) × (len-queued : length (h .queued) ≡ 128) × (len-outstanding : length (h .outstanding) ≡ 32) ×
+          (len-transmissions : length (h .transmissions) ≡ 32) × (len-ready : length (h .ready) ≡ 128) ×
+          (len-waiting : length (h .waiting) ≡ 128) × (len-waiting-numbers : length (h .«waiting_numbers») ≡ 128) ×
+          (was-settings : Is settings-row.the-row (h .settings) ((LL.vals settings-row.the-type settings-laws.the-laws) (h .settings))) ×
+          (was-flight : Is flight-row.the-row (h .flight) ((LL.vals flight-row.the-type flight-laws.the-laws) (h .flight))) ×
+          (was-arrival : Is arrival-row.the-row (h .arrival) ((LL.vals arrival-row.the-type arrival-laws.the-laws) (h .arrival))) ×
+          (was-clock : Is clock-row.the-row (h .clock) ((LL.vals clock-row.the-type clock-laws.the-laws) (h .clock))) × (n : ℕ) ×
+          (w-n : Val) × (e-n : n ≡ h .flight .outstanding) × (recs : (List Record)) × (w-recs : Val) ×
+          (e-recs : recs ≡ padded (gathered (take sendSlots (x₃ .now)) (slotsIn (h .outstanding) n))) ×
+          (is-recs : Is Rs recs (w-recs ∷ [])) × (m : ℕ) × (w-m : Val) × (e-m : m ≡ length (x₃ .now)) × (Is usize m (w-m ∷ []))
 
-      part₁ : (past : Known₁) → ent 𝓤 (⋆ 𝓤 H A (‵ (flft κ₃ q₃) ∷ ‵ (partAt (Array u32 32) fullShare (h .outstanding) b (o + 636)) ∷ ‵ (partAt clock-row.the-row fullShare (h .clock) b (o + 104)) ∷ ‵ (partAt arrival-row.the-row fullShare (h .arrival) b (o + 72)) ∷ ‵ (partAt flight-row.the-row fullShare (h .flight) b (o + 16)) ∷ ‵ (partAt settings-row.the-row fullShare (h .settings) b (o + 0)) ∷ ‵ (partAt (Array u32 128) fullShare (h .«waiting_numbers») b (o + 1820)) ∷ ‵ (partAt (Array u32 128) fullShare (h .waiting) b (o + 1308)) ∷ ‵ (partAt (Array u32 128) fullShare (h .ready) b (o + 796)) ∷ ‵ (partAt (Array u8 32) fullShare (h .transmissions) b (o + 764)) ∷ ‵ (partAt (Array u32 128) fullShare (h .queued) b (o + 124)) ∷ raw (Back 𝓤 H A fullShare b o) ∷ ‵ (Open b o γ κ₀ q₀ h) ∷ (‵ (fdies flushed-laws.mir (past .0)) ⊛ ‵ (fdies (tyRef (named 0) mut (pointee (L .written))) (past .1)) ⊛ ‵ (fdies (sliceTy (tyRef (named 1) imm (tyInt w8))) (past .2)) ⊛ ‵ (fdies (sliceTy (tyRef (named 2) imm (tyInt w8))) (past .3)) ⊛ ‵ (fdies (sliceTy (tyRef (named 3) imm (pointee (R .written)))) (past .4)) ⊛ ‵ (fdies (sliceTy (tyRef (named 4) imm (tyInt w32))) (past .5)) ⊛ ‵ (fdies (tyInt w32) (past .6)) ⊛ ‵ (fdies (sliceTy (tyRef (named 5) mut (tyInt w8))) (past .7)) ⊛ ‵ (fdies (sliceTy (tyRef (named 6) mut (tyInt w16))) (past .8)) ⊛ ‵ (fdies settings-laws.mir (past .9)) ⊛ ‵ (fdies flight-laws.mir (past .10)) ⊛ ‵ (fdies arrival-laws.mir (past .11)) ⊛ ‵ (fdies clock-laws.mir (past .12)) ⊛ ‵ (fdies (tyArray (tyInt w32) 32) (past .13)) ⊛ ‵ (fdies (tyInt w64) (past .14)) ⊛ ‵ (fdies (tyArray record-laws.mir 32) (past .15)) ⊛ ‵ (fdies (tyInt w64) (past .16)) ⊛ ‵ (fdies flushed-laws.mir (past .17)) ⊛ ‵ (fdies flight-laws.mir (past .18)) ⊛ ‵ (fdies arrival-laws.mir (past .19)) ⊛ ‵ (fdies clock-laws.mir (past .20)) ⊛ ‵ (fdies (tyRef erased mut (tyArray (tyInt w32) 128)) (past .21)) ⊛ ‵ (fdies (tyRef erased mut (tyArray (tyInt w32) 32)) (past .22)) ⊛ ‵ (fdies (tyRef erased mut (tyArray (tyInt w8) 32)) (past .23)) ⊛ ‵ (fdies (tyRef erased imm (tyArray (tyInt w32) 128)) (past .24)) ⊛ ‵ (fdies (tyRef erased imm (tyArray (tyInt w32) 128)) (past .25)) ⊛ ‵ (fdies (tyRef erased imm (tyArray (tyInt w32) 128)) (past .26)) ⊛ ‵ (fdies (tyRef erased mut (tyInt w8)) (past .27)) ⊛ ‵ (fdies (sliceTy (tyRef erased mut (tyInt w8))) (past .28)) ⊛ ‵ (fdies (tyRef erased mut (tyInt w16)) (past .29)) ⊛ ‵ (fdies (sliceTy (tyRef erased mut (tyInt w16))) (past .30))) ∷ ‵ (flft κ₁ q₁) ∷ ‵ (flft κ₂ q₂) ∷ ‵ (flft κ₄ q₄) ∷ ‵ (flft κ₅ q₅) ∷ ‵ (flft κ₆ q₆) ∷ ‵ Own₁ ∷ ‵ Own₂ ∷ ‵ Own₄ ∷ ‵ Own₆ ∷ ‵ Own₇ ∷ ‵ (froom (sliceTy (tyRef erased mut (tyInt w16))) (past .30) 0) ∷ ‵ (froom (tyRef erased mut (tyInt w16)) (past .29) 0) ∷ ‵ (froom (sliceTy (tyRef erased mut (tyInt w8))) (past .28) 0) ∷ ‵ (froom (tyRef erased mut (tyInt w8)) (past .27) 0) ∷ ‵ (froom (tyRef erased imm (tyArray (tyInt w32) 128)) (past .26) 0) ∷ ‵ (froom (tyRef erased imm (tyArray (tyInt w32) 128)) (past .25) 0) ∷ ‵ (froom (tyRef erased imm (tyArray (tyInt w32) 128)) (past .24) 0) ∷ ‵ (froom (tyRef erased mut (tyArray (tyInt w8) 32)) (past .23) 0) ∷ ‵ (froom (tyRef erased mut (tyArray (tyInt w32) 32)) (past .22) 0) ∷ ‵ (froom (tyRef erased mut (tyArray (tyInt w32) 128)) (past .21) 0) ∷ ‵ (froom clock-laws.mir (past .20) 0) ∷ ‵ (froom arrival-laws.mir (past .19) 0) ∷ ‵ (froom flight-laws.mir (past .18) 0) ∷ ‵ (froom flushed-laws.mir (past .17) 0) ∷ ‵ (fat fullShare (tyInt w64) (past .16) 0 ((past .49))) ∷ ‵ (fat fullShare (tyArray record-laws.mir 32) (past .15) 0 ((past .45))) ∷ ‵ (fat fullShare (tyInt w64) (past .14) 0 ((past .42))) ∷ ‵ (fat fullShare (tyArray (tyInt w32) 32) (past .13) 0 ((only ((array-vals (uint-vals w32)) (h .outstanding))))) ∷ ‵ (fat fullShare clock-laws.mir (past .12) 0 ((only ((LL.vals clock-row.the-type clock-laws.the-laws) (h .clock))))) ∷ ‵ (fat fullShare arrival-laws.mir (past .11) 0 ((only ((LL.vals arrival-row.the-type arrival-laws.the-laws) (h .arrival))))) ∷ ‵ (fat fullShare flight-laws.mir (past .10) 0 ((only ((LL.vals flight-row.the-type flight-laws.the-laws) (h .flight))))) ∷ ‵ (fat fullShare settings-laws.mir (past .9) 0 ((only ((LL.vals settings-row.the-type settings-laws.the-laws) (h .settings))))) ∷ ‵ (fat fullShare (sliceTy (tyRef (named 6) mut (tyInt w16))) (past .8) 0 (s₇)) ∷ ‵ (fat fullShare (sliceTy (tyRef (named 5) mut (tyInt w8))) (past .7) 0 (s₆)) ∷ ‵ (fat fullShare (tyInt w32) (past .6) 0 (v₅)) ∷ ‵ (fat fullShare (sliceTy (tyRef (named 4) imm (tyInt w32))) (past .5) 0 (s₄)) ∷ ‵ (fat fullShare (sliceTy (tyRef (named 3) imm (pointee (R .written)))) (past .4) 0 (s₃)) ∷ ‵ (fat fullShare (sliceTy (tyRef (named 2) imm (tyInt w8))) (past .3) 0 (s₂)) ∷ ‵ (fat fullShare (sliceTy (tyRef (named 1) imm (tyInt w8))) (past .2) 0 (s₁)) ∷ ‵ (fat fullShare (tyRef (named 0) mut (pointee (L .written))) (past .1) 0 (vptr b o)) ∷ ‵ (froom flushed-laws.mir (past .0) 0) ∷ [])) (Wp 𝓤 H C Λ (En (past .0) (past .1) (past .2) (past .3) (past .4) (past .5) (past .6) (past .7) (past .8) (past .9) (past .10) (past .11) (past .12) (past .13) (past .14) (past .15) (past .16) (past .17) (past .18) (past .19) (past .20) (past .21) (past .22) (past .23) (past .24) (past .25) (past .26) (past .27) (past .28) (past .29) (past .30)) (behind 8 (code.function .body)) (atReturn 𝓤 H (En (past .0) (past .1) (past .2) (past .3) (past .4) (past .5) (past .6) (past .7) (past .8) (past .9) (past .10) (past .11) (past .12) (past .13) (past .14) (past .15) (past .16) (past .17) (past .18) (past .19) (past .20) (past .21) (past .22) (past .23) (past .24) (past .25) (past .26) (past .27) (past .28) (past .29) (past .30)) Post))
+      part₁ : (past : Known₁) → ent 𝓤 (⋆ 𝓤 H A (‵ (flft κ₃ q₃) ∷ ‵ (partAt (Array u32 32) fullShare (h .outstanding) b (o + 636))
+          ∷ ‵ (partAt clock-row.the-row fullShare (h .clock) b (o + 104)) ∷ ‵ (partAt arrival-row.the-row fullShare (h .arrival) b (o + 72))
+          ∷ ‵ (partAt flight-row.the-row fullShare (h .flight) b (o + 16))
+          ∷ ‵ (partAt settings-row.the-row fullShare (h .settings) b (o + 0))
+          ∷ ‵ (partAt (Array u32 128) fullShare (h .«waiting_numbers») b (o + 1820))
+          ∷ ‵ (partAt (Array u32 128) fullShare (h .waiting) b (o + 1308)) ∷ ‵ (partAt (Array u32 128) fullShare (h .ready) b (o + 796))
+          ∷ ‵ (partAt (Array u8 32) fullShare (h .transmissions) b (o + 764)) ∷ ‵ (partAt (Array u32 128) fullShare (h .queued) b (o + 124))
+          ∷ raw (Back 𝓤 H A fullShare b o) ∷ ‵ (Open b o γ κ₀ q₀ h)
+          ∷ (‵ (fdies flushed-laws.mir (past .0)) ⊛ ‵ (fdies (tyRef (named 0) mut (pointee (L .written))) (past .1)) ⊛ ‵
+          (fdies (sliceTy (tyRef (named 1) imm (tyInt w8))) (past .2)) ⊛ ‵ (fdies (sliceTy (tyRef (named 2) imm (tyInt w8))) (past .3)) ⊛ ‵
+          (fdies (sliceTy (tyRef (named 3) imm (pointee (R .written)))) (past .4)) ⊛ ‵
+          (fdies (sliceTy (tyRef (named 4) imm (tyInt w32))) (past .5)) ⊛ ‵ (fdies tyBool (past .6)) ⊛ ‵ (fdies (tyInt w32) (past .7)) ⊛ ‵
+          (fdies (sliceTy (tyRef (named 5) mut (tyInt w8))) (past .8)) ⊛ ‵ (fdies (sliceTy (tyRef (named 6) mut (tyInt w16))) (past .9)) ⊛ ‵
+          (fdies settings-laws.mir (past .10)) ⊛ ‵ (fdies flight-laws.mir (past .11)) ⊛ ‵ (fdies arrival-laws.mir (past .12)) ⊛ ‵
+          (fdies clock-laws.mir (past .13)) ⊛ ‵ (fdies (tyArray (tyInt w32) 32) (past .14)) ⊛ ‵ (fdies (tyInt w64) (past .15)) ⊛ ‵
+          (fdies (tyArray record-laws.mir 32) (past .16)) ⊛ ‵ (fdies (tyInt w64) (past .17)) ⊛ ‵ (fdies flushed-laws.mir (past .18)) ⊛ ‵
+          (fdies flight-laws.mir (past .19)) ⊛ ‵ (fdies arrival-laws.mir (past .20)) ⊛ ‵ (fdies clock-laws.mir (past .21)) ⊛ ‵
+          (fdies (tyRef erased mut (tyArray (tyInt w32) 128)) (past .22)) ⊛ ‵ (fdies (tyRef erased mut (tyArray (tyInt w32) 32)) (past .23))
+          ⊛ ‵ (fdies (tyRef erased mut (tyArray (tyInt w8) 32)) (past .24)) ⊛ ‵
+          (fdies (tyRef erased imm (tyArray (tyInt w32) 128)) (past .25)) ⊛ ‵
+          (fdies (tyRef erased imm (tyArray (tyInt w32) 128)) (past .26)) ⊛ ‵
+          (fdies (tyRef erased imm (tyArray (tyInt w32) 128)) (past .27)) ⊛ ‵ (fdies (tyRef erased mut (tyInt w8)) (past .28)) ⊛ ‵
+          (fdies (sliceTy (tyRef erased mut (tyInt w8))) (past .29)) ⊛ ‵ (fdies (tyRef erased mut (tyInt w16)) (past .30)) ⊛ ‵
+          (fdies (sliceTy (tyRef erased mut (tyInt w16))) (past .31))) ∷ ‵ (flft κ₁ q₁) ∷ ‵ (flft κ₂ q₂) ∷ ‵ (flft κ₄ q₄) ∷ ‵ (flft κ₅ q₅)
+          ∷ ‵ (flft κ₆ q₆) ∷ ‵ Own₁ ∷ ‵ Own₂ ∷ ‵ Own₄ ∷ ‵ Own₇ ∷ ‵ Own₈ ∷ ‵ (froom (sliceTy (tyRef erased mut (tyInt w16))) (past .31) 0)
+          ∷ ‵ (froom (tyRef erased mut (tyInt w16)) (past .30) 0) ∷ ‵ (froom (sliceTy (tyRef erased mut (tyInt w8))) (past .29) 0)
+          ∷ ‵ (froom (tyRef erased mut (tyInt w8)) (past .28) 0) ∷ ‵ (froom (tyRef erased imm (tyArray (tyInt w32) 128)) (past .27) 0)
+          ∷ ‵ (froom (tyRef erased imm (tyArray (tyInt w32) 128)) (past .26) 0)
+          ∷ ‵ (froom (tyRef erased imm (tyArray (tyInt w32) 128)) (past .25) 0)
+          ∷ ‵ (froom (tyRef erased mut (tyArray (tyInt w8) 32)) (past .24) 0)
+          ∷ ‵ (froom (tyRef erased mut (tyArray (tyInt w32) 32)) (past .23) 0)
+          ∷ ‵ (froom (tyRef erased mut (tyArray (tyInt w32) 128)) (past .22) 0) ∷ ‵ (froom clock-laws.mir (past .21) 0)
+          ∷ ‵ (froom arrival-laws.mir (past .20) 0) ∷ ‵ (froom flight-laws.mir (past .19) 0) ∷ ‵ (froom flushed-laws.mir (past .18) 0)
+          ∷ ‵ (fat fullShare (tyInt w64) (past .17) 0 ((past .50)))
+          ∷ ‵ (fat fullShare (tyArray record-laws.mir 32) (past .16) 0 ((past .46)))
+          ∷ ‵ (fat fullShare (tyInt w64) (past .15) 0 ((past .43)))
+          ∷ ‵ (fat fullShare (tyArray (tyInt w32) 32) (past .14) 0 ((only ((array-vals (uint-vals w32)) (h .outstanding)))))
+          ∷ ‵ (fat fullShare clock-laws.mir (past .13) 0 ((only ((LL.vals clock-row.the-type clock-laws.the-laws) (h .clock)))))
+          ∷ ‵ (fat fullShare arrival-laws.mir (past .12) 0 ((only ((LL.vals arrival-row.the-type arrival-laws.the-laws) (h .arrival)))))
+          ∷ ‵ (fat fullShare flight-laws.mir (past .11) 0 ((only ((LL.vals flight-row.the-type flight-laws.the-laws) (h .flight)))))
+          ∷ ‵ (fat fullShare settings-laws.mir (past .10) 0 ((only ((LL.vals settings-row.the-type settings-laws.the-laws) (h .settings)))))
+          ∷ ‵ (fat fullShare (sliceTy (tyRef (named 6) mut (tyInt w16))) (past .9) 0 (s₈))
+          ∷ ‵ (fat fullShare (sliceTy (tyRef (named 5) mut (tyInt w8))) (past .8) 0 (s₇)) ∷ ‵ (fat fullShare (tyInt w32) (past .7) 0 (v₆))
+          ∷ ‵ (fat fullShare tyBool (past .6) 0 (v₅)) ∷ ‵ (fat fullShare (sliceTy (tyRef (named 4) imm (tyInt w32))) (past .5) 0 (s₄))
+          ∷ ‵ (fat fullShare (sliceTy (tyRef (named 3) imm (pointee (R .written)))) (past .4) 0 (s₃))
+          ∷ ‵ (fat fullShare (sliceTy (tyRef (named 2) imm (tyInt w8))) (past .3) 0 (s₂))
+          ∷ ‵ (fat fullShare (sliceTy (tyRef (named 1) imm (tyInt w8))) (past .2) 0 (s₁))
+          ∷ ‵ (fat fullShare (tyRef (named 0) mut (pointee (L .written))) (past .1) 0 (vptr b o)) ∷ ‵ (froom flushed-laws.mir (past .0) 0)
+          ∷ [])) (Wp 𝓤 H C Λ (En (past .0) (past .1) (past .2) (past .3) (past .4) (past .5) (past .6) (past .7) (past .8) (past .9)
+          (past .10) (past .11) (past .12) (past .13) (past .14) (past .15) (past .16) (past .17) (past .18) (past .19) (past .20)
+          (past .21) (past .22) (past .23) (past .24) (past .25) (past .26) (past .27) (past .28) (past .29) (past .30) (past .31))
+          (behind 8 (code.function .body)) (atReturn 𝓤 H
+          (En (past .0) (past .1) (past .2) (past .3) (past .4) (past .5) (past .6) (past .7) (past .8) (past .9) (past .10) (past .11)
+          (past .12) (past .13) (past .14) (past .15) (past .16) (past .17) (past .18) (past .19) (past .20) (past .21) (past .22)
+          (past .23) (past .24) (past .25) (past .26) (past .27) (past .28) (past .29) (past .30) (past .31)) Post))
       part₁ past =
-          qed W (‵ (flft κ₃ q₃) ∷ ‵ (partAt (Array u32 32) fullShare (h .outstanding) b (o + 636)) ∷ ‵ (partAt clock-row.the-row fullShare (h .clock) b (o + 104)) ∷ ‵ (partAt arrival-row.the-row fullShare (h .arrival) b (o + 72)) ∷ ‵ (partAt flight-row.the-row fullShare (h .flight) b (o + 16)) ∷ ‵ (partAt settings-row.the-row fullShare (h .settings) b (o + 0)) ∷ ‵ (partAt (Array u32 128) fullShare (h .«waiting_numbers») b (o + 1820)) ∷ ‵ (partAt (Array u32 128) fullShare (h .waiting) b (o + 1308)) ∷ ‵ (partAt (Array u32 128) fullShare (h .ready) b (o + 796)) ∷ ‵ (partAt (Array u8 32) fullShare (h .transmissions) b (o + 764)) ∷ ‵ (partAt (Array u32 128) fullShare (h .queued) b (o + 124)) ∷ raw (Back 𝓤 H A fullShare b o) ∷ ‵ (Open b o γ κ₀ q₀ h) ∷ (‵ (fdies flushed-laws.mir (past .0)) ⊛ ‵ (fdies (tyRef (named 0) mut (pointee (L .written))) (past .1)) ⊛ ‵ (fdies (sliceTy (tyRef (named 1) imm (tyInt w8))) (past .2)) ⊛ ‵ (fdies (sliceTy (tyRef (named 2) imm (tyInt w8))) (past .3)) ⊛ ‵ (fdies (sliceTy (tyRef (named 3) imm (pointee (R .written)))) (past .4)) ⊛ ‵ (fdies (sliceTy (tyRef (named 4) imm (tyInt w32))) (past .5)) ⊛ ‵ (fdies (tyInt w32) (past .6)) ⊛ ‵ (fdies (sliceTy (tyRef (named 5) mut (tyInt w8))) (past .7)) ⊛ ‵ (fdies (sliceTy (tyRef (named 6) mut (tyInt w16))) (past .8)) ⊛ ‵ (fdies settings-laws.mir (past .9)) ⊛ ‵ (fdies flight-laws.mir (past .10)) ⊛ ‵ (fdies arrival-laws.mir (past .11)) ⊛ ‵ (fdies clock-laws.mir (past .12)) ⊛ ‵ (fdies (tyArray (tyInt w32) 32) (past .13)) ⊛ ‵ (fdies (tyInt w64) (past .14)) ⊛ ‵ (fdies (tyArray record-laws.mir 32) (past .15)) ⊛ ‵ (fdies (tyInt w64) (past .16)) ⊛ ‵ (fdies flushed-laws.mir (past .17)) ⊛ ‵ (fdies flight-laws.mir (past .18)) ⊛ ‵ (fdies arrival-laws.mir (past .19)) ⊛ ‵ (fdies clock-laws.mir (past .20)) ⊛ ‵ (fdies (tyRef erased mut (tyArray (tyInt w32) 128)) (past .21)) ⊛ ‵ (fdies (tyRef erased mut (tyArray (tyInt w32) 32)) (past .22)) ⊛ ‵ (fdies (tyRef erased mut (tyArray (tyInt w8) 32)) (past .23)) ⊛ ‵ (fdies (tyRef erased imm (tyArray (tyInt w32) 128)) (past .24)) ⊛ ‵ (fdies (tyRef erased imm (tyArray (tyInt w32) 128)) (past .25)) ⊛ ‵ (fdies (tyRef erased imm (tyArray (tyInt w32) 128)) (past .26)) ⊛ ‵ (fdies (tyRef erased mut (tyInt w8)) (past .27)) ⊛ ‵ (fdies (sliceTy (tyRef erased mut (tyInt w8))) (past .28)) ⊛ ‵ (fdies (tyRef erased mut (tyInt w16)) (past .29)) ⊛ ‵ (fdies (sliceTy (tyRef erased mut (tyInt w16))) (past .30))) ∷ ‵ (flft κ₁ q₁) ∷ ‵ (flft κ₂ q₂) ∷ ‵ (flft κ₄ q₄) ∷ ‵ (flft κ₅ q₅) ∷ ‵ (flft κ₆ q₆) ∷ ‵ Own₁ ∷ ‵ Own₂ ∷ ‵ Own₄ ∷ ‵ Own₆ ∷ ‵ Own₇ ∷ ‵ (froom (sliceTy (tyRef erased mut (tyInt w16))) (past .30) 0) ∷ ‵ (froom (tyRef erased mut (tyInt w16)) (past .29) 0) ∷ ‵ (froom (sliceTy (tyRef erased mut (tyInt w8))) (past .28) 0) ∷ ‵ (froom (tyRef erased mut (tyInt w8)) (past .27) 0) ∷ ‵ (froom (tyRef erased imm (tyArray (tyInt w32) 128)) (past .26) 0) ∷ ‵ (froom (tyRef erased imm (tyArray (tyInt w32) 128)) (past .25) 0) ∷ ‵ (froom (tyRef erased imm (tyArray (tyInt w32) 128)) (past .24) 0) ∷ ‵ (froom (tyRef erased mut (tyArray (tyInt w8) 32)) (past .23) 0) ∷ ‵ (froom (tyRef erased mut (tyArray (tyInt w32) 32)) (past .22) 0) ∷ ‵ (froom (tyRef erased mut (tyArray (tyInt w32) 128)) (past .21) 0) ∷ ‵ (froom clock-laws.mir (past .20) 0) ∷ ‵ (froom arrival-laws.mir (past .19) 0) ∷ ‵ (froom flight-laws.mir (past .18) 0) ∷ ‵ (froom flushed-laws.mir (past .17) 0) ∷ ‵ (fat fullShare (tyInt w64) (past .16) 0 ((past .49))) ∷ ‵ (fat fullShare (tyArray record-laws.mir 32) (past .15) 0 ((past .45))) ∷ ‵ (fat fullShare (tyInt w64) (past .14) 0 ((past .42))) ∷ ‵ (fat fullShare (tyArray (tyInt w32) 32) (past .13) 0 ((only ((array-vals (uint-vals w32)) (h .outstanding))))) ∷ ‵ (fat fullShare clock-laws.mir (past .12) 0 ((only ((LL.vals clock-row.the-type clock-laws.the-laws) (h .clock))))) ∷ ‵ (fat fullShare arrival-laws.mir (past .11) 0 ((only ((LL.vals arrival-row.the-type arrival-laws.the-laws) (h .arrival))))) ∷ ‵ (fat fullShare flight-laws.mir (past .10) 0 ((only ((LL.vals flight-row.the-type flight-laws.the-laws) (h .flight))))) ∷ ‵ (fat fullShare settings-laws.mir (past .9) 0 ((only ((LL.vals settings-row.the-type settings-laws.the-laws) (h .settings))))) ∷ ‵ (fat fullShare (sliceTy (tyRef (named 6) mut (tyInt w16))) (past .8) 0 (s₇)) ∷ ‵ (fat fullShare (sliceTy (tyRef (named 5) mut (tyInt w8))) (past .7) 0 (s₆)) ∷ ‵ (fat fullShare (tyInt w32) (past .6) 0 (v₅)) ∷ ‵ (fat fullShare (sliceTy (tyRef (named 4) imm (tyInt w32))) (past .5) 0 (s₄)) ∷ ‵ (fat fullShare (sliceTy (tyRef (named 3) imm (pointee (R .written)))) (past .4) 0 (s₃)) ∷ ‵ (fat fullShare (sliceTy (tyRef (named 2) imm (tyInt w8))) (past .3) 0 (s₂)) ∷ ‵ (fat fullShare (sliceTy (tyRef (named 1) imm (tyInt w8))) (past .2) 0 (s₁)) ∷ ‵ (fat fullShare (tyRef (named 0) mut (pointee (L .written))) (past .1) 0 (vptr b o)) ∷ ‵ (froom flushed-laws.mir (past .0) 0) ∷ []) ∵ exec ! C Λ (En (past .0) (past .1) (past .2) (past .3) (past .4) (past .5) (past .6) (past .7) (past .8) (past .9) (past .10) (past .11) (past .12) (past .13) (past .14) (past .15) (past .16) (past .17) (past .18) (past .19) (past .20) (past .21) (past .22) (past .23) (past .24) (past .25) (past .26) (past .27) (past .28) (past .29) (past .30)) (behind 8 (code.function .body)) (atRet (En (past .0) (past .1) (past .2) (past .3) (past .4) (past .5) (past .6) (past .7) (past .8) (past .9) (past .10) (past .11) (past .12) (past .13) (past .14) (past .15) (past .16) (past .17) (past .18) (past .19) (past .20) (past .21) (past .22) (past .23) (past .24) (past .25) (past .26) (past .27) (past .28) (past .29) (past .30)) Post) $
-          assigns ! {v = (vptr b (o + 124))} (addr ! (from ! (hop ! (look ! 53 refl) (fld ! {d = 124} refl (stop !))))) (from ! (stop !)) (init ! 33 refl (tt, tt)) $
-          assigns ! {v = (vptr b (o + 636))} (addr ! (from ! (hop ! (look ! 53 refl) (fld ! {d = 636} refl (stop !))))) (from ! (stop !)) (init ! 32 refl (tt, tt)) $
-          assigns ! {v = (vptr b (o + 764))} (addr ! (from ! (hop ! (look ! 53 refl) (fld ! {d = 764} refl (stop !))))) (from ! (stop !)) (init ! 31 refl (tt, tt)) $
-          assigns ! {v = (vptr b (o + 796))} (addr ! (from ! (hop ! (look ! 53 refl) (fld ! {d = 796} refl (stop !))))) (from ! (stop !)) (init ! 30 refl (tt, tt)) $
-          assigns ! {v = (vptr b (o + 1308))} (addr ! (from ! (hop ! (look ! 53 refl) (fld ! {d = 1308} refl (stop !))))) (from ! (stop !)) (init ! 29 refl (tt, tt)) $
-          assigns ! {v = (vptr b (o + 1820))} (addr ! (from ! (hop ! (look ! 53 refl) (fld ! {d = 1820} refl (stop !))))) (from ! (stop !)) (init ! 28 refl (tt, tt)) $
-          assigns ! {v = (vptr (x₆ .ptr .0) (x₆ .ptr .1))} (addr ! (from ! (fld ! refl (hop ! (look-in ! 47 (sub ! 0 refl (whole !))) (stop !))))) (from ! (stop !)) (init ! 27 refl (tt, tt)) $
-          assigns ! {v = s₆} (agg ! (and-then ! (load ! (from ! (stop !)) (look ! 27 refl)) (and-then ! (load ! (from ! (fld ! refl (stop !))) (look-in ! 47 (sub ! 1 refl (whole !)))) (no-more !)))) (from ! (stop !)) (init ! 26 refl (tt, (tt, (record { fits = room₆ .0 }, tt)))) $
-          assigns ! {v = (vptr (x₇ .ptr .0) (x₇ .ptr .1))} (addr ! (from ! (fld ! refl (hop ! (look-in ! 46 (sub ! 0 refl (whole !))) (stop !))))) (from ! (stop !)) (init ! 25 refl (tt, tt)) $
-          assigns ! {v = s₇} (agg ! (and-then ! (load ! (from ! (stop !)) (look ! 25 refl)) (and-then ! (load ! (from ! (fld ! refl (stop !))) (look-in ! 46 (sub ! 1 refl (whole !)))) (no-more !)))) (from ! (stop !)) (init ! 24 refl (tt, (tt, (record { fits = room₇ .0 }, tt)))) $
-          move ! (10 ∷ []) $ lend-mut ! tt (Array u32 128) (h .queued) b (o + 124) (λ α-queued δ-queued. move ! (4 ∷ []) $ lend-mut ! tt (Array u32 32) (h .outstanding) b (o + 636) (λ α-outstanding δ-outstanding. move ! (14 ∷ []) $ lend-mut ! tt (Array u8 32) (h .transmissions) b (o + 764) (λ α-transmissions δ-transmissions. move ! (16 ∷ []) $ lend-shr ! tt fullShare (Array u32 128) (h .ready) b (o + 796) (λ α-ready δ-ready. move ! (18 ∷ []) $ lend-shr ! tt fullShare (Array u32 128) (h .waiting) b (o + 1308) (λ α-waiting δ-waiting. move ! (20 ∷ []) $ lend-shr ! tt fullShare (Array u32 128) (h .«waiting_numbers») b (o + 1820) (λ α-waiting-numbers δ-waiting-numbers. move ! (15 ∷ 16 ∷ 12 ∷ 13 ∷ 9 ∷ 10 ∷ 6 ∷ 7 ∷ 3 ∷ 4 ∷ 0 ∷ 1 ∷ 26 ∷ 31 ∷ 27 ∷ 32 ∷ 28 ∷ 33 ∷ 29 ∷ 34 ∷ 30 ∷ 35 ∷ []) $ group ! 22 $ calls-fn ! fm core.ended (core.clauses 𝓤 H A at-mem run) (known .3) (to-core α-queued δ-queued (h .queued) α-outstanding δ-outstanding (h .outstanding) α-transmissions δ-transmissions (h .transmissions) α-ready δ-ready (h .ready) α-waiting δ-waiting (h .waiting) α-waiting-numbers δ-waiting-numbers (h .«waiting_numbers») (h .settings) (only ((LL.vals settings-row.the-type settings-laws.the-laws) (h .settings))) (h .flight) (only ((LL.vals flight-row.the-type flight-laws.the-laws) (h .flight))) (h .arrival) (only ((LL.vals arrival-row.the-type arrival-laws.the-laws) (h .arrival))) (h .clock) (only ((LL.vals clock-row.the-type clock-laws.the-laws) (h .clock))) (past .44) (past .45) (past .48) (past .49) x₅ v₅) (λ a ws-a. Core h (past .44) (past .48) (x₁ .now) (x₂ .now) (x₄ .now) x₅ (x₆ .now) (x₇ .now) a (linkOf (h .settings) (a .flight) (a .arrival) (a .clock) (arrays (ws-a .1 .1 .1 .1 .1 .1 .0) (ws-a .1 .1 .1 .1 .1 .1 .1 .0) (ws-a .1 .1 .1 .1 .1 .1 .1 .1 .0) (h .ready) (h .waiting) (h .«waiting_numbers»))) (ws-a .1 .1 .1 .1 .1 .1 .1 .1 .1 .1 .1 .1 .1 .1 .1 .1 .0) (ws-a .1 .1 .1 .1 .1 .1 .1 .1 .1 .1 .1 .1 .1 .1 .1 .1 .1 .0)) (‵ (flft (α-queued ∷ []) fullShare) ⊛ ‵ (MutRef (named 0) (α-queued ∷ []) (Array u32 128) .own (ref-at b (o + 124) δ-queued (h .queued)) ((vptr b (o + 124)) ∷ [])) ⊛ ‵ (flft (α-outstanding ∷ []) fullShare) ⊛ ‵ (MutRef (named 0) (α-outstanding ∷ []) (Array u32 32) .own (ref-at b (o + 636) δ-outstanding (h .outstanding)) ((vptr b (o + 636)) ∷ [])) ⊛ ‵ (flft (α-transmissions ∷ []) fullShare) ⊛ ‵ (MutRef (named 0) (α-transmissions ∷ []) (Array u8 32) .own (ref-at b (o + 764) δ-transmissions (h .transmissions)) ((vptr b (o + 764)) ∷ [])) ⊛ ‵ (flft (α-ready ∷ []) fullShare) ⊛ ‵ (ShrRef (named 0) (α-ready ∷ []) (Array u32 128) .own (ref-at b (o + 796) δ-ready (h .ready)) ((vptr b (o + 796)) ∷ [])) ⊛ ‵ (flft (α-waiting ∷ []) fullShare) ⊛ ‵ (ShrRef (named 0) (α-waiting ∷ []) (Array u32 128) .own (ref-at b (o + 1308) δ-waiting (h .waiting)) ((vptr b (o + 1308)) ∷ [])) ⊛ ‵ (flft (α-waiting-numbers ∷ []) fullShare) ⊛ ‵ (ShrRef (named 0) (α-waiting-numbers ∷ []) (Array u32 128) .own (ref-at b (o + 1820) δ-waiting-numbers (h .«waiting_numbers»)) ((vptr b (o + 1820)) ∷ [])) ⊛ ‵ (flft κ₁ q₁) ⊛ ‵ Own₁ ⊛ ‵ (flft κ₂ q₂) ⊛ ‵ Own₂ ⊛ ‵ (flft κ₄ q₄) ⊛ ‵ Own₄ ⊛ ‵ (flft κ₅ q₅) ⊛ ‵ Own₆ ⊛ ‵ (flft κ₆ q₆) ⊛ ‵ Own₇)
-          (asks-core α-queued δ-queued (h .queued) α-outstanding δ-outstanding (h .outstanding) α-transmissions δ-transmissions (h .transmissions) α-ready δ-ready (h .ready) α-waiting δ-waiting (h .waiting) α-waiting-numbers δ-waiting-numbers (h .«waiting_numbers») (h .settings) (only ((LL.vals settings-row.the-type settings-laws.the-laws) (h .settings))) (past .37) (h .flight) (only ((LL.vals flight-row.the-type flight-laws.the-laws) (h .flight))) (past .38) (h .arrival) (only ((LL.vals arrival-row.the-type arrival-laws.the-laws) (h .arrival))) (past .39) (h .clock) (only ((LL.vals clock-row.the-type clock-laws.the-laws) (h .clock))) (past .40) (past .44) (past .45) (past .47) (past .48) (past .49) (past .51) x₅ v₅ g₅ (record { whole-queued = (past .31); whole-outstanding = (past .32); whole-transmissions = (past .33); whole-ready = (past .34); whole-waiting = (past .35); whole-numbers = (past .36) })) (λ a ws-a. id⊢ 𝓤 _)
-          (and-then ! (load ! (from ! (stop !)) (look ! 36 refl)) (and-then ! (load ! (from ! (stop !)) (look ! 35 refl)) (and-then ! (load ! (from ! (stop !)) (look ! 34 refl)) (and-then ! (load ! (from ! (stop !)) (look ! 33 refl)) (and-then ! (load ! (from ! (stop !)) (look ! 30 refl)) (and-then ! (load ! (from ! (stop !)) (look ! 29 refl)) (and-then ! (load ! (from ! (stop !)) (look ! 24 refl)) (and-then ! (load ! (from ! (stop !)) (look ! 23 refl)) (and-then ! (load ! (from ! (stop !)) (look ! 22 refl)) (and-then ! (load ! (from ! (stop !)) (look ! 21 refl)) (and-then ! (load ! (from ! (stop !)) (look ! 20 refl)) (and-then ! (load ! (from ! (stop !)) (look ! 19 refl)) (and-then ! (load ! (from ! (stop !)) (look ! 43 refl)) (and-then ! (load ! (from ! (stop !)) (look ! 42 refl)) (and-then ! (load ! (from ! (stop !)) (look ! 40 refl)) (and-then ! (load ! (from ! (stop !)) (look ! 39 refl)) (and-then ! (load ! (from ! (stop !)) (look ! 17 refl)) (and-then ! (load ! (from ! (stop !)) (look ! 15 refl)) (no-more !))))))))))))))))))) (λ a w-a ws-a e-a is-a. land ! (from ! (stop !)) (init ! 29 refl (LL.lawful flushed-row.the-type flushed-laws.the-laws 𝓤 H A W .typed a (w-a ∷ []) is-a .0)) $
-          spread W (‵ (flft (α-queued ∷ []) fullShare)) (‵ (flft (α-outstanding ∷ []) fullShare) ∷ ‵ (flft (α-transmissions ∷ []) fullShare) ∷ ‵ (flft (α-ready ∷ []) fullShare) ∷ ‵ (flft (α-waiting ∷ []) fullShare) ∷ ‵ (flft (α-waiting-numbers ∷ []) fullShare) ∷ ‵ (flft κ₁ q₁) ∷ ‵ (flft κ₂ q₂) ∷ ‵ (flft κ₄ q₄) ∷ ‵ (flft κ₅ q₅) ∷ ‵ (flft κ₆ q₆) ∷ ‵ ftrue ∷ []) (id⊢ 𝓤 _) $ move ! (12 ∷ []) $ spread W (‵ ftrue) (‵ ftrue ∷ ‵ ftrue ∷ ‵ ftrue ∷ ‵ ftrue ∷ ‵ ftrue ∷ ‵ (fres δ-queued ((Array u32 128) .coded .code (ws-a .1 .1 .1 .1 .1 .1 .0))) ∷ ‵ (fres δ-outstanding ((Array u32 32) .coded .code (ws-a .1 .1 .1 .1 .1 .1 .1 .0))) ∷ ‵ (fres δ-transmissions ((Array u8 32) .coded .code (ws-a .1 .1 .1 .1 .1 .1 .1 .1 .0))) ∷ ‵ ftrue ∷ ‵ ftrue ∷ ‵ ftrue ∷ ‵ ftrue ∷ ‵ ftrue ∷ ‵ ftrue ∷ ‵ ftrue ∷ ‵ (fsep (finally u8 (x₆ .name) (ws-a .1 .1 .1 .1 .1 .1 .1 .1 .1 .1 .1 .1 .1 .1 .1 .1 .0)) (feq ℕ (length (ws-a .1 .1 .1 .1 .1 .1 .1 .1 .1 .1 .1 .1 .1 .1 .1 .1 .0)) (length (x₆ .now)))) ∷ ‵ (fsep (finally u16 (x₇ .name) (ws-a .1 .1 .1 .1 .1 .1 .1 .1 .1 .1 .1 .1 .1 .1 .1 .1 .1 .0)) (feq ℕ (length (ws-a .1 .1 .1 .1 .1 .1 .1 .1 .1 .1 .1 .1 .1 .1 .1 .1 .1 .0)) (length (x₇ .now)))) ∷ ‵ ftrue ∷ []) (id⊢ 𝓤 _) $ keep ! (6 ∷ 7 ∷ 8 ∷ 16 ∷ 17 ∷ 19 ∷ 20 ∷ 21 ∷ 22 ∷ 23 ∷ 24 ∷ 25 ∷ 26 ∷ 27 ∷ 28 ∷ 29 ∷ 31 ∷ 32 ∷ 33 ∷ 34 ∷ 35 ∷ 36 ∷ 37 ∷ 38 ∷ 39 ∷ 40 ∷ 41 ∷ 42 ∷ 43 ∷ 44 ∷ 45 ∷ 46 ∷ 47 ∷ 48 ∷ 49 ∷ 50 ∷ 51 ∷ 52 ∷ 53 ∷ 54 ∷ 55 ∷ 56 ∷ 57 ∷ 58 ∷ 59 ∷ 60 ∷ 61 ∷ 62 ∷ 63 ∷ 64 ∷ 65 ∷ 66 ∷ 67 ∷ 68 ∷ 69 ∷ 70 ∷ 71 ∷ 72 ∷ 73 ∷ 74 ∷ 75 ∷ []) $ move ! (3 ∷ []) $ fsplit ! $ move ! (1 ∷ []) $ feqL ! (λ len₆. move ! (4 ∷ []) $ fsplit ! $ move ! (1 ∷ []) $ feqL ! (λ len₇.
-          -- [fin7; fin6; fin:queued; fin:outstanding; fin:transmissions; tok:queued; tok:outstanding; tok:transmissions; tok:ready; tok:waiting; tok:«waiting_numbers»; tok1; tok2; tok4; tok6; tok7; lent:«waiting_numbers»; lent:waiting; lent:ready; lent:transmissions; lent:outstanding; lent:queued; tok3; F:clock; F:arrival; F:flight; F:settings; back; opened; deaths; the locals]
-          move ! (5 ∷ 21 ∷ 2 ∷ []) $ back-mut ! tt (Array u32 128) b (o + 124) (ws-a .1 .1 .1 .1 .1 .1 .0) $ move ! (5 ∷ 19 ∷ 3 ∷ []) $ back-mut ! tt (Array u32 32) b (o + 636) (ws-a .1 .1 .1 .1 .1 .1 .1 .0) $ move ! (5 ∷ 17 ∷ 4 ∷ []) $ back-mut ! tt (Array u8 32) b (o + 764) (ws-a .1 .1 .1 .1 .1 .1 .1 .1 .0) $ move ! (5 ∷ 15 ∷ []) $ back-shr ! tt fullShare (Array u32 128) b (o + 796) (h .ready) $ move ! (6 ∷ 14 ∷ []) $ back-shr ! tt fullShare (Array u32 128) b (o + 1308) (h .waiting) $ move ! (7 ∷ 13 ∷ []) $ back-shr ! tt fullShare (Array u32 128) b (o + 1820) (h .«waiting_numbers») $ by ! (part₂ ((ws-a .1 .1 .1 .1 .1 .1 .1 .1 .1 .1 .1 .1 .1 .1 .1 .1 .1 .0), (ws-a .1 .1 .1 .1 .1 .1 .1 .1 .1 .1 .1 .1 .1 .1 .1 .1 .0), (ws-a .1 .1 .1 .1 .1 .1 .1 .1 .0), (ws-a .1 .1 .1 .1 .1 .1 .1 .0), (ws-a .1 .1 .1 .1 .1 .1 .0), (past .0), (past .1), (past .2), (past .3), (past .4), (past .5), (past .6), (past .7), (past .8), (past .9), (past .10), (past .11), (past .12), (past .13), (past .14), (past .15), (past .16), (past .17), (past .18), (past .19), (past .20), (past .21), (past .22), (past .23), (past .24), (past .25), (past .26), (past .27), (past .28), (past .29), (past .30), (past .41), (past .42), (past .43), (past .44), (past .45), (past .46), (past .48), (past .49), (past .50), a, w-a, e-a, is-a, len₆, len₇)))))))))))
+          qed W (‵ (flft κ₃ q₃) ∷ ‵ (partAt (Array u32 32) fullShare (h .outstanding) b (o + 636))
+          ∷ ‵ (partAt clock-row.the-row fullShare (h .clock) b (o + 104))
+          ∷ ‵ (partAt arrival-row.the-row fullShare (h .arrival) b (o + 72))
+          ∷ ‵ (partAt flight-row.the-row fullShare (h .flight) b (o + 16))
+          ∷ ‵ (partAt settings-row.the-row fullShare (h .settings) b (o + 0))
+          ∷ ‵ (partAt (Array u32 128) fullShare (h .«waiting_numbers») b (o + 1820))
+          ∷ ‵ (partAt (Array u32 128) fullShare (h .waiting) b (o + 1308)) ∷ ‵ (partAt (Array u32 128) fullShare (h .ready) b (o + 796))
+          ∷ ‵ (partAt (Array u8 32) fullShare (h .transmissions) b (o + 764))
+          ∷ ‵ (partAt (Array u32 128) fullShare (h .queued) b (o + 124)) ∷ raw (Back 𝓤 H A fullShare b o) ∷ ‵ (Open b o γ κ₀ q₀ h)
+          ∷ (‵ (fdies flushed-laws.mir (past .0)) ⊛ ‵ (fdies (tyRef (named 0) mut (pointee (L .written))) (past .1)) ⊛ ‵
+          (fdies (sliceTy (tyRef (named 1) imm (tyInt w8))) (past .2)) ⊛ ‵ (fdies (sliceTy (tyRef (named 2) imm (tyInt w8))) (past .3))
+          ⊛ ‵ (fdies (sliceTy (tyRef (named 3) imm (pointee (R .written)))) (past .4)) ⊛ ‵
+          (fdies (sliceTy (tyRef (named 4) imm (tyInt w32))) (past .5)) ⊛ ‵ (fdies tyBool (past .6)) ⊛ ‵ (fdies (tyInt w32) (past .7)) ⊛
+          ‵ (fdies (sliceTy (tyRef (named 5) mut (tyInt w8))) (past .8)) ⊛ ‵
+          (fdies (sliceTy (tyRef (named 6) mut (tyInt w16))) (past .9)) ⊛ ‵ (fdies settings-laws.mir (past .10)) ⊛ ‵
+          (fdies flight-laws.mir (past .11)) ⊛ ‵ (fdies arrival-laws.mir (past .12)) ⊛ ‵ (fdies clock-laws.mir (past .13)) ⊛ ‵
+          (fdies (tyArray (tyInt w32) 32) (past .14)) ⊛ ‵ (fdies (tyInt w64) (past .15)) ⊛ ‵
+          (fdies (tyArray record-laws.mir 32) (past .16)) ⊛ ‵ (fdies (tyInt w64) (past .17)) ⊛ ‵ (fdies flushed-laws.mir (past .18)) ⊛ ‵
+          (fdies flight-laws.mir (past .19)) ⊛ ‵ (fdies arrival-laws.mir (past .20)) ⊛ ‵ (fdies clock-laws.mir (past .21)) ⊛ ‵
+          (fdies (tyRef erased mut (tyArray (tyInt w32) 128)) (past .22)) ⊛ ‵
+          (fdies (tyRef erased mut (tyArray (tyInt w32) 32)) (past .23)) ⊛ ‵
+          (fdies (tyRef erased mut (tyArray (tyInt w8) 32)) (past .24)) ⊛ ‵
+          (fdies (tyRef erased imm (tyArray (tyInt w32) 128)) (past .25)) ⊛ ‵
+          (fdies (tyRef erased imm (tyArray (tyInt w32) 128)) (past .26)) ⊛ ‵
+          (fdies (tyRef erased imm (tyArray (tyInt w32) 128)) (past .27)) ⊛ ‵ (fdies (tyRef erased mut (tyInt w8)) (past .28)) ⊛ ‵
+          (fdies (sliceTy (tyRef erased mut (tyInt w8))) (past .29)) ⊛ ‵ (fdies (tyRef erased mut (tyInt w16)) (past .30)) ⊛ ‵
+          (fdies (sliceTy (tyRef erased mut (tyInt w16))) (past .31))) ∷ ‵ (flft κ₁ q₁) ∷ ‵ (flft κ₂ q₂) ∷ ‵ (flft κ₄ q₄)
+          ∷ ‵ (flft κ₅ q₅) ∷ ‵ (flft κ₆ q₆) ∷ ‵ Own₁ ∷ ‵ Own₂ ∷ ‵ Own₄ ∷ ‵ Own₇ ∷ ‵ Own₈
+          ∷ ‵ (froom (sliceTy (tyRef erased mut (tyInt w16))) (past .31) 0) ∷ ‵ (froom (tyRef erased mut (tyInt w16)) (past .30) 0)
+          ∷ ‵ (froom (sliceTy (tyRef erased mut (tyInt w8))) (past .29) 0) ∷ ‵ (froom (tyRef erased mut (tyInt w8)) (past .28) 0)
+          ∷ ‵ (froom (tyRef erased imm (tyArray (tyInt w32) 128)) (past .27) 0)
+          ∷ ‵ (froom (tyRef erased imm (tyArray (tyInt w32) 128)) (past .26) 0)
+          ∷ ‵ (froom (tyRef erased imm (tyArray (tyInt w32) 128)) (past .25) 0)
+          ∷ ‵ (froom (tyRef erased mut (tyArray (tyInt w8) 32)) (past .24) 0)
+          ∷ ‵ (froom (tyRef erased mut (tyArray (tyInt w32) 32)) (past .23) 0)
+          ∷ ‵ (froom (tyRef erased mut (tyArray (tyInt w32) 128)) (past .22) 0) ∷ ‵ (froom clock-laws.mir (past .21) 0)
+          ∷ ‵ (froom arrival-laws.mir (past .20) 0) ∷ ‵ (froom flight-laws.mir (past .19) 0) ∷ ‵ (froom flushed-laws.mir (past .18) 0)
+          ∷ ‵ (fat fullShare (tyInt w64) (past .17) 0 ((past .50)))
+          ∷ ‵ (fat fullShare (tyArray record-laws.mir 32) (past .16) 0 ((past .46)))
+          ∷ ‵ (fat fullShare (tyInt w64) (past .15) 0 ((past .43)))
+          ∷ ‵ (fat fullShare (tyArray (tyInt w32) 32) (past .14) 0 ((only ((array-vals (uint-vals w32)) (h .outstanding)))))
+          ∷ ‵ (fat fullShare clock-laws.mir (past .13) 0 ((only ((LL.vals clock-row.the-type clock-laws.the-laws) (h .clock)))))
+          ∷ ‵ (fat fullShare arrival-laws.mir (past .12) 0 ((only ((LL.vals arrival-row.the-type arrival-laws.the-laws) (h .arrival)))))
+          ∷ ‵ (fat fullShare flight-laws.mir (past .11) 0 ((only ((LL.vals flight-row.the-type flight-laws.the-laws) (h .flight)))))
+          ∷ ‵ (fat fullShare settings-laws.mir (past .10) 0
+          ((only ((LL.vals settings-row.the-type settings-laws.the-laws) (h .settings)))))
+          ∷ ‵ (fat fullShare (sliceTy (tyRef (named 6) mut (tyInt w16))) (past .9) 0 (s₈))
+          ∷ ‵ (fat fullShare (sliceTy (tyRef (named 5) mut (tyInt w8))) (past .8) 0 (s₇))
+          ∷ ‵ (fat fullShare (tyInt w32) (past .7) 0 (v₆)) ∷ ‵ (fat fullShare tyBool (past .6) 0 (v₅))
+          ∷ ‵ (fat fullShare (sliceTy (tyRef (named 4) imm (tyInt w32))) (past .5) 0 (s₄))
+          ∷ ‵ (fat fullShare (sliceTy (tyRef (named 3) imm (pointee (R .written)))) (past .4) 0 (s₃))
+          ∷ ‵ (fat fullShare (sliceTy (tyRef (named 2) imm (tyInt w8))) (past .3) 0 (s₂))
+          ∷ ‵ (fat fullShare (sliceTy (tyRef (named 1) imm (tyInt w8))) (past .2) 0 (s₁))
+          ∷ ‵ (fat fullShare (tyRef (named 0) mut (pointee (L .written))) (past .1) 0 (vptr b o))
+          ∷ ‵ (froom flushed-laws.mir (past .0) 0) ∷ []) ∵
+          exec ! C Λ (En (past .0) (past .1) (past .2) (past .3) (past .4) (past .5) (past .6) (past .7) (past .8) (past .9) (past .10)
+          (past .11) (past .12) (past .13) (past .14) (past .15) (past .16) (past .17) (past .18) (past .19) (past .20) (past .21)
+          (past .22) (past .23) (past .24) (past .25) (past .26) (past .27) (past .28) (past .29) (past .30) (past .31))
+          (behind 8 (code.function .body)) (atRet (En (past .0) (past .1) (past .2) (past .3) (past .4) (past .5) (past .6) (past .7)
+          (past .8) (past .9) (past .10) (past .11) (past .12) (past .13) (past .14) (past .15) (past .16) (past .17) (past .18)
+          (past .19) (past .20) (past .21) (past .22) (past .23) (past .24) (past .25) (past .26) (past .27) (past .28) (past .29)
+          (past .30) (past .31)) Post) $
+          assigns ! {v = (vptr b (o + 124))} (addr ! (from ! (hop ! (look ! 54 refl) (fld ! {d = 124} refl (stop !))))) (from ! (stop !))
+          (init ! 33 refl (tt, tt)) $
+          assigns ! {v = (vptr b (o + 636))} (addr ! (from ! (hop ! (look ! 54 refl) (fld ! {d = 636} refl (stop !))))) (from ! (stop !))
+          (init ! 32 refl (tt, tt)) $
+          assigns ! {v = (vptr b (o + 764))} (addr ! (from ! (hop ! (look ! 54 refl) (fld ! {d = 764} refl (stop !))))) (from ! (stop !))
+          (init ! 31 refl (tt, tt)) $
+          assigns ! {v = (vptr b (o + 796))} (addr ! (from ! (hop ! (look ! 54 refl) (fld ! {d = 796} refl (stop !))))) (from ! (stop !))
+          (init ! 30 refl (tt, tt)) $
+          assigns ! {v = (vptr b (o + 1308))} (addr ! (from ! (hop ! (look ! 54 refl) (fld ! {d = 1308} refl (stop !))))) (from ! (stop !))
+          (init ! 29 refl (tt, tt)) $
+          assigns ! {v = (vptr b (o + 1820))} (addr ! (from ! (hop ! (look ! 54 refl) (fld ! {d = 1820} refl (stop !))))) (from ! (stop !))
+          (init ! 28 refl (tt, tt)) $
+          assigns ! {v = (vptr (x₇ .ptr .0) (x₇ .ptr .1))}
+          (addr ! (from ! (fld ! refl (hop ! (look-in ! 47 (sub ! 0 refl (whole !))) (stop !))))) (from ! (stop !))
+          (init ! 27 refl (tt, tt)) $
+          assigns ! {v = s₇} (agg ! (and-then ! (load ! (from ! (stop !)) (look ! 27 refl))
+          (and-then ! (load ! (from ! (fld ! refl (stop !))) (look-in ! 47 (sub ! 1 refl (whole !)))) (no-more !)))) (from ! (stop !))
+          (init ! 26 refl (tt, (tt, (record { fits = room₇ .0 }, tt)))) $
+          assigns ! {v = (vptr (x₈ .ptr .0) (x₈ .ptr .1))}
+          (addr ! (from ! (fld ! refl (hop ! (look-in ! 46 (sub ! 0 refl (whole !))) (stop !))))) (from ! (stop !))
+          (init ! 25 refl (tt, tt)) $
+          assigns ! {v = s₈} (agg ! (and-then ! (load ! (from ! (stop !)) (look ! 25 refl))
+          (and-then ! (load ! (from ! (fld ! refl (stop !))) (look-in ! 46 (sub ! 1 refl (whole !)))) (no-more !)))) (from ! (stop !))
+          (init ! 24 refl (tt, (tt, (record { fits = room₈ .0 }, tt)))) $
+          move ! (10 ∷ []) $ lend-mut ! tt (Array u32 128) (h .queued) b (o + 124)
+          (λ α-queued δ-queued. move ! (4 ∷ []) $
+          lend-mut ! tt (Array u32 32) (h .outstanding) b (o + 636)
+          (λ α-outstanding δ-outstanding. move ! (14 ∷ []) $
+          lend-mut ! tt (Array u8 32) (h .transmissions) b (o + 764)
+          (λ α-transmissions δ-transmissions. move ! (16 ∷ []) $
+          lend-shr ! tt fullShare (Array u32 128) (h .ready) b (o + 796)
+          (λ α-ready δ-ready. move ! (18 ∷ []) $
+          lend-shr ! tt fullShare (Array u32 128) (h .waiting) b (o + 1308)
+          (λ α-waiting δ-waiting. move ! (20 ∷ []) $
+          lend-shr ! tt fullShare (Array u32 128) (h .«waiting_numbers») b (o + 1820)
+          (λ α-waiting-numbers δ-waiting-numbers. move ! (15 ∷ 16 ∷ 12 ∷ 13 ∷ 9 ∷ 10 ∷ 6 ∷ 7 ∷ 3 ∷ 4 ∷ 0 ∷ 1 ∷ 26 ∷ 31 ∷ 27 ∷ 32 ∷ 28
+          ∷ 33 ∷ 29 ∷ 34 ∷ 30 ∷ 35 ∷ []) $ group ! 22 $
+          calls-fn ! fm core.ended (core.clauses 𝓤 H A at-mem run) (known .3)
+          (to-core α-queued δ-queued (h .queued) α-outstanding δ-outstanding (h .outstanding) α-transmissions δ-transmissions
+          (h .transmissions) α-ready δ-ready (h .ready) α-waiting δ-waiting (h .waiting) α-waiting-numbers δ-waiting-numbers
+          (h .«waiting_numbers») (h .settings) (only ((LL.vals settings-row.the-type settings-laws.the-laws) (h .settings))) (h .flight)
+          (only ((LL.vals flight-row.the-type flight-laws.the-laws) (h .flight))) (h .arrival)
+          (only ((LL.vals arrival-row.the-type arrival-laws.the-laws) (h .arrival))) (h .clock)
+          (only ((LL.vals clock-row.the-type clock-laws.the-laws) (h .clock))) (past .45) (past .46) (past .49) (past .50) x₅ v₅ x₆ v₆)
+          (λ a ws-a. Core x₅ h (past .45) (past .49) (x₁ .now) (x₂ .now) (x₄ .now) x₆ (x₇ .now) (x₈ .now) a
+          (linkOf (h .settings) (a .flight) (a .arrival) (a .clock)
+          (arrays (ws-a .1 .1 .1 .1 .1 .1 .1 .0) (ws-a .1 .1 .1 .1 .1 .1 .1 .1 .0) (ws-a .1 .1 .1 .1 .1 .1 .1 .1 .1 .0) (h .ready)
+          (h .waiting) (h .«waiting_numbers»))) (ws-a .1 .1 .1 .1 .1 .1 .1 .1 .1 .1 .1 .1 .1 .1 .1 .1 .1 .0)
+          (ws-a .1 .1 .1 .1 .1 .1 .1 .1 .1 .1 .1 .1 .1 .1 .1 .1 .1 .1 .0))
+          (‵ (flft (α-queued ∷ []) fullShare) ⊛ ‵ (MutRef (named 0) (α-queued ∷ []) (Array u32 128) .own
+          (ref-at b (o + 124) δ-queued (h .queued)) ((vptr b (o + 124)) ∷ [])) ⊛ ‵ (flft (α-outstanding ∷ []) fullShare) ⊛ ‵
+          (MutRef (named 0) (α-outstanding ∷ []) (Array u32 32) .own (ref-at b (o + 636) δ-outstanding (h .outstanding))
+          ((vptr b (o + 636)) ∷ [])) ⊛ ‵ (flft (α-transmissions ∷ []) fullShare) ⊛ ‵
+          (MutRef (named 0) (α-transmissions ∷ []) (Array u8 32) .own (ref-at b (o + 764) δ-transmissions (h .transmissions))
+          ((vptr b (o + 764)) ∷ [])) ⊛ ‵ (flft (α-ready ∷ []) fullShare) ⊛ ‵
+          (ShrRef (named 0) (α-ready ∷ []) (Array u32 128) .own (ref-at b (o + 796) δ-ready (h .ready)) ((vptr b (o + 796)) ∷ [])) ⊛ ‵
+          (flft (α-waiting ∷ []) fullShare) ⊛ ‵ (ShrRef (named 0) (α-waiting ∷ []) (Array u32 128) .own
+          (ref-at b (o + 1308) δ-waiting (h .waiting)) ((vptr b (o + 1308)) ∷ [])) ⊛ ‵ (flft (α-waiting-numbers ∷ []) fullShare) ⊛ ‵
+          (ShrRef (named 0) (α-waiting-numbers ∷ []) (Array u32 128) .own (ref-at b (o + 1820) δ-waiting-numbers (h .«waiting_numbers»))
+          ((vptr b (o + 1820)) ∷ [])) ⊛ ‵ (flft κ₁ q₁) ⊛ ‵ Own₁ ⊛ ‵ (flft κ₂ q₂) ⊛ ‵ Own₂ ⊛ ‵ (flft κ₄ q₄) ⊛ ‵ Own₄ ⊛ ‵ (flft κ₅ q₅) ⊛ ‵
+          Own₇ ⊛ ‵ (flft κ₆ q₆) ⊛ ‵ Own₈)
+          (asks-core α-queued δ-queued (h .queued) α-outstanding δ-outstanding (h .outstanding) α-transmissions δ-transmissions
+          (h .transmissions) α-ready δ-ready (h .ready) α-waiting δ-waiting (h .waiting) α-waiting-numbers δ-waiting-numbers
+          (h .«waiting_numbers») (h .settings) (only ((LL.vals settings-row.the-type settings-laws.the-laws) (h .settings))) (past .38)
+          (h .flight) (only ((LL.vals flight-row.the-type flight-laws.the-laws) (h .flight))) (past .39) (h .arrival)
+          (only ((LL.vals arrival-row.the-type arrival-laws.the-laws) (h .arrival))) (past .40) (h .clock)
+          (only ((LL.vals clock-row.the-type clock-laws.the-laws) (h .clock))) (past .41) (past .45) (past .46) (past .48) (past .49)
+          (past .50) (past .52) x₅ v₅ g₅ x₆ v₆ g₆ (record {
+            whole-queued = (past .32);
+            whole-outstanding = (past .33);
+            whole-transmissions = (past .34);
+            whole-ready = (past .35);
+            whole-waiting = (past .36);
+            whole-numbers = (past .37);
+          })) (λ a ws-a. id⊢ 𝓤 _)
+          (and-then ! (load ! (from ! (stop !)) (look ! 36 refl))
+          (and-then ! (load ! (from ! (stop !)) (look ! 35 refl))
+          (and-then ! (load ! (from ! (stop !)) (look ! 34 refl))
+          (and-then ! (load ! (from ! (stop !)) (look ! 33 refl))
+          (and-then ! (load ! (from ! (stop !)) (look ! 30 refl))
+          (and-then ! (load ! (from ! (stop !)) (look ! 29 refl))
+          (and-then ! (load ! (from ! (stop !)) (look ! 40 refl))
+          (and-then ! (load ! (from ! (stop !)) (look ! 24 refl))
+          (and-then ! (load ! (from ! (stop !)) (look ! 23 refl))
+          (and-then ! (load ! (from ! (stop !)) (look ! 22 refl))
+          (and-then ! (load ! (from ! (stop !)) (look ! 21 refl))
+          (and-then ! (load ! (from ! (stop !)) (look ! 20 refl))
+          (and-then ! (load ! (from ! (stop !)) (look ! 19 refl))
+          (and-then ! (load ! (from ! (stop !)) (look ! 44 refl))
+          (and-then ! (load ! (from ! (stop !)) (look ! 43 refl))
+          (and-then ! (load ! (from ! (stop !)) (look ! 41 refl))
+          (and-then ! (load ! (from ! (stop !)) (look ! 39 refl))
+          (and-then ! (load ! (from ! (stop !)) (look ! 17 refl))
+          (and-then ! (load ! (from ! (stop !)) (look ! 15 refl)) (no-more !))))))))))))))))))))
+          (λ a w-a ws-a e-a is-a. land ! (from ! (stop !))
+          (init ! 29 refl (LL.lawful flushed-row.the-type flushed-laws.the-laws 𝓤 H A W .typed a (w-a ∷ []) is-a .0)) $
+          spread W (‵ (flft (α-queued ∷ []) fullShare))
+          (‵ (flft (α-outstanding ∷ []) fullShare) ∷ ‵ (flft (α-transmissions ∷ []) fullShare) ∷ ‵ (flft (α-ready ∷ []) fullShare)
+          ∷ ‵ (flft (α-waiting ∷ []) fullShare) ∷ ‵ (flft (α-waiting-numbers ∷ []) fullShare) ∷ ‵ (flft κ₁ q₁) ∷ ‵ (flft κ₂ q₂)
+          ∷ ‵ (flft κ₄ q₄) ∷ ‵ (flft κ₅ q₅) ∷ ‵ (flft κ₆ q₆) ∷ ‵ ftrue ∷ []) (id⊢ 𝓤 _) $ move ! (12 ∷ []) $
+          spread W (‵ ftrue) (‵ ftrue ∷ ‵ ftrue ∷ ‵ ftrue ∷ ‵ ftrue ∷ ‵ ftrue ∷ ‵ ftrue
+          ∷ ‵ (fres δ-queued ((Array u32 128) .coded .code (ws-a .1 .1 .1 .1 .1 .1 .1 .0)))
+          ∷ ‵ (fres δ-outstanding ((Array u32 32) .coded .code (ws-a .1 .1 .1 .1 .1 .1 .1 .1 .0)))
+          ∷ ‵ (fres δ-transmissions ((Array u8 32) .coded .code (ws-a .1 .1 .1 .1 .1 .1 .1 .1 .1 .0))) ∷ ‵ ftrue ∷ ‵ ftrue ∷ ‵ ftrue
+          ∷ ‵ ftrue ∷ ‵ ftrue ∷ ‵ ftrue ∷ ‵ ftrue
+          ∷ ‵ (fsep (finally u8 (x₇ .name) (ws-a .1 .1 .1 .1 .1 .1 .1 .1 .1 .1 .1 .1 .1 .1 .1 .1 .1 .0))
+          (feq ℕ (length (ws-a .1 .1 .1 .1 .1 .1 .1 .1 .1 .1 .1 .1 .1 .1 .1 .1 .1 .0)) (length (x₇ .now))))
+          ∷ ‵ (fsep (finally u16 (x₈ .name) (ws-a .1 .1 .1 .1 .1 .1 .1 .1 .1 .1 .1 .1 .1 .1 .1 .1 .1 .1 .0))
+          (feq ℕ (length (ws-a .1 .1 .1 .1 .1 .1 .1 .1 .1 .1 .1 .1 .1 .1 .1 .1 .1 .1 .0)) (length (x₈ .now)))) ∷ ‵ ftrue ∷ [])
+          (id⊢ 𝓤 _) $ keep ! (7 ∷ 8 ∷ 9 ∷ 17 ∷ 18 ∷ 20 ∷ 21 ∷ 22 ∷ 23 ∷ 24 ∷ 25 ∷ 26 ∷ 27 ∷ 28 ∷ 29 ∷ 30 ∷ 32 ∷ 33 ∷ 34 ∷ 35 ∷ 36 ∷ 37
+          ∷ 38 ∷ 39 ∷ 40 ∷ 41 ∷ 42 ∷ 43 ∷ 44 ∷ 45 ∷ 46 ∷ 47 ∷ 48 ∷ 49 ∷ 50 ∷ 51 ∷ 52 ∷ 53 ∷ 54 ∷ 55 ∷ 56 ∷ 57 ∷ 58 ∷ 59 ∷ 60 ∷ 61 ∷ 62
+          ∷ 63 ∷ 64 ∷ 65 ∷ 66 ∷ 67 ∷ 68 ∷ 69 ∷ 70 ∷ 71 ∷ 72 ∷ 73 ∷ 74 ∷ 75 ∷ 76 ∷ 77 ∷ []) $ move ! (3 ∷ []) $ fsplit ! $
+          move ! (1 ∷ []) $ feqL ! (λ len₇. move ! (4 ∷ []) $ fsplit ! $ move ! (1 ∷ []) $ feqL ! (λ len₈.
+          -- [fin8; fin7; fin:queued; fin:outstanding; fin:transmissions; tok:queued; tok:outstanding; tok:transmissions; tok:ready;
+          -- tok:waiting; tok:«waiting_numbers»; tok1; tok2; tok4; tok7; tok8; lent:«waiting_numbers»; lent:waiting; lent:ready;
+          -- lent:transmissions; lent:outstanding; lent:queued; tok3; F:clock; F:arrival; F:flight; F:settings; back; opened; deaths; the
+          -- locals]
+          move ! (5 ∷ 21 ∷ 2 ∷ []) $ back-mut ! tt (Array u32 128) b (o + 124) (ws-a .1 .1 .1 .1 .1 .1 .1 .0) $ move ! (5 ∷ 19 ∷ 3 ∷ []) $
+          back-mut ! tt (Array u32 32) b (o + 636) (ws-a .1 .1 .1 .1 .1 .1 .1 .1 .0) $ move ! (5 ∷ 17 ∷ 4 ∷ []) $
+          back-mut ! tt (Array u8 32) b (o + 764) (ws-a .1 .1 .1 .1 .1 .1 .1 .1 .1 .0) $ move ! (5 ∷ 15 ∷ []) $
+          back-shr ! tt fullShare (Array u32 128) b (o + 796) (h .ready) $ move ! (6 ∷ 14 ∷ []) $
+          back-shr ! tt fullShare (Array u32 128) b (o + 1308) (h .waiting) $ move ! (7 ∷ 13 ∷ []) $
+          back-shr ! tt fullShare (Array u32 128) b (o + 1820) (h .«waiting_numbers») $
+          by ! (part₂ (
+            (ws-a .1 .1 .1 .1 .1 .1 .1 .1 .1 .1 .1 .1 .1 .1 .1 .1 .1 .1 .0),
+            (ws-a .1 .1 .1 .1 .1 .1 .1 .1 .1 .1 .1 .1 .1 .1 .1 .1 .1 .0),
+            (ws-a .1 .1 .1 .1 .1 .1 .1 .1 .1 .0),
+            (ws-a .1 .1 .1 .1 .1 .1 .1 .1 .0),
+            (ws-a .1 .1 .1 .1 .1 .1 .1 .0),
+            (past .0),
+            (past .1),
+            (past .2),
+            (past .3),
+            (past .4),
+            (past .5),
+            (past .6),
+            (past .7),
+            (past .8),
+            (past .9),
+            (past .10),
+            (past .11),
+            (past .12),
+            (past .13),
+            (past .14),
+            (past .15),
+            (past .16),
+            (past .17),
+            (past .18),
+            (past .19),
+            (past .20),
+            (past .21),
+            (past .22),
+            (past .23),
+            (past .24),
+            (past .25),
+            (past .26),
+            (past .27),
+            (past .28),
+            (past .29),
+            (past .30),
+            (past .31),
+            (past .42),
+            (past .43),
+            (past .44),
+            (past .45),
+            (past .46),
+            (past .47),
+            (past .49),
+            (past .50),
+            (past .51),
+            a,
+            w-a,
+            e-a,
+            is-a,
+            len₇,
+            len₈,
+          )))))))))))
 
-      walk : ent 𝓤 (onEntry 𝓤 H A f.signature (κ₀, (κ₁, (κ₂, (κ₃, (κ₄, (κ₅, (κ₆, tt))))))) (q₀, (q₁, (q₂, (q₃, (q₄, (q₅, (q₆, tt))))))) x at) (WpFn 𝓤 H C Λ code.function (vptr b o ∷ s₁ ∷ s₂ ∷ s₃ ∷ s₄ ∷ v₅ ∷ s₆ ∷ s₇ ∷ []) Post)
+      walk : ent 𝓤 (onEntry 𝓤 H A f.signature (κ₀, (κ₁, (κ₂, (κ₃, (κ₄, (κ₅, (κ₆, tt))))))) (q₀, (q₁, (q₂, (q₃, (q₄, (q₅, (q₆, tt))))))) x
+          at) (WpFn 𝓤 H C Λ code.function (vptr b o ∷ s₁ ∷ s₂ ∷ s₃ ∷ s₄ ∷ v₅ ∷ v₆ ∷ s₇ ∷ s₈ ∷ []) Post)
       walk =
-          qed W ((‵ (flft κ₀ q₀) ⊛ ‵ (flft κ₁ q₁) ⊛ ‵ (flft κ₂ q₂) ⊛ ‵ (flft κ₃ q₃) ⊛ ‵ (flft κ₄ q₄) ⊛ ‵ (flft κ₅ q₅) ⊛ ‵ (flft κ₆ q₆) ⊛ ‵ ftrue) ∷ ‵ (owns (MutRef (named 0) κ₀ L ∷ ShrSlice (named 1) κ₁ u8 ∷ ShrSlice (named 2) κ₂ u8 ∷ ShrSlice (named 3) κ₃ R ∷ ShrSlice (named 4) κ₄ u32 ∷ u32 ∷ MutSlice (named 5) κ₅ u8 ∷ MutSlice (named 6) κ₆ u16 ∷ []) x at) ∷ []) ∵ enter ! C Λ code.function (vptr b o ∷ s₁ ∷ s₂ ∷ s₃ ∷ s₄ ∷ v₅ ∷ s₆ ∷ s₇ ∷ []) _ $
-          alloc1 ! (λ l₀. alloc1 ! (λ l₁. alloc1 ! (λ l₂. alloc1 ! (λ l₃. alloc1 ! (λ l₄. alloc1 ! (λ l₅. alloc1 ! (λ l₆. alloc1 ! (λ l₇. alloc1 ! (λ l₈. alloc1 ! (λ l₉. alloc1 ! (λ l₁₀. alloc1 ! (λ l₁₁. alloc1 ! (λ l₁₂. alloc1 ! (λ l₁₃. alloc1 ! (λ l₁₄. alloc1 ! (λ l₁₅. alloc1 ! (λ l₁₆. alloc1 ! (λ l₁₇. alloc1 ! (λ l₁₈. alloc1 ! (λ l₁₉. alloc1 ! (λ l₂₀. alloc1 ! (λ l₂₁. alloc1 ! (λ l₂₂. alloc1 ! (λ l₂₃. alloc1 ! (λ l₂₄. alloc1 ! (λ l₂₅. alloc1 ! (λ l₂₆. alloc1 ! (λ l₂₇. alloc1 ! (λ l₂₈. alloc1 ! (λ l₂₉. alloc1 ! (λ l₃₀. alloc0 ! $ params1 ! $
-          pass1 ! (init ! 58 refl (tt, tt)) $ pass1 ! (init ! 56 refl (tt, (tt, (record { fits = room₁ .0 }, tt)))) $ pass1 ! (init ! 54 refl (tt, (tt, (record { fits = room₂ .0 }, tt)))) $ pass1 ! (init ! 52 refl (tt, (tt, (record { fits = room₃ .0 }, tt)))) $ pass1 ! (init ! 50 refl (tt, (tt, (record { fits = room₄ .0 }, tt)))) $ pass1 ! (init ! 48 refl (uint-lawful 𝓤 H A W w32 .typed x₅ _ g₅ .0)) $ pass1 ! (init ! 46 refl (tt, (tt, (record { fits = room₆ .0 }, tt)))) $ pass1 ! (init ! 44 refl (tt, (tt, (record { fits = room₇ .0 }, tt)))) $ pass0 ! $
-          move ! (63 ∷ []) $ spread W (‵ (MutRef (named 0) κ₀ L .own (ref-at b o γ h) (vptr b o ∷ []))) (‵ (ShrSlice (named 1) κ₁ u8 .own (x₁) (s₁ ∷ [])) ∷ ‵ (ShrSlice (named 2) κ₂ u8 .own (x₂) (s₂ ∷ [])) ∷ ‵ (ShrSlice (named 3) κ₃ R .own (x₃) (s₃ ∷ [])) ∷ ‵ (ShrSlice (named 4) κ₄ u32 .own (x₄) (s₄ ∷ [])) ∷ ‵ (u32 .own (x₅) (v₅ ∷ [])) ∷ ‵ (MutSlice (named 5) κ₅ u8 .own (x₆) (s₆ ∷ [])) ∷ ‵ (MutSlice (named 6) κ₆ u16 .own (x₇) (s₇ ∷ [])) ∷ ‵ ftrue ∷ []) (id⊢ 𝓤 _) $ move ! (71 ∷ []) $ spread W (‵ (flft κ₀ q₀)) (‵ (flft κ₁ q₁) ∷ ‵ (flft κ₂ q₂) ∷ ‵ (flft κ₃ q₃) ∷ ‵ (flft κ₄ q₄) ∷ ‵ (flft κ₅ q₅) ∷ ‵ (flft κ₆ q₆) ∷ ‵ ftrue ∷ []) (id⊢ 𝓤 _) $ keep ! (0 ∷ 1 ∷ 2 ∷ 3 ∷ 4 ∷ 5 ∷ 6 ∷ 8 ∷ 9 ∷ 10 ∷ 11 ∷ 12 ∷ 14 ∷ 15 ∷ 17 ∷ 18 ∷ 19 ∷ 20 ∷ 21 ∷ 22 ∷ 23 ∷ 24 ∷ 25 ∷ 26 ∷ 27 ∷ 28 ∷ 29 ∷ 30 ∷ 31 ∷ 32 ∷ 33 ∷ 34 ∷ 35 ∷ 36 ∷ 37 ∷ 38 ∷ 39 ∷ 40 ∷ 41 ∷ 42 ∷ 43 ∷ 44 ∷ 45 ∷ 46 ∷ 47 ∷ 48 ∷ 49 ∷ 50 ∷ 51 ∷ 52 ∷ 53 ∷ 54 ∷ 55 ∷ 56 ∷ 57 ∷ 58 ∷ 59 ∷ 60 ∷ 61 ∷ 62 ∷ 63 ∷ 64 ∷ 65 ∷ 66 ∷ 67 ∷ 68 ∷ 69 ∷ 70 ∷ 71 ∷ 72 ∷ 73 ∷ 74 ∷ 75 ∷ 76 ∷ 77 ∷ 78 ∷ []) $ move ! (75 ∷ 73 ∷ 71 ∷ 69 ∷ 67 ∷ 65 ∷ 63 ∷ 61 ∷ 59 ∷ 57 ∷ 55 ∷ 53 ∷ 51 ∷ 49 ∷ 47 ∷ 45 ∷ 43 ∷ 41 ∷ 39 ∷ 37 ∷ 35 ∷ 33 ∷ 31 ∷ 29 ∷ 27 ∷ 25 ∷ 23 ∷ 21 ∷ 19 ∷ 17 ∷ 15 ∷ []) $ group ! 31 $
-          -- [deaths; tok0; tok1; tok2; tok3; tok4; tok6; tok7; own0; own1; own2; own3; own4; own6; own7; the locals]
+          qed W ((‵ (flft κ₀ q₀) ⊛ ‵ (flft κ₁ q₁) ⊛ ‵ (flft κ₂ q₂) ⊛ ‵ (flft κ₃ q₃) ⊛ ‵ (flft κ₄ q₄) ⊛ ‵ (flft κ₅ q₅) ⊛ ‵ (flft κ₆ q₆) ⊛ ‵
+          ftrue) ∷ ‵ (owns (MutRef (named 0) κ₀ L ∷ ShrSlice (named 1) κ₁ u8 ∷ ShrSlice (named 2) κ₂ u8 ∷ ShrSlice (named 3) κ₃ R
+          ∷ ShrSlice (named 4) κ₄ u32 ∷ Boolean ∷ u32 ∷ MutSlice (named 5) κ₅ u8 ∷ MutSlice (named 6) κ₆ u16 ∷ []) x at) ∷ []) ∵
+          enter ! C Λ code.function (vptr b o ∷ s₁ ∷ s₂ ∷ s₃ ∷ s₄ ∷ v₅ ∷ v₆ ∷ s₇ ∷ s₈ ∷ []) _ $
+          alloc1 ! (λ l₀. alloc1 ! (λ l₁. alloc1 ! (λ l₂.
+          alloc1 ! (λ l₃. alloc1 ! (λ l₄. alloc1 ! (λ l₅.
+          alloc1 ! (λ l₆. alloc1 ! (λ l₇. alloc1 ! (λ l₈.
+          alloc1 ! (λ l₉. alloc1 ! (λ l₁₀. alloc1 ! (λ l₁₁.
+          alloc1 ! (λ l₁₂. alloc1 ! (λ l₁₃. alloc1 ! (λ l₁₄.
+          alloc1 ! (λ l₁₅. alloc1 ! (λ l₁₆. alloc1 ! (λ l₁₇.
+          alloc1 ! (λ l₁₈. alloc1 ! (λ l₁₉. alloc1 ! (λ l₂₀.
+          alloc1 ! (λ l₂₁. alloc1 ! (λ l₂₂. alloc1 ! (λ l₂₃.
+          alloc1 ! (λ l₂₄. alloc1 ! (λ l₂₅. alloc1 ! (λ l₂₆.
+          alloc1 ! (λ l₂₇. alloc1 ! (λ l₂₈. alloc1 ! (λ l₂₉. alloc1 ! (λ l₃₀. alloc1 ! (λ l₃₁. alloc0 ! $ params1 ! $
+          pass1 ! (init ! 60 refl (tt, tt)) $ pass1 ! (init ! 58 refl (tt, (tt, (record { fits = room₁ .0 }, tt)))) $
+          pass1 ! (init ! 56 refl (tt, (tt, (record { fits = room₂ .0 }, tt)))) $
+          pass1 ! (init ! 54 refl (tt, (tt, (record { fits = room₃ .0 }, tt)))) $
+          pass1 ! (init ! 52 refl (tt, (tt, (record { fits = room₄ .0 }, tt)))) $
+          pass1 ! (init ! 50 refl (bool-lawful 𝓤 H A W .typed x₅ _ g₅ .0)) $
+          pass1 ! (init ! 48 refl (uint-lawful 𝓤 H A W w32 .typed x₆ _ g₆ .0)) $
+          pass1 ! (init ! 46 refl (tt, (tt, (record { fits = room₇ .0 }, tt)))) $
+          pass1 ! (init ! 44 refl (tt, (tt, (record { fits = room₈ .0 }, tt)))) $ pass0 ! $
+          move ! (65 ∷ []) $ spread W (‵ (MutRef (named 0) κ₀ L .own (ref-at b o γ h) (vptr b o ∷ [])))
+          (‵ (ShrSlice (named 1) κ₁ u8 .own (x₁) (s₁ ∷ [])) ∷ ‵ (ShrSlice (named 2) κ₂ u8 .own (x₂) (s₂ ∷ []))
+          ∷ ‵ (ShrSlice (named 3) κ₃ R .own (x₃) (s₃ ∷ [])) ∷ ‵ (ShrSlice (named 4) κ₄ u32 .own (x₄) (s₄ ∷ []))
+          ∷ ‵ (Boolean .own (x₅) (v₅ ∷ [])) ∷ ‵ (u32 .own (x₆) (v₆ ∷ [])) ∷ ‵ (MutSlice (named 5) κ₅ u8 .own (x₇) (s₇ ∷ []))
+          ∷ ‵ (MutSlice (named 6) κ₆ u16 .own (x₈) (s₈ ∷ [])) ∷ ‵ ftrue ∷ []) (id⊢ 𝓤 _) $ move ! (74 ∷ []) $
+          spread W (‵ (flft κ₀ q₀)) (‵ (flft κ₁ q₁) ∷ ‵ (flft κ₂ q₂) ∷ ‵ (flft κ₃ q₃) ∷ ‵ (flft κ₄ q₄) ∷ ‵ (flft κ₅ q₅) ∷ ‵ (flft κ₆ q₆)
+          ∷ ‵ ftrue ∷ []) (id⊢ 𝓤 _) $ keep ! (0 ∷ 1 ∷ 2 ∷ 3 ∷ 4 ∷ 5 ∷ 6 ∷ 8 ∷ 9 ∷ 10 ∷ 11 ∷ 12 ∷ 15 ∷ 16 ∷ 18 ∷ 19 ∷ 20 ∷ 21 ∷ 22 ∷ 23
+          ∷ 24 ∷ 25 ∷ 26 ∷ 27 ∷ 28 ∷ 29 ∷ 30 ∷ 31 ∷ 32 ∷ 33 ∷ 34 ∷ 35 ∷ 36 ∷ 37 ∷ 38 ∷ 39 ∷ 40 ∷ 41 ∷ 42 ∷ 43 ∷ 44 ∷ 45 ∷ 46 ∷ 47 ∷ 48
+          ∷ 49 ∷ 50 ∷ 51 ∷ 52 ∷ 53 ∷ 54 ∷ 55 ∷ 56 ∷ 57 ∷ 58 ∷ 59 ∷ 60 ∷ 61 ∷ 62 ∷ 63 ∷ 64 ∷ 65 ∷ 66 ∷ 67 ∷ 68 ∷ 69 ∷ 70 ∷ 71 ∷ 72 ∷ 73
+          ∷ 74 ∷ 75 ∷ 76 ∷ 77 ∷ 78 ∷ 79 ∷ 80 ∷ 81 ∷ []) $
+          move ! (77 ∷ 75 ∷ 73 ∷ 71 ∷ 69 ∷ 67 ∷ 65 ∷ 63 ∷ 61 ∷ 59 ∷ 57 ∷ 55 ∷ 53 ∷ 51 ∷ 49 ∷ 47 ∷ 45 ∷ 43 ∷ 41 ∷ 39 ∷ 37 ∷ 35 ∷ 33 ∷ 31
+          ∷ 29 ∷ 27 ∷ 25 ∷ 23 ∷ 21 ∷ 19 ∷ 17 ∷ 15 ∷ []) $ group ! 32 $
+          -- [deaths; tok0; tok1; tok2; tok3; tok4; tok7; tok8; own0; own1; own2; own3; own4; own7; own8; the locals]
           move ! (8 ∷ 1 ∷ []) $ opens-link b o γ ! tt h $
-          -- [F:settings; F:flight; F:arrival; F:clock; F:queued; F:outstanding; F:transmissions; F:ready; F:waiting; F:«waiting_numbers»; back; opened; deaths; tok1; tok2; tok3; tok4; tok6; tok7; own1; own2; own3; own4; own6; own7; the locals]
-          move ! (4 ∷ []) $ tells-length ! fullShare u32 128 (h .queued) b (o + 124) (λ len-queued. move ! (5 ∷ []) $ tells-length ! fullShare u32 32 (h .outstanding) b (o + 636) (λ len-outstanding. move ! (6 ∷ []) $ tells-length ! fullShare u8 32 (h .transmissions) b (o + 764) (λ len-transmissions. move ! (7 ∷ []) $ tells-length ! fullShare u32 128 (h .ready) b (o + 796) (λ len-ready. move ! (8 ∷ []) $ tells-length ! fullShare u32 128 (h .waiting) b (o + 1308) (λ len-waiting. move ! (9 ∷ []) $ tells-length ! fullShare u32 128 (h .«waiting_numbers») b (o + 1820) (λ len-waiting-numbers. move ! (6 ∷ []) $ cell-out ! fullShare settings-row.the-row (LL.vals settings-row.the-type settings-laws.the-laws) (LL.tells settings-row.the-type settings-laws.the-laws) (h .settings) b (o + 0) (λ was-settings.
-          assigns ! {v = (only ((LL.vals settings-row.the-type settings-laws.the-laws) (h .settings)))} (of-opd ! (load ! (from ! (hop ! (look ! 54 refl) (fld ! {d = 0} refl (stop !)))) (look-raw ! 0 refl))) (from ! (stop !)) (init ! 46 refl (LL.lawful settings-row.the-type settings-laws.the-laws 𝓤 H A W .typed (h .settings) ((only ((LL.vals settings-row.the-type settings-laws.the-laws) (h .settings))) ∷ []) was-settings .0)) $
-          cell-in ! fullShare settings-row.the-row (LL.makes settings-row.the-type settings-laws.the-plain 𝓤 H A) (h .settings) b (o + 0) (only ((LL.vals settings-row.the-type settings-laws.the-laws) (h .settings))) was-settings $ move ! (7 ∷ []) $ cell-out ! fullShare flight-row.the-row (LL.vals flight-row.the-type flight-laws.the-laws) (LL.tells flight-row.the-type flight-laws.the-laws) (h .flight) b (o + 16) (λ was-flight.
-          assigns ! {v = (only ((LL.vals flight-row.the-type flight-laws.the-laws) (h .flight)))} (of-opd ! (load ! (from ! (hop ! (look ! 54 refl) (fld ! {d = 16} refl (stop !)))) (look-raw ! 0 refl))) (from ! (stop !)) (init ! 45 refl (LL.lawful flight-row.the-type flight-laws.the-laws 𝓤 H A W .typed (h .flight) ((only ((LL.vals flight-row.the-type flight-laws.the-laws) (h .flight))) ∷ []) was-flight .0)) $
-          cell-in ! fullShare flight-row.the-row (LL.makes flight-row.the-type flight-laws.the-plain 𝓤 H A) (h .flight) b (o + 16) (only ((LL.vals flight-row.the-type flight-laws.the-laws) (h .flight))) was-flight $ move ! (8 ∷ []) $ cell-out ! fullShare arrival-row.the-row (LL.vals arrival-row.the-type arrival-laws.the-laws) (LL.tells arrival-row.the-type arrival-laws.the-laws) (h .arrival) b (o + 72) (λ was-arrival.
-          assigns ! {v = (only ((LL.vals arrival-row.the-type arrival-laws.the-laws) (h .arrival)))} (of-opd ! (load ! (from ! (hop ! (look ! 54 refl) (fld ! {d = 72} refl (stop !)))) (look-raw ! 0 refl))) (from ! (stop !)) (init ! 44 refl (LL.lawful arrival-row.the-type arrival-laws.the-laws 𝓤 H A W .typed (h .arrival) ((only ((LL.vals arrival-row.the-type arrival-laws.the-laws) (h .arrival))) ∷ []) was-arrival .0)) $
-          cell-in ! fullShare arrival-row.the-row (LL.makes arrival-row.the-type arrival-laws.the-plain 𝓤 H A) (h .arrival) b (o + 72) (only ((LL.vals arrival-row.the-type arrival-laws.the-laws) (h .arrival))) was-arrival $ move ! (9 ∷ []) $ cell-out ! fullShare clock-row.the-row (LL.vals clock-row.the-type clock-laws.the-laws) (LL.tells clock-row.the-type clock-laws.the-laws) (h .clock) b (o + 104) (λ was-clock.
-          assigns ! {v = (only ((LL.vals clock-row.the-type clock-laws.the-laws) (h .clock)))} (of-opd ! (load ! (from ! (hop ! (look ! 54 refl) (fld ! {d = 104} refl (stop !)))) (look-raw ! 0 refl))) (from ! (stop !)) (init ! 43 refl (LL.lawful clock-row.the-type clock-laws.the-laws 𝓤 H A W .typed (h .clock) ((only ((LL.vals clock-row.the-type clock-laws.the-laws) (h .clock))) ∷ []) was-clock .0)) $
-          cell-in ! fullShare clock-row.the-row (LL.makes clock-row.the-type clock-laws.the-plain 𝓤 H A) (h .clock) b (o + 104) (only ((LL.vals clock-row.the-type clock-laws.the-laws) (h .clock))) was-clock $ move ! (8 ∷ []) $ cell-out ! fullShare (Array u32 32) (array-vals (uint-vals w32)) (array-tells u32 (uint-vals w32) (uint-tells w32) 32) (h .outstanding) b (o + 636) (λ was-outstanding.
-          assigns ! {v = (only ((array-vals (uint-vals w32)) (h .outstanding)))} (of-opd ! (load ! (from ! (hop ! (look ! 54 refl) (fld ! {d = 636} refl (stop !)))) (look-raw ! 0 refl))) (from ! (stop !)) (init ! 42 refl (array-typed u32 (uint-lawful 𝓤 H A W w32 .typed) 32 (h .outstanding) ((only ((array-vals (uint-vals w32)) (h .outstanding))) ∷ []) was-outstanding .0)) $
-          cell-in ! fullShare (Array u32 32) (array-makes 𝓤 H A W u32 (uint-makes 𝓤 H A W w32) 32) (h .outstanding) b (o + 636) (only ((array-vals (uint-vals w32)) (h .outstanding))) was-outstanding $ nothing ! $ calls-fn ! fm count-of.ended (count-of.clauses 𝓤 H A at-mem run) (known .0) ((tt, tt, tt, ((h .flight), tt), ((only ((LL.vals flight-row.the-type flight-laws.the-laws) (h .flight))) ∷ [], tt)), tt) (λ n _. n ≡ h .flight .outstanding)
-          (‵ ftrue) (plainly 𝓤 H A W (flight-row.the-row ∷ []) ((LL.makes flight-row.the-type flight-laws.the-plain 𝓤 H A), tt) ((h .flight), tt) ((only ((LL.vals flight-row.the-type flight-laws.the-laws) (h .flight))) ∷ [], tt) (was-flight, tt)) (λ n _. id⊢ 𝓤 _)
-          (and-then ! (load ! (from ! (stop !)) (look ! 46 refl)) (no-more !)) (λ n w-n _ e-n is-n. drop ! $ drop ! $ land ! (from ! (stop !)) (init ! 41 refl (uint-lawful 𝓤 H A W w64 .typed n _ is-n .0)) $
-          move ! (21 ∷ []) $ use1 W (‵ Own₃ ⊛ ‵ Own₃) (shr-slice-copy 𝓤 H A W (named 0) κ₃ R .twice x₃ (s₃ ∷ [])) $ split ! $ move ! (17 ∷ 0 ∷ []) $ join ! $ calls-fn ! fm gather.ended (gather.clauses 𝓤 H A at-mem run) (known .1) (to-gather (h .outstanding) (only ((array-vals (uint-vals w32)) (h .outstanding))) n w-n) (λ recs ws-recs. recs ≡ padded (gathered (take sendSlots (x₃ .now)) (slotsIn (h .outstanding) n))) (‵ (flft κ₃ q₃) ⊛ ‵ Own₃)
-          (asks-gather (h .outstanding) (only ((array-vals (uint-vals w32)) (h .outstanding))) was-outstanding n w-n is-n) (λ recs ws-recs. id⊢ 𝓤 _)
-          (and-then ! (load ! (from ! (stop !)) (look ! 51 refl)) (and-then ! (load ! (from ! (stop !)) (look ! 42 refl)) (and-then ! (load ! (from ! (stop !)) (look ! 41 refl)) (no-more !)))) (λ recs w-recs ws-recs e-recs is-recs. land ! (from ! (stop !)) (init ! 41 refl (rs-typed 𝓤 H A W recs is-recs)) $
-          spread W (‵ (flft κ₃ q₃)) (‵ ftrue ∷ []) (id⊢ 𝓤 _) $ move ! (2 ∷ []) $ spread W (‵ ftrue) (‵ ftrue ∷ ‵ ftrue ∷ ‵ ftrue ∷ []) (id⊢ 𝓤 _) $ keep ! (4 ∷ 6 ∷ 7 ∷ 8 ∷ 9 ∷ 10 ∷ 11 ∷ 12 ∷ 13 ∷ 14 ∷ 15 ∷ 16 ∷ 17 ∷ 18 ∷ 19 ∷ 20 ∷ 21 ∷ 22 ∷ 23 ∷ 24 ∷ 25 ∷ 26 ∷ 27 ∷ 28 ∷ 29 ∷ 30 ∷ 31 ∷ 32 ∷ 33 ∷ 34 ∷ 35 ∷ 36 ∷ 37 ∷ 38 ∷ 39 ∷ 40 ∷ 41 ∷ 42 ∷ 43 ∷ 44 ∷ 45 ∷ 46 ∷ 47 ∷ 48 ∷ 49 ∷ 50 ∷ 51 ∷ 52 ∷ 53 ∷ 54 ∷ 55 ∷ 56 ∷ 57 ∷ 58 ∷ 59 ∷ 60 ∷ []) $
-          -- [tok3; own3; F:outstanding; F:clock; F:arrival; F:flight; F:settings; F:«waiting_numbers»; F:waiting; F:ready; F:transmissions; F:queued; back; opened; deaths; tok1; tok2; tok4; tok6; tok7; own1; own2; own4; own6; own7; the locals]
-          join ! $ calls-fn ! fm table-len.ended (table-len.clauses 𝓤 H A at-mem run) (known .2) (to-table-len) (λ m ws-m. m ≡ length (x₃ .now)) (‵ (flft κ₃ q₃) ⊛ ‵ Own₃)
+          -- [F:settings; F:flight; F:arrival; F:clock; F:queued; F:outstanding; F:transmissions; F:ready; F:waiting; F:«waiting_numbers»;
+          -- back; opened; deaths; tok1; tok2; tok3; tok4; tok7; tok8; own1; own2; own3; own4; own7; own8; the locals]
+          move ! (4 ∷ []) $ tells-length ! fullShare u32 128 (h .queued) b (o + 124)
+          (λ len-queued. move ! (5 ∷ []) $
+          tells-length ! fullShare u32 32 (h .outstanding) b (o + 636)
+          (λ len-outstanding. move ! (6 ∷ []) $
+          tells-length ! fullShare u8 32 (h .transmissions) b (o + 764)
+          (λ len-transmissions. move ! (7 ∷ []) $
+          tells-length ! fullShare u32 128 (h .ready) b (o + 796)
+          (λ len-ready. move ! (8 ∷ []) $
+          tells-length ! fullShare u32 128 (h .waiting) b (o + 1308)
+          (λ len-waiting. move ! (9 ∷ []) $
+          tells-length ! fullShare u32 128 (h .«waiting_numbers») b (o + 1820)
+          (λ len-waiting-numbers. move ! (6 ∷ []) $
+          cell-out ! fullShare settings-row.the-row (LL.vals settings-row.the-type settings-laws.the-laws)
+          (LL.tells settings-row.the-type settings-laws.the-laws) (h .settings) b (o + 0) (λ was-settings.
+          assigns ! {v = (only ((LL.vals settings-row.the-type settings-laws.the-laws) (h .settings)))}
+          (of-opd ! (load ! (from ! (hop ! (look ! 55 refl) (fld ! {d = 0} refl (stop !)))) (look-raw ! 0 refl))) (from ! (stop !))
+          (init ! 46 refl (LL.lawful settings-row.the-type settings-laws.the-laws 𝓤 H A W .typed (h .settings)
+          ((only ((LL.vals settings-row.the-type settings-laws.the-laws) (h .settings))) ∷ []) was-settings .0)) $
+          cell-in ! fullShare settings-row.the-row (LL.makes settings-row.the-type settings-laws.the-plain 𝓤 H A) (h .settings) b (o + 0)
+          (only ((LL.vals settings-row.the-type settings-laws.the-laws) (h .settings))) was-settings $ move ! (7 ∷ []) $
+          cell-out ! fullShare flight-row.the-row (LL.vals flight-row.the-type flight-laws.the-laws)
+          (LL.tells flight-row.the-type flight-laws.the-laws) (h .flight) b (o + 16) (λ was-flight.
+          assigns ! {v = (only ((LL.vals flight-row.the-type flight-laws.the-laws) (h .flight)))}
+          (of-opd ! (load ! (from ! (hop ! (look ! 55 refl) (fld ! {d = 16} refl (stop !)))) (look-raw ! 0 refl))) (from ! (stop !))
+          (init ! 45 refl (LL.lawful flight-row.the-type flight-laws.the-laws 𝓤 H A W .typed (h .flight)
+          ((only ((LL.vals flight-row.the-type flight-laws.the-laws) (h .flight))) ∷ []) was-flight .0)) $
+          cell-in ! fullShare flight-row.the-row (LL.makes flight-row.the-type flight-laws.the-plain 𝓤 H A) (h .flight) b (o + 16)
+          (only ((LL.vals flight-row.the-type flight-laws.the-laws) (h .flight))) was-flight $ move ! (8 ∷ []) $
+          cell-out ! fullShare arrival-row.the-row (LL.vals arrival-row.the-type arrival-laws.the-laws)
+          (LL.tells arrival-row.the-type arrival-laws.the-laws) (h .arrival) b (o + 72) (λ was-arrival.
+          assigns ! {v = (only ((LL.vals arrival-row.the-type arrival-laws.the-laws) (h .arrival)))}
+          (of-opd ! (load ! (from ! (hop ! (look ! 55 refl) (fld ! {d = 72} refl (stop !)))) (look-raw ! 0 refl))) (from ! (stop !))
+          (init ! 44 refl (LL.lawful arrival-row.the-type arrival-laws.the-laws 𝓤 H A W .typed (h .arrival)
+          ((only ((LL.vals arrival-row.the-type arrival-laws.the-laws) (h .arrival))) ∷ []) was-arrival .0)) $
+          cell-in ! fullShare arrival-row.the-row (LL.makes arrival-row.the-type arrival-laws.the-plain 𝓤 H A) (h .arrival) b (o + 72)
+          (only ((LL.vals arrival-row.the-type arrival-laws.the-laws) (h .arrival))) was-arrival $ move ! (9 ∷ []) $
+          cell-out ! fullShare clock-row.the-row (LL.vals clock-row.the-type clock-laws.the-laws)
+          (LL.tells clock-row.the-type clock-laws.the-laws) (h .clock) b (o + 104) (λ was-clock.
+          assigns ! {v = (only ((LL.vals clock-row.the-type clock-laws.the-laws) (h .clock)))}
+          (of-opd ! (load ! (from ! (hop ! (look ! 55 refl) (fld ! {d = 104} refl (stop !)))) (look-raw ! 0 refl))) (from ! (stop !))
+          (init ! 43 refl (LL.lawful clock-row.the-type clock-laws.the-laws 𝓤 H A W .typed (h .clock)
+          ((only ((LL.vals clock-row.the-type clock-laws.the-laws) (h .clock))) ∷ []) was-clock .0)) $
+          cell-in ! fullShare clock-row.the-row (LL.makes clock-row.the-type clock-laws.the-plain 𝓤 H A) (h .clock) b (o + 104)
+          (only ((LL.vals clock-row.the-type clock-laws.the-laws) (h .clock))) was-clock $ move ! (8 ∷ []) $
+          cell-out ! fullShare (Array u32 32) (array-vals (uint-vals w32)) (array-tells u32 (uint-vals w32) (uint-tells w32) 32)
+          (h .outstanding) b (o + 636) (λ was-outstanding.
+          assigns ! {v = (only ((array-vals (uint-vals w32)) (h .outstanding)))}
+          (of-opd ! (load ! (from ! (hop ! (look ! 55 refl) (fld ! {d = 636} refl (stop !)))) (look-raw ! 0 refl))) (from ! (stop !))
+          (init ! 42 refl (array-typed u32 (uint-lawful 𝓤 H A W w32 .typed) 32 (h .outstanding)
+          ((only ((array-vals (uint-vals w32)) (h .outstanding))) ∷ []) was-outstanding .0)) $
+          cell-in ! fullShare (Array u32 32) (array-makes 𝓤 H A W u32 (uint-makes 𝓤 H A W w32) 32) (h .outstanding) b (o + 636)
+          (only ((array-vals (uint-vals w32)) (h .outstanding))) was-outstanding $ nothing ! $
+          calls-fn ! fm count-of.ended (count-of.clauses 𝓤 H A at-mem run) (known .0)
+          ((tt, tt, tt, ((h .flight), tt), ((only ((LL.vals flight-row.the-type flight-laws.the-laws) (h .flight))) ∷ [], tt)), tt)
+          (λ n _. n ≡ h .flight .outstanding)
+          (‵ ftrue) (plainly 𝓤 H A W (flight-row.the-row ∷ []) ((LL.makes flight-row.the-type flight-laws.the-plain 𝓤 H A), tt)
+          ((h .flight), tt) ((only ((LL.vals flight-row.the-type flight-laws.the-laws) (h .flight))) ∷ [], tt) (was-flight, tt))
+          (λ n _. id⊢ 𝓤 _)
+          (and-then ! (load ! (from ! (stop !)) (look ! 46 refl)) (no-more !))
+          (λ n w-n _ e-n is-n. drop ! $ drop ! $ land ! (from ! (stop !)) (init ! 41 refl (uint-lawful 𝓤 H A W w64 .typed n _ is-n .0)) $
+          move ! (21 ∷ []) $ use1 W (‵ Own₃ ⊛ ‵ Own₃) (shr-slice-copy 𝓤 H A W (named 0) κ₃ R .twice x₃ (s₃ ∷ [])) $ split ! $
+          move ! (17 ∷ 0 ∷ []) $ join ! $
+          calls-fn ! fm gather.ended (gather.clauses 𝓤 H A at-mem run) (known .1)
+          (to-gather (h .outstanding) (only ((array-vals (uint-vals w32)) (h .outstanding))) n w-n)
+          (λ recs ws-recs. recs ≡ padded (gathered (take sendSlots (x₃ .now)) (slotsIn (h .outstanding) n))) (‵ (flft κ₃ q₃) ⊛ ‵ Own₃)
+          (asks-gather (h .outstanding) (only ((array-vals (uint-vals w32)) (h .outstanding))) was-outstanding n w-n is-n)
+          (λ recs ws-recs. id⊢ 𝓤 _)
+          (and-then ! (load ! (from ! (stop !)) (look ! 52 refl))
+          (and-then ! (load ! (from ! (stop !)) (look ! 42 refl)) (and-then ! (load ! (from ! (stop !)) (look ! 41 refl)) (no-more !))))
+          (λ recs w-recs ws-recs e-recs is-recs. land ! (from ! (stop !)) (init ! 41 refl (rs-typed 𝓤 H A W recs is-recs)) $
+          spread W (‵ (flft κ₃ q₃)) (‵ ftrue ∷ []) (id⊢ 𝓤 _) $ move ! (2 ∷ []) $
+          spread W (‵ ftrue) (‵ ftrue ∷ ‵ ftrue ∷ ‵ ftrue ∷ []) (id⊢ 𝓤 _) $
+          keep ! (4 ∷ 6 ∷ 7 ∷ 8 ∷ 9 ∷ 10 ∷ 11 ∷ 12 ∷ 13 ∷ 14 ∷ 15 ∷ 16 ∷ 17 ∷ 18 ∷ 19 ∷ 20 ∷ 21 ∷ 22 ∷ 23 ∷ 24 ∷ 25 ∷ 26 ∷ 27 ∷ 28 ∷ 29
+          ∷ 30 ∷ 31 ∷ 32 ∷ 33 ∷ 34 ∷ 35 ∷ 36 ∷ 37 ∷ 38 ∷ 39 ∷ 40 ∷ 41 ∷ 42 ∷ 43 ∷ 44 ∷ 45 ∷ 46 ∷ 47 ∷ 48 ∷ 49 ∷ 50 ∷ 51 ∷ 52 ∷ 53 ∷ 54
+          ∷ 55 ∷ 56 ∷ 57 ∷ 58 ∷ 59 ∷ 60 ∷ 61 ∷ []) $
+          -- [tok3; own3; F:outstanding; F:clock; F:arrival; F:flight; F:settings; F:«waiting_numbers»; F:waiting; F:ready; F:transmissions;
+          -- F:queued; back; opened; deaths; tok1; tok2; tok4; tok7; tok8; own1; own2; own4; own7; own8; the locals]
+          join ! $ calls-fn ! fm table-len.ended (table-len.clauses 𝓤 H A at-mem run) (known .2) (to-table-len)
+          (λ m ws-m. m ≡ length (x₃ .now)) (‵ (flft κ₃ q₃) ⊛ ‵ Own₃)
           (asks-table-len) (λ m ws-m. id⊢ 𝓤 _)
-          (and-then ! (load ! (from ! (stop !)) (look ! 50 refl)) (no-more !)) (λ m w-m ws-m e-m is-m. land ! (from ! (stop !)) (init ! 39 refl (uint-lawful 𝓤 H A W w64 .typed m _ is-m .0)) $
-          spread W (‵ (flft κ₃ q₃)) (‵ ftrue ∷ []) (id⊢ 𝓤 _) $ move ! (2 ∷ []) $ spread W (‵ ftrue) (‵ ftrue ∷ []) (id⊢ 𝓤 _) $ keep ! (2 ∷ 4 ∷ 5 ∷ 6 ∷ 7 ∷ 8 ∷ 9 ∷ 10 ∷ 11 ∷ 12 ∷ 13 ∷ 14 ∷ 15 ∷ 16 ∷ 17 ∷ 18 ∷ 19 ∷ 20 ∷ 21 ∷ 22 ∷ 23 ∷ 24 ∷ 25 ∷ 26 ∷ 27 ∷ 28 ∷ 29 ∷ 30 ∷ 31 ∷ 32 ∷ 33 ∷ 34 ∷ 35 ∷ 36 ∷ 37 ∷ 38 ∷ 39 ∷ 40 ∷ 41 ∷ 42 ∷ 43 ∷ 44 ∷ 45 ∷ 46 ∷ 47 ∷ 48 ∷ 49 ∷ 50 ∷ 51 ∷ 52 ∷ 53 ∷ 54 ∷ 55 ∷ 56 ∷ 57 ∷ []) $
-          -- [tok3; F:outstanding; F:clock; F:arrival; F:flight; F:settings; F:«waiting_numbers»; F:waiting; F:ready; F:transmissions; F:queued; back; opened; deaths; tok1; tok2; tok4; tok6; tok7; own1; own2; own4; own6; own7; the locals]
-          by ! (part₁ (l₀, l₁, l₂, l₃, l₄, l₅, l₆, l₇, l₈, l₉, l₁₀, l₁₁, l₁₂, l₁₃, l₁₄, l₁₅, l₁₆, l₁₇, l₁₈, l₁₉, l₂₀, l₂₁, l₂₂, l₂₃, l₂₄, l₂₅, l₂₆, l₂₇, l₂₈, l₂₉, l₃₀, len-queued, len-outstanding, len-transmissions, len-ready, len-waiting, len-waiting-numbers, was-settings, was-flight, was-arrival, was-clock, n, w-n, e-n, recs, w-recs, e-recs, is-recs, m, w-m, e-m, is-m)))))))))))))))))))))))))))))))))))))))))))))))
+          (and-then ! (load ! (from ! (stop !)) (look ! 51 refl)) (no-more !))
+          (λ m w-m ws-m e-m is-m. land ! (from ! (stop !)) (init ! 39 refl (uint-lawful 𝓤 H A W w64 .typed m _ is-m .0)) $
+          spread W (‵ (flft κ₃ q₃)) (‵ ftrue ∷ []) (id⊢ 𝓤 _) $ move ! (2 ∷ []) $ spread W (‵ ftrue) (‵ ftrue ∷ []) (id⊢ 𝓤 _) $
+          keep ! (2 ∷ 4 ∷ 5 ∷ 6 ∷ 7 ∷ 8 ∷ 9 ∷ 10 ∷ 11 ∷ 12 ∷ 13 ∷ 14 ∷ 15 ∷ 16 ∷ 17 ∷ 18 ∷ 19 ∷ 20 ∷ 21 ∷ 22 ∷ 23 ∷ 24 ∷ 25 ∷ 26 ∷ 27
+          ∷ 28 ∷ 29 ∷ 30 ∷ 31 ∷ 32 ∷ 33 ∷ 34 ∷ 35 ∷ 36 ∷ 37 ∷ 38 ∷ 39 ∷ 40 ∷ 41 ∷ 42 ∷ 43 ∷ 44 ∷ 45 ∷ 46 ∷ 47 ∷ 48 ∷ 49 ∷ 50 ∷ 51 ∷ 52
+          ∷ 53 ∷ 54 ∷ 55 ∷ 56 ∷ 57 ∷ 58 ∷ []) $
+          -- [tok3; F:outstanding; F:clock; F:arrival; F:flight; F:settings; F:«waiting_numbers»; F:waiting; F:ready; F:transmissions;
+          -- F:queued; back; opened; deaths; tok1; tok2; tok4; tok7; tok8; own1; own2; own4; own7; own8; the locals]
+          by ! (part₁ (
+            l₀,
+            l₁,
+            l₂,
+            l₃,
+            l₄,
+            l₅,
+            l₆,
+            l₇,
+            l₈,
+            l₉,
+            l₁₀,
+            l₁₁,
+            l₁₂,
+            l₁₃,
+            l₁₄,
+            l₁₅,
+            l₁₆,
+            l₁₇,
+            l₁₈,
+            l₁₉,
+            l₂₀,
+            l₂₁,
+            l₂₂,
+            l₂₃,
+            l₂₄,
+            l₂₅,
+            l₂₆,
+            l₂₇,
+            l₂₈,
+            l₂₉,
+            l₃₀,
+            l₃₁,
+            len-queued,
+            len-outstanding,
+            len-transmissions,
+            len-ready,
+            len-waiting,
+            len-waiting-numbers,
+            was-settings,
+            was-flight,
+            was-arrival,
+            was-clock,
+            n,
+            w-n,
+            e-n,
+            recs,
+            w-recs,
+            e-recs,
+            is-recs,
+            m,
+            w-m,
+            e-m,
+            is-m,
+          ))))))))))))))))))))))))))))))))))))))))))))))))
 
   f-meets : (𝓣 : Tables 𝓤 H) → Known (𝓣 .C) → Meets 𝓤 H A f.signature (WpFn 𝓤 H (𝓣 .C) (𝓣 .Λ) code.function) (f.spec 𝓤 H A at-mem run)
   unfolding Post
-  f-meets 𝓣 known = walk-meets 𝓤 H A f.ended stayed W (goes-ref 𝓤 H A W 7 0 tt (plain (λ _. L)), (goes-dropped 𝓤 H A W 7 (shrSliceOf (1 ∷ []) tt (plain (λ _. u8))) yes (λ κs x f. refl), (goes-dropped 𝓤 H A W 7 (shrSliceOf (2 ∷ []) tt (plain (λ _. u8))) yes (λ κs x f. refl), (goes-dropped 𝓤 H A W 7 (shrSliceOf (3 ∷ []) tt (plain (λ _. R))) yes (λ κs x f. refl), (goes-dropped 𝓤 H A W 7 (shrSliceOf (4 ∷ []) tt (plain (λ _. u32))) yes (λ κs x f. refl), (goes-dropped 𝓤 H A W 7 (plain (λ _. u32)) yes (λ κs x f. refl), (goes-gave-slice 𝓤 H A W 7 5 tt (plain (λ _. u8)), (goes-gave-slice 𝓤 H A W 7 6 tt (plain (λ _. u16)), tt))))))))
+  f-meets 𝓣 known = walk-meets 𝓤 H A f.ended stayed W (
+    goes-ref 𝓤 H A W 7 0 tt (plain (λ _. L)),
+    (
+      goes-dropped 𝓤 H A W 7 (shrSliceOf (1 ∷ []) tt (plain (λ _. u8))) yes (λ κs x f. refl),
+      (
+        goes-dropped 𝓤 H A W 7 (shrSliceOf (2 ∷ []) tt (plain (λ _. u8))) yes (λ κs x f. refl),
+        (
+          goes-dropped 𝓤 H A W 7 (shrSliceOf (3 ∷ []) tt (plain (λ _. R))) yes (λ κs x f. refl),
+          (
+            goes-dropped 𝓤 H A W 7 (shrSliceOf (4 ∷ []) tt (plain (λ _. u32))) yes (λ κs x f. refl),
+            (
+              goes-dropped 𝓤 H A W 7 (plain (λ _. Boolean)) yes (λ κs x f. refl),
+              (
+                goes-dropped 𝓤 H A W 7 (plain (λ _. u32)) yes (λ κs x f. refl),
+                (goes-gave-slice 𝓤 H A W 7 5 tt (plain (λ _. u8)), (goes-gave-slice 𝓤 H A W 7 6 tt (plain (λ _. u16)), tt)),
+              ),
+            ),
+          ),
+        ),
+      ),
+    ),
+  )
       (f.clauses 𝓤 H A at-mem run) (WpFn 𝓤 H (𝓣 .C) (𝓣 .Λ) code.function) (WpFn-mono 𝓤 H (W .laws) 𝓣 code.function)
-      (walked 𝓤 H A f.ended stayed (f.clauses 𝓤 H A at-mem run) (WpFn 𝓤 H (𝓣 .C) (𝓣 .Λ) code.function) (λ κs. (ptr-vals, (slice-vals, (slice-vals, (slice-vals, (slice-vals, ((uint-vals w32), (slice-vals, (slice-vals, tt))))))))) (λ κs. (mut-tells (named 0) (κs .0) L, (shr-slice-tells (named 1) (κs .1 .0) u8, (shr-slice-tells (named 2) (κs .1 .1 .0) u8, (shr-slice-tells (named 3) (κs .1 .1 .1 .0) R, (shr-slice-tells (named 4) (κs .1 .1 .1 .1 .0) u32, ((uint-tells w32), (mut-slice-tells (named 5) (κs .1 .1 .1 .1 .1 .0) u8, (mut-slice-tells (named 6) (κs .1 .1 .1 .1 .1 .1 .0) u16, tt)))))))))
-      (λ κs qs bounds a g are. via 𝓤 _ (fst∗ 𝓤 _ (emp 𝓤)) (walk (κs .0) (κs .1 .0) (κs .1 .1 .0) (κs .1 .1 .1 .0) (κs .1 .1 .1 .1 .0) (κs .1 .1 .1 .1 .1 .0) (κs .1 .1 .1 .1 .1 .1 .0) (qs .0) (qs .1 .0) (qs .1 .1 .0) (qs .1 .1 .1 .0) (qs .1 .1 .1 .1 .0) (qs .1 .1 .1 .1 .1 .0) (qs .1 .1 .1 .1 .1 .1 .0) (a .0 .ptr .0) (a .0 .ptr .1) (a .0 .name) (a .0 .now) (a .1 .0) (are .1 .0 .0 .1) (a .1 .1 .0) (are .1 .1 .0 .0 .1) (a .1 .1 .1 .0) (are .1 .1 .1 .0 .0 .1) (a .1 .1 .1 .1 .0) (are .1 .1 .1 .1 .0 .0 .1) (a .1 .1 .1 .1 .1 .0) (vint w32 (a .1 .1 .1 .1 .1 .0)) (are .1 .1 .1 .1 .1 .0) (a .1 .1 .1 .1 .1 .1 .0) (are .1 .1 .1 .1 .1 .1 .0 .0 .1) (a .1 .1 .1 .1 .1 .1 .1 .0) (are .1 .1 .1 .1 .1 .1 .1 .0 .0 .1) (𝓣 .C) (𝓣 .Λ) (fmOf 𝓤 H (W .laws) 𝓣) known)))
+      (walked 𝓤 H A f.ended stayed (f.clauses 𝓤 H A at-mem run) (WpFn 𝓤 H (𝓣 .C) (𝓣 .Λ) code.function)
+      (λ κs. (
+        ptr-vals,
+        (
+          slice-vals,
+          (
+            slice-vals,
+            (slice-vals, (slice-vals, (bool-vals, ((uint-vals w32), (slice-vals, (slice-vals, tt)))))),
+          ),
+        ),
+      ))
+      (λ κs. (
+        mut-tells (named 0) (κs .0) L,
+        (
+          shr-slice-tells (named 1) (κs .1 .0) u8,
+          (
+            shr-slice-tells (named 2) (κs .1 .1 .0) u8,
+            (
+              shr-slice-tells (named 3) (κs .1 .1 .1 .0) R,
+              (
+                shr-slice-tells (named 4) (κs .1 .1 .1 .1 .0) u32,
+                (
+                  bool-tells,
+                  (
+                    (uint-tells w32),
+                    (mut-slice-tells (named 5) (κs .1 .1 .1 .1 .1 .0) u8, (mut-slice-tells (named 6) (κs .1 .1 .1 .1 .1 .1 .0) u16, tt)),
+                  ),
+                ),
+              ),
+            ),
+          ),
+        ),
+      ))
+      (λ κs qs bounds a g are. via 𝓤 _ (fst∗ 𝓤 _ (emp 𝓤))
+      (walk (κs .0) (κs .1 .0) (κs .1 .1 .0) (κs .1 .1 .1 .0) (κs .1 .1 .1 .1 .0) (κs .1 .1 .1 .1 .1 .0) (κs .1 .1 .1 .1 .1 .1 .0) (qs .0)
+      (qs .1 .0) (qs .1 .1 .0) (qs .1 .1 .1 .0) (qs .1 .1 .1 .1 .0) (qs .1 .1 .1 .1 .1 .0) (qs .1 .1 .1 .1 .1 .1 .0) (a .0 .ptr .0)
+      (a .0 .ptr .1) (a .0 .name) (a .0 .now) (a .1 .0) (are .1 .0 .0 .1) (a .1 .1 .0) (are .1 .1 .0 .0 .1) (a .1 .1 .1 .0)
+      (are .1 .1 .1 .0 .0 .1) (a .1 .1 .1 .1 .0) (are .1 .1 .1 .1 .0 .0 .1) (a .1 .1 .1 .1 .1 .0) (vbool (a .1 .1 .1 .1 .1 .0))
+      (are .1 .1 .1 .1 .1 .0) (a .1 .1 .1 .1 .1 .1 .0) (vint w32 (a .1 .1 .1 .1 .1 .1 .0)) (are .1 .1 .1 .1 .1 .1 .0)
+      (a .1 .1 .1 .1 .1 .1 .1 .0) (are .1 .1 .1 .1 .1 .1 .1 .0 .0 .1) (a .1 .1 .1 .1 .1 .1 .1 .1 .0) (are .1 .1 .1 .1 .1 .1 .1 .1 .0 .0 .1)
+      (𝓣 .C) (𝓣 .Λ) (fmOf 𝓤 H (W .laws) 𝓣) known)))
 
 pub write-out-spec : {M : Type 1} → stated.statement M
 unfolding code.routine tablesOf
@@ -279,11 +1368,18 @@ write-out-spec 𝓤 H 𝓜 𝓖 𝓡 =
     entered 𝓤 H (tripleOf 𝓤 H (𝓖 .A) f.signature (f.spec 𝓤 H (𝓖 .A) (𝓜 .mem) (𝓡 .run)))
     (tables 𝓤 H 𝓜 𝓡 code.env .C) (tables 𝓤 H 𝓜 𝓡 code.env .Λ) #f code.function (code.unfolded 𝓤 H 𝓜 𝓡)
     (f-meets 𝓤 H (𝓖 .A) (givenOf 𝓤 H 𝓜 𝓖) (𝓜 .mem) (𝓡 .run) (tablesOf 𝓤 H 𝓜 (tables 𝓤 H 𝓜 𝓡 code.env)) (
-      cited 𝓤 H (tripleOf 𝓤 H (𝓖 .A) count-of.signature (count-of.spec 𝓤 H (𝓖 .A) (𝓜 .mem) (𝓡 .run))) 𝓜 𝓡 code.env count-of-def.name count-of-def.routine code.calls-results·outstanding-count (count-of-thm.met 𝓤 H 𝓜 𝓖 𝓡),
-      cited 𝓤 H (tripleOf 𝓤 H (𝓖 .A) gather.signature (gather.spec 𝓤 H (𝓖 .A) (𝓜 .mem) (𝓡 .run))) 𝓜 𝓡 code.env gather-def.name gather-def.routine code.calls-gathering·gather (gather-thm.met 𝓤 H 𝓜 𝓖 𝓡),
-      cited 𝓤 H (tripleOf 𝓤 H (𝓖 .A) table-len.signature (table-len.spec 𝓤 H (𝓖 .A) (𝓜 .mem) (𝓡 .run))) 𝓜 𝓡 code.env table-len-def.name table-len-def.routine code.calls-records·table-len (table-len-thm.met 𝓤 H 𝓜 𝓖 𝓡),
-      cited 𝓤 H (tripleOf 𝓤 H (𝓖 .A) core.signature (core.spec 𝓤 H (𝓖 .A) (𝓜 .mem) (𝓡 .run))) 𝓜 𝓡 code.env core-def.name core-def.routine code.calls-flush-core·flush (core-thm.met 𝓤 H 𝓜 𝓖 𝓡),
-      cited 𝓤 H (tripleOf 𝓤 H (𝓖 .A) flight-of.signature (flight-of.spec 𝓤 H (𝓖 .A) (𝓜 .mem) (𝓡 .run))) 𝓜 𝓡 code.env flight-of-def.name flight-of-def.routine code.calls-results·flushed-flight (flight-of-thm.met 𝓤 H 𝓜 𝓖 𝓡),
-      cited 𝓤 H (tripleOf 𝓤 H (𝓖 .A) arrival-of.signature (arrival-of.spec 𝓤 H (𝓖 .A) (𝓜 .mem) (𝓡 .run))) 𝓜 𝓡 code.env arrival-of-def.name arrival-of-def.routine code.calls-results·flushed-arrival (arrival-of-thm.met 𝓤 H 𝓜 𝓖 𝓡),
-      cited 𝓤 H (tripleOf 𝓤 H (𝓖 .A) clock-of.signature (clock-of.spec 𝓤 H (𝓖 .A) (𝓜 .mem) (𝓡 .run))) 𝓜 𝓡 code.env clock-of-def.name clock-of-def.routine code.calls-results·flushed-clock (clock-of-thm.met 𝓤 H 𝓜 𝓖 𝓡),
+      cited 𝓤 H (tripleOf 𝓤 H (𝓖 .A) count-of.signature (count-of.spec 𝓤 H (𝓖 .A) (𝓜 .mem) (𝓡 .run))) 𝓜 𝓡 code.env count-of-def.name
+          count-of-def.routine code.calls-results·outstanding-count (count-of-thm.met 𝓤 H 𝓜 𝓖 𝓡),
+      cited 𝓤 H (tripleOf 𝓤 H (𝓖 .A) gather.signature (gather.spec 𝓤 H (𝓖 .A) (𝓜 .mem) (𝓡 .run))) 𝓜 𝓡 code.env gather-def.name
+          gather-def.routine code.calls-gathering·gather (gather-thm.met 𝓤 H 𝓜 𝓖 𝓡),
+      cited 𝓤 H (tripleOf 𝓤 H (𝓖 .A) table-len.signature (table-len.spec 𝓤 H (𝓖 .A) (𝓜 .mem) (𝓡 .run))) 𝓜 𝓡 code.env table-len-def.name
+          table-len-def.routine code.calls-records·table-len (table-len-thm.met 𝓤 H 𝓜 𝓖 𝓡),
+      cited 𝓤 H (tripleOf 𝓤 H (𝓖 .A) core.signature (core.spec 𝓤 H (𝓖 .A) (𝓜 .mem) (𝓡 .run))) 𝓜 𝓡 code.env core-def.name core-def.routine
+          code.calls-flush-core·flush (core-thm.met 𝓤 H 𝓜 𝓖 𝓡),
+      cited 𝓤 H (tripleOf 𝓤 H (𝓖 .A) flight-of.signature (flight-of.spec 𝓤 H (𝓖 .A) (𝓜 .mem) (𝓡 .run))) 𝓜 𝓡 code.env flight-of-def.name
+          flight-of-def.routine code.calls-results·flushed-flight (flight-of-thm.met 𝓤 H 𝓜 𝓖 𝓡),
+      cited 𝓤 H (tripleOf 𝓤 H (𝓖 .A) arrival-of.signature (arrival-of.spec 𝓤 H (𝓖 .A) (𝓜 .mem) (𝓡 .run))) 𝓜 𝓡 code.env arrival-of-def.name
+          arrival-of-def.routine code.calls-results·flushed-arrival (arrival-of-thm.met 𝓤 H 𝓜 𝓖 𝓡),
+      cited 𝓤 H (tripleOf 𝓤 H (𝓖 .A) clock-of.signature (clock-of.spec 𝓤 H (𝓖 .A) (𝓜 .mem) (𝓡 .run))) 𝓜 𝓡 code.env clock-of-def.name
+          clock-of-def.routine code.calls-results·flushed-clock (clock-of-thm.met 𝓤 H 𝓜 𝓖 𝓡),
     ))

@@ -17,7 +17,8 @@ returns c h =
     let e = c .before .before .match .keys1 in
     let r = c .in-words .ensures in
     record {
-      segments = rw (e, r .is) (ap (λ (s : List (List ℕ)). set (segmentsOf (a .link)) 0 s) (words-changed (a .link .queued) (a .index) (r .word) (a .field) _ (λ g. r .fields g (rw e at h))));
+      segments = rw (e, r .is) (ap (λ (s : List (List ℕ)). set (segmentsOf (a .link)) 0 s)
+          (words-changed (a .link .queued) (a .index) (r .word) (a .field) _ (λ g. r .fields g (rw e at h))));
       counts = refl;
       fields = refl;
     }
@@ -28,7 +29,8 @@ returns-3 c h =
     let e = c .before .before .match .keys3 in
     let r = c .in-words2 .ensures in
     record {
-      segments = rw (e, r .is) (ap (λ (s : List (List ℕ)). set (segmentsOf (a .link)) 2 s) (words-changed (a .link .ready) (a .index) (r .word) (a .field) _ (λ g. r .fields g (rw e at h))));
+      segments = rw (e, r .is) (ap (λ (s : List (List ℕ)). set (segmentsOf (a .link)) 2 s)
+          (words-changed (a .link .ready) (a .index) (r .word) (a .field) _ (λ g. r .fields g (rw e at h))));
       counts = refl;
       fields = refl;
     }

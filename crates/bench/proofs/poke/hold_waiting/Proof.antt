@@ -17,7 +17,9 @@ returns c h =
     let a = c .before .before .before .args in
     let e = c .before .before .if1 .taken in
     record {
-      segments = rw (e, c .in-numbers .ensures) (ap (λ (s : List (List ℕ)). set (segmentsOf (a .link)) 3 s) (number-changed waitingAt waitingFields (λ w n. refl) (a .link .waiting) (a .link .«waiting_numbers») (a .i) _));
+      segments = rw (e, c .in-numbers .ensures)
+          (ap (λ (s : List (List ℕ)). set (segmentsOf (a .link)) 3 s)
+          (number-changed waitingAt waitingFields (λ w n. refl) (a .link .waiting) (a .link .«waiting_numbers») (a .i) _));
       counts = refl;
       fields = refl;
     }
@@ -28,7 +30,10 @@ returns-2 c h =
     let three : a .field < 3 = omega (arith, c .before .before .if1 .left) in
     let r = c .in-words .ensures in
     record {
-      segments = rw (r .is, stored-three 3 (a .field) (a .value) (omega arith) three) (ap (λ (s : List (List ℕ)). set (segmentsOf (a .link)) 3 s) (word-changed waitingAt waitingFields (λ w n. refl) (a .link .waiting) (a .link .«waiting_numbers») (a .i) (r .word) (a .field) _ three (λ g. r .fields g three)));
+      segments = rw (r .is, stored-three 3 (a .field) (a .value) (omega arith) three)
+          (ap (λ (s : List (List ℕ)). set (segmentsOf (a .link)) 3 s)
+          (word-changed waitingAt waitingFields (λ w n. refl) (a .link .waiting) (a .link .«waiting_numbers») (a .i) (r .word) (a .field) _
+          three (λ g. r .fields g three)));
       counts = refl;
       fields = refl;
     }

@@ -11,7 +11,12 @@ returns-8 : tie.Need-returns-8
 returns-8 c =
     let rest = c .before .match .rest in
     let n = c .before .before .before .args .field in
-    let last : n ≡ 12 = omega (arith, past n 11 (past n 10 (past n 9 (past n 8 (past n 7 (past n 6 (past n 5 (omega arith) (rest .0 .0 .0 .0 .0 .0 .1)) (rest .0 .0 .0 .0 .0 .1)) (rest .0 .0 .0 .0 .1)) (rest .0 .0 .0 .1)) (rest .0 .0 .1)) (rest .0 .1)) (rest .1)) in
+    let last : n ≡ 12 = omega (
+      arith,
+      past n 11 (past n 10
+          (past n 9 (past n 8 (past n 7 (past n 6 (past n 5 (omega arith) (rest .0 .0 .0 .0 .0 .0 .1)) (rest .0 .0 .0 .0 .0 .1))
+          (rest .0 .0 .0 .0 .1)) (rest .0 .0 .0 .1)) (rest .0 .0 .1)) (rest .0 .1)) (rest .1),
+    ) in
     record { fields = rw last; counts = refl; lists = refl }
 
 pub number-spec : {M : Type 1} → statement M

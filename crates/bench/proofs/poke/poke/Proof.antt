@@ -10,7 +10,12 @@ use Rattle.bench.proofs.poke.poke.Tie as tie
 first : tie.Need-returns
 first c h =
     let e = c .setting .ensures in
-    record { fields = rw (e .1, e .2) (settings-first (c .before .before .args .link .settings) (c .setting .result) _ _ _ (c .before .if1 .taken) (e .0)); counts = refl; lists = refl }
+    record {
+      fields = rw (e .1, e .2) (settings-first (c .before .before .args .link .settings) (c .setting .result) _ _ _
+          (c .before .if1 .taken) (e .0));
+      counts = refl;
+      lists = refl;
+    }
 
 pub poke-spec : {M : Type 1} → statement M
 poke-spec =

@@ -11,7 +11,10 @@ returns-5 : tie.Need-returns-5
 returns-5 c =
     let rest = c .before .match .rest in
     let n = c .before .before .args .field in
-    let last : n ≡ 4 = omega (arith, past n 3 (past n 2 (past n 1 (past n 0 (omega arith) (rest .0 .0 .0 .1)) (rest .0 .0 .1)) (rest .0 .1)) (rest .1)) in
+    let last : n ≡ 4 = omega (
+      arith,
+      past n 3 (past n 2 (past n 1 (past n 0 (omega arith) (rest .0 .0 .0 .1)) (rest .0 .0 .1)) (rest .0 .1)) (rest .1),
+    ) in
     (rw (last, c .byte2 .ensures), refl, refl)
 
 pub setting-spec : {M : Type 1} → statement M

@@ -11,7 +11,11 @@ returns-6 : tie.Need-returns-6
 returns-6 c h =
     let rest = c .before .match .rest in
     let n = c .before .before .before .args .field in
-    let last : n ≡ 18 = omega (arith, past n 17 (past n 16 (past n 15 (past n 14 (past n 13 (omega arith) (rest .0 .0 .0 .0 .1)) (rest .0 .0 .0 .1)) (rest .0 .0 .1)) (rest .0 .1)) (rest .1)) in
+    let last : n ≡ 18 = omega (
+      arith,
+      past n 17 (past n 16 (past n 15 (past n 14 (past n 13 (omega arith) (rest .0 .0 .0 .0 .1)) (rest .0 .0 .0 .1)) (rest .0 .0 .1))
+          (rest .0 .1)) (rest .1),
+    ) in
     record { fields = rw last; counts = refl; lists = refl }
 
 pub wish-spec : {M : Type 1} → statement M

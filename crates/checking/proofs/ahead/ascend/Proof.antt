@@ -29,5 +29,12 @@ ascend-spec =
     (λ c κs. search needs)
     (λ c. search needs)
     (λ c. search needs)
-    (λ c. let s = c .before .before .before .before .before in (search needs, near-next (s .args .numbers .now) (s .args .n) _ _ (c .before .before .before .before .loop .fit) (c .before .before .before .before .loop .inv .0) (omega (arith, s .pre)) (c .before .before .before .before .loop .inv .1) (c .follows .result) (c .before .before .before .loop-test .taken) (c .follows .ensures)))
-    (λ c. let s = c .before .before in sym (near-end (s .args .numbers .now) (s .args .n) _ _ (c .before .loop .fit) (c .before .loop .inv .0) (omega (arith, s .pre)) (c .before .loop .inv .1) (c .loop-test .left))))
+    (λ c. let s = c .before .before .before .before .before in (
+      search needs,
+      near-next (s .args .numbers .now) (s .args .n) _ _ (c .before .before .before .before .loop .fit)
+          (c .before .before .before .before .loop .inv .0) (omega (arith, s .pre)) (c .before .before .before .before .loop .inv .1)
+          (c .follows .result) (c .before .before .before .loop-test .taken) (c .follows .ensures),
+    ))
+    (λ c. let s = c .before .before in
+    sym (near-end (s .args .numbers .now) (s .args .n) _ _ (c .before .loop .fit) (c .before .loop .inv .0) (omega (arith, s .pre))
+    (c .before .loop .inv .1) (c .loop-test .left))))

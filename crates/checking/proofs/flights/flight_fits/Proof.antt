@@ -17,7 +17,8 @@ use Rattle.checking.proofs.flights.flight_fits.Tie as tie
 abbrev Inv-loop : tie.InvT-loop
 Inv-loop settings flight records n least₀ i₀ least i =
     (i ≤ n) × (length records ≡ 32)
-    × (leastAfterAll (settings .mode) (flight .una) (flight .next) 0 (take n records) ≡ leastAfterAll (settings .mode) (flight .una) (flight .next) least (drop i (take n records)))
+    × (leastAfterAll (settings .mode) (flight .una) (flight .next) 0 (take n records) ≡ leastAfterAll (settings .mode) (flight .una)
+    (flight .next) least (drop i (take n records)))
 
 abbrev μ-loop : tie.MeasureT-loop
 μ-loop settings flight records n least₀ i₀ least i = n - i
@@ -31,8 +32,12 @@ loop-again : tie.Need-loop-again Inv-loop μ-loop
 loop-again c =
     let l = c .before .before .before .loop in
     let n = c .before .before .before .before .looked-at in
-    let few = n .ensures .1 in
-    (search needs, l .inv .1, least-next _ _ _ _ (n .result) (l .i) _ (l .least) (l .inv .2) _ _ (c .before .before .loop-test .taken) (omega (arith, few, l .inv .1)) (c .next-least .ensures))
+    let few = n .ensures .1 in (
+      search needs,
+      l .inv .1,
+      least-next _ _ _ _ (n .result) (l .i) _ (l .least) (l .inv .2) _ _ (c .before .before .loop-test .taken)
+          (omega (arith, few, l .inv .1)) (c .next-least .ensures),
+    )
 
 returns : tie.Need-returns Inv-loop μ-loop
 returns c =
@@ -43,7 +48,8 @@ returns c =
     c .flown .ensures
     ∙ ap (flownBy (s .flight .una) (s .flight .next)) (sym passed)
     ∙ flown-fits (s .settings .mode) (s .flight .una) (s .flight .next) _
-    ∙ ap (λ (rs : List Record). flightFits (s .settings .mode) (s .flight .una) (s .flight .next) rs) (looked-all _ _ _ (l .inv .1) (n .ensures .0))
+    ∙ ap (λ (rs : List Record). flightFits (s .settings .mode) (s .flight .una) (s .flight .next) rs)
+    (looked-all _ _ _ (l .inv .1) (n .ensures .0))
 
 pub flight-fits-spec : {M : Type 1} → statement M
 flight-fits-spec =

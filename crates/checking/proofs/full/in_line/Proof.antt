@@ -12,7 +12,8 @@ use Rattle.checking.proofs.full.in_line.Statement.{statement}
 use Rattle.checking.proofs.full.in_line.Tie as tie
 
 abbrev Inv-loop : tie.InvT-loop
-Inv-loop words from fit₀ slot₀ i₀ fit slot i = (slot ≡ from + i) × (inLine from (take 128 words) ≡ (fit && inLine (from + i) (drop i (take 128 words))))
+Inv-loop words from fit₀ slot₀ i₀ fit slot i =
+    (slot ≡ from + i) × (inLine from (take 128 words) ≡ (fit && inLine (from + i) (drop i (take 128 words))))
 
 abbrev μ-loop : tie.MeasureT-loop
 μ-loop words from fit₀ slot₀ i₀ fit slot i = 128 - i
@@ -26,8 +27,11 @@ loop-again : tie.Need-loop-again Inv-loop μ-loop
 loop-again c =
     let s = c .before .before .before .before in
     let l = c .before .before .before .loop in
-    let at : l .slot + 1 ≡ s .args .from + (l .i + 1) = omega (arith, l .inv .0) in
-    (at, line-next (s .args .words .now) (s .args .from) (l .i) _ (l .fit) (s .pre .0) (l .inv .1) (c .is-at .result) (l .slot) (c .before .before .loop-test .taken) (l .inv .0) (c .is-at .ensures))
+    let at : l .slot + 1 ≡ s .args .from + (l .i + 1) = omega (arith, l .inv .0) in (
+      at,
+      line-next (s .args .words .now) (s .args .from) (l .i) _ (l .fit) (s .pre .0) (l .inv .1) (c .is-at .result) (l .slot)
+          (c .before .before .loop-test .taken) (l .inv .0) (c .is-at .ensures),
+    )
 
 returns : tie.Need-returns Inv-loop μ-loop
 returns c =

@@ -12,7 +12,8 @@ returns : tie.Need-returns
 returns c =
     let s = c .before .before .before .before .before in
     let a = s .args in
-    full-held (a .ready .now) (a .n) (a .waiting .now) (a .m) _ _ (s .pre .0) (s .pre .1) (s .pre .2) (s .pre .3) (c .before .before .before .before .if1 .taken)
+    full-held (a .ready .now) (a .n) (a .waiting .now) (a .m) _ _ (s .pre .0) (s .pre .1) (s .pre .2) (s .pre .3)
+    (c .before .before .before .before .if1 .taken)
     (c .before .before .before .in-line .ensures)
     (c .before .before .in-line2 .ensures)
     (c .before .if2 .taken)

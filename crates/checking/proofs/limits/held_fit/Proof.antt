@@ -27,5 +27,10 @@ held-fit-spec =
     (λ c κs. search needs)
     (λ c. search needs)
     (λ c. search needs)
-    (λ c. let s = c .before .before .before .before in (search needs, all-next _ (s .args .words .now) (s .args .n) _ _ (c .before .before .before .loop .fit) (c .before .before .before .loop .inv .1) (c .word-fits .result) (c .before .before .loop-test .taken) (omega (arith, s .pre)) (c .word-fits .ensures)))
+    (λ c. let s = c .before .before .before .before in (
+      search needs,
+      all-next _ (s .args .words .now) (s .args .n) _ _ (c .before .before .before .loop .fit)
+          (c .before .before .before .loop .inv .1) (c .word-fits .result) (c .before .before .loop-test .taken) (omega (arith, s .pre))
+          (c .word-fits .ensures),
+    ))
     (λ c. sym (all-end _ _ _ _ _ (c .before .loop .fit) (c .before .loop .inv .1) (c .loop-test .left))))

@@ -13,7 +13,8 @@ use Rattle.checking.proofs.limits.queued_fit.Statement.{statement}
 use Rattle.checking.proofs.limits.queued_fit.Tie as tie
 
 abbrev Inv-loop : tie.InvT-loop
-Inv-loop words n mss fit₀ i₀ fit i = (i ≤ n) × (all (sendWordFits mss) (take n words) ≡ (fit && all (sendWordFits mss) (drop i (take n words))))
+Inv-loop words n mss fit₀ i₀ fit i =
+    (i ≤ n) × (all (sendWordFits mss) (take n words) ≡ (fit && all (sendWordFits mss) (drop i (take n words))))
 
 pub queued-fit-spec : {M : Type 1} → statement M
 queued-fit-spec =
@@ -27,5 +28,10 @@ queued-fit-spec =
     (λ c κs. search needs)
     (λ c. search needs)
     (λ c. search needs)
-    (λ c. let s = c .before .before .before .before in (search needs, all-next _ (s .args .words .now) (s .args .n) _ _ (c .before .before .before .loop .fit) (c .before .before .before .loop .inv .1) (c .send-word-fits .result) (c .before .before .loop-test .taken) (omega (arith, s .pre)) (c .send-word-fits .ensures)))
+    (λ c. let s = c .before .before .before .before in (
+      search needs,
+      all-next _ (s .args .words .now) (s .args .n) _ _ (c .before .before .before .loop .fit)
+          (c .before .before .before .loop .inv .1) (c .send-word-fits .result) (c .before .before .loop-test .taken) (omega (arith, s .pre))
+          (c .send-word-fits .ensures),
+    ))
     (λ c. sym (all-end _ _ _ _ _ (c .before .loop .fit) (c .before .loop .inv .1) (c .loop-test .left))))

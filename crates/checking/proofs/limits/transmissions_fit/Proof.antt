@@ -13,7 +13,8 @@ use Rattle.checking.proofs.limits.transmissions_fit.Statement.{statemen
 use Rattle.checking.proofs.limits.transmissions_fit.Tie as tie
 
 abbrev Inv-loop : tie.InvT-loop
-Inv-loop transmissions n fit₀ i₀ fit i = (i ≤ n) × (all sentFew (take n transmissions) ≡ (fit && all sentFew (drop i (take n transmissions))))
+Inv-loop transmissions n fit₀ i₀ fit i =
+    (i ≤ n) × (all sentFew (take n transmissions) ≡ (fit && all sentFew (drop i (take n transmissions))))
 
 pub transmissions-fit-spec : {M : Type 1} → statement M
 transmissions-fit-spec =
@@ -25,5 +26,9 @@ transmissions-fit-spec =
     (λ c. search needs)
     (λ c. search needs)
     (λ c. search needs)
-    (λ c. let s = c .before .before .before in (search needs, all-next _ (s .args .transmissions .now) (s .args .n) _ _ (c .before .before .loop .fit) (c .before .before .loop .inv .1) _ (c .before .loop-test .taken) (omega (arith, s .pre)) refl))
+    (λ c. let s = c .before .before .before in (
+      search needs,
+      all-next _ (s .args .transmissions .now) (s .args .n) _ _ (c .before .before .loop .fit)
+          (c .before .before .loop .inv .1) _ (c .before .loop-test .taken) (omega (arith, s .pre)) refl,
+    ))
     (λ c. sym (all-end _ _ _ _ _ (c .before .loop .fit) (c .before .loop .inv .1) (c .loop-test .left))))

@@ -23,4 +23,5 @@ returns-3 : tie.Need-returns-3
 returns-3 c = when-none _ _ _ (c .before .before .if1 .left) (c .before .if2 .left) (c .at-least-one3 .ensures)
 
 pub after-flush-spec : {M : Type 1} → statement M
-after-flush-spec = tie.close (tie.spec (search needs) (search needs) returns (search needs) (search needs) returns-2 (search needs) returns-3)
+after-flush-spec = tie.close (tie.spec (search needs) (search needs) returns (search needs) (search needs) returns-2 (search needs)
+    returns-3)

@@ -7,7 +7,13 @@ use Rattle.congestion.proofs.rules.avoidance.Statement.{statement}
 use Rattle.congestion.proofs.rules.avoidance.Tie as tie
 
 widened-requires : tie.Need-widened-requires
-widened-requires c κs = (c .before .pre .window, rw (c .raised .ensures) (raised-fits (c .before .args .c .allowance) (c .before .args .mss) (c .before .pre .allowance) (c .before .pre .most)), c .before .pre .least, c .before .pre .most)
+widened-requires c κs = (
+  c .before .pre .window,
+  rw (c .raised .ensures) (raised-fits (c .before .args .c .allowance) (c .before .args .mss) (c .before .pre .allowance)
+      (c .before .pre .most)),
+  c .before .pre .least,
+  c .before .pre .most,
+)
 
 returns : tie.Need-returns
 unfolding avoidance

@@ -8,7 +8,12 @@ use Rattle.congestion.proofs.rules.limited.Statement.{statement}
 use Rattle.congestion.proofs.rules.limited.Tie as tie
 
 mul-t7 : tie.Need-mul-t7
-mul-t7 c = record { fits = omega (arith, product-fits (c .before .before .args .peer) (c .before .before .args .mss) (omega arith) (c .before .before .pre)) }
+mul-t7 c = record {
+  fits = omega (
+    arith,
+    product-fits (c .before .before .args .peer) (c .before .before .args .mss) (omega arith) (c .before .before .pre),
+  );
+}
 
 returns : tie.Need-returns
 unfolding limited

@@ -13,10 +13,23 @@ mul-result : tie.Need-mul-result
 mul-result c = record { fits = omega (arith, square-fits (c .before .args .mss) (c .before .pre .2)) }
 
 add-result : tie.Need-add-result
-add-result c = record { fits = omega (arith, square-fits (c .before .args .mss) (c .before .pre .2), div-le-self (c .before .args .mss * c .before .args .mss) (c .larger .result)) }
+add-result c = record {
+  fits = omega (
+    arith,
+    square-fits (c .before .args .mss) (c .before .pre .2),
+    div-le-self (c .before .args .mss * c .before .args .mss) (c .larger .result),
+  );
+}
 
 add-result-2 : tie.Need-add-result-2
-add-result-2 c = record { fits = omega (arith, c .larger .ensures, square-fits (c .before .args .mss) (c .before .pre .2), div-le-self (c .before .args .mss * c .before .args .mss) (c .larger .result)) }
+add-result-2 c = record {
+  fits = omega (
+    arith,
+    c .larger .ensures,
+    square-fits (c .before .args .mss) (c .before .pre .2),
+    div-le-self (c .before .args .mss * c .before .args .mss) (c .larger .result),
+  );
+}
 
 returns : tie.Need-returns
 unfolding raised

@@ -22,11 +22,17 @@ loop-holds : tie.Need-loop-holds Inv-loop μ-loop
 loop-holds c = (omega arith, refl)
 
 loop-again : tie.Need-loop-again Inv-loop μ-loop
-loop-again c =
-    (omega arith, c .before .before .before .before .loop .inv .1 ∙ lengths-step (c .before .before .before .before .before .before .args .mtu) (c .before .before .before .before .before .before .args .lengths .now) (c .before .before .before .before .loop .i) (search needs) (rw (c .before .wide .ensures) at (c .if1 .taken)))
+loop-again c = (
+  omega arith,
+  c .before .before .before .before .loop .inv .1 ∙ lengths-step
+      (c .before .before .before .before .before .before .args .mtu) (c .before .before .before .before .before .before .args .lengths .now)
+      (c .before .before .before .before .loop .i) (search needs) (rw (c .before .wide .ensures) at (c .if1 .taken)),
+)
 
 returns : tie.Need-returns Inv-loop μ-loop
-returns c = sym (c .before .before .before .before .loop .inv .1 ∙ lengths-bad (c .before .before .before .before .before .before .args .mtu) (c .before .before .before .before .before .before .args .lengths .now) (c .before .before .before .before .loop .i) (search needs) (rw (c .before .wide .ensures) at (c .if1 .left)))
+returns c = sym (c .before .before .before .before .loop .inv .1 ∙ lengths-bad
+    (c .before .before .before .before .before .before .args .mtu) (c .before .before .before .before .before .before .args .lengths .now)
+    (c .before .before .before .before .loop .i) (search needs) (rw (c .before .wide .ensures) at (c .if1 .left)))
 
 returns-2 : tie.Need-returns-2 Inv-loop μ-loop
 returns-2 c = sym (c .before .loop .inv .1 ∙ lengths-end _ _ _ (c .loop-test .left))

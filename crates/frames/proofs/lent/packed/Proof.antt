@@ -21,13 +21,21 @@ loop-holds : tie.Need-loop-holds Inv-loop μ-loop
 loop-holds c = (omega arith, refl)
 
 returns : tie.Need-returns Inv-loop μ-loop
-returns c = sym (c .before .before .before .before .loop .inv .1 ∙ packed-short (c .before .before .before .before .before .before .args .lengths .now) (c .before .before .before .before .loop .i) (c .before .wide .result) (c .before .before .before .before .loop .left) (c .before .wide .ensures) (search needs) (search needs))
+returns c = sym (c .before .before .before .before .loop .inv .1 ∙ packed-short
+    (c .before .before .before .before .before .before .args .lengths .now) (c .before .before .before .before .loop .i)
+    (c .before .wide .result) (c .before .before .before .before .loop .left) (c .before .wide .ensures) (search needs) (search needs))
 
 loop-again : tie.Need-loop-again Inv-loop μ-loop
-loop-again c = (omega arith, c .before .before .before .before .loop .inv .1 ∙ packed-step (c .before .before .before .before .before .before .args .lengths .now) (c .before .before .before .before .loop .i) (c .before .wide .result) (c .before .before .before .before .loop .left) (c .before .wide .ensures) (search needs) (search needs))
+loop-again c = (
+  omega arith,
+  c .before .before .before .before .loop .inv .1 ∙ packed-step
+      (c .before .before .before .before .before .before .args .lengths .now) (c .before .before .before .before .loop .i)
+      (c .before .wide .result) (c .before .before .before .before .loop .left) (c .before .wide .ensures) (search needs) (search needs),
+)
 
 returns-2 : tie.Need-returns-2 Inv-loop μ-loop
-returns-2 c = sym (c .before .loop .inv .1 ∙ packed-end (c .before .before .before .args .lengths .now) (c .before .loop .i) (c .before .loop .left) (c .loop-test .left))
+returns-2 c = sym (c .before .loop .inv .1 ∙ packed-end (c .before .before .before .args .lengths .now) (c .before .loop .i)
+    (c .before .loop .left) (c .loop-test .left))
 
 pub packed-spec : {M : Type 1} → statement M
 packed-spec =

@@ -21,7 +21,8 @@ Inv-loop out₀ at s n here₀ from₀ out here from =
     (length s ≤ 65536)
     × (24 * here ≤ 24 * at + 80 * from)
     × (length out ≡ length out₀)
-    × ((gs : List Segment) × Remaining (numberAt 4 s 0) 488 s from gs × Left out₀ at (body (listed s)) out here (segmentLines gs ++ countLine n))
+    × ((gs : List Segment) × Remaining (numberAt 4 s 0) 488 s from gs × Left out₀ at (body (listed s)) out here
+    (segmentLines gs ++ countLine n))
 
 abbrev μ-loop : tie.MeasureT-loop
 μ-loop out₀ at s n here₀ from₀ out here from = length s - from
@@ -43,8 +44,15 @@ loop-holds c =
 
 put-line-requires : tie.Need-put-line-requires Inv-loop μ-loop
 put-line-requires c κs =
-    let l = c .before .before .before .before .before in
-    (c .count-line .ensures .most, omega (arith, c .count-line .ensures .most, l .loop .inv .3 .1 .inside, l .before .before .before .pre .1))
+    let l = c .before .before .before .before .before in (
+      c .count-line .ensures .most,
+      omega (
+        arith,
+        c .count-line .ensures .most,
+        l .loop .inv .3 .1 .inside,
+        l .before .before .before .pre .1,
+      ),
+    )
 
 same-length : tie.Need-same-length Inv-loop μ-loop
 same-length c =
@@ -61,8 +69,10 @@ returns c =
 
 put-line-requires-2 : tie.Need-put-line-requires-2 Inv-loop μ-loop
 put-line-requires-2 c κs =
-    let l = c .before .before .before .before .before .before in
-    (c .segment-line .ensures .most, omega (arith, c .segment-line .ensures .most, l .loop .inv .3 .1 .inside, l .before .before .before .pre .1))
+    let l = c .before .before .before .before .before .before in (
+      c .segment-line .ensures .most,
+      omega (arith, c .segment-line .ensures .most, l .loop .inv .3 .1 .inside, l .before .before .before .pre .1),
+    )
 
 loop-less : tie.Need-loop-less Inv-loop μ-loop
 loop-less c =
@@ -85,7 +95,12 @@ loop-again c =
         l .loop .inv .1,
       ),
       put .put-line2 .kept .0 ∙ l .loop .inv .2,
-      (t .others, t .remaining, left-line _ _ _ _ _ _ _ _ _ _ _ _ (l .loop .inv .3 .2) (t .whole) (put .before .segment-line .ensures) (put .put-line2 .ensures)),
+      (
+        t .others,
+        t .remaining,
+        left-line _ _ _ _ _ _ _ _ _ _ _ _ (l .loop .inv .3 .2) (t .whole) (put .before .segment-line .ensures)
+            (put .put-line2 .ensures),
+      ),
     )
 
 pub put-segments-spec : {M : Type 1} → statement M

@@ -36,7 +36,12 @@ pub +put-decimal-spec : {M : Type 1} → statement M
     (λ c κs. (omega (arith, c .before .pre .0), omega (arith, length-more (c .before .args .n) (search needs), c .before .pre .1)))
     (search needs)
     (search needs)
-    (λ c κs. omega (arith, length-more (c .before .before .args .n) (search needs), c .before .before .pre .1, c .put-decimal .ensures .len))
+    (λ c κs. omega (
+      arith,
+      length-more (c .before .before .args .n) (search needs),
+      c .before .before .pre .1,
+      c .put-decimal .ensures .len,
+    ))
     (λ c.
     rw (decimal-more (c .before .before .before .args .n) (search needs))
     (added-then _ _ _ _ _ (c .before .put-decimal .ensures) (c .put-byte2 .ensures)))

@@ -27,8 +27,12 @@ put-byte-requires c κs =
 
 loop-again : tie.Need-loop-again Inv-loop μ-loop
 loop-again c =
-    let l = c .before .before .before .loop in
-    (omega arith, l .inv .1, added-next _ _ _ (c .before .before .before .before .before .args .s .now) (l .i) (l .inv .2) (c .put-byte .ensures) (omega arith))
+    let l = c .before .before .before .loop in (
+      omega arith,
+      l .inv .1,
+      added-next _ _ _ (c .before .before .before .before .before .args .s .now) (l .i) (l .inv .2)
+          (c .put-byte .ensures) (omega arith),
+    )
 
 returns : tie.Need-returns Inv-loop μ-loop
 returns c =

@@ -36,7 +36,8 @@ pub +number-spec : {M : Type 1} → statement M
     (search needs)
     (search needs)
     (search needs)
-    (λ c. put-length _ _ _ _ _ (put-then _ _ _ _ _ _ _ _ (c .before .before .before .before .before .before .number .ensures) (c .before .before .byte2 .ensures)))
+    (λ c. put-length _ _ _ _ _ (put-then _ _ _ _ _ _ _ _ (c .before .before .before .before .before .before .number .ensures)
+    (c .before .before .byte2 .ensures)))
     (λ c.
     rw (decimal-more (c .before .before .before .before .before .before .before .before .before .before .args .n) (search needs))
     (put-then _ _ _ _ _ _ _ _ (c .before .before .before .before .before .before .number .ensures) (c .before .before .byte2 .ensures)))

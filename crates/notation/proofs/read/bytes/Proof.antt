@@ -17,7 +17,8 @@ returns-2 : tie.Need-returns-2
 returns-2 c =
     let decoded = c .before .before in
     let told = decoded .before .before .before in
-    read-hex _ _ _ (sym (told .before .before .is-dash .ensures) ∙ told .before .if1 .left) (rw (told .is-hex .ensures) at (decoded .before .before .if2 .taken)) (decoded .decode .ensures)
+    read-hex _ _ _ (sym (told .before .before .is-dash .ensures) ∙ told .before .if1 .left)
+    (rw (told .is-hex .ensures) at (decoded .before .before .if2 .taken)) (decoded .decode .ensures)
 
 returns-3 : tie.Need-returns-3
 returns-3 c =

@@ -17,7 +17,11 @@ returns c = value-digit _ (sym (c .before .is-digit .ensures) ∙ c .if1 .taken)
 sub-result-2 : tie.Need-sub-result-2
 sub-result-2 c =
     let first = c .before .before in
-    omega (arith, hex-range (first .before .before .args .c) (sym (first .before .is-digit .ensures) ∙ first .if1 .left) (sym (c .before .is-hex-digit .ensures) ∙ c .if2 .taken))
+    omega (
+      arith,
+      hex-range (first .before .before .args .c) (sym (first .before .is-digit .ensures) ∙ first .if1 .left)
+          (sym (c .before .is-hex-digit .ensures) ∙ c .if2 .taken),
+    )
 
 returns-2 : tie.Need-returns-2
 returns-2 c =

@@ -30,12 +30,18 @@ returns-2 : tie.Need-returns-2 Inv-loop μ-loop
 unfolding isHex
 returns-2 c =
     let l = c .before .before .before .before .loop in
-    rw (l .inv .1 ∙ every-stop isHexDigit _ (l .i) (search needs) (sym (c .before .is-hex-digit .ensures) ∙ not-true _ (c .if2 .taken)), and-false)
+    rw (
+      l .inv .1 ∙ every-stop isHexDigit _ (l .i) (search needs) (sym (c .before .is-hex-digit .ensures) ∙ not-true _ (c .if2 .taken)),
+      and-false,
+    )
 
 loop-again : tie.Need-loop-again Inv-loop μ-loop
 loop-again c =
-    let l = c .before .before .before .before .loop in
-    (omega arith, l .inv .1 ∙ every-more isHexDigit _ (l .i) (search needs) (sym (c .before .is-hex-digit .ensures) ∙ not-false _ (c .if2 .left)))
+    let l = c .before .before .before .before .loop in (
+      omega arith,
+      l .inv .1 ∙ every-more isHexDigit _ (l .i) (search needs)
+          (sym (c .before .is-hex-digit .ensures) ∙ not-false _ (c .if2 .left)),
+    )
 
 returns-3 : tie.Need-returns-3 Inv-loop μ-loop
 unfolding isHex

@@ -9,7 +9,19 @@ use borrow.Author.Tests.{not-true, not-false}
 use lib.ListN.{length, getD, drop}
 use Rattle.notation.specs.Decimal.{value}
 use Rattle.notation.specs.Words.{isDigit, every}
-use Rattle.notation.specs.WordLaws.{is-empty, has-zero, no-digits, too-large, is-number, every-more, every-stop, every-end, value-more, value-end, value-grows}
+use Rattle.notation.specs.WordLaws.{
+  is-empty,
+  has-zero,
+  no-digits,
+  too-large,
+  is-number,
+  every-more,
+  every-stop,
+  every-end,
+  value-more,
+  value-end,
+  value-grows,
+}
 use Rattle.notation.proofs.read.number.Statement.{statement}
 use Rattle.notation.proofs.read.number.Tie as tie
 
@@ -32,21 +44,28 @@ loop-holds c = (omega arith, omega arith, refl, refl)
 returns-3 : tie.Need-returns-3 Inv-loop μ-loop
 returns-3 c =
     let l = c .before .before .before .before .loop in
-    sym (no-digits _ (l .inv .2 ∙ every-stop isDigit _ (l .i) (search needs) (sym (c .before .is-digit .ensures) ∙ not-true _ (c .if3 .taken))))
+    sym (no-digits _ (l .inv .2 ∙ every-stop isDigit _ (l .i) (search needs)
+    (sym (c .before .is-digit .ensures) ∙ not-true _ (c .if3 .taken))))
 
 returns-4 : tie.Need-returns-4 Inv-loop μ-loop
 returns-4 c =
     let l = c .before .before .before .before .before .before .loop in
     let s = c .before .before .before .before .before .before .before .before .before .before .before .args .s .now in
     let more : value 0 s ≡ _ = l .inv .3 ∙ value-more s (l .i) (l .n) (search needs) in
-    sym (too-large _ (omega (arith, more, c .before .digit-value .ensures .0, value-grows (10 * l .n + (getD s (l .i) 0 - 48)) (drop (l .i + 1) s))))
+    sym (too-large _ (omega (
+      arith,
+      more,
+      c .before .digit-value .ensures .0,
+      value-grows (10 * l .n + (getD s (l .i) 0 - 48)) (drop (l .i + 1) s),
+    )))
 
 loop-again : tie.Need-loop-again Inv-loop μ-loop
 loop-again c =
     let l = c .before .before .before .before .before .before .loop in (
       omega arith,
       omega arith,
-      l .inv .2 ∙ every-more isDigit _ (l .i) (search needs) (sym (c .before .before .before .is-digit .ensures) ∙ not-false _ (c .before .before .if3 .left)),
+      l .inv .2 ∙ every-more isDigit _ (l .i) (search needs)
+          (sym (c .before .before .before .is-digit .ensures) ∙ not-false _ (c .before .before .if3 .left)),
       rw (c .before .digit-value .ensures .0) (l .inv .3 ∙ value-more _ (l .i) (l .n) (search needs)),
     )
 

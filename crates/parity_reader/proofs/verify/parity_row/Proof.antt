@@ -18,7 +18,27 @@ use Rattle.frames.specs.WeightLaws.{tail}
 use Rattle.parity_scan.specs.Held.{shardIn}
 use Rattle.parity_found.specs.Ready.{foundIn, datagramIn, lenIn}
 use Rattle.parity_found.specs.FoundLaws.{length-found, length-datagram, lens-least, lens-most, found-at, itself}
-use Rattle.parity_reader.specs.VerifyLaws.{same-step, same-stop, same-end, same-length, same-equal, made-data, made-parity, foundByte, found-small, found-none, found-next, found-done, every-done, given-room, given-long, given-step, given-stop, listed-found, size-most}
+use Rattle.parity_reader.specs.VerifyLaws.{
+  same-step,
+  same-stop,
+  same-end,
+  same-length,
+  same-equal,
+  made-data,
+  made-parity,
+  foundByte,
+  found-small,
+  found-none,
+  found-next,
+  found-done,
+  every-done,
+  given-room,
+  given-long,
+  given-step,
+  given-stop,
+  listed-found,
+  size-most,
+}
 use Rattle.parity_reader.specs.OutputLaws.{Packed, packed-none, packed-next, packed-room, packed-all, behind-len}
 use Rattle.parity_reader.proofs.verify.parity_row.Statement.{statement}
 use Rattle.parity_reader.proofs.verify.parity_row.Tie as tie
@@ -30,31 +50,86 @@ abbrev μ-loop : tie.MeasureT-loop
 μ-loop w g s a b row₀ p₀ row p = p
 
 loop-holds : tie.Need-loop-holds Inv-loop μ-loop
-loop-holds c =
-    (omega arith, found-none (c .before .before .before .before .before .before .before .before .args .w) (c .before .before .before .before .before .before .before .before .args .g) (c .before .before .before .before .before .before .before .before .args .s .now) (found-small (c .before .before .before .before .before .before .before .before .args .g) (c .before .before .before .before .before .before .before .before .args .s .now) (c .before .before .before .before .before .before .before .before .pre .0 .bytes)) (length (c .before .before .before .before .before .before .before .before .args .row .now)) (largest (lengthsOf (foundIn (c .before .before .before .before .before .before .before .before .args .g) (c .before .before .before .before .before .before .before .before .args .s .now))) + 2) _ (c .before .before .before .before .before .before .before .before .pre .2) (c .before .before .clear .ensures))
+loop-holds c = (
+  omega arith,
+  found-none (c .before .before .before .before .before .before .before .before .args .w)
+      (c .before .before .before .before .before .before .before .before .args .g)
+      (c .before .before .before .before .before .before .before .before .args .s .now)
+      (found-small (c .before .before .before .before .before .before .before .before .args .g)
+      (c .before .before .before .before .before .before .before .before .args .s .now)
+      (c .before .before .before .before .before .before .before .before .pre .0 .bytes))
+      (length (c .before .before .before .before .before .before .before .before .args .row .now))
+      (largest (lengthsOf (foundIn (c .before .before .before .before .before .before .before .before .args .g)
+      (c .before .before .before .before .before .before .before .before .args .s .now))) + 2) _
+      (c .before .before .before .before .before .before .before .before .pre .2) (c .before .before .clear .ensures),
+)
 
 trimmed-requires : tie.Need-trimmed-requires Inv-loop μ-loop
-trimmed-requires c κs = (c .before .before .before .before .before .before .before .before .before .before .pre .0, omega arith, c .before .before .before .before .before .before .before .before .before .before .pre .1)
+trimmed-requires c κs = (
+  c .before .before .before .before .before .before .before .before .before .before .pre .0,
+  omega arith,
+  c .before .before .before .before .before .before .before .before .before .before .pre .1,
+)
 
 add-requires : tie.Need-add-requires Inv-loop μ-loop
 add-requires c κs =
-    let m = size-most (c .before .before .before .before .before .before .before .before .before .before .before .before .before .before .before .before .args .g) (c .before .before .before .before .before .before .before .before .before .before .before .before .before .before .before .before .args .s .now) (c .before .before .before .before .before .before .before .loop .p - 1) (omega arith) in
+    let m = size-most (c .before .before .before .before .before .before .before .before .before .before .before .before .before .before
+    .before .before .args .g) (c .before .before .before .before .before .before .before .before .before .before .before .before .before
+    .before .before .before .args .s .now) (c .before .before .before .before .before .before .before .loop .p - 1) (omega arith) in
     let z = ap length (c .before .before .before .before .before .trimmed .ensures) in
-    omega (arith, m, z, length-shard (datagramIn (c .before .before .before .before .before .before .before .before .before .before .before .before .before .before .before .before .args .g) (c .before .before .before .before .before .before .before .before .before .before .before .before .before .before .before .before .args .s .now) (c .before .before .before .before .before .before .before .loop .p - 1)), c .before .before .before .step .ensures .size, c .before .before .before .before .before .before .before .loop .inv .1 .size)
+    omega (
+      arith,
+      m,
+      z,
+      length-shard (datagramIn
+          (c .before .before .before .before .before .before .before .before .before .before .before .before .before .before .before .before
+          .args .g) (c .before .before .before .before .before .before .before .before .before .before .before .before .before .before
+          .before
+          .before .args .s .now) (c .before .before .before .before .before .before .before .loop .p - 1)),
+      c .before .before .before .step .ensures .size,
+      c .before .before .before .before .before .before .before .loop .inv .1 .size,
+    )
 
 loop-again : tie.Need-loop-again Inv-loop μ-loop
 loop-again c = (
   omega arith,
-  found-next (c .before .before .before .before .before .before .before .before .before .before .before .before .before .before .before .before .before .before .before .args .w) (c .before .before .before .before .before .before .before .before .before .before .before .before .before .before .before .before .before .before .before .args .g) (c .before .before .before .before .before .before .before .before .before .before .before .before .before .before .before .before .before .before .before .args .s .now) (found-small (c .before .before .before .before .before .before .before .before .before .before .before .before .before .before .before .before .before .before .before .args .g) (c .before .before .before .before .before .before .before .before .before .before .before .before .before .before .before .before .before .before .before .args .s .now) (c .before .before .before .before .before .before .before .before .before .before .before .before .before .before .before .before .before .before .before .pre .0 .bytes)) (c .before .before .before .before .before .before .before .before .before .before .loop .p) (c .before .before .before .before .before .before .before .before .before .before .loop .p - 1) (largest (lengthsOf (foundIn (c .before .before .before .before .before .before .before .before .before .before .before .before .before .before .before .before .before .before .before .args .g) (c .before .before .before .before .before .before .before .before .before .before .before .before .before .before .before .before .before .before .before .args .s .now))) + 2) _ (c .before .before .before .before .before .before .before .before .before .before .loop .row) _ _
-      (omega arith) (omega arith) (c .before .before .before .before .before .before .before .before .trimmed .ensures) (c .before .before .before .before .before .before .before .before .before .before .loop .inv .1) (c .before .before .before .before .before .before .step .ensures) (c .before .before .add .ensures),
+  found-next (c .before .before .before .before .before .before .before .before .before .before .before .before .before .before .before
+      .before .before .before .before .args .w)
+      (c .before .before .before .before .before .before .before .before .before .before .before .before .before .before .before .before
+      .before .before .before .args .g) (c .before .before .before .before .before .before .before .before .before .before .before .before
+      .before .before .before .before .before .before .before .args .s .now)
+      (found-small (c .before .before .before .before .before .before .before .before .before .before .before .before .before .before
+      .before .before .before .before .before .args .g)
+      (c .before .before .before .before .before .before .before .before .before .before .before .before .before .before .before .before
+      .before .before .before .args .s .now) (c .before .before .before .before .before .before .before .before .before .before .before
+      .before .before .before .before .before .before .before .before .pre .0 .bytes))
+      (c .before .before .before .before .before .before .before .before .before .before .loop .p)
+      (c .before .before .before .before .before .before .before .before .before .before .loop .p - 1)
+      (largest (lengthsOf (foundIn (c .before .before .before .before .before .before .before .before .before .before .before .before
+      .before .before .before .before .before .before .before .args .g)
+      (c .before .before .before .before .before .before .before .before .before .before .before .before .before .before .before .before
+      .before .before .before .args .s .now))) + 2) _
+      (c .before .before .before .before .before .before .before .before .before .before .loop .row) _ _
+      (omega arith) (omega arith) (c .before .before .before .before .before .before .before .before .trimmed .ensures)
+      (c .before .before .before .before .before .before .before .before .before .before .loop .inv .1)
+      (c .before .before .before .before .before .before .step .ensures) (c .before .before .add .ensures),
 )
 
 same-length-need : tie.Need-same-length Inv-loop μ-loop
-same-length-need c = c .before .loop .inv .1 .size ∙ sym (c .before .before .before .before .before .before .before .before .before .before .pre .2)
+same-length-need c = c .before .loop .inv .1 .size ∙ sym
+    (c .before .before .before .before .before .before .before .before .before .before .pre .2)
 
 returns : tie.Need-returns Inv-loop μ-loop
 returns c =
-    found-done (c .before .before .before .before .before .before .before .before .before .before .args .w) (c .before .before .before .before .before .before .before .before .before .before .args .g) (c .before .before .before .before .before .before .before .before .before .before .args .s .now) (found-small (c .before .before .before .before .before .before .before .before .before .before .args .g) (c .before .before .before .before .before .before .before .before .before .before .args .s .now) (c .before .before .before .before .before .before .before .before .before .before .pre .0 .bytes)) (c .before .loop .p) (largest (lengthsOf (foundIn (c .before .before .before .before .before .before .before .before .before .before .args .g) (c .before .before .before .before .before .before .before .before .before .before .args .s .now))) + 2) (c .before .loop .row) (c .loop-test .left) refl (c .before .loop .inv .1)
+    found-done (c .before .before .before .before .before .before .before .before .before .before .args .w)
+    (c .before .before .before .before .before .before .before .before .before .before .args .g)
+    (c .before .before .before .before .before .before .before .before .before .before .args .s .now)
+    (found-small (c .before .before .before .before .before .before .before .before .before .before .args .g)
+    (c .before .before .before .before .before .before .before .before .before .before .args .s .now)
+    (c .before .before .before .before .before .before .before .before .before .before .pre .0 .bytes)) (c .before .loop .p)
+    (largest (lengthsOf (foundIn (c .before .before .before .before .before .before .before .before .before .before .args .g)
+    (c .before .before .before .before .before .before .before .before .before .before .args .s .now))) + 2) (c .before .loop .row)
+    (c .loop-test .left) refl (c .before .loop .inv .1)
 
 pub parity-row-spec : {M : Type 1} → statement M
 parity-row-spec =

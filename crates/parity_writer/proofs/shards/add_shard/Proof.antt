@@ -12,7 +12,16 @@ use Rattle.rows.specs.Rows.{Row}
 use Rattle.frames.specs.Lists.{addUp, largest, parts}
 use Rattle.frames.specs.PartLaws.{largest-step, largest-end, add-up-next, add-up-le, length-part, getD-largest}
 use Rattle.frames.specs.WeightLaws.{tail}
-use Rattle.parity_writer.specs.WriterLaws.{data-stored, parity-stored, Filled, filled-none, filled-next, filled-end, group-bytes, group-lengths}
+use Rattle.parity_writer.specs.WriterLaws.{
+  data-stored,
+  parity-stored,
+  Filled,
+  filled-none,
+  filled-next,
+  filled-end,
+  group-bytes,
+  group-lengths,
+}
 use Rattle.parity_writer.specs.ShardLaws.{shard-added, shardByte, parity-none, parity-next, parity-done}
 use Rattle.parity_writer.proofs.shards.add_shard.Statement.{statement}
 use Rattle.parity_writer.proofs.shards.add_shard.Tie as tie
@@ -29,16 +38,33 @@ slice-write-row-2 c = simp length-set (omega arith)
 
 add-requires-3 : tie.Need-add-requires-3
 add-requires-3 c κs =
-    let size : length (take (c .before .before .before .before .before .before .before .before .args .n) (drop (c .before .before .before .before .before .before .before .before .args .from) (c .before .before .before .before .before .before .before .before .args .s .now))) ≡ c .before .before .before .before .before .before .before .before .args .n = length-part (c .before .before .before .before .before .before .before .before .args .s .now) (c .before .before .before .before .before .before .before .before .args .from) (c .before .before .before .before .before .before .before .before .args .n) (search needs) in
-    rw (span (c .before .before .before .before .before .before .before .before .args .from) (c .before .before .before .before .before .before .before .before .args .n)) (simp length-set (omega (arith, size)))
+    let size : length (take (c .before .before .before .before .before .before .before .before .args .n)
+    (drop (c .before .before .before .before .before .before .before .before .args .from)
+    (c .before .before .before .before .before .before .before .before .args .s .now))) ≡ c .before .before .before .before .before .before
+    .before .before .args .n = length-part (c .before .before .before .before .before .before .before .before .args .s .now)
+    (c .before .before .before .before .before .before .before .before .args .from)
+    (c .before .before .before .before .before .before .before .before .args .n) (search needs) in
+    rw (span (c .before .before .before .before .before .before .before .before .args .from)
+    (c .before .before .before .before .before .before .before .before .args .n)) (simp length-set (omega (arith, size)))
 
 same-length : tie.Need-same-length
 same-length c = c .before .before .add3 .ensures .size ∙ simp length-set
 
 returns : tie.Need-returns
 returns c =
-    shard-added (c .before .before .before .before .before .before .before .before .before .before .before .args .row .now) (take (c .before .before .before .before .before .before .before .before .before .before .before .args .n) (drop (c .before .before .before .before .before .before .before .before .before .before .before .args .from) (c .before .before .before .before .before .before .before .before .before .before .before .args .s .now))) (c .before .before .before .before .before .before .before .before .before .before .before .args .n) (c .before .before .before .before .before .before .before .add .result) (c .before .before .before .before .before .add2 .result)
-    (length-part (c .before .before .before .before .before .before .before .before .before .before .before .args .s .now) (c .before .before .before .before .before .before .before .before .before .before .before .args .from) (c .before .before .before .before .before .before .before .before .before .before .before .args .n) (search needs)) (search needs) _ (c .before .before .before .before .before .before .before .add .ensures) (c .before .before .before .before .before .add2 .ensures) (rw (span (c .before .before .before .before .before .before .before .before .before .before .before .args .from) (c .before .before .before .before .before .before .before .before .before .before .before .args .n)) at (c .before .before .add3 .ensures))
+    shard-added (c .before .before .before .before .before .before .before .before .before .before .before .args .row .now)
+    (take (c .before .before .before .before .before .before .before .before .before .before .before .args .n)
+    (drop (c .before .before .before .before .before .before .before .before .before .before .before .args .from)
+    (c .before .before .before .before .before .before .before .before .before .before .before .args .s .now)))
+    (c .before .before .before .before .before .before .before .before .before .before .before .args .n)
+    (c .before .before .before .before .before .before .before .add .result) (c .before .before .before .before .before .add2 .result)
+    (length-part (c .before .before .before .before .before .before .before .before .before .before .before .args .s .now)
+    (c .before .before .before .before .before .before .before .before .before .before .before .args .from)
+    (c .before .before .before .before .before .before .before .before .before .before .before .args .n) (search needs)) (search needs) _
+    (c .before .before .before .before .before .before .before .add .ensures) (c .before .before .before .before .before .add2 .ensures)
+    (rw (span (c .before .before .before .before .before .before .before .before .before .before .before .args .from)
+    (c .before .before .before .before .before .before .before .before .before .before .before .args .n)) at
+    (c .before .before .add3 .ensures))
 
 pub add-shard-spec : {M : Type 1} → statement M
 add-shard-spec =

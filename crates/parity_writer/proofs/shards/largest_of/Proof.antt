@@ -12,7 +12,16 @@ use Rattle.rows.specs.Rows.{Row}
 use Rattle.frames.specs.Lists.{addUp, largest, parts}
 use Rattle.frames.specs.PartLaws.{largest-step, largest-end, add-up-next, add-up-le, length-part, getD-largest}
 use Rattle.frames.specs.WeightLaws.{tail}
-use Rattle.parity_writer.specs.WriterLaws.{data-stored, parity-stored, Filled, filled-none, filled-next, filled-end, group-bytes, group-lengths}
+use Rattle.parity_writer.specs.WriterLaws.{
+  data-stored,
+  parity-stored,
+  Filled,
+  filled-none,
+  filled-next,
+  filled-end,
+  group-bytes,
+  group-lengths,
+}
 use Rattle.parity_writer.specs.ShardLaws.{shard-added, shardByte, parity-none, parity-next, parity-done}
 use Rattle.parity_writer.proofs.shards.largest_of.Statement.{statement}
 use Rattle.parity_writer.proofs.shards.largest_of.Tie as tie

@@ -8,8 +8,20 @@ use Rattle.parity_writer.proofs.shards.put_parity.Tie as tie
 
 returns : tie.Need-returns
 returns c =
-    parity-lent (c .before .before .before .before .before .before .before .before .before .before .before .before .before .before .before .before .before .args .sequence) (c .before .before .before .before .before .before .before .before .before .before .before .before .before .before .before .before .before .args .at) (c .before .before .before .before .before .before .before .before .before .before .before .before .before .before .before .before .before .args .w) (c .before .before .before .before .before .before .before .before .before .before .before .before .wide .result) (c .before .before .before .before .before .before .before .before .before .before .before .before .before .before .before .before .before .args .s .now) (c .before .before .before .before .before .before .before .before .before .before .before .before .before .before .before .before .before .args .lengths .now) (c .before .before .before .before .before .before .before .before .before .before .before .before .before .before .before .before .before .args .out .now) _ _ _
-    (search needs) (c .before .before .before .before .before .before .before .before .before .before .before .before .wide .ensures ∙ c .before .before .before .before .before .before .before .before .before .before .before .before .before .largest-of .ensures) (search needs) (c .before .before .before .before .before .before .before .before .before .before .put-u32 .ensures) (c .before .before .before .before .before .before .put-u16 .ensures) (c .before .before .parity-row .ensures)
+    parity-lent (c .before .before .before .before .before .before .before .before .before .before .before .before .before .before .before
+    .before .before .args .sequence) (c .before .before .before .before .before .before .before .before .before .before .before .before
+    .before .before .before .before .before .args .at)
+    (c .before .before .before .before .before .before .before .before .before .before .before .before .before .before .before .before
+    .before .args .w) (c .before .before .before .before .before .before .before .before .before .before .before .before .wide .result)
+    (c .before .before .before .before .before .before .before .before .before .before .before .before .before .before .before .before
+    .before .args .s .now) (c .before .before .before .before .before .before .before .before .before .before .before .before .before
+    .before .before .before .before .args .lengths .now)
+    (c .before .before .before .before .before .before .before .before .before .before .before .before .before .before .before .before
+    .before .args .out .now) _ _ _
+    (search needs) (c .before .before .before .before .before .before .before .before .before .before .before .before .wide .ensures ∙ c
+    .before .before .before .before .before .before .before .before .before .before .before .before .before .largest-of .ensures)
+    (search needs) (c .before .before .before .before .before .before .before .before .before .before .put-u32 .ensures)
+    (c .before .before .before .before .before .before .put-u16 .ensures) (c .before .before .parity-row .ensures)
 
 pub put-parity-spec : {M : Type 1} → statement M
 put-parity-spec =

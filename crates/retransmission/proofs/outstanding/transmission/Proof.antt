@@ -10,7 +10,8 @@ use Rattle.retransmission.proofs.outstanding.transmission.Tie as tie
 
 returns : tie.Need-returns
 returns c =
-    when-never-sent _ _ _ _ _ (c .before .before .if1 .taken) (c .sending .ensures ∙ ap (sending _) (c .before .first-transmission .ensures))
+    when-never-sent _ _ _ _ _ (c .before .before .if1 .taken)
+    (c .sending .ensures ∙ ap (sending _) (c .before .first-transmission .ensures))
 
 returns-2 : tie.Need-returns-2
 returns-2 c =

@@ -10,7 +10,16 @@ use lib.ListN.{length, take, drop, length-append}
 use lib.Seq.{take-suc-set, length-take-le}
 use Rattle.script.specs.Commands.{arguments, numbersOf}
 use Rattle.script.specs.Reading.{few}
-use Rattle.script.specs.CommandLaws.{arguments-next, arguments-end, prepend, prepend-none, numbers-next, numbers-none, numbers-end, few-long}
+use Rattle.script.specs.CommandLaws.{
+  arguments-next,
+  arguments-end,
+  prepend,
+  prepend-none,
+  numbers-next,
+  numbers-none,
+  numbers-end,
+  few-long,
+}
 use Rattle.script.proofs.numbers.behind.Statement.{statement}
 use Rattle.script.proofs.numbers.behind.Tie as tie
 
@@ -41,7 +50,9 @@ returns-2 c =
     let ns = take (l .count) (l .at) in
     let n = c .before .before .read .given .0 .0 in
     let long : 8 < length (ns ++ (n ∷ [])) = omega (arith, length-append ns (n ∷ []), length-take-le (l .count) (l .at) (omega arith)) in
-    sym (ap few (l .inv .3 ∙ ap (λ (ws : List (List ℕ)). prepend (take (l .count) (l .at)) (numbersOf ws)) next ∙ numbers-next _ _ _ _ one) ∙ few-long (ns ++ (n ∷ [])) (numbersOf (arguments (drop (c .before .before .before .before .before .before .word-end .result) line))) long)
+    sym (ap few (l .inv .3 ∙ ap (λ (ws : List (List ℕ)). prepend (take (l .count) (l .at)) (numbersOf ws)) next ∙ numbers-next _ _ _ _
+    one) ∙ few-long (ns ++ (n ∷ [])) (numbersOf
+    (arguments (drop (c .before .before .before .before .before .before .word-end .result) line))) long)
 
 loop-again : tie.Need-loop-again Inv-loop μ-loop
 loop-again c =
@@ -56,7 +67,8 @@ returns-3 : tie.Need-returns-3 Inv-loop μ-loop
 returns-3 c =
     let l = c .before .loop in
     let line = c .before .before .before .args .line .now in
-    let all = l .inv .3 ∙ ap (λ (ws : List (List ℕ)). prepend (take (l .count) (l .at)) (numbersOf ws)) (arguments-end line (l .here) (omega arith)) ∙ numbers-end _ in
+    let all = l .inv .3 ∙ ap (λ (ws : List (List ℕ)). prepend (take (l .count) (l .at)) (numbersOf ws))
+    (arguments-end line (l .here) (omega arith)) ∙ numbers-end _ in
     rw (all, length-take-le (l .count) (l .at) (omega arith))
 
 pub behind-spec : {M : Type 1} → statement M

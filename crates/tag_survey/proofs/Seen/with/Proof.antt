@@ -11,7 +11,8 @@ use Rattle.tag_survey.proofs.Seen.with.Tie as tie
 returns : tie.Need-returns
 returns c =
     let a = c .before .before .before .before .before .before .args in
-    let named = c .before .passed .ensures ∙ ap (λ (b : Bool). stepped b (a .i) (a .self .named)) (c .before .before .before .is-named .ensures) in
+    let named = c .before .passed .ensures ∙ ap (λ (b : Bool). stepped b (a .i) (a .self .named))
+    (c .before .before .before .is-named .ensures) in
     λ j. record { named = named j; free = c .passed2 .ensures j }
 
 pub with-spec : {M : Type 1} → statement M

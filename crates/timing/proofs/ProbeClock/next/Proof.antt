@@ -11,7 +11,8 @@ returns : tie.Need-returns
 returns c = when-open _ _ _ (c .if1 .taken) refl
 
 returns-2 : tie.Need-returns-2
-returns-2 c = when-stopped _ _ _ (c .before .before .before .if1 .left) (c .before .if2 .taken) (ap (λ k. record { clock = k; ask = false }) (c .started .ensures))
+returns-2 c = when-stopped _ _ _ (c .before .before .before .if1 .left) (c .before .if2 .taken)
+    (ap (λ k. record { clock = k; ask = false }) (c .started .ensures))
 
 returns-3 : tie.Need-returns-3
 returns-3 c =

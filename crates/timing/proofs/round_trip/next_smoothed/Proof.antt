@@ -16,4 +16,5 @@ unfolding nextSmoothed
 returns-2 c = rw (ne-eqb _ _ (c .before .before .before .before .if1 .left)) (omega arith)
 
 pub next-smoothed-spec : {M : Type 1} → statement M
-next-smoothed-spec = tie.close (tie.spec returns (search needs) (search needs) (search needs) (search needs) (search needs) (search needs) returns-2)
+next-smoothed-spec = tie.close (tie.spec returns (search needs) (search needs) (search needs) (search needs) (search needs) (search needs)
+    returns-2)

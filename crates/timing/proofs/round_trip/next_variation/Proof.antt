@@ -16,4 +16,5 @@ unfolding nextVariation
 returns-2 c = rw (ne-eqb _ _ (c .before .before .before .before .if1 .left)) (omega arith)
 
 pub next-variation-spec : {M : Type 1} → statement M
-next-variation-spec = tie.close (tie.spec returns (search needs) (search needs) (search needs) (search needs) (search needs) (search needs) returns-2)
+next-variation-spec = tie.close (tie.spec returns (search needs) (search needs) (search needs) (search needs) (search needs) (search needs)
+    returns-2)

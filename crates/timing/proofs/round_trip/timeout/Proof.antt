@@ -11,4 +11,5 @@ unfolding timeoutOf
 returns c = omega arith
 
 pub timeout-spec : {M : Type 1} → statement M
-timeout-spec = tie.close (tie.spec (search needs) (search needs) (search needs) (search needs) (search needs) (search needs) (search needs) (search needs) (search needs) (search needs) returns)
+timeout-spec = tie.close (tie.spec (search needs) (search needs) (search needs) (search needs) (search needs) (search needs) (search needs)
+    (search needs) (search needs) (search needs) returns)

@@ -10,7 +10,9 @@ use Rattle.transcript.proofs.link.entry.Tie as tie
 returns : tie.Need-returns
 unfolding entry ascii
 returns c =
-    put-then _ _ _ _ _ _ _ _ (put-then _ _ _ _ _ _ _ _ (c .before .before .before .before .before .before .before .before .before .before .byte .ensures) (c .before .before .before .before .before .before .byte2 .ensures)) (c .before .before .row .ensures)
+    put-then _ _ _ _ _ _ _ _ (put-then _ _ _ _ _ _ _ _
+    (c .before .before .before .before .before .before .before .before .before .before .byte .ensures)
+    (c .before .before .before .before .before .before .byte2 .ensures)) (c .before .before .row .ensures)
 
 pub entry-spec : {M : Type 1} → statement M
 entry-spec =

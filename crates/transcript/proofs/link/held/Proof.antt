@@ -15,7 +15,8 @@ use Rattle.transcript.proofs.link.held.Statement.{statement}
 use Rattle.transcript.proofs.link.held.Tie as tie
 
 abbrev Inv-loop : tie.InvT-loop
-Inv-loop out₀ at letter count words n here₀ i₀ out here i = (i ≤ n) × (n ≡ min count 128) × Put out₀ at (each (heldEntry letter) (take i (map unpack words))) here out
+Inv-loop out₀ at letter count words n here₀ i₀ out here i =
+    (i ≤ n) × (n ≡ min count 128) × Put out₀ at (each (heldEntry letter) (take i (map unpack words))) here out
 
 abbrev μ-loop : tie.MeasureT-loop
 μ-loop out₀ at letter count words n here₀ i₀ out here i = n - i
@@ -28,8 +29,12 @@ loop-again c =
     let l = c .before .before .before .before .before .before .loop in
     let a = c .before .before .before .before .before .before .before .before .before .args in
     let whole : length (a .t4) ≡ 128 = search needs in
-    let here = c .before .before .before .before .unpacked .ensures ∙ sym (List·getD-map unpack (a .t4) (l .i) 0) in
-    (omega arith, l .inv .1, each-put (heldEntry (a .letter)) (map unpack (a .t4)) (l .i) _ _ _ _ _ _ _ (omega (arith, length-map (a .t4) unpack)) (l .inv .2) (rw here at (c .before .before .held-entry .ensures)))
+    let here = c .before .before .before .before .unpacked .ensures ∙ sym (List·getD-map unpack (a .t4) (l .i) 0) in (
+      omega arith,
+      l .inv .1,
+      each-put (heldEntry (a .letter)) (map unpack (a .t4)) (l .i) _ _ _ _ _ _ _
+          (omega (arith, length-map (a .t4) unpack)) (l .inv .2) (rw here at (c .before .before .held-entry .ensures)),
+    )
 
 returns : tie.Need-returns Inv-loop μ-loop
 returns c =

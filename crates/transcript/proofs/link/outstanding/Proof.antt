@@ -17,7 +17,8 @@ use Rattle.transcript.proofs.link.outstanding.Statement.{statement}
 use Rattle.transcript.proofs.link.outstanding.Tie as tie
 
 abbrev Inv-loop : tie.InvT-loop
-Inv-loop out₀ at count table words transmissions n here₀ i₀ out here i = (i ≤ n) × (n ≡ min count 32) × Put out₀ at (each (outstandingEntry table) (take i (paired outstandingAt words transmissions))) here out
+Inv-loop out₀ at count table words transmissions n here₀ i₀ out here i =
+    (i ≤ n) × (n ≡ min count 32) × Put out₀ at (each (outstandingEntry table) (take i (paired outstandingAt words transmissions))) here out
 
 abbrev μ-loop : tie.MeasureT-loop
 μ-loop out₀ at count table words transmissions n here₀ i₀ out here i = n - i
@@ -33,15 +34,25 @@ loop-again c =
     let beside : length (a .t4) ≡ 32 = search needs in
     let inside : l .i < 32 = omega arith in
     let all = paired-length outstandingAt (a .t3) (a .t4) 32 whole beside in
-    let here = ap (λ (h : Held). record { held = h; transmissions = getD (a .t4) (l .i) 0 }) (c .before .before .before .before .before .unpacked .ensures) ∙ sym (paired-get outstandingAt (a .t3) (a .t4) (l .i) (outstandingAt 0 0) (omega arith) (omega arith)) in
-    (omega arith, l .inv .1, each-put (outstandingEntry (a .table)) (paired outstandingAt (a .t3) (a .t4)) (l .i) _ _ _ _ _ _ _ (omega (arith, all)) (l .inv .2) (put-same (outstandingEntry (a .table)) here (rw (c .before .before .before .before .record-at .ensures) at (c .before .before .outstanding-entry .ensures))))
+    let here = ap (λ (h : Held). record { held = h; transmissions = getD (a .t4) (l .i) 0 })
+    (c .before .before .before .before .before .unpacked .ensures) ∙ sym
+    (paired-get outstandingAt (a .t3) (a .t4) (l .i) (outstandingAt 0 0) (omega arith) (omega arith)) in (
+      omega arith,
+      l .inv .1,
+      each-put (outstandingEntry (a .table)) (paired outstandingAt (a .t3) (a .t4)) (l .i) _ _ _ _ _ _ _
+          (omega (arith, all)) (l .inv .2) (put-same (outstandingEntry (a .table)) here
+          (rw (c .before .before .before .before .record-at .ensures) at (c .before .before .outstanding-entry .ensures))),
+    )
 
 returns : tie.Need-returns Inv-loop μ-loop
 returns c =
     let l = c .before .loop in
     let a = c .before .before .before .before .args in
     let whole = paired-length outstandingAt (a .t3) (a .t4) 32 (search needs) (search needs) in
-    rw (take-least (paired outstandingAt (a .t3) (a .t4)) (a .count) 32 (l .i) whole (omega arith), ← paired-take outstandingAt (a .count) (a .t3) (a .t4)) at (l .inv .2)
+    rw (
+      take-least (paired outstandingAt (a .t3) (a .t4)) (a .count) 32 (l .i) whole (omega arith),
+      ← paired-take outstandingAt (a .count) (a .t3) (a .t4),
+    ) at (l .inv .2)
 
 pub outstanding-spec : {M : Type 1} → statement M
 outstanding-spec =

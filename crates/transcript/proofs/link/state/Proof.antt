@@ -11,9 +11,12 @@ returns : tie.Need-returns
 unfolding stateLine ascii
 returns c =
     put-then _ _ _ _ _ _ _ _
-    (put-then _ _ _ _ _ _ _ _ (c .before .before .before .before .before .before .before .before .before .before .before .bytes .ensures) (rw (c .before .before .before .before .before .before .before .before .before .before .before .before .before .before .numbers .ensures) at (c .before .before .before .before .before .before .row .ensures)))
+    (put-then _ _ _ _ _ _ _ _ (c .before .before .before .before .before .before .before .before .before .before .before .bytes .ensures)
+    (rw (c .before .before .before .before .before .before .before .before .before .before .before .before .before .before .numbers
+    .ensures) at (c .before .before .before .before .before .before .row .ensures)))
     (c .before .before .byte .ensures)
 
 pub state-spec : {M : Type 1} → statement M
 state-spec =
-    tie.close (tie.spec (search needs) (search needs) (search needs) (search needs) (search needs) (search needs) (λ c. put-length _ _ _ _ _ (returns c)) returns)
+    tie.close (tie.spec (search needs) (search needs) (search needs) (search needs) (search needs) (search needs)
+    (λ c. put-length _ _ _ _ _ (returns c)) returns)

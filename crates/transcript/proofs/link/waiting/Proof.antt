@@ -17,7 +17,8 @@ use Rattle.transcript.proofs.link.waiting.Statement.{statement}
 use Rattle.transcript.proofs.link.waiting.Tie as tie
 
 abbrev Inv-loop : tie.InvT-loop
-Inv-loop out₀ at count words numbers n here₀ i₀ out here i = (i ≤ n) × (n ≡ min count 128) × Put out₀ at (each waitingEntry (take i (paired waitingAt words numbers))) here out
+Inv-loop out₀ at count words numbers n here₀ i₀ out here i =
+    (i ≤ n) × (n ≡ min count 128) × Put out₀ at (each waitingEntry (take i (paired waitingAt words numbers))) here out
 
 abbrev μ-loop : tie.MeasureT-loop
 μ-loop out₀ at count words numbers n here₀ i₀ out here i = n - i
@@ -33,15 +34,24 @@ loop-again c =
     let beside : length (a .t4) ≡ 128 = search needs in
     let inside : l .i < 128 = omega arith in
     let all = paired-length waitingAt (a .t3) (a .t4) 128 whole beside in
-    let here = ap (λ (h : Held). record { number = getD (a .t4) (l .i) 0; held = h }) (c .before .before .before .before .unpacked .ensures) ∙ sym (paired-get waitingAt (a .t3) (a .t4) (l .i) (waitingAt 0 0) (omega arith) (omega arith)) in
-    (omega arith, l .inv .1, each-put waitingEntry (paired waitingAt (a .t3) (a .t4)) (l .i) _ _ _ _ _ _ _ (omega (arith, all)) (l .inv .2) (put-same waitingEntry here (c .before .before .waiting-entry .ensures)))
+    let here = ap (λ (h : Held). record { number = getD (a .t4) (l .i) 0; held = h })
+    (c .before .before .before .before .unpacked .ensures) ∙ sym
+    (paired-get waitingAt (a .t3) (a .t4) (l .i) (waitingAt 0 0) (omega arith) (omega arith)) in (
+      omega arith,
+      l .inv .1,
+      each-put waitingEntry (paired waitingAt (a .t3) (a .t4)) (l .i) _ _ _ _ _ _ _ (omega (arith, all)) (l .inv .2)
+          (put-same waitingEntry here (c .before .before .waiting-entry .ensures)),
+    )
 
 returns : tie.Need-returns Inv-loop μ-loop
 returns c =
     let l = c .before .loop in
     let a = c .before .before .before .before .args in
     let whole = paired-length waitingAt (a .t3) (a .t4) 128 (search needs) (search needs) in
-    rw (take-least (paired waitingAt (a .t3) (a .t4)) (a .count) 128 (l .i) whole (omega arith), ← paired-take waitingAt (a .count) (a .t3) (a .t4)) at (l .inv .2)
+    rw (
+      take-least (paired waitingAt (a .t3) (a .t4)) (a .count) 128 (l .i) whole (omega arith),
+      ← paired-take waitingAt (a .count) (a .t3) (a .t4),
+    ) at (l .inv .2)
 
 pub waiting-spec : {M : Type 1} → statement M
 waiting-spec =

@@ -31,8 +31,11 @@ put-control-requires c κs =
 loop-again : tie.Need-loop-again Inv-loop μ-loop
 loop-again c =
     let call = c .before .before .before .before in
-    let head = call .before .before .before .before .before .before in
-    (search needs, acks-more _ _ _ _ _ _ _ _ _ _ _ _ _ (omega arith) (head .before .before .before .before .pre .1) (head .loop .inv .1) (call .put-control .ensures))
+    let head = call .before .before .before .before .before .before in (
+      search needs,
+      acks-more _ _ _ _ _ _ _ _ _ _ _ _ _ (omega arith) (head .before .before .before .before .pre .1) (head .loop .inv .1)
+          (call .put-control .ensures),
+    )
 
 returns : tie.Need-returns Inv-loop μ-loop
 returns c =

@@ -18,7 +18,8 @@ returns c =
     let told = c .before .before .before .before in
     let asked = told .before .before .before .before .before .before .before in
     let acked = asked .before .before .before .before .before .before .before in
-    adds-as (adds-append (adds-append (acked .put-acks .ensures) (asked .put-wished .ensures)) (told .put-wished2 .ensures)) refl (omega arith) (omega arith)
+    adds-as (adds-append (adds-append (acked .put-acks .ensures) (asked .put-wished .ensures)) (told .put-wished2 .ensures)) refl
+    (omega arith) (omega arith)
 
 pub put-controls-spec : {M : Type 1} → statement M
 put-controls-spec =

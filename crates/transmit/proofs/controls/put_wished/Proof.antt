@@ -10,7 +10,8 @@ returns c =
     let call = c .before .before .before .before in
     let branch = call .before .before .before in
     let entry = branch .before .before .before in
-    wished-put _ (branch .if1 .taken) (control-adds _ _ _ _ _ _ _ _ _ _ _ (entry .pre .1) (entry .pre .0 .fills) (call .put-control .ensures))
+    wished-put _ (branch .if1 .taken) (control-adds _ _ _ _ _ _ _ _ _ _ _ (entry .pre .1) (entry .pre .0 .fills)
+    (call .put-control .ensures))
 
 returns-2 : tie.Need-returns-2
 returns-2 c = wished-none _ _ _ _ _ _ _ _ (c .if1 .left) (search needs)

@@ -7,7 +7,16 @@ use borrow.Author.Count.{falls}
 use borrow.Author.Needs.{needs}
 use Rattle.lists.proofs.Loops.{length-mapped}
 use Rattle.numbering.proofs.SentLaws.{sents, sents-take}
-use Rattle.transmit.proofs.WalkLaws.{Walking, walking-as, walking-start, walking-room, walking-inside, walking-sent, walking-kept, walking-done}
+use Rattle.transmit.proofs.WalkLaws.{
+  Walking,
+  walking-as,
+  walking-start,
+  walking-room,
+  walking-inside,
+  walking-sent,
+  walking-kept,
+  walking-done,
+}
 use Rattle.transmit.proofs.transmitting.put_outstanding.Statement.{statement}
 use Rattle.transmit.proofs.transmitting.put_outstanding.Tie as tie
 
@@ -52,10 +61,12 @@ loop-again c =
     ⊎-elim
     (λ w.
     walking-as (w .13) (w .14) (w .15) (w .16) (w .17) (w .18) (w .19) (w .20)
-    (walking-sent _ _ _ _ _ _ _ _ _ _ _ _ _ _ _ _ _ (head .loop .inv) (turn .loop-test .taken) (p .whole) _ _ (called .transmission .ensures) _ _ _ (w .0 .taken) (w .5 .ensures)))
+    (walking-sent _ _ _ _ _ _ _ _ _ _ _ _ _ _ _ _ _ (head .loop .inv) (turn .loop-test .taken) (p .whole) _ _
+    (called .transmission .ensures) _ _ _ (w .0 .taken) (w .5 .ensures)))
     (λ w.
     walking-as (w .1) (w .2) (w .3) (w .4) (w .5) (w .6) (w .7) (w .8)
-    (walking-kept _ _ _ _ _ _ _ _ _ _ _ _ _ _ _ _ _ (head .loop .inv) (turn .loop-test .taken) (p .whole) _ _ (called .transmission .ensures) (w .0 .left)))
+    (walking-kept _ _ _ _ _ _ _ _ _ _ _ _ _ _ _ _ _ (head .loop .inv) (turn .loop-test .taken) (p .whole) _ _
+    (called .transmission .ensures) (w .0 .left)))
     (c .if1 .came)
 
 returns : tie.Need-returns Inv-loop μ-loop

@@ -20,7 +20,8 @@ returns c =
     let entry = read .before .before .before .before in
     let a = entry .args in
     let p = entry .pre in
-    data-adds (a .flush) (a .word) (a .x) _ (a .pool .now) (read .unpacked .ensures) (p .1) (p .2) (p .3) _ _ _ _ _ _ (p .0 .fills) (put .put-data .ensures)
+    data-adds (a .flush) (a .word) (a .x) _ (a .pool .now) (read .unpacked .ensures) (p .1) (p .2) (p .3) _ _ _ _ _ _ (p .0 .fills)
+    (put .put-data .ensures)
 
 pub put-sent-spec : {M : Type 1} → statement M
 put-sent-spec =

@@ -6,7 +6,8 @@ use Rattle.wire.proofs.codec.put_header.Statement.{statement}
 use Rattle.wire.proofs.codec.put_header.Tie as tie
 
 returns : tie.Need-returns
-returns c = encode-stored _ _ _ (c .before .before .before .before .before .before .put-front .ensures) (c .before .before .put-back .ensures)
+returns c = encode-stored _ _ _ (c .before .before .before .before .before .before .put-front .ensures)
+    (c .before .before .put-back .ensures)
 
 pub put-header-spec : {M : Type 1} → statement M
 put-header-spec =
