@@ -4,19 +4,23 @@
     python3 tools/wrap.py FILE..      each file, in place
     wrap.wrapped(text)                the same of a text, for the programs that write proofs
 
-A line of code is broken at the outermost bracket depth that leaves a piece of at most WIDTH characters, if it can be before an arrow, an
+A line of code is broken at the outermost bracket depth that leaves a piece of at most WIDTH characters and BYTES bytes, if it can be before an arrow, an
 equality or a product, or behind a `=`, `$`, `∙`, `in`, comma or semicolon. The words of a long comment go on in its next line. Of a `.rt` file
 only the lines of contracts and comments are broken; the formatter has the others.
 """
 import re
 import sys
 
-WIDTH = 140
+WIDTH, BYTES = 140, 160
 OPEN, CLOSE = '([{⌜⟦', ')]}⌝⟧'
 FIRST = ('→ ', '+ ', '++ ', '|| ', '&& ', '∷ ')
 BEFORE = ('≡', '×', '≤')
 BEHIND = ('=', '∙')
 START = ('→', '(', '∷', '×', '≡', 'let ', 'rw ', '‵', '++')
+
+
+def long(line):
+    return len(line) > WIDTH or len(line.encode()) > BYTES
 
 
 def spaces(line):
@@ -54,9 +58,9 @@ def joins(line, i):
 def split(line):
     """The line in two, or nothing if there is no place for it."""
     indent = len(line) - len(line.lstrip())
-    places = [(i, d) for i, d in spaces(line) if indent + 12 < i <= WIDTH and not joins(line, i)]
+    places = [(i, d) for i, d in spaces(line) if indent + 12 < i and not long(line[:i]) and not joins(line, i)]
     if not places:
-        later = [(i, d) for i, d in spaces(line) if i > WIDTH and not joins(line, i)]
+        later = [(i, d) for i, d in spaces(line) if long(line[:i]) and not joins(line, i)]
         if not later:
             return None
         return line[:later[0][0]], line[later[0][0] + 1:]
@@ -74,7 +78,7 @@ def pieces(line):
     indent = len(line) - len(line.lstrip())
     more = ' ' * (indent if line.lstrip().startswith(START) else indent + 4)
     out = []
-    while len(line) > WIDTH:
+    while long(line):
         parted = split(line)
         if not parted or not parted[1].strip():
             break
@@ -115,7 +119,7 @@ def wrapped(text, rust=False):
     while at < len(lines):
         line = lines[at]
         bare = line.lstrip()
-        if len(line) <= WIDTH:
+        if not long(line):
             out.append(line)
         elif bare.startswith(mark):
             if commented(lines, at, mark):

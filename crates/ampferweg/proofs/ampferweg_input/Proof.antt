@@ -235,7 +235,8 @@ module _ {M : Type 1} (𝓤 : URA M) (H : Heap 𝓤) (A : Atoms 𝓤) (W : Given
       × Triple 𝓤 (C scatter-def.name) (tripleOf 𝓤 H A scatter.signature (scatter.spec 𝓤 H A at-mem run))
       × Triple 𝓤 (C code-of-def.name) (tripleOf 𝓤 H A code-of.signature (code-of.spec 𝓤 H A at-mem run))
 
-  module _ (κ₀ κ₁ κ₂ κ₃ κ₄ κ₅ : Lft) (q₀ q₁ q₂ q₃ q₄ q₅ : Share) (x₀ : RefT Link) (x₁ : RefT (List ℕ)) (room₁ : Room u8 (length (x₁ .now)))
+  module _ (κ₀ κ₁ κ₂ κ₃ κ₄ κ₅ : Lft) (q₀ q₁ q₂ q₃ q₄ q₅ : Share) (x₀ : RefT Link) (x₁ : RefT (List ℕ))
+      (room₁ : Room u8 (length (x₁ .now)))
       (x₂ : RefT (List ℕ)) (room₂ : Room u8 (length (x₂ .now))) (x₃ : RefT (List Record)) (room₃ : Room R (length (x₃ .now)))
       (x₄ : RefT (List ℕ)) (room₄ : Room u32 (length (x₄ .now))) (x₅ : RefT (List ℕ)) (room₅ : Room u8 (length (x₅ .now))) where
     abbrev x : RefT Link × (RefT (List ℕ) × (RefT (List ℕ) × (RefT (List Record) × (RefT (List ℕ) × (RefT (List ℕ) × Unit {0})))))
@@ -304,12 +305,15 @@ module _ {M : Type 1} (𝓤 : URA M) (H : Heap 𝓤) (A : Atoms 𝓤) (W : Given
     )
 
     asks-taking : (β₃ : ℕ) (δ₃ : GName)
-        → ent 𝓤 (⋆ 𝓤 H A (‵ (flft κ₀ q₀) ∷ ‵ Own₀ ∷ ‵ (flft κ₁ q₁) ∷ ‵ Own₁ ∷ ‵ (flft κ₂ q₂) ∷ ‵ Own₂ ∷ ‵ (flft (β₃ ∷ []) fullShare)
+        → ent 𝓤 (⋆ 𝓤 H A (‵ (flft κ₀ q₀) ∷ ‵ Own₀ ∷ ‵ (flft κ₁ q₁) ∷ ‵ Own₁ ∷ ‵ (flft κ₂ q₂) ∷ ‵ Own₂
+        ∷ ‵ (flft (β₃ ∷ []) fullShare)
         ∷ ‵ (Shared₃ β₃ δ₃) ∷ ‵ (flft κ₄ q₄) ∷ ‵ Own₄ ∷ ‵ (flft κ₅ q₅) ∷ ‵ Own₅ ∷ []))
         (tripleOf 𝓤 H A taking.signature (taking.spec 𝓤 H A at-mem run) .pre (to-taking β₃ δ₃))
     asks-taking β₃ δ₃ =
-        qed W (‵ (flft κ₀ q₀) ∷ ‵ Own₀ ∷ ‵ (flft κ₁ q₁) ∷ ‵ Own₁ ∷ ‵ (flft κ₂ q₂) ∷ ‵ Own₂ ∷ ‵ (flft (β₃ ∷ []) fullShare)
-        ∷ ‵ (Shared₃ β₃ δ₃) ∷ ‵ (flft κ₄ q₄) ∷ ‵ Own₄ ∷ ‵ (flft κ₅ q₅) ∷ ‵ Own₅ ∷ []) ∵ nothing ! $ move ! (11 ∷ 0 ∷ []) $ join ! $
+        qed W (‵ (flft κ₀ q₀) ∷ ‵ Own₀ ∷ ‵ (flft κ₁ q₁) ∷ ‵ Own₁ ∷ ‵ (flft κ₂ q₂) ∷ ‵ Own₂
+        ∷ ‵ (flft (β₃ ∷ []) fullShare)
+        ∷ ‵ (Shared₃ β₃ δ₃) ∷ ‵ (flft κ₄ q₄) ∷ ‵ Own₄ ∷ ‵ (flft κ₅ q₅) ∷ ‵ Own₅ ∷ []) ∵ nothing ! $
+        move ! (11 ∷ 0 ∷ []) $ join ! $
         move ! (9 ∷ 0 ∷ []) $ join ! $ move ! (7 ∷ 0 ∷ []) $ join ! $ move ! (5 ∷ 0 ∷ []) $ join ! $ move ! (3 ∷ 0 ∷ []) $ join ! $
         move ! (1 ∷ 0 ∷ []) $ join ! $ nothing ! $ move ! (7 ∷ 0 ∷ []) $ fjoin ! $ move ! (6 ∷ 0 ∷ []) $ fjoin ! $ move ! (5 ∷ 0 ∷ []) $
         fjoin ! $ move ! (4 ∷ 0 ∷ []) $ fjoin ! $ move ! (3 ∷ 0 ∷ []) $ fjoin ! $ move ! (2 ∷ 0 ∷ []) $ fjoin ! $ move ! (1 ∷ 0 ∷ []) $
@@ -334,8 +338,10 @@ module _ {M : Type 1} (𝓤 : URA M) (H : Heap 𝓤) (A : Atoms 𝓤) (W : Given
         move ! (2 ∷ 0 ∷ []) $ fjoin ! $ move ! (1 ∷ 0 ∷ []) $ join ! $ nothing ! $ move ! (1 ∷ 0 ∷ []) $ done !
 
     abbrev Had : (z₀ : Link) (z₂ : List ℕ) (z₃ : List Record) (z₄ : List ℕ) → List (Item 𝓤)
-    Had z₀ z₂ z₃ z₄ = ‵ (fres (x₀ .name) (L .coded .code z₀)) ∷ ‵ (flft κ₀ q₀) ∷ ‵ (flft κ₁ q₁) ∷ ‵ (finally u8 (x₂ .name) z₂)
-        ∷ ‵ (flft κ₂ q₂) ∷ ‵ (finally R (x₃ .name) z₃) ∷ ‵ (flft κ₃ q₃) ∷ ‵ (finally u32 (x₄ .name) z₄) ∷ ‵ (flft κ₄ q₄) ∷ ‵ (flft κ₅ q₅)
+    Had z₀ z₂ z₃ z₄ = ‵ (fres (x₀ .name) (L .coded .code z₀)) ∷ ‵ (flft κ₀ q₀) ∷ ‵ (flft κ₁ q₁)
+        ∷ ‵ (finally u8 (x₂ .name) z₂)
+        ∷ ‵ (flft κ₂ q₂) ∷ ‵ (finally R (x₃ .name) z₃) ∷ ‵ (flft κ₃ q₃) ∷ ‵ (finally u32 (x₄ .name) z₄)
+        ∷ ‵ (flft κ₄ q₄) ∷ ‵ (flft κ₅ q₅)
         ∷ []
 
     -- what the contract says
@@ -343,8 +349,10 @@ module _ {M : Type 1} (𝓤 : URA M) (H : Heap 𝓤) (A : Atoms 𝓤) (W : Given
     Said r z₀ z₂ z₃ z₄ = Gives answerCode (λ a. InputPromise (x₅ .now) (x₀ .now) (partsOf (x₁ .now) (x₂ .now) (x₃ .now) (x₄ .now)) a z₀
         (partsOf (x₁ .now) z₂ z₃ z₄)) r
 
-    exits : (r : ℤ) (w : Val) (z₀ : Link) (z₂ : List ℕ) (z₃ : List Record) (z₄ : List ℕ) → Said r z₀ z₂ z₃ z₄ → length z₂ ≡ length (x₂ .now)
-        → length z₃ ≡ length (x₃ .now) → length z₄ ≡ length (x₄ .now) → Is i32 r (w ∷ []) → ent 𝓤 (⋆ 𝓤 H A (Had z₀ z₂ z₃ z₄)) (Post w)
+    exits : (r : ℤ) (w : Val) (z₀ : Link) (z₂ : List ℕ) (z₃ : List Record) (z₄ : List ℕ) → Said r z₀ z₂ z₃ z₄
+        → length z₂ ≡ length (x₂ .now)
+        → length z₃ ≡ length (x₃ .now) → length z₄ ≡ length (x₄ .now) → Is i32 r (w ∷ [])
+        → ent 𝓤 (⋆ 𝓤 H A (Had z₀ z₂ z₃ z₄)) (Post w)
     unfolding Post
     exits r w z₀ z₂ z₃ z₄ e len₂ len₃ len₄ g =
         qed W (Had z₀ z₂ z₃ z₄) ∵ suffices ! _ (ends-at 𝓤 H A f.ended stayed (f.clauses 𝓤 H A at-mem run) W
@@ -356,10 +364,12 @@ module _ {M : Type 1} (𝓤 : URA M) (H : Heap 𝓤) (A : Atoms 𝓤) (W : Given
         move ! (1 ∷ 0 ∷ []) $ fjoin ! $ frame ! $ owned ! i32 (Is i32) (sint-makes 𝓤 H A W w32) r _ g $ done !
 
     module _ (C : Calls 𝓤 H) (Λ : Loops 𝓤 H) (fm : FmC 𝓤 H (W .laws) C) (known : Known C) where
-      walk : ent 𝓤 (onEntry 𝓤 H A f.signature (κ₀, (κ₁, (κ₂, (κ₃, (κ₄, (κ₅, tt)))))) (q₀, (q₁, (q₂, (q₃, (q₄, (q₅, tt)))))) x at)
+      walk : ent 𝓤 (onEntry 𝓤 H A f.signature (κ₀, (κ₁, (κ₂, (κ₃, (κ₄, (κ₅, tt)))))) (q₀, (q₁, (q₂, (q₃, (q₄, (q₅, tt))))))
+          x at)
           (WpFn 𝓤 H C Λ code.function (s₀ ∷ s₁ ∷ s₂ ∷ s₃ ∷ s₄ ∷ s₅ ∷ []) Post)
       walk =
-          qed W ((‵ (flft κ₀ q₀) ⊛ ‵ (flft κ₁ q₁) ⊛ ‵ (flft κ₂ q₂) ⊛ ‵ (flft κ₃ q₃) ⊛ ‵ (flft κ₄ q₄) ⊛ ‵ (flft κ₅ q₅) ⊛ ‵ ftrue)
+          qed W ((‵ (flft κ₀ q₀) ⊛ ‵ (flft κ₁ q₁) ⊛ ‵ (flft κ₂ q₂) ⊛ ‵ (flft κ₃ q₃) ⊛ ‵ (flft κ₄ q₄) ⊛ ‵
+          (flft κ₅ q₅) ⊛ ‵ ftrue)
           ∷ ‵ (owns (MutRef (named 0) κ₀ L ∷ ShrSlice (named 1) κ₁ u8 ∷ MutSlice (named 2) κ₂ u8 ∷ MutSlice (named 3) κ₃ R
           ∷ MutSlice (named 4) κ₄ u32 ∷ ShrSlice (named 5) κ₅ u8 ∷ []) x at) ∷ []) ∵
           enter ! C Λ code.function (s₀ ∷ s₁ ∷ s₂ ∷ s₃ ∷ s₄ ∷ s₅ ∷ []) _ $
@@ -368,7 +378,8 @@ module _ {M : Type 1} (𝓤 : URA M) (H : Heap 𝓤) (A : Atoms 𝓤) (W : Given
           alloc1 ! (λ l₆. alloc1 ! (λ l₇. alloc1 ! (λ l₈.
           alloc1 ! (λ l₉. alloc1 ! (λ l₁₀. alloc1 ! (λ l₁₁.
           alloc1 ! (λ l₁₂. alloc1 ! (λ l₁₃. alloc1 ! (λ l₁₄.
-          alloc1 ! (λ l₁₅. alloc1 ! (λ l₁₆. alloc1 ! (λ l₁₇. alloc1 ! (λ l₁₈. alloc1 ! (λ l₁₉. alloc1 ! (λ l₂₀. alloc0 ! $ params1 ! $
+          alloc1 ! (λ l₁₅. alloc1 ! (λ l₁₆. alloc1 ! (λ l₁₇.
+          alloc1 ! (λ l₁₈. alloc1 ! (λ l₁₉. alloc1 ! (λ l₂₀. alloc0 ! $ params1 ! $
           pass1 ! (init ! 38 refl (tt, tt)) $ pass1 ! (init ! 36 refl (tt, (tt, (record { fits = room₁ .0 }, tt)))) $
           pass1 ! (init ! 34 refl (tt, (tt, (record { fits = room₂ .0 }, tt)))) $
           pass1 ! (init ! 32 refl (tt, (tt, (record { fits = room₃ .0 }, tt)))) $
@@ -378,9 +389,11 @@ module _ {M : Type 1} (𝓤 : URA M) (H : Heap 𝓤) (A : Atoms 𝓤) (W : Given
           (‵ (ShrSlice (named 1) κ₁ u8 .own (x₁) (s₁ ∷ [])) ∷ ‵ (MutSlice (named 2) κ₂ u8 .own (x₂) (s₂ ∷ []))
           ∷ ‵ (MutSlice (named 3) κ₃ R .own (x₃) (s₃ ∷ [])) ∷ ‵ (MutSlice (named 4) κ₄ u32 .own (x₄) (s₄ ∷ []))
           ∷ ‵ (ShrSlice (named 5) κ₅ u8 .own (x₅) (s₅ ∷ [])) ∷ ‵ ftrue ∷ []) (id⊢ 𝓤 _) $ move ! (49 ∷ []) $
-          spread W (‵ (flft κ₀ q₀)) (‵ (flft κ₁ q₁) ∷ ‵ (flft κ₂ q₂) ∷ ‵ (flft κ₃ q₃) ∷ ‵ (flft κ₄ q₄) ∷ ‵ (flft κ₅ q₅) ∷ ‵ ftrue ∷ [])
+          spread W (‵ (flft κ₀ q₀)) (‵ (flft κ₁ q₁) ∷ ‵ (flft κ₂ q₂) ∷ ‵ (flft κ₃ q₃) ∷ ‵ (flft κ₄ q₄)
+          ∷ ‵ (flft κ₅ q₅) ∷ ‵ ftrue ∷ [])
           (id⊢ 𝓤 _) $ move ! (13 ∷ 6 ∷ []) $ drop ! $ drop ! $
-          move ! (53 ∷ 51 ∷ 49 ∷ 47 ∷ 45 ∷ 43 ∷ 41 ∷ 39 ∷ 37 ∷ 35 ∷ 33 ∷ 31 ∷ 29 ∷ 27 ∷ 25 ∷ 23 ∷ 21 ∷ 19 ∷ 17 ∷ 15 ∷ 13 ∷ []) $
+          move ! (53 ∷ 51 ∷ 49 ∷ 47 ∷ 45 ∷ 43 ∷ 41 ∷ 39 ∷ 37 ∷ 35 ∷ 33 ∷ 31 ∷ 29 ∷ 27 ∷ 25 ∷ 23 ∷ 21 ∷ 19 ∷ 17 ∷ 15 ∷ 13
+          ∷ []) $
           group ! 21 $
           -- [deaths; tok0; tok1; tok2; tok3; tok4; tok5; own0; own1; own2; own3; own4; own5; the locals]
           assigns ! {v = s₀} (addr ! (from ! (hop ! (look ! 32 refl) (stop !)))) (from ! (stop !)) (init ! 22 refl (tt, tt)) $
@@ -411,8 +424,10 @@ module _ {M : Type 1} (𝓤 : URA M) (H : Heap 𝓤) (A : Atoms 𝓤) (W : Given
           move ! (4 ∷ 9 ∷ 5 ∷ 10 ∷ 6 ∷ 11 ∷ 2 ∷ 0 ∷ 7 ∷ 12 ∷ 8 ∷ 13 ∷ []) $ group ! 12 $
           calls-fn ! fm taking.ended (taking.clauses 𝓤 H A at-mem run) (known .0) (to-taking β₃ β-name₃)
           (λ t ws-t. InputLeft (x₅ .now) (x₀ .now) (partsOf (x₁ .now) (x₂ .now) (x₃ .now) (x₄ .now)) (t .answer) (takenBack t) (ws-t .0)
-          (ws-t .1 .1 .0) (ws-t .1 .1 .1 .1 .0)) (‵ (flft κ₀ q₀) ⊛ ‵ Own₀ ⊛ ‵ (flft κ₁ q₁) ⊛ ‵ Own₁ ⊛ ‵ (flft κ₂ q₂) ⊛ ‵ Own₂ ⊛ ‵
-          (flft (β₃ ∷ []) fullShare) ⊛ ‵ (Shared₃ β₃ β-name₃) ⊛ ‵ (flft κ₄ q₄) ⊛ ‵ Own₄ ⊛ ‵ (flft κ₅ q₅) ⊛ ‵ Own₅)
+          (ws-t .1 .1 .0) (ws-t .1 .1 .1 .1 .0)) (‵ (flft κ₀ q₀) ⊛ ‵ Own₀ ⊛ ‵ (flft κ₁ q₁) ⊛ ‵ Own₁ ⊛ ‵ (flft κ₂ q₂) ⊛
+          ‵ Own₂ ⊛ ‵
+          (flft (β₃ ∷ []) fullShare) ⊛ ‵ (Shared₃ β₃ β-name₃) ⊛ ‵ (flft κ₄ q₄) ⊛ ‵ Own₄ ⊛ ‵ (flft κ₅ q₅) ⊛ ‵
+          Own₅)
           (asks-taking β₃ β-name₃) (λ t ws-t. id⊢ 𝓤 _)
           (and-then ! (load ! (from ! (stop !)) (look ! 12 refl))
           (and-then ! (load ! (from ! (stop !)) (look ! 21 refl))
@@ -421,13 +436,16 @@ module _ {M : Type 1} (𝓤 : URA M) (H : Heap 𝓤) (A : Atoms 𝓤) (W : Given
           (and-then ! (load ! (from ! (stop !)) (look ! 6 refl)) (and-then ! (load ! (from ! (stop !)) (look ! 17 refl)) (no-more !)))))))
           (λ t w-t ws-t e-t is-t. land ! (from ! (stop !))
           (init ! 17 refl (LL.lawful taken-row.the-type taken-laws.the-laws 𝓤 H A W .typed t (w-t ∷ []) is-t .0)) $
-          spread W (‵ (flft κ₀ q₀)) (‵ (flft κ₁ q₁) ∷ ‵ (flft κ₂ q₂) ∷ ‵ (flft (β₃ ∷ []) fullShare) ∷ ‵ (flft κ₄ q₄) ∷ ‵ (flft κ₅ q₅)
+          spread W (‵ (flft κ₀ q₀)) (‵ (flft κ₁ q₁) ∷ ‵ (flft κ₂ q₂) ∷ ‵ (flft (β₃ ∷ []) fullShare) ∷ ‵ (flft κ₄ q₄)
+          ∷ ‵ (flft κ₅ q₅)
           ∷ ‵ ftrue ∷ []) (id⊢ 𝓤 _) $ move ! (7 ∷ []) $
           spread W (‵ (fres (x₀ .name) (L .coded .code (ws-t .0))))
           (‵ ftrue ∷ ‵ (fsep (finally u8 (x₂ .name) (ws-t .1 .1 .0)) (feq ℕ (length (ws-t .1 .1 .0)) (length (x₂ .now)))) ∷ ‵ ftrue
           ∷ ‵ (fsep (finally u32 (x₄ .name) (ws-t .1 .1 .1 .1 .0)) (feq ℕ (length (ws-t .1 .1 .1 .1 .0)) (length (x₄ .now)))) ∷ ‵ ftrue
-          ∷ ‵ ftrue ∷ []) (id⊢ 𝓤 _) $ keep ! (0 ∷ 2 ∷ 4 ∷ 7 ∷ 8 ∷ 9 ∷ 10 ∷ 11 ∷ 12 ∷ 14 ∷ 15 ∷ 16 ∷ 17 ∷ 18 ∷ 19 ∷ 20 ∷ 21 ∷ 22 ∷ 23
-          ∷ 24 ∷ 25 ∷ 26 ∷ 27 ∷ 28 ∷ 29 ∷ 30 ∷ 31 ∷ 32 ∷ 33 ∷ 34 ∷ 35 ∷ 36 ∷ []) $ move ! (1 ∷ []) $ fsplit ! $ move ! (1 ∷ []) $
+          ∷ ‵ ftrue ∷ []) (id⊢ 𝓤 _) $ keep ! (0 ∷ 2 ∷ 4 ∷ 7 ∷ 8 ∷ 9 ∷ 10 ∷ 11 ∷ 12 ∷ 14 ∷ 15 ∷ 16 ∷ 17 ∷ 18 ∷ 19 ∷ 20
+          ∷ 21 ∷ 22 ∷ 23
+          ∷ 24 ∷ 25 ∷ 26 ∷ 27 ∷ 28 ∷ 29 ∷ 30 ∷ 31 ∷ 32 ∷ 33 ∷ 34 ∷ 35 ∷ 36 ∷ []) $ move ! (1 ∷ []) $ fsplit ! $
+          move ! (1 ∷ []) $
           feqL ! (λ len₂. move ! (2 ∷ []) $ fsplit ! $ move ! (1 ∷ []) $ feqL ! (λ len₄.
           -- [fin4; fin2; fin0; tok0; tok1; tok2; btok3; tok4; tok5; blent3; deaths; the locals]
           nothing ! $ calls-fn ! fm words-of.ended (words-of.clauses 𝓤 H A at-mem run) (known .1)
@@ -457,7 +475,8 @@ module _ {M : Type 1} (𝓤 : URA M) (H : Heap 𝓤) (A : Atoms 𝓤) (W : Given
           (and-then ! (load ! (from ! (fld ! refl (stop !))) (look-in ! 27 (sub ! 1 refl (whole !)))) (no-more !)))) (from ! (stop !))
           (init ! 11 refl (tt, (tt, (record { fits = room₃ .0 }, tt)))) $
           move ! (6 ∷ 9 ∷ []) $ lft-end ! tt $
-          use2 W (later (‵ Own₃ ⊛ ‵ (flft κ₃ q₃))) (shared-back R κ₃ (β₃ ∷ []) q₃ (x₃ .name) (x₃ .ptr .0) (x₃ .ptr .1) (x₃ .now) 𝓤 H A W
+          use2 W (later (‵ Own₃ ⊛ ‵ (flft κ₃ q₃))) (shared-back R κ₃ (β₃ ∷ []) q₃ (x₃ .name) (x₃ .ptr .0) (x₃ .ptr .1) (x₃ .now)
+          𝓤 H A W
           room₃) $ await ! tt $ split ! $
           -- [own3; tok3; fin4; fin2; fin0; tok0; tok1; tok2; tok4; tok5; deaths; the locals]
           move ! (1 ∷ 0 ∷ []) $ join ! $ calls-fn ! fm scatter.ended (scatter.clauses 𝓤 H A at-mem run) (known .4)
@@ -471,7 +490,8 @@ module _ {M : Type 1} (𝓤 : URA M) (H : Heap 𝓤) (A : Atoms 𝓤) (W : Given
           spread W (‵ (flft κ₃ q₃)) (‵ ftrue ∷ []) (id⊢ 𝓤 _) $ move ! (2 ∷ []) $
           spread W (‵ (fsep (finally R (x₃ .name) (ws-u .0)) (feq ℕ (length (ws-u .0)) (length (x₃ .now)))))
           (‵ ftrue ∷ ‵ ftrue ∷ ‵ ftrue ∷ ‵ ftrue ∷ []) (id⊢ 𝓤 _) $
-          keep ! (0 ∷ 5 ∷ 7 ∷ 8 ∷ 9 ∷ 10 ∷ 11 ∷ 12 ∷ 13 ∷ 14 ∷ 15 ∷ 16 ∷ 17 ∷ 18 ∷ 19 ∷ 20 ∷ 21 ∷ 22 ∷ 23 ∷ 24 ∷ 25 ∷ 26 ∷ 27 ∷ 28 ∷ 29
+          keep ! (0 ∷ 5 ∷ 7 ∷ 8 ∷ 9 ∷ 10 ∷ 11 ∷ 12 ∷ 13 ∷ 14 ∷ 15 ∷ 16 ∷ 17 ∷ 18 ∷ 19 ∷ 20 ∷ 21 ∷ 22 ∷ 23 ∷ 24 ∷ 25
+          ∷ 26 ∷ 27 ∷ 28 ∷ 29
           ∷ 30 ∷ 31 ∷ 32 ∷ 33 ∷ 34 ∷ 35 ∷ 36 ∷ []) $ fsplit ! $ move ! (1 ∷ []) $ feqL ! (λ len₃.
           -- [fin3; tok3; fin4; fin2; fin0; tok0; tok1; tok2; tok4; tok5; deaths; the locals]
           nothing ! $ calls-fn ! fm code-of.ended (code-of.clauses 𝓤 H A at-mem run) (known .5) ((tt, tt, tt, (t, tt), (w-t ∷ [], tt)), tt)
@@ -492,8 +512,10 @@ module _ {M : Type 1} (𝓤 : URA M) (H : Heap 𝓤) (A : Atoms 𝓤) (W : Given
           ∷ ‵ (fdies (tyRef erased imm (pointee (R .written))) l₁₄) ∷ ‵ (fdies (sliceTy (tyRef erased imm (pointee (R .written)))) l₁₅)
           ∷ ‵ (fdies (tyRef erased mut (tyInt w32)) l₁₆) ∷ ‵ (fdies (sliceTy (tyRef erased mut (tyInt w32))) l₁₇) ∷ ‵ (fdies tyUnit l₁₈)
           ∷ ‵ (fdies (tyRef erased mut (pointee (R .written))) l₁₉) ∷ ‵ (fdies (sliceTy (tyRef erased mut (pointee (R .written)))) l₂₀)
-          ∷ []) (id⊢ 𝓤 _) $ move ! (51 ∷ 0 ∷ 50 ∷ 1 ∷ 49 ∷ 2 ∷ 48 ∷ 3 ∷ 47 ∷ 4 ∷ 46 ∷ 5 ∷ 45 ∷ 6 ∷ 44 ∷ 7 ∷ 43 ∷ 8 ∷ 42 ∷ 9 ∷ 41 ∷ 10
-          ∷ 40 ∷ 11 ∷ 39 ∷ 12 ∷ 38 ∷ 13 ∷ 37 ∷ 14 ∷ 36 ∷ 15 ∷ 35 ∷ 16 ∷ 34 ∷ 17 ∷ 33 ∷ 18 ∷ 32 ∷ 19 ∷ 31 ∷ 20 ∷ []) $ forget ! 0 refl $
+          ∷ []) (id⊢ 𝓤 _) $ move ! (51 ∷ 0 ∷ 50 ∷ 1 ∷ 49 ∷ 2 ∷ 48 ∷ 3 ∷ 47 ∷ 4 ∷ 46 ∷ 5 ∷ 45 ∷ 6 ∷ 44 ∷ 7 ∷ 43 ∷ 8
+          ∷ 42 ∷ 9 ∷ 41 ∷ 10
+          ∷ 40 ∷ 11 ∷ 39 ∷ 12 ∷ 38 ∷ 13 ∷ 37 ∷ 14 ∷ 36 ∷ 15 ∷ 35 ∷ 16 ∷ 34 ∷ 17 ∷ 33 ∷ 18 ∷ 32 ∷ 19 ∷ 31 ∷ 20 ∷ []) $
+          forget ! 0 refl $
           free1 ! $ forget ! 0 refl $ free1 ! $ forget ! 0 refl $ free1 ! $ forget ! 0 refl $ free1 ! $ forget ! 0 refl $ free1 ! $
           forget ! 0 refl $ free1 ! $ forget ! 0 refl $ free1 ! $ forget ! 0 refl $ free1 ! $ forget ! 0 refl $ free1 ! $
           forget ! 0 refl $ free1 ! $ forget ! 0 refl $ free1 ! $ forget ! 0 refl $ free1 ! $ forget ! 0 refl $ free1 ! $
@@ -507,7 +529,8 @@ module _ {M : Type 1} (𝓤 : URA M) (H : Heap 𝓤) (A : Atoms 𝓤) (W : Given
           (put-back (x₃ .now) (ws-u .0) (takenBack t) words n after e-words e-n e-after e-u) e-t)) len₂ len₃ len₄
           is-r)))))))))))))))))))))))))))))))))
 
-  f-meets : (𝓣 : Tables 𝓤 H) → Known (𝓣 .C) → Meets 𝓤 H A f.signature (WpFn 𝓤 H (𝓣 .C) (𝓣 .Λ) code.function) (f.spec 𝓤 H A at-mem run)
+  f-meets : (𝓣 : Tables 𝓤 H) → Known (𝓣 .C)
+      → Meets 𝓤 H A f.signature (WpFn 𝓤 H (𝓣 .C) (𝓣 .Λ) code.function) (f.spec 𝓤 H A at-mem run)
   unfolding Post
   f-meets 𝓣 known = walk-meets 𝓤 H A f.ended stayed W (
     goes-gave-ref 𝓤 H A W 6 0 tt (plain (λ _. L)),
@@ -559,7 +582,8 @@ ampferweg-input-spec 𝓤 H 𝓜 𝓖 𝓡 =
           words-of-def.routine code.calls-results·taken-words (words-of-thm.met 𝓤 H 𝓜 𝓖 𝓡),
       cited 𝓤 H (tripleOf 𝓤 H (𝓖 .A) count-of.signature (count-of.spec 𝓤 H (𝓖 .A) (𝓜 .mem) (𝓡 .run))) 𝓜 𝓡 code.env count-of-def.name
           count-of-def.routine code.calls-results·taken-changed (count-of-thm.met 𝓤 H 𝓜 𝓖 𝓡),
-      cited 𝓤 H (tripleOf 𝓤 H (𝓖 .A) records-of.signature (records-of.spec 𝓤 H (𝓖 .A) (𝓜 .mem) (𝓡 .run))) 𝓜 𝓡 code.env records-of-def.name
+      cited 𝓤 H (tripleOf 𝓤 H (𝓖 .A) records-of.signature (records-of.spec 𝓤 H (𝓖 .A) (𝓜 .mem) (𝓡 .run))) 𝓜 𝓡 code.env
+          records-of-def.name
           records-of-def.routine code.calls-results·taken-records (records-of-thm.met 𝓤 H 𝓜 𝓖 𝓡),
       cited 𝓤 H (tripleOf 𝓤 H (𝓖 .A) scatter.signature (scatter.spec 𝓤 H (𝓖 .A) (𝓜 .mem) (𝓡 .run))) 𝓜 𝓡 code.env scatter-def.name
           scatter-def.routine code.calls-gathering·scatter (scatter-thm.met 𝓤 H 𝓜 𝓖 𝓡),

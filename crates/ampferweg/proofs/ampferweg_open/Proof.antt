@@ -266,14 +266,17 @@ module _ {M : Type 1} (𝓤 : URA M) (H : Heap 𝓤) (A : Atoms 𝓤) (W : Given
       × Triple 𝓤 (C opened-clock-def.name) (tripleOf 𝓤 H A opened-clock.signature (opened-clock.spec 𝓤 H A at-mem run))
       × Triple 𝓤 (C code-of-def.name) (tripleOf 𝓤 H A code-of.signature (code-of.spec 𝓤 H A at-mem run))
 
-  module _ (κ₀ κ₁ κ₂ κ₃ κ₄ : Lft) (q₀ q₁ q₂ q₃ q₄ : Share) (b o : ℕ) (γ : GName) (h : Link) (x₁ : ℕ) (v₁ : Val) (g₁ : Is u32 x₁ (v₁ ∷ []))
+  module _ (κ₀ κ₁ κ₂ κ₃ κ₄ : Lft) (q₀ q₁ q₂ q₃ q₄ : Share) (b o : ℕ) (γ : GName) (h : Link) (x₁ : ℕ) (v₁ : Val)
+      (g₁ : Is u32 x₁ (v₁ ∷ []))
       (x₂ : ℕ) (v₂ : Val) (g₂ : Is u32 x₂ (v₂ ∷ [])) (x₃ : ℕ) (v₃ : Val) (g₃ : Is u32 x₃ (v₃ ∷ [])) (x₄ : ℕ) (v₄ : Val)
-      (g₄ : Is u32 x₄ (v₄ ∷ [])) (x₅ : ℕ) (v₅ : Val) (g₅ : Is u32 x₅ (v₅ ∷ [])) (x₆ : ℕ) (v₆ : Val) (g₆ : Is u32 x₆ (v₆ ∷ [])) (x₇ : ℕ)
+      (g₄ : Is u32 x₄ (v₄ ∷ [])) (x₅ : ℕ) (v₅ : Val) (g₅ : Is u32 x₅ (v₅ ∷ [])) (x₆ : ℕ) (v₆ : Val)
+      (g₆ : Is u32 x₆ (v₆ ∷ [])) (x₇ : ℕ)
       (v₇ : Val) (g₇ : Is u32 x₇ (v₇ ∷ [])) (x₈ : RefT (List ℕ)) (room₈ : Room u8 (length (x₈ .now))) (x₉ : RefT (List ℕ))
       (room₉ : Room u8 (length (x₉ .now))) (x₁₀ : RefT (List Record)) (room₁₀ : Room R (length (x₁₀ .now))) (x₁₁ : RefT (List ℕ))
       (room₁₁ : Room u32 (length (x₁₁ .now))) where
     abbrev x : RefT Link ×
-        (ℕ × (ℕ × (ℕ × (ℕ × (ℕ × (ℕ × (ℕ × (RefT (List ℕ) × (RefT (List ℕ) × (RefT (List Record) × (RefT (List ℕ) × Unit {0})))))))))))
+        (ℕ × (ℕ × (ℕ ×
+        (ℕ × (ℕ × (ℕ × (ℕ × (RefT (List ℕ) × (RefT (List ℕ) × (RefT (List Record) × (RefT (List ℕ) × Unit {0})))))))))))
     x = (ref-at b o γ h, (x₁, (x₂, (x₃, (x₄, (x₅, (x₆, (x₇, (x₈, (x₉, (x₁₀, (x₁₁, tt))))))))))))
 
     abbrev s₈ : Val
@@ -323,7 +326,8 @@ module _ {M : Type 1} (𝓤 : URA M) (H : Heap 𝓤) (A : Atoms 𝓤) (W : Given
     asks-table-len : ent 𝓤 (⋆ 𝓤 H A (‵ (flft κ₃ q₃) ∷ ‵ Own₁₀ ∷ []))
         (tripleOf 𝓤 H A table-len.signature (table-len.spec 𝓤 H A at-mem run) .pre (to-table-len))
     asks-table-len =
-        qed W (‵ (flft κ₃ q₃) ∷ ‵ Own₁₀ ∷ []) ∵ nothing ! $ move ! (1 ∷ 0 ∷ []) $ join ! $ nothing ! $ move ! (2 ∷ 0 ∷ []) $ fjoin ! $
+        qed W (‵ (flft κ₃ q₃) ∷ ‵ Own₁₀ ∷ []) ∵ nothing ! $ move ! (1 ∷ 0 ∷ []) $ join ! $ nothing ! $ move ! (2 ∷ 0 ∷ []) $
+        fjoin ! $
         move ! (1 ∷ 0 ∷ []) $ join ! $ nothing ! $ move ! (1 ∷ 0 ∷ []) $ done !
 
     -- what core is called at, and that what it asks is had
@@ -341,12 +345,15 @@ module _ {M : Type 1} (𝓤 : URA M) (H : Heap 𝓤) (A : Atoms 𝓤) (W : Given
     )
 
     asks-core : (y₀ : Settings) (u₀ : Val) → Is settings-row.the-row y₀ (u₀ ∷ []) → (y₁ : Settings) (u₁ : Val)
-        → Is settings-row.the-row y₁ (u₁ ∷ []) → (y₂ : Flight) (u₂ : Val) → Is flight-row.the-row y₂ (u₂ ∷ []) → (y₃ : Arrival) (u₃ : Val)
+        → Is settings-row.the-row y₁ (u₁ ∷ []) → (y₂ : Flight) (u₂ : Val) → Is flight-row.the-row y₂ (u₂ ∷ [])
+        → (y₃ : Arrival) (u₃ : Val)
         → Is arrival-row.the-row y₃ (u₃ ∷ []) → (y₄ : Clock) (u₄ : Val) → Is clock-row.the-row y₄ (u₄ ∷ []) → (y₅ : ℕ) (u₅ : Val)
-        → Is usize y₅ (u₅ ∷ []) → ent 𝓤 (⋆ 𝓤 H A (‵ (flft κ₁ q₁) ∷ ‵ Own₈ ∷ ‵ (flft κ₂ q₂) ∷ ‵ Own₉ ∷ ‵ (flft κ₄ q₄) ∷ ‵ Own₁₁ ∷ []))
+        → Is usize y₅ (u₅ ∷ []) → ent 𝓤 (⋆ 𝓤 H A (‵ (flft κ₁ q₁) ∷ ‵ Own₈ ∷ ‵ (flft κ₂ q₂) ∷ ‵ Own₉
+        ∷ ‵ (flft κ₄ q₄) ∷ ‵ Own₁₁ ∷ []))
         (tripleOf 𝓤 H A core.signature (core.spec 𝓤 H A at-mem run) .pre (to-core y₀ u₀ y₁ u₁ y₂ u₂ y₃ u₃ y₄ u₄ y₅ u₅))
     asks-core y₀ u₀ is₀ y₁ u₁ is₁ y₂ u₂ is₂ y₃ u₃ is₃ y₄ u₄ is₄ y₅ u₅ is₅ =
-        qed W (‵ (flft κ₁ q₁) ∷ ‵ Own₈ ∷ ‵ (flft κ₂ q₂) ∷ ‵ Own₉ ∷ ‵ (flft κ₄ q₄) ∷ ‵ Own₁₁ ∷ []) ∵ nothing ! $ move ! (5 ∷ 0 ∷ []) $
+        qed W (‵ (flft κ₁ q₁) ∷ ‵ Own₈ ∷ ‵ (flft κ₂ q₂) ∷ ‵ Own₉ ∷ ‵ (flft κ₄ q₄) ∷ ‵ Own₁₁ ∷ []) ∵ nothing ! $
+        move ! (5 ∷ 0 ∷ []) $
         join ! $ move ! (3 ∷ 0 ∷ []) $ join ! $ move ! (1 ∷ 0 ∷ []) $ join ! $ nothing ! $ move ! (4 ∷ 0 ∷ []) $ fjoin ! $
         move ! (3 ∷ 0 ∷ []) $ fjoin ! $ move ! (2 ∷ 0 ∷ []) $ fjoin ! $ owned ! usize (Is usize) (uint-makes 𝓤 H A W w64) y₅ _ is₅ $
         fjoin ! $ owned ! clock-row.the-row (Is clock-row.the-row) (LL.makes clock-row.the-type clock-laws.the-plain 𝓤 H A) y₄ _ is₄ $
@@ -358,11 +365,13 @@ module _ {M : Type 1} (𝓤 : URA M) (H : Heap 𝓤) (A : Atoms 𝓤) (W : Given
         fjoin ! $ move ! (1 ∷ 0 ∷ []) $ join ! $ nothing ! $ move ! (1 ∷ 0 ∷ []) $ done !
 
     abbrev Had : (k : Link) → List (Item 𝓤)
-    Had k = ‵ (link-own κ₀ b o γ k) ∷ ‵ (flft κ₀ q₀) ∷ ‵ (flft κ₁ q₁) ∷ ‵ (flft κ₂ q₂) ∷ ‵ (flft κ₃ q₃) ∷ ‵ (flft κ₄ q₄) ∷ []
+    Had k = ‵ (link-own κ₀ b o γ k) ∷ ‵ (flft κ₀ q₀) ∷ ‵ (flft κ₁ q₁) ∷ ‵ (flft κ₂ q₂) ∷ ‵ (flft κ₃ q₃)
+        ∷ ‵ (flft κ₄ q₄) ∷ []
 
     -- what the contract says
     abbrev Said : (r : ℤ) (k : Link) → Type 0
-    Said r k = Gives answerCode (λ a. OpenPromise (settingsOf x₁ x₂ x₃ x₄ x₅ x₆ x₇) h (partsOf (x₈ .now) (x₉ .now) (x₁₀ .now) (x₁₁ .now)) a
+    Said r k = Gives answerCode (λ a. OpenPromise (settingsOf x₁ x₂ x₃ x₄ x₅ x₆ x₇) h
+        (partsOf (x₈ .now) (x₉ .now) (x₁₀ .now) (x₁₁ .now)) a
         k (partsOf (x₈ .now) (x₉ .now) (x₁₀ .now) (x₁₁ .now))) r
 
     exits : (r : ℤ) (w : Val) (k : Link) → Said r k → Is i32 r (w ∷ []) → ent 𝓤 (⋆ 𝓤 H A (Had k)) (Post w)
@@ -380,22 +389,29 @@ module _ {M : Type 1} (𝓤 : URA M) (H : Heap 𝓤) (A : Atoms 𝓤) (W : Given
 
     module _ (C : Calls 𝓤 H) (Λ : Loops 𝓤 H) (fm : FmC 𝓤 H (W .laws) C) (known : Known C) where
       -- where the locals lie
-      abbrev En : (l₀ l₁ l₂ l₃ l₄ l₅ l₆ l₇ l₈ l₉ l₁₀ l₁₁ l₁₂ l₁₃ l₁₄ l₁₅ l₁₆ l₁₇ l₁₈ l₁₉ l₂₀ l₂₁ l₂₂ l₂₃ : ℕ) → Env 𝓤 H
-      En l₀ l₁ l₂ l₃ l₄ l₅ l₆ l₇ l₈ l₉ l₁₀ l₁₁ l₁₂ l₁₃ l₁₄ l₁₅ l₁₆ l₁₇ l₁₈ l₁₉ l₂₀ l₂₁ l₂₂ l₂₃ =
-          envOf (code.function .locals) (l₀ ∷ l₁ ∷ l₂ ∷ l₃ ∷ l₄ ∷ l₅ ∷ l₆ ∷ l₇ ∷ l₈ ∷ l₉ ∷ l₁₀ ∷ l₁₁ ∷ l₁₂ ∷ l₁₃ ∷ l₁₄ ∷ l₁₅ ∷ l₁₆ ∷ l₁₇
+      abbrev En : (l₀ l₁ l₂ l₃ l₄ l₅ l₆ l₇ l₈ l₉ l₁₀ l₁₁ l₁₂ l₁₃ l₁₄ l₁₅ l₁₆ l₁₇ l₁₈ l₁₉ l₂₀
+          l₂₁ l₂₂ l₂₃ : ℕ) → Env 𝓤 H
+      En l₀ l₁ l₂ l₃ l₄ l₅ l₆ l₇ l₈ l₉ l₁₀ l₁₁ l₁₂ l₁₃ l₁₄ l₁₅ l₁₆ l₁₇ l₁₈ l₁₉ l₂₀ l₂₁
+          l₂₂ l₂₃ =
+          envOf (code.function .locals) (l₀ ∷ l₁ ∷ l₂ ∷ l₃ ∷ l₄ ∷ l₅ ∷ l₆ ∷ l₇ ∷ l₈ ∷ l₉ ∷ l₁₀ ∷ l₁₁
+          ∷ l₁₂ ∷ l₁₃ ∷ l₁₄ ∷ l₁₅ ∷ l₁₆ ∷ l₁₇
           ∷ l₁₈ ∷ l₁₉ ∷ l₂₀ ∷ l₂₁ ∷ l₂₂ ∷ l₂₃ ∷ [])
 
       -- what part 1 knows
       abbrev Known₁ : Type 0
-      Known₁ = (l₀ : ℕ) × (l₁ : ℕ) × (l₂ : ℕ) × (l₃ : ℕ) × (l₄ : ℕ) × (l₅ : ℕ) × (l₆ : ℕ) × (l₇ : ℕ) × (l₈ : ℕ) × (l₉ : ℕ) × (l₁₀ : ℕ) ×
-          (l₁₁ : ℕ) × (l₁₂ : ℕ) × (l₁₃ : ℕ) × (l₁₄ : ℕ) × (l₁₅ : ℕ) × (l₁₆ : ℕ) × (l₁₇ : ℕ) × (l₁₈ : ℕ) × (l₁₉ : ℕ) × (l₂₀ : ℕ) ×
-          (l₂₁ : ℕ) × (l₂₂ : ℕ) × (l₂₃ : ℕ) × (c : Settings) × (w-c : Val) × (e-c : c ≡ settingsOf x₁ x₂ x₃ x₄ x₅ x₆ x₇) × (m : ℕ) ×
+      Known₁ = (l₀ : ℕ) × (l₁ : ℕ) × (l₂ : ℕ) × (l₃ : ℕ) × (l₄ : ℕ) × (l₅ : ℕ) × (l₆ : ℕ) × (l₇ : ℕ) × (l₈ : ℕ) ×
+          (l₉ : ℕ) × (l₁₀ : ℕ) ×
+          (l₁₁ : ℕ) × (l₁₂ : ℕ) × (l₁₃ : ℕ) × (l₁₄ : ℕ) × (l₁₅ : ℕ) × (l₁₆ : ℕ) × (l₁₇ : ℕ) ×
+          (l₁₈ : ℕ) × (l₁₉ : ℕ) × (l₂₀ : ℕ) ×
+          (l₂₁ : ℕ) × (l₂₂ : ℕ) × (l₂₃ : ℕ) × (c : Settings) × (w-c : Val) ×
+          (e-c : c ≡ settingsOf x₁ x₂ x₃ x₄ x₅ x₆ x₇) × (m : ℕ) ×
           (w-m : Val) × (e-m : m ≡ length (x₁₀ .now)) × (a : Opened) × (w-a : Val) ×
           (e-a : (x : Arrays) → OpenCore (opensWith c (lentLengths m (x₈ .now) (x₉ .now) (x₁₁ .now)))
           (linkOf (h .settings) (h .flight) (h .arrival) (h .clock) x) (a .answer)
           (linkOf (a .settings) (a .flight) (a .arrival) (a .clock) x)) × (Is opened-row.the-row a (w-a ∷ []))
 
-      part₁ : (past : Known₁) → ent 𝓤 (⋆ 𝓤 H A (‵ (flft κ₁ q₁) ∷ ‵ (flft κ₂ q₂) ∷ ‵ (flft κ₄ q₄) ∷ ‵ (flft κ₃ q₃)
+      part₁ : (past : Known₁) → ent 𝓤 (⋆ 𝓤 H A (‵ (flft κ₁ q₁) ∷ ‵ (flft κ₂ q₂) ∷ ‵ (flft κ₄ q₄)
+          ∷ ‵ (flft κ₃ q₃)
           ∷ ‵ (partAt clock-row.the-row fullShare (h .clock) b (o + 104)) ∷ ‵ (partAt arrival-row.the-row fullShare (h .arrival) b (o + 72))
           ∷ ‵ (partAt flight-row.the-row fullShare (h .flight) b (o + 16))
           ∷ ‵ (partAt settings-row.the-row fullShare (h .settings) b (o + 0))
@@ -581,8 +597,10 @@ module _ {M : Type 1} (𝓤 : URA M) (H : Heap 𝓤) (A : Atoms 𝓤) (W : Given
           ∷ ‵ (fdies clock-laws.mir (past .17)) ∷ ‵ (fdies (tyInt w64) (past .18)) ∷ ‵ (fdies opened-laws.mir (past .19))
           ∷ ‵ (fdies settings-laws.mir (past .20)) ∷ ‵ (fdies flight-laws.mir (past .21)) ∷ ‵ (fdies arrival-laws.mir (past .22))
           ∷ ‵ (fdies clock-laws.mir (past .23)) ∷ []) (id⊢ 𝓤 _) $
-          move ! (53 ∷ 0 ∷ 52 ∷ 1 ∷ 51 ∷ 2 ∷ 50 ∷ 3 ∷ 49 ∷ 4 ∷ 48 ∷ 5 ∷ 47 ∷ 6 ∷ 46 ∷ 7 ∷ 45 ∷ 8 ∷ 44 ∷ 9 ∷ 43 ∷ 10 ∷ 42 ∷ 11 ∷ 41 ∷ 12
-          ∷ 40 ∷ 13 ∷ 39 ∷ 14 ∷ 38 ∷ 15 ∷ 37 ∷ 16 ∷ 36 ∷ 17 ∷ 35 ∷ 18 ∷ 34 ∷ 19 ∷ 33 ∷ 20 ∷ 32 ∷ 21 ∷ 31 ∷ 22 ∷ 30 ∷ 23 ∷ []) $
+          move ! (53 ∷ 0 ∷ 52 ∷ 1 ∷ 51 ∷ 2 ∷ 50 ∷ 3 ∷ 49 ∷ 4 ∷ 48 ∷ 5 ∷ 47 ∷ 6 ∷ 46 ∷ 7 ∷ 45 ∷ 8 ∷ 44 ∷ 9 ∷ 43 ∷ 10
+          ∷ 42 ∷ 11 ∷ 41 ∷ 12
+          ∷ 40 ∷ 13 ∷ 39 ∷ 14 ∷ 38 ∷ 15 ∷ 37 ∷ 16 ∷ 36 ∷ 17 ∷ 35 ∷ 18 ∷ 34 ∷ 19 ∷ 33 ∷ 20 ∷ 32 ∷ 21 ∷ 31 ∷ 22 ∷ 30
+          ∷ 23 ∷ []) $
           forget ! 0 refl $ free1 ! $ forget ! 0 refl $ free1 ! $ forget ! 0 refl $ free1 ! $ forget ! 0 refl $ free1 ! $
           forget ! 0 refl $ free1 ! $ forget ! 0 refl $ free1 ! $ forget ! 0 refl $ free1 ! $ forget ! 0 refl $ free1 ! $
           forget ! 0 refl $ free1 ! $ forget ! 0 refl $ free1 ! $ forget ! 0 refl $ free1 ! $ forget ! 0 refl $ free1 ! $
@@ -611,19 +629,22 @@ module _ {M : Type 1} (𝓤 : URA M) (H : Heap 𝓤) (A : Atoms 𝓤) (W : Given
           (past .29) ((past .32) (arraysOf h)))))) is-r))))))))))))))))
 
       walk : ent 𝓤 (onEntry 𝓤 H A f.signature (κ₀, (κ₁, (κ₂, (κ₃, (κ₄, tt))))) (q₀, (q₁, (q₂, (q₃, (q₄, tt))))) x at)
-          (WpFn 𝓤 H C Λ code.function (vptr b o ∷ v₁ ∷ v₂ ∷ v₃ ∷ v₄ ∷ v₅ ∷ v₆ ∷ v₇ ∷ s₈ ∷ s₉ ∷ s₁₀ ∷ s₁₁ ∷ []) Post)
+          (WpFn 𝓤 H C Λ code.function (vptr b o ∷ v₁ ∷ v₂ ∷ v₃ ∷ v₄ ∷ v₅ ∷ v₆ ∷ v₇ ∷ s₈ ∷ s₉ ∷ s₁₀ ∷ s₁₁
+          ∷ []) Post)
       walk =
           qed W ((‵ (flft κ₀ q₀) ⊛ ‵ (flft κ₁ q₁) ⊛ ‵ (flft κ₂ q₂) ⊛ ‵ (flft κ₃ q₃) ⊛ ‵ (flft κ₄ q₄) ⊛ ‵ ftrue)
           ∷ ‵ (owns (MutRef (named 0) κ₀ L ∷ u32 ∷ u32 ∷ u32 ∷ u32 ∷ u32 ∷ u32 ∷ u32 ∷ ShrSlice (named 1) κ₁ u8
           ∷ ShrSlice (named 2) κ₂ u8 ∷ ShrSlice (named 3) κ₃ R ∷ ShrSlice (named 4) κ₄ u32 ∷ []) x at) ∷ []) ∵
-          enter ! C Λ code.function (vptr b o ∷ v₁ ∷ v₂ ∷ v₃ ∷ v₄ ∷ v₅ ∷ v₆ ∷ v₇ ∷ s₈ ∷ s₉ ∷ s₁₀ ∷ s₁₁ ∷ []) _ $
+          enter ! C Λ code.function (vptr b o ∷ v₁ ∷ v₂ ∷ v₃ ∷ v₄ ∷ v₅ ∷ v₆ ∷ v₇ ∷ s₈ ∷ s₉ ∷ s₁₀ ∷ s₁₁ ∷ [])
+          _ $
           alloc1 ! (λ l₀. alloc1 ! (λ l₁. alloc1 ! (λ l₂.
           alloc1 ! (λ l₃. alloc1 ! (λ l₄. alloc1 ! (λ l₅.
           alloc1 ! (λ l₆. alloc1 ! (λ l₇. alloc1 ! (λ l₈.
           alloc1 ! (λ l₉. alloc1 ! (λ l₁₀. alloc1 ! (λ l₁₁.
           alloc1 ! (λ l₁₂. alloc1 ! (λ l₁₃. alloc1 ! (λ l₁₄.
           alloc1 ! (λ l₁₅. alloc1 ! (λ l₁₆. alloc1 ! (λ l₁₇.
-          alloc1 ! (λ l₁₈. alloc1 ! (λ l₁₉. alloc1 ! (λ l₂₀. alloc1 ! (λ l₂₁. alloc1 ! (λ l₂₂. alloc1 ! (λ l₂₃. alloc0 ! $ params1 ! $
+          alloc1 ! (λ l₁₈. alloc1 ! (λ l₁₉. alloc1 ! (λ l₂₀.
+          alloc1 ! (λ l₂₁. alloc1 ! (λ l₂₂. alloc1 ! (λ l₂₃. alloc0 ! $ params1 ! $
           pass1 ! (init ! 44 refl (tt, tt)) $ pass1 ! (init ! 42 refl (uint-lawful 𝓤 H A W w32 .typed x₁ _ g₁ .0)) $
           pass1 ! (init ! 40 refl (uint-lawful 𝓤 H A W w32 .typed x₂ _ g₂ .0)) $
           pass1 ! (init ! 38 refl (uint-lawful 𝓤 H A W w32 .typed x₃ _ g₃ .0)) $
@@ -636,16 +657,21 @@ module _ {M : Type 1} (𝓤 : URA M) (H : Heap 𝓤) (A : Atoms 𝓤) (W : Given
           pass1 ! (init ! 24 refl (tt, (tt, (record { fits = room₁₀ .0 }, tt)))) $
           pass1 ! (init ! 22 refl (tt, (tt, (record { fits = room₁₁ .0 }, tt)))) $ pass0 ! $
           move ! (49 ∷ []) $ spread W (‵ (MutRef (named 0) κ₀ L .own (ref-at b o γ h) (vptr b o ∷ [])))
-          (‵ (u32 .own (x₁) (v₁ ∷ [])) ∷ ‵ (u32 .own (x₂) (v₂ ∷ [])) ∷ ‵ (u32 .own (x₃) (v₃ ∷ [])) ∷ ‵ (u32 .own (x₄) (v₄ ∷ []))
+          (‵ (u32 .own (x₁) (v₁ ∷ [])) ∷ ‵ (u32 .own (x₂) (v₂ ∷ [])) ∷ ‵ (u32 .own (x₃) (v₃ ∷ []))
+          ∷ ‵ (u32 .own (x₄) (v₄ ∷ []))
           ∷ ‵ (u32 .own (x₅) (v₅ ∷ [])) ∷ ‵ (u32 .own (x₆) (v₆ ∷ [])) ∷ ‵ (u32 .own (x₇) (v₇ ∷ []))
           ∷ ‵ (ShrSlice (named 1) κ₁ u8 .own (x₈) (s₈ ∷ [])) ∷ ‵ (ShrSlice (named 2) κ₂ u8 .own (x₉) (s₉ ∷ []))
-          ∷ ‵ (ShrSlice (named 3) κ₃ R .own (x₁₀) (s₁₀ ∷ [])) ∷ ‵ (ShrSlice (named 4) κ₄ u32 .own (x₁₁) (s₁₁ ∷ [])) ∷ ‵ ftrue ∷ [])
+          ∷ ‵ (ShrSlice (named 3) κ₃ R .own (x₁₀) (s₁₀ ∷ [])) ∷ ‵ (ShrSlice (named 4) κ₄ u32 .own (x₁₁) (s₁₁ ∷ []))
+          ∷ ‵ ftrue ∷ [])
           (id⊢ 𝓤 _) $ move ! (61 ∷ []) $ spread W (‵ (flft κ₀ q₀))
           (‵ (flft κ₁ q₁) ∷ ‵ (flft κ₂ q₂) ∷ ‵ (flft κ₃ q₃) ∷ ‵ (flft κ₄ q₄) ∷ ‵ ftrue ∷ []) (id⊢ 𝓤 _) $
-          keep ! (0 ∷ 1 ∷ 2 ∷ 3 ∷ 4 ∷ 6 ∷ 14 ∷ 15 ∷ 16 ∷ 17 ∷ 19 ∷ 20 ∷ 21 ∷ 22 ∷ 23 ∷ 24 ∷ 25 ∷ 26 ∷ 27 ∷ 28 ∷ 29 ∷ 30 ∷ 31 ∷ 32 ∷ 33
-          ∷ 34 ∷ 35 ∷ 36 ∷ 37 ∷ 38 ∷ 39 ∷ 40 ∷ 41 ∷ 42 ∷ 43 ∷ 44 ∷ 45 ∷ 46 ∷ 47 ∷ 48 ∷ 49 ∷ 50 ∷ 51 ∷ 52 ∷ 53 ∷ 54 ∷ 55 ∷ 56 ∷ 57 ∷ 58
+          keep ! (0 ∷ 1 ∷ 2 ∷ 3 ∷ 4 ∷ 6 ∷ 14 ∷ 15 ∷ 16 ∷ 17 ∷ 19 ∷ 20 ∷ 21 ∷ 22 ∷ 23 ∷ 24 ∷ 25 ∷ 26 ∷ 27 ∷ 28 ∷ 29
+          ∷ 30 ∷ 31 ∷ 32 ∷ 33
+          ∷ 34 ∷ 35 ∷ 36 ∷ 37 ∷ 38 ∷ 39 ∷ 40 ∷ 41 ∷ 42 ∷ 43 ∷ 44 ∷ 45 ∷ 46 ∷ 47 ∷ 48 ∷ 49 ∷ 50 ∷ 51 ∷ 52 ∷ 53 ∷ 54
+          ∷ 55 ∷ 56 ∷ 57 ∷ 58
           ∷ 59 ∷ 60 ∷ 61 ∷ 62 ∷ 63 ∷ 64 ∷ 65 ∷ 66 ∷ []) $
-          move ! (57 ∷ 55 ∷ 53 ∷ 51 ∷ 49 ∷ 47 ∷ 45 ∷ 43 ∷ 41 ∷ 39 ∷ 37 ∷ 35 ∷ 33 ∷ 31 ∷ 29 ∷ 27 ∷ 25 ∷ 23 ∷ 21 ∷ 19 ∷ 17 ∷ 15 ∷ 13 ∷ 11
+          move ! (57 ∷ 55 ∷ 53 ∷ 51 ∷ 49 ∷ 47 ∷ 45 ∷ 43 ∷ 41 ∷ 39 ∷ 37 ∷ 35 ∷ 33 ∷ 31 ∷ 29 ∷ 27 ∷ 25 ∷ 23 ∷ 21 ∷ 19 ∷ 17
+          ∷ 15 ∷ 13 ∷ 11
           ∷ []) $ group ! 24 $
           -- [deaths; tok0; tok8; tok9; tok10; tok11; own0; own8; own9; own10; own11; the locals]
           move ! (6 ∷ 1 ∷ []) $ opens-link b o γ ! tt h $
@@ -687,7 +713,8 @@ module _ {M : Type 1} (𝓤 : URA M) (H : Heap 𝓤) (A : Atoms 𝓤) (W : Given
               ),
             ),
           )
-          (x₁, (x₂, (x₃, (x₄, (x₅, (x₆, (x₇, tt))))))) (v₁ ∷ [], (v₂ ∷ [], (v₃ ∷ [], (v₄ ∷ [], (v₅ ∷ [], (v₆ ∷ [], (v₇ ∷ [], tt)))))))
+          (x₁, (x₂, (x₃, (x₄, (x₅, (x₆, (x₇, tt)))))))
+          (v₁ ∷ [], (v₂ ∷ [], (v₃ ∷ [], (v₄ ∷ [], (v₅ ∷ [], (v₆ ∷ [], (v₇ ∷ [], tt)))))))
           (g₁, (g₂, (g₃, (g₄, (g₅, (g₆, (g₇, tt)))))))) (λ c _. id⊢ 𝓤 _)
           (and-then ! (load ! (from ! (stop !)) (look ! 43 refl))
           (and-then ! (load ! (from ! (stop !)) (look ! 42 refl))
@@ -736,7 +763,8 @@ module _ {M : Type 1} (𝓤 : URA M) (H : Heap 𝓤) (A : Atoms 𝓤) (W : Given
           (and-then ! (load ! (from ! (stop !)) (look ! 32 refl)) (no-more !))
           (λ m w-m ws-m e-m is-m. land ! (from ! (stop !)) (init ! 26 refl (uint-lawful 𝓤 H A W w64 .typed m _ is-m .0)) $
           spread W (‵ (flft κ₃ q₃)) (‵ ftrue ∷ []) (id⊢ 𝓤 _) $ move ! (2 ∷ []) $ spread W (‵ ftrue) (‵ ftrue ∷ []) (id⊢ 𝓤 _) $
-          keep ! (2 ∷ 4 ∷ 5 ∷ 6 ∷ 7 ∷ 8 ∷ 9 ∷ 10 ∷ 11 ∷ 12 ∷ 13 ∷ 14 ∷ 15 ∷ 16 ∷ 17 ∷ 18 ∷ 19 ∷ 20 ∷ 21 ∷ 22 ∷ 23 ∷ 24 ∷ 25 ∷ 26 ∷ 27
+          keep ! (2 ∷ 4 ∷ 5 ∷ 6 ∷ 7 ∷ 8 ∷ 9 ∷ 10 ∷ 11 ∷ 12 ∷ 13 ∷ 14 ∷ 15 ∷ 16 ∷ 17 ∷ 18 ∷ 19 ∷ 20 ∷ 21 ∷ 22 ∷ 23 ∷ 24
+          ∷ 25 ∷ 26 ∷ 27
           ∷ 28 ∷ 29 ∷ 30 ∷ 31 ∷ 32 ∷ 33 ∷ 34 ∷ 35 ∷ 36 ∷ 37 ∷ 38 ∷ 39 ∷ 40 ∷ 41 ∷ 42 ∷ 43 ∷ 44 ∷ 45 ∷ 46 ∷ []) $
           -- [tok10; F:clock; F:arrival; F:flight; F:settings; F:«waiting_numbers»; F:waiting; F:ready; F:transmissions; F:outstanding;
           -- F:queued; back; opened; deaths; tok8; tok9; tok11; own8; own9; own11; the locals]
@@ -766,8 +794,10 @@ module _ {M : Type 1} (𝓤 : URA M) (H : Heap 𝓤) (A : Atoms 𝓤) (W : Given
           (λ a w-a ws-a e-a is-a. land ! (from ! (stop !))
           (init ! 20 refl (LL.lawful opened-row.the-type opened-laws.the-laws 𝓤 H A W .typed a (w-a ∷ []) is-a .0)) $
           spread W (‵ (flft κ₁ q₁)) (‵ (flft κ₂ q₂) ∷ ‵ (flft κ₄ q₄) ∷ ‵ ftrue ∷ []) (id⊢ 𝓤 _) $ move ! (4 ∷ []) $
-          spread W (‵ ftrue) (‵ ftrue ∷ ‵ ftrue ∷ ‵ ftrue ∷ ‵ ftrue ∷ ‵ ftrue ∷ ‵ ftrue ∷ ‵ ftrue ∷ ‵ ftrue ∷ ‵ ftrue ∷ []) (id⊢ 𝓤 _) $
-          keep ! (10 ∷ 11 ∷ 12 ∷ 14 ∷ 15 ∷ 16 ∷ 17 ∷ 18 ∷ 19 ∷ 20 ∷ 21 ∷ 22 ∷ 23 ∷ 24 ∷ 25 ∷ 26 ∷ 27 ∷ 28 ∷ 29 ∷ 30 ∷ 31 ∷ 32 ∷ 33 ∷ 34
+          spread W (‵ ftrue) (‵ ftrue ∷ ‵ ftrue ∷ ‵ ftrue ∷ ‵ ftrue ∷ ‵ ftrue ∷ ‵ ftrue ∷ ‵ ftrue ∷ ‵ ftrue ∷ ‵ ftrue
+          ∷ []) (id⊢ 𝓤 _) $
+          keep ! (10 ∷ 11 ∷ 12 ∷ 14 ∷ 15 ∷ 16 ∷ 17 ∷ 18 ∷ 19 ∷ 20 ∷ 21 ∷ 22 ∷ 23 ∷ 24 ∷ 25 ∷ 26 ∷ 27 ∷ 28 ∷ 29 ∷ 30 ∷ 31
+          ∷ 32 ∷ 33 ∷ 34
           ∷ 35 ∷ 36 ∷ 37 ∷ 38 ∷ 39 ∷ 40 ∷ 41 ∷ 42 ∷ 43 ∷ 44 ∷ 45 ∷ 46 ∷ 47 ∷ 48 ∷ 49 ∷ 50 ∷ 51 ∷ []) $
           -- [tok8; tok9; tok11; tok10; F:clock; F:arrival; F:flight; F:settings; F:«waiting_numbers»; F:waiting; F:ready; F:transmissions;
           -- F:outstanding; F:queued; back; opened; deaths; the locals]
@@ -808,7 +838,8 @@ module _ {M : Type 1} (𝓤 : URA M) (H : Heap 𝓤) (A : Atoms 𝓤) (W : Given
             is-a,
           )))))))))))))))))))))))))))))))))))))))
 
-  f-meets : (𝓣 : Tables 𝓤 H) → Known (𝓣 .C) → Meets 𝓤 H A f.signature (WpFn 𝓤 H (𝓣 .C) (𝓣 .Λ) code.function) (f.spec 𝓤 H A at-mem run)
+  f-meets : (𝓣 : Tables 𝓤 H) → Known (𝓣 .C)
+      → Meets 𝓤 H A f.signature (WpFn 𝓤 H (𝓣 .C) (𝓣 .Λ) code.function) (f.spec 𝓤 H A at-mem run)
   unfolding Post
   f-meets 𝓣 known = walk-meets 𝓤 H A f.ended stayed W (
     goes-ref 𝓤 H A W 5 0 tt (plain (λ _. L)),
@@ -915,9 +946,11 @@ ampferweg-open-spec 𝓤 H 𝓜 𝓖 𝓡 =
     (f-meets 𝓤 H (𝓖 .A) (givenOf 𝓤 H 𝓜 𝓖) (𝓜 .mem) (𝓡 .run) (tablesOf 𝓤 H 𝓜 (tables 𝓤 H 𝓜 𝓡 code.env)) (
       cited 𝓤 H (tripleOf 𝓤 H (𝓖 .A) settings-of.signature (settings-of.spec 𝓤 H (𝓖 .A) (𝓜 .mem) (𝓡 .run))) 𝓜 𝓡 code.env
           settings-of-def.name settings-of-def.routine code.calls-codes·settings (settings-of-thm.met 𝓤 H 𝓜 𝓖 𝓡),
-      cited 𝓤 H (tripleOf 𝓤 H (𝓖 .A) table-len.signature (table-len.spec 𝓤 H (𝓖 .A) (𝓜 .mem) (𝓡 .run))) 𝓜 𝓡 code.env table-len-def.name
+      cited 𝓤 H (tripleOf 𝓤 H (𝓖 .A) table-len.signature (table-len.spec 𝓤 H (𝓖 .A) (𝓜 .mem) (𝓡 .run))) 𝓜 𝓡 code.env
+          table-len-def.name
           table-len-def.routine code.calls-records·table-len (table-len-thm.met 𝓤 H 𝓜 𝓖 𝓡),
-      cited 𝓤 H (tripleOf 𝓤 H (𝓖 .A) core.signature (core.spec 𝓤 H (𝓖 .A) (𝓜 .mem) (𝓡 .run))) 𝓜 𝓡 code.env core-def.name core-def.routine
+      cited 𝓤 H (tripleOf 𝓤 H (𝓖 .A) core.signature (core.spec 𝓤 H (𝓖 .A) (𝓜 .mem) (𝓡 .run))) 𝓜 𝓡 code.env core-def.name
+          core-def.routine
           code.calls-open-core·open (core-thm.met 𝓤 H 𝓜 𝓖 𝓡),
       cited 𝓤 H (tripleOf 𝓤 H (𝓖 .A) opened-settings.signature (opened-settings.spec 𝓤 H (𝓖 .A) (𝓜 .mem) (𝓡 .run))) 𝓜 𝓡 code.env
           opened-settings-def.name opened-settings-def.routine code.calls-results·opened-settings (opened-settings-thm.met 𝓤 H 𝓜 𝓖 𝓡),

@@ -317,7 +317,16 @@ module _ {M : Type 1} (𝓤 : URA M) (H : Heap 𝓤) (A : Atoms 𝓤) (W : Given
     -- what fit is called at, and that what it asks is had
     abbrev to-fit : (y₀ : (List ℕ)) (u₀ : Val) (y₁ : Settings) (u₁ : Val) (y₂ : Flight) (u₂ : Val)
         → tripleOf 𝓤 H A fit.signature (fit.spec 𝓤 H A at-mem run) .Ghost
-    to-fit y₀ u₀ y₁ u₁ y₂ u₂ = (((κ₃, tt), (q₃, tt), tt, (x₃, (y₀, (y₁, (y₂, tt)))), (s₃ ∷ [], (u₀ ∷ [], (u₁ ∷ [], (u₂ ∷ [], tt))))), tt)
+    to-fit y₀ u₀ y₁ u₁ y₂ u₂ = (
+      (
+        (κ₃, tt),
+        (q₃, tt),
+        tt,
+        (x₃, (y₀, (y₁, (y₂, tt)))),
+        (s₃ ∷ [], (u₀ ∷ [], (u₁ ∷ [], (u₂ ∷ [], tt)))),
+      ),
+      tt,
+    )
 
     asks-fit : (y₀ : (List ℕ)) (u₀ : Val) → Is (Array u32 32) y₀ (u₀ ∷ []) → (y₁ : Settings) (u₁ : Val)
         → Is settings-row.the-row y₁ (u₁ ∷ []) → (y₂ : Flight) (u₂ : Val) → Is flight-row.the-row y₂ (u₂ ∷ [])
@@ -348,7 +357,8 @@ module _ {M : Type 1} (𝓤 : URA M) (H : Heap 𝓤) (A : Atoms 𝓤) (W : Given
         (u₂ : Val) (y₃ : Clock) (u₃ : Val) (y₄ : Bool) (u₄ : Val) (y₅ : (List Record)) (u₅ : Val) (y₆ : ℕ) (u₆ : Val)
         → tripleOf 𝓤 H A core.signature (core.spec 𝓤 H A at-mem run) .Ghost
     to-core α-queued δ-queued f-queued α-outstanding δ-outstanding f-outstanding α-transmissions δ-transmissions f-transmissions α-ready
-        δ-ready f-ready α-waiting δ-waiting f-waiting α-waiting-numbers δ-waiting-numbers f-waiting-numbers y₀ u₀ y₁ u₁ y₂ u₂ y₃ u₃ y₄ u₄ y₅
+        δ-ready f-ready α-waiting δ-waiting f-waiting α-waiting-numbers δ-waiting-numbers f-waiting-numbers y₀ u₀ y₁ u₁ y₂ u₂ y₃ u₃ y₄
+        u₄ y₅
         u₅ y₆ u₆ = (
           (
             (
@@ -442,7 +452,8 @@ module _ {M : Type 1} (𝓤 : URA M) (H : Heap 𝓤) (A : Atoms 𝓤) (W : Given
         (f-outstanding : (List ℕ)) (α-transmissions : ℕ) (δ-transmissions : GName) (f-transmissions : (List ℕ)) (α-ready : ℕ)
         (δ-ready : GName) (f-ready : (List ℕ)) (α-waiting : ℕ) (δ-waiting : GName) (f-waiting : (List ℕ)) (α-waiting-numbers : ℕ)
         (δ-waiting-numbers : GName) (f-waiting-numbers : (List ℕ)) → (y₀ : Settings) (u₀ : Val) → Is settings-row.the-row y₀ (u₀ ∷ [])
-        → (y₁ : Flight) (u₁ : Val) → Is flight-row.the-row y₁ (u₁ ∷ []) → (y₂ : Arrival) (u₂ : Val) → Is arrival-row.the-row y₂ (u₂ ∷ [])
+        → (y₁ : Flight) (u₁ : Val) → Is flight-row.the-row y₁ (u₁ ∷ []) → (y₂ : Arrival) (u₂ : Val)
+        → Is arrival-row.the-row y₂ (u₂ ∷ [])
         → (y₃ : Clock) (u₃ : Val) → Is clock-row.the-row y₃ (u₃ ∷ []) → (y₄ : Bool) (u₄ : Val) → Is Boolean y₄ (u₄ ∷ [])
         → (y₅ : (List Record)) (u₅ : Val) → Is Rs y₅ (u₅ ∷ []) → (y₆ : ℕ) (u₆ : Val) → Is usize y₆ (u₆ ∷ [])
         → (Whole (arrays f-queued f-outstanding f-transmissions f-ready f-waiting f-waiting-numbers) × Flown
@@ -459,13 +470,16 @@ module _ {M : Type 1} (𝓤 : URA M) (H : Heap 𝓤) (A : Atoms 𝓤) (W : Given
         ∷ ‵ (MutRef (named 0) (α-waiting ∷ []) (Array u32 128) .own (ref-at b (o + 1308) δ-waiting f-waiting) ((vptr b (o + 1308)) ∷ []))
         ∷ ‵ (flft (α-waiting-numbers ∷ []) fullShare)
         ∷ ‵ (MutRef (named 0) (α-waiting-numbers ∷ []) (Array u32 128) .own (ref-at b (o + 1820) δ-waiting-numbers f-waiting-numbers)
-        ((vptr b (o + 1820)) ∷ [])) ∷ ‵ (flft κ₁ q₁) ∷ ‵ Own₁ ∷ ‵ (flft κ₂ q₂) ∷ ‵ Own₂ ∷ ‵ (flft κ₄ q₄) ∷ ‵ Own₄ ∷ ‵ (flft κ₅ q₅) ∷ ‵ Own₅
+        ((vptr b (o + 1820)) ∷ [])) ∷ ‵ (flft κ₁ q₁) ∷ ‵ Own₁ ∷ ‵ (flft κ₂ q₂) ∷ ‵ Own₂ ∷ ‵ (flft κ₄ q₄) ∷ ‵ Own₄
+        ∷ ‵ (flft κ₅ q₅) ∷ ‵ Own₅
         ∷ [])) (tripleOf 𝓤 H A core.signature (core.spec 𝓤 H A at-mem run) .pre
         (to-core α-queued δ-queued f-queued α-outstanding δ-outstanding f-outstanding α-transmissions δ-transmissions f-transmissions
-        α-ready δ-ready f-ready α-waiting δ-waiting f-waiting α-waiting-numbers δ-waiting-numbers f-waiting-numbers y₀ u₀ y₁ u₁ y₂ u₂ y₃ u₃
+        α-ready δ-ready f-ready α-waiting δ-waiting f-waiting α-waiting-numbers δ-waiting-numbers f-waiting-numbers y₀ u₀ y₁ u₁ y₂ u₂ y₃
+        u₃
         y₄ u₄ y₅ u₅ y₆ u₆))
     asks-core α-queued δ-queued f-queued α-outstanding δ-outstanding f-outstanding α-transmissions δ-transmissions f-transmissions α-ready
-        δ-ready f-ready α-waiting δ-waiting f-waiting α-waiting-numbers δ-waiting-numbers f-waiting-numbers y₀ u₀ is₀ y₁ u₁ is₁ y₂ u₂ is₂ y₃
+        δ-ready f-ready α-waiting δ-waiting f-waiting α-waiting-numbers δ-waiting-numbers f-waiting-numbers y₀ u₀ is₀ y₁ u₁ is₁ y₂ u₂ is₂
+        y₃
         u₃ is₃ y₄ u₄ is₄ y₅ u₅ is₅ y₆ u₆ is₆ req =
         qed W (‵ (flft (α-queued ∷ []) fullShare)
         ∷ ‵ (ShrRef (named 0) (α-queued ∷ []) (Array u32 128) .own (ref-at b (o + 124) δ-queued f-queued) ((vptr b (o + 124)) ∷ []))
@@ -479,7 +493,8 @@ module _ {M : Type 1} (𝓤 : URA M) (H : Heap 𝓤) (A : Atoms 𝓤) (W : Given
         ∷ ‵ (MutRef (named 0) (α-waiting ∷ []) (Array u32 128) .own (ref-at b (o + 1308) δ-waiting f-waiting)
         ((vptr b (o + 1308)) ∷ [])) ∷ ‵ (flft (α-waiting-numbers ∷ []) fullShare)
         ∷ ‵ (MutRef (named 0) (α-waiting-numbers ∷ []) (Array u32 128) .own (ref-at b (o + 1820) δ-waiting-numbers f-waiting-numbers)
-        ((vptr b (o + 1820)) ∷ [])) ∷ ‵ (flft κ₁ q₁) ∷ ‵ Own₁ ∷ ‵ (flft κ₂ q₂) ∷ ‵ Own₂ ∷ ‵ (flft κ₄ q₄) ∷ ‵ Own₄ ∷ ‵ (flft κ₅ q₅)
+        ((vptr b (o + 1820)) ∷ [])) ∷ ‵ (flft κ₁ q₁) ∷ ‵ Own₁ ∷ ‵ (flft κ₂ q₂) ∷ ‵ Own₂ ∷ ‵ (flft κ₄ q₄) ∷ ‵ Own₄
+        ∷ ‵ (flft κ₅ q₅)
         ∷ ‵ Own₅ ∷ []) ∵ says ! req $ nothing ! $ move ! (19 ∷ 0 ∷ []) $ join ! $ move ! (17 ∷ 0 ∷ []) $ join ! $ move ! (15 ∷ 0 ∷ []) $
         join ! $ move ! (13 ∷ 0 ∷ []) $ join ! $ move ! (11 ∷ 0 ∷ []) $ join ! $ move ! (9 ∷ 0 ∷ []) $ join ! $ move ! (7 ∷ 0 ∷ []) $
         join ! $ move ! (5 ∷ 0 ∷ []) $ join ! $ move ! (3 ∷ 0 ∷ []) $ join ! $ move ! (1 ∷ 0 ∷ []) $ join ! $ nothing ! $
@@ -495,7 +510,8 @@ module _ {M : Type 1} (𝓤 : URA M) (H : Heap 𝓤) (A : Atoms 𝓤) (W : Given
         (LL.makes settings-row.the-type settings-laws.the-plain 𝓤 H A) y₀ _ is₀ $ fjoin ! $ move ! (1 ∷ 0 ∷ []) $ done !
 
     abbrev Had : (k : Link) (z₂ : List ℕ) (z₄ : List ℕ) → List (Item 𝓤)
-    Had k z₂ z₄ = ‵ (link-own κ₀ b o γ k) ∷ ‵ (flft κ₀ q₀) ∷ ‵ (flft κ₁ q₁) ∷ ‵ (finally u8 (x₂ .name) z₂) ∷ ‵ (flft κ₂ q₂) ∷ ‵ (flft κ₃ q₃)
+    Had k z₂ z₄ = ‵ (link-own κ₀ b o γ k) ∷ ‵ (flft κ₀ q₀) ∷ ‵ (flft κ₁ q₁) ∷ ‵ (finally u8 (x₂ .name) z₂)
+        ∷ ‵ (flft κ₂ q₂) ∷ ‵ (flft κ₃ q₃)
         ∷ ‵ (finally u32 (x₄ .name) z₄) ∷ ‵ (flft κ₄ q₄) ∷ ‵ (flft κ₅ q₅) ∷ []
 
     -- what the contract says
@@ -517,17 +533,23 @@ module _ {M : Type 1} (𝓤 : URA M) (H : Heap 𝓤) (A : Atoms 𝓤) (W : Given
 
     module _ (C : Calls 𝓤 H) (Λ : Loops 𝓤 H) (fm : FmC 𝓤 H (W .laws) C) (known : Known C) where
       -- where the locals lie
-      abbrev En : (l₀ l₁ l₂ l₃ l₄ l₅ l₆ l₇ l₈ l₉ l₁₀ l₁₁ l₁₂ l₁₃ l₁₄ l₁₅ l₁₆ l₁₇ l₁₈ l₁₉ l₂₀ l₂₁ l₂₂ l₂₃ l₂₄ l₂₅ l₂₆ l₂₇ l₂₈ : ℕ) → Env 𝓤 H
-      En l₀ l₁ l₂ l₃ l₄ l₅ l₆ l₇ l₈ l₉ l₁₀ l₁₁ l₁₂ l₁₃ l₁₄ l₁₅ l₁₆ l₁₇ l₁₈ l₁₉ l₂₀ l₂₁ l₂₂ l₂₃ l₂₄ l₂₅ l₂₆ l₂₇ l₂₈ =
-          envOf (code.function .locals) (l₀ ∷ l₁ ∷ l₂ ∷ l₃ ∷ l₄ ∷ l₅ ∷ l₆ ∷ l₇ ∷ l₈ ∷ l₉ ∷ l₁₀ ∷ l₁₁ ∷ l₁₂ ∷ l₁₃ ∷ l₁₄ ∷ l₁₅ ∷ l₁₆ ∷ l₁₇
+      abbrev En : (l₀ l₁ l₂ l₃ l₄ l₅ l₆ l₇ l₈ l₉ l₁₀ l₁₁ l₁₂ l₁₃ l₁₄ l₁₅ l₁₆ l₁₇ l₁₈ l₁₉ l₂₀
+          l₂₁ l₂₂ l₂₃ l₂₄ l₂₅ l₂₆ l₂₇ l₂₈ : ℕ) → Env 𝓤 H
+      En l₀ l₁ l₂ l₃ l₄ l₅ l₆ l₇ l₈ l₉ l₁₀ l₁₁ l₁₂ l₁₃ l₁₄ l₁₅ l₁₆ l₁₇ l₁₈ l₁₉ l₂₀ l₂₁
+          l₂₂ l₂₃ l₂₄ l₂₅ l₂₆ l₂₇ l₂₈ =
+          envOf (code.function .locals) (l₀ ∷ l₁ ∷ l₂ ∷ l₃ ∷ l₄ ∷ l₅ ∷ l₆ ∷ l₇ ∷ l₈ ∷ l₉ ∷ l₁₀ ∷ l₁₁
+          ∷ l₁₂ ∷ l₁₃ ∷ l₁₄ ∷ l₁₅ ∷ l₁₆ ∷ l₁₇
           ∷ l₁₈ ∷ l₁₉ ∷ l₂₀ ∷ l₂₁ ∷ l₂₂ ∷ l₂₃ ∷ l₂₄ ∷ l₂₅ ∷ l₂₆ ∷ l₂₇ ∷ l₂₈ ∷ [])
 
       -- what part 2 knows
       abbrev Known₂ : Type 0
       Known₂ = (z₄ : List ℕ) × (z₂ : List ℕ) × (z-waiting-numbers : List ℕ) × (z-waiting : List ℕ) × (z-ready : List ℕ) ×
-          (z-transmissions : List ℕ) × (z-outstanding : List ℕ) × (l₀ : ℕ) × (l₁ : ℕ) × (l₂ : ℕ) × (l₃ : ℕ) × (l₄ : ℕ) × (l₅ : ℕ) ×
-          (l₆ : ℕ) × (l₇ : ℕ) × (l₈ : ℕ) × (l₉ : ℕ) × (l₁₀ : ℕ) × (l₁₁ : ℕ) × (l₁₂ : ℕ) × (l₁₃ : ℕ) × (l₁₄ : ℕ) × (l₁₅ : ℕ) × (l₁₆ : ℕ) ×
-          (l₁₇ : ℕ) × (l₁₈ : ℕ) × (l₁₉ : ℕ) × (l₂₀ : ℕ) × (l₂₁ : ℕ) × (l₂₂ : ℕ) × (l₂₃ : ℕ) × (l₂₄ : ℕ) × (l₂₅ : ℕ) × (l₂₆ : ℕ) ×
+          (z-transmissions : List ℕ) × (z-outstanding : List ℕ) × (l₀ : ℕ) × (l₁ : ℕ) × (l₂ : ℕ) × (l₃ : ℕ) × (l₄ : ℕ) ×
+          (l₅ : ℕ) ×
+          (l₆ : ℕ) × (l₇ : ℕ) × (l₈ : ℕ) × (l₉ : ℕ) × (l₁₀ : ℕ) × (l₁₁ : ℕ) × (l₁₂ : ℕ) × (l₁₃ : ℕ) ×
+          (l₁₄ : ℕ) × (l₁₅ : ℕ) × (l₁₆ : ℕ) ×
+          (l₁₇ : ℕ) × (l₁₈ : ℕ) × (l₁₉ : ℕ) × (l₂₀ : ℕ) × (l₂₁ : ℕ) × (l₂₂ : ℕ) × (l₂₃ : ℕ) ×
+          (l₂₄ : ℕ) × (l₂₅ : ℕ) × (l₂₆ : ℕ) ×
           (l₂₇ : ℕ) × (l₂₈ : ℕ) × (n : ℕ) × (w-n : Val) × (e-n : n ≡ h .flight .outstanding) × (recs : (List Record)) × (w-recs : Val) ×
           (e-recs : recs ≡ padded (gathered (take sendSlots (x₃ .now)) (slotsIn (h .outstanding) n))) × (w-fl : Val) × (m : ℕ) ×
           (w-m : Val) × (e-m : m ≡ length (x₃ .now)) × (a : Taken) × (w-a : Val) ×
@@ -540,7 +562,8 @@ module _ {M : Type 1} (𝓤 : URA M) (H : Heap 𝓤) (A : Atoms 𝓤) (W : Given
           ∷ ‵ (partAt (Array u32 128) fullShare (past .3) b (o + 1308)) ∷ ‵ (partAt (Array u32 128) fullShare (past .4) b (o + 796))
           ∷ ‵ (partAt (Array u8 32) fullShare (past .5) b (o + 764)) ∷ ‵ (partAt (Array u32 32) fullShare (past .6) b (o + 636))
           ∷ ‵ (partAt (Array u32 128) fullShare (h .queued) b (o + 124)) ∷ ‵ (finally u32 (x₄ .name) (past .0))
-          ∷ ‵ (finally u8 (x₂ .name) (past .1)) ∷ ‵ (flft κ₁ q₁) ∷ ‵ (flft κ₂ q₂) ∷ ‵ (flft κ₄ q₄) ∷ ‵ (flft κ₅ q₅) ∷ ‵ (flft κ₃ q₃)
+          ∷ ‵ (finally u8 (x₂ .name) (past .1)) ∷ ‵ (flft κ₁ q₁) ∷ ‵ (flft κ₂ q₂) ∷ ‵ (flft κ₄ q₄) ∷ ‵ (flft κ₅ q₅)
+          ∷ ‵ (flft κ₃ q₃)
           ∷ ‵ (partAt clock-row.the-row fullShare (h .clock) b (o + 104)) ∷ ‵ (partAt arrival-row.the-row fullShare (h .arrival) b (o + 72))
           ∷ ‵ (partAt flight-row.the-row fullShare (h .flight) b (o + 16))
           ∷ ‵ (partAt settings-row.the-row fullShare (h .settings) b (o + 0)) ∷ raw (Back 𝓤 H A fullShare b o) ∷ ‵ (Open b o γ κ₀ q₀ h)
@@ -726,8 +749,10 @@ module _ {M : Type 1} (𝓤 : URA M) (H : Heap 𝓤) (A : Atoms 𝓤) (W : Given
           ∷ ‵ (fdies (tyRef erased mut (tyArray (tyInt w32) 128)) (past .31)) ∷ ‵ (fdies (tyRef erased mut (tyInt w8)) (past .32))
           ∷ ‵ (fdies (sliceTy (tyRef erased mut (tyInt w8))) (past .33)) ∷ ‵ (fdies (tyRef erased mut (tyInt w32)) (past .34))
           ∷ ‵ (fdies (sliceTy (tyRef erased mut (tyInt w32))) (past .35)) ∷ []) (id⊢ 𝓤 _) $
-          move ! (66 ∷ 0 ∷ 65 ∷ 1 ∷ 64 ∷ 2 ∷ 63 ∷ 3 ∷ 62 ∷ 4 ∷ 61 ∷ 5 ∷ 60 ∷ 6 ∷ 59 ∷ 7 ∷ 58 ∷ 8 ∷ 57 ∷ 9 ∷ 56 ∷ 10 ∷ 55 ∷ 11 ∷ 54 ∷ 12
-          ∷ 53 ∷ 13 ∷ 52 ∷ 14 ∷ 51 ∷ 15 ∷ 50 ∷ 16 ∷ 49 ∷ 17 ∷ 48 ∷ 18 ∷ 47 ∷ 19 ∷ 46 ∷ 20 ∷ 45 ∷ 21 ∷ 44 ∷ 22 ∷ 43 ∷ 23 ∷ 42 ∷ 24 ∷ 41
+          move ! (66 ∷ 0 ∷ 65 ∷ 1 ∷ 64 ∷ 2 ∷ 63 ∷ 3 ∷ 62 ∷ 4 ∷ 61 ∷ 5 ∷ 60 ∷ 6 ∷ 59 ∷ 7 ∷ 58 ∷ 8 ∷ 57 ∷ 9 ∷ 56 ∷ 10
+          ∷ 55 ∷ 11 ∷ 54 ∷ 12
+          ∷ 53 ∷ 13 ∷ 52 ∷ 14 ∷ 51 ∷ 15 ∷ 50 ∷ 16 ∷ 49 ∷ 17 ∷ 48 ∷ 18 ∷ 47 ∷ 19 ∷ 46 ∷ 20 ∷ 45 ∷ 21 ∷ 44 ∷ 22 ∷ 43
+          ∷ 23 ∷ 42 ∷ 24 ∷ 41
           ∷ 25 ∷ 40 ∷ 26 ∷ 39 ∷ 27 ∷ 38 ∷ 28 ∷ []) $ forget ! 0 refl $ free1 ! $ forget ! 0 refl $ free1 ! $ forget ! 0 refl $ free1 ! $
           forget ! 0 refl $ free1 ! $ forget ! 0 refl $ free1 ! $ forget ! 0 refl $ free1 ! $ forget ! 0 refl $ free1 ! $
           forget ! 0 refl $ free1 ! $ forget ! 0 refl $ free1 ! $ forget ! 0 refl $ free1 ! $ forget ! 0 refl $ free1 ! $
@@ -765,9 +790,12 @@ module _ {M : Type 1} (𝓤 : URA M) (H : Heap 𝓤) (A : Atoms 𝓤) (W : Given
 
       -- what part 1 knows
       abbrev Known₁ : Type 0
-      Known₁ = (l₀ : ℕ) × (l₁ : ℕ) × (l₂ : ℕ) × (l₃ : ℕ) × (l₄ : ℕ) × (l₅ : ℕ) × (l₆ : ℕ) × (l₇ : ℕ) × (l₈ : ℕ) × (l₉ : ℕ) × (l₁₀ : ℕ) ×
-          (l₁₁ : ℕ) × (l₁₂ : ℕ) × (l₁₃ : ℕ) × (l₁₄ : ℕ) × (l₁₅ : ℕ) × (l₁₆ : ℕ) × (l₁₇ : ℕ) × (l₁₈ : ℕ) × (l₁₉ : ℕ) × (l₂₀ : ℕ) ×
-          (l₂₁ : ℕ) × (l₂₂ : ℕ) × (l₂₃ : ℕ) × (l₂₄ : ℕ) × (l₂₅ : ℕ) × (l₂₆ : ℕ) × (l₂₇ : ℕ) × (l₂₈ : ℕ) ×
+      Known₁ = (l₀ : ℕ) × (l₁ : ℕ) × (l₂ : ℕ) × (l₃ : ℕ) × (l₄ : ℕ) × (l₅ : ℕ) × (l₆ : ℕ) × (l₇ : ℕ) × (l₈ : ℕ) ×
+          (l₉ : ℕ) × (l₁₀ : ℕ) ×
+          (l₁₁ : ℕ) × (l₁₂ : ℕ) × (l₁₃ : ℕ) × (l₁₄ : ℕ) × (l₁₅ : ℕ) × (l₁₆ : ℕ) × (l₁₇ : ℕ) ×
+          (l₁₈ : ℕ) × (l₁₉ : ℕ) × (l₂₀ : ℕ) ×
+          (l₂₁ : ℕ) × (l₂₂ : ℕ) × (l₂₃ : ℕ) × (l₂₄ : ℕ) × (l₂₅ : ℕ) × (l₂₆ : ℕ) × (l₂₇ : ℕ) × (l₂₈ : ℕ)
+          ×
           (len-queued : length (h .queued) ≡ 128) × (len-outstanding : length (h .outstanding) ≡ 32) ×
           (len-transmissions : length (h .transmissions) ≡ 32) × (len-ready : length (h .ready) ≡ 128) ×
           (len-waiting : length (h .waiting) ≡ 128) × (len-waiting-numbers : length (h .«waiting_numbers») ≡ 128) ×
@@ -805,7 +833,8 @@ module _ {M : Type 1} (𝓤 : URA M) (H : Heap 𝓤) (A : Atoms 𝓤) (W : Given
           (fdies (tyRef erased mut (tyArray (tyInt w32) 128)) (past .23)) ⊛ ‵
           (fdies (tyRef erased mut (tyArray (tyInt w32) 128)) (past .24)) ⊛ ‵ (fdies (tyRef erased mut (tyInt w8)) (past .25)) ⊛ ‵
           (fdies (sliceTy (tyRef erased mut (tyInt w8))) (past .26)) ⊛ ‵ (fdies (tyRef erased mut (tyInt w32)) (past .27)) ⊛ ‵
-          (fdies (sliceTy (tyRef erased mut (tyInt w32))) (past .28))) ∷ ‵ (flft κ₁ q₁) ∷ ‵ (flft κ₂ q₂) ∷ ‵ (flft κ₄ q₄) ∷ ‵ (flft κ₅ q₅)
+          (fdies (sliceTy (tyRef erased mut (tyInt w32))) (past .28))) ∷ ‵ (flft κ₁ q₁) ∷ ‵ (flft κ₂ q₂) ∷ ‵ (flft κ₄ q₄)
+          ∷ ‵ (flft κ₅ q₅)
           ∷ ‵ Own₁ ∷ ‵ Own₂ ∷ ‵ Own₄ ∷ ‵ Own₅ ∷ ‵ (froom (sliceTy (tyRef erased mut (tyInt w32))) (past .28) 0)
           ∷ ‵ (froom (tyRef erased mut (tyInt w32)) (past .27) 0) ∷ ‵ (froom (sliceTy (tyRef erased mut (tyInt w8))) (past .26) 0)
           ∷ ‵ (froom (tyRef erased mut (tyInt w8)) (past .25) 0) ∷ ‵ (froom (tyRef erased mut (tyArray (tyInt w32) 128)) (past .24) 0)
@@ -861,7 +890,8 @@ module _ {M : Type 1} (𝓤 : URA M) (H : Heap 𝓤) (A : Atoms 𝓤) (W : Given
           (fdies (tyRef erased mut (tyArray (tyInt w32) 128)) (past .24)) ⊛ ‵ (fdies (tyRef erased mut (tyInt w8)) (past .25)) ⊛ ‵
           (fdies (sliceTy (tyRef erased mut (tyInt w8))) (past .26)) ⊛ ‵ (fdies (tyRef erased mut (tyInt w32)) (past .27)) ⊛ ‵
           (fdies (sliceTy (tyRef erased mut (tyInt w32))) (past .28))) ∷ ‵ (flft κ₁ q₁) ∷ ‵ (flft κ₂ q₂) ∷ ‵ (flft κ₄ q₄)
-          ∷ ‵ (flft κ₅ q₅) ∷ ‵ Own₁ ∷ ‵ Own₂ ∷ ‵ Own₄ ∷ ‵ Own₅ ∷ ‵ (froom (sliceTy (tyRef erased mut (tyInt w32))) (past .28) 0)
+          ∷ ‵ (flft κ₅ q₅) ∷ ‵ Own₁ ∷ ‵ Own₂ ∷ ‵ Own₄ ∷ ‵ Own₅
+          ∷ ‵ (froom (sliceTy (tyRef erased mut (tyInt w32))) (past .28) 0)
           ∷ ‵ (froom (tyRef erased mut (tyInt w32)) (past .27) 0) ∷ ‵ (froom (sliceTy (tyRef erased mut (tyInt w8))) (past .26) 0)
           ∷ ‵ (froom (tyRef erased mut (tyInt w8)) (past .25) 0) ∷ ‵ (froom (tyRef erased mut (tyArray (tyInt w32) 128)) (past .24) 0)
           ∷ ‵ (froom (tyRef erased mut (tyArray (tyInt w32) 128)) (past .23) 0)
@@ -926,7 +956,8 @@ module _ {M : Type 1} (𝓤 : URA M) (H : Heap 𝓤) (A : Atoms 𝓤) (W : Given
           lend-mut ! tt (Array u32 128) (h .waiting) b (o + 1308)
           (λ α-waiting δ-waiting. move ! (20 ∷ []) $
           lend-mut ! tt (Array u32 128) (h .«waiting_numbers») b (o + 1820)
-          (λ α-waiting-numbers δ-waiting-numbers. move ! (15 ∷ 16 ∷ 12 ∷ 13 ∷ 9 ∷ 10 ∷ 6 ∷ 7 ∷ 3 ∷ 4 ∷ 0 ∷ 1 ∷ 26 ∷ 30 ∷ 27 ∷ 31 ∷ 28
+          (λ α-waiting-numbers δ-waiting-numbers. move ! (15 ∷ 16 ∷ 12 ∷ 13 ∷ 9 ∷ 10 ∷ 6 ∷ 7 ∷ 3 ∷ 4 ∷ 0 ∷ 1 ∷ 26 ∷ 30 ∷ 27
+          ∷ 31 ∷ 28
           ∷ 32 ∷ 29 ∷ 33 ∷ []) $ group ! 20 $
           calls-fn ! fm core.ended (core.clauses 𝓤 H A at-mem run) (known .4)
           (to-core α-queued δ-queued (h .queued) α-outstanding δ-outstanding (h .outstanding) α-transmissions δ-transmissions
@@ -951,7 +982,8 @@ module _ {M : Type 1} (𝓤 : URA M) (H : Heap 𝓤) (A : Atoms 𝓤) (W : Given
           (flft (α-waiting ∷ []) fullShare) ⊛ ‵ (MutRef (named 0) (α-waiting ∷ []) (Array u32 128) .own
           (ref-at b (o + 1308) δ-waiting (h .waiting)) ((vptr b (o + 1308)) ∷ [])) ⊛ ‵ (flft (α-waiting-numbers ∷ []) fullShare) ⊛ ‵
           (MutRef (named 0) (α-waiting-numbers ∷ []) (Array u32 128) .own (ref-at b (o + 1820) δ-waiting-numbers (h .«waiting_numbers»))
-          ((vptr b (o + 1820)) ∷ [])) ⊛ ‵ (flft κ₁ q₁) ⊛ ‵ Own₁ ⊛ ‵ (flft κ₂ q₂) ⊛ ‵ Own₂ ⊛ ‵ (flft κ₄ q₄) ⊛ ‵ Own₄ ⊛ ‵ (flft κ₅ q₅) ⊛ ‵
+          ((vptr b (o + 1820)) ∷ [])) ⊛ ‵ (flft κ₁ q₁) ⊛ ‵ Own₁ ⊛ ‵ (flft κ₂ q₂) ⊛ ‵ Own₂ ⊛ ‵ (flft κ₄ q₄) ⊛ ‵
+          Own₄ ⊛ ‵ (flft κ₅ q₅) ⊛ ‵
           Own₅)
           (asks-core α-queued δ-queued (h .queued) α-outstanding δ-outstanding (h .outstanding) α-transmissions δ-transmissions
           (h .transmissions) α-ready δ-ready (h .ready) α-waiting δ-waiting (h .waiting) α-waiting-numbers δ-waiting-numbers
@@ -1006,9 +1038,12 @@ module _ {M : Type 1} (𝓤 : URA M) (H : Heap 𝓤) (A : Atoms 𝓤) (W : Given
           (feq ℕ (length (ws-a .1 .1 .1 .1 .1 .1 .1 .1 .1 .1 .1 .1 .1 .1 .0)) (length (x₂ .now))))
           ∷ ‵ (fsep (finally u32 (x₄ .name) (ws-a .1 .1 .1 .1 .1 .1 .1 .1 .1 .1 .1 .1 .1 .1 .1 .0))
           (feq ℕ (length (ws-a .1 .1 .1 .1 .1 .1 .1 .1 .1 .1 .1 .1 .1 .1 .1 .0)) (length (x₄ .now)))) ∷ ‵ ftrue ∷ ‵ ftrue ∷ [])
-          (id⊢ 𝓤 _) $ keep ! (8 ∷ 9 ∷ 10 ∷ 11 ∷ 12 ∷ 14 ∷ 15 ∷ 18 ∷ 19 ∷ 20 ∷ 21 ∷ 22 ∷ 23 ∷ 24 ∷ 25 ∷ 26 ∷ 27 ∷ 29 ∷ 30 ∷ 31 ∷ 32 ∷ 33
-          ∷ 34 ∷ 35 ∷ 36 ∷ 37 ∷ 38 ∷ 39 ∷ 40 ∷ 41 ∷ 42 ∷ 43 ∷ 44 ∷ 45 ∷ 46 ∷ 47 ∷ 48 ∷ 49 ∷ 50 ∷ 51 ∷ 52 ∷ 53 ∷ 54 ∷ 55 ∷ 56 ∷ 57 ∷ 58
-          ∷ 59 ∷ 60 ∷ 61 ∷ 62 ∷ 63 ∷ 64 ∷ 65 ∷ 66 ∷ 67 ∷ 68 ∷ 69 ∷ 70 ∷ 71 ∷ []) $ move ! (5 ∷ []) $ fsplit ! $ move ! (1 ∷ []) $
+          (id⊢ 𝓤 _) $ keep ! (8 ∷ 9 ∷ 10 ∷ 11 ∷ 12 ∷ 14 ∷ 15 ∷ 18 ∷ 19 ∷ 20 ∷ 21 ∷ 22 ∷ 23 ∷ 24 ∷ 25 ∷ 26 ∷ 27 ∷ 29
+          ∷ 30 ∷ 31 ∷ 32 ∷ 33
+          ∷ 34 ∷ 35 ∷ 36 ∷ 37 ∷ 38 ∷ 39 ∷ 40 ∷ 41 ∷ 42 ∷ 43 ∷ 44 ∷ 45 ∷ 46 ∷ 47 ∷ 48 ∷ 49 ∷ 50 ∷ 51 ∷ 52 ∷ 53 ∷ 54
+          ∷ 55 ∷ 56 ∷ 57 ∷ 58
+          ∷ 59 ∷ 60 ∷ 61 ∷ 62 ∷ 63 ∷ 64 ∷ 65 ∷ 66 ∷ 67 ∷ 68 ∷ 69 ∷ 70 ∷ 71 ∷ []) $ move ! (5 ∷ []) $ fsplit ! $
+          move ! (1 ∷ []) $
           feqL ! (λ len₂. move ! (6 ∷ []) $ fsplit ! $ move ! (1 ∷ []) $ feqL ! (λ len₄.
           -- [fin4; fin2; fin:outstanding; fin:transmissions; fin:ready; fin:waiting; fin:«waiting_numbers»; tok:queued; tok:outstanding;
           -- tok:transmissions; tok:ready; tok:waiting; tok:«waiting_numbers»; tok1; tok2; tok4; tok5; lent:«waiting_numbers»; lent:waiting;
@@ -1075,10 +1110,12 @@ module _ {M : Type 1} (𝓤 : URA M) (H : Heap 𝓤) (A : Atoms 𝓤) (W : Given
             len₄,
           )))))))))))
 
-      walk : ent 𝓤 (onEntry 𝓤 H A f.signature (κ₀, (κ₁, (κ₂, (κ₃, (κ₄, (κ₅, tt)))))) (q₀, (q₁, (q₂, (q₃, (q₄, (q₅, tt)))))) x at)
+      walk : ent 𝓤 (onEntry 𝓤 H A f.signature (κ₀, (κ₁, (κ₂, (κ₃, (κ₄, (κ₅, tt)))))) (q₀, (q₁, (q₂, (q₃, (q₄, (q₅, tt))))))
+          x at)
           (WpFn 𝓤 H C Λ code.function (vptr b o ∷ s₁ ∷ s₂ ∷ s₃ ∷ s₄ ∷ s₅ ∷ []) Post)
       walk =
-          qed W ((‵ (flft κ₀ q₀) ⊛ ‵ (flft κ₁ q₁) ⊛ ‵ (flft κ₂ q₂) ⊛ ‵ (flft κ₃ q₃) ⊛ ‵ (flft κ₄ q₄) ⊛ ‵ (flft κ₅ q₅) ⊛ ‵ ftrue)
+          qed W ((‵ (flft κ₀ q₀) ⊛ ‵ (flft κ₁ q₁) ⊛ ‵ (flft κ₂ q₂) ⊛ ‵ (flft κ₃ q₃) ⊛ ‵ (flft κ₄ q₄) ⊛ ‵
+          (flft κ₅ q₅) ⊛ ‵ ftrue)
           ∷ ‵ (owns (MutRef (named 0) κ₀ L ∷ ShrSlice (named 1) κ₁ u8 ∷ MutSlice (named 2) κ₂ u8 ∷ ShrSlice (named 3) κ₃ R
           ∷ MutSlice (named 4) κ₄ u32 ∷ ShrSlice (named 5) κ₅ u8 ∷ []) x at) ∷ []) ∵
           enter ! C Λ code.function (vptr b o ∷ s₁ ∷ s₂ ∷ s₃ ∷ s₄ ∷ s₅ ∷ []) _ $
@@ -1100,9 +1137,11 @@ module _ {M : Type 1} (𝓤 : URA M) (H : Heap 𝓤) (A : Atoms 𝓤) (W : Given
           (‵ (ShrSlice (named 1) κ₁ u8 .own (x₁) (s₁ ∷ [])) ∷ ‵ (MutSlice (named 2) κ₂ u8 .own (x₂) (s₂ ∷ []))
           ∷ ‵ (ShrSlice (named 3) κ₃ R .own (x₃) (s₃ ∷ [])) ∷ ‵ (MutSlice (named 4) κ₄ u32 .own (x₄) (s₄ ∷ []))
           ∷ ‵ (ShrSlice (named 5) κ₅ u8 .own (x₅) (s₅ ∷ [])) ∷ ‵ ftrue ∷ []) (id⊢ 𝓤 _) $ move ! (65 ∷ []) $
-          spread W (‵ (flft κ₀ q₀)) (‵ (flft κ₁ q₁) ∷ ‵ (flft κ₂ q₂) ∷ ‵ (flft κ₃ q₃) ∷ ‵ (flft κ₄ q₄) ∷ ‵ (flft κ₅ q₅) ∷ ‵ ftrue ∷ [])
+          spread W (‵ (flft κ₀ q₀)) (‵ (flft κ₁ q₁) ∷ ‵ (flft κ₂ q₂) ∷ ‵ (flft κ₃ q₃) ∷ ‵ (flft κ₄ q₄)
+          ∷ ‵ (flft κ₅ q₅) ∷ ‵ ftrue ∷ [])
           (id⊢ 𝓤 _) $ move ! (13 ∷ 6 ∷ []) $ drop ! $ drop ! $
-          move ! (69 ∷ 67 ∷ 65 ∷ 63 ∷ 61 ∷ 59 ∷ 57 ∷ 55 ∷ 53 ∷ 51 ∷ 49 ∷ 47 ∷ 45 ∷ 43 ∷ 41 ∷ 39 ∷ 37 ∷ 35 ∷ 33 ∷ 31 ∷ 29 ∷ 27 ∷ 25 ∷ 23
+          move ! (69 ∷ 67 ∷ 65 ∷ 63 ∷ 61 ∷ 59 ∷ 57 ∷ 55 ∷ 53 ∷ 51 ∷ 49 ∷ 47 ∷ 45 ∷ 43 ∷ 41 ∷ 39 ∷ 37 ∷ 35 ∷ 33 ∷ 31 ∷ 29
+          ∷ 27 ∷ 25 ∷ 23
           ∷ 21 ∷ 19 ∷ 17 ∷ 15 ∷ 13 ∷ []) $ group ! 29 $
           -- [deaths; tok0; tok1; tok2; tok3; tok4; tok5; own0; own1; own2; own3; own4; own5; the locals]
           move ! (7 ∷ 1 ∷ []) $ opens-link b o γ ! tt h $
@@ -1180,8 +1219,10 @@ module _ {M : Type 1} (𝓤 : URA M) (H : Heap 𝓤) (A : Atoms 𝓤) (W : Given
           (λ recs w-recs ws-recs e-recs is-recs. land ! (from ! (stop !)) (init ! 39 refl (rs-typed 𝓤 H A W recs is-recs)) $
           spread W (‵ (flft κ₃ q₃)) (‵ ftrue ∷ []) (id⊢ 𝓤 _) $ move ! (2 ∷ []) $
           spread W (‵ ftrue) (‵ ftrue ∷ ‵ ftrue ∷ ‵ ftrue ∷ []) (id⊢ 𝓤 _) $
-          keep ! (4 ∷ 6 ∷ 7 ∷ 8 ∷ 9 ∷ 10 ∷ 11 ∷ 12 ∷ 13 ∷ 14 ∷ 15 ∷ 16 ∷ 17 ∷ 18 ∷ 19 ∷ 20 ∷ 21 ∷ 22 ∷ 23 ∷ 24 ∷ 25 ∷ 26 ∷ 27 ∷ 28 ∷ 29
-          ∷ 30 ∷ 31 ∷ 32 ∷ 33 ∷ 34 ∷ 35 ∷ 36 ∷ 37 ∷ 38 ∷ 39 ∷ 40 ∷ 41 ∷ 42 ∷ 43 ∷ 44 ∷ 45 ∷ 46 ∷ 47 ∷ 48 ∷ 49 ∷ 50 ∷ 51 ∷ 52 ∷ 53 ∷ 54
+          keep ! (4 ∷ 6 ∷ 7 ∷ 8 ∷ 9 ∷ 10 ∷ 11 ∷ 12 ∷ 13 ∷ 14 ∷ 15 ∷ 16 ∷ 17 ∷ 18 ∷ 19 ∷ 20 ∷ 21 ∷ 22 ∷ 23 ∷ 24 ∷ 25
+          ∷ 26 ∷ 27 ∷ 28 ∷ 29
+          ∷ 30 ∷ 31 ∷ 32 ∷ 33 ∷ 34 ∷ 35 ∷ 36 ∷ 37 ∷ 38 ∷ 39 ∷ 40 ∷ 41 ∷ 42 ∷ 43 ∷ 44 ∷ 45 ∷ 46 ∷ 47 ∷ 48 ∷ 49 ∷ 50
+          ∷ 51 ∷ 52 ∷ 53 ∷ 54
           ∷ 55 ∷ 56 ∷ []) $
           -- [tok3; own3; F:outstanding; F:clock; F:arrival; F:flight; F:settings; F:«waiting_numbers»; F:waiting; F:ready; F:transmissions;
           -- F:queued; back; opened; deaths; tok1; tok2; tok4; tok5; own1; own2; own4; own5; the locals]
@@ -1202,8 +1243,10 @@ module _ {M : Type 1} (𝓤 : URA M) (H : Heap 𝓤) (A : Atoms 𝓤) (W : Given
           (λ fl w-fl ws-fl e-fl is-fl. land ! (from ! (stop !)) (init ! 38 refl (bool-lawful 𝓤 H A W .typed fl _ is-fl .0)) $
           spread W (‵ (flft κ₃ q₃)) (‵ ftrue ∷ []) (id⊢ 𝓤 _) $ move ! (2 ∷ []) $
           spread W (‵ ftrue) (‵ ftrue ∷ ‵ ftrue ∷ ‵ ftrue ∷ ‵ ftrue ∷ []) (id⊢ 𝓤 _) $
-          keep ! (5 ∷ 7 ∷ 8 ∷ 9 ∷ 10 ∷ 11 ∷ 12 ∷ 13 ∷ 14 ∷ 15 ∷ 16 ∷ 17 ∷ 18 ∷ 19 ∷ 20 ∷ 21 ∷ 22 ∷ 23 ∷ 24 ∷ 25 ∷ 26 ∷ 27 ∷ 28 ∷ 29 ∷ 30
-          ∷ 31 ∷ 32 ∷ 33 ∷ 34 ∷ 35 ∷ 36 ∷ 37 ∷ 38 ∷ 39 ∷ 40 ∷ 41 ∷ 42 ∷ 43 ∷ 44 ∷ 45 ∷ 46 ∷ 47 ∷ 48 ∷ 49 ∷ 50 ∷ 51 ∷ 52 ∷ 53 ∷ 54 ∷ 55
+          keep ! (5 ∷ 7 ∷ 8 ∷ 9 ∷ 10 ∷ 11 ∷ 12 ∷ 13 ∷ 14 ∷ 15 ∷ 16 ∷ 17 ∷ 18 ∷ 19 ∷ 20 ∷ 21 ∷ 22 ∷ 23 ∷ 24 ∷ 25 ∷ 26
+          ∷ 27 ∷ 28 ∷ 29 ∷ 30
+          ∷ 31 ∷ 32 ∷ 33 ∷ 34 ∷ 35 ∷ 36 ∷ 37 ∷ 38 ∷ 39 ∷ 40 ∷ 41 ∷ 42 ∷ 43 ∷ 44 ∷ 45 ∷ 46 ∷ 47 ∷ 48 ∷ 49 ∷ 50 ∷ 51
+          ∷ 52 ∷ 53 ∷ 54 ∷ 55
           ∷ 56 ∷ 57 ∷ []) $
           -- [tok3; own3; F:outstanding; F:clock; F:arrival; F:flight; F:settings; F:«waiting_numbers»; F:waiting; F:ready; F:transmissions;
           -- F:queued; back; opened; deaths; tok1; tok2; tok4; tok5; own1; own2; own4; own5; the locals]
@@ -1213,8 +1256,10 @@ module _ {M : Type 1} (𝓤 : URA M) (H : Heap 𝓤) (A : Atoms 𝓤) (W : Given
           (and-then ! (load ! (from ! (stop !)) (look ! 46 refl)) (no-more !))
           (λ m w-m ws-m e-m is-m. land ! (from ! (stop !)) (init ! 36 refl (uint-lawful 𝓤 H A W w64 .typed m _ is-m .0)) $
           spread W (‵ (flft κ₃ q₃)) (‵ ftrue ∷ []) (id⊢ 𝓤 _) $ move ! (2 ∷ []) $ spread W (‵ ftrue) (‵ ftrue ∷ []) (id⊢ 𝓤 _) $
-          keep ! (2 ∷ 4 ∷ 5 ∷ 6 ∷ 7 ∷ 8 ∷ 9 ∷ 10 ∷ 11 ∷ 12 ∷ 13 ∷ 14 ∷ 15 ∷ 16 ∷ 17 ∷ 18 ∷ 19 ∷ 20 ∷ 21 ∷ 22 ∷ 23 ∷ 24 ∷ 25 ∷ 26 ∷ 27
-          ∷ 28 ∷ 29 ∷ 30 ∷ 31 ∷ 32 ∷ 33 ∷ 34 ∷ 35 ∷ 36 ∷ 37 ∷ 38 ∷ 39 ∷ 40 ∷ 41 ∷ 42 ∷ 43 ∷ 44 ∷ 45 ∷ 46 ∷ 47 ∷ 48 ∷ 49 ∷ 50 ∷ 51 ∷ 52
+          keep ! (2 ∷ 4 ∷ 5 ∷ 6 ∷ 7 ∷ 8 ∷ 9 ∷ 10 ∷ 11 ∷ 12 ∷ 13 ∷ 14 ∷ 15 ∷ 16 ∷ 17 ∷ 18 ∷ 19 ∷ 20 ∷ 21 ∷ 22 ∷ 23 ∷ 24
+          ∷ 25 ∷ 26 ∷ 27
+          ∷ 28 ∷ 29 ∷ 30 ∷ 31 ∷ 32 ∷ 33 ∷ 34 ∷ 35 ∷ 36 ∷ 37 ∷ 38 ∷ 39 ∷ 40 ∷ 41 ∷ 42 ∷ 43 ∷ 44 ∷ 45 ∷ 46 ∷ 47 ∷ 48
+          ∷ 49 ∷ 50 ∷ 51 ∷ 52
           ∷ 53 ∷ []) $
           -- [tok3; F:outstanding; F:clock; F:arrival; F:flight; F:settings; F:«waiting_numbers»; F:waiting; F:ready; F:transmissions;
           -- F:queued; back; opened; deaths; tok1; tok2; tok4; tok5; own1; own2; own4; own5; the locals]
@@ -1275,7 +1320,8 @@ module _ {M : Type 1} (𝓤 : URA M) (H : Heap 𝓤) (A : Atoms 𝓤) (W : Given
             is-m,
           ))))))))))))))))))))))))))))))))))))))))))))))
 
-  f-meets : (𝓣 : Tables 𝓤 H) → Known (𝓣 .C) → Meets 𝓤 H A f.signature (WpFn 𝓤 H (𝓣 .C) (𝓣 .Λ) code.function) (f.spec 𝓤 H A at-mem run)
+  f-meets : (𝓣 : Tables 𝓤 H) → Known (𝓣 .C)
+      → Meets 𝓤 H A f.signature (WpFn 𝓤 H (𝓣 .C) (𝓣 .Λ) code.function) (f.spec 𝓤 H A at-mem run)
   unfolding Post
   f-meets 𝓣 known = walk-meets 𝓤 H A f.ended stayed W (
     goes-ref 𝓤 H A W 6 0 tt (plain (λ _. L)),
@@ -1327,12 +1373,16 @@ take-in-spec 𝓤 H 𝓜 𝓖 𝓡 =
           gather-def.routine code.calls-gathering·gather (gather-thm.met 𝓤 H 𝓜 𝓖 𝓡),
       cited 𝓤 H (tripleOf 𝓤 H (𝓖 .A) fit.signature (fit.spec 𝓤 H (𝓖 .A) (𝓜 .mem) (𝓡 .run))) 𝓜 𝓡 code.env fit-def.name fit-def.routine
           code.calls-gathering·fit (fit-thm.met 𝓤 H 𝓜 𝓖 𝓡),
-      cited 𝓤 H (tripleOf 𝓤 H (𝓖 .A) table-len.signature (table-len.spec 𝓤 H (𝓖 .A) (𝓜 .mem) (𝓡 .run))) 𝓜 𝓡 code.env table-len-def.name
+      cited 𝓤 H (tripleOf 𝓤 H (𝓖 .A) table-len.signature (table-len.spec 𝓤 H (𝓖 .A) (𝓜 .mem) (𝓡 .run))) 𝓜 𝓡 code.env
+          table-len-def.name
           table-len-def.routine code.calls-records·table-len (table-len-thm.met 𝓤 H 𝓜 𝓖 𝓡),
-      cited 𝓤 H (tripleOf 𝓤 H (𝓖 .A) core.signature (core.spec 𝓤 H (𝓖 .A) (𝓜 .mem) (𝓡 .run))) 𝓜 𝓡 code.env core-def.name core-def.routine
+      cited 𝓤 H (tripleOf 𝓤 H (𝓖 .A) core.signature (core.spec 𝓤 H (𝓖 .A) (𝓜 .mem) (𝓡 .run))) 𝓜 𝓡 code.env core-def.name
+          core-def.routine
           code.calls-input-core·input (core-thm.met 𝓤 H 𝓜 𝓖 𝓡),
-      cited 𝓤 H (tripleOf 𝓤 H (𝓖 .A) flight-of.signature (flight-of.spec 𝓤 H (𝓖 .A) (𝓜 .mem) (𝓡 .run))) 𝓜 𝓡 code.env flight-of-def.name
+      cited 𝓤 H (tripleOf 𝓤 H (𝓖 .A) flight-of.signature (flight-of.spec 𝓤 H (𝓖 .A) (𝓜 .mem) (𝓡 .run))) 𝓜 𝓡 code.env
+          flight-of-def.name
           flight-of-def.routine code.calls-results·taken-flight (flight-of-thm.met 𝓤 H 𝓜 𝓖 𝓡),
-      cited 𝓤 H (tripleOf 𝓤 H (𝓖 .A) arrival-of.signature (arrival-of.spec 𝓤 H (𝓖 .A) (𝓜 .mem) (𝓡 .run))) 𝓜 𝓡 code.env arrival-of-def.name
+      cited 𝓤 H (tripleOf 𝓤 H (𝓖 .A) arrival-of.signature (arrival-of.spec 𝓤 H (𝓖 .A) (𝓜 .mem) (𝓡 .run))) 𝓜 𝓡 code.env
+          arrival-of-def.name
           arrival-of-def.routine code.calls-results·taken-arrival (arrival-of-thm.met 𝓤 H 𝓜 𝓖 𝓡),
     ))

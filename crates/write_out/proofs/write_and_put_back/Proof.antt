@@ -322,13 +322,18 @@ module _ {M : Type 1} (𝓤 : URA M) (H : Heap 𝓤) (A : Atoms 𝓤) (W : Given
       tt,
     )
 
-    asks-writing : (β₃ : ℕ) (δ₃ : GName) → (y₀ : Bool) (u₀ : Val) → Is Boolean y₀ (u₀ ∷ []) → (y₁ : ℕ) (u₁ : Val) → Is u32 y₁ (u₁ ∷ [])
-        → ent 𝓤 (⋆ 𝓤 H A (‵ (flft κ₀ q₀) ∷ ‵ Own₀ ∷ ‵ (flft κ₁ q₁) ∷ ‵ Own₁ ∷ ‵ (flft κ₂ q₂) ∷ ‵ Own₂ ∷ ‵ (flft (β₃ ∷ []) fullShare)
-        ∷ ‵ (Shared₃ β₃ δ₃) ∷ ‵ (flft κ₄ q₄) ∷ ‵ Own₄ ∷ ‵ (flft κ₅ q₅) ∷ ‵ Own₇ ∷ ‵ (flft κ₆ q₆) ∷ ‵ Own₈ ∷ []))
+    asks-writing : (β₃ : ℕ) (δ₃ : GName) → (y₀ : Bool) (u₀ : Val) → Is Boolean y₀ (u₀ ∷ []) → (y₁ : ℕ) (u₁ : Val)
+        → Is u32 y₁ (u₁ ∷ [])
+        → ent 𝓤 (⋆ 𝓤 H A (‵ (flft κ₀ q₀) ∷ ‵ Own₀ ∷ ‵ (flft κ₁ q₁) ∷ ‵ Own₁ ∷ ‵ (flft κ₂ q₂) ∷ ‵ Own₂
+        ∷ ‵ (flft (β₃ ∷ []) fullShare)
+        ∷ ‵ (Shared₃ β₃ δ₃) ∷ ‵ (flft κ₄ q₄) ∷ ‵ Own₄ ∷ ‵ (flft κ₅ q₅) ∷ ‵ Own₇ ∷ ‵ (flft κ₆ q₆)
+        ∷ ‵ Own₈ ∷ []))
         (tripleOf 𝓤 H A writing.signature (writing.spec 𝓤 H A at-mem run) .pre (to-writing β₃ δ₃ y₀ u₀ y₁ u₁))
     asks-writing β₃ δ₃ y₀ u₀ is₀ y₁ u₁ is₁ =
-        qed W (‵ (flft κ₀ q₀) ∷ ‵ Own₀ ∷ ‵ (flft κ₁ q₁) ∷ ‵ Own₁ ∷ ‵ (flft κ₂ q₂) ∷ ‵ Own₂ ∷ ‵ (flft (β₃ ∷ []) fullShare)
-        ∷ ‵ (Shared₃ β₃ δ₃) ∷ ‵ (flft κ₄ q₄) ∷ ‵ Own₄ ∷ ‵ (flft κ₅ q₅) ∷ ‵ Own₇ ∷ ‵ (flft κ₆ q₆) ∷ ‵ Own₈ ∷ []) ∵ nothing ! $
+        qed W (‵ (flft κ₀ q₀) ∷ ‵ Own₀ ∷ ‵ (flft κ₁ q₁) ∷ ‵ Own₁ ∷ ‵ (flft κ₂ q₂) ∷ ‵ Own₂
+        ∷ ‵ (flft (β₃ ∷ []) fullShare)
+        ∷ ‵ (Shared₃ β₃ δ₃) ∷ ‵ (flft κ₄ q₄) ∷ ‵ Own₄ ∷ ‵ (flft κ₅ q₅) ∷ ‵ Own₇ ∷ ‵ (flft κ₆ q₆)
+        ∷ ‵ Own₈ ∷ []) ∵ nothing ! $
         move ! (13 ∷ 0 ∷ []) $ join ! $ move ! (11 ∷ 0 ∷ []) $ join ! $ move ! (9 ∷ 0 ∷ []) $ join ! $ move ! (7 ∷ 0 ∷ []) $ join ! $
         move ! (5 ∷ 0 ∷ []) $ join ! $ move ! (3 ∷ 0 ∷ []) $ join ! $ move ! (1 ∷ 0 ∷ []) $ join ! $ nothing ! $ move ! (8 ∷ 0 ∷ []) $
         fjoin ! $ move ! (7 ∷ 0 ∷ []) $ fjoin ! $ owned ! u32 (Is u32) (uint-makes 𝓤 H A W w32) y₁ _ is₁ $ fjoin ! $
@@ -356,16 +361,20 @@ module _ {M : Type 1} (𝓤 : URA M) (H : Heap 𝓤) (A : Atoms 𝓤) (W : Given
 
     abbrev Had : (z₀ : Link) (z₃ : List Record) (z₇ : List ℕ) (z₈ : List ℕ) → List (Item 𝓤)
     Had z₀ z₃ z₇ z₈ = ‵ (fres (x₀ .name) (L .coded .code z₀)) ∷ ‵ (flft κ₀ q₀) ∷ ‵ (flft κ₁ q₁) ∷ ‵ (flft κ₂ q₂)
-        ∷ ‵ (finally R (x₃ .name) z₃) ∷ ‵ (flft κ₃ q₃) ∷ ‵ (flft κ₄ q₄) ∷ ‵ (finally u8 (x₇ .name) z₇) ∷ ‵ (flft κ₅ q₅)
+        ∷ ‵ (finally R (x₃ .name) z₃) ∷ ‵ (flft κ₃ q₃) ∷ ‵ (flft κ₄ q₄) ∷ ‵ (finally u8 (x₇ .name) z₇)
+        ∷ ‵ (flft κ₅ q₅)
         ∷ ‵ (finally u16 (x₈ .name) z₈) ∷ ‵ (flft κ₆ q₆) ∷ []
 
     -- what the contract says
     abbrev Said : (r : ℤ) (z₀ : Link) (z₃ : List Record) (z₇ : List ℕ) (z₈ : List ℕ) → Type 0
-    Said r z₀ z₃ z₇ z₈ = WrittenOut x₅ x₆ (x₀ .now) (partsOf (x₁ .now) (x₂ .now) (x₃ .now) (x₄ .now)) (flushPartsOf (x₇ .now) (x₈ .now)) z₀
+    Said r z₀ z₃ z₇ z₈ = WrittenOut x₅ x₆ (x₀ .now) (partsOf (x₁ .now) (x₂ .now) (x₃ .now) (x₄ .now))
+        (flushPartsOf (x₇ .now) (x₈ .now)) z₀
         (partsOf (x₁ .now) (x₂ .now) z₃ (x₄ .now)) (flushPartsOf z₇ z₈) r
 
-    exits : (r : ℤ) (w : Val) (z₀ : Link) (z₃ : List Record) (z₇ : List ℕ) (z₈ : List ℕ) → Said r z₀ z₃ z₇ z₈ → length z₃ ≡ length (x₃ .now)
-        → length z₇ ≡ length (x₇ .now) → length z₈ ≡ length (x₈ .now) → Is i32 r (w ∷ []) → ent 𝓤 (⋆ 𝓤 H A (Had z₀ z₃ z₇ z₈)) (Post w)
+    exits : (r : ℤ) (w : Val) (z₀ : Link) (z₃ : List Record) (z₇ : List ℕ) (z₈ : List ℕ) → Said r z₀ z₃ z₇ z₈
+        → length z₃ ≡ length (x₃ .now)
+        → length z₇ ≡ length (x₇ .now) → length z₈ ≡ length (x₈ .now) → Is i32 r (w ∷ [])
+        → ent 𝓤 (⋆ 𝓤 H A (Had z₀ z₃ z₇ z₈)) (Post w)
     unfolding Post
     exits r w z₀ z₃ z₇ z₈ e len₃ len₇ len₈ g =
         qed W (Had z₀ z₃ z₇ z₈) ∵ suffices ! _ (ends-at 𝓤 H A f.ended stayed (f.clauses 𝓤 H A at-mem run) W
@@ -379,10 +388,12 @@ module _ {M : Type 1} (𝓤 : URA M) (H : Heap 𝓤) (A : Atoms 𝓤) (W : Given
         owned ! i32 (Is i32) (sint-makes 𝓤 H A W w32) r _ g $ done !
 
     module _ (C : Calls 𝓤 H) (Λ : Loops 𝓤 H) (fm : FmC 𝓤 H (W .laws) C) (known : Known C) where
-      walk : ent 𝓤 (onEntry 𝓤 H A f.signature (κ₀, (κ₁, (κ₂, (κ₃, (κ₄, (κ₅, (κ₆, tt))))))) (q₀, (q₁, (q₂, (q₃, (q₄, (q₅, (q₆, tt))))))) x
+      walk : ent 𝓤 (onEntry 𝓤 H A f.signature (κ₀, (κ₁, (κ₂, (κ₃, (κ₄, (κ₅, (κ₆, tt)))))))
+          (q₀, (q₁, (q₂, (q₃, (q₄, (q₅, (q₆, tt))))))) x
           at) (WpFn 𝓤 H C Λ code.function (s₀ ∷ s₁ ∷ s₂ ∷ s₃ ∷ s₄ ∷ v₅ ∷ v₆ ∷ s₇ ∷ s₈ ∷ []) Post)
       walk =
-          qed W ((‵ (flft κ₀ q₀) ⊛ ‵ (flft κ₁ q₁) ⊛ ‵ (flft κ₂ q₂) ⊛ ‵ (flft κ₃ q₃) ⊛ ‵ (flft κ₄ q₄) ⊛ ‵ (flft κ₅ q₅) ⊛ ‵ (flft κ₆ q₆) ⊛ ‵
+          qed W ((‵ (flft κ₀ q₀) ⊛ ‵ (flft κ₁ q₁) ⊛ ‵ (flft κ₂ q₂) ⊛ ‵ (flft κ₃ q₃) ⊛ ‵ (flft κ₄ q₄) ⊛ ‵
+          (flft κ₅ q₅) ⊛ ‵ (flft κ₆ q₆) ⊛ ‵
           ftrue) ∷ ‵ (owns (MutRef (named 0) κ₀ L ∷ ShrSlice (named 1) κ₁ u8 ∷ ShrSlice (named 2) κ₂ u8 ∷ MutSlice (named 3) κ₃ R
           ∷ ShrSlice (named 4) κ₄ u32 ∷ Boolean ∷ u32 ∷ MutSlice (named 5) κ₅ u8 ∷ MutSlice (named 6) κ₆ u16 ∷ []) x at) ∷ []) ∵
           enter ! C Λ code.function (s₀ ∷ s₁ ∷ s₂ ∷ s₃ ∷ s₄ ∷ v₅ ∷ v₆ ∷ s₇ ∷ s₈ ∷ []) _ $
@@ -392,7 +403,8 @@ module _ {M : Type 1} (𝓤 : URA M) (H : Heap 𝓤) (A : Atoms 𝓤) (W : Given
           alloc1 ! (λ l₉. alloc1 ! (λ l₁₀. alloc1 ! (λ l₁₁.
           alloc1 ! (λ l₁₂. alloc1 ! (λ l₁₃. alloc1 ! (λ l₁₄.
           alloc1 ! (λ l₁₅. alloc1 ! (λ l₁₆. alloc1 ! (λ l₁₇.
-          alloc1 ! (λ l₁₈. alloc1 ! (λ l₁₉. alloc1 ! (λ l₂₀. alloc1 ! (λ l₂₁. alloc1 ! (λ l₂₂. alloc1 ! (λ l₂₃. alloc0 ! $ params1 ! $
+          alloc1 ! (λ l₁₈. alloc1 ! (λ l₁₉. alloc1 ! (λ l₂₀.
+          alloc1 ! (λ l₂₁. alloc1 ! (λ l₂₂. alloc1 ! (λ l₂₃. alloc0 ! $ params1 ! $
           pass1 ! (init ! 44 refl (tt, tt)) $ pass1 ! (init ! 42 refl (tt, (tt, (record { fits = room₁ .0 }, tt)))) $
           pass1 ! (init ! 40 refl (tt, (tt, (record { fits = room₂ .0 }, tt)))) $
           pass1 ! (init ! 38 refl (tt, (tt, (record { fits = room₃ .0 }, tt)))) $
@@ -406,11 +418,15 @@ module _ {M : Type 1} (𝓤 : URA M) (H : Heap 𝓤) (A : Atoms 𝓤) (W : Given
           ∷ ‵ (MutSlice (named 3) κ₃ R .own (x₃) (s₃ ∷ [])) ∷ ‵ (ShrSlice (named 4) κ₄ u32 .own (x₄) (s₄ ∷ []))
           ∷ ‵ (Boolean .own (x₅) (v₅ ∷ [])) ∷ ‵ (u32 .own (x₆) (v₆ ∷ [])) ∷ ‵ (MutSlice (named 5) κ₅ u8 .own (x₇) (s₇ ∷ []))
           ∷ ‵ (MutSlice (named 6) κ₆ u16 .own (x₈) (s₈ ∷ [])) ∷ ‵ ftrue ∷ []) (id⊢ 𝓤 _) $ move ! (58 ∷ []) $
-          spread W (‵ (flft κ₀ q₀)) (‵ (flft κ₁ q₁) ∷ ‵ (flft κ₂ q₂) ∷ ‵ (flft κ₃ q₃) ∷ ‵ (flft κ₄ q₄) ∷ ‵ (flft κ₅ q₅) ∷ ‵ (flft κ₆ q₆)
-          ∷ ‵ ftrue ∷ []) (id⊢ 𝓤 _) $ keep ! (0 ∷ 1 ∷ 2 ∷ 3 ∷ 4 ∷ 5 ∷ 6 ∷ 8 ∷ 9 ∷ 10 ∷ 11 ∷ 12 ∷ 15 ∷ 16 ∷ 18 ∷ 19 ∷ 20 ∷ 21 ∷ 22 ∷ 23
-          ∷ 24 ∷ 25 ∷ 26 ∷ 27 ∷ 28 ∷ 29 ∷ 30 ∷ 31 ∷ 32 ∷ 33 ∷ 34 ∷ 35 ∷ 36 ∷ 37 ∷ 38 ∷ 39 ∷ 40 ∷ 41 ∷ 42 ∷ 43 ∷ 44 ∷ 45 ∷ 46 ∷ 47 ∷ 48
+          spread W (‵ (flft κ₀ q₀)) (‵ (flft κ₁ q₁) ∷ ‵ (flft κ₂ q₂) ∷ ‵ (flft κ₃ q₃) ∷ ‵ (flft κ₄ q₄)
+          ∷ ‵ (flft κ₅ q₅) ∷ ‵ (flft κ₆ q₆)
+          ∷ ‵ ftrue ∷ []) (id⊢ 𝓤 _) $ keep ! (0 ∷ 1 ∷ 2 ∷ 3 ∷ 4 ∷ 5 ∷ 6 ∷ 8 ∷ 9 ∷ 10 ∷ 11 ∷ 12 ∷ 15 ∷ 16 ∷ 18 ∷ 19
+          ∷ 20 ∷ 21 ∷ 22 ∷ 23
+          ∷ 24 ∷ 25 ∷ 26 ∷ 27 ∷ 28 ∷ 29 ∷ 30 ∷ 31 ∷ 32 ∷ 33 ∷ 34 ∷ 35 ∷ 36 ∷ 37 ∷ 38 ∷ 39 ∷ 40 ∷ 41 ∷ 42 ∷ 43 ∷ 44
+          ∷ 45 ∷ 46 ∷ 47 ∷ 48
           ∷ 49 ∷ 50 ∷ 51 ∷ 52 ∷ 53 ∷ 54 ∷ 55 ∷ 56 ∷ 57 ∷ 58 ∷ 59 ∷ 60 ∷ 61 ∷ 62 ∷ 63 ∷ 64 ∷ 65 ∷ []) $
-          move ! (61 ∷ 59 ∷ 57 ∷ 55 ∷ 53 ∷ 51 ∷ 49 ∷ 47 ∷ 45 ∷ 43 ∷ 41 ∷ 39 ∷ 37 ∷ 35 ∷ 33 ∷ 31 ∷ 29 ∷ 27 ∷ 25 ∷ 23 ∷ 21 ∷ 19 ∷ 17 ∷ 15
+          move ! (61 ∷ 59 ∷ 57 ∷ 55 ∷ 53 ∷ 51 ∷ 49 ∷ 47 ∷ 45 ∷ 43 ∷ 41 ∷ 39 ∷ 37 ∷ 35 ∷ 33 ∷ 31 ∷ 29 ∷ 27 ∷ 25 ∷ 23 ∷ 21
+          ∷ 19 ∷ 17 ∷ 15
           ∷ []) $ group ! 24 $
           -- [deaths; tok0; tok1; tok2; tok3; tok4; tok7; tok8; own0; own1; own2; own3; own4; own7; own8; the locals]
           assigns ! {v = s₀} (addr ! (from ! (hop ! (look ! 37 refl) (stop !)))) (from ! (stop !)) (init ! 24 refl (tt, tt)) $
@@ -442,8 +458,10 @@ module _ {M : Type 1} (𝓤 : URA M) (H : Heap 𝓤) (A : Atoms 𝓤) (W : Given
           calls-fn ! fm writing.ended (writing.clauses 𝓤 H A at-mem run) (known .0) (to-writing β₃ β-name₃ x₅ v₅ x₆ v₆)
           (λ t ws-t. Left x₅ x₆ (x₀ .now) (partsOf (x₁ .now) (x₂ .now) (x₃ .now) (x₄ .now)) (flushPartsOf (x₇ .now) (x₈ .now))
           (t .answer) (putBack t) (ws-t .0) (flushPartsOf (ws-t .1 .1 .1 .1 .1 .1 .1 .0) (ws-t .1 .1 .1 .1 .1 .1 .1 .1 .0)))
-          (‵ (flft κ₀ q₀) ⊛ ‵ Own₀ ⊛ ‵ (flft κ₁ q₁) ⊛ ‵ Own₁ ⊛ ‵ (flft κ₂ q₂) ⊛ ‵ Own₂ ⊛ ‵ (flft (β₃ ∷ []) fullShare) ⊛ ‵
-          (Shared₃ β₃ β-name₃) ⊛ ‵ (flft κ₄ q₄) ⊛ ‵ Own₄ ⊛ ‵ (flft κ₅ q₅) ⊛ ‵ Own₇ ⊛ ‵ (flft κ₆ q₆) ⊛ ‵ Own₈)
+          (‵ (flft κ₀ q₀) ⊛ ‵ Own₀ ⊛ ‵ (flft κ₁ q₁) ⊛ ‵ Own₁ ⊛ ‵ (flft κ₂ q₂) ⊛ ‵ Own₂ ⊛ ‵
+          (flft (β₃ ∷ []) fullShare) ⊛ ‵
+          (Shared₃ β₃ β-name₃) ⊛ ‵ (flft κ₄ q₄) ⊛ ‵ Own₄ ⊛ ‵ (flft κ₅ q₅) ⊛ ‵ Own₇ ⊛ ‵ (flft κ₆ q₆) ⊛ ‵
+          Own₈)
           (asks-writing β₃ β-name₃ x₅ v₅ g₅ x₆ v₆ g₆) (λ t ws-t. id⊢ 𝓤 _)
           (and-then ! (load ! (from ! (stop !)) (look ! 12 refl))
           (and-then ! (load ! (from ! (stop !)) (look ! 24 refl))
@@ -455,7 +473,8 @@ module _ {M : Type 1} (𝓤 : URA M) (H : Heap 𝓤) (A : Atoms 𝓤) (W : Given
           (and-then ! (load ! (from ! (stop !)) (look ! 8 refl)) (and-then ! (load ! (from ! (stop !)) (look ! 6 refl)) (no-more !))))))))))
           (λ t w-t ws-t e-t is-t. land ! (from ! (stop !))
           (init ! 17 refl (LL.lawful flushed-row.the-type flushed-laws.the-laws 𝓤 H A W .typed t (w-t ∷ []) is-t .0)) $
-          spread W (‵ (flft κ₀ q₀)) (‵ (flft κ₁ q₁) ∷ ‵ (flft κ₂ q₂) ∷ ‵ (flft (β₃ ∷ []) fullShare) ∷ ‵ (flft κ₄ q₄) ∷ ‵ (flft κ₅ q₅)
+          spread W (‵ (flft κ₀ q₀)) (‵ (flft κ₁ q₁) ∷ ‵ (flft κ₂ q₂) ∷ ‵ (flft (β₃ ∷ []) fullShare) ∷ ‵ (flft κ₄ q₄)
+          ∷ ‵ (flft κ₅ q₅)
           ∷ ‵ (flft κ₆ q₆) ∷ ‵ ftrue ∷ []) (id⊢ 𝓤 _) $ move ! (8 ∷ []) $
           spread W (‵ (fres (x₀ .name) (L .coded .code (ws-t .0))))
           (‵ ftrue ∷ ‵ ftrue ∷ ‵ ftrue ∷ ‵ ftrue ∷ ‵ ftrue ∷ ‵ ftrue
@@ -463,7 +482,8 @@ module _ {M : Type 1} (𝓤 : URA M) (H : Heap 𝓤) (A : Atoms 𝓤) (W : Given
           (feq ℕ (length (ws-t .1 .1 .1 .1 .1 .1 .1 .0)) (length (x₇ .now))))
           ∷ ‵ (fsep (finally u16 (x₈ .name) (ws-t .1 .1 .1 .1 .1 .1 .1 .1 .0))
           (feq ℕ (length (ws-t .1 .1 .1 .1 .1 .1 .1 .1 .0)) (length (x₈ .now)))) ∷ ‵ ftrue ∷ []) (id⊢ 𝓤 _) $
-          keep ! (0 ∷ 7 ∷ 8 ∷ 10 ∷ 11 ∷ 12 ∷ 13 ∷ 14 ∷ 15 ∷ 16 ∷ 18 ∷ 19 ∷ 20 ∷ 21 ∷ 22 ∷ 23 ∷ 24 ∷ 25 ∷ 26 ∷ 27 ∷ 28 ∷ 29 ∷ 30 ∷ 31
+          keep ! (0 ∷ 7 ∷ 8 ∷ 10 ∷ 11 ∷ 12 ∷ 13 ∷ 14 ∷ 15 ∷ 16 ∷ 18 ∷ 19 ∷ 20 ∷ 21 ∷ 22 ∷ 23 ∷ 24 ∷ 25 ∷ 26 ∷ 27 ∷ 28
+          ∷ 29 ∷ 30 ∷ 31
           ∷ 32 ∷ 33 ∷ 34 ∷ 35 ∷ 36 ∷ 37 ∷ 38 ∷ 39 ∷ 40 ∷ 41 ∷ 42 ∷ 43 ∷ []) $ move ! (1 ∷ []) $ fsplit ! $ move ! (1 ∷ []) $
           feqL ! (λ len₇. move ! (2 ∷ []) $ fsplit ! $ move ! (1 ∷ []) $ feqL ! (λ len₈.
           -- [fin8; fin7; fin0; tok0; tok1; tok2; btok3; tok4; tok7; tok8; blent3; deaths; the locals]
@@ -494,7 +514,8 @@ module _ {M : Type 1} (𝓤 : URA M) (H : Heap 𝓤) (A : Atoms 𝓤) (W : Given
           (and-then ! (load ! (from ! (fld ! refl (stop !))) (look-in ! 31 (sub ! 1 refl (whole !)))) (no-more !)))) (from ! (stop !))
           (init ! 12 refl (tt, (tt, (record { fits = room₃ .0 }, tt)))) $
           move ! (6 ∷ 10 ∷ []) $ lft-end ! tt $
-          use2 W (later (‵ Own₃ ⊛ ‵ (flft κ₃ q₃))) (shared-back R κ₃ (β₃ ∷ []) q₃ (x₃ .name) (x₃ .ptr .0) (x₃ .ptr .1) (x₃ .now) 𝓤 H A W
+          use2 W (later (‵ Own₃ ⊛ ‵ (flft κ₃ q₃))) (shared-back R κ₃ (β₃ ∷ []) q₃ (x₃ .name) (x₃ .ptr .0) (x₃ .ptr .1) (x₃ .now)
+          𝓤 H A W
           room₃) $ await ! tt $ split ! $
           -- [own3; tok3; fin8; fin7; fin0; tok0; tok1; tok2; tok4; tok7; tok8; deaths; the locals]
           move ! (1 ∷ 0 ∷ []) $ join ! $ calls-fn ! fm scatter.ended (scatter.clauses 𝓤 H A at-mem run) (known .4)
@@ -508,7 +529,8 @@ module _ {M : Type 1} (𝓤 : URA M) (H : Heap 𝓤) (A : Atoms 𝓤) (W : Given
           spread W (‵ (flft κ₃ q₃)) (‵ ftrue ∷ []) (id⊢ 𝓤 _) $ move ! (2 ∷ []) $
           spread W (‵ (fsep (finally R (x₃ .name) (ws-u .0)) (feq ℕ (length (ws-u .0)) (length (x₃ .now)))))
           (‵ ftrue ∷ ‵ ftrue ∷ ‵ ftrue ∷ ‵ ftrue ∷ []) (id⊢ 𝓤 _) $
-          keep ! (0 ∷ 5 ∷ 7 ∷ 8 ∷ 9 ∷ 10 ∷ 11 ∷ 12 ∷ 13 ∷ 14 ∷ 15 ∷ 16 ∷ 17 ∷ 18 ∷ 19 ∷ 20 ∷ 21 ∷ 22 ∷ 23 ∷ 24 ∷ 25 ∷ 26 ∷ 27 ∷ 28 ∷ 29
+          keep ! (0 ∷ 5 ∷ 7 ∷ 8 ∷ 9 ∷ 10 ∷ 11 ∷ 12 ∷ 13 ∷ 14 ∷ 15 ∷ 16 ∷ 17 ∷ 18 ∷ 19 ∷ 20 ∷ 21 ∷ 22 ∷ 23 ∷ 24 ∷ 25
+          ∷ 26 ∷ 27 ∷ 28 ∷ 29
           ∷ 30 ∷ 31 ∷ 32 ∷ 33 ∷ 34 ∷ 35 ∷ 36 ∷ 37 ∷ 38 ∷ 39 ∷ 40 ∷ []) $ fsplit ! $ move ! (1 ∷ []) $ feqL ! (λ len₃.
           -- [fin3; tok3; fin8; fin7; fin0; tok0; tok1; tok2; tok4; tok7; tok8; deaths; the locals]
           nothing ! $ calls-fn ! fm code-of.ended (code-of.clauses 𝓤 H A at-mem run) (known .5) ((tt, tt, tt, (t, tt), (w-t ∷ [], tt)), tt)
@@ -530,8 +552,10 @@ module _ {M : Type 1} (𝓤 : URA M) (H : Heap 𝓤) (A : Atoms 𝓤) (W : Given
           ∷ ‵ (fdies (tyRef erased mut (tyInt w8)) l₁₇) ∷ ‵ (fdies (sliceTy (tyRef erased mut (tyInt w8))) l₁₈)
           ∷ ‵ (fdies (tyRef erased mut (tyInt w16)) l₁₉) ∷ ‵ (fdies (sliceTy (tyRef erased mut (tyInt w16))) l₂₀) ∷ ‵ (fdies tyUnit l₂₁)
           ∷ ‵ (fdies (tyRef erased mut (pointee (R .written))) l₂₂) ∷ ‵ (fdies (sliceTy (tyRef erased mut (pointee (R .written)))) l₂₃)
-          ∷ []) (id⊢ 𝓤 _) $ move ! (58 ∷ 0 ∷ 57 ∷ 1 ∷ 56 ∷ 2 ∷ 55 ∷ 3 ∷ 54 ∷ 4 ∷ 53 ∷ 5 ∷ 52 ∷ 6 ∷ 51 ∷ 7 ∷ 50 ∷ 8 ∷ 49 ∷ 9 ∷ 48 ∷ 10
-          ∷ 47 ∷ 11 ∷ 46 ∷ 12 ∷ 45 ∷ 13 ∷ 44 ∷ 14 ∷ 43 ∷ 15 ∷ 42 ∷ 16 ∷ 41 ∷ 17 ∷ 40 ∷ 18 ∷ 39 ∷ 19 ∷ 38 ∷ 20 ∷ 37 ∷ 21 ∷ 36 ∷ 22 ∷ 35
+          ∷ []) (id⊢ 𝓤 _) $ move ! (58 ∷ 0 ∷ 57 ∷ 1 ∷ 56 ∷ 2 ∷ 55 ∷ 3 ∷ 54 ∷ 4 ∷ 53 ∷ 5 ∷ 52 ∷ 6 ∷ 51 ∷ 7 ∷ 50 ∷ 8
+          ∷ 49 ∷ 9 ∷ 48 ∷ 10
+          ∷ 47 ∷ 11 ∷ 46 ∷ 12 ∷ 45 ∷ 13 ∷ 44 ∷ 14 ∷ 43 ∷ 15 ∷ 42 ∷ 16 ∷ 41 ∷ 17 ∷ 40 ∷ 18 ∷ 39 ∷ 19 ∷ 38 ∷ 20 ∷ 37
+          ∷ 21 ∷ 36 ∷ 22 ∷ 35
           ∷ 23 ∷ []) $ forget ! 0 refl $ free1 ! $ forget ! 0 refl $ free1 ! $ forget ! 0 refl $ free1 ! $ forget ! 0 refl $ free1 ! $
           forget ! 0 refl $ free1 ! $ forget ! 0 refl $ free1 ! $ forget ! 0 refl $ free1 ! $ forget ! 0 refl $ free1 ! $
           forget ! 0 refl $ free1 ! $ forget ! 0 refl $ free1 ! $ forget ! 0 refl $ free1 ! $ forget ! 0 refl $ free1 ! $
@@ -545,7 +569,8 @@ module _ {M : Type 1} (𝓤 : URA M) (H : Heap 𝓤) (A : Atoms 𝓤) (W : Given
           (ap length (sym e-after) ∙ is-after .1 .0 .1) (put-back (x₃ .now) (ws-u .0) (putBack t) words n after e-words e-n e-after e-u)
           e-t r e-r) len₃ len₇ len₈ is-r))))))))))))))))))))))))))))))))))))
 
-  f-meets : (𝓣 : Tables 𝓤 H) → Known (𝓣 .C) → Meets 𝓤 H A f.signature (WpFn 𝓤 H (𝓣 .C) (𝓣 .Λ) code.function) (f.spec 𝓤 H A at-mem run)
+  f-meets : (𝓣 : Tables 𝓤 H) → Known (𝓣 .C)
+      → Meets 𝓤 H A f.signature (WpFn 𝓤 H (𝓣 .C) (𝓣 .Λ) code.function) (f.spec 𝓤 H A at-mem run)
   unfolding Post
   f-meets 𝓣 known = walk-meets 𝓤 H A f.ended stayed W (
     goes-gave-ref 𝓤 H A W 7 0 tt (plain (λ _. L)),
@@ -623,7 +648,8 @@ write-and-put-back-spec 𝓤 H 𝓜 𝓖 𝓡 =
           words-of-def.routine code.calls-results·flushed-words (words-of-thm.met 𝓤 H 𝓜 𝓖 𝓡),
       cited 𝓤 H (tripleOf 𝓤 H (𝓖 .A) count-of.signature (count-of.spec 𝓤 H (𝓖 .A) (𝓜 .mem) (𝓡 .run))) 𝓜 𝓡 code.env count-of-def.name
           count-of-def.routine code.calls-results·flushed-changed (count-of-thm.met 𝓤 H 𝓜 𝓖 𝓡),
-      cited 𝓤 H (tripleOf 𝓤 H (𝓖 .A) records-of.signature (records-of.spec 𝓤 H (𝓖 .A) (𝓜 .mem) (𝓡 .run))) 𝓜 𝓡 code.env records-of-def.name
+      cited 𝓤 H (tripleOf 𝓤 H (𝓖 .A) records-of.signature (records-of.spec 𝓤 H (𝓖 .A) (𝓜 .mem) (𝓡 .run))) 𝓜 𝓡 code.env
+          records-of-def.name
           records-of-def.routine code.calls-results·flushed-records (records-of-thm.met 𝓤 H 𝓜 𝓖 𝓡),
       cited 𝓤 H (tripleOf 𝓤 H (𝓖 .A) scatter.signature (scatter.spec 𝓤 H (𝓖 .A) (𝓜 .mem) (𝓡 .run))) 𝓜 𝓡 code.env scatter-def.name
           scatter-def.routine code.calls-gathering·scatter (scatter-thm.met 𝓤 H 𝓜 𝓖 𝓡),

@@ -264,7 +264,8 @@ module _ {M : Type 1} (𝓤 : URA M) (H : Heap 𝓤) (A : Atoms 𝓤) (W : Given
       × Triple 𝓤 (C arrival-of-def.name) (tripleOf 𝓤 H A arrival-of.signature (arrival-of.spec 𝓤 H A at-mem run))
       × Triple 𝓤 (C clock-of-def.name) (tripleOf 𝓤 H A clock-of.signature (clock-of.spec 𝓤 H A at-mem run))
 
-  module _ (κ₀ κ₁ κ₂ κ₃ κ₄ κ₅ κ₆ : Lft) (q₀ q₁ q₂ q₃ q₄ q₅ q₆ : Share) (b o : ℕ) (γ : GName) (h : Link) (x₁ : RefT (List ℕ))
+  module _ (κ₀ κ₁ κ₂ κ₃ κ₄ κ₅ κ₆ : Lft) (q₀ q₁ q₂ q₃ q₄ q₅ q₆ : Share) (b o : ℕ) (γ : GName) (h : Link)
+      (x₁ : RefT (List ℕ))
       (room₁ : Room u8 (length (x₁ .now))) (x₂ : RefT (List ℕ)) (room₂ : Room u8 (length (x₂ .now))) (x₃ : RefT (List Record))
       (room₃ : Room R (length (x₃ .now))) (x₄ : RefT (List ℕ)) (room₄ : Room u32 (length (x₄ .now))) (x₅ : Bool) (v₅ : Val)
       (g₅ : Is Boolean x₅ (v₅ ∷ [])) (x₆ : ℕ) (v₆ : Val) (g₆ : Is u32 x₆ (v₆ ∷ [])) (x₇ : RefT (List ℕ))
@@ -345,10 +346,12 @@ module _ {M : Type 1} (𝓤 : URA M) (H : Heap 𝓤) (A : Atoms 𝓤) (W : Given
         (f-outstanding : (List ℕ)) (α-transmissions : ℕ) (δ-transmissions : GName) (f-transmissions : (List ℕ)) (α-ready : ℕ)
         (δ-ready : GName) (f-ready : (List ℕ)) (α-waiting : ℕ) (δ-waiting : GName) (f-waiting : (List ℕ)) (α-waiting-numbers : ℕ)
         (δ-waiting-numbers : GName) (f-waiting-numbers : (List ℕ)) (y₀ : Settings) (u₀ : Val) (y₁ : Flight) (u₁ : Val) (y₂ : Arrival)
-        (u₂ : Val) (y₃ : Clock) (u₃ : Val) (y₄ : (List Record)) (u₄ : Val) (y₅ : ℕ) (u₅ : Val) (y₆ : Bool) (u₆ : Val) (y₇ : ℕ) (u₇ : Val)
+        (u₂ : Val) (y₃ : Clock) (u₃ : Val) (y₄ : (List Record)) (u₄ : Val) (y₅ : ℕ) (u₅ : Val) (y₆ : Bool) (u₆ : Val) (y₇ : ℕ)
+        (u₇ : Val)
         → tripleOf 𝓤 H A core.signature (core.spec 𝓤 H A at-mem run) .Ghost
     to-core α-queued δ-queued f-queued α-outstanding δ-outstanding f-outstanding α-transmissions δ-transmissions f-transmissions α-ready
-        δ-ready f-ready α-waiting δ-waiting f-waiting α-waiting-numbers δ-waiting-numbers f-waiting-numbers y₀ u₀ y₁ u₁ y₂ u₂ y₃ u₃ y₄ u₄ y₅
+        δ-ready f-ready α-waiting δ-waiting f-waiting α-waiting-numbers δ-waiting-numbers f-waiting-numbers y₀ u₀ y₁ u₁ y₂ u₂ y₃ u₃ y₄
+        u₄ y₅
         u₅ y₆ u₆ y₇ u₇ = (
           (
             (
@@ -448,9 +451,11 @@ module _ {M : Type 1} (𝓤 : URA M) (H : Heap 𝓤) (A : Atoms 𝓤) (W : Given
         (f-outstanding : (List ℕ)) (α-transmissions : ℕ) (δ-transmissions : GName) (f-transmissions : (List ℕ)) (α-ready : ℕ)
         (δ-ready : GName) (f-ready : (List ℕ)) (α-waiting : ℕ) (δ-waiting : GName) (f-waiting : (List ℕ)) (α-waiting-numbers : ℕ)
         (δ-waiting-numbers : GName) (f-waiting-numbers : (List ℕ)) → (y₀ : Settings) (u₀ : Val) → Is settings-row.the-row y₀ (u₀ ∷ [])
-        → (y₁ : Flight) (u₁ : Val) → Is flight-row.the-row y₁ (u₁ ∷ []) → (y₂ : Arrival) (u₂ : Val) → Is arrival-row.the-row y₂ (u₂ ∷ [])
+        → (y₁ : Flight) (u₁ : Val) → Is flight-row.the-row y₁ (u₁ ∷ []) → (y₂ : Arrival) (u₂ : Val)
+        → Is arrival-row.the-row y₂ (u₂ ∷ [])
         → (y₃ : Clock) (u₃ : Val) → Is clock-row.the-row y₃ (u₃ ∷ []) → (y₄ : (List Record)) (u₄ : Val) → Is Rs y₄ (u₄ ∷ [])
-        → (y₅ : ℕ) (u₅ : Val) → Is usize y₅ (u₅ ∷ []) → (y₆ : Bool) (u₆ : Val) → Is Boolean y₆ (u₆ ∷ []) → (y₇ : ℕ) (u₇ : Val)
+        → (y₅ : ℕ) (u₅ : Val) → Is usize y₅ (u₅ ∷ []) → (y₆ : Bool) (u₆ : Val) → Is Boolean y₆ (u₆ ∷ [])
+        → (y₇ : ℕ) (u₇ : Val)
         → Is u32 y₇ (u₇ ∷ []) → (Whole (arrays f-queued f-outstanding f-transmissions f-ready f-waiting f-waiting-numbers))
         → ent 𝓤 (⋆ 𝓤 H A (‵ (flft (α-queued ∷ []) fullShare)
         ∷ ‵ (MutRef (named 0) (α-queued ∷ []) (Array u32 128) .own (ref-at b (o + 124) δ-queued f-queued) ((vptr b (o + 124)) ∷ []))
@@ -464,13 +469,16 @@ module _ {M : Type 1} (𝓤 : URA M) (H : Heap 𝓤) (A : Atoms 𝓤) (W : Given
         ∷ ‵ (ShrRef (named 0) (α-waiting ∷ []) (Array u32 128) .own (ref-at b (o + 1308) δ-waiting f-waiting) ((vptr b (o + 1308)) ∷ []))
         ∷ ‵ (flft (α-waiting-numbers ∷ []) fullShare)
         ∷ ‵ (ShrRef (named 0) (α-waiting-numbers ∷ []) (Array u32 128) .own (ref-at b (o + 1820) δ-waiting-numbers f-waiting-numbers)
-        ((vptr b (o + 1820)) ∷ [])) ∷ ‵ (flft κ₁ q₁) ∷ ‵ Own₁ ∷ ‵ (flft κ₂ q₂) ∷ ‵ Own₂ ∷ ‵ (flft κ₄ q₄) ∷ ‵ Own₄ ∷ ‵ (flft κ₅ q₅) ∷ ‵ Own₇
+        ((vptr b (o + 1820)) ∷ [])) ∷ ‵ (flft κ₁ q₁) ∷ ‵ Own₁ ∷ ‵ (flft κ₂ q₂) ∷ ‵ Own₂ ∷ ‵ (flft κ₄ q₄) ∷ ‵ Own₄
+        ∷ ‵ (flft κ₅ q₅) ∷ ‵ Own₇
         ∷ ‵ (flft κ₆ q₆) ∷ ‵ Own₈ ∷ [])) (tripleOf 𝓤 H A core.signature (core.spec 𝓤 H A at-mem run) .pre
         (to-core α-queued δ-queued f-queued α-outstanding δ-outstanding f-outstanding α-transmissions δ-transmissions f-transmissions
-        α-ready δ-ready f-ready α-waiting δ-waiting f-waiting α-waiting-numbers δ-waiting-numbers f-waiting-numbers y₀ u₀ y₁ u₁ y₂ u₂ y₃ u₃
+        α-ready δ-ready f-ready α-waiting δ-waiting f-waiting α-waiting-numbers δ-waiting-numbers f-waiting-numbers y₀ u₀ y₁ u₁ y₂ u₂ y₃
+        u₃
         y₄ u₄ y₅ u₅ y₆ u₆ y₇ u₇))
     asks-core α-queued δ-queued f-queued α-outstanding δ-outstanding f-outstanding α-transmissions δ-transmissions f-transmissions α-ready
-        δ-ready f-ready α-waiting δ-waiting f-waiting α-waiting-numbers δ-waiting-numbers f-waiting-numbers y₀ u₀ is₀ y₁ u₁ is₁ y₂ u₂ is₂ y₃
+        δ-ready f-ready α-waiting δ-waiting f-waiting α-waiting-numbers δ-waiting-numbers f-waiting-numbers y₀ u₀ is₀ y₁ u₁ is₁ y₂ u₂ is₂
+        y₃
         u₃ is₃ y₄ u₄ is₄ y₅ u₅ is₅ y₆ u₆ is₆ y₇ u₇ is₇ req =
         qed W (‵ (flft (α-queued ∷ []) fullShare)
         ∷ ‵ (MutRef (named 0) (α-queued ∷ []) (Array u32 128) .own (ref-at b (o + 124) δ-queued f-queued) ((vptr b (o + 124)) ∷ []))
@@ -484,8 +492,10 @@ module _ {M : Type 1} (𝓤 : URA M) (H : Heap 𝓤) (A : Atoms 𝓤) (W : Given
         ∷ ‵ (ShrRef (named 0) (α-waiting ∷ []) (Array u32 128) .own (ref-at b (o + 1308) δ-waiting f-waiting)
         ((vptr b (o + 1308)) ∷ [])) ∷ ‵ (flft (α-waiting-numbers ∷ []) fullShare)
         ∷ ‵ (ShrRef (named 0) (α-waiting-numbers ∷ []) (Array u32 128) .own (ref-at b (o + 1820) δ-waiting-numbers f-waiting-numbers)
-        ((vptr b (o + 1820)) ∷ [])) ∷ ‵ (flft κ₁ q₁) ∷ ‵ Own₁ ∷ ‵ (flft κ₂ q₂) ∷ ‵ Own₂ ∷ ‵ (flft κ₄ q₄) ∷ ‵ Own₄ ∷ ‵ (flft κ₅ q₅)
-        ∷ ‵ Own₇ ∷ ‵ (flft κ₆ q₆) ∷ ‵ Own₈ ∷ []) ∵ says ! req $ nothing ! $ move ! (21 ∷ 0 ∷ []) $ join ! $ move ! (19 ∷ 0 ∷ []) $
+        ((vptr b (o + 1820)) ∷ [])) ∷ ‵ (flft κ₁ q₁) ∷ ‵ Own₁ ∷ ‵ (flft κ₂ q₂) ∷ ‵ Own₂ ∷ ‵ (flft κ₄ q₄) ∷ ‵ Own₄
+        ∷ ‵ (flft κ₅ q₅)
+        ∷ ‵ Own₇ ∷ ‵ (flft κ₆ q₆) ∷ ‵ Own₈ ∷ []) ∵ says ! req $ nothing ! $ move ! (21 ∷ 0 ∷ []) $ join ! $
+        move ! (19 ∷ 0 ∷ []) $
         join ! $ move ! (17 ∷ 0 ∷ []) $ join ! $ move ! (15 ∷ 0 ∷ []) $ join ! $ move ! (13 ∷ 0 ∷ []) $ join ! $ move ! (11 ∷ 0 ∷ []) $
         join ! $ move ! (9 ∷ 0 ∷ []) $ join ! $ move ! (7 ∷ 0 ∷ []) $ join ! $ move ! (5 ∷ 0 ∷ []) $ join ! $ move ! (3 ∷ 0 ∷ []) $
         join ! $ move ! (1 ∷ 0 ∷ []) $ join ! $ nothing ! $ move ! (12 ∷ 0 ∷ []) $ fjoin ! $ move ! (11 ∷ 0 ∷ []) $ fjoin ! $
@@ -501,7 +511,8 @@ module _ {M : Type 1} (𝓤 : URA M) (H : Heap 𝓤) (A : Atoms 𝓤) (W : Given
         (LL.makes settings-row.the-type settings-laws.the-plain 𝓤 H A) y₀ _ is₀ $ fjoin ! $ move ! (1 ∷ 0 ∷ []) $ done !
 
     abbrev Had : (k : Link) (z₇ : List ℕ) (z₈ : List ℕ) → List (Item 𝓤)
-    Had k z₇ z₈ = ‵ (link-own κ₀ b o γ k) ∷ ‵ (flft κ₀ q₀) ∷ ‵ (flft κ₁ q₁) ∷ ‵ (flft κ₂ q₂) ∷ ‵ (flft κ₃ q₃) ∷ ‵ (flft κ₄ q₄)
+    Had k z₇ z₈ = ‵ (link-own κ₀ b o γ k) ∷ ‵ (flft κ₀ q₀) ∷ ‵ (flft κ₁ q₁) ∷ ‵ (flft κ₂ q₂) ∷ ‵ (flft κ₃ q₃)
+        ∷ ‵ (flft κ₄ q₄)
         ∷ ‵ (finally u8 (x₇ .name) z₇) ∷ ‵ (flft κ₅ q₅) ∷ ‵ (finally u16 (x₈ .name) z₈) ∷ ‵ (flft κ₆ q₆) ∷ []
 
     -- what the contract says
@@ -525,18 +536,26 @@ module _ {M : Type 1} (𝓤 : URA M) (H : Heap 𝓤) (A : Atoms 𝓤) (W : Given
 
     module _ (C : Calls 𝓤 H) (Λ : Loops 𝓤 H) (fm : FmC 𝓤 H (W .laws) C) (known : Known C) where
       -- where the locals lie
-      abbrev En : (l₀ l₁ l₂ l₃ l₄ l₅ l₆ l₇ l₈ l₉ l₁₀ l₁₁ l₁₂ l₁₃ l₁₄ l₁₅ l₁₆ l₁₇ l₁₈ l₁₉ l₂₀ l₂₁ l₂₂ l₂₃ l₂₄ l₂₅ l₂₆ l₂₇ l₂₈ l₂₉ l₃₀
+      abbrev En : (l₀ l₁ l₂ l₃ l₄ l₅ l₆ l₇ l₈ l₉ l₁₀ l₁₁ l₁₂ l₁₃ l₁₄ l₁₅ l₁₆ l₁₇ l₁₈ l₁₉ l₂₀
+          l₂₁ l₂₂ l₂₃ l₂₄ l₂₅ l₂₆ l₂₇ l₂₈ l₂₉ l₃₀
           l₃₁ : ℕ) → Env 𝓤 H
-      En l₀ l₁ l₂ l₃ l₄ l₅ l₆ l₇ l₈ l₉ l₁₀ l₁₁ l₁₂ l₁₃ l₁₄ l₁₅ l₁₆ l₁₇ l₁₈ l₁₉ l₂₀ l₂₁ l₂₂ l₂₃ l₂₄ l₂₅ l₂₆ l₂₇ l₂₈ l₂₉ l₃₀ l₃₁ =
-          envOf (code.function .locals) (l₀ ∷ l₁ ∷ l₂ ∷ l₃ ∷ l₄ ∷ l₅ ∷ l₆ ∷ l₇ ∷ l₈ ∷ l₉ ∷ l₁₀ ∷ l₁₁ ∷ l₁₂ ∷ l₁₃ ∷ l₁₄ ∷ l₁₅ ∷ l₁₆ ∷ l₁₇
-          ∷ l₁₈ ∷ l₁₉ ∷ l₂₀ ∷ l₂₁ ∷ l₂₂ ∷ l₂₃ ∷ l₂₄ ∷ l₂₅ ∷ l₂₆ ∷ l₂₇ ∷ l₂₈ ∷ l₂₉ ∷ l₃₀ ∷ l₃₁ ∷ [])
+      En l₀ l₁ l₂ l₃ l₄ l₅ l₆ l₇ l₈ l₉ l₁₀ l₁₁ l₁₂ l₁₃ l₁₄ l₁₅ l₁₆ l₁₇ l₁₈ l₁₉ l₂₀ l₂₁
+          l₂₂ l₂₃ l₂₄ l₂₅ l₂₆ l₂₇ l₂₈ l₂₉ l₃₀ l₃₁ =
+          envOf (code.function .locals) (l₀ ∷ l₁ ∷ l₂ ∷ l₃ ∷ l₄ ∷ l₅ ∷ l₆ ∷ l₇ ∷ l₈ ∷ l₉ ∷ l₁₀ ∷ l₁₁
+          ∷ l₁₂ ∷ l₁₃ ∷ l₁₄ ∷ l₁₅ ∷ l₁₆ ∷ l₁₇
+          ∷ l₁₈ ∷ l₁₉ ∷ l₂₀ ∷ l₂₁ ∷ l₂₂ ∷ l₂₃ ∷ l₂₄ ∷ l₂₅ ∷ l₂₆ ∷ l₂₇ ∷ l₂₈ ∷ l₂₉
+          ∷ l₃₀ ∷ l₃₁ ∷ [])
 
       -- what part 2 knows
       abbrev Known₂ : Type 0
-      Known₂ = (z₈ : List ℕ) × (z₇ : List ℕ) × (z-transmissions : List ℕ) × (z-outstanding : List ℕ) × (z-queued : List ℕ) × (l₀ : ℕ) ×
-          (l₁ : ℕ) × (l₂ : ℕ) × (l₃ : ℕ) × (l₄ : ℕ) × (l₅ : ℕ) × (l₆ : ℕ) × (l₇ : ℕ) × (l₈ : ℕ) × (l₉ : ℕ) × (l₁₀ : ℕ) × (l₁₁ : ℕ) ×
-          (l₁₂ : ℕ) × (l₁₃ : ℕ) × (l₁₄ : ℕ) × (l₁₅ : ℕ) × (l₁₆ : ℕ) × (l₁₇ : ℕ) × (l₁₈ : ℕ) × (l₁₉ : ℕ) × (l₂₀ : ℕ) × (l₂₁ : ℕ) ×
-          (l₂₂ : ℕ) × (l₂₃ : ℕ) × (l₂₄ : ℕ) × (l₂₅ : ℕ) × (l₂₆ : ℕ) × (l₂₇ : ℕ) × (l₂₈ : ℕ) × (l₂₉ : ℕ) × (l₃₀ : ℕ) × (l₃₁ : ℕ) × (n : ℕ) ×
+      Known₂ = (z₈ : List ℕ) × (z₇ : List ℕ) × (z-transmissions : List ℕ) × (z-outstanding : List ℕ) × (z-queued : List ℕ) × (l₀ : ℕ)
+          ×
+          (l₁ : ℕ) × (l₂ : ℕ) × (l₃ : ℕ) × (l₄ : ℕ) × (l₅ : ℕ) × (l₆ : ℕ) × (l₇ : ℕ) × (l₈ : ℕ) × (l₉ : ℕ) ×
+          (l₁₀ : ℕ) × (l₁₁ : ℕ) ×
+          (l₁₂ : ℕ) × (l₁₃ : ℕ) × (l₁₄ : ℕ) × (l₁₅ : ℕ) × (l₁₆ : ℕ) × (l₁₇ : ℕ) × (l₁₈ : ℕ) ×
+          (l₁₉ : ℕ) × (l₂₀ : ℕ) × (l₂₁ : ℕ) ×
+          (l₂₂ : ℕ) × (l₂₃ : ℕ) × (l₂₄ : ℕ) × (l₂₅ : ℕ) × (l₂₆ : ℕ) × (l₂₇ : ℕ) × (l₂₈ : ℕ) ×
+          (l₂₉ : ℕ) × (l₃₀ : ℕ) × (l₃₁ : ℕ) × (n : ℕ) ×
           (w-n : Val) × (e-n : n ≡ h .flight .outstanding) × (recs : (List Record)) × (w-recs : Val) ×
           (e-recs : recs ≡ padded (gathered (take sendSlots (x₃ .now)) (slotsIn (h .outstanding) n))) × (m : ℕ) × (w-m : Val) ×
           (e-m : m ≡ length (x₃ .now)) × (a : Flushed) × (w-a : Val) ×
@@ -549,7 +568,8 @@ module _ {M : Type 1} (𝓤 : URA M) (H : Heap 𝓤) (A : Atoms 𝓤) (W : Given
           ∷ ‵ (partAt (Array u32 128) fullShare (h .waiting) b (o + 1308)) ∷ ‵ (partAt (Array u32 128) fullShare (h .ready) b (o + 796))
           ∷ ‵ (partAt (Array u8 32) fullShare (past .2) b (o + 764)) ∷ ‵ (partAt (Array u32 32) fullShare (past .3) b (o + 636))
           ∷ ‵ (partAt (Array u32 128) fullShare (past .4) b (o + 124)) ∷ ‵ (finally u16 (x₈ .name) (past .0))
-          ∷ ‵ (finally u8 (x₇ .name) (past .1)) ∷ ‵ (flft κ₁ q₁) ∷ ‵ (flft κ₂ q₂) ∷ ‵ (flft κ₄ q₄) ∷ ‵ (flft κ₅ q₅) ∷ ‵ (flft κ₆ q₆)
+          ∷ ‵ (finally u8 (x₇ .name) (past .1)) ∷ ‵ (flft κ₁ q₁) ∷ ‵ (flft κ₂ q₂) ∷ ‵ (flft κ₄ q₄) ∷ ‵ (flft κ₅ q₅)
+          ∷ ‵ (flft κ₆ q₆)
           ∷ ‵ (flft κ₃ q₃) ∷ ‵ (partAt clock-row.the-row fullShare (h .clock) b (o + 104))
           ∷ ‵ (partAt arrival-row.the-row fullShare (h .arrival) b (o + 72))
           ∷ ‵ (partAt flight-row.the-row fullShare (h .flight) b (o + 16))
@@ -608,7 +628,8 @@ module _ {M : Type 1} (𝓤 : URA M) (H : Heap 𝓤) (A : Atoms 𝓤) (W : Given
           ∷ ‵ (partAt (Array u32 128) fullShare (h .waiting) b (o + 1308)) ∷ ‵ (partAt (Array u32 128) fullShare (h .ready) b (o + 796))
           ∷ ‵ (partAt (Array u8 32) fullShare (past .2) b (o + 764)) ∷ ‵ (partAt (Array u32 32) fullShare (past .3) b (o + 636))
           ∷ ‵ (partAt (Array u32 128) fullShare (past .4) b (o + 124)) ∷ ‵ (finally u16 (x₈ .name) (past .0))
-          ∷ ‵ (finally u8 (x₇ .name) (past .1)) ∷ ‵ (flft κ₁ q₁) ∷ ‵ (flft κ₂ q₂) ∷ ‵ (flft κ₄ q₄) ∷ ‵ (flft κ₅ q₅) ∷ ‵ (flft κ₆ q₆)
+          ∷ ‵ (finally u8 (x₇ .name) (past .1)) ∷ ‵ (flft κ₁ q₁) ∷ ‵ (flft κ₂ q₂) ∷ ‵ (flft κ₄ q₄) ∷ ‵ (flft κ₅ q₅)
+          ∷ ‵ (flft κ₆ q₆)
           ∷ ‵ (flft κ₃ q₃) ∷ ‵ (partAt clock-row.the-row fullShare (h .clock) b (o + 104))
           ∷ ‵ (partAt arrival-row.the-row fullShare (h .arrival) b (o + 72))
           ∷ ‵ (partAt flight-row.the-row fullShare (h .flight) b (o + 16))
@@ -759,8 +780,10 @@ module _ {M : Type 1} (𝓤 : URA M) (H : Heap 𝓤) (A : Atoms 𝓤) (W : Given
           ∷ ‵ (fdies (tyRef erased imm (tyArray (tyInt w32) 128)) (past .32)) ∷ ‵ (fdies (tyRef erased mut (tyInt w8)) (past .33))
           ∷ ‵ (fdies (sliceTy (tyRef erased mut (tyInt w8))) (past .34)) ∷ ‵ (fdies (tyRef erased mut (tyInt w16)) (past .35))
           ∷ ‵ (fdies (sliceTy (tyRef erased mut (tyInt w16))) (past .36)) ∷ []) (id⊢ 𝓤 _) $
-          move ! (73 ∷ 0 ∷ 72 ∷ 1 ∷ 71 ∷ 2 ∷ 70 ∷ 3 ∷ 69 ∷ 4 ∷ 68 ∷ 5 ∷ 67 ∷ 6 ∷ 66 ∷ 7 ∷ 65 ∷ 8 ∷ 64 ∷ 9 ∷ 63 ∷ 10 ∷ 62 ∷ 11 ∷ 61 ∷ 12
-          ∷ 60 ∷ 13 ∷ 59 ∷ 14 ∷ 58 ∷ 15 ∷ 57 ∷ 16 ∷ 56 ∷ 17 ∷ 55 ∷ 18 ∷ 54 ∷ 19 ∷ 53 ∷ 20 ∷ 52 ∷ 21 ∷ 51 ∷ 22 ∷ 50 ∷ 23 ∷ 49 ∷ 24 ∷ 48
+          move ! (73 ∷ 0 ∷ 72 ∷ 1 ∷ 71 ∷ 2 ∷ 70 ∷ 3 ∷ 69 ∷ 4 ∷ 68 ∷ 5 ∷ 67 ∷ 6 ∷ 66 ∷ 7 ∷ 65 ∷ 8 ∷ 64 ∷ 9 ∷ 63 ∷ 10
+          ∷ 62 ∷ 11 ∷ 61 ∷ 12
+          ∷ 60 ∷ 13 ∷ 59 ∷ 14 ∷ 58 ∷ 15 ∷ 57 ∷ 16 ∷ 56 ∷ 17 ∷ 55 ∷ 18 ∷ 54 ∷ 19 ∷ 53 ∷ 20 ∷ 52 ∷ 21 ∷ 51 ∷ 22 ∷ 50
+          ∷ 23 ∷ 49 ∷ 24 ∷ 48
           ∷ 25 ∷ 47 ∷ 26 ∷ 46 ∷ 27 ∷ 45 ∷ 28 ∷ 44 ∷ 29 ∷ 43 ∷ 30 ∷ 42 ∷ 31 ∷ []) $ forget ! 0 refl $ free1 ! $ forget ! 0 refl $
           free1 ! $ forget ! 0 refl $ free1 ! $ forget ! 0 refl $ free1 ! $ forget ! 0 refl $ free1 ! $ forget ! 0 refl $ free1 ! $
           forget ! 0 refl $ free1 ! $ forget ! 0 refl $ free1 ! $ forget ! 0 refl $ free1 ! $ forget ! 0 refl $ free1 ! $
@@ -800,9 +823,12 @@ module _ {M : Type 1} (𝓤 : URA M) (H : Heap 𝓤) (A : Atoms 𝓤) (W : Given
 
       -- what part 1 knows
       abbrev Known₁ : Type 0
-      Known₁ = (l₀ : ℕ) × (l₁ : ℕ) × (l₂ : ℕ) × (l₃ : ℕ) × (l₄ : ℕ) × (l₅ : ℕ) × (l₆ : ℕ) × (l₇ : ℕ) × (l₈ : ℕ) × (l₉ : ℕ) × (l₁₀ : ℕ) ×
-          (l₁₁ : ℕ) × (l₁₂ : ℕ) × (l₁₃ : ℕ) × (l₁₄ : ℕ) × (l₁₅ : ℕ) × (l₁₆ : ℕ) × (l₁₇ : ℕ) × (l₁₈ : ℕ) × (l₁₉ : ℕ) × (l₂₀ : ℕ) ×
-          (l₂₁ : ℕ) × (l₂₂ : ℕ) × (l₂₃ : ℕ) × (l₂₄ : ℕ) × (l₂₅ : ℕ) × (l₂₆ : ℕ) × (l₂₇ : ℕ) × (l₂₈ : ℕ) × (l₂₉ : ℕ) × (l₃₀ : ℕ) ×
+      Known₁ = (l₀ : ℕ) × (l₁ : ℕ) × (l₂ : ℕ) × (l₃ : ℕ) × (l₄ : ℕ) × (l₅ : ℕ) × (l₆ : ℕ) × (l₇ : ℕ) × (l₈ : ℕ) ×
+          (l₉ : ℕ) × (l₁₀ : ℕ) ×
+          (l₁₁ : ℕ) × (l₁₂ : ℕ) × (l₁₃ : ℕ) × (l₁₄ : ℕ) × (l₁₅ : ℕ) × (l₁₆ : ℕ) × (l₁₇ : ℕ) ×
+          (l₁₈ : ℕ) × (l₁₉ : ℕ) × (l₂₀ : ℕ) ×
+          (l₂₁ : ℕ) × (l₂₂ : ℕ) × (l₂₃ : ℕ) × (l₂₄ : ℕ) × (l₂₅ : ℕ) × (l₂₆ : ℕ) × (l₂₇ : ℕ) ×
+          (l₂₈ : ℕ) × (l₂₉ : ℕ) × (l₃₀ : ℕ) ×
           (l₃₁ : ℕ) × (len-queued : length (h .queued) ≡ 128) × (len-outstanding : length (h .outstanding) ≡ 32) ×
           (len-transmissions : length (h .transmissions) ≡ 32) × (len-ready : length (h .ready) ≡ 128) ×
           (len-waiting : length (h .waiting) ≡ 128) × (len-waiting-numbers : length (h .«waiting_numbers») ≡ 128) ×
@@ -837,8 +863,10 @@ module _ {M : Type 1} (𝓤 : URA M) (H : Heap 𝓤) (A : Atoms 𝓤) (W : Given
           (fdies (tyRef erased imm (tyArray (tyInt w32) 128)) (past .26)) ⊛ ‵
           (fdies (tyRef erased imm (tyArray (tyInt w32) 128)) (past .27)) ⊛ ‵ (fdies (tyRef erased mut (tyInt w8)) (past .28)) ⊛ ‵
           (fdies (sliceTy (tyRef erased mut (tyInt w8))) (past .29)) ⊛ ‵ (fdies (tyRef erased mut (tyInt w16)) (past .30)) ⊛ ‵
-          (fdies (sliceTy (tyRef erased mut (tyInt w16))) (past .31))) ∷ ‵ (flft κ₁ q₁) ∷ ‵ (flft κ₂ q₂) ∷ ‵ (flft κ₄ q₄) ∷ ‵ (flft κ₅ q₅)
-          ∷ ‵ (flft κ₆ q₆) ∷ ‵ Own₁ ∷ ‵ Own₂ ∷ ‵ Own₄ ∷ ‵ Own₇ ∷ ‵ Own₈ ∷ ‵ (froom (sliceTy (tyRef erased mut (tyInt w16))) (past .31) 0)
+          (fdies (sliceTy (tyRef erased mut (tyInt w16))) (past .31))) ∷ ‵ (flft κ₁ q₁) ∷ ‵ (flft κ₂ q₂) ∷ ‵ (flft κ₄ q₄)
+          ∷ ‵ (flft κ₅ q₅)
+          ∷ ‵ (flft κ₆ q₆) ∷ ‵ Own₁ ∷ ‵ Own₂ ∷ ‵ Own₄ ∷ ‵ Own₇ ∷ ‵ Own₈
+          ∷ ‵ (froom (sliceTy (tyRef erased mut (tyInt w16))) (past .31) 0)
           ∷ ‵ (froom (tyRef erased mut (tyInt w16)) (past .30) 0) ∷ ‵ (froom (sliceTy (tyRef erased mut (tyInt w8))) (past .29) 0)
           ∷ ‵ (froom (tyRef erased mut (tyInt w8)) (past .28) 0) ∷ ‵ (froom (tyRef erased imm (tyArray (tyInt w32) 128)) (past .27) 0)
           ∷ ‵ (froom (tyRef erased imm (tyArray (tyInt w32) 128)) (past .26) 0)
@@ -967,7 +995,8 @@ module _ {M : Type 1} (𝓤 : URA M) (H : Heap 𝓤) (A : Atoms 𝓤) (W : Given
           lend-shr ! tt fullShare (Array u32 128) (h .waiting) b (o + 1308)
           (λ α-waiting δ-waiting. move ! (20 ∷ []) $
           lend-shr ! tt fullShare (Array u32 128) (h .«waiting_numbers») b (o + 1820)
-          (λ α-waiting-numbers δ-waiting-numbers. move ! (15 ∷ 16 ∷ 12 ∷ 13 ∷ 9 ∷ 10 ∷ 6 ∷ 7 ∷ 3 ∷ 4 ∷ 0 ∷ 1 ∷ 26 ∷ 31 ∷ 27 ∷ 32 ∷ 28
+          (λ α-waiting-numbers δ-waiting-numbers. move ! (15 ∷ 16 ∷ 12 ∷ 13 ∷ 9 ∷ 10 ∷ 6 ∷ 7 ∷ 3 ∷ 4 ∷ 0 ∷ 1 ∷ 26 ∷ 31 ∷ 27
+          ∷ 32 ∷ 28
           ∷ 33 ∷ 29 ∷ 34 ∷ 30 ∷ 35 ∷ []) $ group ! 22 $
           calls-fn ! fm core.ended (core.clauses 𝓤 H A at-mem run) (known .3)
           (to-core α-queued δ-queued (h .queued) α-outstanding δ-outstanding (h .outstanding) α-transmissions δ-transmissions
@@ -991,7 +1020,8 @@ module _ {M : Type 1} (𝓤 : URA M) (H : Heap 𝓤) (A : Atoms 𝓤) (W : Given
           (flft (α-waiting ∷ []) fullShare) ⊛ ‵ (ShrRef (named 0) (α-waiting ∷ []) (Array u32 128) .own
           (ref-at b (o + 1308) δ-waiting (h .waiting)) ((vptr b (o + 1308)) ∷ [])) ⊛ ‵ (flft (α-waiting-numbers ∷ []) fullShare) ⊛ ‵
           (ShrRef (named 0) (α-waiting-numbers ∷ []) (Array u32 128) .own (ref-at b (o + 1820) δ-waiting-numbers (h .«waiting_numbers»))
-          ((vptr b (o + 1820)) ∷ [])) ⊛ ‵ (flft κ₁ q₁) ⊛ ‵ Own₁ ⊛ ‵ (flft κ₂ q₂) ⊛ ‵ Own₂ ⊛ ‵ (flft κ₄ q₄) ⊛ ‵ Own₄ ⊛ ‵ (flft κ₅ q₅) ⊛ ‵
+          ((vptr b (o + 1820)) ∷ [])) ⊛ ‵ (flft κ₁ q₁) ⊛ ‵ Own₁ ⊛ ‵ (flft κ₂ q₂) ⊛ ‵ Own₂ ⊛ ‵ (flft κ₄ q₄) ⊛ ‵
+          Own₄ ⊛ ‵ (flft κ₅ q₅) ⊛ ‵
           Own₇ ⊛ ‵ (flft κ₆ q₆) ⊛ ‵ Own₈)
           (asks-core α-queued δ-queued (h .queued) α-outstanding δ-outstanding (h .outstanding) α-transmissions δ-transmissions
           (h .transmissions) α-ready δ-ready (h .ready) α-waiting δ-waiting (h .waiting) α-waiting-numbers δ-waiting-numbers
@@ -1041,8 +1071,10 @@ module _ {M : Type 1} (𝓤 : URA M) (H : Heap 𝓤) (A : Atoms 𝓤) (W : Given
           (feq ℕ (length (ws-a .1 .1 .1 .1 .1 .1 .1 .1 .1 .1 .1 .1 .1 .1 .1 .1 .1 .0)) (length (x₇ .now))))
           ∷ ‵ (fsep (finally u16 (x₈ .name) (ws-a .1 .1 .1 .1 .1 .1 .1 .1 .1 .1 .1 .1 .1 .1 .1 .1 .1 .1 .0))
           (feq ℕ (length (ws-a .1 .1 .1 .1 .1 .1 .1 .1 .1 .1 .1 .1 .1 .1 .1 .1 .1 .1 .0)) (length (x₈ .now)))) ∷ ‵ ftrue ∷ [])
-          (id⊢ 𝓤 _) $ keep ! (7 ∷ 8 ∷ 9 ∷ 17 ∷ 18 ∷ 20 ∷ 21 ∷ 22 ∷ 23 ∷ 24 ∷ 25 ∷ 26 ∷ 27 ∷ 28 ∷ 29 ∷ 30 ∷ 32 ∷ 33 ∷ 34 ∷ 35 ∷ 36 ∷ 37
-          ∷ 38 ∷ 39 ∷ 40 ∷ 41 ∷ 42 ∷ 43 ∷ 44 ∷ 45 ∷ 46 ∷ 47 ∷ 48 ∷ 49 ∷ 50 ∷ 51 ∷ 52 ∷ 53 ∷ 54 ∷ 55 ∷ 56 ∷ 57 ∷ 58 ∷ 59 ∷ 60 ∷ 61 ∷ 62
+          (id⊢ 𝓤 _) $ keep ! (7 ∷ 8 ∷ 9 ∷ 17 ∷ 18 ∷ 20 ∷ 21 ∷ 22 ∷ 23 ∷ 24 ∷ 25 ∷ 26 ∷ 27 ∷ 28 ∷ 29 ∷ 30 ∷ 32 ∷ 33 ∷ 34
+          ∷ 35 ∷ 36 ∷ 37
+          ∷ 38 ∷ 39 ∷ 40 ∷ 41 ∷ 42 ∷ 43 ∷ 44 ∷ 45 ∷ 46 ∷ 47 ∷ 48 ∷ 49 ∷ 50 ∷ 51 ∷ 52 ∷ 53 ∷ 54 ∷ 55 ∷ 56 ∷ 57 ∷ 58
+          ∷ 59 ∷ 60 ∷ 61 ∷ 62
           ∷ 63 ∷ 64 ∷ 65 ∷ 66 ∷ 67 ∷ 68 ∷ 69 ∷ 70 ∷ 71 ∷ 72 ∷ 73 ∷ 74 ∷ 75 ∷ 76 ∷ 77 ∷ []) $ move ! (3 ∷ []) $ fsplit ! $
           move ! (1 ∷ []) $ feqL ! (λ len₇. move ! (4 ∷ []) $ fsplit ! $ move ! (1 ∷ []) $ feqL ! (λ len₈.
           -- [fin8; fin7; fin:queued; fin:outstanding; fin:transmissions; tok:queued; tok:outstanding; tok:transmissions; tok:ready;
@@ -1110,10 +1142,12 @@ module _ {M : Type 1} (𝓤 : URA M) (H : Heap 𝓤) (A : Atoms 𝓤) (W : Given
             len₈,
           )))))))))))
 
-      walk : ent 𝓤 (onEntry 𝓤 H A f.signature (κ₀, (κ₁, (κ₂, (κ₃, (κ₄, (κ₅, (κ₆, tt))))))) (q₀, (q₁, (q₂, (q₃, (q₄, (q₅, (q₆, tt))))))) x
+      walk : ent 𝓤 (onEntry 𝓤 H A f.signature (κ₀, (κ₁, (κ₂, (κ₃, (κ₄, (κ₅, (κ₆, tt)))))))
+          (q₀, (q₁, (q₂, (q₃, (q₄, (q₅, (q₆, tt))))))) x
           at) (WpFn 𝓤 H C Λ code.function (vptr b o ∷ s₁ ∷ s₂ ∷ s₃ ∷ s₄ ∷ v₅ ∷ v₆ ∷ s₇ ∷ s₈ ∷ []) Post)
       walk =
-          qed W ((‵ (flft κ₀ q₀) ⊛ ‵ (flft κ₁ q₁) ⊛ ‵ (flft κ₂ q₂) ⊛ ‵ (flft κ₃ q₃) ⊛ ‵ (flft κ₄ q₄) ⊛ ‵ (flft κ₅ q₅) ⊛ ‵ (flft κ₆ q₆) ⊛ ‵
+          qed W ((‵ (flft κ₀ q₀) ⊛ ‵ (flft κ₁ q₁) ⊛ ‵ (flft κ₂ q₂) ⊛ ‵ (flft κ₃ q₃) ⊛ ‵ (flft κ₄ q₄) ⊛ ‵
+          (flft κ₅ q₅) ⊛ ‵ (flft κ₆ q₆) ⊛ ‵
           ftrue) ∷ ‵ (owns (MutRef (named 0) κ₀ L ∷ ShrSlice (named 1) κ₁ u8 ∷ ShrSlice (named 2) κ₂ u8 ∷ ShrSlice (named 3) κ₃ R
           ∷ ShrSlice (named 4) κ₄ u32 ∷ Boolean ∷ u32 ∷ MutSlice (named 5) κ₅ u8 ∷ MutSlice (named 6) κ₆ u16 ∷ []) x at) ∷ []) ∵
           enter ! C Λ code.function (vptr b o ∷ s₁ ∷ s₂ ∷ s₃ ∷ s₄ ∷ v₅ ∷ v₆ ∷ s₇ ∷ s₈ ∷ []) _ $
@@ -1140,12 +1174,17 @@ module _ {M : Type 1} (𝓤 : URA M) (H : Heap 𝓤) (A : Atoms 𝓤) (W : Given
           ∷ ‵ (ShrSlice (named 3) κ₃ R .own (x₃) (s₃ ∷ [])) ∷ ‵ (ShrSlice (named 4) κ₄ u32 .own (x₄) (s₄ ∷ []))
           ∷ ‵ (Boolean .own (x₅) (v₅ ∷ [])) ∷ ‵ (u32 .own (x₆) (v₆ ∷ [])) ∷ ‵ (MutSlice (named 5) κ₅ u8 .own (x₇) (s₇ ∷ []))
           ∷ ‵ (MutSlice (named 6) κ₆ u16 .own (x₈) (s₈ ∷ [])) ∷ ‵ ftrue ∷ []) (id⊢ 𝓤 _) $ move ! (74 ∷ []) $
-          spread W (‵ (flft κ₀ q₀)) (‵ (flft κ₁ q₁) ∷ ‵ (flft κ₂ q₂) ∷ ‵ (flft κ₃ q₃) ∷ ‵ (flft κ₄ q₄) ∷ ‵ (flft κ₅ q₅) ∷ ‵ (flft κ₆ q₆)
-          ∷ ‵ ftrue ∷ []) (id⊢ 𝓤 _) $ keep ! (0 ∷ 1 ∷ 2 ∷ 3 ∷ 4 ∷ 5 ∷ 6 ∷ 8 ∷ 9 ∷ 10 ∷ 11 ∷ 12 ∷ 15 ∷ 16 ∷ 18 ∷ 19 ∷ 20 ∷ 21 ∷ 22 ∷ 23
-          ∷ 24 ∷ 25 ∷ 26 ∷ 27 ∷ 28 ∷ 29 ∷ 30 ∷ 31 ∷ 32 ∷ 33 ∷ 34 ∷ 35 ∷ 36 ∷ 37 ∷ 38 ∷ 39 ∷ 40 ∷ 41 ∷ 42 ∷ 43 ∷ 44 ∷ 45 ∷ 46 ∷ 47 ∷ 48
-          ∷ 49 ∷ 50 ∷ 51 ∷ 52 ∷ 53 ∷ 54 ∷ 55 ∷ 56 ∷ 57 ∷ 58 ∷ 59 ∷ 60 ∷ 61 ∷ 62 ∷ 63 ∷ 64 ∷ 65 ∷ 66 ∷ 67 ∷ 68 ∷ 69 ∷ 70 ∷ 71 ∷ 72 ∷ 73
+          spread W (‵ (flft κ₀ q₀)) (‵ (flft κ₁ q₁) ∷ ‵ (flft κ₂ q₂) ∷ ‵ (flft κ₃ q₃) ∷ ‵ (flft κ₄ q₄)
+          ∷ ‵ (flft κ₅ q₅) ∷ ‵ (flft κ₆ q₆)
+          ∷ ‵ ftrue ∷ []) (id⊢ 𝓤 _) $ keep ! (0 ∷ 1 ∷ 2 ∷ 3 ∷ 4 ∷ 5 ∷ 6 ∷ 8 ∷ 9 ∷ 10 ∷ 11 ∷ 12 ∷ 15 ∷ 16 ∷ 18 ∷ 19
+          ∷ 20 ∷ 21 ∷ 22 ∷ 23
+          ∷ 24 ∷ 25 ∷ 26 ∷ 27 ∷ 28 ∷ 29 ∷ 30 ∷ 31 ∷ 32 ∷ 33 ∷ 34 ∷ 35 ∷ 36 ∷ 37 ∷ 38 ∷ 39 ∷ 40 ∷ 41 ∷ 42 ∷ 43 ∷ 44
+          ∷ 45 ∷ 46 ∷ 47 ∷ 48
+          ∷ 49 ∷ 50 ∷ 51 ∷ 52 ∷ 53 ∷ 54 ∷ 55 ∷ 56 ∷ 57 ∷ 58 ∷ 59 ∷ 60 ∷ 61 ∷ 62 ∷ 63 ∷ 64 ∷ 65 ∷ 66 ∷ 67 ∷ 68 ∷ 69
+          ∷ 70 ∷ 71 ∷ 72 ∷ 73
           ∷ 74 ∷ 75 ∷ 76 ∷ 77 ∷ 78 ∷ 79 ∷ 80 ∷ 81 ∷ []) $
-          move ! (77 ∷ 75 ∷ 73 ∷ 71 ∷ 69 ∷ 67 ∷ 65 ∷ 63 ∷ 61 ∷ 59 ∷ 57 ∷ 55 ∷ 53 ∷ 51 ∷ 49 ∷ 47 ∷ 45 ∷ 43 ∷ 41 ∷ 39 ∷ 37 ∷ 35 ∷ 33 ∷ 31
+          move ! (77 ∷ 75 ∷ 73 ∷ 71 ∷ 69 ∷ 67 ∷ 65 ∷ 63 ∷ 61 ∷ 59 ∷ 57 ∷ 55 ∷ 53 ∷ 51 ∷ 49 ∷ 47 ∷ 45 ∷ 43 ∷ 41 ∷ 39 ∷ 37
+          ∷ 35 ∷ 33 ∷ 31
           ∷ 29 ∷ 27 ∷ 25 ∷ 23 ∷ 21 ∷ 19 ∷ 17 ∷ 15 ∷ []) $ group ! 32 $
           -- [deaths; tok0; tok1; tok2; tok3; tok4; tok7; tok8; own0; own1; own2; own3; own4; own7; own8; the locals]
           move ! (8 ∷ 1 ∷ []) $ opens-link b o γ ! tt h $
@@ -1223,8 +1262,10 @@ module _ {M : Type 1} (𝓤 : URA M) (H : Heap 𝓤) (A : Atoms 𝓤) (W : Given
           (λ recs w-recs ws-recs e-recs is-recs. land ! (from ! (stop !)) (init ! 41 refl (rs-typed 𝓤 H A W recs is-recs)) $
           spread W (‵ (flft κ₃ q₃)) (‵ ftrue ∷ []) (id⊢ 𝓤 _) $ move ! (2 ∷ []) $
           spread W (‵ ftrue) (‵ ftrue ∷ ‵ ftrue ∷ ‵ ftrue ∷ []) (id⊢ 𝓤 _) $
-          keep ! (4 ∷ 6 ∷ 7 ∷ 8 ∷ 9 ∷ 10 ∷ 11 ∷ 12 ∷ 13 ∷ 14 ∷ 15 ∷ 16 ∷ 17 ∷ 18 ∷ 19 ∷ 20 ∷ 21 ∷ 22 ∷ 23 ∷ 24 ∷ 25 ∷ 26 ∷ 27 ∷ 28 ∷ 29
-          ∷ 30 ∷ 31 ∷ 32 ∷ 33 ∷ 34 ∷ 35 ∷ 36 ∷ 37 ∷ 38 ∷ 39 ∷ 40 ∷ 41 ∷ 42 ∷ 43 ∷ 44 ∷ 45 ∷ 46 ∷ 47 ∷ 48 ∷ 49 ∷ 50 ∷ 51 ∷ 52 ∷ 53 ∷ 54
+          keep ! (4 ∷ 6 ∷ 7 ∷ 8 ∷ 9 ∷ 10 ∷ 11 ∷ 12 ∷ 13 ∷ 14 ∷ 15 ∷ 16 ∷ 17 ∷ 18 ∷ 19 ∷ 20 ∷ 21 ∷ 22 ∷ 23 ∷ 24 ∷ 25
+          ∷ 26 ∷ 27 ∷ 28 ∷ 29
+          ∷ 30 ∷ 31 ∷ 32 ∷ 33 ∷ 34 ∷ 35 ∷ 36 ∷ 37 ∷ 38 ∷ 39 ∷ 40 ∷ 41 ∷ 42 ∷ 43 ∷ 44 ∷ 45 ∷ 46 ∷ 47 ∷ 48 ∷ 49 ∷ 50
+          ∷ 51 ∷ 52 ∷ 53 ∷ 54
           ∷ 55 ∷ 56 ∷ 57 ∷ 58 ∷ 59 ∷ 60 ∷ 61 ∷ []) $
           -- [tok3; own3; F:outstanding; F:clock; F:arrival; F:flight; F:settings; F:«waiting_numbers»; F:waiting; F:ready; F:transmissions;
           -- F:queued; back; opened; deaths; tok1; tok2; tok4; tok7; tok8; own1; own2; own4; own7; own8; the locals]
@@ -1234,8 +1275,10 @@ module _ {M : Type 1} (𝓤 : URA M) (H : Heap 𝓤) (A : Atoms 𝓤) (W : Given
           (and-then ! (load ! (from ! (stop !)) (look ! 51 refl)) (no-more !))
           (λ m w-m ws-m e-m is-m. land ! (from ! (stop !)) (init ! 39 refl (uint-lawful 𝓤 H A W w64 .typed m _ is-m .0)) $
           spread W (‵ (flft κ₃ q₃)) (‵ ftrue ∷ []) (id⊢ 𝓤 _) $ move ! (2 ∷ []) $ spread W (‵ ftrue) (‵ ftrue ∷ []) (id⊢ 𝓤 _) $
-          keep ! (2 ∷ 4 ∷ 5 ∷ 6 ∷ 7 ∷ 8 ∷ 9 ∷ 10 ∷ 11 ∷ 12 ∷ 13 ∷ 14 ∷ 15 ∷ 16 ∷ 17 ∷ 18 ∷ 19 ∷ 20 ∷ 21 ∷ 22 ∷ 23 ∷ 24 ∷ 25 ∷ 26 ∷ 27
-          ∷ 28 ∷ 29 ∷ 30 ∷ 31 ∷ 32 ∷ 33 ∷ 34 ∷ 35 ∷ 36 ∷ 37 ∷ 38 ∷ 39 ∷ 40 ∷ 41 ∷ 42 ∷ 43 ∷ 44 ∷ 45 ∷ 46 ∷ 47 ∷ 48 ∷ 49 ∷ 50 ∷ 51 ∷ 52
+          keep ! (2 ∷ 4 ∷ 5 ∷ 6 ∷ 7 ∷ 8 ∷ 9 ∷ 10 ∷ 11 ∷ 12 ∷ 13 ∷ 14 ∷ 15 ∷ 16 ∷ 17 ∷ 18 ∷ 19 ∷ 20 ∷ 21 ∷ 22 ∷ 23 ∷ 24
+          ∷ 25 ∷ 26 ∷ 27
+          ∷ 28 ∷ 29 ∷ 30 ∷ 31 ∷ 32 ∷ 33 ∷ 34 ∷ 35 ∷ 36 ∷ 37 ∷ 38 ∷ 39 ∷ 40 ∷ 41 ∷ 42 ∷ 43 ∷ 44 ∷ 45 ∷ 46 ∷ 47 ∷ 48
+          ∷ 49 ∷ 50 ∷ 51 ∷ 52
           ∷ 53 ∷ 54 ∷ 55 ∷ 56 ∷ 57 ∷ 58 ∷ []) $
           -- [tok3; F:outstanding; F:clock; F:arrival; F:flight; F:settings; F:«waiting_numbers»; F:waiting; F:ready; F:transmissions;
           -- F:queued; back; opened; deaths; tok1; tok2; tok4; tok7; tok8; own1; own2; own4; own7; own8; the locals]
@@ -1295,7 +1338,8 @@ module _ {M : Type 1} (𝓤 : URA M) (H : Heap 𝓤) (A : Atoms 𝓤) (W : Given
             is-m,
           ))))))))))))))))))))))))))))))))))))))))))))))))
 
-  f-meets : (𝓣 : Tables 𝓤 H) → Known (𝓣 .C) → Meets 𝓤 H A f.signature (WpFn 𝓤 H (𝓣 .C) (𝓣 .Λ) code.function) (f.spec 𝓤 H A at-mem run)
+  f-meets : (𝓣 : Tables 𝓤 H) → Known (𝓣 .C)
+      → Meets 𝓤 H A f.signature (WpFn 𝓤 H (𝓣 .C) (𝓣 .Λ) code.function) (f.spec 𝓤 H A at-mem run)
   unfolding Post
   f-meets 𝓣 known = walk-meets 𝓤 H A f.ended stayed W (
     goes-ref 𝓤 H A W 7 0 tt (plain (λ _. L)),
@@ -1372,13 +1416,17 @@ write-out-spec 𝓤 H 𝓜 𝓖 𝓡 =
           count-of-def.routine code.calls-results·outstanding-count (count-of-thm.met 𝓤 H 𝓜 𝓖 𝓡),
       cited 𝓤 H (tripleOf 𝓤 H (𝓖 .A) gather.signature (gather.spec 𝓤 H (𝓖 .A) (𝓜 .mem) (𝓡 .run))) 𝓜 𝓡 code.env gather-def.name
           gather-def.routine code.calls-gathering·gather (gather-thm.met 𝓤 H 𝓜 𝓖 𝓡),
-      cited 𝓤 H (tripleOf 𝓤 H (𝓖 .A) table-len.signature (table-len.spec 𝓤 H (𝓖 .A) (𝓜 .mem) (𝓡 .run))) 𝓜 𝓡 code.env table-len-def.name
+      cited 𝓤 H (tripleOf 𝓤 H (𝓖 .A) table-len.signature (table-len.spec 𝓤 H (𝓖 .A) (𝓜 .mem) (𝓡 .run))) 𝓜 𝓡 code.env
+          table-len-def.name
           table-len-def.routine code.calls-records·table-len (table-len-thm.met 𝓤 H 𝓜 𝓖 𝓡),
-      cited 𝓤 H (tripleOf 𝓤 H (𝓖 .A) core.signature (core.spec 𝓤 H (𝓖 .A) (𝓜 .mem) (𝓡 .run))) 𝓜 𝓡 code.env core-def.name core-def.routine
+      cited 𝓤 H (tripleOf 𝓤 H (𝓖 .A) core.signature (core.spec 𝓤 H (𝓖 .A) (𝓜 .mem) (𝓡 .run))) 𝓜 𝓡 code.env core-def.name
+          core-def.routine
           code.calls-flush-core·flush (core-thm.met 𝓤 H 𝓜 𝓖 𝓡),
-      cited 𝓤 H (tripleOf 𝓤 H (𝓖 .A) flight-of.signature (flight-of.spec 𝓤 H (𝓖 .A) (𝓜 .mem) (𝓡 .run))) 𝓜 𝓡 code.env flight-of-def.name
+      cited 𝓤 H (tripleOf 𝓤 H (𝓖 .A) flight-of.signature (flight-of.spec 𝓤 H (𝓖 .A) (𝓜 .mem) (𝓡 .run))) 𝓜 𝓡 code.env
+          flight-of-def.name
           flight-of-def.routine code.calls-results·flushed-flight (flight-of-thm.met 𝓤 H 𝓜 𝓖 𝓡),
-      cited 𝓤 H (tripleOf 𝓤 H (𝓖 .A) arrival-of.signature (arrival-of.spec 𝓤 H (𝓖 .A) (𝓜 .mem) (𝓡 .run))) 𝓜 𝓡 code.env arrival-of-def.name
+      cited 𝓤 H (tripleOf 𝓤 H (𝓖 .A) arrival-of.signature (arrival-of.spec 𝓤 H (𝓖 .A) (𝓜 .mem) (𝓡 .run))) 𝓜 𝓡 code.env
+          arrival-of-def.name
           arrival-of-def.routine code.calls-results·flushed-arrival (arrival-of-thm.met 𝓤 H 𝓜 𝓖 𝓡),
       cited 𝓤 H (tripleOf 𝓤 H (𝓖 .A) clock-of.signature (clock-of.spec 𝓤 H (𝓖 .A) (𝓜 .mem) (𝓡 .run))) 𝓜 𝓡 code.env clock-of-def.name
           clock-of-def.routine code.calls-results·flushed-clock (clock-of-thm.met 𝓤 H 𝓜 𝓖 𝓡),
