@@ -4,7 +4,8 @@
 #   fin2           the last value of parameter 2             shown2, btok2, blent2   a `&mut [T]` parameter that is lent as `&[T]`
 #   F:f, C:f       field f of the block in memory, and its cell
 #   tok:f, own:f, lent:f, fin:f   a lent field: token, what the reference owns, what comes back, its last value
-#   @4             an array in local 4, lent as a field is: F:@4 and so on while it is, L4 before and after
+#   @4             the array in local 4, lent as a field is: F:@4 and so on while it is, L4 before and after. A walk lends one such array,
+#                  and calls it `local`
 # The check of one declaration has a limit of steps, so a walk is cut into parts: `cut` ends one, and the next begins with the context written out.
 import re
 
@@ -33,7 +34,7 @@ def at(base, i):
 
 
 def hyphened(name):
-    return name.strip('«»').replace('_', '-').replace('@', 'local')
+    return re.sub(r'@\d+', 'local', name.strip('«»').replace('_', '-'))
 
 
 class Par:
@@ -299,6 +300,7 @@ class Walk:
         """The array in a local may be lent from here on: its value, and that the machine value is its."""
         f = f'@{local}'
         if f not in self.arrays:
+            assert not self.arrays, 'one array in a local'
             self.arrays[f], self.now[f], self.was[f] = t, x, g
         return f
 
@@ -525,6 +527,8 @@ class Walk:
         for f, now in self.now.items():
             if now.startswith('(ws-'):
                 new = f'z-{hyphened(f)}'
+                while new in passed:
+                    new += '′'
                 self.rename(now, new)
                 self.scope.insert(0, (new, 'List ℕ'))
                 self.now[f], passed[new] = new, now
