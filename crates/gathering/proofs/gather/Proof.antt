@@ -1,6 +1,6 @@
--- `gather` meets its contract: a walk of its MIR, by hand, with a loop. Each turn reads a word in place (`Elements.antt`), and calls `reach`,
--- `read` with a copy of the `&`, and `put` with the array lent again. The array's borrow is opened before the loop and closed behind it. The
--- loop's invariant: the records of the first i slots are gathered.
+-- `gather` meets its contract: a walk of its MIR, by hand, with a loop. Each turn reads a word in place (`Elements.antt`), and calls
+-- `reach`, `read` with a copy of the `&`, and `put` with the array lent again. The array's borrow is opened before the loop and closed
+-- behind it. The loop's invariant: the records of the first i slots are gathered.
 -- Assumes nothing.
 use Rattle.records.proofs.Walk.{
   _≡_,
@@ -20,7 +20,6 @@ use Rattle.records.proofs.Walk.{
   length,
   getD,
   set,
-  length-set,
   URA,
   fullShare,
   named,
@@ -36,9 +35,6 @@ use Rattle.records.proofs.Walk.{
   vbool,
   SProp,
   ent,
-  emp,
-  via,
-  fst∗,
   id⊢,
   Lft,
   GName,
@@ -64,8 +60,6 @@ use Rattle.records.proofs.Walk.{
   Given,
   Item,
   ‵,
-  some,
-  later,
   _⊛_,
   ⋆,
   _$_,
@@ -77,38 +71,28 @@ use Rattle.records.proofs.Walk.{
   keep,
   drop,
   use1,
-  use2,
-  use3,
   split,
   join,
-  pick,
   rewrite,
   fsplit,
   fjoin,
-  feqL,
   feqI,
   suffices,
   frame,
-  await,
   done,
-  agg,
   whole,
-  sub,
   look-in,
-  store-in,
   look,
   init,
   store,
   forget,
   stop,
   hop,
-  fld,
   from,
   load,
   lit,
   unit-lit,
   of-opd,
-  un,
   bin,
   addr,
   and-then,
@@ -138,11 +122,9 @@ use Rattle.records.proofs.Walk.{
   uint-makes,
   RefT,
   sliceVal,
-  MutSlice,
   ShrSlice,
   Room,
   slice-vals,
-  mut-slice-tells,
   shr-slice-tells,
   u32,
   usize,
@@ -159,8 +141,6 @@ use Rattle.records.proofs.Walk.{
   says,
   needs,
   Stays,
-  stay-slice,
-  goes-slice,
   walkOf,
   ends-at,
   walked,
@@ -332,7 +312,8 @@ module _ {M : Type 1} (𝓤 : URA M) (H : Heap 𝓤) (A : Atoms 𝓤) (W : Given
       Nearer-wf : WellFounded Nearer
       Nearer-wf = InvImage·wf (λ (t : At). n - t .0) (Nat·lt-wfRel .wf)
 
-      module _ (𝓣 : Tables 𝓤 H) (known : Known (𝓣 .C)) (l₀ l₁ l₂ l₃ l₄ l₅ l₆ l₇ l₈ l₉ l₁₀ l₁₁ l₁₂ l₁₃ l₁₄ l₁₅ l₁₆ l₁₇ : ℕ) where
+      module _ (𝓣 : Tables 𝓤 H) (known : Known (𝓣 .C))
+          (l₀ l₁ l₂ l₃ l₄ l₅ l₆ l₇ l₈ l₉ l₁₀ l₁₁ l₁₂ l₁₃ l₁₄ l₁₅ l₁₆ l₁₇ : ℕ) where
         abbrev C : Calls 𝓤 H
         C = 𝓣 .C
 
@@ -352,20 +333,21 @@ module _ {M : Type 1} (𝓤 : URA M) (H : Heap 𝓤) (A : Atoms 𝓤) (W : Given
         lent-ty = tyRef erased mut (tyArray (tyInt w32) 128)
 
         abbrev En : Env 𝓤 H
-        En = envOf (code.function .locals) (l₀ ∷ l₁ ∷ l₂ ∷ l₃ ∷ l₄ ∷ l₅ ∷ l₆ ∷ l₇ ∷ l₈ ∷ l₉ ∷ l₁₀ ∷ l₁₁ ∷ l₁₂ ∷ l₁₃ ∷ l₁₄ ∷ l₁₅ ∷ l₁₆
-            ∷ l₁₇ ∷ [])
+        En = envOf (code.function .locals) (l₀ ∷ l₁ ∷ l₂ ∷ l₃ ∷ l₄ ∷ l₅ ∷ l₆ ∷ l₇ ∷ l₈ ∷ l₉ ∷ l₁₀ ∷ l₁₁
+            ∷ l₁₂ ∷ l₁₃ ∷ l₁₄ ∷ l₁₅ ∷ l₁₆ ∷ l₁₇ ∷ [])
 
         abbrev Inv : At → List (Item 𝓤)
         Inv t = ‵ Own ∷ ‵ (flft κ q) ∷ ‵ (partAt Ns fullShare (t .1) b′ o′) ∷ ‵ Opened ∷ ‵ (froom lent-ty l₁₇ 0)
             ∷ ‵ (fdies lent-ty l₁₇) ∷ ‵ (froom tyUnit l₁₆ 0) ∷ ‵ (fdies tyUnit l₁₆) ∷ ‵ (froom (tyInt w32) l₁₅ 0)
-            ∷ ‵ (fdies (tyInt w32) l₁₅) ∷ ‵ (froom tyPtr l₁₄ 0) ∷ ‵ (fdies tyPtr l₁₄) ∷ ‵ (froom tyPtr l₁₃ 0) ∷ ‵ (fdies tyPtr l₁₃)
-            ∷ ‵ (froom word l₁₂ 0) ∷ ‵ (fdies word l₁₂) ∷ ‵ (froom tyBool l₁₁ 0) ∷ ‵ (fdies tyBool l₁₁) ∷ ‵ (froom T′.mir l₁₀ 0)
-            ∷ ‵ (fdies T′.mir l₁₀) ∷ ‵ (froom word l₉ 0) ∷ ‵ (fdies word l₉) ∷ ‵ (froom (tyInt w32) l₈ 0) ∷ ‵ (fdies (tyInt w32) l₈)
-            ∷ ‵ (fat fullShare word l₇ 0 (vint w64 (t .0))) ∷ ‵ (fdies word l₇) ∷ ‵ (fat fullShare word l₆ 0 (vint w64 n))
-            ∷ ‵ (fdies word l₆) ∷ ‵ (fat fullShare words-ty l₅ 0 (arrayVal us)) ∷ ‵ (fdies words-ty l₅)
-            ∷ ‵ (fat fullShare ref-ty l₄ 0 (vptr b′ o′)) ∷ ‵ (fdies ref-ty l₄) ∷ ‵ (fat fullShare word l₃ 0 nv) ∷ ‵ (fdies word l₃)
-            ∷ ‵ (fat fullShare words-ty l₂ 0 wv) ∷ ‵ (fdies words-ty l₂) ∷ ‵ (fat fullShare slice l₁ 0 s) ∷ ‵ (fdies slice l₁)
-            ∷ ‵ (froom tyUnit l₀ 0) ∷ ‵ (fdies tyUnit l₀) ∷ []
+            ∷ ‵ (fdies (tyInt w32) l₁₅) ∷ ‵ (froom tyPtr l₁₄ 0) ∷ ‵ (fdies tyPtr l₁₄) ∷ ‵ (froom tyPtr l₁₃ 0)
+            ∷ ‵ (fdies tyPtr l₁₃) ∷ ‵ (froom word l₁₂ 0) ∷ ‵ (fdies word l₁₂) ∷ ‵ (froom tyBool l₁₁ 0)
+            ∷ ‵ (fdies tyBool l₁₁) ∷ ‵ (froom T′.mir l₁₀ 0) ∷ ‵ (fdies T′.mir l₁₀) ∷ ‵ (froom word l₉ 0)
+            ∷ ‵ (fdies word l₉) ∷ ‵ (froom (tyInt w32) l₈ 0) ∷ ‵ (fdies (tyInt w32) l₈) ∷ ‵ (fat fullShare word l₇ 0 (vint w64 (t .0)))
+            ∷ ‵ (fdies word l₇) ∷ ‵ (fat fullShare word l₆ 0 (vint w64 n)) ∷ ‵ (fdies word l₆)
+            ∷ ‵ (fat fullShare words-ty l₅ 0 (arrayVal us)) ∷ ‵ (fdies words-ty l₅) ∷ ‵ (fat fullShare ref-ty l₄ 0 (vptr b′ o′))
+            ∷ ‵ (fdies ref-ty l₄) ∷ ‵ (fat fullShare word l₃ 0 nv) ∷ ‵ (fdies word l₃) ∷ ‵ (fat fullShare words-ty l₂ 0 wv)
+            ∷ ‵ (fdies words-ty l₂) ∷ ‵ (fat fullShare slice l₁ 0 s) ∷ ‵ (fdies slice l₁) ∷ ‵ (froom tyUnit l₀ 0)
+            ∷ ‵ (fdies tyUnit l₀) ∷ []
 
         abbrev Turned : At → Out → SProp 𝓤
         Turned t = afterTurn 𝓤 H (Below 𝓤 H A Nearer Inv t)
@@ -423,7 +405,8 @@ module _ {M : Type 1} (𝓤 : URA M) (H : Heap 𝓤) (A : Atoms 𝓤) (W : Given
             back-mut ! tt Ns b′ o′ (xs .0) $ move ! (1 ∷ 2 ∷ []) $ drop ! $ drop ! $ move ! (1 ∷ 2 ∷ 0 ∷ []) $
             assigns-last ! (bin ! (load ! (from ! (stop !)) (look ! 24 refl)) (lit ! tt) (record { fits = next })) (from ! (stop !))
             (store ! 24 refl (tt, record { fits = next })) $
-            forget ! 4 refl $ forget ! 6 refl $ forget ! 8 refl $ forget ! 10 refl $ forget ! 12 refl $ forget ! 14 refl $ forget ! 16 refl $ forget ! 18 refl $ forget ! 20 refl $ forget ! 22 refl $
+            forget ! 4 refl $ forget ! 6 refl $ forget ! 8 refl $ forget ! 10 refl $ forget ! 12 refl $ forget ! 14 refl $
+            forget ! 16 refl $ forget ! 18 refl $ forget ! 20 refl $ forget ! 22 refl $
             again ! Nearer Inv t (
               t .0 + 1,
               xs .0,
@@ -459,8 +442,14 @@ module _ {M : Type 1} (𝓤 : URA M) (H : Heap 𝓤) (A : Atoms 𝓤) (W : Given
             move ! (3 ∷ []) $ fsplit ! $ fsplit ! $ move ! (5 ∷ 0 ∷ 1 ∷ 2 ∷ []) $ close-ref ! tt (lying Ns) (t .1) {b = b′} {o = o′} $
             feqI ! (List Val) (vptr b′ o′ ∷ []) (vptr b′ o′ ∷ []) refl $ fjoin3 ! $
             assigns ! (of-opd ! (unit-lit !)) (from ! (stop !)) (init ! 38 refl (tt, tt)) $
-            returns ! (look ! 38 refl) $ forget ! 16 refl $ forget ! 24 refl $ forget ! 26 refl $ forget ! 28 refl $ forget ! 30 refl $ forget ! 32 refl $ forget ! 34 refl $ forget ! 36 refl $ forget ! 38 refl $
-            move ! (38 ∷ 39 ∷ []) $ free1 ! $ move ! (36 ∷ 37 ∷ []) $ free1 ! $ move ! (34 ∷ 35 ∷ []) $ free1 ! $ move ! (32 ∷ 33 ∷ []) $ free1 ! $ move ! (30 ∷ 31 ∷ []) $ free1 ! $ move ! (28 ∷ 29 ∷ []) $ free1 ! $ move ! (26 ∷ 27 ∷ []) $ free1 ! $ move ! (24 ∷ 25 ∷ []) $ free1 ! $ move ! (22 ∷ 23 ∷ []) $ free1 ! $ move ! (20 ∷ 21 ∷ []) $ free1 ! $ move ! (18 ∷ 19 ∷ []) $ free1 ! $ move ! (16 ∷ 17 ∷ []) $ free1 ! $ move ! (14 ∷ 15 ∷ []) $ free1 ! $ move ! (12 ∷ 13 ∷ []) $ free1 ! $ move ! (10 ∷ 11 ∷ []) $ free1 ! $ move ! (8 ∷ 9 ∷ []) $ free1 ! $ move ! (6 ∷ 7 ∷ []) $ free1 ! $ move ! (4 ∷ 5 ∷ []) $ free1 ! $ free0 ! $ keep ! (0 ∷ 1 ∷ 3 ∷ []) $
+            returns ! (look ! 38 refl) $ forget ! 16 refl $ forget ! 24 refl $ forget ! 26 refl $ forget ! 28 refl $ forget ! 30 refl $
+            forget ! 32 refl $ forget ! 34 refl $ forget ! 36 refl $ forget ! 38 refl $
+            move ! (38 ∷ 39 ∷ []) $ free1 ! $ move ! (36 ∷ 37 ∷ []) $ free1 ! $ move ! (34 ∷ 35 ∷ []) $ free1 ! $ move ! (32 ∷ 33 ∷ []) $
+            free1 ! $ move ! (30 ∷ 31 ∷ []) $ free1 ! $ move ! (28 ∷ 29 ∷ []) $ free1 ! $ move ! (26 ∷ 27 ∷ []) $ free1 ! $
+            move ! (24 ∷ 25 ∷ []) $ free1 ! $ move ! (22 ∷ 23 ∷ []) $ free1 ! $ move ! (20 ∷ 21 ∷ []) $ free1 ! $ move ! (18 ∷ 19 ∷ []) $
+            free1 ! $ move ! (16 ∷ 17 ∷ []) $ free1 ! $ move ! (14 ∷ 15 ∷ []) $ free1 ! $ move ! (12 ∷ 13 ∷ []) $ free1 ! $
+            move ! (10 ∷ 11 ∷ []) $ free1 ! $ move ! (8 ∷ 9 ∷ []) $ free1 ! $ move ! (6 ∷ 7 ∷ []) $ free1 ! $ move ! (4 ∷ 5 ∷ []) $
+            free1 ! $ free0 ! $ keep ! (0 ∷ 1 ∷ 3 ∷ []) $
             by ! (exits (t .1) (t .3) (gathers-all (take sendSlots ys) (recordsIn (t .1)) slots (t .0) past (t .4)))
           where
             past : length slots ≤ t .0
@@ -485,7 +474,9 @@ module _ {M : Type 1} (𝓤 : URA M) (H : Heap 𝓤) (A : Atoms 𝓤) (W : Given
         qed W ((‵ (flft κ q) ⊛ ‵ (flft κ′ q′) ⊛ ‵ ftrue)
         ∷ ‵ (owns (ShrSlice (named 0) κ R ∷ Ws ∷ usize ∷ MutRef (named 1) κ′ Ns ∷ []) x at) ∷ []) ∵
         enter ! (𝓣 .C) (𝓣 .Λ) code.function (s ∷ wv ∷ nv ∷ vptr b′ o′ ∷ []) _ $
-        alloc1 ! (λ l₀. alloc1 ! (λ l₁. alloc1 ! (λ l₂. alloc1 ! (λ l₃. alloc1 ! (λ l₄. alloc1 ! (λ l₅. alloc1 ! (λ l₆. alloc1 ! (λ l₇. alloc1 ! (λ l₈. alloc1 ! (λ l₉. alloc1 ! (λ l₁₀. alloc1 ! (λ l₁₁. alloc1 ! (λ l₁₂. alloc1 ! (λ l₁₃. alloc1 ! (λ l₁₄. alloc1 ! (λ l₁₅. alloc1 ! (λ l₁₆. alloc1 ! (λ l₁₇. alloc0 ! $ params1 ! $
+        alloc1 ! (λ l₀. alloc1 ! (λ l₁. alloc1 ! (λ l₂. alloc1 ! (λ l₃. alloc1 ! (λ l₄. alloc1 ! (λ l₅. alloc1 ! (λ l₆. alloc1 ! (λ l₇.
+        alloc1 ! (λ l₈. alloc1 ! (λ l₉. alloc1 ! (λ l₁₀. alloc1 ! (λ l₁₁. alloc1 ! (λ l₁₂. alloc1 ! (λ l₁₃. alloc1 ! (λ l₁₄.
+        alloc1 ! (λ l₁₅. alloc1 ! (λ l₁₆. alloc1 ! (λ l₁₇. alloc0 ! $ params1 ! $
         pass1 ! (init ! 32 refl (tt, (tt, (record { fits = room .0 }, tt)))) $ pass1 ! (init ! 30 refl (words-typed gw)) $
         pass1 ! (init ! 28 refl (uint-lawful 𝓤 H A W w64 .typed lent _ gv .0)) $ pass1 ! (init ! 26 refl (tt, tt)) $ pass0 ! $
         assigns ! (of-opd ! (load ! (from ! (stop !)) (look ! 30 refl))) (from ! (stop !)) (init ! 24 refl (words-typed gw)) $
@@ -500,9 +491,10 @@ module _ {M : Type 1} (𝓤 : URA M) (H : Heap 𝓤) (A : Atoms 𝓤) (W : Given
         move ! (37 ∷ []) $ fsplit ! $ move ! (1 ∷ []) $ fsplit ! $ move ! (1 ∷ []) $ fsplit ! $ move ! (1 ∷ []) $ fsplit ! $
         move ! (41 ∷ []) $ split ! $ move ! (1 ∷ []) $ split ! $
         -- the array's borrow is opened
-        move ! (3 ∷ 0 ∷ []) $ fsplit3 ! $ drop ! $ open-ref ! tt (lying Ns) {b = b′} {o = o′} $ move ! (1 ∷ 2 ∷ 3 ∷ []) $ fjoin ! $ fjoin ! $
-        keep ! (7 ∷ 3 ∷ 1 ∷ 0 ∷ 8 ∷ 9 ∷ 10 ∷ 11 ∷ 12 ∷ 13 ∷ 14 ∷ 15 ∷ 16 ∷ 17 ∷ 18 ∷ 19 ∷ 20 ∷ 21 ∷ 22 ∷ 23 ∷ 24 ∷ 25 ∷ 26 ∷ 27 ∷ 28 ∷ 29 ∷ 30
-        ∷ 31 ∷ 32 ∷ 33 ∷ 34 ∷ 35 ∷ 36 ∷ 37 ∷ 38 ∷ 39 ∷ 40 ∷ 41 ∷ 42 ∷ 43 ∷ []) $
+        move ! (3 ∷ 0 ∷ []) $ fsplit3 ! $ drop ! $ open-ref ! tt (lying Ns) {b = b′} {o = o′} $ move ! (1 ∷ 2 ∷ 3 ∷ []) $ fjoin ! $
+        fjoin ! $
+        keep ! (7 ∷ 3 ∷ 1 ∷ 0 ∷ 8 ∷ 9 ∷ 10 ∷ 11 ∷ 12 ∷ 13 ∷ 14 ∷ 15 ∷ 16 ∷ 17 ∷ 18 ∷ 19 ∷ 20 ∷ 21 ∷ 22 ∷ 23 ∷ 24 ∷ 25
+        ∷ 26 ∷ 27 ∷ 28 ∷ 29 ∷ 30 ∷ 31 ∷ 32 ∷ 33 ∷ 34 ∷ 35 ∷ 36 ∷ 37 ∷ 38 ∷ 39 ∷ 40 ∷ 41 ∷ 42 ∷ 43 ∷ []) $
         by ! (looped n (is-n .1) (slots-counted ws lent n (gw .1 .0 .1) (e-n .0)) (e-n .1) 𝓣 known
         l₀ l₁ l₂ l₃ l₄ l₅ l₆ l₇ l₈ l₉ l₁₀ l₁₁ l₁₂ l₁₃ l₁₄ l₁₅ l₁₆ l₁₇))))))))))))))))))))
 
@@ -542,8 +534,8 @@ gather-spec 𝓤 H 𝓜 𝓖 𝓡 =
           count-def.routine code.calls-gathering·within (count-thm.met 𝓤 H 𝓜 𝓖 𝓡),
       cited 𝓤 H (tripleOf 𝓤 H (𝓖 .A) reach-of.signature (reach-of.spec 𝓤 H (𝓖 .A) (𝓜 .mem) (𝓡 .run))) 𝓜 𝓡 code.env reach-of-def.name
           reach-of-def.routine code.calls-gathering·reach (reach-of-thm.met 𝓤 H 𝓜 𝓖 𝓡),
-      cited 𝓤 H (tripleOf 𝓤 H (𝓖 .A) read.signature (read.spec 𝓤 H (𝓖 .A) (𝓜 .mem) (𝓡 .run))) 𝓜 𝓡 code.env read-def.name read-def.routine
-          code.calls-records·read (read-thm.met 𝓤 H 𝓜 𝓖 𝓡),
+      cited 𝓤 H (tripleOf 𝓤 H (𝓖 .A) read.signature (read.spec 𝓤 H (𝓖 .A) (𝓜 .mem) (𝓡 .run))) 𝓜 𝓡 code.env read-def.name
+          read-def.routine code.calls-records·read (read-thm.met 𝓤 H 𝓜 𝓖 𝓡),
       cited 𝓤 H (tripleOf 𝓤 H (𝓖 .A) record-put.signature (record-put.spec 𝓤 H (𝓖 .A) (𝓜 .mem) (𝓡 .run))) 𝓜 𝓡 code.env
           record-put-def.name record-put-def.routine code.calls-record-words·put (record-put-thm.met 𝓤 H 𝓜 𝓖 𝓡),
     ))

@@ -20,7 +20,6 @@ use Rattle.records.proofs.Walk.{
   length,
   getD,
   set,
-  length-set,
   URA,
   fullShare,
   named,
@@ -36,9 +35,6 @@ use Rattle.records.proofs.Walk.{
   vbool,
   SProp,
   ent,
-  emp,
-  via,
-  fst∗,
   id⊢,
   Lft,
   GName,
@@ -95,7 +91,6 @@ use Rattle.records.proofs.Walk.{
   whole,
   sub,
   look-in,
-  store-in,
   look,
   init,
   store,
@@ -108,7 +103,6 @@ use Rattle.records.proofs.Walk.{
   lit,
   unit-lit,
   of-opd,
-  un,
   bin,
   addr,
   and-then,
@@ -139,11 +133,9 @@ use Rattle.records.proofs.Walk.{
   RefT,
   sliceVal,
   MutSlice,
-  ShrSlice,
   Room,
   slice-vals,
   mut-slice-tells,
-  shr-slice-tells,
   u32,
   usize,
   nothing,
@@ -331,7 +323,8 @@ module _ {M : Type 1} (𝓤 : URA M) (H : Heap 𝓤) (A : Atoms 𝓤) (W : Given
       Nearer-wf : WellFounded Nearer
       Nearer-wf = InvImage·wf (λ (t : At). n - t .0) (Nat·lt-wfRel .wf)
 
-      module _ (𝓣 : Tables 𝓤 H) (known : Known (𝓣 .C)) (l₀ l₁ l₂ l₃ l₄ l₅ l₆ l₇ l₈ l₉ l₁₀ l₁₁ l₁₂ l₁₃ l₁₄ l₁₅ l₁₆ l₁₇ l₁₈ : ℕ) where
+      module _ (𝓣 : Tables 𝓤 H) (known : Known (𝓣 .C))
+          (l₀ l₁ l₂ l₃ l₄ l₅ l₆ l₇ l₈ l₉ l₁₀ l₁₁ l₁₂ l₁₃ l₁₄ l₁₅ l₁₆ l₁₇ l₁₈ : ℕ) where
         abbrev C : Calls 𝓤 H
         C = 𝓣 .C
 
@@ -351,21 +344,21 @@ module _ {M : Type 1} (𝓤 : URA M) (H : Heap 𝓤) (A : Atoms 𝓤) (W : Given
         lent-ty = tyRef erased mut (pointee (R .written))
 
         abbrev En : Env 𝓤 H
-        En = envOf (code.function .locals) (l₀ ∷ l₁ ∷ l₂ ∷ l₃ ∷ l₄ ∷ l₅ ∷ l₆ ∷ l₇ ∷ l₈ ∷ l₉ ∷ l₁₀ ∷ l₁₁ ∷ l₁₂ ∷ l₁₃ ∷ l₁₄ ∷ l₁₅ ∷ l₁₆
-            ∷ l₁₇ ∷ l₁₈ ∷ [])
+        En = envOf (code.function .locals) (l₀ ∷ l₁ ∷ l₂ ∷ l₃ ∷ l₄ ∷ l₅ ∷ l₆ ∷ l₇ ∷ l₈ ∷ l₉ ∷ l₁₀ ∷ l₁₁
+            ∷ l₁₂ ∷ l₁₃ ∷ l₁₄ ∷ l₁₅ ∷ l₁₆ ∷ l₁₇ ∷ l₁₈ ∷ [])
 
         abbrev Inv : At → List (Item 𝓤)
         Inv t = ‵ (Own κ γ (t .1) (length (t .1))) ∷ ‵ (flft κ q) ∷ ‵ Lent ∷ ‵ (flft κ′ q′) ∷ ‵ (froom (sliceTy lent-ty) l₁₈ 0)
             ∷ ‵ (fdies (sliceTy lent-ty) l₁₈) ∷ ‵ (froom lent-ty l₁₇ 0) ∷ ‵ (fdies lent-ty l₁₇) ∷ ‵ (froom tyUnit l₁₆ 0)
             ∷ ‵ (fdies tyUnit l₁₆) ∷ ‵ (froom (tyInt w32) l₁₅ 0) ∷ ‵ (fdies (tyInt w32) l₁₅) ∷ ‵ (froom tyPtr l₁₄ 0)
-            ∷ ‵ (fdies tyPtr l₁₄) ∷ ‵ (froom tyPtr l₁₃ 0) ∷ ‵ (fdies tyPtr l₁₃) ∷ ‵ (froom word l₁₂ 0) ∷ ‵ (fdies word l₁₂)
-            ∷ ‵ (froom tyBool l₁₁ 0) ∷ ‵ (fdies tyBool l₁₁) ∷ ‵ (froom T′.mir l₁₀ 0) ∷ ‵ (fdies T′.mir l₁₀) ∷ ‵ (froom word l₉ 0)
-            ∷ ‵ (fdies word l₉) ∷ ‵ (froom (tyInt w32) l₈ 0) ∷ ‵ (fdies (tyInt w32) l₈) ∷ ‵ (fat fullShare word l₇ 0 (vint w64 (t .0)))
-            ∷ ‵ (fdies word l₇) ∷ ‵ (fat fullShare word l₆ 0 (vint w64 n)) ∷ ‵ (fdies word l₆)
-            ∷ ‵ (fat fullShare words-ty l₅ 0 (arrayVal us)) ∷ ‵ (fdies words-ty l₅) ∷ ‵ (fat fullShare ref-ty l₄ 0 (vptr b′ o′))
-            ∷ ‵ (fdies ref-ty l₄) ∷ ‵ (fat fullShare word l₃ 0 nv) ∷ ‵ (fdies word l₃) ∷ ‵ (fat fullShare words-ty l₂ 0 wv)
-            ∷ ‵ (fdies words-ty l₂) ∷ ‵ (fat fullShare slice l₁ 0 (s (length (t .1)))) ∷ ‵ (fdies slice l₁) ∷ ‵ (froom tyUnit l₀ 0)
-            ∷ ‵ (fdies tyUnit l₀) ∷ []
+            ∷ ‵ (fdies tyPtr l₁₄) ∷ ‵ (froom tyPtr l₁₃ 0) ∷ ‵ (fdies tyPtr l₁₃) ∷ ‵ (froom word l₁₂ 0)
+            ∷ ‵ (fdies word l₁₂) ∷ ‵ (froom tyBool l₁₁ 0) ∷ ‵ (fdies tyBool l₁₁) ∷ ‵ (froom T′.mir l₁₀ 0)
+            ∷ ‵ (fdies T′.mir l₁₀) ∷ ‵ (froom word l₉ 0) ∷ ‵ (fdies word l₉) ∷ ‵ (froom (tyInt w32) l₈ 0)
+            ∷ ‵ (fdies (tyInt w32) l₈) ∷ ‵ (fat fullShare word l₇ 0 (vint w64 (t .0))) ∷ ‵ (fdies word l₇)
+            ∷ ‵ (fat fullShare word l₆ 0 (vint w64 n)) ∷ ‵ (fdies word l₆) ∷ ‵ (fat fullShare words-ty l₅ 0 (arrayVal us))
+            ∷ ‵ (fdies words-ty l₅) ∷ ‵ (fat fullShare ref-ty l₄ 0 (vptr b′ o′)) ∷ ‵ (fdies ref-ty l₄)
+            ∷ ‵ (fat fullShare word l₃ 0 nv) ∷ ‵ (fdies word l₃) ∷ ‵ (fat fullShare words-ty l₂ 0 wv) ∷ ‵ (fdies words-ty l₂)
+            ∷ ‵ (fat fullShare slice l₁ 0 (s (length (t .1)))) ∷ ‵ (fdies slice l₁) ∷ ‵ (froom tyUnit l₀ 0) ∷ ‵ (fdies tyUnit l₀) ∷ []
 
         abbrev Turned : At → Out → SProp 𝓤
         Turned t = afterTurn 𝓤 H (Below 𝓤 H A Nearer Inv t)
@@ -396,14 +389,16 @@ module _ {M : Type 1} (𝓤 : URA M) (H : Heap 𝓤) (A : Atoms 𝓤) (W : Given
             (and-then ! (load ! (from ! (stop !)) (look ! 25 refl)) (no-more !))
             (λ k wk _ e-k is-k. drop ! $ drop ! $ land ! (from ! (stop !)) (init ! 22 refl (uint-lawful 𝓤 H A W w64 .typed k _ is-k .0)) $
             -- the record
-            move ! (2 ∷ []) $ use1 W (‵ Lent ⊛ ‵ Lent) (shr-copy 𝓤 H A W (named 0) κ′ Ns .twice (ref-at b′ o′ γ′ ns) (vptr b′ o′ ∷ [])) $
+            move ! (2 ∷ []) $ use1 W (‵ Lent ⊛ ‵ Lent) (shr-copy 𝓤 H A W (named 0) κ′ Ns .twice (ref-at b′ o′ γ′ ns) (vptr b′ o′
+            ∷ [])) $
             split ! $ move ! (4 ∷ 0 ∷ []) $ join ! $
             calls-fn ! (fmOf 𝓤 H (W .laws) 𝓣) record-at.ended (record-at.clauses 𝓤 H A mem run) (known .2) (to-at (t .0) (vint w64 (t .0)))
             (λ r _. r ≡ getD records (t .0) blank) (‵ (flft κ′ q′) ⊛ ‵ Lent) (asks-at (t .0) (vint w64 (t .0)) is-i small-i)
             (λ r _. id⊢ 𝓤 _)
             (and-then ! (load ! (from ! (stop !)) (look ! 32 refl)) (and-then ! (load ! (from ! (stop !)) (look ! 26 refl)) (no-more !)))
             (λ r v _ e-r is-r.
-            use1 W (‵ (flft κ′ q′) ⊛ ‵ ftrue) (id⊢ 𝓤 _) $ split ! $ move ! (1 ∷ 2 ∷ []) $ drop ! $ drop ! $ move ! (2 ∷ 3 ∷ 1 ∷ 0 ∷ []) $
+            use1 W (‵ (flft κ′ q′) ⊛ ‵ ftrue) (id⊢ 𝓤 _) $ split ! $ move ! (1 ∷ 2 ∷ []) $ drop ! $ drop ! $
+            move ! (2 ∷ 3 ∷ 1 ∷ 0 ∷ []) $
             land ! (from ! (stop !)) (init ! 20 refl (typed 𝓤 H A W r is-r)) $
             -- the table is lent again for a lifetime ν of the call
             assigns ! (addr ! (from ! (fld ! refl (hop ! (look-in ! 38 (sub ! 0 refl (whole !))) (stop !))))) (from ! (stop !))
@@ -433,7 +428,8 @@ module _ {M : Type 1} (𝓤 : URA M) (H : Heap 𝓤) (A : Atoms 𝓤) (W : Given
             move ! (2 ∷ 3 ∷ []) $ drop ! $ drop ! $
             assigns-last ! (bin ! (load ! (from ! (stop !)) (look ! 26 refl)) (lit ! tt) (record { fits = next })) (from ! (stop !))
             (store ! 26 refl (tt, record { fits = next })) $
-            forget ! 4 refl $ forget ! 6 refl $ forget ! 8 refl $ forget ! 10 refl $ forget ! 12 refl $ forget ! 14 refl $ forget ! 16 refl $ forget ! 18 refl $ forget ! 20 refl $ forget ! 22 refl $ forget ! 24 refl $
+            forget ! 4 refl $ forget ! 6 refl $ forget ! 8 refl $ forget ! 10 refl $ forget ! 12 refl $ forget ! 14 refl $
+            forget ! 16 refl $ forget ! 18 refl $ forget ! 20 refl $ forget ! 22 refl $ forget ! 24 refl $
             rewrite ! 0 (λ (m : ℕ). ‵ (Own κ γ (zs .0) m)) (sym e-len) refl $
             rewrite ! 38 (λ (m : ℕ). ‵ (fat fullShare slice l₁ 0 (s m))) (sym e-len) refl $
             again ! Nearer Inv t (
@@ -474,8 +470,14 @@ module _ {M : Type 1} (𝓤 : URA M) (H : Heap 𝓤) (A : Atoms 𝓤) (W : Given
             rewrite ! 18 (λ (u : Bool). ‵ (fat fullShare tyBool l₁₁ 0 (vbool u))) z refl $
             leaves-loop ! (load ! (from ! (stop !)) (look ! 18 refl)) $ exec ! C Λ En body.t-5 (atRet En Post) $
             assigns ! (of-opd ! (unit-lit !)) (from ! (stop !)) (init ! 40 refl (tt, tt)) $
-            returns ! (look ! 40 refl) $ forget ! 18 refl $ forget ! 26 refl $ forget ! 28 refl $ forget ! 30 refl $ forget ! 32 refl $ forget ! 34 refl $ forget ! 36 refl $ forget ! 38 refl $ forget ! 40 refl $
-            move ! (40 ∷ 41 ∷ []) $ free1 ! $ move ! (38 ∷ 39 ∷ []) $ free1 ! $ move ! (36 ∷ 37 ∷ []) $ free1 ! $ move ! (34 ∷ 35 ∷ []) $ free1 ! $ move ! (32 ∷ 33 ∷ []) $ free1 ! $ move ! (30 ∷ 31 ∷ []) $ free1 ! $ move ! (28 ∷ 29 ∷ []) $ free1 ! $ move ! (26 ∷ 27 ∷ []) $ free1 ! $ move ! (24 ∷ 25 ∷ []) $ free1 ! $ move ! (22 ∷ 23 ∷ []) $ free1 ! $ move ! (20 ∷ 21 ∷ []) $ free1 ! $ move ! (18 ∷ 19 ∷ []) $ free1 ! $ move ! (16 ∷ 17 ∷ []) $ free1 ! $ move ! (14 ∷ 15 ∷ []) $ free1 ! $ move ! (12 ∷ 13 ∷ []) $ free1 ! $ move ! (10 ∷ 11 ∷ []) $ free1 ! $ move ! (8 ∷ 9 ∷ []) $ free1 ! $ move ! (6 ∷ 7 ∷ []) $ free1 ! $ move ! (4 ∷ 5 ∷ []) $ free1 ! $ free0 ! $ keep ! (0 ∷ 1 ∷ 3 ∷ []) $
+            returns ! (look ! 40 refl) $ forget ! 18 refl $ forget ! 26 refl $ forget ! 28 refl $ forget ! 30 refl $ forget ! 32 refl $
+            forget ! 34 refl $ forget ! 36 refl $ forget ! 38 refl $ forget ! 40 refl $
+            move ! (40 ∷ 41 ∷ []) $ free1 ! $ move ! (38 ∷ 39 ∷ []) $ free1 ! $ move ! (36 ∷ 37 ∷ []) $ free1 ! $ move ! (34 ∷ 35 ∷ []) $
+            free1 ! $ move ! (32 ∷ 33 ∷ []) $ free1 ! $ move ! (30 ∷ 31 ∷ []) $ free1 ! $ move ! (28 ∷ 29 ∷ []) $ free1 ! $
+            move ! (26 ∷ 27 ∷ []) $ free1 ! $ move ! (24 ∷ 25 ∷ []) $ free1 ! $ move ! (22 ∷ 23 ∷ []) $ free1 ! $ move ! (20 ∷ 21 ∷ []) $
+            free1 ! $ move ! (18 ∷ 19 ∷ []) $ free1 ! $ move ! (16 ∷ 17 ∷ []) $ free1 ! $ move ! (14 ∷ 15 ∷ []) $ free1 ! $
+            move ! (12 ∷ 13 ∷ []) $ free1 ! $ move ! (10 ∷ 11 ∷ []) $ free1 ! $ move ! (8 ∷ 9 ∷ []) $ free1 ! $ move ! (6 ∷ 7 ∷ []) $
+            free1 ! $ move ! (4 ∷ 5 ∷ []) $ free1 ! $ free0 ! $ keep ! (0 ∷ 1 ∷ 3 ∷ []) $
             by ! (exits (t .1) (scatters-all (t .1) records slots (t .0) past (t .4)) (t .3))
           where
             past : length slots ≤ t .0
@@ -497,7 +499,9 @@ module _ {M : Type 1} (𝓤 : URA M) (H : Heap 𝓤) (A : Atoms 𝓤) (W : Given
         qed W ((‵ (flft κ q) ⊛ ‵ (flft κ′ q′) ⊛ ‵ ftrue)
         ∷ ‵ (owns (MutSlice (named 0) κ R ∷ Ws ∷ usize ∷ ShrRef (named 1) κ′ Ns ∷ []) x at) ∷ []) ∵
         enter ! (𝓣 .C) (𝓣 .Λ) code.function (s (length ys) ∷ wv ∷ nv ∷ vptr b′ o′ ∷ []) _ $
-        alloc1 ! (λ l₀. alloc1 ! (λ l₁. alloc1 ! (λ l₂. alloc1 ! (λ l₃. alloc1 ! (λ l₄. alloc1 ! (λ l₅. alloc1 ! (λ l₆. alloc1 ! (λ l₇. alloc1 ! (λ l₈. alloc1 ! (λ l₉. alloc1 ! (λ l₁₀. alloc1 ! (λ l₁₁. alloc1 ! (λ l₁₂. alloc1 ! (λ l₁₃. alloc1 ! (λ l₁₄. alloc1 ! (λ l₁₅. alloc1 ! (λ l₁₆. alloc1 ! (λ l₁₇. alloc1 ! (λ l₁₈. alloc0 ! $ params1 ! $
+        alloc1 ! (λ l₀. alloc1 ! (λ l₁. alloc1 ! (λ l₂. alloc1 ! (λ l₃. alloc1 ! (λ l₄. alloc1 ! (λ l₅. alloc1 ! (λ l₆. alloc1 ! (λ l₇.
+        alloc1 ! (λ l₈. alloc1 ! (λ l₉. alloc1 ! (λ l₁₀. alloc1 ! (λ l₁₁. alloc1 ! (λ l₁₂. alloc1 ! (λ l₁₃. alloc1 ! (λ l₁₄.
+        alloc1 ! (λ l₁₅. alloc1 ! (λ l₁₆. alloc1 ! (λ l₁₇. alloc1 ! (λ l₁₈. alloc0 ! $ params1 ! $
         pass1 ! (init ! 34 refl (tt, (tt, (record { fits = room .0 }, tt)))) $ pass1 ! (init ! 32 refl (words-typed gw)) $
         pass1 ! (init ! 30 refl (uint-lawful 𝓤 H A W w64 .typed lent _ gv .0)) $ pass1 ! (init ! 28 refl (tt, tt)) $ pass0 ! $
         assigns ! (of-opd ! (load ! (from ! (stop !)) (look ! 32 refl))) (from ! (stop !)) (init ! 26 refl (words-typed gw)) $
@@ -511,8 +515,8 @@ module _ {M : Type 1} (𝓤 : URA M) (H : Heap 𝓤) (A : Atoms 𝓤) (W : Given
         assigns ! (of-opd ! (lit ! tt)) (from ! (stop !)) (init ! 22 refl (tt, record { fits = lit< tt })) $
         move ! (39 ∷ []) $ fsplit ! $ move ! (1 ∷ []) $ fsplit ! $ move ! (1 ∷ []) $ fsplit ! $ move ! (1 ∷ []) $ fsplit ! $
         move ! (43 ∷ []) $ split ! $ move ! (1 ∷ []) $ split ! $
-        keep ! (7 ∷ 2 ∷ 3 ∷ 0 ∷ 8 ∷ 9 ∷ 10 ∷ 11 ∷ 12 ∷ 13 ∷ 14 ∷ 15 ∷ 16 ∷ 17 ∷ 18 ∷ 19 ∷ 20 ∷ 21 ∷ 22 ∷ 23 ∷ 24 ∷ 25 ∷ 26 ∷ 27 ∷ 28 ∷ 29 ∷ 30
-        ∷ 31 ∷ 32 ∷ 33 ∷ 34 ∷ 35 ∷ 36 ∷ 37 ∷ 38 ∷ 39 ∷ 40 ∷ 41 ∷ 42 ∷ 43 ∷ 44 ∷ 45 ∷ []) $
+        keep ! (7 ∷ 2 ∷ 3 ∷ 0 ∷ 8 ∷ 9 ∷ 10 ∷ 11 ∷ 12 ∷ 13 ∷ 14 ∷ 15 ∷ 16 ∷ 17 ∷ 18 ∷ 19 ∷ 20 ∷ 21 ∷ 22 ∷ 23 ∷ 24 ∷ 25
+        ∷ 26 ∷ 27 ∷ 28 ∷ 29 ∷ 30 ∷ 31 ∷ 32 ∷ 33 ∷ 34 ∷ 35 ∷ 36 ∷ 37 ∷ 38 ∷ 39 ∷ 40 ∷ 41 ∷ 42 ∷ 43 ∷ 44 ∷ 45 ∷ []) $
         by ! (looped n (is-n .1) (slots-counted ws lent n (gw .1 .0 .1) (e-n .0)) (e-n .1) 𝓣 known
         l₀ l₁ l₂ l₃ l₄ l₅ l₆ l₇ l₈ l₉ l₁₀ l₁₁ l₁₂ l₁₃ l₁₄ l₁₅ l₁₆ l₁₇ l₁₈)))))))))))))))))))))
 
@@ -552,7 +556,8 @@ scatter-spec 𝓤 H 𝓜 𝓖 𝓡 =
           count-def.routine code.calls-gathering·within (count-thm.met 𝓤 H 𝓜 𝓖 𝓡),
       cited 𝓤 H (tripleOf 𝓤 H (𝓖 .A) slot-of.signature (slot-of.spec 𝓤 H (𝓖 .A) (𝓜 .mem) (𝓡 .run))) 𝓜 𝓡 code.env slot-of-def.name
           slot-of-def.routine code.calls-gathering·slot-of (slot-of-thm.met 𝓤 H 𝓜 𝓖 𝓡),
-      cited 𝓤 H (tripleOf 𝓤 H (𝓖 .A) record-at.signature (record-at.spec 𝓤 H (𝓖 .A) (𝓜 .mem) (𝓡 .run))) 𝓜 𝓡 code.env record-at-def.name
+      cited 𝓤 H (tripleOf 𝓤 H (𝓖 .A) record-at.signature (record-at.spec 𝓤 H (𝓖 .A) (𝓜 .mem) (𝓡 .run))) 𝓜 𝓡 code.env
+          record-at-def.name
           record-at-def.routine code.calls-record-words·at (record-at-thm.met 𝓤 H 𝓜 𝓖 𝓡),
       cited 𝓤 H (tripleOf 𝓤 H (𝓖 .A) replace.signature (replace.spec 𝓤 H (𝓖 .A) (𝓜 .mem) (𝓡 .run))) 𝓜 𝓡 code.env replace-def.name
           replace-def.routine code.calls-records·replace (replace-thm.met 𝓤 H 𝓜 𝓖 𝓡),
