@@ -108,7 +108,7 @@ class Driver:
         self.walk = Walk(crate, name, pars, [ty(t, types) for t in self.locals], callees, result, said, uses, block_fields(), about)
         self.names = list(self.walk.fields)
         self.values = {i + 1: self.value(p.t, f'x{low(i)}', f'v{low(i)}', f'g{low(i)}') for i, p in enumerate(pars) if p.kind == 'val'}
-        self.slot = {i + 1: i for i, p in enumerate(pars) if p.slice() or p.kind == 'given'}
+        self.slot = {i + 1: i for i, p in enumerate(pars) if p.slice() or p.kind in ('given', 'sgiven')}
         self.lent, self.pointers, self.shared, self.parted = {}, {}, set(), False
 
     @staticmethod

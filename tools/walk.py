@@ -41,7 +41,7 @@ class Par:
     """A parameter. kind, t:
     'val'  plain data of the type t        'mut', 'shr'   a `&mut [T]`, a `&[T]` of the row t
     'ref'  the block behind `&mut`, taken apart    'sref'  behind `&`, taken apart
-    'given'  a `&mut` that is given to a callee: t is the row, L for the block"""
+    'given', 'sgiven'  a `&mut`, a `&` that is given to a callee: t is the row, L for the block"""
 
     def __init__(self, kind, t=None):
         self.kind, self.t, self.lft = kind, t, None
@@ -139,7 +139,7 @@ class Walk:
         p = self.pars[i]
         if p.kind == 'val':
             return p.t.row
-        ref = {'mut': 'MutSlice', 'shr': 'ShrSlice', 'ref': 'MutRef', 'given': 'MutRef', 'sref': 'ShrRef'}[p.kind]
+        ref = {'mut': 'MutSlice', 'shr': 'ShrSlice', 'ref': 'MutRef', 'given': 'MutRef', 'sref': 'ShrRef', 'sgiven': 'ShrRef'}[p.kind]
         return f"{ref} (named {p.lft}) κ{low(p.lft)} {p.t or 'L'}"
 
     def machine(self):
@@ -555,7 +555,7 @@ class Walk:
             self.say('forget ! 0 refl $ free1 ! $')
             self.context = self.context[2:]
         self.say('free0 ! $\n')
-        keeps = {'mut': ['fin', 'tok'], 'given': ['fin', 'tok'], 'ref': ['own', 'tok'], 'shr': ['tok'], 'sref': ['tok'], 'val': []}
+        keeps = {'mut': ['fin', 'tok'], 'given': ['fin', 'tok'], 'ref': ['own', 'tok'], 'shr': ['tok'], 'sref': ['tok'], 'sgiven': ['tok'], 'val': []}
         self.had = [f'{n}{i}' for i, p in enumerate(self.pars) for n in keeps[p.kind]]
         extra = [c for c in self.context if c not in self.had]
         if extra:
