@@ -11,7 +11,7 @@ use wire::Header;
 ghost use mathlib.Core.Path.{_≡_};
 ghost use mathlib.Core.Bool.{cond, not, _&&_};
 ghost use mathlib.Core.List.{map};
-ghost use Prim.Native.Nat.{ℕ, _≤_};
+ghost use Prim.Native.Nat.{ℕ, _^_, _≤_, _<_};
 ghost use lib.Dec.{ltb};
 ghost use lib.ListN.{take, length};
 ghost use Rattle.protocol.specs.Ranges.{mss};
@@ -20,6 +20,7 @@ ghost use Rattle.datagram.specs.StepLaws.{Begun};
 ghost use Rattle.lists.specs.Joining.{joined};
 ghost use Rattle.lists.specs.Acknowledging.{keep, firstNumberOr};
 ghost use Rattle.record_words.specs.RecordWords.{recordsIn};
+ghost use Rattle.session.specs.Decides.{All};
 ghost use Rattle.words.specs.Words.{outstandingIn};
 ghost use Rattle.acknowledge.specs.Flights.{JoinedIn, InOrder, HearsAll, view};
 ghost use Rattle.acknowledge.specs.Furthest.{noneYet, furtherBy};
@@ -174,6 +175,14 @@ fn skip_before(records: &mut [u32; 128], n: usize, number: u32)
     }
 }
 
+// Each of the words is below 2^32, which a read of one tells of all.
+fn words_fit(words: &[u32])
+    requires { ⌜ 0 < length (now words) ⌝ }
+    ensures { λ _. ⌜ All (λ (w : ℕ). w < 2 ^ 32) (now (words .entry)) ⌝ }
+{
+    let _ = words[0];
+}
+
 // The segments of an accepted datagram are heard, one after the other. Then, if the furthest number counts, each outstanding
 // segment before it gets one skip.
 pub fn hear(
@@ -193,6 +202,7 @@ pub fn hear(
         (view r (now (outstanding .exit)) (now (transmissions .exit)) (recordsIn (now (records .exit))))
         × (length (now (records .exit)) ≡ 128) ⌝ }
 {
+    words_fit(records);
     let mut f = flight;
     let mut furthest = Furthest::new();
     let mut at: usize = 0;
