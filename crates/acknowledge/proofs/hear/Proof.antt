@@ -23,7 +23,8 @@ Inv-loop records₀ settings current outstanding₀ transmissions₀ s f₀ furt
     (view f outstanding transmissions (recordsIn records)) furthest at
 
 abbrev μ-loop : tie.MeasureT-loop
-μ-loop records₀ settings current outstanding₀ transmissions₀ s f₀ furthest₀ at₀ records outstanding transmissions f furthest at = length s - at
+μ-loop records₀ settings current outstanding₀ transmissions₀ s f₀ furthest₀ at₀ records outstanding transmissions f furthest at =
+    length s - at
 
 loop-holds : tie.Need-loop-holds Inv-loop μ-loop
 loop-holds c =
@@ -103,7 +104,9 @@ words-fit-requires : tie.Need-words-fit-requires Inv-loop μ-loop
 words-fit-requires c κs = omega (arith, c .before .before .before .pre .1)
 
 skip-before-requires : tie.Need-skip-before-requires Inv-loop μ-loop
-skip-before-requires c κs = let l = c .before .before .before .before .before .before .before .loop .inv in (l .0, l .1 .ordered .order .fits)
+skip-before-requires c κs =
+    let l = c .before .before .before .before .before .before .before .loop .inv in
+    (l .0, l .1 .ordered .order .fits)
 
 remaining-requires : tie.Need-remaining-requires Inv-loop μ-loop
 remaining-requires c κs =
