@@ -156,6 +156,8 @@ class Driver:
             if not any(self.touches(x) for x in self.statements[k + 1:]):
                 w.lengths('end-')
                 w.closes()
+                if w.arrays:
+                    w.cut(k + 1)
         elif value[0] == 'rvOpd' and value[1][0] == 'copy':
             source, path = place(value[1][1])
             if path:
@@ -192,7 +194,10 @@ class Driver:
     @staticmethod
     def touches(s):
         """A later statement stores to the block, or reads or lends a field."""
-        return s[0] == 'assign' and (place(s[1])[1] or (s[2][0] in ('addrOf', 'rvOpd') and 'deref' in str(s[2])))
+        if s[0] != 'assign':
+            return False
+        read = s[2][1] if s[2][0] == 'addrOf' else s[2][1][1] if s[2][0] == 'rvOpd' and s[2][1][0] == 'copy' else None
+        return any(p and place(p)[0] == 1 and place(p)[1] for p in (s[1], read))
 
     def arguments(self, k, locals_):
         w, out = self.walk, []

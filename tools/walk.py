@@ -75,6 +75,7 @@ class Walk:
         self.asks, self.last, self.how, self.finals, self.after = [], {}, {}, {}, None
         self.now = {f: f'(h .{f})' for f in fields}
         self.share = 'q′' if pars[0].kind == 'sref' else 'fullShare'
+        self.lends = {}    # how often each was lent
         self.arrays = {}   # arrays in locals that are lent, by their names here: the type
 
     # ---- the text, and the context
@@ -220,6 +221,10 @@ class Walk:
         """Block and offset of what is lent: a field of the block, or a local."""
         return f'l{low(int(f[1:]))} 0' if f in self.arrays else f'b {self.offset(f)}'
 
+    def tag(self, f):
+        """The name of what is lent, another one each time that it is."""
+        return hyphened(f) + '′' * (self.lends[f] - 1)
+
     def pointer(self, f):
         return f'(vptr {self.spot(f)})'
 
@@ -276,7 +281,8 @@ class Walk:
             self.out_of_local(f)
         self.bring([f'F:{f}'])
         share = '' if how == 'mut' else self.share_of(f) + ' '
-        i = hyphened(f)
+        self.lends[f] = self.lends.get(f, 0) + 1
+        i = self.tag(f)
         lent = f'lend-{how} ! tt {share}{self.kind(f).row} {self.now[f]} {self.spot(f)} (λ α-{i} δ-{i}.'
         self.under(lent, (f'α-{i}', 'ℕ'), (f'δ-{i}', 'GName'))
         self.context[0:1] = [f'tok:{f}', f'own:{f}', f'lent:{f}']
@@ -395,7 +401,7 @@ class Walk:
             return {'value': f'(shown-at{n} {d})', 'machine': f's{n}', 'lft': f'(β{n} ∷ [])', 'share': 'fullShare', 'token': f'btok{i}', 'owner': f'shown{i}',
                     'token-is': f'(flft (β{n} ∷ []) fullShare)', 'own-is': f'(Shared{n} β{n} {d})', 'binds': f'(β{n} : ℕ) (δ{n} : GName)', 'passes': f'β{n} {d}'}
         f = a['f']
-        i, row = hyphened(f), self.kind(f).row
+        i, row = hyphened(f) if inside else self.tag(f), self.kind(f).row
         ref, v = 'MutRef' if self.how[f] == 'mut' else 'ShrRef', f'f-{i}' if inside else self.now[f]
         at = f'p-{i} 0' if inside and f in self.arrays else self.spot(f)
         value, machine, lft = f'(ref-at {at} δ-{i} {v})', f'(vptr {at})', f'(α-{i} ∷ [])'
@@ -429,11 +435,12 @@ class Walk:
             operands = f"(and-then ! {self.look(a['local'])} {operands})"
         bound = (var, result.denot), (machine, 'Val'), (said, fact), (is_, f'Is {result.row} {var} ({machine} ∷ [])')
         self.under(operands + f" (λ {var} {machine} {ws if refs else '_'} {said} {is_}.", *bound)
+        put = 'store' if local in self.filled else 'init'
         self.filled[local] = machine
         self.context[0:1] = ['alive', 'lasts']
         if not refs:
             self.lose(['alive', 'lasts'])
-        self.say(f"land ! (from ! (stop !)) (init ! {self.pos(f'L{local}')} refl {result.typed(var, machine, is_)}) $\n")
+        self.say(f"land ! (from ! (stop !)) ({put} ! {self.pos(f'L{local}')} refl {result.typed(var, machine, is_)}) $\n")
         if refs:
             self.take_back(args, outer, ws)
 
@@ -469,7 +476,7 @@ class Walk:
                 junk.append(f'it{n}')
             elif a['kind'] == 'fld':
                 f = a['f']
-                parts.append((f'fin:{f}', f'‵ (fres δ-{hyphened(f)} ({self.kind(f).row} .coded .code ({last})))'))
+                parts.append((f'fin:{f}', f'‵ (fres δ-{self.tag(f)} ({self.kind(f).row} .coded .code ({last})))'))
                 self.finals[f] = last
             else:
                 i, p = a['i'], self.pars[a['i']]
@@ -511,6 +518,8 @@ class Walk:
             return '‵ (fobor κ₀ q₀ (partAt L q′ h b o))' if self.share == 'q′' else '‵ (Open b o γ κ₀ q₀ h)'
         if kind == 'tok':
             return f'‵ {self.token(int(n))}'
+        if item == 'own0' and self.after:
+            return f'‵ (link-own κ₀ b o γ ({self.after}))'
         if kind == 'own':
             return f'‵ {self.own(int(n))}'
         p, i = self.pars[int(n)], int(n)
