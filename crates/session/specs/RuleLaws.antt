@@ -1,6 +1,6 @@
 -- Laws of what a flush does with the outstanding segments by their rules.
 -- Assumes nothing.
-use mathlib.Core.Path.{_≡_, refl, ap}
+use mathlib.Core.Path.{_≡_, refl, ap, _∙_}
 use mathlib.Core.Bool.{Bool, true, false, cond}
 use mathlib.Core.List.{List, [], _∷_, _++_, map}
 use Prim.Native.Nat.{ℕ, suc, _≤_, zero-le}
@@ -8,12 +8,33 @@ use native.Mathlib.Omega.{arith}
 use lib.ListN.{length}
 use Rattle.protocol.specs.declared.Settings.{Settings}
 use Rattle.lists.specs.declared.Sent.{Sent}
-use Rattle.session.specs.Flushing.{Ruled, ruling, ruled, afterRule, afterwards, transmitted}
+use Rattle.congestion.specs.declared.Losses.{Losses}
+use Rattle.session.specs.State.{State}
+use Rattle.session.specs.Flushing.{
+  windowOf,
+  numberedCount,
+  withNumbered,
+  Ruled,
+  ruling,
+  ruled,
+  afterRule,
+  afterwards,
+  transmitted,
+  lossesOf,
+}
 use Rattle.session.specs.Decides.{All}
+use Rattle.session.specs.MapLaws.{map-append}
+
+-- what a flush of the state s at t tells of losses
+abbrev pub lossesAt : State → ℕ → Losses
+lossesAt s t =
+    let d = s .sending in
+    let k = numberedCount (windowOf s) d in
+    lossesOf s k (ruled (s .settings) (d .roundTrip .timeout) t (withNumbered d k))
 
 -- ---- those that are transmitted
 
-pub transmitted-append : (a b : List Ruled) → transmitted (a ++ b) ≡ transmitted a ++ transmitted b
+transmitted-append : (a b : List Ruled) → transmitted (a ++ b) ≡ transmitted a ++ transmitted b
 unfolding transmitted
 transmitted-append [] b = refl
 transmitted-append (r ∷ a) b = rw (transmitted-append a b) (by-rule (r .rule .sends))
@@ -38,7 +59,8 @@ unfolding transmitted
 transmitted-few [] = zero-le
 transmitted-few (r ∷ l) = go (r .rule .sends) (transmitted-few l)
   where
-    go : (sends : Bool) → length (transmitted l) ≤ length l → length (cond sends (afterRule r ∷ transmitted l) (transmitted l)) ≤ suc (length l)
+    go : (sends : Bool) → length (transmitted l) ≤ length l
+        → length (cond sends (afterRule r ∷ transmitted l) (transmitted l)) ≤ suc (length l)
     go true i = omega arith
     go false i = omega arith
 
@@ -49,6 +71,10 @@ abbrev pub sentAfter : Settings → ℕ → ℕ → Sent → Sent
 sentAfter c timeout t x = afterRule (ruling c timeout t x)
 
 module _ (c : Settings) (timeout t : ℕ) where
+  pub sent-append : (a b : List Sent)
+      → transmitted (ruled c timeout t (a ++ b)) ≡ transmitted (ruled c timeout t a) ++ transmitted (ruled c timeout t b)
+  sent-append a b = ap transmitted (map-append (ruling c timeout t) a b) ∙ transmitted-append (ruled c timeout t a) (ruled c timeout t b)
+
   pub after-each : (l : List Sent) → afterwards (ruled c timeout t l) ≡ map (sentAfter c timeout t) l
   after-each [] = refl
   after-each (x ∷ l) = ap {B = List Sent} (λ (r : List Sent). sentAfter c timeout t x ∷ r) (after-each l)
