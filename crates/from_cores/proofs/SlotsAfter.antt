@@ -27,6 +27,7 @@ use Rattle.session.specs.AllLaws.{all-mapped}
 use Rattle.session.specs.Once.{Distinct, once-distinct, distinct-once}
 use Rattle.session.specs.IsValid.{valid-decides}
 use Rattle.session.specs.Flushing.{numbered, windowOf, numberedCount, withNumbered, flushing}
+use Rattle.session.specs.MapLaws.{map-kept}
 use Rattle.session.specs.RuleLaws.{after-kept}
 use Rattle.session.specs.Input.{acknowledged, sampledBy, heardBySending, allBySending, furthest, skipped, skippedByAll, ackNumbers, applied}
 use Rattle.records.specs.TableLaws.{AllBelow}
@@ -181,7 +182,7 @@ fit-skipped s n f = go (not (isBefore n (s .una)) && isBefore n (s .next))
     more = withOutstanding s (s .una) (map (skipBefore n) (s .outstanding))
 
     go : (b : Bool) → OutFit (cond b more s)
-    go true = rw (same-slots (skipBefore n) (skip-held n) (s .outstanding)) f
+    go true = rw (map-kept (λ (x : Sent). x .held .slot) (skipBefore n) (λ x. rw (skip-held n x)) (s .outstanding)) f
     go false = f
 
 fit-skips : (s : Sending) (l : List ℕ) → OutFit s → OutFit (skippedByAll s l)
