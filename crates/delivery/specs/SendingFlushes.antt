@@ -98,11 +98,12 @@ module _ (c : Settings) (t k : ℕ) (s : Sending) (few : k ≤ length (s .queued
   unfolding withNumbered
   half-flushed h = record {
     held = rw flushed-held (h .held);
-    numbers = rw (after-each c link t (withNumbered s k)) (numbers-mapped (sentAfter c link t) (after-number c link t (h .roundTrip .timeout)) (s .una) (plus (s .next) k)
+    numbers = rw (after-each c link t (withNumbered s k))
+        (numbers-mapped (sentAfter c link t) (after-number c link t (h .roundTrip .timeout)) (s .una) (plus (s .next) k)
         (withNumbered s k)
         (rw count at (numbers-more (s .una) (s .next) (s .outstanding) (take k (s .queued)) (h .una) (h .next) (rw count room)
         (h .numbers))));
-    sent = rw (after-each c link t (withNumbered s k), map-append (sentAfter c link t) (s .outstanding) (numbered (s .next) (take k (s .queued))))
+    sent = rw (after-each c link t (withNumbered s k), map-append (sentAfter c link t))
         (all-append (SentWell (c .mode)) (map (sentAfter c link t) (s .outstanding))
         (map (sentAfter c link t) (numbered (s .next) (take k (s .queued))))
         (all-map (SentWell (c .mode)) (sentAfter c link t) (after-well c link t (h .roundTrip .timeout)) (s .outstanding) (h .sent))

@@ -47,20 +47,20 @@ withNumbered s k = s .outstanding ++ numbered (s .next) (take k (s .queued))
 
 -- ---- the rule for each outstanding segment
 
--- one of them, and what a flush does with it
+-- one of them before a flush, and what the flush does with it
 pub record Ruled : Type 0 where
   pub segment : Sent
   pub rule : Transmission
 
--- the rule of a flush at t
+-- at t: by the first rule that holds
 abbrev pub ruling : Settings → ℕ → ℕ → Sent → Ruled
 ruling c timeout t x = record { segment = x; rule = transmission c timeout t (x .transmissions) (x .record) }
 
--- used on each, in order
+-- each of them, in order of sn
 abbrev pub ruled : Settings → ℕ → ℕ → List Sent → List Ruled
 ruled c timeout t = map (ruling c timeout t)
 
--- a segment as its rule leaves it, and all of them
+-- one as its rule leaves it, and all of them
 abbrev pub afterRule : Ruled → Sent
 afterRule r = record { held = r .segment .held; transmissions = r .rule .transmissions; «record» = r .rule .updated }
 

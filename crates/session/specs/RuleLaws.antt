@@ -1,4 +1,4 @@
--- Laws of what a flush does with the outstanding segments by their rules.
+-- Laws of what a flush does with the outstanding segments, each by its rule.
 -- Assumes nothing.
 use mathlib.Core.Path.{_≡_, refl, ap, _∙_}
 use mathlib.Core.Bool.{Bool, true, false, cond}
@@ -44,6 +44,11 @@ transmitted-append (r ∷ a) b = rw (transmitted-append a b) (by-rule (r .rule .
     by-rule true = refl
     by-rule false = refl
 
+pub sent-append : (c : Settings) (timeout t : ℕ) (a b : List Sent)
+    → transmitted (ruled c timeout t (a ++ b)) ≡ transmitted (ruled c timeout t a) ++ transmitted (ruled c timeout t b)
+sent-append c timeout t a b =
+    ap transmitted (map-append (ruling c timeout t) a b) ∙ transmitted-append (ruled c timeout t a) (ruled c timeout t b)
+
 -- what holds of each afterwards holds of these
 pub all-transmitted : (P : Sent → Type 0) (l : List Ruled) → All P (afterwards l) → All P (transmitted l)
 unfolding transmitted
@@ -71,10 +76,6 @@ abbrev pub sentAfter : Settings → ℕ → ℕ → Sent → Sent
 sentAfter c timeout t x = afterRule (ruling c timeout t x)
 
 module _ (c : Settings) (timeout t : ℕ) where
-  pub sent-append : (a b : List Sent)
-      → transmitted (ruled c timeout t (a ++ b)) ≡ transmitted (ruled c timeout t a) ++ transmitted (ruled c timeout t b)
-  sent-append a b = ap transmitted (map-append (ruling c timeout t) a b) ∙ transmitted-append (ruled c timeout t a) (ruled c timeout t b)
-
   pub after-each : (l : List Sent) → afterwards (ruled c timeout t l) ≡ map (sentAfter c timeout t) l
   after-each [] = refl
   after-each (x ∷ l) = ap {B = List Sent} (λ (r : List Sent). sentAfter c timeout t x ∷ r) (after-each l)
