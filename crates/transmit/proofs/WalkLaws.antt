@@ -9,7 +9,6 @@ use native.Mathlib.Omega.{arith}
 use lib.Dec.{eqb}
 use lib.ListN.{length, take, drop, getD, set, length-set}
 use lib.Seq.{take-add, take-take, set-getD}
-use Rattle.protocol.specs.declared.Settings.{Settings}
 use Rattle.timing.specs.declared.Record.{Record}
 use Rattle.retransmission.specs.declared.Transmission.{Transmission}
 use Rattle.retransmission.specs.TransmissionLaws.{transmission-not-sent}
@@ -19,7 +18,8 @@ use Rattle.lists.specs.Views.{Holds}
 use Rattle.lists.proofs.Loops.{Packed, holds-as, packed-start, packed-put, packed-next, packed-done, view-end}
 use Rattle.datagram.specs.Datagrams.{Segment}
 use Rattle.session.specs.Decides.{All}
-use Rattle.session.specs.Flushing.{transmittedOf, sentAfter, transmittedNow, some, someDead, wished}
+use Rattle.session.specs.Flushing.{afterRule, transmitted, some, someDead, wished}
+use Rattle.session.specs.RuleLaws.{sent-append}
 use Rattle.packing.specs.declared.Packer.{Packer}
 use Rattle.packing.specs.Packers.{Fills, Room, Adds}
 use Rattle.packing.specs.PackerLaws.{adds-none, adds-append, adds-as, room-left}
@@ -30,7 +30,7 @@ use Rattle.numbering.specs.Sents.{sentIn}
 use Rattle.numbering.proofs.SentLaws.{sents, sents-take, sents-set, sents-get, sents-length, sents-front}
 use Rattle.transmit.specs.declared.Flush.{Flush}
 use Rattle.transmit.proofs.ControlLaws.{wished-none}
-use Rattle.transmit.specs.Writing.{ruleOf, afterFlush, sentBy, lateBy, fastBy, dataOf, InSlot, AllInSlots, sentAs, Walks}
+use Rattle.transmit.specs.Writing.{ruleOf, leftBy, sentBy, lateBy, fastBy, dataOf, InSlot, AllInSlots, sentAs, Walks}
 
 -- ---- lists
 
@@ -45,31 +45,19 @@ all-next P l r i y e a = rw e at (all-drop l i a) .0
     all-drop [] (suc i) a = a
     all-drop (x ∷ l) (suc i) a = all-drop l i (a .1)
 
-some-append : (test : Sent → Bool) (l m : List Sent) → some test (l ++ m) ≡ (some test l || some test m)
+some-append : {A : Type 0} (test : A → Bool) (l m : List A) → some test (l ++ m) ≡ (some test l || some test m)
 some-append test [] m = refl
 some-append test (x ∷ l) m = rw (some-append test l m) (sym (or-assoc (test x) (some test l) (some test m)))
 
-some-more : (test : Sent → Bool) (l : List Sent) (y : Sent) → some test (l ++ (y ∷ [])) ≡ (some test l || test y)
+some-more : {A : Type 0} (test : A → Bool) (l : List A) (y : A) → some test (l ++ (y ∷ [])) ≡ (some test l || test y)
 some-more test l y = rw (some-append test l (y ∷ []), or-false)
 
 -- ---- those that are sent
 
-sent-append : (c : Settings) (timeout t : ℕ) (l m : List Sent) → transmittedNow c timeout t (l ++ m) ≡ transmittedNow c timeout t l
-    ++ transmittedNow c timeout t m
-unfolding transmittedNow
-sent-append c timeout t [] m = refl
-sent-append c timeout t (x ∷ l) m = rw (sent-append c timeout t l m) (by-rule (transmittedOf c timeout t x .sends))
-  where
-    by-rule : (b : Bool) → cond b (sentAfter c timeout t x ∷ (transmittedNow c timeout t l ++ transmittedNow c timeout t m))
-        (transmittedNow c timeout t l ++ transmittedNow c timeout t m)
-        ≡ cond b (sentAfter c timeout t x ∷ transmittedNow c timeout t l) (transmittedNow c timeout t l) ++ transmittedNow c timeout t m
-    by-rule true = refl
-    by-rule false = refl
-
 -- the rule for the last one decides whether it is sent, and whether the link is dead by it
-module _ (f : Flush) (y x : Sent) (sends : Bool) (p : sends ≡ ruleOf f y .sends) (q : x ≡ afterFlush f y) where
+module _ (f : Flush) (y x : Sent) (sends : Bool) (p : sends ≡ ruleOf f y .rule .sends) (q : x ≡ afterRule (ruleOf f y)) where
   one-sent : sentBy f (y ∷ []) ≡ cond sends (x ∷ []) []
-  unfolding transmittedNow
+  unfolding transmitted
   one-sent = rw (p, q)
 
   sent-data : (pool : List ℕ) (l : List Sent) → map (dataOf f pool) (sentBy f (l ++ (y ∷ []))) ≡ map (dataOf f pool) (sentBy f l)
@@ -95,7 +83,7 @@ pub record Walking (f : Flush) (n : ℕ) (pool : List ℕ) (k₀ : Packer) (out�
     (ws ts rs : List ℕ) (k : Packer) (out lengths : List ℕ) (b b₁ b₂ : Bool) (i : ℕ) : Type 0 where
   pub wholes : length ts ≡ 32
   pub whole-records : length rs ≡ 128
-  pub list : Packed 32 n l₀ (sents ws ts (recordsIn rs)) (map (afterFlush f) (drop i (take n l₀))) (map (afterFlush f) (take n l₀)) i i
+  pub list : Packed 32 n l₀ (sents ws ts (recordsIn rs)) (leftBy f (drop i (take n l₀))) (leftBy f (take n l₀)) i i
   pub adds : Adds (f .settings .mtu) (map (dataOf f pool) (sentBy f (take i (take n l₀)))) (i * f .settings .mtu) i k₀ out₀ lengths₀ k out
       lengths
   pub dead : b ≡ someDead (sentBy f (take i (take n l₀)))
@@ -113,7 +101,7 @@ walking-as et er eo el ek eb ea ef w = rw (et, er, eo, el, ek, eb, ea, ef) w
 pub walking-start : (f : Flush) (n : ℕ) (pool : List ℕ) (k₀ : Packer) (out₀ lengths₀ ws ts rs : List ℕ)
     → n ≤ 32 → length ws ≡ 32 → length ts ≡ 32 → length rs ≡ 128 → Fills (f .settings .mtu) k₀
     → Walking f n pool k₀ out₀ lengths₀ (sents ws ts (recordsIn rs)) ws ts rs k₀ out₀ lengths₀ false false false 0
-unfolding transmittedNow
+unfolding transmitted
 walking-start f n pool k₀ out₀ lengths₀ ws ts rs h ew et er q =
     record {
       wholes = et;
@@ -152,8 +140,8 @@ module _ (f : Flush) (n : ℕ) (pool : List ℕ) (k₀ : Packer) (out₀ lengths
       pub walking-inside : (m : ℕ) → AllInSlots m (take n l₀) → InSlot m (unpack (getD ws i 0))
       walking-inside m a = all-next (λ (y : Sent). InSlot m (y .held)) (take n l₀) (drop (i + 1) (take n l₀)) i read next a
 
-      module _ (x : Transmission) (e : x ≡ ruleOf f read) where
-        after : sentAs (getD ws i 0) x ≡ afterFlush f read
+      module _ (x : Transmission) (e : x ≡ ruleOf f read .rule) where
+        after : sentAs (getD ws i 0) x ≡ afterRule (ruleOf f read)
         after = rw e
 
         -- a turn
@@ -174,8 +162,8 @@ module _ (f : Flush) (n : ℕ) (pool : List ℕ) (k₀ : Packer) (out₀ lengths
               adds = rw (more, sent-data f read (sentAs (getD ws i 0) x) (x .sends) sends after)
                   (adds-as (adds-append (w .adds) a) refl (omega arith) (omega arith));
               dead = rw (more, sent-dead f read (sentAs (getD ws i 0) x) (x .sends) sends after, ← (w .dead), ← t);
-              late = rw (more, some-more, ← (w .late), ← e);
-              fast = rw (more, some-more, ← (w .fast), ← e);
+              late = rw (more, map-append, some-more, ← (w .late), ← e);
+              fast = rw (more, map-append, some-more, ← (w .fast), ← e);
             }
 
         -- it is sent
@@ -217,8 +205,8 @@ module _ (f : Flush) (n : ℕ) (pool : List ℕ) (k₀ : Packer) (out₀ lengths
       record {
         adds = adds-as (w .adds) (rw front) (mul-le-mul-right (f .settings .mtu) below) below;
         sent = sents-front ws ts rs n _ whole (w .wholes) (w .whole-records)
-            (subst (λ (m : ℕ). Holds 32 (sents ws ts (recordsIn rs)) m (map (afterFlush f) (sentIn ws ts₀ (recordsIn rs₀) n))) all
-            (holds-as (packed-done (rw (view-end l₀ n i h)) (w .list)) (ap (map (afterFlush f)) here)));
+            (subst (λ (m : ℕ). Holds 32 (sents ws ts (recordsIn rs)) m (leftBy f (sentIn ws ts₀ (recordsIn rs₀) n))) all
+            (holds-as (packed-done (rw (view-end l₀ n i h)) (w .list)) (ap (leftBy f) here)));
         dead = rw front at (w .dead);
         late = rw front at (w .late);
         fast = rw front at (w .fast);

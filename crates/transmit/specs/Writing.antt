@@ -14,12 +14,13 @@ use Rattle.datagram.specs.Datagrams.{Segment}
 use Rattle.session.specs.State.{Ack}
 use Rattle.session.specs.Decides.{All}
 use Rattle.session.specs.Flushing.{
-  transmittedOf,
-  sentAfter,
-  transmittedNow,
+  Ruled,
+  ruling,
+  ruled,
+  afterwards,
+  transmitted,
+  some,
   someDead,
-  someLate,
-  someFast,
   control,
   ackSegment,
   dataSegment,
@@ -37,23 +38,27 @@ use Rattle.transmit.specs.declared.Written.{Written}
 
 -- ---- the outstanding segments
 
--- what the flush does with one of them, and the segment after that
-abbrev pub ruleOf : Flush → Sent → Transmission
-ruleOf f = transmittedOf (f .settings) (f .timeout) (f .t)
+-- what the flush does with one of them, and with each
+abbrev pub ruleOf : Flush → Sent → Ruled
+ruleOf f = ruling (f .settings) (f .timeout) (f .t)
 
-abbrev pub afterFlush : Flush → Sent → Sent
-afterFlush f = sentAfter (f .settings) (f .timeout) (f .t)
+abbrev pub rulesOf : Flush → List Sent → List Ruled
+rulesOf f = ruled (f .settings) (f .timeout) (f .t)
+
+-- all of them afterwards
+abbrev pub leftBy : Flush → List Sent → List Sent
+leftBy f l = afterwards (rulesOf f l)
 
 -- those that are sent, as they are then
 abbrev pub sentBy : Flush → List Sent → List Sent
-sentBy f = transmittedNow (f .settings) (f .timeout) (f .t)
+sentBy f l = transmitted (rulesOf f l)
 
 -- one is sent because it was due, or because it was skipped
 abbrev pub lateBy : Flush → List Sent → Bool
-lateBy f = someLate (f .settings) (f .timeout) (f .t)
+lateBy f l = some (λ (r : Ruled). r .rule .late) (rulesOf f l)
 
 abbrev pub fastBy : Flush → List Sent → Bool
-fastBy f = someFast (f .settings) (f .timeout) (f .t)
+fastBy f l = some (λ (r : Ruled). r .rule .fast) (rulesOf f l)
 
 -- one of them as a data segment
 abbrev pub dataOf : Flush → List ℕ → Sent → Segment
@@ -87,7 +92,7 @@ pub record Sendable (f : Flush) (words transmissions records : List ℕ) (n : �
 pub record Walks (f : Flush) (l : List Sent) (words : List ℕ) (n : ℕ) (pool : List ℕ) (k : Packer) (out lengths : List ℕ) (r : Walked)
     (transmissions′ records′ out′ lengths′ : List ℕ) : Type 0 where
   pub adds : Adds (f .settings .mtu) (map (dataOf f pool) (sentBy f l)) (32 * f .settings .mtu) 32 k out lengths (r .packer) out′ lengths′
-  pub sent : SentFront words transmissions′ records′ n (map (afterFlush f) l)
+  pub sent : SentFront words transmissions′ records′ n (leftBy f l)
   pub dead : r .dead ≡ someDead (sentBy f l)
   pub late : r .late ≡ lateBy f l
   pub fast : r .fast ≡ fastBy f l
@@ -118,7 +123,7 @@ pub record Writes (f : Flush) (acks : List Ack) (ask tell : Bool) (l : List Sent
     (r : Written) (transmissions′ records′ out′ lengths′ : List ℕ) : Type 0 where
   pub output : Output (bytesOfDatagrams (packed (f .settings .mtu) (segmentsOf f acks ask tell pool (sentBy f l)))) out lengths (r .count)
       out′ lengths′
-  pub sent : SentFront words transmissions′ records′ n (map (afterFlush f) l)
+  pub sent : SentFront words transmissions′ records′ n (leftBy f l)
   pub dead : r .dead ≡ someDead (sentBy f l)
   pub late : r .late ≡ lateBy f l
   pub fast : r .fast ≡ fastBy f l
