@@ -109,7 +109,7 @@ class Driver:
         self.names = list(self.walk.fields)
         self.values = {i + 1: self.value(p.t, f'x{low(i)}', f'v{low(i)}', f'g{low(i)}') for i, p in enumerate(pars) if p.kind == 'val'}
         self.slot = {i + 1: i for i, p in enumerate(pars) if p.slice() or p.kind == 'given'}
-        self.lent, self.pointers, self.shared = {}, {}, set()
+        self.lent, self.pointers, self.shared, self.parted = {}, {}, set(), False
 
     @staticmethod
     def value(t, x, v, g):
@@ -126,7 +126,10 @@ class Driver:
                 self.call(k, s, count)
                 count += 1
             else:
-                if self.lends(s) and not self.lent:
+                if self.lends(s) and not self.parted:
+                    self.parted = True
+                    for i in [i for i in range(len(self.pars)) if f'blent{i}' in w.context]:
+                        w.unshared(i)
                     w.cut(k)
                 self.assign(k, s)
         if self.pars[0].kind == 'sref':
@@ -166,6 +169,11 @@ class Driver:
             source, path = place(value[1])
             if source == 1 and len(path) == 2:
                 f = self.field(path)
+                w.address(f, local)
+                self.lent[local] = (f, 'mut' if self.locals[local][2] == 'mut' else 'shr')
+            elif not path and source in self.values:
+                v = self.values[source]
+                f = w.array(source, v['t'], v['x'], v['g'])
                 w.address(f, local)
                 self.lent[local] = (f, 'mut' if self.locals[local][2] == 'mut' else 'shr')
             elif source in self.slot and not self.pars[self.slot[source]].slice():
@@ -231,6 +239,9 @@ class Driver:
         self.values[local] = self.value(t, c.var, machine, f'is-{c.var}')
         for f, _ in lent:
             w.unlend(f)
+            if f in w.arrays:
+                at = int(f[1:])
+                self.values[at] = self.value(w.kind(f), w.now[f], w.filled[at], w.was[f])
         if c.alias == 'core':
             w.cut(k + 1)
 

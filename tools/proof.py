@@ -28,7 +28,7 @@ use denote.Memory.{pointee}
 use Rattle.timing.proofs.Record.Laws as record-laws
 use prog.Wp.{Env, Wp, atReturn}
 use types.Kit.{group, raw, atRet}
-use denote.Memory.{partAt}
+use denote.Memory.{partAt, cellAt}
 use types.Tokens.{lft-new, lft-end}
 use denote.Plain.{uint-lawful, nothing-lawful}
 use denote.Signed.{sint-lawful, sint-makes}

@@ -125,12 +125,7 @@ pub extern "C" fn ampferweg_input(
         a (now (link .exit))
         (partsOf (now («send_pool» .entry)) (now («receive_pool» .exit)) (now (table .exit)) (now (acks .exit)))) r ⌝ }
 {
-    let taken = take_in::take_in(link, send_pool, receive_pool, table, acks, datagram);
-    let words = results::taken_words(taken);
-    let n = results::taken_changed(taken);
-    let records = results::taken_records(taken);
-    gathering::scatter(table, words, n, records);
-    results::taken_code(taken)
+    take_in::take_in(link, send_pool, receive_pool, table, acks, datagram)
 }
 
 // A flush at time t: its datagrams, or the refusal.
@@ -152,7 +147,7 @@ pub extern "C" fn ampferweg_flush(
         (flushPartsOf (now (output .exit)) (now (lengths .exit)))) r ⌝ }
 {
     let paced = results::at_once();
-    write_out::write_and_put_back(
+    write_out::write_out(
         link,
         send_pool,
         receive_pool,
@@ -184,7 +179,7 @@ pub extern "C" fn ampferweg_update(
         (flushPartsOf (now (output .exit)) (now (lengths .exit)))) r ⌝ }
 {
     let paced = results::by_schedule();
-    write_out::write_and_put_back(
+    write_out::write_out(
         link,
         send_pool,
         receive_pool,
@@ -218,14 +213,15 @@ pub extern "C" fn ampferweg_check(
     let clock = link.clock;
     let words = link.outstanding;
     let n = results::outstanding_count(flight);
-    let records = gathering::gather(table, words, n);
+    let mut records = record_words::none();
+    gathering::gather(table, words, n, &mut records);
     let lent = records::table_len(table);
     let time = check_core::check(
         settings,
         flight,
         arrival,
         clock,
-        records,
+        &records,
         lent,
         &link.queued,
         &link.outstanding,
