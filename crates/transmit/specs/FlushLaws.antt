@@ -30,12 +30,12 @@ module _ (s : State) (t : ℕ) (f : Flush) (e : FlushOf s t f) (pool : List ℕ)
   unfolding flushing
   same-outstanding = rw (e .settings, e .timeout, e .time)
 
-  pub flush-writes : (words : List ℕ) (n : ℕ) (out lengths : List ℕ) (r : Written) (transmissions′ out′ lengths′ : List ℕ)
-      → Writes f (s .receiving .acks) (asks s t) (s .receiving .tell) (outstandingNow s) words n pool out lengths r transmissions′ out′
-      lengths′
-      → FlushWrites s t words n pool out lengths r transmissions′ out′ lengths′
+  pub flush-writes : (words : List ℕ) (n : ℕ) (out lengths : List ℕ) (r : Written) (transmissions′ records′ out′ lengths′ : List ℕ)
+      → Writes f (s .receiving .acks) (asks s t) (s .receiving .tell) (outstandingNow s) words n pool out lengths r transmissions′
+      records′ out′ lengths′
+      → FlushWrites s t words n pool out lengths r transmissions′ records′ out′ lengths′
   unfolding flushing
-  flush-writes words n out lengths r transmissions′ out′ lengths′ w =
+  flush-writes words n out lengths r transmissions′ records′ out′ lengths′ w =
       record {
         output = rw same-datagrams at (w .output);
         sent = rw same-outstanding at (w .sent);
