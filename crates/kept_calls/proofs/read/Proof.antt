@@ -1,11 +1,11 @@
 -- `read`: the block's arrays have their lengths, and what the core leaves is what the call promises.
 -- Assumes nothing.
-use mathlib.Core.Path.{_≡_, refl, ap, _∙_}
+use mathlib.Core.Path.{_≡_, ap, _∙_}
 use lib.ListN.{length, take}
 use borrow.Author.Needs.{needs}
 use Rattle.lists.proofs.Loops.{length-mapped}
 use Rattle.record_words.specs.RecordWords.{recordsIn}
-use Rattle.promises.specs.Parts.{Parts, partsOf}
+use Rattle.promises.specs.Parts.{partsOf}
 use Rattle.from_cores.proofs.Reading.{read-promised}
 use Rattle.from_cores.proofs.Gathered.{Gathers, padded-whole}
 use Rattle.kept_calls.proofs.Wholes.{whole-of, lent-length}

@@ -1,13 +1,13 @@
 -- `update`: the block's arrays have their lengths, and what the core leaves is what the call promises.
 -- Assumes nothing.
-use mathlib.Core.Path.{_≡_, refl}
+use mathlib.Core.Path.{_≡_}
 use lib.ListN.{length, take}
 use borrow.Author.Needs.{needs}
 use Rattle.lists.proofs.Loops.{length-mapped}
 use Rattle.record_words.specs.RecordWords.{recordsIn}
 use Rattle.record_words.specs.RecordLaws.{records-length}
 use Rattle.promises.specs.Cores.{PutBack}
-use Rattle.promises.specs.Parts.{Parts, partsOf, flushPartsOf}
+use Rattle.promises.specs.Parts.{partsOf, flushPartsOf}
 use Rattle.from_cores.proofs.Updating.{update-left, update-promised}
 use Rattle.from_cores.proofs.Gathered.{Gathers}
 use Rattle.flush_core.specs.Flushes.{putBack}

@@ -1,7 +1,7 @@
 -- `gather`: the records of the words before index i are gathered.
 -- Assumes nothing.
 use mathlib.Core.Path.{_≡_, refl, sym, ap, _∙_}
-use Prim.Native.Nat.{_-_, _≤_, _<_, _+_}
+use Prim.Native.Nat.{_-_, _≤_, _<_}
 use lib.ListN.{length, take}
 use Rattle.records.specs.Tables.{slotsIn, gathered, padded}
 use Rattle.records.proofs.Turns.{gathers-more, gathers-all}

@@ -1,7 +1,7 @@
 -- `scatter`: what is left to put back.
 -- Assumes nothing.
 use mathlib.Core.Path.{_≡_, refl, sym, ap, _∙_}
-use Prim.Native.Nat.{_-_, _≤_, _<_, _+_}
+use Prim.Native.Nat.{_-_, _≤_, _<_}
 use lib.ListN.{length, take, drop, set}
 use Rattle.records.specs.Tables.{slotsIn, scattered}
 use Rattle.records.proofs.Turns.{Left, scatters-more, scatters-all}
