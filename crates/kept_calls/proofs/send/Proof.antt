@@ -52,4 +52,12 @@ returns c =
     }))
 
 pub send-spec : {M : Type 1} → statement M
-send-spec = tie.close (tie.spec (λ c κs. search needs) (λ c κs. search needs) (λ c κs. search needs) send-requires (λ c. search needs) returns)
+send-spec =
+    tie.close
+    (tie.spec
+    (λ c κs. search needs)
+    (λ c κs. search needs)
+    (λ c κs. search needs)
+    send-requires
+    (λ c. search needs)
+    returns)
