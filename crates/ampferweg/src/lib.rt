@@ -11,7 +11,7 @@ ghost use Rattle.codes.specs.Codes.{answerCode, countCode, updateCode, timeCode
 ghost use Rattle.codes.specs.Gives.{Gives};
 ghost use Rattle.results.specs.PlaceCodes.{placeCode};
 ghost use mathlib.Core.Path.{_≡_};
-ghost use Rattle.ampferweg.specs.Blocks.{blockSize, versionNumber};
+ghost use Rattle.archive.specs.Blocks.{blockSize, versionNumber};
 ghost use Rattle.asks.specs.Places.{PlacePromise};
 ghost use Rattle.asks.specs.Times.{TimePromise};
 
@@ -227,7 +227,7 @@ pub extern "C" fn ampferweg_show(
 pub extern "C" fn ampferweg_block_size() -> u32
     ensures { λ r. ⌜ r ≡ blockSize ⌝ }
 {
-    2336
+    archive::block_size()
 }
 
 // The version of these functions, as one number.
@@ -235,5 +235,5 @@ pub extern "C" fn ampferweg_block_size() -> u32
 pub extern "C" fn ampferweg_version_number() -> u32
     ensures { λ r. ⌜ r ≡ versionNumber ⌝ }
 {
-    400
+    archive::version_number()
 }
