@@ -8,7 +8,7 @@ import re
 import sys
 
 from mir import Call, write
-from rows import Declared, Nothing, Number, Numbers, Records, Signed, Truth
+from rows import Declared, Nothing, Number, Numbers, Signed, Truth
 from walk import Par, low
 
 SETTINGS, FLIGHT = Declared('protocol', 'Settings'), Declared('control', 'Flight')
@@ -26,13 +26,14 @@ TYPES = {
     'answers::Time': TIME,
     'read_core::Delivered': DELIVERED, 'read_core::Place': PLACE, 'answers::Count': COUNT,
     'tyInt 64': Number('usize'), 'tyInt 32': CODE, 'tyBool': Truth(), 'tyUnit': Nothing(),
-    'tyArray timing::Record 32': Records(), 'tyArray tyInt 32 32': Numbers('u32', 32),
+    'tyArray tyInt 32 32': Numbers('u32', 32), 'tyArray tyInt 32 128': Numbers('u32', 128),
 }
 
 # what a proof names of the specs and laws
 NAMES = {
-    'mathlib.Core.Path': '_∙_ sym subst', 'mathlib.Core.Bool': 'Bool true false', 'denote.Plain': 'Boolean bool-vals bool-tells bool-lawful bool-makes', 'mir.Val': 'vbool', 'lib.ListN': 'take',
+    'mathlib.Core.Path': '_∙_ sym subst', 'mathlib.Core.Bool': 'Bool true false', 'denote.Plain': 'Boolean bool-vals bool-tells bool-lawful bool-makes', 'mir.Val': 'vbool', 'lib.ListN': 'take replicate',
     'Rattle.protocol.specs.Protocol': 'sendSlots', 'Rattle.records.specs.Tables': 'slotsIn gathered padded scattered',
+    'Rattle.record_words.specs.RecordWords': 'recordsIn', 'Rattle.record_words.specs.RecordLaws': 'records-length',
     'Rattle.control.specs.Views': 'Whole Arrays arrays arraysOf linkOf',
     'Rattle.checking.specs.Tests': 'flightFits', 'Rattle.checking.specs.Verdicts': 'Flown Flies ByFlown',
     'Rattle.promises.specs.Parts': 'lentLengths partsOf flushPartsOf', 'Rattle.promises.specs.Answers': 'countOutcome timeOutcome',
@@ -44,13 +45,12 @@ NAMES = {
     'Rattle.write_out.specs.Written': 'Left WrittenOut',
     'Rattle.write_out.proofs.Paced': 'left gives',
     'Rattle.codes.specs.Codes': 'answerCode countCode updateCode timeCode timeStored settingsOf', 'Rattle.codes.specs.Gives': 'Gives', 'Rattle.codes.proofs.Told': 'told',
-    'Rattle.results.specs.PlaceCodes': 'placeCode placeStart', 'Rattle.results.specs.PutBacks': 'takenBack',
-    'Rattle.from_cores.specs.Left': 'InputLeft',
+    'Rattle.results.specs.PlaceCodes': 'placeCode placeStart',
     'Rattle.from_cores.proofs.Gathered': 'gathers padded-whole', 'Rattle.from_cores.proofs.Scattered': 'put-back',
     'Rattle.from_cores.proofs.Opening': 'open-promised', 'Rattle.from_cores.proofs.Sending': 'send-promised',
     'Rattle.from_cores.proofs.Reading': 'read-promised', 'Rattle.from_cores.proofs.Asking': 'size-promised shows-promised check-promised',
     'Rattle.from_cores.proofs.TakingIn': 'input-left input-promised',
-    'Rattle.ampferweg.specs.Places': 'PlacePromise', 'Rattle.ampferweg.specs.Times': 'TimePromise',
+    'Rattle.asks.specs.Places': 'PlacePromise', 'Rattle.asks.specs.Times': 'TimePromise',
 }
 
 ARRAYS = ['queued', 'outstanding', 'transmissions', 'ready', 'waiting', '«waiting_numbers»']
@@ -82,12 +82,18 @@ def parts(*slices):
 
 P = parts('(x₁ .now)', '(x₂ .now)', '(x₃ .now)', '(x₄ .now)')
 LENT = 'lentLengths m (x₁ .now) (x₂ .now) (x₄ .now)'
+# the records of the outstanding segments go into an array in a local; it is z-local where the core is called
+FOUND = last('g', 3)
 GATHER = [
     Call('count-of', 'n', 'n ≡ h .flight .outstanding'),
-    Call('gather', 'recs', 'recs ≡ padded (gathered (take sendSlots (x₃ .now)) (slotsIn (h .outstanding) n))'),
+    Call('none-of', 'blanks', 'blanks ≡ replicate 128 0'),
+    Call('gather', 'g', f'(length {FOUND} ≡ 128) × (recordsIn {FOUND} ≡ padded (gathered (take sendSlots (x₃ .now)) (slotsIn (h .outstanding) n)))',
+         ('f-local ≡ replicate 128 0', 'e-blanks')),
     Call('table-len', 'm', 'm ≡ length (x₃ .now)'),
 ]
-GATHERED = f'h {P} recs m (gathers h {P} n recs m e-n e-recs e-m)'
+RECS = '(recordsIn z-local)'
+GATHERS = f'(gathers h {P} n {RECS} m e-n (e-g .1) e-m)'
+WHOLE_RECORDS = (f"Whole (arrays {' '.join(f'f-{a}' for a in PLAIN)}) × (length f-local ≡ 128)", f"{whole('len-')}, e-g .0")
 
 # where only the test of the records is wanted: it is made over the table, and no record is gathered
 COUNT_OUT, TABLE = '(h .flight .outstanding)', '(take sendSlots (x₃ .now))'
@@ -100,12 +106,6 @@ FLOWN = f'(record {{ whole = padded-whole {TABLE} (h .outstanding) {COUNT_OUT}; 
 FITTING = f'h {P} {RECORDS} m (gathers h {P} {COUNT_OUT} {RECORDS} m refl refl e-m)'
 LISTS = 'arrays ' + ' '.join(f'f-{a}' for a in PLAIN)
 FLIES = (f'Whole ({LISTS}) × Flies (linkOf y₀ y₁ y₂ y₃ ({LISTS})) y₄', f"{whole('len-')}, ({RECORDS}, {FLOWN})")
-
-
-# where records are gathered and tested: these are the ones that are told of
-FITTED = Call('fit', 'fl', f'fl ≡ flightFits (h .settings .mode) (h .flight .una) (h .flight .next) (take {COUNT_OUT} {RECORDS})')
-TESTED = (f'subst (λ l. Flown h l fl) (sym (e-recs ∙ ap (λ k. padded (gathered {TABLE} (slotsIn (h .outstanding) k))) e-n)) {FLOWN}')
-FLOWN_HERE = (f'Whole ({LISTS}) × Flown (linkOf y₀ y₁ y₂ y₃ ({LISTS})) y₅ y₄', f"{whole('len-')}, {TESTED}")
 
 
 def by_flown(says):
@@ -122,7 +122,7 @@ def open_():
     link = 'linkOf (a .settings) (a .flight) (a .arrival) (a .clock)'
     made = f'open-promised c h {p} (a .answer) ({link} (arraysOf h)) m e-m (e-a (arraysOf h))'
     return dict(
-        crate='ampferweg', name='ampferweg_open', result=CODE, about='Structs are copied and stored.',
+        crate='local_calls', name='open', result=CODE, about='Structs are copied and stored.',
         pars=[Par('ref')] + [Par('val', U32) for _ in range(7)] + [Par('shr', 'u8'), Par('shr', 'u8'), Par('shr', 'R'), Par('shr', 'u32')],
         said=f'Gives answerCode (λ a. OpenPromise ({new}) h {p} a k {p}) r',
         calls=[
@@ -140,7 +140,7 @@ def send():
     link = f"(linkOf (h .settings) (a .flight) (h .arrival) (h .clock) ({after('a', ARRAYS[:1])}))"
     pool = last('a', FIRST + 6)
     return dict(
-        crate='ampferweg', name='ampferweg_send', result=CODE, about='The table is read; structs are copied, all lists are lent, and the flight is stored.',
+        crate='local_calls', name='send', result=CODE, about='The table is read; structs are copied, all lists are lent, and the flight is stored.',
         pars=[Par('ref'), Par('mut', 'u8')] + SLICES[1:] + [Par('shr', 'u8')],
         said=f'Gives answerCode (λ a. SendPromise (x₅ .now) h {P} a k {end}) r',
         calls=FIT + [
@@ -154,7 +154,7 @@ def read():
     link = f"(linkOf (h .settings) (h .flight) (a .arrival) (h .clock) ({after('a', ARRAYS[3:])}))"
     buffer = last('a', FIRST + 9)
     return dict(
-        crate='ampferweg', name='ampferweg_read', result=CODE, about='The table is read; structs are copied, all lists are lent, and the arrival is stored.',
+        crate='local_calls', name='read', result=CODE, about='The table is read; structs are copied, all lists are lent, and the arrival is stored.',
         pars=[Par('ref')] + SLICES + [Par('mut', 'u8')],
         said=f'Gives countCode (λ a. ReadPromise h {P} (x₅ .now) a k {P} z₅) r',
         calls=FIT + [
@@ -166,7 +166,7 @@ def read():
 
 def size():
     return dict(
-        crate='ampferweg', name='ampferweg_size', result=CODE, about='The block and the table are read through a `&`.',
+        crate='asks', name='size', result=CODE, about='The block and the table are read through a `&`.',
         pars=[Par('sref')] + SLICES,
         said=f'Gives countCode (λ a. SizePromise h {P} a) r',
         calls=FIT + [
@@ -177,7 +177,7 @@ def size():
 
 def show():
     return dict(
-        crate='ampferweg', name='ampferweg_show', result=CODE, about='The block and the table are read through a `&`; where the start goes is given to `tell_place`.',
+        crate='asks', name='show', result=CODE, about='The block and the table are read through a `&`; where the start goes is given to `tell_place`.',
         pars=[Par('sref')] + SLICES + [Par('given', 'u32')],
         said=f'Gives placeCode (λ a. PlacePromise h {P} a z₅) r',
         calls=FIT + [
@@ -189,47 +189,42 @@ def show():
 
 def check():
     return dict(
-        crate='ampferweg', name='ampferweg_check', result=CODE, about='The block and the table are read through a `&`; where the time goes is given to `tell_time`.',
+        crate='asks', name='check', result=CODE, about='The block and the table are read through a `&`; where the time goes is given to `tell_time`.',
         pars=[Par('sref')] + SLICES + [Par('val', U32), Par('given', 'u32')],
         said=f'Gives timeCode (λ a. TimePromise x₅ h {P} a (x₆ .now) z₆) r',
         calls=GATHER + [
-            Call('core', 'a', f'timeOutcome a ≡ checksWith h recs (x₄ .now) ({LENT}) x₅', WHOLE),
+            Call('core', 'a', f'timeOutcome a ≡ checksWith h {RECS} (x₄ .now) ({LENT}) x₅', WHOLE_RECORDS),
             Call('code-of', 'r', f"(r ≡ timeCode a) × ({last('r', 1)} ≡ timeStored a (x₆ .now))"),
         ],
-        proof=f'told timeCode _ a (e-r .0) (record {{ time = check-promised {GATHERED} x₅ a e-a; when = e-r .1 }})')
+        proof=f'told timeCode _ a (e-r .0) (record {{ time = check-promised h {P} {RECS} m {GATHERS} x₅ a e-a; when = e-r .1 }})')
+
+
+# behind the core the words are copied, and the records put back by them
+WORDS, LEFT, TABLE_AFTER = 'z-outstanding', '(recordsIn z-local′)', last('u', 0)
+SCATTER = [
+    Call('changed-of', 'c', 'c ≡ a .changed'),
+    Call('scatter', 'u', f'{TABLE_AFTER} ≡ scattered (x₃ .now) (slotsIn {WORDS} c) {LEFT}', ('length f-local ≡ 128', 'e-a .1')),
+]
+BACK = f'(record {{ words = {WORDS}; changed = a .changed; records = {LEFT} }})'
+PUT = f'(records-length 32 z-local′ (e-a .1)) (put-back (x₃ .now) {TABLE_AFTER} {BACK} {WORDS} c {LEFT} refl e-c refl e-u)'
+ALL = [Par('ref'), Par('shr', 'u8'), Par('mut', 'u8'), Par('mut', 'R'), Par('mut', 'u32'), Par('shr', 'u8')]
 
 
 def take_in():
-    link = f"(linkOf (h .settings) (a .flight) (a .arrival) (h .clock) ({after('a', ARRAYS[1:], FIRST + 1)}))"
-    pool, acks = last('a', FIRST + 8), last('a', FIRST + 9)
-    gives = f'(λ l. takesInWith l recs (x₄ .now) ({LENT}) (x₂ .now) (x₅ .now))'
-    gathered = f'(gathers h {P} n recs m e-n e-recs e-m)'
+    link = f"(linkOf (h .settings) (a .flight) (a .arrival) (h .clock) ({after('a', ARRAYS[1:])}))"
+    records, pool, acks = last('a', 4), last('a', FIRST + 7), last('a', FIRST + 8)
+    gives = f'(λ l. takesInWith l {RECS} (x₄ .now) ({LENT}) (x₂ .now) (x₅ .now))'
+    takes = f"Takes {gives} (h .settings) (h .flight) (h .arrival) (h .clock) (arraysOf h) (x₂ .now) (x₄ .now) a ({after('a', ARRAYS[1:])}) (recordsIn {records}) {pool} {acks}"
+    had = f"(x₅ .now) h {P} (a .answer) {BACK} {link} {pool} {acks}"
     return dict(
-        crate='take_in', name='take_in', result=TAKEN, about='The table is read; structs are copied, all lists are lent, and flight and arrival are stored.',
-        pars=[Par('ref'), Par('shr', 'u8'), Par('mut', 'u8'), Par('shr', 'R'), Par('mut', 'u32'), Par('shr', 'u8')],
-        said=f'InputLeft (x₅ .now) h {P} (r .answer) (takenBack r) k z₂ z₄',
-        calls=GATHER[:2] + [FITTED, GATHER[2]] + [
-            Call('core', 'a', f"Takes {gives} (h .settings) (h .flight) (h .arrival) (h .clock) (arraysOf h) (x₂ .now) (x₄ .now) a ({after('a', ARRAYS[1:], FIRST + 1)}) {pool} {acks}", FLOWN_HERE),
+        crate='take_in', name='take_in', result=CODE,
+        about='Structs are copied, all lists are lent, flight and arrival are stored; records are gathered from the table, and put back.',
+        pars=ALL, said=f"Gives answerCode (λ a. InputPromise (x₅ .now) h {P} a k {parts('(x₁ .now)', 'z₂', 'z₃', 'z₄')}) r",
+        calls=GATHER + [
+            Call('core', 'a', f'({takes}) × (length {records} ≡ 128)', WHOLE_RECORDS),
             Call('flight-of', 'kf', 'kf ≡ a .flight'), Call('arrival-of', 'ka', 'ka ≡ a .arrival'),
-        ],
-        proof=f"rw (e-kf, e-ka) (input-left (x₅ .now) h {P} (a .answer) (takenBack a) {link} {pool} {acks} recs m {gathered} ({whole('end-')}) e-a)")
-
-
-def input_():
-    p = parts('(x₁ .now)', '(x₂ .now)', '(x₃ .now)', '(x₄ .now)')
-    link, pool, acks, table = last('t', 0), last('t', 2), last('t', 4), last('u', 0)
-    few = '(ap length (sym e-after) ∙ is-after .1 .0 .1)'
-    put = f'(put-back (x₃ .now) {table} (takenBack t) words n after e-words e-n e-after e-u)'
-    return dict(
-        crate='ampferweg', name='ampferweg_input', result=CODE, about='The block is given to `take_in`, and the table lent to it as `&`; then the table is given to `scatter`.',
-        pars=[Par('given', 'L'), Par('shr', 'u8'), Par('mut', 'u8'), Par('mut', 'R'), Par('mut', 'u32'), Par('shr', 'u8')],
-        said=f"Gives answerCode (λ a. InputPromise (x₅ .now) (x₀ .now) {p} a z₀ {parts('(x₁ .now)', 'z₂', 'z₃', 'z₄')}) r",
-        calls=[
-            Call('taking', 't', f'InputLeft (x₅ .now) (x₀ .now) {p} (t .answer) (takenBack t) {link} {pool} {acks}'),
-            Call('words-of', 'words', 'words ≡ t .words'), Call('count-of', 'n', 'n ≡ t .changed'), Call('records-of', 'after', 'after ≡ t .records'),
-            Call('scatter', 'u', f'{table} ≡ scattered (x₃ .now) (slotsIn words n) after'), Call('code-of', 'r', 'r ≡ answerCode (t .answer)'),
-        ],
-        proof=f'told answerCode _ (t .answer) e-r (input-promised (x₅ .now) (x₀ .now) {p} (t .answer) (takenBack t) {link} {pool} {acks} {table} {few} {put} e-t)')
+        ] + SCATTER + [Call('code-of', 'r', 'r ≡ answerCode (a .answer)')],
+        proof=f"told answerCode _ (a .answer) e-r (rw (e-kf, e-ka) (input-promised {had} {TABLE_AFTER} {PUT} (input-left {had} {RECS} m {GATHERS} ({whole('end-')}) (e-a .0))))")
 
 
 # output and lengths before a flush and after it
@@ -238,48 +233,32 @@ INTO, FILLED = '(flushPartsOf (x₇ .now) (x₈ .now))', '(flushPartsOf z₇ z�
 
 def write_out():
     link = f"(linkOf (h .settings) (a .flight) (a .arrival) (a .clock) ({after('a', ARRAYS[:3], FIRST + 1)}))"
-    output, lengths = last('a', FIRST + 11), last('a', FIRST + 12)
-    gathered = f'(gathers h {P} n recs m e-n e-recs e-m)'
+    records, output, lengths = last('a', 4), last('a', FIRST + 11), last('a', FIRST + 12)
+    core = f'Core x₅ h {RECS} m (x₁ .now) (x₂ .now) (x₄ .now) x₆ (x₇ .now) (x₈ .now) a {link} (recordsIn {records}) {output} {lengths}'
+    left = f"(left x₅ x₆ h {P} {INTO} a {link} {LEFT} (flushPartsOf {output} {lengths}) {RECS} m {GATHERS} ({whole('end-')}) (e-a .0))"
     return dict(
-        crate='write_out', name='write_out', result=FLUSHED, about='The table is read; structs are copied, all lists are lent, and flight, arrival and clock are stored.',
-        pars=[Par('ref')] + SLICES + [Par('val', Truth()), Par('val', U32), Par('mut', 'u8'), Par('mut', 'u16')],
-        said=f'Left x₅ x₆ h {P} {INTO} (r .answer) (putBack r) k {FILLED}',
+        crate='write_out', name='write_out', result=CODE,
+        about='Structs are copied, all lists are lent, flight, arrival and clock are stored; records are gathered from the table, and put back.',
+        pars=[Par('ref')] + WRITING + [Par('val', Truth()), Par('val', U32), Par('mut', 'u8'), Par('mut', 'u16')],
+        said=f"WrittenOut x₅ x₆ h {P} {INTO} k {parts('(x₁ .now)', '(x₂ .now)', 'z₃', '(x₄ .now)')} {FILLED} r",
         calls=GATHER + [
-            Call('core', 'a', f'Core x₅ h recs m (x₁ .now) (x₂ .now) (x₄ .now) x₆ (x₇ .now) (x₈ .now) a {link} {output} {lengths}', WHOLE),
+            Call('core', 'a', f'({core}) × (length {records} ≡ 128)', WHOLE_RECORDS),
             Call('flight-of', 'kf', 'kf ≡ a .flight'), Call('arrival-of', 'ka', 'ka ≡ a .arrival'), Call('clock-of', 'kc', 'kc ≡ a .clock'),
-        ],
-        proof=f"rw (e-kf, e-ka, e-kc) (left x₅ x₆ h {P} {INTO} a {link} (flushPartsOf {output} {lengths}) recs m {gathered} ({whole('end-')}) e-a)")
-
-
-def put_back():
-    """The same with the records put back, for C."""
-    p = parts('(x₁ .now)', '(x₂ .now)', '(x₃ .now)', '(x₄ .now)')
-    link, output, lengths, table = last('t', 0), last('t', 7), last('t', 8), last('u', 0)
-    few = '(ap length (sym e-after) ∙ is-after .1 .0 .1)'
-    put = f'(put-back (x₃ .now) {table} (putBack t) words n after e-words e-n e-after e-u)'
-    return dict(
-        crate='write_out', name='write_and_put_back', result=CODE, about='The block is given to `write_out`, and the table lent to it as `&`; then the table is given to `scatter`.',
-        pars=[Par('given', 'L')] + WRITING + [Par('val', Truth()), Par('val', U32), Par('mut', 'u8'), Par('mut', 'u16')],
-        said=f"WrittenOut x₅ x₆ (x₀ .now) {p} {INTO} z₀ {parts('(x₁ .now)', '(x₂ .now)', 'z₃', '(x₄ .now)')} {FILLED} r",
-        calls=[
-            Call('writing', 't', f'Left x₅ x₆ (x₀ .now) {p} {INTO} (t .answer) (putBack t) {link} (flushPartsOf {output} {lengths})'),
-            Call('words-of', 'words', 'words ≡ t .words'), Call('count-of', 'n', 'n ≡ t .changed'), Call('records-of', 'after', 'after ≡ t .records'),
-            Call('scatter', 'u', f'{table} ≡ scattered (x₃ .now) (slotsIn words n) after'), Call('code-of', 'r', 'r ≡ updateCode (t .answer)'),
-        ],
-        proof=f'gives x₅ x₆ (x₀ .now) {p} {INTO} (t .answer) (putBack t) {link} (flushPartsOf {output} {lengths}) {table} {few} {put} e-t r e-r')
+        ] + SCATTER + [Call('code-of', 'r', 'r ≡ updateCode (a .answer)')],
+        proof=f"rw (e-kf, e-ka, e-kc) (gives x₅ x₆ h {P} {INTO} (a .answer) {BACK} {link} (flushPartsOf {output} {lengths}) {TABLE_AFTER} {PUT} {left} r e-r)")
 
 
 WRITING = [Par('shr', 'u8'), Par('shr', 'u8'), Par('mut', 'R'), Par('shr', 'u32')]
 
 
 def written(name, code, promise, paced):
-    """A flush or an update for C: all is given to `write_and_put_back`."""
+    """A flush or an update for C: all is given to `write_out`."""
     p = parts('(x₁ .now)', '(x₂ .now)', '(x₃ .now)', '(x₄ .now)')
     link, table, output, lengths = last('r', 0), last('r', 3), last('r', 7), last('r', 8)
     now = '(x₀ .now) ' + p + ' (flushPartsOf (x₆ .now) (x₇ .now))'
     end = f"{link} {parts('(x₁ .now)', '(x₂ .now)', table, '(x₄ .now)')} (flushPartsOf {output} {lengths}) r"
     return dict(
-        crate='ampferweg', name=name, result=CODE, about='Block and table are given to `write_and_put_back`.',
+        crate='ampferweg', name=name, result=CODE, about='Block and table are given to `write_out`.',
         pars=[Par('given', 'L')] + WRITING + [Par('val', U32), Par('mut', 'u8'), Par('mut', 'u16')],
         said=f"Gives {code} (λ a. {promise} x₅ {now} a z₀ {parts('(x₁ .now)', '(x₂ .now)', 'z₃', '(x₄ .now)')} (flushPartsOf z₆ z₇)) r",
         calls=[Call('paced-of', 'b', f'b ≡ {paced}'), Call('writing', 'r', f'WrittenOut b x₅ {now} {end}')],
@@ -294,9 +273,23 @@ def update():
     return written('ampferweg_update', 'updateCode', 'UpdatePromise', 'true')
 
 
-CALLS = {'open': open_, 'send': send, 'take_in': take_in, 'input': input_, 'write_out': write_out, 'put_back': put_back, 'flush': flush, 'update': update,
-         'check': check, 'read': read, 'size': size, 'show': show}
+def exported(call):
+    """A call for C: everything is given to the function of a crate below, which has the same contract."""
+    below = call()
+    here = lambda text: re.sub(r'\bk\b', 'z₀', re.sub(r'\bh\b', '(x₀ .now)', text))
+    said = here(below['said'])
+    kinds = {'ref': 'given', 'sref': 'sgiven'}
+    pars = [Par(kinds[p.kind], 'L') if p.kind in kinds else Par(p.kind, p.t) for p in below['pars']]
+    left = re.sub(r'\bz([₀-₉]+)', lambda z: last('r', int(z.group(1).translate(PLAIN_DIGITS))), said)
+    name = f"ampferweg_{ {'take_in': 'input'}.get(below['name'], below['name']) }"
+    about = f"All is given to `{below['crate']}::{below['name']}`."
+    return dict(crate='ampferweg', name=name, result=CODE, about=about, pars=pars, said=said, calls=[Call('call', 'r', left)], proof='e-r')
 
+
+PLAIN_DIGITS = str.maketrans('₀₁₂₃₄₅₆₇₈₉', '0123456789')
+BELOW = {'open': open_, 'send': send, 'read': read, 'size': size, 'show': show, 'check': check, 'take_in': take_in}
+CALLS = {'below-' + name: call for name, call in BELOW.items()} | {name: lambda call=call: exported(call) for name, call in BELOW.items()}
+CALLS |= {'write_out': write_out, 'flush': flush, 'update': update}
 
 
 def named_from(crate):

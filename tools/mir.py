@@ -108,8 +108,8 @@ class Driver:
         self.walk = Walk(crate, name, pars, [ty(t, types) for t in self.locals], callees, result, said, uses, block_fields(), about)
         self.names = list(self.walk.fields)
         self.values = {i + 1: self.value(p.t, f'x{low(i)}', f'v{low(i)}', f'g{low(i)}') for i, p in enumerate(pars) if p.kind == 'val'}
-        self.slot = {i + 1: i for i, p in enumerate(pars) if p.slice() or p.kind == 'given'}
-        self.lent, self.pointers, self.shared = {}, {}, set()
+        self.slot = {i + 1: i for i, p in enumerate(pars) if p.slice() or p.kind in ('given', 'sgiven')}
+        self.lent, self.pointers, self.shared, self.parted = {}, {}, set(), False
 
     @staticmethod
     def value(t, x, v, g):
@@ -126,7 +126,10 @@ class Driver:
                 self.call(k, s, count)
                 count += 1
             else:
-                if self.lends(s) and not self.lent:
+                if self.lends(s) and not self.parted:
+                    self.parted = True
+                    for i in [i for i in range(len(self.pars)) if f'blent{i}' in w.context]:
+                        w.unshared(i)
                     w.cut(k)
                 self.assign(k, s)
         if self.pars[0].kind == 'sref':
@@ -153,6 +156,8 @@ class Driver:
             if not any(self.touches(x) for x in self.statements[k + 1:]):
                 w.lengths('end-')
                 w.closes()
+                if w.arrays:
+                    w.cut(k + 1)
         elif value[0] == 'rvOpd' and value[1][0] == 'copy':
             source, path = place(value[1][1])
             if path:
@@ -166,6 +171,11 @@ class Driver:
             source, path = place(value[1])
             if source == 1 and len(path) == 2:
                 f = self.field(path)
+                w.address(f, local)
+                self.lent[local] = (f, 'mut' if self.locals[local][2] == 'mut' else 'shr')
+            elif not path and source in self.values:
+                v = self.values[source]
+                f = w.array(source, v['t'], v['x'], v['g'])
                 w.address(f, local)
                 self.lent[local] = (f, 'mut' if self.locals[local][2] == 'mut' else 'shr')
             elif source in self.slot and not self.pars[self.slot[source]].slice():
@@ -184,7 +194,10 @@ class Driver:
     @staticmethod
     def touches(s):
         """A later statement stores to the block, or reads or lends a field."""
-        return s[0] == 'assign' and (place(s[1])[1] or (s[2][0] in ('addrOf', 'rvOpd') and 'deref' in str(s[2])))
+        if s[0] != 'assign':
+            return False
+        read = s[2][1] if s[2][0] == 'addrOf' else s[2][1][1] if s[2][0] == 'rvOpd' and s[2][1][0] == 'copy' else None
+        return any(p and place(p)[0] == 1 and place(p)[1] for p in (s[1], read))
 
     def arguments(self, k, locals_):
         w, out = self.walk, []
@@ -231,6 +244,9 @@ class Driver:
         self.values[local] = self.value(t, c.var, machine, f'is-{c.var}')
         for f, _ in lent:
             w.unlend(f)
+            if f in w.arrays:
+                at = int(f[1:])
+                self.values[at] = self.value(w.kind(f), w.now[f], w.filled[at], w.was[f])
         if c.alias == 'core':
             w.cut(k + 1)
 

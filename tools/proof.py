@@ -28,7 +28,7 @@ use denote.Memory.{pointee}
 use Rattle.timing.proofs.Record.Laws as record-laws
 use prog.Wp.{Env, Wp, atReturn}
 use types.Kit.{group, raw, atRet}
-use denote.Memory.{partAt}
+use denote.Memory.{partAt, cellAt}
 use types.Tokens.{lft-new, lft-end}
 use denote.Plain.{uint-lawful, nothing-lawful}
 use denote.Signed.{sint-lawful, sint-makes}
@@ -83,7 +83,7 @@ def proof_file(w):
             binders.append(f'(x{n} : {p.t.denot}) (v{n} : Val) (g{n} : Is {p.t.row} x{n} (v{n} ∷ []))')
         elif p.kind in ('ref', 'sref'):
             binders.append('(b o : ℕ) (γ : GName) (h : Link)')
-        elif p.kind == 'given':
+        elif p.kind in ('given', 'sgiven'):
             binders.append(f'(x{n} : RefT {p.value()})')
         else:
             binders.append(f'(x{n} : RefT ({p.list()})) (room{n} : Room {p.t} (length (x{n} .now)))')
@@ -101,9 +101,10 @@ def proof_file(w):
             say(f'    abbrev s{n} : Val\n    s{n} = sliceVal (x{n} .ptr) (length (x{n} .now))\n')
             ref = 'MutSlice' if p.kind == 'mut' else 'ShrSlice'
             say(f'    abbrev Own{n} : Fml\n    Own{n} = {ref} (named 0) κ{low(p.lft)} {p.t} .own x{n} (s{n} ∷ [])\n')
-        if p.kind == 'given':
+        if p.kind in ('given', 'sgiven'):
+            ref = 'MutRef' if p.kind == 'given' else 'ShrRef'
             say(f'    abbrev s{n} : Val\n    s{n} = vptr (x{n} .ptr .0) (x{n} .ptr .1)\n')
-            say(f'    abbrev Own{n} : Fml\n    Own{n} = MutRef (named 0) κ{low(p.lft)} {p.t} .own x{n} (s{n} ∷ [])\n')
+            say(f'    abbrev Own{n} : Fml\n    Own{n} = {ref} (named 0) κ{low(p.lft)} {p.t} .own x{n} (s{n} ∷ [])\n')
         if i in shown:
             say(f'    abbrev shown-at{n} : GName → RefT ({p.list()})\n    shown-at{n} δ = record {{ ptr = x{n} .ptr; name = δ; now = x{n} .now }}\n')
             say(f'    abbrev Shared{n} : ℕ → GName → Fml\n    Shared{n} β δ = ShrSlice (named 0) (β ∷ []) {p.t} .own (shown-at{n} δ) (s{n} ∷ [])\n')
@@ -273,12 +274,12 @@ def meets(w):
     def tells(p):
         if p.kind == 'val':
             return p.t.tells()
-        law = {'mut': 'mut-slice-tells', 'shr': 'shr-slice-tells', 'sref': 'shr-tells'}.get(p.kind, 'mut-tells')
+        law = {'mut': 'mut-slice-tells', 'shr': 'shr-slice-tells', 'sref': 'shr-tells', 'sgiven': 'shr-tells'}.get(p.kind, 'mut-tells')
         return f"{law} (named {p.lft}) ({at('κs', p.lft)}) {p.t or 'L'}"
 
     def passes(i, p):
         value, is_ = at('a', i), at('are', i)
-        if p.kind == 'given':
+        if p.kind in ('given', 'sgiven'):
             return f'({value})'
         if p.kind in ('ref', 'sref'):
             return f'({value} .ptr .0) ({value} .ptr .1) ({value} .name) ({value} .now)'

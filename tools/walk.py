@@ -4,6 +4,8 @@
 #   fin2           the last value of parameter 2             shown2, btok2, blent2   a `&mut [T]` parameter that is lent as `&[T]`
 #   F:f, C:f       field f of the block in memory, and its cell
 #   tok:f, own:f, lent:f, fin:f   a lent field: token, what the reference owns, what comes back, its last value
+#   @4             the array in local 4, lent as a field is: F:@4 and so on while it is, L4 before and after. A walk lends one such array,
+#                  and calls it `local`
 # The check of one declaration has a limit of steps, so a walk is cut into parts: `cut` ends one, and the next begins with the context written out.
 import re
 
@@ -32,14 +34,14 @@ def at(base, i):
 
 
 def hyphened(name):
-    return name.strip('«»').replace('_', '-')
+    return re.sub(r'@\d+', 'local', name.strip('«»').replace('_', '-'))
 
 
 class Par:
     """A parameter. kind, t:
     'val'  plain data of the type t        'mut', 'shr'   a `&mut [T]`, a `&[T]` of the row t
     'ref'  the block behind `&mut`, taken apart    'sref'  behind `&`, taken apart
-    'given'  a `&mut` that is given to a callee: t is the row, L for the block"""
+    'given', 'sgiven'  a `&mut`, a `&` that is given to a callee: t is the row, L for the block"""
 
     def __init__(self, kind, t=None):
         self.kind, self.t, self.lft = kind, t, None
@@ -73,6 +75,8 @@ class Walk:
         self.asks, self.last, self.how, self.finals, self.after = [], {}, {}, {}, None
         self.now = {f: f'(h .{f})' for f in fields}
         self.share = 'q′' if pars[0].kind == 'sref' else 'fullShare'
+        self.lends = {}    # how often each was lent
+        self.arrays = {}   # arrays in locals that are lent, by their names here: the type
 
     # ---- the text, and the context
 
@@ -136,7 +140,7 @@ class Walk:
         p = self.pars[i]
         if p.kind == 'val':
             return p.t.row
-        ref = {'mut': 'MutSlice', 'shr': 'ShrSlice', 'ref': 'MutRef', 'given': 'MutRef', 'sref': 'ShrRef'}[p.kind]
+        ref = {'mut': 'MutSlice', 'shr': 'ShrSlice', 'ref': 'MutRef', 'given': 'MutRef', 'sref': 'ShrRef', 'sgiven': 'ShrRef'}[p.kind]
         return f"{ref} (named {p.lft}) κ{low(p.lft)} {p.t or 'L'}"
 
     def machine(self):
@@ -207,6 +211,23 @@ class Walk:
             self.context[0:parts] = ['own0', 'tok0']
         self.comment()
 
+    def kind(self, f):
+        return self.arrays[f] if f in self.arrays else self.fields[f][0]
+
+    def share_of(self, f):
+        return 'fullShare' if f in self.arrays else self.share
+
+    def spot(self, f):
+        """Block and offset of what is lent: a field of the block, or a local."""
+        return f'l{low(int(f[1:]))} 0' if f in self.arrays else f'b {self.offset(f)}'
+
+    def tag(self, f):
+        """The name of what is lent, another one each time that it is."""
+        return hyphened(f) + '′' * (self.lends[f] - 1)
+
+    def pointer(self, f):
+        return f'(vptr {self.spot(f)})'
+
     def offset(self, f):
         return f'(o + {self.fields[f][1]})'
 
@@ -251,28 +272,64 @@ class Walk:
         self.put(f, x, v, g)
 
     def address(self, f, local):
-        """_local = &mut (*link).f, or & of it"""
-        self.assign(f'(addr ! {self.place(f)})', local, '(tt, tt)', f'(vptr b {self.offset(f)})')
+        """_local = &mut (*link).f, or & of it; or of a local"""
+        place = '(from ! (stop !))' if f in self.arrays else self.place(f)
+        self.assign(f'(addr ! {place})', local, '(tt, tt)', self.pointer(f))
 
     def lend(self, f, how):
+        if f in self.arrays:
+            self.out_of_local(f)
         self.bring([f'F:{f}'])
-        share = '' if how == 'mut' else self.share + ' '
-        i = hyphened(f)
-        self.under(f'lend-{how} ! tt {share}{self.fields[f][0].row} {self.now[f]} b {self.offset(f)} (λ α-{i} δ-{i}.', (f'α-{i}', 'ℕ'), (f'δ-{i}', 'GName'))
+        share = '' if how == 'mut' else self.share_of(f) + ' '
+        self.lends[f] = self.lends.get(f, 0) + 1
+        i = self.tag(f)
+        lent = f'lend-{how} ! tt {share}{self.kind(f).row} {self.now[f]} {self.spot(f)} (λ α-{i} δ-{i}.'
+        self.under(lent, (f'α-{i}', 'ℕ'), (f'δ-{i}', 'GName'))
         self.context[0:1] = [f'tok:{f}', f'own:{f}', f'lent:{f}']
         self.how[f] = how
 
     def unlend(self, f):
-        row = self.fields[f][0].row
+        row = self.kind(f).row
         if self.how.pop(f) == 'mut':
             self.bring([f'tok:{f}', f'lent:{f}', f'fin:{f}'])
-            self.say(f'back-mut ! tt {row} b {self.offset(f)} ({self.finals[f]}) $')
+            self.say(f'back-mut ! tt {row} {self.spot(f)} ({self.finals[f]}) $')
             self.context[0:3] = [f'F:{f}']
             self.now[f] = f'({self.finals[f]})'
         else:
             self.bring([f'tok:{f}', f'lent:{f}'])
-            self.say(f'back-shr ! tt {self.share} {row} b {self.offset(f)} {self.now[f]} $')
+            self.say(f'back-shr ! tt {self.share_of(f)} {row} {self.spot(f)} {self.now[f]} $')
             self.context[0:2] = [f'F:{f}']
+        if f in self.arrays:
+            self.into_local(f)
+
+    def array(self, local, t, x, g):
+        """The array in a local may be lent from here on: its value, and that the machine value is its."""
+        f = f'@{local}'
+        if f not in self.arrays:
+            assert not self.arrays, 'one array in a local'
+            self.arrays[f], self.now[f], self.was[f] = t, x, g
+        return f
+
+    def raw(self, f):
+        """The cell of a local, as one of memory."""
+        return f"fullShare {self.types[int(f[1:])]} {self.spot(f)} {self.filled[int(f[1:])]}"
+
+    def out_of_local(self, f):
+        local, t = int(f[1:]), self.kind(f)
+        v = self.filled[local]
+        self.bring([f'L{local}'])
+        self.say(f'use1 W (‵ (cellAt fullShare ({self.types[local]} ∷ []) ({v} ∷ []) {self.spot(f)})) (W .laws .at-raw {self.raw(f)}) $')
+        self.say(f'cell-in ! fullShare {t.row} {t.makes()} {self.now[f]} {self.spot(f)} {v} {self.was[f]} $\n')
+        self.context[0] = f'F:{f}'
+
+    def into_local(self, f):
+        local, t = int(f[1:]), self.kind(f)
+        self.turn = getattr(self, 'turn', 0) + 1
+        was = self.was[f] = f'was-{hyphened(f)}-{self.turn}'
+        self.under(f'cell-out ! fullShare {t.row} {t.vals()} {t.tells()} {self.now[f]} {self.spot(f)} (λ {was}.', (was, f'Is {t.row} {self.now[f]} ({t.vals()} {self.now[f]})'))
+        self.filled[local] = f'(only ({t.vals()} {self.now[f]}))'
+        self.say(f'use1 W (‵ (fat {self.raw(f)})) (W .laws .raw-at {self.raw(f)}) $\n')
+        self.context[0] = f'L{local}'
 
     # ---- slices
 
@@ -344,12 +401,14 @@ class Walk:
             return {'value': f'(shown-at{n} {d})', 'machine': f's{n}', 'lft': f'(β{n} ∷ [])', 'share': 'fullShare', 'token': f'btok{i}', 'owner': f'shown{i}',
                     'token-is': f'(flft (β{n} ∷ []) fullShare)', 'own-is': f'(Shared{n} β{n} {d})', 'binds': f'(β{n} : ℕ) (δ{n} : GName)', 'passes': f'β{n} {d}'}
         f = a['f']
-        i, row = hyphened(f), self.fields[f][0].row
+        i, row = hyphened(f) if inside else self.tag(f), self.kind(f).row
         ref, v = 'MutRef' if self.how[f] == 'mut' else 'ShrRef', f'f-{i}' if inside else self.now[f]
-        value, machine, lft = f'(ref-at b {self.offset(f)} δ-{i} {v})', f'(vptr b {self.offset(f)})', f'(α-{i} ∷ [])'
+        at = f'p-{i} 0' if inside and f in self.arrays else self.spot(f)
+        value, machine, lft = f'(ref-at {at} δ-{i} {v})', f'(vptr {at})', f'(α-{i} ∷ [])'
+        place, passed = (f'(p-{i} : ℕ) ', f"{self.spot(f).split()[0]} ") if f in self.arrays else ('', '')
         return {'value': value, 'machine': machine, 'lft': lft, 'share': 'fullShare', 'token': f'tok:{f}', 'owner': f'own:{f}',
                 'token-is': f'(flft {lft} fullShare)', 'own-is': f'({ref} (named 0) {lft} {row} .own {value} ({machine} ∷ []))',
-                'binds': f'(α-{i} : ℕ) (δ-{i} : GName) (f-{i} : {self.fields[f][0].denot})', 'passes': f'α-{i} δ-{i} {v}'}
+                'binds': place + f'(α-{i} : ℕ) (δ-{i} : GName) (f-{i} : {self.kind(f).denot})', 'passes': passed + f'α-{i} δ-{i} {v}'}
 
     def given_back(self, a):
         """The callee says the argument's last value."""
@@ -376,11 +435,12 @@ class Walk:
             operands = f"(and-then ! {self.look(a['local'])} {operands})"
         bound = (var, result.denot), (machine, 'Val'), (said, fact), (is_, f'Is {result.row} {var} ({machine} ∷ [])')
         self.under(operands + f" (λ {var} {machine} {ws if refs else '_'} {said} {is_}.", *bound)
+        put = 'store' if local in self.filled else 'init'
         self.filled[local] = machine
         self.context[0:1] = ['alive', 'lasts']
         if not refs:
             self.lose(['alive', 'lasts'])
-        self.say(f"land ! (from ! (stop !)) (init ! {self.pos(f'L{local}')} refl {result.typed(var, machine, is_)}) $\n")
+        self.say(f"land ! (from ! (stop !)) ({put} ! {self.pos(f'L{local}')} refl {result.typed(var, machine, is_)}) $\n")
         if refs:
             self.take_back(args, outer, ws)
 
@@ -416,7 +476,7 @@ class Walk:
                 junk.append(f'it{n}')
             elif a['kind'] == 'fld':
                 f = a['f']
-                parts.append((f'fin:{f}', f'‵ (fres δ-{hyphened(f)} ({self.fields[f][0].row} .coded .code ({last})))'))
+                parts.append((f'fin:{f}', f'‵ (fres δ-{self.tag(f)} ({self.kind(f).row} .coded .code ({last})))'))
                 self.finals[f] = last
             else:
                 i, p = a['i'], self.pars[a['i']]
@@ -451,13 +511,15 @@ class Walk:
             return f'‵ (fat fullShare {self.types[i]} l{low(i)} 0 ({self.filled[i]}))' if i in self.filled else f'‵ (froom {self.types[i]} l{low(i)} 0)'
         if item[:2] == 'F:':
             f = item[2:]
-            return f'‵ (partAt {self.fields[f][0].row} {self.share} {self.now[f]} b {self.offset(f)})'
+            return f'‵ (partAt {self.kind(f).row} {self.share_of(f)} {self.now[f]} {self.spot(f)})'
         if item == 'back':
             return f'raw (Back 𝓤 H A {self.share} b o)'
         if item == 'opened':
             return '‵ (fobor κ₀ q₀ (partAt L q′ h b o))' if self.share == 'q′' else '‵ (Open b o γ κ₀ q₀ h)'
         if kind == 'tok':
             return f'‵ {self.token(int(n))}'
+        if item == 'own0' and self.after:
+            return f'‵ (link-own κ₀ b o γ ({self.after}))'
         if kind == 'own':
             return f'‵ {self.own(int(n))}'
         p, i = self.pars[int(n)], int(n)
@@ -474,9 +536,13 @@ class Walk:
         for f, now in self.now.items():
             if now.startswith('(ws-'):
                 new = f'z-{hyphened(f)}'
+                while new in passed:
+                    new += '′'
                 self.rename(now, new)
                 self.scope.insert(0, (new, 'List ℕ'))
                 self.now[f], passed[new] = new, now
+                if f in self.arrays:
+                    self.filled[int(f[1:])] = self.filled[int(f[1:])].replace(now, new)
         for i, last in self.last.items():
             new = f'z{low(i)}'
             self.rename(f'({last})', new)
@@ -498,7 +564,7 @@ class Walk:
             self.say('forget ! 0 refl $ free1 ! $')
             self.context = self.context[2:]
         self.say('free0 ! $\n')
-        keeps = {'mut': ['fin', 'tok'], 'given': ['fin', 'tok'], 'ref': ['own', 'tok'], 'shr': ['tok'], 'sref': ['tok'], 'val': []}
+        keeps = {'mut': ['fin', 'tok'], 'given': ['fin', 'tok'], 'ref': ['own', 'tok'], 'shr': ['tok'], 'sref': ['tok'], 'sgiven': ['tok'], 'val': []}
         self.had = [f'{n}{i}' for i, p in enumerate(self.pars) for n in keeps[p.kind]]
         extra = [c for c in self.context if c not in self.had]
         if extra:

@@ -1,4 +1,4 @@
--- The segments in flight, in lent arrays with their records by value; and what hearing a datagram leaves of them: the same as the
+-- The segments in flight, in lent arrays; and what hearing a datagram leaves of them: the same as the
 -- definition on the half, whatever is queued. Definitions.
 -- Assumes nothing.
 use mathlib.Core.Path.{_≡_}

@@ -11,7 +11,7 @@ use wire::Header;
 ghost use mathlib.Core.Path.{_≡_};
 ghost use mathlib.Core.Bool.{cond, not, _&&_};
 ghost use mathlib.Core.List.{map};
-ghost use Prim.Native.Nat.{ℕ, _≤_};
+ghost use Prim.Native.Nat.{ℕ, _^_, _≤_, _<_};
 ghost use lib.Dec.{ltb};
 ghost use lib.ListN.{take, length};
 ghost use Rattle.protocol.specs.Ranges.{mss};
@@ -19,22 +19,17 @@ ghost use Rattle.protocol.specs.Serial.{isBefore};
 ghost use Rattle.datagram.specs.StepLaws.{Begun};
 ghost use Rattle.lists.specs.Joining.{joined};
 ghost use Rattle.lists.specs.Acknowledging.{keep, firstNumberOr};
+ghost use Rattle.record_words.specs.RecordWords.{recordsIn};
+ghost use Rattle.session.specs.Decides.{All};
 ghost use Rattle.words.specs.Words.{outstandingIn};
 ghost use Rattle.acknowledge.specs.Flights.{JoinedIn, InOrder, HearsAll, view};
 ghost use Rattle.acknowledge.specs.Furthest.{noneYet, furtherBy};
 ghost use Rattle.acknowledge.specs.Hearing.{staysBy, Concerns, timedBy, skipRecord};
 
-// The numbers of the sending half, and the records of the outstanding segments.
-pub struct InFlight {
-    pub flight: Flight,
-    pub records: [Record; 32],
-}
-
-// The segments that stay outstanding: how many, the first one's number (with none, snd_nxt), and their records.
+// The segments that stay outstanding: how many, and the first one's number (with none, snd_nxt).
 struct Left {
     count: usize,
     first: u32,
-    records: [Record; 32],
 }
 
 // The furthest number that the acks of a datagram have named so far, if any came.
@@ -74,37 +69,37 @@ fn first_number(n: usize, first: Record, next: u32) -> u32
 fn remaining(
     words: &mut [u32; 32],
     transmissions: &mut [u8; 32],
-    records: [Record; 32],
+    records: &mut [u32; 128],
     n: usize,
     next: u32,
     h: Header,
 ) -> Left
-    requires { ⌜ (length (now words) ≡ 32) × (length (now transmissions) ≡ 32) × (n ≤ 32) ⌝ }
-    ensures { λ r. ⌜ JoinedIn (now (words .exit)) (now (transmissions .exit)) (r .count) (r .records)
-        (keep (staysBy next h) (joined (outstandingIn (now (words .entry)) (now (transmissions .entry)) n) records))
-        × (r .first ≡ firstNumberOr
-        (keep (staysBy next h) (joined (outstandingIn (now (words .entry)) (now (transmissions .entry)) n) records)) next) ⌝ }
+    requires { ⌜ (length (now words) ≡ 32) × (length (now transmissions) ≡ 32) × (length (now records) ≡ 128) × (n ≤ 32) ⌝ }
+    ensures { λ r. ⌜ JoinedIn (now (words .exit)) (now (transmissions .exit)) (r .count) (recordsIn (now (records .exit)))
+        (keep (staysBy next h)
+        (joined (outstandingIn (now (words .entry)) (now (transmissions .entry)) n) (recordsIn (now (records .entry)))))
+        × (r .first ≡ firstNumberOr (keep (staysBy next h)
+        (joined (outstandingIn (now (words .entry)) (now (transmissions .entry)) n) (recordsIn (now (records .entry))))) next)
+        × (length (now (records .exit)) ≡ 128) ⌝ }
 {
-    let mut rs = records;
     let mut i: usize = 0;
     let mut j: usize = 0;
     while i < n {
         let word = words[i];
         let sent = transmissions[i];
-        let record = rs[i];
+        let record = record_words::at(records, i);
         i += 1;
         if stays(next, h, record.number) {
             words[j] = word;
             transmissions[j] = sent;
-            rs[j] = record;
+            record_words::put(records, j, record);
             j += 1;
         }
     }
-    let first = rs[0];
+    let first = record_words::at(records, 0);
     Left {
         count: j,
         first: first_number(j, first, next),
-        records: rs,
     }
 }
 
@@ -167,39 +162,48 @@ fn skipped(old: Record, number: u32) -> Record
 }
 
 // The records, where each of the first n whose number is before the given one has one skip more.
-fn skip_before(records: [Record; 32], n: usize, number: u32) -> [Record; 32]
-    requires { ⌜ n ≤ 32 ⌝ }
-    ensures { λ r. ⌜ take n r ≡ map (skipRecord number) (take n records) ⌝ }
+fn skip_before(records: &mut [u32; 128], n: usize, number: u32)
+    requires { ⌜ (length (now records) ≡ 128) × (n ≤ 32) ⌝ }
+    ensures { λ _. ⌜ (take n (recordsIn (now (records .exit))) ≡ map (skipRecord number) (take n (recordsIn (now (records .entry)))))
+        × (length (now (records .exit)) ≡ 128) ⌝ }
 {
-    let mut rs = records;
     let mut i: usize = 0;
     while i < n {
-        let old = rs[i];
-        rs[i] = skipped(old, number);
+        let old = record_words::at(records, i);
+        record_words::put(records, i, skipped(old, number));
         i += 1;
     }
-    rs
+}
+
+// Each of the words is below 2^32, which a read of one tells of all.
+fn words_fit(words: &[u32])
+    requires { ⌜ 0 < length (now words) ⌝ }
+    ensures { λ _. ⌜ All (λ (w : ℕ). w < 2 ^ 32) (now (words .entry)) ⌝ }
+{
+    let _ = words[0];
 }
 
 // The segments of an accepted datagram are heard, one after the other. Then, if the furthest number counts, each outstanding
 // segment before it gets one skip.
 pub fn hear(
     flight: Flight,
-    records: [Record; 32],
+    records: &mut [u32; 128],
     settings: Settings,
     current: u32,
     outstanding: &mut [u32; 32],
     transmissions: &mut [u8; 32],
     s: &[u8],
-) -> InFlight
-    requires { ⌜ InOrder (view flight (now outstanding) (now transmissions) records)
+) -> Flight
+    requires { ⌜ InOrder (view flight (now outstanding) (now transmissions) (recordsIn (now records)))
+        × (length (now records) ≡ 128)
         × ((n : ℕ) × Begun (settings .conv) (mss settings) (now s) n) ⌝ }
     ensures { λ r. ⌜ HearsAll settings current (now (s .entry))
-        (view flight (now (outstanding .entry)) (now (transmissions .entry)) records)
-        (view (r .flight) (now (outstanding .exit)) (now (transmissions .exit)) (r .records)) ⌝ }
+        (view flight (now (outstanding .entry)) (now (transmissions .entry)) (recordsIn (now (records .entry))))
+        (view r (now (outstanding .exit)) (now (transmissions .exit)) (recordsIn (now (records .exit))))
+        × (length (now (records .exit)) ≡ 128) ⌝ }
 {
+    words_fit(records);
     let mut f = flight;
-    let mut rs = records;
     let mut furthest = Furthest::new();
     let mut at: usize = 0;
     loop {
@@ -211,13 +215,9 @@ pub fn hear(
         } = step
         else {
             if furthest.any & counts(f.una, f.next, furthest.number) {
-                let skipped = skip_before(rs, f.outstanding, furthest.number);
-                rs = skipped;
+                skip_before(records, f.outstanding, furthest.number);
             }
-            return InFlight {
-                flight: f,
-                records: rs,
-            };
+            return f;
         };
         at = next;
         furthest = furthest.after(header);
@@ -228,13 +228,11 @@ pub fn hear(
             let left = remaining(
                 outstanding,
                 transmissions,
-                rs,
+                records,
                 f.outstanding,
                 f.next,
                 header,
             );
-            let kept = left.records;
-            rs = kept;
             f.outstanding = left.count;
             f.una = left.first;
         }

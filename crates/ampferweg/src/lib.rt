@@ -1,7 +1,6 @@
 // What C calls: each function takes the block behind a pointer, and answers with a number, 0 or more where the call is done
-// and the refusal's number below zero where it is not; an update that is done and does not flush has a number of its own. The fields of the
-// block are lent to the call's core, and changed in place; of the table of records the first 128 are read and written. The functions that
-// take the block are proved by walks.
+// and the refusal's number below zero where it is not; an update that is done and does not flush has a number of its own. Each gives what it
+// is given to a function of a crate below; of the table of records the first 128 are read and written. Proved by walks.
 pub mod settings;
 
 use control::Link;
@@ -12,9 +11,9 @@ ghost use Rattle.codes.specs.Codes.{answerCode, countCode, updateCode, timeCode
 ghost use Rattle.codes.specs.Gives.{Gives};
 ghost use Rattle.results.specs.PlaceCodes.{placeCode};
 ghost use mathlib.Core.Path.{_≡_};
-ghost use Rattle.ampferweg.specs.Blocks.{blockSize, versionNumber};
-ghost use Rattle.ampferweg.specs.Places.{PlacePromise};
-ghost use Rattle.ampferweg.specs.Times.{TimePromise};
+ghost use Rattle.archive.specs.Blocks.{blockSize, versionNumber};
+ghost use Rattle.asks.specs.Places.{PlacePromise};
+ghost use Rattle.asks.specs.Times.{TimePromise};
 
 // Opening with these settings: 0, or the refusal. A number that is too large for its setting is out of range.
 #[no_mangle]
@@ -37,32 +36,20 @@ pub extern "C" fn ampferweg_open(
         a (now (link .exit))
         (partsOf (now («send_pool» .entry)) (now («receive_pool» .entry)) (now (table .entry)) (now (acks .entry)))) r ⌝ }
 {
-    let new = codes::settings(conv, mtu, mode, interval, threshold, stream, congestion);
-    let settings = link.settings;
-    let flight = link.flight;
-    let arrival = link.arrival;
-    let clock = link.clock;
-    let lent = records::table_len(table);
-    let opened = open_core::open(
-        new,
-        settings,
-        flight,
-        arrival,
-        clock,
-        lent,
+    local_calls::open(
+        link,
+        conv,
+        mtu,
+        mode,
+        interval,
+        threshold,
+        stream,
+        congestion,
         send_pool,
         receive_pool,
+        table,
         acks,
-    );
-    let settings = results::opened_settings(opened);
-    link.settings = settings;
-    let flight = results::opened_flight(opened);
-    link.flight = flight;
-    let arrival = results::opened_arrival(opened);
-    link.arrival = arrival;
-    let clock = results::opened_clock(opened);
-    link.clock = clock;
-    results::opened_code(opened)
+    )
 }
 
 // Sending a message: 0, or the refusal.
@@ -80,34 +67,7 @@ pub extern "C" fn ampferweg_send(
         a (now (link .exit))
         (partsOf (now («send_pool» .exit)) (now («receive_pool» .entry)) (now (table .entry)) (now (acks .entry)))) r ⌝ }
 {
-    let settings = link.settings;
-    let flight = link.flight;
-    let arrival = link.arrival;
-    let clock = link.clock;
-    let words = link.outstanding;
-    let flown = gathering::fit(table, words, settings, flight);
-    let lent = records::table_len(table);
-    let sent = send_core::send(
-        settings,
-        flight,
-        arrival,
-        clock,
-        flown,
-        lent,
-        &mut link.queued,
-        &link.outstanding,
-        &link.transmissions,
-        &link.ready,
-        &link.waiting,
-        &link.waiting_numbers,
-        send_pool,
-        receive_pool,
-        acks,
-        message,
-    );
-    let flight = results::sent_flight(sent);
-    link.flight = flight;
-    results::sent_code(sent)
+    local_calls::send(link, send_pool, receive_pool, table, acks, message)
 }
 
 // Taking in a datagram: 0, or the refusal.
@@ -125,12 +85,7 @@ pub extern "C" fn ampferweg_input(
         a (now (link .exit))
         (partsOf (now («send_pool» .entry)) (now («receive_pool» .exit)) (now (table .exit)) (now (acks .exit)))) r ⌝ }
 {
-    let taken = take_in::take_in(link, send_pool, receive_pool, table, acks, datagram);
-    let words = results::taken_words(taken);
-    let n = results::taken_changed(taken);
-    let records = results::taken_records(taken);
-    gathering::scatter(table, words, n, records);
-    results::taken_code(taken)
+    take_in::take_in(link, send_pool, receive_pool, table, acks, datagram)
 }
 
 // A flush at time t: its datagrams, or the refusal.
@@ -152,7 +107,7 @@ pub extern "C" fn ampferweg_flush(
         (flushPartsOf (now (output .exit)) (now (lengths .exit)))) r ⌝ }
 {
     let paced = results::at_once();
-    write_out::write_and_put_back(
+    write_out::write_out(
         link,
         send_pool,
         receive_pool,
@@ -184,7 +139,7 @@ pub extern "C" fn ampferweg_update(
         (flushPartsOf (now (output .exit)) (now (lengths .exit)))) r ⌝ }
 {
     let paced = results::by_schedule();
-    write_out::write_and_put_back(
+    write_out::write_out(
         link,
         send_pool,
         receive_pool,
@@ -212,33 +167,7 @@ pub extern "C" fn ampferweg_check(
         (partsOf (now («send_pool» .entry)) (now («receive_pool» .entry)) (now (table .entry)) (now (acks .entry))) a
         (now (when .entry)) (now (when .exit))) r ⌝ }
 {
-    let settings = link.settings;
-    let flight = link.flight;
-    let arrival = link.arrival;
-    let clock = link.clock;
-    let words = link.outstanding;
-    let n = results::outstanding_count(flight);
-    let records = gathering::gather(table, words, n);
-    let lent = records::table_len(table);
-    let time = check_core::check(
-        settings,
-        flight,
-        arrival,
-        clock,
-        records,
-        lent,
-        &link.queued,
-        &link.outstanding,
-        &link.transmissions,
-        &link.ready,
-        &link.waiting,
-        &link.waiting_numbers,
-        send_pool,
-        receive_pool,
-        acks,
-        t,
-    );
-    codes::tell_time(time, when)
+    asks::check(link, send_pool, receive_pool, table, acks, t, when)
 }
 
 // Reading a message: its bytes, or the refusal.
@@ -257,34 +186,7 @@ pub extern "C" fn ampferweg_read(
         (partsOf (now («send_pool» .entry)) (now («receive_pool» .entry)) (now (table .entry)) (now (acks .entry)))
         (now (buffer .exit))) r ⌝ }
 {
-    let settings = link.settings;
-    let flight = link.flight;
-    let arrival = link.arrival;
-    let clock = link.clock;
-    let words = link.outstanding;
-    let flown = gathering::fit(table, words, settings, flight);
-    let lent = records::table_len(table);
-    let delivered = read_core::read(
-        settings,
-        flight,
-        arrival,
-        clock,
-        flown,
-        lent,
-        &link.queued,
-        &link.outstanding,
-        &link.transmissions,
-        &mut link.ready,
-        &mut link.waiting,
-        &mut link.waiting_numbers,
-        send_pool,
-        receive_pool,
-        acks,
-        buffer,
-    );
-    let arrival = results::delivered_arrival(delivered);
-    link.arrival = arrival;
-    results::delivered_code(delivered)
+    local_calls::read(link, send_pool, receive_pool, table, acks, buffer)
 }
 
 // Telling the size of the next message: its bytes, or the refusal.
@@ -299,31 +201,7 @@ pub extern "C" fn ampferweg_size(
     ensures { λ r. ⌜ Gives countCode (λ a. SizePromise (now (link .entry))
         (partsOf (now («send_pool» .entry)) (now («receive_pool» .entry)) (now (table .entry)) (now (acks .entry))) a) r ⌝ }
 {
-    let settings = link.settings;
-    let flight = link.flight;
-    let arrival = link.arrival;
-    let clock = link.clock;
-    let words = link.outstanding;
-    let flown = gathering::fit(table, words, settings, flight);
-    let lent = records::table_len(table);
-    let size = read_core::size(
-        settings,
-        flight,
-        arrival,
-        clock,
-        flown,
-        lent,
-        &link.queued,
-        &link.outstanding,
-        &link.transmissions,
-        &link.ready,
-        &link.waiting,
-        &link.waiting_numbers,
-        send_pool,
-        receive_pool,
-        acks,
-    );
-    codes::count_code(size)
+    asks::size(link, send_pool, receive_pool, table, acks)
 }
 
 // Where in the receive pool the front segment's payload lies: its start is stored, its bytes are counted; 0 and 0 where
@@ -341,31 +219,7 @@ pub extern "C" fn ampferweg_show(
         (partsOf (now («send_pool» .entry)) (now («receive_pool» .entry)) (now (table .entry)) (now (acks .entry))) a (now (start .exit))) r
         ⌝ }
 {
-    let settings = link.settings;
-    let flight = link.flight;
-    let arrival = link.arrival;
-    let clock = link.clock;
-    let words = link.outstanding;
-    let flown = gathering::fit(table, words, settings, flight);
-    let lent = records::table_len(table);
-    let place = read_core::locate(
-        settings,
-        flight,
-        arrival,
-        clock,
-        flown,
-        lent,
-        &link.queued,
-        &link.outstanding,
-        &link.transmissions,
-        &link.ready,
-        &link.waiting,
-        &link.waiting_numbers,
-        send_pool,
-        receive_pool,
-        acks,
-    );
-    results::tell_place(place, start)
+    asks::show(link, send_pool, receive_pool, table, acks, start)
 }
 
 // The bytes of the control block that these functions have, for a host that compares them with its header's.
@@ -373,7 +227,7 @@ pub extern "C" fn ampferweg_show(
 pub extern "C" fn ampferweg_block_size() -> u32
     ensures { λ r. ⌜ r ≡ blockSize ⌝ }
 {
-    2336
+    archive::block_size()
 }
 
 // The version of these functions, as one number.
@@ -381,5 +235,5 @@ pub extern "C" fn ampferweg_block_size() -> u32
 pub extern "C" fn ampferweg_version_number() -> u32
     ensures { λ r. ⌜ r ≡ versionNumber ⌝ }
 {
-    400
+    archive::version_number()
 }

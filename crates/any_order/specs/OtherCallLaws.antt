@@ -16,11 +16,11 @@ use Rattle.retransmission.specs.TransmissionLaws.{transmission-number}
 use Rattle.lists.specs.declared.Sent.{Sent}
 use Rattle.session.specs.State.{State, Sending, Outcome, refused, done, withSchedule}
 use Rattle.session.specs.Sending.{Sends, sending}
-use Rattle.session.specs.Flushing.{Flushed, sentAfter, windowOf, numbered, numberedCount, withNumbered, flushing}
+use Rattle.session.specs.Flushing.{Flushed, windowOf, numbered, numberedCount, withNumbered, ruled, afterwards, flushing}
+use Rattle.session.specs.RuleLaws.{sentAfter, after-kept}
 use Rattle.session.specs.Reading.{Reads, reading}
 use Rattle.session.specs.Updating as outcome
 use Rattle.session.specs.Updating.{Updates, updating}
-use Rattle.session.specs.MapLaws.{map-kept}
 use Rattle.control.specs.Views.{stateOf}
 use Rattle.control.specs.declared.Link.{Link}
 use Rattle.promises.specs.Parts.{Parts, FlushParts, lengthsOf, stateIn, isMade, Unchanged}
@@ -88,10 +88,10 @@ flush-quiet s t pool = record {
   settings = refl;
   in-flight = λ e.
       let d = s .sending in
-      let after : Sent → Sent = sentAfter (s .settings) (d .roundTrip .timeout) t in
+      let timeout = d .roundTrip .timeout in
       let all = withNumbered d (numberedCount (windowOf s) d) in
-      let kept : map untimed (map after all) ≡ map untimed (d .outstanding) =
-      map-kept untimed after (untimed-after (s .settings) (d .roundTrip .timeout) t) all
+      let kept : map untimed (afterwards (ruled (s .settings) timeout t all)) ≡ map untimed (d .outstanding) =
+      after-kept (s .settings) timeout t untimed (untimed-after (s .settings) timeout t) all
       ∙ rw (none-numbered (windowOf s) d (window-most s) e, append-nil (d .outstanding)) in
       λ i. record { una = d .una; next = e i; outstanding = kept i };
 }

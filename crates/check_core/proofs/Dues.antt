@@ -1,4 +1,4 @@
--- The due times of a block's outstanding segments are those of the first records by value; what a check names.
+-- The due times of a block's outstanding segments are those of the first records; what a check names.
 -- Assumes nothing.
 use mathlib.Core.Path.{_≡_, refl, sym, ap, _∙_}
 use mathlib.Core.Bool.{Bool, true}

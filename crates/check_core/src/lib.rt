@@ -1,4 +1,4 @@
-// The core of a check: the numbers of a block and the records of its outstanding segments by value, its arrays lent.
+// The core of a check: the numbers of a block by value, its arrays and the records of its outstanding segments lent.
 use answers::Time;
 use checking::Verdict;
 use checking::flights;
@@ -9,9 +9,10 @@ use control::Flight;
 use flush_core::parts;
 use protocol::Settings;
 use sizes::Lengths;
-use timing::Record;
 ghost use mathlib.Core.Path.{_≡_};
+ghost use lib.ListN.{length};
 ghost use Rattle.control.specs.Views.{arrays, linkOf, Whole};
+ghost use Rattle.record_words.specs.RecordWords.{recordsIn};
 ghost use Rattle.promises.specs.Parts.{lentLengths};
 ghost use Rattle.promises.specs.Outcomes.{checksWith};
 ghost use Rattle.promises.specs.Answers.{timeOutcome};
@@ -22,7 +23,7 @@ pub fn check(
     flight: Flight,
     arrival: Arrival,
     clock: Clock,
-    records: [Record; 32],
+    records: &[u32; 128],
     table: usize,
     queued: &[u32; 128],
     outstanding: &[u32; 32],
@@ -35,11 +36,13 @@ pub fn check(
     acks: &[u32],
     t: u32,
 ) -> Time
-    requires { ⌜ Whole (arrays (now queued) (now outstanding) (now transmissions) (now ready) (now waiting) (now «waiting_numbers»)) ⌝ }
+    requires { ⌜ Whole (arrays (now queued) (now outstanding) (now transmissions) (now ready) (now waiting) (now «waiting_numbers»))
+        × (length (now records) ≡ 128) ⌝ }
     ensures { λ r. ⌜ timeOutcome r ≡ checksWith
         (linkOf settings flight arrival clock (arrays (now (queued .entry)) (now (outstanding .entry)) (now (transmissions .entry))
         (now (ready .entry)) (now (waiting .entry)) (now («waiting_numbers» .entry))))
-        records (now (acks .entry)) (lentLengths table (now («send_pool» .entry)) (now («receive_pool» .entry)) (now (acks .entry))) t ⌝ }
+        (recordsIn (now (records .entry))) (now (acks .entry))
+        (lentLengths table (now («send_pool» .entry)) (now («receive_pool» .entry)) (now (acks .entry))) t ⌝ }
 {
     let lent = Lengths {
         send: send_pool.len(),

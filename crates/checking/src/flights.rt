@@ -8,7 +8,8 @@ use protocol::serial;
 use timing::Record;
 ghost use mathlib.Core.Path.{_≡_};
 ghost use Prim.Native.Nat.{_≤_, min};
-ghost use lib.ListN.{take};
+ghost use lib.ListN.{length, take};
+ghost use Rattle.record_words.specs.RecordWords.{recordsIn};
 ghost use Rattle.checking.specs.Tests.{recordFits, flightFits, leastAfter, flownBy};
 
 // What is carried behind a record that does not fit: no offset is as far.
@@ -59,14 +60,16 @@ pub fn flown(least: usize, flight: Flight) -> bool
 }
 
 // The outstanding segments' numbers and records: from snd_una on up to snd_nxt, at most 32 apart, the first being snd_una.
-pub fn flight_fits(records: [Record; 32], settings: Settings, flight: Flight) -> bool
-    ensures { λ r. ⌜ r ≡ flightFits (settings .mode) (flight .una) (flight .next) (take (flight .outstanding) records) ⌝ }
+pub fn flight_fits(records: &[u32; 128], settings: Settings, flight: Flight) -> bool
+    requires { ⌜ length (now records) ≡ 128 ⌝ }
+    ensures { λ r. ⌜ r ≡ flightFits (settings .mode) (flight .una) (flight .next)
+        (take (flight .outstanding) (recordsIn (now (records .entry)))) ⌝ }
 {
     let n = looked_at(flight);
     let mut least: usize = 0;
     let mut i: usize = 0;
     while i < n {
-        let found = records[i];
+        let found = record_words::at(records, i);
         least = next_least(least, found, settings, flight);
         i += 1;
     }

@@ -32,7 +32,7 @@ use Rattle.codes.specs.Codes.{refusalCode, answerCode, sizeCode, countCode}
 use Rattle.codes.specs.Gives.{Gives}
 use Rattle.results.specs.PlaceCodes.{placeCode}
 use Rattle.demands.specs.CountLaws.{OfResult, MessageFits, PlaceFits, flushes-few, reads-fit, tells-fit, shows-fit}
-use Rattle.ampferweg.specs.Places.{PlacePromise}
+use Rattle.asks.specs.Places.{PlacePromise}
 
 -- the very count of the result, or the refusal's number below zero
 abbrev pub Told : {A : Type 0} → (A → ℕ) → Outcome A → ℤ → Type 0

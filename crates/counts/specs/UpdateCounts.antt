@@ -25,7 +25,7 @@ use Rattle.promises.specs.Promises.{UpdatePromise}
 use Rattle.codes.specs.Codes.{refusalCode, notYet, updateCode, timeCode, timeStored}
 use Rattle.codes.specs.Gives.{Gives}
 use Rattle.demands.specs.CountLaws.{OfResult, FewDatagrams, updates-few}
-use Rattle.ampferweg.specs.Times.{TimePromise}
+use Rattle.asks.specs.Times.{TimePromise}
 
 -- the refusal's number below zero, the number of an update that does not flush, or the very count of its datagrams
 abbrev pub UpdateTold : Outcome Updates → ℤ → Type 0

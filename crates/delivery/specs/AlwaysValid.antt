@@ -15,12 +15,13 @@ use Rattle.schedule.specs.ScheduleLaws.{updated-fits}
 use Rattle.session.specs.State.{State}
 use Rattle.session.specs.Opening.{opened}
 use Rattle.session.specs.Input.{applied}
-use Rattle.session.specs.Flushing.{windowOf, lossesOf, flushing}
+use Rattle.session.specs.Flushing.{windowOf, flushing}
 use Rattle.sizes.specs.Sizes.{enough, enoughToFlush}
 use Rattle.sizes.specs.declared.Lengths.{Lengths}
 use Rattle.session.specs.Valid.{valid, sendingValid, receivingValid, probeFits}
 use Rattle.session.specs.Calls.{Station, Call, Stepped, Lent, own, lengthsOf, longEnough, after, step}
 use Rattle.session.specs.Decides.{All}
+use Rattle.session.specs.RuleLaws.{lossesAt}
 use Rattle.session.specs.SendingValid.{congestion-decides}
 use Rattle.session.specs.IsValid.{settings-decide}
 use Rattle.delivery.specs.Hearing.{Taken, CallFits}
@@ -67,7 +68,7 @@ opened-congestion c = initial-in-range (mss c)
 
 -- no more than 32 are in flight at the end of a flush
 inflight-most : (s : State) (t : ℕ) → s .sending .una < 2 ^ 32 → minus (s .sending .next) (s .sending .una) ≤ sendWindow
-    → lossesOf s t .inflight ≤ sendWindow
+    → lossesAt s t .inflight ≤ sendWindow
 inflight-most s t h k = omega (arith, count-room (windowOf s) (s .sending) (window-most s) k)
 
 module _ (s : Station) (range : inRange (s .state .settings) ≡ true) (o : SendingInOrder (s .state .settings) s)
@@ -92,9 +93,9 @@ module _ (s : Station) (range : inRange (s .state .settings) ≡ true) (o : Send
       (λ t k p. h)
       x fits (sending-stays (s .state .settings) range s x fits o)
     where
-      flushed : (t : ℕ) → InRange m (afterFlush (s .state .congestion) m (lossesOf (s .state) t))
+      flushed : (t : ℕ) → InRange m (afterFlush (s .state .congestion) m (lossesAt (s .state) t))
       flushed t =
-          flush-in-range m (s .state .congestion) (lossesOf (s .state) t)
+          flush-in-range m (s .state .congestion) (lossesAt (s .state) t)
           (inflight-most (s .state) t (o .fits .una) (half-in (s .state .settings) s o .numbers .apart))
           (window-most (s .state))
           (omega (arith, settings-decide (s .state .settings) .holds range .threshold))

@@ -24,7 +24,7 @@ use Rattle.lists.specs.declared.Acknowledges.the-variants as by
 use Rattle.session.specs.State.{State, Sending, withWindow, withCongestion, admitted}
 use Rattle.session.specs.Valid.{valid}
 use Rattle.session.specs.Opening.{opened}
-use Rattle.session.specs.Flushing.{windowOf, numberedCount, withNumbered, numbered, transmittedNow, written, packed, flushing}
+use Rattle.session.specs.Flushing.{windowOf, numberedCount, withNumbered, numbered, transmitted, written, packed, flushing}
 use Rattle.session.specs.Input.{applied, acknowledged, sampledBy, heardBySending, allBySending, ackNumbers, furthest, skipped, skippedByAll}
 use Rattle.session.specs.Calls.{Station, Call, Reply, Stepped, refusedStep, own, longEnough, step, Event, history, after}
 use Rattle.session.specs.Decides.{All}
@@ -160,7 +160,7 @@ module _ (c : Settings) (on : controlsCongestion c ≡ true) where
   none-counted s u = let z = used-none (s .sending .window) in rw (u .settings, on, u .values, z) (omega arith)
 
   first-writes : (s : State) → Unsent c s → (t : ℕ) (pool : List ℕ) → flushing s t pool .datagrams ≡ withoutData s t pool
-  unfolding flushing withNumbered numbered transmittedNow
+  unfolding flushing withNumbered numbered transmitted
   first-writes s u t pool = rw (none-counted s u, u .none)
 
   -- after any calls since opening of which none has flushed, a flush sends no data

@@ -2,13 +2,13 @@
 -- and the output that a flush is lent suffices, 50,992 bytes and 290 lengths.
 -- Assumes nothing.
 use mathlib.Core.Path.{_≡_, refl, ap, _∙_}
-use mathlib.Core.Bool.{Bool, true, false, cond, _&&_, _||_}
+use mathlib.Core.Bool.{Bool, true, _&&_, _||_}
 use mathlib.Core.List.{List, [], _∷_, map, flatten}
-use Prim.Native.Nat.{ℕ, suc, _+_, _*_, _^_, _≤_, _<_, zero-le}
+use Prim.Native.Nat.{ℕ, _+_, _*_, _^_, _≤_, _<_, zero-le}
 use native.Mathlib.Omega.{arith}
 use borrow.Author.Tests.{leb-true}
 use lib.Dec.{leb}
-use lib.ListN.{length, take, length-take, length-append}
+use lib.ListN.{length, take, length-take, length-append, length-map}
 use Rattle.protocol.specs.Protocol.{fragmentMost, sendSlots, sendWindow, receiveSlots, receiveWindow, acksMost, outputLeast, lengthsLeast}
 use Rattle.protocol.specs.Ranges.{inRange, mss}
 use Rattle.protocol.specs.Serial.{plus, minus}
@@ -27,9 +27,9 @@ use Rattle.session.specs.Flushing.{
   windowOf,
   numberedCount,
   withNumbered,
-  transmittedOf,
-  sentAfter,
-  transmittedNow,
+  ruling,
+  ruled,
+  transmitted,
   written,
   bytesOfSegments,
   packed,
@@ -38,6 +38,7 @@ use Rattle.session.specs.Flushing.{
 use Rattle.session.specs.Calls.{Station, Call, lengthsOf, longEnough}
 use Rattle.session.specs.Decides.{All, and-parts}
 use Rattle.session.specs.AllLaws.{all-any, all-left, all-unmapped, all-weaker}
+use Rattle.session.specs.RuleLaws.{all-transmitted, transmitted-few}
 use Rattle.session.specs.Ascending.{Ascends, ascending-ascends}
 use Rattle.session.specs.SendingValid.{sending-decides}
 use Rattle.session.specs.SendOrder.{ascends-length}
@@ -49,29 +50,6 @@ use Rattle.delivery.specs.PackingLaws.{Datagram, bytes-joined, packed-ea
 use Rattle.delivery.specs.WireLaws.{DataFits, written-valid, written-short, written-few, written-bytes}
 
 -- ---- what a flush transmits
-
-module _ (c : Settings) (link t : ℕ) where
-  pub all-transmitted : (P : Sent → Type 0) (l : List Sent) → All P (map (sentAfter c link t) l) → All P (transmittedNow c link t l)
-  unfolding transmittedNow
-  all-transmitted P [] a = tt
-  all-transmitted P (x ∷ l) a = go (transmittedOf c link t x .sends) (all-transmitted P l (a .1))
-    where
-      go : (b : Bool) →
-          All P (transmittedNow c link t l) →
-          All P (cond b (sentAfter c link t x ∷ transmittedNow c link t l) (transmittedNow c link t l))
-      go true i = (a .0, i)
-      go false i = i
-
-  transmitted-few : (l : List Sent) → length (transmittedNow c link t l) ≤ length l
-  unfolding transmittedNow
-  transmitted-few [] = zero-le
-  transmitted-few (x ∷ l) = go (transmittedOf c link t x .sends) (transmitted-few l)
-    where
-      go : (b : Bool) →
-          length (transmittedNow c link t l) ≤ length l →
-          length (cond b (sentAfter c link t x ∷ transmittedNow c link t l) (transmittedNow c link t l)) ≤ suc (length l)
-      go true i = omega arith
-      go false i = omega arith
 
 -- outstanding segments of a half in order can be written
 half-data : (c : Settings) (s : Sending) → Half c s → All (DataFits (mss c)) (s .outstanding)
@@ -115,7 +93,7 @@ parses conv m mtu (g ∷ gs) h = ap (parse conv m) (bytes-joined (g ∷ gs)) ∙
 
 -- segments transmitted now, where k of the queued ones are numbered
 abbrev pub sentWith : Settings → ℕ → ℕ → Sending → List Sent
-sentWith c t k d = transmittedNow c (d .roundTrip .timeout) t (withNumbered d k)
+sentWith c t k d = transmitted (ruled c (d .roundTrip .timeout) t (withNumbered d k))
 
 numbered-length : (n : ℕ) (q : List Held) → length (numbered n q) ≡ length q
 unfolding numbered
@@ -129,7 +107,8 @@ module _ (c : Settings) (t k : ℕ) (d : Sending) (few : k ≤ length (d .queued
   sent-few a =
       omega (
         arith,
-        transmitted-few c (d .roundTrip .timeout) t (withNumbered d k),
+        transmitted-few (ruled c (d .roundTrip .timeout) t (withNumbered d k)),
+        length-map (withNumbered d k) (ruling c (d .roundTrip .timeout) t),
         length-append (d .outstanding) (numbered (d .next) (take k (d .queued))),
         numbered-length (d .next) (take k (d .queued)),
         length-take k (d .queued),
@@ -141,7 +120,7 @@ module _ (c : Settings) (t k : ℕ) (d : Sending) (few : k ≤ length (d .queued
   sent-short a =
       let after : Sending = flushedWith c t k d in
       let held : All Short (sendHeld after) = rw (flushed-held c t k d few room) a in
-      all-transmitted c (d .roundTrip .timeout) t (λ (x : Sent). Short (x .held)) (withNumbered d k)
+      all-transmitted (λ (x : Sent). Short (x .held)) (ruled c (d .roundTrip .timeout) t (withNumbered d k))
       (all-unmapped Short (λ (x : Sent). x .held) (after .outstanding)
       (all-left Short (map (λ (x : Sent). x .held) (after .outstanding)) (after .queued) held))
     where
@@ -196,7 +175,8 @@ module _ (s : State) (t k : ℕ) (pool : List ℕ) (ask : Bool)
       (long : sendSlots * mss (s .settings) ≤ length pool) where
     sent-fit : All (DataFits (mss (s .settings))) sent
     sent-fit =
-        all-transmitted (s .settings) (s .sending .roundTrip .timeout) t (DataFits (mss (s .settings))) (withNumbered (s .sending) k)
+        all-transmitted (DataFits (mss (s .settings)))
+        (ruled (s .settings) (s .sending .roundTrip .timeout) t (withNumbered (s .sending) k))
         (half-data (s .settings) (flushedWith (s .settings) t k (s .sending)) (half-flushed (s .settings) t k (s .sending) few room half))
 
     -- each datagram has some segments, valid ones

@@ -28,8 +28,9 @@ use Rattle.session.specs.Flushing.{
   windowOf,
   numberedCount,
   withNumbered,
-  sentAfter,
-  transmittedNow,
+  ruled,
+  afterwards,
+  transmitted,
   Carried,
   carried,
   ackSegment,
@@ -48,15 +49,16 @@ use Rattle.session.specs.Ascending.{Ascends}
 use Rattle.delivery.specs.Accepted.{isNext, withPush, numberedIn, numberedInParsed, numberedInAll}
 use Rattle.delivery.specs.StateRange.{CarryFits}
 use Rattle.session.specs.MapLaws.{map-append}
+use Rattle.session.specs.RuleLaws.{sentAfter, all-transmitted, sent-append}
 use Rattle.delivery.specs.SendPool.{pieceIn}
 use Rattle.delivery.specs.SendingHalf.{Half}
 use Rattle.delivery.specs.SendingFlushes.{window-most, window-most, count-few, count-room}
 use Rattle.delivery.specs.SendingStays.{SendingInOrder, half-in}
 use Rattle.delivery.specs.PackingLaws.{packed-flat}
 use Rattle.delivery.specs.WireLaws.{written-parts}
-use Rattle.delivery.specs.FlushLaws.{FlushWrites, sentWith, valid-parts, flush-writes-any, all-transmitted}
+use Rattle.delivery.specs.FlushLaws.{FlushWrites, sentWith, valid-parts, flush-writes-any}
 use Rattle.delivery.specs.Numbering.{payloads}
-use Rattle.delivery.specs.SentGenuine.{transmitted-append, transmitted-new}
+use Rattle.delivery.specs.SentGenuine.{transmitted-new}
 
 -- ---- what segments number
 
@@ -154,21 +156,21 @@ module _ (s : Station) (made : valid (s .state) ≡ true) (conv32 : s .state .se
       (count-room (windowOf (s .state)) d (window-most (s .state)) (half .numbers .apart)) half conv32 carry time (o .long)
 
   abbrev old : List Sent
-  old = transmittedNow c link t (d .outstanding)
+  old = transmitted (ruled c link t (d .outstanding))
 
   split : sentWith c t k d ≡ old ++ map (sentAfter c link t) (numbered (d .next) new)
   unfolding withNumbered
-  split = transmitted-append c link t (d .outstanding) (numbered (d .next) new)
+  split = sent-append c link t (d .outstanding) (numbered (d .next) new)
       ∙ ap (λ (r : List Sent). old ++ r) (transmitted-new c link t (d .next) new)
 
   old-others : All (Other l) (map dataOf old)
   old-others =
       all-mapped (Other l) dataOf old
-      (all-transmitted c link t (λ (x : Sent). Other l (dataOf x)) (d .outstanding)
+      (all-transmitted (λ (x : Sent). Other l (dataOf x)) (ruled c link t (d .outstanding))
       (go (d .outstanding) (not-next (d .una) (d .next) 0 (d .outstanding) (half .numbers .ascends))))
     where
       go : (r : List Sent) → All (λ (x : Sent). x .record .number ≡ d .next → ⊥) r →
-          All (λ (x : Sent). Other l (dataOf x)) (map (sentAfter c link t) r)
+          All (λ (x : Sent). Other l (dataOf x)) (afterwards (ruled c link t r))
       go [] a = tt
       go (x ∷ r) a = (
         rw (transmission-number c link t (x .transmissions) (x .record))

@@ -23,10 +23,11 @@ use Rattle.timing.specs.declared.Record.{Record}
 use Rattle.lists.specs.declared.Held.{Held}
 use Rattle.lists.specs.declared.Sent.{Sent}
 use Rattle.session.specs.State.{State, Sending, sendHeld, withNumbers}
-use Rattle.session.specs.Flushing.{numberedAs, numbered, windowOf, numberedCount, withNumbered, sentAfter}
+use Rattle.session.specs.Flushing.{numberedAs, numbered, windowOf, numberedCount, withNumbered, ruled, afterwards}
 use Rattle.session.specs.Decides.{All}
 use Rattle.session.specs.AllLaws.{all-append}
-use Rattle.session.specs.MapLaws.{map-append, map-kept}
+use Rattle.session.specs.MapLaws.{map-append}
+use Rattle.session.specs.RuleLaws.{sentAfter, after-each, after-kept}
 use Rattle.session.specs.SendOrder.{numbers-mapped, numbers-more}
 use Rattle.delivery.specs.SendingHalf.{SentWell, Half, all-map}
 
@@ -35,7 +36,7 @@ use Rattle.delivery.specs.SendingHalf.{SentWell, Half, all-map}
 -- the half then
 abbrev pub flushedWith : Settings → ℕ → ℕ → Sending → Sending
 flushedWith c t k s =
-    withNumbers s (plus (s .next) k) (drop k (s .queued)) (map (sentAfter c (s .roundTrip .timeout) t) (withNumbered s k))
+    withNumbers s (plus (s .next) k) (drop k (s .queued)) (afterwards (ruled c (s .roundTrip .timeout) t (withNumbered s k)))
 
 pub numbered-held : (n : ℕ) (q : List Held) → map (λ (x : Sent). x .held) (numbered n q) ≡ q
 unfolding numbered
@@ -87,7 +88,7 @@ module _ (c : Settings) (t k : ℕ) (s : Sending) (few : k ≤ length (s .queued
   unfolding withNumbered
   flushed-held =
       ap (λ (l : List Held). l ++ drop k (s .queued))
-      (map-kept (λ (x : Sent). x .held) (sentAfter c link t) (λ x. refl) (s .outstanding ++ numbered (s .next) (take k (s .queued)))
+      (after-kept c link t (λ (x : Sent). x .held) (λ x. refl) (s .outstanding ++ numbered (s .next) (take k (s .queued)))
       ∙ map-append (λ (x : Sent). x .held) (s .outstanding) (numbered (s .next) (take k (s .queued)))
       ∙ ap (λ (l : List Held). map (λ (x : Sent). x .held) (s .outstanding) ++ l) (numbered-held (s .next) (take k (s .queued))))
       ∙ append-assoc (map (λ (x : Sent). x .held) (s .outstanding)) (take k (s .queued)) (drop k (s .queued))
@@ -97,11 +98,12 @@ module _ (c : Settings) (t k : ℕ) (s : Sending) (few : k ≤ length (s .queued
   unfolding withNumbered
   half-flushed h = record {
     held = rw flushed-held (h .held);
-    numbers = numbers-mapped (sentAfter c link t) (after-number c link t (h .roundTrip .timeout)) (s .una) (plus (s .next) k)
+    numbers = rw (after-each c link t (withNumbered s k))
+        (numbers-mapped (sentAfter c link t) (after-number c link t (h .roundTrip .timeout)) (s .una) (plus (s .next) k)
         (withNumbered s k)
         (rw count at (numbers-more (s .una) (s .next) (s .outstanding) (take k (s .queued)) (h .una) (h .next) (rw count room)
-        (h .numbers)));
-    sent = rw (map-append (sentAfter c link t) (s .outstanding) (numbered (s .next) (take k (s .queued))))
+        (h .numbers))));
+    sent = rw (after-each c link t (withNumbered s k), map-append (sentAfter c link t))
         (all-append (SentWell (c .mode)) (map (sentAfter c link t) (s .outstanding))
         (map (sentAfter c link t) (numbered (s .next) (take k (s .queued))))
         (all-map (SentWell (c .mode)) (sentAfter c link t) (after-well c link t (h .roundTrip .timeout)) (s .outstanding) (h .sent))

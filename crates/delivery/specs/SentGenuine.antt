@@ -32,9 +32,10 @@ use Rattle.session.specs.Flushing.{
   windowOf,
   numberedCount,
   withNumbered,
-  transmittedOf,
-  sentAfter,
-  transmittedNow,
+  ruling,
+  ruled,
+  afterwards,
+  transmitted,
   carried,
   ackSegment,
   dataSegment,
@@ -46,6 +47,7 @@ use Rattle.session.specs.Flushing.{
 use Rattle.session.specs.Calls.{Station, Call, Stepped, Event, afterFlush, own, history, datagramsIn, datagramsBy}
 use Rattle.session.specs.Decides.{All}
 use Rattle.session.specs.AllLaws.{all-any, all-append, all-left, all-right, all-unmapped, all-weaker}
+use Rattle.session.specs.RuleLaws.{sentAfter, all-transmitted, sent-append}
 use Rattle.delivery.specs.PlainReceiver.{pushNumbers, pushesOf, pushesIn}
 use Rattle.delivery.specs.Hearing.{Taken, CallFits, FewPushes}
 use Rattle.delivery.specs.Stations.{Opened}
@@ -61,7 +63,7 @@ use Rattle.delivery.specs.SendingFlushes.{window-most, window-most, coun
 use Rattle.delivery.specs.SendingStays.{SendingInOrder, half-in, sending-stays, opened-in-order}
 use Rattle.delivery.specs.PackingLaws.{packed-flat, each-flat, flat-each}
 use Rattle.delivery.specs.WireLaws.{all-written, data-written}
-use Rattle.delivery.specs.FlushLaws.{FlushWrites, sentWith, valid-parts, flush-writes-any, all-transmitted}
+use Rattle.delivery.specs.FlushLaws.{FlushWrites, sentWith, valid-parts, flush-writes-any}
 use Rattle.delivery.specs.CarryLaws.{carry-stays}
 use Rattle.delivery.specs.SenderModel as model
 use Rattle.delivery.specs.SenderModel.{Shows, get-append, sends-taken, sends-more, numbered-end, with-numbered, sends-flushed}
@@ -125,41 +127,30 @@ genuine-datagrams c pieces (d ∷ ds) e a = (
 -- ---- all newly numbered segments are transmitted
 
 module _ (c : Settings) (link t : ℕ) where
-  pub transmitted-append : (a b : List Sent) → transmittedNow c link t (a ++ b) ≡ transmittedNow c link t a ++ transmittedNow c link t b
-  unfolding transmittedNow
-  transmitted-append [] b = refl
-  transmitted-append (x ∷ a) b = go (transmittedOf c link t x .sends) (transmitted-append a b)
-    where
-      go : (f : Bool) → transmittedNow c link t (a ++ b) ≡ transmittedNow c link t a ++ transmittedNow c link t b →
-          cond f (sentAfter c link t x ∷ transmittedNow c link t (a ++ b)) (transmittedNow c link t (a ++ b))
-          ≡ cond f (sentAfter c link t x ∷ transmittedNow c link t a) (transmittedNow c link t a) ++ transmittedNow c link t b
-      go true i = ap {B = List Sent} (λ (r : List Sent). sentAfter c link t x ∷ r) i
-      go false i = i
-
-  new-sends : (n : ℕ) (h : Held) → transmittedOf c link t (numberedAs n h) .sends ≡ true
+  new-sends : (n : ℕ) (h : Held) → ruling c link t (numberedAs n h) .rule .sends ≡ true
   new-sends n h =
       let r : Record = record { number = n; due = 0; timeout = 0; skips = 0 } in
       sym (ap (λ (x : Transmission). x .sends) (when-never-sent c link t 0 r {x = sending 0 (firstTransmission (c .mode) link t r)} refl
       refl))
 
-  pub transmitted-new : (n : ℕ) (q : List Held) → transmittedNow c link t (numbered n q) ≡ map (sentAfter c link t) (numbered n q)
-  unfolding transmittedNow numbered
+  pub transmitted-new : (n : ℕ) (q : List Held) → transmitted (ruled c link t (numbered n q)) ≡ map (sentAfter c link t) (numbered n q)
+  unfolding transmitted numbered
   transmitted-new n [] = refl
   transmitted-new n (h ∷ q) = rw (new-sends n h)
       (ap {B = List Sent} (λ (r : List Sent). sentAfter c link t (numberedAs n h) ∷ r) (transmitted-new (plus n 1) q))
 
   -- what holds of each transmitted segment's number holds of the newly numbered ones
   pub new-numbers : (P : ℕ → Type 0) (s : Sending) (k : ℕ) →
-      All (λ (x : Sent). P (x .record .number)) (transmittedNow c link t (withNumbered s k)) →
+      All (λ (x : Sent). P (x .record .number)) (transmitted (ruled c link t (withNumbered s k))) →
       All (λ (x : Sent). P (x .record .number)) (numbered (s .next) (take k (s .queued)))
   unfolding withNumbered
   new-numbers P s k a =
       same (numbered (s .next) (take k (s .queued)))
       (all-unmapped (λ (x : Sent). P (x .record .number)) (sentAfter c link t) (numbered (s .next) (take k (s .queued)))
       (rw (transmitted-new (s .next) (take k (s .queued))) at
-      (all-right (λ (x : Sent). P (x .record .number)) (transmittedNow c link t (s .outstanding))
-      (transmittedNow c link t (numbered (s .next) (take k (s .queued))))
-      (rw (transmitted-append (s .outstanding) (numbered (s .next) (take k (s .queued)))) at a))))
+      (all-right (λ (x : Sent). P (x .record .number)) (transmitted (ruled c link t (s .outstanding)))
+      (transmitted (ruled c link t (numbered (s .next) (take k (s .queued)))))
+      (rw (sent-append c link t (s .outstanding) (numbered (s .next) (take k (s .queued)))) at a))))
     where
       same : (l : List Sent) → All (λ (x : Sent). P (sentAfter c link t x .record .number)) l → All (λ (x : Sent). P (x .record .number)) l
       same [] a = tt
@@ -167,7 +158,7 @@ module _ (c : Settings) (link t : ℕ) where
 
   shows-after : (m : ℕ) (pool : List ℕ) (pieces : List Piece) (l : List Sent) →
       All (Shows m pool pieces) l →
-      All (Shows m pool pieces) (map (sentAfter c link t) l)
+      All (Shows m pool pieces) (afterwards (ruled c link t l))
   shows-after m pool pieces [] a = tt
   shows-after m pool pieces (x ∷ l) a = (
     record {
@@ -249,7 +240,7 @@ module _ (s : Station) (pieces : List Piece) (made : valid (s .state) ≡ true) 
     more = pieces ++ map (pieceIn (mss (s .state .settings)) (s .sendPool))
         (take (numberedCount (windowOf (s .state)) (s .state .sending)) (s .state .sending .queued))
 
-    shown : All (Shows (mss c) (s .sendPool) more) (map (sentAfter c link t) (withNumbered d k))
+    shown : All (Shows (mss c) (s .sendPool) more) (afterwards (ruled c link t (withNumbered d k)))
     shown =
         shows-after c link t (mss c) (s .sendPool) more (withNumbered d k)
         (with-numbered (mss c) (s .sendPool) pieces c t k d (count-few (windowOf (s .state)) d) end h)
@@ -265,7 +256,7 @@ module _ (s : Station) (pieces : List Piece) (made : valid (s .state) ≡ true) 
         (λ (x : Sent). IfPush (Genuine more) (dataSegment (carried (s .state)) (mss c) t (s .sendPool) x))
         (λ x f e. record { its-piece = f .its-piece; small = f .small })
         (sentWith c t k d)
-        (all-transmitted c link t (Shows (mss c) (s .sendPool) more) (withNumbered d k) shown))
+        (all-transmitted (Shows (mss c) (s .sendPool) more) (ruled c link t (withNumbered d k)) shown))
 
     wrote-flush : Wrote c s pieces (own s (Call.flush t))
     unfolding flushing

@@ -11,6 +11,7 @@ use Rattle.protocol.specs.Ranges.{inRange, mss}
 use Rattle.protocol.specs.declared.Refusal.{Refusal}
 use Rattle.protocol.specs.declared.Settings.{Settings}
 use Rattle.timing.specs.declared.Record.{Record}
+use Rattle.record_words.specs.RecordWords.{recordsIn}
 use Rattle.sizes.specs.Sizes.{enough, enoughToFlush}
 use Rattle.session.specs.Decides.{and-parts}
 use Rattle.session.specs.Valid.{valid}
@@ -31,20 +32,21 @@ use Rattle.answers.specs.declared.Update.the-variants as update
 use Rattle.flush_core.specs.declared.Flushed.{Flushed}
 use Rattle.flush_core.specs.Flushes.{Flushable, putBack, keptOf, Runs, Core}
 
-module _ (c : Settings) (f : Flight) (a : Arrival) (k : Clock) (x : Arrays) (records : List Record) (table : ℕ)
+module _ (c : Settings) (f : Flight) (a : Arrival) (k : Clock) (x : Arrays) (records : List ℕ) (table : ℕ)
     (sendPool receivePool acks out lengths : List ℕ) (long : Bool) (v : Verdict)
     (e : long ≡ enoughToFlush (mss c) (lentLengths table sendPool receivePool acks) (length out) (length lengths))
-    (d : v ≡ verdictOf long (blockValid (linkOf c f a k x) records acks)) where
+    (d : v ≡ verdictOf long (blockValid (linkOf c f a k x) (recordsIn records) acks)) where
   abbrev block : Link
   block = linkOf c f a k x
 
   module _ (p : v ≡ Passed) where
-    passes : Passes long (blockValid block records acks)
-    passes = passed-by long (blockValid block records acks) v d p
+    passes : Passes long (blockValid block (recordsIn records) acks)
+    passes = passed-by long (blockValid block (recordsIn records) acks) v d p
 
-    pub flushable : Whole x → Flushable c f a (x .queued) (x .outstanding) (x .transmissions) records sendPool acks out lengths
+    pub flushable : Whole x → length records ≡ 128
+        → Flushable c f a (x .queued) (x .outstanding) (x .transmissions) records sendPool acks out lengths
     unfolding blockValid countsFit valid stateOf enoughToFlush enough
-    flushable w =
+    flushable w whole-records =
         let made = and-parts (countsFit block) _ (passes .valid-block) in
         let whole = and-parts _ _ (and-parts _ _ (and-parts _ _ (made .1) .0) .0) in
         let halves = and-parts (inRange c) _ (whole .0) in
@@ -55,6 +57,7 @@ module _ (c : Settings) (f : Flight) (a : Arrival) (k : Clock) (x : Arrays) (rec
           queued-whole = w .whole-queued;
           outstanding-whole = w .whole-outstanding;
           transmissions-whole = w .whole-transmissions;
+          records-whole = whole-records;
           counts = made .0;
           range = halves .0;
           sends = halves .1;
@@ -65,27 +68,28 @@ module _ (c : Settings) (f : Flight) (a : Arrival) (k : Clock) (x : Arrays) (rec
         }
 
     -- both checks passed
-    pub ran : (paced : Bool) (t : ℕ) (r : Flushed) (l′ : Link) (out′ lengths′ : List ℕ)
-        → Runs paced block records sendPool acks t out lengths r l′ out′ lengths′
-        → Core paced block records table sendPool receivePool acks t out lengths r l′ out′ lengths′
+    pub ran : (paced : Bool) (t : ℕ) (r : Flushed) (l′ : Link) (records′ : List Record) (out′ lengths′ : List ℕ)
+        → Runs paced block (recordsIn records) sendPool acks t out lengths r l′ records′ out′ lengths′
+        → Core paced block (recordsIn records) table sendPool receivePool acks t out lengths r l′ records′ out′ lengths′
     unfolding flushesWith updatesWith
-    ran false t r l′ out′ lengths′ h = (h .0, h .1, rw (← e, passes .long-enough, passes .valid-block) (h .2))
-    ran true t r l′ out′ lengths′ h = rw (← e, passes .long-enough, passes .valid-block) h
+    ran false t r l′ records′ out′ lengths′ h = (h .0, h .1, rw (← e, passes .long-enough, passes .valid-block) (h .2))
+    ran true t r l′ records′ out′ lengths′ h = rw (← e, passes .long-enough, passes .valid-block) h
 
   -- one failed
-  module _ (q : Refusal) (p : v ≡ Refused q) (t : ℕ) (words : List ℕ) (r : Flushed)
-      (w : r ≡ keptOf (update.Refused q) f a k words records) where
+  module _ (q : Refusal) (p : v ≡ Refused q) (t : ℕ) (r : Flushed)
+      (w : r ≡ keptOf (update.Refused q) f a k) (records′ : List Record) where
     abbrev after : Link
     after = linkOf c (r .flight) (r .arrival) (r .clock) x
 
-    nothing : NoFlush q block out lengths (count.Refused q) after (putBack r) out lengths
+    nothing : NoFlush q block out lengths (count.Refused q) after (putBack (x .outstanding) (r .changed) records′) out lengths
     nothing = rw w (record { answer = refl; link = refl; puts = refl; output = refl; sizes = refl })
 
-    pub kept : (paced : Bool) → Core paced block records table sendPool receivePool acks t out lengths r after out lengths
+    pub kept : (paced : Bool)
+        → Core paced block (recordsIn records) table sendPool receivePool acks t out lengths r after records′ out lengths
     unfolding flushesWith updatesWith
     kept false = (
       count.Refused q,
       ap (λ (y : Flushed). y .answer) w,
-      rw (← e, refused-by _ long (blockValid block records acks) v q d p) nothing,
+      rw (← e, refused-by _ long (blockValid block (recordsIn records) acks) v q d p) nothing,
     )
-    kept true = rw (← e, refused-by _ long (blockValid block records acks) v q d p) (ap (λ (y : Flushed). y .answer) w, nothing)
+    kept true = rw (← e, refused-by _ long (blockValid block (recordsIn records) acks) v q d p) (ap (λ (y : Flushed). y .answer) w, nothing)

@@ -57,13 +57,13 @@ module _ (c : Settings) (f : Flight) (a : Arrival) (k : Clock) (x : Arrays) (rec
   unfolding stateOf
   told steps = steps .flushes
 
-  module _ (x′ : Arrays) (out′ lengths′ : List ℕ) (r : Flushed) where
+  module _ (x′ : Arrays) (records′ : List Record) (out′ lengths′ : List ℕ) (r : Flushed) where
     abbrev after : Link
     after = linkOf c (r .flight) (r .arrival) (r .clock) x′
 
     pub flushed : (paced : Bool) → Steps paced k t (c .interval) s → s .flushes ≡ true
-        → Wrote (linkOf c f a (s .clock) x) records pool acks t out lengths r after out′ lengths′
-        → Runs paced block records pool acks t out lengths r after out′ lengths′
+        → Wrote (linkOf c f a (s .clock) x) records pool acks t out lengths r after records′ out′ lengths′
+        → Runs paced block records pool acks t out lengths r after records′ out′ lengths′
     unfolding updating stateOf
     flushed false steps e h = let q = rw steps at h in (count.Of (length (flushing before t pool .datagrams)), q .0, q .1)
     flushed true steps e h =
@@ -72,10 +72,10 @@ module _ (c : Settings) (f : Flight) (a : Arrival) (k : Clock) (x : Arrays) (rec
         rw (sym (told steps) ∙ e) q
 
   pub waited : (paced : Bool) → Steps paced k t (c .interval) s → s .flushes ≡ false → counted f a ≡ true
-      → (k′ : Clock) → k′ ≡ currentOf (s .clock) t → (words : List ℕ) (r : Flushed) → r ≡ keptOf Waited f a k′ words records
-      → Runs paced block records pool acks t out lengths r (linkOf c (r .flight) (r .arrival) (r .clock) x) out lengths
+      → (k′ : Clock) → k′ ≡ currentOf (s .clock) t → (r : Flushed) → r ≡ keptOf Waited f a k′ → (records′ : List Record)
+      → Runs paced block records pool acks t out lengths r (linkOf c (r .flight) (r .arrival) (r .clock) x) records′ out lengths
   unfolding updating countsFit
-  waited false steps e n k′ d words r w = absurd (true≢false (sym (ap (λ (y : Step). y .flushes) steps) ∙ e))
-  waited true steps e n k′ d words r w =
+  waited false steps e n k′ d r w records′ = absurd (true≢false (sym (ap (λ (y : Step). y .flushes) steps) ∙ e))
+  waited true steps e n k′ d r w records′ =
       rw (w, sym (told steps) ∙ e)
       (record { answer = refl; counts = n; state = moved steps k′ t d; slots = refl; puts = refl; output = refl; sizes = refl })

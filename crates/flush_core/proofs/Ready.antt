@@ -11,7 +11,7 @@ use Rattle.protocol.specs.Ranges.{mss, controlsCongestion}
 use Rattle.protocol.specs.declared.Settings.{Settings}
 use Rattle.congestion.specs.Congestions.{Countable}
 use Rattle.congestion.specs.CongestionLaws.{used-most}
-use Rattle.timing.specs.declared.Record.{Record}
+use Rattle.record_words.specs.RecordWords.{recordsIn}
 use Rattle.session.specs.Decides.{and-parts}
 use Rattle.session.specs.State.{Sending, sendHeld}
 use Rattle.session.specs.Valid.{all, heldFits, slotsFit, sendingValid, numbersFit}
@@ -24,7 +24,6 @@ use Rattle.control.specs.declared.Clock.{Clock}
 use Rattle.control.specs.Views.{sendingOf}
 use Rattle.control.specs.ViewLaws.{Counts, counts}
 use Rattle.numbering.specs.Numbering.{Numberable, Numbers}
-use Rattle.numbering.specs.declared.Numbered.{Numbered}
 use Rattle.transmit.specs.Writing.{Writable}
 use Rattle.transmit.specs.ValidLaws.{valid-inside}
 use Rattle.flush_core.specs.declared.parts.Plan.{Plan}
@@ -45,7 +44,7 @@ count-fits w s h k = omega arith
 flown-apart : (next una k : ℕ) → una < 2 ^ 32 → minus next una + k ≤ sendWindow → minus (plus next k) una ≤ sendWindow
 flown-apart next una k h e = omega arith
 
-module _ (c : Settings) (f : Flight) (a : Arrival) (queued outstanding transmissions : List ℕ) (records : List Record)
+module _ (c : Settings) (f : Flight) (a : Arrival) (queued outstanding transmissions records : List ℕ)
     (pool acks out lengths : List ℕ)
     (p : Flushable c f a queued outstanding transmissions records pool acks out lengths) where
   range : SettingsInRange c
@@ -66,17 +65,18 @@ module _ (c : Settings) (f : Flight) (a : Arrival) (queued outstanding transmiss
         queued-whole = p .queued-whole;
         outstanding-whole = p .outstanding-whole;
         transmissions-whole = p .transmissions-whole;
+        records-whole = p .records-whole;
         queued-fits = fit .queued;
         outstanding-fits = fit .outstanding;
         numbers = numbers-fit c _ (p .sends);
       }
 
   -- for the losses at its end
-  pub countable : (w : ℕ) (n : Numbered) (queued′ outstanding′ transmissions′ : List ℕ) → w ≡ windowIn c f → f .una < 2 ^ 32
-      → Numbers f w queued outstanding transmissions records n queued′ outstanding′ transmissions′
-      → (fast late : Bool) → Countable (mss c) (lossesIn c (n .flight) w fast late)
-  countable w n queued′ outstanding′ transmissions′ e below d fast late =
-      let half = sendingOf f queued outstanding transmissions records in
+  pub countable : (w : ℕ) (n : Flight) (queued′ outstanding′ transmissions′ records′ : List ℕ) → w ≡ windowIn c f → f .una < 2 ^ 32
+      → Numbers f w queued outstanding transmissions records n queued′ outstanding′ transmissions′ records′
+      → (fast late : Bool) → Countable (mss c) (lossesIn c n w fast late)
+  countable w n queued′ outstanding′ transmissions′ records′ e below d fast late =
+      let half = sendingOf f queued outstanding transmissions (recordsIn records) in
       let k = numberedCount w half in
       let apart = sending-decides c half .holds (p .sends) .apart in
       let room = count-fits w half (numberable w e .window-fits) apart in
@@ -87,17 +87,19 @@ module _ (c : Settings) (f : Flight) (a : Arrival) (queued outstanding transmiss
       }
 
   -- for writing
-  pub writable : (k : Clock) (t w : ℕ) (plan : Plan) (n : Numbered) (queued′ outstanding′ transmissions′ : List ℕ) → Plans c f a k t plan
-      → Numbers f w queued outstanding transmissions records n queued′ outstanding′ transmissions′
-      → Writable (plan .flush) (a .acks) acks outstanding′ transmissions′ (n .records) (n .flight .outstanding) pool out lengths
-  writable k t w plan n queued′ outstanding′ transmissions′ g e =
+  pub writable : (k : Clock) (t w : ℕ) (plan : Plan) (n : Flight) (queued′ outstanding′ transmissions′ records′ : List ℕ)
+      → Plans c f a k t plan
+      → Numbers f w queued outstanding transmissions records n queued′ outstanding′ transmissions′ records′
+      → Writable (plan .flush) (a .acks) acks outstanding′ transmissions′ records′ (n .outstanding) pool out lengths
+  writable k t w plan n queued′ outstanding′ transmissions′ records′ g e =
       rw (g .flush) (record {
         sendable = record {
           mtu = omega (arith, range .mtu-least);
           whole = e .sent .whole;
           wholes = e .sent .wholes;
+          whole-records = e .sent .whole-records;
           count = e .sent .fits;
-          inside = rw (e .sent .list) (valid-inside c (sendingOf f queued outstanding transmissions records) _ (p .sends));
+          inside = rw (e .sent .list) (valid-inside c (sendingOf f queued outstanding transmissions (recordsIn records)) _ (p .sends));
           slots = p .slots;
         };
         few = fit .acks;

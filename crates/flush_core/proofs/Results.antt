@@ -10,7 +10,7 @@ use lib.ListN.{length, take, length-map}
 use lib.Seq.{length-take-le}
 use Rattle.protocol.specs.Serial.{plus}
 use Rattle.protocol.specs.declared.Settings.{Settings}
-use Rattle.timing.specs.declared.Record.{Record}
+use Rattle.record_words.specs.RecordWords.{recordsIn}
 use Rattle.session.specs.State.{State}
 use Rattle.session.specs.Flushing.{numberedCount, bytesOfSegments, flushing}
 use Rattle.answers.specs.declared.Update.the-variants as update
@@ -23,7 +23,6 @@ use Rattle.control.specs.Views.{isSet, pairs, arrays, linkOf, receivingOf, sche
 use Rattle.control.specs.ViewLaws.{counts}
 use Rattle.numbering.specs.Sents.{sentIn}
 use Rattle.numbering.specs.Numbering.{Numbers}
-use Rattle.numbering.specs.declared.Numbered.{Numbered}
 use Rattle.transmit.specs.declared.Written.{Written}
 use Rattle.transmit.specs.Writing.{Writes}
 use Rattle.transmit.specs.Flushes.{FlushOf, FlushWrites}
@@ -33,12 +32,12 @@ use Rattle.flush_core.specs.Parts.{goesBy, Plans, windowIn, withLosses, 
 use Rattle.flush_core.specs.Flushes.{Wrote}
 
 module _ (c : Settings) (f : Flight) (a : Arrival) (k : Clock) (queued outstanding transmissions ready waiting numbers : List ℕ)
-    (records : List Record) (acks : List ℕ) (t : ℕ) where
+    (records acks : List ℕ) (t : ℕ) where
   abbrev block : Link
   block = linkOf c f a k (arrays queued outstanding transmissions ready waiting numbers)
 
   abbrev before : State
-  before = stateOf block records acks
+  before = stateOf block (recordsIn records) acks
 
   -- what the flush goes by is of the block's state
   goes-by : length ready ≡ 128 → a .ready ≤ 128 → FlushOf before t (goesBy c f a t)
@@ -48,23 +47,23 @@ module _ (c : Settings) (f : Flight) (a : Arrival) (k : Clock) (queued outstandi
       length-map (take (a .ready) ready) unpack ∙ length-take-le (a .ready) ready (omega arith) in
       record { settings = refl; carries = rw held; timeout = refl; time = refl }
 
-  module _ (pool out lengths : List ℕ) (window : ℕ) (e₁ : window ≡ windowIn c f) (plan : Plan) (n : Numbered)
-      (queued′ outstanding′ transmissions′ : List ℕ) (w : Written) (transmissions″ out′ lengths′ : List ℕ)
+  module _ (pool out lengths : List ℕ) (window : ℕ) (e₁ : window ≡ windowIn c f) (plan : Plan) (n : Flight)
+      (queued′ outstanding′ transmissions′ records′ : List ℕ) (w : Written) (transmissions″ records″ out′ lengths′ : List ℕ)
       (plans : Plans c f a k t plan) (numbered : Numbers f window queued outstanding transmissions records n queued′ outstanding′
-      transmissions′)
+      transmissions′ records′)
       (writes : Writes (plan .flush) (pairs (a .acks) acks) (plan .ask) (plan .tell)
-      (sentIn outstanding′ transmissions′ (n .records) (n .flight .outstanding)) outstanding′ (n .flight .outstanding) pool out lengths w
-      transmissions″ out′ lengths′)
+      (sentIn outstanding′ transmissions′ (recordsIn records′) (n .outstanding)) outstanding′ (n .outstanding) pool out lengths w
+      transmissions″ records″ out′ lengths′)
       (whole : length ready ≡ 128) (fit : counted f a ≡ true) where
     -- what is written is what the flush of the state writes
-    written : FlushWrites before t outstanding′ (n .flight .outstanding) pool out lengths w transmissions″ out′ lengths′
+    written : FlushWrites before t outstanding′ (n .outstanding) pool out lengths w transmissions″ records″ out′ lengths′
     unfolding stateOf
     written =
-        flush-writes before t (goesBy c f a t) (goes-by whole (counts f a fit .ready)) pool outstanding′ (n .flight .outstanding) out
-        lengths w transmissions″ out′ lengths′
+        flush-writes before t (goesBy c f a t) (goes-by whole (counts f a fit .ready)) pool outstanding′ (n .outstanding) out
+        lengths w transmissions″ records″ out′ lengths′
         (rw (plans .flush, plans .ask, plans .tell, numbered .sent .list, e₁) at writes)
 
-    module _ (a′ : Arrival) (k′ : Clock) (f′ : Flight) (lost : f′ ≡ withLosses c (n .flight) window (w .fast) (w .late))
+    module _ (a′ : Arrival) (k′ : Clock) (f′ : Flight) (lost : f′ ≡ withLosses c n window (w .fast) (w .late))
         (told : a′ ≡ toldOf a) (moves : Moves k (plan .probe) (w .dead) t k′) where
       abbrev after : Link
       after = linkOf c f′ a′ k′ (arrays queued′ outstanding′ transmissions″ ready waiting numbers)
@@ -76,8 +75,8 @@ module _ (c : Settings) (f : Flight) (a : Arrival) (k : Clock) (queued outstandi
         rtt = f .rtt;
         window = f .window;
         congestion = f′ .congestion;
-        queued = n .flight .queued;
-        outstanding = n .flight .outstanding;
+        queued = n .queued;
+        outstanding = n .outstanding;
       }
       unfolding stateOf
       flown = rw (lost, numbered .rest, e₁)
@@ -90,10 +89,10 @@ module _ (c : Settings) (f : Flight) (a : Arrival) (k : Clock) (queued outstandi
       unfolding stateOf flushing
       left = rw lost (numbered .left ∙ rw e₁)
 
-      sent : sentIn outstanding′ transmissions″ (w .records) (f′ .outstanding) ≡ flushing before t pool .state .sending .outstanding
+      sent : sentIn outstanding′ transmissions″ (recordsIn records″) (f′ .outstanding) ≡ flushing before t pool .state .sending .outstanding
       sent = rw lost (written .sent .list)
 
-      state : stateOf after (w .records) acks ≡ flushing before t pool .state
+      state : stateOf after (recordsIn records″) acks ≡ flushing before t pool .state
       unfolding stateOf flushing pairs
       state =
           λ i.
@@ -129,26 +128,17 @@ module _ (c : Settings) (f : Flight) (a : Arrival) (k : Clock) (queued outstandi
             le-leb _ _ (q .waiting),
           )
 
-      pub runs : (words : List ℕ) → words ≡ outstanding′
-          → Wrote block records pool acks t out lengths
-          (record {
-            answer = update.Wrote (w .count);
-            flight = f′;
-            arrival = a′;
-            clock = k′;
-            words = words;
-            changed = f′ .outstanding;
-            records = w .records;
-          })
-          after out′ lengths′
-      runs words e =
+      pub runs : Wrote block (recordsIn records) pool acks t out lengths
+          (record { answer = update.Wrote (w .count); flight = f′; arrival = a′; clock = k′; changed = f′ .outstanding })
+          after (recordsIn records″) out′ lengths′
+      runs =
           let number = written .output .number ∙ length-map (flushing before t pool .datagrams) bytesOfSegments in (
             ap update.Wrote number,
             record {
               answer = refl;
               counts = counts-fit;
               state = state;
-              puts = record { words = e; changed = refl };
+              puts = record { words = refl; changed = refl };
               output = rw number at (written .output);
             },
           )

@@ -1,4 +1,4 @@
-// The core of a flush and of an update: the numbers of a block and the records of its outstanding segments by value, its arrays lent.
+// The core of a flush and of an update: the numbers of a block by value, its arrays and the records of its outstanding segments lent.
 pub mod parts;
 
 use answers::Update;
@@ -10,45 +10,34 @@ use control::Clock;
 use control::Flight;
 use protocol::Settings;
 use sizes::Lengths;
-use timing::Record;
 ghost use mathlib.Core.Path.{_≡_};
 ghost use Prim.Native.Nat.{ℕ};
 ghost use mathlib.Core.List.{List};
 ghost use lib.ListN.{length};
 ghost use Rattle.control.specs.Views.{arrays, linkOf, Whole};
+ghost use Rattle.record_words.specs.RecordWords.{recordsIn};
 ghost use Rattle.flush_core.specs.Flushes.{Flushable, keptOf, Wrote, Runs, Core};
 
-// The answer of an update, which a flush has too, the block's numbers after it, and what is to be put back into the table: by the words
-// of so many outstanding segments, their records.
+// The answer of an update, which a flush has too, the block's numbers after it, and the number of outstanding segments whose records
+// are to be put back into the table.
 pub struct Flushed {
     pub answer: Update,
     pub flight: Flight,
     pub arrival: Arrival,
     pub clock: Clock,
-    pub words: [u32; 32],
     pub changed: usize,
-    pub records: [Record; 32],
 }
 
 // What did not flush, or was refused: the numbers are those given, and nothing is to be put back.
-fn kept(
-    answer: Update,
-    flight: Flight,
-    arrival: Arrival,
-    clock: Clock,
-    words: [u32; 32],
-    records: [Record; 32],
-) -> Flushed
-    ensures { λ r. ⌜ r ≡ keptOf answer flight arrival clock words records ⌝ }
+fn kept(answer: Update, flight: Flight, arrival: Arrival, clock: Clock) -> Flushed
+    ensures { λ r. ⌜ r ≡ keptOf answer flight arrival clock ⌝ }
 {
     Flushed {
         answer,
         flight,
         arrival,
         clock,
-        words,
         changed: 0,
-        records,
     }
 }
 
@@ -58,7 +47,7 @@ fn flush_now(
     flight: Flight,
     arrival: Arrival,
     clock: Clock,
-    records: [Record; 32],
+    records: &mut [u32; 128],
     queued: &mut [u32; 128],
     outstanding: &mut [u32; 32],
     transmissions: &mut [u8; 32],
@@ -68,21 +57,20 @@ fn flush_now(
     output: &mut [u8],
     lengths: &mut [u16],
 ) -> Flushed
-    requires { ⌜ Flushable settings flight arrival (now queued) (now outstanding) (now transmissions) records (now pool) (now acks)
-        (now output) (now lengths) ⌝ }
+    requires { ⌜ Flushable settings flight arrival (now queued) (now outstanding) (now transmissions) (now records) (now pool)
+        (now acks) (now output) (now lengths) ⌝ }
     ensures { λ r. ⌜ ((ready waiting numbers : List ℕ) → length ready ≡ 128 → Wrote
         (linkOf settings flight arrival clock (arrays (now (queued .entry)) (now (outstanding .entry)) (now (transmissions .entry))
         ready waiting numbers))
-        records (now (pool .entry)) (now (acks .entry)) t (now (output .entry)) (now (lengths .entry)) r
+        (recordsIn (now (records .entry))) (now (pool .entry)) (now (acks .entry)) t (now (output .entry)) (now (lengths .entry)) r
         (linkOf settings (r .flight) (r .arrival) (r .clock) (arrays (now (queued .exit)) (now (outstanding .exit))
         (now (transmissions .exit)) ready waiting numbers))
-        (now (output .exit)) (now (lengths .exit))) ⌝ }
+        (recordsIn (now (records .exit))) (now (output .exit)) (now (lengths .exit)))
+        × (length (now (records .exit)) ≡ 128) ⌝ }
 {
     let plan = parts::plan_of(settings, flight, arrival, clock, t);
     let window = parts::window_of(settings, flight);
-    let numbered = numbering::number(flight, window, queued, outstanding, transmissions, records);
-    let flown = numbered.flight;
-    let numbered_records = numbered.records;
+    let flown = numbering::number(flight, window, queued, outstanding, transmissions, records);
     let written = transmit::write(
         plan.flush,
         acks,
@@ -91,14 +79,12 @@ fn flush_now(
         plan.tell,
         outstanding,
         transmissions,
-        numbered_records,
+        records,
         flown.outstanding,
         pool,
         output,
         lengths,
     );
-    let words = *outstanding;
-    let kept = written.records;
     let after = parts::after_losses(settings, flown, window, written.fast, written.late);
     let moved = parts::moved(clock, plan.probe, written.dead, t);
     let told = parts::told(arrival);
@@ -107,9 +93,7 @@ fn flush_now(
         flight: after,
         arrival: told,
         clock: moved,
-        words,
         changed: after.outstanding,
-        records: kept,
     }
 }
 
@@ -120,7 +104,7 @@ fn run(
     flight: Flight,
     arrival: Arrival,
     clock: Clock,
-    records: [Record; 32],
+    records: &mut [u32; 128],
     paced: bool,
     queued: &mut [u32; 128],
     outstanding: &mut [u32; 32],
@@ -131,15 +115,16 @@ fn run(
     output: &mut [u8],
     lengths: &mut [u16],
 ) -> Flushed
-    requires { ⌜ Flushable settings flight arrival (now queued) (now outstanding) (now transmissions) records (now pool) (now acks)
-        (now output) (now lengths) ⌝ }
+    requires { ⌜ Flushable settings flight arrival (now queued) (now outstanding) (now transmissions) (now records) (now pool)
+        (now acks) (now output) (now lengths) ⌝ }
     ensures { λ r. ⌜ ((ready waiting numbers : List ℕ) → length ready ≡ 128 → Runs paced
         (linkOf settings flight arrival clock (arrays (now (queued .entry)) (now (outstanding .entry)) (now (transmissions .entry))
         ready waiting numbers))
-        records (now (pool .entry)) (now (acks .entry)) t (now (output .entry)) (now (lengths .entry)) r
+        (recordsIn (now (records .entry))) (now (pool .entry)) (now (acks .entry)) t (now (output .entry)) (now (lengths .entry)) r
         (linkOf settings (r .flight) (r .arrival) (r .clock) (arrays (now (queued .exit)) (now (outstanding .exit))
         (now (transmissions .exit)) ready waiting numbers))
-        (now (output .exit)) (now (lengths .exit))) ⌝ }
+        (recordsIn (now (records .exit))) (now (output .exit)) (now (lengths .exit)))
+        × (length (now (records .exit)) ≡ 128) ⌝ }
 {
     let next = parts::step_of(paced, clock, t, settings.interval);
     if next.flushes {
@@ -159,9 +144,8 @@ fn run(
             lengths,
         )
     } else {
-        let words = *outstanding;
         let waits = parts::current(next.clock, t);
-        kept(Update::Waited, flight, arrival, waits, words, records)
+        kept(Update::Waited, flight, arrival, waits)
     }
 }
 
@@ -171,7 +155,7 @@ pub fn flush(
     flight: Flight,
     arrival: Arrival,
     clock: Clock,
-    records: [Record; 32],
+    records: &mut [u32; 128],
     table: usize,
     paced: bool,
     queued: &mut [u32; 128],
@@ -187,15 +171,17 @@ pub fn flush(
     output: &mut [u8],
     lengths: &mut [u16],
 ) -> Flushed
-    requires { ⌜ Whole (arrays (now queued) (now outstanding) (now transmissions) (now ready) (now waiting) (now «waiting_numbers»)) ⌝ }
+    requires { ⌜ Whole (arrays (now queued) (now outstanding) (now transmissions) (now ready) (now waiting) (now «waiting_numbers»))
+        × (length (now records) ≡ 128) ⌝ }
     ensures { λ r. ⌜ Core paced
         (linkOf settings flight arrival clock (arrays (now (queued .entry)) (now (outstanding .entry)) (now (transmissions .entry))
         (now (ready .entry)) (now (waiting .entry)) (now («waiting_numbers» .entry))))
-        records table (now («send_pool» .entry)) (now («receive_pool» .entry)) (now (acks .entry)) t
+        (recordsIn (now (records .entry))) table (now («send_pool» .entry)) (now («receive_pool» .entry)) (now (acks .entry)) t
         (now (output .entry)) (now (lengths .entry)) r
         (linkOf settings (r .flight) (r .arrival) (r .clock) (arrays (now (queued .exit)) (now (outstanding .exit))
         (now (transmissions .exit)) (now (ready .entry)) (now (waiting .entry)) (now («waiting_numbers» .entry))))
-        (now (output .exit)) (now (lengths .exit)) ⌝ }
+        (recordsIn (now (records .exit))) (now (output .exit)) (now (lengths .exit))
+        × (length (now (records .exit)) ≡ 128) ⌝ }
 {
     let lent = Lengths {
         send: send_pool.len(),
@@ -238,16 +224,6 @@ pub fn flush(
             output,
             lengths,
         ),
-        Verdict::Refused(refusal) => {
-            let words = *outstanding;
-            kept(
-                Update::Refused(refusal),
-                flight,
-                arrival,
-                clock,
-                words,
-                records,
-            )
-        }
+        Verdict::Refused(refusal) => kept(Update::Refused(refusal), flight, arrival, clock),
     }
 }

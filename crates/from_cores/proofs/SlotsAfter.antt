@@ -26,7 +26,9 @@ use Rattle.session.specs.Decides.{All}
 use Rattle.session.specs.AllLaws.{all-mapped}
 use Rattle.session.specs.Once.{Distinct, once-distinct, distinct-once}
 use Rattle.session.specs.IsValid.{valid-decides}
-use Rattle.session.specs.Flushing.{numbered, windowOf, numberedCount, withNumbered, sentAfter, flushing}
+use Rattle.session.specs.Flushing.{numbered, windowOf, numberedCount, withNumbered, flushing}
+use Rattle.session.specs.MapLaws.{map-kept}
+use Rattle.session.specs.RuleLaws.{after-kept}
 use Rattle.session.specs.Input.{acknowledged, sampledBy, heardBySending, allBySending, furthest, skipped, skippedByAll, ackNumbers, applied}
 use Rattle.records.specs.TableLaws.{AllBelow}
 use Rattle.from_cores.proofs.Scattered.{SlotsFit, slotsOf}
@@ -123,11 +125,6 @@ unfolding numbered
 numbered-slots n [] = refl
 numbered-slots n (h ∷ q) = rw (numbered-slots (plus n 1) q)
 
--- a function that leaves the slots as they are
-same-slots : (f : Sent → Sent) → ((x : Sent) → f x .held ≡ x .held) → (l : List Sent) → sentSlots (map f l) ≡ sentSlots l
-same-slots f e [] = refl
-same-slots f e (x ∷ l) = rw (e x, same-slots f e l)
-
 flushed-slots : (s : Sending) (k : ℕ) → sentSlots (withNumbered s k) ++ slots (drop k (s .queued)) ≡ slots (sendHeld s)
 unfolding withNumbered
 flushed-slots s k =
@@ -149,7 +146,7 @@ flush-slots s t pool v =
     let k = numberedCount (windowOf s) d in
     let some : Some (sentSlots (withNumbered d k)) (slots (sendHeld d)) =
     rw (← flushed-slots d k) (some-first (sentSlots (withNumbered d k)) (slots (drop k (d .queued)))) in
-    let same = same-slots (sentAfter (s .settings) (d .roundTrip .timeout) t) (λ x. refl) (withNumbered d k) in
+    let same = after-kept (s .settings) (d .roundTrip .timeout) t (λ (x : Sent). x .held .slot) (λ x. refl) (withNumbered d k) in
     rw same (fit (sentSlots (withNumbered d k)) (fit-some some (held-fit s v)))
 
 -- ---- an input
@@ -185,7 +182,7 @@ fit-skipped s n f = go (not (isBefore n (s .una)) && isBefore n (s .next))
     more = withOutstanding s (s .una) (map (skipBefore n) (s .outstanding))
 
     go : (b : Bool) → OutFit (cond b more s)
-    go true = rw (same-slots (skipBefore n) (skip-held n) (s .outstanding)) f
+    go true = rw (map-kept (λ (x : Sent). x .held .slot) (skipBefore n) (λ x. rw (skip-held n x)) (s .outstanding)) f
     go false = f
 
 fit-skips : (s : Sending) (l : List ℕ) → OutFit s → OutFit (skippedByAll s l)

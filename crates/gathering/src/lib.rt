@@ -6,9 +6,10 @@ use protocol::Settings;
 use timing::Record;
 ghost use mathlib.Core.Path.{_≡_};
 ghost use Prim.Native.Nat.{_≤_, _%_, min};
-ghost use lib.ListN.{replicate, take};
+ghost use lib.ListN.{length, replicate, take};
 ghost use Rattle.protocol.specs.Protocol.{sendSlots};
-ghost use Rattle.records.specs.Tables.{blank, slotsIn, gathered, padded, scattered};
+ghost use Rattle.records.specs.Tables.{slotsIn, gathered, padded, scattered};
+ghost use Rattle.record_words.specs.RecordWords.{recordsIn};
 ghost use Rattle.checking.specs.Tests.{flightFits};
 ghost use Rattle.gathering.specs.Reach.{reach};
 
@@ -38,35 +39,22 @@ fn reach(word: u32) -> usize
     }
 }
 
-// 32 blank records.
-fn blank_records() -> [Record; 32]
-    ensures { λ r. ⌜ r ≡ replicate 32 blank ⌝ }
-{
-    let blank = Record {
-        number: 0,
-        due: 0,
-        timeout: 0,
-        skips: 0,
-    };
-    [blank; 32]
-}
-
-// The records at the slots of the first n words, in their order, and blank ones up to 32. Of the table the first 128 records
-// are read.
-pub fn gather(table: &[Record], words: [u32; 32], n: usize) -> [Record; 32]
-    ensures { λ r. ⌜ r ≡ padded (gathered (take sendSlots (now (table .entry))) (slotsIn words n)) ⌝ }
+// The records at the slots of the first n words, in their order, into an array that holds blank ones. Of the table the first 128
+// records are read.
+pub fn gather(table: &[Record], words: [u32; 32], n: usize, records: &mut [u32; 128])
+    requires { ⌜ now records ≡ replicate 128 0 ⌝ }
+    ensures { λ _. ⌜ (length (now (records .exit)) ≡ 128)
+        × (recordsIn (now (records .exit)) ≡ padded (gathered (take sendSlots (now (table .entry))) (slotsIn words n))) ⌝ }
 {
     let count = within(n);
-    let mut records = blank_records();
     let mut i = 0;
     while i < count {
         let word = words[i];
         let slot = reach(word);
         let found = records::read(table, slot);
-        records[i] = found;
+        record_words::put(records, i, found);
         i += 1;
     }
-    records
 }
 
 // Whether the records of the outstanding segments fit (13), in one pass over them where they stand. Of the table the first 128 records
@@ -89,16 +77,17 @@ pub fn fit(table: &[Record], words: [u32; 32], settings: Settings, flight: Fligh
     flights::flown(least, flight)
 }
 
-// Each record is stored at the slot of its word, in their order; no other record changes.
-pub fn scatter(table: &mut [Record], words: [u32; 32], n: usize, records: [Record; 32])
-    ensures { λ _. ⌜ now (table .exit) ≡ scattered (now (table .entry)) (slotsIn words n) records ⌝ }
+// Each record is stored at the slot of its word, in their order; no other record of the table changes.
+pub fn scatter(table: &mut [Record], words: [u32; 32], n: usize, records: &[u32; 128])
+    requires { ⌜ length (now records) ≡ 128 ⌝ }
+    ensures { λ _. ⌜ now (table .exit) ≡ scattered (now (table .entry)) (slotsIn words n) (recordsIn (now (records .entry))) ⌝ }
 {
     let count = within(n);
     let mut i = 0;
     while i < count {
         let word = words[i];
         let slot = slot_of(word);
-        let updated = records[i];
+        let updated = record_words::at(records, i);
         records::replace(table, slot, updated);
         i += 1;
     }

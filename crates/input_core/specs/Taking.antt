@@ -59,11 +59,11 @@ grownFrom c before after =
       outstanding = after .outstanding;
     }
 
--- what the call leaves: `gives` is what the definition gives for the block with the numbers f and a and the arrays x; the answer, the
--- numbers afterwards and what goes back into the table are t's
-abbrev pub Takes : (Link → Outcome Took) → Settings → Flight → Arrival → Clock → Arrays → List ℕ → List ℕ → Taken → Arrays → List ℕ → List ℕ
-    → Type 0
-Takes gives c f a k x pool acks t x′ pool′ acks′ =
+-- what the call leaves: `gives` is what the definition gives for the block with the numbers f and a and the arrays x; the answer and the
+-- numbers afterwards are t's, the arrays x′ and the records; back into the table go so many records as t says, by their words
+abbrev pub Takes : (Link → Outcome Took) → Settings → Flight → Arrival → Clock → Arrays → List ℕ → List ℕ → Taken → Arrays → List Record
+    → List ℕ → List ℕ → Type 0
+Takes gives c f a k x pool acks t x′ records pool′ acks′ =
     let l = linkOf c f a k x in
     InputCore (gives l) l pool acks (t .answer) (linkOf c (t .flight) (t .arrival) k x′)
-    (record { words = t .words; changed = t .changed; records = t .records }) pool′ acks′
+    (record { words = x′ .outstanding; changed = t .changed; records = records }) pool′ acks′

@@ -1,6 +1,7 @@
-// Taking in a datagram over the block in place: its small structs and the records of the outstanding segments by value, its lists lent.
+// Taking in a datagram over the block in place: its small structs by value, its lists and the records of the outstanding segments lent.
 use answers::Answer;
 use checking::Verdict;
+use checking::flights;
 use checking::hearing;
 use control::Arrival;
 use control::Clock;
@@ -8,12 +9,12 @@ use control::Flight;
 use datagram::Checked;
 use protocol::Settings;
 use sizes::Lengths;
-use timing::Record;
 ghost use mathlib.Core.Path.{_≡_};
 ghost use Prim.Native.Nat.{ℕ};
+ghost use lib.ListN.{length};
+ghost use Rattle.record_words.specs.RecordWords.{recordsIn};
 ghost use Rattle.session.specs.Input.{input};
 ghost use Rattle.control.specs.Views.{arrays, linkOf, Whole, stateOf};
-ghost use Rattle.checking.specs.Verdicts.{Flown};
 ghost use Rattle.promises.specs.Parts.{lentLengths};
 ghost use Rattle.promises.specs.Outcomes.{takesInWith};
 ghost use Rattle.protocol.specs.Ranges.{mss};
@@ -22,14 +23,12 @@ ghost use Rattle.datagram.specs.Datagrams.{parse, counted};
 ghost use Rattle.datagram.specs.StepLaws.{Begun};
 ghost use Rattle.input_core.specs.Taking.{checkedBy, Hearable, grownFrom, Takes};
 
-// The answer, the numbers of both halves, and what goes back into the table: the first `changed` of the records, by their words.
+// The answer, the numbers of both halves, and how many records go back into the table: the first ones, by their words.
 pub struct Taken {
     pub answer: Answer,
     pub flight: Flight,
     pub arrival: Arrival,
-    pub words: [u32; 32],
     pub changed: usize,
-    pub records: [Record; 32],
 }
 
 // The sending half's numbers after a datagram, with the congestion window grown from what it was before.
@@ -60,7 +59,7 @@ fn hear(
     flight: Flight,
     arrival: Arrival,
     clock: Clock,
-    records: [Record; 32],
+    records: &mut [u32; 128],
     queued: &[u32; 128],
     outstanding: &mut [u32; 32],
     transmissions: &mut [u8; 32],
@@ -73,16 +72,19 @@ fn hear(
     datagram: &[u8],
 ) -> Taken
     requires { ⌜ Hearable (linkOf settings flight arrival clock (arrays (now queued) (now outstanding) (now transmissions)
-        (now ready) (now waiting) (now «waiting_numbers»))) records (now marks) (now acks) (now «receive_pool»)
+        (now ready) (now waiting) (now «waiting_numbers»))) (recordsIn (now records)) (now marks) (now acks) (now «receive_pool»)
+        × (length (now records) ≡ 128)
         × ((n : ℕ) × Begun (settings .conv) (mss settings) (now datagram) n) ⌝ }
-    ensures { λ r. ⌜ Takes (λ l. input (stateOf l records (now (acks .entry))) (now («receive_pool» .entry)) (now (datagram .entry)))
+    ensures { λ r. ⌜ Takes (λ l. input (stateOf l (recordsIn (now (records .entry))) (now (acks .entry)))
+        (now («receive_pool» .entry)) (now (datagram .entry)))
         settings flight arrival clock
         (arrays (now (queued .entry)) (now (outstanding .entry)) (now (transmissions .entry))
         (now (ready .entry)) (now (waiting .entry)) (now («waiting_numbers» .entry)))
         (now («receive_pool» .entry)) (now (acks .entry)) r
         (arrays (now (queued .entry)) (now (outstanding .exit)) (now (transmissions .exit))
         (now (ready .exit)) (now (waiting .exit)) (now («waiting_numbers» .exit)))
-        (now («receive_pool» .exit)) (now (acks .exit)) ⌝ }
+        (recordsIn (now (records .exit))) (now («receive_pool» .exit)) (now (acks .exit))
+        × (length (now (records .exit)) ≡ 128) ⌝ }
 {
     let sent = acknowledge::hear(
         flight,
@@ -104,28 +106,22 @@ fn hear(
         receive_pool,
         acks,
     );
-    let after = grown(settings, flight, sent.flight);
-    let kept = sent.records;
-    let words = *outstanding;
+    let after = grown(settings, flight, sent);
     Taken {
         answer: Answer::Accepted,
         flight: after,
         arrival: received,
-        words,
         changed: after.outstanding,
-        records: kept,
     }
 }
 
-// Taking in checks 7, 13, then 1 to 6 and 14; nothing is applied until all segments have passed. `table` is the length of the lent table,
-// `flown` tells whether the records fit.
+// Taking in checks 7, 13, then 1 to 6 and 14; nothing is applied until all segments have passed. `table` is the length of the lent table.
 pub fn input(
     settings: Settings,
     flight: Flight,
     arrival: Arrival,
     clock: Clock,
-    flown: bool,
-    records: [Record; 32],
+    records: &mut [u32; 128],
     table: usize,
     queued: &[u32; 128],
     outstanding: &mut [u32; 32],
@@ -139,9 +135,8 @@ pub fn input(
     datagram: &[u8],
 ) -> Taken
     requires { ⌜ Whole (arrays (now queued) (now outstanding) (now transmissions) (now ready) (now waiting) (now «waiting_numbers»))
-        × Flown (linkOf settings flight arrival clock (arrays (now queued) (now outstanding)
-        (now transmissions) (now ready) (now waiting) (now «waiting_numbers»))) records flown ⌝ }
-    ensures { λ r. ⌜ Takes (λ l. takesInWith l records (now (acks .entry))
+        × (length (now records) ≡ 128) ⌝ }
+    ensures { λ r. ⌜ Takes (λ l. takesInWith l (recordsIn (now (records .entry))) (now (acks .entry))
         (lentLengths table (now («send_pool» .entry)) (now («receive_pool» .entry)) (now (acks .entry)))
         (now («receive_pool» .entry)) (now (datagram .entry)))
         settings flight arrival clock
@@ -150,7 +145,8 @@ pub fn input(
         (now («receive_pool» .entry)) (now (acks .entry)) r
         (arrays (now (queued .entry)) (now (outstanding .exit)) (now (transmissions .exit))
         (now (ready .exit)) (now (waiting .exit)) (now («waiting_numbers» .exit)))
-        (now («receive_pool» .exit)) (now (acks .exit)) ⌝ }
+        (recordsIn (now (records .exit))) (now («receive_pool» .exit)) (now (acks .exit))
+        × (length (now (records .exit)) ≡ 128) ⌝ }
 {
     let lent = Lengths {
         send: send_pool.len(),
@@ -159,6 +155,7 @@ pub fn input(
         acks: acks.len(),
     };
     let long = sizes::enough(settings, lent);
+    let flown = flights::flight_fits(records, settings, flight);
     let mut marks: [u8; 256] = [0; 256];
     let verdict = hearing::admit_hearing(
         long,
@@ -178,14 +175,11 @@ pub fn input(
     let mss = settings.mss();
     let checked = checked_by(verdict, datagram, settings.conv, mss);
     if let Checked::Refused(q) = checked {
-        let words = *outstanding;
         return Taken {
             answer: Answer::Refused(q),
             flight,
             arrival,
-            words,
             changed: 0,
-            records,
         };
     }
     hear(

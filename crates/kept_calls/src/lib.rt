@@ -70,12 +70,6 @@ fn is_counts(list: [u8; 32]) -> bool
     true
 }
 
-fn is_records(list: [Record; 32]) -> bool
-    ensures { λ r. ⌜ length list ≡ 32 ⌝ }
-{
-    true
-}
-
 // Opening a link with these settings: a refused opening leaves the old block.
 pub fn open(
     link: Link,
@@ -147,7 +141,7 @@ pub fn send(
     let waiting = link.waiting;
     let waiting_numbers = link.waiting_numbers;
     let records = kept_table::gather(table, lent, outstanding, flight.outstanding);
-    let flown = flights::flight_fits(records, settings, flight);
+    let flown = flights::flight_fits(&records, settings, flight);
     let n = kept_table::lent_count(lent);
     let done = send_core::send(
         settings,
@@ -212,16 +206,14 @@ pub fn input(
     let mut ready = link.ready;
     let mut waiting = link.waiting;
     let mut waiting_numbers = link.waiting_numbers;
-    let records = kept_table::gather(table, lent, outstanding, flight.outstanding);
-    let flown = flights::flight_fits(records, settings, flight);
+    let mut records = kept_table::gather(table, lent, outstanding, flight.outstanding);
     let n = kept_table::lent_count(lent);
     let done = input_core::input(
         settings,
         flight,
         arrival,
         clock,
-        flown,
-        records,
+        &mut records,
         n,
         &queued,
         &mut outstanding,
@@ -237,15 +229,12 @@ pub fn input(
     let answer = done.answer;
     let sending = done.flight;
     let receiving = done.arrival;
-    let words = done.words;
-    let left = done.records;
     let _outstanding = is_words(outstanding);
     let _transmissions = is_counts(transmissions);
     let _ready = is_list(ready);
     let _waiting = is_list(waiting);
     let _waiting_numbers = is_list(waiting_numbers);
-    let _left = is_records(left);
-    let next = kept_table::scatter(table, lent, words, done.changed, left);
+    let next = kept_table::scatter(table, lent, outstanding, done.changed, records);
     let after = Link {
         settings,
         flight: sending,
@@ -304,14 +293,14 @@ pub fn flush(
     let ready = link.ready;
     let waiting = link.waiting;
     let waiting_numbers = link.waiting_numbers;
-    let records = kept_table::gather(table, lent, outstanding, flight.outstanding);
+    let mut records = kept_table::gather(table, lent, outstanding, flight.outstanding);
     let n = kept_table::lent_count(lent);
     let done = flush_core::flush(
         settings,
         flight,
         arrival,
         clock,
-        records,
+        &mut records,
         n,
         false,
         &mut queued,
@@ -332,13 +321,10 @@ pub fn flush(
     let sending = done.flight;
     let receiving = done.arrival;
     let moved = done.clock;
-    let words = done.words;
-    let left = done.records;
     let _queued = is_list(queued);
     let _outstanding = is_words(outstanding);
     let _transmissions = is_counts(transmissions);
-    let _left = is_records(left);
-    let next = kept_table::scatter(table, lent, words, done.changed, left);
+    let next = kept_table::scatter(table, lent, outstanding, done.changed, records);
     let after = Link {
         settings,
         flight: sending,
@@ -386,14 +372,14 @@ pub fn update(
     let ready = link.ready;
     let waiting = link.waiting;
     let waiting_numbers = link.waiting_numbers;
-    let records = kept_table::gather(table, lent, outstanding, flight.outstanding);
+    let mut records = kept_table::gather(table, lent, outstanding, flight.outstanding);
     let n = kept_table::lent_count(lent);
     let done = flush_core::flush(
         settings,
         flight,
         arrival,
         clock,
-        records,
+        &mut records,
         n,
         true,
         &mut queued,
@@ -413,13 +399,10 @@ pub fn update(
     let sending = done.flight;
     let receiving = done.arrival;
     let moved = done.clock;
-    let words = done.words;
-    let left = done.records;
     let _queued = is_list(queued);
     let _outstanding = is_words(outstanding);
     let _transmissions = is_counts(transmissions);
-    let _left = is_records(left);
-    let next = kept_table::scatter(table, lent, words, done.changed, left);
+    let next = kept_table::scatter(table, lent, outstanding, done.changed, records);
     let after = Link {
         settings,
         flight: sending,
@@ -465,7 +448,7 @@ pub fn read(
     let mut waiting = link.waiting;
     let mut waiting_numbers = link.waiting_numbers;
     let records = kept_table::gather(table, lent, outstanding, flight.outstanding);
-    let flown = flights::flight_fits(records, settings, flight);
+    let flown = flights::flight_fits(&records, settings, flight);
     let n = kept_table::lent_count(lent);
     let done = read_core::read(
         settings,
@@ -528,7 +511,7 @@ pub fn size(
     let waiting = link.waiting;
     let waiting_numbers = link.waiting_numbers;
     let records = kept_table::gather(table, lent, outstanding, flight.outstanding);
-    let flown = flights::flight_fits(records, settings, flight);
+    let flown = flights::flight_fits(&records, settings, flight);
     let n = kept_table::lent_count(lent);
     read_core::size(
         settings,
@@ -579,7 +562,7 @@ pub fn check(
         flight,
         arrival,
         clock,
-        records,
+        &records,
         n,
         &queued,
         &outstanding,
@@ -617,7 +600,7 @@ pub fn show<'a>(
     let waiting = link.waiting;
     let waiting_numbers = link.waiting_numbers;
     let records = kept_table::gather(table, lent, outstanding, flight.outstanding);
-    let flown = flights::flight_fits(records, settings, flight);
+    let flown = flights::flight_fits(&records, settings, flight);
     let n = kept_table::lent_count(lent);
     read_core::show(
         settings,

@@ -4,8 +4,8 @@ use timing::Record;
 ghost use mathlib.Core.Path.{_≡_};
 ghost use Prim.Native.Nat.{_≤_, _<_, _%_, min};
 ghost use lib.ListN.{take, drop, getD, set};
-ghost use Rattle.records.specs.Tables.{blank, gathered, padded, scattered};
-ghost use Rattle.records.specs.Tables.{slotsIn};
+ghost use Rattle.records.specs.Tables.{blank, slotsIn, gathered, padded, scattered};
+ghost use Rattle.record_words.specs.RecordWords.{recordsIn};
 
 // How many of so many words are outstanding segments: 32 at most.
 fn within(n: usize) -> usize
@@ -58,22 +58,17 @@ fn replace(table: [Record; 128], most: usize, slot: usize, updated: Record) -> [
 }
 
 // The records at the slots of the first n words, in their order, and blank ones up to 32.
-pub fn gather(table: [Record; 128], lent: usize, words: [u32; 32], n: usize) -> [Record; 32]
-    ensures { λ r. ⌜ r ≡ padded (gathered (take 128 (take lent table)) (slotsIn words n)) ⌝ }
+pub fn gather(table: [Record; 128], lent: usize, words: [u32; 32], n: usize) -> [u32; 128]
+    ensures { λ r. ⌜ recordsIn r ≡ padded (gathered (take 128 (take lent table)) (slotsIn words n)) ⌝ }
 {
-    let blank = Record {
-        number: 0,
-        due: 0,
-        timeout: 0,
-        skips: 0,
-    };
     let count = within(n);
     let most = lent_count(lent);
-    let mut records = [blank; 32];
+    let mut records = record_words::none();
     let mut i: usize = 0;
     while i < count {
         let slot = slot_of(words[i]);
-        records[i] = read(table, most, slot);
+        let found = read(table, most, slot);
+        record_words::put(&mut records, i, found);
         i += 1;
     }
     records
@@ -85,9 +80,10 @@ pub fn scatter(
     lent: usize,
     words: [u32; 32],
     n: usize,
-    records: [Record; 32],
+    records: [u32; 128],
 ) -> [Record; 128]
-    ensures { λ r. ⌜ (take lent r ≡ scattered (take lent table) (slotsIn words n) records) × (drop lent r ≡ drop lent table) ⌝ }
+    ensures { λ r. ⌜ (take lent r ≡ scattered (take lent table) (slotsIn words n) (recordsIn records))
+        × (drop lent r ≡ drop lent table) ⌝ }
 {
     let count = within(n);
     let most = lent_count(lent);
@@ -95,7 +91,7 @@ pub fn scatter(
     let mut i: usize = 0;
     while i < count {
         let slot = slot_of(words[i]);
-        let updated = records[i];
+        let updated = record_words::at(&records, i);
         let changed = replace(next, most, slot, updated);
         next = changed;
         i += 1;

@@ -20,6 +20,8 @@ use Rattle.session.specs.Valid.{numbersFit}
 use Rattle.session.specs.Flushing.{numbered, numberedCount, withNumbered}
 use Rattle.session.specs.MapLaws.{map-take, map-drop}
 use Rattle.words.specs.Words.{unpack, heldIn, Front}
+use Rattle.record_words.specs.RecordWords.{recordsIn}
+use Rattle.record_words.specs.RecordLaws.{records-length}
 use Rattle.control.specs.declared.Flight.{Flight}
 use Rattle.control.specs.Views.{sendingOf}
 use Rattle.numbering.specs.Sents.{sentIn, SentFront}
@@ -29,17 +31,18 @@ use Rattle.numbering.proofs.SentLaws.{sents, sents-take, sents-set, sen
 -- ---- the loop
 
 -- i of the k queued segments stand behind the n outstanding ones
-pub record Numbering (queued : List ℕ) (k n next : ℕ) (ws₀ ts₀ : List ℕ) (rs₀ : List Record) (ws ts : List ℕ) (rs : List Record)
+pub record Numbering (queued : List ℕ) (k n next : ℕ) (ws₀ ts₀ rs₀ ws ts rs : List ℕ)
     (number i j : ℕ) : Type 0 where
   pub within : i ≤ k
   pub place : j ≡ n + i
   pub whole : length ws ≡ 32
   pub wholes : length ts ≡ 32
-  pub written : Written 32 (sents ws ts rs) (numbered number (map unpack (drop i (take k queued))))
-      (sentIn ws₀ ts₀ rs₀ n ++ numbered next (heldIn queued k)) j
+  pub whole-records : length rs ≡ 128
+  pub written : Written 32 (sents ws ts (recordsIn rs)) (numbered number (map unpack (drop i (take k queued))))
+      (sentIn ws₀ ts₀ (recordsIn rs₀) n ++ numbered next (heldIn queued k)) j
 
-module _ (queued : List ℕ) (k n next : ℕ) (ws₀ ts₀ : List ℕ) (rs₀ : List Record) where
-  pub numbering-start : n + k ≤ 32 → length ws₀ ≡ 32 → length ts₀ ≡ 32 → length rs₀ ≡ 32
+module _ (queued : List ℕ) (k n next : ℕ) (ws₀ ts₀ rs₀ : List ℕ) where
+  pub numbering-start : n + k ≤ 32 → length ws₀ ≡ 32 → length ts₀ ≡ 32 → length rs₀ ≡ 128
       → Numbering queued k n next ws₀ ts₀ rs₀ ws₀ ts₀ rs₀ next 0 n
   numbering-start h e f g =
       record {
@@ -47,31 +50,35 @@ module _ (queued : List ℕ) (k n next : ℕ) (ws₀ ts₀ : List ℕ) (rs₀ : 
         place = omega arith;
         whole = e;
         wholes = f;
-        written = rw (sents-take ws₀ ts₀ rs₀ n) (written-start _ n (sents-length ws₀ ts₀ rs₀ e f g) (omega arith));
+        whole-records = g;
+        written = rw (sents-take ws₀ ts₀ (recordsIn rs₀) n)
+            (written-start _ n (sents-length ws₀ ts₀ (recordsIn rs₀) e f (records-length 32 rs₀ g)) (omega arith));
       }
 
-  module _ (ws ts : List ℕ) (rs : List Record) (number i j : ℕ) (w : Numbering queued k n next ws₀ ts₀ rs₀ ws ts rs number i j) where
+  module _ (ws ts rs : List ℕ) (number i j : ℕ) (w : Numbering queued k n next ws₀ ts₀ rs₀ ws ts rs number i j) where
     -- the next one is numbered
-    pub numbering-more : (r : Record) (number′ : ℕ) → length queued ≡ 128 → n + k ≤ 32 → i < k
-        → r ≡ record { number = number; due = 0; timeout = 0; skips = 0 } → number′ ≡ plus number 1
-        → Numbering queued k n next ws₀ ts₀ rs₀ (set ws j (getD queued i 0)) (set ts j 0) (set rs j r) number′ (i + 1) (j + 1)
+    pub numbering-more : (r : Record) (rs′ : List ℕ) (number′ : ℕ) → length queued ≡ 128 → n + k ≤ 32 → i < k
+        → r ≡ record { number = number; due = 0; timeout = 0; skips = 0 }
+        → (length rs′ ≡ 128) × (recordsIn rs′ ≡ set (recordsIn rs) j r) → number′ ≡ plus number 1
+        → Numbering queued k n next ws₀ ts₀ rs₀ (set ws j (getD queued i 0)) (set ts j 0) rs′ number′ (i + 1) (j + 1)
     unfolding numbered
-    numbering-more r number′ q b h e f =
+    numbering-more r rs′ number′ q b h e g f =
         record {
           within = omega arith;
           place = omega (arith, w .place);
           whole = length-set ws j (getD queued i 0) ∙ w .whole;
           wholes = length-set ts j 0 ∙ w .wholes;
-          written = rw (← (sents-set ws ts rs j (getD queued i 0) 0 r), e, f)
+          whole-records = g .0;
+          written = rw (g .1, ← (sents-set ws ts (recordsIn rs) j (getD queued i 0) 0 r), e, f)
               (written-put (omega (arith, w .place)) (rw (view-next queued k i 0 h (omega arith)) at (w .written)));
         }
 
     -- all are
-    pub numbering-done : k ≤ i → SentFront ws ts rs (n + k) (sentIn ws₀ ts₀ rs₀ n ++ numbered next (heldIn queued k))
+    pub numbering-done : k ≤ i → SentFront ws ts rs (n + k) (sentIn ws₀ ts₀ (recordsIn rs₀) n ++ numbered next (heldIn queued k))
     unfolding numbered
     numbering-done h =
         let all : n + k ≡ j = omega (arith, w .place, w .within) in
-        rw all (sents-front ws ts rs j _ (w .whole) (w .wholes) (written-done (rw (view-end queued k i h)) (w .written)))
+        rw all (sents-front ws ts rs j _ (w .whole) (w .wholes) (w .whole-records) (written-done (rw (view-end queued k i h)) (w .written)))
 
 -- ---- how many
 
@@ -98,10 +105,10 @@ count-of : (w : ℕ) (s : Sending) → numberedCount w s ≡ countOf (length (s 
 unfolding numberedCount
 count-of w s = refl
 
-module _ (f : Flight) (window : ℕ) (queued outstanding transmissions : List ℕ) (records : List Record) (k : ℕ)
+module _ (f : Flight) (window : ℕ) (queued outstanding transmissions records : List ℕ) (k : ℕ)
     (n : Numberable f window queued outstanding transmissions records) (e : k ≡ countOf (f .queued) window (f .next) (f .una)) where
   abbrev half : Sending
-  half = sendingOf f queued outstanding transmissions records
+  half = sendingOf f queued outstanding transmissions (recordsIn records)
 
   held : length (heldIn queued (f .queued)) ≡ f .queued
   held = length-map (take (f .queued) queued) unpack ∙ length-take-le (f .queued) queued (omega (arith, n .queued-fits, n .queued-whole))
@@ -113,13 +120,13 @@ module _ (f : Flight) (window : ℕ) (queued outstanding transmissions : List �
   pub enough : k ≤ f .queued
   enough = omega arith
 
-  pub few : length records ≡ 32 → f .outstanding + k ≤ 32
-  few g = omega (
+  pub few : f .outstanding + k ≤ 32
+  few = omega (
     arith,
     valid-few window half (n .window-fits) (n .numbers),
     counted,
-    front-length outstanding transmissions records (n .outstanding-whole) (n .transmissions-whole) g (f .outstanding)
-        (n .outstanding-fits),
+    front-length outstanding transmissions (recordsIn records) (n .outstanding-whole) (n .transmissions-whole)
+        (records-length 32 records (n .records-whole)) (f .outstanding) (n .outstanding-fits),
   )
 
   -- ---- what is left
@@ -138,20 +145,19 @@ module _ (f : Flight) (window : ℕ) (queued outstanding transmissions : List �
       }
 
   -- some are numbered
-  pub numbers-some : (next : ℕ) (queued′ outstanding′ transmissions′ : List ℕ) (records′ : List Record)
+  pub numbers-some : (next : ℕ) (queued′ outstanding′ transmissions′ records′ : List ℕ)
       → SentFront outstanding′ transmissions′ records′ (f .outstanding + k)
-      (sentIn outstanding transmissions records (f .outstanding) ++ numbered (f .next) (heldIn queued k))
+      (sentIn outstanding transmissions (recordsIn records) (f .outstanding) ++ numbered (f .next) (heldIn queued k))
       → Front 128 queued′ (f .queued - k) (drop k (take (f .queued) queued))
       → next ≡ plus (f .next) k
-      → Numbers f window queued outstanding transmissions records
-      (record { flight = flown next; records = records′ })
-      queued′ outstanding′ transmissions′
+      → Numbers f window queued outstanding transmissions records (flown next) queued′ outstanding′ transmissions′ records′
   unfolding withNumbered
   numbers-some next queued′ outstanding′ transmissions′ records′ s r p =
       record {
         sent = record {
           whole = s .whole;
           wholes = s .wholes;
+          whole-records = s .whole-records;
           fits = s .fits;
           list = s .list ∙ ap (λ (q : List Held). half .outstanding ++ numbered (f .next) q) first ∙ ap (withNumbered half) counted;
         };
@@ -170,8 +176,7 @@ module _ (f : Flight) (window : ℕ) (queued outstanding transmissions : List �
 
   -- none is
   pub numbers-none : k ≡ 0 → f .next < 2 ^ 32
-      → Numbers f window queued outstanding transmissions records (record { flight = f; records = records }) queued outstanding
-      transmissions
+      → Numbers f window queued outstanding transmissions records f queued outstanding transmissions records
   unfolding withNumbered numbered
   numbers-none z h =
       let none : numberedCount window half ≡ 0 = sym counted ∙ z in
@@ -180,6 +185,7 @@ module _ (f : Flight) (window : ℕ) (queued outstanding transmissions : List �
         sent = record {
           whole = n .outstanding-whole;
           wholes = n .transmissions-whole;
+          whole-records = n .records-whole;
           fits = n .outstanding-fits;
           list = sym (ap (withNumbered half) none ∙ append-nil _);
         };

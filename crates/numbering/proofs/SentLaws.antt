@@ -14,6 +14,7 @@ use Rattle.lists.specs.Joining.{withRecord, joined}
 use Rattle.lists.specs.JoiningLaws.{length-joined, take-joined, get-joined, set-joined}
 use Rattle.words.specs.Words.{paired, outstandingAt}
 use Rattle.words.proofs.Pairs.{paired-take, paired-length, paired-set, paired-get}
+use Rattle.record_words.specs.RecordWords.{recordsIn}
 use Rattle.numbering.specs.Sents.{sentIn, SentFront}
 
 module _ (ws ts : List ℕ) (rs : List Record) where
@@ -47,6 +48,8 @@ module _ (ws ts : List ℕ) (rs : List Record) where
       get-joined (paired outstandingAt ws ts) rs i (outstandingAt 0 0) r l
       ∙ ap (λ (o : Outstanding). withRecord o (getD rs i r)) (paired-get outstandingAt ws ts i (outstandingAt 0 0) h g)
 
-  -- a list that stands in the front of all
-  pub sents-front : (n : ℕ) (l : List Sent) → length ws ≡ 32 → length ts ≡ 32 → Holds 32 sents n l → SentFront ws ts rs n l
-  sents-front n l e f h = record { whole = e; wholes = f; fits = h .fits; list = sents-take n ∙ h .list }
+-- a list that stands in the front of all
+pub sents-front : (ws ts rs : List ℕ) (n : ℕ) (l : List Sent) → length ws ≡ 32 → length ts ≡ 32 → length rs ≡ 128
+    → Holds 32 (sents ws ts (recordsIn rs)) n l → SentFront ws ts rs n l
+sents-front ws ts rs n l e f g h =
+    record { whole = e; wholes = f; whole-records = g; fits = h .fits; list = sents-take ws ts (recordsIn rs) n ∙ h .list }

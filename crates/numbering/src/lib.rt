@@ -8,14 +8,9 @@ ghost use Prim.Native.Nat.{_+_, _≤_, min};
 ghost use lib.ListN.{length};
 ghost use Rattle.session.specs.Flushing.{numbered};
 ghost use Rattle.words.specs.Words.{heldIn};
+ghost use Rattle.record_words.specs.RecordWords.{recordsIn};
 ghost use Rattle.numbering.specs.Sents.{sentIn, SentFront};
 ghost use Rattle.numbering.specs.Numbering.{countOf, Numberable, Numbers};
-
-// The sending half's numbers with its queued segments numbered, and the records of the segments that are outstanding then.
-pub struct Numbered {
-    pub flight: Flight,
-    pub records: [Record; 32],
-}
 
 fn least(a: usize, b: usize) -> usize
     ensures { λ r. ⌜ r ≡ min a b ⌝ }
@@ -54,27 +49,26 @@ fn number_first(
     outstanding: &mut [u32; 32],
     transmissions: &mut [u8; 32],
     n: usize,
-    records: [Record; 32],
+    records: &mut [u32; 128],
     next: u32,
-) -> [Record; 32]
+)
     requires { ⌜ (length (now queued) ≡ 128) × (length (now outstanding) ≡ 32) × (length (now transmissions) ≡ 32)
-        × (n + k ≤ 32) ⌝ }
-    ensures { λ r. ⌜ SentFront (now (outstanding .exit)) (now (transmissions .exit)) r (n + k)
-        (sentIn (now (outstanding .entry)) (now (transmissions .entry)) records n ++ numbered next (heldIn (now (queued .entry)) k)) ⌝ }
+        × (length (now records) ≡ 128) × (n + k ≤ 32) ⌝ }
+    ensures { λ _. ⌜ SentFront (now (outstanding .exit)) (now (transmissions .exit)) (now (records .exit)) (n + k)
+        (sentIn (now (outstanding .entry)) (now (transmissions .entry)) (recordsIn (now (records .entry))) n
+        ++ numbered next (heldIn (now (queued .entry)) k)) ⌝ }
 {
-    let mut rs = records;
     let mut number = next;
     let mut i: usize = 0;
     let mut j = n;
     while i < k {
         outstanding[j] = queued[i];
         transmissions[j] = 0;
-        rs[j] = numbered_record(number);
+        record_words::put(records, j, numbered_record(number));
         number = serial::sum(number, 1);
         i += 1;
         j += 1;
     }
-    rs
 }
 
 // Queued segments get numbers while this window allows.
@@ -84,17 +78,17 @@ pub fn number(
     queued: &mut [u32; 128],
     outstanding: &mut [u32; 32],
     transmissions: &mut [u8; 32],
-    records: [Record; 32],
-) -> Numbered
-    requires { ⌜ Numberable flight window (now queued) (now outstanding) (now transmissions) records ⌝ }
-    ensures { λ r. ⌜ Numbers flight window (now (queued .entry)) (now (outstanding .entry)) (now (transmissions .entry)) records
-        r (now (queued .exit)) (now (outstanding .exit)) (now (transmissions .exit)) ⌝ }
+    records: &mut [u32; 128],
+) -> Flight
+    requires { ⌜ Numberable flight window (now queued) (now outstanding) (now transmissions) (now records) ⌝ }
+    ensures { λ r. ⌜ Numbers flight window (now (queued .entry)) (now (outstanding .entry)) (now (transmissions .entry))
+        (now (records .entry)) r (now (queued .exit)) (now (outstanding .exit)) (now (transmissions .exit)) (now (records .exit)) ⌝ }
 {
     let k = numbered_count(flight.queued, window, flight.next, flight.una);
     if k == 0 {
-        return Numbered { flight, records };
+        return flight;
     }
-    let numbered = number_first(
+    number_first(
         queued,
         k,
         outstanding,
@@ -108,8 +102,5 @@ pub fn number(
     after.next = serial::sum(flight.next, k as u32);
     after.queued = flight.queued - k;
     after.outstanding = flight.outstanding + k;
-    Numbered {
-        flight: after,
-        records: numbered,
-    }
+    after
 }

@@ -21,7 +21,8 @@ use Rattle.session.specs.Flushing.{
   windowOf,
   numberedCount,
   withNumbered,
-  sentAfter,
+  ruled,
+  afterwards,
   carried,
   ackSegment,
   dataSegment,
@@ -33,11 +34,12 @@ use Rattle.session.specs.Flushing.{
 use Rattle.session.specs.Calls.{Station}
 use Rattle.session.specs.Decides.{All}
 use Rattle.session.specs.AllLaws.{all-any, all-unmapped, all-weaker}
+use Rattle.session.specs.RuleLaws.{all-transmitted}
 use Rattle.delivery.specs.Hearing.{FewPushes}
 use Rattle.delivery.specs.StateRange.{CarryFits}
 use Rattle.delivery.specs.PackingLaws.{packed-flat, each-flat, flat-each}
 use Rattle.delivery.specs.WireLaws.{all-written, data-written}
-use Rattle.delivery.specs.FlushLaws.{sentWith, all-transmitted, valid-parts, flush-writes-any}
+use Rattle.delivery.specs.FlushLaws.{sentWith, valid-parts, flush-writes-any}
 use Rattle.delivery.specs.SendingHalf.{Half}
 use Rattle.delivery.specs.SendingStays.{half-in}
 use Rattle.delivery.specs.SendingFlushes.{flushedWith, count-few, count-room, window-most}
@@ -109,15 +111,14 @@ module _ (s : State) (t k : ℕ) (pool : List ℕ) (ask : Bool) where
   -- its pushes are outstanding afterwards
   written-pushes : (N : ℕ) → All (λ (n : ℕ). n < N) (numbersOf (flushedWith c t k (s .sending) .outstanding)) → All (Pushes N) segs
   written-pushes N a =
-      let link = s .sending .roundTrip .timeout in
-      let before = withNumbered (s .sending) k in
+      let rules = ruled c (s .sending .roundTrip .timeout) t (withNumbered (s .sending) k) in
       all-written s t pool ask sent (Pushes N)
       (all-any (λ (x : Ack). Pushes N (ackSegment (carried s) x)) (λ x e. absurd (omega arith)) (s .receiving .acks))
       (λ e. absurd (omega arith))
       (λ e. absurd (omega arith))
       (all-weaker (λ (x : Sent). x .record .number < N) (λ (x : Sent). Pushes N (pushOf x)) (λ x h e. h) sent
-      (all-transmitted c link t (λ (x : Sent). x .record .number < N) before
-      (all-unmapped (λ (n : ℕ). n < N) (λ (x : Sent). x .record .number) (map (sentAfter c link t) before) a)))
+      (all-transmitted (λ (x : Sent). x .record .number < N) rules
+      (all-unmapped (λ (n : ℕ). n < N) (λ (x : Sent). x .record .number) (afterwards rules) a)))
 
   -- una is rcv_nxt, and what is acknowledged is had
   written-says : All (HasAck (s .receiving)) (s .receiving .acks) → All (Says (s .receiving)) segs

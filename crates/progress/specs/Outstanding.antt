@@ -24,10 +24,11 @@ use Rattle.lists.specs.AcknowledgingLaws.{skip-number}
 use Rattle.session.specs.Slots.{occurs}
 use Rattle.session.specs.State.{Sending, Receiving, withOutstanding}
 use Rattle.session.specs.Input.{acknowledges, heardBySending, allBySending, furthest, skipped, skippedByAll}
-use Rattle.session.specs.Flushing.{numbered, withNumbered, sentAfter}
+use Rattle.session.specs.Flushing.{numbered, withNumbered}
 use Rattle.session.specs.Decides.{All, and-parts}
 use Rattle.session.specs.AllLaws.{all-append, all-mapped, all-unmapped, all-weaker, all-select}
 use Rattle.session.specs.MapLaws.{map-append, map-kept}
+use Rattle.session.specs.RuleLaws.{after-kept}
 use Rattle.session.specs.Ascending.{Ascends}
 use Rattle.session.specs.SendOrder.{Numbers}
 use Rattle.session.specs.HeardLaws.{heard-outstanding}
@@ -231,7 +232,7 @@ module _ (c : Settings) (t k : ℕ) (s : Sending) (few : k ≤ length (s .queued
   flush-numbers : numbersOf (flushedWith c t k s .outstanding) ≡ numbersOf (s .outstanding) ++ numbersOf new
   unfolding withNumbered
   flush-numbers =
-      map-kept (λ (x : Sent). x .record .number) (sentAfter c (s .roundTrip .timeout) t)
+      after-kept c (s .roundTrip .timeout) t (λ (x : Sent). x .record .number)
       (λ x. transmission-number c (s .roundTrip .timeout) t (x .transmissions) (x .record))
       (s .outstanding ++ new)
       ∙ map-append (λ (x : Sent). x .record .number) (s .outstanding) new

@@ -1,2 +1,1 @@
 pub mod PlaceCodes
-pub mod PutBacks

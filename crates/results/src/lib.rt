@@ -9,7 +9,6 @@ use protocol::Settings;
 use read_core::Delivered;
 use read_core::Place;
 use send_core::Sent;
-use timing::Record;
 ghost use mathlib.Core.Path.{_≡_};
 ghost use mathlib.Core.Bool.{true, false};
 ghost use Rattle.codes.specs.Codes.{answerCode, countCode, updateCode};
@@ -84,22 +83,10 @@ pub fn taken_arrival(taken: Taken) -> Arrival
     taken.arrival
 }
 
-pub fn taken_words(taken: Taken) -> [u32; 32]
-    ensures { λ r. ⌜ r ≡ taken .words ⌝ }
-{
-    taken.words
-}
-
 pub fn taken_changed(taken: Taken) -> usize
     ensures { λ r. ⌜ r ≡ taken .changed ⌝ }
 {
     taken.changed
-}
-
-pub fn taken_records(taken: Taken) -> [Record; 32]
-    ensures { λ r. ⌜ r ≡ taken .records ⌝ }
-{
-    taken.records
 }
 
 pub fn taken_code(taken: Taken) -> i32
@@ -143,22 +130,10 @@ pub fn flushed_clock(flushed: Flushed) -> Clock
     flushed.clock
 }
 
-pub fn flushed_words(flushed: Flushed) -> [u32; 32]
-    ensures { λ r. ⌜ r ≡ flushed .words ⌝ }
-{
-    flushed.words
-}
-
 pub fn flushed_changed(flushed: Flushed) -> usize
     ensures { λ r. ⌜ r ≡ flushed .changed ⌝ }
 {
     flushed.changed
-}
-
-pub fn flushed_records(flushed: Flushed) -> [Record; 32]
-    ensures { λ r. ⌜ r ≡ flushed .records ⌝ }
-{
-    flushed.records
 }
 
 pub fn flushed_code(flushed: Flushed) -> i32

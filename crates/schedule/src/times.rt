@@ -3,10 +3,10 @@ use crate::Schedule;
 use crate::Updated;
 use protocol::Protocol;
 use protocol::serial;
-use timing::Record;
 ghost use mathlib.Core.Path.{_≡_};
 ghost use Prim.Native.Nat.{_≤_, min};
-ghost use lib.ListN.{take};
+ghost use lib.ListN.{length, take};
+ghost use Rattle.record_words.specs.RecordWords.{recordsIn};
 ghost use Rattle.schedule.specs.Schedules.{isAstray, corrected, started, following, updated, ahead, duesOf, earliest, named};
 
 // Whether now is 10,000 or more past the next flush time, or more than that before it.
@@ -67,16 +67,16 @@ fn held(n: usize) -> usize
     if n < 32 { n } else { 32 }
 }
 
-// How long it is from now until the first of n segments is due, and no longer than most.
-fn earliest(now: u32, most: u32, records: [Record; 32], n: usize) -> u32
-    requires { ⌜ n ≤ 32 ⌝ }
-    ensures { λ r. ⌜ r ≡ earliest now most (duesOf (take n records)) ⌝ }
+// How long it is from t until the first of n segments is due, and no longer than most.
+fn earliest(t: u32, most: u32, records: &[u32; 128], n: usize) -> u32
+    requires { ⌜ (length (now records) ≡ 128) × (n ≤ 32) ⌝ }
+    ensures { λ r. ⌜ r ≡ earliest t most (duesOf (take n (recordsIn (now (records .entry))))) ⌝ }
 {
     let mut wait = most;
     let mut i: usize = 0;
     while i < n {
-        let one = records[i];
-        wait = least(wait, ahead(now, one.due));
+        let one = record_words::at(records, i);
+        wait = least(wait, ahead(t, one.due));
         i += 1;
     }
     wait
@@ -105,15 +105,16 @@ impl Schedule {
     }
 
     // The time at which the next update is wanted: the next flush, or the first due time of n outstanding segments, at most
-    // one interval away; now before the first update.
-    pub fn check(self, now: u32, interval: u16, records: [Record; 32], n: usize) -> u32
-        ensures { λ r. ⌜ r ≡ named self now interval (duesOf (take n records)) ⌝ }
+    // one interval away; t itself before the first update.
+    pub fn check(self, t: u32, interval: u16, records: &[u32; 128], n: usize) -> u32
+        requires { ⌜ length (now records) ≡ 128 ⌝ }
+        ensures { λ r. ⌜ r ≡ named self t interval (duesOf (take n (recordsIn (now (records .entry))))) ⌝ }
     {
         if !self.made {
-            return now;
+            return t;
         }
-        let next = corrected(now, self.next);
-        let most = least(interval as u32, ahead(now, next));
-        serial::sum(now, earliest(now, most, records, held(n)))
+        let next = corrected(t, self.next);
+        let most = least(interval as u32, ahead(t, next));
+        serial::sum(t, earliest(t, most, records, held(n)))
     }
 }

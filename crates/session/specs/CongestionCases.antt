@@ -28,7 +28,7 @@ use Rattle.lists.specs.declared.Held.{Held}
 use Rattle.lists.specs.Acknowledging.{select, firstNumberOr, skipBefore}
 use Rattle.session.specs.State.{State, withQueued}
 use Rattle.session.specs.Opening.{opened}
-use Rattle.session.specs.Flushing.{flushing, numberedCount, withNumbered, numbered, transmittedNow, written, packed, packOne}
+use Rattle.session.specs.Flushing.{flushing, numberedCount, withNumbered, numbered, transmitted, written, packed, packOne}
 use Rattle.session.specs.Input as input
 
 -- mss 26, mode 1, one skip makes a fast retransmission
@@ -63,7 +63,7 @@ unfolding flushed opened flushing usedWindow numberedCount withNumbered numbered
 first-on = refl
 
 first-writes : flushing (fresh 1) 0 [] .datagrams ≡ []
-unfolding opened flushing usedWindow numberedCount withNumbered numbered transmittedNow written packed packOne nextClock
+unfolding opened flushing usedWindow numberedCount withNumbered numbered transmitted written packed packOne nextClock
 first-writes = refl
 
 second-on : told (flushed (flushed (fresh 1) 0) 1) ≡ 1 ∷ 1 ∷ 2 ∷ 26 ∷ []

@@ -47,24 +47,33 @@ withNumbered s k = s .outstanding ++ numbered (s .next) (take k (s .queued))
 
 -- ---- the rule for each outstanding segment
 
--- what a flush at t does with one of them
-abbrev pub transmittedOf : Settings → ℕ → ℕ → Sent → Transmission
-transmittedOf c timeout t x = transmission c timeout t (x .transmissions) (x .record)
+-- one of them before a flush, and what the flush does with it
+pub record Ruled : Type 0 where
+  pub segment : Sent
+  pub rule : Transmission
 
--- the segment after that
-abbrev pub sentAfter : Settings → ℕ → ℕ → Sent → Sent
-sentAfter c timeout t x =
-    let r = transmittedOf c timeout t x in
-    record { held = x .held; transmissions = r .transmissions; «record» = r .updated }
+-- at t: by the first rule that holds
+abbrev pub ruling : Settings → ℕ → ℕ → Sent → Ruled
+ruling c timeout t x = record { segment = x; rule = transmission c timeout t (x .transmissions) (x .record) }
+
+-- each of them, in order of sn
+abbrev pub ruled : Settings → ℕ → ℕ → List Sent → List Ruled
+ruled c timeout t = map (ruling c timeout t)
+
+-- one as its rule leaves it, and all of them
+abbrev pub afterRule : Ruled → Sent
+afterRule r = record { held = r .segment .held; transmissions = r .rule .transmissions; «record» = r .rule .updated }
+
+abbrev pub afterwards : List Ruled → List Sent
+afterwards = map afterRule
 
 -- those that are transmitted, as they are then
-unfoldable pub transmittedNow : Settings → ℕ → ℕ → List Sent → List Sent
-transmittedNow c timeout t [] = []
-transmittedNow c timeout t (x ∷ l) =
-    cond (transmittedOf c timeout t x .sends) (sentAfter c timeout t x ∷ transmittedNow c timeout t l) (transmittedNow c timeout t l)
+unfoldable pub transmitted : List Ruled → List Sent
+transmitted [] = []
+transmitted (r ∷ rules) = cond (r .rule .sends) (afterRule r ∷ transmitted rules) (transmitted rules)
 
 -- the test holds of one of them
-abbrev pub some : (Sent → Bool) → List Sent → Bool
+abbrev pub some : {A : Type 0} → (A → Bool) → List A → Bool
 some test [] = false
 some test (x ∷ l) = test x || some test l
 
@@ -72,24 +81,15 @@ some test (x ∷ l) = test x || some test l
 abbrev pub someDead : List Sent → Bool
 someDead = some (λ (x : Sent). eqb (x .transmissions) deadAfter)
 
--- a flush at t sends one of these because it was due, or because it was skipped
-abbrev pub someLate : Settings → ℕ → ℕ → List Sent → Bool
-someLate c timeout t = some (λ (x : Sent). transmittedOf c timeout t x .late)
-
-abbrev pub someFast : Settings → ℕ → ℕ → List Sent → Bool
-someFast c timeout t = some (λ (x : Sent). transmittedOf c timeout t x .fast)
-
--- what a flush at t tells of losses: in flight are the numbers from snd_una to snd_nxt at its end
-abbrev pub lossesOf : State → ℕ → Losses
-lossesOf s t =
-    let c = s .settings in
+-- what a flush that numbers k tells of losses: one was sent because it was skipped, or because it was due; in flight are the numbers from
+-- snd_una to snd_nxt at its end
+abbrev pub lossesOf : State → ℕ → List Ruled → Losses
+lossesOf s k rules =
     let d = s .sending in
-    let k = numberedCount (windowOf s) d in
-    let before = withNumbered d k in
     record {
-      fast = someFast c (d .roundTrip .timeout) t before;
-      late = someLate c (d .roundTrip .timeout) t before;
-      skips = c .threshold;
+      fast = some (λ (r : Ruled). r .rule .fast) rules;
+      late = some (λ (r : Ruled). r .rule .late) rules;
+      skips = s .settings .threshold;
       inflight = minus (plus (d .next) k) (d .una);
       used = windowOf s;
     }
@@ -190,13 +190,12 @@ flushing s t pool =
     let c = s .settings in
     let d = s .sending in
     let k = numberedCount (windowOf s) d in
-    let before = withNumbered d k in
-    let after = map (sentAfter c (d .roundTrip .timeout) t) before in
-    let sent = transmittedNow c (d .roundTrip .timeout) t before in
+    let rules = ruled c (d .roundTrip .timeout) t (withNumbered d k) in
+    let sent = transmitted rules in
     let probed = nextClock (s .probe) t (d .window) in
     record {
       datagrams = packed (c .mtu) (written s t pool (s .ask || probed .ask) sent);
       state =
-          afterFlushing s (withNumbers d (plus (d .next) k) (drop k (d .queued)) after) (withNotes (s .receiving) [] false)
-          (probed .clock) t (afterFlush (s .congestion) (mss c) (lossesOf s t)) (s .dead || someDead sent);
+          afterFlushing s (withNumbers d (plus (d .next) k) (drop k (d .queued)) (afterwards rules)) (withNotes (s .receiving) [] false)
+          (probed .clock) t (afterFlush (s .congestion) (mss c) (lossesOf s k rules)) (s .dead || someDead sent);
     }

@@ -26,3 +26,4 @@ pub mod StreamCases
 pub mod CongestionCases
 pub mod SendOrder
 pub mod MapLaws
+pub mod RuleLaws

@@ -36,7 +36,7 @@ use Rattle.session.specs.Flushing.{
   numberedCount,
   withNumbered,
   numbered,
-  transmittedNow,
+  transmitted,
   written,
   packed,
   packOne,
@@ -201,6 +201,6 @@ cases =
 pub marked : map (λ (c : Case). c .is) cases ≡ map (λ (c : Case). c .wanted) cases
 unfolding cases encode front back decode bytesOf numberAt bytesOfSegments parse walk tail verdict segmentOf signed isBefore isAfter isDue
     opened fragmentCount segmentCount pieces cut cutAs filled sending place lowestFree lowestFrom occurs pushed insert isHeld advance
-    flushing usedWindow numberedCount withNumbered numbered transmittedNow written packed packOne nextClock afterSamples afterFlushes
+    flushing usedWindow numberedCount withNumbered numbered transmitted written packed packOne nextClock afterSamples afterFlushes
     waitsAt sampled nextSmoothed nextVariation leastTimeout timeoutOf transmission firstDue growth longerTimeout isSkipped longerWait
 marked = refl

@@ -1,24 +1,25 @@
-// Taking in a datagram over the block behind a pointer, with the records of the outstanding segments read from the lent table and
-// not yet put back. Proved by a walk.
+// Taking in a datagram over the block behind a pointer: the records of the outstanding segments are gathered from the lent table, and put
+// back. Proved by a walk.
 use control::Link;
-use input_core::Taken;
 use timing::Record;
 ghost use Rattle.promises.specs.Parts.{partsOf};
-ghost use Rattle.from_cores.specs.Left.{InputLeft};
-ghost use Rattle.results.specs.PutBacks.{takenBack};
+ghost use Rattle.promises.specs.Promises.{InputPromise};
+ghost use Rattle.codes.specs.Codes.{answerCode};
+ghost use Rattle.codes.specs.Gives.{Gives};
 
-// The table is as it was; what goes back into it is returned.
+// The number that C gets.
 pub fn take_in(
     link: &mut Link,
     send_pool: &[u8],
     receive_pool: &mut [u8],
-    table: &[Record],
+    table: &mut [Record],
     acks: &mut [u32],
     datagram: &[u8],
-) -> Taken
-    ensures { λ r. ⌜ InputLeft (now (datagram .entry)) (now (link .entry))
+) -> i32
+    ensures { λ r. ⌜ Gives answerCode (λ a. InputPromise (now (datagram .entry)) (now (link .entry))
         (partsOf (now («send_pool» .entry)) (now («receive_pool» .entry)) (now (table .entry)) (now (acks .entry)))
-        (r .answer) (takenBack r) (now (link .exit)) (now («receive_pool» .exit)) (now (acks .exit)) ⌝ }
+        a (now (link .exit))
+        (partsOf (now («send_pool» .entry)) (now («receive_pool» .exit)) (now (table .exit)) (now (acks .exit)))) r ⌝ }
 {
     let settings = link.settings;
     let flight = link.flight;
@@ -26,16 +27,15 @@ pub fn take_in(
     let clock = link.clock;
     let words = link.outstanding;
     let n = results::outstanding_count(flight);
-    let records = gathering::gather(table, words, n);
-    let flown = gathering::fit(table, words, settings, flight);
+    let mut records = record_words::none();
+    gathering::gather(table, words, n, &mut records);
     let lent = records::table_len(table);
     let taken = input_core::input(
         settings,
         flight,
         arrival,
         clock,
-        flown,
-        records,
+        &mut records,
         lent,
         &link.queued,
         &mut link.outstanding,
@@ -48,9 +48,12 @@ pub fn take_in(
         acks,
         datagram,
     );
+    let words = link.outstanding;
     let flight = results::taken_flight(taken);
     link.flight = flight;
     let arrival = results::taken_arrival(taken);
     link.arrival = arrival;
-    taken
+    let n = results::taken_changed(taken);
+    gathering::scatter(table, words, n, &records);
+    results::taken_code(taken)
 }

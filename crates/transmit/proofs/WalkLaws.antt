@@ -9,7 +9,6 @@ use native.Mathlib.Omega.{arith}
 use lib.Dec.{eqb}
 use lib.ListN.{length, take, drop, getD, set, length-set}
 use lib.Seq.{take-add, take-take, set-getD}
-use Rattle.protocol.specs.declared.Settings.{Settings}
 use Rattle.timing.specs.declared.Record.{Record}
 use Rattle.retransmission.specs.declared.Transmission.{Transmission}
 use Rattle.retransmission.specs.TransmissionLaws.{transmission-not-sent}
@@ -19,16 +18,19 @@ use Rattle.lists.specs.Views.{Holds}
 use Rattle.lists.proofs.Loops.{Packed, holds-as, packed-start, packed-put, packed-next, packed-done, view-end}
 use Rattle.datagram.specs.Datagrams.{Segment}
 use Rattle.session.specs.Decides.{All}
-use Rattle.session.specs.Flushing.{transmittedOf, sentAfter, transmittedNow, some, someDead, wished}
+use Rattle.session.specs.Flushing.{afterRule, transmitted, some, someDead, wished}
+use Rattle.session.specs.RuleLaws.{sent-append}
 use Rattle.packing.specs.declared.Packer.{Packer}
 use Rattle.packing.specs.Packers.{Fills, Room, Adds}
 use Rattle.packing.specs.PackerLaws.{adds-none, adds-append, adds-as, room-left}
 use Rattle.words.specs.Words.{unpack, outstandingAt}
+use Rattle.record_words.specs.RecordWords.{recordsIn}
+use Rattle.record_words.specs.RecordLaws.{records-length}
 use Rattle.numbering.specs.Sents.{sentIn}
 use Rattle.numbering.proofs.SentLaws.{sents, sents-take, sents-set, sents-get, sents-length, sents-front}
 use Rattle.transmit.specs.declared.Flush.{Flush}
 use Rattle.transmit.proofs.ControlLaws.{wished-none}
-use Rattle.transmit.specs.Writing.{ruleOf, afterFlush, sentBy, lateBy, fastBy, dataOf, InSlot, AllInSlots, sentAs, Walks}
+use Rattle.transmit.specs.Writing.{ruleOf, leftBy, sentBy, lateBy, fastBy, dataOf, InSlot, AllInSlots, sentAs, Walks}
 
 -- ---- lists
 
@@ -43,31 +45,19 @@ all-next P l r i y e a = rw e at (all-drop l i a) .0
     all-drop [] (suc i) a = a
     all-drop (x ∷ l) (suc i) a = all-drop l i (a .1)
 
-some-append : (test : Sent → Bool) (l m : List Sent) → some test (l ++ m) ≡ (some test l || some test m)
+some-append : {A : Type 0} (test : A → Bool) (l m : List A) → some test (l ++ m) ≡ (some test l || some test m)
 some-append test [] m = refl
 some-append test (x ∷ l) m = rw (some-append test l m) (sym (or-assoc (test x) (some test l) (some test m)))
 
-some-more : (test : Sent → Bool) (l : List Sent) (y : Sent) → some test (l ++ (y ∷ [])) ≡ (some test l || test y)
+some-more : {A : Type 0} (test : A → Bool) (l : List A) (y : A) → some test (l ++ (y ∷ [])) ≡ (some test l || test y)
 some-more test l y = rw (some-append test l (y ∷ []), or-false)
 
 -- ---- those that are sent
 
-sent-append : (c : Settings) (timeout t : ℕ) (l m : List Sent) → transmittedNow c timeout t (l ++ m) ≡ transmittedNow c timeout t l
-    ++ transmittedNow c timeout t m
-unfolding transmittedNow
-sent-append c timeout t [] m = refl
-sent-append c timeout t (x ∷ l) m = rw (sent-append c timeout t l m) (by-rule (transmittedOf c timeout t x .sends))
-  where
-    by-rule : (b : Bool) → cond b (sentAfter c timeout t x ∷ (transmittedNow c timeout t l ++ transmittedNow c timeout t m))
-        (transmittedNow c timeout t l ++ transmittedNow c timeout t m)
-        ≡ cond b (sentAfter c timeout t x ∷ transmittedNow c timeout t l) (transmittedNow c timeout t l) ++ transmittedNow c timeout t m
-    by-rule true = refl
-    by-rule false = refl
-
 -- the rule for the last one decides whether it is sent, and whether the link is dead by it
-module _ (f : Flush) (y x : Sent) (sends : Bool) (p : sends ≡ ruleOf f y .sends) (q : x ≡ afterFlush f y) where
+module _ (f : Flush) (y x : Sent) (sends : Bool) (p : sends ≡ ruleOf f y .rule .sends) (q : x ≡ afterRule (ruleOf f y)) where
   one-sent : sentBy f (y ∷ []) ≡ cond sends (x ∷ []) []
-  unfolding transmittedNow
+  unfolding transmitted
   one-sent = rw (p, q)
 
   sent-data : (pool : List ℕ) (l : List Sent) → map (dataOf f pool) (sentBy f (l ++ (y ∷ []))) ≡ map (dataOf f pool) (sentBy f l)
@@ -89,10 +79,11 @@ module _ (f : Flush) (y x : Sent) (sends : Bool) (p : sends ≡ ruleOf f y .send
 -- ---- the loop
 
 -- The first i of the n segments have been handled.
-pub record Walking (f : Flush) (n : ℕ) (pool : List ℕ) (k₀ : Packer) (out₀ lengths₀ : List ℕ) (l₀ : List Sent) (ws ts : List ℕ)
-    (rs : List Record) (k : Packer) (out lengths : List ℕ) (b b₁ b₂ : Bool) (i : ℕ) : Type 0 where
+pub record Walking (f : Flush) (n : ℕ) (pool : List ℕ) (k₀ : Packer) (out₀ lengths₀ : List ℕ) (l₀ : List Sent)
+    (ws ts rs : List ℕ) (k : Packer) (out lengths : List ℕ) (b b₁ b₂ : Bool) (i : ℕ) : Type 0 where
   pub wholes : length ts ≡ 32
-  pub list : Packed 32 n l₀ (sents ws ts rs) (map (afterFlush f) (drop i (take n l₀))) (map (afterFlush f) (take n l₀)) i i
+  pub whole-records : length rs ≡ 128
+  pub list : Packed 32 n l₀ (sents ws ts (recordsIn rs)) (leftBy f (drop i (take n l₀))) (leftBy f (take n l₀)) i i
   pub adds : Adds (f .settings .mtu) (map (dataOf f pool) (sentBy f (take i (take n l₀)))) (i * f .settings .mtu) i k₀ out₀ lengths₀ k out
       lengths
   pub dead : b ≡ someDead (sentBy f (take i (take n l₀)))
@@ -100,28 +91,29 @@ pub record Walking (f : Flush) (n : ℕ) (pool : List ℕ) (k₀ : Packer) (out�
   pub fast : b₂ ≡ fastBy f (take i (take n l₀))
 
 -- the same, by other names
-pub walking-as : {f : Flush} {n : ℕ} {pool : List ℕ} {k₀ : Packer} {out₀ lengths₀ : List ℕ} {l₀ : List Sent} {ws ts ts′ : List ℕ}
-    {rs rs′ : List Record} {k k′ : Packer} {out out′ lengths lengths′ : List ℕ} {b b′ late late′ fast fast′ : Bool} {i : ℕ}
-    → ts′ ≡ ts → out′ ≡ out → lengths′ ≡ lengths → rs′ ≡ rs → k′ ≡ k → b′ ≡ b → late′ ≡ late → fast′ ≡ fast
+pub walking-as : {f : Flush} {n : ℕ} {pool : List ℕ} {k₀ : Packer} {out₀ lengths₀ : List ℕ} {l₀ : List Sent} {ws ts ts′ rs rs′ : List ℕ}
+    {k k′ : Packer} {out out′ lengths lengths′ : List ℕ} {b b′ late late′ fast fast′ : Bool} {i : ℕ}
+    → ts′ ≡ ts → rs′ ≡ rs → out′ ≡ out → lengths′ ≡ lengths → k′ ≡ k → b′ ≡ b → late′ ≡ late → fast′ ≡ fast
     → Walking f n pool k₀ out₀ lengths₀ l₀ ws ts rs k out lengths b late fast i
     → Walking f n pool k₀ out₀ lengths₀ l₀ ws ts′ rs′ k′ out′ lengths′ b′ late′ fast′ i
-walking-as et eo el er ek eb ea ef w = rw (et, eo, el, er, ek, eb, ea, ef) w
+walking-as et er eo el ek eb ea ef w = rw (et, er, eo, el, ek, eb, ea, ef) w
 
-pub walking-start : (f : Flush) (n : ℕ) (pool : List ℕ) (k₀ : Packer) (out₀ lengths₀ : List ℕ) (ws ts : List ℕ) (rs : List Record)
-    → n ≤ 32 → length ws ≡ 32 → length ts ≡ 32 → length rs ≡ 32 → Fills (f .settings .mtu) k₀
-    → Walking f n pool k₀ out₀ lengths₀ (sents ws ts rs) ws ts rs k₀ out₀ lengths₀ false false false 0
-unfolding transmittedNow
+pub walking-start : (f : Flush) (n : ℕ) (pool : List ℕ) (k₀ : Packer) (out₀ lengths₀ ws ts rs : List ℕ)
+    → n ≤ 32 → length ws ≡ 32 → length ts ≡ 32 → length rs ≡ 128 → Fills (f .settings .mtu) k₀
+    → Walking f n pool k₀ out₀ lengths₀ (sents ws ts (recordsIn rs)) ws ts rs k₀ out₀ lengths₀ false false false 0
+unfolding transmitted
 walking-start f n pool k₀ out₀ lengths₀ ws ts rs h ew et er q =
     record {
       wholes = et;
-      list = packed-start _ 0 0 (omega arith) (omega arith) h (sents-length ws ts rs ew et er);
+      whole-records = er;
+      list = packed-start _ 0 0 (omega arith) (omega arith) h (sents-length ws ts (recordsIn rs) ew et (records-length 32 rs er));
       adds = adds-as (adds-none (f .settings .mtu) k₀ out₀ lengths₀ q) refl (omega arith) (omega arith);
       dead = refl;
       late = refl;
       fast = refl;
     }
 
-module _ (f : Flush) (n : ℕ) (pool : List ℕ) (k₀ : Packer) (out₀ lengths₀ : List ℕ) (l₀ : List Sent) (ws ts : List ℕ) (rs : List Record)
+module _ (f : Flush) (n : ℕ) (pool : List ℕ) (k₀ : Packer) (out₀ lengths₀ : List ℕ) (l₀ : List Sent) (ws ts rs : List ℕ)
     (k : Packer) (out lengths : List ℕ) (dead late fast : Bool) (i : ℕ)
     (w : Walking f n pool k₀ out₀ lengths₀ l₀ ws ts rs k out lengths dead late fast i) where
   module _ (h : i < n) where
@@ -135,10 +127,10 @@ module _ (f : Flush) (n : ℕ) (pool : List ℕ) (k₀ : Packer) (out₀ lengths
     module _ (whole : length ws ≡ 32) (r : Record) where
       -- what is read next
       abbrev read : Sent
-      read = withRecord (outstandingAt (getD ws i 0) (getD ts i 0)) (getD rs i r)
+      read = withRecord (outstandingAt (getD ws i 0) (getD ts i 0)) (getD (recordsIn rs) i r)
 
-      here : getD (sents ws ts rs) i (withRecord (outstandingAt 0 0) r) ≡ read
-      here = sents-get ws ts rs i r (omega (arith, w .list .room)) (omega (arith, w .list .room, w .wholes))
+      here : getD (sents ws ts (recordsIn rs)) i (withRecord (outstandingAt 0 0) r) ≡ read
+      here = sents-get ws ts (recordsIn rs) i r (omega (arith, w .list .room)) (omega (arith, w .list .room, w .wholes))
           (omega (arith, w .list .room, w .list .written .whole))
 
       next : drop i (take n l₀) ≡ read ∷ drop (i + 1) (take n l₀)
@@ -148,69 +140,73 @@ module _ (f : Flush) (n : ℕ) (pool : List ℕ) (k₀ : Packer) (out₀ lengths
       pub walking-inside : (m : ℕ) → AllInSlots m (take n l₀) → InSlot m (unpack (getD ws i 0))
       walking-inside m a = all-next (λ (y : Sent). InSlot m (y .held)) (take n l₀) (drop (i + 1) (take n l₀)) i read next a
 
-      module _ (x : Transmission) (e : x ≡ ruleOf f read) where
-        after : sentAs (getD ws i 0) x ≡ afterFlush f read
+      module _ (x : Transmission) (e : x ≡ ruleOf f read .rule) where
+        after : sentAs (getD ws i 0) x ≡ afterRule (ruleOf f read)
         after = rw e
 
         -- a turn
-        turn : (ts′ : List ℕ) (rs′ : List Record) (k′ : Packer) (out′ lengths′ : List ℕ) (b : Bool)
-            → length ts′ ≡ 32 → set (sents ws ts rs) i (sentAs (getD ws i 0) x) ≡ sents ws ts′ rs′
+        turn : (ts′ rs′ : List ℕ) (k′ : Packer) (out′ lengths′ : List ℕ) (b : Bool)
+            → length ts′ ≡ 32 → length rs′ ≡ 128
+            → set (sents ws ts (recordsIn rs)) i (sentAs (getD ws i 0) x) ≡ sents ws ts′ (recordsIn rs′)
             → Adds (f .settings .mtu) (wished (x .sends) (dataOf f pool (sentAs (getD ws i 0) x))) (f .settings .mtu) 1 k out lengths k′
             out′ lengths′
             → b ≡ (x .sends && eqb (x .transmissions) 20)
             → Walking f n pool k₀ out₀ lengths₀ l₀ ws ts′ rs′ k′ out′ lengths′ (dead || b) (late || x .late) (fast || x .fast) (i + 1)
-        turn ts′ rs′ k′ out′ lengths′ b l s a t =
+        turn ts′ rs′ k′ out′ lengths′ b l m s a t =
             let more = prefix-more (take n l₀) (drop (i + 1) (take n l₀)) i read next in
             let sends = ap (λ (y : Transmission). y .sends) e in
             record {
               wholes = l;
+              whole-records = m;
               list = rw (← s, after) (packed-put h (rw next at (w .list)));
               adds = rw (more, sent-data f read (sentAs (getD ws i 0) x) (x .sends) sends after)
                   (adds-as (adds-append (w .adds) a) refl (omega arith) (omega arith));
               dead = rw (more, sent-dead f read (sentAs (getD ws i 0) x) (x .sends) sends after, ← (w .dead), ← t);
-              late = rw (more, some-more, ← (w .late), ← e);
-              fast = rw (more, some-more, ← (w .fast), ← e);
+              late = rw (more, map-append, some-more, ← (w .late), ← e);
+              fast = rw (more, map-append, some-more, ← (w .fast), ← e);
             }
 
         -- it is sent
-        pub walking-sent : (k′ : Packer) (out′ lengths′ : List ℕ) → x .sends ≡ true
+        pub walking-sent : (rs′ : List ℕ) (k′ : Packer) (out′ lengths′ : List ℕ) → x .sends ≡ true
+            → (length rs′ ≡ 128) × (recordsIn rs′ ≡ set (recordsIn rs) i (x .updated))
             → Adds (f .settings .mtu) (dataOf f pool (sentAs (getD ws i 0) x) ∷ []) (f .settings .mtu) 1 k out lengths k′ out′ lengths′
-            → Walking f n pool k₀ out₀ lengths₀ l₀ ws (set ts i (x .transmissions)) (set rs i (x .updated)) k′ out′ lengths′
+            → Walking f n pool k₀ out₀ lengths₀ l₀ ws (set ts i (x .transmissions)) rs′ k′ out′ lengths′
             (dead || eqb (x .transmissions) 20) (late || x .late) (fast || x .fast) (i + 1)
-        walking-sent k′ out′ lengths′ s a =
-            turn (set ts i (x .transmissions)) (set rs i (x .updated)) k′ out′ lengths′ (eqb (x .transmissions) 20)
-            (length-set ts i (x .transmissions) ∙ w .wholes)
-            (sents-set ws ts rs i (getD ws i 0) (x .transmissions) (x .updated) ∙ rw (set-getD ws i 0))
+        walking-sent rs′ k′ out′ lengths′ s p a =
+            turn (set ts i (x .transmissions)) rs′ k′ out′ lengths′ (eqb (x .transmissions) 20)
+            (length-set ts i (x .transmissions) ∙ w .wholes) (p .0)
+            (sents-set ws ts (recordsIn rs) i (getD ws i 0) (x .transmissions) (x .updated) ∙ rw (set-getD ws i 0, p .1))
             (rw s a)
             (rw s)
 
         -- it is not sent, and stays
         pub walking-kept : x .sends ≡ false → Walking f n pool k₀ out₀ lengths₀ l₀ ws ts rs k out lengths dead late fast (i + 1)
         walking-kept s =
-            let kept = e ∙ transmission-not-sent (f .settings) (f .timeout) (f .t) (getD ts i 0) (getD rs i r)
+            let kept = e ∙ transmission-not-sent (f .settings) (f .timeout) (f .t) (getD ts i 0) (getD (recordsIn rs) i r)
             (sym (ap (λ (y : Transmission). y .sends) e) ∙ s) in
             let on-time : x .late ≡ false = ap (λ (y : Transmission). y .late) kept in
             let in-turn : x .fast ≡ false = ap (λ (y : Transmission). y .fast) kept in
             rw (on-time, in-turn, or-false dead, or-false late, or-false fast) at (turn ts rs k out lengths false (w .wholes)
-            (ap (λ (y : Sent). set (sents ws ts rs) i y) (ap (sentAs (getD ws i 0)) kept ∙ sym here) ∙ set-getD (sents ws ts rs) i
-            (withRecord (outstandingAt 0 0) r))
+            (w .whole-records)
+            (ap (λ (y : Sent). set (sents ws ts (recordsIn rs)) i y) (ap (sentAs (getD ws i 0)) kept ∙ sym here)
+            ∙ set-getD (sents ws ts (recordsIn rs)) i (withRecord (outstandingAt 0 0) r))
             (wished-none _ _ _ _ k out lengths (x .sends) s (w .adds .fills))
             (rw s))
 
   -- all are handled
-  pub walking-done : (ts₀ : List ℕ) (rs₀ : List Record) → l₀ ≡ sents ws ts₀ rs₀ → length ws ≡ 32 → n ≤ i
-      → Walks f (sentIn ws ts₀ rs₀ n) ws n pool k₀ out₀ lengths₀
-      (record { records = rs; packer = k; dead = dead; late = late; fast = fast }) ts out lengths
+  pub walking-done : (ts₀ rs₀ : List ℕ) → l₀ ≡ sents ws ts₀ (recordsIn rs₀) → length ws ≡ 32 → n ≤ i
+      → Walks f (sentIn ws ts₀ (recordsIn rs₀) n) ws n pool k₀ out₀ lengths₀
+      (record { packer = k; dead = dead; late = late; fast = fast }) ts rs out lengths
   walking-done ts₀ rs₀ q whole h =
       let all : i ≡ n = omega (arith, w .list .upto) in
-      let here : take n l₀ ≡ sentIn ws ts₀ rs₀ n = rw q (sym (sents-take ws ts₀ rs₀ n)) in
-      let front : take i (take n l₀) ≡ sentIn ws ts₀ rs₀ n = rw all (take-take n n l₀ (omega arith) ∙ here) in
+      let here : take n l₀ ≡ sentIn ws ts₀ (recordsIn rs₀) n = rw q (sym (sents-take ws ts₀ (recordsIn rs₀) n)) in
+      let front : take i (take n l₀) ≡ sentIn ws ts₀ (recordsIn rs₀) n = rw all (take-take n n l₀ (omega arith) ∙ here) in
       let below : i ≤ 32 = omega (arith, w .list .room) in
       record {
         adds = adds-as (w .adds) (rw front) (mul-le-mul-right (f .settings .mtu) below) below;
-        sent = sents-front ws ts rs n _ whole (w .wholes)
-            (subst (λ (m : ℕ). Holds 32 (sents ws ts rs) m (map (afterFlush f) (sentIn ws ts₀ rs₀ n))) all
-            (holds-as (packed-done (rw (view-end l₀ n i h)) (w .list)) (ap (map (afterFlush f)) here)));
+        sent = sents-front ws ts rs n _ whole (w .wholes) (w .whole-records)
+            (subst (λ (m : ℕ). Holds 32 (sents ws ts (recordsIn rs)) m (leftBy f (sentIn ws ts₀ (recordsIn rs₀) n))) all
+            (holds-as (packed-done (rw (view-end l₀ n i h)) (w .list)) (ap (leftBy f) here)));
         dead = rw front at (w .dead);
         late = rw front at (w .late);
         fast = rw front at (w .fast);

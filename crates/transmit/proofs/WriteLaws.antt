@@ -7,7 +7,6 @@ use Prim.Native.Nat.{ℕ, _+_, _*_, _≤_, _<_, _^_}
 use native.Mathlib.Omega.{arith}
 use lib.ListN.{length}
 use Rattle.protocol.specs.Protocol.{windowAsk, windowTell}
-use Rattle.timing.specs.declared.Record.{Record}
 use Rattle.lists.specs.declared.Sent.{Sent}
 use Rattle.datagram.specs.Datagrams.{Segment}
 use Rattle.session.specs.State.{Ack}
@@ -21,7 +20,7 @@ use Rattle.transmit.specs.Writing.{Writable, Walks, Writes}
 
 -- ---- room
 
-module _ (f : Flush) (noted : ℕ) (acks words transmissions : List ℕ) (records : List Record) (n : ℕ) (pool out lengths : List ℕ)
+module _ (f : Flush) (noted : ℕ) (acks words transmissions records : List ℕ) (n : ℕ) (pool out lengths : List ℕ)
     (w : Writable f noted acks words transmissions records n pool out lengths) where
   whole-room : f .settings .mtu < 2 ^ 16 → Room (f .settings .mtu) (258 * 24 + 32 * f .settings .mtu) 290 none out lengths
   whole-room h =
@@ -47,10 +46,10 @@ module _ (f : Flush) (noted : ℕ) (acks words transmissions : List ℕ) (record
     data-left = room-left (rw e at a) (whole-room (a .fills .word)) (omega (arith, w .few)) (omega (arith, w .few))
 
     -- for the last length
-    pub last-left : (l : List Sent) (r : Walked) (transmissions′ out″ lengths″ : List ℕ)
-        → Walks f l words n pool k out′ lengths′ r transmissions′ out″ lengths″
+    pub last-left : (l : List Sent) (r : Walked) (transmissions′ records′ out″ lengths″ : List ℕ)
+        → Walks f l words n pool k out′ lengths′ r transmissions′ records′ out″ lengths″
         → Fills (f .settings .mtu) (r .packer) × (begun (r .packer) ≤ length lengths″)
-    last-left l r transmissions′ out″ lengths″ v =
+    last-left l r transmissions′ records′ out″ lengths″ v =
         (v .adds .fills, omega (arith, v .adds .datagrams, v .adds .lengths-length, data-left .datagrams))
 
 -- ---- what is written
@@ -65,16 +64,16 @@ output-of mtu n m gs k₀ out lengths k out′ lengths′ count lengths″ e a c
     ((rw e at a) .packs out lengths (record { closed = []; filling = [] }) (packs-none out lengths))
 
 pub writes-all : (f : Flush) (acks : List Ack) (ask tell : Bool) (l : List Sent) (words : List ℕ) (count : ℕ) (pool : List ℕ) (n m : ℕ)
-    (k₀ : Packer) (out lengths : List ℕ) (k : Packer) (out′ lengths′ : List ℕ) (r : Walked) (transmissions′ out″ lengths″ : List ℕ)
+    (k₀ : Packer) (out lengths : List ℕ) (k : Packer) (out′ lengths′ : List ℕ) (r : Walked) (transmissions′ records′ out″ lengths″ : List ℕ)
     (number : ℕ) (lengths‴ : List ℕ)
     → k₀ ≡ none
     → Adds (f .settings .mtu) (map (ackSegment (carriedOf (f .carried))) acks ++ wished ask (control (carriedOf (f .carried)) windowAsk 0 0)
     ++ wished tell (control (carriedOf (f .carried)) windowTell 0 0)) n m k₀ out lengths k out′ lengths′
-    → Walks f l words count pool k out′ lengths′ r transmissions′ out″ lengths″
+    → Walks f l words count pool k out′ lengths′ r transmissions′ records′ out″ lengths″
     → Finishes (r .packer) lengths″ number lengths‴
     → Writes f acks ask tell l words count pool out lengths
-    (record { records = r .records; dead = r .dead; late = r .late; fast = r .fast; count = number }) transmissions′ out″ lengths‴
-writes-all f acks ask tell l words count pool n m k₀ out lengths k out′ lengths′ r transmissions′ out″ lengths″ number lengths‴ e a v c =
+    (record { dead = r .dead; late = r .late; fast = r .fast; count = number }) transmissions′ records′ out″ lengths‴
+writes-all f acks ask tell l words count pool n m k₀ out lengths k out′ lengths′ r ts′ rs′ out″ lengths″ number lengths‴ e a v c =
     record {
       output = rw (append-assoc, append-assoc) at
           (output-of _ _ _ _ k₀ out lengths (r .packer) out″ lengths″ number lengths‴ e (adds-append a (v .adds)) c);

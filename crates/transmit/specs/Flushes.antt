@@ -8,7 +8,8 @@ use Rattle.timing.specs.Probes.{nextClock}
 use Rattle.lists.specs.declared.Sent.{Sent}
 use Rattle.packing.specs.Packers.{carriedOf, Output, bytesOfDatagrams}
 use Rattle.session.specs.State.{State}
-use Rattle.session.specs.Flushing.{carried, windowOf, numberedCount, withNumbered, lossesOf, flushing}
+use Rattle.session.specs.Flushing.{carried, windowOf, numberedCount, withNumbered, flushing}
+use Rattle.session.specs.RuleLaws.{lossesAt}
 use Rattle.numbering.specs.Sents.{SentFront}
 use Rattle.transmit.specs.declared.Flush.{Flush}
 use Rattle.transmit.specs.declared.Written.{Written}
@@ -31,9 +32,9 @@ asks s t = s .ask || nextClock (s .probe) t (s .sending .window) .ask
 -- what a flush of the state s at t writes: the output has its datagrams, the arrays its outstanding segments, n of them, dead is as after
 -- it, and late and fast are what it tells of losses
 pub record FlushWrites (s : State) (t : ℕ) (words : List ℕ) (n : ℕ) (pool out lengths : List ℕ) (r : Written)
-    (transmissions′ out′ lengths′ : List ℕ) : Type 0 where
+    (transmissions′ records′ out′ lengths′ : List ℕ) : Type 0 where
   pub output : Output (bytesOfDatagrams (flushing s t pool .datagrams)) out lengths (r .count) out′ lengths′
-  pub sent : SentFront words transmissions′ (r .records) n (flushing s t pool .state .sending .outstanding)
+  pub sent : SentFront words transmissions′ records′ n (flushing s t pool .state .sending .outstanding)
   pub dead : (s .dead || r .dead) ≡ flushing s t pool .state .dead
-  pub late : r .late ≡ lossesOf s t .late
-  pub fast : r .fast ≡ lossesOf s t .fast
+  pub late : r .late ≡ lossesAt s t .late
+  pub fast : r .fast ≡ lossesAt s t .fast

@@ -7,7 +7,6 @@ use Prim.Native.Nat.{ℕ, _+_, _*_, _≤_, _<_}
 use lib.ListN.{length}
 use Rattle.protocol.specs.Protocol.{windowAsk, windowTell, sendSlots}
 use Rattle.protocol.specs.Ranges.{mss}
-use Rattle.timing.specs.declared.Record.{Record}
 use Rattle.retransmission.specs.declared.Transmission.{Transmission}
 use Rattle.lists.specs.declared.Held.{Held}
 use Rattle.lists.specs.declared.Sent.{Sent}
@@ -15,12 +14,13 @@ use Rattle.datagram.specs.Datagrams.{Segment}
 use Rattle.session.specs.State.{Ack}
 use Rattle.session.specs.Decides.{All}
 use Rattle.session.specs.Flushing.{
-  transmittedOf,
-  sentAfter,
-  transmittedNow,
+  Ruled,
+  ruling,
+  ruled,
+  afterwards,
+  transmitted,
+  some,
   someDead,
-  someLate,
-  someFast,
   control,
   ackSegment,
   dataSegment,
@@ -30,6 +30,7 @@ use Rattle.session.specs.Flushing.{
 use Rattle.packing.specs.declared.Packer.{Packer}
 use Rattle.packing.specs.Packers.{carriedOf, Output, bytesOfDatagrams, Adds}
 use Rattle.words.specs.Words.{unpack}
+use Rattle.record_words.specs.RecordWords.{recordsIn}
 use Rattle.numbering.specs.Sents.{sentIn, SentFront}
 use Rattle.transmit.specs.declared.Flush.{Flush}
 use Rattle.transmit.specs.declared.Walked.{Walked}
@@ -37,23 +38,27 @@ use Rattle.transmit.specs.declared.Written.{Written}
 
 -- ---- the outstanding segments
 
--- what the flush does with one of them, and the segment after that
-abbrev pub ruleOf : Flush → Sent → Transmission
-ruleOf f = transmittedOf (f .settings) (f .timeout) (f .t)
+-- what the flush does with one of them, and with each
+abbrev pub ruleOf : Flush → Sent → Ruled
+ruleOf f = ruling (f .settings) (f .timeout) (f .t)
 
-abbrev pub afterFlush : Flush → Sent → Sent
-afterFlush f = sentAfter (f .settings) (f .timeout) (f .t)
+abbrev pub rulesOf : Flush → List Sent → List Ruled
+rulesOf f = ruled (f .settings) (f .timeout) (f .t)
+
+-- all of them afterwards
+abbrev pub leftBy : Flush → List Sent → List Sent
+leftBy f l = afterwards (rulesOf f l)
 
 -- those that are sent, as they are then
 abbrev pub sentBy : Flush → List Sent → List Sent
-sentBy f = transmittedNow (f .settings) (f .timeout) (f .t)
+sentBy f l = transmitted (rulesOf f l)
 
 -- one is sent because it was due, or because it was skipped
 abbrev pub lateBy : Flush → List Sent → Bool
-lateBy f = someLate (f .settings) (f .timeout) (f .t)
+lateBy f l = some (λ (r : Ruled). r .rule .late) (rulesOf f l)
 
 abbrev pub fastBy : Flush → List Sent → Bool
-fastBy f = someFast (f .settings) (f .timeout) (f .t)
+fastBy f l = some (λ (r : Ruled). r .rule .fast) (rulesOf f l)
 
 -- one of them as a data segment
 abbrev pub dataOf : Flush → List ℕ → Sent → Segment
@@ -73,20 +78,21 @@ sentAs word x = record { held = unpack word; transmissions = x .transmissions; �
 
 -- what the checks of a flush have established of n outstanding segments: there are at most 32, each in its slot, and the send pool has 128
 -- slots
-pub record Sendable (f : Flush) (words transmissions : List ℕ) (records : List Record) (n : ℕ) (pool : List ℕ) : Type 0 where
+pub record Sendable (f : Flush) (words transmissions records : List ℕ) (n : ℕ) (pool : List ℕ) : Type 0 where
   pub mtu : 24 ≤ f .settings .mtu
   pub whole : length words ≡ 32
   pub wholes : length transmissions ≡ 32
+  pub whole-records : length records ≡ 128
   pub count : n ≤ 32
-  pub inside : AllInSlots (mss (f .settings)) (sentIn words transmissions records n)
+  pub inside : AllInSlots (mss (f .settings)) (sentIn words transmissions (recordsIn records) n)
   pub slots : 128 * mss (f .settings) ≤ length pool
 
 -- all n segments of l are handled: those sent are put as data, each is as its rule leaves it, and it is told whether one sent was
 -- transmitted 20 times, due or skipped
 pub record Walks (f : Flush) (l : List Sent) (words : List ℕ) (n : ℕ) (pool : List ℕ) (k : Packer) (out lengths : List ℕ) (r : Walked)
-    (transmissions′ out′ lengths′ : List ℕ) : Type 0 where
+    (transmissions′ records′ out′ lengths′ : List ℕ) : Type 0 where
   pub adds : Adds (f .settings .mtu) (map (dataOf f pool) (sentBy f l)) (32 * f .settings .mtu) 32 k out lengths (r .packer) out′ lengths′
-  pub sent : SentFront words transmissions′ (r .records) n (map (afterFlush f) l)
+  pub sent : SentFront words transmissions′ records′ n (leftBy f l)
   pub dead : r .dead ≡ someDead (sentBy f l)
   pub late : r .late ≡ lateBy f l
   pub fast : r .fast ≡ fastBy f l
@@ -103,7 +109,7 @@ segmentsOf f acks ask tell pool sent =
 
 -- what the checks of a flush have established besides: at most 256 acks, within the ack list; room for 258 headers and 32 whole datagrams,
 -- and for 290 lengths
-pub record Writable (f : Flush) (noted : ℕ) (acks words transmissions : List ℕ) (records : List Record) (n : ℕ)
+pub record Writable (f : Flush) (noted : ℕ) (acks words transmissions records : List ℕ) (n : ℕ)
     (pool out lengths : List ℕ) : Type 0 where
   pub sendable : Sendable f words transmissions records n pool
   pub few : noted ≤ 256
@@ -114,10 +120,10 @@ pub record Writable (f : Flush) (noted : ℕ) (acks words transmissions : List �
 -- what a flush writes: the output has its datagrams, each outstanding segment of l is as its rule leaves it, and it is told whether one
 -- sent was transmitted 20 times, due or skipped
 pub record Writes (f : Flush) (acks : List Ack) (ask tell : Bool) (l : List Sent) (words : List ℕ) (n : ℕ) (pool out lengths : List ℕ)
-    (r : Written) (transmissions′ out′ lengths′ : List ℕ) : Type 0 where
+    (r : Written) (transmissions′ records′ out′ lengths′ : List ℕ) : Type 0 where
   pub output : Output (bytesOfDatagrams (packed (f .settings .mtu) (segmentsOf f acks ask tell pool (sentBy f l)))) out lengths (r .count)
       out′ lengths′
-  pub sent : SentFront words transmissions′ (r .records) n (map (afterFlush f) l)
+  pub sent : SentFront words transmissions′ records′ n (leftBy f l)
   pub dead : r .dead ≡ someDead (sentBy f l)
   pub late : r .late ≡ lateBy f l
   pub fast : r .fast ≡ fastBy f l

@@ -1,13 +1,13 @@
 // What a flush sends, in place: outstanding segments are transmitted by their rules, and all that is to be sent is packed into
-// datagrams. Transmissions are a lent array, records come by value, and the lent parts as slices.
+// datagrams. Transmissions and records are lent arrays, and the lent parts slices.
 mod controls;
 mod transmitting;
 
 use packing::Carried;
 use packing::Packer;
 use protocol::Settings;
-use timing::Record;
 ghost use Rattle.control.specs.Views.{pairs};
+ghost use Rattle.record_words.specs.RecordWords.{recordsIn};
 ghost use Rattle.numbering.specs.Sents.{sentIn};
 ghost use Rattle.transmit.specs.Writing.{Writable, Writes};
 
@@ -19,20 +19,18 @@ pub struct Flush {
     pub t: u32,
 }
 
-// The records of the outstanding segments after the flush, the packer behind the data that was put, and whether one of those
-// sent was transmitted 20 times, was due (late), or was skipped (fast).
+// The packer behind the data that was put, and whether one of the outstanding segments sent was transmitted 20 times, was due
+// (late), or was skipped (fast).
 struct Walked {
-    records: [Record; 32],
     packer: Packer,
     dead: bool,
     late: bool,
     fast: bool,
 }
 
-// What a flush has written: the records of the outstanding segments as they are then, whether one of those sent was
-// transmitted 20 times, was due (late), or was skipped (fast), and the number of datagrams.
+// What a flush has written: whether one of the outstanding segments sent was transmitted 20 times, was due (late), or was
+// skipped (fast), and the number of datagrams.
 pub struct Written {
-    pub records: [Record; 32],
     pub dead: bool,
     pub late: bool,
     pub fast: bool,
@@ -49,17 +47,17 @@ pub fn write(
     tell: bool,
     words: &[u32; 32],
     transmissions: &mut [u8; 32],
-    records: [Record; 32],
+    records: &mut [u32; 128],
     n: usize,
     pool: &[u8],
     out: &mut [u8],
     lengths: &mut [u16],
 ) -> Written
-    requires { ⌜ Writable flush noted (now acks) (now words) (now transmissions) records n (now pool) (now out) (now lengths) ⌝ }
+    requires { ⌜ Writable flush noted (now acks) (now words) (now transmissions) (now records) n (now pool) (now out) (now lengths) ⌝ }
     ensures { λ r. ⌜ Writes flush (pairs noted (now (acks .entry))) ask tell
-        (sentIn (now (words .entry)) (now (transmissions .entry)) records n) (now (words .entry)) n
+        (sentIn (now (words .entry)) (now (transmissions .entry)) (recordsIn (now (records .entry))) n) (now (words .entry)) n
         (now (pool .entry)) (now (out .entry)) (now (lengths .entry))
-        r (now (transmissions .exit)) (now (out .exit)) (now (lengths .exit)) ⌝ }
+        r (now (transmissions .exit)) (now (records .exit)) (now (out .exit)) (now (lengths .exit)) ⌝ }
 {
     let mtu = flush.settings.mtu as usize;
     let controls = controls::put_controls(
@@ -85,9 +83,7 @@ pub fn write(
         lengths,
     );
     let count = packing::finish(walked.packer, mtu, lengths);
-    let kept = walked.records;
     Written {
-        records: kept,
         dead: walked.dead,
         late: walked.late,
         fast: walked.fast,

@@ -6,13 +6,13 @@ use packing::Packer;
 use protocol::Protocol;
 use retransmission::Transmission;
 use retransmission::outstanding;
-use timing::Record;
 ghost use mathlib.Core.List.{[], _∷_};
 ghost use Prim.Native.Nat.{_*_, _≤_};
 ghost use lib.ListN.{length};
 ghost use Rattle.protocol.specs.Ranges.{mss};
 ghost use Rattle.packing.specs.Packers.{Room, Adds};
 ghost use Rattle.words.specs.Words.{unpack};
+ghost use Rattle.record_words.specs.RecordWords.{recordsIn};
 ghost use Rattle.numbering.specs.Sents.{sentIn};
 ghost use Rattle.transmit.specs.Writing.{dataOf, InSlot, sentAs, Sendable, Walks};
 
@@ -56,26 +56,25 @@ pub(crate) fn put_outstanding(
     flush: Flush,
     words: &[u32; 32],
     transmissions: &mut [u8; 32],
-    records: [Record; 32],
+    records: &mut [u32; 128],
     n: usize,
     pool: &[u8],
     out: &mut [u8],
     lengths: &mut [u16],
 ) -> Walked
     requires { ⌜ Room (flush .settings .mtu) (32 * flush .settings .mtu) 32 packer (now out) (now lengths)
-        × Sendable flush (now words) (now transmissions) records n (now pool) ⌝ }
-    ensures { λ r. ⌜ Walks flush (sentIn (now (words .entry)) (now (transmissions .entry)) records n) (now (words .entry)) n
-        (now (pool .entry)) packer (now (out .entry)) (now (lengths .entry))
-        r (now (transmissions .exit)) (now (out .exit)) (now (lengths .exit)) ⌝ }
+        × Sendable flush (now words) (now transmissions) (now records) n (now pool) ⌝ }
+    ensures { λ r. ⌜ Walks flush (sentIn (now (words .entry)) (now (transmissions .entry)) (recordsIn (now (records .entry))) n)
+        (now (words .entry)) n (now (pool .entry)) packer (now (out .entry)) (now (lengths .entry))
+        r (now (transmissions .exit)) (now (records .exit)) (now (out .exit)) (now (lengths .exit)) ⌝ }
 {
-    let mut rs = records;
     let mut k = packer;
     let mut dead = false;
     let mut late = false;
     let mut fast = false;
     let mut i: usize = 0;
     while i < n {
-        let old = rs[i];
+        let old = record_words::at(records, i);
         let x = outstanding::transmission(
             flush.settings,
             flush.timeout,
@@ -86,7 +85,7 @@ pub(crate) fn put_outstanding(
         if x.sends {
             let updated = x.updated;
             transmissions[i] = x.transmissions;
-            rs[i] = updated;
+            record_words::put(records, i, updated);
             k = put_sent(k, flush, words[i], x, pool, out, lengths);
             dead = dead | (x.transmissions == Protocol::DEAD_AFTER);
             late = late | x.late;
@@ -95,7 +94,6 @@ pub(crate) fn put_outstanding(
         i += 1;
     }
     Walked {
-        records: rs,
         packer: k,
         dead,
         late,

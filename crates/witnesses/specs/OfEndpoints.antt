@@ -45,7 +45,7 @@ use Rattle.session.specs.Flushing.{
   numbered,
   numberedCount,
   withNumbered,
-  transmittedNow,
+  transmitted,
   written,
   bytesOfSegments,
   packOne,
@@ -157,7 +157,7 @@ unfolding usedWindow slowStart raised widened avoidance limited grown afterDatag
     decode bytesOf numberAt verdict segmentOf tail walk parse longerWait nextClock nextSmoothed nextVariation leastTimeout timeoutOf sampled
     firstDue growth longerTimeout isSkipped transmission select firstNumberOr skipBefore advance startsAt insert isHeld ascending enough
     enoughToFlush datagramsBy pushesIn pushNumbers fragmentCount segmentCount pieces cutAs filled numbered numberedCount withNumbered
-    transmittedNow written bytesOfSegments packOne packed flushing acknowledged sampledBy heardBySending pushed heardByReceiving
+    transmitted written bytesOfSegments packOne packed flushing acknowledged sampledBy heardBySending pushed heardByReceiving
     allBySending allByReceiving ackNumbers furthest skipped applied input joinedIn message lengthOf messageSize afterRead reading place
     sending occurs lowestFrom lowestFree numbersFit waitingFits settled sendingValid receivingValid valid paired
 met = record {

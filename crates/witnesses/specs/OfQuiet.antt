@@ -45,7 +45,7 @@ use Rattle.session.specs.Flushing.{
   numbered,
   numberedCount,
   withNumbered,
-  transmittedNow,
+  transmitted,
   written,
   bytesOfSegments,
   packOne,
@@ -127,7 +127,7 @@ unfolding usedWindow slowStart raised widened avoidance limited grown afterDatag
     joined lengthsOf cutBy sendsWith updatesWith checksWith scheduling.updated corrected started following isAstray ahead earliest named
     updating checking signed isBefore isAfter isDue front back encode bytesOf longerWait nextClock leastTimeout firstDue growth
     longerTimeout isSkipped transmission firstNumberOr startsAt ascending enough enoughToFlush fragmentCount segmentCount pieces cutAs
-    filled numbered numberedCount withNumbered transmittedNow written bytesOfSegments packOne packed flushing place sending occurs
+    filled numbered numberedCount withNumbered transmitted written bytesOfSegments packOne packed flushing place sending occurs
     lowestFrom lowestFree numbersFit waitingFits settled sendingValid receivingValid valid paired
 updates-it = record {
   lent = blank-parts;

@@ -47,7 +47,7 @@ use Rattle.session.specs.Flushing.{
   numbered,
   numberedCount,
   withNumbered,
-  transmittedNow,
+  transmitted,
   written,
   bytesOfSegments,
   packOne,
@@ -151,7 +151,7 @@ unfolding usedWindow slowStart raised widened avoidance limited grown afterDatag
     bytesOf numberAt verdict segmentOf tail walk parse longerWait nextClock nextSmoothed nextVariation leastTimeout timeoutOf sampled
     firstDue growth longerTimeout isSkipped transmission select firstNumberOr skipBefore advance startsAt insert isHeld ascending enough
     enoughToFlush step history after datagramsBy fragmentCount segmentCount pieces cutAs filled numbered numberedCount withNumbered
-    transmittedNow written bytesOfSegments packOne packed flushing acknowledged sampledBy heardBySending pushed heardByReceiving
+    transmitted written bytesOfSegments packOne packed flushing acknowledged sampledBy heardBySending pushed heardByReceiving
     allBySending allByReceiving ackNumbers furthest skipped applied input opened joinedIn message lengthOf messageSize afterRead reading
     place sending occurs lowestFrom lowestFree numbersFit waitingFits settled sendingValid receivingValid valid
 met = record {

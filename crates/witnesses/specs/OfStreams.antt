@@ -46,7 +46,7 @@ use Rattle.session.specs.Flushing.{
   numbered,
   numberedCount,
   withNumbered,
-  transmittedNow,
+  transmitted,
   written,
   bytesOfSegments,
   packOne,
@@ -130,7 +130,7 @@ unfolding usedWindow slowStart raised widened avoidance limited grown afterDatag
     bytesOf numberAt verdict segmentOf tail walk parse longerWait nextClock nextSmoothed nextVariation leastTimeout timeoutOf sampled
     firstDue growth longerTimeout isSkipped transmission select firstNumberOr skipBefore advance startsAt insert isHeld ascending enough
     enoughToFlush step history after datagramsBy fragmentCount segmentCount pieces cutAs filled numbered numberedCount withNumbered
-    transmittedNow written bytesOfSegments packOne packed flushing acknowledged sampledBy heardBySending pushed heardByReceiving
+    transmitted written bytesOfSegments packOne packed flushing acknowledged sampledBy heardBySending pushed heardByReceiving
     allBySending allByReceiving ackNumbers furthest skipped applied input opened joinedIn message lengthOf messageSize afterRead reading
     place sending updated corrected started following isAstray updating acceptedFor numberedBy numberedInAll numberedIn occurs lowestFrom
     lowestFree numbersFit waitingFits settled sendingValid receivingValid valid

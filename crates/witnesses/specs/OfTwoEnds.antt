@@ -49,7 +49,7 @@ use Rattle.session.specs.Flushing.{
   numbered,
   numberedCount,
   withNumbered,
-  transmittedNow,
+  transmitted,
   written,
   bytesOfSegments,
   packOne,
@@ -169,7 +169,7 @@ unfolding usedWindow slowStart raised widened avoidance limited grown afterDatag
     updating signed isBefore isAfter isDue front back encode decode bytesOf numberAt verdict segmentOf tail walk parse longerWait
     nextClock nextSmoothed nextVariation leastTimeout timeoutOf sampled firstDue growth longerTimeout isSkipped transmission select
     firstNumberOr skipBefore advance startsAt insert isHeld ascending enough enoughToFlush pushesIn pushNumbers fragmentCount segmentCount
-    pieces cutAs filled numbered numberedCount withNumbered transmittedNow written bytesOfSegments packOne packed flushing acknowledged
+    pieces cutAs filled numbered numberedCount withNumbered transmitted written bytesOfSegments packOne packed flushing acknowledged
     sampledBy heardBySending pushed heardByReceiving allBySending allByReceiving ackNumbers furthest skipped applied input place sending
     occurs lowestFrom lowestFree numbersFit waitingFits settled sendingValid receivingValid valid paired
 met = record {

@@ -24,15 +24,15 @@ use Rattle.flush_core.specs.declared.Flushed.{Flushed}
 use Rattle.flush_core.specs.Flushes.{putBack, updateOf, Core}
 use Rattle.write_out.specs.Written.{Left, WrittenOut}
 
--- the records of the table, by value
-pub left : (paced : Bool) (t : ℕ) (l : Link) (p : Parts) (f : FlushParts) (r : Flushed) (l′ : Link) (f′ : FlushParts)
-    (records : List Record) (n : ℕ) → Gathers l p records n → Whole (arraysOf l′)
-    → Core paced l records n (p .sendPool) (p .receivePool) (p .acks) t (f .output) (f .lengths) r l′ (f′ .output) (f′ .lengths)
-    → Left paced t l p f (r .answer) (putBack r) l′ f′
-left false t l p f r l′ f′ records n g whole h =
-    (h .0, h .1, flush-left t l p f (h .0) (putBack r) l′ f′ records n g whole (h .2))
-left true t l p f r l′ f′ records n g whole h =
-    update-left t l p f (r .answer) (putBack r) l′ f′ records n g whole h
+-- the records of the table, gathered
+pub left : (paced : Bool) (t : ℕ) (l : Link) (p : Parts) (f : FlushParts) (r : Flushed) (l′ : Link) (records′ : List Record)
+    (f′ : FlushParts) (records : List Record) (n : ℕ) → Gathers l p records n → Whole (arraysOf l′)
+    → Core paced l records n (p .sendPool) (p .receivePool) (p .acks) t (f .output) (f .lengths) r l′ records′ (f′ .output) (f′ .lengths)
+    → Left paced t l p f (r .answer) (putBack (l′ .outstanding) (r .changed) records′) l′ f′
+left false t l p f r l′ records′ f′ records n g whole h =
+    (h .0, h .1, flush-left t l p f (h .0) (putBack (l′ .outstanding) (r .changed) records′) l′ f′ records n g whole (h .2))
+left true t l p f r l′ records′ f′ records n g whole h =
+    update-left t l p f (r .answer) (putBack (l′ .outstanding) (r .changed) records′) l′ f′ records n g whole h
 
 -- the number of a count is that of the same answer of an update
 same-code : (n : Count) → updateCode (updateOf n) ≡ countCode n

@@ -52,7 +52,7 @@ use Rattle.session.specs.Flushing.{
   numbered,
   numberedCount,
   withNumbered,
-  transmittedNow,
+  transmitted,
   written,
   bytesOfSegments,
   packOne,
@@ -241,7 +241,7 @@ unfolding usedWindow slowStart raised widened avoidance limited grown afterDatag
     bothHeard oneRead bothRead opened opening enough signed isBefore isAfter isDue front back encode decode bytesOf numberAt verdict
     segmentOf tail walk parse longerWait nextClock nextSmoothed nextVariation leastTimeout timeoutOf sampled firstDue growth longerTimeout
     isSkipped transmission select firstNumberOr skipBefore advance startsAt insert isHeld ascending fragmentCount segmentCount pieces cutAs
-    filled numbered numberedCount withNumbered transmittedNow written bytesOfSegments packOne packed flushing input-of.acknowledged
+    filled numbered numberedCount withNumbered transmitted written bytesOfSegments packOne packed flushing input-of.acknowledged
     sampledBy heardBySending pushed heardByReceiving allBySending allByReceiving ackNumbers furthest skipped applied input joinedIn message
     lengthOf messageSize reading-of.afterRead reading telling showing place sending occurs lowestFrom lowestFree numbersFit waitingFits
     settled sendingValid receivingValid valid
@@ -264,7 +264,7 @@ unfolding placeOf usedWindow slowStart raised widened avoidance limited grown af
     oneHeard bothHeard oneRead bothRead opened opening enough signed isBefore isAfter isDue front back encode decode bytesOf numberAt
     verdict segmentOf tail walk parse longerWait nextClock nextSmoothed nextVariation leastTimeout timeoutOf sampled firstDue growth
     longerTimeout isSkipped transmission select firstNumberOr skipBefore advance startsAt insert isHeld ascending fragmentCount segmentCount
-    pieces cutAs filled numbered numberedCount withNumbered transmittedNow written bytesOfSegments packOne packed flushing
+    pieces cutAs filled numbered numberedCount withNumbered transmitted written bytesOfSegments packOne packed flushing
     input-of.acknowledged sampledBy heardBySending pushed heardByReceiving allBySending allByReceiving ackNumbers furthest skipped applied
     input joinedIn message lengthOf messageSize reading-of.afterRead reading telling showing place sending occurs lowestFrom lowestFree
     numbersFit waitingFits settled sendingValid receivingValid valid scheduling.updated isAstray corrected started following ahead earliest

@@ -1,5 +1,5 @@
--- `ampferweg::ampferweg_check` meets its contract: a walk of its MIR. The block and the table are read through a `&`; where the time goes
--- is given to `tell_time`. Of each callee the proof knows only that it meets its contract. Written by tools/calls.py.
+-- `ampferweg::ampferweg_check` meets its contract: a walk of its MIR. All is given to `asks::check`.
+-- Of each callee the proof knows only that it meets its contract. Written by tools/calls.py.
 -- Assumes nothing.
 use Rattle.records.proofs.Walk.{
   _≡_,
@@ -163,7 +163,7 @@ use denote.Memory.{pointee}
 use Rattle.timing.proofs.Record.Laws as record-laws
 use prog.Wp.{Env, Wp, atReturn}
 use types.Kit.{group, raw, atRet}
-use denote.Memory.{partAt}
+use denote.Memory.{partAt, cellAt}
 use types.Tokens.{lft-new, lft-end}
 use denote.Plain.{uint-lawful, nothing-lawful}
 use denote.Signed.{sint-lawful, sint-makes}
@@ -176,49 +176,13 @@ use denote.Signature.Array.{arrayOf}
 use denote.Struct.Laws as LL
 use denote.Enum.Laws as EL
 use denote.Triple.Walked.{stay-ref, goes-ref, gave-ref, goes-gave-ref, stay-dropped, goes-dropped}
-use Rattle.protocol.specs.declared.Settings.{Settings}
-use Rattle.protocol.proofs.Settings as settings-row
-use Rattle.protocol.proofs.Settings.Laws as settings-laws
-use Rattle.control.specs.declared.Flight.{Flight}
-use Rattle.control.proofs.Flight as flight-row
-use Rattle.control.proofs.Flight.Laws as flight-laws
-use Rattle.control.specs.declared.Arrival.{Arrival}
-use Rattle.control.proofs.Arrival as arrival-row
-use Rattle.control.proofs.Arrival.Laws as arrival-laws
-use Rattle.control.specs.declared.Clock.{Clock}
-use Rattle.control.proofs.Clock as clock-row
-use Rattle.control.proofs.Clock.Laws as clock-laws
-use Rattle.answers.specs.declared.Time.{Time}
-use Rattle.answers.proofs.Time as time-row
-use Rattle.answers.proofs.Time.Laws as time-laws
-use lib.ListN.{take}
-use Rattle.protocol.specs.Protocol.{sendSlots}
-use Rattle.records.specs.Tables.{slotsIn, gathered, padded}
-use Rattle.control.specs.Views.{Whole, arrays}
-use Rattle.promises.specs.Parts.{lentLengths, partsOf}
-use Rattle.promises.specs.Answers.{timeOutcome}
-use Rattle.promises.specs.Outcomes.{checksWith}
-use Rattle.codes.specs.Codes.{timeCode, timeStored}
+use Rattle.promises.specs.Parts.{partsOf}
+use Rattle.codes.specs.Codes.{timeCode}
 use Rattle.codes.specs.Gives.{Gives}
-use Rattle.codes.proofs.Told.{told}
-use Rattle.from_cores.proofs.Gathered.{gathers}
-use Rattle.from_cores.proofs.Asking.{check-promised}
-use Rattle.ampferweg.specs.Times.{TimePromise}
-use Rattle.results.proofs.outstanding_count as count-of
-use Rattle.results.proofs.outstanding_count.Symbol as count-of-def
-use Rattle.results.proofs.outstanding_count.Met as count-of-thm
-use Rattle.gathering.proofs.gather as gather
-use Rattle.gathering.proofs.gather.Symbol as gather-def
-use Rattle.gathering.proofs.gather.Met as gather-thm
-use Rattle.records.proofs.table_len as table-len
-use Rattle.records.proofs.table_len.Symbol as table-len-def
-use Rattle.records.proofs.table_len.Met as table-len-thm
-use Rattle.check_core.proofs.check as core
-use Rattle.check_core.proofs.check.Symbol as core-def
-use Rattle.check_core.proofs.check.Met as core-thm
-use Rattle.codes.proofs.tell_time as code-of
-use Rattle.codes.proofs.tell_time.Symbol as code-of-def
-use Rattle.codes.proofs.tell_time.Met as code-of-thm
+use Rattle.asks.specs.Times.{TimePromise}
+use Rattle.asks.proofs.check as call
+use Rattle.asks.proofs.check.Symbol as call-def
+use Rattle.asks.proofs.check.Met as call-thm
 use Rattle.ampferweg.proofs.ampferweg_check.Key.{name as #f}
 use Rattle.ampferweg.proofs.ampferweg_check as f
 use Rattle.ampferweg.proofs.ampferweg_check.Statement as stated
@@ -236,18 +200,20 @@ stayed = (
 module _ {M : Type 1} (𝓤 : URA M) (H : Heap 𝓤) (A : Atoms 𝓤) (W : Given 𝓤 H A) (at-mem : Memory → SProp 𝓤) (run : Routine → Fun 𝓤) where
   -- what is known of the callees
   abbrev Known : Calls 𝓤 H → Type 1
-  Known C = Triple 𝓤 (C count-of-def.name) (tripleOf 𝓤 H A count-of.signature (count-of.spec 𝓤 H A at-mem run))
-      × Triple 𝓤 (C gather-def.name) (tripleOf 𝓤 H A gather.signature (gather.spec 𝓤 H A at-mem run))
-      × Triple 𝓤 (C table-len-def.name) (tripleOf 𝓤 H A table-len.signature (table-len.spec 𝓤 H A at-mem run))
-      × Triple 𝓤 (C core-def.name) (tripleOf 𝓤 H A core.signature (core.spec 𝓤 H A at-mem run))
-      × Triple 𝓤 (C code-of-def.name) (tripleOf 𝓤 H A code-of.signature (code-of.spec 𝓤 H A at-mem run))
+  Known C = Triple 𝓤 (C call-def.name) (tripleOf 𝓤 H A call.signature (call.spec 𝓤 H A at-mem run))
 
-  module _ (κ₀ κ₁ κ₂ κ₃ κ₄ κ₅ : Lft) (q₀ q₁ q₂ q₃ q₄ q₅ : Share) (b o : ℕ) (γ : GName) (h : Link) (x₁ : RefT (List ℕ))
+  module _ (κ₀ κ₁ κ₂ κ₃ κ₄ κ₅ : Lft) (q₀ q₁ q₂ q₃ q₄ q₅ : Share) (x₀ : RefT Link) (x₁ : RefT (List ℕ))
       (room₁ : Room u8 (length (x₁ .now))) (x₂ : RefT (List ℕ)) (room₂ : Room u8 (length (x₂ .now))) (x₃ : RefT (List Record))
       (room₃ : Room R (length (x₃ .now))) (x₄ : RefT (List ℕ)) (room₄ : Room u32 (length (x₄ .now))) (x₅ : ℕ) (v₅ : Val)
       (g₅ : Is u32 x₅ (v₅ ∷ [])) (x₆ : RefT ℕ) where
     abbrev x : RefT Link × (RefT (List ℕ) × (RefT (List ℕ) × (RefT (List Record) × (RefT (List ℕ) × (ℕ × (RefT ℕ × Unit {0}))))))
-    x = (ref-at b o γ h, (x₁, (x₂, (x₃, (x₄, (x₅, (x₆, tt)))))))
+    x = (x₀, (x₁, (x₂, (x₃, (x₄, (x₅, (x₆, tt)))))))
+
+    abbrev s₀ : Val
+    s₀ = vptr (x₀ .ptr .0) (x₀ .ptr .1)
+
+    abbrev Own₀ : Fml
+    Own₀ = ShrRef (named 0) κ₀ L .own x₀ (s₀ ∷ [])
 
     abbrev s₁ : Val
     s₁ = sliceVal (x₁ .ptr) (length (x₁ .now))
@@ -280,208 +246,45 @@ module _ {M : Type 1} (𝓤 : URA M) (H : Heap 𝓤) (A : Atoms 𝓤) (W : Given
     Own₆ = MutRef (named 0) κ₅ u32 .own x₆ (s₆ ∷ [])
 
     abbrev at : Vals f.signature (κ₀, (κ₁, (κ₂, (κ₃, (κ₄, (κ₅, tt))))))
-    at = (vptr b o ∷ [], (s₁ ∷ [], (s₂ ∷ [], (s₃ ∷ [], (s₄ ∷ [], (v₅ ∷ [], (s₆ ∷ [], tt)))))))
+    at = (s₀ ∷ [], (s₁ ∷ [], (s₂ ∷ [], (s₃ ∷ [], (s₄ ∷ [], (v₅ ∷ [], (s₆ ∷ [], tt)))))))
 
     unfoldable Post : Val → SProp 𝓤
     Post = walkOf 𝓤 H A f.ended stayed (f.clauses 𝓤 H A at-mem run) .post
         (((κ₀, (κ₁, (κ₂, (κ₃, (κ₄, (κ₅, tt)))))), (q₀, (q₁, (q₂, (q₃, (q₄, (q₅, tt)))))), tt, x, at), tt)
 
-    -- what gather is called at, and that what it asks is had
-    abbrev to-gather : (y₀ : (List ℕ)) (u₀ : Val) (y₁ : ℕ) (u₁ : Val)
-        → tripleOf 𝓤 H A gather.signature (gather.spec 𝓤 H A at-mem run) .Ghost
-    to-gather y₀ u₀ y₁ u₁ = (((κ₃, tt), (q₃, tt), tt, (x₃, (y₀, (y₁, tt))), (s₃ ∷ [], (u₀ ∷ [], (u₁ ∷ [], tt)))), tt)
+    -- what call is called at, and that what it asks is had
+    abbrev to-call : (y₀ : ℕ) (u₀ : Val) → tripleOf 𝓤 H A call.signature (call.spec 𝓤 H A at-mem run) .Ghost
+    to-call y₀ u₀ = (
+      (
+        (κ₀, (κ₁, (κ₂, (κ₃, (κ₄, (κ₅, tt)))))),
+        (q₀, (q₁, (q₂, (q₃, (q₄, (q₅, tt)))))),
+        tt,
+        (x₀, (x₁, (x₂, (x₃, (x₄, (y₀, (x₆, tt))))))),
+        (s₀ ∷ [], (s₁ ∷ [], (s₂ ∷ [], (s₃ ∷ [], (s₄ ∷ [], (u₀ ∷ [], (s₆ ∷ [], tt))))))),
+      ),
+      tt,
+    )
 
-    asks-gather : (y₀ : (List ℕ)) (u₀ : Val) → Is (Array u32 32) y₀ (u₀ ∷ []) → (y₁ : ℕ) (u₁ : Val) → Is usize y₁ (u₁ ∷ [])
-        → ent 𝓤 (⋆ 𝓤 H A (‵ (flft κ₃ q₃) ∷ ‵ Own₃ ∷ []))
-        (tripleOf 𝓤 H A gather.signature (gather.spec 𝓤 H A at-mem run) .pre (to-gather y₀ u₀ y₁ u₁))
-    asks-gather y₀ u₀ is₀ y₁ u₁ is₁ =
-        qed W (‵ (flft κ₃ q₃) ∷ ‵ Own₃ ∷ []) ∵ nothing ! $ move ! (1 ∷ 0 ∷ []) $ join ! $ nothing ! $
-        owned ! usize (Is usize) (uint-makes 𝓤 H A W w64) y₁ _ is₁ $ fjoin ! $
-        owned ! (Array u32 32) (Is (Array u32 32)) (array-makes 𝓤 H A W u32 (uint-makes 𝓤 H A W w32) 32) y₀ _ is₀ $ fjoin ! $
-        move ! (2 ∷ 0 ∷ []) $ fjoin ! $ move ! (1 ∷ 0 ∷ []) $ join ! $ nothing ! $ move ! (1 ∷ 0 ∷ []) $ done !
-
-    -- what table-len is called at, and that what it asks is had
-    abbrev to-table-len : tripleOf 𝓤 H A table-len.signature (table-len.spec 𝓤 H A at-mem run) .Ghost
-    to-table-len = (((κ₃, tt), (q₃, tt), tt, (x₃, tt), (s₃ ∷ [], tt)), tt)
-
-    asks-table-len : ent 𝓤 (⋆ 𝓤 H A (‵ (flft κ₃ q₃) ∷ ‵ Own₃ ∷ []))
-        (tripleOf 𝓤 H A table-len.signature (table-len.spec 𝓤 H A at-mem run) .pre (to-table-len))
-    asks-table-len =
-        qed W (‵ (flft κ₃ q₃) ∷ ‵ Own₃ ∷ []) ∵ nothing ! $ move ! (1 ∷ 0 ∷ []) $ join ! $ nothing ! $ move ! (2 ∷ 0 ∷ []) $ fjoin ! $
-        move ! (1 ∷ 0 ∷ []) $ join ! $ nothing ! $ move ! (1 ∷ 0 ∷ []) $ done !
-
-    -- what core is called at, and that what it asks is had
-    abbrev to-core : (α-queued : ℕ) (δ-queued : GName) (f-queued : (List ℕ)) (α-outstanding : ℕ) (δ-outstanding : GName)
-        (f-outstanding : (List ℕ)) (α-transmissions : ℕ) (δ-transmissions : GName) (f-transmissions : (List ℕ)) (α-ready : ℕ)
-        (δ-ready : GName) (f-ready : (List ℕ)) (α-waiting : ℕ) (δ-waiting : GName) (f-waiting : (List ℕ)) (α-waiting-numbers : ℕ)
-        (δ-waiting-numbers : GName) (f-waiting-numbers : (List ℕ)) (y₀ : Settings) (u₀ : Val) (y₁ : Flight) (u₁ : Val) (y₂ : Arrival)
-        (u₂ : Val) (y₃ : Clock) (u₃ : Val) (y₄ : (List Record)) (u₄ : Val) (y₅ : ℕ) (u₅ : Val) (y₆ : ℕ) (u₆ : Val)
-        → tripleOf 𝓤 H A core.signature (core.spec 𝓤 H A at-mem run) .Ghost
-    to-core α-queued δ-queued f-queued α-outstanding δ-outstanding f-outstanding α-transmissions δ-transmissions f-transmissions α-ready
-        δ-ready f-ready α-waiting δ-waiting f-waiting α-waiting-numbers δ-waiting-numbers f-waiting-numbers y₀ u₀ y₁ u₁ y₂ u₂ y₃ u₃ y₄
-        u₄ y₅
-        u₅ y₆ u₆ = (
-          (
-            (
-              (α-queued ∷ []),
-              (
-                (α-outstanding ∷ []),
-                ((α-transmissions ∷ []), ((α-ready ∷ []), ((α-waiting ∷ []), ((α-waiting-numbers ∷ []), (κ₁, (κ₂, (κ₄, tt))))))),
-              ),
-            ),
-            (fullShare, (fullShare, (fullShare, (fullShare, (fullShare, (fullShare, (q₁, (q₂, (q₄, tt))))))))),
-            tt,
-            (
-              y₀,
-              (
-                y₁,
-                (
-                  y₂,
-                  (
-                    y₃,
-                    (
-                      y₄,
-                      (
-                        y₅,
-                        (
-                          (ref-at b (o + 124) δ-queued f-queued),
-                          (
-                            (ref-at b (o + 636) δ-outstanding f-outstanding),
-                            (
-                              (ref-at b (o + 764) δ-transmissions f-transmissions),
-                              (
-                                (ref-at b (o + 796) δ-ready f-ready),
-                                (
-                                  (ref-at b (o + 1308) δ-waiting f-waiting),
-                                  ((ref-at b (o + 1820) δ-waiting-numbers f-waiting-numbers), (x₁, (x₂, (x₄, (y₆, tt))))),
-                                ),
-                              ),
-                            ),
-                          ),
-                        ),
-                      ),
-                    ),
-                  ),
-                ),
-              ),
-            ),
-            (
-              u₀ ∷ [],
-              (
-                u₁ ∷ [],
-                (
-                  u₂ ∷ [],
-                  (
-                    u₃ ∷ [],
-                    (
-                      u₄ ∷ [],
-                      (
-                        u₅ ∷ [],
-                        (
-                          (vptr b (o + 124)) ∷ [],
-                          (
-                            (vptr b (o + 636)) ∷ [],
-                            (
-                              (vptr b (o + 764)) ∷ [],
-                              (
-                                (vptr b (o + 796)) ∷ [],
-                                (
-                                  (vptr b (o + 1308)) ∷ [],
-                                  ((vptr b (o + 1820)) ∷ [], (s₁ ∷ [], (s₂ ∷ [], (s₄ ∷ [], (u₆ ∷ [], tt))))),
-                                ),
-                              ),
-                            ),
-                          ),
-                        ),
-                      ),
-                    ),
-                  ),
-                ),
-              ),
-            ),
-          ),
-          tt,
-        )
-
-    asks-core : (α-queued : ℕ) (δ-queued : GName) (f-queued : (List ℕ)) (α-outstanding : ℕ) (δ-outstanding : GName)
-        (f-outstanding : (List ℕ)) (α-transmissions : ℕ) (δ-transmissions : GName) (f-transmissions : (List ℕ)) (α-ready : ℕ)
-        (δ-ready : GName) (f-ready : (List ℕ)) (α-waiting : ℕ) (δ-waiting : GName) (f-waiting : (List ℕ)) (α-waiting-numbers : ℕ)
-        (δ-waiting-numbers : GName) (f-waiting-numbers : (List ℕ)) → (y₀ : Settings) (u₀ : Val) → Is settings-row.the-row y₀ (u₀ ∷ [])
-        → (y₁ : Flight) (u₁ : Val) → Is flight-row.the-row y₁ (u₁ ∷ []) → (y₂ : Arrival) (u₂ : Val)
-        → Is arrival-row.the-row y₂ (u₂ ∷ [])
-        → (y₃ : Clock) (u₃ : Val) → Is clock-row.the-row y₃ (u₃ ∷ []) → (y₄ : (List Record)) (u₄ : Val) → Is Rs y₄ (u₄ ∷ [])
-        → (y₅ : ℕ) (u₅ : Val) → Is usize y₅ (u₅ ∷ []) → (y₆ : ℕ) (u₆ : Val) → Is u32 y₆ (u₆ ∷ [])
-        → (Whole (arrays f-queued f-outstanding f-transmissions f-ready f-waiting f-waiting-numbers))
-        → ent 𝓤 (⋆ 𝓤 H A (‵ (flft (α-queued ∷ []) fullShare)
-        ∷ ‵ (ShrRef (named 0) (α-queued ∷ []) (Array u32 128) .own (ref-at b (o + 124) δ-queued f-queued) ((vptr b (o + 124)) ∷ []))
-        ∷ ‵ (flft (α-outstanding ∷ []) fullShare)
-        ∷ ‵ (ShrRef (named 0) (α-outstanding ∷ []) (Array u32 32) .own (ref-at b (o + 636) δ-outstanding f-outstanding)
-        ((vptr b (o + 636)) ∷ [])) ∷ ‵ (flft (α-transmissions ∷ []) fullShare)
-        ∷ ‵ (ShrRef (named 0) (α-transmissions ∷ []) (Array u8 32) .own (ref-at b (o + 764) δ-transmissions f-transmissions)
-        ((vptr b (o + 764)) ∷ [])) ∷ ‵ (flft (α-ready ∷ []) fullShare)
-        ∷ ‵ (ShrRef (named 0) (α-ready ∷ []) (Array u32 128) .own (ref-at b (o + 796) δ-ready f-ready) ((vptr b (o + 796)) ∷ []))
-        ∷ ‵ (flft (α-waiting ∷ []) fullShare)
-        ∷ ‵ (ShrRef (named 0) (α-waiting ∷ []) (Array u32 128) .own (ref-at b (o + 1308) δ-waiting f-waiting) ((vptr b (o + 1308)) ∷ []))
-        ∷ ‵ (flft (α-waiting-numbers ∷ []) fullShare)
-        ∷ ‵ (ShrRef (named 0) (α-waiting-numbers ∷ []) (Array u32 128) .own (ref-at b (o + 1820) δ-waiting-numbers f-waiting-numbers)
-        ((vptr b (o + 1820)) ∷ [])) ∷ ‵ (flft κ₁ q₁) ∷ ‵ Own₁ ∷ ‵ (flft κ₂ q₂) ∷ ‵ Own₂ ∷ ‵ (flft κ₄ q₄) ∷ ‵ Own₄
-        ∷ []))
-        (tripleOf 𝓤 H A core.signature (core.spec 𝓤 H A at-mem run) .pre
-        (to-core α-queued δ-queued f-queued α-outstanding δ-outstanding f-outstanding α-transmissions δ-transmissions f-transmissions
-        α-ready δ-ready f-ready α-waiting δ-waiting f-waiting α-waiting-numbers δ-waiting-numbers f-waiting-numbers y₀ u₀ y₁ u₁ y₂ u₂ y₃
-        u₃
-        y₄ u₄ y₅ u₅ y₆ u₆))
-    asks-core α-queued δ-queued f-queued α-outstanding δ-outstanding f-outstanding α-transmissions δ-transmissions f-transmissions α-ready
-        δ-ready f-ready α-waiting δ-waiting f-waiting α-waiting-numbers δ-waiting-numbers f-waiting-numbers y₀ u₀ is₀ y₁ u₁ is₁ y₂ u₂ is₂
-        y₃
-        u₃ is₃ y₄ u₄ is₄ y₅ u₅ is₅ y₆ u₆ is₆ req =
-        qed W (‵ (flft (α-queued ∷ []) fullShare)
-        ∷ ‵ (ShrRef (named 0) (α-queued ∷ []) (Array u32 128) .own (ref-at b (o + 124) δ-queued f-queued) ((vptr b (o + 124)) ∷ []))
-        ∷ ‵ (flft (α-outstanding ∷ []) fullShare)
-        ∷ ‵ (ShrRef (named 0) (α-outstanding ∷ []) (Array u32 32) .own (ref-at b (o + 636) δ-outstanding f-outstanding)
-        ((vptr b (o + 636)) ∷ [])) ∷ ‵ (flft (α-transmissions ∷ []) fullShare)
-        ∷ ‵ (ShrRef (named 0) (α-transmissions ∷ []) (Array u8 32) .own (ref-at b (o + 764) δ-transmissions f-transmissions)
-        ((vptr b (o + 764)) ∷ [])) ∷ ‵ (flft (α-ready ∷ []) fullShare)
-        ∷ ‵ (ShrRef (named 0) (α-ready ∷ []) (Array u32 128) .own (ref-at b (o + 796) δ-ready f-ready) ((vptr b (o + 796)) ∷ []))
-        ∷ ‵ (flft (α-waiting ∷ []) fullShare)
-        ∷ ‵ (ShrRef (named 0) (α-waiting ∷ []) (Array u32 128) .own (ref-at b (o + 1308) δ-waiting f-waiting)
-        ((vptr b (o + 1308)) ∷ [])) ∷ ‵ (flft (α-waiting-numbers ∷ []) fullShare)
-        ∷ ‵ (ShrRef (named 0) (α-waiting-numbers ∷ []) (Array u32 128) .own (ref-at b (o + 1820) δ-waiting-numbers f-waiting-numbers)
-        ((vptr b (o + 1820)) ∷ [])) ∷ ‵ (flft κ₁ q₁) ∷ ‵ Own₁ ∷ ‵ (flft κ₂ q₂) ∷ ‵ Own₂ ∷ ‵ (flft κ₄ q₄) ∷ ‵ Own₄
-        ∷ []) ∵ says ! req $
-        nothing ! $ move ! (17 ∷ 0 ∷ []) $ join ! $ move ! (15 ∷ 0 ∷ []) $ join ! $ move ! (13 ∷ 0 ∷ []) $ join ! $
-        move ! (11 ∷ 0 ∷ []) $ join ! $ move ! (9 ∷ 0 ∷ []) $ join ! $ move ! (7 ∷ 0 ∷ []) $ join ! $ move ! (5 ∷ 0 ∷ []) $ join ! $
-        move ! (3 ∷ 0 ∷ []) $ join ! $ move ! (1 ∷ 0 ∷ []) $ join ! $ nothing ! $
-        owned ! u32 (Is u32) (uint-makes 𝓤 H A W w32) y₆ _ is₆ $ fjoin ! $ move ! (10 ∷ 0 ∷ []) $ fjoin ! $ move ! (9 ∷ 0 ∷ []) $
-        fjoin ! $ move ! (8 ∷ 0 ∷ []) $ fjoin ! $ move ! (7 ∷ 0 ∷ []) $ fjoin ! $ move ! (6 ∷ 0 ∷ []) $ fjoin ! $ move ! (5 ∷ 0 ∷ []) $
-        fjoin ! $ move ! (4 ∷ 0 ∷ []) $ fjoin ! $ move ! (3 ∷ 0 ∷ []) $ fjoin ! $ move ! (2 ∷ 0 ∷ []) $ fjoin ! $
-        owned ! usize (Is usize) (uint-makes 𝓤 H A W w64) y₅ _ is₅ $ fjoin ! $ owned ! Rs (Is Rs) (rs-makes 𝓤 H A W) y₄ _ is₄ $
-        fjoin ! $ owned ! clock-row.the-row (Is clock-row.the-row) (LL.makes clock-row.the-type clock-laws.the-plain 𝓤 H A) y₃ _ is₃ $
-        fjoin ! $ owned ! arrival-row.the-row (Is arrival-row.the-row) (LL.makes arrival-row.the-type arrival-laws.the-plain 𝓤 H A) y₂ _
-        is₂ $ fjoin ! $ owned ! flight-row.the-row (Is flight-row.the-row) (LL.makes flight-row.the-type flight-laws.the-plain 𝓤 H A) y₁
-        _ is₁ $ fjoin ! $ owned ! settings-row.the-row (Is settings-row.the-row)
-        (LL.makes settings-row.the-type settings-laws.the-plain 𝓤 H A) y₀ _ is₀ $ fjoin ! $ move ! (1 ∷ 0 ∷ []) $ done !
-
-    -- what code-of is called at, and that what it asks is had
-    abbrev to-code-of : (y₀ : Time) (u₀ : Val) → tripleOf 𝓤 H A code-of.signature (code-of.spec 𝓤 H A at-mem run) .Ghost
-    to-code-of y₀ u₀ = (((κ₅, tt), (q₅, tt), tt, (y₀, (x₆, tt)), (u₀ ∷ [], (s₆ ∷ [], tt))), tt)
-
-    asks-code-of : (y₀ : Time) (u₀ : Val) → Is time-row.the-row y₀ (u₀ ∷ [])
-        → ent 𝓤 (⋆ 𝓤 H A (‵ (flft κ₅ q₅) ∷ ‵ Own₆ ∷ []))
-        (tripleOf 𝓤 H A code-of.signature (code-of.spec 𝓤 H A at-mem run) .pre (to-code-of y₀ u₀))
-    asks-code-of y₀ u₀ is₀ =
-        qed W (‵ (flft κ₅ q₅) ∷ ‵ Own₆ ∷ []) ∵ nothing ! $ move ! (1 ∷ 0 ∷ []) $ join ! $ nothing ! $ move ! (2 ∷ 0 ∷ []) $ fjoin ! $
-        owned ! time-row.the-row (Is time-row.the-row) (EL.makes time-row.the-type time-laws.the-plain 𝓤 H A) y₀ _ is₀ $ fjoin ! $
-        move ! (1 ∷ 0 ∷ []) $ join ! $ nothing ! $ move ! (1 ∷ 0 ∷ []) $ done !
+    asks-call : (y₀ : ℕ) (u₀ : Val) → Is u32 y₀ (u₀ ∷ [])
+        → ent 𝓤 (⋆ 𝓤 H A (‵ (flft κ₀ q₀) ∷ ‵ Own₀ ∷ ‵ (flft κ₁ q₁) ∷ ‵ Own₁ ∷ ‵ (flft κ₂ q₂) ∷ ‵ Own₂
+        ∷ ‵ (flft κ₃ q₃) ∷ ‵ Own₃ ∷ ‵ (flft κ₄ q₄) ∷ ‵ Own₄ ∷ ‵ (flft κ₅ q₅) ∷ ‵ Own₆ ∷ []))
+        (tripleOf 𝓤 H A call.signature (call.spec 𝓤 H A at-mem run) .pre (to-call y₀ u₀))
+    asks-call y₀ u₀ is₀ =
+        qed W (‵ (flft κ₀ q₀) ∷ ‵ Own₀ ∷ ‵ (flft κ₁ q₁) ∷ ‵ Own₁ ∷ ‵ (flft κ₂ q₂) ∷ ‵ Own₂ ∷ ‵ (flft κ₃ q₃)
+        ∷ ‵ Own₃ ∷ ‵ (flft κ₄ q₄) ∷ ‵ Own₄ ∷ ‵ (flft κ₅ q₅) ∷ ‵ Own₆ ∷ []) ∵ nothing ! $ move ! (11 ∷ 0 ∷ []) $
+        join ! $ move ! (9 ∷ 0 ∷ []) $ join ! $ move ! (7 ∷ 0 ∷ []) $ join ! $ move ! (5 ∷ 0 ∷ []) $ join ! $ move ! (3 ∷ 0 ∷ []) $
+        join ! $ move ! (1 ∷ 0 ∷ []) $ join ! $ nothing ! $ move ! (7 ∷ 0 ∷ []) $ fjoin ! $
+        owned ! u32 (Is u32) (uint-makes 𝓤 H A W w32) y₀ _ is₀ $ fjoin ! $ move ! (6 ∷ 0 ∷ []) $ fjoin ! $ move ! (5 ∷ 0 ∷ []) $
+        fjoin ! $ move ! (4 ∷ 0 ∷ []) $ fjoin ! $ move ! (3 ∷ 0 ∷ []) $ fjoin ! $ move ! (2 ∷ 0 ∷ []) $ fjoin ! $ move ! (1 ∷ 0 ∷ []) $
+        join ! $ nothing ! $ move ! (1 ∷ 0 ∷ []) $ done !
 
     abbrev Had : (z₆ : ℕ) → List (Item 𝓤)
     Had z₆ = ‵ (flft κ₀ q₀) ∷ ‵ (flft κ₁ q₁) ∷ ‵ (flft κ₂ q₂) ∷ ‵ (flft κ₃ q₃) ∷ ‵ (flft κ₄ q₄)
-        ∷ ‵ (fres (x₆ .name) (u32 .coded .code z₆))
-        ∷ ‵ (flft κ₅ q₅) ∷ []
+        ∷ ‵ (fres (x₆ .name) (u32 .coded .code z₆)) ∷ ‵ (flft κ₅ q₅) ∷ []
 
     -- what the contract says
     abbrev Said : (r : ℤ) (z₆ : ℕ) → Type 0
-    Said r z₆ = Gives timeCode (λ a. TimePromise x₅ h (partsOf (x₁ .now) (x₂ .now) (x₃ .now) (x₄ .now)) a (x₆ .now) z₆) r
+    Said r z₆ = Gives timeCode (λ a. TimePromise x₅ (x₀ .now) (partsOf (x₁ .now) (x₂ .now) (x₃ .now) (x₄ .now)) a (x₆ .now) z₆) r
 
     exits : (r : ℤ) (w : Val) (z₆ : ℕ) → Said r z₆ → Is i32 r (w ∷ []) → ent 𝓤 (⋆ 𝓤 H A (Had z₆)) (Post w)
     unfolding Post
@@ -495,625 +298,62 @@ module _ {M : Type 1} (𝓤 : URA M) (H : Heap 𝓤) (A : Atoms 𝓤) (W : Given
         fjoin ! $ frame ! $ owned ! i32 (Is i32) (sint-makes 𝓤 H A W w32) r _ g $ done !
 
     module _ (C : Calls 𝓤 H) (Λ : Loops 𝓤 H) (fm : FmC 𝓤 H (W .laws) C) (known : Known C) where
-      -- where the locals lie
-      abbrev En : (l₀ l₁ l₂ l₃ l₄ l₅ l₆ l₇ l₈ l₉ l₁₀ l₁₁ l₁₂ l₁₃ l₁₄ l₁₅ l₁₆ l₁₇ l₁₈ l₁₉ l₂₀
-          l₂₁ l₂₂ l₂₃ : ℕ) → Env 𝓤 H
-      En l₀ l₁ l₂ l₃ l₄ l₅ l₆ l₇ l₈ l₉ l₁₀ l₁₁ l₁₂ l₁₃ l₁₄ l₁₅ l₁₆ l₁₇ l₁₈ l₁₉ l₂₀ l₂₁
-          l₂₂ l₂₃ =
-          envOf (code.function .locals) (l₀ ∷ l₁ ∷ l₂ ∷ l₃ ∷ l₄ ∷ l₅ ∷ l₆ ∷ l₇ ∷ l₈ ∷ l₉ ∷ l₁₀ ∷ l₁₁
-          ∷ l₁₂ ∷ l₁₃ ∷ l₁₄ ∷ l₁₅ ∷ l₁₆ ∷ l₁₇
-          ∷ l₁₈ ∷ l₁₉ ∷ l₂₀ ∷ l₂₁ ∷ l₂₂ ∷ l₂₃ ∷ [])
-
-      -- what part 2 knows
-      abbrev Known₂ : Type 0
-      Known₂ = (l₀ : ℕ) × (l₁ : ℕ) × (l₂ : ℕ) × (l₃ : ℕ) × (l₄ : ℕ) × (l₅ : ℕ) × (l₆ : ℕ) × (l₇ : ℕ) × (l₈ : ℕ) ×
-          (l₉ : ℕ) × (l₁₀ : ℕ) ×
-          (l₁₁ : ℕ) × (l₁₂ : ℕ) × (l₁₃ : ℕ) × (l₁₄ : ℕ) × (l₁₅ : ℕ) × (l₁₆ : ℕ) × (l₁₇ : ℕ) ×
-          (l₁₈ : ℕ) × (l₁₉ : ℕ) × (l₂₀ : ℕ) ×
-          (l₂₁ : ℕ) × (l₂₂ : ℕ) × (l₂₃ : ℕ) × (q′ : Share) × (n : ℕ) × (w-n : Val) × (e-n : n ≡ h .flight .outstanding) ×
-          (recs : (List Record)) × (w-recs : Val) ×
-          (e-recs : recs ≡ padded (gathered (take sendSlots (x₃ .now)) (slotsIn (h .outstanding) n))) × (m : ℕ) × (w-m : Val) ×
-          (e-m : m ≡ length (x₃ .now)) × (a : Time) × (w-a : Val) ×
-          (e-a : timeOutcome a ≡ checksWith h recs (x₄ .now) (lentLengths m (x₁ .now) (x₂ .now) (x₄ .now)) x₅) ×
-          (Is time-row.the-row a (w-a ∷ []))
-
-      part₂ : (past : Known₂) → ent 𝓤 (⋆ 𝓤 H A (‵ (partAt (Array u32 128) (past .24) (h .«waiting_numbers») b (o + 1820))
-          ∷ ‵ (partAt (Array u32 128) (past .24) (h .waiting) b (o + 1308)) ∷ ‵ (partAt (Array u32 128) (past .24) (h .ready) b (o + 796))
-          ∷ ‵ (partAt (Array u8 32) (past .24) (h .transmissions) b (o + 764))
-          ∷ ‵ (partAt (Array u32 32) (past .24) (h .outstanding) b (o + 636))
-          ∷ ‵ (partAt (Array u32 128) (past .24) (h .queued) b (o + 124)) ∷ ‵ (flft κ₁ q₁) ∷ ‵ (flft κ₂ q₂) ∷ ‵ (flft κ₄ q₄)
-          ∷ ‵ (flft κ₃ q₃) ∷ ‵ (partAt clock-row.the-row (past .24) (h .clock) b (o + 104))
-          ∷ ‵ (partAt arrival-row.the-row (past .24) (h .arrival) b (o + 72))
-          ∷ ‵ (partAt flight-row.the-row (past .24) (h .flight) b (o + 16))
-          ∷ ‵ (partAt settings-row.the-row (past .24) (h .settings) b (o + 0)) ∷ raw (Back 𝓤 H A (past .24) b o)
-          ∷ ‵ (fobor κ₀ q₀ (partAt L (past .24) h b o))
-          ∷ (‵ (fdies (tyInt w32) (past .0)) ⊛ ‵ (fdies (tyRef (named 0) imm (pointee (L .written))) (past .1)) ⊛ ‵
-          (fdies (sliceTy (tyRef (named 1) imm (tyInt w8))) (past .2)) ⊛ ‵ (fdies (sliceTy (tyRef (named 2) imm (tyInt w8))) (past .3)) ⊛ ‵
-          (fdies (sliceTy (tyRef (named 3) imm (pointee (R .written)))) (past .4)) ⊛ ‵
-          (fdies (sliceTy (tyRef (named 4) imm (tyInt w32))) (past .5)) ⊛ ‵ (fdies (tyInt w32) (past .6)) ⊛ ‵
-          (fdies (tyRef (named 5) mut (tyInt w32)) (past .7)) ⊛ ‵ (fdies settings-laws.mir (past .8)) ⊛ ‵ (fdies flight-laws.mir (past .9))
-          ⊛ ‵ (fdies arrival-laws.mir (past .10)) ⊛ ‵ (fdies clock-laws.mir (past .11)) ⊛ ‵ (fdies (tyArray (tyInt w32) 32) (past .12)) ⊛ ‵
-          (fdies (tyInt w64) (past .13)) ⊛ ‵ (fdies (tyArray record-laws.mir 32) (past .14)) ⊛ ‵ (fdies (tyInt w64) (past .15)) ⊛ ‵
-          (fdies time-laws.mir (past .16)) ⊛ ‵ (fdies (tyRef erased imm (tyArray (tyInt w32) 128)) (past .17)) ⊛ ‵
-          (fdies (tyRef erased imm (tyArray (tyInt w32) 32)) (past .18)) ⊛ ‵ (fdies (tyRef erased imm (tyArray (tyInt w8) 32)) (past .19)) ⊛
-          ‵ (fdies (tyRef erased imm (tyArray (tyInt w32) 128)) (past .20)) ⊛ ‵
-          (fdies (tyRef erased imm (tyArray (tyInt w32) 128)) (past .21)) ⊛ ‵
-          (fdies (tyRef erased imm (tyArray (tyInt w32) 128)) (past .22)) ⊛ ‵ (fdies (tyRef erased mut (tyInt w32)) (past .23)))
-          ∷ ‵ (flft κ₅ q₅) ∷ ‵ Own₆ ∷ ‵ (froom (tyRef erased mut (tyInt w32)) (past .23) 0)
-          ∷ ‵ (fat fullShare (tyRef erased imm (tyArray (tyInt w32) 128)) (past .22) 0 ((vptr b (o + 1820))))
-          ∷ ‵ (fat fullShare (tyRef erased imm (tyArray (tyInt w32) 128)) (past .21) 0 ((vptr b (o + 1308))))
-          ∷ ‵ (fat fullShare (tyRef erased imm (tyArray (tyInt w32) 128)) (past .20) 0 ((vptr b (o + 796))))
-          ∷ ‵ (fat fullShare (tyRef erased imm (tyArray (tyInt w8) 32)) (past .19) 0 ((vptr b (o + 764))))
-          ∷ ‵ (fat fullShare (tyRef erased imm (tyArray (tyInt w32) 32)) (past .18) 0 ((vptr b (o + 636))))
-          ∷ ‵ (fat fullShare (tyRef erased imm (tyArray (tyInt w32) 128)) (past .17) 0 ((vptr b (o + 124))))
-          ∷ ‵ (fat fullShare time-laws.mir (past .16) 0 ((past .35))) ∷ ‵ (fat fullShare (tyInt w64) (past .15) 0 ((past .32)))
-          ∷ ‵ (fat fullShare (tyArray record-laws.mir 32) (past .14) 0 ((past .29)))
-          ∷ ‵ (fat fullShare (tyInt w64) (past .13) 0 ((past .26)))
-          ∷ ‵ (fat fullShare (tyArray (tyInt w32) 32) (past .12) 0 ((only ((array-vals (uint-vals w32)) (h .outstanding)))))
-          ∷ ‵ (fat fullShare clock-laws.mir (past .11) 0 ((only ((LL.vals clock-row.the-type clock-laws.the-laws) (h .clock)))))
-          ∷ ‵ (fat fullShare arrival-laws.mir (past .10) 0 ((only ((LL.vals arrival-row.the-type arrival-laws.the-laws) (h .arrival)))))
-          ∷ ‵ (fat fullShare flight-laws.mir (past .9) 0 ((only ((LL.vals flight-row.the-type flight-laws.the-laws) (h .flight)))))
-          ∷ ‵ (fat fullShare settings-laws.mir (past .8) 0 ((only ((LL.vals settings-row.the-type settings-laws.the-laws) (h .settings)))))
-          ∷ ‵ (fat fullShare (tyRef (named 5) mut (tyInt w32)) (past .7) 0 (s₆)) ∷ ‵ (fat fullShare (tyInt w32) (past .6) 0 (v₅))
-          ∷ ‵ (fat fullShare (sliceTy (tyRef (named 4) imm (tyInt w32))) (past .5) 0 (s₄))
-          ∷ ‵ (fat fullShare (sliceTy (tyRef (named 3) imm (pointee (R .written)))) (past .4) 0 (s₃))
-          ∷ ‵ (fat fullShare (sliceTy (tyRef (named 2) imm (tyInt w8))) (past .3) 0 (s₂))
-          ∷ ‵ (fat fullShare (sliceTy (tyRef (named 1) imm (tyInt w8))) (past .2) 0 (s₁))
-          ∷ ‵ (fat fullShare (tyRef (named 0) imm (pointee (L .written))) (past .1) 0 (vptr b o)) ∷ ‵ (froom (tyInt w32) (past .0) 0) ∷ []))
-          (Wp 𝓤 H C Λ (En (past .0) (past .1) (past .2) (past .3) (past .4) (past .5) (past .6) (past .7) (past .8) (past .9) (past .10)
-          (past .11) (past .12) (past .13) (past .14) (past .15) (past .16) (past .17) (past .18) (past .19) (past .20) (past .21)
-          (past .22) (past .23)) (behind 15 (code.function .body))
-          (atReturn 𝓤 H (En (past .0) (past .1) (past .2) (past .3) (past .4) (past .5) (past .6) (past .7) (past .8) (past .9) (past .10)
-          (past .11) (past .12) (past .13) (past .14) (past .15) (past .16) (past .17) (past .18) (past .19) (past .20) (past .21)
-          (past .22) (past .23)) Post))
-      part₂ past =
-          qed W (‵ (partAt (Array u32 128) (past .24) (h .«waiting_numbers») b (o + 1820))
-          ∷ ‵ (partAt (Array u32 128) (past .24) (h .waiting) b (o + 1308))
-          ∷ ‵ (partAt (Array u32 128) (past .24) (h .ready) b (o + 796))
-          ∷ ‵ (partAt (Array u8 32) (past .24) (h .transmissions) b (o + 764))
-          ∷ ‵ (partAt (Array u32 32) (past .24) (h .outstanding) b (o + 636))
-          ∷ ‵ (partAt (Array u32 128) (past .24) (h .queued) b (o + 124)) ∷ ‵ (flft κ₁ q₁) ∷ ‵ (flft κ₂ q₂) ∷ ‵ (flft κ₄ q₄)
-          ∷ ‵ (flft κ₃ q₃) ∷ ‵ (partAt clock-row.the-row (past .24) (h .clock) b (o + 104))
-          ∷ ‵ (partAt arrival-row.the-row (past .24) (h .arrival) b (o + 72))
-          ∷ ‵ (partAt flight-row.the-row (past .24) (h .flight) b (o + 16))
-          ∷ ‵ (partAt settings-row.the-row (past .24) (h .settings) b (o + 0)) ∷ raw (Back 𝓤 H A (past .24) b o)
-          ∷ ‵ (fobor κ₀ q₀ (partAt L (past .24) h b o))
-          ∷ (‵ (fdies (tyInt w32) (past .0)) ⊛ ‵ (fdies (tyRef (named 0) imm (pointee (L .written))) (past .1)) ⊛ ‵
-          (fdies (sliceTy (tyRef (named 1) imm (tyInt w8))) (past .2)) ⊛ ‵ (fdies (sliceTy (tyRef (named 2) imm (tyInt w8))) (past .3))
-          ⊛ ‵ (fdies (sliceTy (tyRef (named 3) imm (pointee (R .written)))) (past .4)) ⊛ ‵
-          (fdies (sliceTy (tyRef (named 4) imm (tyInt w32))) (past .5)) ⊛ ‵ (fdies (tyInt w32) (past .6)) ⊛ ‵
-          (fdies (tyRef (named 5) mut (tyInt w32)) (past .7)) ⊛ ‵ (fdies settings-laws.mir (past .8)) ⊛ ‵
-          (fdies flight-laws.mir (past .9)) ⊛ ‵ (fdies arrival-laws.mir (past .10)) ⊛ ‵ (fdies clock-laws.mir (past .11)) ⊛ ‵
-          (fdies (tyArray (tyInt w32) 32) (past .12)) ⊛ ‵ (fdies (tyInt w64) (past .13)) ⊛ ‵
-          (fdies (tyArray record-laws.mir 32) (past .14)) ⊛ ‵ (fdies (tyInt w64) (past .15)) ⊛ ‵ (fdies time-laws.mir (past .16)) ⊛ ‵
-          (fdies (tyRef erased imm (tyArray (tyInt w32) 128)) (past .17)) ⊛ ‵
-          (fdies (tyRef erased imm (tyArray (tyInt w32) 32)) (past .18)) ⊛ ‵
-          (fdies (tyRef erased imm (tyArray (tyInt w8) 32)) (past .19)) ⊛ ‵
-          (fdies (tyRef erased imm (tyArray (tyInt w32) 128)) (past .20)) ⊛ ‵
-          (fdies (tyRef erased imm (tyArray (tyInt w32) 128)) (past .21)) ⊛ ‵
-          (fdies (tyRef erased imm (tyArray (tyInt w32) 128)) (past .22)) ⊛ ‵ (fdies (tyRef erased mut (tyInt w32)) (past .23)))
-          ∷ ‵ (flft κ₅ q₅) ∷ ‵ Own₆ ∷ ‵ (froom (tyRef erased mut (tyInt w32)) (past .23) 0)
-          ∷ ‵ (fat fullShare (tyRef erased imm (tyArray (tyInt w32) 128)) (past .22) 0 ((vptr b (o + 1820))))
-          ∷ ‵ (fat fullShare (tyRef erased imm (tyArray (tyInt w32) 128)) (past .21) 0 ((vptr b (o + 1308))))
-          ∷ ‵ (fat fullShare (tyRef erased imm (tyArray (tyInt w32) 128)) (past .20) 0 ((vptr b (o + 796))))
-          ∷ ‵ (fat fullShare (tyRef erased imm (tyArray (tyInt w8) 32)) (past .19) 0 ((vptr b (o + 764))))
-          ∷ ‵ (fat fullShare (tyRef erased imm (tyArray (tyInt w32) 32)) (past .18) 0 ((vptr b (o + 636))))
-          ∷ ‵ (fat fullShare (tyRef erased imm (tyArray (tyInt w32) 128)) (past .17) 0 ((vptr b (o + 124))))
-          ∷ ‵ (fat fullShare time-laws.mir (past .16) 0 ((past .35))) ∷ ‵ (fat fullShare (tyInt w64) (past .15) 0 ((past .32)))
-          ∷ ‵ (fat fullShare (tyArray record-laws.mir 32) (past .14) 0 ((past .29)))
-          ∷ ‵ (fat fullShare (tyInt w64) (past .13) 0 ((past .26)))
-          ∷ ‵ (fat fullShare (tyArray (tyInt w32) 32) (past .12) 0 ((only ((array-vals (uint-vals w32)) (h .outstanding)))))
-          ∷ ‵ (fat fullShare clock-laws.mir (past .11) 0 ((only ((LL.vals clock-row.the-type clock-laws.the-laws) (h .clock)))))
-          ∷ ‵ (fat fullShare arrival-laws.mir (past .10) 0 ((only ((LL.vals arrival-row.the-type arrival-laws.the-laws) (h .arrival)))))
-          ∷ ‵ (fat fullShare flight-laws.mir (past .9) 0 ((only ((LL.vals flight-row.the-type flight-laws.the-laws) (h .flight)))))
-          ∷ ‵ (fat fullShare settings-laws.mir (past .8) 0
-          ((only ((LL.vals settings-row.the-type settings-laws.the-laws) (h .settings)))))
-          ∷ ‵ (fat fullShare (tyRef (named 5) mut (tyInt w32)) (past .7) 0 (s₆)) ∷ ‵ (fat fullShare (tyInt w32) (past .6) 0 (v₅))
-          ∷ ‵ (fat fullShare (sliceTy (tyRef (named 4) imm (tyInt w32))) (past .5) 0 (s₄))
-          ∷ ‵ (fat fullShare (sliceTy (tyRef (named 3) imm (pointee (R .written)))) (past .4) 0 (s₃))
-          ∷ ‵ (fat fullShare (sliceTy (tyRef (named 2) imm (tyInt w8))) (past .3) 0 (s₂))
-          ∷ ‵ (fat fullShare (sliceTy (tyRef (named 1) imm (tyInt w8))) (past .2) 0 (s₁))
-          ∷ ‵ (fat fullShare (tyRef (named 0) imm (pointee (L .written))) (past .1) 0 (vptr b o)) ∷ ‵ (froom (tyInt w32) (past .0) 0)
-          ∷ []) ∵ exec ! C Λ (En (past .0) (past .1) (past .2) (past .3) (past .4) (past .5) (past .6) (past .7) (past .8) (past .9)
-          (past .10) (past .11) (past .12) (past .13) (past .14) (past .15) (past .16) (past .17) (past .18) (past .19) (past .20)
-          (past .21) (past .22) (past .23)) (behind 15 (code.function .body))
-          (atRet (En (past .0) (past .1) (past .2) (past .3) (past .4) (past .5) (past .6) (past .7) (past .8) (past .9) (past .10)
-          (past .11) (past .12) (past .13) (past .14) (past .15) (past .16) (past .17) (past .18) (past .19) (past .20) (past .21)
-          (past .22) (past .23)) Post) $
-          assigns ! {v = s₆} (addr ! (from ! (hop ! (look ! 35 refl) (stop !)))) (from ! (stop !)) (init ! 19 refl (tt, tt)) $
-          move ! (17 ∷ 18 ∷ []) $ join ! $
-          calls-fn ! fm code-of.ended (code-of.clauses 𝓤 H A at-mem run) (known .4) (to-code-of (past .34) (past .35))
-          (λ r ws-r. (r ≡ timeCode (past .34)) × ((ws-r .1 .0) ≡ timeStored (past .34) (x₆ .now))) (‵ (flft κ₅ q₅) ⊛ ‵ Own₆)
-          (asks-code-of (past .34) (past .35) (past .37)) (λ r ws-r. id⊢ 𝓤 _)
-          (and-then ! (load ! (from ! (stop !)) (look ! 25 refl)) (and-then ! (load ! (from ! (stop !)) (look ! 18 refl)) (no-more !)))
-          (λ r w-r ws-r e-r is-r. land ! (from ! (stop !)) (init ! 42 refl (sint-lawful 𝓤 H A W w32 .typed r _ is-r .0)) $
-          spread W (‵ (flft κ₅ q₅)) (‵ ftrue ∷ []) (id⊢ 𝓤 _) $ move ! (2 ∷ []) $
-          spread W (‵ ftrue) (‵ (fres (x₆ .name) (u32 .coded .code (ws-r .1 .0))) ∷ ‵ ftrue ∷ []) (id⊢ 𝓤 _) $
-          keep ! (1 ∷ 3 ∷ 5 ∷ 6 ∷ 7 ∷ 8 ∷ 9 ∷ 10 ∷ 11 ∷ 12 ∷ 13 ∷ 14 ∷ 15 ∷ 16 ∷ 17 ∷ 18 ∷ 19 ∷ 20 ∷ 21 ∷ 22 ∷ 23 ∷ 24
-          ∷ 25 ∷ 26 ∷ 27
-          ∷ 28 ∷ 29 ∷ 30 ∷ 31 ∷ 32 ∷ 33 ∷ 34 ∷ 35 ∷ 36 ∷ 37 ∷ 38 ∷ 39 ∷ 40 ∷ 41 ∷ 42 ∷ 43 ∷ 44 ∷ 45 ∷ []) $
-          -- [fin6; tok6; F:«waiting_numbers»; F:waiting; F:ready; F:transmissions; F:outstanding; F:queued; tok1; tok2; tok4; tok3;
-          -- F:clock; F:arrival; F:flight; F:settings; back; opened; deaths; the locals]
-          move ! (15 ∷ 14 ∷ 13 ∷ 12 ∷ 7 ∷ 6 ∷ 5 ∷ 4 ∷ 3 ∷ 2 ∷ 16 ∷ 17 ∷ []) $ shuts-link b o γ ! tt (past .24) h $
-          -- [tok0; fin6; tok6; tok1; tok2; tok4; tok3; deaths; the locals]
-          returns ! (look ! 31 refl) $
-          move ! (7 ∷ []) $ spread W (‵ (fdies (tyInt w32) (past .0)))
-          (‵ (fdies (tyRef (named 0) imm (pointee (L .written))) (past .1))
-          ∷ ‵ (fdies (sliceTy (tyRef (named 1) imm (tyInt w8))) (past .2))
-          ∷ ‵ (fdies (sliceTy (tyRef (named 2) imm (tyInt w8))) (past .3))
-          ∷ ‵ (fdies (sliceTy (tyRef (named 3) imm (pointee (R .written)))) (past .4))
-          ∷ ‵ (fdies (sliceTy (tyRef (named 4) imm (tyInt w32))) (past .5)) ∷ ‵ (fdies (tyInt w32) (past .6))
-          ∷ ‵ (fdies (tyRef (named 5) mut (tyInt w32)) (past .7)) ∷ ‵ (fdies settings-laws.mir (past .8))
-          ∷ ‵ (fdies flight-laws.mir (past .9)) ∷ ‵ (fdies arrival-laws.mir (past .10)) ∷ ‵ (fdies clock-laws.mir (past .11))
-          ∷ ‵ (fdies (tyArray (tyInt w32) 32) (past .12)) ∷ ‵ (fdies (tyInt w64) (past .13))
-          ∷ ‵ (fdies (tyArray record-laws.mir 32) (past .14)) ∷ ‵ (fdies (tyInt w64) (past .15)) ∷ ‵ (fdies time-laws.mir (past .16))
-          ∷ ‵ (fdies (tyRef erased imm (tyArray (tyInt w32) 128)) (past .17))
-          ∷ ‵ (fdies (tyRef erased imm (tyArray (tyInt w32) 32)) (past .18))
-          ∷ ‵ (fdies (tyRef erased imm (tyArray (tyInt w8) 32)) (past .19))
-          ∷ ‵ (fdies (tyRef erased imm (tyArray (tyInt w32) 128)) (past .20))
-          ∷ ‵ (fdies (tyRef erased imm (tyArray (tyInt w32) 128)) (past .21))
-          ∷ ‵ (fdies (tyRef erased imm (tyArray (tyInt w32) 128)) (past .22)) ∷ ‵ (fdies (tyRef erased mut (tyInt w32)) (past .23))
-          ∷ []) (id⊢ 𝓤 _) $ move ! (54 ∷ 0 ∷ 53 ∷ 1 ∷ 52 ∷ 2 ∷ 51 ∷ 3 ∷ 50 ∷ 4 ∷ 49 ∷ 5 ∷ 48 ∷ 6 ∷ 47 ∷ 7 ∷ 46 ∷ 8
-          ∷ 45 ∷ 9 ∷ 44 ∷ 10
-          ∷ 43 ∷ 11 ∷ 42 ∷ 12 ∷ 41 ∷ 13 ∷ 40 ∷ 14 ∷ 39 ∷ 15 ∷ 38 ∷ 16 ∷ 37 ∷ 17 ∷ 36 ∷ 18 ∷ 35 ∷ 19 ∷ 34 ∷ 20 ∷ 33
-          ∷ 21 ∷ 32 ∷ 22 ∷ 31
-          ∷ 23 ∷ []) $ forget ! 0 refl $ free1 ! $ forget ! 0 refl $ free1 ! $ forget ! 0 refl $ free1 ! $ forget ! 0 refl $ free1 ! $
-          forget ! 0 refl $ free1 ! $ forget ! 0 refl $ free1 ! $ forget ! 0 refl $ free1 ! $ forget ! 0 refl $ free1 ! $
-          forget ! 0 refl $ free1 ! $ forget ! 0 refl $ free1 ! $ forget ! 0 refl $ free1 ! $ forget ! 0 refl $ free1 ! $
-          forget ! 0 refl $ free1 ! $ forget ! 0 refl $ free1 ! $ forget ! 0 refl $ free1 ! $ forget ! 0 refl $ free1 ! $
-          forget ! 0 refl $ free1 ! $ forget ! 0 refl $ free1 ! $ forget ! 0 refl $ free1 ! $ forget ! 0 refl $ free1 ! $
-          forget ! 0 refl $ free1 ! $ forget ! 0 refl $ free1 ! $ forget ! 0 refl $ free1 ! $ forget ! 0 refl $ free1 ! $ free0 ! $
-          move ! (0 ∷ 3 ∷ 4 ∷ 6 ∷ 5 ∷ 1 ∷ 2 ∷ []) $
-          by ! (exits r w-r (ws-r .1 .0) (told timeCode _ (past .34) (e-r .0)
-          (record {
-            time = check-promised h (partsOf (x₁ .now) (x₂ .now) (x₃ .now) (x₄ .now)) (past .28) (past .31)
-                (gathers h (partsOf (x₁ .now) (x₂ .now) (x₃ .now) (x₄ .now)) (past .25) (past .28) (past .31) (past .27) (past .30)
-                (past .33)) x₅ (past .34) (past .36);
-            when = e-r .1;
-          })) is-r))
-
-      -- what part 1 knows
-      abbrev Known₁ : Type 0
-      Known₁ = (l₀ : ℕ) × (l₁ : ℕ) × (l₂ : ℕ) × (l₃ : ℕ) × (l₄ : ℕ) × (l₅ : ℕ) × (l₆ : ℕ) × (l₇ : ℕ) × (l₈ : ℕ) ×
-          (l₉ : ℕ) × (l₁₀ : ℕ) ×
-          (l₁₁ : ℕ) × (l₁₂ : ℕ) × (l₁₃ : ℕ) × (l₁₄ : ℕ) × (l₁₅ : ℕ) × (l₁₆ : ℕ) × (l₁₇ : ℕ) ×
-          (l₁₈ : ℕ) × (l₁₉ : ℕ) × (l₂₀ : ℕ) ×
-          (l₂₁ : ℕ) × (l₂₂ : ℕ) × (l₂₃ : ℕ) × (q′ : Share) × (len-queued : length (h .queued) ≡ 128) ×
-          (len-outstanding : length (h .outstanding) ≡ 32) × (len-transmissions : length (h .transmissions) ≡ 32) ×
-          (len-ready : length (h .ready) ≡ 128) × (len-waiting : length (h .waiting) ≡ 128) ×
-          (len-waiting-numbers : length (h .«waiting_numbers») ≡ 128) ×
-          (was-settings : Is settings-row.the-row (h .settings) ((LL.vals settings-row.the-type settings-laws.the-laws) (h .settings))) ×
-          (was-flight : Is flight-row.the-row (h .flight) ((LL.vals flight-row.the-type flight-laws.the-laws) (h .flight))) ×
-          (was-arrival : Is arrival-row.the-row (h .arrival) ((LL.vals arrival-row.the-type arrival-laws.the-laws) (h .arrival))) ×
-          (was-clock : Is clock-row.the-row (h .clock) ((LL.vals clock-row.the-type clock-laws.the-laws) (h .clock))) × (n : ℕ) ×
-          (w-n : Val) × (e-n : n ≡ h .flight .outstanding) × (recs : (List Record)) × (w-recs : Val) ×
-          (e-recs : recs ≡ padded (gathered (take sendSlots (x₃ .now)) (slotsIn (h .outstanding) n))) ×
-          (is-recs : Is Rs recs (w-recs ∷ [])) × (m : ℕ) × (w-m : Val) × (e-m : m ≡ length (x₃ .now)) × (Is usize m (w-m ∷ []))
-
-      part₁ : (past : Known₁) → ent 𝓤 (⋆ 𝓤 H A (‵ (flft κ₃ q₃) ∷ ‵ (partAt (Array u32 32) (past .24) (h .outstanding) b (o + 636))
-          ∷ ‵ (partAt clock-row.the-row (past .24) (h .clock) b (o + 104))
-          ∷ ‵ (partAt arrival-row.the-row (past .24) (h .arrival) b (o + 72))
-          ∷ ‵ (partAt flight-row.the-row (past .24) (h .flight) b (o + 16))
-          ∷ ‵ (partAt settings-row.the-row (past .24) (h .settings) b (o + 0))
-          ∷ ‵ (partAt (Array u32 128) (past .24) (h .«waiting_numbers») b (o + 1820))
-          ∷ ‵ (partAt (Array u32 128) (past .24) (h .waiting) b (o + 1308)) ∷ ‵ (partAt (Array u32 128) (past .24) (h .ready) b (o + 796))
-          ∷ ‵ (partAt (Array u8 32) (past .24) (h .transmissions) b (o + 764))
-          ∷ ‵ (partAt (Array u32 128) (past .24) (h .queued) b (o + 124)) ∷ raw (Back 𝓤 H A (past .24) b o)
-          ∷ ‵ (fobor κ₀ q₀ (partAt L (past .24) h b o))
-          ∷ (‵ (fdies (tyInt w32) (past .0)) ⊛ ‵ (fdies (tyRef (named 0) imm (pointee (L .written))) (past .1)) ⊛ ‵
-          (fdies (sliceTy (tyRef (named 1) imm (tyInt w8))) (past .2)) ⊛ ‵ (fdies (sliceTy (tyRef (named 2) imm (tyInt w8))) (past .3)) ⊛ ‵
-          (fdies (sliceTy (tyRef (named 3) imm (pointee (R .written)))) (past .4)) ⊛ ‵
-          (fdies (sliceTy (tyRef (named 4) imm (tyInt w32))) (past .5)) ⊛ ‵ (fdies (tyInt w32) (past .6)) ⊛ ‵
-          (fdies (tyRef (named 5) mut (tyInt w32)) (past .7)) ⊛ ‵ (fdies settings-laws.mir (past .8)) ⊛ ‵ (fdies flight-laws.mir (past .9))
-          ⊛ ‵ (fdies arrival-laws.mir (past .10)) ⊛ ‵ (fdies clock-laws.mir (past .11)) ⊛ ‵ (fdies (tyArray (tyInt w32) 32) (past .12)) ⊛ ‵
-          (fdies (tyInt w64) (past .13)) ⊛ ‵ (fdies (tyArray record-laws.mir 32) (past .14)) ⊛ ‵ (fdies (tyInt w64) (past .15)) ⊛ ‵
-          (fdies time-laws.mir (past .16)) ⊛ ‵ (fdies (tyRef erased imm (tyArray (tyInt w32) 128)) (past .17)) ⊛ ‵
-          (fdies (tyRef erased imm (tyArray (tyInt w32) 32)) (past .18)) ⊛ ‵ (fdies (tyRef erased imm (tyArray (tyInt w8) 32)) (past .19)) ⊛
-          ‵ (fdies (tyRef erased imm (tyArray (tyInt w32) 128)) (past .20)) ⊛ ‵
-          (fdies (tyRef erased imm (tyArray (tyInt w32) 128)) (past .21)) ⊛ ‵
-          (fdies (tyRef erased imm (tyArray (tyInt w32) 128)) (past .22)) ⊛ ‵ (fdies (tyRef erased mut (tyInt w32)) (past .23)))
-          ∷ ‵ (flft κ₁ q₁) ∷ ‵ (flft κ₂ q₂) ∷ ‵ (flft κ₄ q₄) ∷ ‵ (flft κ₅ q₅) ∷ ‵ Own₁ ∷ ‵ Own₂ ∷ ‵ Own₄
-          ∷ ‵ Own₆
-          ∷ ‵ (froom (tyRef erased mut (tyInt w32)) (past .23) 0) ∷ ‵ (froom (tyRef erased imm (tyArray (tyInt w32) 128)) (past .22) 0)
-          ∷ ‵ (froom (tyRef erased imm (tyArray (tyInt w32) 128)) (past .21) 0)
-          ∷ ‵ (froom (tyRef erased imm (tyArray (tyInt w32) 128)) (past .20) 0)
-          ∷ ‵ (froom (tyRef erased imm (tyArray (tyInt w8) 32)) (past .19) 0)
-          ∷ ‵ (froom (tyRef erased imm (tyArray (tyInt w32) 32)) (past .18) 0)
-          ∷ ‵ (froom (tyRef erased imm (tyArray (tyInt w32) 128)) (past .17) 0) ∷ ‵ (froom time-laws.mir (past .16) 0)
-          ∷ ‵ (fat fullShare (tyInt w64) (past .15) 0 ((past .43)))
-          ∷ ‵ (fat fullShare (tyArray record-laws.mir 32) (past .14) 0 ((past .39)))
-          ∷ ‵ (fat fullShare (tyInt w64) (past .13) 0 ((past .36)))
-          ∷ ‵ (fat fullShare (tyArray (tyInt w32) 32) (past .12) 0 ((only ((array-vals (uint-vals w32)) (h .outstanding)))))
-          ∷ ‵ (fat fullShare clock-laws.mir (past .11) 0 ((only ((LL.vals clock-row.the-type clock-laws.the-laws) (h .clock)))))
-          ∷ ‵ (fat fullShare arrival-laws.mir (past .10) 0 ((only ((LL.vals arrival-row.the-type arrival-laws.the-laws) (h .arrival)))))
-          ∷ ‵ (fat fullShare flight-laws.mir (past .9) 0 ((only ((LL.vals flight-row.the-type flight-laws.the-laws) (h .flight)))))
-          ∷ ‵ (fat fullShare settings-laws.mir (past .8) 0 ((only ((LL.vals settings-row.the-type settings-laws.the-laws) (h .settings)))))
-          ∷ ‵ (fat fullShare (tyRef (named 5) mut (tyInt w32)) (past .7) 0 (s₆)) ∷ ‵ (fat fullShare (tyInt w32) (past .6) 0 (v₅))
-          ∷ ‵ (fat fullShare (sliceTy (tyRef (named 4) imm (tyInt w32))) (past .5) 0 (s₄))
-          ∷ ‵ (fat fullShare (sliceTy (tyRef (named 3) imm (pointee (R .written)))) (past .4) 0 (s₃))
-          ∷ ‵ (fat fullShare (sliceTy (tyRef (named 2) imm (tyInt w8))) (past .3) 0 (s₂))
-          ∷ ‵ (fat fullShare (sliceTy (tyRef (named 1) imm (tyInt w8))) (past .2) 0 (s₁))
-          ∷ ‵ (fat fullShare (tyRef (named 0) imm (pointee (L .written))) (past .1) 0 (vptr b o)) ∷ ‵ (froom (tyInt w32) (past .0) 0) ∷ []))
-          (Wp 𝓤 H C Λ (En (past .0) (past .1) (past .2) (past .3) (past .4) (past .5) (past .6) (past .7) (past .8) (past .9) (past .10)
-          (past .11) (past .12) (past .13) (past .14) (past .15) (past .16) (past .17) (past .18) (past .19) (past .20) (past .21)
-          (past .22) (past .23)) (behind 8 (code.function .body))
-          (atReturn 𝓤 H (En (past .0) (past .1) (past .2) (past .3) (past .4) (past .5) (past .6) (past .7) (past .8) (past .9) (past .10)
-          (past .11) (past .12) (past .13) (past .14) (past .15) (past .16) (past .17) (past .18) (past .19) (past .20) (past .21)
-          (past .22) (past .23)) Post))
-      part₁ past =
-          qed W (‵ (flft κ₃ q₃) ∷ ‵ (partAt (Array u32 32) (past .24) (h .outstanding) b (o + 636))
-          ∷ ‵ (partAt clock-row.the-row (past .24) (h .clock) b (o + 104))
-          ∷ ‵ (partAt arrival-row.the-row (past .24) (h .arrival) b (o + 72))
-          ∷ ‵ (partAt flight-row.the-row (past .24) (h .flight) b (o + 16))
-          ∷ ‵ (partAt settings-row.the-row (past .24) (h .settings) b (o + 0))
-          ∷ ‵ (partAt (Array u32 128) (past .24) (h .«waiting_numbers») b (o + 1820))
-          ∷ ‵ (partAt (Array u32 128) (past .24) (h .waiting) b (o + 1308))
-          ∷ ‵ (partAt (Array u32 128) (past .24) (h .ready) b (o + 796))
-          ∷ ‵ (partAt (Array u8 32) (past .24) (h .transmissions) b (o + 764))
-          ∷ ‵ (partAt (Array u32 128) (past .24) (h .queued) b (o + 124)) ∷ raw (Back 𝓤 H A (past .24) b o)
-          ∷ ‵ (fobor κ₀ q₀ (partAt L (past .24) h b o))
-          ∷ (‵ (fdies (tyInt w32) (past .0)) ⊛ ‵ (fdies (tyRef (named 0) imm (pointee (L .written))) (past .1)) ⊛ ‵
-          (fdies (sliceTy (tyRef (named 1) imm (tyInt w8))) (past .2)) ⊛ ‵ (fdies (sliceTy (tyRef (named 2) imm (tyInt w8))) (past .3))
-          ⊛ ‵ (fdies (sliceTy (tyRef (named 3) imm (pointee (R .written)))) (past .4)) ⊛ ‵
-          (fdies (sliceTy (tyRef (named 4) imm (tyInt w32))) (past .5)) ⊛ ‵ (fdies (tyInt w32) (past .6)) ⊛ ‵
-          (fdies (tyRef (named 5) mut (tyInt w32)) (past .7)) ⊛ ‵ (fdies settings-laws.mir (past .8)) ⊛ ‵
-          (fdies flight-laws.mir (past .9)) ⊛ ‵ (fdies arrival-laws.mir (past .10)) ⊛ ‵ (fdies clock-laws.mir (past .11)) ⊛ ‵
-          (fdies (tyArray (tyInt w32) 32) (past .12)) ⊛ ‵ (fdies (tyInt w64) (past .13)) ⊛ ‵
-          (fdies (tyArray record-laws.mir 32) (past .14)) ⊛ ‵ (fdies (tyInt w64) (past .15)) ⊛ ‵ (fdies time-laws.mir (past .16)) ⊛ ‵
-          (fdies (tyRef erased imm (tyArray (tyInt w32) 128)) (past .17)) ⊛ ‵
-          (fdies (tyRef erased imm (tyArray (tyInt w32) 32)) (past .18)) ⊛ ‵
-          (fdies (tyRef erased imm (tyArray (tyInt w8) 32)) (past .19)) ⊛ ‵
-          (fdies (tyRef erased imm (tyArray (tyInt w32) 128)) (past .20)) ⊛ ‵
-          (fdies (tyRef erased imm (tyArray (tyInt w32) 128)) (past .21)) ⊛ ‵
-          (fdies (tyRef erased imm (tyArray (tyInt w32) 128)) (past .22)) ⊛ ‵ (fdies (tyRef erased mut (tyInt w32)) (past .23)))
-          ∷ ‵ (flft κ₁ q₁) ∷ ‵ (flft κ₂ q₂) ∷ ‵ (flft κ₄ q₄) ∷ ‵ (flft κ₅ q₅) ∷ ‵ Own₁ ∷ ‵ Own₂ ∷ ‵ Own₄
-          ∷ ‵ Own₆
-          ∷ ‵ (froom (tyRef erased mut (tyInt w32)) (past .23) 0) ∷ ‵ (froom (tyRef erased imm (tyArray (tyInt w32) 128)) (past .22) 0)
-          ∷ ‵ (froom (tyRef erased imm (tyArray (tyInt w32) 128)) (past .21) 0)
-          ∷ ‵ (froom (tyRef erased imm (tyArray (tyInt w32) 128)) (past .20) 0)
-          ∷ ‵ (froom (tyRef erased imm (tyArray (tyInt w8) 32)) (past .19) 0)
-          ∷ ‵ (froom (tyRef erased imm (tyArray (tyInt w32) 32)) (past .18) 0)
-          ∷ ‵ (froom (tyRef erased imm (tyArray (tyInt w32) 128)) (past .17) 0) ∷ ‵ (froom time-laws.mir (past .16) 0)
-          ∷ ‵ (fat fullShare (tyInt w64) (past .15) 0 ((past .43)))
-          ∷ ‵ (fat fullShare (tyArray record-laws.mir 32) (past .14) 0 ((past .39)))
-          ∷ ‵ (fat fullShare (tyInt w64) (past .13) 0 ((past .36)))
-          ∷ ‵ (fat fullShare (tyArray (tyInt w32) 32) (past .12) 0 ((only ((array-vals (uint-vals w32)) (h .outstanding)))))
-          ∷ ‵ (fat fullShare clock-laws.mir (past .11) 0 ((only ((LL.vals clock-row.the-type clock-laws.the-laws) (h .clock)))))
-          ∷ ‵ (fat fullShare arrival-laws.mir (past .10) 0 ((only ((LL.vals arrival-row.the-type arrival-laws.the-laws) (h .arrival)))))
-          ∷ ‵ (fat fullShare flight-laws.mir (past .9) 0 ((only ((LL.vals flight-row.the-type flight-laws.the-laws) (h .flight)))))
-          ∷ ‵ (fat fullShare settings-laws.mir (past .8) 0
-          ((only ((LL.vals settings-row.the-type settings-laws.the-laws) (h .settings)))))
-          ∷ ‵ (fat fullShare (tyRef (named 5) mut (tyInt w32)) (past .7) 0 (s₆)) ∷ ‵ (fat fullShare (tyInt w32) (past .6) 0 (v₅))
-          ∷ ‵ (fat fullShare (sliceTy (tyRef (named 4) imm (tyInt w32))) (past .5) 0 (s₄))
-          ∷ ‵ (fat fullShare (sliceTy (tyRef (named 3) imm (pointee (R .written)))) (past .4) 0 (s₃))
-          ∷ ‵ (fat fullShare (sliceTy (tyRef (named 2) imm (tyInt w8))) (past .3) 0 (s₂))
-          ∷ ‵ (fat fullShare (sliceTy (tyRef (named 1) imm (tyInt w8))) (past .2) 0 (s₁))
-          ∷ ‵ (fat fullShare (tyRef (named 0) imm (pointee (L .written))) (past .1) 0 (vptr b o)) ∷ ‵ (froom (tyInt w32) (past .0) 0)
-          ∷ []) ∵ exec ! C Λ (En (past .0) (past .1) (past .2) (past .3) (past .4) (past .5) (past .6) (past .7) (past .8) (past .9)
-          (past .10) (past .11) (past .12) (past .13) (past .14) (past .15) (past .16) (past .17) (past .18) (past .19) (past .20)
-          (past .21) (past .22) (past .23)) (behind 8 (code.function .body))
-          (atRet (En (past .0) (past .1) (past .2) (past .3) (past .4) (past .5) (past .6) (past .7) (past .8) (past .9) (past .10)
-          (past .11) (past .12) (past .13) (past .14) (past .15) (past .16) (past .17) (past .18) (past .19) (past .20) (past .21)
-          (past .22) (past .23)) Post) $
-          assigns ! {v = (vptr b (o + 124))} (addr ! (from ! (hop ! (look ! 44 refl) (fld ! {d = 124} refl (stop !))))) (from ! (stop !))
-          (init ! 28 refl (tt, tt)) $
-          assigns ! {v = (vptr b (o + 636))} (addr ! (from ! (hop ! (look ! 44 refl) (fld ! {d = 636} refl (stop !))))) (from ! (stop !))
-          (init ! 27 refl (tt, tt)) $
-          assigns ! {v = (vptr b (o + 764))} (addr ! (from ! (hop ! (look ! 44 refl) (fld ! {d = 764} refl (stop !))))) (from ! (stop !))
-          (init ! 26 refl (tt, tt)) $
-          assigns ! {v = (vptr b (o + 796))} (addr ! (from ! (hop ! (look ! 44 refl) (fld ! {d = 796} refl (stop !))))) (from ! (stop !))
-          (init ! 25 refl (tt, tt)) $
-          assigns ! {v = (vptr b (o + 1308))} (addr ! (from ! (hop ! (look ! 44 refl) (fld ! {d = 1308} refl (stop !))))) (from ! (stop !))
-          (init ! 24 refl (tt, tt)) $
-          assigns ! {v = (vptr b (o + 1820))} (addr ! (from ! (hop ! (look ! 44 refl) (fld ! {d = 1820} refl (stop !))))) (from ! (stop !))
-          (init ! 23 refl (tt, tt)) $
-          move ! (10 ∷ []) $ lend-shr ! tt (past .24) (Array u32 128) (h .queued) b (o + 124)
-          (λ α-queued δ-queued. move ! (4 ∷ []) $
-          lend-shr ! tt (past .24) (Array u32 32) (h .outstanding) b (o + 636)
-          (λ α-outstanding δ-outstanding. move ! (14 ∷ []) $
-          lend-shr ! tt (past .24) (Array u8 32) (h .transmissions) b (o + 764)
-          (λ α-transmissions δ-transmissions. move ! (16 ∷ []) $
-          lend-shr ! tt (past .24) (Array u32 128) (h .ready) b (o + 796)
-          (λ α-ready δ-ready. move ! (18 ∷ []) $
-          lend-shr ! tt (past .24) (Array u32 128) (h .waiting) b (o + 1308)
-          (λ α-waiting δ-waiting. move ! (20 ∷ []) $
-          lend-shr ! tt (past .24) (Array u32 128) (h .«waiting_numbers») b (o + 1820)
-          (λ α-waiting-numbers δ-waiting-numbers. move ! (15 ∷ 16 ∷ 12 ∷ 13 ∷ 9 ∷ 10 ∷ 6 ∷ 7 ∷ 3 ∷ 4 ∷ 0 ∷ 1 ∷ 26 ∷ 30 ∷ 27
-          ∷ 31 ∷ 28
-          ∷ 32 ∷ []) $ group ! 18 $ calls-fn ! fm core.ended (core.clauses 𝓤 H A at-mem run) (known .3)
-          (to-core α-queued δ-queued (h .queued) α-outstanding δ-outstanding (h .outstanding) α-transmissions δ-transmissions
-          (h .transmissions) α-ready δ-ready (h .ready) α-waiting δ-waiting (h .waiting) α-waiting-numbers δ-waiting-numbers
-          (h .«waiting_numbers») (h .settings) (only ((LL.vals settings-row.the-type settings-laws.the-laws) (h .settings))) (h .flight)
-          (only ((LL.vals flight-row.the-type flight-laws.the-laws) (h .flight))) (h .arrival)
-          (only ((LL.vals arrival-row.the-type arrival-laws.the-laws) (h .arrival))) (h .clock)
-          (only ((LL.vals clock-row.the-type clock-laws.the-laws) (h .clock))) (past .38) (past .39) (past .42) (past .43) x₅ v₅)
-          (λ a ws-a. timeOutcome a ≡ checksWith h (past .38) (x₄ .now) (lentLengths (past .42) (x₁ .now) (x₂ .now) (x₄ .now)) x₅)
-          (‵ (flft (α-queued ∷ []) fullShare) ⊛ ‵ (ShrRef (named 0) (α-queued ∷ []) (Array u32 128) .own
-          (ref-at b (o + 124) δ-queued (h .queued)) ((vptr b (o + 124)) ∷ [])) ⊛ ‵ (flft (α-outstanding ∷ []) fullShare) ⊛ ‵
-          (ShrRef (named 0) (α-outstanding ∷ []) (Array u32 32) .own (ref-at b (o + 636) δ-outstanding (h .outstanding))
-          ((vptr b (o + 636)) ∷ [])) ⊛ ‵ (flft (α-transmissions ∷ []) fullShare) ⊛ ‵
-          (ShrRef (named 0) (α-transmissions ∷ []) (Array u8 32) .own (ref-at b (o + 764) δ-transmissions (h .transmissions))
-          ((vptr b (o + 764)) ∷ [])) ⊛ ‵ (flft (α-ready ∷ []) fullShare) ⊛ ‵
-          (ShrRef (named 0) (α-ready ∷ []) (Array u32 128) .own (ref-at b (o + 796) δ-ready (h .ready)) ((vptr b (o + 796)) ∷ [])) ⊛ ‵
-          (flft (α-waiting ∷ []) fullShare) ⊛ ‵ (ShrRef (named 0) (α-waiting ∷ []) (Array u32 128) .own
-          (ref-at b (o + 1308) δ-waiting (h .waiting)) ((vptr b (o + 1308)) ∷ [])) ⊛ ‵ (flft (α-waiting-numbers ∷ []) fullShare) ⊛ ‵
-          (ShrRef (named 0) (α-waiting-numbers ∷ []) (Array u32 128) .own (ref-at b (o + 1820) δ-waiting-numbers (h .«waiting_numbers»))
-          ((vptr b (o + 1820)) ∷ [])) ⊛ ‵ (flft κ₁ q₁) ⊛ ‵ Own₁ ⊛ ‵ (flft κ₂ q₂) ⊛ ‵ Own₂ ⊛ ‵ (flft κ₄ q₄) ⊛ ‵
-          Own₄)
-          (asks-core α-queued δ-queued (h .queued) α-outstanding δ-outstanding (h .outstanding) α-transmissions δ-transmissions
-          (h .transmissions) α-ready δ-ready (h .ready) α-waiting δ-waiting (h .waiting) α-waiting-numbers δ-waiting-numbers
-          (h .«waiting_numbers») (h .settings) (only ((LL.vals settings-row.the-type settings-laws.the-laws) (h .settings))) (past .31)
-          (h .flight) (only ((LL.vals flight-row.the-type flight-laws.the-laws) (h .flight))) (past .32) (h .arrival)
-          (only ((LL.vals arrival-row.the-type arrival-laws.the-laws) (h .arrival))) (past .33) (h .clock)
-          (only ((LL.vals clock-row.the-type clock-laws.the-laws) (h .clock))) (past .34) (past .38) (past .39) (past .41) (past .42)
-          (past .43) (past .45) x₅ v₅ g₅ (record {
-            whole-queued = (past .25);
-            whole-outstanding = (past .26);
-            whole-transmissions = (past .27);
-            whole-ready = (past .28);
-            whole-waiting = (past .29);
-            whole-numbers = (past .30);
-          }))
-          (λ a ws-a. id⊢ 𝓤 _)
-          (and-then ! (load ! (from ! (stop !)) (look ! 32 refl))
-          (and-then ! (load ! (from ! (stop !)) (look ! 31 refl))
-          (and-then ! (load ! (from ! (stop !)) (look ! 30 refl))
-          (and-then ! (load ! (from ! (stop !)) (look ! 29 refl))
-          (and-then ! (load ! (from ! (stop !)) (look ! 26 refl))
-          (and-then ! (load ! (from ! (stop !)) (look ! 25 refl))
-          (and-then ! (load ! (from ! (stop !)) (look ! 23 refl))
-          (and-then ! (load ! (from ! (stop !)) (look ! 22 refl))
-          (and-then ! (load ! (from ! (stop !)) (look ! 21 refl))
-          (and-then ! (load ! (from ! (stop !)) (look ! 20 refl))
-          (and-then ! (load ! (from ! (stop !)) (look ! 19 refl))
-          (and-then ! (load ! (from ! (stop !)) (look ! 18 refl))
-          (and-then ! (load ! (from ! (stop !)) (look ! 38 refl))
-          (and-then ! (load ! (from ! (stop !)) (look ! 37 refl))
-          (and-then ! (load ! (from ! (stop !)) (look ! 35 refl))
-          (and-then ! (load ! (from ! (stop !)) (look ! 34 refl)) (no-more !)))))))))))))))))
-          (λ a w-a ws-a e-a is-a. land ! (from ! (stop !))
-          (init ! 25 refl (EL.lawful time-row.the-type time-laws.the-laws 𝓤 H A W tt .typed a (w-a ∷ []) is-a .0)) $
-          spread W (‵ (flft (α-queued ∷ []) fullShare))
-          (‵ (flft (α-outstanding ∷ []) fullShare) ∷ ‵ (flft (α-transmissions ∷ []) fullShare) ∷ ‵ (flft (α-ready ∷ []) fullShare)
-          ∷ ‵ (flft (α-waiting ∷ []) fullShare) ∷ ‵ (flft (α-waiting-numbers ∷ []) fullShare) ∷ ‵ (flft κ₁ q₁) ∷ ‵ (flft κ₂ q₂)
-          ∷ ‵ (flft κ₄ q₄) ∷ ‵ ftrue ∷ []) (id⊢ 𝓤 _) $ move ! (10 ∷ []) $
-          spread W (‵ ftrue) (‵ ftrue ∷ ‵ ftrue ∷ ‵ ftrue ∷ ‵ ftrue ∷ ‵ ftrue ∷ ‵ ftrue ∷ ‵ ftrue ∷ ‵ ftrue ∷ ‵ ftrue
-          ∷ ‵ ftrue
-          ∷ ‵ ftrue ∷ ‵ ftrue ∷ ‵ ftrue ∷ ‵ ftrue ∷ ‵ ftrue ∷ ‵ ftrue ∷ []) (id⊢ 𝓤 _) $
-          keep ! (17 ∷ 18 ∷ 19 ∷ 20 ∷ 21 ∷ 22 ∷ 23 ∷ 24 ∷ 25 ∷ 27 ∷ 28 ∷ 29 ∷ 30 ∷ 31 ∷ 32 ∷ 33 ∷ 34 ∷ 35 ∷ 36 ∷ 37 ∷ 38
-          ∷ 39 ∷ 40 ∷ 41
-          ∷ 42 ∷ 43 ∷ 44 ∷ 45 ∷ 46 ∷ 47 ∷ 48 ∷ 49 ∷ 50 ∷ 51 ∷ 52 ∷ 53 ∷ 54 ∷ 55 ∷ 56 ∷ 57 ∷ 58 ∷ 59 ∷ 60 ∷ 61 ∷ 62
-          ∷ 63 ∷ 64 ∷ 65 ∷ 66
-          ∷ []) $
-          -- [tok:queued; tok:outstanding; tok:transmissions; tok:ready; tok:waiting; tok:«waiting_numbers»; tok1; tok2; tok4;
-          -- lent:«waiting_numbers»; lent:waiting; lent:ready; lent:transmissions; lent:outstanding; lent:queued; tok3; F:clock; F:arrival;
-          -- F:flight; F:settings; back; opened; deaths; tok6; own6; the locals]
-          move ! (0 ∷ 14 ∷ []) $ back-shr ! tt (past .24) (Array u32 128) b (o + 124) (h .queued) $ move ! (1 ∷ 13 ∷ []) $
-          back-shr ! tt (past .24) (Array u32 32) b (o + 636) (h .outstanding) $ move ! (2 ∷ 12 ∷ []) $
-          back-shr ! tt (past .24) (Array u8 32) b (o + 764) (h .transmissions) $ move ! (3 ∷ 11 ∷ []) $
-          back-shr ! tt (past .24) (Array u32 128) b (o + 796) (h .ready) $ move ! (4 ∷ 10 ∷ []) $
-          back-shr ! tt (past .24) (Array u32 128) b (o + 1308) (h .waiting) $ move ! (5 ∷ 9 ∷ []) $
-          back-shr ! tt (past .24) (Array u32 128) b (o + 1820) (h .«waiting_numbers») $
-          by ! (part₂ (
-            (past .0),
-            (past .1),
-            (past .2),
-            (past .3),
-            (past .4),
-            (past .5),
-            (past .6),
-            (past .7),
-            (past .8),
-            (past .9),
-            (past .10),
-            (past .11),
-            (past .12),
-            (past .13),
-            (past .14),
-            (past .15),
-            (past .16),
-            (past .17),
-            (past .18),
-            (past .19),
-            (past .20),
-            (past .21),
-            (past .22),
-            (past .23),
-            (past .24),
-            (past .35),
-            (past .36),
-            (past .37),
-            (past .38),
-            (past .39),
-            (past .40),
-            (past .42),
-            (past .43),
-            (past .44),
-            a,
-            w-a,
-            e-a,
-            is-a,
-          )))))))))
-
       walk : ent 𝓤 (onEntry 𝓤 H A f.signature (κ₀, (κ₁, (κ₂, (κ₃, (κ₄, (κ₅, tt)))))) (q₀, (q₁, (q₂, (q₃, (q₄, (q₅, tt))))))
-          x at)
-          (WpFn 𝓤 H C Λ code.function (vptr b o ∷ s₁ ∷ s₂ ∷ s₃ ∷ s₄ ∷ v₅ ∷ s₆ ∷ []) Post)
+          x at) (WpFn 𝓤 H C Λ code.function (s₀ ∷ s₁ ∷ s₂ ∷ s₃ ∷ s₄ ∷ v₅ ∷ s₆ ∷ []) Post)
       walk =
           qed W ((‵ (flft κ₀ q₀) ⊛ ‵ (flft κ₁ q₁) ⊛ ‵ (flft κ₂ q₂) ⊛ ‵ (flft κ₃ q₃) ⊛ ‵ (flft κ₄ q₄) ⊛ ‵
-          (flft κ₅ q₅) ⊛ ‵ ftrue)
-          ∷ ‵ (owns (ShrRef (named 0) κ₀ L ∷ ShrSlice (named 1) κ₁ u8 ∷ ShrSlice (named 2) κ₂ u8 ∷ ShrSlice (named 3) κ₃ R
-          ∷ ShrSlice (named 4) κ₄ u32 ∷ u32 ∷ MutRef (named 5) κ₅ u32 ∷ []) x at) ∷ []) ∵
-          enter ! C Λ code.function (vptr b o ∷ s₁ ∷ s₂ ∷ s₃ ∷ s₄ ∷ v₅ ∷ s₆ ∷ []) _ $
+          (flft κ₅ q₅) ⊛ ‵ ftrue) ∷ ‵ (owns (ShrRef (named 0) κ₀ L ∷ ShrSlice (named 1) κ₁ u8 ∷ ShrSlice (named 2) κ₂ u8
+          ∷ ShrSlice (named 3) κ₃ R ∷ ShrSlice (named 4) κ₄ u32 ∷ u32 ∷ MutRef (named 5) κ₅ u32 ∷ []) x at) ∷ []) ∵
+          enter ! C Λ code.function (s₀ ∷ s₁ ∷ s₂ ∷ s₃ ∷ s₄ ∷ v₅ ∷ s₆ ∷ []) _ $
           alloc1 ! (λ l₀. alloc1 ! (λ l₁. alloc1 ! (λ l₂.
-          alloc1 ! (λ l₃. alloc1 ! (λ l₄. alloc1 ! (λ l₅.
-          alloc1 ! (λ l₆. alloc1 ! (λ l₇. alloc1 ! (λ l₈.
-          alloc1 ! (λ l₉. alloc1 ! (λ l₁₀. alloc1 ! (λ l₁₁.
-          alloc1 ! (λ l₁₂. alloc1 ! (λ l₁₃. alloc1 ! (λ l₁₄.
-          alloc1 ! (λ l₁₅. alloc1 ! (λ l₁₆. alloc1 ! (λ l₁₇.
-          alloc1 ! (λ l₁₈. alloc1 ! (λ l₁₉. alloc1 ! (λ l₂₀.
-          alloc1 ! (λ l₂₁. alloc1 ! (λ l₂₂. alloc1 ! (λ l₂₃. alloc0 ! $ params1 ! $
-          pass1 ! (init ! 44 refl (tt, tt)) $ pass1 ! (init ! 42 refl (tt, (tt, (record { fits = room₁ .0 }, tt)))) $
-          pass1 ! (init ! 40 refl (tt, (tt, (record { fits = room₂ .0 }, tt)))) $
-          pass1 ! (init ! 38 refl (tt, (tt, (record { fits = room₃ .0 }, tt)))) $
-          pass1 ! (init ! 36 refl (tt, (tt, (record { fits = room₄ .0 }, tt)))) $
-          pass1 ! (init ! 34 refl (uint-lawful 𝓤 H A W w32 .typed x₅ _ g₅ .0)) $ pass1 ! (init ! 32 refl (tt, tt)) $ pass0 ! $
-          move ! (49 ∷ []) $ spread W (‵ (ShrRef (named 0) κ₀ L .own (ref-at b o γ h) (vptr b o ∷ [])))
+          alloc1 ! (λ l₃. alloc1 ! (λ l₄. alloc1 ! (λ l₅. alloc1 ! (λ l₆. alloc1 ! (λ l₇. alloc1 ! (λ l₈. alloc0 ! $ params1 ! $
+          pass1 ! (init ! 14 refl (tt, tt)) $ pass1 ! (init ! 12 refl (tt, (tt, (record { fits = room₁ .0 }, tt)))) $
+          pass1 ! (init ! 10 refl (tt, (tt, (record { fits = room₂ .0 }, tt)))) $
+          pass1 ! (init ! 8 refl (tt, (tt, (record { fits = room₃ .0 }, tt)))) $
+          pass1 ! (init ! 6 refl (tt, (tt, (record { fits = room₄ .0 }, tt)))) $
+          pass1 ! (init ! 4 refl (uint-lawful 𝓤 H A W w32 .typed x₅ _ g₅ .0)) $ pass1 ! (init ! 2 refl (tt, tt)) $ pass0 ! $
+          move ! (19 ∷ []) $ spread W (‵ (ShrRef (named 0) κ₀ L .own (x₀) (s₀ ∷ [])))
           (‵ (ShrSlice (named 1) κ₁ u8 .own (x₁) (s₁ ∷ [])) ∷ ‵ (ShrSlice (named 2) κ₂ u8 .own (x₂) (s₂ ∷ []))
           ∷ ‵ (ShrSlice (named 3) κ₃ R .own (x₃) (s₃ ∷ [])) ∷ ‵ (ShrSlice (named 4) κ₄ u32 .own (x₄) (s₄ ∷ []))
           ∷ ‵ (u32 .own (x₅) (v₅ ∷ [])) ∷ ‵ (MutRef (named 5) κ₅ u32 .own (x₆) (s₆ ∷ [])) ∷ ‵ ftrue ∷ []) (id⊢ 𝓤 _) $
-          move ! (56 ∷ []) $
-          spread W (‵ (flft κ₀ q₀)) (‵ (flft κ₁ q₁) ∷ ‵ (flft κ₂ q₂) ∷ ‵ (flft κ₃ q₃) ∷ ‵ (flft κ₄ q₄)
-          ∷ ‵ (flft κ₅ q₅) ∷ ‵ ftrue ∷ [])
-          (id⊢ 𝓤 _) $ keep ! (0 ∷ 1 ∷ 2 ∷ 3 ∷ 4 ∷ 5 ∷ 7 ∷ 8 ∷ 9 ∷ 10 ∷ 11 ∷ 13 ∷ 15 ∷ 16 ∷ 17 ∷ 18 ∷ 19 ∷ 20 ∷ 21
-          ∷ 22 ∷ 23 ∷ 24 ∷ 25
-          ∷ 26 ∷ 27 ∷ 28 ∷ 29 ∷ 30 ∷ 31 ∷ 32 ∷ 33 ∷ 34 ∷ 35 ∷ 36 ∷ 37 ∷ 38 ∷ 39 ∷ 40 ∷ 41 ∷ 42 ∷ 43 ∷ 44 ∷ 45 ∷ 46
-          ∷ 47 ∷ 48 ∷ 49 ∷ 50
-          ∷ 51 ∷ 52 ∷ 53 ∷ 54 ∷ 55 ∷ 56 ∷ 57 ∷ 58 ∷ 59 ∷ 60 ∷ 61 ∷ 62 ∷ []) $
-          move ! (59 ∷ 57 ∷ 55 ∷ 53 ∷ 51 ∷ 49 ∷ 47 ∷ 45 ∷ 43 ∷ 41 ∷ 39 ∷ 37 ∷ 35 ∷ 33 ∷ 31 ∷ 29 ∷ 27 ∷ 25 ∷ 23 ∷ 21 ∷ 19
-          ∷ 17 ∷ 15 ∷ 13
-          ∷ []) $ group ! 24 $
+          move ! (26 ∷ []) $ spread W (‵ (flft κ₀ q₀))
+          (‵ (flft κ₁ q₁) ∷ ‵ (flft κ₂ q₂) ∷ ‵ (flft κ₃ q₃) ∷ ‵ (flft κ₄ q₄) ∷ ‵ (flft κ₅ q₅) ∷ ‵ ftrue
+          ∷ []) (id⊢ 𝓤 _) $ keep ! (0 ∷ 1 ∷ 2 ∷ 3 ∷ 4 ∷ 5 ∷ 7 ∷ 8 ∷ 9 ∷ 10 ∷ 11 ∷ 13 ∷ 15 ∷ 16 ∷ 17 ∷ 18 ∷ 19 ∷ 20
+          ∷ 21 ∷ 22 ∷ 23 ∷ 24 ∷ 25 ∷ 26 ∷ 27 ∷ 28 ∷ 29 ∷ 30 ∷ 31 ∷ 32 ∷ []) $
+          move ! (29 ∷ 27 ∷ 25 ∷ 23 ∷ 21 ∷ 19 ∷ 17 ∷ 15 ∷ 13 ∷ []) $ group ! 9 $
           -- [deaths; tok0; tok1; tok2; tok3; tok4; tok6; own0; own1; own2; own3; own4; own6; the locals]
-          move ! (7 ∷ 1 ∷ []) $ looks-link b o γ ! tt h (λ q′.
-          -- [F:settings; F:flight; F:arrival; F:clock; F:queued; F:outstanding; F:transmissions; F:ready; F:waiting; F:«waiting_numbers»;
-          -- back; opened; deaths; tok1; tok2; tok3; tok4; tok6; own1; own2; own3; own4; own6; the locals]
-          move ! (4 ∷ []) $ tells-length ! q′ u32 128 (h .queued) b (o + 124)
-          (λ len-queued. move ! (5 ∷ []) $
-          tells-length ! q′ u32 32 (h .outstanding) b (o + 636)
-          (λ len-outstanding. move ! (6 ∷ []) $
-          tells-length ! q′ u8 32 (h .transmissions) b (o + 764)
-          (λ len-transmissions. move ! (7 ∷ []) $
-          tells-length ! q′ u32 128 (h .ready) b (o + 796)
-          (λ len-ready. move ! (8 ∷ []) $
-          tells-length ! q′ u32 128 (h .waiting) b (o + 1308)
-          (λ len-waiting. move ! (9 ∷ []) $
-          tells-length ! q′ u32 128 (h .«waiting_numbers») b (o + 1820)
-          (λ len-waiting-numbers. move ! (6 ∷ []) $
-          cell-out ! q′ settings-row.the-row (LL.vals settings-row.the-type settings-laws.the-laws)
-          (LL.tells settings-row.the-type settings-laws.the-laws) (h .settings) b (o + 0) (λ was-settings.
-          assigns ! {v = (only ((LL.vals settings-row.the-type settings-laws.the-laws) (h .settings)))}
-          (of-opd ! (load ! (from ! (hop ! (look ! 45 refl) (fld ! {d = 0} refl (stop !)))) (look-raw ! 0 refl))) (from ! (stop !))
-          (init ! 38 refl (LL.lawful settings-row.the-type settings-laws.the-laws 𝓤 H A W .typed (h .settings)
-          ((only ((LL.vals settings-row.the-type settings-laws.the-laws) (h .settings))) ∷ []) was-settings .0)) $
-          cell-in ! q′ settings-row.the-row (LL.makes settings-row.the-type settings-laws.the-plain 𝓤 H A) (h .settings) b (o + 0)
-          (only ((LL.vals settings-row.the-type settings-laws.the-laws) (h .settings))) was-settings $ move ! (7 ∷ []) $
-          cell-out ! q′ flight-row.the-row (LL.vals flight-row.the-type flight-laws.the-laws)
-          (LL.tells flight-row.the-type flight-laws.the-laws) (h .flight) b (o + 16) (λ was-flight.
-          assigns ! {v = (only ((LL.vals flight-row.the-type flight-laws.the-laws) (h .flight)))}
-          (of-opd ! (load ! (from ! (hop ! (look ! 45 refl) (fld ! {d = 16} refl (stop !)))) (look-raw ! 0 refl))) (from ! (stop !))
-          (init ! 37 refl (LL.lawful flight-row.the-type flight-laws.the-laws 𝓤 H A W .typed (h .flight)
-          ((only ((LL.vals flight-row.the-type flight-laws.the-laws) (h .flight))) ∷ []) was-flight .0)) $
-          cell-in ! q′ flight-row.the-row (LL.makes flight-row.the-type flight-laws.the-plain 𝓤 H A) (h .flight) b (o + 16)
-          (only ((LL.vals flight-row.the-type flight-laws.the-laws) (h .flight))) was-flight $ move ! (8 ∷ []) $
-          cell-out ! q′ arrival-row.the-row (LL.vals arrival-row.the-type arrival-laws.the-laws)
-          (LL.tells arrival-row.the-type arrival-laws.the-laws) (h .arrival) b (o + 72) (λ was-arrival.
-          assigns ! {v = (only ((LL.vals arrival-row.the-type arrival-laws.the-laws) (h .arrival)))}
-          (of-opd ! (load ! (from ! (hop ! (look ! 45 refl) (fld ! {d = 72} refl (stop !)))) (look-raw ! 0 refl))) (from ! (stop !))
-          (init ! 36 refl (LL.lawful arrival-row.the-type arrival-laws.the-laws 𝓤 H A W .typed (h .arrival)
-          ((only ((LL.vals arrival-row.the-type arrival-laws.the-laws) (h .arrival))) ∷ []) was-arrival .0)) $
-          cell-in ! q′ arrival-row.the-row (LL.makes arrival-row.the-type arrival-laws.the-plain 𝓤 H A) (h .arrival) b (o + 72)
-          (only ((LL.vals arrival-row.the-type arrival-laws.the-laws) (h .arrival))) was-arrival $ move ! (9 ∷ []) $
-          cell-out ! q′ clock-row.the-row (LL.vals clock-row.the-type clock-laws.the-laws)
-          (LL.tells clock-row.the-type clock-laws.the-laws) (h .clock) b (o + 104) (λ was-clock.
-          assigns ! {v = (only ((LL.vals clock-row.the-type clock-laws.the-laws) (h .clock)))}
-          (of-opd ! (load ! (from ! (hop ! (look ! 45 refl) (fld ! {d = 104} refl (stop !)))) (look-raw ! 0 refl))) (from ! (stop !))
-          (init ! 35 refl (LL.lawful clock-row.the-type clock-laws.the-laws 𝓤 H A W .typed (h .clock)
-          ((only ((LL.vals clock-row.the-type clock-laws.the-laws) (h .clock))) ∷ []) was-clock .0)) $
-          cell-in ! q′ clock-row.the-row (LL.makes clock-row.the-type clock-laws.the-plain 𝓤 H A) (h .clock) b (o + 104)
-          (only ((LL.vals clock-row.the-type clock-laws.the-laws) (h .clock))) was-clock $ move ! (8 ∷ []) $
-          cell-out ! q′ (Array u32 32) (array-vals (uint-vals w32)) (array-tells u32 (uint-vals w32) (uint-tells w32) 32)
-          (h .outstanding) b (o + 636) (λ was-outstanding.
-          assigns ! {v = (only ((array-vals (uint-vals w32)) (h .outstanding)))}
-          (of-opd ! (load ! (from ! (hop ! (look ! 45 refl) (fld ! {d = 636} refl (stop !)))) (look-raw ! 0 refl))) (from ! (stop !))
-          (init ! 34 refl (array-typed u32 (uint-lawful 𝓤 H A W w32 .typed) 32 (h .outstanding)
-          ((only ((array-vals (uint-vals w32)) (h .outstanding))) ∷ []) was-outstanding .0)) $
-          cell-in ! q′ (Array u32 32) (array-makes 𝓤 H A W u32 (uint-makes 𝓤 H A W w32) 32) (h .outstanding) b (o + 636)
-          (only ((array-vals (uint-vals w32)) (h .outstanding))) was-outstanding $ nothing ! $
-          calls-fn ! fm count-of.ended (count-of.clauses 𝓤 H A at-mem run) (known .0)
-          ((tt, tt, tt, ((h .flight), tt), ((only ((LL.vals flight-row.the-type flight-laws.the-laws) (h .flight))) ∷ [], tt)), tt)
-          (λ n _. n ≡ h .flight .outstanding)
-          (‵ ftrue) (plainly 𝓤 H A W (flight-row.the-row ∷ []) ((LL.makes flight-row.the-type flight-laws.the-plain 𝓤 H A), tt)
-          ((h .flight), tt) ((only ((LL.vals flight-row.the-type flight-laws.the-laws) (h .flight))) ∷ [], tt) (was-flight, tt))
-          (λ n _. id⊢ 𝓤 _)
-          (and-then ! (load ! (from ! (stop !)) (look ! 38 refl)) (no-more !))
-          (λ n w-n _ e-n is-n. drop ! $ drop ! $ land ! (from ! (stop !)) (init ! 33 refl (uint-lawful 𝓤 H A W w64 .typed n _ is-n .0)) $
-          move ! (20 ∷ []) $ use1 W (‵ Own₃ ⊛ ‵ Own₃) (shr-slice-copy 𝓤 H A W (named 0) κ₃ R .twice x₃ (s₃ ∷ [])) $ split ! $
-          move ! (17 ∷ 0 ∷ []) $ join ! $
-          calls-fn ! fm gather.ended (gather.clauses 𝓤 H A at-mem run) (known .1)
-          (to-gather (h .outstanding) (only ((array-vals (uint-vals w32)) (h .outstanding))) n w-n)
-          (λ recs ws-recs. recs ≡ padded (gathered (take sendSlots (x₃ .now)) (slotsIn (h .outstanding) n))) (‵ (flft κ₃ q₃) ⊛ ‵ Own₃)
-          (asks-gather (h .outstanding) (only ((array-vals (uint-vals w32)) (h .outstanding))) was-outstanding n w-n is-n)
-          (λ recs ws-recs. id⊢ 𝓤 _)
-          (and-then ! (load ! (from ! (stop !)) (look ! 42 refl))
-          (and-then ! (load ! (from ! (stop !)) (look ! 34 refl)) (and-then ! (load ! (from ! (stop !)) (look ! 33 refl)) (no-more !))))
-          (λ recs w-recs ws-recs e-recs is-recs. land ! (from ! (stop !)) (init ! 33 refl (rs-typed 𝓤 H A W recs is-recs)) $
-          spread W (‵ (flft κ₃ q₃)) (‵ ftrue ∷ []) (id⊢ 𝓤 _) $ move ! (2 ∷ []) $
-          spread W (‵ ftrue) (‵ ftrue ∷ ‵ ftrue ∷ ‵ ftrue ∷ []) (id⊢ 𝓤 _) $
-          keep ! (4 ∷ 6 ∷ 7 ∷ 8 ∷ 9 ∷ 10 ∷ 11 ∷ 12 ∷ 13 ∷ 14 ∷ 15 ∷ 16 ∷ 17 ∷ 18 ∷ 19 ∷ 20 ∷ 21 ∷ 22 ∷ 23 ∷ 24 ∷ 25
-          ∷ 26 ∷ 27 ∷ 28 ∷ 29
-          ∷ 30 ∷ 31 ∷ 32 ∷ 33 ∷ 34 ∷ 35 ∷ 36 ∷ 37 ∷ 38 ∷ 39 ∷ 40 ∷ 41 ∷ 42 ∷ 43 ∷ 44 ∷ 45 ∷ 46 ∷ 47 ∷ 48 ∷ 49 ∷ 50
-          ∷ 51 ∷ []) $
-          -- [tok3; own3; F:outstanding; F:clock; F:arrival; F:flight; F:settings; F:«waiting_numbers»; F:waiting; F:ready; F:transmissions;
-          -- F:queued; back; opened; deaths; tok1; tok2; tok4; tok6; own1; own2; own4; own6; the locals]
-          join ! $ calls-fn ! fm table-len.ended (table-len.clauses 𝓤 H A at-mem run) (known .2) (to-table-len)
-          (λ m ws-m. m ≡ length (x₃ .now)) (‵ (flft κ₃ q₃) ⊛ ‵ Own₃)
-          (asks-table-len) (λ m ws-m. id⊢ 𝓤 _)
-          (and-then ! (load ! (from ! (stop !)) (look ! 41 refl)) (no-more !))
-          (λ m w-m ws-m e-m is-m. land ! (from ! (stop !)) (init ! 31 refl (uint-lawful 𝓤 H A W w64 .typed m _ is-m .0)) $
-          spread W (‵ (flft κ₃ q₃)) (‵ ftrue ∷ []) (id⊢ 𝓤 _) $ move ! (2 ∷ []) $ spread W (‵ ftrue) (‵ ftrue ∷ []) (id⊢ 𝓤 _) $
-          keep ! (2 ∷ 4 ∷ 5 ∷ 6 ∷ 7 ∷ 8 ∷ 9 ∷ 10 ∷ 11 ∷ 12 ∷ 13 ∷ 14 ∷ 15 ∷ 16 ∷ 17 ∷ 18 ∷ 19 ∷ 20 ∷ 21 ∷ 22 ∷ 23 ∷ 24
-          ∷ 25 ∷ 26 ∷ 27
-          ∷ 28 ∷ 29 ∷ 30 ∷ 31 ∷ 32 ∷ 33 ∷ 34 ∷ 35 ∷ 36 ∷ 37 ∷ 38 ∷ 39 ∷ 40 ∷ 41 ∷ 42 ∷ 43 ∷ 44 ∷ 45 ∷ 46 ∷ 47 ∷ 48
-          ∷ []) $
-          -- [tok3; F:outstanding; F:clock; F:arrival; F:flight; F:settings; F:«waiting_numbers»; F:waiting; F:ready; F:transmissions;
-          -- F:queued; back; opened; deaths; tok1; tok2; tok4; tok6; own1; own2; own4; own6; the locals]
-          by ! (part₁ (
-            l₀,
-            l₁,
-            l₂,
-            l₃,
-            l₄,
-            l₅,
-            l₆,
-            l₇,
-            l₈,
-            l₉,
-            l₁₀,
-            l₁₁,
-            l₁₂,
-            l₁₃,
-            l₁₄,
-            l₁₅,
-            l₁₆,
-            l₁₇,
-            l₁₈,
-            l₁₉,
-            l₂₀,
-            l₂₁,
-            l₂₂,
-            l₂₃,
-            q′,
-            len-queued,
-            len-outstanding,
-            len-transmissions,
-            len-ready,
-            len-waiting,
-            len-waiting-numbers,
-            was-settings,
-            was-flight,
-            was-arrival,
-            was-clock,
-            n,
-            w-n,
-            e-n,
-            recs,
-            w-recs,
-            e-recs,
-            is-recs,
-            m,
-            w-m,
-            e-m,
-            is-m,
-          )))))))))))))))))))))))))))))))))))))))))
+          assigns ! {v = s₆} (addr ! (from ! (hop ! (look ! 14 refl) (stop !)))) (from ! (stop !)) (init ! 13 refl (tt, tt)) $
+          move ! (1 ∷ 7 ∷ 2 ∷ 8 ∷ 3 ∷ 9 ∷ 4 ∷ 10 ∷ 5 ∷ 11 ∷ 6 ∷ 12 ∷ []) $ group ! 12 $
+          calls-fn ! fm call.ended (call.clauses 𝓤 H A at-mem run) (known) (to-call x₅ v₅)
+          (λ r ws-r. Gives timeCode (λ a. TimePromise x₅ (x₀ .now) (partsOf (x₁ .now) (x₂ .now) (x₃ .now) (x₄ .now)) a (x₆ .now)
+          (ws-r .1 .1 .1 .1 .1 .1 .0)) r) (‵ (flft κ₀ q₀) ⊛ ‵ Own₀ ⊛ ‵ (flft κ₁ q₁) ⊛ ‵ Own₁ ⊛ ‵ (flft κ₂ q₂) ⊛ ‵
+          Own₂ ⊛ ‵ (flft κ₃ q₃) ⊛ ‵ Own₃ ⊛ ‵ (flft κ₄ q₄) ⊛ ‵ Own₄ ⊛ ‵ (flft κ₅ q₅) ⊛ ‵ Own₆)
+          (asks-call x₅ v₅ g₅) (λ r ws-r. id⊢ 𝓤 _)
+          (and-then ! (load ! (from ! (stop !)) (look ! 9 refl))
+          (and-then ! (load ! (from ! (stop !)) (look ! 8 refl))
+          (and-then ! (load ! (from ! (stop !)) (look ! 7 refl))
+          (and-then ! (load ! (from ! (stop !)) (look ! 6 refl))
+          (and-then ! (load ! (from ! (stop !)) (look ! 5 refl))
+          (and-then ! (load ! (from ! (stop !)) (look ! 4 refl)) (and-then ! (load ! (from ! (stop !)) (look ! 2 refl)) (no-more !))))))))
+          (λ r w-r ws-r e-r is-r. land ! (from ! (stop !)) (init ! 11 refl (sint-lawful 𝓤 H A W w32 .typed r _ is-r .0)) $
+          spread W (‵ (flft κ₀ q₀)) (‵ (flft κ₁ q₁) ∷ ‵ (flft κ₂ q₂) ∷ ‵ (flft κ₃ q₃) ∷ ‵ (flft κ₄ q₄)
+          ∷ ‵ (flft κ₅ q₅) ∷ ‵ ftrue ∷ []) (id⊢ 𝓤 _) $ move ! (7 ∷ []) $
+          spread W (‵ ftrue) (‵ ftrue ∷ ‵ ftrue ∷ ‵ ftrue ∷ ‵ ftrue ∷ ‵ ftrue
+          ∷ ‵ (fres (x₆ .name) (u32 .coded .code (ws-r .1 .1 .1 .1 .1 .1 .0))) ∷ ‵ ftrue ∷ []) (id⊢ 𝓤 _) $
+          keep ! (6 ∷ 8 ∷ 9 ∷ 10 ∷ 11 ∷ 12 ∷ 13 ∷ 15 ∷ 16 ∷ 17 ∷ 18 ∷ 19 ∷ 20 ∷ 21 ∷ 22 ∷ 23 ∷ 24 ∷ []) $
+          -- [fin6; tok0; tok1; tok2; tok3; tok4; tok6; deaths; the locals]
+          returns ! (look ! 16 refl) $
+          move ! (7 ∷ []) $ spread W (‵ (fdies (tyInt w32) l₀))
+          (‵ (fdies (tyRef (named 0) imm (pointee (L .written))) l₁) ∷ ‵ (fdies (sliceTy (tyRef (named 1) imm (tyInt w8))) l₂)
+          ∷ ‵ (fdies (sliceTy (tyRef (named 2) imm (tyInt w8))) l₃)
+          ∷ ‵ (fdies (sliceTy (tyRef (named 3) imm (pointee (R .written)))) l₄)
+          ∷ ‵ (fdies (sliceTy (tyRef (named 4) imm (tyInt w32))) l₅) ∷ ‵ (fdies (tyInt w32) l₆)
+          ∷ ‵ (fdies (tyRef (named 5) mut (tyInt w32)) l₇) ∷ ‵ (fdies (tyRef erased mut (tyInt w32)) l₈) ∷ []) (id⊢ 𝓤 _) $
+          move ! (24 ∷ 0 ∷ 23 ∷ 1 ∷ 22 ∷ 2 ∷ 21 ∷ 3 ∷ 20 ∷ 4 ∷ 19 ∷ 5 ∷ 18 ∷ 6 ∷ 17 ∷ 7 ∷ 16 ∷ 8 ∷ []) $
+          forget ! 0 refl $ free1 ! $ forget ! 0 refl $ free1 ! $ forget ! 0 refl $ free1 ! $ forget ! 0 refl $ free1 ! $
+          forget ! 0 refl $ free1 ! $ forget ! 0 refl $ free1 ! $ forget ! 0 refl $ free1 ! $ forget ! 0 refl $ free1 ! $
+          forget ! 0 refl $ free1 ! $ free0 ! $
+          move ! (1 ∷ 2 ∷ 3 ∷ 4 ∷ 5 ∷ 0 ∷ 6 ∷ []) $ by ! (exits r w-r (ws-r .1 .1 .1 .1 .1 .1 .0) (e-r) is-r)))))))))))
 
   f-meets : (𝓣 : Tables 𝓤 H) → Known (𝓣 .C)
       → Meets 𝓤 H A f.signature (WpFn 𝓤 H (𝓣 .C) (𝓣 .Λ) code.function) (f.spec 𝓤 H A at-mem run)
@@ -1152,10 +392,9 @@ module _ {M : Type 1} (𝓤 : URA M) (H : Heap 𝓤) (A : Atoms 𝓤) (W : Given
       ))
       (λ κs qs bounds a g are. via 𝓤 _ (fst∗ 𝓤 _ (emp 𝓤))
       (walk (κs .0) (κs .1 .0) (κs .1 .1 .0) (κs .1 .1 .1 .0) (κs .1 .1 .1 .1 .0) (κs .1 .1 .1 .1 .1 .0) (qs .0) (qs .1 .0) (qs .1 .1 .0)
-      (qs .1 .1 .1 .0) (qs .1 .1 .1 .1 .0) (qs .1 .1 .1 .1 .1 .0) (a .0 .ptr .0) (a .0 .ptr .1) (a .0 .name) (a .0 .now) (a .1 .0)
-      (are .1 .0 .0 .1) (a .1 .1 .0) (are .1 .1 .0 .0 .1) (a .1 .1 .1 .0) (are .1 .1 .1 .0 .0 .1) (a .1 .1 .1 .1 .0)
-      (are .1 .1 .1 .1 .0 .0 .1) (a .1 .1 .1 .1 .1 .0) (vint w32 (a .1 .1 .1 .1 .1 .0)) (are .1 .1 .1 .1 .1 .0) (a .1 .1 .1 .1 .1 .1 .0)
-      (𝓣 .C) (𝓣 .Λ) (fmOf 𝓤 H (W .laws) 𝓣) known)))
+      (qs .1 .1 .1 .0) (qs .1 .1 .1 .1 .0) (qs .1 .1 .1 .1 .1 .0) (a .0) (a .1 .0) (are .1 .0 .0 .1) (a .1 .1 .0) (are .1 .1 .0 .0 .1)
+      (a .1 .1 .1 .0) (are .1 .1 .1 .0 .0 .1) (a .1 .1 .1 .1 .0) (are .1 .1 .1 .1 .0 .0 .1) (a .1 .1 .1 .1 .1 .0)
+      (vint w32 (a .1 .1 .1 .1 .1 .0)) (are .1 .1 .1 .1 .1 .0) (a .1 .1 .1 .1 .1 .1 .0) (𝓣 .C) (𝓣 .Λ) (fmOf 𝓤 H (W .laws) 𝓣) known)))
 
 pub ampferweg-check-spec : {M : Type 1} → stated.statement M
 unfolding code.routine tablesOf
@@ -1163,16 +402,6 @@ ampferweg-check-spec 𝓤 H 𝓜 𝓖 𝓡 =
     entered 𝓤 H (tripleOf 𝓤 H (𝓖 .A) f.signature (f.spec 𝓤 H (𝓖 .A) (𝓜 .mem) (𝓡 .run)))
     (tables 𝓤 H 𝓜 𝓡 code.env .C) (tables 𝓤 H 𝓜 𝓡 code.env .Λ) #f code.function (code.unfolded 𝓤 H 𝓜 𝓡)
     (f-meets 𝓤 H (𝓖 .A) (givenOf 𝓤 H 𝓜 𝓖) (𝓜 .mem) (𝓡 .run) (tablesOf 𝓤 H 𝓜 (tables 𝓤 H 𝓜 𝓡 code.env)) (
-      cited 𝓤 H (tripleOf 𝓤 H (𝓖 .A) count-of.signature (count-of.spec 𝓤 H (𝓖 .A) (𝓜 .mem) (𝓡 .run))) 𝓜 𝓡 code.env count-of-def.name
-          count-of-def.routine code.calls-results·outstanding-count (count-of-thm.met 𝓤 H 𝓜 𝓖 𝓡),
-      cited 𝓤 H (tripleOf 𝓤 H (𝓖 .A) gather.signature (gather.spec 𝓤 H (𝓖 .A) (𝓜 .mem) (𝓡 .run))) 𝓜 𝓡 code.env gather-def.name
-          gather-def.routine code.calls-gathering·gather (gather-thm.met 𝓤 H 𝓜 𝓖 𝓡),
-      cited 𝓤 H (tripleOf 𝓤 H (𝓖 .A) table-len.signature (table-len.spec 𝓤 H (𝓖 .A) (𝓜 .mem) (𝓡 .run))) 𝓜 𝓡 code.env
-          table-len-def.name
-          table-len-def.routine code.calls-records·table-len (table-len-thm.met 𝓤 H 𝓜 𝓖 𝓡),
-      cited 𝓤 H (tripleOf 𝓤 H (𝓖 .A) core.signature (core.spec 𝓤 H (𝓖 .A) (𝓜 .mem) (𝓡 .run))) 𝓜 𝓡 code.env core-def.name
-          core-def.routine
-          code.calls-check-core·check (core-thm.met 𝓤 H 𝓜 𝓖 𝓡),
-      cited 𝓤 H (tripleOf 𝓤 H (𝓖 .A) code-of.signature (code-of.spec 𝓤 H (𝓖 .A) (𝓜 .mem) (𝓡 .run))) 𝓜 𝓡 code.env code-of-def.name
-          code-of-def.routine code.calls-codes·tell-time (code-of-thm.met 𝓤 H 𝓜 𝓖 𝓡),
+    cited 𝓤 H (tripleOf 𝓤 H (𝓖 .A) call.signature (call.spec 𝓤 H (𝓖 .A) (𝓜 .mem) (𝓡 .run))) 𝓜 𝓡 code.env call-def.name
+    call-def.routine code.calls-asks·check (call-thm.met 𝓤 H 𝓜 𝓖 𝓡)
     ))

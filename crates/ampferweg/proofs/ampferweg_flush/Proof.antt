@@ -1,4 +1,4 @@
--- `ampferweg::ampferweg_flush` meets its contract: a walk of its MIR. Block and table are given to `write_and_put_back`.
+-- `ampferweg::ampferweg_flush` meets its contract: a walk of its MIR. Block and table are given to `write_out`.
 -- Of each callee the proof knows only that it meets its contract. Written by tools/calls.py.
 -- Assumes nothing.
 use Rattle.records.proofs.Walk.{
@@ -163,7 +163,7 @@ use denote.Memory.{pointee}
 use Rattle.timing.proofs.Record.Laws as record-laws
 use prog.Wp.{Env, Wp, atReturn}
 use types.Kit.{group, raw, atRet}
-use denote.Memory.{partAt}
+use denote.Memory.{partAt, cellAt}
 use types.Tokens.{lft-new, lft-end}
 use denote.Plain.{uint-lawful, nothing-lawful}
 use denote.Signed.{sint-lawful, sint-makes}
@@ -187,9 +187,9 @@ use Rattle.codes.specs.Gives.{Gives}
 use Rattle.results.proofs.at_once as paced-of
 use Rattle.results.proofs.at_once.Symbol as paced-of-def
 use Rattle.results.proofs.at_once.Met as paced-of-thm
-use Rattle.write_out.proofs.write_and_put_back as writing
-use Rattle.write_out.proofs.write_and_put_back.Symbol as writing-def
-use Rattle.write_out.proofs.write_and_put_back.Met as writing-thm
+use Rattle.write_out.proofs.write_out as writing
+use Rattle.write_out.proofs.write_out.Symbol as writing-def
+use Rattle.write_out.proofs.write_out.Met as writing-thm
 use Rattle.ampferweg.proofs.ampferweg_flush.Key.{name as #f}
 use Rattle.ampferweg.proofs.ampferweg_flush as f
 use Rattle.ampferweg.proofs.ampferweg_flush.Statement as stated
@@ -295,26 +295,22 @@ module _ {M : Type 1} (𝓤 : URA M) (H : Heap 𝓤) (A : Atoms 𝓤) (W : Given
 
     asks-writing : (y₀ : Bool) (u₀ : Val) → Is Boolean y₀ (u₀ ∷ []) → (y₁ : ℕ) (u₁ : Val) → Is u32 y₁ (u₁ ∷ [])
         → ent 𝓤 (⋆ 𝓤 H A (‵ (flft κ₀ q₀) ∷ ‵ Own₀ ∷ ‵ (flft κ₁ q₁) ∷ ‵ Own₁ ∷ ‵ (flft κ₂ q₂) ∷ ‵ Own₂
-        ∷ ‵ (flft κ₃ q₃) ∷ ‵ Own₃
-        ∷ ‵ (flft κ₄ q₄) ∷ ‵ Own₄ ∷ ‵ (flft κ₅ q₅) ∷ ‵ Own₆ ∷ ‵ (flft κ₆ q₆) ∷ ‵ Own₇ ∷ []))
-        (tripleOf 𝓤 H A writing.signature (writing.spec 𝓤 H A at-mem run) .pre (to-writing y₀ u₀ y₁ u₁))
+        ∷ ‵ (flft κ₃ q₃) ∷ ‵ Own₃ ∷ ‵ (flft κ₄ q₄) ∷ ‵ Own₄ ∷ ‵ (flft κ₅ q₅) ∷ ‵ Own₆ ∷ ‵ (flft κ₆ q₆)
+        ∷ ‵ Own₇ ∷ [])) (tripleOf 𝓤 H A writing.signature (writing.spec 𝓤 H A at-mem run) .pre (to-writing y₀ u₀ y₁ u₁))
     asks-writing y₀ u₀ is₀ y₁ u₁ is₁ =
         qed W (‵ (flft κ₀ q₀) ∷ ‵ Own₀ ∷ ‵ (flft κ₁ q₁) ∷ ‵ Own₁ ∷ ‵ (flft κ₂ q₂) ∷ ‵ Own₂ ∷ ‵ (flft κ₃ q₃)
-        ∷ ‵ Own₃ ∷ ‵ (flft κ₄ q₄)
-        ∷ ‵ Own₄ ∷ ‵ (flft κ₅ q₅) ∷ ‵ Own₆ ∷ ‵ (flft κ₆ q₆) ∷ ‵ Own₇ ∷ []) ∵ nothing ! $ move ! (13 ∷ 0 ∷ []) $
-        join ! $
-        move ! (11 ∷ 0 ∷ []) $ join ! $ move ! (9 ∷ 0 ∷ []) $ join ! $ move ! (7 ∷ 0 ∷ []) $ join ! $ move ! (5 ∷ 0 ∷ []) $ join ! $
-        move ! (3 ∷ 0 ∷ []) $ join ! $ move ! (1 ∷ 0 ∷ []) $ join ! $ nothing ! $ move ! (8 ∷ 0 ∷ []) $ fjoin ! $ move ! (7 ∷ 0 ∷ []) $
-        fjoin ! $ owned ! u32 (Is u32) (uint-makes 𝓤 H A W w32) y₁ _ is₁ $ fjoin ! $
-        owned ! Boolean (Is Boolean) (bool-makes 𝓤 H A W) y₀ _ is₀ $ fjoin ! $ move ! (6 ∷ 0 ∷ []) $ fjoin ! $ move ! (5 ∷ 0 ∷ []) $
-        fjoin ! $ move ! (4 ∷ 0 ∷ []) $ fjoin ! $ move ! (3 ∷ 0 ∷ []) $ fjoin ! $ move ! (2 ∷ 0 ∷ []) $ fjoin ! $ move ! (1 ∷ 0 ∷ []) $
-        join ! $ nothing ! $ move ! (1 ∷ 0 ∷ []) $ done !
+        ∷ ‵ Own₃ ∷ ‵ (flft κ₄ q₄) ∷ ‵ Own₄ ∷ ‵ (flft κ₅ q₅) ∷ ‵ Own₆ ∷ ‵ (flft κ₆ q₆) ∷ ‵ Own₇ ∷ [])
+        ∵ nothing ! $ move ! (13 ∷ 0 ∷ []) $ join ! $ move ! (11 ∷ 0 ∷ []) $ join ! $ move ! (9 ∷ 0 ∷ []) $ join ! $
+        move ! (7 ∷ 0 ∷ []) $ join ! $ move ! (5 ∷ 0 ∷ []) $ join ! $ move ! (3 ∷ 0 ∷ []) $ join ! $ move ! (1 ∷ 0 ∷ []) $ join ! $
+        nothing ! $ move ! (8 ∷ 0 ∷ []) $ fjoin ! $ move ! (7 ∷ 0 ∷ []) $ fjoin ! $
+        owned ! u32 (Is u32) (uint-makes 𝓤 H A W w32) y₁ _ is₁ $ fjoin ! $ owned ! Boolean (Is Boolean) (bool-makes 𝓤 H A W) y₀ _ is₀ $
+        fjoin ! $ move ! (6 ∷ 0 ∷ []) $ fjoin ! $ move ! (5 ∷ 0 ∷ []) $ fjoin ! $ move ! (4 ∷ 0 ∷ []) $ fjoin ! $ move ! (3 ∷ 0 ∷ []) $
+        fjoin ! $ move ! (2 ∷ 0 ∷ []) $ fjoin ! $ move ! (1 ∷ 0 ∷ []) $ join ! $ nothing ! $ move ! (1 ∷ 0 ∷ []) $ done !
 
     abbrev Had : (z₀ : Link) (z₃ : List Record) (z₆ : List ℕ) (z₇ : List ℕ) → List (Item 𝓤)
     Had z₀ z₃ z₆ z₇ = ‵ (fres (x₀ .name) (L .coded .code z₀)) ∷ ‵ (flft κ₀ q₀) ∷ ‵ (flft κ₁ q₁) ∷ ‵ (flft κ₂ q₂)
         ∷ ‵ (finally R (x₃ .name) z₃) ∷ ‵ (flft κ₃ q₃) ∷ ‵ (flft κ₄ q₄) ∷ ‵ (finally u8 (x₆ .name) z₆)
-        ∷ ‵ (flft κ₅ q₅)
-        ∷ ‵ (finally u16 (x₇ .name) z₇) ∷ ‵ (flft κ₆ q₆) ∷ []
+        ∷ ‵ (flft κ₅ q₅) ∷ ‵ (finally u16 (x₇ .name) z₇) ∷ ‵ (flft κ₆ q₆) ∷ []
 
     -- what the contract says
     abbrev Said : (r : ℤ) (z₀ : Link) (z₃ : List Record) (z₆ : List ℕ) (z₇ : List ℕ) → Type 0
@@ -322,8 +318,7 @@ module _ {M : Type 1} (𝓤 : URA M) (H : Heap 𝓤) (A : Atoms 𝓤) (W : Given
         (flushPartsOf (x₆ .now) (x₇ .now)) a z₀ (partsOf (x₁ .now) (x₂ .now) z₃ (x₄ .now)) (flushPartsOf z₆ z₇)) r
 
     exits : (r : ℤ) (w : Val) (z₀ : Link) (z₃ : List Record) (z₆ : List ℕ) (z₇ : List ℕ) → Said r z₀ z₃ z₆ z₇
-        → length z₃ ≡ length (x₃ .now)
-        → length z₆ ≡ length (x₆ .now) → length z₇ ≡ length (x₇ .now) → Is i32 r (w ∷ [])
+        → length z₃ ≡ length (x₃ .now) → length z₆ ≡ length (x₆ .now) → length z₇ ≡ length (x₇ .now) → Is i32 r (w ∷ [])
         → ent 𝓤 (⋆ 𝓤 H A (Had z₀ z₃ z₆ z₇)) (Post w)
     unfolding Post
     exits r w z₀ z₃ z₆ z₇ e len₃ len₆ len₇ g =
@@ -338,12 +333,12 @@ module _ {M : Type 1} (𝓤 : URA M) (H : Heap 𝓤) (A : Atoms 𝓤) (W : Given
 
     module _ (C : Calls 𝓤 H) (Λ : Loops 𝓤 H) (fm : FmC 𝓤 H (W .laws) C) (known : Known C) where
       walk : ent 𝓤 (onEntry 𝓤 H A f.signature (κ₀, (κ₁, (κ₂, (κ₃, (κ₄, (κ₅, (κ₆, tt)))))))
-          (q₀, (q₁, (q₂, (q₃, (q₄, (q₅, (q₆, tt))))))) x
-          at) (WpFn 𝓤 H C Λ code.function (s₀ ∷ s₁ ∷ s₂ ∷ s₃ ∷ s₄ ∷ v₅ ∷ s₆ ∷ s₇ ∷ []) Post)
+          (q₀, (q₁, (q₂, (q₃, (q₄, (q₅, (q₆, tt))))))) x at)
+          (WpFn 𝓤 H C Λ code.function (s₀ ∷ s₁ ∷ s₂ ∷ s₃ ∷ s₄ ∷ v₅ ∷ s₆ ∷ s₇ ∷ []) Post)
       walk =
           qed W ((‵ (flft κ₀ q₀) ⊛ ‵ (flft κ₁ q₁) ⊛ ‵ (flft κ₂ q₂) ⊛ ‵ (flft κ₃ q₃) ⊛ ‵ (flft κ₄ q₄) ⊛ ‵
-          (flft κ₅ q₅) ⊛ ‵ (flft κ₆ q₆) ⊛ ‵
-          ftrue) ∷ ‵ (owns (MutRef (named 0) κ₀ L ∷ ShrSlice (named 1) κ₁ u8 ∷ ShrSlice (named 2) κ₂ u8 ∷ MutSlice (named 3) κ₃ R
+          (flft κ₅ q₅) ⊛ ‵ (flft κ₆ q₆) ⊛ ‵ ftrue)
+          ∷ ‵ (owns (MutRef (named 0) κ₀ L ∷ ShrSlice (named 1) κ₁ u8 ∷ ShrSlice (named 2) κ₂ u8 ∷ MutSlice (named 3) κ₃ R
           ∷ ShrSlice (named 4) κ₄ u32 ∷ u32 ∷ MutSlice (named 5) κ₅ u8 ∷ MutSlice (named 6) κ₆ u16 ∷ []) x at) ∷ []) ∵
           enter ! C Λ code.function (s₀ ∷ s₁ ∷ s₂ ∷ s₃ ∷ s₄ ∷ v₅ ∷ s₆ ∷ s₇ ∷ []) _ $
           alloc1 ! (λ l₀. alloc1 ! (λ l₁. alloc1 ! (λ l₂.
@@ -364,14 +359,11 @@ module _ {M : Type 1} (𝓤 : URA M) (H : Heap 𝓤) (A : Atoms 𝓤) (W : Given
           ∷ ‵ (u32 .own (x₅) (v₅ ∷ [])) ∷ ‵ (MutSlice (named 5) κ₅ u8 .own (x₆) (s₆ ∷ []))
           ∷ ‵ (MutSlice (named 6) κ₆ u16 .own (x₇) (s₇ ∷ [])) ∷ ‵ ftrue ∷ []) (id⊢ 𝓤 _) $ move ! (43 ∷ []) $
           spread W (‵ (flft κ₀ q₀)) (‵ (flft κ₁ q₁) ∷ ‵ (flft κ₂ q₂) ∷ ‵ (flft κ₃ q₃) ∷ ‵ (flft κ₄ q₄)
-          ∷ ‵ (flft κ₅ q₅) ∷ ‵ (flft κ₆ q₆)
-          ∷ ‵ ftrue ∷ []) (id⊢ 𝓤 _) $ keep ! (0 ∷ 1 ∷ 2 ∷ 3 ∷ 4 ∷ 5 ∷ 6 ∷ 8 ∷ 9 ∷ 10 ∷ 11 ∷ 12 ∷ 14 ∷ 15 ∷ 17 ∷ 18
-          ∷ 19 ∷ 20 ∷ 21 ∷ 22
-          ∷ 23 ∷ 24 ∷ 25 ∷ 26 ∷ 27 ∷ 28 ∷ 29 ∷ 30 ∷ 31 ∷ 32 ∷ 33 ∷ 34 ∷ 35 ∷ 36 ∷ 37 ∷ 38 ∷ 39 ∷ 40 ∷ 41 ∷ 42 ∷ 43
-          ∷ 44 ∷ 45 ∷ 46 ∷ 47
-          ∷ 48 ∷ 49 ∷ 50 ∷ []) $ move ! (47 ∷ 45 ∷ 43 ∷ 41 ∷ 39 ∷ 37 ∷ 35 ∷ 33 ∷ 31 ∷ 29 ∷ 27 ∷ 25 ∷ 23 ∷ 21 ∷ 19 ∷ 17
-          ∷ 15 ∷ []) $
-          group ! 17 $
+          ∷ ‵ (flft κ₅ q₅) ∷ ‵ (flft κ₆ q₆) ∷ ‵ ftrue ∷ []) (id⊢ 𝓤 _) $
+          keep ! (0 ∷ 1 ∷ 2 ∷ 3 ∷ 4 ∷ 5 ∷ 6 ∷ 8 ∷ 9 ∷ 10 ∷ 11 ∷ 12 ∷ 14 ∷ 15 ∷ 17 ∷ 18 ∷ 19 ∷ 20 ∷ 21 ∷ 22 ∷ 23
+          ∷ 24 ∷ 25 ∷ 26 ∷ 27 ∷ 28 ∷ 29 ∷ 30 ∷ 31 ∷ 32 ∷ 33 ∷ 34 ∷ 35 ∷ 36 ∷ 37 ∷ 38 ∷ 39 ∷ 40 ∷ 41 ∷ 42 ∷ 43 ∷ 44
+          ∷ 45 ∷ 46 ∷ 47 ∷ 48 ∷ 49 ∷ 50 ∷ []) $
+          move ! (47 ∷ 45 ∷ 43 ∷ 41 ∷ 39 ∷ 37 ∷ 35 ∷ 33 ∷ 31 ∷ 29 ∷ 27 ∷ 25 ∷ 23 ∷ 21 ∷ 19 ∷ 17 ∷ 15 ∷ []) $ group ! 17 $
           -- [deaths; tok0; tok1; tok2; tok3; tok4; tok6; tok7; own0; own1; own2; own3; own4; own6; own7; the locals]
           nothing ! $ calls-fn ! fm paced-of.ended (paced-of.clauses 𝓤 H A at-mem run) (known .0) ((tt, tt, tt, tt, tt), tt)
           (λ b _. b ≡ false)
@@ -402,9 +394,8 @@ module _ {M : Type 1} (𝓤 : URA M) (H : Heap 𝓤) (A : Atoms 𝓤) (W : Given
           (λ r ws-r. WrittenOut b x₅ (x₀ .now) (partsOf (x₁ .now) (x₂ .now) (x₃ .now) (x₄ .now)) (flushPartsOf (x₆ .now) (x₇ .now))
           (ws-r .0) (partsOf (x₁ .now) (x₂ .now) (ws-r .1 .1 .1 .0) (x₄ .now))
           (flushPartsOf (ws-r .1 .1 .1 .1 .1 .1 .1 .0) (ws-r .1 .1 .1 .1 .1 .1 .1 .1 .0)) r)
-          (‵ (flft κ₀ q₀) ⊛ ‵ Own₀ ⊛ ‵ (flft κ₁ q₁) ⊛ ‵ Own₁ ⊛ ‵ (flft κ₂ q₂) ⊛ ‵ Own₂ ⊛ ‵ (flft κ₃ q₃) ⊛
-          ‵ Own₃ ⊛ ‵ (flft κ₄ q₄) ⊛ ‵
-          Own₄ ⊛ ‵ (flft κ₅ q₅) ⊛ ‵ Own₆ ⊛ ‵ (flft κ₆ q₆) ⊛ ‵ Own₇)
+          (‵ (flft κ₀ q₀) ⊛ ‵ Own₀ ⊛ ‵ (flft κ₁ q₁) ⊛ ‵ Own₁ ⊛ ‵ (flft κ₂ q₂) ⊛ ‵ Own₂ ⊛ ‵ (flft κ₃ q₃)
+          ⊛ ‵ Own₃ ⊛ ‵ (flft κ₄ q₄) ⊛ ‵ Own₄ ⊛ ‵ (flft κ₅ q₅) ⊛ ‵ Own₆ ⊛ ‵ (flft κ₆ q₆) ⊛ ‵ Own₇)
           (asks-writing b w-b is-b x₅ v₅ g₅) (λ r ws-r. id⊢ 𝓤 _)
           (and-then ! (load ! (from ! (stop !)) (look ! 8 refl))
           (and-then ! (load ! (from ! (stop !)) (look ! 16 refl))
@@ -416,8 +407,7 @@ module _ {M : Type 1} (𝓤 : URA M) (H : Heap 𝓤) (A : Atoms 𝓤) (W : Given
           (and-then ! (load ! (from ! (stop !)) (look ! 4 refl)) (and-then ! (load ! (from ! (stop !)) (look ! 2 refl)) (no-more !))))))))))
           (λ r w-r ws-r e-r is-r. land ! (from ! (stop !)) (init ! 19 refl (sint-lawful 𝓤 H A W w32 .typed r _ is-r .0)) $
           spread W (‵ (flft κ₀ q₀)) (‵ (flft κ₁ q₁) ∷ ‵ (flft κ₂ q₂) ∷ ‵ (flft κ₃ q₃) ∷ ‵ (flft κ₄ q₄)
-          ∷ ‵ (flft κ₅ q₅) ∷ ‵ (flft κ₆ q₆)
-          ∷ ‵ ftrue ∷ []) (id⊢ 𝓤 _) $ move ! (8 ∷ []) $
+          ∷ ‵ (flft κ₅ q₅) ∷ ‵ (flft κ₆ q₆) ∷ ‵ ftrue ∷ []) (id⊢ 𝓤 _) $ move ! (8 ∷ []) $
           spread W (‵ (fres (x₀ .name) (L .coded .code (ws-r .0))))
           (‵ ftrue ∷ ‵ ftrue ∷ ‵ (fsep (finally R (x₃ .name) (ws-r .1 .1 .1 .0)) (feq ℕ (length (ws-r .1 .1 .1 .0)) (length (x₃ .now))))
           ∷ ‵ ftrue ∷ ‵ ftrue ∷ ‵ ftrue ∷ ‵ (fsep (finally u8 (x₆ .name) (ws-r .1 .1 .1 .1 .1 .1 .1 .0))
@@ -425,8 +415,7 @@ module _ {M : Type 1} (𝓤 : URA M) (H : Heap 𝓤) (A : Atoms 𝓤) (W : Given
           ∷ ‵ (fsep (finally u16 (x₇ .name) (ws-r .1 .1 .1 .1 .1 .1 .1 .1 .0))
           (feq ℕ (length (ws-r .1 .1 .1 .1 .1 .1 .1 .1 .0)) (length (x₇ .now)))) ∷ ‵ ftrue ∷ []) (id⊢ 𝓤 _) $
           keep ! (0 ∷ 3 ∷ 7 ∷ 8 ∷ 10 ∷ 11 ∷ 12 ∷ 13 ∷ 14 ∷ 15 ∷ 16 ∷ 18 ∷ 19 ∷ 20 ∷ 21 ∷ 22 ∷ 23 ∷ 24 ∷ 25 ∷ 26 ∷ 27
-          ∷ 28 ∷ 29 ∷ 30 ∷ 31
-          ∷ 32 ∷ 33 ∷ 34 ∷ 35 ∷ []) $ move ! (1 ∷ []) $ fsplit ! $ move ! (1 ∷ []) $
+          ∷ 28 ∷ 29 ∷ 30 ∷ 31 ∷ 32 ∷ 33 ∷ 34 ∷ 35 ∷ []) $ move ! (1 ∷ []) $ fsplit ! $ move ! (1 ∷ []) $
           feqL ! (λ len₃. move ! (2 ∷ []) $ fsplit ! $ move ! (1 ∷ []) $
           feqL ! (λ len₆. move ! (3 ∷ []) $ fsplit ! $ move ! (1 ∷ []) $ feqL ! (λ len₇.
           -- [fin7; fin6; fin3; fin0; tok0; tok1; tok2; tok3; tok4; tok6; tok7; deaths; the locals]
@@ -441,13 +430,12 @@ module _ {M : Type 1} (𝓤 : URA M) (H : Heap 𝓤) (A : Atoms 𝓤) (W : Given
           ∷ ‵ (fdies (tyRef erased mut (pointee (R .written))) l₁₁) ∷ ‵ (fdies (sliceTy (tyRef erased mut (pointee (R .written)))) l₁₂)
           ∷ ‵ (fdies (tyRef erased mut (tyInt w8)) l₁₃) ∷ ‵ (fdies (sliceTy (tyRef erased mut (tyInt w8))) l₁₄)
           ∷ ‵ (fdies (tyRef erased mut (tyInt w16)) l₁₅) ∷ ‵ (fdies (sliceTy (tyRef erased mut (tyInt w16))) l₁₆) ∷ []) (id⊢ 𝓤 _) $
-          move ! (44 ∷ 0 ∷ 43 ∷ 1 ∷ 42 ∷ 2 ∷ 41 ∷ 3 ∷ 40 ∷ 4 ∷ 39 ∷ 5 ∷ 38 ∷ 6 ∷ 37 ∷ 7 ∷ 36 ∷ 8 ∷ 35 ∷ 9 ∷ 34 ∷ 10
-          ∷ 33 ∷ 11 ∷ 32 ∷ 12
-          ∷ 31 ∷ 13 ∷ 30 ∷ 14 ∷ 29 ∷ 15 ∷ 28 ∷ 16 ∷ []) $ forget ! 0 refl $ free1 ! $ forget ! 0 refl $ free1 ! $ forget ! 0 refl $
+          move ! (44 ∷ 0 ∷ 43 ∷ 1 ∷ 42 ∷ 2 ∷ 41 ∷ 3 ∷ 40 ∷ 4 ∷ 39 ∷ 5 ∷ 38 ∷ 6 ∷ 37 ∷ 7 ∷ 36 ∷ 8 ∷ 35 ∷ 9 ∷ 34
+          ∷ 10 ∷ 33 ∷ 11 ∷ 32 ∷ 12 ∷ 31 ∷ 13 ∷ 30 ∷ 14 ∷ 29 ∷ 15 ∷ 28 ∷ 16 ∷ []) $ forget ! 0 refl $ free1 ! $ forget ! 0 refl $
           free1 ! $ forget ! 0 refl $ free1 ! $ forget ! 0 refl $ free1 ! $ forget ! 0 refl $ free1 ! $ forget ! 0 refl $ free1 ! $
           forget ! 0 refl $ free1 ! $ forget ! 0 refl $ free1 ! $ forget ! 0 refl $ free1 ! $ forget ! 0 refl $ free1 ! $
           forget ! 0 refl $ free1 ! $ forget ! 0 refl $ free1 ! $ forget ! 0 refl $ free1 ! $ forget ! 0 refl $ free1 ! $
-          forget ! 0 refl $ free1 ! $ forget ! 0 refl $ free1 ! $ free0 ! $
+          forget ! 0 refl $ free1 ! $ forget ! 0 refl $ free1 ! $ forget ! 0 refl $ free1 ! $ free0 ! $
           move ! (3 ∷ 4 ∷ 5 ∷ 6 ∷ 2 ∷ 7 ∷ 8 ∷ 1 ∷ 9 ∷ 0 ∷ 10 ∷ []) $
           by ! (exits r w-r (ws-r .0) (ws-r .1 .1 .1 .0) (ws-r .1 .1 .1 .1 .1 .1 .1 .0) (ws-r .1 .1 .1 .1 .1 .1 .1 .1 .0)
           (subst (λ y. WrittenOut y x₅ (x₀ .now) (partsOf (x₁ .now) (x₂ .now) (x₃ .now) (x₄ .now)) (flushPartsOf (x₆ .now) (x₇ .now))
@@ -519,5 +507,5 @@ ampferweg-flush-spec 𝓤 H 𝓜 𝓖 𝓡 =
       cited 𝓤 H (tripleOf 𝓤 H (𝓖 .A) paced-of.signature (paced-of.spec 𝓤 H (𝓖 .A) (𝓜 .mem) (𝓡 .run))) 𝓜 𝓡 code.env paced-of-def.name
           paced-of-def.routine code.calls-results·at-once (paced-of-thm.met 𝓤 H 𝓜 𝓖 𝓡),
       cited 𝓤 H (tripleOf 𝓤 H (𝓖 .A) writing.signature (writing.spec 𝓤 H (𝓖 .A) (𝓜 .mem) (𝓡 .run))) 𝓜 𝓡 code.env writing-def.name
-          writing-def.routine code.calls-write-out·write-and-put-back (writing-thm.met 𝓤 H 𝓜 𝓖 𝓡),
+          writing-def.routine code.calls-write-out·write-out (writing-thm.met 𝓤 H 𝓜 𝓖 𝓡),
     ))

@@ -4,8 +4,9 @@ use mathlib.Core.Path.{_≡_, ap, _∙_}
 use mathlib.Core.List.{List}
 use Prim.Native.Nat.{ℕ}
 use borrow.Author.Needs.{needs}
-use lib.ListN.{length, take}
-use Rattle.lists.proofs.Loops.{length-mapped}
+use lib.ListN.{take}
+use Rattle.record_words.specs.RecordWords.{recordsIn}
+use Rattle.record_words.specs.RecordLaws.{records-length}
 use Rattle.checking.specs.Verdicts.{verdictOf}
 use Rattle.schedule.specs.Schedules.{duesOf, named}
 use Rattle.schedule.specs.declared.Schedule.{Schedule}
@@ -26,12 +27,19 @@ block s =
 judged : (c : tie.After-admit-hearing) (acks : List ℕ)
     → let sizes = c .before .before .before in
     let start = sizes .before .before .before .before in
-    c .admit-hearing .result ≡ verdictOf (sizes .enough .result) (blockValid (block start) (start .args .records) acks)
+    c .admit-hearing .result ≡ verdictOf (sizes .enough .result) (blockValid (block start) (recordsIn (start .args .records .now)) acks)
 judged c acks =
     let fits = c .before .before in
     let start = fits .before .before .before .before .before in
-    let many : length (start .args .records) ≡ 32 = search (needs, length-mapped, start .good .1 .1 .1 .1 .0) in
-    c .admit-hearing .ensures (start .args .records) (record { whole = many; fits = fits .flight-fits .ensures }) .1 .verdict acks
+    let records = start .args .records .now in
+    c .admit-hearing .ensures (recordsIn records)
+    (record { whole = records-length 32 records (start .pre .1); fits = fits .flight-fits .ensures }) .1 .verdict acks
+
+flight-fits-requires : tie.Need-flight-fits-requires
+flight-fits-requires c κs = c .before .before .before .before .pre .1
+
+check-requires : tie.Need-check-requires
+check-requires c κs = c .before .before .before .before .before .before .before .before .before .before .pre .1
 
 returns : tie.Need-returns
 returns c =
@@ -41,11 +49,11 @@ returns c =
     let sizes = checks .before .before .before in
     let start = sizes .before .before .before .before in
     let a = start .args in
-    names (block start) (start .pre) (a .records) (a .acks .now) _ _ _ (sizes .enough .ensures) (judged checks _)
+    names (block start) (start .pre .0) (recordsIn (a .records .now)) (a .acks .now) _ _ _ (sizes .enough .ensures) (judged checks _)
     (a .t) (told .enum-told .given .1) _
     (c .check .ensures
     ∙ ap (λ (s : Schedule). named s (a .t) (a .settings .interval)
-    (duesOf (take (a .flight .outstanding) (a .records)))) (schedules .schedule-of .ensures))
+    (duesOf (take (a .flight .outstanding) (recordsIn (a .records .now))))) (schedules .schedule-of .ensures))
 
 returns-2 : tie.Need-returns-2
 returns-2 c =
@@ -53,7 +61,7 @@ returns-2 c =
     let sizes = checks .before .before .before in
     let start = sizes .before .before .before .before in
     let a = start .args in
-    refuses (block start) (start .pre) (a .records) (a .acks .now) _ _ _ (sizes .enough .ensures) (judged checks _)
+    refuses (block start) (start .pre .0) (recordsIn (a .records .now)) (a .acks .now) _ _ _ (sizes .enough .ensures) (judged checks _)
     (a .t) _ (c .before .verdict .given .1)
 
 pub check-spec : {M : Type 1} → statement M
@@ -61,11 +69,11 @@ check-spec =
     tie.close
     (tie.spec
     (λ c κs. search needs)
-    (λ c κs. search needs)
+    flight-fits-requires
     (λ c κs. search needs)
     (λ c. search needs)
     (λ c κs. search needs)
-    (λ c κs. search needs)
+    check-requires
     (λ c. search needs)
     returns
     returns-2)

@@ -1,6 +1,5 @@
 -- `flush_now`: what its parts give, put together.
 -- Assumes nothing.
-use mathlib.Core.Path.{refl}
 use Prim.Native.Nat.{_<_, _^_}
 use borrow.Author.Needs.{needs}
 use Rattle.flush_core.proofs.Ready.{few-ready, numberable, countable, writable}
@@ -13,42 +12,45 @@ plan-of-requires c κs = few-ready _ _ _ _ _ _ _ _ _ _ _ (c .before .before .bef
 
 number-requires : tie.Need-number-requires
 number-requires c κs =
-    let window = c .before .before .before in
+    let window = c .before .before .before .before in
     let start = window .before .before .before .before .before .before in
     numberable _ _ _ _ _ _ _ _ _ _ _ (start .pre) _ (window .window-of .ensures)
 
 write-requires : tie.Need-write-requires
 write-requires c κs =
-    let numbers = c .before .before .before .before .before .before in
-    let plans = numbers .before .before .before .before .before in
+    let numbers = c .before .before .before .before .before in
+    let plans = numbers .before .before .before .before .before .before in
     let start = plans .before .before .before .before .before in
-    writable _ _ _ _ _ _ _ _ _ _ _ (start .pre) _ _ _ _ _ _ _ _ (plans .plan-of .ensures) (numbers .number .ensures)
+    writable _ _ _ _ _ _ _ _ _ _ _ (start .pre) _ _ _ _ _ _ _ _ _ (plans .plan-of .ensures) (numbers .number .ensures)
 
 una-fits : (c : tie.After-slice-known2) → c .before .before .before .before .args .flight .una < 2 ^ 32
 una-fits c = search needs
 
 after-losses-requires : tie.Need-after-losses-requires
 after-losses-requires c κs =
-    let writes = c .before .before .before .before .before .before in
-    let numbers = writes .before .before .before .before .before .before .before in
-    let window = numbers .before .before .before .before in
+    let writes = c .before .before .before .before in
+    let numbers = writes .before .before .before .before .before .before in
+    let window = numbers .before .before .before .before .before in
     let start = window .before .before .before .before .before .before in
-    countable _ _ _ _ _ _ _ _ _ _ _ (start .pre) _ _ _ _ _ (window .window-of .ensures) (una-fits (window .before .before))
+    countable _ _ _ _ _ _ _ _ _ _ _ (start .pre) _ _ _ _ _ _ (window .window-of .ensures) (una-fits (window .before .before))
     (numbers .number .ensures) _ _
 
 returns : tie.Need-returns
-returns c ready waiting numbers whole =
-    let writes = c .before .before .before .before .before .before .before .before .before in
-    let numbered = writes .before .before .before .before .before .before .before in
-    let window = numbered .before .before .before .before in
+returns c =
+    let writes = c .before .before .before .before .before .before .before in
+    let numbered = writes .before .before .before .before .before .before in
+    let window = numbered .before .before .before .before .before in
     let plans = window .before in
     let start = plans .before .before .before .before .before in
-    let a = start .args in
-    runs (a .settings) (a .flight) (a .arrival) (a .clock) (a .queued .now) (a .outstanding .now) (a .transmissions .now) ready waiting
-    numbers (a .records) (a .acks .now) (a .t)
-    (a .pool .now) _ _ _ (window .window-of .ensures) _ _ _ _ _ _ _ _ _ (plans .plan-of .ensures) (numbered .number .ensures)
-    (writes .write .ensures) whole (start .pre .counts)
-    _ _ _ (c .before .before .after-losses .ensures) (c .told .ensures) (c .before .moved .ensures) _ refl
+    let a = start .args in (
+      λ ready waiting numbers whole.
+          runs (a .settings) (a .flight) (a .arrival) (a .clock) (a .queued .now) (a .outstanding .now) (a .transmissions .now) ready
+          waiting numbers (a .records .now) (a .acks .now) (a .t)
+          (a .pool .now) _ _ _ (window .window-of .ensures) _ _ _ _ _ _ _ _ _ _ _ (plans .plan-of .ensures) (numbered .number .ensures)
+          (writes .write .ensures) whole (start .pre .counts)
+          _ _ _ (c .before .before .after-losses .ensures) (c .told .ensures) (c .before .moved .ensures),
+      writes .write .ensures .sent .whole-records,
+    )
 
 pub flush-now-spec : {M : Type 1} → statement M
 flush-now-spec =

@@ -1,5 +1,6 @@
--- `gather` meets its contract: a walk of its MIR, by hand, with a loop. Each turn reads a word and stores a record in place
--- (`Elements.antt`), and calls `reach` and `read`. The loop's invariant: the records of the first i slots are gathered.
+-- `gather` meets its contract: a walk of its MIR, by hand, with a loop. Each turn reads a word in place (`Elements.antt`), and calls
+-- `reach`, `read` with a copy of the `&`, and `put` with the array lent again. The array's borrow is opened before the loop and closed
+-- behind it. The loop's invariant: the records of the first i slots are gathered.
 -- Assumes nothing.
 use Rattle.records.proofs.Walk.{
   _≡_,
@@ -19,7 +20,6 @@ use Rattle.records.proofs.Walk.{
   length,
   getD,
   set,
-  length-set,
   URA,
   fullShare,
   named,
@@ -31,12 +31,10 @@ use Rattle.records.proofs.Walk.{
   Val,
   vunit,
   vint,
+  vptr,
   vbool,
   SProp,
   ent,
-  emp,
-  via,
-  fst∗,
   id⊢,
   Lft,
   GName,
@@ -62,8 +60,6 @@ use Rattle.records.proofs.Walk.{
   Given,
   Item,
   ‵,
-  some,
-  later,
   _⊛_,
   ⋆,
   _$_,
@@ -75,38 +71,28 @@ use Rattle.records.proofs.Walk.{
   keep,
   drop,
   use1,
-  use2,
-  use3,
   split,
   join,
-  pick,
   rewrite,
   fsplit,
   fjoin,
-  feqL,
   feqI,
   suffices,
   frame,
-  await,
   done,
-  agg,
   whole,
-  sub,
   look-in,
-  store-in,
   look,
   init,
   store,
   forget,
   stop,
   hop,
-  fld,
   from,
   load,
   lit,
   unit-lit,
   of-opd,
-  un,
   bin,
   addr,
   and-then,
@@ -136,11 +122,9 @@ use Rattle.records.proofs.Walk.{
   uint-makes,
   RefT,
   sliceVal,
-  MutSlice,
   ShrSlice,
   Room,
   slice-vals,
-  mut-slice-tells,
   shr-slice-tells,
   u32,
   usize,
@@ -155,9 +139,8 @@ use Rattle.records.proofs.Walk.{
   entered,
   cited,
   says,
+  needs,
   Stays,
-  stay-slice,
-  goes-slice,
   walkOf,
   ends-at,
   walked,
@@ -165,7 +148,7 @@ use Rattle.records.proofs.Walk.{
   yes,
 }
 use Prim.Native.Nat.{zero-le, _%_, min}
-use native.Mathlib.Nat.{lt-of-le-of-lt, lt-of-lt-of-le}
+use native.Mathlib.Nat.{lt-of-le-of-lt, lt-of-lt-of-le, le-of-lt}
 use native.Mathlib.Numerals.{add-one-le, add-one-dec}
 use mathlib.Core.Path.{_∙_}
 use mathlib.Core.Bool.{Bool, true, false}
@@ -173,36 +156,37 @@ use mathlib.Core.WellFounded.{WellFounded, InvImage·wf}
 use lib.WfN.{Nat·lt-wfRel}
 use lib.Dec.{T, ltb, ltb→lt, nltb→le, not-T, lit<}
 use lib.ListN.{take, replicate}
-use base.Fml.{froom, fdies}
+use base.Fml.{fsep, froom, fdies, fobs, fauth, fobor}
 use mir.Val.{hasTy, WT}
 use mir.Syntax.{Ty, imm, mut, erased, tyUnit, tyRef, tyArray}
 use prog.Wp.{Env, Out, Wp, atReturn, afterSeq, afterBlock, afterTurn}
-use types.Kit.{atRet, anyQ, runs, Sq}
+use types.Kit.{atRet, anyQ, runs, Sq, fsplit3, fjoin3}
 use types.Run.{stays, leaves-loop, blocks, loops, Below, again}
-use types.Tokens.{lft-new, lft-end}
+use types.Mut.{open-ref, close-ref}
+use types.SemTy.{Body}
 use denote.Plain.{uint-lawful, nothing-lawful}
 use denote.Array.{Array, arrayVal, array-vals, array-tells, array-typed}
 use denote.RattleType.{RattleType}
-use denote.Memory.{pointee}
+use denote.Memory.{pointee, partAt, mem as lying}
+use denote.Ref.{MutRef, mut-tells, ptr-vals}
 use denote.Slice.{sliceTy, shr-slice-copy}
 use denote.Signature.{plain, shrSliceOf}
 use denote.Signature.Array.{arrayOf}
-use denote.Triple.Walked.{stay-dropped, goes-dropped}
+use denote.Triple.Walked.{stay-dropped, goes-dropped, stay-ref, goes-ref}
 use Rattle.timing.specs.declared.Record.{Record}
 use Rattle.timing.proofs.Record.Laws as T′
 use Rattle.protocol.specs.Protocol.{sendSlots}
 use Rattle.records.specs.Tables.{blank, slotsIn, gathered, padded}
-use Rattle.records.proofs.Elements.{elem, Holds, holds-length, holds-at, holds-set}
-use Rattle.records.proofs.Rows.{R, Rs, mach, bytes-16, typed, makes, rs-typed, rs-makes, ref}
+use Rattle.record_words.specs.RecordWords.{recordsIn}
+use Rattle.record_words.specs.RecordLaws.{records-none}
+use Rattle.records.proofs.Elements.{elem, holds-length, holds-at}
+use Rattle.records.proofs.Rows.{R, typed, makes, ref}
 use Rattle.records.proofs.Frame.{envOf}
-use Rattle.records.proofs.Turns.{gathers-more, gathers-all, Left, scatters-more, scatters-all}
-use Rattle.records.proofs.Again.{LentAgain, lends-again, comes-back}
+use Rattle.records.proofs.Turns.{gathers-more, gathers-all}
 use Rattle.records.proofs.Call.{calls-fn, plainly, lent-first}
+use Rattle.lending.proofs.Fields.{ref-at, lend-mut, back-mut}
 use Rattle.gathering.specs.Reach.{reach}
 use Rattle.gathering.proofs.Listed.{bytes-4, slots-counted, slot-listed, reached}
-use Rattle.gathering.proofs.blank_records as blanks
-use Rattle.gathering.proofs.blank_records.Symbol as blanks-def
-use Rattle.gathering.proofs.blank_records.Met as blanks-thm
 use Rattle.gathering.proofs.within as count
 use Rattle.gathering.proofs.within.Symbol as count-def
 use Rattle.gathering.proofs.within.Met as count-thm
@@ -212,6 +196,9 @@ use Rattle.gathering.proofs.reach.Met as reach-of-thm
 use Rattle.records.proofs.read as read
 use Rattle.records.proofs.read.Symbol as read-def
 use Rattle.records.proofs.read.Met as read-thm
+use Rattle.record_words.proofs.put as record-put
+use Rattle.record_words.proofs.put.Symbol as record-put-def
+use Rattle.record_words.proofs.put.Met as record-put-thm
 use Rattle.gathering.proofs.gather.Key.{name as #f}
 use Rattle.gathering.proofs.gather as f
 use Rattle.gathering.proofs.gather.Statement as stated
@@ -219,10 +206,17 @@ use Rattle.gathering.proofs.gather.Code as code
 use Rattle.gathering.proofs.gather.Code.Mir as body
 
 abbrev stayed : Stays (f.ended .signature .params) (f.ended .kept)
-stayed = (stay-dropped _ yes, (stay-dropped _ yes, (stay-dropped _ yes, tt)))
+stayed = (
+  stay-dropped _ yes,
+  (stay-dropped _ yes, (stay-dropped _ yes, (stay-ref (1 ∷ []) tt (arrayOf (plain (λ _. u32)) 128), tt))),
+)
 
 abbrev Ws : RattleType
 Ws = Array u32 32
+
+-- the array that the records go to
+abbrev Ns : RattleType
+Ns = Array u32 128
 
 -- the array of words
 abbrev words-ty : Ty
@@ -231,21 +225,22 @@ words-ty = tyArray (tyInt w32) 32
 module _ {M : Type 1} (𝓤 : URA M) (H : Heap 𝓤) (A : Atoms 𝓤) (W : Given 𝓤 H A) (mem : Memory → SProp 𝓤) (run : Routine → Fun 𝓤) where
   -- what is known of the callees
   abbrev Known : Calls 𝓤 H → Type 1
-  Known C = Triple 𝓤 (C blanks-def.name) (tripleOf 𝓤 H A blanks.signature (blanks.spec 𝓤 H A mem run))
-      × Triple 𝓤 (C count-def.name) (tripleOf 𝓤 H A count.signature (count.spec 𝓤 H A mem run))
+  Known C = Triple 𝓤 (C count-def.name) (tripleOf 𝓤 H A count.signature (count.spec 𝓤 H A mem run))
       × Triple 𝓤 (C reach-of-def.name) (tripleOf 𝓤 H A reach-of.signature (reach-of.spec 𝓤 H A mem run))
       × Triple 𝓤 (C read-def.name) (tripleOf 𝓤 H A read.signature (read.spec 𝓤 H A mem run))
+      × Triple 𝓤 (C record-put-def.name) (tripleOf 𝓤 H A record-put.signature (record-put.spec 𝓤 H A mem run))
 
-  module _ (κ : Lft) (q : Share) (b o : ℕ) (γ : GName) (ys : List Record) (room : Room R (length ys)) (ws : List ℕ) (wv : Val)
-      (gw : Is Ws ws (wv ∷ [])) (lent : ℕ) (nv : Val) (gv : Is usize lent (nv ∷ [])) where
-    abbrev x : RefT (List Record) × (List ℕ × (ℕ × Unit {0}))
-    x = (ref b o γ ys, (ws, (lent, tt)))
+  module _ (κ κ′ : Lft) (q q′ : Share) (b o : ℕ) (γ : GName) (ys : List Record) (room : Room R (length ys)) (ws : List ℕ) (wv : Val)
+      (gw : Is Ws ws (wv ∷ [])) (lent : ℕ) (nv : Val) (gv : Is usize lent (nv ∷ [])) (b′ o′ : ℕ) (γ′ : GName) (ns : List ℕ)
+      (empty : ns ≡ replicate 128 0) where
+    abbrev x : RefT (List Record) × (List ℕ × (ℕ × (RefT (List ℕ) × Unit {0})))
+    x = (ref b o γ ys, (ws, (lent, (ref-at b′ o′ γ′ ns, tt))))
 
     abbrev s : Val
     s = sliceVal (b, o) (length ys)
 
-    abbrev at : Vals f.signature (κ, tt)
-    at = (s ∷ [], (wv ∷ [], (nv ∷ [], tt)))
+    abbrev at : Vals f.signature (κ, (κ′, tt))
+    at = (s ∷ [], (wv ∷ [], (nv ∷ [], (vptr b′ o′ ∷ [], tt))))
 
     abbrev slots : List ℕ
     slots = slotsIn ws lent
@@ -254,33 +249,62 @@ module _ {M : Type 1} (𝓤 : URA M) (H : Heap 𝓤) (A : Atoms 𝓤) (W : Given
     abbrev us : List Val
     us = gw .0
 
+    -- what the table's reference owns
     abbrev Own : Fml
     Own = ShrSlice (named 0) κ R .own (ref b o γ ys) (s ∷ [])
 
+    -- what the reference to the array owns at the list xs, at a lifetime and a name
+    abbrev Lent : Lft → GName → List ℕ → Fml
+    Lent α δ xs = MutRef (named 0) α Ns .own (ref-at b′ o′ δ xs) (vptr b′ o′ ∷ [])
+
+    -- what stands beside the array while its borrow is open
+    abbrev Opened : Fml
+    Opened = fsep (fsep (fobor κ′ q′ (Body (lying Ns) b′ o′ γ′)) (fobs γ′ (Ns .coded .code ns))) (fauth γ′ (Ns .coded .code ns))
+
     abbrev Post : Val → SProp 𝓤
-    Post = walkOf 𝓤 H A f.ended stayed (f.clauses 𝓤 H A mem run) .post (((κ, tt), (q, tt), tt, x, at), tt)
+    Post = walkOf 𝓤 H A f.ended stayed (f.clauses 𝓤 H A mem run) .post (((κ, (κ′, tt)), (q, (q′, tt)), tt, x, at), tt)
 
     words-typed : {w : Val} → Is Ws ws (w ∷ []) → T (hasTy words-ty w) × WT w
     words-typed {w} g = array-typed u32 (uint-lawful 𝓤 H A W w32 .typed) 32 ws (w ∷ []) g .0
 
-    exits : (l : List Record) (w : Val) → l ≡ padded (gathered (take sendSlots ys) slots) → Is Rs l (w ∷ [])
-        → ent 𝓤 (⋆ 𝓤 H A (‵ (flft κ q) ∷ [])) (Post w)
-    exits l w e g =
-        qed W (‵ (flft κ q) ∷ []) ∵ suffices ! _ (ends-at 𝓤 H A f.ended stayed (f.clauses 𝓤 H A mem run) W
-        (((κ, tt), (q, tt), tt, x, at), tt) w l (tt, (tt, (tt, tt))) (tt, (tt, (tt, tt)))) $ says ! e $
-        nothing ! $ move ! (1 ∷ 0 ∷ []) $ join ! $ frame ! $ nothing ! $ nothing ! $ fjoin ! $ nothing ! $ fjoin ! $ nothing ! $ fjoin ! $
-        frame ! $ owned ! Rs (Is Rs) (rs-makes 𝓤 H A W) l _ g $ done !
+    exits : (xs : List ℕ) → length xs ≡ 128 → recordsIn xs ≡ padded (gathered (take sendSlots ys) slots)
+        → ent 𝓤 (⋆ 𝓤 H A (‵ (Lent κ′ γ′ xs) ∷ ‵ (flft κ′ q′) ∷ ‵ (flft κ q) ∷ [])) (Post vunit)
+    exits xs e-len e =
+        qed W (‵ (Lent κ′ γ′ xs) ∷ ‵ (flft κ′ q′) ∷ ‵ (flft κ q) ∷ []) ∵
+        suffices ! _ (ends-at 𝓤 H A f.ended stayed (f.clauses 𝓤 H A mem run) W (((κ, (κ′, tt)), (q, (q′, tt)), tt, x, at), tt) vunit tt
+        (tt, (tt, (tt, (xs, tt)))) (tt, (tt, (tt, (tt, tt))))) $ says ! (e-len, e) $
+        nothing ! $ move ! (2 ∷ 0 ∷ []) $ join ! $ move ! (2 ∷ 0 ∷ []) $ join ! $ frame ! $
+        nothing ! $ move ! (1 ∷ 0 ∷ []) $ fjoin ! $ nothing ! $ fjoin ! $ nothing ! $ fjoin ! $ nothing ! $ fjoin ! $ frame ! $
+        feqI ! (List Val) (vunit ∷ []) (vunit ∷ []) refl $ done !
+
+    -- what `put` is called at, with the array lent again for ν under δ, and that what it asks is had
+    abbrev to-put : ℕ → GName → List ℕ → ℕ → Val → Record → Val
+        → tripleOf 𝓤 H A record-put.signature (record-put.spec 𝓤 H A mem run) .Ghost
+    to-put ν δ xs i u r v = (
+      (
+        (ν ∷ [], tt),
+        (fullShare, tt),
+        tt,
+        (ref-at b′ o′ δ xs, (i, (r, tt))),
+        (vptr b′ o′ ∷ [], (u ∷ [], (v ∷ [], tt))),
+      ),
+      tt,
+    )
+
+    asks-put : (ν : ℕ) (δ : GName) (xs : List ℕ) (i : ℕ) (u : Val) → Is usize i (u ∷ []) → (r : Record) (v : Val) → Is R r (v ∷ [])
+        → (length xs ≡ 128) × (i < 32)
+        → ent 𝓤 (⋆ 𝓤 H A (‵ (flft (ν ∷ []) fullShare) ∷ ‵ (Lent (ν ∷ []) δ xs) ∷ []))
+        (tripleOf 𝓤 H A record-put.signature (record-put.spec 𝓤 H A mem run) .pre (to-put ν δ xs i u r v))
+    asks-put ν δ xs i u is-i r v is-r req =
+        qed W (‵ (flft (ν ∷ []) fullShare) ∷ ‵ (Lent (ν ∷ []) δ xs) ∷ []) ∵ says ! req $ nothing ! $ move ! (1 ∷ 0 ∷ []) $ join ! $
+        nothing ! $ owned ! R (Is R) (makes 𝓤 H A) r _ is-r $ fjoin ! $ owned ! usize (Is usize) (uint-makes 𝓤 H A W w64) i _ is-i $
+        fjoin ! $ move ! (2 ∷ 0 ∷ []) $ fjoin ! $ move ! (1 ∷ 0 ∷ []) $ done !
 
     -- n records are gathered
     module _ (n : ℕ) (gn : n < 2 ^ 64) (counted : n ≡ length slots) (small : n ≤ 32) where
-      -- where the loop stands: the records of i slots are gathered, into l, whose elements' machine values are us
+      -- where the loop stands: the records of i slots are gathered, in the array xs
       abbrev At : Type 0
-      At = (i : ℕ) × (l : List Record) × (vs : List Val) × Holds R l vs × (length l ≡ 32) × (i ≤ n) ×
-          (l ≡ padded (gathered (take sendSlots ys) (take i slots)))
-
-      -- the array of where the loop stands
-      is-array : (t : At) → Is Rs (t .1) (arrayVal (t .2) ∷ [])
-      is-array t = (t .2, ((refl, t .4), t .3))
+      At = (i : ℕ) × (xs : List ℕ) × (i ≤ n) × (length xs ≡ 128) × (recordsIn xs ≡ padded (gathered (take sendSlots ys) (take i slots)))
 
       abbrev Nearer : At → At → Type 0
       Nearer u t = n - u .0 < n - t .0
@@ -288,7 +312,8 @@ module _ {M : Type 1} (𝓤 : URA M) (H : Heap 𝓤) (A : Atoms 𝓤) (W : Given
       Nearer-wf : WellFounded Nearer
       Nearer-wf = InvImage·wf (λ (t : At). n - t .0) (Nat·lt-wfRel .wf)
 
-      module _ (𝓣 : Tables 𝓤 H) (known : Known (𝓣 .C)) (l₀ l₁ l₂ l₃ l₄ l₅ l₆ l₇ l₈ l₉ l₁₀ l₁₁ l₁₂ l₁₃ l₁₄ l₁₅ l₁₆ l₁₇ l₁₈ : ℕ) where
+      module _ (𝓣 : Tables 𝓤 H) (known : Known (𝓣 .C))
+          (l₀ l₁ l₂ l₃ l₄ l₅ l₆ l₇ l₈ l₉ l₁₀ l₁₁ l₁₂ l₁₃ l₁₄ l₁₅ l₁₆ l₁₇ : ℕ) where
         abbrev C : Calls 𝓤 H
         C = 𝓣 .C
 
@@ -298,50 +323,55 @@ module _ {M : Type 1} (𝓤 : URA M) (H : Heap 𝓤) (A : Atoms 𝓤) (W : Given
         abbrev word : Ty
         word = tyInt w64
 
-        abbrev recs : Ty
-        recs = tyArray T′.mir 32
-
         abbrev slice : Ty
         slice = sliceTy (tyRef (named 0) imm (pointee (R .written)))
 
+        abbrev ref-ty : Ty
+        ref-ty = tyRef (named 1) mut (tyArray (tyInt w32) 128)
+
+        abbrev lent-ty : Ty
+        lent-ty = tyRef erased mut (tyArray (tyInt w32) 128)
+
         abbrev En : Env 𝓤 H
-        En = envOf (code.function .locals) (l₀ ∷ l₁ ∷ l₂ ∷ l₃ ∷ l₄ ∷ l₅ ∷ l₆ ∷ l₇ ∷ l₈ ∷ l₉ ∷ l₁₀ ∷ l₁₁ ∷ l₁₂ ∷ l₁₃ ∷ l₁₄ ∷ l₁₅ ∷ l₁₆ ∷ l₁₇
-            ∷ l₁₈ ∷ [])
+        En = envOf (code.function .locals) (l₀ ∷ l₁ ∷ l₂ ∷ l₃ ∷ l₄ ∷ l₅ ∷ l₆ ∷ l₇ ∷ l₈ ∷ l₉ ∷ l₁₀ ∷ l₁₁
+            ∷ l₁₂ ∷ l₁₃ ∷ l₁₄ ∷ l₁₅ ∷ l₁₆ ∷ l₁₇ ∷ [])
 
         abbrev Inv : At → List (Item 𝓤)
-        Inv t = ‵ Own ∷ ‵ (flft κ q) ∷ ‵ (froom tyPtr l₁₈ 0) ∷ ‵ (fdies tyPtr l₁₈) ∷ ‵ (froom tyPtr l₁₇ 0) ∷ ‵ (fdies tyPtr l₁₇)
-            ∷ ‵ (froom (tyInt w32) l₁₆ 0) ∷ ‵ (fdies (tyInt w32) l₁₆) ∷ ‵ (froom tyPtr l₁₅ 0) ∷ ‵ (fdies tyPtr l₁₅) ∷ ‵ (froom tyPtr l₁₄ 0)
-            ∷ ‵ (fdies tyPtr l₁₄) ∷ ‵ (froom word l₁₃ 0) ∷ ‵ (fdies word l₁₃) ∷ ‵ (froom tyBool l₁₂ 0) ∷ ‵ (fdies tyBool l₁₂)
-            ∷ ‵ (froom recs l₁₁ 0) ∷ ‵ (fdies recs l₁₁) ∷ ‵ (froom T′.mir l₁₀ 0) ∷ ‵ (fdies T′.mir l₁₀) ∷ ‵ (froom word l₉ 0)
+        Inv t = ‵ Own ∷ ‵ (flft κ q) ∷ ‵ (partAt Ns fullShare (t .1) b′ o′) ∷ ‵ Opened ∷ ‵ (froom lent-ty l₁₇ 0)
+            ∷ ‵ (fdies lent-ty l₁₇) ∷ ‵ (froom tyUnit l₁₆ 0) ∷ ‵ (fdies tyUnit l₁₆) ∷ ‵ (froom (tyInt w32) l₁₅ 0)
+            ∷ ‵ (fdies (tyInt w32) l₁₅) ∷ ‵ (froom tyPtr l₁₄ 0) ∷ ‵ (fdies tyPtr l₁₄) ∷ ‵ (froom tyPtr l₁₃ 0)
+            ∷ ‵ (fdies tyPtr l₁₃) ∷ ‵ (froom word l₁₂ 0) ∷ ‵ (fdies word l₁₂) ∷ ‵ (froom tyBool l₁₁ 0)
+            ∷ ‵ (fdies tyBool l₁₁) ∷ ‵ (froom T′.mir l₁₀ 0) ∷ ‵ (fdies T′.mir l₁₀) ∷ ‵ (froom word l₉ 0)
             ∷ ‵ (fdies word l₉) ∷ ‵ (froom (tyInt w32) l₈ 0) ∷ ‵ (fdies (tyInt w32) l₈) ∷ ‵ (fat fullShare word l₇ 0 (vint w64 (t .0)))
-            ∷ ‵ (fdies word l₇) ∷ ‵ (fat fullShare recs l₆ 0 (arrayVal (t .2))) ∷ ‵ (fdies recs l₆)
-            ∷ ‵ (fat fullShare word l₅ 0 (vint w64 n)) ∷ ‵ (fdies word l₅) ∷ ‵ (fat fullShare words-ty l₄ 0 (arrayVal us))
-            ∷ ‵ (fdies words-ty l₄) ∷ ‵ (fat fullShare word l₃ 0 nv) ∷ ‵ (fdies word l₃) ∷ ‵ (fat fullShare words-ty l₂ 0 wv)
-            ∷ ‵ (fdies words-ty l₂) ∷ ‵ (fat fullShare slice l₁ 0 s) ∷ ‵ (fdies slice l₁) ∷ ‵ (froom recs l₀ 0) ∷ ‵ (fdies recs l₀) ∷ []
+            ∷ ‵ (fdies word l₇) ∷ ‵ (fat fullShare word l₆ 0 (vint w64 n)) ∷ ‵ (fdies word l₆)
+            ∷ ‵ (fat fullShare words-ty l₅ 0 (arrayVal us)) ∷ ‵ (fdies words-ty l₅) ∷ ‵ (fat fullShare ref-ty l₄ 0 (vptr b′ o′))
+            ∷ ‵ (fdies ref-ty l₄) ∷ ‵ (fat fullShare word l₃ 0 nv) ∷ ‵ (fdies word l₃) ∷ ‵ (fat fullShare words-ty l₂ 0 wv)
+            ∷ ‵ (fdies words-ty l₂) ∷ ‵ (fat fullShare slice l₁ 0 s) ∷ ‵ (fdies slice l₁) ∷ ‵ (froom tyUnit l₀ 0)
+            ∷ ‵ (fdies tyUnit l₀) ∷ []
 
         abbrev Turned : At → Out → SProp 𝓤
         Turned t = afterTurn 𝓤 H (Below 𝓤 H A Nearer Inv t)
-            (afterBlock 𝓤 H (afterSeq 𝓤 H (Wp 𝓤 H C Λ En body.t-7 (atReturn 𝓤 H En Post)) (atReturn 𝓤 H En Post)))
+            (afterBlock 𝓤 H (afterSeq 𝓤 H (Wp 𝓤 H C Λ En body.t-5 (atReturn 𝓤 H En Post)) (atReturn 𝓤 H En Post)))
 
         turn : (t : At) (z : Bool) → ltb (t .0) n ≡ z → Sq W (Inv t) (runs C Λ En body.turn-1 (anyQ (Turned t)))
         unfolding afterTurn
         turn t true z =
-            assigns ! (bin ! (load ! (from ! (stop !)) (look ! 24 refl)) (load ! (from ! (stop !)) (look ! 28 refl)) tt) (from ! (stop !))
-            (init ! 14 refl (tt, tt)) $
-            rewrite ! 14 (λ (u : Bool). ‵ (fat fullShare tyBool l₁₂ 0 (vbool u))) z refl $
-            stays ! (load ! (from ! (stop !)) (look ! 14 refl)) $
+            assigns ! (bin ! (load ! (from ! (stop !)) (look ! 24 refl)) (load ! (from ! (stop !)) (look ! 26 refl)) tt) (from ! (stop !))
+            (init ! 16 refl (tt, tt)) $
+            rewrite ! 16 (λ (u : Bool). ‵ (fat fullShare tyBool l₁₁ 0 (vbool u))) z refl $
+            stays ! (load ! (from ! (stop !)) (look ! 16 refl)) $
             -- the word, and its slot
             assigns ! (bin ! (load ! (from ! (stop !)) (look ! 24 refl)) (lit ! tt) (record { fits = bytes-4 small-i })) (from ! (stop !))
-            (init ! 12 refl (tt, record { fits = bytes-4 small-i })) $
-            assigns ! (addr ! (from ! (stop !))) (from ! (stop !)) (init ! 10 refl (tt, tt)) $
-            assigns ! (bin ! (load ! (from ! (stop !)) (look ! 10 refl)) (load ! (from ! (stop !)) (look ! 12 refl)) tt) (from ! (stop !))
-            (init ! 8 refl (tt, tt)) $
-            assigns ! (of-opd ! (load ! (from ! (hop ! (look ! 8 refl) (stop !)))
-            (look-in ! 30 (elem ! us (t .0) vunit (holds-length u32 ws us (gw .1 .1) ∙ gw .1 .0 .1) small-i (whole !)))))
-            (from ! (stop !)) (init ! 6 refl (uint-lawful 𝓤 H A W w32 .typed (getD ws (t .0) 0) _ is-w .0)) $
-            assigns ! (of-opd ! (load ! (from ! (stop !)) (look ! 6 refl))) (from ! (stop !))
+            (init ! 14 refl (tt, record { fits = bytes-4 small-i })) $
+            assigns ! (addr ! (from ! (stop !))) (from ! (stop !)) (init ! 12 refl (tt, tt)) $
+            assigns ! (bin ! (load ! (from ! (stop !)) (look ! 12 refl)) (load ! (from ! (stop !)) (look ! 14 refl)) tt) (from ! (stop !))
+            (init ! 10 refl (tt, tt)) $
+            assigns ! (of-opd ! (load ! (from ! (hop ! (look ! 10 refl) (stop !)))
+            (look-in ! 28 (elem ! us (t .0) vunit (holds-length u32 ws us (gw .1 .1) ∙ gw .1 .0 .1) small-i (whole !)))))
+            (from ! (stop !)) (init ! 8 refl (uint-lawful 𝓤 H A W w32 .typed (getD ws (t .0) 0) _ is-w .0)) $
+            assigns ! (of-opd ! (load ! (from ! (stop !)) (look ! 8 refl))) (from ! (stop !))
             (init ! 22 refl (uint-lawful 𝓤 H A W w32 .typed (getD ws (t .0) 0) _ is-w .0)) $
-            nothing ! $ calls-fn ! (fmOf 𝓤 H (W .laws) 𝓣) reach-of.ended (reach-of.clauses 𝓤 H A mem run) (known .2)
+            nothing ! $ calls-fn ! (fmOf 𝓤 H (W .laws) 𝓣) reach-of.ended (reach-of.clauses 𝓤 H A mem run) (known .1)
             ((tt, tt, tt, (getD ws (t .0) 0, tt), (getD us (t .0) vunit ∷ [], tt)), tt) (λ k _. k ≡ reach (getD ws (t .0) 0))
             (‵ ftrue) (plainly 𝓤 H A W (u32 ∷ []) (uint-makes 𝓤 H A W w32, tt) (getD ws (t .0) 0, tt) (getD us (t .0) vunit ∷ [], tt)
             (is-w, tt)) (λ k _. id⊢ 𝓤 _)
@@ -350,7 +380,7 @@ module _ {M : Type 1} (𝓤 : URA M) (H : Heap 𝓤) (A : Atoms 𝓤) (W : Given
             -- the record
             use1 W (‵ Own ⊛ ‵ Own) (shr-slice-copy 𝓤 H A W (named 0) κ R .twice (ref b o γ ys) (s ∷ [])) $ split ! $ move ! (2 ∷ 0 ∷ []) $
             join ! $
-            calls-fn ! (fmOf 𝓤 H (W .laws) 𝓣) read.ended (read.clauses 𝓤 H A mem run) (known .3)
+            calls-fn ! (fmOf 𝓤 H (W .laws) 𝓣) read.ended (read.clauses 𝓤 H A mem run) (known .2)
             (((κ, tt), (q, tt), tt, (ref b o γ ys, (k, tt)), (s ∷ [], (wk ∷ [], tt))), tt) (λ r _. r ≡ getD ys k blank)
             (‵ (flft κ q) ⊛ ‵ Own) (lent-first 𝓤 H A W (usize ∷ []) (uint-makes 𝓤 H A W w64, tt) (k, tt) (wk ∷ [], tt) (is-k, tt)
             (ShrSlice (named 0) κ R) (ref b o γ ys) (s ∷ []) κ q) (λ r _. id⊢ 𝓤 _)
@@ -358,29 +388,33 @@ module _ {M : Type 1} (𝓤 : URA M) (H : Heap 𝓤) (A : Atoms 𝓤) (W : Given
             (λ r v _ e-r is-r.
             use1 W (‵ (flft κ q) ⊛ ‵ ftrue) (id⊢ 𝓤 _) $ split ! $ move ! (1 ∷ 2 ∷ []) $ drop ! $ drop ! $ move ! (1 ∷ 0 ∷ []) $
             land ! (from ! (stop !)) (init ! 18 refl (typed 𝓤 H A W r is-r)) $
-            -- it is stored
-            assigns ! (bin ! (load ! (from ! (stop !)) (look ! 24 refl)) (lit ! tt) (record { fits = bytes-16 small-i })) (from ! (stop !))
-            (store ! 12 refl (tt, record { fits = bytes-16 small-i })) $
-            assigns ! (addr ! (from ! (stop !))) (from ! (stop !)) (init ! 4 refl (tt, tt)) $
-            assigns ! (bin ! (load ! (from ! (stop !)) (look ! 4 refl)) (load ! (from ! (stop !)) (look ! 12 refl)) tt) (from ! (stop !))
-            (init ! 2 refl (tt, tt)) $
-            assigns ! (of-opd ! (load ! (from ! (stop !)) (look ! 18 refl))) (from ! (hop ! (look ! 2 refl) (stop !)))
-            (store-in ! 26 (elem ! (t .2) (t .0) vunit (holds-length R (t .1) (t .2) (t .3) ∙ t .4) small-i (whole !))
-            (typed 𝓤 H A W r is-r)) $
+            -- the array is lent again for a lifetime ν of the call
+            assigns ! (addr ! (from ! (hop ! (look ! 30 refl) (stop !)))) (from ! (stop !)) (init ! 4 refl (tt, tt)) $
+            move ! (2 ∷ []) $ lend-mut ! tt Ns (t .1) b′ o′ (λ ν δ. join ! $
+            calls-fn ! (fmOf 𝓤 H (W .laws) 𝓣) record-put.ended (record-put.clauses 𝓤 H A mem run) (known .3)
+            (to-put ν δ (t .1) (t .0) (vint w64 (t .0)) r v)
+            (λ _ xs. (length (xs .0) ≡ 128) × (recordsIn (xs .0) ≡ set (recordsIn (t .1)) (t .0) r))
+            (‵ (flft (ν ∷ []) fullShare) ⊛ ‵ (Lent (ν ∷ []) δ (t .1)))
+            (asks-put ν δ (t .1) (t .0) (vint w64 (t .0)) is-i r v is-r (t .3, small-i)) (λ _ xs. id⊢ 𝓤 _)
+            (and-then ! (load ! (from ! (stop !)) (look ! 5 refl))
+            (and-then ! (load ! (from ! (stop !)) (look ! 25 refl)) (and-then ! (load ! (from ! (stop !)) (look ! 19 refl)) (no-more !))))
+            (λ u w xs e-x is-u.
+            land ! (from ! (stop !)) (init ! 8 refl (nothing-lawful 𝓤 H A W .typed u _ is-u .0)) $
+            -- it comes back at its last list
+            use1 W (‵ (flft (ν ∷ []) fullShare) ⊛ ‵ ftrue) (id⊢ 𝓤 _) $ split ! $ move ! (2 ∷ []) $ fsplit ! $ move ! (2 ∷ 4 ∷ 0 ∷ []) $
+            back-mut ! tt Ns b′ o′ (xs .0) $ move ! (1 ∷ 2 ∷ []) $ drop ! $ drop ! $ move ! (1 ∷ 2 ∷ 0 ∷ []) $
             assigns-last ! (bin ! (load ! (from ! (stop !)) (look ! 24 refl)) (lit ! tt) (record { fits = next })) (from ! (stop !))
             (store ! 24 refl (tt, record { fits = next })) $
-            forget ! 2 refl $ forget ! 4 refl $ forget ! 6 refl $ forget ! 8 refl $ forget ! 10 refl $ forget ! 12 refl $ forget ! 14 refl $
-            forget ! 18 refl $ forget ! 20 refl $ forget ! 22 refl $
+            forget ! 4 refl $ forget ! 6 refl $ forget ! 8 refl $ forget ! 10 refl $ forget ! 12 refl $ forget ! 14 refl $
+            forget ! 16 refl $ forget ! 18 refl $ forget ! 20 refl $ forget ! 22 refl $
             again ! Nearer Inv t (
               t .0 + 1,
-              set (t .1) (t .0) r,
-              set (t .2) (t .0) v,
-              holds-set R (t .1) (t .2) (t .0) r v is-r (t .3),
-              length-set (t .1) (t .0) r ∙ t .4,
+              xs .0,
               add-one-le less,
-              gathers-more (take sendSlots ys) (t .1) slots (t .0) (getD ws (t .0) 0 % 256) r within small-i (t .6)
+              e-x .0,
+              e-x .1 ∙ gathers-more (take sendSlots ys) (recordsIn (t .1)) slots (t .0) (getD ws (t .0) 0 % 256) r within small-i (t .4)
                   (slot-listed ws lent (t .0) (getD ws (t .0) 0 % 256) refl within) (reached ys (getD ws (t .0) 0) k r (room .0) e-k e-r),
-            ) (add-one-dec n (t .0) less)))
+            ) (add-one-dec n (t .0) less)))))
           where
             less : t .0 < n
             less = ltb→lt (t .0) n (subst T (sym z) tt)
@@ -394,24 +428,29 @@ module _ {M : Type 1} (𝓤 : URA M) (H : Heap 𝓤) (A : Atoms 𝓤) (W : Given
             is-w : Is u32 (getD ws (t .0) 0) (getD us (t .0) vunit ∷ [])
             is-w = holds-at u32 ws us (t .0) 0 vunit (rw (gw .1 .0 .1) small-i) (gw .1 .1)
 
+            is-i : Is usize (t .0) (vint w64 (t .0) ∷ [])
+            is-i = (refl, lt-of-lt-of-le less (le-of-lt gn))
+
             next : t .0 + 1 < 2 ^ 64
             next = lt-of-le-of-lt (add-one-le less) gn
         turn t false z =
-            assigns ! (bin ! (load ! (from ! (stop !)) (look ! 24 refl)) (load ! (from ! (stop !)) (look ! 28 refl)) tt) (from ! (stop !))
-            (init ! 14 refl (tt, tt)) $
-            rewrite ! 14 (λ (u : Bool). ‵ (fat fullShare tyBool l₁₂ 0 (vbool u))) z refl $
-            leaves-loop ! (load ! (from ! (stop !)) (look ! 14 refl)) $ exec ! C Λ En body.t-7 (atRet En Post) $
-            assigns ! (of-opd ! (load ! (from ! (stop !)) (look ! 26 refl))) (from ! (stop !))
-            (init ! 38 refl (rs-typed 𝓤 H A W (t .1) (is-array t))) $
-            returns ! (look ! 38 refl) $ forget ! 14 refl $ forget ! 24 refl $ forget ! 26 refl $ forget ! 28 refl $ forget ! 30 refl $
+            assigns ! (bin ! (load ! (from ! (stop !)) (look ! 24 refl)) (load ! (from ! (stop !)) (look ! 26 refl)) tt) (from ! (stop !))
+            (init ! 16 refl (tt, tt)) $
+            rewrite ! 16 (λ (u : Bool). ‵ (fat fullShare tyBool l₁₁ 0 (vbool u))) z refl $
+            leaves-loop ! (load ! (from ! (stop !)) (look ! 16 refl)) $ exec ! C Λ En body.t-5 (atRet En Post) $
+            -- the array's borrow is closed
+            move ! (3 ∷ []) $ fsplit ! $ fsplit ! $ move ! (5 ∷ 0 ∷ 1 ∷ 2 ∷ []) $ close-ref ! tt (lying Ns) (t .1) {b = b′} {o = o′} $
+            feqI ! (List Val) (vptr b′ o′ ∷ []) (vptr b′ o′ ∷ []) refl $ fjoin3 ! $
+            assigns ! (of-opd ! (unit-lit !)) (from ! (stop !)) (init ! 38 refl (tt, tt)) $
+            returns ! (look ! 38 refl) $ forget ! 16 refl $ forget ! 24 refl $ forget ! 26 refl $ forget ! 28 refl $ forget ! 30 refl $
             forget ! 32 refl $ forget ! 34 refl $ forget ! 36 refl $ forget ! 38 refl $
             move ! (38 ∷ 39 ∷ []) $ free1 ! $ move ! (36 ∷ 37 ∷ []) $ free1 ! $ move ! (34 ∷ 35 ∷ []) $ free1 ! $ move ! (32 ∷ 33 ∷ []) $
             free1 ! $ move ! (30 ∷ 31 ∷ []) $ free1 ! $ move ! (28 ∷ 29 ∷ []) $ free1 ! $ move ! (26 ∷ 27 ∷ []) $ free1 ! $
-            move ! (24 ∷ 25 ∷ []) $ free1 ! $ move ! (22 ∷ 23 ∷ []) $ free1 ! $ move ! (20 ∷ 21 ∷ []) $ free1 ! $
-            move ! (18 ∷ 19 ∷ []) $ free1 ! $ move ! (16 ∷ 17 ∷ []) $ free1 ! $ move ! (14 ∷ 15 ∷ []) $ free1 ! $
-            move ! (12 ∷ 13 ∷ []) $ free1 ! $ move ! (10 ∷ 11 ∷ []) $ free1 ! $ move ! (8 ∷ 9 ∷ []) $ free1 ! $ move ! (6 ∷ 7 ∷ []) $
-            free1 ! $ move ! (4 ∷ 5 ∷ []) $ free1 ! $ move ! (2 ∷ 3 ∷ []) $ free1 ! $ free0 ! $ keep ! (1 ∷ []) $
-            by ! (exits (t .1) (arrayVal (t .2)) (gathers-all (take sendSlots ys) (t .1) slots (t .0) past (t .6)) (is-array t))
+            move ! (24 ∷ 25 ∷ []) $ free1 ! $ move ! (22 ∷ 23 ∷ []) $ free1 ! $ move ! (20 ∷ 21 ∷ []) $ free1 ! $ move ! (18 ∷ 19 ∷ []) $
+            free1 ! $ move ! (16 ∷ 17 ∷ []) $ free1 ! $ move ! (14 ∷ 15 ∷ []) $ free1 ! $ move ! (12 ∷ 13 ∷ []) $ free1 ! $
+            move ! (10 ∷ 11 ∷ []) $ free1 ! $ move ! (8 ∷ 9 ∷ []) $ free1 ! $ move ! (6 ∷ 7 ∷ []) $ free1 ! $ move ! (4 ∷ 5 ∷ []) $
+            free1 ! $ free0 ! $ keep ! (0 ∷ 1 ∷ 3 ∷ []) $
+            by ! (exits (t .1) (t .3) (gathers-all (take sendSlots ys) (recordsIn (t .1)) slots (t .0) past (t .4)))
           where
             past : length slots ≤ t .0
             past = rw (← counted) (nltb→le (t .0) n (not-T (ltb (t .0) n) (λ h. subst T z h)))
@@ -419,61 +458,71 @@ module _ {M : Type 1} (𝓤 : URA M) (H : Heap 𝓤) (A : Atoms 𝓤) (W : Given
         turns : (t : At) → Sq W (Inv t) (runs C Λ En body.turn-1 (anyQ (Turned t)))
         turns t = turn t (ltb (t .0) n) refl
 
-        -- the loop, with nothing gathered yet
-        looped : (l : List Record) (vs : List Val) (h : Holds R l vs) (e-len : length l ≡ 32) (e : l ≡ replicate 32 blank)
-            → ent 𝓤 (⋆ 𝓤 H A (Inv (0, l, vs, h, e-len, zero-le, e))) (Wp 𝓤 H C Λ En body.t-6 (atReturn 𝓤 H En Post))
-        looped l vs h e-len e =
-            qed W (Inv (0, l, vs, h, e-len, zero-le, e)) ∵ exec ! C Λ En body.t-6 (atRet En Post) $ first ! $ blocks ! $
-            loops ! 𝓣 Nearer Nearer-wf Inv turns (0, l, vs, h, e-len, zero-le, e)
+        -- where the loop begins: nothing is gathered yet
+        abbrev begun : At
+        begun = (0, ns, zero-le, rw empty refl, ap recordsIn empty ∙ records-none)
+
+        looped : ent 𝓤 (⋆ 𝓤 H A (Inv begun)) (Wp 𝓤 H C Λ En body.t-4 (atReturn 𝓤 H En Post))
+        looped =
+            qed W (Inv begun) ∵ exec ! C Λ En body.t-4 (atRet En Post) $ first ! $ blocks ! $
+            loops ! 𝓣 Nearer Nearer-wf Inv turns begun
 
     walk : (𝓣 : Tables 𝓤 H) → Known (𝓣 .C)
-        → ent 𝓤 (onEntry 𝓤 H A f.signature (κ, tt) (q, tt) x at) (WpFn 𝓤 H (𝓣 .C) (𝓣 .Λ) code.function (s ∷ wv ∷ nv ∷ []) Post)
+        → ent 𝓤 (onEntry 𝓤 H A f.signature (κ, (κ′, tt)) (q, (q′, tt)) x at)
+        (WpFn 𝓤 H (𝓣 .C) (𝓣 .Λ) code.function (s ∷ wv ∷ nv ∷ vptr b′ o′ ∷ []) Post)
     walk 𝓣 known =
-        qed W ((‵ (flft κ q) ⊛ ‵ ftrue) ∷ ‵ (owns (ShrSlice (named 0) κ R ∷ Ws ∷ usize ∷ []) x at) ∷ []) ∵
-        enter ! (𝓣 .C) (𝓣 .Λ) code.function (s ∷ wv ∷ nv ∷ []) _ $
-        alloc1 ! (λ l₀. alloc1 ! (λ l₁. alloc1 ! (λ l₂.
-        alloc1 ! (λ l₃. alloc1 ! (λ l₄. alloc1 ! (λ l₅.
-        alloc1 ! (λ l₆. alloc1 ! (λ l₇. alloc1 ! (λ l₈.
-        alloc1 ! (λ l₉. alloc1 ! (λ l₁₀. alloc1 ! (λ l₁₁.
-        alloc1 ! (λ l₁₂. alloc1 ! (λ l₁₃. alloc1 ! (λ l₁₄.
-        alloc1 ! (λ l₁₅. alloc1 ! (λ l₁₆. alloc1 ! (λ l₁₇. alloc1 ! (λ l₁₈. alloc0 ! $ params1 ! $
-        pass1 ! (init ! 34 refl (tt, (tt, (record { fits = room .0 }, tt)))) $ pass1 ! (init ! 32 refl (words-typed gw)) $
-        pass1 ! (init ! 30 refl (uint-lawful 𝓤 H A W w64 .typed lent _ gv .0)) $ pass0 ! $
-        assigns ! (of-opd ! (load ! (from ! (stop !)) (look ! 32 refl))) (from ! (stop !)) (init ! 28 refl (words-typed gw)) $
-        rewrite ! 28 (λ (u : Val). ‵ (fat fullShare words-ty l₄ 0 u)) (ap only (gw .1 .0 .0)) refl $
-        nothing ! $ calls-fn ! (fmOf 𝓤 H (W .laws) 𝓣) count.ended (count.clauses 𝓤 H A mem run) (known .1)
+        qed W ((‵ (flft κ q) ⊛ ‵ (flft κ′ q′) ⊛ ‵ ftrue)
+        ∷ ‵ (owns (ShrSlice (named 0) κ R ∷ Ws ∷ usize ∷ MutRef (named 1) κ′ Ns ∷ []) x at) ∷ []) ∵
+        enter ! (𝓣 .C) (𝓣 .Λ) code.function (s ∷ wv ∷ nv ∷ vptr b′ o′ ∷ []) _ $
+        alloc1 ! (λ l₀. alloc1 ! (λ l₁. alloc1 ! (λ l₂. alloc1 ! (λ l₃. alloc1 ! (λ l₄. alloc1 ! (λ l₅. alloc1 ! (λ l₆. alloc1 ! (λ l₇.
+        alloc1 ! (λ l₈. alloc1 ! (λ l₉. alloc1 ! (λ l₁₀. alloc1 ! (λ l₁₁. alloc1 ! (λ l₁₂. alloc1 ! (λ l₁₃. alloc1 ! (λ l₁₄.
+        alloc1 ! (λ l₁₅. alloc1 ! (λ l₁₆. alloc1 ! (λ l₁₇. alloc0 ! $ params1 ! $
+        pass1 ! (init ! 32 refl (tt, (tt, (record { fits = room .0 }, tt)))) $ pass1 ! (init ! 30 refl (words-typed gw)) $
+        pass1 ! (init ! 28 refl (uint-lawful 𝓤 H A W w64 .typed lent _ gv .0)) $ pass1 ! (init ! 26 refl (tt, tt)) $ pass0 ! $
+        assigns ! (of-opd ! (load ! (from ! (stop !)) (look ! 30 refl))) (from ! (stop !)) (init ! 24 refl (words-typed gw)) $
+        rewrite ! 24 (λ (u : Val). ‵ (fat fullShare words-ty l₅ 0 u)) (ap only (gw .1 .0 .0)) refl $
+        nothing ! $ calls-fn ! (fmOf 𝓤 H (W .laws) 𝓣) count.ended (count.clauses 𝓤 H A mem run) (known .0)
         ((tt, tt, tt, (lent, tt), (nv ∷ [], tt)), tt) (λ n _. (n ≡ min lent 32) × (n ≤ 32))
         (‵ ftrue) (plainly 𝓤 H A W (usize ∷ []) (uint-makes 𝓤 H A W w64, tt) (lent, tt) (nv ∷ [], tt) (gv, tt)) (λ n _. id⊢ 𝓤 _)
-        (and-then ! (load ! (from ! (stop !)) (look ! 31 refl)) (no-more !)) (λ n v _ e-n is-n. drop ! $ drop ! $
-        land ! (from ! (stop !)) (init ! 26 refl (uint-lawful 𝓤 H A W w64 .typed n _ is-n .0)) $
-        rewrite ! 26 (λ (u : Val). ‵ (fat fullShare (tyInt w64) l₅ 0 u)) (ap only (is-n .0)) refl $
-        nothing ! $ calls-fn ! (fmOf 𝓤 H (W .laws) 𝓣) blanks.ended (blanks.clauses 𝓤 H A mem run) (known .0) ((tt, tt, tt, tt, tt), tt)
-        (λ l _. l ≡ replicate 32 blank) (‵ ftrue) (plainly 𝓤 H A W [] tt tt tt tt) (λ l _. id⊢ 𝓤 _)
-        (no-more !) (λ l w _ e is. drop ! $ drop ! $ land ! (from ! (stop !)) (init ! 14 refl (rs-typed 𝓤 H A W l is)) $
-        assigns ! (of-opd ! (load ! (from ! (stop !)) (look ! 14 refl))) (from ! (stop !)) (init ! 24 refl (rs-typed 𝓤 H A W l is)) $
-        rewrite ! 24 (λ (u : Val). ‵ (fat fullShare (tyArray T′.mir 32) l₆ 0 u)) (ap only (is .1 .0 .0)) refl $ forget ! 14 refl $
-        assigns ! (of-opd ! (lit ! tt)) (from ! (stop !)) (init ! 22 refl (tt, record { fits = lit< tt })) $
-        move ! (39 ∷ []) $ fsplit ! $ move ! (40 ∷ []) $ split ! $
-        keep ! (2 ∷ 0 ∷ 4 ∷ 5 ∷ 6 ∷ 7 ∷ 8 ∷ 9 ∷ 10 ∷ 11 ∷ 12 ∷ 13 ∷ 14 ∷ 15 ∷ 16 ∷ 17 ∷ 18 ∷ 19 ∷ 20 ∷ 21 ∷ 22 ∷ 23 ∷ 24 ∷ 25 ∷ 26 ∷ 27
-        ∷ 28 ∷ 29 ∷ 30 ∷ 31 ∷ 32 ∷ 33 ∷ 34 ∷ 35 ∷ 36 ∷ 37 ∷ 38 ∷ 39 ∷ 40 ∷ 41 ∷ []) $
-        by ! (looped n (is-n .1) (slots-counted ws lent n (gw .1 .0 .1) (e-n .0)) (e-n .1) 𝓣 known l₀ l₁ l₂ l₃ l₄ l₅ l₆ l₇ l₈ l₉ l₁₀ l₁₁ l₁₂
-        l₁₃ l₁₄ l₁₅ l₁₆ l₁₇ l₁₈ l (is .0) (is .1 .1) (is .1 .0 .1) e))))))))))))))))))))))
+        (and-then ! (load ! (from ! (stop !)) (look ! 29 refl)) (no-more !)) (λ n v _ e-n is-n. drop ! $ drop ! $
+        land ! (from ! (stop !)) (init ! 22 refl (uint-lawful 𝓤 H A W w64 .typed n _ is-n .0)) $
+        rewrite ! 22 (λ (u : Val). ‵ (fat fullShare (tyInt w64) l₆ 0 u)) (ap only (is-n .0)) refl $
+        assigns ! (of-opd ! (lit ! tt)) (from ! (stop !)) (init ! 20 refl (tt, record { fits = lit< tt })) $
+        move ! (37 ∷ []) $ fsplit ! $ move ! (1 ∷ []) $ fsplit ! $ move ! (1 ∷ []) $ fsplit ! $ move ! (1 ∷ []) $ fsplit ! $
+        move ! (41 ∷ []) $ split ! $ move ! (1 ∷ []) $ split ! $
+        -- the array's borrow is opened
+        move ! (3 ∷ 0 ∷ []) $ fsplit3 ! $ drop ! $ open-ref ! tt (lying Ns) {b = b′} {o = o′} $ move ! (1 ∷ 2 ∷ 3 ∷ []) $ fjoin ! $
+        fjoin ! $
+        keep ! (7 ∷ 3 ∷ 1 ∷ 0 ∷ 8 ∷ 9 ∷ 10 ∷ 11 ∷ 12 ∷ 13 ∷ 14 ∷ 15 ∷ 16 ∷ 17 ∷ 18 ∷ 19 ∷ 20 ∷ 21 ∷ 22 ∷ 23 ∷ 24 ∷ 25
+        ∷ 26 ∷ 27 ∷ 28 ∷ 29 ∷ 30 ∷ 31 ∷ 32 ∷ 33 ∷ 34 ∷ 35 ∷ 36 ∷ 37 ∷ 38 ∷ 39 ∷ 40 ∷ 41 ∷ 42 ∷ 43 ∷ []) $
+        by ! (looped n (is-n .1) (slots-counted ws lent n (gw .1 .0 .1) (e-n .0)) (e-n .1) 𝓣 known
+        l₀ l₁ l₂ l₃ l₄ l₅ l₆ l₇ l₈ l₉ l₁₀ l₁₁ l₁₂ l₁₃ l₁₄ l₁₅ l₁₆ l₁₇))))))))))))))))))))
 
   f-meets : (𝓣 : Tables 𝓤 H) → Known (𝓣 .C) → Meets 𝓤 H A f.signature (WpFn 𝓤 H (𝓣 .C) (𝓣 .Λ) code.function) (f.spec 𝓤 H A mem run)
   f-meets 𝓣 known = walk-meets 𝓤 H A f.ended stayed W (
-    goes-dropped 𝓤 H A W 1 (shrSliceOf (0 ∷ []) tt (plain (λ _. R))) yes (λ κs x f. refl),
+    goes-dropped 𝓤 H A W 2 (shrSliceOf (0 ∷ []) tt (plain (λ _. R))) yes (λ κs x f. refl),
     (
-      goes-dropped 𝓤 H A W 1 (arrayOf (plain (λ _. u32)) 32) yes (λ κs x f. refl),
-      (goes-dropped 𝓤 H A W 1 (plain (λ _. usize)) yes (λ κs x f. refl), tt),
+      goes-dropped 𝓤 H A W 2 (arrayOf (plain (λ _. u32)) 32) yes (λ κs x f. refl),
+      (
+        goes-dropped 𝓤 H A W 2 (plain (λ _. usize)) yes (λ κs x f. refl),
+        (goes-ref 𝓤 H A W 2 1 tt (arrayOf (plain (λ _. u32)) 128), tt),
+      ),
     ),
   )
       (f.clauses 𝓤 H A mem run) (WpFn 𝓤 H (𝓣 .C) (𝓣 .Λ) code.function) (WpFn-mono 𝓤 H (W .laws) 𝓣 code.function)
       (walked 𝓤 H A f.ended stayed (f.clauses 𝓤 H A mem run) (WpFn 𝓤 H (𝓣 .C) (𝓣 .Λ) code.function)
-      (λ κs. (slice-vals, (array-vals (uint-vals w32), (uint-vals w64, tt))))
-      (λ κs. (shr-slice-tells (named 0) (κs .0) R, (array-tells u32 (uint-vals w32) (uint-tells w32) 32, (uint-tells w64, tt))))
-      (λ κs qs bounds a g are. via 𝓤 _ (fst∗ 𝓤 _ (emp 𝓤))
-      (walk (κs .0) (qs .0) (a .0 .ptr .0) (a .0 .ptr .1) (a .0 .name) (a .0 .now) (are .0 .0 .1) (a .1 .0)
-      (only (array-vals (uint-vals w32) (a .1 .0))) (are .1 .0) (a .1 .1 .0) (vint w64 (a .1 .1 .0)) (are .1 .1 .0) 𝓣 known)))
+      (λ κs. (slice-vals, (array-vals (uint-vals w32), (uint-vals w64, (ptr-vals, tt)))))
+      (λ κs. (
+        shr-slice-tells (named 0) (κs .0) R,
+        (
+          array-tells u32 (uint-vals w32) (uint-tells w32) 32,
+          (uint-tells w64, (mut-tells (named 1) (κs .1 .0) Ns, tt)),
+        ),
+      ))
+      (λ κs qs bounds a g are. needs 𝓤 (a .1 .1 .1 .0 .now ≡ replicate 128 0) _ (λ empty.
+      walk (κs .0) (κs .1 .0) (qs .0) (qs .1 .0) (a .0 .ptr .0) (a .0 .ptr .1) (a .0 .name) (a .0 .now) (are .0 .0 .1) (a .1 .0)
+      (only (array-vals (uint-vals w32) (a .1 .0))) (are .1 .0) (a .1 .1 .0) (vint w64 (a .1 .1 .0)) (are .1 .1 .0)
+      (a .1 .1 .1 .0 .ptr .0) (a .1 .1 .1 .0 .ptr .1) (a .1 .1 .1 .0 .name) (a .1 .1 .1 .0 .now) empty 𝓣 known)))
 
 pub gather-spec : {M : Type 1} → stated.statement M
 unfolding code.routine tablesOf
@@ -481,12 +530,12 @@ gather-spec 𝓤 H 𝓜 𝓖 𝓡 =
     entered 𝓤 H (tripleOf 𝓤 H (𝓖 .A) f.signature (f.spec 𝓤 H (𝓖 .A) (𝓜 .mem) (𝓡 .run)))
     (tables 𝓤 H 𝓜 𝓡 code.env .C) (tables 𝓤 H 𝓜 𝓡 code.env .Λ) #f code.function (code.unfolded 𝓤 H 𝓜 𝓡)
     (f-meets 𝓤 H (𝓖 .A) (givenOf 𝓤 H 𝓜 𝓖) (𝓜 .mem) (𝓡 .run) (tablesOf 𝓤 H 𝓜 (tables 𝓤 H 𝓜 𝓡 code.env)) (
-      cited 𝓤 H (tripleOf 𝓤 H (𝓖 .A) blanks.signature (blanks.spec 𝓤 H (𝓖 .A) (𝓜 .mem) (𝓡 .run))) 𝓜 𝓡 code.env blanks-def.name
-          blanks-def.routine code.calls-gathering·blank-records (blanks-thm.met 𝓤 H 𝓜 𝓖 𝓡),
       cited 𝓤 H (tripleOf 𝓤 H (𝓖 .A) count.signature (count.spec 𝓤 H (𝓖 .A) (𝓜 .mem) (𝓡 .run))) 𝓜 𝓡 code.env count-def.name
           count-def.routine code.calls-gathering·within (count-thm.met 𝓤 H 𝓜 𝓖 𝓡),
       cited 𝓤 H (tripleOf 𝓤 H (𝓖 .A) reach-of.signature (reach-of.spec 𝓤 H (𝓖 .A) (𝓜 .mem) (𝓡 .run))) 𝓜 𝓡 code.env reach-of-def.name
           reach-of-def.routine code.calls-gathering·reach (reach-of-thm.met 𝓤 H 𝓜 𝓖 𝓡),
-      cited 𝓤 H (tripleOf 𝓤 H (𝓖 .A) read.signature (read.spec 𝓤 H (𝓖 .A) (𝓜 .mem) (𝓡 .run))) 𝓜 𝓡 code.env read-def.name read-def.routine
-          code.calls-records·read (read-thm.met 𝓤 H 𝓜 𝓖 𝓡),
+      cited 𝓤 H (tripleOf 𝓤 H (𝓖 .A) read.signature (read.spec 𝓤 H (𝓖 .A) (𝓜 .mem) (𝓡 .run))) 𝓜 𝓡 code.env read-def.name
+          read-def.routine code.calls-records·read (read-thm.met 𝓤 H 𝓜 𝓖 𝓡),
+      cited 𝓤 H (tripleOf 𝓤 H (𝓖 .A) record-put.signature (record-put.spec 𝓤 H (𝓖 .A) (𝓜 .mem) (𝓡 .run))) 𝓜 𝓡 code.env
+          record-put-def.name record-put-def.routine code.calls-record-words·put (record-put-thm.met 𝓤 H 𝓜 𝓖 𝓡),
     ))

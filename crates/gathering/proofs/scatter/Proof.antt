@@ -1,6 +1,6 @@
--- `scatter` meets its contract: a walk of its MIR, by hand, with a loop. Each turn reads a word and a record in place (`Elements.antt`),
--- and calls `slot_of` and `replace`. The loop's invariant: what is left to put back, put into the table as it is now, gives the table that
--- is promised.
+-- `scatter` meets its contract: a walk of its MIR, by hand, with a loop. Each turn reads a word in place (`Elements.antt`), and calls
+-- `slot_of`, `at` with a copy of the `&`, and `replace` with the table lent again. The loop's invariant: what is left to put back, put into
+-- the table as it is now, gives the table that is promised.
 -- Assumes nothing.
 use Rattle.records.proofs.Walk.{
   _≡_,
@@ -20,7 +20,6 @@ use Rattle.records.proofs.Walk.{
   length,
   getD,
   set,
-  length-set,
   URA,
   fullShare,
   named,
@@ -32,12 +31,10 @@ use Rattle.records.proofs.Walk.{
   Val,
   vunit,
   vint,
+  vptr,
   vbool,
   SProp,
   ent,
-  emp,
-  via,
-  fst∗,
   id⊢,
   Lft,
   GName,
@@ -94,7 +91,6 @@ use Rattle.records.proofs.Walk.{
   whole,
   sub,
   look-in,
-  store-in,
   look,
   init,
   store,
@@ -107,7 +103,6 @@ use Rattle.records.proofs.Walk.{
   lit,
   unit-lit,
   of-opd,
-  un,
   bin,
   addr,
   and-then,
@@ -138,11 +133,9 @@ use Rattle.records.proofs.Walk.{
   RefT,
   sliceVal,
   MutSlice,
-  ShrSlice,
   Room,
   slice-vals,
   mut-slice-tells,
-  shr-slice-tells,
   u32,
   usize,
   nothing,
@@ -156,6 +149,7 @@ use Rattle.records.proofs.Walk.{
   entered,
   cited,
   says,
+  needs,
   Stays,
   stay-slice,
   goes-slice,
@@ -166,14 +160,13 @@ use Rattle.records.proofs.Walk.{
   yes,
 }
 use Prim.Native.Nat.{zero-le, _%_, min}
-use native.Mathlib.Nat.{lt-of-le-of-lt, lt-of-lt-of-le}
+use native.Mathlib.Nat.{lt-of-le-of-lt, lt-of-lt-of-le, le-of-lt}
 use native.Mathlib.Numerals.{add-one-le, add-one-dec}
 use mathlib.Core.Path.{_∙_}
 use mathlib.Core.Bool.{Bool, true, false}
 use mathlib.Core.WellFounded.{WellFounded, InvImage·wf}
 use lib.WfN.{Nat·lt-wfRel}
 use lib.Dec.{T, ltb, ltb→lt, nltb→le, not-T, lit<}
-use lib.ListN.{take, replicate}
 use base.Fml.{froom, fdies}
 use mir.Val.{hasTy, WT}
 use mir.Syntax.{Ty, imm, mut, erased, tyUnit, tyRef, tyArray}
@@ -185,19 +178,23 @@ use denote.Plain.{uint-lawful, nothing-lawful}
 use denote.Array.{Array, arrayVal, array-vals, array-tells, array-typed}
 use denote.RattleType.{RattleType}
 use denote.Memory.{pointee}
-use denote.Slice.{sliceTy, shr-slice-copy}
-use denote.Signature.{plain, shrSliceOf}
+use denote.Ref.{ShrRef, shr-copy, shr-tells, ptr-vals}
+use denote.Slice.{sliceTy}
+use denote.Signature.{plain, shrRefTo}
 use denote.Signature.Array.{arrayOf}
 use denote.Triple.Walked.{stay-dropped, goes-dropped}
 use Rattle.timing.specs.declared.Record.{Record}
 use Rattle.timing.proofs.Record.Laws as T′
 use Rattle.records.specs.Tables.{blank, slotsIn, scattered}
-use Rattle.records.proofs.Elements.{elem, Holds, holds-length, holds-at, holds-set}
-use Rattle.records.proofs.Rows.{R, Rs, mach, bytes-16, typed, makes, rs-typed, rs-makes, ref}
+use Rattle.record_words.specs.RecordWords.{recordsIn}
+use Rattle.record_words.specs.RecordLaws.{records-length}
+use Rattle.records.proofs.Elements.{elem, holds-length, holds-at}
+use Rattle.records.proofs.Rows.{R, typed, makes, ref}
 use Rattle.records.proofs.Frame.{envOf}
-use Rattle.records.proofs.Turns.{gathers-more, gathers-all, Left, scatters-more, scatters-all}
+use Rattle.records.proofs.Turns.{Left, scatters-more, scatters-all}
 use Rattle.records.proofs.Again.{LentAgain, lends-again, comes-back}
 use Rattle.records.proofs.Call.{calls-fn, plainly, lent-first}
+use Rattle.lending.proofs.Fields.{ref-at}
 use Rattle.gathering.proofs.Listed.{bytes-4, slots-counted, slot-listed}
 use Rattle.gathering.proofs.within as count
 use Rattle.gathering.proofs.within.Symbol as count-def
@@ -205,6 +202,9 @@ use Rattle.gathering.proofs.within.Met as count-thm
 use Rattle.gathering.proofs.slot_of as slot-of
 use Rattle.gathering.proofs.slot_of.Symbol as slot-of-def
 use Rattle.gathering.proofs.slot_of.Met as slot-of-thm
+use Rattle.record_words.proofs.at as record-at
+use Rattle.record_words.proofs.at.Symbol as record-at-def
+use Rattle.record_words.proofs.at.Met as record-at-thm
 use Rattle.records.proofs.replace as replace
 use Rattle.records.proofs.replace.Symbol as replace-def
 use Rattle.records.proofs.replace.Met as replace-thm
@@ -220,6 +220,10 @@ stayed = (stay-slice (0 ∷ []) tt (plain (λ _. R)), (stay-dropped _ yes, (stay
 abbrev Ws : RattleType
 Ws = Array u32 32
 
+-- the array of the lent records
+abbrev Ns : RattleType
+Ns = Array u32 128
+
 -- the array of words
 abbrev words-ty : Ty
 words-ty = tyArray (tyInt w32) 32
@@ -229,19 +233,20 @@ module _ {M : Type 1} (𝓤 : URA M) (H : Heap 𝓤) (A : Atoms 𝓤) (W : Given
   abbrev Known : Calls 𝓤 H → Type 1
   Known C = Triple 𝓤 (C count-def.name) (tripleOf 𝓤 H A count.signature (count.spec 𝓤 H A mem run))
       × Triple 𝓤 (C slot-of-def.name) (tripleOf 𝓤 H A slot-of.signature (slot-of.spec 𝓤 H A mem run))
+      × Triple 𝓤 (C record-at-def.name) (tripleOf 𝓤 H A record-at.signature (record-at.spec 𝓤 H A mem run))
       × Triple 𝓤 (C replace-def.name) (tripleOf 𝓤 H A replace.signature (replace.spec 𝓤 H A mem run))
 
-  module _ (κ : Lft) (q : Share) (b o : ℕ) (γ : GName) (ys : List Record) (room : Room R (length ys)) (ws : List ℕ) (wv : Val)
-      (gw : Is Ws ws (wv ∷ [])) (lent : ℕ) (nv : Val) (gv : Is usize lent (nv ∷ [])) (records : List Record) (rv : Val)
-      (gr : Is Rs records (rv ∷ [])) where
-    abbrev x : RefT (List Record) × (List ℕ × (ℕ × (List Record × Unit {0})))
-    x = (ref b o γ ys, (ws, (lent, (records, tt))))
+  module _ (κ κ′ : Lft) (q q′ : Share) (b o : ℕ) (γ : GName) (ys : List Record) (room : Room R (length ys)) (ws : List ℕ) (wv : Val)
+      (gw : Is Ws ws (wv ∷ [])) (lent : ℕ) (nv : Val) (gv : Is usize lent (nv ∷ [])) (b′ o′ : ℕ) (γ′ : GName) (ns : List ℕ)
+      (len : length ns ≡ 128) where
+    abbrev x : RefT (List Record) × (List ℕ × (ℕ × (RefT (List ℕ) × Unit {0})))
+    x = (ref b o γ ys, (ws, (lent, (ref-at b′ o′ γ′ ns, tt))))
 
     abbrev s : ℕ → Val
     s m = sliceVal (b, o) m
 
-    abbrev at : Vals f.signature (κ, tt)
-    at = (s (length ys) ∷ [], (wv ∷ [], (nv ∷ [], (rv ∷ [], tt))))
+    abbrev at : Vals f.signature (κ, (κ′, tt))
+    at = (s (length ys) ∷ [], (wv ∷ [], (nv ∷ [], (vptr b′ o′ ∷ [], tt))))
 
     abbrev slots : List ℕ
     slots = slotsIn ws lent
@@ -250,32 +255,47 @@ module _ {M : Type 1} (𝓤 : URA M) (H : Heap 𝓤) (A : Atoms 𝓤) (W : Given
     abbrev us : List Val
     us = gw .0
 
-    -- the record at i, and its machine value
-    abbrev rec : ℕ → Record
-    rec i = getD records i blank
-
-    abbrev val : ℕ → Val
-    val i = getD (gr .0) i vunit
+    abbrev records : List Record
+    records = recordsIn ns
 
     -- what the table's reference owns at the list zs, at a lifetime and a name
     abbrev Own : Lft → GName → List Record → ℕ → Fml
     Own α δ zs m = MutSlice (named 0) α R .own (ref b o δ zs) (s m ∷ [])
 
+    -- what the reference to the records owns
+    abbrev Lent : Fml
+    Lent = ShrRef (named 0) κ′ Ns .own (ref-at b′ o′ γ′ ns) (vptr b′ o′ ∷ [])
+
     abbrev Post : Val → SProp 𝓤
-    Post = walkOf 𝓤 H A f.ended stayed (f.clauses 𝓤 H A mem run) .post (((κ, tt), (q, tt), tt, x, at), tt)
+    Post = walkOf 𝓤 H A f.ended stayed (f.clauses 𝓤 H A mem run) .post (((κ, (κ′, tt)), (q, (q′, tt)), tt, x, at), tt)
 
     words-typed : {w : Val} → Is Ws ws (w ∷ []) → T (hasTy words-ty w) × WT w
     words-typed {w} g = array-typed u32 (uint-lawful 𝓤 H A W w32 .typed) 32 ws (w ∷ []) g .0
 
+    records-counted : length records ≡ 32
+    records-counted = records-length 32 ns len
+
     exits : (zs : List Record) → zs ≡ scattered ys slots records → length zs ≡ length ys
-        → ent 𝓤 (⋆ 𝓤 H A (‵ (Own κ γ zs (length zs)) ∷ ‵ (flft κ q) ∷ [])) (Post vunit)
+        → ent 𝓤 (⋆ 𝓤 H A (‵ (Own κ γ zs (length zs)) ∷ ‵ (flft κ q) ∷ ‵ (flft κ′ q′) ∷ [])) (Post vunit)
     exits zs e e-len =
-        qed W (‵ (Own κ γ zs (length zs)) ∷ ‵ (flft κ q) ∷ []) ∵
-        suffices ! _ (ends-at 𝓤 H A f.ended stayed (f.clauses 𝓤 H A mem run) W (((κ, tt), (q, tt), tt, x, at), tt) vunit tt
+        qed W (‵ (Own κ γ zs (length zs)) ∷ ‵ (flft κ q) ∷ ‵ (flft κ′ q′) ∷ []) ∵
+        suffices ! _ (ends-at 𝓤 H A f.ended stayed (f.clauses 𝓤 H A mem run) W (((κ, (κ′, tt)), (q, (q′, tt)), tt, x, at), tt) vunit tt
         (zs, (tt, (tt, (tt, tt)))) (e-len, (tt, (tt, (tt, tt))))) $ says ! e $
-        nothing ! $ move ! (2 ∷ 0 ∷ []) $ join ! $ frame ! $ rewrite ! 0 (λ (m : ℕ). ‵ (Own κ γ zs m)) e-len refl $
+        nothing ! $ move ! (3 ∷ 0 ∷ []) $ join ! $ move ! (2 ∷ 0 ∷ []) $ join ! $ frame ! $
+        rewrite ! 0 (λ (m : ℕ). ‵ (Own κ γ zs m)) e-len refl $
         nothing ! $ nothing ! $ fjoin ! $ nothing ! $ fjoin ! $ nothing ! $ fjoin ! $ move ! (1 ∷ 0 ∷ []) $ fjoin ! $ frame ! $
         feqI ! (List Val) (vunit ∷ []) (vunit ∷ []) refl $ done !
+
+    -- what `at` is called at, and that what it asks is had
+    abbrev to-at : ℕ → Val → tripleOf 𝓤 H A record-at.signature (record-at.spec 𝓤 H A mem run) .Ghost
+    to-at i u = (((κ′, tt), (q′, tt), tt, (ref-at b′ o′ γ′ ns, (i, tt)), (vptr b′ o′ ∷ [], (u ∷ [], tt))), tt)
+
+    asks-at : (i : ℕ) (u : Val) → Is usize i (u ∷ []) → i < 32
+        → ent 𝓤 (⋆ 𝓤 H A (‵ (flft κ′ q′) ∷ ‵ Lent ∷ []))
+        (tripleOf 𝓤 H A record-at.signature (record-at.spec 𝓤 H A mem run) .pre (to-at i u))
+    asks-at i u is small =
+        qed W (‵ (flft κ′ q′) ∷ ‵ Lent ∷ []) ∵ says ! (len, small) $ nothing ! $ move ! (1 ∷ 0 ∷ []) $ join ! $ nothing ! $
+        owned ! usize (Is usize) (uint-makes 𝓤 H A W w64) i _ is $ fjoin ! $ move ! (2 ∷ 0 ∷ []) $ fjoin ! $ move ! (1 ∷ 0 ∷ []) $ done !
 
     -- what `replace` is called at, with the table lent again for ν under δ
     abbrev to-replace : ℕ → GName → List Record → ℕ → Val → Record → Val
@@ -304,7 +324,7 @@ module _ {M : Type 1} (𝓤 : URA M) (H : Heap 𝓤) (A : Atoms 𝓤) (W : Given
       Nearer-wf = InvImage·wf (λ (t : At). n - t .0) (Nat·lt-wfRel .wf)
 
       module _ (𝓣 : Tables 𝓤 H) (known : Known (𝓣 .C))
-          (l₀ l₁ l₂ l₃ l₄ l₅ l₆ l₇ l₈ l₉ l₁₀ l₁₁ l₁₂ l₁₃ l₁₄ l₁₅ l₁₆ l₁₇ l₁₈ l₁₉ l₂₀ l₂₁ l₂₂ : ℕ) where
+          (l₀ l₁ l₂ l₃ l₄ l₅ l₆ l₇ l₈ l₉ l₁₀ l₁₁ l₁₂ l₁₃ l₁₄ l₁₅ l₁₆ l₁₇ l₁₈ : ℕ) where
         abbrev C : Calls 𝓤 H
         C = 𝓣 .C
 
@@ -314,113 +334,112 @@ module _ {M : Type 1} (𝓤 : URA M) (H : Heap 𝓤) (A : Atoms 𝓤) (W : Given
         abbrev word : Ty
         word = tyInt w64
 
-        abbrev recs : Ty
-        recs = tyArray T′.mir 32
-
         abbrev slice : Ty
         slice = sliceTy (tyRef (named 0) mut (pointee (R .written)))
+
+        abbrev ref-ty : Ty
+        ref-ty = tyRef (named 1) imm (tyArray (tyInt w32) 128)
 
         abbrev lent-ty : Ty
         lent-ty = tyRef erased mut (pointee (R .written))
 
         abbrev En : Env 𝓤 H
-        En = envOf (code.function .locals) (l₀ ∷ l₁ ∷ l₂ ∷ l₃ ∷ l₄ ∷ l₅ ∷ l₆ ∷ l₇ ∷ l₈ ∷ l₉ ∷ l₁₀ ∷ l₁₁ ∷ l₁₂ ∷ l₁₃ ∷ l₁₄ ∷ l₁₅ ∷ l₁₆ ∷ l₁₇
-            ∷ l₁₈ ∷ l₁₉ ∷ l₂₀ ∷ l₂₁ ∷ l₂₂ ∷ [])
+        En = envOf (code.function .locals) (l₀ ∷ l₁ ∷ l₂ ∷ l₃ ∷ l₄ ∷ l₅ ∷ l₆ ∷ l₇ ∷ l₈ ∷ l₉ ∷ l₁₀ ∷ l₁₁
+            ∷ l₁₂ ∷ l₁₃ ∷ l₁₄ ∷ l₁₅ ∷ l₁₆ ∷ l₁₇ ∷ l₁₈ ∷ [])
 
         abbrev Inv : At → List (Item 𝓤)
-        Inv t = ‵ (Own κ γ (t .1) (length (t .1))) ∷ ‵ (flft κ q) ∷ ‵ (froom (sliceTy lent-ty) l₂₂ 0) ∷ ‵ (fdies (sliceTy lent-ty) l₂₂)
-            ∷ ‵ (froom lent-ty l₂₁ 0) ∷ ‵ (fdies lent-ty l₂₁) ∷ ‵ (froom tyUnit l₂₀ 0) ∷ ‵ (fdies tyUnit l₂₀) ∷ ‵ (froom T′.mir l₁₉ 0)
-            ∷ ‵ (fdies T′.mir l₁₉) ∷ ‵ (froom tyPtr l₁₈ 0) ∷ ‵ (fdies tyPtr l₁₈) ∷ ‵ (froom tyPtr l₁₇ 0) ∷ ‵ (fdies tyPtr l₁₇)
-            ∷ ‵ (froom (tyInt w32) l₁₆ 0) ∷ ‵ (fdies (tyInt w32) l₁₆) ∷ ‵ (froom tyPtr l₁₅ 0) ∷ ‵ (fdies tyPtr l₁₅) ∷ ‵ (froom tyPtr l₁₄ 0)
-            ∷ ‵ (fdies tyPtr l₁₄) ∷ ‵ (froom word l₁₃ 0) ∷ ‵ (fdies word l₁₃) ∷ ‵ (froom tyBool l₁₂ 0) ∷ ‵ (fdies tyBool l₁₂)
-            ∷ ‵ (froom T′.mir l₁₁ 0) ∷ ‵ (fdies T′.mir l₁₁) ∷ ‵ (froom word l₁₀ 0) ∷ ‵ (fdies word l₁₀) ∷ ‵ (froom (tyInt w32) l₉ 0)
-            ∷ ‵ (fdies (tyInt w32) l₉) ∷ ‵ (fat fullShare word l₈ 0 (vint w64 (t .0))) ∷ ‵ (fdies word l₈)
-            ∷ ‵ (fat fullShare word l₇ 0 (vint w64 n)) ∷ ‵ (fdies word l₇) ∷ ‵ (fat fullShare recs l₆ 0 (arrayVal (gr .0)))
-            ∷ ‵ (fdies recs l₆) ∷ ‵ (fat fullShare words-ty l₅ 0 (arrayVal us)) ∷ ‵ (fdies words-ty l₅) ∷ ‵ (fat fullShare recs l₄ 0 rv)
-            ∷ ‵ (fdies recs l₄) ∷ ‵ (fat fullShare word l₃ 0 nv) ∷ ‵ (fdies word l₃) ∷ ‵ (fat fullShare words-ty l₂ 0 wv)
-            ∷ ‵ (fdies words-ty l₂) ∷ ‵ (fat fullShare slice l₁ 0 (s (length (t .1)))) ∷ ‵ (fdies slice l₁) ∷ ‵ (froom tyUnit l₀ 0)
-            ∷ ‵ (fdies tyUnit l₀) ∷ []
+        Inv t = ‵ (Own κ γ (t .1) (length (t .1))) ∷ ‵ (flft κ q) ∷ ‵ Lent ∷ ‵ (flft κ′ q′) ∷ ‵ (froom (sliceTy lent-ty) l₁₈ 0)
+            ∷ ‵ (fdies (sliceTy lent-ty) l₁₈) ∷ ‵ (froom lent-ty l₁₇ 0) ∷ ‵ (fdies lent-ty l₁₇) ∷ ‵ (froom tyUnit l₁₆ 0)
+            ∷ ‵ (fdies tyUnit l₁₆) ∷ ‵ (froom (tyInt w32) l₁₅ 0) ∷ ‵ (fdies (tyInt w32) l₁₅) ∷ ‵ (froom tyPtr l₁₄ 0)
+            ∷ ‵ (fdies tyPtr l₁₄) ∷ ‵ (froom tyPtr l₁₃ 0) ∷ ‵ (fdies tyPtr l₁₃) ∷ ‵ (froom word l₁₂ 0)
+            ∷ ‵ (fdies word l₁₂) ∷ ‵ (froom tyBool l₁₁ 0) ∷ ‵ (fdies tyBool l₁₁) ∷ ‵ (froom T′.mir l₁₀ 0)
+            ∷ ‵ (fdies T′.mir l₁₀) ∷ ‵ (froom word l₉ 0) ∷ ‵ (fdies word l₉) ∷ ‵ (froom (tyInt w32) l₈ 0)
+            ∷ ‵ (fdies (tyInt w32) l₈) ∷ ‵ (fat fullShare word l₇ 0 (vint w64 (t .0))) ∷ ‵ (fdies word l₇)
+            ∷ ‵ (fat fullShare word l₆ 0 (vint w64 n)) ∷ ‵ (fdies word l₆) ∷ ‵ (fat fullShare words-ty l₅ 0 (arrayVal us))
+            ∷ ‵ (fdies words-ty l₅) ∷ ‵ (fat fullShare ref-ty l₄ 0 (vptr b′ o′)) ∷ ‵ (fdies ref-ty l₄)
+            ∷ ‵ (fat fullShare word l₃ 0 nv) ∷ ‵ (fdies word l₃) ∷ ‵ (fat fullShare words-ty l₂ 0 wv) ∷ ‵ (fdies words-ty l₂)
+            ∷ ‵ (fat fullShare slice l₁ 0 (s (length (t .1)))) ∷ ‵ (fdies slice l₁) ∷ ‵ (froom tyUnit l₀ 0) ∷ ‵ (fdies tyUnit l₀) ∷ []
 
         abbrev Turned : At → Out → SProp 𝓤
         Turned t = afterTurn 𝓤 H (Below 𝓤 H A Nearer Inv t)
-            (afterBlock 𝓤 H (afterSeq 𝓤 H (Wp 𝓤 H C Λ En body.t-6 (atReturn 𝓤 H En Post)) (atReturn 𝓤 H En Post)))
+            (afterBlock 𝓤 H (afterSeq 𝓤 H (Wp 𝓤 H C Λ En body.t-5 (atReturn 𝓤 H En Post)) (atReturn 𝓤 H En Post)))
 
         turn : (t : At) (z : Bool) → ltb (t .0) n ≡ z → Sq W (Inv t) (runs C Λ En body.turn-1 (anyQ (Turned t)))
         unfolding afterTurn
         turn t true z =
-            assigns ! (bin ! (load ! (from ! (stop !)) (look ! 30 refl)) (load ! (from ! (stop !)) (look ! 32 refl)) tt) (from ! (stop !))
-            (init ! 22 refl (tt, tt)) $
-            rewrite ! 22 (λ (u : Bool). ‵ (fat fullShare tyBool l₁₂ 0 (vbool u))) z refl $
-            stays ! (load ! (from ! (stop !)) (look ! 22 refl)) $
+            assigns ! (bin ! (load ! (from ! (stop !)) (look ! 26 refl)) (load ! (from ! (stop !)) (look ! 28 refl)) tt) (from ! (stop !))
+            (init ! 18 refl (tt, tt)) $
+            rewrite ! 18 (λ (u : Bool). ‵ (fat fullShare tyBool l₁₁ 0 (vbool u))) z refl $
+            stays ! (load ! (from ! (stop !)) (look ! 18 refl)) $
             -- the word, and its slot
-            assigns ! (bin ! (load ! (from ! (stop !)) (look ! 30 refl)) (lit ! tt) (record { fits = bytes-4 small-i })) (from ! (stop !))
-            (init ! 20 refl (tt, record { fits = bytes-4 small-i })) $
-            assigns ! (addr ! (from ! (stop !))) (from ! (stop !)) (init ! 18 refl (tt, tt)) $
-            assigns ! (bin ! (load ! (from ! (stop !)) (look ! 18 refl)) (load ! (from ! (stop !)) (look ! 20 refl)) tt) (from ! (stop !))
-            (init ! 16 refl (tt, tt)) $
-            assigns ! (of-opd ! (load ! (from ! (hop ! (look ! 16 refl) (stop !)))
-            (look-in ! 36 (elem ! us (t .0) vunit (holds-length u32 ws us (gw .1 .1) ∙ gw .1 .0 .1) small-i (whole !)))))
-            (from ! (stop !)) (init ! 14 refl (uint-lawful 𝓤 H A W w32 .typed (getD ws (t .0) 0) _ is-w .0)) $
-            assigns ! (of-opd ! (load ! (from ! (stop !)) (look ! 14 refl))) (from ! (stop !))
-            (init ! 28 refl (uint-lawful 𝓤 H A W w32 .typed (getD ws (t .0) 0) _ is-w .0)) $
+            assigns ! (bin ! (load ! (from ! (stop !)) (look ! 26 refl)) (lit ! tt) (record { fits = bytes-4 small-i })) (from ! (stop !))
+            (init ! 16 refl (tt, record { fits = bytes-4 small-i })) $
+            assigns ! (addr ! (from ! (stop !))) (from ! (stop !)) (init ! 14 refl (tt, tt)) $
+            assigns ! (bin ! (load ! (from ! (stop !)) (look ! 14 refl)) (load ! (from ! (stop !)) (look ! 16 refl)) tt) (from ! (stop !))
+            (init ! 12 refl (tt, tt)) $
+            assigns ! (of-opd ! (load ! (from ! (hop ! (look ! 12 refl) (stop !)))
+            (look-in ! 30 (elem ! us (t .0) vunit (holds-length u32 ws us (gw .1 .1) ∙ gw .1 .0 .1) small-i (whole !)))))
+            (from ! (stop !)) (init ! 10 refl (uint-lawful 𝓤 H A W w32 .typed (getD ws (t .0) 0) _ is-w .0)) $
+            assigns ! (of-opd ! (load ! (from ! (stop !)) (look ! 10 refl))) (from ! (stop !))
+            (init ! 24 refl (uint-lawful 𝓤 H A W w32 .typed (getD ws (t .0) 0) _ is-w .0)) $
             nothing ! $ calls-fn ! (fmOf 𝓤 H (W .laws) 𝓣) slot-of.ended (slot-of.clauses 𝓤 H A mem run) (known .1)
             ((tt, tt, tt, (getD ws (t .0) 0, tt), (getD us (t .0) vunit ∷ [], tt)), tt) (λ k _. k ≡ getD ws (t .0) 0 % 256)
             (‵ ftrue) (plainly 𝓤 H A W (u32 ∷ []) (uint-makes 𝓤 H A W w32, tt) (getD ws (t .0) 0, tt) (getD us (t .0) vunit ∷ [], tt)
             (is-w, tt)) (λ k _. id⊢ 𝓤 _)
-            (and-then ! (load ! (from ! (stop !)) (look ! 29 refl)) (no-more !))
-            (λ k wk _ e-k is-k. drop ! $ drop ! $ land ! (from ! (stop !)) (init ! 26 refl (uint-lawful 𝓤 H A W w64 .typed k _ is-k .0)) $
+            (and-then ! (load ! (from ! (stop !)) (look ! 25 refl)) (no-more !))
+            (λ k wk _ e-k is-k. drop ! $ drop ! $ land ! (from ! (stop !)) (init ! 22 refl (uint-lawful 𝓤 H A W w64 .typed k _ is-k .0)) $
             -- the record
-            assigns ! (bin ! (load ! (from ! (stop !)) (look ! 30 refl)) (lit ! tt) (record { fits = bytes-16 small-i })) (from ! (stop !))
-            (store ! 20 refl (tt, record { fits = bytes-16 small-i })) $
-            assigns ! (addr ! (from ! (stop !))) (from ! (stop !)) (init ! 12 refl (tt, tt)) $
-            assigns ! (bin ! (load ! (from ! (stop !)) (look ! 12 refl)) (load ! (from ! (stop !)) (look ! 20 refl)) tt) (from ! (stop !))
-            (init ! 10 refl (tt, tt)) $
-            assigns ! (of-opd ! (load ! (from ! (hop ! (look ! 10 refl) (stop !)))
-            (look-in ! 34 (elem ! (gr .0) (t .0) vunit (holds-length R records (gr .0) (gr .1 .1) ∙ gr .1 .0 .1) small-i (whole !)))))
-            (from ! (stop !)) (init ! 8 refl (typed 𝓤 H A W (rec (t .0)) is-r)) $
-            assigns ! (of-opd ! (load ! (from ! (stop !)) (look ! 8 refl))) (from ! (stop !))
-            (init ! 24 refl (typed 𝓤 H A W (rec (t .0)) is-r)) $
+            move ! (2 ∷ []) $ use1 W (‵ Lent ⊛ ‵ Lent) (shr-copy 𝓤 H A W (named 0) κ′ Ns .twice (ref-at b′ o′ γ′ ns) (vptr b′ o′
+            ∷ [])) $
+            split ! $ move ! (4 ∷ 0 ∷ []) $ join ! $
+            calls-fn ! (fmOf 𝓤 H (W .laws) 𝓣) record-at.ended (record-at.clauses 𝓤 H A mem run) (known .2) (to-at (t .0) (vint w64 (t .0)))
+            (λ r _. r ≡ getD records (t .0) blank) (‵ (flft κ′ q′) ⊛ ‵ Lent) (asks-at (t .0) (vint w64 (t .0)) is-i small-i)
+            (λ r _. id⊢ 𝓤 _)
+            (and-then ! (load ! (from ! (stop !)) (look ! 32 refl)) (and-then ! (load ! (from ! (stop !)) (look ! 26 refl)) (no-more !)))
+            (λ r v _ e-r is-r.
+            use1 W (‵ (flft κ′ q′) ⊛ ‵ ftrue) (id⊢ 𝓤 _) $ split ! $ move ! (1 ∷ 2 ∷ []) $ drop ! $ drop ! $
+            move ! (2 ∷ 3 ∷ 1 ∷ 0 ∷ []) $
+            land ! (from ! (stop !)) (init ! 20 refl (typed 𝓤 H A W r is-r)) $
             -- the table is lent again for a lifetime ν of the call
-            assigns ! (addr ! (from ! (fld ! refl (hop ! (look-in ! 44 (sub ! 0 refl (whole !))) (stop !))))) (from ! (stop !))
-            (init ! 4 refl (tt, tt)) $
-            assigns ! (agg ! (and-then ! (load ! (from ! (stop !)) (look ! 4 refl))
-            (and-then ! (load ! (from ! (fld ! refl (stop !))) (look-in ! 44 (sub ! 1 refl (whole !)))) (no-more !)))) (from ! (stop !))
-            (init ! 2 refl (tt, (tt, (record { fits = has-room .0 }, tt)))) $
+            assigns ! (addr ! (from ! (fld ! refl (hop ! (look-in ! 38 (sub ! 0 refl (whole !))) (stop !))))) (from ! (stop !))
+            (init ! 6 refl (tt, tt)) $
+            assigns ! (agg ! (and-then ! (load ! (from ! (stop !)) (look ! 6 refl))
+            (and-then ! (load ! (from ! (fld ! refl (stop !))) (look-in ! 38 (sub ! 1 refl (whole !)))) (no-more !)))) (from ! (stop !))
+            (init ! 4 refl (tt, (tt, (record { fits = has-room .0 }, tt)))) $
             lft-new ! tt (λ ν. move ! (1 ∷ 2 ∷ []) $
             use2 W (later (some (λ (δ : GName). ‵ (Own (ν ∷ []) δ (t .1) (length (t .1))) ⊛ ‵ (LentAgain R κ (ν ∷ []) q γ b o δ (t .1)))))
             (lends-again R κ (ν ∷ []) q γ b o 𝓤 H A W (named 0) (named 0) (t .1)) $ await ! tt $
             pick ! (λ δ. split ! $ move ! (2 ∷ 0 ∷ []) $ join ! $
-            calls-fn ! (fmOf 𝓤 H (W .laws) 𝓣) replace.ended (replace.clauses 𝓤 H A mem run) (known .2)
-            (to-replace ν δ (t .1) k wk (rec (t .0)) (val (t .0))) (λ _ zs. zs .0 ≡ set (t .1) k (rec (t .0)))
+            calls-fn ! (fmOf 𝓤 H (W .laws) 𝓣) replace.ended (replace.clauses 𝓤 H A mem run) (known .3)
+            (to-replace ν δ (t .1) k wk r v) (λ _ zs. zs .0 ≡ set (t .1) k r)
             (‵ (flft (ν ∷ []) fullShare) ⊛ ‵ (Own (ν ∷ []) δ (t .1) (length (t .1))))
-            (lent-first 𝓤 H A W (usize ∷ R ∷ []) (uint-makes 𝓤 H A W w64, (makes 𝓤 H A, tt)) (k, (rec (t .0), tt))
-            (wk ∷ [], (val (t .0) ∷ [], tt)) (is-k, (is-r, tt)) (MutSlice (named 0) (ν ∷ []) R) (ref b o δ (t .1)) (s (length (t .1)) ∷ [])
+            (lent-first 𝓤 H A W (usize ∷ R ∷ []) (uint-makes 𝓤 H A W w64, (makes 𝓤 H A, tt)) (k, (r, tt))
+            (wk ∷ [], (v ∷ [], tt)) (is-k, (is-r, tt)) (MutSlice (named 0) (ν ∷ []) R) (ref b o δ (t .1)) (s (length (t .1)) ∷ [])
             (ν ∷ []) fullShare) (λ _ zs. id⊢ 𝓤 _)
-            (and-then ! (load ! (from ! (stop !)) (look ! 2 refl))
-            (and-then ! (load ! (from ! (stop !)) (look ! 26 refl)) (and-then ! (load ! (from ! (stop !)) (look ! 24 refl)) (no-more !))))
+            (and-then ! (load ! (from ! (stop !)) (look ! 4 refl))
+            (and-then ! (load ! (from ! (stop !)) (look ! 22 refl)) (and-then ! (load ! (from ! (stop !)) (look ! 20 refl)) (no-more !))))
             (λ u w zs e-z is-u.
-            land ! (from ! (stop !)) (init ! 7 refl (nothing-lawful 𝓤 H A W .typed u _ is-u .0)) $
+            land ! (from ! (stop !)) (init ! 9 refl (nothing-lawful 𝓤 H A W .typed u _ is-u .0)) $
             -- the lifetime is ended, and the table comes back at its last list
             use1 W (‵ (flft (ν ∷ []) fullShare) ⊛ ‵ ftrue) (id⊢ 𝓤 _) $ split ! $ lft-end ! tt $ move ! (2 ∷ []) $ fsplit ! $ fsplit ! $
             move ! (1 ∷ []) $ feqL ! (λ e-len. move ! (2 ∷ 4 ∷ 0 ∷ []) $
             use3 W (later (‵ (Own κ γ (zs .0) (length (t .1))) ⊛ ‵ (flft κ q)))
             (comes-back R κ (ν ∷ []) q γ b o 𝓤 H A W (named 0) (named 0) (t .1) δ (zs .0) has-room e-len) $ await ! tt $ split ! $
             move ! (2 ∷ 3 ∷ []) $ drop ! $ drop ! $
-            assigns-last ! (bin ! (load ! (from ! (stop !)) (look ! 30 refl)) (lit ! tt) (record { fits = next })) (from ! (stop !))
-            (store ! 30 refl (tt, record { fits = next })) $
-            forget ! 2 refl $ forget ! 4 refl $ forget ! 6 refl $ forget ! 8 refl $ forget ! 10 refl $ forget ! 12 refl $ forget ! 14 refl $
-            forget ! 16 refl $ forget ! 18 refl $ forget ! 20 refl $ forget ! 22 refl $ forget ! 24 refl $ forget ! 26 refl $
-            forget ! 28 refl $
+            assigns-last ! (bin ! (load ! (from ! (stop !)) (look ! 26 refl)) (lit ! tt) (record { fits = next })) (from ! (stop !))
+            (store ! 26 refl (tt, record { fits = next })) $
+            forget ! 4 refl $ forget ! 6 refl $ forget ! 8 refl $ forget ! 10 refl $ forget ! 12 refl $ forget ! 14 refl $
+            forget ! 16 refl $ forget ! 18 refl $ forget ! 20 refl $ forget ! 22 refl $ forget ! 24 refl $
             rewrite ! 0 (λ (m : ℕ). ‵ (Own κ γ (zs .0) m)) (sym e-len) refl $
-            rewrite ! 44 (λ (m : ℕ). ‵ (fat fullShare slice l₁ 0 (s m))) (sym e-len) refl $
+            rewrite ! 38 (λ (m : ℕ). ‵ (fat fullShare slice l₁ 0 (s m))) (sym e-len) refl $
             again ! Nearer Inv t (
               t .0 + 1,
               zs .0,
               add-one-le less,
               e-len ∙ t .3,
               scatters-more (t .1) (zs .0) records slots (t .0) k within whole-records (t .4) (slot-listed ws lent (t .0) k e-k within)
-                  e-z,
-            ) (add-one-dec n (t .0) less))))))
+                  (e-z ∙ ap (set (t .1) k) e-r),
+            ) (add-one-dec n (t .0) less)))))))
           where
             less : t .0 < n
             less = ltb→lt (t .0) n (subst T (sym z) tt)
@@ -434,32 +453,31 @@ module _ {M : Type 1} (𝓤 : URA M) (H : Heap 𝓤) (A : Atoms 𝓤) (W : Given
             is-w : Is u32 (getD ws (t .0) 0) (getD us (t .0) vunit ∷ [])
             is-w = holds-at u32 ws us (t .0) 0 vunit (rw (gw .1 .0 .1) small-i) (gw .1 .1)
 
+            is-i : Is usize (t .0) (vint w64 (t .0) ∷ [])
+            is-i = (refl, lt-of-lt-of-le less (le-of-lt gn))
+
             whole-records : t .0 < length records
-            whole-records = rw (gr .1 .0 .1) small-i
+            whole-records = rw records-counted small-i
 
             next : t .0 + 1 < 2 ^ 64
             next = lt-of-le-of-lt (add-one-le less) gn
 
-            is-r : Is R (rec (t .0)) (val (t .0) ∷ [])
-            is-r = holds-at R records (gr .0) (t .0) blank vunit whole-records (gr .1 .1)
-
             has-room : Room R (length (t .1))
             has-room = subst (Room R) (sym (t .3)) room
         turn t false z =
-            assigns ! (bin ! (load ! (from ! (stop !)) (look ! 30 refl)) (load ! (from ! (stop !)) (look ! 32 refl)) tt) (from ! (stop !))
-            (init ! 22 refl (tt, tt)) $
-            rewrite ! 22 (λ (u : Bool). ‵ (fat fullShare tyBool l₁₂ 0 (vbool u))) z refl $
-            leaves-loop ! (load ! (from ! (stop !)) (look ! 22 refl)) $ exec ! C Λ En body.t-6 (atRet En Post) $
-            assigns ! (of-opd ! (unit-lit !)) (from ! (stop !)) (init ! 46 refl (tt, tt)) $
-            returns ! (look ! 46 refl) $ forget ! 22 refl $ forget ! 30 refl $ forget ! 32 refl $ forget ! 34 refl $ forget ! 36 refl $
-            forget ! 38 refl $ forget ! 40 refl $ forget ! 42 refl $ forget ! 44 refl $ forget ! 46 refl $
-            move ! (46 ∷ 47 ∷ []) $ free1 ! $ move ! (44 ∷ 45 ∷ []) $ free1 ! $ move ! (42 ∷ 43 ∷ []) $ free1 ! $ move ! (40 ∷ 41 ∷ []) $
-            free1 ! $ move ! (38 ∷ 39 ∷ []) $ free1 ! $ move ! (36 ∷ 37 ∷ []) $ free1 ! $ move ! (34 ∷ 35 ∷ []) $ free1 ! $
-            move ! (32 ∷ 33 ∷ []) $ free1 ! $ move ! (30 ∷ 31 ∷ []) $ free1 ! $ move ! (28 ∷ 29 ∷ []) $ free1 ! $
-            move ! (26 ∷ 27 ∷ []) $ free1 ! $ move ! (24 ∷ 25 ∷ []) $ free1 ! $ move ! (22 ∷ 23 ∷ []) $ free1 ! $
-            move ! (20 ∷ 21 ∷ []) $ free1 ! $ move ! (18 ∷ 19 ∷ []) $ free1 ! $ move ! (16 ∷ 17 ∷ []) $ free1 ! $
-            move ! (14 ∷ 15 ∷ []) $ free1 ! $ move ! (12 ∷ 13 ∷ []) $ free1 ! $ move ! (10 ∷ 11 ∷ []) $ free1 ! $ move ! (8 ∷ 9 ∷ []) $
-            free1 ! $ move ! (6 ∷ 7 ∷ []) $ free1 ! $ move ! (4 ∷ 5 ∷ []) $ free1 ! $ move ! (2 ∷ 3 ∷ []) $ free1 ! $ free0 ! $
+            assigns ! (bin ! (load ! (from ! (stop !)) (look ! 26 refl)) (load ! (from ! (stop !)) (look ! 28 refl)) tt) (from ! (stop !))
+            (init ! 18 refl (tt, tt)) $
+            rewrite ! 18 (λ (u : Bool). ‵ (fat fullShare tyBool l₁₁ 0 (vbool u))) z refl $
+            leaves-loop ! (load ! (from ! (stop !)) (look ! 18 refl)) $ exec ! C Λ En body.t-5 (atRet En Post) $
+            assigns ! (of-opd ! (unit-lit !)) (from ! (stop !)) (init ! 40 refl (tt, tt)) $
+            returns ! (look ! 40 refl) $ forget ! 18 refl $ forget ! 26 refl $ forget ! 28 refl $ forget ! 30 refl $ forget ! 32 refl $
+            forget ! 34 refl $ forget ! 36 refl $ forget ! 38 refl $ forget ! 40 refl $
+            move ! (40 ∷ 41 ∷ []) $ free1 ! $ move ! (38 ∷ 39 ∷ []) $ free1 ! $ move ! (36 ∷ 37 ∷ []) $ free1 ! $ move ! (34 ∷ 35 ∷ []) $
+            free1 ! $ move ! (32 ∷ 33 ∷ []) $ free1 ! $ move ! (30 ∷ 31 ∷ []) $ free1 ! $ move ! (28 ∷ 29 ∷ []) $ free1 ! $
+            move ! (26 ∷ 27 ∷ []) $ free1 ! $ move ! (24 ∷ 25 ∷ []) $ free1 ! $ move ! (22 ∷ 23 ∷ []) $ free1 ! $ move ! (20 ∷ 21 ∷ []) $
+            free1 ! $ move ! (18 ∷ 19 ∷ []) $ free1 ! $ move ! (16 ∷ 17 ∷ []) $ free1 ! $ move ! (14 ∷ 15 ∷ []) $ free1 ! $
+            move ! (12 ∷ 13 ∷ []) $ free1 ! $ move ! (10 ∷ 11 ∷ []) $ free1 ! $ move ! (8 ∷ 9 ∷ []) $ free1 ! $ move ! (6 ∷ 7 ∷ []) $
+            free1 ! $ move ! (4 ∷ 5 ∷ []) $ free1 ! $ free0 ! $ keep ! (0 ∷ 1 ∷ 3 ∷ []) $
             by ! (exits (t .1) (scatters-all (t .1) records slots (t .0) past (t .4)) (t .3))
           where
             past : length slots ≤ t .0
@@ -469,69 +487,64 @@ module _ {M : Type 1} (𝓤 : URA M) (H : Heap 𝓤) (A : Atoms 𝓤) (W : Given
         turns t = turn t (ltb (t .0) n) refl
 
         -- the loop, with nothing put back yet
-        looped : ent 𝓤 (⋆ 𝓤 H A (Inv (0, ys, zero-le, refl, refl))) (Wp 𝓤 H C Λ En body.t-5 (atReturn 𝓤 H En Post))
+        looped : ent 𝓤 (⋆ 𝓤 H A (Inv (0, ys, zero-le, refl, refl))) (Wp 𝓤 H C Λ En body.t-4 (atReturn 𝓤 H En Post))
         looped =
-            qed W (Inv (0, ys, zero-le, refl, refl)) ∵ exec ! C Λ En body.t-5 (atRet En Post) $ first ! $ blocks ! $
+            qed W (Inv (0, ys, zero-le, refl, refl)) ∵ exec ! C Λ En body.t-4 (atRet En Post) $ first ! $ blocks ! $
             loops ! 𝓣 Nearer Nearer-wf Inv turns (0, ys, zero-le, refl, refl)
 
     walk : (𝓣 : Tables 𝓤 H) → Known (𝓣 .C)
-        → ent 𝓤 (onEntry 𝓤 H A f.signature (κ, tt) (q, tt) x at)
-        (WpFn 𝓤 H (𝓣 .C) (𝓣 .Λ) code.function (s (length ys) ∷ wv ∷ nv ∷ rv ∷ []) Post)
+        → ent 𝓤 (onEntry 𝓤 H A f.signature (κ, (κ′, tt)) (q, (q′, tt)) x at)
+        (WpFn 𝓤 H (𝓣 .C) (𝓣 .Λ) code.function (s (length ys) ∷ wv ∷ nv ∷ vptr b′ o′ ∷ []) Post)
     walk 𝓣 known =
-        qed W ((‵ (flft κ q) ⊛ ‵ ftrue) ∷ ‵ (owns (MutSlice (named 0) κ R ∷ Ws ∷ usize ∷ Rs ∷ []) x at) ∷ []) ∵
-        enter ! (𝓣 .C) (𝓣 .Λ) code.function (s (length ys) ∷ wv ∷ nv ∷ rv ∷ []) _ $
-        alloc1 ! (λ l₀. alloc1 ! (λ l₁. alloc1 ! (λ l₂.
-        alloc1 ! (λ l₃. alloc1 ! (λ l₄. alloc1 ! (λ l₅.
-        alloc1 ! (λ l₆. alloc1 ! (λ l₇. alloc1 ! (λ l₈.
-        alloc1 ! (λ l₉. alloc1 ! (λ l₁₀. alloc1 ! (λ l₁₁.
-        alloc1 ! (λ l₁₂. alloc1 ! (λ l₁₃. alloc1 ! (λ l₁₄.
-        alloc1 ! (λ l₁₅. alloc1 ! (λ l₁₆. alloc1 ! (λ l₁₇.
-        alloc1 ! (λ l₁₈. alloc1 ! (λ l₁₉. alloc1 ! (λ l₂₀. alloc1 ! (λ l₂₁. alloc1 ! (λ l₂₂. alloc0 ! $ params1 ! $
-        pass1 ! (init ! 42 refl (tt, (tt, (record { fits = room .0 }, tt)))) $ pass1 ! (init ! 40 refl (words-typed gw)) $
-        pass1 ! (init ! 38 refl (uint-lawful 𝓤 H A W w64 .typed lent _ gv .0)) $
-        pass1 ! (init ! 36 refl (rs-typed 𝓤 H A W records gr)) $ pass0 ! $
-        assigns ! (of-opd ! (load ! (from ! (stop !)) (look ! 40 refl))) (from ! (stop !)) (init ! 34 refl (words-typed gw)) $
-        rewrite ! 34 (λ (u : Val). ‵ (fat fullShare words-ty l₅ 0 u)) (ap only (gw .1 .0 .0)) refl $
-        assigns ! (of-opd ! (load ! (from ! (stop !)) (look ! 36 refl))) (from ! (stop !)) (init ! 32 refl (rs-typed 𝓤 H A W records gr)) $
-        rewrite ! 32 (λ (u : Val). ‵ (fat fullShare (tyArray T′.mir 32) l₆ 0 u)) (ap only (gr .1 .0 .0)) refl $
+        qed W ((‵ (flft κ q) ⊛ ‵ (flft κ′ q′) ⊛ ‵ ftrue)
+        ∷ ‵ (owns (MutSlice (named 0) κ R ∷ Ws ∷ usize ∷ ShrRef (named 1) κ′ Ns ∷ []) x at) ∷ []) ∵
+        enter ! (𝓣 .C) (𝓣 .Λ) code.function (s (length ys) ∷ wv ∷ nv ∷ vptr b′ o′ ∷ []) _ $
+        alloc1 ! (λ l₀. alloc1 ! (λ l₁. alloc1 ! (λ l₂. alloc1 ! (λ l₃. alloc1 ! (λ l₄. alloc1 ! (λ l₅. alloc1 ! (λ l₆. alloc1 ! (λ l₇.
+        alloc1 ! (λ l₈. alloc1 ! (λ l₉. alloc1 ! (λ l₁₀. alloc1 ! (λ l₁₁. alloc1 ! (λ l₁₂. alloc1 ! (λ l₁₃. alloc1 ! (λ l₁₄.
+        alloc1 ! (λ l₁₅. alloc1 ! (λ l₁₆. alloc1 ! (λ l₁₇. alloc1 ! (λ l₁₈. alloc0 ! $ params1 ! $
+        pass1 ! (init ! 34 refl (tt, (tt, (record { fits = room .0 }, tt)))) $ pass1 ! (init ! 32 refl (words-typed gw)) $
+        pass1 ! (init ! 30 refl (uint-lawful 𝓤 H A W w64 .typed lent _ gv .0)) $ pass1 ! (init ! 28 refl (tt, tt)) $ pass0 ! $
+        assigns ! (of-opd ! (load ! (from ! (stop !)) (look ! 32 refl))) (from ! (stop !)) (init ! 26 refl (words-typed gw)) $
+        rewrite ! 26 (λ (u : Val). ‵ (fat fullShare words-ty l₅ 0 u)) (ap only (gw .1 .0 .0)) refl $
         nothing ! $ calls-fn ! (fmOf 𝓤 H (W .laws) 𝓣) count.ended (count.clauses 𝓤 H A mem run) (known .0)
         ((tt, tt, tt, (lent, tt), (nv ∷ [], tt)), tt) (λ n _. (n ≡ min lent 32) × (n ≤ 32))
         (‵ ftrue) (plainly 𝓤 H A W (usize ∷ []) (uint-makes 𝓤 H A W w64, tt) (lent, tt) (nv ∷ [], tt) (gv, tt)) (λ n _. id⊢ 𝓤 _)
-        (and-then ! (load ! (from ! (stop !)) (look ! 39 refl)) (no-more !)) (λ n v _ e-n is-n. drop ! $ drop ! $
-        land ! (from ! (stop !)) (init ! 30 refl (uint-lawful 𝓤 H A W w64 .typed n _ is-n .0)) $
-        rewrite ! 30 (λ (u : Val). ‵ (fat fullShare (tyInt w64) l₇ 0 u)) (ap only (is-n .0)) refl $
-        assigns ! (of-opd ! (lit ! tt)) (from ! (stop !)) (init ! 28 refl (tt, record { fits = lit< tt })) $
-        move ! (47 ∷ []) $ fsplit ! $ move ! (48 ∷ []) $ split ! $
-        keep ! (2 ∷ 0 ∷ 4 ∷ 5 ∷ 6 ∷ 7 ∷ 8 ∷ 9 ∷ 10 ∷ 11 ∷ 12 ∷ 13 ∷ 14 ∷ 15 ∷ 16 ∷ 17 ∷ 18 ∷ 19 ∷ 20 ∷ 21 ∷ 22 ∷ 23 ∷ 24 ∷ 25 ∷ 26 ∷ 27
-        ∷ 28 ∷ 29 ∷ 30 ∷ 31 ∷ 32 ∷ 33 ∷ 34 ∷ 35 ∷ 36 ∷ 37 ∷ 38 ∷ 39 ∷ 40 ∷ 41 ∷ 42 ∷ 43 ∷ 44 ∷ 45 ∷ 46 ∷ 47 ∷ 48 ∷ 49 ∷ []) $
-        by ! (looped n (is-n .1) (slots-counted ws lent n (gw .1 .0 .1) (e-n .0)) (e-n .1) 𝓣 known l₀ l₁ l₂ l₃ l₄ l₅ l₆ l₇ l₈ l₉ l₁₀ l₁₁ l₁₂
-        l₁₃ l₁₄ l₁₅ l₁₆ l₁₇ l₁₈ l₁₉ l₂₀ l₂₁ l₂₂)))))))))))))))))))))))))
+        (and-then ! (load ! (from ! (stop !)) (look ! 31 refl)) (no-more !)) (λ n v _ e-n is-n. drop ! $ drop ! $
+        land ! (from ! (stop !)) (init ! 24 refl (uint-lawful 𝓤 H A W w64 .typed n _ is-n .0)) $
+        rewrite ! 24 (λ (u : Val). ‵ (fat fullShare (tyInt w64) l₆ 0 u)) (ap only (is-n .0)) refl $
+        assigns ! (of-opd ! (lit ! tt)) (from ! (stop !)) (init ! 22 refl (tt, record { fits = lit< tt })) $
+        move ! (39 ∷ []) $ fsplit ! $ move ! (1 ∷ []) $ fsplit ! $ move ! (1 ∷ []) $ fsplit ! $ move ! (1 ∷ []) $ fsplit ! $
+        move ! (43 ∷ []) $ split ! $ move ! (1 ∷ []) $ split ! $
+        keep ! (7 ∷ 2 ∷ 3 ∷ 0 ∷ 8 ∷ 9 ∷ 10 ∷ 11 ∷ 12 ∷ 13 ∷ 14 ∷ 15 ∷ 16 ∷ 17 ∷ 18 ∷ 19 ∷ 20 ∷ 21 ∷ 22 ∷ 23 ∷ 24 ∷ 25
+        ∷ 26 ∷ 27 ∷ 28 ∷ 29 ∷ 30 ∷ 31 ∷ 32 ∷ 33 ∷ 34 ∷ 35 ∷ 36 ∷ 37 ∷ 38 ∷ 39 ∷ 40 ∷ 41 ∷ 42 ∷ 43 ∷ 44 ∷ 45 ∷ []) $
+        by ! (looped n (is-n .1) (slots-counted ws lent n (gw .1 .0 .1) (e-n .0)) (e-n .1) 𝓣 known
+        l₀ l₁ l₂ l₃ l₄ l₅ l₆ l₇ l₈ l₉ l₁₀ l₁₁ l₁₂ l₁₃ l₁₄ l₁₅ l₁₆ l₁₇ l₁₈)))))))))))))))))))))
 
   f-meets : (𝓣 : Tables 𝓤 H) → Known (𝓣 .C) → Meets 𝓤 H A f.signature (WpFn 𝓤 H (𝓣 .C) (𝓣 .Λ) code.function) (f.spec 𝓤 H A mem run)
   f-meets 𝓣 known = walk-meets 𝓤 H A f.ended stayed W (
-    goes-slice 𝓤 H A W 1 0 tt (plain (λ _. R)),
+    goes-slice 𝓤 H A W 2 0 tt (plain (λ _. R)),
     (
-      goes-dropped 𝓤 H A W 1 (arrayOf (plain (λ _. u32)) 32) yes (λ κs x f. refl),
+      goes-dropped 𝓤 H A W 2 (arrayOf (plain (λ _. u32)) 32) yes (λ κs x f. refl),
       (
-        goes-dropped 𝓤 H A W 1 (plain (λ _. usize)) yes (λ κs x f. refl),
-        (goes-dropped 𝓤 H A W 1 (arrayOf (plain (λ _. R)) 32) yes (λ κs x f. refl), tt),
+        goes-dropped 𝓤 H A W 2 (plain (λ _. usize)) yes (λ κs x f. refl),
+        (goes-dropped 𝓤 H A W 2 (shrRefTo (1 ∷ []) tt (arrayOf (plain (λ _. u32)) 128)) yes (λ κs x f. refl), tt),
       ),
     ),
   )
       (f.clauses 𝓤 H A mem run) (WpFn 𝓤 H (𝓣 .C) (𝓣 .Λ) code.function) (WpFn-mono 𝓤 H (W .laws) 𝓣 code.function)
       (walked 𝓤 H A f.ended stayed (f.clauses 𝓤 H A mem run) (WpFn 𝓤 H (𝓣 .C) (𝓣 .Λ) code.function)
-      (λ κs. (slice-vals, (array-vals (uint-vals w32), (uint-vals w64, (array-vals (λ r. mach r ∷ []), tt)))))
+      (λ κs. (slice-vals, (array-vals (uint-vals w32), (uint-vals w64, (ptr-vals, tt)))))
       (λ κs. (
         mut-slice-tells (named 0) (κs .0) R,
         (
           array-tells u32 (uint-vals w32) (uint-tells w32) 32,
-          (uint-tells w64, (array-tells R (λ r. mach r ∷ []) (T′.lowers .val-is) 32, tt)),
+          (uint-tells w64, (shr-tells (named 1) (κs .1 .0) Ns, tt)),
         ),
       ))
-      (λ κs qs bounds a g are. via 𝓤 _ (fst∗ 𝓤 _ (emp 𝓤))
-      (walk (κs .0) (qs .0) (a .0 .ptr .0) (a .0 .ptr .1) (a .0 .name) (a .0 .now) (are .0 .0 .1) (a .1 .0)
+      (λ κs qs bounds a g are. needs 𝓤 (length (a .1 .1 .1 .0 .now) ≡ 128) _ (λ len.
+      walk (κs .0) (κs .1 .0) (qs .0) (qs .1 .0) (a .0 .ptr .0) (a .0 .ptr .1) (a .0 .name) (a .0 .now) (are .0 .0 .1) (a .1 .0)
       (only (array-vals (uint-vals w32) (a .1 .0))) (are .1 .0) (a .1 .1 .0) (vint w64 (a .1 .1 .0)) (are .1 .1 .0)
-      (a .1 .1 .1 .0) (only (array-vals (λ r. mach r ∷ []) (a .1 .1 .1 .0))) (are .1 .1 .1 .0) 𝓣 known)))
+      (a .1 .1 .1 .0 .ptr .0) (a .1 .1 .1 .0 .ptr .1) (a .1 .1 .1 .0 .name) (a .1 .1 .1 .0 .now) len 𝓣 known)))
 
 pub scatter-spec : {M : Type 1} → stated.statement M
 unfolding code.routine tablesOf
@@ -543,6 +556,9 @@ scatter-spec 𝓤 H 𝓜 𝓖 𝓡 =
           count-def.routine code.calls-gathering·within (count-thm.met 𝓤 H 𝓜 𝓖 𝓡),
       cited 𝓤 H (tripleOf 𝓤 H (𝓖 .A) slot-of.signature (slot-of.spec 𝓤 H (𝓖 .A) (𝓜 .mem) (𝓡 .run))) 𝓜 𝓡 code.env slot-of-def.name
           slot-of-def.routine code.calls-gathering·slot-of (slot-of-thm.met 𝓤 H 𝓜 𝓖 𝓡),
+      cited 𝓤 H (tripleOf 𝓤 H (𝓖 .A) record-at.signature (record-at.spec 𝓤 H (𝓖 .A) (𝓜 .mem) (𝓡 .run))) 𝓜 𝓡 code.env
+          record-at-def.name
+          record-at-def.routine code.calls-record-words·at (record-at-thm.met 𝓤 H 𝓜 𝓖 𝓡),
       cited 𝓤 H (tripleOf 𝓤 H (𝓖 .A) replace.signature (replace.spec 𝓤 H (𝓖 .A) (𝓜 .mem) (𝓡 .run))) 𝓜 𝓡 code.env replace-def.name
           replace-def.routine code.calls-records·replace (replace-thm.met 𝓤 H 𝓜 𝓖 𝓡),
     ))

@@ -2,52 +2,83 @@
 -- Assumes nothing.
 use mathlib.Core.Path.{refl}
 use borrow.Author.Needs.{needs}
+use Rattle.record_words.specs.RecordWords.{recordsIn}
+use Rattle.record_words.specs.RecordLaws.{records-length}
+use Rattle.control.specs.Views.{arrays, linkOf}
+use Rattle.control.specs.declared.Link.{Link}
+use Rattle.checking.specs.Verdicts.{Flown}
 use Rattle.input_core.proofs.Checks.{admits, refuses, passes, hearable}
 use Rattle.input_core.proofs.Takes.{takes-nothing}
 use Rattle.input_core.proofs.input.Statement.{statement}
 use Rattle.input_core.proofs.input.Tie as tie
 
+flight-fits-requires : tie.Need-flight-fits-requires
+flight-fits-requires c κs = c .before .before .before .before .before .before .pre .1
+
+-- the block
+abbrev block : tie.Start → Link
+block s =
+    let a = s .args in
+    linkOf (a .settings) (a .flight) (a .arrival) (a .clock)
+    (arrays (a .queued .now) (a .outstanding .now) (a .transmissions .now) (a .ready .now) (a .waiting .now) (a .waiting-numbers .now))
+
+-- whether its records fit
+flown : (c : tie.After-flight-fits) → let s = c .before .before .before .before .before .before .before in
+    Flown (block s) (recordsIn (s .args .records .now)) (c .flight-fits .result)
+flown c = record {
+  whole = records-length 32 _ (c .before .before .before .before .before .before .before .pre .1);
+  fits = c .flight-fits .ensures;
+}
+
 returns : tie.Need-returns
 returns c =
-    let told = c .before .before in
+    let told = c .before in
     let checks = told .before .before in
     let admit = checks .before .before in
-    let sizes = admit .before .before .before .before .before .before .before in
-    let s = sizes .before .before .before .before .before in
-    takes-nothing _ _ _ _ _ _ _
-    (refuses _ _ _ _ _ _ _ _ _ (sizes .enough .ensures) (admit .admit-hearing .ensures (s .args .records) (s .pre .1) .1)
-    _ (checks .before .mss .ensures) _ _ (checks .checked-by .ensures) _ (told .checked .given .1))
+    let fits = admit .before .before .before .before .before .before .before in
+    let sizes = fits .before .before in
+    let s = sizes .before .before .before .before .before in (
+      takes-nothing _ (block s) _ _ _ _ _
+          (refuses (block s) _ _ _ _ _ _ _ _ (sizes .enough .ensures) (admit .admit-hearing .ensures _ (flown fits) .1)
+          _ (checks .before .mss .ensures) _ _ (checks .checked-by .ensures) _ (told .checked .given .1)),
+      s .pre .1,
+    )
 
 hear-requires : tie.Need-hear-requires
 hear-requires c κs =
-    let told = c .before .before .before .before .before .before .before .before in
+    let told = c .before .before .before .before .before .before .before .before .before in
     let checks = told .before .before in
     let admit = checks .before .before in
-    let sizes = admit .before .before .before .before .before .before .before in
+    let fits = admit .before .before .before .before .before .before .before in
+    let sizes = fits .before .before in
     let s = sizes .before .before .before .before .before in
-    let verdict = admit .admit-hearing .ensures (s .args .records) (s .pre .1) .1 in
-    let passed = passes _ _ _ (s .args .receive-pool .now) (s .args .acks .now) _ _ _ _ (sizes .enough .ensures) verdict
+    let verdict = admit .admit-hearing .ensures _ (flown fits) .1 in
+    let passed = passes (block s) _ _ (s .args .receive-pool .now) (s .args .acks .now) _ _ _ _ (sizes .enough .ensures) verdict
     _ (checks .before .mss .ensures) _ _ (checks .checked-by .ensures) _ (told .enum-told .given .1) in
-    (hearable _ _ _ _ _ _ _ _ _ (sizes .enough .ensures) verdict (s .pre .0) (passed .0) refl refl, (_, passed .1))
+    (hearable (block s) _ _ _ _ _ _ _ _ (sizes .enough .ensures) verdict (s .pre .0) (passed .0) refl refl, s .pre .1, (_, passed .1))
 
 returns-2 : tie.Need-returns-2
 returns-2 c =
     let heard = c .before .before .before .before in
-    let told = heard .before .before .before .before .before .before .before .before .before in
+    let told = heard .before .before .before .before .before .before .before .before .before .before in
     let checks = told .before .before in
     let admit = checks .before .before in
-    let sizes = admit .before .before .before .before .before .before .before in
+    let fits = admit .before .before .before .before .before .before .before in
+    let sizes = fits .before .before in
     let s = sizes .before .before .before .before .before in
-    let verdict = admit .admit-hearing .ensures (s .args .records) (s .pre .1) .1 in
-    let passed = passes _ _ _ (s .args .receive-pool .now) (s .args .acks .now) _ _ _ _ (sizes .enough .ensures) verdict
-    _ (checks .before .mss .ensures) _ _ (checks .checked-by .ensures) _ (told .enum-told .given .1) in
-    rw (admits _ _ _ _ _ _ _ _ _ (sizes .enough .ensures) verdict _ (passed .0)) (heard .hear .ensures)
+    let verdict = admit .admit-hearing .ensures _ (flown fits) .1 in
+    let passed = passes (block s) _ _ (s .args .receive-pool .now) (s .args .acks .now) _ _ _ _ (sizes .enough .ensures) verdict
+    _ (checks .before .mss .ensures) _ _ (checks .checked-by .ensures) _ (told .enum-told .given .1) in (
+      rw (admits (block s) _ _ _ _ _ _ _ _ (sizes .enough .ensures) verdict _ (passed .0)) (heard .hear .ensures .0),
+      heard .hear .ensures .1,
+    )
 
 pub input-spec : {M : Type 1} → statement M
 input-spec =
     tie.close
     (tie.spec
     (λ c κs. search needs)
+    flight-fits-requires
     (λ c κs. search needs)
     (λ c κs. search needs)
     (λ c κs. search needs)

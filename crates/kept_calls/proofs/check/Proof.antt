@@ -1,10 +1,11 @@
 -- `check`: the block's arrays have their lengths, and what the core answers is what the call promises.
 -- Assumes nothing.
-use mathlib.Core.Path.{_≡_, refl}
+use mathlib.Core.Path.{_≡_}
 use lib.ListN.{length, take}
 use borrow.Author.Needs.{needs}
 use Rattle.lists.proofs.Loops.{length-mapped}
-use Rattle.promises.specs.Parts.{Parts, partsOf}
+use Rattle.record_words.specs.RecordWords.{recordsIn}
+use Rattle.promises.specs.Parts.{partsOf}
 use Rattle.from_cores.proofs.Asking.{check-promised}
 use Rattle.from_cores.proofs.Gathered.{Gathers}
 use Rattle.kept_calls.proofs.Wholes.{whole-of, lent-length}
@@ -13,13 +14,14 @@ use Rattle.kept_calls.proofs.check.Tie as tie
 
 check-requires : tie.Need-check-requires
 check-requires c κs =
-    let half = c .before .before .before .before .before .before .before .before .before .before in
-    let start = half .before .before .before .before .before .before .before .before .before .before .before in
-    whole-of (start .args .link) _ (start .good .0)
+    let gathers = c .before .before .before .before .before .before .before .before in
+    let half = gathers .before .before .before .before .before .before .before in
+    let start = half .before .before .before .before .before .before .before in
+    (whole-of (start .args .link) _ (start .good .0), search needs)
 
 returns : tie.Need-returns
 returns c =
-    let counts = c .before .before .before .before .before .before .before in
+    let counts = c .before .before .before .before .before .before .before .before in
     let gathers = counts .before in
     let half = gathers .before .before .before .before .before .before .before in
     let start = half .before .before .before .before .before .before .before in
@@ -27,7 +29,7 @@ returns c =
     let p = partsOf (a .send-pool .now) (a .receive-pool .now) (take (a .lent) (a .table)) (a .acks .now) in
     let whole : length (a .table) ≡ 128 = search (needs, length-mapped, start .good .1 .1 .1 .0) in
     let len = lent-length (a .table) (a .lent) _ whole (counts .lent-count .ensures .0) in
-    let g : Gathers (a .link) p (gathers .gather .result) (counts .lent-count .result)
+    let g : Gathers (a .link) p (recordsIn (gathers .gather .result)) (counts .lent-count .result)
     = record { padding = gathers .gather .ensures; len = len } in
     check-promised (a .link) p _ _ g (a .t) _ (c .check .ensures)
 

@@ -1,10 +1,11 @@
 -- `size`: the block's arrays have their lengths, and what the core leaves is what the call promises.
 -- Assumes nothing.
-use mathlib.Core.Path.{_≡_, refl, ap, _∙_}
+use mathlib.Core.Path.{_≡_, ap, _∙_}
 use lib.ListN.{length, take}
 use borrow.Author.Needs.{needs}
 use Rattle.lists.proofs.Loops.{length-mapped}
-use Rattle.promises.specs.Parts.{Parts, partsOf}
+use Rattle.record_words.specs.RecordWords.{recordsIn}
+use Rattle.promises.specs.Parts.{partsOf}
 use Rattle.from_cores.proofs.Asking.{size-promised}
 use Rattle.from_cores.proofs.Gathered.{Gathers, padded-whole}
 use Rattle.kept_calls.proofs.Wholes.{whole-of, lent-length}
@@ -13,43 +14,40 @@ use Rattle.kept_calls.proofs.size.Tie as tie
 
 size-requires : tie.Need-size-requires
 size-requires c κs =
-    let s = c .before .before .before .before .before .before .before .before .before .before .before .before .before .before .before
-    .before .before .before .before .before .before .before in (
-      whole-of (s .args .link) _ (s .good .0),
+    let fits = c .before .before .before .before .before .before .before in
+    let gathers = fits .before .before in
+    let half = gathers .before .before .before .before .before .before .before in
+    let start = half .before .before .before .before .before .before .before in
+    let a = start .args in (
+      whole-of (a .link) _ (start .good .0),
       (
         _,
         record {
-          whole = ap length (c .before .before .before .before .before .before .before .before .gather .ensures) ∙ padded-whole
-              (take 128 (take (s .args .lent) (s .args .table))) (s .args .link .outstanding) (s .args .link .flight .outstanding);
-          fits =
-              c .before .before .before .before .before .before .before .flight-fits .ensures;
+          whole = ap length (gathers .gather .ensures) ∙ padded-whole (take 128 (take (a .lent) (a .table))) (a .link .outstanding)
+              (a .link .flight .outstanding);
+          fits = fits .flight-fits .ensures;
         },
       ),
     )
 
 returns : tie.Need-returns
 returns c =
-    let a = c .before .before .before .before .before .before .before .before .before .before .before .before .before .before .before
-    .before .before .before .before .before .before .before .before .args in
+    let counts = c .before .before .before .before .before .before .before in
+    let fits = counts .before in
+    let gathers = fits .before .before in
+    let half = gathers .before .before .before .before .before .before .before in
+    let start = half .before .before .before .before .before .before .before in
+    let a = start .args in
     let p = partsOf (a .send-pool .now) (a .receive-pool .now) (take (a .lent) (a .table)) (a .acks .now) in
-    let whole : length (a .table) ≡ 128 =
-    search (
-      needs,
-      length-mapped,
-      c .before .before .before .before .before .before .before .before .before .before .before .before .before
-          .before .before .before .before .before .before .before .before .before .before .good .1 .1 .1 .0,
-    ) in
-    let len = lent-length (a .table) (a .lent) _ whole
-    (c .before .before .before .before .before .before .before .lent-count .ensures .0) in
-    let g : Gathers (a .link) p (c .before .before .before .before .before .before .before .before .before .gather .result)
-    (c .before .before .before .before .before .before .before .lent-count .result) =
-    record { padding = c .before .before .before .before .before .before .before .before .before .gather .ensures; len = len } in
+    let whole : length (a .table) ≡ 128 = search (needs, length-mapped, start .good .1 .1 .1 .0) in
+    let len = lent-length (a .table) (a .lent) _ whole (counts .lent-count .ensures .0) in
+    let g : Gathers (a .link) p (recordsIn (gathers .gather .result)) (counts .lent-count .result)
+    = record { padding = gathers .gather .ensures; len = len } in
     size-promised (a .link) p _ _ g _ (c .size .ensures _
     (record {
-      whole = ap length (c .before .before .before .before .before .before .before .before .before .gather .ensures) ∙
-          padded-whole (take 128 (take (a .lent) (a .table))) (a .link .outstanding) (a .link .flight .outstanding);
-      fits =
-          c .before .before .before .before .before .before .before .before .flight-fits .ensures;
+      whole = ap length (gathers .gather .ensures) ∙ padded-whole (take 128 (take (a .lent) (a .table))) (a .link .outstanding)
+          (a .link .flight .outstanding);
+      fits = fits .flight-fits .ensures;
     }))
 
 pub size-spec : {M : Type 1} → statement M

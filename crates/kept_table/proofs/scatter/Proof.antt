@@ -1,17 +1,17 @@
 -- `scatter`: what is left to put back.
 -- Assumes nothing.
 use mathlib.Core.Path.{_≡_, refl, sym, ap, _∙_}
-use Prim.Native.Nat.{_-_, _≤_, _+_}
-use lib.ListN.{length, take, drop}
-use Rattle.records.specs.Tables.{scattered}
+use Prim.Native.Nat.{_-_, _≤_, _<_}
+use lib.ListN.{length, take, drop, set}
+use Rattle.records.specs.Tables.{slotsIn, scattered}
 use Rattle.records.proofs.Turns.{Left, scatters-more, scatters-all}
-use Rattle.records.specs.Tables.{slotsIn}
+use Rattle.record_words.specs.RecordWords.{recordsIn}
+use Rattle.record_words.specs.RecordLaws.{records-length}
 use Rattle.kept_table.proofs.Turns.{slots-counted, slot-listed, lent-front, lent-rest}
 use mathlib.Core.List.{List}
 use native.Mathlib.Omega.{arith}
-use Prim.Native.Nat.{_<_}
 use Rattle.timing.specs.declared.Record.{Record}
-use Rattle.lists.proofs.Loops.{length-mapped, room}
+use Rattle.lists.proofs.Loops.{length-mapped}
 use borrow.Author.Needs.{needs}
 use Rattle.kept_table.proofs.scatter.Statement.{statement}
 use Rattle.kept_table.proofs.scatter.Tie as tie
@@ -22,7 +22,8 @@ Inv-loop lent n words records count most next₀ i₀ next i =
     × (count ≡ length (slotsIn words n))
     × (count ≤ 32)
     × (length next ≡ 128)
-    × Left (take most next) (slotsIn words n) records i (scattered (take most next₀) (slotsIn words n) records)
+    × (length records ≡ 128)
+    × Left (take most next) (slotsIn words n) (recordsIn records) i (scattered (take most next₀) (slotsIn words n) (recordsIn records))
     × (drop most next ≡ drop most next₀)
 
 abbrev μ-loop : tie.MeasureT-loop
@@ -41,6 +42,7 @@ loop-holds c =
       slots-counted (a .t3) (a .n) _ (search needs) (c .before .within .ensures .0),
       c .before .within .ensures .1,
       search (needs, length-mapped),
+      search needs,
       refl,
       refl,
     )
@@ -54,11 +56,8 @@ array-read-slot-of c = search needs
 slot-of-requires : tie.Need-slot-of-requires Inv-loop μ-loop
 slot-of-requires c κs = search needs
 
-mul-updated : tie.Need-mul-updated Inv-loop μ-loop
-mul-updated c = search needs
-
-array-copy-out-updated : tie.Need-array-copy-out-updated Inv-loop μ-loop
-array-copy-out-updated c = search needs
+at-requires : tie.Need-at-requires Inv-loop μ-loop
+at-requires c κs = search needs
 
 replace-requires : tie.Need-replace-requires Inv-loop μ-loop
 replace-requires c κs = search needs
@@ -71,17 +70,24 @@ loop-less c = search needs
 
 loop-again : tie.Need-loop-again Inv-loop μ-loop
 loop-again c =
-    let v = c .before .before .before .before .loop .inv in
-    let a = c .before .before .before .before .before .before .before .args in
-    let i = c .before .before .before .before .loop .i in
-    let h : i < length (slotsIn (a .t3) (a .n)) = omega (arith, v .1, c .before .before .before .loop-test .taken) in (
+    let turn = c .before .before .before .before in
+    let v = turn .before .loop .inv in
+    let counts = turn .before .before in
+    let a = counts .before .before .args in
+    let i = turn .before .loop .i in
+    let slot = c .before .before .before .slot-of in
+    let h : i < length (slotsIn (a .t3) (a .n)) = omega (arith, v .1, turn .loop-test .taken) in
+    let g : i < length (recordsIn (a .t5)) = omega (arith, records-length 32 (a .t5) (v .4), v .2, turn .loop-test .taken) in (
       search needs,
       v .1,
       v .2,
       search (needs, length-mapped),
-      scatters-more _ _ _ (slotsIn (a .t3) (a .n)) i _ h (search (needs, room)) (v .4)
-          (slot-listed (a .t3) (a .n) i _ (c .before .before .slot-of .ensures) h) (c .replace .ensures .0),
-      c .replace .ensures .1 ∙ v .5,
+      v .4,
+      scatters-more _ _ _ (slotsIn (a .t3) (a .n)) i _ h g (v .5)
+          (slot-listed (a .t3) (a .n) i _ (slot .ensures) h)
+          (c .replace .ensures .0 ∙ ap (set (take (counts .lent-count .result) (turn .before .loop .next)) (slot .result))
+          (c .before .at .ensures)),
+      c .replace .ensures .1 ∙ v .6,
     )
 
 returns : tie.Need-returns Inv-loop μ-loop
@@ -93,9 +99,9 @@ returns c =
     let e = c .before .before .lent-count .ensures .0 in
     let whole : length (a .table) ≡ 128 = search (needs, length-mapped) in (
       sym (lent-front (c .before .loop .next) (a .lent) m (v .3) e) ∙ scatters-all _ _ s (c .before .loop .i)
-          (omega (arith, v .1, c .loop-test .left)) (v .4)
-          ∙ ap (λ (t : List Record). scattered t s (a .t5)) (lent-front (a .table) (a .lent) m whole e),
-      sym (lent-rest (c .before .loop .next) (a .lent) m (v .3) e) ∙ v .5 ∙ lent-rest (a .table) (a .lent) m whole e,
+          (omega (arith, v .1, c .loop-test .left)) (v .5)
+          ∙ ap (λ (t : List Record). scattered t s (recordsIn (a .t5))) (lent-front (a .table) (a .lent) m whole e),
+      sym (lent-rest (c .before .loop .next) (a .lent) m (v .3) e) ∙ v .6 ∙ lent-rest (a .table) (a .lent) m whole e,
     )
 
 pub scatter-spec : {M : Type 1} → statement M
@@ -110,8 +116,7 @@ scatter-spec =
     mul-slot-of
     array-read-slot-of
     slot-of-requires
-    mul-updated
-    array-copy-out-updated
+    at-requires
     replace-requires
     add-i
     loop-less

@@ -1,5 +1,5 @@
--- `take_in::take_in` meets its contract: a walk of its MIR. The table is read; structs are copied, all lists are lent, and flight and
--- arrival are stored. Of each callee the proof knows only that it meets its contract. Written by tools/calls.py.
+-- `take_in::take_in` meets its contract: a walk of its MIR. Structs are copied, all lists are lent, flight and arrival are stored; records
+-- are gathered from the table, and put back. Of each callee the proof knows only that it meets its contract. Written by tools/calls.py.
 -- Assumes nothing.
 use Rattle.records.proofs.Walk.{
   _≡_,
@@ -163,7 +163,7 @@ use denote.Memory.{pointee}
 use Rattle.timing.proofs.Record.Laws as record-laws
 use prog.Wp.{Env, Wp, atReturn}
 use types.Kit.{group, raw, atRet}
-use denote.Memory.{partAt}
+use denote.Memory.{partAt, cellAt}
 use types.Tokens.{lft-new, lft-end}
 use denote.Plain.{uint-lawful, nothing-lawful}
 use denote.Signed.{sint-lawful, sint-makes}
@@ -191,31 +191,31 @@ use Rattle.control.proofs.Clock.Laws as clock-laws
 use Rattle.input_core.specs.declared.Taken.{Taken}
 use Rattle.input_core.proofs.Taken as taken-row
 use Rattle.input_core.proofs.Taken.Laws as taken-laws
-use mathlib.Core.Path.{_∙_, sym, subst}
-use mathlib.Core.Bool.{Bool}
-use denote.Plain.{Boolean, bool-lawful, bool-makes}
-use lib.ListN.{take}
+use lib.ListN.{take, replicate}
 use Rattle.protocol.specs.Protocol.{sendSlots}
-use Rattle.records.specs.Tables.{slotsIn, gathered, padded}
+use Rattle.records.specs.Tables.{slotsIn, gathered, padded, scattered}
+use Rattle.record_words.specs.RecordWords.{recordsIn}
+use Rattle.record_words.specs.RecordLaws.{records-length}
 use Rattle.control.specs.Views.{Whole, arrays, arraysOf, linkOf}
-use Rattle.checking.specs.Tests.{flightFits}
-use Rattle.checking.specs.Verdicts.{Flown}
 use Rattle.promises.specs.Parts.{lentLengths, partsOf}
 use Rattle.promises.specs.Outcomes.{takesInWith}
+use Rattle.promises.specs.Promises.{InputPromise}
 use Rattle.input_core.specs.Taking.{Takes}
-use Rattle.results.specs.PutBacks.{takenBack}
-use Rattle.from_cores.specs.Left.{InputLeft}
-use Rattle.from_cores.proofs.Gathered.{gathers, padded-whole}
-use Rattle.from_cores.proofs.TakingIn.{input-left}
+use Rattle.codes.specs.Codes.{answerCode}
+use Rattle.codes.specs.Gives.{Gives}
+use Rattle.codes.proofs.Told.{told}
+use Rattle.from_cores.proofs.Gathered.{gathers}
+use Rattle.from_cores.proofs.Scattered.{put-back}
+use Rattle.from_cores.proofs.TakingIn.{input-left, input-promised}
 use Rattle.results.proofs.outstanding_count as count-of
 use Rattle.results.proofs.outstanding_count.Symbol as count-of-def
 use Rattle.results.proofs.outstanding_count.Met as count-of-thm
+use Rattle.record_words.proofs.none as none-of
+use Rattle.record_words.proofs.none.Symbol as none-of-def
+use Rattle.record_words.proofs.none.Met as none-of-thm
 use Rattle.gathering.proofs.gather as gather
 use Rattle.gathering.proofs.gather.Symbol as gather-def
 use Rattle.gathering.proofs.gather.Met as gather-thm
-use Rattle.gathering.proofs.fit as fit
-use Rattle.gathering.proofs.fit.Symbol as fit-def
-use Rattle.gathering.proofs.fit.Met as fit-thm
 use Rattle.records.proofs.table_len as table-len
 use Rattle.records.proofs.table_len.Symbol as table-len-def
 use Rattle.records.proofs.table_len.Met as table-len-thm
@@ -228,6 +228,15 @@ use Rattle.results.proofs.taken_flight.Met as flight-of-thm
 use Rattle.results.proofs.taken_arrival as arrival-of
 use Rattle.results.proofs.taken_arrival.Symbol as arrival-of-def
 use Rattle.results.proofs.taken_arrival.Met as arrival-of-thm
+use Rattle.results.proofs.taken_changed as changed-of
+use Rattle.results.proofs.taken_changed.Symbol as changed-of-def
+use Rattle.results.proofs.taken_changed.Met as changed-of-thm
+use Rattle.gathering.proofs.scatter as scatter
+use Rattle.gathering.proofs.scatter.Symbol as scatter-def
+use Rattle.gathering.proofs.scatter.Met as scatter-thm
+use Rattle.results.proofs.taken_code as code-of
+use Rattle.results.proofs.taken_code.Symbol as code-of-def
+use Rattle.results.proofs.taken_code.Met as code-of-thm
 use Rattle.take_in.proofs.take_in.Key.{name as #f}
 use Rattle.take_in.proofs.take_in as f
 use Rattle.take_in.proofs.take_in.Statement as stated
@@ -240,7 +249,7 @@ stayed = (
     stay-dropped _ yes,
     (
       gave-slice (2 ∷ []) tt (plain (λ _. u8)),
-      (stay-dropped _ yes, (gave-slice (4 ∷ []) tt (plain (λ _. u32)), (stay-dropped _ yes, tt))),
+      (gave-slice (3 ∷ []) tt (plain (λ _. R)), (gave-slice (4 ∷ []) tt (plain (λ _. u32)), (stay-dropped _ yes, tt))),
     ),
   ),
 )
@@ -249,12 +258,15 @@ module _ {M : Type 1} (𝓤 : URA M) (H : Heap 𝓤) (A : Atoms 𝓤) (W : Given
   -- what is known of the callees
   abbrev Known : Calls 𝓤 H → Type 1
   Known C = Triple 𝓤 (C count-of-def.name) (tripleOf 𝓤 H A count-of.signature (count-of.spec 𝓤 H A at-mem run))
+      × Triple 𝓤 (C none-of-def.name) (tripleOf 𝓤 H A none-of.signature (none-of.spec 𝓤 H A at-mem run))
       × Triple 𝓤 (C gather-def.name) (tripleOf 𝓤 H A gather.signature (gather.spec 𝓤 H A at-mem run))
-      × Triple 𝓤 (C fit-def.name) (tripleOf 𝓤 H A fit.signature (fit.spec 𝓤 H A at-mem run))
       × Triple 𝓤 (C table-len-def.name) (tripleOf 𝓤 H A table-len.signature (table-len.spec 𝓤 H A at-mem run))
       × Triple 𝓤 (C core-def.name) (tripleOf 𝓤 H A core.signature (core.spec 𝓤 H A at-mem run))
       × Triple 𝓤 (C flight-of-def.name) (tripleOf 𝓤 H A flight-of.signature (flight-of.spec 𝓤 H A at-mem run))
       × Triple 𝓤 (C arrival-of-def.name) (tripleOf 𝓤 H A arrival-of.signature (arrival-of.spec 𝓤 H A at-mem run))
+      × Triple 𝓤 (C changed-of-def.name) (tripleOf 𝓤 H A changed-of.signature (changed-of.spec 𝓤 H A at-mem run))
+      × Triple 𝓤 (C scatter-def.name) (tripleOf 𝓤 H A scatter.signature (scatter.spec 𝓤 H A at-mem run))
+      × Triple 𝓤 (C code-of-def.name) (tripleOf 𝓤 H A code-of.signature (code-of.spec 𝓤 H A at-mem run))
 
   module _ (κ₀ κ₁ κ₂ κ₃ κ₄ κ₅ : Lft) (q₀ q₁ q₂ q₃ q₄ q₅ : Share) (b o : ℕ) (γ : GName) (h : Link) (x₁ : RefT (List ℕ))
       (room₁ : Room u8 (length (x₁ .now))) (x₂ : RefT (List ℕ)) (room₂ : Room u8 (length (x₂ .now))) (x₃ : RefT (List Record))
@@ -279,7 +291,13 @@ module _ {M : Type 1} (𝓤 : URA M) (H : Heap 𝓤) (A : Atoms 𝓤) (W : Given
     s₃ = sliceVal (x₃ .ptr) (length (x₃ .now))
 
     abbrev Own₃ : Fml
-    Own₃ = ShrSlice (named 0) κ₃ R .own x₃ (s₃ ∷ [])
+    Own₃ = MutSlice (named 0) κ₃ R .own x₃ (s₃ ∷ [])
+
+    abbrev shown-at₃ : GName → RefT (List Record)
+    shown-at₃ δ = record { ptr = x₃ .ptr; name = δ; now = x₃ .now }
+
+    abbrev Shared₃ : ℕ → GName → Fml
+    Shared₃ β δ = ShrSlice (named 0) (β ∷ []) R .own (shown-at₃ δ) (s₃ ∷ [])
 
     abbrev s₄ : Val
     s₄ = sliceVal (x₄ .ptr) (length (x₄ .now))
@@ -301,74 +319,69 @@ module _ {M : Type 1} (𝓤 : URA M) (H : Heap 𝓤) (A : Atoms 𝓤) (W : Given
         (((κ₀, (κ₁, (κ₂, (κ₃, (κ₄, (κ₅, tt)))))), (q₀, (q₁, (q₂, (q₃, (q₄, (q₅, tt)))))), tt, x, at), tt)
 
     -- what gather is called at, and that what it asks is had
-    abbrev to-gather : (y₀ : (List ℕ)) (u₀ : Val) (y₁ : ℕ) (u₁ : Val)
-        → tripleOf 𝓤 H A gather.signature (gather.spec 𝓤 H A at-mem run) .Ghost
-    to-gather y₀ u₀ y₁ u₁ = (((κ₃, tt), (q₃, tt), tt, (x₃, (y₀, (y₁, tt))), (s₃ ∷ [], (u₀ ∷ [], (u₁ ∷ [], tt)))), tt)
-
-    asks-gather : (y₀ : (List ℕ)) (u₀ : Val) → Is (Array u32 32) y₀ (u₀ ∷ []) → (y₁ : ℕ) (u₁ : Val) → Is usize y₁ (u₁ ∷ [])
-        → ent 𝓤 (⋆ 𝓤 H A (‵ (flft κ₃ q₃) ∷ ‵ Own₃ ∷ []))
-        (tripleOf 𝓤 H A gather.signature (gather.spec 𝓤 H A at-mem run) .pre (to-gather y₀ u₀ y₁ u₁))
-    asks-gather y₀ u₀ is₀ y₁ u₁ is₁ =
-        qed W (‵ (flft κ₃ q₃) ∷ ‵ Own₃ ∷ []) ∵ nothing ! $ move ! (1 ∷ 0 ∷ []) $ join ! $ nothing ! $
-        owned ! usize (Is usize) (uint-makes 𝓤 H A W w64) y₁ _ is₁ $ fjoin ! $
-        owned ! (Array u32 32) (Is (Array u32 32)) (array-makes 𝓤 H A W u32 (uint-makes 𝓤 H A W w32) 32) y₀ _ is₀ $ fjoin ! $
-        move ! (2 ∷ 0 ∷ []) $ fjoin ! $ move ! (1 ∷ 0 ∷ []) $ join ! $ nothing ! $ move ! (1 ∷ 0 ∷ []) $ done !
-
-    -- what fit is called at, and that what it asks is had
-    abbrev to-fit : (y₀ : (List ℕ)) (u₀ : Val) (y₁ : Settings) (u₁ : Val) (y₂ : Flight) (u₂ : Val)
-        → tripleOf 𝓤 H A fit.signature (fit.spec 𝓤 H A at-mem run) .Ghost
-    to-fit y₀ u₀ y₁ u₁ y₂ u₂ = (
+    abbrev to-gather : (β₃ : ℕ) (δ₃ : GName) (p-local : ℕ) (α-local : ℕ) (δ-local : GName) (f-local : (List ℕ)) (y₀ : (List ℕ)) (u₀ : Val)
+        (y₁ : ℕ) (u₁ : Val) → tripleOf 𝓤 H A gather.signature (gather.spec 𝓤 H A at-mem run) .Ghost
+    to-gather β₃ δ₃ p-local α-local δ-local f-local y₀ u₀ y₁ u₁ = (
       (
-        (κ₃, tt),
-        (q₃, tt),
+        ((β₃ ∷ []), ((α-local ∷ []), tt)),
+        (fullShare, (fullShare, tt)),
         tt,
-        (x₃, (y₀, (y₁, (y₂, tt)))),
-        (s₃ ∷ [], (u₀ ∷ [], (u₁ ∷ [], (u₂ ∷ [], tt)))),
+        ((shown-at₃ δ₃), (y₀, (y₁, ((ref-at p-local 0 δ-local f-local), tt)))),
+        (s₃ ∷ [], (u₀ ∷ [], (u₁ ∷ [], ((vptr p-local 0) ∷ [], tt)))),
       ),
       tt,
     )
 
-    asks-fit : (y₀ : (List ℕ)) (u₀ : Val) → Is (Array u32 32) y₀ (u₀ ∷ []) → (y₁ : Settings) (u₁ : Val)
-        → Is settings-row.the-row y₁ (u₁ ∷ []) → (y₂ : Flight) (u₂ : Val) → Is flight-row.the-row y₂ (u₂ ∷ [])
-        → ent 𝓤 (⋆ 𝓤 H A (‵ (flft κ₃ q₃) ∷ ‵ Own₃ ∷ []))
-        (tripleOf 𝓤 H A fit.signature (fit.spec 𝓤 H A at-mem run) .pre (to-fit y₀ u₀ y₁ u₁ y₂ u₂))
-    asks-fit y₀ u₀ is₀ y₁ u₁ is₁ y₂ u₂ is₂ =
-        qed W (‵ (flft κ₃ q₃) ∷ ‵ Own₃ ∷ []) ∵ nothing ! $ move ! (1 ∷ 0 ∷ []) $ join ! $ nothing ! $
-        owned ! flight-row.the-row (Is flight-row.the-row) (LL.makes flight-row.the-type flight-laws.the-plain 𝓤 H A) y₂ _ is₂ $
-        fjoin ! $ owned ! settings-row.the-row (Is settings-row.the-row) (LL.makes settings-row.the-type settings-laws.the-plain 𝓤 H A)
-        y₁ _ is₁ $ fjoin ! $ owned ! (Array u32 32) (Is (Array u32 32)) (array-makes 𝓤 H A W u32 (uint-makes 𝓤 H A W w32) 32) y₀ _ is₀ $
-        fjoin ! $ move ! (2 ∷ 0 ∷ []) $ fjoin ! $ move ! (1 ∷ 0 ∷ []) $ join ! $ nothing ! $ move ! (1 ∷ 0 ∷ []) $ done !
+    asks-gather : (β₃ : ℕ) (δ₃ : GName) (p-local : ℕ) (α-local : ℕ) (δ-local : GName) (f-local : (List ℕ)) → (y₀ : (List ℕ)) (u₀ : Val)
+        → Is (Array u32 32) y₀ (u₀ ∷ []) → (y₁ : ℕ) (u₁ : Val) → Is usize y₁ (u₁ ∷ []) → (f-local ≡ replicate 128 0)
+        → ent 𝓤 (⋆ 𝓤 H A (‵ (flft (β₃ ∷ []) fullShare) ∷ ‵ (Shared₃ β₃ δ₃) ∷ ‵ (flft (α-local ∷ []) fullShare)
+        ∷ ‵ (MutRef (named 0) (α-local ∷ []) (Array u32 128) .own (ref-at p-local 0 δ-local f-local) ((vptr p-local 0) ∷ [])) ∷ []))
+        (tripleOf 𝓤 H A gather.signature (gather.spec 𝓤 H A at-mem run) .pre
+        (to-gather β₃ δ₃ p-local α-local δ-local f-local y₀ u₀ y₁ u₁))
+    asks-gather β₃ δ₃ p-local α-local δ-local f-local y₀ u₀ is₀ y₁ u₁ is₁ req =
+        qed W (‵ (flft (β₃ ∷ []) fullShare) ∷ ‵ (Shared₃ β₃ δ₃) ∷ ‵ (flft (α-local ∷ []) fullShare)
+        ∷ ‵ (MutRef (named 0) (α-local ∷ []) (Array u32 128) .own (ref-at p-local 0 δ-local f-local) ((vptr p-local 0) ∷ [])) ∷ []) ∵
+        says ! req $ nothing ! $ move ! (3 ∷ 0 ∷ []) $ join ! $ move ! (1 ∷ 0 ∷ []) $ join ! $ nothing ! $ move ! (3 ∷ 0 ∷ []) $
+        fjoin ! $ owned ! usize (Is usize) (uint-makes 𝓤 H A W w64) y₁ _ is₁ $ fjoin ! $
+        owned ! (Array u32 32) (Is (Array u32 32)) (array-makes 𝓤 H A W u32 (uint-makes 𝓤 H A W w32) 32) y₀ _ is₀ $ fjoin ! $
+        move ! (2 ∷ 0 ∷ []) $ fjoin ! $ move ! (1 ∷ 0 ∷ []) $ done !
 
     -- what table-len is called at, and that what it asks is had
-    abbrev to-table-len : tripleOf 𝓤 H A table-len.signature (table-len.spec 𝓤 H A at-mem run) .Ghost
-    to-table-len = (((κ₃, tt), (q₃, tt), tt, (x₃, tt), (s₃ ∷ [], tt)), tt)
+    abbrev to-table-len : (β₃ : ℕ) (δ₃ : GName) → tripleOf 𝓤 H A table-len.signature (table-len.spec 𝓤 H A at-mem run) .Ghost
+    to-table-len β₃ δ₃ = ((((β₃ ∷ []), tt), (fullShare, tt), tt, ((shown-at₃ δ₃), tt), (s₃ ∷ [], tt)), tt)
 
-    asks-table-len : ent 𝓤 (⋆ 𝓤 H A (‵ (flft κ₃ q₃) ∷ ‵ Own₃ ∷ []))
-        (tripleOf 𝓤 H A table-len.signature (table-len.spec 𝓤 H A at-mem run) .pre (to-table-len))
-    asks-table-len =
-        qed W (‵ (flft κ₃ q₃) ∷ ‵ Own₃ ∷ []) ∵ nothing ! $ move ! (1 ∷ 0 ∷ []) $ join ! $ nothing ! $ move ! (2 ∷ 0 ∷ []) $ fjoin ! $
-        move ! (1 ∷ 0 ∷ []) $ join ! $ nothing ! $ move ! (1 ∷ 0 ∷ []) $ done !
+    asks-table-len : (β₃ : ℕ) (δ₃ : GName)
+        → ent 𝓤 (⋆ 𝓤 H A (‵ (flft (β₃ ∷ []) fullShare) ∷ ‵ (Shared₃ β₃ δ₃) ∷ []))
+        (tripleOf 𝓤 H A table-len.signature (table-len.spec 𝓤 H A at-mem run) .pre (to-table-len β₃ δ₃))
+    asks-table-len β₃ δ₃ =
+        qed W (‵ (flft (β₃ ∷ []) fullShare) ∷ ‵ (Shared₃ β₃ δ₃) ∷ []) ∵ nothing ! $ move ! (1 ∷ 0 ∷ []) $ join ! $ nothing ! $
+        move ! (2 ∷ 0 ∷ []) $ fjoin ! $ move ! (1 ∷ 0 ∷ []) $ join ! $ nothing ! $ move ! (1 ∷ 0 ∷ []) $ done !
 
     -- what core is called at, and that what it asks is had
-    abbrev to-core : (α-queued : ℕ) (δ-queued : GName) (f-queued : (List ℕ)) (α-outstanding : ℕ) (δ-outstanding : GName)
-        (f-outstanding : (List ℕ)) (α-transmissions : ℕ) (δ-transmissions : GName) (f-transmissions : (List ℕ)) (α-ready : ℕ)
-        (δ-ready : GName) (f-ready : (List ℕ)) (α-waiting : ℕ) (δ-waiting : GName) (f-waiting : (List ℕ)) (α-waiting-numbers : ℕ)
-        (δ-waiting-numbers : GName) (f-waiting-numbers : (List ℕ)) (y₀ : Settings) (u₀ : Val) (y₁ : Flight) (u₁ : Val) (y₂ : Arrival)
-        (u₂ : Val) (y₃ : Clock) (u₃ : Val) (y₄ : Bool) (u₄ : Val) (y₅ : (List Record)) (u₅ : Val) (y₆ : ℕ) (u₆ : Val)
+    abbrev to-core : (p-local : ℕ) (α-local : ℕ) (δ-local : GName) (f-local : (List ℕ)) (α-queued : ℕ) (δ-queued : GName)
+        (f-queued : (List ℕ)) (α-outstanding : ℕ) (δ-outstanding : GName) (f-outstanding : (List ℕ)) (α-transmissions : ℕ)
+        (δ-transmissions : GName) (f-transmissions : (List ℕ)) (α-ready : ℕ) (δ-ready : GName) (f-ready : (List ℕ)) (α-waiting : ℕ)
+        (δ-waiting : GName) (f-waiting : (List ℕ)) (α-waiting-numbers : ℕ) (δ-waiting-numbers : GName) (f-waiting-numbers : (List ℕ))
+        (y₀ : Settings) (u₀ : Val) (y₁ : Flight) (u₁ : Val) (y₂ : Arrival) (u₂ : Val) (y₃ : Clock) (u₃ : Val) (y₄ : ℕ) (u₄ : Val)
         → tripleOf 𝓤 H A core.signature (core.spec 𝓤 H A at-mem run) .Ghost
-    to-core α-queued δ-queued f-queued α-outstanding δ-outstanding f-outstanding α-transmissions δ-transmissions f-transmissions α-ready
-        δ-ready f-ready α-waiting δ-waiting f-waiting α-waiting-numbers δ-waiting-numbers f-waiting-numbers y₀ u₀ y₁ u₁ y₂ u₂ y₃ u₃ y₄
-        u₄ y₅
-        u₅ y₆ u₆ = (
+    to-core p-local α-local δ-local f-local α-queued δ-queued f-queued α-outstanding δ-outstanding f-outstanding α-transmissions
+        δ-transmissions f-transmissions α-ready δ-ready f-ready α-waiting δ-waiting f-waiting α-waiting-numbers δ-waiting-numbers
+        f-waiting-numbers y₀ u₀ y₁ u₁ y₂ u₂ y₃ u₃ y₄ u₄ = (
           (
             (
-              (α-queued ∷ []),
+              (α-local ∷ []),
               (
-                (α-outstanding ∷ []),
-                ((α-transmissions ∷ []), ((α-ready ∷ []), ((α-waiting ∷ []), ((α-waiting-numbers ∷ []), (κ₁, (κ₂, (κ₄, (κ₅, tt)))))))),
+                (α-queued ∷ []),
+                (
+                  (α-outstanding ∷ []),
+                  (
+                    (α-transmissions ∷ []),
+                    ((α-ready ∷ []), ((α-waiting ∷ []), ((α-waiting-numbers ∷ []), (κ₁, (κ₂, (κ₄, (κ₅, tt))))))),
+                  ),
+                ),
               ),
             ),
-            (fullShare, (fullShare, (fullShare, (fullShare, (fullShare, (fullShare, (q₁, (q₂, (q₄, (q₅, tt)))))))))),
+            (fullShare, (fullShare, (fullShare, (fullShare, (fullShare, (fullShare, (fullShare, (q₁, (q₂, (q₄, (q₅, tt))))))))))),
             tt,
             (
               y₀,
@@ -379,23 +392,20 @@ module _ {M : Type 1} (𝓤 : URA M) (H : Heap 𝓤) (A : Atoms 𝓤) (W : Given
                   (
                     y₃,
                     (
-                      y₄,
+                      (ref-at p-local 0 δ-local f-local),
                       (
-                        y₅,
+                        y₄,
                         (
-                          y₆,
+                          (ref-at b (o + 124) δ-queued f-queued),
                           (
-                            (ref-at b (o + 124) δ-queued f-queued),
+                            (ref-at b (o + 636) δ-outstanding f-outstanding),
                             (
-                              (ref-at b (o + 636) δ-outstanding f-outstanding),
+                              (ref-at b (o + 764) δ-transmissions f-transmissions),
                               (
-                                (ref-at b (o + 764) δ-transmissions f-transmissions),
+                                (ref-at b (o + 796) δ-ready f-ready),
                                 (
-                                  (ref-at b (o + 796) δ-ready f-ready),
-                                  (
-                                    (ref-at b (o + 1308) δ-waiting f-waiting),
-                                    ((ref-at b (o + 1820) δ-waiting-numbers f-waiting-numbers), (x₁, (x₂, (x₄, (x₅, tt))))),
-                                  ),
+                                  (ref-at b (o + 1308) δ-waiting f-waiting),
+                                  ((ref-at b (o + 1820) δ-waiting-numbers f-waiting-numbers), (x₁, (x₂, (x₄, (x₅, tt))))),
                                 ),
                               ),
                             ),
@@ -416,24 +426,18 @@ module _ {M : Type 1} (𝓤 : URA M) (H : Heap 𝓤) (A : Atoms 𝓤) (W : Given
                   (
                     u₃ ∷ [],
                     (
-                      u₄ ∷ [],
+                      (vptr p-local 0) ∷ [],
                       (
-                        u₅ ∷ [],
+                        u₄ ∷ [],
                         (
-                          u₆ ∷ [],
+                          (vptr b (o + 124)) ∷ [],
                           (
-                            (vptr b (o + 124)) ∷ [],
+                            (vptr b (o + 636)) ∷ [],
                             (
-                              (vptr b (o + 636)) ∷ [],
+                              (vptr b (o + 764)) ∷ [],
                               (
-                                (vptr b (o + 764)) ∷ [],
-                                (
-                                  (vptr b (o + 796)) ∷ [],
-                                  (
-                                    (vptr b (o + 1308)) ∷ [],
-                                    ((vptr b (o + 1820)) ∷ [], (s₁ ∷ [], (s₂ ∷ [], (s₄ ∷ [], (s₅ ∷ [], tt))))),
-                                  ),
-                                ),
+                                (vptr b (o + 796)) ∷ [],
+                                ((vptr b (o + 1308)) ∷ [], ((vptr b (o + 1820)) ∷ [], (s₁ ∷ [], (s₂ ∷ [], (s₄ ∷ [], (s₅ ∷ [], tt)))))),
                               ),
                             ),
                           ),
@@ -448,17 +452,17 @@ module _ {M : Type 1} (𝓤 : URA M) (H : Heap 𝓤) (A : Atoms 𝓤) (W : Given
           tt,
         )
 
-    asks-core : (α-queued : ℕ) (δ-queued : GName) (f-queued : (List ℕ)) (α-outstanding : ℕ) (δ-outstanding : GName)
-        (f-outstanding : (List ℕ)) (α-transmissions : ℕ) (δ-transmissions : GName) (f-transmissions : (List ℕ)) (α-ready : ℕ)
-        (δ-ready : GName) (f-ready : (List ℕ)) (α-waiting : ℕ) (δ-waiting : GName) (f-waiting : (List ℕ)) (α-waiting-numbers : ℕ)
-        (δ-waiting-numbers : GName) (f-waiting-numbers : (List ℕ)) → (y₀ : Settings) (u₀ : Val) → Is settings-row.the-row y₀ (u₀ ∷ [])
-        → (y₁ : Flight) (u₁ : Val) → Is flight-row.the-row y₁ (u₁ ∷ []) → (y₂ : Arrival) (u₂ : Val)
-        → Is arrival-row.the-row y₂ (u₂ ∷ [])
-        → (y₃ : Clock) (u₃ : Val) → Is clock-row.the-row y₃ (u₃ ∷ []) → (y₄ : Bool) (u₄ : Val) → Is Boolean y₄ (u₄ ∷ [])
-        → (y₅ : (List Record)) (u₅ : Val) → Is Rs y₅ (u₅ ∷ []) → (y₆ : ℕ) (u₆ : Val) → Is usize y₆ (u₆ ∷ [])
-        → (Whole (arrays f-queued f-outstanding f-transmissions f-ready f-waiting f-waiting-numbers) × Flown
-        (linkOf y₀ y₁ y₂ y₃ (arrays f-queued f-outstanding f-transmissions f-ready f-waiting f-waiting-numbers)) y₅ y₄)
-        → ent 𝓤 (⋆ 𝓤 H A (‵ (flft (α-queued ∷ []) fullShare)
+    asks-core : (p-local : ℕ) (α-local : ℕ) (δ-local : GName) (f-local : (List ℕ)) (α-queued : ℕ) (δ-queued : GName) (f-queued : (List ℕ))
+        (α-outstanding : ℕ) (δ-outstanding : GName) (f-outstanding : (List ℕ)) (α-transmissions : ℕ) (δ-transmissions : GName)
+        (f-transmissions : (List ℕ)) (α-ready : ℕ) (δ-ready : GName) (f-ready : (List ℕ)) (α-waiting : ℕ) (δ-waiting : GName)
+        (f-waiting : (List ℕ)) (α-waiting-numbers : ℕ) (δ-waiting-numbers : GName) (f-waiting-numbers : (List ℕ))
+        → (y₀ : Settings) (u₀ : Val) → Is settings-row.the-row y₀ (u₀ ∷ []) → (y₁ : Flight) (u₁ : Val)
+        → Is flight-row.the-row y₁ (u₁ ∷ []) → (y₂ : Arrival) (u₂ : Val) → Is arrival-row.the-row y₂ (u₂ ∷ [])
+        → (y₃ : Clock) (u₃ : Val) → Is clock-row.the-row y₃ (u₃ ∷ []) → (y₄ : ℕ) (u₄ : Val) → Is usize y₄ (u₄ ∷ [])
+        → (Whole (arrays f-queued f-outstanding f-transmissions f-ready f-waiting f-waiting-numbers) × (length f-local ≡ 128))
+        → ent 𝓤 (⋆ 𝓤 H A (‵ (flft (α-local ∷ []) fullShare)
+        ∷ ‵ (MutRef (named 0) (α-local ∷ []) (Array u32 128) .own (ref-at p-local 0 δ-local f-local) ((vptr p-local 0) ∷ []))
+        ∷ ‵ (flft (α-queued ∷ []) fullShare)
         ∷ ‵ (ShrRef (named 0) (α-queued ∷ []) (Array u32 128) .own (ref-at b (o + 124) δ-queued f-queued) ((vptr b (o + 124)) ∷ []))
         ∷ ‵ (flft (α-outstanding ∷ []) fullShare)
         ∷ ‵ (MutRef (named 0) (α-outstanding ∷ []) (Array u32 32) .own (ref-at b (o + 636) δ-outstanding f-outstanding)
@@ -471,17 +475,16 @@ module _ {M : Type 1} (𝓤 : URA M) (H : Heap 𝓤) (A : Atoms 𝓤) (W : Given
         ∷ ‵ (flft (α-waiting-numbers ∷ []) fullShare)
         ∷ ‵ (MutRef (named 0) (α-waiting-numbers ∷ []) (Array u32 128) .own (ref-at b (o + 1820) δ-waiting-numbers f-waiting-numbers)
         ((vptr b (o + 1820)) ∷ [])) ∷ ‵ (flft κ₁ q₁) ∷ ‵ Own₁ ∷ ‵ (flft κ₂ q₂) ∷ ‵ Own₂ ∷ ‵ (flft κ₄ q₄) ∷ ‵ Own₄
-        ∷ ‵ (flft κ₅ q₅) ∷ ‵ Own₅
-        ∷ [])) (tripleOf 𝓤 H A core.signature (core.spec 𝓤 H A at-mem run) .pre
-        (to-core α-queued δ-queued f-queued α-outstanding δ-outstanding f-outstanding α-transmissions δ-transmissions f-transmissions
-        α-ready δ-ready f-ready α-waiting δ-waiting f-waiting α-waiting-numbers δ-waiting-numbers f-waiting-numbers y₀ u₀ y₁ u₁ y₂ u₂ y₃
-        u₃
-        y₄ u₄ y₅ u₅ y₆ u₆))
-    asks-core α-queued δ-queued f-queued α-outstanding δ-outstanding f-outstanding α-transmissions δ-transmissions f-transmissions α-ready
-        δ-ready f-ready α-waiting δ-waiting f-waiting α-waiting-numbers δ-waiting-numbers f-waiting-numbers y₀ u₀ is₀ y₁ u₁ is₁ y₂ u₂ is₂
-        y₃
-        u₃ is₃ y₄ u₄ is₄ y₅ u₅ is₅ y₆ u₆ is₆ req =
-        qed W (‵ (flft (α-queued ∷ []) fullShare)
+        ∷ ‵ (flft κ₅ q₅) ∷ ‵ Own₅ ∷ [])) (tripleOf 𝓤 H A core.signature (core.spec 𝓤 H A at-mem run) .pre
+        (to-core p-local α-local δ-local f-local α-queued δ-queued f-queued α-outstanding δ-outstanding f-outstanding α-transmissions
+        δ-transmissions f-transmissions α-ready δ-ready f-ready α-waiting δ-waiting f-waiting α-waiting-numbers δ-waiting-numbers
+        f-waiting-numbers y₀ u₀ y₁ u₁ y₂ u₂ y₃ u₃ y₄ u₄))
+    asks-core p-local α-local δ-local f-local α-queued δ-queued f-queued α-outstanding δ-outstanding f-outstanding α-transmissions
+        δ-transmissions f-transmissions α-ready δ-ready f-ready α-waiting δ-waiting f-waiting α-waiting-numbers δ-waiting-numbers
+        f-waiting-numbers y₀ u₀ is₀ y₁ u₁ is₁ y₂ u₂ is₂ y₃ u₃ is₃ y₄ u₄ is₄ req =
+        qed W (‵ (flft (α-local ∷ []) fullShare)
+        ∷ ‵ (MutRef (named 0) (α-local ∷ []) (Array u32 128) .own (ref-at p-local 0 δ-local f-local) ((vptr p-local 0) ∷ []))
+        ∷ ‵ (flft (α-queued ∷ []) fullShare)
         ∷ ‵ (ShrRef (named 0) (α-queued ∷ []) (Array u32 128) .own (ref-at b (o + 124) δ-queued f-queued) ((vptr b (o + 124)) ∷ []))
         ∷ ‵ (flft (α-outstanding ∷ []) fullShare)
         ∷ ‵ (MutRef (named 0) (α-outstanding ∷ []) (Array u32 32) .own (ref-at b (o + 636) δ-outstanding f-outstanding)
@@ -493,379 +496,827 @@ module _ {M : Type 1} (𝓤 : URA M) (H : Heap 𝓤) (A : Atoms 𝓤) (W : Given
         ∷ ‵ (MutRef (named 0) (α-waiting ∷ []) (Array u32 128) .own (ref-at b (o + 1308) δ-waiting f-waiting)
         ((vptr b (o + 1308)) ∷ [])) ∷ ‵ (flft (α-waiting-numbers ∷ []) fullShare)
         ∷ ‵ (MutRef (named 0) (α-waiting-numbers ∷ []) (Array u32 128) .own (ref-at b (o + 1820) δ-waiting-numbers f-waiting-numbers)
-        ((vptr b (o + 1820)) ∷ [])) ∷ ‵ (flft κ₁ q₁) ∷ ‵ Own₁ ∷ ‵ (flft κ₂ q₂) ∷ ‵ Own₂ ∷ ‵ (flft κ₄ q₄) ∷ ‵ Own₄
-        ∷ ‵ (flft κ₅ q₅)
-        ∷ ‵ Own₅ ∷ []) ∵ says ! req $ nothing ! $ move ! (19 ∷ 0 ∷ []) $ join ! $ move ! (17 ∷ 0 ∷ []) $ join ! $ move ! (15 ∷ 0 ∷ []) $
-        join ! $ move ! (13 ∷ 0 ∷ []) $ join ! $ move ! (11 ∷ 0 ∷ []) $ join ! $ move ! (9 ∷ 0 ∷ []) $ join ! $ move ! (7 ∷ 0 ∷ []) $
-        join ! $ move ! (5 ∷ 0 ∷ []) $ join ! $ move ! (3 ∷ 0 ∷ []) $ join ! $ move ! (1 ∷ 0 ∷ []) $ join ! $ nothing ! $
+        ((vptr b (o + 1820)) ∷ [])) ∷ ‵ (flft κ₁ q₁) ∷ ‵ Own₁ ∷ ‵ (flft κ₂ q₂) ∷ ‵ Own₂ ∷ ‵ (flft κ₄ q₄)
+        ∷ ‵ Own₄ ∷ ‵ (flft κ₅ q₅) ∷ ‵ Own₅ ∷ []) ∵ says ! req $ nothing ! $ move ! (21 ∷ 0 ∷ []) $ join ! $
+        move ! (19 ∷ 0 ∷ []) $ join ! $ move ! (17 ∷ 0 ∷ []) $ join ! $ move ! (15 ∷ 0 ∷ []) $ join ! $ move ! (13 ∷ 0 ∷ []) $ join ! $
+        move ! (11 ∷ 0 ∷ []) $ join ! $ move ! (9 ∷ 0 ∷ []) $ join ! $ move ! (7 ∷ 0 ∷ []) $ join ! $ move ! (5 ∷ 0 ∷ []) $ join ! $
+        move ! (3 ∷ 0 ∷ []) $ join ! $ move ! (1 ∷ 0 ∷ []) $ join ! $ nothing ! $ move ! (12 ∷ 0 ∷ []) $ fjoin ! $
         move ! (11 ∷ 0 ∷ []) $ fjoin ! $ move ! (10 ∷ 0 ∷ []) $ fjoin ! $ move ! (9 ∷ 0 ∷ []) $ fjoin ! $ move ! (8 ∷ 0 ∷ []) $
         fjoin ! $ move ! (7 ∷ 0 ∷ []) $ fjoin ! $ move ! (6 ∷ 0 ∷ []) $ fjoin ! $ move ! (5 ∷ 0 ∷ []) $ fjoin ! $ move ! (4 ∷ 0 ∷ []) $
-        fjoin ! $ move ! (3 ∷ 0 ∷ []) $ fjoin ! $ move ! (2 ∷ 0 ∷ []) $ fjoin ! $
-        owned ! usize (Is usize) (uint-makes 𝓤 H A W w64) y₆ _ is₆ $ fjoin ! $ owned ! Rs (Is Rs) (rs-makes 𝓤 H A W) y₅ _ is₅ $
-        fjoin ! $ owned ! Boolean (Is Boolean) (bool-makes 𝓤 H A W) y₄ _ is₄ $ fjoin ! $
+        fjoin ! $ move ! (3 ∷ 0 ∷ []) $ fjoin ! $ owned ! usize (Is usize) (uint-makes 𝓤 H A W w64) y₄ _ is₄ $ fjoin ! $
+        move ! (2 ∷ 0 ∷ []) $ fjoin ! $
         owned ! clock-row.the-row (Is clock-row.the-row) (LL.makes clock-row.the-type clock-laws.the-plain 𝓤 H A) y₃ _ is₃ $ fjoin ! $
         owned ! arrival-row.the-row (Is arrival-row.the-row) (LL.makes arrival-row.the-type arrival-laws.the-plain 𝓤 H A) y₂ _ is₂ $
         fjoin ! $ owned ! flight-row.the-row (Is flight-row.the-row) (LL.makes flight-row.the-type flight-laws.the-plain 𝓤 H A) y₁ _
         is₁ $ fjoin ! $ owned ! settings-row.the-row (Is settings-row.the-row)
         (LL.makes settings-row.the-type settings-laws.the-plain 𝓤 H A) y₀ _ is₀ $ fjoin ! $ move ! (1 ∷ 0 ∷ []) $ done !
 
-    abbrev Had : (k : Link) (z₂ : List ℕ) (z₄ : List ℕ) → List (Item 𝓤)
-    Had k z₂ z₄ = ‵ (link-own κ₀ b o γ k) ∷ ‵ (flft κ₀ q₀) ∷ ‵ (flft κ₁ q₁) ∷ ‵ (finally u8 (x₂ .name) z₂)
-        ∷ ‵ (flft κ₂ q₂) ∷ ‵ (flft κ₃ q₃)
-        ∷ ‵ (finally u32 (x₄ .name) z₄) ∷ ‵ (flft κ₄ q₄) ∷ ‵ (flft κ₅ q₅) ∷ []
+    -- what scatter is called at, and that what it asks is had
+    abbrev to-scatter : (p-local : ℕ) (α-local : ℕ) (δ-local : GName) (f-local : (List ℕ)) (y₀ : (List ℕ)) (u₀ : Val) (y₁ : ℕ) (u₁ : Val)
+        → tripleOf 𝓤 H A scatter.signature (scatter.spec 𝓤 H A at-mem run) .Ghost
+    to-scatter p-local α-local δ-local f-local y₀ u₀ y₁ u₁ = (
+      (
+        (κ₃, ((α-local ∷ []), tt)),
+        (q₃, (fullShare, tt)),
+        tt,
+        (x₃, (y₀, (y₁, ((ref-at p-local 0 δ-local f-local), tt)))),
+        (s₃ ∷ [], (u₀ ∷ [], (u₁ ∷ [], ((vptr p-local 0) ∷ [], tt)))),
+      ),
+      tt,
+    )
+
+    asks-scatter : (p-local : ℕ) (α-local : ℕ) (δ-local : GName) (f-local : (List ℕ)) → (y₀ : (List ℕ)) (u₀ : Val)
+        → Is (Array u32 32) y₀ (u₀ ∷ []) → (y₁ : ℕ) (u₁ : Val) → Is usize y₁ (u₁ ∷ []) → (length f-local ≡ 128)
+        → ent 𝓤 (⋆ 𝓤 H A (‵ (flft κ₃ q₃) ∷ ‵ Own₃ ∷ ‵ (flft (α-local ∷ []) fullShare)
+        ∷ ‵ (ShrRef (named 0) (α-local ∷ []) (Array u32 128) .own (ref-at p-local 0 δ-local f-local) ((vptr p-local 0) ∷ [])) ∷ []))
+        (tripleOf 𝓤 H A scatter.signature (scatter.spec 𝓤 H A at-mem run) .pre (to-scatter p-local α-local δ-local f-local y₀ u₀ y₁ u₁))
+    asks-scatter p-local α-local δ-local f-local y₀ u₀ is₀ y₁ u₁ is₁ req =
+        qed W (‵ (flft κ₃ q₃) ∷ ‵ Own₃ ∷ ‵ (flft (α-local ∷ []) fullShare)
+        ∷ ‵ (ShrRef (named 0) (α-local ∷ []) (Array u32 128) .own (ref-at p-local 0 δ-local f-local) ((vptr p-local 0) ∷ [])) ∷ []) ∵
+        says ! req $ nothing ! $ move ! (3 ∷ 0 ∷ []) $ join ! $ move ! (1 ∷ 0 ∷ []) $ join ! $ nothing ! $ move ! (3 ∷ 0 ∷ []) $
+        fjoin ! $ owned ! usize (Is usize) (uint-makes 𝓤 H A W w64) y₁ _ is₁ $ fjoin ! $
+        owned ! (Array u32 32) (Is (Array u32 32)) (array-makes 𝓤 H A W u32 (uint-makes 𝓤 H A W w32) 32) y₀ _ is₀ $ fjoin ! $
+        move ! (2 ∷ 0 ∷ []) $ fjoin ! $ move ! (1 ∷ 0 ∷ []) $ done !
+
+    abbrev Had : (k : Link) (z₂ : List ℕ) (z₃ : List Record) (z₄ : List ℕ) → List (Item 𝓤)
+    Had k z₂ z₃ z₄ = ‵ (link-own κ₀ b o γ k) ∷ ‵ (flft κ₀ q₀) ∷ ‵ (flft κ₁ q₁) ∷ ‵ (finally u8 (x₂ .name) z₂)
+        ∷ ‵ (flft κ₂ q₂) ∷ ‵ (finally R (x₃ .name) z₃) ∷ ‵ (flft κ₃ q₃) ∷ ‵ (finally u32 (x₄ .name) z₄)
+        ∷ ‵ (flft κ₄ q₄) ∷ ‵ (flft κ₅ q₅) ∷ []
 
     -- what the contract says
-    abbrev Said : (r : Taken) (k : Link) (z₂ : List ℕ) (z₄ : List ℕ) → Type 0
-    Said r k z₂ z₄ = InputLeft (x₅ .now) h (partsOf (x₁ .now) (x₂ .now) (x₃ .now) (x₄ .now)) (r .answer) (takenBack r) k z₂ z₄
+    abbrev Said : (r : ℤ) (k : Link) (z₂ : List ℕ) (z₃ : List Record) (z₄ : List ℕ) → Type 0
+    Said r k z₂ z₃ z₄ = Gives answerCode (λ a. InputPromise (x₅ .now) h (partsOf (x₁ .now) (x₂ .now) (x₃ .now) (x₄ .now)) a k
+        (partsOf (x₁ .now) z₂ z₃ z₄)) r
 
-    exits : (r : Taken) (w : Val) (k : Link) (z₂ : List ℕ) (z₄ : List ℕ) → Said r k z₂ z₄ → length z₂ ≡ length (x₂ .now)
-        → length z₄ ≡ length (x₄ .now) → Is taken-row.the-row r (w ∷ []) → ent 𝓤 (⋆ 𝓤 H A (Had k z₂ z₄)) (Post w)
+    exits : (r : ℤ) (w : Val) (k : Link) (z₂ : List ℕ) (z₃ : List Record) (z₄ : List ℕ) → Said r k z₂ z₃ z₄
+        → length z₂ ≡ length (x₂ .now) → length z₃ ≡ length (x₃ .now) → length z₄ ≡ length (x₄ .now) → Is i32 r (w ∷ [])
+        → ent 𝓤 (⋆ 𝓤 H A (Had k z₂ z₃ z₄)) (Post w)
     unfolding Post
-    exits r w k z₂ z₄ e len₂ len₄ g =
-        qed W (Had k z₂ z₄) ∵ suffices ! _ (ends-at 𝓤 H A f.ended stayed (f.clauses 𝓤 H A at-mem run) W
+    exits r w k z₂ z₃ z₄ e len₂ len₃ len₄ g =
+        qed W (Had k z₂ z₃ z₄) ∵ suffices ! _ (ends-at 𝓤 H A f.ended stayed (f.clauses 𝓤 H A at-mem run) W
         (((κ₀, (κ₁, (κ₂, (κ₃, (κ₄, (κ₅, tt)))))), (q₀, (q₁, (q₂, (q₃, (q₄, (q₅, tt)))))), tt, x, at), tt) w r
-        (k, (tt, (z₂, (tt, (z₄, (tt, tt)))))) (tt, (tt, (len₂, (tt, (len₄, (tt, tt))))))) $ says ! e $
-        nothing ! $ move ! (9 ∷ 0 ∷ []) $ join ! $ move ! (8 ∷ 0 ∷ []) $ join ! $ move ! (6 ∷ 0 ∷ []) $ join ! $ move ! (5 ∷ 0 ∷ []) $
+        (k, (tt, (z₂, (z₃, (z₄, (tt, tt)))))) (tt, (tt, (len₂, (len₃, (len₄, (tt, tt))))))) $ says ! e $
+        nothing ! $ move ! (10 ∷ 0 ∷ []) $ join ! $ move ! (9 ∷ 0 ∷ []) $ join ! $ move ! (7 ∷ 0 ∷ []) $ join ! $ move ! (5 ∷ 0 ∷ []) $
         join ! $ move ! (3 ∷ 0 ∷ []) $ join ! $ move ! (2 ∷ 0 ∷ []) $ join ! $ frame ! $ nothing ! $ nothing ! $ fjoin ! $
-        move ! (3 ∷ 0 ∷ []) $ fjoin ! $ nothing ! $ fjoin ! $ move ! (2 ∷ 0 ∷ []) $ fjoin ! $ nothing ! $ fjoin ! $
-        move ! (1 ∷ 0 ∷ []) $ fjoin ! $ frame ! $
-        owned ! taken-row.the-row (Is taken-row.the-row) (LL.makes taken-row.the-type taken-laws.the-plain 𝓤 H A) r _ g $ done !
+        move ! (4 ∷ 0 ∷ []) $ fjoin ! $ move ! (3 ∷ 0 ∷ []) $ fjoin ! $ move ! (2 ∷ 0 ∷ []) $ fjoin ! $ nothing ! $ fjoin ! $
+        move ! (1 ∷ 0 ∷ []) $ fjoin ! $ frame ! $ owned ! i32 (Is i32) (sint-makes 𝓤 H A W w32) r _ g $ done !
 
     module _ (C : Calls 𝓤 H) (Λ : Loops 𝓤 H) (fm : FmC 𝓤 H (W .laws) C) (known : Known C) where
       -- where the locals lie
       abbrev En : (l₀ l₁ l₂ l₃ l₄ l₅ l₆ l₇ l₈ l₉ l₁₀ l₁₁ l₁₂ l₁₃ l₁₄ l₁₅ l₁₆ l₁₇ l₁₈ l₁₉ l₂₀
-          l₂₁ l₂₂ l₂₃ l₂₄ l₂₅ l₂₆ l₂₇ l₂₈ : ℕ) → Env 𝓤 H
+          l₂₁ l₂₂ l₂₃ l₂₄ l₂₅ l₂₆ l₂₇ l₂₈ l₂₉ l₃₀ l₃₁ l₃₂ l₃₃ l₃₄ l₃₅ l₃₆ l₃₇ l₃₈
+          l₃₉ l₄₀ : ℕ) → Env 𝓤 H
       En l₀ l₁ l₂ l₃ l₄ l₅ l₆ l₇ l₈ l₉ l₁₀ l₁₁ l₁₂ l₁₃ l₁₄ l₁₅ l₁₆ l₁₇ l₁₈ l₁₉ l₂₀ l₂₁
-          l₂₂ l₂₃ l₂₄ l₂₅ l₂₆ l₂₇ l₂₈ =
-          envOf (code.function .locals) (l₀ ∷ l₁ ∷ l₂ ∷ l₃ ∷ l₄ ∷ l₅ ∷ l₆ ∷ l₇ ∷ l₈ ∷ l₉ ∷ l₁₀ ∷ l₁₁
-          ∷ l₁₂ ∷ l₁₃ ∷ l₁₄ ∷ l₁₅ ∷ l₁₆ ∷ l₁₇
-          ∷ l₁₈ ∷ l₁₉ ∷ l₂₀ ∷ l₂₁ ∷ l₂₂ ∷ l₂₃ ∷ l₂₄ ∷ l₂₅ ∷ l₂₆ ∷ l₂₇ ∷ l₂₈ ∷ [])
+          l₂₂ l₂₃ l₂₄ l₂₅ l₂₆ l₂₇ l₂₈ l₂₉ l₃₀ l₃₁ l₃₂ l₃₃ l₃₄ l₃₅ l₃₆ l₃₇ l₃₈ l₃₉
+          l₄₀ = envOf (code.function .locals) (l₀ ∷ l₁ ∷ l₂ ∷ l₃ ∷ l₄ ∷ l₅ ∷ l₆ ∷ l₇ ∷ l₈ ∷ l₉ ∷ l₁₀ ∷ l₁₁
+          ∷ l₁₂ ∷ l₁₃ ∷ l₁₄ ∷ l₁₅ ∷ l₁₆ ∷ l₁₇ ∷ l₁₈ ∷ l₁₉ ∷ l₂₀ ∷ l₂₁ ∷ l₂₂ ∷ l₂₃
+          ∷ l₂₄ ∷ l₂₅ ∷ l₂₆ ∷ l₂₇ ∷ l₂₈ ∷ l₂₉ ∷ l₃₀ ∷ l₃₁ ∷ l₃₂ ∷ l₃₃ ∷ l₃₄ ∷ l₃₅
+          ∷ l₃₆ ∷ l₃₇ ∷ l₃₈ ∷ l₃₉ ∷ l₄₀ ∷ [])
+
+      -- what part 3 knows
+      abbrev Known₃ : Type 0
+      Known₃ = (z₄ : List ℕ) × (z₂ : List ℕ) × (z₄ : List ℕ) × (z₂ : List ℕ) × (z-local′ : List ℕ) ×
+          (z-waiting-numbers : List ℕ) × (z-waiting : List ℕ) × (z-ready : List ℕ) × (z-transmissions : List ℕ) × (z-outstanding : List ℕ) ×
+          (z-local : List ℕ) × (l₀ : ℕ) × (l₁ : ℕ) × (l₂ : ℕ) × (l₃ : ℕ) × (l₄ : ℕ) × (l₅ : ℕ) × (l₆ : ℕ) ×
+          (l₇ : ℕ) × (l₈ : ℕ) × (l₉ : ℕ) × (l₁₀ : ℕ) × (l₁₁ : ℕ) × (l₁₂ : ℕ) × (l₁₃ : ℕ) × (l₁₄ : ℕ) ×
+          (l₁₅ : ℕ) × (l₁₆ : ℕ) × (l₁₇ : ℕ) × (l₁₈ : ℕ) × (l₁₉ : ℕ) × (l₂₀ : ℕ) × (l₂₁ : ℕ) ×
+          (l₂₂ : ℕ) × (l₂₃ : ℕ) × (l₂₄ : ℕ) × (l₂₅ : ℕ) × (l₂₆ : ℕ) × (l₂₇ : ℕ) × (l₂₈ : ℕ) ×
+          (l₂₉ : ℕ) × (l₃₀ : ℕ) × (l₃₁ : ℕ) × (l₃₂ : ℕ) × (l₃₃ : ℕ) × (l₃₄ : ℕ) × (l₃₅ : ℕ) ×
+          (l₃₆ : ℕ) × (l₃₇ : ℕ) × (l₃₈ : ℕ) × (l₃₉ : ℕ) × (l₄₀ : ℕ) × (n : ℕ) × (w-n : Val) ×
+          (e-n : n ≡ h .flight .outstanding) × (w-blanks : Val) × (w-g : Val) ×
+          (e-g : (length z-local ≡ 128) × (recordsIn z-local ≡ padded (gathered (take sendSlots (x₃ .now)) (slotsIn (h .outstanding) n)))) ×
+          (m : ℕ) × (w-m : Val) × (e-m : m ≡ length (x₃ .now)) × (a : Taken) × (w-a : Val) ×
+          (e-a : (Takes (λ l. takesInWith l (recordsIn z-local) (x₄ .now) (lentLengths m (x₁ .now) (x₂ .now) (x₄ .now)) (x₂ .now) (x₅ .now))
+          (h .settings) (h .flight) (h .arrival) (h .clock) (arraysOf h) (x₂ .now) (x₄ .now) a
+          (arrays (h .queued) z-outstanding z-transmissions z-ready z-waiting z-waiting-numbers) (recordsIn z-local′) z₂ z₄) ×
+          (length z-local′ ≡ 128)) × (is-a : Is taken-row.the-row a (w-a ∷ [])) × (len₂ : length z₂ ≡ length (x₂ .now)) ×
+          (len₄ : length z₄ ≡ length (x₄ .now)) × (was-local-2 : Is (Array u32 128) z-local′ ((array-vals (uint-vals w32)) z-local′)) ×
+          (was-outstanding′ : Is (Array u32 32) z-outstanding ((array-vals (uint-vals w32)) z-outstanding)) × (kf : Flight) × (w-kf : Val) ×
+          (e-kf : kf ≡ a .flight) × (ka : Arrival) × (w-ka : Val) × (e-ka : ka ≡ a .arrival) × (end-queued : length (h .queued) ≡ 128) ×
+          (end-outstanding : length z-outstanding ≡ 32) × (end-transmissions : length z-transmissions ≡ 32) ×
+          (end-ready : length z-ready ≡ 128) × (end-waiting : length z-waiting ≡ 128) × (length z-waiting-numbers ≡ 128)
+
+      part₃ : (past : Known₃) → ent 𝓤 (⋆ 𝓤 H A (‵
+          (link-own κ₀ b o γ (record {
+            settings = (h .settings);
+            flight = (past .69);
+            arrival = (past .72);
+            clock = (h .clock);
+            queued = (h .queued);
+            outstanding = (past .9);
+            transmissions = (past .8);
+            ready = (past .7);
+            waiting = (past .6);
+            «waiting_numbers» = (past .5);
+          })) ∷ ‵ (flft κ₀ q₀)
+          ∷ ‵ (fat fullShare (tyArray (tyInt w32) 128) (past .24) 0 ((only ((array-vals (uint-vals w32)) (past .4)))))
+          ∷ ‵ (finally u32 (x₄ .name) (past .2)) ∷ ‵ (finally u8 (x₂ .name) (past .3)) ∷ ‵ (flft κ₁ q₁) ∷ ‵ (flft κ₂ q₂)
+          ∷ ‵ (flft κ₄ q₄) ∷ ‵ (flft κ₅ q₅) ∷ ‵ Own₃ ∷ ‵ (flft κ₃ q₃)
+          ∷ (‵ (fdies (tyInt w32) (past .11)) ⊛ ‵ (fdies (tyRef (named 0) mut (pointee (L .written))) (past .12)) ⊛ ‵
+          (fdies (sliceTy (tyRef (named 1) imm (tyInt w8))) (past .13)) ⊛ ‵ (fdies (sliceTy (tyRef (named 2) mut (tyInt w8))) (past .14)) ⊛
+          ‵ (fdies (sliceTy (tyRef (named 3) mut (pointee (R .written)))) (past .15)) ⊛ ‵
+          (fdies (sliceTy (tyRef (named 4) mut (tyInt w32))) (past .16)) ⊛ ‵ (fdies (sliceTy (tyRef (named 5) imm (tyInt w8))) (past .17)) ⊛
+          ‵ (fdies settings-laws.mir (past .18)) ⊛ ‵ (fdies flight-laws.mir (past .19)) ⊛ ‵ (fdies arrival-laws.mir (past .20)) ⊛ ‵
+          (fdies clock-laws.mir (past .21)) ⊛ ‵ (fdies (tyArray (tyInt w32) 32) (past .22)) ⊛ ‵ (fdies (tyInt w64) (past .23)) ⊛ ‵
+          (fdies (tyArray (tyInt w32) 128) (past .24)) ⊛ ‵ (fdies (tyInt w64) (past .25)) ⊛ ‵ (fdies taken-laws.mir (past .26)) ⊛ ‵
+          (fdies (tyArray (tyInt w32) 32) (past .27)) ⊛ ‵ (fdies flight-laws.mir (past .28)) ⊛ ‵ (fdies arrival-laws.mir (past .29)) ⊛ ‵
+          (fdies (tyInt w64) (past .30)) ⊛ ‵ (fdies (tyArray (tyInt w32) 128) (past .31)) ⊛ ‵ (fdies tyUnit (past .32)) ⊛ ‵
+          (fdies (tyRef erased imm (pointee (R .written))) (past .33)) ⊛ ‵
+          (fdies (sliceTy (tyRef erased imm (pointee (R .written)))) (past .34)) ⊛ ‵
+          (fdies (tyRef erased mut (tyArray (tyInt w32) 128)) (past .35)) ⊛ ‵ (fdies (tyRef erased imm (pointee (R .written))) (past .36)) ⊛
+          ‵ (fdies (sliceTy (tyRef erased imm (pointee (R .written)))) (past .37)) ⊛ ‵
+          (fdies (tyRef erased mut (tyArray (tyInt w32) 128)) (past .38)) ⊛ ‵
+          (fdies (tyRef erased imm (tyArray (tyInt w32) 128)) (past .39)) ⊛ ‵ (fdies (tyRef erased mut (tyArray (tyInt w32) 32)) (past .40))
+          ⊛ ‵ (fdies (tyRef erased mut (tyArray (tyInt w8) 32)) (past .41)) ⊛ ‵
+          (fdies (tyRef erased mut (tyArray (tyInt w32) 128)) (past .42)) ⊛ ‵
+          (fdies (tyRef erased mut (tyArray (tyInt w32) 128)) (past .43)) ⊛ ‵
+          (fdies (tyRef erased mut (tyArray (tyInt w32) 128)) (past .44)) ⊛ ‵ (fdies (tyRef erased mut (tyInt w8)) (past .45)) ⊛ ‵
+          (fdies (sliceTy (tyRef erased mut (tyInt w8))) (past .46)) ⊛ ‵ (fdies (tyRef erased mut (tyInt w32)) (past .47)) ⊛ ‵
+          (fdies (sliceTy (tyRef erased mut (tyInt w32))) (past .48)) ⊛ ‵ (fdies (tyRef erased mut (pointee (R .written))) (past .49)) ⊛ ‵
+          (fdies (sliceTy (tyRef erased mut (pointee (R .written)))) (past .50)) ⊛ ‵
+          (fdies (tyRef erased imm (tyArray (tyInt w32) 128)) (past .51)))
+          ∷ ‵ (froom (tyRef erased imm (tyArray (tyInt w32) 128)) (past .51) 0)
+          ∷ ‵ (froom (sliceTy (tyRef erased mut (pointee (R .written)))) (past .50) 0)
+          ∷ ‵ (froom (tyRef erased mut (pointee (R .written))) (past .49) 0)
+          ∷ ‵ (fat fullShare (sliceTy (tyRef erased mut (tyInt w32))) (past .48) 0 (s₄))
+          ∷ ‵ (fat fullShare (tyRef erased mut (tyInt w32)) (past .47) 0 ((vptr (x₄ .ptr .0) (x₄ .ptr .1))))
+          ∷ ‵ (fat fullShare (sliceTy (tyRef erased mut (tyInt w8))) (past .46) 0 (s₂))
+          ∷ ‵ (fat fullShare (tyRef erased mut (tyInt w8)) (past .45) 0 ((vptr (x₂ .ptr .0) (x₂ .ptr .1))))
+          ∷ ‵ (fat fullShare (tyRef erased mut (tyArray (tyInt w32) 128)) (past .44) 0 ((vptr b (o + 1820))))
+          ∷ ‵ (fat fullShare (tyRef erased mut (tyArray (tyInt w32) 128)) (past .43) 0 ((vptr b (o + 1308))))
+          ∷ ‵ (fat fullShare (tyRef erased mut (tyArray (tyInt w32) 128)) (past .42) 0 ((vptr b (o + 796))))
+          ∷ ‵ (fat fullShare (tyRef erased mut (tyArray (tyInt w8) 32)) (past .41) 0 ((vptr b (o + 764))))
+          ∷ ‵ (fat fullShare (tyRef erased mut (tyArray (tyInt w32) 32)) (past .40) 0 ((vptr b (o + 636))))
+          ∷ ‵ (fat fullShare (tyRef erased imm (tyArray (tyInt w32) 128)) (past .39) 0 ((vptr b (o + 124))))
+          ∷ ‵ (fat fullShare (tyRef erased mut (tyArray (tyInt w32) 128)) (past .38) 0 ((vptr (past .24) 0)))
+          ∷ ‵ (fat fullShare (sliceTy (tyRef erased imm (pointee (R .written)))) (past .37) 0 (s₃))
+          ∷ ‵ (fat fullShare (tyRef erased imm (pointee (R .written))) (past .36) 0 ((vptr (x₃ .ptr .0) (x₃ .ptr .1))))
+          ∷ ‵ (fat fullShare (tyRef erased mut (tyArray (tyInt w32) 128)) (past .35) 0 ((vptr (past .24) 0)))
+          ∷ ‵ (fat fullShare (sliceTy (tyRef erased imm (pointee (R .written)))) (past .34) 0 (s₃))
+          ∷ ‵ (fat fullShare (tyRef erased imm (pointee (R .written))) (past .33) 0 ((vptr (x₃ .ptr .0) (x₃ .ptr .1))))
+          ∷ ‵ (fat fullShare tyUnit (past .32) 0 ((past .56))) ∷ ‵ (fat fullShare (tyArray (tyInt w32) 128) (past .31) 0 ((past .55)))
+          ∷ ‵ (froom (tyInt w64) (past .30) 0) ∷ ‵ (fat fullShare arrival-laws.mir (past .29) 0 ((past .73)))
+          ∷ ‵ (fat fullShare flight-laws.mir (past .28) 0 ((past .70)))
+          ∷ ‵ (fat fullShare (tyArray (tyInt w32) 32) (past .27) 0 ((only ((array-vals (uint-vals w32)) (past .9)))))
+          ∷ ‵ (fat fullShare taken-laws.mir (past .26) 0 ((past .62))) ∷ ‵ (fat fullShare (tyInt w64) (past .25) 0 ((past .59)))
+          ∷ ‵ (fat fullShare (tyInt w64) (past .23) 0 ((past .53)))
+          ∷ ‵ (fat fullShare (tyArray (tyInt w32) 32) (past .22) 0 ((only ((array-vals (uint-vals w32)) (h .outstanding)))))
+          ∷ ‵ (fat fullShare clock-laws.mir (past .21) 0 ((only ((LL.vals clock-row.the-type clock-laws.the-laws) (h .clock)))))
+          ∷ ‵ (fat fullShare arrival-laws.mir (past .20) 0 ((only ((LL.vals arrival-row.the-type arrival-laws.the-laws) (h .arrival)))))
+          ∷ ‵ (fat fullShare flight-laws.mir (past .19) 0 ((only ((LL.vals flight-row.the-type flight-laws.the-laws) (h .flight)))))
+          ∷ ‵ (fat fullShare settings-laws.mir (past .18) 0 ((only ((LL.vals settings-row.the-type settings-laws.the-laws) (h .settings)))))
+          ∷ ‵ (fat fullShare (sliceTy (tyRef (named 5) imm (tyInt w8))) (past .17) 0 (s₅))
+          ∷ ‵ (fat fullShare (sliceTy (tyRef (named 4) mut (tyInt w32))) (past .16) 0 (s₄))
+          ∷ ‵ (fat fullShare (sliceTy (tyRef (named 3) mut (pointee (R .written)))) (past .15) 0 (s₃))
+          ∷ ‵ (fat fullShare (sliceTy (tyRef (named 2) mut (tyInt w8))) (past .14) 0 (s₂))
+          ∷ ‵ (fat fullShare (sliceTy (tyRef (named 1) imm (tyInt w8))) (past .13) 0 (s₁))
+          ∷ ‵ (fat fullShare (tyRef (named 0) mut (pointee (L .written))) (past .12) 0 (vptr b o)) ∷ ‵ (froom (tyInt w32) (past .11) 0)
+          ∷ [])) (Wp 𝓤 H C Λ (En (past .11) (past .12) (past .13) (past .14) (past .15) (past .16) (past .17) (past .18) (past .19)
+          (past .20) (past .21) (past .22) (past .23) (past .24) (past .25) (past .26) (past .27) (past .28) (past .29) (past .30)
+          (past .31) (past .32) (past .33) (past .34) (past .35) (past .36) (past .37) (past .38) (past .39) (past .40) (past .41)
+          (past .42) (past .43) (past .44) (past .45) (past .46) (past .47) (past .48) (past .49) (past .50) (past .51))
+          (behind 32 (code.function .body)) (atReturn 𝓤 H
+          (En (past .11) (past .12) (past .13) (past .14) (past .15) (past .16) (past .17) (past .18) (past .19) (past .20) (past .21)
+          (past .22) (past .23) (past .24) (past .25) (past .26) (past .27) (past .28) (past .29) (past .30) (past .31) (past .32)
+          (past .33) (past .34) (past .35) (past .36) (past .37) (past .38) (past .39) (past .40) (past .41) (past .42) (past .43)
+          (past .44) (past .45) (past .46) (past .47) (past .48) (past .49) (past .50) (past .51)) Post))
+      part₃ past =
+          qed W (‵ (link-own κ₀ b o γ (record {
+            settings = (h .settings);
+            flight = (past .69);
+            arrival = (past .72);
+            clock = (h .clock);
+            queued = (h .queued);
+            outstanding = (past .9);
+            transmissions = (past .8);
+            ready = (past .7);
+            waiting = (past .6);
+            «waiting_numbers» = (past .5);
+          })) ∷ ‵ (flft κ₀ q₀)
+          ∷ ‵ (fat fullShare (tyArray (tyInt w32) 128) (past .24) 0 ((only ((array-vals (uint-vals w32)) (past .4)))))
+          ∷ ‵ (finally u32 (x₄ .name) (past .2)) ∷ ‵ (finally u8 (x₂ .name) (past .3)) ∷ ‵ (flft κ₁ q₁) ∷ ‵ (flft κ₂ q₂)
+          ∷ ‵ (flft κ₄ q₄) ∷ ‵ (flft κ₅ q₅) ∷ ‵ Own₃ ∷ ‵ (flft κ₃ q₃)
+          ∷ (‵ (fdies (tyInt w32) (past .11)) ⊛ ‵ (fdies (tyRef (named 0) mut (pointee (L .written))) (past .12)) ⊛ ‵
+          (fdies (sliceTy (tyRef (named 1) imm (tyInt w8))) (past .13)) ⊛ ‵
+          (fdies (sliceTy (tyRef (named 2) mut (tyInt w8))) (past .14)) ⊛ ‵
+          (fdies (sliceTy (tyRef (named 3) mut (pointee (R .written)))) (past .15)) ⊛ ‵
+          (fdies (sliceTy (tyRef (named 4) mut (tyInt w32))) (past .16)) ⊛ ‵
+          (fdies (sliceTy (tyRef (named 5) imm (tyInt w8))) (past .17)) ⊛ ‵ (fdies settings-laws.mir (past .18)) ⊛ ‵
+          (fdies flight-laws.mir (past .19)) ⊛ ‵ (fdies arrival-laws.mir (past .20)) ⊛ ‵ (fdies clock-laws.mir (past .21)) ⊛ ‵
+          (fdies (tyArray (tyInt w32) 32) (past .22)) ⊛ ‵ (fdies (tyInt w64) (past .23)) ⊛ ‵
+          (fdies (tyArray (tyInt w32) 128) (past .24)) ⊛ ‵ (fdies (tyInt w64) (past .25)) ⊛ ‵ (fdies taken-laws.mir (past .26)) ⊛ ‵
+          (fdies (tyArray (tyInt w32) 32) (past .27)) ⊛ ‵ (fdies flight-laws.mir (past .28)) ⊛ ‵ (fdies arrival-laws.mir (past .29)) ⊛ ‵
+          (fdies (tyInt w64) (past .30)) ⊛ ‵ (fdies (tyArray (tyInt w32) 128) (past .31)) ⊛ ‵ (fdies tyUnit (past .32)) ⊛ ‵
+          (fdies (tyRef erased imm (pointee (R .written))) (past .33)) ⊛ ‵
+          (fdies (sliceTy (tyRef erased imm (pointee (R .written)))) (past .34)) ⊛ ‵
+          (fdies (tyRef erased mut (tyArray (tyInt w32) 128)) (past .35)) ⊛ ‵
+          (fdies (tyRef erased imm (pointee (R .written))) (past .36)) ⊛ ‵
+          (fdies (sliceTy (tyRef erased imm (pointee (R .written)))) (past .37)) ⊛ ‵
+          (fdies (tyRef erased mut (tyArray (tyInt w32) 128)) (past .38)) ⊛ ‵
+          (fdies (tyRef erased imm (tyArray (tyInt w32) 128)) (past .39)) ⊛ ‵
+          (fdies (tyRef erased mut (tyArray (tyInt w32) 32)) (past .40)) ⊛ ‵
+          (fdies (tyRef erased mut (tyArray (tyInt w8) 32)) (past .41)) ⊛ ‵
+          (fdies (tyRef erased mut (tyArray (tyInt w32) 128)) (past .42)) ⊛ ‵
+          (fdies (tyRef erased mut (tyArray (tyInt w32) 128)) (past .43)) ⊛ ‵
+          (fdies (tyRef erased mut (tyArray (tyInt w32) 128)) (past .44)) ⊛ ‵ (fdies (tyRef erased mut (tyInt w8)) (past .45)) ⊛ ‵
+          (fdies (sliceTy (tyRef erased mut (tyInt w8))) (past .46)) ⊛ ‵ (fdies (tyRef erased mut (tyInt w32)) (past .47)) ⊛ ‵
+          (fdies (sliceTy (tyRef erased mut (tyInt w32))) (past .48)) ⊛ ‵ (fdies (tyRef erased mut (pointee (R .written))) (past .49)) ⊛
+          ‵ (fdies (sliceTy (tyRef erased mut (pointee (R .written)))) (past .50)) ⊛ ‵
+          (fdies (tyRef erased imm (tyArray (tyInt w32) 128)) (past .51)))
+          ∷ ‵ (froom (tyRef erased imm (tyArray (tyInt w32) 128)) (past .51) 0)
+          ∷ ‵ (froom (sliceTy (tyRef erased mut (pointee (R .written)))) (past .50) 0)
+          ∷ ‵ (froom (tyRef erased mut (pointee (R .written))) (past .49) 0)
+          ∷ ‵ (fat fullShare (sliceTy (tyRef erased mut (tyInt w32))) (past .48) 0 (s₄))
+          ∷ ‵ (fat fullShare (tyRef erased mut (tyInt w32)) (past .47) 0 ((vptr (x₄ .ptr .0) (x₄ .ptr .1))))
+          ∷ ‵ (fat fullShare (sliceTy (tyRef erased mut (tyInt w8))) (past .46) 0 (s₂))
+          ∷ ‵ (fat fullShare (tyRef erased mut (tyInt w8)) (past .45) 0 ((vptr (x₂ .ptr .0) (x₂ .ptr .1))))
+          ∷ ‵ (fat fullShare (tyRef erased mut (tyArray (tyInt w32) 128)) (past .44) 0 ((vptr b (o + 1820))))
+          ∷ ‵ (fat fullShare (tyRef erased mut (tyArray (tyInt w32) 128)) (past .43) 0 ((vptr b (o + 1308))))
+          ∷ ‵ (fat fullShare (tyRef erased mut (tyArray (tyInt w32) 128)) (past .42) 0 ((vptr b (o + 796))))
+          ∷ ‵ (fat fullShare (tyRef erased mut (tyArray (tyInt w8) 32)) (past .41) 0 ((vptr b (o + 764))))
+          ∷ ‵ (fat fullShare (tyRef erased mut (tyArray (tyInt w32) 32)) (past .40) 0 ((vptr b (o + 636))))
+          ∷ ‵ (fat fullShare (tyRef erased imm (tyArray (tyInt w32) 128)) (past .39) 0 ((vptr b (o + 124))))
+          ∷ ‵ (fat fullShare (tyRef erased mut (tyArray (tyInt w32) 128)) (past .38) 0 ((vptr (past .24) 0)))
+          ∷ ‵ (fat fullShare (sliceTy (tyRef erased imm (pointee (R .written)))) (past .37) 0 (s₃))
+          ∷ ‵ (fat fullShare (tyRef erased imm (pointee (R .written))) (past .36) 0 ((vptr (x₃ .ptr .0) (x₃ .ptr .1))))
+          ∷ ‵ (fat fullShare (tyRef erased mut (tyArray (tyInt w32) 128)) (past .35) 0 ((vptr (past .24) 0)))
+          ∷ ‵ (fat fullShare (sliceTy (tyRef erased imm (pointee (R .written)))) (past .34) 0 (s₃))
+          ∷ ‵ (fat fullShare (tyRef erased imm (pointee (R .written))) (past .33) 0 ((vptr (x₃ .ptr .0) (x₃ .ptr .1))))
+          ∷ ‵ (fat fullShare tyUnit (past .32) 0 ((past .56))) ∷ ‵ (fat fullShare (tyArray (tyInt w32) 128) (past .31) 0 ((past .55)))
+          ∷ ‵ (froom (tyInt w64) (past .30) 0) ∷ ‵ (fat fullShare arrival-laws.mir (past .29) 0 ((past .73)))
+          ∷ ‵ (fat fullShare flight-laws.mir (past .28) 0 ((past .70)))
+          ∷ ‵ (fat fullShare (tyArray (tyInt w32) 32) (past .27) 0 ((only ((array-vals (uint-vals w32)) (past .9)))))
+          ∷ ‵ (fat fullShare taken-laws.mir (past .26) 0 ((past .62))) ∷ ‵ (fat fullShare (tyInt w64) (past .25) 0 ((past .59)))
+          ∷ ‵ (fat fullShare (tyInt w64) (past .23) 0 ((past .53)))
+          ∷ ‵ (fat fullShare (tyArray (tyInt w32) 32) (past .22) 0 ((only ((array-vals (uint-vals w32)) (h .outstanding)))))
+          ∷ ‵ (fat fullShare clock-laws.mir (past .21) 0 ((only ((LL.vals clock-row.the-type clock-laws.the-laws) (h .clock)))))
+          ∷ ‵ (fat fullShare arrival-laws.mir (past .20) 0 ((only ((LL.vals arrival-row.the-type arrival-laws.the-laws) (h .arrival)))))
+          ∷ ‵ (fat fullShare flight-laws.mir (past .19) 0 ((only ((LL.vals flight-row.the-type flight-laws.the-laws) (h .flight)))))
+          ∷ ‵ (fat fullShare settings-laws.mir (past .18) 0
+          ((only ((LL.vals settings-row.the-type settings-laws.the-laws) (h .settings)))))
+          ∷ ‵ (fat fullShare (sliceTy (tyRef (named 5) imm (tyInt w8))) (past .17) 0 (s₅))
+          ∷ ‵ (fat fullShare (sliceTy (tyRef (named 4) mut (tyInt w32))) (past .16) 0 (s₄))
+          ∷ ‵ (fat fullShare (sliceTy (tyRef (named 3) mut (pointee (R .written)))) (past .15) 0 (s₃))
+          ∷ ‵ (fat fullShare (sliceTy (tyRef (named 2) mut (tyInt w8))) (past .14) 0 (s₂))
+          ∷ ‵ (fat fullShare (sliceTy (tyRef (named 1) imm (tyInt w8))) (past .13) 0 (s₁))
+          ∷ ‵ (fat fullShare (tyRef (named 0) mut (pointee (L .written))) (past .12) 0 (vptr b o)) ∷ ‵ (froom (tyInt w32) (past .11) 0)
+          ∷ []) ∵ exec ! C Λ (En (past .11) (past .12) (past .13) (past .14) (past .15) (past .16) (past .17) (past .18) (past .19)
+          (past .20) (past .21) (past .22) (past .23) (past .24) (past .25) (past .26) (past .27) (past .28) (past .29) (past .30)
+          (past .31) (past .32) (past .33) (past .34) (past .35) (past .36) (past .37) (past .38) (past .39) (past .40) (past .41)
+          (past .42) (past .43) (past .44) (past .45) (past .46) (past .47) (past .48) (past .49) (past .50) (past .51))
+          (behind 32 (code.function .body)) (atRet (En (past .11) (past .12) (past .13) (past .14) (past .15) (past .16) (past .17)
+          (past .18) (past .19) (past .20) (past .21) (past .22) (past .23) (past .24) (past .25) (past .26) (past .27) (past .28)
+          (past .29) (past .30) (past .31) (past .32) (past .33) (past .34) (past .35) (past .36) (past .37) (past .38) (past .39)
+          (past .40) (past .41) (past .42) (past .43) (past .44) (past .45) (past .46) (past .47) (past .48) (past .49) (past .50)
+          (past .51)) Post) $
+          nothing ! $ calls-fn ! fm changed-of.ended (changed-of.clauses 𝓤 H A at-mem run) (known .7)
+          ((tt, tt, tt, ((past .61), tt), ((past .62) ∷ [], tt)), tt) (λ c _. c ≡ (past .61) .changed)
+          (‵ ftrue) (plainly 𝓤 H A W (taken-row.the-row ∷ []) ((LL.makes taken-row.the-type taken-laws.the-plain 𝓤 H A), tt)
+          ((past .61), tt) ((past .62) ∷ [], tt) ((past .64), tt)) (λ c _. id⊢ 𝓤 _)
+          (and-then ! (load ! (from ! (stop !)) (look ! 38 refl)) (no-more !))
+          (λ c w-c _ e-c is-c. drop ! $ drop ! $ land ! (from ! (stop !)) (init ! 33 refl (uint-lawful 𝓤 H A W w64 .typed c _ is-c .0)) $
+          assigns ! {v = (vptr (x₃ .ptr .0) (x₃ .ptr .1))}
+          (addr ! (from ! (fld ! refl (hop ! (look-in ! 47 (sub ! 0 refl (whole !))) (stop !))))) (from ! (stop !))
+          (init ! 14 refl (tt, tt)) $
+          assigns ! {v = s₃} (agg ! (and-then ! (load ! (from ! (stop !)) (look ! 14 refl))
+          (and-then ! (load ! (from ! (fld ! refl (stop !))) (look-in ! 47 (sub ! 1 refl (whole !)))) (no-more !)))) (from ! (stop !))
+          (init ! 13 refl (tt, (tt, (record { fits = room₃ .0 }, tt)))) $
+          assigns ! {v = (vptr (past .24) 0)} (addr ! (from ! (stop !))) (from ! (stop !)) (init ! 12 refl (tt, tt)) $
+          move ! (2 ∷ []) $ use1 W (‵ (cellAt fullShare ((tyArray (tyInt w32) 128) ∷ [])
+          ((only ((array-vals (uint-vals w32)) (past .4))) ∷ []) (past .24) 0))
+          (W .laws .at-raw fullShare (tyArray (tyInt w32) 128) (past .24) 0 (only ((array-vals (uint-vals w32)) (past .4)))) $
+          cell-in ! fullShare (Array u32 128) (array-makes 𝓤 H A W u32 (uint-makes 𝓤 H A W w32) 128) (past .4) (past .24) 0
+          (only ((array-vals (uint-vals w32)) (past .4))) (past .67) $
+          lend-shr ! tt fullShare (Array u32 128) (past .4) (past .24) 0
+          (λ α-local′′ δ-local′′. move ! (12 ∷ 11 ∷ 0 ∷ 1 ∷ []) $ group ! 4 $
+          calls-fn ! fm scatter.ended (scatter.clauses 𝓤 H A at-mem run) (known .8)
+          (to-scatter (past .24) α-local′′ δ-local′′ (past .4) (past .9) (only ((array-vals (uint-vals w32)) (past .9))) c w-c)
+          (λ u ws-u. (ws-u .0) ≡ scattered (x₃ .now) (slotsIn (past .9) c) (recordsIn (past .4)))
+          (‵ (flft κ₃ q₃) ⊛ ‵ Own₃ ⊛ ‵ (flft (α-local′′ ∷ []) fullShare) ⊛ ‵
+          (ShrRef (named 0) (α-local′′ ∷ []) (Array u32 128) .own (ref-at (past .24) 0 δ-local′′ (past .4)) ((vptr (past .24) 0) ∷ [])))
+          (asks-scatter (past .24) α-local′′ δ-local′′ (past .4) (past .9) (only ((array-vals (uint-vals w32)) (past .9))) (past .68) c w-c
+          is-c ((past .63) .1)) (λ u ws-u. id⊢ 𝓤 _)
+          (and-then ! (load ! (from ! (stop !)) (look ! 12 refl))
+          (and-then ! (load ! (from ! (stop !)) (look ! 35 refl))
+          (and-then ! (load ! (from ! (stop !)) (look ! 32 refl)) (and-then ! (load ! (from ! (stop !)) (look ! 11 refl)) (no-more !)))))
+          (λ u w-u ws-u e-u is-u. land ! (from ! (stop !)) (store ! 31 refl (nothing-lawful 𝓤 H A W .typed u _ is-u .0)) $
+          spread W (‵ (flft κ₃ q₃)) (‵ (flft (α-local′′ ∷ []) fullShare) ∷ ‵ ftrue ∷ []) (id⊢ 𝓤 _) $ move ! (3 ∷ []) $
+          spread W (‵ (fsep (finally R (x₃ .name) (ws-u .0)) (feq ℕ (length (ws-u .0)) (length (x₃ .now)))))
+          (‵ ftrue ∷ ‵ ftrue ∷ ‵ ftrue ∷ ‵ ftrue ∷ []) (id⊢ 𝓤 _) $
+          keep ! (0 ∷ 5 ∷ 6 ∷ 8 ∷ 9 ∷ 10 ∷ 11 ∷ 12 ∷ 13 ∷ 14 ∷ 15 ∷ 16 ∷ 17 ∷ 18 ∷ 19 ∷ 20 ∷ 21 ∷ 22 ∷ 23 ∷ 24 ∷ 25
+          ∷ 26 ∷ 27 ∷ 28 ∷ 29 ∷ 30 ∷ 31 ∷ 32 ∷ 33 ∷ 34 ∷ 35 ∷ 36 ∷ 37 ∷ 38 ∷ 39 ∷ 40 ∷ 41 ∷ 42 ∷ 43 ∷ 44 ∷ 45 ∷ 46
+          ∷ 47 ∷ 48 ∷ 49 ∷ 50 ∷ 51 ∷ 52 ∷ 53 ∷ 54 ∷ 55 ∷ 56 ∷ 57 ∷ []) $ fsplit ! $ move ! (1 ∷ []) $ feqL ! (λ len₃.
+          -- [fin3; tok3; tok:@13; lent:@13; own0; tok0; fin4; fin2; tok1; tok2; tok4; tok5; deaths; the locals]
+          move ! (2 ∷ 3 ∷ []) $ back-shr ! tt fullShare (Array u32 128) (past .24) 0 (past .4) $
+          cell-out ! fullShare (Array u32 128) (array-vals (uint-vals w32)) (array-tells u32 (uint-vals w32) (uint-tells w32) 128)
+          (past .4) (past .24) 0 (λ was-local-3. use1 W
+          (‵ (fat fullShare (tyArray (tyInt w32) 128) (past .24) 0 (only ((array-vals (uint-vals w32)) (past .4)))))
+          (W .laws .raw-at fullShare (tyArray (tyInt w32) 128) (past .24) 0 (only ((array-vals (uint-vals w32)) (past .4)))) $
+          nothing ! $ calls-fn ! fm code-of.ended (code-of.clauses 𝓤 H A at-mem run) (known .9)
+          ((tt, tt, tt, ((past .61), tt), ((past .62) ∷ [], tt)), tt) (λ r _. r ≡ answerCode ((past .61) .answer))
+          (‵ ftrue) (plainly 𝓤 H A W (taken-row.the-row ∷ []) ((LL.makes taken-row.the-type taken-laws.the-plain 𝓤 H A), tt)
+          ((past .61), tt) ((past .62) ∷ [], tt) ((past .64), tt)) (λ r _. id⊢ 𝓤 _)
+          (and-then ! (load ! (from ! (stop !)) (look ! 38 refl)) (no-more !))
+          (λ r w-r _ e-r is-r. drop ! $ drop ! $ land ! (from ! (stop !)) (init ! 51 refl (sint-lawful 𝓤 H A W w32 .typed r _ is-r .0)) $
+          returns ! (look ! 51 refl) $
+          move ! (11 ∷ []) $ spread W (‵ (fdies (tyInt w32) (past .11)))
+          (‵ (fdies (tyRef (named 0) mut (pointee (L .written))) (past .12))
+          ∷ ‵ (fdies (sliceTy (tyRef (named 1) imm (tyInt w8))) (past .13))
+          ∷ ‵ (fdies (sliceTy (tyRef (named 2) mut (tyInt w8))) (past .14))
+          ∷ ‵ (fdies (sliceTy (tyRef (named 3) mut (pointee (R .written)))) (past .15))
+          ∷ ‵ (fdies (sliceTy (tyRef (named 4) mut (tyInt w32))) (past .16))
+          ∷ ‵ (fdies (sliceTy (tyRef (named 5) imm (tyInt w8))) (past .17)) ∷ ‵ (fdies settings-laws.mir (past .18))
+          ∷ ‵ (fdies flight-laws.mir (past .19)) ∷ ‵ (fdies arrival-laws.mir (past .20)) ∷ ‵ (fdies clock-laws.mir (past .21))
+          ∷ ‵ (fdies (tyArray (tyInt w32) 32) (past .22)) ∷ ‵ (fdies (tyInt w64) (past .23))
+          ∷ ‵ (fdies (tyArray (tyInt w32) 128) (past .24)) ∷ ‵ (fdies (tyInt w64) (past .25)) ∷ ‵ (fdies taken-laws.mir (past .26))
+          ∷ ‵ (fdies (tyArray (tyInt w32) 32) (past .27)) ∷ ‵ (fdies flight-laws.mir (past .28)) ∷ ‵ (fdies arrival-laws.mir (past .29))
+          ∷ ‵ (fdies (tyInt w64) (past .30)) ∷ ‵ (fdies (tyArray (tyInt w32) 128) (past .31)) ∷ ‵ (fdies tyUnit (past .32))
+          ∷ ‵ (fdies (tyRef erased imm (pointee (R .written))) (past .33))
+          ∷ ‵ (fdies (sliceTy (tyRef erased imm (pointee (R .written)))) (past .34))
+          ∷ ‵ (fdies (tyRef erased mut (tyArray (tyInt w32) 128)) (past .35))
+          ∷ ‵ (fdies (tyRef erased imm (pointee (R .written))) (past .36))
+          ∷ ‵ (fdies (sliceTy (tyRef erased imm (pointee (R .written)))) (past .37))
+          ∷ ‵ (fdies (tyRef erased mut (tyArray (tyInt w32) 128)) (past .38))
+          ∷ ‵ (fdies (tyRef erased imm (tyArray (tyInt w32) 128)) (past .39))
+          ∷ ‵ (fdies (tyRef erased mut (tyArray (tyInt w32) 32)) (past .40))
+          ∷ ‵ (fdies (tyRef erased mut (tyArray (tyInt w8) 32)) (past .41))
+          ∷ ‵ (fdies (tyRef erased mut (tyArray (tyInt w32) 128)) (past .42))
+          ∷ ‵ (fdies (tyRef erased mut (tyArray (tyInt w32) 128)) (past .43))
+          ∷ ‵ (fdies (tyRef erased mut (tyArray (tyInt w32) 128)) (past .44)) ∷ ‵ (fdies (tyRef erased mut (tyInt w8)) (past .45))
+          ∷ ‵ (fdies (sliceTy (tyRef erased mut (tyInt w8))) (past .46)) ∷ ‵ (fdies (tyRef erased mut (tyInt w32)) (past .47))
+          ∷ ‵ (fdies (sliceTy (tyRef erased mut (tyInt w32))) (past .48))
+          ∷ ‵ (fdies (tyRef erased mut (pointee (R .written))) (past .49))
+          ∷ ‵ (fdies (sliceTy (tyRef erased mut (pointee (R .written)))) (past .50))
+          ∷ ‵ (fdies (tyRef erased imm (tyArray (tyInt w32) 128)) (past .51)) ∷ []) (id⊢ 𝓤 _) $
+          move ! (91 ∷ 0 ∷ 90 ∷ 1 ∷ 89 ∷ 2 ∷ 88 ∷ 3 ∷ 87 ∷ 4 ∷ 86 ∷ 5 ∷ 85 ∷ 6 ∷ 84 ∷ 7 ∷ 83 ∷ 8 ∷ 82 ∷ 9 ∷ 81
+          ∷ 10 ∷ 80 ∷ 11 ∷ 79 ∷ 12 ∷ 41 ∷ 13 ∷ 78 ∷ 14 ∷ 77 ∷ 15 ∷ 76 ∷ 16 ∷ 75 ∷ 17 ∷ 74 ∷ 18 ∷ 73 ∷ 19 ∷ 72 ∷ 20
+          ∷ 71 ∷ 21 ∷ 70 ∷ 22 ∷ 69 ∷ 23 ∷ 68 ∷ 24 ∷ 67 ∷ 25 ∷ 66 ∷ 26 ∷ 65 ∷ 27 ∷ 64 ∷ 28 ∷ 63 ∷ 29 ∷ 62 ∷ 30 ∷ 61
+          ∷ 31 ∷ 60 ∷ 32 ∷ 59 ∷ 33 ∷ 58 ∷ 34 ∷ 57 ∷ 35 ∷ 56 ∷ 36 ∷ 55 ∷ 37 ∷ 54 ∷ 38 ∷ 53 ∷ 39 ∷ 52 ∷ 40 ∷ []) $
+          forget ! 0 refl $ free1 ! $ forget ! 0 refl $ free1 ! $ forget ! 0 refl $ free1 ! $ forget ! 0 refl $ free1 ! $
+          forget ! 0 refl $ free1 ! $ forget ! 0 refl $ free1 ! $ forget ! 0 refl $ free1 ! $ forget ! 0 refl $ free1 ! $
+          forget ! 0 refl $ free1 ! $ forget ! 0 refl $ free1 ! $ forget ! 0 refl $ free1 ! $ forget ! 0 refl $ free1 ! $
+          forget ! 0 refl $ free1 ! $ forget ! 0 refl $ free1 ! $ forget ! 0 refl $ free1 ! $ forget ! 0 refl $ free1 ! $
+          forget ! 0 refl $ free1 ! $ forget ! 0 refl $ free1 ! $ forget ! 0 refl $ free1 ! $ forget ! 0 refl $ free1 ! $
+          forget ! 0 refl $ free1 ! $ forget ! 0 refl $ free1 ! $ forget ! 0 refl $ free1 ! $ forget ! 0 refl $ free1 ! $
+          forget ! 0 refl $ free1 ! $ forget ! 0 refl $ free1 ! $ forget ! 0 refl $ free1 ! $ forget ! 0 refl $ free1 ! $
+          forget ! 0 refl $ free1 ! $ forget ! 0 refl $ free1 ! $ forget ! 0 refl $ free1 ! $ forget ! 0 refl $ free1 ! $
+          forget ! 0 refl $ free1 ! $ forget ! 0 refl $ free1 ! $ forget ! 0 refl $ free1 ! $ forget ! 0 refl $ free1 ! $
+          forget ! 0 refl $ free1 ! $ forget ! 0 refl $ free1 ! $ forget ! 0 refl $ free1 ! $ forget ! 0 refl $ free1 ! $
+          forget ! 0 refl $ free1 ! $ free0 ! $
+          move ! (2 ∷ 3 ∷ 6 ∷ 5 ∷ 7 ∷ 0 ∷ 1 ∷ 4 ∷ 8 ∷ 9 ∷ []) $
+          by ! (exits r w-r (record {
+            settings = (h .settings);
+            flight = (past .69);
+            arrival = (past .72);
+            clock = (h .clock);
+            queued = (h .queued);
+            outstanding = (past .9);
+            transmissions = (past .8);
+            ready = (past .7);
+            waiting = (past .6);
+            «waiting_numbers» = (past .5);
+          }) ((past .3)) (ws-u .0) ((past .2))
+          (told answerCode _ ((past .61) .answer) e-r
+          (rw ((past .71), (past .74)) (input-promised (x₅ .now) h (partsOf (x₁ .now) (x₂ .now) (x₃ .now) (x₄ .now))
+          ((past .61) .answer) (record { words = (past .9); changed = (past .61) .changed; records = (recordsIn (past .4)) })
+          (linkOf (h .settings) ((past .61) .flight) ((past .61) .arrival) (h .clock)
+          (arrays (h .queued) (past .9) (past .8) (past .7) (past .6) (past .5))) (past .3) (past .2) (ws-u .0)
+          (records-length 32 (past .4) ((past .63) .1))
+          (put-back (x₃ .now) (ws-u .0) (record { words = (past .9); changed = (past .61) .changed; records = (recordsIn (past .4)) })
+          (past .9) c (recordsIn (past .4)) refl e-c refl e-u)
+          (input-left (x₅ .now) h (partsOf (x₁ .now) (x₂ .now) (x₃ .now) (x₄ .now)) ((past .61) .answer)
+          (record { words = (past .9); changed = (past .61) .changed; records = (recordsIn (past .4)) })
+          (linkOf (h .settings) ((past .61) .flight) ((past .61) .arrival) (h .clock)
+          (arrays (h .queued) (past .9) (past .8) (past .7) (past .6) (past .5))) (past .3) (past .2) (recordsIn (past .10)) (past .58)
+          (gathers h (partsOf (x₁ .now) (x₂ .now) (x₃ .now) (x₄ .now)) (past .52) (recordsIn (past .10)) (past .58) (past .54)
+          ((past .57) .1) (past .60)) (record {
+            whole-queued = (past .75);
+            whole-outstanding = (past .76);
+            whole-transmissions = (past .77);
+            whole-ready = (past .78);
+            whole-waiting = (past .79);
+            whole-numbers = (past .80);
+          })
+          ((past .63) .0))))) (past .65) len₃ (past .66) is-r)))))))
 
       -- what part 2 knows
       abbrev Known₂ : Type 0
-      Known₂ = (z₄ : List ℕ) × (z₂ : List ℕ) × (z-waiting-numbers : List ℕ) × (z-waiting : List ℕ) × (z-ready : List ℕ) ×
-          (z-transmissions : List ℕ) × (z-outstanding : List ℕ) × (l₀ : ℕ) × (l₁ : ℕ) × (l₂ : ℕ) × (l₃ : ℕ) × (l₄ : ℕ) ×
-          (l₅ : ℕ) ×
-          (l₆ : ℕ) × (l₇ : ℕ) × (l₈ : ℕ) × (l₉ : ℕ) × (l₁₀ : ℕ) × (l₁₁ : ℕ) × (l₁₂ : ℕ) × (l₁₃ : ℕ) ×
-          (l₁₄ : ℕ) × (l₁₅ : ℕ) × (l₁₆ : ℕ) ×
-          (l₁₇ : ℕ) × (l₁₈ : ℕ) × (l₁₉ : ℕ) × (l₂₀ : ℕ) × (l₂₁ : ℕ) × (l₂₂ : ℕ) × (l₂₃ : ℕ) ×
-          (l₂₄ : ℕ) × (l₂₅ : ℕ) × (l₂₆ : ℕ) ×
-          (l₂₇ : ℕ) × (l₂₈ : ℕ) × (n : ℕ) × (w-n : Val) × (e-n : n ≡ h .flight .outstanding) × (recs : (List Record)) × (w-recs : Val) ×
-          (e-recs : recs ≡ padded (gathered (take sendSlots (x₃ .now)) (slotsIn (h .outstanding) n))) × (w-fl : Val) × (m : ℕ) ×
-          (w-m : Val) × (e-m : m ≡ length (x₃ .now)) × (a : Taken) × (w-a : Val) ×
-          (e-a : Takes (λ l. takesInWith l recs (x₄ .now) (lentLengths m (x₁ .now) (x₂ .now) (x₄ .now)) (x₂ .now) (x₅ .now)) (h .settings)
-          (h .flight) (h .arrival) (h .clock) (arraysOf h) (x₂ .now) (x₄ .now) a
-          (arrays (h .queued) z-outstanding z-transmissions z-ready z-waiting z-waiting-numbers) z₂ z₄) ×
-          (is-a : Is taken-row.the-row a (w-a ∷ [])) × (len₂ : length z₂ ≡ length (x₂ .now)) × (length z₄ ≡ length (x₄ .now))
+      Known₂ = (z₄ : List ℕ) × (z₂ : List ℕ) × (z-local′ : List ℕ) × (z-waiting-numbers : List ℕ) × (z-waiting : List ℕ) ×
+          (z-ready : List ℕ) × (z-transmissions : List ℕ) × (z-outstanding : List ℕ) × (z-local : List ℕ) × (l₀ : ℕ) × (l₁ : ℕ) ×
+          (l₂ : ℕ) × (l₃ : ℕ) × (l₄ : ℕ) × (l₅ : ℕ) × (l₆ : ℕ) × (l₇ : ℕ) × (l₈ : ℕ) × (l₉ : ℕ) × (l₁₀ : ℕ) ×
+          (l₁₁ : ℕ) × (l₁₂ : ℕ) × (l₁₃ : ℕ) × (l₁₄ : ℕ) × (l₁₅ : ℕ) × (l₁₆ : ℕ) × (l₁₇ : ℕ) ×
+          (l₁₈ : ℕ) × (l₁₉ : ℕ) × (l₂₀ : ℕ) × (l₂₁ : ℕ) × (l₂₂ : ℕ) × (l₂₃ : ℕ) × (l₂₄ : ℕ) ×
+          (l₂₅ : ℕ) × (l₂₆ : ℕ) × (l₂₇ : ℕ) × (l₂₈ : ℕ) × (l₂₉ : ℕ) × (l₃₀ : ℕ) × (l₃₁ : ℕ) ×
+          (l₃₂ : ℕ) × (l₃₃ : ℕ) × (l₃₄ : ℕ) × (l₃₅ : ℕ) × (l₃₆ : ℕ) × (l₃₇ : ℕ) × (l₃₈ : ℕ) ×
+          (l₃₉ : ℕ) × (l₄₀ : ℕ) × (n : ℕ) × (w-n : Val) × (e-n : n ≡ h .flight .outstanding) × (w-blanks : Val) × (w-g : Val) ×
+          (e-g : (length z-local ≡ 128) × (recordsIn z-local ≡ padded (gathered (take sendSlots (x₃ .now)) (slotsIn (h .outstanding) n)))) ×
+          (m : ℕ) × (w-m : Val) × (e-m : m ≡ length (x₃ .now)) × (a : Taken) × (w-a : Val) ×
+          (e-a : (Takes (λ l. takesInWith l (recordsIn z-local) (x₄ .now) (lentLengths m (x₁ .now) (x₂ .now) (x₄ .now)) (x₂ .now) (x₅ .now))
+          (h .settings) (h .flight) (h .arrival) (h .clock) (arraysOf h) (x₂ .now) (x₄ .now) a
+          (arrays (h .queued) z-outstanding z-transmissions z-ready z-waiting z-waiting-numbers) (recordsIn z-local′) z₂ z₄) ×
+          (length z-local′ ≡ 128)) × (is-a : Is taken-row.the-row a (w-a ∷ [])) × (len₂ : length z₂ ≡ length (x₂ .now)) ×
+          (len₄ : length z₄ ≡ length (x₄ .now)) × (Is (Array u32 128) z-local′ ((array-vals (uint-vals w32)) z-local′))
 
-      part₂ : (past : Known₂) → ent 𝓤 (⋆ 𝓤 H A (‵ (partAt (Array u32 128) fullShare (past .2) b (o + 1820))
-          ∷ ‵ (partAt (Array u32 128) fullShare (past .3) b (o + 1308)) ∷ ‵ (partAt (Array u32 128) fullShare (past .4) b (o + 796))
-          ∷ ‵ (partAt (Array u8 32) fullShare (past .5) b (o + 764)) ∷ ‵ (partAt (Array u32 32) fullShare (past .6) b (o + 636))
-          ∷ ‵ (partAt (Array u32 128) fullShare (h .queued) b (o + 124)) ∷ ‵ (finally u32 (x₄ .name) (past .0))
-          ∷ ‵ (finally u8 (x₂ .name) (past .1)) ∷ ‵ (flft κ₁ q₁) ∷ ‵ (flft κ₂ q₂) ∷ ‵ (flft κ₄ q₄) ∷ ‵ (flft κ₅ q₅)
-          ∷ ‵ (flft κ₃ q₃)
+      part₂ : (past : Known₂) → ent 𝓤 (⋆ 𝓤 H A (‵ (partAt (Array u32 128) fullShare (past .3) b (o + 1820))
+          ∷ ‵ (partAt (Array u32 128) fullShare (past .4) b (o + 1308)) ∷ ‵ (partAt (Array u32 128) fullShare (past .5) b (o + 796))
+          ∷ ‵ (partAt (Array u8 32) fullShare (past .6) b (o + 764)) ∷ ‵ (partAt (Array u32 32) fullShare (past .7) b (o + 636))
+          ∷ ‵ (partAt (Array u32 128) fullShare (h .queued) b (o + 124))
+          ∷ ‵ (fat fullShare (tyArray (tyInt w32) 128) (past .22) 0 ((only ((array-vals (uint-vals w32)) (past .2)))))
+          ∷ ‵ (finally u32 (x₄ .name) (past .0)) ∷ ‵ (finally u8 (x₂ .name) (past .1)) ∷ ‵ (flft κ₁ q₁) ∷ ‵ (flft κ₂ q₂)
+          ∷ ‵ (flft κ₄ q₄) ∷ ‵ (flft κ₅ q₅) ∷ ‵ Own₃ ∷ ‵ (flft κ₃ q₃)
           ∷ ‵ (partAt clock-row.the-row fullShare (h .clock) b (o + 104)) ∷ ‵ (partAt arrival-row.the-row fullShare (h .arrival) b (o + 72))
           ∷ ‵ (partAt flight-row.the-row fullShare (h .flight) b (o + 16))
           ∷ ‵ (partAt settings-row.the-row fullShare (h .settings) b (o + 0)) ∷ raw (Back 𝓤 H A fullShare b o) ∷ ‵ (Open b o γ κ₀ q₀ h)
-          ∷ (‵ (fdies taken-laws.mir (past .7)) ⊛ ‵ (fdies (tyRef (named 0) mut (pointee (L .written))) (past .8)) ⊛ ‵
-          (fdies (sliceTy (tyRef (named 1) imm (tyInt w8))) (past .9)) ⊛ ‵ (fdies (sliceTy (tyRef (named 2) mut (tyInt w8))) (past .10)) ⊛ ‵
-          (fdies (sliceTy (tyRef (named 3) imm (pointee (R .written)))) (past .11)) ⊛ ‵
-          (fdies (sliceTy (tyRef (named 4) mut (tyInt w32))) (past .12)) ⊛ ‵ (fdies (sliceTy (tyRef (named 5) imm (tyInt w8))) (past .13)) ⊛
-          ‵ (fdies settings-laws.mir (past .14)) ⊛ ‵ (fdies flight-laws.mir (past .15)) ⊛ ‵ (fdies arrival-laws.mir (past .16)) ⊛ ‵
-          (fdies clock-laws.mir (past .17)) ⊛ ‵ (fdies (tyArray (tyInt w32) 32) (past .18)) ⊛ ‵ (fdies (tyInt w64) (past .19)) ⊛ ‵
-          (fdies (tyArray record-laws.mir 32) (past .20)) ⊛ ‵ (fdies tyBool (past .21)) ⊛ ‵ (fdies (tyInt w64) (past .22)) ⊛ ‵
-          (fdies taken-laws.mir (past .23)) ⊛ ‵ (fdies flight-laws.mir (past .24)) ⊛ ‵ (fdies arrival-laws.mir (past .25)) ⊛ ‵
-          (fdies (tyRef erased imm (tyArray (tyInt w32) 128)) (past .26)) ⊛ ‵ (fdies (tyRef erased mut (tyArray (tyInt w32) 32)) (past .27))
-          ⊛ ‵ (fdies (tyRef erased mut (tyArray (tyInt w8) 32)) (past .28)) ⊛ ‵
-          (fdies (tyRef erased mut (tyArray (tyInt w32) 128)) (past .29)) ⊛ ‵
-          (fdies (tyRef erased mut (tyArray (tyInt w32) 128)) (past .30)) ⊛ ‵
-          (fdies (tyRef erased mut (tyArray (tyInt w32) 128)) (past .31)) ⊛ ‵ (fdies (tyRef erased mut (tyInt w8)) (past .32)) ⊛ ‵
-          (fdies (sliceTy (tyRef erased mut (tyInt w8))) (past .33)) ⊛ ‵ (fdies (tyRef erased mut (tyInt w32)) (past .34)) ⊛ ‵
-          (fdies (sliceTy (tyRef erased mut (tyInt w32))) (past .35)))
-          ∷ ‵ (fat fullShare (sliceTy (tyRef erased mut (tyInt w32))) (past .35) 0 (s₄))
-          ∷ ‵ (fat fullShare (tyRef erased mut (tyInt w32)) (past .34) 0 ((vptr (x₄ .ptr .0) (x₄ .ptr .1))))
-          ∷ ‵ (fat fullShare (sliceTy (tyRef erased mut (tyInt w8))) (past .33) 0 (s₂))
-          ∷ ‵ (fat fullShare (tyRef erased mut (tyInt w8)) (past .32) 0 ((vptr (x₂ .ptr .0) (x₂ .ptr .1))))
-          ∷ ‵ (fat fullShare (tyRef erased mut (tyArray (tyInt w32) 128)) (past .31) 0 ((vptr b (o + 1820))))
-          ∷ ‵ (fat fullShare (tyRef erased mut (tyArray (tyInt w32) 128)) (past .30) 0 ((vptr b (o + 1308))))
-          ∷ ‵ (fat fullShare (tyRef erased mut (tyArray (tyInt w32) 128)) (past .29) 0 ((vptr b (o + 796))))
-          ∷ ‵ (fat fullShare (tyRef erased mut (tyArray (tyInt w8) 32)) (past .28) 0 ((vptr b (o + 764))))
-          ∷ ‵ (fat fullShare (tyRef erased mut (tyArray (tyInt w32) 32)) (past .27) 0 ((vptr b (o + 636))))
-          ∷ ‵ (fat fullShare (tyRef erased imm (tyArray (tyInt w32) 128)) (past .26) 0 ((vptr b (o + 124))))
-          ∷ ‵ (froom arrival-laws.mir (past .25) 0) ∷ ‵ (froom flight-laws.mir (past .24) 0)
-          ∷ ‵ (fat fullShare taken-laws.mir (past .23) 0 ((past .47))) ∷ ‵ (fat fullShare (tyInt w64) (past .22) 0 ((past .44)))
-          ∷ ‵ (fat fullShare tyBool (past .21) 0 ((past .42))) ∷ ‵ (fat fullShare (tyArray record-laws.mir 32) (past .20) 0 ((past .40)))
-          ∷ ‵ (fat fullShare (tyInt w64) (past .19) 0 ((past .37)))
-          ∷ ‵ (fat fullShare (tyArray (tyInt w32) 32) (past .18) 0 ((only ((array-vals (uint-vals w32)) (h .outstanding)))))
-          ∷ ‵ (fat fullShare clock-laws.mir (past .17) 0 ((only ((LL.vals clock-row.the-type clock-laws.the-laws) (h .clock)))))
-          ∷ ‵ (fat fullShare arrival-laws.mir (past .16) 0 ((only ((LL.vals arrival-row.the-type arrival-laws.the-laws) (h .arrival)))))
-          ∷ ‵ (fat fullShare flight-laws.mir (past .15) 0 ((only ((LL.vals flight-row.the-type flight-laws.the-laws) (h .flight)))))
-          ∷ ‵ (fat fullShare settings-laws.mir (past .14) 0 ((only ((LL.vals settings-row.the-type settings-laws.the-laws) (h .settings)))))
-          ∷ ‵ (fat fullShare (sliceTy (tyRef (named 5) imm (tyInt w8))) (past .13) 0 (s₅))
-          ∷ ‵ (fat fullShare (sliceTy (tyRef (named 4) mut (tyInt w32))) (past .12) 0 (s₄))
-          ∷ ‵ (fat fullShare (sliceTy (tyRef (named 3) imm (pointee (R .written)))) (past .11) 0 (s₃))
-          ∷ ‵ (fat fullShare (sliceTy (tyRef (named 2) mut (tyInt w8))) (past .10) 0 (s₂))
-          ∷ ‵ (fat fullShare (sliceTy (tyRef (named 1) imm (tyInt w8))) (past .9) 0 (s₁))
-          ∷ ‵ (fat fullShare (tyRef (named 0) mut (pointee (L .written))) (past .8) 0 (vptr b o)) ∷ ‵ (froom taken-laws.mir (past .7) 0)
-          ∷ [])) (Wp 𝓤 H C Λ (En (past .7) (past .8) (past .9) (past .10) (past .11) (past .12) (past .13) (past .14) (past .15) (past .16)
-          (past .17) (past .18) (past .19) (past .20) (past .21) (past .22) (past .23) (past .24) (past .25) (past .26) (past .27)
-          (past .28) (past .29) (past .30) (past .31) (past .32) (past .33) (past .34) (past .35)) (behind 20 (code.function .body))
-          (atReturn 𝓤 H (En (past .7) (past .8) (past .9) (past .10) (past .11) (past .12) (past .13) (past .14) (past .15) (past .16)
-          (past .17) (past .18) (past .19) (past .20) (past .21) (past .22) (past .23) (past .24) (past .25) (past .26) (past .27)
-          (past .28) (past .29) (past .30) (past .31) (past .32) (past .33) (past .34) (past .35)) Post))
+          ∷ (‵ (fdies (tyInt w32) (past .9)) ⊛ ‵ (fdies (tyRef (named 0) mut (pointee (L .written))) (past .10)) ⊛ ‵
+          (fdies (sliceTy (tyRef (named 1) imm (tyInt w8))) (past .11)) ⊛ ‵ (fdies (sliceTy (tyRef (named 2) mut (tyInt w8))) (past .12)) ⊛
+          ‵ (fdies (sliceTy (tyRef (named 3) mut (pointee (R .written)))) (past .13)) ⊛ ‵
+          (fdies (sliceTy (tyRef (named 4) mut (tyInt w32))) (past .14)) ⊛ ‵ (fdies (sliceTy (tyRef (named 5) imm (tyInt w8))) (past .15)) ⊛
+          ‵ (fdies settings-laws.mir (past .16)) ⊛ ‵ (fdies flight-laws.mir (past .17)) ⊛ ‵ (fdies arrival-laws.mir (past .18)) ⊛ ‵
+          (fdies clock-laws.mir (past .19)) ⊛ ‵ (fdies (tyArray (tyInt w32) 32) (past .20)) ⊛ ‵ (fdies (tyInt w64) (past .21)) ⊛ ‵
+          (fdies (tyArray (tyInt w32) 128) (past .22)) ⊛ ‵ (fdies (tyInt w64) (past .23)) ⊛ ‵ (fdies taken-laws.mir (past .24)) ⊛ ‵
+          (fdies (tyArray (tyInt w32) 32) (past .25)) ⊛ ‵ (fdies flight-laws.mir (past .26)) ⊛ ‵ (fdies arrival-laws.mir (past .27)) ⊛ ‵
+          (fdies (tyInt w64) (past .28)) ⊛ ‵ (fdies (tyArray (tyInt w32) 128) (past .29)) ⊛ ‵ (fdies tyUnit (past .30)) ⊛ ‵
+          (fdies (tyRef erased imm (pointee (R .written))) (past .31)) ⊛ ‵
+          (fdies (sliceTy (tyRef erased imm (pointee (R .written)))) (past .32)) ⊛ ‵
+          (fdies (tyRef erased mut (tyArray (tyInt w32) 128)) (past .33)) ⊛ ‵ (fdies (tyRef erased imm (pointee (R .written))) (past .34)) ⊛
+          ‵ (fdies (sliceTy (tyRef erased imm (pointee (R .written)))) (past .35)) ⊛ ‵
+          (fdies (tyRef erased mut (tyArray (tyInt w32) 128)) (past .36)) ⊛ ‵
+          (fdies (tyRef erased imm (tyArray (tyInt w32) 128)) (past .37)) ⊛ ‵ (fdies (tyRef erased mut (tyArray (tyInt w32) 32)) (past .38))
+          ⊛ ‵ (fdies (tyRef erased mut (tyArray (tyInt w8) 32)) (past .39)) ⊛ ‵
+          (fdies (tyRef erased mut (tyArray (tyInt w32) 128)) (past .40)) ⊛ ‵
+          (fdies (tyRef erased mut (tyArray (tyInt w32) 128)) (past .41)) ⊛ ‵
+          (fdies (tyRef erased mut (tyArray (tyInt w32) 128)) (past .42)) ⊛ ‵ (fdies (tyRef erased mut (tyInt w8)) (past .43)) ⊛ ‵
+          (fdies (sliceTy (tyRef erased mut (tyInt w8))) (past .44)) ⊛ ‵ (fdies (tyRef erased mut (tyInt w32)) (past .45)) ⊛ ‵
+          (fdies (sliceTy (tyRef erased mut (tyInt w32))) (past .46)) ⊛ ‵ (fdies (tyRef erased mut (pointee (R .written))) (past .47)) ⊛ ‵
+          (fdies (sliceTy (tyRef erased mut (pointee (R .written)))) (past .48)) ⊛ ‵
+          (fdies (tyRef erased imm (tyArray (tyInt w32) 128)) (past .49)))
+          ∷ ‵ (froom (tyRef erased imm (tyArray (tyInt w32) 128)) (past .49) 0)
+          ∷ ‵ (froom (sliceTy (tyRef erased mut (pointee (R .written)))) (past .48) 0)
+          ∷ ‵ (froom (tyRef erased mut (pointee (R .written))) (past .47) 0)
+          ∷ ‵ (fat fullShare (sliceTy (tyRef erased mut (tyInt w32))) (past .46) 0 (s₄))
+          ∷ ‵ (fat fullShare (tyRef erased mut (tyInt w32)) (past .45) 0 ((vptr (x₄ .ptr .0) (x₄ .ptr .1))))
+          ∷ ‵ (fat fullShare (sliceTy (tyRef erased mut (tyInt w8))) (past .44) 0 (s₂))
+          ∷ ‵ (fat fullShare (tyRef erased mut (tyInt w8)) (past .43) 0 ((vptr (x₂ .ptr .0) (x₂ .ptr .1))))
+          ∷ ‵ (fat fullShare (tyRef erased mut (tyArray (tyInt w32) 128)) (past .42) 0 ((vptr b (o + 1820))))
+          ∷ ‵ (fat fullShare (tyRef erased mut (tyArray (tyInt w32) 128)) (past .41) 0 ((vptr b (o + 1308))))
+          ∷ ‵ (fat fullShare (tyRef erased mut (tyArray (tyInt w32) 128)) (past .40) 0 ((vptr b (o + 796))))
+          ∷ ‵ (fat fullShare (tyRef erased mut (tyArray (tyInt w8) 32)) (past .39) 0 ((vptr b (o + 764))))
+          ∷ ‵ (fat fullShare (tyRef erased mut (tyArray (tyInt w32) 32)) (past .38) 0 ((vptr b (o + 636))))
+          ∷ ‵ (fat fullShare (tyRef erased imm (tyArray (tyInt w32) 128)) (past .37) 0 ((vptr b (o + 124))))
+          ∷ ‵ (fat fullShare (tyRef erased mut (tyArray (tyInt w32) 128)) (past .36) 0 ((vptr (past .22) 0)))
+          ∷ ‵ (fat fullShare (sliceTy (tyRef erased imm (pointee (R .written)))) (past .35) 0 (s₃))
+          ∷ ‵ (fat fullShare (tyRef erased imm (pointee (R .written))) (past .34) 0 ((vptr (x₃ .ptr .0) (x₃ .ptr .1))))
+          ∷ ‵ (fat fullShare (tyRef erased mut (tyArray (tyInt w32) 128)) (past .33) 0 ((vptr (past .22) 0)))
+          ∷ ‵ (fat fullShare (sliceTy (tyRef erased imm (pointee (R .written)))) (past .32) 0 (s₃))
+          ∷ ‵ (fat fullShare (tyRef erased imm (pointee (R .written))) (past .31) 0 ((vptr (x₃ .ptr .0) (x₃ .ptr .1))))
+          ∷ ‵ (fat fullShare tyUnit (past .30) 0 ((past .54))) ∷ ‵ (fat fullShare (tyArray (tyInt w32) 128) (past .29) 0 ((past .53)))
+          ∷ ‵ (froom (tyInt w64) (past .28) 0) ∷ ‵ (froom arrival-laws.mir (past .27) 0) ∷ ‵ (froom flight-laws.mir (past .26) 0)
+          ∷ ‵ (froom (tyArray (tyInt w32) 32) (past .25) 0) ∷ ‵ (fat fullShare taken-laws.mir (past .24) 0 ((past .60)))
+          ∷ ‵ (fat fullShare (tyInt w64) (past .23) 0 ((past .57))) ∷ ‵ (fat fullShare (tyInt w64) (past .21) 0 ((past .51)))
+          ∷ ‵ (fat fullShare (tyArray (tyInt w32) 32) (past .20) 0 ((only ((array-vals (uint-vals w32)) (h .outstanding)))))
+          ∷ ‵ (fat fullShare clock-laws.mir (past .19) 0 ((only ((LL.vals clock-row.the-type clock-laws.the-laws) (h .clock)))))
+          ∷ ‵ (fat fullShare arrival-laws.mir (past .18) 0 ((only ((LL.vals arrival-row.the-type arrival-laws.the-laws) (h .arrival)))))
+          ∷ ‵ (fat fullShare flight-laws.mir (past .17) 0 ((only ((LL.vals flight-row.the-type flight-laws.the-laws) (h .flight)))))
+          ∷ ‵ (fat fullShare settings-laws.mir (past .16) 0 ((only ((LL.vals settings-row.the-type settings-laws.the-laws) (h .settings)))))
+          ∷ ‵ (fat fullShare (sliceTy (tyRef (named 5) imm (tyInt w8))) (past .15) 0 (s₅))
+          ∷ ‵ (fat fullShare (sliceTy (tyRef (named 4) mut (tyInt w32))) (past .14) 0 (s₄))
+          ∷ ‵ (fat fullShare (sliceTy (tyRef (named 3) mut (pointee (R .written)))) (past .13) 0 (s₃))
+          ∷ ‵ (fat fullShare (sliceTy (tyRef (named 2) mut (tyInt w8))) (past .12) 0 (s₂))
+          ∷ ‵ (fat fullShare (sliceTy (tyRef (named 1) imm (tyInt w8))) (past .11) 0 (s₁))
+          ∷ ‵ (fat fullShare (tyRef (named 0) mut (pointee (L .written))) (past .10) 0 (vptr b o)) ∷ ‵ (froom (tyInt w32) (past .9) 0)
+          ∷ [])) (Wp 𝓤 H C Λ (En (past .9) (past .10) (past .11) (past .12) (past .13) (past .14) (past .15) (past .16) (past .17)
+          (past .18) (past .19) (past .20) (past .21) (past .22) (past .23) (past .24) (past .25) (past .26) (past .27) (past .28)
+          (past .29) (past .30) (past .31) (past .32) (past .33) (past .34) (past .35) (past .36) (past .37) (past .38) (past .39)
+          (past .40) (past .41) (past .42) (past .43) (past .44) (past .45) (past .46) (past .47) (past .48) (past .49))
+          (behind 27 (code.function .body)) (atReturn 𝓤 H
+          (En (past .9) (past .10) (past .11) (past .12) (past .13) (past .14) (past .15) (past .16) (past .17) (past .18) (past .19)
+          (past .20) (past .21) (past .22) (past .23) (past .24) (past .25) (past .26) (past .27) (past .28) (past .29) (past .30)
+          (past .31) (past .32) (past .33) (past .34) (past .35) (past .36) (past .37) (past .38) (past .39) (past .40) (past .41)
+          (past .42) (past .43) (past .44) (past .45) (past .46) (past .47) (past .48) (past .49)) Post))
       part₂ past =
-          qed W (‵ (partAt (Array u32 128) fullShare (past .2) b (o + 1820)) ∷ ‵ (partAt (Array u32 128) fullShare (past .3) b (o + 1308))
-          ∷ ‵ (partAt (Array u32 128) fullShare (past .4) b (o + 796)) ∷ ‵ (partAt (Array u8 32) fullShare (past .5) b (o + 764))
-          ∷ ‵ (partAt (Array u32 32) fullShare (past .6) b (o + 636)) ∷ ‵ (partAt (Array u32 128) fullShare (h .queued) b (o + 124))
+          qed W (‵ (partAt (Array u32 128) fullShare (past .3) b (o + 1820)) ∷ ‵ (partAt (Array u32 128) fullShare (past .4) b (o + 1308))
+          ∷ ‵ (partAt (Array u32 128) fullShare (past .5) b (o + 796)) ∷ ‵ (partAt (Array u8 32) fullShare (past .6) b (o + 764))
+          ∷ ‵ (partAt (Array u32 32) fullShare (past .7) b (o + 636)) ∷ ‵ (partAt (Array u32 128) fullShare (h .queued) b (o + 124))
+          ∷ ‵ (fat fullShare (tyArray (tyInt w32) 128) (past .22) 0 ((only ((array-vals (uint-vals w32)) (past .2)))))
           ∷ ‵ (finally u32 (x₄ .name) (past .0)) ∷ ‵ (finally u8 (x₂ .name) (past .1)) ∷ ‵ (flft κ₁ q₁) ∷ ‵ (flft κ₂ q₂)
-          ∷ ‵ (flft κ₄ q₄) ∷ ‵ (flft κ₅ q₅) ∷ ‵ (flft κ₃ q₃) ∷ ‵ (partAt clock-row.the-row fullShare (h .clock) b (o + 104))
+          ∷ ‵ (flft κ₄ q₄) ∷ ‵ (flft κ₅ q₅) ∷ ‵ Own₃ ∷ ‵ (flft κ₃ q₃)
+          ∷ ‵ (partAt clock-row.the-row fullShare (h .clock) b (o + 104))
           ∷ ‵ (partAt arrival-row.the-row fullShare (h .arrival) b (o + 72))
           ∷ ‵ (partAt flight-row.the-row fullShare (h .flight) b (o + 16))
           ∷ ‵ (partAt settings-row.the-row fullShare (h .settings) b (o + 0)) ∷ raw (Back 𝓤 H A fullShare b o) ∷ ‵ (Open b o γ κ₀ q₀ h)
-          ∷ (‵ (fdies taken-laws.mir (past .7)) ⊛ ‵ (fdies (tyRef (named 0) mut (pointee (L .written))) (past .8)) ⊛ ‵
-          (fdies (sliceTy (tyRef (named 1) imm (tyInt w8))) (past .9)) ⊛ ‵ (fdies (sliceTy (tyRef (named 2) mut (tyInt w8))) (past .10))
-          ⊛ ‵ (fdies (sliceTy (tyRef (named 3) imm (pointee (R .written)))) (past .11)) ⊛ ‵
-          (fdies (sliceTy (tyRef (named 4) mut (tyInt w32))) (past .12)) ⊛ ‵
-          (fdies (sliceTy (tyRef (named 5) imm (tyInt w8))) (past .13)) ⊛ ‵ (fdies settings-laws.mir (past .14)) ⊛ ‵
-          (fdies flight-laws.mir (past .15)) ⊛ ‵ (fdies arrival-laws.mir (past .16)) ⊛ ‵ (fdies clock-laws.mir (past .17)) ⊛ ‵
-          (fdies (tyArray (tyInt w32) 32) (past .18)) ⊛ ‵ (fdies (tyInt w64) (past .19)) ⊛ ‵
-          (fdies (tyArray record-laws.mir 32) (past .20)) ⊛ ‵ (fdies tyBool (past .21)) ⊛ ‵ (fdies (tyInt w64) (past .22)) ⊛ ‵
-          (fdies taken-laws.mir (past .23)) ⊛ ‵ (fdies flight-laws.mir (past .24)) ⊛ ‵ (fdies arrival-laws.mir (past .25)) ⊛ ‵
-          (fdies (tyRef erased imm (tyArray (tyInt w32) 128)) (past .26)) ⊛ ‵
-          (fdies (tyRef erased mut (tyArray (tyInt w32) 32)) (past .27)) ⊛ ‵
-          (fdies (tyRef erased mut (tyArray (tyInt w8) 32)) (past .28)) ⊛ ‵
-          (fdies (tyRef erased mut (tyArray (tyInt w32) 128)) (past .29)) ⊛ ‵
-          (fdies (tyRef erased mut (tyArray (tyInt w32) 128)) (past .30)) ⊛ ‵
-          (fdies (tyRef erased mut (tyArray (tyInt w32) 128)) (past .31)) ⊛ ‵ (fdies (tyRef erased mut (tyInt w8)) (past .32)) ⊛ ‵
-          (fdies (sliceTy (tyRef erased mut (tyInt w8))) (past .33)) ⊛ ‵ (fdies (tyRef erased mut (tyInt w32)) (past .34)) ⊛ ‵
-          (fdies (sliceTy (tyRef erased mut (tyInt w32))) (past .35)))
-          ∷ ‵ (fat fullShare (sliceTy (tyRef erased mut (tyInt w32))) (past .35) 0 (s₄))
-          ∷ ‵ (fat fullShare (tyRef erased mut (tyInt w32)) (past .34) 0 ((vptr (x₄ .ptr .0) (x₄ .ptr .1))))
-          ∷ ‵ (fat fullShare (sliceTy (tyRef erased mut (tyInt w8))) (past .33) 0 (s₂))
-          ∷ ‵ (fat fullShare (tyRef erased mut (tyInt w8)) (past .32) 0 ((vptr (x₂ .ptr .0) (x₂ .ptr .1))))
-          ∷ ‵ (fat fullShare (tyRef erased mut (tyArray (tyInt w32) 128)) (past .31) 0 ((vptr b (o + 1820))))
-          ∷ ‵ (fat fullShare (tyRef erased mut (tyArray (tyInt w32) 128)) (past .30) 0 ((vptr b (o + 1308))))
-          ∷ ‵ (fat fullShare (tyRef erased mut (tyArray (tyInt w32) 128)) (past .29) 0 ((vptr b (o + 796))))
-          ∷ ‵ (fat fullShare (tyRef erased mut (tyArray (tyInt w8) 32)) (past .28) 0 ((vptr b (o + 764))))
-          ∷ ‵ (fat fullShare (tyRef erased mut (tyArray (tyInt w32) 32)) (past .27) 0 ((vptr b (o + 636))))
-          ∷ ‵ (fat fullShare (tyRef erased imm (tyArray (tyInt w32) 128)) (past .26) 0 ((vptr b (o + 124))))
-          ∷ ‵ (froom arrival-laws.mir (past .25) 0) ∷ ‵ (froom flight-laws.mir (past .24) 0)
-          ∷ ‵ (fat fullShare taken-laws.mir (past .23) 0 ((past .47))) ∷ ‵ (fat fullShare (tyInt w64) (past .22) 0 ((past .44)))
-          ∷ ‵ (fat fullShare tyBool (past .21) 0 ((past .42)))
-          ∷ ‵ (fat fullShare (tyArray record-laws.mir 32) (past .20) 0 ((past .40)))
-          ∷ ‵ (fat fullShare (tyInt w64) (past .19) 0 ((past .37)))
-          ∷ ‵ (fat fullShare (tyArray (tyInt w32) 32) (past .18) 0 ((only ((array-vals (uint-vals w32)) (h .outstanding)))))
-          ∷ ‵ (fat fullShare clock-laws.mir (past .17) 0 ((only ((LL.vals clock-row.the-type clock-laws.the-laws) (h .clock)))))
-          ∷ ‵ (fat fullShare arrival-laws.mir (past .16) 0 ((only ((LL.vals arrival-row.the-type arrival-laws.the-laws) (h .arrival)))))
-          ∷ ‵ (fat fullShare flight-laws.mir (past .15) 0 ((only ((LL.vals flight-row.the-type flight-laws.the-laws) (h .flight)))))
-          ∷ ‵ (fat fullShare settings-laws.mir (past .14) 0
+          ∷ (‵ (fdies (tyInt w32) (past .9)) ⊛ ‵ (fdies (tyRef (named 0) mut (pointee (L .written))) (past .10)) ⊛ ‵
+          (fdies (sliceTy (tyRef (named 1) imm (tyInt w8))) (past .11)) ⊛ ‵
+          (fdies (sliceTy (tyRef (named 2) mut (tyInt w8))) (past .12)) ⊛ ‵
+          (fdies (sliceTy (tyRef (named 3) mut (pointee (R .written)))) (past .13)) ⊛ ‵
+          (fdies (sliceTy (tyRef (named 4) mut (tyInt w32))) (past .14)) ⊛ ‵
+          (fdies (sliceTy (tyRef (named 5) imm (tyInt w8))) (past .15)) ⊛ ‵ (fdies settings-laws.mir (past .16)) ⊛ ‵
+          (fdies flight-laws.mir (past .17)) ⊛ ‵ (fdies arrival-laws.mir (past .18)) ⊛ ‵ (fdies clock-laws.mir (past .19)) ⊛ ‵
+          (fdies (tyArray (tyInt w32) 32) (past .20)) ⊛ ‵ (fdies (tyInt w64) (past .21)) ⊛ ‵
+          (fdies (tyArray (tyInt w32) 128) (past .22)) ⊛ ‵ (fdies (tyInt w64) (past .23)) ⊛ ‵ (fdies taken-laws.mir (past .24)) ⊛ ‵
+          (fdies (tyArray (tyInt w32) 32) (past .25)) ⊛ ‵ (fdies flight-laws.mir (past .26)) ⊛ ‵ (fdies arrival-laws.mir (past .27)) ⊛ ‵
+          (fdies (tyInt w64) (past .28)) ⊛ ‵ (fdies (tyArray (tyInt w32) 128) (past .29)) ⊛ ‵ (fdies tyUnit (past .30)) ⊛ ‵
+          (fdies (tyRef erased imm (pointee (R .written))) (past .31)) ⊛ ‵
+          (fdies (sliceTy (tyRef erased imm (pointee (R .written)))) (past .32)) ⊛ ‵
+          (fdies (tyRef erased mut (tyArray (tyInt w32) 128)) (past .33)) ⊛ ‵
+          (fdies (tyRef erased imm (pointee (R .written))) (past .34)) ⊛ ‵
+          (fdies (sliceTy (tyRef erased imm (pointee (R .written)))) (past .35)) ⊛ ‵
+          (fdies (tyRef erased mut (tyArray (tyInt w32) 128)) (past .36)) ⊛ ‵
+          (fdies (tyRef erased imm (tyArray (tyInt w32) 128)) (past .37)) ⊛ ‵
+          (fdies (tyRef erased mut (tyArray (tyInt w32) 32)) (past .38)) ⊛ ‵
+          (fdies (tyRef erased mut (tyArray (tyInt w8) 32)) (past .39)) ⊛ ‵
+          (fdies (tyRef erased mut (tyArray (tyInt w32) 128)) (past .40)) ⊛ ‵
+          (fdies (tyRef erased mut (tyArray (tyInt w32) 128)) (past .41)) ⊛ ‵
+          (fdies (tyRef erased mut (tyArray (tyInt w32) 128)) (past .42)) ⊛ ‵ (fdies (tyRef erased mut (tyInt w8)) (past .43)) ⊛ ‵
+          (fdies (sliceTy (tyRef erased mut (tyInt w8))) (past .44)) ⊛ ‵ (fdies (tyRef erased mut (tyInt w32)) (past .45)) ⊛ ‵
+          (fdies (sliceTy (tyRef erased mut (tyInt w32))) (past .46)) ⊛ ‵ (fdies (tyRef erased mut (pointee (R .written))) (past .47)) ⊛
+          ‵ (fdies (sliceTy (tyRef erased mut (pointee (R .written)))) (past .48)) ⊛ ‵
+          (fdies (tyRef erased imm (tyArray (tyInt w32) 128)) (past .49)))
+          ∷ ‵ (froom (tyRef erased imm (tyArray (tyInt w32) 128)) (past .49) 0)
+          ∷ ‵ (froom (sliceTy (tyRef erased mut (pointee (R .written)))) (past .48) 0)
+          ∷ ‵ (froom (tyRef erased mut (pointee (R .written))) (past .47) 0)
+          ∷ ‵ (fat fullShare (sliceTy (tyRef erased mut (tyInt w32))) (past .46) 0 (s₄))
+          ∷ ‵ (fat fullShare (tyRef erased mut (tyInt w32)) (past .45) 0 ((vptr (x₄ .ptr .0) (x₄ .ptr .1))))
+          ∷ ‵ (fat fullShare (sliceTy (tyRef erased mut (tyInt w8))) (past .44) 0 (s₂))
+          ∷ ‵ (fat fullShare (tyRef erased mut (tyInt w8)) (past .43) 0 ((vptr (x₂ .ptr .0) (x₂ .ptr .1))))
+          ∷ ‵ (fat fullShare (tyRef erased mut (tyArray (tyInt w32) 128)) (past .42) 0 ((vptr b (o + 1820))))
+          ∷ ‵ (fat fullShare (tyRef erased mut (tyArray (tyInt w32) 128)) (past .41) 0 ((vptr b (o + 1308))))
+          ∷ ‵ (fat fullShare (tyRef erased mut (tyArray (tyInt w32) 128)) (past .40) 0 ((vptr b (o + 796))))
+          ∷ ‵ (fat fullShare (tyRef erased mut (tyArray (tyInt w8) 32)) (past .39) 0 ((vptr b (o + 764))))
+          ∷ ‵ (fat fullShare (tyRef erased mut (tyArray (tyInt w32) 32)) (past .38) 0 ((vptr b (o + 636))))
+          ∷ ‵ (fat fullShare (tyRef erased imm (tyArray (tyInt w32) 128)) (past .37) 0 ((vptr b (o + 124))))
+          ∷ ‵ (fat fullShare (tyRef erased mut (tyArray (tyInt w32) 128)) (past .36) 0 ((vptr (past .22) 0)))
+          ∷ ‵ (fat fullShare (sliceTy (tyRef erased imm (pointee (R .written)))) (past .35) 0 (s₃))
+          ∷ ‵ (fat fullShare (tyRef erased imm (pointee (R .written))) (past .34) 0 ((vptr (x₃ .ptr .0) (x₃ .ptr .1))))
+          ∷ ‵ (fat fullShare (tyRef erased mut (tyArray (tyInt w32) 128)) (past .33) 0 ((vptr (past .22) 0)))
+          ∷ ‵ (fat fullShare (sliceTy (tyRef erased imm (pointee (R .written)))) (past .32) 0 (s₃))
+          ∷ ‵ (fat fullShare (tyRef erased imm (pointee (R .written))) (past .31) 0 ((vptr (x₃ .ptr .0) (x₃ .ptr .1))))
+          ∷ ‵ (fat fullShare tyUnit (past .30) 0 ((past .54))) ∷ ‵ (fat fullShare (tyArray (tyInt w32) 128) (past .29) 0 ((past .53)))
+          ∷ ‵ (froom (tyInt w64) (past .28) 0) ∷ ‵ (froom arrival-laws.mir (past .27) 0) ∷ ‵ (froom flight-laws.mir (past .26) 0)
+          ∷ ‵ (froom (tyArray (tyInt w32) 32) (past .25) 0) ∷ ‵ (fat fullShare taken-laws.mir (past .24) 0 ((past .60)))
+          ∷ ‵ (fat fullShare (tyInt w64) (past .23) 0 ((past .57))) ∷ ‵ (fat fullShare (tyInt w64) (past .21) 0 ((past .51)))
+          ∷ ‵ (fat fullShare (tyArray (tyInt w32) 32) (past .20) 0 ((only ((array-vals (uint-vals w32)) (h .outstanding)))))
+          ∷ ‵ (fat fullShare clock-laws.mir (past .19) 0 ((only ((LL.vals clock-row.the-type clock-laws.the-laws) (h .clock)))))
+          ∷ ‵ (fat fullShare arrival-laws.mir (past .18) 0 ((only ((LL.vals arrival-row.the-type arrival-laws.the-laws) (h .arrival)))))
+          ∷ ‵ (fat fullShare flight-laws.mir (past .17) 0 ((only ((LL.vals flight-row.the-type flight-laws.the-laws) (h .flight)))))
+          ∷ ‵ (fat fullShare settings-laws.mir (past .16) 0
           ((only ((LL.vals settings-row.the-type settings-laws.the-laws) (h .settings)))))
-          ∷ ‵ (fat fullShare (sliceTy (tyRef (named 5) imm (tyInt w8))) (past .13) 0 (s₅))
-          ∷ ‵ (fat fullShare (sliceTy (tyRef (named 4) mut (tyInt w32))) (past .12) 0 (s₄))
-          ∷ ‵ (fat fullShare (sliceTy (tyRef (named 3) imm (pointee (R .written)))) (past .11) 0 (s₃))
-          ∷ ‵ (fat fullShare (sliceTy (tyRef (named 2) mut (tyInt w8))) (past .10) 0 (s₂))
-          ∷ ‵ (fat fullShare (sliceTy (tyRef (named 1) imm (tyInt w8))) (past .9) 0 (s₁))
-          ∷ ‵ (fat fullShare (tyRef (named 0) mut (pointee (L .written))) (past .8) 0 (vptr b o)) ∷ ‵ (froom taken-laws.mir (past .7) 0)
-          ∷ []) ∵ exec ! C Λ (En (past .7) (past .8) (past .9) (past .10) (past .11) (past .12) (past .13) (past .14) (past .15)
+          ∷ ‵ (fat fullShare (sliceTy (tyRef (named 5) imm (tyInt w8))) (past .15) 0 (s₅))
+          ∷ ‵ (fat fullShare (sliceTy (tyRef (named 4) mut (tyInt w32))) (past .14) 0 (s₄))
+          ∷ ‵ (fat fullShare (sliceTy (tyRef (named 3) mut (pointee (R .written)))) (past .13) 0 (s₃))
+          ∷ ‵ (fat fullShare (sliceTy (tyRef (named 2) mut (tyInt w8))) (past .12) 0 (s₂))
+          ∷ ‵ (fat fullShare (sliceTy (tyRef (named 1) imm (tyInt w8))) (past .11) 0 (s₁))
+          ∷ ‵ (fat fullShare (tyRef (named 0) mut (pointee (L .written))) (past .10) 0 (vptr b o)) ∷ ‵ (froom (tyInt w32) (past .9) 0)
+          ∷ []) ∵ exec ! C Λ (En (past .9) (past .10) (past .11) (past .12) (past .13) (past .14) (past .15) (past .16) (past .17)
+          (past .18) (past .19) (past .20) (past .21) (past .22) (past .23) (past .24) (past .25) (past .26) (past .27) (past .28)
+          (past .29) (past .30) (past .31) (past .32) (past .33) (past .34) (past .35) (past .36) (past .37) (past .38) (past .39)
+          (past .40) (past .41) (past .42) (past .43) (past .44) (past .45) (past .46) (past .47) (past .48) (past .49))
+          (behind 27 (code.function .body)) (atRet (En (past .9) (past .10) (past .11) (past .12) (past .13) (past .14) (past .15)
           (past .16) (past .17) (past .18) (past .19) (past .20) (past .21) (past .22) (past .23) (past .24) (past .25) (past .26)
-          (past .27) (past .28) (past .29) (past .30) (past .31) (past .32) (past .33) (past .34) (past .35))
-          (behind 20 (code.function .body)) (atRet (En (past .7) (past .8) (past .9) (past .10) (past .11) (past .12) (past .13)
-          (past .14) (past .15) (past .16) (past .17) (past .18) (past .19) (past .20) (past .21) (past .22) (past .23) (past .24)
-          (past .25) (past .26) (past .27) (past .28) (past .29) (past .30) (past .31) (past .32) (past .33) (past .34) (past .35))
-          Post) $
-          nothing ! $ calls-fn ! fm flight-of.ended (flight-of.clauses 𝓤 H A at-mem run) (known .5)
-          ((tt, tt, tt, ((past .46), tt), ((past .47) ∷ [], tt)), tt) (λ kf _. kf ≡ (past .46) .flight)
+          (past .27) (past .28) (past .29) (past .30) (past .31) (past .32) (past .33) (past .34) (past .35) (past .36) (past .37)
+          (past .38) (past .39) (past .40) (past .41) (past .42) (past .43) (past .44) (past .45) (past .46) (past .47) (past .48)
+          (past .49)) Post) $
+          move ! (4 ∷ []) $ cell-out ! fullShare (Array u32 32) (array-vals (uint-vals w32))
+          (array-tells u32 (uint-vals w32) (uint-tells w32) 32) (past .7) b (o + 636) (λ was-outstanding′.
+          assigns ! {v = (only ((array-vals (uint-vals w32)) (past .7)))}
+          (of-opd ! (load ! (from ! (hop ! (look ! 60 refl) (fld ! {d = 636} refl (stop !)))) (look-raw ! 0 refl))) (from ! (stop !))
+          (init ! 46 refl (array-typed u32 (uint-lawful 𝓤 H A W w32 .typed) 32 (past .7)
+          ((only ((array-vals (uint-vals w32)) (past .7))) ∷ []) was-outstanding′ .0)) $
+          cell-in ! fullShare (Array u32 32) (array-makes 𝓤 H A W u32 (uint-makes 𝓤 H A W w32) 32) (past .7) b (o + 636)
+          (only ((array-vals (uint-vals w32)) (past .7))) was-outstanding′ $ nothing ! $
+          calls-fn ! fm flight-of.ended (flight-of.clauses 𝓤 H A at-mem run) (known .5)
+          ((tt, tt, tt, ((past .59), tt), ((past .60) ∷ [], tt)), tt) (λ kf _. kf ≡ (past .59) .flight)
           (‵ ftrue) (plainly 𝓤 H A W (taken-row.the-row ∷ []) ((LL.makes taken-row.the-type taken-laws.the-plain 𝓤 H A), tt)
-          ((past .46), tt) ((past .47) ∷ [], tt) ((past .49), tt)) (λ kf _. id⊢ 𝓤 _)
-          (and-then ! (load ! (from ! (stop !)) (look ! 33 refl)) (no-more !))
+          ((past .59), tt) ((past .60) ∷ [], tt) ((past .62), tt)) (λ kf _. id⊢ 𝓤 _)
+          (and-then ! (load ! (from ! (stop !)) (look ! 48 refl)) (no-more !))
           (λ kf w-kf _ e-kf is-kf. drop ! $ drop ! $
-          land ! (from ! (stop !)) (init ! 31 refl (LL.lawful flight-row.the-type flight-laws.the-laws 𝓤 H A W .typed kf (w-kf ∷ []) is-kf
+          land ! (from ! (stop !)) (init ! 45 refl (LL.lawful flight-row.the-type flight-laws.the-laws 𝓤 H A W .typed kf (w-kf ∷ []) is-kf
           .0)) $
-          move ! (15 ∷ []) $ cell-out ! fullShare flight-row.the-row (LL.vals flight-row.the-type flight-laws.the-laws)
+          move ! (17 ∷ []) $ cell-out ! fullShare flight-row.the-row (LL.vals flight-row.the-type flight-laws.the-laws)
           (LL.tells flight-row.the-type flight-laws.the-laws) (h .flight) b (o + 16)
-          (λ was-flight′. assigns ! (of-opd ! (load ! (from ! (stop !)) (look ! 31 refl)))
-          (from ! (hop ! (look ! 47 refl) (fld ! {d = 16} refl (stop !))))
+          (λ was-flight′. assigns ! (of-opd ! (load ! (from ! (stop !)) (look ! 45 refl)))
+          (from ! (hop ! (look ! 60 refl) (fld ! {d = 16} refl (stop !))))
           (store-raw ! 0 refl (LL.lawful flight-row.the-type flight-laws.the-laws 𝓤 H A W .typed kf (w-kf ∷ []) is-kf .0)) $
           cell-in ! fullShare flight-row.the-row (LL.makes flight-row.the-type flight-laws.the-plain 𝓤 H A) kf b (o + 16) w-kf is-kf $
           nothing ! $ calls-fn ! fm arrival-of.ended (arrival-of.clauses 𝓤 H A at-mem run) (known .6)
-          ((tt, tt, tt, ((past .46), tt), ((past .47) ∷ [], tt)), tt) (λ ka _. ka ≡ (past .46) .arrival)
+          ((tt, tt, tt, ((past .59), tt), ((past .60) ∷ [], tt)), tt) (λ ka _. ka ≡ (past .59) .arrival)
           (‵ ftrue) (plainly 𝓤 H A W (taken-row.the-row ∷ []) ((LL.makes taken-row.the-type taken-laws.the-plain 𝓤 H A), tt)
-          ((past .46), tt) ((past .47) ∷ [], tt) ((past .49), tt)) (λ ka _. id⊢ 𝓤 _)
-          (and-then ! (load ! (from ! (stop !)) (look ! 33 refl)) (no-more !))
+          ((past .59), tt) ((past .60) ∷ [], tt) ((past .62), tt)) (λ ka _. id⊢ 𝓤 _)
+          (and-then ! (load ! (from ! (stop !)) (look ! 48 refl)) (no-more !))
           (λ ka w-ka _ e-ka is-ka. drop ! $ drop ! $
-          land ! (from ! (stop !)) (init ! 30 refl (LL.lawful arrival-row.the-type arrival-laws.the-laws 𝓤 H A W .typed ka (w-ka ∷ []) is-ka
+          land ! (from ! (stop !)) (init ! 44 refl (LL.lawful arrival-row.the-type arrival-laws.the-laws 𝓤 H A W .typed ka (w-ka ∷ []) is-ka
           .0)) $
-          move ! (15 ∷ []) $ cell-out ! fullShare arrival-row.the-row (LL.vals arrival-row.the-type arrival-laws.the-laws)
+          move ! (17 ∷ []) $ cell-out ! fullShare arrival-row.the-row (LL.vals arrival-row.the-type arrival-laws.the-laws)
           (LL.tells arrival-row.the-type arrival-laws.the-laws) (h .arrival) b (o + 72)
-          (λ was-arrival′. assigns ! (of-opd ! (load ! (from ! (stop !)) (look ! 30 refl)))
-          (from ! (hop ! (look ! 47 refl) (fld ! {d = 72} refl (stop !))))
+          (λ was-arrival′. assigns ! (of-opd ! (load ! (from ! (stop !)) (look ! 44 refl)))
+          (from ! (hop ! (look ! 60 refl) (fld ! {d = 72} refl (stop !))))
           (store-raw ! 0 refl (LL.lawful arrival-row.the-type arrival-laws.the-laws 𝓤 H A W .typed ka (w-ka ∷ []) is-ka .0)) $
           cell-in ! fullShare arrival-row.the-row (LL.makes arrival-row.the-type arrival-laws.the-plain 𝓤 H A) ka b (o + 72) w-ka
           is-ka $ move ! (7 ∷ []) $ tells-length ! fullShare u32 128 (h .queued) b (o + 124)
-          (λ end-queued. move ! (7 ∷ []) $
-          tells-length ! fullShare u32 32 (past .6) b (o + 636)
+          (λ end-queued. move ! (3 ∷ []) $
+          tells-length ! fullShare u32 32 (past .7) b (o + 636)
           (λ end-outstanding. move ! (7 ∷ []) $
-          tells-length ! fullShare u8 32 (past .5) b (o + 764)
+          tells-length ! fullShare u8 32 (past .6) b (o + 764)
           (λ end-transmissions. move ! (7 ∷ []) $
-          tells-length ! fullShare u32 128 (past .4) b (o + 796)
+          tells-length ! fullShare u32 128 (past .5) b (o + 796)
           (λ end-ready. move ! (7 ∷ []) $
-          tells-length ! fullShare u32 128 (past .3) b (o + 1308)
+          tells-length ! fullShare u32 128 (past .4) b (o + 1308)
           (λ end-waiting. move ! (7 ∷ []) $
-          tells-length ! fullShare u32 128 (past .2) b (o + 1820)
-          (λ end-waiting-numbers. move ! (16 ∷ 7 ∷ 6 ∷ 15 ∷ 5 ∷ 4 ∷ 3 ∷ 2 ∷ 1 ∷ 0 ∷ 17 ∷ 18 ∷ []) $
+          tells-length ! fullShare u32 128 (past .3) b (o + 1820)
+          (λ end-waiting-numbers. move ! (18 ∷ 7 ∷ 6 ∷ 17 ∷ 5 ∷ 4 ∷ 3 ∷ 2 ∷ 1 ∷ 0 ∷ 19 ∷ 20 ∷ []) $
           closes-link b o γ ! tt h (record {
             settings = (h .settings);
             flight = kf;
             arrival = ka;
             clock = (h .clock);
             queued = (h .queued);
-            outstanding = (past .6);
-            transmissions = (past .5);
-            ready = (past .4);
-            waiting = (past .3);
-            «waiting_numbers» = (past .2);
+            outstanding = (past .7);
+            transmissions = (past .6);
+            ready = (past .5);
+            waiting = (past .4);
+            «waiting_numbers» = (past .3);
           }) $
-          -- [own0; tok0; fin4; fin2; tok1; tok2; tok4; tok5; tok3; deaths; the locals]
-          assigns ! {v = (past .47)} (of-opd ! (load ! (from ! (stop !)) (look ! 22 refl))) (from ! (stop !))
-          (init ! 38 refl (LL.lawful taken-row.the-type taken-laws.the-laws 𝓤 H A W .typed (past .46) ((past .47) ∷ []) (past .49)
-          .0)) $
-          returns ! (look ! 38 refl) $
-          move ! (9 ∷ []) $ spread W (‵ (fdies taken-laws.mir (past .7)))
-          (‵ (fdies (tyRef (named 0) mut (pointee (L .written))) (past .8))
-          ∷ ‵ (fdies (sliceTy (tyRef (named 1) imm (tyInt w8))) (past .9))
-          ∷ ‵ (fdies (sliceTy (tyRef (named 2) mut (tyInt w8))) (past .10))
-          ∷ ‵ (fdies (sliceTy (tyRef (named 3) imm (pointee (R .written)))) (past .11))
-          ∷ ‵ (fdies (sliceTy (tyRef (named 4) mut (tyInt w32))) (past .12))
-          ∷ ‵ (fdies (sliceTy (tyRef (named 5) imm (tyInt w8))) (past .13)) ∷ ‵ (fdies settings-laws.mir (past .14))
-          ∷ ‵ (fdies flight-laws.mir (past .15)) ∷ ‵ (fdies arrival-laws.mir (past .16)) ∷ ‵ (fdies clock-laws.mir (past .17))
-          ∷ ‵ (fdies (tyArray (tyInt w32) 32) (past .18)) ∷ ‵ (fdies (tyInt w64) (past .19))
-          ∷ ‵ (fdies (tyArray record-laws.mir 32) (past .20)) ∷ ‵ (fdies tyBool (past .21)) ∷ ‵ (fdies (tyInt w64) (past .22))
-          ∷ ‵ (fdies taken-laws.mir (past .23)) ∷ ‵ (fdies flight-laws.mir (past .24)) ∷ ‵ (fdies arrival-laws.mir (past .25))
-          ∷ ‵ (fdies (tyRef erased imm (tyArray (tyInt w32) 128)) (past .26))
-          ∷ ‵ (fdies (tyRef erased mut (tyArray (tyInt w32) 32)) (past .27))
-          ∷ ‵ (fdies (tyRef erased mut (tyArray (tyInt w8) 32)) (past .28))
-          ∷ ‵ (fdies (tyRef erased mut (tyArray (tyInt w32) 128)) (past .29))
-          ∷ ‵ (fdies (tyRef erased mut (tyArray (tyInt w32) 128)) (past .30))
-          ∷ ‵ (fdies (tyRef erased mut (tyArray (tyInt w32) 128)) (past .31)) ∷ ‵ (fdies (tyRef erased mut (tyInt w8)) (past .32))
-          ∷ ‵ (fdies (sliceTy (tyRef erased mut (tyInt w8))) (past .33)) ∷ ‵ (fdies (tyRef erased mut (tyInt w32)) (past .34))
-          ∷ ‵ (fdies (sliceTy (tyRef erased mut (tyInt w32))) (past .35)) ∷ []) (id⊢ 𝓤 _) $
-          move ! (66 ∷ 0 ∷ 65 ∷ 1 ∷ 64 ∷ 2 ∷ 63 ∷ 3 ∷ 62 ∷ 4 ∷ 61 ∷ 5 ∷ 60 ∷ 6 ∷ 59 ∷ 7 ∷ 58 ∷ 8 ∷ 57 ∷ 9 ∷ 56 ∷ 10
-          ∷ 55 ∷ 11 ∷ 54 ∷ 12
-          ∷ 53 ∷ 13 ∷ 52 ∷ 14 ∷ 51 ∷ 15 ∷ 50 ∷ 16 ∷ 49 ∷ 17 ∷ 48 ∷ 18 ∷ 47 ∷ 19 ∷ 46 ∷ 20 ∷ 45 ∷ 21 ∷ 44 ∷ 22 ∷ 43
-          ∷ 23 ∷ 42 ∷ 24 ∷ 41
-          ∷ 25 ∷ 40 ∷ 26 ∷ 39 ∷ 27 ∷ 38 ∷ 28 ∷ []) $ forget ! 0 refl $ free1 ! $ forget ! 0 refl $ free1 ! $ forget ! 0 refl $ free1 ! $
-          forget ! 0 refl $ free1 ! $ forget ! 0 refl $ free1 ! $ forget ! 0 refl $ free1 ! $ forget ! 0 refl $ free1 ! $
-          forget ! 0 refl $ free1 ! $ forget ! 0 refl $ free1 ! $ forget ! 0 refl $ free1 ! $ forget ! 0 refl $ free1 ! $
-          forget ! 0 refl $ free1 ! $ forget ! 0 refl $ free1 ! $ forget ! 0 refl $ free1 ! $ forget ! 0 refl $ free1 ! $
-          forget ! 0 refl $ free1 ! $ forget ! 0 refl $ free1 ! $ forget ! 0 refl $ free1 ! $ forget ! 0 refl $ free1 ! $
-          forget ! 0 refl $ free1 ! $ forget ! 0 refl $ free1 ! $ forget ! 0 refl $ free1 ! $ forget ! 0 refl $ free1 ! $
-          forget ! 0 refl $ free1 ! $ forget ! 0 refl $ free1 ! $ forget ! 0 refl $ free1 ! $ forget ! 0 refl $ free1 ! $
-          forget ! 0 refl $ free1 ! $ forget ! 0 refl $ free1 ! $ free0 ! $
-          move ! (0 ∷ 1 ∷ 4 ∷ 3 ∷ 5 ∷ 8 ∷ 2 ∷ 6 ∷ 7 ∷ []) $
-          by ! (exits (past .46) (past .47) (record {
-            settings = (h .settings);
-            flight = kf;
-            arrival = ka;
-            clock = (h .clock);
-            queued = (h .queued);
-            outstanding = (past .6);
-            transmissions = (past .5);
-            ready = (past .4);
-            waiting = (past .3);
-            «waiting_numbers» = (past .2);
-          }) ((past .1)) ((past .0))
-          (rw (e-kf, e-ka) (input-left (x₅ .now) h (partsOf (x₁ .now) (x₂ .now) (x₃ .now) (x₄ .now)) ((past .46) .answer)
-          (takenBack (past .46)) (linkOf (h .settings) ((past .46) .flight) ((past .46) .arrival) (h .clock)
-          (arrays (h .queued) (past .6) (past .5) (past .4) (past .3) (past .2))) (past .1) (past .0) (past .39) (past .43)
-          (gathers h (partsOf (x₁ .now) (x₂ .now) (x₃ .now) (x₄ .now)) (past .36) (past .39) (past .43) (past .38) (past .41)
-          (past .45)) (record {
-            whole-queued = end-queued;
-            whole-outstanding = end-outstanding;
-            whole-transmissions = end-transmissions;
-            whole-ready = end-ready;
-            whole-waiting = end-waiting;
-            whole-numbers = end-waiting-numbers;
-          }) (past .48))) (past .50)
-          (past .51) (past .49))))))))))))
+          -- [own0; tok0; fin4; fin2; tok1; tok2; tok4; tok5; own3; tok3; deaths; the locals]
+          by ! (part₃ (
+            ((past .0)),
+            ((past .1)),
+            ((past .0)),
+            ((past .1)),
+            (past .2),
+            (past .3),
+            (past .4),
+            (past .5),
+            (past .6),
+            (past .7),
+            (past .8),
+            (past .9),
+            (past .10),
+            (past .11),
+            (past .12),
+            (past .13),
+            (past .14),
+            (past .15),
+            (past .16),
+            (past .17),
+            (past .18),
+            (past .19),
+            (past .20),
+            (past .21),
+            (past .22),
+            (past .23),
+            (past .24),
+            (past .25),
+            (past .26),
+            (past .27),
+            (past .28),
+            (past .29),
+            (past .30),
+            (past .31),
+            (past .32),
+            (past .33),
+            (past .34),
+            (past .35),
+            (past .36),
+            (past .37),
+            (past .38),
+            (past .39),
+            (past .40),
+            (past .41),
+            (past .42),
+            (past .43),
+            (past .44),
+            (past .45),
+            (past .46),
+            (past .47),
+            (past .48),
+            (past .49),
+            (past .50),
+            (past .51),
+            (past .52),
+            (past .53),
+            (past .54),
+            (past .55),
+            (past .56),
+            (past .57),
+            (past .58),
+            (past .59),
+            (past .60),
+            (past .61),
+            (past .62),
+            (past .63),
+            (past .64),
+            (past .65),
+            was-outstanding′,
+            kf,
+            w-kf,
+            e-kf,
+            ka,
+            w-ka,
+            e-ka,
+            end-queued,
+            end-outstanding,
+            end-transmissions,
+            end-ready,
+            end-waiting,
+            end-waiting-numbers,
+          )))))))))))))
 
       -- what part 1 knows
       abbrev Known₁ : Type 0
-      Known₁ = (l₀ : ℕ) × (l₁ : ℕ) × (l₂ : ℕ) × (l₃ : ℕ) × (l₄ : ℕ) × (l₅ : ℕ) × (l₆ : ℕ) × (l₇ : ℕ) × (l₈ : ℕ) ×
-          (l₉ : ℕ) × (l₁₀ : ℕ) ×
-          (l₁₁ : ℕ) × (l₁₂ : ℕ) × (l₁₃ : ℕ) × (l₁₄ : ℕ) × (l₁₅ : ℕ) × (l₁₆ : ℕ) × (l₁₇ : ℕ) ×
-          (l₁₈ : ℕ) × (l₁₉ : ℕ) × (l₂₀ : ℕ) ×
-          (l₂₁ : ℕ) × (l₂₂ : ℕ) × (l₂₃ : ℕ) × (l₂₄ : ℕ) × (l₂₅ : ℕ) × (l₂₆ : ℕ) × (l₂₇ : ℕ) × (l₂₈ : ℕ)
-          ×
-          (len-queued : length (h .queued) ≡ 128) × (len-outstanding : length (h .outstanding) ≡ 32) ×
-          (len-transmissions : length (h .transmissions) ≡ 32) × (len-ready : length (h .ready) ≡ 128) ×
-          (len-waiting : length (h .waiting) ≡ 128) × (len-waiting-numbers : length (h .«waiting_numbers») ≡ 128) ×
+      Known₁ = (z-local : List ℕ) × (l₀ : ℕ) × (l₁ : ℕ) × (l₂ : ℕ) × (l₃ : ℕ) × (l₄ : ℕ) × (l₅ : ℕ) × (l₆ : ℕ) ×
+          (l₇ : ℕ) × (l₈ : ℕ) × (l₉ : ℕ) × (l₁₀ : ℕ) × (l₁₁ : ℕ) × (l₁₂ : ℕ) × (l₁₃ : ℕ) × (l₁₄ : ℕ) ×
+          (l₁₅ : ℕ) × (l₁₆ : ℕ) × (l₁₇ : ℕ) × (l₁₈ : ℕ) × (l₁₉ : ℕ) × (l₂₀ : ℕ) × (l₂₁ : ℕ) ×
+          (l₂₂ : ℕ) × (l₂₃ : ℕ) × (l₂₄ : ℕ) × (l₂₅ : ℕ) × (l₂₆ : ℕ) × (l₂₇ : ℕ) × (l₂₈ : ℕ) ×
+          (l₂₉ : ℕ) × (l₃₀ : ℕ) × (l₃₁ : ℕ) × (l₃₂ : ℕ) × (l₃₃ : ℕ) × (l₃₄ : ℕ) × (l₃₅ : ℕ) ×
+          (l₃₆ : ℕ) × (l₃₇ : ℕ) × (l₃₈ : ℕ) × (l₃₉ : ℕ) × (l₄₀ : ℕ) × (len-queued : length (h .queued) ≡ 128) ×
+          (len-outstanding : length (h .outstanding) ≡ 32) × (len-transmissions : length (h .transmissions) ≡ 32) ×
+          (len-ready : length (h .ready) ≡ 128) × (len-waiting : length (h .waiting) ≡ 128) ×
+          (len-waiting-numbers : length (h .«waiting_numbers») ≡ 128) ×
           (was-settings : Is settings-row.the-row (h .settings) ((LL.vals settings-row.the-type settings-laws.the-laws) (h .settings))) ×
           (was-flight : Is flight-row.the-row (h .flight) ((LL.vals flight-row.the-type flight-laws.the-laws) (h .flight))) ×
           (was-arrival : Is arrival-row.the-row (h .arrival) ((LL.vals arrival-row.the-type arrival-laws.the-laws) (h .arrival))) ×
           (was-clock : Is clock-row.the-row (h .clock) ((LL.vals clock-row.the-type clock-laws.the-laws) (h .clock))) × (n : ℕ) ×
-          (w-n : Val) × (e-n : n ≡ h .flight .outstanding) × (recs : (List Record)) × (w-recs : Val) ×
-          (e-recs : recs ≡ padded (gathered (take sendSlots (x₃ .now)) (slotsIn (h .outstanding) n))) ×
-          (is-recs : Is Rs recs (w-recs ∷ [])) × (fl : Bool) × (w-fl : Val) ×
-          (e-fl : fl ≡ flightFits (h .settings .mode) (h .flight .una) (h .flight .next)
-          (take (h .flight .outstanding) (padded (gathered (take sendSlots (x₃ .now))
-          (slotsIn (h .outstanding) (h .flight .outstanding)))))) × (is-fl : Is Boolean fl (w-fl ∷ [])) × (m : ℕ) × (w-m : Val) ×
+          (w-n : Val) × (e-n : n ≡ h .flight .outstanding) × (w-blanks : Val) × (w-g : Val) ×
+          (e-g : (length z-local ≡ 128) × (recordsIn z-local ≡ padded (gathered (take sendSlots (x₃ .now)) (slotsIn (h .outstanding) n)))) ×
+          (was-local-1 : Is (Array u32 128) z-local ((array-vals (uint-vals w32)) z-local)) × (m : ℕ) × (w-m : Val) ×
           (e-m : m ≡ length (x₃ .now)) × (Is usize m (w-m ∷ []))
 
-      part₁ : (past : Known₁) → ent 𝓤 (⋆ 𝓤 H A (‵ (flft κ₃ q₃) ∷ ‵ (partAt (Array u32 32) fullShare (h .outstanding) b (o + 636))
-          ∷ ‵ (partAt clock-row.the-row fullShare (h .clock) b (o + 104)) ∷ ‵ (partAt arrival-row.the-row fullShare (h .arrival) b (o + 72))
+      part₁ : (past : Known₁) → ent 𝓤 (⋆ 𝓤 H A (‵ Own₃ ∷ ‵ (flft κ₃ q₃)
+          ∷ ‵ (fat fullShare (tyArray (tyInt w32) 128) (past .14) 0 ((only ((array-vals (uint-vals w32)) (past .0)))))
+          ∷ ‵ (partAt (Array u32 32) fullShare (h .outstanding) b (o + 636)) ∷ ‵ (partAt clock-row.the-row fullShare (h .clock) b (o + 104))
+          ∷ ‵ (partAt arrival-row.the-row fullShare (h .arrival) b (o + 72))
           ∷ ‵ (partAt flight-row.the-row fullShare (h .flight) b (o + 16))
           ∷ ‵ (partAt settings-row.the-row fullShare (h .settings) b (o + 0))
           ∷ ‵ (partAt (Array u32 128) fullShare (h .«waiting_numbers») b (o + 1820))
           ∷ ‵ (partAt (Array u32 128) fullShare (h .waiting) b (o + 1308)) ∷ ‵ (partAt (Array u32 128) fullShare (h .ready) b (o + 796))
           ∷ ‵ (partAt (Array u8 32) fullShare (h .transmissions) b (o + 764)) ∷ ‵ (partAt (Array u32 128) fullShare (h .queued) b (o + 124))
           ∷ raw (Back 𝓤 H A fullShare b o) ∷ ‵ (Open b o γ κ₀ q₀ h)
-          ∷ (‵ (fdies taken-laws.mir (past .0)) ⊛ ‵ (fdies (tyRef (named 0) mut (pointee (L .written))) (past .1)) ⊛ ‵
-          (fdies (sliceTy (tyRef (named 1) imm (tyInt w8))) (past .2)) ⊛ ‵ (fdies (sliceTy (tyRef (named 2) mut (tyInt w8))) (past .3)) ⊛ ‵
-          (fdies (sliceTy (tyRef (named 3) imm (pointee (R .written)))) (past .4)) ⊛ ‵
-          (fdies (sliceTy (tyRef (named 4) mut (tyInt w32))) (past .5)) ⊛ ‵ (fdies (sliceTy (tyRef (named 5) imm (tyInt w8))) (past .6)) ⊛ ‵
-          (fdies settings-laws.mir (past .7)) ⊛ ‵ (fdies flight-laws.mir (past .8)) ⊛ ‵ (fdies arrival-laws.mir (past .9)) ⊛ ‵
-          (fdies clock-laws.mir (past .10)) ⊛ ‵ (fdies (tyArray (tyInt w32) 32) (past .11)) ⊛ ‵ (fdies (tyInt w64) (past .12)) ⊛ ‵
-          (fdies (tyArray record-laws.mir 32) (past .13)) ⊛ ‵ (fdies tyBool (past .14)) ⊛ ‵ (fdies (tyInt w64) (past .15)) ⊛ ‵
-          (fdies taken-laws.mir (past .16)) ⊛ ‵ (fdies flight-laws.mir (past .17)) ⊛ ‵ (fdies arrival-laws.mir (past .18)) ⊛ ‵
-          (fdies (tyRef erased imm (tyArray (tyInt w32) 128)) (past .19)) ⊛ ‵ (fdies (tyRef erased mut (tyArray (tyInt w32) 32)) (past .20))
-          ⊛ ‵ (fdies (tyRef erased mut (tyArray (tyInt w8) 32)) (past .21)) ⊛ ‵
-          (fdies (tyRef erased mut (tyArray (tyInt w32) 128)) (past .22)) ⊛ ‵
-          (fdies (tyRef erased mut (tyArray (tyInt w32) 128)) (past .23)) ⊛ ‵
-          (fdies (tyRef erased mut (tyArray (tyInt w32) 128)) (past .24)) ⊛ ‵ (fdies (tyRef erased mut (tyInt w8)) (past .25)) ⊛ ‵
-          (fdies (sliceTy (tyRef erased mut (tyInt w8))) (past .26)) ⊛ ‵ (fdies (tyRef erased mut (tyInt w32)) (past .27)) ⊛ ‵
-          (fdies (sliceTy (tyRef erased mut (tyInt w32))) (past .28))) ∷ ‵ (flft κ₁ q₁) ∷ ‵ (flft κ₂ q₂) ∷ ‵ (flft κ₄ q₄)
-          ∷ ‵ (flft κ₅ q₅)
-          ∷ ‵ Own₁ ∷ ‵ Own₂ ∷ ‵ Own₄ ∷ ‵ Own₅ ∷ ‵ (froom (sliceTy (tyRef erased mut (tyInt w32))) (past .28) 0)
-          ∷ ‵ (froom (tyRef erased mut (tyInt w32)) (past .27) 0) ∷ ‵ (froom (sliceTy (tyRef erased mut (tyInt w8))) (past .26) 0)
-          ∷ ‵ (froom (tyRef erased mut (tyInt w8)) (past .25) 0) ∷ ‵ (froom (tyRef erased mut (tyArray (tyInt w32) 128)) (past .24) 0)
-          ∷ ‵ (froom (tyRef erased mut (tyArray (tyInt w32) 128)) (past .23) 0)
-          ∷ ‵ (froom (tyRef erased mut (tyArray (tyInt w32) 128)) (past .22) 0)
-          ∷ ‵ (froom (tyRef erased mut (tyArray (tyInt w8) 32)) (past .21) 0)
-          ∷ ‵ (froom (tyRef erased mut (tyArray (tyInt w32) 32)) (past .20) 0)
-          ∷ ‵ (froom (tyRef erased imm (tyArray (tyInt w32) 128)) (past .19) 0) ∷ ‵ (froom arrival-laws.mir (past .18) 0)
-          ∷ ‵ (froom flight-laws.mir (past .17) 0) ∷ ‵ (froom taken-laws.mir (past .16) 0)
-          ∷ ‵ (fat fullShare (tyInt w64) (past .15) 0 ((past .51))) ∷ ‵ (fat fullShare tyBool (past .14) 0 ((past .47)))
-          ∷ ‵ (fat fullShare (tyArray record-laws.mir 32) (past .13) 0 ((past .43)))
-          ∷ ‵ (fat fullShare (tyInt w64) (past .12) 0 ((past .40)))
-          ∷ ‵ (fat fullShare (tyArray (tyInt w32) 32) (past .11) 0 ((only ((array-vals (uint-vals w32)) (h .outstanding)))))
-          ∷ ‵ (fat fullShare clock-laws.mir (past .10) 0 ((only ((LL.vals clock-row.the-type clock-laws.the-laws) (h .clock)))))
-          ∷ ‵ (fat fullShare arrival-laws.mir (past .9) 0 ((only ((LL.vals arrival-row.the-type arrival-laws.the-laws) (h .arrival)))))
-          ∷ ‵ (fat fullShare flight-laws.mir (past .8) 0 ((only ((LL.vals flight-row.the-type flight-laws.the-laws) (h .flight)))))
-          ∷ ‵ (fat fullShare settings-laws.mir (past .7) 0 ((only ((LL.vals settings-row.the-type settings-laws.the-laws) (h .settings)))))
-          ∷ ‵ (fat fullShare (sliceTy (tyRef (named 5) imm (tyInt w8))) (past .6) 0 (s₅))
-          ∷ ‵ (fat fullShare (sliceTy (tyRef (named 4) mut (tyInt w32))) (past .5) 0 (s₄))
-          ∷ ‵ (fat fullShare (sliceTy (tyRef (named 3) imm (pointee (R .written)))) (past .4) 0 (s₃))
-          ∷ ‵ (fat fullShare (sliceTy (tyRef (named 2) mut (tyInt w8))) (past .3) 0 (s₂))
-          ∷ ‵ (fat fullShare (sliceTy (tyRef (named 1) imm (tyInt w8))) (past .2) 0 (s₁))
-          ∷ ‵ (fat fullShare (tyRef (named 0) mut (pointee (L .written))) (past .1) 0 (vptr b o)) ∷ ‵ (froom taken-laws.mir (past .0) 0)
-          ∷ [])) (Wp 𝓤 H C Λ (En (past .0) (past .1) (past .2) (past .3) (past .4) (past .5) (past .6) (past .7) (past .8) (past .9)
-          (past .10) (past .11) (past .12) (past .13) (past .14) (past .15) (past .16) (past .17) (past .18) (past .19) (past .20)
-          (past .21) (past .22) (past .23) (past .24) (past .25) (past .26) (past .27) (past .28)) (behind 9 (code.function .body))
-          (atReturn 𝓤 H (En (past .0) (past .1) (past .2) (past .3) (past .4) (past .5) (past .6) (past .7) (past .8) (past .9) (past .10)
-          (past .11) (past .12) (past .13) (past .14) (past .15) (past .16) (past .17) (past .18) (past .19) (past .20) (past .21)
-          (past .22) (past .23) (past .24) (past .25) (past .26) (past .27) (past .28)) Post))
+          ∷ (‵ (fdies (tyInt w32) (past .1)) ⊛ ‵ (fdies (tyRef (named 0) mut (pointee (L .written))) (past .2)) ⊛ ‵
+          (fdies (sliceTy (tyRef (named 1) imm (tyInt w8))) (past .3)) ⊛ ‵ (fdies (sliceTy (tyRef (named 2) mut (tyInt w8))) (past .4)) ⊛ ‵
+          (fdies (sliceTy (tyRef (named 3) mut (pointee (R .written)))) (past .5)) ⊛ ‵
+          (fdies (sliceTy (tyRef (named 4) mut (tyInt w32))) (past .6)) ⊛ ‵ (fdies (sliceTy (tyRef (named 5) imm (tyInt w8))) (past .7)) ⊛ ‵
+          (fdies settings-laws.mir (past .8)) ⊛ ‵ (fdies flight-laws.mir (past .9)) ⊛ ‵ (fdies arrival-laws.mir (past .10)) ⊛ ‵
+          (fdies clock-laws.mir (past .11)) ⊛ ‵ (fdies (tyArray (tyInt w32) 32) (past .12)) ⊛ ‵ (fdies (tyInt w64) (past .13)) ⊛ ‵
+          (fdies (tyArray (tyInt w32) 128) (past .14)) ⊛ ‵ (fdies (tyInt w64) (past .15)) ⊛ ‵ (fdies taken-laws.mir (past .16)) ⊛ ‵
+          (fdies (tyArray (tyInt w32) 32) (past .17)) ⊛ ‵ (fdies flight-laws.mir (past .18)) ⊛ ‵ (fdies arrival-laws.mir (past .19)) ⊛ ‵
+          (fdies (tyInt w64) (past .20)) ⊛ ‵ (fdies (tyArray (tyInt w32) 128) (past .21)) ⊛ ‵ (fdies tyUnit (past .22)) ⊛ ‵
+          (fdies (tyRef erased imm (pointee (R .written))) (past .23)) ⊛ ‵
+          (fdies (sliceTy (tyRef erased imm (pointee (R .written)))) (past .24)) ⊛ ‵
+          (fdies (tyRef erased mut (tyArray (tyInt w32) 128)) (past .25)) ⊛ ‵ (fdies (tyRef erased imm (pointee (R .written))) (past .26)) ⊛
+          ‵ (fdies (sliceTy (tyRef erased imm (pointee (R .written)))) (past .27)) ⊛ ‵
+          (fdies (tyRef erased mut (tyArray (tyInt w32) 128)) (past .28)) ⊛ ‵
+          (fdies (tyRef erased imm (tyArray (tyInt w32) 128)) (past .29)) ⊛ ‵ (fdies (tyRef erased mut (tyArray (tyInt w32) 32)) (past .30))
+          ⊛ ‵ (fdies (tyRef erased mut (tyArray (tyInt w8) 32)) (past .31)) ⊛ ‵
+          (fdies (tyRef erased mut (tyArray (tyInt w32) 128)) (past .32)) ⊛ ‵
+          (fdies (tyRef erased mut (tyArray (tyInt w32) 128)) (past .33)) ⊛ ‵
+          (fdies (tyRef erased mut (tyArray (tyInt w32) 128)) (past .34)) ⊛ ‵ (fdies (tyRef erased mut (tyInt w8)) (past .35)) ⊛ ‵
+          (fdies (sliceTy (tyRef erased mut (tyInt w8))) (past .36)) ⊛ ‵ (fdies (tyRef erased mut (tyInt w32)) (past .37)) ⊛ ‵
+          (fdies (sliceTy (tyRef erased mut (tyInt w32))) (past .38)) ⊛ ‵ (fdies (tyRef erased mut (pointee (R .written))) (past .39)) ⊛ ‵
+          (fdies (sliceTy (tyRef erased mut (pointee (R .written)))) (past .40)) ⊛ ‵
+          (fdies (tyRef erased imm (tyArray (tyInt w32) 128)) (past .41))) ∷ ‵ (flft κ₁ q₁) ∷ ‵ (flft κ₂ q₂) ∷ ‵ (flft κ₄ q₄)
+          ∷ ‵ (flft κ₅ q₅) ∷ ‵ Own₁ ∷ ‵ Own₂ ∷ ‵ Own₄ ∷ ‵ Own₅
+          ∷ ‵ (froom (tyRef erased imm (tyArray (tyInt w32) 128)) (past .41) 0)
+          ∷ ‵ (froom (sliceTy (tyRef erased mut (pointee (R .written)))) (past .40) 0)
+          ∷ ‵ (froom (tyRef erased mut (pointee (R .written))) (past .39) 0)
+          ∷ ‵ (froom (sliceTy (tyRef erased mut (tyInt w32))) (past .38) 0) ∷ ‵ (froom (tyRef erased mut (tyInt w32)) (past .37) 0)
+          ∷ ‵ (froom (sliceTy (tyRef erased mut (tyInt w8))) (past .36) 0) ∷ ‵ (froom (tyRef erased mut (tyInt w8)) (past .35) 0)
+          ∷ ‵ (froom (tyRef erased mut (tyArray (tyInt w32) 128)) (past .34) 0)
+          ∷ ‵ (froom (tyRef erased mut (tyArray (tyInt w32) 128)) (past .33) 0)
+          ∷ ‵ (froom (tyRef erased mut (tyArray (tyInt w32) 128)) (past .32) 0)
+          ∷ ‵ (froom (tyRef erased mut (tyArray (tyInt w8) 32)) (past .31) 0)
+          ∷ ‵ (froom (tyRef erased mut (tyArray (tyInt w32) 32)) (past .30) 0)
+          ∷ ‵ (froom (tyRef erased imm (tyArray (tyInt w32) 128)) (past .29) 0)
+          ∷ ‵ (fat fullShare (tyRef erased mut (tyArray (tyInt w32) 128)) (past .28) 0 ((vptr (past .14) 0)))
+          ∷ ‵ (fat fullShare (sliceTy (tyRef erased imm (pointee (R .written)))) (past .27) 0 (s₃))
+          ∷ ‵ (fat fullShare (tyRef erased imm (pointee (R .written))) (past .26) 0 ((vptr (x₃ .ptr .0) (x₃ .ptr .1))))
+          ∷ ‵ (fat fullShare (tyRef erased mut (tyArray (tyInt w32) 128)) (past .25) 0 ((vptr (past .14) 0)))
+          ∷ ‵ (fat fullShare (sliceTy (tyRef erased imm (pointee (R .written)))) (past .24) 0 (s₃))
+          ∷ ‵ (fat fullShare (tyRef erased imm (pointee (R .written))) (past .23) 0 ((vptr (x₃ .ptr .0) (x₃ .ptr .1))))
+          ∷ ‵ (fat fullShare tyUnit (past .22) 0 ((past .56))) ∷ ‵ (fat fullShare (tyArray (tyInt w32) 128) (past .21) 0 ((past .55)))
+          ∷ ‵ (froom (tyInt w64) (past .20) 0) ∷ ‵ (froom arrival-laws.mir (past .19) 0) ∷ ‵ (froom flight-laws.mir (past .18) 0)
+          ∷ ‵ (froom (tyArray (tyInt w32) 32) (past .17) 0) ∷ ‵ (froom taken-laws.mir (past .16) 0)
+          ∷ ‵ (fat fullShare (tyInt w64) (past .15) 0 ((past .60))) ∷ ‵ (fat fullShare (tyInt w64) (past .13) 0 ((past .53)))
+          ∷ ‵ (fat fullShare (tyArray (tyInt w32) 32) (past .12) 0 ((only ((array-vals (uint-vals w32)) (h .outstanding)))))
+          ∷ ‵ (fat fullShare clock-laws.mir (past .11) 0 ((only ((LL.vals clock-row.the-type clock-laws.the-laws) (h .clock)))))
+          ∷ ‵ (fat fullShare arrival-laws.mir (past .10) 0 ((only ((LL.vals arrival-row.the-type arrival-laws.the-laws) (h .arrival)))))
+          ∷ ‵ (fat fullShare flight-laws.mir (past .9) 0 ((only ((LL.vals flight-row.the-type flight-laws.the-laws) (h .flight)))))
+          ∷ ‵ (fat fullShare settings-laws.mir (past .8) 0 ((only ((LL.vals settings-row.the-type settings-laws.the-laws) (h .settings)))))
+          ∷ ‵ (fat fullShare (sliceTy (tyRef (named 5) imm (tyInt w8))) (past .7) 0 (s₅))
+          ∷ ‵ (fat fullShare (sliceTy (tyRef (named 4) mut (tyInt w32))) (past .6) 0 (s₄))
+          ∷ ‵ (fat fullShare (sliceTy (tyRef (named 3) mut (pointee (R .written)))) (past .5) 0 (s₃))
+          ∷ ‵ (fat fullShare (sliceTy (tyRef (named 2) mut (tyInt w8))) (past .4) 0 (s₂))
+          ∷ ‵ (fat fullShare (sliceTy (tyRef (named 1) imm (tyInt w8))) (past .3) 0 (s₁))
+          ∷ ‵ (fat fullShare (tyRef (named 0) mut (pointee (L .written))) (past .2) 0 (vptr b o)) ∷ ‵ (froom (tyInt w32) (past .1) 0) ∷ []))
+          (Wp 𝓤 H C Λ (En (past .1) (past .2) (past .3) (past .4) (past .5) (past .6) (past .7) (past .8) (past .9) (past .10) (past .11)
+          (past .12) (past .13) (past .14) (past .15) (past .16) (past .17) (past .18) (past .19) (past .20) (past .21) (past .22)
+          (past .23) (past .24) (past .25) (past .26) (past .27) (past .28) (past .29) (past .30) (past .31) (past .32) (past .33)
+          (past .34) (past .35) (past .36) (past .37) (past .38) (past .39) (past .40) (past .41)) (behind 16 (code.function .body))
+          (atReturn 𝓤 H (En (past .1) (past .2) (past .3) (past .4) (past .5) (past .6) (past .7) (past .8) (past .9) (past .10) (past .11)
+          (past .12) (past .13) (past .14) (past .15) (past .16) (past .17) (past .18) (past .19) (past .20) (past .21) (past .22)
+          (past .23) (past .24) (past .25) (past .26) (past .27) (past .28) (past .29) (past .30) (past .31) (past .32) (past .33)
+          (past .34) (past .35) (past .36) (past .37) (past .38) (past .39) (past .40) (past .41)) Post))
       part₁ past =
-          qed W (‵ (flft κ₃ q₃) ∷ ‵ (partAt (Array u32 32) fullShare (h .outstanding) b (o + 636))
+          qed W (‵ Own₃ ∷ ‵ (flft κ₃ q₃) ∷ ‵ (fat fullShare (tyArray (tyInt w32) 128) (past .14) 0
+          ((only ((array-vals (uint-vals w32)) (past .0))))) ∷ ‵ (partAt (Array u32 32) fullShare (h .outstanding) b (o + 636))
           ∷ ‵ (partAt clock-row.the-row fullShare (h .clock) b (o + 104))
           ∷ ‵ (partAt arrival-row.the-row fullShare (h .arrival) b (o + 72))
           ∷ ‵ (partAt flight-row.the-row fullShare (h .flight) b (o + 16))
@@ -874,105 +1325,134 @@ module _ {M : Type 1} (𝓤 : URA M) (H : Heap 𝓤) (A : Atoms 𝓤) (W : Given
           ∷ ‵ (partAt (Array u32 128) fullShare (h .waiting) b (o + 1308)) ∷ ‵ (partAt (Array u32 128) fullShare (h .ready) b (o + 796))
           ∷ ‵ (partAt (Array u8 32) fullShare (h .transmissions) b (o + 764))
           ∷ ‵ (partAt (Array u32 128) fullShare (h .queued) b (o + 124)) ∷ raw (Back 𝓤 H A fullShare b o) ∷ ‵ (Open b o γ κ₀ q₀ h)
-          ∷ (‵ (fdies taken-laws.mir (past .0)) ⊛ ‵ (fdies (tyRef (named 0) mut (pointee (L .written))) (past .1)) ⊛ ‵
-          (fdies (sliceTy (tyRef (named 1) imm (tyInt w8))) (past .2)) ⊛ ‵ (fdies (sliceTy (tyRef (named 2) mut (tyInt w8))) (past .3))
-          ⊛ ‵ (fdies (sliceTy (tyRef (named 3) imm (pointee (R .written)))) (past .4)) ⊛ ‵
-          (fdies (sliceTy (tyRef (named 4) mut (tyInt w32))) (past .5)) ⊛ ‵ (fdies (sliceTy (tyRef (named 5) imm (tyInt w8))) (past .6))
-          ⊛ ‵ (fdies settings-laws.mir (past .7)) ⊛ ‵ (fdies flight-laws.mir (past .8)) ⊛ ‵ (fdies arrival-laws.mir (past .9)) ⊛ ‵
-          (fdies clock-laws.mir (past .10)) ⊛ ‵ (fdies (tyArray (tyInt w32) 32) (past .11)) ⊛ ‵ (fdies (tyInt w64) (past .12)) ⊛ ‵
-          (fdies (tyArray record-laws.mir 32) (past .13)) ⊛ ‵ (fdies tyBool (past .14)) ⊛ ‵ (fdies (tyInt w64) (past .15)) ⊛ ‵
-          (fdies taken-laws.mir (past .16)) ⊛ ‵ (fdies flight-laws.mir (past .17)) ⊛ ‵ (fdies arrival-laws.mir (past .18)) ⊛ ‵
-          (fdies (tyRef erased imm (tyArray (tyInt w32) 128)) (past .19)) ⊛ ‵
-          (fdies (tyRef erased mut (tyArray (tyInt w32) 32)) (past .20)) ⊛ ‵
-          (fdies (tyRef erased mut (tyArray (tyInt w8) 32)) (past .21)) ⊛ ‵
-          (fdies (tyRef erased mut (tyArray (tyInt w32) 128)) (past .22)) ⊛ ‵
-          (fdies (tyRef erased mut (tyArray (tyInt w32) 128)) (past .23)) ⊛ ‵
-          (fdies (tyRef erased mut (tyArray (tyInt w32) 128)) (past .24)) ⊛ ‵ (fdies (tyRef erased mut (tyInt w8)) (past .25)) ⊛ ‵
-          (fdies (sliceTy (tyRef erased mut (tyInt w8))) (past .26)) ⊛ ‵ (fdies (tyRef erased mut (tyInt w32)) (past .27)) ⊛ ‵
-          (fdies (sliceTy (tyRef erased mut (tyInt w32))) (past .28))) ∷ ‵ (flft κ₁ q₁) ∷ ‵ (flft κ₂ q₂) ∷ ‵ (flft κ₄ q₄)
+          ∷ (‵ (fdies (tyInt w32) (past .1)) ⊛ ‵ (fdies (tyRef (named 0) mut (pointee (L .written))) (past .2)) ⊛ ‵
+          (fdies (sliceTy (tyRef (named 1) imm (tyInt w8))) (past .3)) ⊛ ‵ (fdies (sliceTy (tyRef (named 2) mut (tyInt w8))) (past .4))
+          ⊛ ‵ (fdies (sliceTy (tyRef (named 3) mut (pointee (R .written)))) (past .5)) ⊛ ‵
+          (fdies (sliceTy (tyRef (named 4) mut (tyInt w32))) (past .6)) ⊛ ‵ (fdies (sliceTy (tyRef (named 5) imm (tyInt w8))) (past .7))
+          ⊛ ‵ (fdies settings-laws.mir (past .8)) ⊛ ‵ (fdies flight-laws.mir (past .9)) ⊛ ‵ (fdies arrival-laws.mir (past .10)) ⊛ ‵
+          (fdies clock-laws.mir (past .11)) ⊛ ‵ (fdies (tyArray (tyInt w32) 32) (past .12)) ⊛ ‵ (fdies (tyInt w64) (past .13)) ⊛ ‵
+          (fdies (tyArray (tyInt w32) 128) (past .14)) ⊛ ‵ (fdies (tyInt w64) (past .15)) ⊛ ‵ (fdies taken-laws.mir (past .16)) ⊛ ‵
+          (fdies (tyArray (tyInt w32) 32) (past .17)) ⊛ ‵ (fdies flight-laws.mir (past .18)) ⊛ ‵ (fdies arrival-laws.mir (past .19)) ⊛ ‵
+          (fdies (tyInt w64) (past .20)) ⊛ ‵ (fdies (tyArray (tyInt w32) 128) (past .21)) ⊛ ‵ (fdies tyUnit (past .22)) ⊛ ‵
+          (fdies (tyRef erased imm (pointee (R .written))) (past .23)) ⊛ ‵
+          (fdies (sliceTy (tyRef erased imm (pointee (R .written)))) (past .24)) ⊛ ‵
+          (fdies (tyRef erased mut (tyArray (tyInt w32) 128)) (past .25)) ⊛ ‵
+          (fdies (tyRef erased imm (pointee (R .written))) (past .26)) ⊛ ‵
+          (fdies (sliceTy (tyRef erased imm (pointee (R .written)))) (past .27)) ⊛ ‵
+          (fdies (tyRef erased mut (tyArray (tyInt w32) 128)) (past .28)) ⊛ ‵
+          (fdies (tyRef erased imm (tyArray (tyInt w32) 128)) (past .29)) ⊛ ‵
+          (fdies (tyRef erased mut (tyArray (tyInt w32) 32)) (past .30)) ⊛ ‵
+          (fdies (tyRef erased mut (tyArray (tyInt w8) 32)) (past .31)) ⊛ ‵
+          (fdies (tyRef erased mut (tyArray (tyInt w32) 128)) (past .32)) ⊛ ‵
+          (fdies (tyRef erased mut (tyArray (tyInt w32) 128)) (past .33)) ⊛ ‵
+          (fdies (tyRef erased mut (tyArray (tyInt w32) 128)) (past .34)) ⊛ ‵ (fdies (tyRef erased mut (tyInt w8)) (past .35)) ⊛ ‵
+          (fdies (sliceTy (tyRef erased mut (tyInt w8))) (past .36)) ⊛ ‵ (fdies (tyRef erased mut (tyInt w32)) (past .37)) ⊛ ‵
+          (fdies (sliceTy (tyRef erased mut (tyInt w32))) (past .38)) ⊛ ‵ (fdies (tyRef erased mut (pointee (R .written))) (past .39)) ⊛
+          ‵ (fdies (sliceTy (tyRef erased mut (pointee (R .written)))) (past .40)) ⊛ ‵
+          (fdies (tyRef erased imm (tyArray (tyInt w32) 128)) (past .41))) ∷ ‵ (flft κ₁ q₁) ∷ ‵ (flft κ₂ q₂) ∷ ‵ (flft κ₄ q₄)
           ∷ ‵ (flft κ₅ q₅) ∷ ‵ Own₁ ∷ ‵ Own₂ ∷ ‵ Own₄ ∷ ‵ Own₅
-          ∷ ‵ (froom (sliceTy (tyRef erased mut (tyInt w32))) (past .28) 0)
-          ∷ ‵ (froom (tyRef erased mut (tyInt w32)) (past .27) 0) ∷ ‵ (froom (sliceTy (tyRef erased mut (tyInt w8))) (past .26) 0)
-          ∷ ‵ (froom (tyRef erased mut (tyInt w8)) (past .25) 0) ∷ ‵ (froom (tyRef erased mut (tyArray (tyInt w32) 128)) (past .24) 0)
-          ∷ ‵ (froom (tyRef erased mut (tyArray (tyInt w32) 128)) (past .23) 0)
-          ∷ ‵ (froom (tyRef erased mut (tyArray (tyInt w32) 128)) (past .22) 0)
-          ∷ ‵ (froom (tyRef erased mut (tyArray (tyInt w8) 32)) (past .21) 0)
-          ∷ ‵ (froom (tyRef erased mut (tyArray (tyInt w32) 32)) (past .20) 0)
-          ∷ ‵ (froom (tyRef erased imm (tyArray (tyInt w32) 128)) (past .19) 0) ∷ ‵ (froom arrival-laws.mir (past .18) 0)
-          ∷ ‵ (froom flight-laws.mir (past .17) 0) ∷ ‵ (froom taken-laws.mir (past .16) 0)
-          ∷ ‵ (fat fullShare (tyInt w64) (past .15) 0 ((past .51))) ∷ ‵ (fat fullShare tyBool (past .14) 0 ((past .47)))
-          ∷ ‵ (fat fullShare (tyArray record-laws.mir 32) (past .13) 0 ((past .43)))
-          ∷ ‵ (fat fullShare (tyInt w64) (past .12) 0 ((past .40)))
-          ∷ ‵ (fat fullShare (tyArray (tyInt w32) 32) (past .11) 0 ((only ((array-vals (uint-vals w32)) (h .outstanding)))))
-          ∷ ‵ (fat fullShare clock-laws.mir (past .10) 0 ((only ((LL.vals clock-row.the-type clock-laws.the-laws) (h .clock)))))
-          ∷ ‵ (fat fullShare arrival-laws.mir (past .9) 0 ((only ((LL.vals arrival-row.the-type arrival-laws.the-laws) (h .arrival)))))
-          ∷ ‵ (fat fullShare flight-laws.mir (past .8) 0 ((only ((LL.vals flight-row.the-type flight-laws.the-laws) (h .flight)))))
-          ∷ ‵ (fat fullShare settings-laws.mir (past .7) 0
+          ∷ ‵ (froom (tyRef erased imm (tyArray (tyInt w32) 128)) (past .41) 0)
+          ∷ ‵ (froom (sliceTy (tyRef erased mut (pointee (R .written)))) (past .40) 0)
+          ∷ ‵ (froom (tyRef erased mut (pointee (R .written))) (past .39) 0)
+          ∷ ‵ (froom (sliceTy (tyRef erased mut (tyInt w32))) (past .38) 0) ∷ ‵ (froom (tyRef erased mut (tyInt w32)) (past .37) 0)
+          ∷ ‵ (froom (sliceTy (tyRef erased mut (tyInt w8))) (past .36) 0) ∷ ‵ (froom (tyRef erased mut (tyInt w8)) (past .35) 0)
+          ∷ ‵ (froom (tyRef erased mut (tyArray (tyInt w32) 128)) (past .34) 0)
+          ∷ ‵ (froom (tyRef erased mut (tyArray (tyInt w32) 128)) (past .33) 0)
+          ∷ ‵ (froom (tyRef erased mut (tyArray (tyInt w32) 128)) (past .32) 0)
+          ∷ ‵ (froom (tyRef erased mut (tyArray (tyInt w8) 32)) (past .31) 0)
+          ∷ ‵ (froom (tyRef erased mut (tyArray (tyInt w32) 32)) (past .30) 0)
+          ∷ ‵ (froom (tyRef erased imm (tyArray (tyInt w32) 128)) (past .29) 0)
+          ∷ ‵ (fat fullShare (tyRef erased mut (tyArray (tyInt w32) 128)) (past .28) 0 ((vptr (past .14) 0)))
+          ∷ ‵ (fat fullShare (sliceTy (tyRef erased imm (pointee (R .written)))) (past .27) 0 (s₃))
+          ∷ ‵ (fat fullShare (tyRef erased imm (pointee (R .written))) (past .26) 0 ((vptr (x₃ .ptr .0) (x₃ .ptr .1))))
+          ∷ ‵ (fat fullShare (tyRef erased mut (tyArray (tyInt w32) 128)) (past .25) 0 ((vptr (past .14) 0)))
+          ∷ ‵ (fat fullShare (sliceTy (tyRef erased imm (pointee (R .written)))) (past .24) 0 (s₃))
+          ∷ ‵ (fat fullShare (tyRef erased imm (pointee (R .written))) (past .23) 0 ((vptr (x₃ .ptr .0) (x₃ .ptr .1))))
+          ∷ ‵ (fat fullShare tyUnit (past .22) 0 ((past .56))) ∷ ‵ (fat fullShare (tyArray (tyInt w32) 128) (past .21) 0 ((past .55)))
+          ∷ ‵ (froom (tyInt w64) (past .20) 0) ∷ ‵ (froom arrival-laws.mir (past .19) 0) ∷ ‵ (froom flight-laws.mir (past .18) 0)
+          ∷ ‵ (froom (tyArray (tyInt w32) 32) (past .17) 0) ∷ ‵ (froom taken-laws.mir (past .16) 0)
+          ∷ ‵ (fat fullShare (tyInt w64) (past .15) 0 ((past .60))) ∷ ‵ (fat fullShare (tyInt w64) (past .13) 0 ((past .53)))
+          ∷ ‵ (fat fullShare (tyArray (tyInt w32) 32) (past .12) 0 ((only ((array-vals (uint-vals w32)) (h .outstanding)))))
+          ∷ ‵ (fat fullShare clock-laws.mir (past .11) 0 ((only ((LL.vals clock-row.the-type clock-laws.the-laws) (h .clock)))))
+          ∷ ‵ (fat fullShare arrival-laws.mir (past .10) 0 ((only ((LL.vals arrival-row.the-type arrival-laws.the-laws) (h .arrival)))))
+          ∷ ‵ (fat fullShare flight-laws.mir (past .9) 0 ((only ((LL.vals flight-row.the-type flight-laws.the-laws) (h .flight)))))
+          ∷ ‵ (fat fullShare settings-laws.mir (past .8) 0
           ((only ((LL.vals settings-row.the-type settings-laws.the-laws) (h .settings)))))
-          ∷ ‵ (fat fullShare (sliceTy (tyRef (named 5) imm (tyInt w8))) (past .6) 0 (s₅))
-          ∷ ‵ (fat fullShare (sliceTy (tyRef (named 4) mut (tyInt w32))) (past .5) 0 (s₄))
-          ∷ ‵ (fat fullShare (sliceTy (tyRef (named 3) imm (pointee (R .written)))) (past .4) 0 (s₃))
-          ∷ ‵ (fat fullShare (sliceTy (tyRef (named 2) mut (tyInt w8))) (past .3) 0 (s₂))
-          ∷ ‵ (fat fullShare (sliceTy (tyRef (named 1) imm (tyInt w8))) (past .2) 0 (s₁))
-          ∷ ‵ (fat fullShare (tyRef (named 0) mut (pointee (L .written))) (past .1) 0 (vptr b o)) ∷ ‵ (froom taken-laws.mir (past .0) 0)
-          ∷ []) ∵ exec ! C Λ (En (past .0) (past .1) (past .2) (past .3) (past .4) (past .5) (past .6) (past .7) (past .8) (past .9)
-          (past .10) (past .11) (past .12) (past .13) (past .14) (past .15) (past .16) (past .17) (past .18) (past .19) (past .20)
-          (past .21) (past .22) (past .23) (past .24) (past .25) (past .26) (past .27) (past .28)) (behind 9 (code.function .body))
-          (atRet (En (past .0) (past .1) (past .2) (past .3) (past .4) (past .5) (past .6) (past .7) (past .8) (past .9) (past .10)
+          ∷ ‵ (fat fullShare (sliceTy (tyRef (named 5) imm (tyInt w8))) (past .7) 0 (s₅))
+          ∷ ‵ (fat fullShare (sliceTy (tyRef (named 4) mut (tyInt w32))) (past .6) 0 (s₄))
+          ∷ ‵ (fat fullShare (sliceTy (tyRef (named 3) mut (pointee (R .written)))) (past .5) 0 (s₃))
+          ∷ ‵ (fat fullShare (sliceTy (tyRef (named 2) mut (tyInt w8))) (past .4) 0 (s₂))
+          ∷ ‵ (fat fullShare (sliceTy (tyRef (named 1) imm (tyInt w8))) (past .3) 0 (s₁))
+          ∷ ‵ (fat fullShare (tyRef (named 0) mut (pointee (L .written))) (past .2) 0 (vptr b o)) ∷ ‵ (froom (tyInt w32) (past .1) 0)
+          ∷ []) ∵ exec ! C Λ (En (past .1) (past .2) (past .3) (past .4) (past .5) (past .6) (past .7) (past .8) (past .9) (past .10)
           (past .11) (past .12) (past .13) (past .14) (past .15) (past .16) (past .17) (past .18) (past .19) (past .20) (past .21)
-          (past .22) (past .23) (past .24) (past .25) (past .26) (past .27) (past .28)) Post) $
-          assigns ! {v = (vptr b (o + 124))} (addr ! (from ! (hop ! (look ! 49 refl) (fld ! {d = 124} refl (stop !))))) (from ! (stop !))
+          (past .22) (past .23) (past .24) (past .25) (past .26) (past .27) (past .28) (past .29) (past .30) (past .31) (past .32)
+          (past .33) (past .34) (past .35) (past .36) (past .37) (past .38) (past .39) (past .40) (past .41))
+          (behind 16 (code.function .body)) (atRet (En (past .1) (past .2) (past .3) (past .4) (past .5) (past .6) (past .7) (past .8)
+          (past .9) (past .10) (past .11) (past .12) (past .13) (past .14) (past .15) (past .16) (past .17) (past .18) (past .19)
+          (past .20) (past .21) (past .22) (past .23) (past .24) (past .25) (past .26) (past .27) (past .28) (past .29) (past .30)
+          (past .31) (past .32) (past .33) (past .34) (past .35) (past .36) (past .37) (past .38) (past .39) (past .40) (past .41))
+          Post) $
+          assigns ! {v = (vptr b (o + 124))} (addr ! (from ! (hop ! (look ! 62 refl) (fld ! {d = 124} refl (stop !))))) (from ! (stop !))
+          (init ! 36 refl (tt, tt)) $
+          assigns ! {v = (vptr b (o + 636))} (addr ! (from ! (hop ! (look ! 62 refl) (fld ! {d = 636} refl (stop !))))) (from ! (stop !))
+          (init ! 35 refl (tt, tt)) $
+          assigns ! {v = (vptr b (o + 764))} (addr ! (from ! (hop ! (look ! 62 refl) (fld ! {d = 764} refl (stop !))))) (from ! (stop !))
+          (init ! 34 refl (tt, tt)) $
+          assigns ! {v = (vptr b (o + 796))} (addr ! (from ! (hop ! (look ! 62 refl) (fld ! {d = 796} refl (stop !))))) (from ! (stop !))
+          (init ! 33 refl (tt, tt)) $
+          assigns ! {v = (vptr b (o + 1308))} (addr ! (from ! (hop ! (look ! 62 refl) (fld ! {d = 1308} refl (stop !))))) (from ! (stop !))
+          (init ! 32 refl (tt, tt)) $
+          assigns ! {v = (vptr b (o + 1820))} (addr ! (from ! (hop ! (look ! 62 refl) (fld ! {d = 1820} refl (stop !))))) (from ! (stop !))
           (init ! 31 refl (tt, tt)) $
-          assigns ! {v = (vptr b (o + 636))} (addr ! (from ! (hop ! (look ! 49 refl) (fld ! {d = 636} refl (stop !))))) (from ! (stop !))
-          (init ! 30 refl (tt, tt)) $
-          assigns ! {v = (vptr b (o + 764))} (addr ! (from ! (hop ! (look ! 49 refl) (fld ! {d = 764} refl (stop !))))) (from ! (stop !))
-          (init ! 29 refl (tt, tt)) $
-          assigns ! {v = (vptr b (o + 796))} (addr ! (from ! (hop ! (look ! 49 refl) (fld ! {d = 796} refl (stop !))))) (from ! (stop !))
-          (init ! 28 refl (tt, tt)) $
-          assigns ! {v = (vptr b (o + 1308))} (addr ! (from ! (hop ! (look ! 49 refl) (fld ! {d = 1308} refl (stop !))))) (from ! (stop !))
-          (init ! 27 refl (tt, tt)) $
-          assigns ! {v = (vptr b (o + 1820))} (addr ! (from ! (hop ! (look ! 49 refl) (fld ! {d = 1820} refl (stop !))))) (from ! (stop !))
-          (init ! 26 refl (tt, tt)) $
           assigns ! {v = (vptr (x₂ .ptr .0) (x₂ .ptr .1))}
-          (addr ! (from ! (fld ! refl (hop ! (look-in ! 47 (sub ! 0 refl (whole !))) (stop !))))) (from ! (stop !))
-          (init ! 25 refl (tt, tt)) $
-          assigns ! {v = s₂} (agg ! (and-then ! (load ! (from ! (stop !)) (look ! 25 refl))
-          (and-then ! (load ! (from ! (fld ! refl (stop !))) (look-in ! 47 (sub ! 1 refl (whole !)))) (no-more !)))) (from ! (stop !))
-          (init ! 24 refl (tt, (tt, (record { fits = room₂ .0 }, tt)))) $
+          (addr ! (from ! (fld ! refl (hop ! (look-in ! 60 (sub ! 0 refl (whole !))) (stop !))))) (from ! (stop !))
+          (init ! 30 refl (tt, tt)) $
+          assigns ! {v = s₂} (agg ! (and-then ! (load ! (from ! (stop !)) (look ! 30 refl))
+          (and-then ! (load ! (from ! (fld ! refl (stop !))) (look-in ! 60 (sub ! 1 refl (whole !)))) (no-more !)))) (from ! (stop !))
+          (init ! 29 refl (tt, (tt, (record { fits = room₂ .0 }, tt)))) $
           assigns ! {v = (vptr (x₄ .ptr .0) (x₄ .ptr .1))}
-          (addr ! (from ! (fld ! refl (hop ! (look-in ! 45 (sub ! 0 refl (whole !))) (stop !))))) (from ! (stop !))
-          (init ! 23 refl (tt, tt)) $
-          assigns ! {v = s₄} (agg ! (and-then ! (load ! (from ! (stop !)) (look ! 23 refl))
-          (and-then ! (load ! (from ! (fld ! refl (stop !))) (look-in ! 45 (sub ! 1 refl (whole !)))) (no-more !)))) (from ! (stop !))
-          (init ! 22 refl (tt, (tt, (record { fits = room₄ .0 }, tt)))) $
-          move ! (10 ∷ []) $ lend-shr ! tt fullShare (Array u32 128) (h .queued) b (o + 124)
-          (λ α-queued δ-queued. move ! (4 ∷ []) $
+          (addr ! (from ! (fld ! refl (hop ! (look-in ! 58 (sub ! 0 refl (whole !))) (stop !))))) (from ! (stop !))
+          (init ! 28 refl (tt, tt)) $
+          assigns ! {v = s₄} (agg ! (and-then ! (load ! (from ! (stop !)) (look ! 28 refl))
+          (and-then ! (load ! (from ! (fld ! refl (stop !))) (look-in ! 58 (sub ! 1 refl (whole !)))) (no-more !)))) (from ! (stop !))
+          (init ! 27 refl (tt, (tt, (record { fits = room₄ .0 }, tt)))) $
+          move ! (2 ∷ []) $ use1 W (‵ (cellAt fullShare ((tyArray (tyInt w32) 128) ∷ [])
+          ((only ((array-vals (uint-vals w32)) (past .0))) ∷ []) (past .14) 0))
+          (W .laws .at-raw fullShare (tyArray (tyInt w32) 128) (past .14) 0 (only ((array-vals (uint-vals w32)) (past .0)))) $
+          cell-in ! fullShare (Array u32 128) (array-makes 𝓤 H A W u32 (uint-makes 𝓤 H A W w32) 128) (past .0) (past .14) 0
+          (only ((array-vals (uint-vals w32)) (past .0))) (past .58) $
+          lend-mut ! tt (Array u32 128) (past .0) (past .14) 0
+          (λ α-local′ δ-local′. move ! (14 ∷ []) $
+          lend-shr ! tt fullShare (Array u32 128) (h .queued) b (o + 124)
+          (λ α-queued δ-queued. move ! (8 ∷ []) $
           lend-mut ! tt (Array u32 32) (h .outstanding) b (o + 636)
-          (λ α-outstanding δ-outstanding. move ! (14 ∷ []) $
+          (λ α-outstanding δ-outstanding. move ! (18 ∷ []) $
           lend-mut ! tt (Array u8 32) (h .transmissions) b (o + 764)
-          (λ α-transmissions δ-transmissions. move ! (16 ∷ []) $
+          (λ α-transmissions δ-transmissions. move ! (20 ∷ []) $
           lend-mut ! tt (Array u32 128) (h .ready) b (o + 796)
-          (λ α-ready δ-ready. move ! (18 ∷ []) $
+          (λ α-ready δ-ready. move ! (22 ∷ []) $
           lend-mut ! tt (Array u32 128) (h .waiting) b (o + 1308)
-          (λ α-waiting δ-waiting. move ! (20 ∷ []) $
+          (λ α-waiting δ-waiting. move ! (24 ∷ []) $
           lend-mut ! tt (Array u32 128) (h .«waiting_numbers») b (o + 1820)
-          (λ α-waiting-numbers δ-waiting-numbers. move ! (15 ∷ 16 ∷ 12 ∷ 13 ∷ 9 ∷ 10 ∷ 6 ∷ 7 ∷ 3 ∷ 4 ∷ 0 ∷ 1 ∷ 26 ∷ 30 ∷ 27
-          ∷ 31 ∷ 28
-          ∷ 32 ∷ 29 ∷ 33 ∷ []) $ group ! 20 $
+          (λ α-waiting-numbers δ-waiting-numbers. move ! (18 ∷ 19 ∷ 15 ∷ 16 ∷ 12 ∷ 13 ∷ 9 ∷ 10 ∷ 6 ∷ 7 ∷ 3 ∷ 4 ∷ 0 ∷ 1 ∷ 30
+          ∷ 34 ∷ 31 ∷ 35 ∷ 32 ∷ 36 ∷ 33 ∷ 37 ∷ []) $ group ! 22 $
           calls-fn ! fm core.ended (core.clauses 𝓤 H A at-mem run) (known .4)
-          (to-core α-queued δ-queued (h .queued) α-outstanding δ-outstanding (h .outstanding) α-transmissions δ-transmissions
-          (h .transmissions) α-ready δ-ready (h .ready) α-waiting δ-waiting (h .waiting) α-waiting-numbers δ-waiting-numbers
-          (h .«waiting_numbers») (h .settings) (only ((LL.vals settings-row.the-type settings-laws.the-laws) (h .settings))) (h .flight)
+          (to-core (past .14) α-local′ δ-local′ (past .0) α-queued δ-queued (h .queued) α-outstanding δ-outstanding (h .outstanding)
+          α-transmissions δ-transmissions (h .transmissions) α-ready δ-ready (h .ready) α-waiting δ-waiting (h .waiting)
+          α-waiting-numbers δ-waiting-numbers (h .«waiting_numbers») (h .settings)
+          (only ((LL.vals settings-row.the-type settings-laws.the-laws) (h .settings))) (h .flight)
           (only ((LL.vals flight-row.the-type flight-laws.the-laws) (h .flight))) (h .arrival)
           (only ((LL.vals arrival-row.the-type arrival-laws.the-laws) (h .arrival))) (h .clock)
-          (only ((LL.vals clock-row.the-type clock-laws.the-laws) (h .clock))) (past .46) (past .47) (past .42) (past .43) (past .50)
-          (past .51)) (λ a ws-a. Takes (λ l. takesInWith l (past .42) (x₄ .now) (lentLengths (past .50) (x₁ .now) (x₂ .now) (x₄ .now))
+          (only ((LL.vals clock-row.the-type clock-laws.the-laws) (h .clock))) (past .59) (past .60))
+          (λ a ws-a. (Takes (λ l. takesInWith l (recordsIn (past .0)) (x₄ .now) (lentLengths (past .59) (x₁ .now) (x₂ .now) (x₄ .now))
           (x₂ .now) (x₅ .now)) (h .settings) (h .flight) (h .arrival) (h .clock) (arraysOf h) (x₂ .now) (x₄ .now) a
-          (arrays (h .queued) (ws-a .1 .1 .1 .1 .1 .1 .1 .1 .0) (ws-a .1 .1 .1 .1 .1 .1 .1 .1 .1 .0)
-          (ws-a .1 .1 .1 .1 .1 .1 .1 .1 .1 .1 .0) (ws-a .1 .1 .1 .1 .1 .1 .1 .1 .1 .1 .1 .0)
-          (ws-a .1 .1 .1 .1 .1 .1 .1 .1 .1 .1 .1 .1 .0)) (ws-a .1 .1 .1 .1 .1 .1 .1 .1 .1 .1 .1 .1 .1 .1 .0)
-          (ws-a .1 .1 .1 .1 .1 .1 .1 .1 .1 .1 .1 .1 .1 .1 .1 .0))
-          (‵ (flft (α-queued ∷ []) fullShare) ⊛ ‵ (ShrRef (named 0) (α-queued ∷ []) (Array u32 128) .own
+          (arrays (h .queued) (ws-a .1 .1 .1 .1 .1 .1 .1 .0) (ws-a .1 .1 .1 .1 .1 .1 .1 .1 .0) (ws-a .1 .1 .1 .1 .1 .1 .1 .1 .1 .0)
+          (ws-a .1 .1 .1 .1 .1 .1 .1 .1 .1 .1 .0) (ws-a .1 .1 .1 .1 .1 .1 .1 .1 .1 .1 .1 .0)) (recordsIn (ws-a .1 .1 .1 .1 .0))
+          (ws-a .1 .1 .1 .1 .1 .1 .1 .1 .1 .1 .1 .1 .1 .0) (ws-a .1 .1 .1 .1 .1 .1 .1 .1 .1 .1 .1 .1 .1 .1 .0)) ×
+          (length (ws-a .1 .1 .1 .1 .0) ≡ 128)) (‵ (flft (α-local′ ∷ []) fullShare) ⊛ ‵
+          (MutRef (named 0) (α-local′ ∷ []) (Array u32 128) .own (ref-at (past .14) 0 δ-local′ (past .0)) ((vptr (past .14) 0) ∷ [])) ⊛
+          ‵ (flft (α-queued ∷ []) fullShare) ⊛ ‵ (ShrRef (named 0) (α-queued ∷ []) (Array u32 128) .own
           (ref-at b (o + 124) δ-queued (h .queued)) ((vptr b (o + 124)) ∷ [])) ⊛ ‵ (flft (α-outstanding ∷ []) fullShare) ⊛ ‵
           (MutRef (named 0) (α-outstanding ∷ []) (Array u32 32) .own (ref-at b (o + 636) δ-outstanding (h .outstanding))
           ((vptr b (o + 636)) ∷ [])) ⊛ ‵ (flft (α-transmissions ∷ []) fullShare) ⊛ ‵
@@ -983,86 +1463,87 @@ module _ {M : Type 1} (𝓤 : URA M) (H : Heap 𝓤) (A : Atoms 𝓤) (W : Given
           (ref-at b (o + 1308) δ-waiting (h .waiting)) ((vptr b (o + 1308)) ∷ [])) ⊛ ‵ (flft (α-waiting-numbers ∷ []) fullShare) ⊛ ‵
           (MutRef (named 0) (α-waiting-numbers ∷ []) (Array u32 128) .own (ref-at b (o + 1820) δ-waiting-numbers (h .«waiting_numbers»))
           ((vptr b (o + 1820)) ∷ [])) ⊛ ‵ (flft κ₁ q₁) ⊛ ‵ Own₁ ⊛ ‵ (flft κ₂ q₂) ⊛ ‵ Own₂ ⊛ ‵ (flft κ₄ q₄) ⊛ ‵
-          Own₄ ⊛ ‵ (flft κ₅ q₅) ⊛ ‵
-          Own₅)
-          (asks-core α-queued δ-queued (h .queued) α-outstanding δ-outstanding (h .outstanding) α-transmissions δ-transmissions
-          (h .transmissions) α-ready δ-ready (h .ready) α-waiting δ-waiting (h .waiting) α-waiting-numbers δ-waiting-numbers
-          (h .«waiting_numbers») (h .settings) (only ((LL.vals settings-row.the-type settings-laws.the-laws) (h .settings))) (past .35)
-          (h .flight) (only ((LL.vals flight-row.the-type flight-laws.the-laws) (h .flight))) (past .36) (h .arrival)
-          (only ((LL.vals arrival-row.the-type arrival-laws.the-laws) (h .arrival))) (past .37) (h .clock)
-          (only ((LL.vals clock-row.the-type clock-laws.the-laws) (h .clock))) (past .38) (past .46) (past .47) (past .49) (past .42)
-          (past .43) (past .45) (past .50) (past .51) (past .53) (
+          Own₄ ⊛ ‵ (flft κ₅ q₅) ⊛ ‵ Own₅)
+          (asks-core (past .14) α-local′ δ-local′ (past .0) α-queued δ-queued (h .queued) α-outstanding δ-outstanding (h .outstanding)
+          α-transmissions δ-transmissions (h .transmissions) α-ready δ-ready (h .ready) α-waiting δ-waiting (h .waiting) α-waiting-numbers
+          δ-waiting-numbers (h .«waiting_numbers») (h .settings)
+          (only ((LL.vals settings-row.the-type settings-laws.the-laws) (h .settings))) (past .48) (h .flight)
+          (only ((LL.vals flight-row.the-type flight-laws.the-laws) (h .flight))) (past .49) (h .arrival)
+          (only ((LL.vals arrival-row.the-type arrival-laws.the-laws) (h .arrival))) (past .50) (h .clock)
+          (only ((LL.vals clock-row.the-type clock-laws.the-laws) (h .clock))) (past .51) (past .59) (past .60) (past .62) (
             record {
-              whole-queued = (past .29);
-              whole-outstanding = (past .30);
-              whole-transmissions = (past .31);
-              whole-ready = (past .32);
-              whole-waiting = (past .33);
-              whole-numbers = (past .34);
+              whole-queued = (past .42);
+              whole-outstanding = (past .43);
+              whole-transmissions = (past .44);
+              whole-ready = (past .45);
+              whole-waiting = (past .46);
+              whole-numbers = (past .47);
             },
-            subst (λ l. Flown h l (past .46)) (sym ((past .44) ∙ ap
-                (λ k. padded (gathered (take sendSlots (x₃ .now)) (slotsIn (h .outstanding) k))) (past .41)))
-                (record { whole = padded-whole (take sendSlots (x₃ .now)) (h .outstanding) (h .flight .outstanding); fits = (past .48) }),
-          ))
-          (λ a ws-a. id⊢ 𝓤 _)
-          (and-then ! (load ! (from ! (stop !)) (look ! 36 refl))
-          (and-then ! (load ! (from ! (stop !)) (look ! 35 refl))
-          (and-then ! (load ! (from ! (stop !)) (look ! 34 refl))
-          (and-then ! (load ! (from ! (stop !)) (look ! 33 refl))
-          (and-then ! (load ! (from ! (stop !)) (look ! 29 refl))
+            (past .57) .0,
+          )) (λ a ws-a. id⊢ 𝓤 _)
+          (and-then ! (load ! (from ! (stop !)) (look ! 49 refl))
+          (and-then ! (load ! (from ! (stop !)) (look ! 48 refl))
+          (and-then ! (load ! (from ! (stop !)) (look ! 47 refl))
+          (and-then ! (load ! (from ! (stop !)) (look ! 46 refl))
           (and-then ! (load ! (from ! (stop !)) (look ! 30 refl))
+          (and-then ! (load ! (from ! (stop !)) (look ! 43 refl))
+          (and-then ! (load ! (from ! (stop !)) (look ! 29 refl))
           (and-then ! (load ! (from ! (stop !)) (look ! 28 refl))
+          (and-then ! (load ! (from ! (stop !)) (look ! 27 refl))
+          (and-then ! (load ! (from ! (stop !)) (look ! 26 refl))
+          (and-then ! (load ! (from ! (stop !)) (look ! 25 refl))
           (and-then ! (load ! (from ! (stop !)) (look ! 24 refl))
-          (and-then ! (load ! (from ! (stop !)) (look ! 23 refl))
+          (and-then ! (load ! (from ! (stop !)) (look ! 54 refl))
           (and-then ! (load ! (from ! (stop !)) (look ! 22 refl))
-          (and-then ! (load ! (from ! (stop !)) (look ! 21 refl))
           (and-then ! (load ! (from ! (stop !)) (look ! 20 refl))
-          (and-then ! (load ! (from ! (stop !)) (look ! 19 refl))
-          (and-then ! (load ! (from ! (stop !)) (look ! 41 refl))
-          (and-then ! (load ! (from ! (stop !)) (look ! 17 refl))
-          (and-then ! (load ! (from ! (stop !)) (look ! 15 refl))
-          (and-then ! (load ! (from ! (stop !)) (look ! 37 refl)) (no-more !))))))))))))))))))
+          (and-then ! (load ! (from ! (stop !)) (look ! 50 refl)) (no-more !)))))))))))))))))
           (λ a w-a ws-a e-a is-a. land ! (from ! (stop !))
-          (init ! 28 refl (LL.lawful taken-row.the-type taken-laws.the-laws 𝓤 H A W .typed a (w-a ∷ []) is-a .0)) $
-          spread W (‵ (flft (α-queued ∷ []) fullShare))
-          (‵ (flft (α-outstanding ∷ []) fullShare) ∷ ‵ (flft (α-transmissions ∷ []) fullShare) ∷ ‵ (flft (α-ready ∷ []) fullShare)
-          ∷ ‵ (flft (α-waiting ∷ []) fullShare) ∷ ‵ (flft (α-waiting-numbers ∷ []) fullShare) ∷ ‵ (flft κ₁ q₁) ∷ ‵ (flft κ₂ q₂)
-          ∷ ‵ (flft κ₄ q₄) ∷ ‵ (flft κ₅ q₅) ∷ ‵ ftrue ∷ []) (id⊢ 𝓤 _) $ move ! (11 ∷ []) $
-          spread W (‵ ftrue) (‵ ftrue ∷ ‵ ftrue ∷ ‵ ftrue ∷ ‵ ftrue ∷ ‵ ftrue ∷ ‵ ftrue ∷ ‵ ftrue
-          ∷ ‵ (fres δ-outstanding ((Array u32 32) .coded .code (ws-a .1 .1 .1 .1 .1 .1 .1 .1 .0)))
-          ∷ ‵ (fres δ-transmissions ((Array u8 32) .coded .code (ws-a .1 .1 .1 .1 .1 .1 .1 .1 .1 .0)))
-          ∷ ‵ (fres δ-ready ((Array u32 128) .coded .code (ws-a .1 .1 .1 .1 .1 .1 .1 .1 .1 .1 .0)))
-          ∷ ‵ (fres δ-waiting ((Array u32 128) .coded .code (ws-a .1 .1 .1 .1 .1 .1 .1 .1 .1 .1 .1 .0)))
-          ∷ ‵ (fres δ-waiting-numbers ((Array u32 128) .coded .code (ws-a .1 .1 .1 .1 .1 .1 .1 .1 .1 .1 .1 .1 .0))) ∷ ‵ ftrue
-          ∷ ‵ (fsep (finally u8 (x₂ .name) (ws-a .1 .1 .1 .1 .1 .1 .1 .1 .1 .1 .1 .1 .1 .1 .0))
-          (feq ℕ (length (ws-a .1 .1 .1 .1 .1 .1 .1 .1 .1 .1 .1 .1 .1 .1 .0)) (length (x₂ .now))))
-          ∷ ‵ (fsep (finally u32 (x₄ .name) (ws-a .1 .1 .1 .1 .1 .1 .1 .1 .1 .1 .1 .1 .1 .1 .1 .0))
-          (feq ℕ (length (ws-a .1 .1 .1 .1 .1 .1 .1 .1 .1 .1 .1 .1 .1 .1 .1 .0)) (length (x₄ .now)))) ∷ ‵ ftrue ∷ ‵ ftrue ∷ [])
-          (id⊢ 𝓤 _) $ keep ! (8 ∷ 9 ∷ 10 ∷ 11 ∷ 12 ∷ 14 ∷ 15 ∷ 18 ∷ 19 ∷ 20 ∷ 21 ∷ 22 ∷ 23 ∷ 24 ∷ 25 ∷ 26 ∷ 27 ∷ 29
-          ∷ 30 ∷ 31 ∷ 32 ∷ 33
-          ∷ 34 ∷ 35 ∷ 36 ∷ 37 ∷ 38 ∷ 39 ∷ 40 ∷ 41 ∷ 42 ∷ 43 ∷ 44 ∷ 45 ∷ 46 ∷ 47 ∷ 48 ∷ 49 ∷ 50 ∷ 51 ∷ 52 ∷ 53 ∷ 54
-          ∷ 55 ∷ 56 ∷ 57 ∷ 58
-          ∷ 59 ∷ 60 ∷ 61 ∷ 62 ∷ 63 ∷ 64 ∷ 65 ∷ 66 ∷ 67 ∷ 68 ∷ 69 ∷ 70 ∷ 71 ∷ []) $ move ! (5 ∷ []) $ fsplit ! $
-          move ! (1 ∷ []) $
-          feqL ! (λ len₂. move ! (6 ∷ []) $ fsplit ! $ move ! (1 ∷ []) $ feqL ! (λ len₄.
-          -- [fin4; fin2; fin:outstanding; fin:transmissions; fin:ready; fin:waiting; fin:«waiting_numbers»; tok:queued; tok:outstanding;
-          -- tok:transmissions; tok:ready; tok:waiting; tok:«waiting_numbers»; tok1; tok2; tok4; tok5; lent:«waiting_numbers»; lent:waiting;
-          -- lent:ready; lent:transmissions; lent:outstanding; lent:queued; tok3; F:clock; F:arrival; F:flight; F:settings; back; opened;
-          -- deaths; the locals]
-          move ! (7 ∷ 22 ∷ []) $ back-shr ! tt fullShare (Array u32 128) b (o + 124) (h .queued) $ move ! (8 ∷ 21 ∷ 3 ∷ []) $
-          back-mut ! tt (Array u32 32) b (o + 636) (ws-a .1 .1 .1 .1 .1 .1 .1 .1 .0) $ move ! (8 ∷ 19 ∷ 4 ∷ []) $
-          back-mut ! tt (Array u8 32) b (o + 764) (ws-a .1 .1 .1 .1 .1 .1 .1 .1 .1 .0) $ move ! (8 ∷ 17 ∷ 5 ∷ []) $
-          back-mut ! tt (Array u32 128) b (o + 796) (ws-a .1 .1 .1 .1 .1 .1 .1 .1 .1 .1 .0) $ move ! (8 ∷ 15 ∷ 6 ∷ []) $
-          back-mut ! tt (Array u32 128) b (o + 1308) (ws-a .1 .1 .1 .1 .1 .1 .1 .1 .1 .1 .1 .0) $ move ! (8 ∷ 13 ∷ 7 ∷ []) $
-          back-mut ! tt (Array u32 128) b (o + 1820) (ws-a .1 .1 .1 .1 .1 .1 .1 .1 .1 .1 .1 .1 .0) $
+          (init ! 43 refl (LL.lawful taken-row.the-type taken-laws.the-laws 𝓤 H A W .typed a (w-a ∷ []) is-a .0)) $
+          spread W (‵ (flft (α-local′ ∷ []) fullShare))
+          (‵ (flft (α-queued ∷ []) fullShare) ∷ ‵ (flft (α-outstanding ∷ []) fullShare) ∷ ‵ (flft (α-transmissions ∷ []) fullShare)
+          ∷ ‵ (flft (α-ready ∷ []) fullShare) ∷ ‵ (flft (α-waiting ∷ []) fullShare) ∷ ‵ (flft (α-waiting-numbers ∷ []) fullShare)
+          ∷ ‵ (flft κ₁ q₁) ∷ ‵ (flft κ₂ q₂) ∷ ‵ (flft κ₄ q₄) ∷ ‵ (flft κ₅ q₅) ∷ ‵ ftrue ∷ []) (id⊢ 𝓤 _) $
+          move ! (12 ∷ []) $ spread W (‵ ftrue) (‵ ftrue ∷ ‵ ftrue ∷ ‵ ftrue
+          ∷ ‵ (fres δ-local′ ((Array u32 128) .coded .code (ws-a .1 .1 .1 .1 .0))) ∷ ‵ ftrue ∷ ‵ ftrue
+          ∷ ‵ (fres δ-outstanding ((Array u32 32) .coded .code (ws-a .1 .1 .1 .1 .1 .1 .1 .0)))
+          ∷ ‵ (fres δ-transmissions ((Array u8 32) .coded .code (ws-a .1 .1 .1 .1 .1 .1 .1 .1 .0)))
+          ∷ ‵ (fres δ-ready ((Array u32 128) .coded .code (ws-a .1 .1 .1 .1 .1 .1 .1 .1 .1 .0)))
+          ∷ ‵ (fres δ-waiting ((Array u32 128) .coded .code (ws-a .1 .1 .1 .1 .1 .1 .1 .1 .1 .1 .0)))
+          ∷ ‵ (fres δ-waiting-numbers ((Array u32 128) .coded .code (ws-a .1 .1 .1 .1 .1 .1 .1 .1 .1 .1 .1 .0))) ∷ ‵ ftrue
+          ∷ ‵ (fsep (finally u8 (x₂ .name) (ws-a .1 .1 .1 .1 .1 .1 .1 .1 .1 .1 .1 .1 .1 .0))
+          (feq ℕ (length (ws-a .1 .1 .1 .1 .1 .1 .1 .1 .1 .1 .1 .1 .1 .0)) (length (x₂ .now))))
+          ∷ ‵ (fsep (finally u32 (x₄ .name) (ws-a .1 .1 .1 .1 .1 .1 .1 .1 .1 .1 .1 .1 .1 .1 .0))
+          (feq ℕ (length (ws-a .1 .1 .1 .1 .1 .1 .1 .1 .1 .1 .1 .1 .1 .1 .0)) (length (x₄ .now)))) ∷ ‵ ftrue ∷ ‵ ftrue ∷ []) (id⊢ 𝓤 _) $
+          keep ! (4 ∷ 7 ∷ 8 ∷ 9 ∷ 10 ∷ 11 ∷ 13 ∷ 14 ∷ 17 ∷ 18 ∷ 19 ∷ 20 ∷ 21 ∷ 22 ∷ 23 ∷ 24 ∷ 25 ∷ 26 ∷ 27 ∷ 29 ∷ 30
+          ∷ 31 ∷ 32 ∷ 33 ∷ 34 ∷ 35 ∷ 36 ∷ 37 ∷ 38 ∷ 39 ∷ 40 ∷ 41 ∷ 42 ∷ 43 ∷ 44 ∷ 45 ∷ 46 ∷ 47 ∷ 48 ∷ 49 ∷ 50 ∷ 51
+          ∷ 52 ∷ 53 ∷ 54 ∷ 55 ∷ 56 ∷ 57 ∷ 58 ∷ 59 ∷ 60 ∷ 61 ∷ 62 ∷ 63 ∷ 64 ∷ 65 ∷ 66 ∷ 67 ∷ 68 ∷ 69 ∷ 70 ∷ 71 ∷ 72
+          ∷ 73 ∷ 74 ∷ 75 ∷ 76 ∷ 77 ∷ 78 ∷ 79 ∷ 80 ∷ 81 ∷ 82 ∷ 83 ∷ 84 ∷ []) $ move ! (6 ∷ []) $ fsplit ! $ move ! (1 ∷ []) $
+          feqL ! (λ len₂. move ! (7 ∷ []) $ fsplit ! $ move ! (1 ∷ []) $ feqL ! (λ len₄.
+          -- [fin4; fin2; fin:@13; fin:outstanding; fin:transmissions; fin:ready; fin:waiting; fin:«waiting_numbers»; tok:@13; tok:queued;
+          -- tok:outstanding; tok:transmissions; tok:ready; tok:waiting; tok:«waiting_numbers»; tok1; tok2; tok4; tok5;
+          -- lent:«waiting_numbers»; lent:waiting; lent:ready; lent:transmissions; lent:outstanding; lent:queued; lent:@13; own3; tok3;
+          -- F:clock; F:arrival; F:flight; F:settings; back; opened; deaths; the locals]
+          move ! (8 ∷ 25 ∷ 2 ∷ []) $ back-mut ! tt (Array u32 128) (past .14) 0 (ws-a .1 .1 .1 .1 .0) $
+          cell-out ! fullShare (Array u32 128) (array-vals (uint-vals w32)) (array-tells u32 (uint-vals w32) (uint-tells w32) 128)
+          (ws-a .1 .1 .1 .1 .0) (past .14) 0 (λ was-local-2. use1 W
+          (‵ (fat fullShare (tyArray (tyInt w32) 128) (past .14) 0 (only ((array-vals (uint-vals w32)) (ws-a .1 .1 .1 .1 .0)))))
+          (W .laws .raw-at fullShare (tyArray (tyInt w32) 128) (past .14) 0
+          (only ((array-vals (uint-vals w32)) (ws-a .1 .1 .1 .1 .0)))) $
+          move ! (8 ∷ 23 ∷ []) $ back-shr ! tt fullShare (Array u32 128) b (o + 124) (h .queued) $ move ! (9 ∷ 22 ∷ 4 ∷ []) $
+          back-mut ! tt (Array u32 32) b (o + 636) (ws-a .1 .1 .1 .1 .1 .1 .1 .0) $ move ! (9 ∷ 20 ∷ 5 ∷ []) $
+          back-mut ! tt (Array u8 32) b (o + 764) (ws-a .1 .1 .1 .1 .1 .1 .1 .1 .0) $ move ! (9 ∷ 18 ∷ 6 ∷ []) $
+          back-mut ! tt (Array u32 128) b (o + 796) (ws-a .1 .1 .1 .1 .1 .1 .1 .1 .1 .0) $ move ! (9 ∷ 16 ∷ 7 ∷ []) $
+          back-mut ! tt (Array u32 128) b (o + 1308) (ws-a .1 .1 .1 .1 .1 .1 .1 .1 .1 .1 .0) $ move ! (9 ∷ 14 ∷ 8 ∷ []) $
+          back-mut ! tt (Array u32 128) b (o + 1820) (ws-a .1 .1 .1 .1 .1 .1 .1 .1 .1 .1 .1 .0) $
           by ! (part₂ (
-            (ws-a .1 .1 .1 .1 .1 .1 .1 .1 .1 .1 .1 .1 .1 .1 .1 .0),
             (ws-a .1 .1 .1 .1 .1 .1 .1 .1 .1 .1 .1 .1 .1 .1 .0),
-            (ws-a .1 .1 .1 .1 .1 .1 .1 .1 .1 .1 .1 .1 .0),
+            (ws-a .1 .1 .1 .1 .1 .1 .1 .1 .1 .1 .1 .1 .1 .0),
+            (ws-a .1 .1 .1 .1 .0),
             (ws-a .1 .1 .1 .1 .1 .1 .1 .1 .1 .1 .1 .0),
             (ws-a .1 .1 .1 .1 .1 .1 .1 .1 .1 .1 .0),
             (ws-a .1 .1 .1 .1 .1 .1 .1 .1 .1 .0),
             (ws-a .1 .1 .1 .1 .1 .1 .1 .1 .0),
+            (ws-a .1 .1 .1 .1 .1 .1 .1 .0),
             (past .0),
             (past .1),
             (past .2),
@@ -1092,32 +1573,43 @@ module _ {M : Type 1} (𝓤 : URA M) (H : Heap 𝓤) (A : Atoms 𝓤) (W : Given
             (past .26),
             (past .27),
             (past .28),
+            (past .29),
+            (past .30),
+            (past .31),
+            (past .32),
+            (past .33),
+            (past .34),
+            (past .35),
+            (past .36),
+            (past .37),
+            (past .38),
             (past .39),
             (past .40),
             (past .41),
-            (past .42),
-            (past .43),
-            (past .44),
-            (past .47),
-            (past .50),
-            (past .51),
             (past .52),
+            (past .53),
+            (past .54),
+            (past .55),
+            (past .56),
+            (past .57),
+            (past .59),
+            (past .60),
+            (past .61),
             a,
             w-a,
             e-a,
             is-a,
             len₂,
             len₄,
-          )))))))))))
+            was-local-2,
+          )))))))))))))
 
       walk : ent 𝓤 (onEntry 𝓤 H A f.signature (κ₀, (κ₁, (κ₂, (κ₃, (κ₄, (κ₅, tt)))))) (q₀, (q₁, (q₂, (q₃, (q₄, (q₅, tt))))))
-          x at)
-          (WpFn 𝓤 H C Λ code.function (vptr b o ∷ s₁ ∷ s₂ ∷ s₃ ∷ s₄ ∷ s₅ ∷ []) Post)
+          x at) (WpFn 𝓤 H C Λ code.function (vptr b o ∷ s₁ ∷ s₂ ∷ s₃ ∷ s₄ ∷ s₅ ∷ []) Post)
       walk =
           qed W ((‵ (flft κ₀ q₀) ⊛ ‵ (flft κ₁ q₁) ⊛ ‵ (flft κ₂ q₂) ⊛ ‵ (flft κ₃ q₃) ⊛ ‵ (flft κ₄ q₄) ⊛ ‵
-          (flft κ₅ q₅) ⊛ ‵ ftrue)
-          ∷ ‵ (owns (MutRef (named 0) κ₀ L ∷ ShrSlice (named 1) κ₁ u8 ∷ MutSlice (named 2) κ₂ u8 ∷ ShrSlice (named 3) κ₃ R
-          ∷ MutSlice (named 4) κ₄ u32 ∷ ShrSlice (named 5) κ₅ u8 ∷ []) x at) ∷ []) ∵
+          (flft κ₅ q₅) ⊛ ‵ ftrue) ∷ ‵ (owns (MutRef (named 0) κ₀ L ∷ ShrSlice (named 1) κ₁ u8 ∷ MutSlice (named 2) κ₂ u8
+          ∷ MutSlice (named 3) κ₃ R ∷ MutSlice (named 4) κ₄ u32 ∷ ShrSlice (named 5) κ₅ u8 ∷ []) x at) ∷ []) ∵
           enter ! C Λ code.function (vptr b o ∷ s₁ ∷ s₂ ∷ s₃ ∷ s₄ ∷ s₅ ∷ []) _ $
           alloc1 ! (λ l₀. alloc1 ! (λ l₁. alloc1 ! (λ l₂.
           alloc1 ! (λ l₃. alloc1 ! (λ l₄. alloc1 ! (λ l₅.
@@ -1127,22 +1619,25 @@ module _ {M : Type 1} (𝓤 : URA M) (H : Heap 𝓤) (A : Atoms 𝓤) (W : Given
           alloc1 ! (λ l₁₅. alloc1 ! (λ l₁₆. alloc1 ! (λ l₁₇.
           alloc1 ! (λ l₁₈. alloc1 ! (λ l₁₉. alloc1 ! (λ l₂₀.
           alloc1 ! (λ l₂₁. alloc1 ! (λ l₂₂. alloc1 ! (λ l₂₃.
-          alloc1 ! (λ l₂₄. alloc1 ! (λ l₂₅. alloc1 ! (λ l₂₆. alloc1 ! (λ l₂₇. alloc1 ! (λ l₂₈. alloc0 ! $ params1 ! $
-          pass1 ! (init ! 54 refl (tt, tt)) $ pass1 ! (init ! 52 refl (tt, (tt, (record { fits = room₁ .0 }, tt)))) $
-          pass1 ! (init ! 50 refl (tt, (tt, (record { fits = room₂ .0 }, tt)))) $
-          pass1 ! (init ! 48 refl (tt, (tt, (record { fits = room₃ .0 }, tt)))) $
-          pass1 ! (init ! 46 refl (tt, (tt, (record { fits = room₄ .0 }, tt)))) $
-          pass1 ! (init ! 44 refl (tt, (tt, (record { fits = room₅ .0 }, tt)))) $ pass0 ! $
-          move ! (59 ∷ []) $ spread W (‵ (MutRef (named 0) κ₀ L .own (ref-at b o γ h) (vptr b o ∷ [])))
+          alloc1 ! (λ l₂₄. alloc1 ! (λ l₂₅. alloc1 ! (λ l₂₆.
+          alloc1 ! (λ l₂₇. alloc1 ! (λ l₂₈. alloc1 ! (λ l₂₉.
+          alloc1 ! (λ l₃₀. alloc1 ! (λ l₃₁. alloc1 ! (λ l₃₂.
+          alloc1 ! (λ l₃₃. alloc1 ! (λ l₃₄. alloc1 ! (λ l₃₅.
+          alloc1 ! (λ l₃₆. alloc1 ! (λ l₃₇. alloc1 ! (λ l₃₈. alloc1 ! (λ l₃₉. alloc1 ! (λ l₄₀. alloc0 ! $ params1 ! $
+          pass1 ! (init ! 78 refl (tt, tt)) $ pass1 ! (init ! 76 refl (tt, (tt, (record { fits = room₁ .0 }, tt)))) $
+          pass1 ! (init ! 74 refl (tt, (tt, (record { fits = room₂ .0 }, tt)))) $
+          pass1 ! (init ! 72 refl (tt, (tt, (record { fits = room₃ .0 }, tt)))) $
+          pass1 ! (init ! 70 refl (tt, (tt, (record { fits = room₄ .0 }, tt)))) $
+          pass1 ! (init ! 68 refl (tt, (tt, (record { fits = room₅ .0 }, tt)))) $ pass0 ! $
+          move ! (83 ∷ []) $ spread W (‵ (MutRef (named 0) κ₀ L .own (ref-at b o γ h) (vptr b o ∷ [])))
           (‵ (ShrSlice (named 1) κ₁ u8 .own (x₁) (s₁ ∷ [])) ∷ ‵ (MutSlice (named 2) κ₂ u8 .own (x₂) (s₂ ∷ []))
-          ∷ ‵ (ShrSlice (named 3) κ₃ R .own (x₃) (s₃ ∷ [])) ∷ ‵ (MutSlice (named 4) κ₄ u32 .own (x₄) (s₄ ∷ []))
-          ∷ ‵ (ShrSlice (named 5) κ₅ u8 .own (x₅) (s₅ ∷ [])) ∷ ‵ ftrue ∷ []) (id⊢ 𝓤 _) $ move ! (65 ∷ []) $
+          ∷ ‵ (MutSlice (named 3) κ₃ R .own (x₃) (s₃ ∷ [])) ∷ ‵ (MutSlice (named 4) κ₄ u32 .own (x₄) (s₄ ∷ []))
+          ∷ ‵ (ShrSlice (named 5) κ₅ u8 .own (x₅) (s₅ ∷ [])) ∷ ‵ ftrue ∷ []) (id⊢ 𝓤 _) $ move ! (89 ∷ []) $
           spread W (‵ (flft κ₀ q₀)) (‵ (flft κ₁ q₁) ∷ ‵ (flft κ₂ q₂) ∷ ‵ (flft κ₃ q₃) ∷ ‵ (flft κ₄ q₄)
-          ∷ ‵ (flft κ₅ q₅) ∷ ‵ ftrue ∷ [])
-          (id⊢ 𝓤 _) $ move ! (13 ∷ 6 ∷ []) $ drop ! $ drop ! $
-          move ! (69 ∷ 67 ∷ 65 ∷ 63 ∷ 61 ∷ 59 ∷ 57 ∷ 55 ∷ 53 ∷ 51 ∷ 49 ∷ 47 ∷ 45 ∷ 43 ∷ 41 ∷ 39 ∷ 37 ∷ 35 ∷ 33 ∷ 31 ∷ 29
-          ∷ 27 ∷ 25 ∷ 23
-          ∷ 21 ∷ 19 ∷ 17 ∷ 15 ∷ 13 ∷ []) $ group ! 29 $
+          ∷ ‵ (flft κ₅ q₅) ∷ ‵ ftrue ∷ []) (id⊢ 𝓤 _) $ move ! (13 ∷ 6 ∷ []) $ drop ! $ drop ! $
+          move ! (93 ∷ 91 ∷ 89 ∷ 87 ∷ 85 ∷ 83 ∷ 81 ∷ 79 ∷ 77 ∷ 75 ∷ 73 ∷ 71 ∷ 69 ∷ 67 ∷ 65 ∷ 63 ∷ 61 ∷ 59 ∷ 57 ∷ 55
+          ∷ 53 ∷ 51 ∷ 49 ∷ 47 ∷ 45 ∷ 43 ∷ 41 ∷ 39 ∷ 37 ∷ 35 ∷ 33 ∷ 31 ∷ 29 ∷ 27 ∷ 25 ∷ 23 ∷ 21 ∷ 19 ∷ 17 ∷ 15 ∷ 13
+          ∷ []) $ group ! 41 $
           -- [deaths; tok0; tok1; tok2; tok3; tok4; tok5; own0; own1; own2; own3; own4; own5; the locals]
           move ! (7 ∷ 1 ∷ []) $ opens-link b o γ ! tt h $
           -- [F:settings; F:flight; F:arrival; F:clock; F:queued; F:outstanding; F:transmissions; F:ready; F:waiting; F:«waiting_numbers»;
@@ -1162,40 +1657,40 @@ module _ {M : Type 1} (𝓤 : URA M) (H : Heap 𝓤) (A : Atoms 𝓤) (W : Given
           cell-out ! fullShare settings-row.the-row (LL.vals settings-row.the-type settings-laws.the-laws)
           (LL.tells settings-row.the-type settings-laws.the-laws) (h .settings) b (o + 0) (λ was-settings.
           assigns ! {v = (only ((LL.vals settings-row.the-type settings-laws.the-laws) (h .settings)))}
-          (of-opd ! (load ! (from ! (hop ! (look ! 50 refl) (fld ! {d = 0} refl (stop !)))) (look-raw ! 0 refl))) (from ! (stop !))
-          (init ! 44 refl (LL.lawful settings-row.the-type settings-laws.the-laws 𝓤 H A W .typed (h .settings)
+          (of-opd ! (load ! (from ! (hop ! (look ! 62 refl) (fld ! {d = 0} refl (stop !)))) (look-raw ! 0 refl))) (from ! (stop !))
+          (init ! 56 refl (LL.lawful settings-row.the-type settings-laws.the-laws 𝓤 H A W .typed (h .settings)
           ((only ((LL.vals settings-row.the-type settings-laws.the-laws) (h .settings))) ∷ []) was-settings .0)) $
           cell-in ! fullShare settings-row.the-row (LL.makes settings-row.the-type settings-laws.the-plain 𝓤 H A) (h .settings) b (o + 0)
           (only ((LL.vals settings-row.the-type settings-laws.the-laws) (h .settings))) was-settings $ move ! (7 ∷ []) $
           cell-out ! fullShare flight-row.the-row (LL.vals flight-row.the-type flight-laws.the-laws)
           (LL.tells flight-row.the-type flight-laws.the-laws) (h .flight) b (o + 16) (λ was-flight.
           assigns ! {v = (only ((LL.vals flight-row.the-type flight-laws.the-laws) (h .flight)))}
-          (of-opd ! (load ! (from ! (hop ! (look ! 50 refl) (fld ! {d = 16} refl (stop !)))) (look-raw ! 0 refl))) (from ! (stop !))
-          (init ! 43 refl (LL.lawful flight-row.the-type flight-laws.the-laws 𝓤 H A W .typed (h .flight)
+          (of-opd ! (load ! (from ! (hop ! (look ! 62 refl) (fld ! {d = 16} refl (stop !)))) (look-raw ! 0 refl))) (from ! (stop !))
+          (init ! 55 refl (LL.lawful flight-row.the-type flight-laws.the-laws 𝓤 H A W .typed (h .flight)
           ((only ((LL.vals flight-row.the-type flight-laws.the-laws) (h .flight))) ∷ []) was-flight .0)) $
           cell-in ! fullShare flight-row.the-row (LL.makes flight-row.the-type flight-laws.the-plain 𝓤 H A) (h .flight) b (o + 16)
           (only ((LL.vals flight-row.the-type flight-laws.the-laws) (h .flight))) was-flight $ move ! (8 ∷ []) $
           cell-out ! fullShare arrival-row.the-row (LL.vals arrival-row.the-type arrival-laws.the-laws)
           (LL.tells arrival-row.the-type arrival-laws.the-laws) (h .arrival) b (o + 72) (λ was-arrival.
           assigns ! {v = (only ((LL.vals arrival-row.the-type arrival-laws.the-laws) (h .arrival)))}
-          (of-opd ! (load ! (from ! (hop ! (look ! 50 refl) (fld ! {d = 72} refl (stop !)))) (look-raw ! 0 refl))) (from ! (stop !))
-          (init ! 42 refl (LL.lawful arrival-row.the-type arrival-laws.the-laws 𝓤 H A W .typed (h .arrival)
+          (of-opd ! (load ! (from ! (hop ! (look ! 62 refl) (fld ! {d = 72} refl (stop !)))) (look-raw ! 0 refl))) (from ! (stop !))
+          (init ! 54 refl (LL.lawful arrival-row.the-type arrival-laws.the-laws 𝓤 H A W .typed (h .arrival)
           ((only ((LL.vals arrival-row.the-type arrival-laws.the-laws) (h .arrival))) ∷ []) was-arrival .0)) $
           cell-in ! fullShare arrival-row.the-row (LL.makes arrival-row.the-type arrival-laws.the-plain 𝓤 H A) (h .arrival) b (o + 72)
           (only ((LL.vals arrival-row.the-type arrival-laws.the-laws) (h .arrival))) was-arrival $ move ! (9 ∷ []) $
           cell-out ! fullShare clock-row.the-row (LL.vals clock-row.the-type clock-laws.the-laws)
           (LL.tells clock-row.the-type clock-laws.the-laws) (h .clock) b (o + 104) (λ was-clock.
           assigns ! {v = (only ((LL.vals clock-row.the-type clock-laws.the-laws) (h .clock)))}
-          (of-opd ! (load ! (from ! (hop ! (look ! 50 refl) (fld ! {d = 104} refl (stop !)))) (look-raw ! 0 refl))) (from ! (stop !))
-          (init ! 41 refl (LL.lawful clock-row.the-type clock-laws.the-laws 𝓤 H A W .typed (h .clock)
+          (of-opd ! (load ! (from ! (hop ! (look ! 62 refl) (fld ! {d = 104} refl (stop !)))) (look-raw ! 0 refl))) (from ! (stop !))
+          (init ! 53 refl (LL.lawful clock-row.the-type clock-laws.the-laws 𝓤 H A W .typed (h .clock)
           ((only ((LL.vals clock-row.the-type clock-laws.the-laws) (h .clock))) ∷ []) was-clock .0)) $
           cell-in ! fullShare clock-row.the-row (LL.makes clock-row.the-type clock-laws.the-plain 𝓤 H A) (h .clock) b (o + 104)
           (only ((LL.vals clock-row.the-type clock-laws.the-laws) (h .clock))) was-clock $ move ! (8 ∷ []) $
           cell-out ! fullShare (Array u32 32) (array-vals (uint-vals w32)) (array-tells u32 (uint-vals w32) (uint-tells w32) 32)
           (h .outstanding) b (o + 636) (λ was-outstanding.
           assigns ! {v = (only ((array-vals (uint-vals w32)) (h .outstanding)))}
-          (of-opd ! (load ! (from ! (hop ! (look ! 50 refl) (fld ! {d = 636} refl (stop !)))) (look-raw ! 0 refl))) (from ! (stop !))
-          (init ! 40 refl (array-typed u32 (uint-lawful 𝓤 H A W w32 .typed) 32 (h .outstanding)
+          (of-opd ! (load ! (from ! (hop ! (look ! 62 refl) (fld ! {d = 636} refl (stop !)))) (look-raw ! 0 refl))) (from ! (stop !))
+          (init ! 52 refl (array-typed u32 (uint-lawful 𝓤 H A W w32 .typed) 32 (h .outstanding)
           ((only ((array-vals (uint-vals w32)) (h .outstanding))) ∷ []) was-outstanding .0)) $
           cell-in ! fullShare (Array u32 32) (array-makes 𝓤 H A W u32 (uint-makes 𝓤 H A W w32) 32) (h .outstanding) b (o + 636)
           (only ((array-vals (uint-vals w32)) (h .outstanding))) was-outstanding $ nothing ! $
@@ -1205,65 +1700,91 @@ module _ {M : Type 1} (𝓤 : URA M) (H : Heap 𝓤) (A : Atoms 𝓤) (W : Given
           (‵ ftrue) (plainly 𝓤 H A W (flight-row.the-row ∷ []) ((LL.makes flight-row.the-type flight-laws.the-plain 𝓤 H A), tt)
           ((h .flight), tt) ((only ((LL.vals flight-row.the-type flight-laws.the-laws) (h .flight))) ∷ [], tt) (was-flight, tt))
           (λ n _. id⊢ 𝓤 _)
-          (and-then ! (load ! (from ! (stop !)) (look ! 44 refl)) (no-more !))
-          (λ n w-n _ e-n is-n. drop ! $ drop ! $ land ! (from ! (stop !)) (init ! 39 refl (uint-lawful 𝓤 H A W w64 .typed n _ is-n .0)) $
-          move ! (20 ∷ []) $ use1 W (‵ Own₃ ⊛ ‵ Own₃) (shr-slice-copy 𝓤 H A W (named 0) κ₃ R .twice x₃ (s₃ ∷ [])) $ split ! $
-          move ! (17 ∷ 0 ∷ []) $ join ! $
-          calls-fn ! fm gather.ended (gather.clauses 𝓤 H A at-mem run) (known .1)
-          (to-gather (h .outstanding) (only ((array-vals (uint-vals w32)) (h .outstanding))) n w-n)
-          (λ recs ws-recs. recs ≡ padded (gathered (take sendSlots (x₃ .now)) (slotsIn (h .outstanding) n))) (‵ (flft κ₃ q₃) ⊛ ‵ Own₃)
-          (asks-gather (h .outstanding) (only ((array-vals (uint-vals w32)) (h .outstanding))) was-outstanding n w-n is-n)
-          (λ recs ws-recs. id⊢ 𝓤 _)
-          (and-then ! (load ! (from ! (stop !)) (look ! 47 refl))
-          (and-then ! (load ! (from ! (stop !)) (look ! 40 refl)) (and-then ! (load ! (from ! (stop !)) (look ! 39 refl)) (no-more !))))
-          (λ recs w-recs ws-recs e-recs is-recs. land ! (from ! (stop !)) (init ! 39 refl (rs-typed 𝓤 H A W recs is-recs)) $
-          spread W (‵ (flft κ₃ q₃)) (‵ ftrue ∷ []) (id⊢ 𝓤 _) $ move ! (2 ∷ []) $
-          spread W (‵ ftrue) (‵ ftrue ∷ ‵ ftrue ∷ ‵ ftrue ∷ []) (id⊢ 𝓤 _) $
-          keep ! (4 ∷ 6 ∷ 7 ∷ 8 ∷ 9 ∷ 10 ∷ 11 ∷ 12 ∷ 13 ∷ 14 ∷ 15 ∷ 16 ∷ 17 ∷ 18 ∷ 19 ∷ 20 ∷ 21 ∷ 22 ∷ 23 ∷ 24 ∷ 25
-          ∷ 26 ∷ 27 ∷ 28 ∷ 29
-          ∷ 30 ∷ 31 ∷ 32 ∷ 33 ∷ 34 ∷ 35 ∷ 36 ∷ 37 ∷ 38 ∷ 39 ∷ 40 ∷ 41 ∷ 42 ∷ 43 ∷ 44 ∷ 45 ∷ 46 ∷ 47 ∷ 48 ∷ 49 ∷ 50
-          ∷ 51 ∷ 52 ∷ 53 ∷ 54
-          ∷ 55 ∷ 56 ∷ []) $
-          -- [tok3; own3; F:outstanding; F:clock; F:arrival; F:flight; F:settings; F:«waiting_numbers»; F:waiting; F:ready; F:transmissions;
-          -- F:queued; back; opened; deaths; tok1; tok2; tok4; tok5; own1; own2; own4; own5; the locals]
-          move ! (1 ∷ []) $ use1 W (‵ Own₃ ⊛ ‵ Own₃) (shr-slice-copy 𝓤 H A W (named 0) κ₃ R .twice x₃ (s₃ ∷ [])) $ split ! $
-          move ! (2 ∷ 0 ∷ []) $ join ! $ calls-fn ! fm fit.ended (fit.clauses 𝓤 H A at-mem run) (known .2)
-          (to-fit (h .outstanding) (only ((array-vals (uint-vals w32)) (h .outstanding))) (h .settings)
-          (only ((LL.vals settings-row.the-type settings-laws.the-laws) (h .settings))) (h .flight)
-          (only ((LL.vals flight-row.the-type flight-laws.the-laws) (h .flight))))
-          (λ fl ws-fl. fl ≡ flightFits (h .settings .mode) (h .flight .una) (h .flight .next)
-          (take (h .flight .outstanding) (padded (gathered (take sendSlots (x₃ .now))
-          (slotsIn (h .outstanding) (h .flight .outstanding)))))) (‵ (flft κ₃ q₃) ⊛ ‵ Own₃)
-          (asks-fit (h .outstanding) (only ((array-vals (uint-vals w32)) (h .outstanding))) was-outstanding (h .settings)
-          (only ((LL.vals settings-row.the-type settings-laws.the-laws) (h .settings))) was-settings (h .flight)
-          (only ((LL.vals flight-row.the-type flight-laws.the-laws) (h .flight))) was-flight) (λ fl ws-fl. id⊢ 𝓤 _)
-          (and-then ! (load ! (from ! (stop !)) (look ! 47 refl))
-          (and-then ! (load ! (from ! (stop !)) (look ! 40 refl))
-          (and-then ! (load ! (from ! (stop !)) (look ! 44 refl)) (and-then ! (load ! (from ! (stop !)) (look ! 43 refl)) (no-more !)))))
-          (λ fl w-fl ws-fl e-fl is-fl. land ! (from ! (stop !)) (init ! 38 refl (bool-lawful 𝓤 H A W .typed fl _ is-fl .0)) $
-          spread W (‵ (flft κ₃ q₃)) (‵ ftrue ∷ []) (id⊢ 𝓤 _) $ move ! (2 ∷ []) $
-          spread W (‵ ftrue) (‵ ftrue ∷ ‵ ftrue ∷ ‵ ftrue ∷ ‵ ftrue ∷ []) (id⊢ 𝓤 _) $
-          keep ! (5 ∷ 7 ∷ 8 ∷ 9 ∷ 10 ∷ 11 ∷ 12 ∷ 13 ∷ 14 ∷ 15 ∷ 16 ∷ 17 ∷ 18 ∷ 19 ∷ 20 ∷ 21 ∷ 22 ∷ 23 ∷ 24 ∷ 25 ∷ 26
-          ∷ 27 ∷ 28 ∷ 29 ∷ 30
-          ∷ 31 ∷ 32 ∷ 33 ∷ 34 ∷ 35 ∷ 36 ∷ 37 ∷ 38 ∷ 39 ∷ 40 ∷ 41 ∷ 42 ∷ 43 ∷ 44 ∷ 45 ∷ 46 ∷ 47 ∷ 48 ∷ 49 ∷ 50 ∷ 51
-          ∷ 52 ∷ 53 ∷ 54 ∷ 55
-          ∷ 56 ∷ 57 ∷ []) $
-          -- [tok3; own3; F:outstanding; F:clock; F:arrival; F:flight; F:settings; F:«waiting_numbers»; F:waiting; F:ready; F:transmissions;
-          -- F:queued; back; opened; deaths; tok1; tok2; tok4; tok5; own1; own2; own4; own5; the locals]
-          join ! $ calls-fn ! fm table-len.ended (table-len.clauses 𝓤 H A at-mem run) (known .3) (to-table-len)
-          (λ m ws-m. m ≡ length (x₃ .now)) (‵ (flft κ₃ q₃) ⊛ ‵ Own₃)
-          (asks-table-len) (λ m ws-m. id⊢ 𝓤 _)
-          (and-then ! (load ! (from ! (stop !)) (look ! 46 refl)) (no-more !))
-          (λ m w-m ws-m e-m is-m. land ! (from ! (stop !)) (init ! 36 refl (uint-lawful 𝓤 H A W w64 .typed m _ is-m .0)) $
-          spread W (‵ (flft κ₃ q₃)) (‵ ftrue ∷ []) (id⊢ 𝓤 _) $ move ! (2 ∷ []) $ spread W (‵ ftrue) (‵ ftrue ∷ []) (id⊢ 𝓤 _) $
-          keep ! (2 ∷ 4 ∷ 5 ∷ 6 ∷ 7 ∷ 8 ∷ 9 ∷ 10 ∷ 11 ∷ 12 ∷ 13 ∷ 14 ∷ 15 ∷ 16 ∷ 17 ∷ 18 ∷ 19 ∷ 20 ∷ 21 ∷ 22 ∷ 23 ∷ 24
-          ∷ 25 ∷ 26 ∷ 27
-          ∷ 28 ∷ 29 ∷ 30 ∷ 31 ∷ 32 ∷ 33 ∷ 34 ∷ 35 ∷ 36 ∷ 37 ∷ 38 ∷ 39 ∷ 40 ∷ 41 ∷ 42 ∷ 43 ∷ 44 ∷ 45 ∷ 46 ∷ 47 ∷ 48
-          ∷ 49 ∷ 50 ∷ 51 ∷ 52
-          ∷ 53 ∷ []) $
-          -- [tok3; F:outstanding; F:clock; F:arrival; F:flight; F:settings; F:«waiting_numbers»; F:waiting; F:ready; F:transmissions;
+          (and-then ! (load ! (from ! (stop !)) (look ! 56 refl)) (no-more !))
+          (λ n w-n _ e-n is-n. drop ! $ drop ! $ land ! (from ! (stop !)) (init ! 51 refl (uint-lawful 𝓤 H A W w64 .typed n _ is-n .0)) $
+          nothing ! $ calls-fn ! fm none-of.ended (none-of.clauses 𝓤 H A at-mem run) (known .1) ((tt, tt, tt, tt, tt), tt)
+          (λ blanks _. blanks ≡ replicate 128 0)
+          (‵ ftrue) (plainly 𝓤 H A W ([]) tt tt tt tt) (λ blanks _. id⊢ 𝓤 _)
+          (no-more !) (λ blanks w-blanks _ e-blanks is-blanks. drop ! $ drop ! $
+          land ! (from ! (stop !)) (init ! 43 refl (array-typed u32 (uint-lawful 𝓤 H A W w32 .typed) 128 blanks (w-blanks ∷ []) is-blanks
+          .0)) $
+          assigns ! {v = w-blanks} (of-opd ! (load ! (from ! (stop !)) (look ! 43 refl))) (from ! (stop !))
+          (init ! 50 refl (array-typed u32 (uint-lawful 𝓤 H A W w32 .typed) 128 blanks (w-blanks ∷ []) is-blanks .0)) $
+          assigns ! {v = (vptr (x₃ .ptr .0) (x₃ .ptr .1))}
+          (addr ! (from ! (fld ! refl (hop ! (look-in ! 59 (sub ! 0 refl (whole !))) (stop !))))) (from ! (stop !))
+          (init ! 41 refl (tt, tt)) $
+          assigns ! {v = s₃} (agg ! (and-then ! (load ! (from ! (stop !)) (look ! 41 refl))
+          (and-then ! (load ! (from ! (fld ! refl (stop !))) (look-in ! 59 (sub ! 1 refl (whole !)))) (no-more !)))) (from ! (stop !))
+          (init ! 40 refl (tt, (tt, (record { fits = room₃ .0 }, tt)))) $
+          assigns ! {v = (vptr l₁₃ 0)} (addr ! (from ! (stop !))) (from ! (stop !)) (init ! 39 refl (tt, tt)) $
+          move ! (50 ∷ []) $ use1 W (‵ (cellAt fullShare ((tyArray (tyInt w32) 128) ∷ []) (w-blanks ∷ []) l₁₃ 0))
+          (W .laws .at-raw fullShare (tyArray (tyInt w32) 128) l₁₃ 0 w-blanks) $
+          cell-in ! fullShare (Array u32 128) (array-makes 𝓤 H A W u32 (uint-makes 𝓤 H A W w32) 128) blanks l₁₃ 0 w-blanks is-blanks $
+          lend-mut ! tt (Array u32 128) blanks l₁₃ 0
+          (λ α-local δ-local. lft-new ! tt (λ β₃. move ! (24 ∷ 19 ∷ []) $
+          use2 W (later (some (λ (δ : GName). ‵ (Shared₃ β₃ δ) ⊛ ‵
+          (LentShared R κ₃ (β₃ ∷ []) q₃ (x₃ .name) (x₃ .ptr .0) (x₃ .ptr .1) (x₃ .now)))))
+          (lends-shared R κ₃ (β₃ ∷ []) q₃ (x₃ .name) (x₃ .ptr .0) (x₃ .ptr .1) (x₃ .now) 𝓤 H A W) $ await ! tt $
+          pick ! (λ β-name₃. split ! $
+          -- [shown3; blent3; btok3; tok:@13; own:@13; lent:@13; F:outstanding; F:clock; F:arrival; F:flight; F:settings;
+          -- F:«waiting_numbers»; F:waiting; F:ready; F:transmissions; F:queued; back; opened; deaths; tok1; tok2; tok4; tok5; own1; own2;
+          -- own4; own5; the locals]
+          use1 W (‵ (Shared₃ β₃ β-name₃) ⊛ ‵ (Shared₃ β₃ β-name₃))
+          (shr-slice-copy 𝓤 H A W (named 0) (β₃ ∷ []) R .twice (shown-at₃ β-name₃) (s₃ ∷ [])) $ split ! $
+          move ! (3 ∷ 0 ∷ 4 ∷ 5 ∷ []) $ group ! 4 $
+          calls-fn ! fm gather.ended (gather.clauses 𝓤 H A at-mem run) (known .2)
+          (to-gather β₃ β-name₃ l₁₃ α-local δ-local blanks (h .outstanding) (only ((array-vals (uint-vals w32)) (h .outstanding))) n
+          w-n) (λ g ws-g. (length (ws-g .1 .1 .1 .0) ≡ 128) ×
+          (recordsIn (ws-g .1 .1 .1 .0) ≡ padded (gathered (take sendSlots (x₃ .now)) (slotsIn (h .outstanding) n))))
+          (‵ (flft (β₃ ∷ []) fullShare) ⊛ ‵ (Shared₃ β₃ β-name₃) ⊛ ‵ (flft (α-local ∷ []) fullShare) ⊛ ‵
+          (MutRef (named 0) (α-local ∷ []) (Array u32 128) .own (ref-at l₁₃ 0 δ-local blanks) ((vptr l₁₃ 0) ∷ [])))
+          (asks-gather β₃ β-name₃ l₁₃ α-local δ-local blanks (h .outstanding) (only ((array-vals (uint-vals w32)) (h .outstanding)))
+          was-outstanding n w-n is-n (e-blanks)) (λ g ws-g. id⊢ 𝓤 _)
+          (and-then ! (load ! (from ! (stop !)) (look ! 42 refl))
+          (and-then ! (load ! (from ! (stop !)) (look ! 53 refl))
+          (and-then ! (load ! (from ! (stop !)) (look ! 52 refl)) (and-then ! (load ! (from ! (stop !)) (look ! 41 refl)) (no-more !)))))
+          (λ g w-g ws-g e-g is-g. land ! (from ! (stop !)) (init ! 45 refl (nothing-lawful 𝓤 H A W .typed g _ is-g .0)) $
+          spread W (‵ (flft (β₃ ∷ []) fullShare)) (‵ (flft (α-local ∷ []) fullShare) ∷ ‵ ftrue ∷ []) (id⊢ 𝓤 _) $ move ! (3 ∷ []) $
+          spread W (‵ ftrue) (‵ ftrue ∷ ‵ ftrue ∷ ‵ (fres δ-local ((Array u32 128) .coded .code (ws-g .1 .1 .1 .0))) ∷ ‵ ftrue ∷ [])
+          (id⊢ 𝓤 _) $ keep ! (3 ∷ 5 ∷ 6 ∷ 8 ∷ 9 ∷ 10 ∷ 11 ∷ 12 ∷ 13 ∷ 14 ∷ 15 ∷ 16 ∷ 17 ∷ 18 ∷ 19 ∷ 20 ∷ 21 ∷ 22
+          ∷ 23 ∷ 24 ∷ 25 ∷ 26 ∷ 27 ∷ 28 ∷ 29 ∷ 30 ∷ 31 ∷ 32 ∷ 33 ∷ 34 ∷ 35 ∷ 36 ∷ 37 ∷ 38 ∷ 39 ∷ 40 ∷ 41 ∷ 42 ∷ 43
+          ∷ 44 ∷ 45 ∷ 46 ∷ 47 ∷ 48 ∷ 49 ∷ 50 ∷ 51 ∷ 52 ∷ 53 ∷ 54 ∷ 55 ∷ 56 ∷ 57 ∷ 58 ∷ 59 ∷ 60 ∷ 61 ∷ 62 ∷ 63 ∷ 64
+          ∷ 65 ∷ 66 ∷ 67 ∷ 68 ∷ 69 ∷ 70 ∷ 71 ∷ []) $
+          -- [fin:@13; btok3; tok:@13; shown3; blent3; lent:@13; F:outstanding; F:clock; F:arrival; F:flight; F:settings;
+          -- F:«waiting_numbers»; F:waiting; F:ready; F:transmissions; F:queued; back; opened; deaths; tok1; tok2; tok4; tok5; own1; own2;
+          -- own4; own5; the locals]
+          move ! (2 ∷ 5 ∷ 0 ∷ []) $ back-mut ! tt (Array u32 128) l₁₃ 0 (ws-g .1 .1 .1 .0) $
+          cell-out ! fullShare (Array u32 128) (array-vals (uint-vals w32)) (array-tells u32 (uint-vals w32) (uint-tells w32) 128)
+          (ws-g .1 .1 .1 .0) l₁₃ 0 (λ was-local-1. use1 W
+          (‵ (fat fullShare (tyArray (tyInt w32) 128) l₁₃ 0 (only ((array-vals (uint-vals w32)) (ws-g .1 .1 .1 .0)))))
+          (W .laws .raw-at fullShare (tyArray (tyInt w32) 128) l₁₃ 0 (only ((array-vals (uint-vals w32)) (ws-g .1 .1 .1 .0)))) $
+          assigns ! {v = (vptr (x₃ .ptr .0) (x₃ .ptr .1))}
+          (addr ! (from ! (fld ! refl (hop ! (look-in ! 60 (sub ! 0 refl (whole !))) (stop !))))) (from ! (stop !))
+          (init ! 40 refl (tt, tt)) $
+          assigns ! {v = s₃} (agg ! (and-then ! (load ! (from ! (stop !)) (look ! 40 refl))
+          (and-then ! (load ! (from ! (fld ! refl (stop !))) (look-in ! 60 (sub ! 1 refl (whole !)))) (no-more !)))) (from ! (stop !))
+          (init ! 39 refl (tt, (tt, (record { fits = room₃ .0 }, tt)))) $
+          move ! (1 ∷ 2 ∷ []) $ join ! $ calls-fn ! fm table-len.ended (table-len.clauses 𝓤 H A at-mem run) (known .3)
+          (to-table-len β₃ β-name₃) (λ m ws-m. m ≡ length (x₃ .now)) (‵ (flft (β₃ ∷ []) fullShare) ⊛ ‵ (Shared₃ β₃ β-name₃))
+          (asks-table-len β₃ β-name₃) (λ m ws-m. id⊢ 𝓤 _)
+          (and-then ! (load ! (from ! (stop !)) (look ! 38 refl)) (no-more !))
+          (λ m w-m ws-m e-m is-m. land ! (from ! (stop !)) (init ! 51 refl (uint-lawful 𝓤 H A W w64 .typed m _ is-m .0)) $
+          spread W (‵ (flft (β₃ ∷ []) fullShare)) (‵ ftrue ∷ []) (id⊢ 𝓤 _) $ move ! (2 ∷ []) $
+          spread W (‵ ftrue) (‵ ftrue ∷ []) (id⊢ 𝓤 _) $
+          keep ! (2 ∷ 4 ∷ 5 ∷ 6 ∷ 7 ∷ 8 ∷ 9 ∷ 10 ∷ 11 ∷ 12 ∷ 13 ∷ 14 ∷ 15 ∷ 16 ∷ 17 ∷ 18 ∷ 19 ∷ 20 ∷ 21 ∷ 22 ∷ 23
+          ∷ 24 ∷ 25 ∷ 26 ∷ 27 ∷ 28 ∷ 29 ∷ 30 ∷ 31 ∷ 32 ∷ 33 ∷ 34 ∷ 35 ∷ 36 ∷ 37 ∷ 38 ∷ 39 ∷ 40 ∷ 41 ∷ 42 ∷ 43 ∷ 44
+          ∷ 45 ∷ 46 ∷ 47 ∷ 48 ∷ 49 ∷ 50 ∷ 51 ∷ 52 ∷ 53 ∷ 54 ∷ 55 ∷ 56 ∷ 57 ∷ 58 ∷ 59 ∷ 60 ∷ 61 ∷ 62 ∷ 63 ∷ 64 ∷ 65
+          ∷ 66 ∷ []) $
+          -- [btok3; blent3; F:outstanding; F:clock; F:arrival; F:flight; F:settings; F:«waiting_numbers»; F:waiting; F:ready;
+          -- F:transmissions; F:queued; back; opened; deaths; tok1; tok2; tok4; tok5; own1; own2; own4; own5; the locals]
+          assigns ! {v = (vptr l₁₃ 0)} (addr ! (from ! (stop !))) (from ! (stop !)) (init ! 37 refl (tt, tt)) $
+          move ! (0 ∷ 2 ∷ []) $ lft-end ! tt $
+          use2 W (later (‵ Own₃ ⊛ ‵ (flft κ₃ q₃))) (shared-back R κ₃ (β₃ ∷ []) q₃ (x₃ .name) (x₃ .ptr .0) (x₃ .ptr .1)
+          (x₃ .now) 𝓤 H A W room₃) $ await ! tt $ split ! $
+          -- [own3; tok3; F:outstanding; F:clock; F:arrival; F:flight; F:settings; F:«waiting_numbers»; F:waiting; F:ready; F:transmissions;
           -- F:queued; back; opened; deaths; tok1; tok2; tok4; tok5; own1; own2; own4; own5; the locals]
           by ! (part₁ (
+            (ws-g .1 .1 .1 .0),
             l₀,
             l₁,
             l₂,
@@ -1293,6 +1814,18 @@ module _ {M : Type 1} (𝓤 : URA M) (H : Heap 𝓤) (A : Atoms 𝓤) (W : Given
             l₂₆,
             l₂₇,
             l₂₈,
+            l₂₉,
+            l₃₀,
+            l₃₁,
+            l₃₂,
+            l₃₃,
+            l₃₄,
+            l₃₅,
+            l₃₆,
+            l₃₇,
+            l₃₈,
+            l₃₉,
+            l₄₀,
             len-queued,
             len-outstanding,
             len-transmissions,
@@ -1306,19 +1839,15 @@ module _ {M : Type 1} (𝓤 : URA M) (H : Heap 𝓤) (A : Atoms 𝓤) (W : Given
             n,
             w-n,
             e-n,
-            recs,
-            w-recs,
-            e-recs,
-            is-recs,
-            fl,
-            w-fl,
-            e-fl,
-            is-fl,
+            w-blanks,
+            w-g,
+            e-g,
+            was-local-1,
             m,
             w-m,
             e-m,
             is-m,
-          ))))))))))))))))))))))))))))))))))))))))))))))
+          ))))))))))))))))))))))))))))))))))))))))))))))))))))))))))))))
 
   f-meets : (𝓣 : Tables 𝓤 H) → Known (𝓣 .C)
       → Meets 𝓤 H A f.signature (WpFn 𝓤 H (𝓣 .C) (𝓣 .Λ) code.function) (f.spec 𝓤 H A at-mem run)
@@ -1330,7 +1859,7 @@ module _ {M : Type 1} (𝓤 : URA M) (H : Heap 𝓤) (A : Atoms 𝓤) (W : Given
       (
         goes-gave-slice 𝓤 H A W 6 2 tt (plain (λ _. u8)),
         (
-          goes-dropped 𝓤 H A W 6 (shrSliceOf (3 ∷ []) tt (plain (λ _. R))) yes (λ κs x f. refl),
+          goes-gave-slice 𝓤 H A W 6 3 tt (plain (λ _. R)),
           (
             goes-gave-slice 𝓤 H A W 6 4 tt (plain (λ _. u32)),
             (goes-dropped 𝓤 H A W 6 (shrSliceOf (5 ∷ []) tt (plain (λ _. u8))) yes (λ κs x f. refl), tt),
@@ -1349,7 +1878,7 @@ module _ {M : Type 1} (𝓤 : URA M) (H : Heap 𝓤) (A : Atoms 𝓤) (W : Given
           (
             mut-slice-tells (named 2) (κs .1 .1 .0) u8,
             (
-              shr-slice-tells (named 3) (κs .1 .1 .1 .0) R,
+              mut-slice-tells (named 3) (κs .1 .1 .1 .0) R,
               (mut-slice-tells (named 4) (κs .1 .1 .1 .1 .0) u32, (shr-slice-tells (named 5) (κs .1 .1 .1 .1 .1 .0) u8, tt)),
             ),
           ),
@@ -1369,20 +1898,22 @@ take-in-spec 𝓤 H 𝓜 𝓖 𝓡 =
     (f-meets 𝓤 H (𝓖 .A) (givenOf 𝓤 H 𝓜 𝓖) (𝓜 .mem) (𝓡 .run) (tablesOf 𝓤 H 𝓜 (tables 𝓤 H 𝓜 𝓡 code.env)) (
       cited 𝓤 H (tripleOf 𝓤 H (𝓖 .A) count-of.signature (count-of.spec 𝓤 H (𝓖 .A) (𝓜 .mem) (𝓡 .run))) 𝓜 𝓡 code.env count-of-def.name
           count-of-def.routine code.calls-results·outstanding-count (count-of-thm.met 𝓤 H 𝓜 𝓖 𝓡),
+      cited 𝓤 H (tripleOf 𝓤 H (𝓖 .A) none-of.signature (none-of.spec 𝓤 H (𝓖 .A) (𝓜 .mem) (𝓡 .run))) 𝓜 𝓡 code.env none-of-def.name
+          none-of-def.routine code.calls-record-words·none (none-of-thm.met 𝓤 H 𝓜 𝓖 𝓡),
       cited 𝓤 H (tripleOf 𝓤 H (𝓖 .A) gather.signature (gather.spec 𝓤 H (𝓖 .A) (𝓜 .mem) (𝓡 .run))) 𝓜 𝓡 code.env gather-def.name
           gather-def.routine code.calls-gathering·gather (gather-thm.met 𝓤 H 𝓜 𝓖 𝓡),
-      cited 𝓤 H (tripleOf 𝓤 H (𝓖 .A) fit.signature (fit.spec 𝓤 H (𝓖 .A) (𝓜 .mem) (𝓡 .run))) 𝓜 𝓡 code.env fit-def.name fit-def.routine
-          code.calls-gathering·fit (fit-thm.met 𝓤 H 𝓜 𝓖 𝓡),
       cited 𝓤 H (tripleOf 𝓤 H (𝓖 .A) table-len.signature (table-len.spec 𝓤 H (𝓖 .A) (𝓜 .mem) (𝓡 .run))) 𝓜 𝓡 code.env
-          table-len-def.name
-          table-len-def.routine code.calls-records·table-len (table-len-thm.met 𝓤 H 𝓜 𝓖 𝓡),
+          table-len-def.name table-len-def.routine code.calls-records·table-len (table-len-thm.met 𝓤 H 𝓜 𝓖 𝓡),
       cited 𝓤 H (tripleOf 𝓤 H (𝓖 .A) core.signature (core.spec 𝓤 H (𝓖 .A) (𝓜 .mem) (𝓡 .run))) 𝓜 𝓡 code.env core-def.name
-          core-def.routine
-          code.calls-input-core·input (core-thm.met 𝓤 H 𝓜 𝓖 𝓡),
+          core-def.routine code.calls-input-core·input (core-thm.met 𝓤 H 𝓜 𝓖 𝓡),
       cited 𝓤 H (tripleOf 𝓤 H (𝓖 .A) flight-of.signature (flight-of.spec 𝓤 H (𝓖 .A) (𝓜 .mem) (𝓡 .run))) 𝓜 𝓡 code.env
-          flight-of-def.name
-          flight-of-def.routine code.calls-results·taken-flight (flight-of-thm.met 𝓤 H 𝓜 𝓖 𝓡),
+          flight-of-def.name flight-of-def.routine code.calls-results·taken-flight (flight-of-thm.met 𝓤 H 𝓜 𝓖 𝓡),
       cited 𝓤 H (tripleOf 𝓤 H (𝓖 .A) arrival-of.signature (arrival-of.spec 𝓤 H (𝓖 .A) (𝓜 .mem) (𝓡 .run))) 𝓜 𝓡 code.env
-          arrival-of-def.name
-          arrival-of-def.routine code.calls-results·taken-arrival (arrival-of-thm.met 𝓤 H 𝓜 𝓖 𝓡),
+          arrival-of-def.name arrival-of-def.routine code.calls-results·taken-arrival (arrival-of-thm.met 𝓤 H 𝓜 𝓖 𝓡),
+      cited 𝓤 H (tripleOf 𝓤 H (𝓖 .A) changed-of.signature (changed-of.spec 𝓤 H (𝓖 .A) (𝓜 .mem) (𝓡 .run))) 𝓜 𝓡 code.env
+          changed-of-def.name changed-of-def.routine code.calls-results·taken-changed (changed-of-thm.met 𝓤 H 𝓜 𝓖 𝓡),
+      cited 𝓤 H (tripleOf 𝓤 H (𝓖 .A) scatter.signature (scatter.spec 𝓤 H (𝓖 .A) (𝓜 .mem) (𝓡 .run))) 𝓜 𝓡 code.env scatter-def.name
+          scatter-def.routine code.calls-gathering·scatter (scatter-thm.met 𝓤 H 𝓜 𝓖 𝓡),
+      cited 𝓤 H (tripleOf 𝓤 H (𝓖 .A) code-of.signature (code-of.spec 𝓤 H (𝓖 .A) (𝓜 .mem) (𝓡 .run))) 𝓜 𝓡 code.env code-of-def.name
+          code-of-def.routine code.calls-results·taken-code (code-of-thm.met 𝓤 H 𝓜 𝓖 𝓡),
     ))

@@ -17,7 +17,7 @@ put-controls-requires c κs =
 
 put-outstanding-requires : tie.Need-put-outstanding-requires
 put-outstanding-requires c κs =
-    let put = c .before .before .before .before .before .before .before in
+    let put = c .before .before .before .before .before .before .before .before in
     let began = put .before .before .before in
     let w = began .before .before .before .before .before .before .pre in
     (data-left _ _ _ _ _ _ _ _ _ _ w _ _ _ _ _ (began .new .ensures) (put .put-controls .ensures), w .sendable)
@@ -25,19 +25,19 @@ put-outstanding-requires c κs =
 finish-requires : tie.Need-finish-requires
 finish-requires c κs =
     let walked = c .before .before .before .before .before in
-    let put = walked .before .before .before .before .before .before .before .before in
+    let put = walked .before .before .before .before .before .before .before .before .before in
     let began = put .before .before .before in
     let w = began .before .before .before .before .before .before .pre in
-    last-left _ _ _ _ _ _ _ _ _ _ w _ _ _ _ _ (began .new .ensures) (put .put-controls .ensures) _ _ _ _ _
+    last-left _ _ _ _ _ _ _ _ _ _ w _ _ _ _ _ (began .new .ensures) (put .put-controls .ensures) _ _ _ _ _ _
     (walked .put-outstanding .ensures)
 
 returns : tie.Need-returns
 returns c =
-    let finished = c .before .before .before in
+    let finished = c .before .before in
     let walked = finished .before .before .before .before .before .before in
-    let put = walked .before .before .before .before .before .before .before .before in
+    let put = walked .before .before .before .before .before .before .before .before .before in
     let began = put .before .before .before in
-    writes-all _ _ _ _ _ _ _ _ _ _ _ _ _ _ _ _ _ _ _ _ _ _ (began .new .ensures) (put .put-controls .ensures)
+    writes-all _ _ _ _ _ _ _ _ _ _ _ _ _ _ _ _ _ _ _ _ _ _ _ (began .new .ensures) (put .put-controls .ensures)
     (walked .put-outstanding .ensures) (finished .finish .ensures)
 
 pub write-spec : {M : Type 1} → statement M

@@ -7,37 +7,43 @@ use native.Mathlib.Omega.{arith}
 use borrow.Author.Needs.{needs}
 use lib.ListN.{length, take, drop}
 use Rattle.timing.specs.declared.Record.{Record}
-use Rattle.lists.proofs.Loops.{length-mapped}
-use Rattle.checking.specs.Tests.{leastAfterAll, flownBy, flightFits}
+use Rattle.records.specs.Tables.{blank}
+use Rattle.record_words.specs.RecordWords.{recordsIn}
+use Rattle.record_words.specs.RecordLaws.{records-length}
+use Rattle.checking.specs.Tests.{leastAfter, leastAfterAll, flownBy, flightFits}
 use Rattle.checking.specs.FlownLaws.{flown-fits}
 use Rattle.checking.proofs.Turns.{least-next, least-end, looked-all}
 use Rattle.checking.proofs.flights.flight_fits.Statement.{statement}
 use Rattle.checking.proofs.flights.flight_fits.Tie as tie
 
 abbrev Inv-loop : tie.InvT-loop
-Inv-loop settings flight records n least₀ i₀ least i =
-    (i ≤ n) × (length records ≡ 32)
-    × (leastAfterAll (settings .mode) (flight .una) (flight .next) 0 (take n records) ≡ leastAfterAll (settings .mode) (flight .una)
-    (flight .next) least (drop i (take n records)))
+Inv-loop records settings flight n least₀ i₀ least i =
+    (i ≤ n) × (length (recordsIn records) ≡ 32)
+    × (leastAfterAll (settings .mode) (flight .una) (flight .next) 0 (take n (recordsIn records)) ≡ leastAfterAll (settings .mode) (flight .una)
+    (flight .next) least (drop i (take n (recordsIn records))))
 
 abbrev μ-loop : tie.MeasureT-loop
-μ-loop settings flight records n least₀ i₀ least i = n - i
+μ-loop records settings flight n least₀ i₀ least i = n - i
 
 loop-holds : tie.Need-loop-holds Inv-loop μ-loop
 loop-holds c =
-    let rs : length (c .before .args .t1) ≡ 32 = search (needs, length-mapped) in
-    (search needs, rs, refl)
+    (search needs, records-length 32 (c .before .args .records .now) (c .before .pre), refl)
 
 loop-again : tie.Need-loop-again Inv-loop μ-loop
 loop-again c =
+    let a = c .before .before .before .before .before .args in
     let l = c .before .before .before .loop in
-    let n = c .before .before .before .before .looked-at in
-    let few = n .ensures .1 in (
+    let n = c .before .before .before .before .looked-at in (
       search needs,
       l .inv .1,
-      least-next _ _ _ _ (n .result) (l .i) _ (l .least) (l .inv .2) _ _ (c .before .before .loop-test .taken)
-          (omega (arith, few, l .inv .1)) (c .next-least .ensures),
+      least-next _ _ _ (recordsIn (a .records .now)) (n .result) (l .i) _ (l .least) (l .inv .2) blank _
+          (c .before .before .loop-test .taken) (omega (arith, n .ensures .1, l .inv .1))
+          (c .next-least .ensures ∙ ap (leastAfter (a .settings .mode) (a .flight .una) (a .flight .next) (l .least)) (c .before .at .ensures)),
     )
+
+at-requires : tie.Need-at-requires Inv-loop μ-loop
+at-requires c κs =
+    (c .before .before .before .pre, omega (arith, c .before .before .looked-at .ensures .1, c .loop-test .taken))
 
 returns : tie.Need-returns Inv-loop μ-loop
 returns c =
@@ -59,8 +65,7 @@ flight-fits-spec =
     μ-loop
     (λ c κs. search needs)
     loop-holds
-    (λ c. search needs)
-    (λ c. search needs)
+    at-requires
     (λ c κs. search needs)
     (λ c. search needs)
     (λ c. search needs)

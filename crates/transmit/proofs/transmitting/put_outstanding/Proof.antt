@@ -3,9 +3,11 @@
 use mathlib.Core.Path.{refl}
 use mathlib.Core.Logic.{⊎-elim}
 use Prim.Native.Nat.{_-_}
+use native.Mathlib.Omega.{arith}
 use borrow.Author.Count.{falls}
 use borrow.Author.Needs.{needs}
-use Rattle.lists.proofs.Loops.{length-mapped}
+use Rattle.records.specs.Tables.{blank}
+use Rattle.record_words.specs.RecordWords.{recordsIn}
 use Rattle.numbering.proofs.SentLaws.{sents, sents-take}
 use Rattle.transmit.proofs.WalkLaws.{
   Walking,
@@ -21,21 +23,33 @@ use Rattle.transmit.proofs.transmitting.put_outstanding.Statement.{stat
 use Rattle.transmit.proofs.transmitting.put_outstanding.Tie as tie
 
 abbrev Inv-loop : tie.InvT-loop
-Inv-loop flush words transmissions₀ n pool out₀ lengths₀ rs₀ k₀ dead₀ late₀ fast₀ i₀ transmissions out lengths rs k dead late fast i =
-    Walking flush n pool k₀ out₀ lengths₀ (sents words transmissions₀ rs₀) words transmissions rs k out lengths dead late fast i
+Inv-loop flush words ts₀ rs₀ n pool out₀ lengths₀ k₀ dead₀ late₀ fast₀ i₀ transmissions records out lengths k dead late fast i =
+    Walking flush n pool k₀ out₀ lengths₀ (sents words ts₀ (recordsIn rs₀)) words transmissions records k out lengths dead late fast i
 
 abbrev μ-loop : tie.MeasureT-loop
-μ-loop flush words transmissions₀ n pool out₀ lengths₀ rs₀ k₀ dead₀ late₀ fast₀ i₀ transmissions out lengths rs k dead late fast i =
+μ-loop flush words ts₀ rs₀ n pool out₀ lengths₀ k₀ dead₀ late₀ fast₀ i₀ transmissions records out lengths k dead late fast i =
     n - i
 
 loop-holds : tie.Need-loop-holds Inv-loop μ-loop
 loop-holds c =
     let p = c .before .before .before .pre in
-    walking-start _ _ _ _ _ _ _ _ _ (p .1 .count) (p .1 .whole) (p .1 .wholes) (search (needs, length-mapped)) (p .0 .fills)
+    walking-start _ _ _ _ _ _ _ _ _ (p .1 .count) (p .1 .whole) (p .1 .wholes) (p .1 .whole-records) (p .0 .fills)
+
+at-requires : tie.Need-at-requires Inv-loop μ-loop
+at-requires c κs =
+    let turn = c .before in
+    let head = turn .before in
+    (head .loop .inv .whole-records, omega (arith, head .loop .inv .list .room, turn .loop-test .taken))
+
+put-requires : tie.Need-put-requires Inv-loop μ-loop
+put-requires c κs =
+    let turn = c .before .before .before .before .before .before .before in
+    let head = turn .before in
+    (head .loop .inv .whole-records, omega (arith, head .loop .inv .list .room, turn .loop-test .taken))
 
 put-sent-requires : tie.Need-put-sent-requires Inv-loop μ-loop
 put-sent-requires c κs =
-    let turn = c .before .before .before .before .before .before .before .before in
+    let turn = c .before .before .before .before .before .before .before .before .before .before .before in
     let head = turn .before in
     let entry = head .before .before .before .before in
     let a = entry .args in
@@ -44,29 +58,31 @@ put-sent-requires c κs =
     let here = turn .loop-test .taken in (
       walking-room _ _ _ _ _ _ _ _ _ _ _ _ _ _ _ _ _ w here (p .0),
       p .1 .mtu,
-      walking-inside _ _ _ _ _ _ _ _ _ _ _ _ _ _ _ _ _ w here (p .1 .whole) (record { number = 0; due = 0; timeout = 0; skips = 0 }) _
-          (rw (← (sents-take (a .words .now) (a .transmissions .now) (a .records) (a .n))) (p .1 .inside)),
+      walking-inside _ _ _ _ _ _ _ _ _ _ _ _ _ _ _ _ _ w here (p .1 .whole) blank _
+          (rw (← (sents-take (a .words .now) (a .transmissions .now) (recordsIn (a .records .now)) (a .n))) (p .1 .inside)),
       p .1 .slots,
     )
 
 loop-less : tie.Need-loop-less Inv-loop μ-loop
-loop-less c = falls _ _ (c .before .before .before .before .loop-test .taken)
+loop-less c = falls _ _ (c .before .before .before .before .before .loop-test .taken)
 
 loop-again : tie.Need-loop-again Inv-loop μ-loop
 loop-again c =
     let called = c .before in
-    let turn = called .before .before .before in
+    let read = called .before .before in
+    let turn = read .before .before in
     let head = turn .before in
     let p = head .before .before .before .before .pre .1 in
+    let rule = rw (read .at .ensures) at (called .transmission .ensures) in
     ⊎-elim
     (λ w.
-    walking-as (w .13) (w .14) (w .15) (w .16) (w .17) (w .18) (w .19) (w .20)
-    (walking-sent _ _ _ _ _ _ _ _ _ _ _ _ _ _ _ _ _ (head .loop .inv) (turn .loop-test .taken) (p .whole) _ _
-    (called .transmission .ensures) _ _ _ (w .0 .taken) (w .5 .ensures)))
+    walking-as (w .15) (w .16) (w .17) (w .18) (w .19) (w .20) (w .21) (w .22)
+    (walking-sent _ _ _ _ _ _ _ _ _ _ _ _ _ _ _ _ _ (head .loop .inv) (turn .loop-test .taken) (p .whole) blank _
+    rule _ _ _ _ (w .0 .taken) (w .3 .ensures) (w .7 .ensures)))
     (λ w.
     walking-as (w .1) (w .2) (w .3) (w .4) (w .5) (w .6) (w .7) (w .8)
-    (walking-kept _ _ _ _ _ _ _ _ _ _ _ _ _ _ _ _ _ (head .loop .inv) (turn .loop-test .taken) (p .whole) _ _
-    (called .transmission .ensures) (w .0 .left)))
+    (walking-kept _ _ _ _ _ _ _ _ _ _ _ _ _ _ _ _ _ (head .loop .inv) (turn .loop-test .taken) (p .whole) blank _
+    rule (w .0 .left)))
     (c .if1 .came)
 
 returns : tie.Need-returns Inv-loop μ-loop
@@ -81,13 +97,11 @@ put-outstanding-spec =
     Inv-loop
     μ-loop
     loop-holds
-    (λ c. search needs)
-    (λ c. search needs)
+    at-requires
     (λ c. search needs)
     (λ c κs. search needs)
     (λ c. search needs)
-    (λ c. search needs)
-    (λ c. search needs)
+    put-requires
     (λ c. search needs)
     (λ c. search needs)
     put-sent-requires

@@ -4,7 +4,7 @@ use mathlib.Core.Path.{_≡_, refl}
 use denote.Memory.{lone}
 use prog.Memory.{size}
 use Rattle.lending.proofs.Block.{L}
-use Rattle.ampferweg.specs.Blocks.{blockSize}
+use Rattle.archive.specs.Blocks.{blockSize}
 
 is-size : size (lone (L .mir)) ≡ blockSize
 is-size = refl
