@@ -49,15 +49,15 @@ fn reach(word: u32) -> usize
 
 // The records at the slots of the first n words, in their order, into an array that holds blank ones. Of the table the first 128
 // records are read.
-pub fn gather(table: &[Record], words: [u32; 32], n: usize, records: &mut [u32; 128])
-    requires { ⌜ now records ≡ replicate 128 0 ⌝ }
+pub fn gather(table: &[Record], words: &[u32; 32], n: usize, records: &mut [u32; 128])
+    requires { ⌜ (length (now words) ≡ 32) × (now records ≡ replicate 128 0) ⌝ }
     ensures { λ _. ⌜ (length (now (records .exit)) ≡ 128)
-        × (recordsIn (now (records .exit)) ≡ padded (gathered (take sendSlots (now (table .entry))) (slotsIn words n))) ⌝ }
+        × (recordsIn (now (records .exit)) ≡ padded (gathered (take sendSlots (now (table .entry))) (slotsIn (now (words .entry)) n))) ⌝ }
 {
     let count = within(n);
     let mut i = 0;
     while i < count {
-        let word = words[i];
+        let word = word_at(words, i);
         let slot = reach(word);
         let found = records::read(table, slot);
         record_words::put(records, i, found);
