@@ -87,14 +87,15 @@ pub fn fit(table: &[Record], words: &[u32; 32], settings: Settings, flight: Flig
 }
 
 // Each record is stored at the slot of its word, in their order; no other record of the table changes.
-pub fn scatter(table: &mut [Record], words: [u32; 32], n: usize, records: &[u32; 128])
-    requires { ⌜ length (now records) ≡ 128 ⌝ }
-    ensures { λ _. ⌜ now (table .exit) ≡ scattered (now (table .entry)) (slotsIn words n) (recordsIn (now (records .entry))) ⌝ }
+pub fn scatter(table: &mut [Record], words: &[u32; 32], n: usize, records: &[u32; 128])
+    requires { ⌜ (length (now words) ≡ 32) × (length (now records) ≡ 128) ⌝ }
+    ensures { λ _. ⌜ now (table .exit)
+        ≡ scattered (now (table .entry)) (slotsIn (now (words .entry)) n) (recordsIn (now (records .entry))) ⌝ }
 {
     let count = within(n);
     let mut i = 0;
     while i < count {
-        let word = words[i];
+        let word = word_at(words, i);
         let slot = slot_of(word);
         let updated = record_words::at(records, i);
         records::replace(table, slot, updated);
