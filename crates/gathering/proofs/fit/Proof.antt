@@ -361,14 +361,18 @@ module _ {M : Type 1} (𝓤 : URA M) (H : Heap 𝓤) (A : Atoms 𝓤) (W : Given
                 uint-makes 𝓤 H A W w64,
                 (
                   makes 𝓤 H A,
-                  (LL.makes settings-row.the-type settings-laws.the-plain 𝓤 H A, (LL.makes flight-row.the-type flight-laws.the-plain 𝓤 H A, tt)),
+                  (
+                    LL.makes settings-row.the-type settings-laws.the-plain 𝓤 H A,
+                    (LL.makes flight-row.the-type flight-laws.the-plain 𝓤 H A, tt),
+                  ),
                 ),
               )
               (t .1, (r, (c, (g, tt)))) (vint w64 (t .1) ∷ [], (v ∷ [], (sv ∷ [], (fv ∷ [], tt)))) ((refl, t .2), (is-r, (gs, (gf, tt)))))
               (λ a _. id⊢ 𝓤 _)
               (and-then ! (load ! (from ! (stop !)) (look ! 17 refl))
               (and-then ! (load ! (from ! (stop !)) (look ! 9 refl))
-              (and-then ! (load ! (from ! (stop !)) (look ! 23 refl)) (and-then ! (load ! (from ! (stop !)) (look ! 21 refl)) (no-more !)))))
+              (and-then ! (load ! (from ! (stop !)) (look ! 23 refl))
+              (and-then ! (load ! (from ! (stop !)) (look ! 21 refl)) (no-more !)))))
               (λ a va _ e-a is-a. drop ! $ drop ! $ land ! (from ! (stop !)) (init ! 6 refl (uint-lawful 𝓤 H A W w64 .typed a _ is-a .0)) $
               assigns ! (of-opd ! (load ! (from ! (stop !)) (look ! 6 refl))) (from ! (stop !))
               (store ! 16 refl (uint-lawful 𝓤 H A W w64 .typed a _ is-a .0)) $

@@ -264,8 +264,8 @@ module _ {M : Type 1} (𝓤 : URA M) (H : Heap 𝓤) (A : Atoms 𝓤) (W : Given
         → ent 𝓤 (⋆ 𝓤 H A (‵ (Lent κ′ γ′ xs) ∷ ‵ (flft κ′ q′) ∷ ‵ (flft κ q) ∷ ‵ (flft κ″ q″) ∷ [])) (Post vunit)
     exits xs e-len e =
         qed W (‵ (Lent κ′ γ′ xs) ∷ ‵ (flft κ′ q′) ∷ ‵ (flft κ q) ∷ ‵ (flft κ″ q″) ∷ []) ∵
-        suffices ! _ (ends-at 𝓤 H A f.ended stayed (f.clauses 𝓤 H A mem run) W (((κ, (κ″, (κ′, tt))), (q, (q″, (q′, tt))), tt, x, at), tt) vunit tt
-        (tt, (tt, (tt, (xs, tt)))) (tt, (tt, (tt, (tt, tt))))) $ says ! (e-len, e) $
+        suffices ! _ (ends-at 𝓤 H A f.ended stayed (f.clauses 𝓤 H A mem run) W (((κ, (κ″, (κ′, tt))), (q, (q″, (q′, tt))), tt, x, at), tt)
+        vunit tt (tt, (tt, (tt, (xs, tt)))) (tt, (tt, (tt, (tt, tt))))) $ says ! (e-len, e) $
         nothing ! $ move ! (2 ∷ 0 ∷ []) $ join ! $ move ! (3 ∷ 0 ∷ []) $ join ! $ move ! (2 ∷ 0 ∷ []) $ join ! $ frame ! $
         nothing ! $ move ! (1 ∷ 0 ∷ []) $ fjoin ! $ nothing ! $ fjoin ! $ nothing ! $ fjoin ! $ nothing ! $ fjoin ! $ frame ! $
         feqI ! (List Val) (vunit ∷ []) (vunit ∷ []) refl $ done !

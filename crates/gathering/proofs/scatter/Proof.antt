@@ -25,7 +25,6 @@ use Rattle.records.proofs.Walk.{
   named,
   w32,
   w64,
-  tyPtr,
   tyBool,
   tyInt,
   Val,
@@ -275,8 +274,8 @@ module _ {M : Type 1} (𝓤 : URA M) (H : Heap 𝓤) (A : Atoms 𝓤) (W : Given
         → ent 𝓤 (⋆ 𝓤 H A (‵ (Own κ γ zs (length zs)) ∷ ‵ (flft κ q) ∷ ‵ (flft κ′ q′) ∷ ‵ (flft κ″ q″) ∷ [])) (Post vunit)
     exits zs e e-len =
         qed W (‵ (Own κ γ zs (length zs)) ∷ ‵ (flft κ q) ∷ ‵ (flft κ′ q′) ∷ ‵ (flft κ″ q″) ∷ []) ∵
-        suffices ! _ (ends-at 𝓤 H A f.ended stayed (f.clauses 𝓤 H A mem run) W (((κ, (κ″, (κ′, tt))), (q, (q″, (q′, tt))), tt, x, at), tt) vunit tt
-        (zs, (tt, (tt, (tt, tt)))) (e-len, (tt, (tt, (tt, tt))))) $ says ! e $
+        suffices ! _ (ends-at 𝓤 H A f.ended stayed (f.clauses 𝓤 H A mem run) W (((κ, (κ″, (κ′, tt))), (q, (q″, (q′, tt))), tt, x, at), tt)
+        vunit tt (zs, (tt, (tt, (tt, tt)))) (e-len, (tt, (tt, (tt, tt))))) $ says ! e $
         nothing ! $ move ! (3 ∷ 0 ∷ []) $ join ! $ move ! (3 ∷ 0 ∷ []) $ join ! $ move ! (2 ∷ 0 ∷ []) $ join ! $ frame ! $
         rewrite ! 0 (λ (m : ℕ). ‵ (Own κ γ zs m)) e-len refl $
         nothing ! $ nothing ! $ fjoin ! $ nothing ! $ fjoin ! $ nothing ! $ fjoin ! $ move ! (1 ∷ 0 ∷ []) $ fjoin ! $ frame ! $
