@@ -19,7 +19,7 @@ ghost use Rattle.record_words.specs.RecordWords.{recordsIn};
 ghost use Rattle.flush_core.specs.Flushes.{Flushable, keptOf, Wrote, Runs, Core};
 
 // The answer of an update, which a flush has too, the block's numbers after it, and the number of outstanding segments whose records
-// are to be put back into the table.
+// are to be put back into the table: all of them, or none where none was sent.
 pub struct Flushed {
     pub answer: Update,
     pub flight: Flight,
@@ -93,7 +93,7 @@ fn flush_now(
         flight: after,
         arrival: told,
         clock: moved,
-        changed: after.outstanding,
+        changed: parts::changed(written.sent, after.outstanding),
     }
 }
 

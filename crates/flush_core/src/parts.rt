@@ -12,6 +12,7 @@ use schedule::Schedule;
 use timing::ProbeClock;
 use transmit::Flush;
 ghost use mathlib.Core.Path.{_≡_};
+ghost use mathlib.Core.Bool.{cond};
 ghost use Prim.Native.Nat.{_≤_};
 ghost use Rattle.control.specs.Views.{isSet, scheduleOf};
 ghost use Rattle.protocol.specs.Ranges.{mss};
@@ -104,6 +105,13 @@ pub(crate) fn after_losses(
     let mut after = flight;
     after.congestion = old.after_flush(most as u32, losses);
     after
+}
+
+// How many of n outstanding segments have records to be put back: none where none was sent.
+pub(crate) fn changed(sent: bool, n: usize) -> usize
+    ensures { λ r. ⌜ r ≡ cond sent n 0 ⌝ }
+{
+    if sent { n } else { 0 }
 }
 
 // The clock after a flush at t: no ask is wanted, and the schedule is as it was.
