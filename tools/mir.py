@@ -194,6 +194,8 @@ class Driver:
         if self.pars[0].kind == 'ref' and not any(self.touches(x) for x in self.statements[k + 1:]):
             self.walk.lengths('end-')
             self.walk.closes()
+            if self.walk.arrays:
+                self.walk.cut(k + 1)
 
     @staticmethod
     def touches(s):
