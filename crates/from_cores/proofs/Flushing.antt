@@ -80,8 +80,8 @@ module _ (t : ℕ) (l : Link) (p : Parts) (f : FlushParts) (a : Count) (b : PutB
 
   -- the records of the table, by value
   pub flush-left : (records : List Record) (n : ℕ) → Gathers l p records n → Whole (arraysOf l′)
-      → Left records (flushesWith l records (p .acks) (lentLengths n (p .sendPool) (p .receivePool) (p .acks)) (p .sendPool) (length (f .output))
-      (length (f .lengths)) t) → FlushLeft t l p f a b l′ f′
+      → Left records (flushesWith l records (p .acks) (lentLengths n (p .sendPool) (p .receivePool) (p .acks)) (p .sendPool)
+      (length (f .output)) (length (f .lengths)) t) → FlushLeft t l p f a b l′ f′
   unfolding flushesWith
   flush-left records n g whole h =
       let long = enoughToFlush (mss (l .settings)) (lengthsOf p) (length (f .output)) (length (f .lengths)) in

@@ -190,8 +190,8 @@ module _ (f : Flush) (n : ℕ) (pool : List ℕ) (k₀ : Packer) (out₀ lengths
             (sym (ap (λ (y : Transmission). y .sends) e) ∙ s) in
             let on-time : x .late ≡ false = ap (λ (y : Transmission). y .late) kept in
             let in-turn : x .fast ≡ false = ap (λ (y : Transmission). y .fast) kept in
-            rw (on-time, in-turn, s, or-false dead, or-false late, or-false fast, or-false sent) at (turn ts rs k out lengths false (w .wholes)
-            (w .whole-records)
+            rw (on-time, in-turn, s, or-false dead, or-false late, or-false fast, or-false sent) at (turn ts rs k out lengths false
+            (w .wholes) (w .whole-records)
             (ap (λ (y : Sent). set (sents ws ts (recordsIn rs)) i y) (ap (sentAs (getD ws i 0)) kept ∙ sym here)
             ∙ set-getD (sents ws ts (recordsIn rs)) i (withRecord (outstandingAt 0 0) r))
             (wished-none _ _ _ _ k out lengths (x .sends) s (w .adds .fills))
