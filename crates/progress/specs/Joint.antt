@@ -1,5 +1,5 @@
 -- What ties two stations that hear only each other: every number given out is outstanding, or had by the other one, whatever was lost.
--- Each call of either keeps it. By numbers alone: no payload, no window, no time. A flush may number any count of queued segments
+-- Each call of either preserves it. By numbers alone: no payload, no window, no time. A flush may number any count of queued segments
 -- within 32 of snd_una, and a send may do anything that leaves snd_nxt and the outstanding segments.
 -- A proof layer: no statement cites it.
 -- Assumes nothing.
@@ -34,7 +34,7 @@ use Rattle.delivery.specs.SendingFlushes.{flushedWith}
 use Rattle.delivery.specs.AlwaysValid.{InOrder, in-order-stays, opened-all}
 use Rattle.progress.specs.SmallNumbers.{or-left, or-both}
 use Rattle.progress.specs.Had.{has, Known, Pushes, HasAck, TookAll, all-had, ReadOut, read-had}
-use Rattle.progress.specs.Outstanding.{numbersOf, Says, all-kept, all-gone, skips-numbers, flush-under, flush-has, flush-old}
+use Rattle.progress.specs.Outstanding.{numbersOf, Says, all-preserved, all-gone, skips-numbers, flush-under, flush-has, flush-old}
 use Rattle.progress.specs.Carried.{
   Carries,
   carries-weaker,
@@ -77,7 +77,7 @@ module _ (c : Settings) (d : Sending) (wrote : List (List ℕ)) (r : Receiving) 
       rw (skips-numbers (allBySending c current d gs) (ackNumbers gs), taken-same c current d gs (ackNumbers gs) .0)
       (record {
         low = w .low;
-        under = all-kept c current (λ (n : ℕ). n < d .next) gs d (w .under);
+        under = all-preserved c current (λ (n : ℕ). n < d .next) gs d (w .under);
         pushes = w .pushes;
         says = w .says;
         acks = w .acks;
@@ -237,13 +237,13 @@ module _ (a b : Station) (byA byB : List (List ℕ))
       }
 
   -- what is to be shown of a call
-  abbrev Kept : Call → Stepped → Type 0
-  Kept x y =
+  abbrev Preserved : Call → Stepped → Type 0
+  Preserved x y =
       CallFits x → TakesOneOf byB x → FewPushes c (datagramsIn (y .answer)) → Ways c (y .station) (byA ++ datagramsIn (y .answer)) b byB
 
-  ways-after : (x : Call) → Kept x (own a x)
+  ways-after : (x : Call) → Preserved x (own a x)
   ways-after =
-      own-cases Kept a
+      own-cases Preserved a
       (λ x f fits from few. same)
       (λ m ok fits from few. rw append-nil (record { ab = j .ab; ba = j .ba }))
       (λ x gs e fits from few. takes x gs e from)
@@ -253,7 +253,7 @@ module _ (a b : Station) (byA byB : List (List ℕ))
       (λ t time from few. rw append-nil (record { ab = j .ab; ba = j .ba }))
       (λ t time from few. same)
 
--- EACH CALL of an end keeps what ties the two, by any name of the settings
+-- EACH CALL of an end preserves what ties the two, by any name of the settings
 pub joint-step : (c : Settings) → inRange c ≡ true → c .conv < 2 ^ 32 → (a b : Station) (byA byB : List (List ℕ)) (x : Call)
     → CallFits x → TakesOneOf byB x → FewPushes c (datagramsIn (own a x .answer)) → Joint c a byA b byB
     → Joint c (own a x .station) (byA ++ datagramsIn (own a x .answer)) b byB

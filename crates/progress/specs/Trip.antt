@@ -46,7 +46,7 @@ use Rattle.delivery.specs.AlwaysValid.{InOrder}
 use Rattle.delivery.specs.FedLaws.{or-true}
 use Rattle.progress.specs.SmallNumbers.{after-small}
 use Rattle.progress.specs.Had.{has, waitingNumbers, known-next, Pushes, TookAll, took-all-none, took-all-then, all-had, goes-in}
-use Rattle.progress.specs.Outstanding.{numbersOf, all-kept, floor-all, skips-numbers, una-least, una-is}
+use Rattle.progress.specs.Outstanding.{numbersOf, all-preserved, floor-all, skips-numbers, una-least, una-is}
 use Rattle.progress.specs.Carried.{Carries, wroteBy, Flushable, in-order-flushable, flushable-rescheduled, flush-una, flush-some}
 use Rattle.progress.specs.Joint.{Joint, exchanged, joint-step}
 use Rattle.progress.specs.TwoEnds.{TakesOneOf, GoesOut, AllArrive, Passed}
@@ -347,7 +347,7 @@ module _ (c : Settings) (range : inRange c ≡ true) (conv32 : c .conv < 2 ^ 32)
     floor-stays : NoneBelow v a → NoneBelow v (own a (Call.takeIn d) .station)
     floor-stays f =
         rw (taken-numbers a d (x .segments) reads-so)
-        (all-kept (a .state .settings) (a .state .current) (λ (n : ℕ). v ≤ n) (x .segments) (a .state .sending) f)
+        (all-preserved (a .state .settings) (a .state .current) (λ (n : ℕ). v ≤ n) (x .segments) (a .state .sending) f)
 
     next-stays : own a (Call.takeIn d) .station .state .sending .next ≡ a .state .sending .next
     next-stays = taken-next a d (x .segments) reads-so
@@ -356,15 +356,15 @@ module _ (c : Settings) (range : inRange c ≡ true) (conv32 : c .conv < 2 ^ 32)
     floor : All (λ (n : ℕ). v ≤ n) (numbersOf (a′ .state .sending .outstanding))
     next : a′ .state .sending .next ≡ a .state .sending .next
 
-  floor-kept : (v : ℕ) (ds : List (List ℕ)) (a b : Station) (byA byB : List (List ℕ)) → All AllBytes ds
+  floor-preserved : (v : ℕ) (ds : List (List ℕ)) (a b : Station) (byA byB : List (List ℕ)) → All AllBytes ds
       → All (λ (d : List ℕ). List·Memᴰ d byB) ds → All (Carries c (Una v)) ds → Joint c a byA b byB → NoneBelow v a → Floor v a (fed a ds)
   unfolding fed
-  floor-kept v [] a b byA byB bytes m x j f = record { floor = f; next = refl }
-  floor-kept v (d ∷ ds) a b byA byB bytes m x j f =
+  floor-preserved v [] a b byA byB bytes m x j f = record { floor = f; next = refl }
+  floor-preserved v (d ∷ ds) a b byA byB bytes m x j f =
       let a₁ : Station = own a (Call.takeIn d) .station in
       let o = j .in-order-a in
       let i =
-      floor-kept v ds a₁ b byA byB (bytes .1) (m .1) (x .1) (joint-takes a b byA byB d (bytes .0) (m .0) j)
+      floor-preserved v ds a₁ b byA byB (bytes .1) (m .1) (x .1) (joint-takes a b byA byB d (bytes .0) (m .0) j)
       (floor-stays v d a o (x .0) f) in
       record { floor = i .floor; next = i .next ∙ next-stays v d a o (x .0) }
 
@@ -377,7 +377,7 @@ module _ (c : Settings) (range : inRange c ≡ true) (conv32 : c .conv < 2 ^ 32)
       let a₁ : Station = own a (Call.takeIn d) .station in
       let o = j .in-order-a in
       let i =
-      floor-kept v ds a₁ b byA byB (bytes .1) (m .1) (x .1) (joint-takes a b byA byB d (bytes .0) (m .0) j)
+      floor-preserved v ds a₁ b byA byB (bytes .1) (m .1) (x .1) (joint-takes a b byA byB d (bytes .0) (m .0) j)
       (floor-one v d a o (x .0) b byA byB j l) in
       record { floor = i .floor; next = i .next ∙ next-stays v d a o (x .0) }
 

@@ -1,4 +1,4 @@
--- What one call tells of another, the ack list as one list, and an update as a flush or a new current time alone. Definitions.
+-- What one call says of another, the ack list as one list, and an update as a flush or a new current time alone. Definitions.
 -- Assumes nothing.
 use mathlib.Core.Path.{_≡_}
 use mathlib.Core.Bool.{cond}
@@ -37,7 +37,7 @@ acksAfter (done x) acks = sets acks 0 (entriesOf (x .state .receiving .acks))
 
 -- ---- an update
 
--- a flush at t of the same block and parts, but that the next flush time and the mark are the schedule's
+-- a flush at t of the same block and parts, but that the next flush time, and that an update was made, are the schedule's
 pub record AsFlush (t : ℕ) (l : Link) (p : Parts) (f : FlushParts) (n : ℕ) (l′ : Link) (p′ : Parts) (f′ : FlushParts) : Type 0 where
   pub count : n ≡ length (flushing (stateIn l p) t (p .sendPool) .datagrams)
   pub schedule : Schedule

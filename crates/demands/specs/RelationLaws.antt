@@ -44,7 +44,7 @@ use Rattle.promises.specs.Parts.{Parts, lengthsOf, stateIn, isMade}
 use Rattle.promises.specs.Outcomes.{checked, takesInWith, readsWith, tellsWith, takesIn}
 use Rattle.promises.specs.Answers.{Counts, countOutcome}
 use Rattle.promises.specs.Promises.{TookIn, InputPromise, InputLeaves, ReadPromise, SizePromise}
-use Rattle.demands.specs.Told.{readAs, entriesOf, acksAfter}
+use Rattle.demands.specs.Relations.{readAs, entriesOf, acksAfter}
 use Rattle.demands.specs.CountLaws.{is-valid, short, low}
 
 -- ---- parts that are long enough
