@@ -30,7 +30,8 @@ select-numbers test [] = refl
 select-numbers test (x ∷ l) = go (test (number x)) (select-numbers test l)
   where
     go : (b : Bool) → map number (filter test l) ≡ select test (map number l)
-        → map number (cond b (x ∷ filter test l) (filter test l)) ≡ cond b (number x ∷ select test (map number l)) (select test (map number l))
+        → map number (cond b (x ∷ filter test l) (filter test l))
+        ≡ cond b (number x ∷ select test (map number l)) (select test (map number l))
     go true e = ap (λ (r : List ℕ). number x ∷ r) e
     go false e = e
 

@@ -87,7 +87,8 @@ module _ (now next : ℕ) (hn : now < 2 ^ 32) (hs : next < 2 ^ 32) where
       go (inr a) (inr e) =
           let there : plus now (minus next now) ≡ next = omega arith in
           let straight = near next next (inl (omega arith)) in
-          rw (corrected-unchanged now next a, ahead-undue now next e, there, corrected-unchanged next next straight) (due-by next next (omega arith))
+          rw (corrected-unchanged now next a, ahead-undue now next e, there, corrected-unchanged next next straight)
+          (due-by next next (omega arith))
 
 -- ---- a check at now
 

@@ -90,7 +90,8 @@ returns c =
     let l = loop .loop .inv in
     let records = recordsIn (loop .loop .records) in
     let left : JoinedIn (loop .loop .words) (loop .loop .transmissions) (loop .loop .j) records
-    (filter (staysBy (a .next) (a .h)) (joined (outstandingIn (a .words .now) (a .transmissions .now) (a .n)) (recordsIn (a .records .now))))
+    (filter (staysBy (a .next) (a .h))
+    (joined (outstandingIn (a .words .now) (a .transmissions .now) (a .n)) (recordsIn (a .records .now))))
     = rw (← (beside-front (a .words .now) (a .transmissions .now) (recordsIn (a .records .now)) (a .n)))
     (in-front _ _ _ _ _ (l .0) (l .1) (packed-done (select-end _ _ _ _ (c .before .before .before .loop-test .left)) (l .3))) in
     let first = first-is (loop .loop .words) (loop .loop .transmissions) records (loop .loop .j) (a .next) blank

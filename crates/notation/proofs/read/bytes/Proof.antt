@@ -23,7 +23,8 @@ returns-2 c =
 returns-3 : tie.Need-returns-3
 returns-3 c =
     let branch = c .before in
-    read-none _ _ (sym (branch .before .before .is-dash .ensures) ∙ branch .before .if1 .left) (rw (branch .is-hex .ensures) at (c .if2 .left))
+    read-none _ _ (sym (branch .before .before .is-dash .ensures) ∙ branch .before .if1 .left)
+    (rw (branch .is-hex .ensures) at (c .if2 .left))
 
 pub bytes-spec : {M : Type 1} → statement M
 bytes-spec =
