@@ -125,13 +125,13 @@ module _ (c : Settings) (d : Sending) (wrote : List (List ℕ)) (r : Receiving) 
   -- has no less than before
   has-more : (r′ : Receiving) → ((n : ℕ) → has r n ≡ true → has r′ n ≡ true) → r .next ≤ r′ .next → All (HasAck r′) (r′ .acks)
       → Known (d .next) r′ → Way c d wrote r′ said
-  has-more r′ keeps up acks known = record {
+  has-more r′ preserves up acks known = record {
     low = w .low;
     under = w .under;
     pushes = w .pushes;
-    says = carries-weaker c (Says r) (Says r′) (says-more r r′ keeps up) said (w .says);
+    says = carries-weaker c (Says r) (Says r′) (says-more r r′ preserves up) said (w .says);
     acks = acks;
-    gone = λ n l. or-both (occurs n out) (has r n) (occurs n out) (has r′ n) (λ e. e) (keeps n) (w .gone n l);
+    gone = λ n l. or-both (occurs n out) (has r n) (occurs n out) (has r′ n) (λ e. e) (preserves n) (w .gone n l);
     known = known;
   }
     where
@@ -145,7 +145,7 @@ module _ (c : Settings) (d : Sending) (wrote : List (List ℕ)) (r : Receiving) 
       let x : Receiver = record { half = r; pool = pool } in
       let i : TookAll (d .next) r (allByReceiving m (record { half = r; pool = pool }) gs .half) =
       all-had m (d .next) (w .low) gs x (w .known) a in
-      has-more (allByReceiving m x gs .half) (i .took .keeps) (i .took .up) (i .acks (w .acks)) (i .took .knows)
+      has-more (allByReceiving m x gs .half) (i .took .preserves) (i .took .up) (i .acks (w .acks)) (i .took .knows)
 
   -- reads
   receiver-reads : Way c d wrote (afterRead r) said

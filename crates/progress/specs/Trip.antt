@@ -112,9 +112,9 @@ is-flush s x ds fits wrote =
     (λ t f e. absurd (let z : _≡_ {A = ℕ} 0 1 = cc in omega arith))
     x fits wrote
 
-flush-keeps-una : (s : Station) (x : Call) → IsFlush s x (own s x) → own s x .station .state .sending .una ≡ s .state .sending .una
+flush-preserves-una : (s : Station) (x : Call) → IsFlush s x (own s x) → own s x .station .state .sending .una ≡ s .state .sending .una
 unfolding flushing
-flush-keeps-una s x f = ap (λ (y : Stepped). y .station .state .sending .una) (f .is)
+flush-preserves-una s x f = ap (λ (y : Stepped). y .station .state .sending .una) (f .is)
 
 abbrev Una : ℕ → Segment → Type 0
 Una v g = g .header .una ≡ v
@@ -301,7 +301,7 @@ module _ (c : Settings) (range : inRange c ≡ true) (conv32 : c .conv < 2 ^ 32)
       let x = one-goes-in u d r q byR byQ (m .0) j l (rw e at h) in
       let i : TookAll (q .state .sending .next) (r₁ .state .receiving) (fed r₁ ds .state .receiving) =
       all-arrive ds r₁ q byR byQ (bytes .1) (m .1) (joint-takes r q byR byQ d (bytes .0) (m .0) j) in
-      (i .took .keeps u (x .0), omega (arith, x .1, i .more))
+      (i .took .preserves u (x .0), omega (arith, x .1, i .more))
   push-arrives u it (d ∷ ds) r q byR byQ (List·Memᴰ·tail n) h bytes m j l =
       let r₁ : Station = own r (Call.takeIn d) .station in
       let i : TookAll (q .state .sending .next) (r .state .receiving) (r₁ .state .receiving) = one-arrives d r q byR byQ (m .0) j in
@@ -435,7 +435,7 @@ module _ (c : Settings) (range : inRange c ≡ true) (conv32 : c .conv < 2 ^ 32)
     numbers₁ = numbersOf (own a x .station .state .sending .outstanding)
 
     ordered : Numbers u N (a₁ .state .sending .outstanding)
-    ordered = rw (flush-keeps-una a x (is-flush a x ds fits writes)) at (half-in c a₁ (j₁ .in-order-a .sends) .numbers)
+    ordered = rw (flush-preserves-una a x (is-flush a x ds fits writes)) at (half-in c a₁ (j₁ .in-order-a .sends) .numbers)
 
     -- it is not past rcv_nxt: the segment numbered rcv_nxt is not had, so it is outstanding or not given out
     not-past : u ≤ r
