@@ -31,7 +31,7 @@ use Rattle.transmit.specs.Flushes.{FlushOf, FlushWrites}
 use Rattle.transmit.specs.FlushLaws.{flush-writes}
 use Rattle.transmit.specs.IdleLaws.{idle}
 use Rattle.flush_core.specs.declared.parts.Plan.{Plan}
-use Rattle.flush_core.specs.Parts.{goesBy, Plans, windowIn, withLosses, Moves, toldOf}
+use Rattle.flush_core.specs.Parts.{goesBy, Plans, windowIn, withLosses, Moves, clearedOf}
 use Rattle.flush_core.specs.Flushes.{putBack, Wrote}
 
 module _ (c : Settings) (f : Flight) (a : Arrival) (k : Clock) (queued outstanding transmissions ready waiting numbers : List ℕ)
@@ -67,7 +67,7 @@ module _ (c : Settings) (f : Flight) (a : Arrival) (k : Clock) (queued outstandi
         (rw (plans .flush, plans .ask, plans .tell, numbered .sent .list, e₁) at writes)
 
     module _ (a′ : Arrival) (k′ : Clock) (f′ : Flight) (lost : f′ ≡ withLosses c n window (w .fast) (w .late))
-        (told : a′ ≡ toldOf a) (moves : Moves k (plan .probe) (w .dead) t k′) where
+        (cleared : a′ ≡ clearedOf a) (moves : Moves k (plan .probe) (w .dead) t k′) where
       abbrev after : Link
       after = linkOf c f′ a′ k′ (arrays queued′ outstanding′ transmissions″ ready waiting numbers)
 
@@ -109,7 +109,7 @@ module _ (c : Settings) (f : Flight) (a : Arrival) (k : Clock) (queued outstandi
               window = flown i .window;
               roundTrip = flown i .rtt;
             };
-            receiving = receivingOf (told i) ready waiting numbers (pairs (told i .acks) acks);
+            receiving = receivingOf (cleared i) ready waiting numbers (pairs (cleared i .acks) acks);
             probe = (ap (λ (y : Clock). y .probe) (moves .is) ∙ plans .probe) i;
             current = moves .is i .current;
             schedule = scheduleOf (moves .is i);
@@ -123,7 +123,7 @@ module _ (c : Settings) (f : Flight) (a : Arrival) (k : Clock) (queued outstandi
       counts-fit =
           let q = counts f a fit in
           rw (
-            told,
+            cleared,
             lost,
             le-leb _ _ (numbered .queued-fits),
             le-leb _ _ (numbered .sent .fits),

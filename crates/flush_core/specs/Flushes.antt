@@ -51,8 +51,8 @@ abbrev pub putBack : List ℕ → ℕ → List Record → PutBack
 putBack words changed records = record { words = words; changed = changed; records = records }
 
 -- nothing
-abbrev pub keptOf : Update → Flight → Arrival → Clock → Flushed
-keptOf a f v k = record { answer = a; flight = f; arrival = v; clock = k; changed = 0 }
+abbrev pub unflushedOf : Update → Flight → Arrival → Clock → Flushed
+unflushedOf a f v k = record { answer = a; flight = f; arrival = v; clock = k; changed = 0 }
 
 -- ---- of the block l at t, after which it is l′, with the records of its outstanding segments before and after
 

@@ -17,7 +17,7 @@ ghost use Prim.Native.Nat.{_≤_};
 ghost use Rattle.control.specs.Views.{isSet, scheduleOf};
 ghost use Rattle.protocol.specs.Ranges.{mss};
 ghost use Rattle.congestion.specs.Congestions.{Countable};
-ghost use Rattle.flush_core.specs.Parts.{Plans, windowIn, lossesIn, withLosses, Moves, toldOf, Steps, currentOf};
+ghost use Rattle.flush_core.specs.Parts.{Plans, windowIn, lossesIn, withLosses, Moves, clearedOf, Steps, currentOf};
 
 // What a flush goes by, whether it asks and tells, and the probe clock after it.
 pub(crate) struct Plan {
@@ -129,8 +129,8 @@ pub(crate) fn moved(clock: Clock, probe: ProbeClock, dead: bool, t: u32) -> Cloc
 }
 
 // The receiving half's numbers after a flush: no acks are noted, and no tell is wanted.
-pub(crate) fn told(arrival: Arrival) -> Arrival
-    ensures { λ r. ⌜ r ≡ toldOf arrival ⌝ }
+pub(crate) fn cleared(arrival: Arrival) -> Arrival
+    ensures { λ r. ⌜ r ≡ clearedOf arrival ⌝ }
 {
     Arrival {
         expected: arrival.expected,

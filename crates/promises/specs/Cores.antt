@@ -1,5 +1,5 @@
--- What the core of a call leaves: it has the block's numbers and arrays, and the records of the outstanding segments by value, 32 of
--- them, the first of which are theirs. l is the block before, l′ the one after. Definitions.
+-- What the core of a call leaves: it has the block's numbers and arrays, and 32 records, the first of which are the outstanding segments'.
+-- l is the block before, l′ the one after. Definitions.
 -- Assumes nothing.
 use mathlib.Core.Path.{_≡_}
 use mathlib.Core.Logic.{_⊎_}

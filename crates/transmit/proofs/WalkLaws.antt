@@ -184,15 +184,15 @@ module _ (f : Flush) (n : ℕ) (pool : List ℕ) (k₀ : Packer) (out₀ lengths
             (rw s))
 
         -- it is not sent, and stays
-        pub walking-kept : x .sends ≡ false → Walking f n pool k₀ out₀ lengths₀ l₀ ws ts rs k out lengths dead late fast sent (i + 1)
-        walking-kept s =
-            let kept = e ∙ transmission-not-sent (f .settings) (f .timeout) (f .t) (getD ts i 0) (getD (recordsIn rs) i r)
+        pub walking-unchanged : x .sends ≡ false → Walking f n pool k₀ out₀ lengths₀ l₀ ws ts rs k out lengths dead late fast sent (i + 1)
+        walking-unchanged s =
+            let same = e ∙ transmission-not-sent (f .settings) (f .timeout) (f .t) (getD ts i 0) (getD (recordsIn rs) i r)
             (sym (ap (λ (y : Transmission). y .sends) e) ∙ s) in
-            let on-time : x .late ≡ false = ap (λ (y : Transmission). y .late) kept in
-            let in-turn : x .fast ≡ false = ap (λ (y : Transmission). y .fast) kept in
+            let on-time : x .late ≡ false = ap (λ (y : Transmission). y .late) same in
+            let in-turn : x .fast ≡ false = ap (λ (y : Transmission). y .fast) same in
             rw (on-time, in-turn, s, or-false dead, or-false late, or-false fast, or-false sent) at (turn ts rs k out lengths false
             (w .wholes) (w .whole-records)
-            (ap (λ (y : Sent). set (sents ws ts (recordsIn rs)) i y) (ap (sentAs (getD ws i 0)) kept ∙ sym here)
+            (ap (λ (y : Sent). set (sents ws ts (recordsIn rs)) i y) (ap (sentAs (getD ws i 0)) same ∙ sym here)
             ∙ set-getD (sents ws ts (recordsIn rs)) i (withRecord (outstandingAt 0 0) r))
             (wished-none _ _ _ _ k out lengths (x .sends) s (w .adds .fills))
             (rw s))

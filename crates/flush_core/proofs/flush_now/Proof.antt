@@ -48,7 +48,7 @@ returns c =
           waiting numbers (a .records .now) (a .acks .now) (a .t)
           (a .pool .now) _ _ _ (window .window-of .ensures) _ _ _ _ _ _ _ _ _ _ _ (plans .plan-of .ensures) (numbered .number .ensures)
           (writes .write .ensures) whole (start .pre .counts)
-          _ _ _ (c .before .before .before .after-losses .ensures) (c .before .told .ensures) (c .before .before .moved .ensures)
+          _ _ _ (c .before .before .before .after-losses .ensures) (c .before .cleared .ensures) (c .before .before .moved .ensures)
           _ (c .changed .ensures),
       writes .write .ensures .sent .whole-records,
     )

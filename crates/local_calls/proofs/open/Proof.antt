@@ -231,11 +231,28 @@ use Rattle.local_calls.proofs.open.Statement as stated
 use Rattle.local_calls.proofs.open.Code as code
 
 abbrev stayed : Stays (f.ended .signature .params) (f.ended .kept)
-stayed = (stay-ref (0 ∷ []) tt (plain (λ _. L)),
-    (stay-dropped _ yes, (stay-dropped _ yes,
-    (stay-dropped _ yes, (stay-dropped _ yes,
-    (stay-dropped _ yes, (stay-dropped _ yes,
-    (stay-dropped _ yes, (stay-dropped _ yes, (stay-dropped _ yes, (stay-dropped _ yes, (stay-dropped _ yes, tt))))))))))))
+stayed = (
+  stay-ref (0 ∷ []) tt (plain (λ _. L)),
+  (
+    stay-dropped _ yes,
+    (
+      stay-dropped _ yes,
+      (
+        stay-dropped _ yes,
+        (
+          stay-dropped _ yes,
+          (
+            stay-dropped _ yes,
+            (
+              stay-dropped _ yes,
+              (stay-dropped _ yes, (stay-dropped _ yes, (stay-dropped _ yes, (stay-dropped _ yes, (stay-dropped _ yes, tt))))),
+            ),
+          ),
+        ),
+      ),
+    ),
+  ),
+)
 
 module _ {M : Type 1} (𝓤 : URA M) (H : Heap 𝓤) (A : Atoms 𝓤) (W : Given 𝓤 H A) (at-mem : Memory → SProp 𝓤) (run : Routine → Fun 𝓤) where
   -- what is known of the callees
@@ -286,8 +303,16 @@ module _ {M : Type 1} (𝓤 : URA M) (H : Heap 𝓤) (A : Atoms 𝓤) (W : Given
     Own₁₁ = ShrSlice (named 0) κ₄ u32 .own x₁₁ (s₁₁ ∷ [])
 
     abbrev at : Vals f.signature (κ₀, (κ₁, (κ₂, (κ₃, (κ₄, tt)))))
-    at = (vptr b o ∷ [], (v₁ ∷ [], (v₂ ∷ [],
-        (v₃ ∷ [], (v₄ ∷ [], (v₅ ∷ [], (v₆ ∷ [], (v₇ ∷ [], (s₈ ∷ [], (s₉ ∷ [], (s₁₀ ∷ [], (s₁₁ ∷ [], tt))))))))))))
+    at = (
+      vptr b o ∷ [],
+      (
+        v₁ ∷ [],
+        (
+          v₂ ∷ [],
+          (v₃ ∷ [], (v₄ ∷ [], (v₅ ∷ [], (v₆ ∷ [], (v₇ ∷ [], (s₈ ∷ [], (s₉ ∷ [], (s₁₀ ∷ [], (s₁₁ ∷ [], tt))))))))),
+        ),
+      ),
+    )
 
     unfoldable Post : Val → SProp 𝓤
     Post = walkOf 𝓤 H A f.ended stayed (f.clauses 𝓤 H A at-mem run) .post
@@ -295,20 +320,27 @@ module _ {M : Type 1} (𝓤 : URA M) (H : Heap 𝓤) (A : Atoms 𝓤) (W : Given
 
     -- what table-len is called at, and that what it asks is had
     abbrev to-table-len : tripleOf 𝓤 H A table-len.signature (table-len.spec 𝓤 H A at-mem run) .Ghost
-    to-table-len  = (((κ₃, tt), (q₃, tt), tt, (x₁₀, tt), (s₁₀ ∷ [], tt)), tt)
+    to-table-len = (((κ₃, tt), (q₃, tt), tt, (x₁₀, tt), (s₁₀ ∷ [], tt)), tt)
 
-    asks-table-len :  ent 𝓤 (⋆ 𝓤 H A (‵ (flft κ₃ q₃) ∷ ‵ Own₁₀ ∷ []))
-        (tripleOf 𝓤 H A table-len.signature (table-len.spec 𝓤 H A at-mem run) .pre (to-table-len ))
-    asks-table-len    =
+    asks-table-len : ent 𝓤 (⋆ 𝓤 H A (‵ (flft κ₃ q₃) ∷ ‵ Own₁₀ ∷ []))
+        (tripleOf 𝓤 H A table-len.signature (table-len.spec 𝓤 H A at-mem run) .pre (to-table-len))
+    asks-table-len =
         qed W (‵ (flft κ₃ q₃) ∷ ‵ Own₁₀ ∷ []) ∵ nothing ! $ move ! (1 ∷ 0 ∷ []) $ join ! $ nothing ! $ move ! (2 ∷ 0 ∷ []) $
-            fjoin ! $ move ! (1 ∷ 0 ∷ []) $ join ! $ nothing ! $ move ! (1 ∷ 0 ∷ []) $ done !
+        fjoin ! $ move ! (1 ∷ 0 ∷ []) $ join ! $ nothing ! $ move ! (1 ∷ 0 ∷ []) $ done !
 
     -- what core is called at, and that what it asks is had
     abbrev to-core : (y₀ : Settings) (u₀ : Val) (y₁ : Settings) (u₁ : Val) (y₂ : Flight) (u₂ : Val) (y₃ : Arrival) (u₃ : Val) (y₄ : Clock)
         (u₄ : Val) (y₅ : ℕ) (u₅ : Val) → tripleOf 𝓤 H A core.signature (core.spec 𝓤 H A at-mem run) .Ghost
-    to-core y₀ u₀ y₁ u₁ y₂ u₂ y₃ u₃ y₄ u₄ y₅ u₅ =
-        (((κ₁, (κ₂, (κ₄, tt))), (q₁, (q₂, (q₄, tt))), tt, (y₀, (y₁, (y₂, (y₃, (y₄, (y₅, (x₈, (x₉, (x₁₁, tt))))))))),
-        (u₀ ∷ [], (u₁ ∷ [], (u₂ ∷ [], (u₃ ∷ [], (u₄ ∷ [], (u₅ ∷ [], (s₈ ∷ [], (s₉ ∷ [], (s₁₁ ∷ [], tt)))))))))), tt)
+    to-core y₀ u₀ y₁ u₁ y₂ u₂ y₃ u₃ y₄ u₄ y₅ u₅ = (
+      (
+        (κ₁, (κ₂, (κ₄, tt))),
+        (q₁, (q₂, (q₄, tt))),
+        tt,
+        (y₀, (y₁, (y₂, (y₃, (y₄, (y₅, (x₈, (x₉, (x₁₁, tt))))))))),
+        (u₀ ∷ [], (u₁ ∷ [], (u₂ ∷ [], (u₃ ∷ [], (u₄ ∷ [], (u₅ ∷ [], (s₈ ∷ [], (s₉ ∷ [], (s₁₁ ∷ [], tt))))))))),
+      ),
+      tt,
+    )
 
     asks-core : (y₀ : Settings) (u₀ : Val) → Is settings-row.the-row y₀ (u₀ ∷ []) → (y₁ : Settings) (u₁ : Val)
         → Is settings-row.the-row y₁ (u₁ ∷ []) → (y₂ : Flight) (u₂ : Val) → Is flight-row.the-row y₂ (u₂ ∷ [])
@@ -316,18 +348,18 @@ module _ {M : Type 1} (𝓤 : URA M) (H : Heap 𝓤) (A : Atoms 𝓤) (W : Given
         → Is clock-row.the-row y₄ (u₄ ∷ []) → (y₅ : ℕ) (u₅ : Val) → Is usize y₅ (u₅ ∷ [])
         → ent 𝓤 (⋆ 𝓤 H A (‵ (flft κ₁ q₁) ∷ ‵ Own₈ ∷ ‵ (flft κ₂ q₂) ∷ ‵ Own₉ ∷ ‵ (flft κ₄ q₄) ∷ ‵ Own₁₁
         ∷ [])) (tripleOf 𝓤 H A core.signature (core.spec 𝓤 H A at-mem run) .pre (to-core y₀ u₀ y₁ u₁ y₂ u₂ y₃ u₃ y₄ u₄ y₅ u₅))
-    asks-core  y₀ u₀ is₀ y₁ u₁ is₁ y₂ u₂ is₂ y₃ u₃ is₃ y₄ u₄ is₄ y₅ u₅ is₅  =
+    asks-core y₀ u₀ is₀ y₁ u₁ is₁ y₂ u₂ is₂ y₃ u₃ is₃ y₄ u₄ is₄ y₅ u₅ is₅ =
         qed W (‵ (flft κ₁ q₁) ∷ ‵ Own₈ ∷ ‵ (flft κ₂ q₂) ∷ ‵ Own₉ ∷ ‵ (flft κ₄ q₄) ∷ ‵ Own₁₁ ∷ []) ∵ nothing ! $
-            move ! (5 ∷ 0 ∷ []) $ join ! $ move ! (3 ∷ 0 ∷ []) $ join ! $ move ! (1 ∷ 0 ∷ []) $ join ! $ nothing ! $ move ! (4 ∷ 0 ∷ []) $
-            fjoin ! $ move ! (3 ∷ 0 ∷ []) $ fjoin ! $ move ! (2 ∷ 0 ∷ []) $ fjoin ! $
-            owned ! usize (Is usize) (uint-makes 𝓤 H A W w64) y₅ _ is₅ $ fjoin ! $
-            owned ! clock-row.the-row (Is clock-row.the-row) (LL.makes clock-row.the-type clock-laws.the-plain 𝓤 H A) y₄ _ is₄ $ fjoin ! $
-            owned ! arrival-row.the-row (Is arrival-row.the-row) (LL.makes arrival-row.the-type arrival-laws.the-plain 𝓤 H A) y₃ _ is₃ $
-            fjoin ! $ owned ! flight-row.the-row (Is flight-row.the-row) (LL.makes flight-row.the-type flight-laws.the-plain 𝓤 H A) y₂ _
-            is₂ $ fjoin ! $ owned ! settings-row.the-row (Is settings-row.the-row)
-            (LL.makes settings-row.the-type settings-laws.the-plain 𝓤 H A) y₁ _ is₁ $ fjoin ! $
-            owned ! settings-row.the-row (Is settings-row.the-row) (LL.makes settings-row.the-type settings-laws.the-plain 𝓤 H A) y₀ _ is₀ $
-            fjoin ! $ move ! (1 ∷ 0 ∷ []) $ join ! $ nothing ! $ move ! (1 ∷ 0 ∷ []) $ done !
+        move ! (5 ∷ 0 ∷ []) $ join ! $ move ! (3 ∷ 0 ∷ []) $ join ! $ move ! (1 ∷ 0 ∷ []) $ join ! $ nothing ! $ move ! (4 ∷ 0 ∷ []) $
+        fjoin ! $ move ! (3 ∷ 0 ∷ []) $ fjoin ! $ move ! (2 ∷ 0 ∷ []) $ fjoin ! $
+        owned ! usize (Is usize) (uint-makes 𝓤 H A W w64) y₅ _ is₅ $ fjoin ! $
+        owned ! clock-row.the-row (Is clock-row.the-row) (LL.makes clock-row.the-type clock-laws.the-plain 𝓤 H A) y₄ _ is₄ $ fjoin ! $
+        owned ! arrival-row.the-row (Is arrival-row.the-row) (LL.makes arrival-row.the-type arrival-laws.the-plain 𝓤 H A) y₃ _ is₃ $
+        fjoin ! $ owned ! flight-row.the-row (Is flight-row.the-row) (LL.makes flight-row.the-type flight-laws.the-plain 𝓤 H A) y₂ _
+        is₂ $ fjoin ! $ owned ! settings-row.the-row (Is settings-row.the-row)
+        (LL.makes settings-row.the-type settings-laws.the-plain 𝓤 H A) y₁ _ is₁ $ fjoin ! $
+        owned ! settings-row.the-row (Is settings-row.the-row) (LL.makes settings-row.the-type settings-laws.the-plain 𝓤 H A) y₀ _ is₀ $
+        fjoin ! $ move ! (1 ∷ 0 ∷ []) $ join ! $ nothing ! $ move ! (1 ∷ 0 ∷ []) $ done !
 
     abbrev Had : (k : Link) → List (Item 𝓤)
     Had k = ‵ (link-own κ₀ b o γ k) ∷ ‵ (flft κ₀ q₀) ∷ ‵ (flft κ₁ q₁) ∷ ‵ (flft κ₂ q₂) ∷ ‵ (flft κ₃ q₃)
@@ -338,18 +370,18 @@ module _ {M : Type 1} (𝓤 : URA M) (H : Heap 𝓤) (A : Atoms 𝓤) (W : Given
     Said r k = Gives answerCode (λ a. OpenPromise (settingsOf x₁ x₂ x₃ x₄ x₅ x₆ x₇) h
         (partsOf (x₈ .now) (x₉ .now) (x₁₀ .now) (x₁₁ .now)) a k (partsOf (x₈ .now) (x₉ .now) (x₁₀ .now) (x₁₁ .now))) r
 
-    exits : (r : ℤ) (w : Val) (k : Link) → Said r k  → Is i32 r (w ∷ []) → ent 𝓤 (⋆ 𝓤 H A (Had k)) (Post w)
+    exits : (r : ℤ) (w : Val) (k : Link) → Said r k → Is i32 r (w ∷ []) → ent 𝓤 (⋆ 𝓤 H A (Had k)) (Post w)
     unfolding Post
-    exits r w k e  g =
+    exits r w k e g =
         qed W (Had k) ∵ suffices ! _ (ends-at 𝓤 H A f.ended stayed (f.clauses 𝓤 H A at-mem run) W
-            (((κ₀, (κ₁, (κ₂, (κ₃, (κ₄, tt))))), (q₀, (q₁, (q₂, (q₃, (q₄, tt))))), tt, x, at), tt) w r
-            (k, (tt, (tt, (tt, (tt, (tt, (tt, (tt, (tt, (tt, (tt, (tt, tt))))))))))))
-            (tt, (tt, (tt, (tt, (tt, (tt, (tt, (tt, (tt, (tt, (tt, (tt, tt))))))))))))) $ says ! e $
+        (((κ₀, (κ₁, (κ₂, (κ₃, (κ₄, tt))))), (q₀, (q₁, (q₂, (q₃, (q₄, tt))))), tt, x, at), tt) w r
+        (k, (tt, (tt, (tt, (tt, (tt, (tt, (tt, (tt, (tt, (tt, (tt, tt))))))))))))
+        (tt, (tt, (tt, (tt, (tt, (tt, (tt, (tt, (tt, (tt, (tt, (tt, tt))))))))))))) $ says ! e $
         nothing ! $ move ! (6 ∷ 0 ∷ []) $ join ! $ move ! (5 ∷ 0 ∷ []) $ join ! $ move ! (4 ∷ 0 ∷ []) $ join ! $ move ! (3 ∷ 0 ∷ []) $
-            join ! $ move ! (2 ∷ 0 ∷ []) $ join ! $ frame ! $ nothing ! $ nothing ! $ fjoin ! $ nothing ! $ fjoin ! $ nothing ! $ fjoin ! $
-            nothing ! $ fjoin ! $ nothing ! $ fjoin ! $ nothing ! $ fjoin ! $ nothing ! $ fjoin ! $ nothing ! $ fjoin ! $ nothing ! $
-            fjoin ! $ nothing ! $ fjoin ! $ nothing ! $ fjoin ! $ move ! (1 ∷ 0 ∷ []) $ fjoin ! $ frame ! $
-            owned ! i32 (Is i32) (sint-makes 𝓤 H A W w32) r _ g $ done !
+        join ! $ move ! (2 ∷ 0 ∷ []) $ join ! $ frame ! $ nothing ! $ nothing ! $ fjoin ! $ nothing ! $ fjoin ! $ nothing ! $ fjoin ! $
+        nothing ! $ fjoin ! $ nothing ! $ fjoin ! $ nothing ! $ fjoin ! $ nothing ! $ fjoin ! $ nothing ! $ fjoin ! $ nothing ! $
+        fjoin ! $ nothing ! $ fjoin ! $ nothing ! $ fjoin ! $ move ! (1 ∷ 0 ∷ []) $ fjoin ! $ frame ! $
+        owned ! i32 (Is i32) (sint-makes 𝓤 H A W w32) r _ g $ done !
 
     module _ (C : Calls 𝓤 H) (Λ : Loops 𝓤 H) (fm : FmC 𝓤 H (W .laws) C) (known : Known C) where
       -- where the locals lie
@@ -415,51 +447,51 @@ module _ {M : Type 1} (𝓤 : URA M) (H : Heap 𝓤) (A : Atoms 𝓤) (W : Given
           (past .22) (past .23)) Post))
       part₁ past =
           qed W (‵ (flft κ₁ q₁) ∷ ‵ (flft κ₂ q₂) ∷ ‵ (flft κ₄ q₄) ∷ ‵ (flft κ₃ q₃)
-              ∷ ‵ (partAt clock-row.the-row fullShare (h .clock) b (o + 104))
-              ∷ ‵ (partAt arrival-row.the-row fullShare (h .arrival) b (o + 72))
-              ∷ ‵ (partAt flight-row.the-row fullShare (h .flight) b (o + 16))
-              ∷ ‵ (partAt settings-row.the-row fullShare (h .settings) b (o + 0))
-              ∷ ‵ (partAt (Array u32 128) fullShare (h .«waiting_numbers») b (o + 1820))
-              ∷ ‵ (partAt (Array u32 128) fullShare (h .waiting) b (o + 1308)) ∷ ‵ (partAt (Array u32 128) fullShare (h .ready) b (o + 796))
-              ∷ ‵ (partAt (Array u8 32) fullShare (h .transmissions) b (o + 764))
-              ∷ ‵ (partAt (Array u32 32) fullShare (h .outstanding) b (o + 636))
-              ∷ ‵ (partAt (Array u32 128) fullShare (h .queued) b (o + 124)) ∷ raw (Back 𝓤 H A fullShare b o) ∷ ‵ (Open b o γ κ₀ q₀ h)
-              ∷ (‵ (fdies (tyInt w32) (past .0)) ⊛ ‵ (fdies (tyRef (named 0) mut (pointee (L .written))) (past .1)) ⊛ ‵
-              (fdies (tyInt w32) (past .2)) ⊛ ‵ (fdies (tyInt w32) (past .3)) ⊛ ‵ (fdies (tyInt w32) (past .4)) ⊛ ‵
-              (fdies (tyInt w32) (past .5)) ⊛ ‵ (fdies (tyInt w32) (past .6)) ⊛ ‵ (fdies (tyInt w32) (past .7)) ⊛ ‵
-              (fdies (tyInt w32) (past .8)) ⊛ ‵ (fdies (sliceTy (tyRef (named 1) imm (tyInt w8))) (past .9)) ⊛ ‵
-              (fdies (sliceTy (tyRef (named 2) imm (tyInt w8))) (past .10)) ⊛ ‵
-              (fdies (sliceTy (tyRef (named 3) imm (pointee (R .written)))) (past .11)) ⊛ ‵
-              (fdies (sliceTy (tyRef (named 4) imm (tyInt w32))) (past .12)) ⊛ ‵ (fdies settings-laws.mir (past .13)) ⊛ ‵
-              (fdies settings-laws.mir (past .14)) ⊛ ‵ (fdies flight-laws.mir (past .15)) ⊛ ‵ (fdies arrival-laws.mir (past .16)) ⊛ ‵
-              (fdies clock-laws.mir (past .17)) ⊛ ‵ (fdies (tyInt w64) (past .18)) ⊛ ‵ (fdies opened-laws.mir (past .19)) ⊛ ‵
-              (fdies settings-laws.mir (past .20)) ⊛ ‵ (fdies flight-laws.mir (past .21)) ⊛ ‵ (fdies arrival-laws.mir (past .22)) ⊛ ‵
-              (fdies clock-laws.mir (past .23))) ∷ ‵ (froom clock-laws.mir (past .23) 0) ∷ ‵ (froom arrival-laws.mir (past .22) 0)
-              ∷ ‵ (froom flight-laws.mir (past .21) 0) ∷ ‵ (froom settings-laws.mir (past .20) 0)
-              ∷ ‵ (fat fullShare opened-laws.mir (past .19) 0 ((past .31))) ∷ ‵ (fat fullShare (tyInt w64) (past .18) 0 ((past .28)))
-              ∷ ‵ (fat fullShare clock-laws.mir (past .17) 0 ((only ((LL.vals clock-row.the-type clock-laws.the-laws) (h .clock)))))
-              ∷ ‵ (fat fullShare arrival-laws.mir (past .16) 0 ((only ((LL.vals arrival-row.the-type arrival-laws.the-laws) (h .arrival)))))
-              ∷ ‵ (fat fullShare flight-laws.mir (past .15) 0 ((only ((LL.vals flight-row.the-type flight-laws.the-laws) (h .flight)))))
-              ∷ ‵ (fat fullShare settings-laws.mir (past .14) 0
-              ((only ((LL.vals settings-row.the-type settings-laws.the-laws) (h .settings)))))
-              ∷ ‵ (fat fullShare settings-laws.mir (past .13) 0 ((past .25)))
-              ∷ ‵ (fat fullShare (sliceTy (tyRef (named 4) imm (tyInt w32))) (past .12) 0 (s₁₁))
-              ∷ ‵ (fat fullShare (sliceTy (tyRef (named 3) imm (pointee (R .written)))) (past .11) 0 (s₁₀))
-              ∷ ‵ (fat fullShare (sliceTy (tyRef (named 2) imm (tyInt w8))) (past .10) 0 (s₉))
-              ∷ ‵ (fat fullShare (sliceTy (tyRef (named 1) imm (tyInt w8))) (past .9) 0 (s₈))
-              ∷ ‵ (fat fullShare (tyInt w32) (past .8) 0 (v₇)) ∷ ‵ (fat fullShare (tyInt w32) (past .7) 0 (v₆))
-              ∷ ‵ (fat fullShare (tyInt w32) (past .6) 0 (v₅)) ∷ ‵ (fat fullShare (tyInt w32) (past .5) 0 (v₄))
-              ∷ ‵ (fat fullShare (tyInt w32) (past .4) 0 (v₃)) ∷ ‵ (fat fullShare (tyInt w32) (past .3) 0 (v₂))
-              ∷ ‵ (fat fullShare (tyInt w32) (past .2) 0 (v₁))
-              ∷ ‵ (fat fullShare (tyRef (named 0) mut (pointee (L .written))) (past .1) 0 (vptr b o)) ∷ ‵ (froom (tyInt w32) (past .0) 0)
-              ∷ []) ∵ exec ! C Λ (En (past .0) (past .1) (past .2) (past .3) (past .4) (past .5) (past .6) (past .7) (past .8) (past .9)
-              (past .10) (past .11) (past .12) (past .13) (past .14) (past .15) (past .16) (past .17) (past .18) (past .19) (past .20)
-              (past .21) (past .22) (past .23)) (behind 7 (code.function .body))
-              (atRet (En (past .0) (past .1) (past .2) (past .3) (past .4) (past .5) (past .6) (past .7) (past .8) (past .9) (past .10)
-              (past .11) (past .12) (past .13) (past .14) (past .15) (past .16) (past .17) (past .18) (past .19) (past .20) (past .21)
-              (past .22) (past .23)) Post) $
+          ∷ ‵ (partAt clock-row.the-row fullShare (h .clock) b (o + 104))
+          ∷ ‵ (partAt arrival-row.the-row fullShare (h .arrival) b (o + 72))
+          ∷ ‵ (partAt flight-row.the-row fullShare (h .flight) b (o + 16))
+          ∷ ‵ (partAt settings-row.the-row fullShare (h .settings) b (o + 0))
+          ∷ ‵ (partAt (Array u32 128) fullShare (h .«waiting_numbers») b (o + 1820))
+          ∷ ‵ (partAt (Array u32 128) fullShare (h .waiting) b (o + 1308)) ∷ ‵ (partAt (Array u32 128) fullShare (h .ready) b (o + 796))
+          ∷ ‵ (partAt (Array u8 32) fullShare (h .transmissions) b (o + 764))
+          ∷ ‵ (partAt (Array u32 32) fullShare (h .outstanding) b (o + 636))
+          ∷ ‵ (partAt (Array u32 128) fullShare (h .queued) b (o + 124)) ∷ raw (Back 𝓤 H A fullShare b o) ∷ ‵ (Open b o γ κ₀ q₀ h)
+          ∷ (‵ (fdies (tyInt w32) (past .0)) ⊛ ‵ (fdies (tyRef (named 0) mut (pointee (L .written))) (past .1)) ⊛ ‵
+          (fdies (tyInt w32) (past .2)) ⊛ ‵ (fdies (tyInt w32) (past .3)) ⊛ ‵ (fdies (tyInt w32) (past .4)) ⊛ ‵
+          (fdies (tyInt w32) (past .5)) ⊛ ‵ (fdies (tyInt w32) (past .6)) ⊛ ‵ (fdies (tyInt w32) (past .7)) ⊛ ‵
+          (fdies (tyInt w32) (past .8)) ⊛ ‵ (fdies (sliceTy (tyRef (named 1) imm (tyInt w8))) (past .9)) ⊛ ‵
+          (fdies (sliceTy (tyRef (named 2) imm (tyInt w8))) (past .10)) ⊛ ‵
+          (fdies (sliceTy (tyRef (named 3) imm (pointee (R .written)))) (past .11)) ⊛ ‵
+          (fdies (sliceTy (tyRef (named 4) imm (tyInt w32))) (past .12)) ⊛ ‵ (fdies settings-laws.mir (past .13)) ⊛ ‵
+          (fdies settings-laws.mir (past .14)) ⊛ ‵ (fdies flight-laws.mir (past .15)) ⊛ ‵ (fdies arrival-laws.mir (past .16)) ⊛ ‵
+          (fdies clock-laws.mir (past .17)) ⊛ ‵ (fdies (tyInt w64) (past .18)) ⊛ ‵ (fdies opened-laws.mir (past .19)) ⊛ ‵
+          (fdies settings-laws.mir (past .20)) ⊛ ‵ (fdies flight-laws.mir (past .21)) ⊛ ‵ (fdies arrival-laws.mir (past .22)) ⊛ ‵
+          (fdies clock-laws.mir (past .23))) ∷ ‵ (froom clock-laws.mir (past .23) 0) ∷ ‵ (froom arrival-laws.mir (past .22) 0)
+          ∷ ‵ (froom flight-laws.mir (past .21) 0) ∷ ‵ (froom settings-laws.mir (past .20) 0)
+          ∷ ‵ (fat fullShare opened-laws.mir (past .19) 0 ((past .31))) ∷ ‵ (fat fullShare (tyInt w64) (past .18) 0 ((past .28)))
+          ∷ ‵ (fat fullShare clock-laws.mir (past .17) 0 ((only ((LL.vals clock-row.the-type clock-laws.the-laws) (h .clock)))))
+          ∷ ‵ (fat fullShare arrival-laws.mir (past .16) 0 ((only ((LL.vals arrival-row.the-type arrival-laws.the-laws) (h .arrival)))))
+          ∷ ‵ (fat fullShare flight-laws.mir (past .15) 0 ((only ((LL.vals flight-row.the-type flight-laws.the-laws) (h .flight)))))
+          ∷ ‵ (fat fullShare settings-laws.mir (past .14) 0
+          ((only ((LL.vals settings-row.the-type settings-laws.the-laws) (h .settings)))))
+          ∷ ‵ (fat fullShare settings-laws.mir (past .13) 0 ((past .25)))
+          ∷ ‵ (fat fullShare (sliceTy (tyRef (named 4) imm (tyInt w32))) (past .12) 0 (s₁₁))
+          ∷ ‵ (fat fullShare (sliceTy (tyRef (named 3) imm (pointee (R .written)))) (past .11) 0 (s₁₀))
+          ∷ ‵ (fat fullShare (sliceTy (tyRef (named 2) imm (tyInt w8))) (past .10) 0 (s₉))
+          ∷ ‵ (fat fullShare (sliceTy (tyRef (named 1) imm (tyInt w8))) (past .9) 0 (s₈))
+          ∷ ‵ (fat fullShare (tyInt w32) (past .8) 0 (v₇)) ∷ ‵ (fat fullShare (tyInt w32) (past .7) 0 (v₆))
+          ∷ ‵ (fat fullShare (tyInt w32) (past .6) 0 (v₅)) ∷ ‵ (fat fullShare (tyInt w32) (past .5) 0 (v₄))
+          ∷ ‵ (fat fullShare (tyInt w32) (past .4) 0 (v₃)) ∷ ‵ (fat fullShare (tyInt w32) (past .3) 0 (v₂))
+          ∷ ‵ (fat fullShare (tyInt w32) (past .2) 0 (v₁))
+          ∷ ‵ (fat fullShare (tyRef (named 0) mut (pointee (L .written))) (past .1) 0 (vptr b o)) ∷ ‵ (froom (tyInt w32) (past .0) 0)
+          ∷ []) ∵ exec ! C Λ (En (past .0) (past .1) (past .2) (past .3) (past .4) (past .5) (past .6) (past .7) (past .8) (past .9)
+          (past .10) (past .11) (past .12) (past .13) (past .14) (past .15) (past .16) (past .17) (past .18) (past .19) (past .20)
+          (past .21) (past .22) (past .23)) (behind 7 (code.function .body))
+          (atRet (En (past .0) (past .1) (past .2) (past .3) (past .4) (past .5) (past .6) (past .7) (past .8) (past .9) (past .10)
+          (past .11) (past .12) (past .13) (past .14) (past .15) (past .16) (past .17) (past .18) (past .19) (past .20) (past .21)
+          (past .22) (past .23)) Post) $
           nothing ! $ calls-fn ! fm opened-settings.ended (opened-settings.clauses 𝓤 H A at-mem run) (known .3)
-              ((tt, tt, tt, ((past .30), tt), ((past .31) ∷ [], tt)), tt) (λ ks _. ks ≡ (past .30) .settings)
+          ((tt, tt, tt, ((past .30), tt), ((past .31) ∷ [], tt)), tt) (λ ks _. ks ≡ (past .30) .settings)
           (‵ ftrue) (plainly 𝓤 H A W (opened-row.the-row ∷ []) ((LL.makes opened-row.the-type opened-laws.the-plain 𝓤 H A), tt)
           ((past .30), tt) ((past .31) ∷ [], tt) ((past .33), tt)) (λ ks _. id⊢ 𝓤 _)
           (and-then ! (load ! (from ! (stop !)) (look ! 22 refl)) (no-more !))
@@ -467,13 +499,13 @@ module _ {M : Type 1} (𝓤 : URA M) (H : Heap 𝓤) (A : Atoms 𝓤) (W : Given
           land ! (from ! (stop !)) (init ! 20 refl (LL.lawful settings-row.the-type settings-laws.the-laws 𝓤 H A W .typed ks (w-ks ∷ [])
           is-ks .0)) $
           move ! (7 ∷ []) $ cell-out ! fullShare settings-row.the-row (LL.vals settings-row.the-type settings-laws.the-laws)
-              (LL.tells settings-row.the-type settings-laws.the-laws) (h .settings) b (o + 0)
-              (λ was-settings′. assigns ! (of-opd ! (load ! (from ! (stop !)) (look ! 20 refl)))
-              (from ! (hop ! (look ! 39 refl) (fld ! {d = 0} refl (stop !))))
-              (store-raw ! 0 refl (LL.lawful settings-row.the-type settings-laws.the-laws 𝓤 H A W .typed ks (w-ks ∷ []) is-ks .0)) $
-              cell-in ! fullShare settings-row.the-row (LL.makes settings-row.the-type settings-laws.the-plain 𝓤 H A) ks b (o + 0) w-ks
-              is-ks $ nothing ! $ calls-fn ! fm opened-flight.ended (opened-flight.clauses 𝓤 H A at-mem run) (known .4)
-              ((tt, tt, tt, ((past .30), tt), ((past .31) ∷ [], tt)), tt) (λ kf _. kf ≡ (past .30) .flight)
+          (LL.tells settings-row.the-type settings-laws.the-laws) (h .settings) b (o + 0)
+          (λ was-settings′. assigns ! (of-opd ! (load ! (from ! (stop !)) (look ! 20 refl)))
+          (from ! (hop ! (look ! 39 refl) (fld ! {d = 0} refl (stop !))))
+          (store-raw ! 0 refl (LL.lawful settings-row.the-type settings-laws.the-laws 𝓤 H A W .typed ks (w-ks ∷ []) is-ks .0)) $
+          cell-in ! fullShare settings-row.the-row (LL.makes settings-row.the-type settings-laws.the-plain 𝓤 H A) ks b (o + 0) w-ks
+          is-ks $ nothing ! $ calls-fn ! fm opened-flight.ended (opened-flight.clauses 𝓤 H A at-mem run) (known .4)
+          ((tt, tt, tt, ((past .30), tt), ((past .31) ∷ [], tt)), tt) (λ kf _. kf ≡ (past .30) .flight)
           (‵ ftrue) (plainly 𝓤 H A W (opened-row.the-row ∷ []) ((LL.makes opened-row.the-type opened-laws.the-plain 𝓤 H A), tt)
           ((past .30), tt) ((past .31) ∷ [], tt) ((past .33), tt)) (λ kf _. id⊢ 𝓤 _)
           (and-then ! (load ! (from ! (stop !)) (look ! 22 refl)) (no-more !))
@@ -481,13 +513,13 @@ module _ {M : Type 1} (𝓤 : URA M) (H : Heap 𝓤) (A : Atoms 𝓤) (W : Given
           land ! (from ! (stop !)) (init ! 19 refl (LL.lawful flight-row.the-type flight-laws.the-laws 𝓤 H A W .typed kf (w-kf ∷ []) is-kf
           .0)) $
           move ! (7 ∷ []) $ cell-out ! fullShare flight-row.the-row (LL.vals flight-row.the-type flight-laws.the-laws)
-              (LL.tells flight-row.the-type flight-laws.the-laws) (h .flight) b (o + 16)
-              (λ was-flight′. assigns ! (of-opd ! (load ! (from ! (stop !)) (look ! 19 refl)))
-              (from ! (hop ! (look ! 39 refl) (fld ! {d = 16} refl (stop !))))
-              (store-raw ! 0 refl (LL.lawful flight-row.the-type flight-laws.the-laws 𝓤 H A W .typed kf (w-kf ∷ []) is-kf .0)) $
-              cell-in ! fullShare flight-row.the-row (LL.makes flight-row.the-type flight-laws.the-plain 𝓤 H A) kf b (o + 16) w-kf is-kf $
-              nothing ! $ calls-fn ! fm opened-arrival.ended (opened-arrival.clauses 𝓤 H A at-mem run) (known .5)
-              ((tt, tt, tt, ((past .30), tt), ((past .31) ∷ [], tt)), tt) (λ ka _. ka ≡ (past .30) .arrival)
+          (LL.tells flight-row.the-type flight-laws.the-laws) (h .flight) b (o + 16)
+          (λ was-flight′. assigns ! (of-opd ! (load ! (from ! (stop !)) (look ! 19 refl)))
+          (from ! (hop ! (look ! 39 refl) (fld ! {d = 16} refl (stop !))))
+          (store-raw ! 0 refl (LL.lawful flight-row.the-type flight-laws.the-laws 𝓤 H A W .typed kf (w-kf ∷ []) is-kf .0)) $
+          cell-in ! fullShare flight-row.the-row (LL.makes flight-row.the-type flight-laws.the-plain 𝓤 H A) kf b (o + 16) w-kf is-kf $
+          nothing ! $ calls-fn ! fm opened-arrival.ended (opened-arrival.clauses 𝓤 H A at-mem run) (known .5)
+          ((tt, tt, tt, ((past .30), tt), ((past .31) ∷ [], tt)), tt) (λ ka _. ka ≡ (past .30) .arrival)
           (‵ ftrue) (plainly 𝓤 H A W (opened-row.the-row ∷ []) ((LL.makes opened-row.the-type opened-laws.the-plain 𝓤 H A), tt)
           ((past .30), tt) ((past .31) ∷ [], tt) ((past .33), tt)) (λ ka _. id⊢ 𝓤 _)
           (and-then ! (load ! (from ! (stop !)) (look ! 22 refl)) (no-more !))
@@ -495,13 +527,13 @@ module _ {M : Type 1} (𝓤 : URA M) (H : Heap 𝓤) (A : Atoms 𝓤) (W : Given
           land ! (from ! (stop !)) (init ! 18 refl (LL.lawful arrival-row.the-type arrival-laws.the-laws 𝓤 H A W .typed ka (w-ka ∷ []) is-ka
           .0)) $
           move ! (7 ∷ []) $ cell-out ! fullShare arrival-row.the-row (LL.vals arrival-row.the-type arrival-laws.the-laws)
-              (LL.tells arrival-row.the-type arrival-laws.the-laws) (h .arrival) b (o + 72)
-              (λ was-arrival′. assigns ! (of-opd ! (load ! (from ! (stop !)) (look ! 18 refl)))
-              (from ! (hop ! (look ! 39 refl) (fld ! {d = 72} refl (stop !))))
-              (store-raw ! 0 refl (LL.lawful arrival-row.the-type arrival-laws.the-laws 𝓤 H A W .typed ka (w-ka ∷ []) is-ka .0)) $
-              cell-in ! fullShare arrival-row.the-row (LL.makes arrival-row.the-type arrival-laws.the-plain 𝓤 H A) ka b (o + 72) w-ka
-              is-ka $ nothing ! $ calls-fn ! fm opened-clock.ended (opened-clock.clauses 𝓤 H A at-mem run) (known .6)
-              ((tt, tt, tt, ((past .30), tt), ((past .31) ∷ [], tt)), tt) (λ kc _. kc ≡ (past .30) .clock)
+          (LL.tells arrival-row.the-type arrival-laws.the-laws) (h .arrival) b (o + 72)
+          (λ was-arrival′. assigns ! (of-opd ! (load ! (from ! (stop !)) (look ! 18 refl)))
+          (from ! (hop ! (look ! 39 refl) (fld ! {d = 72} refl (stop !))))
+          (store-raw ! 0 refl (LL.lawful arrival-row.the-type arrival-laws.the-laws 𝓤 H A W .typed ka (w-ka ∷ []) is-ka .0)) $
+          cell-in ! fullShare arrival-row.the-row (LL.makes arrival-row.the-type arrival-laws.the-plain 𝓤 H A) ka b (o + 72) w-ka
+          is-ka $ nothing ! $ calls-fn ! fm opened-clock.ended (opened-clock.clauses 𝓤 H A at-mem run) (known .6)
+          ((tt, tt, tt, ((past .30), tt), ((past .31) ∷ [], tt)), tt) (λ kc _. kc ≡ (past .30) .clock)
           (‵ ftrue) (plainly 𝓤 H A W (opened-row.the-row ∷ []) ((LL.makes opened-row.the-type opened-laws.the-plain 𝓤 H A), tt)
           ((past .30), tt) ((past .31) ∷ [], tt) ((past .33), tt)) (λ kc _. id⊢ 𝓤 _)
           (and-then ! (load ! (from ! (stop !)) (look ! 22 refl)) (no-more !))
@@ -509,131 +541,165 @@ module _ {M : Type 1} (𝓤 : URA M) (H : Heap 𝓤) (A : Atoms 𝓤) (W : Given
           land ! (from ! (stop !)) (init ! 17 refl (LL.lawful clock-row.the-type clock-laws.the-laws 𝓤 H A W .typed kc (w-kc ∷ []) is-kc
           .0)) $
           move ! (7 ∷ []) $ cell-out ! fullShare clock-row.the-row (LL.vals clock-row.the-type clock-laws.the-laws)
-              (LL.tells clock-row.the-type clock-laws.the-laws) (h .clock) b (o + 104)
-              (λ was-clock′. assigns ! (of-opd ! (load ! (from ! (stop !)) (look ! 17 refl)))
-              (from ! (hop ! (look ! 39 refl) (fld ! {d = 104} refl (stop !))))
-              (store-raw ! 0 refl (LL.lawful clock-row.the-type clock-laws.the-laws 𝓤 H A W .typed kc (w-kc ∷ []) is-kc .0)) $
-              cell-in ! fullShare clock-row.the-row (LL.makes clock-row.the-type clock-laws.the-plain 𝓤 H A) kc b (o + 104) w-kc is-kc $
-              move ! (13 ∷ []) $ tells-length ! fullShare u32 128 (h .queued) b (o + 124)
-              (λ end-queued. move ! (13 ∷ []) $
-              tells-length ! fullShare u32 32 (h .outstanding) b (o + 636)
-              (λ end-outstanding. move ! (13 ∷ []) $
-              tells-length ! fullShare u8 32 (h .transmissions) b (o + 764)
-              (λ end-transmissions. move ! (13 ∷ []) $
-              tells-length ! fullShare u32 128 (h .ready) b (o + 796)
-              (λ end-ready. move ! (13 ∷ []) $
-              tells-length ! fullShare u32 128 (h .waiting) b (o + 1308)
-              (λ end-waiting. move ! (13 ∷ []) $
-              tells-length ! fullShare u32 128 (h .«waiting_numbers») b (o + 1820)
-              (λ end-waiting-numbers. move ! (9 ∷ 8 ∷ 7 ∷ 6 ∷ 5 ∷ 4 ∷ 3 ∷ 2 ∷ 1 ∷ 0 ∷ 14 ∷ 15 ∷ []) $
-              closes-link b o γ ! tt h (record { settings = ks; flight = kf; arrival = ka; clock = kc; queued = (h .queued);
-              outstanding = (h .outstanding); transmissions = (h .transmissions); ready = (h .ready); waiting = (h .waiting);
-              «waiting_numbers» = (h .«waiting_numbers») }) $
+          (LL.tells clock-row.the-type clock-laws.the-laws) (h .clock) b (o + 104)
+          (λ was-clock′. assigns ! (of-opd ! (load ! (from ! (stop !)) (look ! 17 refl)))
+          (from ! (hop ! (look ! 39 refl) (fld ! {d = 104} refl (stop !))))
+          (store-raw ! 0 refl (LL.lawful clock-row.the-type clock-laws.the-laws 𝓤 H A W .typed kc (w-kc ∷ []) is-kc .0)) $
+          cell-in ! fullShare clock-row.the-row (LL.makes clock-row.the-type clock-laws.the-plain 𝓤 H A) kc b (o + 104) w-kc is-kc $
+          move ! (13 ∷ []) $ tells-length ! fullShare u32 128 (h .queued) b (o + 124)
+          (λ end-queued. move ! (13 ∷ []) $
+          tells-length ! fullShare u32 32 (h .outstanding) b (o + 636)
+          (λ end-outstanding. move ! (13 ∷ []) $
+          tells-length ! fullShare u8 32 (h .transmissions) b (o + 764)
+          (λ end-transmissions. move ! (13 ∷ []) $
+          tells-length ! fullShare u32 128 (h .ready) b (o + 796)
+          (λ end-ready. move ! (13 ∷ []) $
+          tells-length ! fullShare u32 128 (h .waiting) b (o + 1308)
+          (λ end-waiting. move ! (13 ∷ []) $
+          tells-length ! fullShare u32 128 (h .«waiting_numbers») b (o + 1820)
+          (λ end-waiting-numbers. move ! (9 ∷ 8 ∷ 7 ∷ 6 ∷ 5 ∷ 4 ∷ 3 ∷ 2 ∷ 1 ∷ 0 ∷ 14 ∷ 15 ∷ []) $
+          closes-link b o γ ! tt h (record {
+            settings = ks;
+            flight = kf;
+            arrival = ka;
+            clock = kc;
+            queued = (h .queued);
+            outstanding = (h .outstanding);
+            transmissions = (h .transmissions);
+            ready = (h .ready);
+            waiting = (h .waiting);
+            «waiting_numbers» = (h .«waiting_numbers»);
+          }) $
           -- [own0; tok0; tok8; tok9; tok11; tok10; deaths; the locals]
           nothing ! $ calls-fn ! fm code-of.ended (code-of.clauses 𝓤 H A at-mem run) (known .7)
-              ((tt, tt, tt, ((past .30), tt), ((past .31) ∷ [], tt)), tt) (λ r _. r ≡ answerCode ((past .30) .answer))
+          ((tt, tt, tt, ((past .30), tt), ((past .31) ∷ [], tt)), tt) (λ r _. r ≡ answerCode ((past .30) .answer))
           (‵ ftrue) (plainly 𝓤 H A W (opened-row.the-row ∷ []) ((LL.makes opened-row.the-type opened-laws.the-plain 𝓤 H A), tt)
           ((past .30), tt) ((past .31) ∷ [], tt) ((past .33), tt)) (λ r _. id⊢ 𝓤 _)
           (and-then ! (load ! (from ! (stop !)) (look ! 12 refl)) (no-more !))
           (λ r w-r _ e-r is-r. drop ! $ drop ! $ land ! (from ! (stop !)) (init ! 30 refl (sint-lawful 𝓤 H A W w32 .typed r _ is-r .0)) $
           returns ! (look ! 30 refl) $
           move ! (6 ∷ []) $ spread W (‵ (fdies (tyInt w32) (past .0)))
-              (‵ (fdies (tyRef (named 0) mut (pointee (L .written))) (past .1)) ∷ ‵ (fdies (tyInt w32) (past .2))
-              ∷ ‵ (fdies (tyInt w32) (past .3)) ∷ ‵ (fdies (tyInt w32) (past .4)) ∷ ‵ (fdies (tyInt w32) (past .5))
-              ∷ ‵ (fdies (tyInt w32) (past .6)) ∷ ‵ (fdies (tyInt w32) (past .7)) ∷ ‵ (fdies (tyInt w32) (past .8))
-              ∷ ‵ (fdies (sliceTy (tyRef (named 1) imm (tyInt w8))) (past .9))
-              ∷ ‵ (fdies (sliceTy (tyRef (named 2) imm (tyInt w8))) (past .10))
-              ∷ ‵ (fdies (sliceTy (tyRef (named 3) imm (pointee (R .written)))) (past .11))
-              ∷ ‵ (fdies (sliceTy (tyRef (named 4) imm (tyInt w32))) (past .12)) ∷ ‵ (fdies settings-laws.mir (past .13))
-              ∷ ‵ (fdies settings-laws.mir (past .14)) ∷ ‵ (fdies flight-laws.mir (past .15)) ∷ ‵ (fdies arrival-laws.mir (past .16))
-              ∷ ‵ (fdies clock-laws.mir (past .17)) ∷ ‵ (fdies (tyInt w64) (past .18)) ∷ ‵ (fdies opened-laws.mir (past .19))
-              ∷ ‵ (fdies settings-laws.mir (past .20)) ∷ ‵ (fdies flight-laws.mir (past .21)) ∷ ‵ (fdies arrival-laws.mir (past .22))
-              ∷ ‵ (fdies clock-laws.mir (past .23)) ∷ []) (id⊢ 𝓤 _) $
-              move ! (53 ∷ 0 ∷ 52 ∷ 1 ∷ 51 ∷ 2 ∷ 50 ∷ 3 ∷ 49 ∷ 4 ∷ 48 ∷ 5 ∷ 47 ∷ 6 ∷ 46 ∷ 7 ∷ 45 ∷ 8 ∷ 44 ∷ 9 ∷ 43
-              ∷ 10 ∷ 42 ∷ 11 ∷ 41 ∷ 12 ∷ 40 ∷ 13 ∷ 39 ∷ 14 ∷ 38 ∷ 15 ∷ 37 ∷ 16 ∷ 36 ∷ 17 ∷ 35 ∷ 18 ∷ 34 ∷ 19 ∷ 33 ∷ 20
-              ∷ 32 ∷ 21 ∷ 31 ∷ 22 ∷ 30 ∷ 23 ∷ []) $ forget ! 0 refl $ free1 ! $ forget ! 0 refl $ free1 ! $ forget ! 0 refl $ free1 ! $
-              forget ! 0 refl $ free1 ! $ forget ! 0 refl $ free1 ! $ forget ! 0 refl $ free1 ! $ forget ! 0 refl $ free1 ! $
-              forget ! 0 refl $ free1 ! $ forget ! 0 refl $ free1 ! $ forget ! 0 refl $ free1 ! $ forget ! 0 refl $ free1 ! $
-              forget ! 0 refl $ free1 ! $ forget ! 0 refl $ free1 ! $ forget ! 0 refl $ free1 ! $ forget ! 0 refl $ free1 ! $
-              forget ! 0 refl $ free1 ! $ forget ! 0 refl $ free1 ! $ forget ! 0 refl $ free1 ! $ forget ! 0 refl $ free1 ! $
-              forget ! 0 refl $ free1 ! $ forget ! 0 refl $ free1 ! $ forget ! 0 refl $ free1 ! $ forget ! 0 refl $ free1 ! $
-              forget ! 0 refl $ free1 ! $ free0 ! $
+          (‵ (fdies (tyRef (named 0) mut (pointee (L .written))) (past .1)) ∷ ‵ (fdies (tyInt w32) (past .2))
+          ∷ ‵ (fdies (tyInt w32) (past .3)) ∷ ‵ (fdies (tyInt w32) (past .4)) ∷ ‵ (fdies (tyInt w32) (past .5))
+          ∷ ‵ (fdies (tyInt w32) (past .6)) ∷ ‵ (fdies (tyInt w32) (past .7)) ∷ ‵ (fdies (tyInt w32) (past .8))
+          ∷ ‵ (fdies (sliceTy (tyRef (named 1) imm (tyInt w8))) (past .9))
+          ∷ ‵ (fdies (sliceTy (tyRef (named 2) imm (tyInt w8))) (past .10))
+          ∷ ‵ (fdies (sliceTy (tyRef (named 3) imm (pointee (R .written)))) (past .11))
+          ∷ ‵ (fdies (sliceTy (tyRef (named 4) imm (tyInt w32))) (past .12)) ∷ ‵ (fdies settings-laws.mir (past .13))
+          ∷ ‵ (fdies settings-laws.mir (past .14)) ∷ ‵ (fdies flight-laws.mir (past .15)) ∷ ‵ (fdies arrival-laws.mir (past .16))
+          ∷ ‵ (fdies clock-laws.mir (past .17)) ∷ ‵ (fdies (tyInt w64) (past .18)) ∷ ‵ (fdies opened-laws.mir (past .19))
+          ∷ ‵ (fdies settings-laws.mir (past .20)) ∷ ‵ (fdies flight-laws.mir (past .21)) ∷ ‵ (fdies arrival-laws.mir (past .22))
+          ∷ ‵ (fdies clock-laws.mir (past .23)) ∷ []) (id⊢ 𝓤 _) $
+          move ! (53 ∷ 0 ∷ 52 ∷ 1 ∷ 51 ∷ 2 ∷ 50 ∷ 3 ∷ 49 ∷ 4 ∷ 48 ∷ 5 ∷ 47 ∷ 6 ∷ 46 ∷ 7 ∷ 45 ∷ 8 ∷ 44 ∷ 9 ∷ 43
+          ∷ 10 ∷ 42 ∷ 11 ∷ 41 ∷ 12 ∷ 40 ∷ 13 ∷ 39 ∷ 14 ∷ 38 ∷ 15 ∷ 37 ∷ 16 ∷ 36 ∷ 17 ∷ 35 ∷ 18 ∷ 34 ∷ 19 ∷ 33 ∷ 20
+          ∷ 32 ∷ 21 ∷ 31 ∷ 22 ∷ 30 ∷ 23 ∷ []) $ forget ! 0 refl $ free1 ! $ forget ! 0 refl $ free1 ! $ forget ! 0 refl $ free1 ! $
+          forget ! 0 refl $ free1 ! $ forget ! 0 refl $ free1 ! $ forget ! 0 refl $ free1 ! $ forget ! 0 refl $ free1 ! $
+          forget ! 0 refl $ free1 ! $ forget ! 0 refl $ free1 ! $ forget ! 0 refl $ free1 ! $ forget ! 0 refl $ free1 ! $
+          forget ! 0 refl $ free1 ! $ forget ! 0 refl $ free1 ! $ forget ! 0 refl $ free1 ! $ forget ! 0 refl $ free1 ! $
+          forget ! 0 refl $ free1 ! $ forget ! 0 refl $ free1 ! $ forget ! 0 refl $ free1 ! $ forget ! 0 refl $ free1 ! $
+          forget ! 0 refl $ free1 ! $ forget ! 0 refl $ free1 ! $ forget ! 0 refl $ free1 ! $ forget ! 0 refl $ free1 ! $
+          forget ! 0 refl $ free1 ! $ free0 ! $
           move ! (0 ∷ 1 ∷ 2 ∷ 3 ∷ 5 ∷ 4 ∷ []) $
-              by ! (exits r w-r (record { settings = ks; flight = kf; arrival = ka; clock = kc; queued = (h .queued);
-              outstanding = (h .outstanding); transmissions = (h .transmissions); ready = (h .ready); waiting = (h .waiting);
-              «waiting_numbers» = (h .«waiting_numbers») })
-              (told answerCode _ ((past .30) .answer) e-r
-              (rw (e-ks, e-kf, e-ka, e-kc) (subst (λ (s : Settings). OpenPromise s h (partsOf (x₈ .now) (x₉ .now) (x₁₀ .now) (x₁₁ .now))
-              ((past .30) .answer) (linkOf ((past .30) .settings) ((past .30) .flight) ((past .30) .arrival) ((past .30) .clock)
-              (arraysOf h)) (partsOf (x₈ .now) (x₉ .now) (x₁₀ .now) (x₁₁ .now))) (past .26)
-              (open-promised (past .24) h (partsOf (x₈ .now) (x₉ .now) (x₁₀ .now) (x₁₁ .now)) ((past .30) .answer)
-              (linkOf ((past .30) .settings) ((past .30) .flight) ((past .30) .arrival) ((past .30) .clock) (arraysOf h)) (past .27)
-              (past .29) ((past .32) (arraysOf h))))))  is-r))))))))))))))))
+          by ! (exits r w-r (record {
+            settings = ks;
+            flight = kf;
+            arrival = ka;
+            clock = kc;
+            queued = (h .queued);
+            outstanding = (h .outstanding);
+            transmissions = (h .transmissions);
+            ready = (h .ready);
+            waiting = (h .waiting);
+            «waiting_numbers» = (h .«waiting_numbers»);
+          })
+          (told answerCode _ ((past .30) .answer) e-r
+          (rw (e-ks, e-kf, e-ka, e-kc) (subst (λ (s : Settings). OpenPromise s h (partsOf (x₈ .now) (x₉ .now) (x₁₀ .now) (x₁₁ .now))
+          ((past .30) .answer) (linkOf ((past .30) .settings) ((past .30) .flight) ((past .30) .arrival) ((past .30) .clock)
+          (arraysOf h)) (partsOf (x₈ .now) (x₉ .now) (x₁₀ .now) (x₁₁ .now))) (past .26)
+          (open-promised (past .24) h (partsOf (x₈ .now) (x₉ .now) (x₁₀ .now) (x₁₁ .now)) ((past .30) .answer)
+          (linkOf ((past .30) .settings) ((past .30) .flight) ((past .30) .arrival) ((past .30) .clock) (arraysOf h)) (past .27)
+          (past .29) ((past .32) (arraysOf h)))))) is-r))))))))))))))))
 
       walk : ent 𝓤 (onEntry 𝓤 H A f.signature (κ₀, (κ₁, (κ₂, (κ₃, (κ₄, tt))))) (q₀, (q₁, (q₂, (q₃, (q₄, tt))))) x at)
           (WpFn 𝓤 H C Λ code.function (vptr b o ∷ v₁ ∷ v₂ ∷ v₃ ∷ v₄ ∷ v₅ ∷ v₆ ∷ v₇ ∷ s₈ ∷ s₉ ∷ s₁₀ ∷ s₁₁
           ∷ []) Post)
       walk =
           qed W ((‵ (flft κ₀ q₀) ⊛ ‵ (flft κ₁ q₁) ⊛ ‵ (flft κ₂ q₂) ⊛ ‵ (flft κ₃ q₃) ⊛ ‵ (flft κ₄ q₄) ⊛ ‵ ftrue)
-              ∷ ‵ (owns (MutRef (named 0) κ₀ L ∷ u32 ∷ u32 ∷ u32 ∷ u32 ∷ u32 ∷ u32 ∷ u32 ∷ ShrSlice (named 1) κ₁ u8
-              ∷ ShrSlice (named 2) κ₂ u8 ∷ ShrSlice (named 3) κ₃ R ∷ ShrSlice (named 4) κ₄ u32 ∷ []) x at) ∷ []) ∵
-              enter ! C Λ code.function (vptr b o ∷ v₁ ∷ v₂ ∷ v₃ ∷ v₄ ∷ v₅ ∷ v₆ ∷ v₇ ∷ s₈ ∷ s₉ ∷ s₁₀ ∷ s₁₁
-              ∷ []) _ $
+          ∷ ‵ (owns (MutRef (named 0) κ₀ L ∷ u32 ∷ u32 ∷ u32 ∷ u32 ∷ u32 ∷ u32 ∷ u32 ∷ ShrSlice (named 1) κ₁ u8
+          ∷ ShrSlice (named 2) κ₂ u8 ∷ ShrSlice (named 3) κ₃ R ∷ ShrSlice (named 4) κ₄ u32 ∷ []) x at) ∷ []) ∵
+          enter ! C Λ code.function (vptr b o ∷ v₁ ∷ v₂ ∷ v₃ ∷ v₄ ∷ v₅ ∷ v₆ ∷ v₇ ∷ s₈ ∷ s₉ ∷ s₁₀ ∷ s₁₁
+          ∷ []) _ $
           alloc1 ! (λ l₀. alloc1 ! (λ l₁. alloc1 ! (λ l₂.
-              alloc1 ! (λ l₃. alloc1 ! (λ l₄. alloc1 ! (λ l₅.
-              alloc1 ! (λ l₆. alloc1 ! (λ l₇. alloc1 ! (λ l₈.
-              alloc1 ! (λ l₉. alloc1 ! (λ l₁₀. alloc1 ! (λ l₁₁.
-              alloc1 ! (λ l₁₂. alloc1 ! (λ l₁₃. alloc1 ! (λ l₁₄.
-              alloc1 ! (λ l₁₅. alloc1 ! (λ l₁₆. alloc1 ! (λ l₁₇.
-              alloc1 ! (λ l₁₈. alloc1 ! (λ l₁₉. alloc1 ! (λ l₂₀.
-              alloc1 ! (λ l₂₁. alloc1 ! (λ l₂₂. alloc1 ! (λ l₂₃. alloc0 ! $ params1 ! $
+          alloc1 ! (λ l₃. alloc1 ! (λ l₄. alloc1 ! (λ l₅.
+          alloc1 ! (λ l₆. alloc1 ! (λ l₇. alloc1 ! (λ l₈.
+          alloc1 ! (λ l₉. alloc1 ! (λ l₁₀. alloc1 ! (λ l₁₁.
+          alloc1 ! (λ l₁₂. alloc1 ! (λ l₁₃. alloc1 ! (λ l₁₄.
+          alloc1 ! (λ l₁₅. alloc1 ! (λ l₁₆. alloc1 ! (λ l₁₇.
+          alloc1 ! (λ l₁₈. alloc1 ! (λ l₁₉. alloc1 ! (λ l₂₀.
+          alloc1 ! (λ l₂₁. alloc1 ! (λ l₂₂. alloc1 ! (λ l₂₃. alloc0 ! $ params1 ! $
           pass1 ! (init ! 44 refl (tt, tt)) $ pass1 ! (init ! 42 refl (uint-lawful 𝓤 H A W w32 .typed x₁ _ g₁ .0)) $
-              pass1 ! (init ! 40 refl (uint-lawful 𝓤 H A W w32 .typed x₂ _ g₂ .0)) $
-              pass1 ! (init ! 38 refl (uint-lawful 𝓤 H A W w32 .typed x₃ _ g₃ .0)) $
-              pass1 ! (init ! 36 refl (uint-lawful 𝓤 H A W w32 .typed x₄ _ g₄ .0)) $
-              pass1 ! (init ! 34 refl (uint-lawful 𝓤 H A W w32 .typed x₅ _ g₅ .0)) $
-              pass1 ! (init ! 32 refl (uint-lawful 𝓤 H A W w32 .typed x₆ _ g₆ .0)) $
-              pass1 ! (init ! 30 refl (uint-lawful 𝓤 H A W w32 .typed x₇ _ g₇ .0)) $
-              pass1 ! (init ! 28 refl (tt, (tt, (record { fits = room₈ .0 }, tt)))) $
-              pass1 ! (init ! 26 refl (tt, (tt, (record { fits = room₉ .0 }, tt)))) $
-              pass1 ! (init ! 24 refl (tt, (tt, (record { fits = room₁₀ .0 }, tt)))) $
-              pass1 ! (init ! 22 refl (tt, (tt, (record { fits = room₁₁ .0 }, tt)))) $ pass0 ! $
+          pass1 ! (init ! 40 refl (uint-lawful 𝓤 H A W w32 .typed x₂ _ g₂ .0)) $
+          pass1 ! (init ! 38 refl (uint-lawful 𝓤 H A W w32 .typed x₃ _ g₃ .0)) $
+          pass1 ! (init ! 36 refl (uint-lawful 𝓤 H A W w32 .typed x₄ _ g₄ .0)) $
+          pass1 ! (init ! 34 refl (uint-lawful 𝓤 H A W w32 .typed x₅ _ g₅ .0)) $
+          pass1 ! (init ! 32 refl (uint-lawful 𝓤 H A W w32 .typed x₆ _ g₆ .0)) $
+          pass1 ! (init ! 30 refl (uint-lawful 𝓤 H A W w32 .typed x₇ _ g₇ .0)) $
+          pass1 ! (init ! 28 refl (tt, (tt, (record { fits = room₈ .0 }, tt)))) $
+          pass1 ! (init ! 26 refl (tt, (tt, (record { fits = room₉ .0 }, tt)))) $
+          pass1 ! (init ! 24 refl (tt, (tt, (record { fits = room₁₀ .0 }, tt)))) $
+          pass1 ! (init ! 22 refl (tt, (tt, (record { fits = room₁₁ .0 }, tt)))) $ pass0 ! $
           move ! (49 ∷ []) $ spread W (‵ (MutRef (named 0) κ₀ L .own (ref-at b o γ h) (vptr b o ∷ [])))
-              (‵ (u32 .own (x₁) (v₁ ∷ [])) ∷ ‵ (u32 .own (x₂) (v₂ ∷ [])) ∷ ‵ (u32 .own (x₃) (v₃ ∷ []))
-              ∷ ‵ (u32 .own (x₄) (v₄ ∷ [])) ∷ ‵ (u32 .own (x₅) (v₅ ∷ [])) ∷ ‵ (u32 .own (x₆) (v₆ ∷ []))
-              ∷ ‵ (u32 .own (x₇) (v₇ ∷ [])) ∷ ‵ (ShrSlice (named 1) κ₁ u8 .own (x₈) (s₈ ∷ []))
-              ∷ ‵ (ShrSlice (named 2) κ₂ u8 .own (x₉) (s₉ ∷ [])) ∷ ‵ (ShrSlice (named 3) κ₃ R .own (x₁₀) (s₁₀ ∷ []))
-              ∷ ‵ (ShrSlice (named 4) κ₄ u32 .own (x₁₁) (s₁₁ ∷ [])) ∷ ‵ ftrue ∷ []) (id⊢ 𝓤 _) $ move ! (61 ∷ []) $
-              spread W (‵ (flft κ₀ q₀)) (‵ (flft κ₁ q₁) ∷ ‵ (flft κ₂ q₂) ∷ ‵ (flft κ₃ q₃) ∷ ‵ (flft κ₄ q₄)
-              ∷ ‵ ftrue ∷ []) (id⊢ 𝓤 _) $ keep ! (0 ∷ 1 ∷ 2 ∷ 3 ∷ 4 ∷ 6 ∷ 14 ∷ 15 ∷ 16 ∷ 17 ∷ 19 ∷ 20 ∷ 21 ∷ 22 ∷ 23
-              ∷ 24 ∷ 25 ∷ 26 ∷ 27 ∷ 28 ∷ 29 ∷ 30 ∷ 31 ∷ 32 ∷ 33 ∷ 34 ∷ 35 ∷ 36 ∷ 37 ∷ 38 ∷ 39 ∷ 40 ∷ 41 ∷ 42 ∷ 43 ∷ 44
-              ∷ 45 ∷ 46 ∷ 47 ∷ 48 ∷ 49 ∷ 50 ∷ 51 ∷ 52 ∷ 53 ∷ 54 ∷ 55 ∷ 56 ∷ 57 ∷ 58 ∷ 59 ∷ 60 ∷ 61 ∷ 62 ∷ 63 ∷ 64 ∷ 65
-              ∷ 66 ∷ []) $ move ! (57 ∷ 55 ∷ 53 ∷ 51 ∷ 49 ∷ 47 ∷ 45 ∷ 43 ∷ 41 ∷ 39 ∷ 37 ∷ 35 ∷ 33 ∷ 31 ∷ 29 ∷ 27 ∷ 25 ∷ 23
-              ∷ 21 ∷ 19 ∷ 17 ∷ 15 ∷ 13 ∷ 11 ∷ []) $ group ! 24 $
+          (‵ (u32 .own (x₁) (v₁ ∷ [])) ∷ ‵ (u32 .own (x₂) (v₂ ∷ [])) ∷ ‵ (u32 .own (x₃) (v₃ ∷ []))
+          ∷ ‵ (u32 .own (x₄) (v₄ ∷ [])) ∷ ‵ (u32 .own (x₅) (v₅ ∷ [])) ∷ ‵ (u32 .own (x₆) (v₆ ∷ []))
+          ∷ ‵ (u32 .own (x₇) (v₇ ∷ [])) ∷ ‵ (ShrSlice (named 1) κ₁ u8 .own (x₈) (s₈ ∷ []))
+          ∷ ‵ (ShrSlice (named 2) κ₂ u8 .own (x₉) (s₉ ∷ [])) ∷ ‵ (ShrSlice (named 3) κ₃ R .own (x₁₀) (s₁₀ ∷ []))
+          ∷ ‵ (ShrSlice (named 4) κ₄ u32 .own (x₁₁) (s₁₁ ∷ [])) ∷ ‵ ftrue ∷ []) (id⊢ 𝓤 _) $ move ! (61 ∷ []) $
+          spread W (‵ (flft κ₀ q₀)) (‵ (flft κ₁ q₁) ∷ ‵ (flft κ₂ q₂) ∷ ‵ (flft κ₃ q₃) ∷ ‵ (flft κ₄ q₄)
+          ∷ ‵ ftrue ∷ []) (id⊢ 𝓤 _) $ keep ! (0 ∷ 1 ∷ 2 ∷ 3 ∷ 4 ∷ 6 ∷ 14 ∷ 15 ∷ 16 ∷ 17 ∷ 19 ∷ 20 ∷ 21 ∷ 22 ∷ 23
+          ∷ 24 ∷ 25 ∷ 26 ∷ 27 ∷ 28 ∷ 29 ∷ 30 ∷ 31 ∷ 32 ∷ 33 ∷ 34 ∷ 35 ∷ 36 ∷ 37 ∷ 38 ∷ 39 ∷ 40 ∷ 41 ∷ 42 ∷ 43 ∷ 44
+          ∷ 45 ∷ 46 ∷ 47 ∷ 48 ∷ 49 ∷ 50 ∷ 51 ∷ 52 ∷ 53 ∷ 54 ∷ 55 ∷ 56 ∷ 57 ∷ 58 ∷ 59 ∷ 60 ∷ 61 ∷ 62 ∷ 63 ∷ 64 ∷ 65
+          ∷ 66 ∷ []) $ move ! (57 ∷ 55 ∷ 53 ∷ 51 ∷ 49 ∷ 47 ∷ 45 ∷ 43 ∷ 41 ∷ 39 ∷ 37 ∷ 35 ∷ 33 ∷ 31 ∷ 29 ∷ 27 ∷ 25 ∷ 23
+          ∷ 21 ∷ 19 ∷ 17 ∷ 15 ∷ 13 ∷ 11 ∷ []) $ group ! 24 $
           -- [deaths; tok0; tok8; tok9; tok10; tok11; own0; own8; own9; own10; own11; the locals]
           move ! (6 ∷ 1 ∷ []) $ opens-link b o γ ! tt h $
           -- [F:settings; F:flight; F:arrival; F:clock; F:queued; F:outstanding; F:transmissions; F:ready; F:waiting; F:«waiting_numbers»;
           -- back; opened; deaths; tok8; tok9; tok10; tok11; own8; own9; own10; own11; the locals]
           move ! (4 ∷ []) $ tells-length ! fullShare u32 128 (h .queued) b (o + 124)
-              (λ len-queued. move ! (5 ∷ []) $
-              tells-length ! fullShare u32 32 (h .outstanding) b (o + 636)
-              (λ len-outstanding. move ! (6 ∷ []) $
-              tells-length ! fullShare u8 32 (h .transmissions) b (o + 764)
-              (λ len-transmissions. move ! (7 ∷ []) $
-              tells-length ! fullShare u32 128 (h .ready) b (o + 796)
-              (λ len-ready. move ! (8 ∷ []) $
-              tells-length ! fullShare u32 128 (h .waiting) b (o + 1308)
-              (λ len-waiting. move ! (9 ∷ []) $
-              tells-length ! fullShare u32 128 (h .«waiting_numbers») b (o + 1820)
-              (λ len-waiting-numbers. nothing ! $
-              calls-fn ! fm settings-of.ended (settings-of.clauses 𝓤 H A at-mem run) (known .0)
-              ((tt, tt, tt, (x₁, (x₂, (x₃, (x₄, (x₅, (x₆, (x₇, tt))))))),
-              (v₁ ∷ [], (v₂ ∷ [], (v₃ ∷ [], (v₄ ∷ [], (v₅ ∷ [], (v₆ ∷ [], (v₇ ∷ [], tt)))))))), tt)
-              (λ c _. c ≡ settingsOf x₁ x₂ x₃ x₄ x₅ x₆ x₇)
-          (‵ ftrue) (plainly 𝓤 H A W (u32 ∷ u32 ∷ u32 ∷ u32 ∷ u32 ∷ u32 ∷ u32 ∷ [])
-          ((uint-makes 𝓤 H A W w32), ((uint-makes 𝓤 H A W w32),
-          ((uint-makes 𝓤 H A W w32), ((uint-makes 𝓤 H A W w32),
-          ((uint-makes 𝓤 H A W w32), ((uint-makes 𝓤 H A W w32), ((uint-makes 𝓤 H A W w32), tt)))))))
+          (λ len-queued. move ! (5 ∷ []) $
+          tells-length ! fullShare u32 32 (h .outstanding) b (o + 636)
+          (λ len-outstanding. move ! (6 ∷ []) $
+          tells-length ! fullShare u8 32 (h .transmissions) b (o + 764)
+          (λ len-transmissions. move ! (7 ∷ []) $
+          tells-length ! fullShare u32 128 (h .ready) b (o + 796)
+          (λ len-ready. move ! (8 ∷ []) $
+          tells-length ! fullShare u32 128 (h .waiting) b (o + 1308)
+          (λ len-waiting. move ! (9 ∷ []) $
+          tells-length ! fullShare u32 128 (h .«waiting_numbers») b (o + 1820)
+          (λ len-waiting-numbers. nothing ! $
+          calls-fn ! fm settings-of.ended (settings-of.clauses 𝓤 H A at-mem run) (known .0) (
+            (
+              tt,
+              tt,
+              tt,
+              (x₁, (x₂, (x₃, (x₄, (x₅, (x₆, (x₇, tt))))))),
+              (v₁ ∷ [], (v₂ ∷ [], (v₃ ∷ [], (v₄ ∷ [], (v₅ ∷ [], (v₆ ∷ [], (v₇ ∷ [], tt))))))),
+            ),
+            tt,
+          )
+          (λ c _. c ≡ settingsOf x₁ x₂ x₃ x₄ x₅ x₆ x₇)
+          (‵ ftrue) (plainly 𝓤 H A W (u32 ∷ u32 ∷ u32 ∷ u32 ∷ u32 ∷ u32 ∷ u32 ∷ []) (
+            (uint-makes 𝓤 H A W w32),
+            (
+              (uint-makes 𝓤 H A W w32),
+              (
+                (uint-makes 𝓤 H A W w32),
+                (
+                  (uint-makes 𝓤 H A W w32),
+                  ((uint-makes 𝓤 H A W w32), ((uint-makes 𝓤 H A W w32), ((uint-makes 𝓤 H A W w32), tt))),
+                ),
+              ),
+            ),
+          )
           (x₁, (x₂, (x₃, (x₄, (x₅, (x₆, (x₇, tt)))))))
           (v₁ ∷ [], (v₂ ∷ [], (v₃ ∷ [], (v₄ ∷ [], (v₅ ∷ [], (v₆ ∷ [], (v₇ ∷ [], tt)))))))
           (g₁, (g₂, (g₃, (g₄, (g₅, (g₆, (g₇, tt)))))))) (λ c _. id⊢ 𝓤 _)
@@ -647,62 +713,62 @@ module _ {M : Type 1} (𝓤 : URA M) (H : Heap 𝓤) (A : Atoms 𝓤) (W : Given
           land ! (from ! (stop !)) (init ! 31 refl (LL.lawful settings-row.the-type settings-laws.the-laws 𝓤 H A W .typed c (w-c ∷ []) is-c
           .0)) $
           move ! (6 ∷ []) $ cell-out ! fullShare settings-row.the-row (LL.vals settings-row.the-type settings-laws.the-laws)
-              (LL.tells settings-row.the-type settings-laws.the-laws) (h .settings) b (o + 0) (λ was-settings.
+          (LL.tells settings-row.the-type settings-laws.the-laws) (h .settings) b (o + 0) (λ was-settings.
           assigns ! {v = (only ((LL.vals settings-row.the-type settings-laws.the-laws) (h .settings)))}
-              (of-opd ! (load ! (from ! (hop ! (look ! 43 refl) (fld ! {d = 0} refl (stop !)))) (look-raw ! 0 refl))) (from ! (stop !))
-              (init ! 30 refl (LL.lawful settings-row.the-type settings-laws.the-laws 𝓤 H A W .typed (h .settings)
-              ((only ((LL.vals settings-row.the-type settings-laws.the-laws) (h .settings))) ∷ []) was-settings .0)) $
+          (of-opd ! (load ! (from ! (hop ! (look ! 43 refl) (fld ! {d = 0} refl (stop !)))) (look-raw ! 0 refl))) (from ! (stop !))
+          (init ! 30 refl (LL.lawful settings-row.the-type settings-laws.the-laws 𝓤 H A W .typed (h .settings)
+          ((only ((LL.vals settings-row.the-type settings-laws.the-laws) (h .settings))) ∷ []) was-settings .0)) $
           cell-in ! fullShare settings-row.the-row (LL.makes settings-row.the-type settings-laws.the-plain 𝓤 H A) (h .settings) b (o + 0)
-              (only ((LL.vals settings-row.the-type settings-laws.the-laws) (h .settings))) was-settings $ move ! (7 ∷ []) $
-              cell-out ! fullShare flight-row.the-row (LL.vals flight-row.the-type flight-laws.the-laws)
-              (LL.tells flight-row.the-type flight-laws.the-laws) (h .flight) b (o + 16) (λ was-flight.
+          (only ((LL.vals settings-row.the-type settings-laws.the-laws) (h .settings))) was-settings $ move ! (7 ∷ []) $
+          cell-out ! fullShare flight-row.the-row (LL.vals flight-row.the-type flight-laws.the-laws)
+          (LL.tells flight-row.the-type flight-laws.the-laws) (h .flight) b (o + 16) (λ was-flight.
           assigns ! {v = (only ((LL.vals flight-row.the-type flight-laws.the-laws) (h .flight)))}
-              (of-opd ! (load ! (from ! (hop ! (look ! 43 refl) (fld ! {d = 16} refl (stop !)))) (look-raw ! 0 refl))) (from ! (stop !))
-              (init ! 29 refl (LL.lawful flight-row.the-type flight-laws.the-laws 𝓤 H A W .typed (h .flight)
-              ((only ((LL.vals flight-row.the-type flight-laws.the-laws) (h .flight))) ∷ []) was-flight .0)) $
+          (of-opd ! (load ! (from ! (hop ! (look ! 43 refl) (fld ! {d = 16} refl (stop !)))) (look-raw ! 0 refl))) (from ! (stop !))
+          (init ! 29 refl (LL.lawful flight-row.the-type flight-laws.the-laws 𝓤 H A W .typed (h .flight)
+          ((only ((LL.vals flight-row.the-type flight-laws.the-laws) (h .flight))) ∷ []) was-flight .0)) $
           cell-in ! fullShare flight-row.the-row (LL.makes flight-row.the-type flight-laws.the-plain 𝓤 H A) (h .flight) b (o + 16)
-              (only ((LL.vals flight-row.the-type flight-laws.the-laws) (h .flight))) was-flight $ move ! (8 ∷ []) $
-              cell-out ! fullShare arrival-row.the-row (LL.vals arrival-row.the-type arrival-laws.the-laws)
-              (LL.tells arrival-row.the-type arrival-laws.the-laws) (h .arrival) b (o + 72) (λ was-arrival.
+          (only ((LL.vals flight-row.the-type flight-laws.the-laws) (h .flight))) was-flight $ move ! (8 ∷ []) $
+          cell-out ! fullShare arrival-row.the-row (LL.vals arrival-row.the-type arrival-laws.the-laws)
+          (LL.tells arrival-row.the-type arrival-laws.the-laws) (h .arrival) b (o + 72) (λ was-arrival.
           assigns ! {v = (only ((LL.vals arrival-row.the-type arrival-laws.the-laws) (h .arrival)))}
-              (of-opd ! (load ! (from ! (hop ! (look ! 43 refl) (fld ! {d = 72} refl (stop !)))) (look-raw ! 0 refl))) (from ! (stop !))
-              (init ! 28 refl (LL.lawful arrival-row.the-type arrival-laws.the-laws 𝓤 H A W .typed (h .arrival)
-              ((only ((LL.vals arrival-row.the-type arrival-laws.the-laws) (h .arrival))) ∷ []) was-arrival .0)) $
+          (of-opd ! (load ! (from ! (hop ! (look ! 43 refl) (fld ! {d = 72} refl (stop !)))) (look-raw ! 0 refl))) (from ! (stop !))
+          (init ! 28 refl (LL.lawful arrival-row.the-type arrival-laws.the-laws 𝓤 H A W .typed (h .arrival)
+          ((only ((LL.vals arrival-row.the-type arrival-laws.the-laws) (h .arrival))) ∷ []) was-arrival .0)) $
           cell-in ! fullShare arrival-row.the-row (LL.makes arrival-row.the-type arrival-laws.the-plain 𝓤 H A) (h .arrival) b (o + 72)
-              (only ((LL.vals arrival-row.the-type arrival-laws.the-laws) (h .arrival))) was-arrival $ move ! (9 ∷ []) $
-              cell-out ! fullShare clock-row.the-row (LL.vals clock-row.the-type clock-laws.the-laws)
-              (LL.tells clock-row.the-type clock-laws.the-laws) (h .clock) b (o + 104) (λ was-clock.
+          (only ((LL.vals arrival-row.the-type arrival-laws.the-laws) (h .arrival))) was-arrival $ move ! (9 ∷ []) $
+          cell-out ! fullShare clock-row.the-row (LL.vals clock-row.the-type clock-laws.the-laws)
+          (LL.tells clock-row.the-type clock-laws.the-laws) (h .clock) b (o + 104) (λ was-clock.
           assigns ! {v = (only ((LL.vals clock-row.the-type clock-laws.the-laws) (h .clock)))}
-              (of-opd ! (load ! (from ! (hop ! (look ! 43 refl) (fld ! {d = 104} refl (stop !)))) (look-raw ! 0 refl))) (from ! (stop !))
-              (init ! 27 refl (LL.lawful clock-row.the-type clock-laws.the-laws 𝓤 H A W .typed (h .clock)
-              ((only ((LL.vals clock-row.the-type clock-laws.the-laws) (h .clock))) ∷ []) was-clock .0)) $
+          (of-opd ! (load ! (from ! (hop ! (look ! 43 refl) (fld ! {d = 104} refl (stop !)))) (look-raw ! 0 refl))) (from ! (stop !))
+          (init ! 27 refl (LL.lawful clock-row.the-type clock-laws.the-laws 𝓤 H A W .typed (h .clock)
+          ((only ((LL.vals clock-row.the-type clock-laws.the-laws) (h .clock))) ∷ []) was-clock .0)) $
           cell-in ! fullShare clock-row.the-row (LL.makes clock-row.the-type clock-laws.the-plain 𝓤 H A) (h .clock) b (o + 104)
-              (only ((LL.vals clock-row.the-type clock-laws.the-laws) (h .clock))) was-clock $ move ! (15 ∷ 19 ∷ []) $ join ! $
-              calls-fn ! fm table-len.ended (table-len.clauses 𝓤 H A at-mem run) (known .1) (to-table-len  )
-              (λ m ws-m. m ≡ length (x₁₀ .now)) (‵ (flft κ₃ q₃) ⊛ ‵ Own₁₀)
-          (asks-table-len   ) (λ m ws-m. id⊢ 𝓤 _)
+          (only ((LL.vals clock-row.the-type clock-laws.the-laws) (h .clock))) was-clock $ move ! (15 ∷ 19 ∷ []) $ join ! $
+          calls-fn ! fm table-len.ended (table-len.clauses 𝓤 H A at-mem run) (known .1) (to-table-len)
+          (λ m ws-m. m ≡ length (x₁₀ .now)) (‵ (flft κ₃ q₃) ⊛ ‵ Own₁₀)
+          (asks-table-len) (λ m ws-m. id⊢ 𝓤 _)
           (and-then ! (load ! (from ! (stop !)) (look ! 32 refl)) (no-more !))
           (λ m w-m ws-m e-m is-m. land ! (from ! (stop !)) (init ! 26 refl (uint-lawful 𝓤 H A W w64 .typed m _ is-m .0)) $
           spread W (‵ (flft κ₃ q₃)) (‵ ftrue ∷ []) (id⊢ 𝓤 _) $ move ! (2 ∷ []) $ spread W (‵ ftrue) (‵ ftrue ∷ []) (id⊢ 𝓤 _) $
-              keep ! (2 ∷ 4 ∷ 5 ∷ 6 ∷ 7 ∷ 8 ∷ 9 ∷ 10 ∷ 11 ∷ 12 ∷ 13 ∷ 14 ∷ 15 ∷ 16 ∷ 17 ∷ 18 ∷ 19 ∷ 20 ∷ 21 ∷ 22 ∷ 23
-              ∷ 24 ∷ 25 ∷ 26 ∷ 27 ∷ 28 ∷ 29 ∷ 30 ∷ 31 ∷ 32 ∷ 33 ∷ 34 ∷ 35 ∷ 36 ∷ 37 ∷ 38 ∷ 39 ∷ 40 ∷ 41 ∷ 42 ∷ 43 ∷ 44
-              ∷ 45 ∷ 46 ∷ []) $
+          keep ! (2 ∷ 4 ∷ 5 ∷ 6 ∷ 7 ∷ 8 ∷ 9 ∷ 10 ∷ 11 ∷ 12 ∷ 13 ∷ 14 ∷ 15 ∷ 16 ∷ 17 ∷ 18 ∷ 19 ∷ 20 ∷ 21 ∷ 22 ∷ 23
+          ∷ 24 ∷ 25 ∷ 26 ∷ 27 ∷ 28 ∷ 29 ∷ 30 ∷ 31 ∷ 32 ∷ 33 ∷ 34 ∷ 35 ∷ 36 ∷ 37 ∷ 38 ∷ 39 ∷ 40 ∷ 41 ∷ 42 ∷ 43 ∷ 44
+          ∷ 45 ∷ 46 ∷ []) $
           -- [tok10; F:clock; F:arrival; F:flight; F:settings; F:«waiting_numbers»; F:waiting; F:ready; F:transmissions; F:outstanding;
           -- F:queued; back; opened; deaths; tok8; tok9; tok11; own8; own9; own11; the locals]
           move ! (14 ∷ 17 ∷ 15 ∷ 18 ∷ 16 ∷ 19 ∷ []) $ group ! 6 $
-              calls-fn ! fm core.ended (core.clauses 𝓤 H A at-mem run) (known .2)
-              (to-core  c w-c (h .settings) (only ((LL.vals settings-row.the-type settings-laws.the-laws) (h .settings))) (h .flight)
-              (only ((LL.vals flight-row.the-type flight-laws.the-laws) (h .flight))) (h .arrival)
-              (only ((LL.vals arrival-row.the-type arrival-laws.the-laws) (h .arrival))) (h .clock)
-              (only ((LL.vals clock-row.the-type clock-laws.the-laws) (h .clock))) m w-m)
-              (λ a ws-a. (x : Arrays) → OpenCore (opensWith c (lentLengths m (x₈ .now) (x₉ .now) (x₁₁ .now)))
-              (linkOf (h .settings) (h .flight) (h .arrival) (h .clock) x) (a .answer)
-              (linkOf (a .settings) (a .flight) (a .arrival) (a .clock) x))
-              (‵ (flft κ₁ q₁) ⊛ ‵ Own₈ ⊛ ‵ (flft κ₂ q₂) ⊛ ‵ Own₉ ⊛ ‵ (flft κ₄ q₄) ⊛ ‵ Own₁₁)
-          (asks-core  c w-c is-c (h .settings) (only ((LL.vals settings-row.the-type settings-laws.the-laws) (h .settings))) was-settings
+          calls-fn ! fm core.ended (core.clauses 𝓤 H A at-mem run) (known .2)
+          (to-core c w-c (h .settings) (only ((LL.vals settings-row.the-type settings-laws.the-laws) (h .settings))) (h .flight)
+          (only ((LL.vals flight-row.the-type flight-laws.the-laws) (h .flight))) (h .arrival)
+          (only ((LL.vals arrival-row.the-type arrival-laws.the-laws) (h .arrival))) (h .clock)
+          (only ((LL.vals clock-row.the-type clock-laws.the-laws) (h .clock))) m w-m)
+          (λ a ws-a. (x : Arrays) → OpenCore (opensWith c (lentLengths m (x₈ .now) (x₉ .now) (x₁₁ .now)))
+          (linkOf (h .settings) (h .flight) (h .arrival) (h .clock) x) (a .answer)
+          (linkOf (a .settings) (a .flight) (a .arrival) (a .clock) x))
+          (‵ (flft κ₁ q₁) ⊛ ‵ Own₈ ⊛ ‵ (flft κ₂ q₂) ⊛ ‵ Own₉ ⊛ ‵ (flft κ₄ q₄) ⊛ ‵ Own₁₁)
+          (asks-core c w-c is-c (h .settings) (only ((LL.vals settings-row.the-type settings-laws.the-laws) (h .settings))) was-settings
           (h .flight) (only ((LL.vals flight-row.the-type flight-laws.the-laws) (h .flight))) was-flight (h .arrival)
           (only ((LL.vals arrival-row.the-type arrival-laws.the-laws) (h .arrival))) was-arrival (h .clock)
-          (only ((LL.vals clock-row.the-type clock-laws.the-laws) (h .clock))) was-clock m w-m is-m ) (λ a ws-a. id⊢ 𝓤 _)
+          (only ((LL.vals clock-row.the-type clock-laws.the-laws) (h .clock))) was-clock m w-m is-m) (λ a ws-a. id⊢ 𝓤 _)
           (and-then ! (load ! (from ! (stop !)) (look ! 25 refl))
           (and-then ! (load ! (from ! (stop !)) (look ! 24 refl))
           (and-then ! (load ! (from ! (stop !)) (look ! 23 refl))
@@ -715,44 +781,138 @@ module _ {M : Type 1} (𝓤 : URA M) (H : Heap 𝓤) (A : Atoms 𝓤) (W : Given
           (λ a w-a ws-a e-a is-a. land ! (from ! (stop !))
           (init ! 20 refl (LL.lawful opened-row.the-type opened-laws.the-laws 𝓤 H A W .typed a (w-a ∷ []) is-a .0)) $
           spread W (‵ (flft κ₁ q₁)) (‵ (flft κ₂ q₂) ∷ ‵ (flft κ₄ q₄) ∷ ‵ ftrue ∷ []) (id⊢ 𝓤 _) $ move ! (4 ∷ []) $
-              spread W (‵ ftrue) (‵ ftrue ∷ ‵ ftrue ∷ ‵ ftrue ∷ ‵ ftrue ∷ ‵ ftrue ∷ ‵ ftrue ∷ ‵ ftrue ∷ ‵ ftrue ∷ ‵ ftrue
-              ∷ []) (id⊢ 𝓤 _) $ keep ! (10 ∷ 11 ∷ 12 ∷ 14 ∷ 15 ∷ 16 ∷ 17 ∷ 18 ∷ 19 ∷ 20 ∷ 21 ∷ 22 ∷ 23 ∷ 24 ∷ 25 ∷ 26
-              ∷ 27 ∷ 28 ∷ 29 ∷ 30 ∷ 31 ∷ 32 ∷ 33 ∷ 34 ∷ 35 ∷ 36 ∷ 37 ∷ 38 ∷ 39 ∷ 40 ∷ 41 ∷ 42 ∷ 43 ∷ 44 ∷ 45 ∷ 46 ∷ 47
-              ∷ 48 ∷ 49 ∷ 50 ∷ 51 ∷ []) $
+          spread W (‵ ftrue) (‵ ftrue ∷ ‵ ftrue ∷ ‵ ftrue ∷ ‵ ftrue ∷ ‵ ftrue ∷ ‵ ftrue ∷ ‵ ftrue ∷ ‵ ftrue ∷ ‵ ftrue
+          ∷ []) (id⊢ 𝓤 _) $ keep ! (10 ∷ 11 ∷ 12 ∷ 14 ∷ 15 ∷ 16 ∷ 17 ∷ 18 ∷ 19 ∷ 20 ∷ 21 ∷ 22 ∷ 23 ∷ 24 ∷ 25 ∷ 26
+          ∷ 27 ∷ 28 ∷ 29 ∷ 30 ∷ 31 ∷ 32 ∷ 33 ∷ 34 ∷ 35 ∷ 36 ∷ 37 ∷ 38 ∷ 39 ∷ 40 ∷ 41 ∷ 42 ∷ 43 ∷ 44 ∷ 45 ∷ 46 ∷ 47
+          ∷ 48 ∷ 49 ∷ 50 ∷ 51 ∷ []) $
           -- [tok8; tok9; tok11; tok10; F:clock; F:arrival; F:flight; F:settings; F:«waiting_numbers»; F:waiting; F:ready; F:transmissions;
           -- F:outstanding; F:queued; back; opened; deaths; the locals]
-          by ! (part₁ (l₀, l₁, l₂, l₃, l₄, l₅, l₆, l₇, l₈, l₉, l₁₀, l₁₁, l₁₂, l₁₃, l₁₄, l₁₅, l₁₆, l₁₇,
-              l₁₈, l₁₉, l₂₀, l₂₁, l₂₂, l₂₃, c, w-c, e-c, m, w-m, e-m, a, w-a, e-a, is-a)))))))))))))))))))))))))))))))))))))))
+          by ! (part₁ (
+            l₀,
+            l₁,
+            l₂,
+            l₃,
+            l₄,
+            l₅,
+            l₆,
+            l₇,
+            l₈,
+            l₉,
+            l₁₀,
+            l₁₁,
+            l₁₂,
+            l₁₃,
+            l₁₄,
+            l₁₅,
+            l₁₆,
+            l₁₇,
+            l₁₈,
+            l₁₉,
+            l₂₀,
+            l₂₁,
+            l₂₂,
+            l₂₃,
+            c,
+            w-c,
+            e-c,
+            m,
+            w-m,
+            e-m,
+            a,
+            w-a,
+            e-a,
+            is-a,
+          )))))))))))))))))))))))))))))))))))))))
 
   f-meets : (𝓣 : Tables 𝓤 H) → Known (𝓣 .C)
       → Meets 𝓤 H A f.signature (WpFn 𝓤 H (𝓣 .C) (𝓣 .Λ) code.function) (f.spec 𝓤 H A at-mem run)
   unfolding Post
-  f-meets 𝓣 known = walk-meets 𝓤 H A f.ended stayed W
-      (goes-ref 𝓤 H A W 5 0 tt (plain (λ _. L)),
-      (goes-dropped 𝓤 H A W 5 (plain (λ _. u32)) yes (λ κs x f. refl),
-      (goes-dropped 𝓤 H A W 5 (plain (λ _. u32)) yes (λ κs x f. refl),
-      (goes-dropped 𝓤 H A W 5 (plain (λ _. u32)) yes (λ κs x f. refl),
-      (goes-dropped 𝓤 H A W 5 (plain (λ _. u32)) yes (λ κs x f. refl),
-      (goes-dropped 𝓤 H A W 5 (plain (λ _. u32)) yes (λ κs x f. refl),
-      (goes-dropped 𝓤 H A W 5 (plain (λ _. u32)) yes (λ κs x f. refl),
-      (goes-dropped 𝓤 H A W 5 (plain (λ _. u32)) yes (λ κs x f. refl),
-      (goes-dropped 𝓤 H A W 5 (shrSliceOf (1 ∷ []) tt (plain (λ _. u8))) yes (λ κs x f. refl),
-      (goes-dropped 𝓤 H A W 5 (shrSliceOf (2 ∷ []) tt (plain (λ _. u8))) yes (λ κs x f. refl),
-      (goes-dropped 𝓤 H A W 5 (shrSliceOf (3 ∷ []) tt (plain (λ _. R))) yes (λ κs x f. refl),
-      (goes-dropped 𝓤 H A W 5 (shrSliceOf (4 ∷ []) tt (plain (λ _. u32))) yes (λ κs x f. refl), tt))))))))))))
+  f-meets 𝓣 known = walk-meets 𝓤 H A f.ended stayed W (
+    goes-ref 𝓤 H A W 5 0 tt (plain (λ _. L)),
+    (
+      goes-dropped 𝓤 H A W 5 (plain (λ _. u32)) yes (λ κs x f. refl),
+      (
+        goes-dropped 𝓤 H A W 5 (plain (λ _. u32)) yes (λ κs x f. refl),
+        (
+          goes-dropped 𝓤 H A W 5 (plain (λ _. u32)) yes (λ κs x f. refl),
+          (
+            goes-dropped 𝓤 H A W 5 (plain (λ _. u32)) yes (λ κs x f. refl),
+            (
+              goes-dropped 𝓤 H A W 5 (plain (λ _. u32)) yes (λ κs x f. refl),
+              (
+                goes-dropped 𝓤 H A W 5 (plain (λ _. u32)) yes (λ κs x f. refl),
+                (
+                  goes-dropped 𝓤 H A W 5 (plain (λ _. u32)) yes (λ κs x f. refl),
+                  (
+                    goes-dropped 𝓤 H A W 5 (shrSliceOf (1 ∷ []) tt (plain (λ _. u8))) yes (λ κs x f. refl),
+                    (
+                      goes-dropped 𝓤 H A W 5 (shrSliceOf (2 ∷ []) tt (plain (λ _. u8))) yes (λ κs x f. refl),
+                      (
+                        goes-dropped 𝓤 H A W 5 (shrSliceOf (3 ∷ []) tt (plain (λ _. R))) yes (λ κs x f. refl),
+                        (goes-dropped 𝓤 H A W 5 (shrSliceOf (4 ∷ []) tt (plain (λ _. u32))) yes (λ κs x f. refl), tt),
+                      ),
+                    ),
+                  ),
+                ),
+              ),
+            ),
+          ),
+        ),
+      ),
+    ),
+  )
       (f.clauses 𝓤 H A at-mem run) (WpFn 𝓤 H (𝓣 .C) (𝓣 .Λ) code.function) (WpFn-mono 𝓤 H (W .laws) 𝓣 code.function)
       (walked 𝓤 H A f.ended stayed (f.clauses 𝓤 H A at-mem run) (WpFn 𝓤 H (𝓣 .C) (𝓣 .Λ) code.function)
-      (λ κs. (ptr-vals, ((uint-vals w32),
-      ((uint-vals w32), ((uint-vals w32),
-      ((uint-vals w32), ((uint-vals w32),
-      ((uint-vals w32), ((uint-vals w32), (slice-vals, (slice-vals, (slice-vals, (slice-vals, tt)))))))))))))
-      (λ κs. (mut-tells (named 0) (κs .0) L,
-      ((uint-tells w32), ((uint-tells w32),
-      ((uint-tells w32), ((uint-tells w32),
-      ((uint-tells w32), ((uint-tells w32),
-      ((uint-tells w32), (shr-slice-tells (named 1) (κs .1 .0) u8,
-      (shr-slice-tells (named 2) (κs .1 .1 .0) u8,
-      (shr-slice-tells (named 3) (κs .1 .1 .1 .0) R, (shr-slice-tells (named 4) (κs .1 .1 .1 .1 .0) u32, tt)))))))))))))
+      (λ κs. (
+        ptr-vals,
+        (
+          (uint-vals w32),
+          (
+            (uint-vals w32),
+            (
+              (uint-vals w32),
+              (
+                (uint-vals w32),
+                (
+                  (uint-vals w32),
+                  ((uint-vals w32), ((uint-vals w32), (slice-vals, (slice-vals, (slice-vals, (slice-vals, tt)))))),
+                ),
+              ),
+            ),
+          ),
+        ),
+      ))
+      (λ κs. (
+        mut-tells (named 0) (κs .0) L,
+        (
+          (uint-tells w32),
+          (
+            (uint-tells w32),
+            (
+              (uint-tells w32),
+              (
+                (uint-tells w32),
+                (
+                  (uint-tells w32),
+                  (
+                    (uint-tells w32),
+                    (
+                      (uint-tells w32),
+                      (
+                        shr-slice-tells (named 1) (κs .1 .0) u8,
+                        (
+                          shr-slice-tells (named 2) (κs .1 .1 .0) u8,
+                          (shr-slice-tells (named 3) (κs .1 .1 .1 .0) R, (shr-slice-tells (named 4) (κs .1 .1 .1 .1 .0) u32, tt)),
+                        ),
+                      ),
+                    ),
+                  ),
+                ),
+              ),
+            ),
+          ),
+        ),
+      ))
       (λ κs qs bounds a g are. via 𝓤 _ (fst∗ 𝓤 _ (emp 𝓤))
       (walk (κs .0) (κs .1 .0) (κs .1 .1 .0) (κs .1 .1 .1 .0) (κs .1 .1 .1 .1 .0) (qs .0) (qs .1 .0) (qs .1 .1 .0) (qs .1 .1 .1 .0)
       (qs .1 .1 .1 .1 .0) (a .0 .ptr .0) (a .0 .ptr .1) (a .0 .name) (a .0 .now) (a .1 .0) (vint w32 (a .1 .0)) (are .1 .0) (a .1 .1 .0)

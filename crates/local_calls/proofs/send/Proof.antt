@@ -228,8 +228,10 @@ use Rattle.local_calls.proofs.send.Statement as stated
 use Rattle.local_calls.proofs.send.Code as code
 
 abbrev stayed : Stays (f.ended .signature .params) (f.ended .kept)
-stayed = (stay-ref (0 ∷ []) tt (plain (λ _. L)),
-    (gave-slice (1 ∷ []) tt (plain (λ _. u8)), (stay-dropped _ yes, (stay-dropped _ yes, (stay-dropped _ yes, (stay-dropped _ yes, tt))))))
+stayed = (
+  stay-ref (0 ∷ []) tt (plain (λ _. L)),
+  (gave-slice (1 ∷ []) tt (plain (λ _. u8)), (stay-dropped _ yes, (stay-dropped _ yes, (stay-dropped _ yes, (stay-dropped _ yes, tt))))),
+)
 
 module _ {M : Type 1} (𝓤 : URA M) (H : Heap 𝓤) (A : Atoms 𝓤) (W : Given 𝓤 H A) (at-mem : Memory → SProp 𝓤) (run : Routine → Fun 𝓤) where
   -- what is known of the callees
@@ -287,10 +289,16 @@ module _ {M : Type 1} (𝓤 : URA M) (H : Heap 𝓤) (A : Atoms 𝓤) (W : Given
     -- what fit is called at, and that what it asks is had
     abbrev to-fit : (α-outstanding : ℕ) (δ-outstanding : GName) (f-outstanding : (List ℕ)) (y₀ : Settings) (u₀ : Val) (y₁ : Flight)
         (u₁ : Val) → tripleOf 𝓤 H A fit.signature (fit.spec 𝓤 H A at-mem run) .Ghost
-    to-fit α-outstanding δ-outstanding f-outstanding y₀ u₀ y₁ u₁ =
-        (((κ₃, ((α-outstanding ∷ []), tt)), (q₃, (fullShare, tt)), tt,
+    to-fit α-outstanding δ-outstanding f-outstanding y₀ u₀ y₁ u₁ = (
+      (
+        (κ₃, ((α-outstanding ∷ []), tt)),
+        (q₃, (fullShare, tt)),
+        tt,
         (x₃, ((ref-at b (o + 636) δ-outstanding f-outstanding), (y₀, (y₁, tt)))),
-        (s₃ ∷ [], ((vptr b (o + 636)) ∷ [], (u₀ ∷ [], (u₁ ∷ [], tt))))), tt)
+        (s₃ ∷ [], ((vptr b (o + 636)) ∷ [], (u₀ ∷ [], (u₁ ∷ [], tt)))),
+      ),
+      tt,
+    )
 
     asks-fit : (α-outstanding : ℕ) (δ-outstanding : GName) (f-outstanding : (List ℕ)) → (y₀ : Settings) (u₀ : Val)
         → Is settings-row.the-row y₀ (u₀ ∷ []) → (y₁ : Flight) (u₁ : Val) → Is flight-row.the-row y₁ (u₁ ∷ [])
@@ -301,22 +309,22 @@ module _ {M : Type 1} (𝓤 : URA M) (H : Heap 𝓤) (A : Atoms 𝓤) (W : Given
         (to-fit α-outstanding δ-outstanding f-outstanding y₀ u₀ y₁ u₁))
     asks-fit α-outstanding δ-outstanding f-outstanding y₀ u₀ is₀ y₁ u₁ is₁ req =
         qed W (‵ (flft κ₃ q₃) ∷ ‵ Own₃ ∷ ‵ (flft (α-outstanding ∷ []) fullShare)
-            ∷ ‵ (ShrRef (named 0) (α-outstanding ∷ []) (Array u32 32) .own (ref-at b (o + 636) δ-outstanding f-outstanding)
-            ((vptr b (o + 636)) ∷ [])) ∷ []) ∵ says ! req $ nothing ! $ move ! (3 ∷ 0 ∷ []) $ join ! $ move ! (1 ∷ 0 ∷ []) $ join ! $
-            nothing ! $ owned ! flight-row.the-row (Is flight-row.the-row) (LL.makes flight-row.the-type flight-laws.the-plain 𝓤 H A) y₁ _
-            is₁ $ fjoin ! $ owned ! settings-row.the-row (Is settings-row.the-row)
-            (LL.makes settings-row.the-type settings-laws.the-plain 𝓤 H A) y₀ _ is₀ $ fjoin ! $ move ! (3 ∷ 0 ∷ []) $ fjoin ! $
-            move ! (2 ∷ 0 ∷ []) $ fjoin ! $ move ! (1 ∷ 0 ∷ []) $ done !
+        ∷ ‵ (ShrRef (named 0) (α-outstanding ∷ []) (Array u32 32) .own (ref-at b (o + 636) δ-outstanding f-outstanding)
+        ((vptr b (o + 636)) ∷ [])) ∷ []) ∵ says ! req $ nothing ! $ move ! (3 ∷ 0 ∷ []) $ join ! $ move ! (1 ∷ 0 ∷ []) $ join ! $
+        nothing ! $ owned ! flight-row.the-row (Is flight-row.the-row) (LL.makes flight-row.the-type flight-laws.the-plain 𝓤 H A) y₁ _
+        is₁ $ fjoin ! $ owned ! settings-row.the-row (Is settings-row.the-row)
+        (LL.makes settings-row.the-type settings-laws.the-plain 𝓤 H A) y₀ _ is₀ $ fjoin ! $ move ! (3 ∷ 0 ∷ []) $ fjoin ! $
+        move ! (2 ∷ 0 ∷ []) $ fjoin ! $ move ! (1 ∷ 0 ∷ []) $ done !
 
     -- what table-len is called at, and that what it asks is had
     abbrev to-table-len : tripleOf 𝓤 H A table-len.signature (table-len.spec 𝓤 H A at-mem run) .Ghost
-    to-table-len  = (((κ₃, tt), (q₃, tt), tt, (x₃, tt), (s₃ ∷ [], tt)), tt)
+    to-table-len = (((κ₃, tt), (q₃, tt), tt, (x₃, tt), (s₃ ∷ [], tt)), tt)
 
-    asks-table-len :  ent 𝓤 (⋆ 𝓤 H A (‵ (flft κ₃ q₃) ∷ ‵ Own₃ ∷ []))
-        (tripleOf 𝓤 H A table-len.signature (table-len.spec 𝓤 H A at-mem run) .pre (to-table-len ))
-    asks-table-len    =
+    asks-table-len : ent 𝓤 (⋆ 𝓤 H A (‵ (flft κ₃ q₃) ∷ ‵ Own₃ ∷ []))
+        (tripleOf 𝓤 H A table-len.signature (table-len.spec 𝓤 H A at-mem run) .pre (to-table-len))
+    asks-table-len =
         qed W (‵ (flft κ₃ q₃) ∷ ‵ Own₃ ∷ []) ∵ nothing ! $ move ! (1 ∷ 0 ∷ []) $ join ! $ nothing ! $ move ! (2 ∷ 0 ∷ []) $ fjoin ! $
-            move ! (1 ∷ 0 ∷ []) $ join ! $ nothing ! $ move ! (1 ∷ 0 ∷ []) $ done !
+        move ! (1 ∷ 0 ∷ []) $ join ! $ nothing ! $ move ! (1 ∷ 0 ∷ []) $ done !
 
     -- what core is called at, and that what it asks is had
     abbrev to-core : (α-queued : ℕ) (δ-queued : GName) (f-queued : (List ℕ)) (α-outstanding : ℕ) (δ-outstanding : GName)
@@ -327,21 +335,88 @@ module _ {M : Type 1} (𝓤 : URA M) (H : Heap 𝓤) (A : Atoms 𝓤) (W : Given
         → tripleOf 𝓤 H A core.signature (core.spec 𝓤 H A at-mem run) .Ghost
     to-core α-queued δ-queued f-queued α-outstanding δ-outstanding f-outstanding α-transmissions δ-transmissions f-transmissions α-ready
         δ-ready f-ready α-waiting δ-waiting f-waiting α-waiting-numbers δ-waiting-numbers f-waiting-numbers y₀ u₀ y₁ u₁ y₂ u₂ y₃ u₃ y₄
-        u₄ y₅ u₅ = ((((α-queued ∷ []), ((α-outstanding ∷ []),
-        ((α-transmissions ∷ []), ((α-ready ∷ []), ((α-waiting ∷ []), ((α-waiting-numbers ∷ []), (κ₁, (κ₂, (κ₄, (κ₅, tt)))))))))),
-        (fullShare, (fullShare, (fullShare, (fullShare, (fullShare, (fullShare, (q₁, (q₂, (q₄, (q₅, tt)))))))))), tt,
-        (y₀, (y₁, (y₂,
-        (y₃, (y₄, (y₅, ((ref-at b (o + 124) δ-queued f-queued),
-        ((ref-at b (o + 636) δ-outstanding f-outstanding),
-        ((ref-at b (o + 764) δ-transmissions f-transmissions),
-        ((ref-at b (o + 796) δ-ready f-ready),
-        ((ref-at b (o + 1308) δ-waiting f-waiting),
-        ((ref-at b (o + 1820) δ-waiting-numbers f-waiting-numbers), (x₁, (x₂, (x₄, (x₅, tt)))))))))))))))),
-        (u₀ ∷ [], (u₁ ∷ [], (u₂ ∷ [], (u₃ ∷ [],
-        (u₄ ∷ [], (u₅ ∷ [], ((vptr b (o + 124)) ∷ [],
-        ((vptr b (o + 636)) ∷ [], ((vptr b (o + 764)) ∷ [],
-        ((vptr b (o + 796)) ∷ [], ((vptr b (o + 1308)) ∷ [],
-        ((vptr b (o + 1820)) ∷ [], (s₁ ∷ [], (s₂ ∷ [], (s₄ ∷ [], (s₅ ∷ [], tt))))))))))))))))), tt)
+        u₄ y₅ u₅ = (
+          (
+            (
+              (α-queued ∷ []),
+              (
+                (α-outstanding ∷ []),
+                ((α-transmissions ∷ []), ((α-ready ∷ []), ((α-waiting ∷ []), ((α-waiting-numbers ∷ []), (κ₁, (κ₂, (κ₄, (κ₅, tt)))))))),
+              ),
+            ),
+            (fullShare, (fullShare, (fullShare, (fullShare, (fullShare, (fullShare, (q₁, (q₂, (q₄, (q₅, tt)))))))))),
+            tt,
+            (
+              y₀,
+              (
+                y₁,
+                (
+                  y₂,
+                  (
+                    y₃,
+                    (
+                      y₄,
+                      (
+                        y₅,
+                        (
+                          (ref-at b (o + 124) δ-queued f-queued),
+                          (
+                            (ref-at b (o + 636) δ-outstanding f-outstanding),
+                            (
+                              (ref-at b (o + 764) δ-transmissions f-transmissions),
+                              (
+                                (ref-at b (o + 796) δ-ready f-ready),
+                                (
+                                  (ref-at b (o + 1308) δ-waiting f-waiting),
+                                  ((ref-at b (o + 1820) δ-waiting-numbers f-waiting-numbers), (x₁, (x₂, (x₄, (x₅, tt))))),
+                                ),
+                              ),
+                            ),
+                          ),
+                        ),
+                      ),
+                    ),
+                  ),
+                ),
+              ),
+            ),
+            (
+              u₀ ∷ [],
+              (
+                u₁ ∷ [],
+                (
+                  u₂ ∷ [],
+                  (
+                    u₃ ∷ [],
+                    (
+                      u₄ ∷ [],
+                      (
+                        u₅ ∷ [],
+                        (
+                          (vptr b (o + 124)) ∷ [],
+                          (
+                            (vptr b (o + 636)) ∷ [],
+                            (
+                              (vptr b (o + 764)) ∷ [],
+                              (
+                                (vptr b (o + 796)) ∷ [],
+                                (
+                                  (vptr b (o + 1308)) ∷ [],
+                                  ((vptr b (o + 1820)) ∷ [], (s₁ ∷ [], (s₂ ∷ [], (s₄ ∷ [], (s₅ ∷ [], tt))))),
+                                ),
+                              ),
+                            ),
+                          ),
+                        ),
+                      ),
+                    ),
+                  ),
+                ),
+              ),
+            ),
+          ),
+          tt,
+        )
 
     asks-core : (α-queued : ℕ) (δ-queued : GName) (f-queued : (List ℕ)) (α-outstanding : ℕ) (δ-outstanding : GName)
         (f-outstanding : (List ℕ)) (α-transmissions : ℕ) (δ-transmissions : GName) (f-transmissions : (List ℕ)) (α-ready : ℕ)
@@ -373,31 +448,31 @@ module _ {M : Type 1} (𝓤 : URA M) (H : Heap 𝓤) (A : Atoms 𝓤) (W : Given
         δ-ready f-ready α-waiting δ-waiting f-waiting α-waiting-numbers δ-waiting-numbers f-waiting-numbers y₀ u₀ is₀ y₁ u₁ is₁ y₂ u₂ is₂
         y₃ u₃ is₃ y₄ u₄ is₄ y₅ u₅ is₅ req =
         qed W (‵ (flft (α-queued ∷ []) fullShare)
-            ∷ ‵ (MutRef (named 0) (α-queued ∷ []) (Array u32 128) .own (ref-at b (o + 124) δ-queued f-queued) ((vptr b (o + 124)) ∷ []))
-            ∷ ‵ (flft (α-outstanding ∷ []) fullShare)
-            ∷ ‵ (ShrRef (named 0) (α-outstanding ∷ []) (Array u32 32) .own (ref-at b (o + 636) δ-outstanding f-outstanding)
-            ((vptr b (o + 636)) ∷ [])) ∷ ‵ (flft (α-transmissions ∷ []) fullShare)
-            ∷ ‵ (ShrRef (named 0) (α-transmissions ∷ []) (Array u8 32) .own (ref-at b (o + 764) δ-transmissions f-transmissions)
-            ((vptr b (o + 764)) ∷ [])) ∷ ‵ (flft (α-ready ∷ []) fullShare)
-            ∷ ‵ (ShrRef (named 0) (α-ready ∷ []) (Array u32 128) .own (ref-at b (o + 796) δ-ready f-ready) ((vptr b (o + 796)) ∷ []))
-            ∷ ‵ (flft (α-waiting ∷ []) fullShare)
-            ∷ ‵ (ShrRef (named 0) (α-waiting ∷ []) (Array u32 128) .own (ref-at b (o + 1308) δ-waiting f-waiting)
-            ((vptr b (o + 1308)) ∷ [])) ∷ ‵ (flft (α-waiting-numbers ∷ []) fullShare)
-            ∷ ‵ (ShrRef (named 0) (α-waiting-numbers ∷ []) (Array u32 128) .own (ref-at b (o + 1820) δ-waiting-numbers f-waiting-numbers)
-            ((vptr b (o + 1820)) ∷ [])) ∷ ‵ (flft κ₁ q₁) ∷ ‵ Own₁ ∷ ‵ (flft κ₂ q₂) ∷ ‵ Own₂ ∷ ‵ (flft κ₄ q₄)
-            ∷ ‵ Own₄ ∷ ‵ (flft κ₅ q₅) ∷ ‵ Own₅ ∷ []) ∵ says ! req $ nothing ! $ move ! (19 ∷ 0 ∷ []) $ join ! $
-            move ! (17 ∷ 0 ∷ []) $ join ! $ move ! (15 ∷ 0 ∷ []) $ join ! $ move ! (13 ∷ 0 ∷ []) $ join ! $ move ! (11 ∷ 0 ∷ []) $ join ! $
-            move ! (9 ∷ 0 ∷ []) $ join ! $ move ! (7 ∷ 0 ∷ []) $ join ! $ move ! (5 ∷ 0 ∷ []) $ join ! $ move ! (3 ∷ 0 ∷ []) $ join ! $
-            move ! (1 ∷ 0 ∷ []) $ join ! $ nothing ! $ move ! (11 ∷ 0 ∷ []) $ fjoin ! $ move ! (10 ∷ 0 ∷ []) $ fjoin ! $
-            move ! (9 ∷ 0 ∷ []) $ fjoin ! $ move ! (8 ∷ 0 ∷ []) $ fjoin ! $ move ! (7 ∷ 0 ∷ []) $ fjoin ! $ move ! (6 ∷ 0 ∷ []) $ fjoin ! $
-            move ! (5 ∷ 0 ∷ []) $ fjoin ! $ move ! (4 ∷ 0 ∷ []) $ fjoin ! $ move ! (3 ∷ 0 ∷ []) $ fjoin ! $ move ! (2 ∷ 0 ∷ []) $ fjoin ! $
-            owned ! usize (Is usize) (uint-makes 𝓤 H A W w64) y₅ _ is₅ $ fjoin ! $
-            owned ! Boolean (Is Boolean) (bool-makes 𝓤 H A W) y₄ _ is₄ $ fjoin ! $
-            owned ! clock-row.the-row (Is clock-row.the-row) (LL.makes clock-row.the-type clock-laws.the-plain 𝓤 H A) y₃ _ is₃ $ fjoin ! $
-            owned ! arrival-row.the-row (Is arrival-row.the-row) (LL.makes arrival-row.the-type arrival-laws.the-plain 𝓤 H A) y₂ _ is₂ $
-            fjoin ! $ owned ! flight-row.the-row (Is flight-row.the-row) (LL.makes flight-row.the-type flight-laws.the-plain 𝓤 H A) y₁ _
-            is₁ $ fjoin ! $ owned ! settings-row.the-row (Is settings-row.the-row)
-            (LL.makes settings-row.the-type settings-laws.the-plain 𝓤 H A) y₀ _ is₀ $ fjoin ! $ move ! (1 ∷ 0 ∷ []) $ done !
+        ∷ ‵ (MutRef (named 0) (α-queued ∷ []) (Array u32 128) .own (ref-at b (o + 124) δ-queued f-queued) ((vptr b (o + 124)) ∷ []))
+        ∷ ‵ (flft (α-outstanding ∷ []) fullShare)
+        ∷ ‵ (ShrRef (named 0) (α-outstanding ∷ []) (Array u32 32) .own (ref-at b (o + 636) δ-outstanding f-outstanding)
+        ((vptr b (o + 636)) ∷ [])) ∷ ‵ (flft (α-transmissions ∷ []) fullShare)
+        ∷ ‵ (ShrRef (named 0) (α-transmissions ∷ []) (Array u8 32) .own (ref-at b (o + 764) δ-transmissions f-transmissions)
+        ((vptr b (o + 764)) ∷ [])) ∷ ‵ (flft (α-ready ∷ []) fullShare)
+        ∷ ‵ (ShrRef (named 0) (α-ready ∷ []) (Array u32 128) .own (ref-at b (o + 796) δ-ready f-ready) ((vptr b (o + 796)) ∷ []))
+        ∷ ‵ (flft (α-waiting ∷ []) fullShare)
+        ∷ ‵ (ShrRef (named 0) (α-waiting ∷ []) (Array u32 128) .own (ref-at b (o + 1308) δ-waiting f-waiting)
+        ((vptr b (o + 1308)) ∷ [])) ∷ ‵ (flft (α-waiting-numbers ∷ []) fullShare)
+        ∷ ‵ (ShrRef (named 0) (α-waiting-numbers ∷ []) (Array u32 128) .own (ref-at b (o + 1820) δ-waiting-numbers f-waiting-numbers)
+        ((vptr b (o + 1820)) ∷ [])) ∷ ‵ (flft κ₁ q₁) ∷ ‵ Own₁ ∷ ‵ (flft κ₂ q₂) ∷ ‵ Own₂ ∷ ‵ (flft κ₄ q₄)
+        ∷ ‵ Own₄ ∷ ‵ (flft κ₅ q₅) ∷ ‵ Own₅ ∷ []) ∵ says ! req $ nothing ! $ move ! (19 ∷ 0 ∷ []) $ join ! $
+        move ! (17 ∷ 0 ∷ []) $ join ! $ move ! (15 ∷ 0 ∷ []) $ join ! $ move ! (13 ∷ 0 ∷ []) $ join ! $ move ! (11 ∷ 0 ∷ []) $ join ! $
+        move ! (9 ∷ 0 ∷ []) $ join ! $ move ! (7 ∷ 0 ∷ []) $ join ! $ move ! (5 ∷ 0 ∷ []) $ join ! $ move ! (3 ∷ 0 ∷ []) $ join ! $
+        move ! (1 ∷ 0 ∷ []) $ join ! $ nothing ! $ move ! (11 ∷ 0 ∷ []) $ fjoin ! $ move ! (10 ∷ 0 ∷ []) $ fjoin ! $
+        move ! (9 ∷ 0 ∷ []) $ fjoin ! $ move ! (8 ∷ 0 ∷ []) $ fjoin ! $ move ! (7 ∷ 0 ∷ []) $ fjoin ! $ move ! (6 ∷ 0 ∷ []) $ fjoin ! $
+        move ! (5 ∷ 0 ∷ []) $ fjoin ! $ move ! (4 ∷ 0 ∷ []) $ fjoin ! $ move ! (3 ∷ 0 ∷ []) $ fjoin ! $ move ! (2 ∷ 0 ∷ []) $ fjoin ! $
+        owned ! usize (Is usize) (uint-makes 𝓤 H A W w64) y₅ _ is₅ $ fjoin ! $
+        owned ! Boolean (Is Boolean) (bool-makes 𝓤 H A W) y₄ _ is₄ $ fjoin ! $
+        owned ! clock-row.the-row (Is clock-row.the-row) (LL.makes clock-row.the-type clock-laws.the-plain 𝓤 H A) y₃ _ is₃ $ fjoin ! $
+        owned ! arrival-row.the-row (Is arrival-row.the-row) (LL.makes arrival-row.the-type arrival-laws.the-plain 𝓤 H A) y₂ _ is₂ $
+        fjoin ! $ owned ! flight-row.the-row (Is flight-row.the-row) (LL.makes flight-row.the-type flight-laws.the-plain 𝓤 H A) y₁ _
+        is₁ $ fjoin ! $ owned ! settings-row.the-row (Is settings-row.the-row)
+        (LL.makes settings-row.the-type settings-laws.the-plain 𝓤 H A) y₀ _ is₀ $ fjoin ! $ move ! (1 ∷ 0 ∷ []) $ done !
 
     abbrev Had : (k : Link) (z₁ : List ℕ) → List (Item 𝓤)
     Had k z₁ = ‵ (link-own κ₀ b o γ k) ∷ ‵ (flft κ₀ q₀) ∷ ‵ (finally u8 (x₁ .name) z₁) ∷ ‵ (flft κ₁ q₁)
@@ -413,12 +488,12 @@ module _ {M : Type 1} (𝓤 : URA M) (H : Heap 𝓤) (A : Atoms 𝓤) (W : Given
     unfolding Post
     exits r w k z₁ e len₁ g =
         qed W (Had k z₁) ∵ suffices ! _ (ends-at 𝓤 H A f.ended stayed (f.clauses 𝓤 H A at-mem run) W
-            (((κ₀, (κ₁, (κ₂, (κ₃, (κ₄, (κ₅, tt)))))), (q₀, (q₁, (q₂, (q₃, (q₄, (q₅, tt)))))), tt, x, at), tt) w r
-            (k, (z₁, (tt, (tt, (tt, (tt, tt)))))) (tt, (len₁, (tt, (tt, (tt, (tt, tt))))))) $ says ! e $
+        (((κ₀, (κ₁, (κ₂, (κ₃, (κ₄, (κ₅, tt)))))), (q₀, (q₁, (q₂, (q₃, (q₄, (q₅, tt)))))), tt, x, at), tt) w r
+        (k, (z₁, (tt, (tt, (tt, (tt, tt)))))) (tt, (len₁, (tt, (tt, (tt, (tt, tt))))))) $ says ! e $
         nothing ! $ move ! (8 ∷ 0 ∷ []) $ join ! $ move ! (7 ∷ 0 ∷ []) $ join ! $ move ! (6 ∷ 0 ∷ []) $ join ! $ move ! (5 ∷ 0 ∷ []) $
-            join ! $ move ! (4 ∷ 0 ∷ []) $ join ! $ move ! (2 ∷ 0 ∷ []) $ join ! $ frame ! $ nothing ! $ nothing ! $ fjoin ! $ nothing ! $
-            fjoin ! $ nothing ! $ fjoin ! $ nothing ! $ fjoin ! $ move ! (2 ∷ 0 ∷ []) $ fjoin ! $ move ! (1 ∷ 0 ∷ []) $ fjoin ! $ frame ! $
-            owned ! i32 (Is i32) (sint-makes 𝓤 H A W w32) r _ g $ done !
+        join ! $ move ! (4 ∷ 0 ∷ []) $ join ! $ move ! (2 ∷ 0 ∷ []) $ join ! $ frame ! $ nothing ! $ nothing ! $ fjoin ! $ nothing ! $
+        fjoin ! $ nothing ! $ fjoin ! $ nothing ! $ fjoin ! $ move ! (2 ∷ 0 ∷ []) $ fjoin ! $ move ! (1 ∷ 0 ∷ []) $ fjoin ! $ frame ! $
+        owned ! i32 (Is i32) (sint-makes 𝓤 H A W w32) r _ g $ done !
 
     module _ (C : Calls 𝓤 H) (Λ : Loops 𝓤 H) (fm : FmC 𝓤 H (W .laws) C) (known : Known C) where
       -- where the locals lie
@@ -494,60 +569,60 @@ module _ {M : Type 1} (𝓤 : URA M) (H : Heap 𝓤) (A : Atoms 𝓤) (W : Given
           (past .24) (past .25)) Post))
       part₂ past =
           qed W (‵ (partAt (Array u32 128) fullShare (h .«waiting_numbers») b (o + 1820))
-              ∷ ‵ (partAt (Array u32 128) fullShare (h .waiting) b (o + 1308)) ∷ ‵ (partAt (Array u32 128) fullShare (h .ready) b (o + 796))
-              ∷ ‵ (partAt (Array u8 32) fullShare (h .transmissions) b (o + 764))
-              ∷ ‵ (partAt (Array u32 32) fullShare (h .outstanding) b (o + 636))
-              ∷ ‵ (partAt (Array u32 128) fullShare (past .1) b (o + 124)) ∷ ‵ (finally u8 (x₁ .name) (past .0)) ∷ ‵ (flft κ₁ q₁)
-              ∷ ‵ (flft κ₂ q₂) ∷ ‵ (flft κ₄ q₄) ∷ ‵ (flft κ₅ q₅) ∷ ‵ (flft κ₃ q₃)
-              ∷ ‵ (partAt clock-row.the-row fullShare (h .clock) b (o + 104))
-              ∷ ‵ (partAt arrival-row.the-row fullShare (h .arrival) b (o + 72))
-              ∷ ‵ (partAt flight-row.the-row fullShare (h .flight) b (o + 16))
-              ∷ ‵ (partAt settings-row.the-row fullShare (h .settings) b (o + 0)) ∷ raw (Back 𝓤 H A fullShare b o) ∷ ‵ (Open b o γ κ₀ q₀ h)
-              ∷ (‵ (fdies (tyInt w32) (past .2)) ⊛ ‵ (fdies (tyRef (named 0) mut (pointee (L .written))) (past .3)) ⊛ ‵
-              (fdies (sliceTy (tyRef (named 1) mut (tyInt w8))) (past .4)) ⊛ ‵ (fdies (sliceTy (tyRef (named 2) imm (tyInt w8))) (past .5))
-              ⊛ ‵ (fdies (sliceTy (tyRef (named 3) imm (pointee (R .written)))) (past .6)) ⊛ ‵
-              (fdies (sliceTy (tyRef (named 4) imm (tyInt w32))) (past .7)) ⊛ ‵ (fdies (sliceTy (tyRef (named 5) imm (tyInt w8))) (past .8))
-              ⊛ ‵ (fdies settings-laws.mir (past .9)) ⊛ ‵ (fdies flight-laws.mir (past .10)) ⊛ ‵ (fdies arrival-laws.mir (past .11)) ⊛ ‵
-              (fdies clock-laws.mir (past .12)) ⊛ ‵ (fdies tyBool (past .13)) ⊛ ‵ (fdies (tyInt w64) (past .14)) ⊛ ‵
-              (fdies sent-laws.mir (past .15)) ⊛ ‵ (fdies flight-laws.mir (past .16)) ⊛ ‵
-              (fdies (tyRef erased imm (tyArray (tyInt w32) 32)) (past .17)) ⊛ ‵
-              (fdies (tyRef erased mut (tyArray (tyInt w32) 128)) (past .18)) ⊛ ‵
-              (fdies (tyRef erased imm (tyArray (tyInt w32) 32)) (past .19)) ⊛ ‵
-              (fdies (tyRef erased imm (tyArray (tyInt w8) 32)) (past .20)) ⊛ ‵
-              (fdies (tyRef erased imm (tyArray (tyInt w32) 128)) (past .21)) ⊛ ‵
-              (fdies (tyRef erased imm (tyArray (tyInt w32) 128)) (past .22)) ⊛ ‵
-              (fdies (tyRef erased imm (tyArray (tyInt w32) 128)) (past .23)) ⊛ ‵ (fdies (tyRef erased mut (tyInt w8)) (past .24)) ⊛ ‵
-              (fdies (sliceTy (tyRef erased mut (tyInt w8))) (past .25)))
-              ∷ ‵ (fat fullShare (sliceTy (tyRef erased mut (tyInt w8))) (past .25) 0 (s₁))
-              ∷ ‵ (fat fullShare (tyRef erased mut (tyInt w8)) (past .24) 0 ((vptr (x₁ .ptr .0) (x₁ .ptr .1))))
-              ∷ ‵ (fat fullShare (tyRef erased imm (tyArray (tyInt w32) 128)) (past .23) 0 ((vptr b (o + 1820))))
-              ∷ ‵ (fat fullShare (tyRef erased imm (tyArray (tyInt w32) 128)) (past .22) 0 ((vptr b (o + 1308))))
-              ∷ ‵ (fat fullShare (tyRef erased imm (tyArray (tyInt w32) 128)) (past .21) 0 ((vptr b (o + 796))))
-              ∷ ‵ (fat fullShare (tyRef erased imm (tyArray (tyInt w8) 32)) (past .20) 0 ((vptr b (o + 764))))
-              ∷ ‵ (fat fullShare (tyRef erased imm (tyArray (tyInt w32) 32)) (past .19) 0 ((vptr b (o + 636))))
-              ∷ ‵ (fat fullShare (tyRef erased mut (tyArray (tyInt w32) 128)) (past .18) 0 ((vptr b (o + 124))))
-              ∷ ‵ (fat fullShare (tyRef erased imm (tyArray (tyInt w32) 32)) (past .17) 0 ((vptr b (o + 636))))
-              ∷ ‵ (froom flight-laws.mir (past .16) 0) ∷ ‵ (fat fullShare sent-laws.mir (past .15) 0 ((past .33)))
-              ∷ ‵ (fat fullShare (tyInt w64) (past .14) 0 ((past .30))) ∷ ‵ (fat fullShare tyBool (past .13) 0 ((past .27)))
-              ∷ ‵ (fat fullShare clock-laws.mir (past .12) 0 ((only ((LL.vals clock-row.the-type clock-laws.the-laws) (h .clock)))))
-              ∷ ‵ (fat fullShare arrival-laws.mir (past .11) 0 ((only ((LL.vals arrival-row.the-type arrival-laws.the-laws) (h .arrival)))))
-              ∷ ‵ (fat fullShare flight-laws.mir (past .10) 0 ((only ((LL.vals flight-row.the-type flight-laws.the-laws) (h .flight)))))
-              ∷ ‵ (fat fullShare settings-laws.mir (past .9) 0
-              ((only ((LL.vals settings-row.the-type settings-laws.the-laws) (h .settings)))))
-              ∷ ‵ (fat fullShare (sliceTy (tyRef (named 5) imm (tyInt w8))) (past .8) 0 (s₅))
-              ∷ ‵ (fat fullShare (sliceTy (tyRef (named 4) imm (tyInt w32))) (past .7) 0 (s₄))
-              ∷ ‵ (fat fullShare (sliceTy (tyRef (named 3) imm (pointee (R .written)))) (past .6) 0 (s₃))
-              ∷ ‵ (fat fullShare (sliceTy (tyRef (named 2) imm (tyInt w8))) (past .5) 0 (s₂))
-              ∷ ‵ (fat fullShare (sliceTy (tyRef (named 1) mut (tyInt w8))) (past .4) 0 (s₁))
-              ∷ ‵ (fat fullShare (tyRef (named 0) mut (pointee (L .written))) (past .3) 0 (vptr b o)) ∷ ‵ (froom (tyInt w32) (past .2) 0)
-              ∷ []) ∵ exec ! C Λ (En (past .2) (past .3) (past .4) (past .5) (past .6) (past .7) (past .8) (past .9) (past .10) (past .11)
-              (past .12) (past .13) (past .14) (past .15) (past .16) (past .17) (past .18) (past .19) (past .20) (past .21) (past .22)
-              (past .23) (past .24) (past .25)) (behind 16 (code.function .body))
-              (atRet (En (past .2) (past .3) (past .4) (past .5) (past .6) (past .7) (past .8) (past .9) (past .10) (past .11) (past .12)
-              (past .13) (past .14) (past .15) (past .16) (past .17) (past .18) (past .19) (past .20) (past .21) (past .22) (past .23)
-              (past .24) (past .25)) Post) $
+          ∷ ‵ (partAt (Array u32 128) fullShare (h .waiting) b (o + 1308)) ∷ ‵ (partAt (Array u32 128) fullShare (h .ready) b (o + 796))
+          ∷ ‵ (partAt (Array u8 32) fullShare (h .transmissions) b (o + 764))
+          ∷ ‵ (partAt (Array u32 32) fullShare (h .outstanding) b (o + 636))
+          ∷ ‵ (partAt (Array u32 128) fullShare (past .1) b (o + 124)) ∷ ‵ (finally u8 (x₁ .name) (past .0)) ∷ ‵ (flft κ₁ q₁)
+          ∷ ‵ (flft κ₂ q₂) ∷ ‵ (flft κ₄ q₄) ∷ ‵ (flft κ₅ q₅) ∷ ‵ (flft κ₃ q₃)
+          ∷ ‵ (partAt clock-row.the-row fullShare (h .clock) b (o + 104))
+          ∷ ‵ (partAt arrival-row.the-row fullShare (h .arrival) b (o + 72))
+          ∷ ‵ (partAt flight-row.the-row fullShare (h .flight) b (o + 16))
+          ∷ ‵ (partAt settings-row.the-row fullShare (h .settings) b (o + 0)) ∷ raw (Back 𝓤 H A fullShare b o) ∷ ‵ (Open b o γ κ₀ q₀ h)
+          ∷ (‵ (fdies (tyInt w32) (past .2)) ⊛ ‵ (fdies (tyRef (named 0) mut (pointee (L .written))) (past .3)) ⊛ ‵
+          (fdies (sliceTy (tyRef (named 1) mut (tyInt w8))) (past .4)) ⊛ ‵ (fdies (sliceTy (tyRef (named 2) imm (tyInt w8))) (past .5))
+          ⊛ ‵ (fdies (sliceTy (tyRef (named 3) imm (pointee (R .written)))) (past .6)) ⊛ ‵
+          (fdies (sliceTy (tyRef (named 4) imm (tyInt w32))) (past .7)) ⊛ ‵ (fdies (sliceTy (tyRef (named 5) imm (tyInt w8))) (past .8))
+          ⊛ ‵ (fdies settings-laws.mir (past .9)) ⊛ ‵ (fdies flight-laws.mir (past .10)) ⊛ ‵ (fdies arrival-laws.mir (past .11)) ⊛ ‵
+          (fdies clock-laws.mir (past .12)) ⊛ ‵ (fdies tyBool (past .13)) ⊛ ‵ (fdies (tyInt w64) (past .14)) ⊛ ‵
+          (fdies sent-laws.mir (past .15)) ⊛ ‵ (fdies flight-laws.mir (past .16)) ⊛ ‵
+          (fdies (tyRef erased imm (tyArray (tyInt w32) 32)) (past .17)) ⊛ ‵
+          (fdies (tyRef erased mut (tyArray (tyInt w32) 128)) (past .18)) ⊛ ‵
+          (fdies (tyRef erased imm (tyArray (tyInt w32) 32)) (past .19)) ⊛ ‵
+          (fdies (tyRef erased imm (tyArray (tyInt w8) 32)) (past .20)) ⊛ ‵
+          (fdies (tyRef erased imm (tyArray (tyInt w32) 128)) (past .21)) ⊛ ‵
+          (fdies (tyRef erased imm (tyArray (tyInt w32) 128)) (past .22)) ⊛ ‵
+          (fdies (tyRef erased imm (tyArray (tyInt w32) 128)) (past .23)) ⊛ ‵ (fdies (tyRef erased mut (tyInt w8)) (past .24)) ⊛ ‵
+          (fdies (sliceTy (tyRef erased mut (tyInt w8))) (past .25)))
+          ∷ ‵ (fat fullShare (sliceTy (tyRef erased mut (tyInt w8))) (past .25) 0 (s₁))
+          ∷ ‵ (fat fullShare (tyRef erased mut (tyInt w8)) (past .24) 0 ((vptr (x₁ .ptr .0) (x₁ .ptr .1))))
+          ∷ ‵ (fat fullShare (tyRef erased imm (tyArray (tyInt w32) 128)) (past .23) 0 ((vptr b (o + 1820))))
+          ∷ ‵ (fat fullShare (tyRef erased imm (tyArray (tyInt w32) 128)) (past .22) 0 ((vptr b (o + 1308))))
+          ∷ ‵ (fat fullShare (tyRef erased imm (tyArray (tyInt w32) 128)) (past .21) 0 ((vptr b (o + 796))))
+          ∷ ‵ (fat fullShare (tyRef erased imm (tyArray (tyInt w8) 32)) (past .20) 0 ((vptr b (o + 764))))
+          ∷ ‵ (fat fullShare (tyRef erased imm (tyArray (tyInt w32) 32)) (past .19) 0 ((vptr b (o + 636))))
+          ∷ ‵ (fat fullShare (tyRef erased mut (tyArray (tyInt w32) 128)) (past .18) 0 ((vptr b (o + 124))))
+          ∷ ‵ (fat fullShare (tyRef erased imm (tyArray (tyInt w32) 32)) (past .17) 0 ((vptr b (o + 636))))
+          ∷ ‵ (froom flight-laws.mir (past .16) 0) ∷ ‵ (fat fullShare sent-laws.mir (past .15) 0 ((past .33)))
+          ∷ ‵ (fat fullShare (tyInt w64) (past .14) 0 ((past .30))) ∷ ‵ (fat fullShare tyBool (past .13) 0 ((past .27)))
+          ∷ ‵ (fat fullShare clock-laws.mir (past .12) 0 ((only ((LL.vals clock-row.the-type clock-laws.the-laws) (h .clock)))))
+          ∷ ‵ (fat fullShare arrival-laws.mir (past .11) 0 ((only ((LL.vals arrival-row.the-type arrival-laws.the-laws) (h .arrival)))))
+          ∷ ‵ (fat fullShare flight-laws.mir (past .10) 0 ((only ((LL.vals flight-row.the-type flight-laws.the-laws) (h .flight)))))
+          ∷ ‵ (fat fullShare settings-laws.mir (past .9) 0
+          ((only ((LL.vals settings-row.the-type settings-laws.the-laws) (h .settings)))))
+          ∷ ‵ (fat fullShare (sliceTy (tyRef (named 5) imm (tyInt w8))) (past .8) 0 (s₅))
+          ∷ ‵ (fat fullShare (sliceTy (tyRef (named 4) imm (tyInt w32))) (past .7) 0 (s₄))
+          ∷ ‵ (fat fullShare (sliceTy (tyRef (named 3) imm (pointee (R .written)))) (past .6) 0 (s₃))
+          ∷ ‵ (fat fullShare (sliceTy (tyRef (named 2) imm (tyInt w8))) (past .5) 0 (s₂))
+          ∷ ‵ (fat fullShare (sliceTy (tyRef (named 1) mut (tyInt w8))) (past .4) 0 (s₁))
+          ∷ ‵ (fat fullShare (tyRef (named 0) mut (pointee (L .written))) (past .3) 0 (vptr b o)) ∷ ‵ (froom (tyInt w32) (past .2) 0)
+          ∷ []) ∵ exec ! C Λ (En (past .2) (past .3) (past .4) (past .5) (past .6) (past .7) (past .8) (past .9) (past .10) (past .11)
+          (past .12) (past .13) (past .14) (past .15) (past .16) (past .17) (past .18) (past .19) (past .20) (past .21) (past .22)
+          (past .23) (past .24) (past .25)) (behind 16 (code.function .body))
+          (atRet (En (past .2) (past .3) (past .4) (past .5) (past .6) (past .7) (past .8) (past .9) (past .10) (past .11) (past .12)
+          (past .13) (past .14) (past .15) (past .16) (past .17) (past .18) (past .19) (past .20) (past .21) (past .22) (past .23)
+          (past .24) (past .25)) Post) $
           nothing ! $ calls-fn ! fm flight-of.ended (flight-of.clauses 𝓤 H A at-mem run) (known .3)
-              ((tt, tt, tt, ((past .32), tt), ((past .33) ∷ [], tt)), tt) (λ kf _. kf ≡ (past .32) .flight)
+          ((tt, tt, tt, ((past .32), tt), ((past .33) ∷ [], tt)), tt) (λ kf _. kf ≡ (past .32) .flight)
           (‵ ftrue) (plainly 𝓤 H A W (sent-row.the-row ∷ []) ((LL.makes sent-row.the-type sent-laws.the-plain 𝓤 H A), tt) ((past .32), tt)
           ((past .33) ∷ [], tt) ((past .35), tt)) (λ kf _. id⊢ 𝓤 _)
           (and-then ! (load ! (from ! (stop !)) (look ! 30 refl)) (no-more !))
@@ -555,74 +630,94 @@ module _ {M : Type 1} (𝓤 : URA M) (H : Heap 𝓤) (A : Atoms 𝓤) (W : Given
           land ! (from ! (stop !)) (init ! 28 refl (LL.lawful flight-row.the-type flight-laws.the-laws 𝓤 H A W .typed kf (w-kf ∷ []) is-kf
           .0)) $
           move ! (14 ∷ []) $ cell-out ! fullShare flight-row.the-row (LL.vals flight-row.the-type flight-laws.the-laws)
-              (LL.tells flight-row.the-type flight-laws.the-laws) (h .flight) b (o + 16)
-              (λ was-flight′. assigns ! (of-opd ! (load ! (from ! (stop !)) (look ! 28 refl)))
-              (from ! (hop ! (look ! 41 refl) (fld ! {d = 16} refl (stop !))))
-              (store-raw ! 0 refl (LL.lawful flight-row.the-type flight-laws.the-laws 𝓤 H A W .typed kf (w-kf ∷ []) is-kf .0)) $
-              cell-in ! fullShare flight-row.the-row (LL.makes flight-row.the-type flight-laws.the-plain 𝓤 H A) kf b (o + 16) w-kf is-kf $
-              move ! (6 ∷ []) $ tells-length ! fullShare u32 128 (past .1) b (o + 124)
-              (λ end-queued. move ! (6 ∷ []) $
-              tells-length ! fullShare u32 32 (h .outstanding) b (o + 636)
-              (λ end-outstanding. move ! (6 ∷ []) $
-              tells-length ! fullShare u8 32 (h .transmissions) b (o + 764)
-              (λ end-transmissions. move ! (6 ∷ []) $
-              tells-length ! fullShare u32 128 (h .ready) b (o + 796)
-              (λ end-ready. move ! (6 ∷ []) $
-              tells-length ! fullShare u32 128 (h .waiting) b (o + 1308)
-              (λ end-waiting. move ! (6 ∷ []) $
-              tells-length ! fullShare u32 128 (h .«waiting_numbers») b (o + 1820)
-              (λ end-waiting-numbers. move ! (15 ∷ 6 ∷ 14 ∷ 13 ∷ 5 ∷ 4 ∷ 3 ∷ 2 ∷ 1 ∷ 0 ∷ 16 ∷ 17 ∷ []) $
-              closes-link b o γ ! tt h (record { settings = (h .settings); flight = kf; arrival = (h .arrival); clock = (h .clock);
-              queued = (past .1); outstanding = (h .outstanding); transmissions = (h .transmissions); ready = (h .ready); waiting =
-              (h .waiting); «waiting_numbers» = (h .«waiting_numbers») }) $
+          (LL.tells flight-row.the-type flight-laws.the-laws) (h .flight) b (o + 16)
+          (λ was-flight′. assigns ! (of-opd ! (load ! (from ! (stop !)) (look ! 28 refl)))
+          (from ! (hop ! (look ! 41 refl) (fld ! {d = 16} refl (stop !))))
+          (store-raw ! 0 refl (LL.lawful flight-row.the-type flight-laws.the-laws 𝓤 H A W .typed kf (w-kf ∷ []) is-kf .0)) $
+          cell-in ! fullShare flight-row.the-row (LL.makes flight-row.the-type flight-laws.the-plain 𝓤 H A) kf b (o + 16) w-kf is-kf $
+          move ! (6 ∷ []) $ tells-length ! fullShare u32 128 (past .1) b (o + 124)
+          (λ end-queued. move ! (6 ∷ []) $
+          tells-length ! fullShare u32 32 (h .outstanding) b (o + 636)
+          (λ end-outstanding. move ! (6 ∷ []) $
+          tells-length ! fullShare u8 32 (h .transmissions) b (o + 764)
+          (λ end-transmissions. move ! (6 ∷ []) $
+          tells-length ! fullShare u32 128 (h .ready) b (o + 796)
+          (λ end-ready. move ! (6 ∷ []) $
+          tells-length ! fullShare u32 128 (h .waiting) b (o + 1308)
+          (λ end-waiting. move ! (6 ∷ []) $
+          tells-length ! fullShare u32 128 (h .«waiting_numbers») b (o + 1820)
+          (λ end-waiting-numbers. move ! (15 ∷ 6 ∷ 14 ∷ 13 ∷ 5 ∷ 4 ∷ 3 ∷ 2 ∷ 1 ∷ 0 ∷ 16 ∷ 17 ∷ []) $
+          closes-link b o γ ! tt h (record {
+            settings = (h .settings);
+            flight = kf;
+            arrival = (h .arrival);
+            clock = (h .clock);
+            queued = (past .1);
+            outstanding = (h .outstanding);
+            transmissions = (h .transmissions);
+            ready = (h .ready);
+            waiting =
+                (h .waiting);
+            «waiting_numbers» = (h .«waiting_numbers»);
+          }) $
           -- [own0; tok0; fin1; tok1; tok2; tok4; tok5; tok3; deaths; the locals]
           nothing ! $ calls-fn ! fm code-of.ended (code-of.clauses 𝓤 H A at-mem run) (known .4)
-              ((tt, tt, tt, ((past .32), tt), ((past .33) ∷ [], tt)), tt) (λ r _. r ≡ answerCode ((past .32) .answer))
+          ((tt, tt, tt, ((past .32), tt), ((past .33) ∷ [], tt)), tt) (λ r _. r ≡ answerCode ((past .32) .answer))
           (‵ ftrue) (plainly 𝓤 H A W (sent-row.the-row ∷ []) ((LL.makes sent-row.the-type sent-laws.the-plain 𝓤 H A), tt) ((past .32), tt)
           ((past .33) ∷ [], tt) ((past .35), tt)) (λ r _. id⊢ 𝓤 _)
           (and-then ! (load ! (from ! (stop !)) (look ! 20 refl)) (no-more !))
           (λ r w-r _ e-r is-r. drop ! $ drop ! $ land ! (from ! (stop !)) (init ! 32 refl (sint-lawful 𝓤 H A W w32 .typed r _ is-r .0)) $
           returns ! (look ! 32 refl) $
           move ! (8 ∷ []) $ spread W (‵ (fdies (tyInt w32) (past .2)))
-              (‵ (fdies (tyRef (named 0) mut (pointee (L .written))) (past .3))
-              ∷ ‵ (fdies (sliceTy (tyRef (named 1) mut (tyInt w8))) (past .4))
-              ∷ ‵ (fdies (sliceTy (tyRef (named 2) imm (tyInt w8))) (past .5))
-              ∷ ‵ (fdies (sliceTy (tyRef (named 3) imm (pointee (R .written)))) (past .6))
-              ∷ ‵ (fdies (sliceTy (tyRef (named 4) imm (tyInt w32))) (past .7))
-              ∷ ‵ (fdies (sliceTy (tyRef (named 5) imm (tyInt w8))) (past .8)) ∷ ‵ (fdies settings-laws.mir (past .9))
-              ∷ ‵ (fdies flight-laws.mir (past .10)) ∷ ‵ (fdies arrival-laws.mir (past .11)) ∷ ‵ (fdies clock-laws.mir (past .12))
-              ∷ ‵ (fdies tyBool (past .13)) ∷ ‵ (fdies (tyInt w64) (past .14)) ∷ ‵ (fdies sent-laws.mir (past .15))
-              ∷ ‵ (fdies flight-laws.mir (past .16)) ∷ ‵ (fdies (tyRef erased imm (tyArray (tyInt w32) 32)) (past .17))
-              ∷ ‵ (fdies (tyRef erased mut (tyArray (tyInt w32) 128)) (past .18))
-              ∷ ‵ (fdies (tyRef erased imm (tyArray (tyInt w32) 32)) (past .19))
-              ∷ ‵ (fdies (tyRef erased imm (tyArray (tyInt w8) 32)) (past .20))
-              ∷ ‵ (fdies (tyRef erased imm (tyArray (tyInt w32) 128)) (past .21))
-              ∷ ‵ (fdies (tyRef erased imm (tyArray (tyInt w32) 128)) (past .22))
-              ∷ ‵ (fdies (tyRef erased imm (tyArray (tyInt w32) 128)) (past .23)) ∷ ‵ (fdies (tyRef erased mut (tyInt w8)) (past .24))
-              ∷ ‵ (fdies (sliceTy (tyRef erased mut (tyInt w8))) (past .25)) ∷ []) (id⊢ 𝓤 _) $
-              move ! (55 ∷ 0 ∷ 54 ∷ 1 ∷ 53 ∷ 2 ∷ 52 ∷ 3 ∷ 51 ∷ 4 ∷ 50 ∷ 5 ∷ 49 ∷ 6 ∷ 48 ∷ 7 ∷ 47 ∷ 8 ∷ 46 ∷ 9 ∷ 45
-              ∷ 10 ∷ 44 ∷ 11 ∷ 43 ∷ 12 ∷ 42 ∷ 13 ∷ 41 ∷ 14 ∷ 40 ∷ 15 ∷ 39 ∷ 16 ∷ 38 ∷ 17 ∷ 37 ∷ 18 ∷ 36 ∷ 19 ∷ 35 ∷ 20
-              ∷ 34 ∷ 21 ∷ 33 ∷ 22 ∷ 32 ∷ 23 ∷ []) $ forget ! 0 refl $ free1 ! $ forget ! 0 refl $ free1 ! $ forget ! 0 refl $ free1 ! $
-              forget ! 0 refl $ free1 ! $ forget ! 0 refl $ free1 ! $ forget ! 0 refl $ free1 ! $ forget ! 0 refl $ free1 ! $
-              forget ! 0 refl $ free1 ! $ forget ! 0 refl $ free1 ! $ forget ! 0 refl $ free1 ! $ forget ! 0 refl $ free1 ! $
-              forget ! 0 refl $ free1 ! $ forget ! 0 refl $ free1 ! $ forget ! 0 refl $ free1 ! $ forget ! 0 refl $ free1 ! $
-              forget ! 0 refl $ free1 ! $ forget ! 0 refl $ free1 ! $ forget ! 0 refl $ free1 ! $ forget ! 0 refl $ free1 ! $
-              forget ! 0 refl $ free1 ! $ forget ! 0 refl $ free1 ! $ forget ! 0 refl $ free1 ! $ forget ! 0 refl $ free1 ! $
-              forget ! 0 refl $ free1 ! $ free0 ! $
+          (‵ (fdies (tyRef (named 0) mut (pointee (L .written))) (past .3))
+          ∷ ‵ (fdies (sliceTy (tyRef (named 1) mut (tyInt w8))) (past .4))
+          ∷ ‵ (fdies (sliceTy (tyRef (named 2) imm (tyInt w8))) (past .5))
+          ∷ ‵ (fdies (sliceTy (tyRef (named 3) imm (pointee (R .written)))) (past .6))
+          ∷ ‵ (fdies (sliceTy (tyRef (named 4) imm (tyInt w32))) (past .7))
+          ∷ ‵ (fdies (sliceTy (tyRef (named 5) imm (tyInt w8))) (past .8)) ∷ ‵ (fdies settings-laws.mir (past .9))
+          ∷ ‵ (fdies flight-laws.mir (past .10)) ∷ ‵ (fdies arrival-laws.mir (past .11)) ∷ ‵ (fdies clock-laws.mir (past .12))
+          ∷ ‵ (fdies tyBool (past .13)) ∷ ‵ (fdies (tyInt w64) (past .14)) ∷ ‵ (fdies sent-laws.mir (past .15))
+          ∷ ‵ (fdies flight-laws.mir (past .16)) ∷ ‵ (fdies (tyRef erased imm (tyArray (tyInt w32) 32)) (past .17))
+          ∷ ‵ (fdies (tyRef erased mut (tyArray (tyInt w32) 128)) (past .18))
+          ∷ ‵ (fdies (tyRef erased imm (tyArray (tyInt w32) 32)) (past .19))
+          ∷ ‵ (fdies (tyRef erased imm (tyArray (tyInt w8) 32)) (past .20))
+          ∷ ‵ (fdies (tyRef erased imm (tyArray (tyInt w32) 128)) (past .21))
+          ∷ ‵ (fdies (tyRef erased imm (tyArray (tyInt w32) 128)) (past .22))
+          ∷ ‵ (fdies (tyRef erased imm (tyArray (tyInt w32) 128)) (past .23)) ∷ ‵ (fdies (tyRef erased mut (tyInt w8)) (past .24))
+          ∷ ‵ (fdies (sliceTy (tyRef erased mut (tyInt w8))) (past .25)) ∷ []) (id⊢ 𝓤 _) $
+          move ! (55 ∷ 0 ∷ 54 ∷ 1 ∷ 53 ∷ 2 ∷ 52 ∷ 3 ∷ 51 ∷ 4 ∷ 50 ∷ 5 ∷ 49 ∷ 6 ∷ 48 ∷ 7 ∷ 47 ∷ 8 ∷ 46 ∷ 9 ∷ 45
+          ∷ 10 ∷ 44 ∷ 11 ∷ 43 ∷ 12 ∷ 42 ∷ 13 ∷ 41 ∷ 14 ∷ 40 ∷ 15 ∷ 39 ∷ 16 ∷ 38 ∷ 17 ∷ 37 ∷ 18 ∷ 36 ∷ 19 ∷ 35 ∷ 20
+          ∷ 34 ∷ 21 ∷ 33 ∷ 22 ∷ 32 ∷ 23 ∷ []) $ forget ! 0 refl $ free1 ! $ forget ! 0 refl $ free1 ! $ forget ! 0 refl $ free1 ! $
+          forget ! 0 refl $ free1 ! $ forget ! 0 refl $ free1 ! $ forget ! 0 refl $ free1 ! $ forget ! 0 refl $ free1 ! $
+          forget ! 0 refl $ free1 ! $ forget ! 0 refl $ free1 ! $ forget ! 0 refl $ free1 ! $ forget ! 0 refl $ free1 ! $
+          forget ! 0 refl $ free1 ! $ forget ! 0 refl $ free1 ! $ forget ! 0 refl $ free1 ! $ forget ! 0 refl $ free1 ! $
+          forget ! 0 refl $ free1 ! $ forget ! 0 refl $ free1 ! $ forget ! 0 refl $ free1 ! $ forget ! 0 refl $ free1 ! $
+          forget ! 0 refl $ free1 ! $ forget ! 0 refl $ free1 ! $ forget ! 0 refl $ free1 ! $ forget ! 0 refl $ free1 ! $
+          forget ! 0 refl $ free1 ! $ free0 ! $
           move ! (0 ∷ 1 ∷ 2 ∷ 3 ∷ 4 ∷ 7 ∷ 5 ∷ 6 ∷ []) $
-              by ! (exits r w-r (record { settings = (h .settings); flight = kf; arrival = (h .arrival); clock = (h .clock);
-              queued = (past .1); outstanding = (h .outstanding); transmissions = (h .transmissions); ready = (h .ready); waiting =
-              (h .waiting); «waiting_numbers» = (h .«waiting_numbers») }) ((past .0))
-              (told answerCode _ ((past .32) .answer) e-r
-              (rw e-kf (send-promised h (partsOf (x₁ .now) (x₂ .now) (x₃ .now) (x₄ .now))
-              (padded (gathered (take sendSlots (x₃ .now)) (slotsIn (h .outstanding) (h .flight .outstanding)))) (past .29)
-              (gathers h (partsOf (x₁ .now) (x₂ .now) (x₃ .now) (x₄ .now)) (h .flight .outstanding)
-              (padded (gathered (take sendSlots (x₃ .now)) (slotsIn (h .outstanding) (h .flight .outstanding)))) (past .29) refl refl
-              (past .31)) ((past .32) .answer) (linkOf (h .settings) ((past .32) .flight) (h .arrival) (h .clock)
-              (arrays (past .1) (h .outstanding) (h .transmissions) (h .ready) (h .waiting) (h .«waiting_numbers»))) (past .0) (x₅ .now)
-              ((past .34) (padded (gathered (take sendSlots (x₃ .now)) (slotsIn (h .outstanding) (h .flight .outstanding))))
-              (record { whole = padded-whole (take sendSlots (x₃ .now)) (h .outstanding) (h .flight .outstanding); fits = (past .28) })))))
-              (past .36) is-r))))))))))
+          by ! (exits r w-r (record {
+            settings = (h .settings);
+            flight = kf;
+            arrival = (h .arrival);
+            clock = (h .clock);
+            queued = (past .1);
+            outstanding = (h .outstanding);
+            transmissions = (h .transmissions);
+            ready = (h .ready);
+            waiting =
+                (h .waiting);
+            «waiting_numbers» = (h .«waiting_numbers»);
+          }) ((past .0))
+          (told answerCode _ ((past .32) .answer) e-r
+          (rw e-kf (send-promised h (partsOf (x₁ .now) (x₂ .now) (x₃ .now) (x₄ .now))
+          (padded (gathered (take sendSlots (x₃ .now)) (slotsIn (h .outstanding) (h .flight .outstanding)))) (past .29)
+          (gathers h (partsOf (x₁ .now) (x₂ .now) (x₃ .now) (x₄ .now)) (h .flight .outstanding)
+          (padded (gathered (take sendSlots (x₃ .now)) (slotsIn (h .outstanding) (h .flight .outstanding)))) (past .29) refl refl
+          (past .31)) ((past .32) .answer) (linkOf (h .settings) ((past .32) .flight) (h .arrival) (h .clock)
+          (arrays (past .1) (h .outstanding) (h .transmissions) (h .ready) (h .waiting) (h .«waiting_numbers»))) (past .0) (x₅ .now)
+          ((past .34) (padded (gathered (take sendSlots (x₃ .now)) (slotsIn (h .outstanding) (h .flight .outstanding))))
+          (record { whole = padded-whole (take sendSlots (x₃ .now)) (h .outstanding) (h .flight .outstanding); fits = (past .28) })))))
+          (past .36) is-r))))))))))
 
       -- what part 1 knows
       abbrev Known₁ : Type 0
@@ -691,121 +786,131 @@ module _ {M : Type 1} (𝓤 : URA M) (H : Heap 𝓤) (A : Atoms 𝓤) (W : Given
           (past .22) (past .23)) Post))
       part₁ past =
           qed W (‵ (flft κ₃ q₃) ∷ ‵ (partAt (Array u32 32) fullShare (h .outstanding) b (o + 636))
-              ∷ ‵ (partAt clock-row.the-row fullShare (h .clock) b (o + 104))
-              ∷ ‵ (partAt arrival-row.the-row fullShare (h .arrival) b (o + 72))
-              ∷ ‵ (partAt flight-row.the-row fullShare (h .flight) b (o + 16))
-              ∷ ‵ (partAt settings-row.the-row fullShare (h .settings) b (o + 0))
-              ∷ ‵ (partAt (Array u32 128) fullShare (h .«waiting_numbers») b (o + 1820))
-              ∷ ‵ (partAt (Array u32 128) fullShare (h .waiting) b (o + 1308)) ∷ ‵ (partAt (Array u32 128) fullShare (h .ready) b (o + 796))
-              ∷ ‵ (partAt (Array u8 32) fullShare (h .transmissions) b (o + 764))
-              ∷ ‵ (partAt (Array u32 128) fullShare (h .queued) b (o + 124)) ∷ raw (Back 𝓤 H A fullShare b o) ∷ ‵ (Open b o γ κ₀ q₀ h)
-              ∷ (‵ (fdies (tyInt w32) (past .0)) ⊛ ‵ (fdies (tyRef (named 0) mut (pointee (L .written))) (past .1)) ⊛ ‵
-              (fdies (sliceTy (tyRef (named 1) mut (tyInt w8))) (past .2)) ⊛ ‵ (fdies (sliceTy (tyRef (named 2) imm (tyInt w8))) (past .3))
-              ⊛ ‵ (fdies (sliceTy (tyRef (named 3) imm (pointee (R .written)))) (past .4)) ⊛ ‵
-              (fdies (sliceTy (tyRef (named 4) imm (tyInt w32))) (past .5)) ⊛ ‵ (fdies (sliceTy (tyRef (named 5) imm (tyInt w8))) (past .6))
-              ⊛ ‵ (fdies settings-laws.mir (past .7)) ⊛ ‵ (fdies flight-laws.mir (past .8)) ⊛ ‵ (fdies arrival-laws.mir (past .9)) ⊛ ‵
-              (fdies clock-laws.mir (past .10)) ⊛ ‵ (fdies tyBool (past .11)) ⊛ ‵ (fdies (tyInt w64) (past .12)) ⊛ ‵
-              (fdies sent-laws.mir (past .13)) ⊛ ‵ (fdies flight-laws.mir (past .14)) ⊛ ‵
-              (fdies (tyRef erased imm (tyArray (tyInt w32) 32)) (past .15)) ⊛ ‵
-              (fdies (tyRef erased mut (tyArray (tyInt w32) 128)) (past .16)) ⊛ ‵
-              (fdies (tyRef erased imm (tyArray (tyInt w32) 32)) (past .17)) ⊛ ‵
-              (fdies (tyRef erased imm (tyArray (tyInt w8) 32)) (past .18)) ⊛ ‵
-              (fdies (tyRef erased imm (tyArray (tyInt w32) 128)) (past .19)) ⊛ ‵
-              (fdies (tyRef erased imm (tyArray (tyInt w32) 128)) (past .20)) ⊛ ‵
-              (fdies (tyRef erased imm (tyArray (tyInt w32) 128)) (past .21)) ⊛ ‵ (fdies (tyRef erased mut (tyInt w8)) (past .22)) ⊛ ‵
-              (fdies (sliceTy (tyRef erased mut (tyInt w8))) (past .23))) ∷ ‵ (flft κ₁ q₁) ∷ ‵ (flft κ₂ q₂) ∷ ‵ (flft κ₄ q₄)
-              ∷ ‵ (flft κ₅ q₅) ∷ ‵ Own₁ ∷ ‵ Own₂ ∷ ‵ Own₄ ∷ ‵ Own₅
-              ∷ ‵ (froom (sliceTy (tyRef erased mut (tyInt w8))) (past .23) 0) ∷ ‵ (froom (tyRef erased mut (tyInt w8)) (past .22) 0)
-              ∷ ‵ (froom (tyRef erased imm (tyArray (tyInt w32) 128)) (past .21) 0)
-              ∷ ‵ (froom (tyRef erased imm (tyArray (tyInt w32) 128)) (past .20) 0)
-              ∷ ‵ (froom (tyRef erased imm (tyArray (tyInt w32) 128)) (past .19) 0)
-              ∷ ‵ (froom (tyRef erased imm (tyArray (tyInt w8) 32)) (past .18) 0)
-              ∷ ‵ (froom (tyRef erased imm (tyArray (tyInt w32) 32)) (past .17) 0)
-              ∷ ‵ (froom (tyRef erased mut (tyArray (tyInt w32) 128)) (past .16) 0)
-              ∷ ‵ (fat fullShare (tyRef erased imm (tyArray (tyInt w32) 32)) (past .15) 0 ((vptr b (o + 636))))
-              ∷ ‵ (froom flight-laws.mir (past .14) 0) ∷ ‵ (froom sent-laws.mir (past .13) 0)
-              ∷ ‵ (fat fullShare (tyInt w64) (past .12) 0 ((past .39))) ∷ ‵ (fat fullShare tyBool (past .11) 0 ((past .35)))
-              ∷ ‵ (fat fullShare clock-laws.mir (past .10) 0 ((only ((LL.vals clock-row.the-type clock-laws.the-laws) (h .clock)))))
-              ∷ ‵ (fat fullShare arrival-laws.mir (past .9) 0 ((only ((LL.vals arrival-row.the-type arrival-laws.the-laws) (h .arrival)))))
-              ∷ ‵ (fat fullShare flight-laws.mir (past .8) 0 ((only ((LL.vals flight-row.the-type flight-laws.the-laws) (h .flight)))))
-              ∷ ‵ (fat fullShare settings-laws.mir (past .7) 0
-              ((only ((LL.vals settings-row.the-type settings-laws.the-laws) (h .settings)))))
-              ∷ ‵ (fat fullShare (sliceTy (tyRef (named 5) imm (tyInt w8))) (past .6) 0 (s₅))
-              ∷ ‵ (fat fullShare (sliceTy (tyRef (named 4) imm (tyInt w32))) (past .5) 0 (s₄))
-              ∷ ‵ (fat fullShare (sliceTy (tyRef (named 3) imm (pointee (R .written)))) (past .4) 0 (s₃))
-              ∷ ‵ (fat fullShare (sliceTy (tyRef (named 2) imm (tyInt w8))) (past .3) 0 (s₂))
-              ∷ ‵ (fat fullShare (sliceTy (tyRef (named 1) mut (tyInt w8))) (past .2) 0 (s₁))
-              ∷ ‵ (fat fullShare (tyRef (named 0) mut (pointee (L .written))) (past .1) 0 (vptr b o)) ∷ ‵ (froom (tyInt w32) (past .0) 0)
-              ∷ []) ∵ exec ! C Λ (En (past .0) (past .1) (past .2) (past .3) (past .4) (past .5) (past .6) (past .7) (past .8) (past .9)
-              (past .10) (past .11) (past .12) (past .13) (past .14) (past .15) (past .16) (past .17) (past .18) (past .19) (past .20)
-              (past .21) (past .22) (past .23)) (behind 7 (code.function .body))
-              (atRet (En (past .0) (past .1) (past .2) (past .3) (past .4) (past .5) (past .6) (past .7) (past .8) (past .9) (past .10)
-              (past .11) (past .12) (past .13) (past .14) (past .15) (past .16) (past .17) (past .18) (past .19) (past .20) (past .21)
-              (past .22) (past .23)) Post) $
+          ∷ ‵ (partAt clock-row.the-row fullShare (h .clock) b (o + 104))
+          ∷ ‵ (partAt arrival-row.the-row fullShare (h .arrival) b (o + 72))
+          ∷ ‵ (partAt flight-row.the-row fullShare (h .flight) b (o + 16))
+          ∷ ‵ (partAt settings-row.the-row fullShare (h .settings) b (o + 0))
+          ∷ ‵ (partAt (Array u32 128) fullShare (h .«waiting_numbers») b (o + 1820))
+          ∷ ‵ (partAt (Array u32 128) fullShare (h .waiting) b (o + 1308)) ∷ ‵ (partAt (Array u32 128) fullShare (h .ready) b (o + 796))
+          ∷ ‵ (partAt (Array u8 32) fullShare (h .transmissions) b (o + 764))
+          ∷ ‵ (partAt (Array u32 128) fullShare (h .queued) b (o + 124)) ∷ raw (Back 𝓤 H A fullShare b o) ∷ ‵ (Open b o γ κ₀ q₀ h)
+          ∷ (‵ (fdies (tyInt w32) (past .0)) ⊛ ‵ (fdies (tyRef (named 0) mut (pointee (L .written))) (past .1)) ⊛ ‵
+          (fdies (sliceTy (tyRef (named 1) mut (tyInt w8))) (past .2)) ⊛ ‵ (fdies (sliceTy (tyRef (named 2) imm (tyInt w8))) (past .3))
+          ⊛ ‵ (fdies (sliceTy (tyRef (named 3) imm (pointee (R .written)))) (past .4)) ⊛ ‵
+          (fdies (sliceTy (tyRef (named 4) imm (tyInt w32))) (past .5)) ⊛ ‵ (fdies (sliceTy (tyRef (named 5) imm (tyInt w8))) (past .6))
+          ⊛ ‵ (fdies settings-laws.mir (past .7)) ⊛ ‵ (fdies flight-laws.mir (past .8)) ⊛ ‵ (fdies arrival-laws.mir (past .9)) ⊛ ‵
+          (fdies clock-laws.mir (past .10)) ⊛ ‵ (fdies tyBool (past .11)) ⊛ ‵ (fdies (tyInt w64) (past .12)) ⊛ ‵
+          (fdies sent-laws.mir (past .13)) ⊛ ‵ (fdies flight-laws.mir (past .14)) ⊛ ‵
+          (fdies (tyRef erased imm (tyArray (tyInt w32) 32)) (past .15)) ⊛ ‵
+          (fdies (tyRef erased mut (tyArray (tyInt w32) 128)) (past .16)) ⊛ ‵
+          (fdies (tyRef erased imm (tyArray (tyInt w32) 32)) (past .17)) ⊛ ‵
+          (fdies (tyRef erased imm (tyArray (tyInt w8) 32)) (past .18)) ⊛ ‵
+          (fdies (tyRef erased imm (tyArray (tyInt w32) 128)) (past .19)) ⊛ ‵
+          (fdies (tyRef erased imm (tyArray (tyInt w32) 128)) (past .20)) ⊛ ‵
+          (fdies (tyRef erased imm (tyArray (tyInt w32) 128)) (past .21)) ⊛ ‵ (fdies (tyRef erased mut (tyInt w8)) (past .22)) ⊛ ‵
+          (fdies (sliceTy (tyRef erased mut (tyInt w8))) (past .23))) ∷ ‵ (flft κ₁ q₁) ∷ ‵ (flft κ₂ q₂) ∷ ‵ (flft κ₄ q₄)
+          ∷ ‵ (flft κ₅ q₅) ∷ ‵ Own₁ ∷ ‵ Own₂ ∷ ‵ Own₄ ∷ ‵ Own₅
+          ∷ ‵ (froom (sliceTy (tyRef erased mut (tyInt w8))) (past .23) 0) ∷ ‵ (froom (tyRef erased mut (tyInt w8)) (past .22) 0)
+          ∷ ‵ (froom (tyRef erased imm (tyArray (tyInt w32) 128)) (past .21) 0)
+          ∷ ‵ (froom (tyRef erased imm (tyArray (tyInt w32) 128)) (past .20) 0)
+          ∷ ‵ (froom (tyRef erased imm (tyArray (tyInt w32) 128)) (past .19) 0)
+          ∷ ‵ (froom (tyRef erased imm (tyArray (tyInt w8) 32)) (past .18) 0)
+          ∷ ‵ (froom (tyRef erased imm (tyArray (tyInt w32) 32)) (past .17) 0)
+          ∷ ‵ (froom (tyRef erased mut (tyArray (tyInt w32) 128)) (past .16) 0)
+          ∷ ‵ (fat fullShare (tyRef erased imm (tyArray (tyInt w32) 32)) (past .15) 0 ((vptr b (o + 636))))
+          ∷ ‵ (froom flight-laws.mir (past .14) 0) ∷ ‵ (froom sent-laws.mir (past .13) 0)
+          ∷ ‵ (fat fullShare (tyInt w64) (past .12) 0 ((past .39))) ∷ ‵ (fat fullShare tyBool (past .11) 0 ((past .35)))
+          ∷ ‵ (fat fullShare clock-laws.mir (past .10) 0 ((only ((LL.vals clock-row.the-type clock-laws.the-laws) (h .clock)))))
+          ∷ ‵ (fat fullShare arrival-laws.mir (past .9) 0 ((only ((LL.vals arrival-row.the-type arrival-laws.the-laws) (h .arrival)))))
+          ∷ ‵ (fat fullShare flight-laws.mir (past .8) 0 ((only ((LL.vals flight-row.the-type flight-laws.the-laws) (h .flight)))))
+          ∷ ‵ (fat fullShare settings-laws.mir (past .7) 0
+          ((only ((LL.vals settings-row.the-type settings-laws.the-laws) (h .settings)))))
+          ∷ ‵ (fat fullShare (sliceTy (tyRef (named 5) imm (tyInt w8))) (past .6) 0 (s₅))
+          ∷ ‵ (fat fullShare (sliceTy (tyRef (named 4) imm (tyInt w32))) (past .5) 0 (s₄))
+          ∷ ‵ (fat fullShare (sliceTy (tyRef (named 3) imm (pointee (R .written)))) (past .4) 0 (s₃))
+          ∷ ‵ (fat fullShare (sliceTy (tyRef (named 2) imm (tyInt w8))) (past .3) 0 (s₂))
+          ∷ ‵ (fat fullShare (sliceTy (tyRef (named 1) mut (tyInt w8))) (past .2) 0 (s₁))
+          ∷ ‵ (fat fullShare (tyRef (named 0) mut (pointee (L .written))) (past .1) 0 (vptr b o)) ∷ ‵ (froom (tyInt w32) (past .0) 0)
+          ∷ []) ∵ exec ! C Λ (En (past .0) (past .1) (past .2) (past .3) (past .4) (past .5) (past .6) (past .7) (past .8) (past .9)
+          (past .10) (past .11) (past .12) (past .13) (past .14) (past .15) (past .16) (past .17) (past .18) (past .19) (past .20)
+          (past .21) (past .22) (past .23)) (behind 7 (code.function .body))
+          (atRet (En (past .0) (past .1) (past .2) (past .3) (past .4) (past .5) (past .6) (past .7) (past .8) (past .9) (past .10)
+          (past .11) (past .12) (past .13) (past .14) (past .15) (past .16) (past .17) (past .18) (past .19) (past .20) (past .21)
+          (past .22) (past .23)) Post) $
           assigns ! {v = (vptr b (o + 124))} (addr ! (from ! (hop ! (look ! 44 refl) (fld ! {d = 124} refl (stop !))))) (from ! (stop !))
-              (init ! 29 refl (tt, tt)) $
+          (init ! 29 refl (tt, tt)) $
           assigns ! {v = (vptr b (o + 636))} (addr ! (from ! (hop ! (look ! 44 refl) (fld ! {d = 636} refl (stop !))))) (from ! (stop !))
-              (init ! 28 refl (tt, tt)) $
+          (init ! 28 refl (tt, tt)) $
           assigns ! {v = (vptr b (o + 764))} (addr ! (from ! (hop ! (look ! 44 refl) (fld ! {d = 764} refl (stop !))))) (from ! (stop !))
-              (init ! 27 refl (tt, tt)) $
+          (init ! 27 refl (tt, tt)) $
           assigns ! {v = (vptr b (o + 796))} (addr ! (from ! (hop ! (look ! 44 refl) (fld ! {d = 796} refl (stop !))))) (from ! (stop !))
-              (init ! 26 refl (tt, tt)) $
+          (init ! 26 refl (tt, tt)) $
           assigns ! {v = (vptr b (o + 1308))} (addr ! (from ! (hop ! (look ! 44 refl) (fld ! {d = 1308} refl (stop !))))) (from ! (stop !))
-              (init ! 25 refl (tt, tt)) $
+          (init ! 25 refl (tt, tt)) $
           assigns ! {v = (vptr b (o + 1820))} (addr ! (from ! (hop ! (look ! 44 refl) (fld ! {d = 1820} refl (stop !))))) (from ! (stop !))
-              (init ! 24 refl (tt, tt)) $
+          (init ! 24 refl (tt, tt)) $
           assigns ! {v = (vptr (x₁ .ptr .0) (x₁ .ptr .1))}
-              (addr ! (from ! (fld ! refl (hop ! (look-in ! 43 (sub ! 0 refl (whole !))) (stop !))))) (from ! (stop !))
-              (init ! 23 refl (tt, tt)) $
+          (addr ! (from ! (fld ! refl (hop ! (look-in ! 43 (sub ! 0 refl (whole !))) (stop !))))) (from ! (stop !))
+          (init ! 23 refl (tt, tt)) $
           assigns ! {v = s₁} (agg ! (and-then ! (load ! (from ! (stop !)) (look ! 23 refl))
-              (and-then ! (load ! (from ! (fld ! refl (stop !))) (look-in ! 43 (sub ! 1 refl (whole !)))) (no-more !)))) (from ! (stop !))
-              (init ! 22 refl (tt, (tt, (record { fits = room₁ .0 }, tt)))) $
+          (and-then ! (load ! (from ! (fld ! refl (stop !))) (look-in ! 43 (sub ! 1 refl (whole !)))) (no-more !)))) (from ! (stop !))
+          (init ! 22 refl (tt, (tt, (record { fits = room₁ .0 }, tt)))) $
           move ! (10 ∷ []) $ lend-mut ! tt (Array u32 128) (h .queued) b (o + 124)
-              (λ α-queued δ-queued. move ! (4 ∷ []) $
-              lend-shr ! tt fullShare (Array u32 32) (h .outstanding) b (o + 636)
-              (λ α-outstanding′ δ-outstanding′. move ! (14 ∷ []) $
-              lend-shr ! tt fullShare (Array u8 32) (h .transmissions) b (o + 764)
-              (λ α-transmissions δ-transmissions. move ! (16 ∷ []) $
-              lend-shr ! tt fullShare (Array u32 128) (h .ready) b (o + 796)
-              (λ α-ready δ-ready. move ! (18 ∷ []) $
-              lend-shr ! tt fullShare (Array u32 128) (h .waiting) b (o + 1308)
-              (λ α-waiting δ-waiting. move ! (20 ∷ []) $
-              lend-shr ! tt fullShare (Array u32 128) (h .«waiting_numbers») b (o + 1820)
-              (λ α-waiting-numbers δ-waiting-numbers. move ! (15 ∷ 16 ∷ 12 ∷ 13 ∷ 9 ∷ 10 ∷ 6 ∷ 7 ∷ 3 ∷ 4 ∷ 0 ∷ 1 ∷ 26 ∷ 30 ∷ 27
-              ∷ 31 ∷ 28 ∷ 32 ∷ 29 ∷ 33 ∷ []) $ group ! 20 $
-              calls-fn ! fm core.ended (core.clauses 𝓤 H A at-mem run) (known .2)
-              (to-core α-queued δ-queued (h .queued) α-outstanding′ δ-outstanding′ (h .outstanding) α-transmissions δ-transmissions
-              (h .transmissions) α-ready δ-ready (h .ready) α-waiting δ-waiting (h .waiting) α-waiting-numbers δ-waiting-numbers
-              (h .«waiting_numbers») (h .settings) (only ((LL.vals settings-row.the-type settings-laws.the-laws) (h .settings))) (h .flight)
-              (only ((LL.vals flight-row.the-type flight-laws.the-laws) (h .flight))) (h .arrival)
-              (only ((LL.vals arrival-row.the-type arrival-laws.the-laws) (h .arrival))) (h .clock)
-              (only ((LL.vals clock-row.the-type clock-laws.the-laws) (h .clock))) (past .34) (past .35) (past .38) (past .39))
-              (λ a ws-a. ByFlown h (past .34) (λ recs. SendLeaves h recs (past .38) (x₁ .now) (x₂ .now) (x₄ .now) (x₅ .now) (a .answer)
-              (linkOf (h .settings) (a .flight) (h .arrival) (h .clock)
-              (arrays (ws-a .1 .1 .1 .1 .1 .1 .0) (h .outstanding) (h .transmissions) (h .ready) (h .waiting) (h .«waiting_numbers»)))
-              (ws-a .1 .1 .1 .1 .1 .1 .1 .1 .1 .1 .1 .1 .0)))
-              (‵ (flft (α-queued ∷ []) fullShare) ⊛ ‵ (MutRef (named 0) (α-queued ∷ []) (Array u32 128) .own
-              (ref-at b (o + 124) δ-queued (h .queued)) ((vptr b (o + 124)) ∷ [])) ⊛ ‵ (flft (α-outstanding′ ∷ []) fullShare) ⊛ ‵
-              (ShrRef (named 0) (α-outstanding′ ∷ []) (Array u32 32) .own (ref-at b (o + 636) δ-outstanding′ (h .outstanding))
-              ((vptr b (o + 636)) ∷ [])) ⊛ ‵ (flft (α-transmissions ∷ []) fullShare) ⊛ ‵
-              (ShrRef (named 0) (α-transmissions ∷ []) (Array u8 32) .own (ref-at b (o + 764) δ-transmissions (h .transmissions))
-              ((vptr b (o + 764)) ∷ [])) ⊛ ‵ (flft (α-ready ∷ []) fullShare) ⊛ ‵
-              (ShrRef (named 0) (α-ready ∷ []) (Array u32 128) .own (ref-at b (o + 796) δ-ready (h .ready)) ((vptr b (o + 796)) ∷ [])) ⊛ ‵
-              (flft (α-waiting ∷ []) fullShare) ⊛ ‵ (ShrRef (named 0) (α-waiting ∷ []) (Array u32 128) .own
-              (ref-at b (o + 1308) δ-waiting (h .waiting)) ((vptr b (o + 1308)) ∷ [])) ⊛ ‵ (flft (α-waiting-numbers ∷ []) fullShare) ⊛ ‵
-              (ShrRef (named 0) (α-waiting-numbers ∷ []) (Array u32 128) .own (ref-at b (o + 1820) δ-waiting-numbers (h .«waiting_numbers»))
-              ((vptr b (o + 1820)) ∷ [])) ⊛ ‵ (flft κ₁ q₁) ⊛ ‵ Own₁ ⊛ ‵ (flft κ₂ q₂) ⊛ ‵ Own₂ ⊛ ‵ (flft κ₄ q₄) ⊛ ‵
-              Own₄ ⊛ ‵ (flft κ₅ q₅) ⊛ ‵ Own₅)
+          (λ α-queued δ-queued. move ! (4 ∷ []) $
+          lend-shr ! tt fullShare (Array u32 32) (h .outstanding) b (o + 636)
+          (λ α-outstanding′ δ-outstanding′. move ! (14 ∷ []) $
+          lend-shr ! tt fullShare (Array u8 32) (h .transmissions) b (o + 764)
+          (λ α-transmissions δ-transmissions. move ! (16 ∷ []) $
+          lend-shr ! tt fullShare (Array u32 128) (h .ready) b (o + 796)
+          (λ α-ready δ-ready. move ! (18 ∷ []) $
+          lend-shr ! tt fullShare (Array u32 128) (h .waiting) b (o + 1308)
+          (λ α-waiting δ-waiting. move ! (20 ∷ []) $
+          lend-shr ! tt fullShare (Array u32 128) (h .«waiting_numbers») b (o + 1820)
+          (λ α-waiting-numbers δ-waiting-numbers. move ! (15 ∷ 16 ∷ 12 ∷ 13 ∷ 9 ∷ 10 ∷ 6 ∷ 7 ∷ 3 ∷ 4 ∷ 0 ∷ 1 ∷ 26 ∷ 30 ∷ 27
+          ∷ 31 ∷ 28 ∷ 32 ∷ 29 ∷ 33 ∷ []) $ group ! 20 $
+          calls-fn ! fm core.ended (core.clauses 𝓤 H A at-mem run) (known .2)
+          (to-core α-queued δ-queued (h .queued) α-outstanding′ δ-outstanding′ (h .outstanding) α-transmissions δ-transmissions
+          (h .transmissions) α-ready δ-ready (h .ready) α-waiting δ-waiting (h .waiting) α-waiting-numbers δ-waiting-numbers
+          (h .«waiting_numbers») (h .settings) (only ((LL.vals settings-row.the-type settings-laws.the-laws) (h .settings))) (h .flight)
+          (only ((LL.vals flight-row.the-type flight-laws.the-laws) (h .flight))) (h .arrival)
+          (only ((LL.vals arrival-row.the-type arrival-laws.the-laws) (h .arrival))) (h .clock)
+          (only ((LL.vals clock-row.the-type clock-laws.the-laws) (h .clock))) (past .34) (past .35) (past .38) (past .39))
+          (λ a ws-a. ByFlown h (past .34) (λ recs. SendLeaves h recs (past .38) (x₁ .now) (x₂ .now) (x₄ .now) (x₅ .now) (a .answer)
+          (linkOf (h .settings) (a .flight) (h .arrival) (h .clock)
+          (arrays (ws-a .1 .1 .1 .1 .1 .1 .0) (h .outstanding) (h .transmissions) (h .ready) (h .waiting) (h .«waiting_numbers»)))
+          (ws-a .1 .1 .1 .1 .1 .1 .1 .1 .1 .1 .1 .1 .0)))
+          (‵ (flft (α-queued ∷ []) fullShare) ⊛ ‵ (MutRef (named 0) (α-queued ∷ []) (Array u32 128) .own
+          (ref-at b (o + 124) δ-queued (h .queued)) ((vptr b (o + 124)) ∷ [])) ⊛ ‵ (flft (α-outstanding′ ∷ []) fullShare) ⊛ ‵
+          (ShrRef (named 0) (α-outstanding′ ∷ []) (Array u32 32) .own (ref-at b (o + 636) δ-outstanding′ (h .outstanding))
+          ((vptr b (o + 636)) ∷ [])) ⊛ ‵ (flft (α-transmissions ∷ []) fullShare) ⊛ ‵
+          (ShrRef (named 0) (α-transmissions ∷ []) (Array u8 32) .own (ref-at b (o + 764) δ-transmissions (h .transmissions))
+          ((vptr b (o + 764)) ∷ [])) ⊛ ‵ (flft (α-ready ∷ []) fullShare) ⊛ ‵
+          (ShrRef (named 0) (α-ready ∷ []) (Array u32 128) .own (ref-at b (o + 796) δ-ready (h .ready)) ((vptr b (o + 796)) ∷ [])) ⊛ ‵
+          (flft (α-waiting ∷ []) fullShare) ⊛ ‵ (ShrRef (named 0) (α-waiting ∷ []) (Array u32 128) .own
+          (ref-at b (o + 1308) δ-waiting (h .waiting)) ((vptr b (o + 1308)) ∷ [])) ⊛ ‵ (flft (α-waiting-numbers ∷ []) fullShare) ⊛ ‵
+          (ShrRef (named 0) (α-waiting-numbers ∷ []) (Array u32 128) .own (ref-at b (o + 1820) δ-waiting-numbers (h .«waiting_numbers»))
+          ((vptr b (o + 1820)) ∷ [])) ⊛ ‵ (flft κ₁ q₁) ⊛ ‵ Own₁ ⊛ ‵ (flft κ₂ q₂) ⊛ ‵ Own₂ ⊛ ‵ (flft κ₄ q₄) ⊛ ‵
+          Own₄ ⊛ ‵ (flft κ₅ q₅) ⊛ ‵ Own₅)
           (asks-core α-queued δ-queued (h .queued) α-outstanding′ δ-outstanding′ (h .outstanding) α-transmissions δ-transmissions
           (h .transmissions) α-ready δ-ready (h .ready) α-waiting δ-waiting (h .waiting) α-waiting-numbers δ-waiting-numbers
           (h .«waiting_numbers») (h .settings) (only ((LL.vals settings-row.the-type settings-laws.the-laws) (h .settings))) (past .30)
           (h .flight) (only ((LL.vals flight-row.the-type flight-laws.the-laws) (h .flight))) (past .31) (h .arrival)
           (only ((LL.vals arrival-row.the-type arrival-laws.the-laws) (h .arrival))) (past .32) (h .clock)
           (only ((LL.vals clock-row.the-type clock-laws.the-laws) (h .clock))) (past .33) (past .34) (past .35) (past .37) (past .38)
-          (past .39) (past .41) (record { whole-queued = (past .24); whole-outstanding = (past .25); whole-transmissions = (past .26);
-          whole-ready = (past .27); whole-waiting = (past .28); whole-numbers = (past .29) },
-          ((padded (gathered (take sendSlots (x₃ .now)) (slotsIn (h .outstanding) (h .flight .outstanding)))),
-          (record { whole = padded-whole (take sendSlots (x₃ .now)) (h .outstanding) (h .flight .outstanding); fits = (past .36) }))))
+          (past .39) (past .41) (
+            record {
+              whole-queued = (past .24);
+              whole-outstanding = (past .25);
+              whole-transmissions = (past .26);
+              whole-ready = (past .27);
+              whole-waiting = (past .28);
+              whole-numbers = (past .29);
+            },
+            (
+              (padded (gathered (take sendSlots (x₃ .now)) (slotsIn (h .outstanding) (h .flight .outstanding)))),
+              (record { whole = padded-whole (take sendSlots (x₃ .now)) (h .outstanding) (h .flight .outstanding); fits = (past .36) }),
+            ),
+          ))
           (λ a ws-a. id⊢ 𝓤 _)
           (and-then ! (load ! (from ! (stop !)) (look ! 31 refl))
           (and-then ! (load ! (from ! (stop !)) (look ! 30 refl))
@@ -826,123 +931,158 @@ module _ {M : Type 1} (𝓤 : URA M) (H : Heap 𝓤) (A : Atoms 𝓤) (W : Given
           (λ a w-a ws-a e-a is-a. land ! (from ! (stop !))
           (init ! 26 refl (LL.lawful sent-row.the-type sent-laws.the-laws 𝓤 H A W .typed a (w-a ∷ []) is-a .0)) $
           spread W (‵ (flft (α-queued ∷ []) fullShare))
-              (‵ (flft (α-outstanding′ ∷ []) fullShare) ∷ ‵ (flft (α-transmissions ∷ []) fullShare) ∷ ‵ (flft (α-ready ∷ []) fullShare)
-              ∷ ‵ (flft (α-waiting ∷ []) fullShare) ∷ ‵ (flft (α-waiting-numbers ∷ []) fullShare) ∷ ‵ (flft κ₁ q₁)
-              ∷ ‵ (flft κ₂ q₂) ∷ ‵ (flft κ₄ q₄) ∷ ‵ (flft κ₅ q₅) ∷ ‵ ftrue ∷ []) (id⊢ 𝓤 _) $ move ! (11 ∷ []) $
-              spread W (‵ ftrue) (‵ ftrue ∷ ‵ ftrue ∷ ‵ ftrue ∷ ‵ ftrue ∷ ‵ ftrue
-              ∷ ‵ (fres δ-queued ((Array u32 128) .coded .code (ws-a .1 .1 .1 .1 .1 .1 .0))) ∷ ‵ ftrue ∷ ‵ ftrue ∷ ‵ ftrue ∷ ‵ ftrue
-              ∷ ‵ ftrue ∷ ‵ (fsep (finally u8 (x₁ .name) (ws-a .1 .1 .1 .1 .1 .1 .1 .1 .1 .1 .1 .1 .0))
-              (feq ℕ (length (ws-a .1 .1 .1 .1 .1 .1 .1 .1 .1 .1 .1 .1 .0)) (length (x₁ .now)))) ∷ ‵ ftrue ∷ ‵ ftrue ∷ ‵ ftrue ∷ ‵ ftrue
-              ∷ []) (id⊢ 𝓤 _) $ keep ! (6 ∷ 12 ∷ 17 ∷ 18 ∷ 19 ∷ 20 ∷ 21 ∷ 22 ∷ 23 ∷ 24 ∷ 25 ∷ 26 ∷ 28 ∷ 29 ∷ 30 ∷ 31 ∷ 32
-              ∷ 33 ∷ 34 ∷ 35 ∷ 36 ∷ 37 ∷ 38 ∷ 39 ∷ 40 ∷ 41 ∷ 42 ∷ 43 ∷ 44 ∷ 45 ∷ 46 ∷ 47 ∷ 48 ∷ 49 ∷ 50 ∷ 51 ∷ 52 ∷ 53
-              ∷ 54 ∷ 55 ∷ 56 ∷ 57 ∷ 58 ∷ 59 ∷ 60 ∷ 61 ∷ 62 ∷ 63 ∷ 64 ∷ 65 ∷ []) $ move ! (1 ∷ []) $ fsplit ! $ move ! (1 ∷ []) $
-              feqL ! (λ len₁.
+          (‵ (flft (α-outstanding′ ∷ []) fullShare) ∷ ‵ (flft (α-transmissions ∷ []) fullShare) ∷ ‵ (flft (α-ready ∷ []) fullShare)
+          ∷ ‵ (flft (α-waiting ∷ []) fullShare) ∷ ‵ (flft (α-waiting-numbers ∷ []) fullShare) ∷ ‵ (flft κ₁ q₁)
+          ∷ ‵ (flft κ₂ q₂) ∷ ‵ (flft κ₄ q₄) ∷ ‵ (flft κ₅ q₅) ∷ ‵ ftrue ∷ []) (id⊢ 𝓤 _) $ move ! (11 ∷ []) $
+          spread W (‵ ftrue) (‵ ftrue ∷ ‵ ftrue ∷ ‵ ftrue ∷ ‵ ftrue ∷ ‵ ftrue
+          ∷ ‵ (fres δ-queued ((Array u32 128) .coded .code (ws-a .1 .1 .1 .1 .1 .1 .0))) ∷ ‵ ftrue ∷ ‵ ftrue ∷ ‵ ftrue ∷ ‵ ftrue
+          ∷ ‵ ftrue ∷ ‵ (fsep (finally u8 (x₁ .name) (ws-a .1 .1 .1 .1 .1 .1 .1 .1 .1 .1 .1 .1 .0))
+          (feq ℕ (length (ws-a .1 .1 .1 .1 .1 .1 .1 .1 .1 .1 .1 .1 .0)) (length (x₁ .now)))) ∷ ‵ ftrue ∷ ‵ ftrue ∷ ‵ ftrue ∷ ‵ ftrue
+          ∷ []) (id⊢ 𝓤 _) $ keep ! (6 ∷ 12 ∷ 17 ∷ 18 ∷ 19 ∷ 20 ∷ 21 ∷ 22 ∷ 23 ∷ 24 ∷ 25 ∷ 26 ∷ 28 ∷ 29 ∷ 30 ∷ 31 ∷ 32
+          ∷ 33 ∷ 34 ∷ 35 ∷ 36 ∷ 37 ∷ 38 ∷ 39 ∷ 40 ∷ 41 ∷ 42 ∷ 43 ∷ 44 ∷ 45 ∷ 46 ∷ 47 ∷ 48 ∷ 49 ∷ 50 ∷ 51 ∷ 52 ∷ 53
+          ∷ 54 ∷ 55 ∷ 56 ∷ 57 ∷ 58 ∷ 59 ∷ 60 ∷ 61 ∷ 62 ∷ 63 ∷ 64 ∷ 65 ∷ []) $ move ! (1 ∷ []) $ fsplit ! $ move ! (1 ∷ []) $
+          feqL ! (λ len₁.
           -- [fin1; fin:queued; tok:queued; tok:outstanding; tok:transmissions; tok:ready; tok:waiting; tok:«waiting_numbers»; tok1; tok2;
           -- tok4; tok5; lent:«waiting_numbers»; lent:waiting; lent:ready; lent:transmissions; lent:outstanding; lent:queued; tok3; F:clock;
           -- F:arrival; F:flight; F:settings; back; opened; deaths; the locals]
           move ! (2 ∷ 17 ∷ 1 ∷ []) $ back-mut ! tt (Array u32 128) b (o + 124) (ws-a .1 .1 .1 .1 .1 .1 .0) $ move ! (2 ∷ 15 ∷ []) $
-              back-shr ! tt fullShare (Array u32 32) b (o + 636) (h .outstanding) $ move ! (3 ∷ 14 ∷ []) $
-              back-shr ! tt fullShare (Array u8 32) b (o + 764) (h .transmissions) $ move ! (4 ∷ 13 ∷ []) $
-              back-shr ! tt fullShare (Array u32 128) b (o + 796) (h .ready) $ move ! (5 ∷ 12 ∷ []) $
-              back-shr ! tt fullShare (Array u32 128) b (o + 1308) (h .waiting) $ move ! (6 ∷ 11 ∷ []) $
-              back-shr ! tt fullShare (Array u32 128) b (o + 1820) (h .«waiting_numbers») $
-              by ! (part₂ ((ws-a .1 .1 .1 .1 .1 .1 .1 .1 .1 .1 .1 .1 .0), (ws-a .1 .1 .1 .1 .1 .1 .0), (past .0), (past .1), (past .2),
-              (past .3), (past .4), (past .5), (past .6), (past .7), (past .8), (past .9), (past .10), (past .11), (past .12), (past .13),
-              (past .14), (past .15), (past .16), (past .17), (past .18), (past .19), (past .20), (past .21), (past .22), (past .23),
-              (past .34), (past .35), (past .36), (past .38), (past .39), (past .40), a, w-a, e-a, is-a, len₁))))))))))
+          back-shr ! tt fullShare (Array u32 32) b (o + 636) (h .outstanding) $ move ! (3 ∷ 14 ∷ []) $
+          back-shr ! tt fullShare (Array u8 32) b (o + 764) (h .transmissions) $ move ! (4 ∷ 13 ∷ []) $
+          back-shr ! tt fullShare (Array u32 128) b (o + 796) (h .ready) $ move ! (5 ∷ 12 ∷ []) $
+          back-shr ! tt fullShare (Array u32 128) b (o + 1308) (h .waiting) $ move ! (6 ∷ 11 ∷ []) $
+          back-shr ! tt fullShare (Array u32 128) b (o + 1820) (h .«waiting_numbers») $
+          by ! (part₂ (
+            (ws-a .1 .1 .1 .1 .1 .1 .1 .1 .1 .1 .1 .1 .0),
+            (ws-a .1 .1 .1 .1 .1 .1 .0),
+            (past .0),
+            (past .1),
+            (past .2),
+            (past .3),
+            (past .4),
+            (past .5),
+            (past .6),
+            (past .7),
+            (past .8),
+            (past .9),
+            (past .10),
+            (past .11),
+            (past .12),
+            (past .13),
+            (past .14),
+            (past .15),
+            (past .16),
+            (past .17),
+            (past .18),
+            (past .19),
+            (past .20),
+            (past .21),
+            (past .22),
+            (past .23),
+            (past .34),
+            (past .35),
+            (past .36),
+            (past .38),
+            (past .39),
+            (past .40),
+            a,
+            w-a,
+            e-a,
+            is-a,
+            len₁,
+          ))))))))))
 
       walk : ent 𝓤 (onEntry 𝓤 H A f.signature (κ₀, (κ₁, (κ₂, (κ₃, (κ₄, (κ₅, tt)))))) (q₀, (q₁, (q₂, (q₃, (q₄, (q₅, tt))))))
           x at) (WpFn 𝓤 H C Λ code.function (vptr b o ∷ s₁ ∷ s₂ ∷ s₃ ∷ s₄ ∷ s₅ ∷ []) Post)
       walk =
           qed W ((‵ (flft κ₀ q₀) ⊛ ‵ (flft κ₁ q₁) ⊛ ‵ (flft κ₂ q₂) ⊛ ‵ (flft κ₃ q₃) ⊛ ‵ (flft κ₄ q₄) ⊛ ‵
-              (flft κ₅ q₅) ⊛ ‵ ftrue) ∷ ‵ (owns (MutRef (named 0) κ₀ L ∷ MutSlice (named 1) κ₁ u8 ∷ ShrSlice (named 2) κ₂ u8
-              ∷ ShrSlice (named 3) κ₃ R ∷ ShrSlice (named 4) κ₄ u32 ∷ ShrSlice (named 5) κ₅ u8 ∷ []) x at) ∷ []) ∵
-              enter ! C Λ code.function (vptr b o ∷ s₁ ∷ s₂ ∷ s₃ ∷ s₄ ∷ s₅ ∷ []) _ $
+          (flft κ₅ q₅) ⊛ ‵ ftrue) ∷ ‵ (owns (MutRef (named 0) κ₀ L ∷ MutSlice (named 1) κ₁ u8 ∷ ShrSlice (named 2) κ₂ u8
+          ∷ ShrSlice (named 3) κ₃ R ∷ ShrSlice (named 4) κ₄ u32 ∷ ShrSlice (named 5) κ₅ u8 ∷ []) x at) ∷ []) ∵
+          enter ! C Λ code.function (vptr b o ∷ s₁ ∷ s₂ ∷ s₃ ∷ s₄ ∷ s₅ ∷ []) _ $
           alloc1 ! (λ l₀. alloc1 ! (λ l₁. alloc1 ! (λ l₂.
-              alloc1 ! (λ l₃. alloc1 ! (λ l₄. alloc1 ! (λ l₅.
-              alloc1 ! (λ l₆. alloc1 ! (λ l₇. alloc1 ! (λ l₈.
-              alloc1 ! (λ l₉. alloc1 ! (λ l₁₀. alloc1 ! (λ l₁₁.
-              alloc1 ! (λ l₁₂. alloc1 ! (λ l₁₃. alloc1 ! (λ l₁₄.
-              alloc1 ! (λ l₁₅. alloc1 ! (λ l₁₆. alloc1 ! (λ l₁₇.
-              alloc1 ! (λ l₁₈. alloc1 ! (λ l₁₉. alloc1 ! (λ l₂₀.
-              alloc1 ! (λ l₂₁. alloc1 ! (λ l₂₂. alloc1 ! (λ l₂₃. alloc0 ! $ params1 ! $
+          alloc1 ! (λ l₃. alloc1 ! (λ l₄. alloc1 ! (λ l₅.
+          alloc1 ! (λ l₆. alloc1 ! (λ l₇. alloc1 ! (λ l₈.
+          alloc1 ! (λ l₉. alloc1 ! (λ l₁₀. alloc1 ! (λ l₁₁.
+          alloc1 ! (λ l₁₂. alloc1 ! (λ l₁₃. alloc1 ! (λ l₁₄.
+          alloc1 ! (λ l₁₅. alloc1 ! (λ l₁₆. alloc1 ! (λ l₁₇.
+          alloc1 ! (λ l₁₈. alloc1 ! (λ l₁₉. alloc1 ! (λ l₂₀.
+          alloc1 ! (λ l₂₁. alloc1 ! (λ l₂₂. alloc1 ! (λ l₂₃. alloc0 ! $ params1 ! $
           pass1 ! (init ! 44 refl (tt, tt)) $ pass1 ! (init ! 42 refl (tt, (tt, (record { fits = room₁ .0 }, tt)))) $
-              pass1 ! (init ! 40 refl (tt, (tt, (record { fits = room₂ .0 }, tt)))) $
-              pass1 ! (init ! 38 refl (tt, (tt, (record { fits = room₃ .0 }, tt)))) $
-              pass1 ! (init ! 36 refl (tt, (tt, (record { fits = room₄ .0 }, tt)))) $
-              pass1 ! (init ! 34 refl (tt, (tt, (record { fits = room₅ .0 }, tt)))) $ pass0 ! $
+          pass1 ! (init ! 40 refl (tt, (tt, (record { fits = room₂ .0 }, tt)))) $
+          pass1 ! (init ! 38 refl (tt, (tt, (record { fits = room₃ .0 }, tt)))) $
+          pass1 ! (init ! 36 refl (tt, (tt, (record { fits = room₄ .0 }, tt)))) $
+          pass1 ! (init ! 34 refl (tt, (tt, (record { fits = room₅ .0 }, tt)))) $ pass0 ! $
           move ! (49 ∷ []) $ spread W (‵ (MutRef (named 0) κ₀ L .own (ref-at b o γ h) (vptr b o ∷ [])))
-              (‵ (MutSlice (named 1) κ₁ u8 .own (x₁) (s₁ ∷ [])) ∷ ‵ (ShrSlice (named 2) κ₂ u8 .own (x₂) (s₂ ∷ []))
-              ∷ ‵ (ShrSlice (named 3) κ₃ R .own (x₃) (s₃ ∷ [])) ∷ ‵ (ShrSlice (named 4) κ₄ u32 .own (x₄) (s₄ ∷ []))
-              ∷ ‵ (ShrSlice (named 5) κ₅ u8 .own (x₅) (s₅ ∷ [])) ∷ ‵ ftrue ∷ []) (id⊢ 𝓤 _) $ move ! (55 ∷ []) $
-              spread W (‵ (flft κ₀ q₀)) (‵ (flft κ₁ q₁) ∷ ‵ (flft κ₂ q₂) ∷ ‵ (flft κ₃ q₃) ∷ ‵ (flft κ₄ q₄)
-              ∷ ‵ (flft κ₅ q₅) ∷ ‵ ftrue ∷ []) (id⊢ 𝓤 _) $ move ! (13 ∷ 6 ∷ []) $ drop ! $ drop ! $
-              move ! (59 ∷ 57 ∷ 55 ∷ 53 ∷ 51 ∷ 49 ∷ 47 ∷ 45 ∷ 43 ∷ 41 ∷ 39 ∷ 37 ∷ 35 ∷ 33 ∷ 31 ∷ 29 ∷ 27 ∷ 25 ∷ 23 ∷ 21
-              ∷ 19 ∷ 17 ∷ 15 ∷ 13 ∷ []) $ group ! 24 $
+          (‵ (MutSlice (named 1) κ₁ u8 .own (x₁) (s₁ ∷ [])) ∷ ‵ (ShrSlice (named 2) κ₂ u8 .own (x₂) (s₂ ∷ []))
+          ∷ ‵ (ShrSlice (named 3) κ₃ R .own (x₃) (s₃ ∷ [])) ∷ ‵ (ShrSlice (named 4) κ₄ u32 .own (x₄) (s₄ ∷ []))
+          ∷ ‵ (ShrSlice (named 5) κ₅ u8 .own (x₅) (s₅ ∷ [])) ∷ ‵ ftrue ∷ []) (id⊢ 𝓤 _) $ move ! (55 ∷ []) $
+          spread W (‵ (flft κ₀ q₀)) (‵ (flft κ₁ q₁) ∷ ‵ (flft κ₂ q₂) ∷ ‵ (flft κ₃ q₃) ∷ ‵ (flft κ₄ q₄)
+          ∷ ‵ (flft κ₅ q₅) ∷ ‵ ftrue ∷ []) (id⊢ 𝓤 _) $ move ! (13 ∷ 6 ∷ []) $ drop ! $ drop ! $
+          move ! (59 ∷ 57 ∷ 55 ∷ 53 ∷ 51 ∷ 49 ∷ 47 ∷ 45 ∷ 43 ∷ 41 ∷ 39 ∷ 37 ∷ 35 ∷ 33 ∷ 31 ∷ 29 ∷ 27 ∷ 25 ∷ 23 ∷ 21
+          ∷ 19 ∷ 17 ∷ 15 ∷ 13 ∷ []) $ group ! 24 $
           -- [deaths; tok0; tok1; tok2; tok3; tok4; tok5; own0; own1; own2; own3; own4; own5; the locals]
           move ! (7 ∷ 1 ∷ []) $ opens-link b o γ ! tt h $
           -- [F:settings; F:flight; F:arrival; F:clock; F:queued; F:outstanding; F:transmissions; F:ready; F:waiting; F:«waiting_numbers»;
           -- back; opened; deaths; tok1; tok2; tok3; tok4; tok5; own1; own2; own3; own4; own5; the locals]
           move ! (4 ∷ []) $ tells-length ! fullShare u32 128 (h .queued) b (o + 124)
-              (λ len-queued. move ! (5 ∷ []) $
-              tells-length ! fullShare u32 32 (h .outstanding) b (o + 636)
-              (λ len-outstanding. move ! (6 ∷ []) $
-              tells-length ! fullShare u8 32 (h .transmissions) b (o + 764)
-              (λ len-transmissions. move ! (7 ∷ []) $
-              tells-length ! fullShare u32 128 (h .ready) b (o + 796)
-              (λ len-ready. move ! (8 ∷ []) $
-              tells-length ! fullShare u32 128 (h .waiting) b (o + 1308)
-              (λ len-waiting. move ! (9 ∷ []) $
-              tells-length ! fullShare u32 128 (h .«waiting_numbers») b (o + 1820)
-              (λ len-waiting-numbers. move ! (6 ∷ []) $
-              cell-out ! fullShare settings-row.the-row (LL.vals settings-row.the-type settings-laws.the-laws)
-              (LL.tells settings-row.the-type settings-laws.the-laws) (h .settings) b (o + 0) (λ was-settings.
+          (λ len-queued. move ! (5 ∷ []) $
+          tells-length ! fullShare u32 32 (h .outstanding) b (o + 636)
+          (λ len-outstanding. move ! (6 ∷ []) $
+          tells-length ! fullShare u8 32 (h .transmissions) b (o + 764)
+          (λ len-transmissions. move ! (7 ∷ []) $
+          tells-length ! fullShare u32 128 (h .ready) b (o + 796)
+          (λ len-ready. move ! (8 ∷ []) $
+          tells-length ! fullShare u32 128 (h .waiting) b (o + 1308)
+          (λ len-waiting. move ! (9 ∷ []) $
+          tells-length ! fullShare u32 128 (h .«waiting_numbers») b (o + 1820)
+          (λ len-waiting-numbers. move ! (6 ∷ []) $
+          cell-out ! fullShare settings-row.the-row (LL.vals settings-row.the-type settings-laws.the-laws)
+          (LL.tells settings-row.the-type settings-laws.the-laws) (h .settings) b (o + 0) (λ was-settings.
           assigns ! {v = (only ((LL.vals settings-row.the-type settings-laws.the-laws) (h .settings)))}
-              (of-opd ! (load ! (from ! (hop ! (look ! 45 refl) (fld ! {d = 0} refl (stop !)))) (look-raw ! 0 refl))) (from ! (stop !))
-              (init ! 39 refl (LL.lawful settings-row.the-type settings-laws.the-laws 𝓤 H A W .typed (h .settings)
-              ((only ((LL.vals settings-row.the-type settings-laws.the-laws) (h .settings))) ∷ []) was-settings .0)) $
+          (of-opd ! (load ! (from ! (hop ! (look ! 45 refl) (fld ! {d = 0} refl (stop !)))) (look-raw ! 0 refl))) (from ! (stop !))
+          (init ! 39 refl (LL.lawful settings-row.the-type settings-laws.the-laws 𝓤 H A W .typed (h .settings)
+          ((only ((LL.vals settings-row.the-type settings-laws.the-laws) (h .settings))) ∷ []) was-settings .0)) $
           cell-in ! fullShare settings-row.the-row (LL.makes settings-row.the-type settings-laws.the-plain 𝓤 H A) (h .settings) b (o + 0)
-              (only ((LL.vals settings-row.the-type settings-laws.the-laws) (h .settings))) was-settings $ move ! (7 ∷ []) $
-              cell-out ! fullShare flight-row.the-row (LL.vals flight-row.the-type flight-laws.the-laws)
-              (LL.tells flight-row.the-type flight-laws.the-laws) (h .flight) b (o + 16) (λ was-flight.
+          (only ((LL.vals settings-row.the-type settings-laws.the-laws) (h .settings))) was-settings $ move ! (7 ∷ []) $
+          cell-out ! fullShare flight-row.the-row (LL.vals flight-row.the-type flight-laws.the-laws)
+          (LL.tells flight-row.the-type flight-laws.the-laws) (h .flight) b (o + 16) (λ was-flight.
           assigns ! {v = (only ((LL.vals flight-row.the-type flight-laws.the-laws) (h .flight)))}
-              (of-opd ! (load ! (from ! (hop ! (look ! 45 refl) (fld ! {d = 16} refl (stop !)))) (look-raw ! 0 refl))) (from ! (stop !))
-              (init ! 38 refl (LL.lawful flight-row.the-type flight-laws.the-laws 𝓤 H A W .typed (h .flight)
-              ((only ((LL.vals flight-row.the-type flight-laws.the-laws) (h .flight))) ∷ []) was-flight .0)) $
+          (of-opd ! (load ! (from ! (hop ! (look ! 45 refl) (fld ! {d = 16} refl (stop !)))) (look-raw ! 0 refl))) (from ! (stop !))
+          (init ! 38 refl (LL.lawful flight-row.the-type flight-laws.the-laws 𝓤 H A W .typed (h .flight)
+          ((only ((LL.vals flight-row.the-type flight-laws.the-laws) (h .flight))) ∷ []) was-flight .0)) $
           cell-in ! fullShare flight-row.the-row (LL.makes flight-row.the-type flight-laws.the-plain 𝓤 H A) (h .flight) b (o + 16)
-              (only ((LL.vals flight-row.the-type flight-laws.the-laws) (h .flight))) was-flight $ move ! (8 ∷ []) $
-              cell-out ! fullShare arrival-row.the-row (LL.vals arrival-row.the-type arrival-laws.the-laws)
-              (LL.tells arrival-row.the-type arrival-laws.the-laws) (h .arrival) b (o + 72) (λ was-arrival.
+          (only ((LL.vals flight-row.the-type flight-laws.the-laws) (h .flight))) was-flight $ move ! (8 ∷ []) $
+          cell-out ! fullShare arrival-row.the-row (LL.vals arrival-row.the-type arrival-laws.the-laws)
+          (LL.tells arrival-row.the-type arrival-laws.the-laws) (h .arrival) b (o + 72) (λ was-arrival.
           assigns ! {v = (only ((LL.vals arrival-row.the-type arrival-laws.the-laws) (h .arrival)))}
-              (of-opd ! (load ! (from ! (hop ! (look ! 45 refl) (fld ! {d = 72} refl (stop !)))) (look-raw ! 0 refl))) (from ! (stop !))
-              (init ! 37 refl (LL.lawful arrival-row.the-type arrival-laws.the-laws 𝓤 H A W .typed (h .arrival)
-              ((only ((LL.vals arrival-row.the-type arrival-laws.the-laws) (h .arrival))) ∷ []) was-arrival .0)) $
+          (of-opd ! (load ! (from ! (hop ! (look ! 45 refl) (fld ! {d = 72} refl (stop !)))) (look-raw ! 0 refl))) (from ! (stop !))
+          (init ! 37 refl (LL.lawful arrival-row.the-type arrival-laws.the-laws 𝓤 H A W .typed (h .arrival)
+          ((only ((LL.vals arrival-row.the-type arrival-laws.the-laws) (h .arrival))) ∷ []) was-arrival .0)) $
           cell-in ! fullShare arrival-row.the-row (LL.makes arrival-row.the-type arrival-laws.the-plain 𝓤 H A) (h .arrival) b (o + 72)
-              (only ((LL.vals arrival-row.the-type arrival-laws.the-laws) (h .arrival))) was-arrival $ move ! (9 ∷ []) $
-              cell-out ! fullShare clock-row.the-row (LL.vals clock-row.the-type clock-laws.the-laws)
-              (LL.tells clock-row.the-type clock-laws.the-laws) (h .clock) b (o + 104) (λ was-clock.
+          (only ((LL.vals arrival-row.the-type arrival-laws.the-laws) (h .arrival))) was-arrival $ move ! (9 ∷ []) $
+          cell-out ! fullShare clock-row.the-row (LL.vals clock-row.the-type clock-laws.the-laws)
+          (LL.tells clock-row.the-type clock-laws.the-laws) (h .clock) b (o + 104) (λ was-clock.
           assigns ! {v = (only ((LL.vals clock-row.the-type clock-laws.the-laws) (h .clock)))}
-              (of-opd ! (load ! (from ! (hop ! (look ! 45 refl) (fld ! {d = 104} refl (stop !)))) (look-raw ! 0 refl))) (from ! (stop !))
-              (init ! 36 refl (LL.lawful clock-row.the-type clock-laws.the-laws 𝓤 H A W .typed (h .clock)
-              ((only ((LL.vals clock-row.the-type clock-laws.the-laws) (h .clock))) ∷ []) was-clock .0)) $
+          (of-opd ! (load ! (from ! (hop ! (look ! 45 refl) (fld ! {d = 104} refl (stop !)))) (look-raw ! 0 refl))) (from ! (stop !))
+          (init ! 36 refl (LL.lawful clock-row.the-type clock-laws.the-laws 𝓤 H A W .typed (h .clock)
+          ((only ((LL.vals clock-row.the-type clock-laws.the-laws) (h .clock))) ∷ []) was-clock .0)) $
           cell-in ! fullShare clock-row.the-row (LL.makes clock-row.the-type clock-laws.the-plain 𝓤 H A) (h .clock) b (o + 104)
-              (only ((LL.vals clock-row.the-type clock-laws.the-laws) (h .clock))) was-clock $
-              assigns ! {v = (vptr b (o + 636))} (addr ! (from ! (hop ! (look ! 45 refl) (fld ! {d = 636} refl (stop !)))))
-              (from ! (stop !)) (init ! 31 refl (tt, tt)) $
+          (only ((LL.vals clock-row.the-type clock-laws.the-laws) (h .clock))) was-clock $
+          assigns ! {v = (vptr b (o + 636))} (addr ! (from ! (hop ! (look ! 45 refl) (fld ! {d = 636} refl (stop !)))))
+          (from ! (stop !)) (init ! 31 refl (tt, tt)) $
           move ! (8 ∷ []) $ lend-shr ! tt fullShare (Array u32 32) (h .outstanding) b (o + 636)
-              (λ α-outstanding δ-outstanding. move ! (22 ∷ []) $
-              use1 W (‵ Own₃ ⊛ ‵ Own₃) (shr-slice-copy 𝓤 H A W (named 0) κ₃ R .twice x₃ (s₃ ∷ [])) $ split ! $
-              move ! (19 ∷ 0 ∷ 2 ∷ 3 ∷ []) $ group ! 4 $
-              calls-fn ! fm fit.ended (fit.clauses 𝓤 H A at-mem run) (known .0)
-              (to-fit α-outstanding δ-outstanding (h .outstanding) (h .settings)
-              (only ((LL.vals settings-row.the-type settings-laws.the-laws) (h .settings))) (h .flight)
-              (only ((LL.vals flight-row.the-type flight-laws.the-laws) (h .flight))))
-              (λ fl ws-fl. fl ≡ flightFits (h .settings .mode) (h .flight .una) (h .flight .next)
-              (take (h .flight .outstanding) (padded (gathered (take sendSlots (x₃ .now))
-              (slotsIn (h .outstanding) (h .flight .outstanding))))))
-              (‵ (flft κ₃ q₃) ⊛ ‵ Own₃ ⊛ ‵ (flft (α-outstanding ∷ []) fullShare) ⊛ ‵
-              (ShrRef (named 0) (α-outstanding ∷ []) (Array u32 32) .own (ref-at b (o + 636) δ-outstanding (h .outstanding))
-              ((vptr b (o + 636)) ∷ [])))
+          (λ α-outstanding δ-outstanding. move ! (22 ∷ []) $
+          use1 W (‵ Own₃ ⊛ ‵ Own₃) (shr-slice-copy 𝓤 H A W (named 0) κ₃ R .twice x₃ (s₃ ∷ [])) $ split ! $
+          move ! (19 ∷ 0 ∷ 2 ∷ 3 ∷ []) $ group ! 4 $
+          calls-fn ! fm fit.ended (fit.clauses 𝓤 H A at-mem run) (known .0)
+          (to-fit α-outstanding δ-outstanding (h .outstanding) (h .settings)
+          (only ((LL.vals settings-row.the-type settings-laws.the-laws) (h .settings))) (h .flight)
+          (only ((LL.vals flight-row.the-type flight-laws.the-laws) (h .flight))))
+          (λ fl ws-fl. fl ≡ flightFits (h .settings .mode) (h .flight .una) (h .flight .next)
+          (take (h .flight .outstanding) (padded (gathered (take sendSlots (x₃ .now))
+          (slotsIn (h .outstanding) (h .flight .outstanding))))))
+          (‵ (flft κ₃ q₃) ⊛ ‵ Own₃ ⊛ ‵ (flft (α-outstanding ∷ []) fullShare) ⊛ ‵
+          (ShrRef (named 0) (α-outstanding ∷ []) (Array u32 32) .own (ref-at b (o + 636) δ-outstanding (h .outstanding))
+          ((vptr b (o + 636)) ∷ [])))
           (asks-fit α-outstanding δ-outstanding (h .outstanding) (h .settings)
           (only ((LL.vals settings-row.the-type settings-laws.the-laws) (h .settings))) was-settings (h .flight)
           (only ((LL.vals flight-row.the-type flight-laws.the-laws) (h .flight))) was-flight (len-outstanding)) (λ fl ws-fl. id⊢ 𝓤 _)
@@ -951,47 +1091,104 @@ module _ {M : Type 1} (𝓤 : URA M) (H : Heap 𝓤) (A : Atoms 𝓤) (W : Given
           (and-then ! (load ! (from ! (stop !)) (look ! 39 refl)) (and-then ! (load ! (from ! (stop !)) (look ! 38 refl)) (no-more !)))))
           (λ fl w-fl ws-fl e-fl is-fl. land ! (from ! (stop !)) (init ! 36 refl (bool-lawful 𝓤 H A W .typed fl _ is-fl .0)) $
           spread W (‵ (flft κ₃ q₃)) (‵ (flft (α-outstanding ∷ []) fullShare) ∷ ‵ ftrue ∷ []) (id⊢ 𝓤 _) $ move ! (3 ∷ []) $
-              spread W (‵ ftrue) (‵ ftrue ∷ ‵ ftrue ∷ ‵ ftrue ∷ ‵ ftrue ∷ []) (id⊢ 𝓤 _) $
-              keep ! (5 ∷ 6 ∷ 8 ∷ 9 ∷ 10 ∷ 11 ∷ 12 ∷ 13 ∷ 14 ∷ 15 ∷ 16 ∷ 17 ∷ 18 ∷ 19 ∷ 20 ∷ 21 ∷ 22 ∷ 23 ∷ 24 ∷ 25 ∷ 26
-              ∷ 27 ∷ 28 ∷ 29 ∷ 30 ∷ 31 ∷ 32 ∷ 33 ∷ 34 ∷ 35 ∷ 36 ∷ 37 ∷ 38 ∷ 39 ∷ 40 ∷ 41 ∷ 42 ∷ 43 ∷ 44 ∷ 45 ∷ 46 ∷ 47
-              ∷ 48 ∷ 49 ∷ 50 ∷ 51 ∷ 52 ∷ 53 ∷ []) $
+          spread W (‵ ftrue) (‵ ftrue ∷ ‵ ftrue ∷ ‵ ftrue ∷ ‵ ftrue ∷ []) (id⊢ 𝓤 _) $
+          keep ! (5 ∷ 6 ∷ 8 ∷ 9 ∷ 10 ∷ 11 ∷ 12 ∷ 13 ∷ 14 ∷ 15 ∷ 16 ∷ 17 ∷ 18 ∷ 19 ∷ 20 ∷ 21 ∷ 22 ∷ 23 ∷ 24 ∷ 25 ∷ 26
+          ∷ 27 ∷ 28 ∷ 29 ∷ 30 ∷ 31 ∷ 32 ∷ 33 ∷ 34 ∷ 35 ∷ 36 ∷ 37 ∷ 38 ∷ 39 ∷ 40 ∷ 41 ∷ 42 ∷ 43 ∷ 44 ∷ 45 ∷ 46 ∷ 47
+          ∷ 48 ∷ 49 ∷ 50 ∷ 51 ∷ 52 ∷ 53 ∷ []) $
           -- [tok3; tok:outstanding; own3; lent:outstanding; F:clock; F:arrival; F:flight; F:settings; F:«waiting_numbers»; F:waiting;
           -- F:ready; F:transmissions; F:queued; back; opened; deaths; tok1; tok2; tok4; tok5; own1; own2; own4; own5; the locals]
           move ! (1 ∷ 3 ∷ []) $ back-shr ! tt fullShare (Array u32 32) b (o + 636) (h .outstanding) $ move ! (1 ∷ 2 ∷ []) $ join ! $
-              calls-fn ! fm table-len.ended (table-len.clauses 𝓤 H A at-mem run) (known .1) (to-table-len  )
-              (λ m ws-m. m ≡ length (x₃ .now)) (‵ (flft κ₃ q₃) ⊛ ‵ Own₃)
-          (asks-table-len   ) (λ m ws-m. id⊢ 𝓤 _)
+          calls-fn ! fm table-len.ended (table-len.clauses 𝓤 H A at-mem run) (known .1) (to-table-len)
+          (λ m ws-m. m ≡ length (x₃ .now)) (‵ (flft κ₃ q₃) ⊛ ‵ Own₃)
+          (asks-table-len) (λ m ws-m. id⊢ 𝓤 _)
           (and-then ! (load ! (from ! (stop !)) (look ! 41 refl)) (no-more !))
           (λ m w-m ws-m e-m is-m. land ! (from ! (stop !)) (init ! 34 refl (uint-lawful 𝓤 H A W w64 .typed m _ is-m .0)) $
           spread W (‵ (flft κ₃ q₃)) (‵ ftrue ∷ []) (id⊢ 𝓤 _) $ move ! (2 ∷ []) $ spread W (‵ ftrue) (‵ ftrue ∷ []) (id⊢ 𝓤 _) $
-              keep ! (2 ∷ 4 ∷ 5 ∷ 6 ∷ 7 ∷ 8 ∷ 9 ∷ 10 ∷ 11 ∷ 12 ∷ 13 ∷ 14 ∷ 15 ∷ 16 ∷ 17 ∷ 18 ∷ 19 ∷ 20 ∷ 21 ∷ 22 ∷ 23
-              ∷ 24 ∷ 25 ∷ 26 ∷ 27 ∷ 28 ∷ 29 ∷ 30 ∷ 31 ∷ 32 ∷ 33 ∷ 34 ∷ 35 ∷ 36 ∷ 37 ∷ 38 ∷ 39 ∷ 40 ∷ 41 ∷ 42 ∷ 43 ∷ 44
-              ∷ 45 ∷ 46 ∷ 47 ∷ 48 ∷ []) $
+          keep ! (2 ∷ 4 ∷ 5 ∷ 6 ∷ 7 ∷ 8 ∷ 9 ∷ 10 ∷ 11 ∷ 12 ∷ 13 ∷ 14 ∷ 15 ∷ 16 ∷ 17 ∷ 18 ∷ 19 ∷ 20 ∷ 21 ∷ 22 ∷ 23
+          ∷ 24 ∷ 25 ∷ 26 ∷ 27 ∷ 28 ∷ 29 ∷ 30 ∷ 31 ∷ 32 ∷ 33 ∷ 34 ∷ 35 ∷ 36 ∷ 37 ∷ 38 ∷ 39 ∷ 40 ∷ 41 ∷ 42 ∷ 43 ∷ 44
+          ∷ 45 ∷ 46 ∷ 47 ∷ 48 ∷ []) $
           -- [tok3; F:outstanding; F:clock; F:arrival; F:flight; F:settings; F:«waiting_numbers»; F:waiting; F:ready; F:transmissions;
           -- F:queued; back; opened; deaths; tok1; tok2; tok4; tok5; own1; own2; own4; own5; the locals]
-          by ! (part₁ (l₀, l₁, l₂, l₃, l₄, l₅, l₆, l₇, l₈, l₉, l₁₀, l₁₁, l₁₂, l₁₃, l₁₄, l₁₅, l₁₆, l₁₇,
-              l₁₈, l₁₉, l₂₀, l₂₁, l₂₂, l₂₃, len-queued, len-outstanding, len-transmissions, len-ready, len-waiting, len-waiting-numbers,
-              was-settings, was-flight, was-arrival, was-clock, fl, w-fl, e-fl, is-fl, m, w-m, e-m,
-              is-m)))))))))))))))))))))))))))))))))))))))
+          by ! (part₁ (
+            l₀,
+            l₁,
+            l₂,
+            l₃,
+            l₄,
+            l₅,
+            l₆,
+            l₇,
+            l₈,
+            l₉,
+            l₁₀,
+            l₁₁,
+            l₁₂,
+            l₁₃,
+            l₁₄,
+            l₁₅,
+            l₁₆,
+            l₁₇,
+            l₁₈,
+            l₁₉,
+            l₂₀,
+            l₂₁,
+            l₂₂,
+            l₂₃,
+            len-queued,
+            len-outstanding,
+            len-transmissions,
+            len-ready,
+            len-waiting,
+            len-waiting-numbers,
+            was-settings,
+            was-flight,
+            was-arrival,
+            was-clock,
+            fl,
+            w-fl,
+            e-fl,
+            is-fl,
+            m,
+            w-m,
+            e-m,
+            is-m,
+          )))))))))))))))))))))))))))))))))))))))
 
   f-meets : (𝓣 : Tables 𝓤 H) → Known (𝓣 .C)
       → Meets 𝓤 H A f.signature (WpFn 𝓤 H (𝓣 .C) (𝓣 .Λ) code.function) (f.spec 𝓤 H A at-mem run)
   unfolding Post
-  f-meets 𝓣 known = walk-meets 𝓤 H A f.ended stayed W
-      (goes-ref 𝓤 H A W 6 0 tt (plain (λ _. L)),
-      (goes-gave-slice 𝓤 H A W 6 1 tt (plain (λ _. u8)),
-      (goes-dropped 𝓤 H A W 6 (shrSliceOf (2 ∷ []) tt (plain (λ _. u8))) yes (λ κs x f. refl),
-      (goes-dropped 𝓤 H A W 6 (shrSliceOf (3 ∷ []) tt (plain (λ _. R))) yes (λ κs x f. refl),
-      (goes-dropped 𝓤 H A W 6 (shrSliceOf (4 ∷ []) tt (plain (λ _. u32))) yes (λ κs x f. refl),
-      (goes-dropped 𝓤 H A W 6 (shrSliceOf (5 ∷ []) tt (plain (λ _. u8))) yes (λ κs x f. refl), tt))))))
+  f-meets 𝓣 known = walk-meets 𝓤 H A f.ended stayed W (
+    goes-ref 𝓤 H A W 6 0 tt (plain (λ _. L)),
+    (
+      goes-gave-slice 𝓤 H A W 6 1 tt (plain (λ _. u8)),
+      (
+        goes-dropped 𝓤 H A W 6 (shrSliceOf (2 ∷ []) tt (plain (λ _. u8))) yes (λ κs x f. refl),
+        (
+          goes-dropped 𝓤 H A W 6 (shrSliceOf (3 ∷ []) tt (plain (λ _. R))) yes (λ κs x f. refl),
+          (
+            goes-dropped 𝓤 H A W 6 (shrSliceOf (4 ∷ []) tt (plain (λ _. u32))) yes (λ κs x f. refl),
+            (goes-dropped 𝓤 H A W 6 (shrSliceOf (5 ∷ []) tt (plain (λ _. u8))) yes (λ κs x f. refl), tt),
+          ),
+        ),
+      ),
+    ),
+  )
       (f.clauses 𝓤 H A at-mem run) (WpFn 𝓤 H (𝓣 .C) (𝓣 .Λ) code.function) (WpFn-mono 𝓤 H (W .laws) 𝓣 code.function)
       (walked 𝓤 H A f.ended stayed (f.clauses 𝓤 H A at-mem run) (WpFn 𝓤 H (𝓣 .C) (𝓣 .Λ) code.function)
       (λ κs. (ptr-vals, (slice-vals, (slice-vals, (slice-vals, (slice-vals, (slice-vals, tt)))))))
-      (λ κs. (mut-tells (named 0) (κs .0) L,
-      (mut-slice-tells (named 1) (κs .1 .0) u8,
-      (shr-slice-tells (named 2) (κs .1 .1 .0) u8,
-      (shr-slice-tells (named 3) (κs .1 .1 .1 .0) R,
-      (shr-slice-tells (named 4) (κs .1 .1 .1 .1 .0) u32, (shr-slice-tells (named 5) (κs .1 .1 .1 .1 .1 .0) u8, tt)))))))
+      (λ κs. (
+        mut-tells (named 0) (κs .0) L,
+        (
+          mut-slice-tells (named 1) (κs .1 .0) u8,
+          (
+            shr-slice-tells (named 2) (κs .1 .1 .0) u8,
+            (
+              shr-slice-tells (named 3) (κs .1 .1 .1 .0) R,
+              (shr-slice-tells (named 4) (κs .1 .1 .1 .1 .0) u32, (shr-slice-tells (named 5) (κs .1 .1 .1 .1 .1 .0) u8, tt)),
+            ),
+          ),
+        ),
+      ))
       (λ κs qs bounds a g are. via 𝓤 _ (fst∗ 𝓤 _ (emp 𝓤))
       (walk (κs .0) (κs .1 .0) (κs .1 .1 .0) (κs .1 .1 .1 .0) (κs .1 .1 .1 .1 .0) (κs .1 .1 .1 .1 .1 .0) (qs .0) (qs .1 .0) (qs .1 .1 .0)
       (qs .1 .1 .1 .0) (qs .1 .1 .1 .1 .0) (qs .1 .1 .1 .1 .1 .0) (a .0 .ptr .0) (a .0 .ptr .1) (a .0 .name) (a .0 .now) (a .1 .0)

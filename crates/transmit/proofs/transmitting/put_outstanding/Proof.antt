@@ -16,7 +16,7 @@ use Rattle.transmit.proofs.WalkLaws.{
   walking-room,
   walking-inside,
   walking-sent,
-  walking-kept,
+  walking-unchanged,
   walking-done,
 }
 use Rattle.transmit.proofs.transmitting.put_outstanding.Statement.{statement}
@@ -81,7 +81,7 @@ loop-again c =
     rule _ _ _ _ (w .0 .taken) (w .3 .ensures) (w .7 .ensures)))
     (λ w.
     walking-as (w .1) (w .2) (w .3) (w .4) (w .5) (w .6) (w .7) (w .8) (w .9)
-    (walking-kept _ _ _ _ _ _ _ _ _ _ _ _ _ _ _ _ _ _ (head .loop .inv) (turn .loop-test .taken) (p .whole) blank _
+    (walking-unchanged _ _ _ _ _ _ _ _ _ _ _ _ _ _ _ _ _ _ (head .loop .inv) (turn .loop-test .taken) (p .whole) blank _
     rule (w .0 .left)))
     (c .if1 .came)
 
