@@ -29,7 +29,7 @@ use Rattle.from_cores.proofs.Scattered.{
   slotsOf,
   puts-nothing,
   puts-all,
-  table-kept,
+  table-unchanged,
   put-none,
   table-after,
   stands-after,
@@ -52,7 +52,7 @@ flush-leaves l p f a b l′ f′ table′ few put whole long x slots h =
     let all = ⊎-elim
     (λ q. puts-all l′ (p .table) table′ b q put)
     (λ q. put-none l′ (b .records) few (p .acks) (h .counts) whole (x .state) (h .state) (p .table)
-    (table-kept l p (x .state) (q .1) slots) table′ (puts-nothing (p .table) table′ b (q .0) put))
+    (table-unchanged l p (x .state) (q .1) slots) table′ (puts-nothing (p .table) table′ b (q .0) put))
     (h .puts) in
     record {
       stands = stands-after l′ (b .records) few (p .acks) (h .counts) whole (x .state) (h .state) (p .table) table′ all (p .sendPool)

@@ -93,40 +93,40 @@ puts-all l table table′ b all e = rw (all .words, all .changed) at e
 -- ---- segments with the table's own records, put back
 
 -- each has the record at its slot
-abbrev Kept : List Record → List Sent → Type 0
-Kept table = All (λ (x : Sent). x .record ≡ getD table (x .held .slot) blank)
+abbrev Own : List Record → List Sent → Type 0
+Own table = All (λ (x : Sent). x .record ≡ getD table (x .held .slot) blank)
 
-scattered-kept : (table : List Record) (l : List Sent) → Kept table l
+scattered-own : (table : List Record) (l : List Sent) → Own table l
     → scattered table (map (λ (x : Sent). x .held .slot) l) (map (λ (x : Sent). x .record) l) ≡ table
 unfolding scattered
-scattered-kept table [] h = refl
-scattered-kept table (x ∷ l) h = rw (h .0, set-getD table (x .held .slot) blank) (scattered-kept table l (h .1))
+scattered-own table [] h = refl
+scattered-own table (x ∷ l) h = rw (h .0, set-getD table (x .held .slot) blank) (scattered-own table l (h .1))
 
-joined-kept : (table : List Record) (n k : ℕ) (ws ts : List ℕ)
-    → Kept table (joined (outstandingIn ws ts n) (gathered table (map (λ (w : ℕ). w % 256) (take k ws))))
+joined-own : (table : List Record) (n k : ℕ) (ws ts : List ℕ)
+    → Own table (joined (outstandingIn ws ts n) (gathered table (map (λ (w : ℕ). w % 256) (take k ws))))
 unfolding joined paired
-joined-kept table zero k ws ts = tt
-joined-kept table (suc n) k [] ts = tt
-joined-kept table (suc n) k (w ∷ ws) [] = tt
-joined-kept table (suc n) zero (w ∷ ws) (t ∷ ts) = tt
-joined-kept table (suc n) (suc k) (w ∷ ws) (t ∷ ts) = (refl, joined-kept table n k ws ts)
+joined-own table zero k ws ts = tt
+joined-own table (suc n) k [] ts = tt
+joined-own table (suc n) k (w ∷ ws) [] = tt
+joined-own table (suc n) zero (w ∷ ws) (t ∷ ts) = tt
+joined-own table (suc n) (suc k) (w ∷ ws) (t ∷ ts) = (refl, joined-own table n k ws ts)
 
-kept-first : (table : List Record) (l : List Sent) → AllBelow sendSlots (map (λ (x : Sent). x .held .slot) l)
-    → Kept (take sendSlots table) l → Kept table l
-kept-first table [] below h = tt
-kept-first table (x ∷ l) below h = (
+own-first : (table : List Record) (l : List Sent) → AllBelow sendSlots (map (λ (x : Sent). x .held .slot) l)
+    → Own (take sendSlots table) l → Own table l
+own-first table [] below h = tt
+own-first table (x ∷ l) below h = (
   h .0 ∙ getD-take sendSlots table (x .held .slot) blank (below zero (omega arith)),
-  kept-first table l (λ i k. below (suc i) (omega arith)) (h .1),
+  own-first table l (λ i k. below (suc i) (omega arith)) (h .1),
 )
 
 -- a state with the outstanding segments of a block before the call: the table is as it was
-pub table-kept : (l : Link) (p : Parts) (x : State) → x .sending .outstanding ≡ stateIn l p .sending .outstanding → SlotsFit (slotsOf x)
+pub table-unchanged : (l : Link) (p : Parts) (x : State) → x .sending .outstanding ≡ stateIn l p .sending .outstanding → SlotsFit (slotsOf x)
     → tableOf (p .table) x ≡ p .table
 unfolding stateOf
-table-kept l p x e s =
-    let first = joined-kept (take sendSlots (p .table)) (l .flight .outstanding) (min (l .flight .outstanding) 32) (l .outstanding)
+table-unchanged l p x e s =
+    let first = joined-own (take sendSlots (p .table)) (l .flight .outstanding) (min (l .flight .outstanding) 32) (l .outstanding)
     (l .transmissions) in
-    scattered-kept (p .table) (x .sending .outstanding) (kept-first (p .table) (x .sending .outstanding) (s .below) (rw (← e) at first))
+    scattered-own (p .table) (x .sending .outstanding) (own-first (p .table) (x .sending .outstanding) (s .below) (rw (← e) at first))
 
 -- ---- a block after a call, with its records put back
 

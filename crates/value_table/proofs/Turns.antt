@@ -1,4 +1,4 @@
--- The turns of the loops of `gather` and `scatter` over a table that is kept by value.
+-- The turns of the loops of `gather` and `scatter` over a table by value.
 -- Assumes nothing.
 use mathlib.Core.Path.{_≡_, refl, sym, ap, _∙_}
 use mathlib.Core.List.{List, [], _∷_, map}
