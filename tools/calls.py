@@ -88,7 +88,7 @@ GATHER = [
     Call('count-of', 'n', 'n ≡ h .flight .outstanding'),
     Call('none-of', 'blanks', 'blanks ≡ replicate 128 0'),
     Call('gather', 'g', f'(length {FOUND} ≡ 128) × (recordsIn {FOUND} ≡ padded (gathered (take sendSlots (x₃ .now)) (slotsIn (h .outstanding) n)))',
-         ('f-local ≡ replicate 128 0', 'e-blanks')),
+         ('(length f-outstanding ≡ 32) × (f-local ≡ replicate 128 0)', 'len-outstanding, e-blanks')),
     Call('table-len', 'm', 'm ≡ length (x₃ .now)'),
 ]
 RECS = '(recordsIn z-local)'
@@ -99,7 +99,8 @@ WHOLE_RECORDS = (f"Whole (arrays {' '.join(f'f-{a}' for a in PLAIN)}) × (length
 COUNT_OUT, TABLE = '(h .flight .outstanding)', '(take sendSlots (x₃ .now))'
 RECORDS = f'(padded (gathered {TABLE} (slotsIn (h .outstanding) {COUNT_OUT})))'
 FIT = [
-    Call('fit', 'fl', f'fl ≡ flightFits (h .settings .mode) (h .flight .una) (h .flight .next) (take {COUNT_OUT} {RECORDS})'),
+    Call('fit', 'fl', f'fl ≡ flightFits (h .settings .mode) (h .flight .una) (h .flight .next) (take {COUNT_OUT} {RECORDS})',
+         ('length f-outstanding ≡ 32', 'len-outstanding')),
     Call('table-len', 'm', 'm ≡ length (x₃ .now)'),
 ]
 FLOWN = f'(record {{ whole = padded-whole {TABLE} (h .outstanding) {COUNT_OUT}; fits = e-fl }})'
@@ -199,11 +200,11 @@ def check():
         proof=f'told timeCode _ a (e-r .0) (record {{ time = check-promised h {P} {RECS} m {GATHERS} x₅ a e-a; when = e-r .1 }})')
 
 
-# behind the core the words are copied, and the records put back by them
+# behind the core the records are put back, by the words as they are then
 WORDS, LEFT, TABLE_AFTER = 'z-outstanding', '(recordsIn z-local′)', last('u', 0)
 SCATTER = [
     Call('changed-of', 'c', 'c ≡ a .changed'),
-    Call('scatter', 'u', f'{TABLE_AFTER} ≡ scattered (x₃ .now) (slotsIn {WORDS} c) {LEFT}', ('length f-local ≡ 128', 'e-a .1')),
+    Call('scatter', 'u', f'{TABLE_AFTER} ≡ scattered (x₃ .now) (slotsIn {WORDS} c) {LEFT}', ('(length f-outstanding ≡ 32) × (length f-local ≡ 128)', 'mid-outstanding, e-a .1')),
 ]
 BACK = f'(record {{ words = {WORDS}; changed = a .changed; records = {LEFT} }})'
 PUT = f'(records-length 32 z-local′ (e-a .1)) (put-back (x₃ .now) {TABLE_AFTER} {BACK} {WORDS} c {LEFT} refl e-c refl e-u)'

@@ -109,7 +109,7 @@ class Driver:
         self.names = list(self.walk.fields)
         self.values = {i + 1: self.value(p.t, f'x{low(i)}', f'v{low(i)}', f'g{low(i)}') for i, p in enumerate(pars) if p.kind == 'val'}
         self.slot = {i + 1: i for i, p in enumerate(pars) if p.slice() or p.kind in ('given', 'sgiven')}
-        self.lent, self.pointers, self.shared, self.parted = {}, {}, set(), False
+        self.lent, self.pointers, self.shared, self.parted = {}, {}, set(), set()
 
     @staticmethod
     def value(t, x, v, g):
@@ -126,10 +126,12 @@ class Driver:
                 self.call(k, s, count)
                 count += 1
             else:
-                if self.lends(s) and not self.parted:
-                    self.parted = True
+                if self.lends(s) and self.calls[count].alias in ('core', 'scatter') and count not in self.parted:
+                    self.parted.add(count)
                     for i in [i for i in range(len(self.pars)) if f'blent{i}' in w.context]:
                         w.unshared(i)
+                    if self.calls[count].alias == 'scatter':
+                        w.lengths('mid-', ['outstanding'])
                     w.cut(k)
                 self.assign(k, s)
         if self.pars[0].kind == 'sref':
@@ -153,11 +155,7 @@ class Driver:
             source = place(value[1][1])[0]
             v = self.values[source]
             w.store(self.field(steps), source, v['x'], v['v'], v['g'])
-            if not any(self.touches(x) for x in self.statements[k + 1:]):
-                w.lengths('end-')
-                w.closes()
-                if w.arrays:
-                    w.cut(k + 1)
+            self.close(k)
         elif value[0] == 'rvOpd' and value[1][0] == 'copy':
             source, path = place(value[1][1])
             if path:
@@ -190,6 +188,14 @@ class Driver:
             self.slot[local] = self.slot[source]
             if self.locals[pointer][2] == 'imm' and self.pars[self.slot[source]].kind == 'mut':
                 self.shared.add(local)
+
+    def close(self, k):
+        """Behind the last statement that touches the block, it is closed."""
+        if self.pars[0].kind == 'ref' and not any(self.touches(x) for x in self.statements[k + 1:]):
+            self.walk.lengths('end-')
+            self.walk.closes()
+            if self.walk.arrays:
+                self.walk.cut(k + 1)
 
     @staticmethod
     def touches(s):
@@ -247,6 +253,8 @@ class Driver:
             if f in w.arrays:
                 at = int(f[1:])
                 self.values[at] = self.value(w.kind(f), w.now[f], w.filled[at], w.was[f])
+        if any(f in w.fields for f, _ in lent):
+            self.close(k)
         if c.alias == 'core':
             w.cut(k + 1)
 

@@ -191,10 +191,10 @@ class Walk:
         self.comment()
         self.lengths('len-')
 
-    def lengths(self, prefix):
-        """Each array in memory has its length: PREFIXFIELD."""
+    def lengths(self, prefix, names=None):
+        """Each array in memory, or each of these, has its length: PREFIXFIELD."""
         for f, (t, _) in self.fields.items():
-            if isinstance(t, Numbers):
+            if isinstance(t, Numbers) and (names is None or f in names):
                 self.bring([f'F:{f}'])
                 name = prefix + hyphened(f)
                 self.under(f'tells-length ! {self.share} {t.of.row} {t.n} {self.now[f]} b {self.offset(f)} (λ {name}.', (name, f'length {self.now[f]} ≡ {t.n}'))

@@ -28,7 +28,7 @@ struct hello {
     int met;                        /* whether a boot number of the peer was believed */
 };
 
-static const uint8_t hello_mark[4] = {'A', 'W', 'H', '1'};
+static const uint8_t hello_magic[4] = {'A', 'W', 'H', '1'};
 
 static inline void hello_put(uint8_t *bytes, uint32_t number)
 {
@@ -44,7 +44,7 @@ static inline uint32_t hello_get(const uint8_t *bytes)
 /* Writes the hello to send now. */
 static inline void hello_write(const struct hello *hello, uint8_t bytes[HELLO_SIZE])
 {
-    memcpy(bytes, hello_mark, sizeof hello_mark);
+    memcpy(bytes, hello_magic, sizeof hello_magic);
     hello_put(bytes + 4, hello->boot);
     hello_put(bytes + 8, hello->token);
     hello_put(bytes + 12, hello->peer_token);
@@ -54,7 +54,7 @@ static inline void hello_write(const struct hello *hello, uint8_t bytes[HELLO_SI
 static inline enum hello_kind hello_input(struct hello *hello, const uint8_t *datagram, size_t len)
 {
     uint32_t boot;
-    if (len != HELLO_SIZE || memcmp(datagram, hello_mark, sizeof hello_mark) != 0) return HELLO_NONE;
+    if (len != HELLO_SIZE || memcmp(datagram, hello_magic, sizeof hello_magic) != 0) return HELLO_NONE;
     boot = hello_get(datagram + 4);
     hello->peer_token = hello_get(datagram + 8);
     if (hello->met && boot == hello->peer_boot) return HELLO_OF_PEER;

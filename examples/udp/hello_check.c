@@ -48,7 +48,7 @@ int main(void)
     holds(bring(&restarted, &b) == HELLO_OF_PEER, "nor does the next one");
     holds(hello_input(&b, late, sizeof late - 1) == HELLO_NONE, "a shorter datagram is no hello");
     late[0] ^= 1;
-    holds(hello_input(&b, late, sizeof late) == HELLO_NONE, "nor is one with another mark");
+    holds(hello_input(&b, late, sizeof late) == HELLO_NONE, "nor is one with another magic");
     holds(ampferweg_station_open(&station, 7, AMPFERWEG_MTU_LEAST, 1, 10, 2) == 0, "a link opens");
     holds(ampferweg_station_input(&station, late, sizeof late) == -AMPFERWEG_SHORT_DATAGRAM, "a link refuses a hello with 1");
     return failed;

@@ -29,9 +29,9 @@ static void case_a(void)
     CHECK_EQUAL(call_flush(&lent, 0), 1);
     CHECK_EQUAL(lent.station.lengths[0], sizeof wanted);
     CHECK(memcmp(lent.station.output, wanted, sizeof wanted) == 0);
-    CHECK(kept_from(&lent, OUTPUT, sizeof wanted));
-    CHECK(kept_from(&lent, LENGTHS, sizeof lent.station.lengths[0]));
-    CHECK(kept_from(&lent, TABLE, sizeof *lent.station.table));
+    CHECK(unchanged_from(&lent, OUTPUT, sizeof wanted));
+    CHECK(unchanged_from(&lent, LENGTHS, sizeof lent.station.lengths[0]));
+    CHECK(unchanged_from(&lent, TABLE, sizeof *lent.station.table));
     CHECK_EQUAL(changed(&lent), 1u << LINK | 1u << TABLE | 1u << OUTPUT | 1u << LENGTHS);
 }
 
@@ -51,7 +51,7 @@ static void cases_c_and_d(void)
     CHECK(l->flight.queued == 4 && l->queued[2].len == 26 && l->queued[2].fragment == 1);
     CHECK(l->queued[3].len == 1 && l->queued[3].fragment == 0 && l->queued[3].slot == 3);
     CHECK(memcmp(lent.station.send_pool + 26, message, 53) == 0);
-    CHECK(kept_from(&lent, SEND_POOL, 26 + 53));
+    CHECK(unchanged_from(&lent, SEND_POOL, 26 + 53));
     CHECK_EQUAL(changed(&lent), 1u << LINK | 1u << SEND_POOL);
     open_with(50, 0, 10, 0);
     CHECK_EQUAL(call_send(&lent, message, 3303), -AMPFERWEG_LONG_MESSAGE);
@@ -127,7 +127,7 @@ static void case_i(void)
     take_in(push_of(127, 0, 5), 'k');
     CHECK(l->arrival.waiting == 1 && l->arrival.acks == 1 && lent.station.acks[0] == 127);
     CHECK(memcmp(lent.station.receive_pool, "kkkkk", 5) == 0);
-    CHECK(kept_from(&lent, RECEIVE_POOL, 5) && kept_from(&lent, ACKS, 2 * sizeof *lent.station.acks));
+    CHECK(unchanged_from(&lent, RECEIVE_POOL, 5) && unchanged_from(&lent, ACKS, 2 * sizeof *lent.station.acks));
     CHECK_EQUAL(changed(&lent), 1u << LINK | 1u << RECEIVE_POOL | 1u << ACKS);
 }
 
@@ -163,7 +163,7 @@ static void reading(void)
     CHECK_EQUAL(changed(&lent), 0);
     CHECK_EQUAL(call_read(&lent, lent.message, 600), 500);
     CHECK(lent.message[0] == 'a' && lent.message[231] == 'a' && lent.message[232] == 'b' && lent.message[499] == 'c');
-    CHECK(kept_from(&lent, MESSAGE, 500));
+    CHECK(unchanged_from(&lent, MESSAGE, 500));
     CHECK_EQUAL(changed(&lent), 1u << LINK | 1u << MESSAGE);
     CHECK_EQUAL(call_size(&lent), -AMPFERWEG_NO_MESSAGE);
     take_in(push_of(3, 0, 0), 0);

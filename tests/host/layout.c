@@ -216,7 +216,7 @@ static void seen_in_the_clock(void)
     CHECK(l->clock.dead != 0 && l->clock.ask == 0);
 }
 
-/* The next time and the mark of the first update, as update and check read and leave them. */
+/* The next time and whether an update was made, as update and check read and leave them. */
 static void seen_in_the_schedule(void)
 {
     uint32_t when = 1;

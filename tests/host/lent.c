@@ -100,7 +100,7 @@ void snapshot(struct lent *lent)
     for (i = 0; i < PARTS; i++) memcpy(lent->parts[i].snapshot, lent->parts[i].at, lent->parts[i].size);
 }
 
-int kept_from(const struct lent *lent, int part, size_t from)
+int unchanged_from(const struct lent *lent, int part, size_t from)
 {
     const struct part *p = &lent->parts[part];
     return from >= p->size || memcmp(p->at + from, p->snapshot + from, p->size - from) == 0;
@@ -114,7 +114,7 @@ unsigned changed(const struct lent *lent)
     memcpy(&was, lent->parts[LINK].snapshot, sizeof was);
     bits = same_link(lent->link, &was) ? 0 : 1u << LINK;
     for (i = LINK + 1; i < PARTS; i++)
-        if (!kept_from(lent, i, 0)) bits |= 1u << i;
+        if (!unchanged_from(lent, i, 0)) bits |= 1u << i;
     return bits;
 }
 

@@ -36,7 +36,7 @@ void snapshot(struct lent *lent);
 unsigned changed(const struct lent *lent);
 
 /* Whether the parts are unchanged from their element `from` on (in bytes). */
-int kept_from(const struct lent *lent, int part, size_t from);
+int unchanged_from(const struct lent *lent, int part, size_t from);
 
 /* Whether all guard bytes stand. */
 int guarded(const struct lent *lent);

@@ -93,9 +93,9 @@ static void step(void)
     CHECK((result >= -14 && result <= 3400 && result != -8 && result != -12) || result == AMPFERWEG_NOT_YET);
     if (result == AMPFERWEG_NOT_YET) may = 1u << LINK;
     CHECK_EQUAL(changed(&lent) & ~(ampferweg_refusal_of(result) ? 0 : may), 0);
-    CHECK(kept_from(&lent, SEND_POOL, AMPFERWEG_SEND_POOL_SIZE(50)) && kept_from(&lent, RECEIVE_POOL, AMPFERWEG_RECEIVE_POOL_SIZE(50)));
-    CHECK(kept_from(&lent, TABLE, AMPFERWEG_TABLE_LEN * sizeof(ampferweg_record)) && kept_from(&lent, ACKS, AMPFERWEG_ACKS_LEN * 4));
-    CHECK(kept_from(&lent, OUTPUT, AMPFERWEG_OUTPUT_SIZE) && kept_from(&lent, LENGTHS, AMPFERWEG_LENGTHS_LEN * 2));
+    CHECK(unchanged_from(&lent, SEND_POOL, AMPFERWEG_SEND_POOL_SIZE(50)) && unchanged_from(&lent, RECEIVE_POOL, AMPFERWEG_RECEIVE_POOL_SIZE(50)));
+    CHECK(unchanged_from(&lent, TABLE, AMPFERWEG_TABLE_LEN * sizeof(ampferweg_record)) && unchanged_from(&lent, ACKS, AMPFERWEG_ACKS_LEN * 4));
+    CHECK(unchanged_from(&lent, OUTPUT, AMPFERWEG_OUTPUT_SIZE) && unchanged_from(&lent, LENGTHS, AMPFERWEG_LENGTHS_LEN * 2));
     lent.station = parts;
     if (ampferweg_refusal_of(result)) *l = was; /* the block as it was before it was bent */
 }

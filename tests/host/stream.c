@@ -50,7 +50,7 @@ static void fills(void)
     CHECK_EQUAL(changed(&lent), 1u << LINK | 1u << SEND_POOL);
     CHECK(memcmp(lent.parts[SEND_POOL].at, lent.parts[SEND_POOL].snapshot, 10) == 0);
     CHECK(memcmp(lent.parts[SEND_POOL].at + 10, lent.message, 5) == 0);
-    CHECK(kept_from(&lent, SEND_POOL, 15));
+    CHECK(unchanged_from(&lent, SEND_POOL, 15));
     CHECK_EQUAL(lent.link->flight.queued, 1);
     CHECK_EQUAL(lent.link->queued[0].len, 15);
     CHECK_EQUAL(send(40), 0); /* 11 fill, then a full segment and one of 3 */

@@ -17,7 +17,7 @@ use Rattle.timing.specs.declared.Record.{Record}
 use Rattle.timing.specs.declared.RoundTrip.{RoundTrip}
 use Rattle.lists.specs.Joining.{joined}
 use Rattle.lists.specs.Orders.{sentOffset}
-use Rattle.lists.specs.Acknowledging.{select, keep, firstNumberOr}
+use Rattle.lists.specs.Acknowledging.{select, filter, firstNumberOr}
 use Rattle.lists.specs.declared.Sent.{Sent}
 use Rattle.lists.specs.declared.Acknowledges.the-variants as by
 use Rattle.session.specs.State.{Sending, withOutstanding, withWindow, withRoundTrip}
@@ -66,7 +66,7 @@ rest-parts c current s h = go (eqb (h .cmd) ack)
     go false = refl
 
 -- its parts apart
-heard-parts : (c : Settings) (current : ℕ) (s : Sending) (h : Header) → let left = keep (staysBy (s .next) h) (s .outstanding) in
+heard-parts : (c : Settings) (current : ℕ) (s : Sending) (h : Header) → let left = filter (staysBy (s .next) h) (s .outstanding) in
     heardBySending c current s h
     ≡ withRoundTrip (withWindow (h .wnd) (withOutstanding s (firstNumberOr left (s .next)) left)) (timedBy c current h (s .roundTrip))
 heard-parts c current s h = rw (← (heard-outstanding c current s h), ← (heard-una c current s h)) (rest-parts c current s h)
@@ -99,8 +99,8 @@ module _ (c : Settings) (current : ℕ) (v : View) (h : Header) (rtt : RoundTrip
 
   -- those that stay are left
   pub heard-some : (ws ts : List ℕ) (n : ℕ) (rs : List Record) (una : ℕ)
-      → JoinedIn ws ts n rs (keep (staysBy (v .flight .next) h) (sentIn v))
-      → una ≡ firstNumberOr (keep (staysBy (v .flight .next) h) (sentIn v)) (v .flight .next)
+      → JoinedIn ws ts n rs (filter (staysBy (v .flight .next) h) (sentIn v))
+      → una ≡ firstNumberOr (filter (staysBy (v .flight .next) h) (sentIn v)) (v .flight .next)
       → FlightIs (view (after una n) ws ts rs) v (λ s. heardBySending c current s h)
   heard-some ws ts n rs una l first =
       record {
@@ -112,7 +112,7 @@ module _ (c : Settings) (current : ℕ) (v : View) (h : Header) (rtt : RoundTrip
       }
 
   -- all stay
-  pub heard-none : InOrder v → keep (staysBy (v .flight .next) h) (sentIn v) ≡ sentIn v
+  pub heard-none : InOrder v → filter (staysBy (v .flight .next) h) (sentIn v) ≡ sentIn v
       → FlightIs (view (after (v .flight .una) (v .flight .outstanding)) (v .words) (v .transmissions) (v .records)) v
       (λ s. heardBySending c current s h)
   heard-none o k =
@@ -128,11 +128,11 @@ module _ (c : Settings) (current : ℕ) (v : View) (h : Header) (rtt : RoundTrip
 
 -- where a segment concerns no number, all stay
 pub all-stay : (h : Header) (una next : ℕ) (r : Bool) → Concerns h una next r → r ≡ false → (l : List Sent) → All NumberFits l
-    → Numbers una next l → keep (staysBy next h) l ≡ l
+    → Numbers una next l → filter (staysBy next h) l ≡ l
 unfolding select
 all-stay h una next r k e l fit o = go 0 l fit (o .ascends)
   where
-    go : (least : ℕ) (l : List Sent) → All NumberFits l → Ascends (sentOffset una) least (minus next una) l → keep (staysBy next h) l ≡ l
+    go : (least : ℕ) (l : List Sent) → All NumberFits l → Ascends (sentOffset una) least (minus next una) l → filter (staysBy next h) l ≡ l
     go least [] fit a = refl
     go least (x ∷ l) fit a = rw (k .none e (o .apart) (x .record .number) (fit .0) (a .1), go (sentOffset una x + 1) l (fit .1) (a .2))
 
@@ -152,11 +152,11 @@ pub heard-order : (c : Settings) (current : ℕ) (v′ v : View) (h : Header) �
     → Ordered v′
 heard-order c current v′ v h f o =
     let p = f .half [] ∙ heard-parts c current (halfWith [] v) h in
-    let left : sentIn v′ ≡ keep (staysBy (v .flight .next) h) (sentIn v) = ap (λ (s : Sending). s .outstanding) p in
-    let una : v′ .flight .una ≡ firstNumberOr (keep (staysBy (v .flight .next) h) (sentIn v)) (v .flight .next) =
+    let left : sentIn v′ ≡ filter (staysBy (v .flight .next) h) (sentIn v) = ap (λ (s : Sending). s .outstanding) p in
+    let una : v′ .flight .una ≡ firstNumberOr (filter (staysBy (v .flight .next) h) (sentIn v)) (v .flight .next) =
     ap (λ (s : Sending). s .una) p in
     let next : v′ .flight .next ≡ v .flight .next = ap (λ (s : Sending). s .next) p in
-    let fit : All NumberFits (keep (staysBy (v .flight .next) h) (sentIn v)) =
+    let fit : All NumberFits (filter (staysBy (v .flight .next) h) (sentIn v)) =
     all-select (λ (x : Sent). staysBy (v .flight .next) h (x .record .number)) NumberFits (sentIn v) (o .fit) in
     let low : v .flight .una < 2 ^ 32 = rw (o .order .numbers .first) at (first-fits (sentIn v) (v .flight .next) (o .fit) (o .next32)) in
     record {

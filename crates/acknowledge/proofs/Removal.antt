@@ -10,7 +10,7 @@ use Rattle.timing.specs.declared.Record.{Record}
 use Rattle.lists.specs.Views.{Holds}
 use Rattle.lists.specs.Joining.{withRecord, joined}
 use Rattle.lists.specs.JoiningLaws.{length-joined, take-joined, get-joined, set-joined}
-use Rattle.lists.specs.Acknowledging.{keep}
+use Rattle.lists.specs.Acknowledging.{filter}
 use Rattle.lists.specs.declared.Outstanding.{Outstanding}
 use Rattle.lists.specs.declared.Sent.{Sent}
 use Rattle.lists.proofs.Loops.{Packed}
@@ -54,7 +54,7 @@ module _ (ws ts : List ℕ) (rs : List Record) where
 
 module _ {n : ℕ} {l₀ goal : List Sent} {i j : ℕ} (ws ts : List ℕ) (rs : List Record) (r : Record) (test : ℕ → Bool) (h : i < n)
     (e : length ws ≡ 32) (f : length ts ≡ 32)
-    (p : Packed 32 n l₀ (beside ws ts rs) (keep test (drop i (take n l₀))) goal i j) where
+    (p : Packed 32 n l₀ (beside ws ts rs) (filter test (drop i (take n l₀))) goal i j) where
   abbrev next : Sent
   next = withRecord (outstandingAt (getD ws i 0) (getD ts i 0)) (getD rs i r)
 
@@ -63,15 +63,15 @@ module _ {n : ℕ} {l₀ goal : List Sent} {i j : ℕ} (ws ts : List ℕ) (rs : 
   read = beside-get ws ts rs i r (omega (arith, p .room)) (omega (arith, p .room)) (omega (arith, p .room, p .written .whole))
 
   -- it stays
-  pub removal-keeps : test (getD rs i r .number) ≡ true
+  pub removal-stays : test (getD rs i r .number) ≡ true
       → Packed 32 n l₀ (beside (set ws j (getD ws i 0)) (set ts j (getD ts i 0)) (set rs j (getD rs i r)))
-      (keep test (drop (i + 1) (take n l₀))) goal (i + 1) (j + 1)
-  removal-keeps t =
+      (filter test (drop (i + 1) (take n l₀))) goal (i + 1) (j + 1)
+  removal-stays t =
       let s : test (getD (beside ws ts rs) i (withRecord (outstandingAt 0 0) r) .record .number) ≡ true = rw read t in
       rw (← (beside-set ws ts rs j (getD ws i 0) (getD ts i 0) (getD rs i r)))
       (rw read at (packed-pass (withRecord (outstandingAt 0 0) r) h (λ (x : Sent). test (x .record .number)) s p))
 
   -- it is removed
   pub removal-drops : test (getD rs i r .number) ≡ false
-      → Packed 32 n l₀ (beside ws ts rs) (keep test (drop (i + 1) (take n l₀))) goal (i + 1) j
+      → Packed 32 n l₀ (beside ws ts rs) (filter test (drop (i + 1) (take n l₀))) goal (i + 1) j
   removal-drops t = packed-fail (withRecord (outstandingAt 0 0) r) h (λ (x : Sent). test (x .record .number)) (rw read t) p

@@ -18,7 +18,7 @@ ghost use Rattle.protocol.specs.Ranges.{mss};
 ghost use Rattle.protocol.specs.Serial.{isBefore};
 ghost use Rattle.datagram.specs.StepLaws.{Begun};
 ghost use Rattle.lists.specs.Joining.{joined};
-ghost use Rattle.lists.specs.Acknowledging.{keep, firstNumberOr};
+ghost use Rattle.lists.specs.Acknowledging.{filter, firstNumberOr};
 ghost use Rattle.record_words.specs.RecordWords.{recordsIn};
 ghost use Rattle.session.specs.Decides.{All};
 ghost use Rattle.words.specs.Words.{outstandingIn};
@@ -76,9 +76,9 @@ fn remaining(
 ) -> Left
     requires { ⌜ (length (now words) ≡ 32) × (length (now transmissions) ≡ 32) × (length (now records) ≡ 128) × (n ≤ 32) ⌝ }
     ensures { λ r. ⌜ JoinedIn (now (words .exit)) (now (transmissions .exit)) (r .count) (recordsIn (now (records .exit)))
-        (keep (staysBy next h)
+        (filter (staysBy next h)
         (joined (outstandingIn (now (words .entry)) (now (transmissions .entry)) n) (recordsIn (now (records .entry)))))
-        × (r .first ≡ firstNumberOr (keep (staysBy next h)
+        × (r .first ≡ firstNumberOr (filter (staysBy next h)
         (joined (outstandingIn (now (words .entry)) (now (transmissions .entry)) n) (recordsIn (now (records .entry))))) next)
         × (length (now (records .exit)) ≡ 128) ⌝ }
 {

@@ -8,8 +8,8 @@ use mathlib.Core.List.{List, [], _∷_, _++_, map, List·Memᴰ}
 use Prim.Native.Nat.{ℕ}
 use Rattle.lists.specs.declared.Sent.{Sent}
 use Rattle.lists.specs.declared.Acknowledges.{Acknowledges}
-use Rattle.lists.specs.Acknowledging.{select, keep, firstNumberOr}
-use Rattle.session.specs.MapLaws.{map-kept}
+use Rattle.lists.specs.Acknowledging.{select, filter, firstNumberOr}
+use Rattle.session.specs.MapLaws.{map-unchanged}
 use Rattle.control.specs.Views.{stateOf}
 use Rattle.control.specs.declared.Link.{Link}
 use Rattle.promises.specs.Parts.{Parts}
@@ -24,13 +24,14 @@ use Rattle.any_order.specs.HearingLaws.{hears-same, hears-outstanding, h
 abbrev number : Sent → ℕ
 number x = x .record .number
 
-select-numbers : (test : ℕ → Bool) (l : List Sent) → map number (keep test l) ≡ select test (map number l)
+select-numbers : (test : ℕ → Bool) (l : List Sent) → map number (filter test l) ≡ select test (map number l)
 unfolding select
 select-numbers test [] = refl
 select-numbers test (x ∷ l) = go (test (number x)) (select-numbers test l)
   where
-    go : (b : Bool) → map number (keep test l) ≡ select test (map number l)
-        → map number (cond b (x ∷ keep test l) (keep test l)) ≡ cond b (number x ∷ select test (map number l)) (select test (map number l))
+    go : (b : Bool) → map number (filter test l) ≡ select test (map number l)
+        → map number (cond b (x ∷ filter test l) (filter test l))
+        ≡ cond b (number x ∷ select test (map number l)) (select test (map number l))
     go true e = ap (λ (r : List ℕ). number x ∷ r) e
     go false e = e
 
@@ -59,10 +60,10 @@ module _ (l : Link) (p : Parts) (xs : List Heard) (l₁ : Link) (p₁ : Parts) w
   outstanding-after h =
       let test = passesAll unlessAhead (l .flight .next) (numbersHeard (l .settings) xs) in
       let e = hears-outstanding untimed sees-untimed NextFixed next-fixed-leaves h in
-      sym (map-kept number untimed (sees-untimed .number) (outstandingIn l₁ p₁))
+      sym (map-unchanged number untimed (sees-untimed .number) (outstandingIn l₁ p₁))
       ∙ ap (map number) e
       ∙ select-numbers test (map untimed (outstandingIn l p))
-      ∙ ap (select test) (map-kept number untimed (sees-untimed .number) (outstandingIn l p))
+      ∙ ap (select test) (map-unchanged number untimed (sees-untimed .number) (outstandingIn l p))
 
   -- if any number was heard, snd_una is the first of them, else snd_nxt
   pub una-after : (a : Acknowledges) → List·Memᴰ a (numbersHeard (l .settings) xs) → Hears NextFixed l p xs l₁ p₁
@@ -84,6 +85,6 @@ module _ (l : Link) (p : Parts) (xs ys : List Heard) (l₁ : Link) (p₁ : Parts
 pub numbers-same : (see : Sent → Sent) → Sees see → (l₁ : Link) (p₁ : Parts) (l₂ : Link) (p₂ : Parts) → SameInFlight see l₁ p₁ l₂ p₂
     → outstandingNumbers l₁ p₁ ≡ outstandingNumbers l₂ p₂
 numbers-same see sees l₁ p₁ l₂ p₂ h =
-    sym (map-kept number see (sees .number) (outstandingIn l₁ p₁))
+    sym (map-unchanged number see (sees .number) (outstandingIn l₁ p₁))
     ∙ ap (map number) (h .outstanding)
-    ∙ map-kept number see (sees .number) (outstandingIn l₂ p₂)
+    ∙ map-unchanged number see (sees .number) (outstandingIn l₂ p₂)

@@ -10,7 +10,7 @@ use Rattle.protocol.specs.declared.Refusal.{Refusal}
 use Rattle.datagram.specs.Datagrams.{Parsed, parse}
 use Rattle.lists.specs.declared.Sent.{Sent}
 use Rattle.lists.specs.declared.Acknowledges.{Acknowledges}
-use Rattle.lists.specs.Acknowledging.{keep, firstNumberOr}
+use Rattle.lists.specs.Acknowledging.{filter, firstNumberOr}
 use Rattle.sizes.specs.Sizes.{enough}
 use Rattle.session.specs.State.{State}
 use Rattle.session.specs.Input.{applied, taking, input}
@@ -94,7 +94,7 @@ module _ (see : Sent → Sent) (sees : Sees see) where
     -- what is outstanding then
     pub hears-outstanding : {l l′ : Link} {p p′ : Parts} {hs : List Heard} → Hears between l p hs l′ p′
         → map see (outstandingIn l′ p′)
-        ≡ keep (passesAll unlessAhead (l .flight .next) (numbersHeard (l .settings) hs)) (map see (outstandingIn l p))
+        ≡ filter (passesAll unlessAhead (l .flight .next) (numbersHeard (l .settings) hs)) (map see (outstandingIn l p))
     unfolding stateOf
     hears-outstanding {l} {p = p} {hs = hs} h =
         ap (λ (x : InFlight). x .outstanding) (hears-takes h .numbers-taken)

@@ -16,7 +16,7 @@ use Rattle.datagram.specs.Datagrams.{Segment}
 use Rattle.lists.specs.declared.Sent.{Sent}
 use Rattle.lists.specs.declared.Acknowledges.{Acknowledges}
 use Rattle.lists.specs.declared.Acknowledges.the-variants as by
-use Rattle.lists.specs.Acknowledging.{select, keep, firstNumberOr, oneSkip, skipBefore}
+use Rattle.lists.specs.Acknowledging.{select, filter, firstNumberOr, oneSkip, skipBefore}
 use Rattle.session.specs.State.{State, Sending, withWindow, withOutstanding}
 use Rattle.session.specs.Input.{Took, acknowledged, sampledBy, heardBySending, allBySending, applied}
 use Rattle.session.specs.Input.{ackNumbers, furthest, skipped, skippedByAll}
@@ -68,13 +68,13 @@ sees-untimed = record { number = λ x. refl; skips = λ n x. ap untimed (sees-un
 module _ (see : Sent → Sent) (sees : Sees see) where
   -- ---- one number
 
-  keep-seen : (test : ℕ → Bool) (l : List Sent) → map see (keep test l) ≡ keep test (map see l)
+  filter-seen : (test : ℕ → Bool) (l : List Sent) → map see (filter test l) ≡ filter test (map see l)
   unfolding select
-  keep-seen test [] = refl
-  keep-seen test (x ∷ l) = go (test (x .record .number)) (test (see x .record .number)) (ap test (sees .number x)) (keep-seen test l)
+  filter-seen test [] = refl
+  filter-seen test (x ∷ l) = go (test (x .record .number)) (test (see x .record .number)) (ap test (sees .number x)) (filter-seen test l)
     where
-      go : (a b : Bool) → b ≡ a → map see (keep test l) ≡ keep test (map see l)
-          → map see (cond a (x ∷ keep test l) (keep test l)) ≡ cond b (see x ∷ keep test (map see l)) (keep test (map see l))
+      go : (a b : Bool) → b ≡ a → map see (filter test l) ≡ filter test (map see l)
+          → map see (cond a (x ∷ filter test l) (filter test l)) ≡ cond b (see x ∷ filter test (map see l)) (filter test (map see l))
       go true b p e = rw p (ap (λ (y : List Sent). see x ∷ y) e)
       go false b p e = rw p e
 
@@ -88,10 +88,10 @@ module _ (see : Sent → Sent) (sees : Sees see) where
   unfolding acknowledged
   own-rule a s =
       let stays = unlessAhead (s .next) a in
-      let kept = keep stays (s .outstanding) in
-      let e : map see kept ≡ keep stays (map see (s .outstanding)) = keep-seen stays (s .outstanding) in
+      let left = filter stays (s .outstanding) in
+      let e : map see left ≡ filter stays (map see (s .outstanding)) = filter-seen stays (s .outstanding) in
       λ i. record {
-        una = (first-seen kept (s .next) ∙ ap (λ (l : List Sent). firstNumberOr l (s .next)) e) i;
+        una = (first-seen left (s .next) ∙ ap (λ (l : List Sent). firstNumberOr l (s .next)) e) i;
         next = s .next;
         outstanding = e i;
       }

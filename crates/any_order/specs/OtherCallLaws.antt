@@ -17,7 +17,7 @@ use Rattle.lists.specs.declared.Sent.{Sent}
 use Rattle.session.specs.State.{State, Sending, Outcome, refused, done, withSchedule}
 use Rattle.session.specs.Sending.{Sends, sending}
 use Rattle.session.specs.Flushing.{Flushed, windowOf, numbered, numberedCount, withNumbered, ruled, afterwards, flushing}
-use Rattle.session.specs.RuleLaws.{sentAfter, after-kept}
+use Rattle.session.specs.RuleLaws.{sentAfter, after-unchanged}
 use Rattle.session.specs.Reading.{Reads, reading}
 use Rattle.session.specs.Updating as outcome
 use Rattle.session.specs.Updating.{Updates, updating}
@@ -90,10 +90,10 @@ flush-quiet s t pool = record {
       let d = s .sending in
       let timeout = d .roundTrip .timeout in
       let all = withNumbered d (numberedCount (windowOf s) d) in
-      let kept : map untimed (afterwards (ruled (s .settings) timeout t all)) ≡ map untimed (d .outstanding) =
-      after-kept (s .settings) timeout t untimed (untimed-after (s .settings) timeout t) all
+      let same : map untimed (afterwards (ruled (s .settings) timeout t all)) ≡ map untimed (d .outstanding) =
+      after-unchanged (s .settings) timeout t untimed (untimed-after (s .settings) timeout t) all
       ∙ rw (none-numbered (windowOf s) d (window-most s) e, append-nil (d .outstanding)) in
-      λ i. record { una = d .una; next = e i; outstanding = kept i };
+      λ i. record { una = d .una; next = e i; outstanding = same i };
 }
 
 update-quiet : (s : State) (t : ℕ) (pool : List ℕ) → UpdateQuiet s (updating s t pool)

@@ -10,7 +10,7 @@ use Rattle.protocol.specs.Serial.{isAfter}
 use Rattle.lists.specs.declared.Sent.{Sent}
 use Rattle.lists.specs.declared.Acknowledges.{Acknowledges}
 use Rattle.lists.specs.declared.Acknowledges.the-variants.{Una, Ack}
-use Rattle.lists.specs.Acknowledging.{acknowledged, keep, firstNumberOr}
+use Rattle.lists.specs.Acknowledging.{acknowledged, filter, firstNumberOr}
 
 -- what such a rule reads and changes: snd_una, snd_nxt and the outstanding segments. Nothing else of a link's state is in it
 pub record InFlight : Type 0 where
@@ -39,9 +39,9 @@ unlessAhead next arrival n = not (acknowledged next arrival n)
 abbrev pub staying : (ℕ → Bool) → InFlight → InFlight
 staying test s =
     record {
-      una = firstNumberOr (keep test (s .outstanding)) (s .next);
+      una = firstNumberOr (filter test (s .outstanding)) (s .next);
       next = s .next;
-      outstanding = keep test (s .outstanding);
+      outstanding = filter test (s .outstanding);
     }
 
 -- a number passes the tests of all that arrives

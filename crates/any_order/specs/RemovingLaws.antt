@@ -10,8 +10,8 @@ use mathlib.Core.Logic.{⊎-elim}
 use Prim.Native.Nat.{ℕ}
 use Rattle.lists.specs.declared.Sent.{Sent}
 use Rattle.lists.specs.declared.Acknowledges.{Acknowledges}
-use Rattle.lists.specs.Acknowledging.{select, keep, firstNumberOr}
-use Rattle.lists.specs.AcknowledgingLaws.{select-same, keep-both}
+use Rattle.lists.specs.Acknowledging.{select, filter, firstNumberOr}
+use Rattle.lists.specs.AcknowledgingLaws.{select-same, filter-both}
 use Rattle.session.specs.Decides.{and-parts}
 use Rattle.any_order.specs.Removing.{InFlight, Rule, everyBefore, unlessAhead, staying, passesAll, takes, SameMembers, AnyOrder}
 
@@ -19,7 +19,7 @@ use Rattle.any_order.specs.Removing.{InFlight, Rule, everyBefore, unless
 
 -- to remove by one test and then by another is to remove by both
 pub staying-both : (f g : ℕ → Bool) (s : InFlight) → staying g (staying f s) ≡ staying (λ n. f n && g n) s
-staying-both f g s = rw (keep-both f g (s .outstanding))
+staying-both f g s = rw (filter-both f g (s .outstanding))
 
 -- two tests that agree on every number leave the same
 staying-same : (f g : ℕ → Bool) (s : InFlight) → ((n : ℕ) → f n ≡ g n) → staying f s ≡ staying g s
@@ -27,10 +27,10 @@ staying-same f g s e =
     let number : Sent → ℕ = λ x. x .record .number in
     rw (select-same (λ (x : Sent). f (number x)) (λ (x : Sent). g (number x)) (λ x. e (number x)) (s .outstanding))
 
-all-kept : (l : List Sent) → keep (λ n. true) l ≡ l
+filter-all : (l : List Sent) → filter (λ n. true) l ≡ l
 unfolding select
-all-kept [] = refl
-all-kept (x ∷ l) = ap (λ (r : List Sent). x ∷ r) (all-kept l)
+filter-all [] = refl
+filter-all (x ∷ l) = ap (λ (r : List Sent). x ∷ r) (filter-all l)
 
 module _ (rule : Rule) where
   -- all that arrives removes by one test
@@ -75,9 +75,9 @@ module _ (rule : Rule) where
 
   -- what is outstanding then, also where nothing arrives
   pub takes-outstanding : (s : InFlight) (l : List Acknowledges)
-      → takes rule s l .outstanding ≡ keep (passesAll rule (s .next) l) (s .outstanding)
+      → takes rule s l .outstanding ≡ filter (passesAll rule (s .next) l) (s .outstanding)
   unfolding takes
-  takes-outstanding s [] = sym (all-kept (s .outstanding))
+  takes-outstanding s [] = sym (filter-all (s .outstanding))
   takes-outstanding s (a ∷ l) = ap (λ (x : InFlight). x .outstanding) (takes-at-once s a l)
 
   -- and snd_una, where something arrives

@@ -27,7 +27,7 @@ pub freed-reads : (a : Arrival) (r w ns r′ : List ℕ) (k : ℕ) → length r 
     → receivingOf (record { expected = moved .expected; tell = t; ready = moved .ready; waiting = moved .waiting; acks = moved .acks }) r″
     w″ ns″ acks ≡ afterRead (receivingOf a r w ns acks)
 unfolding afterRead
-freed-reads a r w ns r′ k e few front left moved r″ w″ ns″ ad t told acks q =
+freed-reads a r w ns r′ k e few front left moved r″ w″ ns″ ad t wanted acks q =
     let n : ℕ = a .ready in
     let dropped : heldOf (readyList r′ (n - k)) ≡ drop k (heldIn r n) =
     ready-view r′ (n - k) ∙ ap (map unpack) (front .list) ∙ sym (drop-map unpack k (take n r)) in
@@ -36,4 +36,4 @@ freed-reads a r w ns r′ k e few front left moved r″ w″ ns″ ad t told ack
     let ready = sym (ready-view r″ (moved .ready)) ∙ i .ready .list in
     let waits = sym (waiting-view w″ ns″ (moved .waiting)) ∙ i .waiting .list in
     let after = held-length r″ (moved .ready) (omega (arith, ad .whole .whole-ready, i .ready .fits)) in
-    rw (q, held-length r n (omega arith), ← i .next, ← ready, ← waits, after, told) refl
+    rw (q, held-length r n (omega arith), ← i .next, ← ready, ← waits, after, wanted) refl

@@ -86,7 +86,7 @@ pub fn advance(
 }
 
 // Whether a tell is wanted: it was, or 128 were ready and fewer are now.
-fn told(tell: u8, before: usize, after: usize) -> u8
+fn tell_after(tell: u8, before: usize, after: usize) -> u8
     ensures { λ r. ⌜ isSet r ≡ (isSet tell || (eqb before 128 && ltb after 128)) ⌝ }
 {
     if (before == 128) & (after < 128) {
@@ -120,7 +120,7 @@ pub fn freed(
     let moved = advance(left, ready, waiting, numbers);
     Arrival {
         expected: moved.expected,
-        tell: told(arrival.tell, n, moved.ready),
+        tell: tell_after(arrival.tell, n, moved.ready),
         ready: moved.ready,
         waiting: moved.waiting,
         acks: moved.acks,

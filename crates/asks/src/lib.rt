@@ -25,8 +25,7 @@ pub fn size(
     let flight = link.flight;
     let arrival = link.arrival;
     let clock = link.clock;
-    let words = link.outstanding;
-    let flown = gathering::fit(table, words, settings, flight);
+    let flown = gathering::fit(table, &link.outstanding, settings, flight);
     let lent = records::table_len(table);
     let size = read_core::size(
         settings,
@@ -66,8 +65,7 @@ pub fn show(
     let flight = link.flight;
     let arrival = link.arrival;
     let clock = link.clock;
-    let words = link.outstanding;
-    let flown = gathering::fit(table, words, settings, flight);
+    let flown = gathering::fit(table, &link.outstanding, settings, flight);
     let lent = records::table_len(table);
     let place = read_core::locate(
         settings,
@@ -107,10 +105,9 @@ pub fn check(
     let flight = link.flight;
     let arrival = link.arrival;
     let clock = link.clock;
-    let words = link.outstanding;
     let n = results::outstanding_count(flight);
     let mut records = record_words::none();
-    gathering::gather(table, words, n, &mut records);
+    gathering::gather(table, &link.outstanding, n, &mut records);
     let lent = records::table_len(table);
     let time = check_core::check(
         settings,

@@ -4,10 +4,10 @@ use answers::Count;
 use answers::Time;
 use answers::Update;
 use bench::Bench;
-use kept_calls::FlushedOut;
-use kept_calls::TakenIn;
-use kept_calls::UpdatedOut;
 use protocol::Settings;
+use value_calls::FlushedOut;
+use value_calls::TakenIn;
+use value_calls::UpdatedOut;
 ghost use mathlib.Core.Path.{_≡_};
 ghost use Rattle.bench_calls.specs.Fronts.{Front};
 ghost use Rattle.bench_calls.specs.BenchPromises.{after, afterOpen, BenchOpens, BenchSends, BenchTakesIn};
@@ -63,7 +63,7 @@ fn front_lengths(count: usize, part: &[u16]) -> usize
 }
 
 // The bench after an opening.
-fn after_open(bench: Bench, done: kept_calls::Answered) -> Answered
+fn after_open(bench: Bench, done: value_calls::Answered) -> Answered
     ensures { λ r. ⌜ r ≡ record { answer = done .answer; bench = afterOpen bench (done .answer) (done .link) } ⌝ }
 {
     let answer = done.answer;
@@ -80,7 +80,7 @@ fn after_open(bench: Bench, done: kept_calls::Answered) -> Answered
 }
 
 // The bench after a send.
-fn after_send(bench: Bench, done: kept_calls::Answered) -> Answered
+fn after_send(bench: Bench, done: value_calls::Answered) -> Answered
     ensures { λ r. ⌜ r ≡ record { answer = done .answer; bench = after bench (done .link) (bench .table) } ⌝ }
 {
     let answer = done.answer;
@@ -127,7 +127,7 @@ fn after_update(bench: Bench, done: UpdatedOut) -> Updated
 }
 
 // The bench after a read.
-fn after_read(bench: Bench, done: kept_calls::Counted) -> Counted
+fn after_read(bench: Bench, done: value_calls::Counted) -> Counted
     ensures { λ r. ⌜ r ≡ record { answer = done .answer; bench = after bench (done .link) (bench .table) } ⌝ }
 {
     let answer = done.answer;
@@ -150,7 +150,7 @@ pub fn open(
     let r = front(bench.lent.receive, receive_pool);
     let a = front_acks(bench.lent.acks, acks);
     let table = bench.table;
-    let done = kept_calls::open(
+    let done = value_calls::open(
         bench.link,
         settings,
         &send_pool[..s],
@@ -176,7 +176,7 @@ pub fn send(
     let r = front(bench.lent.receive, receive_pool);
     let a = front_acks(bench.lent.acks, acks);
     let table = bench.table;
-    let done = kept_calls::send(
+    let done = value_calls::send(
         bench.link,
         &mut send_pool[..s],
         &receive_pool[..r],
@@ -202,7 +202,7 @@ pub fn input(
     let r = front(bench.lent.receive, receive_pool);
     let a = front_acks(bench.lent.acks, acks);
     let table = bench.table;
-    let done = kept_calls::input(
+    let done = value_calls::input(
         bench.link,
         &send_pool[..s],
         &mut receive_pool[..r],
@@ -232,7 +232,7 @@ pub fn flush(
     let o = front(bench.lent.output, output);
     let l = front_lengths(bench.lent.lengths, lengths);
     let table = bench.table;
-    let done = kept_calls::flush(
+    let done = value_calls::flush(
         bench.link,
         &send_pool[..s],
         &receive_pool[..r],
@@ -264,7 +264,7 @@ pub fn update(
     let o = front(bench.lent.output, output);
     let l = front_lengths(bench.lent.lengths, lengths);
     let table = bench.table;
-    let done = kept_calls::update(
+    let done = value_calls::update(
         bench.link,
         &send_pool[..s],
         &receive_pool[..r],
@@ -295,7 +295,7 @@ pub fn read(
     let a = front_acks(bench.lent.acks, acks);
     let b = front(room, buffer);
     let table = bench.table;
-    let done = kept_calls::read(
+    let done = value_calls::read(
         bench.link,
         &send_pool[..s],
         &receive_pool[..r],
@@ -314,7 +314,7 @@ pub fn size(bench: Bench, send_pool: &[u8], receive_pool: &[u8], acks: &[u32]) -
     let r = front(bench.lent.receive, receive_pool);
     let a = front_acks(bench.lent.acks, acks);
     let table = bench.table;
-    kept_calls::size(
+    value_calls::size(
         bench.link,
         &send_pool[..s],
         &receive_pool[..r],
@@ -331,7 +331,7 @@ pub fn check(bench: Bench, send_pool: &[u8], receive_pool: &[u8], acks: &[u32], 
     let r = front(bench.lent.receive, receive_pool);
     let a = front_acks(bench.lent.acks, acks);
     let table = bench.table;
-    kept_calls::check(
+    value_calls::check(
         bench.link,
         &send_pool[..s],
         &receive_pool[..r],
@@ -350,7 +350,7 @@ pub fn show<'a>(bench: Bench, send_pool: &[u8], receive_pool: &'a [u8], acks: &[
     let r = front(bench.lent.receive, receive_pool);
     let a = front_acks(bench.lent.acks, acks);
     let table = bench.table;
-    kept_calls::show(
+    value_calls::show(
         bench.link,
         &send_pool[..s],
         &receive_pool[..r],

@@ -52,9 +52,9 @@ module _ (c : Settings) (accepted : List (List ℕ)) (n : ℕ) where
 
   -- ---- one push
 
-  hear-keeps : (p : Plain) (sn : ℕ) → Heard p → Heard (hear c accepted p sn)
+  hear-preserves : (p : Plain) (sn : ℕ) → Heard p → Heard (hear c accepted p sn)
   unfolding occurs
-  hear-keeps p sn h = go (ltb sn (nextExpected c accepted p + receiveWindow))
+  hear-preserves p sn h = go (ltb sn (nextExpected c accepted p + receiveWindow))
     where
       go : (b : Bool) → Heard (cond b (record { heard = sn ∷ p .heard; out = p .out }) p)
       go true = or-right (eqb n sn) (occurs n (p .heard)) h
@@ -80,16 +80,17 @@ module _ (c : Settings) (accepted : List (List ℕ)) (n : ℕ) where
 
   -- ---- the pushes of a datagram
 
-  feed-keeps : (sns : List ℕ) (p : Plain) → Heard p → Heard (feed c accepted p sns)
+  feed-preserves : (sns : List ℕ) (p : Plain) → Heard p → Heard (feed c accepted p sns)
   unfolding feed
-  feed-keeps [] p h = h
-  feed-keeps (sn ∷ sns) p h = feed-keeps sns (hear c accepted p sn) (hear-keeps p sn h)
+  feed-preserves [] p h = h
+  feed-preserves (sn ∷ sns) p h = feed-preserves sns (hear c accepted p sn) (hear-preserves p sn h)
 
   feed-hears : (sns : List ℕ) (p : Plain) → FedIn c accepted n p sns → Heard (feed c accepted p sns)
   unfolding feed FedIn
   feed-hears [] p h = absurd h
   feed-hears (sn ∷ sns) p h =
-      ⊎-elim (λ q. feed-keeps sns (hear c accepted p sn) (rw (q .0) (hear-below p (q .1)))) (λ q. feed-hears sns (hear c accepted p sn) q) h
+      ⊎-elim (λ q. feed-preserves sns (hear c accepted p sn) (rw (q .0) (hear-below p (q .1))))
+      (λ q. feed-hears sns (hear c accepted p sn) q) h
 
   feed-only : (sns : List ℕ) (p : Plain) → Heard (feed c accepted p sns) → Heard p ⊎ FedIn c accepted n p sns
   unfolding feed FedIn
@@ -99,21 +100,21 @@ module _ (c : Settings) (accepted : List (List ℕ)) (n : ℕ) where
 
   -- ---- lists of calls
 
-  after-keeps : (xs : List Call) (p : Plain) → Heard p → Heard (plainAfter c accepted p xs)
+  after-preserves : (xs : List Call) (p : Plain) → Heard p → Heard (plainAfter c accepted p xs)
   unfolding plainAfter
-  after-keeps [] p h = h
-  after-keeps (Call.takeIn d ∷ xs) p h = after-keeps xs _ (feed-keeps (pushesIn c d) p h)
-  after-keeps (Call.read room ∷ xs) p h = after-keeps xs _ (rw (leave-heard p (plainAnswer c accepted p room)) h)
-  after-keeps (Call.send m ∷ xs) p h = after-keeps xs p h
-  after-keeps (Call.flush t ∷ xs) p h = after-keeps xs p h
-  after-keeps (Call.update t ∷ xs) p h = after-keeps xs p h
-  after-keeps (Call.check t ∷ xs) p h = after-keeps xs p h
+  after-preserves [] p h = h
+  after-preserves (Call.takeIn d ∷ xs) p h = after-preserves xs _ (feed-preserves (pushesIn c d) p h)
+  after-preserves (Call.read room ∷ xs) p h = after-preserves xs _ (rw (leave-heard p (plainAnswer c accepted p room)) h)
+  after-preserves (Call.send m ∷ xs) p h = after-preserves xs p h
+  after-preserves (Call.flush t ∷ xs) p h = after-preserves xs p h
+  after-preserves (Call.update t ∷ xs) p h = after-preserves xs p h
+  after-preserves (Call.check t ∷ xs) p h = after-preserves xs p h
 
   pub fed-heard : (xs : List Call) (p : Plain) → FedBelow c accepted n p xs → Heard (plainAfter c accepted p xs)
   unfolding plainAfter FedBelow
   fed-heard [] p h = absurd h
   fed-heard (Call.takeIn d ∷ xs) p h =
-      ⊎-elim (λ q. after-keeps xs _ (feed-hears (pushesIn c d) p q)) (λ q. fed-heard xs _ q) h
+      ⊎-elim (λ q. after-preserves xs _ (feed-hears (pushesIn c d) p q)) (λ q. fed-heard xs _ q) h
   fed-heard (Call.read room ∷ xs) p h = fed-heard xs _ h
   fed-heard (Call.send m ∷ xs) p h = fed-heard xs p h
   fed-heard (Call.flush t ∷ xs) p h = fed-heard xs p h

@@ -10,7 +10,7 @@ use Rattle.protocol.specs.Protocol.{sendSlots}
 use Rattle.protocol.specs.Ranges.{mss, isStream}
 use Rattle.protocol.specs.declared.Settings.{Settings}
 use Rattle.datagram.specs.Datagrams.{Segment, Parsed, parse}
-use Rattle.lists.specs.Acknowledging.{keep}
+use Rattle.lists.specs.Acknowledging.{filter}
 use Rattle.session.specs.Slots.{usedBelow}
 use Rattle.session.specs.State.{State, Sending, sendHeld, slots}
 use Rattle.session.specs.Cutting.{segmentCount}
@@ -54,7 +54,7 @@ stationAccepted s (x ∷ xs) = fragmentsBy s x (step s x .answer) + stationAccep
 unfoldable pub acknowledgedByEach : Settings → ℕ → Sending → List Segment → ℕ
 acknowledgedByEach c current s [] = 0
 acknowledgedByEach c current s (g ∷ gs) =
-    length (keep (acknowledges (s .next) (g .header)) (s .outstanding))
+    length (filter (acknowledges (s .next) (g .header)) (s .outstanding))
     + acknowledgedByEach c current (heardBySending c current s (g .header)) gs
 
 abbrev pub acknowledgedByParsed : State → Parsed → ℕ

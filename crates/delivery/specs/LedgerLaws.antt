@@ -34,7 +34,7 @@ use Rattle.delivery.specs.Hearing.{Taken, CallFits}
 use Rattle.delivery.specs.Stations.{Opened}
 use Rattle.delivery.specs.Passing.{Passing, step-own}
 use Rattle.delivery.specs.PassingLaws.{history-first, after-first}
-use Rattle.session.specs.MapLaws.{map-kept}
+use Rattle.session.specs.MapLaws.{map-unchanged}
 use Rattle.delivery.specs.CallCases.{filling, cutting, placing, own-cases}
 use Rattle.delivery.specs.SendPool.{length-cut-as, place-count}
 use Rattle.delivery.specs.SendingHalf.{Half}
@@ -104,7 +104,7 @@ skipped-held s n = go (not (isBefore n (s .una)) && isBefore n (s .next))
   where
     go : (b : Bool) →
         held (cond b (withOutstanding s (s .una) (map (skipBefore n) (s .outstanding))) s) ≡ held s
-    go true = rw (map-kept (λ (x : Sent). x .held) (skipBefore n) (skip-held n) (s .outstanding))
+    go true = rw (map-unchanged (λ (x : Sent). x .held) (skipBefore n) (skip-held n) (s .outstanding))
     go false = refl
 
 skips-held : (s : Sending) (l : List ℕ) → held (skippedByAll s l) ≡ held s

@@ -50,7 +50,7 @@ pub record ReceivingFits (r : Receiving) : Type 0 where
   pub carries : CarryFits r
   pub waiting : All (λ (w : Waiting). w .number < 2 ^ 32) (r .waiting)
 
--- what every call keeps of the receiving half and its pool
+-- what every call preserves of the receiving half and its pool
 pub record ReceivingInOrder (c : Settings) (s : Station) : Type 0 where
   pub settings : s .state .settings ≡ c
   pub long : receiveSlots * mss c ≤ length (s .receivePool)

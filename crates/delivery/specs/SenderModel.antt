@@ -74,75 +74,75 @@ pub record Sends (m : ℕ) (pool : List ℕ) (pieces : List Piece) (s : Sending)
 -- ---- taking in changes neither the queue nor any segment
 
 module _ (P : Sent → Type 0) (skips : (n : ℕ) (x : Sent) → P x → P (skipBefore n x)) where
-  record Keeps (s s′ : Sending) : Type 0 where
+  record Preserves (s s′ : Sending) : Type 0 where
     next : s′ .next ≡ s .next
     queued : s′ .queued ≡ s .queued
     sent : All P (s .outstanding) → All P (s′ .outstanding)
 
-  both : (s s′ s″ : Sending) → Keeps s s′ → Keeps s′ s″ → Keeps s s″
+  both : (s s′ s″ : Sending) → Preserves s s′ → Preserves s′ s″ → Preserves s s″
   both s s′ s″ a b = record { next = b .next ∙ a .next; queued = b .queued ∙ a .queued; sent = λ h. b .sent (a .sent h) }
 
-  keeps-acknowledged : (arrival : Acknowledges) (s : Sending) → Keeps s (acknowledged arrival s)
+  preserves-acknowledged : (arrival : Acknowledges) (s : Sending) → Preserves s (acknowledged arrival s)
   unfolding acknowledged
-  keeps-acknowledged arrival s =
+  preserves-acknowledged arrival s =
       record {
         next = refl;
         queued = refl;
         sent = all-select (λ (x : Sent). not (acknowledging.acknowledged (s .next) arrival (x .record .number))) P (s .outstanding);
       }
 
-  keeps-sampled : (c : Settings) (current ts : ℕ) (s : Sending) → Keeps s (sampledBy c current ts s)
+  preserves-sampled : (c : Settings) (current ts : ℕ) (s : Sending) → Preserves s (sampledBy c current ts s)
   unfolding sampledBy
-  keeps-sampled c current ts s = record { next = refl; queued = refl; sent = λ h. h }
+  preserves-sampled c current ts s = record { next = refl; queued = refl; sent = λ h. h }
 
-  keeps-heard : (c : Settings) (current : ℕ) (s : Sending) (g : Header) → Keeps s (heardBySending c current s g)
+  preserves-heard : (c : Settings) (current : ℕ) (s : Sending) (g : Header) → Preserves s (heardBySending c current s g)
   unfolding heardBySending
-  keeps-heard c current s g = go (eqb (g .cmd) ack)
+  preserves-heard c current s g = go (eqb (g .cmd) ack)
     where
       passed : Sending
       passed = acknowledged (by.Una (g .una)) (withWindow (g .wnd) s)
 
-      first : Keeps s passed
+      first : Preserves s passed
       first = both s (withWindow (g .wnd) s) passed (record { next = refl; queued = refl; sent = λ h. h })
-          (keeps-acknowledged (by.Una (g .una)) (withWindow (g .wnd) s))
+          (preserves-acknowledged (by.Una (g .una)) (withWindow (g .wnd) s))
 
-      go : (b : Bool) → Keeps s (cond b (acknowledged (by.Ack (g .sn)) (sampledBy c current (g .ts) passed)) passed)
+      go : (b : Bool) → Preserves s (cond b (acknowledged (by.Ack (g .sn)) (sampledBy c current (g .ts) passed)) passed)
       go true =
           both s (sampledBy c current (g .ts) passed) (acknowledged (by.Ack (g .sn)) (sampledBy c current (g .ts) passed))
-          (both s passed (sampledBy c current (g .ts) passed) first (keeps-sampled c current (g .ts) passed))
-          (keeps-acknowledged (by.Ack (g .sn)) (sampledBy c current (g .ts) passed))
+          (both s passed (sampledBy c current (g .ts) passed) first (preserves-sampled c current (g .ts) passed))
+          (preserves-acknowledged (by.Ack (g .sn)) (sampledBy c current (g .ts) passed))
       go false = first
 
-  keeps-all : (c : Settings) (current : ℕ) (s : Sending) (gs : List Segment) → Keeps s (allBySending c current s gs)
+  preserves-all : (c : Settings) (current : ℕ) (s : Sending) (gs : List Segment) → Preserves s (allBySending c current s gs)
   unfolding allBySending
-  keeps-all c current s [] = record { next = refl; queued = refl; sent = λ h. h }
-  keeps-all c current s (g ∷ gs) =
+  preserves-all c current s [] = record { next = refl; queued = refl; sent = λ h. h }
+  preserves-all c current s (g ∷ gs) =
       both s (heardBySending c current s (g .header)) (allBySending c current (heardBySending c current s (g .header)) gs)
-      (keeps-heard c current s (g .header))
-      (keeps-all c current (heardBySending c current s (g .header)) gs)
+      (preserves-heard c current s (g .header))
+      (preserves-all c current (heardBySending c current s (g .header)) gs)
 
   all-skip : (n : ℕ) (l : List Sent) → All P l → All P (map (skipBefore n) l)
   all-skip n [] a = tt
   all-skip n (x ∷ l) a = (skips n x (a .0), all-skip n l (a .1))
 
-  keeps-skipped : (s : Sending) (n : ℕ) → Keeps s (skipped s n)
+  preserves-skipped : (s : Sending) (n : ℕ) → Preserves s (skipped s n)
   unfolding skipped
-  keeps-skipped s n = go (not (isBefore n (s .una)) && isBefore n (s .next))
+  preserves-skipped s n = go (not (isBefore n (s .una)) && isBefore n (s .next))
     where
       go : (b : Bool) →
-          Keeps s (cond b (withOutstanding s (s .una) (map (skipBefore n) (s .outstanding))) s)
+          Preserves s (cond b (withOutstanding s (s .una) (map (skipBefore n) (s .outstanding))) s)
       go true = record { next = refl; queued = refl; sent = all-skip n (s .outstanding) }
       go false = record { next = refl; queued = refl; sent = λ h. h }
 
-  keeps-skips : (s : Sending) (l : List ℕ) → Keeps s (skippedByAll s l)
-  keeps-skips s [] = record { next = refl; queued = refl; sent = λ h. h }
-  keeps-skips s (n ∷ l) = keeps-skipped s (furthest n l)
+  preserves-skips : (s : Sending) (l : List ℕ) → Preserves s (skippedByAll s l)
+  preserves-skips s [] = record { next = refl; queued = refl; sent = λ h. h }
+  preserves-skips s (n ∷ l) = preserves-skipped s (furthest n l)
 
-  keeps-taken : (c : Settings) (current : ℕ) (s : Sending) (gs : List Segment) (l : List ℕ)
-      → Keeps s (skippedByAll (allBySending c current s gs) l)
-  keeps-taken c current s gs l =
-      both s (allBySending c current s gs) (skippedByAll (allBySending c current s gs) l) (keeps-all c current s gs)
-      (keeps-skips (allBySending c current s gs) l)
+  preserves-taken : (c : Settings) (current : ℕ) (s : Sending) (gs : List Segment) (l : List ℕ)
+      → Preserves s (skippedByAll (allBySending c current s gs) l)
+  preserves-taken c current s gs l =
+      both s (allBySending c current s gs) (skippedByAll (allBySending c current s gs) l) (preserves-all c current s gs)
+      (preserves-skips (allBySending c current s gs) l)
 
 skip-shows : (m : ℕ) (pool : List ℕ) (pieces : List Piece) (n : ℕ) (x : Sent) → Shows m pool pieces x → Shows m pool pieces (skipBefore n x)
 skip-shows m pool pieces n x h =
@@ -153,13 +153,13 @@ pub sends-taken : (m : ℕ) (pool : List ℕ) (pieces : List Piece) (c : Setting
     Sends m pool pieces s →
     Sends m pool pieces (skippedByAll (allBySending c current s gs) l)
 sends-taken m pool pieces c current s gs l h =
-    let k = keeps-taken (Shows m pool pieces) (skip-shows m pool pieces) c current s gs l in
+    let k = preserves-taken (Shows m pool pieces) (skip-shows m pool pieces) c current s gs l in
     record { low = rw (k .next) (h .low); counts = rw (k .next) (h .counts); sent = k .sent (h .sent) }
 
--- taking in keeps snd_nxt and the queue
+-- taking in preserves snd_nxt and the queue
 pub taken-same : (c : Settings) (current : ℕ) (s : Sending) (gs : List Segment) (l : List ℕ) →
     (skippedByAll (allBySending c current s gs) l .next ≡ s .next) × (skippedByAll (allBySending c current s gs) l .queued ≡ s .queued)
-taken-same c current s gs l = let k = keeps-taken (λ (x : Sent). Unit {0}) (λ n x h. h) c current s gs l in (k .next, k .queued)
+taken-same c current s gs l = let k = preserves-taken (λ (x : Sent). Unit {0}) (λ n x h. h) c current s gs l in (k .next, k .queued)
 
 -- ---- sending
 

@@ -27,7 +27,7 @@ use Rattle.session.specs.Flushing.{numberedAs, numbered, windowOf, numberedCoun
 use Rattle.session.specs.Decides.{All}
 use Rattle.session.specs.AllLaws.{all-append}
 use Rattle.session.specs.MapLaws.{map-append}
-use Rattle.session.specs.RuleLaws.{sentAfter, after-each, after-kept}
+use Rattle.session.specs.RuleLaws.{sentAfter, after-each, after-unchanged}
 use Rattle.session.specs.SendOrder.{numbers-mapped, numbers-more}
 use Rattle.delivery.specs.SendingHalf.{SentWell, Half, all-map}
 
@@ -88,7 +88,7 @@ module _ (c : Settings) (t k : ℕ) (s : Sending) (few : k ≤ length (s .queued
   unfolding withNumbered
   flushed-held =
       ap (λ (l : List Held). l ++ drop k (s .queued))
-      (after-kept c link t (λ (x : Sent). x .held) (λ x. refl) (s .outstanding ++ numbered (s .next) (take k (s .queued)))
+      (after-unchanged c link t (λ (x : Sent). x .held) (λ x. refl) (s .outstanding ++ numbered (s .next) (take k (s .queued)))
       ∙ map-append (λ (x : Sent). x .held) (s .outstanding) (numbered (s .next) (take k (s .queued)))
       ∙ ap (λ (l : List Held). map (λ (x : Sent). x .held) (s .outstanding) ++ l) (numbered-held (s .next) (take k (s .queued))))
       ∙ append-assoc (map (λ (x : Sent). x .held) (s .outstanding)) (take k (s .queued)) (drop k (s .queued))

@@ -65,7 +65,7 @@ own-send-pool s =
     (λ t. refl)
     (λ t. refl)
 
--- ---- what is kept
+-- ---- what is preserved
 
 pub record SendingInOrder (c : Settings) (s : Station) : Type 0 where
   pub settings : s .state .settings ≡ c

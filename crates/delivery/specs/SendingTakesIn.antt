@@ -25,7 +25,7 @@ use Rattle.lists.specs.Acknowledging.{select, firstNumberOr, oneSkip, skipBefor
 use Rattle.session.specs.State.{Sending, withWindow, withOutstanding}
 use Rattle.session.specs.Input.{acknowledged, sampledBy, heardBySending, allBySending, furthest, skipped, skippedByAll}
 use Rattle.session.specs.Decides.{All}
-use Rattle.session.specs.MapLaws.{map-kept}
+use Rattle.session.specs.MapLaws.{map-unchanged}
 use Rattle.session.specs.SendOrder.{NumberFits, numbers-select, numbers-mapped}
 use Rattle.session.specs.AllLaws.{all-select}
 use Rattle.delivery.specs.SendingHalf.{SentWell, Half, numbers-fit, held-select, all-map}
@@ -148,7 +148,7 @@ module _ (c : Settings) where
 
       go : (b : Bool) → Half c (cond b more s)
       go true = record {
-        held = rw (map-kept (λ (x : Sent). x .held) (skipBefore n) (skip-held n) (s .outstanding)) (h .held);
+        held = rw (map-unchanged (λ (x : Sent). x .held) (skipBefore n) (skip-held n) (s .outstanding)) (h .held);
         numbers = numbers-mapped (skipBefore n) (skip-number n) (s .una) (s .next) (s .outstanding) (h .numbers);
         sent = all-map (SentWell (c .mode)) (skipBefore n) (skip-well n (c .mode)) (s .outstanding) (h .sent);
         roundTrip = h .roundTrip;

@@ -19,9 +19,9 @@ use Rattle.delivery.specs.Hearing.{CallFits}
 use Rattle.demands.specs.Steps.{Endpoint, Runs, start, next, SinceOpening}
 use Rattle.demands.specs.Stations.{stationOf}
 use Rattle.demands.specs.Claims.{ShortBuffer, Passes, Each}
-use Rattle.demands.specs.Simulation.{Kept, is-made, is-long, own-call, kept-call}
+use Rattle.demands.specs.Simulation.{Preserved, is-made, is-long, own-call, preserved-call}
 use Rattle.demands.specs.RefusalLaws.{ShortRead, own-passes}
-use Rattle.demands.specs.RunLaws.{opens-kept, taken, since-opening}
+use Rattle.demands.specs.RunLaws.{opens-preserved, taken, since-opening}
 
 -- what is asked of each call
 abbrev pub Answered : Endpoint → Call → Reply → Type 0
@@ -34,7 +34,7 @@ unfolding tellsWith
 tells-size e long made = rw (long, made)
 
 module _ (c : Settings) (range : inRange c ≡ true) (conv : c .conv < 2 ^ 32) where
-  short-buffer : (e : Endpoint) → Kept c e → (x : Call) → ShortRead (stationOf e) x → ShortBuffer e x
+  short-buffer : (e : Endpoint) → Preserved c e → (x : Call) → ShortRead (stationOf e) x → ShortBuffer e x
   short-buffer e k (Call.read room) h =
       let answer = sym (tells-size e (is-long c range conv e k) (is-made c range conv e k) ∙ h .0) in
       let size = messageSize (stateIn (e .link) (e .parts) .receiving) in
@@ -45,23 +45,23 @@ module _ (c : Settings) (range : inRange c ≡ true) (conv : c .conv < 2 ^ 32) w
   short-buffer e k (Call.update t) h = h
   short-buffer e k (Call.check t) h = h
 
-  answered : (e : Endpoint) (k : Kept c e) (x : Call) (a : Reply) → own (stationOf e) x .answer ≡ a → Answered e x a
+  answered : (e : Endpoint) (k : Preserved c e) (x : Call) (a : Reply) → own (stationOf e) x .answer ≡ a → Answered e x a
   answered e k x a q =
       let p : Passes (ShortRead (stationOf e) x) a = rw q at (own-passes (stationOf e) x) in
       record { made = p .made; lent = λ h. short-buffer e k x (p .lent h) }
 
-  each-answered : {e e′ : Endpoint} {xs : List Call} {events : List Event} (r : Runs e xs events e′) → All CallFits xs → Kept c e
+  each-answered : {e e′ : Endpoint} {xs : List Call} {events : List Event} (r : Runs e xs events e′) → All CallFits xs → Preserved c e
       → Each Answered r
   each-answered start fits k = tt
   each-answered (next e x a e′ h r) fits k = (
     answered e k x a (own-call c range conv e k x a e′ (fits .0) h .answer),
-    each-answered r (fits .1) (kept-call c range conv e k x a e′ (fits .0) h),
+    each-answered r (fits .1) (preserved-call c range conv e k x a e′ (fits .0) h),
   )
 
 -- each call of any list passes the checks of 7 and 13, and so does the block that they leave
 pub always-valid : (c : Settings) (calls : List Call) (events : List Event) (e : Endpoint) (h : SinceOpening c calls events e)
     → Each Answered (h .runs) × (isMade (e .link) (e .parts) ≡ true)
 always-valid c calls events e h = (
-  each-answered c (taken h .range) (h .conv) (h .runs) (h .fits) (opens-kept c (h .first) (h .opens)),
-  is-made c (taken h .range) (h .conv) e (since-opening h .kept),
+  each-answered c (taken h .range) (h .conv) (h .runs) (h .fits) (opens-preserved c (h .first) (h .opens)),
+  is-made c (taken h .range) (h .conv) e (since-opening h .preserved),
 )

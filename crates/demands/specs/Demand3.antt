@@ -42,7 +42,8 @@ receives {c} {calls} {events} {e} accepted h r =
       nothing = λ room a next.
           r .nothing room a
           (subst (λ (s : Station). step s (Call.read room) .answer ≡ a) (f .now)
-          (ap (λ (y : Stepped). y .answer) (step-call c (taken h .range) (h .conv) e (f .kept) (Call.read room) a (next .0) tt (next .1))));
+          (ap (λ (y : Stepped). y .answer) (step-call c (taken h .range) (h .conv) e (f .preserved) (Call.read room) a (next .0) tt
+          (next .1))));
       next-expected = ap (λ (s : Station). s .state .receiving .next) (f .now) ∙ r .next-expected;
     }
 

@@ -21,29 +21,29 @@ use Rattle.delivery.specs.LedgerLaws as station-laws
 use Rattle.demands.specs.Steps.{Endpoint, Runs, start, next, SinceOpening}
 use Rattle.demands.specs.Stations.{stationOf}
 use Rattle.demands.specs.Claims.{segmentsAcknowledged, fragmentsAccepted}
-use Rattle.demands.specs.Simulation.{Kept, kept-call, step-call}
-use Rattle.demands.specs.RunLaws.{opens-station, opens-kept, taken, since-opening}
+use Rattle.demands.specs.Simulation.{Preserved, preserved-call, step-call}
+use Rattle.demands.specs.RunLaws.{opens-station, opens-preserved, taken, since-opening}
 
 -- what the calls acknowledge is what the station's do
 acknowledged-same : (c : Settings) → inRange c ≡ true → c .conv < 2 ^ 32
-    → {e e′ : Endpoint} {xs : List Call} {events : List Event} (r : Runs e xs events e′) → All CallFits xs → Kept c e
+    → {e e′ : Endpoint} {xs : List Call} {events : List Event} (r : Runs e xs events e′) → All CallFits xs → Preserved c e
     → segmentsAcknowledged r ≡ station.stationAcknowledged (stationOf e) xs
 unfolding segmentsAcknowledged station.stationAcknowledged
 acknowledged-same c range conv start fits k = refl
 acknowledged-same c range conv (next e x a e′ h r) fits k =
     rw (
       step-call c range conv e k x a e′ (fits .0) h,
-      acknowledged-same c range conv r (fits .1) (kept-call c range conv e k x a e′ (fits .0) h),
+      acknowledged-same c range conv r (fits .1) (preserved-call c range conv e k x a e′ (fits .0) h),
     )
 
 -- what they accept is what the station's do
 accepted-same : (c : Settings) → inRange c ≡ true → c .conv < 2 ^ 32 →
-    {e e′ : Endpoint} {xs : List Call} {events : List Event} (r : Runs e xs events e′) → All CallFits xs → Kept c e
+    {e e′ : Endpoint} {xs : List Call} {events : List Event} (r : Runs e xs events e′) → All CallFits xs → Preserved c e
     → fragmentsAccepted r ≡ station.stationAccepted (stationOf e) xs
 unfolding fragmentsAccepted station.stationAccepted
 accepted-same c range conv start fits k = refl
 accepted-same c range conv (next e x a e′ h r) fits k =
-    let k′ = kept-call c range conv e k x a e′ (fits .0) h in
+    let k′ = preserved-call c range conv e k x a e′ (fits .0) h in
     rw (step-call c range conv e k x a e′ (fits .0) h, accepted-same c range conv r (fits .1) k′)
 
 module _ (c : Settings) (calls : List Call) (events : List Event) (e : Endpoint) (h : SinceOpening c calls events e) where
@@ -51,10 +51,10 @@ module _ (c : Settings) (calls : List Call) (events : List Event) (e : Endpoint)
   ledger =
       let s : Station = stationOf (h .first) in
       let o = opens-station c (h .first) (h .opens) in
-      let kept = opens-kept c (h .first) (h .opens) in
+      let preserved = opens-preserved c (h .first) (h .opens) in
       rw (
-        acknowledged-same c (taken h .range) (h .conv) (h .runs) (h .fits) kept,
-        accepted-same c (taken h .range) (h .conv) (h .runs) (h .fits) kept,
+        acknowledged-same c (taken h .range) (h .conv) (h .runs) (h .fits) preserved,
+        accepted-same c (taken h .range) (h .conv) (h .runs) (h .fits) preserved,
         ap (λ (x : Station). x .state .sending) (since-opening h .now),
       )
       (station-laws.station-ledger c (taken h) s o calls (h .fits) (station-always-valid c (taken h) s o calls (h .fits) .0))
@@ -68,8 +68,8 @@ module _ (c : Settings) (calls : List Call) (events : List Event) (e : Endpoint)
   fragments-of-messages off =
       let s : Station = stationOf (h .first) in
       let o = opens-station c (h .first) (h .opens) in
-      let kept = opens-kept c (h .first) (h .opens) in
-      accepted-same c (taken h .range) (h .conv) (h .runs) (h .fits) kept
-      ∙ station-laws.station-messages c off calls s (kept .order .sends .settings)
+      let preserved = opens-preserved c (h .first) (h .opens) in
+      accepted-same c (taken h .range) (h .conv) (h .runs) (h .fits) preserved
+      ∙ station-laws.station-messages c off calls s (preserved .order .sends .settings)
       (station-always-valid c (taken h) s o calls (h .fits) .0)
       ∙ ap (λ (l : List Event). segmentsOf (mss c) (acceptedList l)) (sym (since-opening h .events-are))

@@ -3,8 +3,8 @@ pub mod Stations
 pub mod Claims
 pub mod OutputLaws
 pub mod CountLaws
-pub mod Told
-pub mod ToldLaws
+pub mod Relations
+pub mod RelationLaws
 pub mod Simulation
 pub mod RunLaws
 pub mod RefusalLaws

@@ -122,14 +122,14 @@ is-given n k true false e = absurd (let z : _≡_ {A = ℕ} 0 1 = cc in omega ar
 is-given n k true true e = (refl, refl, cc)
 
 -- what a check that is not refused tells of the block
-record Told (now n : ℕ) (e : Endpoint) : Type 0 where
+record Named (now n : ℕ) (e : Endpoint) : Type 0 where
   long : enough (mss (e .link .settings)) (lengthsOf (e .parts)) ≡ true
   made : isMade (e .link) (e .parts) ≡ true
   named : n ≡ checking (stateIn (e .link) (e .parts)) now
 
-told : (now n : ℕ) (e : Endpoint) → CheckPromise now (e .link) (e .parts) (time.At n) → Told now n e
+named-by : (now n : ℕ) (e : Endpoint) → CheckPromise now (e .link) (e .parts) (time.At n) → Named now n e
 unfolding checksWith
-told now n e h =
+named-by now n e h =
     let g =
     is-given n (checking (stateIn (e .link) (e .parts)) now) (enough (mss (e .link .settings)) (lengthsOf (e .parts)))
     (isMade (e .link) (e .parts)) (h .answer) in
@@ -172,7 +172,7 @@ module _ (e : Endpoint) (now : ℕ) (f : Fits (stateIn (e .link) (e .parts))) (h
 module _ (e : Endpoint) (now named : ℕ) (f : Fits (stateIn (e .link) (e .parts))) (hn : now < 2 ^ 32)
     (check : CheckPromise now (e .link) (e .parts) (time.At named)) where
   is-named : named ≡ checking (stateIn (e .link) (e .parts)) now
-  is-named = told now named e check .named
+  is-named = named-by now named e check .named
 
   -- FROM NOW UNTIL JUST BEFORE THE NAMED TIME, with no call but such updates, no update flushes and no segment falls due
   pub stays-quiet : (ts : List ℕ) (given : List Update) (e′ : Endpoint) → All (Within now named) ts → Updates e ts given e′
@@ -195,7 +195,7 @@ module _ (e : Endpoint) (now named : ℕ) (f : Fits (stateIn (e .link) (e .parts
       → FlushesAt named e
   unfolding updatesWith updating
   flushes-at q a e′ f f′ lent h =
-      let p = told now named e check in
+      let p = named-by now named e check in
       let room =
       long-flush (mss (e .link .settings)) (lengthsOf (e .parts)) (length (f .output)) (length (f .lengths)) (p .long) (lent .long)
       (lent .many) in
@@ -220,7 +220,7 @@ module _ (e : Endpoint) (now named : ℕ) (f : Fits (stateIn (e .link) (e .parts
 module _ {c : Settings} {calls : List Call} {events : List Event} {e : Endpoint} (h : SinceOpening c calls events e) where
   pub fits-since : Fits (stateIn (e .link) (e .parts))
   fits-since =
-      let o = since-opening h .kept .order in
+      let o = since-opening h .preserved .order in
       record {
         next = o .next-flush;
         dues = all-weaker (λ (x : Sent). RecordFits (x .record)) (λ (x : Sent). x .record .due < 2 ^ 32) (λ x r. r .due)

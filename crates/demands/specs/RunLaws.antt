@@ -26,7 +26,7 @@ use Rattle.delivery.specs.Stations.{Opened}
 use Rattle.delivery.specs.AlwaysValid.{opened-all}
 use Rattle.demands.specs.Steps.{Endpoint, Runs, start, next, Opens, SinceOpening}
 use Rattle.demands.specs.Stations.{stationOf}
-use Rattle.demands.specs.Simulation.{Kept, long-flush, kept-call, step-call}
+use Rattle.demands.specs.Simulation.{Preserved, long-flush, preserved-call, step-call}
 
 -- ---- opening
 
@@ -69,8 +69,8 @@ module _ (c : Settings) (e : Endpoint) (o : Opens c e) where
     long = long-flush (mss c) (lengthsOf (e .parts)) outputLeast lengthsLeast (is-fresh .long) (omega arith) (omega arith);
   }
 
-  pub opens-kept : Kept c e
-  opens-kept = record { counts = is-fresh .counts; order = opened-all c (stationOf e) opens-station }
+  pub opens-preserved : Preserved c e
+  opens-preserved = record { counts = is-fresh .counts; order = opened-all c (stationOf e) opens-station }
 
 -- ---- lists of calls
 
@@ -78,17 +78,17 @@ module _ (c : Settings) (e : Endpoint) (o : Opens c e) where
 pub record Follows (c : Settings) (e : Endpoint) (xs : List Call) (events : List Event) (e′ : Endpoint) : Type 0 where
   pub events-are : events ≡ history (stationOf e) xs
   pub now : stationOf e′ ≡ after (stationOf e) xs
-  pub kept : Kept c e′
+  pub preserved : Preserved c e′
 
 module _ (c : Settings) (range : inRange c ≡ true) (conv : c .conv < 2 ^ 32) where
-  pub follows : {e e′ : Endpoint} {xs : List Call} {events : List Event} → Runs e xs events e′ → All CallFits xs → Kept c e
+  pub follows : {e e′ : Endpoint} {xs : List Call} {events : List Event} → Runs e xs events e′ → All CallFits xs → Preserved c e
       → Follows c e xs events e′
   unfolding history after
-  follows start fits k = record { events-are = refl; now = refl; kept = k }
+  follows start fits k = record { events-are = refl; now = refl; preserved = k }
   follows (next e x a e′ h r) fits k =
       let s = step-call c range conv e k x a e′ (fits .0) h in
-      let f = follows r (fits .1) (kept-call c range conv e k x a e′ (fits .0) h) in
-      record { events-are = rw (s, f .events-are); now = rw s (f .now); kept = f .kept }
+      let f = follows r (fits .1) (preserved-call c range conv e k x a e′ (fits .0) h) in
+      record { events-are = rw (s, f .events-are); now = rw s (f .now); preserved = f .preserved }
 
 -- ---- since opening
 
@@ -97,4 +97,4 @@ module _ {c : Settings} {calls : List Call} {events : List Event} {e : Endpoint}
   taken = record { range = opens-range c (h .first) (h .opens); conv = h .conv }
 
   pub since-opening : Follows c (h .first) calls events e
-  since-opening = follows c (taken .range) (h .conv) (h .runs) (h .fits) (opens-kept c (h .first) (h .opens))
+  since-opening = follows c (taken .range) (h .conv) (h .runs) (h .fits) (opens-preserved c (h .first) (h .opens))

@@ -250,11 +250,11 @@ flushes-own e t f long made = rw (long, made)
 -- ---- any call of an endpoint in order
 
 -- an endpoint that opening and calls leave: its counts are within the arrays, and its station is in order
-pub record Kept (c : Settings) (e : Endpoint) : Type 0 where
+pub record Preserved (c : Settings) (e : Endpoint) : Type 0 where
   pub counts : countsFit (e .link) ≡ true
   pub order : InOrder c (stationOf e)
 
-module _ (c : Settings) (range : inRange c ≡ true) (conv : c .conv < 2 ^ 32) (e : Endpoint) (k : Kept c e) where
+module _ (c : Settings) (range : inRange c ≡ true) (conv : c .conv < 2 ^ 32) (e : Endpoint) (k : Preserved c e) where
   is-valid : valid (stationOf e .state) ≡ true
   is-valid = in-order-valid c range (stationOf e) (k .order)
 
@@ -336,8 +336,8 @@ module _ (c : Settings) (range : inRange c ≡ true) (conv : c .conv < 2 ^ 32) (
       (reading-fits (stateIn (e .link) (e .parts)) (e .parts .receivePool) (length (h .buffer))))
 
   -- and it leaves an endpoint in order
-  pub kept-call : (x : Call) (a : Reply) (e′ : Endpoint) → CallFits x → Called e x a e′ → Kept c e′
-  kept-call x a e′ f h =
+  pub preserved-call : (x : Call) (a : Reply) (e′ : Endpoint) → CallFits x → Called e x a e′ → Preserved c e′
+  preserved-call x a e′ f h =
       let b = own-call x a e′ f h in
       record { counts = b .counts; order = rw (b .station) at (in-order-stays c range (stationOf e) x f (k .order)) }
 

@@ -15,7 +15,7 @@ use Rattle.schedule.specs.ScheduleLaws.{
   either,
   due-by,
   corrected-astray,
-  corrected-kept,
+  corrected-unchanged,
   started-made,
   started-first,
   near,
@@ -35,7 +35,7 @@ use Rattle.promises.specs.Parts.{Parts, FlushParts, lengthsOf, stateIn, isMade}
 use Rattle.promises.specs.Outcomes.{checked, updatesWith}
 use Rattle.promises.specs.Answers.{updateAnswer}
 use Rattle.promises.specs.Promises.{UpdateLeaves, UpdatePromise}
-use Rattle.demands.specs.Told.{AsFlush, CurrentAlone, Treated}
+use Rattle.demands.specs.Relations.{AsFlush, CurrentAlone, Treated}
 
 -- ---- of a schedule: one that does not flush stays as it is
 
@@ -54,10 +54,10 @@ module _ (s : Schedule) (now interval : ℕ) (hn : now < 2 ^ 32) where
           → record { next = next; made = true } ≡ s
       go m (inl a) = absurd (true≢false (sym (now-due (corrected-astray now (started s now) a)) ∙ e))
       go (inl m) (inr a) =
-          let same : next ≡ s .next = corrected-kept now (started s now) a ∙ started-made s now m in
+          let same : next ≡ s .next = corrected-unchanged now (started s now) a ∙ started-made s now m in
           λ i. record { next = same i; made = sym m i }
       go (inr m) (inr a) =
-          absurd (true≢false (sym (now-due (corrected-kept now (started s now) a ∙ started-first s now m)) ∙ e))
+          absurd (true≢false (sym (now-due (corrected-unchanged now (started s now) a ∙ started-first s now m)) ∙ e))
 
   pub waiting-stays : updated s now interval .flushes ≡ false → updated s now interval .schedule ≡ s
   waiting-stays f = go (either (isDue now next))

@@ -84,7 +84,7 @@ pub record PartsOf (s : State) (stream : Bool) (m : ℕ) (queued : List ℕ) (n 
   pub free : Free marks (slots (sendHeld (s .sending))) 0
 
 -- a refusal: its number alone, the list and the pool as they were
-pub record Kept (r : Refusal) (before : List ℕ) (n : ℕ) (pool : List ℕ) (e : Enqueued) (after pool′ : List ℕ) : Type 0 where
+pub record Unchanged (r : Refusal) (before : List ℕ) (n : ℕ) (pool : List ℕ) (e : Enqueued) (after pool′ : List ℕ) : Type 0 where
   pub answer : e .answer ≡ Refused r
   pub count : e .queued ≡ n
   pub list : after ≡ before
@@ -100,5 +100,5 @@ pub record Queued (x : Sends) (e : Enqueued) (after pool′ : List ℕ) : Type 0
 
 -- what sending gives
 abbrev pub Follows : Outcome Sends → List ℕ → ℕ → List ℕ → Enqueued → List ℕ → List ℕ → Type 0
-Follows (refused r) before n pool e after pool′ = Kept r before n pool e after pool′
+Follows (refused r) before n pool e after pool′ = Unchanged r before n pool e after pool′
 Follows (done x) before n pool e after pool′ = Queued x e after pool′

@@ -30,7 +30,7 @@ use Rattle.promises.specs.Cores.{NoFlush}
 use Rattle.answers.specs.declared.Count.the-variants as count
 use Rattle.answers.specs.declared.Update.the-variants as update
 use Rattle.flush_core.specs.declared.Flushed.{Flushed}
-use Rattle.flush_core.specs.Flushes.{Flushable, putBack, keptOf, Runs, Core}
+use Rattle.flush_core.specs.Flushes.{Flushable, putBack, unflushedOf, Runs, Core}
 
 module _ (c : Settings) (f : Flight) (a : Arrival) (k : Clock) (x : Arrays) (records : List ℕ) (table : ℕ)
     (sendPool receivePool acks out lengths : List ℕ) (long : Bool) (v : Verdict)
@@ -77,19 +77,19 @@ module _ (c : Settings) (f : Flight) (a : Arrival) (k : Clock) (x : Arrays) (rec
 
   -- one failed
   module _ (q : Refusal) (p : v ≡ Refused q) (t : ℕ) (r : Flushed)
-      (w : r ≡ keptOf (update.Refused q) f a k) (records′ : List Record) where
+      (w : r ≡ unflushedOf (update.Refused q) f a k) (records′ : List Record) where
     abbrev after : Link
     after = linkOf c (r .flight) (r .arrival) (r .clock) x
 
     nothing : NoFlush q block out lengths (count.Refused q) after (putBack (x .outstanding) (r .changed) records′) out lengths
     nothing = rw w (record { answer = refl; link = refl; puts = refl; output = refl; sizes = refl })
 
-    pub kept : (paced : Bool)
+    pub unflushed : (paced : Bool)
         → Core paced block (recordsIn records) table sendPool receivePool acks t out lengths r after records′ out lengths
     unfolding flushesWith updatesWith
-    kept false = (
+    unflushed false = (
       count.Refused q,
       ap (λ (y : Flushed). y .answer) w,
       rw (← e, refused-by _ long (blockValid block (recordsIn records) acks) v q d p) nothing,
     )
-    kept true = rw (← e, refused-by _ long (blockValid block (recordsIn records) acks) v q d p) (ap (λ (y : Flushed). y .answer) w, nothing)
+    unflushed true = rw (← e, refused-by _ long (blockValid block (recordsIn records) acks) v q d p) (ap (λ (y : Flushed). y .answer) w, nothing)

@@ -22,7 +22,7 @@ use Rattle.control.specs.Views.{isSet, Arrays, linkOf, scheduleOf, stateOf, cou
 use Rattle.flush_core.specs.declared.Flushed.{Flushed}
 use Rattle.flush_core.specs.declared.parts.Step.{Step}
 use Rattle.flush_core.specs.Parts.{Moved, Steps, currentOf}
-use Rattle.flush_core.specs.Flushes.{keptOf, Wrote, Runs}
+use Rattle.flush_core.specs.Flushes.{unflushedOf, Wrote, Runs}
 
 module _ (c : Settings) (f : Flight) (a : Arrival) (k : Clock) (x : Arrays) (records : List Record) (acks : List ℕ)
     (t : ℕ) (pool out lengths : List ℕ) (s : Step) where
@@ -53,9 +53,9 @@ module _ (c : Settings) (f : Flight) (a : Arrival) (k : Clock) (x : Arrays) (rec
         dead = isSet ((ap (λ (y : Clock). y .dead) e ∙ ap (λ (y : Clock). y .dead) (steps .is)) i);
       }
 
-  told : Moved k t (c .interval) s → s .flushes ≡ next .flushes
+  decided : Moved k t (c .interval) s → s .flushes ≡ next .flushes
   unfolding stateOf
-  told steps = steps .flushes
+  decided steps = steps .flushes
 
   module _ (x′ : Arrays) (records′ : List Record) (out′ lengths′ : List ℕ) (r : Flushed) where
     abbrev after : Link
@@ -69,13 +69,13 @@ module _ (c : Settings) (f : Flight) (a : Arrival) (k : Clock) (x : Arrays) (rec
     flushed true steps e h =
         let same : s .clock ≡ currentOf (s .clock) (k .current) = ap (λ (y : Clock). currentOf (s .clock) (y .current)) (steps .is) in
         let q = rw (moved steps (s .clock) (k .current) same) at h in
-        rw (sym (told steps) ∙ e) q
+        rw (sym (decided steps) ∙ e) q
 
   pub waited : (paced : Bool) → Steps paced k t (c .interval) s → s .flushes ≡ false → counted f a ≡ true
-      → (k′ : Clock) → k′ ≡ currentOf (s .clock) t → (r : Flushed) → r ≡ keptOf Waited f a k′ → (records′ : List Record)
+      → (k′ : Clock) → k′ ≡ currentOf (s .clock) t → (r : Flushed) → r ≡ unflushedOf Waited f a k′ → (records′ : List Record)
       → Runs paced block records pool acks t out lengths r (linkOf c (r .flight) (r .arrival) (r .clock) x) records′ out lengths
   unfolding updating countsFit
   waited false steps e n k′ d r w records′ = absurd (true≢false (sym (ap (λ (y : Step). y .flushes) steps) ∙ e))
   waited true steps e n k′ d r w records′ =
-      rw (w, sym (told steps) ∙ e)
+      rw (w, sym (decided steps) ∙ e)
       (record { answer = refl; counts = n; state = moved steps k′ t d; slots = refl; puts = refl; output = refl; sizes = refl })

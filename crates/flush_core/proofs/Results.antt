@@ -1,7 +1,8 @@
 -- What the parts of a flush give, put together, is the flush of the block's state.
 -- Assumes nothing.
-use mathlib.Core.Path.{_≡_, refl, ap, _∙_}
-use mathlib.Core.Bool.{true}
+use mathlib.Core.Path.{_≡_, refl, sym, ap, _∙_}
+use mathlib.Core.Logic.{inl, inr}
+use mathlib.Core.Bool.{Bool, true, false, cond}
 use mathlib.Core.List.{List}
 use Prim.Native.Nat.{ℕ, _≤_}
 use native.Mathlib.Omega.{arith}
@@ -23,13 +24,15 @@ use Rattle.control.specs.Views.{isSet, pairs, arrays, linkOf, receivingOf, sche
 use Rattle.control.specs.ViewLaws.{counts}
 use Rattle.numbering.specs.Sents.{sentIn}
 use Rattle.numbering.specs.Numbering.{Numbers}
+use Rattle.promises.specs.Cores.{PutsSent}
 use Rattle.transmit.specs.declared.Written.{Written}
 use Rattle.transmit.specs.Writing.{Writes}
 use Rattle.transmit.specs.Flushes.{FlushOf, FlushWrites}
 use Rattle.transmit.specs.FlushLaws.{flush-writes}
+use Rattle.transmit.specs.IdleLaws.{idle}
 use Rattle.flush_core.specs.declared.parts.Plan.{Plan}
-use Rattle.flush_core.specs.Parts.{goesBy, Plans, windowIn, withLosses, Moves, toldOf}
-use Rattle.flush_core.specs.Flushes.{Wrote}
+use Rattle.flush_core.specs.Parts.{goesBy, Plans, windowIn, withLosses, Moves, clearedOf}
+use Rattle.flush_core.specs.Flushes.{putBack, Wrote}
 
 module _ (c : Settings) (f : Flight) (a : Arrival) (k : Clock) (queued outstanding transmissions ready waiting numbers : List ℕ)
     (records acks : List ℕ) (t : ℕ) where
@@ -64,7 +67,7 @@ module _ (c : Settings) (f : Flight) (a : Arrival) (k : Clock) (queued outstandi
         (rw (plans .flush, plans .ask, plans .tell, numbered .sent .list, e₁) at writes)
 
     module _ (a′ : Arrival) (k′ : Clock) (f′ : Flight) (lost : f′ ≡ withLosses c n window (w .fast) (w .late))
-        (told : a′ ≡ toldOf a) (moves : Moves k (plan .probe) (w .dead) t k′) where
+        (cleared : a′ ≡ clearedOf a) (moves : Moves k (plan .probe) (w .dead) t k′) where
       abbrev after : Link
       after = linkOf c f′ a′ k′ (arrays queued′ outstanding′ transmissions″ ready waiting numbers)
 
@@ -106,7 +109,7 @@ module _ (c : Settings) (f : Flight) (a : Arrival) (k : Clock) (queued outstandi
               window = flown i .window;
               roundTrip = flown i .rtt;
             };
-            receiving = receivingOf (told i) ready waiting numbers (pairs (told i .acks) acks);
+            receiving = receivingOf (cleared i) ready waiting numbers (pairs (cleared i .acks) acks);
             probe = (ap (λ (y : Clock). y .probe) (moves .is) ∙ plans .probe) i;
             current = moves .is i .current;
             schedule = scheduleOf (moves .is i);
@@ -120,7 +123,7 @@ module _ (c : Settings) (f : Flight) (a : Arrival) (k : Clock) (queued outstandi
       counts-fit =
           let q = counts f a fit in
           rw (
-            told,
+            cleared,
             lost,
             le-leb _ _ (numbered .queued-fits),
             le-leb _ _ (numbered .sent .fits),
@@ -128,17 +131,27 @@ module _ (c : Settings) (f : Flight) (a : Arrival) (k : Clock) (queued outstandi
             le-leb _ _ (q .waiting),
           )
 
-      pub runs : Wrote block (recordsIn records) pool acks t out lengths
-          (record { answer = update.Wrote (w .count); flight = f′; arrival = a′; clock = k′; changed = f′ .outstanding })
+      -- all records are put back, or, where nothing was sent, none
+      puts : (changed : ℕ) → changed ≡ cond (w .sent) (f′ .outstanding) 0 → PutsSent (before .sending .outstanding)
+          (flushing before t pool .state .sending .outstanding) after (putBack outstanding′ changed (recordsIn records″))
+      puts changed e = go (w .sent) refl
+        where
+          go : (b : Bool) → w .sent ≡ b → PutsSent (before .sending .outstanding)
+              (flushing before t pool .state .sending .outstanding) after (putBack outstanding′ changed (recordsIn records″))
+          go true h = inl (record { words = refl; changed = rw h at e })
+          go false h = inr (rw h at e, idle before t pool (sym (written .sends) ∙ h))
+
+      pub runs : (changed : ℕ) → changed ≡ cond (w .sent) (f′ .outstanding) 0 → Wrote block (recordsIn records) pool acks t out lengths
+          (record { answer = update.Wrote (w .count); flight = f′; arrival = a′; clock = k′; changed = changed })
           after (recordsIn records″) out′ lengths′
-      runs =
+      runs changed e =
           let number = written .output .number ∙ length-map (flushing before t pool .datagrams) bytesOfSegments in (
             ap update.Wrote number,
             record {
               answer = refl;
               counts = counts-fit;
               state = state;
-              puts = record { words = refl; changed = refl };
+              puts = puts changed e;
               output = rw number at (written .output);
             },
           )

@@ -51,8 +51,8 @@ abbrev pub putBack : List ℕ → ℕ → List Record → PutBack
 putBack words changed records = record { words = words; changed = changed; records = records }
 
 -- nothing
-abbrev pub keptOf : Update → Flight → Arrival → Clock → Flushed
-keptOf a f v k = record { answer = a; flight = f; arrival = v; clock = k; changed = 0 }
+abbrev pub unflushedOf : Update → Flight → Arrival → Clock → Flushed
+unflushedOf a f v k = record { answer = a; flight = f; arrival = v; clock = k; changed = 0 }
 
 -- ---- of the block l at t, after which it is l′, with the records of its outstanding segments before and after
 
@@ -68,17 +68,17 @@ updateOf (count.Of n) = update.Wrote n
 updateOf (count.Refused r) = update.Refused r
 
 -- what a flush leaves, with its count
-abbrev pub FlushLeaves : Outcome session.Flushed → Link → List ℕ → List ℕ → List ℕ → Flushed → Link → List Record → List ℕ → List ℕ
-    → Type 0
-FlushLeaves o l acks out lengths r l′ records′ out′ lengths′ =
+abbrev pub FlushLeaves : Outcome session.Flushed → Link → List Record → List ℕ → List ℕ → List ℕ → Flushed → Link → List Record
+    → List ℕ → List ℕ → Type 0
+FlushLeaves o l records acks out lengths r l′ records′ out′ lengths′ =
     (n : Count) × (r .answer ≡ updateOf n)
-    × FlushCore o l acks out lengths n l′ (putBack (l′ .outstanding) (r .changed) records′) out′ lengths′
+    × FlushCore o l records acks out lengths n l′ (putBack (l′ .outstanding) (r .changed) records′) out′ lengths′
 
 -- behind the checks: a flush, or where it is paced an update
 abbrev pub Runs : Bool → Link → List Record → List ℕ → List ℕ → ℕ → List ℕ → List ℕ → Flushed → Link → List Record → List ℕ → List ℕ
     → Type 0
 Runs false l records pool acks t out lengths r l′ records′ out′ lengths′ =
-    FlushLeaves (done (flushing (stateOf l records acks) t pool)) l acks out lengths r l′ records′ out′ lengths′
+    FlushLeaves (done (flushing (stateOf l records acks) t pool)) l records acks out lengths r l′ records′ out′ lengths′
 Runs true l records pool acks t out lengths r l′ records′ out′ lengths′ =
     UpdateCore (done (updating (stateOf l records acks) t pool))
     l records acks out lengths (r .answer) l′ (putBack (l′ .outstanding) (r .changed) records′) out′ lengths′
@@ -88,7 +88,7 @@ abbrev pub Core : Bool → Link → List Record → ℕ → List ℕ → List �
     → List ℕ → List ℕ → Type 0
 Core false l records table sendPool receivePool acks t out lengths r l′ records′ out′ lengths′ =
     FlushLeaves (flushesWith l records acks (lentLengths table sendPool receivePool acks) sendPool (length out) (length lengths) t)
-    l acks out lengths r l′ records′ out′ lengths′
+    l records acks out lengths r l′ records′ out′ lengths′
 Core true l records table sendPool receivePool acks t out lengths r l′ records′ out′ lengths′ =
     UpdateCore (updatesWith l records acks (lentLengths table sendPool receivePool acks) sendPool (length out) (length lengths) t)
     l records acks out lengths (r .answer) l′ (putBack (l′ .outstanding) (r .changed) records′) out′ lengths′

@@ -65,8 +65,8 @@ pub record Moves (k : Clock) (probe : ProbeClock) (dead : Bool) (t : ℕ) (r : C
   pub flag : isSet (r .dead) ≡ (isSet (k .dead) || dead)
 
 -- no acks, and no wish for a tell
-abbrev pub toldOf : Arrival → Arrival
-toldOf a = record { expected = a .expected; tell = 0; ready = a .ready; waiting = a .waiting; acks = 0 }
+abbrev pub clearedOf : Arrival → Arrival
+clearedOf a = record { expected = a .expected; tell = 0; ready = a .ready; waiting = a .waiting; acks = 0 }
 
 -- ---- whether it flushes
 

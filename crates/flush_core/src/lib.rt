@@ -16,10 +16,10 @@ ghost use mathlib.Core.List.{List};
 ghost use lib.ListN.{length};
 ghost use Rattle.control.specs.Views.{arrays, linkOf, Whole};
 ghost use Rattle.record_words.specs.RecordWords.{recordsIn};
-ghost use Rattle.flush_core.specs.Flushes.{Flushable, keptOf, Wrote, Runs, Core};
+ghost use Rattle.flush_core.specs.Flushes.{Flushable, unflushedOf, Wrote, Runs, Core};
 
 // The answer of an update, which a flush has too, the block's numbers after it, and the number of outstanding segments whose records
-// are to be put back into the table.
+// are to be put back into the table: all of them, or none where none was sent.
 pub struct Flushed {
     pub answer: Update,
     pub flight: Flight,
@@ -29,8 +29,8 @@ pub struct Flushed {
 }
 
 // What did not flush, or was refused: the numbers are those given, and nothing is to be put back.
-fn kept(answer: Update, flight: Flight, arrival: Arrival, clock: Clock) -> Flushed
-    ensures { λ r. ⌜ r ≡ keptOf answer flight arrival clock ⌝ }
+fn unflushed(answer: Update, flight: Flight, arrival: Arrival, clock: Clock) -> Flushed
+    ensures { λ r. ⌜ r ≡ unflushedOf answer flight arrival clock ⌝ }
 {
     Flushed {
         answer,
@@ -87,13 +87,13 @@ fn flush_now(
     );
     let after = parts::after_losses(settings, flown, window, written.fast, written.late);
     let moved = parts::moved(clock, plan.probe, written.dead, t);
-    let told = parts::told(arrival);
+    let cleared = parts::cleared(arrival);
     Flushed {
         answer: Update::Wrote(written.count),
         flight: after,
-        arrival: told,
+        arrival: cleared,
         clock: moved,
-        changed: after.outstanding,
+        changed: parts::changed(written.sent, after.outstanding),
     }
 }
 
@@ -145,7 +145,7 @@ fn run(
         )
     } else {
         let waits = parts::current(next.clock, t);
-        kept(Update::Waited, flight, arrival, waits)
+        unflushed(Update::Waited, flight, arrival, waits)
     }
 }
 
@@ -224,6 +224,6 @@ pub fn flush(
             output,
             lengths,
         ),
-        Verdict::Refused(refusal) => kept(Update::Refused(refusal), flight, arrival, clock),
+        Verdict::Refused(refusal) => unflushed(Update::Refused(refusal), flight, arrival, clock),
     }
 }

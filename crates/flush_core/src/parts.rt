@@ -12,11 +12,12 @@ use schedule::Schedule;
 use timing::ProbeClock;
 use transmit::Flush;
 ghost use mathlib.Core.Path.{_≡_};
+ghost use mathlib.Core.Bool.{cond};
 ghost use Prim.Native.Nat.{_≤_};
 ghost use Rattle.control.specs.Views.{isSet, scheduleOf};
 ghost use Rattle.protocol.specs.Ranges.{mss};
 ghost use Rattle.congestion.specs.Congestions.{Countable};
-ghost use Rattle.flush_core.specs.Parts.{Plans, windowIn, lossesIn, withLosses, Moves, toldOf, Steps, currentOf};
+ghost use Rattle.flush_core.specs.Parts.{Plans, windowIn, lossesIn, withLosses, Moves, clearedOf, Steps, currentOf};
 
 // What a flush goes by, whether it asks and tells, and the probe clock after it.
 pub(crate) struct Plan {
@@ -106,6 +107,13 @@ pub(crate) fn after_losses(
     after
 }
 
+// How many of n outstanding segments have records to be put back: none where none was sent.
+pub(crate) fn changed(sent: bool, n: usize) -> usize
+    ensures { λ r. ⌜ r ≡ cond sent n 0 ⌝ }
+{
+    if sent { n } else { 0 }
+}
+
 // The clock after a flush at t: no ask is wanted, and the schedule is as it was.
 pub(crate) fn moved(clock: Clock, probe: ProbeClock, dead: bool, t: u32) -> Clock
     ensures { λ r. ⌜ Moves clock probe dead t r ⌝ }
@@ -121,8 +129,8 @@ pub(crate) fn moved(clock: Clock, probe: ProbeClock, dead: bool, t: u32) -> Cloc
 }
 
 // The receiving half's numbers after a flush: no acks are noted, and no tell is wanted.
-pub(crate) fn told(arrival: Arrival) -> Arrival
-    ensures { λ r. ⌜ r ≡ toldOf arrival ⌝ }
+pub(crate) fn cleared(arrival: Arrival) -> Arrival
+    ensures { λ r. ⌜ r ≡ clearedOf arrival ⌝ }
 {
     Arrival {
         expected: arrival.expected,

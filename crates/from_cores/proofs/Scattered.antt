@@ -7,7 +7,7 @@ use mathlib.Core.List.{List, [], _∷_, map}
 use Prim.Native.Nat.{ℕ, zero, suc, _≤_, _<_, _%_, min}
 use native.Mathlib.Omega.{arith}
 use lib.ListN.{length, take, drop, getD, length-map, length-take, take-append-drop}
-use lib.Seq.{getD-take}
+use lib.Seq.{getD-take, set-getD}
 use Rattle.protocol.specs.Protocol.{sendSlots}
 use Rattle.timing.specs.declared.Record.{Record}
 use Rattle.lists.specs.Joining.{joined}
@@ -15,13 +15,14 @@ use Rattle.lists.specs.JoiningLaws.{joined-records}
 use Rattle.lists.specs.declared.Sent.{Sent}
 use Rattle.lists.specs.declared.Outstanding.{Outstanding}
 use Rattle.session.specs.State.{State}
+use Rattle.session.specs.Decides.{All}
 use Rattle.words.specs.Words.{paired, outstandingAt, outstandingIn}
 use Rattle.control.specs.Views.{Whole, arraysOf, stateOf, countsFit}
 use Rattle.control.specs.ViewLaws.{counts}
 use Rattle.control.specs.declared.Link.{Link}
 use Rattle.records.specs.Tables.{blank, slotsIn, gathered, scattered}
 use Rattle.records.specs.TableLaws.{NoneTwice, AllBelow, gathered-scattered, scattered-append}
-use Rattle.promises.specs.Parts.{outstandingSlots, partsOf, Stands}
+use Rattle.promises.specs.Parts.{Parts, outstandingSlots, partsOf, stateIn, Stands}
 use Rattle.promises.specs.Promises.{tableOf}
 use Rattle.promises.specs.Cores.{PutBack, PutsNothing, PutsAll}
 use Rattle.from_cores.proofs.Gathered.{state-joined}
@@ -84,6 +85,48 @@ pub puts-nothing : (table table′ : List Record) (b : PutBack) → PutsNothing 
     → table′ ≡ scattered table (slotsIn (b .words) (b .changed)) (b .records) → table′ ≡ table
 unfolding scattered
 puts-nothing table table′ b none e = rw none at e
+
+pub puts-all : (l : Link) (table table′ : List Record) (b : PutBack) → PutsAll l b
+    → table′ ≡ scattered table (slotsIn (b .words) (b .changed)) (b .records) → table′ ≡ scattered table (outstandingSlots l) (b .records)
+puts-all l table table′ b all e = rw (all .words, all .changed) at e
+
+-- ---- segments with the table's own records, put back
+
+-- each has the record at its slot
+abbrev Own : List Record → List Sent → Type 0
+Own table = All (λ (x : Sent). x .record ≡ getD table (x .held .slot) blank)
+
+scattered-own : (table : List Record) (l : List Sent) → Own table l
+    → scattered table (map (λ (x : Sent). x .held .slot) l) (map (λ (x : Sent). x .record) l) ≡ table
+unfolding scattered
+scattered-own table [] h = refl
+scattered-own table (x ∷ l) h = rw (h .0, set-getD table (x .held .slot) blank) (scattered-own table l (h .1))
+
+joined-own : (table : List Record) (n k : ℕ) (ws ts : List ℕ)
+    → Own table (joined (outstandingIn ws ts n) (gathered table (map (λ (w : ℕ). w % 256) (take k ws))))
+unfolding joined paired
+joined-own table zero k ws ts = tt
+joined-own table (suc n) k [] ts = tt
+joined-own table (suc n) k (w ∷ ws) [] = tt
+joined-own table (suc n) zero (w ∷ ws) (t ∷ ts) = tt
+joined-own table (suc n) (suc k) (w ∷ ws) (t ∷ ts) = (refl, joined-own table n k ws ts)
+
+own-first : (table : List Record) (l : List Sent) → AllBelow sendSlots (map (λ (x : Sent). x .held .slot) l)
+    → Own (take sendSlots table) l → Own table l
+own-first table [] below h = tt
+own-first table (x ∷ l) below h = (
+  h .0 ∙ getD-take sendSlots table (x .held .slot) blank (below zero (omega arith)),
+  own-first table l (λ i k. below (suc i) (omega arith)) (h .1),
+)
+
+-- a state with the outstanding segments of a block before the call: the table is as it was
+pub table-unchanged : (l : Link) (p : Parts) (x : State) → x .sending .outstanding ≡ stateIn l p .sending .outstanding → SlotsFit (slotsOf x)
+    → tableOf (p .table) x ≡ p .table
+unfolding stateOf
+table-unchanged l p x e s =
+    let first = joined-own (take sendSlots (p .table)) (l .flight .outstanding) (min (l .flight .outstanding) 32) (l .outstanding)
+    (l .transmissions) in
+    scattered-own (p .table) (x .sending .outstanding) (own-first (p .table) (x .sending .outstanding) (s .below) (rw (← e) at first))
 
 -- ---- a block after a call, with its records put back
 
@@ -150,24 +193,26 @@ module _ (l : Link) (records : List Record) (acks : List ℕ) (fits : countsFit 
       (ap (joined segments) (gathered-first (scattered table slots records) slots below ∙ again ∙ ap (λ (n : ℕ). take n records)
       slot-count) ∙ joined-take segments records)
 
-module _ (l : Link) (b : PutBack) (puts : PutsAll l b) (few : length (b .records) ≡ 32) (acks : List ℕ) (fits : countsFit l ≡ true)
-    (whole : Whole (arraysOf l))
-    (x : State) (e : stateOf l (b .records) acks ≡ x) (table table′ : List Record)
-    (put : table′ ≡ scattered table (slotsIn (b .words) (b .changed)) (b .records)) where
-  put-slots : table′ ≡ scattered table (outstandingSlots l) (b .records)
-  put-slots = rw (puts .words, puts .changed) at put
+module _ (l : Link) (records : List Record) (few : length records ≡ 32) (acks : List ℕ) (fits : countsFit l ≡ true)
+    (whole : Whole (arraysOf l)) (x : State) (e : stateOf l records acks ≡ x) (table : List Record) where
+  promised : scattered table (outstandingSlots l) records ≡ tableOf table x
+  promised = table-promised l records acks fits whole few table ∙ ap (tableOf table) e
 
-  -- the table that is promised
-  pub table-after : table′ ≡ tableOf table x
-  table-after = put-slots ∙ table-promised l (b .records) acks fits whole few table ∙ ap (tableOf table) e
+  -- a table that is as it was is the same, where its own records were to be put back
+  pub put-none : tableOf table x ≡ table → (table′ : List Record) → table′ ≡ table → table′ ≡ scattered table (outstandingSlots l) records
+  put-none same table′ none = none ∙ sym same ∙ sym promised
 
-  -- the block stands for the state in the new table
-  pub stands-after : (sendPool receivePool : List ℕ) → SlotsFit (slotsOf x) → sendSlots ≤ length table
-      → Stands l (partsOf sendPool receivePool table′ acks) x
-  stands-after sendPool receivePool s long =
-      let again = state-again l (b .records) acks fits whole few table (rw (← e) at s) long in
-      record {
-        counts = fits;
-        state = ap (λ (t : List Record). stateOf l (gathered (take sendSlots t) (outstandingSlots l)) acks)
-            put-slots ∙ again ∙ e;
-      }
+  module _ (table′ : List Record) (put : table′ ≡ scattered table (outstandingSlots l) records) where
+    -- the table that is promised
+    pub table-after : table′ ≡ tableOf table x
+    table-after = put ∙ promised
+
+    -- the block stands for the state in the new table
+    pub stands-after : (sendPool receivePool : List ℕ) → SlotsFit (slotsOf x) → sendSlots ≤ length table
+        → Stands l (partsOf sendPool receivePool table′ acks) x
+    stands-after sendPool receivePool s long =
+        let again = state-again l records acks fits whole few table (rw (← e) at s) long in
+        record {
+          counts = fits;
+          state = ap (λ (t : List Record). stateOf l (gathered (take sendSlots t) (outstandingSlots l)) acks) put ∙ again ∙ e;
+        }

@@ -1,5 +1,5 @@
 -- The send slots of the outstanding segments after a flush and after an input: each below 128, and none twice, where the state
--- before was valid. A flush holds the same segments; an input keeps some of those that were outstanding, in their order.
+-- before was valid. A flush holds the same segments; an input leaves some of those that were outstanding, in their order.
 -- Assumes nothing.
 use mathlib.Core.Path.{_≡_, refl}
 use mathlib.Core.Bool.{Bool, true, false, cond, not, _&&_, _||_, true≢false}
@@ -27,8 +27,8 @@ use Rattle.session.specs.AllLaws.{all-mapped}
 use Rattle.session.specs.Once.{Distinct, once-distinct, distinct-once}
 use Rattle.session.specs.IsValid.{valid-decides}
 use Rattle.session.specs.Flushing.{numbered, windowOf, numberedCount, withNumbered, flushing}
-use Rattle.session.specs.MapLaws.{map-kept}
-use Rattle.session.specs.RuleLaws.{after-kept}
+use Rattle.session.specs.MapLaws.{map-unchanged}
+use Rattle.session.specs.RuleLaws.{after-unchanged}
 use Rattle.session.specs.Input.{acknowledged, sampledBy, heardBySending, allBySending, furthest, skipped, skippedByAll, ackNumbers, applied}
 use Rattle.records.specs.TableLaws.{AllBelow}
 use Rattle.from_cores.proofs.Scattered.{SlotsFit, slotsOf}
@@ -37,13 +37,13 @@ use Rattle.from_cores.proofs.Scattered.{SlotsFit, slotsOf}
 
 data Some {A : Type 0} : List A → List A → Type 0 where
   none : {l : List A} → Some [] l
-  keep : {x : A} {k l : List A} → Some k l → Some (x ∷ k) (x ∷ l)
+  with-first : {x : A} {k l : List A} → Some k l → Some (x ∷ k) (x ∷ l)
   skip : {x : A} {k l : List A} → Some k l → Some k (x ∷ l)
 
 module _ {A : Type 0} where
   some-first : (k r : List A) → Some k (k ++ r)
   some-first [] r = none
-  some-first (x ∷ k) r = keep (some-first k r)
+  some-first (x ∷ k) r = with-first (some-first k r)
 
   some-selected : (test : A → Bool) (l : List A) → Some (select test l) l
   unfolding select
@@ -51,17 +51,17 @@ module _ {A : Type 0} where
   some-selected test (x ∷ l) = go (test x) (some-selected test l)
     where
       go : (b : Bool) → Some (select test l) l → Some (cond b (x ∷ select test l) (select test l)) (x ∷ l)
-      go true s = keep s
+      go true s = with-first s
       go false s = skip s
 
   all-some : (P : A → Type 0) {k l : List A} → Some k l → All P l → All P k
   all-some P none h = tt
-  all-some P (keep s) h = (h .0, all-some P s (h .1))
+  all-some P (with-first s) h = (h .0, all-some P s (h .1))
   all-some P (skip s) h = all-some P s (h .1)
 
 some-mapped : {A B : Type 0} (f : A → B) {k l : List A} → Some k l → Some (map f k) (map f l)
 some-mapped f none = none
-some-mapped f (keep s) = keep (some-mapped f s)
+some-mapped f (with-first s) = with-first (some-mapped f s)
 some-mapped f (skip s) = skip (some-mapped f s)
 
 or-parts : (a b : Bool) → (a || b) ≡ false → (a ≡ false) × (b ≡ false)
@@ -71,12 +71,12 @@ or-parts false b e = (refl, e)
 some-absent : (n : ℕ) {k l : List ℕ} → Some k l → occurs n l ≡ false → occurs n k ≡ false
 unfolding occurs
 some-absent n none e = refl
-some-absent n (keep {x} {k} {l} s) e = let h = or-parts (eqb n x) (occurs n l) e in rw (h .0, some-absent n s (h .1))
+some-absent n (with-first {x} {k} {l} s) e = let h = or-parts (eqb n x) (occurs n l) e in rw (h .0, some-absent n s (h .1))
 some-absent n (skip {x} {k} {l} s) e = some-absent n s (or-parts (eqb n x) (occurs n l) e .1)
 
 some-distinct : {k l : List ℕ} → Some k l → Distinct l → Distinct k
 some-distinct none d = tt
-some-distinct (keep {x} s) d = (some-absent x s (d .0), some-distinct s (d .1))
+some-distinct (with-first {x} s) d = (some-absent x s (d .0), some-distinct s (d .1))
 some-distinct (skip s) d = some-distinct s (d .1)
 
 -- ---- slots that fit, as proofs go through a list
@@ -146,7 +146,7 @@ flush-slots s t pool v =
     let k = numberedCount (windowOf s) d in
     let some : Some (sentSlots (withNumbered d k)) (slots (sendHeld d)) =
     rw (← flushed-slots d k) (some-first (sentSlots (withNumbered d k)) (slots (drop k (d .queued)))) in
-    let same = after-kept (s .settings) (d .roundTrip .timeout) t (λ (x : Sent). x .held .slot) (λ x. refl) (withNumbered d k) in
+    let same = after-unchanged (s .settings) (d .roundTrip .timeout) t (λ (x : Sent). x .held .slot) (λ x. refl) (withNumbered d k) in
     rw same (fit (sentSlots (withNumbered d k)) (fit-some some (held-fit s v)))
 
 -- ---- an input
@@ -182,7 +182,7 @@ fit-skipped s n f = go (not (isBefore n (s .una)) && isBefore n (s .next))
     more = withOutstanding s (s .una) (map (skipBefore n) (s .outstanding))
 
     go : (b : Bool) → OutFit (cond b more s)
-    go true = rw (map-kept (λ (x : Sent). x .held .slot) (skipBefore n) (λ x. rw (skip-held n x)) (s .outstanding)) f
+    go true = rw (map-unchanged (λ (x : Sent). x .held .slot) (skipBefore n) (λ x. rw (skip-held n x)) (s .outstanding)) f
     go false = f
 
 fit-skips : (s : Sending) (l : List ℕ) → OutFit s → OutFit (skippedByAll s l)

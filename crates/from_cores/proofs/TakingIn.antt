@@ -25,7 +25,7 @@ use Rattle.promises.specs.Promises.{InputPromise, InputLeaves}
 use Rattle.promises.specs.Cores.{PutBack, InputCore}
 use Rattle.from_cores.specs.Left.{InputLeft}
 use Rattle.from_cores.proofs.Gathered.{Gathers, outcome-in}
-use Rattle.from_cores.proofs.Scattered.{SlotsFit, slotsOf, puts-nothing, table-after, stands-after}
+use Rattle.from_cores.proofs.Scattered.{SlotsFit, slotsOf, puts-nothing, puts-all, table-after, stands-after}
 use Rattle.from_cores.proofs.SlotsAfter.{input-slots}
 use Rattle.from_cores.proofs.Checked.{passed, made-valid, table-long}
 
@@ -67,12 +67,13 @@ module _ (datagram : List ℕ) (l : Link) (p : Parts) (a : Answer) (b : PutBack)
         let c = passed (enough (mss (l .settings)) (lengthsOf p)) (isMade l p) (input (stateIn l p) (p .receivePool) datagram) x e in
         let slots = taken-slots (stateIn l p) (p .receivePool) datagram x (made-valid l p (c .block)) (c .result) in
         let long = table-long (mss (l .settings)) p (c .sizes) in
+        let all = puts-all l′ (p .table) table′ b (h .puts) put in
         record {
-          stands = stands-after l′ b (h .puts) few acks′ (h .counts) whole (x .state) (h .state) (p .table) table′ put (p .sendPool) pool′
+          stands = stands-after l′ (b .records) few acks′ (h .counts) whole (x .state) (h .state) (p .table) table′ all (p .sendPool) pool′
               slots long;
           sendPool = refl;
           receivePool = h .pool;
-          table = table-after l′ b (h .puts) few acks′ (h .counts) whole (x .state) (h .state) (p .table) table′ put;
+          table = table-after l′ (b .records) few acks′ (h .counts) whole (x .state) (h .state) (p .table) table′ all;
           ackLength = h .ack-length;
           ackRest = h .ack-rest;
         }

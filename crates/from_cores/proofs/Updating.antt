@@ -19,6 +19,7 @@ use Rattle.session.specs.Updating.{Updates, waits, flushes, updating}
 use Rattle.control.specs.Views.{Whole, arraysOf, stateOf}
 use Rattle.control.specs.declared.Link.{Link}
 use Rattle.records.specs.Tables.{slotsIn, gathered, scattered}
+use Rattle.answers.specs.declared.Count.the-variants as count
 use Rattle.answers.specs.declared.Update.{Update}
 use Rattle.promises.specs.Parts.{Parts, FlushParts, lengthsOf, lentLengths, partsOf, recordsOf, stateIn, isMade}
 use Rattle.promises.specs.Outcomes.{updatesWith, updates}
@@ -31,6 +32,7 @@ use Rattle.from_cores.proofs.Gathered.{Gathers, checked-in, stands-in}
 use Rattle.from_cores.proofs.Scattered.{SlotsFit, slotsOf, puts-nothing}
 use Rattle.from_cores.proofs.SlotsAfter.{flush-slots}
 use Rattle.from_cores.proofs.Checked.{passed, made-valid, table-long, flush-enough}
+use Rattle.from_cores.proofs.Flushing as flush
 use Rattle.from_cores.proofs.Flushing.{same-parts, flush-leaves}
 
 -- 13 does not look at the schedule
@@ -64,7 +66,8 @@ module _ (t : ℕ) (l : Link) (p : Parts) (f : FlushParts) (a : Update) (b : Put
   -- blank records behind those of the table are no state
   left-in : (records : List Record) (n : ℕ) → Gathers l p records n → (o : Outcome Updates) → Left records o → Left (recordsOf l p) o
   left-in records n g (refused q) h = h
-  left-in records n g (done (flushes x)) h = h
+  left-in records n g (done (flushes x)) h =
+      (h .0, flush.left-in t l p f (count.Of (length (x .datagrams))) b l′ f′ records n g (done x) (h .1))
   left-in records n g (done (waits s)) h =
       let stands = stands-in l p records n g l′ s (h .slots) (h .counts) (h .state) in
       record {
@@ -115,7 +118,7 @@ module _ (t : ℕ) (l : Link) (p : Parts) (f : FlushParts) (a : Update) (b : Put
         let same : updating (stateIn l p) t (p .sendPool) ≡ flushes x = let d = c .result in cc in
         let slots = update-slots (stateIn l p) t (p .sendPool) (made-valid l p (c .block)) x same in
         let long = table-long m p (flush-enough m p (length (f .output)) (length (f .lengths)) (c .sizes)) in
-        flush-leaves p f _ b l′ f′ table′ few put whole long x slots (h .1)
+        flush-leaves l p f _ b l′ f′ table′ few put whole long x slots (h .1)
 
   pub update-promised : (table′ : List Record) → length (b .records) ≡ 32
       → table′ ≡ scattered (p .table) (slotsIn (b .words) (b .changed)) (b .records)

@@ -17,7 +17,7 @@ pub record InputLeft (datagram : List ℕ) (l : Link) (p : Parts) (a : Answer) (
   pub whole : Whole (arraysOf l′)
 
 pub record FlushLeft (t : ℕ) (l : Link) (p : Parts) (f : FlushParts) (a : Count) (b : PutBack) (l′ : Link) (f′ : FlushParts) : Type 0 where
-  pub core : FlushCore (flushes l p f t) l (p .acks) (f .output) (f .lengths) a l′ b (f′ .output) (f′ .lengths)
+  pub core : FlushCore (flushes l p f t) l (recordsOf l p) (p .acks) (f .output) (f .lengths) a l′ b (f′ .output) (f′ .lengths)
   pub whole : Whole (arraysOf l′)
 
 pub record UpdateLeft (t : ℕ) (l : Link) (p : Parts) (f : FlushParts) (a : Update) (b : PutBack) (l′ : Link) (f′ : FlushParts) : Type 0

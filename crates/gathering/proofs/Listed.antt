@@ -3,7 +3,7 @@
 use mathlib.Core.Path.{_≡_, refl, sym, ap, _∙_}
 use mathlib.Core.Bool.{Bool, true, false, cond}
 use mathlib.Core.List.{List, map}
-use Prim.Native.Nat.{ℕ, _≤_, _<_, _*_, _%_, _^_, min}
+use Prim.Native.Nat.{ℕ, _≤_, _<_, _%_, _^_, min}
 use native.Mathlib.Omega.{arith}
 use borrow.Author.Tests.{ltb-true, ltb-false, lt-ltb, le-ltb}
 use lib.Dec.{ltb}
@@ -13,9 +13,6 @@ use Rattle.protocol.specs.Protocol.{sendSlots}
 use Rattle.timing.specs.declared.Record.{Record}
 use Rattle.records.specs.Tables.{blank, slotsIn}
 use Rattle.gathering.specs.Reach.{reach}
-
-pub bytes-4 : {i : ℕ} → i < 32 → i * 4 < 2 ^ 64
-bytes-4 h = omega arith
 
 pub slots-counted : (ws : List ℕ) (n k : ℕ) → length ws ≡ 32 → k ≡ min n 32 → k ≡ length (slotsIn ws n)
 slots-counted ws n k e f = f ∙ sym (length-map (take (min n 32) ws) (λ (w : ℕ). w % 256) ∙ length-take-le (min n 32) ws (omega arith))

@@ -25,7 +25,7 @@ module _ {A : Type 0} {size n : ℕ} {l₀ l goal : List A} {i j : ℕ} (d : A) 
       → Packed size n l₀ (set l j a) (getD l i d ∷ drop (i + 1) (take n l₀)) goal (i + 1) (j + 1)
   packed-shift p = packed-put h (rw (packed-next d h p) at p)
 
-  -- an element that passes a test is kept, another is not
+  -- an element that passes a test stays, another does not
   pub packed-pass : (test : A → Bool) → test (getD l i d) ≡ true → Packed size n l₀ l (select test (drop i (take n l₀))) goal i j
       → Packed size n l₀ (set l j (getD l i d)) (select test (drop (i + 1) (take n l₀))) goal (i + 1) (j + 1)
   unfolding select

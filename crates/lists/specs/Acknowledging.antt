@@ -22,12 +22,12 @@ select test [] = []
 select test (x ∷ l) = cond (test x) (x ∷ select test l) (select test l)
 
 -- the segments whose number passes a test
-abbrev pub keep : (ℕ → Bool) → List Sent → List Sent
-keep test = select (λ s. test (s .record .number))
+abbrev pub filter : (ℕ → Bool) → List Sent → List Sent
+filter test = select (λ s. test (s .record .number))
 
 -- the segments that an arrival does not acknowledge
 abbrev pub removed : ℕ → Acknowledges → List Sent → List Sent
-removed next arrival = keep (λ n. not (acknowledged next arrival n))
+removed next arrival = filter (λ n. not (acknowledged next arrival n))
 
 -- the first number, else another one
 unfoldable pub firstNumberOr : List Sent → ℕ → ℕ

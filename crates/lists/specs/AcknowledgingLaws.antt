@@ -1,4 +1,4 @@
--- Laws of `Acknowledging`: removing by two tests, and what removing and skipping keep.
+-- Laws of `Acknowledging`: removing by two tests, and what removing and skipping preserve.
 -- Assumes nothing.
 use mathlib.Core.Path.{_≡_, refl, ap}
 use mathlib.Core.Bool.{Bool, true, false, cond, _&&_}
@@ -10,7 +10,7 @@ use Rattle.protocol.specs.Serial.{isBefore}
 use Rattle.lists.specs.declared.Sent.{Sent}
 use Rattle.lists.specs.Orders.{ascending}
 use Rattle.lists.specs.OrderLaws.{First, ascending-first, ascending-cons, ascending-lower}
-use Rattle.lists.specs.Acknowledging.{select, keep, oneSkip, skipBefore}
+use Rattle.lists.specs.Acknowledging.{select, filter, oneSkip, skipBefore}
 
 module _ {A : Type 0} where
   -- to select by two tests in turn is to select by both
@@ -55,8 +55,8 @@ module _ {A : Type 0} where
       go false f ih = ascending-lower offset least (offset x + 1) limit (select test l) (omega (arith, f .low)) ih
 
 -- to remove by two tests in turn is to remove by both
-pub keep-both : (f g : ℕ → Bool) (l : List Sent) → keep g (keep f l) ≡ keep (λ n. f n && g n) l
-keep-both f g l = select-both (λ s. f (s .record .number)) (λ s. g (s .record .number)) l
+pub filter-both : (f g : ℕ → Bool) (l : List Sent) → filter g (filter f l) ≡ filter (λ n. f n && g n) l
+filter-both f g l = select-both (λ s. f (s .record .number)) (λ s. g (s .record .number)) l
 
 -- a skip changes no number and no held part
 pub skip-number : (n : ℕ) (s : Sent) → skipBefore n s .record .number ≡ s .record .number

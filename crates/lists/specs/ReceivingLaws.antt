@@ -1,4 +1,4 @@
--- Laws of `Receiving`: advancing in one pass, and what it keeps.
+-- Laws of `Receiving`: advancing in one pass, and what it preserves.
 -- Assumes nothing.
 use mathlib.Core.Path.{_≡_, refl, _∙_}
 use mathlib.Core.Bool.{Bool, true, false, cond, _&&_}
@@ -68,16 +68,16 @@ advance-run next ready (w ∷ l) h =
         rw q (raised-none next ready (w ∷ l) h)
     step false u e f ih = rw (run-none next w l (128 - length ready) e) (raised-none next ready (w ∷ l) h)
 
--- what a segment's becoming ready keeps, advancing keeps
+-- what a segment's becoming ready preserves, advancing preserves
 module _ (P : ℕ → List Held → List Waiting → Type 0)
     (step : (next : ℕ) (ready : List Held) (w : Waiting) (l : List Waiting) → isNext next w ≡ true → length ready < receiveWindow
     → P next ready (w ∷ l) → P (plus next 1) (ready ++ (waitingPart w ∷ [])) l) where
-  pub advance-keeps : (next : ℕ) (ready : List Held) (waiting : List Waiting) → P next ready waiting
+  pub advance-preserves : (next : ℕ) (ready : List Held) (waiting : List Waiting) → P next ready waiting
       → Holding P (advance next ready waiting)
   unfolding advance
-  advance-keeps next ready [] p = p
-  advance-keeps next ready (w ∷ l) p =
-      go (isNext next w) (ltb (length ready) receiveWindow) refl refl (advance-keeps (plus next 1) (ready ++ (waitingPart w ∷ [])) l)
+  advance-preserves next ready [] p = p
+  advance-preserves next ready (w ∷ l) p =
+      go (isNext next w) (ltb (length ready) receiveWindow) refl refl (advance-preserves (plus next 1) (ready ++ (waitingPart w ∷ [])) l)
     where
       go : (t u : Bool) → isNext next w ≡ t → ltb (length ready) receiveWindow ≡ u
           → (P (plus next 1) (ready ++ (waitingPart w ∷ [])) l → Holding P (advance (plus next 1) (ready ++ (waitingPart w ∷ [])) l))
@@ -104,19 +104,19 @@ ordered-step limit next ready w l e r o =
 -- they stay in order, from the new number on
 pub advance-ordered : (limit next : ℕ) (ready : List Held) (waiting : List Waiting) → Ordered limit next ready waiting
     → Holding (Ordered limit) (advance next ready waiting)
-advance-ordered limit = advance-keeps (Ordered limit) (ordered-step limit)
+advance-ordered limit = advance-preserves (Ordered limit) (ordered-step limit)
 
 -- each segment stays held, in the same order
 pub advance-held : (next : ℕ) (ready : List Held) (waiting : List Waiting)
     → Holding (λ n r w. r ++ map waitingPart w ≡ ready ++ map waitingPart waiting) (advance next ready waiting)
 advance-held next ready waiting =
-    advance-keeps (λ n r w. r ++ map waitingPart w ≡ ready ++ map waitingPart waiting) (λ n r w l e f p. rw append-snoc p) next ready
+    advance-preserves (λ n r w. r ++ map waitingPart w ≡ ready ++ map waitingPart waiting) (λ n r w l e f p. rw append-snoc p) next ready
     waiting refl
 
 -- at most 128 are ready
 pub advance-ready : (next : ℕ) (ready : List Held) (waiting : List Waiting) → length ready ≤ receiveWindow
     → length (advance next ready waiting .ready) ≤ receiveWindow
-advance-ready = advance-keeps (λ n r w. length r ≤ receiveWindow) (λ n r w l e f p. simp length-append (omega arith))
+advance-ready = advance-preserves (λ n r w. length r ≤ receiveWindow) (λ n r w l e f p. simp length-append (omega arith))
 
 -- and nothing waits that could be ready
 pub advance-settled : (next : ℕ) (ready : List Held) (waiting : List Waiting)

@@ -73,8 +73,7 @@ pub fn send(
     let flight = link.flight;
     let arrival = link.arrival;
     let clock = link.clock;
-    let words = link.outstanding;
-    let flown = gathering::fit(table, words, settings, flight);
+    let flown = gathering::fit(table, &link.outstanding, settings, flight);
     let lent = records::table_len(table);
     let sent = send_core::send(
         settings,
@@ -118,8 +117,7 @@ pub fn read(
     let flight = link.flight;
     let arrival = link.arrival;
     let clock = link.clock;
-    let words = link.outstanding;
-    let flown = gathering::fit(table, words, settings, flight);
+    let flown = gathering::fit(table, &link.outstanding, settings, flight);
     let lent = records::table_len(table);
     let delivered = read_core::read(
         settings,

@@ -161,9 +161,9 @@ module _ (mtu n : ℕ) (g : Segment) (k : Packer) (out lengths : List ℕ) (k′
       let over : mtu < k .at - k .start + n = leb-false _ _ e in
       (record { word = f .word; order = omega (arith, u .at); within = omega (arith, u .at) }, omega (arith, u .at))
 
-  lengths-kept : (b : Bool) → fits mtu n k ≡ b → length lengths′ ≡ length lengths
-  lengths-kept true e = ap length (rw e at (u .sizes))
-  lengths-kept false e = ap length (rw e at (u .sizes)) ∙ length-set lengths _ _
+  length-unchanged : (b : Bool) → fits mtu n k ≡ b → length lengths′ ≡ length lengths
+  length-unchanged true e = ap length (rw e at (u .sizes))
+  length-unchanged false e = ap length (rw e at (u .sizes)) ∙ length-set lengths _ _
 
   pub puts-adds : Adds mtu (g ∷ []) n 1 k out lengths k′ out′ lengths′
   puts-adds =
@@ -174,7 +174,7 @@ module _ (mtu n : ℕ) (g : Segment) (k : Packer) (out lengths : List ℕ) (k′
         bytes = omega (arith, u .at);
         datagrams = m .1;
         out-length = ap length (u .output) ∙ length-sets out (k .at) (bytesOfSegment g);
-        lengths-length = lengths-kept (fits mtu n k) refl;
+        lengths-length = length-unchanged (fits mtu n k) refl;
       }
 
 -- none

@@ -70,7 +70,7 @@ fn settings_of(
 }
 
 // A bench that is as it was, but for having had a command.
-fn kept(bench: Bench, len: usize) -> Played
+fn unchanged(bench: Bench, len: usize) -> Played
     ensures { λ r. ⌜ r ≡ record { bench = still bench; len = len } ⌝ }
 {
     Played {
@@ -245,7 +245,7 @@ fn check(
 {
     let answer = bench_calls::check(bench, send_pool, receive_pool, acks, t);
     let len = transcript::time(text, 0, answer);
-    kept(bench, len)
+    unchanged(bench, len)
 }
 
 // The message that was read: the first `count` bytes of `bytes`.
@@ -298,7 +298,7 @@ fn size(
 {
     let answer = bench_calls::size(bench, send_pool, receive_pool, acks);
     let len = transcript::count(text, 0, answer);
-    kept(bench, len)
+    unchanged(bench, len)
 }
 
 fn show(
@@ -313,21 +313,21 @@ fn show(
 {
     let part = bench_calls::show(bench, send_pool, receive_pool, acks);
     let len = transcript::bytes_line(text, 0, b"part ", part);
-    kept(bench, len)
+    unchanged(bench, len)
 }
 
 fn ok(bench: Bench, text: &mut [u8]) -> Played
     ensures { λ r. ⌜ Ok (still bench) (now (text .entry)) r (now (text .exit)) ⌝ }
 {
     let len = transcript::answer(text, 0, Answer::Accepted);
-    kept(bench, len)
+    unchanged(bench, len)
 }
 
 fn state(bench: Bench, text: &mut [u8]) -> Played
     ensures { λ r. ⌜ Says (still bench) (stateLine (bench .link)) (now (text .entry)) r (now (text .exit)) ⌝ }
 {
     let len = link::state(text, 0, bench.link);
-    kept(bench, len)
+    unchanged(bench, len)
 }
 
 fn held(bench: Bench, text: &mut [u8]) -> Played
@@ -335,7 +335,7 @@ fn held(bench: Bench, text: &mut [u8]) -> Played
 {
     let table = bench.table;
     let len = link::segments(text, 0, bench.link, table);
-    kept(bench, len)
+    unchanged(bench, len)
 }
 
 // Only right after an accepted opening.

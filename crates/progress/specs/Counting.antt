@@ -36,10 +36,10 @@ use Rattle.delivery.specs.AlwaysValid.{InOrder}
 use Rattle.demands.specs.Steps.{Endpoint, Called, Runs, start, next}
 use Rattle.demands.specs.Stations.{stationOf}
 use Rattle.demands.specs.Claims.{fragmentsAccepted}
-use Rattle.demands.specs.Simulation.{Kept, own-call, kept-call}
-use Rattle.demands.specs.RunLaws.{opens-station, opens-kept, taken}
+use Rattle.demands.specs.Simulation.{Preserved, own-call, preserved-call}
+use Rattle.demands.specs.RunLaws.{opens-station, opens-preserved, taken}
 use Rattle.progress.specs.Had.{Pushes}
-use Rattle.progress.specs.Outstanding.{numbersOf, all-kept, skips-numbers, flush-under}
+use Rattle.progress.specs.Outstanding.{numbersOf, all-preserved, skips-numbers, flush-under}
 use Rattle.progress.specs.Carried.{
   Carries,
   numbers,
@@ -162,7 +162,7 @@ module _ (s : Station) (n : ℕ) (range : inRange (s .state .settings) ≡ true)
           total = omega (arith, h .total, k .0, ap length (k .1));
           under =
               rw (skips-numbers (allBySending c (s .state .current) d gs) (ackNumbers gs), k .0)
-              (all-kept c (s .state .current) (λ (m : ℕ). m < d .next) gs d (h .under));
+              (all-preserved c (s .state .current) (λ (m : ℕ). m < d .next) gs d (h .under));
         };
         few = tt;
       })
@@ -190,7 +190,7 @@ counted-opened c s p = rw (p .state) (record { total = omega arith; under = tt }
 module _ (c : Settings) (range : inRange c ≡ true) (conv32 : c .conv < 2 ^ 32) where
   -- an end that is in order and has made at most n segments, n at most 2^30
   pub record Made (n : ℕ) (e : Endpoint) : Type 0 where
-    pub kept : Kept c e
+    pub preserved : Preserved c e
     counted : Counted n (stationOf e)
     most : n ≤ 2 ^ 30
 
@@ -200,8 +200,8 @@ module _ (c : Settings) (range : inRange c ≡ true) (conv32 : c .conv < 2 ^ 32)
 
   call-made : (n : ℕ) (e e′ : Endpoint) (x : Call) (y : Reply) → CallFits x → Called e x y e′ → Made n e → CallMade n e x y e′
   call-made n e e′ x y fits h m =
-      let s = own-call c range conv32 e (m .kept) x y e′ fits h in
-      let w = counts-call c range conv32 (stationOf e) n x (m .kept .order) fits (m .most) (m .counted) in
+      let s = own-call c range conv32 e (m .preserved) x y e′ fits h in
+      let w = counts-call c range conv32 (stationOf e) n x (m .preserved .order) fits (m .most) (m .counted) in
       record {
         counted = rw (s .station, s .answer) at (w .counted);
         few = rw (s .answer) at (w .few);
@@ -218,12 +218,12 @@ module _ (c : Settings) (range : inRange c ≡ true) (conv32 : c .conv < 2 ^ 32)
   run-made {e} start n fits m most =
       let none : n ≡ n + 0 = omega arith in
       let same = subst (λ (k : ℕ). Counted k (stationOf e)) none (m .counted) in
-      record { made = record { kept = m .kept; counted = same; most = most }; few = tt }
+      record { made = record { preserved = m .preserved; counted = same; most = most }; few = tt }
   run-made {e″ = e″} (next e x a e′ {events = events} h r) n fits m most =
       let k : ℕ = fragmentsBy (stationOf e) x a in
       let w = call-made n e e′ x a (fits .0) h m in
       let after : Made (n + k) e′ =
-      record { kept = kept-call c range conv32 e (m .kept) x a e′ (fits .0) h; counted = w .counted; most = omega arith } in
+      record { preserved = preserved-call c range conv32 e (m .preserved) x a e′ (fits .0) h; counted = w .counted; most = omega arith } in
       let i = run-made r (n + k) (fits .1) after (omega arith) in
       record {
         made = subst (λ (l : ℕ). Made l e″) (omega arith) (i .made);
@@ -254,7 +254,7 @@ module _ (c : Settings) (events : List Event) (e : Endpoint) (h : MadeBy c event
   since-made =
       run-made c (taken h .range) (h .conv) (h .runs) 0 (h .fits)
       (record {
-        kept = opens-kept c (h .first) (h .opens);
+        preserved = opens-preserved c (h .first) (h .opens);
         counted = counted-opened c (stationOf (h .first)) (opens-station c (h .first) (h .opens));
         most = omega arith;
       })

@@ -159,18 +159,18 @@ between-occurs n k b =
 
 -- what taking in leaves of what was had
 pub record Took (N : ℕ) (r r′ : Receiving) : Type 0 where
-  pub keeps : (n : ℕ) → has r n ≡ true → has r′ n ≡ true
+  pub preserves : (n : ℕ) → has r n ≡ true → has r′ n ≡ true
   pub knows : Known N r′
   pub up : r .next ≤ r′ .next
   pub level : length (r′ .ready) + r .next ≡ length (r .ready) + r′ .next
 
 pub took-none : (N : ℕ) (r : Receiving) → Known N r → Took N r r
-took-none N r k = record { keeps = λ n h. h; knows = k; up = le-refl (r .next); level = refl }
+took-none N r k = record { preserves = λ n h. h; knows = k; up = le-refl (r .next); level = refl }
 
 pub took-then : (N : ℕ) (r r′ r″ : Receiving) → Took N r r′ → Took N r′ r″ → Took N r r″
 took-then N r r′ r″ x y =
     record {
-      keeps = λ n h. y .keeps n (x .keeps n h);
+      preserves = λ n h. y .preserves n (x .preserves n h);
       knows = y .knows;
       up = omega (arith, x .up, y .up);
       level = omega (arith, x .level, y .level);
@@ -205,7 +205,12 @@ module _ (m N : ℕ) (top : N ≤ 2 ^ 30) where
     stays = moved (r .waiting) (r .next) (r .ready) (wide (r .waiting) small) (omega (arith, next))
 
     left : (l : List Ack) → Took N r (movedUpIn (withAcks l x) .half)
-    left l = record { keeps = λ n e. stays .same n ∙ e; knows = λ n e. k n (sym (stays .same n) ∙ e); up = stays .up; level = stays .level }
+    left l = record {
+      preserves = λ n e. stays .same n ∙ e;
+      knows = λ n e. k n (sym (stays .same n) ∙ e);
+      up = stays .up;
+      level = stays .level;
+    }
 
     -- it is kept as v
     module _ (v : Waiting) (numbered : v .number ≡ g .header .sn)
@@ -231,7 +236,7 @@ module _ (m N : ℕ) (top : N ≤ 2 ^ 30) where
       one-kept : (l : List Ack) → PushedIn N r sn (movedUp (withLists (withNotes r l (r .tell)) (r .next) (r .ready) more))
       one-kept l = record {
         took = record {
-          keeps = λ n e. had n ∙ still n (or-true (ltb n (r .next)) (waits (r .waiting) n) e);
+          preserves = λ n e. had n ∙ still n (or-true (ltb n (r .next)) (waits (r .waiting) n) e);
           knows = λ n e. less n (eqb n sn) refl (sym (had n) ∙ e);
           up = grows .up;
           level = grows .level;
@@ -338,7 +343,7 @@ module _ (m N : ℕ) (top : N ≤ 2 ^ 30) where
       p = push-had m N top x g k h
 
       old : All (HasAck (x .half)) (x .half .acks) → All (HasAck r′) (x .half .acks)
-      old = all-weaker (HasAck (x .half)) (HasAck r′) (λ a i. p .took .keeps (a .sn) i) (x .half .acks)
+      old = all-weaker (HasAck (x .half)) (HasAck r′) (λ a i. p .took .preserves (a .sn) i) (x .half .acks)
 
       go : (a : Bool) → inWindow (x .half) (g .header .sn) ≡ a → (b : Bool) → All (HasAck r′) (x .half .acks)
           → All (HasAck r′) (cond a (cond b (x .half .acks ++ (new ∷ [])) (x .half .acks)) (x .half .acks))
@@ -359,7 +364,7 @@ module _ (m N : ℕ) (top : N ≤ 2 ^ 30) where
       go : (a : Bool) → eqb (g .header .cmd) push ≡ a → (b : Bool) → TookAll N (x .half) (cond a (pushed m x g) (cond b (asked x) x) .half)
       go true e b = push-all x g k (h (eqb-true (g .header .cmd) push e))
       go false e true = record {
-        took = record { keeps = λ n i. i; knows = k; up = le-refl (x .half .next); level = refl };
+        took = record { preserves = λ n i. i; knows = k; up = le-refl (x .half .next); level = refl };
         acks = λ a. a;
         more = le-refl (length (x .half .acks));
       }
@@ -431,7 +436,7 @@ module _ (m N : ℕ) (top : N ≤ 2 ^ 30) where
           at : (b : Bool) → eqb u (g .header .sn) ≡ b → (b || occurs u (pushNumbers gs)) ≡ true → Gone
           at true f z =
               let p = push-in x g u k (h .0) l (eqb-true (g .header .cmd) push q) (eqb-true u (g .header .sn) f) in
-              (rest .took .keeps u (p .0), omega (arith, rest .more, p .1))
+              (rest .took .preserves u (p .0), omega (arith, rest .more, p .1))
           at false f z = later z
 
 -- ---- a read

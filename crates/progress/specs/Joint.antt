@@ -1,5 +1,5 @@
 -- What ties two stations that hear only each other: every number given out is outstanding, or had by the other one, whatever was lost.
--- Each call of either keeps it. By numbers alone: no payload, no window, no time. A flush may number any count of queued segments
+-- Each call of either preserves it. By numbers alone: no payload, no window, no time. A flush may number any count of queued segments
 -- within 32 of snd_una, and a send may do anything that leaves snd_nxt and the outstanding segments.
 -- A proof layer: no statement cites it.
 -- Assumes nothing.
@@ -34,7 +34,7 @@ use Rattle.delivery.specs.SendingFlushes.{flushedWith}
 use Rattle.delivery.specs.AlwaysValid.{InOrder, in-order-stays, opened-all}
 use Rattle.progress.specs.SmallNumbers.{or-left, or-both}
 use Rattle.progress.specs.Had.{has, Known, Pushes, HasAck, TookAll, all-had, ReadOut, read-had}
-use Rattle.progress.specs.Outstanding.{numbersOf, Says, all-kept, all-gone, skips-numbers, flush-under, flush-has, flush-old}
+use Rattle.progress.specs.Outstanding.{numbersOf, Says, all-preserved, all-gone, skips-numbers, flush-under, flush-has, flush-old}
 use Rattle.progress.specs.Carried.{
   Carries,
   carries-weaker,
@@ -77,7 +77,7 @@ module _ (c : Settings) (d : Sending) (wrote : List (List ℕ)) (r : Receiving) 
       rw (skips-numbers (allBySending c current d gs) (ackNumbers gs), taken-same c current d gs (ackNumbers gs) .0)
       (record {
         low = w .low;
-        under = all-kept c current (λ (n : ℕ). n < d .next) gs d (w .under);
+        under = all-preserved c current (λ (n : ℕ). n < d .next) gs d (w .under);
         pushes = w .pushes;
         says = w .says;
         acks = w .acks;
@@ -125,13 +125,13 @@ module _ (c : Settings) (d : Sending) (wrote : List (List ℕ)) (r : Receiving) 
   -- has no less than before
   has-more : (r′ : Receiving) → ((n : ℕ) → has r n ≡ true → has r′ n ≡ true) → r .next ≤ r′ .next → All (HasAck r′) (r′ .acks)
       → Known (d .next) r′ → Way c d wrote r′ said
-  has-more r′ keeps up acks known = record {
+  has-more r′ preserves up acks known = record {
     low = w .low;
     under = w .under;
     pushes = w .pushes;
-    says = carries-weaker c (Says r) (Says r′) (says-more r r′ keeps up) said (w .says);
+    says = carries-weaker c (Says r) (Says r′) (says-more r r′ preserves up) said (w .says);
     acks = acks;
-    gone = λ n l. or-both (occurs n out) (has r n) (occurs n out) (has r′ n) (λ e. e) (keeps n) (w .gone n l);
+    gone = λ n l. or-both (occurs n out) (has r n) (occurs n out) (has r′ n) (λ e. e) (preserves n) (w .gone n l);
     known = known;
   }
     where
@@ -145,7 +145,7 @@ module _ (c : Settings) (d : Sending) (wrote : List (List ℕ)) (r : Receiving) 
       let x : Receiver = record { half = r; pool = pool } in
       let i : TookAll (d .next) r (allByReceiving m (record { half = r; pool = pool }) gs .half) =
       all-had m (d .next) (w .low) gs x (w .known) a in
-      has-more (allByReceiving m x gs .half) (i .took .keeps) (i .took .up) (i .acks (w .acks)) (i .took .knows)
+      has-more (allByReceiving m x gs .half) (i .took .preserves) (i .took .up) (i .acks (w .acks)) (i .took .knows)
 
   -- reads
   receiver-reads : Way c d wrote (afterRead r) said
@@ -237,13 +237,13 @@ module _ (a b : Station) (byA byB : List (List ℕ))
       }
 
   -- what is to be shown of a call
-  abbrev Kept : Call → Stepped → Type 0
-  Kept x y =
+  abbrev Preserved : Call → Stepped → Type 0
+  Preserved x y =
       CallFits x → TakesOneOf byB x → FewPushes c (datagramsIn (y .answer)) → Ways c (y .station) (byA ++ datagramsIn (y .answer)) b byB
 
-  ways-after : (x : Call) → Kept x (own a x)
+  ways-after : (x : Call) → Preserved x (own a x)
   ways-after =
-      own-cases Kept a
+      own-cases Preserved a
       (λ x f fits from few. same)
       (λ m ok fits from few. rw append-nil (record { ab = j .ab; ba = j .ba }))
       (λ x gs e fits from few. takes x gs e from)
@@ -253,7 +253,7 @@ module _ (a b : Station) (byA byB : List (List ℕ))
       (λ t time from few. rw append-nil (record { ab = j .ab; ba = j .ba }))
       (λ t time from few. same)
 
--- EACH CALL of an end keeps what ties the two, by any name of the settings
+-- EACH CALL of an end preserves what ties the two, by any name of the settings
 pub joint-step : (c : Settings) → inRange c ≡ true → c .conv < 2 ^ 32 → (a b : Station) (byA byB : List (List ℕ)) (x : Call)
     → CallFits x → TakesOneOf byB x → FewPushes c (datagramsIn (own a x .answer)) → Joint c a byA b byB
     → Joint c (own a x .station) (byA ++ datagramsIn (own a x .answer)) b byB

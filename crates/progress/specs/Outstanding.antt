@@ -19,7 +19,7 @@ use Rattle.retransmission.specs.TransmissionLaws.{transmission-number}
 use Rattle.lists.specs.declared.Held.{Held}
 use Rattle.lists.specs.declared.Sent.{Sent}
 use Rattle.lists.specs.Orders.{sentOffset}
-use Rattle.lists.specs.Acknowledging.{select, keep, firstNumberOr, skipBefore}
+use Rattle.lists.specs.Acknowledging.{select, filter, firstNumberOr, skipBefore}
 use Rattle.lists.specs.AcknowledgingLaws.{skip-number}
 use Rattle.session.specs.Slots.{occurs}
 use Rattle.session.specs.State.{Sending, Receiving, withOutstanding}
@@ -27,8 +27,8 @@ use Rattle.session.specs.Input.{acknowledges, heardBySending, allBySending, fur
 use Rattle.session.specs.Flushing.{numbered, withNumbered}
 use Rattle.session.specs.Decides.{All, and-parts}
 use Rattle.session.specs.AllLaws.{all-append, all-mapped, all-unmapped, all-weaker, all-select}
-use Rattle.session.specs.MapLaws.{map-append, map-kept}
-use Rattle.session.specs.RuleLaws.{after-kept}
+use Rattle.session.specs.MapLaws.{map-append, map-unchanged}
+use Rattle.session.specs.RuleLaws.{after-unchanged}
 use Rattle.session.specs.Ascending.{Ascends}
 use Rattle.session.specs.SendOrder.{Numbers}
 use Rattle.session.specs.HeardLaws.{heard-outstanding}
@@ -45,7 +45,7 @@ numbersOf l = map (λ (x : Sent). x .record .number) l
 
 module _ (test : ℕ → Bool) where
   abbrev left : List Sent → List Sent
-  left l = keep (λ n. not (test n)) l
+  left l = filter (λ n. not (test n)) l
 
   -- what holds of all holds of those left
   all-staying : (P : ℕ → Type 0) (l : List Sent) → All P (numbersOf l) → All P (numbersOf (left l))
@@ -114,16 +114,16 @@ first-fails false y e = refl
 
 module _ (c : Settings) (current : ℕ) where
   heard-numbers : (s : Sending) (h : Header) →
-      numbersOf (heardBySending c current s h .outstanding) ≡ numbersOf (keep (λ n. not (acknowledges (s .next) h n)) (s .outstanding))
+      numbersOf (heardBySending c current s h .outstanding) ≡ numbersOf (filter (λ n. not (acknowledges (s .next) h n)) (s .outstanding))
   heard-numbers s h = ap numbersOf (heard-outstanding c current s h)
 
   -- what holds of all outstanding numbers still does
-  pub all-kept : (P : ℕ → Type 0) (gs : List Segment) (s : Sending) →
+  pub all-preserved : (P : ℕ → Type 0) (gs : List Segment) (s : Sending) →
       All P (numbersOf (s .outstanding)) → All P (numbersOf (allBySending c current s gs .outstanding))
   unfolding allBySending
-  all-kept P [] s a = a
-  all-kept P (g ∷ gs) s a =
-      all-kept P gs (heardBySending c current s (g .header))
+  all-preserved P [] s a = a
+  all-preserved P (g ∷ gs) s a =
+      all-preserved P gs (heardBySending c current s (g .header))
       (rw (heard-numbers s (g .header)) (all-staying (acknowledges (s .next) (g .header)) P (s .outstanding) a))
 
   -- what is outstanding no more is had by the other end
@@ -180,7 +180,7 @@ module _ (c : Settings) (current : ℕ) where
   unfolding allBySending
   floor-all v [] s some top l a u = absurd (omega arith)
   floor-all v (g ∷ gs) s some top l a u =
-      all-kept (λ (n : ℕ). v ≤ n) gs (heardBySending c current s (g .header)) (una-floor v s g top l (a .0) u)
+      all-preserved (λ (n : ℕ). v ≤ n) gs (heardBySending c current s (g .header)) (una-floor v s g top l (a .0) u)
 
 -- skips change no number
 skipped-numbers : (s : Sending) (n : ℕ) → numbersOf (skipped s n .outstanding) ≡ numbersOf (s .outstanding)
@@ -189,7 +189,7 @@ skipped-numbers s n = go (not (isBefore n (s .una)) && isBefore n (s .next))
   where
     go : (b : Bool) →
         numbersOf (cond b (withOutstanding s (s .una) (map (skipBefore n) (s .outstanding))) s .outstanding) ≡ numbersOf (s .outstanding)
-    go true = map-kept (λ (x : Sent). x .record .number) (skipBefore n) (skip-number n) (s .outstanding)
+    go true = map-unchanged (λ (x : Sent). x .record .number) (skipBefore n) (skip-number n) (s .outstanding)
     go false = refl
 
 pub skips-numbers : (s : Sending) (l : List ℕ) → numbersOf (skippedByAll s l .outstanding) ≡ numbersOf (s .outstanding)
@@ -232,7 +232,7 @@ module _ (c : Settings) (t k : ℕ) (s : Sending) (few : k ≤ length (s .queued
   flush-numbers : numbersOf (flushedWith c t k s .outstanding) ≡ numbersOf (s .outstanding) ++ numbersOf new
   unfolding withNumbered
   flush-numbers =
-      after-kept c (s .roundTrip .timeout) t (λ (x : Sent). x .record .number)
+      after-unchanged c (s .roundTrip .timeout) t (λ (x : Sent). x .record .number)
       (λ x. transmission-number c (s .roundTrip .timeout) t (x .transmissions) (x .record))
       (s .outstanding ++ new)
       ∙ map-append (λ (x : Sent). x .record .number) (s .outstanding) new

@@ -46,7 +46,7 @@ use Rattle.delivery.specs.AlwaysValid.{InOrder}
 use Rattle.delivery.specs.FedLaws.{or-true}
 use Rattle.progress.specs.SmallNumbers.{after-small}
 use Rattle.progress.specs.Had.{has, waitingNumbers, known-next, Pushes, TookAll, took-all-none, took-all-then, all-had, goes-in}
-use Rattle.progress.specs.Outstanding.{numbersOf, all-kept, floor-all, skips-numbers, una-least, una-is}
+use Rattle.progress.specs.Outstanding.{numbersOf, all-preserved, floor-all, skips-numbers, una-least, una-is}
 use Rattle.progress.specs.Carried.{Carries, wroteBy, Flushable, in-order-flushable, flushable-rescheduled, flush-una, flush-some}
 use Rattle.progress.specs.Joint.{Joint, exchanged, joint-step}
 use Rattle.progress.specs.TwoEnds.{TakesOneOf, GoesOut, AllArrive, Passed}
@@ -112,9 +112,9 @@ is-flush s x ds fits wrote =
     (λ t f e. absurd (let z : _≡_ {A = ℕ} 0 1 = cc in omega arith))
     x fits wrote
 
-flush-keeps-una : (s : Station) (x : Call) → IsFlush s x (own s x) → own s x .station .state .sending .una ≡ s .state .sending .una
+flush-preserves-una : (s : Station) (x : Call) → IsFlush s x (own s x) → own s x .station .state .sending .una ≡ s .state .sending .una
 unfolding flushing
-flush-keeps-una s x f = ap (λ (y : Stepped). y .station .state .sending .una) (f .is)
+flush-preserves-una s x f = ap (λ (y : Stepped). y .station .state .sending .una) (f .is)
 
 abbrev Una : ℕ → Segment → Type 0
 Una v g = g .header .una ≡ v
@@ -301,7 +301,7 @@ module _ (c : Settings) (range : inRange c ≡ true) (conv32 : c .conv < 2 ^ 32)
       let x = one-goes-in u d r q byR byQ (m .0) j l (rw e at h) in
       let i : TookAll (q .state .sending .next) (r₁ .state .receiving) (fed r₁ ds .state .receiving) =
       all-arrive ds r₁ q byR byQ (bytes .1) (m .1) (joint-takes r q byR byQ d (bytes .0) (m .0) j) in
-      (i .took .keeps u (x .0), omega (arith, x .1, i .more))
+      (i .took .preserves u (x .0), omega (arith, x .1, i .more))
   push-arrives u it (d ∷ ds) r q byR byQ (List·Memᴰ·tail n) h bytes m j l =
       let r₁ : Station = own r (Call.takeIn d) .station in
       let i : TookAll (q .state .sending .next) (r .state .receiving) (r₁ .state .receiving) = one-arrives d r q byR byQ (m .0) j in
@@ -347,7 +347,7 @@ module _ (c : Settings) (range : inRange c ≡ true) (conv32 : c .conv < 2 ^ 32)
     floor-stays : NoneBelow v a → NoneBelow v (own a (Call.takeIn d) .station)
     floor-stays f =
         rw (taken-numbers a d (x .segments) reads-so)
-        (all-kept (a .state .settings) (a .state .current) (λ (n : ℕ). v ≤ n) (x .segments) (a .state .sending) f)
+        (all-preserved (a .state .settings) (a .state .current) (λ (n : ℕ). v ≤ n) (x .segments) (a .state .sending) f)
 
     next-stays : own a (Call.takeIn d) .station .state .sending .next ≡ a .state .sending .next
     next-stays = taken-next a d (x .segments) reads-so
@@ -356,15 +356,15 @@ module _ (c : Settings) (range : inRange c ≡ true) (conv32 : c .conv < 2 ^ 32)
     floor : All (λ (n : ℕ). v ≤ n) (numbersOf (a′ .state .sending .outstanding))
     next : a′ .state .sending .next ≡ a .state .sending .next
 
-  floor-kept : (v : ℕ) (ds : List (List ℕ)) (a b : Station) (byA byB : List (List ℕ)) → All AllBytes ds
+  floor-preserved : (v : ℕ) (ds : List (List ℕ)) (a b : Station) (byA byB : List (List ℕ)) → All AllBytes ds
       → All (λ (d : List ℕ). List·Memᴰ d byB) ds → All (Carries c (Una v)) ds → Joint c a byA b byB → NoneBelow v a → Floor v a (fed a ds)
   unfolding fed
-  floor-kept v [] a b byA byB bytes m x j f = record { floor = f; next = refl }
-  floor-kept v (d ∷ ds) a b byA byB bytes m x j f =
+  floor-preserved v [] a b byA byB bytes m x j f = record { floor = f; next = refl }
+  floor-preserved v (d ∷ ds) a b byA byB bytes m x j f =
       let a₁ : Station = own a (Call.takeIn d) .station in
       let o = j .in-order-a in
       let i =
-      floor-kept v ds a₁ b byA byB (bytes .1) (m .1) (x .1) (joint-takes a b byA byB d (bytes .0) (m .0) j)
+      floor-preserved v ds a₁ b byA byB (bytes .1) (m .1) (x .1) (joint-takes a b byA byB d (bytes .0) (m .0) j)
       (floor-stays v d a o (x .0) f) in
       record { floor = i .floor; next = i .next ∙ next-stays v d a o (x .0) }
 
@@ -377,7 +377,7 @@ module _ (c : Settings) (range : inRange c ≡ true) (conv32 : c .conv < 2 ^ 32)
       let a₁ : Station = own a (Call.takeIn d) .station in
       let o = j .in-order-a in
       let i =
-      floor-kept v ds a₁ b byA byB (bytes .1) (m .1) (x .1) (joint-takes a b byA byB d (bytes .0) (m .0) j)
+      floor-preserved v ds a₁ b byA byB (bytes .1) (m .1) (x .1) (joint-takes a b byA byB d (bytes .0) (m .0) j)
       (floor-one v d a o (x .0) b byA byB j l) in
       record { floor = i .floor; next = i .next ∙ next-stays v d a o (x .0) }
 
@@ -435,7 +435,7 @@ module _ (c : Settings) (range : inRange c ≡ true) (conv32 : c .conv < 2 ^ 32)
     numbers₁ = numbersOf (own a x .station .state .sending .outstanding)
 
     ordered : Numbers u N (a₁ .state .sending .outstanding)
-    ordered = rw (flush-keeps-una a x (is-flush a x ds fits writes)) at (half-in c a₁ (j₁ .in-order-a .sends) .numbers)
+    ordered = rw (flush-preserves-una a x (is-flush a x ds fits writes)) at (half-in c a₁ (j₁ .in-order-a .sends) .numbers)
 
     -- it is not past rcv_nxt: the segment numbered rcv_nxt is not had, so it is outstanding or not given out
     not-past : u ≤ r

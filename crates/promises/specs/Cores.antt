@@ -1,7 +1,8 @@
--- What the core of a call leaves: it has the block's numbers and arrays, and the records of the outstanding segments by value, 32 of
--- them, the first of which are theirs. l is the block before, l′ the one after. Definitions.
+-- What the core of a call leaves: it has the block's numbers and arrays, and 32 records, the first of which are the outstanding segments'.
+-- l is the block before, l′ the one after. Definitions.
 -- Assumes nothing.
 use mathlib.Core.Path.{_≡_}
+use mathlib.Core.Logic.{_⊎_}
 use mathlib.Core.Bool.{true}
 use mathlib.Core.List.{List, map}
 use Prim.Native.Nat.{ℕ, _+_, _*_, _≤_}
@@ -9,6 +10,7 @@ use lib.ListN.{length, drop}
 use lib.Seq.{sets}
 use Rattle.protocol.specs.declared.Refusal.{Refusal}
 use Rattle.timing.specs.declared.Record.{Record}
+use Rattle.lists.specs.declared.Sent.{Sent}
 use Rattle.session.specs.State.{State, Outcome, refused, done}
 use Rattle.session.specs.Sending.{Sends}
 use Rattle.session.specs.Input.{Took}
@@ -93,12 +95,17 @@ InputCore (done x) l pool acks a l′ b pool′ acks′ = TookIn x acks a l′ b
 
 -- ---- a flush
 
--- done: it answers the number of its datagrams, which the output and the lengths hold
-pub record Flushes (x : Flushed) (acks out lengths : List ℕ) (a : Count) (l′ : Link) (b : PutBack) (out′ lengths′ : List ℕ) : Type 0 where
+-- the records of all outstanding segments, or, where these and their records are as they were before it, nothing
+abbrev pub PutsSent : List Sent → List Sent → Link → PutBack → Type 0
+PutsSent before after l′ b = PutsAll l′ b ⊎ (PutsNothing b × (after ≡ before))
+
+-- done: it answers the number of its datagrams, which the output and the lengths hold; these segments were outstanding before it
+pub record Flushes (before : List Sent) (x : Flushed) (acks out lengths : List ℕ) (a : Count) (l′ : Link) (b : PutBack)
+    (out′ lengths′ : List ℕ) : Type 0 where
   pub answer : a ≡ count.Of (length (x .datagrams))
   pub counts : countsFit l′ ≡ true
   pub state : stateOf l′ (b .records) acks ≡ x .state
-  pub puts : PutsAll l′ b
+  pub puts : PutsSent before (x .state .sending .outstanding) l′ b
   pub output : Output (map bytesOfSegments (x .datagrams)) out lengths (length (x .datagrams)) out′ lengths′
 
 -- refused: nothing is written
@@ -110,9 +117,10 @@ pub record NoFlush (r : Refusal) (l : Link) (out lengths : List ℕ) (a : Count)
     pub output : out′ ≡ out
     pub sizes : lengths′ ≡ lengths
 
-abbrev pub FlushCore : Outcome Flushed → Link → List ℕ → List ℕ → List ℕ → Count → Link → PutBack → List ℕ → List ℕ → Type 0
-FlushCore (refused r) l acks out lengths a l′ b out′ lengths′ = NoFlush r l out lengths a l′ b out′ lengths′
-FlushCore (done x) l acks out lengths a l′ b out′ lengths′ = Flushes x acks out lengths a l′ b out′ lengths′
+abbrev pub FlushCore : Outcome Flushed → Link → List Record → List ℕ → List ℕ → List ℕ → Count → Link → PutBack → List ℕ → List ℕ → Type 0
+FlushCore (refused r) l records acks out lengths a l′ b out′ lengths′ = NoFlush r l out lengths a l′ b out′ lengths′
+FlushCore (done x) l records acks out lengths a l′ b out′ lengths′ =
+    Flushes (stateOf l records acks .sending .outstanding) x acks out lengths a l′ b out′ lengths′
 
 -- ---- an update
 
@@ -133,7 +141,8 @@ UpdateCore (refused r) l records acks out lengths a l′ b out′ lengths′ =
     (a ≡ update.Refused r) × NoFlush r l out lengths (count.Refused r) l′ b out′ lengths′
 UpdateCore (done (waits s)) l records acks out lengths a l′ b out′ lengths′ = Waits s l records acks out lengths a l′ b out′ lengths′
 UpdateCore (done (flushes x)) l records acks out lengths a l′ b out′ lengths′ =
-    (a ≡ update.Wrote (length (x .datagrams))) × Flushes x acks out lengths (count.Of (length (x .datagrams))) l′ b out′ lengths′
+    (a ≡ update.Wrote (length (x .datagrams)))
+    × Flushes (stateOf l records acks .sending .outstanding) x acks out lengths (count.Of (length (x .datagrams))) l′ b out′ lengths′
 
 -- ---- reading: the receiving half and the buffer alone change
 

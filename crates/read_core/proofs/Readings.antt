@@ -61,10 +61,10 @@ module _ (a : Arrival) (m : ℕ) (ready waiting numbers pool buffer : List ℕ) 
         → ReadMessage o a m ready waiting numbers pool buffer (Of n) r ready′ waiting′ numbers′ buffer′
     message-taken n f r ready′ waiting′ numbers′ buffer′ t = rw (← e, f) (refl, t)
 
-    pub message-kept : (q : Refusal) → found ≡ Refused q
+    pub message-refused : (q : Refusal) → found ≡ Refused q
         → ReadMessage o a m ready waiting numbers pool buffer (Refused q) a ready waiting numbers buffer
-    message-kept q f = rw (← e, f) (record {
-      told = refl;
+    message-refused q f = rw (← e, f) (record {
+      answered = refl;
       arrival = refl;
       ready-same = refl;
       waiting-same = refl;
@@ -105,7 +105,7 @@ module _ (c : Settings) (f : Flight) (a : Arrival) (k : Clock) (queued outstandi
       → ReadMessage o a (mss c) ready waiting numbers pool buffer answer r ready′ waiting′ numbers′ buffer′
       → ReadCore (readBy (stateOf before records acks) pool o) before records acks buffer answer after buffer′
   unfolding stateOf message
-  by-outcome ok (refused q) e n = (n .told, rw (n .arrival, n .ready-same, n .waiting-same, n .numbers-same) refl, n .bytes-same)
+  by-outcome ok (refused q) e n = (n .answered, rw (n .arrival, n .ready-same, n .waiting-same, n .numbers-same) refl, n .bytes-same)
   by-outcome ok (done n) e m =
       let l = heldIn ready (a .ready) in
       record {

@@ -35,7 +35,7 @@ pub record Readable (l : Link) (pool : List ℕ) : Type 0 where
 -- a refusal: its number alone, the very half and buffer
 pub record NotRead (q : Refusal) (a : Arrival) (ready waiting numbers buffer : List ℕ) (answer : Count) (r : Arrival)
     (ready′ waiting′ numbers′ buffer′ : List ℕ) : Type 0 where
-  pub told : answer ≡ Refused q
+  pub answered : answer ≡ Refused q
   pub arrival : r ≡ a
   pub ready-same : ready′ ≡ ready
   pub waiting-same : waiting′ ≡ waiting

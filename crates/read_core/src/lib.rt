@@ -1,5 +1,5 @@
 // Reading a message, telling its size, and showing its first segment: the block's numbers by value, its lists and the other parts lent.
-// Each is told whether the records of the outstanding segments fit, and checks 7, then 13, then its own.
+// Each is given whether the records of the outstanding segments fit, and checks 7, then 13, then its own.
 use answers::Count;
 use checking::Verdict;
 use control::Arrival;

@@ -88,8 +88,8 @@ module _ (ds : List (List ℕ)) (b : ℕ → List ℕ) (held : Held ds b) (x : �
       (length ds)
       (λ p m. difference w p m)
 
-  kept : (w p : ℕ) → has b p ≡ true → mul (weight w p) (lostByte p) ≡ 0
-  kept w p h = ap (λ (c : Bool). mul (weight w p) (cond c 0 (byte p))) h ∙ mul-zero (weight w p)
+  not-lost : (w p : ℕ) → has b p ≡ true → mul (weight w p) (lostByte p) ≡ 0
+  not-lost w p h = ap (λ (c : Bool). mul (weight w p) (cond c 0 (byte p))) h ∙ mul-zero (weight w p)
 
   lost : (w p : ℕ) → has b p ≡ false → mul (weight w p) (lostByte p) ≡ mul (weight w p) (byte p)
   lost w p h = ap (λ (c : Bool). mul (weight w p) (cond c 0 (byte p))) h
@@ -101,7 +101,7 @@ module _ (ds : List (List ℕ)) (b : ℕ → List ℕ) (held : Held ds b) (x : �
         → rest w (length ds) b x ≡ mul (weight w i) (byte i)
     one-rest w l h all =
         rest-is w l h
-        ∙ total-one (λ p. mul (weight w p) (lostByte p)) (length ds) i li (λ p m d. kept w p (all p m d))
+        ∙ total-one (λ p. mul (weight w p) (lostByte p)) (length ds) i li (λ p m d. not-lost w p (all p m d))
         ∙ lost w i ni
 
     -- without the first parity the second is held
@@ -161,7 +161,7 @@ module _ (ds : List (List ℕ)) (b : ℕ → List ℕ) (held : Held ds b) (x : �
         let lj : j < length ds = other .below in
         rest-is w l (all-else (length ds + w) (omega arith) (λ q. omega arith) (λ q. omega arith))
         ∙ total-two (λ p. mul (weight w p) (lostByte p)) (length ds) i j li lj (λ q. other .apart (sym q))
-        (λ p m d e. kept w p (all-else p (omega arith) d e))
+        (λ p m d e. not-lost w p (all-else p (omega arith) d e))
         ∙ ap₂ plus (lost w i ni) (lost w j (other .none))
 
     solved-two : solved (length ds) b i j x ≡ byte i

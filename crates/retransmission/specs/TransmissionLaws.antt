@@ -82,8 +82,8 @@ module _ (s : Settings) (link t n : ℕ) (r : Record) where
       P (notSent n r) →
       P (transmission s link t n r)
   unfolding transmission
-  each-way P first due fast kept =
-      either-way P (eqb n 0) first (either-way P (isDue t (r .due)) due (either-way P (isSkipped (s .threshold) n (r .skips)) fast kept))
+  each-way P first due fast unsent =
+      either-way P (eqb n 0) first (either-way P (isDue t (r .due)) due (either-way P (isSkipped (s .threshold) n (r .skips)) fast unsent))
 
   -- the record stays in range
   pub transmission-in-range : TimeoutInRange (s .mode) link → RecordInRange (s .mode) r

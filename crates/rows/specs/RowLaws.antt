@@ -17,18 +17,18 @@ use Rattle.rows.specs.Rows.{Row, behind, stepped}
 pub record Done (f : ℕ → ℕ) (i : ℕ) (was row : List ℕ) : Type 0 where
   pub size : length row ≡ length was
   pub done : (x : ℕ) → x < i → getD row x 0 ≡ f x
-  pub kept : (x : ℕ) → i ≤ x → getD row x 0 ≡ getD was x 0
+  pub unchanged : (x : ℕ) → i ≤ x → getD row x 0 ≡ getD was x 0
 
 module _ (f : ℕ → ℕ) where
   pub done-none : (was : List ℕ) → Done f 0 was was
-  done-none was = record { size = refl; done = λ x l. absurd (omega arith); kept = λ x l. refl }
+  done-none was = record { size = refl; done = λ x l. absurd (omega arith); unchanged = λ x l. refl }
 
   pub done-next : (i : ℕ) (was row : List ℕ) (v : ℕ) → Done f i was row → i < length was → v ≡ f i → Done f (i + 1) was (set row i v)
   done-next i was row v d l e =
       record {
         size = length-set row i v ∙ d .size;
         done = λ x m. go x m (eqb x i) refl;
-        kept = λ x m. getD-set-other row i x v 0 (λ q. omega arith) ∙ d .kept x (omega arith);
+        unchanged = λ x m. getD-set-other row i x v 0 (λ q. omega arith) ∙ d .unchanged x (omega arith);
       }
     where
       inside : i < length row
@@ -47,7 +47,7 @@ module _ (f : ℕ → ℕ) where
     where
       go : (x : ℕ) (b : Bool) → ltb x i ≡ b → getD row x 0 ≡ f x
       go x true e = d .done x (ltb-true x i e)
-      go x false e = let l : i ≤ x = ltb-false x i e in d .kept x l ∙ h x l
+      go x false e = let l : i ≤ x = ltb-false x i e in d .unchanged x l ∙ h x l
 
 -- ---- a sum with what starts at `at`
 
@@ -73,7 +73,7 @@ module _ (was : List ℕ) (at : ℕ) (l : List ℕ) where
       rw (le-ltb x at (omega arith), List·getD-eq-default l 0 m) (sym (plus-zero (getD was x 0)))
 
   pub sum-none : Done (sum was at l) at was was
-  sum-none = record { size = refl; done = λ x h. sum-below x h; kept = λ x h. refl }
+  sum-none = record { size = refl; done = λ x h. sum-below x h; unchanged = λ x h. refl }
 
   pub sum-all : (i : ℕ) (row : List ℕ) → Done (sum was at l) (at + i) was row → length l ≤ i → i ≤ length l
       → Row (sum was at l) (length was) row

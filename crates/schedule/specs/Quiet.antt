@@ -28,7 +28,7 @@ use Rattle.schedule.specs.ScheduleLaws.{
   earliest-below,
   earliest-found,
   corrected-astray,
-  corrected-kept,
+  corrected-unchanged,
   started-made,
   started-first,
   when-reached,
@@ -50,13 +50,13 @@ pub update-waits : (s : Schedule) (now t interval : ℕ) → s .next < 2 ^ 32 �
     → updated s t interval ≡ record { schedule = s; flushes = false }
 update-waits s now t interval hs hn ht m h =
     let a = straight (either (isAstray now (s .next))) in
-    let g : minus t now < ahead now (s .next) = rw (corrected-kept now (s .next) a) at h in
+    let g : minus t now < ahead now (s .next) = rw (corrected-unchanged now (s .next) a) at h in
     let e = later now (s .next) (minus t now) g in
     let far = not-due now (s .next) e in
     let back = not-astray now (s .next) a (omega arith) in
     let less : minus t now < minus (s .next) now = rw (ahead-undue now (s .next) e) at g in
     let a' : isAstray t (s .next) ≡ false = near t (s .next) (inr (omega arith)) in
-    let c : corrected t (started s t) ≡ s .next = rw (started-made s t m) (corrected-kept t (s .next) a') in
+    let c : corrected t (started s t) ≡ s .next = rw (started-made s t m) (corrected-unchanged t (s .next) a') in
     sym
     (when-waiting s t interval (rw c (not-yet now (s .next) t hn hs ht g))
     (rw c (ap (λ (x : Schedule). record { schedule = x; flushes = false }) (sym (same s m)))))
@@ -83,11 +83,12 @@ module _ (now next : ℕ) (hn : now < 2 ^ 32) (hs : next < 2 ^ 32) where
       go : (isAstray now next ≡ true) ⊎ (isAstray now next ≡ false) → (isDue now next ≡ true) ⊎ (isDue now next ≡ false)
           → isDue reaches (corrected reaches next) ≡ true
       go (inl a) d = rw (corrected-astray now next a, ahead-now now hn, zero-on, corrected-astray now next a) (due-by now now (omega arith))
-      go (inr a) (inl e) = rw (corrected-kept now next a, ahead-due now next e, zero-on, corrected-kept now next a) e
+      go (inr a) (inl e) = rw (corrected-unchanged now next a, ahead-due now next e, zero-on, corrected-unchanged now next a) e
       go (inr a) (inr e) =
           let there : plus now (minus next now) ≡ next = omega arith in
           let straight = near next next (inl (omega arith)) in
-          rw (corrected-kept now next a, ahead-undue now next e, there, corrected-kept next next straight) (due-by next next (omega arith))
+          rw (corrected-unchanged now next a, ahead-undue now next e, there, corrected-unchanged next next straight)
+          (due-by next next (omega arith))
 
 -- ---- a check at now
 
@@ -146,7 +147,7 @@ module _ (s : Schedule) (now interval : ℕ) (dues : List ℕ)
   for-first m =
       let straight = near now now (inl (omega arith)) in
       inl (rw (named-first s now interval dues m)
-      (flushes-by s now interval (rw (started-first s now m, corrected-kept now now straight) (due-by now now (omega arith)))))
+      (flushes-by s now interval (rw (started-first s now m, corrected-unchanged now now straight) (due-by now now (omega arith)))))
 
   for-made : s .made ≡ true → earliest now limit dues < interval
       → (earliest now limit dues ≡ limit) ⊎ (anyDue (plus now (earliest now limit dues)) dues ≡ true)

@@ -166,9 +166,9 @@ pub corrected-astray : (now next : ℕ) → isAstray now next ≡ true → corre
 unfolding corrected
 corrected-astray now next e = rw e
 
-pub corrected-kept : (now next : ℕ) → isAstray now next ≡ false → corrected now next ≡ next
+pub corrected-unchanged : (now next : ℕ) → isAstray now next ≡ false → corrected now next ≡ next
 unfolding corrected
-corrected-kept now next e = rw e
+corrected-unchanged now next e = rw e
 
 pub started-made : (s : Schedule) (now : ℕ) → s .made ≡ true → started s now ≡ s .next
 unfolding started
@@ -207,7 +207,7 @@ corrected-fits now next hn hs = go (either (isAstray now next))
   where
     go : (isAstray now next ≡ true) ⊎ (isAstray now next ≡ false) → corrected now next < 2 ^ 32
     go (inl a) = rw (corrected-astray now next a) hn
-    go (inr a) = rw (corrected-kept now next a) hs
+    go (inr a) = rw (corrected-unchanged now next a) hs
 
 pub started-fits : (s : Schedule) (now : ℕ) → now < 2 ^ 32 → s .next < 2 ^ 32 → started s now < 2 ^ 32
 started-fits s now hn hs = go (either (s .made))

@@ -1,4 +1,4 @@
-// Sending a message over the block in place. Of the records of the outstanding segments it is told whether they fit.
+// Sending a message over the block in place. Of the records of the outstanding segments it is given whether they fit.
 use answers::Answer;
 use checking::Verdict;
 use control::Arrival;

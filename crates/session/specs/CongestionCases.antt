@@ -54,11 +54,11 @@ unfoldable heard : State → List ℕ → State
 heard s sns = input.applied s [] (map ackOf sns) .state
 
 -- numbers outstanding, then window, threshold and allowance
-abbrev told : State → List ℕ
-told s = length (s .sending .outstanding) ∷ s .congestion .window ∷ s .congestion .threshold ∷ s .congestion .allowance ∷ []
+abbrev figures : State → List ℕ
+figures s = length (s .sending .outstanding) ∷ s .congestion .window ∷ s .congestion .threshold ∷ s .congestion .allowance ∷ []
 
 -- with the setting on the first flush sends nothing, the second one segment; with it off the first sends all. The values move either way
-first-on : told (flushed (fresh 1) 0) ≡ 0 ∷ 1 ∷ 2 ∷ 26 ∷ []
+first-on : figures (flushed (fresh 1) 0) ≡ 0 ∷ 1 ∷ 2 ∷ 26 ∷ []
 unfolding flushed opened flushing usedWindow numberedCount withNumbered numbered transmission isDue signed firstDue atLeastOne afterFlush
 first-on = refl
 
@@ -66,23 +66,23 @@ first-writes : flushing (fresh 1) 0 [] .datagrams ≡ []
 unfolding opened flushing usedWindow numberedCount withNumbered numbered transmitted written packed packOne nextClock
 first-writes = refl
 
-second-on : told (flushed (flushed (fresh 1) 0) 1) ≡ 1 ∷ 1 ∷ 2 ∷ 26 ∷ []
+second-on : figures (flushed (flushed (fresh 1) 0) 1) ≡ 1 ∷ 1 ∷ 2 ∷ 26 ∷ []
 unfolding flushed opened flushing usedWindow numberedCount withNumbered numbered transmission isDue signed firstDue atLeastOne afterFlush
 second-on = refl
 
-first-off : told (flushed (fresh 0) 0) ≡ 3 ∷ 1 ∷ 2 ∷ 26 ∷ []
+first-off : figures (flushed (fresh 0) 0) ≡ 3 ∷ 1 ∷ 2 ∷ 26 ∷ []
 unfolding flushed opened flushing usedWindow numberedCount withNumbered numbered transmission isDue signed firstDue atLeastOne afterFlush
 first-off = refl
 
 -- growth is once a datagram: two acks in one that moved snd_una, and a datagram that did not move it
-once : told (heard (flushed (fresh 0) 0) (0 ∷ 1 ∷ [])) ≡ 1 ∷ 2 ∷ 2 ∷ 52 ∷ []
+once : figures (heard (flushed (fresh 0) 0) (0 ∷ 1 ∷ [])) ≡ 1 ∷ 2 ∷ 2 ∷ 52 ∷ []
 unfolding flushed heard opened flushing usedWindow numberedCount withNumbered numbered transmission isDue signed firstDue atLeastOne
     afterFlush input.applied input.allBySending input.heardBySending input.acknowledged input.sampledBy select skipBefore firstNumberOr
     isAfter isBefore input.ackNumbers input.furthest input.skipped sampled nextSmoothed nextVariation leastTimeout timeoutOf afterDatagram
     grown slowStart limited
 once = refl
 
-unmoved : told (heard (flushed (fresh 0) 0) (1 ∷ 2 ∷ [])) ≡ 1 ∷ 1 ∷ 2 ∷ 26 ∷ []
+unmoved : figures (heard (flushed (fresh 0) 0) (1 ∷ 2 ∷ [])) ≡ 1 ∷ 1 ∷ 2 ∷ 26 ∷ []
 unfolding flushed heard opened flushing usedWindow numberedCount withNumbered numbered transmission isDue signed firstDue atLeastOne
     afterFlush input.applied input.allBySending input.heardBySending input.acknowledged input.sampledBy select skipBefore firstNumberOr
     isAfter isBefore input.ackNumbers input.furthest input.skipped sampled nextSmoothed nextVariation leastTimeout timeoutOf afterDatagram
@@ -90,7 +90,7 @@ unfolding flushed heard opened flushing usedWindow numberedCount withNumbered nu
 unmoved = refl
 
 -- loss by skips counts what is in flight when the flush has numbered: 0 is skipped, and with 5 more numbers 8 are in flight
-skips : told (flushed (withQueued (heard (flushed (fresh 0) 0) (2 ∷ [])) (queue 5)) 1) ≡ 7 ∷ 5 ∷ 4 ∷ 130 ∷ []
+skips : figures (flushed (withQueued (heard (flushed (fresh 0) 0) (2 ∷ [])) (queue 5)) 1) ≡ 7 ∷ 5 ∷ 4 ∷ 130 ∷ []
 unfolding flushed heard opened flushing usedWindow numberedCount withNumbered numbered transmission isDue isSkipped signed firstDue
     atLeastOne afterFlush bySkips halved input.applied input.allBySending input.heardBySending input.acknowledged input.sampledBy select
     skipBefore firstNumberOr isAfter isBefore input.ackNumbers input.furthest input.skipped sampled nextSmoothed nextVariation leastTimeout
@@ -98,7 +98,7 @@ unfolding flushed heard opened flushing usedWindow numberedCount withNumbered nu
 skips = refl
 
 -- loss by timeout halves the window used, here 32
-late : told (flushed (flushed (fresh 0) 0) 200) ≡ 3 ∷ 1 ∷ 16 ∷ 26 ∷ []
+late : figures (flushed (flushed (fresh 0) 0) 200) ≡ 3 ∷ 1 ∷ 16 ∷ 26 ∷ []
 unfolding flushed opened flushing usedWindow numberedCount withNumbered numbered transmission isDue signed firstDue growth longerTimeout
     atLeastOne afterFlush byTimeout halved
 late = refl

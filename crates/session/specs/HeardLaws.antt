@@ -11,8 +11,8 @@ use Rattle.wire.specs.declared.Header.{Header}
 use Rattle.lists.specs.declared.Sent.{Sent}
 use Rattle.lists.specs.declared.Acknowledges.the-variants as by
 use Rattle.lists.specs.Acknowledging as rule
-use Rattle.lists.specs.Acknowledging.{keep, firstNumberOr}
-use Rattle.lists.specs.AcknowledgingLaws.{select-same, keep-both}
+use Rattle.lists.specs.Acknowledging.{filter, firstNumberOr}
+use Rattle.lists.specs.AcknowledgingLaws.{select-same, filter-both}
 use Rattle.session.specs.State.{Sending, withWindow}
 use Rattle.session.specs.Input.{acknowledged, acknowledges, sampledBy, heardBySending}
 
@@ -33,14 +33,14 @@ module _ (c : Settings) (current : ℕ) (s : Sending) (h : Header) where
   passed : Sending
   passed = acknowledged (by.Una (h .una)) (withWindow (h .wnd) s)
 
-  pub heard-outstanding : heardBySending c current s h .outstanding ≡ keep (λ n. not (acknowledges (s .next) h n)) (s .outstanding)
+  pub heard-outstanding : heardBySending c current s h .outstanding ≡ filter (λ n. not (acknowledges (s .next) h n)) (s .outstanding)
   unfolding heardBySending acknowledged sampledBy passed
   heard-outstanding = go (eqb (h .cmd) ack)
     where
       go : (b : Bool) → cond b (acknowledged (by.Ack (h .sn)) (sampledBy c current (h .ts) passed)) passed .outstanding
-          ≡ keep (λ n. not (byUna n || b && eqb n (h .sn))) (s .outstanding)
+          ≡ filter (λ n. not (byUna n || b && eqb n (h .sn))) (s .outstanding)
       go true =
-          keep-both (λ n. not (byUna n)) (λ n. not (eqb n (h .sn))) (s .outstanding)
+          filter-both (λ n. not (byUna n)) (λ n. not (eqb n (h .sn))) (s .outstanding)
           ∙ select-same _ _ (λ (x : Sent). neither (byUna (x .record .number)) (eqb (x .record .number) (h .sn))) (s .outstanding)
       go false = select-same _ _ (λ (x : Sent). ap not (or-false (byUna (x .record .number)))) (s .outstanding)
 

@@ -21,6 +21,6 @@ module _ {A B : Type 0} (f : A → B) where
   map-drop (suc k) (x ∷ l) = map-drop k l
 
 -- what a function leaves as it is
-pub map-kept : {A B : Type 0} (f : A → B) (g : A → A) → ((x : A) → f (g x) ≡ f x) → (l : List A) → map f (map g l) ≡ map f l
-map-kept f g same [] = refl
-map-kept f g same (x ∷ l) = rw (same x, map-kept f g same l)
+pub map-unchanged : {A B : Type 0} (f : A → B) (g : A → A) → ((x : A) → f (g x) ≡ f x) → (l : List A) → map f (map g l) ≡ map f l
+map-unchanged f g same [] = refl
+map-unchanged f g same (x ∷ l) = rw (same x, map-unchanged f g same l)

@@ -81,7 +81,7 @@ module _ (c : Settings) (timeout t : ℕ) where
   after-each (x ∷ l) = ap {B = List Sent} (λ (r : List Sent). sentAfter c timeout t x ∷ r) (after-each l)
 
   -- what the rule leaves as it is
-  pub after-kept : {A : Type 0} (f : Sent → A) → ((x : Sent) → f (sentAfter c timeout t x) ≡ f x) → (l : List Sent)
+  pub after-unchanged : {A : Type 0} (f : Sent → A) → ((x : Sent) → f (sentAfter c timeout t x) ≡ f x) → (l : List Sent)
       → map f (afterwards (ruled c timeout t l)) ≡ map f l
-  after-kept f same [] = refl
-  after-kept f same (x ∷ l) = rw (same x, after-kept f same l)
+  after-unchanged f same [] = refl
+  after-unchanged f same (x ∷ l) = rw (same x, after-unchanged f same l)

@@ -76,9 +76,9 @@ above : answer (sending (ten .state) [] (replicate 3319 2)) ≡ 10
 unfolding sends opened sending filled place cutAs pieces segmentCount fragmentCount lowestFree lowestFrom occurs
 above = refl
 
-kept : lengths (sends ten (replicate 3319 2 ∷ [])) ≡ 10 ∷ []
+unfilled : lengths (sends ten (replicate 3319 2 ∷ [])) ≡ 10 ∷ []
 unfolding sends opened sending filled place cutAs pieces segmentCount fragmentCount lowestFree lowestFrom occurs
-kept = refl
+unfilled = refl
 
 -- a block that another hand made, its last queued segment numbered 3: shorter than mss, the number becomes 0, by an empty send too
 abbrev queuedAs : ℕ → Sends
@@ -92,7 +92,7 @@ renumbered : (fragments (sends (queuedAs 10) ([] ∷ [])) ≡ 0 ∷ []) × (frag
 unfolding sends opened sending filled place cutAs pieces segmentCount fragmentCount lowestFree lowestFrom occurs
 renumbered = (refl, refl)
 
--- a full one keeps it
+-- a full one has it still
 full : fragments (sends (queuedAs 26) ([] ∷ replicate 1 1 ∷ [])) ≡ 3 ∷ 0 ∷ []
 unfolding sends opened sending filled place cutAs pieces segmentCount fragmentCount lowestFree lowestFrom occurs
 full = refl

@@ -18,7 +18,7 @@ use Rattle.wire.specs.LittleEndianLaws.{number-of-bytes, bytes-of-number, lengt
 use Rattle.wire.specs.Stores.{sets-append}
 use Rattle.settings_file.specs.Files.{
   fitsFirst,
-  mark,
+  magic,
   front,
   back,
   added,
@@ -28,7 +28,7 @@ use Rattle.settings_file.specs.Files.{
   writeInto,
   Writes,
   sameFirst,
-  isMarked,
+  hasMagic,
   settingsAt,
   firstRanged,
   secondRanged,
@@ -93,7 +93,7 @@ settings-of-second c r = λ i. record {
 
 -- ---- stored one behind the other
 
-pub front-stored : (v : ℕ) (l : List ℕ) {x y : List ℕ} → x ≡ sets l 0 mark → y ≡ sets x 3 (bytesOf 2 v) → y ≡ sets l 0 (front v)
+pub front-stored : (v : ℕ) (l : List ℕ) {x y : List ℕ} → x ≡ sets l 0 magic → y ≡ sets x 3 (bytesOf 2 v) → y ≡ sets l 0 (front v)
 unfolding front
 front-stored v l p q = simp sets-append (cc)
 
@@ -133,7 +133,7 @@ module _ (c : Settings) (l : List ℕ) where
   unfolding secondOf
   second-put e p q r = rw e (sym (length-second c), (simp (sets-append, length-append, length-front, length-back) (cc)))
 
--- ---- the mark
+-- ---- the magic
 
 and-parts : (a b : Bool) → (a && b) ≡ true → (a ≡ true) × (b ≡ true)
 and-parts true b e = (refl, e)
@@ -189,36 +189,36 @@ module _ (f : List ℕ) where
   unfolding readFrom
   short-file a = rw (lt-leb 5 (length f) a)
 
-  pub unmarked : 5 ≤ length f → isMarked f ≡ false → reading.Refused NotSettings ≡ readFrom f
+  pub no-magic : 5 ≤ length f → hasMagic f ≡ false → reading.Refused NotSettings ≡ readFrom f
   unfolding readFrom
-  unmarked a b = rw (le-leb 5 (length f) a, b)
+  no-magic a b = rw (le-leb 5 (length f) a, b)
 
-  pub other-version : 5 ≤ length f → isMarked f ≡ true → (numberAt 2 f 3 ≡ 1 → ⊥) → (numberAt 2 f 3 ≡ 2 → ⊥)
+  pub other-version : 5 ≤ length f → hasMagic f ≡ true → (numberAt 2 f 3 ≡ 1 → ⊥) → (numberAt 2 f 3 ≡ 2 → ⊥)
       → reading.Refused UnknownVersion ≡ readFrom f
   unfolding readFrom
   other-version a b d e = rw (le-leb 5 (length f) a, b, ne-eqb (numberAt 2 f 3) 1 d, ne-eqb (numberAt 2 f 3) 2 e)
 
-  pub of-first : 5 ≤ length f → isMarked f ≡ true → numberAt 2 f 3 ≡ 1 → readFirst f ≡ readFrom f
+  pub of-first : 5 ≤ length f → hasMagic f ≡ true → numberAt 2 f 3 ≡ 1 → readFirst f ≡ readFrom f
   unfolding readFrom
   of-first a b d = rw (le-leb 5 (length f) a, b, d)
 
-  pub of-second : 5 ≤ length f → isMarked f ≡ true → numberAt 2 f 3 ≡ 2 → readSecond f ≡ readFrom f
+  pub of-second : 5 ≤ length f → hasMagic f ≡ true → numberAt 2 f 3 ≡ 2 → readSecond f ≡ readFrom f
   unfolding readFrom
   of-second a b d = rw (le-leb 5 (length f) a, b, d)
 
 -- ---- the round trips
 
-first-marked : (c : Settings) → isMarked (firstOf c) ≡ true
-unfolding isMarked sameFirst firstOf front bytesOf
-first-marked c = refl
+first-magic : (c : Settings) → hasMagic (firstOf c) ≡ true
+unfolding hasMagic sameFirst firstOf front bytesOf
+first-magic c = refl
 
 first-version : (c : Settings) → numberAt 2 (firstOf c) 3 ≡ 1
 unfolding firstOf front bytesOf numberAt
 first-version c = refl
 
-second-marked : (c : Settings) → isMarked (secondOf c) ≡ true
-unfolding isMarked sameFirst secondOf front bytesOf
-second-marked c = refl
+second-magic : (c : Settings) → hasMagic (secondOf c) ≡ true
+unfolding hasMagic sameFirst secondOf front bytesOf
+second-magic c = refl
 
 second-version : (c : Settings) → numberAt 2 (secondOf c) 3 ≡ 2
 unfolding secondOf front bytesOf numberAt
@@ -232,10 +232,10 @@ read-written c r range = go (fitsFirst c) refl
     go true e =
         let off = and-parts _ (eqb (c .congestion) 0) e in
         let stream = eqb-true (c .stream) 0 (and-parts (leb (c .mtu) 512) (eqb (c .stream) 0) (off .0) .1) in
-        sym (of-first (firstOf c) (omega (arith, length-first c)) (first-marked c) (first-version c))
+        sym (of-first (firstOf c) (omega (arith, length-first c)) (first-magic c) (first-version c))
         ∙ rw (length-first c, settings-of-first c r stream (eqb-true (c .congestion) 0 (off .1)), range, e)
     go false e =
-        sym (of-second (secondOf c) (omega (arith, length-second c)) (second-marked c) (second-version c))
+        sym (of-second (secondOf c) (omega (arith, length-second c)) (second-magic c) (second-version c))
         ∙ rw (length-second c, settings-of-second c r, range, e)
 
 same-settings : (c d : Settings) → reading.Settings c ≡ reading.Settings d → c ≡ d
@@ -249,11 +249,11 @@ join : (a b i : ℕ) (f : List ℕ) → take a (drop i f) ++ take b (drop (i + a
 join a b i f = rw (take-add, drop-drop)
 
 module _ (f : List ℕ) (b : AllBytes f) where
-  -- the mark, where f begins with it, and its version
-  front-of : (v : ℕ) → 5 ≤ length f → isMarked f ≡ true → numberAt 2 f 3 ≡ v → front v ≡ take 5 f
-  unfolding isMarked front
+  -- the magic, where f begins with it, and its version
+  front-of : (v : ℕ) → 5 ≤ length f → hasMagic f ≡ true → numberAt 2 f 3 ≡ v → front v ≡ take 5 f
+  unfolding hasMagic front
   front-of v long m e =
-      ap (λ (l : List ℕ). l ++ bytesOf 2 v) (sym (first-same 3 f mark (omega arith) (omega arith) m))
+      ap (λ (l : List ℕ). l ++ bytesOf 2 v) (sym (first-same 3 f magic (omega arith) (omega arith) m))
       ∙ rw (← e, bytes-of-number 2 f 3 b (omega arith), join 3 2 0)
 
   back-of : (stream congestion : ℕ) → 15 ≤ length f → back (settingsAt f stream congestion) ≡ take 10 (drop 5 f)
@@ -275,12 +275,12 @@ module _ (f : List ℕ) (b : AllBytes f) where
   unfolding added settingsAt
   added-of long = rw (bytes-of-number 1 f 15 b (omega arith), bytes-of-number 1 f 16 b (omega arith), join 1 1 15)
 
-  first-of : length f ≡ 15 → isMarked f ≡ true → numberAt 2 f 3 ≡ 1 → firstOf (settingsAt f 0 0) ≡ f
+  first-of : length f ≡ 15 → hasMagic f ≡ true → numberAt 2 f 3 ≡ 1 → firstOf (settingsAt f 0 0) ≡ f
   unfolding firstOf
   first-of long m v =
       rw (front-of 1 (omega (arith, long)) m v, back-of 0 0 (omega (arith, long)), join 5 10 0) (take-all 15 f (omega (arith, long)))
 
-  second-of : length f ≡ 17 → isMarked f ≡ true → numberAt 2 f 3 ≡ 2 → secondOf (settingsAt f (numberAt 1 f 15) (numberAt 1 f 16)) ≡ f
+  second-of : length f ≡ 17 → hasMagic f ≡ true → numberAt 2 f 3 ≡ 2 → secondOf (settingsAt f (numberAt 1 f 15) (numberAt 1 f 16)) ≡ f
   unfolding secondOf
   second-of long m v =
       rw (
@@ -293,7 +293,7 @@ module _ (f : List ℕ) (b : AllBytes f) where
       (take-all 17 f (omega (arith, long)))
 
   -- a file of version 1 that is accepted is the one that writing gives
-  first-read : (c : Settings) → isMarked f ≡ true → numberAt 2 f 3 ≡ 1 → readFirst f ≡ reading.Settings c → f ≡ fileOf c
+  first-read : (c : Settings) → hasMagic f ≡ true → numberAt 2 f 3 ≡ 1 → readFirst f ≡ reading.Settings c → f ≡ fileOf c
   first-read c m v e = go (eqb (length f) 15) refl (inRange s && fitsFirst s) refl e
     where
       s : Settings
@@ -310,7 +310,7 @@ module _ (f : List ℕ) (b : AllBytes f) where
       go false l g fit h = absurd (not-refused NotSettings c h)
 
   -- and so is one of version 2
-  second-read : (c : Settings) → isMarked f ≡ true → numberAt 2 f 3 ≡ 2 → readSecond f ≡ reading.Settings c → f ≡ fileOf c
+  second-read : (c : Settings) → hasMagic f ≡ true → numberAt 2 f 3 ≡ 2 → readSecond f ≡ reading.Settings c → f ≡ fileOf c
   second-read c m v e = go (eqb (length f) 17) refl (inRange s) refl (fitsFirst s) refl e
     where
       s : Settings
@@ -333,16 +333,16 @@ module _ (f : List ℕ) (b : AllBytes f) where
 -- each file that is accepted is the one that writing gives
 pub written-read : (f : List ℕ) (c : Settings) → AllBytes f → readFrom f ≡ reading.Settings c → f ≡ fileOf c
 unfolding readFrom
-written-read f c b e = go (leb 5 (length f) && isMarked f) refl (eqb (numberAt 2 f 3) 1) refl (eqb (numberAt 2 f 3) 2) refl e
+written-read f c b e = go (leb 5 (length f) && hasMagic f) refl (eqb (numberAt 2 f 3) 1) refl (eqb (numberAt 2 f 3) 2) refl e
   where
-    go : (a : Bool) → (leb 5 (length f) && isMarked f) ≡ a
+    go : (a : Bool) → (leb 5 (length f) && hasMagic f) ≡ a
         → (p : Bool) → eqb (numberAt 2 f 3) 1 ≡ p
         → (q : Bool) → eqb (numberAt 2 f 3) 2 ≡ q
         → cond a (cond p (readFirst f) (cond q (readSecond f) (reading.Refused UnknownVersion))) (reading.Refused NotSettings)
         ≡ reading.Settings c
         → f ≡ fileOf c
-    go true m true v q w h = first-read f b c (and-parts (leb 5 (length f)) (isMarked f) m .1) (eqb-true (numberAt 2 f 3) 1 v) h
-    go true m false v true w h = second-read f b c (and-parts (leb 5 (length f)) (isMarked f) m .1) (eqb-true (numberAt 2 f 3) 2 w) h
+    go true m true v q w h = first-read f b c (and-parts (leb 5 (length f)) (hasMagic f) m .1) (eqb-true (numberAt 2 f 3) 1 v) h
+    go true m false v true w h = second-read f b c (and-parts (leb 5 (length f)) (hasMagic f) m .1) (eqb-true (numberAt 2 f 3) 2 w) h
     go true m false v false w h = absurd (not-refused UnknownVersion c h)
     go false m p v q w h = absurd (not-refused NotSettings c h)
 

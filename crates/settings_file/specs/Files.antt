@@ -29,7 +29,7 @@ use Rattle.settings_file.specs.declared.Writing.the-variants as writing
 abbrev pub numberOf : FileRefusal → ℕ
 numberOf ShortPart = link.numberOf linkRefusal.ShortPart
 numberOf SettingOutOfRange = link.numberOf linkRefusal.SettingOutOfRange
--- under 5 bytes, another mark, or another length than the version has
+-- under 5 bytes, another magic, or another length than the version has
 numberOf NotSettings = 15
 -- another version than 1 and 2
 numberOf UnknownVersion = 16
@@ -52,12 +52,12 @@ fitsFirst c = leb (c .mtu) 512 && eqb (c .stream) 0 && eqb (c .congestion) 0
 -- ---- writing
 
 -- the three letters KLS, first in every file
-abbrev pub mark : List ℕ
-mark = 75 ∷ 76 ∷ 83 ∷ []
+abbrev pub magic : List ℕ
+magic = 75 ∷ 76 ∷ 83 ∷ []
 
--- mark, and the version in 16 bits
+-- magic, and the version in 16 bits
 unfoldable pub front : ℕ → List ℕ
-front version = mark ++ bytesOf 2 version
+front version = magic ++ bytesOf 2 version
 
 -- conversation 4 bytes, mtu 2, mode 1, interval 2, threshold 1
 unfoldable pub back : Settings → List ℕ
@@ -100,9 +100,9 @@ unfoldable pub sameFirst : ℕ → List ℕ → List ℕ → Bool
 sameFirst zero a b = true
 sameFirst (suc n) a b = sameFirst n a b && eqb (getD a n 0) (getD b n 0)
 
--- whether a file begins with the mark
-unfoldable pub isMarked : List ℕ → Bool
-isMarked f = sameFirst 3 f mark
+-- whether a file begins with the magic
+unfoldable pub hasMagic : List ℕ → Bool
+hasMagic f = sameFirst 3 f magic
 
 -- the settings of its bytes, in range or not, with this for stream and for congestion
 unfoldable pub settingsAt : List ℕ → ℕ → ℕ → Settings
@@ -137,9 +137,9 @@ readSecond f =
     (secondRanged (settingsAt f (numberAt 1 f 15) (numberAt 1 f 16)))
     (reading.Refused NotSettings)
 
--- 15 for under 5 bytes or a wrong mark, 16 for an unknown version, then by the version: 15 for a wrong length, then 12, then 20
+-- 15 for under 5 bytes or a wrong magic, 16 for an unknown version, then by the version: 15 for a wrong length, then 12, then 20
 unfoldable pub readFrom : List ℕ → Reading
 readFrom f =
-    cond (leb 5 (length f) && isMarked f)
+    cond (leb 5 (length f) && hasMagic f)
     (cond (eqb (numberAt 2 f 3) 1) (readFirst f) (cond (eqb (numberAt 2 f 3) 2) (readSecond f) (reading.Refused UnknownVersion)))
     (reading.Refused NotSettings)

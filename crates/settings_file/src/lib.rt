@@ -16,7 +16,7 @@ ghost use Rattle.settings_file.specs.Files.{
   back,
   added,
   fileOf,
-  isMarked,
+  hasMagic,
   settingsAt,
   firstRanged,
   secondRanged,
@@ -26,10 +26,10 @@ ghost use Rattle.settings_file.specs.Files.{
   Writes,
 };
 
-// The mark, which every file begins with.
-const MARK: [u8; 3] = *b"KLS";
+// The magic, which every file begins with.
+const MAGIC: [u8; 3] = *b"KLS";
 
-// The bytes in which every version has its mark and its number.
+// The bytes in which every version has its magic and its number.
 const FRONT: usize = 5;
 
 // The two versions and their bytes. A writer's part has room for both.
@@ -87,17 +87,17 @@ fn fits_first(settings: Settings) -> bool
     (settings.mtu <= FIRST_MTU_MOST) & (settings.stream == 0) & (settings.congestion == 0)
 }
 
-// The mark and the version.
+// The magic and the version.
 fn put_front(out: &mut [u8], version: u16)
     requires { ⌜ firstSize ≤ length (now out) ⌝ }
     ensures { λ _. ⌜ now (out .exit) ≡ sets (now (out .entry)) 0 (front version) ⌝ }
 {
-    let mark = MARK;
-    pools::copy_part(&mark, 0, 3, out, 0);
+    let magic = MAGIC;
+    pools::copy_part(&magic, 0, 3, out, 0);
     number::put_u16(out, 3, version);
 }
 
-// The settings of both versions, behind mark and version.
+// The settings of both versions, behind magic and version.
 fn put_back(out: &mut [u8], settings: Settings)
     requires { ⌜ firstSize ≤ length (now out) ⌝ }
     ensures { λ _. ⌜ now (out .exit) ≡ sets (now (out .entry)) 5 (back settings) ⌝ }
@@ -148,15 +148,15 @@ pub fn write(settings: Settings, out: &mut [u8]) -> Writing
     Writing::Refused(FileRefusal::SettingOutOfRange)
 }
 
-// Whether a file begins with the mark.
-fn is_marked(file: &[u8]) -> bool
+// Whether a file begins with the magic.
+fn has_magic(file: &[u8]) -> bool
     requires { ⌜ 3 ≤ length (now file) ⌝ }
-    ensures { λ r. ⌜ r ≡ isMarked (now (file .entry)) ⌝ }
+    ensures { λ r. ⌜ r ≡ hasMagic (now (file .entry)) ⌝ }
 {
-    let mark = MARK;
+    let magic = MAGIC;
     let mut i: usize = 0;
     while i < 3 {
-        if file[i] != mark[i] {
+        if file[i] != magic[i] {
             return false;
         }
         i += 1;
@@ -226,14 +226,14 @@ fn read_second(file: &[u8]) -> Reading
     second_ranged(settings_at(file, stream, congestion))
 }
 
-// Reads a file: 15 for under 5 bytes or a wrong mark, 16 for an unknown version, then as the version says.
+// Reads a file: 15 for under 5 bytes or a wrong magic, 16 for an unknown version, then as the version says.
 pub fn read(file: &[u8]) -> Reading
     ensures { λ r. ⌜ r ≡ readFrom (now (file .entry)) ⌝ }
 {
     if file.len() < FRONT {
         return Reading::Refused(FileRefusal::NotSettings);
     }
-    if is_marked(file) {
+    if has_magic(file) {
         let version = number::read_u16(file, 3);
         if version == FIRST {
             return read_first(file);

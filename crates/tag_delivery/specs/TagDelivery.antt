@@ -31,7 +31,7 @@ use Rattle.demands.specs.Demand3.{demand-3}
 use Rattle.tag_message.specs.Messages.{nameIn}
 use Rattle.tag_survey.specs.Tables.{entriesIn, entryAt}
 use Rattle.tag_table.specs.Changes.{TakesTag}
-use Rattle.tag_table.specs.OtherNames.{Other, KeepsOthers, take-keeps}
+use Rattle.tag_table.specs.OtherNames.{Other, PreservesOthers, take-preserves}
 use Rattle.tag_table.specs.declared.Changing.{Changing}
 
 -- a receiver hears what it hears itself
@@ -51,19 +51,19 @@ pub data Takes : List (List ℕ) → List ℕ → List ℕ → Type 0 where
       → Takes (m ∷ ms) before after
 
 -- an entry whose name no message has is, byte for byte, as it was
-pub all-keep :
+pub all-preserve :
     {ms : List (List ℕ)} {before after : List ℕ} → Takes ms before after → (i : ℕ) →
     ((m : List ℕ) → List·Memᴰ m ms → Other (nameIn m) (entryAt (entriesIn before) i)) →
     entryAt (entriesIn after) i ≡ entryAt (entriesIn before) i
-all-keep none i o = refl
-all-keep {ms = m ∷ ms} {before} {after} (next {between = between} a p r) i o =
-    let e = take-keeps m before a between p i (o m (List·Memᴰ·head refl)) in
-    all-keep r i (λ n k. subst (λ (x : List ℕ). Other (nameIn n) x) (sym e) (o n (List·Memᴰ·tail k))) ∙ e
+all-preserve none i o = refl
+all-preserve {ms = m ∷ ms} {before} {after} (next {between = between} a p r) i o =
+    let e = take-preserves m before a between p i (o m (List·Memᴰ·head refl)) in
+    all-preserve r i (λ n k. subst (λ (x : List ℕ). Other (nameIn n) x) (sym e) (o n (List·Memᴰ·tail k))) ∙ e
 
 -- a message of a receiver, taken into a table: it is one that the sender was given, and every entry with another name is as it was
 pub record Genuine (accepted : List (List ℕ)) (m before after : List ℕ) : Type 0 where
   pub given : List·Memᴰ m accepted
-  pub keeps : KeepsOthers (nameIn m) before after
+  pub preserves : PreservesOthers (nameIn m) before after
 
 module _
     (c : Settings) (calls heard : List Call) (events answers : List Event) (sender receiver : Endpoint)
@@ -81,11 +81,11 @@ module _
     pub taken-from-link :
         (m before : List ℕ) (a : Changing) (after : List ℕ) → List·Memᴰ m (messagesRead (readAnswers answers)) → TakesTag m before a after →
         Genuine (acceptedFor c events) m before after
-    taken-from-link m before a after k p = record { given = read-given m k; keeps = take-keeps m before a after p }
+    taken-from-link m before a after k p = record { given = read-given m k; preserves = take-preserves m before a after p }
 
     -- all messages that it has read, taken one after the other: an entry whose name the sender was never given in a message is as it was
     pub all-taken :
         (before after : List ℕ) → Takes (messagesRead (readAnswers answers)) before after → (i : ℕ) →
         ((m : List ℕ) → List·Memᴰ m (acceptedFor c events) → Other (nameIn m) (entryAt (entriesIn before) i)) →
         entryAt (entriesIn after) i ≡ entryAt (entriesIn before) i
-    all-taken before after t i o = all-keep t i (λ m k. o m (read-given m k))
+    all-taken before after t i o = all-preserve t i (λ m k. o m (read-given m k))

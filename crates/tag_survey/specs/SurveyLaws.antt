@@ -1,4 +1,4 @@
--- Laws of `Surveys`: marks, and the steps of the pass.
+-- Laws of `Surveys`: the fingerprints met, and the steps of the pass.
 -- Assumes nothing.
 use mathlib.Core.Path.{_≡_, refl, sym, ap, _∙_}
 use mathlib.Core.Bool.{Bool, true, false, cond, not, _&&_, _||_}
@@ -16,7 +16,7 @@ use Rattle.tag_entry.specs.Entries.{nameLength, nameOf, valueLength, isZero, is
 use Rattle.tag_entry.specs.EntryLaws.{same-equal, length-name}
 use Rattle.tag_entry.specs.Fingerprints.{fingerprint}
 use Rattle.tag_survey.specs.Tables.{entriesIn, entryAt, some, isFresh, allFresh, isTable, firstWhere, placeOf}
-use Rattle.tag_survey.specs.Surveys.{Marked, Marks, Tested, seenAfter, surveyOf}
+use Rattle.tag_survey.specs.Surveys.{AllMet, Met, Tested, seenAfter, surveyOf}
 use Rattle.tag_survey.specs.TableLaws.{length-entries, lent-entry, entry-size, every-at, every-fails, some-at, some-more, first-more}
 use Rattle.tag_survey.specs.declared.Seen.{Seen}
 use Rattle.tag_survey.specs.declared.Surveyed.the-variants as surveyed
@@ -32,44 +32,44 @@ entry-short e h = go (isFree e) refl h
         let p = and-parts (leb (nameLength e) 32 && leb (valueLength e) 64) _ r in
         leb-true (nameLength e) 32 (and-parts (leb (nameLength e) 32) (leb (valueLength e) 64) (p .0) .0)
 
--- ---- marks
+-- ---- the fingerprints met
 
-pub marked-snoc :
-    (marks : List ℕ) (es : List (List ℕ)) (e : List ℕ) →
-    Marked marks es →
-    (isFree e ≡ false → getD marks (fingerprint (nameOf e)) 0 ≡ 1) →
-    Marked marks (es ++ e ∷ [])
-unfolding Marked
-marked-snoc marks [] e m h = (h, tt)
-marked-snoc marks (d ∷ ds) e m h = (m .0, marked-snoc marks ds e (m .1) h)
+pub met-snoc :
+    (met : List ℕ) (es : List (List ℕ)) (e : List ℕ) →
+    AllMet met es →
+    (isFree e ≡ false → getD met (fingerprint (nameOf e)) 0 ≡ 1) →
+    AllMet met (es ++ e ∷ [])
+unfolding AllMet
+met-snoc met [] e m h = (h, tt)
+met-snoc met (d ∷ ds) e m h = (m .0, met-snoc met ds e (m .1) h)
 
--- a mark more
-mark-stays : (marks : List ℕ) (i j : ℕ) → i < length marks → getD marks j 0 ≡ 1 → getD (set marks i 1) j 0 ≡ 1
-mark-stays marks i j h e = go (eqb j i) refl
+-- one more
+met-stays : (met : List ℕ) (i j : ℕ) → i < length met → getD met j 0 ≡ 1 → getD (set met i 1) j 0 ≡ 1
+met-stays met i j h e = go (eqb j i) refl
   where
-    go : (t : Bool) → eqb j i ≡ t → getD (set marks i 1) j 0 ≡ 1
-    go true q = rw (eqb-true j i q) (getD-set-same marks i 1 0 h)
-    go false q = getD-set-other marks i j 1 0 (eqb-false j i q) ∙ e
+    go : (t : Bool) → eqb j i ≡ t → getD (set met i 1) j 0 ≡ 1
+    go true q = rw (eqb-true j i q) (getD-set-same met i 1 0 h)
+    go false q = getD-set-other met i j 1 0 (eqb-false j i q) ∙ e
 
-pub marked-set : (marks : List ℕ) (i : ℕ) (es : List (List ℕ)) → i < length marks → Marked marks es → Marked (set marks i 1) es
-unfolding Marked
-marked-set marks i [] h m = tt
-marked-set marks i (e ∷ es) h m = ((λ f. mark-stays marks i (fingerprint (nameOf e)) h (m .0 f)), marked-set marks i es h (m .1))
+pub met-set : (met : List ℕ) (i : ℕ) (es : List (List ℕ)) → i < length met → AllMet met es → AllMet (set met i 1) es
+unfolding AllMet
+met-set met i [] h m = tt
+met-set met i (e ∷ es) h m = ((λ f. met-stays met i (fingerprint (nameOf e)) h (m .0 f)), met-set met i es h (m .1))
 
 -- an entry with a name is not free
 pub not-free : (name e : List ℕ) → 1 ≤ length name → name ≡ nameOf e → isFree e ≡ false
 not-free name e h q = ne-eqb (nameLength e) 0 (λ z. omega (arith, ap length q ∙ ap (λ (n : ℕ). length (take n (drop 1 e))) z))
 
--- a name whose fingerprint is not marked is none of theirs
-pub unmarked :
-    (marks name : List ℕ) (es : List (List ℕ)) →
+-- a name whose fingerprint was not met is none of theirs
+pub unmet :
+    (met name : List ℕ) (es : List (List ℕ)) →
     1 ≤ length name →
-    Marked marks es →
-    (getD marks (fingerprint name) 0 ≡ 1 → ⊥) →
+    AllMet met es →
+    (getD met (fingerprint name) 0 ≡ 1 → ⊥) →
     some (isNamed name) es ≡ false
-unfolding Marked some isNamed
-unmarked marks name [] h m n = refl
-unmarked marks name (e ∷ es) h m n = go (isNamed name e) refl (unmarked marks name es h (m .1) n)
+unfolding AllMet some isNamed
+unmet met name [] h m n = refl
+unmet met name (e ∷ es) h m n = go (isNamed name e) refl (unmet met name es h (m .1) n)
   where
     go : (t : Bool) → isNamed name e ≡ t → some (isNamed name) es ≡ false → (t || some (isNamed name) es) ≡ false
     go true q r =
@@ -128,16 +128,16 @@ module _ (t : List ℕ) where
     lent-is = lent-entry t i h
 
     pub free-fresh :
-        (marks : List ℕ) → nameLength (lent t i) ≡ 0 → Marks marks (take i (entriesIn t)) →
-        (true ≡ isFresh (take i (entriesIn t)) (entryAt (entriesIn t) i)) × Marks marks (take (i + 1) (entriesIn t))
+        (met : List ℕ) → nameLength (lent t i) ≡ 0 → Met met (take i (entriesIn t)) →
+        (true ≡ isFresh (take i (entriesIn t)) (entryAt (entriesIn t) i)) × Met met (take (i + 1) (entriesIn t))
     unfolding isFresh
-    free-fresh marks z m =
+    free-fresh met z m =
         let f : isFree (entryAt (entriesIn t) i) ≡ true =
         eq-eqb (nameLength (entryAt (entriesIn t) i)) 0 (ap nameLength (sym lent-is) ∙ z) in (
           rw f,
           record {
             size = m .size;
-            all = rw (take-more t i h) (marked-snoc marks (take i (entriesIn t)) (entryAt (entriesIn t) i) (m .all)
+            all = rw (take-more t i h) (met-snoc met (take i (entriesIn t)) (entryAt (entriesIn t) i) (m .all)
                 (λ g. absurd (let x : _≡_ {A = ℕ} 0 1 = cc in omega arith)));
           },
         )
@@ -151,46 +151,46 @@ module _ (t : List ℕ) where
     used-not-free : (nameLength (lent t i) ≡ 0 → ⊥) → isFree (entryAt (entriesIn t) i) ≡ false
     used-not-free z = ne-eqb (nameLength (entryAt (entriesIn t) i)) 0 (λ q. z (ap nameLength lent-is ∙ q))
 
-    marks-more :
-        (marks : List ℕ) (f : ℕ) → f ≡ fingerprint (nameOf (entryAt (entriesIn t) i)) → f < 256 →
-        Marks marks (take i (entriesIn t)) → Marks (set marks f 1) (take (i + 1) (entriesIn t))
-    marks-more marks f q l m =
-        let k : f < length marks = omega (arith, m .size) in
+    met-more :
+        (met : List ℕ) (f : ℕ) → f ≡ fingerprint (nameOf (entryAt (entriesIn t) i)) → f < 256 →
+        Met met (take i (entriesIn t)) → Met (set met f 1) (take (i + 1) (entriesIn t))
+    met-more met f q l m =
+        let k : f < length met = omega (arith, m .size) in
         record {
-          size = length-set marks f 1 ∙ m .size;
+          size = length-set met f 1 ∙ m .size;
           all = rw (take-more t i h)
-              (marked-snoc (set marks f 1) (take i (entriesIn t)) (entryAt (entriesIn t) i)
-              (marked-set marks f (take i (entriesIn t)) k (m .all))
-              (λ g. rw (← q) (getD-set-same marks f 1 0 k)));
+              (met-snoc (set met f 1) (take i (entriesIn t)) (entryAt (entriesIn t) i)
+              (met-set met f (take i (entriesIn t)) k (m .all))
+              (λ g. rw (← q) (getD-set-same met f 1 0 k)));
         }
 
-    pub unmarked-fresh :
-        (marks : List ℕ) (f : ℕ) → (nameLength (lent t i) ≡ 0 → ⊥) → isEntry (entryAt (entriesIn t) i) ≡ true → length t ≡ 6272 →
-        f ≡ fingerprint (take (1 + nameLength (lent t i) - 1) (drop 1 (lent t i))) → f < 256 → getD marks f 0 ≡ 0 →
-        Marks marks (take i (entriesIn t)) →
-        (true ≡ isFresh (take i (entriesIn t)) (entryAt (entriesIn t) i)) × Marks (set marks f 1) (take (i + 1) (entriesIn t))
+    pub unmet-fresh :
+        (met : List ℕ) (f : ℕ) → (nameLength (lent t i) ≡ 0 → ⊥) → isEntry (entryAt (entriesIn t) i) ≡ true → length t ≡ 6272 →
+        f ≡ fingerprint (take (1 + nameLength (lent t i) - 1) (drop 1 (lent t i))) → f < 256 → getD met f 0 ≡ 0 →
+        Met met (take i (entriesIn t)) →
+        (true ≡ isFresh (take i (entriesIn t)) (entryAt (entriesIn t) i)) × Met (set met f 1) (take (i + 1) (entriesIn t))
     unfolding isFresh
-    unmarked-fresh marks f z e k p l u m =
+    unmet-fresh met f z e k p l u m =
         let q : f ≡ fingerprint (nameOf (entryAt (entriesIn t) i)) = p ∙ ap fingerprint lent-name in
         let s : length (nameOf (entryAt (entriesIn t) i)) ≡ nameLength (entryAt (entriesIn t) i) =
         length-name (entryAt (entriesIn t) i) (entry-size t i h k) (entry-short (entryAt (entriesIn t) i) e) in
         let g = used-not-free z in
         let one : 1 ≤ length (nameOf (entryAt (entriesIn t) i)) = omega (arith, eqb-false (nameLength (entryAt (entriesIn t) i)) 0 g) in
         let none : some (isNamed (nameOf (entryAt (entriesIn t) i))) (take i (entriesIn t)) ≡ false =
-        unmarked marks (nameOf (entryAt (entriesIn t) i)) (take i (entriesIn t)) one (m .all)
-        (λ y. omega (arith, ap (λ (n : ℕ). getD marks n 0) q, u, y)) in
-        (rw (g, none), marks-more marks f q l m)
+        unmet met (nameOf (entryAt (entriesIn t) i)) (take i (entriesIn t)) one (m .all)
+        (λ y. omega (arith, ap (λ (n : ℕ). getD met n 0) q, u, y)) in
+        (rw (g, none), met-more met f q l m)
 
     pub compared-fresh :
-        (marks : List ℕ) (f : ℕ) {b : Bool} → (nameLength (lent t i) ≡ 0 → ⊥) →
+        (met : List ℕ) (f : ℕ) {b : Bool} → (nameLength (lent t i) ≡ 0 → ⊥) →
         f ≡ fingerprint (take (1 + nameLength (lent t i) - 1) (drop 1 (lent t i))) → f < 256 →
         b ≡ some (isNamed (take (1 + nameLength (lent t i) - 1) (drop 1 (lent t i)))) (take i (entriesIn t)) →
-        Marks marks (take i (entriesIn t)) →
-        (not b ≡ isFresh (take i (entriesIn t)) (entryAt (entriesIn t) i)) × Marks (set marks f 1) (take (i + 1) (entriesIn t))
+        Met met (take i (entriesIn t)) →
+        (not b ≡ isFresh (take i (entriesIn t)) (entryAt (entriesIn t) i)) × Met (set met f 1) (take (i + 1) (entriesIn t))
     unfolding isFresh
-    compared-fresh marks f z p l r m =
+    compared-fresh met f z p l r m =
         let g = used-not-free z in
-        (rw (g, ← lent-name) (ap not r), marks-more marks f (p ∙ ap fingerprint lent-name) l m)
+        (rw (g, ← lent-name) (ap not r), met-more met f (p ∙ ap fingerprint lent-name) l m)
 
 -- the first i entries of those that were tested
 pub tested-before : (t : List ℕ) (i : ℕ) → Tested t i → every isEntry (take i (entriesIn t)) ≡ true
@@ -206,26 +206,26 @@ tested-here t i p =
 -- ---- the pass
 
 -- what holds after i entries
-pub record Progress (t name marks : List ℕ) (seen : Seen) (i : ℕ) : Type 0 where
+pub record Progress (t name met : List ℕ) (seen : Seen) (i : ℕ) : Type 0 where
   pub most : i ≤ 64
   pub entries : every isEntry (take i (entriesIn t)) ≡ true
   pub fresh : allFresh (take i (entriesIn t)) (drop i (entriesIn t)) ≡ allFresh [] (entriesIn t)
-  pub marked : Marks marks (take i (entriesIn t))
+  pub fingerprints : Met met (take i (entriesIn t))
   pub named : seen .named ≡ firstWhere (isNamed name) (take i (entriesIn t))
   pub free : seen .free ≡ firstWhere isFree (take i (entriesIn t))
 
-pub starts : (t name marks : List ℕ) → length marks ≡ 256 → Progress t name marks (record { named = 0; free = 0 }) 0
-unfolding every firstWhere Marked
-starts t name marks k = record {
+pub starts : (t name met : List ℕ) → length met ≡ 256 → Progress t name met (record { named = 0; free = 0 }) 0
+unfolding every firstWhere AllMet
+starts t name met k = record {
   most = omega arith;
   entries = refl;
   fresh = refl;
-  marked = record { size = k; all = tt };
+  fingerprints = record { size = k; all = tt };
   named = refl;
   free = refl;
 }
 
-module _ (t name marks : List ℕ) (seen : Seen) (i : ℕ) (p : Progress t name marks seen i) (h : i < 64) where
+module _ (t name met : List ℕ) (seen : Seen) (i : ℕ) (p : Progress t name met seen i) (h : i < 64) where
   pub broken : {b : Bool} → b ≡ isEntry (lent t i) → b ≡ false → surveyed.Broken ≡ surveyOf name (entriesIn t)
   unfolding surveyOf isTable
   broken q r =
@@ -250,24 +250,24 @@ module _ (t name marks : List ℕ) (seen : Seen) (i : ℕ) (p : Progress t name 
       record { size = k; below = h; entries = every-more isEntry (entriesIn t) i [] (below-length t i h) ∙ rw (p .entries, e) }
 
   pub goes-on :
-      (marks′ : List ℕ) {b : Bool} {s : Seen} → Tested t i → b ≡ isFresh (take i (entriesIn t)) (entryAt (entriesIn t) i) → b ≡ true →
-      Marks marks′ (take (i + 1) (entriesIn t)) → s ≡ seenAfter name i (lent t i) seen → Progress t name marks′ s (i + 1)
-  goes-on marks′ z q r m e =
+      (met′ : List ℕ) {b : Bool} {s : Seen} → Tested t i → b ≡ isFresh (take i (entriesIn t)) (entryAt (entriesIn t) i) → b ≡ true →
+      Met met′ (take (i + 1) (entriesIn t)) → s ≡ seenAfter name i (lent t i) seen → Progress t name met′ s (i + 1)
+  goes-on met′ z q r m e =
       record {
         most = omega arith;
         entries = z .entries;
         fresh = rw (sym q ∙ r) at (sym rest ∙ p .fresh);
-        marked = m;
+        fingerprints = m;
         named = ap (λ (x : Seen). x .named) e ∙ rw (lent-entry t i h, p .named)
             (sym (first-more (isNamed name) (entriesIn t) i [] (below-length t i h)));
         free = ap (λ (x : Seen). x .free) e ∙ rw (lent-entry t i h, p .free)
             (sym (first-more isFree (entriesIn t) i [] (below-length t i h)));
       }
 
-pub ends : (t name marks : List ℕ) (seen : Seen) (i : ℕ) → Progress t name marks seen i → 64 ≤ i
+pub ends : (t name met : List ℕ) (seen : Seen) (i : ℕ) → Progress t name met seen i → 64 ≤ i
     → surveyed.Of seen ≡ surveyOf name (entriesIn t)
 unfolding surveyOf isTable placeOf allFresh
-ends t name marks seen i p h =
+ends t name met seen i p h =
     let whole : take i (entriesIn t) ≡ entriesIn t = take-all i (entriesIn t) (omega (arith, length-entries t)) in
     let none : drop i (entriesIn t) ≡ [] = drop-of-length-le (entriesIn t) {i = i} (omega (arith, length-entries t)) in
     let entries : every isEntry (entriesIn t) ≡ true = rw (← whole) (p .entries) in

@@ -26,14 +26,14 @@ pub record Tested (t : List ℕ) (i : ℕ) : Type 0 where
   pub below : i < 64
   pub entries : every isEntry (take (i + 1) (entriesIn t)) ≡ true
 
--- the name of each of these entries is marked by its fingerprint
-unfoldable pub Marked : List ℕ → List (List ℕ) → Type 0
-Marked marks [] = Unit
-Marked marks (e ∷ es) = (isFree e ≡ false → getD marks (fingerprint (nameOf e)) 0 ≡ 1) × Marked marks es
+-- the fingerprint of the name of each of these entries was met
+unfoldable pub AllMet : List ℕ → List (List ℕ) → Type 0
+AllMet met [] = Unit
+AllMet met (e ∷ es) = (isFree e ≡ false → getD met (fingerprint (nameOf e)) 0 ≡ 1) × AllMet met es
 
-pub record Marks (marks : List ℕ) (es : List (List ℕ)) : Type 0 where
-  pub size : length marks ≡ 256
-  pub all : Marked marks es
+pub record Met (met : List ℕ) (es : List (List ℕ)) : Type 0 where
+  pub size : length met ≡ 256
+  pub all : AllMet met es
 
 -- the first place of a test after i entries, and then with the entry at i
 abbrev pub stepped : Bool → ℕ → ℕ → ℕ

@@ -10,7 +10,7 @@ ghost use lib.ListN.{length, take};
 ghost use Rattle.tag_message.specs.Tags.{every};
 ghost use Rattle.tag_entry.specs.Entries.{entrySize, nameLength, isEntry, isNamed};
 ghost use Rattle.tag_survey.specs.Tables.{tableSize, entriesIn, entryAt, some, isFresh, firstPlace};
-ghost use Rattle.tag_survey.specs.Surveys.{Marks, stepped, seenAfter, surveyOf, Tested};
+ghost use Rattle.tag_survey.specs.Surveys.{Met, stepped, seenAfter, surveyOf, Tested};
 
 // How many entries a table has, and its bytes.
 pub const ENTRIES: usize = 64;
@@ -45,12 +45,12 @@ fn named_before(table: &[u8], i: usize, name: &[u8]) -> bool
     false
 }
 
-// Whether no entry before entry i has its name. The fingerprints of the names before it are marked; only where its own is too
-// are the names compared. It is marked then.
-fn is_fresh(table: &[u8], i: usize, marks: &mut [u8; 256]) -> bool
-    requires { ⌜ Tested (now table) i × Marks (now marks) (take i (entriesIn (now table))) ⌝ }
+// Whether no entry before entry i has its name. `met` has the fingerprints of the names before it; only where its own is
+// among them are the names compared. It is among them then.
+fn is_fresh(table: &[u8], i: usize, met: &mut [u8; 256]) -> bool
+    requires { ⌜ Tested (now table) i × Met (now met) (take i (entriesIn (now table))) ⌝ }
     ensures fresh { λ r. ⌜ r ≡ isFresh (take i (entriesIn (now (table .entry)))) (entryAt (entriesIn (now (table .entry))) i) ⌝ }
-    ensures marked { λ _. ⌜ Marks (now (marks .exit)) (take (i + 1) (entriesIn (now (table .entry)))) ⌝ }
+    ensures fingerprints { λ _. ⌜ Met (now (met .exit)) (take (i + 1) (entriesIn (now (table .entry)))) ⌝ }
 {
     let at = ENTRY * i;
     let e = &table[at..at + ENTRY];
@@ -60,8 +60,8 @@ fn is_fresh(table: &[u8], i: usize, marks: &mut [u8; 256]) -> bool
     }
     let name = &e[1..1 + len];
     let f = fingerprint(name);
-    let known = marks[f];
-    marks[f] = 1;
+    let known = met[f];
+    met[f] = 1;
     if known == 0 {
         return true;
     }
@@ -113,7 +113,7 @@ pub fn survey(table: &[u8], name: &[u8]) -> Surveyed
     requires { ⌜ length (now table) ≡ tableSize ⌝ }
     ensures { λ r. ⌜ r ≡ surveyOf (now (name .entry)) (entriesIn (now (table .entry))) ⌝ }
 {
-    let mut marks = [0u8; 256];
+    let mut met = [0u8; 256];
     let mut seen = Seen { named: 0, free: 0 };
     let mut i: usize = 0;
     while i < ENTRIES {
@@ -122,7 +122,7 @@ pub fn survey(table: &[u8], name: &[u8]) -> Surveyed
         if !is_entry(e) {
             return Surveyed::Broken;
         }
-        if !is_fresh(table, i, &mut marks) {
+        if !is_fresh(table, i, &mut met) {
             return Surveyed::Broken;
         }
         seen = seen.with(i, e, name);

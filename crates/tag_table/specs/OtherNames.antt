@@ -26,8 +26,8 @@ pub record Other (name e : List ℕ) : Type 0 where
   pub differs : name ≡ nameOf e → ⊥
 
 -- every entry of a table with another name is, byte for byte, as it was
-abbrev pub KeepsOthers : List ℕ → List ℕ → List ℕ → Type 0
-KeepsOthers name before after = (i : ℕ) → Other name (entryAt (entriesIn before) i)
+abbrev pub PreservesOthers : List ℕ → List ℕ → List ℕ → Type 0
+PreservesOthers name before after = (i : ℕ) → Other name (entryAt (entriesIn before) i)
     → entryAt (entriesIn after) i ≡ entryAt (entriesIn before) i
 
 -- the test holds at the first place
@@ -80,28 +80,30 @@ placed t formed place none e = go (eqb (length t) 6272) (isTable (entriesIn t)) 
     go false y f p q h = absurd (let z : _≡_ {A = ℕ} 0 1 = cc in omega arith)
 
 -- a change at one place, which no other name has
-changed-keeps :
+changed-preserves :
     (name before : List ℕ) (formed : Bool) (place : ℕ) (none : TagRefusal) (e : List ℕ) (a : Changing) (after : List ℕ) →
     ((i : ℕ) → i < 64 → i ≡ place → Other name (entryAt (entriesIn before) i) → ⊥) →
-    Changes (answerTo before formed place none) (set (entriesIn before) place e) before a after → KeepsOthers name before after
-changed-keeps name before formed place none e (Refused r) after n p i o = ap (λ (l : List ℕ). entryAt (entriesIn l) i) (p .leaves)
-changed-keeps name before formed place none e Done after n p i o =
+    Changes (answerTo before formed place none) (set (entriesIn before) place e) before a after → PreservesOthers name before after
+changed-preserves name before formed place none e (Refused r) after n p i o = ap (λ (l : List ℕ). entryAt (entriesIn l) i) (p .leaves)
+changed-preserves name before formed place none e Done after n p i o =
     ap (λ (es : List (List ℕ)). entryAt es i) (p .leaves .1)
     ∙ getD-set-other (entriesIn before) place i e [] (λ q. n i (rw q (placed before formed place none (p .answered))) q o)
 
 -- no tag that is set alters an entry with another name
-pub set-keeps : (name value before : List ℕ) (a : Changing) (after : List ℕ) → SetsTag name value before a after
-    → KeepsOthers name before after
+pub set-preserves : (name value before : List ℕ) (a : Changing) (after : List ℕ) → SetsTag name value before a after
+    → PreservesOthers name before after
 unfolding withTag
-set-keeps name value before a after p = changed-keeps name before _ _ _ (entryOf name value) a after (other-place name before) p
+set-preserves name value before a after p = changed-preserves name before _ _ _ (entryOf name value) a after (other-place name before) p
 
 -- no tag message that is read and set does
-pub take-keeps : (m before : List ℕ) (a : Changing) (after : List ℕ) → TakesTag m before a after → KeepsOthers (nameIn m) before after
+pub take-preserves : (m before : List ℕ) (a : Changing) (after : List ℕ) → TakesTag m before a after
+    → PreservesOthers (nameIn m) before after
 unfolding withTag
-take-keeps m before a after p =
-    changed-keeps (nameIn m) before _ _ _ (entryOf (nameIn m) (valueIn m)) a after (other-place (nameIn m) before) p
+take-preserves m before a after p =
+    changed-preserves (nameIn m) before _ _ _ (entryOf (nameIn m) (valueIn m)) a after (other-place (nameIn m) before) p
 
 -- nor does a name that is removed
-pub remove-keeps : (name before : List ℕ) (a : Changing) (after : List ℕ) → RemovesTag name before a after → KeepsOthers name before after
+pub remove-preserves : (name before : List ℕ) (a : Changing) (after : List ℕ) → RemovesTag name before a after
+    → PreservesOthers name before after
 unfolding withoutTag
-remove-keeps name before a after p = changed-keeps name before _ _ _ freeEntry a after (other-named name before) p
+remove-preserves name before a after p = changed-preserves name before _ _ _ freeEntry a after (other-named name before) p

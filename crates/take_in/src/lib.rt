@@ -25,10 +25,9 @@ pub fn take_in(
     let flight = link.flight;
     let arrival = link.arrival;
     let clock = link.clock;
-    let words = link.outstanding;
     let n = results::outstanding_count(flight);
     let mut records = record_words::none();
-    gathering::gather(table, words, n, &mut records);
+    gathering::gather(table, &link.outstanding, n, &mut records);
     let lent = records::table_len(table);
     let taken = input_core::input(
         settings,
@@ -48,12 +47,11 @@ pub fn take_in(
         acks,
         datagram,
     );
-    let words = link.outstanding;
     let flight = results::taken_flight(taken);
     link.flight = flight;
     let arrival = results::taken_arrival(taken);
     link.arrival = arrival;
     let n = results::taken_changed(taken);
-    gathering::scatter(table, words, n, &records);
+    gathering::scatter(table, &link.outstanding, n, &records);
     results::taken_code(taken)
 }

@@ -1,7 +1,7 @@
 -- The walk over the outstanding segments: the turns of its loop.
 -- Assumes nothing.
 use mathlib.Core.Path.{_≡_, refl, sym, ap, subst, _∙_}
-use mathlib.Core.Bool.{Bool, true, false, cond, _&&_, _||_, or-assoc, or-false}
+use mathlib.Core.Bool.{Bool, true, false, cond, _&&_, _||_, or-assoc, or-true, or-false}
 use mathlib.Core.List.{List, [], _∷_, _++_, map, map-append}
 use Prim.Native.Nat.{ℕ, zero, suc, _+_, _*_, _≤_, _<_}
 use native.Mathlib.Nat.{mul-le-mul-right}
@@ -30,7 +30,7 @@ use Rattle.numbering.specs.Sents.{sentIn}
 use Rattle.numbering.proofs.SentLaws.{sents, sents-take, sents-set, sents-get, sents-length, sents-front}
 use Rattle.transmit.specs.declared.Flush.{Flush}
 use Rattle.transmit.proofs.ControlLaws.{wished-none}
-use Rattle.transmit.specs.Writing.{ruleOf, leftBy, sentBy, lateBy, fastBy, dataOf, InSlot, AllInSlots, sentAs, Walks}
+use Rattle.transmit.specs.Writing.{ruleOf, leftBy, sentBy, lateBy, fastBy, sendsBy, dataOf, InSlot, AllInSlots, sentAs, Walks}
 
 -- ---- lists
 
@@ -80,7 +80,7 @@ module _ (f : Flush) (y x : Sent) (sends : Bool) (p : sends ≡ ruleOf f y .rule
 
 -- The first i of the n segments have been handled.
 pub record Walking (f : Flush) (n : ℕ) (pool : List ℕ) (k₀ : Packer) (out₀ lengths₀ : List ℕ) (l₀ : List Sent)
-    (ws ts rs : List ℕ) (k : Packer) (out lengths : List ℕ) (b b₁ b₂ : Bool) (i : ℕ) : Type 0 where
+    (ws ts rs : List ℕ) (k : Packer) (out lengths : List ℕ) (b b₁ b₂ b₃ : Bool) (i : ℕ) : Type 0 where
   pub wholes : length ts ≡ 32
   pub whole-records : length rs ≡ 128
   pub list : Packed 32 n l₀ (sents ws ts (recordsIn rs)) (leftBy f (drop i (take n l₀))) (leftBy f (take n l₀)) i i
@@ -89,18 +89,19 @@ pub record Walking (f : Flush) (n : ℕ) (pool : List ℕ) (k₀ : Packer) (out�
   pub dead : b ≡ someDead (sentBy f (take i (take n l₀)))
   pub late : b₁ ≡ lateBy f (take i (take n l₀))
   pub fast : b₂ ≡ fastBy f (take i (take n l₀))
+  pub sends : b₃ ≡ sendsBy f (take i (take n l₀))
 
 -- the same, by other names
 pub walking-as : {f : Flush} {n : ℕ} {pool : List ℕ} {k₀ : Packer} {out₀ lengths₀ : List ℕ} {l₀ : List Sent} {ws ts ts′ rs rs′ : List ℕ}
-    {k k′ : Packer} {out out′ lengths lengths′ : List ℕ} {b b′ late late′ fast fast′ : Bool} {i : ℕ}
-    → ts′ ≡ ts → rs′ ≡ rs → out′ ≡ out → lengths′ ≡ lengths → k′ ≡ k → b′ ≡ b → late′ ≡ late → fast′ ≡ fast
-    → Walking f n pool k₀ out₀ lengths₀ l₀ ws ts rs k out lengths b late fast i
-    → Walking f n pool k₀ out₀ lengths₀ l₀ ws ts′ rs′ k′ out′ lengths′ b′ late′ fast′ i
-walking-as et er eo el ek eb ea ef w = rw (et, er, eo, el, ek, eb, ea, ef) w
+    {k k′ : Packer} {out out′ lengths lengths′ : List ℕ} {b b′ late late′ fast fast′ sent sent′ : Bool} {i : ℕ}
+    → ts′ ≡ ts → rs′ ≡ rs → out′ ≡ out → lengths′ ≡ lengths → k′ ≡ k → b′ ≡ b → late′ ≡ late → fast′ ≡ fast → sent′ ≡ sent
+    → Walking f n pool k₀ out₀ lengths₀ l₀ ws ts rs k out lengths b late fast sent i
+    → Walking f n pool k₀ out₀ lengths₀ l₀ ws ts′ rs′ k′ out′ lengths′ b′ late′ fast′ sent′ i
+walking-as et er eo el ek eb ea ef es w = rw (et, er, eo, el, ek, eb, ea, ef, es) w
 
 pub walking-start : (f : Flush) (n : ℕ) (pool : List ℕ) (k₀ : Packer) (out₀ lengths₀ ws ts rs : List ℕ)
     → n ≤ 32 → length ws ≡ 32 → length ts ≡ 32 → length rs ≡ 128 → Fills (f .settings .mtu) k₀
-    → Walking f n pool k₀ out₀ lengths₀ (sents ws ts (recordsIn rs)) ws ts rs k₀ out₀ lengths₀ false false false 0
+    → Walking f n pool k₀ out₀ lengths₀ (sents ws ts (recordsIn rs)) ws ts rs k₀ out₀ lengths₀ false false false false 0
 unfolding transmitted
 walking-start f n pool k₀ out₀ lengths₀ ws ts rs h ew et er q =
     record {
@@ -111,11 +112,12 @@ walking-start f n pool k₀ out₀ lengths₀ ws ts rs h ew et er q =
       dead = refl;
       late = refl;
       fast = refl;
+      sends = refl;
     }
 
 module _ (f : Flush) (n : ℕ) (pool : List ℕ) (k₀ : Packer) (out₀ lengths₀ : List ℕ) (l₀ : List Sent) (ws ts rs : List ℕ)
-    (k : Packer) (out lengths : List ℕ) (dead late fast : Bool) (i : ℕ)
-    (w : Walking f n pool k₀ out₀ lengths₀ l₀ ws ts rs k out lengths dead late fast i) where
+    (k : Packer) (out lengths : List ℕ) (dead late fast sent : Bool) (i : ℕ)
+    (w : Walking f n pool k₀ out₀ lengths₀ l₀ ws ts rs k out lengths dead late fast sent i) where
   module _ (h : i < n) where
     -- there is room for the next one
     pub walking-room : Room (f .settings .mtu) (32 * f .settings .mtu) 32 k₀ out₀ lengths₀
@@ -151,7 +153,8 @@ module _ (f : Flush) (n : ℕ) (pool : List ℕ) (k₀ : Packer) (out₀ lengths
             → Adds (f .settings .mtu) (wished (x .sends) (dataOf f pool (sentAs (getD ws i 0) x))) (f .settings .mtu) 1 k out lengths k′
             out′ lengths′
             → b ≡ (x .sends && eqb (x .transmissions) 20)
-            → Walking f n pool k₀ out₀ lengths₀ l₀ ws ts′ rs′ k′ out′ lengths′ (dead || b) (late || x .late) (fast || x .fast) (i + 1)
+            → Walking f n pool k₀ out₀ lengths₀ l₀ ws ts′ rs′ k′ out′ lengths′ (dead || b) (late || x .late) (fast || x .fast)
+            (sent || x .sends) (i + 1)
         turn ts′ rs′ k′ out′ lengths′ b l m s a t =
             let more = prefix-more (take n l₀) (drop (i + 1) (take n l₀)) i read next in
             let sends = ap (λ (y : Transmission). y .sends) e in
@@ -164,6 +167,7 @@ module _ (f : Flush) (n : ℕ) (pool : List ℕ) (k₀ : Packer) (out₀ lengths
               dead = rw (more, sent-dead f read (sentAs (getD ws i 0) x) (x .sends) sends after, ← (w .dead), ← t);
               late = rw (more, map-append, some-more, ← (w .late), ← e);
               fast = rw (more, map-append, some-more, ← (w .fast), ← e);
+              sends = rw (more, map-append, some-more, ← (w .sends), ← e);
             }
 
         -- it is sent
@@ -171,24 +175,24 @@ module _ (f : Flush) (n : ℕ) (pool : List ℕ) (k₀ : Packer) (out₀ lengths
             → (length rs′ ≡ 128) × (recordsIn rs′ ≡ set (recordsIn rs) i (x .updated))
             → Adds (f .settings .mtu) (dataOf f pool (sentAs (getD ws i 0) x) ∷ []) (f .settings .mtu) 1 k out lengths k′ out′ lengths′
             → Walking f n pool k₀ out₀ lengths₀ l₀ ws (set ts i (x .transmissions)) rs′ k′ out′ lengths′
-            (dead || eqb (x .transmissions) 20) (late || x .late) (fast || x .fast) (i + 1)
+            (dead || eqb (x .transmissions) 20) (late || x .late) (fast || x .fast) true (i + 1)
         walking-sent rs′ k′ out′ lengths′ s p a =
-            turn (set ts i (x .transmissions)) rs′ k′ out′ lengths′ (eqb (x .transmissions) 20)
+            rw (s, or-true sent) at (turn (set ts i (x .transmissions)) rs′ k′ out′ lengths′ (eqb (x .transmissions) 20)
             (length-set ts i (x .transmissions) ∙ w .wholes) (p .0)
             (sents-set ws ts (recordsIn rs) i (getD ws i 0) (x .transmissions) (x .updated) ∙ rw (set-getD ws i 0, p .1))
             (rw s a)
-            (rw s)
+            (rw s))
 
         -- it is not sent, and stays
-        pub walking-kept : x .sends ≡ false → Walking f n pool k₀ out₀ lengths₀ l₀ ws ts rs k out lengths dead late fast (i + 1)
-        walking-kept s =
-            let kept = e ∙ transmission-not-sent (f .settings) (f .timeout) (f .t) (getD ts i 0) (getD (recordsIn rs) i r)
+        pub walking-unchanged : x .sends ≡ false → Walking f n pool k₀ out₀ lengths₀ l₀ ws ts rs k out lengths dead late fast sent (i + 1)
+        walking-unchanged s =
+            let same = e ∙ transmission-not-sent (f .settings) (f .timeout) (f .t) (getD ts i 0) (getD (recordsIn rs) i r)
             (sym (ap (λ (y : Transmission). y .sends) e) ∙ s) in
-            let on-time : x .late ≡ false = ap (λ (y : Transmission). y .late) kept in
-            let in-turn : x .fast ≡ false = ap (λ (y : Transmission). y .fast) kept in
-            rw (on-time, in-turn, or-false dead, or-false late, or-false fast) at (turn ts rs k out lengths false (w .wholes)
-            (w .whole-records)
-            (ap (λ (y : Sent). set (sents ws ts (recordsIn rs)) i y) (ap (sentAs (getD ws i 0)) kept ∙ sym here)
+            let on-time : x .late ≡ false = ap (λ (y : Transmission). y .late) same in
+            let in-turn : x .fast ≡ false = ap (λ (y : Transmission). y .fast) same in
+            rw (on-time, in-turn, s, or-false dead, or-false late, or-false fast, or-false sent) at (turn ts rs k out lengths false
+            (w .wholes) (w .whole-records)
+            (ap (λ (y : Sent). set (sents ws ts (recordsIn rs)) i y) (ap (sentAs (getD ws i 0)) same ∙ sym here)
             ∙ set-getD (sents ws ts (recordsIn rs)) i (withRecord (outstandingAt 0 0) r))
             (wished-none _ _ _ _ k out lengths (x .sends) s (w .adds .fills))
             (rw s))
@@ -196,7 +200,7 @@ module _ (f : Flush) (n : ℕ) (pool : List ℕ) (k₀ : Packer) (out₀ lengths
   -- all are handled
   pub walking-done : (ts₀ rs₀ : List ℕ) → l₀ ≡ sents ws ts₀ (recordsIn rs₀) → length ws ≡ 32 → n ≤ i
       → Walks f (sentIn ws ts₀ (recordsIn rs₀) n) ws n pool k₀ out₀ lengths₀
-      (record { packer = k; dead = dead; late = late; fast = fast }) ts rs out lengths
+      (record { packer = k; dead = dead; late = late; fast = fast; sent = sent }) ts rs out lengths
   walking-done ts₀ rs₀ q whole h =
       let all : i ≡ n = omega (arith, w .list .upto) in
       let here : take n l₀ ≡ sentIn ws ts₀ (recordsIn rs₀) n = rw q (sym (sents-take ws ts₀ (recordsIn rs₀) n)) in
@@ -210,4 +214,5 @@ module _ (f : Flush) (n : ℕ) (pool : List ℕ) (k₀ : Packer) (out₀ lengths
         dead = rw front at (w .dead);
         late = rw front at (w .late);
         fast = rw front at (w .fast);
+        sends = rw front at (w .sends);
       }

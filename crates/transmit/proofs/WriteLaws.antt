@@ -72,7 +72,7 @@ pub writes-all : (f : Flush) (acks : List Ack) (ask tell : Bool) (l : List Sent)
     → Walks f l words count pool k out′ lengths′ r transmissions′ records′ out″ lengths″
     → Finishes (r .packer) lengths″ number lengths‴
     → Writes f acks ask tell l words count pool out lengths
-    (record { dead = r .dead; late = r .late; fast = r .fast; count = number }) transmissions′ records′ out″ lengths‴
+    (record { dead = r .dead; late = r .late; fast = r .fast; sent = r .sent; count = number }) transmissions′ records′ out″ lengths‴
 writes-all f acks ask tell l words count pool n m k₀ out lengths k out′ lengths′ r ts′ rs′ out″ lengths″ number lengths‴ e a v c =
     record {
       output = rw (append-assoc, append-assoc) at
@@ -81,4 +81,5 @@ writes-all f acks ask tell l words count pool n m k₀ out lengths k out′ leng
       dead = v .dead;
       late = v .late;
       fast = v .fast;
+      sends = v .sends;
     }

@@ -42,4 +42,5 @@ module _ (s : State) (t : ℕ) (f : Flush) (e : FlushOf s t f) (pool : List ℕ)
         dead = rw (w .dead, same-sent);
         late = rw (w .late, e .settings, e .timeout, e .time);
         fast = rw (w .fast, e .settings, e .timeout, e .time);
+        sends = rw (w .sends, e .settings, e .timeout, e .time);
       }

@@ -8,7 +8,7 @@ use Rattle.timing.specs.Probes.{nextClock}
 use Rattle.lists.specs.declared.Sent.{Sent}
 use Rattle.packing.specs.Packers.{carriedOf, Output, bytesOfDatagrams}
 use Rattle.session.specs.State.{State}
-use Rattle.session.specs.Flushing.{carried, windowOf, numberedCount, withNumbered, flushing}
+use Rattle.session.specs.Flushing.{Ruled, ruled, some, carried, windowOf, numberedCount, withNumbered, flushing}
 use Rattle.session.specs.RuleLaws.{lossesAt}
 use Rattle.numbering.specs.Sents.{SentFront}
 use Rattle.transmit.specs.declared.Flush.{Flush}
@@ -29,8 +29,13 @@ outstandingNow s = withNumbered (s .sending) (numberedCount (windowOf s) (s .sen
 abbrev pub asks : State → ℕ → Bool
 asks s t = s .ask || nextClock (s .probe) t (s .sending .window) .ask
 
+-- one of them is sent at t
+abbrev pub sendsAt : State → ℕ → Bool
+sendsAt s t =
+    some (λ (r : Ruled). r .rule .sends) (ruled (s .settings) (s .sending .roundTrip .timeout) t (outstandingNow s))
+
 -- what a flush of the state s at t writes: the output has its datagrams, the arrays its outstanding segments, n of them, dead is as after
--- it, and late and fast are what it tells of losses
+-- it, late and fast are what it tells of losses, and sent is whether it sends one of them
 pub record FlushWrites (s : State) (t : ℕ) (words : List ℕ) (n : ℕ) (pool out lengths : List ℕ) (r : Written)
     (transmissions′ records′ out′ lengths′ : List ℕ) : Type 0 where
   pub output : Output (bytesOfDatagrams (flushing s t pool .datagrams)) out lengths (r .count) out′ lengths′
@@ -38,3 +43,4 @@ pub record FlushWrites (s : State) (t : ℕ) (words : List ℕ) (n : ℕ) (pool 
   pub dead : (s .dead || r .dead) ≡ flushing s t pool .state .dead
   pub late : r .late ≡ lossesAt s t .late
   pub fast : r .fast ≡ lossesAt s t .fast
+  pub sends : r .sent ≡ sendsAt s t

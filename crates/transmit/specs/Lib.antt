@@ -1,4 +1,5 @@
 pub mod Writing
 pub mod Flushes
 pub mod FlushLaws
+pub mod IdleLaws
 pub mod ValidLaws

@@ -60,6 +60,10 @@ lateBy f l = some (λ (r : Ruled). r .rule .late) (rulesOf f l)
 abbrev pub fastBy : Flush → List Sent → Bool
 fastBy f l = some (λ (r : Ruled). r .rule .fast) (rulesOf f l)
 
+-- one is sent
+abbrev pub sendsBy : Flush → List Sent → Bool
+sendsBy f l = some (λ (r : Ruled). r .rule .sends) (rulesOf f l)
+
 -- one of them as a data segment
 abbrev pub dataOf : Flush → List ℕ → Sent → Segment
 dataOf f pool = dataSegment (carriedOf (f .carried)) (mss (f .settings)) (f .t) pool
@@ -87,8 +91,8 @@ pub record Sendable (f : Flush) (words transmissions records : List ℕ) (n : �
   pub inside : AllInSlots (mss (f .settings)) (sentIn words transmissions (recordsIn records) n)
   pub slots : 128 * mss (f .settings) ≤ length pool
 
--- all n segments of l are handled: those sent are put as data, each is as its rule leaves it, and it is told whether one sent was
--- transmitted 20 times, due or skipped
+-- all n segments of l are handled: those sent are put as data, each is as its rule leaves it, and it is told whether one was sent, and
+-- whether one sent was transmitted 20 times, due or skipped
 pub record Walks (f : Flush) (l : List Sent) (words : List ℕ) (n : ℕ) (pool : List ℕ) (k : Packer) (out lengths : List ℕ) (r : Walked)
     (transmissions′ records′ out′ lengths′ : List ℕ) : Type 0 where
   pub adds : Adds (f .settings .mtu) (map (dataOf f pool) (sentBy f l)) (32 * f .settings .mtu) 32 k out lengths (r .packer) out′ lengths′
@@ -96,6 +100,7 @@ pub record Walks (f : Flush) (l : List Sent) (words : List ℕ) (n : ℕ) (pool 
   pub dead : r .dead ≡ someDead (sentBy f l)
   pub late : r .late ≡ lateBy f l
   pub fast : r .fast ≡ fastBy f l
+  pub sends : r .sent ≡ sendsBy f l
 
 -- ---- all that is written
 
@@ -118,7 +123,7 @@ pub record Writable (f : Flush) (noted : ℕ) (acks words transmissions records 
   pub sizes : 290 ≤ length lengths
 
 -- what a flush writes: the output has its datagrams, each outstanding segment of l is as its rule leaves it, and it is told whether one
--- sent was transmitted 20 times, due or skipped
+-- was sent, and whether one sent was transmitted 20 times, due or skipped
 pub record Writes (f : Flush) (acks : List Ack) (ask tell : Bool) (l : List Sent) (words : List ℕ) (n : ℕ) (pool out lengths : List ℕ)
     (r : Written) (transmissions′ records′ out′ lengths′ : List ℕ) : Type 0 where
   pub output : Output (bytesOfDatagrams (packed (f .settings .mtu) (segmentsOf f acks ask tell pool (sentBy f l)))) out lengths (r .count)
@@ -127,3 +132,4 @@ pub record Writes (f : Flush) (acks : List Ack) (ask tell : Bool) (l : List Sent
   pub dead : r .dead ≡ someDead (sentBy f l)
   pub late : r .late ≡ lateBy f l
   pub fast : r .fast ≡ fastBy f l
+  pub sends : r .sent ≡ sendsBy f l

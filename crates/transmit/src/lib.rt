@@ -19,21 +19,23 @@ pub struct Flush {
     pub t: u32,
 }
 
-// The packer behind the data that was put, and whether one of the outstanding segments sent was transmitted 20 times, was due
-// (late), or was skipped (fast).
+// The packer behind the data that was put, whether one of the outstanding segments was sent, and whether one sent was transmitted
+// 20 times, was due (late), or was skipped (fast).
 struct Walked {
     packer: Packer,
     dead: bool,
     late: bool,
     fast: bool,
+    sent: bool,
 }
 
-// What a flush has written: whether one of the outstanding segments sent was transmitted 20 times, was due (late), or was
-// skipped (fast), and the number of datagrams.
+// What a flush has written: whether one of the outstanding segments was sent, whether one sent was transmitted 20 times, was due
+// (late), or was skipped (fast), and the number of datagrams.
 pub struct Written {
     pub dead: bool,
     pub late: bool,
     pub fast: bool,
+    pub sent: bool,
     pub count: usize,
 }
 
@@ -87,6 +89,7 @@ pub fn write(
         dead: walked.dead,
         late: walked.late,
         fast: walked.fast,
+        sent: walked.sent,
         count,
     }
 }

@@ -72,6 +72,7 @@ pub(crate) fn put_outstanding(
     let mut dead = false;
     let mut late = false;
     let mut fast = false;
+    let mut sent = false;
     let mut i: usize = 0;
     while i < n {
         let old = record_words::at(records, i);
@@ -90,6 +91,7 @@ pub(crate) fn put_outstanding(
             dead = dead | (x.transmissions == Protocol::DEAD_AFTER);
             late = late | x.late;
             fast = fast | x.fast;
+            sent = true;
         }
         i += 1;
     }
@@ -98,5 +100,6 @@ pub(crate) fn put_outstanding(
         dead,
         late,
         fast,
+        sent,
     }
 }

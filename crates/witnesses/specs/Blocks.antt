@@ -15,7 +15,7 @@ use Rattle.session.specs.Reading.{Reads}
 use Rattle.control.specs.declared.Link.{Link}
 use Rattle.promises.specs.Promises.{tableOf}
 use Rattle.demands.specs.Steps.{Endpoint}
-use Rattle.demands.specs.Told.{acksAfter}
+use Rattle.demands.specs.Relations.{acksAfter}
 
 abbrev flag : Bool → ℕ
 flag b = cond b 1 0

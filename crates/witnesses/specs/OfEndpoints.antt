@@ -83,7 +83,7 @@ use Rattle.delivery.specs.Hearing.{FewPushes, FedWith, HearsMore}
 use Rattle.demands.specs.Steps.{Endpoint, cutBy, Called, start, next, Opens, SinceOpening}
 use Rattle.delivery.specs.Claims.{Delivered}
 use Rattle.demands.specs.Claims.{observed}
-use Rattle.demands.specs.Told.{entriesOf}
+use Rattle.demands.specs.Relations.{entriesOf}
 use Rattle.demands.specs.Demand3.{demand-3}
 use Rattle.witnesses.specs.Blocks.{linkOf, afterSend, afterInput, afterFlush, afterReading}
 use Rattle.witnesses.specs.OfStations.{bytes-by, c}

@@ -85,7 +85,7 @@ use Rattle.promises.specs.Outcomes.{sendsWith, takesInWith, flushesWith, update
 use Rattle.delivery.specs.PlainReceiver.{pushNumbers, pushesIn}
 use Rattle.demands.specs.Steps.{Endpoint, cutBy, Called, start, next}
 use Rattle.demands.specs.Claims.{fragmentsAccepted}
-use Rattle.demands.specs.Told.{entriesOf}
+use Rattle.demands.specs.Relations.{entriesOf}
 use Rattle.progress.specs.TwoEnds.{
   Move,
   atA,
@@ -144,8 +144,8 @@ resent =
 unfoldable pub heard : Endpoint
 heard = afterInput fresh (takesIn (fresh .link) (fresh .parts) again)
 
-unfoldable pub told : Endpoint
-told = afterFlush heard (flushes (heard .link) (heard .parts) (flushPartsOf (replicate 50992 0) (replicate 290 0)) 9)
+unfoldable pub replied : Endpoint
+replied = afterFlush heard (flushes (heard .link) (heard .parts) (flushPartsOf (replicate 50992 0) (replicate 290 0)) 9)
 
 unfoldable pub done : Endpoint
 done = afterInput resent (takesIn (resent .link) (resent .parts) acked)
@@ -155,7 +155,7 @@ done = afterInput resent (takesIn (resent .link) (resent .parts) acked)
 record Met : Type 0 where
   sends-again : Called flushed (Call.update 300) (Reply.wrote (again ∷ [])) resent
   takes-it : Called fresh (Call.takeIn again) Reply.accepted heard
-  tells-it : Called heard (Call.flush 9) (Reply.wrote (acked ∷ [])) told
+  replies : Called heard (Call.flush 9) (Reply.wrote (acked ∷ [])) replied
   takes-ack : Called resent (Call.takeIn acked) Reply.accepted done
   out : GoesOut c (flushed .link .flight .una) (again ∷ [])
   una-before : flushed .link .flight .una ≡ 0
@@ -163,7 +163,7 @@ record Met : Type 0 where
 
 met : Met
 unfolding usedWindow slowStart raised widened avoidance limited grown afterDatagram halved bySkips byTimeout atLeastOne fits
-    congestion.afterFlush again acked resent heard told done sent flushed fresh datagram parts opened entriesOf countsFit stateOf pairs
+    congestion.afterFlush again acked resent heard replied done sent flushed fresh datagram parts opened entriesOf countsFit stateOf pairs
     joining.joined
     blockValid scattered joined lengthsOf cutBy sendsWith takesInWith flushesWith updatesWith updated isAstray corrected started following
     updating signed isBefore isAfter isDue front back encode decode bytesOf numberAt verdict segmentOf tail walk parse longerWait
@@ -208,7 +208,7 @@ met = record {
     };
     sees = refl;
   };
-  tells-it = record {
+  replies = record {
     lent = flushPartsOf (replicate 50992 0) (replicate 290 0);
     room = record { long = omega arith; many = omega arith };
     gives = count.Of 1;
@@ -306,12 +306,12 @@ there = record {
   fits = (omega arith, (bytes-by again refl, tt));
 }
 
-back-again : FlushArrives heard resent told done
+back-again : FlushArrives heard resent replied done
 unfolding acked
 back-again = record {
   call = Call.flush 9;
   writes = acked ∷ [];
-  flushes = met .tells-it;
+  flushes = met .replies;
   arrivals = acked ∷ [];
   all-arrive = record { all = (List·Memᴰ·head refl, tt); only = (List·Memᴰ·head refl, tt) };
   events = record { call = Call.takeIn acked; answer = Reply.accepted } ∷ [];
@@ -321,7 +321,7 @@ back-again = record {
 
 trip : GoodRoundTrip c flushed fresh done
 unfolding there
-trip = record { a′ = resent; b′ = heard; b″ = told; there = there; back = back-again; goes-out = met .out }
+trip = record { a′ = resent; b′ = heard; b″ = replied; there = there; back = back-again; goes-out = met .out }
 
 heard-only : HeardOnlyEachOther moves
 heard-only = (tt, (tt, (tt, tt)))

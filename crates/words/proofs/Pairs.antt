@@ -162,8 +162,8 @@ more-below base offset ns i h b j l = go (decLt j i)
     go (no s) = let q : j ≡ i = omega arith in rw q h
 
 -- what the search and the test at its place tell, k being the offset of the number
-pub told : (base number n i k : ℕ) (ns : List ℕ) (r b : Bool) → k ≡ minus number base → Placed base k ns n i
+pub searched : (base number n i k : ℕ) (ns : List ℕ) (r b : Bool) → k ≡ minus number base → Placed base k ns n i
     → r ≡ (ltb i n && eqb (minus (getD ns i 0) base) k) → r ≡ b
     → Placed base (minus number base) ns n i × ((ltb i n && eqb (minus (getD ns i 0) base) (minus number base)) ≡ b)
-told base number n i k ns r b e p t z =
+searched base number n i k ns r b e p t z =
     (subst (λ (m : ℕ). Placed base m ns n i) e p, ap (λ (m : ℕ). ltb i n && eqb (minus (getD ns i 0) base) m) (sym e) ∙ sym t ∙ z)

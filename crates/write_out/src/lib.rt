@@ -27,10 +27,9 @@ pub fn write_out(
     let flight = link.flight;
     let arrival = link.arrival;
     let clock = link.clock;
-    let words = link.outstanding;
     let n = results::outstanding_count(flight);
     let mut records = record_words::none();
-    gathering::gather(table, words, n, &mut records);
+    gathering::gather(table, &link.outstanding, n, &mut records);
     let lent = records::table_len(table);
     let flushed = flush_core::flush(
         settings,
@@ -53,7 +52,6 @@ pub fn write_out(
         output,
         lengths,
     );
-    let words = link.outstanding;
     let flight = results::flushed_flight(flushed);
     link.flight = flight;
     let arrival = results::flushed_arrival(flushed);
@@ -61,6 +59,6 @@ pub fn write_out(
     let clock = results::flushed_clock(flushed);
     link.clock = clock;
     let n = results::flushed_changed(flushed);
-    gathering::scatter(table, words, n, &records);
+    gathering::scatter(table, &link.outstanding, n, &records);
     results::flushed_code(flushed)
 }

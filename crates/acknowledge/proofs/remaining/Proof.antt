@@ -8,7 +8,7 @@ use borrow.Author.Needs.{needs}
 use lib.ListN.{length, take, drop, length-set}
 use Rattle.timing.specs.declared.Record.{Record}
 use Rattle.lists.specs.Joining.{joined}
-use Rattle.lists.specs.Acknowledging.{keep, firstNumberOr}
+use Rattle.lists.specs.Acknowledging.{filter, firstNumberOr}
 use Rattle.lists.specs.declared.Sent.{Sent}
 use Rattle.lists.proofs.Loops.{Packed, packed-start, packed-done}
 use Rattle.lists.proofs.Writes.{select-end}
@@ -19,7 +19,7 @@ use Rattle.words.specs.Words.{outstandingIn}
 use Rattle.acknowledge.specs.Flights.{JoinedIn}
 use Rattle.acknowledge.specs.Hearing.{staysBy}
 use Rattle.acknowledge.proofs.Hearing.{first-is}
-use Rattle.acknowledge.proofs.Removal.{beside, beside-length, beside-front, in-front, removal-keeps, removal-drops}
+use Rattle.acknowledge.proofs.Removal.{beside, beside-length, beside-front, in-front, removal-stays, removal-drops}
 use Rattle.acknowledge.proofs.remaining.Statement.{statement}
 use Rattle.acknowledge.proofs.remaining.Tie as tie
 
@@ -29,8 +29,8 @@ Inv-loop words₀ transmissions₀ records₀ n next h i₀ j₀ words transmiss
     × (length transmissions ≡ 32)
     × (length records ≡ 128)
     × Packed 32 n (beside words₀ transmissions₀ (recordsIn records₀)) (beside words transmissions (recordsIn records))
-    (keep (staysBy next h) (drop i (take n (beside words₀ transmissions₀ (recordsIn records₀)))))
-    (keep (staysBy next h) (take n (beside words₀ transmissions₀ (recordsIn records₀)))) i j
+    (filter (staysBy next h) (drop i (take n (beside words₀ transmissions₀ (recordsIn records₀)))))
+    (filter (staysBy next h) (take n (beside words₀ transmissions₀ (recordsIn records₀)))) i j
 
 abbrev μ-loop : tie.MeasureT-loop
 μ-loop words₀ transmissions₀ records₀ n next h i₀ j₀ words transmissions records i j = n - i
@@ -63,7 +63,7 @@ loop-again c =
       simp length-set (l .inv .1),
       c .put .ensures .0,
       rw (c .put .ensures .1, read)
-          (removal-keeps _ _ _ _ _ (turn .loop-test .taken) (l .inv .0) (l .inv .1) (l .inv .3)
+          (removal-stays _ _ _ _ _ (turn .loop-test .taken) (l .inv .0) (l .inv .1) (l .inv .3)
           (rw read at (sym (heard .stays .ensures) ∙ c .before .before .if1 .taken))),
     )
 
@@ -90,7 +90,8 @@ returns c =
     let l = loop .loop .inv in
     let records = recordsIn (loop .loop .records) in
     let left : JoinedIn (loop .loop .words) (loop .loop .transmissions) (loop .loop .j) records
-    (keep (staysBy (a .next) (a .h)) (joined (outstandingIn (a .words .now) (a .transmissions .now) (a .n)) (recordsIn (a .records .now))))
+    (filter (staysBy (a .next) (a .h))
+    (joined (outstandingIn (a .words .now) (a .transmissions .now) (a .n)) (recordsIn (a .records .now))))
     = rw (← (beside-front (a .words .now) (a .transmissions .now) (recordsIn (a .records .now)) (a .n)))
     (in-front _ _ _ _ _ (l .0) (l .1) (packed-done (select-end _ _ _ _ (c .before .before .before .loop-test .left)) (l .3))) in
     let first = first-is (loop .loop .words) (loop .loop .transmissions) records (loop .loop .j) (a .next) blank

@@ -17,13 +17,13 @@ use Rattle.ampferweg_parity.proofs.answer_code.Tie as tie
 
 returns : tie.Need-returns
 returns c =
-    let told = c .before .before .answer .given in
-    rw (told .1) (passed _ (count-fits (told .0 .0)) (c .count-code .ensures))
+    let given = c .before .before .answer .given in
+    rw (given .1) (passed _ (count-fits (given .0 .0)) (c .count-code .ensures))
 
 returns-2 : tie.Need-returns-2
 returns-2 c =
-    let told = c .before .before .before .answer2 .given in
-    rw (told .1) (passed _ (refusal-fits (told .0 .0)) (rw (c .before .number .ensures) at (c .number-code .ensures)))
+    let given = c .before .before .before .answer2 .given in
+    rw (given .1) (passed _ (refusal-fits (given .0 .0)) (rw (c .before .number .ensures) at (c .number-code .ensures)))
 
 pub answer-code-spec : {M : Type 1} → statement M
 answer-code-spec =

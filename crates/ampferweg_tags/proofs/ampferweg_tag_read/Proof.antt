@@ -21,14 +21,14 @@ refusal-code-requires c κs = search needs
 
 returns : tie.Need-returns
 returns c =
-    let told = c .before .name .given in
-    rw (sym (c .before .before .before .read .ensures) ∙ told .1) (refl, refl, refl)
+    let given = c .before .name .given in
+    rw (sym (c .before .before .before .read .ensures) ∙ given .1) (refl, refl, refl)
 
 returns-2 : tie.Need-returns-2
 returns-2 c =
-    let told = c .before .before .refusal .given in
-    rw (sym (c .before .before .before .before .read .ensures) ∙ told .1)
-    (passed _ (refusal-fits (told .0 .0)) (c .refusal-code .ensures), refl, refl)
+    let given = c .before .before .refusal .given in
+    rw (sym (c .before .before .before .before .read .ensures) ∙ given .1)
+    (passed _ (refusal-fits (given .0 .0)) (c .refusal-code .ensures), refl, refl)
 
 pub ampferweg-tag-read-spec : {M : Type 1} → statement M
 ampferweg-tag-read-spec =

@@ -43,9 +43,9 @@ same-length-2 c = search needs
 returns-2 : tie.Need-returns-2
 returns-2 c =
     let call = c .before .before .before .before .before .before in
-    let told = c .before .before .refusal .given in
+    let given = c .before .before .refusal .given in
     tells-writing _ _ _ (call .write .result) _ (call .write .ensures)
-    (rw (told .1) (passed _ (refusal-fits (told .0 .0)) (c .refusal-code .ensures)))
+    (rw (given .1) (passed _ (refusal-fits (given .0 .0)) (c .refusal-code .ensures)))
 
 pub ampferweg-tag-write-spec : {M : Type 1} → statement M
 ampferweg-tag-write-spec =

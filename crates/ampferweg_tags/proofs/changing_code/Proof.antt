@@ -20,8 +20,8 @@ returns c = rw (c .enum-told .given .1)
 
 returns-2 : tie.Need-returns-2
 returns-2 c =
-    let told = c .before .before .changing .given in
-    rw (told .1) (passed _ (refusal-fits (told .0 .0)) (c .refusal-code .ensures))
+    let given = c .before .before .changing .given in
+    rw (given .1) (passed _ (refusal-fits (given .0 .0)) (c .refusal-code .ensures))
 
 pub changing-code-spec : {M : Type 1} → statement M
 changing-code-spec =

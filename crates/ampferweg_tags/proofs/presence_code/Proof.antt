@@ -26,8 +26,8 @@ returns-2 c = rw (c .enum-told2 .given .1)
 
 returns-3 : tie.Need-returns-3
 returns-3 c =
-    let told = c .before .before .presence .given in
-    rw (told .1) (passed _ (refusal-fits (told .0 .0)) (c .refusal-code .ensures))
+    let given = c .before .before .presence .given in
+    rw (given .1) (passed _ (refusal-fits (given .0 .0)) (c .refusal-code .ensures))
 
 pub presence-code-spec : {M : Type 1} → statement M
 presence-code-spec =

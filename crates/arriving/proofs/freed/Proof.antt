@@ -16,7 +16,7 @@ returns c =
       counts = record { few-ready = ad .is .ready .fits; few-waiting = ad .is .waiting .fits };
       same-acks = ad .same-acks;
       reads = freed-reads (a .arrival) (a .ready .now) (a .waiting .now) (a .numbers .now) _ (a .k) (p .0 .whole-ready) (p .1 .few-ready)
-          (c .before .before .before .before .before .drop-first .ensures) _ _ _ _ _ ad (c .told .result) (c .told .ensures);
+          (c .before .before .before .before .before .drop-first .ensures) _ _ _ _ _ ad (c .tell-after .result) (c .tell-after .ensures);
     }
 
 pub freed-spec : {M : Type 1} → statement M

@@ -292,31 +292,36 @@ module _ {M : Type 1} (𝓤 : URA M) (H : Heap 𝓤) (A : Atoms 𝓤) (W : Given
         (((κ₀, (κ₁, (κ₂, (κ₃, (κ₄, (κ₅, tt)))))), (q₀, (q₁, (q₂, (q₃, (q₄, (q₅, tt)))))), tt, x, at), tt)
 
     -- what gather is called at, and that what it asks is had
-    abbrev to-gather : (p-local : ℕ) (α-local : ℕ) (δ-local : GName) (f-local : (List ℕ)) (y₀ : (List ℕ)) (u₀ : Val) (y₁ : ℕ) (u₁ : Val)
-        → tripleOf 𝓤 H A gather.signature (gather.spec 𝓤 H A at-mem run) .Ghost
-    to-gather p-local α-local δ-local f-local y₀ u₀ y₁ u₁ = (
+    abbrev to-gather : (α-outstanding : ℕ) (δ-outstanding : GName) (f-outstanding : (List ℕ)) (p-local : ℕ) (α-local : ℕ) (δ-local : GName)
+        (f-local : (List ℕ)) (y₀ : ℕ) (u₀ : Val) → tripleOf 𝓤 H A gather.signature (gather.spec 𝓤 H A at-mem run) .Ghost
+    to-gather α-outstanding δ-outstanding f-outstanding p-local α-local δ-local f-local y₀ u₀ = (
       (
-        (κ₃, ((α-local ∷ []), tt)),
-        (q₃, (fullShare, tt)),
+        (κ₃, ((α-outstanding ∷ []), ((α-local ∷ []), tt))),
+        (q₃, (fullShare, (fullShare, tt))),
         tt,
-        (x₃, (y₀, (y₁, ((ref-at p-local 0 δ-local f-local), tt)))),
-        (s₃ ∷ [], (u₀ ∷ [], (u₁ ∷ [], ((vptr p-local 0) ∷ [], tt)))),
+        (x₃, ((ref-at b (o + 636) δ-outstanding f-outstanding), (y₀, ((ref-at p-local 0 δ-local f-local), tt)))),
+        (s₃ ∷ [], ((vptr b (o + 636)) ∷ [], (u₀ ∷ [], ((vptr p-local 0) ∷ [], tt)))),
       ),
       tt,
     )
 
-    asks-gather : (p-local : ℕ) (α-local : ℕ) (δ-local : GName) (f-local : (List ℕ)) → (y₀ : (List ℕ)) (u₀ : Val)
-        → Is (Array u32 32) y₀ (u₀ ∷ []) → (y₁ : ℕ) (u₁ : Val) → Is usize y₁ (u₁ ∷ []) → (f-local ≡ replicate 128 0)
-        → ent 𝓤 (⋆ 𝓤 H A (‵ (flft κ₃ q₃) ∷ ‵ Own₃ ∷ ‵ (flft (α-local ∷ []) fullShare)
+    asks-gather : (α-outstanding : ℕ) (δ-outstanding : GName) (f-outstanding : (List ℕ)) (p-local : ℕ) (α-local : ℕ) (δ-local : GName)
+        (f-local : (List ℕ)) → (y₀ : ℕ) (u₀ : Val) → Is usize y₀ (u₀ ∷ [])
+        → ((length f-outstanding ≡ 32) × (f-local ≡ replicate 128 0))
+        → ent 𝓤 (⋆ 𝓤 H A (‵ (flft κ₃ q₃) ∷ ‵ Own₃ ∷ ‵ (flft (α-outstanding ∷ []) fullShare)
+        ∷ ‵ (ShrRef (named 0) (α-outstanding ∷ []) (Array u32 32) .own (ref-at b (o + 636) δ-outstanding f-outstanding)
+        ((vptr b (o + 636)) ∷ [])) ∷ ‵ (flft (α-local ∷ []) fullShare)
         ∷ ‵ (MutRef (named 0) (α-local ∷ []) (Array u32 128) .own (ref-at p-local 0 δ-local f-local) ((vptr p-local 0) ∷ [])) ∷ []))
-        (tripleOf 𝓤 H A gather.signature (gather.spec 𝓤 H A at-mem run) .pre (to-gather p-local α-local δ-local f-local y₀ u₀ y₁ u₁))
-    asks-gather p-local α-local δ-local f-local y₀ u₀ is₀ y₁ u₁ is₁ req =
-        qed W (‵ (flft κ₃ q₃) ∷ ‵ Own₃ ∷ ‵ (flft (α-local ∷ []) fullShare)
+        (tripleOf 𝓤 H A gather.signature (gather.spec 𝓤 H A at-mem run) .pre
+        (to-gather α-outstanding δ-outstanding f-outstanding p-local α-local δ-local f-local y₀ u₀))
+    asks-gather α-outstanding δ-outstanding f-outstanding p-local α-local δ-local f-local y₀ u₀ is₀ req =
+        qed W (‵ (flft κ₃ q₃) ∷ ‵ Own₃ ∷ ‵ (flft (α-outstanding ∷ []) fullShare)
+        ∷ ‵ (ShrRef (named 0) (α-outstanding ∷ []) (Array u32 32) .own (ref-at b (o + 636) δ-outstanding f-outstanding)
+        ((vptr b (o + 636)) ∷ [])) ∷ ‵ (flft (α-local ∷ []) fullShare)
         ∷ ‵ (MutRef (named 0) (α-local ∷ []) (Array u32 128) .own (ref-at p-local 0 δ-local f-local) ((vptr p-local 0) ∷ [])) ∷ []) ∵
-        says ! req $ nothing ! $ move ! (3 ∷ 0 ∷ []) $ join ! $ move ! (1 ∷ 0 ∷ []) $ join ! $ nothing ! $ move ! (3 ∷ 0 ∷ []) $
-        fjoin ! $ owned ! usize (Is usize) (uint-makes 𝓤 H A W w64) y₁ _ is₁ $ fjoin ! $
-        owned ! (Array u32 32) (Is (Array u32 32)) (array-makes 𝓤 H A W u32 (uint-makes 𝓤 H A W w32) 32) y₀ _ is₀ $ fjoin ! $
-        move ! (2 ∷ 0 ∷ []) $ fjoin ! $ move ! (1 ∷ 0 ∷ []) $ done !
+        says ! req $ nothing ! $ move ! (5 ∷ 0 ∷ []) $ join ! $ move ! (3 ∷ 0 ∷ []) $ join ! $ move ! (1 ∷ 0 ∷ []) $ join ! $
+        nothing ! $ move ! (4 ∷ 0 ∷ []) $ fjoin ! $ owned ! usize (Is usize) (uint-makes 𝓤 H A W w64) y₀ _ is₀ $ fjoin ! $
+        move ! (3 ∷ 0 ∷ []) $ fjoin ! $ move ! (2 ∷ 0 ∷ []) $ fjoin ! $ move ! (1 ∷ 0 ∷ []) $ done !
 
     -- what table-len is called at, and that what it asks is had
     abbrev to-table-len : tripleOf 𝓤 H A table-len.signature (table-len.spec 𝓤 H A at-mem run) .Ghost
@@ -540,7 +545,7 @@ module _ {M : Type 1} (𝓤 : URA M) (H : Heap 𝓤) (A : Atoms 𝓤) (W : Given
           ∷ ‵ (partAt (Array u8 32) (past .29) (h .transmissions) b (o + 764))
           ∷ ‵ (partAt (Array u32 32) (past .29) (h .outstanding) b (o + 636))
           ∷ ‵ (partAt (Array u32 128) (past .29) (h .queued) b (o + 124))
-          ∷ ‵ (fat fullShare (tyArray (tyInt w32) 128) (past .15) 0 ((only ((array-vals (uint-vals w32)) (past .0))))) ∷ ‵ (flft κ₁ q₁)
+          ∷ ‵ (fat fullShare (tyArray (tyInt w32) 128) (past .14) 0 ((only ((array-vals (uint-vals w32)) (past .0))))) ∷ ‵ (flft κ₁ q₁)
           ∷ ‵ (flft κ₂ q₂) ∷ ‵ (flft κ₄ q₄) ∷ ‵ (flft κ₃ q₃) ∷ ‵ (partAt clock-row.the-row (past .29) (h .clock) b (o + 104))
           ∷ ‵ (partAt arrival-row.the-row (past .29) (h .arrival) b (o + 72))
           ∷ ‵ (partAt flight-row.the-row (past .29) (h .flight) b (o + 16))
@@ -551,11 +556,11 @@ module _ {M : Type 1} (𝓤 : URA M) (H : Heap 𝓤) (A : Atoms 𝓤) (W : Given
           (fdies (sliceTy (tyRef (named 3) imm (pointee (R .written)))) (past .5)) ⊛ ‵
           (fdies (sliceTy (tyRef (named 4) imm (tyInt w32))) (past .6)) ⊛ ‵ (fdies (tyInt w32) (past .7)) ⊛ ‵
           (fdies (tyRef (named 5) mut (tyInt w32)) (past .8)) ⊛ ‵ (fdies settings-laws.mir (past .9)) ⊛ ‵ (fdies flight-laws.mir (past .10))
-          ⊛ ‵ (fdies arrival-laws.mir (past .11)) ⊛ ‵ (fdies clock-laws.mir (past .12)) ⊛ ‵ (fdies (tyArray (tyInt w32) 32) (past .13)) ⊛ ‵
-          (fdies (tyInt w64) (past .14)) ⊛ ‵ (fdies (tyArray (tyInt w32) 128) (past .15)) ⊛ ‵ (fdies (tyInt w64) (past .16)) ⊛ ‵
-          (fdies time-laws.mir (past .17)) ⊛ ‵ (fdies (tyArray (tyInt w32) 128) (past .18)) ⊛ ‵ (fdies tyUnit (past .19)) ⊛ ‵
-          (fdies (tyRef erased mut (tyArray (tyInt w32) 128)) (past .20)) ⊛ ‵
-          (fdies (tyRef erased imm (tyArray (tyInt w32) 128)) (past .21)) ⊛ ‵
+          ⊛ ‵ (fdies arrival-laws.mir (past .11)) ⊛ ‵ (fdies clock-laws.mir (past .12)) ⊛ ‵ (fdies (tyInt w64) (past .13)) ⊛ ‵
+          (fdies (tyArray (tyInt w32) 128) (past .14)) ⊛ ‵ (fdies (tyInt w64) (past .15)) ⊛ ‵ (fdies time-laws.mir (past .16)) ⊛ ‵
+          (fdies (tyArray (tyInt w32) 128) (past .17)) ⊛ ‵ (fdies tyUnit (past .18)) ⊛ ‵
+          (fdies (tyRef erased imm (tyArray (tyInt w32) 32)) (past .19)) ⊛ ‵ (fdies (tyRef erased mut (tyArray (tyInt w32) 128)) (past .20))
+          ⊛ ‵ (fdies (tyRef erased imm (tyArray (tyInt w32) 128)) (past .21)) ⊛ ‵
           (fdies (tyRef erased imm (tyArray (tyInt w32) 128)) (past .22)) ⊛ ‵ (fdies (tyRef erased imm (tyArray (tyInt w32) 32)) (past .23))
           ⊛ ‵ (fdies (tyRef erased imm (tyArray (tyInt w8) 32)) (past .24)) ⊛ ‵
           (fdies (tyRef erased imm (tyArray (tyInt w32) 128)) (past .25)) ⊛ ‵
@@ -568,12 +573,12 @@ module _ {M : Type 1} (𝓤 : URA M) (H : Heap 𝓤) (A : Atoms 𝓤) (W : Given
           ∷ ‵ (fat fullShare (tyRef erased imm (tyArray (tyInt w8) 32)) (past .24) 0 ((vptr b (o + 764))))
           ∷ ‵ (fat fullShare (tyRef erased imm (tyArray (tyInt w32) 32)) (past .23) 0 ((vptr b (o + 636))))
           ∷ ‵ (fat fullShare (tyRef erased imm (tyArray (tyInt w32) 128)) (past .22) 0 ((vptr b (o + 124))))
-          ∷ ‵ (fat fullShare (tyRef erased imm (tyArray (tyInt w32) 128)) (past .21) 0 ((vptr (past .15) 0)))
-          ∷ ‵ (fat fullShare (tyRef erased mut (tyArray (tyInt w32) 128)) (past .20) 0 ((vptr (past .15) 0)))
-          ∷ ‵ (fat fullShare tyUnit (past .19) 0 ((past .34))) ∷ ‵ (fat fullShare (tyArray (tyInt w32) 128) (past .18) 0 ((past .33)))
-          ∷ ‵ (fat fullShare time-laws.mir (past .17) 0 ((past .40))) ∷ ‵ (fat fullShare (tyInt w64) (past .16) 0 ((past .37)))
-          ∷ ‵ (fat fullShare (tyInt w64) (past .14) 0 ((past .31)))
-          ∷ ‵ (fat fullShare (tyArray (tyInt w32) 32) (past .13) 0 ((only ((array-vals (uint-vals w32)) (h .outstanding)))))
+          ∷ ‵ (fat fullShare (tyRef erased imm (tyArray (tyInt w32) 128)) (past .21) 0 ((vptr (past .14) 0)))
+          ∷ ‵ (fat fullShare (tyRef erased mut (tyArray (tyInt w32) 128)) (past .20) 0 ((vptr (past .14) 0)))
+          ∷ ‵ (fat fullShare (tyRef erased imm (tyArray (tyInt w32) 32)) (past .19) 0 ((vptr b (o + 636))))
+          ∷ ‵ (fat fullShare tyUnit (past .18) 0 ((past .34))) ∷ ‵ (fat fullShare (tyArray (tyInt w32) 128) (past .17) 0 ((past .33)))
+          ∷ ‵ (fat fullShare time-laws.mir (past .16) 0 ((past .40))) ∷ ‵ (fat fullShare (tyInt w64) (past .15) 0 ((past .37)))
+          ∷ ‵ (fat fullShare (tyInt w64) (past .13) 0 ((past .31)))
           ∷ ‵ (fat fullShare clock-laws.mir (past .12) 0 ((only ((LL.vals clock-row.the-type clock-laws.the-laws) (h .clock)))))
           ∷ ‵ (fat fullShare arrival-laws.mir (past .11) 0 ((only ((LL.vals arrival-row.the-type arrival-laws.the-laws) (h .arrival)))))
           ∷ ‵ (fat fullShare flight-laws.mir (past .10) 0 ((only ((LL.vals flight-row.the-type flight-laws.the-laws) (h .flight)))))
@@ -597,7 +602,7 @@ module _ {M : Type 1} (𝓤 : URA M) (H : Heap 𝓤) (A : Atoms 𝓤) (W : Given
           ∷ ‵ (partAt (Array u8 32) (past .29) (h .transmissions) b (o + 764))
           ∷ ‵ (partAt (Array u32 32) (past .29) (h .outstanding) b (o + 636))
           ∷ ‵ (partAt (Array u32 128) (past .29) (h .queued) b (o + 124))
-          ∷ ‵ (fat fullShare (tyArray (tyInt w32) 128) (past .15) 0 ((only ((array-vals (uint-vals w32)) (past .0))))) ∷ ‵ (flft κ₁ q₁)
+          ∷ ‵ (fat fullShare (tyArray (tyInt w32) 128) (past .14) 0 ((only ((array-vals (uint-vals w32)) (past .0))))) ∷ ‵ (flft κ₁ q₁)
           ∷ ‵ (flft κ₂ q₂) ∷ ‵ (flft κ₄ q₄) ∷ ‵ (flft κ₃ q₃) ∷ ‵ (partAt clock-row.the-row (past .29) (h .clock) b (o + 104))
           ∷ ‵ (partAt arrival-row.the-row (past .29) (h .arrival) b (o + 72))
           ∷ ‵ (partAt flight-row.the-row (past .29) (h .flight) b (o + 16))
@@ -609,9 +614,9 @@ module _ {M : Type 1} (𝓤 : URA M) (H : Heap 𝓤) (A : Atoms 𝓤) (W : Given
           (fdies (sliceTy (tyRef (named 4) imm (tyInt w32))) (past .6)) ⊛ ‵ (fdies (tyInt w32) (past .7)) ⊛ ‵
           (fdies (tyRef (named 5) mut (tyInt w32)) (past .8)) ⊛ ‵ (fdies settings-laws.mir (past .9)) ⊛ ‵
           (fdies flight-laws.mir (past .10)) ⊛ ‵ (fdies arrival-laws.mir (past .11)) ⊛ ‵ (fdies clock-laws.mir (past .12)) ⊛ ‵
-          (fdies (tyArray (tyInt w32) 32) (past .13)) ⊛ ‵ (fdies (tyInt w64) (past .14)) ⊛ ‵
-          (fdies (tyArray (tyInt w32) 128) (past .15)) ⊛ ‵ (fdies (tyInt w64) (past .16)) ⊛ ‵ (fdies time-laws.mir (past .17)) ⊛ ‵
-          (fdies (tyArray (tyInt w32) 128) (past .18)) ⊛ ‵ (fdies tyUnit (past .19)) ⊛ ‵
+          (fdies (tyInt w64) (past .13)) ⊛ ‵ (fdies (tyArray (tyInt w32) 128) (past .14)) ⊛ ‵ (fdies (tyInt w64) (past .15)) ⊛ ‵
+          (fdies time-laws.mir (past .16)) ⊛ ‵ (fdies (tyArray (tyInt w32) 128) (past .17)) ⊛ ‵ (fdies tyUnit (past .18)) ⊛ ‵
+          (fdies (tyRef erased imm (tyArray (tyInt w32) 32)) (past .19)) ⊛ ‵
           (fdies (tyRef erased mut (tyArray (tyInt w32) 128)) (past .20)) ⊛ ‵
           (fdies (tyRef erased imm (tyArray (tyInt w32) 128)) (past .21)) ⊛ ‵
           (fdies (tyRef erased imm (tyArray (tyInt w32) 128)) (past .22)) ⊛ ‵
@@ -627,12 +632,12 @@ module _ {M : Type 1} (𝓤 : URA M) (H : Heap 𝓤) (A : Atoms 𝓤) (W : Given
           ∷ ‵ (fat fullShare (tyRef erased imm (tyArray (tyInt w8) 32)) (past .24) 0 ((vptr b (o + 764))))
           ∷ ‵ (fat fullShare (tyRef erased imm (tyArray (tyInt w32) 32)) (past .23) 0 ((vptr b (o + 636))))
           ∷ ‵ (fat fullShare (tyRef erased imm (tyArray (tyInt w32) 128)) (past .22) 0 ((vptr b (o + 124))))
-          ∷ ‵ (fat fullShare (tyRef erased imm (tyArray (tyInt w32) 128)) (past .21) 0 ((vptr (past .15) 0)))
-          ∷ ‵ (fat fullShare (tyRef erased mut (tyArray (tyInt w32) 128)) (past .20) 0 ((vptr (past .15) 0)))
-          ∷ ‵ (fat fullShare tyUnit (past .19) 0 ((past .34))) ∷ ‵ (fat fullShare (tyArray (tyInt w32) 128) (past .18) 0 ((past .33)))
-          ∷ ‵ (fat fullShare time-laws.mir (past .17) 0 ((past .40))) ∷ ‵ (fat fullShare (tyInt w64) (past .16) 0 ((past .37)))
-          ∷ ‵ (fat fullShare (tyInt w64) (past .14) 0 ((past .31)))
-          ∷ ‵ (fat fullShare (tyArray (tyInt w32) 32) (past .13) 0 ((only ((array-vals (uint-vals w32)) (h .outstanding)))))
+          ∷ ‵ (fat fullShare (tyRef erased imm (tyArray (tyInt w32) 128)) (past .21) 0 ((vptr (past .14) 0)))
+          ∷ ‵ (fat fullShare (tyRef erased mut (tyArray (tyInt w32) 128)) (past .20) 0 ((vptr (past .14) 0)))
+          ∷ ‵ (fat fullShare (tyRef erased imm (tyArray (tyInt w32) 32)) (past .19) 0 ((vptr b (o + 636))))
+          ∷ ‵ (fat fullShare tyUnit (past .18) 0 ((past .34))) ∷ ‵ (fat fullShare (tyArray (tyInt w32) 128) (past .17) 0 ((past .33)))
+          ∷ ‵ (fat fullShare time-laws.mir (past .16) 0 ((past .40))) ∷ ‵ (fat fullShare (tyInt w64) (past .15) 0 ((past .37)))
+          ∷ ‵ (fat fullShare (tyInt w64) (past .13) 0 ((past .31)))
           ∷ ‵ (fat fullShare clock-laws.mir (past .12) 0 ((only ((LL.vals clock-row.the-type clock-laws.the-laws) (h .clock)))))
           ∷ ‵ (fat fullShare arrival-laws.mir (past .11) 0 ((only ((LL.vals arrival-row.the-type arrival-laws.the-laws) (h .arrival)))))
           ∷ ‵ (fat fullShare flight-laws.mir (past .10) 0 ((only ((LL.vals flight-row.the-type flight-laws.the-laws) (h .flight)))))
@@ -655,7 +660,7 @@ module _ {M : Type 1} (𝓤 : URA M) (H : Heap 𝓤) (A : Atoms 𝓤) (W : Given
           calls-fn ! fm code-of.ended (code-of.clauses 𝓤 H A at-mem run) (known .5) (to-code-of (past .39) (past .40))
           (λ r ws-r. (r ≡ timeCode (past .39)) × ((ws-r .1 .0) ≡ timeStored (past .39) (x₆ .now))) (‵ (flft κ₅ q₅) ⊛ ‵ Own₆)
           (asks-code-of (past .39) (past .40) (past .42)) (λ r ws-r. id⊢ 𝓤 _)
-          (and-then ! (load ! (from ! (stop !)) (look ! 30 refl)) (and-then ! (load ! (from ! (stop !)) (look ! 19 refl)) (no-more !)))
+          (and-then ! (load ! (from ! (stop !)) (look ! 31 refl)) (and-then ! (load ! (from ! (stop !)) (look ! 19 refl)) (no-more !)))
           (λ r w-r ws-r e-r is-r. land ! (from ! (stop !)) (init ! 46 refl (sint-lawful 𝓤 H A W w32 .typed r _ is-r .0)) $
           spread W (‵ (flft κ₅ q₅)) (‵ ftrue ∷ []) (id⊢ 𝓤 _) $ move ! (2 ∷ []) $
           spread W (‵ ftrue) (‵ (fres (x₆ .name) (u32 .coded .code (ws-r .1 .0))) ∷ ‵ ftrue ∷ []) (id⊢ 𝓤 _) $
@@ -675,9 +680,9 @@ module _ {M : Type 1} (𝓤 : URA M) (H : Heap 𝓤) (A : Atoms 𝓤) (W : Given
           ∷ ‵ (fdies (sliceTy (tyRef (named 4) imm (tyInt w32))) (past .6)) ∷ ‵ (fdies (tyInt w32) (past .7))
           ∷ ‵ (fdies (tyRef (named 5) mut (tyInt w32)) (past .8)) ∷ ‵ (fdies settings-laws.mir (past .9))
           ∷ ‵ (fdies flight-laws.mir (past .10)) ∷ ‵ (fdies arrival-laws.mir (past .11)) ∷ ‵ (fdies clock-laws.mir (past .12))
-          ∷ ‵ (fdies (tyArray (tyInt w32) 32) (past .13)) ∷ ‵ (fdies (tyInt w64) (past .14))
-          ∷ ‵ (fdies (tyArray (tyInt w32) 128) (past .15)) ∷ ‵ (fdies (tyInt w64) (past .16)) ∷ ‵ (fdies time-laws.mir (past .17))
-          ∷ ‵ (fdies (tyArray (tyInt w32) 128) (past .18)) ∷ ‵ (fdies tyUnit (past .19))
+          ∷ ‵ (fdies (tyInt w64) (past .13)) ∷ ‵ (fdies (tyArray (tyInt w32) 128) (past .14)) ∷ ‵ (fdies (tyInt w64) (past .15))
+          ∷ ‵ (fdies time-laws.mir (past .16)) ∷ ‵ (fdies (tyArray (tyInt w32) 128) (past .17)) ∷ ‵ (fdies tyUnit (past .18))
+          ∷ ‵ (fdies (tyRef erased imm (tyArray (tyInt w32) 32)) (past .19))
           ∷ ‵ (fdies (tyRef erased mut (tyArray (tyInt w32) 128)) (past .20))
           ∷ ‵ (fdies (tyRef erased imm (tyArray (tyInt w32) 128)) (past .21))
           ∷ ‵ (fdies (tyRef erased imm (tyArray (tyInt w32) 128)) (past .22))
@@ -687,7 +692,7 @@ module _ {M : Type 1} (𝓤 : URA M) (H : Heap 𝓤) (A : Atoms 𝓤) (W : Given
           ∷ ‵ (fdies (tyRef erased imm (tyArray (tyInt w32) 128)) (past .26))
           ∷ ‵ (fdies (tyRef erased imm (tyArray (tyInt w32) 128)) (past .27)) ∷ ‵ (fdies (tyRef erased mut (tyInt w32)) (past .28))
           ∷ []) (id⊢ 𝓤 _) $ move ! (62 ∷ 0 ∷ 61 ∷ 1 ∷ 60 ∷ 2 ∷ 59 ∷ 3 ∷ 58 ∷ 4 ∷ 57 ∷ 5 ∷ 56 ∷ 6 ∷ 55 ∷ 7 ∷ 54 ∷ 8
-          ∷ 53 ∷ 9 ∷ 52 ∷ 10 ∷ 51 ∷ 11 ∷ 50 ∷ 12 ∷ 49 ∷ 13 ∷ 31 ∷ 14 ∷ 48 ∷ 15 ∷ 47 ∷ 16 ∷ 46 ∷ 17 ∷ 45 ∷ 18 ∷ 44
+          ∷ 53 ∷ 9 ∷ 52 ∷ 10 ∷ 51 ∷ 11 ∷ 50 ∷ 12 ∷ 31 ∷ 13 ∷ 49 ∷ 14 ∷ 48 ∷ 15 ∷ 47 ∷ 16 ∷ 46 ∷ 17 ∷ 45 ∷ 18 ∷ 44
           ∷ 19 ∷ 43 ∷ 20 ∷ 42 ∷ 21 ∷ 41 ∷ 22 ∷ 40 ∷ 23 ∷ 39 ∷ 24 ∷ 38 ∷ 25 ∷ 37 ∷ 26 ∷ 36 ∷ 27 ∷ []) $ forget ! 0 refl $
           free1 ! $ forget ! 0 refl $ free1 ! $ forget ! 0 refl $ free1 ! $ forget ! 0 refl $ free1 ! $ forget ! 0 refl $ free1 ! $
           forget ! 0 refl $ free1 ! $ forget ! 0 refl $ free1 ! $ forget ! 0 refl $ free1 ! $ forget ! 0 refl $ free1 ! $
@@ -724,7 +729,7 @@ module _ {M : Type 1} (𝓤 : URA M) (H : Heap 𝓤) (A : Atoms 𝓤) (W : Given
           (e-m : m ≡ length (x₃ .now)) × (Is usize m (w-m ∷ []))
 
       part₁ : (past : Known₁) → ent 𝓤 (⋆ 𝓤 H A (‵ (flft κ₃ q₃)
-          ∷ ‵ (fat fullShare (tyArray (tyInt w32) 128) (past .15) 0 ((only ((array-vals (uint-vals w32)) (past .0)))))
+          ∷ ‵ (fat fullShare (tyArray (tyInt w32) 128) (past .14) 0 ((only ((array-vals (uint-vals w32)) (past .0)))))
           ∷ ‵ (partAt (Array u32 32) (past .29) (h .outstanding) b (o + 636))
           ∷ ‵ (partAt clock-row.the-row (past .29) (h .clock) b (o + 104))
           ∷ ‵ (partAt arrival-row.the-row (past .29) (h .arrival) b (o + 72))
@@ -740,11 +745,11 @@ module _ {M : Type 1} (𝓤 : URA M) (H : Heap 𝓤) (A : Atoms 𝓤) (W : Given
           (fdies (sliceTy (tyRef (named 3) imm (pointee (R .written)))) (past .5)) ⊛ ‵
           (fdies (sliceTy (tyRef (named 4) imm (tyInt w32))) (past .6)) ⊛ ‵ (fdies (tyInt w32) (past .7)) ⊛ ‵
           (fdies (tyRef (named 5) mut (tyInt w32)) (past .8)) ⊛ ‵ (fdies settings-laws.mir (past .9)) ⊛ ‵ (fdies flight-laws.mir (past .10))
-          ⊛ ‵ (fdies arrival-laws.mir (past .11)) ⊛ ‵ (fdies clock-laws.mir (past .12)) ⊛ ‵ (fdies (tyArray (tyInt w32) 32) (past .13)) ⊛ ‵
-          (fdies (tyInt w64) (past .14)) ⊛ ‵ (fdies (tyArray (tyInt w32) 128) (past .15)) ⊛ ‵ (fdies (tyInt w64) (past .16)) ⊛ ‵
-          (fdies time-laws.mir (past .17)) ⊛ ‵ (fdies (tyArray (tyInt w32) 128) (past .18)) ⊛ ‵ (fdies tyUnit (past .19)) ⊛ ‵
-          (fdies (tyRef erased mut (tyArray (tyInt w32) 128)) (past .20)) ⊛ ‵
-          (fdies (tyRef erased imm (tyArray (tyInt w32) 128)) (past .21)) ⊛ ‵
+          ⊛ ‵ (fdies arrival-laws.mir (past .11)) ⊛ ‵ (fdies clock-laws.mir (past .12)) ⊛ ‵ (fdies (tyInt w64) (past .13)) ⊛ ‵
+          (fdies (tyArray (tyInt w32) 128) (past .14)) ⊛ ‵ (fdies (tyInt w64) (past .15)) ⊛ ‵ (fdies time-laws.mir (past .16)) ⊛ ‵
+          (fdies (tyArray (tyInt w32) 128) (past .17)) ⊛ ‵ (fdies tyUnit (past .18)) ⊛ ‵
+          (fdies (tyRef erased imm (tyArray (tyInt w32) 32)) (past .19)) ⊛ ‵ (fdies (tyRef erased mut (tyArray (tyInt w32) 128)) (past .20))
+          ⊛ ‵ (fdies (tyRef erased imm (tyArray (tyInt w32) 128)) (past .21)) ⊛ ‵
           (fdies (tyRef erased imm (tyArray (tyInt w32) 128)) (past .22)) ⊛ ‵ (fdies (tyRef erased imm (tyArray (tyInt w32) 32)) (past .23))
           ⊛ ‵ (fdies (tyRef erased imm (tyArray (tyInt w8) 32)) (past .24)) ⊛ ‵
           (fdies (tyRef erased imm (tyArray (tyInt w32) 128)) (past .25)) ⊛ ‵
@@ -758,12 +763,12 @@ module _ {M : Type 1} (𝓤 : URA M) (H : Heap 𝓤) (A : Atoms 𝓤) (W : Given
           ∷ ‵ (froom (tyRef erased imm (tyArray (tyInt w8) 32)) (past .24) 0)
           ∷ ‵ (froom (tyRef erased imm (tyArray (tyInt w32) 32)) (past .23) 0)
           ∷ ‵ (froom (tyRef erased imm (tyArray (tyInt w32) 128)) (past .22) 0)
-          ∷ ‵ (fat fullShare (tyRef erased imm (tyArray (tyInt w32) 128)) (past .21) 0 ((vptr (past .15) 0)))
-          ∷ ‵ (fat fullShare (tyRef erased mut (tyArray (tyInt w32) 128)) (past .20) 0 ((vptr (past .15) 0)))
-          ∷ ‵ (fat fullShare tyUnit (past .19) 0 ((past .44))) ∷ ‵ (fat fullShare (tyArray (tyInt w32) 128) (past .18) 0 ((past .43)))
-          ∷ ‵ (froom time-laws.mir (past .17) 0) ∷ ‵ (fat fullShare (tyInt w64) (past .16) 0 ((past .48)))
-          ∷ ‵ (fat fullShare (tyInt w64) (past .14) 0 ((past .41)))
-          ∷ ‵ (fat fullShare (tyArray (tyInt w32) 32) (past .13) 0 ((only ((array-vals (uint-vals w32)) (h .outstanding)))))
+          ∷ ‵ (fat fullShare (tyRef erased imm (tyArray (tyInt w32) 128)) (past .21) 0 ((vptr (past .14) 0)))
+          ∷ ‵ (fat fullShare (tyRef erased mut (tyArray (tyInt w32) 128)) (past .20) 0 ((vptr (past .14) 0)))
+          ∷ ‵ (fat fullShare (tyRef erased imm (tyArray (tyInt w32) 32)) (past .19) 0 ((vptr b (o + 636))))
+          ∷ ‵ (fat fullShare tyUnit (past .18) 0 ((past .44))) ∷ ‵ (fat fullShare (tyArray (tyInt w32) 128) (past .17) 0 ((past .43)))
+          ∷ ‵ (froom time-laws.mir (past .16) 0) ∷ ‵ (fat fullShare (tyInt w64) (past .15) 0 ((past .48)))
+          ∷ ‵ (fat fullShare (tyInt w64) (past .13) 0 ((past .41)))
           ∷ ‵ (fat fullShare clock-laws.mir (past .12) 0 ((only ((LL.vals clock-row.the-type clock-laws.the-laws) (h .clock)))))
           ∷ ‵ (fat fullShare arrival-laws.mir (past .11) 0 ((only ((LL.vals arrival-row.the-type arrival-laws.the-laws) (h .arrival)))))
           ∷ ‵ (fat fullShare flight-laws.mir (past .10) 0 ((only ((LL.vals flight-row.the-type flight-laws.the-laws) (h .flight)))))
@@ -781,7 +786,7 @@ module _ {M : Type 1} (𝓤 : URA M) (H : Heap 𝓤) (A : Atoms 𝓤) (W : Given
           (past .12) (past .13) (past .14) (past .15) (past .16) (past .17) (past .18) (past .19) (past .20) (past .21) (past .22)
           (past .23) (past .24) (past .25) (past .26) (past .27) (past .28)) Post))
       part₁ past =
-          qed W (‵ (flft κ₃ q₃) ∷ ‵ (fat fullShare (tyArray (tyInt w32) 128) (past .15) 0 ((only ((array-vals (uint-vals w32)) (past .0)))))
+          qed W (‵ (flft κ₃ q₃) ∷ ‵ (fat fullShare (tyArray (tyInt w32) 128) (past .14) 0 ((only ((array-vals (uint-vals w32)) (past .0)))))
           ∷ ‵ (partAt (Array u32 32) (past .29) (h .outstanding) b (o + 636))
           ∷ ‵ (partAt clock-row.the-row (past .29) (h .clock) b (o + 104))
           ∷ ‵ (partAt arrival-row.the-row (past .29) (h .arrival) b (o + 72))
@@ -799,9 +804,9 @@ module _ {M : Type 1} (𝓤 : URA M) (H : Heap 𝓤) (A : Atoms 𝓤) (W : Given
           (fdies (sliceTy (tyRef (named 4) imm (tyInt w32))) (past .6)) ⊛ ‵ (fdies (tyInt w32) (past .7)) ⊛ ‵
           (fdies (tyRef (named 5) mut (tyInt w32)) (past .8)) ⊛ ‵ (fdies settings-laws.mir (past .9)) ⊛ ‵
           (fdies flight-laws.mir (past .10)) ⊛ ‵ (fdies arrival-laws.mir (past .11)) ⊛ ‵ (fdies clock-laws.mir (past .12)) ⊛ ‵
-          (fdies (tyArray (tyInt w32) 32) (past .13)) ⊛ ‵ (fdies (tyInt w64) (past .14)) ⊛ ‵
-          (fdies (tyArray (tyInt w32) 128) (past .15)) ⊛ ‵ (fdies (tyInt w64) (past .16)) ⊛ ‵ (fdies time-laws.mir (past .17)) ⊛ ‵
-          (fdies (tyArray (tyInt w32) 128) (past .18)) ⊛ ‵ (fdies tyUnit (past .19)) ⊛ ‵
+          (fdies (tyInt w64) (past .13)) ⊛ ‵ (fdies (tyArray (tyInt w32) 128) (past .14)) ⊛ ‵ (fdies (tyInt w64) (past .15)) ⊛ ‵
+          (fdies time-laws.mir (past .16)) ⊛ ‵ (fdies (tyArray (tyInt w32) 128) (past .17)) ⊛ ‵ (fdies tyUnit (past .18)) ⊛ ‵
+          (fdies (tyRef erased imm (tyArray (tyInt w32) 32)) (past .19)) ⊛ ‵
           (fdies (tyRef erased mut (tyArray (tyInt w32) 128)) (past .20)) ⊛ ‵
           (fdies (tyRef erased imm (tyArray (tyInt w32) 128)) (past .21)) ⊛ ‵
           (fdies (tyRef erased imm (tyArray (tyInt w32) 128)) (past .22)) ⊛ ‵
@@ -818,12 +823,12 @@ module _ {M : Type 1} (𝓤 : URA M) (H : Heap 𝓤) (A : Atoms 𝓤) (W : Given
           ∷ ‵ (froom (tyRef erased imm (tyArray (tyInt w8) 32)) (past .24) 0)
           ∷ ‵ (froom (tyRef erased imm (tyArray (tyInt w32) 32)) (past .23) 0)
           ∷ ‵ (froom (tyRef erased imm (tyArray (tyInt w32) 128)) (past .22) 0)
-          ∷ ‵ (fat fullShare (tyRef erased imm (tyArray (tyInt w32) 128)) (past .21) 0 ((vptr (past .15) 0)))
-          ∷ ‵ (fat fullShare (tyRef erased mut (tyArray (tyInt w32) 128)) (past .20) 0 ((vptr (past .15) 0)))
-          ∷ ‵ (fat fullShare tyUnit (past .19) 0 ((past .44))) ∷ ‵ (fat fullShare (tyArray (tyInt w32) 128) (past .18) 0 ((past .43)))
-          ∷ ‵ (froom time-laws.mir (past .17) 0) ∷ ‵ (fat fullShare (tyInt w64) (past .16) 0 ((past .48)))
-          ∷ ‵ (fat fullShare (tyInt w64) (past .14) 0 ((past .41)))
-          ∷ ‵ (fat fullShare (tyArray (tyInt w32) 32) (past .13) 0 ((only ((array-vals (uint-vals w32)) (h .outstanding)))))
+          ∷ ‵ (fat fullShare (tyRef erased imm (tyArray (tyInt w32) 128)) (past .21) 0 ((vptr (past .14) 0)))
+          ∷ ‵ (fat fullShare (tyRef erased mut (tyArray (tyInt w32) 128)) (past .20) 0 ((vptr (past .14) 0)))
+          ∷ ‵ (fat fullShare (tyRef erased imm (tyArray (tyInt w32) 32)) (past .19) 0 ((vptr b (o + 636))))
+          ∷ ‵ (fat fullShare tyUnit (past .18) 0 ((past .44))) ∷ ‵ (fat fullShare (tyArray (tyInt w32) 128) (past .17) 0 ((past .43)))
+          ∷ ‵ (froom time-laws.mir (past .16) 0) ∷ ‵ (fat fullShare (tyInt w64) (past .15) 0 ((past .48)))
+          ∷ ‵ (fat fullShare (tyInt w64) (past .13) 0 ((past .41)))
           ∷ ‵ (fat fullShare clock-laws.mir (past .12) 0 ((only ((LL.vals clock-row.the-type clock-laws.the-laws) (h .clock)))))
           ∷ ‵ (fat fullShare arrival-laws.mir (past .11) 0 ((only ((LL.vals arrival-row.the-type arrival-laws.the-laws) (h .arrival)))))
           ∷ ‵ (fat fullShare flight-laws.mir (past .10) 0 ((only ((LL.vals flight-row.the-type flight-laws.the-laws) (h .flight)))))
@@ -854,16 +859,16 @@ module _ {M : Type 1} (𝓤 : URA M) (H : Heap 𝓤) (A : Atoms 𝓤) (W : Given
           assigns ! {v = (vptr b (o + 1820))} (addr ! (from ! (hop ! (look ! 48 refl) (fld ! {d = 1820} refl (stop !))))) (from ! (stop !))
           (init ! 24 refl (tt, tt)) $
           move ! (1 ∷ []) $ use1 W (‵ (cellAt fullShare ((tyArray (tyInt w32) 128) ∷ [])
-          ((only ((array-vals (uint-vals w32)) (past .0))) ∷ []) (past .15) 0))
-          (W .laws .at-raw fullShare (tyArray (tyInt w32) 128) (past .15) 0 (only ((array-vals (uint-vals w32)) (past .0)))) $
-          cell-in ! fullShare (Array u32 128) (array-makes 𝓤 H A W u32 (uint-makes 𝓤 H A W w32) 128) (past .0) (past .15) 0
+          ((only ((array-vals (uint-vals w32)) (past .0))) ∷ []) (past .14) 0))
+          (W .laws .at-raw fullShare (tyArray (tyInt w32) 128) (past .14) 0 (only ((array-vals (uint-vals w32)) (past .0)))) $
+          cell-in ! fullShare (Array u32 128) (array-makes 𝓤 H A W u32 (uint-makes 𝓤 H A W w32) 128) (past .0) (past .14) 0
           (only ((array-vals (uint-vals w32)) (past .0))) (past .46) $
-          lend-shr ! tt fullShare (Array u32 128) (past .0) (past .15) 0
+          lend-shr ! tt fullShare (Array u32 128) (past .0) (past .14) 0
           (λ α-local′ δ-local′. move ! (13 ∷ []) $
           lend-shr ! tt (past .29) (Array u32 128) (h .queued) b (o + 124)
           (λ α-queued δ-queued. move ! (7 ∷ []) $
           lend-shr ! tt (past .29) (Array u32 32) (h .outstanding) b (o + 636)
-          (λ α-outstanding δ-outstanding. move ! (17 ∷ []) $
+          (λ α-outstanding′ δ-outstanding′. move ! (17 ∷ []) $
           lend-shr ! tt (past .29) (Array u8 32) (h .transmissions) b (o + 764)
           (λ α-transmissions δ-transmissions. move ! (19 ∷ []) $
           lend-shr ! tt (past .29) (Array u32 128) (h .ready) b (o + 796)
@@ -874,7 +879,7 @@ module _ {M : Type 1} (𝓤 : URA M) (H : Heap 𝓤) (A : Atoms 𝓤) (W : Given
           (λ α-waiting-numbers δ-waiting-numbers. move ! (18 ∷ 19 ∷ 15 ∷ 16 ∷ 12 ∷ 13 ∷ 9 ∷ 10 ∷ 6 ∷ 7 ∷ 3 ∷ 4 ∷ 0 ∷ 1 ∷ 29
           ∷ 33 ∷ 30 ∷ 34 ∷ 31 ∷ 35 ∷ []) $ group ! 20 $
           calls-fn ! fm core.ended (core.clauses 𝓤 H A at-mem run) (known .4)
-          (to-core (past .15) α-local′ δ-local′ (past .0) α-queued δ-queued (h .queued) α-outstanding δ-outstanding (h .outstanding)
+          (to-core (past .14) α-local′ δ-local′ (past .0) α-queued δ-queued (h .queued) α-outstanding′ δ-outstanding′ (h .outstanding)
           α-transmissions δ-transmissions (h .transmissions) α-ready δ-ready (h .ready) α-waiting δ-waiting (h .waiting)
           α-waiting-numbers δ-waiting-numbers (h .«waiting_numbers») (h .settings)
           (only ((LL.vals settings-row.the-type settings-laws.the-laws) (h .settings))) (h .flight)
@@ -883,10 +888,10 @@ module _ {M : Type 1} (𝓤 : URA M) (H : Heap 𝓤) (A : Atoms 𝓤) (W : Given
           (only ((LL.vals clock-row.the-type clock-laws.the-laws) (h .clock))) (past .47) (past .48) x₅ v₅)
           (λ a ws-a. timeOutcome a ≡ checksWith h (recordsIn (past .0)) (x₄ .now) (lentLengths (past .47) (x₁ .now) (x₂ .now) (x₄ .now))
           x₅) (‵ (flft (α-local′ ∷ []) fullShare) ⊛ ‵
-          (ShrRef (named 0) (α-local′ ∷ []) (Array u32 128) .own (ref-at (past .15) 0 δ-local′ (past .0)) ((vptr (past .15) 0) ∷ [])) ⊛
+          (ShrRef (named 0) (α-local′ ∷ []) (Array u32 128) .own (ref-at (past .14) 0 δ-local′ (past .0)) ((vptr (past .14) 0) ∷ [])) ⊛
           ‵ (flft (α-queued ∷ []) fullShare) ⊛ ‵ (ShrRef (named 0) (α-queued ∷ []) (Array u32 128) .own
-          (ref-at b (o + 124) δ-queued (h .queued)) ((vptr b (o + 124)) ∷ [])) ⊛ ‵ (flft (α-outstanding ∷ []) fullShare) ⊛ ‵
-          (ShrRef (named 0) (α-outstanding ∷ []) (Array u32 32) .own (ref-at b (o + 636) δ-outstanding (h .outstanding))
+          (ref-at b (o + 124) δ-queued (h .queued)) ((vptr b (o + 124)) ∷ [])) ⊛ ‵ (flft (α-outstanding′ ∷ []) fullShare) ⊛ ‵
+          (ShrRef (named 0) (α-outstanding′ ∷ []) (Array u32 32) .own (ref-at b (o + 636) δ-outstanding′ (h .outstanding))
           ((vptr b (o + 636)) ∷ [])) ⊛ ‵ (flft (α-transmissions ∷ []) fullShare) ⊛ ‵
           (ShrRef (named 0) (α-transmissions ∷ []) (Array u8 32) .own (ref-at b (o + 764) δ-transmissions (h .transmissions))
           ((vptr b (o + 764)) ∷ [])) ⊛ ‵ (flft (α-ready ∷ []) fullShare) ⊛ ‵
@@ -896,7 +901,7 @@ module _ {M : Type 1} (𝓤 : URA M) (H : Heap 𝓤) (A : Atoms 𝓤) (W : Given
           (ShrRef (named 0) (α-waiting-numbers ∷ []) (Array u32 128) .own (ref-at b (o + 1820) δ-waiting-numbers (h .«waiting_numbers»))
           ((vptr b (o + 1820)) ∷ [])) ⊛ ‵ (flft κ₁ q₁) ⊛ ‵ Own₁ ⊛ ‵ (flft κ₂ q₂) ⊛ ‵ Own₂ ⊛ ‵ (flft κ₄ q₄) ⊛ ‵
           Own₄)
-          (asks-core (past .15) α-local′ δ-local′ (past .0) α-queued δ-queued (h .queued) α-outstanding δ-outstanding (h .outstanding)
+          (asks-core (past .14) α-local′ δ-local′ (past .0) α-queued δ-queued (h .queued) α-outstanding′ δ-outstanding′ (h .outstanding)
           α-transmissions δ-transmissions (h .transmissions) α-ready δ-ready (h .ready) α-waiting δ-waiting (h .waiting) α-waiting-numbers
           δ-waiting-numbers (h .«waiting_numbers») (h .settings)
           (only ((LL.vals settings-row.the-type settings-laws.the-laws) (h .settings))) (past .36) (h .flight)
@@ -918,7 +923,7 @@ module _ {M : Type 1} (𝓤 : URA M) (H : Heap 𝓤) (A : Atoms 𝓤) (W : Given
           (and-then ! (load ! (from ! (stop !)) (look ! 34 refl))
           (and-then ! (load ! (from ! (stop !)) (look ! 33 refl))
           (and-then ! (load ! (from ! (stop !)) (look ! 25 refl))
-          (and-then ! (load ! (from ! (stop !)) (look ! 30 refl))
+          (and-then ! (load ! (from ! (stop !)) (look ! 31 refl))
           (and-then ! (load ! (from ! (stop !)) (look ! 24 refl))
           (and-then ! (load ! (from ! (stop !)) (look ! 23 refl))
           (and-then ! (load ! (from ! (stop !)) (look ! 22 refl))
@@ -930,9 +935,9 @@ module _ {M : Type 1} (𝓤 : URA M) (H : Heap 𝓤) (A : Atoms 𝓤) (W : Given
           (and-then ! (load ! (from ! (stop !)) (look ! 39 refl))
           (and-then ! (load ! (from ! (stop !)) (look ! 38 refl)) (no-more !)))))))))))))))))
           (λ a w-a ws-a e-a is-a. land ! (from ! (stop !))
-          (init ! 30 refl (EL.lawful time-row.the-type time-laws.the-laws 𝓤 H A W tt .typed a (w-a ∷ []) is-a .0)) $
+          (init ! 31 refl (EL.lawful time-row.the-type time-laws.the-laws 𝓤 H A W tt .typed a (w-a ∷ []) is-a .0)) $
           spread W (‵ (flft (α-local′ ∷ []) fullShare))
-          (‵ (flft (α-queued ∷ []) fullShare) ∷ ‵ (flft (α-outstanding ∷ []) fullShare) ∷ ‵ (flft (α-transmissions ∷ []) fullShare)
+          (‵ (flft (α-queued ∷ []) fullShare) ∷ ‵ (flft (α-outstanding′ ∷ []) fullShare) ∷ ‵ (flft (α-transmissions ∷ []) fullShare)
           ∷ ‵ (flft (α-ready ∷ []) fullShare) ∷ ‵ (flft (α-waiting ∷ []) fullShare) ∷ ‵ (flft (α-waiting-numbers ∷ []) fullShare)
           ∷ ‵ (flft κ₁ q₁) ∷ ‵ (flft κ₂ q₂) ∷ ‵ (flft κ₄ q₄) ∷ ‵ ftrue ∷ []) (id⊢ 𝓤 _) $ move ! (11 ∷ []) $
           spread W (‵ ftrue) (‵ ftrue ∷ ‵ ftrue ∷ ‵ ftrue ∷ ‵ ftrue ∷ ‵ ftrue ∷ ‵ ftrue ∷ ‵ ftrue ∷ ‵ ftrue ∷ ‵ ftrue
@@ -940,14 +945,14 @@ module _ {M : Type 1} (𝓤 : URA M) (H : Heap 𝓤) (A : Atoms 𝓤) (W : Given
           keep ! (17 ∷ 18 ∷ 19 ∷ 20 ∷ 21 ∷ 22 ∷ 23 ∷ 24 ∷ 25 ∷ 26 ∷ 28 ∷ 29 ∷ 30 ∷ 31 ∷ 32 ∷ 33 ∷ 34 ∷ 35 ∷ 36 ∷ 37
           ∷ 38 ∷ 39 ∷ 40 ∷ 41 ∷ 42 ∷ 43 ∷ 44 ∷ 45 ∷ 46 ∷ 47 ∷ 48 ∷ 49 ∷ 50 ∷ 51 ∷ 52 ∷ 53 ∷ 54 ∷ 55 ∷ 56 ∷ 57 ∷ 58
           ∷ 59 ∷ 60 ∷ 61 ∷ 62 ∷ 63 ∷ 64 ∷ 65 ∷ 66 ∷ 67 ∷ 68 ∷ 69 ∷ 70 ∷ 71 ∷ []) $
-          -- [tok:@14; tok:queued; tok:outstanding; tok:transmissions; tok:ready; tok:waiting; tok:«waiting_numbers»; tok1; tok2; tok4;
-          -- lent:«waiting_numbers»; lent:waiting; lent:ready; lent:transmissions; lent:outstanding; lent:queued; lent:@14; tok3; F:clock;
+          -- [tok:@13; tok:queued; tok:outstanding; tok:transmissions; tok:ready; tok:waiting; tok:«waiting_numbers»; tok1; tok2; tok4;
+          -- lent:«waiting_numbers»; lent:waiting; lent:ready; lent:transmissions; lent:outstanding; lent:queued; lent:@13; tok3; F:clock;
           -- F:arrival; F:flight; F:settings; back; opened; deaths; tok6; own6; the locals]
-          move ! (0 ∷ 16 ∷ []) $ back-shr ! tt fullShare (Array u32 128) (past .15) 0 (past .0) $
+          move ! (0 ∷ 16 ∷ []) $ back-shr ! tt fullShare (Array u32 128) (past .14) 0 (past .0) $
           cell-out ! fullShare (Array u32 128) (array-vals (uint-vals w32)) (array-tells u32 (uint-vals w32) (uint-tells w32) 128)
-          (past .0) (past .15) 0 (λ was-local-2. use1 W
-          (‵ (fat fullShare (tyArray (tyInt w32) 128) (past .15) 0 (only ((array-vals (uint-vals w32)) (past .0)))))
-          (W .laws .raw-at fullShare (tyArray (tyInt w32) 128) (past .15) 0 (only ((array-vals (uint-vals w32)) (past .0)))) $
+          (past .0) (past .14) 0 (λ was-local-2. use1 W
+          (‵ (fat fullShare (tyArray (tyInt w32) 128) (past .14) 0 (only ((array-vals (uint-vals w32)) (past .0)))))
+          (W .laws .raw-at fullShare (tyArray (tyInt w32) 128) (past .14) 0 (only ((array-vals (uint-vals w32)) (past .0)))) $
           move ! (1 ∷ 15 ∷ []) $ back-shr ! tt (past .29) (Array u32 128) b (o + 124) (h .queued) $ move ! (2 ∷ 14 ∷ []) $
           back-shr ! tt (past .29) (Array u32 32) b (o + 636) (h .outstanding) $ move ! (3 ∷ 13 ∷ []) $
           back-shr ! tt (past .29) (Array u8 32) b (o + 764) (h .transmissions) $ move ! (4 ∷ 12 ∷ []) $
@@ -1080,15 +1085,7 @@ module _ {M : Type 1} (𝓤 : URA M) (H : Heap 𝓤) (A : Atoms 𝓤) (W : Given
           (init ! 39 refl (LL.lawful clock-row.the-type clock-laws.the-laws 𝓤 H A W .typed (h .clock)
           ((only ((LL.vals clock-row.the-type clock-laws.the-laws) (h .clock))) ∷ []) was-clock .0)) $
           cell-in ! q′ clock-row.the-row (LL.makes clock-row.the-type clock-laws.the-plain 𝓤 H A) (h .clock) b (o + 104)
-          (only ((LL.vals clock-row.the-type clock-laws.the-laws) (h .clock))) was-clock $ move ! (8 ∷ []) $
-          cell-out ! q′ (Array u32 32) (array-vals (uint-vals w32)) (array-tells u32 (uint-vals w32) (uint-tells w32) 32)
-          (h .outstanding) b (o + 636) (λ was-outstanding.
-          assigns ! {v = (only ((array-vals (uint-vals w32)) (h .outstanding)))}
-          (of-opd ! (load ! (from ! (hop ! (look ! 49 refl) (fld ! {d = 636} refl (stop !)))) (look-raw ! 0 refl))) (from ! (stop !))
-          (init ! 38 refl (array-typed u32 (uint-lawful 𝓤 H A W w32 .typed) 32 (h .outstanding)
-          ((only ((array-vals (uint-vals w32)) (h .outstanding))) ∷ []) was-outstanding .0)) $
-          cell-in ! q′ (Array u32 32) (array-makes 𝓤 H A W u32 (uint-makes 𝓤 H A W w32) 32) (h .outstanding) b (o + 636)
-          (only ((array-vals (uint-vals w32)) (h .outstanding))) was-outstanding $ nothing ! $
+          (only ((LL.vals clock-row.the-type clock-laws.the-laws) (h .clock))) was-clock $ nothing ! $
           calls-fn ! fm count-of.ended (count-of.clauses 𝓤 H A at-mem run) (known .0)
           ((tt, tt, tt, ((h .flight), tt), ((only ((LL.vals flight-row.the-type flight-laws.the-laws) (h .flight))) ∷ [], tt)), tt)
           (λ n _. n ≡ h .flight .outstanding)
@@ -1096,60 +1093,68 @@ module _ {M : Type 1} (𝓤 : URA M) (H : Heap 𝓤) (A : Atoms 𝓤) (W : Given
           ((h .flight), tt) ((only ((LL.vals flight-row.the-type flight-laws.the-laws) (h .flight))) ∷ [], tt) (was-flight, tt))
           (λ n _. id⊢ 𝓤 _)
           (and-then ! (load ! (from ! (stop !)) (look ! 42 refl)) (no-more !))
-          (λ n w-n _ e-n is-n. drop ! $ drop ! $ land ! (from ! (stop !)) (init ! 37 refl (uint-lawful 𝓤 H A W w64 .typed n _ is-n .0)) $
+          (λ n w-n _ e-n is-n. drop ! $ drop ! $ land ! (from ! (stop !)) (init ! 38 refl (uint-lawful 𝓤 H A W w64 .typed n _ is-n .0)) $
           nothing ! $ calls-fn ! fm none-of.ended (none-of.clauses 𝓤 H A at-mem run) (known .1) ((tt, tt, tt, tt, tt), tt)
           (λ blanks _. blanks ≡ replicate 128 0)
           (‵ ftrue) (plainly 𝓤 H A W ([]) tt tt tt tt) (λ blanks _. id⊢ 𝓤 _)
           (no-more !) (λ blanks w-blanks _ e-blanks is-blanks. drop ! $ drop ! $
-          land ! (from ! (stop !)) (init ! 33 refl (array-typed u32 (uint-lawful 𝓤 H A W w32 .typed) 128 blanks (w-blanks ∷ []) is-blanks
+          land ! (from ! (stop !)) (init ! 34 refl (array-typed u32 (uint-lawful 𝓤 H A W w32 .typed) 128 blanks (w-blanks ∷ []) is-blanks
           .0)) $
-          assigns ! {v = w-blanks} (of-opd ! (load ! (from ! (stop !)) (look ! 33 refl))) (from ! (stop !))
-          (init ! 36 refl (array-typed u32 (uint-lawful 𝓤 H A W w32 .typed) 128 blanks (w-blanks ∷ []) is-blanks .0)) $
-          assigns ! {v = (vptr l₁₄ 0)} (addr ! (from ! (stop !))) (from ! (stop !)) (init ! 31 refl (tt, tt)) $
-          move ! (36 ∷ []) $ use1 W (‵ (cellAt fullShare ((tyArray (tyInt w32) 128) ∷ []) (w-blanks ∷ []) l₁₄ 0))
-          (W .laws .at-raw fullShare (tyArray (tyInt w32) 128) l₁₄ 0 w-blanks) $
-          cell-in ! fullShare (Array u32 128) (array-makes 𝓤 H A W u32 (uint-makes 𝓤 H A W w32) 128) blanks l₁₄ 0 w-blanks is-blanks $
-          lend-mut ! tt (Array u32 128) blanks l₁₄ 0
-          (λ α-local δ-local. move ! (23 ∷ []) $
+          assigns ! {v = w-blanks} (of-opd ! (load ! (from ! (stop !)) (look ! 34 refl))) (from ! (stop !))
+          (init ! 37 refl (array-typed u32 (uint-lawful 𝓤 H A W w32 .typed) 128 blanks (w-blanks ∷ []) is-blanks .0)) $
+          assigns ! {v = (vptr b (o + 636))} (addr ! (from ! (hop ! (look ! 49 refl) (fld ! {d = 636} refl (stop !))))) (from ! (stop !))
+          (init ! 32 refl (tt, tt)) $
+          assigns ! {v = (vptr l₁₃ 0)} (addr ! (from ! (stop !))) (from ! (stop !)) (init ! 31 refl (tt, tt)) $
+          move ! (8 ∷ []) $ lend-shr ! tt q′ (Array u32 32) (h .outstanding) b (o + 636)
+          (λ α-outstanding δ-outstanding. move ! (39 ∷ []) $
+          use1 W (‵ (cellAt fullShare ((tyArray (tyInt w32) 128) ∷ []) (w-blanks ∷ []) l₁₃ 0))
+          (W .laws .at-raw fullShare (tyArray (tyInt w32) 128) l₁₃ 0 w-blanks) $
+          cell-in ! fullShare (Array u32 128) (array-makes 𝓤 H A W u32 (uint-makes 𝓤 H A W w32) 128) blanks l₁₃ 0 w-blanks is-blanks $
+          lend-mut ! tt (Array u32 128) blanks l₁₃ 0
+          (λ α-local δ-local. move ! (25 ∷ []) $
           use1 W (‵ Own₃ ⊛ ‵ Own₃) (shr-slice-copy 𝓤 H A W (named 0) κ₃ R .twice x₃ (s₃ ∷ [])) $ split ! $
-          move ! (20 ∷ 0 ∷ 2 ∷ 3 ∷ []) $ group ! 4 $
+          move ! (22 ∷ 0 ∷ 5 ∷ 6 ∷ 2 ∷ 3 ∷ []) $ group ! 6 $
           calls-fn ! fm gather.ended (gather.clauses 𝓤 H A at-mem run) (known .2)
-          (to-gather l₁₄ α-local δ-local blanks (h .outstanding) (only ((array-vals (uint-vals w32)) (h .outstanding))) n w-n)
+          (to-gather α-outstanding δ-outstanding (h .outstanding) l₁₃ α-local δ-local blanks n w-n)
           (λ g ws-g. (length (ws-g .1 .1 .1 .0) ≡ 128) ×
           (recordsIn (ws-g .1 .1 .1 .0) ≡ padded (gathered (take sendSlots (x₃ .now)) (slotsIn (h .outstanding) n))))
-          (‵ (flft κ₃ q₃) ⊛ ‵ Own₃ ⊛ ‵ (flft (α-local ∷ []) fullShare) ⊛ ‵
-          (MutRef (named 0) (α-local ∷ []) (Array u32 128) .own (ref-at l₁₄ 0 δ-local blanks) ((vptr l₁₄ 0) ∷ [])))
-          (asks-gather l₁₄ α-local δ-local blanks (h .outstanding) (only ((array-vals (uint-vals w32)) (h .outstanding))) was-outstanding n
-          w-n is-n (e-blanks)) (λ g ws-g. id⊢ 𝓤 _)
+          (‵ (flft κ₃ q₃) ⊛ ‵ Own₃ ⊛ ‵ (flft (α-outstanding ∷ []) fullShare) ⊛ ‵
+          (ShrRef (named 0) (α-outstanding ∷ []) (Array u32 32) .own (ref-at b (o + 636) δ-outstanding (h .outstanding))
+          ((vptr b (o + 636)) ∷ [])) ⊛ ‵ (flft (α-local ∷ []) fullShare) ⊛ ‵
+          (MutRef (named 0) (α-local ∷ []) (Array u32 128) .own (ref-at l₁₃ 0 δ-local blanks) ((vptr l₁₃ 0) ∷ [])))
+          (asks-gather α-outstanding δ-outstanding (h .outstanding) l₁₃ α-local δ-local blanks n w-n is-n (len-outstanding, e-blanks))
+          (λ g ws-g. id⊢ 𝓤 _)
           (and-then ! (load ! (from ! (stop !)) (look ! 46 refl))
-          (and-then ! (load ! (from ! (stop !)) (look ! 38 refl))
-          (and-then ! (load ! (from ! (stop !)) (look ! 37 refl)) (and-then ! (load ! (from ! (stop !)) (look ! 32 refl)) (no-more !)))))
-          (λ g w-g ws-g e-g is-g. land ! (from ! (stop !)) (init ! 34 refl (nothing-lawful 𝓤 H A W .typed g _ is-g .0)) $
-          spread W (‵ (flft κ₃ q₃)) (‵ (flft (α-local ∷ []) fullShare) ∷ ‵ ftrue ∷ []) (id⊢ 𝓤 _) $ move ! (3 ∷ []) $
-          spread W (‵ ftrue) (‵ ftrue ∷ ‵ ftrue ∷ ‵ (fres δ-local ((Array u32 128) .coded .code (ws-g .1 .1 .1 .0))) ∷ ‵ ftrue ∷ [])
-          (id⊢ 𝓤 _) $ keep ! (3 ∷ 5 ∷ 6 ∷ 8 ∷ 9 ∷ 10 ∷ 11 ∷ 12 ∷ 13 ∷ 14 ∷ 15 ∷ 16 ∷ 17 ∷ 18 ∷ 19 ∷ 20 ∷ 21 ∷ 22
-          ∷ 23 ∷ 24 ∷ 25 ∷ 26 ∷ 27 ∷ 28 ∷ 29 ∷ 30 ∷ 31 ∷ 32 ∷ 33 ∷ 34 ∷ 35 ∷ 36 ∷ 37 ∷ 38 ∷ 39 ∷ 40 ∷ 41 ∷ 42 ∷ 43
-          ∷ 44 ∷ 45 ∷ 46 ∷ 47 ∷ 48 ∷ 49 ∷ 50 ∷ 51 ∷ 52 ∷ 53 ∷ 54 ∷ 55 ∷ 56 ∷ 57 ∷ []) $
-          -- [fin:@14; tok3; tok:@14; own3; lent:@14; F:outstanding; F:clock; F:arrival; F:flight; F:settings; F:«waiting_numbers»;
-          -- F:waiting; F:ready; F:transmissions; F:queued; back; opened; deaths; tok1; tok2; tok4; tok6; own1; own2; own4; own6; the
-          -- locals]
-          move ! (2 ∷ 4 ∷ 0 ∷ []) $ back-mut ! tt (Array u32 128) l₁₄ 0 (ws-g .1 .1 .1 .0) $
+          (and-then ! (load ! (from ! (stop !)) (look ! 33 refl))
+          (and-then ! (load ! (from ! (stop !)) (look ! 38 refl)) (and-then ! (load ! (from ! (stop !)) (look ! 32 refl)) (no-more !)))))
+          (λ g w-g ws-g e-g is-g. land ! (from ! (stop !)) (init ! 35 refl (nothing-lawful 𝓤 H A W .typed g _ is-g .0)) $
+          spread W (‵ (flft κ₃ q₃)) (‵ (flft (α-outstanding ∷ []) fullShare) ∷ ‵ (flft (α-local ∷ []) fullShare) ∷ ‵ ftrue ∷ [])
+          (id⊢ 𝓤 _) $ move ! (4 ∷ []) $ spread W (‵ ftrue)
+          (‵ ftrue ∷ ‵ ftrue ∷ ‵ (fres δ-local ((Array u32 128) .coded .code (ws-g .1 .1 .1 .0))) ∷ ‵ ftrue ∷ []) (id⊢ 𝓤 _) $
+          keep ! (3 ∷ 5 ∷ 6 ∷ 7 ∷ 9 ∷ 10 ∷ 11 ∷ 12 ∷ 13 ∷ 14 ∷ 15 ∷ 16 ∷ 17 ∷ 18 ∷ 19 ∷ 20 ∷ 21 ∷ 22 ∷ 23 ∷ 24 ∷ 25
+          ∷ 26 ∷ 27 ∷ 28 ∷ 29 ∷ 30 ∷ 31 ∷ 32 ∷ 33 ∷ 34 ∷ 35 ∷ 36 ∷ 37 ∷ 38 ∷ 39 ∷ 40 ∷ 41 ∷ 42 ∷ 43 ∷ 44 ∷ 45 ∷ 46
+          ∷ 47 ∷ 48 ∷ 49 ∷ 50 ∷ 51 ∷ 52 ∷ 53 ∷ 54 ∷ 55 ∷ 56 ∷ 57 ∷ 58 ∷ []) $
+          -- [fin:@13; tok3; tok:outstanding; tok:@13; own3; lent:@13; lent:outstanding; F:clock; F:arrival; F:flight; F:settings;
+          -- F:«waiting_numbers»; F:waiting; F:ready; F:transmissions; F:queued; back; opened; deaths; tok1; tok2; tok4; tok6; own1; own2;
+          -- own4; own6; the locals]
+          move ! (2 ∷ 6 ∷ []) $ back-shr ! tt q′ (Array u32 32) b (o + 636) (h .outstanding) $ move ! (3 ∷ 5 ∷ 1 ∷ []) $
+          back-mut ! tt (Array u32 128) l₁₃ 0 (ws-g .1 .1 .1 .0) $
           cell-out ! fullShare (Array u32 128) (array-vals (uint-vals w32)) (array-tells u32 (uint-vals w32) (uint-tells w32) 128)
-          (ws-g .1 .1 .1 .0) l₁₄ 0 (λ was-local-1. use1 W
-          (‵ (fat fullShare (tyArray (tyInt w32) 128) l₁₄ 0 (only ((array-vals (uint-vals w32)) (ws-g .1 .1 .1 .0)))))
-          (W .laws .raw-at fullShare (tyArray (tyInt w32) 128) l₁₄ 0 (only ((array-vals (uint-vals w32)) (ws-g .1 .1 .1 .0)))) $
-          move ! (1 ∷ 2 ∷ []) $ join ! $ calls-fn ! fm table-len.ended (table-len.clauses 𝓤 H A at-mem run) (known .3) (to-table-len)
+          (ws-g .1 .1 .1 .0) l₁₃ 0 (λ was-local-1. use1 W
+          (‵ (fat fullShare (tyArray (tyInt w32) 128) l₁₃ 0 (only ((array-vals (uint-vals w32)) (ws-g .1 .1 .1 .0)))))
+          (W .laws .raw-at fullShare (tyArray (tyInt w32) 128) l₁₃ 0 (only ((array-vals (uint-vals w32)) (ws-g .1 .1 .1 .0)))) $
+          move ! (2 ∷ 3 ∷ []) $ join ! $ calls-fn ! fm table-len.ended (table-len.clauses 𝓤 H A at-mem run) (known .3) (to-table-len)
           (λ m ws-m. m ≡ length (x₃ .now)) (‵ (flft κ₃ q₃) ⊛ ‵ Own₃)
           (asks-table-len) (λ m ws-m. id⊢ 𝓤 _)
           (and-then ! (load ! (from ! (stop !)) (look ! 45 refl)) (no-more !))
-          (λ m w-m ws-m e-m is-m. land ! (from ! (stop !)) (init ! 36 refl (uint-lawful 𝓤 H A W w64 .typed m _ is-m .0)) $
+          (λ m w-m ws-m e-m is-m. land ! (from ! (stop !)) (init ! 37 refl (uint-lawful 𝓤 H A W w64 .typed m _ is-m .0)) $
           spread W (‵ (flft κ₃ q₃)) (‵ ftrue ∷ []) (id⊢ 𝓤 _) $ move ! (2 ∷ []) $ spread W (‵ ftrue) (‵ ftrue ∷ []) (id⊢ 𝓤 _) $
           keep ! (2 ∷ 4 ∷ 5 ∷ 6 ∷ 7 ∷ 8 ∷ 9 ∷ 10 ∷ 11 ∷ 12 ∷ 13 ∷ 14 ∷ 15 ∷ 16 ∷ 17 ∷ 18 ∷ 19 ∷ 20 ∷ 21 ∷ 22 ∷ 23
           ∷ 24 ∷ 25 ∷ 26 ∷ 27 ∷ 28 ∷ 29 ∷ 30 ∷ 31 ∷ 32 ∷ 33 ∷ 34 ∷ 35 ∷ 36 ∷ 37 ∷ 38 ∷ 39 ∷ 40 ∷ 41 ∷ 42 ∷ 43 ∷ 44
           ∷ 45 ∷ 46 ∷ 47 ∷ 48 ∷ 49 ∷ 50 ∷ 51 ∷ 52 ∷ []) $
           -- [tok3; F:outstanding; F:clock; F:arrival; F:flight; F:settings; F:«waiting_numbers»; F:waiting; F:ready; F:transmissions;
           -- F:queued; back; opened; deaths; tok1; tok2; tok4; tok6; own1; own2; own4; own6; the locals]
-          assigns ! {v = (vptr l₁₄ 0)} (addr ! (from ! (stop !))) (from ! (stop !)) (init ! 30 refl (tt, tt)) $
+          assigns ! {v = (vptr l₁₃ 0)} (addr ! (from ! (stop !))) (from ! (stop !)) (init ! 30 refl (tt, tt)) $
           by ! (part₁ (
             (ws-g .1 .1 .1 .0),
             l₀,

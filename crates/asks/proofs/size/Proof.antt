@@ -274,29 +274,34 @@ module _ {M : Type 1} (𝓤 : URA M) (H : Heap 𝓤) (A : Atoms 𝓤) (W : Given
         (((κ₀, (κ₁, (κ₂, (κ₃, (κ₄, tt))))), (q₀, (q₁, (q₂, (q₃, (q₄, tt))))), tt, x, at), tt)
 
     -- what fit is called at, and that what it asks is had
-    abbrev to-fit : (y₀ : (List ℕ)) (u₀ : Val) (y₁ : Settings) (u₁ : Val) (y₂ : Flight) (u₂ : Val)
-        → tripleOf 𝓤 H A fit.signature (fit.spec 𝓤 H A at-mem run) .Ghost
-    to-fit y₀ u₀ y₁ u₁ y₂ u₂ = (
+    abbrev to-fit : (α-outstanding : ℕ) (δ-outstanding : GName) (f-outstanding : (List ℕ)) (y₀ : Settings) (u₀ : Val) (y₁ : Flight)
+        (u₁ : Val) → tripleOf 𝓤 H A fit.signature (fit.spec 𝓤 H A at-mem run) .Ghost
+    to-fit α-outstanding δ-outstanding f-outstanding y₀ u₀ y₁ u₁ = (
       (
-        (κ₃, tt),
-        (q₃, tt),
+        (κ₃, ((α-outstanding ∷ []), tt)),
+        (q₃, (fullShare, tt)),
         tt,
-        (x₃, (y₀, (y₁, (y₂, tt)))),
-        (s₃ ∷ [], (u₀ ∷ [], (u₁ ∷ [], (u₂ ∷ [], tt)))),
+        (x₃, ((ref-at b (o + 636) δ-outstanding f-outstanding), (y₀, (y₁, tt)))),
+        (s₃ ∷ [], ((vptr b (o + 636)) ∷ [], (u₀ ∷ [], (u₁ ∷ [], tt)))),
       ),
       tt,
     )
 
-    asks-fit : (y₀ : (List ℕ)) (u₀ : Val) → Is (Array u32 32) y₀ (u₀ ∷ []) → (y₁ : Settings) (u₁ : Val)
-        → Is settings-row.the-row y₁ (u₁ ∷ []) → (y₂ : Flight) (u₂ : Val) → Is flight-row.the-row y₂ (u₂ ∷ [])
-        → ent 𝓤 (⋆ 𝓤 H A (‵ (flft κ₃ q₃) ∷ ‵ Own₃ ∷ []))
-        (tripleOf 𝓤 H A fit.signature (fit.spec 𝓤 H A at-mem run) .pre (to-fit y₀ u₀ y₁ u₁ y₂ u₂))
-    asks-fit y₀ u₀ is₀ y₁ u₁ is₁ y₂ u₂ is₂ =
-        qed W (‵ (flft κ₃ q₃) ∷ ‵ Own₃ ∷ []) ∵ nothing ! $ move ! (1 ∷ 0 ∷ []) $ join ! $ nothing ! $
-        owned ! flight-row.the-row (Is flight-row.the-row) (LL.makes flight-row.the-type flight-laws.the-plain 𝓤 H A) y₂ _ is₂ $
-        fjoin ! $ owned ! settings-row.the-row (Is settings-row.the-row) (LL.makes settings-row.the-type settings-laws.the-plain 𝓤 H A)
-        y₁ _ is₁ $ fjoin ! $ owned ! (Array u32 32) (Is (Array u32 32)) (array-makes 𝓤 H A W u32 (uint-makes 𝓤 H A W w32) 32) y₀ _ is₀ $
-        fjoin ! $ move ! (2 ∷ 0 ∷ []) $ fjoin ! $ move ! (1 ∷ 0 ∷ []) $ join ! $ nothing ! $ move ! (1 ∷ 0 ∷ []) $ done !
+    asks-fit : (α-outstanding : ℕ) (δ-outstanding : GName) (f-outstanding : (List ℕ)) → (y₀ : Settings) (u₀ : Val)
+        → Is settings-row.the-row y₀ (u₀ ∷ []) → (y₁ : Flight) (u₁ : Val) → Is flight-row.the-row y₁ (u₁ ∷ [])
+        → (length f-outstanding ≡ 32) → ent 𝓤 (⋆ 𝓤 H A
+        (‵ (flft κ₃ q₃) ∷ ‵ Own₃ ∷ ‵ (flft (α-outstanding ∷ []) fullShare)
+        ∷ ‵ (ShrRef (named 0) (α-outstanding ∷ []) (Array u32 32) .own (ref-at b (o + 636) δ-outstanding f-outstanding)
+        ((vptr b (o + 636)) ∷ [])) ∷ [])) (tripleOf 𝓤 H A fit.signature (fit.spec 𝓤 H A at-mem run) .pre
+        (to-fit α-outstanding δ-outstanding f-outstanding y₀ u₀ y₁ u₁))
+    asks-fit α-outstanding δ-outstanding f-outstanding y₀ u₀ is₀ y₁ u₁ is₁ req =
+        qed W (‵ (flft κ₃ q₃) ∷ ‵ Own₃ ∷ ‵ (flft (α-outstanding ∷ []) fullShare)
+        ∷ ‵ (ShrRef (named 0) (α-outstanding ∷ []) (Array u32 32) .own (ref-at b (o + 636) δ-outstanding f-outstanding)
+        ((vptr b (o + 636)) ∷ [])) ∷ []) ∵ says ! req $ nothing ! $ move ! (3 ∷ 0 ∷ []) $ join ! $ move ! (1 ∷ 0 ∷ []) $ join ! $
+        nothing ! $ owned ! flight-row.the-row (Is flight-row.the-row) (LL.makes flight-row.the-type flight-laws.the-plain 𝓤 H A) y₁ _
+        is₁ $ fjoin ! $ owned ! settings-row.the-row (Is settings-row.the-row)
+        (LL.makes settings-row.the-type settings-laws.the-plain 𝓤 H A) y₀ _ is₀ $ fjoin ! $ move ! (3 ∷ 0 ∷ []) $ fjoin ! $
+        move ! (2 ∷ 0 ∷ []) $ fjoin ! $ move ! (1 ∷ 0 ∷ []) $ done !
 
     -- what table-len is called at, and that what it asks is had
     abbrev to-table-len : tripleOf 𝓤 H A table-len.signature (table-len.spec 𝓤 H A at-mem run) .Ghost
@@ -500,11 +505,11 @@ module _ {M : Type 1} (𝓤 : URA M) (H : Heap 𝓤) (A : Atoms 𝓤) (W : Given
           (fdies (sliceTy (tyRef (named 3) imm (pointee (R .written)))) (past .4)) ⊛ ‵
           (fdies (sliceTy (tyRef (named 4) imm (tyInt w32))) (past .5)) ⊛ ‵ (fdies settings-laws.mir (past .6)) ⊛ ‵
           (fdies flight-laws.mir (past .7)) ⊛ ‵ (fdies arrival-laws.mir (past .8)) ⊛ ‵ (fdies clock-laws.mir (past .9)) ⊛ ‵
-          (fdies (tyArray (tyInt w32) 32) (past .10)) ⊛ ‵ (fdies tyBool (past .11)) ⊛ ‵ (fdies (tyInt w64) (past .12)) ⊛ ‵
-          (fdies count-laws.mir (past .13)) ⊛ ‵ (fdies (tyRef erased imm (tyArray (tyInt w32) 128)) (past .14)) ⊛ ‵
-          (fdies (tyRef erased imm (tyArray (tyInt w32) 32)) (past .15)) ⊛ ‵ (fdies (tyRef erased imm (tyArray (tyInt w8) 32)) (past .16)) ⊛
-          ‵ (fdies (tyRef erased imm (tyArray (tyInt w32) 128)) (past .17)) ⊛ ‵
-          (fdies (tyRef erased imm (tyArray (tyInt w32) 128)) (past .18)) ⊛ ‵
+          (fdies tyBool (past .10)) ⊛ ‵ (fdies (tyInt w64) (past .11)) ⊛ ‵ (fdies count-laws.mir (past .12)) ⊛ ‵
+          (fdies (tyRef erased imm (tyArray (tyInt w32) 32)) (past .13)) ⊛ ‵ (fdies (tyRef erased imm (tyArray (tyInt w32) 128)) (past .14))
+          ⊛ ‵ (fdies (tyRef erased imm (tyArray (tyInt w32) 32)) (past .15)) ⊛ ‵
+          (fdies (tyRef erased imm (tyArray (tyInt w8) 32)) (past .16)) ⊛ ‵ (fdies (tyRef erased imm (tyArray (tyInt w32) 128)) (past .17))
+          ⊛ ‵ (fdies (tyRef erased imm (tyArray (tyInt w32) 128)) (past .18)) ⊛ ‵
           (fdies (tyRef erased imm (tyArray (tyInt w32) 128)) (past .19)))
           ∷ ‵ (fat fullShare (tyRef erased imm (tyArray (tyInt w32) 128)) (past .19) 0 ((vptr b (o + 1820))))
           ∷ ‵ (fat fullShare (tyRef erased imm (tyArray (tyInt w32) 128)) (past .18) 0 ((vptr b (o + 1308))))
@@ -512,9 +517,9 @@ module _ {M : Type 1} (𝓤 : URA M) (H : Heap 𝓤) (A : Atoms 𝓤) (W : Given
           ∷ ‵ (fat fullShare (tyRef erased imm (tyArray (tyInt w8) 32)) (past .16) 0 ((vptr b (o + 764))))
           ∷ ‵ (fat fullShare (tyRef erased imm (tyArray (tyInt w32) 32)) (past .15) 0 ((vptr b (o + 636))))
           ∷ ‵ (fat fullShare (tyRef erased imm (tyArray (tyInt w32) 128)) (past .14) 0 ((vptr b (o + 124))))
-          ∷ ‵ (fat fullShare count-laws.mir (past .13) 0 ((past .28))) ∷ ‵ (fat fullShare (tyInt w64) (past .12) 0 ((past .25)))
-          ∷ ‵ (fat fullShare tyBool (past .11) 0 ((past .22)))
-          ∷ ‵ (fat fullShare (tyArray (tyInt w32) 32) (past .10) 0 ((only ((array-vals (uint-vals w32)) (h .outstanding)))))
+          ∷ ‵ (fat fullShare (tyRef erased imm (tyArray (tyInt w32) 32)) (past .13) 0 ((vptr b (o + 636))))
+          ∷ ‵ (fat fullShare count-laws.mir (past .12) 0 ((past .28))) ∷ ‵ (fat fullShare (tyInt w64) (past .11) 0 ((past .25)))
+          ∷ ‵ (fat fullShare tyBool (past .10) 0 ((past .22)))
           ∷ ‵ (fat fullShare clock-laws.mir (past .9) 0 ((only ((LL.vals clock-row.the-type clock-laws.the-laws) (h .clock)))))
           ∷ ‵ (fat fullShare arrival-laws.mir (past .8) 0 ((only ((LL.vals arrival-row.the-type arrival-laws.the-laws) (h .arrival)))))
           ∷ ‵ (fat fullShare flight-laws.mir (past .7) 0 ((only ((LL.vals flight-row.the-type flight-laws.the-laws) (h .flight)))))
@@ -546,8 +551,9 @@ module _ {M : Type 1} (𝓤 : URA M) (H : Heap 𝓤) (A : Atoms 𝓤) (W : Given
           ⊛ ‵ (fdies (sliceTy (tyRef (named 3) imm (pointee (R .written)))) (past .4)) ⊛ ‵
           (fdies (sliceTy (tyRef (named 4) imm (tyInt w32))) (past .5)) ⊛ ‵ (fdies settings-laws.mir (past .6)) ⊛ ‵
           (fdies flight-laws.mir (past .7)) ⊛ ‵ (fdies arrival-laws.mir (past .8)) ⊛ ‵ (fdies clock-laws.mir (past .9)) ⊛ ‵
-          (fdies (tyArray (tyInt w32) 32) (past .10)) ⊛ ‵ (fdies tyBool (past .11)) ⊛ ‵ (fdies (tyInt w64) (past .12)) ⊛ ‵
-          (fdies count-laws.mir (past .13)) ⊛ ‵ (fdies (tyRef erased imm (tyArray (tyInt w32) 128)) (past .14)) ⊛ ‵
+          (fdies tyBool (past .10)) ⊛ ‵ (fdies (tyInt w64) (past .11)) ⊛ ‵ (fdies count-laws.mir (past .12)) ⊛ ‵
+          (fdies (tyRef erased imm (tyArray (tyInt w32) 32)) (past .13)) ⊛ ‵
+          (fdies (tyRef erased imm (tyArray (tyInt w32) 128)) (past .14)) ⊛ ‵
           (fdies (tyRef erased imm (tyArray (tyInt w32) 32)) (past .15)) ⊛ ‵
           (fdies (tyRef erased imm (tyArray (tyInt w8) 32)) (past .16)) ⊛ ‵
           (fdies (tyRef erased imm (tyArray (tyInt w32) 128)) (past .17)) ⊛ ‵
@@ -559,9 +565,9 @@ module _ {M : Type 1} (𝓤 : URA M) (H : Heap 𝓤) (A : Atoms 𝓤) (W : Given
           ∷ ‵ (fat fullShare (tyRef erased imm (tyArray (tyInt w8) 32)) (past .16) 0 ((vptr b (o + 764))))
           ∷ ‵ (fat fullShare (tyRef erased imm (tyArray (tyInt w32) 32)) (past .15) 0 ((vptr b (o + 636))))
           ∷ ‵ (fat fullShare (tyRef erased imm (tyArray (tyInt w32) 128)) (past .14) 0 ((vptr b (o + 124))))
-          ∷ ‵ (fat fullShare count-laws.mir (past .13) 0 ((past .28))) ∷ ‵ (fat fullShare (tyInt w64) (past .12) 0 ((past .25)))
-          ∷ ‵ (fat fullShare tyBool (past .11) 0 ((past .22)))
-          ∷ ‵ (fat fullShare (tyArray (tyInt w32) 32) (past .10) 0 ((only ((array-vals (uint-vals w32)) (h .outstanding)))))
+          ∷ ‵ (fat fullShare (tyRef erased imm (tyArray (tyInt w32) 32)) (past .13) 0 ((vptr b (o + 636))))
+          ∷ ‵ (fat fullShare count-laws.mir (past .12) 0 ((past .28))) ∷ ‵ (fat fullShare (tyInt w64) (past .11) 0 ((past .25)))
+          ∷ ‵ (fat fullShare tyBool (past .10) 0 ((past .22)))
           ∷ ‵ (fat fullShare clock-laws.mir (past .9) 0 ((only ((LL.vals clock-row.the-type clock-laws.the-laws) (h .clock)))))
           ∷ ‵ (fat fullShare arrival-laws.mir (past .8) 0 ((only ((LL.vals arrival-row.the-type arrival-laws.the-laws) (h .arrival)))))
           ∷ ‵ (fat fullShare flight-laws.mir (past .7) 0 ((only ((LL.vals flight-row.the-type flight-laws.the-laws) (h .flight)))))
@@ -581,7 +587,7 @@ module _ {M : Type 1} (𝓤 : URA M) (H : Heap 𝓤) (A : Atoms 𝓤) (W : Given
           ((tt, tt, tt, ((past .27), tt), ((past .28) ∷ [], tt)), tt) (λ r _. r ≡ countCode (past .27))
           (‵ ftrue) (plainly 𝓤 H A W (count-row.the-row ∷ []) ((EL.makes count-row.the-type count-laws.the-plain 𝓤 H A), tt)
           ((past .27), tt) ((past .28) ∷ [], tt) ((past .30), tt)) (λ r _. id⊢ 𝓤 _)
-          (and-then ! (load ! (from ! (stop !)) (look ! 24 refl)) (no-more !))
+          (and-then ! (load ! (from ! (stop !)) (look ! 25 refl)) (no-more !))
           (λ r w-r _ e-r is-r. drop ! $ drop ! $ land ! (from ! (stop !)) (init ! 36 refl (sint-lawful 𝓤 H A W w32 .typed r _ is-r .0)) $
           move ! (13 ∷ 12 ∷ 11 ∷ 10 ∷ 5 ∷ 4 ∷ 3 ∷ 2 ∷ 1 ∷ 0 ∷ 14 ∷ 15 ∷ []) $ shuts-link b o γ ! tt (past .20) h $
           -- [tok0; tok1; tok2; tok4; tok3; deaths; the locals]
@@ -593,8 +599,9 @@ module _ {M : Type 1} (𝓤 : URA M) (H : Heap 𝓤) (A : Atoms 𝓤) (W : Given
           ∷ ‵ (fdies (sliceTy (tyRef (named 3) imm (pointee (R .written)))) (past .4))
           ∷ ‵ (fdies (sliceTy (tyRef (named 4) imm (tyInt w32))) (past .5)) ∷ ‵ (fdies settings-laws.mir (past .6))
           ∷ ‵ (fdies flight-laws.mir (past .7)) ∷ ‵ (fdies arrival-laws.mir (past .8)) ∷ ‵ (fdies clock-laws.mir (past .9))
-          ∷ ‵ (fdies (tyArray (tyInt w32) 32) (past .10)) ∷ ‵ (fdies tyBool (past .11)) ∷ ‵ (fdies (tyInt w64) (past .12))
-          ∷ ‵ (fdies count-laws.mir (past .13)) ∷ ‵ (fdies (tyRef erased imm (tyArray (tyInt w32) 128)) (past .14))
+          ∷ ‵ (fdies tyBool (past .10)) ∷ ‵ (fdies (tyInt w64) (past .11)) ∷ ‵ (fdies count-laws.mir (past .12))
+          ∷ ‵ (fdies (tyRef erased imm (tyArray (tyInt w32) 32)) (past .13))
+          ∷ ‵ (fdies (tyRef erased imm (tyArray (tyInt w32) 128)) (past .14))
           ∷ ‵ (fdies (tyRef erased imm (tyArray (tyInt w32) 32)) (past .15))
           ∷ ‵ (fdies (tyRef erased imm (tyArray (tyInt w8) 32)) (past .16))
           ∷ ‵ (fdies (tyRef erased imm (tyArray (tyInt w32) 128)) (past .17))
@@ -650,20 +657,21 @@ module _ {M : Type 1} (𝓤 : URA M) (H : Heap 𝓤) (A : Atoms 𝓤) (W : Given
           (fdies (sliceTy (tyRef (named 3) imm (pointee (R .written)))) (past .4)) ⊛ ‵
           (fdies (sliceTy (tyRef (named 4) imm (tyInt w32))) (past .5)) ⊛ ‵ (fdies settings-laws.mir (past .6)) ⊛ ‵
           (fdies flight-laws.mir (past .7)) ⊛ ‵ (fdies arrival-laws.mir (past .8)) ⊛ ‵ (fdies clock-laws.mir (past .9)) ⊛ ‵
-          (fdies (tyArray (tyInt w32) 32) (past .10)) ⊛ ‵ (fdies tyBool (past .11)) ⊛ ‵ (fdies (tyInt w64) (past .12)) ⊛ ‵
-          (fdies count-laws.mir (past .13)) ⊛ ‵ (fdies (tyRef erased imm (tyArray (tyInt w32) 128)) (past .14)) ⊛ ‵
-          (fdies (tyRef erased imm (tyArray (tyInt w32) 32)) (past .15)) ⊛ ‵ (fdies (tyRef erased imm (tyArray (tyInt w8) 32)) (past .16)) ⊛
-          ‵ (fdies (tyRef erased imm (tyArray (tyInt w32) 128)) (past .17)) ⊛ ‵
-          (fdies (tyRef erased imm (tyArray (tyInt w32) 128)) (past .18)) ⊛ ‵
+          (fdies tyBool (past .10)) ⊛ ‵ (fdies (tyInt w64) (past .11)) ⊛ ‵ (fdies count-laws.mir (past .12)) ⊛ ‵
+          (fdies (tyRef erased imm (tyArray (tyInt w32) 32)) (past .13)) ⊛ ‵ (fdies (tyRef erased imm (tyArray (tyInt w32) 128)) (past .14))
+          ⊛ ‵ (fdies (tyRef erased imm (tyArray (tyInt w32) 32)) (past .15)) ⊛ ‵
+          (fdies (tyRef erased imm (tyArray (tyInt w8) 32)) (past .16)) ⊛ ‵ (fdies (tyRef erased imm (tyArray (tyInt w32) 128)) (past .17))
+          ⊛ ‵ (fdies (tyRef erased imm (tyArray (tyInt w32) 128)) (past .18)) ⊛ ‵
           (fdies (tyRef erased imm (tyArray (tyInt w32) 128)) (past .19))) ∷ ‵ (flft κ₁ q₁) ∷ ‵ (flft κ₂ q₂) ∷ ‵ (flft κ₄ q₄)
           ∷ ‵ Own₁ ∷ ‵ Own₂ ∷ ‵ Own₄ ∷ ‵ (froom (tyRef erased imm (tyArray (tyInt w32) 128)) (past .19) 0)
           ∷ ‵ (froom (tyRef erased imm (tyArray (tyInt w32) 128)) (past .18) 0)
           ∷ ‵ (froom (tyRef erased imm (tyArray (tyInt w32) 128)) (past .17) 0)
           ∷ ‵ (froom (tyRef erased imm (tyArray (tyInt w8) 32)) (past .16) 0)
           ∷ ‵ (froom (tyRef erased imm (tyArray (tyInt w32) 32)) (past .15) 0)
-          ∷ ‵ (froom (tyRef erased imm (tyArray (tyInt w32) 128)) (past .14) 0) ∷ ‵ (froom count-laws.mir (past .13) 0)
-          ∷ ‵ (fat fullShare (tyInt w64) (past .12) 0 ((past .36))) ∷ ‵ (fat fullShare tyBool (past .11) 0 ((past .32)))
-          ∷ ‵ (fat fullShare (tyArray (tyInt w32) 32) (past .10) 0 ((only ((array-vals (uint-vals w32)) (h .outstanding)))))
+          ∷ ‵ (froom (tyRef erased imm (tyArray (tyInt w32) 128)) (past .14) 0)
+          ∷ ‵ (fat fullShare (tyRef erased imm (tyArray (tyInt w32) 32)) (past .13) 0 ((vptr b (o + 636))))
+          ∷ ‵ (froom count-laws.mir (past .12) 0) ∷ ‵ (fat fullShare (tyInt w64) (past .11) 0 ((past .36)))
+          ∷ ‵ (fat fullShare tyBool (past .10) 0 ((past .32)))
           ∷ ‵ (fat fullShare clock-laws.mir (past .9) 0 ((only ((LL.vals clock-row.the-type clock-laws.the-laws) (h .clock)))))
           ∷ ‵ (fat fullShare arrival-laws.mir (past .8) 0 ((only ((LL.vals arrival-row.the-type arrival-laws.the-laws) (h .arrival)))))
           ∷ ‵ (fat fullShare flight-laws.mir (past .7) 0 ((only ((LL.vals flight-row.the-type flight-laws.the-laws) (h .flight)))))
@@ -695,8 +703,9 @@ module _ {M : Type 1} (𝓤 : URA M) (H : Heap 𝓤) (A : Atoms 𝓤) (W : Given
           ⊛ ‵ (fdies (sliceTy (tyRef (named 3) imm (pointee (R .written)))) (past .4)) ⊛ ‵
           (fdies (sliceTy (tyRef (named 4) imm (tyInt w32))) (past .5)) ⊛ ‵ (fdies settings-laws.mir (past .6)) ⊛ ‵
           (fdies flight-laws.mir (past .7)) ⊛ ‵ (fdies arrival-laws.mir (past .8)) ⊛ ‵ (fdies clock-laws.mir (past .9)) ⊛ ‵
-          (fdies (tyArray (tyInt w32) 32) (past .10)) ⊛ ‵ (fdies tyBool (past .11)) ⊛ ‵ (fdies (tyInt w64) (past .12)) ⊛ ‵
-          (fdies count-laws.mir (past .13)) ⊛ ‵ (fdies (tyRef erased imm (tyArray (tyInt w32) 128)) (past .14)) ⊛ ‵
+          (fdies tyBool (past .10)) ⊛ ‵ (fdies (tyInt w64) (past .11)) ⊛ ‵ (fdies count-laws.mir (past .12)) ⊛ ‵
+          (fdies (tyRef erased imm (tyArray (tyInt w32) 32)) (past .13)) ⊛ ‵
+          (fdies (tyRef erased imm (tyArray (tyInt w32) 128)) (past .14)) ⊛ ‵
           (fdies (tyRef erased imm (tyArray (tyInt w32) 32)) (past .15)) ⊛ ‵
           (fdies (tyRef erased imm (tyArray (tyInt w8) 32)) (past .16)) ⊛ ‵
           (fdies (tyRef erased imm (tyArray (tyInt w32) 128)) (past .17)) ⊛ ‵
@@ -707,9 +716,10 @@ module _ {M : Type 1} (𝓤 : URA M) (H : Heap 𝓤) (A : Atoms 𝓤) (W : Given
           ∷ ‵ (froom (tyRef erased imm (tyArray (tyInt w32) 128)) (past .17) 0)
           ∷ ‵ (froom (tyRef erased imm (tyArray (tyInt w8) 32)) (past .16) 0)
           ∷ ‵ (froom (tyRef erased imm (tyArray (tyInt w32) 32)) (past .15) 0)
-          ∷ ‵ (froom (tyRef erased imm (tyArray (tyInt w32) 128)) (past .14) 0) ∷ ‵ (froom count-laws.mir (past .13) 0)
-          ∷ ‵ (fat fullShare (tyInt w64) (past .12) 0 ((past .36))) ∷ ‵ (fat fullShare tyBool (past .11) 0 ((past .32)))
-          ∷ ‵ (fat fullShare (tyArray (tyInt w32) 32) (past .10) 0 ((only ((array-vals (uint-vals w32)) (h .outstanding)))))
+          ∷ ‵ (froom (tyRef erased imm (tyArray (tyInt w32) 128)) (past .14) 0)
+          ∷ ‵ (fat fullShare (tyRef erased imm (tyArray (tyInt w32) 32)) (past .13) 0 ((vptr b (o + 636))))
+          ∷ ‵ (froom count-laws.mir (past .12) 0) ∷ ‵ (fat fullShare (tyInt w64) (past .11) 0 ((past .36)))
+          ∷ ‵ (fat fullShare tyBool (past .10) 0 ((past .32)))
           ∷ ‵ (fat fullShare clock-laws.mir (past .9) 0 ((only ((LL.vals clock-row.the-type clock-laws.the-laws) (h .clock)))))
           ∷ ‵ (fat fullShare arrival-laws.mir (past .8) 0 ((only ((LL.vals arrival-row.the-type arrival-laws.the-laws) (h .arrival)))))
           ∷ ‵ (fat fullShare flight-laws.mir (past .7) 0 ((only ((LL.vals flight-row.the-type flight-laws.the-laws) (h .flight)))))
@@ -740,7 +750,7 @@ module _ {M : Type 1} (𝓤 : URA M) (H : Heap 𝓤) (A : Atoms 𝓤) (W : Given
           move ! (10 ∷ []) $ lend-shr ! tt (past .20) (Array u32 128) (h .queued) b (o + 124)
           (λ α-queued δ-queued. move ! (4 ∷ []) $
           lend-shr ! tt (past .20) (Array u32 32) (h .outstanding) b (o + 636)
-          (λ α-outstanding δ-outstanding. move ! (14 ∷ []) $
+          (λ α-outstanding′ δ-outstanding′. move ! (14 ∷ []) $
           lend-shr ! tt (past .20) (Array u8 32) (h .transmissions) b (o + 764)
           (λ α-transmissions δ-transmissions. move ! (16 ∷ []) $
           lend-shr ! tt (past .20) (Array u32 128) (h .ready) b (o + 796)
@@ -751,7 +761,7 @@ module _ {M : Type 1} (𝓤 : URA M) (H : Heap 𝓤) (A : Atoms 𝓤) (W : Given
           (λ α-waiting-numbers δ-waiting-numbers. move ! (15 ∷ 16 ∷ 12 ∷ 13 ∷ 9 ∷ 10 ∷ 6 ∷ 7 ∷ 3 ∷ 4 ∷ 0 ∷ 1 ∷ 26 ∷ 29 ∷ 27
           ∷ 30 ∷ 28 ∷ 31 ∷ []) $ group ! 18 $
           calls-fn ! fm core.ended (core.clauses 𝓤 H A at-mem run) (known .2)
-          (to-core α-queued δ-queued (h .queued) α-outstanding δ-outstanding (h .outstanding) α-transmissions δ-transmissions
+          (to-core α-queued δ-queued (h .queued) α-outstanding′ δ-outstanding′ (h .outstanding) α-transmissions δ-transmissions
           (h .transmissions) α-ready δ-ready (h .ready) α-waiting δ-waiting (h .waiting) α-waiting-numbers δ-waiting-numbers
           (h .«waiting_numbers») (h .settings) (only ((LL.vals settings-row.the-type settings-laws.the-laws) (h .settings))) (h .flight)
           (only ((LL.vals flight-row.the-type flight-laws.the-laws) (h .flight))) (h .arrival)
@@ -760,8 +770,8 @@ module _ {M : Type 1} (𝓤 : URA M) (H : Heap 𝓤) (A : Atoms 𝓤) (W : Given
           (λ a ws-a. ByFlown h (past .31) (λ recs. countOutcome a ≡ tellsWith h recs (x₄ .now)
           (lentLengths (past .35) (x₁ .now) (x₂ .now) (x₄ .now))))
           (‵ (flft (α-queued ∷ []) fullShare) ⊛ ‵ (ShrRef (named 0) (α-queued ∷ []) (Array u32 128) .own
-          (ref-at b (o + 124) δ-queued (h .queued)) ((vptr b (o + 124)) ∷ [])) ⊛ ‵ (flft (α-outstanding ∷ []) fullShare) ⊛ ‵
-          (ShrRef (named 0) (α-outstanding ∷ []) (Array u32 32) .own (ref-at b (o + 636) δ-outstanding (h .outstanding))
+          (ref-at b (o + 124) δ-queued (h .queued)) ((vptr b (o + 124)) ∷ [])) ⊛ ‵ (flft (α-outstanding′ ∷ []) fullShare) ⊛ ‵
+          (ShrRef (named 0) (α-outstanding′ ∷ []) (Array u32 32) .own (ref-at b (o + 636) δ-outstanding′ (h .outstanding))
           ((vptr b (o + 636)) ∷ [])) ⊛ ‵ (flft (α-transmissions ∷ []) fullShare) ⊛ ‵
           (ShrRef (named 0) (α-transmissions ∷ []) (Array u8 32) .own (ref-at b (o + 764) δ-transmissions (h .transmissions))
           ((vptr b (o + 764)) ∷ [])) ⊛ ‵ (flft (α-ready ∷ []) fullShare) ⊛ ‵
@@ -771,7 +781,7 @@ module _ {M : Type 1} (𝓤 : URA M) (H : Heap 𝓤) (A : Atoms 𝓤) (W : Given
           (ShrRef (named 0) (α-waiting-numbers ∷ []) (Array u32 128) .own (ref-at b (o + 1820) δ-waiting-numbers (h .«waiting_numbers»))
           ((vptr b (o + 1820)) ∷ [])) ⊛ ‵ (flft κ₁ q₁) ⊛ ‵ Own₁ ⊛ ‵ (flft κ₂ q₂) ⊛ ‵ Own₂ ⊛ ‵ (flft κ₄ q₄) ⊛ ‵
           Own₄)
-          (asks-core α-queued δ-queued (h .queued) α-outstanding δ-outstanding (h .outstanding) α-transmissions δ-transmissions
+          (asks-core α-queued δ-queued (h .queued) α-outstanding′ δ-outstanding′ (h .outstanding) α-transmissions δ-transmissions
           (h .transmissions) α-ready δ-ready (h .ready) α-waiting δ-waiting (h .waiting) α-waiting-numbers δ-waiting-numbers
           (h .«waiting_numbers») (h .settings) (only ((LL.vals settings-row.the-type settings-laws.the-laws) (h .settings))) (past .27)
           (h .flight) (only ((LL.vals flight-row.the-type flight-laws.the-laws) (h .flight))) (past .28) (h .arrival)
@@ -796,8 +806,8 @@ module _ {M : Type 1} (𝓤 : URA M) (H : Heap 𝓤) (A : Atoms 𝓤) (W : Given
           (and-then ! (load ! (from ! (stop !)) (look ! 27 refl))
           (and-then ! (load ! (from ! (stop !)) (look ! 26 refl))
           (and-then ! (load ! (from ! (stop !)) (look ! 25 refl))
+          (and-then ! (load ! (from ! (stop !)) (look ! 24 refl))
           (and-then ! (load ! (from ! (stop !)) (look ! 23 refl))
-          (and-then ! (load ! (from ! (stop !)) (look ! 22 refl))
           (and-then ! (load ! (from ! (stop !)) (look ! 20 refl))
           (and-then ! (load ! (from ! (stop !)) (look ! 19 refl))
           (and-then ! (load ! (from ! (stop !)) (look ! 18 refl))
@@ -808,9 +818,9 @@ module _ {M : Type 1} (𝓤 : URA M) (H : Heap 𝓤) (A : Atoms 𝓤) (W : Given
           (and-then ! (load ! (from ! (stop !)) (look ! 31 refl))
           (and-then ! (load ! (from ! (stop !)) (look ! 29 refl)) (no-more !))))))))))))))))
           (λ a w-a ws-a e-a is-a. land ! (from ! (stop !))
-          (init ! 22 refl (EL.lawful count-row.the-type count-laws.the-laws 𝓤 H A W tt .typed a (w-a ∷ []) is-a .0)) $
+          (init ! 23 refl (EL.lawful count-row.the-type count-laws.the-laws 𝓤 H A W tt .typed a (w-a ∷ []) is-a .0)) $
           spread W (‵ (flft (α-queued ∷ []) fullShare))
-          (‵ (flft (α-outstanding ∷ []) fullShare) ∷ ‵ (flft (α-transmissions ∷ []) fullShare) ∷ ‵ (flft (α-ready ∷ []) fullShare)
+          (‵ (flft (α-outstanding′ ∷ []) fullShare) ∷ ‵ (flft (α-transmissions ∷ []) fullShare) ∷ ‵ (flft (α-ready ∷ []) fullShare)
           ∷ ‵ (flft (α-waiting ∷ []) fullShare) ∷ ‵ (flft (α-waiting-numbers ∷ []) fullShare) ∷ ‵ (flft κ₁ q₁)
           ∷ ‵ (flft κ₂ q₂) ∷ ‵ (flft κ₄ q₄) ∷ ‵ ftrue ∷ []) (id⊢ 𝓤 _) $ move ! (10 ∷ []) $
           spread W (‵ ftrue) (‵ ftrue ∷ ‵ ftrue ∷ ‵ ftrue ∷ ‵ ftrue ∷ ‵ ftrue ∷ ‵ ftrue ∷ ‵ ftrue ∷ ‵ ftrue ∷ ‵ ftrue
@@ -932,42 +942,43 @@ module _ {M : Type 1} (𝓤 : URA M) (H : Heap 𝓤) (A : Atoms 𝓤) (W : Given
           (init ! 31 refl (LL.lawful clock-row.the-type clock-laws.the-laws 𝓤 H A W .typed (h .clock)
           ((only ((LL.vals clock-row.the-type clock-laws.the-laws) (h .clock))) ∷ []) was-clock .0)) $
           cell-in ! q′ clock-row.the-row (LL.makes clock-row.the-type clock-laws.the-plain 𝓤 H A) (h .clock) b (o + 104)
-          (only ((LL.vals clock-row.the-type clock-laws.the-laws) (h .clock))) was-clock $ move ! (8 ∷ []) $
-          cell-out ! q′ (Array u32 32) (array-vals (uint-vals w32)) (array-tells u32 (uint-vals w32) (uint-tells w32) 32)
-          (h .outstanding) b (o + 636) (λ was-outstanding.
-          assigns ! {v = (only ((array-vals (uint-vals w32)) (h .outstanding)))}
-          (of-opd ! (load ! (from ! (hop ! (look ! 39 refl) (fld ! {d = 636} refl (stop !)))) (look-raw ! 0 refl))) (from ! (stop !))
-          (init ! 30 refl (array-typed u32 (uint-lawful 𝓤 H A W w32 .typed) 32 (h .outstanding)
-          ((only ((array-vals (uint-vals w32)) (h .outstanding))) ∷ []) was-outstanding .0)) $
-          cell-in ! q′ (Array u32 32) (array-makes 𝓤 H A W u32 (uint-makes 𝓤 H A W w32) 32) (h .outstanding) b (o + 636)
-          (only ((array-vals (uint-vals w32)) (h .outstanding))) was-outstanding $ move ! (19 ∷ []) $
-          use1 W (‵ Own₃ ⊛ ‵ Own₃) (shr-slice-copy 𝓤 H A W (named 0) κ₃ R .twice x₃ (s₃ ∷ [])) $ split ! $ move ! (17 ∷ 0 ∷ []) $
-          join ! $ calls-fn ! fm fit.ended (fit.clauses 𝓤 H A at-mem run) (known .0)
-          (to-fit (h .outstanding) (only ((array-vals (uint-vals w32)) (h .outstanding))) (h .settings)
+          (only ((LL.vals clock-row.the-type clock-laws.the-laws) (h .clock))) was-clock $
+          assigns ! {v = (vptr b (o + 636))} (addr ! (from ! (hop ! (look ! 39 refl) (fld ! {d = 636} refl (stop !)))))
+          (from ! (stop !)) (init ! 27 refl (tt, tt)) $
+          move ! (8 ∷ []) $ lend-shr ! tt q′ (Array u32 32) (h .outstanding) b (o + 636)
+          (λ α-outstanding δ-outstanding. move ! (21 ∷ []) $
+          use1 W (‵ Own₃ ⊛ ‵ Own₃) (shr-slice-copy 𝓤 H A W (named 0) κ₃ R .twice x₃ (s₃ ∷ [])) $ split ! $
+          move ! (19 ∷ 0 ∷ 2 ∷ 3 ∷ []) $ group ! 4 $
+          calls-fn ! fm fit.ended (fit.clauses 𝓤 H A at-mem run) (known .0)
+          (to-fit α-outstanding δ-outstanding (h .outstanding) (h .settings)
           (only ((LL.vals settings-row.the-type settings-laws.the-laws) (h .settings))) (h .flight)
           (only ((LL.vals flight-row.the-type flight-laws.the-laws) (h .flight))))
           (λ fl ws-fl. fl ≡ flightFits (h .settings .mode) (h .flight .una) (h .flight .next)
           (take (h .flight .outstanding) (padded (gathered (take sendSlots (x₃ .now))
-          (slotsIn (h .outstanding) (h .flight .outstanding)))))) (‵ (flft κ₃ q₃) ⊛ ‵ Own₃)
-          (asks-fit (h .outstanding) (only ((array-vals (uint-vals w32)) (h .outstanding))) was-outstanding (h .settings)
+          (slotsIn (h .outstanding) (h .flight .outstanding))))))
+          (‵ (flft κ₃ q₃) ⊛ ‵ Own₃ ⊛ ‵ (flft (α-outstanding ∷ []) fullShare) ⊛ ‵
+          (ShrRef (named 0) (α-outstanding ∷ []) (Array u32 32) .own (ref-at b (o + 636) δ-outstanding (h .outstanding))
+          ((vptr b (o + 636)) ∷ [])))
+          (asks-fit α-outstanding δ-outstanding (h .outstanding) (h .settings)
           (only ((LL.vals settings-row.the-type settings-laws.the-laws) (h .settings))) was-settings (h .flight)
-          (only ((LL.vals flight-row.the-type flight-laws.the-laws) (h .flight))) was-flight) (λ fl ws-fl. id⊢ 𝓤 _)
+          (only ((LL.vals flight-row.the-type flight-laws.the-laws) (h .flight))) was-flight (len-outstanding)) (λ fl ws-fl. id⊢ 𝓤 _)
           (and-then ! (load ! (from ! (stop !)) (look ! 36 refl))
-          (and-then ! (load ! (from ! (stop !)) (look ! 30 refl))
+          (and-then ! (load ! (from ! (stop !)) (look ! 27 refl))
           (and-then ! (load ! (from ! (stop !)) (look ! 34 refl)) (and-then ! (load ! (from ! (stop !)) (look ! 33 refl)) (no-more !)))))
-          (λ fl w-fl ws-fl e-fl is-fl. land ! (from ! (stop !)) (init ! 30 refl (bool-lawful 𝓤 H A W .typed fl _ is-fl .0)) $
-          spread W (‵ (flft κ₃ q₃)) (‵ ftrue ∷ []) (id⊢ 𝓤 _) $ move ! (2 ∷ []) $
+          (λ fl w-fl ws-fl e-fl is-fl. land ! (from ! (stop !)) (init ! 31 refl (bool-lawful 𝓤 H A W .typed fl _ is-fl .0)) $
+          spread W (‵ (flft κ₃ q₃)) (‵ (flft (α-outstanding ∷ []) fullShare) ∷ ‵ ftrue ∷ []) (id⊢ 𝓤 _) $ move ! (3 ∷ []) $
           spread W (‵ ftrue) (‵ ftrue ∷ ‵ ftrue ∷ ‵ ftrue ∷ ‵ ftrue ∷ []) (id⊢ 𝓤 _) $
-          keep ! (5 ∷ 7 ∷ 8 ∷ 9 ∷ 10 ∷ 11 ∷ 12 ∷ 13 ∷ 14 ∷ 15 ∷ 16 ∷ 17 ∷ 18 ∷ 19 ∷ 20 ∷ 21 ∷ 22 ∷ 23 ∷ 24 ∷ 25 ∷ 26
-          ∷ 27 ∷ 28 ∷ 29 ∷ 30 ∷ 31 ∷ 32 ∷ 33 ∷ 34 ∷ 35 ∷ 36 ∷ 37 ∷ 38 ∷ 39 ∷ 40 ∷ 41 ∷ 42 ∷ 43 ∷ 44 ∷ 45 ∷ 46
+          keep ! (5 ∷ 6 ∷ 8 ∷ 9 ∷ 10 ∷ 11 ∷ 12 ∷ 13 ∷ 14 ∷ 15 ∷ 16 ∷ 17 ∷ 18 ∷ 19 ∷ 20 ∷ 21 ∷ 22 ∷ 23 ∷ 24 ∷ 25 ∷ 26
+          ∷ 27 ∷ 28 ∷ 29 ∷ 30 ∷ 31 ∷ 32 ∷ 33 ∷ 34 ∷ 35 ∷ 36 ∷ 37 ∷ 38 ∷ 39 ∷ 40 ∷ 41 ∷ 42 ∷ 43 ∷ 44 ∷ 45 ∷ 46 ∷ 47
           ∷ []) $
-          -- [tok3; own3; F:outstanding; F:clock; F:arrival; F:flight; F:settings; F:«waiting_numbers»; F:waiting; F:ready; F:transmissions;
-          -- F:queued; back; opened; deaths; tok1; tok2; tok4; own1; own2; own4; the locals]
-          join ! $ calls-fn ! fm table-len.ended (table-len.clauses 𝓤 H A at-mem run) (known .1) (to-table-len)
+          -- [tok3; tok:outstanding; own3; lent:outstanding; F:clock; F:arrival; F:flight; F:settings; F:«waiting_numbers»; F:waiting;
+          -- F:ready; F:transmissions; F:queued; back; opened; deaths; tok1; tok2; tok4; own1; own2; own4; the locals]
+          move ! (1 ∷ 3 ∷ []) $ back-shr ! tt q′ (Array u32 32) b (o + 636) (h .outstanding) $ move ! (1 ∷ 2 ∷ []) $ join ! $
+          calls-fn ! fm table-len.ended (table-len.clauses 𝓤 H A at-mem run) (known .1) (to-table-len)
           (λ m ws-m. m ≡ length (x₃ .now)) (‵ (flft κ₃ q₃) ⊛ ‵ Own₃)
           (asks-table-len) (λ m ws-m. id⊢ 𝓤 _)
           (and-then ! (load ! (from ! (stop !)) (look ! 35 refl)) (no-more !))
-          (λ m w-m ws-m e-m is-m. land ! (from ! (stop !)) (init ! 28 refl (uint-lawful 𝓤 H A W w64 .typed m _ is-m .0)) $
+          (λ m w-m ws-m e-m is-m. land ! (from ! (stop !)) (init ! 29 refl (uint-lawful 𝓤 H A W w64 .typed m _ is-m .0)) $
           spread W (‵ (flft κ₃ q₃)) (‵ ftrue ∷ []) (id⊢ 𝓤 _) $ move ! (2 ∷ []) $ spread W (‵ ftrue) (‵ ftrue ∷ []) (id⊢ 𝓤 _) $
           keep ! (2 ∷ 4 ∷ 5 ∷ 6 ∷ 7 ∷ 8 ∷ 9 ∷ 10 ∷ 11 ∷ 12 ∷ 13 ∷ 14 ∷ 15 ∷ 16 ∷ 17 ∷ 18 ∷ 19 ∷ 20 ∷ 21 ∷ 22 ∷ 23
           ∷ 24 ∷ 25 ∷ 26 ∷ 27 ∷ 28 ∷ 29 ∷ 30 ∷ 31 ∷ 32 ∷ 33 ∷ 34 ∷ 35 ∷ 36 ∷ 37 ∷ 38 ∷ 39 ∷ 40 ∷ 41 ∷ 42 ∷ []) $

@@ -14,7 +14,7 @@ returns c =
     .ensures in
     let lengths = c .before .before .before .before .before .before .before .before .before .before .before .before .front-lengths
     .ensures in
-    let kept = rw (
+    let promised = rw (
       front-take _ _ _ (c .before .before .before .before .before .before .before .before .before .before .before .before
           .before .before .before .before .before .before .front .ensures),
       front-take _ _ _ (c .before .before .before .before .before .before .before .before .before .before .before .before .before .before
@@ -31,7 +31,7 @@ returns c =
     let also : length sizes ≡ c .before .before .before .before .before .before .before .before .before .before .before .before
     .front-lengths .result = search needs in
     rw (c .after-flush .ensures) (record {
-      promise = rw (front-new _ _ _ bytes output same, front-new _ _ _ sizes lengths also) kept;
+      promise = rw (front-new _ _ _ bytes output same, front-new _ _ _ sizes lengths also) promised;
       behind = front-behind _ _ _ bytes output same;
       lengthsBehind = front-behind _ _ _ sizes lengths also;
       recordsBehind =

@@ -12,7 +12,7 @@ returns c =
     let taken = c .before .before .before .before .before .input in
     let receive = c .before .before .before .before .before .before .before .before .before .before .before .before .front2 .ensures in
     let acks = c .before .before .before .before .before .before .before .before .before .before .front-acks .ensures in
-    let kept = rw (
+    let promised = rw (
       front-take _ _ _ (c .before .before .before .before .before .before .before .before .before .before .before .before
           .before .before .front .ensures),
       front-take _ _ _ receive,
@@ -25,7 +25,7 @@ returns c =
     let also : length pairs ≡ c .before .before .before .before .before .before .before .before .before .before .front-acks .result =
     search needs in
     rw (c .after-input .ensures) (record {
-      promise = rw (front-new _ _ _ pool receive same, front-new _ _ _ pairs acks also) kept;
+      promise = rw (front-new _ _ _ pool receive same, front-new _ _ _ pairs acks also) promised;
       behind = front-behind _ _ _ pool receive same;
       acksBehind = front-behind _ _ _ pairs acks also;
       recordsBehind = taken .ensures .1;

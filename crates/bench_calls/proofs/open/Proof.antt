@@ -7,12 +7,12 @@ use Rattle.bench_calls.proofs.open.Tie as tie
 
 returns : tie.Need-returns
 returns c =
-    let kept = rw (
+    let promised = rw (
       front-take _ _ _ (c .before .before .before .before .before .before .before .before .front .ensures),
       front-take _ _ _ (c .before .before .before .before .before .before .before .front2 .ensures),
       front-take _ _ _ (c .before .before .before .before .before .before .front-acks .ensures),
     ) at (c .before .«open» .ensures) in
-    rw (c .after-open .ensures) (opens _ _ _ _ _ _ _ kept)
+    rw (c .after-open .ensures) (opens _ _ _ _ _ _ _ promised)
 
 pub open-spec : {M : Type 1} → statement M
 open-spec =

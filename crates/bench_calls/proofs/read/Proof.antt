@@ -11,7 +11,7 @@ returns : tie.Need-returns
 returns c =
     let got = c .before .before .before .read in
     let buffer = c .before .before .before .before .before .before .before .before .before .front3 .ensures in
-    let kept = rw (
+    let promised = rw (
       front-take _ _ _ (c .before .before .before .before .before .before .before .before .before .before .before .before
           .before .front .ensures),
       front-take _ _ _
@@ -22,7 +22,7 @@ returns c =
     let new = got .last .1 .1 .1 .1 .1 .1 .0 in
     let same : length new ≡ c .before .before .before .before .before .before .before .before .before .front3 .result = search needs in
     rw (c .after-read .ensures) (record {
-      promise = rw (front-new _ _ _ new buffer same) kept;
+      promise = rw (front-new _ _ _ new buffer same) promised;
       behind = front-behind _ _ _ new buffer same;
       bench = refl;
     })

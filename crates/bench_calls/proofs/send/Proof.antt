@@ -11,7 +11,7 @@ returns : tie.Need-returns
 returns c =
     let sent = c .before .before .before .send in
     let front = c .before .before .before .before .before .before .before .before .before .before .front .ensures in
-    let kept = rw (
+    let promised = rw (
       front-take _ _ _ front,
       front-take _ _ _ (c .before .before .before .before .before .before .before .before .before .front2 .ensures),
       front-take _ _ _ (c .before .before .before .before .before .before .before .before .front-acks .ensures),
@@ -20,7 +20,7 @@ returns c =
     let same : length new ≡ c .before .before .before .before .before .before .before .before .before .before .front .result =
     search needs in
     rw (c .after-send .ensures) (record {
-      promise = rw (front-new _ _ _ new front same) kept;
+      promise = rw (front-new _ _ _ new front same) promised;
       behind = front-behind _ _ _ new front same;
       bench = refl;
     })

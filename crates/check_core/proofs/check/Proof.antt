@@ -44,13 +44,13 @@ check-requires c κs = c .before .before .before .before .before .before .before
 returns : tie.Need-returns
 returns c =
     let schedules = c .before in
-    let told = schedules .before in
-    let checks = told .before .before in
+    let branch = schedules .before in
+    let checks = branch .before .before in
     let sizes = checks .before .before .before in
     let start = sizes .before .before .before .before in
     let a = start .args in
     names (block start) (start .pre .0) (recordsIn (a .records .now)) (a .acks .now) _ _ _ (sizes .enough .ensures) (judged checks _)
-    (a .t) (told .enum-told .given .1) _
+    (a .t) (branch .enum-told .given .1) _
     (c .check .ensures
     ∙ ap (λ (s : Schedule). named s (a .t) (a .settings .interval)
     (duesOf (take (a .flight .outstanding) (recordsIn (a .records .now))))) (schedules .schedule-of .ensures))

@@ -9,7 +9,7 @@ use Rattle.record_words.specs.RecordLaws.{records-length}
 use Rattle.control.specs.Views.{arrays, linkOf, blockValid}
 use Rattle.control.specs.declared.Link.{Link}
 use Rattle.checking.specs.Verdicts.{verdictOf}
-use Rattle.flush_core.proofs.Checks.{flushable, ran, kept}
+use Rattle.flush_core.proofs.Checks.{flushable, ran, unflushed}
 use Rattle.flush_core.proofs.flush.Statement.{statement}
 use Rattle.flush_core.proofs.flush.Tie as tie
 
@@ -63,14 +63,14 @@ returns c =
 
 returns-2 : tie.Need-returns-2
 returns-2 c =
-    let told = c .before .before in
-    let checks = told .before .before in
+    let answer = c .before .before in
+    let checks = answer .before .before in
     let sizes = checks .before .before .before .before .before .before .before in
     let start = sizes .before .before .before .before .before .before in
     let a = start .args in (
-      kept _ _ _ _ _ (a .records .now) (a .table) (a .send-pool .now) (a .receive-pool .now) (a .acks .now) (a .output .now)
-          (a .lengths .now) _ _ (sizes .enough-to-flush .ensures) (judged checks _) _ (told .verdict .given .1) (a .t) _
-          (c .kept .ensures) _ (a .paced),
+      unflushed _ _ _ _ _ (a .records .now) (a .table) (a .send-pool .now) (a .receive-pool .now) (a .acks .now) (a .output .now)
+          (a .lengths .now) _ _ (sizes .enough-to-flush .ensures) (judged checks _) _ (answer .verdict .given .1) (a .t) _
+          (c .unflushed .ensures) _ (a .paced),
       start .pre .1,
     )
 

@@ -37,7 +37,7 @@ after-losses-requires c κs =
 
 returns : tie.Need-returns
 returns c =
-    let writes = c .before .before .before .before .before .before .before in
+    let writes = c .before .before .before .before .before .before .before .before in
     let numbered = writes .before .before .before .before .before .before in
     let window = numbered .before .before .before .before .before in
     let plans = window .before in
@@ -48,7 +48,8 @@ returns c =
           waiting numbers (a .records .now) (a .acks .now) (a .t)
           (a .pool .now) _ _ _ (window .window-of .ensures) _ _ _ _ _ _ _ _ _ _ _ (plans .plan-of .ensures) (numbered .number .ensures)
           (writes .write .ensures) whole (start .pre .counts)
-          _ _ _ (c .before .before .after-losses .ensures) (c .told .ensures) (c .before .moved .ensures),
+          _ _ _ (c .before .before .before .after-losses .ensures) (c .before .cleared .ensures) (c .before .before .moved .ensures)
+          _ (c .changed .ensures),
       writes .write .ensures .sent .whole-records,
     )
 
@@ -61,6 +62,7 @@ flush-now-spec =
     number-requires
     write-requires
     after-losses-requires
+    (λ c κs. search needs)
     (λ c κs. search needs)
     (λ c κs. search needs)
     (λ c. search needs)

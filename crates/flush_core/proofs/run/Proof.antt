@@ -37,7 +37,7 @@ returns-2 c =
           (arrays (a .queued .now) (a .outstanding .now) (a .transmissions .now) ready waiting numbers)
           (recordsIn (a .records .now)) (a .acks .now) (a .t) (a .pool .now) (a .output .now) (a .lengths .now)
           _ (a .paced) (steps .step-of .ensures) (branch .if1 .left) (start .pre .counts)
-          _ (c .before .current .ensures) _ (c .kept .ensures) _,
+          _ (c .before .current .ensures) _ (c .unflushed .ensures) _,
       start .pre .records-whole,
     )
 

@@ -32,43 +32,43 @@ flown c = record {
 
 returns : tie.Need-returns
 returns c =
-    let told = c .before in
-    let checks = told .before .before in
+    let branch = c .before in
+    let checks = branch .before .before in
     let admit = checks .before .before in
     let fits = admit .before .before .before .before .before .before .before in
     let sizes = fits .before .before in
     let s = sizes .before .before .before .before .before in (
       takes-nothing _ (block s) _ _ _ _ _
           (refuses (block s) _ _ _ _ _ _ _ _ (sizes .enough .ensures) (admit .admit-hearing .ensures _ (flown fits) .1)
-          _ (checks .before .mss .ensures) _ _ (checks .checked-by .ensures) _ (told .checked .given .1)),
+          _ (checks .before .mss .ensures) _ _ (checks .checked-by .ensures) _ (branch .checked .given .1)),
       s .pre .1,
     )
 
 hear-requires : tie.Need-hear-requires
 hear-requires c κs =
-    let told = c .before .before .before .before .before .before .before .before .before in
-    let checks = told .before .before in
+    let branch = c .before .before .before .before .before .before .before .before .before in
+    let checks = branch .before .before in
     let admit = checks .before .before in
     let fits = admit .before .before .before .before .before .before .before in
     let sizes = fits .before .before in
     let s = sizes .before .before .before .before .before in
     let verdict = admit .admit-hearing .ensures _ (flown fits) .1 in
     let passed = passes (block s) _ _ (s .args .receive-pool .now) (s .args .acks .now) _ _ _ _ (sizes .enough .ensures) verdict
-    _ (checks .before .mss .ensures) _ _ (checks .checked-by .ensures) _ (told .enum-told .given .1) in
+    _ (checks .before .mss .ensures) _ _ (checks .checked-by .ensures) _ (branch .enum-told .given .1) in
     (hearable (block s) _ _ _ _ _ _ _ _ (sizes .enough .ensures) verdict (s .pre .0) (passed .0) refl refl, s .pre .1, (_, passed .1))
 
 returns-2 : tie.Need-returns-2
 returns-2 c =
     let heard = c .before .before .before .before in
-    let told = heard .before .before .before .before .before .before .before .before .before .before in
-    let checks = told .before .before in
+    let branch = heard .before .before .before .before .before .before .before .before .before .before in
+    let checks = branch .before .before in
     let admit = checks .before .before in
     let fits = admit .before .before .before .before .before .before .before in
     let sizes = fits .before .before in
     let s = sizes .before .before .before .before .before in
     let verdict = admit .admit-hearing .ensures _ (flown fits) .1 in
     let passed = passes (block s) _ _ (s .args .receive-pool .now) (s .args .acks .now) _ _ _ _ (sizes .enough .ensures) verdict
-    _ (checks .before .mss .ensures) _ _ (checks .checked-by .ensures) _ (told .enum-told .given .1) in (
+    _ (checks .before .mss .ensures) _ _ (checks .checked-by .ensures) _ (branch .enum-told .given .1) in (
       rw (admits (block s) _ _ _ _ _ _ _ _ (sizes .enough .ensures) verdict _ (passed .0)) (heard .hear .ensures .0),
       heard .hear .ensures .1,
     )

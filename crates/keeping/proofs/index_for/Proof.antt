@@ -2,7 +2,7 @@
 -- Assumes nothing.
 use native.Mathlib.Omega.{arith}
 use borrow.Author.Needs.{needs}
-use Rattle.words.proofs.Pairs.{told}
+use Rattle.words.proofs.Pairs.{searched}
 use Rattle.keeping.proofs.Finds.{found-here, found-held, found-not, not-false, not-true}
 use Rattle.keeping.proofs.index_for.Statement.{statement}
 use Rattle.keeping.proofs.index_for.Tie as tie
@@ -13,7 +13,7 @@ returns c =
     let start = i .before .before .before in
     let a = start .args in
     let j = c .before .before .place .result in
-    let t = told (a .next) (a .sn) (a .n) j _ (a .numbers .now) _ _ (c .before .before .before .difference .ensures)
+    let t = searched (a .next) (a .sn) (a .n) j _ (a .numbers .now) _ _ (c .before .before .before .difference .ensures)
     (c .before .before .place .ensures) (c .before .is-at .ensures) (not-true _ (c .if2 .taken)) in
     found-here (a .next) (a .sn) (a .numbers .now) (a .n) j (start .pre .0) (start .pre .1) (t .0) _ _
     (i .before .before .in-window .ensures) (i .before .before2 .ensures) (i .if1 .taken) (omega (arith, t .0 .within, start .pre .1))
@@ -25,7 +25,7 @@ returns-2 c =
     let start = i .before .before .before in
     let a = start .args in
     let j = c .before .before .place .result in
-    let t = told (a .next) (a .sn) (a .n) j _ (a .numbers .now) _ _ (c .before .before .before .difference .ensures)
+    let t = searched (a .next) (a .sn) (a .n) j _ (a .numbers .now) _ _ (c .before .before .before .difference .ensures)
     (c .before .before .place .ensures) (c .before .is-at .ensures) (not-false _ (c .if2 .left)) in
     found-held (a .next) (a .sn) (a .numbers .now) (a .n) j (start .pre .0) (start .pre .1) (t .0) _ _
     (i .before .before .in-window .ensures) (i .before .before2 .ensures) (i .if1 .taken) (t .1)

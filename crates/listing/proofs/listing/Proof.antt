@@ -21,12 +21,12 @@ returns-2 : tie.Need-returns-2
 unfolding columnLine ascii
 returns-2 c =
     let last = c .before .before in
-    let told = last .before .before .before .before in
-    let call = told .before .before in
+    let branch = last .before .before .before .before in
+    let call = branch .before .before in
     let put = call .before .before .before in
     wrote-all _ _ _ _ (put .before .before .before .if1 .left)
     (wrote-then _ _ _ _ _ _ _ _ (put .put-text .ensures)
-    (wrote-refused _ _ _ _ _ _ _ (sym (call .judge .ensures) ∙ told .checked .given .1) (last .before .refusal-line .ensures)
+    (wrote-refused _ _ _ _ _ _ _ (sym (call .judge .ensures) ∙ branch .checked .given .1) (last .before .refusal-line .ensures)
     (last .put-line .ensures)))
 
 returns-3 : tie.Need-returns-3

@@ -10,7 +10,7 @@ returns c =
     record {
       time = checks .check .result;
       promise = checks .check .ensures;
-      says = rw (c .kept .ensures) (record { bench = refl; answer = c .before .before .before .time .ensures });
+      says = rw (c .unchanged .ensures) (record { bench = refl; answer = c .before .before .before .time .ensures });
     }
 
 pub check-spec : {M : Type 1} → statement M

@@ -6,7 +6,7 @@ use Rattle.playing.proofs.held.Statement.{statement}
 use Rattle.playing.proofs.held.Tie as tie
 
 returns : tie.Need-returns
-returns c = rw (c .kept .ensures) (record { bench = refl; answer = c .before .before .before .segments .ensures })
+returns c = rw (c .unchanged .ensures) (record { bench = refl; answer = c .before .before .before .segments .ensures })
 
 pub held-spec : {M : Type 1} → statement M
 held-spec = tie.close (tie.spec (search needs) (search needs) (search needs) returns)

@@ -41,9 +41,9 @@ returns-8 c = rw (c .before .before .before .before .before .before .before .enu
 returns-9 : tie.Need-returns-9
 returns-9 c =
     let a = c .before .before .before .before .before .before .before .before .before .before .args in
-    let told = c .before .before .tool in
-    no-call (a .command) (a .bench) (a .send-pool .now) (a .receive-pool .now) (a .acks .now) (a .bytes .now) (a .text .now) (told .result)
-    _ _ _ (told .last .1 .1 .0) (c .before .before .before .before .match .keys9)
+    let played = c .before .before .tool in
+    no-call (a .command) (a .bench) (a .send-pool .now) (a .receive-pool .now) (a .acks .now) (a .bytes .now) (a .text .now)
+    (played .result) _ _ _ (played .last .1 .1 .0) (c .before .before .before .before .match .keys9)
     (record { sendPool = refl; receivePool = refl; acks = refl }) (c .before .before .tool .ensures)
 
 pub on-link-spec : {M : Type 1} → statement M

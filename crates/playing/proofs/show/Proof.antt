@@ -12,7 +12,7 @@ returns c = record {
   part = c .before .before .before .before .before .before .show .result .now;
   promise = c .before .before .before .before .before .before .show .ensures;
   says =
-      rw (c .kept .ensures) (record { bench = refl; answer = c .before .before .before .bytes-line .ensures });
+      rw (c .unchanged .ensures) (record { bench = refl; answer = c .before .before .before .bytes-line .ensures });
 }
 
 pub show-spec : {M : Type 1} → statement M

@@ -9,7 +9,7 @@ returns c = record {
   count = c .before .before .before .before .before .size .result;
   promise = c .before .before .before .before .before .size .ensures;
   says =
-      rw (c .kept .ensures) (record { bench = refl; answer = c .before .before .before .count .ensures });
+      rw (c .unchanged .ensures) (record { bench = refl; answer = c .before .before .before .count .ensures });
 }
 
 pub size-spec : {M : Type 1} → statement M

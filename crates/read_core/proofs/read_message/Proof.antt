@@ -4,7 +4,7 @@ use mathlib.Core.Path.{sym, ap, _∙_}
 use borrow.Author.Needs.{needs}
 use Rattle.promises.specs.Answers.{countOutcome}
 use Rattle.deliver.proofs.Sizes.{fitting-fits}
-use Rattle.read_core.proofs.Readings.{message-taken, message-kept}
+use Rattle.read_core.proofs.Readings.{message-taken, message-refused}
 use Rattle.read_core.proofs.read_message.Statement.{statement}
 use Rattle.read_core.proofs.read_message.Tie as tie
 
@@ -26,7 +26,7 @@ returns c = let a = c .before .before .before .before .before .before .before .b
 
 returns-2 : tie.Need-returns-2
 returns-2 c = let a = c .before .before .before .before .before .before .before .args in
-    message-kept (a .arrival) (a .mss) (a .ready .now) (a .waiting .now) (a .numbers .now) (a .pool .now) (a .buffer .now) _ _
+    message-refused (a .arrival) (a .mss) (a .ready .now) (a .waiting .now) (a .numbers .now) (a .pool .now) (a .buffer .now) _ _
     (c .before .before .before .fitting .ensures) _ (c .before .found2 .given .1)
 
 pub read-message-spec : {M : Type 1} → statement M

@@ -48,7 +48,7 @@ loop-again c = (
       (omega (arith, c .before .before .before .before .loop .inv .1 .size))
       (c .add .ensures ∙ ap (λ (b : ℕ). plus b (getD (c .before .before .before .before .before .before .before .args .other .now)
       (c .before .before .before .before .loop .i) 0))
-      (c .before .before .before .before .loop .inv .1 .kept
+      (c .before .before .before .before .loop .inv .1 .unchanged
       (c .before .before .before .before .before .before .before .args .at + c .before .before .before .before .loop .i) (omega arith))
       ∙ sum-at (c .before .before .before .before .before .before .before .args .row .now)
       (c .before .before .before .before .before .before .before .args .at)

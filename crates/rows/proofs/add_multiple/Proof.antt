@@ -34,7 +34,7 @@ loop-again c = (
       (c .before .before .before .before .before .before .before .before .before .args .row .now)
       (c .before .before .before .before .before .loop .row) _ (c .before .before .before .before .before .loop .inv .1)
       (omega (arith, c .before .before .before .before .before .loop .inv .1 .size))
-      (c .add .ensures ∙ ap₂ plus (c .before .before .before .before .before .loop .inv .1 .kept
+      (c .add .ensures ∙ ap₂ plus (c .before .before .before .before .before .loop .inv .1 .unchanged
       (c .before .before .before .before .before .loop .i) (omega arith))
       (c .before .before .before .before .before .before .products .ensures .byte (c .before .before .wide .result) (search needs) ∙ ap
       (mul (c .before .before .before .before .before .before .before .before .before .args .c)) (c .before .before .wide .ensures .0))),

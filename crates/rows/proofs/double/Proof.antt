@@ -27,7 +27,7 @@ loop-again c =
     done-next (λ x. double (getD (c .before .before .before .before .before .args .row .now) x 0)) (c .before .before .before .loop .i)
     (c .before .before .before .before .before .args .row .now) (c .before .before .before .loop .row) (c .double .result)
     (c .before .before .before .loop .inv) (omega (arith, c .before .before .before .loop .inv .size))
-    (c .double .ensures ∙ ap double (c .before .before .before .loop .inv .kept (c .before .before .before .loop .i) (omega arith)))
+    (c .double .ensures ∙ ap double (c .before .before .before .loop .inv .unchanged (c .before .before .before .loop .i) (omega arith)))
 
 same-length : tie.Need-same-length Inv-loop μ-loop
 same-length c = c .before .loop .inv .size

@@ -31,7 +31,7 @@ loop-again c =
     (c .before .before .before .loop .inv) (omega (arith, c .before .before .before .loop .inv .size))
     (c .before .before .before .before .products .ensures .byte (c .wide .result) (search needs) ∙ ap
     (mul (c .before .before .before .before .before .before .args .c))
-    (c .wide .ensures .0 ∙ c .before .before .before .loop .inv .kept (c .before .before .before .loop .i) (omega arith)))
+    (c .wide .ensures .0 ∙ c .before .before .before .loop .inv .unchanged (c .before .before .before .loop .i) (omega arith)))
 
 same-length : tie.Need-same-length Inv-loop μ-loop
 same-length c = c .before .loop .inv .size

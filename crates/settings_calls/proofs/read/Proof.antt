@@ -8,14 +8,14 @@ use Rattle.settings_calls.proofs.read.Tie as tie
 
 returns : tie.Need-returns
 returns c =
-    let told = c .before .before .before .before .before .before .before .reading .given in
-    stored _ _ _ (told .0 .0) (c .before .before .before .before .before .before .before .before .before .read .ensures) (told .1)
+    let given = c .before .before .before .before .before .before .before .reading .given in
+    stored _ _ _ (given .0 .0) (c .before .before .before .before .before .before .before .before .before .read .ensures) (given .1)
 
 returns-2 : tie.Need-returns-2
 returns-2 c =
-    let told = c .before .before .before .reading2 .given in
-    left-alone _ _ _ (told .0 .0) _ (c .before .before .before .before .before .read .ensures) (told .1)
-    (passed _ (refusal-fits (told .0 .0)) (rw (c .before .number .ensures) at (c .number-code .ensures)))
+    let given = c .before .before .before .reading2 .given in
+    left-alone _ _ _ (given .0 .0) _ (c .before .before .before .before .before .read .ensures) (given .1)
+    (passed _ (refusal-fits (given .0 .0)) (rw (c .before .number .ensures) at (c .number-code .ensures)))
 
 pub read-spec : {M : Type 1} → statement M
 read-spec =

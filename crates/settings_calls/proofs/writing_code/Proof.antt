@@ -8,13 +8,13 @@ use Rattle.settings_calls.proofs.writing_code.Tie as tie
 
 returns : tie.Need-returns
 returns c =
-    let told = c .before .before .writing .given in
-    rw (told .1) (passed _ (size-fits (told .0 .0)) (c .size-code .ensures))
+    let given = c .before .before .writing .given in
+    rw (given .1) (passed _ (size-fits (given .0 .0)) (c .size-code .ensures))
 
 returns-2 : tie.Need-returns-2
 returns-2 c =
-    let told = c .before .before .before .writing2 .given in
-    rw (told .1) (passed _ (refusal-fits (told .0 .0)) (rw (c .before .number .ensures) at (c .number-code .ensures)))
+    let given = c .before .before .before .writing2 .given in
+    rw (given .1) (passed _ (refusal-fits (given .0 .0)) (rw (c .before .number .ensures) at (c .number-code .ensures)))
 
 pub writing-code-spec : {M : Type 1} → statement M
 writing-code-spec =

@@ -1,4 +1,4 @@
--- `settings_file::put_front` meets its contract: the mark and the version, one stored behind the other.
+-- `settings_file::put_front` meets its contract: the magic and the version, one stored behind the other.
 -- Assumes nothing.
 use borrow.Author.Needs.{needs}
 use Rattle.settings_file.specs.FileLaws.{front-stored}

@@ -13,7 +13,7 @@ cast-len c = omega (arith, c .shared-slice-known2 .given 0)
 returns : tie.Need-returns
 returns c =
     let s = c .before .before .before .before in
-    law.free-fresh (s .args .table .now) (s .args .i) (s .pre .0 .below) (s .args .marks .now) (c .if1 .taken) (s .pre .1)
+    law.free-fresh (s .args .table .now) (s .args .i) (s .pre .0 .below) (s .args .met .now) (c .if1 .taken) (s .pre .1)
 
 add-name : tie.Need-add-name
 add-name c = omega (arith, c .before .shared-slice-known2 .given 0)
@@ -36,7 +36,7 @@ returns-2 c =
     let s = f .before .before .before .before .before .before in
     let t = s .args .table .now in
     let p = s .pre .0 in
-    law.unmarked-fresh t (s .args .i) (p .below) (s .args .marks .now) (f .fingerprint .result) (f .before .before .if1 .left)
+    law.unmet-fresh t (s .args .i) (p .below) (s .args .met .now) (f .fingerprint .result) (f .before .before .if1 .left)
     (law.tested-here t (s .args .i) p) (p .size) (f .fingerprint .ensures .0) (f .fingerprint .ensures .1) (c .if2 .taken) (s .pre .1)
 
 named-before-requires : tie.Need-named-before-requires
@@ -51,7 +51,7 @@ returns-3 c =
     let s = f .before .before .before .before .before .before in
     let t = s .args .table .now in
     let p = s .pre .0 in
-    law.compared-fresh t (s .args .i) (p .below) (s .args .marks .now) (f .fingerprint .result) (f .before .before .if1 .left)
+    law.compared-fresh t (s .args .i) (p .below) (s .args .met .now) (f .fingerprint .result) (f .before .before .if1 .left)
     (f .fingerprint .ensures .0) (f .fingerprint .ensures .1) (c .named-before .ensures) (s .pre .1)
 
 pub is-fresh-spec : {M : Type 1} → statement M

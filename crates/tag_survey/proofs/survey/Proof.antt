@@ -9,10 +9,10 @@ use Rattle.tag_survey.proofs.survey.Statement.{statement}
 use Rattle.tag_survey.proofs.survey.Tie as tie
 
 abbrev Inv-loop : tie.InvT-loop
-Inv-loop table name marks₀ seen₀ i₀ marks seen i = law.Progress table name marks seen i
+Inv-loop table name met₀ seen₀ i₀ met seen i = law.Progress table name met seen i
 
 abbrev μ-loop : tie.MeasureT-loop
-μ-loop table name marks₀ seen₀ i₀ marks seen i = 64 - i
+μ-loop table name met₀ seen₀ i₀ met seen i = 64 - i
 
 loop-holds : tie.Need-loop-holds Inv-loop μ-loop
 loop-holds c = law.starts _ _ _ refl
@@ -35,7 +35,7 @@ is-fresh-requires c κs =
     let s = c .before .before .before .before .before .before .before .before in (
       law.tested _ _ _ _ (l .i) (l .inv) (c .before .before .before .before .loop-test .taken) (s .pre)
           (c .before .before .is-entry .ensures) (not-false _ (c .before .if1 .left)),
-      l .inv .marked,
+      l .inv .fingerprints,
     )
 
 returns-2 : tie.Need-returns-2 Inv-loop μ-loop

@@ -28,8 +28,8 @@ returns c = change.taken _ _ _ _ _ _ (read (c .before .before .before .before .b
 
 returns-2 : tie.Need-returns-2
 returns-2 c =
-    let told = c .before .before .before .before .before .before in
-    change.not-taken _ _ _ _ (message.none-read _ _ (sym (told .before .before .read .ensures) ∙ told .enum-told .given .1))
+    let branch = c .before .before .before .before .before .before in
+    change.not-taken _ _ _ _ (message.none-read _ _ (sym (branch .before .before .read .ensures) ∙ branch .enum-told .given .1))
     (c .before .before .set2 .ensures)
 
 pub take-spec : {M : Type 1} → statement M

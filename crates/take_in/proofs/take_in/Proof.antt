@@ -319,32 +319,37 @@ module _ {M : Type 1} (𝓤 : URA M) (H : Heap 𝓤) (A : Atoms 𝓤) (W : Given
         (((κ₀, (κ₁, (κ₂, (κ₃, (κ₄, (κ₅, tt)))))), (q₀, (q₁, (q₂, (q₃, (q₄, (q₅, tt)))))), tt, x, at), tt)
 
     -- what gather is called at, and that what it asks is had
-    abbrev to-gather : (β₃ : ℕ) (δ₃ : GName) (p-local : ℕ) (α-local : ℕ) (δ-local : GName) (f-local : (List ℕ)) (y₀ : (List ℕ)) (u₀ : Val)
-        (y₁ : ℕ) (u₁ : Val) → tripleOf 𝓤 H A gather.signature (gather.spec 𝓤 H A at-mem run) .Ghost
-    to-gather β₃ δ₃ p-local α-local δ-local f-local y₀ u₀ y₁ u₁ = (
+    abbrev to-gather : (β₃ : ℕ) (δ₃ : GName) (α-outstanding : ℕ) (δ-outstanding : GName) (f-outstanding : (List ℕ)) (p-local : ℕ)
+        (α-local : ℕ) (δ-local : GName) (f-local : (List ℕ)) (y₀ : ℕ) (u₀ : Val)
+        → tripleOf 𝓤 H A gather.signature (gather.spec 𝓤 H A at-mem run) .Ghost
+    to-gather β₃ δ₃ α-outstanding δ-outstanding f-outstanding p-local α-local δ-local f-local y₀ u₀ = (
       (
-        ((β₃ ∷ []), ((α-local ∷ []), tt)),
-        (fullShare, (fullShare, tt)),
+        ((β₃ ∷ []), ((α-outstanding ∷ []), ((α-local ∷ []), tt))),
+        (fullShare, (fullShare, (fullShare, tt))),
         tt,
-        ((shown-at₃ δ₃), (y₀, (y₁, ((ref-at p-local 0 δ-local f-local), tt)))),
-        (s₃ ∷ [], (u₀ ∷ [], (u₁ ∷ [], ((vptr p-local 0) ∷ [], tt)))),
+        ((shown-at₃ δ₃), ((ref-at b (o + 636) δ-outstanding f-outstanding), (y₀, ((ref-at p-local 0 δ-local f-local), tt)))),
+        (s₃ ∷ [], ((vptr b (o + 636)) ∷ [], (u₀ ∷ [], ((vptr p-local 0) ∷ [], tt)))),
       ),
       tt,
     )
 
-    asks-gather : (β₃ : ℕ) (δ₃ : GName) (p-local : ℕ) (α-local : ℕ) (δ-local : GName) (f-local : (List ℕ)) → (y₀ : (List ℕ)) (u₀ : Val)
-        → Is (Array u32 32) y₀ (u₀ ∷ []) → (y₁ : ℕ) (u₁ : Val) → Is usize y₁ (u₁ ∷ []) → (f-local ≡ replicate 128 0)
-        → ent 𝓤 (⋆ 𝓤 H A (‵ (flft (β₃ ∷ []) fullShare) ∷ ‵ (Shared₃ β₃ δ₃) ∷ ‵ (flft (α-local ∷ []) fullShare)
+    asks-gather : (β₃ : ℕ) (δ₃ : GName) (α-outstanding : ℕ) (δ-outstanding : GName) (f-outstanding : (List ℕ)) (p-local : ℕ) (α-local : ℕ)
+        (δ-local : GName) (f-local : (List ℕ)) → (y₀ : ℕ) (u₀ : Val) → Is usize y₀ (u₀ ∷ [])
+        → ((length f-outstanding ≡ 32) × (f-local ≡ replicate 128 0))
+        → ent 𝓤 (⋆ 𝓤 H A (‵ (flft (β₃ ∷ []) fullShare) ∷ ‵ (Shared₃ β₃ δ₃) ∷ ‵ (flft (α-outstanding ∷ []) fullShare)
+        ∷ ‵ (ShrRef (named 0) (α-outstanding ∷ []) (Array u32 32) .own (ref-at b (o + 636) δ-outstanding f-outstanding)
+        ((vptr b (o + 636)) ∷ [])) ∷ ‵ (flft (α-local ∷ []) fullShare)
         ∷ ‵ (MutRef (named 0) (α-local ∷ []) (Array u32 128) .own (ref-at p-local 0 δ-local f-local) ((vptr p-local 0) ∷ [])) ∷ []))
         (tripleOf 𝓤 H A gather.signature (gather.spec 𝓤 H A at-mem run) .pre
-        (to-gather β₃ δ₃ p-local α-local δ-local f-local y₀ u₀ y₁ u₁))
-    asks-gather β₃ δ₃ p-local α-local δ-local f-local y₀ u₀ is₀ y₁ u₁ is₁ req =
-        qed W (‵ (flft (β₃ ∷ []) fullShare) ∷ ‵ (Shared₃ β₃ δ₃) ∷ ‵ (flft (α-local ∷ []) fullShare)
+        (to-gather β₃ δ₃ α-outstanding δ-outstanding f-outstanding p-local α-local δ-local f-local y₀ u₀))
+    asks-gather β₃ δ₃ α-outstanding δ-outstanding f-outstanding p-local α-local δ-local f-local y₀ u₀ is₀ req =
+        qed W (‵ (flft (β₃ ∷ []) fullShare) ∷ ‵ (Shared₃ β₃ δ₃) ∷ ‵ (flft (α-outstanding ∷ []) fullShare)
+        ∷ ‵ (ShrRef (named 0) (α-outstanding ∷ []) (Array u32 32) .own (ref-at b (o + 636) δ-outstanding f-outstanding)
+        ((vptr b (o + 636)) ∷ [])) ∷ ‵ (flft (α-local ∷ []) fullShare)
         ∷ ‵ (MutRef (named 0) (α-local ∷ []) (Array u32 128) .own (ref-at p-local 0 δ-local f-local) ((vptr p-local 0) ∷ [])) ∷ []) ∵
-        says ! req $ nothing ! $ move ! (3 ∷ 0 ∷ []) $ join ! $ move ! (1 ∷ 0 ∷ []) $ join ! $ nothing ! $ move ! (3 ∷ 0 ∷ []) $
-        fjoin ! $ owned ! usize (Is usize) (uint-makes 𝓤 H A W w64) y₁ _ is₁ $ fjoin ! $
-        owned ! (Array u32 32) (Is (Array u32 32)) (array-makes 𝓤 H A W u32 (uint-makes 𝓤 H A W w32) 32) y₀ _ is₀ $ fjoin ! $
-        move ! (2 ∷ 0 ∷ []) $ fjoin ! $ move ! (1 ∷ 0 ∷ []) $ done !
+        says ! req $ nothing ! $ move ! (5 ∷ 0 ∷ []) $ join ! $ move ! (3 ∷ 0 ∷ []) $ join ! $ move ! (1 ∷ 0 ∷ []) $ join ! $
+        nothing ! $ move ! (4 ∷ 0 ∷ []) $ fjoin ! $ owned ! usize (Is usize) (uint-makes 𝓤 H A W w64) y₀ _ is₀ $ fjoin ! $
+        move ! (3 ∷ 0 ∷ []) $ fjoin ! $ move ! (2 ∷ 0 ∷ []) $ fjoin ! $ move ! (1 ∷ 0 ∷ []) $ done !
 
     -- what table-len is called at, and that what it asks is had
     abbrev to-table-len : (β₃ : ℕ) (δ₃ : GName) → tripleOf 𝓤 H A table-len.signature (table-len.spec 𝓤 H A at-mem run) .Ghost
@@ -512,31 +517,35 @@ module _ {M : Type 1} (𝓤 : URA M) (H : Heap 𝓤) (A : Atoms 𝓤) (W : Given
         (LL.makes settings-row.the-type settings-laws.the-plain 𝓤 H A) y₀ _ is₀ $ fjoin ! $ move ! (1 ∷ 0 ∷ []) $ done !
 
     -- what scatter is called at, and that what it asks is had
-    abbrev to-scatter : (p-local : ℕ) (α-local : ℕ) (δ-local : GName) (f-local : (List ℕ)) (y₀ : (List ℕ)) (u₀ : Val) (y₁ : ℕ) (u₁ : Val)
-        → tripleOf 𝓤 H A scatter.signature (scatter.spec 𝓤 H A at-mem run) .Ghost
-    to-scatter p-local α-local δ-local f-local y₀ u₀ y₁ u₁ = (
+    abbrev to-scatter : (α-outstanding : ℕ) (δ-outstanding : GName) (f-outstanding : (List ℕ)) (p-local : ℕ) (α-local : ℕ) (δ-local : GName)
+        (f-local : (List ℕ)) (y₀ : ℕ) (u₀ : Val) → tripleOf 𝓤 H A scatter.signature (scatter.spec 𝓤 H A at-mem run) .Ghost
+    to-scatter α-outstanding δ-outstanding f-outstanding p-local α-local δ-local f-local y₀ u₀ = (
       (
-        (κ₃, ((α-local ∷ []), tt)),
-        (q₃, (fullShare, tt)),
+        (κ₃, ((α-outstanding ∷ []), ((α-local ∷ []), tt))),
+        (q₃, (fullShare, (fullShare, tt))),
         tt,
-        (x₃, (y₀, (y₁, ((ref-at p-local 0 δ-local f-local), tt)))),
-        (s₃ ∷ [], (u₀ ∷ [], (u₁ ∷ [], ((vptr p-local 0) ∷ [], tt)))),
+        (x₃, ((ref-at b (o + 636) δ-outstanding f-outstanding), (y₀, ((ref-at p-local 0 δ-local f-local), tt)))),
+        (s₃ ∷ [], ((vptr b (o + 636)) ∷ [], (u₀ ∷ [], ((vptr p-local 0) ∷ [], tt)))),
       ),
       tt,
     )
 
-    asks-scatter : (p-local : ℕ) (α-local : ℕ) (δ-local : GName) (f-local : (List ℕ)) → (y₀ : (List ℕ)) (u₀ : Val)
-        → Is (Array u32 32) y₀ (u₀ ∷ []) → (y₁ : ℕ) (u₁ : Val) → Is usize y₁ (u₁ ∷ []) → (length f-local ≡ 128)
-        → ent 𝓤 (⋆ 𝓤 H A (‵ (flft κ₃ q₃) ∷ ‵ Own₃ ∷ ‵ (flft (α-local ∷ []) fullShare)
+    asks-scatter : (α-outstanding : ℕ) (δ-outstanding : GName) (f-outstanding : (List ℕ)) (p-local : ℕ) (α-local : ℕ) (δ-local : GName)
+        (f-local : (List ℕ)) → (y₀ : ℕ) (u₀ : Val) → Is usize y₀ (u₀ ∷ []) → ((length f-outstanding ≡ 32) × (length f-local ≡ 128))
+        → ent 𝓤 (⋆ 𝓤 H A (‵ (flft κ₃ q₃) ∷ ‵ Own₃ ∷ ‵ (flft (α-outstanding ∷ []) fullShare)
+        ∷ ‵ (ShrRef (named 0) (α-outstanding ∷ []) (Array u32 32) .own (ref-at b (o + 636) δ-outstanding f-outstanding)
+        ((vptr b (o + 636)) ∷ [])) ∷ ‵ (flft (α-local ∷ []) fullShare)
         ∷ ‵ (ShrRef (named 0) (α-local ∷ []) (Array u32 128) .own (ref-at p-local 0 δ-local f-local) ((vptr p-local 0) ∷ [])) ∷ []))
-        (tripleOf 𝓤 H A scatter.signature (scatter.spec 𝓤 H A at-mem run) .pre (to-scatter p-local α-local δ-local f-local y₀ u₀ y₁ u₁))
-    asks-scatter p-local α-local δ-local f-local y₀ u₀ is₀ y₁ u₁ is₁ req =
-        qed W (‵ (flft κ₃ q₃) ∷ ‵ Own₃ ∷ ‵ (flft (α-local ∷ []) fullShare)
+        (tripleOf 𝓤 H A scatter.signature (scatter.spec 𝓤 H A at-mem run) .pre
+        (to-scatter α-outstanding δ-outstanding f-outstanding p-local α-local δ-local f-local y₀ u₀))
+    asks-scatter α-outstanding δ-outstanding f-outstanding p-local α-local δ-local f-local y₀ u₀ is₀ req =
+        qed W (‵ (flft κ₃ q₃) ∷ ‵ Own₃ ∷ ‵ (flft (α-outstanding ∷ []) fullShare)
+        ∷ ‵ (ShrRef (named 0) (α-outstanding ∷ []) (Array u32 32) .own (ref-at b (o + 636) δ-outstanding f-outstanding)
+        ((vptr b (o + 636)) ∷ [])) ∷ ‵ (flft (α-local ∷ []) fullShare)
         ∷ ‵ (ShrRef (named 0) (α-local ∷ []) (Array u32 128) .own (ref-at p-local 0 δ-local f-local) ((vptr p-local 0) ∷ [])) ∷ []) ∵
-        says ! req $ nothing ! $ move ! (3 ∷ 0 ∷ []) $ join ! $ move ! (1 ∷ 0 ∷ []) $ join ! $ nothing ! $ move ! (3 ∷ 0 ∷ []) $
-        fjoin ! $ owned ! usize (Is usize) (uint-makes 𝓤 H A W w64) y₁ _ is₁ $ fjoin ! $
-        owned ! (Array u32 32) (Is (Array u32 32)) (array-makes 𝓤 H A W u32 (uint-makes 𝓤 H A W w32) 32) y₀ _ is₀ $ fjoin ! $
-        move ! (2 ∷ 0 ∷ []) $ fjoin ! $ move ! (1 ∷ 0 ∷ []) $ done !
+        says ! req $ nothing ! $ move ! (5 ∷ 0 ∷ []) $ join ! $ move ! (3 ∷ 0 ∷ []) $ join ! $ move ! (1 ∷ 0 ∷ []) $ join ! $
+        nothing ! $ move ! (4 ∷ 0 ∷ []) $ fjoin ! $ owned ! usize (Is usize) (uint-makes 𝓤 H A W w64) y₀ _ is₀ $ fjoin ! $
+        move ! (3 ∷ 0 ∷ []) $ fjoin ! $ move ! (2 ∷ 0 ∷ []) $ fjoin ! $ move ! (1 ∷ 0 ∷ []) $ done !
 
     abbrev Had : (k : Link) (z₂ : List ℕ) (z₃ : List Record) (z₄ : List ℕ) → List (Item 𝓤)
     Had k z₂ z₃ z₄ = ‵ (link-own κ₀ b o γ k) ∷ ‵ (flft κ₀ q₀) ∷ ‵ (flft κ₁ q₁) ∷ ‵ (finally u8 (x₂ .name) z₂)
@@ -573,6 +582,290 @@ module _ {M : Type 1} (𝓤 : URA M) (H : Heap 𝓤) (A : Atoms 𝓤) (W : Given
           ∷ l₂₄ ∷ l₂₅ ∷ l₂₆ ∷ l₂₇ ∷ l₂₈ ∷ l₂₉ ∷ l₃₀ ∷ l₃₁ ∷ l₃₂ ∷ l₃₃ ∷ l₃₄ ∷ l₃₅
           ∷ l₃₆ ∷ l₃₇ ∷ l₃₈ ∷ l₃₉ ∷ l₄₀ ∷ [])
 
+      -- what part 4 knows
+      abbrev Known₄ : Type 0
+      Known₄ = (z₃ : List Record) × (z₄ : List ℕ) × (z₂ : List ℕ) × (z₄ : List ℕ) × (z₂ : List ℕ) × (z₄ : List ℕ) ×
+          (z₂ : List ℕ) × (z-local′ : List ℕ) × (z-waiting-numbers : List ℕ) × (z-waiting : List ℕ) × (z-ready : List ℕ) ×
+          (z-transmissions : List ℕ) × (z-outstanding : List ℕ) × (z-local : List ℕ) × (l₀ : ℕ) × (l₁ : ℕ) × (l₂ : ℕ) × (l₃ : ℕ) ×
+          (l₄ : ℕ) × (l₅ : ℕ) × (l₆ : ℕ) × (l₇ : ℕ) × (l₈ : ℕ) × (l₉ : ℕ) × (l₁₀ : ℕ) × (l₁₁ : ℕ) ×
+          (l₁₂ : ℕ) × (l₁₃ : ℕ) × (l₁₄ : ℕ) × (l₁₅ : ℕ) × (l₁₆ : ℕ) × (l₁₇ : ℕ) × (l₁₈ : ℕ) ×
+          (l₁₉ : ℕ) × (l₂₀ : ℕ) × (l₂₁ : ℕ) × (l₂₂ : ℕ) × (l₂₃ : ℕ) × (l₂₄ : ℕ) × (l₂₅ : ℕ) ×
+          (l₂₆ : ℕ) × (l₂₇ : ℕ) × (l₂₈ : ℕ) × (l₂₉ : ℕ) × (l₃₀ : ℕ) × (l₃₁ : ℕ) × (l₃₂ : ℕ) ×
+          (l₃₃ : ℕ) × (l₃₄ : ℕ) × (l₃₅ : ℕ) × (l₃₆ : ℕ) × (l₃₇ : ℕ) × (l₃₈ : ℕ) × (l₃₉ : ℕ) ×
+          (l₄₀ : ℕ) × (n : ℕ) × (w-n : Val) × (e-n : n ≡ h .flight .outstanding) × (w-blanks : Val) ×
+          (e-g : (length z-local ≡ 128) × (recordsIn z-local ≡ padded (gathered (take sendSlots (x₃ .now)) (slotsIn (h .outstanding) n)))) ×
+          (m : ℕ) × (w-m : Val) × (e-m : m ≡ length (x₃ .now)) × (a : Taken) × (w-a : Val) ×
+          (e-a : (Takes (λ l. takesInWith l (recordsIn z-local) (x₄ .now) (lentLengths m (x₁ .now) (x₂ .now) (x₄ .now)) (x₂ .now) (x₅ .now))
+          (h .settings) (h .flight) (h .arrival) (h .clock) (arraysOf h) (x₂ .now) (x₄ .now) a
+          (arrays (h .queued) z-outstanding z-transmissions z-ready z-waiting z-waiting-numbers) (recordsIn z-local′) z₂ z₄) ×
+          (length z-local′ ≡ 128)) × (is-a : Is taken-row.the-row a (w-a ∷ [])) × (len₂ : length z₂ ≡ length (x₂ .now)) ×
+          (len₄ : length z₄ ≡ length (x₄ .now)) × (kf : Flight) × (w-kf : Val) × (e-kf : kf ≡ a .flight) × (ka : Arrival) × (w-ka : Val) ×
+          (e-ka : ka ≡ a .arrival) × (c : ℕ) × (w-c : Val) × (e-c : c ≡ a .changed) × (w-u : Val) ×
+          (e-u : z₃ ≡ scattered (x₃ .now) (slotsIn z-outstanding c) (recordsIn z-local′)) × (len₃ : length z₃ ≡ length (x₃ .now)) ×
+          (end-queued : length (h .queued) ≡ 128) × (end-outstanding : length z-outstanding ≡ 32) ×
+          (end-transmissions : length z-transmissions ≡ 32) × (end-ready : length z-ready ≡ 128) × (end-waiting : length z-waiting ≡ 128) ×
+          (length z-waiting-numbers ≡ 128)
+
+      part₄ : (past : Known₄) → ent 𝓤 (⋆ 𝓤 H A (‵
+          (link-own κ₀ b o γ (record {
+            settings = (h .settings);
+            flight = (past .69);
+            arrival = (past .72);
+            clock = (h .clock);
+            queued = (h .queued);
+            outstanding = (past .12);
+            transmissions = (past .11);
+            ready = (past .10);
+            waiting = (past .9);
+            «waiting_numbers» = (past .8);
+          })) ∷ ‵ (flft κ₀ q₀)
+          ∷ ‵ (fat fullShare (tyArray (tyInt w32) 128) (past .26) 0 ((only ((array-vals (uint-vals w32)) (past .7)))))
+          ∷ ‵ (finally R (x₃ .name) (past .0)) ∷ ‵ (flft κ₃ q₃) ∷ ‵ (finally u32 (x₄ .name) (past .5))
+          ∷ ‵ (finally u8 (x₂ .name) (past .6)) ∷ ‵ (flft κ₁ q₁) ∷ ‵ (flft κ₂ q₂) ∷ ‵ (flft κ₄ q₄) ∷ ‵ (flft κ₅ q₅)
+          ∷ (‵ (fdies (tyInt w32) (past .14)) ⊛ ‵ (fdies (tyRef (named 0) mut (pointee (L .written))) (past .15)) ⊛ ‵
+          (fdies (sliceTy (tyRef (named 1) imm (tyInt w8))) (past .16)) ⊛ ‵ (fdies (sliceTy (tyRef (named 2) mut (tyInt w8))) (past .17)) ⊛
+          ‵ (fdies (sliceTy (tyRef (named 3) mut (pointee (R .written)))) (past .18)) ⊛ ‵
+          (fdies (sliceTy (tyRef (named 4) mut (tyInt w32))) (past .19)) ⊛ ‵ (fdies (sliceTy (tyRef (named 5) imm (tyInt w8))) (past .20)) ⊛
+          ‵ (fdies settings-laws.mir (past .21)) ⊛ ‵ (fdies flight-laws.mir (past .22)) ⊛ ‵ (fdies arrival-laws.mir (past .23)) ⊛ ‵
+          (fdies clock-laws.mir (past .24)) ⊛ ‵ (fdies (tyInt w64) (past .25)) ⊛ ‵ (fdies (tyArray (tyInt w32) 128) (past .26)) ⊛ ‵
+          (fdies (tyInt w64) (past .27)) ⊛ ‵ (fdies taken-laws.mir (past .28)) ⊛ ‵ (fdies flight-laws.mir (past .29)) ⊛ ‵
+          (fdies arrival-laws.mir (past .30)) ⊛ ‵ (fdies (tyInt w64) (past .31)) ⊛ ‵ (fdies (tyArray (tyInt w32) 128) (past .32)) ⊛ ‵
+          (fdies tyUnit (past .33)) ⊛ ‵ (fdies (tyRef erased imm (pointee (R .written))) (past .34)) ⊛ ‵
+          (fdies (sliceTy (tyRef erased imm (pointee (R .written)))) (past .35)) ⊛ ‵
+          (fdies (tyRef erased imm (tyArray (tyInt w32) 32)) (past .36)) ⊛ ‵ (fdies (tyRef erased mut (tyArray (tyInt w32) 128)) (past .37))
+          ⊛ ‵ (fdies (tyRef erased imm (pointee (R .written))) (past .38)) ⊛ ‵
+          (fdies (sliceTy (tyRef erased imm (pointee (R .written)))) (past .39)) ⊛ ‵
+          (fdies (tyRef erased mut (tyArray (tyInt w32) 128)) (past .40)) ⊛ ‵
+          (fdies (tyRef erased imm (tyArray (tyInt w32) 128)) (past .41)) ⊛ ‵ (fdies (tyRef erased mut (tyArray (tyInt w32) 32)) (past .42))
+          ⊛ ‵ (fdies (tyRef erased mut (tyArray (tyInt w8) 32)) (past .43)) ⊛ ‵
+          (fdies (tyRef erased mut (tyArray (tyInt w32) 128)) (past .44)) ⊛ ‵
+          (fdies (tyRef erased mut (tyArray (tyInt w32) 128)) (past .45)) ⊛ ‵
+          (fdies (tyRef erased mut (tyArray (tyInt w32) 128)) (past .46)) ⊛ ‵ (fdies (tyRef erased mut (tyInt w8)) (past .47)) ⊛ ‵
+          (fdies (sliceTy (tyRef erased mut (tyInt w8))) (past .48)) ⊛ ‵ (fdies (tyRef erased mut (tyInt w32)) (past .49)) ⊛ ‵
+          (fdies (sliceTy (tyRef erased mut (tyInt w32))) (past .50)) ⊛ ‵ (fdies (tyRef erased mut (pointee (R .written))) (past .51)) ⊛ ‵
+          (fdies (sliceTy (tyRef erased mut (pointee (R .written)))) (past .52)) ⊛ ‵
+          (fdies (tyRef erased imm (tyArray (tyInt w32) 32)) (past .53)) ⊛ ‵
+          (fdies (tyRef erased imm (tyArray (tyInt w32) 128)) (past .54)))
+          ∷ ‵ (fat fullShare (tyRef erased imm (tyArray (tyInt w32) 128)) (past .54) 0 ((vptr (past .26) 0)))
+          ∷ ‵ (fat fullShare (tyRef erased imm (tyArray (tyInt w32) 32)) (past .53) 0 ((vptr b (o + 636))))
+          ∷ ‵ (fat fullShare (sliceTy (tyRef erased mut (pointee (R .written)))) (past .52) 0 (s₃))
+          ∷ ‵ (fat fullShare (tyRef erased mut (pointee (R .written))) (past .51) 0 ((vptr (x₃ .ptr .0) (x₃ .ptr .1))))
+          ∷ ‵ (fat fullShare (sliceTy (tyRef erased mut (tyInt w32))) (past .50) 0 (s₄))
+          ∷ ‵ (fat fullShare (tyRef erased mut (tyInt w32)) (past .49) 0 ((vptr (x₄ .ptr .0) (x₄ .ptr .1))))
+          ∷ ‵ (fat fullShare (sliceTy (tyRef erased mut (tyInt w8))) (past .48) 0 (s₂))
+          ∷ ‵ (fat fullShare (tyRef erased mut (tyInt w8)) (past .47) 0 ((vptr (x₂ .ptr .0) (x₂ .ptr .1))))
+          ∷ ‵ (fat fullShare (tyRef erased mut (tyArray (tyInt w32) 128)) (past .46) 0 ((vptr b (o + 1820))))
+          ∷ ‵ (fat fullShare (tyRef erased mut (tyArray (tyInt w32) 128)) (past .45) 0 ((vptr b (o + 1308))))
+          ∷ ‵ (fat fullShare (tyRef erased mut (tyArray (tyInt w32) 128)) (past .44) 0 ((vptr b (o + 796))))
+          ∷ ‵ (fat fullShare (tyRef erased mut (tyArray (tyInt w8) 32)) (past .43) 0 ((vptr b (o + 764))))
+          ∷ ‵ (fat fullShare (tyRef erased mut (tyArray (tyInt w32) 32)) (past .42) 0 ((vptr b (o + 636))))
+          ∷ ‵ (fat fullShare (tyRef erased imm (tyArray (tyInt w32) 128)) (past .41) 0 ((vptr b (o + 124))))
+          ∷ ‵ (fat fullShare (tyRef erased mut (tyArray (tyInt w32) 128)) (past .40) 0 ((vptr (past .26) 0)))
+          ∷ ‵ (fat fullShare (sliceTy (tyRef erased imm (pointee (R .written)))) (past .39) 0 (s₃))
+          ∷ ‵ (fat fullShare (tyRef erased imm (pointee (R .written))) (past .38) 0 ((vptr (x₃ .ptr .0) (x₃ .ptr .1))))
+          ∷ ‵ (fat fullShare (tyRef erased mut (tyArray (tyInt w32) 128)) (past .37) 0 ((vptr (past .26) 0)))
+          ∷ ‵ (fat fullShare (tyRef erased imm (tyArray (tyInt w32) 32)) (past .36) 0 ((vptr b (o + 636))))
+          ∷ ‵ (fat fullShare (sliceTy (tyRef erased imm (pointee (R .written)))) (past .35) 0 (s₃))
+          ∷ ‵ (fat fullShare (tyRef erased imm (pointee (R .written))) (past .34) 0 ((vptr (x₃ .ptr .0) (x₃ .ptr .1))))
+          ∷ ‵ (fat fullShare tyUnit (past .33) 0 ((past .78))) ∷ ‵ (fat fullShare (tyArray (tyInt w32) 128) (past .32) 0 ((past .58)))
+          ∷ ‵ (fat fullShare (tyInt w64) (past .31) 0 ((past .76))) ∷ ‵ (fat fullShare arrival-laws.mir (past .30) 0 ((past .73)))
+          ∷ ‵ (fat fullShare flight-laws.mir (past .29) 0 ((past .70))) ∷ ‵ (fat fullShare taken-laws.mir (past .28) 0 ((past .64)))
+          ∷ ‵ (fat fullShare (tyInt w64) (past .27) 0 ((past .61))) ∷ ‵ (fat fullShare (tyInt w64) (past .25) 0 ((past .56)))
+          ∷ ‵ (fat fullShare clock-laws.mir (past .24) 0 ((only ((LL.vals clock-row.the-type clock-laws.the-laws) (h .clock)))))
+          ∷ ‵ (fat fullShare arrival-laws.mir (past .23) 0 ((only ((LL.vals arrival-row.the-type arrival-laws.the-laws) (h .arrival)))))
+          ∷ ‵ (fat fullShare flight-laws.mir (past .22) 0 ((only ((LL.vals flight-row.the-type flight-laws.the-laws) (h .flight)))))
+          ∷ ‵ (fat fullShare settings-laws.mir (past .21) 0 ((only ((LL.vals settings-row.the-type settings-laws.the-laws) (h .settings)))))
+          ∷ ‵ (fat fullShare (sliceTy (tyRef (named 5) imm (tyInt w8))) (past .20) 0 (s₅))
+          ∷ ‵ (fat fullShare (sliceTy (tyRef (named 4) mut (tyInt w32))) (past .19) 0 (s₄))
+          ∷ ‵ (fat fullShare (sliceTy (tyRef (named 3) mut (pointee (R .written)))) (past .18) 0 (s₃))
+          ∷ ‵ (fat fullShare (sliceTy (tyRef (named 2) mut (tyInt w8))) (past .17) 0 (s₂))
+          ∷ ‵ (fat fullShare (sliceTy (tyRef (named 1) imm (tyInt w8))) (past .16) 0 (s₁))
+          ∷ ‵ (fat fullShare (tyRef (named 0) mut (pointee (L .written))) (past .15) 0 (vptr b o)) ∷ ‵ (froom (tyInt w32) (past .14) 0)
+          ∷ [])) (Wp 𝓤 H C Λ (En (past .14) (past .15) (past .16) (past .17) (past .18) (past .19) (past .20) (past .21) (past .22)
+          (past .23) (past .24) (past .25) (past .26) (past .27) (past .28) (past .29) (past .30) (past .31) (past .32) (past .33)
+          (past .34) (past .35) (past .36) (past .37) (past .38) (past .39) (past .40) (past .41) (past .42) (past .43) (past .44)
+          (past .45) (past .46) (past .47) (past .48) (past .49) (past .50) (past .51) (past .52) (past .53) (past .54))
+          (behind 37 (code.function .body)) (atReturn 𝓤 H
+          (En (past .14) (past .15) (past .16) (past .17) (past .18) (past .19) (past .20) (past .21) (past .22) (past .23) (past .24)
+          (past .25) (past .26) (past .27) (past .28) (past .29) (past .30) (past .31) (past .32) (past .33) (past .34) (past .35)
+          (past .36) (past .37) (past .38) (past .39) (past .40) (past .41) (past .42) (past .43) (past .44) (past .45) (past .46)
+          (past .47) (past .48) (past .49) (past .50) (past .51) (past .52) (past .53) (past .54)) Post))
+      part₄ past =
+          qed W (‵ (link-own κ₀ b o γ (record {
+            settings = (h .settings);
+            flight = (past .69);
+            arrival = (past .72);
+            clock = (h .clock);
+            queued = (h .queued);
+            outstanding = (past .12);
+            transmissions = (past .11);
+            ready = (past .10);
+            waiting = (past .9);
+            «waiting_numbers» = (past .8);
+          })) ∷ ‵ (flft κ₀ q₀)
+          ∷ ‵ (fat fullShare (tyArray (tyInt w32) 128) (past .26) 0 ((only ((array-vals (uint-vals w32)) (past .7)))))
+          ∷ ‵ (finally R (x₃ .name) (past .0)) ∷ ‵ (flft κ₃ q₃) ∷ ‵ (finally u32 (x₄ .name) (past .5))
+          ∷ ‵ (finally u8 (x₂ .name) (past .6)) ∷ ‵ (flft κ₁ q₁) ∷ ‵ (flft κ₂ q₂) ∷ ‵ (flft κ₄ q₄)
+          ∷ ‵ (flft κ₅ q₅) ∷ (‵ (fdies (tyInt w32) (past .14)) ⊛ ‵ (fdies (tyRef (named 0) mut (pointee (L .written))) (past .15)) ⊛ ‵
+          (fdies (sliceTy (tyRef (named 1) imm (tyInt w8))) (past .16)) ⊛ ‵
+          (fdies (sliceTy (tyRef (named 2) mut (tyInt w8))) (past .17)) ⊛ ‵
+          (fdies (sliceTy (tyRef (named 3) mut (pointee (R .written)))) (past .18)) ⊛ ‵
+          (fdies (sliceTy (tyRef (named 4) mut (tyInt w32))) (past .19)) ⊛ ‵
+          (fdies (sliceTy (tyRef (named 5) imm (tyInt w8))) (past .20)) ⊛ ‵ (fdies settings-laws.mir (past .21)) ⊛ ‵
+          (fdies flight-laws.mir (past .22)) ⊛ ‵ (fdies arrival-laws.mir (past .23)) ⊛ ‵ (fdies clock-laws.mir (past .24)) ⊛ ‵
+          (fdies (tyInt w64) (past .25)) ⊛ ‵ (fdies (tyArray (tyInt w32) 128) (past .26)) ⊛ ‵ (fdies (tyInt w64) (past .27)) ⊛ ‵
+          (fdies taken-laws.mir (past .28)) ⊛ ‵ (fdies flight-laws.mir (past .29)) ⊛ ‵ (fdies arrival-laws.mir (past .30)) ⊛ ‵
+          (fdies (tyInt w64) (past .31)) ⊛ ‵ (fdies (tyArray (tyInt w32) 128) (past .32)) ⊛ ‵ (fdies tyUnit (past .33)) ⊛ ‵
+          (fdies (tyRef erased imm (pointee (R .written))) (past .34)) ⊛ ‵
+          (fdies (sliceTy (tyRef erased imm (pointee (R .written)))) (past .35)) ⊛ ‵
+          (fdies (tyRef erased imm (tyArray (tyInt w32) 32)) (past .36)) ⊛ ‵
+          (fdies (tyRef erased mut (tyArray (tyInt w32) 128)) (past .37)) ⊛ ‵
+          (fdies (tyRef erased imm (pointee (R .written))) (past .38)) ⊛ ‵
+          (fdies (sliceTy (tyRef erased imm (pointee (R .written)))) (past .39)) ⊛ ‵
+          (fdies (tyRef erased mut (tyArray (tyInt w32) 128)) (past .40)) ⊛ ‵
+          (fdies (tyRef erased imm (tyArray (tyInt w32) 128)) (past .41)) ⊛ ‵
+          (fdies (tyRef erased mut (tyArray (tyInt w32) 32)) (past .42)) ⊛ ‵
+          (fdies (tyRef erased mut (tyArray (tyInt w8) 32)) (past .43)) ⊛ ‵
+          (fdies (tyRef erased mut (tyArray (tyInt w32) 128)) (past .44)) ⊛ ‵
+          (fdies (tyRef erased mut (tyArray (tyInt w32) 128)) (past .45)) ⊛ ‵
+          (fdies (tyRef erased mut (tyArray (tyInt w32) 128)) (past .46)) ⊛ ‵ (fdies (tyRef erased mut (tyInt w8)) (past .47)) ⊛ ‵
+          (fdies (sliceTy (tyRef erased mut (tyInt w8))) (past .48)) ⊛ ‵ (fdies (tyRef erased mut (tyInt w32)) (past .49)) ⊛ ‵
+          (fdies (sliceTy (tyRef erased mut (tyInt w32))) (past .50)) ⊛ ‵ (fdies (tyRef erased mut (pointee (R .written))) (past .51)) ⊛
+          ‵ (fdies (sliceTy (tyRef erased mut (pointee (R .written)))) (past .52)) ⊛ ‵
+          (fdies (tyRef erased imm (tyArray (tyInt w32) 32)) (past .53)) ⊛ ‵
+          (fdies (tyRef erased imm (tyArray (tyInt w32) 128)) (past .54)))
+          ∷ ‵ (fat fullShare (tyRef erased imm (tyArray (tyInt w32) 128)) (past .54) 0 ((vptr (past .26) 0)))
+          ∷ ‵ (fat fullShare (tyRef erased imm (tyArray (tyInt w32) 32)) (past .53) 0 ((vptr b (o + 636))))
+          ∷ ‵ (fat fullShare (sliceTy (tyRef erased mut (pointee (R .written)))) (past .52) 0 (s₃))
+          ∷ ‵ (fat fullShare (tyRef erased mut (pointee (R .written))) (past .51) 0 ((vptr (x₃ .ptr .0) (x₃ .ptr .1))))
+          ∷ ‵ (fat fullShare (sliceTy (tyRef erased mut (tyInt w32))) (past .50) 0 (s₄))
+          ∷ ‵ (fat fullShare (tyRef erased mut (tyInt w32)) (past .49) 0 ((vptr (x₄ .ptr .0) (x₄ .ptr .1))))
+          ∷ ‵ (fat fullShare (sliceTy (tyRef erased mut (tyInt w8))) (past .48) 0 (s₂))
+          ∷ ‵ (fat fullShare (tyRef erased mut (tyInt w8)) (past .47) 0 ((vptr (x₂ .ptr .0) (x₂ .ptr .1))))
+          ∷ ‵ (fat fullShare (tyRef erased mut (tyArray (tyInt w32) 128)) (past .46) 0 ((vptr b (o + 1820))))
+          ∷ ‵ (fat fullShare (tyRef erased mut (tyArray (tyInt w32) 128)) (past .45) 0 ((vptr b (o + 1308))))
+          ∷ ‵ (fat fullShare (tyRef erased mut (tyArray (tyInt w32) 128)) (past .44) 0 ((vptr b (o + 796))))
+          ∷ ‵ (fat fullShare (tyRef erased mut (tyArray (tyInt w8) 32)) (past .43) 0 ((vptr b (o + 764))))
+          ∷ ‵ (fat fullShare (tyRef erased mut (tyArray (tyInt w32) 32)) (past .42) 0 ((vptr b (o + 636))))
+          ∷ ‵ (fat fullShare (tyRef erased imm (tyArray (tyInt w32) 128)) (past .41) 0 ((vptr b (o + 124))))
+          ∷ ‵ (fat fullShare (tyRef erased mut (tyArray (tyInt w32) 128)) (past .40) 0 ((vptr (past .26) 0)))
+          ∷ ‵ (fat fullShare (sliceTy (tyRef erased imm (pointee (R .written)))) (past .39) 0 (s₃))
+          ∷ ‵ (fat fullShare (tyRef erased imm (pointee (R .written))) (past .38) 0 ((vptr (x₃ .ptr .0) (x₃ .ptr .1))))
+          ∷ ‵ (fat fullShare (tyRef erased mut (tyArray (tyInt w32) 128)) (past .37) 0 ((vptr (past .26) 0)))
+          ∷ ‵ (fat fullShare (tyRef erased imm (tyArray (tyInt w32) 32)) (past .36) 0 ((vptr b (o + 636))))
+          ∷ ‵ (fat fullShare (sliceTy (tyRef erased imm (pointee (R .written)))) (past .35) 0 (s₃))
+          ∷ ‵ (fat fullShare (tyRef erased imm (pointee (R .written))) (past .34) 0 ((vptr (x₃ .ptr .0) (x₃ .ptr .1))))
+          ∷ ‵ (fat fullShare tyUnit (past .33) 0 ((past .78))) ∷ ‵ (fat fullShare (tyArray (tyInt w32) 128) (past .32) 0 ((past .58)))
+          ∷ ‵ (fat fullShare (tyInt w64) (past .31) 0 ((past .76))) ∷ ‵ (fat fullShare arrival-laws.mir (past .30) 0 ((past .73)))
+          ∷ ‵ (fat fullShare flight-laws.mir (past .29) 0 ((past .70))) ∷ ‵ (fat fullShare taken-laws.mir (past .28) 0 ((past .64)))
+          ∷ ‵ (fat fullShare (tyInt w64) (past .27) 0 ((past .61))) ∷ ‵ (fat fullShare (tyInt w64) (past .25) 0 ((past .56)))
+          ∷ ‵ (fat fullShare clock-laws.mir (past .24) 0 ((only ((LL.vals clock-row.the-type clock-laws.the-laws) (h .clock)))))
+          ∷ ‵ (fat fullShare arrival-laws.mir (past .23) 0 ((only ((LL.vals arrival-row.the-type arrival-laws.the-laws) (h .arrival)))))
+          ∷ ‵ (fat fullShare flight-laws.mir (past .22) 0 ((only ((LL.vals flight-row.the-type flight-laws.the-laws) (h .flight)))))
+          ∷ ‵ (fat fullShare settings-laws.mir (past .21) 0
+          ((only ((LL.vals settings-row.the-type settings-laws.the-laws) (h .settings)))))
+          ∷ ‵ (fat fullShare (sliceTy (tyRef (named 5) imm (tyInt w8))) (past .20) 0 (s₅))
+          ∷ ‵ (fat fullShare (sliceTy (tyRef (named 4) mut (tyInt w32))) (past .19) 0 (s₄))
+          ∷ ‵ (fat fullShare (sliceTy (tyRef (named 3) mut (pointee (R .written)))) (past .18) 0 (s₃))
+          ∷ ‵ (fat fullShare (sliceTy (tyRef (named 2) mut (tyInt w8))) (past .17) 0 (s₂))
+          ∷ ‵ (fat fullShare (sliceTy (tyRef (named 1) imm (tyInt w8))) (past .16) 0 (s₁))
+          ∷ ‵ (fat fullShare (tyRef (named 0) mut (pointee (L .written))) (past .15) 0 (vptr b o)) ∷ ‵ (froom (tyInt w32) (past .14) 0)
+          ∷ []) ∵ exec ! C Λ (En (past .14) (past .15) (past .16) (past .17) (past .18) (past .19) (past .20) (past .21) (past .22)
+          (past .23) (past .24) (past .25) (past .26) (past .27) (past .28) (past .29) (past .30) (past .31) (past .32) (past .33)
+          (past .34) (past .35) (past .36) (past .37) (past .38) (past .39) (past .40) (past .41) (past .42) (past .43) (past .44)
+          (past .45) (past .46) (past .47) (past .48) (past .49) (past .50) (past .51) (past .52) (past .53) (past .54))
+          (behind 37 (code.function .body)) (atRet (En (past .14) (past .15) (past .16) (past .17) (past .18) (past .19) (past .20)
+          (past .21) (past .22) (past .23) (past .24) (past .25) (past .26) (past .27) (past .28) (past .29) (past .30) (past .31)
+          (past .32) (past .33) (past .34) (past .35) (past .36) (past .37) (past .38) (past .39) (past .40) (past .41) (past .42)
+          (past .43) (past .44) (past .45) (past .46) (past .47) (past .48) (past .49) (past .50) (past .51) (past .52) (past .53)
+          (past .54)) Post) $
+          nothing ! $ calls-fn ! fm code-of.ended (code-of.clauses 𝓤 H A at-mem run) (known .9)
+          ((tt, tt, tt, ((past .63), tt), ((past .64) ∷ [], tt)), tt) (λ r _. r ≡ answerCode ((past .63) .answer))
+          (‵ ftrue) (plainly 𝓤 H A W (taken-row.the-row ∷ []) ((LL.makes taken-row.the-type taken-laws.the-plain 𝓤 H A), tt)
+          ((past .63), tt) ((past .64) ∷ [], tt) ((past .66), tt)) (λ r _. id⊢ 𝓤 _)
+          (and-then ! (load ! (from ! (stop !)) (look ! 39 refl)) (no-more !))
+          (λ r w-r _ e-r is-r. drop ! $ drop ! $ land ! (from ! (stop !)) (init ! 51 refl (sint-lawful 𝓤 H A W w32 .typed r _ is-r .0)) $
+          returns ! (look ! 51 refl) $
+          move ! (11 ∷ []) $ spread W (‵ (fdies (tyInt w32) (past .14)))
+          (‵ (fdies (tyRef (named 0) mut (pointee (L .written))) (past .15))
+          ∷ ‵ (fdies (sliceTy (tyRef (named 1) imm (tyInt w8))) (past .16))
+          ∷ ‵ (fdies (sliceTy (tyRef (named 2) mut (tyInt w8))) (past .17))
+          ∷ ‵ (fdies (sliceTy (tyRef (named 3) mut (pointee (R .written)))) (past .18))
+          ∷ ‵ (fdies (sliceTy (tyRef (named 4) mut (tyInt w32))) (past .19))
+          ∷ ‵ (fdies (sliceTy (tyRef (named 5) imm (tyInt w8))) (past .20)) ∷ ‵ (fdies settings-laws.mir (past .21))
+          ∷ ‵ (fdies flight-laws.mir (past .22)) ∷ ‵ (fdies arrival-laws.mir (past .23)) ∷ ‵ (fdies clock-laws.mir (past .24))
+          ∷ ‵ (fdies (tyInt w64) (past .25)) ∷ ‵ (fdies (tyArray (tyInt w32) 128) (past .26)) ∷ ‵ (fdies (tyInt w64) (past .27))
+          ∷ ‵ (fdies taken-laws.mir (past .28)) ∷ ‵ (fdies flight-laws.mir (past .29)) ∷ ‵ (fdies arrival-laws.mir (past .30))
+          ∷ ‵ (fdies (tyInt w64) (past .31)) ∷ ‵ (fdies (tyArray (tyInt w32) 128) (past .32)) ∷ ‵ (fdies tyUnit (past .33))
+          ∷ ‵ (fdies (tyRef erased imm (pointee (R .written))) (past .34))
+          ∷ ‵ (fdies (sliceTy (tyRef erased imm (pointee (R .written)))) (past .35))
+          ∷ ‵ (fdies (tyRef erased imm (tyArray (tyInt w32) 32)) (past .36))
+          ∷ ‵ (fdies (tyRef erased mut (tyArray (tyInt w32) 128)) (past .37))
+          ∷ ‵ (fdies (tyRef erased imm (pointee (R .written))) (past .38))
+          ∷ ‵ (fdies (sliceTy (tyRef erased imm (pointee (R .written)))) (past .39))
+          ∷ ‵ (fdies (tyRef erased mut (tyArray (tyInt w32) 128)) (past .40))
+          ∷ ‵ (fdies (tyRef erased imm (tyArray (tyInt w32) 128)) (past .41))
+          ∷ ‵ (fdies (tyRef erased mut (tyArray (tyInt w32) 32)) (past .42))
+          ∷ ‵ (fdies (tyRef erased mut (tyArray (tyInt w8) 32)) (past .43))
+          ∷ ‵ (fdies (tyRef erased mut (tyArray (tyInt w32) 128)) (past .44))
+          ∷ ‵ (fdies (tyRef erased mut (tyArray (tyInt w32) 128)) (past .45))
+          ∷ ‵ (fdies (tyRef erased mut (tyArray (tyInt w32) 128)) (past .46)) ∷ ‵ (fdies (tyRef erased mut (tyInt w8)) (past .47))
+          ∷ ‵ (fdies (sliceTy (tyRef erased mut (tyInt w8))) (past .48)) ∷ ‵ (fdies (tyRef erased mut (tyInt w32)) (past .49))
+          ∷ ‵ (fdies (sliceTy (tyRef erased mut (tyInt w32))) (past .50))
+          ∷ ‵ (fdies (tyRef erased mut (pointee (R .written))) (past .51))
+          ∷ ‵ (fdies (sliceTy (tyRef erased mut (pointee (R .written)))) (past .52))
+          ∷ ‵ (fdies (tyRef erased imm (tyArray (tyInt w32) 32)) (past .53))
+          ∷ ‵ (fdies (tyRef erased imm (tyArray (tyInt w32) 128)) (past .54)) ∷ []) (id⊢ 𝓤 _) $
+          move ! (91 ∷ 0 ∷ 90 ∷ 1 ∷ 89 ∷ 2 ∷ 88 ∷ 3 ∷ 87 ∷ 4 ∷ 86 ∷ 5 ∷ 85 ∷ 6 ∷ 84 ∷ 7 ∷ 83 ∷ 8 ∷ 82 ∷ 9 ∷ 81
+          ∷ 10 ∷ 80 ∷ 11 ∷ 43 ∷ 12 ∷ 79 ∷ 13 ∷ 78 ∷ 14 ∷ 77 ∷ 15 ∷ 76 ∷ 16 ∷ 75 ∷ 17 ∷ 74 ∷ 18 ∷ 73 ∷ 19 ∷ 72 ∷ 20
+          ∷ 71 ∷ 21 ∷ 70 ∷ 22 ∷ 69 ∷ 23 ∷ 68 ∷ 24 ∷ 67 ∷ 25 ∷ 66 ∷ 26 ∷ 65 ∷ 27 ∷ 64 ∷ 28 ∷ 63 ∷ 29 ∷ 62 ∷ 30 ∷ 61
+          ∷ 31 ∷ 60 ∷ 32 ∷ 59 ∷ 33 ∷ 58 ∷ 34 ∷ 57 ∷ 35 ∷ 56 ∷ 36 ∷ 55 ∷ 37 ∷ 54 ∷ 38 ∷ 53 ∷ 39 ∷ 52 ∷ 40 ∷ []) $
+          forget ! 0 refl $ free1 ! $ forget ! 0 refl $ free1 ! $ forget ! 0 refl $ free1 ! $ forget ! 0 refl $ free1 ! $
+          forget ! 0 refl $ free1 ! $ forget ! 0 refl $ free1 ! $ forget ! 0 refl $ free1 ! $ forget ! 0 refl $ free1 ! $
+          forget ! 0 refl $ free1 ! $ forget ! 0 refl $ free1 ! $ forget ! 0 refl $ free1 ! $ forget ! 0 refl $ free1 ! $
+          forget ! 0 refl $ free1 ! $ forget ! 0 refl $ free1 ! $ forget ! 0 refl $ free1 ! $ forget ! 0 refl $ free1 ! $
+          forget ! 0 refl $ free1 ! $ forget ! 0 refl $ free1 ! $ forget ! 0 refl $ free1 ! $ forget ! 0 refl $ free1 ! $
+          forget ! 0 refl $ free1 ! $ forget ! 0 refl $ free1 ! $ forget ! 0 refl $ free1 ! $ forget ! 0 refl $ free1 ! $
+          forget ! 0 refl $ free1 ! $ forget ! 0 refl $ free1 ! $ forget ! 0 refl $ free1 ! $ forget ! 0 refl $ free1 ! $
+          forget ! 0 refl $ free1 ! $ forget ! 0 refl $ free1 ! $ forget ! 0 refl $ free1 ! $ forget ! 0 refl $ free1 ! $
+          forget ! 0 refl $ free1 ! $ forget ! 0 refl $ free1 ! $ forget ! 0 refl $ free1 ! $ forget ! 0 refl $ free1 ! $
+          forget ! 0 refl $ free1 ! $ forget ! 0 refl $ free1 ! $ forget ! 0 refl $ free1 ! $ forget ! 0 refl $ free1 ! $
+          forget ! 0 refl $ free1 ! $ free0 ! $
+          move ! (0 ∷ 1 ∷ 6 ∷ 5 ∷ 7 ∷ 2 ∷ 3 ∷ 4 ∷ 8 ∷ 9 ∷ []) $
+          by ! (exits r w-r (record {
+            settings = (h .settings);
+            flight = (past .69);
+            arrival = (past .72);
+            clock = (h .clock);
+            queued = (h .queued);
+            outstanding = (past .12);
+            transmissions = (past .11);
+            ready = (past .10);
+            waiting = (past .9);
+            «waiting_numbers» = (past .8);
+          }) ((past .6)) ((past .0)) ((past .5))
+          (told answerCode _ ((past .63) .answer) e-r
+          (rw ((past .71), (past .74)) (input-promised (x₅ .now) h (partsOf (x₁ .now) (x₂ .now) (x₃ .now) (x₄ .now))
+          ((past .63) .answer) (record { words = (past .12); changed = (past .63) .changed; records = (recordsIn (past .7)) })
+          (linkOf (h .settings) ((past .63) .flight) ((past .63) .arrival) (h .clock)
+          (arrays (h .queued) (past .12) (past .11) (past .10) (past .9) (past .8))) (past .6) (past .5) (past .0)
+          (records-length 32 (past .7) ((past .65) .1))
+          (put-back (x₃ .now) (past .0) (record { words = (past .12); changed = (past .63) .changed; records = (recordsIn (past .7)) })
+          (past .12) (past .75) (recordsIn (past .7)) refl (past .77) refl (past .79))
+          (input-left (x₅ .now) h (partsOf (x₁ .now) (x₂ .now) (x₃ .now) (x₄ .now)) ((past .63) .answer)
+          (record { words = (past .12); changed = (past .63) .changed; records = (recordsIn (past .7)) })
+          (linkOf (h .settings) ((past .63) .flight) ((past .63) .arrival) (h .clock)
+          (arrays (h .queued) (past .12) (past .11) (past .10) (past .9) (past .8))) (past .6) (past .5) (recordsIn (past .13))
+          (past .60) (gathers h (partsOf (x₁ .now) (x₂ .now) (x₃ .now) (x₄ .now)) (past .55) (recordsIn (past .13)) (past .60)
+          (past .57) ((past .59) .1) (past .62)) (record {
+            whole-queued = (past .81);
+            whole-outstanding = (past .82);
+            whole-transmissions = (past .83);
+            whole-ready = (past .84);
+            whole-waiting = (past .85);
+            whole-numbers = (past .86);
+          }) ((past .65) .0))))) (past .67) (past .80) (past .68) is-r))
+
       -- what part 3 knows
       abbrev Known₃ : Type 0
       Known₃ = (z₄ : List ℕ) × (z₂ : List ℕ) × (z₄ : List ℕ) × (z₂ : List ℕ) × (z-local′ : List ℕ) ×
@@ -591,76 +884,68 @@ module _ {M : Type 1} (𝓤 : URA M) (H : Heap 𝓤) (A : Atoms 𝓤) (W : Given
           (arrays (h .queued) z-outstanding z-transmissions z-ready z-waiting z-waiting-numbers) (recordsIn z-local′) z₂ z₄) ×
           (length z-local′ ≡ 128)) × (is-a : Is taken-row.the-row a (w-a ∷ [])) × (len₂ : length z₂ ≡ length (x₂ .now)) ×
           (len₄ : length z₄ ≡ length (x₄ .now)) × (was-local-2 : Is (Array u32 128) z-local′ ((array-vals (uint-vals w32)) z-local′)) ×
-          (was-outstanding′ : Is (Array u32 32) z-outstanding ((array-vals (uint-vals w32)) z-outstanding)) × (kf : Flight) × (w-kf : Val) ×
-          (e-kf : kf ≡ a .flight) × (ka : Arrival) × (w-ka : Val) × (e-ka : ka ≡ a .arrival) × (end-queued : length (h .queued) ≡ 128) ×
-          (end-outstanding : length z-outstanding ≡ 32) × (end-transmissions : length z-transmissions ≡ 32) ×
-          (end-ready : length z-ready ≡ 128) × (end-waiting : length z-waiting ≡ 128) × (length z-waiting-numbers ≡ 128)
+          (kf : Flight) × (w-kf : Val) × (e-kf : kf ≡ a .flight) × (ka : Arrival) × (w-ka : Val) × (e-ka : ka ≡ a .arrival) × (c : ℕ) ×
+          (w-c : Val) × (e-c : c ≡ a .changed) × (is-c : Is usize c (w-c ∷ [])) × (length z-outstanding ≡ 32)
 
-      part₃ : (past : Known₃) → ent 𝓤 (⋆ 𝓤 H A (‵
-          (link-own κ₀ b o γ (record {
-            settings = (h .settings);
-            flight = (past .69);
-            arrival = (past .72);
-            clock = (h .clock);
-            queued = (h .queued);
-            outstanding = (past .9);
-            transmissions = (past .8);
-            ready = (past .7);
-            waiting = (past .6);
-            «waiting_numbers» = (past .5);
-          })) ∷ ‵ (flft κ₀ q₀)
-          ∷ ‵ (fat fullShare (tyArray (tyInt w32) 128) (past .24) 0 ((only ((array-vals (uint-vals w32)) (past .4)))))
+      part₃ : (past : Known₃) → ent 𝓤 (⋆ 𝓤 H A (‵ (partAt (Array u32 32) fullShare (past .9) b (o + 636))
+          ∷ ‵ (partAt arrival-row.the-row fullShare (past .71) b (o + 72)) ∷ ‵ (partAt flight-row.the-row fullShare (past .68) b (o + 16))
+          ∷ ‵ (partAt (Array u32 128) fullShare (past .5) b (o + 1820)) ∷ ‵ (partAt (Array u32 128) fullShare (past .6) b (o + 1308))
+          ∷ ‵ (partAt (Array u32 128) fullShare (past .7) b (o + 796)) ∷ ‵ (partAt (Array u8 32) fullShare (past .8) b (o + 764))
+          ∷ ‵ (partAt (Array u32 128) fullShare (h .queued) b (o + 124))
+          ∷ ‵ (fat fullShare (tyArray (tyInt w32) 128) (past .23) 0 ((only ((array-vals (uint-vals w32)) (past .4)))))
           ∷ ‵ (finally u32 (x₄ .name) (past .2)) ∷ ‵ (finally u8 (x₂ .name) (past .3)) ∷ ‵ (flft κ₁ q₁) ∷ ‵ (flft κ₂ q₂)
           ∷ ‵ (flft κ₄ q₄) ∷ ‵ (flft κ₅ q₅) ∷ ‵ Own₃ ∷ ‵ (flft κ₃ q₃)
+          ∷ ‵ (partAt clock-row.the-row fullShare (h .clock) b (o + 104))
+          ∷ ‵ (partAt settings-row.the-row fullShare (h .settings) b (o + 0)) ∷ raw (Back 𝓤 H A fullShare b o) ∷ ‵ (Open b o γ κ₀ q₀ h)
           ∷ (‵ (fdies (tyInt w32) (past .11)) ⊛ ‵ (fdies (tyRef (named 0) mut (pointee (L .written))) (past .12)) ⊛ ‵
           (fdies (sliceTy (tyRef (named 1) imm (tyInt w8))) (past .13)) ⊛ ‵ (fdies (sliceTy (tyRef (named 2) mut (tyInt w8))) (past .14)) ⊛
           ‵ (fdies (sliceTy (tyRef (named 3) mut (pointee (R .written)))) (past .15)) ⊛ ‵
           (fdies (sliceTy (tyRef (named 4) mut (tyInt w32))) (past .16)) ⊛ ‵ (fdies (sliceTy (tyRef (named 5) imm (tyInt w8))) (past .17)) ⊛
           ‵ (fdies settings-laws.mir (past .18)) ⊛ ‵ (fdies flight-laws.mir (past .19)) ⊛ ‵ (fdies arrival-laws.mir (past .20)) ⊛ ‵
-          (fdies clock-laws.mir (past .21)) ⊛ ‵ (fdies (tyArray (tyInt w32) 32) (past .22)) ⊛ ‵ (fdies (tyInt w64) (past .23)) ⊛ ‵
-          (fdies (tyArray (tyInt w32) 128) (past .24)) ⊛ ‵ (fdies (tyInt w64) (past .25)) ⊛ ‵ (fdies taken-laws.mir (past .26)) ⊛ ‵
-          (fdies (tyArray (tyInt w32) 32) (past .27)) ⊛ ‵ (fdies flight-laws.mir (past .28)) ⊛ ‵ (fdies arrival-laws.mir (past .29)) ⊛ ‵
-          (fdies (tyInt w64) (past .30)) ⊛ ‵ (fdies (tyArray (tyInt w32) 128) (past .31)) ⊛ ‵ (fdies tyUnit (past .32)) ⊛ ‵
-          (fdies (tyRef erased imm (pointee (R .written))) (past .33)) ⊛ ‵
-          (fdies (sliceTy (tyRef erased imm (pointee (R .written)))) (past .34)) ⊛ ‵
-          (fdies (tyRef erased mut (tyArray (tyInt w32) 128)) (past .35)) ⊛ ‵ (fdies (tyRef erased imm (pointee (R .written))) (past .36)) ⊛
-          ‵ (fdies (sliceTy (tyRef erased imm (pointee (R .written)))) (past .37)) ⊛ ‵
-          (fdies (tyRef erased mut (tyArray (tyInt w32) 128)) (past .38)) ⊛ ‵
-          (fdies (tyRef erased imm (tyArray (tyInt w32) 128)) (past .39)) ⊛ ‵ (fdies (tyRef erased mut (tyArray (tyInt w32) 32)) (past .40))
-          ⊛ ‵ (fdies (tyRef erased mut (tyArray (tyInt w8) 32)) (past .41)) ⊛ ‵
+          (fdies clock-laws.mir (past .21)) ⊛ ‵ (fdies (tyInt w64) (past .22)) ⊛ ‵ (fdies (tyArray (tyInt w32) 128) (past .23)) ⊛ ‵
+          (fdies (tyInt w64) (past .24)) ⊛ ‵ (fdies taken-laws.mir (past .25)) ⊛ ‵ (fdies flight-laws.mir (past .26)) ⊛ ‵
+          (fdies arrival-laws.mir (past .27)) ⊛ ‵ (fdies (tyInt w64) (past .28)) ⊛ ‵ (fdies (tyArray (tyInt w32) 128) (past .29)) ⊛ ‵
+          (fdies tyUnit (past .30)) ⊛ ‵ (fdies (tyRef erased imm (pointee (R .written))) (past .31)) ⊛ ‵
+          (fdies (sliceTy (tyRef erased imm (pointee (R .written)))) (past .32)) ⊛ ‵
+          (fdies (tyRef erased imm (tyArray (tyInt w32) 32)) (past .33)) ⊛ ‵ (fdies (tyRef erased mut (tyArray (tyInt w32) 128)) (past .34))
+          ⊛ ‵ (fdies (tyRef erased imm (pointee (R .written))) (past .35)) ⊛ ‵
+          (fdies (sliceTy (tyRef erased imm (pointee (R .written)))) (past .36)) ⊛ ‵
+          (fdies (tyRef erased mut (tyArray (tyInt w32) 128)) (past .37)) ⊛ ‵
+          (fdies (tyRef erased imm (tyArray (tyInt w32) 128)) (past .38)) ⊛ ‵ (fdies (tyRef erased mut (tyArray (tyInt w32) 32)) (past .39))
+          ⊛ ‵ (fdies (tyRef erased mut (tyArray (tyInt w8) 32)) (past .40)) ⊛ ‵
+          (fdies (tyRef erased mut (tyArray (tyInt w32) 128)) (past .41)) ⊛ ‵
           (fdies (tyRef erased mut (tyArray (tyInt w32) 128)) (past .42)) ⊛ ‵
-          (fdies (tyRef erased mut (tyArray (tyInt w32) 128)) (past .43)) ⊛ ‵
-          (fdies (tyRef erased mut (tyArray (tyInt w32) 128)) (past .44)) ⊛ ‵ (fdies (tyRef erased mut (tyInt w8)) (past .45)) ⊛ ‵
-          (fdies (sliceTy (tyRef erased mut (tyInt w8))) (past .46)) ⊛ ‵ (fdies (tyRef erased mut (tyInt w32)) (past .47)) ⊛ ‵
-          (fdies (sliceTy (tyRef erased mut (tyInt w32))) (past .48)) ⊛ ‵ (fdies (tyRef erased mut (pointee (R .written))) (past .49)) ⊛ ‵
-          (fdies (sliceTy (tyRef erased mut (pointee (R .written)))) (past .50)) ⊛ ‵
+          (fdies (tyRef erased mut (tyArray (tyInt w32) 128)) (past .43)) ⊛ ‵ (fdies (tyRef erased mut (tyInt w8)) (past .44)) ⊛ ‵
+          (fdies (sliceTy (tyRef erased mut (tyInt w8))) (past .45)) ⊛ ‵ (fdies (tyRef erased mut (tyInt w32)) (past .46)) ⊛ ‵
+          (fdies (sliceTy (tyRef erased mut (tyInt w32))) (past .47)) ⊛ ‵ (fdies (tyRef erased mut (pointee (R .written))) (past .48)) ⊛ ‵
+          (fdies (sliceTy (tyRef erased mut (pointee (R .written)))) (past .49)) ⊛ ‵
+          (fdies (tyRef erased imm (tyArray (tyInt w32) 32)) (past .50)) ⊛ ‵
           (fdies (tyRef erased imm (tyArray (tyInt w32) 128)) (past .51)))
           ∷ ‵ (froom (tyRef erased imm (tyArray (tyInt w32) 128)) (past .51) 0)
-          ∷ ‵ (froom (sliceTy (tyRef erased mut (pointee (R .written)))) (past .50) 0)
-          ∷ ‵ (froom (tyRef erased mut (pointee (R .written))) (past .49) 0)
-          ∷ ‵ (fat fullShare (sliceTy (tyRef erased mut (tyInt w32))) (past .48) 0 (s₄))
-          ∷ ‵ (fat fullShare (tyRef erased mut (tyInt w32)) (past .47) 0 ((vptr (x₄ .ptr .0) (x₄ .ptr .1))))
-          ∷ ‵ (fat fullShare (sliceTy (tyRef erased mut (tyInt w8))) (past .46) 0 (s₂))
-          ∷ ‵ (fat fullShare (tyRef erased mut (tyInt w8)) (past .45) 0 ((vptr (x₂ .ptr .0) (x₂ .ptr .1))))
-          ∷ ‵ (fat fullShare (tyRef erased mut (tyArray (tyInt w32) 128)) (past .44) 0 ((vptr b (o + 1820))))
-          ∷ ‵ (fat fullShare (tyRef erased mut (tyArray (tyInt w32) 128)) (past .43) 0 ((vptr b (o + 1308))))
-          ∷ ‵ (fat fullShare (tyRef erased mut (tyArray (tyInt w32) 128)) (past .42) 0 ((vptr b (o + 796))))
-          ∷ ‵ (fat fullShare (tyRef erased mut (tyArray (tyInt w8) 32)) (past .41) 0 ((vptr b (o + 764))))
-          ∷ ‵ (fat fullShare (tyRef erased mut (tyArray (tyInt w32) 32)) (past .40) 0 ((vptr b (o + 636))))
-          ∷ ‵ (fat fullShare (tyRef erased imm (tyArray (tyInt w32) 128)) (past .39) 0 ((vptr b (o + 124))))
-          ∷ ‵ (fat fullShare (tyRef erased mut (tyArray (tyInt w32) 128)) (past .38) 0 ((vptr (past .24) 0)))
-          ∷ ‵ (fat fullShare (sliceTy (tyRef erased imm (pointee (R .written)))) (past .37) 0 (s₃))
-          ∷ ‵ (fat fullShare (tyRef erased imm (pointee (R .written))) (past .36) 0 ((vptr (x₃ .ptr .0) (x₃ .ptr .1))))
-          ∷ ‵ (fat fullShare (tyRef erased mut (tyArray (tyInt w32) 128)) (past .35) 0 ((vptr (past .24) 0)))
-          ∷ ‵ (fat fullShare (sliceTy (tyRef erased imm (pointee (R .written)))) (past .34) 0 (s₃))
-          ∷ ‵ (fat fullShare (tyRef erased imm (pointee (R .written))) (past .33) 0 ((vptr (x₃ .ptr .0) (x₃ .ptr .1))))
-          ∷ ‵ (fat fullShare tyUnit (past .32) 0 ((past .56))) ∷ ‵ (fat fullShare (tyArray (tyInt w32) 128) (past .31) 0 ((past .55)))
-          ∷ ‵ (froom (tyInt w64) (past .30) 0) ∷ ‵ (fat fullShare arrival-laws.mir (past .29) 0 ((past .73)))
-          ∷ ‵ (fat fullShare flight-laws.mir (past .28) 0 ((past .70)))
-          ∷ ‵ (fat fullShare (tyArray (tyInt w32) 32) (past .27) 0 ((only ((array-vals (uint-vals w32)) (past .9)))))
-          ∷ ‵ (fat fullShare taken-laws.mir (past .26) 0 ((past .62))) ∷ ‵ (fat fullShare (tyInt w64) (past .25) 0 ((past .59)))
-          ∷ ‵ (fat fullShare (tyInt w64) (past .23) 0 ((past .53)))
-          ∷ ‵ (fat fullShare (tyArray (tyInt w32) 32) (past .22) 0 ((only ((array-vals (uint-vals w32)) (h .outstanding)))))
+          ∷ ‵ (froom (tyRef erased imm (tyArray (tyInt w32) 32)) (past .50) 0)
+          ∷ ‵ (fat fullShare (sliceTy (tyRef erased mut (pointee (R .written)))) (past .49) 0 (s₃))
+          ∷ ‵ (fat fullShare (tyRef erased mut (pointee (R .written))) (past .48) 0 ((vptr (x₃ .ptr .0) (x₃ .ptr .1))))
+          ∷ ‵ (fat fullShare (sliceTy (tyRef erased mut (tyInt w32))) (past .47) 0 (s₄))
+          ∷ ‵ (fat fullShare (tyRef erased mut (tyInt w32)) (past .46) 0 ((vptr (x₄ .ptr .0) (x₄ .ptr .1))))
+          ∷ ‵ (fat fullShare (sliceTy (tyRef erased mut (tyInt w8))) (past .45) 0 (s₂))
+          ∷ ‵ (fat fullShare (tyRef erased mut (tyInt w8)) (past .44) 0 ((vptr (x₂ .ptr .0) (x₂ .ptr .1))))
+          ∷ ‵ (fat fullShare (tyRef erased mut (tyArray (tyInt w32) 128)) (past .43) 0 ((vptr b (o + 1820))))
+          ∷ ‵ (fat fullShare (tyRef erased mut (tyArray (tyInt w32) 128)) (past .42) 0 ((vptr b (o + 1308))))
+          ∷ ‵ (fat fullShare (tyRef erased mut (tyArray (tyInt w32) 128)) (past .41) 0 ((vptr b (o + 796))))
+          ∷ ‵ (fat fullShare (tyRef erased mut (tyArray (tyInt w8) 32)) (past .40) 0 ((vptr b (o + 764))))
+          ∷ ‵ (fat fullShare (tyRef erased mut (tyArray (tyInt w32) 32)) (past .39) 0 ((vptr b (o + 636))))
+          ∷ ‵ (fat fullShare (tyRef erased imm (tyArray (tyInt w32) 128)) (past .38) 0 ((vptr b (o + 124))))
+          ∷ ‵ (fat fullShare (tyRef erased mut (tyArray (tyInt w32) 128)) (past .37) 0 ((vptr (past .23) 0)))
+          ∷ ‵ (fat fullShare (sliceTy (tyRef erased imm (pointee (R .written)))) (past .36) 0 (s₃))
+          ∷ ‵ (fat fullShare (tyRef erased imm (pointee (R .written))) (past .35) 0 ((vptr (x₃ .ptr .0) (x₃ .ptr .1))))
+          ∷ ‵ (fat fullShare (tyRef erased mut (tyArray (tyInt w32) 128)) (past .34) 0 ((vptr (past .23) 0)))
+          ∷ ‵ (fat fullShare (tyRef erased imm (tyArray (tyInt w32) 32)) (past .33) 0 ((vptr b (o + 636))))
+          ∷ ‵ (fat fullShare (sliceTy (tyRef erased imm (pointee (R .written)))) (past .32) 0 (s₃))
+          ∷ ‵ (fat fullShare (tyRef erased imm (pointee (R .written))) (past .31) 0 ((vptr (x₃ .ptr .0) (x₃ .ptr .1))))
+          ∷ ‵ (fat fullShare tyUnit (past .30) 0 ((past .56))) ∷ ‵ (fat fullShare (tyArray (tyInt w32) 128) (past .29) 0 ((past .55)))
+          ∷ ‵ (fat fullShare (tyInt w64) (past .28) 0 ((past .75))) ∷ ‵ (fat fullShare arrival-laws.mir (past .27) 0 ((past .72)))
+          ∷ ‵ (fat fullShare flight-laws.mir (past .26) 0 ((past .69))) ∷ ‵ (fat fullShare taken-laws.mir (past .25) 0 ((past .62)))
+          ∷ ‵ (fat fullShare (tyInt w64) (past .24) 0 ((past .59))) ∷ ‵ (fat fullShare (tyInt w64) (past .22) 0 ((past .53)))
           ∷ ‵ (fat fullShare clock-laws.mir (past .21) 0 ((only ((LL.vals clock-row.the-type clock-laws.the-laws) (h .clock)))))
           ∷ ‵ (fat fullShare arrival-laws.mir (past .20) 0 ((only ((LL.vals arrival-row.the-type arrival-laws.the-laws) (h .arrival)))))
           ∷ ‵ (fat fullShare flight-laws.mir (past .19) 0 ((only ((LL.vals flight-row.the-type flight-laws.the-laws) (h .flight)))))
@@ -675,27 +960,21 @@ module _ {M : Type 1} (𝓤 : URA M) (H : Heap 𝓤) (A : Atoms 𝓤) (W : Given
           (past .20) (past .21) (past .22) (past .23) (past .24) (past .25) (past .26) (past .27) (past .28) (past .29) (past .30)
           (past .31) (past .32) (past .33) (past .34) (past .35) (past .36) (past .37) (past .38) (past .39) (past .40) (past .41)
           (past .42) (past .43) (past .44) (past .45) (past .46) (past .47) (past .48) (past .49) (past .50) (past .51))
-          (behind 32 (code.function .body)) (atReturn 𝓤 H
+          (behind 34 (code.function .body)) (atReturn 𝓤 H
           (En (past .11) (past .12) (past .13) (past .14) (past .15) (past .16) (past .17) (past .18) (past .19) (past .20) (past .21)
           (past .22) (past .23) (past .24) (past .25) (past .26) (past .27) (past .28) (past .29) (past .30) (past .31) (past .32)
           (past .33) (past .34) (past .35) (past .36) (past .37) (past .38) (past .39) (past .40) (past .41) (past .42) (past .43)
           (past .44) (past .45) (past .46) (past .47) (past .48) (past .49) (past .50) (past .51)) Post))
       part₃ past =
-          qed W (‵ (link-own κ₀ b o γ (record {
-            settings = (h .settings);
-            flight = (past .69);
-            arrival = (past .72);
-            clock = (h .clock);
-            queued = (h .queued);
-            outstanding = (past .9);
-            transmissions = (past .8);
-            ready = (past .7);
-            waiting = (past .6);
-            «waiting_numbers» = (past .5);
-          })) ∷ ‵ (flft κ₀ q₀)
-          ∷ ‵ (fat fullShare (tyArray (tyInt w32) 128) (past .24) 0 ((only ((array-vals (uint-vals w32)) (past .4)))))
+          qed W (‵ (partAt (Array u32 32) fullShare (past .9) b (o + 636)) ∷ ‵ (partAt arrival-row.the-row fullShare (past .71) b (o + 72))
+          ∷ ‵ (partAt flight-row.the-row fullShare (past .68) b (o + 16)) ∷ ‵ (partAt (Array u32 128) fullShare (past .5) b (o + 1820))
+          ∷ ‵ (partAt (Array u32 128) fullShare (past .6) b (o + 1308)) ∷ ‵ (partAt (Array u32 128) fullShare (past .7) b (o + 796))
+          ∷ ‵ (partAt (Array u8 32) fullShare (past .8) b (o + 764)) ∷ ‵ (partAt (Array u32 128) fullShare (h .queued) b (o + 124))
+          ∷ ‵ (fat fullShare (tyArray (tyInt w32) 128) (past .23) 0 ((only ((array-vals (uint-vals w32)) (past .4)))))
           ∷ ‵ (finally u32 (x₄ .name) (past .2)) ∷ ‵ (finally u8 (x₂ .name) (past .3)) ∷ ‵ (flft κ₁ q₁) ∷ ‵ (flft κ₂ q₂)
           ∷ ‵ (flft κ₄ q₄) ∷ ‵ (flft κ₅ q₅) ∷ ‵ Own₃ ∷ ‵ (flft κ₃ q₃)
+          ∷ ‵ (partAt clock-row.the-row fullShare (h .clock) b (o + 104))
+          ∷ ‵ (partAt settings-row.the-row fullShare (h .settings) b (o + 0)) ∷ raw (Back 𝓤 H A fullShare b o) ∷ ‵ (Open b o γ κ₀ q₀ h)
           ∷ (‵ (fdies (tyInt w32) (past .11)) ⊛ ‵ (fdies (tyRef (named 0) mut (pointee (L .written))) (past .12)) ⊛ ‵
           (fdies (sliceTy (tyRef (named 1) imm (tyInt w8))) (past .13)) ⊛ ‵
           (fdies (sliceTy (tyRef (named 2) mut (tyInt w8))) (past .14)) ⊛ ‵
@@ -703,52 +982,52 @@ module _ {M : Type 1} (𝓤 : URA M) (H : Heap 𝓤) (A : Atoms 𝓤) (W : Given
           (fdies (sliceTy (tyRef (named 4) mut (tyInt w32))) (past .16)) ⊛ ‵
           (fdies (sliceTy (tyRef (named 5) imm (tyInt w8))) (past .17)) ⊛ ‵ (fdies settings-laws.mir (past .18)) ⊛ ‵
           (fdies flight-laws.mir (past .19)) ⊛ ‵ (fdies arrival-laws.mir (past .20)) ⊛ ‵ (fdies clock-laws.mir (past .21)) ⊛ ‵
-          (fdies (tyArray (tyInt w32) 32) (past .22)) ⊛ ‵ (fdies (tyInt w64) (past .23)) ⊛ ‵
-          (fdies (tyArray (tyInt w32) 128) (past .24)) ⊛ ‵ (fdies (tyInt w64) (past .25)) ⊛ ‵ (fdies taken-laws.mir (past .26)) ⊛ ‵
-          (fdies (tyArray (tyInt w32) 32) (past .27)) ⊛ ‵ (fdies flight-laws.mir (past .28)) ⊛ ‵ (fdies arrival-laws.mir (past .29)) ⊛ ‵
-          (fdies (tyInt w64) (past .30)) ⊛ ‵ (fdies (tyArray (tyInt w32) 128) (past .31)) ⊛ ‵ (fdies tyUnit (past .32)) ⊛ ‵
-          (fdies (tyRef erased imm (pointee (R .written))) (past .33)) ⊛ ‵
-          (fdies (sliceTy (tyRef erased imm (pointee (R .written)))) (past .34)) ⊛ ‵
-          (fdies (tyRef erased mut (tyArray (tyInt w32) 128)) (past .35)) ⊛ ‵
-          (fdies (tyRef erased imm (pointee (R .written))) (past .36)) ⊛ ‵
-          (fdies (sliceTy (tyRef erased imm (pointee (R .written)))) (past .37)) ⊛ ‵
-          (fdies (tyRef erased mut (tyArray (tyInt w32) 128)) (past .38)) ⊛ ‵
-          (fdies (tyRef erased imm (tyArray (tyInt w32) 128)) (past .39)) ⊛ ‵
-          (fdies (tyRef erased mut (tyArray (tyInt w32) 32)) (past .40)) ⊛ ‵
-          (fdies (tyRef erased mut (tyArray (tyInt w8) 32)) (past .41)) ⊛ ‵
+          (fdies (tyInt w64) (past .22)) ⊛ ‵ (fdies (tyArray (tyInt w32) 128) (past .23)) ⊛ ‵ (fdies (tyInt w64) (past .24)) ⊛ ‵
+          (fdies taken-laws.mir (past .25)) ⊛ ‵ (fdies flight-laws.mir (past .26)) ⊛ ‵ (fdies arrival-laws.mir (past .27)) ⊛ ‵
+          (fdies (tyInt w64) (past .28)) ⊛ ‵ (fdies (tyArray (tyInt w32) 128) (past .29)) ⊛ ‵ (fdies tyUnit (past .30)) ⊛ ‵
+          (fdies (tyRef erased imm (pointee (R .written))) (past .31)) ⊛ ‵
+          (fdies (sliceTy (tyRef erased imm (pointee (R .written)))) (past .32)) ⊛ ‵
+          (fdies (tyRef erased imm (tyArray (tyInt w32) 32)) (past .33)) ⊛ ‵
+          (fdies (tyRef erased mut (tyArray (tyInt w32) 128)) (past .34)) ⊛ ‵
+          (fdies (tyRef erased imm (pointee (R .written))) (past .35)) ⊛ ‵
+          (fdies (sliceTy (tyRef erased imm (pointee (R .written)))) (past .36)) ⊛ ‵
+          (fdies (tyRef erased mut (tyArray (tyInt w32) 128)) (past .37)) ⊛ ‵
+          (fdies (tyRef erased imm (tyArray (tyInt w32) 128)) (past .38)) ⊛ ‵
+          (fdies (tyRef erased mut (tyArray (tyInt w32) 32)) (past .39)) ⊛ ‵
+          (fdies (tyRef erased mut (tyArray (tyInt w8) 32)) (past .40)) ⊛ ‵
+          (fdies (tyRef erased mut (tyArray (tyInt w32) 128)) (past .41)) ⊛ ‵
           (fdies (tyRef erased mut (tyArray (tyInt w32) 128)) (past .42)) ⊛ ‵
-          (fdies (tyRef erased mut (tyArray (tyInt w32) 128)) (past .43)) ⊛ ‵
-          (fdies (tyRef erased mut (tyArray (tyInt w32) 128)) (past .44)) ⊛ ‵ (fdies (tyRef erased mut (tyInt w8)) (past .45)) ⊛ ‵
-          (fdies (sliceTy (tyRef erased mut (tyInt w8))) (past .46)) ⊛ ‵ (fdies (tyRef erased mut (tyInt w32)) (past .47)) ⊛ ‵
-          (fdies (sliceTy (tyRef erased mut (tyInt w32))) (past .48)) ⊛ ‵ (fdies (tyRef erased mut (pointee (R .written))) (past .49)) ⊛
-          ‵ (fdies (sliceTy (tyRef erased mut (pointee (R .written)))) (past .50)) ⊛ ‵
+          (fdies (tyRef erased mut (tyArray (tyInt w32) 128)) (past .43)) ⊛ ‵ (fdies (tyRef erased mut (tyInt w8)) (past .44)) ⊛ ‵
+          (fdies (sliceTy (tyRef erased mut (tyInt w8))) (past .45)) ⊛ ‵ (fdies (tyRef erased mut (tyInt w32)) (past .46)) ⊛ ‵
+          (fdies (sliceTy (tyRef erased mut (tyInt w32))) (past .47)) ⊛ ‵ (fdies (tyRef erased mut (pointee (R .written))) (past .48)) ⊛
+          ‵ (fdies (sliceTy (tyRef erased mut (pointee (R .written)))) (past .49)) ⊛ ‵
+          (fdies (tyRef erased imm (tyArray (tyInt w32) 32)) (past .50)) ⊛ ‵
           (fdies (tyRef erased imm (tyArray (tyInt w32) 128)) (past .51)))
           ∷ ‵ (froom (tyRef erased imm (tyArray (tyInt w32) 128)) (past .51) 0)
-          ∷ ‵ (froom (sliceTy (tyRef erased mut (pointee (R .written)))) (past .50) 0)
-          ∷ ‵ (froom (tyRef erased mut (pointee (R .written))) (past .49) 0)
-          ∷ ‵ (fat fullShare (sliceTy (tyRef erased mut (tyInt w32))) (past .48) 0 (s₄))
-          ∷ ‵ (fat fullShare (tyRef erased mut (tyInt w32)) (past .47) 0 ((vptr (x₄ .ptr .0) (x₄ .ptr .1))))
-          ∷ ‵ (fat fullShare (sliceTy (tyRef erased mut (tyInt w8))) (past .46) 0 (s₂))
-          ∷ ‵ (fat fullShare (tyRef erased mut (tyInt w8)) (past .45) 0 ((vptr (x₂ .ptr .0) (x₂ .ptr .1))))
-          ∷ ‵ (fat fullShare (tyRef erased mut (tyArray (tyInt w32) 128)) (past .44) 0 ((vptr b (o + 1820))))
-          ∷ ‵ (fat fullShare (tyRef erased mut (tyArray (tyInt w32) 128)) (past .43) 0 ((vptr b (o + 1308))))
-          ∷ ‵ (fat fullShare (tyRef erased mut (tyArray (tyInt w32) 128)) (past .42) 0 ((vptr b (o + 796))))
-          ∷ ‵ (fat fullShare (tyRef erased mut (tyArray (tyInt w8) 32)) (past .41) 0 ((vptr b (o + 764))))
-          ∷ ‵ (fat fullShare (tyRef erased mut (tyArray (tyInt w32) 32)) (past .40) 0 ((vptr b (o + 636))))
-          ∷ ‵ (fat fullShare (tyRef erased imm (tyArray (tyInt w32) 128)) (past .39) 0 ((vptr b (o + 124))))
-          ∷ ‵ (fat fullShare (tyRef erased mut (tyArray (tyInt w32) 128)) (past .38) 0 ((vptr (past .24) 0)))
-          ∷ ‵ (fat fullShare (sliceTy (tyRef erased imm (pointee (R .written)))) (past .37) 0 (s₃))
-          ∷ ‵ (fat fullShare (tyRef erased imm (pointee (R .written))) (past .36) 0 ((vptr (x₃ .ptr .0) (x₃ .ptr .1))))
-          ∷ ‵ (fat fullShare (tyRef erased mut (tyArray (tyInt w32) 128)) (past .35) 0 ((vptr (past .24) 0)))
-          ∷ ‵ (fat fullShare (sliceTy (tyRef erased imm (pointee (R .written)))) (past .34) 0 (s₃))
-          ∷ ‵ (fat fullShare (tyRef erased imm (pointee (R .written))) (past .33) 0 ((vptr (x₃ .ptr .0) (x₃ .ptr .1))))
-          ∷ ‵ (fat fullShare tyUnit (past .32) 0 ((past .56))) ∷ ‵ (fat fullShare (tyArray (tyInt w32) 128) (past .31) 0 ((past .55)))
-          ∷ ‵ (froom (tyInt w64) (past .30) 0) ∷ ‵ (fat fullShare arrival-laws.mir (past .29) 0 ((past .73)))
-          ∷ ‵ (fat fullShare flight-laws.mir (past .28) 0 ((past .70)))
-          ∷ ‵ (fat fullShare (tyArray (tyInt w32) 32) (past .27) 0 ((only ((array-vals (uint-vals w32)) (past .9)))))
-          ∷ ‵ (fat fullShare taken-laws.mir (past .26) 0 ((past .62))) ∷ ‵ (fat fullShare (tyInt w64) (past .25) 0 ((past .59)))
-          ∷ ‵ (fat fullShare (tyInt w64) (past .23) 0 ((past .53)))
-          ∷ ‵ (fat fullShare (tyArray (tyInt w32) 32) (past .22) 0 ((only ((array-vals (uint-vals w32)) (h .outstanding)))))
+          ∷ ‵ (froom (tyRef erased imm (tyArray (tyInt w32) 32)) (past .50) 0)
+          ∷ ‵ (fat fullShare (sliceTy (tyRef erased mut (pointee (R .written)))) (past .49) 0 (s₃))
+          ∷ ‵ (fat fullShare (tyRef erased mut (pointee (R .written))) (past .48) 0 ((vptr (x₃ .ptr .0) (x₃ .ptr .1))))
+          ∷ ‵ (fat fullShare (sliceTy (tyRef erased mut (tyInt w32))) (past .47) 0 (s₄))
+          ∷ ‵ (fat fullShare (tyRef erased mut (tyInt w32)) (past .46) 0 ((vptr (x₄ .ptr .0) (x₄ .ptr .1))))
+          ∷ ‵ (fat fullShare (sliceTy (tyRef erased mut (tyInt w8))) (past .45) 0 (s₂))
+          ∷ ‵ (fat fullShare (tyRef erased mut (tyInt w8)) (past .44) 0 ((vptr (x₂ .ptr .0) (x₂ .ptr .1))))
+          ∷ ‵ (fat fullShare (tyRef erased mut (tyArray (tyInt w32) 128)) (past .43) 0 ((vptr b (o + 1820))))
+          ∷ ‵ (fat fullShare (tyRef erased mut (tyArray (tyInt w32) 128)) (past .42) 0 ((vptr b (o + 1308))))
+          ∷ ‵ (fat fullShare (tyRef erased mut (tyArray (tyInt w32) 128)) (past .41) 0 ((vptr b (o + 796))))
+          ∷ ‵ (fat fullShare (tyRef erased mut (tyArray (tyInt w8) 32)) (past .40) 0 ((vptr b (o + 764))))
+          ∷ ‵ (fat fullShare (tyRef erased mut (tyArray (tyInt w32) 32)) (past .39) 0 ((vptr b (o + 636))))
+          ∷ ‵ (fat fullShare (tyRef erased imm (tyArray (tyInt w32) 128)) (past .38) 0 ((vptr b (o + 124))))
+          ∷ ‵ (fat fullShare (tyRef erased mut (tyArray (tyInt w32) 128)) (past .37) 0 ((vptr (past .23) 0)))
+          ∷ ‵ (fat fullShare (sliceTy (tyRef erased imm (pointee (R .written)))) (past .36) 0 (s₃))
+          ∷ ‵ (fat fullShare (tyRef erased imm (pointee (R .written))) (past .35) 0 ((vptr (x₃ .ptr .0) (x₃ .ptr .1))))
+          ∷ ‵ (fat fullShare (tyRef erased mut (tyArray (tyInt w32) 128)) (past .34) 0 ((vptr (past .23) 0)))
+          ∷ ‵ (fat fullShare (tyRef erased imm (tyArray (tyInt w32) 32)) (past .33) 0 ((vptr b (o + 636))))
+          ∷ ‵ (fat fullShare (sliceTy (tyRef erased imm (pointee (R .written)))) (past .32) 0 (s₃))
+          ∷ ‵ (fat fullShare (tyRef erased imm (pointee (R .written))) (past .31) 0 ((vptr (x₃ .ptr .0) (x₃ .ptr .1))))
+          ∷ ‵ (fat fullShare tyUnit (past .30) 0 ((past .56))) ∷ ‵ (fat fullShare (tyArray (tyInt w32) 128) (past .29) 0 ((past .55)))
+          ∷ ‵ (fat fullShare (tyInt w64) (past .28) 0 ((past .75))) ∷ ‵ (fat fullShare arrival-laws.mir (past .27) 0 ((past .72)))
+          ∷ ‵ (fat fullShare flight-laws.mir (past .26) 0 ((past .69))) ∷ ‵ (fat fullShare taken-laws.mir (past .25) 0 ((past .62)))
+          ∷ ‵ (fat fullShare (tyInt w64) (past .24) 0 ((past .59))) ∷ ‵ (fat fullShare (tyInt w64) (past .22) 0 ((past .53)))
           ∷ ‵ (fat fullShare clock-laws.mir (past .21) 0 ((only ((LL.vals clock-row.the-type clock-laws.the-laws) (h .clock)))))
           ∷ ‵ (fat fullShare arrival-laws.mir (past .20) 0 ((only ((LL.vals arrival-row.the-type arrival-laws.the-laws) (h .arrival)))))
           ∷ ‵ (fat fullShare flight-laws.mir (past .19) 0 ((only ((LL.vals flight-row.the-type flight-laws.the-laws) (h .flight)))))
@@ -764,110 +1043,67 @@ module _ {M : Type 1} (𝓤 : URA M) (H : Heap 𝓤) (A : Atoms 𝓤) (W : Given
           (past .20) (past .21) (past .22) (past .23) (past .24) (past .25) (past .26) (past .27) (past .28) (past .29) (past .30)
           (past .31) (past .32) (past .33) (past .34) (past .35) (past .36) (past .37) (past .38) (past .39) (past .40) (past .41)
           (past .42) (past .43) (past .44) (past .45) (past .46) (past .47) (past .48) (past .49) (past .50) (past .51))
-          (behind 32 (code.function .body)) (atRet (En (past .11) (past .12) (past .13) (past .14) (past .15) (past .16) (past .17)
+          (behind 34 (code.function .body)) (atRet (En (past .11) (past .12) (past .13) (past .14) (past .15) (past .16) (past .17)
           (past .18) (past .19) (past .20) (past .21) (past .22) (past .23) (past .24) (past .25) (past .26) (past .27) (past .28)
           (past .29) (past .30) (past .31) (past .32) (past .33) (past .34) (past .35) (past .36) (past .37) (past .38) (past .39)
           (past .40) (past .41) (past .42) (past .43) (past .44) (past .45) (past .46) (past .47) (past .48) (past .49) (past .50)
           (past .51)) Post) $
-          nothing ! $ calls-fn ! fm changed-of.ended (changed-of.clauses 𝓤 H A at-mem run) (known .7)
-          ((tt, tt, tt, ((past .61), tt), ((past .62) ∷ [], tt)), tt) (λ c _. c ≡ (past .61) .changed)
-          (‵ ftrue) (plainly 𝓤 H A W (taken-row.the-row ∷ []) ((LL.makes taken-row.the-type taken-laws.the-plain 𝓤 H A), tt)
-          ((past .61), tt) ((past .62) ∷ [], tt) ((past .64), tt)) (λ c _. id⊢ 𝓤 _)
-          (and-then ! (load ! (from ! (stop !)) (look ! 38 refl)) (no-more !))
-          (λ c w-c _ e-c is-c. drop ! $ drop ! $ land ! (from ! (stop !)) (init ! 33 refl (uint-lawful 𝓤 H A W w64 .typed c _ is-c .0)) $
-          assigns ! {v = (vptr (x₃ .ptr .0) (x₃ .ptr .1))}
-          (addr ! (from ! (fld ! refl (hop ! (look-in ! 47 (sub ! 0 refl (whole !))) (stop !))))) (from ! (stop !))
-          (init ! 14 refl (tt, tt)) $
-          assigns ! {v = s₃} (agg ! (and-then ! (load ! (from ! (stop !)) (look ! 14 refl))
-          (and-then ! (load ! (from ! (fld ! refl (stop !))) (look-in ! 47 (sub ! 1 refl (whole !)))) (no-more !)))) (from ! (stop !))
-          (init ! 13 refl (tt, (tt, (record { fits = room₃ .0 }, tt)))) $
-          assigns ! {v = (vptr (past .24) 0)} (addr ! (from ! (stop !))) (from ! (stop !)) (init ! 12 refl (tt, tt)) $
-          move ! (2 ∷ []) $ use1 W (‵ (cellAt fullShare ((tyArray (tyInt w32) 128) ∷ [])
-          ((only ((array-vals (uint-vals w32)) (past .4))) ∷ []) (past .24) 0))
-          (W .laws .at-raw fullShare (tyArray (tyInt w32) 128) (past .24) 0 (only ((array-vals (uint-vals w32)) (past .4)))) $
-          cell-in ! fullShare (Array u32 128) (array-makes 𝓤 H A W u32 (uint-makes 𝓤 H A W w32) 128) (past .4) (past .24) 0
+          assigns ! {v = (vptr b (o + 636))} (addr ! (from ! (hop ! (look ! 60 refl) (fld ! {d = 636} refl (stop !))))) (from ! (stop !))
+          (init ! 23 refl (tt, tt)) $
+          assigns ! {v = (vptr (past .23) 0)} (addr ! (from ! (stop !))) (from ! (stop !)) (init ! 22 refl (tt, tt)) $
+          lend-shr ! tt fullShare (Array u32 32) (past .9) b (o + 636)
+          (λ α-outstanding′′ δ-outstanding′′. move ! (10 ∷ []) $
+          use1 W (‵ (cellAt fullShare ((tyArray (tyInt w32) 128) ∷ []) ((only ((array-vals (uint-vals w32)) (past .4))) ∷ []) (past .23)
+          0)) (W .laws .at-raw fullShare (tyArray (tyInt w32) 128) (past .23) 0 (only ((array-vals (uint-vals w32)) (past .4)))) $
+          cell-in ! fullShare (Array u32 128) (array-makes 𝓤 H A W u32 (uint-makes 𝓤 H A W w32) 128) (past .4) (past .23) 0
           (only ((array-vals (uint-vals w32)) (past .4))) (past .67) $
-          lend-shr ! tt fullShare (Array u32 128) (past .4) (past .24) 0
-          (λ α-local′′ δ-local′′. move ! (12 ∷ 11 ∷ 0 ∷ 1 ∷ []) $ group ! 4 $
+          lend-shr ! tt fullShare (Array u32 128) (past .4) (past .23) 0
+          (λ α-local′′ δ-local′′. move ! (20 ∷ 19 ∷ 3 ∷ 4 ∷ 0 ∷ 1 ∷ []) $ group ! 6 $
           calls-fn ! fm scatter.ended (scatter.clauses 𝓤 H A at-mem run) (known .8)
-          (to-scatter (past .24) α-local′′ δ-local′′ (past .4) (past .9) (only ((array-vals (uint-vals w32)) (past .9))) c w-c)
-          (λ u ws-u. (ws-u .0) ≡ scattered (x₃ .now) (slotsIn (past .9) c) (recordsIn (past .4)))
-          (‵ (flft κ₃ q₃) ⊛ ‵ Own₃ ⊛ ‵ (flft (α-local′′ ∷ []) fullShare) ⊛ ‵
-          (ShrRef (named 0) (α-local′′ ∷ []) (Array u32 128) .own (ref-at (past .24) 0 δ-local′′ (past .4)) ((vptr (past .24) 0) ∷ [])))
-          (asks-scatter (past .24) α-local′′ δ-local′′ (past .4) (past .9) (only ((array-vals (uint-vals w32)) (past .9))) (past .68) c w-c
-          is-c ((past .63) .1)) (λ u ws-u. id⊢ 𝓤 _)
-          (and-then ! (load ! (from ! (stop !)) (look ! 12 refl))
-          (and-then ! (load ! (from ! (stop !)) (look ! 35 refl))
-          (and-then ! (load ! (from ! (stop !)) (look ! 32 refl)) (and-then ! (load ! (from ! (stop !)) (look ! 11 refl)) (no-more !)))))
-          (λ u w-u ws-u e-u is-u. land ! (from ! (stop !)) (store ! 31 refl (nothing-lawful 𝓤 H A W .typed u _ is-u .0)) $
-          spread W (‵ (flft κ₃ q₃)) (‵ (flft (α-local′′ ∷ []) fullShare) ∷ ‵ ftrue ∷ []) (id⊢ 𝓤 _) $ move ! (3 ∷ []) $
+          (to-scatter α-outstanding′′ δ-outstanding′′ (past .9) (past .23) α-local′′ δ-local′′ (past .4) (past .74) (past .75))
+          (λ u ws-u. (ws-u .0) ≡ scattered (x₃ .now) (slotsIn (past .9) (past .74)) (recordsIn (past .4)))
+          (‵ (flft κ₃ q₃) ⊛ ‵ Own₃ ⊛ ‵ (flft (α-outstanding′′ ∷ []) fullShare) ⊛ ‵
+          (ShrRef (named 0) (α-outstanding′′ ∷ []) (Array u32 32) .own (ref-at b (o + 636) δ-outstanding′′ (past .9))
+          ((vptr b (o + 636)) ∷ [])) ⊛ ‵ (flft (α-local′′ ∷ []) fullShare) ⊛ ‵
+          (ShrRef (named 0) (α-local′′ ∷ []) (Array u32 128) .own (ref-at (past .23) 0 δ-local′′ (past .4)) ((vptr (past .23) 0) ∷ [])))
+          (asks-scatter α-outstanding′′ δ-outstanding′′ (past .9) (past .23) α-local′′ δ-local′′ (past .4) (past .74) (past .75) (past .77)
+          ((past .78), (past .63) .1)) (λ u ws-u. id⊢ 𝓤 _)
+          (and-then ! (load ! (from ! (stop !)) (look ! 23 refl))
+          (and-then ! (load ! (from ! (stop !)) (look ! 22 refl))
+          (and-then ! (load ! (from ! (stop !)) (look ! 44 refl)) (and-then ! (load ! (from ! (stop !)) (look ! 21 refl)) (no-more !)))))
+          (λ u w-u ws-u e-u is-u. land ! (from ! (stop !)) (store ! 43 refl (nothing-lawful 𝓤 H A W .typed u _ is-u .0)) $
+          spread W (‵ (flft κ₃ q₃)) (‵ (flft (α-outstanding′′ ∷ []) fullShare) ∷ ‵ (flft (α-local′′ ∷ []) fullShare) ∷ ‵ ftrue
+          ∷ []) (id⊢ 𝓤 _) $ move ! (4 ∷ []) $
           spread W (‵ (fsep (finally R (x₃ .name) (ws-u .0)) (feq ℕ (length (ws-u .0)) (length (x₃ .now)))))
           (‵ ftrue ∷ ‵ ftrue ∷ ‵ ftrue ∷ ‵ ftrue ∷ []) (id⊢ 𝓤 _) $
-          keep ! (0 ∷ 5 ∷ 6 ∷ 8 ∷ 9 ∷ 10 ∷ 11 ∷ 12 ∷ 13 ∷ 14 ∷ 15 ∷ 16 ∷ 17 ∷ 18 ∷ 19 ∷ 20 ∷ 21 ∷ 22 ∷ 23 ∷ 24 ∷ 25
+          keep ! (0 ∷ 5 ∷ 6 ∷ 7 ∷ 9 ∷ 10 ∷ 11 ∷ 12 ∷ 13 ∷ 14 ∷ 15 ∷ 16 ∷ 17 ∷ 18 ∷ 19 ∷ 20 ∷ 21 ∷ 22 ∷ 23 ∷ 24 ∷ 25
           ∷ 26 ∷ 27 ∷ 28 ∷ 29 ∷ 30 ∷ 31 ∷ 32 ∷ 33 ∷ 34 ∷ 35 ∷ 36 ∷ 37 ∷ 38 ∷ 39 ∷ 40 ∷ 41 ∷ 42 ∷ 43 ∷ 44 ∷ 45 ∷ 46
-          ∷ 47 ∷ 48 ∷ 49 ∷ 50 ∷ 51 ∷ 52 ∷ 53 ∷ 54 ∷ 55 ∷ 56 ∷ 57 ∷ []) $ fsplit ! $ move ! (1 ∷ []) $ feqL ! (λ len₃.
-          -- [fin3; tok3; tok:@13; lent:@13; own0; tok0; fin4; fin2; tok1; tok2; tok4; tok5; deaths; the locals]
-          move ! (2 ∷ 3 ∷ []) $ back-shr ! tt fullShare (Array u32 128) (past .24) 0 (past .4) $
+          ∷ 47 ∷ 48 ∷ 49 ∷ 50 ∷ 51 ∷ 52 ∷ 53 ∷ 54 ∷ 55 ∷ 56 ∷ 57 ∷ 58 ∷ 59 ∷ 60 ∷ 61 ∷ 62 ∷ 63 ∷ 64 ∷ 65 ∷ 66 ∷ 67
+          ∷ 68 ∷ []) $ fsplit ! $ move ! (1 ∷ []) $ feqL ! (λ len₃.
+          -- [fin3; tok3; tok:outstanding; tok:@12; lent:@12; lent:outstanding; F:arrival; F:flight; F:«waiting_numbers»; F:waiting;
+          -- F:ready; F:transmissions; F:queued; fin4; fin2; tok1; tok2; tok4; tok5; F:clock; F:settings; back; opened; deaths; the locals]
+          move ! (2 ∷ 5 ∷ []) $ back-shr ! tt fullShare (Array u32 32) b (o + 636) (past .9) $ move ! (3 ∷ 4 ∷ []) $
+          back-shr ! tt fullShare (Array u32 128) (past .23) 0 (past .4) $
           cell-out ! fullShare (Array u32 128) (array-vals (uint-vals w32)) (array-tells u32 (uint-vals w32) (uint-tells w32) 128)
-          (past .4) (past .24) 0 (λ was-local-3. use1 W
-          (‵ (fat fullShare (tyArray (tyInt w32) 128) (past .24) 0 (only ((array-vals (uint-vals w32)) (past .4)))))
-          (W .laws .raw-at fullShare (tyArray (tyInt w32) 128) (past .24) 0 (only ((array-vals (uint-vals w32)) (past .4)))) $
-          nothing ! $ calls-fn ! fm code-of.ended (code-of.clauses 𝓤 H A at-mem run) (known .9)
-          ((tt, tt, tt, ((past .61), tt), ((past .62) ∷ [], tt)), tt) (λ r _. r ≡ answerCode ((past .61) .answer))
-          (‵ ftrue) (plainly 𝓤 H A W (taken-row.the-row ∷ []) ((LL.makes taken-row.the-type taken-laws.the-plain 𝓤 H A), tt)
-          ((past .61), tt) ((past .62) ∷ [], tt) ((past .64), tt)) (λ r _. id⊢ 𝓤 _)
-          (and-then ! (load ! (from ! (stop !)) (look ! 38 refl)) (no-more !))
-          (λ r w-r _ e-r is-r. drop ! $ drop ! $ land ! (from ! (stop !)) (init ! 51 refl (sint-lawful 𝓤 H A W w32 .typed r _ is-r .0)) $
-          returns ! (look ! 51 refl) $
-          move ! (11 ∷ []) $ spread W (‵ (fdies (tyInt w32) (past .11)))
-          (‵ (fdies (tyRef (named 0) mut (pointee (L .written))) (past .12))
-          ∷ ‵ (fdies (sliceTy (tyRef (named 1) imm (tyInt w8))) (past .13))
-          ∷ ‵ (fdies (sliceTy (tyRef (named 2) mut (tyInt w8))) (past .14))
-          ∷ ‵ (fdies (sliceTy (tyRef (named 3) mut (pointee (R .written)))) (past .15))
-          ∷ ‵ (fdies (sliceTy (tyRef (named 4) mut (tyInt w32))) (past .16))
-          ∷ ‵ (fdies (sliceTy (tyRef (named 5) imm (tyInt w8))) (past .17)) ∷ ‵ (fdies settings-laws.mir (past .18))
-          ∷ ‵ (fdies flight-laws.mir (past .19)) ∷ ‵ (fdies arrival-laws.mir (past .20)) ∷ ‵ (fdies clock-laws.mir (past .21))
-          ∷ ‵ (fdies (tyArray (tyInt w32) 32) (past .22)) ∷ ‵ (fdies (tyInt w64) (past .23))
-          ∷ ‵ (fdies (tyArray (tyInt w32) 128) (past .24)) ∷ ‵ (fdies (tyInt w64) (past .25)) ∷ ‵ (fdies taken-laws.mir (past .26))
-          ∷ ‵ (fdies (tyArray (tyInt w32) 32) (past .27)) ∷ ‵ (fdies flight-laws.mir (past .28)) ∷ ‵ (fdies arrival-laws.mir (past .29))
-          ∷ ‵ (fdies (tyInt w64) (past .30)) ∷ ‵ (fdies (tyArray (tyInt w32) 128) (past .31)) ∷ ‵ (fdies tyUnit (past .32))
-          ∷ ‵ (fdies (tyRef erased imm (pointee (R .written))) (past .33))
-          ∷ ‵ (fdies (sliceTy (tyRef erased imm (pointee (R .written)))) (past .34))
-          ∷ ‵ (fdies (tyRef erased mut (tyArray (tyInt w32) 128)) (past .35))
-          ∷ ‵ (fdies (tyRef erased imm (pointee (R .written))) (past .36))
-          ∷ ‵ (fdies (sliceTy (tyRef erased imm (pointee (R .written)))) (past .37))
-          ∷ ‵ (fdies (tyRef erased mut (tyArray (tyInt w32) 128)) (past .38))
-          ∷ ‵ (fdies (tyRef erased imm (tyArray (tyInt w32) 128)) (past .39))
-          ∷ ‵ (fdies (tyRef erased mut (tyArray (tyInt w32) 32)) (past .40))
-          ∷ ‵ (fdies (tyRef erased mut (tyArray (tyInt w8) 32)) (past .41))
-          ∷ ‵ (fdies (tyRef erased mut (tyArray (tyInt w32) 128)) (past .42))
-          ∷ ‵ (fdies (tyRef erased mut (tyArray (tyInt w32) 128)) (past .43))
-          ∷ ‵ (fdies (tyRef erased mut (tyArray (tyInt w32) 128)) (past .44)) ∷ ‵ (fdies (tyRef erased mut (tyInt w8)) (past .45))
-          ∷ ‵ (fdies (sliceTy (tyRef erased mut (tyInt w8))) (past .46)) ∷ ‵ (fdies (tyRef erased mut (tyInt w32)) (past .47))
-          ∷ ‵ (fdies (sliceTy (tyRef erased mut (tyInt w32))) (past .48))
-          ∷ ‵ (fdies (tyRef erased mut (pointee (R .written))) (past .49))
-          ∷ ‵ (fdies (sliceTy (tyRef erased mut (pointee (R .written)))) (past .50))
-          ∷ ‵ (fdies (tyRef erased imm (tyArray (tyInt w32) 128)) (past .51)) ∷ []) (id⊢ 𝓤 _) $
-          move ! (91 ∷ 0 ∷ 90 ∷ 1 ∷ 89 ∷ 2 ∷ 88 ∷ 3 ∷ 87 ∷ 4 ∷ 86 ∷ 5 ∷ 85 ∷ 6 ∷ 84 ∷ 7 ∷ 83 ∷ 8 ∷ 82 ∷ 9 ∷ 81
-          ∷ 10 ∷ 80 ∷ 11 ∷ 79 ∷ 12 ∷ 41 ∷ 13 ∷ 78 ∷ 14 ∷ 77 ∷ 15 ∷ 76 ∷ 16 ∷ 75 ∷ 17 ∷ 74 ∷ 18 ∷ 73 ∷ 19 ∷ 72 ∷ 20
-          ∷ 71 ∷ 21 ∷ 70 ∷ 22 ∷ 69 ∷ 23 ∷ 68 ∷ 24 ∷ 67 ∷ 25 ∷ 66 ∷ 26 ∷ 65 ∷ 27 ∷ 64 ∷ 28 ∷ 63 ∷ 29 ∷ 62 ∷ 30 ∷ 61
-          ∷ 31 ∷ 60 ∷ 32 ∷ 59 ∷ 33 ∷ 58 ∷ 34 ∷ 57 ∷ 35 ∷ 56 ∷ 36 ∷ 55 ∷ 37 ∷ 54 ∷ 38 ∷ 53 ∷ 39 ∷ 52 ∷ 40 ∷ []) $
-          forget ! 0 refl $ free1 ! $ forget ! 0 refl $ free1 ! $ forget ! 0 refl $ free1 ! $ forget ! 0 refl $ free1 ! $
-          forget ! 0 refl $ free1 ! $ forget ! 0 refl $ free1 ! $ forget ! 0 refl $ free1 ! $ forget ! 0 refl $ free1 ! $
-          forget ! 0 refl $ free1 ! $ forget ! 0 refl $ free1 ! $ forget ! 0 refl $ free1 ! $ forget ! 0 refl $ free1 ! $
-          forget ! 0 refl $ free1 ! $ forget ! 0 refl $ free1 ! $ forget ! 0 refl $ free1 ! $ forget ! 0 refl $ free1 ! $
-          forget ! 0 refl $ free1 ! $ forget ! 0 refl $ free1 ! $ forget ! 0 refl $ free1 ! $ forget ! 0 refl $ free1 ! $
-          forget ! 0 refl $ free1 ! $ forget ! 0 refl $ free1 ! $ forget ! 0 refl $ free1 ! $ forget ! 0 refl $ free1 ! $
-          forget ! 0 refl $ free1 ! $ forget ! 0 refl $ free1 ! $ forget ! 0 refl $ free1 ! $ forget ! 0 refl $ free1 ! $
-          forget ! 0 refl $ free1 ! $ forget ! 0 refl $ free1 ! $ forget ! 0 refl $ free1 ! $ forget ! 0 refl $ free1 ! $
-          forget ! 0 refl $ free1 ! $ forget ! 0 refl $ free1 ! $ forget ! 0 refl $ free1 ! $ forget ! 0 refl $ free1 ! $
-          forget ! 0 refl $ free1 ! $ forget ! 0 refl $ free1 ! $ forget ! 0 refl $ free1 ! $ forget ! 0 refl $ free1 ! $
-          forget ! 0 refl $ free1 ! $ free0 ! $
-          move ! (2 ∷ 3 ∷ 6 ∷ 5 ∷ 7 ∷ 0 ∷ 1 ∷ 4 ∷ 8 ∷ 9 ∷ []) $
-          by ! (exits r w-r (record {
+          (past .4) (past .23) 0 (λ was-local-3. use1 W
+          (‵ (fat fullShare (tyArray (tyInt w32) 128) (past .23) 0 (only ((array-vals (uint-vals w32)) (past .4)))))
+          (W .laws .raw-at fullShare (tyArray (tyInt w32) 128) (past .23) 0 (only ((array-vals (uint-vals w32)) (past .4)))) $
+          move ! (10 ∷ []) $ tells-length ! fullShare u32 128 (h .queued) b (o + 124)
+          (λ end-queued. move ! (2 ∷ []) $
+          tells-length ! fullShare u32 32 (past .9) b (o + 636)
+          (λ end-outstanding. move ! (10 ∷ []) $
+          tells-length ! fullShare u8 32 (past .8) b (o + 764)
+          (λ end-transmissions. move ! (10 ∷ []) $
+          tells-length ! fullShare u32 128 (past .7) b (o + 796)
+          (λ end-ready. move ! (10 ∷ []) $
+          tells-length ! fullShare u32 128 (past .6) b (o + 1308)
+          (λ end-waiting. move ! (10 ∷ []) $
+          tells-length ! fullShare u32 128 (past .5) b (o + 1820)
+          (λ end-waiting-numbers. move ! (18 ∷ 10 ∷ 9 ∷ 17 ∷ 5 ∷ 4 ∷ 3 ∷ 2 ∷ 1 ∷ 0 ∷ 19 ∷ 20 ∷ []) $
+          closes-link b o γ ! tt h (record {
             settings = (h .settings);
-            flight = (past .69);
-            arrival = (past .72);
+            flight = (past .68);
+            arrival = (past .71);
             clock = (h .clock);
             queued = (h .queued);
             outstanding = (past .9);
@@ -875,29 +1111,97 @@ module _ {M : Type 1} (𝓤 : URA M) (H : Heap 𝓤) (A : Atoms 𝓤) (W : Given
             ready = (past .7);
             waiting = (past .6);
             «waiting_numbers» = (past .5);
-          }) ((past .3)) (ws-u .0) ((past .2))
-          (told answerCode _ ((past .61) .answer) e-r
-          (rw ((past .71), (past .74)) (input-promised (x₅ .now) h (partsOf (x₁ .now) (x₂ .now) (x₃ .now) (x₄ .now))
-          ((past .61) .answer) (record { words = (past .9); changed = (past .61) .changed; records = (recordsIn (past .4)) })
-          (linkOf (h .settings) ((past .61) .flight) ((past .61) .arrival) (h .clock)
-          (arrays (h .queued) (past .9) (past .8) (past .7) (past .6) (past .5))) (past .3) (past .2) (ws-u .0)
-          (records-length 32 (past .4) ((past .63) .1))
-          (put-back (x₃ .now) (ws-u .0) (record { words = (past .9); changed = (past .61) .changed; records = (recordsIn (past .4)) })
-          (past .9) c (recordsIn (past .4)) refl e-c refl e-u)
-          (input-left (x₅ .now) h (partsOf (x₁ .now) (x₂ .now) (x₃ .now) (x₄ .now)) ((past .61) .answer)
-          (record { words = (past .9); changed = (past .61) .changed; records = (recordsIn (past .4)) })
-          (linkOf (h .settings) ((past .61) .flight) ((past .61) .arrival) (h .clock)
-          (arrays (h .queued) (past .9) (past .8) (past .7) (past .6) (past .5))) (past .3) (past .2) (recordsIn (past .10)) (past .58)
-          (gathers h (partsOf (x₁ .now) (x₂ .now) (x₃ .now) (x₄ .now)) (past .52) (recordsIn (past .10)) (past .58) (past .54)
-          ((past .57) .1) (past .60)) (record {
-            whole-queued = (past .75);
-            whole-outstanding = (past .76);
-            whole-transmissions = (past .77);
-            whole-ready = (past .78);
-            whole-waiting = (past .79);
-            whole-numbers = (past .80);
-          })
-          ((past .63) .0))))) (past .65) len₃ (past .66) is-r)))))))
+          }) $
+          -- [own0; tok0; fin3; tok3; fin4; fin2; tok1; tok2; tok4; tok5; deaths; the locals]
+          by ! (part₄ (
+            (ws-u .0),
+            ((past .2)),
+            ((past .3)),
+            ((past .2)),
+            ((past .3)),
+            ((past .2)),
+            ((past .3)),
+            (past .4),
+            (past .5),
+            (past .6),
+            (past .7),
+            (past .8),
+            (past .9),
+            (past .10),
+            (past .11),
+            (past .12),
+            (past .13),
+            (past .14),
+            (past .15),
+            (past .16),
+            (past .17),
+            (past .18),
+            (past .19),
+            (past .20),
+            (past .21),
+            (past .22),
+            (past .23),
+            (past .24),
+            (past .25),
+            (past .26),
+            (past .27),
+            (past .28),
+            (past .29),
+            (past .30),
+            (past .31),
+            (past .32),
+            (past .33),
+            (past .34),
+            (past .35),
+            (past .36),
+            (past .37),
+            (past .38),
+            (past .39),
+            (past .40),
+            (past .41),
+            (past .42),
+            (past .43),
+            (past .44),
+            (past .45),
+            (past .46),
+            (past .47),
+            (past .48),
+            (past .49),
+            (past .50),
+            (past .51),
+            (past .52),
+            (past .53),
+            (past .54),
+            (past .55),
+            (past .57),
+            (past .58),
+            (past .59),
+            (past .60),
+            (past .61),
+            (past .62),
+            (past .63),
+            (past .64),
+            (past .65),
+            (past .66),
+            (past .68),
+            (past .69),
+            (past .70),
+            (past .71),
+            (past .72),
+            (past .73),
+            (past .74),
+            (past .75),
+            (past .76),
+            w-u,
+            e-u,
+            len₃,
+            end-queued,
+            end-outstanding,
+            end-transmissions,
+            end-ready,
+            end-waiting,
+            end-waiting-numbers,
+          )))))))))))))
 
       -- what part 2 knows
       abbrev Known₂ : Type 0
@@ -921,7 +1225,7 @@ module _ {M : Type 1} (𝓤 : URA M) (H : Heap 𝓤) (A : Atoms 𝓤) (W : Given
           ∷ ‵ (partAt (Array u32 128) fullShare (past .4) b (o + 1308)) ∷ ‵ (partAt (Array u32 128) fullShare (past .5) b (o + 796))
           ∷ ‵ (partAt (Array u8 32) fullShare (past .6) b (o + 764)) ∷ ‵ (partAt (Array u32 32) fullShare (past .7) b (o + 636))
           ∷ ‵ (partAt (Array u32 128) fullShare (h .queued) b (o + 124))
-          ∷ ‵ (fat fullShare (tyArray (tyInt w32) 128) (past .22) 0 ((only ((array-vals (uint-vals w32)) (past .2)))))
+          ∷ ‵ (fat fullShare (tyArray (tyInt w32) 128) (past .21) 0 ((only ((array-vals (uint-vals w32)) (past .2)))))
           ∷ ‵ (finally u32 (x₄ .name) (past .0)) ∷ ‵ (finally u8 (x₂ .name) (past .1)) ∷ ‵ (flft κ₁ q₁) ∷ ‵ (flft κ₂ q₂)
           ∷ ‵ (flft κ₄ q₄) ∷ ‵ (flft κ₅ q₅) ∷ ‵ Own₃ ∷ ‵ (flft κ₃ q₃)
           ∷ ‵ (partAt clock-row.the-row fullShare (h .clock) b (o + 104)) ∷ ‵ (partAt arrival-row.the-row fullShare (h .arrival) b (o + 72))
@@ -932,48 +1236,50 @@ module _ {M : Type 1} (𝓤 : URA M) (H : Heap 𝓤) (A : Atoms 𝓤) (W : Given
           ‵ (fdies (sliceTy (tyRef (named 3) mut (pointee (R .written)))) (past .13)) ⊛ ‵
           (fdies (sliceTy (tyRef (named 4) mut (tyInt w32))) (past .14)) ⊛ ‵ (fdies (sliceTy (tyRef (named 5) imm (tyInt w8))) (past .15)) ⊛
           ‵ (fdies settings-laws.mir (past .16)) ⊛ ‵ (fdies flight-laws.mir (past .17)) ⊛ ‵ (fdies arrival-laws.mir (past .18)) ⊛ ‵
-          (fdies clock-laws.mir (past .19)) ⊛ ‵ (fdies (tyArray (tyInt w32) 32) (past .20)) ⊛ ‵ (fdies (tyInt w64) (past .21)) ⊛ ‵
-          (fdies (tyArray (tyInt w32) 128) (past .22)) ⊛ ‵ (fdies (tyInt w64) (past .23)) ⊛ ‵ (fdies taken-laws.mir (past .24)) ⊛ ‵
-          (fdies (tyArray (tyInt w32) 32) (past .25)) ⊛ ‵ (fdies flight-laws.mir (past .26)) ⊛ ‵ (fdies arrival-laws.mir (past .27)) ⊛ ‵
-          (fdies (tyInt w64) (past .28)) ⊛ ‵ (fdies (tyArray (tyInt w32) 128) (past .29)) ⊛ ‵ (fdies tyUnit (past .30)) ⊛ ‵
-          (fdies (tyRef erased imm (pointee (R .written))) (past .31)) ⊛ ‵
-          (fdies (sliceTy (tyRef erased imm (pointee (R .written)))) (past .32)) ⊛ ‵
-          (fdies (tyRef erased mut (tyArray (tyInt w32) 128)) (past .33)) ⊛ ‵ (fdies (tyRef erased imm (pointee (R .written))) (past .34)) ⊛
-          ‵ (fdies (sliceTy (tyRef erased imm (pointee (R .written)))) (past .35)) ⊛ ‵
-          (fdies (tyRef erased mut (tyArray (tyInt w32) 128)) (past .36)) ⊛ ‵
-          (fdies (tyRef erased imm (tyArray (tyInt w32) 128)) (past .37)) ⊛ ‵ (fdies (tyRef erased mut (tyArray (tyInt w32) 32)) (past .38))
-          ⊛ ‵ (fdies (tyRef erased mut (tyArray (tyInt w8) 32)) (past .39)) ⊛ ‵
+          (fdies clock-laws.mir (past .19)) ⊛ ‵ (fdies (tyInt w64) (past .20)) ⊛ ‵ (fdies (tyArray (tyInt w32) 128) (past .21)) ⊛ ‵
+          (fdies (tyInt w64) (past .22)) ⊛ ‵ (fdies taken-laws.mir (past .23)) ⊛ ‵ (fdies flight-laws.mir (past .24)) ⊛ ‵
+          (fdies arrival-laws.mir (past .25)) ⊛ ‵ (fdies (tyInt w64) (past .26)) ⊛ ‵ (fdies (tyArray (tyInt w32) 128) (past .27)) ⊛ ‵
+          (fdies tyUnit (past .28)) ⊛ ‵ (fdies (tyRef erased imm (pointee (R .written))) (past .29)) ⊛ ‵
+          (fdies (sliceTy (tyRef erased imm (pointee (R .written)))) (past .30)) ⊛ ‵
+          (fdies (tyRef erased imm (tyArray (tyInt w32) 32)) (past .31)) ⊛ ‵ (fdies (tyRef erased mut (tyArray (tyInt w32) 128)) (past .32))
+          ⊛ ‵ (fdies (tyRef erased imm (pointee (R .written))) (past .33)) ⊛ ‵
+          (fdies (sliceTy (tyRef erased imm (pointee (R .written)))) (past .34)) ⊛ ‵
+          (fdies (tyRef erased mut (tyArray (tyInt w32) 128)) (past .35)) ⊛ ‵
+          (fdies (tyRef erased imm (tyArray (tyInt w32) 128)) (past .36)) ⊛ ‵ (fdies (tyRef erased mut (tyArray (tyInt w32) 32)) (past .37))
+          ⊛ ‵ (fdies (tyRef erased mut (tyArray (tyInt w8) 32)) (past .38)) ⊛ ‵
+          (fdies (tyRef erased mut (tyArray (tyInt w32) 128)) (past .39)) ⊛ ‵
           (fdies (tyRef erased mut (tyArray (tyInt w32) 128)) (past .40)) ⊛ ‵
-          (fdies (tyRef erased mut (tyArray (tyInt w32) 128)) (past .41)) ⊛ ‵
-          (fdies (tyRef erased mut (tyArray (tyInt w32) 128)) (past .42)) ⊛ ‵ (fdies (tyRef erased mut (tyInt w8)) (past .43)) ⊛ ‵
-          (fdies (sliceTy (tyRef erased mut (tyInt w8))) (past .44)) ⊛ ‵ (fdies (tyRef erased mut (tyInt w32)) (past .45)) ⊛ ‵
-          (fdies (sliceTy (tyRef erased mut (tyInt w32))) (past .46)) ⊛ ‵ (fdies (tyRef erased mut (pointee (R .written))) (past .47)) ⊛ ‵
-          (fdies (sliceTy (tyRef erased mut (pointee (R .written)))) (past .48)) ⊛ ‵
+          (fdies (tyRef erased mut (tyArray (tyInt w32) 128)) (past .41)) ⊛ ‵ (fdies (tyRef erased mut (tyInt w8)) (past .42)) ⊛ ‵
+          (fdies (sliceTy (tyRef erased mut (tyInt w8))) (past .43)) ⊛ ‵ (fdies (tyRef erased mut (tyInt w32)) (past .44)) ⊛ ‵
+          (fdies (sliceTy (tyRef erased mut (tyInt w32))) (past .45)) ⊛ ‵ (fdies (tyRef erased mut (pointee (R .written))) (past .46)) ⊛ ‵
+          (fdies (sliceTy (tyRef erased mut (pointee (R .written)))) (past .47)) ⊛ ‵
+          (fdies (tyRef erased imm (tyArray (tyInt w32) 32)) (past .48)) ⊛ ‵
           (fdies (tyRef erased imm (tyArray (tyInt w32) 128)) (past .49)))
           ∷ ‵ (froom (tyRef erased imm (tyArray (tyInt w32) 128)) (past .49) 0)
-          ∷ ‵ (froom (sliceTy (tyRef erased mut (pointee (R .written)))) (past .48) 0)
-          ∷ ‵ (froom (tyRef erased mut (pointee (R .written))) (past .47) 0)
-          ∷ ‵ (fat fullShare (sliceTy (tyRef erased mut (tyInt w32))) (past .46) 0 (s₄))
-          ∷ ‵ (fat fullShare (tyRef erased mut (tyInt w32)) (past .45) 0 ((vptr (x₄ .ptr .0) (x₄ .ptr .1))))
-          ∷ ‵ (fat fullShare (sliceTy (tyRef erased mut (tyInt w8))) (past .44) 0 (s₂))
-          ∷ ‵ (fat fullShare (tyRef erased mut (tyInt w8)) (past .43) 0 ((vptr (x₂ .ptr .0) (x₂ .ptr .1))))
-          ∷ ‵ (fat fullShare (tyRef erased mut (tyArray (tyInt w32) 128)) (past .42) 0 ((vptr b (o + 1820))))
-          ∷ ‵ (fat fullShare (tyRef erased mut (tyArray (tyInt w32) 128)) (past .41) 0 ((vptr b (o + 1308))))
-          ∷ ‵ (fat fullShare (tyRef erased mut (tyArray (tyInt w32) 128)) (past .40) 0 ((vptr b (o + 796))))
-          ∷ ‵ (fat fullShare (tyRef erased mut (tyArray (tyInt w8) 32)) (past .39) 0 ((vptr b (o + 764))))
-          ∷ ‵ (fat fullShare (tyRef erased mut (tyArray (tyInt w32) 32)) (past .38) 0 ((vptr b (o + 636))))
-          ∷ ‵ (fat fullShare (tyRef erased imm (tyArray (tyInt w32) 128)) (past .37) 0 ((vptr b (o + 124))))
-          ∷ ‵ (fat fullShare (tyRef erased mut (tyArray (tyInt w32) 128)) (past .36) 0 ((vptr (past .22) 0)))
-          ∷ ‵ (fat fullShare (sliceTy (tyRef erased imm (pointee (R .written)))) (past .35) 0 (s₃))
-          ∷ ‵ (fat fullShare (tyRef erased imm (pointee (R .written))) (past .34) 0 ((vptr (x₃ .ptr .0) (x₃ .ptr .1))))
-          ∷ ‵ (fat fullShare (tyRef erased mut (tyArray (tyInt w32) 128)) (past .33) 0 ((vptr (past .22) 0)))
-          ∷ ‵ (fat fullShare (sliceTy (tyRef erased imm (pointee (R .written)))) (past .32) 0 (s₃))
-          ∷ ‵ (fat fullShare (tyRef erased imm (pointee (R .written))) (past .31) 0 ((vptr (x₃ .ptr .0) (x₃ .ptr .1))))
-          ∷ ‵ (fat fullShare tyUnit (past .30) 0 ((past .54))) ∷ ‵ (fat fullShare (tyArray (tyInt w32) 128) (past .29) 0 ((past .53)))
-          ∷ ‵ (froom (tyInt w64) (past .28) 0) ∷ ‵ (froom arrival-laws.mir (past .27) 0) ∷ ‵ (froom flight-laws.mir (past .26) 0)
-          ∷ ‵ (froom (tyArray (tyInt w32) 32) (past .25) 0) ∷ ‵ (fat fullShare taken-laws.mir (past .24) 0 ((past .60)))
-          ∷ ‵ (fat fullShare (tyInt w64) (past .23) 0 ((past .57))) ∷ ‵ (fat fullShare (tyInt w64) (past .21) 0 ((past .51)))
-          ∷ ‵ (fat fullShare (tyArray (tyInt w32) 32) (past .20) 0 ((only ((array-vals (uint-vals w32)) (h .outstanding)))))
+          ∷ ‵ (froom (tyRef erased imm (tyArray (tyInt w32) 32)) (past .48) 0)
+          ∷ ‵ (froom (sliceTy (tyRef erased mut (pointee (R .written)))) (past .47) 0)
+          ∷ ‵ (froom (tyRef erased mut (pointee (R .written))) (past .46) 0)
+          ∷ ‵ (fat fullShare (sliceTy (tyRef erased mut (tyInt w32))) (past .45) 0 (s₄))
+          ∷ ‵ (fat fullShare (tyRef erased mut (tyInt w32)) (past .44) 0 ((vptr (x₄ .ptr .0) (x₄ .ptr .1))))
+          ∷ ‵ (fat fullShare (sliceTy (tyRef erased mut (tyInt w8))) (past .43) 0 (s₂))
+          ∷ ‵ (fat fullShare (tyRef erased mut (tyInt w8)) (past .42) 0 ((vptr (x₂ .ptr .0) (x₂ .ptr .1))))
+          ∷ ‵ (fat fullShare (tyRef erased mut (tyArray (tyInt w32) 128)) (past .41) 0 ((vptr b (o + 1820))))
+          ∷ ‵ (fat fullShare (tyRef erased mut (tyArray (tyInt w32) 128)) (past .40) 0 ((vptr b (o + 1308))))
+          ∷ ‵ (fat fullShare (tyRef erased mut (tyArray (tyInt w32) 128)) (past .39) 0 ((vptr b (o + 796))))
+          ∷ ‵ (fat fullShare (tyRef erased mut (tyArray (tyInt w8) 32)) (past .38) 0 ((vptr b (o + 764))))
+          ∷ ‵ (fat fullShare (tyRef erased mut (tyArray (tyInt w32) 32)) (past .37) 0 ((vptr b (o + 636))))
+          ∷ ‵ (fat fullShare (tyRef erased imm (tyArray (tyInt w32) 128)) (past .36) 0 ((vptr b (o + 124))))
+          ∷ ‵ (fat fullShare (tyRef erased mut (tyArray (tyInt w32) 128)) (past .35) 0 ((vptr (past .21) 0)))
+          ∷ ‵ (fat fullShare (sliceTy (tyRef erased imm (pointee (R .written)))) (past .34) 0 (s₃))
+          ∷ ‵ (fat fullShare (tyRef erased imm (pointee (R .written))) (past .33) 0 ((vptr (x₃ .ptr .0) (x₃ .ptr .1))))
+          ∷ ‵ (fat fullShare (tyRef erased mut (tyArray (tyInt w32) 128)) (past .32) 0 ((vptr (past .21) 0)))
+          ∷ ‵ (fat fullShare (tyRef erased imm (tyArray (tyInt w32) 32)) (past .31) 0 ((vptr b (o + 636))))
+          ∷ ‵ (fat fullShare (sliceTy (tyRef erased imm (pointee (R .written)))) (past .30) 0 (s₃))
+          ∷ ‵ (fat fullShare (tyRef erased imm (pointee (R .written))) (past .29) 0 ((vptr (x₃ .ptr .0) (x₃ .ptr .1))))
+          ∷ ‵ (fat fullShare tyUnit (past .28) 0 ((past .54))) ∷ ‵ (fat fullShare (tyArray (tyInt w32) 128) (past .27) 0 ((past .53)))
+          ∷ ‵ (froom (tyInt w64) (past .26) 0) ∷ ‵ (froom arrival-laws.mir (past .25) 0) ∷ ‵ (froom flight-laws.mir (past .24) 0)
+          ∷ ‵ (fat fullShare taken-laws.mir (past .23) 0 ((past .60))) ∷ ‵ (fat fullShare (tyInt w64) (past .22) 0 ((past .57)))
+          ∷ ‵ (fat fullShare (tyInt w64) (past .20) 0 ((past .51)))
           ∷ ‵ (fat fullShare clock-laws.mir (past .19) 0 ((only ((LL.vals clock-row.the-type clock-laws.the-laws) (h .clock)))))
           ∷ ‵ (fat fullShare arrival-laws.mir (past .18) 0 ((only ((LL.vals arrival-row.the-type arrival-laws.the-laws) (h .arrival)))))
           ∷ ‵ (fat fullShare flight-laws.mir (past .17) 0 ((only ((LL.vals flight-row.the-type flight-laws.the-laws) (h .flight)))))
@@ -997,7 +1303,7 @@ module _ {M : Type 1} (𝓤 : URA M) (H : Heap 𝓤) (A : Atoms 𝓤) (W : Given
           qed W (‵ (partAt (Array u32 128) fullShare (past .3) b (o + 1820)) ∷ ‵ (partAt (Array u32 128) fullShare (past .4) b (o + 1308))
           ∷ ‵ (partAt (Array u32 128) fullShare (past .5) b (o + 796)) ∷ ‵ (partAt (Array u8 32) fullShare (past .6) b (o + 764))
           ∷ ‵ (partAt (Array u32 32) fullShare (past .7) b (o + 636)) ∷ ‵ (partAt (Array u32 128) fullShare (h .queued) b (o + 124))
-          ∷ ‵ (fat fullShare (tyArray (tyInt w32) 128) (past .22) 0 ((only ((array-vals (uint-vals w32)) (past .2)))))
+          ∷ ‵ (fat fullShare (tyArray (tyInt w32) 128) (past .21) 0 ((only ((array-vals (uint-vals w32)) (past .2)))))
           ∷ ‵ (finally u32 (x₄ .name) (past .0)) ∷ ‵ (finally u8 (x₂ .name) (past .1)) ∷ ‵ (flft κ₁ q₁) ∷ ‵ (flft κ₂ q₂)
           ∷ ‵ (flft κ₄ q₄) ∷ ‵ (flft κ₅ q₅) ∷ ‵ Own₃ ∷ ‵ (flft κ₃ q₃)
           ∷ ‵ (partAt clock-row.the-row fullShare (h .clock) b (o + 104))
@@ -1011,50 +1317,52 @@ module _ {M : Type 1} (𝓤 : URA M) (H : Heap 𝓤) (A : Atoms 𝓤) (W : Given
           (fdies (sliceTy (tyRef (named 4) mut (tyInt w32))) (past .14)) ⊛ ‵
           (fdies (sliceTy (tyRef (named 5) imm (tyInt w8))) (past .15)) ⊛ ‵ (fdies settings-laws.mir (past .16)) ⊛ ‵
           (fdies flight-laws.mir (past .17)) ⊛ ‵ (fdies arrival-laws.mir (past .18)) ⊛ ‵ (fdies clock-laws.mir (past .19)) ⊛ ‵
-          (fdies (tyArray (tyInt w32) 32) (past .20)) ⊛ ‵ (fdies (tyInt w64) (past .21)) ⊛ ‵
-          (fdies (tyArray (tyInt w32) 128) (past .22)) ⊛ ‵ (fdies (tyInt w64) (past .23)) ⊛ ‵ (fdies taken-laws.mir (past .24)) ⊛ ‵
-          (fdies (tyArray (tyInt w32) 32) (past .25)) ⊛ ‵ (fdies flight-laws.mir (past .26)) ⊛ ‵ (fdies arrival-laws.mir (past .27)) ⊛ ‵
-          (fdies (tyInt w64) (past .28)) ⊛ ‵ (fdies (tyArray (tyInt w32) 128) (past .29)) ⊛ ‵ (fdies tyUnit (past .30)) ⊛ ‵
-          (fdies (tyRef erased imm (pointee (R .written))) (past .31)) ⊛ ‵
-          (fdies (sliceTy (tyRef erased imm (pointee (R .written)))) (past .32)) ⊛ ‵
-          (fdies (tyRef erased mut (tyArray (tyInt w32) 128)) (past .33)) ⊛ ‵
-          (fdies (tyRef erased imm (pointee (R .written))) (past .34)) ⊛ ‵
-          (fdies (sliceTy (tyRef erased imm (pointee (R .written)))) (past .35)) ⊛ ‵
-          (fdies (tyRef erased mut (tyArray (tyInt w32) 128)) (past .36)) ⊛ ‵
-          (fdies (tyRef erased imm (tyArray (tyInt w32) 128)) (past .37)) ⊛ ‵
-          (fdies (tyRef erased mut (tyArray (tyInt w32) 32)) (past .38)) ⊛ ‵
-          (fdies (tyRef erased mut (tyArray (tyInt w8) 32)) (past .39)) ⊛ ‵
+          (fdies (tyInt w64) (past .20)) ⊛ ‵ (fdies (tyArray (tyInt w32) 128) (past .21)) ⊛ ‵ (fdies (tyInt w64) (past .22)) ⊛ ‵
+          (fdies taken-laws.mir (past .23)) ⊛ ‵ (fdies flight-laws.mir (past .24)) ⊛ ‵ (fdies arrival-laws.mir (past .25)) ⊛ ‵
+          (fdies (tyInt w64) (past .26)) ⊛ ‵ (fdies (tyArray (tyInt w32) 128) (past .27)) ⊛ ‵ (fdies tyUnit (past .28)) ⊛ ‵
+          (fdies (tyRef erased imm (pointee (R .written))) (past .29)) ⊛ ‵
+          (fdies (sliceTy (tyRef erased imm (pointee (R .written)))) (past .30)) ⊛ ‵
+          (fdies (tyRef erased imm (tyArray (tyInt w32) 32)) (past .31)) ⊛ ‵
+          (fdies (tyRef erased mut (tyArray (tyInt w32) 128)) (past .32)) ⊛ ‵
+          (fdies (tyRef erased imm (pointee (R .written))) (past .33)) ⊛ ‵
+          (fdies (sliceTy (tyRef erased imm (pointee (R .written)))) (past .34)) ⊛ ‵
+          (fdies (tyRef erased mut (tyArray (tyInt w32) 128)) (past .35)) ⊛ ‵
+          (fdies (tyRef erased imm (tyArray (tyInt w32) 128)) (past .36)) ⊛ ‵
+          (fdies (tyRef erased mut (tyArray (tyInt w32) 32)) (past .37)) ⊛ ‵
+          (fdies (tyRef erased mut (tyArray (tyInt w8) 32)) (past .38)) ⊛ ‵
+          (fdies (tyRef erased mut (tyArray (tyInt w32) 128)) (past .39)) ⊛ ‵
           (fdies (tyRef erased mut (tyArray (tyInt w32) 128)) (past .40)) ⊛ ‵
-          (fdies (tyRef erased mut (tyArray (tyInt w32) 128)) (past .41)) ⊛ ‵
-          (fdies (tyRef erased mut (tyArray (tyInt w32) 128)) (past .42)) ⊛ ‵ (fdies (tyRef erased mut (tyInt w8)) (past .43)) ⊛ ‵
-          (fdies (sliceTy (tyRef erased mut (tyInt w8))) (past .44)) ⊛ ‵ (fdies (tyRef erased mut (tyInt w32)) (past .45)) ⊛ ‵
-          (fdies (sliceTy (tyRef erased mut (tyInt w32))) (past .46)) ⊛ ‵ (fdies (tyRef erased mut (pointee (R .written))) (past .47)) ⊛
-          ‵ (fdies (sliceTy (tyRef erased mut (pointee (R .written)))) (past .48)) ⊛ ‵
+          (fdies (tyRef erased mut (tyArray (tyInt w32) 128)) (past .41)) ⊛ ‵ (fdies (tyRef erased mut (tyInt w8)) (past .42)) ⊛ ‵
+          (fdies (sliceTy (tyRef erased mut (tyInt w8))) (past .43)) ⊛ ‵ (fdies (tyRef erased mut (tyInt w32)) (past .44)) ⊛ ‵
+          (fdies (sliceTy (tyRef erased mut (tyInt w32))) (past .45)) ⊛ ‵ (fdies (tyRef erased mut (pointee (R .written))) (past .46)) ⊛
+          ‵ (fdies (sliceTy (tyRef erased mut (pointee (R .written)))) (past .47)) ⊛ ‵
+          (fdies (tyRef erased imm (tyArray (tyInt w32) 32)) (past .48)) ⊛ ‵
           (fdies (tyRef erased imm (tyArray (tyInt w32) 128)) (past .49)))
           ∷ ‵ (froom (tyRef erased imm (tyArray (tyInt w32) 128)) (past .49) 0)
-          ∷ ‵ (froom (sliceTy (tyRef erased mut (pointee (R .written)))) (past .48) 0)
-          ∷ ‵ (froom (tyRef erased mut (pointee (R .written))) (past .47) 0)
-          ∷ ‵ (fat fullShare (sliceTy (tyRef erased mut (tyInt w32))) (past .46) 0 (s₄))
-          ∷ ‵ (fat fullShare (tyRef erased mut (tyInt w32)) (past .45) 0 ((vptr (x₄ .ptr .0) (x₄ .ptr .1))))
-          ∷ ‵ (fat fullShare (sliceTy (tyRef erased mut (tyInt w8))) (past .44) 0 (s₂))
-          ∷ ‵ (fat fullShare (tyRef erased mut (tyInt w8)) (past .43) 0 ((vptr (x₂ .ptr .0) (x₂ .ptr .1))))
-          ∷ ‵ (fat fullShare (tyRef erased mut (tyArray (tyInt w32) 128)) (past .42) 0 ((vptr b (o + 1820))))
-          ∷ ‵ (fat fullShare (tyRef erased mut (tyArray (tyInt w32) 128)) (past .41) 0 ((vptr b (o + 1308))))
-          ∷ ‵ (fat fullShare (tyRef erased mut (tyArray (tyInt w32) 128)) (past .40) 0 ((vptr b (o + 796))))
-          ∷ ‵ (fat fullShare (tyRef erased mut (tyArray (tyInt w8) 32)) (past .39) 0 ((vptr b (o + 764))))
-          ∷ ‵ (fat fullShare (tyRef erased mut (tyArray (tyInt w32) 32)) (past .38) 0 ((vptr b (o + 636))))
-          ∷ ‵ (fat fullShare (tyRef erased imm (tyArray (tyInt w32) 128)) (past .37) 0 ((vptr b (o + 124))))
-          ∷ ‵ (fat fullShare (tyRef erased mut (tyArray (tyInt w32) 128)) (past .36) 0 ((vptr (past .22) 0)))
-          ∷ ‵ (fat fullShare (sliceTy (tyRef erased imm (pointee (R .written)))) (past .35) 0 (s₃))
-          ∷ ‵ (fat fullShare (tyRef erased imm (pointee (R .written))) (past .34) 0 ((vptr (x₃ .ptr .0) (x₃ .ptr .1))))
-          ∷ ‵ (fat fullShare (tyRef erased mut (tyArray (tyInt w32) 128)) (past .33) 0 ((vptr (past .22) 0)))
-          ∷ ‵ (fat fullShare (sliceTy (tyRef erased imm (pointee (R .written)))) (past .32) 0 (s₃))
-          ∷ ‵ (fat fullShare (tyRef erased imm (pointee (R .written))) (past .31) 0 ((vptr (x₃ .ptr .0) (x₃ .ptr .1))))
-          ∷ ‵ (fat fullShare tyUnit (past .30) 0 ((past .54))) ∷ ‵ (fat fullShare (tyArray (tyInt w32) 128) (past .29) 0 ((past .53)))
-          ∷ ‵ (froom (tyInt w64) (past .28) 0) ∷ ‵ (froom arrival-laws.mir (past .27) 0) ∷ ‵ (froom flight-laws.mir (past .26) 0)
-          ∷ ‵ (froom (tyArray (tyInt w32) 32) (past .25) 0) ∷ ‵ (fat fullShare taken-laws.mir (past .24) 0 ((past .60)))
-          ∷ ‵ (fat fullShare (tyInt w64) (past .23) 0 ((past .57))) ∷ ‵ (fat fullShare (tyInt w64) (past .21) 0 ((past .51)))
-          ∷ ‵ (fat fullShare (tyArray (tyInt w32) 32) (past .20) 0 ((only ((array-vals (uint-vals w32)) (h .outstanding)))))
+          ∷ ‵ (froom (tyRef erased imm (tyArray (tyInt w32) 32)) (past .48) 0)
+          ∷ ‵ (froom (sliceTy (tyRef erased mut (pointee (R .written)))) (past .47) 0)
+          ∷ ‵ (froom (tyRef erased mut (pointee (R .written))) (past .46) 0)
+          ∷ ‵ (fat fullShare (sliceTy (tyRef erased mut (tyInt w32))) (past .45) 0 (s₄))
+          ∷ ‵ (fat fullShare (tyRef erased mut (tyInt w32)) (past .44) 0 ((vptr (x₄ .ptr .0) (x₄ .ptr .1))))
+          ∷ ‵ (fat fullShare (sliceTy (tyRef erased mut (tyInt w8))) (past .43) 0 (s₂))
+          ∷ ‵ (fat fullShare (tyRef erased mut (tyInt w8)) (past .42) 0 ((vptr (x₂ .ptr .0) (x₂ .ptr .1))))
+          ∷ ‵ (fat fullShare (tyRef erased mut (tyArray (tyInt w32) 128)) (past .41) 0 ((vptr b (o + 1820))))
+          ∷ ‵ (fat fullShare (tyRef erased mut (tyArray (tyInt w32) 128)) (past .40) 0 ((vptr b (o + 1308))))
+          ∷ ‵ (fat fullShare (tyRef erased mut (tyArray (tyInt w32) 128)) (past .39) 0 ((vptr b (o + 796))))
+          ∷ ‵ (fat fullShare (tyRef erased mut (tyArray (tyInt w8) 32)) (past .38) 0 ((vptr b (o + 764))))
+          ∷ ‵ (fat fullShare (tyRef erased mut (tyArray (tyInt w32) 32)) (past .37) 0 ((vptr b (o + 636))))
+          ∷ ‵ (fat fullShare (tyRef erased imm (tyArray (tyInt w32) 128)) (past .36) 0 ((vptr b (o + 124))))
+          ∷ ‵ (fat fullShare (tyRef erased mut (tyArray (tyInt w32) 128)) (past .35) 0 ((vptr (past .21) 0)))
+          ∷ ‵ (fat fullShare (sliceTy (tyRef erased imm (pointee (R .written)))) (past .34) 0 (s₃))
+          ∷ ‵ (fat fullShare (tyRef erased imm (pointee (R .written))) (past .33) 0 ((vptr (x₃ .ptr .0) (x₃ .ptr .1))))
+          ∷ ‵ (fat fullShare (tyRef erased mut (tyArray (tyInt w32) 128)) (past .32) 0 ((vptr (past .21) 0)))
+          ∷ ‵ (fat fullShare (tyRef erased imm (tyArray (tyInt w32) 32)) (past .31) 0 ((vptr b (o + 636))))
+          ∷ ‵ (fat fullShare (sliceTy (tyRef erased imm (pointee (R .written)))) (past .30) 0 (s₃))
+          ∷ ‵ (fat fullShare (tyRef erased imm (pointee (R .written))) (past .29) 0 ((vptr (x₃ .ptr .0) (x₃ .ptr .1))))
+          ∷ ‵ (fat fullShare tyUnit (past .28) 0 ((past .54))) ∷ ‵ (fat fullShare (tyArray (tyInt w32) 128) (past .27) 0 ((past .53)))
+          ∷ ‵ (froom (tyInt w64) (past .26) 0) ∷ ‵ (froom arrival-laws.mir (past .25) 0) ∷ ‵ (froom flight-laws.mir (past .24) 0)
+          ∷ ‵ (fat fullShare taken-laws.mir (past .23) 0 ((past .60))) ∷ ‵ (fat fullShare (tyInt w64) (past .22) 0 ((past .57)))
+          ∷ ‵ (fat fullShare (tyInt w64) (past .20) 0 ((past .51)))
           ∷ ‵ (fat fullShare clock-laws.mir (past .19) 0 ((only ((LL.vals clock-row.the-type clock-laws.the-laws) (h .clock)))))
           ∷ ‵ (fat fullShare arrival-laws.mir (past .18) 0 ((only ((LL.vals arrival-row.the-type arrival-laws.the-laws) (h .arrival)))))
           ∷ ‵ (fat fullShare flight-laws.mir (past .17) 0 ((only ((LL.vals flight-row.the-type flight-laws.the-laws) (h .flight)))))
@@ -1075,25 +1383,17 @@ module _ {M : Type 1} (𝓤 : URA M) (H : Heap 𝓤) (A : Atoms 𝓤) (W : Given
           (past .27) (past .28) (past .29) (past .30) (past .31) (past .32) (past .33) (past .34) (past .35) (past .36) (past .37)
           (past .38) (past .39) (past .40) (past .41) (past .42) (past .43) (past .44) (past .45) (past .46) (past .47) (past .48)
           (past .49)) Post) $
-          move ! (4 ∷ []) $ cell-out ! fullShare (Array u32 32) (array-vals (uint-vals w32))
-          (array-tells u32 (uint-vals w32) (uint-tells w32) 32) (past .7) b (o + 636) (λ was-outstanding′.
-          assigns ! {v = (only ((array-vals (uint-vals w32)) (past .7)))}
-          (of-opd ! (load ! (from ! (hop ! (look ! 60 refl) (fld ! {d = 636} refl (stop !)))) (look-raw ! 0 refl))) (from ! (stop !))
-          (init ! 46 refl (array-typed u32 (uint-lawful 𝓤 H A W w32 .typed) 32 (past .7)
-          ((only ((array-vals (uint-vals w32)) (past .7))) ∷ []) was-outstanding′ .0)) $
-          cell-in ! fullShare (Array u32 32) (array-makes 𝓤 H A W u32 (uint-makes 𝓤 H A W w32) 32) (past .7) b (o + 636)
-          (only ((array-vals (uint-vals w32)) (past .7))) was-outstanding′ $ nothing ! $
-          calls-fn ! fm flight-of.ended (flight-of.clauses 𝓤 H A at-mem run) (known .5)
+          nothing ! $ calls-fn ! fm flight-of.ended (flight-of.clauses 𝓤 H A at-mem run) (known .5)
           ((tt, tt, tt, ((past .59), tt), ((past .60) ∷ [], tt)), tt) (λ kf _. kf ≡ (past .59) .flight)
           (‵ ftrue) (plainly 𝓤 H A W (taken-row.the-row ∷ []) ((LL.makes taken-row.the-type taken-laws.the-plain 𝓤 H A), tt)
           ((past .59), tt) ((past .60) ∷ [], tt) ((past .62), tt)) (λ kf _. id⊢ 𝓤 _)
-          (and-then ! (load ! (from ! (stop !)) (look ! 48 refl)) (no-more !))
+          (and-then ! (load ! (from ! (stop !)) (look ! 49 refl)) (no-more !))
           (λ kf w-kf _ e-kf is-kf. drop ! $ drop ! $
-          land ! (from ! (stop !)) (init ! 45 refl (LL.lawful flight-row.the-type flight-laws.the-laws 𝓤 H A W .typed kf (w-kf ∷ []) is-kf
+          land ! (from ! (stop !)) (init ! 47 refl (LL.lawful flight-row.the-type flight-laws.the-laws 𝓤 H A W .typed kf (w-kf ∷ []) is-kf
           .0)) $
           move ! (17 ∷ []) $ cell-out ! fullShare flight-row.the-row (LL.vals flight-row.the-type flight-laws.the-laws)
           (LL.tells flight-row.the-type flight-laws.the-laws) (h .flight) b (o + 16)
-          (λ was-flight′. assigns ! (of-opd ! (load ! (from ! (stop !)) (look ! 45 refl)))
+          (λ was-flight′. assigns ! (of-opd ! (load ! (from ! (stop !)) (look ! 47 refl)))
           (from ! (hop ! (look ! 60 refl) (fld ! {d = 16} refl (stop !))))
           (store-raw ! 0 refl (LL.lawful flight-row.the-type flight-laws.the-laws 𝓤 H A W .typed kf (w-kf ∷ []) is-kf .0)) $
           cell-in ! fullShare flight-row.the-row (LL.makes flight-row.the-type flight-laws.the-plain 𝓤 H A) kf b (o + 16) w-kf is-kf $
@@ -1101,42 +1401,30 @@ module _ {M : Type 1} (𝓤 : URA M) (H : Heap 𝓤) (A : Atoms 𝓤) (W : Given
           ((tt, tt, tt, ((past .59), tt), ((past .60) ∷ [], tt)), tt) (λ ka _. ka ≡ (past .59) .arrival)
           (‵ ftrue) (plainly 𝓤 H A W (taken-row.the-row ∷ []) ((LL.makes taken-row.the-type taken-laws.the-plain 𝓤 H A), tt)
           ((past .59), tt) ((past .60) ∷ [], tt) ((past .62), tt)) (λ ka _. id⊢ 𝓤 _)
-          (and-then ! (load ! (from ! (stop !)) (look ! 48 refl)) (no-more !))
+          (and-then ! (load ! (from ! (stop !)) (look ! 49 refl)) (no-more !))
           (λ ka w-ka _ e-ka is-ka. drop ! $ drop ! $
-          land ! (from ! (stop !)) (init ! 44 refl (LL.lawful arrival-row.the-type arrival-laws.the-laws 𝓤 H A W .typed ka (w-ka ∷ []) is-ka
+          land ! (from ! (stop !)) (init ! 46 refl (LL.lawful arrival-row.the-type arrival-laws.the-laws 𝓤 H A W .typed ka (w-ka ∷ []) is-ka
           .0)) $
           move ! (17 ∷ []) $ cell-out ! fullShare arrival-row.the-row (LL.vals arrival-row.the-type arrival-laws.the-laws)
           (LL.tells arrival-row.the-type arrival-laws.the-laws) (h .arrival) b (o + 72)
-          (λ was-arrival′. assigns ! (of-opd ! (load ! (from ! (stop !)) (look ! 44 refl)))
+          (λ was-arrival′. assigns ! (of-opd ! (load ! (from ! (stop !)) (look ! 46 refl)))
           (from ! (hop ! (look ! 60 refl) (fld ! {d = 72} refl (stop !))))
           (store-raw ! 0 refl (LL.lawful arrival-row.the-type arrival-laws.the-laws 𝓤 H A W .typed ka (w-ka ∷ []) is-ka .0)) $
           cell-in ! fullShare arrival-row.the-row (LL.makes arrival-row.the-type arrival-laws.the-plain 𝓤 H A) ka b (o + 72) w-ka
-          is-ka $ move ! (7 ∷ []) $ tells-length ! fullShare u32 128 (h .queued) b (o + 124)
-          (λ end-queued. move ! (3 ∷ []) $
-          tells-length ! fullShare u32 32 (past .7) b (o + 636)
-          (λ end-outstanding. move ! (7 ∷ []) $
-          tells-length ! fullShare u8 32 (past .6) b (o + 764)
-          (λ end-transmissions. move ! (7 ∷ []) $
-          tells-length ! fullShare u32 128 (past .5) b (o + 796)
-          (λ end-ready. move ! (7 ∷ []) $
-          tells-length ! fullShare u32 128 (past .4) b (o + 1308)
-          (λ end-waiting. move ! (7 ∷ []) $
-          tells-length ! fullShare u32 128 (past .3) b (o + 1820)
-          (λ end-waiting-numbers. move ! (18 ∷ 7 ∷ 6 ∷ 17 ∷ 5 ∷ 4 ∷ 3 ∷ 2 ∷ 1 ∷ 0 ∷ 19 ∷ 20 ∷ []) $
-          closes-link b o γ ! tt h (record {
-            settings = (h .settings);
-            flight = kf;
-            arrival = ka;
-            clock = (h .clock);
-            queued = (h .queued);
-            outstanding = (past .7);
-            transmissions = (past .6);
-            ready = (past .5);
-            waiting = (past .4);
-            «waiting_numbers» = (past .3);
-          }) $
-          -- [own0; tok0; fin4; fin2; tok1; tok2; tok4; tok5; own3; tok3; deaths; the locals]
-          by ! (part₃ (
+          is-ka $ nothing ! $ calls-fn ! fm changed-of.ended (changed-of.clauses 𝓤 H A at-mem run) (known .7)
+          ((tt, tt, tt, ((past .59), tt), ((past .60) ∷ [], tt)), tt) (λ c _. c ≡ (past .59) .changed)
+          (‵ ftrue) (plainly 𝓤 H A W (taken-row.the-row ∷ []) ((LL.makes taken-row.the-type taken-laws.the-plain 𝓤 H A), tt)
+          ((past .59), tt) ((past .60) ∷ [], tt) ((past .62), tt)) (λ c _. id⊢ 𝓤 _)
+          (and-then ! (load ! (from ! (stop !)) (look ! 49 refl)) (no-more !))
+          (λ c w-c _ e-c is-c. drop ! $ drop ! $ land ! (from ! (stop !)) (init ! 45 refl (uint-lawful 𝓤 H A W w64 .typed c _ is-c .0)) $
+          assigns ! {v = (vptr (x₃ .ptr .0) (x₃ .ptr .1))}
+          (addr ! (from ! (fld ! refl (hop ! (look-in ! 57 (sub ! 0 refl (whole !))) (stop !))))) (from ! (stop !))
+          (init ! 25 refl (tt, tt)) $
+          assigns ! {v = s₃} (agg ! (and-then ! (load ! (from ! (stop !)) (look ! 25 refl))
+          (and-then ! (load ! (from ! (fld ! refl (stop !))) (look-in ! 57 (sub ! 1 refl (whole !)))) (no-more !)))) (from ! (stop !))
+          (init ! 24 refl (tt, (tt, (record { fits = room₃ .0 }, tt)))) $
+          move ! (6 ∷ []) $ tells-length ! fullShare u32 32 (past .7) b (o + 636)
+          (λ mid-outstanding. by ! (part₃ (
             ((past .0)),
             ((past .1)),
             ((past .0)),
@@ -1205,20 +1493,18 @@ module _ {M : Type 1} (𝓤 : URA M) (H : Heap 𝓤) (A : Atoms 𝓤) (W : Given
             (past .63),
             (past .64),
             (past .65),
-            was-outstanding′,
             kf,
             w-kf,
             e-kf,
             ka,
             w-ka,
             e-ka,
-            end-queued,
-            end-outstanding,
-            end-transmissions,
-            end-ready,
-            end-waiting,
-            end-waiting-numbers,
-          )))))))))))))
+            c,
+            w-c,
+            e-c,
+            is-c,
+            mid-outstanding,
+          ))))))))
 
       -- what part 1 knows
       abbrev Known₁ : Type 0
@@ -1241,7 +1527,7 @@ module _ {M : Type 1} (𝓤 : URA M) (H : Heap 𝓤) (A : Atoms 𝓤) (W : Given
           (e-m : m ≡ length (x₃ .now)) × (Is usize m (w-m ∷ []))
 
       part₁ : (past : Known₁) → ent 𝓤 (⋆ 𝓤 H A (‵ Own₃ ∷ ‵ (flft κ₃ q₃)
-          ∷ ‵ (fat fullShare (tyArray (tyInt w32) 128) (past .14) 0 ((only ((array-vals (uint-vals w32)) (past .0)))))
+          ∷ ‵ (fat fullShare (tyArray (tyInt w32) 128) (past .13) 0 ((only ((array-vals (uint-vals w32)) (past .0)))))
           ∷ ‵ (partAt (Array u32 32) fullShare (h .outstanding) b (o + 636)) ∷ ‵ (partAt clock-row.the-row fullShare (h .clock) b (o + 104))
           ∷ ‵ (partAt arrival-row.the-row fullShare (h .arrival) b (o + 72))
           ∷ ‵ (partAt flight-row.the-row fullShare (h .flight) b (o + 16))
@@ -1255,47 +1541,49 @@ module _ {M : Type 1} (𝓤 : URA M) (H : Heap 𝓤) (A : Atoms 𝓤) (W : Given
           (fdies (sliceTy (tyRef (named 3) mut (pointee (R .written)))) (past .5)) ⊛ ‵
           (fdies (sliceTy (tyRef (named 4) mut (tyInt w32))) (past .6)) ⊛ ‵ (fdies (sliceTy (tyRef (named 5) imm (tyInt w8))) (past .7)) ⊛ ‵
           (fdies settings-laws.mir (past .8)) ⊛ ‵ (fdies flight-laws.mir (past .9)) ⊛ ‵ (fdies arrival-laws.mir (past .10)) ⊛ ‵
-          (fdies clock-laws.mir (past .11)) ⊛ ‵ (fdies (tyArray (tyInt w32) 32) (past .12)) ⊛ ‵ (fdies (tyInt w64) (past .13)) ⊛ ‵
-          (fdies (tyArray (tyInt w32) 128) (past .14)) ⊛ ‵ (fdies (tyInt w64) (past .15)) ⊛ ‵ (fdies taken-laws.mir (past .16)) ⊛ ‵
-          (fdies (tyArray (tyInt w32) 32) (past .17)) ⊛ ‵ (fdies flight-laws.mir (past .18)) ⊛ ‵ (fdies arrival-laws.mir (past .19)) ⊛ ‵
-          (fdies (tyInt w64) (past .20)) ⊛ ‵ (fdies (tyArray (tyInt w32) 128) (past .21)) ⊛ ‵ (fdies tyUnit (past .22)) ⊛ ‵
-          (fdies (tyRef erased imm (pointee (R .written))) (past .23)) ⊛ ‵
-          (fdies (sliceTy (tyRef erased imm (pointee (R .written)))) (past .24)) ⊛ ‵
-          (fdies (tyRef erased mut (tyArray (tyInt w32) 128)) (past .25)) ⊛ ‵ (fdies (tyRef erased imm (pointee (R .written))) (past .26)) ⊛
-          ‵ (fdies (sliceTy (tyRef erased imm (pointee (R .written)))) (past .27)) ⊛ ‵
-          (fdies (tyRef erased mut (tyArray (tyInt w32) 128)) (past .28)) ⊛ ‵
-          (fdies (tyRef erased imm (tyArray (tyInt w32) 128)) (past .29)) ⊛ ‵ (fdies (tyRef erased mut (tyArray (tyInt w32) 32)) (past .30))
-          ⊛ ‵ (fdies (tyRef erased mut (tyArray (tyInt w8) 32)) (past .31)) ⊛ ‵
+          (fdies clock-laws.mir (past .11)) ⊛ ‵ (fdies (tyInt w64) (past .12)) ⊛ ‵ (fdies (tyArray (tyInt w32) 128) (past .13)) ⊛ ‵
+          (fdies (tyInt w64) (past .14)) ⊛ ‵ (fdies taken-laws.mir (past .15)) ⊛ ‵ (fdies flight-laws.mir (past .16)) ⊛ ‵
+          (fdies arrival-laws.mir (past .17)) ⊛ ‵ (fdies (tyInt w64) (past .18)) ⊛ ‵ (fdies (tyArray (tyInt w32) 128) (past .19)) ⊛ ‵
+          (fdies tyUnit (past .20)) ⊛ ‵ (fdies (tyRef erased imm (pointee (R .written))) (past .21)) ⊛ ‵
+          (fdies (sliceTy (tyRef erased imm (pointee (R .written)))) (past .22)) ⊛ ‵
+          (fdies (tyRef erased imm (tyArray (tyInt w32) 32)) (past .23)) ⊛ ‵ (fdies (tyRef erased mut (tyArray (tyInt w32) 128)) (past .24))
+          ⊛ ‵ (fdies (tyRef erased imm (pointee (R .written))) (past .25)) ⊛ ‵
+          (fdies (sliceTy (tyRef erased imm (pointee (R .written)))) (past .26)) ⊛ ‵
+          (fdies (tyRef erased mut (tyArray (tyInt w32) 128)) (past .27)) ⊛ ‵
+          (fdies (tyRef erased imm (tyArray (tyInt w32) 128)) (past .28)) ⊛ ‵ (fdies (tyRef erased mut (tyArray (tyInt w32) 32)) (past .29))
+          ⊛ ‵ (fdies (tyRef erased mut (tyArray (tyInt w8) 32)) (past .30)) ⊛ ‵
+          (fdies (tyRef erased mut (tyArray (tyInt w32) 128)) (past .31)) ⊛ ‵
           (fdies (tyRef erased mut (tyArray (tyInt w32) 128)) (past .32)) ⊛ ‵
-          (fdies (tyRef erased mut (tyArray (tyInt w32) 128)) (past .33)) ⊛ ‵
-          (fdies (tyRef erased mut (tyArray (tyInt w32) 128)) (past .34)) ⊛ ‵ (fdies (tyRef erased mut (tyInt w8)) (past .35)) ⊛ ‵
-          (fdies (sliceTy (tyRef erased mut (tyInt w8))) (past .36)) ⊛ ‵ (fdies (tyRef erased mut (tyInt w32)) (past .37)) ⊛ ‵
-          (fdies (sliceTy (tyRef erased mut (tyInt w32))) (past .38)) ⊛ ‵ (fdies (tyRef erased mut (pointee (R .written))) (past .39)) ⊛ ‵
-          (fdies (sliceTy (tyRef erased mut (pointee (R .written)))) (past .40)) ⊛ ‵
+          (fdies (tyRef erased mut (tyArray (tyInt w32) 128)) (past .33)) ⊛ ‵ (fdies (tyRef erased mut (tyInt w8)) (past .34)) ⊛ ‵
+          (fdies (sliceTy (tyRef erased mut (tyInt w8))) (past .35)) ⊛ ‵ (fdies (tyRef erased mut (tyInt w32)) (past .36)) ⊛ ‵
+          (fdies (sliceTy (tyRef erased mut (tyInt w32))) (past .37)) ⊛ ‵ (fdies (tyRef erased mut (pointee (R .written))) (past .38)) ⊛ ‵
+          (fdies (sliceTy (tyRef erased mut (pointee (R .written)))) (past .39)) ⊛ ‵
+          (fdies (tyRef erased imm (tyArray (tyInt w32) 32)) (past .40)) ⊛ ‵
           (fdies (tyRef erased imm (tyArray (tyInt w32) 128)) (past .41))) ∷ ‵ (flft κ₁ q₁) ∷ ‵ (flft κ₂ q₂) ∷ ‵ (flft κ₄ q₄)
           ∷ ‵ (flft κ₅ q₅) ∷ ‵ Own₁ ∷ ‵ Own₂ ∷ ‵ Own₄ ∷ ‵ Own₅
           ∷ ‵ (froom (tyRef erased imm (tyArray (tyInt w32) 128)) (past .41) 0)
-          ∷ ‵ (froom (sliceTy (tyRef erased mut (pointee (R .written)))) (past .40) 0)
-          ∷ ‵ (froom (tyRef erased mut (pointee (R .written))) (past .39) 0)
-          ∷ ‵ (froom (sliceTy (tyRef erased mut (tyInt w32))) (past .38) 0) ∷ ‵ (froom (tyRef erased mut (tyInt w32)) (past .37) 0)
-          ∷ ‵ (froom (sliceTy (tyRef erased mut (tyInt w8))) (past .36) 0) ∷ ‵ (froom (tyRef erased mut (tyInt w8)) (past .35) 0)
-          ∷ ‵ (froom (tyRef erased mut (tyArray (tyInt w32) 128)) (past .34) 0)
+          ∷ ‵ (froom (tyRef erased imm (tyArray (tyInt w32) 32)) (past .40) 0)
+          ∷ ‵ (froom (sliceTy (tyRef erased mut (pointee (R .written)))) (past .39) 0)
+          ∷ ‵ (froom (tyRef erased mut (pointee (R .written))) (past .38) 0)
+          ∷ ‵ (froom (sliceTy (tyRef erased mut (tyInt w32))) (past .37) 0) ∷ ‵ (froom (tyRef erased mut (tyInt w32)) (past .36) 0)
+          ∷ ‵ (froom (sliceTy (tyRef erased mut (tyInt w8))) (past .35) 0) ∷ ‵ (froom (tyRef erased mut (tyInt w8)) (past .34) 0)
           ∷ ‵ (froom (tyRef erased mut (tyArray (tyInt w32) 128)) (past .33) 0)
           ∷ ‵ (froom (tyRef erased mut (tyArray (tyInt w32) 128)) (past .32) 0)
-          ∷ ‵ (froom (tyRef erased mut (tyArray (tyInt w8) 32)) (past .31) 0)
-          ∷ ‵ (froom (tyRef erased mut (tyArray (tyInt w32) 32)) (past .30) 0)
-          ∷ ‵ (froom (tyRef erased imm (tyArray (tyInt w32) 128)) (past .29) 0)
-          ∷ ‵ (fat fullShare (tyRef erased mut (tyArray (tyInt w32) 128)) (past .28) 0 ((vptr (past .14) 0)))
-          ∷ ‵ (fat fullShare (sliceTy (tyRef erased imm (pointee (R .written)))) (past .27) 0 (s₃))
-          ∷ ‵ (fat fullShare (tyRef erased imm (pointee (R .written))) (past .26) 0 ((vptr (x₃ .ptr .0) (x₃ .ptr .1))))
-          ∷ ‵ (fat fullShare (tyRef erased mut (tyArray (tyInt w32) 128)) (past .25) 0 ((vptr (past .14) 0)))
-          ∷ ‵ (fat fullShare (sliceTy (tyRef erased imm (pointee (R .written)))) (past .24) 0 (s₃))
-          ∷ ‵ (fat fullShare (tyRef erased imm (pointee (R .written))) (past .23) 0 ((vptr (x₃ .ptr .0) (x₃ .ptr .1))))
-          ∷ ‵ (fat fullShare tyUnit (past .22) 0 ((past .56))) ∷ ‵ (fat fullShare (tyArray (tyInt w32) 128) (past .21) 0 ((past .55)))
-          ∷ ‵ (froom (tyInt w64) (past .20) 0) ∷ ‵ (froom arrival-laws.mir (past .19) 0) ∷ ‵ (froom flight-laws.mir (past .18) 0)
-          ∷ ‵ (froom (tyArray (tyInt w32) 32) (past .17) 0) ∷ ‵ (froom taken-laws.mir (past .16) 0)
-          ∷ ‵ (fat fullShare (tyInt w64) (past .15) 0 ((past .60))) ∷ ‵ (fat fullShare (tyInt w64) (past .13) 0 ((past .53)))
-          ∷ ‵ (fat fullShare (tyArray (tyInt w32) 32) (past .12) 0 ((only ((array-vals (uint-vals w32)) (h .outstanding)))))
+          ∷ ‵ (froom (tyRef erased mut (tyArray (tyInt w32) 128)) (past .31) 0)
+          ∷ ‵ (froom (tyRef erased mut (tyArray (tyInt w8) 32)) (past .30) 0)
+          ∷ ‵ (froom (tyRef erased mut (tyArray (tyInt w32) 32)) (past .29) 0)
+          ∷ ‵ (froom (tyRef erased imm (tyArray (tyInt w32) 128)) (past .28) 0)
+          ∷ ‵ (fat fullShare (tyRef erased mut (tyArray (tyInt w32) 128)) (past .27) 0 ((vptr (past .13) 0)))
+          ∷ ‵ (fat fullShare (sliceTy (tyRef erased imm (pointee (R .written)))) (past .26) 0 (s₃))
+          ∷ ‵ (fat fullShare (tyRef erased imm (pointee (R .written))) (past .25) 0 ((vptr (x₃ .ptr .0) (x₃ .ptr .1))))
+          ∷ ‵ (fat fullShare (tyRef erased mut (tyArray (tyInt w32) 128)) (past .24) 0 ((vptr (past .13) 0)))
+          ∷ ‵ (fat fullShare (tyRef erased imm (tyArray (tyInt w32) 32)) (past .23) 0 ((vptr b (o + 636))))
+          ∷ ‵ (fat fullShare (sliceTy (tyRef erased imm (pointee (R .written)))) (past .22) 0 (s₃))
+          ∷ ‵ (fat fullShare (tyRef erased imm (pointee (R .written))) (past .21) 0 ((vptr (x₃ .ptr .0) (x₃ .ptr .1))))
+          ∷ ‵ (fat fullShare tyUnit (past .20) 0 ((past .56))) ∷ ‵ (fat fullShare (tyArray (tyInt w32) 128) (past .19) 0 ((past .55)))
+          ∷ ‵ (froom (tyInt w64) (past .18) 0) ∷ ‵ (froom arrival-laws.mir (past .17) 0) ∷ ‵ (froom flight-laws.mir (past .16) 0)
+          ∷ ‵ (froom taken-laws.mir (past .15) 0) ∷ ‵ (fat fullShare (tyInt w64) (past .14) 0 ((past .60)))
+          ∷ ‵ (fat fullShare (tyInt w64) (past .12) 0 ((past .53)))
           ∷ ‵ (fat fullShare clock-laws.mir (past .11) 0 ((only ((LL.vals clock-row.the-type clock-laws.the-laws) (h .clock)))))
           ∷ ‵ (fat fullShare arrival-laws.mir (past .10) 0 ((only ((LL.vals arrival-row.the-type arrival-laws.the-laws) (h .arrival)))))
           ∷ ‵ (fat fullShare flight-laws.mir (past .9) 0 ((only ((LL.vals flight-row.the-type flight-laws.the-laws) (h .flight)))))
@@ -1315,7 +1603,7 @@ module _ {M : Type 1} (𝓤 : URA M) (H : Heap 𝓤) (A : Atoms 𝓤) (W : Given
           (past .23) (past .24) (past .25) (past .26) (past .27) (past .28) (past .29) (past .30) (past .31) (past .32) (past .33)
           (past .34) (past .35) (past .36) (past .37) (past .38) (past .39) (past .40) (past .41)) Post))
       part₁ past =
-          qed W (‵ Own₃ ∷ ‵ (flft κ₃ q₃) ∷ ‵ (fat fullShare (tyArray (tyInt w32) 128) (past .14) 0
+          qed W (‵ Own₃ ∷ ‵ (flft κ₃ q₃) ∷ ‵ (fat fullShare (tyArray (tyInt w32) 128) (past .13) 0
           ((only ((array-vals (uint-vals w32)) (past .0))))) ∷ ‵ (partAt (Array u32 32) fullShare (h .outstanding) b (o + 636))
           ∷ ‵ (partAt clock-row.the-row fullShare (h .clock) b (o + 104))
           ∷ ‵ (partAt arrival-row.the-row fullShare (h .arrival) b (o + 72))
@@ -1330,49 +1618,51 @@ module _ {M : Type 1} (𝓤 : URA M) (H : Heap 𝓤) (A : Atoms 𝓤) (W : Given
           ⊛ ‵ (fdies (sliceTy (tyRef (named 3) mut (pointee (R .written)))) (past .5)) ⊛ ‵
           (fdies (sliceTy (tyRef (named 4) mut (tyInt w32))) (past .6)) ⊛ ‵ (fdies (sliceTy (tyRef (named 5) imm (tyInt w8))) (past .7))
           ⊛ ‵ (fdies settings-laws.mir (past .8)) ⊛ ‵ (fdies flight-laws.mir (past .9)) ⊛ ‵ (fdies arrival-laws.mir (past .10)) ⊛ ‵
-          (fdies clock-laws.mir (past .11)) ⊛ ‵ (fdies (tyArray (tyInt w32) 32) (past .12)) ⊛ ‵ (fdies (tyInt w64) (past .13)) ⊛ ‵
-          (fdies (tyArray (tyInt w32) 128) (past .14)) ⊛ ‵ (fdies (tyInt w64) (past .15)) ⊛ ‵ (fdies taken-laws.mir (past .16)) ⊛ ‵
-          (fdies (tyArray (tyInt w32) 32) (past .17)) ⊛ ‵ (fdies flight-laws.mir (past .18)) ⊛ ‵ (fdies arrival-laws.mir (past .19)) ⊛ ‵
-          (fdies (tyInt w64) (past .20)) ⊛ ‵ (fdies (tyArray (tyInt w32) 128) (past .21)) ⊛ ‵ (fdies tyUnit (past .22)) ⊛ ‵
-          (fdies (tyRef erased imm (pointee (R .written))) (past .23)) ⊛ ‵
-          (fdies (sliceTy (tyRef erased imm (pointee (R .written)))) (past .24)) ⊛ ‵
-          (fdies (tyRef erased mut (tyArray (tyInt w32) 128)) (past .25)) ⊛ ‵
-          (fdies (tyRef erased imm (pointee (R .written))) (past .26)) ⊛ ‵
-          (fdies (sliceTy (tyRef erased imm (pointee (R .written)))) (past .27)) ⊛ ‵
-          (fdies (tyRef erased mut (tyArray (tyInt w32) 128)) (past .28)) ⊛ ‵
-          (fdies (tyRef erased imm (tyArray (tyInt w32) 128)) (past .29)) ⊛ ‵
-          (fdies (tyRef erased mut (tyArray (tyInt w32) 32)) (past .30)) ⊛ ‵
-          (fdies (tyRef erased mut (tyArray (tyInt w8) 32)) (past .31)) ⊛ ‵
+          (fdies clock-laws.mir (past .11)) ⊛ ‵ (fdies (tyInt w64) (past .12)) ⊛ ‵ (fdies (tyArray (tyInt w32) 128) (past .13)) ⊛ ‵
+          (fdies (tyInt w64) (past .14)) ⊛ ‵ (fdies taken-laws.mir (past .15)) ⊛ ‵ (fdies flight-laws.mir (past .16)) ⊛ ‵
+          (fdies arrival-laws.mir (past .17)) ⊛ ‵ (fdies (tyInt w64) (past .18)) ⊛ ‵ (fdies (tyArray (tyInt w32) 128) (past .19)) ⊛ ‵
+          (fdies tyUnit (past .20)) ⊛ ‵ (fdies (tyRef erased imm (pointee (R .written))) (past .21)) ⊛ ‵
+          (fdies (sliceTy (tyRef erased imm (pointee (R .written)))) (past .22)) ⊛ ‵
+          (fdies (tyRef erased imm (tyArray (tyInt w32) 32)) (past .23)) ⊛ ‵
+          (fdies (tyRef erased mut (tyArray (tyInt w32) 128)) (past .24)) ⊛ ‵
+          (fdies (tyRef erased imm (pointee (R .written))) (past .25)) ⊛ ‵
+          (fdies (sliceTy (tyRef erased imm (pointee (R .written)))) (past .26)) ⊛ ‵
+          (fdies (tyRef erased mut (tyArray (tyInt w32) 128)) (past .27)) ⊛ ‵
+          (fdies (tyRef erased imm (tyArray (tyInt w32) 128)) (past .28)) ⊛ ‵
+          (fdies (tyRef erased mut (tyArray (tyInt w32) 32)) (past .29)) ⊛ ‵
+          (fdies (tyRef erased mut (tyArray (tyInt w8) 32)) (past .30)) ⊛ ‵
+          (fdies (tyRef erased mut (tyArray (tyInt w32) 128)) (past .31)) ⊛ ‵
           (fdies (tyRef erased mut (tyArray (tyInt w32) 128)) (past .32)) ⊛ ‵
-          (fdies (tyRef erased mut (tyArray (tyInt w32) 128)) (past .33)) ⊛ ‵
-          (fdies (tyRef erased mut (tyArray (tyInt w32) 128)) (past .34)) ⊛ ‵ (fdies (tyRef erased mut (tyInt w8)) (past .35)) ⊛ ‵
-          (fdies (sliceTy (tyRef erased mut (tyInt w8))) (past .36)) ⊛ ‵ (fdies (tyRef erased mut (tyInt w32)) (past .37)) ⊛ ‵
-          (fdies (sliceTy (tyRef erased mut (tyInt w32))) (past .38)) ⊛ ‵ (fdies (tyRef erased mut (pointee (R .written))) (past .39)) ⊛
-          ‵ (fdies (sliceTy (tyRef erased mut (pointee (R .written)))) (past .40)) ⊛ ‵
+          (fdies (tyRef erased mut (tyArray (tyInt w32) 128)) (past .33)) ⊛ ‵ (fdies (tyRef erased mut (tyInt w8)) (past .34)) ⊛ ‵
+          (fdies (sliceTy (tyRef erased mut (tyInt w8))) (past .35)) ⊛ ‵ (fdies (tyRef erased mut (tyInt w32)) (past .36)) ⊛ ‵
+          (fdies (sliceTy (tyRef erased mut (tyInt w32))) (past .37)) ⊛ ‵ (fdies (tyRef erased mut (pointee (R .written))) (past .38)) ⊛
+          ‵ (fdies (sliceTy (tyRef erased mut (pointee (R .written)))) (past .39)) ⊛ ‵
+          (fdies (tyRef erased imm (tyArray (tyInt w32) 32)) (past .40)) ⊛ ‵
           (fdies (tyRef erased imm (tyArray (tyInt w32) 128)) (past .41))) ∷ ‵ (flft κ₁ q₁) ∷ ‵ (flft κ₂ q₂) ∷ ‵ (flft κ₄ q₄)
           ∷ ‵ (flft κ₅ q₅) ∷ ‵ Own₁ ∷ ‵ Own₂ ∷ ‵ Own₄ ∷ ‵ Own₅
           ∷ ‵ (froom (tyRef erased imm (tyArray (tyInt w32) 128)) (past .41) 0)
-          ∷ ‵ (froom (sliceTy (tyRef erased mut (pointee (R .written)))) (past .40) 0)
-          ∷ ‵ (froom (tyRef erased mut (pointee (R .written))) (past .39) 0)
-          ∷ ‵ (froom (sliceTy (tyRef erased mut (tyInt w32))) (past .38) 0) ∷ ‵ (froom (tyRef erased mut (tyInt w32)) (past .37) 0)
-          ∷ ‵ (froom (sliceTy (tyRef erased mut (tyInt w8))) (past .36) 0) ∷ ‵ (froom (tyRef erased mut (tyInt w8)) (past .35) 0)
-          ∷ ‵ (froom (tyRef erased mut (tyArray (tyInt w32) 128)) (past .34) 0)
+          ∷ ‵ (froom (tyRef erased imm (tyArray (tyInt w32) 32)) (past .40) 0)
+          ∷ ‵ (froom (sliceTy (tyRef erased mut (pointee (R .written)))) (past .39) 0)
+          ∷ ‵ (froom (tyRef erased mut (pointee (R .written))) (past .38) 0)
+          ∷ ‵ (froom (sliceTy (tyRef erased mut (tyInt w32))) (past .37) 0) ∷ ‵ (froom (tyRef erased mut (tyInt w32)) (past .36) 0)
+          ∷ ‵ (froom (sliceTy (tyRef erased mut (tyInt w8))) (past .35) 0) ∷ ‵ (froom (tyRef erased mut (tyInt w8)) (past .34) 0)
           ∷ ‵ (froom (tyRef erased mut (tyArray (tyInt w32) 128)) (past .33) 0)
           ∷ ‵ (froom (tyRef erased mut (tyArray (tyInt w32) 128)) (past .32) 0)
-          ∷ ‵ (froom (tyRef erased mut (tyArray (tyInt w8) 32)) (past .31) 0)
-          ∷ ‵ (froom (tyRef erased mut (tyArray (tyInt w32) 32)) (past .30) 0)
-          ∷ ‵ (froom (tyRef erased imm (tyArray (tyInt w32) 128)) (past .29) 0)
-          ∷ ‵ (fat fullShare (tyRef erased mut (tyArray (tyInt w32) 128)) (past .28) 0 ((vptr (past .14) 0)))
-          ∷ ‵ (fat fullShare (sliceTy (tyRef erased imm (pointee (R .written)))) (past .27) 0 (s₃))
-          ∷ ‵ (fat fullShare (tyRef erased imm (pointee (R .written))) (past .26) 0 ((vptr (x₃ .ptr .0) (x₃ .ptr .1))))
-          ∷ ‵ (fat fullShare (tyRef erased mut (tyArray (tyInt w32) 128)) (past .25) 0 ((vptr (past .14) 0)))
-          ∷ ‵ (fat fullShare (sliceTy (tyRef erased imm (pointee (R .written)))) (past .24) 0 (s₃))
-          ∷ ‵ (fat fullShare (tyRef erased imm (pointee (R .written))) (past .23) 0 ((vptr (x₃ .ptr .0) (x₃ .ptr .1))))
-          ∷ ‵ (fat fullShare tyUnit (past .22) 0 ((past .56))) ∷ ‵ (fat fullShare (tyArray (tyInt w32) 128) (past .21) 0 ((past .55)))
-          ∷ ‵ (froom (tyInt w64) (past .20) 0) ∷ ‵ (froom arrival-laws.mir (past .19) 0) ∷ ‵ (froom flight-laws.mir (past .18) 0)
-          ∷ ‵ (froom (tyArray (tyInt w32) 32) (past .17) 0) ∷ ‵ (froom taken-laws.mir (past .16) 0)
-          ∷ ‵ (fat fullShare (tyInt w64) (past .15) 0 ((past .60))) ∷ ‵ (fat fullShare (tyInt w64) (past .13) 0 ((past .53)))
-          ∷ ‵ (fat fullShare (tyArray (tyInt w32) 32) (past .12) 0 ((only ((array-vals (uint-vals w32)) (h .outstanding)))))
+          ∷ ‵ (froom (tyRef erased mut (tyArray (tyInt w32) 128)) (past .31) 0)
+          ∷ ‵ (froom (tyRef erased mut (tyArray (tyInt w8) 32)) (past .30) 0)
+          ∷ ‵ (froom (tyRef erased mut (tyArray (tyInt w32) 32)) (past .29) 0)
+          ∷ ‵ (froom (tyRef erased imm (tyArray (tyInt w32) 128)) (past .28) 0)
+          ∷ ‵ (fat fullShare (tyRef erased mut (tyArray (tyInt w32) 128)) (past .27) 0 ((vptr (past .13) 0)))
+          ∷ ‵ (fat fullShare (sliceTy (tyRef erased imm (pointee (R .written)))) (past .26) 0 (s₃))
+          ∷ ‵ (fat fullShare (tyRef erased imm (pointee (R .written))) (past .25) 0 ((vptr (x₃ .ptr .0) (x₃ .ptr .1))))
+          ∷ ‵ (fat fullShare (tyRef erased mut (tyArray (tyInt w32) 128)) (past .24) 0 ((vptr (past .13) 0)))
+          ∷ ‵ (fat fullShare (tyRef erased imm (tyArray (tyInt w32) 32)) (past .23) 0 ((vptr b (o + 636))))
+          ∷ ‵ (fat fullShare (sliceTy (tyRef erased imm (pointee (R .written)))) (past .22) 0 (s₃))
+          ∷ ‵ (fat fullShare (tyRef erased imm (pointee (R .written))) (past .21) 0 ((vptr (x₃ .ptr .0) (x₃ .ptr .1))))
+          ∷ ‵ (fat fullShare tyUnit (past .20) 0 ((past .56))) ∷ ‵ (fat fullShare (tyArray (tyInt w32) 128) (past .19) 0 ((past .55)))
+          ∷ ‵ (froom (tyInt w64) (past .18) 0) ∷ ‵ (froom arrival-laws.mir (past .17) 0) ∷ ‵ (froom flight-laws.mir (past .16) 0)
+          ∷ ‵ (froom taken-laws.mir (past .15) 0) ∷ ‵ (fat fullShare (tyInt w64) (past .14) 0 ((past .60)))
+          ∷ ‵ (fat fullShare (tyInt w64) (past .12) 0 ((past .53)))
           ∷ ‵ (fat fullShare clock-laws.mir (past .11) 0 ((only ((LL.vals clock-row.the-type clock-laws.the-laws) (h .clock)))))
           ∷ ‵ (fat fullShare arrival-laws.mir (past .10) 0 ((only ((LL.vals arrival-row.the-type arrival-laws.the-laws) (h .arrival)))))
           ∷ ‵ (fat fullShare flight-laws.mir (past .9) 0 ((only ((LL.vals flight-row.the-type flight-laws.the-laws) (h .flight)))))
@@ -1394,40 +1684,40 @@ module _ {M : Type 1} (𝓤 : URA M) (H : Heap 𝓤) (A : Atoms 𝓤) (W : Given
           (past .31) (past .32) (past .33) (past .34) (past .35) (past .36) (past .37) (past .38) (past .39) (past .40) (past .41))
           Post) $
           assigns ! {v = (vptr b (o + 124))} (addr ! (from ! (hop ! (look ! 62 refl) (fld ! {d = 124} refl (stop !))))) (from ! (stop !))
-          (init ! 36 refl (tt, tt)) $
+          (init ! 37 refl (tt, tt)) $
           assigns ! {v = (vptr b (o + 636))} (addr ! (from ! (hop ! (look ! 62 refl) (fld ! {d = 636} refl (stop !))))) (from ! (stop !))
-          (init ! 35 refl (tt, tt)) $
+          (init ! 36 refl (tt, tt)) $
           assigns ! {v = (vptr b (o + 764))} (addr ! (from ! (hop ! (look ! 62 refl) (fld ! {d = 764} refl (stop !))))) (from ! (stop !))
-          (init ! 34 refl (tt, tt)) $
+          (init ! 35 refl (tt, tt)) $
           assigns ! {v = (vptr b (o + 796))} (addr ! (from ! (hop ! (look ! 62 refl) (fld ! {d = 796} refl (stop !))))) (from ! (stop !))
-          (init ! 33 refl (tt, tt)) $
+          (init ! 34 refl (tt, tt)) $
           assigns ! {v = (vptr b (o + 1308))} (addr ! (from ! (hop ! (look ! 62 refl) (fld ! {d = 1308} refl (stop !))))) (from ! (stop !))
-          (init ! 32 refl (tt, tt)) $
+          (init ! 33 refl (tt, tt)) $
           assigns ! {v = (vptr b (o + 1820))} (addr ! (from ! (hop ! (look ! 62 refl) (fld ! {d = 1820} refl (stop !))))) (from ! (stop !))
-          (init ! 31 refl (tt, tt)) $
+          (init ! 32 refl (tt, tt)) $
           assigns ! {v = (vptr (x₂ .ptr .0) (x₂ .ptr .1))}
           (addr ! (from ! (fld ! refl (hop ! (look-in ! 60 (sub ! 0 refl (whole !))) (stop !))))) (from ! (stop !))
-          (init ! 30 refl (tt, tt)) $
-          assigns ! {v = s₂} (agg ! (and-then ! (load ! (from ! (stop !)) (look ! 30 refl))
+          (init ! 31 refl (tt, tt)) $
+          assigns ! {v = s₂} (agg ! (and-then ! (load ! (from ! (stop !)) (look ! 31 refl))
           (and-then ! (load ! (from ! (fld ! refl (stop !))) (look-in ! 60 (sub ! 1 refl (whole !)))) (no-more !)))) (from ! (stop !))
-          (init ! 29 refl (tt, (tt, (record { fits = room₂ .0 }, tt)))) $
+          (init ! 30 refl (tt, (tt, (record { fits = room₂ .0 }, tt)))) $
           assigns ! {v = (vptr (x₄ .ptr .0) (x₄ .ptr .1))}
           (addr ! (from ! (fld ! refl (hop ! (look-in ! 58 (sub ! 0 refl (whole !))) (stop !))))) (from ! (stop !))
-          (init ! 28 refl (tt, tt)) $
-          assigns ! {v = s₄} (agg ! (and-then ! (load ! (from ! (stop !)) (look ! 28 refl))
+          (init ! 29 refl (tt, tt)) $
+          assigns ! {v = s₄} (agg ! (and-then ! (load ! (from ! (stop !)) (look ! 29 refl))
           (and-then ! (load ! (from ! (fld ! refl (stop !))) (look-in ! 58 (sub ! 1 refl (whole !)))) (no-more !)))) (from ! (stop !))
-          (init ! 27 refl (tt, (tt, (record { fits = room₄ .0 }, tt)))) $
+          (init ! 28 refl (tt, (tt, (record { fits = room₄ .0 }, tt)))) $
           move ! (2 ∷ []) $ use1 W (‵ (cellAt fullShare ((tyArray (tyInt w32) 128) ∷ [])
-          ((only ((array-vals (uint-vals w32)) (past .0))) ∷ []) (past .14) 0))
-          (W .laws .at-raw fullShare (tyArray (tyInt w32) 128) (past .14) 0 (only ((array-vals (uint-vals w32)) (past .0)))) $
-          cell-in ! fullShare (Array u32 128) (array-makes 𝓤 H A W u32 (uint-makes 𝓤 H A W w32) 128) (past .0) (past .14) 0
+          ((only ((array-vals (uint-vals w32)) (past .0))) ∷ []) (past .13) 0))
+          (W .laws .at-raw fullShare (tyArray (tyInt w32) 128) (past .13) 0 (only ((array-vals (uint-vals w32)) (past .0)))) $
+          cell-in ! fullShare (Array u32 128) (array-makes 𝓤 H A W u32 (uint-makes 𝓤 H A W w32) 128) (past .0) (past .13) 0
           (only ((array-vals (uint-vals w32)) (past .0))) (past .58) $
-          lend-mut ! tt (Array u32 128) (past .0) (past .14) 0
+          lend-mut ! tt (Array u32 128) (past .0) (past .13) 0
           (λ α-local′ δ-local′. move ! (14 ∷ []) $
           lend-shr ! tt fullShare (Array u32 128) (h .queued) b (o + 124)
           (λ α-queued δ-queued. move ! (8 ∷ []) $
           lend-mut ! tt (Array u32 32) (h .outstanding) b (o + 636)
-          (λ α-outstanding δ-outstanding. move ! (18 ∷ []) $
+          (λ α-outstanding′ δ-outstanding′. move ! (18 ∷ []) $
           lend-mut ! tt (Array u8 32) (h .transmissions) b (o + 764)
           (λ α-transmissions δ-transmissions. move ! (20 ∷ []) $
           lend-mut ! tt (Array u32 128) (h .ready) b (o + 796)
@@ -1438,7 +1728,7 @@ module _ {M : Type 1} (𝓤 : URA M) (H : Heap 𝓤) (A : Atoms 𝓤) (W : Given
           (λ α-waiting-numbers δ-waiting-numbers. move ! (18 ∷ 19 ∷ 15 ∷ 16 ∷ 12 ∷ 13 ∷ 9 ∷ 10 ∷ 6 ∷ 7 ∷ 3 ∷ 4 ∷ 0 ∷ 1 ∷ 30
           ∷ 34 ∷ 31 ∷ 35 ∷ 32 ∷ 36 ∷ 33 ∷ 37 ∷ []) $ group ! 22 $
           calls-fn ! fm core.ended (core.clauses 𝓤 H A at-mem run) (known .4)
-          (to-core (past .14) α-local′ δ-local′ (past .0) α-queued δ-queued (h .queued) α-outstanding δ-outstanding (h .outstanding)
+          (to-core (past .13) α-local′ δ-local′ (past .0) α-queued δ-queued (h .queued) α-outstanding′ δ-outstanding′ (h .outstanding)
           α-transmissions δ-transmissions (h .transmissions) α-ready δ-ready (h .ready) α-waiting δ-waiting (h .waiting)
           α-waiting-numbers δ-waiting-numbers (h .«waiting_numbers») (h .settings)
           (only ((LL.vals settings-row.the-type settings-laws.the-laws) (h .settings))) (h .flight)
@@ -1451,10 +1741,10 @@ module _ {M : Type 1} (𝓤 : URA M) (H : Heap 𝓤) (A : Atoms 𝓤) (W : Given
           (ws-a .1 .1 .1 .1 .1 .1 .1 .1 .1 .1 .0) (ws-a .1 .1 .1 .1 .1 .1 .1 .1 .1 .1 .1 .0)) (recordsIn (ws-a .1 .1 .1 .1 .0))
           (ws-a .1 .1 .1 .1 .1 .1 .1 .1 .1 .1 .1 .1 .1 .0) (ws-a .1 .1 .1 .1 .1 .1 .1 .1 .1 .1 .1 .1 .1 .1 .0)) ×
           (length (ws-a .1 .1 .1 .1 .0) ≡ 128)) (‵ (flft (α-local′ ∷ []) fullShare) ⊛ ‵
-          (MutRef (named 0) (α-local′ ∷ []) (Array u32 128) .own (ref-at (past .14) 0 δ-local′ (past .0)) ((vptr (past .14) 0) ∷ [])) ⊛
+          (MutRef (named 0) (α-local′ ∷ []) (Array u32 128) .own (ref-at (past .13) 0 δ-local′ (past .0)) ((vptr (past .13) 0) ∷ [])) ⊛
           ‵ (flft (α-queued ∷ []) fullShare) ⊛ ‵ (ShrRef (named 0) (α-queued ∷ []) (Array u32 128) .own
-          (ref-at b (o + 124) δ-queued (h .queued)) ((vptr b (o + 124)) ∷ [])) ⊛ ‵ (flft (α-outstanding ∷ []) fullShare) ⊛ ‵
-          (MutRef (named 0) (α-outstanding ∷ []) (Array u32 32) .own (ref-at b (o + 636) δ-outstanding (h .outstanding))
+          (ref-at b (o + 124) δ-queued (h .queued)) ((vptr b (o + 124)) ∷ [])) ⊛ ‵ (flft (α-outstanding′ ∷ []) fullShare) ⊛ ‵
+          (MutRef (named 0) (α-outstanding′ ∷ []) (Array u32 32) .own (ref-at b (o + 636) δ-outstanding′ (h .outstanding))
           ((vptr b (o + 636)) ∷ [])) ⊛ ‵ (flft (α-transmissions ∷ []) fullShare) ⊛ ‵
           (MutRef (named 0) (α-transmissions ∷ []) (Array u8 32) .own (ref-at b (o + 764) δ-transmissions (h .transmissions))
           ((vptr b (o + 764)) ∷ [])) ⊛ ‵ (flft (α-ready ∷ []) fullShare) ⊛ ‵
@@ -1464,7 +1754,7 @@ module _ {M : Type 1} (𝓤 : URA M) (H : Heap 𝓤) (A : Atoms 𝓤) (W : Given
           (MutRef (named 0) (α-waiting-numbers ∷ []) (Array u32 128) .own (ref-at b (o + 1820) δ-waiting-numbers (h .«waiting_numbers»))
           ((vptr b (o + 1820)) ∷ [])) ⊛ ‵ (flft κ₁ q₁) ⊛ ‵ Own₁ ⊛ ‵ (flft κ₂ q₂) ⊛ ‵ Own₂ ⊛ ‵ (flft κ₄ q₄) ⊛ ‵
           Own₄ ⊛ ‵ (flft κ₅ q₅) ⊛ ‵ Own₅)
-          (asks-core (past .14) α-local′ δ-local′ (past .0) α-queued δ-queued (h .queued) α-outstanding δ-outstanding (h .outstanding)
+          (asks-core (past .13) α-local′ δ-local′ (past .0) α-queued δ-queued (h .queued) α-outstanding′ δ-outstanding′ (h .outstanding)
           α-transmissions δ-transmissions (h .transmissions) α-ready δ-ready (h .ready) α-waiting δ-waiting (h .waiting) α-waiting-numbers
           δ-waiting-numbers (h .«waiting_numbers») (h .settings)
           (only ((LL.vals settings-row.the-type settings-laws.the-laws) (h .settings))) (past .48) (h .flight)
@@ -1485,27 +1775,27 @@ module _ {M : Type 1} (𝓤 : URA M) (H : Heap 𝓤) (A : Atoms 𝓤) (W : Given
           (and-then ! (load ! (from ! (stop !)) (look ! 48 refl))
           (and-then ! (load ! (from ! (stop !)) (look ! 47 refl))
           (and-then ! (load ! (from ! (stop !)) (look ! 46 refl))
+          (and-then ! (load ! (from ! (stop !)) (look ! 31 refl))
+          (and-then ! (load ! (from ! (stop !)) (look ! 44 refl))
           (and-then ! (load ! (from ! (stop !)) (look ! 30 refl))
-          (and-then ! (load ! (from ! (stop !)) (look ! 43 refl))
           (and-then ! (load ! (from ! (stop !)) (look ! 29 refl))
           (and-then ! (load ! (from ! (stop !)) (look ! 28 refl))
           (and-then ! (load ! (from ! (stop !)) (look ! 27 refl))
           (and-then ! (load ! (from ! (stop !)) (look ! 26 refl))
           (and-then ! (load ! (from ! (stop !)) (look ! 25 refl))
-          (and-then ! (load ! (from ! (stop !)) (look ! 24 refl))
           (and-then ! (load ! (from ! (stop !)) (look ! 54 refl))
-          (and-then ! (load ! (from ! (stop !)) (look ! 22 refl))
-          (and-then ! (load ! (from ! (stop !)) (look ! 20 refl))
+          (and-then ! (load ! (from ! (stop !)) (look ! 23 refl))
+          (and-then ! (load ! (from ! (stop !)) (look ! 21 refl))
           (and-then ! (load ! (from ! (stop !)) (look ! 50 refl)) (no-more !)))))))))))))))))
           (λ a w-a ws-a e-a is-a. land ! (from ! (stop !))
-          (init ! 43 refl (LL.lawful taken-row.the-type taken-laws.the-laws 𝓤 H A W .typed a (w-a ∷ []) is-a .0)) $
+          (init ! 44 refl (LL.lawful taken-row.the-type taken-laws.the-laws 𝓤 H A W .typed a (w-a ∷ []) is-a .0)) $
           spread W (‵ (flft (α-local′ ∷ []) fullShare))
-          (‵ (flft (α-queued ∷ []) fullShare) ∷ ‵ (flft (α-outstanding ∷ []) fullShare) ∷ ‵ (flft (α-transmissions ∷ []) fullShare)
+          (‵ (flft (α-queued ∷ []) fullShare) ∷ ‵ (flft (α-outstanding′ ∷ []) fullShare) ∷ ‵ (flft (α-transmissions ∷ []) fullShare)
           ∷ ‵ (flft (α-ready ∷ []) fullShare) ∷ ‵ (flft (α-waiting ∷ []) fullShare) ∷ ‵ (flft (α-waiting-numbers ∷ []) fullShare)
           ∷ ‵ (flft κ₁ q₁) ∷ ‵ (flft κ₂ q₂) ∷ ‵ (flft κ₄ q₄) ∷ ‵ (flft κ₅ q₅) ∷ ‵ ftrue ∷ []) (id⊢ 𝓤 _) $
           move ! (12 ∷ []) $ spread W (‵ ftrue) (‵ ftrue ∷ ‵ ftrue ∷ ‵ ftrue
           ∷ ‵ (fres δ-local′ ((Array u32 128) .coded .code (ws-a .1 .1 .1 .1 .0))) ∷ ‵ ftrue ∷ ‵ ftrue
-          ∷ ‵ (fres δ-outstanding ((Array u32 32) .coded .code (ws-a .1 .1 .1 .1 .1 .1 .1 .0)))
+          ∷ ‵ (fres δ-outstanding′ ((Array u32 32) .coded .code (ws-a .1 .1 .1 .1 .1 .1 .1 .0)))
           ∷ ‵ (fres δ-transmissions ((Array u8 32) .coded .code (ws-a .1 .1 .1 .1 .1 .1 .1 .1 .0)))
           ∷ ‵ (fres δ-ready ((Array u32 128) .coded .code (ws-a .1 .1 .1 .1 .1 .1 .1 .1 .1 .0)))
           ∷ ‵ (fres δ-waiting ((Array u32 128) .coded .code (ws-a .1 .1 .1 .1 .1 .1 .1 .1 .1 .1 .0)))
@@ -1519,15 +1809,15 @@ module _ {M : Type 1} (𝓤 : URA M) (H : Heap 𝓤) (A : Atoms 𝓤) (W : Given
           ∷ 52 ∷ 53 ∷ 54 ∷ 55 ∷ 56 ∷ 57 ∷ 58 ∷ 59 ∷ 60 ∷ 61 ∷ 62 ∷ 63 ∷ 64 ∷ 65 ∷ 66 ∷ 67 ∷ 68 ∷ 69 ∷ 70 ∷ 71 ∷ 72
           ∷ 73 ∷ 74 ∷ 75 ∷ 76 ∷ 77 ∷ 78 ∷ 79 ∷ 80 ∷ 81 ∷ 82 ∷ 83 ∷ 84 ∷ []) $ move ! (6 ∷ []) $ fsplit ! $ move ! (1 ∷ []) $
           feqL ! (λ len₂. move ! (7 ∷ []) $ fsplit ! $ move ! (1 ∷ []) $ feqL ! (λ len₄.
-          -- [fin4; fin2; fin:@13; fin:outstanding; fin:transmissions; fin:ready; fin:waiting; fin:«waiting_numbers»; tok:@13; tok:queued;
+          -- [fin4; fin2; fin:@12; fin:outstanding; fin:transmissions; fin:ready; fin:waiting; fin:«waiting_numbers»; tok:@12; tok:queued;
           -- tok:outstanding; tok:transmissions; tok:ready; tok:waiting; tok:«waiting_numbers»; tok1; tok2; tok4; tok5;
-          -- lent:«waiting_numbers»; lent:waiting; lent:ready; lent:transmissions; lent:outstanding; lent:queued; lent:@13; own3; tok3;
+          -- lent:«waiting_numbers»; lent:waiting; lent:ready; lent:transmissions; lent:outstanding; lent:queued; lent:@12; own3; tok3;
           -- F:clock; F:arrival; F:flight; F:settings; back; opened; deaths; the locals]
-          move ! (8 ∷ 25 ∷ 2 ∷ []) $ back-mut ! tt (Array u32 128) (past .14) 0 (ws-a .1 .1 .1 .1 .0) $
+          move ! (8 ∷ 25 ∷ 2 ∷ []) $ back-mut ! tt (Array u32 128) (past .13) 0 (ws-a .1 .1 .1 .1 .0) $
           cell-out ! fullShare (Array u32 128) (array-vals (uint-vals w32)) (array-tells u32 (uint-vals w32) (uint-tells w32) 128)
-          (ws-a .1 .1 .1 .1 .0) (past .14) 0 (λ was-local-2. use1 W
-          (‵ (fat fullShare (tyArray (tyInt w32) 128) (past .14) 0 (only ((array-vals (uint-vals w32)) (ws-a .1 .1 .1 .1 .0)))))
-          (W .laws .raw-at fullShare (tyArray (tyInt w32) 128) (past .14) 0
+          (ws-a .1 .1 .1 .1 .0) (past .13) 0 (λ was-local-2. use1 W
+          (‵ (fat fullShare (tyArray (tyInt w32) 128) (past .13) 0 (only ((array-vals (uint-vals w32)) (ws-a .1 .1 .1 .1 .0)))))
+          (W .laws .raw-at fullShare (tyArray (tyInt w32) 128) (past .13) 0
           (only ((array-vals (uint-vals w32)) (ws-a .1 .1 .1 .1 .0)))) $
           move ! (8 ∷ 23 ∷ []) $ back-shr ! tt fullShare (Array u32 128) b (o + 124) (h .queued) $ move ! (9 ∷ 22 ∷ 4 ∷ []) $
           back-mut ! tt (Array u32 32) b (o + 636) (ws-a .1 .1 .1 .1 .1 .1 .1 .0) $ move ! (9 ∷ 20 ∷ 5 ∷ []) $
@@ -1685,15 +1975,7 @@ module _ {M : Type 1} (𝓤 : URA M) (H : Heap 𝓤) (A : Atoms 𝓤) (W : Given
           (init ! 53 refl (LL.lawful clock-row.the-type clock-laws.the-laws 𝓤 H A W .typed (h .clock)
           ((only ((LL.vals clock-row.the-type clock-laws.the-laws) (h .clock))) ∷ []) was-clock .0)) $
           cell-in ! fullShare clock-row.the-row (LL.makes clock-row.the-type clock-laws.the-plain 𝓤 H A) (h .clock) b (o + 104)
-          (only ((LL.vals clock-row.the-type clock-laws.the-laws) (h .clock))) was-clock $ move ! (8 ∷ []) $
-          cell-out ! fullShare (Array u32 32) (array-vals (uint-vals w32)) (array-tells u32 (uint-vals w32) (uint-tells w32) 32)
-          (h .outstanding) b (o + 636) (λ was-outstanding.
-          assigns ! {v = (only ((array-vals (uint-vals w32)) (h .outstanding)))}
-          (of-opd ! (load ! (from ! (hop ! (look ! 62 refl) (fld ! {d = 636} refl (stop !)))) (look-raw ! 0 refl))) (from ! (stop !))
-          (init ! 52 refl (array-typed u32 (uint-lawful 𝓤 H A W w32 .typed) 32 (h .outstanding)
-          ((only ((array-vals (uint-vals w32)) (h .outstanding))) ∷ []) was-outstanding .0)) $
-          cell-in ! fullShare (Array u32 32) (array-makes 𝓤 H A W u32 (uint-makes 𝓤 H A W w32) 32) (h .outstanding) b (o + 636)
-          (only ((array-vals (uint-vals w32)) (h .outstanding))) was-outstanding $ nothing ! $
+          (only ((LL.vals clock-row.the-type clock-laws.the-laws) (h .clock))) was-clock $ nothing ! $
           calls-fn ! fm count-of.ended (count-of.clauses 𝓤 H A at-mem run) (known .0)
           ((tt, tt, tt, ((h .flight), tt), ((only ((LL.vals flight-row.the-type flight-laws.the-laws) (h .flight))) ∷ [], tt)), tt)
           (λ n _. n ≡ h .flight .outstanding)
@@ -1701,84 +1983,92 @@ module _ {M : Type 1} (𝓤 : URA M) (H : Heap 𝓤) (A : Atoms 𝓤) (W : Given
           ((h .flight), tt) ((only ((LL.vals flight-row.the-type flight-laws.the-laws) (h .flight))) ∷ [], tt) (was-flight, tt))
           (λ n _. id⊢ 𝓤 _)
           (and-then ! (load ! (from ! (stop !)) (look ! 56 refl)) (no-more !))
-          (λ n w-n _ e-n is-n. drop ! $ drop ! $ land ! (from ! (stop !)) (init ! 51 refl (uint-lawful 𝓤 H A W w64 .typed n _ is-n .0)) $
+          (λ n w-n _ e-n is-n. drop ! $ drop ! $ land ! (from ! (stop !)) (init ! 52 refl (uint-lawful 𝓤 H A W w64 .typed n _ is-n .0)) $
           nothing ! $ calls-fn ! fm none-of.ended (none-of.clauses 𝓤 H A at-mem run) (known .1) ((tt, tt, tt, tt, tt), tt)
           (λ blanks _. blanks ≡ replicate 128 0)
           (‵ ftrue) (plainly 𝓤 H A W ([]) tt tt tt tt) (λ blanks _. id⊢ 𝓤 _)
           (no-more !) (λ blanks w-blanks _ e-blanks is-blanks. drop ! $ drop ! $
-          land ! (from ! (stop !)) (init ! 43 refl (array-typed u32 (uint-lawful 𝓤 H A W w32 .typed) 128 blanks (w-blanks ∷ []) is-blanks
+          land ! (from ! (stop !)) (init ! 45 refl (array-typed u32 (uint-lawful 𝓤 H A W w32 .typed) 128 blanks (w-blanks ∷ []) is-blanks
           .0)) $
-          assigns ! {v = w-blanks} (of-opd ! (load ! (from ! (stop !)) (look ! 43 refl))) (from ! (stop !))
-          (init ! 50 refl (array-typed u32 (uint-lawful 𝓤 H A W w32 .typed) 128 blanks (w-blanks ∷ []) is-blanks .0)) $
+          assigns ! {v = w-blanks} (of-opd ! (load ! (from ! (stop !)) (look ! 45 refl))) (from ! (stop !))
+          (init ! 51 refl (array-typed u32 (uint-lawful 𝓤 H A W w32 .typed) 128 blanks (w-blanks ∷ []) is-blanks .0)) $
           assigns ! {v = (vptr (x₃ .ptr .0) (x₃ .ptr .1))}
           (addr ! (from ! (fld ! refl (hop ! (look-in ! 59 (sub ! 0 refl (whole !))) (stop !))))) (from ! (stop !))
-          (init ! 41 refl (tt, tt)) $
-          assigns ! {v = s₃} (agg ! (and-then ! (load ! (from ! (stop !)) (look ! 41 refl))
+          (init ! 43 refl (tt, tt)) $
+          assigns ! {v = s₃} (agg ! (and-then ! (load ! (from ! (stop !)) (look ! 43 refl))
           (and-then ! (load ! (from ! (fld ! refl (stop !))) (look-in ! 59 (sub ! 1 refl (whole !)))) (no-more !)))) (from ! (stop !))
-          (init ! 40 refl (tt, (tt, (record { fits = room₃ .0 }, tt)))) $
-          assigns ! {v = (vptr l₁₃ 0)} (addr ! (from ! (stop !))) (from ! (stop !)) (init ! 39 refl (tt, tt)) $
-          move ! (50 ∷ []) $ use1 W (‵ (cellAt fullShare ((tyArray (tyInt w32) 128) ∷ []) (w-blanks ∷ []) l₁₃ 0))
-          (W .laws .at-raw fullShare (tyArray (tyInt w32) 128) l₁₃ 0 w-blanks) $
-          cell-in ! fullShare (Array u32 128) (array-makes 𝓤 H A W u32 (uint-makes 𝓤 H A W w32) 128) blanks l₁₃ 0 w-blanks is-blanks $
-          lend-mut ! tt (Array u32 128) blanks l₁₃ 0
-          (λ α-local δ-local. lft-new ! tt (λ β₃. move ! (24 ∷ 19 ∷ []) $
+          (init ! 42 refl (tt, (tt, (record { fits = room₃ .0 }, tt)))) $
+          assigns ! {v = (vptr b (o + 636))} (addr ! (from ! (hop ! (look ! 62 refl) (fld ! {d = 636} refl (stop !))))) (from ! (stop !))
+          (init ! 41 refl (tt, tt)) $
+          assigns ! {v = (vptr l₁₂ 0)} (addr ! (from ! (stop !))) (from ! (stop !)) (init ! 40 refl (tt, tt)) $
+          move ! (8 ∷ []) $ lend-shr ! tt fullShare (Array u32 32) (h .outstanding) b (o + 636)
+          (λ α-outstanding δ-outstanding. move ! (53 ∷ []) $
+          use1 W (‵ (cellAt fullShare ((tyArray (tyInt w32) 128) ∷ []) (w-blanks ∷ []) l₁₂ 0))
+          (W .laws .at-raw fullShare (tyArray (tyInt w32) 128) l₁₂ 0 w-blanks) $
+          cell-in ! fullShare (Array u32 128) (array-makes 𝓤 H A W u32 (uint-makes 𝓤 H A W w32) 128) blanks l₁₂ 0 w-blanks is-blanks $
+          lend-mut ! tt (Array u32 128) blanks l₁₂ 0
+          (λ α-local δ-local. lft-new ! tt (λ β₃. move ! (26 ∷ 21 ∷ []) $
           use2 W (later (some (λ (δ : GName). ‵ (Shared₃ β₃ δ) ⊛ ‵
           (LentShared R κ₃ (β₃ ∷ []) q₃ (x₃ .name) (x₃ .ptr .0) (x₃ .ptr .1) (x₃ .now)))))
           (lends-shared R κ₃ (β₃ ∷ []) q₃ (x₃ .name) (x₃ .ptr .0) (x₃ .ptr .1) (x₃ .now) 𝓤 H A W) $ await ! tt $
           pick ! (λ β-name₃. split ! $
-          -- [shown3; blent3; btok3; tok:@13; own:@13; lent:@13; F:outstanding; F:clock; F:arrival; F:flight; F:settings;
-          -- F:«waiting_numbers»; F:waiting; F:ready; F:transmissions; F:queued; back; opened; deaths; tok1; tok2; tok4; tok5; own1; own2;
-          -- own4; own5; the locals]
+          -- [shown3; blent3; btok3; tok:@12; own:@12; lent:@12; tok:outstanding; own:outstanding; lent:outstanding; F:clock; F:arrival;
+          -- F:flight; F:settings; F:«waiting_numbers»; F:waiting; F:ready; F:transmissions; F:queued; back; opened; deaths; tok1; tok2;
+          -- tok4; tok5; own1; own2; own4; own5; the locals]
           use1 W (‵ (Shared₃ β₃ β-name₃) ⊛ ‵ (Shared₃ β₃ β-name₃))
           (shr-slice-copy 𝓤 H A W (named 0) (β₃ ∷ []) R .twice (shown-at₃ β-name₃) (s₃ ∷ [])) $ split ! $
-          move ! (3 ∷ 0 ∷ 4 ∷ 5 ∷ []) $ group ! 4 $
+          move ! (3 ∷ 0 ∷ 7 ∷ 8 ∷ 4 ∷ 5 ∷ []) $ group ! 6 $
           calls-fn ! fm gather.ended (gather.clauses 𝓤 H A at-mem run) (known .2)
-          (to-gather β₃ β-name₃ l₁₃ α-local δ-local blanks (h .outstanding) (only ((array-vals (uint-vals w32)) (h .outstanding))) n
-          w-n) (λ g ws-g. (length (ws-g .1 .1 .1 .0) ≡ 128) ×
+          (to-gather β₃ β-name₃ α-outstanding δ-outstanding (h .outstanding) l₁₂ α-local δ-local blanks n w-n)
+          (λ g ws-g. (length (ws-g .1 .1 .1 .0) ≡ 128) ×
           (recordsIn (ws-g .1 .1 .1 .0) ≡ padded (gathered (take sendSlots (x₃ .now)) (slotsIn (h .outstanding) n))))
-          (‵ (flft (β₃ ∷ []) fullShare) ⊛ ‵ (Shared₃ β₃ β-name₃) ⊛ ‵ (flft (α-local ∷ []) fullShare) ⊛ ‵
-          (MutRef (named 0) (α-local ∷ []) (Array u32 128) .own (ref-at l₁₃ 0 δ-local blanks) ((vptr l₁₃ 0) ∷ [])))
-          (asks-gather β₃ β-name₃ l₁₃ α-local δ-local blanks (h .outstanding) (only ((array-vals (uint-vals w32)) (h .outstanding)))
-          was-outstanding n w-n is-n (e-blanks)) (λ g ws-g. id⊢ 𝓤 _)
-          (and-then ! (load ! (from ! (stop !)) (look ! 42 refl))
-          (and-then ! (load ! (from ! (stop !)) (look ! 53 refl))
-          (and-then ! (load ! (from ! (stop !)) (look ! 52 refl)) (and-then ! (load ! (from ! (stop !)) (look ! 41 refl)) (no-more !)))))
-          (λ g w-g ws-g e-g is-g. land ! (from ! (stop !)) (init ! 45 refl (nothing-lawful 𝓤 H A W .typed g _ is-g .0)) $
-          spread W (‵ (flft (β₃ ∷ []) fullShare)) (‵ (flft (α-local ∷ []) fullShare) ∷ ‵ ftrue ∷ []) (id⊢ 𝓤 _) $ move ! (3 ∷ []) $
+          (‵ (flft (β₃ ∷ []) fullShare) ⊛ ‵ (Shared₃ β₃ β-name₃) ⊛ ‵ (flft (α-outstanding ∷ []) fullShare) ⊛ ‵
+          (ShrRef (named 0) (α-outstanding ∷ []) (Array u32 32) .own (ref-at b (o + 636) δ-outstanding (h .outstanding))
+          ((vptr b (o + 636)) ∷ [])) ⊛ ‵ (flft (α-local ∷ []) fullShare) ⊛ ‵
+          (MutRef (named 0) (α-local ∷ []) (Array u32 128) .own (ref-at l₁₂ 0 δ-local blanks) ((vptr l₁₂ 0) ∷ [])))
+          (asks-gather β₃ β-name₃ α-outstanding δ-outstanding (h .outstanding) l₁₂ α-local δ-local blanks n w-n is-n
+          (len-outstanding, e-blanks)) (λ g ws-g. id⊢ 𝓤 _)
+          (and-then ! (load ! (from ! (stop !)) (look ! 44 refl))
+          (and-then ! (load ! (from ! (stop !)) (look ! 43 refl))
+          (and-then ! (load ! (from ! (stop !)) (look ! 53 refl)) (and-then ! (load ! (from ! (stop !)) (look ! 42 refl)) (no-more !)))))
+          (λ g w-g ws-g e-g is-g. land ! (from ! (stop !)) (init ! 47 refl (nothing-lawful 𝓤 H A W .typed g _ is-g .0)) $
+          spread W (‵ (flft (β₃ ∷ []) fullShare)) (‵ (flft (α-outstanding ∷ []) fullShare) ∷ ‵ (flft (α-local ∷ []) fullShare) ∷ ‵ ftrue
+          ∷ []) (id⊢ 𝓤 _) $ move ! (4 ∷ []) $
           spread W (‵ ftrue) (‵ ftrue ∷ ‵ ftrue ∷ ‵ (fres δ-local ((Array u32 128) .coded .code (ws-g .1 .1 .1 .0))) ∷ ‵ ftrue ∷ [])
-          (id⊢ 𝓤 _) $ keep ! (3 ∷ 5 ∷ 6 ∷ 8 ∷ 9 ∷ 10 ∷ 11 ∷ 12 ∷ 13 ∷ 14 ∷ 15 ∷ 16 ∷ 17 ∷ 18 ∷ 19 ∷ 20 ∷ 21 ∷ 22
+          (id⊢ 𝓤 _) $ keep ! (3 ∷ 5 ∷ 6 ∷ 7 ∷ 9 ∷ 10 ∷ 11 ∷ 12 ∷ 13 ∷ 14 ∷ 15 ∷ 16 ∷ 17 ∷ 18 ∷ 19 ∷ 20 ∷ 21 ∷ 22
           ∷ 23 ∷ 24 ∷ 25 ∷ 26 ∷ 27 ∷ 28 ∷ 29 ∷ 30 ∷ 31 ∷ 32 ∷ 33 ∷ 34 ∷ 35 ∷ 36 ∷ 37 ∷ 38 ∷ 39 ∷ 40 ∷ 41 ∷ 42 ∷ 43
           ∷ 44 ∷ 45 ∷ 46 ∷ 47 ∷ 48 ∷ 49 ∷ 50 ∷ 51 ∷ 52 ∷ 53 ∷ 54 ∷ 55 ∷ 56 ∷ 57 ∷ 58 ∷ 59 ∷ 60 ∷ 61 ∷ 62 ∷ 63 ∷ 64
-          ∷ 65 ∷ 66 ∷ 67 ∷ 68 ∷ 69 ∷ 70 ∷ 71 ∷ []) $
-          -- [fin:@13; btok3; tok:@13; shown3; blent3; lent:@13; F:outstanding; F:clock; F:arrival; F:flight; F:settings;
-          -- F:«waiting_numbers»; F:waiting; F:ready; F:transmissions; F:queued; back; opened; deaths; tok1; tok2; tok4; tok5; own1; own2;
-          -- own4; own5; the locals]
-          move ! (2 ∷ 5 ∷ 0 ∷ []) $ back-mut ! tt (Array u32 128) l₁₃ 0 (ws-g .1 .1 .1 .0) $
+          ∷ 65 ∷ 66 ∷ 67 ∷ 68 ∷ 69 ∷ 70 ∷ 71 ∷ 72 ∷ []) $
+          -- [fin:@12; btok3; tok:outstanding; tok:@12; shown3; blent3; lent:@12; lent:outstanding; F:clock; F:arrival; F:flight;
+          -- F:settings; F:«waiting_numbers»; F:waiting; F:ready; F:transmissions; F:queued; back; opened; deaths; tok1; tok2; tok4; tok5;
+          -- own1; own2; own4; own5; the locals]
+          move ! (2 ∷ 7 ∷ []) $ back-shr ! tt fullShare (Array u32 32) b (o + 636) (h .outstanding) $ move ! (3 ∷ 6 ∷ 1 ∷ []) $
+          back-mut ! tt (Array u32 128) l₁₂ 0 (ws-g .1 .1 .1 .0) $
           cell-out ! fullShare (Array u32 128) (array-vals (uint-vals w32)) (array-tells u32 (uint-vals w32) (uint-tells w32) 128)
-          (ws-g .1 .1 .1 .0) l₁₃ 0 (λ was-local-1. use1 W
-          (‵ (fat fullShare (tyArray (tyInt w32) 128) l₁₃ 0 (only ((array-vals (uint-vals w32)) (ws-g .1 .1 .1 .0)))))
-          (W .laws .raw-at fullShare (tyArray (tyInt w32) 128) l₁₃ 0 (only ((array-vals (uint-vals w32)) (ws-g .1 .1 .1 .0)))) $
+          (ws-g .1 .1 .1 .0) l₁₂ 0 (λ was-local-1. use1 W
+          (‵ (fat fullShare (tyArray (tyInt w32) 128) l₁₂ 0 (only ((array-vals (uint-vals w32)) (ws-g .1 .1 .1 .0)))))
+          (W .laws .raw-at fullShare (tyArray (tyInt w32) 128) l₁₂ 0 (only ((array-vals (uint-vals w32)) (ws-g .1 .1 .1 .0)))) $
           assigns ! {v = (vptr (x₃ .ptr .0) (x₃ .ptr .1))}
           (addr ! (from ! (fld ! refl (hop ! (look-in ! 60 (sub ! 0 refl (whole !))) (stop !))))) (from ! (stop !))
-          (init ! 40 refl (tt, tt)) $
-          assigns ! {v = s₃} (agg ! (and-then ! (load ! (from ! (stop !)) (look ! 40 refl))
+          (init ! 41 refl (tt, tt)) $
+          assigns ! {v = s₃} (agg ! (and-then ! (load ! (from ! (stop !)) (look ! 41 refl))
           (and-then ! (load ! (from ! (fld ! refl (stop !))) (look-in ! 60 (sub ! 1 refl (whole !)))) (no-more !)))) (from ! (stop !))
-          (init ! 39 refl (tt, (tt, (record { fits = room₃ .0 }, tt)))) $
-          move ! (1 ∷ 2 ∷ []) $ join ! $ calls-fn ! fm table-len.ended (table-len.clauses 𝓤 H A at-mem run) (known .3)
+          (init ! 40 refl (tt, (tt, (record { fits = room₃ .0 }, tt)))) $
+          move ! (2 ∷ 3 ∷ []) $ join ! $ calls-fn ! fm table-len.ended (table-len.clauses 𝓤 H A at-mem run) (known .3)
           (to-table-len β₃ β-name₃) (λ m ws-m. m ≡ length (x₃ .now)) (‵ (flft (β₃ ∷ []) fullShare) ⊛ ‵ (Shared₃ β₃ β-name₃))
           (asks-table-len β₃ β-name₃) (λ m ws-m. id⊢ 𝓤 _)
-          (and-then ! (load ! (from ! (stop !)) (look ! 38 refl)) (no-more !))
-          (λ m w-m ws-m e-m is-m. land ! (from ! (stop !)) (init ! 51 refl (uint-lawful 𝓤 H A W w64 .typed m _ is-m .0)) $
+          (and-then ! (load ! (from ! (stop !)) (look ! 39 refl)) (no-more !))
+          (λ m w-m ws-m e-m is-m. land ! (from ! (stop !)) (init ! 52 refl (uint-lawful 𝓤 H A W w64 .typed m _ is-m .0)) $
           spread W (‵ (flft (β₃ ∷ []) fullShare)) (‵ ftrue ∷ []) (id⊢ 𝓤 _) $ move ! (2 ∷ []) $
           spread W (‵ ftrue) (‵ ftrue ∷ []) (id⊢ 𝓤 _) $
           keep ! (2 ∷ 4 ∷ 5 ∷ 6 ∷ 7 ∷ 8 ∷ 9 ∷ 10 ∷ 11 ∷ 12 ∷ 13 ∷ 14 ∷ 15 ∷ 16 ∷ 17 ∷ 18 ∷ 19 ∷ 20 ∷ 21 ∷ 22 ∷ 23
           ∷ 24 ∷ 25 ∷ 26 ∷ 27 ∷ 28 ∷ 29 ∷ 30 ∷ 31 ∷ 32 ∷ 33 ∷ 34 ∷ 35 ∷ 36 ∷ 37 ∷ 38 ∷ 39 ∷ 40 ∷ 41 ∷ 42 ∷ 43 ∷ 44
           ∷ 45 ∷ 46 ∷ 47 ∷ 48 ∷ 49 ∷ 50 ∷ 51 ∷ 52 ∷ 53 ∷ 54 ∷ 55 ∷ 56 ∷ 57 ∷ 58 ∷ 59 ∷ 60 ∷ 61 ∷ 62 ∷ 63 ∷ 64 ∷ 65
           ∷ 66 ∷ []) $
-          -- [btok3; blent3; F:outstanding; F:clock; F:arrival; F:flight; F:settings; F:«waiting_numbers»; F:waiting; F:ready;
+          -- [btok3; F:outstanding; blent3; F:clock; F:arrival; F:flight; F:settings; F:«waiting_numbers»; F:waiting; F:ready;
           -- F:transmissions; F:queued; back; opened; deaths; tok1; tok2; tok4; tok5; own1; own2; own4; own5; the locals]
-          assigns ! {v = (vptr l₁₃ 0)} (addr ! (from ! (stop !))) (from ! (stop !)) (init ! 37 refl (tt, tt)) $
-          move ! (0 ∷ 2 ∷ []) $ lft-end ! tt $
+          assigns ! {v = (vptr l₁₂ 0)} (addr ! (from ! (stop !))) (from ! (stop !)) (init ! 38 refl (tt, tt)) $
+          move ! (0 ∷ 3 ∷ []) $ lft-end ! tt $
           use2 W (later (‵ Own₃ ⊛ ‵ (flft κ₃ q₃))) (shared-back R κ₃ (β₃ ∷ []) q₃ (x₃ .name) (x₃ .ptr .0) (x₃ .ptr .1)
           (x₃ .now) 𝓤 H A W room₃) $ await ! tt $ split ! $
           -- [own3; tok3; F:outstanding; F:clock; F:arrival; F:flight; F:settings; F:«waiting_numbers»; F:waiting; F:ready; F:transmissions;

@@ -341,32 +341,37 @@ module _ {M : Type 1} (𝓤 : URA M) (H : Heap 𝓤) (A : Atoms 𝓤) (W : Given
         (((κ₀, (κ₁, (κ₂, (κ₃, (κ₄, (κ₅, (κ₆, tt))))))), (q₀, (q₁, (q₂, (q₃, (q₄, (q₅, (q₆, tt))))))), tt, x, at), tt)
 
     -- what gather is called at, and that what it asks is had
-    abbrev to-gather : (β₃ : ℕ) (δ₃ : GName) (p-local : ℕ) (α-local : ℕ) (δ-local : GName) (f-local : (List ℕ)) (y₀ : (List ℕ)) (u₀ : Val)
-        (y₁ : ℕ) (u₁ : Val) → tripleOf 𝓤 H A gather.signature (gather.spec 𝓤 H A at-mem run) .Ghost
-    to-gather β₃ δ₃ p-local α-local δ-local f-local y₀ u₀ y₁ u₁ = (
+    abbrev to-gather : (β₃ : ℕ) (δ₃ : GName) (α-outstanding : ℕ) (δ-outstanding : GName) (f-outstanding : (List ℕ)) (p-local : ℕ)
+        (α-local : ℕ) (δ-local : GName) (f-local : (List ℕ)) (y₀ : ℕ) (u₀ : Val)
+        → tripleOf 𝓤 H A gather.signature (gather.spec 𝓤 H A at-mem run) .Ghost
+    to-gather β₃ δ₃ α-outstanding δ-outstanding f-outstanding p-local α-local δ-local f-local y₀ u₀ = (
       (
-        ((β₃ ∷ []), ((α-local ∷ []), tt)),
-        (fullShare, (fullShare, tt)),
+        ((β₃ ∷ []), ((α-outstanding ∷ []), ((α-local ∷ []), tt))),
+        (fullShare, (fullShare, (fullShare, tt))),
         tt,
-        ((shown-at₃ δ₃), (y₀, (y₁, ((ref-at p-local 0 δ-local f-local), tt)))),
-        (s₃ ∷ [], (u₀ ∷ [], (u₁ ∷ [], ((vptr p-local 0) ∷ [], tt)))),
+        ((shown-at₃ δ₃), ((ref-at b (o + 636) δ-outstanding f-outstanding), (y₀, ((ref-at p-local 0 δ-local f-local), tt)))),
+        (s₃ ∷ [], ((vptr b (o + 636)) ∷ [], (u₀ ∷ [], ((vptr p-local 0) ∷ [], tt)))),
       ),
       tt,
     )
 
-    asks-gather : (β₃ : ℕ) (δ₃ : GName) (p-local : ℕ) (α-local : ℕ) (δ-local : GName) (f-local : (List ℕ)) → (y₀ : (List ℕ)) (u₀ : Val)
-        → Is (Array u32 32) y₀ (u₀ ∷ []) → (y₁ : ℕ) (u₁ : Val) → Is usize y₁ (u₁ ∷ []) → (f-local ≡ replicate 128 0)
-        → ent 𝓤 (⋆ 𝓤 H A (‵ (flft (β₃ ∷ []) fullShare) ∷ ‵ (Shared₃ β₃ δ₃) ∷ ‵ (flft (α-local ∷ []) fullShare)
+    asks-gather : (β₃ : ℕ) (δ₃ : GName) (α-outstanding : ℕ) (δ-outstanding : GName) (f-outstanding : (List ℕ)) (p-local : ℕ) (α-local : ℕ)
+        (δ-local : GName) (f-local : (List ℕ)) → (y₀ : ℕ) (u₀ : Val) → Is usize y₀ (u₀ ∷ [])
+        → ((length f-outstanding ≡ 32) × (f-local ≡ replicate 128 0))
+        → ent 𝓤 (⋆ 𝓤 H A (‵ (flft (β₃ ∷ []) fullShare) ∷ ‵ (Shared₃ β₃ δ₃) ∷ ‵ (flft (α-outstanding ∷ []) fullShare)
+        ∷ ‵ (ShrRef (named 0) (α-outstanding ∷ []) (Array u32 32) .own (ref-at b (o + 636) δ-outstanding f-outstanding)
+        ((vptr b (o + 636)) ∷ [])) ∷ ‵ (flft (α-local ∷ []) fullShare)
         ∷ ‵ (MutRef (named 0) (α-local ∷ []) (Array u32 128) .own (ref-at p-local 0 δ-local f-local) ((vptr p-local 0) ∷ [])) ∷ []))
         (tripleOf 𝓤 H A gather.signature (gather.spec 𝓤 H A at-mem run) .pre
-        (to-gather β₃ δ₃ p-local α-local δ-local f-local y₀ u₀ y₁ u₁))
-    asks-gather β₃ δ₃ p-local α-local δ-local f-local y₀ u₀ is₀ y₁ u₁ is₁ req =
-        qed W (‵ (flft (β₃ ∷ []) fullShare) ∷ ‵ (Shared₃ β₃ δ₃) ∷ ‵ (flft (α-local ∷ []) fullShare)
+        (to-gather β₃ δ₃ α-outstanding δ-outstanding f-outstanding p-local α-local δ-local f-local y₀ u₀))
+    asks-gather β₃ δ₃ α-outstanding δ-outstanding f-outstanding p-local α-local δ-local f-local y₀ u₀ is₀ req =
+        qed W (‵ (flft (β₃ ∷ []) fullShare) ∷ ‵ (Shared₃ β₃ δ₃) ∷ ‵ (flft (α-outstanding ∷ []) fullShare)
+        ∷ ‵ (ShrRef (named 0) (α-outstanding ∷ []) (Array u32 32) .own (ref-at b (o + 636) δ-outstanding f-outstanding)
+        ((vptr b (o + 636)) ∷ [])) ∷ ‵ (flft (α-local ∷ []) fullShare)
         ∷ ‵ (MutRef (named 0) (α-local ∷ []) (Array u32 128) .own (ref-at p-local 0 δ-local f-local) ((vptr p-local 0) ∷ [])) ∷ []) ∵
-        says ! req $ nothing ! $ move ! (3 ∷ 0 ∷ []) $ join ! $ move ! (1 ∷ 0 ∷ []) $ join ! $ nothing ! $ move ! (3 ∷ 0 ∷ []) $
-        fjoin ! $ owned ! usize (Is usize) (uint-makes 𝓤 H A W w64) y₁ _ is₁ $ fjoin ! $
-        owned ! (Array u32 32) (Is (Array u32 32)) (array-makes 𝓤 H A W u32 (uint-makes 𝓤 H A W w32) 32) y₀ _ is₀ $ fjoin ! $
-        move ! (2 ∷ 0 ∷ []) $ fjoin ! $ move ! (1 ∷ 0 ∷ []) $ done !
+        says ! req $ nothing ! $ move ! (5 ∷ 0 ∷ []) $ join ! $ move ! (3 ∷ 0 ∷ []) $ join ! $ move ! (1 ∷ 0 ∷ []) $ join ! $
+        nothing ! $ move ! (4 ∷ 0 ∷ []) $ fjoin ! $ owned ! usize (Is usize) (uint-makes 𝓤 H A W w64) y₀ _ is₀ $ fjoin ! $
+        move ! (3 ∷ 0 ∷ []) $ fjoin ! $ move ! (2 ∷ 0 ∷ []) $ fjoin ! $ move ! (1 ∷ 0 ∷ []) $ done !
 
     -- what table-len is called at, and that what it asks is had
     abbrev to-table-len : (β₃ : ℕ) (δ₃ : GName) → tripleOf 𝓤 H A table-len.signature (table-len.spec 𝓤 H A at-mem run) .Ghost
@@ -547,31 +552,35 @@ module _ {M : Type 1} (𝓤 : URA M) (H : Heap 𝓤) (A : Atoms 𝓤) (W : Given
         (LL.makes settings-row.the-type settings-laws.the-plain 𝓤 H A) y₀ _ is₀ $ fjoin ! $ move ! (1 ∷ 0 ∷ []) $ done !
 
     -- what scatter is called at, and that what it asks is had
-    abbrev to-scatter : (p-local : ℕ) (α-local : ℕ) (δ-local : GName) (f-local : (List ℕ)) (y₀ : (List ℕ)) (u₀ : Val) (y₁ : ℕ) (u₁ : Val)
-        → tripleOf 𝓤 H A scatter.signature (scatter.spec 𝓤 H A at-mem run) .Ghost
-    to-scatter p-local α-local δ-local f-local y₀ u₀ y₁ u₁ = (
+    abbrev to-scatter : (α-outstanding : ℕ) (δ-outstanding : GName) (f-outstanding : (List ℕ)) (p-local : ℕ) (α-local : ℕ) (δ-local : GName)
+        (f-local : (List ℕ)) (y₀ : ℕ) (u₀ : Val) → tripleOf 𝓤 H A scatter.signature (scatter.spec 𝓤 H A at-mem run) .Ghost
+    to-scatter α-outstanding δ-outstanding f-outstanding p-local α-local δ-local f-local y₀ u₀ = (
       (
-        (κ₃, ((α-local ∷ []), tt)),
-        (q₃, (fullShare, tt)),
+        (κ₃, ((α-outstanding ∷ []), ((α-local ∷ []), tt))),
+        (q₃, (fullShare, (fullShare, tt))),
         tt,
-        (x₃, (y₀, (y₁, ((ref-at p-local 0 δ-local f-local), tt)))),
-        (s₃ ∷ [], (u₀ ∷ [], (u₁ ∷ [], ((vptr p-local 0) ∷ [], tt)))),
+        (x₃, ((ref-at b (o + 636) δ-outstanding f-outstanding), (y₀, ((ref-at p-local 0 δ-local f-local), tt)))),
+        (s₃ ∷ [], ((vptr b (o + 636)) ∷ [], (u₀ ∷ [], ((vptr p-local 0) ∷ [], tt)))),
       ),
       tt,
     )
 
-    asks-scatter : (p-local : ℕ) (α-local : ℕ) (δ-local : GName) (f-local : (List ℕ)) → (y₀ : (List ℕ)) (u₀ : Val)
-        → Is (Array u32 32) y₀ (u₀ ∷ []) → (y₁ : ℕ) (u₁ : Val) → Is usize y₁ (u₁ ∷ []) → (length f-local ≡ 128)
-        → ent 𝓤 (⋆ 𝓤 H A (‵ (flft κ₃ q₃) ∷ ‵ Own₃ ∷ ‵ (flft (α-local ∷ []) fullShare)
+    asks-scatter : (α-outstanding : ℕ) (δ-outstanding : GName) (f-outstanding : (List ℕ)) (p-local : ℕ) (α-local : ℕ) (δ-local : GName)
+        (f-local : (List ℕ)) → (y₀ : ℕ) (u₀ : Val) → Is usize y₀ (u₀ ∷ []) → ((length f-outstanding ≡ 32) × (length f-local ≡ 128))
+        → ent 𝓤 (⋆ 𝓤 H A (‵ (flft κ₃ q₃) ∷ ‵ Own₃ ∷ ‵ (flft (α-outstanding ∷ []) fullShare)
+        ∷ ‵ (ShrRef (named 0) (α-outstanding ∷ []) (Array u32 32) .own (ref-at b (o + 636) δ-outstanding f-outstanding)
+        ((vptr b (o + 636)) ∷ [])) ∷ ‵ (flft (α-local ∷ []) fullShare)
         ∷ ‵ (ShrRef (named 0) (α-local ∷ []) (Array u32 128) .own (ref-at p-local 0 δ-local f-local) ((vptr p-local 0) ∷ [])) ∷ []))
-        (tripleOf 𝓤 H A scatter.signature (scatter.spec 𝓤 H A at-mem run) .pre (to-scatter p-local α-local δ-local f-local y₀ u₀ y₁ u₁))
-    asks-scatter p-local α-local δ-local f-local y₀ u₀ is₀ y₁ u₁ is₁ req =
-        qed W (‵ (flft κ₃ q₃) ∷ ‵ Own₃ ∷ ‵ (flft (α-local ∷ []) fullShare)
+        (tripleOf 𝓤 H A scatter.signature (scatter.spec 𝓤 H A at-mem run) .pre
+        (to-scatter α-outstanding δ-outstanding f-outstanding p-local α-local δ-local f-local y₀ u₀))
+    asks-scatter α-outstanding δ-outstanding f-outstanding p-local α-local δ-local f-local y₀ u₀ is₀ req =
+        qed W (‵ (flft κ₃ q₃) ∷ ‵ Own₃ ∷ ‵ (flft (α-outstanding ∷ []) fullShare)
+        ∷ ‵ (ShrRef (named 0) (α-outstanding ∷ []) (Array u32 32) .own (ref-at b (o + 636) δ-outstanding f-outstanding)
+        ((vptr b (o + 636)) ∷ [])) ∷ ‵ (flft (α-local ∷ []) fullShare)
         ∷ ‵ (ShrRef (named 0) (α-local ∷ []) (Array u32 128) .own (ref-at p-local 0 δ-local f-local) ((vptr p-local 0) ∷ [])) ∷ []) ∵
-        says ! req $ nothing ! $ move ! (3 ∷ 0 ∷ []) $ join ! $ move ! (1 ∷ 0 ∷ []) $ join ! $ nothing ! $ move ! (3 ∷ 0 ∷ []) $
-        fjoin ! $ owned ! usize (Is usize) (uint-makes 𝓤 H A W w64) y₁ _ is₁ $ fjoin ! $
-        owned ! (Array u32 32) (Is (Array u32 32)) (array-makes 𝓤 H A W u32 (uint-makes 𝓤 H A W w32) 32) y₀ _ is₀ $ fjoin ! $
-        move ! (2 ∷ 0 ∷ []) $ fjoin ! $ move ! (1 ∷ 0 ∷ []) $ done !
+        says ! req $ nothing ! $ move ! (5 ∷ 0 ∷ []) $ join ! $ move ! (3 ∷ 0 ∷ []) $ join ! $ move ! (1 ∷ 0 ∷ []) $ join ! $
+        nothing ! $ move ! (4 ∷ 0 ∷ []) $ fjoin ! $ owned ! usize (Is usize) (uint-makes 𝓤 H A W w64) y₀ _ is₀ $ fjoin ! $
+        move ! (3 ∷ 0 ∷ []) $ fjoin ! $ move ! (2 ∷ 0 ∷ []) $ fjoin ! $ move ! (1 ∷ 0 ∷ []) $ done !
 
     abbrev Had : (k : Link) (z₃ : List Record) (z₇ : List ℕ) (z₈ : List ℕ) → List (Item 𝓤)
     Had k z₃ z₇ z₈ = ‵ (link-own κ₀ b o γ k) ∷ ‵ (flft κ₀ q₀) ∷ ‵ (flft κ₁ q₁) ∷ ‵ (flft κ₂ q₂)
@@ -611,6 +620,304 @@ module _ {M : Type 1} (𝓤 : URA M) (H : Heap 𝓤) (A : Atoms 𝓤) (W : Given
           ∷ l₂₇ ∷ l₂₈ ∷ l₂₉ ∷ l₃₀ ∷ l₃₁ ∷ l₃₂ ∷ l₃₃ ∷ l₃₄ ∷ l₃₅ ∷ l₃₆ ∷ l₃₇ ∷ l₃₈
           ∷ l₃₉ ∷ l₄₀ ∷ l₄₁ ∷ l₄₂ ∷ l₄₃ ∷ l₄₄ ∷ [])
 
+      -- what part 4 knows
+      abbrev Known₄ : Type 0
+      Known₄ = (z₃ : List Record) × (z₈ : List ℕ) × (z₇ : List ℕ) × (z₈ : List ℕ) × (z₇ : List ℕ) × (z₈ : List ℕ) ×
+          (z₇ : List ℕ) × (z-local′ : List ℕ) × (z-transmissions : List ℕ) × (z-outstanding : List ℕ) × (z-queued : List ℕ) ×
+          (z-local : List ℕ) × (l₀ : ℕ) × (l₁ : ℕ) × (l₂ : ℕ) × (l₃ : ℕ) × (l₄ : ℕ) × (l₅ : ℕ) × (l₆ : ℕ) ×
+          (l₇ : ℕ) × (l₈ : ℕ) × (l₉ : ℕ) × (l₁₀ : ℕ) × (l₁₁ : ℕ) × (l₁₂ : ℕ) × (l₁₃ : ℕ) × (l₁₄ : ℕ) ×
+          (l₁₅ : ℕ) × (l₁₆ : ℕ) × (l₁₇ : ℕ) × (l₁₈ : ℕ) × (l₁₉ : ℕ) × (l₂₀ : ℕ) × (l₂₁ : ℕ) ×
+          (l₂₂ : ℕ) × (l₂₃ : ℕ) × (l₂₄ : ℕ) × (l₂₅ : ℕ) × (l₂₆ : ℕ) × (l₂₇ : ℕ) × (l₂₈ : ℕ) ×
+          (l₂₉ : ℕ) × (l₃₀ : ℕ) × (l₃₁ : ℕ) × (l₃₂ : ℕ) × (l₃₃ : ℕ) × (l₃₄ : ℕ) × (l₃₅ : ℕ) ×
+          (l₃₆ : ℕ) × (l₃₇ : ℕ) × (l₃₈ : ℕ) × (l₃₉ : ℕ) × (l₄₀ : ℕ) × (l₄₁ : ℕ) × (l₄₂ : ℕ) ×
+          (l₄₃ : ℕ) × (l₄₄ : ℕ) × (n : ℕ) × (w-n : Val) × (e-n : n ≡ h .flight .outstanding) × (w-blanks : Val) ×
+          (e-g : (length z-local ≡ 128) × (recordsIn z-local ≡ padded (gathered (take sendSlots (x₃ .now)) (slotsIn (h .outstanding) n)))) ×
+          (m : ℕ) × (w-m : Val) × (e-m : m ≡ length (x₃ .now)) × (a : Flushed) × (w-a : Val) ×
+          (e-a : (Core x₅ h (recordsIn z-local) m (x₁ .now) (x₂ .now) (x₄ .now) x₆ (x₇ .now) (x₈ .now) a
+          (linkOf (h .settings) (a .flight) (a .arrival) (a .clock)
+          (arrays z-queued z-outstanding z-transmissions (h .ready) (h .waiting) (h .«waiting_numbers»))) (recordsIn z-local′) z₇ z₈) ×
+          (length z-local′ ≡ 128)) × (is-a : Is flushed-row.the-row a (w-a ∷ [])) × (len₇ : length z₇ ≡ length (x₇ .now)) ×
+          (len₈ : length z₈ ≡ length (x₈ .now)) × (kf : Flight) × (w-kf : Val) × (e-kf : kf ≡ a .flight) × (ka : Arrival) × (w-ka : Val) ×
+          (e-ka : ka ≡ a .arrival) × (kc : Clock) × (w-kc : Val) × (e-kc : kc ≡ a .clock) × (c : ℕ) × (w-c : Val) × (e-c : c ≡ a .changed) ×
+          (w-u : Val) × (e-u : z₃ ≡ scattered (x₃ .now) (slotsIn z-outstanding c) (recordsIn z-local′)) ×
+          (len₃ : length z₃ ≡ length (x₃ .now)) × (end-queued : length z-queued ≡ 128) × (end-outstanding : length z-outstanding ≡ 32) ×
+          (end-transmissions : length z-transmissions ≡ 32) × (end-ready : length (h .ready) ≡ 128) ×
+          (end-waiting : length (h .waiting) ≡ 128) × (length (h .«waiting_numbers») ≡ 128)
+
+      part₄ : (past : Known₄) → ent 𝓤 (⋆ 𝓤 H A (‵
+          (link-own κ₀ b o γ (record {
+            settings = (h .settings);
+            flight = (past .71);
+            arrival = (past .74);
+            clock = (past .77);
+            queued = (past .10);
+            outstanding = (past .9);
+            transmissions = (past .8);
+            ready = (h .ready);
+            waiting = (h .waiting);
+            «waiting_numbers» = (h .«waiting_numbers»);
+          })) ∷ ‵ (flft κ₀ q₀)
+          ∷ ‵ (fat fullShare (tyArray (tyInt w32) 128) (past .27) 0 ((only ((array-vals (uint-vals w32)) (past .7)))))
+          ∷ ‵ (finally R (x₃ .name) (past .0)) ∷ ‵ (flft κ₃ q₃) ∷ ‵ (finally u16 (x₈ .name) (past .5))
+          ∷ ‵ (finally u8 (x₇ .name) (past .6)) ∷ ‵ (flft κ₁ q₁) ∷ ‵ (flft κ₂ q₂) ∷ ‵ (flft κ₄ q₄) ∷ ‵ (flft κ₅ q₅)
+          ∷ ‵ (flft κ₆ q₆) ∷ (‵ (fdies (tyInt w32) (past .12)) ⊛ ‵ (fdies (tyRef (named 0) mut (pointee (L .written))) (past .13)) ⊛ ‵
+          (fdies (sliceTy (tyRef (named 1) imm (tyInt w8))) (past .14)) ⊛ ‵ (fdies (sliceTy (tyRef (named 2) imm (tyInt w8))) (past .15)) ⊛
+          ‵ (fdies (sliceTy (tyRef (named 3) mut (pointee (R .written)))) (past .16)) ⊛ ‵
+          (fdies (sliceTy (tyRef (named 4) imm (tyInt w32))) (past .17)) ⊛ ‵ (fdies tyBool (past .18)) ⊛ ‵ (fdies (tyInt w32) (past .19)) ⊛
+          ‵ (fdies (sliceTy (tyRef (named 5) mut (tyInt w8))) (past .20)) ⊛ ‵ (fdies (sliceTy (tyRef (named 6) mut (tyInt w16))) (past .21))
+          ⊛ ‵ (fdies settings-laws.mir (past .22)) ⊛ ‵ (fdies flight-laws.mir (past .23)) ⊛ ‵ (fdies arrival-laws.mir (past .24)) ⊛ ‵
+          (fdies clock-laws.mir (past .25)) ⊛ ‵ (fdies (tyInt w64) (past .26)) ⊛ ‵ (fdies (tyArray (tyInt w32) 128) (past .27)) ⊛ ‵
+          (fdies (tyInt w64) (past .28)) ⊛ ‵ (fdies flushed-laws.mir (past .29)) ⊛ ‵ (fdies flight-laws.mir (past .30)) ⊛ ‵
+          (fdies arrival-laws.mir (past .31)) ⊛ ‵ (fdies clock-laws.mir (past .32)) ⊛ ‵ (fdies (tyInt w64) (past .33)) ⊛ ‵
+          (fdies (tyArray (tyInt w32) 128) (past .34)) ⊛ ‵ (fdies tyUnit (past .35)) ⊛ ‵
+          (fdies (tyRef erased imm (pointee (R .written))) (past .36)) ⊛ ‵
+          (fdies (sliceTy (tyRef erased imm (pointee (R .written)))) (past .37)) ⊛ ‵
+          (fdies (tyRef erased imm (tyArray (tyInt w32) 32)) (past .38)) ⊛ ‵ (fdies (tyRef erased mut (tyArray (tyInt w32) 128)) (past .39))
+          ⊛ ‵ (fdies (tyRef erased imm (pointee (R .written))) (past .40)) ⊛ ‵
+          (fdies (sliceTy (tyRef erased imm (pointee (R .written)))) (past .41)) ⊛ ‵
+          (fdies (tyRef erased mut (tyArray (tyInt w32) 128)) (past .42)) ⊛ ‵
+          (fdies (tyRef erased mut (tyArray (tyInt w32) 128)) (past .43)) ⊛ ‵ (fdies (tyRef erased mut (tyArray (tyInt w32) 32)) (past .44))
+          ⊛ ‵ (fdies (tyRef erased mut (tyArray (tyInt w8) 32)) (past .45)) ⊛ ‵
+          (fdies (tyRef erased imm (tyArray (tyInt w32) 128)) (past .46)) ⊛ ‵
+          (fdies (tyRef erased imm (tyArray (tyInt w32) 128)) (past .47)) ⊛ ‵
+          (fdies (tyRef erased imm (tyArray (tyInt w32) 128)) (past .48)) ⊛ ‵ (fdies (tyRef erased mut (tyInt w8)) (past .49)) ⊛ ‵
+          (fdies (sliceTy (tyRef erased mut (tyInt w8))) (past .50)) ⊛ ‵ (fdies (tyRef erased mut (tyInt w16)) (past .51)) ⊛ ‵
+          (fdies (sliceTy (tyRef erased mut (tyInt w16))) (past .52)) ⊛ ‵ (fdies (tyRef erased mut (pointee (R .written))) (past .53)) ⊛ ‵
+          (fdies (sliceTy (tyRef erased mut (pointee (R .written)))) (past .54)) ⊛ ‵
+          (fdies (tyRef erased imm (tyArray (tyInt w32) 32)) (past .55)) ⊛ ‵
+          (fdies (tyRef erased imm (tyArray (tyInt w32) 128)) (past .56)))
+          ∷ ‵ (fat fullShare (tyRef erased imm (tyArray (tyInt w32) 128)) (past .56) 0 ((vptr (past .27) 0)))
+          ∷ ‵ (fat fullShare (tyRef erased imm (tyArray (tyInt w32) 32)) (past .55) 0 ((vptr b (o + 636))))
+          ∷ ‵ (fat fullShare (sliceTy (tyRef erased mut (pointee (R .written)))) (past .54) 0 (s₃))
+          ∷ ‵ (fat fullShare (tyRef erased mut (pointee (R .written))) (past .53) 0 ((vptr (x₃ .ptr .0) (x₃ .ptr .1))))
+          ∷ ‵ (fat fullShare (sliceTy (tyRef erased mut (tyInt w16))) (past .52) 0 (s₈))
+          ∷ ‵ (fat fullShare (tyRef erased mut (tyInt w16)) (past .51) 0 ((vptr (x₈ .ptr .0) (x₈ .ptr .1))))
+          ∷ ‵ (fat fullShare (sliceTy (tyRef erased mut (tyInt w8))) (past .50) 0 (s₇))
+          ∷ ‵ (fat fullShare (tyRef erased mut (tyInt w8)) (past .49) 0 ((vptr (x₇ .ptr .0) (x₇ .ptr .1))))
+          ∷ ‵ (fat fullShare (tyRef erased imm (tyArray (tyInt w32) 128)) (past .48) 0 ((vptr b (o + 1820))))
+          ∷ ‵ (fat fullShare (tyRef erased imm (tyArray (tyInt w32) 128)) (past .47) 0 ((vptr b (o + 1308))))
+          ∷ ‵ (fat fullShare (tyRef erased imm (tyArray (tyInt w32) 128)) (past .46) 0 ((vptr b (o + 796))))
+          ∷ ‵ (fat fullShare (tyRef erased mut (tyArray (tyInt w8) 32)) (past .45) 0 ((vptr b (o + 764))))
+          ∷ ‵ (fat fullShare (tyRef erased mut (tyArray (tyInt w32) 32)) (past .44) 0 ((vptr b (o + 636))))
+          ∷ ‵ (fat fullShare (tyRef erased mut (tyArray (tyInt w32) 128)) (past .43) 0 ((vptr b (o + 124))))
+          ∷ ‵ (fat fullShare (tyRef erased mut (tyArray (tyInt w32) 128)) (past .42) 0 ((vptr (past .27) 0)))
+          ∷ ‵ (fat fullShare (sliceTy (tyRef erased imm (pointee (R .written)))) (past .41) 0 (s₃))
+          ∷ ‵ (fat fullShare (tyRef erased imm (pointee (R .written))) (past .40) 0 ((vptr (x₃ .ptr .0) (x₃ .ptr .1))))
+          ∷ ‵ (fat fullShare (tyRef erased mut (tyArray (tyInt w32) 128)) (past .39) 0 ((vptr (past .27) 0)))
+          ∷ ‵ (fat fullShare (tyRef erased imm (tyArray (tyInt w32) 32)) (past .38) 0 ((vptr b (o + 636))))
+          ∷ ‵ (fat fullShare (sliceTy (tyRef erased imm (pointee (R .written)))) (past .37) 0 (s₃))
+          ∷ ‵ (fat fullShare (tyRef erased imm (pointee (R .written))) (past .36) 0 ((vptr (x₃ .ptr .0) (x₃ .ptr .1))))
+          ∷ ‵ (fat fullShare tyUnit (past .35) 0 ((past .83))) ∷ ‵ (fat fullShare (tyArray (tyInt w32) 128) (past .34) 0 ((past .60)))
+          ∷ ‵ (fat fullShare (tyInt w64) (past .33) 0 ((past .81))) ∷ ‵ (fat fullShare clock-laws.mir (past .32) 0 ((past .78)))
+          ∷ ‵ (fat fullShare arrival-laws.mir (past .31) 0 ((past .75))) ∷ ‵ (fat fullShare flight-laws.mir (past .30) 0 ((past .72)))
+          ∷ ‵ (fat fullShare flushed-laws.mir (past .29) 0 ((past .66))) ∷ ‵ (fat fullShare (tyInt w64) (past .28) 0 ((past .63)))
+          ∷ ‵ (fat fullShare (tyInt w64) (past .26) 0 ((past .58)))
+          ∷ ‵ (fat fullShare clock-laws.mir (past .25) 0 ((only ((LL.vals clock-row.the-type clock-laws.the-laws) (h .clock)))))
+          ∷ ‵ (fat fullShare arrival-laws.mir (past .24) 0 ((only ((LL.vals arrival-row.the-type arrival-laws.the-laws) (h .arrival)))))
+          ∷ ‵ (fat fullShare flight-laws.mir (past .23) 0 ((only ((LL.vals flight-row.the-type flight-laws.the-laws) (h .flight)))))
+          ∷ ‵ (fat fullShare settings-laws.mir (past .22) 0 ((only ((LL.vals settings-row.the-type settings-laws.the-laws) (h .settings)))))
+          ∷ ‵ (fat fullShare (sliceTy (tyRef (named 6) mut (tyInt w16))) (past .21) 0 (s₈))
+          ∷ ‵ (fat fullShare (sliceTy (tyRef (named 5) mut (tyInt w8))) (past .20) 0 (s₇)) ∷ ‵ (fat fullShare (tyInt w32) (past .19) 0 (v₆))
+          ∷ ‵ (fat fullShare tyBool (past .18) 0 (v₅)) ∷ ‵ (fat fullShare (sliceTy (tyRef (named 4) imm (tyInt w32))) (past .17) 0 (s₄))
+          ∷ ‵ (fat fullShare (sliceTy (tyRef (named 3) mut (pointee (R .written)))) (past .16) 0 (s₃))
+          ∷ ‵ (fat fullShare (sliceTy (tyRef (named 2) imm (tyInt w8))) (past .15) 0 (s₂))
+          ∷ ‵ (fat fullShare (sliceTy (tyRef (named 1) imm (tyInt w8))) (past .14) 0 (s₁))
+          ∷ ‵ (fat fullShare (tyRef (named 0) mut (pointee (L .written))) (past .13) 0 (vptr b o)) ∷ ‵ (froom (tyInt w32) (past .12) 0)
+          ∷ [])) (Wp 𝓤 H C Λ (En (past .12) (past .13) (past .14) (past .15) (past .16) (past .17) (past .18) (past .19) (past .20)
+          (past .21) (past .22) (past .23) (past .24) (past .25) (past .26) (past .27) (past .28) (past .29) (past .30) (past .31)
+          (past .32) (past .33) (past .34) (past .35) (past .36) (past .37) (past .38) (past .39) (past .40) (past .41) (past .42)
+          (past .43) (past .44) (past .45) (past .46) (past .47) (past .48) (past .49) (past .50) (past .51) (past .52) (past .53)
+          (past .54) (past .55) (past .56)) (behind 39 (code.function .body))
+          (atReturn 𝓤 H (En (past .12) (past .13) (past .14) (past .15) (past .16) (past .17) (past .18) (past .19) (past .20) (past .21)
+          (past .22) (past .23) (past .24) (past .25) (past .26) (past .27) (past .28) (past .29) (past .30) (past .31) (past .32)
+          (past .33) (past .34) (past .35) (past .36) (past .37) (past .38) (past .39) (past .40) (past .41) (past .42) (past .43)
+          (past .44) (past .45) (past .46) (past .47) (past .48) (past .49) (past .50) (past .51) (past .52) (past .53) (past .54)
+          (past .55) (past .56)) Post))
+      part₄ past =
+          qed W (‵ (link-own κ₀ b o γ (record {
+            settings = (h .settings);
+            flight = (past .71);
+            arrival = (past .74);
+            clock = (past .77);
+            queued = (past .10);
+            outstanding = (past .9);
+            transmissions = (past .8);
+            ready = (h .ready);
+            waiting = (h .waiting);
+            «waiting_numbers» = (h .«waiting_numbers»);
+          })) ∷ ‵ (flft κ₀ q₀)
+          ∷ ‵ (fat fullShare (tyArray (tyInt w32) 128) (past .27) 0 ((only ((array-vals (uint-vals w32)) (past .7)))))
+          ∷ ‵ (finally R (x₃ .name) (past .0)) ∷ ‵ (flft κ₃ q₃) ∷ ‵ (finally u16 (x₈ .name) (past .5))
+          ∷ ‵ (finally u8 (x₇ .name) (past .6)) ∷ ‵ (flft κ₁ q₁) ∷ ‵ (flft κ₂ q₂) ∷ ‵ (flft κ₄ q₄)
+          ∷ ‵ (flft κ₅ q₅) ∷ ‵ (flft κ₆ q₆)
+          ∷ (‵ (fdies (tyInt w32) (past .12)) ⊛ ‵ (fdies (tyRef (named 0) mut (pointee (L .written))) (past .13)) ⊛ ‵
+          (fdies (sliceTy (tyRef (named 1) imm (tyInt w8))) (past .14)) ⊛ ‵
+          (fdies (sliceTy (tyRef (named 2) imm (tyInt w8))) (past .15)) ⊛ ‵
+          (fdies (sliceTy (tyRef (named 3) mut (pointee (R .written)))) (past .16)) ⊛ ‵
+          (fdies (sliceTy (tyRef (named 4) imm (tyInt w32))) (past .17)) ⊛ ‵ (fdies tyBool (past .18)) ⊛ ‵
+          (fdies (tyInt w32) (past .19)) ⊛ ‵ (fdies (sliceTy (tyRef (named 5) mut (tyInt w8))) (past .20)) ⊛ ‵
+          (fdies (sliceTy (tyRef (named 6) mut (tyInt w16))) (past .21)) ⊛ ‵ (fdies settings-laws.mir (past .22)) ⊛ ‵
+          (fdies flight-laws.mir (past .23)) ⊛ ‵ (fdies arrival-laws.mir (past .24)) ⊛ ‵ (fdies clock-laws.mir (past .25)) ⊛ ‵
+          (fdies (tyInt w64) (past .26)) ⊛ ‵ (fdies (tyArray (tyInt w32) 128) (past .27)) ⊛ ‵ (fdies (tyInt w64) (past .28)) ⊛ ‵
+          (fdies flushed-laws.mir (past .29)) ⊛ ‵ (fdies flight-laws.mir (past .30)) ⊛ ‵ (fdies arrival-laws.mir (past .31)) ⊛ ‵
+          (fdies clock-laws.mir (past .32)) ⊛ ‵ (fdies (tyInt w64) (past .33)) ⊛ ‵ (fdies (tyArray (tyInt w32) 128) (past .34)) ⊛ ‵
+          (fdies tyUnit (past .35)) ⊛ ‵ (fdies (tyRef erased imm (pointee (R .written))) (past .36)) ⊛ ‵
+          (fdies (sliceTy (tyRef erased imm (pointee (R .written)))) (past .37)) ⊛ ‵
+          (fdies (tyRef erased imm (tyArray (tyInt w32) 32)) (past .38)) ⊛ ‵
+          (fdies (tyRef erased mut (tyArray (tyInt w32) 128)) (past .39)) ⊛ ‵
+          (fdies (tyRef erased imm (pointee (R .written))) (past .40)) ⊛ ‵
+          (fdies (sliceTy (tyRef erased imm (pointee (R .written)))) (past .41)) ⊛ ‵
+          (fdies (tyRef erased mut (tyArray (tyInt w32) 128)) (past .42)) ⊛ ‵
+          (fdies (tyRef erased mut (tyArray (tyInt w32) 128)) (past .43)) ⊛ ‵
+          (fdies (tyRef erased mut (tyArray (tyInt w32) 32)) (past .44)) ⊛ ‵
+          (fdies (tyRef erased mut (tyArray (tyInt w8) 32)) (past .45)) ⊛ ‵
+          (fdies (tyRef erased imm (tyArray (tyInt w32) 128)) (past .46)) ⊛ ‵
+          (fdies (tyRef erased imm (tyArray (tyInt w32) 128)) (past .47)) ⊛ ‵
+          (fdies (tyRef erased imm (tyArray (tyInt w32) 128)) (past .48)) ⊛ ‵ (fdies (tyRef erased mut (tyInt w8)) (past .49)) ⊛ ‵
+          (fdies (sliceTy (tyRef erased mut (tyInt w8))) (past .50)) ⊛ ‵ (fdies (tyRef erased mut (tyInt w16)) (past .51)) ⊛ ‵
+          (fdies (sliceTy (tyRef erased mut (tyInt w16))) (past .52)) ⊛ ‵ (fdies (tyRef erased mut (pointee (R .written))) (past .53)) ⊛
+          ‵ (fdies (sliceTy (tyRef erased mut (pointee (R .written)))) (past .54)) ⊛ ‵
+          (fdies (tyRef erased imm (tyArray (tyInt w32) 32)) (past .55)) ⊛ ‵
+          (fdies (tyRef erased imm (tyArray (tyInt w32) 128)) (past .56)))
+          ∷ ‵ (fat fullShare (tyRef erased imm (tyArray (tyInt w32) 128)) (past .56) 0 ((vptr (past .27) 0)))
+          ∷ ‵ (fat fullShare (tyRef erased imm (tyArray (tyInt w32) 32)) (past .55) 0 ((vptr b (o + 636))))
+          ∷ ‵ (fat fullShare (sliceTy (tyRef erased mut (pointee (R .written)))) (past .54) 0 (s₃))
+          ∷ ‵ (fat fullShare (tyRef erased mut (pointee (R .written))) (past .53) 0 ((vptr (x₃ .ptr .0) (x₃ .ptr .1))))
+          ∷ ‵ (fat fullShare (sliceTy (tyRef erased mut (tyInt w16))) (past .52) 0 (s₈))
+          ∷ ‵ (fat fullShare (tyRef erased mut (tyInt w16)) (past .51) 0 ((vptr (x₈ .ptr .0) (x₈ .ptr .1))))
+          ∷ ‵ (fat fullShare (sliceTy (tyRef erased mut (tyInt w8))) (past .50) 0 (s₇))
+          ∷ ‵ (fat fullShare (tyRef erased mut (tyInt w8)) (past .49) 0 ((vptr (x₇ .ptr .0) (x₇ .ptr .1))))
+          ∷ ‵ (fat fullShare (tyRef erased imm (tyArray (tyInt w32) 128)) (past .48) 0 ((vptr b (o + 1820))))
+          ∷ ‵ (fat fullShare (tyRef erased imm (tyArray (tyInt w32) 128)) (past .47) 0 ((vptr b (o + 1308))))
+          ∷ ‵ (fat fullShare (tyRef erased imm (tyArray (tyInt w32) 128)) (past .46) 0 ((vptr b (o + 796))))
+          ∷ ‵ (fat fullShare (tyRef erased mut (tyArray (tyInt w8) 32)) (past .45) 0 ((vptr b (o + 764))))
+          ∷ ‵ (fat fullShare (tyRef erased mut (tyArray (tyInt w32) 32)) (past .44) 0 ((vptr b (o + 636))))
+          ∷ ‵ (fat fullShare (tyRef erased mut (tyArray (tyInt w32) 128)) (past .43) 0 ((vptr b (o + 124))))
+          ∷ ‵ (fat fullShare (tyRef erased mut (tyArray (tyInt w32) 128)) (past .42) 0 ((vptr (past .27) 0)))
+          ∷ ‵ (fat fullShare (sliceTy (tyRef erased imm (pointee (R .written)))) (past .41) 0 (s₃))
+          ∷ ‵ (fat fullShare (tyRef erased imm (pointee (R .written))) (past .40) 0 ((vptr (x₃ .ptr .0) (x₃ .ptr .1))))
+          ∷ ‵ (fat fullShare (tyRef erased mut (tyArray (tyInt w32) 128)) (past .39) 0 ((vptr (past .27) 0)))
+          ∷ ‵ (fat fullShare (tyRef erased imm (tyArray (tyInt w32) 32)) (past .38) 0 ((vptr b (o + 636))))
+          ∷ ‵ (fat fullShare (sliceTy (tyRef erased imm (pointee (R .written)))) (past .37) 0 (s₃))
+          ∷ ‵ (fat fullShare (tyRef erased imm (pointee (R .written))) (past .36) 0 ((vptr (x₃ .ptr .0) (x₃ .ptr .1))))
+          ∷ ‵ (fat fullShare tyUnit (past .35) 0 ((past .83))) ∷ ‵ (fat fullShare (tyArray (tyInt w32) 128) (past .34) 0 ((past .60)))
+          ∷ ‵ (fat fullShare (tyInt w64) (past .33) 0 ((past .81))) ∷ ‵ (fat fullShare clock-laws.mir (past .32) 0 ((past .78)))
+          ∷ ‵ (fat fullShare arrival-laws.mir (past .31) 0 ((past .75))) ∷ ‵ (fat fullShare flight-laws.mir (past .30) 0 ((past .72)))
+          ∷ ‵ (fat fullShare flushed-laws.mir (past .29) 0 ((past .66))) ∷ ‵ (fat fullShare (tyInt w64) (past .28) 0 ((past .63)))
+          ∷ ‵ (fat fullShare (tyInt w64) (past .26) 0 ((past .58)))
+          ∷ ‵ (fat fullShare clock-laws.mir (past .25) 0 ((only ((LL.vals clock-row.the-type clock-laws.the-laws) (h .clock)))))
+          ∷ ‵ (fat fullShare arrival-laws.mir (past .24) 0 ((only ((LL.vals arrival-row.the-type arrival-laws.the-laws) (h .arrival)))))
+          ∷ ‵ (fat fullShare flight-laws.mir (past .23) 0 ((only ((LL.vals flight-row.the-type flight-laws.the-laws) (h .flight)))))
+          ∷ ‵ (fat fullShare settings-laws.mir (past .22) 0
+          ((only ((LL.vals settings-row.the-type settings-laws.the-laws) (h .settings)))))
+          ∷ ‵ (fat fullShare (sliceTy (tyRef (named 6) mut (tyInt w16))) (past .21) 0 (s₈))
+          ∷ ‵ (fat fullShare (sliceTy (tyRef (named 5) mut (tyInt w8))) (past .20) 0 (s₇))
+          ∷ ‵ (fat fullShare (tyInt w32) (past .19) 0 (v₆)) ∷ ‵ (fat fullShare tyBool (past .18) 0 (v₅))
+          ∷ ‵ (fat fullShare (sliceTy (tyRef (named 4) imm (tyInt w32))) (past .17) 0 (s₄))
+          ∷ ‵ (fat fullShare (sliceTy (tyRef (named 3) mut (pointee (R .written)))) (past .16) 0 (s₃))
+          ∷ ‵ (fat fullShare (sliceTy (tyRef (named 2) imm (tyInt w8))) (past .15) 0 (s₂))
+          ∷ ‵ (fat fullShare (sliceTy (tyRef (named 1) imm (tyInt w8))) (past .14) 0 (s₁))
+          ∷ ‵ (fat fullShare (tyRef (named 0) mut (pointee (L .written))) (past .13) 0 (vptr b o)) ∷ ‵ (froom (tyInt w32) (past .12) 0)
+          ∷ []) ∵ exec ! C Λ (En (past .12) (past .13) (past .14) (past .15) (past .16) (past .17) (past .18) (past .19) (past .20)
+          (past .21) (past .22) (past .23) (past .24) (past .25) (past .26) (past .27) (past .28) (past .29) (past .30) (past .31)
+          (past .32) (past .33) (past .34) (past .35) (past .36) (past .37) (past .38) (past .39) (past .40) (past .41) (past .42)
+          (past .43) (past .44) (past .45) (past .46) (past .47) (past .48) (past .49) (past .50) (past .51) (past .52) (past .53)
+          (past .54) (past .55) (past .56)) (behind 39 (code.function .body))
+          (atRet (En (past .12) (past .13) (past .14) (past .15) (past .16) (past .17) (past .18) (past .19) (past .20) (past .21)
+          (past .22) (past .23) (past .24) (past .25) (past .26) (past .27) (past .28) (past .29) (past .30) (past .31) (past .32)
+          (past .33) (past .34) (past .35) (past .36) (past .37) (past .38) (past .39) (past .40) (past .41) (past .42) (past .43)
+          (past .44) (past .45) (past .46) (past .47) (past .48) (past .49) (past .50) (past .51) (past .52) (past .53) (past .54)
+          (past .55) (past .56)) Post) $
+          nothing ! $ calls-fn ! fm code-of.ended (code-of.clauses 𝓤 H A at-mem run) (known .10)
+          ((tt, tt, tt, ((past .65), tt), ((past .66) ∷ [], tt)), tt) (λ r _. r ≡ updateCode ((past .65) .answer))
+          (‵ ftrue) (plainly 𝓤 H A W (flushed-row.the-row ∷ []) ((LL.makes flushed-row.the-type flushed-laws.the-plain 𝓤 H A), tt)
+          ((past .65), tt) ((past .66) ∷ [], tt) ((past .68), tt)) (λ r _. id⊢ 𝓤 _)
+          (and-then ! (load ! (from ! (stop !)) (look ! 41 refl)) (no-more !))
+          (λ r w-r _ e-r is-r. drop ! $ drop ! $ land ! (from ! (stop !)) (init ! 56 refl (sint-lawful 𝓤 H A W w32 .typed r _ is-r .0)) $
+          returns ! (look ! 56 refl) $
+          move ! (12 ∷ []) $ spread W (‵ (fdies (tyInt w32) (past .12)))
+          (‵ (fdies (tyRef (named 0) mut (pointee (L .written))) (past .13))
+          ∷ ‵ (fdies (sliceTy (tyRef (named 1) imm (tyInt w8))) (past .14))
+          ∷ ‵ (fdies (sliceTy (tyRef (named 2) imm (tyInt w8))) (past .15))
+          ∷ ‵ (fdies (sliceTy (tyRef (named 3) mut (pointee (R .written)))) (past .16))
+          ∷ ‵ (fdies (sliceTy (tyRef (named 4) imm (tyInt w32))) (past .17)) ∷ ‵ (fdies tyBool (past .18))
+          ∷ ‵ (fdies (tyInt w32) (past .19)) ∷ ‵ (fdies (sliceTy (tyRef (named 5) mut (tyInt w8))) (past .20))
+          ∷ ‵ (fdies (sliceTy (tyRef (named 6) mut (tyInt w16))) (past .21)) ∷ ‵ (fdies settings-laws.mir (past .22))
+          ∷ ‵ (fdies flight-laws.mir (past .23)) ∷ ‵ (fdies arrival-laws.mir (past .24)) ∷ ‵ (fdies clock-laws.mir (past .25))
+          ∷ ‵ (fdies (tyInt w64) (past .26)) ∷ ‵ (fdies (tyArray (tyInt w32) 128) (past .27)) ∷ ‵ (fdies (tyInt w64) (past .28))
+          ∷ ‵ (fdies flushed-laws.mir (past .29)) ∷ ‵ (fdies flight-laws.mir (past .30)) ∷ ‵ (fdies arrival-laws.mir (past .31))
+          ∷ ‵ (fdies clock-laws.mir (past .32)) ∷ ‵ (fdies (tyInt w64) (past .33)) ∷ ‵ (fdies (tyArray (tyInt w32) 128) (past .34))
+          ∷ ‵ (fdies tyUnit (past .35)) ∷ ‵ (fdies (tyRef erased imm (pointee (R .written))) (past .36))
+          ∷ ‵ (fdies (sliceTy (tyRef erased imm (pointee (R .written)))) (past .37))
+          ∷ ‵ (fdies (tyRef erased imm (tyArray (tyInt w32) 32)) (past .38))
+          ∷ ‵ (fdies (tyRef erased mut (tyArray (tyInt w32) 128)) (past .39))
+          ∷ ‵ (fdies (tyRef erased imm (pointee (R .written))) (past .40))
+          ∷ ‵ (fdies (sliceTy (tyRef erased imm (pointee (R .written)))) (past .41))
+          ∷ ‵ (fdies (tyRef erased mut (tyArray (tyInt w32) 128)) (past .42))
+          ∷ ‵ (fdies (tyRef erased mut (tyArray (tyInt w32) 128)) (past .43))
+          ∷ ‵ (fdies (tyRef erased mut (tyArray (tyInt w32) 32)) (past .44))
+          ∷ ‵ (fdies (tyRef erased mut (tyArray (tyInt w8) 32)) (past .45))
+          ∷ ‵ (fdies (tyRef erased imm (tyArray (tyInt w32) 128)) (past .46))
+          ∷ ‵ (fdies (tyRef erased imm (tyArray (tyInt w32) 128)) (past .47))
+          ∷ ‵ (fdies (tyRef erased imm (tyArray (tyInt w32) 128)) (past .48)) ∷ ‵ (fdies (tyRef erased mut (tyInt w8)) (past .49))
+          ∷ ‵ (fdies (sliceTy (tyRef erased mut (tyInt w8))) (past .50)) ∷ ‵ (fdies (tyRef erased mut (tyInt w16)) (past .51))
+          ∷ ‵ (fdies (sliceTy (tyRef erased mut (tyInt w16))) (past .52))
+          ∷ ‵ (fdies (tyRef erased mut (pointee (R .written))) (past .53))
+          ∷ ‵ (fdies (sliceTy (tyRef erased mut (pointee (R .written)))) (past .54))
+          ∷ ‵ (fdies (tyRef erased imm (tyArray (tyInt w32) 32)) (past .55))
+          ∷ ‵ (fdies (tyRef erased imm (tyArray (tyInt w32) 128)) (past .56)) ∷ []) (id⊢ 𝓤 _) $
+          move ! (100 ∷ 0 ∷ 99 ∷ 1 ∷ 98 ∷ 2 ∷ 97 ∷ 3 ∷ 96 ∷ 4 ∷ 95 ∷ 5 ∷ 94 ∷ 6 ∷ 93 ∷ 7 ∷ 92 ∷ 8 ∷ 91 ∷ 9 ∷ 90
+          ∷ 10 ∷ 89 ∷ 11 ∷ 88 ∷ 12 ∷ 87 ∷ 13 ∷ 86 ∷ 14 ∷ 47 ∷ 15 ∷ 85 ∷ 16 ∷ 84 ∷ 17 ∷ 83 ∷ 18 ∷ 82 ∷ 19 ∷ 81 ∷ 20
+          ∷ 80 ∷ 21 ∷ 79 ∷ 22 ∷ 78 ∷ 23 ∷ 77 ∷ 24 ∷ 76 ∷ 25 ∷ 75 ∷ 26 ∷ 74 ∷ 27 ∷ 73 ∷ 28 ∷ 72 ∷ 29 ∷ 71 ∷ 30 ∷ 70
+          ∷ 31 ∷ 69 ∷ 32 ∷ 68 ∷ 33 ∷ 67 ∷ 34 ∷ 66 ∷ 35 ∷ 65 ∷ 36 ∷ 64 ∷ 37 ∷ 63 ∷ 38 ∷ 62 ∷ 39 ∷ 61 ∷ 40 ∷ 60 ∷ 41
+          ∷ 59 ∷ 42 ∷ 58 ∷ 43 ∷ 57 ∷ 44 ∷ []) $ forget ! 0 refl $ free1 ! $ forget ! 0 refl $ free1 ! $ forget ! 0 refl $ free1 ! $
+          forget ! 0 refl $ free1 ! $ forget ! 0 refl $ free1 ! $ forget ! 0 refl $ free1 ! $ forget ! 0 refl $ free1 ! $
+          forget ! 0 refl $ free1 ! $ forget ! 0 refl $ free1 ! $ forget ! 0 refl $ free1 ! $ forget ! 0 refl $ free1 ! $
+          forget ! 0 refl $ free1 ! $ forget ! 0 refl $ free1 ! $ forget ! 0 refl $ free1 ! $ forget ! 0 refl $ free1 ! $
+          forget ! 0 refl $ free1 ! $ forget ! 0 refl $ free1 ! $ forget ! 0 refl $ free1 ! $ forget ! 0 refl $ free1 ! $
+          forget ! 0 refl $ free1 ! $ forget ! 0 refl $ free1 ! $ forget ! 0 refl $ free1 ! $ forget ! 0 refl $ free1 ! $
+          forget ! 0 refl $ free1 ! $ forget ! 0 refl $ free1 ! $ forget ! 0 refl $ free1 ! $ forget ! 0 refl $ free1 ! $
+          forget ! 0 refl $ free1 ! $ forget ! 0 refl $ free1 ! $ forget ! 0 refl $ free1 ! $ forget ! 0 refl $ free1 ! $
+          forget ! 0 refl $ free1 ! $ forget ! 0 refl $ free1 ! $ forget ! 0 refl $ free1 ! $ forget ! 0 refl $ free1 ! $
+          forget ! 0 refl $ free1 ! $ forget ! 0 refl $ free1 ! $ forget ! 0 refl $ free1 ! $ forget ! 0 refl $ free1 ! $
+          forget ! 0 refl $ free1 ! $ forget ! 0 refl $ free1 ! $ forget ! 0 refl $ free1 ! $ forget ! 0 refl $ free1 ! $
+          forget ! 0 refl $ free1 ! $ forget ! 0 refl $ free1 ! $ free0 ! $
+          move ! (0 ∷ 1 ∷ 6 ∷ 7 ∷ 2 ∷ 3 ∷ 8 ∷ 5 ∷ 9 ∷ 4 ∷ 10 ∷ []) $
+          by ! (exits r w-r (record {
+            settings = (h .settings);
+            flight = (past .71);
+            arrival = (past .74);
+            clock = (past .77);
+            queued = (past .10);
+            outstanding = (past .9);
+            transmissions = (past .8);
+            ready = (h .ready);
+            waiting = (h .waiting);
+            «waiting_numbers» = (h .«waiting_numbers»);
+          }) ((past .0)) ((past .6)) ((past .5))
+          (rw ((past .73), (past .76), (past .79)) (gives x₅ x₆ h (partsOf (x₁ .now) (x₂ .now) (x₃ .now) (x₄ .now))
+          (flushPartsOf (x₇ .now) (x₈ .now)) ((past .65) .answer)
+          (record { words = (past .9); changed = (past .65) .changed; records = (recordsIn (past .7)) })
+          (linkOf (h .settings) ((past .65) .flight) ((past .65) .arrival) ((past .65) .clock)
+          (arrays (past .10) (past .9) (past .8) (h .ready) (h .waiting) (h .«waiting_numbers»))) (flushPartsOf (past .6) (past .5))
+          (past .0) (records-length 32 (past .7) ((past .67) .1))
+          (put-back (x₃ .now) (past .0) (record { words = (past .9); changed = (past .65) .changed; records = (recordsIn (past .7)) })
+          (past .9) (past .80) (recordsIn (past .7)) refl (past .82) refl (past .84))
+          (left x₅ x₆ h (partsOf (x₁ .now) (x₂ .now) (x₃ .now) (x₄ .now)) (flushPartsOf (x₇ .now) (x₈ .now)) (past .65)
+          (linkOf (h .settings) ((past .65) .flight) ((past .65) .arrival) ((past .65) .clock)
+          (arrays (past .10) (past .9) (past .8) (h .ready) (h .waiting) (h .«waiting_numbers»))) (recordsIn (past .7))
+          (flushPartsOf (past .6) (past .5)) (recordsIn (past .11)) (past .62)
+          (gathers h (partsOf (x₁ .now) (x₂ .now) (x₃ .now) (x₄ .now)) (past .57) (recordsIn (past .11)) (past .62) (past .59)
+          ((past .61) .1) (past .64)) (record {
+            whole-queued = (past .86);
+            whole-outstanding = (past .87);
+            whole-transmissions = (past .88);
+            whole-ready = (past .89);
+            whole-waiting = (past .90);
+            whole-numbers = (past .91);
+          })
+          ((past .67) .0)) r e-r)) (past .85) (past .69) (past .70) is-r))
+
       -- what part 3 knows
       abbrev Known₃ : Type 0
       Known₃ = (z₈ : List ℕ) × (z₇ : List ℕ) × (z₈ : List ℕ) × (z₇ : List ℕ) × (z-local′ : List ℕ) × (z-transmissions : List ℕ) ×
@@ -629,78 +936,72 @@ module _ {M : Type 1} (𝓤 : URA M) (H : Heap 𝓤) (A : Atoms 𝓤) (W : Given
           (arrays z-queued z-outstanding z-transmissions (h .ready) (h .waiting) (h .«waiting_numbers»))) (recordsIn z-local′) z₇ z₈) ×
           (length z-local′ ≡ 128)) × (is-a : Is flushed-row.the-row a (w-a ∷ [])) × (len₇ : length z₇ ≡ length (x₇ .now)) ×
           (len₈ : length z₈ ≡ length (x₈ .now)) × (was-local-2 : Is (Array u32 128) z-local′ ((array-vals (uint-vals w32)) z-local′)) ×
-          (was-outstanding′ : Is (Array u32 32) z-outstanding ((array-vals (uint-vals w32)) z-outstanding)) × (kf : Flight) × (w-kf : Val) ×
-          (e-kf : kf ≡ a .flight) × (ka : Arrival) × (w-ka : Val) × (e-ka : ka ≡ a .arrival) × (kc : Clock) × (w-kc : Val) ×
-          (e-kc : kc ≡ a .clock) × (end-queued : length z-queued ≡ 128) × (end-outstanding : length z-outstanding ≡ 32) ×
-          (end-transmissions : length z-transmissions ≡ 32) × (end-ready : length (h .ready) ≡ 128) ×
-          (end-waiting : length (h .waiting) ≡ 128) × (length (h .«waiting_numbers») ≡ 128)
+          (kf : Flight) × (w-kf : Val) × (e-kf : kf ≡ a .flight) × (ka : Arrival) × (w-ka : Val) × (e-ka : ka ≡ a .arrival) × (kc : Clock) ×
+          (w-kc : Val) × (e-kc : kc ≡ a .clock) × (c : ℕ) × (w-c : Val) × (e-c : c ≡ a .changed) × (is-c : Is usize c (w-c ∷ [])) ×
+          (length z-outstanding ≡ 32)
 
-      part₃ : (past : Known₃) → ent 𝓤 (⋆ 𝓤 H A (‵
-          (link-own κ₀ b o γ (record {
-            settings = (h .settings);
-            flight = (past .71);
-            arrival = (past .74);
-            clock = (past .77);
-            queued = (past .7);
-            outstanding = (past .6);
-            transmissions = (past .5);
-            ready = (h .ready);
-            waiting = (h .waiting);
-            «waiting_numbers» = (h .«waiting_numbers»);
-          })) ∷ ‵ (flft κ₀ q₀)
-          ∷ ‵ (fat fullShare (tyArray (tyInt w32) 128) (past .25) 0 ((only ((array-vals (uint-vals w32)) (past .4)))))
+      part₃ : (past : Known₃) → ent 𝓤 (⋆ 𝓤 H A (‵ (partAt (Array u32 32) fullShare (past .6) b (o + 636))
+          ∷ ‵ (partAt clock-row.the-row fullShare (past .76) b (o + 104)) ∷ ‵ (partAt arrival-row.the-row fullShare (past .73) b (o + 72))
+          ∷ ‵ (partAt flight-row.the-row fullShare (past .70) b (o + 16))
+          ∷ ‵ (partAt (Array u32 128) fullShare (h .«waiting_numbers») b (o + 1820))
+          ∷ ‵ (partAt (Array u32 128) fullShare (h .waiting) b (o + 1308)) ∷ ‵ (partAt (Array u32 128) fullShare (h .ready) b (o + 796))
+          ∷ ‵ (partAt (Array u8 32) fullShare (past .5) b (o + 764)) ∷ ‵ (partAt (Array u32 128) fullShare (past .7) b (o + 124))
+          ∷ ‵ (fat fullShare (tyArray (tyInt w32) 128) (past .24) 0 ((only ((array-vals (uint-vals w32)) (past .4)))))
           ∷ ‵ (finally u16 (x₈ .name) (past .2)) ∷ ‵ (finally u8 (x₇ .name) (past .3)) ∷ ‵ (flft κ₁ q₁) ∷ ‵ (flft κ₂ q₂)
           ∷ ‵ (flft κ₄ q₄) ∷ ‵ (flft κ₅ q₅) ∷ ‵ (flft κ₆ q₆) ∷ ‵ Own₃ ∷ ‵ (flft κ₃ q₃)
+          ∷ ‵ (partAt settings-row.the-row fullShare (h .settings) b (o + 0)) ∷ raw (Back 𝓤 H A fullShare b o) ∷ ‵ (Open b o γ κ₀ q₀ h)
           ∷ (‵ (fdies (tyInt w32) (past .9)) ⊛ ‵ (fdies (tyRef (named 0) mut (pointee (L .written))) (past .10)) ⊛ ‵
           (fdies (sliceTy (tyRef (named 1) imm (tyInt w8))) (past .11)) ⊛ ‵ (fdies (sliceTy (tyRef (named 2) imm (tyInt w8))) (past .12)) ⊛
           ‵ (fdies (sliceTy (tyRef (named 3) mut (pointee (R .written)))) (past .13)) ⊛ ‵
           (fdies (sliceTy (tyRef (named 4) imm (tyInt w32))) (past .14)) ⊛ ‵ (fdies tyBool (past .15)) ⊛ ‵ (fdies (tyInt w32) (past .16)) ⊛
           ‵ (fdies (sliceTy (tyRef (named 5) mut (tyInt w8))) (past .17)) ⊛ ‵ (fdies (sliceTy (tyRef (named 6) mut (tyInt w16))) (past .18))
           ⊛ ‵ (fdies settings-laws.mir (past .19)) ⊛ ‵ (fdies flight-laws.mir (past .20)) ⊛ ‵ (fdies arrival-laws.mir (past .21)) ⊛ ‵
-          (fdies clock-laws.mir (past .22)) ⊛ ‵ (fdies (tyArray (tyInt w32) 32) (past .23)) ⊛ ‵ (fdies (tyInt w64) (past .24)) ⊛ ‵
-          (fdies (tyArray (tyInt w32) 128) (past .25)) ⊛ ‵ (fdies (tyInt w64) (past .26)) ⊛ ‵ (fdies flushed-laws.mir (past .27)) ⊛ ‵
-          (fdies (tyArray (tyInt w32) 32) (past .28)) ⊛ ‵ (fdies flight-laws.mir (past .29)) ⊛ ‵ (fdies arrival-laws.mir (past .30)) ⊛ ‵
-          (fdies clock-laws.mir (past .31)) ⊛ ‵ (fdies (tyInt w64) (past .32)) ⊛ ‵ (fdies (tyArray (tyInt w32) 128) (past .33)) ⊛ ‵
-          (fdies tyUnit (past .34)) ⊛ ‵ (fdies (tyRef erased imm (pointee (R .written))) (past .35)) ⊛ ‵
-          (fdies (sliceTy (tyRef erased imm (pointee (R .written)))) (past .36)) ⊛ ‵
-          (fdies (tyRef erased mut (tyArray (tyInt w32) 128)) (past .37)) ⊛ ‵ (fdies (tyRef erased imm (pointee (R .written))) (past .38)) ⊛
-          ‵ (fdies (sliceTy (tyRef erased imm (pointee (R .written)))) (past .39)) ⊛ ‵
-          (fdies (tyRef erased mut (tyArray (tyInt w32) 128)) (past .40)) ⊛ ‵
-          (fdies (tyRef erased mut (tyArray (tyInt w32) 128)) (past .41)) ⊛ ‵ (fdies (tyRef erased mut (tyArray (tyInt w32) 32)) (past .42))
-          ⊛ ‵ (fdies (tyRef erased mut (tyArray (tyInt w8) 32)) (past .43)) ⊛ ‵
+          (fdies clock-laws.mir (past .22)) ⊛ ‵ (fdies (tyInt w64) (past .23)) ⊛ ‵ (fdies (tyArray (tyInt w32) 128) (past .24)) ⊛ ‵
+          (fdies (tyInt w64) (past .25)) ⊛ ‵ (fdies flushed-laws.mir (past .26)) ⊛ ‵ (fdies flight-laws.mir (past .27)) ⊛ ‵
+          (fdies arrival-laws.mir (past .28)) ⊛ ‵ (fdies clock-laws.mir (past .29)) ⊛ ‵ (fdies (tyInt w64) (past .30)) ⊛ ‵
+          (fdies (tyArray (tyInt w32) 128) (past .31)) ⊛ ‵ (fdies tyUnit (past .32)) ⊛ ‵
+          (fdies (tyRef erased imm (pointee (R .written))) (past .33)) ⊛ ‵
+          (fdies (sliceTy (tyRef erased imm (pointee (R .written)))) (past .34)) ⊛ ‵
+          (fdies (tyRef erased imm (tyArray (tyInt w32) 32)) (past .35)) ⊛ ‵ (fdies (tyRef erased mut (tyArray (tyInt w32) 128)) (past .36))
+          ⊛ ‵ (fdies (tyRef erased imm (pointee (R .written))) (past .37)) ⊛ ‵
+          (fdies (sliceTy (tyRef erased imm (pointee (R .written)))) (past .38)) ⊛ ‵
+          (fdies (tyRef erased mut (tyArray (tyInt w32) 128)) (past .39)) ⊛ ‵
+          (fdies (tyRef erased mut (tyArray (tyInt w32) 128)) (past .40)) ⊛ ‵ (fdies (tyRef erased mut (tyArray (tyInt w32) 32)) (past .41))
+          ⊛ ‵ (fdies (tyRef erased mut (tyArray (tyInt w8) 32)) (past .42)) ⊛ ‵
+          (fdies (tyRef erased imm (tyArray (tyInt w32) 128)) (past .43)) ⊛ ‵
           (fdies (tyRef erased imm (tyArray (tyInt w32) 128)) (past .44)) ⊛ ‵
-          (fdies (tyRef erased imm (tyArray (tyInt w32) 128)) (past .45)) ⊛ ‵
-          (fdies (tyRef erased imm (tyArray (tyInt w32) 128)) (past .46)) ⊛ ‵ (fdies (tyRef erased mut (tyInt w8)) (past .47)) ⊛ ‵
-          (fdies (sliceTy (tyRef erased mut (tyInt w8))) (past .48)) ⊛ ‵ (fdies (tyRef erased mut (tyInt w16)) (past .49)) ⊛ ‵
-          (fdies (sliceTy (tyRef erased mut (tyInt w16))) (past .50)) ⊛ ‵ (fdies (tyRef erased mut (pointee (R .written))) (past .51)) ⊛ ‵
-          (fdies (sliceTy (tyRef erased mut (pointee (R .written)))) (past .52)) ⊛ ‵
+          (fdies (tyRef erased imm (tyArray (tyInt w32) 128)) (past .45)) ⊛ ‵ (fdies (tyRef erased mut (tyInt w8)) (past .46)) ⊛ ‵
+          (fdies (sliceTy (tyRef erased mut (tyInt w8))) (past .47)) ⊛ ‵ (fdies (tyRef erased mut (tyInt w16)) (past .48)) ⊛ ‵
+          (fdies (sliceTy (tyRef erased mut (tyInt w16))) (past .49)) ⊛ ‵ (fdies (tyRef erased mut (pointee (R .written))) (past .50)) ⊛ ‵
+          (fdies (sliceTy (tyRef erased mut (pointee (R .written)))) (past .51)) ⊛ ‵
+          (fdies (tyRef erased imm (tyArray (tyInt w32) 32)) (past .52)) ⊛ ‵
           (fdies (tyRef erased imm (tyArray (tyInt w32) 128)) (past .53)))
           ∷ ‵ (froom (tyRef erased imm (tyArray (tyInt w32) 128)) (past .53) 0)
-          ∷ ‵ (froom (sliceTy (tyRef erased mut (pointee (R .written)))) (past .52) 0)
-          ∷ ‵ (froom (tyRef erased mut (pointee (R .written))) (past .51) 0)
-          ∷ ‵ (fat fullShare (sliceTy (tyRef erased mut (tyInt w16))) (past .50) 0 (s₈))
-          ∷ ‵ (fat fullShare (tyRef erased mut (tyInt w16)) (past .49) 0 ((vptr (x₈ .ptr .0) (x₈ .ptr .1))))
-          ∷ ‵ (fat fullShare (sliceTy (tyRef erased mut (tyInt w8))) (past .48) 0 (s₇))
-          ∷ ‵ (fat fullShare (tyRef erased mut (tyInt w8)) (past .47) 0 ((vptr (x₇ .ptr .0) (x₇ .ptr .1))))
-          ∷ ‵ (fat fullShare (tyRef erased imm (tyArray (tyInt w32) 128)) (past .46) 0 ((vptr b (o + 1820))))
-          ∷ ‵ (fat fullShare (tyRef erased imm (tyArray (tyInt w32) 128)) (past .45) 0 ((vptr b (o + 1308))))
-          ∷ ‵ (fat fullShare (tyRef erased imm (tyArray (tyInt w32) 128)) (past .44) 0 ((vptr b (o + 796))))
-          ∷ ‵ (fat fullShare (tyRef erased mut (tyArray (tyInt w8) 32)) (past .43) 0 ((vptr b (o + 764))))
-          ∷ ‵ (fat fullShare (tyRef erased mut (tyArray (tyInt w32) 32)) (past .42) 0 ((vptr b (o + 636))))
-          ∷ ‵ (fat fullShare (tyRef erased mut (tyArray (tyInt w32) 128)) (past .41) 0 ((vptr b (o + 124))))
-          ∷ ‵ (fat fullShare (tyRef erased mut (tyArray (tyInt w32) 128)) (past .40) 0 ((vptr (past .25) 0)))
-          ∷ ‵ (fat fullShare (sliceTy (tyRef erased imm (pointee (R .written)))) (past .39) 0 (s₃))
-          ∷ ‵ (fat fullShare (tyRef erased imm (pointee (R .written))) (past .38) 0 ((vptr (x₃ .ptr .0) (x₃ .ptr .1))))
-          ∷ ‵ (fat fullShare (tyRef erased mut (tyArray (tyInt w32) 128)) (past .37) 0 ((vptr (past .25) 0)))
-          ∷ ‵ (fat fullShare (sliceTy (tyRef erased imm (pointee (R .written)))) (past .36) 0 (s₃))
-          ∷ ‵ (fat fullShare (tyRef erased imm (pointee (R .written))) (past .35) 0 ((vptr (x₃ .ptr .0) (x₃ .ptr .1))))
-          ∷ ‵ (fat fullShare tyUnit (past .34) 0 ((past .58))) ∷ ‵ (fat fullShare (tyArray (tyInt w32) 128) (past .33) 0 ((past .57)))
-          ∷ ‵ (froom (tyInt w64) (past .32) 0) ∷ ‵ (fat fullShare clock-laws.mir (past .31) 0 ((past .78)))
-          ∷ ‵ (fat fullShare arrival-laws.mir (past .30) 0 ((past .75))) ∷ ‵ (fat fullShare flight-laws.mir (past .29) 0 ((past .72)))
-          ∷ ‵ (fat fullShare (tyArray (tyInt w32) 32) (past .28) 0 ((only ((array-vals (uint-vals w32)) (past .6)))))
-          ∷ ‵ (fat fullShare flushed-laws.mir (past .27) 0 ((past .64))) ∷ ‵ (fat fullShare (tyInt w64) (past .26) 0 ((past .61)))
-          ∷ ‵ (fat fullShare (tyInt w64) (past .24) 0 ((past .55)))
-          ∷ ‵ (fat fullShare (tyArray (tyInt w32) 32) (past .23) 0 ((only ((array-vals (uint-vals w32)) (h .outstanding)))))
+          ∷ ‵ (froom (tyRef erased imm (tyArray (tyInt w32) 32)) (past .52) 0)
+          ∷ ‵ (fat fullShare (sliceTy (tyRef erased mut (pointee (R .written)))) (past .51) 0 (s₃))
+          ∷ ‵ (fat fullShare (tyRef erased mut (pointee (R .written))) (past .50) 0 ((vptr (x₃ .ptr .0) (x₃ .ptr .1))))
+          ∷ ‵ (fat fullShare (sliceTy (tyRef erased mut (tyInt w16))) (past .49) 0 (s₈))
+          ∷ ‵ (fat fullShare (tyRef erased mut (tyInt w16)) (past .48) 0 ((vptr (x₈ .ptr .0) (x₈ .ptr .1))))
+          ∷ ‵ (fat fullShare (sliceTy (tyRef erased mut (tyInt w8))) (past .47) 0 (s₇))
+          ∷ ‵ (fat fullShare (tyRef erased mut (tyInt w8)) (past .46) 0 ((vptr (x₇ .ptr .0) (x₇ .ptr .1))))
+          ∷ ‵ (fat fullShare (tyRef erased imm (tyArray (tyInt w32) 128)) (past .45) 0 ((vptr b (o + 1820))))
+          ∷ ‵ (fat fullShare (tyRef erased imm (tyArray (tyInt w32) 128)) (past .44) 0 ((vptr b (o + 1308))))
+          ∷ ‵ (fat fullShare (tyRef erased imm (tyArray (tyInt w32) 128)) (past .43) 0 ((vptr b (o + 796))))
+          ∷ ‵ (fat fullShare (tyRef erased mut (tyArray (tyInt w8) 32)) (past .42) 0 ((vptr b (o + 764))))
+          ∷ ‵ (fat fullShare (tyRef erased mut (tyArray (tyInt w32) 32)) (past .41) 0 ((vptr b (o + 636))))
+          ∷ ‵ (fat fullShare (tyRef erased mut (tyArray (tyInt w32) 128)) (past .40) 0 ((vptr b (o + 124))))
+          ∷ ‵ (fat fullShare (tyRef erased mut (tyArray (tyInt w32) 128)) (past .39) 0 ((vptr (past .24) 0)))
+          ∷ ‵ (fat fullShare (sliceTy (tyRef erased imm (pointee (R .written)))) (past .38) 0 (s₃))
+          ∷ ‵ (fat fullShare (tyRef erased imm (pointee (R .written))) (past .37) 0 ((vptr (x₃ .ptr .0) (x₃ .ptr .1))))
+          ∷ ‵ (fat fullShare (tyRef erased mut (tyArray (tyInt w32) 128)) (past .36) 0 ((vptr (past .24) 0)))
+          ∷ ‵ (fat fullShare (tyRef erased imm (tyArray (tyInt w32) 32)) (past .35) 0 ((vptr b (o + 636))))
+          ∷ ‵ (fat fullShare (sliceTy (tyRef erased imm (pointee (R .written)))) (past .34) 0 (s₃))
+          ∷ ‵ (fat fullShare (tyRef erased imm (pointee (R .written))) (past .33) 0 ((vptr (x₃ .ptr .0) (x₃ .ptr .1))))
+          ∷ ‵ (fat fullShare tyUnit (past .32) 0 ((past .58))) ∷ ‵ (fat fullShare (tyArray (tyInt w32) 128) (past .31) 0 ((past .57)))
+          ∷ ‵ (fat fullShare (tyInt w64) (past .30) 0 ((past .80))) ∷ ‵ (fat fullShare clock-laws.mir (past .29) 0 ((past .77)))
+          ∷ ‵ (fat fullShare arrival-laws.mir (past .28) 0 ((past .74))) ∷ ‵ (fat fullShare flight-laws.mir (past .27) 0 ((past .71)))
+          ∷ ‵ (fat fullShare flushed-laws.mir (past .26) 0 ((past .64))) ∷ ‵ (fat fullShare (tyInt w64) (past .25) 0 ((past .61)))
+          ∷ ‵ (fat fullShare (tyInt w64) (past .23) 0 ((past .55)))
           ∷ ‵ (fat fullShare clock-laws.mir (past .22) 0 ((only ((LL.vals clock-row.the-type clock-laws.the-laws) (h .clock)))))
           ∷ ‵ (fat fullShare arrival-laws.mir (past .21) 0 ((only ((LL.vals arrival-row.the-type arrival-laws.the-laws) (h .arrival)))))
           ∷ ‵ (fat fullShare flight-laws.mir (past .20) 0 ((only ((LL.vals flight-row.the-type flight-laws.the-laws) (h .flight)))))
@@ -716,28 +1017,23 @@ module _ {M : Type 1} (𝓤 : URA M) (H : Heap 𝓤) (A : Atoms 𝓤) (W : Given
           (past .18) (past .19) (past .20) (past .21) (past .22) (past .23) (past .24) (past .25) (past .26) (past .27) (past .28)
           (past .29) (past .30) (past .31) (past .32) (past .33) (past .34) (past .35) (past .36) (past .37) (past .38) (past .39)
           (past .40) (past .41) (past .42) (past .43) (past .44) (past .45) (past .46) (past .47) (past .48) (past .49) (past .50)
-          (past .51) (past .52) (past .53)) (behind 34 (code.function .body))
+          (past .51) (past .52) (past .53)) (behind 36 (code.function .body))
           (atReturn 𝓤 H (En (past .9) (past .10) (past .11) (past .12) (past .13) (past .14) (past .15) (past .16) (past .17) (past .18)
           (past .19) (past .20) (past .21) (past .22) (past .23) (past .24) (past .25) (past .26) (past .27) (past .28) (past .29)
           (past .30) (past .31) (past .32) (past .33) (past .34) (past .35) (past .36) (past .37) (past .38) (past .39) (past .40)
           (past .41) (past .42) (past .43) (past .44) (past .45) (past .46) (past .47) (past .48) (past .49) (past .50) (past .51)
           (past .52) (past .53)) Post))
       part₃ past =
-          qed W (‵ (link-own κ₀ b o γ (record {
-            settings = (h .settings);
-            flight = (past .71);
-            arrival = (past .74);
-            clock = (past .77);
-            queued = (past .7);
-            outstanding = (past .6);
-            transmissions = (past .5);
-            ready = (h .ready);
-            waiting = (h .waiting);
-            «waiting_numbers» = (h .«waiting_numbers»);
-          })) ∷ ‵ (flft κ₀ q₀)
-          ∷ ‵ (fat fullShare (tyArray (tyInt w32) 128) (past .25) 0 ((only ((array-vals (uint-vals w32)) (past .4)))))
+          qed W (‵ (partAt (Array u32 32) fullShare (past .6) b (o + 636)) ∷ ‵ (partAt clock-row.the-row fullShare (past .76) b (o + 104))
+          ∷ ‵ (partAt arrival-row.the-row fullShare (past .73) b (o + 72))
+          ∷ ‵ (partAt flight-row.the-row fullShare (past .70) b (o + 16))
+          ∷ ‵ (partAt (Array u32 128) fullShare (h .«waiting_numbers») b (o + 1820))
+          ∷ ‵ (partAt (Array u32 128) fullShare (h .waiting) b (o + 1308)) ∷ ‵ (partAt (Array u32 128) fullShare (h .ready) b (o + 796))
+          ∷ ‵ (partAt (Array u8 32) fullShare (past .5) b (o + 764)) ∷ ‵ (partAt (Array u32 128) fullShare (past .7) b (o + 124))
+          ∷ ‵ (fat fullShare (tyArray (tyInt w32) 128) (past .24) 0 ((only ((array-vals (uint-vals w32)) (past .4)))))
           ∷ ‵ (finally u16 (x₈ .name) (past .2)) ∷ ‵ (finally u8 (x₇ .name) (past .3)) ∷ ‵ (flft κ₁ q₁) ∷ ‵ (flft κ₂ q₂)
           ∷ ‵ (flft κ₄ q₄) ∷ ‵ (flft κ₅ q₅) ∷ ‵ (flft κ₆ q₆) ∷ ‵ Own₃ ∷ ‵ (flft κ₃ q₃)
+          ∷ ‵ (partAt settings-row.the-row fullShare (h .settings) b (o + 0)) ∷ raw (Back 𝓤 H A fullShare b o) ∷ ‵ (Open b o γ κ₀ q₀ h)
           ∷ (‵ (fdies (tyInt w32) (past .9)) ⊛ ‵ (fdies (tyRef (named 0) mut (pointee (L .written))) (past .10)) ⊛ ‵
           (fdies (sliceTy (tyRef (named 1) imm (tyInt w8))) (past .11)) ⊛ ‵
           (fdies (sliceTy (tyRef (named 2) imm (tyInt w8))) (past .12)) ⊛ ‵
@@ -746,52 +1042,53 @@ module _ {M : Type 1} (𝓤 : URA M) (H : Heap 𝓤) (A : Atoms 𝓤) (W : Given
           (fdies (tyInt w32) (past .16)) ⊛ ‵ (fdies (sliceTy (tyRef (named 5) mut (tyInt w8))) (past .17)) ⊛ ‵
           (fdies (sliceTy (tyRef (named 6) mut (tyInt w16))) (past .18)) ⊛ ‵ (fdies settings-laws.mir (past .19)) ⊛ ‵
           (fdies flight-laws.mir (past .20)) ⊛ ‵ (fdies arrival-laws.mir (past .21)) ⊛ ‵ (fdies clock-laws.mir (past .22)) ⊛ ‵
-          (fdies (tyArray (tyInt w32) 32) (past .23)) ⊛ ‵ (fdies (tyInt w64) (past .24)) ⊛ ‵
-          (fdies (tyArray (tyInt w32) 128) (past .25)) ⊛ ‵ (fdies (tyInt w64) (past .26)) ⊛ ‵ (fdies flushed-laws.mir (past .27)) ⊛ ‵
-          (fdies (tyArray (tyInt w32) 32) (past .28)) ⊛ ‵ (fdies flight-laws.mir (past .29)) ⊛ ‵ (fdies arrival-laws.mir (past .30)) ⊛ ‵
-          (fdies clock-laws.mir (past .31)) ⊛ ‵ (fdies (tyInt w64) (past .32)) ⊛ ‵ (fdies (tyArray (tyInt w32) 128) (past .33)) ⊛ ‵
-          (fdies tyUnit (past .34)) ⊛ ‵ (fdies (tyRef erased imm (pointee (R .written))) (past .35)) ⊛ ‵
-          (fdies (sliceTy (tyRef erased imm (pointee (R .written)))) (past .36)) ⊛ ‵
-          (fdies (tyRef erased mut (tyArray (tyInt w32) 128)) (past .37)) ⊛ ‵
-          (fdies (tyRef erased imm (pointee (R .written))) (past .38)) ⊛ ‵
-          (fdies (sliceTy (tyRef erased imm (pointee (R .written)))) (past .39)) ⊛ ‵
+          (fdies (tyInt w64) (past .23)) ⊛ ‵ (fdies (tyArray (tyInt w32) 128) (past .24)) ⊛ ‵ (fdies (tyInt w64) (past .25)) ⊛ ‵
+          (fdies flushed-laws.mir (past .26)) ⊛ ‵ (fdies flight-laws.mir (past .27)) ⊛ ‵ (fdies arrival-laws.mir (past .28)) ⊛ ‵
+          (fdies clock-laws.mir (past .29)) ⊛ ‵ (fdies (tyInt w64) (past .30)) ⊛ ‵ (fdies (tyArray (tyInt w32) 128) (past .31)) ⊛ ‵
+          (fdies tyUnit (past .32)) ⊛ ‵ (fdies (tyRef erased imm (pointee (R .written))) (past .33)) ⊛ ‵
+          (fdies (sliceTy (tyRef erased imm (pointee (R .written)))) (past .34)) ⊛ ‵
+          (fdies (tyRef erased imm (tyArray (tyInt w32) 32)) (past .35)) ⊛ ‵
+          (fdies (tyRef erased mut (tyArray (tyInt w32) 128)) (past .36)) ⊛ ‵
+          (fdies (tyRef erased imm (pointee (R .written))) (past .37)) ⊛ ‵
+          (fdies (sliceTy (tyRef erased imm (pointee (R .written)))) (past .38)) ⊛ ‵
+          (fdies (tyRef erased mut (tyArray (tyInt w32) 128)) (past .39)) ⊛ ‵
           (fdies (tyRef erased mut (tyArray (tyInt w32) 128)) (past .40)) ⊛ ‵
-          (fdies (tyRef erased mut (tyArray (tyInt w32) 128)) (past .41)) ⊛ ‵
-          (fdies (tyRef erased mut (tyArray (tyInt w32) 32)) (past .42)) ⊛ ‵
-          (fdies (tyRef erased mut (tyArray (tyInt w8) 32)) (past .43)) ⊛ ‵
+          (fdies (tyRef erased mut (tyArray (tyInt w32) 32)) (past .41)) ⊛ ‵
+          (fdies (tyRef erased mut (tyArray (tyInt w8) 32)) (past .42)) ⊛ ‵
+          (fdies (tyRef erased imm (tyArray (tyInt w32) 128)) (past .43)) ⊛ ‵
           (fdies (tyRef erased imm (tyArray (tyInt w32) 128)) (past .44)) ⊛ ‵
-          (fdies (tyRef erased imm (tyArray (tyInt w32) 128)) (past .45)) ⊛ ‵
-          (fdies (tyRef erased imm (tyArray (tyInt w32) 128)) (past .46)) ⊛ ‵ (fdies (tyRef erased mut (tyInt w8)) (past .47)) ⊛ ‵
-          (fdies (sliceTy (tyRef erased mut (tyInt w8))) (past .48)) ⊛ ‵ (fdies (tyRef erased mut (tyInt w16)) (past .49)) ⊛ ‵
-          (fdies (sliceTy (tyRef erased mut (tyInt w16))) (past .50)) ⊛ ‵ (fdies (tyRef erased mut (pointee (R .written))) (past .51)) ⊛
-          ‵ (fdies (sliceTy (tyRef erased mut (pointee (R .written)))) (past .52)) ⊛ ‵
+          (fdies (tyRef erased imm (tyArray (tyInt w32) 128)) (past .45)) ⊛ ‵ (fdies (tyRef erased mut (tyInt w8)) (past .46)) ⊛ ‵
+          (fdies (sliceTy (tyRef erased mut (tyInt w8))) (past .47)) ⊛ ‵ (fdies (tyRef erased mut (tyInt w16)) (past .48)) ⊛ ‵
+          (fdies (sliceTy (tyRef erased mut (tyInt w16))) (past .49)) ⊛ ‵ (fdies (tyRef erased mut (pointee (R .written))) (past .50)) ⊛
+          ‵ (fdies (sliceTy (tyRef erased mut (pointee (R .written)))) (past .51)) ⊛ ‵
+          (fdies (tyRef erased imm (tyArray (tyInt w32) 32)) (past .52)) ⊛ ‵
           (fdies (tyRef erased imm (tyArray (tyInt w32) 128)) (past .53)))
           ∷ ‵ (froom (tyRef erased imm (tyArray (tyInt w32) 128)) (past .53) 0)
-          ∷ ‵ (froom (sliceTy (tyRef erased mut (pointee (R .written)))) (past .52) 0)
-          ∷ ‵ (froom (tyRef erased mut (pointee (R .written))) (past .51) 0)
-          ∷ ‵ (fat fullShare (sliceTy (tyRef erased mut (tyInt w16))) (past .50) 0 (s₈))
-          ∷ ‵ (fat fullShare (tyRef erased mut (tyInt w16)) (past .49) 0 ((vptr (x₈ .ptr .0) (x₈ .ptr .1))))
-          ∷ ‵ (fat fullShare (sliceTy (tyRef erased mut (tyInt w8))) (past .48) 0 (s₇))
-          ∷ ‵ (fat fullShare (tyRef erased mut (tyInt w8)) (past .47) 0 ((vptr (x₇ .ptr .0) (x₇ .ptr .1))))
-          ∷ ‵ (fat fullShare (tyRef erased imm (tyArray (tyInt w32) 128)) (past .46) 0 ((vptr b (o + 1820))))
-          ∷ ‵ (fat fullShare (tyRef erased imm (tyArray (tyInt w32) 128)) (past .45) 0 ((vptr b (o + 1308))))
-          ∷ ‵ (fat fullShare (tyRef erased imm (tyArray (tyInt w32) 128)) (past .44) 0 ((vptr b (o + 796))))
-          ∷ ‵ (fat fullShare (tyRef erased mut (tyArray (tyInt w8) 32)) (past .43) 0 ((vptr b (o + 764))))
-          ∷ ‵ (fat fullShare (tyRef erased mut (tyArray (tyInt w32) 32)) (past .42) 0 ((vptr b (o + 636))))
-          ∷ ‵ (fat fullShare (tyRef erased mut (tyArray (tyInt w32) 128)) (past .41) 0 ((vptr b (o + 124))))
-          ∷ ‵ (fat fullShare (tyRef erased mut (tyArray (tyInt w32) 128)) (past .40) 0 ((vptr (past .25) 0)))
-          ∷ ‵ (fat fullShare (sliceTy (tyRef erased imm (pointee (R .written)))) (past .39) 0 (s₃))
-          ∷ ‵ (fat fullShare (tyRef erased imm (pointee (R .written))) (past .38) 0 ((vptr (x₃ .ptr .0) (x₃ .ptr .1))))
-          ∷ ‵ (fat fullShare (tyRef erased mut (tyArray (tyInt w32) 128)) (past .37) 0 ((vptr (past .25) 0)))
-          ∷ ‵ (fat fullShare (sliceTy (tyRef erased imm (pointee (R .written)))) (past .36) 0 (s₃))
-          ∷ ‵ (fat fullShare (tyRef erased imm (pointee (R .written))) (past .35) 0 ((vptr (x₃ .ptr .0) (x₃ .ptr .1))))
-          ∷ ‵ (fat fullShare tyUnit (past .34) 0 ((past .58))) ∷ ‵ (fat fullShare (tyArray (tyInt w32) 128) (past .33) 0 ((past .57)))
-          ∷ ‵ (froom (tyInt w64) (past .32) 0) ∷ ‵ (fat fullShare clock-laws.mir (past .31) 0 ((past .78)))
-          ∷ ‵ (fat fullShare arrival-laws.mir (past .30) 0 ((past .75))) ∷ ‵ (fat fullShare flight-laws.mir (past .29) 0 ((past .72)))
-          ∷ ‵ (fat fullShare (tyArray (tyInt w32) 32) (past .28) 0 ((only ((array-vals (uint-vals w32)) (past .6)))))
-          ∷ ‵ (fat fullShare flushed-laws.mir (past .27) 0 ((past .64))) ∷ ‵ (fat fullShare (tyInt w64) (past .26) 0 ((past .61)))
-          ∷ ‵ (fat fullShare (tyInt w64) (past .24) 0 ((past .55)))
-          ∷ ‵ (fat fullShare (tyArray (tyInt w32) 32) (past .23) 0 ((only ((array-vals (uint-vals w32)) (h .outstanding)))))
+          ∷ ‵ (froom (tyRef erased imm (tyArray (tyInt w32) 32)) (past .52) 0)
+          ∷ ‵ (fat fullShare (sliceTy (tyRef erased mut (pointee (R .written)))) (past .51) 0 (s₃))
+          ∷ ‵ (fat fullShare (tyRef erased mut (pointee (R .written))) (past .50) 0 ((vptr (x₃ .ptr .0) (x₃ .ptr .1))))
+          ∷ ‵ (fat fullShare (sliceTy (tyRef erased mut (tyInt w16))) (past .49) 0 (s₈))
+          ∷ ‵ (fat fullShare (tyRef erased mut (tyInt w16)) (past .48) 0 ((vptr (x₈ .ptr .0) (x₈ .ptr .1))))
+          ∷ ‵ (fat fullShare (sliceTy (tyRef erased mut (tyInt w8))) (past .47) 0 (s₇))
+          ∷ ‵ (fat fullShare (tyRef erased mut (tyInt w8)) (past .46) 0 ((vptr (x₇ .ptr .0) (x₇ .ptr .1))))
+          ∷ ‵ (fat fullShare (tyRef erased imm (tyArray (tyInt w32) 128)) (past .45) 0 ((vptr b (o + 1820))))
+          ∷ ‵ (fat fullShare (tyRef erased imm (tyArray (tyInt w32) 128)) (past .44) 0 ((vptr b (o + 1308))))
+          ∷ ‵ (fat fullShare (tyRef erased imm (tyArray (tyInt w32) 128)) (past .43) 0 ((vptr b (o + 796))))
+          ∷ ‵ (fat fullShare (tyRef erased mut (tyArray (tyInt w8) 32)) (past .42) 0 ((vptr b (o + 764))))
+          ∷ ‵ (fat fullShare (tyRef erased mut (tyArray (tyInt w32) 32)) (past .41) 0 ((vptr b (o + 636))))
+          ∷ ‵ (fat fullShare (tyRef erased mut (tyArray (tyInt w32) 128)) (past .40) 0 ((vptr b (o + 124))))
+          ∷ ‵ (fat fullShare (tyRef erased mut (tyArray (tyInt w32) 128)) (past .39) 0 ((vptr (past .24) 0)))
+          ∷ ‵ (fat fullShare (sliceTy (tyRef erased imm (pointee (R .written)))) (past .38) 0 (s₃))
+          ∷ ‵ (fat fullShare (tyRef erased imm (pointee (R .written))) (past .37) 0 ((vptr (x₃ .ptr .0) (x₃ .ptr .1))))
+          ∷ ‵ (fat fullShare (tyRef erased mut (tyArray (tyInt w32) 128)) (past .36) 0 ((vptr (past .24) 0)))
+          ∷ ‵ (fat fullShare (tyRef erased imm (tyArray (tyInt w32) 32)) (past .35) 0 ((vptr b (o + 636))))
+          ∷ ‵ (fat fullShare (sliceTy (tyRef erased imm (pointee (R .written)))) (past .34) 0 (s₃))
+          ∷ ‵ (fat fullShare (tyRef erased imm (pointee (R .written))) (past .33) 0 ((vptr (x₃ .ptr .0) (x₃ .ptr .1))))
+          ∷ ‵ (fat fullShare tyUnit (past .32) 0 ((past .58))) ∷ ‵ (fat fullShare (tyArray (tyInt w32) 128) (past .31) 0 ((past .57)))
+          ∷ ‵ (fat fullShare (tyInt w64) (past .30) 0 ((past .80))) ∷ ‵ (fat fullShare clock-laws.mir (past .29) 0 ((past .77)))
+          ∷ ‵ (fat fullShare arrival-laws.mir (past .28) 0 ((past .74))) ∷ ‵ (fat fullShare flight-laws.mir (past .27) 0 ((past .71)))
+          ∷ ‵ (fat fullShare flushed-laws.mir (past .26) 0 ((past .64))) ∷ ‵ (fat fullShare (tyInt w64) (past .25) 0 ((past .61)))
+          ∷ ‵ (fat fullShare (tyInt w64) (past .23) 0 ((past .55)))
           ∷ ‵ (fat fullShare clock-laws.mir (past .22) 0 ((only ((LL.vals clock-row.the-type clock-laws.the-laws) (h .clock)))))
           ∷ ‵ (fat fullShare arrival-laws.mir (past .21) 0 ((only ((LL.vals arrival-row.the-type arrival-laws.the-laws) (h .arrival)))))
           ∷ ‵ (fat fullShare flight-laws.mir (past .20) 0 ((only ((LL.vals flight-row.the-type flight-laws.the-laws) (h .flight)))))
@@ -809,144 +1106,172 @@ module _ {M : Type 1} (𝓤 : URA M) (H : Heap 𝓤) (A : Atoms 𝓤) (W : Given
           (past .18) (past .19) (past .20) (past .21) (past .22) (past .23) (past .24) (past .25) (past .26) (past .27) (past .28)
           (past .29) (past .30) (past .31) (past .32) (past .33) (past .34) (past .35) (past .36) (past .37) (past .38) (past .39)
           (past .40) (past .41) (past .42) (past .43) (past .44) (past .45) (past .46) (past .47) (past .48) (past .49) (past .50)
-          (past .51) (past .52) (past .53)) (behind 34 (code.function .body))
+          (past .51) (past .52) (past .53)) (behind 36 (code.function .body))
           (atRet (En (past .9) (past .10) (past .11) (past .12) (past .13) (past .14) (past .15) (past .16) (past .17) (past .18)
           (past .19) (past .20) (past .21) (past .22) (past .23) (past .24) (past .25) (past .26) (past .27) (past .28) (past .29)
           (past .30) (past .31) (past .32) (past .33) (past .34) (past .35) (past .36) (past .37) (past .38) (past .39) (past .40)
           (past .41) (past .42) (past .43) (past .44) (past .45) (past .46) (past .47) (past .48) (past .49) (past .50) (past .51)
           (past .52) (past .53)) Post) $
-          nothing ! $ calls-fn ! fm changed-of.ended (changed-of.clauses 𝓤 H A at-mem run) (known .8)
-          ((tt, tt, tt, ((past .63), tt), ((past .64) ∷ [], tt)), tt) (λ c _. c ≡ (past .63) .changed)
-          (‵ ftrue) (plainly 𝓤 H A W (flushed-row.the-row ∷ []) ((LL.makes flushed-row.the-type flushed-laws.the-plain 𝓤 H A), tt)
-          ((past .63), tt) ((past .64) ∷ [], tt) ((past .66), tt)) (λ c _. id⊢ 𝓤 _)
-          (and-then ! (load ! (from ! (stop !)) (look ! 40 refl)) (no-more !))
-          (λ c w-c _ e-c is-c. drop ! $ drop ! $ land ! (from ! (stop !)) (init ! 34 refl (uint-lawful 𝓤 H A W w64 .typed c _ is-c .0)) $
-          assigns ! {v = (vptr (x₃ .ptr .0) (x₃ .ptr .1))}
-          (addr ! (from ! (fld ! refl (hop ! (look-in ! 52 (sub ! 0 refl (whole !))) (stop !))))) (from ! (stop !))
-          (init ! 15 refl (tt, tt)) $
-          assigns ! {v = s₃} (agg ! (and-then ! (load ! (from ! (stop !)) (look ! 15 refl))
-          (and-then ! (load ! (from ! (fld ! refl (stop !))) (look-in ! 52 (sub ! 1 refl (whole !)))) (no-more !)))) (from ! (stop !))
-          (init ! 14 refl (tt, (tt, (record { fits = room₃ .0 }, tt)))) $
-          assigns ! {v = (vptr (past .25) 0)} (addr ! (from ! (stop !))) (from ! (stop !)) (init ! 13 refl (tt, tt)) $
-          move ! (2 ∷ []) $ use1 W (‵ (cellAt fullShare ((tyArray (tyInt w32) 128) ∷ [])
-          ((only ((array-vals (uint-vals w32)) (past .4))) ∷ []) (past .25) 0))
-          (W .laws .at-raw fullShare (tyArray (tyInt w32) 128) (past .25) 0 (only ((array-vals (uint-vals w32)) (past .4)))) $
-          cell-in ! fullShare (Array u32 128) (array-makes 𝓤 H A W u32 (uint-makes 𝓤 H A W w32) 128) (past .4) (past .25) 0
+          assigns ! {v = (vptr b (o + 636))} (addr ! (from ! (hop ! (look ! 65 refl) (fld ! {d = 636} refl (stop !))))) (from ! (stop !))
+          (init ! 24 refl (tt, tt)) $
+          assigns ! {v = (vptr (past .24) 0)} (addr ! (from ! (stop !))) (from ! (stop !)) (init ! 23 refl (tt, tt)) $
+          lend-shr ! tt fullShare (Array u32 32) (past .6) b (o + 636)
+          (λ α-outstanding′′ δ-outstanding′′. move ! (11 ∷ []) $
+          use1 W (‵ (cellAt fullShare ((tyArray (tyInt w32) 128) ∷ []) ((only ((array-vals (uint-vals w32)) (past .4))) ∷ []) (past .24)
+          0)) (W .laws .at-raw fullShare (tyArray (tyInt w32) 128) (past .24) 0 (only ((array-vals (uint-vals w32)) (past .4)))) $
+          cell-in ! fullShare (Array u32 128) (array-makes 𝓤 H A W u32 (uint-makes 𝓤 H A W w32) 128) (past .4) (past .24) 0
           (only ((array-vals (uint-vals w32)) (past .4))) (past .69) $
-          lend-shr ! tt fullShare (Array u32 128) (past .4) (past .25) 0
-          (λ α-local′′ δ-local′′. move ! (13 ∷ 12 ∷ 0 ∷ 1 ∷ []) $ group ! 4 $
+          lend-shr ! tt fullShare (Array u32 128) (past .4) (past .24) 0
+          (λ α-local′′ δ-local′′. move ! (22 ∷ 21 ∷ 3 ∷ 4 ∷ 0 ∷ 1 ∷ []) $ group ! 6 $
           calls-fn ! fm scatter.ended (scatter.clauses 𝓤 H A at-mem run) (known .9)
-          (to-scatter (past .25) α-local′′ δ-local′′ (past .4) (past .6) (only ((array-vals (uint-vals w32)) (past .6))) c w-c)
-          (λ u ws-u. (ws-u .0) ≡ scattered (x₃ .now) (slotsIn (past .6) c) (recordsIn (past .4)))
-          (‵ (flft κ₃ q₃) ⊛ ‵ Own₃ ⊛ ‵ (flft (α-local′′ ∷ []) fullShare) ⊛ ‵
-          (ShrRef (named 0) (α-local′′ ∷ []) (Array u32 128) .own (ref-at (past .25) 0 δ-local′′ (past .4)) ((vptr (past .25) 0) ∷ [])))
-          (asks-scatter (past .25) α-local′′ δ-local′′ (past .4) (past .6) (only ((array-vals (uint-vals w32)) (past .6))) (past .70) c w-c
-          is-c ((past .65) .1)) (λ u ws-u. id⊢ 𝓤 _)
-          (and-then ! (load ! (from ! (stop !)) (look ! 13 refl))
-          (and-then ! (load ! (from ! (stop !)) (look ! 37 refl))
-          (and-then ! (load ! (from ! (stop !)) (look ! 33 refl)) (and-then ! (load ! (from ! (stop !)) (look ! 12 refl)) (no-more !)))))
-          (λ u w-u ws-u e-u is-u. land ! (from ! (stop !)) (store ! 32 refl (nothing-lawful 𝓤 H A W .typed u _ is-u .0)) $
-          spread W (‵ (flft κ₃ q₃)) (‵ (flft (α-local′′ ∷ []) fullShare) ∷ ‵ ftrue ∷ []) (id⊢ 𝓤 _) $ move ! (3 ∷ []) $
+          (to-scatter α-outstanding′′ δ-outstanding′′ (past .6) (past .24) α-local′′ δ-local′′ (past .4) (past .79) (past .80))
+          (λ u ws-u. (ws-u .0) ≡ scattered (x₃ .now) (slotsIn (past .6) (past .79)) (recordsIn (past .4)))
+          (‵ (flft κ₃ q₃) ⊛ ‵ Own₃ ⊛ ‵ (flft (α-outstanding′′ ∷ []) fullShare) ⊛ ‵
+          (ShrRef (named 0) (α-outstanding′′ ∷ []) (Array u32 32) .own (ref-at b (o + 636) δ-outstanding′′ (past .6))
+          ((vptr b (o + 636)) ∷ [])) ⊛ ‵ (flft (α-local′′ ∷ []) fullShare) ⊛ ‵
+          (ShrRef (named 0) (α-local′′ ∷ []) (Array u32 128) .own (ref-at (past .24) 0 δ-local′′ (past .4)) ((vptr (past .24) 0) ∷ [])))
+          (asks-scatter α-outstanding′′ δ-outstanding′′ (past .6) (past .24) α-local′′ δ-local′′ (past .4) (past .79) (past .80) (past .82)
+          ((past .83), (past .65) .1)) (λ u ws-u. id⊢ 𝓤 _)
+          (and-then ! (load ! (from ! (stop !)) (look ! 24 refl))
+          (and-then ! (load ! (from ! (stop !)) (look ! 23 refl))
+          (and-then ! (load ! (from ! (stop !)) (look ! 45 refl)) (and-then ! (load ! (from ! (stop !)) (look ! 22 refl)) (no-more !)))))
+          (λ u w-u ws-u e-u is-u. land ! (from ! (stop !)) (store ! 44 refl (nothing-lawful 𝓤 H A W .typed u _ is-u .0)) $
+          spread W (‵ (flft κ₃ q₃)) (‵ (flft (α-outstanding′′ ∷ []) fullShare) ∷ ‵ (flft (α-local′′ ∷ []) fullShare) ∷ ‵ ftrue
+          ∷ []) (id⊢ 𝓤 _) $ move ! (4 ∷ []) $
           spread W (‵ (fsep (finally R (x₃ .name) (ws-u .0)) (feq ℕ (length (ws-u .0)) (length (x₃ .now)))))
           (‵ ftrue ∷ ‵ ftrue ∷ ‵ ftrue ∷ ‵ ftrue ∷ []) (id⊢ 𝓤 _) $
-          keep ! (0 ∷ 5 ∷ 6 ∷ 8 ∷ 9 ∷ 10 ∷ 11 ∷ 12 ∷ 13 ∷ 14 ∷ 15 ∷ 16 ∷ 17 ∷ 18 ∷ 19 ∷ 20 ∷ 21 ∷ 22 ∷ 23 ∷ 24 ∷ 25
+          keep ! (0 ∷ 5 ∷ 6 ∷ 7 ∷ 9 ∷ 10 ∷ 11 ∷ 12 ∷ 13 ∷ 14 ∷ 15 ∷ 16 ∷ 17 ∷ 18 ∷ 19 ∷ 20 ∷ 21 ∷ 22 ∷ 23 ∷ 24 ∷ 25
           ∷ 26 ∷ 27 ∷ 28 ∷ 29 ∷ 30 ∷ 31 ∷ 32 ∷ 33 ∷ 34 ∷ 35 ∷ 36 ∷ 37 ∷ 38 ∷ 39 ∷ 40 ∷ 41 ∷ 42 ∷ 43 ∷ 44 ∷ 45 ∷ 46
-          ∷ 47 ∷ 48 ∷ 49 ∷ 50 ∷ 51 ∷ 52 ∷ 53 ∷ 54 ∷ 55 ∷ 56 ∷ 57 ∷ 58 ∷ 59 ∷ 60 ∷ 61 ∷ 62 ∷ []) $ fsplit ! $
-          move ! (1 ∷ []) $ feqL ! (λ len₃.
-          -- [fin3; tok3; tok:@16; lent:@16; own0; tok0; fin8; fin7; tok1; tok2; tok4; tok7; tok8; deaths; the locals]
-          move ! (2 ∷ 3 ∷ []) $ back-shr ! tt fullShare (Array u32 128) (past .25) 0 (past .4) $
+          ∷ 47 ∷ 48 ∷ 49 ∷ 50 ∷ 51 ∷ 52 ∷ 53 ∷ 54 ∷ 55 ∷ 56 ∷ 57 ∷ 58 ∷ 59 ∷ 60 ∷ 61 ∷ 62 ∷ 63 ∷ 64 ∷ 65 ∷ 66 ∷ 67
+          ∷ 68 ∷ 69 ∷ 70 ∷ 71 ∷ 72 ∷ 73 ∷ []) $ fsplit ! $ move ! (1 ∷ []) $ feqL ! (λ len₃.
+          -- [fin3; tok3; tok:outstanding; tok:@15; lent:@15; lent:outstanding; F:clock; F:arrival; F:flight; F:«waiting_numbers»;
+          -- F:waiting; F:ready; F:transmissions; F:queued; fin8; fin7; tok1; tok2; tok4; tok7; tok8; F:settings; back; opened; deaths; the
+          -- locals]
+          move ! (2 ∷ 5 ∷ []) $ back-shr ! tt fullShare (Array u32 32) b (o + 636) (past .6) $ move ! (3 ∷ 4 ∷ []) $
+          back-shr ! tt fullShare (Array u32 128) (past .24) 0 (past .4) $
           cell-out ! fullShare (Array u32 128) (array-vals (uint-vals w32)) (array-tells u32 (uint-vals w32) (uint-tells w32) 128)
-          (past .4) (past .25) 0 (λ was-local-3. use1 W
-          (‵ (fat fullShare (tyArray (tyInt w32) 128) (past .25) 0 (only ((array-vals (uint-vals w32)) (past .4)))))
-          (W .laws .raw-at fullShare (tyArray (tyInt w32) 128) (past .25) 0 (only ((array-vals (uint-vals w32)) (past .4)))) $
-          nothing ! $ calls-fn ! fm code-of.ended (code-of.clauses 𝓤 H A at-mem run) (known .10)
-          ((tt, tt, tt, ((past .63), tt), ((past .64) ∷ [], tt)), tt) (λ r _. r ≡ updateCode ((past .63) .answer))
-          (‵ ftrue) (plainly 𝓤 H A W (flushed-row.the-row ∷ []) ((LL.makes flushed-row.the-type flushed-laws.the-plain 𝓤 H A), tt)
-          ((past .63), tt) ((past .64) ∷ [], tt) ((past .66), tt)) (λ r _. id⊢ 𝓤 _)
-          (and-then ! (load ! (from ! (stop !)) (look ! 40 refl)) (no-more !))
-          (λ r w-r _ e-r is-r. drop ! $ drop ! $ land ! (from ! (stop !)) (init ! 56 refl (sint-lawful 𝓤 H A W w32 .typed r _ is-r .0)) $
-          returns ! (look ! 56 refl) $
-          move ! (12 ∷ []) $ spread W (‵ (fdies (tyInt w32) (past .9)))
-          (‵ (fdies (tyRef (named 0) mut (pointee (L .written))) (past .10))
-          ∷ ‵ (fdies (sliceTy (tyRef (named 1) imm (tyInt w8))) (past .11))
-          ∷ ‵ (fdies (sliceTy (tyRef (named 2) imm (tyInt w8))) (past .12))
-          ∷ ‵ (fdies (sliceTy (tyRef (named 3) mut (pointee (R .written)))) (past .13))
-          ∷ ‵ (fdies (sliceTy (tyRef (named 4) imm (tyInt w32))) (past .14)) ∷ ‵ (fdies tyBool (past .15))
-          ∷ ‵ (fdies (tyInt w32) (past .16)) ∷ ‵ (fdies (sliceTy (tyRef (named 5) mut (tyInt w8))) (past .17))
-          ∷ ‵ (fdies (sliceTy (tyRef (named 6) mut (tyInt w16))) (past .18)) ∷ ‵ (fdies settings-laws.mir (past .19))
-          ∷ ‵ (fdies flight-laws.mir (past .20)) ∷ ‵ (fdies arrival-laws.mir (past .21)) ∷ ‵ (fdies clock-laws.mir (past .22))
-          ∷ ‵ (fdies (tyArray (tyInt w32) 32) (past .23)) ∷ ‵ (fdies (tyInt w64) (past .24))
-          ∷ ‵ (fdies (tyArray (tyInt w32) 128) (past .25)) ∷ ‵ (fdies (tyInt w64) (past .26)) ∷ ‵ (fdies flushed-laws.mir (past .27))
-          ∷ ‵ (fdies (tyArray (tyInt w32) 32) (past .28)) ∷ ‵ (fdies flight-laws.mir (past .29)) ∷ ‵ (fdies arrival-laws.mir (past .30))
-          ∷ ‵ (fdies clock-laws.mir (past .31)) ∷ ‵ (fdies (tyInt w64) (past .32)) ∷ ‵ (fdies (tyArray (tyInt w32) 128) (past .33))
-          ∷ ‵ (fdies tyUnit (past .34)) ∷ ‵ (fdies (tyRef erased imm (pointee (R .written))) (past .35))
-          ∷ ‵ (fdies (sliceTy (tyRef erased imm (pointee (R .written)))) (past .36))
-          ∷ ‵ (fdies (tyRef erased mut (tyArray (tyInt w32) 128)) (past .37))
-          ∷ ‵ (fdies (tyRef erased imm (pointee (R .written))) (past .38))
-          ∷ ‵ (fdies (sliceTy (tyRef erased imm (pointee (R .written)))) (past .39))
-          ∷ ‵ (fdies (tyRef erased mut (tyArray (tyInt w32) 128)) (past .40))
-          ∷ ‵ (fdies (tyRef erased mut (tyArray (tyInt w32) 128)) (past .41))
-          ∷ ‵ (fdies (tyRef erased mut (tyArray (tyInt w32) 32)) (past .42))
-          ∷ ‵ (fdies (tyRef erased mut (tyArray (tyInt w8) 32)) (past .43))
-          ∷ ‵ (fdies (tyRef erased imm (tyArray (tyInt w32) 128)) (past .44))
-          ∷ ‵ (fdies (tyRef erased imm (tyArray (tyInt w32) 128)) (past .45))
-          ∷ ‵ (fdies (tyRef erased imm (tyArray (tyInt w32) 128)) (past .46)) ∷ ‵ (fdies (tyRef erased mut (tyInt w8)) (past .47))
-          ∷ ‵ (fdies (sliceTy (tyRef erased mut (tyInt w8))) (past .48)) ∷ ‵ (fdies (tyRef erased mut (tyInt w16)) (past .49))
-          ∷ ‵ (fdies (sliceTy (tyRef erased mut (tyInt w16))) (past .50))
-          ∷ ‵ (fdies (tyRef erased mut (pointee (R .written))) (past .51))
-          ∷ ‵ (fdies (sliceTy (tyRef erased mut (pointee (R .written)))) (past .52))
-          ∷ ‵ (fdies (tyRef erased imm (tyArray (tyInt w32) 128)) (past .53)) ∷ []) (id⊢ 𝓤 _) $
-          move ! (100 ∷ 0 ∷ 99 ∷ 1 ∷ 98 ∷ 2 ∷ 97 ∷ 3 ∷ 96 ∷ 4 ∷ 95 ∷ 5 ∷ 94 ∷ 6 ∷ 93 ∷ 7 ∷ 92 ∷ 8 ∷ 91 ∷ 9 ∷ 90
-          ∷ 10 ∷ 89 ∷ 11 ∷ 88 ∷ 12 ∷ 87 ∷ 13 ∷ 86 ∷ 14 ∷ 85 ∷ 15 ∷ 45 ∷ 16 ∷ 84 ∷ 17 ∷ 83 ∷ 18 ∷ 82 ∷ 19 ∷ 81 ∷ 20
-          ∷ 80 ∷ 21 ∷ 79 ∷ 22 ∷ 78 ∷ 23 ∷ 77 ∷ 24 ∷ 76 ∷ 25 ∷ 75 ∷ 26 ∷ 74 ∷ 27 ∷ 73 ∷ 28 ∷ 72 ∷ 29 ∷ 71 ∷ 30 ∷ 70
-          ∷ 31 ∷ 69 ∷ 32 ∷ 68 ∷ 33 ∷ 67 ∷ 34 ∷ 66 ∷ 35 ∷ 65 ∷ 36 ∷ 64 ∷ 37 ∷ 63 ∷ 38 ∷ 62 ∷ 39 ∷ 61 ∷ 40 ∷ 60 ∷ 41
-          ∷ 59 ∷ 42 ∷ 58 ∷ 43 ∷ 57 ∷ 44 ∷ []) $ forget ! 0 refl $ free1 ! $ forget ! 0 refl $ free1 ! $ forget ! 0 refl $ free1 ! $
-          forget ! 0 refl $ free1 ! $ forget ! 0 refl $ free1 ! $ forget ! 0 refl $ free1 ! $ forget ! 0 refl $ free1 ! $
-          forget ! 0 refl $ free1 ! $ forget ! 0 refl $ free1 ! $ forget ! 0 refl $ free1 ! $ forget ! 0 refl $ free1 ! $
-          forget ! 0 refl $ free1 ! $ forget ! 0 refl $ free1 ! $ forget ! 0 refl $ free1 ! $ forget ! 0 refl $ free1 ! $
-          forget ! 0 refl $ free1 ! $ forget ! 0 refl $ free1 ! $ forget ! 0 refl $ free1 ! $ forget ! 0 refl $ free1 ! $
-          forget ! 0 refl $ free1 ! $ forget ! 0 refl $ free1 ! $ forget ! 0 refl $ free1 ! $ forget ! 0 refl $ free1 ! $
-          forget ! 0 refl $ free1 ! $ forget ! 0 refl $ free1 ! $ forget ! 0 refl $ free1 ! $ forget ! 0 refl $ free1 ! $
-          forget ! 0 refl $ free1 ! $ forget ! 0 refl $ free1 ! $ forget ! 0 refl $ free1 ! $ forget ! 0 refl $ free1 ! $
-          forget ! 0 refl $ free1 ! $ forget ! 0 refl $ free1 ! $ forget ! 0 refl $ free1 ! $ forget ! 0 refl $ free1 ! $
-          forget ! 0 refl $ free1 ! $ forget ! 0 refl $ free1 ! $ forget ! 0 refl $ free1 ! $ forget ! 0 refl $ free1 ! $
-          forget ! 0 refl $ free1 ! $ forget ! 0 refl $ free1 ! $ forget ! 0 refl $ free1 ! $ forget ! 0 refl $ free1 ! $
-          forget ! 0 refl $ free1 ! $ forget ! 0 refl $ free1 ! $ free0 ! $
-          move ! (2 ∷ 3 ∷ 6 ∷ 7 ∷ 0 ∷ 1 ∷ 8 ∷ 5 ∷ 9 ∷ 4 ∷ 10 ∷ []) $
-          by ! (exits r w-r (record {
+          (past .4) (past .24) 0 (λ was-local-3. use1 W
+          (‵ (fat fullShare (tyArray (tyInt w32) 128) (past .24) 0 (only ((array-vals (uint-vals w32)) (past .4)))))
+          (W .laws .raw-at fullShare (tyArray (tyInt w32) 128) (past .24) 0 (only ((array-vals (uint-vals w32)) (past .4)))) $
+          move ! (11 ∷ []) $ tells-length ! fullShare u32 128 (past .7) b (o + 124)
+          (λ end-queued. move ! (2 ∷ []) $
+          tells-length ! fullShare u32 32 (past .6) b (o + 636)
+          (λ end-outstanding. move ! (11 ∷ []) $
+          tells-length ! fullShare u8 32 (past .5) b (o + 764)
+          (λ end-transmissions. move ! (11 ∷ []) $
+          tells-length ! fullShare u32 128 (h .ready) b (o + 796)
+          (λ end-ready. move ! (11 ∷ []) $
+          tells-length ! fullShare u32 128 (h .waiting) b (o + 1308)
+          (λ end-waiting. move ! (11 ∷ []) $
+          tells-length ! fullShare u32 128 (h .«waiting_numbers») b (o + 1820)
+          (λ end-waiting-numbers. move ! (19 ∷ 11 ∷ 10 ∷ 9 ∷ 5 ∷ 4 ∷ 3 ∷ 2 ∷ 1 ∷ 0 ∷ 20 ∷ 21 ∷ []) $
+          closes-link b o γ ! tt h (record {
             settings = (h .settings);
-            flight = (past .71);
-            arrival = (past .74);
-            clock = (past .77);
+            flight = (past .70);
+            arrival = (past .73);
+            clock = (past .76);
             queued = (past .7);
             outstanding = (past .6);
             transmissions = (past .5);
             ready = (h .ready);
             waiting = (h .waiting);
             «waiting_numbers» = (h .«waiting_numbers»);
-          }) (ws-u .0) ((past .3)) ((past .2))
-          (rw ((past .73), (past .76), (past .79)) (gives x₅ x₆ h (partsOf (x₁ .now) (x₂ .now) (x₃ .now) (x₄ .now))
-          (flushPartsOf (x₇ .now) (x₈ .now)) ((past .63) .answer)
-          (record { words = (past .6); changed = (past .63) .changed; records = (recordsIn (past .4)) })
-          (linkOf (h .settings) ((past .63) .flight) ((past .63) .arrival) ((past .63) .clock)
-          (arrays (past .7) (past .6) (past .5) (h .ready) (h .waiting) (h .«waiting_numbers»))) (flushPartsOf (past .3) (past .2))
-          (ws-u .0) (records-length 32 (past .4) ((past .65) .1))
-          (put-back (x₃ .now) (ws-u .0) (record { words = (past .6); changed = (past .63) .changed; records = (recordsIn (past .4)) })
-          (past .6) c (recordsIn (past .4)) refl e-c refl e-u)
-          (left x₅ x₆ h (partsOf (x₁ .now) (x₂ .now) (x₃ .now) (x₄ .now)) (flushPartsOf (x₇ .now) (x₈ .now)) (past .63)
-          (linkOf (h .settings) ((past .63) .flight) ((past .63) .arrival) ((past .63) .clock)
-          (arrays (past .7) (past .6) (past .5) (h .ready) (h .waiting) (h .«waiting_numbers»))) (recordsIn (past .4))
-          (flushPartsOf (past .3) (past .2)) (recordsIn (past .8)) (past .60)
-          (gathers h (partsOf (x₁ .now) (x₂ .now) (x₃ .now) (x₄ .now)) (past .54) (recordsIn (past .8)) (past .60) (past .56)
-          ((past .59) .1) (past .62)) (record {
-            whole-queued = (past .80);
-            whole-outstanding = (past .81);
-            whole-transmissions = (past .82);
-            whole-ready = (past .83);
-            whole-waiting = (past .84);
-            whole-numbers = (past .85);
-          })
-          ((past .65) .0)) r e-r)) len₃ (past .67) (past .68) is-r)))))))
+          }) $
+          -- [own0; tok0; fin3; tok3; fin8; fin7; tok1; tok2; tok4; tok7; tok8; deaths; the locals]
+          by ! (part₄ (
+            (ws-u .0),
+            ((past .2)),
+            ((past .3)),
+            ((past .2)),
+            ((past .3)),
+            ((past .2)),
+            ((past .3)),
+            (past .4),
+            (past .5),
+            (past .6),
+            (past .7),
+            (past .8),
+            (past .9),
+            (past .10),
+            (past .11),
+            (past .12),
+            (past .13),
+            (past .14),
+            (past .15),
+            (past .16),
+            (past .17),
+            (past .18),
+            (past .19),
+            (past .20),
+            (past .21),
+            (past .22),
+            (past .23),
+            (past .24),
+            (past .25),
+            (past .26),
+            (past .27),
+            (past .28),
+            (past .29),
+            (past .30),
+            (past .31),
+            (past .32),
+            (past .33),
+            (past .34),
+            (past .35),
+            (past .36),
+            (past .37),
+            (past .38),
+            (past .39),
+            (past .40),
+            (past .41),
+            (past .42),
+            (past .43),
+            (past .44),
+            (past .45),
+            (past .46),
+            (past .47),
+            (past .48),
+            (past .49),
+            (past .50),
+            (past .51),
+            (past .52),
+            (past .53),
+            (past .54),
+            (past .55),
+            (past .56),
+            (past .57),
+            (past .59),
+            (past .60),
+            (past .61),
+            (past .62),
+            (past .63),
+            (past .64),
+            (past .65),
+            (past .66),
+            (past .67),
+            (past .68),
+            (past .70),
+            (past .71),
+            (past .72),
+            (past .73),
+            (past .74),
+            (past .75),
+            (past .76),
+            (past .77),
+            (past .78),
+            (past .79),
+            (past .80),
+            (past .81),
+            w-u,
+            e-u,
+            len₃,
+            end-queued,
+            end-outstanding,
+            end-transmissions,
+            end-ready,
+            end-waiting,
+            end-waiting-numbers,
+          )))))))))))))
 
       -- what part 2 knows
       abbrev Known₂ : Type 0
@@ -971,7 +1296,7 @@ module _ {M : Type 1} (𝓤 : URA M) (H : Heap 𝓤) (A : Atoms 𝓤) (W : Given
           ∷ ‵ (partAt (Array u32 128) fullShare (h .waiting) b (o + 1308)) ∷ ‵ (partAt (Array u32 128) fullShare (h .ready) b (o + 796))
           ∷ ‵ (partAt (Array u8 32) fullShare (past .3) b (o + 764)) ∷ ‵ (partAt (Array u32 32) fullShare (past .4) b (o + 636))
           ∷ ‵ (partAt (Array u32 128) fullShare (past .5) b (o + 124))
-          ∷ ‵ (fat fullShare (tyArray (tyInt w32) 128) (past .23) 0 ((only ((array-vals (uint-vals w32)) (past .2)))))
+          ∷ ‵ (fat fullShare (tyArray (tyInt w32) 128) (past .22) 0 ((only ((array-vals (uint-vals w32)) (past .2)))))
           ∷ ‵ (finally u16 (x₈ .name) (past .0)) ∷ ‵ (finally u8 (x₇ .name) (past .1)) ∷ ‵ (flft κ₁ q₁) ∷ ‵ (flft κ₂ q₂)
           ∷ ‵ (flft κ₄ q₄) ∷ ‵ (flft κ₅ q₅) ∷ ‵ (flft κ₆ q₆) ∷ ‵ Own₃ ∷ ‵ (flft κ₃ q₃)
           ∷ ‵ (partAt clock-row.the-row fullShare (h .clock) b (o + 104)) ∷ ‵ (partAt arrival-row.the-row fullShare (h .arrival) b (o + 72))
@@ -983,49 +1308,51 @@ module _ {M : Type 1} (𝓤 : URA M) (H : Heap 𝓤) (A : Atoms 𝓤) (W : Given
           (fdies (sliceTy (tyRef (named 4) imm (tyInt w32))) (past .12)) ⊛ ‵ (fdies tyBool (past .13)) ⊛ ‵ (fdies (tyInt w32) (past .14)) ⊛
           ‵ (fdies (sliceTy (tyRef (named 5) mut (tyInt w8))) (past .15)) ⊛ ‵ (fdies (sliceTy (tyRef (named 6) mut (tyInt w16))) (past .16))
           ⊛ ‵ (fdies settings-laws.mir (past .17)) ⊛ ‵ (fdies flight-laws.mir (past .18)) ⊛ ‵ (fdies arrival-laws.mir (past .19)) ⊛ ‵
-          (fdies clock-laws.mir (past .20)) ⊛ ‵ (fdies (tyArray (tyInt w32) 32) (past .21)) ⊛ ‵ (fdies (tyInt w64) (past .22)) ⊛ ‵
-          (fdies (tyArray (tyInt w32) 128) (past .23)) ⊛ ‵ (fdies (tyInt w64) (past .24)) ⊛ ‵ (fdies flushed-laws.mir (past .25)) ⊛ ‵
-          (fdies (tyArray (tyInt w32) 32) (past .26)) ⊛ ‵ (fdies flight-laws.mir (past .27)) ⊛ ‵ (fdies arrival-laws.mir (past .28)) ⊛ ‵
-          (fdies clock-laws.mir (past .29)) ⊛ ‵ (fdies (tyInt w64) (past .30)) ⊛ ‵ (fdies (tyArray (tyInt w32) 128) (past .31)) ⊛ ‵
-          (fdies tyUnit (past .32)) ⊛ ‵ (fdies (tyRef erased imm (pointee (R .written))) (past .33)) ⊛ ‵
-          (fdies (sliceTy (tyRef erased imm (pointee (R .written)))) (past .34)) ⊛ ‵
-          (fdies (tyRef erased mut (tyArray (tyInt w32) 128)) (past .35)) ⊛ ‵ (fdies (tyRef erased imm (pointee (R .written))) (past .36)) ⊛
-          ‵ (fdies (sliceTy (tyRef erased imm (pointee (R .written)))) (past .37)) ⊛ ‵
-          (fdies (tyRef erased mut (tyArray (tyInt w32) 128)) (past .38)) ⊛ ‵
-          (fdies (tyRef erased mut (tyArray (tyInt w32) 128)) (past .39)) ⊛ ‵ (fdies (tyRef erased mut (tyArray (tyInt w32) 32)) (past .40))
-          ⊛ ‵ (fdies (tyRef erased mut (tyArray (tyInt w8) 32)) (past .41)) ⊛ ‵
+          (fdies clock-laws.mir (past .20)) ⊛ ‵ (fdies (tyInt w64) (past .21)) ⊛ ‵ (fdies (tyArray (tyInt w32) 128) (past .22)) ⊛ ‵
+          (fdies (tyInt w64) (past .23)) ⊛ ‵ (fdies flushed-laws.mir (past .24)) ⊛ ‵ (fdies flight-laws.mir (past .25)) ⊛ ‵
+          (fdies arrival-laws.mir (past .26)) ⊛ ‵ (fdies clock-laws.mir (past .27)) ⊛ ‵ (fdies (tyInt w64) (past .28)) ⊛ ‵
+          (fdies (tyArray (tyInt w32) 128) (past .29)) ⊛ ‵ (fdies tyUnit (past .30)) ⊛ ‵
+          (fdies (tyRef erased imm (pointee (R .written))) (past .31)) ⊛ ‵
+          (fdies (sliceTy (tyRef erased imm (pointee (R .written)))) (past .32)) ⊛ ‵
+          (fdies (tyRef erased imm (tyArray (tyInt w32) 32)) (past .33)) ⊛ ‵ (fdies (tyRef erased mut (tyArray (tyInt w32) 128)) (past .34))
+          ⊛ ‵ (fdies (tyRef erased imm (pointee (R .written))) (past .35)) ⊛ ‵
+          (fdies (sliceTy (tyRef erased imm (pointee (R .written)))) (past .36)) ⊛ ‵
+          (fdies (tyRef erased mut (tyArray (tyInt w32) 128)) (past .37)) ⊛ ‵
+          (fdies (tyRef erased mut (tyArray (tyInt w32) 128)) (past .38)) ⊛ ‵ (fdies (tyRef erased mut (tyArray (tyInt w32) 32)) (past .39))
+          ⊛ ‵ (fdies (tyRef erased mut (tyArray (tyInt w8) 32)) (past .40)) ⊛ ‵
+          (fdies (tyRef erased imm (tyArray (tyInt w32) 128)) (past .41)) ⊛ ‵
           (fdies (tyRef erased imm (tyArray (tyInt w32) 128)) (past .42)) ⊛ ‵
-          (fdies (tyRef erased imm (tyArray (tyInt w32) 128)) (past .43)) ⊛ ‵
-          (fdies (tyRef erased imm (tyArray (tyInt w32) 128)) (past .44)) ⊛ ‵ (fdies (tyRef erased mut (tyInt w8)) (past .45)) ⊛ ‵
-          (fdies (sliceTy (tyRef erased mut (tyInt w8))) (past .46)) ⊛ ‵ (fdies (tyRef erased mut (tyInt w16)) (past .47)) ⊛ ‵
-          (fdies (sliceTy (tyRef erased mut (tyInt w16))) (past .48)) ⊛ ‵ (fdies (tyRef erased mut (pointee (R .written))) (past .49)) ⊛ ‵
-          (fdies (sliceTy (tyRef erased mut (pointee (R .written)))) (past .50)) ⊛ ‵
+          (fdies (tyRef erased imm (tyArray (tyInt w32) 128)) (past .43)) ⊛ ‵ (fdies (tyRef erased mut (tyInt w8)) (past .44)) ⊛ ‵
+          (fdies (sliceTy (tyRef erased mut (tyInt w8))) (past .45)) ⊛ ‵ (fdies (tyRef erased mut (tyInt w16)) (past .46)) ⊛ ‵
+          (fdies (sliceTy (tyRef erased mut (tyInt w16))) (past .47)) ⊛ ‵ (fdies (tyRef erased mut (pointee (R .written))) (past .48)) ⊛ ‵
+          (fdies (sliceTy (tyRef erased mut (pointee (R .written)))) (past .49)) ⊛ ‵
+          (fdies (tyRef erased imm (tyArray (tyInt w32) 32)) (past .50)) ⊛ ‵
           (fdies (tyRef erased imm (tyArray (tyInt w32) 128)) (past .51)))
           ∷ ‵ (froom (tyRef erased imm (tyArray (tyInt w32) 128)) (past .51) 0)
-          ∷ ‵ (froom (sliceTy (tyRef erased mut (pointee (R .written)))) (past .50) 0)
-          ∷ ‵ (froom (tyRef erased mut (pointee (R .written))) (past .49) 0)
-          ∷ ‵ (fat fullShare (sliceTy (tyRef erased mut (tyInt w16))) (past .48) 0 (s₈))
-          ∷ ‵ (fat fullShare (tyRef erased mut (tyInt w16)) (past .47) 0 ((vptr (x₈ .ptr .0) (x₈ .ptr .1))))
-          ∷ ‵ (fat fullShare (sliceTy (tyRef erased mut (tyInt w8))) (past .46) 0 (s₇))
-          ∷ ‵ (fat fullShare (tyRef erased mut (tyInt w8)) (past .45) 0 ((vptr (x₇ .ptr .0) (x₇ .ptr .1))))
-          ∷ ‵ (fat fullShare (tyRef erased imm (tyArray (tyInt w32) 128)) (past .44) 0 ((vptr b (o + 1820))))
-          ∷ ‵ (fat fullShare (tyRef erased imm (tyArray (tyInt w32) 128)) (past .43) 0 ((vptr b (o + 1308))))
-          ∷ ‵ (fat fullShare (tyRef erased imm (tyArray (tyInt w32) 128)) (past .42) 0 ((vptr b (o + 796))))
-          ∷ ‵ (fat fullShare (tyRef erased mut (tyArray (tyInt w8) 32)) (past .41) 0 ((vptr b (o + 764))))
-          ∷ ‵ (fat fullShare (tyRef erased mut (tyArray (tyInt w32) 32)) (past .40) 0 ((vptr b (o + 636))))
-          ∷ ‵ (fat fullShare (tyRef erased mut (tyArray (tyInt w32) 128)) (past .39) 0 ((vptr b (o + 124))))
-          ∷ ‵ (fat fullShare (tyRef erased mut (tyArray (tyInt w32) 128)) (past .38) 0 ((vptr (past .23) 0)))
-          ∷ ‵ (fat fullShare (sliceTy (tyRef erased imm (pointee (R .written)))) (past .37) 0 (s₃))
-          ∷ ‵ (fat fullShare (tyRef erased imm (pointee (R .written))) (past .36) 0 ((vptr (x₃ .ptr .0) (x₃ .ptr .1))))
-          ∷ ‵ (fat fullShare (tyRef erased mut (tyArray (tyInt w32) 128)) (past .35) 0 ((vptr (past .23) 0)))
-          ∷ ‵ (fat fullShare (sliceTy (tyRef erased imm (pointee (R .written)))) (past .34) 0 (s₃))
-          ∷ ‵ (fat fullShare (tyRef erased imm (pointee (R .written))) (past .33) 0 ((vptr (x₃ .ptr .0) (x₃ .ptr .1))))
-          ∷ ‵ (fat fullShare tyUnit (past .32) 0 ((past .56))) ∷ ‵ (fat fullShare (tyArray (tyInt w32) 128) (past .31) 0 ((past .55)))
-          ∷ ‵ (froom (tyInt w64) (past .30) 0) ∷ ‵ (froom clock-laws.mir (past .29) 0) ∷ ‵ (froom arrival-laws.mir (past .28) 0)
-          ∷ ‵ (froom flight-laws.mir (past .27) 0) ∷ ‵ (froom (tyArray (tyInt w32) 32) (past .26) 0)
-          ∷ ‵ (fat fullShare flushed-laws.mir (past .25) 0 ((past .62))) ∷ ‵ (fat fullShare (tyInt w64) (past .24) 0 ((past .59)))
-          ∷ ‵ (fat fullShare (tyInt w64) (past .22) 0 ((past .53)))
-          ∷ ‵ (fat fullShare (tyArray (tyInt w32) 32) (past .21) 0 ((only ((array-vals (uint-vals w32)) (h .outstanding)))))
+          ∷ ‵ (froom (tyRef erased imm (tyArray (tyInt w32) 32)) (past .50) 0)
+          ∷ ‵ (froom (sliceTy (tyRef erased mut (pointee (R .written)))) (past .49) 0)
+          ∷ ‵ (froom (tyRef erased mut (pointee (R .written))) (past .48) 0)
+          ∷ ‵ (fat fullShare (sliceTy (tyRef erased mut (tyInt w16))) (past .47) 0 (s₈))
+          ∷ ‵ (fat fullShare (tyRef erased mut (tyInt w16)) (past .46) 0 ((vptr (x₈ .ptr .0) (x₈ .ptr .1))))
+          ∷ ‵ (fat fullShare (sliceTy (tyRef erased mut (tyInt w8))) (past .45) 0 (s₇))
+          ∷ ‵ (fat fullShare (tyRef erased mut (tyInt w8)) (past .44) 0 ((vptr (x₇ .ptr .0) (x₇ .ptr .1))))
+          ∷ ‵ (fat fullShare (tyRef erased imm (tyArray (tyInt w32) 128)) (past .43) 0 ((vptr b (o + 1820))))
+          ∷ ‵ (fat fullShare (tyRef erased imm (tyArray (tyInt w32) 128)) (past .42) 0 ((vptr b (o + 1308))))
+          ∷ ‵ (fat fullShare (tyRef erased imm (tyArray (tyInt w32) 128)) (past .41) 0 ((vptr b (o + 796))))
+          ∷ ‵ (fat fullShare (tyRef erased mut (tyArray (tyInt w8) 32)) (past .40) 0 ((vptr b (o + 764))))
+          ∷ ‵ (fat fullShare (tyRef erased mut (tyArray (tyInt w32) 32)) (past .39) 0 ((vptr b (o + 636))))
+          ∷ ‵ (fat fullShare (tyRef erased mut (tyArray (tyInt w32) 128)) (past .38) 0 ((vptr b (o + 124))))
+          ∷ ‵ (fat fullShare (tyRef erased mut (tyArray (tyInt w32) 128)) (past .37) 0 ((vptr (past .22) 0)))
+          ∷ ‵ (fat fullShare (sliceTy (tyRef erased imm (pointee (R .written)))) (past .36) 0 (s₃))
+          ∷ ‵ (fat fullShare (tyRef erased imm (pointee (R .written))) (past .35) 0 ((vptr (x₃ .ptr .0) (x₃ .ptr .1))))
+          ∷ ‵ (fat fullShare (tyRef erased mut (tyArray (tyInt w32) 128)) (past .34) 0 ((vptr (past .22) 0)))
+          ∷ ‵ (fat fullShare (tyRef erased imm (tyArray (tyInt w32) 32)) (past .33) 0 ((vptr b (o + 636))))
+          ∷ ‵ (fat fullShare (sliceTy (tyRef erased imm (pointee (R .written)))) (past .32) 0 (s₃))
+          ∷ ‵ (fat fullShare (tyRef erased imm (pointee (R .written))) (past .31) 0 ((vptr (x₃ .ptr .0) (x₃ .ptr .1))))
+          ∷ ‵ (fat fullShare tyUnit (past .30) 0 ((past .56))) ∷ ‵ (fat fullShare (tyArray (tyInt w32) 128) (past .29) 0 ((past .55)))
+          ∷ ‵ (froom (tyInt w64) (past .28) 0) ∷ ‵ (froom clock-laws.mir (past .27) 0) ∷ ‵ (froom arrival-laws.mir (past .26) 0)
+          ∷ ‵ (froom flight-laws.mir (past .25) 0) ∷ ‵ (fat fullShare flushed-laws.mir (past .24) 0 ((past .62)))
+          ∷ ‵ (fat fullShare (tyInt w64) (past .23) 0 ((past .59))) ∷ ‵ (fat fullShare (tyInt w64) (past .21) 0 ((past .53)))
           ∷ ‵ (fat fullShare clock-laws.mir (past .20) 0 ((only ((LL.vals clock-row.the-type clock-laws.the-laws) (h .clock)))))
           ∷ ‵ (fat fullShare arrival-laws.mir (past .19) 0 ((only ((LL.vals arrival-row.the-type arrival-laws.the-laws) (h .arrival)))))
           ∷ ‵ (fat fullShare flight-laws.mir (past .18) 0 ((only ((LL.vals flight-row.the-type flight-laws.the-laws) (h .flight)))))
@@ -1052,7 +1379,7 @@ module _ {M : Type 1} (𝓤 : URA M) (H : Heap 𝓤) (A : Atoms 𝓤) (W : Given
           ∷ ‵ (partAt (Array u32 128) fullShare (h .waiting) b (o + 1308)) ∷ ‵ (partAt (Array u32 128) fullShare (h .ready) b (o + 796))
           ∷ ‵ (partAt (Array u8 32) fullShare (past .3) b (o + 764)) ∷ ‵ (partAt (Array u32 32) fullShare (past .4) b (o + 636))
           ∷ ‵ (partAt (Array u32 128) fullShare (past .5) b (o + 124))
-          ∷ ‵ (fat fullShare (tyArray (tyInt w32) 128) (past .23) 0 ((only ((array-vals (uint-vals w32)) (past .2)))))
+          ∷ ‵ (fat fullShare (tyArray (tyInt w32) 128) (past .22) 0 ((only ((array-vals (uint-vals w32)) (past .2)))))
           ∷ ‵ (finally u16 (x₈ .name) (past .0)) ∷ ‵ (finally u8 (x₇ .name) (past .1)) ∷ ‵ (flft κ₁ q₁) ∷ ‵ (flft κ₂ q₂)
           ∷ ‵ (flft κ₄ q₄) ∷ ‵ (flft κ₅ q₅) ∷ ‵ (flft κ₆ q₆) ∷ ‵ Own₃ ∷ ‵ (flft κ₃ q₃)
           ∷ ‵ (partAt clock-row.the-row fullShare (h .clock) b (o + 104))
@@ -1066,51 +1393,52 @@ module _ {M : Type 1} (𝓤 : URA M) (H : Heap 𝓤) (A : Atoms 𝓤) (W : Given
           (fdies (tyInt w32) (past .14)) ⊛ ‵ (fdies (sliceTy (tyRef (named 5) mut (tyInt w8))) (past .15)) ⊛ ‵
           (fdies (sliceTy (tyRef (named 6) mut (tyInt w16))) (past .16)) ⊛ ‵ (fdies settings-laws.mir (past .17)) ⊛ ‵
           (fdies flight-laws.mir (past .18)) ⊛ ‵ (fdies arrival-laws.mir (past .19)) ⊛ ‵ (fdies clock-laws.mir (past .20)) ⊛ ‵
-          (fdies (tyArray (tyInt w32) 32) (past .21)) ⊛ ‵ (fdies (tyInt w64) (past .22)) ⊛ ‵
-          (fdies (tyArray (tyInt w32) 128) (past .23)) ⊛ ‵ (fdies (tyInt w64) (past .24)) ⊛ ‵ (fdies flushed-laws.mir (past .25)) ⊛ ‵
-          (fdies (tyArray (tyInt w32) 32) (past .26)) ⊛ ‵ (fdies flight-laws.mir (past .27)) ⊛ ‵ (fdies arrival-laws.mir (past .28)) ⊛ ‵
-          (fdies clock-laws.mir (past .29)) ⊛ ‵ (fdies (tyInt w64) (past .30)) ⊛ ‵ (fdies (tyArray (tyInt w32) 128) (past .31)) ⊛ ‵
-          (fdies tyUnit (past .32)) ⊛ ‵ (fdies (tyRef erased imm (pointee (R .written))) (past .33)) ⊛ ‵
-          (fdies (sliceTy (tyRef erased imm (pointee (R .written)))) (past .34)) ⊛ ‵
-          (fdies (tyRef erased mut (tyArray (tyInt w32) 128)) (past .35)) ⊛ ‵
-          (fdies (tyRef erased imm (pointee (R .written))) (past .36)) ⊛ ‵
-          (fdies (sliceTy (tyRef erased imm (pointee (R .written)))) (past .37)) ⊛ ‵
+          (fdies (tyInt w64) (past .21)) ⊛ ‵ (fdies (tyArray (tyInt w32) 128) (past .22)) ⊛ ‵ (fdies (tyInt w64) (past .23)) ⊛ ‵
+          (fdies flushed-laws.mir (past .24)) ⊛ ‵ (fdies flight-laws.mir (past .25)) ⊛ ‵ (fdies arrival-laws.mir (past .26)) ⊛ ‵
+          (fdies clock-laws.mir (past .27)) ⊛ ‵ (fdies (tyInt w64) (past .28)) ⊛ ‵ (fdies (tyArray (tyInt w32) 128) (past .29)) ⊛ ‵
+          (fdies tyUnit (past .30)) ⊛ ‵ (fdies (tyRef erased imm (pointee (R .written))) (past .31)) ⊛ ‵
+          (fdies (sliceTy (tyRef erased imm (pointee (R .written)))) (past .32)) ⊛ ‵
+          (fdies (tyRef erased imm (tyArray (tyInt w32) 32)) (past .33)) ⊛ ‵
+          (fdies (tyRef erased mut (tyArray (tyInt w32) 128)) (past .34)) ⊛ ‵
+          (fdies (tyRef erased imm (pointee (R .written))) (past .35)) ⊛ ‵
+          (fdies (sliceTy (tyRef erased imm (pointee (R .written)))) (past .36)) ⊛ ‵
+          (fdies (tyRef erased mut (tyArray (tyInt w32) 128)) (past .37)) ⊛ ‵
           (fdies (tyRef erased mut (tyArray (tyInt w32) 128)) (past .38)) ⊛ ‵
-          (fdies (tyRef erased mut (tyArray (tyInt w32) 128)) (past .39)) ⊛ ‵
-          (fdies (tyRef erased mut (tyArray (tyInt w32) 32)) (past .40)) ⊛ ‵
-          (fdies (tyRef erased mut (tyArray (tyInt w8) 32)) (past .41)) ⊛ ‵
+          (fdies (tyRef erased mut (tyArray (tyInt w32) 32)) (past .39)) ⊛ ‵
+          (fdies (tyRef erased mut (tyArray (tyInt w8) 32)) (past .40)) ⊛ ‵
+          (fdies (tyRef erased imm (tyArray (tyInt w32) 128)) (past .41)) ⊛ ‵
           (fdies (tyRef erased imm (tyArray (tyInt w32) 128)) (past .42)) ⊛ ‵
-          (fdies (tyRef erased imm (tyArray (tyInt w32) 128)) (past .43)) ⊛ ‵
-          (fdies (tyRef erased imm (tyArray (tyInt w32) 128)) (past .44)) ⊛ ‵ (fdies (tyRef erased mut (tyInt w8)) (past .45)) ⊛ ‵
-          (fdies (sliceTy (tyRef erased mut (tyInt w8))) (past .46)) ⊛ ‵ (fdies (tyRef erased mut (tyInt w16)) (past .47)) ⊛ ‵
-          (fdies (sliceTy (tyRef erased mut (tyInt w16))) (past .48)) ⊛ ‵ (fdies (tyRef erased mut (pointee (R .written))) (past .49)) ⊛
-          ‵ (fdies (sliceTy (tyRef erased mut (pointee (R .written)))) (past .50)) ⊛ ‵
+          (fdies (tyRef erased imm (tyArray (tyInt w32) 128)) (past .43)) ⊛ ‵ (fdies (tyRef erased mut (tyInt w8)) (past .44)) ⊛ ‵
+          (fdies (sliceTy (tyRef erased mut (tyInt w8))) (past .45)) ⊛ ‵ (fdies (tyRef erased mut (tyInt w16)) (past .46)) ⊛ ‵
+          (fdies (sliceTy (tyRef erased mut (tyInt w16))) (past .47)) ⊛ ‵ (fdies (tyRef erased mut (pointee (R .written))) (past .48)) ⊛
+          ‵ (fdies (sliceTy (tyRef erased mut (pointee (R .written)))) (past .49)) ⊛ ‵
+          (fdies (tyRef erased imm (tyArray (tyInt w32) 32)) (past .50)) ⊛ ‵
           (fdies (tyRef erased imm (tyArray (tyInt w32) 128)) (past .51)))
           ∷ ‵ (froom (tyRef erased imm (tyArray (tyInt w32) 128)) (past .51) 0)
-          ∷ ‵ (froom (sliceTy (tyRef erased mut (pointee (R .written)))) (past .50) 0)
-          ∷ ‵ (froom (tyRef erased mut (pointee (R .written))) (past .49) 0)
-          ∷ ‵ (fat fullShare (sliceTy (tyRef erased mut (tyInt w16))) (past .48) 0 (s₈))
-          ∷ ‵ (fat fullShare (tyRef erased mut (tyInt w16)) (past .47) 0 ((vptr (x₈ .ptr .0) (x₈ .ptr .1))))
-          ∷ ‵ (fat fullShare (sliceTy (tyRef erased mut (tyInt w8))) (past .46) 0 (s₇))
-          ∷ ‵ (fat fullShare (tyRef erased mut (tyInt w8)) (past .45) 0 ((vptr (x₇ .ptr .0) (x₇ .ptr .1))))
-          ∷ ‵ (fat fullShare (tyRef erased imm (tyArray (tyInt w32) 128)) (past .44) 0 ((vptr b (o + 1820))))
-          ∷ ‵ (fat fullShare (tyRef erased imm (tyArray (tyInt w32) 128)) (past .43) 0 ((vptr b (o + 1308))))
-          ∷ ‵ (fat fullShare (tyRef erased imm (tyArray (tyInt w32) 128)) (past .42) 0 ((vptr b (o + 796))))
-          ∷ ‵ (fat fullShare (tyRef erased mut (tyArray (tyInt w8) 32)) (past .41) 0 ((vptr b (o + 764))))
-          ∷ ‵ (fat fullShare (tyRef erased mut (tyArray (tyInt w32) 32)) (past .40) 0 ((vptr b (o + 636))))
-          ∷ ‵ (fat fullShare (tyRef erased mut (tyArray (tyInt w32) 128)) (past .39) 0 ((vptr b (o + 124))))
-          ∷ ‵ (fat fullShare (tyRef erased mut (tyArray (tyInt w32) 128)) (past .38) 0 ((vptr (past .23) 0)))
-          ∷ ‵ (fat fullShare (sliceTy (tyRef erased imm (pointee (R .written)))) (past .37) 0 (s₃))
-          ∷ ‵ (fat fullShare (tyRef erased imm (pointee (R .written))) (past .36) 0 ((vptr (x₃ .ptr .0) (x₃ .ptr .1))))
-          ∷ ‵ (fat fullShare (tyRef erased mut (tyArray (tyInt w32) 128)) (past .35) 0 ((vptr (past .23) 0)))
-          ∷ ‵ (fat fullShare (sliceTy (tyRef erased imm (pointee (R .written)))) (past .34) 0 (s₃))
-          ∷ ‵ (fat fullShare (tyRef erased imm (pointee (R .written))) (past .33) 0 ((vptr (x₃ .ptr .0) (x₃ .ptr .1))))
-          ∷ ‵ (fat fullShare tyUnit (past .32) 0 ((past .56))) ∷ ‵ (fat fullShare (tyArray (tyInt w32) 128) (past .31) 0 ((past .55)))
-          ∷ ‵ (froom (tyInt w64) (past .30) 0) ∷ ‵ (froom clock-laws.mir (past .29) 0) ∷ ‵ (froom arrival-laws.mir (past .28) 0)
-          ∷ ‵ (froom flight-laws.mir (past .27) 0) ∷ ‵ (froom (tyArray (tyInt w32) 32) (past .26) 0)
-          ∷ ‵ (fat fullShare flushed-laws.mir (past .25) 0 ((past .62))) ∷ ‵ (fat fullShare (tyInt w64) (past .24) 0 ((past .59)))
-          ∷ ‵ (fat fullShare (tyInt w64) (past .22) 0 ((past .53)))
-          ∷ ‵ (fat fullShare (tyArray (tyInt w32) 32) (past .21) 0 ((only ((array-vals (uint-vals w32)) (h .outstanding)))))
+          ∷ ‵ (froom (tyRef erased imm (tyArray (tyInt w32) 32)) (past .50) 0)
+          ∷ ‵ (froom (sliceTy (tyRef erased mut (pointee (R .written)))) (past .49) 0)
+          ∷ ‵ (froom (tyRef erased mut (pointee (R .written))) (past .48) 0)
+          ∷ ‵ (fat fullShare (sliceTy (tyRef erased mut (tyInt w16))) (past .47) 0 (s₈))
+          ∷ ‵ (fat fullShare (tyRef erased mut (tyInt w16)) (past .46) 0 ((vptr (x₈ .ptr .0) (x₈ .ptr .1))))
+          ∷ ‵ (fat fullShare (sliceTy (tyRef erased mut (tyInt w8))) (past .45) 0 (s₇))
+          ∷ ‵ (fat fullShare (tyRef erased mut (tyInt w8)) (past .44) 0 ((vptr (x₇ .ptr .0) (x₇ .ptr .1))))
+          ∷ ‵ (fat fullShare (tyRef erased imm (tyArray (tyInt w32) 128)) (past .43) 0 ((vptr b (o + 1820))))
+          ∷ ‵ (fat fullShare (tyRef erased imm (tyArray (tyInt w32) 128)) (past .42) 0 ((vptr b (o + 1308))))
+          ∷ ‵ (fat fullShare (tyRef erased imm (tyArray (tyInt w32) 128)) (past .41) 0 ((vptr b (o + 796))))
+          ∷ ‵ (fat fullShare (tyRef erased mut (tyArray (tyInt w8) 32)) (past .40) 0 ((vptr b (o + 764))))
+          ∷ ‵ (fat fullShare (tyRef erased mut (tyArray (tyInt w32) 32)) (past .39) 0 ((vptr b (o + 636))))
+          ∷ ‵ (fat fullShare (tyRef erased mut (tyArray (tyInt w32) 128)) (past .38) 0 ((vptr b (o + 124))))
+          ∷ ‵ (fat fullShare (tyRef erased mut (tyArray (tyInt w32) 128)) (past .37) 0 ((vptr (past .22) 0)))
+          ∷ ‵ (fat fullShare (sliceTy (tyRef erased imm (pointee (R .written)))) (past .36) 0 (s₃))
+          ∷ ‵ (fat fullShare (tyRef erased imm (pointee (R .written))) (past .35) 0 ((vptr (x₃ .ptr .0) (x₃ .ptr .1))))
+          ∷ ‵ (fat fullShare (tyRef erased mut (tyArray (tyInt w32) 128)) (past .34) 0 ((vptr (past .22) 0)))
+          ∷ ‵ (fat fullShare (tyRef erased imm (tyArray (tyInt w32) 32)) (past .33) 0 ((vptr b (o + 636))))
+          ∷ ‵ (fat fullShare (sliceTy (tyRef erased imm (pointee (R .written)))) (past .32) 0 (s₃))
+          ∷ ‵ (fat fullShare (tyRef erased imm (pointee (R .written))) (past .31) 0 ((vptr (x₃ .ptr .0) (x₃ .ptr .1))))
+          ∷ ‵ (fat fullShare tyUnit (past .30) 0 ((past .56))) ∷ ‵ (fat fullShare (tyArray (tyInt w32) 128) (past .29) 0 ((past .55)))
+          ∷ ‵ (froom (tyInt w64) (past .28) 0) ∷ ‵ (froom clock-laws.mir (past .27) 0) ∷ ‵ (froom arrival-laws.mir (past .26) 0)
+          ∷ ‵ (froom flight-laws.mir (past .25) 0) ∷ ‵ (fat fullShare flushed-laws.mir (past .24) 0 ((past .62)))
+          ∷ ‵ (fat fullShare (tyInt w64) (past .23) 0 ((past .59))) ∷ ‵ (fat fullShare (tyInt w64) (past .21) 0 ((past .53)))
           ∷ ‵ (fat fullShare clock-laws.mir (past .20) 0 ((only ((LL.vals clock-row.the-type clock-laws.the-laws) (h .clock)))))
           ∷ ‵ (fat fullShare arrival-laws.mir (past .19) 0 ((only ((LL.vals arrival-row.the-type arrival-laws.the-laws) (h .arrival)))))
           ∷ ‵ (fat fullShare flight-laws.mir (past .18) 0 ((only ((LL.vals flight-row.the-type flight-laws.the-laws) (h .flight)))))
@@ -1134,25 +1462,17 @@ module _ {M : Type 1} (𝓤 : URA M) (H : Heap 𝓤) (A : Atoms 𝓤) (W : Given
           (past .28) (past .29) (past .30) (past .31) (past .32) (past .33) (past .34) (past .35) (past .36) (past .37) (past .38)
           (past .39) (past .40) (past .41) (past .42) (past .43) (past .44) (past .45) (past .46) (past .47) (past .48) (past .49)
           (past .50) (past .51)) Post) $
-          move ! (4 ∷ []) $ cell-out ! fullShare (Array u32 32) (array-vals (uint-vals w32))
-          (array-tells u32 (uint-vals w32) (uint-tells w32) 32) (past .4) b (o + 636) (λ was-outstanding′.
-          assigns ! {v = (only ((array-vals (uint-vals w32)) (past .4)))}
-          (of-opd ! (load ! (from ! (hop ! (look ! 65 refl) (fld ! {d = 636} refl (stop !)))) (look-raw ! 0 refl))) (from ! (stop !))
-          (init ! 48 refl (array-typed u32 (uint-lawful 𝓤 H A W w32 .typed) 32 (past .4)
-          ((only ((array-vals (uint-vals w32)) (past .4))) ∷ []) was-outstanding′ .0)) $
-          cell-in ! fullShare (Array u32 32) (array-makes 𝓤 H A W u32 (uint-makes 𝓤 H A W w32) 32) (past .4) b (o + 636)
-          (only ((array-vals (uint-vals w32)) (past .4))) was-outstanding′ $ nothing ! $
-          calls-fn ! fm flight-of.ended (flight-of.clauses 𝓤 H A at-mem run) (known .5)
+          nothing ! $ calls-fn ! fm flight-of.ended (flight-of.clauses 𝓤 H A at-mem run) (known .5)
           ((tt, tt, tt, ((past .61), tt), ((past .62) ∷ [], tt)), tt) (λ kf _. kf ≡ (past .61) .flight)
           (‵ ftrue) (plainly 𝓤 H A W (flushed-row.the-row ∷ []) ((LL.makes flushed-row.the-type flushed-laws.the-plain 𝓤 H A), tt)
           ((past .61), tt) ((past .62) ∷ [], tt) ((past .64), tt)) (λ kf _. id⊢ 𝓤 _)
-          (and-then ! (load ! (from ! (stop !)) (look ! 50 refl)) (no-more !))
+          (and-then ! (load ! (from ! (stop !)) (look ! 51 refl)) (no-more !))
           (λ kf w-kf _ e-kf is-kf. drop ! $ drop ! $
-          land ! (from ! (stop !)) (init ! 47 refl (LL.lawful flight-row.the-type flight-laws.the-laws 𝓤 H A W .typed kf (w-kf ∷ []) is-kf
+          land ! (from ! (stop !)) (init ! 49 refl (LL.lawful flight-row.the-type flight-laws.the-laws 𝓤 H A W .typed kf (w-kf ∷ []) is-kf
           .0)) $
           move ! (18 ∷ []) $ cell-out ! fullShare flight-row.the-row (LL.vals flight-row.the-type flight-laws.the-laws)
           (LL.tells flight-row.the-type flight-laws.the-laws) (h .flight) b (o + 16)
-          (λ was-flight′. assigns ! (of-opd ! (load ! (from ! (stop !)) (look ! 47 refl)))
+          (λ was-flight′. assigns ! (of-opd ! (load ! (from ! (stop !)) (look ! 49 refl)))
           (from ! (hop ! (look ! 65 refl) (fld ! {d = 16} refl (stop !))))
           (store-raw ! 0 refl (LL.lawful flight-row.the-type flight-laws.the-laws 𝓤 H A W .typed kf (w-kf ∷ []) is-kf .0)) $
           cell-in ! fullShare flight-row.the-row (LL.makes flight-row.the-type flight-laws.the-plain 𝓤 H A) kf b (o + 16) w-kf is-kf $
@@ -1160,13 +1480,13 @@ module _ {M : Type 1} (𝓤 : URA M) (H : Heap 𝓤) (A : Atoms 𝓤) (W : Given
           ((tt, tt, tt, ((past .61), tt), ((past .62) ∷ [], tt)), tt) (λ ka _. ka ≡ (past .61) .arrival)
           (‵ ftrue) (plainly 𝓤 H A W (flushed-row.the-row ∷ []) ((LL.makes flushed-row.the-type flushed-laws.the-plain 𝓤 H A), tt)
           ((past .61), tt) ((past .62) ∷ [], tt) ((past .64), tt)) (λ ka _. id⊢ 𝓤 _)
-          (and-then ! (load ! (from ! (stop !)) (look ! 50 refl)) (no-more !))
+          (and-then ! (load ! (from ! (stop !)) (look ! 51 refl)) (no-more !))
           (λ ka w-ka _ e-ka is-ka. drop ! $ drop ! $
-          land ! (from ! (stop !)) (init ! 46 refl (LL.lawful arrival-row.the-type arrival-laws.the-laws 𝓤 H A W .typed ka (w-ka ∷ []) is-ka
+          land ! (from ! (stop !)) (init ! 48 refl (LL.lawful arrival-row.the-type arrival-laws.the-laws 𝓤 H A W .typed ka (w-ka ∷ []) is-ka
           .0)) $
           move ! (18 ∷ []) $ cell-out ! fullShare arrival-row.the-row (LL.vals arrival-row.the-type arrival-laws.the-laws)
           (LL.tells arrival-row.the-type arrival-laws.the-laws) (h .arrival) b (o + 72)
-          (λ was-arrival′. assigns ! (of-opd ! (load ! (from ! (stop !)) (look ! 46 refl)))
+          (λ was-arrival′. assigns ! (of-opd ! (load ! (from ! (stop !)) (look ! 48 refl)))
           (from ! (hop ! (look ! 65 refl) (fld ! {d = 72} refl (stop !))))
           (store-raw ! 0 refl (LL.lawful arrival-row.the-type arrival-laws.the-laws 𝓤 H A W .typed ka (w-ka ∷ []) is-ka .0)) $
           cell-in ! fullShare arrival-row.the-row (LL.makes arrival-row.the-type arrival-laws.the-plain 𝓤 H A) ka b (o + 72) w-ka
@@ -1174,43 +1494,30 @@ module _ {M : Type 1} (𝓤 : URA M) (H : Heap 𝓤) (A : Atoms 𝓤) (W : Given
           ((tt, tt, tt, ((past .61), tt), ((past .62) ∷ [], tt)), tt) (λ kc _. kc ≡ (past .61) .clock)
           (‵ ftrue) (plainly 𝓤 H A W (flushed-row.the-row ∷ []) ((LL.makes flushed-row.the-type flushed-laws.the-plain 𝓤 H A), tt)
           ((past .61), tt) ((past .62) ∷ [], tt) ((past .64), tt)) (λ kc _. id⊢ 𝓤 _)
-          (and-then ! (load ! (from ! (stop !)) (look ! 50 refl)) (no-more !))
+          (and-then ! (load ! (from ! (stop !)) (look ! 51 refl)) (no-more !))
           (λ kc w-kc _ e-kc is-kc. drop ! $ drop ! $
-          land ! (from ! (stop !)) (init ! 45 refl (LL.lawful clock-row.the-type clock-laws.the-laws 𝓤 H A W .typed kc (w-kc ∷ []) is-kc
+          land ! (from ! (stop !)) (init ! 47 refl (LL.lawful clock-row.the-type clock-laws.the-laws 𝓤 H A W .typed kc (w-kc ∷ []) is-kc
           .0)) $
           move ! (18 ∷ []) $ cell-out ! fullShare clock-row.the-row (LL.vals clock-row.the-type clock-laws.the-laws)
           (LL.tells clock-row.the-type clock-laws.the-laws) (h .clock) b (o + 104)
-          (λ was-clock′. assigns ! (of-opd ! (load ! (from ! (stop !)) (look ! 45 refl)))
+          (λ was-clock′. assigns ! (of-opd ! (load ! (from ! (stop !)) (look ! 47 refl)))
           (from ! (hop ! (look ! 65 refl) (fld ! {d = 104} refl (stop !))))
           (store-raw ! 0 refl (LL.lawful clock-row.the-type clock-laws.the-laws 𝓤 H A W .typed kc (w-kc ∷ []) is-kc .0)) $
           cell-in ! fullShare clock-row.the-row (LL.makes clock-row.the-type clock-laws.the-plain 𝓤 H A) kc b (o + 104) w-kc is-kc $
-          move ! (8 ∷ []) $ tells-length ! fullShare u32 128 (past .5) b (o + 124)
-          (λ end-queued. move ! (4 ∷ []) $
-          tells-length ! fullShare u32 32 (past .4) b (o + 636)
-          (λ end-outstanding. move ! (8 ∷ []) $
-          tells-length ! fullShare u8 32 (past .3) b (o + 764)
-          (λ end-transmissions. move ! (8 ∷ []) $
-          tells-length ! fullShare u32 128 (h .ready) b (o + 796)
-          (λ end-ready. move ! (8 ∷ []) $
-          tells-length ! fullShare u32 128 (h .waiting) b (o + 1308)
-          (λ end-waiting. move ! (8 ∷ []) $
-          tells-length ! fullShare u32 128 (h .«waiting_numbers») b (o + 1820)
-          (λ end-waiting-numbers. move ! (19 ∷ 8 ∷ 7 ∷ 6 ∷ 5 ∷ 4 ∷ 3 ∷ 2 ∷ 1 ∷ 0 ∷ 20 ∷ 21 ∷ []) $
-          closes-link b o γ ! tt h (record {
-            settings = (h .settings);
-            flight = kf;
-            arrival = ka;
-            clock = kc;
-            queued = (past .5);
-            outstanding = (past .4);
-            transmissions = (past .3);
-            ready = (h .ready);
-            waiting = (h .waiting);
-            «waiting_numbers» =
-                (h .«waiting_numbers»);
-          }) $
-          -- [own0; tok0; fin8; fin7; tok1; tok2; tok4; tok7; tok8; own3; tok3; deaths; the locals]
-          by ! (part₃ (
+          nothing ! $ calls-fn ! fm changed-of.ended (changed-of.clauses 𝓤 H A at-mem run) (known .8)
+          ((tt, tt, tt, ((past .61), tt), ((past .62) ∷ [], tt)), tt) (λ c _. c ≡ (past .61) .changed)
+          (‵ ftrue) (plainly 𝓤 H A W (flushed-row.the-row ∷ []) ((LL.makes flushed-row.the-type flushed-laws.the-plain 𝓤 H A), tt)
+          ((past .61), tt) ((past .62) ∷ [], tt) ((past .64), tt)) (λ c _. id⊢ 𝓤 _)
+          (and-then ! (load ! (from ! (stop !)) (look ! 51 refl)) (no-more !))
+          (λ c w-c _ e-c is-c. drop ! $ drop ! $ land ! (from ! (stop !)) (init ! 46 refl (uint-lawful 𝓤 H A W w64 .typed c _ is-c .0)) $
+          assigns ! {v = (vptr (x₃ .ptr .0) (x₃ .ptr .1))}
+          (addr ! (from ! (fld ! refl (hop ! (look-in ! 62 (sub ! 0 refl (whole !))) (stop !))))) (from ! (stop !))
+          (init ! 26 refl (tt, tt)) $
+          assigns ! {v = s₃} (agg ! (and-then ! (load ! (from ! (stop !)) (look ! 26 refl))
+          (and-then ! (load ! (from ! (fld ! refl (stop !))) (look-in ! 62 (sub ! 1 refl (whole !)))) (no-more !)))) (from ! (stop !))
+          (init ! 25 refl (tt, (tt, (record { fits = room₃ .0 }, tt)))) $
+          move ! (7 ∷ []) $ tells-length ! fullShare u32 32 (past .4) b (o + 636)
+          (λ mid-outstanding. by ! (part₃ (
             ((past .0)),
             ((past .1)),
             ((past .0)),
@@ -1281,7 +1588,6 @@ module _ {M : Type 1} (𝓤 : URA M) (H : Heap 𝓤) (A : Atoms 𝓤) (W : Given
             (past .65),
             (past .66),
             (past .67),
-            was-outstanding′,
             kf,
             w-kf,
             e-kf,
@@ -1291,13 +1597,12 @@ module _ {M : Type 1} (𝓤 : URA M) (H : Heap 𝓤) (A : Atoms 𝓤) (W : Given
             kc,
             w-kc,
             e-kc,
-            end-queued,
-            end-outstanding,
-            end-transmissions,
-            end-ready,
-            end-waiting,
-            end-waiting-numbers,
-          )))))))))))))))
+            c,
+            w-c,
+            e-c,
+            is-c,
+            mid-outstanding,
+          ))))))))))
 
       -- what part 1 knows
       abbrev Known₁ : Type 0
@@ -1320,7 +1625,7 @@ module _ {M : Type 1} (𝓤 : URA M) (H : Heap 𝓤) (A : Atoms 𝓤) (W : Given
           (e-m : m ≡ length (x₃ .now)) × (Is usize m (w-m ∷ []))
 
       part₁ : (past : Known₁) → ent 𝓤 (⋆ 𝓤 H A (‵ Own₃ ∷ ‵ (flft κ₃ q₃)
-          ∷ ‵ (fat fullShare (tyArray (tyInt w32) 128) (past .17) 0 ((only ((array-vals (uint-vals w32)) (past .0)))))
+          ∷ ‵ (fat fullShare (tyArray (tyInt w32) 128) (past .16) 0 ((only ((array-vals (uint-vals w32)) (past .0)))))
           ∷ ‵ (partAt (Array u32 32) fullShare (h .outstanding) b (o + 636)) ∷ ‵ (partAt clock-row.the-row fullShare (h .clock) b (o + 104))
           ∷ ‵ (partAt arrival-row.the-row fullShare (h .arrival) b (o + 72))
           ∷ ‵ (partAt flight-row.the-row fullShare (h .flight) b (o + 16))
@@ -1335,48 +1640,50 @@ module _ {M : Type 1} (𝓤 : URA M) (H : Heap 𝓤) (A : Atoms 𝓤) (W : Given
           (fdies (sliceTy (tyRef (named 4) imm (tyInt w32))) (past .6)) ⊛ ‵ (fdies tyBool (past .7)) ⊛ ‵ (fdies (tyInt w32) (past .8)) ⊛ ‵
           (fdies (sliceTy (tyRef (named 5) mut (tyInt w8))) (past .9)) ⊛ ‵ (fdies (sliceTy (tyRef (named 6) mut (tyInt w16))) (past .10)) ⊛
           ‵ (fdies settings-laws.mir (past .11)) ⊛ ‵ (fdies flight-laws.mir (past .12)) ⊛ ‵ (fdies arrival-laws.mir (past .13)) ⊛ ‵
-          (fdies clock-laws.mir (past .14)) ⊛ ‵ (fdies (tyArray (tyInt w32) 32) (past .15)) ⊛ ‵ (fdies (tyInt w64) (past .16)) ⊛ ‵
-          (fdies (tyArray (tyInt w32) 128) (past .17)) ⊛ ‵ (fdies (tyInt w64) (past .18)) ⊛ ‵ (fdies flushed-laws.mir (past .19)) ⊛ ‵
-          (fdies (tyArray (tyInt w32) 32) (past .20)) ⊛ ‵ (fdies flight-laws.mir (past .21)) ⊛ ‵ (fdies arrival-laws.mir (past .22)) ⊛ ‵
-          (fdies clock-laws.mir (past .23)) ⊛ ‵ (fdies (tyInt w64) (past .24)) ⊛ ‵ (fdies (tyArray (tyInt w32) 128) (past .25)) ⊛ ‵
-          (fdies tyUnit (past .26)) ⊛ ‵ (fdies (tyRef erased imm (pointee (R .written))) (past .27)) ⊛ ‵
-          (fdies (sliceTy (tyRef erased imm (pointee (R .written)))) (past .28)) ⊛ ‵
-          (fdies (tyRef erased mut (tyArray (tyInt w32) 128)) (past .29)) ⊛ ‵ (fdies (tyRef erased imm (pointee (R .written))) (past .30)) ⊛
-          ‵ (fdies (sliceTy (tyRef erased imm (pointee (R .written)))) (past .31)) ⊛ ‵
-          (fdies (tyRef erased mut (tyArray (tyInt w32) 128)) (past .32)) ⊛ ‵
-          (fdies (tyRef erased mut (tyArray (tyInt w32) 128)) (past .33)) ⊛ ‵ (fdies (tyRef erased mut (tyArray (tyInt w32) 32)) (past .34))
-          ⊛ ‵ (fdies (tyRef erased mut (tyArray (tyInt w8) 32)) (past .35)) ⊛ ‵
+          (fdies clock-laws.mir (past .14)) ⊛ ‵ (fdies (tyInt w64) (past .15)) ⊛ ‵ (fdies (tyArray (tyInt w32) 128) (past .16)) ⊛ ‵
+          (fdies (tyInt w64) (past .17)) ⊛ ‵ (fdies flushed-laws.mir (past .18)) ⊛ ‵ (fdies flight-laws.mir (past .19)) ⊛ ‵
+          (fdies arrival-laws.mir (past .20)) ⊛ ‵ (fdies clock-laws.mir (past .21)) ⊛ ‵ (fdies (tyInt w64) (past .22)) ⊛ ‵
+          (fdies (tyArray (tyInt w32) 128) (past .23)) ⊛ ‵ (fdies tyUnit (past .24)) ⊛ ‵
+          (fdies (tyRef erased imm (pointee (R .written))) (past .25)) ⊛ ‵
+          (fdies (sliceTy (tyRef erased imm (pointee (R .written)))) (past .26)) ⊛ ‵
+          (fdies (tyRef erased imm (tyArray (tyInt w32) 32)) (past .27)) ⊛ ‵ (fdies (tyRef erased mut (tyArray (tyInt w32) 128)) (past .28))
+          ⊛ ‵ (fdies (tyRef erased imm (pointee (R .written))) (past .29)) ⊛ ‵
+          (fdies (sliceTy (tyRef erased imm (pointee (R .written)))) (past .30)) ⊛ ‵
+          (fdies (tyRef erased mut (tyArray (tyInt w32) 128)) (past .31)) ⊛ ‵
+          (fdies (tyRef erased mut (tyArray (tyInt w32) 128)) (past .32)) ⊛ ‵ (fdies (tyRef erased mut (tyArray (tyInt w32) 32)) (past .33))
+          ⊛ ‵ (fdies (tyRef erased mut (tyArray (tyInt w8) 32)) (past .34)) ⊛ ‵
+          (fdies (tyRef erased imm (tyArray (tyInt w32) 128)) (past .35)) ⊛ ‵
           (fdies (tyRef erased imm (tyArray (tyInt w32) 128)) (past .36)) ⊛ ‵
-          (fdies (tyRef erased imm (tyArray (tyInt w32) 128)) (past .37)) ⊛ ‵
-          (fdies (tyRef erased imm (tyArray (tyInt w32) 128)) (past .38)) ⊛ ‵ (fdies (tyRef erased mut (tyInt w8)) (past .39)) ⊛ ‵
-          (fdies (sliceTy (tyRef erased mut (tyInt w8))) (past .40)) ⊛ ‵ (fdies (tyRef erased mut (tyInt w16)) (past .41)) ⊛ ‵
-          (fdies (sliceTy (tyRef erased mut (tyInt w16))) (past .42)) ⊛ ‵ (fdies (tyRef erased mut (pointee (R .written))) (past .43)) ⊛ ‵
-          (fdies (sliceTy (tyRef erased mut (pointee (R .written)))) (past .44)) ⊛ ‵
+          (fdies (tyRef erased imm (tyArray (tyInt w32) 128)) (past .37)) ⊛ ‵ (fdies (tyRef erased mut (tyInt w8)) (past .38)) ⊛ ‵
+          (fdies (sliceTy (tyRef erased mut (tyInt w8))) (past .39)) ⊛ ‵ (fdies (tyRef erased mut (tyInt w16)) (past .40)) ⊛ ‵
+          (fdies (sliceTy (tyRef erased mut (tyInt w16))) (past .41)) ⊛ ‵ (fdies (tyRef erased mut (pointee (R .written))) (past .42)) ⊛ ‵
+          (fdies (sliceTy (tyRef erased mut (pointee (R .written)))) (past .43)) ⊛ ‵
+          (fdies (tyRef erased imm (tyArray (tyInt w32) 32)) (past .44)) ⊛ ‵
           (fdies (tyRef erased imm (tyArray (tyInt w32) 128)) (past .45))) ∷ ‵ (flft κ₁ q₁) ∷ ‵ (flft κ₂ q₂) ∷ ‵ (flft κ₄ q₄)
           ∷ ‵ (flft κ₅ q₅) ∷ ‵ (flft κ₆ q₆) ∷ ‵ Own₁ ∷ ‵ Own₂ ∷ ‵ Own₄ ∷ ‵ Own₇ ∷ ‵ Own₈
           ∷ ‵ (froom (tyRef erased imm (tyArray (tyInt w32) 128)) (past .45) 0)
-          ∷ ‵ (froom (sliceTy (tyRef erased mut (pointee (R .written)))) (past .44) 0)
-          ∷ ‵ (froom (tyRef erased mut (pointee (R .written))) (past .43) 0)
-          ∷ ‵ (froom (sliceTy (tyRef erased mut (tyInt w16))) (past .42) 0) ∷ ‵ (froom (tyRef erased mut (tyInt w16)) (past .41) 0)
-          ∷ ‵ (froom (sliceTy (tyRef erased mut (tyInt w8))) (past .40) 0) ∷ ‵ (froom (tyRef erased mut (tyInt w8)) (past .39) 0)
-          ∷ ‵ (froom (tyRef erased imm (tyArray (tyInt w32) 128)) (past .38) 0)
+          ∷ ‵ (froom (tyRef erased imm (tyArray (tyInt w32) 32)) (past .44) 0)
+          ∷ ‵ (froom (sliceTy (tyRef erased mut (pointee (R .written)))) (past .43) 0)
+          ∷ ‵ (froom (tyRef erased mut (pointee (R .written))) (past .42) 0)
+          ∷ ‵ (froom (sliceTy (tyRef erased mut (tyInt w16))) (past .41) 0) ∷ ‵ (froom (tyRef erased mut (tyInt w16)) (past .40) 0)
+          ∷ ‵ (froom (sliceTy (tyRef erased mut (tyInt w8))) (past .39) 0) ∷ ‵ (froom (tyRef erased mut (tyInt w8)) (past .38) 0)
           ∷ ‵ (froom (tyRef erased imm (tyArray (tyInt w32) 128)) (past .37) 0)
           ∷ ‵ (froom (tyRef erased imm (tyArray (tyInt w32) 128)) (past .36) 0)
-          ∷ ‵ (froom (tyRef erased mut (tyArray (tyInt w8) 32)) (past .35) 0)
-          ∷ ‵ (froom (tyRef erased mut (tyArray (tyInt w32) 32)) (past .34) 0)
-          ∷ ‵ (froom (tyRef erased mut (tyArray (tyInt w32) 128)) (past .33) 0)
-          ∷ ‵ (fat fullShare (tyRef erased mut (tyArray (tyInt w32) 128)) (past .32) 0 ((vptr (past .17) 0)))
-          ∷ ‵ (fat fullShare (sliceTy (tyRef erased imm (pointee (R .written)))) (past .31) 0 (s₃))
-          ∷ ‵ (fat fullShare (tyRef erased imm (pointee (R .written))) (past .30) 0 ((vptr (x₃ .ptr .0) (x₃ .ptr .1))))
-          ∷ ‵ (fat fullShare (tyRef erased mut (tyArray (tyInt w32) 128)) (past .29) 0 ((vptr (past .17) 0)))
-          ∷ ‵ (fat fullShare (sliceTy (tyRef erased imm (pointee (R .written)))) (past .28) 0 (s₃))
-          ∷ ‵ (fat fullShare (tyRef erased imm (pointee (R .written))) (past .27) 0 ((vptr (x₃ .ptr .0) (x₃ .ptr .1))))
-          ∷ ‵ (fat fullShare tyUnit (past .26) 0 ((past .60))) ∷ ‵ (fat fullShare (tyArray (tyInt w32) 128) (past .25) 0 ((past .59)))
-          ∷ ‵ (froom (tyInt w64) (past .24) 0) ∷ ‵ (froom clock-laws.mir (past .23) 0) ∷ ‵ (froom arrival-laws.mir (past .22) 0)
-          ∷ ‵ (froom flight-laws.mir (past .21) 0) ∷ ‵ (froom (tyArray (tyInt w32) 32) (past .20) 0)
-          ∷ ‵ (froom flushed-laws.mir (past .19) 0) ∷ ‵ (fat fullShare (tyInt w64) (past .18) 0 ((past .64)))
-          ∷ ‵ (fat fullShare (tyInt w64) (past .16) 0 ((past .57)))
-          ∷ ‵ (fat fullShare (tyArray (tyInt w32) 32) (past .15) 0 ((only ((array-vals (uint-vals w32)) (h .outstanding)))))
+          ∷ ‵ (froom (tyRef erased imm (tyArray (tyInt w32) 128)) (past .35) 0)
+          ∷ ‵ (froom (tyRef erased mut (tyArray (tyInt w8) 32)) (past .34) 0)
+          ∷ ‵ (froom (tyRef erased mut (tyArray (tyInt w32) 32)) (past .33) 0)
+          ∷ ‵ (froom (tyRef erased mut (tyArray (tyInt w32) 128)) (past .32) 0)
+          ∷ ‵ (fat fullShare (tyRef erased mut (tyArray (tyInt w32) 128)) (past .31) 0 ((vptr (past .16) 0)))
+          ∷ ‵ (fat fullShare (sliceTy (tyRef erased imm (pointee (R .written)))) (past .30) 0 (s₃))
+          ∷ ‵ (fat fullShare (tyRef erased imm (pointee (R .written))) (past .29) 0 ((vptr (x₃ .ptr .0) (x₃ .ptr .1))))
+          ∷ ‵ (fat fullShare (tyRef erased mut (tyArray (tyInt w32) 128)) (past .28) 0 ((vptr (past .16) 0)))
+          ∷ ‵ (fat fullShare (tyRef erased imm (tyArray (tyInt w32) 32)) (past .27) 0 ((vptr b (o + 636))))
+          ∷ ‵ (fat fullShare (sliceTy (tyRef erased imm (pointee (R .written)))) (past .26) 0 (s₃))
+          ∷ ‵ (fat fullShare (tyRef erased imm (pointee (R .written))) (past .25) 0 ((vptr (x₃ .ptr .0) (x₃ .ptr .1))))
+          ∷ ‵ (fat fullShare tyUnit (past .24) 0 ((past .60))) ∷ ‵ (fat fullShare (tyArray (tyInt w32) 128) (past .23) 0 ((past .59)))
+          ∷ ‵ (froom (tyInt w64) (past .22) 0) ∷ ‵ (froom clock-laws.mir (past .21) 0) ∷ ‵ (froom arrival-laws.mir (past .20) 0)
+          ∷ ‵ (froom flight-laws.mir (past .19) 0) ∷ ‵ (froom flushed-laws.mir (past .18) 0)
+          ∷ ‵ (fat fullShare (tyInt w64) (past .17) 0 ((past .64))) ∷ ‵ (fat fullShare (tyInt w64) (past .15) 0 ((past .57)))
           ∷ ‵ (fat fullShare clock-laws.mir (past .14) 0 ((only ((LL.vals clock-row.the-type clock-laws.the-laws) (h .clock)))))
           ∷ ‵ (fat fullShare arrival-laws.mir (past .13) 0 ((only ((LL.vals arrival-row.the-type arrival-laws.the-laws) (h .arrival)))))
           ∷ ‵ (fat fullShare flight-laws.mir (past .12) 0 ((only ((LL.vals flight-row.the-type flight-laws.the-laws) (h .flight)))))
@@ -1399,7 +1706,7 @@ module _ {M : Type 1} (𝓤 : URA M) (H : Heap 𝓤) (A : Atoms 𝓤) (W : Given
           (past .34) (past .35) (past .36) (past .37) (past .38) (past .39) (past .40) (past .41) (past .42) (past .43) (past .44)
           (past .45)) Post))
       part₁ past =
-          qed W (‵ Own₃ ∷ ‵ (flft κ₃ q₃) ∷ ‵ (fat fullShare (tyArray (tyInt w32) 128) (past .17) 0
+          qed W (‵ Own₃ ∷ ‵ (flft κ₃ q₃) ∷ ‵ (fat fullShare (tyArray (tyInt w32) 128) (past .16) 0
           ((only ((array-vals (uint-vals w32)) (past .0))))) ∷ ‵ (partAt (Array u32 32) fullShare (h .outstanding) b (o + 636))
           ∷ ‵ (partAt clock-row.the-row fullShare (h .clock) b (o + 104))
           ∷ ‵ (partAt arrival-row.the-row fullShare (h .arrival) b (o + 72))
@@ -1416,50 +1723,51 @@ module _ {M : Type 1} (𝓤 : URA M) (H : Heap 𝓤) (A : Atoms 𝓤) (W : Given
           ‵ (fdies (sliceTy (tyRef (named 5) mut (tyInt w8))) (past .9)) ⊛ ‵
           (fdies (sliceTy (tyRef (named 6) mut (tyInt w16))) (past .10)) ⊛ ‵ (fdies settings-laws.mir (past .11)) ⊛ ‵
           (fdies flight-laws.mir (past .12)) ⊛ ‵ (fdies arrival-laws.mir (past .13)) ⊛ ‵ (fdies clock-laws.mir (past .14)) ⊛ ‵
-          (fdies (tyArray (tyInt w32) 32) (past .15)) ⊛ ‵ (fdies (tyInt w64) (past .16)) ⊛ ‵
-          (fdies (tyArray (tyInt w32) 128) (past .17)) ⊛ ‵ (fdies (tyInt w64) (past .18)) ⊛ ‵ (fdies flushed-laws.mir (past .19)) ⊛ ‵
-          (fdies (tyArray (tyInt w32) 32) (past .20)) ⊛ ‵ (fdies flight-laws.mir (past .21)) ⊛ ‵ (fdies arrival-laws.mir (past .22)) ⊛ ‵
-          (fdies clock-laws.mir (past .23)) ⊛ ‵ (fdies (tyInt w64) (past .24)) ⊛ ‵ (fdies (tyArray (tyInt w32) 128) (past .25)) ⊛ ‵
-          (fdies tyUnit (past .26)) ⊛ ‵ (fdies (tyRef erased imm (pointee (R .written))) (past .27)) ⊛ ‵
-          (fdies (sliceTy (tyRef erased imm (pointee (R .written)))) (past .28)) ⊛ ‵
-          (fdies (tyRef erased mut (tyArray (tyInt w32) 128)) (past .29)) ⊛ ‵
-          (fdies (tyRef erased imm (pointee (R .written))) (past .30)) ⊛ ‵
-          (fdies (sliceTy (tyRef erased imm (pointee (R .written)))) (past .31)) ⊛ ‵
+          (fdies (tyInt w64) (past .15)) ⊛ ‵ (fdies (tyArray (tyInt w32) 128) (past .16)) ⊛ ‵ (fdies (tyInt w64) (past .17)) ⊛ ‵
+          (fdies flushed-laws.mir (past .18)) ⊛ ‵ (fdies flight-laws.mir (past .19)) ⊛ ‵ (fdies arrival-laws.mir (past .20)) ⊛ ‵
+          (fdies clock-laws.mir (past .21)) ⊛ ‵ (fdies (tyInt w64) (past .22)) ⊛ ‵ (fdies (tyArray (tyInt w32) 128) (past .23)) ⊛ ‵
+          (fdies tyUnit (past .24)) ⊛ ‵ (fdies (tyRef erased imm (pointee (R .written))) (past .25)) ⊛ ‵
+          (fdies (sliceTy (tyRef erased imm (pointee (R .written)))) (past .26)) ⊛ ‵
+          (fdies (tyRef erased imm (tyArray (tyInt w32) 32)) (past .27)) ⊛ ‵
+          (fdies (tyRef erased mut (tyArray (tyInt w32) 128)) (past .28)) ⊛ ‵
+          (fdies (tyRef erased imm (pointee (R .written))) (past .29)) ⊛ ‵
+          (fdies (sliceTy (tyRef erased imm (pointee (R .written)))) (past .30)) ⊛ ‵
+          (fdies (tyRef erased mut (tyArray (tyInt w32) 128)) (past .31)) ⊛ ‵
           (fdies (tyRef erased mut (tyArray (tyInt w32) 128)) (past .32)) ⊛ ‵
-          (fdies (tyRef erased mut (tyArray (tyInt w32) 128)) (past .33)) ⊛ ‵
-          (fdies (tyRef erased mut (tyArray (tyInt w32) 32)) (past .34)) ⊛ ‵
-          (fdies (tyRef erased mut (tyArray (tyInt w8) 32)) (past .35)) ⊛ ‵
+          (fdies (tyRef erased mut (tyArray (tyInt w32) 32)) (past .33)) ⊛ ‵
+          (fdies (tyRef erased mut (tyArray (tyInt w8) 32)) (past .34)) ⊛ ‵
+          (fdies (tyRef erased imm (tyArray (tyInt w32) 128)) (past .35)) ⊛ ‵
           (fdies (tyRef erased imm (tyArray (tyInt w32) 128)) (past .36)) ⊛ ‵
-          (fdies (tyRef erased imm (tyArray (tyInt w32) 128)) (past .37)) ⊛ ‵
-          (fdies (tyRef erased imm (tyArray (tyInt w32) 128)) (past .38)) ⊛ ‵ (fdies (tyRef erased mut (tyInt w8)) (past .39)) ⊛ ‵
-          (fdies (sliceTy (tyRef erased mut (tyInt w8))) (past .40)) ⊛ ‵ (fdies (tyRef erased mut (tyInt w16)) (past .41)) ⊛ ‵
-          (fdies (sliceTy (tyRef erased mut (tyInt w16))) (past .42)) ⊛ ‵ (fdies (tyRef erased mut (pointee (R .written))) (past .43)) ⊛
-          ‵ (fdies (sliceTy (tyRef erased mut (pointee (R .written)))) (past .44)) ⊛ ‵
+          (fdies (tyRef erased imm (tyArray (tyInt w32) 128)) (past .37)) ⊛ ‵ (fdies (tyRef erased mut (tyInt w8)) (past .38)) ⊛ ‵
+          (fdies (sliceTy (tyRef erased mut (tyInt w8))) (past .39)) ⊛ ‵ (fdies (tyRef erased mut (tyInt w16)) (past .40)) ⊛ ‵
+          (fdies (sliceTy (tyRef erased mut (tyInt w16))) (past .41)) ⊛ ‵ (fdies (tyRef erased mut (pointee (R .written))) (past .42)) ⊛
+          ‵ (fdies (sliceTy (tyRef erased mut (pointee (R .written)))) (past .43)) ⊛ ‵
+          (fdies (tyRef erased imm (tyArray (tyInt w32) 32)) (past .44)) ⊛ ‵
           (fdies (tyRef erased imm (tyArray (tyInt w32) 128)) (past .45))) ∷ ‵ (flft κ₁ q₁) ∷ ‵ (flft κ₂ q₂) ∷ ‵ (flft κ₄ q₄)
           ∷ ‵ (flft κ₅ q₅) ∷ ‵ (flft κ₆ q₆) ∷ ‵ Own₁ ∷ ‵ Own₂ ∷ ‵ Own₄ ∷ ‵ Own₇ ∷ ‵ Own₈
           ∷ ‵ (froom (tyRef erased imm (tyArray (tyInt w32) 128)) (past .45) 0)
-          ∷ ‵ (froom (sliceTy (tyRef erased mut (pointee (R .written)))) (past .44) 0)
-          ∷ ‵ (froom (tyRef erased mut (pointee (R .written))) (past .43) 0)
-          ∷ ‵ (froom (sliceTy (tyRef erased mut (tyInt w16))) (past .42) 0) ∷ ‵ (froom (tyRef erased mut (tyInt w16)) (past .41) 0)
-          ∷ ‵ (froom (sliceTy (tyRef erased mut (tyInt w8))) (past .40) 0) ∷ ‵ (froom (tyRef erased mut (tyInt w8)) (past .39) 0)
-          ∷ ‵ (froom (tyRef erased imm (tyArray (tyInt w32) 128)) (past .38) 0)
+          ∷ ‵ (froom (tyRef erased imm (tyArray (tyInt w32) 32)) (past .44) 0)
+          ∷ ‵ (froom (sliceTy (tyRef erased mut (pointee (R .written)))) (past .43) 0)
+          ∷ ‵ (froom (tyRef erased mut (pointee (R .written))) (past .42) 0)
+          ∷ ‵ (froom (sliceTy (tyRef erased mut (tyInt w16))) (past .41) 0) ∷ ‵ (froom (tyRef erased mut (tyInt w16)) (past .40) 0)
+          ∷ ‵ (froom (sliceTy (tyRef erased mut (tyInt w8))) (past .39) 0) ∷ ‵ (froom (tyRef erased mut (tyInt w8)) (past .38) 0)
           ∷ ‵ (froom (tyRef erased imm (tyArray (tyInt w32) 128)) (past .37) 0)
           ∷ ‵ (froom (tyRef erased imm (tyArray (tyInt w32) 128)) (past .36) 0)
-          ∷ ‵ (froom (tyRef erased mut (tyArray (tyInt w8) 32)) (past .35) 0)
-          ∷ ‵ (froom (tyRef erased mut (tyArray (tyInt w32) 32)) (past .34) 0)
-          ∷ ‵ (froom (tyRef erased mut (tyArray (tyInt w32) 128)) (past .33) 0)
-          ∷ ‵ (fat fullShare (tyRef erased mut (tyArray (tyInt w32) 128)) (past .32) 0 ((vptr (past .17) 0)))
-          ∷ ‵ (fat fullShare (sliceTy (tyRef erased imm (pointee (R .written)))) (past .31) 0 (s₃))
-          ∷ ‵ (fat fullShare (tyRef erased imm (pointee (R .written))) (past .30) 0 ((vptr (x₃ .ptr .0) (x₃ .ptr .1))))
-          ∷ ‵ (fat fullShare (tyRef erased mut (tyArray (tyInt w32) 128)) (past .29) 0 ((vptr (past .17) 0)))
-          ∷ ‵ (fat fullShare (sliceTy (tyRef erased imm (pointee (R .written)))) (past .28) 0 (s₃))
-          ∷ ‵ (fat fullShare (tyRef erased imm (pointee (R .written))) (past .27) 0 ((vptr (x₃ .ptr .0) (x₃ .ptr .1))))
-          ∷ ‵ (fat fullShare tyUnit (past .26) 0 ((past .60))) ∷ ‵ (fat fullShare (tyArray (tyInt w32) 128) (past .25) 0 ((past .59)))
-          ∷ ‵ (froom (tyInt w64) (past .24) 0) ∷ ‵ (froom clock-laws.mir (past .23) 0) ∷ ‵ (froom arrival-laws.mir (past .22) 0)
-          ∷ ‵ (froom flight-laws.mir (past .21) 0) ∷ ‵ (froom (tyArray (tyInt w32) 32) (past .20) 0)
-          ∷ ‵ (froom flushed-laws.mir (past .19) 0) ∷ ‵ (fat fullShare (tyInt w64) (past .18) 0 ((past .64)))
-          ∷ ‵ (fat fullShare (tyInt w64) (past .16) 0 ((past .57)))
-          ∷ ‵ (fat fullShare (tyArray (tyInt w32) 32) (past .15) 0 ((only ((array-vals (uint-vals w32)) (h .outstanding)))))
+          ∷ ‵ (froom (tyRef erased imm (tyArray (tyInt w32) 128)) (past .35) 0)
+          ∷ ‵ (froom (tyRef erased mut (tyArray (tyInt w8) 32)) (past .34) 0)
+          ∷ ‵ (froom (tyRef erased mut (tyArray (tyInt w32) 32)) (past .33) 0)
+          ∷ ‵ (froom (tyRef erased mut (tyArray (tyInt w32) 128)) (past .32) 0)
+          ∷ ‵ (fat fullShare (tyRef erased mut (tyArray (tyInt w32) 128)) (past .31) 0 ((vptr (past .16) 0)))
+          ∷ ‵ (fat fullShare (sliceTy (tyRef erased imm (pointee (R .written)))) (past .30) 0 (s₃))
+          ∷ ‵ (fat fullShare (tyRef erased imm (pointee (R .written))) (past .29) 0 ((vptr (x₃ .ptr .0) (x₃ .ptr .1))))
+          ∷ ‵ (fat fullShare (tyRef erased mut (tyArray (tyInt w32) 128)) (past .28) 0 ((vptr (past .16) 0)))
+          ∷ ‵ (fat fullShare (tyRef erased imm (tyArray (tyInt w32) 32)) (past .27) 0 ((vptr b (o + 636))))
+          ∷ ‵ (fat fullShare (sliceTy (tyRef erased imm (pointee (R .written)))) (past .26) 0 (s₃))
+          ∷ ‵ (fat fullShare (tyRef erased imm (pointee (R .written))) (past .25) 0 ((vptr (x₃ .ptr .0) (x₃ .ptr .1))))
+          ∷ ‵ (fat fullShare tyUnit (past .24) 0 ((past .60))) ∷ ‵ (fat fullShare (tyArray (tyInt w32) 128) (past .23) 0 ((past .59)))
+          ∷ ‵ (froom (tyInt w64) (past .22) 0) ∷ ‵ (froom clock-laws.mir (past .21) 0) ∷ ‵ (froom arrival-laws.mir (past .20) 0)
+          ∷ ‵ (froom flight-laws.mir (past .19) 0) ∷ ‵ (froom flushed-laws.mir (past .18) 0)
+          ∷ ‵ (fat fullShare (tyInt w64) (past .17) 0 ((past .64))) ∷ ‵ (fat fullShare (tyInt w64) (past .15) 0 ((past .57)))
           ∷ ‵ (fat fullShare clock-laws.mir (past .14) 0 ((only ((LL.vals clock-row.the-type clock-laws.the-laws) (h .clock)))))
           ∷ ‵ (fat fullShare arrival-laws.mir (past .13) 0 ((only ((LL.vals arrival-row.the-type arrival-laws.the-laws) (h .arrival)))))
           ∷ ‵ (fat fullShare flight-laws.mir (past .12) 0 ((only ((LL.vals flight-row.the-type flight-laws.the-laws) (h .flight)))))
@@ -1484,40 +1792,40 @@ module _ {M : Type 1} (𝓤 : URA M) (H : Heap 𝓤) (A : Atoms 𝓤) (W : Given
           (past .34) (past .35) (past .36) (past .37) (past .38) (past .39) (past .40) (past .41) (past .42) (past .43) (past .44)
           (past .45)) Post) $
           assigns ! {v = (vptr b (o + 124))} (addr ! (from ! (hop ! (look ! 68 refl) (fld ! {d = 124} refl (stop !))))) (from ! (stop !))
-          (init ! 38 refl (tt, tt)) $
+          (init ! 39 refl (tt, tt)) $
           assigns ! {v = (vptr b (o + 636))} (addr ! (from ! (hop ! (look ! 68 refl) (fld ! {d = 636} refl (stop !))))) (from ! (stop !))
-          (init ! 37 refl (tt, tt)) $
+          (init ! 38 refl (tt, tt)) $
           assigns ! {v = (vptr b (o + 764))} (addr ! (from ! (hop ! (look ! 68 refl) (fld ! {d = 764} refl (stop !))))) (from ! (stop !))
-          (init ! 36 refl (tt, tt)) $
+          (init ! 37 refl (tt, tt)) $
           assigns ! {v = (vptr b (o + 796))} (addr ! (from ! (hop ! (look ! 68 refl) (fld ! {d = 796} refl (stop !))))) (from ! (stop !))
-          (init ! 35 refl (tt, tt)) $
+          (init ! 36 refl (tt, tt)) $
           assigns ! {v = (vptr b (o + 1308))} (addr ! (from ! (hop ! (look ! 68 refl) (fld ! {d = 1308} refl (stop !))))) (from ! (stop !))
-          (init ! 34 refl (tt, tt)) $
+          (init ! 35 refl (tt, tt)) $
           assigns ! {v = (vptr b (o + 1820))} (addr ! (from ! (hop ! (look ! 68 refl) (fld ! {d = 1820} refl (stop !))))) (from ! (stop !))
-          (init ! 33 refl (tt, tt)) $
+          (init ! 34 refl (tt, tt)) $
           assigns ! {v = (vptr (x₇ .ptr .0) (x₇ .ptr .1))}
           (addr ! (from ! (fld ! refl (hop ! (look-in ! 61 (sub ! 0 refl (whole !))) (stop !))))) (from ! (stop !))
-          (init ! 32 refl (tt, tt)) $
-          assigns ! {v = s₇} (agg ! (and-then ! (load ! (from ! (stop !)) (look ! 32 refl))
+          (init ! 33 refl (tt, tt)) $
+          assigns ! {v = s₇} (agg ! (and-then ! (load ! (from ! (stop !)) (look ! 33 refl))
           (and-then ! (load ! (from ! (fld ! refl (stop !))) (look-in ! 61 (sub ! 1 refl (whole !)))) (no-more !)))) (from ! (stop !))
-          (init ! 31 refl (tt, (tt, (record { fits = room₇ .0 }, tt)))) $
+          (init ! 32 refl (tt, (tt, (record { fits = room₇ .0 }, tt)))) $
           assigns ! {v = (vptr (x₈ .ptr .0) (x₈ .ptr .1))}
           (addr ! (from ! (fld ! refl (hop ! (look-in ! 60 (sub ! 0 refl (whole !))) (stop !))))) (from ! (stop !))
-          (init ! 30 refl (tt, tt)) $
-          assigns ! {v = s₈} (agg ! (and-then ! (load ! (from ! (stop !)) (look ! 30 refl))
+          (init ! 31 refl (tt, tt)) $
+          assigns ! {v = s₈} (agg ! (and-then ! (load ! (from ! (stop !)) (look ! 31 refl))
           (and-then ! (load ! (from ! (fld ! refl (stop !))) (look-in ! 60 (sub ! 1 refl (whole !)))) (no-more !)))) (from ! (stop !))
-          (init ! 29 refl (tt, (tt, (record { fits = room₈ .0 }, tt)))) $
+          (init ! 30 refl (tt, (tt, (record { fits = room₈ .0 }, tt)))) $
           move ! (2 ∷ []) $ use1 W (‵ (cellAt fullShare ((tyArray (tyInt w32) 128) ∷ [])
-          ((only ((array-vals (uint-vals w32)) (past .0))) ∷ []) (past .17) 0))
-          (W .laws .at-raw fullShare (tyArray (tyInt w32) 128) (past .17) 0 (only ((array-vals (uint-vals w32)) (past .0)))) $
-          cell-in ! fullShare (Array u32 128) (array-makes 𝓤 H A W u32 (uint-makes 𝓤 H A W w32) 128) (past .0) (past .17) 0
+          ((only ((array-vals (uint-vals w32)) (past .0))) ∷ []) (past .16) 0))
+          (W .laws .at-raw fullShare (tyArray (tyInt w32) 128) (past .16) 0 (only ((array-vals (uint-vals w32)) (past .0)))) $
+          cell-in ! fullShare (Array u32 128) (array-makes 𝓤 H A W u32 (uint-makes 𝓤 H A W w32) 128) (past .0) (past .16) 0
           (only ((array-vals (uint-vals w32)) (past .0))) (past .62) $
-          lend-mut ! tt (Array u32 128) (past .0) (past .17) 0
+          lend-mut ! tt (Array u32 128) (past .0) (past .16) 0
           (λ α-local′ δ-local′. move ! (14 ∷ []) $
           lend-mut ! tt (Array u32 128) (h .queued) b (o + 124)
           (λ α-queued δ-queued. move ! (8 ∷ []) $
           lend-mut ! tt (Array u32 32) (h .outstanding) b (o + 636)
-          (λ α-outstanding δ-outstanding. move ! (18 ∷ []) $
+          (λ α-outstanding′ δ-outstanding′. move ! (18 ∷ []) $
           lend-mut ! tt (Array u8 32) (h .transmissions) b (o + 764)
           (λ α-transmissions δ-transmissions. move ! (20 ∷ []) $
           lend-shr ! tt fullShare (Array u32 128) (h .ready) b (o + 796)
@@ -1528,7 +1836,7 @@ module _ {M : Type 1} (𝓤 : URA M) (H : Heap 𝓤) (A : Atoms 𝓤) (W : Given
           (λ α-waiting-numbers δ-waiting-numbers. move ! (18 ∷ 19 ∷ 15 ∷ 16 ∷ 12 ∷ 13 ∷ 9 ∷ 10 ∷ 6 ∷ 7 ∷ 3 ∷ 4 ∷ 0 ∷ 1 ∷ 30
           ∷ 35 ∷ 31 ∷ 36 ∷ 32 ∷ 37 ∷ 33 ∷ 38 ∷ 34 ∷ 39 ∷ []) $ group ! 24 $
           calls-fn ! fm core.ended (core.clauses 𝓤 H A at-mem run) (known .4)
-          (to-core (past .17) α-local′ δ-local′ (past .0) α-queued δ-queued (h .queued) α-outstanding δ-outstanding (h .outstanding)
+          (to-core (past .16) α-local′ δ-local′ (past .0) α-queued δ-queued (h .queued) α-outstanding′ δ-outstanding′ (h .outstanding)
           α-transmissions δ-transmissions (h .transmissions) α-ready δ-ready (h .ready) α-waiting δ-waiting (h .waiting)
           α-waiting-numbers δ-waiting-numbers (h .«waiting_numbers») (h .settings)
           (only ((LL.vals settings-row.the-type settings-laws.the-laws) (h .settings))) (h .flight)
@@ -1541,10 +1849,10 @@ module _ {M : Type 1} (𝓤 : URA M) (H : Heap 𝓤) (A : Atoms 𝓤) (W : Given
           (h .waiting) (h .«waiting_numbers»))) (recordsIn (ws-a .1 .1 .1 .1 .0))
           (ws-a .1 .1 .1 .1 .1 .1 .1 .1 .1 .1 .1 .1 .1 .1 .1 .1 .1 .0) (ws-a .1 .1 .1 .1 .1 .1 .1 .1 .1 .1 .1 .1 .1 .1 .1 .1 .1 .1 .0))
           × (length (ws-a .1 .1 .1 .1 .0) ≡ 128)) (‵ (flft (α-local′ ∷ []) fullShare) ⊛ ‵
-          (MutRef (named 0) (α-local′ ∷ []) (Array u32 128) .own (ref-at (past .17) 0 δ-local′ (past .0)) ((vptr (past .17) 0) ∷ [])) ⊛
+          (MutRef (named 0) (α-local′ ∷ []) (Array u32 128) .own (ref-at (past .16) 0 δ-local′ (past .0)) ((vptr (past .16) 0) ∷ [])) ⊛
           ‵ (flft (α-queued ∷ []) fullShare) ⊛ ‵ (MutRef (named 0) (α-queued ∷ []) (Array u32 128) .own
-          (ref-at b (o + 124) δ-queued (h .queued)) ((vptr b (o + 124)) ∷ [])) ⊛ ‵ (flft (α-outstanding ∷ []) fullShare) ⊛ ‵
-          (MutRef (named 0) (α-outstanding ∷ []) (Array u32 32) .own (ref-at b (o + 636) δ-outstanding (h .outstanding))
+          (ref-at b (o + 124) δ-queued (h .queued)) ((vptr b (o + 124)) ∷ [])) ⊛ ‵ (flft (α-outstanding′ ∷ []) fullShare) ⊛ ‵
+          (MutRef (named 0) (α-outstanding′ ∷ []) (Array u32 32) .own (ref-at b (o + 636) δ-outstanding′ (h .outstanding))
           ((vptr b (o + 636)) ∷ [])) ⊛ ‵ (flft (α-transmissions ∷ []) fullShare) ⊛ ‵
           (MutRef (named 0) (α-transmissions ∷ []) (Array u8 32) .own (ref-at b (o + 764) δ-transmissions (h .transmissions))
           ((vptr b (o + 764)) ∷ [])) ⊛ ‵ (flft (α-ready ∷ []) fullShare) ⊛ ‵
@@ -1554,7 +1862,7 @@ module _ {M : Type 1} (𝓤 : URA M) (H : Heap 𝓤) (A : Atoms 𝓤) (W : Given
           (ShrRef (named 0) (α-waiting-numbers ∷ []) (Array u32 128) .own (ref-at b (o + 1820) δ-waiting-numbers (h .«waiting_numbers»))
           ((vptr b (o + 1820)) ∷ [])) ⊛ ‵ (flft κ₁ q₁) ⊛ ‵ Own₁ ⊛ ‵ (flft κ₂ q₂) ⊛ ‵ Own₂ ⊛ ‵ (flft κ₄ q₄) ⊛ ‵
           Own₄ ⊛ ‵ (flft κ₅ q₅) ⊛ ‵ Own₇ ⊛ ‵ (flft κ₆ q₆) ⊛ ‵ Own₈)
-          (asks-core (past .17) α-local′ δ-local′ (past .0) α-queued δ-queued (h .queued) α-outstanding δ-outstanding (h .outstanding)
+          (asks-core (past .16) α-local′ δ-local′ (past .0) α-queued δ-queued (h .queued) α-outstanding′ δ-outstanding′ (h .outstanding)
           α-transmissions δ-transmissions (h .transmissions) α-ready δ-ready (h .ready) α-waiting δ-waiting (h .waiting) α-waiting-numbers
           δ-waiting-numbers (h .«waiting_numbers») (h .settings)
           (only ((LL.vals settings-row.the-type settings-laws.the-laws) (h .settings))) (past .52) (h .flight)
@@ -1575,31 +1883,31 @@ module _ {M : Type 1} (𝓤 : URA M) (H : Heap 𝓤) (A : Atoms 𝓤) (W : Given
           (and-then ! (load ! (from ! (stop !)) (look ! 49 refl))
           (and-then ! (load ! (from ! (stop !)) (look ! 48 refl))
           (and-then ! (load ! (from ! (stop !)) (look ! 47 refl))
-          (and-then ! (load ! (from ! (stop !)) (look ! 30 refl))
-          (and-then ! (load ! (from ! (stop !)) (look ! 44 refl))
+          (and-then ! (load ! (from ! (stop !)) (look ! 31 refl))
+          (and-then ! (load ! (from ! (stop !)) (look ! 45 refl))
           (and-then ! (load ! (from ! (stop !)) (look ! 54 refl))
+          (and-then ! (load ! (from ! (stop !)) (look ! 30 refl))
           (and-then ! (load ! (from ! (stop !)) (look ! 29 refl))
           (and-then ! (load ! (from ! (stop !)) (look ! 28 refl))
           (and-then ! (load ! (from ! (stop !)) (look ! 27 refl))
           (and-then ! (load ! (from ! (stop !)) (look ! 26 refl))
           (and-then ! (load ! (from ! (stop !)) (look ! 25 refl))
-          (and-then ! (load ! (from ! (stop !)) (look ! 24 refl))
           (and-then ! (load ! (from ! (stop !)) (look ! 58 refl))
           (and-then ! (load ! (from ! (stop !)) (look ! 57 refl))
           (and-then ! (load ! (from ! (stop !)) (look ! 55 refl))
           (and-then ! (load ! (from ! (stop !)) (look ! 53 refl))
-          (and-then ! (load ! (from ! (stop !)) (look ! 22 refl))
-          (and-then ! (load ! (from ! (stop !)) (look ! 20 refl)) (no-more !))))))))))))))))))))
+          (and-then ! (load ! (from ! (stop !)) (look ! 23 refl))
+          (and-then ! (load ! (from ! (stop !)) (look ! 21 refl)) (no-more !))))))))))))))))))))
           (λ a w-a ws-a e-a is-a. land ! (from ! (stop !))
-          (init ! 44 refl (LL.lawful flushed-row.the-type flushed-laws.the-laws 𝓤 H A W .typed a (w-a ∷ []) is-a .0)) $
+          (init ! 45 refl (LL.lawful flushed-row.the-type flushed-laws.the-laws 𝓤 H A W .typed a (w-a ∷ []) is-a .0)) $
           spread W (‵ (flft (α-local′ ∷ []) fullShare))
-          (‵ (flft (α-queued ∷ []) fullShare) ∷ ‵ (flft (α-outstanding ∷ []) fullShare) ∷ ‵ (flft (α-transmissions ∷ []) fullShare)
+          (‵ (flft (α-queued ∷ []) fullShare) ∷ ‵ (flft (α-outstanding′ ∷ []) fullShare) ∷ ‵ (flft (α-transmissions ∷ []) fullShare)
           ∷ ‵ (flft (α-ready ∷ []) fullShare) ∷ ‵ (flft (α-waiting ∷ []) fullShare) ∷ ‵ (flft (α-waiting-numbers ∷ []) fullShare)
           ∷ ‵ (flft κ₁ q₁) ∷ ‵ (flft κ₂ q₂) ∷ ‵ (flft κ₄ q₄) ∷ ‵ (flft κ₅ q₅) ∷ ‵ (flft κ₆ q₆) ∷ ‵ ftrue
           ∷ []) (id⊢ 𝓤 _) $ move ! (13 ∷ []) $
           spread W (‵ ftrue) (‵ ftrue ∷ ‵ ftrue ∷ ‵ ftrue ∷ ‵ (fres δ-local′ ((Array u32 128) .coded .code (ws-a .1 .1 .1 .1 .0)))
           ∷ ‵ ftrue ∷ ‵ ftrue ∷ ‵ (fres δ-queued ((Array u32 128) .coded .code (ws-a .1 .1 .1 .1 .1 .1 .1 .0)))
-          ∷ ‵ (fres δ-outstanding ((Array u32 32) .coded .code (ws-a .1 .1 .1 .1 .1 .1 .1 .1 .0)))
+          ∷ ‵ (fres δ-outstanding′ ((Array u32 32) .coded .code (ws-a .1 .1 .1 .1 .1 .1 .1 .1 .0)))
           ∷ ‵ (fres δ-transmissions ((Array u8 32) .coded .code (ws-a .1 .1 .1 .1 .1 .1 .1 .1 .1 .0))) ∷ ‵ ftrue ∷ ‵ ftrue ∷ ‵ ftrue
           ∷ ‵ ftrue ∷ ‵ ftrue ∷ ‵ ftrue ∷ ‵ ftrue
           ∷ ‵ (fsep (finally u8 (x₇ .name) (ws-a .1 .1 .1 .1 .1 .1 .1 .1 .1 .1 .1 .1 .1 .1 .1 .1 .1 .0))
@@ -1611,15 +1919,15 @@ module _ {M : Type 1} (𝓤 : URA M) (H : Heap 𝓤) (A : Atoms 𝓤) (W : Given
           ∷ 54 ∷ 55 ∷ 56 ∷ 57 ∷ 58 ∷ 59 ∷ 60 ∷ 61 ∷ 62 ∷ 63 ∷ 64 ∷ 65 ∷ 66 ∷ 67 ∷ 68 ∷ 69 ∷ 70 ∷ 71 ∷ 72 ∷ 73 ∷ 74
           ∷ 75 ∷ 76 ∷ 77 ∷ 78 ∷ 79 ∷ 80 ∷ 81 ∷ 82 ∷ 83 ∷ 84 ∷ 85 ∷ 86 ∷ 87 ∷ 88 ∷ 89 ∷ 90 ∷ 91 ∷ 92 ∷ []) $
           move ! (4 ∷ []) $ fsplit ! $ move ! (1 ∷ []) $ feqL ! (λ len₇. move ! (5 ∷ []) $ fsplit ! $ move ! (1 ∷ []) $ feqL ! (λ len₈.
-          -- [fin8; fin7; fin:@16; fin:queued; fin:outstanding; fin:transmissions; tok:@16; tok:queued; tok:outstanding; tok:transmissions;
+          -- [fin8; fin7; fin:@15; fin:queued; fin:outstanding; fin:transmissions; tok:@15; tok:queued; tok:outstanding; tok:transmissions;
           -- tok:ready; tok:waiting; tok:«waiting_numbers»; tok1; tok2; tok4; tok7; tok8; lent:«waiting_numbers»; lent:waiting; lent:ready;
-          -- lent:transmissions; lent:outstanding; lent:queued; lent:@16; own3; tok3; F:clock; F:arrival; F:flight; F:settings; back;
+          -- lent:transmissions; lent:outstanding; lent:queued; lent:@15; own3; tok3; F:clock; F:arrival; F:flight; F:settings; back;
           -- opened; deaths; the locals]
-          move ! (6 ∷ 24 ∷ 2 ∷ []) $ back-mut ! tt (Array u32 128) (past .17) 0 (ws-a .1 .1 .1 .1 .0) $
+          move ! (6 ∷ 24 ∷ 2 ∷ []) $ back-mut ! tt (Array u32 128) (past .16) 0 (ws-a .1 .1 .1 .1 .0) $
           cell-out ! fullShare (Array u32 128) (array-vals (uint-vals w32)) (array-tells u32 (uint-vals w32) (uint-tells w32) 128)
-          (ws-a .1 .1 .1 .1 .0) (past .17) 0 (λ was-local-2. use1 W
-          (‵ (fat fullShare (tyArray (tyInt w32) 128) (past .17) 0 (only ((array-vals (uint-vals w32)) (ws-a .1 .1 .1 .1 .0)))))
-          (W .laws .raw-at fullShare (tyArray (tyInt w32) 128) (past .17) 0
+          (ws-a .1 .1 .1 .1 .0) (past .16) 0 (λ was-local-2. use1 W
+          (‵ (fat fullShare (tyArray (tyInt w32) 128) (past .16) 0 (only ((array-vals (uint-vals w32)) (ws-a .1 .1 .1 .1 .0)))))
+          (W .laws .raw-at fullShare (tyArray (tyInt w32) 128) (past .16) 0
           (only ((array-vals (uint-vals w32)) (ws-a .1 .1 .1 .1 .0)))) $
           move ! (6 ∷ 22 ∷ 3 ∷ []) $ back-mut ! tt (Array u32 128) b (o + 124) (ws-a .1 .1 .1 .1 .1 .1 .1 .0) $ move ! (6 ∷ 20 ∷ 4 ∷ []) $
           back-mut ! tt (Array u32 32) b (o + 636) (ws-a .1 .1 .1 .1 .1 .1 .1 .1 .0) $ move ! (6 ∷ 18 ∷ 5 ∷ []) $
@@ -1793,15 +2101,7 @@ module _ {M : Type 1} (𝓤 : URA M) (H : Heap 𝓤) (A : Atoms 𝓤) (W : Given
           (init ! 56 refl (LL.lawful clock-row.the-type clock-laws.the-laws 𝓤 H A W .typed (h .clock)
           ((only ((LL.vals clock-row.the-type clock-laws.the-laws) (h .clock))) ∷ []) was-clock .0)) $
           cell-in ! fullShare clock-row.the-row (LL.makes clock-row.the-type clock-laws.the-plain 𝓤 H A) (h .clock) b (o + 104)
-          (only ((LL.vals clock-row.the-type clock-laws.the-laws) (h .clock))) was-clock $ move ! (8 ∷ []) $
-          cell-out ! fullShare (Array u32 32) (array-vals (uint-vals w32)) (array-tells u32 (uint-vals w32) (uint-tells w32) 32)
-          (h .outstanding) b (o + 636) (λ was-outstanding.
-          assigns ! {v = (only ((array-vals (uint-vals w32)) (h .outstanding)))}
-          (of-opd ! (load ! (from ! (hop ! (look ! 68 refl) (fld ! {d = 636} refl (stop !)))) (look-raw ! 0 refl))) (from ! (stop !))
-          (init ! 55 refl (array-typed u32 (uint-lawful 𝓤 H A W w32 .typed) 32 (h .outstanding)
-          ((only ((array-vals (uint-vals w32)) (h .outstanding))) ∷ []) was-outstanding .0)) $
-          cell-in ! fullShare (Array u32 32) (array-makes 𝓤 H A W u32 (uint-makes 𝓤 H A W w32) 32) (h .outstanding) b (o + 636)
-          (only ((array-vals (uint-vals w32)) (h .outstanding))) was-outstanding $ nothing ! $
+          (only ((LL.vals clock-row.the-type clock-laws.the-laws) (h .clock))) was-clock $ nothing ! $
           calls-fn ! fm count-of.ended (count-of.clauses 𝓤 H A at-mem run) (known .0)
           ((tt, tt, tt, ((h .flight), tt), ((only ((LL.vals flight-row.the-type flight-laws.the-laws) (h .flight))) ∷ [], tt)), tt)
           (λ n _. n ≡ h .flight .outstanding)
@@ -1809,84 +2109,92 @@ module _ {M : Type 1} (𝓤 : URA M) (H : Heap 𝓤) (A : Atoms 𝓤) (W : Given
           ((h .flight), tt) ((only ((LL.vals flight-row.the-type flight-laws.the-laws) (h .flight))) ∷ [], tt) (was-flight, tt))
           (λ n _. id⊢ 𝓤 _)
           (and-then ! (load ! (from ! (stop !)) (look ! 59 refl)) (no-more !))
-          (λ n w-n _ e-n is-n. drop ! $ drop ! $ land ! (from ! (stop !)) (init ! 54 refl (uint-lawful 𝓤 H A W w64 .typed n _ is-n .0)) $
+          (λ n w-n _ e-n is-n. drop ! $ drop ! $ land ! (from ! (stop !)) (init ! 55 refl (uint-lawful 𝓤 H A W w64 .typed n _ is-n .0)) $
           nothing ! $ calls-fn ! fm none-of.ended (none-of.clauses 𝓤 H A at-mem run) (known .1) ((tt, tt, tt, tt, tt), tt)
           (λ blanks _. blanks ≡ replicate 128 0)
           (‵ ftrue) (plainly 𝓤 H A W ([]) tt tt tt tt) (λ blanks _. id⊢ 𝓤 _)
           (no-more !) (λ blanks w-blanks _ e-blanks is-blanks. drop ! $ drop ! $
-          land ! (from ! (stop !)) (init ! 45 refl (array-typed u32 (uint-lawful 𝓤 H A W w32 .typed) 128 blanks (w-blanks ∷ []) is-blanks
+          land ! (from ! (stop !)) (init ! 47 refl (array-typed u32 (uint-lawful 𝓤 H A W w32 .typed) 128 blanks (w-blanks ∷ []) is-blanks
           .0)) $
-          assigns ! {v = w-blanks} (of-opd ! (load ! (from ! (stop !)) (look ! 45 refl))) (from ! (stop !))
-          (init ! 53 refl (array-typed u32 (uint-lawful 𝓤 H A W w32 .typed) 128 blanks (w-blanks ∷ []) is-blanks .0)) $
+          assigns ! {v = w-blanks} (of-opd ! (load ! (from ! (stop !)) (look ! 47 refl))) (from ! (stop !))
+          (init ! 54 refl (array-typed u32 (uint-lawful 𝓤 H A W w32 .typed) 128 blanks (w-blanks ∷ []) is-blanks .0)) $
           assigns ! {v = (vptr (x₃ .ptr .0) (x₃ .ptr .1))}
           (addr ! (from ! (fld ! refl (hop ! (look-in ! 65 (sub ! 0 refl (whole !))) (stop !))))) (from ! (stop !))
-          (init ! 43 refl (tt, tt)) $
-          assigns ! {v = s₃} (agg ! (and-then ! (load ! (from ! (stop !)) (look ! 43 refl))
+          (init ! 45 refl (tt, tt)) $
+          assigns ! {v = s₃} (agg ! (and-then ! (load ! (from ! (stop !)) (look ! 45 refl))
           (and-then ! (load ! (from ! (fld ! refl (stop !))) (look-in ! 65 (sub ! 1 refl (whole !)))) (no-more !)))) (from ! (stop !))
-          (init ! 42 refl (tt, (tt, (record { fits = room₃ .0 }, tt)))) $
-          assigns ! {v = (vptr l₁₆ 0)} (addr ! (from ! (stop !))) (from ! (stop !)) (init ! 41 refl (tt, tt)) $
-          move ! (53 ∷ []) $ use1 W (‵ (cellAt fullShare ((tyArray (tyInt w32) 128) ∷ []) (w-blanks ∷ []) l₁₆ 0))
-          (W .laws .at-raw fullShare (tyArray (tyInt w32) 128) l₁₆ 0 w-blanks) $
-          cell-in ! fullShare (Array u32 128) (array-makes 𝓤 H A W u32 (uint-makes 𝓤 H A W w32) 128) blanks l₁₆ 0 w-blanks is-blanks $
-          lend-mut ! tt (Array u32 128) blanks l₁₆ 0
-          (λ α-local δ-local. lft-new ! tt (λ β₃. move ! (25 ∷ 19 ∷ []) $
+          (init ! 44 refl (tt, (tt, (record { fits = room₃ .0 }, tt)))) $
+          assigns ! {v = (vptr b (o + 636))} (addr ! (from ! (hop ! (look ! 68 refl) (fld ! {d = 636} refl (stop !))))) (from ! (stop !))
+          (init ! 43 refl (tt, tt)) $
+          assigns ! {v = (vptr l₁₅ 0)} (addr ! (from ! (stop !))) (from ! (stop !)) (init ! 42 refl (tt, tt)) $
+          move ! (8 ∷ []) $ lend-shr ! tt fullShare (Array u32 32) (h .outstanding) b (o + 636)
+          (λ α-outstanding δ-outstanding. move ! (56 ∷ []) $
+          use1 W (‵ (cellAt fullShare ((tyArray (tyInt w32) 128) ∷ []) (w-blanks ∷ []) l₁₅ 0))
+          (W .laws .at-raw fullShare (tyArray (tyInt w32) 128) l₁₅ 0 w-blanks) $
+          cell-in ! fullShare (Array u32 128) (array-makes 𝓤 H A W u32 (uint-makes 𝓤 H A W w32) 128) blanks l₁₅ 0 w-blanks is-blanks $
+          lend-mut ! tt (Array u32 128) blanks l₁₅ 0
+          (λ α-local δ-local. lft-new ! tt (λ β₃. move ! (27 ∷ 21 ∷ []) $
           use2 W (later (some (λ (δ : GName). ‵ (Shared₃ β₃ δ) ⊛ ‵
           (LentShared R κ₃ (β₃ ∷ []) q₃ (x₃ .name) (x₃ .ptr .0) (x₃ .ptr .1) (x₃ .now)))))
           (lends-shared R κ₃ (β₃ ∷ []) q₃ (x₃ .name) (x₃ .ptr .0) (x₃ .ptr .1) (x₃ .now) 𝓤 H A W) $ await ! tt $
           pick ! (λ β-name₃. split ! $
-          -- [shown3; blent3; btok3; tok:@16; own:@16; lent:@16; F:outstanding; F:clock; F:arrival; F:flight; F:settings;
-          -- F:«waiting_numbers»; F:waiting; F:ready; F:transmissions; F:queued; back; opened; deaths; tok1; tok2; tok4; tok7; tok8; own1;
-          -- own2; own4; own7; own8; the locals]
+          -- [shown3; blent3; btok3; tok:@15; own:@15; lent:@15; tok:outstanding; own:outstanding; lent:outstanding; F:clock; F:arrival;
+          -- F:flight; F:settings; F:«waiting_numbers»; F:waiting; F:ready; F:transmissions; F:queued; back; opened; deaths; tok1; tok2;
+          -- tok4; tok7; tok8; own1; own2; own4; own7; own8; the locals]
           use1 W (‵ (Shared₃ β₃ β-name₃) ⊛ ‵ (Shared₃ β₃ β-name₃))
           (shr-slice-copy 𝓤 H A W (named 0) (β₃ ∷ []) R .twice (shown-at₃ β-name₃) (s₃ ∷ [])) $ split ! $
-          move ! (3 ∷ 0 ∷ 4 ∷ 5 ∷ []) $ group ! 4 $
+          move ! (3 ∷ 0 ∷ 7 ∷ 8 ∷ 4 ∷ 5 ∷ []) $ group ! 6 $
           calls-fn ! fm gather.ended (gather.clauses 𝓤 H A at-mem run) (known .2)
-          (to-gather β₃ β-name₃ l₁₆ α-local δ-local blanks (h .outstanding) (only ((array-vals (uint-vals w32)) (h .outstanding))) n
-          w-n) (λ g ws-g. (length (ws-g .1 .1 .1 .0) ≡ 128) ×
+          (to-gather β₃ β-name₃ α-outstanding δ-outstanding (h .outstanding) l₁₅ α-local δ-local blanks n w-n)
+          (λ g ws-g. (length (ws-g .1 .1 .1 .0) ≡ 128) ×
           (recordsIn (ws-g .1 .1 .1 .0) ≡ padded (gathered (take sendSlots (x₃ .now)) (slotsIn (h .outstanding) n))))
-          (‵ (flft (β₃ ∷ []) fullShare) ⊛ ‵ (Shared₃ β₃ β-name₃) ⊛ ‵ (flft (α-local ∷ []) fullShare) ⊛ ‵
-          (MutRef (named 0) (α-local ∷ []) (Array u32 128) .own (ref-at l₁₆ 0 δ-local blanks) ((vptr l₁₆ 0) ∷ [])))
-          (asks-gather β₃ β-name₃ l₁₆ α-local δ-local blanks (h .outstanding) (only ((array-vals (uint-vals w32)) (h .outstanding)))
-          was-outstanding n w-n is-n (e-blanks)) (λ g ws-g. id⊢ 𝓤 _)
-          (and-then ! (load ! (from ! (stop !)) (look ! 44 refl))
-          (and-then ! (load ! (from ! (stop !)) (look ! 56 refl))
-          (and-then ! (load ! (from ! (stop !)) (look ! 55 refl)) (and-then ! (load ! (from ! (stop !)) (look ! 43 refl)) (no-more !)))))
-          (λ g w-g ws-g e-g is-g. land ! (from ! (stop !)) (init ! 47 refl (nothing-lawful 𝓤 H A W .typed g _ is-g .0)) $
-          spread W (‵ (flft (β₃ ∷ []) fullShare)) (‵ (flft (α-local ∷ []) fullShare) ∷ ‵ ftrue ∷ []) (id⊢ 𝓤 _) $ move ! (3 ∷ []) $
+          (‵ (flft (β₃ ∷ []) fullShare) ⊛ ‵ (Shared₃ β₃ β-name₃) ⊛ ‵ (flft (α-outstanding ∷ []) fullShare) ⊛ ‵
+          (ShrRef (named 0) (α-outstanding ∷ []) (Array u32 32) .own (ref-at b (o + 636) δ-outstanding (h .outstanding))
+          ((vptr b (o + 636)) ∷ [])) ⊛ ‵ (flft (α-local ∷ []) fullShare) ⊛ ‵
+          (MutRef (named 0) (α-local ∷ []) (Array u32 128) .own (ref-at l₁₅ 0 δ-local blanks) ((vptr l₁₅ 0) ∷ [])))
+          (asks-gather β₃ β-name₃ α-outstanding δ-outstanding (h .outstanding) l₁₅ α-local δ-local blanks n w-n is-n
+          (len-outstanding, e-blanks)) (λ g ws-g. id⊢ 𝓤 _)
+          (and-then ! (load ! (from ! (stop !)) (look ! 46 refl))
+          (and-then ! (load ! (from ! (stop !)) (look ! 45 refl))
+          (and-then ! (load ! (from ! (stop !)) (look ! 56 refl)) (and-then ! (load ! (from ! (stop !)) (look ! 44 refl)) (no-more !)))))
+          (λ g w-g ws-g e-g is-g. land ! (from ! (stop !)) (init ! 49 refl (nothing-lawful 𝓤 H A W .typed g _ is-g .0)) $
+          spread W (‵ (flft (β₃ ∷ []) fullShare)) (‵ (flft (α-outstanding ∷ []) fullShare) ∷ ‵ (flft (α-local ∷ []) fullShare) ∷ ‵ ftrue
+          ∷ []) (id⊢ 𝓤 _) $ move ! (4 ∷ []) $
           spread W (‵ ftrue) (‵ ftrue ∷ ‵ ftrue ∷ ‵ (fres δ-local ((Array u32 128) .coded .code (ws-g .1 .1 .1 .0))) ∷ ‵ ftrue ∷ [])
-          (id⊢ 𝓤 _) $ keep ! (3 ∷ 5 ∷ 6 ∷ 8 ∷ 9 ∷ 10 ∷ 11 ∷ 12 ∷ 13 ∷ 14 ∷ 15 ∷ 16 ∷ 17 ∷ 18 ∷ 19 ∷ 20 ∷ 21 ∷ 22
+          (id⊢ 𝓤 _) $ keep ! (3 ∷ 5 ∷ 6 ∷ 7 ∷ 9 ∷ 10 ∷ 11 ∷ 12 ∷ 13 ∷ 14 ∷ 15 ∷ 16 ∷ 17 ∷ 18 ∷ 19 ∷ 20 ∷ 21 ∷ 22
           ∷ 23 ∷ 24 ∷ 25 ∷ 26 ∷ 27 ∷ 28 ∷ 29 ∷ 30 ∷ 31 ∷ 32 ∷ 33 ∷ 34 ∷ 35 ∷ 36 ∷ 37 ∷ 38 ∷ 39 ∷ 40 ∷ 41 ∷ 42 ∷ 43
           ∷ 44 ∷ 45 ∷ 46 ∷ 47 ∷ 48 ∷ 49 ∷ 50 ∷ 51 ∷ 52 ∷ 53 ∷ 54 ∷ 55 ∷ 56 ∷ 57 ∷ 58 ∷ 59 ∷ 60 ∷ 61 ∷ 62 ∷ 63 ∷ 64
-          ∷ 65 ∷ 66 ∷ 67 ∷ 68 ∷ 69 ∷ 70 ∷ 71 ∷ 72 ∷ 73 ∷ 74 ∷ 75 ∷ 76 ∷ 77 ∷ []) $
-          -- [fin:@16; btok3; tok:@16; shown3; blent3; lent:@16; F:outstanding; F:clock; F:arrival; F:flight; F:settings;
-          -- F:«waiting_numbers»; F:waiting; F:ready; F:transmissions; F:queued; back; opened; deaths; tok1; tok2; tok4; tok7; tok8; own1;
-          -- own2; own4; own7; own8; the locals]
-          move ! (2 ∷ 5 ∷ 0 ∷ []) $ back-mut ! tt (Array u32 128) l₁₆ 0 (ws-g .1 .1 .1 .0) $
+          ∷ 65 ∷ 66 ∷ 67 ∷ 68 ∷ 69 ∷ 70 ∷ 71 ∷ 72 ∷ 73 ∷ 74 ∷ 75 ∷ 76 ∷ 77 ∷ 78 ∷ []) $
+          -- [fin:@15; btok3; tok:outstanding; tok:@15; shown3; blent3; lent:@15; lent:outstanding; F:clock; F:arrival; F:flight;
+          -- F:settings; F:«waiting_numbers»; F:waiting; F:ready; F:transmissions; F:queued; back; opened; deaths; tok1; tok2; tok4; tok7;
+          -- tok8; own1; own2; own4; own7; own8; the locals]
+          move ! (2 ∷ 7 ∷ []) $ back-shr ! tt fullShare (Array u32 32) b (o + 636) (h .outstanding) $ move ! (3 ∷ 6 ∷ 1 ∷ []) $
+          back-mut ! tt (Array u32 128) l₁₅ 0 (ws-g .1 .1 .1 .0) $
           cell-out ! fullShare (Array u32 128) (array-vals (uint-vals w32)) (array-tells u32 (uint-vals w32) (uint-tells w32) 128)
-          (ws-g .1 .1 .1 .0) l₁₆ 0 (λ was-local-1. use1 W
-          (‵ (fat fullShare (tyArray (tyInt w32) 128) l₁₆ 0 (only ((array-vals (uint-vals w32)) (ws-g .1 .1 .1 .0)))))
-          (W .laws .raw-at fullShare (tyArray (tyInt w32) 128) l₁₆ 0 (only ((array-vals (uint-vals w32)) (ws-g .1 .1 .1 .0)))) $
+          (ws-g .1 .1 .1 .0) l₁₅ 0 (λ was-local-1. use1 W
+          (‵ (fat fullShare (tyArray (tyInt w32) 128) l₁₅ 0 (only ((array-vals (uint-vals w32)) (ws-g .1 .1 .1 .0)))))
+          (W .laws .raw-at fullShare (tyArray (tyInt w32) 128) l₁₅ 0 (only ((array-vals (uint-vals w32)) (ws-g .1 .1 .1 .0)))) $
           assigns ! {v = (vptr (x₃ .ptr .0) (x₃ .ptr .1))}
           (addr ! (from ! (fld ! refl (hop ! (look-in ! 66 (sub ! 0 refl (whole !))) (stop !))))) (from ! (stop !))
-          (init ! 42 refl (tt, tt)) $
-          assigns ! {v = s₃} (agg ! (and-then ! (load ! (from ! (stop !)) (look ! 42 refl))
+          (init ! 43 refl (tt, tt)) $
+          assigns ! {v = s₃} (agg ! (and-then ! (load ! (from ! (stop !)) (look ! 43 refl))
           (and-then ! (load ! (from ! (fld ! refl (stop !))) (look-in ! 66 (sub ! 1 refl (whole !)))) (no-more !)))) (from ! (stop !))
-          (init ! 41 refl (tt, (tt, (record { fits = room₃ .0 }, tt)))) $
-          move ! (1 ∷ 2 ∷ []) $ join ! $ calls-fn ! fm table-len.ended (table-len.clauses 𝓤 H A at-mem run) (known .3)
+          (init ! 42 refl (tt, (tt, (record { fits = room₃ .0 }, tt)))) $
+          move ! (2 ∷ 3 ∷ []) $ join ! $ calls-fn ! fm table-len.ended (table-len.clauses 𝓤 H A at-mem run) (known .3)
           (to-table-len β₃ β-name₃) (λ m ws-m. m ≡ length (x₃ .now)) (‵ (flft (β₃ ∷ []) fullShare) ⊛ ‵ (Shared₃ β₃ β-name₃))
           (asks-table-len β₃ β-name₃) (λ m ws-m. id⊢ 𝓤 _)
-          (and-then ! (load ! (from ! (stop !)) (look ! 40 refl)) (no-more !))
-          (λ m w-m ws-m e-m is-m. land ! (from ! (stop !)) (init ! 54 refl (uint-lawful 𝓤 H A W w64 .typed m _ is-m .0)) $
+          (and-then ! (load ! (from ! (stop !)) (look ! 41 refl)) (no-more !))
+          (λ m w-m ws-m e-m is-m. land ! (from ! (stop !)) (init ! 55 refl (uint-lawful 𝓤 H A W w64 .typed m _ is-m .0)) $
           spread W (‵ (flft (β₃ ∷ []) fullShare)) (‵ ftrue ∷ []) (id⊢ 𝓤 _) $ move ! (2 ∷ []) $
           spread W (‵ ftrue) (‵ ftrue ∷ []) (id⊢ 𝓤 _) $
           keep ! (2 ∷ 4 ∷ 5 ∷ 6 ∷ 7 ∷ 8 ∷ 9 ∷ 10 ∷ 11 ∷ 12 ∷ 13 ∷ 14 ∷ 15 ∷ 16 ∷ 17 ∷ 18 ∷ 19 ∷ 20 ∷ 21 ∷ 22 ∷ 23
           ∷ 24 ∷ 25 ∷ 26 ∷ 27 ∷ 28 ∷ 29 ∷ 30 ∷ 31 ∷ 32 ∷ 33 ∷ 34 ∷ 35 ∷ 36 ∷ 37 ∷ 38 ∷ 39 ∷ 40 ∷ 41 ∷ 42 ∷ 43 ∷ 44
           ∷ 45 ∷ 46 ∷ 47 ∷ 48 ∷ 49 ∷ 50 ∷ 51 ∷ 52 ∷ 53 ∷ 54 ∷ 55 ∷ 56 ∷ 57 ∷ 58 ∷ 59 ∷ 60 ∷ 61 ∷ 62 ∷ 63 ∷ 64 ∷ 65
           ∷ 66 ∷ 67 ∷ 68 ∷ 69 ∷ 70 ∷ 71 ∷ 72 ∷ []) $
-          -- [btok3; blent3; F:outstanding; F:clock; F:arrival; F:flight; F:settings; F:«waiting_numbers»; F:waiting; F:ready;
+          -- [btok3; F:outstanding; blent3; F:clock; F:arrival; F:flight; F:settings; F:«waiting_numbers»; F:waiting; F:ready;
           -- F:transmissions; F:queued; back; opened; deaths; tok1; tok2; tok4; tok7; tok8; own1; own2; own4; own7; own8; the locals]
-          assigns ! {v = (vptr l₁₆ 0)} (addr ! (from ! (stop !))) (from ! (stop !)) (init ! 39 refl (tt, tt)) $
-          move ! (0 ∷ 2 ∷ []) $ lft-end ! tt $
+          assigns ! {v = (vptr l₁₅ 0)} (addr ! (from ! (stop !))) (from ! (stop !)) (init ! 40 refl (tt, tt)) $
+          move ! (0 ∷ 3 ∷ []) $ lft-end ! tt $
           use2 W (later (‵ Own₃ ⊛ ‵ (flft κ₃ q₃))) (shared-back R κ₃ (β₃ ∷ []) q₃ (x₃ .name) (x₃ .ptr .0) (x₃ .ptr .1)
           (x₃ .now) 𝓤 H A W room₃) $ await ! tt $ split ! $
           -- [own3; tok3; F:outstanding; F:clock; F:arrival; F:flight; F:settings; F:«waiting_numbers»; F:waiting; F:ready; F:transmissions;

@@ -62,9 +62,9 @@ same-length c =
 returns : tie.Need-returns Inv-loop μ-loop
 returns c =
     let put = c .before .before in
-    let told = put .before .before .before in
-    let l = told .before .before .before in
-    let none = ended _ _ _ _ _ (l .loop .inv .3 .1) (sym (told .before .before .segment-at .ensures) ∙ told .enum-told .given .1) in
+    let branch = put .before .before .before in
+    let l = branch .before .before .before in
+    let none = ended _ _ _ _ _ (l .loop .inv .3 .1) (sym (branch .before .before .segment-at .ensures) ∙ branch .enum-told .given .1) in
     left-last _ _ _ _ _ _ _ _ _ _ (l .loop .inv .3 .2) none (put .before .count-line .ensures) (put .put-line .ensures)
 
 put-line-requires-2 : tie.Need-put-line-requires-2 Inv-loop μ-loop

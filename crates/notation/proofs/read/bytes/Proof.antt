@@ -16,14 +16,15 @@ decode-requires c κs = fits _ _ _ (c .before .if2 .taken)
 returns-2 : tie.Need-returns-2
 returns-2 c =
     let decoded = c .before .before in
-    let told = decoded .before .before .before in
-    read-hex _ _ _ (sym (told .before .before .is-dash .ensures) ∙ told .before .if1 .left)
-    (rw (told .is-hex .ensures) at (decoded .before .before .if2 .taken)) (decoded .decode .ensures)
+    let branch = decoded .before .before .before in
+    read-hex _ _ _ (sym (branch .before .before .is-dash .ensures) ∙ branch .before .if1 .left)
+    (rw (branch .is-hex .ensures) at (decoded .before .before .if2 .taken)) (decoded .decode .ensures)
 
 returns-3 : tie.Need-returns-3
 returns-3 c =
-    let told = c .before in
-    read-none _ _ (sym (told .before .before .is-dash .ensures) ∙ told .before .if1 .left) (rw (told .is-hex .ensures) at (c .if2 .left))
+    let branch = c .before in
+    read-none _ _ (sym (branch .before .before .is-dash .ensures) ∙ branch .before .if1 .left)
+    (rw (branch .is-hex .ensures) at (c .if2 .left))
 
 pub bytes-spec : {M : Type 1} → statement M
 bytes-spec =

@@ -16,18 +16,18 @@ use Rattle.transmit.proofs.WalkLaws.{
   walking-room,
   walking-inside,
   walking-sent,
-  walking-kept,
+  walking-unchanged,
   walking-done,
 }
 use Rattle.transmit.proofs.transmitting.put_outstanding.Statement.{statement}
 use Rattle.transmit.proofs.transmitting.put_outstanding.Tie as tie
 
 abbrev Inv-loop : tie.InvT-loop
-Inv-loop flush words ts₀ rs₀ n pool out₀ lengths₀ k₀ dead₀ late₀ fast₀ i₀ transmissions records out lengths k dead late fast i =
-    Walking flush n pool k₀ out₀ lengths₀ (sents words ts₀ (recordsIn rs₀)) words transmissions records k out lengths dead late fast i
+Inv-loop flush words ts₀ rs₀ n pool out₀ lengths₀ k₀ dead₀ late₀ fast₀ sent₀ i₀ transmissions records out lengths k dead late fast sent i =
+    Walking flush n pool k₀ out₀ lengths₀ (sents words ts₀ (recordsIn rs₀)) words transmissions records k out lengths dead late fast sent i
 
 abbrev μ-loop : tie.MeasureT-loop
-μ-loop flush words ts₀ rs₀ n pool out₀ lengths₀ k₀ dead₀ late₀ fast₀ i₀ transmissions records out lengths k dead late fast i =
+μ-loop flush words ts₀ rs₀ n pool out₀ lengths₀ k₀ dead₀ late₀ fast₀ sent₀ i₀ transmissions records out lengths k dead late fast sent i =
     n - i
 
 loop-holds : tie.Need-loop-holds Inv-loop μ-loop
@@ -56,9 +56,9 @@ put-sent-requires c κs =
     let p = entry .pre in
     let w = head .loop .inv in
     let here = turn .loop-test .taken in (
-      walking-room _ _ _ _ _ _ _ _ _ _ _ _ _ _ _ _ _ w here (p .0),
+      walking-room _ _ _ _ _ _ _ _ _ _ _ _ _ _ _ _ _ _ w here (p .0),
       p .1 .mtu,
-      walking-inside _ _ _ _ _ _ _ _ _ _ _ _ _ _ _ _ _ w here (p .1 .whole) blank _
+      walking-inside _ _ _ _ _ _ _ _ _ _ _ _ _ _ _ _ _ _ w here (p .1 .whole) blank _
           (rw (← (sents-take (a .words .now) (a .transmissions .now) (recordsIn (a .records .now)) (a .n))) (p .1 .inside)),
       p .1 .slots,
     )
@@ -76,19 +76,19 @@ loop-again c =
     let rule = rw (read .at .ensures) at (called .transmission .ensures) in
     ⊎-elim
     (λ w.
-    walking-as (w .15) (w .16) (w .17) (w .18) (w .19) (w .20) (w .21) (w .22)
-    (walking-sent _ _ _ _ _ _ _ _ _ _ _ _ _ _ _ _ _ (head .loop .inv) (turn .loop-test .taken) (p .whole) blank _
+    walking-as (w .15) (w .16) (w .17) (w .18) (w .19) (w .20) (w .21) (w .22) (w .23)
+    (walking-sent _ _ _ _ _ _ _ _ _ _ _ _ _ _ _ _ _ _ (head .loop .inv) (turn .loop-test .taken) (p .whole) blank _
     rule _ _ _ _ (w .0 .taken) (w .3 .ensures) (w .7 .ensures)))
     (λ w.
-    walking-as (w .1) (w .2) (w .3) (w .4) (w .5) (w .6) (w .7) (w .8)
-    (walking-kept _ _ _ _ _ _ _ _ _ _ _ _ _ _ _ _ _ (head .loop .inv) (turn .loop-test .taken) (p .whole) blank _
+    walking-as (w .1) (w .2) (w .3) (w .4) (w .5) (w .6) (w .7) (w .8) (w .9)
+    (walking-unchanged _ _ _ _ _ _ _ _ _ _ _ _ _ _ _ _ _ _ (head .loop .inv) (turn .loop-test .taken) (p .whole) blank _
     rule (w .0 .left)))
     (c .if1 .came)
 
 returns : tie.Need-returns Inv-loop μ-loop
 returns c =
     let p = c .before .before .before .before .before .pre .1 in
-    walking-done _ _ _ _ _ _ _ _ _ _ _ _ _ _ _ _ _ (c .before .loop .inv) _ _ refl (p .whole) (c .loop-test .left)
+    walking-done _ _ _ _ _ _ _ _ _ _ _ _ _ _ _ _ _ _ (c .before .loop .inv) _ _ refl (p .whole) (c .loop-test .left)
 
 pub put-outstanding-spec : {M : Type 1} → statement M
 put-outstanding-spec =
