@@ -13,16 +13,16 @@ from walk import Par, low
 
 SETTINGS, FLIGHT = Declared('protocol', 'Settings'), Declared('control', 'Flight')
 ARRIVAL, CLOCK = Declared('control', 'Arrival'), Declared('control', 'Clock')
-OPENED, SENT, TAKEN = Declared('open_core', 'Opened'), Declared('send_core', 'Sent'), Declared('input_core', 'Taken')
+OPENED, SUBMITTED, TAKEN = Declared('open_core', 'Opened'), Declared('send_core', 'Submitted'), Declared('input_core', 'Taken')
 FLUSHED, DELIVERED, PLACE = Declared('flush_core', 'Flushed'), Declared('read_core', 'Delivered'), Declared('read_core', 'Place')
 COUNT, TIME = Declared('answers', 'Count', 'EL'), Declared('answers', 'Time', 'EL')
-DECLARED = [SETTINGS, FLIGHT, ARRIVAL, CLOCK, OPENED, SENT, TAKEN, FLUSHED, DELIVERED, PLACE, COUNT, TIME]
+DECLARED = [SETTINGS, FLIGHT, ARRIVAL, CLOCK, OPENED, SUBMITTED, TAKEN, FLUSHED, DELIVERED, PLACE, COUNT, TIME]
 U32, CODE = Number('u32'), Signed()
 
 # the types of locals, as `rt mir` writes them
 TYPES = {
     'protocol::Settings': SETTINGS, 'control::Flight': FLIGHT, 'control::Arrival': ARRIVAL, 'control::Clock': CLOCK,
-    'open_core::Opened': OPENED, 'send_core::Sent': SENT, 'input_core::Taken': TAKEN, 'flush_core::Flushed': FLUSHED,
+    'open_core::Opened': OPENED, 'send_core::Submitted': SUBMITTED, 'input_core::Taken': TAKEN, 'flush_core::Flushed': FLUSHED,
     'answers::Time': TIME,
     'read_core::Delivered': DELIVERED, 'read_core::Place': PLACE, 'answers::Count': COUNT,
     'tyInt 64': Number('usize'), 'tyInt 32': CODE, 'tyBool': Truth(), 'tyUnit': Nothing(),

@@ -75,7 +75,7 @@ pub fn send(
     let clock = link.clock;
     let flown = gathering::fit(table, &link.outstanding, settings, flight);
     let lent = records::table_len(table);
-    let sent = send_core::send(
+    let submitted = send_core::send(
         settings,
         flight,
         arrival,
@@ -93,9 +93,9 @@ pub fn send(
         acks,
         message,
     );
-    let flight = results::sent_flight(sent);
+    let flight = results::submitted_flight(submitted);
     link.flight = flight;
-    results::sent_code(sent)
+    results::submitted_code(submitted)
 }
 
 // Reading a message: its bytes, or the refusal.

@@ -8,7 +8,7 @@ use open_core::Opened;
 use protocol::Settings;
 use read_core::Delivered;
 use read_core::Place;
-use send_core::Sent;
+use send_core::Submitted;
 ghost use mathlib.Core.Path.{_≡_};
 ghost use mathlib.Core.Bool.{true, false};
 ghost use Rattle.codes.specs.Codes.{answerCode, countCode, updateCode};
@@ -56,16 +56,16 @@ pub fn opened_code(opened: Opened) -> i32
 
 // ---- of sending
 
-pub fn sent_flight(sent: Sent) -> Flight
-    ensures { λ r. ⌜ r ≡ sent .flight ⌝ }
+pub fn submitted_flight(submitted: Submitted) -> Flight
+    ensures { λ r. ⌜ r ≡ submitted .flight ⌝ }
 {
-    sent.flight
+    submitted.flight
 }
 
-pub fn sent_code(sent: Sent) -> i32
-    ensures { λ r. ⌜ r ≡ answerCode (sent .answer) ⌝ }
+pub fn submitted_code(submitted: Submitted) -> i32
+    ensures { λ r. ⌜ r ≡ answerCode (submitted .answer) ⌝ }
 {
-    let answer = sent.answer;
+    let answer = submitted.answer;
     codes::answer_code(answer)
 }
 

@@ -47,7 +47,7 @@ use Rattle.enqueue.specs.declared.Enqueued.{Enqueued}
 use Rattle.enqueue.specs.Enqueueing.{Enqueueable, PartsOf, Follows}
 use Rattle.promises.specs.Outcomes.{sendsWith}
 use Rattle.promises.specs.Cores.{SendCore}
-use Rattle.send_core.specs.declared.Sent.{Sent}
+use Rattle.send_core.specs.declared.Submitted.{Submitted}
 use Rattle.send_core.specs.Sending.{withCount, Enqueues}
 
 -- an accepted message changes the queued segments alone
@@ -221,7 +221,7 @@ module _ (s : Settings) (f : Flight) (a : Arrival) (k : Clock) (x : Arrays) (rs 
 
   -- what sending past the checks gives, as the block
   pub sent : {n : Lengths} {marks : List ℕ} (p : Sendable n marks) (stream : Bool) (m : ℕ) → stream ≡ isStream s → m ≡ mss s
-      → (pool message : List ℕ) (r : Sent) (q pool′ : List ℕ) → Enqueues stream m f (x .queued) marks pool message r q pool′
+      → (pool message : List ℕ) (r : Submitted) (q pool′ : List ℕ) → Enqueues stream m f (x .queued) marks pool message r q pool′
       → SendCore (sending (stateOf link rs acks) pool message) link rs acks pool (r .answer) (linkOf s (r .flight) a k (withWords x q))
       pool′
   sent p stream m mode size pool message r q pool′ h =

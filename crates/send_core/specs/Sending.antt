@@ -14,7 +14,7 @@ use Rattle.enqueue.specs.Enqueueing.{PartsOf, Follows}
 use Rattle.promises.specs.Parts.{lentLengths}
 use Rattle.promises.specs.Outcomes.{sendsWith}
 use Rattle.promises.specs.Cores.{SendCore}
-use Rattle.send_core.specs.declared.Sent.{Sent}
+use Rattle.send_core.specs.declared.Submitted.{Submitted}
 
 -- the numbers with another count of queued segments
 abbrev pub withCount : Flight → ℕ → Flight
@@ -30,7 +30,7 @@ withCount f n =
     }
 
 -- of the numbers the count alone changes, and with the list and the pool it is what sending gives
-pub record Enqueues (stream : Bool) (m : ℕ) (f : Flight) (queued marks pool message : List ℕ) (r : Sent) (queued′ pool′ : List ℕ) : Type 0
+pub record Enqueues (stream : Bool) (m : ℕ) (f : Flight) (queued marks pool message : List ℕ) (r : Submitted) (queued′ pool′ : List ℕ) : Type 0
   where
     pub count-alone : r .flight ≡ withCount f (r .flight .queued)
     pub follows : (s : State) → PartsOf s stream m queued (f .queued) (f .outstanding) marks

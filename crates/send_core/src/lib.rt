@@ -12,7 +12,7 @@ ghost use Rattle.enqueue.specs.Enqueueing.{Enqueueable};
 ghost use Rattle.send_core.specs.Sending.{Enqueues, SendLeaves};
 
 // The answer, and the sending half's numbers after it.
-pub struct Sent {
+pub struct Submitted {
     pub answer: Answer,
     pub flight: Flight,
 }
@@ -26,7 +26,7 @@ fn send_checked(
     marks: &[u8; 256],
     pool: &mut [u8],
     message: &[u8],
-) -> Sent
+) -> Submitted
     requires { ⌜ Enqueueable mss (now queued) (flight .queued) (flight .outstanding) (now marks) (now pool) ⌝ }
     ensures { λ r. ⌜ Enqueues stream mss flight (now (queued .entry)) (now (marks .entry)) (now (pool .entry)) (now (message .entry))
         r (now (queued .exit)) (now (pool .exit)) ⌝ }
@@ -44,7 +44,7 @@ fn send_checked(
     let answer = result.answer;
     let mut after = flight;
     after.queued = result.queued;
-    Sent {
+    Submitted {
         answer,
         flight: after,
     }
@@ -69,7 +69,7 @@ pub fn send(
     receive_pool: &[u8],
     acks: &[u32],
     message: &[u8],
-) -> Sent
+) -> Submitted
     requires { ⌜ Whole (arrays (now queued) (now outstanding) (now transmissions) (now ready) (now waiting) (now «waiting_numbers»))
         × Flies (linkOf settings flight arrival clock (arrays (now queued) (now outstanding)
         (now transmissions) (now ready) (now waiting) (now «waiting_numbers»))) flown ⌝ }
@@ -108,7 +108,7 @@ pub fn send(
         &mut receive_marks,
     );
     match verdict {
-        Verdict::Refused(refusal) => Sent {
+        Verdict::Refused(refusal) => Submitted {
             answer: Answer::Refused(refusal),
             flight,
         },

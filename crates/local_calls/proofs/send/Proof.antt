@@ -188,9 +188,9 @@ use Rattle.control.proofs.Arrival.Laws as arrival-laws
 use Rattle.control.specs.declared.Clock.{Clock}
 use Rattle.control.proofs.Clock as clock-row
 use Rattle.control.proofs.Clock.Laws as clock-laws
-use Rattle.send_core.specs.declared.Sent.{Sent}
-use Rattle.send_core.proofs.Sent as sent-row
-use Rattle.send_core.proofs.Sent.Laws as sent-laws
+use Rattle.send_core.specs.declared.Submitted.{Submitted}
+use Rattle.send_core.proofs.Submitted as submitted-row
+use Rattle.send_core.proofs.Submitted.Laws as submitted-laws
 use mathlib.Core.Bool.{Bool}
 use denote.Plain.{Boolean, bool-lawful, bool-makes}
 use lib.ListN.{take}
@@ -216,12 +216,12 @@ use Rattle.records.proofs.table_len.Met as table-len-thm
 use Rattle.send_core.proofs.send as core
 use Rattle.send_core.proofs.send.Symbol as core-def
 use Rattle.send_core.proofs.send.Met as core-thm
-use Rattle.results.proofs.sent_flight as flight-of
-use Rattle.results.proofs.sent_flight.Symbol as flight-of-def
-use Rattle.results.proofs.sent_flight.Met as flight-of-thm
-use Rattle.results.proofs.sent_code as code-of
-use Rattle.results.proofs.sent_code.Symbol as code-of-def
-use Rattle.results.proofs.sent_code.Met as code-of-thm
+use Rattle.results.proofs.submitted_flight as flight-of
+use Rattle.results.proofs.submitted_flight.Symbol as flight-of-def
+use Rattle.results.proofs.submitted_flight.Met as flight-of-thm
+use Rattle.results.proofs.submitted_code as code-of
+use Rattle.results.proofs.submitted_code.Symbol as code-of-def
+use Rattle.results.proofs.submitted_code.Met as code-of-thm
 use Rattle.local_calls.proofs.send.Key.{name as #f}
 use Rattle.local_calls.proofs.send as f
 use Rattle.local_calls.proofs.send.Statement as stated
@@ -512,11 +512,11 @@ module _ {M : Type 1} (𝓤 : URA M) (H : Heap 𝓤) (A : Atoms 𝓤) (W : Given
           (l₂₁ : ℕ) × (l₂₂ : ℕ) × (l₂₃ : ℕ) × (fl : Bool) × (w-fl : Val) ×
           (e-fl : fl ≡ flightFits (h .settings .mode) (h .flight .una) (h .flight .next)
           (take (h .flight .outstanding) (padded (gathered (take sendSlots (x₃ .now))
-          (slotsIn (h .outstanding) (h .flight .outstanding)))))) × (m : ℕ) × (w-m : Val) × (e-m : m ≡ length (x₃ .now)) × (a : Sent) ×
+          (slotsIn (h .outstanding) (h .flight .outstanding)))))) × (m : ℕ) × (w-m : Val) × (e-m : m ≡ length (x₃ .now)) × (a : Submitted) ×
           (w-a : Val) × (e-a : ByFlown h fl (λ recs. SendLeaves h recs m (x₁ .now) (x₂ .now) (x₄ .now) (x₅ .now) (a .answer)
           (linkOf (h .settings) (a .flight) (h .arrival) (h .clock)
           (arrays z-queued (h .outstanding) (h .transmissions) (h .ready) (h .waiting) (h .«waiting_numbers»))) z₁)) ×
-          (is-a : Is sent-row.the-row a (w-a ∷ [])) × (length z₁ ≡ length (x₁ .now))
+          (is-a : Is submitted-row.the-row a (w-a ∷ [])) × (length z₁ ≡ length (x₁ .now))
 
       part₂ : (past : Known₂) → ent 𝓤 (⋆ 𝓤 H A (‵ (partAt (Array u32 128) fullShare (h .«waiting_numbers») b (o + 1820))
           ∷ ‵ (partAt (Array u32 128) fullShare (h .waiting) b (o + 1308)) ∷ ‵ (partAt (Array u32 128) fullShare (h .ready) b (o + 796))
@@ -533,7 +533,7 @@ module _ {M : Type 1} (𝓤 : URA M) (H : Heap 𝓤) (A : Atoms 𝓤) (W : Given
           (fdies (sliceTy (tyRef (named 4) imm (tyInt w32))) (past .7)) ⊛ ‵ (fdies (sliceTy (tyRef (named 5) imm (tyInt w8))) (past .8)) ⊛ ‵
           (fdies settings-laws.mir (past .9)) ⊛ ‵ (fdies flight-laws.mir (past .10)) ⊛ ‵ (fdies arrival-laws.mir (past .11)) ⊛ ‵
           (fdies clock-laws.mir (past .12)) ⊛ ‵ (fdies tyBool (past .13)) ⊛ ‵ (fdies (tyInt w64) (past .14)) ⊛ ‵
-          (fdies sent-laws.mir (past .15)) ⊛ ‵ (fdies flight-laws.mir (past .16)) ⊛ ‵
+          (fdies submitted-laws.mir (past .15)) ⊛ ‵ (fdies flight-laws.mir (past .16)) ⊛ ‵
           (fdies (tyRef erased imm (tyArray (tyInt w32) 32)) (past .17)) ⊛ ‵ (fdies (tyRef erased mut (tyArray (tyInt w32) 128)) (past .18))
           ⊛ ‵ (fdies (tyRef erased imm (tyArray (tyInt w32) 32)) (past .19)) ⊛ ‵
           (fdies (tyRef erased imm (tyArray (tyInt w8) 32)) (past .20)) ⊛ ‵ (fdies (tyRef erased imm (tyArray (tyInt w32) 128)) (past .21))
@@ -549,7 +549,7 @@ module _ {M : Type 1} (𝓤 : URA M) (H : Heap 𝓤) (A : Atoms 𝓤) (W : Given
           ∷ ‵ (fat fullShare (tyRef erased imm (tyArray (tyInt w32) 32)) (past .19) 0 ((vptr b (o + 636))))
           ∷ ‵ (fat fullShare (tyRef erased mut (tyArray (tyInt w32) 128)) (past .18) 0 ((vptr b (o + 124))))
           ∷ ‵ (fat fullShare (tyRef erased imm (tyArray (tyInt w32) 32)) (past .17) 0 ((vptr b (o + 636))))
-          ∷ ‵ (froom flight-laws.mir (past .16) 0) ∷ ‵ (fat fullShare sent-laws.mir (past .15) 0 ((past .33)))
+          ∷ ‵ (froom flight-laws.mir (past .16) 0) ∷ ‵ (fat fullShare submitted-laws.mir (past .15) 0 ((past .33)))
           ∷ ‵ (fat fullShare (tyInt w64) (past .14) 0 ((past .30))) ∷ ‵ (fat fullShare tyBool (past .13) 0 ((past .27)))
           ∷ ‵ (fat fullShare clock-laws.mir (past .12) 0 ((only ((LL.vals clock-row.the-type clock-laws.the-laws) (h .clock)))))
           ∷ ‵ (fat fullShare arrival-laws.mir (past .11) 0 ((only ((LL.vals arrival-row.the-type arrival-laws.the-laws) (h .arrival)))))
@@ -584,7 +584,7 @@ module _ {M : Type 1} (𝓤 : URA M) (H : Heap 𝓤) (A : Atoms 𝓤) (W : Given
           (fdies (sliceTy (tyRef (named 4) imm (tyInt w32))) (past .7)) ⊛ ‵ (fdies (sliceTy (tyRef (named 5) imm (tyInt w8))) (past .8))
           ⊛ ‵ (fdies settings-laws.mir (past .9)) ⊛ ‵ (fdies flight-laws.mir (past .10)) ⊛ ‵ (fdies arrival-laws.mir (past .11)) ⊛ ‵
           (fdies clock-laws.mir (past .12)) ⊛ ‵ (fdies tyBool (past .13)) ⊛ ‵ (fdies (tyInt w64) (past .14)) ⊛ ‵
-          (fdies sent-laws.mir (past .15)) ⊛ ‵ (fdies flight-laws.mir (past .16)) ⊛ ‵
+          (fdies submitted-laws.mir (past .15)) ⊛ ‵ (fdies flight-laws.mir (past .16)) ⊛ ‵
           (fdies (tyRef erased imm (tyArray (tyInt w32) 32)) (past .17)) ⊛ ‵
           (fdies (tyRef erased mut (tyArray (tyInt w32) 128)) (past .18)) ⊛ ‵
           (fdies (tyRef erased imm (tyArray (tyInt w32) 32)) (past .19)) ⊛ ‵
@@ -602,7 +602,7 @@ module _ {M : Type 1} (𝓤 : URA M) (H : Heap 𝓤) (A : Atoms 𝓤) (W : Given
           ∷ ‵ (fat fullShare (tyRef erased imm (tyArray (tyInt w32) 32)) (past .19) 0 ((vptr b (o + 636))))
           ∷ ‵ (fat fullShare (tyRef erased mut (tyArray (tyInt w32) 128)) (past .18) 0 ((vptr b (o + 124))))
           ∷ ‵ (fat fullShare (tyRef erased imm (tyArray (tyInt w32) 32)) (past .17) 0 ((vptr b (o + 636))))
-          ∷ ‵ (froom flight-laws.mir (past .16) 0) ∷ ‵ (fat fullShare sent-laws.mir (past .15) 0 ((past .33)))
+          ∷ ‵ (froom flight-laws.mir (past .16) 0) ∷ ‵ (fat fullShare submitted-laws.mir (past .15) 0 ((past .33)))
           ∷ ‵ (fat fullShare (tyInt w64) (past .14) 0 ((past .30))) ∷ ‵ (fat fullShare tyBool (past .13) 0 ((past .27)))
           ∷ ‵ (fat fullShare clock-laws.mir (past .12) 0 ((only ((LL.vals clock-row.the-type clock-laws.the-laws) (h .clock)))))
           ∷ ‵ (fat fullShare arrival-laws.mir (past .11) 0 ((only ((LL.vals arrival-row.the-type arrival-laws.the-laws) (h .arrival)))))
@@ -623,8 +623,8 @@ module _ {M : Type 1} (𝓤 : URA M) (H : Heap 𝓤) (A : Atoms 𝓤) (W : Given
           (past .24) (past .25)) Post) $
           nothing ! $ calls-fn ! fm flight-of.ended (flight-of.clauses 𝓤 H A at-mem run) (known .3)
           ((tt, tt, tt, ((past .32), tt), ((past .33) ∷ [], tt)), tt) (λ kf _. kf ≡ (past .32) .flight)
-          (‵ ftrue) (plainly 𝓤 H A W (sent-row.the-row ∷ []) ((LL.makes sent-row.the-type sent-laws.the-plain 𝓤 H A), tt) ((past .32), tt)
-          ((past .33) ∷ [], tt) ((past .35), tt)) (λ kf _. id⊢ 𝓤 _)
+          (‵ ftrue) (plainly 𝓤 H A W (submitted-row.the-row ∷ []) ((LL.makes submitted-row.the-type submitted-laws.the-plain 𝓤 H A), tt)
+          ((past .32), tt) ((past .33) ∷ [], tt) ((past .35), tt)) (λ kf _. id⊢ 𝓤 _)
           (and-then ! (load ! (from ! (stop !)) (look ! 30 refl)) (no-more !))
           (λ kf w-kf _ e-kf is-kf. drop ! $ drop ! $
           land ! (from ! (stop !)) (init ! 28 refl (LL.lawful flight-row.the-type flight-laws.the-laws 𝓤 H A W .typed kf (w-kf ∷ []) is-kf
@@ -663,8 +663,8 @@ module _ {M : Type 1} (𝓤 : URA M) (H : Heap 𝓤) (A : Atoms 𝓤) (W : Given
           -- [own0; tok0; fin1; tok1; tok2; tok4; tok5; tok3; deaths; the locals]
           nothing ! $ calls-fn ! fm code-of.ended (code-of.clauses 𝓤 H A at-mem run) (known .4)
           ((tt, tt, tt, ((past .32), tt), ((past .33) ∷ [], tt)), tt) (λ r _. r ≡ answerCode ((past .32) .answer))
-          (‵ ftrue) (plainly 𝓤 H A W (sent-row.the-row ∷ []) ((LL.makes sent-row.the-type sent-laws.the-plain 𝓤 H A), tt) ((past .32), tt)
-          ((past .33) ∷ [], tt) ((past .35), tt)) (λ r _. id⊢ 𝓤 _)
+          (‵ ftrue) (plainly 𝓤 H A W (submitted-row.the-row ∷ []) ((LL.makes submitted-row.the-type submitted-laws.the-plain 𝓤 H A), tt)
+          ((past .32), tt) ((past .33) ∷ [], tt) ((past .35), tt)) (λ r _. id⊢ 𝓤 _)
           (and-then ! (load ! (from ! (stop !)) (look ! 20 refl)) (no-more !))
           (λ r w-r _ e-r is-r. drop ! $ drop ! $ land ! (from ! (stop !)) (init ! 32 refl (sint-lawful 𝓤 H A W w32 .typed r _ is-r .0)) $
           returns ! (look ! 32 refl) $
@@ -676,7 +676,7 @@ module _ {M : Type 1} (𝓤 : URA M) (H : Heap 𝓤) (A : Atoms 𝓤) (W : Given
           ∷ ‵ (fdies (sliceTy (tyRef (named 4) imm (tyInt w32))) (past .7))
           ∷ ‵ (fdies (sliceTy (tyRef (named 5) imm (tyInt w8))) (past .8)) ∷ ‵ (fdies settings-laws.mir (past .9))
           ∷ ‵ (fdies flight-laws.mir (past .10)) ∷ ‵ (fdies arrival-laws.mir (past .11)) ∷ ‵ (fdies clock-laws.mir (past .12))
-          ∷ ‵ (fdies tyBool (past .13)) ∷ ‵ (fdies (tyInt w64) (past .14)) ∷ ‵ (fdies sent-laws.mir (past .15))
+          ∷ ‵ (fdies tyBool (past .13)) ∷ ‵ (fdies (tyInt w64) (past .14)) ∷ ‵ (fdies submitted-laws.mir (past .15))
           ∷ ‵ (fdies flight-laws.mir (past .16)) ∷ ‵ (fdies (tyRef erased imm (tyArray (tyInt w32) 32)) (past .17))
           ∷ ‵ (fdies (tyRef erased mut (tyArray (tyInt w32) 128)) (past .18))
           ∷ ‵ (fdies (tyRef erased imm (tyArray (tyInt w32) 32)) (past .19))
@@ -750,7 +750,7 @@ module _ {M : Type 1} (𝓤 : URA M) (H : Heap 𝓤) (A : Atoms 𝓤) (W : Given
           (fdies (sliceTy (tyRef (named 4) imm (tyInt w32))) (past .5)) ⊛ ‵ (fdies (sliceTy (tyRef (named 5) imm (tyInt w8))) (past .6)) ⊛ ‵
           (fdies settings-laws.mir (past .7)) ⊛ ‵ (fdies flight-laws.mir (past .8)) ⊛ ‵ (fdies arrival-laws.mir (past .9)) ⊛ ‵
           (fdies clock-laws.mir (past .10)) ⊛ ‵ (fdies tyBool (past .11)) ⊛ ‵ (fdies (tyInt w64) (past .12)) ⊛ ‵
-          (fdies sent-laws.mir (past .13)) ⊛ ‵ (fdies flight-laws.mir (past .14)) ⊛ ‵
+          (fdies submitted-laws.mir (past .13)) ⊛ ‵ (fdies flight-laws.mir (past .14)) ⊛ ‵
           (fdies (tyRef erased imm (tyArray (tyInt w32) 32)) (past .15)) ⊛ ‵ (fdies (tyRef erased mut (tyArray (tyInt w32) 128)) (past .16))
           ⊛ ‵ (fdies (tyRef erased imm (tyArray (tyInt w32) 32)) (past .17)) ⊛ ‵
           (fdies (tyRef erased imm (tyArray (tyInt w8) 32)) (past .18)) ⊛ ‵ (fdies (tyRef erased imm (tyArray (tyInt w32) 128)) (past .19))
@@ -766,7 +766,7 @@ module _ {M : Type 1} (𝓤 : URA M) (H : Heap 𝓤) (A : Atoms 𝓤) (W : Given
           ∷ ‵ (froom (tyRef erased imm (tyArray (tyInt w32) 32)) (past .17) 0)
           ∷ ‵ (froom (tyRef erased mut (tyArray (tyInt w32) 128)) (past .16) 0)
           ∷ ‵ (fat fullShare (tyRef erased imm (tyArray (tyInt w32) 32)) (past .15) 0 ((vptr b (o + 636))))
-          ∷ ‵ (froom flight-laws.mir (past .14) 0) ∷ ‵ (froom sent-laws.mir (past .13) 0)
+          ∷ ‵ (froom flight-laws.mir (past .14) 0) ∷ ‵ (froom submitted-laws.mir (past .13) 0)
           ∷ ‵ (fat fullShare (tyInt w64) (past .12) 0 ((past .39))) ∷ ‵ (fat fullShare tyBool (past .11) 0 ((past .35)))
           ∷ ‵ (fat fullShare clock-laws.mir (past .10) 0 ((only ((LL.vals clock-row.the-type clock-laws.the-laws) (h .clock)))))
           ∷ ‵ (fat fullShare arrival-laws.mir (past .9) 0 ((only ((LL.vals arrival-row.the-type arrival-laws.the-laws) (h .arrival)))))
@@ -800,7 +800,7 @@ module _ {M : Type 1} (𝓤 : URA M) (H : Heap 𝓤) (A : Atoms 𝓤) (W : Given
           (fdies (sliceTy (tyRef (named 4) imm (tyInt w32))) (past .5)) ⊛ ‵ (fdies (sliceTy (tyRef (named 5) imm (tyInt w8))) (past .6))
           ⊛ ‵ (fdies settings-laws.mir (past .7)) ⊛ ‵ (fdies flight-laws.mir (past .8)) ⊛ ‵ (fdies arrival-laws.mir (past .9)) ⊛ ‵
           (fdies clock-laws.mir (past .10)) ⊛ ‵ (fdies tyBool (past .11)) ⊛ ‵ (fdies (tyInt w64) (past .12)) ⊛ ‵
-          (fdies sent-laws.mir (past .13)) ⊛ ‵ (fdies flight-laws.mir (past .14)) ⊛ ‵
+          (fdies submitted-laws.mir (past .13)) ⊛ ‵ (fdies flight-laws.mir (past .14)) ⊛ ‵
           (fdies (tyRef erased imm (tyArray (tyInt w32) 32)) (past .15)) ⊛ ‵
           (fdies (tyRef erased mut (tyArray (tyInt w32) 128)) (past .16)) ⊛ ‵
           (fdies (tyRef erased imm (tyArray (tyInt w32) 32)) (past .17)) ⊛ ‵
@@ -818,7 +818,7 @@ module _ {M : Type 1} (𝓤 : URA M) (H : Heap 𝓤) (A : Atoms 𝓤) (W : Given
           ∷ ‵ (froom (tyRef erased imm (tyArray (tyInt w32) 32)) (past .17) 0)
           ∷ ‵ (froom (tyRef erased mut (tyArray (tyInt w32) 128)) (past .16) 0)
           ∷ ‵ (fat fullShare (tyRef erased imm (tyArray (tyInt w32) 32)) (past .15) 0 ((vptr b (o + 636))))
-          ∷ ‵ (froom flight-laws.mir (past .14) 0) ∷ ‵ (froom sent-laws.mir (past .13) 0)
+          ∷ ‵ (froom flight-laws.mir (past .14) 0) ∷ ‵ (froom submitted-laws.mir (past .13) 0)
           ∷ ‵ (fat fullShare (tyInt w64) (past .12) 0 ((past .39))) ∷ ‵ (fat fullShare tyBool (past .11) 0 ((past .35)))
           ∷ ‵ (fat fullShare clock-laws.mir (past .10) 0 ((only ((LL.vals clock-row.the-type clock-laws.the-laws) (h .clock)))))
           ∷ ‵ (fat fullShare arrival-laws.mir (past .9) 0 ((only ((LL.vals arrival-row.the-type arrival-laws.the-laws) (h .arrival)))))
@@ -929,7 +929,7 @@ module _ {M : Type 1} (𝓤 : URA M) (H : Heap 𝓤) (A : Atoms 𝓤) (W : Given
           (and-then ! (load ! (from ! (stop !)) (look ! 33 refl))
           (and-then ! (load ! (from ! (stop !)) (look ! 32 refl)) (no-more !)))))))))))))))))
           (λ a w-a ws-a e-a is-a. land ! (from ! (stop !))
-          (init ! 26 refl (LL.lawful sent-row.the-type sent-laws.the-laws 𝓤 H A W .typed a (w-a ∷ []) is-a .0)) $
+          (init ! 26 refl (LL.lawful submitted-row.the-type submitted-laws.the-laws 𝓤 H A W .typed a (w-a ∷ []) is-a .0)) $
           spread W (‵ (flft (α-queued ∷ []) fullShare))
           (‵ (flft (α-outstanding′ ∷ []) fullShare) ∷ ‵ (flft (α-transmissions ∷ []) fullShare) ∷ ‵ (flft (α-ready ∷ []) fullShare)
           ∷ ‵ (flft (α-waiting ∷ []) fullShare) ∷ ‵ (flft (α-waiting-numbers ∷ []) fullShare) ∷ ‵ (flft κ₁ q₁)
@@ -1208,7 +1208,7 @@ send-spec 𝓤 H 𝓜 𝓖 𝓡 =
       cited 𝓤 H (tripleOf 𝓤 H (𝓖 .A) core.signature (core.spec 𝓤 H (𝓖 .A) (𝓜 .mem) (𝓡 .run))) 𝓜 𝓡 code.env core-def.name
           core-def.routine code.calls-send-core·send (core-thm.met 𝓤 H 𝓜 𝓖 𝓡),
       cited 𝓤 H (tripleOf 𝓤 H (𝓖 .A) flight-of.signature (flight-of.spec 𝓤 H (𝓖 .A) (𝓜 .mem) (𝓡 .run))) 𝓜 𝓡 code.env
-          flight-of-def.name flight-of-def.routine code.calls-results·sent-flight (flight-of-thm.met 𝓤 H 𝓜 𝓖 𝓡),
+          flight-of-def.name flight-of-def.routine code.calls-results·submitted-flight (flight-of-thm.met 𝓤 H 𝓜 𝓖 𝓡),
       cited 𝓤 H (tripleOf 𝓤 H (𝓖 .A) code-of.signature (code-of.spec 𝓤 H (𝓖 .A) (𝓜 .mem) (𝓡 .run))) 𝓜 𝓡 code.env code-of-def.name
-          code-of-def.routine code.calls-results·sent-code (code-of-thm.met 𝓤 H 𝓜 𝓖 𝓡),
+          code-of-def.routine code.calls-results·submitted-code (code-of-thm.met 𝓤 H 𝓜 𝓖 𝓡),
     ))
