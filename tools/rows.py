@@ -102,17 +102,6 @@ class Numbers:
         return f'(arrayOf (plain (λ _. {self.of.row})) {self.n})'
 
 
-class Records:
-    """[Record; 32], by value."""
-    row, denot, n, uses = 'Rs', '(List Record)', 32, []
-
-    def typed(self, x, v, g):
-        return f'(rs-typed 𝓤 H A W {x} {g})'
-
-    def makes(self):
-        return '(rs-makes 𝓤 H A W)'
-
-
 class Declared:
     """A declared struct or enum, by value; `laws` is LL or EL."""
 

@@ -57,7 +57,8 @@ unflushedOf a f v k = record { answer = a; flight = f; arrival = v; clock = k; c
 -- ---- of the block l at t, after which it is l′, with the records of its outstanding segments before and after
 
 -- the flush itself
-abbrev pub Wrote : Link → List Record → List ℕ → List ℕ → ℕ → List ℕ → List ℕ → Flushed → Link → List Record → List ℕ → List ℕ → Type 0
+abbrev pub Wrote : Link → List Record → List ℕ → List ℕ → ℕ → List ℕ → List ℕ → Flushed → Link → List Record → List ℕ
+    → List ℕ → Type 0
 Wrote l records pool acks t out lengths r l′ records′ out′ lengths′ =
     UpdateCore (done (flushes (flushing (stateOf l records acks) t pool)))
     l records acks out lengths (r .answer) l′ (putBack (l′ .outstanding) (r .changed) records′) out′ lengths′
@@ -75,7 +76,8 @@ FlushLeaves o l records acks out lengths r l′ records′ out′ lengths′ =
     × FlushCore o l records acks out lengths n l′ (putBack (l′ .outstanding) (r .changed) records′) out′ lengths′
 
 -- behind the checks: a flush, or where it is paced an update
-abbrev pub Runs : Bool → Link → List Record → List ℕ → List ℕ → ℕ → List ℕ → List ℕ → Flushed → Link → List Record → List ℕ → List ℕ
+abbrev pub Runs : Bool → Link → List Record → List ℕ → List ℕ → ℕ → List ℕ → List ℕ → Flushed → Link → List Record → List ℕ
+    → List ℕ
     → Type 0
 Runs false l records pool acks t out lengths r l′ records′ out′ lengths′ =
     FlushLeaves (done (flushing (stateOf l records acks) t pool)) l records acks out lengths r l′ records′ out′ lengths′
@@ -84,7 +86,8 @@ Runs true l records pool acks t out lengths r l′ records′ out′ lengths′ 
     l records acks out lengths (r .answer) l′ (putBack (l′ .outstanding) (r .changed) records′) out′ lengths′
 
 -- with them, and the lent parts
-abbrev pub Core : Bool → Link → List Record → ℕ → List ℕ → List ℕ → List ℕ → ℕ → List ℕ → List ℕ → Flushed → Link → List Record
+abbrev pub Core : Bool → Link → List Record → ℕ → List ℕ → List ℕ → List ℕ → ℕ → List ℕ → List ℕ → Flushed → Link
+    → List Record
     → List ℕ → List ℕ → Type 0
 Core false l records table sendPool receivePool acks t out lengths r l′ records′ out′ lengths′ =
     FlushLeaves (flushesWith l records acks (lentLengths table sendPool receivePool acks) sendPool (length out) (length lengths) t)

@@ -22,7 +22,7 @@ use Rattle.lists.specs.declared.Acknowledges.the-variants as by
 use Rattle.session.specs.State.{State, Sending, sendHeld, slots, withWindow, withOutstanding}
 use Rattle.session.specs.Slots.{occurs}
 use Rattle.session.specs.Valid.{valid}
-use Rattle.session.specs.Decides.{All}
+use Rattle.session.specs.Decides.{All, or-parts}
 use Rattle.session.specs.AllLaws.{all-mapped}
 use Rattle.session.specs.Once.{Distinct, once-distinct, distinct-once}
 use Rattle.session.specs.IsValid.{valid-decides}
@@ -63,10 +63,6 @@ some-mapped : {A B : Type 0} (f : A → B) {k l : List A} → Some k l → Some 
 some-mapped f none = none
 some-mapped f (with-first s) = with-first (some-mapped f s)
 some-mapped f (skip s) = skip (some-mapped f s)
-
-or-parts : (a b : Bool) → (a || b) ≡ false → (a ≡ false) × (b ≡ false)
-or-parts true b e = absurd (true≢false e)
-or-parts false b e = (refl, e)
 
 some-absent : (n : ℕ) {k l : List ℕ} → Some k l → occurs n l ≡ false → occurs n k ≡ false
 unfolding occurs

@@ -1,4 +1,4 @@
--- The slots of words, by the words' array, and the record that is read for a word.
+-- The record that is read for a word.
 -- Assumes nothing.
 use mathlib.Core.Path.{_≡_, refl, sym, ap, _∙_}
 use mathlib.Core.Bool.{Bool, true, false, cond}
@@ -13,15 +13,6 @@ use Rattle.protocol.specs.Protocol.{sendSlots}
 use Rattle.timing.specs.declared.Record.{Record}
 use Rattle.records.specs.Tables.{blank, slotsIn}
 use Rattle.gathering.specs.Reach.{reach}
-
-pub slots-counted : (ws : List ℕ) (n k : ℕ) → length ws ≡ 32 → k ≡ min n 32 → k ≡ length (slotsIn ws n)
-slots-counted ws n k e f = f ∙ sym (length-map (take (min n 32) ws) (λ (w : ℕ). w % 256) ∙ length-take-le (min n 32) ws (omega arith))
-
-pub slot-listed : (ws : List ℕ) (n i s : ℕ) → s ≡ getD ws i 0 % 256 → i < length (slotsIn ws n) → s ≡ getD (slotsIn ws n) i 0
-slot-listed ws n i s e h =
-    let within : i < min n 32 = omega (arith, length-map (take (min n 32) ws) (λ (w : ℕ). w % 256), length-take (min n 32) ws) in
-    e ∙ ap (λ (w : ℕ). w % 256) (sym (getD-take (min n 32) ws i 0 within)) ∙ sym
-    (List·getD-map (λ (w : ℕ). w % 256) (take (min n 32) ws) i 0)
 
 -- what is read for a word is the record at its slot among the first 128
 pub reached : (table : List Record) (word k : ℕ) (r : Record) → length table < 2 ^ 64 → k ≡ reach word → r ≡ getD table k blank

@@ -61,7 +61,8 @@ grownFrom c before after =
 
 -- what the call leaves: `gives` is what the definition gives for the block with the numbers f and a and the arrays x; the answer and the
 -- numbers afterwards are t's, the arrays x′ and the records; back into the table go so many records as t says, by their words
-abbrev pub Takes : (Link → Outcome Took) → Settings → Flight → Arrival → Clock → Arrays → List ℕ → List ℕ → Taken → Arrays → List Record
+abbrev pub Takes : (Link → Outcome Took) → Settings → Flight → Arrival → Clock → Arrays → List ℕ → List ℕ → Taken → Arrays
+    → List Record
     → List ℕ → List ℕ → Type 0
 Takes gives c f a k x pool acks t x′ records pool′ acks′ =
     let l = linkOf c f a k x in

@@ -192,7 +192,8 @@ adds-none mtu k out lengths f =
 module _ {mtu : ℕ} {gs : List Segment} {n m : ℕ} {k : Packer} {out lengths : List ℕ} {k′ : Packer} {out′ lengths′ : List ℕ}
     (a : Adds mtu gs n m k out lengths k′ out′ lengths′) where
   -- more behind them
-  pub adds-append : {hs : List Segment} {i j : ℕ} {k″ : Packer} {out″ lengths″ : List ℕ} → Adds mtu hs i j k′ out′ lengths′ k″ out″ lengths″
+  pub adds-append : {hs : List Segment} {i j : ℕ} {k″ : Packer} {out″ lengths″ : List ℕ}
+      → Adds mtu hs i j k′ out′ lengths′ k″ out″ lengths″
       → Adds mtu (gs ++ hs) (n + i) (m + j) k out lengths k″ out″ lengths″
   adds-append {hs} b =
       record {

@@ -18,9 +18,10 @@ ghost use mathlib.Core.List.{_++_};
 ghost use Rattle.notation.specs.Ascii.{ascii};
 ghost use Rattle.transcript.specs.Lines.{bytesLine, refusalLine, answerLine, countLine, datagramLines, stateLine, heldLine};
 ghost use Rattle.bench_calls.specs.BenchPromises.{after};
-ghost use Rattle.playing.specs.Plays.{PlaysUpdate};
-ghost use Rattle.playing.specs.Plays.{PlaysCheck};
-ghost use Rattle.playing.specs.Plays.{Says, still, NoCommand, Ok, PlaysOpen, PlaysSend, PlaysInput, PlaysFlush, PlaysRead, PlaysSize, PlaysShow, PlaysJump, PlaysLend, PlaysPoke, PlaysHold, PlaysTool, PlaysUnopened, PlaysOnLink, settingsOf, Plays, PlaysLine};
+ghost use Rattle.playing.specs.Plays.{PlaysUpdate, PlaysCheck, Says, still, NoCommand, Ok, PlaysOpen, PlaysSend};
+ghost use Rattle.playing.specs.Plays.{PlaysInput, PlaysFlush, PlaysRead, PlaysSize, PlaysShow, PlaysJump, PlaysLend};
+ghost use Rattle.playing.specs.Plays.{PlaysPoke, PlaysHold, PlaysTool, PlaysUnopened, PlaysOnLink, settingsOf, Plays};
+ghost use Rattle.playing.specs.Plays.{PlaysLine};
 
 // The bench after a command, and the length of its answer.
 pub struct Played {

@@ -118,7 +118,8 @@ module _ (c : Settings) (d : Sending) (wrote : List (List ℕ)) (r : Receiving) 
 
 -- ---- the receiving half
 
-says-more : (r r′ : Receiving) → ((n : ℕ) → has r n ≡ true → has r′ n ≡ true) → r .next ≤ r′ .next → (g : Segment) → Says r g → Says r′ g
+says-more : (r r′ : Receiving) → ((n : ℕ) → has r n ≡ true → has r′ n ≡ true) → r .next ≤ r′ .next → (g : Segment) → Says r g
+    → Says r′ g
 says-more r r′ k u g s = (omega (arith, s .0, u), λ e. k (g .header .sn) (s .1 e))
 
 module _ (c : Settings) (d : Sending) (wrote : List (List ℕ)) (r : Receiving) (said : List (List ℕ)) (w : Way c d wrote r said) where

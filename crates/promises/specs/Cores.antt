@@ -117,7 +117,8 @@ pub record NoFlush (r : Refusal) (l : Link) (out lengths : List ℕ) (a : Count)
     pub output : out′ ≡ out
     pub sizes : lengths′ ≡ lengths
 
-abbrev pub FlushCore : Outcome Flushed → Link → List Record → List ℕ → List ℕ → List ℕ → Count → Link → PutBack → List ℕ → List ℕ → Type 0
+abbrev pub FlushCore : Outcome Flushed → Link → List Record → List ℕ → List ℕ → List ℕ → Count → Link → PutBack → List ℕ → List ℕ
+    → Type 0
 FlushCore (refused r) l records acks out lengths a l′ b out′ lengths′ = NoFlush r l out lengths a l′ b out′ lengths′
 FlushCore (done x) l records acks out lengths a l′ b out′ lengths′ =
     Flushes (stateOf l records acks .sending .outstanding) x acks out lengths a l′ b out′ lengths′
@@ -136,7 +137,8 @@ pub record Waits (s : State) (l : Link) (records : List Record) (acks out length
   pub sizes : lengths′ ≡ lengths
 
 -- refused as a flush; done, it waits or leaves what its flush does
-abbrev pub UpdateCore : Outcome Updates → Link → List Record → List ℕ → List ℕ → List ℕ → Update → Link → PutBack → List ℕ → List ℕ → Type 0
+abbrev pub UpdateCore : Outcome Updates → Link → List Record → List ℕ → List ℕ → List ℕ → Update → Link → PutBack → List ℕ
+    → List ℕ → Type 0
 UpdateCore (refused r) l records acks out lengths a l′ b out′ lengths′ =
     (a ≡ update.Refused r) × NoFlush r l out lengths (count.Refused r) l′ b out′ lengths′
 UpdateCore (done (waits s)) l records acks out lengths a l′ b out′ lengths′ = Waits s l records acks out lengths a l′ b out′ lengths′

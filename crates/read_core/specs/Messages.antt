@@ -43,7 +43,8 @@ pub record NotRead (q : Refusal) (a : Arrival) (ready waiting numbers buffer : L
   pub bytes-same : buffer′ ≡ buffer
 
 -- by the size of the message, where there is room for it
-abbrev pub ReadMessage : Outcome ℕ → Arrival → ℕ → List ℕ → List ℕ → List ℕ → List ℕ → List ℕ → Count → Arrival → List ℕ → List ℕ → List ℕ
+abbrev pub ReadMessage : Outcome ℕ → Arrival → ℕ → List ℕ → List ℕ → List ℕ → List ℕ → List ℕ → Count → Arrival → List ℕ
+    → List ℕ → List ℕ
     → List ℕ → Type 0
 ReadMessage (refused q) a m ready waiting numbers pool buffer answer r ready′ waiting′ numbers′ buffer′ =
     NotRead q a ready waiting numbers buffer answer r ready′ waiting′ numbers′ buffer′

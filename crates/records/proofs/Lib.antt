@@ -1,8 +1,6 @@
 pub mod Again
 pub mod Call
-pub mod Elements
 pub mod Frame
-pub mod Local
 pub mod Rows
 pub mod Shared
 pub mod Turns

@@ -2,32 +2,23 @@
 -- Assumes nothing.
 use mathlib.Core.Path.{_≡_, sym, ap, _∙_}
 use mathlib.Core.List.{List, [], _∷_, _++_, map-append}
-use Prim.Native.Nat.{ℕ, suc, _+_, _-_, _≤_, _<_}
+use Prim.Native.Nat.{ℕ, suc, _+_, _-_, _≤_, _<_, _%_, min}
 use native.Mathlib.Numerals.{add-one}
 use native.Mathlib.Omega.{arith}
 use lib.ListN.{length, getD, set, take, drop, replicate, length-append, length-map, length-take, drop-of-length-le, List·getD-map}
 use lib.Seq.{getD-take, drop-cons, set-at, append-snoc, take-suc, take-all, length-take-le}
 use Rattle.timing.specs.declared.Record.{Record}
-use Rattle.lists.specs.declared.Outstanding.{Outstanding}
-use Rattle.lists.specs.declared.OutstandingList.{OutstandingList}
-use Rattle.lists.specs.Views.{outstandingOf}
-use Rattle.records.specs.Tables.{blank, slotsOf, gathered, padded, scattered}
+use Rattle.records.specs.Tables.{blank, slotsIn, gathered, padded, scattered}
 
--- a slot for each segment
-pub slots-counted : (list : OutstandingList) (n : ℕ) → n ≡ length (outstandingOf list) → n ≡ length (slotsOf (outstandingOf list))
-slots-counted list n e = e ∙ sym (length-map (outstandingOf list) (λ (o : Outstanding). o .held .slot))
+-- a slot for each word
+pub slots-counted : (ws : List ℕ) (n k : ℕ) → length ws ≡ 32 → k ≡ min n 32 → k ≡ length (slotsIn ws n)
+slots-counted ws n k e f = f ∙ sym (length-map (take (min n 32) ws) (λ (w : ℕ). w % 256) ∙ length-take-le (min n 32) ws (omega arith))
 
--- what stands past the array
-abbrev pub none : Outstanding
-none = record { held = record { slot = 0; len = 0; fragment = 0 }; transmissions = 0 }
-
--- the slot of a segment of the list is that of its entry in the array
-pub slot-listed : (list : OutstandingList) (i : ℕ) → i < length (slotsOf (outstandingOf list))
-    → getD (list .at) i none .held .slot ≡ getD (slotsOf (outstandingOf list)) i 0
-slot-listed list i h =
-    let slot : Outstanding → ℕ = λ o. o .held .slot in
-    let within : i < list .count = omega (arith, length-map (outstandingOf list) slot, length-take (list .count) (list .at)) in
-    ap slot (sym (getD-take (list .count) (list .at) i none within)) ∙ sym (List·getD-map slot (outstandingOf list) i none)
+pub slot-listed : (ws : List ℕ) (n i s : ℕ) → s ≡ getD ws i 0 % 256 → i < length (slotsIn ws n) → s ≡ getD (slotsIn ws n) i 0
+slot-listed ws n i s e h =
+    let within : i < min n 32 = omega (arith, length-map (take (min n 32) ws) (λ (w : ℕ). w % 256), length-take (min n 32) ws) in
+    e ∙ ap (λ (w : ℕ). w % 256) (sym (getD-take (min n 32) ws i 0 within)) ∙ sym
+    (List·getD-map (λ (w : ℕ). w % 256) (take (min n 32) ws) i 0)
 
 -- one more record behind those that are not padding
 padded-more : (l : List Record) (i : ℕ) (r : Record) → length l ≡ i → i < 32 → set (padded l) i r ≡ padded (l ++ (r ∷ []))

@@ -94,7 +94,8 @@ pub record Walking (f : Flush) (n : ℕ) (pool : List ℕ) (k₀ : Packer) (out�
 -- the same, by other names
 pub walking-as : {f : Flush} {n : ℕ} {pool : List ℕ} {k₀ : Packer} {out₀ lengths₀ : List ℕ} {l₀ : List Sent} {ws ts ts′ rs rs′ : List ℕ}
     {k k′ : Packer} {out out′ lengths lengths′ : List ℕ} {b b′ late late′ fast fast′ sent sent′ : Bool} {i : ℕ}
-    → ts′ ≡ ts → rs′ ≡ rs → out′ ≡ out → lengths′ ≡ lengths → k′ ≡ k → b′ ≡ b → late′ ≡ late → fast′ ≡ fast → sent′ ≡ sent
+    → ts′ ≡ ts → rs′ ≡ rs → out′ ≡ out → lengths′ ≡ lengths → k′ ≡ k → b′ ≡ b → late′ ≡ late → fast′ ≡ fast
+    → sent′ ≡ sent
     → Walking f n pool k₀ out₀ lengths₀ l₀ ws ts rs k out lengths b late fast sent i
     → Walking f n pool k₀ out₀ lengths₀ l₀ ws ts′ rs′ k′ out′ lengths′ b′ late′ fast′ sent′ i
 walking-as et er eo el ek eb ea ef es w = rw (et, er, eo, el, ek, eb, ea, ef, es) w

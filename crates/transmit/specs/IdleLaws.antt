@@ -1,7 +1,7 @@
 -- A flush that sends no data leaves the outstanding segments as they were: one that is not sent stays, and one that is numbered is sent.
 -- Assumes nothing.
 use mathlib.Core.Path.{_≡_, refl, _∙_}
-use mathlib.Core.Bool.{Bool, true, false, _||_, true≢false}
+use mathlib.Core.Bool.{Bool, false, true≢false}
 use mathlib.Core.List.{List, [], _∷_, _++_, append-nil}
 use Prim.Native.Nat.{ℕ}
 use lib.ListN.{take}
@@ -10,13 +10,10 @@ use Rattle.retransmission.specs.Transmissions.{transmission}
 use Rattle.retransmission.specs.TransmissionLaws.{transmission-not-sent}
 use Rattle.lists.specs.declared.Held.{Held}
 use Rattle.lists.specs.declared.Sent.{Sent}
+use Rattle.session.specs.Decides.{or-parts}
 use Rattle.session.specs.State.{State, Sending}
 use Rattle.session.specs.Flushing.{Ruled, ruled, afterwards, some, numbered, windowOf, numberedCount, withNumbered, flushing}
 use Rattle.transmit.specs.Flushes.{sendsAt}
-
-or-parts : (a b : Bool) → (a || b) ≡ false → (a ≡ false) × (b ≡ false)
-or-parts true b e = absurd (true≢false e)
-or-parts false b e = (refl, e)
 
 module _ (c : Settings) (timeout t : ℕ) where
   abbrev sends : List Sent → Bool

@@ -12,16 +12,6 @@ use Rattle.timing.specs.declared.Record.{Record}
 use Rattle.records.specs.Tables.{blank}
 use Rattle.records.specs.Tables.{slotsIn}
 
--- a slot for each word
-pub slots-counted : (ws : List ℕ) (n k : ℕ) → length ws ≡ 32 → k ≡ min n 32 → k ≡ length (slotsIn ws n)
-slots-counted ws n k e f = f ∙ sym (length-map (take (min n 32) ws) (λ (w : ℕ). w % 256) ∙ length-take-le (min n 32) ws (omega arith))
-
-pub slot-listed : (ws : List ℕ) (n i s : ℕ) → s ≡ getD ws i 0 % 256 → i < length (slotsIn ws n) → s ≡ getD (slotsIn ws n) i 0
-slot-listed ws n i s e h =
-    let within : i < min n 32 = omega (arith, length-map (take (min n 32) ws) (λ (w : ℕ). w % 256), length-take (min n 32) ws) in
-    e ∙ ap (λ (w : ℕ). w % 256) (sym (getD-take (min n 32) ws i 0 within)) ∙ sym
-    (List·getD-map (λ (w : ℕ). w % 256) (take (min n 32) ws) i 0)
-
 -- of 128 records, the count that is lent
 module _ (table : List Record) (lent most : ℕ) (whole : length table ≡ 128) (e : most ≡ min lent 128) where
   pub lent-front : take most table ≡ take lent table

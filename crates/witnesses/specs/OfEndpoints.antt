@@ -104,7 +104,8 @@ unfoldable pub flushed : Endpoint
 flushed = afterFlush sent (flushes (sent .link) (sent .parts) (flushPartsOf (replicate outputLeast 0) (replicate lengthsLeast 0)) 7)
 
 unfoldable pub datagram : List ℕ
-datagram = 1 ∷ 0 ∷ 0 ∷ 0 ∷ 81 ∷ 0 ∷ 128 ∷ 0 ∷ 7 ∷ 0 ∷ 0 ∷ 0 ∷ 0 ∷ 0 ∷ 0 ∷ 0 ∷ 0 ∷ 0 ∷ 0 ∷ 0 ∷ 2 ∷ 0 ∷ 0 ∷ 0 ∷ 104 ∷ 105 ∷ []
+datagram = 1 ∷ 0 ∷ 0 ∷ 0 ∷ 81 ∷ 0 ∷ 128 ∷ 0 ∷ 7 ∷ 0 ∷ 0 ∷ 0 ∷ 0 ∷ 0 ∷ 0 ∷ 0 ∷ 0 ∷ 0 ∷ 0 ∷ 0 ∷ 2 ∷ 0 ∷ 0 ∷ 0
+    ∷ 104 ∷ 105 ∷ []
 
 -- a receiver takes the datagram in and reads
 unfoldable pub heard : Endpoint

@@ -159,7 +159,10 @@ met = record {
   sizes = refl;
   few = omega arith;
   fed-first = (List·Memᴰ·tail (List·Memᴰ·tail (List·Memᴰ·tail (List·Memᴰ·head refl))), tt);
-  fed-second = (List·Memᴰ·tail (List·Memᴰ·tail (List·Memᴰ·tail (List·Memᴰ·head refl))), (List·Memᴰ·head refl, (List·Memᴰ·head refl, tt)));
+  fed-second = (
+    List·Memᴰ·tail (List·Memᴰ·tail (List·Memᴰ·tail (List·Memᴰ·head refl))),
+    (List·Memᴰ·head refl, (List·Memᴰ·head refl, tt)),
+  );
   fits = (bytes-by (replicate 27 7) refl, (omega arith, (bytes-by (replicate 3303 1) refl, (bytes-by (9 ∷ []) refl, (omega arith, tt)))));
   fits-first = (bytes-by (getD wrote 3 []) refl, (omega arith, (tt, (tt, tt))));
   fits-second = (

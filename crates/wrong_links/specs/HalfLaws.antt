@@ -23,6 +23,7 @@ use Rattle.lists.specs.Acknowledging.{select, skipBefore}
 use Rattle.lists.specs.AcknowledgingLaws.{skip-number}
 use Rattle.lists.specs.Orders.{waitingOffset, isHeld, insert}
 use Rattle.lists.specs.ReceivingLaws.{advance-held}
+use Rattle.session.specs.Decides.{or-parts}
 use Rattle.session.specs.Slots.{occurs, lowestFree}
 use Rattle.session.specs.State.{State, Sending, Receiving, receiveHeld, slots, withWindow, withOutstanding}
 use Rattle.session.specs.Input.{
@@ -64,16 +65,12 @@ use Rattle.wrong_links.specs.Halves.{outstandingNumbers, heldCount, isKe
 abbrev Gone : ℕ → List Sent → Type 0
 Gone n l = occurs n (map (λ (x : Sent). x .record .number) l) ≡ false
 
-or-false : (a b : Bool) → (a || b) ≡ false → (a ≡ false) × (b ≡ false)
-or-false false b e = (refl, e)
-or-false true b e = absurd (let z : _≡_ {A = ℕ} 0 1 = cc in omega arith)
-
 -- what is gone stays gone
 select-gone : (n : ℕ) (test : Sent → Bool) (l : List Sent) → Gone n l → Gone n (select test l)
 unfolding occurs select
 select-gone n test [] h = h
 select-gone n test (x ∷ l) h =
-    let p = or-false (eqb n (x .record .number)) (occurs n (map (λ (x : Sent). x .record .number) l)) h in
+    let p = or-parts (eqb n (x .record .number)) (occurs n (map (λ (x : Sent). x .record .number) l)) h in
     go (test x) (p .0) (select-gone n test l (p .1))
   where
     go : (b : Bool) → eqb n (x .record .number) ≡ false → Gone n (select test l) → Gone n (cond b (x ∷ select test l) (select test l))
@@ -181,7 +178,7 @@ insert-length : (offset : Waiting → ℕ) (a : Waiting) (l : List Waiting) → 
 unfolding isHeld insert
 insert-length offset a [] h = refl
 insert-length offset a (x ∷ l) h =
-    let p = or-false (eqb (offset x) (offset a)) (isHeld offset (offset a) l) h in
+    let p = or-parts (eqb (offset x) (offset a)) (isHeld offset (offset a) l) h in
     rw (p .0) (go (ltb (offset a) (offset x)) (insert-length offset a l (p .1)))
   where
     go : (b : Bool) → length (insert offset a l) ≡ suc (length l)

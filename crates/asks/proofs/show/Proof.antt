@@ -147,7 +147,7 @@ use Rattle.records.proofs.Walk.{
 }
 use Rattle.records.proofs.Call.{calls-fn, plainly}
 use Rattle.records.proofs.Shared.{LentShared, lends-shared, shared-back}
-use Rattle.records.proofs.Rows.{R, Rs, rs-typed, rs-makes}
+use Rattle.records.proofs.Rows.{R}
 use Rattle.lending.proofs.Fields.{ref-at, lend-mut, back-mut, lend-shr, back-shr, cell-out, cell-in, tells-length}
 use Rattle.records.proofs.Frame.{envOf}
 use Rattle.lending.proofs.Parts.{behind, spread}
@@ -398,7 +398,13 @@ module _ {M : Type 1} (𝓤 : URA M) (H : Heap 𝓤) (A : Atoms 𝓤) (W : Given
                             (vptr b (o + 636)) ∷ [],
                             (
                               (vptr b (o + 764)) ∷ [],
-                              ((vptr b (o + 796)) ∷ [], ((vptr b (o + 1308)) ∷ [], ((vptr b (o + 1820)) ∷ [], (s₁ ∷ [], (s₂ ∷ [], (s₄ ∷ [], tt)))))),
+                              (
+                                (vptr b (o + 796)) ∷ [],
+                                (
+                                  (vptr b (o + 1308)) ∷ [],
+                                  ((vptr b (o + 1820)) ∷ [], (s₁ ∷ [], (s₂ ∷ [], (s₄ ∷ [], tt)))),
+                                ),
+                              ),
                             ),
                           ),
                         ),

@@ -168,7 +168,8 @@ use Rattle.records.proofs.Frame.{envOf}
 use Rattle.records.proofs.Call.{calls-fn, plainly, lent-first}
 use Rattle.lending.proofs.Fields.{ref-at}
 use Rattle.gathering.specs.Reach.{reach}
-use Rattle.gathering.proofs.Listed.{slots-counted, slot-listed, reached}
+use Rattle.records.proofs.Turns.{slots-counted, slot-listed}
+use Rattle.gathering.proofs.Listed.{reached}
 use Rattle.gathering.proofs.Passes.{passes-more, passes-all, first-padded}
 use Rattle.protocol.specs.declared.Settings.{Settings}
 use Rattle.protocol.proofs.Settings as settings-row
@@ -303,7 +304,8 @@ module _ {M : Type 1} (𝓤 : URA M) (H : Heap 𝓤) (A : Atoms 𝓤) (W : Given
           words-ty = tyRef (named 1) imm (tyArray (tyInt w32) 32)
 
           abbrev En : Env 𝓤 H
-          En = envOf (code.function .locals) (l₀ ∷ l₁ ∷ l₂ ∷ l₃ ∷ l₄ ∷ l₅ ∷ l₆ ∷ l₇ ∷ l₈ ∷ l₉ ∷ l₁₀ ∷ l₁₁ ∷ l₁₂ ∷ [])
+          En = envOf (code.function .locals) (l₀ ∷ l₁ ∷ l₂ ∷ l₃ ∷ l₄ ∷ l₅ ∷ l₆ ∷ l₇ ∷ l₈ ∷ l₉ ∷ l₁₀ ∷ l₁₁
+              ∷ l₁₂ ∷ [])
 
           abbrev Inv : At → List (Item 𝓤)
           Inv t = ‵ Own ∷ ‵ (flft κ q) ∷ ‵ Words ∷ ‵ (flft κ″ q″) ∷ ‵ (froom tyBool l₁₂ 0) ∷ ‵ (fdies tyBool l₁₂)
@@ -447,7 +449,8 @@ module _ {M : Type 1} (𝓤 : URA M) (H : Heap 𝓤) (A : Atoms 𝓤) (W : Given
           qed W ((‵ (flft κ q) ⊛ ‵ (flft κ″ q″) ⊛ ‵ ftrue)
           ∷ ‵ (owns (ShrSlice (named 0) κ R ∷ ShrRef (named 1) κ″ Ws ∷ settings-row.the-row ∷ flight-row.the-row ∷ []) x at) ∷ []) ∵
           enter ! (𝓣 .C) (𝓣 .Λ) code.function (s ∷ vptr b″ o″ ∷ sv ∷ fv ∷ []) _ $
-          alloc1 ! (λ l₀. alloc1 ! (λ l₁. alloc1 ! (λ l₂. alloc1 ! (λ l₃. alloc1 ! (λ l₄. alloc1 ! (λ l₅. alloc1 ! (λ l₆. alloc1 ! (λ l₇.
+          alloc1 ! (λ l₀. alloc1 ! (λ l₁. alloc1 ! (λ l₂.
+          alloc1 ! (λ l₃. alloc1 ! (λ l₄. alloc1 ! (λ l₅. alloc1 ! (λ l₆. alloc1 ! (λ l₇.
           alloc1 ! (λ l₈. alloc1 ! (λ l₉. alloc1 ! (λ l₁₀. alloc1 ! (λ l₁₁. alloc1 ! (λ l₁₂. alloc0 ! $ params1 ! $
           pass1 ! (init ! 22 refl (tt, (tt, (record { fits = room .0 }, tt)))) $ pass1 ! (init ! 20 refl (tt, tt)) $
           pass1 ! (init ! 18 refl (LL.lawful settings-row.the-type settings-laws.the-laws 𝓤 H A W .typed c (sv ∷ []) gs .0)) $
@@ -462,7 +465,8 @@ module _ {M : Type 1} (𝓤 : URA M) (H : Heap 𝓤) (A : Atoms 𝓤) (W : Given
           assigns ! (of-opd ! (lit ! tt)) (from ! (stop !)) (init ! 12 refl (tt, record { fits = lit< tt })) $
           assigns ! (of-opd ! (lit ! tt)) (from ! (stop !)) (init ! 10 refl (tt, record { fits = lit< tt })) $
           move ! (27 ∷ []) $ fsplit ! $ move ! (1 ∷ []) $ fsplit ! $ move ! (29 ∷ []) $ split ! $ move ! (1 ∷ []) $ split ! $
-          keep ! (5 ∷ 2 ∷ 3 ∷ 0 ∷ 6 ∷ 7 ∷ 8 ∷ 9 ∷ 10 ∷ 11 ∷ 12 ∷ 13 ∷ 14 ∷ 15 ∷ 16 ∷ 17 ∷ 18 ∷ 19 ∷ 20 ∷ 21 ∷ 22 ∷ 23 ∷ 24 ∷ 25 ∷ 26 ∷ 27
+          keep ! (5 ∷ 2 ∷ 3 ∷ 0 ∷ 6 ∷ 7 ∷ 8 ∷ 9 ∷ 10 ∷ 11 ∷ 12 ∷ 13 ∷ 14 ∷ 15 ∷ 16 ∷ 17 ∷ 18 ∷ 19 ∷ 20 ∷ 21 ∷ 22 ∷ 23
+          ∷ 24 ∷ 25 ∷ 26 ∷ 27
           ∷ 28 ∷ 29 ∷ 30 ∷ 31 ∷ []) $
           by ! (looped n (is-n .1) (slots-counted ws (g .outstanding) n listed (e-n .0)) (e-n .1) 𝓣 known l₀ l₁ l₂ l₃ l₄ l₅ l₆ l₇ l₈ l₉
           l₁₀ l₁₁ l₁₂)))))))))))))))
@@ -510,7 +514,8 @@ fit-spec 𝓤 H 𝓜 𝓖 𝓡 =
           count-def.routine code.calls-checking·flights·looked-at (count-thm.met 𝓤 H 𝓜 𝓖 𝓡),
       cited 𝓤 H (tripleOf 𝓤 H (𝓖 .A) reach-of.signature (reach-of.spec 𝓤 H (𝓖 .A) (𝓜 .mem) (𝓡 .run))) 𝓜 𝓡 code.env reach-of-def.name
           reach-of-def.routine code.calls-gathering·reach (reach-of-thm.met 𝓤 H 𝓜 𝓖 𝓡),
-      cited 𝓤 H (tripleOf 𝓤 H (𝓖 .A) read.signature (read.spec 𝓤 H (𝓖 .A) (𝓜 .mem) (𝓡 .run))) 𝓜 𝓡 code.env read-def.name read-def.routine
+      cited 𝓤 H (tripleOf 𝓤 H (𝓖 .A) read.signature (read.spec 𝓤 H (𝓖 .A) (𝓜 .mem) (𝓡 .run))) 𝓜 𝓡 code.env read-def.name
+          read-def.routine
           code.calls-records·read (read-thm.met 𝓤 H 𝓜 𝓖 𝓡),
       cited 𝓤 H (tripleOf 𝓤 H (𝓖 .A) next-of.signature (next-of.spec 𝓤 H (𝓖 .A) (𝓜 .mem) (𝓡 .run))) 𝓜 𝓡 code.env next-of-def.name
           next-of-def.routine code.calls-checking·flights·next-least (next-of-thm.met 𝓤 H 𝓜 𝓖 𝓡),

@@ -177,11 +177,11 @@ use Rattle.record_words.specs.RecordWords.{recordsIn}
 use Rattle.record_words.specs.RecordLaws.{records-none}
 use Rattle.records.proofs.Rows.{R, typed, makes, ref}
 use Rattle.records.proofs.Frame.{envOf}
-use Rattle.records.proofs.Turns.{gathers-more, gathers-all}
+use Rattle.records.proofs.Turns.{slots-counted, slot-listed, gathers-more, gathers-all}
 use Rattle.records.proofs.Call.{calls-fn, plainly, lent-first}
 use Rattle.lending.proofs.Fields.{ref-at, lend-mut, back-mut}
 use Rattle.gathering.specs.Reach.{reach}
-use Rattle.gathering.proofs.Listed.{slots-counted, slot-listed, reached}
+use Rattle.gathering.proofs.Listed.{reached}
 use Rattle.gathering.proofs.within as count
 use Rattle.gathering.proofs.within.Symbol as count-def
 use Rattle.gathering.proofs.within.Met as count-thm
@@ -226,7 +226,8 @@ module _ {M : Type 1} (𝓤 : URA M) (H : Heap 𝓤) (A : Atoms 𝓤) (W : Given
       × Triple 𝓤 (C record-put-def.name) (tripleOf 𝓤 H A record-put.signature (record-put.spec 𝓤 H A mem run))
       × Triple 𝓤 (C word-at-def.name) (tripleOf 𝓤 H A word-at.signature (word-at.spec 𝓤 H A mem run))
 
-  module _ (κ κ″ κ′ : Lft) (q q″ q′ : Share) (b o : ℕ) (γ : GName) (ys : List Record) (room : Room R (length ys)) (b″ o″ : ℕ) (γ″ : GName)
+  module _ (κ κ″ κ′ : Lft) (q q″ q′ : Share) (b o : ℕ) (γ : GName) (ys : List Record) (room : Room R (length ys)) (b″ o″ : ℕ)
+      (γ″ : GName)
       (ws : List ℕ) (listed : length ws ≡ 32) (lent : ℕ) (nv : Val) (gv : Is usize lent (nv ∷ [])) (b′ o′ : ℕ) (γ′ : GName) (ns : List ℕ)
       (empty : ns ≡ replicate 128 0) where
     abbrev x : RefT (List Record) × (RefT (List ℕ) × (ℕ × (RefT (List ℕ) × Unit {0})))
@@ -339,7 +340,8 @@ module _ {M : Type 1} (𝓤 : URA M) (H : Heap 𝓤) (A : Atoms 𝓤) (W : Given
         lent-ty = tyRef erased mut (tyArray (tyInt w32) 128)
 
         abbrev En : Env 𝓤 H
-        En = envOf (code.function .locals) (l₀ ∷ l₁ ∷ l₂ ∷ l₃ ∷ l₄ ∷ l₅ ∷ l₆ ∷ l₇ ∷ l₈ ∷ l₉ ∷ l₁₀ ∷ l₁₁ ∷ l₁₂ ∷ [])
+        En = envOf (code.function .locals) (l₀ ∷ l₁ ∷ l₂ ∷ l₃ ∷ l₄ ∷ l₅ ∷ l₆ ∷ l₇ ∷ l₈ ∷ l₉ ∷ l₁₀ ∷ l₁₁
+            ∷ l₁₂ ∷ [])
 
         abbrev Inv : At → List (Item 𝓤)
         Inv t = ‵ Own ∷ ‵ (flft κ q) ∷ ‵ (partAt Ns fullShare (t .1) b′ o′) ∷ ‵ Opened ∷ ‵ Words ∷ ‵ (flft κ″ q″)
@@ -488,7 +490,8 @@ module _ {M : Type 1} (𝓤 : URA M) (H : Heap 𝓤) (A : Atoms 𝓤) (W : Given
         -- the array's borrow is opened
         move ! (4 ∷ 0 ∷ []) $ fsplit3 ! $ drop ! $ open-ref ! tt (lying Ns) {b = b′} {o = o′} $ move ! (1 ∷ 2 ∷ 3 ∷ []) $ fjoin ! $
         fjoin ! $
-        keep ! (8 ∷ 4 ∷ 1 ∷ 0 ∷ 7 ∷ 3 ∷ 9 ∷ 10 ∷ 11 ∷ 12 ∷ 13 ∷ 14 ∷ 15 ∷ 16 ∷ 17 ∷ 18 ∷ 19 ∷ 20 ∷ 21 ∷ 22 ∷ 23 ∷ 24 ∷ 25
+        keep ! (8 ∷ 4 ∷ 1 ∷ 0 ∷ 7 ∷ 3 ∷ 9 ∷ 10 ∷ 11 ∷ 12 ∷ 13 ∷ 14 ∷ 15 ∷ 16 ∷ 17 ∷ 18 ∷ 19 ∷ 20 ∷ 21 ∷ 22 ∷ 23 ∷ 24
+        ∷ 25
         ∷ 26 ∷ 27 ∷ 28 ∷ 29 ∷ 30 ∷ 31 ∷ 32 ∷ 33 ∷ 34 ∷ []) $
         by ! (looped n (is-n .1) (slots-counted ws lent n listed (e-n .0)) (e-n .1) 𝓣 known
         l₀ l₁ l₂ l₃ l₄ l₅ l₆ l₇ l₈ l₉ l₁₀ l₁₁ l₁₂)))))))))))))))

@@ -188,11 +188,10 @@ use Rattle.record_words.specs.RecordWords.{recordsIn}
 use Rattle.record_words.specs.RecordLaws.{records-length}
 use Rattle.records.proofs.Rows.{R, typed, makes, ref}
 use Rattle.records.proofs.Frame.{envOf}
-use Rattle.records.proofs.Turns.{Left, scatters-more, scatters-all}
+use Rattle.records.proofs.Turns.{slots-counted, slot-listed, Left, scatters-more, scatters-all}
 use Rattle.records.proofs.Again.{LentAgain, lends-again, comes-back}
 use Rattle.records.proofs.Call.{calls-fn, plainly, lent-first}
 use Rattle.lending.proofs.Fields.{ref-at}
-use Rattle.gathering.proofs.Listed.{slots-counted, slot-listed}
 use Rattle.gathering.proofs.within as count
 use Rattle.gathering.proofs.within.Symbol as count-def
 use Rattle.gathering.proofs.within.Met as count-thm
@@ -234,7 +233,8 @@ module _ {M : Type 1} (𝓤 : URA M) (H : Heap 𝓤) (A : Atoms 𝓤) (W : Given
       × Triple 𝓤 (C replace-def.name) (tripleOf 𝓤 H A replace.signature (replace.spec 𝓤 H A mem run))
       × Triple 𝓤 (C word-at-def.name) (tripleOf 𝓤 H A word-at.signature (word-at.spec 𝓤 H A mem run))
 
-  module _ (κ κ″ κ′ : Lft) (q q″ q′ : Share) (b o : ℕ) (γ : GName) (ys : List Record) (room : Room R (length ys)) (b″ o″ : ℕ) (γ″ : GName)
+  module _ (κ κ″ κ′ : Lft) (q q″ q′ : Share) (b o : ℕ) (γ : GName) (ys : List Record) (room : Room R (length ys)) (b″ o″ : ℕ)
+      (γ″ : GName)
       (ws : List ℕ) (listed : length ws ≡ 32) (lent : ℕ) (nv : Val) (gv : Is usize lent (nv ∷ [])) (b′ o′ : ℕ) (γ′ : GName) (ns : List ℕ)
       (len : length ns ≡ 128) where
     abbrev x : RefT (List Record) × (RefT (List ℕ) × (ℕ × (RefT (List ℕ) × Unit {0})))
@@ -352,11 +352,13 @@ module _ {M : Type 1} (𝓤 : URA M) (H : Heap 𝓤) (A : Atoms 𝓤) (W : Given
         lent-ty = tyRef erased mut (pointee (R .written))
 
         abbrev En : Env 𝓤 H
-        En = envOf (code.function .locals) (l₀ ∷ l₁ ∷ l₂ ∷ l₃ ∷ l₄ ∷ l₅ ∷ l₆ ∷ l₇ ∷ l₈ ∷ l₉ ∷ l₁₀ ∷ l₁₁ ∷ l₁₂ ∷ l₁₃ ∷ [])
+        En = envOf (code.function .locals) (l₀ ∷ l₁ ∷ l₂ ∷ l₃ ∷ l₄ ∷ l₅ ∷ l₆ ∷ l₇ ∷ l₈ ∷ l₉ ∷ l₁₀ ∷ l₁₁
+            ∷ l₁₂ ∷ l₁₃ ∷ [])
 
         abbrev Inv : At → List (Item 𝓤)
         Inv t = ‵ (Own κ γ (t .1) (length (t .1))) ∷ ‵ (flft κ q) ∷ ‵ Lent ∷ ‵ (flft κ′ q′) ∷ ‵ Words ∷ ‵ (flft κ″ q″)
-            ∷ ‵ (froom (sliceTy lent-ty) l₁₃ 0) ∷ ‵ (fdies (sliceTy lent-ty) l₁₃) ∷ ‵ (froom lent-ty l₁₂ 0) ∷ ‵ (fdies lent-ty l₁₂)
+            ∷ ‵ (froom (sliceTy lent-ty) l₁₃ 0) ∷ ‵ (fdies (sliceTy lent-ty) l₁₃) ∷ ‵ (froom lent-ty l₁₂ 0)
+            ∷ ‵ (fdies lent-ty l₁₂)
             ∷ ‵ (froom tyUnit l₁₁ 0) ∷ ‵ (fdies tyUnit l₁₁) ∷ ‵ (froom tyBool l₁₀ 0) ∷ ‵ (fdies tyBool l₁₀)
             ∷ ‵ (froom T′.mir l₉ 0) ∷ ‵ (fdies T′.mir l₉) ∷ ‵ (froom word l₈ 0) ∷ ‵ (fdies word l₈)
             ∷ ‵ (froom (tyInt w32) l₇ 0) ∷ ‵ (fdies (tyInt w32) l₇) ∷ ‵ (fat fullShare word l₆ 0 (vint w64 (t .0))) ∷ ‵ (fdies word l₆)
@@ -512,7 +514,8 @@ module _ {M : Type 1} (𝓤 : URA M) (H : Heap 𝓤) (A : Atoms 𝓤) (W : Given
         assigns ! (of-opd ! (lit ! tt)) (from ! (stop !)) (init ! 14 refl (tt, record { fits = lit< tt })) $
         move ! (29 ∷ []) $ fsplit ! $ move ! (1 ∷ []) $ fsplit ! $ move ! (1 ∷ []) $ fsplit ! $ move ! (1 ∷ []) $ fsplit ! $
         move ! (33 ∷ []) $ split ! $ move ! (1 ∷ []) $ split ! $ move ! (1 ∷ []) $ split ! $
-        keep ! (8 ∷ 3 ∷ 4 ∷ 0 ∷ 7 ∷ 2 ∷ 9 ∷ 10 ∷ 11 ∷ 12 ∷ 13 ∷ 14 ∷ 15 ∷ 16 ∷ 17 ∷ 18 ∷ 19 ∷ 20 ∷ 21 ∷ 22 ∷ 23 ∷ 24 ∷ 25
+        keep ! (8 ∷ 3 ∷ 4 ∷ 0 ∷ 7 ∷ 2 ∷ 9 ∷ 10 ∷ 11 ∷ 12 ∷ 13 ∷ 14 ∷ 15 ∷ 16 ∷ 17 ∷ 18 ∷ 19 ∷ 20 ∷ 21 ∷ 22 ∷ 23 ∷ 24
+        ∷ 25
         ∷ 26 ∷ 27 ∷ 28 ∷ 29 ∷ 30 ∷ 31 ∷ 32 ∷ 33 ∷ 34 ∷ 35 ∷ 36 ∷ []) $
         by ! (looped n (is-n .1) (slots-counted ws lent n listed (e-n .0)) (e-n .1) 𝓣 known
         l₀ l₁ l₂ l₃ l₄ l₅ l₆ l₇ l₈ l₉ l₁₀ l₁₁ l₁₂ l₁₃))))))))))))))))

@@ -147,7 +147,7 @@ use Rattle.records.proofs.Walk.{
 }
 use Rattle.records.proofs.Call.{calls-fn, plainly}
 use Rattle.records.proofs.Shared.{LentShared, lends-shared, shared-back}
-use Rattle.records.proofs.Rows.{R, Rs, rs-typed, rs-makes}
+use Rattle.records.proofs.Rows.{R}
 use Rattle.lending.proofs.Fields.{ref-at, lend-mut, back-mut, lend-shr, back-shr, cell-out, cell-in, tells-length}
 use Rattle.records.proofs.Frame.{envOf}
 use Rattle.lending.proofs.Parts.{behind, spread}

@@ -4,10 +4,10 @@ use mathlib.Core.Path.{_≡_, refl, sym, ap, _∙_}
 use Prim.Native.Nat.{_-_, _≤_, _<_}
 use lib.ListN.{length, take}
 use Rattle.records.specs.Tables.{slotsIn, gathered, padded}
-use Rattle.records.proofs.Turns.{gathers-more, gathers-all}
+use Rattle.records.proofs.Turns.{slots-counted, slot-listed, gathers-more, gathers-all}
 use Rattle.record_words.specs.RecordWords.{recordsIn}
 use Rattle.record_words.specs.RecordLaws.{records-none}
-use Rattle.value_table.proofs.Turns.{slots-counted, slot-listed, front-all}
+use Rattle.value_table.proofs.Turns.{front-all}
 use mathlib.Core.List.{List}
 use native.Mathlib.Omega.{arith}
 use Rattle.timing.specs.declared.Record.{Record}

@@ -4,10 +4,10 @@ use mathlib.Core.Path.{_≡_, refl, sym, ap, _∙_}
 use Prim.Native.Nat.{_-_, _≤_, _<_}
 use lib.ListN.{length, take, drop, set}
 use Rattle.records.specs.Tables.{slotsIn, scattered}
-use Rattle.records.proofs.Turns.{Left, scatters-more, scatters-all}
+use Rattle.records.proofs.Turns.{slots-counted, slot-listed, Left, scatters-more, scatters-all}
 use Rattle.record_words.specs.RecordWords.{recordsIn}
 use Rattle.record_words.specs.RecordLaws.{records-length}
-use Rattle.value_table.proofs.Turns.{slots-counted, slot-listed, lent-front, lent-rest}
+use Rattle.value_table.proofs.Turns.{lent-front, lent-rest}
 use mathlib.Core.List.{List}
 use native.Mathlib.Omega.{arith}
 use Rattle.timing.specs.declared.Record.{Record}
