@@ -4,4 +4,3 @@ pub mod Joins
 pub mod Lines
 pub mod Halves
 pub mod Whole
-pub mod Admits

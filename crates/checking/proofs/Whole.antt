@@ -1,9 +1,9 @@
 -- The whole block: its numbers, then its halves.
 -- Assumes nothing.
-use mathlib.Core.Path.{_≡_, refl, sym, ap, _∙_}
-use mathlib.Core.Bool.{Bool, true, false, _&&_, and-false, and-true, false≢true}
+use mathlib.Core.Path.{_≡_, refl, sym, _∙_}
+use mathlib.Core.Bool.{Bool, true, false, not, _&&_, and-false, false≢true}
 use mathlib.Core.List.{List}
-use Prim.Native.Nat.{ℕ, _≤_, _<_, _^_, min}
+use Prim.Native.Nat.{ℕ, _≤_, _<_, _^_}
 use native.Mathlib.Omega.{arith}
 use lib.ListN.{length, take}
 use Rattle.protocol.specs.Ranges.{inRange, mss}
@@ -32,19 +32,41 @@ use Rattle.checking.specs.Tests.{
   ReceivingFits,
 }
 use Rattle.checking.specs.Verdicts.{Checked}
+use Rattle.checking.proofs.Turns.{not-true, not-false}
 use Rattle.checking.proofs.Joins.{both-low}
 use Rattle.checking.proofs.Halves.{send-slots, sending-checked, receive-slots, receiving-checked}
+
+abbrev trip : Settings → Flight → Bool
+trip s f = roundTripFits (s .mode) (f .rtt)
+
+abbrev congested : Settings → Flight → Bool
+congested s f = fits (f .congestion) (mss s)
+
+module _ (s : Settings) (f : Flight) (a : Arrival) (k : Clock) where
+  -- where the numbers fit: what they say of each
+  record Numbers : Type 0 where
+    pub counting : counted f a ≡ true
+    pub ranges : inRange s ≡ true
+    pub round : trip s f ≡ true
+    pub probing : probeFits (k .probe) ≡ true
+    pub congesting : congested s f ≡ true
+
+  numbers-of : true ≡ numbersFit s f a k → Numbers
+  numbers-of e =
+      let g₀ = and-parts (counted f a && inRange s && trip s f && probeFits (k .probe)) (congested s f) (sym e) in
+      let g₁ = and-parts (counted f a && inRange s && trip s f) (probeFits (k .probe)) (g₀ .0) in
+      let g₂ = and-parts (counted f a && inRange s) (trip s f) (g₁ .0) in
+      let g₃ = and-parts (counted f a) (inRange s) (g₂ .0) in
+      record { counting = g₃ .0; ranges = g₃ .1; round = g₂ .1; probing = g₁ .1; congesting = g₀ .1 }
+
+  -- the counts fit
+  pub counted-of : true ≡ numbersFit s f a k → Counts f a
+  counted-of e = counts f a (numbers-of e .counting)
 
 module _ (s : Settings) (f : Flight) (a : Arrival) (k : Clock) (x : Arrays) (rs : List Record) (whole : Whole x) (many : length rs ≡ 32)
     (below : a .expected < 2 ^ 32) where
   abbrev link : Link
   link = linkOf s f a k x
-
-  abbrev trip : Bool
-  trip = roundTripFits (s .mode) (f .rtt)
-
-  abbrev congested : Bool
-  congested = fits (f .congestion) (mss s)
 
   abbrev sends : Bool
   sends = sendingFits (mss s) (x .queued) (f .queued) (x .outstanding) (x .transmissions) (f .outstanding)
@@ -84,7 +106,7 @@ module _ (s : Settings) (f : Flight) (a : Arrival) (k : Clock) (x : Arrays) (rs 
     side : a .waiting ≤ length (x .numbers)
     side = omega (arith, n .waiting, whole .whole-numbers)
 
-    block-parts : blockValid link rs acks ≡ (inRange s && (sends && flies && trip) && receives && probeFits (k .probe) && congested)
+    block-parts : blockValid link rs acks ≡ (inRange s && (sends && flies && trip s f) && receives && probeFits (k .probe) && congested s f)
     unfolding blockValid countsFit valid stateOf
     block-parts =
         let noted : length (pairs (a .acks) acks) ≤ 256 = omega (arith, pairs-most (a .acks) acks, n .acks) in
@@ -106,7 +128,7 @@ module _ (s : Settings) (f : Flight) (a : Arrival) (k : Clock) (x : Arrays) (rs 
         (free-start receiveHolds (both-low (take (a .ready) (x .ready)) (take (a .waiting) (x .waiting))))
 
   -- the numbers do not fit
-  unfit : (send receive : List ℕ) → false ≡ numbersFit s f a k → length send ≡ 256 → length receive ≡ 256
+  pub unfit : (send receive : List ℕ) → false ≡ numbersFit s f a k → length send ≡ 256 → length receive ≡ 256
       → Checked link rs send receive false
   unfolding blockValid countsFit
   unfit send receive e es er =
@@ -128,53 +150,42 @@ module _ (s : Settings) (f : Flight) (a : Arrival) (k : Clock) (x : Arrays) (rs 
       go : (acks : List ℕ) (z : Bool) → counted f a ≡ z → false ≡ blockValid link rs acks
       go acks false z = rw z refl
       go acks true z =
-          never (inRange s) trip (probeFits (k .probe)) congested (sends && flies) receives (sym (rw z at e))
+          never (inRange s) (trip s f) (probeFits (k .probe)) (congested s f) (sends && flies) receives (sym (rw z at e))
           ∙ sym (block-parts acks z)
 
-  -- they do
-  fit : (p : ℕ) (send receive : List ℕ) (y₁ y₂ y₃ : Bool) → true ≡ numbersFit s f a k → p ≡ mss s
-      → SendingFits p (x .queued) (f .queued) (x .outstanding) (x .transmissions) (f .outstanding) send y₁ → y₂ ≡ flies
-      → ReceivingFits p (a .expected) (x .ready) (a .ready) (x .waiting) (x .numbers) (a .waiting) receive y₃
-      → Checked link rs send receive (y₁ && y₂ && y₃)
-  fit p send receive y₁ y₂ y₃ e ep h₁ h₂ h₃ =
-      let g₀ = and-parts (counted f a && inRange s && trip && probeFits (k .probe)) congested (sym e) in
-      let g₁ = and-parts (counted f a && inRange s && trip) (probeFits (k .probe)) (g₀ .0) in
-      let g₂ = and-parts (counted f a && inRange s) trip (g₁ .0) in
-      let g₃ = and-parts (counted f a) (inRange s) (g₂ .0) in
+  -- the sending half does not fit
+  pub unsent : (p : ℕ) (send receive : List ℕ) (z : Bool) → true ≡ numbersFit s f a k → p ≡ mss s → not z ≡ true
+      → SendingFits p (x .queued) (f .queued) (x .outstanding) (x .transmissions) (f .outstanding) send z → length receive ≡ 256
+      → Checked link rs send receive false
+  unsent p send receive z e ep ez h er =
+      let g = numbers-of s f a k e in
+      record {
+        send-whole = h .whole;
+        receive-whole = er;
+        fits = λ acks. rw (block-parts acks (g .counting), g .ranges, ← ep, ← h .fits, not-true z ez) refl;
+        send-free = λ acks z. absurd (false≢true z);
+        receive-free = λ acks z. absurd (false≢true z);
+      }
+
+  -- it does, and the receiving half and the records decide
+  pub sent-fits : (p : ℕ) (send receive : List ℕ) (z y flown : Bool) → true ≡ numbersFit s f a k → p ≡ mss s → not z ≡ false
+      → SendingFits p (x .queued) (f .queued) (x .outstanding) (x .transmissions) (f .outstanding) send z → flown ≡ flies
+      → ReceivingFits p (a .expected) (x .ready) (a .ready) (x .waiting) (x .numbers) (a .waiting) receive y
+      → Checked link rs send receive (y && flown)
+  sent-fits p send receive z y flown e ep ez h₁ h₂ h₃ =
+      let g = numbers-of s f a k e in
       record {
         send-whole = h₁ .whole;
         receive-whole = h₃ .whole;
-        fits = λ acks. rw (block-parts acks (g₃ .0), g₃ .1, g₂ .1, g₁ .1, g₀ .1, ← ep, ← h₁ .fits, ← h₂, ← h₃ .fits) (turn y₁ y₂ y₃);
-        send-free = λ acks z. rw (h₁ .marked (and-parts y₁ y₂ (and-parts (y₁ && y₂) y₃ z .0) .0)) (sent-free acks (g₃ .0));
-        receive-free = λ acks z. rw (h₃ .marked (and-parts (y₁ && y₂) y₃ z .1)) (got-free acks (g₃ .0));
+        fits = λ acks. rw (
+          block-parts acks (g .counting), g .ranges, g .round, g .probing, g .congesting, ← ep, ← h₁ .fits, not-false z ez, ← h₂, ← h₃ .fits,
+        ) (turn y flown);
+        send-free = λ acks g₁. rw (h₁ .marked (not-false z ez)) (sent-free acks (g .counting));
+        receive-free = λ acks g₁. rw (h₃ .marked (and-parts y flown g₁ .0)) (got-free acks (g .counting));
       }
     where
-      turn : (b₁ b₂ b₃ : Bool) → (b₁ && b₂ && b₃) ≡ (true && (b₁ && b₂ && true) && b₃ && true && true)
-      turn b₁ b₂ b₃ =
-          sym
-          (ap (λ (b : Bool). b && b₃ && true && true) (and-true (b₁ && b₂))
-          ∙ and-true (b₁ && b₂ && b₃ && true)
-          ∙ and-true (b₁ && b₂ && b₃))
-
-  -- the counts fit
-  counted-of : true ≡ numbersFit s f a k → Counts f a
-  counted-of e =
-      let g₀ = and-parts (counted f a && inRange s && trip && probeFits (k .probe)) congested (sym e) in
-      let g₁ = and-parts (counted f a && inRange s && trip) (probeFits (k .probe)) (g₀ .0) in
-      let g₂ = and-parts (counted f a && inRange s) trip (g₁ .0) in
-      counts f a (and-parts (counted f a) (inRange s) (g₂ .0) .0)
-
-  -- all tests: the lists are looked at up to their counts, and no further than the arrays go
-  pub checked : (b : Bool) (p : ℕ) (send receive : List ℕ) (n₁ n₂ n₃ n₄ : ℕ) (y₁ y₂ y₃ : Bool) → b ≡ numbersFit s f a k → p ≡ mss s
-      → n₁ ≡ min (f .queued) 128 → n₂ ≡ min (f .outstanding) 32 → n₃ ≡ min (a .ready) 128 → n₄ ≡ min (a .waiting) 128
-      → SendingFits p (x .queued) n₁ (x .outstanding) (x .transmissions) n₂ send y₁ → y₂ ≡ flies
-      → ReceivingFits p (a .expected) (x .ready) n₃ (x .waiting) (x .numbers) n₄ receive y₃
-      → Checked link rs send receive (b && y₁ && y₂ && y₃)
-  checked false p send receive n₁ n₂ n₃ n₄ y₁ y₂ y₃ e ep e₁ e₂ e₃ e₄ h₁ h₂ h₃ = unfit send receive e (h₁ .whole) (h₃ .whole)
-  checked true p send receive n₁ n₂ n₃ n₄ y₁ y₂ y₃ e ep e₁ e₂ e₃ e₄ h₁ h₂ h₃ =
-      let n = counted-of e in
-      let d₁ : n₁ ≡ f .queued = omega (arith, e₁, n .queued) in
-      let d₂ : n₂ ≡ f .outstanding = omega (arith, e₂, n .outstanding) in
-      let d₃ : n₃ ≡ a .ready = omega (arith, e₃, n .ready) in
-      let d₄ : n₄ ≡ a .waiting = omega (arith, e₄, n .waiting) in
-      fit p send receive y₁ y₂ y₃ e ep (rw (d₁, d₂) at h₁) h₂ (rw (d₃, d₄) at h₃)
+      turn : (b c : Bool) → (b && c) ≡ (true && (true && c && true) && b && true && true)
+      turn true true = refl
+      turn true false = refl
+      turn false true = refl
+      turn false false = refl

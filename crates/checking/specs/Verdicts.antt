@@ -1,7 +1,7 @@
 -- What the checks of a call say: refusal 7, then 13, or the marks of the slots held. Definitions.
 -- Assumes nothing.
 use mathlib.Core.Path.{_≡_}
-use mathlib.Core.Bool.{Bool, true, cond}
+use mathlib.Core.Bool.{Bool, true, cond, _&&_}
 use mathlib.Core.List.{List}
 use Prim.Native.Nat.{ℕ}
 use lib.ListN.{length, take}
@@ -45,6 +45,18 @@ pub record Admitted (long : Bool) (l : Link) (records : List Record) (send recei
   pub verdict : (acks : List ℕ) → v ≡ verdictOf long (blockValid l records acks)
   pub checked : v ≡ Passed → Checked l records send receive true
 
--- the same, with some marks of the send slots
-abbrev pub AdmittedHearing : Bool → Link → List Record → List ℕ → Verdict → Type 0
-AdmittedHearing long l records receive v = (send : List ℕ) × Admitted long l records send receive v
+-- ---- a block that is sound: all but the records of its outstanding segments is as 13 asks
+
+-- with the records that `flown` tells of it is 13, and where they pass the marks tell the free slots of both pools
+abbrev pub Sound : Link → List ℕ → List ℕ → Bool → Type 0
+Sound l send receive sound = (flown : Bool) → ByFlown l flown (λ records. Checked l records send receive (sound && flown))
+
+-- the marks of one pool, or of none, are handed on
+abbrev pub SendMarked : Link → List ℕ → Bool → Type 0
+SendMarked l send sound = (receive : List ℕ) × Sound l send receive sound
+
+abbrev pub ReceiveMarked : Link → List ℕ → Bool → Type 0
+ReceiveMarked l receive sound = (send : List ℕ) × Sound l send receive sound
+
+abbrev pub Sounds : Link → Bool → Type 0
+Sounds l sound = (send : List ℕ) × SendMarked l send sound
