@@ -2,7 +2,6 @@
 use answers::Time;
 use checking::Verdict;
 use checking::flights;
-use checking::hearing;
 use control::Arrival;
 use control::Clock;
 use control::Flight;
@@ -12,6 +11,7 @@ use sizes::Lengths;
 ghost use mathlib.Core.Path.{_≡_};
 ghost use lib.ListN.{length};
 ghost use Rattle.control.specs.Views.{arrays, linkOf, Whole};
+ghost use Rattle.checking.specs.Verdicts.{Sounds};
 ghost use Rattle.record_words.specs.RecordWords.{recordsIn};
 ghost use Rattle.promises.specs.Parts.{lentLengths};
 ghost use Rattle.promises.specs.Outcomes.{checksWith};
@@ -23,6 +23,7 @@ pub fn check(
     flight: Flight,
     arrival: Arrival,
     clock: Clock,
+    sound: bool,
     records: &[u32; 128],
     table: usize,
     queued: &[u32; 128],
@@ -37,7 +38,9 @@ pub fn check(
     t: u32,
 ) -> Time
     requires { ⌜ Whole (arrays (now queued) (now outstanding) (now transmissions) (now ready) (now waiting) (now «waiting_numbers»))
-        × (length (now records) ≡ 128) ⌝ }
+        × (length (now records) ≡ 128)
+        × Sounds (linkOf settings flight arrival clock (arrays (now queued) (now outstanding)
+        (now transmissions) (now ready) (now waiting) (now «waiting_numbers»))) sound ⌝ }
     ensures { λ r. ⌜ timeOutcome r ≡ checksWith
         (linkOf settings flight arrival clock (arrays (now (queued .entry)) (now (outstanding .entry)) (now (transmissions .entry))
         (now (ready .entry)) (now (waiting .entry)) (now («waiting_numbers» .entry))))
@@ -52,22 +55,7 @@ pub fn check(
     };
     let long = sizes::enough(settings, lent);
     let flown = flights::flight_fits(records, settings, flight);
-    let mut marks: [u8; 256] = [0; 256];
-    let verdict = hearing::admit_hearing(
-        long,
-        settings,
-        flight,
-        arrival,
-        clock,
-        flown,
-        queued,
-        outstanding,
-        transmissions,
-        ready,
-        waiting,
-        waiting_numbers,
-        &mut marks,
-    );
+    let verdict = checking::judged(long, sound & flown);
     match verdict {
         Verdict::Passed => {
             let schedule = parts::schedule_of(clock);

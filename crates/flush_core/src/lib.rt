@@ -4,7 +4,6 @@ pub mod parts;
 use answers::Update;
 use checking::Verdict;
 use checking::flights;
-use checking::hearing;
 use control::Arrival;
 use control::Clock;
 use control::Flight;
@@ -15,6 +14,7 @@ ghost use Prim.Native.Nat.{ℕ};
 ghost use mathlib.Core.List.{List};
 ghost use lib.ListN.{length};
 ghost use Rattle.control.specs.Views.{arrays, linkOf, Whole};
+ghost use Rattle.checking.specs.Verdicts.{Sounds};
 ghost use Rattle.record_words.specs.RecordWords.{recordsIn};
 ghost use Rattle.flush_core.specs.Flushes.{Flushable, unflushedOf, Wrote, Runs, Core};
 
@@ -155,6 +155,7 @@ pub fn flush(
     flight: Flight,
     arrival: Arrival,
     clock: Clock,
+    sound: bool,
     records: &mut [u32; 128],
     table: usize,
     paced: bool,
@@ -172,7 +173,9 @@ pub fn flush(
     lengths: &mut [u16],
 ) -> Flushed
     requires { ⌜ Whole (arrays (now queued) (now outstanding) (now transmissions) (now ready) (now waiting) (now «waiting_numbers»))
-        × (length (now records) ≡ 128) ⌝ }
+        × (length (now records) ≡ 128)
+        × Sounds (linkOf settings flight arrival clock (arrays (now queued) (now outstanding)
+        (now transmissions) (now ready) (now waiting) (now «waiting_numbers»))) sound ⌝ }
     ensures { λ r. ⌜ Core paced
         (linkOf settings flight arrival clock (arrays (now (queued .entry)) (now (outstanding .entry)) (now (transmissions .entry))
         (now (ready .entry)) (now (waiting .entry)) (now («waiting_numbers» .entry))))
@@ -191,22 +194,7 @@ pub fn flush(
     };
     let long = sizes::enough_to_flush(settings, lent, output.len(), lengths.len());
     let flown = flights::flight_fits(records, settings, flight);
-    let mut marks: [u8; 256] = [0; 256];
-    let verdict = hearing::admit_hearing(
-        long,
-        settings,
-        flight,
-        arrival,
-        clock,
-        flown,
-        queued,
-        outstanding,
-        transmissions,
-        ready,
-        waiting,
-        waiting_numbers,
-        &mut marks,
-    );
+    let verdict = checking::judged(long, sound & flown);
     match verdict {
         Verdict::Passed => run(
             settings,

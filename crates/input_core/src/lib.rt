@@ -2,7 +2,6 @@
 use answers::Answer;
 use checking::Verdict;
 use checking::flights;
-use checking::hearing;
 use control::Arrival;
 use control::Clock;
 use control::Flight;
@@ -15,6 +14,7 @@ ghost use lib.ListN.{length};
 ghost use Rattle.record_words.specs.RecordWords.{recordsIn};
 ghost use Rattle.session.specs.Input.{input};
 ghost use Rattle.control.specs.Views.{arrays, linkOf, Whole, stateOf};
+ghost use Rattle.checking.specs.Verdicts.{ReceiveMarked};
 ghost use Rattle.promises.specs.Parts.{lentLengths};
 ghost use Rattle.promises.specs.Outcomes.{takesInWith};
 ghost use Rattle.protocol.specs.Ranges.{mss};
@@ -121,6 +121,7 @@ pub fn input(
     flight: Flight,
     arrival: Arrival,
     clock: Clock,
+    sound: bool,
     records: &mut [u32; 128],
     table: usize,
     queued: &[u32; 128],
@@ -129,13 +130,16 @@ pub fn input(
     ready: &mut [u32; 128],
     waiting: &mut [u32; 128],
     waiting_numbers: &mut [u32; 128],
+    receive_marks: &[u8; 256],
     send_pool: &[u8],
     receive_pool: &mut [u8],
     acks: &mut [u32],
     datagram: &[u8],
 ) -> Taken
     requires { ⌜ Whole (arrays (now queued) (now outstanding) (now transmissions) (now ready) (now waiting) (now «waiting_numbers»))
-        × (length (now records) ≡ 128) ⌝ }
+        × (length (now records) ≡ 128)
+        × ReceiveMarked (linkOf settings flight arrival clock (arrays (now queued) (now outstanding)
+        (now transmissions) (now ready) (now waiting) (now «waiting_numbers»))) (now «receive_marks») sound ⌝ }
     ensures { λ r. ⌜ Takes (λ l. takesInWith l (recordsIn (now (records .entry))) (now (acks .entry))
         (lentLengths table (now («send_pool» .entry)) (now («receive_pool» .entry)) (now (acks .entry)))
         (now («receive_pool» .entry)) (now (datagram .entry)))
@@ -156,22 +160,7 @@ pub fn input(
     };
     let long = sizes::enough(settings, lent);
     let flown = flights::flight_fits(records, settings, flight);
-    let mut marks: [u8; 256] = [0; 256];
-    let verdict = hearing::admit_hearing(
-        long,
-        settings,
-        flight,
-        arrival,
-        clock,
-        flown,
-        queued,
-        outstanding,
-        transmissions,
-        ready,
-        waiting,
-        waiting_numbers,
-        &mut marks,
-    );
+    let verdict = checking::judged(long, sound & flown);
     let mss = settings.mss();
     let checked = checked_by(verdict, datagram, settings.conv, mss);
     if let Checked::Refused(q) = checked {
@@ -194,7 +183,7 @@ pub fn input(
         ready,
         waiting,
         waiting_numbers,
-        &marks,
+        receive_marks,
         receive_pool,
         acks,
         datagram,

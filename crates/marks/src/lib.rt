@@ -7,13 +7,20 @@ ghost use Prim.Native.Nat.{_≤_, _<_, _%_};
 ghost use lib.ListN.{length};
 ghost use Rattle.slots.specs.Slots.{slotsOf};
 ghost use Rattle.words.specs.Words.{heldIn};
-ghost use Rattle.marks.specs.Marks.{Marks, nextFree};
+ghost use Rattle.marks.specs.Marks.{Marks, none, nextFree};
 
 // The slot of a word.
 fn slot_of(word: u32) -> usize
     ensures { λ r. ⌜ (r ≡ word % 256) × (r < 256) ⌝ }
 {
     (word % 256) as usize
+}
+
+// No slot is marked.
+pub fn none() -> [u8; 256]
+    ensures { λ r. ⌜ r ≡ none ⌝ }
+{
+    [0; 256]
 }
 
 // The slots of n words are marked. Whether none of them was marked before, and none stands twice.

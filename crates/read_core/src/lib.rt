@@ -1,5 +1,5 @@
 // Reading a message, telling its size, and showing its first segment: the block's numbers by value, its lists and the other parts lent.
-// Each is given whether the records of the outstanding segments fit, and checks 7, then 13, then its own.
+// Each is given whether the block is sound and whether the records of its outstanding segments fit, and checks 7, then 13, then its own.
 use answers::Count;
 use checking::Verdict;
 use control::Arrival;
@@ -13,7 +13,7 @@ ghost use lib.ListN.{length, take, drop};
 ghost use Rattle.protocol.specs.Protocol.{receiveSlots};
 ghost use Rattle.words.specs.Words.{heldIn};
 ghost use Rattle.control.specs.Views.{arrays, linkOf, Whole};
-ghost use Rattle.checking.specs.Verdicts.{Flies, ByFlown};
+ghost use Rattle.checking.specs.Verdicts.{Flies, ByFlown, Sounds};
 ghost use Rattle.promises.specs.Answers.{countOutcome};
 ghost use Rattle.promises.specs.Outcomes.{tellsWith, showsWith};
 ghost use Rattle.promises.specs.Parts.{lentLengths};
@@ -73,6 +73,7 @@ pub fn read(
     flight: Flight,
     arrival: Arrival,
     clock: Clock,
+    sound: bool,
     flown: bool,
     table: usize,
     queued: &[u32; 128],
@@ -88,7 +89,9 @@ pub fn read(
 ) -> Delivered
     requires { ⌜ Whole (arrays (now queued) (now outstanding) (now transmissions) (now ready) (now waiting) (now «waiting_numbers»))
         × Flies (linkOf settings flight arrival clock (arrays (now queued) (now outstanding)
-        (now transmissions) (now ready) (now waiting) (now «waiting_numbers»))) flown ⌝ }
+        (now transmissions) (now ready) (now waiting) (now «waiting_numbers»))) flown
+        × Sounds (linkOf settings flight arrival clock (arrays (now queued) (now outstanding)
+        (now transmissions) (now ready) (now waiting) (now «waiting_numbers»))) sound ⌝ }
     ensures { λ r. ⌜ ByFlown (linkOf settings flight arrival clock (arrays (now (queued .entry)) (now (outstanding .entry))
         (now (transmissions .entry)) (now (ready .entry)) (now (waiting .entry)) (now («waiting_numbers» .entry)))) flown (λ records.
         ReadOver
@@ -107,24 +110,7 @@ pub fn read(
         acks: acks.len(),
     };
     let long = sizes::enough(settings, lent);
-    let mut send_marks: [u8; 256] = [0; 256];
-    let mut receive_marks: [u8; 256] = [0; 256];
-    let verdict = checking::admit_flown(
-        long,
-        settings,
-        flight,
-        arrival,
-        clock,
-        flown,
-        queued,
-        outstanding,
-        transmissions,
-        ready,
-        waiting,
-        waiting_numbers,
-        &mut send_marks,
-        &mut receive_marks,
-    );
+    let verdict = checking::judged(long, sound & flown);
     match verdict {
         Verdict::Passed => {
             let mss = settings.mss();
@@ -151,6 +137,7 @@ pub fn size(
     flight: Flight,
     arrival: Arrival,
     clock: Clock,
+    sound: bool,
     flown: bool,
     table: usize,
     queued: &[u32; 128],
@@ -165,7 +152,9 @@ pub fn size(
 ) -> Count
     requires { ⌜ Whole (arrays (now queued) (now outstanding) (now transmissions) (now ready) (now waiting) (now «waiting_numbers»))
         × Flies (linkOf settings flight arrival clock (arrays (now queued) (now outstanding)
-        (now transmissions) (now ready) (now waiting) (now «waiting_numbers»))) flown ⌝ }
+        (now transmissions) (now ready) (now waiting) (now «waiting_numbers»))) flown
+        × Sounds (linkOf settings flight arrival clock (arrays (now queued) (now outstanding)
+        (now transmissions) (now ready) (now waiting) (now «waiting_numbers»))) sound ⌝ }
     ensures { λ r. ⌜ ByFlown (linkOf settings flight arrival clock (arrays (now (queued .entry)) (now (outstanding .entry))
         (now (transmissions .entry)) (now (ready .entry)) (now (waiting .entry)) (now («waiting_numbers» .entry)))) flown (λ records.
         countOutcome r ≡ tellsWith
@@ -180,24 +169,7 @@ pub fn size(
         acks: acks.len(),
     };
     let long = sizes::enough(settings, lent);
-    let mut send_marks: [u8; 256] = [0; 256];
-    let mut receive_marks: [u8; 256] = [0; 256];
-    let verdict = checking::admit_flown(
-        long,
-        settings,
-        flight,
-        arrival,
-        clock,
-        flown,
-        queued,
-        outstanding,
-        transmissions,
-        ready,
-        waiting,
-        waiting_numbers,
-        &mut send_marks,
-        &mut receive_marks,
-    );
+    let verdict = checking::judged(long, sound & flown);
     match verdict {
         Verdict::Passed => deliver::front_size(ready, arrival.ready),
         Verdict::Refused(r) => Count::Refused(r),
@@ -227,6 +199,7 @@ pub fn locate(
     flight: Flight,
     arrival: Arrival,
     clock: Clock,
+    sound: bool,
     flown: bool,
     table: usize,
     queued: &[u32; 128],
@@ -241,7 +214,9 @@ pub fn locate(
 ) -> Place
     requires { ⌜ Whole (arrays (now queued) (now outstanding) (now transmissions) (now ready) (now waiting) (now «waiting_numbers»))
         × Flies (linkOf settings flight arrival clock (arrays (now queued) (now outstanding)
-        (now transmissions) (now ready) (now waiting) (now «waiting_numbers»))) flown ⌝ }
+        (now transmissions) (now ready) (now waiting) (now «waiting_numbers»))) flown
+        × Sounds (linkOf settings flight arrival clock (arrays (now queued) (now outstanding)
+        (now transmissions) (now ready) (now waiting) (now «waiting_numbers»))) sound ⌝ }
     ensures { λ r. ⌜ ByFlown (linkOf settings flight arrival clock (arrays (now (queued .entry)) (now (outstanding .entry))
         (now (transmissions .entry)) (now (ready .entry)) (now (waiting .entry)) (now («waiting_numbers» .entry)))) flown (λ records.
         PlaceIs (placeOf (showsWith
@@ -257,24 +232,7 @@ pub fn locate(
         acks: acks.len(),
     };
     let long = sizes::enough(settings, lent);
-    let mut send_marks: [u8; 256] = [0; 256];
-    let mut receive_marks: [u8; 256] = [0; 256];
-    let verdict = checking::admit_flown(
-        long,
-        settings,
-        flight,
-        arrival,
-        clock,
-        flown,
-        queued,
-        outstanding,
-        transmissions,
-        ready,
-        waiting,
-        waiting_numbers,
-        &mut send_marks,
-        &mut receive_marks,
-    );
+    let verdict = checking::judged(long, sound & flown);
     match verdict {
         Verdict::Passed => front_place(settings.mss(), ready, arrival.ready),
         Verdict::Refused(_r) => Place { start: 0, count: 0 },
@@ -298,6 +256,7 @@ pub fn show<'a>(
     flight: Flight,
     arrival: Arrival,
     clock: Clock,
+    sound: bool,
     flown: bool,
     table: usize,
     queued: &[u32; 128],
@@ -312,7 +271,9 @@ pub fn show<'a>(
 ) -> &'a [u8]
     requires { ⌜ Whole (arrays (now queued) (now outstanding) (now transmissions) (now ready) (now waiting) (now «waiting_numbers»))
         × Flies (linkOf settings flight arrival clock (arrays (now queued) (now outstanding)
-        (now transmissions) (now ready) (now waiting) (now «waiting_numbers»))) flown ⌝ }
+        (now transmissions) (now ready) (now waiting) (now «waiting_numbers»))) flown
+        × Sounds (linkOf settings flight arrival clock (arrays (now queued) (now outstanding)
+        (now transmissions) (now ready) (now waiting) (now «waiting_numbers»))) sound ⌝ }
     ensures { λ r. ⌜ ByFlown (linkOf settings flight arrival clock (arrays (now (queued .entry)) (now (outstanding .entry))
         (now (transmissions .entry)) (now (ready .entry)) (now (waiting .entry)) (now («waiting_numbers» .entry)))) flown (λ records.
         ShowsPart (showsWith
@@ -326,6 +287,7 @@ pub fn show<'a>(
         flight,
         arrival,
         clock,
+        sound,
         flown,
         table,
         queued,

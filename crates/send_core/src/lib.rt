@@ -7,7 +7,7 @@ use control::Flight;
 use protocol::Settings;
 use sizes::Lengths;
 ghost use Rattle.control.specs.Views.{arrays, linkOf, Whole};
-ghost use Rattle.checking.specs.Verdicts.{Flies, ByFlown};
+ghost use Rattle.checking.specs.Verdicts.{Flies, ByFlown, SendMarked};
 ghost use Rattle.enqueue.specs.Enqueueing.{Enqueueable};
 ghost use Rattle.send_core.specs.Sending.{Enqueues, SendLeaves};
 
@@ -50,13 +50,14 @@ fn send_checked(
     }
 }
 
-// Sending checks 7, 13, then 10 and 11. `table` is the length of the lent table, `flown` tells whether the records of the outstanding
-// segments fit.
+// Sending checks 7, 13, then 10 and 11. `sound` tells whether the block is one that this link makes, `flown` whether the records of its
+// outstanding segments fit; its send slots are marked. `table` is the length of the lent table.
 pub fn send(
     settings: Settings,
     flight: Flight,
     arrival: Arrival,
     clock: Clock,
+    sound: bool,
     flown: bool,
     table: usize,
     queued: &mut [u32; 128],
@@ -65,6 +66,7 @@ pub fn send(
     ready: &[u32; 128],
     waiting: &[u32; 128],
     waiting_numbers: &[u32; 128],
+    send_marks: &[u8; 256],
     send_pool: &mut [u8],
     receive_pool: &[u8],
     acks: &[u32],
@@ -72,7 +74,9 @@ pub fn send(
 ) -> Submitted
     requires { ⌜ Whole (arrays (now queued) (now outstanding) (now transmissions) (now ready) (now waiting) (now «waiting_numbers»))
         × Flies (linkOf settings flight arrival clock (arrays (now queued) (now outstanding)
-        (now transmissions) (now ready) (now waiting) (now «waiting_numbers»))) flown ⌝ }
+        (now transmissions) (now ready) (now waiting) (now «waiting_numbers»))) flown
+        × SendMarked (linkOf settings flight arrival clock (arrays (now queued) (now outstanding)
+        (now transmissions) (now ready) (now waiting) (now «waiting_numbers»))) (now «send_marks») sound ⌝ }
     ensures { λ r. ⌜ ByFlown (linkOf settings flight arrival clock (arrays (now (queued .entry)) (now (outstanding .entry))
         (now (transmissions .entry)) (now (ready .entry)) (now (waiting .entry)) (now («waiting_numbers» .entry)))) flown (λ records.
         SendLeaves (linkOf settings flight arrival clock (arrays (now (queued .entry)) (now (outstanding .entry))
@@ -89,24 +93,7 @@ pub fn send(
         acks: acks.len(),
     };
     let long = sizes::enough(settings, lent);
-    let mut send_marks: [u8; 256] = [0; 256];
-    let mut receive_marks: [u8; 256] = [0; 256];
-    let verdict = checking::admit_flown(
-        long,
-        settings,
-        flight,
-        arrival,
-        clock,
-        flown,
-        queued,
-        outstanding,
-        transmissions,
-        ready,
-        waiting,
-        waiting_numbers,
-        &mut send_marks,
-        &mut receive_marks,
-    );
+    let verdict = checking::judged(long, sound & flown);
     match verdict {
         Verdict::Refused(refusal) => Submitted {
             answer: Answer::Refused(refusal),
@@ -115,7 +102,7 @@ pub fn send(
         Verdict::Passed => {
             let mss = settings.mss();
             let stream = settings.stream == 1;
-            send_checked(stream, mss, flight, queued, &send_marks, send_pool, message)
+            send_checked(stream, mss, flight, queued, send_marks, send_pool, message)
         }
     }
 }

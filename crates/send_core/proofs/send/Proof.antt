@@ -9,7 +9,8 @@ use Rattle.protocol.specs.Ranges.{isStream}
 use Rattle.timing.specs.declared.Record.{Record}
 use Rattle.control.specs.Views.{Arrays, arrays, linkOf}
 use Rattle.control.specs.declared.Link.{Link}
-use Rattle.checking.specs.Verdicts.{Flown}
+use Rattle.checking.specs.Verdicts.{Flown, Admitted}
+use Rattle.checking.specs.VerdictLaws.{admitted}
 use Rattle.promises.specs.Parts.{lentLengths}
 use Rattle.sizes.specs.declared.Lengths.{Lengths}
 use Rattle.send_core.proofs.Sends.{Sendable, sendable, refuses, enqueueable, sent, passes}
@@ -28,51 +29,53 @@ lent s = let a = s .args in lentLengths (a .table) (a .send-pool .now) (a .recei
 abbrev block : tie.Start → Link
 block s = let a = s .args in linkOf (a .settings) (a .flight) (a .arrival) (a .clock) (lists s)
 
--- the marks of the send pool, where both checks have passed
-abbrev sendMarks : tie.After-admit-flown → List ℕ
-sendMarks c = c .admit-flown .last .1 .1 .1 .1 .1 .1 .1 .1 .1 .1 .1 .1 .0
+-- the verdict on 7 and 13
+judged : (c : tie.After-judged) (rs : List Record) → let sizes = c .before in let s = sizes .before .before .before .before .before in
+    Flown (block s) rs (s .args .flown)
+    → Admitted (sizes .enough .result) (block s) rs (s .args .send-marks .now) (s .pre .2 .0) (c .judged .result)
+judged c rs w =
+    let s = c .before .before .before .before .before .before in
+    admitted (block s) rs _ _ _ (s .args .sound) (s .args .flown) _ (c .judged .ensures) (s .pre .2 .1) w
 
-abbrev receiveMarks : tie.After-admit-flown → List ℕ
-receiveMarks c = c .admit-flown .last .1 .1 .1 .1 .1 .1 .1 .1 .1 .1 .1 .1 .1 .0
-
-checked : (c : tie.After-enum-told) (rs : List Record) → let s =
-    c .before .before .before .before .before .before .before .before .before .before .before in Flown (block s) rs (s .args .flown)
+-- where it passes
+checked : (c : tie.After-enum-told) (rs : List Record) → let s = c .before .before .before .before .before .before .before .before in
+    Flown (block s) rs (s .args .flown)
     → Sendable (s .args .settings) (s .args .flight) (s .args .arrival) (s .args .clock) (lists s) rs (s .args .acks .now) (lent s)
-    (sendMarks (c .before .before))
+    (s .args .send-marks .now)
 checked c rs w =
-    let s = c .before .before .before .before .before .before .before .before .before .before .before in
-    let a = c .before .before .admit-flown .ensures rs w in
+    let verdict = c .before .before in
+    let s = verdict .before .before .before .before .before .before in
+    let a = judged verdict rs w in
     sendable (s .args .settings) (s .args .flight) (s .args .arrival) (s .args .clock) (lists s) rs (s .args .acks .now) (lent s) _ _
-    (c .before .before .before .before .before .before .enough .ensures) (a .verdict _) (c .enum-told .given .1)
-    (sendMarks (c .before .before)) (receiveMarks (c .before .before)) (a .checked (c .enum-told .given .1)) (s .pre .0) (w .whole)
+    (verdict .before .enough .ensures) (a .verdict _) (c .enum-told .given .1)
+    (s .args .send-marks .now) (s .pre .2 .0) (a .checked (c .enum-told .given .1)) (s .pre .0) (w .whole)
 
 send-checked-requires : tie.Need-send-checked-requires
 send-checked-requires c κs =
-    let s = c .before .before .before .before .before .before .before .before .before .before .before .before .before .before .before
-    .before in
+    let mss = c .before .before .before in
+    let passed = mss .before in
+    let s = passed .before .before .before .before .before .before .before .before in
     enqueueable (s .args .settings) (s .args .flight) (s .args .arrival) (s .args .clock) (lists s) (s .pre .1 .0) (s .args .acks .now)
-    (checked (c .before .before .before .before .before) (s .pre .1 .0) (s .pre .1 .1)) {stream = isStream (s .args .settings)} refl
-    (c .before .before .before .before .mss .ensures) (s .pre .0) _ refl
+    (checked passed (s .pre .1 .0) (s .pre .1 .1)) {stream = isStream (s .args .settings)} refl (mss .mss .ensures) (s .pre .0) _ refl
 
 returns : tie.Need-returns
 returns c = λ rs w.
-    let s = c .before .before .before .before .before .before .before .before .before .before .before .before in
+    let verdict = c .before .before .before in
+    let s = verdict .before .before .before .before .before .before in
     refuses (s .args .settings) (s .args .flight) (s .args .arrival) (s .args .clock) (lists s) rs (s .args .acks .now) (lent s) _ _
-    (c .before .before .before .before .before .before .before .enough .ensures)
-    (c .before .before .before .admit-flown .ensures rs w .verdict _) _ _ _ (c .before .verdict .given .1)
+    (verdict .before .enough .ensures) (judged verdict rs w .verdict _) _ _ _ (c .before .verdict .given .1)
 
 returns-2 : tie.Need-returns-2
 returns-2 c = λ rs w.
-    let s = c .before .before .before .before .before .before .before .before .before .before .before .before .before .before .before
-    .before .before .before .before in
-    let p = checked (c .before .before .before .before .before .before .before .before) rs w in
+    let sends = c .before .before in
+    let mss = sends .before .before .before .before in
+    let passed = mss .before in
+    let verdict = passed .before .before in
+    let s = verdict .before .before .before .before .before .before in
     passes (s .args .settings) (s .args .flight) (s .args .arrival) (s .args .clock) (lists s) rs (s .args .acks .now) (lent s) _ _
-    (c .before .before .before .before .before .before .before .before .before .before .before .before .before .before .enough .ensures)
-    (c .before .before .before .before .before .before .before .before .before .before .admit-flown .ensures rs w .verdict _)
-    (c .before .before .before .before .before .before .before .before .enum-told .given .1) _ _ _ _ _
-    (sent (s .args .settings) (s .args .flight) (s .args .arrival) (s .args .clock) (lists s) rs (s .args .acks .now) p
-    (isStream (s .args .settings)) _ refl (c .before .before .before .before .before .before .before .mss .ensures) _ _
-    (c .before .before .send-checked .result) _ _ (c .before .before .send-checked .ensures))
+    (verdict .before .enough .ensures) (judged verdict rs w .verdict _) (passed .enum-told .given .1) _ _ _ _ _
+    (sent (s .args .settings) (s .args .flight) (s .args .arrival) (s .args .clock) (lists s) rs (s .args .acks .now) (checked passed rs w)
+    (isStream (s .args .settings)) _ refl (mss .mss .ensures) _ _ (sends .send-checked .result) _ _ (sends .send-checked .ensures))
 
 pub send-spec : {M : Type 1} → statement M
 send-spec =
