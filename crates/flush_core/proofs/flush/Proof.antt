@@ -9,6 +9,7 @@ use Rattle.record_words.specs.RecordLaws.{records-length}
 use Rattle.control.specs.Views.{arrays, linkOf, blockValid}
 use Rattle.control.specs.declared.Link.{Link}
 use Rattle.checking.specs.Verdicts.{verdictOf}
+use Rattle.checking.specs.VerdictLaws.{admitted}
 use Rattle.flush_core.proofs.Checks.{flushable, ran, unflushed}
 use Rattle.flush_core.proofs.flush.Statement.{statement}
 use Rattle.flush_core.proofs.flush.Tie as tie
@@ -21,17 +22,19 @@ block s =
     (arrays (a .queued .now) (a .outstanding .now) (a .transmissions .now) (a .ready .now) (a .waiting .now) (a .waiting-numbers .now))
 
 -- what the checks say
-judged : (c : tie.After-admit-hearing) (acks : List ℕ)
-    → let sizes = c .before .before .before .before .before .before .before in
+judged : (c : tie.After-judged) (acks : List ℕ)
+    → let sizes = c .before .before .before in
     let start = sizes .before .before .before .before .before .before in
-    c .admit-hearing .result ≡ verdictOf (sizes .enough-to-flush .result)
+    c .judged .result ≡ verdictOf (sizes .enough-to-flush .result)
     (blockValid (block start) (recordsIn (start .args .records .now)) acks)
 judged c acks =
-    let fits = c .before .before .before .before .before in
-    let start = fits .before .before .before .before .before .before .before .before in
-    let records = start .args .records .now in
-    c .admit-hearing .ensures (recordsIn records)
-    (record { whole = records-length 32 records (start .pre .1); fits = fits .flight-fits .ensures }) .1 .verdict acks
+    let fits = c .before in
+    let sizes = fits .before .before in
+    let start = sizes .before .before .before .before .before .before in
+    let marked = start .pre .2 in
+    admitted (block start) (recordsIn (start .args .records .now)) (marked .0) (marked .1 .0) (sizes .enough-to-flush .result)
+    (start .args .sound) (fits .flight-fits .result) (c .judged .result) (c .judged .ensures) (marked .1 .1)
+    (record { whole = records-length 32 _ (start .pre .1); fits = fits .flight-fits .ensures }) .verdict acks
 
 flight-fits-requires : tie.Need-flight-fits-requires
 flight-fits-requires c κs = c .before .before .before .before .before .before .before .pre .1
@@ -40,7 +43,7 @@ run-requires : tie.Need-run-requires
 run-requires c κs =
     let passed = c .before .before .before .before .before .before in
     let checks = passed .before .before in
-    let sizes = checks .before .before .before .before .before .before .before in
+    let sizes = checks .before .before .before in
     let start = sizes .before .before .before .before .before .before in
     let a = start .args in
     flushable _ _ _ _ _ _ (a .table) (a .send-pool .now) (a .receive-pool .now) (a .acks .now) (a .output .now) (a .lengths .now) _ _
@@ -51,7 +54,7 @@ returns c =
     let runs = c .before .before .before .before in
     let passed = runs .before .before .before .before .before .before .before in
     let checks = passed .before .before in
-    let sizes = checks .before .before .before .before .before .before .before in
+    let sizes = checks .before .before .before in
     let start = sizes .before .before .before .before .before .before in
     let a = start .args in (
       ran _ _ _ _ _ (a .records .now) (a .table) (a .send-pool .now) (a .receive-pool .now) (a .acks .now) (a .output .now)
@@ -65,7 +68,7 @@ returns-2 : tie.Need-returns-2
 returns-2 c =
     let answer = c .before .before in
     let checks = answer .before .before in
-    let sizes = checks .before .before .before .before .before .before .before in
+    let sizes = checks .before .before .before in
     let start = sizes .before .before .before .before .before .before in
     let a = start .args in (
       unflushed _ _ _ _ _ (a .records .now) (a .table) (a .send-pool .now) (a .receive-pool .now) (a .acks .now) (a .output .now)
