@@ -8,6 +8,7 @@ use lib.ListN.{take}
 use Rattle.record_words.specs.RecordWords.{recordsIn}
 use Rattle.record_words.specs.RecordLaws.{records-length}
 use Rattle.checking.specs.Verdicts.{verdictOf}
+use Rattle.checking.specs.VerdictLaws.{admitted}
 use Rattle.schedule.specs.Schedules.{duesOf, named}
 use Rattle.schedule.specs.declared.Schedule.{Schedule}
 use Rattle.control.specs.Views.{arrays, linkOf, blockValid}
@@ -24,29 +25,31 @@ block s =
     (arrays (a .queued .now) (a .outstanding .now) (a .transmissions .now) (a .ready .now) (a .waiting .now) (a .waiting-numbers .now))
 
 -- what the checks say
-judged : (c : tie.After-admit-hearing) (acks : List ℕ)
-    → let sizes = c .before .before .before in
+judged : (c : tie.After-judged) (acks : List ℕ)
+    → let sizes = c .before .before in
     let start = sizes .before .before .before .before in
-    c .admit-hearing .result ≡ verdictOf (sizes .enough .result) (blockValid (block start) (recordsIn (start .args .records .now)) acks)
+    c .judged .result ≡ verdictOf (sizes .enough .result) (blockValid (block start) (recordsIn (start .args .records .now)) acks)
 judged c acks =
-    let fits = c .before .before in
-    let start = fits .before .before .before .before .before in
-    let records = start .args .records .now in
-    c .admit-hearing .ensures (recordsIn records)
-    (record { whole = records-length 32 records (start .pre .1); fits = fits .flight-fits .ensures }) .1 .verdict acks
+    let fits = c .before in
+    let sizes = fits .before in
+    let start = sizes .before .before .before .before in
+    let marked = start .pre .2 in
+    admitted (block start) (recordsIn (start .args .records .now)) (marked .0) (marked .1 .0) (sizes .enough .result)
+    (start .args .sound) (fits .flight-fits .result) (c .judged .result) (c .judged .ensures) (marked .1 .1)
+    (record { whole = records-length 32 _ (start .pre .1); fits = fits .flight-fits .ensures }) .verdict acks
 
 flight-fits-requires : tie.Need-flight-fits-requires
 flight-fits-requires c κs = c .before .before .before .before .pre .1
 
 check-requires : tie.Need-check-requires
-check-requires c κs = c .before .before .before .before .before .before .before .before .before .before .pre .1
+check-requires c κs = c .before .before .before .before .before .before .before .before .before .pre .1
 
 returns : tie.Need-returns
 returns c =
     let schedules = c .before in
     let branch = schedules .before in
     let checks = branch .before .before in
-    let sizes = checks .before .before .before in
+    let sizes = checks .before .before in
     let start = sizes .before .before .before .before in
     let a = start .args in
     names (block start) (start .pre .0) (recordsIn (a .records .now)) (a .acks .now) _ _ _ (sizes .enough .ensures) (judged checks _)
@@ -58,7 +61,7 @@ returns c =
 returns-2 : tie.Need-returns-2
 returns-2 c =
     let checks = c .before .before .before in
-    let sizes = checks .before .before .before in
+    let sizes = checks .before .before in
     let start = sizes .before .before .before .before in
     let a = start .args in
     refuses (block start) (start .pre .0) (recordsIn (a .records .now)) (a .acks .now) _ _ _ (sizes .enough .ensures) (judged checks _)
