@@ -10,6 +10,7 @@ use protocol::Settings;
 use timing::Record;
 ghost use mathlib.Core.Path.{_≡_};
 ghost use lib.ListN.{length, take, drop};
+ghost use Rattle.checking.specs.Verdicts.{Sound};
 ghost use Rattle.promises.specs.Promises.{ShowsPart};
 ghost use Rattle.promises.specs.Parts.{partsOf, flushPartsOf};
 ghost use Rattle.promises.specs.Outcomes.{shows};
@@ -68,6 +69,49 @@ fn is_counts(list: [u8; 32]) -> bool
     ensures { λ r. ⌜ length list ≡ 32 ⌝ }
 {
     true
+}
+
+// Whether a block is one that this link makes, but for the records of its outstanding segments, and the marks of its slots.
+struct Marked {
+    sound: bool,
+    send: [u8; 256],
+    receive: [u8; 256],
+}
+
+fn marks_of(link: Link) -> Marked
+    ensures { λ r. ⌜ Sound link (r .send) (r .receive) (r .sound) ⌝ }
+{
+    let settings = link.settings;
+    let flight = link.flight;
+    let arrival = link.arrival;
+    let clock = link.clock;
+    let queued = link.queued;
+    let outstanding = link.outstanding;
+    let transmissions = link.transmissions;
+    let ready = link.ready;
+    let waiting = link.waiting;
+    let waiting_numbers = link.waiting_numbers;
+    let mut send = marks::none();
+    let mut receive = marks::none();
+    let sound = checking::sound(
+        settings,
+        flight,
+        arrival,
+        clock,
+        &queued,
+        &outstanding,
+        &transmissions,
+        &ready,
+        &waiting,
+        &waiting_numbers,
+        &mut send,
+        &mut receive,
+    );
+    Marked {
+        sound,
+        send,
+        receive,
+    }
 }
 
 // Opening a link with these settings: a refused opening leaves the old block.
@@ -142,12 +186,15 @@ pub fn send(
     let waiting_numbers = link.waiting_numbers;
     let records = value_table::gather(table, lent, outstanding, flight.outstanding);
     let flown = flights::flight_fits(&records, settings, flight);
+    let block = marks_of(link);
+    let send_marks = block.send;
     let n = value_table::lent_count(lent);
     let done = send_core::send(
         settings,
         flight,
         arrival,
         clock,
+        block.sound,
         flown,
         n,
         &mut queued,
@@ -156,6 +203,7 @@ pub fn send(
         &ready,
         &waiting,
         &waiting_numbers,
+        &send_marks,
         send_pool,
         receive_pool,
         acks,
@@ -207,12 +255,15 @@ pub fn input(
     let mut waiting = link.waiting;
     let mut waiting_numbers = link.waiting_numbers;
     let mut records = value_table::gather(table, lent, outstanding, flight.outstanding);
+    let block = marks_of(link);
+    let receive_marks = block.receive;
     let n = value_table::lent_count(lent);
     let done = input_core::input(
         settings,
         flight,
         arrival,
         clock,
+        block.sound,
         &mut records,
         n,
         &queued,
@@ -221,6 +272,7 @@ pub fn input(
         &mut ready,
         &mut waiting,
         &mut waiting_numbers,
+        &receive_marks,
         send_pool,
         receive_pool,
         acks,
@@ -294,12 +346,14 @@ pub fn flush(
     let waiting = link.waiting;
     let waiting_numbers = link.waiting_numbers;
     let mut records = value_table::gather(table, lent, outstanding, flight.outstanding);
+    let block = marks_of(link);
     let n = value_table::lent_count(lent);
     let done = flush_core::flush(
         settings,
         flight,
         arrival,
         clock,
+        block.sound,
         &mut records,
         n,
         false,
@@ -373,12 +427,14 @@ pub fn update(
     let waiting = link.waiting;
     let waiting_numbers = link.waiting_numbers;
     let mut records = value_table::gather(table, lent, outstanding, flight.outstanding);
+    let block = marks_of(link);
     let n = value_table::lent_count(lent);
     let done = flush_core::flush(
         settings,
         flight,
         arrival,
         clock,
+        block.sound,
         &mut records,
         n,
         true,
@@ -449,12 +505,14 @@ pub fn read(
     let mut waiting_numbers = link.waiting_numbers;
     let records = value_table::gather(table, lent, outstanding, flight.outstanding);
     let flown = flights::flight_fits(&records, settings, flight);
+    let block = marks_of(link);
     let n = value_table::lent_count(lent);
     let done = read_core::read(
         settings,
         flight,
         arrival,
         clock,
+        block.sound,
         flown,
         n,
         &queued,
@@ -512,12 +570,14 @@ pub fn size(
     let waiting_numbers = link.waiting_numbers;
     let records = value_table::gather(table, lent, outstanding, flight.outstanding);
     let flown = flights::flight_fits(&records, settings, flight);
+    let block = marks_of(link);
     let n = value_table::lent_count(lent);
     read_core::size(
         settings,
         flight,
         arrival,
         clock,
+        block.sound,
         flown,
         n,
         &queued,
@@ -556,12 +616,14 @@ pub fn check(
     let waiting = link.waiting;
     let waiting_numbers = link.waiting_numbers;
     let records = value_table::gather(table, lent, outstanding, flight.outstanding);
+    let block = marks_of(link);
     let n = value_table::lent_count(lent);
     check_core::check(
         settings,
         flight,
         arrival,
         clock,
+        block.sound,
         &records,
         n,
         &queued,
@@ -601,12 +663,14 @@ pub fn show<'a>(
     let waiting_numbers = link.waiting_numbers;
     let records = value_table::gather(table, lent, outstanding, flight.outstanding);
     let flown = flights::flight_fits(&records, settings, flight);
+    let block = marks_of(link);
     let n = value_table::lent_count(lent);
     read_core::show(
         settings,
         flight,
         arrival,
         clock,
+        block.sound,
         flown,
         n,
         &queued,

@@ -14,15 +14,16 @@ use Rattle.value_calls.proofs.check.Tie as tie
 
 check-requires : tie.Need-check-requires
 check-requires c κs =
-    let gathers = c .before .before .before .before .before .before .before .before in
+    let marks = c .before .before .before .before .before .before .before .before in
+    let gathers = marks .before in
     let half = gathers .before .before .before .before .before .before .before in
     let start = half .before .before .before .before .before .before .before in
-    (whole-of (start .args .link) _ (start .good .0), search needs)
+    (whole-of (start .args .link) _ (start .good .0), search needs, (_, (_, marks .marks-of .ensures)))
 
 returns : tie.Need-returns
 returns c =
     let counts = c .before .before .before .before .before .before .before .before in
-    let gathers = counts .before in
+    let gathers = counts .before .before in
     let half = gathers .before .before .before .before .before .before .before in
     let start = half .before .before .before .before .before .before .before in
     let a = start .args in
@@ -34,4 +35,4 @@ returns c =
     check-promised (a .link) p _ _ g (a .t) _ (c .check .ensures)
 
 pub check-spec : {M : Type 1} → statement M
-check-spec = tie.close (tie.spec (λ c κs. search needs) (λ c κs. search needs) check-requires returns)
+check-spec = tie.close (tie.spec (λ c κs. search needs) (λ c κs. search needs) (λ c κs. search needs) check-requires returns)

@@ -17,17 +17,18 @@ use Rattle.value_calls.proofs.flush.Tie as tie
 
 flush-requires : tie.Need-flush-requires
 flush-requires c κs =
-    let gathers = c .before .before .before .before .before .before .before .before .before .before in
+    let marks = c .before .before .before .before .before .before .before .before .before .before in
+    let gathers = marks .before in
     let half = gathers .before .before .before .before .before .before .before .before in
     let start = half .before .before .before .before .before .before .before .before in
-    (whole-of (start .args .link) _ (start .good .0), search needs)
+    (whole-of (start .args .link) _ (start .good .0), search needs, (_, (_, marks .marks-of .ensures)))
 
 returns : tie.Need-returns
 returns c =
     let counted = c .before .before .before .before .before .before .before in
     let flushes = counted .before .before .before .before .before in
     let counts = flushes .before .before .before .before .before .before .before .before .before .before in
-    let gathers = counts .before in
+    let gathers = counts .before .before in
     let half = gathers .before .before .before .before .before .before .before .before in
     let start = half .before .before .before .before .before .before .before .before in
     let a = start .args in
@@ -60,6 +61,7 @@ pub flush-spec : {M : Type 1} → statement M
 flush-spec =
     tie.close
     (tie.spec
+    (λ c κs. search needs)
     (λ c κs. search needs)
     (λ c κs. search needs)
     flush-requires

@@ -16,16 +16,17 @@ use Rattle.value_calls.proofs.input.Tie as tie
 
 input-requires : tie.Need-input-requires
 input-requires c κs =
-    let gathers = c .before .before .before .before .before .before .before .before .before .before in
+    let marks = c .before .before .before .before .before .before .before .before .before .before .before .before in
+    let gathers = marks .before in
     let half = gathers .before .before .before .before .before .before .before in
     let start = half .before .before .before .before .before .before .before .before in
-    (whole-of (start .args .link) _ (start .good .0), search needs)
+    (whole-of (start .args .link) _ (start .good .0), search needs, (_, marks .marks-of .ensures))
 
 returns : tie.Need-returns
 returns c =
     let inputs = c .before .before .before .before .before .before .before .before .before .before .before .before in
-    let counts = inputs .before .before .before .before .before .before .before .before .before .before in
-    let gathers = counts .before in
+    let counts = inputs .before .before .before .before .before .before .before .before .before .before .before in
+    let gathers = counts .before .before .before in
     let half = gathers .before .before .before .before .before .before .before in
     let start = half .before .before .before .before .before .before .before .before in
     let a = start .args in
@@ -55,6 +56,7 @@ pub input-spec : {M : Type 1} → statement M
 input-spec =
     tie.close
     (tie.spec
+    (λ c κs. search needs)
     (λ c κs. search needs)
     (λ c κs. search needs)
     input-requires

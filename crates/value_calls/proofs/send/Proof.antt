@@ -14,7 +14,8 @@ use Rattle.value_calls.proofs.send.Tie as tie
 
 send-requires : tie.Need-send-requires
 send-requires c κs =
-    let fits = c .before .before .before .before .before .before .before .before in
+    let marks = c .before .before .before .before .before .before .before .before .before .before in
+    let fits = marks .before in
     let gathers = fits .before .before in
     let half = gathers .before .before .before .before .before .before .before in
     let start = half .before .before .before .before .before .before .before .before in
@@ -28,13 +29,14 @@ send-requires c κs =
           fits = fits .flight-fits .ensures;
         },
       ),
+      (_, marks .marks-of .ensures),
     )
 
 returns : tie.Need-returns
 returns c =
     let sends = c .before .before .before in
-    let counts = sends .before .before .before .before .before .before .before .before in
-    let fits = counts .before in
+    let counts = sends .before .before .before .before .before .before .before .before .before in
+    let fits = counts .before .before .before in
     let gathers = fits .before .before in
     let half = gathers .before .before .before .before .before .before .before in
     let start = half .before .before .before .before .before .before .before .before in
@@ -55,6 +57,7 @@ pub send-spec : {M : Type 1} → statement M
 send-spec =
     tie.close
     (tie.spec
+    (λ c κs. search needs)
     (λ c κs. search needs)
     (λ c κs. search needs)
     (λ c κs. search needs)

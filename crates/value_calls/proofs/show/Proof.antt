@@ -17,7 +17,8 @@ use Rattle.value_calls.proofs.show.Tie as tie
 
 show-requires : tie.Need-show-requires
 show-requires c κs =
-    let fits = c .before .before .before .before .before .before .before in
+    let marks = c .before .before .before .before .before .before .before in
+    let fits = marks .before in
     let gathers = fits .before .before in
     let half = gathers .before .before .before .before .before .before .before in
     let start = half .before .before .before .before .before .before .before in
@@ -31,12 +32,13 @@ show-requires c κs =
           fits = fits .flight-fits .ensures;
         },
       ),
+      (_, (_, marks .marks-of .ensures)),
     )
 
 returns : tie.Need-returns
 returns c =
     let counts = c .before .before .before .before .before .before .before in
-    let fits = counts .before in
+    let fits = counts .before .before in
     let gathers = fits .before .before in
     let half = gathers .before .before .before .before .before .before .before in
     let start = half .before .before .before .before .before .before .before in
@@ -55,4 +57,4 @@ returns c =
     }))
 
 pub show-spec : {M : Type 1} → statement M
-show-spec = tie.close (tie.spec (λ c κs. search needs) (λ c κs. search needs) (λ c κs. search needs) show-requires returns)
+show-spec = tie.close (tie.spec (λ c κs. search needs) (λ c κs. search needs) (λ c κs. search needs) (λ c κs. search needs) show-requires returns)

@@ -14,7 +14,8 @@ use Rattle.value_calls.proofs.size.Tie as tie
 
 size-requires : tie.Need-size-requires
 size-requires c κs =
-    let fits = c .before .before .before .before .before .before .before in
+    let marks = c .before .before .before .before .before .before .before in
+    let fits = marks .before in
     let gathers = fits .before .before in
     let half = gathers .before .before .before .before .before .before .before in
     let start = half .before .before .before .before .before .before .before in
@@ -28,12 +29,13 @@ size-requires c κs =
           fits = fits .flight-fits .ensures;
         },
       ),
+      (_, (_, marks .marks-of .ensures)),
     )
 
 returns : tie.Need-returns
 returns c =
     let counts = c .before .before .before .before .before .before .before in
-    let fits = counts .before in
+    let fits = counts .before .before in
     let gathers = fits .before .before in
     let half = gathers .before .before .before .before .before .before .before in
     let start = half .before .before .before .before .before .before .before in
@@ -51,4 +53,4 @@ returns c =
     }))
 
 pub size-spec : {M : Type 1} → statement M
-size-spec = tie.close (tie.spec (λ c κs. search needs) (λ c κs. search needs) (λ c κs. search needs) size-requires returns)
+size-spec = tie.close (tie.spec (λ c κs. search needs) (λ c κs. search needs) (λ c κs. search needs) (λ c κs. search needs) size-requires returns)

@@ -17,16 +17,17 @@ use Rattle.value_calls.proofs.update.Tie as tie
 
 flush-requires : tie.Need-flush-requires
 flush-requires c κs =
-    let gathers = c .before .before .before .before .before .before .before .before .before .before in
+    let marks = c .before .before .before .before .before .before .before .before .before .before in
+    let gathers = marks .before in
     let half = gathers .before .before .before .before .before .before .before .before in
     let start = half .before .before .before .before .before .before .before .before in
-    (whole-of (start .args .link) _ (start .good .0), search needs)
+    (whole-of (start .args .link) _ (start .good .0), search needs, (_, (_, marks .marks-of .ensures)))
 
 returns : tie.Need-returns
 returns c =
     let updates = c .before .before .before .before .before .before .before .before .before .before .before in
     let counts = updates .before .before .before .before .before .before .before .before .before .before in
-    let gathers = counts .before in
+    let gathers = counts .before .before in
     let half = gathers .before .before .before .before .before .before .before .before in
     let start = half .before .before .before .before .before .before .before .before in
     let a = start .args in
@@ -55,6 +56,7 @@ pub update-spec : {M : Type 1} → statement M
 update-spec =
     tie.close
     (tie.spec
+    (λ c κs. search needs)
     (λ c κs. search needs)
     (λ c κs. search needs)
     flush-requires
