@@ -1,0 +1,38 @@
+// The check of a block behind a pointer: refusal 13. One function for all calls, which reads the block where it stands. Proved by a walk.
+use control::Link;
+ghost use mathlib.Core.Path.{_≡_};
+ghost use Rattle.marks.specs.Marks.{none};
+ghost use Rattle.checking.specs.Verdicts.{Checked, ByFlown};
+
+// Whether a block is one that this link makes, with records of its outstanding segments of which `flown` tells whether they fit. The slots
+// held are marked.
+pub fn sound(
+    link: &Link,
+    flown: bool,
+    send_marks: &mut [u8; 256],
+    receive_marks: &mut [u8; 256],
+) -> bool
+    requires { ⌜ (now «send_marks» ≡ none) × (now «receive_marks» ≡ none) ⌝ }
+    ensures { λ r. ⌜ ByFlown (now (link .entry)) flown
+        (λ records. Checked (now (link .entry)) records (now («send_marks» .exit)) (now («receive_marks» .exit)) r) ⌝ }
+{
+    let settings = link.settings;
+    let flight = link.flight;
+    let arrival = link.arrival;
+    let clock = link.clock;
+    checking::valid(
+        settings,
+        flight,
+        arrival,
+        clock,
+        flown,
+        &link.queued,
+        &link.outstanding,
+        &link.transmissions,
+        &link.ready,
+        &link.waiting,
+        &link.waiting_numbers,
+        send_marks,
+        receive_marks,
+    )
+}
