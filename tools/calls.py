@@ -17,7 +17,7 @@ OPENED, SUBMITTED, TAKEN = Declared('open_core', 'Opened'), Declared('send_core'
 FLUSHED, DELIVERED, PLACE = Declared('flush_core', 'Flushed'), Declared('read_core', 'Delivered'), Declared('read_core', 'Place')
 COUNT, TIME = Declared('answers', 'Count', 'EL'), Declared('answers', 'Time', 'EL')
 DECLARED = [SETTINGS, FLIGHT, ARRIVAL, CLOCK, OPENED, SUBMITTED, TAKEN, FLUSHED, DELIVERED, PLACE, COUNT, TIME]
-U32, CODE = Number('u32'), Signed()
+U32, CODE, MARKS = Number('u32'), Signed(), Numbers('u8', 256)
 
 # the types of locals, as `rt mir` writes them
 TYPES = {
@@ -26,7 +26,7 @@ TYPES = {
     'answers::Time': TIME,
     'read_core::Delivered': DELIVERED, 'read_core::Place': PLACE, 'answers::Count': COUNT,
     'tyInt 64': Number('usize'), 'tyInt 32': CODE, 'tyBool': Truth(), 'tyUnit': Nothing(),
-    'tyArray tyInt 32 32': Numbers('u32', 32), 'tyArray tyInt 32 128': Numbers('u32', 128),
+    'tyArray tyInt 32 32': Numbers('u32', 32), 'tyArray tyInt 32 128': Numbers('u32', 128), 'tyArray tyInt 8 256': MARKS,
 }
 
 # what a proof names of the specs and laws
@@ -35,7 +35,8 @@ NAMES = {
     'Rattle.protocol.specs.Protocol': 'sendSlots', 'Rattle.records.specs.Tables': 'slotsIn gathered padded scattered',
     'Rattle.record_words.specs.RecordWords': 'recordsIn', 'Rattle.record_words.specs.RecordLaws': 'records-length',
     'Rattle.control.specs.Views': 'Whole Arrays arrays arraysOf linkOf',
-    'Rattle.checking.specs.Tests': 'flightFits', 'Rattle.checking.specs.Verdicts': 'Flown Flies ByFlown',
+    'Rattle.marks.specs.Marks': 'none',
+    'Rattle.checking.specs.Tests': 'flightFits', 'Rattle.checking.specs.Verdicts': 'Flown Flies ByFlown Checked',
     'Rattle.promises.specs.Parts': 'lentLengths partsOf flushPartsOf', 'Rattle.promises.specs.Answers': 'countOutcome timeOutcome',
     'Rattle.promises.specs.Outcomes': 'opensWith takesInWith tellsWith showsWith checksWith shows',
     'Rattle.promises.specs.Promises': 'OpenPromise SendPromise InputPromise FlushPromise UpdatePromise ReadPromise SizePromise placeOf',
@@ -112,6 +113,17 @@ FLIES = (f'Whole ({LISTS}) × Flies (linkOf y₀ y₁ y₂ y₃ ({LISTS})) y₄'
 def by_flown(says):
     """What a core ensures of whatever records it was told of."""
     return f'ByFlown h fl (λ recs. {says})'
+
+
+def sound():
+    checked = lambda sends, receives: f'ByFlown h x₁ (λ records. Checked h records {sends} {receives} r)'
+    return dict(
+        crate='block_check', name='sound', result=Truth(), about='The block is read through a `&`; where the marks go is given to `valid`.',
+        pars=[Par('sref'), Par('val', Truth()), Par('given', MARKS), Par('given', MARKS)],
+        needs='(x₂ .now ≡ none) × (x₃ .now ≡ none)', said=checked('z₂', 'z₃'),
+        calls=[Call('core', 'r', checked(last('r', 11), last('r', 12)), (f'Whole ({LISTS}) × (x₂ .now ≡ none) × (x₃ .now ≡ none)', f"{whole('len-')}, req .0, req .1"))],
+        proof='e-r')
+
 
 SLICES = [Par('shr', 'u8'), Par('shr', 'u8'), Par('shr', 'R'), Par('shr', 'u32')]
 
@@ -290,7 +302,7 @@ def exported(call):
 PLAIN_DIGITS = str.maketrans('₀₁₂₃₄₅₆₇₈₉', '0123456789')
 BELOW = {'open': open_, 'send': send, 'read': read, 'size': size, 'show': show, 'check': check, 'take_in': take_in}
 CALLS = {'below-' + name: call for name, call in BELOW.items()} | {name: lambda call=call: exported(call) for name, call in BELOW.items()}
-CALLS |= {'write_out': write_out, 'flush': flush, 'update': update}
+CALLS |= {'sound': sound, 'write_out': write_out, 'flush': flush, 'update': update}
 
 
 def named_from(crate):

@@ -8,7 +8,7 @@ import subprocess
 from layout import ROOT, fields
 from proof import proof_file
 from rows import row
-from walk import Walk, low, words
+from walk import WHOLE, Walk, low, words
 from wrap import wrapped
 
 
@@ -96,7 +96,7 @@ def block_fields():
 
 
 class Driver:
-    def __init__(self, crate, name, pars, result, said, proof, calls, types, uses, about):
+    def __init__(self, crate, name, pars, result, said, proof, calls, types, uses, about, needs=None):
         self.locals, self.statements = function(crate, name)
         self.pars, self.calls, self.types, self.proof = pars, calls, types, proof
         self.made = [s for s in self.statements if s[0] == 'call']
@@ -105,11 +105,11 @@ class Driver:
             lib, callee = s[1][1][1].strip('"').split('::', 1)
             called.append((lib, callee, c.alias))
         self.called, callees = called, list(dict.fromkeys(called))
-        self.walk = Walk(crate, name, pars, [ty(t, types) for t in self.locals], callees, result, said, uses, block_fields(), about)
+        self.walk = Walk(crate, name, pars, [ty(t, types) for t in self.locals], callees, result, said, uses, block_fields(), about, needs)
         self.names = list(self.walk.fields)
         self.values = {i + 1: self.value(p.t, f'x{low(i)}', f'v{low(i)}', f'g{low(i)}') for i, p in enumerate(pars) if p.kind == 'val'}
-        self.slot = {i + 1: i for i, p in enumerate(pars) if p.slice() or p.kind in ('given', 'sgiven')}
-        self.lent, self.pointers, self.shared, self.parted = {}, {}, set(), set()
+        self.slot = {i + 1: i for i, p in enumerate(pars) if p.slice() or p.kind in ('given', 'sgiven', 'sref')}
+        self.lent, self.pointers, self.shared, self.parted, self.maker = {}, {}, set(), set(), {}
 
     @staticmethod
     def value(t, x, v, g):
@@ -118,10 +118,12 @@ class Driver:
     def run(self):
         w = self.walk
         w.begin()
-        if self.pars[0].kind in ('ref', 'sref'):
-            w.opens()
-        count = 0
+        opens, count = self.whole() if self.pars[0].kind in ('ref', 'sref') else None, 0
         for k, s in enumerate(self.statements):
+            if k == opens:
+                if k:
+                    w.cut(k)
+                w.opens()
             if s[0] == 'call':
                 self.call(k, s, count)
                 count += 1
@@ -139,6 +141,16 @@ class Driver:
         r = self.values[0]
         w.end(r['x'], r['v'], r['g'], self.proof)
         return w
+
+    def whole(self):
+        """How many statements there are before the block is taken apart: those up to the last call that it is lent to whole."""
+        held, behind = {1}, 0
+        for k, s in enumerate(self.statements):
+            if s[0] == 'call' and any(place(a[1])[0] in held for a in items(s[2])):
+                behind = k + 1
+            elif s[0] == 'assign' and s[2][0] == 'addrOf' and place(s[2][1])[0] == 1 and len(place(s[2][1])[1]) == 1:
+                held.add(place(s[1])[0])
+        return behind
 
     @staticmethod
     def lends(s):
@@ -167,15 +179,16 @@ class Driver:
                 w.assign(f'(of-opd ! {w.look(source)})', local, v['t'].typed(v['x'], v['v'], v['g']), v['v'])
         elif value[0] == 'addrOf':
             source, path = place(value[1])
-            if source == 1 and len(path) == 2:
-                f = self.field(path)
+            how = 'mut' if self.locals[local][2] == 'mut' else 'shr'
+            if source == 1 and (len(path) == 2 or self.pars[0].kind == 'ref'):
+                f = self.field(path) if len(path) == 2 else WHOLE
                 w.address(f, local)
-                self.lent[local] = (f, 'mut' if self.locals[local][2] == 'mut' else 'shr')
+                self.lent[local] = (f, how)
             elif not path and source in self.values:
                 v = self.values[source]
-                f = w.array(source, v['t'], v['x'], v['g'])
+                f = w.array(self.maker[source], source, v['t'], v['x'], v['g'])
                 w.address(f, local)
-                self.lent[local] = (f, 'mut' if self.locals[local][2] == 'mut' else 'shr')
+                self.lent[local] = (f, how)
             elif source in self.slot and not self.pars[self.slot[source]].slice():
                 w.again_ref(source, local)
                 self.slot[local] = self.slot[source]
@@ -221,7 +234,8 @@ class Driver:
                 else:
                     if f'blent{i}' in w.context:
                         w.unshared(i)
-                    kind = 'keep' if self.pars[i].kind == 'shr' and self.used_again(k, a) else 'par'
+                    again = self.pars[i].kind in ('shr', 'sgiven') and self.used_again(k, a) or self.pars[i].kind == 'sref'
+                    kind = 'keep' if again else 'par'
                 out.append({'kind': kind, 'i': i, 'local': a})
         return out
 
@@ -247,11 +261,11 @@ class Driver:
         t = self.types[type_name(self.locals[local])]
         index = w.callees.index(self.called[count])
         w.call(index, self.arguments(k, locals_), c.fact, t, c.var, machine, local, c.needs)
-        self.values[local] = self.value(t, c.var, machine, f'is-{c.var}')
+        self.values[local], self.maker[local] = self.value(t, c.var, machine, f'is-{c.var}'), c.var
         for f, _ in lent:
             w.unlend(f)
             if f in w.arrays:
-                at = int(f[1:])
+                at = w.home(f)
                 self.values[at] = self.value(w.kind(f), w.now[f], w.filled[at], w.was[f])
         if any(f in w.fields for f, _ in lent):
             self.close(k)
@@ -259,9 +273,9 @@ class Driver:
             w.cut(k + 1)
 
 
-def write(crate, name, pars, result, said, proof, calls, types, names, declared, about):
+def write(crate, name, pars, result, said, proof, calls, types, names, declared, about, needs=None):
     """The proof file of a function. `names`: what it may name, by module; `declared`: types whose rows it may name. Those that it does not name are left out."""
-    walk = Driver(crate, name, pars, result, said, proof, calls, types, [], about).run()
+    walk = Driver(crate, name, pars, result, said, proof, calls, types, [], about, needs).run()
     text = proof_file(walk)
     used = words(text.replace('.', ' '))
     walk.uses = [line for t in declared if f'{t.alias}-row' in used or f'{t.alias}-laws' in used or t.denot in used for line in t.uses]

@@ -8,15 +8,15 @@ Memory, Routine, Heap, Calls, Loops, WpFn, Tables, Atoms, Fun, givenOf, tables, 
 split, join, pick, await, fsplit, fjoin, feqL, suffices, frame, done, look, look-raw, look-in, sub, whole, init, store, store-raw, forget, stop, hop, fld, from, load, of-opd,
 agg, addr, and-then, no-more, assigns, returns, enter, alloc1, alloc0, params1, pass1, pass0, free1, free0, land, WpFn-mono, FmC, fmOf, owns, Is, uint-vals, uint-tells,
 uint-makes, RefT, sliceVal, MutSlice, ShrSlice, Room, slice-vals, mut-slice-tells, shr-slice-tells, finally, plain, u8, u32, usize, nothing, owned, only, Vals, onEntry,
-Triple, Meets, tripleOf, entered, cited, says, Stays, gave-slice, goes-gave-slice, walkOf, ends-at, walked, walk-meets, yes'''
+Triple, Meets, tripleOf, entered, cited, says, Stays, gave-slice, goes-gave-slice, needs, walkOf, ends-at, walked, walk-meets, yes'''
 
 CITES = '''use Rattle.records.proofs.Call.{calls-fn, plainly}
 use Rattle.records.proofs.Shared.{LentShared, lends-shared, shared-back}
 use Rattle.records.proofs.Rows.{R}
-use Rattle.lending.proofs.Fields.{ref-at, lend-mut, back-mut, lend-shr, back-shr, cell-out, cell-in, tells-length}
+use Rattle.lending.proofs.Fields.{ref-at, lend-mut, back-mut, lend-shr, back-shr, cell-out, cell-in, tells-length, lend-whole, back-whole}
 use Rattle.records.proofs.Frame.{envOf}
 use Rattle.lending.proofs.Parts.{behind, spread}
-use Rattle.lending.proofs.Block.{L, Open, Back, link-own, opens-link, closes-link, looks-link, shuts-link}
+use Rattle.lending.proofs.Block.{L, Open, Back, link-own, link-shr, opens-link, closes-link, looks-link, shuts-link}
 use Rattle.control.specs.declared.Link.{Link}
 use Rattle.timing.specs.declared.Record.{Record}
 use lib.IntN.{ℤ}
@@ -34,7 +34,7 @@ use denote.Plain.{uint-lawful, nothing-lawful}
 use denote.Signed.{sint-lawful, sint-makes}
 use denote.Builtin.{i32, u16, unit}
 use denote.Array.{Array, array-vals, array-tells, array-typed, array-makes}
-use denote.Ref.{MutRef, ShrRef, ptr-vals, mut-tells, shr-tells}
+use denote.Ref.{MutRef, ShrRef, ptr-vals, mut-tells, shr-tells, shr-copy}
 use denote.Slice.{shr-slice-copy}
 use denote.Signature.{shrSliceOf, shrRefTo}
 use denote.Signature.Array.{arrayOf}
@@ -66,7 +66,7 @@ def proof_file(w):
         if p.kind == 'mut':
             return f'gave-slice ({p.lft} ∷ []) tt (plain (λ _. {p.t}))'
         if p.kind in ('ref', 'given'):
-            return f"{'stay' if p.kind == 'ref' else 'gave'}-ref ({p.lft} ∷ []) tt (plain (λ _. {p.t or 'L'}))"
+            return f"{'stay' if p.kind == 'ref' else 'gave'}-ref ({p.lft} ∷ []) tt {p.behind()}"
         return 'stay-dropped _ yes'
     say(f'abbrev stayed : Stays (f.ended .signature .params) (f.ended .kept)\nstayed = {nest([stay(p) for p in pars])}\n')
 
@@ -87,6 +87,8 @@ def proof_file(w):
             binders.append(f'(x{n} : RefT {p.value()})')
         else:
             binders.append(f'(x{n} : RefT ({p.list()})) (room{n} : Room {p.t} (length (x{n} .now)))')
+    if w.needs:
+        binders.append(f'(req : {w.needs})')
     say(f"  module _ {' '.join(binders)} where")
 
     def behind(p):
@@ -104,7 +106,7 @@ def proof_file(w):
         if p.kind in ('given', 'sgiven'):
             ref = 'MutRef' if p.kind == 'given' else 'ShrRef'
             say(f'    abbrev s{n} : Val\n    s{n} = vptr (x{n} .ptr .0) (x{n} .ptr .1)\n')
-            say(f'    abbrev Own{n} : Fml\n    Own{n} = {ref} (named 0) κ{low(p.lft)} {p.t} .own x{n} (s{n} ∷ [])\n')
+            say(f'    abbrev Own{n} : Fml\n    Own{n} = {ref} (named 0) κ{low(p.lft)} {p.row()} .own x{n} (s{n} ∷ [])\n')
         if i in shown:
             say(f'    abbrev shown-at{n} : GName → RefT ({p.list()})\n    shown-at{n} δ = record {{ ptr = x{n} .ptr; name = δ; now = x{n} .now }}\n')
             say(f'    abbrev Shared{n} : ℕ → GName → Fml\n    Shared{n} β δ = ShrSlice (named 0) (β ∷ []) {p.t} .own (shown-at{n} δ) (s{n} ∷ [])\n')
@@ -128,7 +130,7 @@ def proof_file(w):
             return f'‵ {w.token(i)}'
         if item[:3] == 'own':
             return f'‵ (link-own κ{low(p.lft)} b o γ k)'
-        return f'‵ (finally {p.t} (x{n} .name) z{n})' if p.slice() else f'‵ (fres (x{n} .name) ({p.t} .coded .code z{n}))'
+        return f'‵ (finally {p.t} (x{n} .name) z{n})' if p.slice() else f'‵ (fres (x{n} .name) ({p.row()} .coded .code z{n}))'
     arrow = f'{binds} → ' if binds else ''
     say(f"    abbrev Had : {arrow}List (Item 𝓤)\n    Had {' '.join(names)} = {cons(had(n) for n in w.had)}\n")
     say(f"    -- what the contract says\n    abbrev Said : (r : {w.result.denot}) {binds} → Type 0\n    Said r {' '.join(names)} = {w.said}\n")
@@ -267,15 +269,15 @@ def meets(w):
         if p.kind == 'mut':
             return f'goes-gave-slice 𝓤 H A W {n} {p.lft} tt (plain (λ _. {p.t}))'
         if p.kind in ('ref', 'given'):
-            return f"goes-{'' if p.kind == 'ref' else 'gave-'}ref 𝓤 H A W {n} {p.lft} tt (plain (λ _. {p.t or 'L'}))"
-        slot = p.t.slot() if p.kind == 'val' else f"({'shrSliceOf' if p.kind == 'shr' else 'shrRefTo'} ({p.lft} ∷ []) tt (plain (λ _. {p.t or 'L'})))"
+            return f"goes-{'' if p.kind == 'ref' else 'gave-'}ref 𝓤 H A W {n} {p.lft} tt {p.behind()}"
+        slot = p.t.slot() if p.kind == 'val' else f"({'shrSliceOf' if p.kind == 'shr' else 'shrRefTo'} ({p.lft} ∷ []) tt {p.behind()})"
         return f'goes-dropped 𝓤 H A W {n} {slot} yes (λ κs x f. refl)'
 
     def tells(p):
         if p.kind == 'val':
             return p.t.tells()
         law = {'mut': 'mut-slice-tells', 'shr': 'shr-slice-tells', 'sref': 'shr-tells', 'sgiven': 'shr-tells'}.get(p.kind, 'mut-tells')
-        return f"{law} (named {p.lft}) ({at('κs', p.lft)}) {p.t or 'L'}"
+        return f"{law} (named {p.lft}) ({at('κs', p.lft)}) {p.row()}"
 
     def passes(i, p):
         value, is_ = at('a', i), at('are', i)
@@ -287,7 +289,8 @@ def meets(w):
     vals = nest([p.t.vals() if p.kind == 'val' else 'slice-vals' if p.slice() else 'ptr-vals' for p in w.pars])
     lfts = [p.lft for p in w.pars if p.kind != 'val']
     kappas, shares = ' '.join(f"({at('κs', l)})" for l in lfts), ' '.join(f"({at('qs', l)})" for l in lfts)
-    args = ' '.join(passes(i, p) for i, p in enumerate(w.pars))
+    args = ' '.join([passes(i, p) for i, p in enumerate(w.pars)] + ['req'] * bool(w.needs))
+    enters = 'needs 𝓤 _ _ (λ req. ' if w.needs else 'via 𝓤 _ (fst∗ 𝓤 _ (emp 𝓤)) ('
     spec = w.name.replace('_', '-')
     cited = ',\n'.join(
         f"      cited 𝓤 H (tripleOf 𝓤 H (𝓖 .A) {c}.signature ({c}.spec 𝓤 H (𝓖 .A) (𝓜 .mem) (𝓡 .run))) 𝓜 𝓡 code.env {c}-def.name {c}-def.routine"
@@ -298,7 +301,7 @@ def meets(w):
   f-meets 𝓣 known = walk-meets 𝓤 H A f.ended stayed W {nest([goes(p) for p in w.pars])}
       (f.clauses 𝓤 H A at-mem run) (WpFn 𝓤 H (𝓣 .C) (𝓣 .Λ) code.function) (WpFn-mono 𝓤 H (W .laws) 𝓣 code.function)
       (walked 𝓤 H A f.ended stayed (f.clauses 𝓤 H A at-mem run) (WpFn 𝓤 H (𝓣 .C) (𝓣 .Λ) code.function) (λ κs. {vals}) (λ κs. {nest([tells(p) for p in w.pars])})
-      (λ κs qs bounds a g are. via 𝓤 _ (fst∗ 𝓤 _ (emp 𝓤)) (walk {kappas} {shares} {args} (𝓣 .C) (𝓣 .Λ) (fmOf 𝓤 H (W .laws) 𝓣) known)))
+      (λ κs qs bounds a g are. {enters}walk {kappas} {shares} {args} (𝓣 .C) (𝓣 .Λ) (fmOf 𝓤 H (W .laws) 𝓣) known)))
 
 pub {spec}-spec : {{M : Type 1}} → stated.statement M
 unfolding code.routine tablesOf

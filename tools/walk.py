@@ -4,8 +4,8 @@
 #   fin2           the last value of parameter 2             shown2, btok2, blent2   a `&mut [T]` parameter that is lent as `&[T]`
 #   F:f, C:f       field f of the block in memory, and its cell
 #   tok:f, own:f, lent:f, fin:f   a lent field: token, what the reference owns, what comes back, its last value
-#   @4             the array in local 4, lent as a field is: F:@4 and so on while it is, L4 before and after. A walk lends one such array,
-#                  and calls it `local`
+#   @a             the array in a local that the call with the result a made, lent as a field is: F:@a and so on while it is, L4 before and after
+#   *              the whole block, lent as a field is: own0 and tok0 before and after
 # The check of one declaration has a limit of steps, so a walk is cut into parts: `cut` ends one, and the next begins with the context written out.
 import re
 
@@ -33,15 +33,23 @@ def at(base, i):
     return base + ' .1' * i + ' .0'
 
 
+def atom(text):
+    """A text as an argument."""
+    return f'({text})' if ' ' in text else text
+
+
+WHOLE = '*'
+
+
 def hyphened(name):
-    return re.sub(r'@\d+', 'local', name.strip('«»').replace('_', '-'))
+    return 'block' if name == WHOLE else name.strip('«»@').replace('_', '-')
 
 
 class Par:
     """A parameter. kind, t:
     'val'  plain data of the type t        'mut', 'shr'   a `&mut [T]`, a `&[T]` of the row t
     'ref'  the block behind `&mut`, taken apart    'sref'  behind `&`, taken apart
-    'given', 'sgiven'  a `&mut`, a `&` that is given to a callee: t is the row, L for the block"""
+    'given', 'sgiven'  a `&mut`, a `&` that is given to a callee: t is the row, L for the block, or an array's type"""
 
     def __init__(self, kind, t=None):
         self.kind, self.t, self.lft = kind, t, None
@@ -54,7 +62,15 @@ class Par:
 
     def value(self):
         """What is behind it."""
-        return 'Link' if self.t in ('L', None) else 'ℕ'
+        return self.t.denot if isinstance(self.t, Numbers) else 'Link' if self.t in ('L', None) else 'ℕ'
+
+    def row(self):
+        """The row of what is behind it."""
+        return self.t.row if isinstance(self.t, Numbers) else self.t or 'L'
+
+    def behind(self):
+        """What is behind it, in a signature."""
+        return self.t.slot() if isinstance(self.t, Numbers) else f'(plain (λ _. {self.row()}))'
 
     def gives(self):
         """Its last value is said at the end by what a callee left."""
@@ -62,8 +78,8 @@ class Par:
 
 
 class Walk:
-    def __init__(self, crate, name, pars, types, callees, result, said, uses, fields, about):
-        self.crate, self.name, self.pars, self.types, self.locals = crate, name, pars, types, len(types)
+    def __init__(self, crate, name, pars, types, callees, result, said, uses, fields, about, needs=None):
+        self.crate, self.name, self.pars, self.types, self.locals, self.needs = crate, name, pars, types, len(types), needs
         self.callees, self.result, self.said, self.uses, self.fields, self.about = callees, result, said, uses, fields, about
         lft = 0
         for p in pars:
@@ -73,10 +89,10 @@ class Walk:
         self.text, self.open, self.context = [], 0, []
         self.scope, self.filled, self.parts, self.renamed, self.was = [], {}, [], [], {}
         self.asks, self.last, self.how, self.finals, self.after = [], {}, {}, {}, None
-        self.now = {f: f'(h .{f})' for f in fields}
+        self.now = {f: f'(h .{f})' for f in fields} | {WHOLE: 'h'}
         self.share = 'q′' if pars[0].kind == 'sref' else 'fullShare'
         self.lends = {}    # how often each was lent
-        self.arrays = {}   # arrays in locals that are lent, by their names here: the type
+        self.arrays = {}   # arrays in locals that are lent, by their names here: the type, and the local
 
     # ---- the text, and the context
 
@@ -130,7 +146,8 @@ class Walk:
     # ---- parameters
 
     def own(self, i):
-        return f'Own{low(i)}'
+        p = self.pars[i]
+        return f"(link-{'own' if p.kind == 'ref' else 'shr'} κ{low(p.lft)} b o γ h)" if p.kind in ('ref', 'sref') else f'Own{low(i)}'
 
     def token(self, i):
         l = low(self.pars[i].lft)
@@ -141,7 +158,7 @@ class Walk:
         if p.kind == 'val':
             return p.t.row
         ref = {'mut': 'MutSlice', 'shr': 'ShrSlice', 'ref': 'MutRef', 'given': 'MutRef', 'sref': 'ShrRef', 'sgiven': 'ShrRef'}[p.kind]
-        return f"{ref} (named {p.lft}) κ{low(p.lft)} {p.t or 'L'}"
+        return f'{ref} (named {p.lft}) κ{low(p.lft)} {p.row()}'
 
     def machine(self):
         """The machine values of the parameters."""
@@ -212,14 +229,22 @@ class Walk:
         self.comment()
 
     def kind(self, f):
-        return self.arrays[f] if f in self.arrays else self.fields[f][0]
+        return self.arrays[f][0] if f in self.arrays else self.fields[f][0]
+
+    def row_of(self, f):
+        """The row of what is lent, and what its values are."""
+        return ('L', 'Link') if f == WHOLE else (self.kind(f).row, self.kind(f).denot)
+
+    def home(self, f):
+        """The local of an array."""
+        return self.arrays[f][1]
 
     def share_of(self, f):
         return 'fullShare' if f in self.arrays else self.share
 
     def spot(self, f):
-        """Block and offset of what is lent: a field of the block, or a local."""
-        return f'l{low(int(f[1:]))} 0' if f in self.arrays else f'b {self.offset(f)}'
+        """Block and offset of what is lent: a field of the block, all of it, or a local."""
+        return f'l{low(self.home(f))} 0' if f in self.arrays else 'b o' if f == WHOLE else f'b {self.offset(f)}'
 
     def tag(self, f):
         """The name of what is lent, another one each time that it is."""
@@ -232,7 +257,8 @@ class Walk:
         return f'(o + {self.fields[f][1]})'
 
     def place(self, f):
-        return f"(from ! (hop ! (look ! {self.pos('L1')} refl) (fld ! {{d = {self.fields[f][1]}}} refl (stop !))))"
+        rest = '(stop !)' if f == WHOLE else f'(fld ! {{d = {self.fields[f][1]}}} refl (stop !))'
+        return f"(from ! (hop ! (look ! {self.pos('L1')} refl) {rest}))"
 
     def cell(self, f):
         """The field's cell is taken out."""
@@ -279,18 +305,26 @@ class Walk:
     def lend(self, f, how):
         if f in self.arrays:
             self.out_of_local(f)
-        self.bring([f'F:{f}'])
-        share = '' if how == 'mut' else self.share_of(f) + ' '
         self.lends[f] = self.lends.get(f, 0) + 1
-        i = self.tag(f)
-        lent = f'lend-{how} ! tt {share}{self.kind(f).row} {self.now[f]} {self.spot(f)} (λ α-{i} δ-{i}.'
+        i, (row, _) = self.tag(f), self.row_of(f)
+        if f == WHOLE:
+            self.bring(['own0', 'tok0'])
+            lent = f'lend-whole ! tt {row} h b o γ (λ α-{i} δ-{i}.'
+        else:
+            self.bring([f'F:{f}'])
+            share = '' if how == 'mut' else self.share_of(f) + ' '
+            lent = f'lend-{how} ! tt {share}{row} {self.now[f]} {self.spot(f)} (λ α-{i} δ-{i}.'
         self.under(lent, (f'α-{i}', 'ℕ'), (f'δ-{i}', 'GName'))
-        self.context[0:1] = [f'tok:{f}', f'own:{f}', f'lent:{f}']
+        self.context[0:2 if f == WHOLE else 1] = [f'tok:{f}', f'own:{f}', f'lent:{f}'] + ['opened'] * (f == WHOLE)
         self.how[f] = how
 
     def unlend(self, f):
-        row = self.kind(f).row
-        if self.how.pop(f) == 'mut':
+        row, how = self.row_of(f)[0], self.how.pop(f)
+        if f == WHOLE:
+            self.bring([f'tok:{f}', f'lent:{f}', 'opened'])
+            self.say(f'back-whole ! tt {row} h b o γ $')
+            self.context[0:3] = ['own0', 'tok0']
+        elif how == 'mut':
             self.bring([f'tok:{f}', f'lent:{f}', f'fin:{f}'])
             self.say(f'back-mut ! tt {row} {self.spot(f)} ({self.finals[f]}) $')
             self.context[0:3] = [f'F:{f}']
@@ -302,20 +336,20 @@ class Walk:
         if f in self.arrays:
             self.into_local(f)
 
-    def array(self, local, t, x, g):
+    def array(self, name, local, t, x, g):
         """The array in a local may be lent from here on: its value, and that the machine value is its."""
-        f = f'@{local}'
+        f = f'@{name}'
         if f not in self.arrays:
-            assert not self.arrays, 'one array in a local'
-            self.arrays[f], self.now[f], self.was[f] = t, x, g
+            assert name not in map(hyphened, self.fields), f'{name} is a field of the block'
+            self.arrays[f], self.now[f], self.was[f] = (t, local), x, g
         return f
 
     def raw(self, f):
         """The cell of a local, as one of memory."""
-        return f"fullShare {self.types[int(f[1:])]} {self.spot(f)} {self.filled[int(f[1:])]}"
+        return f'fullShare {self.types[self.home(f)]} {self.spot(f)} {self.filled[self.home(f)]}'
 
     def out_of_local(self, f):
-        local, t = int(f[1:]), self.kind(f)
+        local, t = self.home(f), self.kind(f)
         v = self.filled[local]
         self.bring([f'L{local}'])
         self.say(f'use1 W (‵ (cellAt fullShare ({self.types[local]} ∷ []) ({v} ∷ []) {self.spot(f)})) (W .laws .at-raw {self.raw(f)}) $')
@@ -323,7 +357,7 @@ class Walk:
         self.context[0] = f'F:{f}'
 
     def into_local(self, f):
-        local, t = int(f[1:]), self.kind(f)
+        local, t = self.home(f), self.kind(f)
         self.turn = getattr(self, 'turn', 0) + 1
         was = self.was[f] = f'was-{hyphened(f)}-{self.turn}'
         self.under(f'cell-out ! fullShare {t.row} {t.vals()} {t.tells()} {self.now[f]} {self.spot(f)} (λ {was}.', (was, f'Is {t.row} {self.now[f]} ({t.vals()} {self.now[f]})'))
@@ -342,14 +376,14 @@ class Walk:
 
     def again_ref(self, slot, local):
         """_local = &mut *_slot"""
-        self.assign(f"(addr ! (from ! (hop ! (look ! {self.pos(f'L{slot}')} refl) (stop !))))", local, '(tt, tt)', f's{low(slot - 1)}')
+        self.assign(f"(addr ! (from ! (hop ! (look ! {self.pos(f'L{slot}')} refl) (stop !))))", local, '(tt, tt)', self.machine()[slot - 1])
 
     def twice(self, i):
-        """A `&[T]` that is passed on more than once."""
-        p, n = self.pars[i], low(i)
+        """A `&[T]` or a `&T` that is passed on more than once."""
+        p, own = self.pars[i], self.own(i)
         self.bring([f'own{i}'])
-        own = self.own(i)
-        self.say(f'use1 W (‵ {own} ⊛ ‵ {own}) (shr-slice-copy 𝓤 H A W (named 0) κ{low(p.lft)} {p.t} .twice x{n} (s{n} ∷ [])) $ split ! $')
+        copies = f"shr-{'slice-' if p.slice() else ''}copy 𝓤 H A W (named 0) κ{low(p.lft)} {p.row()}"
+        self.say(f'use1 W (‵ {own} ⊛ ‵ {own}) ({copies} .twice {atom(self.values()[i])} ({self.machine()[i]} ∷ [])) $ split ! $')
         self.context[0:1] = [f'own{i}', f'also{i}']
 
     def lent_shared(self, i):
@@ -391,8 +425,8 @@ class Walk:
             return {'value': a['x'], 'machine': a['v']}
         if kind in ('par', 'keep'):
             i = a['i']
-            n, l = low(i), low(self.pars[i].lft)
-            return {'value': f'x{n}', 'machine': f's{n}', 'lft': f'κ{l}', 'share': f'q{l}', 'token': f'tok{i}', 'owner': f'own{i}',
+            l = low(self.pars[i].lft)
+            return {'value': self.values()[i], 'machine': self.machine()[i], 'lft': f'κ{l}', 'share': f'q{l}', 'token': f'tok{i}', 'owner': f'own{i}',
                     'token-is': self.token(i), 'own-is': self.own(i), 'binds': '', 'passes': ''}
         if kind in ('shown', 'shownkeep'):
             i = a['i']
@@ -401,14 +435,14 @@ class Walk:
             return {'value': f'(shown-at{n} {d})', 'machine': f's{n}', 'lft': f'(β{n} ∷ [])', 'share': 'fullShare', 'token': f'btok{i}', 'owner': f'shown{i}',
                     'token-is': f'(flft (β{n} ∷ []) fullShare)', 'own-is': f'(Shared{n} β{n} {d})', 'binds': f'(β{n} : ℕ) (δ{n} : GName)', 'passes': f'β{n} {d}'}
         f = a['f']
-        i, row = hyphened(f) if inside else self.tag(f), self.kind(f).row
+        i, (row, denot) = hyphened(f) if inside else self.tag(f), self.row_of(f)
         ref, v = 'MutRef' if self.how[f] == 'mut' else 'ShrRef', f'f-{i}' if inside else self.now[f]
         at = f'p-{i} 0' if inside and f in self.arrays else self.spot(f)
         value, machine, lft = f'(ref-at {at} δ-{i} {v})', f'(vptr {at})', f'(α-{i} ∷ [])'
         place, passed = (f'(p-{i} : ℕ) ', f"{self.spot(f).split()[0]} ") if f in self.arrays else ('', '')
         return {'value': value, 'machine': machine, 'lft': lft, 'share': 'fullShare', 'token': f'tok:{f}', 'owner': f'own:{f}',
                 'token-is': f'(flft {lft} fullShare)', 'own-is': f'({ref} (named 0) {lft} {row} .own {value} ({machine} ∷ []))',
-                'binds': place + f'(α-{i} : ℕ) (δ-{i} : GName) (f-{i} : {self.kind(f).denot})', 'passes': passed + f'α-{i} δ-{i} {v}'}
+                'binds': place + f'(α-{i} : ℕ) (δ-{i} : GName) (f-{i} : {denot})', 'passes': passed + f'α-{i} δ-{i} {v}'}
 
     def given_back(self, a):
         """The callee says the argument's last value."""
@@ -485,7 +519,7 @@ class Walk:
                     slices.append((n, i))
                     parts.append((f'it{n}', f'‵ (fsep (finally {p.t} (x{low(i)} .name) ({last})) (feq ℕ (length ({last})) (length (x{low(i)} .now))))'))
                 else:
-                    parts.append((f'fin{i}', f'‵ (fres (x{low(i)} .name) ({p.t} .coded .code ({last})))'))
+                    parts.append((f'fin{i}', f'‵ (fres (x{low(i)} .name) ({p.row()} .coded .code ({last})))'))
         self.spread('lasts', parts + [('true′', '‵ ftrue')])
         self.lose(junk)
         for n, i in slices:
@@ -523,6 +557,8 @@ class Walk:
         if kind == 'own':
             return f'‵ {self.own(int(n))}'
         p, i = self.pars[int(n)], int(n)
+        if not p.slice():
+            return f'‵ (fres (x{low(i)} .name) ({p.row()} .coded .code {self.last[i]}))'
         return f'‵ (finally {p.t} (x{low(i)} .name) {self.last[i]})'
 
     def rename(self, old, new):
@@ -542,7 +578,7 @@ class Walk:
                 self.scope.insert(0, (new, 'List ℕ'))
                 self.now[f], passed[new] = new, now
                 if f in self.arrays:
-                    self.filled[int(f[1:])] = self.filled[int(f[1:])].replace(now, new)
+                    self.filled[self.home(f)] = self.filled[self.home(f)].replace(now, new)
         for i, last in self.last.items():
             new = f'z{low(i)}'
             self.rename(f'({last})', new)
