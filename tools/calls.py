@@ -36,7 +36,7 @@ NAMES = {
     'Rattle.record_words.specs.RecordWords': 'recordsIn', 'Rattle.record_words.specs.RecordLaws': 'records-length',
     'Rattle.control.specs.Views': 'Whole Arrays arrays arraysOf linkOf',
     'Rattle.marks.specs.Marks': 'none',
-    'Rattle.checking.specs.Tests': 'flightFits', 'Rattle.checking.specs.Verdicts': 'Flown Flies ByFlown Checked',
+    'Rattle.checking.specs.Tests': 'flightFits', 'Rattle.checking.specs.Verdicts': 'Flown Flies ByFlown Sound SendMarked ReceiveMarked Sounds',
     'Rattle.promises.specs.Parts': 'lentLengths partsOf flushPartsOf', 'Rattle.promises.specs.Answers': 'countOutcome timeOutcome',
     'Rattle.promises.specs.Outcomes': 'opensWith takesInWith tellsWith showsWith checksWith shows',
     'Rattle.promises.specs.Promises': 'OpenPromise SendPromise InputPromise FlushPromise UpdatePromise ReadPromise SizePromise placeOf',
@@ -55,7 +55,7 @@ NAMES = {
 }
 
 ARRAYS = ['queued', 'outstanding', 'transmissions', 'ready', 'waiting', '«waiting_numbers»']
-FIRST = 6   # the core's first array among its parameters; then the pools and the ack list
+FIRST = 7   # the core's first array among its parameters; then the pools and the ack list
 PLAIN = [a.strip('«»').replace('_', '-') for a in ARRAYS]
 
 
@@ -83,18 +83,18 @@ def parts(*slices):
 
 P = parts('(x₁ .now)', '(x₂ .now)', '(x₃ .now)', '(x₄ .now)')
 LENT = 'lentLengths m (x₁ .now) (x₂ .now) (x₄ .now)'
-# the records of the outstanding segments go into an array in a local; it is z-local where the core is called
+# the records of the outstanding segments go into the array `found` in a local; it is z-found where the core is called
 FOUND = last('g', 3)
 GATHER = [
     Call('count-of', 'n', 'n ≡ h .flight .outstanding'),
-    Call('none-of', 'blanks', 'blanks ≡ replicate 128 0'),
+    Call('none-of', 'found', 'found ≡ replicate 128 0'),
     Call('gather', 'g', f'(length {FOUND} ≡ 128) × (recordsIn {FOUND} ≡ padded (gathered (take sendSlots (x₃ .now)) (slotsIn (h .outstanding) n)))',
-         ('(length f-outstanding ≡ 32) × (f-local ≡ replicate 128 0)', 'len-outstanding, e-blanks')),
+         ('(length f-outstanding ≡ 32) × (f-found ≡ replicate 128 0)', 'len-outstanding, e-found')),
     Call('table-len', 'm', 'm ≡ length (x₃ .now)'),
 ]
-RECS = '(recordsIn z-local)'
+RECS = '(recordsIn z-found)'
 GATHERS = f'(gathers h {P} n {RECS} m e-n (e-g .1) e-m)'
-WHOLE_RECORDS = (f"Whole (arrays {' '.join(f'f-{a}' for a in PLAIN)}) × (length f-local ≡ 128)", f"{whole('len-')}, e-g .0")
+WHOLE_RECORDS = (f"Whole (arrays {' '.join(f'f-{a}' for a in PLAIN)}) × (length f-found ≡ 128)", f"{whole('len-')}, e-g .0")
 
 # where only the test of the records is wanted: it is made over the table, and no record is gathered
 COUNT_OUT, TABLE = '(h .flight .outstanding)', '(take sendSlots (x₃ .now))'
@@ -107,7 +107,7 @@ FIT = [
 FLOWN = f'(record {{ whole = padded-whole {TABLE} (h .outstanding) {COUNT_OUT}; fits = e-fl }})'
 FITTING = f'h {P} {RECORDS} m (gathers h {P} {COUNT_OUT} {RECORDS} m refl refl e-m)'
 LISTS = 'arrays ' + ' '.join(f'f-{a}' for a in PLAIN)
-FLIES = (f'Whole ({LISTS}) × Flies (linkOf y₀ y₁ y₂ y₃ ({LISTS})) y₄', f"{whole('len-')}, ({RECORDS}, {FLOWN})")
+FLIES = (f'Whole ({LISTS}) × Flies (linkOf y₀ y₁ y₂ y₃ ({LISTS})) y₅', f"{whole('len-')}, ({RECORDS}, {FLOWN})")
 
 
 def by_flown(says):
@@ -116,13 +116,26 @@ def by_flown(says):
 
 
 def sound():
-    checked = lambda sends, receives: f'ByFlown h x₁ (λ records. Checked h records {sends} {receives} r)'
     return dict(
-        crate='block_check', name='sound', result=Truth(), about='The block is read through a `&`; where the marks go is given to `valid`.',
-        pars=[Par('sref'), Par('val', Truth()), Par('given', MARKS), Par('given', MARKS)],
-        needs='(x₂ .now ≡ none) × (x₃ .now ≡ none)', said=checked('z₂', 'z₃'),
-        calls=[Call('core', 'r', checked(last('r', 11), last('r', 12)), (f'Whole ({LISTS}) × (x₂ .now ≡ none) × (x₃ .now ≡ none)', f"{whole('len-')}, req .0, req .1"))],
+        crate='block_check', name='sound', result=Truth(), about='The block is read through a `&`; where the marks go is given to `checking::sound`.',
+        pars=[Par('sref'), Par('given', MARKS), Par('given', MARKS)],
+        needs='(x₁ .now ≡ none) × (x₂ .now ≡ none)', said='Sound h z₁ z₂ r',
+        calls=[Call('core', 'r', f"Sound h {last('r', 10)} {last('r', 11)} r", (f'Whole ({LISTS}) × (x₁ .now ≡ none) × (x₂ .now ≡ none)', f"{whole('len-')}, req .0, req .1"))],
         proof='e-r')
+
+
+# the check of the block comes first; the marks of its slots are z-sends and z-receives where the core is called
+CHECK = [
+    Call('marks-of', 'sends', 'sends ≡ none'), Call('marks-of', 'receives', 'receives ≡ none'),
+    Call('check', 'ok', f"Sound h {last('ok', 1)} {last('ok', 2)} ok", ('(f-sends ≡ none) × (f-receives ≡ none)', 'e-sends, e-receives')),
+]
+BLOCK = f'(linkOf y₀ y₁ y₂ y₃ ({LISTS}))'
+SOUNDS = (f'Sounds {BLOCK} y₄', '(z-sends, (z-receives, e-ok))')
+
+
+def needs(*each):
+    """What a callee requires, and a proof, of several."""
+    return ' × '.join(what for what, _ in each), ', '.join(proof for _, proof in each)
 
 
 SLICES = [Par('shr', 'u8'), Par('shr', 'u8'), Par('shr', 'R'), Par('shr', 'u32')]
@@ -151,13 +164,14 @@ def open_():
 def send():
     end = parts('z₁', '(x₂ .now)', '(x₃ .now)', '(x₄ .now)')
     link = f"(linkOf (h .settings) (a .flight) (h .arrival) (h .clock) ({after('a', ARRAYS[:1])}))"
-    pool = last('a', FIRST + 6)
+    pool = last('a', FIRST + 7)
     return dict(
         crate='local_calls', name='send', result=CODE, about='The table is read; structs are copied, all lists are lent, and the flight is stored.',
         pars=[Par('ref'), Par('mut', 'u8')] + SLICES[1:] + [Par('shr', 'u8')],
         said=f'Gives answerCode (λ a. SendPromise (x₅ .now) h {P} a k {end}) r',
-        calls=FIT + [
-            Call('core', 'a', by_flown(f'SendLeaves h recs m (x₁ .now) (x₂ .now) (x₄ .now) (x₅ .now) (a .answer) {link} {pool}'), FLIES),
+        calls=CHECK + FIT + [
+            Call('core', 'a', by_flown(f'SendLeaves h recs m (x₁ .now) (x₂ .now) (x₄ .now) (x₅ .now) (a .answer) {link} {pool}'),
+                 needs(FLIES, (f'SendMarked {BLOCK} f-sends y₄', '(z-receives, e-ok)'))),
             Call('flight-of', 'kf', 'kf ≡ a .flight'), Call('code-of', 'r', 'r ≡ answerCode (a .answer)'),
         ],
         proof=f'told answerCode _ (a .answer) e-r (rw e-kf (send-promised {FITTING} (a .answer) {link} {pool} (x₅ .now) (e-a {RECORDS} {FLOWN})))')
@@ -170,8 +184,8 @@ def read():
         crate='local_calls', name='read', result=CODE, about='The table is read; structs are copied, all lists are lent, and the arrival is stored.',
         pars=[Par('ref')] + SLICES + [Par('mut', 'u8')],
         said=f'Gives countCode (λ a. ReadPromise h {P} (x₅ .now) a k {P} z₅) r',
-        calls=FIT + [
-            Call('core', 'a', by_flown(f'ReadOver h recs m (x₁ .now) (x₂ .now) (x₄ .now) (x₅ .now) (a .answer) {link} {buffer}'), FLIES),
+        calls=CHECK + FIT + [
+            Call('core', 'a', by_flown(f'ReadOver h recs m (x₁ .now) (x₂ .now) (x₄ .now) (x₅ .now) (a .answer) {link} {buffer}'), needs(FLIES, SOUNDS)),
             Call('arrival-of', 'ka', 'ka ≡ a .arrival'), Call('code-of', 'r', 'r ≡ countCode (a .answer)'),
         ],
         proof=f'told countCode _ (a .answer) e-r (rw e-ka (read-promised {FITTING} (x₅ .now) (a .answer) {link} {buffer} (e-a {RECORDS} {FLOWN})))')
@@ -182,8 +196,8 @@ def size():
         crate='asks', name='size', result=CODE, about='The block and the table are read through a `&`.',
         pars=[Par('sref')] + SLICES,
         said=f'Gives countCode (λ a. SizePromise h {P} a) r',
-        calls=FIT + [
-            Call('core', 'a', by_flown(f'countOutcome a ≡ tellsWith h recs (x₄ .now) ({LENT})'), FLIES), Call('code-of', 'r', 'r ≡ countCode a'),
+        calls=CHECK + FIT + [
+            Call('core', 'a', by_flown(f'countOutcome a ≡ tellsWith h recs (x₄ .now) ({LENT})'), needs(FLIES, SOUNDS)), Call('code-of', 'r', 'r ≡ countCode a'),
         ],
         proof=f'told countCode _ a e-r (size-promised {FITTING} a (e-a {RECORDS} {FLOWN}))')
 
@@ -193,8 +207,8 @@ def show():
         crate='asks', name='show', result=CODE, about='The block and the table are read through a `&`; where the start goes is given to `tell_place`.',
         pars=[Par('sref')] + SLICES + [Par('given', 'u32')],
         said=f'Gives placeCode (λ a. PlacePromise h {P} a z₅) r',
-        calls=FIT + [
-            Call('core', 'a', by_flown(f'PlaceIs (placeOf (showsWith h recs (x₄ .now) ({LENT}))) (length (x₂ .now)) a'), FLIES),
+        calls=CHECK + FIT + [
+            Call('core', 'a', by_flown(f'PlaceIs (placeOf (showsWith h recs (x₄ .now) ({LENT}))) (length (x₂ .now)) a'), needs(FLIES, SOUNDS)),
             Call('code-of', 'r', f"(r ≡ placeCode a) × ({last('r', 1)} ≡ placeStart a)"),
         ],
         proof=f'told placeCode _ a (e-r .0) (record {{ place = shows-promised {FITTING} (λ o. PlaceIs (placeOf o) (length (x₂ .now)) a) (e-a {RECORDS} {FLOWN}); start = e-r .1 }})')
@@ -205,27 +219,27 @@ def check():
         crate='asks', name='check', result=CODE, about='The block and the table are read through a `&`; where the time goes is given to `tell_time`.',
         pars=[Par('sref')] + SLICES + [Par('val', U32), Par('given', 'u32')],
         said=f'Gives timeCode (λ a. TimePromise x₅ h {P} a (x₆ .now) z₆) r',
-        calls=GATHER + [
-            Call('core', 'a', f'timeOutcome a ≡ checksWith h {RECS} (x₄ .now) ({LENT}) x₅', WHOLE_RECORDS),
+        calls=CHECK + GATHER + [
+            Call('core', 'a', f'timeOutcome a ≡ checksWith h {RECS} (x₄ .now) ({LENT}) x₅', needs(WHOLE_RECORDS, SOUNDS)),
             Call('code-of', 'r', f"(r ≡ timeCode a) × ({last('r', 1)} ≡ timeStored a (x₆ .now))"),
         ],
         proof=f'told timeCode _ a (e-r .0) (record {{ time = check-promised h {P} {RECS} m {GATHERS} x₅ a e-a; when = e-r .1 }})')
 
 
 # behind the core the records are put back, by the words as they are then
-WORDS, LEFT, TABLE_AFTER = 'z-outstanding', '(recordsIn z-local′)', last('u', 0)
+WORDS, LEFT, TABLE_AFTER = 'z-outstanding', '(recordsIn z-found′)', last('u', 0)
 SCATTER = [
     Call('changed-of', 'c', 'c ≡ a .changed'),
-    Call('scatter', 'u', f'{TABLE_AFTER} ≡ scattered (x₃ .now) (slotsIn {WORDS} c) {LEFT}', ('(length f-outstanding ≡ 32) × (length f-local ≡ 128)', 'mid-outstanding, e-a .1')),
+    Call('scatter', 'u', f'{TABLE_AFTER} ≡ scattered (x₃ .now) (slotsIn {WORDS} c) {LEFT}', ('(length f-outstanding ≡ 32) × (length f-found ≡ 128)', 'mid-outstanding, e-a .1')),
 ]
 BACK = f'(record {{ words = {WORDS}; changed = a .changed; records = {LEFT} }})'
-PUT = f'(records-length 32 z-local′ (e-a .1)) (put-back (x₃ .now) {TABLE_AFTER} {BACK} {WORDS} c {LEFT} refl e-c refl e-u)'
+PUT = f'(records-length 32 z-found′ (e-a .1)) (put-back (x₃ .now) {TABLE_AFTER} {BACK} {WORDS} c {LEFT} refl e-c refl e-u)'
 ALL = [Par('ref'), Par('shr', 'u8'), Par('mut', 'u8'), Par('mut', 'R'), Par('mut', 'u32'), Par('shr', 'u8')]
 
 
 def take_in():
     link = f"(linkOf (h .settings) (a .flight) (a .arrival) (h .clock) ({after('a', ARRAYS[1:])}))"
-    records, pool, acks = last('a', 4), last('a', FIRST + 7), last('a', FIRST + 8)
+    records, pool, acks = last('a', 5), last('a', FIRST + 8), last('a', FIRST + 9)
     gives = f'(λ l. takesInWith l {RECS} (x₄ .now) ({LENT}) (x₂ .now) (x₅ .now))'
     takes = f"Takes {gives} (h .settings) (h .flight) (h .arrival) (h .clock) (arraysOf h) (x₂ .now) (x₄ .now) a ({after('a', ARRAYS[1:])}) (recordsIn {records}) {pool} {acks}"
     had = f"(x₅ .now) h {P} (a .answer) {BACK} {link} {pool} {acks}"
@@ -233,8 +247,8 @@ def take_in():
         crate='take_in', name='take_in', result=CODE,
         about='Structs are copied, all lists are lent, flight and arrival are stored; records are gathered from the table, and put back.',
         pars=ALL, said=f"Gives answerCode (λ a. InputPromise (x₅ .now) h {P} a k {parts('(x₁ .now)', 'z₂', 'z₃', 'z₄')}) r",
-        calls=GATHER + [
-            Call('core', 'a', f'({takes}) × (length {records} ≡ 128)', WHOLE_RECORDS),
+        calls=CHECK + GATHER + [
+            Call('core', 'a', f'({takes}) × (length {records} ≡ 128)', needs(WHOLE_RECORDS, (f'ReceiveMarked {BLOCK} f-receives y₄', '(z-sends, e-ok)'))),
             Call('flight-of', 'kf', 'kf ≡ a .flight'), Call('arrival-of', 'ka', 'ka ≡ a .arrival'),
         ] + SCATTER + [Call('code-of', 'r', 'r ≡ answerCode (a .answer)')],
         proof=f"told answerCode _ (a .answer) e-r (rw (e-kf, e-ka) (input-promised {had} {TABLE_AFTER} {PUT} (input-left {had} {RECS} m {GATHERS} ({whole('end-')}) (e-a .0))))")
@@ -246,7 +260,7 @@ INTO, FILLED = '(flushPartsOf (x₇ .now) (x₈ .now))', '(flushPartsOf z₇ z�
 
 def write_out():
     link = f"(linkOf (h .settings) (a .flight) (a .arrival) (a .clock) ({after('a', ARRAYS[:3], FIRST + 1)}))"
-    records, output, lengths = last('a', 4), last('a', FIRST + 11), last('a', FIRST + 12)
+    records, output, lengths = last('a', 5), last('a', FIRST + 11), last('a', FIRST + 12)
     core = f'Core x₅ h {RECS} m (x₁ .now) (x₂ .now) (x₄ .now) x₆ (x₇ .now) (x₈ .now) a {link} (recordsIn {records}) {output} {lengths}'
     left = f"(left x₅ x₆ h {P} {INTO} a {link} {LEFT} (flushPartsOf {output} {lengths}) {RECS} m {GATHERS} ({whole('end-')}) (e-a .0))"
     return dict(
@@ -254,8 +268,8 @@ def write_out():
         about='Structs are copied, all lists are lent, flight, arrival and clock are stored; records are gathered from the table, and put back.',
         pars=[Par('ref')] + WRITING + [Par('val', Truth()), Par('val', U32), Par('mut', 'u8'), Par('mut', 'u16')],
         said=f"WrittenOut x₅ x₆ h {P} {INTO} k {parts('(x₁ .now)', '(x₂ .now)', 'z₃', '(x₄ .now)')} {FILLED} r",
-        calls=GATHER + [
-            Call('core', 'a', f'({core}) × (length {records} ≡ 128)', WHOLE_RECORDS),
+        calls=CHECK + GATHER + [
+            Call('core', 'a', f'({core}) × (length {records} ≡ 128)', needs(WHOLE_RECORDS, SOUNDS)),
             Call('flight-of', 'kf', 'kf ≡ a .flight'), Call('arrival-of', 'ka', 'ka ≡ a .arrival'), Call('clock-of', 'kc', 'kc ≡ a .clock'),
         ] + SCATTER + [Call('code-of', 'r', 'r ≡ updateCode (a .answer)')],
         proof=f"rw (e-kf, e-ka, e-kc) (gives x₅ x₆ h {P} {INTO} (a .answer) {BACK} {link} (flushPartsOf {output} {lengths}) {TABLE_AFTER} {PUT} {left} r e-r)")

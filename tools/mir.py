@@ -176,6 +176,7 @@ class Driver:
                 self.values[local] = self.value(w.fields[f][0], *w.copied(f))
             else:
                 v = self.values[local] = self.values[source]
+                self.maker[local] = self.maker.get(source)
                 w.assign(f'(of-opd ! {w.look(source)})', local, v['t'].typed(v['x'], v['v'], v['g']), v['v'])
         elif value[0] == 'addrOf':
             source, path = place(value[1])

@@ -21,6 +21,9 @@ pub fn size(
     ensures { λ r. ⌜ Gives countCode (λ a. SizePromise (now (link .entry))
         (partsOf (now («send_pool» .entry)) (now («receive_pool» .entry)) (now (table .entry)) (now (acks .entry))) a) r ⌝ }
 {
+    let mut send_marks = marks::none();
+    let mut receive_marks = marks::none();
+    let sound = block_check::sound(link, &mut send_marks, &mut receive_marks);
     let settings = link.settings;
     let flight = link.flight;
     let arrival = link.arrival;
@@ -32,6 +35,7 @@ pub fn size(
         flight,
         arrival,
         clock,
+        sound,
         flown,
         lent,
         &link.queued,
@@ -61,6 +65,9 @@ pub fn show(
         (partsOf (now («send_pool» .entry)) (now («receive_pool» .entry)) (now (table .entry)) (now (acks .entry))) a (now (start .exit))) r
         ⌝ }
 {
+    let mut send_marks = marks::none();
+    let mut receive_marks = marks::none();
+    let sound = block_check::sound(link, &mut send_marks, &mut receive_marks);
     let settings = link.settings;
     let flight = link.flight;
     let arrival = link.arrival;
@@ -72,6 +79,7 @@ pub fn show(
         flight,
         arrival,
         clock,
+        sound,
         flown,
         lent,
         &link.queued,
@@ -101,6 +109,9 @@ pub fn check(
         (partsOf (now («send_pool» .entry)) (now («receive_pool» .entry)) (now (table .entry)) (now (acks .entry))) a
         (now (when .entry)) (now (when .exit))) r ⌝ }
 {
+    let mut send_marks = marks::none();
+    let mut receive_marks = marks::none();
+    let sound = block_check::sound(link, &mut send_marks, &mut receive_marks);
     let settings = link.settings;
     let flight = link.flight;
     let arrival = link.arrival;
@@ -114,6 +125,7 @@ pub fn check(
         flight,
         arrival,
         clock,
+        sound,
         &records,
         lent,
         &link.queued,

@@ -2,30 +2,22 @@
 use control::Link;
 ghost use mathlib.Core.Path.{_≡_};
 ghost use Rattle.marks.specs.Marks.{none};
-ghost use Rattle.checking.specs.Verdicts.{Checked, ByFlown};
+ghost use Rattle.checking.specs.Verdicts.{Sound};
 
-// Whether a block is one that this link makes, with records of its outstanding segments of which `flown` tells whether they fit. The slots
-// held are marked.
-pub fn sound(
-    link: &Link,
-    flown: bool,
-    send_marks: &mut [u8; 256],
-    receive_marks: &mut [u8; 256],
-) -> bool
+// Whether a block is one that this link makes, but for the records of its outstanding segments. The slots held are marked.
+pub fn sound(link: &Link, send_marks: &mut [u8; 256], receive_marks: &mut [u8; 256]) -> bool
     requires { ⌜ (now «send_marks» ≡ none) × (now «receive_marks» ≡ none) ⌝ }
-    ensures { λ r. ⌜ ByFlown (now (link .entry)) flown
-        (λ records. Checked (now (link .entry)) records (now («send_marks» .exit)) (now («receive_marks» .exit)) r) ⌝ }
+    ensures { λ r. ⌜ Sound (now (link .entry)) (now («send_marks» .exit)) (now («receive_marks» .exit)) r ⌝ }
 {
     let settings = link.settings;
     let flight = link.flight;
     let arrival = link.arrival;
     let clock = link.clock;
-    checking::valid(
+    checking::sound(
         settings,
         flight,
         arrival,
         clock,
-        flown,
         &link.queued,
         &link.outstanding,
         &link.transmissions,

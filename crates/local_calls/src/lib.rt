@@ -69,6 +69,9 @@ pub fn send(
         a (now (link .exit))
         (partsOf (now («send_pool» .exit)) (now («receive_pool» .entry)) (now (table .entry)) (now (acks .entry)))) r ⌝ }
 {
+    let mut send_marks = marks::none();
+    let mut receive_marks = marks::none();
+    let sound = block_check::sound(link, &mut send_marks, &mut receive_marks);
     let settings = link.settings;
     let flight = link.flight;
     let arrival = link.arrival;
@@ -80,6 +83,7 @@ pub fn send(
         flight,
         arrival,
         clock,
+        sound,
         flown,
         lent,
         &mut link.queued,
@@ -88,6 +92,7 @@ pub fn send(
         &link.ready,
         &link.waiting,
         &link.waiting_numbers,
+        &send_marks,
         send_pool,
         receive_pool,
         acks,
@@ -113,6 +118,9 @@ pub fn read(
         (partsOf (now («send_pool» .entry)) (now («receive_pool» .entry)) (now (table .entry)) (now (acks .entry)))
         (now (buffer .exit))) r ⌝ }
 {
+    let mut send_marks = marks::none();
+    let mut receive_marks = marks::none();
+    let sound = block_check::sound(link, &mut send_marks, &mut receive_marks);
     let settings = link.settings;
     let flight = link.flight;
     let arrival = link.arrival;
@@ -124,6 +132,7 @@ pub fn read(
         flight,
         arrival,
         clock,
+        sound,
         flown,
         lent,
         &link.queued,

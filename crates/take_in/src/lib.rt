@@ -21,6 +21,9 @@ pub fn take_in(
         a (now (link .exit))
         (partsOf (now («send_pool» .entry)) (now («receive_pool» .exit)) (now (table .exit)) (now (acks .exit)))) r ⌝ }
 {
+    let mut send_marks = marks::none();
+    let mut receive_marks = marks::none();
+    let sound = block_check::sound(link, &mut send_marks, &mut receive_marks);
     let settings = link.settings;
     let flight = link.flight;
     let arrival = link.arrival;
@@ -34,6 +37,7 @@ pub fn take_in(
         flight,
         arrival,
         clock,
+        sound,
         &mut records,
         lent,
         &link.queued,
@@ -42,6 +46,7 @@ pub fn take_in(
         &mut link.ready,
         &mut link.waiting,
         &mut link.waiting_numbers,
+        &receive_marks,
         send_pool,
         receive_pool,
         acks,
