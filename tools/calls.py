@@ -55,7 +55,9 @@ NAMES = {
 }
 
 ARRAYS = ['queued', 'outstanding', 'transmissions', 'ready', 'waiting', '«waiting_numbers»']
-FIRST = 7   # the core's first array among its parameters; then the pools and the ack list
+# where the core's parameters stand: flown or records, the first array of the block, and behind them the first pool (in `send` and `input` the marks)
+TOLD, FIRST = 5, 7
+BEHIND = FIRST + len(ARRAYS)
 PLAIN = [a.strip('«»').replace('_', '-') for a in ARRAYS]
 
 
@@ -107,7 +109,7 @@ FIT = [
 FLOWN = f'(record {{ whole = padded-whole {TABLE} (h .outstanding) {COUNT_OUT}; fits = e-fl }})'
 FITTING = f'h {P} {RECORDS} m (gathers h {P} {COUNT_OUT} {RECORDS} m refl refl e-m)'
 LISTS = 'arrays ' + ' '.join(f'f-{a}' for a in PLAIN)
-FLIES = (f'Whole ({LISTS}) × Flies (linkOf y₀ y₁ y₂ y₃ ({LISTS})) y₅', f"{whole('len-')}, ({RECORDS}, {FLOWN})")
+FLIES = (f'Whole ({LISTS}) × Flies (linkOf y₀ y₁ y₂ y₃ ({LISTS})) y{low(TOLD)}', f"{whole('len-')}, ({RECORDS}, {FLOWN})")
 
 
 def by_flown(says):
@@ -164,7 +166,7 @@ def open_():
 def send():
     end = parts('z₁', '(x₂ .now)', '(x₃ .now)', '(x₄ .now)')
     link = f"(linkOf (h .settings) (a .flight) (h .arrival) (h .clock) ({after('a', ARRAYS[:1])}))"
-    pool = last('a', FIRST + 7)
+    pool = last('a', BEHIND + 1)
     return dict(
         crate='local_calls', name='send', result=CODE, about='The table is read; structs are copied, all lists are lent, and the flight is stored.',
         pars=[Par('ref'), Par('mut', 'u8')] + SLICES[1:] + [Par('shr', 'u8')],
@@ -179,7 +181,7 @@ def send():
 
 def read():
     link = f"(linkOf (h .settings) (h .flight) (a .arrival) (h .clock) ({after('a', ARRAYS[3:])}))"
-    buffer = last('a', FIRST + 9)
+    buffer = last('a', BEHIND + 3)
     return dict(
         crate='local_calls', name='read', result=CODE, about='The table is read; structs are copied, all lists are lent, and the arrival is stored.',
         pars=[Par('ref')] + SLICES + [Par('mut', 'u8')],
@@ -239,7 +241,7 @@ ALL = [Par('ref'), Par('shr', 'u8'), Par('mut', 'u8'), Par('mut', 'R'), Par('mut
 
 def take_in():
     link = f"(linkOf (h .settings) (a .flight) (a .arrival) (h .clock) ({after('a', ARRAYS[1:])}))"
-    records, pool, acks = last('a', 5), last('a', FIRST + 8), last('a', FIRST + 9)
+    records, pool, acks = last('a', TOLD), last('a', BEHIND + 2), last('a', BEHIND + 3)
     gives = f'(λ l. takesInWith l {RECS} (x₄ .now) ({LENT}) (x₂ .now) (x₅ .now))'
     takes = f"Takes {gives} (h .settings) (h .flight) (h .arrival) (h .clock) (arraysOf h) (x₂ .now) (x₄ .now) a ({after('a', ARRAYS[1:])}) (recordsIn {records}) {pool} {acks}"
     had = f"(x₅ .now) h {P} (a .answer) {BACK} {link} {pool} {acks}"
@@ -260,7 +262,7 @@ INTO, FILLED = '(flushPartsOf (x₇ .now) (x₈ .now))', '(flushPartsOf z₇ z�
 
 def write_out():
     link = f"(linkOf (h .settings) (a .flight) (a .arrival) (a .clock) ({after('a', ARRAYS[:3], FIRST + 1)}))"
-    records, output, lengths = last('a', 5), last('a', FIRST + 11), last('a', FIRST + 12)
+    records, output, lengths = last('a', TOLD), last('a', BEHIND + 5), last('a', BEHIND + 6)
     core = f'Core x₅ h {RECS} m (x₁ .now) (x₂ .now) (x₄ .now) x₆ (x₇ .now) (x₈ .now) a {link} (recordsIn {records}) {output} {lengths}'
     left = f"(left x₅ x₆ h {P} {INTO} a {link} {LEFT} (flushPartsOf {output} {lengths}) {RECS} m {GATHERS} ({whole('end-')}) (e-a .0))"
     return dict(

@@ -150,6 +150,8 @@ class Driver:
                 behind = k + 1
             elif s[0] == 'assign' and s[2][0] == 'addrOf' and place(s[2][1])[0] == 1 and len(place(s[2][1])[1]) == 1:
                 held.add(place(s[1])[0])
+        apart = [s for s in self.statements[:behind] if self.touches(s) and place(s[1])[0] not in held]
+        assert not apart, 'the block is lent whole before it is taken apart'
         return behind
 
     @staticmethod
@@ -277,7 +279,7 @@ class Driver:
 def write(crate, name, pars, result, said, proof, calls, types, names, declared, about, needs=None):
     """The proof file of a function. `names`: what it may name, by module; `declared`: types whose rows it may name. Those that it does not name are left out."""
     walk = Driver(crate, name, pars, result, said, proof, calls, types, [], about, needs).run()
-    text = proof_file(walk)
+    text = '\n'.join(line for line in proof_file(walk).split('\n') if not line.startswith('use '))
     used = words(text.replace('.', ' '))
     walk.uses = [line for t in declared if f'{t.alias}-row' in used or f'{t.alias}-laws' in used or t.denot in used for line in t.uses]
     for module, what in names.items():
