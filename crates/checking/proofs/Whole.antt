@@ -178,7 +178,16 @@ module _ (s : Settings) (f : Flight) (a : Arrival) (k : Clock) (x : Arrays) (rs 
         send-whole = h₁ .whole;
         receive-whole = h₃ .whole;
         fits = λ acks. rw (
-          block-parts acks (g .counting), g .ranges, g .round, g .probing, g .congesting, ← ep, ← h₁ .fits, not-false z ez, ← h₂, ← h₃ .fits,
+          block-parts acks (g .counting),
+          g .ranges,
+          g .round,
+          g .probing,
+          g .congesting,
+          ← ep,
+          ← h₁ .fits,
+          not-false z ez,
+          ← h₂,
+          ← h₃ .fits,
         ) (turn y flown);
         send-free = λ acks g₁. rw (h₁ .marked (not-false z ez)) (sent-free acks (g .counting));
         receive-free = λ acks g₁. rw (h₃ .marked (and-parts y flown g₁ .0)) (got-free acks (g .counting));

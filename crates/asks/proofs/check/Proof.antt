@@ -240,8 +240,13 @@ use Rattle.asks.proofs.check.Statement as stated
 use Rattle.asks.proofs.check.Code as code
 
 abbrev stayed : Stays (f.ended .signature .params) (f.ended .kept)
-stayed = (stay-dropped _ yes, (stay-dropped _ yes,
-    (stay-dropped _ yes, (stay-dropped _ yes, (stay-dropped _ yes, (stay-dropped _ yes, (gave-ref (5 ∷ []) tt (plain (λ _. u32)), tt)))))))
+stayed = (
+  stay-dropped _ yes,
+  (
+    stay-dropped _ yes,
+    (stay-dropped _ yes, (stay-dropped _ yes, (stay-dropped _ yes, (stay-dropped _ yes, (gave-ref (5 ∷ []) tt (plain (λ _. u32)), tt))))),
+  ),
+)
 
 module _ {M : Type 1} (𝓤 : URA M) (H : Heap 𝓤) (A : Atoms 𝓤) (W : Given 𝓤 H A) (at-mem : Memory → SProp 𝓤) (run : Routine → Fun 𝓤) where
   -- what is known of the callees
@@ -302,35 +307,47 @@ module _ {M : Type 1} (𝓤 : URA M) (H : Heap 𝓤) (A : Atoms 𝓤) (W : Given
     -- what check is called at, and that what it asks is had
     abbrev to-check : (p-sends : ℕ) (α-sends : ℕ) (δ-sends : GName) (f-sends : (List ℕ)) (p-receives : ℕ) (α-receives : ℕ)
         (δ-receives : GName) (f-receives : (List ℕ)) → tripleOf 𝓤 H A check.signature (check.spec 𝓤 H A at-mem run) .Ghost
-    to-check p-sends α-sends δ-sends f-sends p-receives α-receives δ-receives f-receives =
-        (((κ₀, ((α-sends ∷ []), ((α-receives ∷ []), tt))), (q₀, (fullShare, (fullShare, tt))), tt,
+    to-check p-sends α-sends δ-sends f-sends p-receives α-receives δ-receives f-receives = (
+      (
+        (κ₀, ((α-sends ∷ []), ((α-receives ∷ []), tt))),
+        (q₀, (fullShare, (fullShare, tt))),
+        tt,
         (ref-at b o γ h, ((ref-at p-sends 0 δ-sends f-sends), ((ref-at p-receives 0 δ-receives f-receives), tt))),
-        (vptr b o ∷ [], ((vptr p-sends 0) ∷ [], ((vptr p-receives 0) ∷ [], tt)))), tt)
+        (vptr b o ∷ [], ((vptr p-sends 0) ∷ [], ((vptr p-receives 0) ∷ [], tt))),
+      ),
+      tt,
+    )
 
     asks-check : (p-sends : ℕ) (α-sends : ℕ) (δ-sends : GName) (f-sends : (List ℕ)) (p-receives : ℕ) (α-receives : ℕ) (δ-receives : GName)
-        (f-receives : (List ℕ)) →  ((f-sends ≡ none) × (f-receives ≡ none))
+        (f-receives : (List ℕ)) → ((f-sends ≡ none) × (f-receives ≡ none))
         → ent 𝓤 (⋆ 𝓤 H A (‵ (flft κ₀ q₀) ∷ ‵ (link-shr κ₀ b o γ h) ∷ ‵ (flft (α-sends ∷ []) fullShare)
         ∷ ‵ (MutRef (named 0) (α-sends ∷ []) (Array u8 256) .own (ref-at p-sends 0 δ-sends f-sends) ((vptr p-sends 0) ∷ []))
         ∷ ‵ (flft (α-receives ∷ []) fullShare)
         ∷ ‵ (MutRef (named 0) (α-receives ∷ []) (Array u8 256) .own (ref-at p-receives 0 δ-receives f-receives) ((vptr p-receives 0) ∷ []))
         ∷ [])) (tripleOf 𝓤 H A check.signature (check.spec 𝓤 H A at-mem run) .pre
         (to-check p-sends α-sends δ-sends f-sends p-receives α-receives δ-receives f-receives))
-    asks-check p-sends α-sends δ-sends f-sends p-receives α-receives δ-receives f-receives  req =
+    asks-check p-sends α-sends δ-sends f-sends p-receives α-receives δ-receives f-receives req =
         qed W (‵ (flft κ₀ q₀) ∷ ‵ (link-shr κ₀ b o γ h) ∷ ‵ (flft (α-sends ∷ []) fullShare)
-            ∷ ‵ (MutRef (named 0) (α-sends ∷ []) (Array u8 256) .own (ref-at p-sends 0 δ-sends f-sends) ((vptr p-sends 0) ∷ []))
-            ∷ ‵ (flft (α-receives ∷ []) fullShare)
-            ∷ ‵ (MutRef (named 0) (α-receives ∷ []) (Array u8 256) .own (ref-at p-receives 0 δ-receives f-receives)
-            ((vptr p-receives 0) ∷ [])) ∷ []) ∵ says ! req $ nothing ! $ move ! (5 ∷ 0 ∷ []) $ join ! $ move ! (3 ∷ 0 ∷ []) $ join ! $
-            move ! (1 ∷ 0 ∷ []) $ join ! $ nothing ! $ move ! (4 ∷ 0 ∷ []) $ fjoin ! $ move ! (3 ∷ 0 ∷ []) $ fjoin ! $ move ! (2 ∷ 0 ∷ []) $
-            fjoin ! $ move ! (1 ∷ 0 ∷ []) $ done !
+        ∷ ‵ (MutRef (named 0) (α-sends ∷ []) (Array u8 256) .own (ref-at p-sends 0 δ-sends f-sends) ((vptr p-sends 0) ∷ []))
+        ∷ ‵ (flft (α-receives ∷ []) fullShare)
+        ∷ ‵ (MutRef (named 0) (α-receives ∷ []) (Array u8 256) .own (ref-at p-receives 0 δ-receives f-receives)
+        ((vptr p-receives 0) ∷ [])) ∷ []) ∵ says ! req $ nothing ! $ move ! (5 ∷ 0 ∷ []) $ join ! $ move ! (3 ∷ 0 ∷ []) $ join ! $
+        move ! (1 ∷ 0 ∷ []) $ join ! $ nothing ! $ move ! (4 ∷ 0 ∷ []) $ fjoin ! $ move ! (3 ∷ 0 ∷ []) $ fjoin ! $ move ! (2 ∷ 0 ∷ []) $
+        fjoin ! $ move ! (1 ∷ 0 ∷ []) $ done !
 
     -- what gather is called at, and that what it asks is had
     abbrev to-gather : (α-outstanding : ℕ) (δ-outstanding : GName) (f-outstanding : (List ℕ)) (p-found : ℕ) (α-found : ℕ) (δ-found : GName)
         (f-found : (List ℕ)) (y₀ : ℕ) (u₀ : Val) → tripleOf 𝓤 H A gather.signature (gather.spec 𝓤 H A at-mem run) .Ghost
-    to-gather α-outstanding δ-outstanding f-outstanding p-found α-found δ-found f-found y₀ u₀ =
-        (((κ₃, ((α-outstanding ∷ []), ((α-found ∷ []), tt))), (q₃, (fullShare, (fullShare, tt))), tt,
+    to-gather α-outstanding δ-outstanding f-outstanding p-found α-found δ-found f-found y₀ u₀ = (
+      (
+        (κ₃, ((α-outstanding ∷ []), ((α-found ∷ []), tt))),
+        (q₃, (fullShare, (fullShare, tt))),
+        tt,
         (x₃, ((ref-at b (o + 636) δ-outstanding f-outstanding), (y₀, ((ref-at p-found 0 δ-found f-found), tt)))),
-        (s₃ ∷ [], ((vptr b (o + 636)) ∷ [], (u₀ ∷ [], ((vptr p-found 0) ∷ [], tt))))), tt)
+        (s₃ ∷ [], ((vptr b (o + 636)) ∷ [], (u₀ ∷ [], ((vptr p-found 0) ∷ [], tt)))),
+      ),
+      tt,
+    )
 
     asks-gather : (α-outstanding : ℕ) (δ-outstanding : GName) (f-outstanding : (List ℕ)) (p-found : ℕ) (α-found : ℕ) (δ-found : GName)
         (f-found : (List ℕ)) → (y₀ : ℕ) (u₀ : Val) → Is usize y₀ (u₀ ∷ [])
@@ -343,22 +360,22 @@ module _ {M : Type 1} (𝓤 : URA M) (H : Heap 𝓤) (A : Atoms 𝓤) (W : Given
         (to-gather α-outstanding δ-outstanding f-outstanding p-found α-found δ-found f-found y₀ u₀))
     asks-gather α-outstanding δ-outstanding f-outstanding p-found α-found δ-found f-found y₀ u₀ is₀ req =
         qed W (‵ (flft κ₃ q₃) ∷ ‵ Own₃ ∷ ‵ (flft (α-outstanding ∷ []) fullShare)
-            ∷ ‵ (ShrRef (named 0) (α-outstanding ∷ []) (Array u32 32) .own (ref-at b (o + 636) δ-outstanding f-outstanding)
-            ((vptr b (o + 636)) ∷ [])) ∷ ‵ (flft (α-found ∷ []) fullShare)
-            ∷ ‵ (MutRef (named 0) (α-found ∷ []) (Array u32 128) .own (ref-at p-found 0 δ-found f-found) ((vptr p-found 0) ∷ [])) ∷ []) ∵
-            says ! req $ nothing ! $ move ! (5 ∷ 0 ∷ []) $ join ! $ move ! (3 ∷ 0 ∷ []) $ join ! $ move ! (1 ∷ 0 ∷ []) $ join ! $
-            nothing ! $ move ! (4 ∷ 0 ∷ []) $ fjoin ! $ owned ! usize (Is usize) (uint-makes 𝓤 H A W w64) y₀ _ is₀ $ fjoin ! $
-            move ! (3 ∷ 0 ∷ []) $ fjoin ! $ move ! (2 ∷ 0 ∷ []) $ fjoin ! $ move ! (1 ∷ 0 ∷ []) $ done !
+        ∷ ‵ (ShrRef (named 0) (α-outstanding ∷ []) (Array u32 32) .own (ref-at b (o + 636) δ-outstanding f-outstanding)
+        ((vptr b (o + 636)) ∷ [])) ∷ ‵ (flft (α-found ∷ []) fullShare)
+        ∷ ‵ (MutRef (named 0) (α-found ∷ []) (Array u32 128) .own (ref-at p-found 0 δ-found f-found) ((vptr p-found 0) ∷ [])) ∷ []) ∵
+        says ! req $ nothing ! $ move ! (5 ∷ 0 ∷ []) $ join ! $ move ! (3 ∷ 0 ∷ []) $ join ! $ move ! (1 ∷ 0 ∷ []) $ join ! $
+        nothing ! $ move ! (4 ∷ 0 ∷ []) $ fjoin ! $ owned ! usize (Is usize) (uint-makes 𝓤 H A W w64) y₀ _ is₀ $ fjoin ! $
+        move ! (3 ∷ 0 ∷ []) $ fjoin ! $ move ! (2 ∷ 0 ∷ []) $ fjoin ! $ move ! (1 ∷ 0 ∷ []) $ done !
 
     -- what table-len is called at, and that what it asks is had
     abbrev to-table-len : tripleOf 𝓤 H A table-len.signature (table-len.spec 𝓤 H A at-mem run) .Ghost
-    to-table-len  = (((κ₃, tt), (q₃, tt), tt, (x₃, tt), (s₃ ∷ [], tt)), tt)
+    to-table-len = (((κ₃, tt), (q₃, tt), tt, (x₃, tt), (s₃ ∷ [], tt)), tt)
 
-    asks-table-len :  ent 𝓤 (⋆ 𝓤 H A (‵ (flft κ₃ q₃) ∷ ‵ Own₃ ∷ []))
-        (tripleOf 𝓤 H A table-len.signature (table-len.spec 𝓤 H A at-mem run) .pre (to-table-len ))
-    asks-table-len    =
+    asks-table-len : ent 𝓤 (⋆ 𝓤 H A (‵ (flft κ₃ q₃) ∷ ‵ Own₃ ∷ []))
+        (tripleOf 𝓤 H A table-len.signature (table-len.spec 𝓤 H A at-mem run) .pre (to-table-len))
+    asks-table-len =
         qed W (‵ (flft κ₃ q₃) ∷ ‵ Own₃ ∷ []) ∵ nothing ! $ move ! (1 ∷ 0 ∷ []) $ join ! $ nothing ! $ move ! (2 ∷ 0 ∷ []) $ fjoin ! $
-            move ! (1 ∷ 0 ∷ []) $ join ! $ nothing ! $ move ! (1 ∷ 0 ∷ []) $ done !
+        move ! (1 ∷ 0 ∷ []) $ join ! $ nothing ! $ move ! (1 ∷ 0 ∷ []) $ done !
 
     -- what core is called at, and that what it asks is had
     abbrev to-core : (p-found : ℕ) (α-found : ℕ) (δ-found : GName) (f-found : (List ℕ)) (α-queued : ℕ) (δ-queued : GName)
@@ -369,25 +386,100 @@ module _ {M : Type 1} (𝓤 : URA M) (H : Heap 𝓤) (A : Atoms 𝓤) (W : Given
         (y₅ : ℕ) (u₅ : Val) (y₆ : ℕ) (u₆ : Val) → tripleOf 𝓤 H A core.signature (core.spec 𝓤 H A at-mem run) .Ghost
     to-core p-found α-found δ-found f-found α-queued δ-queued f-queued α-outstanding δ-outstanding f-outstanding α-transmissions
         δ-transmissions f-transmissions α-ready δ-ready f-ready α-waiting δ-waiting f-waiting α-waiting-numbers δ-waiting-numbers
-        f-waiting-numbers y₀ u₀ y₁ u₁ y₂ u₂ y₃ u₃ y₄ u₄ y₅ u₅ y₆ u₆ =
-        ((((α-found ∷ []), ((α-queued ∷ []),
-        ((α-outstanding ∷ []), ((α-transmissions ∷ []),
-        ((α-ready ∷ []), ((α-waiting ∷ []), ((α-waiting-numbers ∷ []), (κ₁, (κ₂, (κ₄, tt)))))))))),
-        (fullShare, (fullShare, (fullShare, (fullShare, (fullShare, (fullShare, (fullShare, (q₁, (q₂, (q₄, tt)))))))))), tt,
-        (y₀, (y₁, (y₂,
-        (y₃, (y₄, ((ref-at p-found 0 δ-found f-found),
-        (y₅, ((ref-at b (o + 124) δ-queued f-queued),
-        ((ref-at b (o + 636) δ-outstanding f-outstanding),
-        ((ref-at b (o + 764) δ-transmissions f-transmissions),
-        ((ref-at b (o + 796) δ-ready f-ready),
-        ((ref-at b (o + 1308) δ-waiting f-waiting),
-        ((ref-at b (o + 1820) δ-waiting-numbers f-waiting-numbers), (x₁, (x₂, (x₄, (y₆, tt))))))))))))))))),
-        (u₀ ∷ [], (u₁ ∷ [], (u₂ ∷ [], (u₃ ∷ [],
-        (u₄ ∷ [], ((vptr p-found 0) ∷ [],
-        (u₅ ∷ [], ((vptr b (o + 124)) ∷ [],
-        ((vptr b (o + 636)) ∷ [], ((vptr b (o + 764)) ∷ [],
-        ((vptr b (o + 796)) ∷ [], ((vptr b (o + 1308)) ∷ [],
-        ((vptr b (o + 1820)) ∷ [], (s₁ ∷ [], (s₂ ∷ [], (s₄ ∷ [], (u₆ ∷ [], tt)))))))))))))))))), tt)
+        f-waiting-numbers y₀ u₀ y₁ u₁ y₂ u₂ y₃ u₃ y₄ u₄ y₅ u₅ y₆ u₆ = (
+          (
+            (
+              (α-found ∷ []),
+              (
+                (α-queued ∷ []),
+                (
+                  (α-outstanding ∷ []),
+                  (
+                    (α-transmissions ∷ []),
+                    ((α-ready ∷ []), ((α-waiting ∷ []), ((α-waiting-numbers ∷ []), (κ₁, (κ₂, (κ₄, tt)))))),
+                  ),
+                ),
+              ),
+            ),
+            (fullShare, (fullShare, (fullShare, (fullShare, (fullShare, (fullShare, (fullShare, (q₁, (q₂, (q₄, tt)))))))))),
+            tt,
+            (
+              y₀,
+              (
+                y₁,
+                (
+                  y₂,
+                  (
+                    y₃,
+                    (
+                      y₄,
+                      (
+                        (ref-at p-found 0 δ-found f-found),
+                        (
+                          y₅,
+                          (
+                            (ref-at b (o + 124) δ-queued f-queued),
+                            (
+                              (ref-at b (o + 636) δ-outstanding f-outstanding),
+                              (
+                                (ref-at b (o + 764) δ-transmissions f-transmissions),
+                                (
+                                  (ref-at b (o + 796) δ-ready f-ready),
+                                  (
+                                    (ref-at b (o + 1308) δ-waiting f-waiting),
+                                    ((ref-at b (o + 1820) δ-waiting-numbers f-waiting-numbers), (x₁, (x₂, (x₄, (y₆, tt))))),
+                                  ),
+                                ),
+                              ),
+                            ),
+                          ),
+                        ),
+                      ),
+                    ),
+                  ),
+                ),
+              ),
+            ),
+            (
+              u₀ ∷ [],
+              (
+                u₁ ∷ [],
+                (
+                  u₂ ∷ [],
+                  (
+                    u₃ ∷ [],
+                    (
+                      u₄ ∷ [],
+                      (
+                        (vptr p-found 0) ∷ [],
+                        (
+                          u₅ ∷ [],
+                          (
+                            (vptr b (o + 124)) ∷ [],
+                            (
+                              (vptr b (o + 636)) ∷ [],
+                              (
+                                (vptr b (o + 764)) ∷ [],
+                                (
+                                  (vptr b (o + 796)) ∷ [],
+                                  (
+                                    (vptr b (o + 1308)) ∷ [],
+                                    ((vptr b (o + 1820)) ∷ [], (s₁ ∷ [], (s₂ ∷ [], (s₄ ∷ [], (u₆ ∷ [], tt))))),
+                                  ),
+                                ),
+                              ),
+                            ),
+                          ),
+                        ),
+                      ),
+                    ),
+                  ),
+                ),
+              ),
+            ),
+          ),
+          tt,
+        )
 
     asks-core : (p-found : ℕ) (α-found : ℕ) (δ-found : GName) (f-found : (List ℕ)) (α-queued : ℕ) (δ-queued : GName) (f-queued : (List ℕ))
         (α-outstanding : ℕ) (δ-outstanding : GName) (f-outstanding : (List ℕ)) (α-transmissions : ℕ) (δ-transmissions : GName)
@@ -422,33 +514,33 @@ module _ {M : Type 1} (𝓤 : URA M) (H : Heap 𝓤) (A : Atoms 𝓤) (W : Given
         δ-transmissions f-transmissions α-ready δ-ready f-ready α-waiting δ-waiting f-waiting α-waiting-numbers δ-waiting-numbers
         f-waiting-numbers y₀ u₀ is₀ y₁ u₁ is₁ y₂ u₂ is₂ y₃ u₃ is₃ y₄ u₄ is₄ y₅ u₅ is₅ y₆ u₆ is₆ req =
         qed W (‵ (flft (α-found ∷ []) fullShare)
-            ∷ ‵ (ShrRef (named 0) (α-found ∷ []) (Array u32 128) .own (ref-at p-found 0 δ-found f-found) ((vptr p-found 0) ∷ []))
-            ∷ ‵ (flft (α-queued ∷ []) fullShare)
-            ∷ ‵ (ShrRef (named 0) (α-queued ∷ []) (Array u32 128) .own (ref-at b (o + 124) δ-queued f-queued) ((vptr b (o + 124)) ∷ []))
-            ∷ ‵ (flft (α-outstanding ∷ []) fullShare)
-            ∷ ‵ (ShrRef (named 0) (α-outstanding ∷ []) (Array u32 32) .own (ref-at b (o + 636) δ-outstanding f-outstanding)
-            ((vptr b (o + 636)) ∷ [])) ∷ ‵ (flft (α-transmissions ∷ []) fullShare)
-            ∷ ‵ (ShrRef (named 0) (α-transmissions ∷ []) (Array u8 32) .own (ref-at b (o + 764) δ-transmissions f-transmissions)
-            ((vptr b (o + 764)) ∷ [])) ∷ ‵ (flft (α-ready ∷ []) fullShare)
-            ∷ ‵ (ShrRef (named 0) (α-ready ∷ []) (Array u32 128) .own (ref-at b (o + 796) δ-ready f-ready) ((vptr b (o + 796)) ∷ []))
-            ∷ ‵ (flft (α-waiting ∷ []) fullShare)
-            ∷ ‵ (ShrRef (named 0) (α-waiting ∷ []) (Array u32 128) .own (ref-at b (o + 1308) δ-waiting f-waiting)
-            ((vptr b (o + 1308)) ∷ [])) ∷ ‵ (flft (α-waiting-numbers ∷ []) fullShare)
-            ∷ ‵ (ShrRef (named 0) (α-waiting-numbers ∷ []) (Array u32 128) .own (ref-at b (o + 1820) δ-waiting-numbers f-waiting-numbers)
-            ((vptr b (o + 1820)) ∷ [])) ∷ ‵ (flft κ₁ q₁) ∷ ‵ Own₁ ∷ ‵ (flft κ₂ q₂) ∷ ‵ Own₂ ∷ ‵ (flft κ₄ q₄)
-            ∷ ‵ Own₄ ∷ []) ∵ says ! req $ nothing ! $ move ! (19 ∷ 0 ∷ []) $ join ! $ move ! (17 ∷ 0 ∷ []) $ join ! $
-            move ! (15 ∷ 0 ∷ []) $ join ! $ move ! (13 ∷ 0 ∷ []) $ join ! $ move ! (11 ∷ 0 ∷ []) $ join ! $ move ! (9 ∷ 0 ∷ []) $ join ! $
-            move ! (7 ∷ 0 ∷ []) $ join ! $ move ! (5 ∷ 0 ∷ []) $ join ! $ move ! (3 ∷ 0 ∷ []) $ join ! $ move ! (1 ∷ 0 ∷ []) $ join ! $
-            nothing ! $ owned ! u32 (Is u32) (uint-makes 𝓤 H A W w32) y₆ _ is₆ $ fjoin ! $ move ! (11 ∷ 0 ∷ []) $ fjoin ! $
-            move ! (10 ∷ 0 ∷ []) $ fjoin ! $ move ! (9 ∷ 0 ∷ []) $ fjoin ! $ move ! (8 ∷ 0 ∷ []) $ fjoin ! $ move ! (7 ∷ 0 ∷ []) $ fjoin ! $
-            move ! (6 ∷ 0 ∷ []) $ fjoin ! $ move ! (5 ∷ 0 ∷ []) $ fjoin ! $ move ! (4 ∷ 0 ∷ []) $ fjoin ! $ move ! (3 ∷ 0 ∷ []) $ fjoin ! $
-            owned ! usize (Is usize) (uint-makes 𝓤 H A W w64) y₅ _ is₅ $ fjoin ! $ move ! (2 ∷ 0 ∷ []) $ fjoin ! $
-            owned ! Boolean (Is Boolean) (bool-makes 𝓤 H A W) y₄ _ is₄ $ fjoin ! $
-            owned ! clock-row.the-row (Is clock-row.the-row) (LL.makes clock-row.the-type clock-laws.the-plain 𝓤 H A) y₃ _ is₃ $ fjoin ! $
-            owned ! arrival-row.the-row (Is arrival-row.the-row) (LL.makes arrival-row.the-type arrival-laws.the-plain 𝓤 H A) y₂ _ is₂ $
-            fjoin ! $ owned ! flight-row.the-row (Is flight-row.the-row) (LL.makes flight-row.the-type flight-laws.the-plain 𝓤 H A) y₁ _
-            is₁ $ fjoin ! $ owned ! settings-row.the-row (Is settings-row.the-row)
-            (LL.makes settings-row.the-type settings-laws.the-plain 𝓤 H A) y₀ _ is₀ $ fjoin ! $ move ! (1 ∷ 0 ∷ []) $ done !
+        ∷ ‵ (ShrRef (named 0) (α-found ∷ []) (Array u32 128) .own (ref-at p-found 0 δ-found f-found) ((vptr p-found 0) ∷ []))
+        ∷ ‵ (flft (α-queued ∷ []) fullShare)
+        ∷ ‵ (ShrRef (named 0) (α-queued ∷ []) (Array u32 128) .own (ref-at b (o + 124) δ-queued f-queued) ((vptr b (o + 124)) ∷ []))
+        ∷ ‵ (flft (α-outstanding ∷ []) fullShare)
+        ∷ ‵ (ShrRef (named 0) (α-outstanding ∷ []) (Array u32 32) .own (ref-at b (o + 636) δ-outstanding f-outstanding)
+        ((vptr b (o + 636)) ∷ [])) ∷ ‵ (flft (α-transmissions ∷ []) fullShare)
+        ∷ ‵ (ShrRef (named 0) (α-transmissions ∷ []) (Array u8 32) .own (ref-at b (o + 764) δ-transmissions f-transmissions)
+        ((vptr b (o + 764)) ∷ [])) ∷ ‵ (flft (α-ready ∷ []) fullShare)
+        ∷ ‵ (ShrRef (named 0) (α-ready ∷ []) (Array u32 128) .own (ref-at b (o + 796) δ-ready f-ready) ((vptr b (o + 796)) ∷ []))
+        ∷ ‵ (flft (α-waiting ∷ []) fullShare)
+        ∷ ‵ (ShrRef (named 0) (α-waiting ∷ []) (Array u32 128) .own (ref-at b (o + 1308) δ-waiting f-waiting)
+        ((vptr b (o + 1308)) ∷ [])) ∷ ‵ (flft (α-waiting-numbers ∷ []) fullShare)
+        ∷ ‵ (ShrRef (named 0) (α-waiting-numbers ∷ []) (Array u32 128) .own (ref-at b (o + 1820) δ-waiting-numbers f-waiting-numbers)
+        ((vptr b (o + 1820)) ∷ [])) ∷ ‵ (flft κ₁ q₁) ∷ ‵ Own₁ ∷ ‵ (flft κ₂ q₂) ∷ ‵ Own₂ ∷ ‵ (flft κ₄ q₄)
+        ∷ ‵ Own₄ ∷ []) ∵ says ! req $ nothing ! $ move ! (19 ∷ 0 ∷ []) $ join ! $ move ! (17 ∷ 0 ∷ []) $ join ! $
+        move ! (15 ∷ 0 ∷ []) $ join ! $ move ! (13 ∷ 0 ∷ []) $ join ! $ move ! (11 ∷ 0 ∷ []) $ join ! $ move ! (9 ∷ 0 ∷ []) $ join ! $
+        move ! (7 ∷ 0 ∷ []) $ join ! $ move ! (5 ∷ 0 ∷ []) $ join ! $ move ! (3 ∷ 0 ∷ []) $ join ! $ move ! (1 ∷ 0 ∷ []) $ join ! $
+        nothing ! $ owned ! u32 (Is u32) (uint-makes 𝓤 H A W w32) y₆ _ is₆ $ fjoin ! $ move ! (11 ∷ 0 ∷ []) $ fjoin ! $
+        move ! (10 ∷ 0 ∷ []) $ fjoin ! $ move ! (9 ∷ 0 ∷ []) $ fjoin ! $ move ! (8 ∷ 0 ∷ []) $ fjoin ! $ move ! (7 ∷ 0 ∷ []) $ fjoin ! $
+        move ! (6 ∷ 0 ∷ []) $ fjoin ! $ move ! (5 ∷ 0 ∷ []) $ fjoin ! $ move ! (4 ∷ 0 ∷ []) $ fjoin ! $ move ! (3 ∷ 0 ∷ []) $ fjoin ! $
+        owned ! usize (Is usize) (uint-makes 𝓤 H A W w64) y₅ _ is₅ $ fjoin ! $ move ! (2 ∷ 0 ∷ []) $ fjoin ! $
+        owned ! Boolean (Is Boolean) (bool-makes 𝓤 H A W) y₄ _ is₄ $ fjoin ! $
+        owned ! clock-row.the-row (Is clock-row.the-row) (LL.makes clock-row.the-type clock-laws.the-plain 𝓤 H A) y₃ _ is₃ $ fjoin ! $
+        owned ! arrival-row.the-row (Is arrival-row.the-row) (LL.makes arrival-row.the-type arrival-laws.the-plain 𝓤 H A) y₂ _ is₂ $
+        fjoin ! $ owned ! flight-row.the-row (Is flight-row.the-row) (LL.makes flight-row.the-type flight-laws.the-plain 𝓤 H A) y₁ _
+        is₁ $ fjoin ! $ owned ! settings-row.the-row (Is settings-row.the-row)
+        (LL.makes settings-row.the-type settings-laws.the-plain 𝓤 H A) y₀ _ is₀ $ fjoin ! $ move ! (1 ∷ 0 ∷ []) $ done !
 
     -- what code-of is called at, and that what it asks is had
     abbrev to-code-of : (y₀ : Time) (u₀ : Val) → tripleOf 𝓤 H A code-of.signature (code-of.spec 𝓤 H A at-mem run) .Ghost
@@ -457,10 +549,10 @@ module _ {M : Type 1} (𝓤 : URA M) (H : Heap 𝓤) (A : Atoms 𝓤) (W : Given
     asks-code-of : (y₀ : Time) (u₀ : Val) → Is time-row.the-row y₀ (u₀ ∷ [])
         → ent 𝓤 (⋆ 𝓤 H A (‵ (flft κ₅ q₅) ∷ ‵ Own₆ ∷ []))
         (tripleOf 𝓤 H A code-of.signature (code-of.spec 𝓤 H A at-mem run) .pre (to-code-of y₀ u₀))
-    asks-code-of  y₀ u₀ is₀  =
+    asks-code-of y₀ u₀ is₀ =
         qed W (‵ (flft κ₅ q₅) ∷ ‵ Own₆ ∷ []) ∵ nothing ! $ move ! (1 ∷ 0 ∷ []) $ join ! $ nothing ! $ move ! (2 ∷ 0 ∷ []) $ fjoin ! $
-            owned ! time-row.the-row (Is time-row.the-row) (EL.makes time-row.the-type time-laws.the-plain 𝓤 H A) y₀ _ is₀ $ fjoin ! $
-            move ! (1 ∷ 0 ∷ []) $ join ! $ nothing ! $ move ! (1 ∷ 0 ∷ []) $ done !
+        owned ! time-row.the-row (Is time-row.the-row) (EL.makes time-row.the-type time-laws.the-plain 𝓤 H A) y₀ _ is₀ $ fjoin ! $
+        move ! (1 ∷ 0 ∷ []) $ join ! $ nothing ! $ move ! (1 ∷ 0 ∷ []) $ done !
 
     abbrev Had : (z₆ : ℕ) → List (Item 𝓤)
     Had z₆ = ‵ (flft κ₀ q₀) ∷ ‵ (flft κ₁ q₁) ∷ ‵ (flft κ₂ q₂) ∷ ‵ (flft κ₃ q₃) ∷ ‵ (flft κ₄ q₄)
@@ -470,16 +562,16 @@ module _ {M : Type 1} (𝓤 : URA M) (H : Heap 𝓤) (A : Atoms 𝓤) (W : Given
     abbrev Said : (r : ℤ) (z₆ : ℕ) → Type 0
     Said r z₆ = Gives timeCode (λ a. TimePromise x₅ h (partsOf (x₁ .now) (x₂ .now) (x₃ .now) (x₄ .now)) a (x₆ .now) z₆) r
 
-    exits : (r : ℤ) (w : Val) (z₆ : ℕ) → Said r z₆  → Is i32 r (w ∷ []) → ent 𝓤 (⋆ 𝓤 H A (Had z₆)) (Post w)
+    exits : (r : ℤ) (w : Val) (z₆ : ℕ) → Said r z₆ → Is i32 r (w ∷ []) → ent 𝓤 (⋆ 𝓤 H A (Had z₆)) (Post w)
     unfolding Post
-    exits r w z₆ e  g =
+    exits r w z₆ e g =
         qed W (Had z₆) ∵ suffices ! _ (ends-at 𝓤 H A f.ended stayed (f.clauses 𝓤 H A at-mem run) W
-            (((κ₀, (κ₁, (κ₂, (κ₃, (κ₄, (κ₅, tt)))))), (q₀, (q₁, (q₂, (q₃, (q₄, (q₅, tt)))))), tt, x, at), tt) w r
-            (tt, (tt, (tt, (tt, (tt, (tt, (z₆, tt))))))) (tt, (tt, (tt, (tt, (tt, (tt, (tt, tt)))))))) $ says ! e $
+        (((κ₀, (κ₁, (κ₂, (κ₃, (κ₄, (κ₅, tt)))))), (q₀, (q₁, (q₂, (q₃, (q₄, (q₅, tt)))))), tt, x, at), tt) w r
+        (tt, (tt, (tt, (tt, (tt, (tt, (z₆, tt))))))) (tt, (tt, (tt, (tt, (tt, (tt, (tt, tt)))))))) $ says ! e $
         nothing ! $ move ! (7 ∷ 0 ∷ []) $ join ! $ move ! (5 ∷ 0 ∷ []) $ join ! $ move ! (4 ∷ 0 ∷ []) $ join ! $ move ! (3 ∷ 0 ∷ []) $
-            join ! $ move ! (2 ∷ 0 ∷ []) $ join ! $ move ! (1 ∷ 0 ∷ []) $ join ! $ frame ! $ nothing ! $ move ! (1 ∷ 0 ∷ []) $ fjoin ! $
-            nothing ! $ fjoin ! $ nothing ! $ fjoin ! $ nothing ! $ fjoin ! $ nothing ! $ fjoin ! $ nothing ! $ fjoin ! $ nothing ! $
-            fjoin ! $ frame ! $ owned ! i32 (Is i32) (sint-makes 𝓤 H A W w32) r _ g $ done !
+        join ! $ move ! (2 ∷ 0 ∷ []) $ join ! $ move ! (1 ∷ 0 ∷ []) $ join ! $ frame ! $ nothing ! $ move ! (1 ∷ 0 ∷ []) $ fjoin ! $
+        nothing ! $ fjoin ! $ nothing ! $ fjoin ! $ nothing ! $ fjoin ! $ nothing ! $ fjoin ! $ nothing ! $ fjoin ! $ nothing ! $
+        fjoin ! $ frame ! $ owned ! i32 (Is i32) (sint-makes 𝓤 H A W w32) r _ g $ done !
 
     module _ (C : Calls 𝓤 H) (Λ : Loops 𝓤 H) (fm : FmC 𝓤 H (W .laws) C) (known : Known C) where
       -- where the locals lie
@@ -571,131 +663,134 @@ module _ {M : Type 1} (𝓤 : URA M) (H : Heap 𝓤) (A : Atoms 𝓤) (W : Given
           (past .35) (past .36)) Post))
       part₃ past =
           qed W (‵ (partAt (Array u32 128) (past .39) (h .«waiting_numbers») b (o + 1820))
-              ∷ ‵ (partAt (Array u32 128) (past .39) (h .waiting) b (o + 1308))
-              ∷ ‵ (partAt (Array u32 128) (past .39) (h .ready) b (o + 796))
-              ∷ ‵ (partAt (Array u8 32) (past .39) (h .transmissions) b (o + 764))
-              ∷ ‵ (partAt (Array u32 32) (past .39) (h .outstanding) b (o + 636))
-              ∷ ‵ (partAt (Array u32 128) (past .39) (h .queued) b (o + 124))
-              ∷ ‵ (fat fullShare (tyArray (tyInt w32) 128) (past .19) 0 ((only ((array-vals (uint-vals w32)) (past .0))))) ∷ ‵ (flft κ₁ q₁)
-              ∷ ‵ (flft κ₂ q₂) ∷ ‵ (flft κ₄ q₄) ∷ ‵ (flft κ₃ q₃) ∷ ‵ (partAt clock-row.the-row (past .39) (h .clock) b (o + 104))
-              ∷ ‵ (partAt arrival-row.the-row (past .39) (h .arrival) b (o + 72))
-              ∷ ‵ (partAt flight-row.the-row (past .39) (h .flight) b (o + 16))
-              ∷ ‵ (partAt settings-row.the-row (past .39) (h .settings) b (o + 0)) ∷ raw (Back 𝓤 H A (past .39) b o)
-              ∷ ‵ (fobor κ₀ q₀ (partAt L (past .39) h b o))
-              ∷ ‵ (fat fullShare (tyArray (tyInt w8) 256) (past .12) 0 ((only ((array-vals (uint-vals w8)) (past .1)))))
-              ∷ ‵ (fat fullShare (tyArray (tyInt w8) 256) (past .11) 0 ((only ((array-vals (uint-vals w8)) (past .2)))))
-              ∷ (‵ (fdies (tyInt w32) (past .3)) ⊛ ‵ (fdies (tyRef (named 0) imm (pointee (L .written))) (past .4)) ⊛ ‵
-              (fdies (sliceTy (tyRef (named 1) imm (tyInt w8))) (past .5)) ⊛ ‵ (fdies (sliceTy (tyRef (named 2) imm (tyInt w8))) (past .6))
-              ⊛ ‵ (fdies (sliceTy (tyRef (named 3) imm (pointee (R .written)))) (past .7)) ⊛ ‵
-              (fdies (sliceTy (tyRef (named 4) imm (tyInt w32))) (past .8)) ⊛ ‵ (fdies (tyInt w32) (past .9)) ⊛ ‵
-              (fdies (tyRef (named 5) mut (tyInt w32)) (past .10)) ⊛ ‵ (fdies (tyArray (tyInt w8) 256) (past .11)) ⊛ ‵
-              (fdies (tyArray (tyInt w8) 256) (past .12)) ⊛ ‵ (fdies tyBool (past .13)) ⊛ ‵ (fdies settings-laws.mir (past .14)) ⊛ ‵
-              (fdies flight-laws.mir (past .15)) ⊛ ‵ (fdies arrival-laws.mir (past .16)) ⊛ ‵ (fdies clock-laws.mir (past .17)) ⊛ ‵
-              (fdies (tyInt w64) (past .18)) ⊛ ‵ (fdies (tyArray (tyInt w32) 128) (past .19)) ⊛ ‵ (fdies (tyInt w64) (past .20)) ⊛ ‵
-              (fdies time-laws.mir (past .21)) ⊛ ‵ (fdies (tyArray (tyInt w8) 256) (past .22)) ⊛ ‵
-              (fdies (tyRef erased mut (tyArray (tyInt w8) 256)) (past .23)) ⊛ ‵
-              (fdies (tyRef erased mut (tyArray (tyInt w8) 256)) (past .24)) ⊛ ‵ (fdies (tyArray (tyInt w32) 128) (past .25)) ⊛ ‵
-              (fdies tyUnit (past .26)) ⊛ ‵ (fdies (tyRef erased imm (tyArray (tyInt w32) 32)) (past .27)) ⊛ ‵
-              (fdies (tyRef erased mut (tyArray (tyInt w32) 128)) (past .28)) ⊛ ‵
-              (fdies (tyRef erased imm (tyArray (tyInt w32) 128)) (past .29)) ⊛ ‵
-              (fdies (tyRef erased imm (tyArray (tyInt w32) 128)) (past .30)) ⊛ ‵
-              (fdies (tyRef erased imm (tyArray (tyInt w32) 32)) (past .31)) ⊛ ‵
-              (fdies (tyRef erased imm (tyArray (tyInt w8) 32)) (past .32)) ⊛ ‵
-              (fdies (tyRef erased imm (tyArray (tyInt w32) 128)) (past .33)) ⊛ ‵
-              (fdies (tyRef erased imm (tyArray (tyInt w32) 128)) (past .34)) ⊛ ‵
-              (fdies (tyRef erased imm (tyArray (tyInt w32) 128)) (past .35)) ⊛ ‵ (fdies (tyRef erased mut (tyInt w32)) (past .36)))
-              ∷ ‵ (flft κ₅ q₅) ∷ ‵ Own₆ ∷ ‵ (froom (tyRef erased mut (tyInt w32)) (past .36) 0)
-              ∷ ‵ (fat fullShare (tyRef erased imm (tyArray (tyInt w32) 128)) (past .35) 0 ((vptr b (o + 1820))))
-              ∷ ‵ (fat fullShare (tyRef erased imm (tyArray (tyInt w32) 128)) (past .34) 0 ((vptr b (o + 1308))))
-              ∷ ‵ (fat fullShare (tyRef erased imm (tyArray (tyInt w32) 128)) (past .33) 0 ((vptr b (o + 796))))
-              ∷ ‵ (fat fullShare (tyRef erased imm (tyArray (tyInt w8) 32)) (past .32) 0 ((vptr b (o + 764))))
-              ∷ ‵ (fat fullShare (tyRef erased imm (tyArray (tyInt w32) 32)) (past .31) 0 ((vptr b (o + 636))))
-              ∷ ‵ (fat fullShare (tyRef erased imm (tyArray (tyInt w32) 128)) (past .30) 0 ((vptr b (o + 124))))
-              ∷ ‵ (fat fullShare (tyRef erased imm (tyArray (tyInt w32) 128)) (past .29) 0 ((vptr (past .19) 0)))
-              ∷ ‵ (fat fullShare (tyRef erased mut (tyArray (tyInt w32) 128)) (past .28) 0 ((vptr (past .19) 0)))
-              ∷ ‵ (fat fullShare (tyRef erased imm (tyArray (tyInt w32) 32)) (past .27) 0 ((vptr b (o + 636))))
-              ∷ ‵ (fat fullShare tyUnit (past .26) 0 ((past .44))) ∷ ‵ (fat fullShare (tyArray (tyInt w32) 128) (past .25) 0 ((past .43)))
-              ∷ ‵ (fat fullShare (tyRef erased mut (tyArray (tyInt w8) 256)) (past .24) 0 ((vptr (past .12) 0)))
-              ∷ ‵ (fat fullShare (tyRef erased mut (tyArray (tyInt w8) 256)) (past .23) 0 ((vptr (past .11) 0)))
-              ∷ ‵ (fat fullShare (tyArray (tyInt w8) 256) (past .22) 0 ((past .37)))
-              ∷ ‵ (fat fullShare time-laws.mir (past .21) 0 ((past .50))) ∷ ‵ (fat fullShare (tyInt w64) (past .20) 0 ((past .47)))
-              ∷ ‵ (fat fullShare (tyInt w64) (past .18) 0 ((past .41)))
-              ∷ ‵ (fat fullShare clock-laws.mir (past .17) 0 ((only ((LL.vals clock-row.the-type clock-laws.the-laws) (h .clock)))))
-              ∷ ‵ (fat fullShare arrival-laws.mir (past .16) 0 ((only ((LL.vals arrival-row.the-type arrival-laws.the-laws) (h .arrival)))))
-              ∷ ‵ (fat fullShare flight-laws.mir (past .15) 0 ((only ((LL.vals flight-row.the-type flight-laws.the-laws) (h .flight)))))
-              ∷ ‵ (fat fullShare settings-laws.mir (past .14) 0
-              ((only ((LL.vals settings-row.the-type settings-laws.the-laws) (h .settings)))))
-              ∷ ‵ (fat fullShare tyBool (past .13) 0 ((past .38))) ∷ ‵ (fat fullShare (tyRef (named 5) mut (tyInt w32)) (past .10) 0 (s₆))
-              ∷ ‵ (fat fullShare (tyInt w32) (past .9) 0 (v₅))
-              ∷ ‵ (fat fullShare (sliceTy (tyRef (named 4) imm (tyInt w32))) (past .8) 0 (s₄))
-              ∷ ‵ (fat fullShare (sliceTy (tyRef (named 3) imm (pointee (R .written)))) (past .7) 0 (s₃))
-              ∷ ‵ (fat fullShare (sliceTy (tyRef (named 2) imm (tyInt w8))) (past .6) 0 (s₂))
-              ∷ ‵ (fat fullShare (sliceTy (tyRef (named 1) imm (tyInt w8))) (past .5) 0 (s₁))
-              ∷ ‵ (fat fullShare (tyRef (named 0) imm (pointee (L .written))) (past .4) 0 (vptr b o)) ∷ ‵ (froom (tyInt w32) (past .3) 0)
-              ∷ []) ∵ exec ! C Λ (En (past .3) (past .4) (past .5) (past .6) (past .7) (past .8) (past .9) (past .10) (past .11) (past .12)
-              (past .13) (past .14) (past .15) (past .16) (past .17) (past .18) (past .19) (past .20) (past .21) (past .22) (past .23)
-              (past .24) (past .25) (past .26) (past .27) (past .28) (past .29) (past .30) (past .31) (past .32) (past .33) (past .34)
-              (past .35) (past .36)) (behind 26 (code.function .body))
-              (atRet (En (past .3) (past .4) (past .5) (past .6) (past .7) (past .8) (past .9) (past .10) (past .11) (past .12) (past .13)
-              (past .14) (past .15) (past .16) (past .17) (past .18) (past .19) (past .20) (past .21) (past .22) (past .23) (past .24)
-              (past .25) (past .26) (past .27) (past .28) (past .29) (past .30) (past .31) (past .32) (past .33) (past .34) (past .35)
-              (past .36)) Post) $
+          ∷ ‵ (partAt (Array u32 128) (past .39) (h .waiting) b (o + 1308))
+          ∷ ‵ (partAt (Array u32 128) (past .39) (h .ready) b (o + 796))
+          ∷ ‵ (partAt (Array u8 32) (past .39) (h .transmissions) b (o + 764))
+          ∷ ‵ (partAt (Array u32 32) (past .39) (h .outstanding) b (o + 636))
+          ∷ ‵ (partAt (Array u32 128) (past .39) (h .queued) b (o + 124))
+          ∷ ‵ (fat fullShare (tyArray (tyInt w32) 128) (past .19) 0 ((only ((array-vals (uint-vals w32)) (past .0))))) ∷ ‵ (flft κ₁ q₁)
+          ∷ ‵ (flft κ₂ q₂) ∷ ‵ (flft κ₄ q₄) ∷ ‵ (flft κ₃ q₃) ∷ ‵ (partAt clock-row.the-row (past .39) (h .clock) b (o + 104))
+          ∷ ‵ (partAt arrival-row.the-row (past .39) (h .arrival) b (o + 72))
+          ∷ ‵ (partAt flight-row.the-row (past .39) (h .flight) b (o + 16))
+          ∷ ‵ (partAt settings-row.the-row (past .39) (h .settings) b (o + 0)) ∷ raw (Back 𝓤 H A (past .39) b o)
+          ∷ ‵ (fobor κ₀ q₀ (partAt L (past .39) h b o))
+          ∷ ‵ (fat fullShare (tyArray (tyInt w8) 256) (past .12) 0 ((only ((array-vals (uint-vals w8)) (past .1)))))
+          ∷ ‵ (fat fullShare (tyArray (tyInt w8) 256) (past .11) 0 ((only ((array-vals (uint-vals w8)) (past .2)))))
+          ∷ (‵ (fdies (tyInt w32) (past .3)) ⊛ ‵ (fdies (tyRef (named 0) imm (pointee (L .written))) (past .4)) ⊛ ‵
+          (fdies (sliceTy (tyRef (named 1) imm (tyInt w8))) (past .5)) ⊛ ‵ (fdies (sliceTy (tyRef (named 2) imm (tyInt w8))) (past .6))
+          ⊛ ‵ (fdies (sliceTy (tyRef (named 3) imm (pointee (R .written)))) (past .7)) ⊛ ‵
+          (fdies (sliceTy (tyRef (named 4) imm (tyInt w32))) (past .8)) ⊛ ‵ (fdies (tyInt w32) (past .9)) ⊛ ‵
+          (fdies (tyRef (named 5) mut (tyInt w32)) (past .10)) ⊛ ‵ (fdies (tyArray (tyInt w8) 256) (past .11)) ⊛ ‵
+          (fdies (tyArray (tyInt w8) 256) (past .12)) ⊛ ‵ (fdies tyBool (past .13)) ⊛ ‵ (fdies settings-laws.mir (past .14)) ⊛ ‵
+          (fdies flight-laws.mir (past .15)) ⊛ ‵ (fdies arrival-laws.mir (past .16)) ⊛ ‵ (fdies clock-laws.mir (past .17)) ⊛ ‵
+          (fdies (tyInt w64) (past .18)) ⊛ ‵ (fdies (tyArray (tyInt w32) 128) (past .19)) ⊛ ‵ (fdies (tyInt w64) (past .20)) ⊛ ‵
+          (fdies time-laws.mir (past .21)) ⊛ ‵ (fdies (tyArray (tyInt w8) 256) (past .22)) ⊛ ‵
+          (fdies (tyRef erased mut (tyArray (tyInt w8) 256)) (past .23)) ⊛ ‵
+          (fdies (tyRef erased mut (tyArray (tyInt w8) 256)) (past .24)) ⊛ ‵ (fdies (tyArray (tyInt w32) 128) (past .25)) ⊛ ‵
+          (fdies tyUnit (past .26)) ⊛ ‵ (fdies (tyRef erased imm (tyArray (tyInt w32) 32)) (past .27)) ⊛ ‵
+          (fdies (tyRef erased mut (tyArray (tyInt w32) 128)) (past .28)) ⊛ ‵
+          (fdies (tyRef erased imm (tyArray (tyInt w32) 128)) (past .29)) ⊛ ‵
+          (fdies (tyRef erased imm (tyArray (tyInt w32) 128)) (past .30)) ⊛ ‵
+          (fdies (tyRef erased imm (tyArray (tyInt w32) 32)) (past .31)) ⊛ ‵
+          (fdies (tyRef erased imm (tyArray (tyInt w8) 32)) (past .32)) ⊛ ‵
+          (fdies (tyRef erased imm (tyArray (tyInt w32) 128)) (past .33)) ⊛ ‵
+          (fdies (tyRef erased imm (tyArray (tyInt w32) 128)) (past .34)) ⊛ ‵
+          (fdies (tyRef erased imm (tyArray (tyInt w32) 128)) (past .35)) ⊛ ‵ (fdies (tyRef erased mut (tyInt w32)) (past .36)))
+          ∷ ‵ (flft κ₅ q₅) ∷ ‵ Own₆ ∷ ‵ (froom (tyRef erased mut (tyInt w32)) (past .36) 0)
+          ∷ ‵ (fat fullShare (tyRef erased imm (tyArray (tyInt w32) 128)) (past .35) 0 ((vptr b (o + 1820))))
+          ∷ ‵ (fat fullShare (tyRef erased imm (tyArray (tyInt w32) 128)) (past .34) 0 ((vptr b (o + 1308))))
+          ∷ ‵ (fat fullShare (tyRef erased imm (tyArray (tyInt w32) 128)) (past .33) 0 ((vptr b (o + 796))))
+          ∷ ‵ (fat fullShare (tyRef erased imm (tyArray (tyInt w8) 32)) (past .32) 0 ((vptr b (o + 764))))
+          ∷ ‵ (fat fullShare (tyRef erased imm (tyArray (tyInt w32) 32)) (past .31) 0 ((vptr b (o + 636))))
+          ∷ ‵ (fat fullShare (tyRef erased imm (tyArray (tyInt w32) 128)) (past .30) 0 ((vptr b (o + 124))))
+          ∷ ‵ (fat fullShare (tyRef erased imm (tyArray (tyInt w32) 128)) (past .29) 0 ((vptr (past .19) 0)))
+          ∷ ‵ (fat fullShare (tyRef erased mut (tyArray (tyInt w32) 128)) (past .28) 0 ((vptr (past .19) 0)))
+          ∷ ‵ (fat fullShare (tyRef erased imm (tyArray (tyInt w32) 32)) (past .27) 0 ((vptr b (o + 636))))
+          ∷ ‵ (fat fullShare tyUnit (past .26) 0 ((past .44))) ∷ ‵ (fat fullShare (tyArray (tyInt w32) 128) (past .25) 0 ((past .43)))
+          ∷ ‵ (fat fullShare (tyRef erased mut (tyArray (tyInt w8) 256)) (past .24) 0 ((vptr (past .12) 0)))
+          ∷ ‵ (fat fullShare (tyRef erased mut (tyArray (tyInt w8) 256)) (past .23) 0 ((vptr (past .11) 0)))
+          ∷ ‵ (fat fullShare (tyArray (tyInt w8) 256) (past .22) 0 ((past .37)))
+          ∷ ‵ (fat fullShare time-laws.mir (past .21) 0 ((past .50))) ∷ ‵ (fat fullShare (tyInt w64) (past .20) 0 ((past .47)))
+          ∷ ‵ (fat fullShare (tyInt w64) (past .18) 0 ((past .41)))
+          ∷ ‵ (fat fullShare clock-laws.mir (past .17) 0 ((only ((LL.vals clock-row.the-type clock-laws.the-laws) (h .clock)))))
+          ∷ ‵ (fat fullShare arrival-laws.mir (past .16) 0 ((only ((LL.vals arrival-row.the-type arrival-laws.the-laws) (h .arrival)))))
+          ∷ ‵ (fat fullShare flight-laws.mir (past .15) 0 ((only ((LL.vals flight-row.the-type flight-laws.the-laws) (h .flight)))))
+          ∷ ‵ (fat fullShare settings-laws.mir (past .14) 0
+          ((only ((LL.vals settings-row.the-type settings-laws.the-laws) (h .settings)))))
+          ∷ ‵ (fat fullShare tyBool (past .13) 0 ((past .38))) ∷ ‵ (fat fullShare (tyRef (named 5) mut (tyInt w32)) (past .10) 0 (s₆))
+          ∷ ‵ (fat fullShare (tyInt w32) (past .9) 0 (v₅))
+          ∷ ‵ (fat fullShare (sliceTy (tyRef (named 4) imm (tyInt w32))) (past .8) 0 (s₄))
+          ∷ ‵ (fat fullShare (sliceTy (tyRef (named 3) imm (pointee (R .written)))) (past .7) 0 (s₃))
+          ∷ ‵ (fat fullShare (sliceTy (tyRef (named 2) imm (tyInt w8))) (past .6) 0 (s₂))
+          ∷ ‵ (fat fullShare (sliceTy (tyRef (named 1) imm (tyInt w8))) (past .5) 0 (s₁))
+          ∷ ‵ (fat fullShare (tyRef (named 0) imm (pointee (L .written))) (past .4) 0 (vptr b o)) ∷ ‵ (froom (tyInt w32) (past .3) 0)
+          ∷ []) ∵ exec ! C Λ (En (past .3) (past .4) (past .5) (past .6) (past .7) (past .8) (past .9) (past .10) (past .11) (past .12)
+          (past .13) (past .14) (past .15) (past .16) (past .17) (past .18) (past .19) (past .20) (past .21) (past .22) (past .23)
+          (past .24) (past .25) (past .26) (past .27) (past .28) (past .29) (past .30) (past .31) (past .32) (past .33) (past .34)
+          (past .35) (past .36)) (behind 26 (code.function .body))
+          (atRet (En (past .3) (past .4) (past .5) (past .6) (past .7) (past .8) (past .9) (past .10) (past .11) (past .12) (past .13)
+          (past .14) (past .15) (past .16) (past .17) (past .18) (past .19) (past .20) (past .21) (past .22) (past .23) (past .24)
+          (past .25) (past .26) (past .27) (past .28) (past .29) (past .30) (past .31) (past .32) (past .33) (past .34) (past .35)
+          (past .36)) Post) $
           assigns ! {v = s₆} (addr ! (from ! (hop ! (look ! 45 refl) (stop !)))) (from ! (stop !)) (init ! 22 refl (tt, tt)) $
           move ! (20 ∷ 21 ∷ []) $ join ! $
-              calls-fn ! fm code-of.ended (code-of.clauses 𝓤 H A at-mem run) (known .7) (to-code-of  (past .49) (past .50))
-              (λ r ws-r. (r ≡ timeCode (past .49)) × ((ws-r .1 .0) ≡ timeStored (past .49) (x₆ .now))) (‵ (flft κ₅ q₅) ⊛ ‵ Own₆)
-          (asks-code-of  (past .49) (past .50) (past .52) ) (λ r ws-r. id⊢ 𝓤 _)
+          calls-fn ! fm code-of.ended (code-of.clauses 𝓤 H A at-mem run) (known .7) (to-code-of (past .49) (past .50))
+          (λ r ws-r. (r ≡ timeCode (past .49)) × ((ws-r .1 .0) ≡ timeStored (past .49) (x₆ .now))) (‵ (flft κ₅ q₅) ⊛ ‵ Own₆)
+          (asks-code-of (past .49) (past .50) (past .52)) (λ r ws-r. id⊢ 𝓤 _)
           (and-then ! (load ! (from ! (stop !)) (look ! 36 refl)) (and-then ! (load ! (from ! (stop !)) (look ! 21 refl)) (no-more !)))
           (λ r w-r ws-r e-r is-r. land ! (from ! (stop !)) (init ! 52 refl (sint-lawful 𝓤 H A W w32 .typed r _ is-r .0)) $
           spread W (‵ (flft κ₅ q₅)) (‵ ftrue ∷ []) (id⊢ 𝓤 _) $ move ! (2 ∷ []) $
-              spread W (‵ ftrue) (‵ (fres (x₆ .name) (u32 .coded .code (ws-r .1 .0))) ∷ ‵ ftrue ∷ []) (id⊢ 𝓤 _) $
-              keep ! (1 ∷ 3 ∷ 5 ∷ 6 ∷ 7 ∷ 8 ∷ 9 ∷ 10 ∷ 11 ∷ 12 ∷ 13 ∷ 14 ∷ 15 ∷ 16 ∷ 17 ∷ 18 ∷ 19 ∷ 20 ∷ 21 ∷ 22 ∷ 23
-              ∷ 24 ∷ 25 ∷ 26 ∷ 27 ∷ 28 ∷ 29 ∷ 30 ∷ 31 ∷ 32 ∷ 33 ∷ 34 ∷ 35 ∷ 36 ∷ 37 ∷ 38 ∷ 39 ∷ 40 ∷ 41 ∷ 42 ∷ 43 ∷ 44
-              ∷ 45 ∷ 46 ∷ 47 ∷ 48 ∷ 49 ∷ 50 ∷ 51 ∷ 52 ∷ 53 ∷ 54 ∷ 55 ∷ []) $
+          spread W (‵ ftrue) (‵ (fres (x₆ .name) (u32 .coded .code (ws-r .1 .0))) ∷ ‵ ftrue ∷ []) (id⊢ 𝓤 _) $
+          keep ! (1 ∷ 3 ∷ 5 ∷ 6 ∷ 7 ∷ 8 ∷ 9 ∷ 10 ∷ 11 ∷ 12 ∷ 13 ∷ 14 ∷ 15 ∷ 16 ∷ 17 ∷ 18 ∷ 19 ∷ 20 ∷ 21 ∷ 22 ∷ 23
+          ∷ 24 ∷ 25 ∷ 26 ∷ 27 ∷ 28 ∷ 29 ∷ 30 ∷ 31 ∷ 32 ∷ 33 ∷ 34 ∷ 35 ∷ 36 ∷ 37 ∷ 38 ∷ 39 ∷ 40 ∷ 41 ∷ 42 ∷ 43 ∷ 44
+          ∷ 45 ∷ 46 ∷ 47 ∷ 48 ∷ 49 ∷ 50 ∷ 51 ∷ 52 ∷ 53 ∷ 54 ∷ 55 ∷ []) $
           -- [fin6; tok6; F:«waiting_numbers»; F:waiting; F:ready; F:transmissions; F:outstanding; F:queued; tok1; tok2; tok4; tok3;
           -- F:clock; F:arrival; F:flight; F:settings; back; opened; deaths; the locals]
           move ! (16 ∷ 15 ∷ 14 ∷ 13 ∷ 7 ∷ 6 ∷ 5 ∷ 4 ∷ 3 ∷ 2 ∷ 17 ∷ 18 ∷ []) $ shuts-link b o γ ! tt (past .39) h $
           -- [tok0; fin6; tok6; tok1; tok2; tok4; tok3; deaths; the locals]
           returns ! (look ! 41 refl) $
           move ! (10 ∷ []) $ spread W (‵ (fdies (tyInt w32) (past .3)))
-              (‵ (fdies (tyRef (named 0) imm (pointee (L .written))) (past .4))
-              ∷ ‵ (fdies (sliceTy (tyRef (named 1) imm (tyInt w8))) (past .5))
-              ∷ ‵ (fdies (sliceTy (tyRef (named 2) imm (tyInt w8))) (past .6))
-              ∷ ‵ (fdies (sliceTy (tyRef (named 3) imm (pointee (R .written)))) (past .7))
-              ∷ ‵ (fdies (sliceTy (tyRef (named 4) imm (tyInt w32))) (past .8)) ∷ ‵ (fdies (tyInt w32) (past .9))
-              ∷ ‵ (fdies (tyRef (named 5) mut (tyInt w32)) (past .10)) ∷ ‵ (fdies (tyArray (tyInt w8) 256) (past .11))
-              ∷ ‵ (fdies (tyArray (tyInt w8) 256) (past .12)) ∷ ‵ (fdies tyBool (past .13)) ∷ ‵ (fdies settings-laws.mir (past .14))
-              ∷ ‵ (fdies flight-laws.mir (past .15)) ∷ ‵ (fdies arrival-laws.mir (past .16)) ∷ ‵ (fdies clock-laws.mir (past .17))
-              ∷ ‵ (fdies (tyInt w64) (past .18)) ∷ ‵ (fdies (tyArray (tyInt w32) 128) (past .19)) ∷ ‵ (fdies (tyInt w64) (past .20))
-              ∷ ‵ (fdies time-laws.mir (past .21)) ∷ ‵ (fdies (tyArray (tyInt w8) 256) (past .22))
-              ∷ ‵ (fdies (tyRef erased mut (tyArray (tyInt w8) 256)) (past .23))
-              ∷ ‵ (fdies (tyRef erased mut (tyArray (tyInt w8) 256)) (past .24)) ∷ ‵ (fdies (tyArray (tyInt w32) 128) (past .25))
-              ∷ ‵ (fdies tyUnit (past .26)) ∷ ‵ (fdies (tyRef erased imm (tyArray (tyInt w32) 32)) (past .27))
-              ∷ ‵ (fdies (tyRef erased mut (tyArray (tyInt w32) 128)) (past .28))
-              ∷ ‵ (fdies (tyRef erased imm (tyArray (tyInt w32) 128)) (past .29))
-              ∷ ‵ (fdies (tyRef erased imm (tyArray (tyInt w32) 128)) (past .30))
-              ∷ ‵ (fdies (tyRef erased imm (tyArray (tyInt w32) 32)) (past .31))
-              ∷ ‵ (fdies (tyRef erased imm (tyArray (tyInt w8) 32)) (past .32))
-              ∷ ‵ (fdies (tyRef erased imm (tyArray (tyInt w32) 128)) (past .33))
-              ∷ ‵ (fdies (tyRef erased imm (tyArray (tyInt w32) 128)) (past .34))
-              ∷ ‵ (fdies (tyRef erased imm (tyArray (tyInt w32) 128)) (past .35)) ∷ ‵ (fdies (tyRef erased mut (tyInt w32)) (past .36))
-              ∷ []) (id⊢ 𝓤 _) $ move ! (74 ∷ 0 ∷ 73 ∷ 1 ∷ 72 ∷ 2 ∷ 71 ∷ 3 ∷ 70 ∷ 4 ∷ 69 ∷ 5 ∷ 68 ∷ 6 ∷ 67 ∷ 7 ∷ 43 ∷ 8
-              ∷ 42 ∷ 9 ∷ 66 ∷ 10 ∷ 65 ∷ 11 ∷ 64 ∷ 12 ∷ 63 ∷ 13 ∷ 62 ∷ 14 ∷ 61 ∷ 15 ∷ 37 ∷ 16 ∷ 60 ∷ 17 ∷ 59 ∷ 18 ∷ 58
-              ∷ 19 ∷ 57 ∷ 20 ∷ 56 ∷ 21 ∷ 55 ∷ 22 ∷ 54 ∷ 23 ∷ 53 ∷ 24 ∷ 52 ∷ 25 ∷ 51 ∷ 26 ∷ 50 ∷ 27 ∷ 49 ∷ 28 ∷ 48 ∷ 29
-              ∷ 47 ∷ 30 ∷ 46 ∷ 31 ∷ 45 ∷ 32 ∷ 44 ∷ 33 ∷ []) $ forget ! 0 refl $ free1 ! $ forget ! 0 refl $ free1 ! $ forget ! 0 refl $
-              free1 ! $ forget ! 0 refl $ free1 ! $ forget ! 0 refl $ free1 ! $ forget ! 0 refl $ free1 ! $ forget ! 0 refl $ free1 ! $
-              forget ! 0 refl $ free1 ! $ forget ! 0 refl $ free1 ! $ forget ! 0 refl $ free1 ! $ forget ! 0 refl $ free1 ! $
-              forget ! 0 refl $ free1 ! $ forget ! 0 refl $ free1 ! $ forget ! 0 refl $ free1 ! $ forget ! 0 refl $ free1 ! $
-              forget ! 0 refl $ free1 ! $ forget ! 0 refl $ free1 ! $ forget ! 0 refl $ free1 ! $ forget ! 0 refl $ free1 ! $
-              forget ! 0 refl $ free1 ! $ forget ! 0 refl $ free1 ! $ forget ! 0 refl $ free1 ! $ forget ! 0 refl $ free1 ! $
-              forget ! 0 refl $ free1 ! $ forget ! 0 refl $ free1 ! $ forget ! 0 refl $ free1 ! $ forget ! 0 refl $ free1 ! $
-              forget ! 0 refl $ free1 ! $ forget ! 0 refl $ free1 ! $ forget ! 0 refl $ free1 ! $ forget ! 0 refl $ free1 ! $
-              forget ! 0 refl $ free1 ! $ forget ! 0 refl $ free1 ! $ forget ! 0 refl $ free1 ! $ free0 ! $
+          (‵ (fdies (tyRef (named 0) imm (pointee (L .written))) (past .4))
+          ∷ ‵ (fdies (sliceTy (tyRef (named 1) imm (tyInt w8))) (past .5))
+          ∷ ‵ (fdies (sliceTy (tyRef (named 2) imm (tyInt w8))) (past .6))
+          ∷ ‵ (fdies (sliceTy (tyRef (named 3) imm (pointee (R .written)))) (past .7))
+          ∷ ‵ (fdies (sliceTy (tyRef (named 4) imm (tyInt w32))) (past .8)) ∷ ‵ (fdies (tyInt w32) (past .9))
+          ∷ ‵ (fdies (tyRef (named 5) mut (tyInt w32)) (past .10)) ∷ ‵ (fdies (tyArray (tyInt w8) 256) (past .11))
+          ∷ ‵ (fdies (tyArray (tyInt w8) 256) (past .12)) ∷ ‵ (fdies tyBool (past .13)) ∷ ‵ (fdies settings-laws.mir (past .14))
+          ∷ ‵ (fdies flight-laws.mir (past .15)) ∷ ‵ (fdies arrival-laws.mir (past .16)) ∷ ‵ (fdies clock-laws.mir (past .17))
+          ∷ ‵ (fdies (tyInt w64) (past .18)) ∷ ‵ (fdies (tyArray (tyInt w32) 128) (past .19)) ∷ ‵ (fdies (tyInt w64) (past .20))
+          ∷ ‵ (fdies time-laws.mir (past .21)) ∷ ‵ (fdies (tyArray (tyInt w8) 256) (past .22))
+          ∷ ‵ (fdies (tyRef erased mut (tyArray (tyInt w8) 256)) (past .23))
+          ∷ ‵ (fdies (tyRef erased mut (tyArray (tyInt w8) 256)) (past .24)) ∷ ‵ (fdies (tyArray (tyInt w32) 128) (past .25))
+          ∷ ‵ (fdies tyUnit (past .26)) ∷ ‵ (fdies (tyRef erased imm (tyArray (tyInt w32) 32)) (past .27))
+          ∷ ‵ (fdies (tyRef erased mut (tyArray (tyInt w32) 128)) (past .28))
+          ∷ ‵ (fdies (tyRef erased imm (tyArray (tyInt w32) 128)) (past .29))
+          ∷ ‵ (fdies (tyRef erased imm (tyArray (tyInt w32) 128)) (past .30))
+          ∷ ‵ (fdies (tyRef erased imm (tyArray (tyInt w32) 32)) (past .31))
+          ∷ ‵ (fdies (tyRef erased imm (tyArray (tyInt w8) 32)) (past .32))
+          ∷ ‵ (fdies (tyRef erased imm (tyArray (tyInt w32) 128)) (past .33))
+          ∷ ‵ (fdies (tyRef erased imm (tyArray (tyInt w32) 128)) (past .34))
+          ∷ ‵ (fdies (tyRef erased imm (tyArray (tyInt w32) 128)) (past .35)) ∷ ‵ (fdies (tyRef erased mut (tyInt w32)) (past .36))
+          ∷ []) (id⊢ 𝓤 _) $ move ! (74 ∷ 0 ∷ 73 ∷ 1 ∷ 72 ∷ 2 ∷ 71 ∷ 3 ∷ 70 ∷ 4 ∷ 69 ∷ 5 ∷ 68 ∷ 6 ∷ 67 ∷ 7 ∷ 43 ∷ 8
+          ∷ 42 ∷ 9 ∷ 66 ∷ 10 ∷ 65 ∷ 11 ∷ 64 ∷ 12 ∷ 63 ∷ 13 ∷ 62 ∷ 14 ∷ 61 ∷ 15 ∷ 37 ∷ 16 ∷ 60 ∷ 17 ∷ 59 ∷ 18 ∷ 58
+          ∷ 19 ∷ 57 ∷ 20 ∷ 56 ∷ 21 ∷ 55 ∷ 22 ∷ 54 ∷ 23 ∷ 53 ∷ 24 ∷ 52 ∷ 25 ∷ 51 ∷ 26 ∷ 50 ∷ 27 ∷ 49 ∷ 28 ∷ 48 ∷ 29
+          ∷ 47 ∷ 30 ∷ 46 ∷ 31 ∷ 45 ∷ 32 ∷ 44 ∷ 33 ∷ []) $ forget ! 0 refl $ free1 ! $ forget ! 0 refl $ free1 ! $ forget ! 0 refl $
+          free1 ! $ forget ! 0 refl $ free1 ! $ forget ! 0 refl $ free1 ! $ forget ! 0 refl $ free1 ! $ forget ! 0 refl $ free1 ! $
+          forget ! 0 refl $ free1 ! $ forget ! 0 refl $ free1 ! $ forget ! 0 refl $ free1 ! $ forget ! 0 refl $ free1 ! $
+          forget ! 0 refl $ free1 ! $ forget ! 0 refl $ free1 ! $ forget ! 0 refl $ free1 ! $ forget ! 0 refl $ free1 ! $
+          forget ! 0 refl $ free1 ! $ forget ! 0 refl $ free1 ! $ forget ! 0 refl $ free1 ! $ forget ! 0 refl $ free1 ! $
+          forget ! 0 refl $ free1 ! $ forget ! 0 refl $ free1 ! $ forget ! 0 refl $ free1 ! $ forget ! 0 refl $ free1 ! $
+          forget ! 0 refl $ free1 ! $ forget ! 0 refl $ free1 ! $ forget ! 0 refl $ free1 ! $ forget ! 0 refl $ free1 ! $
+          forget ! 0 refl $ free1 ! $ forget ! 0 refl $ free1 ! $ forget ! 0 refl $ free1 ! $ forget ! 0 refl $ free1 ! $
+          forget ! 0 refl $ free1 ! $ forget ! 0 refl $ free1 ! $ forget ! 0 refl $ free1 ! $ free0 ! $
           move ! (0 ∷ 3 ∷ 4 ∷ 6 ∷ 5 ∷ 1 ∷ 2 ∷ []) $
-              by ! (exits r w-r  (ws-r .1 .0) (told timeCode _ (past .49) (e-r .0)
-              (record { time = check-promised h (partsOf (x₁ .now) (x₂ .now) (x₃ .now) (x₄ .now)) (recordsIn (past .0)) (past .46)
-              (gathers h (partsOf (x₁ .now) (x₂ .now) (x₃ .now) (x₄ .now)) (past .40) (recordsIn (past .0)) (past .46) (past .42)
-              ((past .45) .1) (past .48)) x₅ (past .49) (past .51); when = e-r .1 }))  is-r))
+          by ! (exits r w-r (ws-r .1 .0) (told timeCode _ (past .49) (e-r .0)
+          (record {
+            time = check-promised h (partsOf (x₁ .now) (x₂ .now) (x₃ .now) (x₄ .now)) (recordsIn (past .0)) (past .46)
+                (gathers h (partsOf (x₁ .now) (x₂ .now) (x₃ .now) (x₄ .now)) (past .40) (recordsIn (past .0)) (past .46) (past .42)
+                ((past .45) .1) (past .48)) x₅ (past .49) (past .51);
+            when = e-r .1;
+          })) is-r))
 
       -- what part 2 knows
       abbrev Known₂ : Type 0
@@ -786,130 +881,130 @@ module _ {M : Type 1} (𝓤 : URA M) (H : Heap 𝓤) (A : Atoms 𝓤) (W : Given
           (past .35) (past .36)) Post))
       part₂ past =
           qed W (‵ (flft κ₃ q₃) ∷ ‵ (fat fullShare (tyArray (tyInt w32) 128) (past .19) 0 ((only ((array-vals (uint-vals w32)) (past .0)))))
-              ∷ ‵ (partAt (Array u32 32) (past .42) (h .outstanding) b (o + 636))
-              ∷ ‵ (partAt clock-row.the-row (past .42) (h .clock) b (o + 104))
-              ∷ ‵ (partAt arrival-row.the-row (past .42) (h .arrival) b (o + 72))
-              ∷ ‵ (partAt flight-row.the-row (past .42) (h .flight) b (o + 16))
-              ∷ ‵ (partAt settings-row.the-row (past .42) (h .settings) b (o + 0))
-              ∷ ‵ (partAt (Array u32 128) (past .42) (h .«waiting_numbers») b (o + 1820))
-              ∷ ‵ (partAt (Array u32 128) (past .42) (h .waiting) b (o + 1308))
-              ∷ ‵ (partAt (Array u32 128) (past .42) (h .ready) b (o + 796))
-              ∷ ‵ (partAt (Array u8 32) (past .42) (h .transmissions) b (o + 764))
-              ∷ ‵ (partAt (Array u32 128) (past .42) (h .queued) b (o + 124)) ∷ raw (Back 𝓤 H A (past .42) b o)
-              ∷ ‵ (fobor κ₀ q₀ (partAt L (past .42) h b o))
-              ∷ ‵ (fat fullShare (tyArray (tyInt w8) 256) (past .12) 0 ((only ((array-vals (uint-vals w8)) (past .1)))))
-              ∷ ‵ (fat fullShare (tyArray (tyInt w8) 256) (past .11) 0 ((only ((array-vals (uint-vals w8)) (past .2)))))
-              ∷ (‵ (fdies (tyInt w32) (past .3)) ⊛ ‵ (fdies (tyRef (named 0) imm (pointee (L .written))) (past .4)) ⊛ ‵
-              (fdies (sliceTy (tyRef (named 1) imm (tyInt w8))) (past .5)) ⊛ ‵ (fdies (sliceTy (tyRef (named 2) imm (tyInt w8))) (past .6))
-              ⊛ ‵ (fdies (sliceTy (tyRef (named 3) imm (pointee (R .written)))) (past .7)) ⊛ ‵
-              (fdies (sliceTy (tyRef (named 4) imm (tyInt w32))) (past .8)) ⊛ ‵ (fdies (tyInt w32) (past .9)) ⊛ ‵
-              (fdies (tyRef (named 5) mut (tyInt w32)) (past .10)) ⊛ ‵ (fdies (tyArray (tyInt w8) 256) (past .11)) ⊛ ‵
-              (fdies (tyArray (tyInt w8) 256) (past .12)) ⊛ ‵ (fdies tyBool (past .13)) ⊛ ‵ (fdies settings-laws.mir (past .14)) ⊛ ‵
-              (fdies flight-laws.mir (past .15)) ⊛ ‵ (fdies arrival-laws.mir (past .16)) ⊛ ‵ (fdies clock-laws.mir (past .17)) ⊛ ‵
-              (fdies (tyInt w64) (past .18)) ⊛ ‵ (fdies (tyArray (tyInt w32) 128) (past .19)) ⊛ ‵ (fdies (tyInt w64) (past .20)) ⊛ ‵
-              (fdies time-laws.mir (past .21)) ⊛ ‵ (fdies (tyArray (tyInt w8) 256) (past .22)) ⊛ ‵
-              (fdies (tyRef erased mut (tyArray (tyInt w8) 256)) (past .23)) ⊛ ‵
-              (fdies (tyRef erased mut (tyArray (tyInt w8) 256)) (past .24)) ⊛ ‵ (fdies (tyArray (tyInt w32) 128) (past .25)) ⊛ ‵
-              (fdies tyUnit (past .26)) ⊛ ‵ (fdies (tyRef erased imm (tyArray (tyInt w32) 32)) (past .27)) ⊛ ‵
-              (fdies (tyRef erased mut (tyArray (tyInt w32) 128)) (past .28)) ⊛ ‵
-              (fdies (tyRef erased imm (tyArray (tyInt w32) 128)) (past .29)) ⊛ ‵
-              (fdies (tyRef erased imm (tyArray (tyInt w32) 128)) (past .30)) ⊛ ‵
-              (fdies (tyRef erased imm (tyArray (tyInt w32) 32)) (past .31)) ⊛ ‵
-              (fdies (tyRef erased imm (tyArray (tyInt w8) 32)) (past .32)) ⊛ ‵
-              (fdies (tyRef erased imm (tyArray (tyInt w32) 128)) (past .33)) ⊛ ‵
-              (fdies (tyRef erased imm (tyArray (tyInt w32) 128)) (past .34)) ⊛ ‵
-              (fdies (tyRef erased imm (tyArray (tyInt w32) 128)) (past .35)) ⊛ ‵ (fdies (tyRef erased mut (tyInt w32)) (past .36)))
-              ∷ ‵ (flft κ₁ q₁) ∷ ‵ (flft κ₂ q₂) ∷ ‵ (flft κ₄ q₄) ∷ ‵ (flft κ₅ q₅) ∷ ‵ Own₁ ∷ ‵ Own₂
-              ∷ ‵ Own₄ ∷ ‵ Own₆ ∷ ‵ (froom (tyRef erased mut (tyInt w32)) (past .36) 0)
-              ∷ ‵ (froom (tyRef erased imm (tyArray (tyInt w32) 128)) (past .35) 0)
-              ∷ ‵ (froom (tyRef erased imm (tyArray (tyInt w32) 128)) (past .34) 0)
-              ∷ ‵ (froom (tyRef erased imm (tyArray (tyInt w32) 128)) (past .33) 0)
-              ∷ ‵ (froom (tyRef erased imm (tyArray (tyInt w8) 32)) (past .32) 0)
-              ∷ ‵ (froom (tyRef erased imm (tyArray (tyInt w32) 32)) (past .31) 0)
-              ∷ ‵ (froom (tyRef erased imm (tyArray (tyInt w32) 128)) (past .30) 0)
-              ∷ ‵ (fat fullShare (tyRef erased imm (tyArray (tyInt w32) 128)) (past .29) 0 ((vptr (past .19) 0)))
-              ∷ ‵ (fat fullShare (tyRef erased mut (tyArray (tyInt w32) 128)) (past .28) 0 ((vptr (past .19) 0)))
-              ∷ ‵ (fat fullShare (tyRef erased imm (tyArray (tyInt w32) 32)) (past .27) 0 ((vptr b (o + 636))))
-              ∷ ‵ (fat fullShare tyUnit (past .26) 0 ((past .57))) ∷ ‵ (fat fullShare (tyArray (tyInt w32) 128) (past .25) 0 ((past .56)))
-              ∷ ‵ (fat fullShare (tyRef erased mut (tyArray (tyInt w8) 256)) (past .24) 0 ((vptr (past .12) 0)))
-              ∷ ‵ (fat fullShare (tyRef erased mut (tyArray (tyInt w8) 256)) (past .23) 0 ((vptr (past .11) 0)))
-              ∷ ‵ (fat fullShare (tyArray (tyInt w8) 256) (past .22) 0 ((past .37))) ∷ ‵ (froom time-laws.mir (past .21) 0)
-              ∷ ‵ (fat fullShare (tyInt w64) (past .20) 0 ((past .61))) ∷ ‵ (fat fullShare (tyInt w64) (past .18) 0 ((past .54)))
-              ∷ ‵ (fat fullShare clock-laws.mir (past .17) 0 ((only ((LL.vals clock-row.the-type clock-laws.the-laws) (h .clock)))))
-              ∷ ‵ (fat fullShare arrival-laws.mir (past .16) 0 ((only ((LL.vals arrival-row.the-type arrival-laws.the-laws) (h .arrival)))))
-              ∷ ‵ (fat fullShare flight-laws.mir (past .15) 0 ((only ((LL.vals flight-row.the-type flight-laws.the-laws) (h .flight)))))
-              ∷ ‵ (fat fullShare settings-laws.mir (past .14) 0
-              ((only ((LL.vals settings-row.the-type settings-laws.the-laws) (h .settings)))))
-              ∷ ‵ (fat fullShare tyBool (past .13) 0 ((past .39))) ∷ ‵ (fat fullShare (tyRef (named 5) mut (tyInt w32)) (past .10) 0 (s₆))
-              ∷ ‵ (fat fullShare (tyInt w32) (past .9) 0 (v₅))
-              ∷ ‵ (fat fullShare (sliceTy (tyRef (named 4) imm (tyInt w32))) (past .8) 0 (s₄))
-              ∷ ‵ (fat fullShare (sliceTy (tyRef (named 3) imm (pointee (R .written)))) (past .7) 0 (s₃))
-              ∷ ‵ (fat fullShare (sliceTy (tyRef (named 2) imm (tyInt w8))) (past .6) 0 (s₂))
-              ∷ ‵ (fat fullShare (sliceTy (tyRef (named 1) imm (tyInt w8))) (past .5) 0 (s₁))
-              ∷ ‵ (fat fullShare (tyRef (named 0) imm (pointee (L .written))) (past .4) 0 (vptr b o)) ∷ ‵ (froom (tyInt w32) (past .3) 0)
-              ∷ []) ∵ exec ! C Λ (En (past .3) (past .4) (past .5) (past .6) (past .7) (past .8) (past .9) (past .10) (past .11) (past .12)
-              (past .13) (past .14) (past .15) (past .16) (past .17) (past .18) (past .19) (past .20) (past .21) (past .22) (past .23)
-              (past .24) (past .25) (past .26) (past .27) (past .28) (past .29) (past .30) (past .31) (past .32) (past .33) (past .34)
-              (past .35) (past .36)) (behind 19 (code.function .body))
-              (atRet (En (past .3) (past .4) (past .5) (past .6) (past .7) (past .8) (past .9) (past .10) (past .11) (past .12) (past .13)
-              (past .14) (past .15) (past .16) (past .17) (past .18) (past .19) (past .20) (past .21) (past .22) (past .23) (past .24)
-              (past .25) (past .26) (past .27) (past .28) (past .29) (past .30) (past .31) (past .32) (past .33) (past .34) (past .35)
-              (past .36)) Post) $
+          ∷ ‵ (partAt (Array u32 32) (past .42) (h .outstanding) b (o + 636))
+          ∷ ‵ (partAt clock-row.the-row (past .42) (h .clock) b (o + 104))
+          ∷ ‵ (partAt arrival-row.the-row (past .42) (h .arrival) b (o + 72))
+          ∷ ‵ (partAt flight-row.the-row (past .42) (h .flight) b (o + 16))
+          ∷ ‵ (partAt settings-row.the-row (past .42) (h .settings) b (o + 0))
+          ∷ ‵ (partAt (Array u32 128) (past .42) (h .«waiting_numbers») b (o + 1820))
+          ∷ ‵ (partAt (Array u32 128) (past .42) (h .waiting) b (o + 1308))
+          ∷ ‵ (partAt (Array u32 128) (past .42) (h .ready) b (o + 796))
+          ∷ ‵ (partAt (Array u8 32) (past .42) (h .transmissions) b (o + 764))
+          ∷ ‵ (partAt (Array u32 128) (past .42) (h .queued) b (o + 124)) ∷ raw (Back 𝓤 H A (past .42) b o)
+          ∷ ‵ (fobor κ₀ q₀ (partAt L (past .42) h b o))
+          ∷ ‵ (fat fullShare (tyArray (tyInt w8) 256) (past .12) 0 ((only ((array-vals (uint-vals w8)) (past .1)))))
+          ∷ ‵ (fat fullShare (tyArray (tyInt w8) 256) (past .11) 0 ((only ((array-vals (uint-vals w8)) (past .2)))))
+          ∷ (‵ (fdies (tyInt w32) (past .3)) ⊛ ‵ (fdies (tyRef (named 0) imm (pointee (L .written))) (past .4)) ⊛ ‵
+          (fdies (sliceTy (tyRef (named 1) imm (tyInt w8))) (past .5)) ⊛ ‵ (fdies (sliceTy (tyRef (named 2) imm (tyInt w8))) (past .6))
+          ⊛ ‵ (fdies (sliceTy (tyRef (named 3) imm (pointee (R .written)))) (past .7)) ⊛ ‵
+          (fdies (sliceTy (tyRef (named 4) imm (tyInt w32))) (past .8)) ⊛ ‵ (fdies (tyInt w32) (past .9)) ⊛ ‵
+          (fdies (tyRef (named 5) mut (tyInt w32)) (past .10)) ⊛ ‵ (fdies (tyArray (tyInt w8) 256) (past .11)) ⊛ ‵
+          (fdies (tyArray (tyInt w8) 256) (past .12)) ⊛ ‵ (fdies tyBool (past .13)) ⊛ ‵ (fdies settings-laws.mir (past .14)) ⊛ ‵
+          (fdies flight-laws.mir (past .15)) ⊛ ‵ (fdies arrival-laws.mir (past .16)) ⊛ ‵ (fdies clock-laws.mir (past .17)) ⊛ ‵
+          (fdies (tyInt w64) (past .18)) ⊛ ‵ (fdies (tyArray (tyInt w32) 128) (past .19)) ⊛ ‵ (fdies (tyInt w64) (past .20)) ⊛ ‵
+          (fdies time-laws.mir (past .21)) ⊛ ‵ (fdies (tyArray (tyInt w8) 256) (past .22)) ⊛ ‵
+          (fdies (tyRef erased mut (tyArray (tyInt w8) 256)) (past .23)) ⊛ ‵
+          (fdies (tyRef erased mut (tyArray (tyInt w8) 256)) (past .24)) ⊛ ‵ (fdies (tyArray (tyInt w32) 128) (past .25)) ⊛ ‵
+          (fdies tyUnit (past .26)) ⊛ ‵ (fdies (tyRef erased imm (tyArray (tyInt w32) 32)) (past .27)) ⊛ ‵
+          (fdies (tyRef erased mut (tyArray (tyInt w32) 128)) (past .28)) ⊛ ‵
+          (fdies (tyRef erased imm (tyArray (tyInt w32) 128)) (past .29)) ⊛ ‵
+          (fdies (tyRef erased imm (tyArray (tyInt w32) 128)) (past .30)) ⊛ ‵
+          (fdies (tyRef erased imm (tyArray (tyInt w32) 32)) (past .31)) ⊛ ‵
+          (fdies (tyRef erased imm (tyArray (tyInt w8) 32)) (past .32)) ⊛ ‵
+          (fdies (tyRef erased imm (tyArray (tyInt w32) 128)) (past .33)) ⊛ ‵
+          (fdies (tyRef erased imm (tyArray (tyInt w32) 128)) (past .34)) ⊛ ‵
+          (fdies (tyRef erased imm (tyArray (tyInt w32) 128)) (past .35)) ⊛ ‵ (fdies (tyRef erased mut (tyInt w32)) (past .36)))
+          ∷ ‵ (flft κ₁ q₁) ∷ ‵ (flft κ₂ q₂) ∷ ‵ (flft κ₄ q₄) ∷ ‵ (flft κ₅ q₅) ∷ ‵ Own₁ ∷ ‵ Own₂
+          ∷ ‵ Own₄ ∷ ‵ Own₆ ∷ ‵ (froom (tyRef erased mut (tyInt w32)) (past .36) 0)
+          ∷ ‵ (froom (tyRef erased imm (tyArray (tyInt w32) 128)) (past .35) 0)
+          ∷ ‵ (froom (tyRef erased imm (tyArray (tyInt w32) 128)) (past .34) 0)
+          ∷ ‵ (froom (tyRef erased imm (tyArray (tyInt w32) 128)) (past .33) 0)
+          ∷ ‵ (froom (tyRef erased imm (tyArray (tyInt w8) 32)) (past .32) 0)
+          ∷ ‵ (froom (tyRef erased imm (tyArray (tyInt w32) 32)) (past .31) 0)
+          ∷ ‵ (froom (tyRef erased imm (tyArray (tyInt w32) 128)) (past .30) 0)
+          ∷ ‵ (fat fullShare (tyRef erased imm (tyArray (tyInt w32) 128)) (past .29) 0 ((vptr (past .19) 0)))
+          ∷ ‵ (fat fullShare (tyRef erased mut (tyArray (tyInt w32) 128)) (past .28) 0 ((vptr (past .19) 0)))
+          ∷ ‵ (fat fullShare (tyRef erased imm (tyArray (tyInt w32) 32)) (past .27) 0 ((vptr b (o + 636))))
+          ∷ ‵ (fat fullShare tyUnit (past .26) 0 ((past .57))) ∷ ‵ (fat fullShare (tyArray (tyInt w32) 128) (past .25) 0 ((past .56)))
+          ∷ ‵ (fat fullShare (tyRef erased mut (tyArray (tyInt w8) 256)) (past .24) 0 ((vptr (past .12) 0)))
+          ∷ ‵ (fat fullShare (tyRef erased mut (tyArray (tyInt w8) 256)) (past .23) 0 ((vptr (past .11) 0)))
+          ∷ ‵ (fat fullShare (tyArray (tyInt w8) 256) (past .22) 0 ((past .37))) ∷ ‵ (froom time-laws.mir (past .21) 0)
+          ∷ ‵ (fat fullShare (tyInt w64) (past .20) 0 ((past .61))) ∷ ‵ (fat fullShare (tyInt w64) (past .18) 0 ((past .54)))
+          ∷ ‵ (fat fullShare clock-laws.mir (past .17) 0 ((only ((LL.vals clock-row.the-type clock-laws.the-laws) (h .clock)))))
+          ∷ ‵ (fat fullShare arrival-laws.mir (past .16) 0 ((only ((LL.vals arrival-row.the-type arrival-laws.the-laws) (h .arrival)))))
+          ∷ ‵ (fat fullShare flight-laws.mir (past .15) 0 ((only ((LL.vals flight-row.the-type flight-laws.the-laws) (h .flight)))))
+          ∷ ‵ (fat fullShare settings-laws.mir (past .14) 0
+          ((only ((LL.vals settings-row.the-type settings-laws.the-laws) (h .settings)))))
+          ∷ ‵ (fat fullShare tyBool (past .13) 0 ((past .39))) ∷ ‵ (fat fullShare (tyRef (named 5) mut (tyInt w32)) (past .10) 0 (s₆))
+          ∷ ‵ (fat fullShare (tyInt w32) (past .9) 0 (v₅))
+          ∷ ‵ (fat fullShare (sliceTy (tyRef (named 4) imm (tyInt w32))) (past .8) 0 (s₄))
+          ∷ ‵ (fat fullShare (sliceTy (tyRef (named 3) imm (pointee (R .written)))) (past .7) 0 (s₃))
+          ∷ ‵ (fat fullShare (sliceTy (tyRef (named 2) imm (tyInt w8))) (past .6) 0 (s₂))
+          ∷ ‵ (fat fullShare (sliceTy (tyRef (named 1) imm (tyInt w8))) (past .5) 0 (s₁))
+          ∷ ‵ (fat fullShare (tyRef (named 0) imm (pointee (L .written))) (past .4) 0 (vptr b o)) ∷ ‵ (froom (tyInt w32) (past .3) 0)
+          ∷ []) ∵ exec ! C Λ (En (past .3) (past .4) (past .5) (past .6) (past .7) (past .8) (past .9) (past .10) (past .11) (past .12)
+          (past .13) (past .14) (past .15) (past .16) (past .17) (past .18) (past .19) (past .20) (past .21) (past .22) (past .23)
+          (past .24) (past .25) (past .26) (past .27) (past .28) (past .29) (past .30) (past .31) (past .32) (past .33) (past .34)
+          (past .35) (past .36)) (behind 19 (code.function .body))
+          (atRet (En (past .3) (past .4) (past .5) (past .6) (past .7) (past .8) (past .9) (past .10) (past .11) (past .12) (past .13)
+          (past .14) (past .15) (past .16) (past .17) (past .18) (past .19) (past .20) (past .21) (past .22) (past .23) (past .24)
+          (past .25) (past .26) (past .27) (past .28) (past .29) (past .30) (past .31) (past .32) (past .33) (past .34) (past .35)
+          (past .36)) Post) $
           assigns ! {v = (vptr b (o + 124))} (addr ! (from ! (hop ! (look ! 54 refl) (fld ! {d = 124} refl (stop !))))) (from ! (stop !))
-              (init ! 31 refl (tt, tt)) $
+          (init ! 31 refl (tt, tt)) $
           assigns ! {v = (vptr b (o + 636))} (addr ! (from ! (hop ! (look ! 54 refl) (fld ! {d = 636} refl (stop !))))) (from ! (stop !))
-              (init ! 30 refl (tt, tt)) $
+          (init ! 30 refl (tt, tt)) $
           assigns ! {v = (vptr b (o + 764))} (addr ! (from ! (hop ! (look ! 54 refl) (fld ! {d = 764} refl (stop !))))) (from ! (stop !))
-              (init ! 29 refl (tt, tt)) $
+          (init ! 29 refl (tt, tt)) $
           assigns ! {v = (vptr b (o + 796))} (addr ! (from ! (hop ! (look ! 54 refl) (fld ! {d = 796} refl (stop !))))) (from ! (stop !))
-              (init ! 28 refl (tt, tt)) $
+          (init ! 28 refl (tt, tt)) $
           assigns ! {v = (vptr b (o + 1308))} (addr ! (from ! (hop ! (look ! 54 refl) (fld ! {d = 1308} refl (stop !))))) (from ! (stop !))
-              (init ! 27 refl (tt, tt)) $
+          (init ! 27 refl (tt, tt)) $
           assigns ! {v = (vptr b (o + 1820))} (addr ! (from ! (hop ! (look ! 54 refl) (fld ! {d = 1820} refl (stop !))))) (from ! (stop !))
-              (init ! 26 refl (tt, tt)) $
+          (init ! 26 refl (tt, tt)) $
           move ! (1 ∷ []) $ use1 W (‵ (cellAt fullShare ((tyArray (tyInt w32) 128) ∷ [])
-              ((only ((array-vals (uint-vals w32)) (past .0))) ∷ []) (past .19) 0))
-              (W .laws .at-raw fullShare (tyArray (tyInt w32) 128) (past .19) 0 (only ((array-vals (uint-vals w32)) (past .0)))) $
-              cell-in ! fullShare (Array u32 128) (array-makes 𝓤 H A W u32 (uint-makes 𝓤 H A W w32) 128) (past .0) (past .19) 0
-              (only ((array-vals (uint-vals w32)) (past .0))) (past .59) $
+          ((only ((array-vals (uint-vals w32)) (past .0))) ∷ []) (past .19) 0))
+          (W .laws .at-raw fullShare (tyArray (tyInt w32) 128) (past .19) 0 (only ((array-vals (uint-vals w32)) (past .0)))) $
+          cell-in ! fullShare (Array u32 128) (array-makes 𝓤 H A W u32 (uint-makes 𝓤 H A W w32) 128) (past .0) (past .19) 0
+          (only ((array-vals (uint-vals w32)) (past .0))) (past .59) $
           lend-shr ! tt fullShare (Array u32 128) (past .0) (past .19) 0
-              (λ α-found′ δ-found′. move ! (13 ∷ []) $
-              lend-shr ! tt (past .42) (Array u32 128) (h .queued) b (o + 124)
-              (λ α-queued δ-queued. move ! (7 ∷ []) $
-              lend-shr ! tt (past .42) (Array u32 32) (h .outstanding) b (o + 636)
-              (λ α-outstanding′ δ-outstanding′. move ! (17 ∷ []) $
-              lend-shr ! tt (past .42) (Array u8 32) (h .transmissions) b (o + 764)
-              (λ α-transmissions δ-transmissions. move ! (19 ∷ []) $
-              lend-shr ! tt (past .42) (Array u32 128) (h .ready) b (o + 796)
-              (λ α-ready δ-ready. move ! (21 ∷ []) $
-              lend-shr ! tt (past .42) (Array u32 128) (h .waiting) b (o + 1308)
-              (λ α-waiting δ-waiting. move ! (23 ∷ []) $
-              lend-shr ! tt (past .42) (Array u32 128) (h .«waiting_numbers») b (o + 1820)
-              (λ α-waiting-numbers δ-waiting-numbers. move ! (18 ∷ 19 ∷ 15 ∷ 16 ∷ 12 ∷ 13 ∷ 9 ∷ 10 ∷ 6 ∷ 7 ∷ 3 ∷ 4 ∷ 0 ∷ 1 ∷ 31
-              ∷ 35 ∷ 32 ∷ 36 ∷ 33 ∷ 37 ∷ []) $ group ! 20 $
-              calls-fn ! fm core.ended (core.clauses 𝓤 H A at-mem run) (known .6)
-              (to-core (past .19) α-found′ δ-found′ (past .0) α-queued δ-queued (h .queued) α-outstanding′ δ-outstanding′ (h .outstanding)
-              α-transmissions δ-transmissions (h .transmissions) α-ready δ-ready (h .ready) α-waiting δ-waiting (h .waiting)
-              α-waiting-numbers δ-waiting-numbers (h .«waiting_numbers») (h .settings)
-              (only ((LL.vals settings-row.the-type settings-laws.the-laws) (h .settings))) (h .flight)
-              (only ((LL.vals flight-row.the-type flight-laws.the-laws) (h .flight))) (h .arrival)
-              (only ((LL.vals arrival-row.the-type arrival-laws.the-laws) (h .arrival))) (h .clock)
-              (only ((LL.vals clock-row.the-type clock-laws.the-laws) (h .clock))) (past .38) (past .39) (past .60) (past .61) x₅ v₅)
-              (λ a ws-a. timeOutcome a ≡ checksWith h (recordsIn (past .0)) (x₄ .now) (lentLengths (past .60) (x₁ .now) (x₂ .now) (x₄ .now))
-              x₅) (‵ (flft (α-found′ ∷ []) fullShare) ⊛ ‵
-              (ShrRef (named 0) (α-found′ ∷ []) (Array u32 128) .own (ref-at (past .19) 0 δ-found′ (past .0)) ((vptr (past .19) 0) ∷ [])) ⊛
-              ‵ (flft (α-queued ∷ []) fullShare) ⊛ ‵ (ShrRef (named 0) (α-queued ∷ []) (Array u32 128) .own
-              (ref-at b (o + 124) δ-queued (h .queued)) ((vptr b (o + 124)) ∷ [])) ⊛ ‵ (flft (α-outstanding′ ∷ []) fullShare) ⊛ ‵
-              (ShrRef (named 0) (α-outstanding′ ∷ []) (Array u32 32) .own (ref-at b (o + 636) δ-outstanding′ (h .outstanding))
-              ((vptr b (o + 636)) ∷ [])) ⊛ ‵ (flft (α-transmissions ∷ []) fullShare) ⊛ ‵
-              (ShrRef (named 0) (α-transmissions ∷ []) (Array u8 32) .own (ref-at b (o + 764) δ-transmissions (h .transmissions))
-              ((vptr b (o + 764)) ∷ [])) ⊛ ‵ (flft (α-ready ∷ []) fullShare) ⊛ ‵
-              (ShrRef (named 0) (α-ready ∷ []) (Array u32 128) .own (ref-at b (o + 796) δ-ready (h .ready)) ((vptr b (o + 796)) ∷ [])) ⊛ ‵
-              (flft (α-waiting ∷ []) fullShare) ⊛ ‵ (ShrRef (named 0) (α-waiting ∷ []) (Array u32 128) .own
-              (ref-at b (o + 1308) δ-waiting (h .waiting)) ((vptr b (o + 1308)) ∷ [])) ⊛ ‵ (flft (α-waiting-numbers ∷ []) fullShare) ⊛ ‵
-              (ShrRef (named 0) (α-waiting-numbers ∷ []) (Array u32 128) .own (ref-at b (o + 1820) δ-waiting-numbers (h .«waiting_numbers»))
-              ((vptr b (o + 1820)) ∷ [])) ⊛ ‵ (flft κ₁ q₁) ⊛ ‵ Own₁ ⊛ ‵ (flft κ₂ q₂) ⊛ ‵ Own₂ ⊛ ‵ (flft κ₄ q₄) ⊛ ‵
-              Own₄)
+          (λ α-found′ δ-found′. move ! (13 ∷ []) $
+          lend-shr ! tt (past .42) (Array u32 128) (h .queued) b (o + 124)
+          (λ α-queued δ-queued. move ! (7 ∷ []) $
+          lend-shr ! tt (past .42) (Array u32 32) (h .outstanding) b (o + 636)
+          (λ α-outstanding′ δ-outstanding′. move ! (17 ∷ []) $
+          lend-shr ! tt (past .42) (Array u8 32) (h .transmissions) b (o + 764)
+          (λ α-transmissions δ-transmissions. move ! (19 ∷ []) $
+          lend-shr ! tt (past .42) (Array u32 128) (h .ready) b (o + 796)
+          (λ α-ready δ-ready. move ! (21 ∷ []) $
+          lend-shr ! tt (past .42) (Array u32 128) (h .waiting) b (o + 1308)
+          (λ α-waiting δ-waiting. move ! (23 ∷ []) $
+          lend-shr ! tt (past .42) (Array u32 128) (h .«waiting_numbers») b (o + 1820)
+          (λ α-waiting-numbers δ-waiting-numbers. move ! (18 ∷ 19 ∷ 15 ∷ 16 ∷ 12 ∷ 13 ∷ 9 ∷ 10 ∷ 6 ∷ 7 ∷ 3 ∷ 4 ∷ 0 ∷ 1 ∷ 31
+          ∷ 35 ∷ 32 ∷ 36 ∷ 33 ∷ 37 ∷ []) $ group ! 20 $
+          calls-fn ! fm core.ended (core.clauses 𝓤 H A at-mem run) (known .6)
+          (to-core (past .19) α-found′ δ-found′ (past .0) α-queued δ-queued (h .queued) α-outstanding′ δ-outstanding′ (h .outstanding)
+          α-transmissions δ-transmissions (h .transmissions) α-ready δ-ready (h .ready) α-waiting δ-waiting (h .waiting)
+          α-waiting-numbers δ-waiting-numbers (h .«waiting_numbers») (h .settings)
+          (only ((LL.vals settings-row.the-type settings-laws.the-laws) (h .settings))) (h .flight)
+          (only ((LL.vals flight-row.the-type flight-laws.the-laws) (h .flight))) (h .arrival)
+          (only ((LL.vals arrival-row.the-type arrival-laws.the-laws) (h .arrival))) (h .clock)
+          (only ((LL.vals clock-row.the-type clock-laws.the-laws) (h .clock))) (past .38) (past .39) (past .60) (past .61) x₅ v₅)
+          (λ a ws-a. timeOutcome a ≡ checksWith h (recordsIn (past .0)) (x₄ .now) (lentLengths (past .60) (x₁ .now) (x₂ .now) (x₄ .now))
+          x₅) (‵ (flft (α-found′ ∷ []) fullShare) ⊛ ‵
+          (ShrRef (named 0) (α-found′ ∷ []) (Array u32 128) .own (ref-at (past .19) 0 δ-found′ (past .0)) ((vptr (past .19) 0) ∷ [])) ⊛
+          ‵ (flft (α-queued ∷ []) fullShare) ⊛ ‵ (ShrRef (named 0) (α-queued ∷ []) (Array u32 128) .own
+          (ref-at b (o + 124) δ-queued (h .queued)) ((vptr b (o + 124)) ∷ [])) ⊛ ‵ (flft (α-outstanding′ ∷ []) fullShare) ⊛ ‵
+          (ShrRef (named 0) (α-outstanding′ ∷ []) (Array u32 32) .own (ref-at b (o + 636) δ-outstanding′ (h .outstanding))
+          ((vptr b (o + 636)) ∷ [])) ⊛ ‵ (flft (α-transmissions ∷ []) fullShare) ⊛ ‵
+          (ShrRef (named 0) (α-transmissions ∷ []) (Array u8 32) .own (ref-at b (o + 764) δ-transmissions (h .transmissions))
+          ((vptr b (o + 764)) ∷ [])) ⊛ ‵ (flft (α-ready ∷ []) fullShare) ⊛ ‵
+          (ShrRef (named 0) (α-ready ∷ []) (Array u32 128) .own (ref-at b (o + 796) δ-ready (h .ready)) ((vptr b (o + 796)) ∷ [])) ⊛ ‵
+          (flft (α-waiting ∷ []) fullShare) ⊛ ‵ (ShrRef (named 0) (α-waiting ∷ []) (Array u32 128) .own
+          (ref-at b (o + 1308) δ-waiting (h .waiting)) ((vptr b (o + 1308)) ∷ [])) ⊛ ‵ (flft (α-waiting-numbers ∷ []) fullShare) ⊛ ‵
+          (ShrRef (named 0) (α-waiting-numbers ∷ []) (Array u32 128) .own (ref-at b (o + 1820) δ-waiting-numbers (h .«waiting_numbers»))
+          ((vptr b (o + 1820)) ∷ [])) ⊛ ‵ (flft κ₁ q₁) ⊛ ‵ Own₁ ⊛ ‵ (flft κ₂ q₂) ⊛ ‵ Own₂ ⊛ ‵ (flft κ₄ q₄) ⊛ ‵
+          Own₄)
           (asks-core (past .19) α-found′ δ-found′ (past .0) α-queued δ-queued (h .queued) α-outstanding′ δ-outstanding′ (h .outstanding)
           α-transmissions δ-transmissions (h .transmissions) α-ready δ-ready (h .ready) α-waiting δ-waiting (h .waiting) α-waiting-numbers
           δ-waiting-numbers (h .«waiting_numbers») (h .settings)
@@ -917,9 +1012,18 @@ module _ {M : Type 1} (𝓤 : URA M) (H : Heap 𝓤) (A : Atoms 𝓤) (W : Given
           (only ((LL.vals flight-row.the-type flight-laws.the-laws) (h .flight))) (past .50) (h .arrival)
           (only ((LL.vals arrival-row.the-type arrival-laws.the-laws) (h .arrival))) (past .51) (h .clock)
           (only ((LL.vals clock-row.the-type clock-laws.the-laws) (h .clock))) (past .52) (past .38) (past .39) (past .41) (past .60)
-          (past .61) (past .63) x₅ v₅ g₅ (record { whole-queued = (past .43); whole-outstanding = (past .44);
-          whole-transmissions = (past .45); whole-ready = (past .46); whole-waiting = (past .47); whole-numbers = (past .48) },
-          (past .58) .0, ((past .2), ((past .1), (past .40))))) (λ a ws-a. id⊢ 𝓤 _)
+          (past .61) (past .63) x₅ v₅ g₅ (
+            record {
+              whole-queued = (past .43);
+              whole-outstanding = (past .44);
+              whole-transmissions = (past .45);
+              whole-ready = (past .46);
+              whole-waiting = (past .47);
+              whole-numbers = (past .48);
+            },
+            (past .58) .0,
+            ((past .2), ((past .1), (past .40))),
+          )) (λ a ws-a. id⊢ 𝓤 _)
           (and-then ! (load ! (from ! (stop !)) (look ! 41 refl))
           (and-then ! (load ! (from ! (stop !)) (look ! 40 refl))
           (and-then ! (load ! (from ! (stop !)) (look ! 39 refl))
@@ -940,34 +1044,83 @@ module _ {M : Type 1} (𝓤 : URA M) (H : Heap 𝓤) (A : Atoms 𝓤) (W : Given
           (λ a w-a ws-a e-a is-a. land ! (from ! (stop !))
           (init ! 36 refl (EL.lawful time-row.the-type time-laws.the-laws 𝓤 H A W tt .typed a (w-a ∷ []) is-a .0)) $
           spread W (‵ (flft (α-found′ ∷ []) fullShare))
-              (‵ (flft (α-queued ∷ []) fullShare) ∷ ‵ (flft (α-outstanding′ ∷ []) fullShare) ∷ ‵ (flft (α-transmissions ∷ []) fullShare)
-              ∷ ‵ (flft (α-ready ∷ []) fullShare) ∷ ‵ (flft (α-waiting ∷ []) fullShare) ∷ ‵ (flft (α-waiting-numbers ∷ []) fullShare)
-              ∷ ‵ (flft κ₁ q₁) ∷ ‵ (flft κ₂ q₂) ∷ ‵ (flft κ₄ q₄) ∷ ‵ ftrue ∷ []) (id⊢ 𝓤 _) $ move ! (11 ∷ []) $
-              spread W (‵ ftrue) (‵ ftrue ∷ ‵ ftrue ∷ ‵ ftrue ∷ ‵ ftrue ∷ ‵ ftrue ∷ ‵ ftrue ∷ ‵ ftrue ∷ ‵ ftrue ∷ ‵ ftrue
-              ∷ ‵ ftrue ∷ ‵ ftrue ∷ ‵ ftrue ∷ ‵ ftrue ∷ ‵ ftrue ∷ ‵ ftrue ∷ ‵ ftrue ∷ ‵ ftrue ∷ []) (id⊢ 𝓤 _) $
-              keep ! (18 ∷ 19 ∷ 20 ∷ 21 ∷ 22 ∷ 23 ∷ 24 ∷ 25 ∷ 26 ∷ 27 ∷ 29 ∷ 30 ∷ 31 ∷ 32 ∷ 33 ∷ 34 ∷ 35 ∷ 36 ∷ 37 ∷ 38
-              ∷ 39 ∷ 40 ∷ 41 ∷ 42 ∷ 43 ∷ 44 ∷ 45 ∷ 46 ∷ 47 ∷ 48 ∷ 49 ∷ 50 ∷ 51 ∷ 52 ∷ 53 ∷ 54 ∷ 55 ∷ 56 ∷ 57 ∷ 58 ∷ 59
-              ∷ 60 ∷ 61 ∷ 62 ∷ 63 ∷ 64 ∷ 65 ∷ 66 ∷ 67 ∷ 68 ∷ 69 ∷ 70 ∷ 71 ∷ 72 ∷ 73 ∷ 74 ∷ 75 ∷ 76 ∷ 77 ∷ 78 ∷ []) $
+          (‵ (flft (α-queued ∷ []) fullShare) ∷ ‵ (flft (α-outstanding′ ∷ []) fullShare) ∷ ‵ (flft (α-transmissions ∷ []) fullShare)
+          ∷ ‵ (flft (α-ready ∷ []) fullShare) ∷ ‵ (flft (α-waiting ∷ []) fullShare) ∷ ‵ (flft (α-waiting-numbers ∷ []) fullShare)
+          ∷ ‵ (flft κ₁ q₁) ∷ ‵ (flft κ₂ q₂) ∷ ‵ (flft κ₄ q₄) ∷ ‵ ftrue ∷ []) (id⊢ 𝓤 _) $ move ! (11 ∷ []) $
+          spread W (‵ ftrue) (‵ ftrue ∷ ‵ ftrue ∷ ‵ ftrue ∷ ‵ ftrue ∷ ‵ ftrue ∷ ‵ ftrue ∷ ‵ ftrue ∷ ‵ ftrue ∷ ‵ ftrue
+          ∷ ‵ ftrue ∷ ‵ ftrue ∷ ‵ ftrue ∷ ‵ ftrue ∷ ‵ ftrue ∷ ‵ ftrue ∷ ‵ ftrue ∷ ‵ ftrue ∷ []) (id⊢ 𝓤 _) $
+          keep ! (18 ∷ 19 ∷ 20 ∷ 21 ∷ 22 ∷ 23 ∷ 24 ∷ 25 ∷ 26 ∷ 27 ∷ 29 ∷ 30 ∷ 31 ∷ 32 ∷ 33 ∷ 34 ∷ 35 ∷ 36 ∷ 37 ∷ 38
+          ∷ 39 ∷ 40 ∷ 41 ∷ 42 ∷ 43 ∷ 44 ∷ 45 ∷ 46 ∷ 47 ∷ 48 ∷ 49 ∷ 50 ∷ 51 ∷ 52 ∷ 53 ∷ 54 ∷ 55 ∷ 56 ∷ 57 ∷ 58 ∷ 59
+          ∷ 60 ∷ 61 ∷ 62 ∷ 63 ∷ 64 ∷ 65 ∷ 66 ∷ 67 ∷ 68 ∷ 69 ∷ 70 ∷ 71 ∷ 72 ∷ 73 ∷ 74 ∷ 75 ∷ 76 ∷ 77 ∷ 78 ∷ []) $
           -- [tok:@found; tok:queued; tok:outstanding; tok:transmissions; tok:ready; tok:waiting; tok:«waiting_numbers»; tok1; tok2; tok4;
           -- lent:«waiting_numbers»; lent:waiting; lent:ready; lent:transmissions; lent:outstanding; lent:queued; lent:@found; tok3;
           -- F:clock; F:arrival; F:flight; F:settings; back; opened; deaths; tok6; own6; the locals]
           move ! (0 ∷ 16 ∷ []) $ back-shr ! tt fullShare (Array u32 128) (past .19) 0 (past .0) $
-              cell-out ! fullShare (Array u32 128) (array-vals (uint-vals w32)) (array-tells u32 (uint-vals w32) (uint-tells w32) 128)
-              (past .0) (past .19) 0 (λ was-found-4. use1 W
-              (‵ (fat fullShare (tyArray (tyInt w32) 128) (past .19) 0 (only ((array-vals (uint-vals w32)) (past .0)))))
-              (W .laws .raw-at fullShare (tyArray (tyInt w32) 128) (past .19) 0 (only ((array-vals (uint-vals w32)) (past .0)))) $
+          cell-out ! fullShare (Array u32 128) (array-vals (uint-vals w32)) (array-tells u32 (uint-vals w32) (uint-tells w32) 128)
+          (past .0) (past .19) 0 (λ was-found-4. use1 W
+          (‵ (fat fullShare (tyArray (tyInt w32) 128) (past .19) 0 (only ((array-vals (uint-vals w32)) (past .0)))))
+          (W .laws .raw-at fullShare (tyArray (tyInt w32) 128) (past .19) 0 (only ((array-vals (uint-vals w32)) (past .0)))) $
           move ! (1 ∷ 15 ∷ []) $ back-shr ! tt (past .42) (Array u32 128) b (o + 124) (h .queued) $ move ! (2 ∷ 14 ∷ []) $
-              back-shr ! tt (past .42) (Array u32 32) b (o + 636) (h .outstanding) $ move ! (3 ∷ 13 ∷ []) $
-              back-shr ! tt (past .42) (Array u8 32) b (o + 764) (h .transmissions) $ move ! (4 ∷ 12 ∷ []) $
-              back-shr ! tt (past .42) (Array u32 128) b (o + 796) (h .ready) $ move ! (5 ∷ 11 ∷ []) $
-              back-shr ! tt (past .42) (Array u32 128) b (o + 1308) (h .waiting) $ move ! (6 ∷ 10 ∷ []) $
-              back-shr ! tt (past .42) (Array u32 128) b (o + 1820) (h .«waiting_numbers») $
-              by ! (part₃ ((past .0), (past .1), (past .2), (past .3), (past .4), (past .5), (past .6), (past .7), (past .8), (past .9),
-              (past .10), (past .11), (past .12), (past .13), (past .14), (past .15), (past .16), (past .17), (past .18), (past .19),
-              (past .20), (past .21), (past .22), (past .23), (past .24), (past .25), (past .26), (past .27), (past .28), (past .29),
-              (past .30), (past .31), (past .32), (past .33), (past .34), (past .35), (past .36), (past .37), (past .39), (past .42),
-              (past .53), (past .54), (past .55), (past .56), (past .57), (past .58), (past .60), (past .61), (past .62), a, w-a, e-a,
-              is-a)))))))))))
+          back-shr ! tt (past .42) (Array u32 32) b (o + 636) (h .outstanding) $ move ! (3 ∷ 13 ∷ []) $
+          back-shr ! tt (past .42) (Array u8 32) b (o + 764) (h .transmissions) $ move ! (4 ∷ 12 ∷ []) $
+          back-shr ! tt (past .42) (Array u32 128) b (o + 796) (h .ready) $ move ! (5 ∷ 11 ∷ []) $
+          back-shr ! tt (past .42) (Array u32 128) b (o + 1308) (h .waiting) $ move ! (6 ∷ 10 ∷ []) $
+          back-shr ! tt (past .42) (Array u32 128) b (o + 1820) (h .«waiting_numbers») $
+          by ! (part₃ (
+            (past .0),
+            (past .1),
+            (past .2),
+            (past .3),
+            (past .4),
+            (past .5),
+            (past .6),
+            (past .7),
+            (past .8),
+            (past .9),
+            (past .10),
+            (past .11),
+            (past .12),
+            (past .13),
+            (past .14),
+            (past .15),
+            (past .16),
+            (past .17),
+            (past .18),
+            (past .19),
+            (past .20),
+            (past .21),
+            (past .22),
+            (past .23),
+            (past .24),
+            (past .25),
+            (past .26),
+            (past .27),
+            (past .28),
+            (past .29),
+            (past .30),
+            (past .31),
+            (past .32),
+            (past .33),
+            (past .34),
+            (past .35),
+            (past .36),
+            (past .37),
+            (past .39),
+            (past .42),
+            (past .53),
+            (past .54),
+            (past .55),
+            (past .56),
+            (past .57),
+            (past .58),
+            (past .60),
+            (past .61),
+            (past .62),
+            a,
+            w-a,
+            e-a,
+            is-a,
+          )))))))))))
 
       -- what part 1 knows
       abbrev Known₁ : Type 0
@@ -1033,144 +1186,144 @@ module _ {M : Type 1} (𝓤 : URA M) (H : Heap 𝓤) (A : Atoms 𝓤) (W : Given
           (past .35)) Post))
       part₁ past =
           qed W (‵ (fat fullShare (tyArray (tyInt w8) 256) (past .11) 0 ((only ((array-vals (uint-vals w8)) (past .0)))))
-              ∷ ‵ (fat fullShare (tyArray (tyInt w8) 256) (past .10) 0 ((only ((array-vals (uint-vals w8)) (past .1))))) ∷ ‵ (flft κ₀ q₀)
-              ∷ ‵ (link-shr κ₀ b o γ h) ∷ (‵ (fdies (tyInt w32) (past .2)) ⊛ ‵
-              (fdies (tyRef (named 0) imm (pointee (L .written))) (past .3)) ⊛ ‵
-              (fdies (sliceTy (tyRef (named 1) imm (tyInt w8))) (past .4)) ⊛ ‵ (fdies (sliceTy (tyRef (named 2) imm (tyInt w8))) (past .5))
-              ⊛ ‵ (fdies (sliceTy (tyRef (named 3) imm (pointee (R .written)))) (past .6)) ⊛ ‵
-              (fdies (sliceTy (tyRef (named 4) imm (tyInt w32))) (past .7)) ⊛ ‵ (fdies (tyInt w32) (past .8)) ⊛ ‵
-              (fdies (tyRef (named 5) mut (tyInt w32)) (past .9)) ⊛ ‵ (fdies (tyArray (tyInt w8) 256) (past .10)) ⊛ ‵
-              (fdies (tyArray (tyInt w8) 256) (past .11)) ⊛ ‵ (fdies tyBool (past .12)) ⊛ ‵ (fdies settings-laws.mir (past .13)) ⊛ ‵
-              (fdies flight-laws.mir (past .14)) ⊛ ‵ (fdies arrival-laws.mir (past .15)) ⊛ ‵ (fdies clock-laws.mir (past .16)) ⊛ ‵
-              (fdies (tyInt w64) (past .17)) ⊛ ‵ (fdies (tyArray (tyInt w32) 128) (past .18)) ⊛ ‵ (fdies (tyInt w64) (past .19)) ⊛ ‵
-              (fdies time-laws.mir (past .20)) ⊛ ‵ (fdies (tyArray (tyInt w8) 256) (past .21)) ⊛ ‵
-              (fdies (tyRef erased mut (tyArray (tyInt w8) 256)) (past .22)) ⊛ ‵
-              (fdies (tyRef erased mut (tyArray (tyInt w8) 256)) (past .23)) ⊛ ‵ (fdies (tyArray (tyInt w32) 128) (past .24)) ⊛ ‵
-              (fdies tyUnit (past .25)) ⊛ ‵ (fdies (tyRef erased imm (tyArray (tyInt w32) 32)) (past .26)) ⊛ ‵
-              (fdies (tyRef erased mut (tyArray (tyInt w32) 128)) (past .27)) ⊛ ‵
-              (fdies (tyRef erased imm (tyArray (tyInt w32) 128)) (past .28)) ⊛ ‵
-              (fdies (tyRef erased imm (tyArray (tyInt w32) 128)) (past .29)) ⊛ ‵
-              (fdies (tyRef erased imm (tyArray (tyInt w32) 32)) (past .30)) ⊛ ‵
-              (fdies (tyRef erased imm (tyArray (tyInt w8) 32)) (past .31)) ⊛ ‵
-              (fdies (tyRef erased imm (tyArray (tyInt w32) 128)) (past .32)) ⊛ ‵
-              (fdies (tyRef erased imm (tyArray (tyInt w32) 128)) (past .33)) ⊛ ‵
-              (fdies (tyRef erased imm (tyArray (tyInt w32) 128)) (past .34)) ⊛ ‵ (fdies (tyRef erased mut (tyInt w32)) (past .35)))
-              ∷ ‵ (flft κ₁ q₁) ∷ ‵ (flft κ₂ q₂) ∷ ‵ (flft κ₃ q₃) ∷ ‵ (flft κ₄ q₄) ∷ ‵ (flft κ₅ q₅) ∷ ‵ Own₁
-              ∷ ‵ Own₂ ∷ ‵ Own₃ ∷ ‵ Own₄ ∷ ‵ Own₆ ∷ ‵ (froom (tyRef erased mut (tyInt w32)) (past .35) 0)
-              ∷ ‵ (froom (tyRef erased imm (tyArray (tyInt w32) 128)) (past .34) 0)
-              ∷ ‵ (froom (tyRef erased imm (tyArray (tyInt w32) 128)) (past .33) 0)
-              ∷ ‵ (froom (tyRef erased imm (tyArray (tyInt w32) 128)) (past .32) 0)
-              ∷ ‵ (froom (tyRef erased imm (tyArray (tyInt w8) 32)) (past .31) 0)
-              ∷ ‵ (froom (tyRef erased imm (tyArray (tyInt w32) 32)) (past .30) 0)
-              ∷ ‵ (froom (tyRef erased imm (tyArray (tyInt w32) 128)) (past .29) 0)
-              ∷ ‵ (froom (tyRef erased imm (tyArray (tyInt w32) 128)) (past .28) 0)
-              ∷ ‵ (froom (tyRef erased mut (tyArray (tyInt w32) 128)) (past .27) 0)
-              ∷ ‵ (froom (tyRef erased imm (tyArray (tyInt w32) 32)) (past .26) 0) ∷ ‵ (froom tyUnit (past .25) 0)
-              ∷ ‵ (froom (tyArray (tyInt w32) 128) (past .24) 0)
-              ∷ ‵ (fat fullShare (tyRef erased mut (tyArray (tyInt w8) 256)) (past .23) 0 ((vptr (past .11) 0)))
-              ∷ ‵ (fat fullShare (tyRef erased mut (tyArray (tyInt w8) 256)) (past .22) 0 ((vptr (past .10) 0)))
-              ∷ ‵ (fat fullShare (tyArray (tyInt w8) 256) (past .21) 0 ((past .36))) ∷ ‵ (froom time-laws.mir (past .20) 0)
-              ∷ ‵ (froom (tyInt w64) (past .19) 0) ∷ ‵ (froom (tyArray (tyInt w32) 128) (past .18) 0) ∷ ‵ (froom (tyInt w64) (past .17) 0)
-              ∷ ‵ (froom clock-laws.mir (past .16) 0) ∷ ‵ (froom arrival-laws.mir (past .15) 0) ∷ ‵ (froom flight-laws.mir (past .14) 0)
-              ∷ ‵ (froom settings-laws.mir (past .13) 0) ∷ ‵ (fat fullShare tyBool (past .12) 0 ((past .38)))
-              ∷ ‵ (fat fullShare (tyRef (named 5) mut (tyInt w32)) (past .9) 0 (s₆)) ∷ ‵ (fat fullShare (tyInt w32) (past .8) 0 (v₅))
-              ∷ ‵ (fat fullShare (sliceTy (tyRef (named 4) imm (tyInt w32))) (past .7) 0 (s₄))
-              ∷ ‵ (fat fullShare (sliceTy (tyRef (named 3) imm (pointee (R .written)))) (past .6) 0 (s₃))
-              ∷ ‵ (fat fullShare (sliceTy (tyRef (named 2) imm (tyInt w8))) (past .5) 0 (s₂))
-              ∷ ‵ (fat fullShare (sliceTy (tyRef (named 1) imm (tyInt w8))) (past .4) 0 (s₁))
-              ∷ ‵ (fat fullShare (tyRef (named 0) imm (pointee (L .written))) (past .3) 0 (vptr b o)) ∷ ‵ (froom (tyInt w32) (past .2) 0)
-              ∷ []) ∵ exec ! C Λ (En (past .2) (past .3) (past .4) (past .5) (past .6) (past .7) (past .8) (past .9) (past .10) (past .11)
-              (past .12) (past .13) (past .14) (past .15) (past .16) (past .17) (past .18) (past .19) (past .20) (past .21) (past .22)
-              (past .23) (past .24) (past .25) (past .26) (past .27) (past .28) (past .29) (past .30) (past .31) (past .32) (past .33)
-              (past .34) (past .35)) (behind 7 (code.function .body))
-              (atRet (En (past .2) (past .3) (past .4) (past .5) (past .6) (past .7) (past .8) (past .9) (past .10) (past .11) (past .12)
-              (past .13) (past .14) (past .15) (past .16) (past .17) (past .18) (past .19) (past .20) (past .21) (past .22) (past .23)
-              (past .24) (past .25) (past .26) (past .27) (past .28) (past .29) (past .30) (past .31) (past .32) (past .33) (past .34)
-              (past .35)) Post) $
+          ∷ ‵ (fat fullShare (tyArray (tyInt w8) 256) (past .10) 0 ((only ((array-vals (uint-vals w8)) (past .1))))) ∷ ‵ (flft κ₀ q₀)
+          ∷ ‵ (link-shr κ₀ b o γ h) ∷ (‵ (fdies (tyInt w32) (past .2)) ⊛ ‵
+          (fdies (tyRef (named 0) imm (pointee (L .written))) (past .3)) ⊛ ‵
+          (fdies (sliceTy (tyRef (named 1) imm (tyInt w8))) (past .4)) ⊛ ‵ (fdies (sliceTy (tyRef (named 2) imm (tyInt w8))) (past .5))
+          ⊛ ‵ (fdies (sliceTy (tyRef (named 3) imm (pointee (R .written)))) (past .6)) ⊛ ‵
+          (fdies (sliceTy (tyRef (named 4) imm (tyInt w32))) (past .7)) ⊛ ‵ (fdies (tyInt w32) (past .8)) ⊛ ‵
+          (fdies (tyRef (named 5) mut (tyInt w32)) (past .9)) ⊛ ‵ (fdies (tyArray (tyInt w8) 256) (past .10)) ⊛ ‵
+          (fdies (tyArray (tyInt w8) 256) (past .11)) ⊛ ‵ (fdies tyBool (past .12)) ⊛ ‵ (fdies settings-laws.mir (past .13)) ⊛ ‵
+          (fdies flight-laws.mir (past .14)) ⊛ ‵ (fdies arrival-laws.mir (past .15)) ⊛ ‵ (fdies clock-laws.mir (past .16)) ⊛ ‵
+          (fdies (tyInt w64) (past .17)) ⊛ ‵ (fdies (tyArray (tyInt w32) 128) (past .18)) ⊛ ‵ (fdies (tyInt w64) (past .19)) ⊛ ‵
+          (fdies time-laws.mir (past .20)) ⊛ ‵ (fdies (tyArray (tyInt w8) 256) (past .21)) ⊛ ‵
+          (fdies (tyRef erased mut (tyArray (tyInt w8) 256)) (past .22)) ⊛ ‵
+          (fdies (tyRef erased mut (tyArray (tyInt w8) 256)) (past .23)) ⊛ ‵ (fdies (tyArray (tyInt w32) 128) (past .24)) ⊛ ‵
+          (fdies tyUnit (past .25)) ⊛ ‵ (fdies (tyRef erased imm (tyArray (tyInt w32) 32)) (past .26)) ⊛ ‵
+          (fdies (tyRef erased mut (tyArray (tyInt w32) 128)) (past .27)) ⊛ ‵
+          (fdies (tyRef erased imm (tyArray (tyInt w32) 128)) (past .28)) ⊛ ‵
+          (fdies (tyRef erased imm (tyArray (tyInt w32) 128)) (past .29)) ⊛ ‵
+          (fdies (tyRef erased imm (tyArray (tyInt w32) 32)) (past .30)) ⊛ ‵
+          (fdies (tyRef erased imm (tyArray (tyInt w8) 32)) (past .31)) ⊛ ‵
+          (fdies (tyRef erased imm (tyArray (tyInt w32) 128)) (past .32)) ⊛ ‵
+          (fdies (tyRef erased imm (tyArray (tyInt w32) 128)) (past .33)) ⊛ ‵
+          (fdies (tyRef erased imm (tyArray (tyInt w32) 128)) (past .34)) ⊛ ‵ (fdies (tyRef erased mut (tyInt w32)) (past .35)))
+          ∷ ‵ (flft κ₁ q₁) ∷ ‵ (flft κ₂ q₂) ∷ ‵ (flft κ₃ q₃) ∷ ‵ (flft κ₄ q₄) ∷ ‵ (flft κ₅ q₅) ∷ ‵ Own₁
+          ∷ ‵ Own₂ ∷ ‵ Own₃ ∷ ‵ Own₄ ∷ ‵ Own₆ ∷ ‵ (froom (tyRef erased mut (tyInt w32)) (past .35) 0)
+          ∷ ‵ (froom (tyRef erased imm (tyArray (tyInt w32) 128)) (past .34) 0)
+          ∷ ‵ (froom (tyRef erased imm (tyArray (tyInt w32) 128)) (past .33) 0)
+          ∷ ‵ (froom (tyRef erased imm (tyArray (tyInt w32) 128)) (past .32) 0)
+          ∷ ‵ (froom (tyRef erased imm (tyArray (tyInt w8) 32)) (past .31) 0)
+          ∷ ‵ (froom (tyRef erased imm (tyArray (tyInt w32) 32)) (past .30) 0)
+          ∷ ‵ (froom (tyRef erased imm (tyArray (tyInt w32) 128)) (past .29) 0)
+          ∷ ‵ (froom (tyRef erased imm (tyArray (tyInt w32) 128)) (past .28) 0)
+          ∷ ‵ (froom (tyRef erased mut (tyArray (tyInt w32) 128)) (past .27) 0)
+          ∷ ‵ (froom (tyRef erased imm (tyArray (tyInt w32) 32)) (past .26) 0) ∷ ‵ (froom tyUnit (past .25) 0)
+          ∷ ‵ (froom (tyArray (tyInt w32) 128) (past .24) 0)
+          ∷ ‵ (fat fullShare (tyRef erased mut (tyArray (tyInt w8) 256)) (past .23) 0 ((vptr (past .11) 0)))
+          ∷ ‵ (fat fullShare (tyRef erased mut (tyArray (tyInt w8) 256)) (past .22) 0 ((vptr (past .10) 0)))
+          ∷ ‵ (fat fullShare (tyArray (tyInt w8) 256) (past .21) 0 ((past .36))) ∷ ‵ (froom time-laws.mir (past .20) 0)
+          ∷ ‵ (froom (tyInt w64) (past .19) 0) ∷ ‵ (froom (tyArray (tyInt w32) 128) (past .18) 0) ∷ ‵ (froom (tyInt w64) (past .17) 0)
+          ∷ ‵ (froom clock-laws.mir (past .16) 0) ∷ ‵ (froom arrival-laws.mir (past .15) 0) ∷ ‵ (froom flight-laws.mir (past .14) 0)
+          ∷ ‵ (froom settings-laws.mir (past .13) 0) ∷ ‵ (fat fullShare tyBool (past .12) 0 ((past .38)))
+          ∷ ‵ (fat fullShare (tyRef (named 5) mut (tyInt w32)) (past .9) 0 (s₆)) ∷ ‵ (fat fullShare (tyInt w32) (past .8) 0 (v₅))
+          ∷ ‵ (fat fullShare (sliceTy (tyRef (named 4) imm (tyInt w32))) (past .7) 0 (s₄))
+          ∷ ‵ (fat fullShare (sliceTy (tyRef (named 3) imm (pointee (R .written)))) (past .6) 0 (s₃))
+          ∷ ‵ (fat fullShare (sliceTy (tyRef (named 2) imm (tyInt w8))) (past .5) 0 (s₂))
+          ∷ ‵ (fat fullShare (sliceTy (tyRef (named 1) imm (tyInt w8))) (past .4) 0 (s₁))
+          ∷ ‵ (fat fullShare (tyRef (named 0) imm (pointee (L .written))) (past .3) 0 (vptr b o)) ∷ ‵ (froom (tyInt w32) (past .2) 0)
+          ∷ []) ∵ exec ! C Λ (En (past .2) (past .3) (past .4) (past .5) (past .6) (past .7) (past .8) (past .9) (past .10) (past .11)
+          (past .12) (past .13) (past .14) (past .15) (past .16) (past .17) (past .18) (past .19) (past .20) (past .21) (past .22)
+          (past .23) (past .24) (past .25) (past .26) (past .27) (past .28) (past .29) (past .30) (past .31) (past .32) (past .33)
+          (past .34) (past .35)) (behind 7 (code.function .body))
+          (atRet (En (past .2) (past .3) (past .4) (past .5) (past .6) (past .7) (past .8) (past .9) (past .10) (past .11) (past .12)
+          (past .13) (past .14) (past .15) (past .16) (past .17) (past .18) (past .19) (past .20) (past .21) (past .22) (past .23)
+          (past .24) (past .25) (past .26) (past .27) (past .28) (past .29) (past .30) (past .31) (past .32) (past .33) (past .34)
+          (past .35)) Post) $
           move ! (3 ∷ 2 ∷ []) $ looks-link b o γ ! tt h (λ q′.
           -- [F:settings; F:flight; F:arrival; F:clock; F:queued; F:outstanding; F:transmissions; F:ready; F:waiting; F:«waiting_numbers»;
           -- back; opened; deaths; tok1; tok2; tok3; tok4; tok6; own1; own2; own3; own4; own6; the locals]
           move ! (4 ∷ []) $ tells-length ! q′ u32 128 (h .queued) b (o + 124)
-              (λ len-queued. move ! (5 ∷ []) $
-              tells-length ! q′ u32 32 (h .outstanding) b (o + 636)
-              (λ len-outstanding. move ! (6 ∷ []) $
-              tells-length ! q′ u8 32 (h .transmissions) b (o + 764)
-              (λ len-transmissions. move ! (7 ∷ []) $
-              tells-length ! q′ u32 128 (h .ready) b (o + 796)
-              (λ len-ready. move ! (8 ∷ []) $
-              tells-length ! q′ u32 128 (h .waiting) b (o + 1308)
-              (λ len-waiting. move ! (9 ∷ []) $
-              tells-length ! q′ u32 128 (h .«waiting_numbers») b (o + 1820)
-              (λ len-waiting-numbers. move ! (6 ∷ []) $
-              cell-out ! q′ settings-row.the-row (LL.vals settings-row.the-type settings-laws.the-laws)
-              (LL.tells settings-row.the-type settings-laws.the-laws) (h .settings) b (o + 0) (λ was-settings.
+          (λ len-queued. move ! (5 ∷ []) $
+          tells-length ! q′ u32 32 (h .outstanding) b (o + 636)
+          (λ len-outstanding. move ! (6 ∷ []) $
+          tells-length ! q′ u8 32 (h .transmissions) b (o + 764)
+          (λ len-transmissions. move ! (7 ∷ []) $
+          tells-length ! q′ u32 128 (h .ready) b (o + 796)
+          (λ len-ready. move ! (8 ∷ []) $
+          tells-length ! q′ u32 128 (h .waiting) b (o + 1308)
+          (λ len-waiting. move ! (9 ∷ []) $
+          tells-length ! q′ u32 128 (h .«waiting_numbers») b (o + 1820)
+          (λ len-waiting-numbers. move ! (6 ∷ []) $
+          cell-out ! q′ settings-row.the-row (LL.vals settings-row.the-type settings-laws.the-laws)
+          (LL.tells settings-row.the-type settings-laws.the-laws) (h .settings) b (o + 0) (λ was-settings.
           assigns ! {v = (only ((LL.vals settings-row.the-type settings-laws.the-laws) (h .settings)))}
-              (of-opd ! (load ! (from ! (hop ! (look ! 55 refl) (fld ! {d = 0} refl (stop !)))) (look-raw ! 0 refl))) (from ! (stop !))
-              (init ! 47 refl (LL.lawful settings-row.the-type settings-laws.the-laws 𝓤 H A W .typed (h .settings)
-              ((only ((LL.vals settings-row.the-type settings-laws.the-laws) (h .settings))) ∷ []) was-settings .0)) $
+          (of-opd ! (load ! (from ! (hop ! (look ! 55 refl) (fld ! {d = 0} refl (stop !)))) (look-raw ! 0 refl))) (from ! (stop !))
+          (init ! 47 refl (LL.lawful settings-row.the-type settings-laws.the-laws 𝓤 H A W .typed (h .settings)
+          ((only ((LL.vals settings-row.the-type settings-laws.the-laws) (h .settings))) ∷ []) was-settings .0)) $
           cell-in ! q′ settings-row.the-row (LL.makes settings-row.the-type settings-laws.the-plain 𝓤 H A) (h .settings) b (o + 0)
-              (only ((LL.vals settings-row.the-type settings-laws.the-laws) (h .settings))) was-settings $ move ! (7 ∷ []) $
-              cell-out ! q′ flight-row.the-row (LL.vals flight-row.the-type flight-laws.the-laws)
-              (LL.tells flight-row.the-type flight-laws.the-laws) (h .flight) b (o + 16) (λ was-flight.
+          (only ((LL.vals settings-row.the-type settings-laws.the-laws) (h .settings))) was-settings $ move ! (7 ∷ []) $
+          cell-out ! q′ flight-row.the-row (LL.vals flight-row.the-type flight-laws.the-laws)
+          (LL.tells flight-row.the-type flight-laws.the-laws) (h .flight) b (o + 16) (λ was-flight.
           assigns ! {v = (only ((LL.vals flight-row.the-type flight-laws.the-laws) (h .flight)))}
-              (of-opd ! (load ! (from ! (hop ! (look ! 55 refl) (fld ! {d = 16} refl (stop !)))) (look-raw ! 0 refl))) (from ! (stop !))
-              (init ! 46 refl (LL.lawful flight-row.the-type flight-laws.the-laws 𝓤 H A W .typed (h .flight)
-              ((only ((LL.vals flight-row.the-type flight-laws.the-laws) (h .flight))) ∷ []) was-flight .0)) $
+          (of-opd ! (load ! (from ! (hop ! (look ! 55 refl) (fld ! {d = 16} refl (stop !)))) (look-raw ! 0 refl))) (from ! (stop !))
+          (init ! 46 refl (LL.lawful flight-row.the-type flight-laws.the-laws 𝓤 H A W .typed (h .flight)
+          ((only ((LL.vals flight-row.the-type flight-laws.the-laws) (h .flight))) ∷ []) was-flight .0)) $
           cell-in ! q′ flight-row.the-row (LL.makes flight-row.the-type flight-laws.the-plain 𝓤 H A) (h .flight) b (o + 16)
-              (only ((LL.vals flight-row.the-type flight-laws.the-laws) (h .flight))) was-flight $ move ! (8 ∷ []) $
-              cell-out ! q′ arrival-row.the-row (LL.vals arrival-row.the-type arrival-laws.the-laws)
-              (LL.tells arrival-row.the-type arrival-laws.the-laws) (h .arrival) b (o + 72) (λ was-arrival.
+          (only ((LL.vals flight-row.the-type flight-laws.the-laws) (h .flight))) was-flight $ move ! (8 ∷ []) $
+          cell-out ! q′ arrival-row.the-row (LL.vals arrival-row.the-type arrival-laws.the-laws)
+          (LL.tells arrival-row.the-type arrival-laws.the-laws) (h .arrival) b (o + 72) (λ was-arrival.
           assigns ! {v = (only ((LL.vals arrival-row.the-type arrival-laws.the-laws) (h .arrival)))}
-              (of-opd ! (load ! (from ! (hop ! (look ! 55 refl) (fld ! {d = 72} refl (stop !)))) (look-raw ! 0 refl))) (from ! (stop !))
-              (init ! 45 refl (LL.lawful arrival-row.the-type arrival-laws.the-laws 𝓤 H A W .typed (h .arrival)
-              ((only ((LL.vals arrival-row.the-type arrival-laws.the-laws) (h .arrival))) ∷ []) was-arrival .0)) $
+          (of-opd ! (load ! (from ! (hop ! (look ! 55 refl) (fld ! {d = 72} refl (stop !)))) (look-raw ! 0 refl))) (from ! (stop !))
+          (init ! 45 refl (LL.lawful arrival-row.the-type arrival-laws.the-laws 𝓤 H A W .typed (h .arrival)
+          ((only ((LL.vals arrival-row.the-type arrival-laws.the-laws) (h .arrival))) ∷ []) was-arrival .0)) $
           cell-in ! q′ arrival-row.the-row (LL.makes arrival-row.the-type arrival-laws.the-plain 𝓤 H A) (h .arrival) b (o + 72)
-              (only ((LL.vals arrival-row.the-type arrival-laws.the-laws) (h .arrival))) was-arrival $ move ! (9 ∷ []) $
-              cell-out ! q′ clock-row.the-row (LL.vals clock-row.the-type clock-laws.the-laws)
-              (LL.tells clock-row.the-type clock-laws.the-laws) (h .clock) b (o + 104) (λ was-clock.
+          (only ((LL.vals arrival-row.the-type arrival-laws.the-laws) (h .arrival))) was-arrival $ move ! (9 ∷ []) $
+          cell-out ! q′ clock-row.the-row (LL.vals clock-row.the-type clock-laws.the-laws)
+          (LL.tells clock-row.the-type clock-laws.the-laws) (h .clock) b (o + 104) (λ was-clock.
           assigns ! {v = (only ((LL.vals clock-row.the-type clock-laws.the-laws) (h .clock)))}
-              (of-opd ! (load ! (from ! (hop ! (look ! 55 refl) (fld ! {d = 104} refl (stop !)))) (look-raw ! 0 refl))) (from ! (stop !))
-              (init ! 44 refl (LL.lawful clock-row.the-type clock-laws.the-laws 𝓤 H A W .typed (h .clock)
-              ((only ((LL.vals clock-row.the-type clock-laws.the-laws) (h .clock))) ∷ []) was-clock .0)) $
+          (of-opd ! (load ! (from ! (hop ! (look ! 55 refl) (fld ! {d = 104} refl (stop !)))) (look-raw ! 0 refl))) (from ! (stop !))
+          (init ! 44 refl (LL.lawful clock-row.the-type clock-laws.the-laws 𝓤 H A W .typed (h .clock)
+          ((only ((LL.vals clock-row.the-type clock-laws.the-laws) (h .clock))) ∷ []) was-clock .0)) $
           cell-in ! q′ clock-row.the-row (LL.makes clock-row.the-type clock-laws.the-plain 𝓤 H A) (h .clock) b (o + 104)
-              (only ((LL.vals clock-row.the-type clock-laws.the-laws) (h .clock))) was-clock $ nothing ! $
-              calls-fn ! fm count-of.ended (count-of.clauses 𝓤 H A at-mem run) (known .2)
-              ((tt, tt, tt, ((h .flight), tt), ((only ((LL.vals flight-row.the-type flight-laws.the-laws) (h .flight))) ∷ [], tt)), tt)
-              (λ n _. n ≡ h .flight .outstanding)
+          (only ((LL.vals clock-row.the-type clock-laws.the-laws) (h .clock))) was-clock $ nothing ! $
+          calls-fn ! fm count-of.ended (count-of.clauses 𝓤 H A at-mem run) (known .2)
+          ((tt, tt, tt, ((h .flight), tt), ((only ((LL.vals flight-row.the-type flight-laws.the-laws) (h .flight))) ∷ [], tt)), tt)
+          (λ n _. n ≡ h .flight .outstanding)
           (‵ ftrue) (plainly 𝓤 H A W (flight-row.the-row ∷ []) ((LL.makes flight-row.the-type flight-laws.the-plain 𝓤 H A), tt)
           ((h .flight), tt) ((only ((LL.vals flight-row.the-type flight-laws.the-laws) (h .flight))) ∷ [], tt) (was-flight, tt))
           (λ n _. id⊢ 𝓤 _)
           (and-then ! (load ! (from ! (stop !)) (look ! 47 refl)) (no-more !))
           (λ n w-n _ e-n is-n. drop ! $ drop ! $ land ! (from ! (stop !)) (init ! 43 refl (uint-lawful 𝓤 H A W w64 .typed n _ is-n .0)) $
           nothing ! $ calls-fn ! fm none-of.ended (none-of.clauses 𝓤 H A at-mem run) (known .3) ((tt, tt, tt, tt, tt), tt)
-              (λ found _. found ≡ replicate 128 0)
+          (λ found _. found ≡ replicate 128 0)
           (‵ ftrue) (plainly 𝓤 H A W ([]) tt tt tt tt) (λ found _. id⊢ 𝓤 _)
           (no-more !) (λ found w-found _ e-found is-found. drop ! $ drop ! $
           land ! (from ! (stop !)) (init ! 36 refl (array-typed u32 (uint-lawful 𝓤 H A W w32 .typed) 128 found (w-found ∷ []) is-found
           .0)) $
           assigns ! {v = w-found} (of-opd ! (load ! (from ! (stop !)) (look ! 36 refl))) (from ! (stop !))
-              (init ! 42 refl (array-typed u32 (uint-lawful 𝓤 H A W w32 .typed) 128 found (w-found ∷ []) is-found .0)) $
+          (init ! 42 refl (array-typed u32 (uint-lawful 𝓤 H A W w32 .typed) 128 found (w-found ∷ []) is-found .0)) $
           assigns ! {v = (vptr b (o + 636))} (addr ! (from ! (hop ! (look ! 55 refl) (fld ! {d = 636} refl (stop !))))) (from ! (stop !))
-              (init ! 34 refl (tt, tt)) $
+          (init ! 34 refl (tt, tt)) $
           assigns ! {v = (vptr (past .18) 0)} (addr ! (from ! (stop !))) (from ! (stop !)) (init ! 33 refl (tt, tt)) $
           move ! (8 ∷ []) $ lend-shr ! tt q′ (Array u32 32) (h .outstanding) b (o + 636)
-              (λ α-outstanding δ-outstanding. move ! (44 ∷ []) $
-              use1 W (‵ (cellAt fullShare ((tyArray (tyInt w32) 128) ∷ []) (w-found ∷ []) (past .18) 0))
-              (W .laws .at-raw fullShare (tyArray (tyInt w32) 128) (past .18) 0 w-found) $
-              cell-in ! fullShare (Array u32 128) (array-makes 𝓤 H A W u32 (uint-makes 𝓤 H A W w32) 128) found (past .18) 0 w-found
-              is-found $
+          (λ α-outstanding δ-outstanding. move ! (44 ∷ []) $
+          use1 W (‵ (cellAt fullShare ((tyArray (tyInt w32) 128) ∷ []) (w-found ∷ []) (past .18) 0))
+          (W .laws .at-raw fullShare (tyArray (tyInt w32) 128) (past .18) 0 w-found) $
+          cell-in ! fullShare (Array u32 128) (array-makes 𝓤 H A W u32 (uint-makes 𝓤 H A W w32) 128) found (past .18) 0 w-found
+          is-found $
           lend-mut ! tt (Array u32 128) found (past .18) 0
-              (λ α-found δ-found. move ! (27 ∷ []) $
-              use1 W (‵ Own₃ ⊛ ‵ Own₃) (shr-slice-copy 𝓤 H A W (named 0) κ₃ R .twice x₃ (s₃ ∷ [])) $ split ! $
-              move ! (24 ∷ 0 ∷ 5 ∷ 6 ∷ 2 ∷ 3 ∷ []) $ group ! 6 $
-              calls-fn ! fm gather.ended (gather.clauses 𝓤 H A at-mem run) (known .4)
-              (to-gather α-outstanding δ-outstanding (h .outstanding) (past .18) α-found δ-found found n w-n)
-              (λ g ws-g. (length (ws-g .1 .1 .1 .0) ≡ 128) ×
-              (recordsIn (ws-g .1 .1 .1 .0) ≡ padded (gathered (take sendSlots (x₃ .now)) (slotsIn (h .outstanding) n))))
-              (‵ (flft κ₃ q₃) ⊛ ‵ Own₃ ⊛ ‵ (flft (α-outstanding ∷ []) fullShare) ⊛ ‵
-              (ShrRef (named 0) (α-outstanding ∷ []) (Array u32 32) .own (ref-at b (o + 636) δ-outstanding (h .outstanding))
-              ((vptr b (o + 636)) ∷ [])) ⊛ ‵ (flft (α-found ∷ []) fullShare) ⊛ ‵
-              (MutRef (named 0) (α-found ∷ []) (Array u32 128) .own (ref-at (past .18) 0 δ-found found) ((vptr (past .18) 0) ∷ [])))
+          (λ α-found δ-found. move ! (27 ∷ []) $
+          use1 W (‵ Own₃ ⊛ ‵ Own₃) (shr-slice-copy 𝓤 H A W (named 0) κ₃ R .twice x₃ (s₃ ∷ [])) $ split ! $
+          move ! (24 ∷ 0 ∷ 5 ∷ 6 ∷ 2 ∷ 3 ∷ []) $ group ! 6 $
+          calls-fn ! fm gather.ended (gather.clauses 𝓤 H A at-mem run) (known .4)
+          (to-gather α-outstanding δ-outstanding (h .outstanding) (past .18) α-found δ-found found n w-n)
+          (λ g ws-g. (length (ws-g .1 .1 .1 .0) ≡ 128) ×
+          (recordsIn (ws-g .1 .1 .1 .0) ≡ padded (gathered (take sendSlots (x₃ .now)) (slotsIn (h .outstanding) n))))
+          (‵ (flft κ₃ q₃) ⊛ ‵ Own₃ ⊛ ‵ (flft (α-outstanding ∷ []) fullShare) ⊛ ‵
+          (ShrRef (named 0) (α-outstanding ∷ []) (Array u32 32) .own (ref-at b (o + 636) δ-outstanding (h .outstanding))
+          ((vptr b (o + 636)) ∷ [])) ⊛ ‵ (flft (α-found ∷ []) fullShare) ⊛ ‵
+          (MutRef (named 0) (α-found ∷ []) (Array u32 128) .own (ref-at (past .18) 0 δ-found found) ((vptr (past .18) 0) ∷ [])))
           (asks-gather α-outstanding δ-outstanding (h .outstanding) (past .18) α-found δ-found found n w-n is-n (len-outstanding, e-found))
           (λ g ws-g. id⊢ 𝓤 _)
           (and-then ! (load ! (from ! (stop !)) (look ! 52 refl))
@@ -1178,155 +1331,271 @@ module _ {M : Type 1} (𝓤 : URA M) (H : Heap 𝓤) (A : Atoms 𝓤) (W : Given
           (and-then ! (load ! (from ! (stop !)) (look ! 43 refl)) (and-then ! (load ! (from ! (stop !)) (look ! 34 refl)) (no-more !)))))
           (λ g w-g ws-g e-g is-g. land ! (from ! (stop !)) (init ! 37 refl (nothing-lawful 𝓤 H A W .typed g _ is-g .0)) $
           spread W (‵ (flft κ₃ q₃)) (‵ (flft (α-outstanding ∷ []) fullShare) ∷ ‵ (flft (α-found ∷ []) fullShare) ∷ ‵ ftrue ∷ [])
-              (id⊢ 𝓤 _) $ move ! (4 ∷ []) $ spread W (‵ ftrue)
-              (‵ ftrue ∷ ‵ ftrue ∷ ‵ (fres δ-found ((Array u32 128) .coded .code (ws-g .1 .1 .1 .0))) ∷ ‵ ftrue ∷ []) (id⊢ 𝓤 _) $
-              keep ! (3 ∷ 5 ∷ 6 ∷ 7 ∷ 9 ∷ 10 ∷ 11 ∷ 12 ∷ 13 ∷ 14 ∷ 15 ∷ 16 ∷ 17 ∷ 18 ∷ 19 ∷ 20 ∷ 21 ∷ 22 ∷ 23 ∷ 24 ∷ 25
-              ∷ 26 ∷ 27 ∷ 28 ∷ 29 ∷ 30 ∷ 31 ∷ 32 ∷ 33 ∷ 34 ∷ 35 ∷ 36 ∷ 37 ∷ 38 ∷ 39 ∷ 40 ∷ 41 ∷ 42 ∷ 43 ∷ 44 ∷ 45 ∷ 46
-              ∷ 47 ∷ 48 ∷ 49 ∷ 50 ∷ 51 ∷ 52 ∷ 53 ∷ 54 ∷ 55 ∷ 56 ∷ 57 ∷ 58 ∷ 59 ∷ 60 ∷ 61 ∷ 62 ∷ 63 ∷ 64 ∷ []) $
+          (id⊢ 𝓤 _) $ move ! (4 ∷ []) $ spread W (‵ ftrue)
+          (‵ ftrue ∷ ‵ ftrue ∷ ‵ (fres δ-found ((Array u32 128) .coded .code (ws-g .1 .1 .1 .0))) ∷ ‵ ftrue ∷ []) (id⊢ 𝓤 _) $
+          keep ! (3 ∷ 5 ∷ 6 ∷ 7 ∷ 9 ∷ 10 ∷ 11 ∷ 12 ∷ 13 ∷ 14 ∷ 15 ∷ 16 ∷ 17 ∷ 18 ∷ 19 ∷ 20 ∷ 21 ∷ 22 ∷ 23 ∷ 24 ∷ 25
+          ∷ 26 ∷ 27 ∷ 28 ∷ 29 ∷ 30 ∷ 31 ∷ 32 ∷ 33 ∷ 34 ∷ 35 ∷ 36 ∷ 37 ∷ 38 ∷ 39 ∷ 40 ∷ 41 ∷ 42 ∷ 43 ∷ 44 ∷ 45 ∷ 46
+          ∷ 47 ∷ 48 ∷ 49 ∷ 50 ∷ 51 ∷ 52 ∷ 53 ∷ 54 ∷ 55 ∷ 56 ∷ 57 ∷ 58 ∷ 59 ∷ 60 ∷ 61 ∷ 62 ∷ 63 ∷ 64 ∷ []) $
           -- [fin:@found; tok3; tok:outstanding; tok:@found; own3; lent:@found; lent:outstanding; F:clock; F:arrival; F:flight; F:settings;
           -- F:«waiting_numbers»; F:waiting; F:ready; F:transmissions; F:queued; back; opened; deaths; tok1; tok2; tok4; tok6; own1; own2;
           -- own4; own6; the locals]
           move ! (2 ∷ 6 ∷ []) $ back-shr ! tt q′ (Array u32 32) b (o + 636) (h .outstanding) $ move ! (3 ∷ 5 ∷ 1 ∷ []) $
-              back-mut ! tt (Array u32 128) (past .18) 0 (ws-g .1 .1 .1 .0) $
-              cell-out ! fullShare (Array u32 128) (array-vals (uint-vals w32)) (array-tells u32 (uint-vals w32) (uint-tells w32) 128)
-              (ws-g .1 .1 .1 .0) (past .18) 0 (λ was-found-3. use1 W
-              (‵ (fat fullShare (tyArray (tyInt w32) 128) (past .18) 0 (only ((array-vals (uint-vals w32)) (ws-g .1 .1 .1 .0)))))
-              (W .laws .raw-at fullShare (tyArray (tyInt w32) 128) (past .18) 0 (only ((array-vals (uint-vals w32)) (ws-g .1 .1 .1 .0)))) $
-          move ! (2 ∷ 3 ∷ []) $ join ! $ calls-fn ! fm table-len.ended (table-len.clauses 𝓤 H A at-mem run) (known .5) (to-table-len  )
-              (λ m ws-m. m ≡ length (x₃ .now)) (‵ (flft κ₃ q₃) ⊛ ‵ Own₃)
-          (asks-table-len   ) (λ m ws-m. id⊢ 𝓤 _)
+          back-mut ! tt (Array u32 128) (past .18) 0 (ws-g .1 .1 .1 .0) $
+          cell-out ! fullShare (Array u32 128) (array-vals (uint-vals w32)) (array-tells u32 (uint-vals w32) (uint-tells w32) 128)
+          (ws-g .1 .1 .1 .0) (past .18) 0 (λ was-found-3. use1 W
+          (‵ (fat fullShare (tyArray (tyInt w32) 128) (past .18) 0 (only ((array-vals (uint-vals w32)) (ws-g .1 .1 .1 .0)))))
+          (W .laws .raw-at fullShare (tyArray (tyInt w32) 128) (past .18) 0 (only ((array-vals (uint-vals w32)) (ws-g .1 .1 .1 .0)))) $
+          move ! (2 ∷ 3 ∷ []) $ join ! $ calls-fn ! fm table-len.ended (table-len.clauses 𝓤 H A at-mem run) (known .5) (to-table-len)
+          (λ m ws-m. m ≡ length (x₃ .now)) (‵ (flft κ₃ q₃) ⊛ ‵ Own₃)
+          (asks-table-len) (λ m ws-m. id⊢ 𝓤 _)
           (and-then ! (load ! (from ! (stop !)) (look ! 51 refl)) (no-more !))
           (λ m w-m ws-m e-m is-m. land ! (from ! (stop !)) (init ! 42 refl (uint-lawful 𝓤 H A W w64 .typed m _ is-m .0)) $
           spread W (‵ (flft κ₃ q₃)) (‵ ftrue ∷ []) (id⊢ 𝓤 _) $ move ! (2 ∷ []) $ spread W (‵ ftrue) (‵ ftrue ∷ []) (id⊢ 𝓤 _) $
-              keep ! (2 ∷ 4 ∷ 5 ∷ 6 ∷ 7 ∷ 8 ∷ 9 ∷ 10 ∷ 11 ∷ 12 ∷ 13 ∷ 14 ∷ 15 ∷ 16 ∷ 17 ∷ 18 ∷ 19 ∷ 20 ∷ 21 ∷ 22 ∷ 23
-              ∷ 24 ∷ 25 ∷ 26 ∷ 27 ∷ 28 ∷ 29 ∷ 30 ∷ 31 ∷ 32 ∷ 33 ∷ 34 ∷ 35 ∷ 36 ∷ 37 ∷ 38 ∷ 39 ∷ 40 ∷ 41 ∷ 42 ∷ 43 ∷ 44
-              ∷ 45 ∷ 46 ∷ 47 ∷ 48 ∷ 49 ∷ 50 ∷ 51 ∷ 52 ∷ 53 ∷ 54 ∷ 55 ∷ 56 ∷ 57 ∷ 58 ∷ []) $
+          keep ! (2 ∷ 4 ∷ 5 ∷ 6 ∷ 7 ∷ 8 ∷ 9 ∷ 10 ∷ 11 ∷ 12 ∷ 13 ∷ 14 ∷ 15 ∷ 16 ∷ 17 ∷ 18 ∷ 19 ∷ 20 ∷ 21 ∷ 22 ∷ 23
+          ∷ 24 ∷ 25 ∷ 26 ∷ 27 ∷ 28 ∷ 29 ∷ 30 ∷ 31 ∷ 32 ∷ 33 ∷ 34 ∷ 35 ∷ 36 ∷ 37 ∷ 38 ∷ 39 ∷ 40 ∷ 41 ∷ 42 ∷ 43 ∷ 44
+          ∷ 45 ∷ 46 ∷ 47 ∷ 48 ∷ 49 ∷ 50 ∷ 51 ∷ 52 ∷ 53 ∷ 54 ∷ 55 ∷ 56 ∷ 57 ∷ 58 ∷ []) $
           -- [tok3; F:outstanding; F:clock; F:arrival; F:flight; F:settings; F:«waiting_numbers»; F:waiting; F:ready; F:transmissions;
           -- F:queued; back; opened; deaths; tok1; tok2; tok4; tok6; own1; own2; own4; own6; the locals]
           assigns ! {v = (vptr (past .18) 0)} (addr ! (from ! (stop !))) (from ! (stop !)) (init ! 32 refl (tt, tt)) $
-          by ! (part₂ ((ws-g .1 .1 .1 .0), (past .0), (past .1), (past .2), (past .3), (past .4), (past .5), (past .6), (past .7),
-              (past .8), (past .9), (past .10), (past .11), (past .12), (past .13), (past .14), (past .15), (past .16), (past .17),
-              (past .18), (past .19), (past .20), (past .21), (past .22), (past .23), (past .24), (past .25), (past .26), (past .27),
-              (past .28), (past .29), (past .30), (past .31), (past .32), (past .33), (past .34), (past .35), (past .36), (past .37),
-              (past .38), (past .39), (past .40), q′, len-queued, len-outstanding, len-transmissions, len-ready, len-waiting,
-              len-waiting-numbers, was-settings, was-flight, was-arrival, was-clock, n, w-n, e-n, w-found, w-g, e-g, was-found-3, m, w-m,
-              e-m, is-m))))))))))))))))))))
+          by ! (part₂ (
+            (ws-g .1 .1 .1 .0),
+            (past .0),
+            (past .1),
+            (past .2),
+            (past .3),
+            (past .4),
+            (past .5),
+            (past .6),
+            (past .7),
+            (past .8),
+            (past .9),
+            (past .10),
+            (past .11),
+            (past .12),
+            (past .13),
+            (past .14),
+            (past .15),
+            (past .16),
+            (past .17),
+            (past .18),
+            (past .19),
+            (past .20),
+            (past .21),
+            (past .22),
+            (past .23),
+            (past .24),
+            (past .25),
+            (past .26),
+            (past .27),
+            (past .28),
+            (past .29),
+            (past .30),
+            (past .31),
+            (past .32),
+            (past .33),
+            (past .34),
+            (past .35),
+            (past .36),
+            (past .37),
+            (past .38),
+            (past .39),
+            (past .40),
+            q′,
+            len-queued,
+            len-outstanding,
+            len-transmissions,
+            len-ready,
+            len-waiting,
+            len-waiting-numbers,
+            was-settings,
+            was-flight,
+            was-arrival,
+            was-clock,
+            n,
+            w-n,
+            e-n,
+            w-found,
+            w-g,
+            e-g,
+            was-found-3,
+            m,
+            w-m,
+            e-m,
+            is-m,
+          ))))))))))))))))))))
 
       walk : ent 𝓤 (onEntry 𝓤 H A f.signature (κ₀, (κ₁, (κ₂, (κ₃, (κ₄, (κ₅, tt)))))) (q₀, (q₁, (q₂, (q₃, (q₄, (q₅, tt))))))
           x at) (WpFn 𝓤 H C Λ code.function (vptr b o ∷ s₁ ∷ s₂ ∷ s₃ ∷ s₄ ∷ v₅ ∷ s₆ ∷ []) Post)
       walk =
           qed W ((‵ (flft κ₀ q₀) ⊛ ‵ (flft κ₁ q₁) ⊛ ‵ (flft κ₂ q₂) ⊛ ‵ (flft κ₃ q₃) ⊛ ‵ (flft κ₄ q₄) ⊛ ‵
-              (flft κ₅ q₅) ⊛ ‵ ftrue) ∷ ‵ (owns (ShrRef (named 0) κ₀ L ∷ ShrSlice (named 1) κ₁ u8 ∷ ShrSlice (named 2) κ₂ u8
-              ∷ ShrSlice (named 3) κ₃ R ∷ ShrSlice (named 4) κ₄ u32 ∷ u32 ∷ MutRef (named 5) κ₅ u32 ∷ []) x at) ∷ []) ∵
-              enter ! C Λ code.function (vptr b o ∷ s₁ ∷ s₂ ∷ s₃ ∷ s₄ ∷ v₅ ∷ s₆ ∷ []) _ $
+          (flft κ₅ q₅) ⊛ ‵ ftrue) ∷ ‵ (owns (ShrRef (named 0) κ₀ L ∷ ShrSlice (named 1) κ₁ u8 ∷ ShrSlice (named 2) κ₂ u8
+          ∷ ShrSlice (named 3) κ₃ R ∷ ShrSlice (named 4) κ₄ u32 ∷ u32 ∷ MutRef (named 5) κ₅ u32 ∷ []) x at) ∷ []) ∵
+          enter ! C Λ code.function (vptr b o ∷ s₁ ∷ s₂ ∷ s₃ ∷ s₄ ∷ v₅ ∷ s₆ ∷ []) _ $
           alloc1 ! (λ l₀. alloc1 ! (λ l₁. alloc1 ! (λ l₂.
-              alloc1 ! (λ l₃. alloc1 ! (λ l₄. alloc1 ! (λ l₅.
-              alloc1 ! (λ l₆. alloc1 ! (λ l₇. alloc1 ! (λ l₈.
-              alloc1 ! (λ l₉. alloc1 ! (λ l₁₀. alloc1 ! (λ l₁₁.
-              alloc1 ! (λ l₁₂. alloc1 ! (λ l₁₃. alloc1 ! (λ l₁₄.
-              alloc1 ! (λ l₁₅. alloc1 ! (λ l₁₆. alloc1 ! (λ l₁₇.
-              alloc1 ! (λ l₁₈. alloc1 ! (λ l₁₉. alloc1 ! (λ l₂₀.
-              alloc1 ! (λ l₂₁. alloc1 ! (λ l₂₂. alloc1 ! (λ l₂₃.
-              alloc1 ! (λ l₂₄. alloc1 ! (λ l₂₅. alloc1 ! (λ l₂₆.
-              alloc1 ! (λ l₂₇. alloc1 ! (λ l₂₈. alloc1 ! (λ l₂₉.
-              alloc1 ! (λ l₃₀. alloc1 ! (λ l₃₁. alloc1 ! (λ l₃₂. alloc1 ! (λ l₃₃. alloc0 ! $ params1 ! $
+          alloc1 ! (λ l₃. alloc1 ! (λ l₄. alloc1 ! (λ l₅.
+          alloc1 ! (λ l₆. alloc1 ! (λ l₇. alloc1 ! (λ l₈.
+          alloc1 ! (λ l₉. alloc1 ! (λ l₁₀. alloc1 ! (λ l₁₁.
+          alloc1 ! (λ l₁₂. alloc1 ! (λ l₁₃. alloc1 ! (λ l₁₄.
+          alloc1 ! (λ l₁₅. alloc1 ! (λ l₁₆. alloc1 ! (λ l₁₇.
+          alloc1 ! (λ l₁₈. alloc1 ! (λ l₁₉. alloc1 ! (λ l₂₀.
+          alloc1 ! (λ l₂₁. alloc1 ! (λ l₂₂. alloc1 ! (λ l₂₃.
+          alloc1 ! (λ l₂₄. alloc1 ! (λ l₂₅. alloc1 ! (λ l₂₆.
+          alloc1 ! (λ l₂₇. alloc1 ! (λ l₂₈. alloc1 ! (λ l₂₉.
+          alloc1 ! (λ l₃₀. alloc1 ! (λ l₃₁. alloc1 ! (λ l₃₂. alloc1 ! (λ l₃₃. alloc0 ! $ params1 ! $
           pass1 ! (init ! 64 refl (tt, tt)) $ pass1 ! (init ! 62 refl (tt, (tt, (record { fits = room₁ .0 }, tt)))) $
-              pass1 ! (init ! 60 refl (tt, (tt, (record { fits = room₂ .0 }, tt)))) $
-              pass1 ! (init ! 58 refl (tt, (tt, (record { fits = room₃ .0 }, tt)))) $
-              pass1 ! (init ! 56 refl (tt, (tt, (record { fits = room₄ .0 }, tt)))) $
-              pass1 ! (init ! 54 refl (uint-lawful 𝓤 H A W w32 .typed x₅ _ g₅ .0)) $ pass1 ! (init ! 52 refl (tt, tt)) $ pass0 ! $
+          pass1 ! (init ! 60 refl (tt, (tt, (record { fits = room₂ .0 }, tt)))) $
+          pass1 ! (init ! 58 refl (tt, (tt, (record { fits = room₃ .0 }, tt)))) $
+          pass1 ! (init ! 56 refl (tt, (tt, (record { fits = room₄ .0 }, tt)))) $
+          pass1 ! (init ! 54 refl (uint-lawful 𝓤 H A W w32 .typed x₅ _ g₅ .0)) $ pass1 ! (init ! 52 refl (tt, tt)) $ pass0 ! $
           move ! (69 ∷ []) $ spread W (‵ (ShrRef (named 0) κ₀ L .own (ref-at b o γ h) (vptr b o ∷ [])))
-              (‵ (ShrSlice (named 1) κ₁ u8 .own (x₁) (s₁ ∷ [])) ∷ ‵ (ShrSlice (named 2) κ₂ u8 .own (x₂) (s₂ ∷ []))
-              ∷ ‵ (ShrSlice (named 3) κ₃ R .own (x₃) (s₃ ∷ [])) ∷ ‵ (ShrSlice (named 4) κ₄ u32 .own (x₄) (s₄ ∷ []))
-              ∷ ‵ (u32 .own (x₅) (v₅ ∷ [])) ∷ ‵ (MutRef (named 5) κ₅ u32 .own (x₆) (s₆ ∷ [])) ∷ ‵ ftrue ∷ []) (id⊢ 𝓤 _) $
-              move ! (76 ∷ []) $ spread W (‵ (flft κ₀ q₀))
-              (‵ (flft κ₁ q₁) ∷ ‵ (flft κ₂ q₂) ∷ ‵ (flft κ₃ q₃) ∷ ‵ (flft κ₄ q₄) ∷ ‵ (flft κ₅ q₅) ∷ ‵ ftrue
-              ∷ []) (id⊢ 𝓤 _) $ keep ! (0 ∷ 1 ∷ 2 ∷ 3 ∷ 4 ∷ 5 ∷ 7 ∷ 8 ∷ 9 ∷ 10 ∷ 11 ∷ 13 ∷ 15 ∷ 16 ∷ 17 ∷ 18 ∷ 19 ∷ 20
-              ∷ 21 ∷ 22 ∷ 23 ∷ 24 ∷ 25 ∷ 26 ∷ 27 ∷ 28 ∷ 29 ∷ 30 ∷ 31 ∷ 32 ∷ 33 ∷ 34 ∷ 35 ∷ 36 ∷ 37 ∷ 38 ∷ 39 ∷ 40 ∷ 41
-              ∷ 42 ∷ 43 ∷ 44 ∷ 45 ∷ 46 ∷ 47 ∷ 48 ∷ 49 ∷ 50 ∷ 51 ∷ 52 ∷ 53 ∷ 54 ∷ 55 ∷ 56 ∷ 57 ∷ 58 ∷ 59 ∷ 60 ∷ 61 ∷ 62
-              ∷ 63 ∷ 64 ∷ 65 ∷ 66 ∷ 67 ∷ 68 ∷ 69 ∷ 70 ∷ 71 ∷ 72 ∷ 73 ∷ 74 ∷ 75 ∷ 76 ∷ 77 ∷ 78 ∷ 79 ∷ 80 ∷ 81 ∷ 82
-              ∷ []) $ move ! (79 ∷ 77 ∷ 75 ∷ 73 ∷ 71 ∷ 69 ∷ 67 ∷ 65 ∷ 63 ∷ 61 ∷ 59 ∷ 57 ∷ 55 ∷ 53 ∷ 51 ∷ 49 ∷ 47 ∷ 45 ∷ 43
-              ∷ 41 ∷ 39 ∷ 37 ∷ 35 ∷ 33 ∷ 31 ∷ 29 ∷ 27 ∷ 25 ∷ 23 ∷ 21 ∷ 19 ∷ 17 ∷ 15 ∷ 13 ∷ []) $ group ! 34 $
+          (‵ (ShrSlice (named 1) κ₁ u8 .own (x₁) (s₁ ∷ [])) ∷ ‵ (ShrSlice (named 2) κ₂ u8 .own (x₂) (s₂ ∷ []))
+          ∷ ‵ (ShrSlice (named 3) κ₃ R .own (x₃) (s₃ ∷ [])) ∷ ‵ (ShrSlice (named 4) κ₄ u32 .own (x₄) (s₄ ∷ []))
+          ∷ ‵ (u32 .own (x₅) (v₅ ∷ [])) ∷ ‵ (MutRef (named 5) κ₅ u32 .own (x₆) (s₆ ∷ [])) ∷ ‵ ftrue ∷ []) (id⊢ 𝓤 _) $
+          move ! (76 ∷ []) $ spread W (‵ (flft κ₀ q₀))
+          (‵ (flft κ₁ q₁) ∷ ‵ (flft κ₂ q₂) ∷ ‵ (flft κ₃ q₃) ∷ ‵ (flft κ₄ q₄) ∷ ‵ (flft κ₅ q₅) ∷ ‵ ftrue
+          ∷ []) (id⊢ 𝓤 _) $ keep ! (0 ∷ 1 ∷ 2 ∷ 3 ∷ 4 ∷ 5 ∷ 7 ∷ 8 ∷ 9 ∷ 10 ∷ 11 ∷ 13 ∷ 15 ∷ 16 ∷ 17 ∷ 18 ∷ 19 ∷ 20
+          ∷ 21 ∷ 22 ∷ 23 ∷ 24 ∷ 25 ∷ 26 ∷ 27 ∷ 28 ∷ 29 ∷ 30 ∷ 31 ∷ 32 ∷ 33 ∷ 34 ∷ 35 ∷ 36 ∷ 37 ∷ 38 ∷ 39 ∷ 40 ∷ 41
+          ∷ 42 ∷ 43 ∷ 44 ∷ 45 ∷ 46 ∷ 47 ∷ 48 ∷ 49 ∷ 50 ∷ 51 ∷ 52 ∷ 53 ∷ 54 ∷ 55 ∷ 56 ∷ 57 ∷ 58 ∷ 59 ∷ 60 ∷ 61 ∷ 62
+          ∷ 63 ∷ 64 ∷ 65 ∷ 66 ∷ 67 ∷ 68 ∷ 69 ∷ 70 ∷ 71 ∷ 72 ∷ 73 ∷ 74 ∷ 75 ∷ 76 ∷ 77 ∷ 78 ∷ 79 ∷ 80 ∷ 81 ∷ 82
+          ∷ []) $ move ! (79 ∷ 77 ∷ 75 ∷ 73 ∷ 71 ∷ 69 ∷ 67 ∷ 65 ∷ 63 ∷ 61 ∷ 59 ∷ 57 ∷ 55 ∷ 53 ∷ 51 ∷ 49 ∷ 47 ∷ 45 ∷ 43
+          ∷ 41 ∷ 39 ∷ 37 ∷ 35 ∷ 33 ∷ 31 ∷ 29 ∷ 27 ∷ 25 ∷ 23 ∷ 21 ∷ 19 ∷ 17 ∷ 15 ∷ 13 ∷ []) $ group ! 34 $
           -- [deaths; tok0; tok1; tok2; tok3; tok4; tok6; own0; own1; own2; own3; own4; own6; the locals]
           nothing ! $ calls-fn ! fm marks-of.ended (marks-of.clauses 𝓤 H A at-mem run) (known .0) ((tt, tt, tt, tt, tt), tt)
-              (λ sends _. sends ≡ none)
+          (λ sends _. sends ≡ none)
           (‵ ftrue) (plainly 𝓤 H A W ([]) tt tt tt tt) (λ sends _. id⊢ 𝓤 _)
           (no-more !) (λ sends w-sends _ e-sends is-sends. drop ! $ drop ! $
           land ! (from ! (stop !)) (init ! 27 refl (array-typed u8 (uint-lawful 𝓤 H A W w8 .typed) 256 sends (w-sends ∷ []) is-sends .0)) $
           assigns ! {v = w-sends} (of-opd ! (load ! (from ! (stop !)) (look ! 27 refl))) (from ! (stop !))
-              (init ! 38 refl (array-typed u8 (uint-lawful 𝓤 H A W w8 .typed) 256 sends (w-sends ∷ []) is-sends .0)) $
+          (init ! 38 refl (array-typed u8 (uint-lawful 𝓤 H A W w8 .typed) 256 sends (w-sends ∷ []) is-sends .0)) $
           nothing ! $ calls-fn ! fm marks-of.ended (marks-of.clauses 𝓤 H A at-mem run) (known .0) ((tt, tt, tt, tt, tt), tt)
-              (λ receives _. receives ≡ none)
+          (λ receives _. receives ≡ none)
           (‵ ftrue) (plainly 𝓤 H A W ([]) tt tt tt tt) (λ receives _. id⊢ 𝓤 _)
           (no-more !) (λ receives w-receives _ e-receives is-receives. drop ! $ drop ! $
           land ! (from ! (stop !)) (store ! 27 refl
           (array-typed u8 (uint-lawful 𝓤 H A W w8 .typed) 256 receives (w-receives ∷ []) is-receives .0)) $
           assigns ! {v = w-receives} (of-opd ! (load ! (from ! (stop !)) (look ! 27 refl))) (from ! (stop !))
-              (init ! 37 refl (array-typed u8 (uint-lawful 𝓤 H A W w8 .typed) 256 receives (w-receives ∷ []) is-receives .0)) $
+          (init ! 37 refl (array-typed u8 (uint-lawful 𝓤 H A W w8 .typed) 256 receives (w-receives ∷ []) is-receives .0)) $
           assigns ! {v = (vptr l₈ 0)} (addr ! (from ! (stop !))) (from ! (stop !)) (init ! 26 refl (tt, tt)) $
           assigns ! {v = (vptr l₉ 0)} (addr ! (from ! (stop !))) (from ! (stop !)) (init ! 25 refl (tt, tt)) $
           move ! (38 ∷ []) $ use1 W (‵ (cellAt fullShare ((tyArray (tyInt w8) 256) ∷ []) (w-sends ∷ []) l₈ 0))
-              (W .laws .at-raw fullShare (tyArray (tyInt w8) 256) l₈ 0 w-sends) $
-              cell-in ! fullShare (Array u8 256) (array-makes 𝓤 H A W u8 (uint-makes 𝓤 H A W w8) 256) sends l₈ 0 w-sends is-sends $
+          (W .laws .at-raw fullShare (tyArray (tyInt w8) 256) l₈ 0 w-sends) $
+          cell-in ! fullShare (Array u8 256) (array-makes 𝓤 H A W u8 (uint-makes 𝓤 H A W w8) 256) sends l₈ 0 w-sends is-sends $
           lend-mut ! tt (Array u8 256) sends l₈ 0 (λ α-sends δ-sends. move ! (40 ∷ []) $
-              use1 W (‵ (cellAt fullShare ((tyArray (tyInt w8) 256) ∷ []) (w-receives ∷ []) l₉ 0))
-              (W .laws .at-raw fullShare (tyArray (tyInt w8) 256) l₉ 0 w-receives) $
-              cell-in ! fullShare (Array u8 256) (array-makes 𝓤 H A W u8 (uint-makes 𝓤 H A W w8) 256) receives l₉ 0 w-receives is-receives $
+          use1 W (‵ (cellAt fullShare ((tyArray (tyInt w8) 256) ∷ []) (w-receives ∷ []) l₉ 0))
+          (W .laws .at-raw fullShare (tyArray (tyInt w8) 256) l₉ 0 w-receives) $
+          cell-in ! fullShare (Array u8 256) (array-makes 𝓤 H A W u8 (uint-makes 𝓤 H A W w8) 256) receives l₉ 0 w-receives is-receives $
           lend-mut ! tt (Array u8 256) receives l₉ 0
-              (λ α-receives δ-receives. move ! (13 ∷ []) $
-              use1 W (‵ (link-shr κ₀ b o γ h) ⊛ ‵ (link-shr κ₀ b o γ h))
-              (shr-copy 𝓤 H A W (named 0) κ₀ L .twice (ref-at b o γ h) (vptr b o ∷ [])) $ split ! $ move ! (9 ∷ 0 ∷ 5 ∷ 6 ∷ 2 ∷ 3 ∷ []) $
-              group ! 6 $ calls-fn ! fm check.ended (check.clauses 𝓤 H A at-mem run) (known .1)
-              (to-check l₈ α-sends δ-sends sends l₉ α-receives δ-receives receives ) (λ ok ws-ok. Sound h (ws-ok .1 .0) (ws-ok .1 .1 .0) ok)
-              (‵ (flft κ₀ q₀) ⊛ ‵ (link-shr κ₀ b o γ h) ⊛ ‵ (flft (α-sends ∷ []) fullShare) ⊛ ‵
-              (MutRef (named 0) (α-sends ∷ []) (Array u8 256) .own (ref-at l₈ 0 δ-sends sends) ((vptr l₈ 0) ∷ [])) ⊛ ‵
-              (flft (α-receives ∷ []) fullShare) ⊛ ‵ (MutRef (named 0) (α-receives ∷ []) (Array u8 256) .own
-              (ref-at l₉ 0 δ-receives receives) ((vptr l₉ 0) ∷ [])))
-          (asks-check l₈ α-sends δ-sends sends l₉ α-receives δ-receives receives  (e-sends, e-receives)) (λ ok ws-ok. id⊢ 𝓤 _)
+          (λ α-receives δ-receives. move ! (13 ∷ []) $
+          use1 W (‵ (link-shr κ₀ b o γ h) ⊛ ‵ (link-shr κ₀ b o γ h))
+          (shr-copy 𝓤 H A W (named 0) κ₀ L .twice (ref-at b o γ h) (vptr b o ∷ [])) $ split ! $ move ! (9 ∷ 0 ∷ 5 ∷ 6 ∷ 2 ∷ 3 ∷ []) $
+          group ! 6 $ calls-fn ! fm check.ended (check.clauses 𝓤 H A at-mem run) (known .1)
+          (to-check l₈ α-sends δ-sends sends l₉ α-receives δ-receives receives) (λ ok ws-ok. Sound h (ws-ok .1 .0) (ws-ok .1 .1 .0) ok)
+          (‵ (flft κ₀ q₀) ⊛ ‵ (link-shr κ₀ b o γ h) ⊛ ‵ (flft (α-sends ∷ []) fullShare) ⊛ ‵
+          (MutRef (named 0) (α-sends ∷ []) (Array u8 256) .own (ref-at l₈ 0 δ-sends sends) ((vptr l₈ 0) ∷ [])) ⊛ ‵
+          (flft (α-receives ∷ []) fullShare) ⊛ ‵ (MutRef (named 0) (α-receives ∷ []) (Array u8 256) .own
+          (ref-at l₉ 0 δ-receives receives) ((vptr l₉ 0) ∷ [])))
+          (asks-check l₈ α-sends δ-sends sends l₉ α-receives δ-receives receives (e-sends, e-receives)) (λ ok ws-ok. id⊢ 𝓤 _)
           (and-then ! (load ! (from ! (stop !)) (look ! 45 refl))
           (and-then ! (load ! (from ! (stop !)) (look ! 28 refl)) (and-then ! (load ! (from ! (stop !)) (look ! 27 refl)) (no-more !))))
           (λ ok w-ok ws-ok e-ok is-ok. land ! (from ! (stop !)) (init ! 39 refl (bool-lawful 𝓤 H A W .typed ok _ is-ok .0)) $
           spread W (‵ (flft κ₀ q₀)) (‵ (flft (α-sends ∷ []) fullShare) ∷ ‵ (flft (α-receives ∷ []) fullShare) ∷ ‵ ftrue ∷ [])
-              (id⊢ 𝓤 _) $ move ! (4 ∷ []) $ spread W (‵ ftrue)
-              (‵ (fres δ-sends ((Array u8 256) .coded .code (ws-ok .1 .0)))
-              ∷ ‵ (fres δ-receives ((Array u8 256) .coded .code (ws-ok .1 .1 .0))) ∷ ‵ ftrue ∷ []) (id⊢ 𝓤 _) $
-              keep ! (1 ∷ 2 ∷ 4 ∷ 5 ∷ 6 ∷ 8 ∷ 9 ∷ 10 ∷ 11 ∷ 12 ∷ 13 ∷ 14 ∷ 15 ∷ 16 ∷ 17 ∷ 18 ∷ 19 ∷ 20 ∷ 21 ∷ 22 ∷ 23
-              ∷ 24 ∷ 25 ∷ 26 ∷ 27 ∷ 28 ∷ 29 ∷ 30 ∷ 31 ∷ 32 ∷ 33 ∷ 34 ∷ 35 ∷ 36 ∷ 37 ∷ 38 ∷ 39 ∷ 40 ∷ 41 ∷ 42 ∷ 43 ∷ 44
-              ∷ 45 ∷ 46 ∷ 47 ∷ 48 ∷ 49 ∷ 50 ∷ 51 ∷ 52 ∷ 53 ∷ []) $
+          (id⊢ 𝓤 _) $ move ! (4 ∷ []) $ spread W (‵ ftrue)
+          (‵ (fres δ-sends ((Array u8 256) .coded .code (ws-ok .1 .0)))
+          ∷ ‵ (fres δ-receives ((Array u8 256) .coded .code (ws-ok .1 .1 .0))) ∷ ‵ ftrue ∷ []) (id⊢ 𝓤 _) $
+          keep ! (1 ∷ 2 ∷ 4 ∷ 5 ∷ 6 ∷ 8 ∷ 9 ∷ 10 ∷ 11 ∷ 12 ∷ 13 ∷ 14 ∷ 15 ∷ 16 ∷ 17 ∷ 18 ∷ 19 ∷ 20 ∷ 21 ∷ 22 ∷ 23
+          ∷ 24 ∷ 25 ∷ 26 ∷ 27 ∷ 28 ∷ 29 ∷ 30 ∷ 31 ∷ 32 ∷ 33 ∷ 34 ∷ 35 ∷ 36 ∷ 37 ∷ 38 ∷ 39 ∷ 40 ∷ 41 ∷ 42 ∷ 43 ∷ 44
+          ∷ 45 ∷ 46 ∷ 47 ∷ 48 ∷ 49 ∷ 50 ∷ 51 ∷ 52 ∷ 53 ∷ []) $
           -- [fin:@sends; fin:@receives; tok0; tok:@sends; tok:@receives; own0; lent:@receives; lent:@sends; deaths; tok1; tok2; tok3; tok4;
           -- tok6; own1; own2; own3; own4; own6; the locals]
           move ! (3 ∷ 7 ∷ 0 ∷ []) $ back-mut ! tt (Array u8 256) l₈ 0 (ws-ok .1 .0) $
-              cell-out ! fullShare (Array u8 256) (array-vals (uint-vals w8)) (array-tells u8 (uint-vals w8) (uint-tells w8) 256)
-              (ws-ok .1 .0) l₈ 0 (λ was-sends-1. use1 W
-              (‵ (fat fullShare (tyArray (tyInt w8) 256) l₈ 0 (only ((array-vals (uint-vals w8)) (ws-ok .1 .0)))))
-              (W .laws .raw-at fullShare (tyArray (tyInt w8) 256) l₈ 0 (only ((array-vals (uint-vals w8)) (ws-ok .1 .0)))) $
+          cell-out ! fullShare (Array u8 256) (array-vals (uint-vals w8)) (array-tells u8 (uint-vals w8) (uint-tells w8) 256)
+          (ws-ok .1 .0) l₈ 0 (λ was-sends-1. use1 W
+          (‵ (fat fullShare (tyArray (tyInt w8) 256) l₈ 0 (only ((array-vals (uint-vals w8)) (ws-ok .1 .0)))))
+          (W .laws .raw-at fullShare (tyArray (tyInt w8) 256) l₈ 0 (only ((array-vals (uint-vals w8)) (ws-ok .1 .0)))) $
           move ! (3 ∷ 5 ∷ 1 ∷ []) $ back-mut ! tt (Array u8 256) l₉ 0 (ws-ok .1 .1 .0) $
-              cell-out ! fullShare (Array u8 256) (array-vals (uint-vals w8)) (array-tells u8 (uint-vals w8) (uint-tells w8) 256)
-              (ws-ok .1 .1 .0) l₉ 0 (λ was-receives-2. use1 W
-              (‵ (fat fullShare (tyArray (tyInt w8) 256) l₉ 0 (only ((array-vals (uint-vals w8)) (ws-ok .1 .1 .0)))))
-              (W .laws .raw-at fullShare (tyArray (tyInt w8) 256) l₉ 0 (only ((array-vals (uint-vals w8)) (ws-ok .1 .1 .0)))) $
-          by ! (part₁ ((ws-ok .1 .1 .0), (ws-ok .1 .0), l₀, l₁, l₂, l₃, l₄, l₅, l₆, l₇, l₈, l₉, l₁₀, l₁₁, l₁₂, l₁₃,
-              l₁₄, l₁₅, l₁₆, l₁₇, l₁₈, l₁₉, l₂₀, l₂₁, l₂₂, l₂₃, l₂₄, l₂₅, l₂₆, l₂₇, l₂₈, l₂₉,
-              l₃₀, l₃₁, l₃₂, l₃₃, w-receives, ok, w-ok, e-ok, is-ok)))))))))))))))))))))))))))))))))))))))))))
+          cell-out ! fullShare (Array u8 256) (array-vals (uint-vals w8)) (array-tells u8 (uint-vals w8) (uint-tells w8) 256)
+          (ws-ok .1 .1 .0) l₉ 0 (λ was-receives-2. use1 W
+          (‵ (fat fullShare (tyArray (tyInt w8) 256) l₉ 0 (only ((array-vals (uint-vals w8)) (ws-ok .1 .1 .0)))))
+          (W .laws .raw-at fullShare (tyArray (tyInt w8) 256) l₉ 0 (only ((array-vals (uint-vals w8)) (ws-ok .1 .1 .0)))) $
+          by ! (part₁ (
+            (ws-ok .1 .1 .0),
+            (ws-ok .1 .0),
+            l₀,
+            l₁,
+            l₂,
+            l₃,
+            l₄,
+            l₅,
+            l₆,
+            l₇,
+            l₈,
+            l₉,
+            l₁₀,
+            l₁₁,
+            l₁₂,
+            l₁₃,
+            l₁₄,
+            l₁₅,
+            l₁₆,
+            l₁₇,
+            l₁₈,
+            l₁₉,
+            l₂₀,
+            l₂₁,
+            l₂₂,
+            l₂₃,
+            l₂₄,
+            l₂₅,
+            l₂₆,
+            l₂₇,
+            l₂₈,
+            l₂₉,
+            l₃₀,
+            l₃₁,
+            l₃₂,
+            l₃₃,
+            w-receives,
+            ok,
+            w-ok,
+            e-ok,
+            is-ok,
+          )))))))))))))))))))))))))))))))))))))))))))
 
   f-meets : (𝓣 : Tables 𝓤 H) → Known (𝓣 .C)
       → Meets 𝓤 H A f.signature (WpFn 𝓤 H (𝓣 .C) (𝓣 .Λ) code.function) (f.spec 𝓤 H A at-mem run)
   unfolding Post
-  f-meets 𝓣 known = walk-meets 𝓤 H A f.ended stayed W
-      (goes-dropped 𝓤 H A W 6 (shrRefTo (0 ∷ []) tt (plain (λ _. L))) yes (λ κs x f. refl),
-      (goes-dropped 𝓤 H A W 6 (shrSliceOf (1 ∷ []) tt (plain (λ _. u8))) yes (λ κs x f. refl),
-      (goes-dropped 𝓤 H A W 6 (shrSliceOf (2 ∷ []) tt (plain (λ _. u8))) yes (λ κs x f. refl),
-      (goes-dropped 𝓤 H A W 6 (shrSliceOf (3 ∷ []) tt (plain (λ _. R))) yes (λ κs x f. refl),
-      (goes-dropped 𝓤 H A W 6 (shrSliceOf (4 ∷ []) tt (plain (λ _. u32))) yes (λ κs x f. refl),
-      (goes-dropped 𝓤 H A W 6 (plain (λ _. u32)) yes (λ κs x f. refl), (goes-gave-ref 𝓤 H A W 6 5 tt (plain (λ _. u32)), tt)))))))
+  f-meets 𝓣 known = walk-meets 𝓤 H A f.ended stayed W (
+    goes-dropped 𝓤 H A W 6 (shrRefTo (0 ∷ []) tt (plain (λ _. L))) yes (λ κs x f. refl),
+    (
+      goes-dropped 𝓤 H A W 6 (shrSliceOf (1 ∷ []) tt (plain (λ _. u8))) yes (λ κs x f. refl),
+      (
+        goes-dropped 𝓤 H A W 6 (shrSliceOf (2 ∷ []) tt (plain (λ _. u8))) yes (λ κs x f. refl),
+        (
+          goes-dropped 𝓤 H A W 6 (shrSliceOf (3 ∷ []) tt (plain (λ _. R))) yes (λ κs x f. refl),
+          (
+            goes-dropped 𝓤 H A W 6 (shrSliceOf (4 ∷ []) tt (plain (λ _. u32))) yes (λ κs x f. refl),
+            (goes-dropped 𝓤 H A W 6 (plain (λ _. u32)) yes (λ κs x f. refl), (goes-gave-ref 𝓤 H A W 6 5 tt (plain (λ _. u32)), tt)),
+          ),
+        ),
+      ),
+    ),
+  )
       (f.clauses 𝓤 H A at-mem run) (WpFn 𝓤 H (𝓣 .C) (𝓣 .Λ) code.function) (WpFn-mono 𝓤 H (W .laws) 𝓣 code.function)
       (walked 𝓤 H A f.ended stayed (f.clauses 𝓤 H A at-mem run) (WpFn 𝓤 H (𝓣 .C) (𝓣 .Λ) code.function)
       (λ κs. (ptr-vals, (slice-vals, (slice-vals, (slice-vals, (slice-vals, ((uint-vals w32), (ptr-vals, tt))))))))
-      (λ κs. (shr-tells (named 0) (κs .0) L,
-      (shr-slice-tells (named 1) (κs .1 .0) u8,
-      (shr-slice-tells (named 2) (κs .1 .1 .0) u8,
-      (shr-slice-tells (named 3) (κs .1 .1 .1 .0) R,
-      (shr-slice-tells (named 4) (κs .1 .1 .1 .1 .0) u32, ((uint-tells w32), (mut-tells (named 5) (κs .1 .1 .1 .1 .1 .0) u32, tt))))))))
+      (λ κs. (
+        shr-tells (named 0) (κs .0) L,
+        (
+          shr-slice-tells (named 1) (κs .1 .0) u8,
+          (
+            shr-slice-tells (named 2) (κs .1 .1 .0) u8,
+            (
+              shr-slice-tells (named 3) (κs .1 .1 .1 .0) R,
+              (shr-slice-tells (named 4) (κs .1 .1 .1 .1 .0) u32, ((uint-tells w32), (mut-tells (named 5) (κs .1 .1 .1 .1 .1 .0) u32, tt))),
+            ),
+          ),
+        ),
+      ))
       (λ κs qs bounds a g are. via 𝓤 _ (fst∗ 𝓤 _ (emp 𝓤))
       (walk (κs .0) (κs .1 .0) (κs .1 .1 .0) (κs .1 .1 .1 .0) (κs .1 .1 .1 .1 .0) (κs .1 .1 .1 .1 .1 .0) (qs .0) (qs .1 .0) (qs .1 .1 .0)
       (qs .1 .1 .1 .0) (qs .1 .1 .1 .1 .0) (qs .1 .1 .1 .1 .1 .0) (a .0 .ptr .0) (a .0 .ptr .1) (a .0 .name) (a .0 .now) (a .1 .0)

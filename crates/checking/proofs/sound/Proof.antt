@@ -25,7 +25,8 @@ sending-fits-requires c κs =
     let i = c .before .before in
     let s = i .before .before in
     let whole = s .pre .0 in
-    let n = counted-of (s .args .settings) (s .args .flight) (s .args .arrival) (s .args .clock) (sym (not-false _ (i .if1 .left)) ∙ i .before .numbers-fit .ensures) in
+    let n = counted-of (s .args .settings) (s .args .flight) (s .args .arrival) (s .args .clock)
+    (sym (not-false _ (i .if1 .left)) ∙ i .before .numbers-fit .ensures) in
     (whole .whole-queued, n .queued, whole .whole-outstanding, whole .whole-transmissions, n .outstanding, s .pre .1)
 
 returns-2 : tie.Need-returns-2
@@ -43,7 +44,8 @@ receiving-fits-requires c κs =
     let i = c .before .before .before .before .before in
     let s = i .before .before in
     let whole = s .pre .0 in
-    let n = counted-of (s .args .settings) (s .args .flight) (s .args .arrival) (s .args .clock) (sym (not-false _ (i .if1 .left)) ∙ i .before .numbers-fit .ensures) in
+    let n = counted-of (s .args .settings) (s .args .flight) (s .args .arrival) (s .args .clock)
+    (sym (not-false _ (i .if1 .left)) ∙ i .before .numbers-fit .ensures) in
     (whole .whole-ready, n .ready, whole .whole-waiting, whole .whole-numbers, n .waiting, s .pre .2)
 
 returns-3 : tie.Need-returns-3

@@ -236,8 +236,10 @@ use Rattle.local_calls.proofs.send.Statement as stated
 use Rattle.local_calls.proofs.send.Code as code
 
 abbrev stayed : Stays (f.ended .signature .params) (f.ended .kept)
-stayed = (stay-ref (0 ∷ []) tt (plain (λ _. L)),
-    (gave-slice (1 ∷ []) tt (plain (λ _. u8)), (stay-dropped _ yes, (stay-dropped _ yes, (stay-dropped _ yes, (stay-dropped _ yes, tt))))))
+stayed = (
+  stay-ref (0 ∷ []) tt (plain (λ _. L)),
+  (gave-slice (1 ∷ []) tt (plain (λ _. u8)), (stay-dropped _ yes, (stay-dropped _ yes, (stay-dropped _ yes, (stay-dropped _ yes, tt))))),
+)
 
 module _ {M : Type 1} (𝓤 : URA M) (H : Heap 𝓤) (A : Atoms 𝓤) (W : Given 𝓤 H A) (at-mem : Memory → SProp 𝓤) (run : Routine → Fun 𝓤) where
   -- what is known of the callees
@@ -298,13 +300,19 @@ module _ {M : Type 1} (𝓤 : URA M) (H : Heap 𝓤) (A : Atoms 𝓤) (W : Given
     abbrev to-check : (α-block : ℕ) (δ-block : GName) (f-block : Link) (p-sends : ℕ) (α-sends : ℕ) (δ-sends : GName) (f-sends : (List ℕ))
         (p-receives : ℕ) (α-receives : ℕ) (δ-receives : GName) (f-receives : (List ℕ))
         → tripleOf 𝓤 H A check.signature (check.spec 𝓤 H A at-mem run) .Ghost
-    to-check α-block δ-block f-block p-sends α-sends δ-sends f-sends p-receives α-receives δ-receives f-receives =
-        ((((α-block ∷ []), ((α-sends ∷ []), ((α-receives ∷ []), tt))), (fullShare, (fullShare, (fullShare, tt))), tt,
+    to-check α-block δ-block f-block p-sends α-sends δ-sends f-sends p-receives α-receives δ-receives f-receives = (
+      (
+        ((α-block ∷ []), ((α-sends ∷ []), ((α-receives ∷ []), tt))),
+        (fullShare, (fullShare, (fullShare, tt))),
+        tt,
         ((ref-at b o δ-block f-block), ((ref-at p-sends 0 δ-sends f-sends), ((ref-at p-receives 0 δ-receives f-receives), tt))),
-        ((vptr b o) ∷ [], ((vptr p-sends 0) ∷ [], ((vptr p-receives 0) ∷ [], tt)))), tt)
+        ((vptr b o) ∷ [], ((vptr p-sends 0) ∷ [], ((vptr p-receives 0) ∷ [], tt))),
+      ),
+      tt,
+    )
 
     asks-check : (α-block : ℕ) (δ-block : GName) (f-block : Link) (p-sends : ℕ) (α-sends : ℕ) (δ-sends : GName) (f-sends : (List ℕ))
-        (p-receives : ℕ) (α-receives : ℕ) (δ-receives : GName) (f-receives : (List ℕ)) →  ((f-sends ≡ none) × (f-receives ≡ none))
+        (p-receives : ℕ) (α-receives : ℕ) (δ-receives : GName) (f-receives : (List ℕ)) → ((f-sends ≡ none) × (f-receives ≡ none))
         → ent 𝓤 (⋆ 𝓤 H A (‵ (flft (α-block ∷ []) fullShare)
         ∷ ‵ (ShrRef (named 0) (α-block ∷ []) L .own (ref-at b o δ-block f-block) ((vptr b o) ∷ [])) ∷ ‵ (flft (α-sends ∷ []) fullShare)
         ∷ ‵ (MutRef (named 0) (α-sends ∷ []) (Array u8 256) .own (ref-at p-sends 0 δ-sends f-sends) ((vptr p-sends 0) ∷ []))
@@ -312,23 +320,29 @@ module _ {M : Type 1} (𝓤 : URA M) (H : Heap 𝓤) (A : Atoms 𝓤) (W : Given
         ∷ ‵ (MutRef (named 0) (α-receives ∷ []) (Array u8 256) .own (ref-at p-receives 0 δ-receives f-receives) ((vptr p-receives 0) ∷ []))
         ∷ [])) (tripleOf 𝓤 H A check.signature (check.spec 𝓤 H A at-mem run) .pre
         (to-check α-block δ-block f-block p-sends α-sends δ-sends f-sends p-receives α-receives δ-receives f-receives))
-    asks-check α-block δ-block f-block p-sends α-sends δ-sends f-sends p-receives α-receives δ-receives f-receives  req =
+    asks-check α-block δ-block f-block p-sends α-sends δ-sends f-sends p-receives α-receives δ-receives f-receives req =
         qed W (‵ (flft (α-block ∷ []) fullShare) ∷ ‵ (ShrRef (named 0) (α-block ∷ []) L .own (ref-at b o δ-block f-block) ((vptr b o) ∷ []))
-            ∷ ‵ (flft (α-sends ∷ []) fullShare)
-            ∷ ‵ (MutRef (named 0) (α-sends ∷ []) (Array u8 256) .own (ref-at p-sends 0 δ-sends f-sends) ((vptr p-sends 0) ∷ []))
-            ∷ ‵ (flft (α-receives ∷ []) fullShare)
-            ∷ ‵ (MutRef (named 0) (α-receives ∷ []) (Array u8 256) .own (ref-at p-receives 0 δ-receives f-receives)
-            ((vptr p-receives 0) ∷ [])) ∷ []) ∵ says ! req $ nothing ! $ move ! (5 ∷ 0 ∷ []) $ join ! $ move ! (3 ∷ 0 ∷ []) $ join ! $
-            move ! (1 ∷ 0 ∷ []) $ join ! $ nothing ! $ move ! (4 ∷ 0 ∷ []) $ fjoin ! $ move ! (3 ∷ 0 ∷ []) $ fjoin ! $ move ! (2 ∷ 0 ∷ []) $
-            fjoin ! $ move ! (1 ∷ 0 ∷ []) $ done !
+        ∷ ‵ (flft (α-sends ∷ []) fullShare)
+        ∷ ‵ (MutRef (named 0) (α-sends ∷ []) (Array u8 256) .own (ref-at p-sends 0 δ-sends f-sends) ((vptr p-sends 0) ∷ []))
+        ∷ ‵ (flft (α-receives ∷ []) fullShare)
+        ∷ ‵ (MutRef (named 0) (α-receives ∷ []) (Array u8 256) .own (ref-at p-receives 0 δ-receives f-receives)
+        ((vptr p-receives 0) ∷ [])) ∷ []) ∵ says ! req $ nothing ! $ move ! (5 ∷ 0 ∷ []) $ join ! $ move ! (3 ∷ 0 ∷ []) $ join ! $
+        move ! (1 ∷ 0 ∷ []) $ join ! $ nothing ! $ move ! (4 ∷ 0 ∷ []) $ fjoin ! $ move ! (3 ∷ 0 ∷ []) $ fjoin ! $ move ! (2 ∷ 0 ∷ []) $
+        fjoin ! $ move ! (1 ∷ 0 ∷ []) $ done !
 
     -- what fit is called at, and that what it asks is had
     abbrev to-fit : (α-outstanding : ℕ) (δ-outstanding : GName) (f-outstanding : (List ℕ)) (y₀ : Settings) (u₀ : Val) (y₁ : Flight)
         (u₁ : Val) → tripleOf 𝓤 H A fit.signature (fit.spec 𝓤 H A at-mem run) .Ghost
-    to-fit α-outstanding δ-outstanding f-outstanding y₀ u₀ y₁ u₁ =
-        (((κ₃, ((α-outstanding ∷ []), tt)), (q₃, (fullShare, tt)), tt,
+    to-fit α-outstanding δ-outstanding f-outstanding y₀ u₀ y₁ u₁ = (
+      (
+        (κ₃, ((α-outstanding ∷ []), tt)),
+        (q₃, (fullShare, tt)),
+        tt,
         (x₃, ((ref-at b (o + 636) δ-outstanding f-outstanding), (y₀, (y₁, tt)))),
-        (s₃ ∷ [], ((vptr b (o + 636)) ∷ [], (u₀ ∷ [], (u₁ ∷ [], tt))))), tt)
+        (s₃ ∷ [], ((vptr b (o + 636)) ∷ [], (u₀ ∷ [], (u₁ ∷ [], tt)))),
+      ),
+      tt,
+    )
 
     asks-fit : (α-outstanding : ℕ) (δ-outstanding : GName) (f-outstanding : (List ℕ)) → (y₀ : Settings) (u₀ : Val)
         → Is settings-row.the-row y₀ (u₀ ∷ []) → (y₁ : Flight) (u₁ : Val) → Is flight-row.the-row y₁ (u₁ ∷ [])
@@ -339,22 +353,22 @@ module _ {M : Type 1} (𝓤 : URA M) (H : Heap 𝓤) (A : Atoms 𝓤) (W : Given
         (to-fit α-outstanding δ-outstanding f-outstanding y₀ u₀ y₁ u₁))
     asks-fit α-outstanding δ-outstanding f-outstanding y₀ u₀ is₀ y₁ u₁ is₁ req =
         qed W (‵ (flft κ₃ q₃) ∷ ‵ Own₃ ∷ ‵ (flft (α-outstanding ∷ []) fullShare)
-            ∷ ‵ (ShrRef (named 0) (α-outstanding ∷ []) (Array u32 32) .own (ref-at b (o + 636) δ-outstanding f-outstanding)
-            ((vptr b (o + 636)) ∷ [])) ∷ []) ∵ says ! req $ nothing ! $ move ! (3 ∷ 0 ∷ []) $ join ! $ move ! (1 ∷ 0 ∷ []) $ join ! $
-            nothing ! $ owned ! flight-row.the-row (Is flight-row.the-row) (LL.makes flight-row.the-type flight-laws.the-plain 𝓤 H A) y₁ _
-            is₁ $ fjoin ! $ owned ! settings-row.the-row (Is settings-row.the-row)
-            (LL.makes settings-row.the-type settings-laws.the-plain 𝓤 H A) y₀ _ is₀ $ fjoin ! $ move ! (3 ∷ 0 ∷ []) $ fjoin ! $
-            move ! (2 ∷ 0 ∷ []) $ fjoin ! $ move ! (1 ∷ 0 ∷ []) $ done !
+        ∷ ‵ (ShrRef (named 0) (α-outstanding ∷ []) (Array u32 32) .own (ref-at b (o + 636) δ-outstanding f-outstanding)
+        ((vptr b (o + 636)) ∷ [])) ∷ []) ∵ says ! req $ nothing ! $ move ! (3 ∷ 0 ∷ []) $ join ! $ move ! (1 ∷ 0 ∷ []) $ join ! $
+        nothing ! $ owned ! flight-row.the-row (Is flight-row.the-row) (LL.makes flight-row.the-type flight-laws.the-plain 𝓤 H A) y₁ _
+        is₁ $ fjoin ! $ owned ! settings-row.the-row (Is settings-row.the-row)
+        (LL.makes settings-row.the-type settings-laws.the-plain 𝓤 H A) y₀ _ is₀ $ fjoin ! $ move ! (3 ∷ 0 ∷ []) $ fjoin ! $
+        move ! (2 ∷ 0 ∷ []) $ fjoin ! $ move ! (1 ∷ 0 ∷ []) $ done !
 
     -- what table-len is called at, and that what it asks is had
     abbrev to-table-len : tripleOf 𝓤 H A table-len.signature (table-len.spec 𝓤 H A at-mem run) .Ghost
-    to-table-len  = (((κ₃, tt), (q₃, tt), tt, (x₃, tt), (s₃ ∷ [], tt)), tt)
+    to-table-len = (((κ₃, tt), (q₃, tt), tt, (x₃, tt), (s₃ ∷ [], tt)), tt)
 
-    asks-table-len :  ent 𝓤 (⋆ 𝓤 H A (‵ (flft κ₃ q₃) ∷ ‵ Own₃ ∷ []))
-        (tripleOf 𝓤 H A table-len.signature (table-len.spec 𝓤 H A at-mem run) .pre (to-table-len ))
-    asks-table-len    =
+    asks-table-len : ent 𝓤 (⋆ 𝓤 H A (‵ (flft κ₃ q₃) ∷ ‵ Own₃ ∷ []))
+        (tripleOf 𝓤 H A table-len.signature (table-len.spec 𝓤 H A at-mem run) .pre (to-table-len))
+    asks-table-len =
         qed W (‵ (flft κ₃ q₃) ∷ ‵ Own₃ ∷ []) ∵ nothing ! $ move ! (1 ∷ 0 ∷ []) $ join ! $ nothing ! $ move ! (2 ∷ 0 ∷ []) $ fjoin ! $
-            move ! (1 ∷ 0 ∷ []) $ join ! $ nothing ! $ move ! (1 ∷ 0 ∷ []) $ done !
+        move ! (1 ∷ 0 ∷ []) $ join ! $ nothing ! $ move ! (1 ∷ 0 ∷ []) $ done !
 
     -- what core is called at, and that what it asks is had
     abbrev to-core : (α-queued : ℕ) (δ-queued : GName) (f-queued : (List ℕ)) (α-outstanding : ℕ) (δ-outstanding : GName)
@@ -365,24 +379,103 @@ module _ {M : Type 1} (𝓤 : URA M) (H : Heap 𝓤) (A : Atoms 𝓤) (W : Given
         (y₅ : Bool) (u₅ : Val) (y₆ : ℕ) (u₆ : Val) → tripleOf 𝓤 H A core.signature (core.spec 𝓤 H A at-mem run) .Ghost
     to-core α-queued δ-queued f-queued α-outstanding δ-outstanding f-outstanding α-transmissions δ-transmissions f-transmissions α-ready
         δ-ready f-ready α-waiting δ-waiting f-waiting α-waiting-numbers δ-waiting-numbers f-waiting-numbers p-sends α-sends δ-sends f-sends
-        y₀ u₀ y₁ u₁ y₂ u₂ y₃ u₃ y₄ u₄ y₅ u₅ y₆ u₆ =
-        ((((α-queued ∷ []), ((α-outstanding ∷ []),
-        ((α-transmissions ∷ []), ((α-ready ∷ []),
-        ((α-waiting ∷ []), ((α-waiting-numbers ∷ []), ((α-sends ∷ []), (κ₁, (κ₂, (κ₄, (κ₅, tt))))))))))),
-        (fullShare, (fullShare, (fullShare, (fullShare, (fullShare, (fullShare, (fullShare, (q₁, (q₂, (q₄, (q₅, tt))))))))))), tt,
-        (y₀, (y₁, (y₂,
-        (y₃, (y₄, (y₅, (y₆, ((ref-at b (o + 124) δ-queued f-queued),
-        ((ref-at b (o + 636) δ-outstanding f-outstanding),
-        ((ref-at b (o + 764) δ-transmissions f-transmissions),
-        ((ref-at b (o + 796) δ-ready f-ready),
-        ((ref-at b (o + 1308) δ-waiting f-waiting),
-        ((ref-at b (o + 1820) δ-waiting-numbers f-waiting-numbers),
-        ((ref-at p-sends 0 δ-sends f-sends), (x₁, (x₂, (x₄, (x₅, tt)))))))))))))))))),
-        (u₀ ∷ [], (u₁ ∷ [], (u₂ ∷ [], (u₃ ∷ [],
-        (u₄ ∷ [], (u₅ ∷ [], (u₆ ∷ [], ((vptr b (o + 124)) ∷ [],
-        ((vptr b (o + 636)) ∷ [], ((vptr b (o + 764)) ∷ [],
-        ((vptr b (o + 796)) ∷ [], ((vptr b (o + 1308)) ∷ [],
-        ((vptr b (o + 1820)) ∷ [], ((vptr p-sends 0) ∷ [], (s₁ ∷ [], (s₂ ∷ [], (s₄ ∷ [], (s₅ ∷ [], tt))))))))))))))))))), tt)
+        y₀ u₀ y₁ u₁ y₂ u₂ y₃ u₃ y₄ u₄ y₅ u₅ y₆ u₆ = (
+          (
+            (
+              (α-queued ∷ []),
+              (
+                (α-outstanding ∷ []),
+                (
+                  (α-transmissions ∷ []),
+                  (
+                    (α-ready ∷ []),
+                    ((α-waiting ∷ []), ((α-waiting-numbers ∷ []), ((α-sends ∷ []), (κ₁, (κ₂, (κ₄, (κ₅, tt))))))),
+                  ),
+                ),
+              ),
+            ),
+            (fullShare, (fullShare, (fullShare, (fullShare, (fullShare, (fullShare, (fullShare, (q₁, (q₂, (q₄, (q₅, tt))))))))))),
+            tt,
+            (
+              y₀,
+              (
+                y₁,
+                (
+                  y₂,
+                  (
+                    y₃,
+                    (
+                      y₄,
+                      (
+                        y₅,
+                        (
+                          y₆,
+                          (
+                            (ref-at b (o + 124) δ-queued f-queued),
+                            (
+                              (ref-at b (o + 636) δ-outstanding f-outstanding),
+                              (
+                                (ref-at b (o + 764) δ-transmissions f-transmissions),
+                                (
+                                  (ref-at b (o + 796) δ-ready f-ready),
+                                  (
+                                    (ref-at b (o + 1308) δ-waiting f-waiting),
+                                    (
+                                      (ref-at b (o + 1820) δ-waiting-numbers f-waiting-numbers),
+                                      ((ref-at p-sends 0 δ-sends f-sends), (x₁, (x₂, (x₄, (x₅, tt))))),
+                                    ),
+                                  ),
+                                ),
+                              ),
+                            ),
+                          ),
+                        ),
+                      ),
+                    ),
+                  ),
+                ),
+              ),
+            ),
+            (
+              u₀ ∷ [],
+              (
+                u₁ ∷ [],
+                (
+                  u₂ ∷ [],
+                  (
+                    u₃ ∷ [],
+                    (
+                      u₄ ∷ [],
+                      (
+                        u₅ ∷ [],
+                        (
+                          u₆ ∷ [],
+                          (
+                            (vptr b (o + 124)) ∷ [],
+                            (
+                              (vptr b (o + 636)) ∷ [],
+                              (
+                                (vptr b (o + 764)) ∷ [],
+                                (
+                                  (vptr b (o + 796)) ∷ [],
+                                  (
+                                    (vptr b (o + 1308)) ∷ [],
+                                    ((vptr b (o + 1820)) ∷ [], ((vptr p-sends 0) ∷ [], (s₁ ∷ [], (s₂ ∷ [], (s₄ ∷ [], (s₅ ∷ [], tt)))))),
+                                  ),
+                                ),
+                              ),
+                            ),
+                          ),
+                        ),
+                      ),
+                    ),
+                  ),
+                ),
+              ),
+            ),
+          ),
+          tt,
+        )
 
     asks-core : (α-queued : ℕ) (δ-queued : GName) (f-queued : (List ℕ)) (α-outstanding : ℕ) (δ-outstanding : GName)
         (f-outstanding : (List ℕ)) (α-transmissions : ℕ) (δ-transmissions : GName) (f-transmissions : (List ℕ)) (α-ready : ℕ)
@@ -418,34 +511,34 @@ module _ {M : Type 1} (𝓤 : URA M) (H : Heap 𝓤) (A : Atoms 𝓤) (W : Given
         δ-ready f-ready α-waiting δ-waiting f-waiting α-waiting-numbers δ-waiting-numbers f-waiting-numbers p-sends α-sends δ-sends f-sends
         y₀ u₀ is₀ y₁ u₁ is₁ y₂ u₂ is₂ y₃ u₃ is₃ y₄ u₄ is₄ y₅ u₅ is₅ y₆ u₆ is₆ req =
         qed W (‵ (flft (α-queued ∷ []) fullShare)
-            ∷ ‵ (MutRef (named 0) (α-queued ∷ []) (Array u32 128) .own (ref-at b (o + 124) δ-queued f-queued) ((vptr b (o + 124)) ∷ []))
-            ∷ ‵ (flft (α-outstanding ∷ []) fullShare)
-            ∷ ‵ (ShrRef (named 0) (α-outstanding ∷ []) (Array u32 32) .own (ref-at b (o + 636) δ-outstanding f-outstanding)
-            ((vptr b (o + 636)) ∷ [])) ∷ ‵ (flft (α-transmissions ∷ []) fullShare)
-            ∷ ‵ (ShrRef (named 0) (α-transmissions ∷ []) (Array u8 32) .own (ref-at b (o + 764) δ-transmissions f-transmissions)
-            ((vptr b (o + 764)) ∷ [])) ∷ ‵ (flft (α-ready ∷ []) fullShare)
-            ∷ ‵ (ShrRef (named 0) (α-ready ∷ []) (Array u32 128) .own (ref-at b (o + 796) δ-ready f-ready) ((vptr b (o + 796)) ∷ []))
-            ∷ ‵ (flft (α-waiting ∷ []) fullShare)
-            ∷ ‵ (ShrRef (named 0) (α-waiting ∷ []) (Array u32 128) .own (ref-at b (o + 1308) δ-waiting f-waiting)
-            ((vptr b (o + 1308)) ∷ [])) ∷ ‵ (flft (α-waiting-numbers ∷ []) fullShare)
-            ∷ ‵ (ShrRef (named 0) (α-waiting-numbers ∷ []) (Array u32 128) .own (ref-at b (o + 1820) δ-waiting-numbers f-waiting-numbers)
-            ((vptr b (o + 1820)) ∷ [])) ∷ ‵ (flft (α-sends ∷ []) fullShare)
-            ∷ ‵ (ShrRef (named 0) (α-sends ∷ []) (Array u8 256) .own (ref-at p-sends 0 δ-sends f-sends) ((vptr p-sends 0) ∷ []))
-            ∷ ‵ (flft κ₁ q₁) ∷ ‵ Own₁ ∷ ‵ (flft κ₂ q₂) ∷ ‵ Own₂ ∷ ‵ (flft κ₄ q₄) ∷ ‵ Own₄ ∷ ‵ (flft κ₅ q₅)
-            ∷ ‵ Own₅ ∷ []) ∵ says ! req $ nothing ! $ move ! (21 ∷ 0 ∷ []) $ join ! $ move ! (19 ∷ 0 ∷ []) $ join ! $
-            move ! (17 ∷ 0 ∷ []) $ join ! $ move ! (15 ∷ 0 ∷ []) $ join ! $ move ! (13 ∷ 0 ∷ []) $ join ! $ move ! (11 ∷ 0 ∷ []) $ join ! $
-            move ! (9 ∷ 0 ∷ []) $ join ! $ move ! (7 ∷ 0 ∷ []) $ join ! $ move ! (5 ∷ 0 ∷ []) $ join ! $ move ! (3 ∷ 0 ∷ []) $ join ! $
-            move ! (1 ∷ 0 ∷ []) $ join ! $ nothing ! $ move ! (12 ∷ 0 ∷ []) $ fjoin ! $ move ! (11 ∷ 0 ∷ []) $ fjoin ! $
-            move ! (10 ∷ 0 ∷ []) $ fjoin ! $ move ! (9 ∷ 0 ∷ []) $ fjoin ! $ move ! (8 ∷ 0 ∷ []) $ fjoin ! $ move ! (7 ∷ 0 ∷ []) $ fjoin ! $
-            move ! (6 ∷ 0 ∷ []) $ fjoin ! $ move ! (5 ∷ 0 ∷ []) $ fjoin ! $ move ! (4 ∷ 0 ∷ []) $ fjoin ! $ move ! (3 ∷ 0 ∷ []) $ fjoin ! $
-            move ! (2 ∷ 0 ∷ []) $ fjoin ! $ owned ! usize (Is usize) (uint-makes 𝓤 H A W w64) y₆ _ is₆ $ fjoin ! $
-            owned ! Boolean (Is Boolean) (bool-makes 𝓤 H A W) y₅ _ is₅ $ fjoin ! $
-            owned ! Boolean (Is Boolean) (bool-makes 𝓤 H A W) y₄ _ is₄ $ fjoin ! $
-            owned ! clock-row.the-row (Is clock-row.the-row) (LL.makes clock-row.the-type clock-laws.the-plain 𝓤 H A) y₃ _ is₃ $ fjoin ! $
-            owned ! arrival-row.the-row (Is arrival-row.the-row) (LL.makes arrival-row.the-type arrival-laws.the-plain 𝓤 H A) y₂ _ is₂ $
-            fjoin ! $ owned ! flight-row.the-row (Is flight-row.the-row) (LL.makes flight-row.the-type flight-laws.the-plain 𝓤 H A) y₁ _
-            is₁ $ fjoin ! $ owned ! settings-row.the-row (Is settings-row.the-row)
-            (LL.makes settings-row.the-type settings-laws.the-plain 𝓤 H A) y₀ _ is₀ $ fjoin ! $ move ! (1 ∷ 0 ∷ []) $ done !
+        ∷ ‵ (MutRef (named 0) (α-queued ∷ []) (Array u32 128) .own (ref-at b (o + 124) δ-queued f-queued) ((vptr b (o + 124)) ∷ []))
+        ∷ ‵ (flft (α-outstanding ∷ []) fullShare)
+        ∷ ‵ (ShrRef (named 0) (α-outstanding ∷ []) (Array u32 32) .own (ref-at b (o + 636) δ-outstanding f-outstanding)
+        ((vptr b (o + 636)) ∷ [])) ∷ ‵ (flft (α-transmissions ∷ []) fullShare)
+        ∷ ‵ (ShrRef (named 0) (α-transmissions ∷ []) (Array u8 32) .own (ref-at b (o + 764) δ-transmissions f-transmissions)
+        ((vptr b (o + 764)) ∷ [])) ∷ ‵ (flft (α-ready ∷ []) fullShare)
+        ∷ ‵ (ShrRef (named 0) (α-ready ∷ []) (Array u32 128) .own (ref-at b (o + 796) δ-ready f-ready) ((vptr b (o + 796)) ∷ []))
+        ∷ ‵ (flft (α-waiting ∷ []) fullShare)
+        ∷ ‵ (ShrRef (named 0) (α-waiting ∷ []) (Array u32 128) .own (ref-at b (o + 1308) δ-waiting f-waiting)
+        ((vptr b (o + 1308)) ∷ [])) ∷ ‵ (flft (α-waiting-numbers ∷ []) fullShare)
+        ∷ ‵ (ShrRef (named 0) (α-waiting-numbers ∷ []) (Array u32 128) .own (ref-at b (o + 1820) δ-waiting-numbers f-waiting-numbers)
+        ((vptr b (o + 1820)) ∷ [])) ∷ ‵ (flft (α-sends ∷ []) fullShare)
+        ∷ ‵ (ShrRef (named 0) (α-sends ∷ []) (Array u8 256) .own (ref-at p-sends 0 δ-sends f-sends) ((vptr p-sends 0) ∷ []))
+        ∷ ‵ (flft κ₁ q₁) ∷ ‵ Own₁ ∷ ‵ (flft κ₂ q₂) ∷ ‵ Own₂ ∷ ‵ (flft κ₄ q₄) ∷ ‵ Own₄ ∷ ‵ (flft κ₅ q₅)
+        ∷ ‵ Own₅ ∷ []) ∵ says ! req $ nothing ! $ move ! (21 ∷ 0 ∷ []) $ join ! $ move ! (19 ∷ 0 ∷ []) $ join ! $
+        move ! (17 ∷ 0 ∷ []) $ join ! $ move ! (15 ∷ 0 ∷ []) $ join ! $ move ! (13 ∷ 0 ∷ []) $ join ! $ move ! (11 ∷ 0 ∷ []) $ join ! $
+        move ! (9 ∷ 0 ∷ []) $ join ! $ move ! (7 ∷ 0 ∷ []) $ join ! $ move ! (5 ∷ 0 ∷ []) $ join ! $ move ! (3 ∷ 0 ∷ []) $ join ! $
+        move ! (1 ∷ 0 ∷ []) $ join ! $ nothing ! $ move ! (12 ∷ 0 ∷ []) $ fjoin ! $ move ! (11 ∷ 0 ∷ []) $ fjoin ! $
+        move ! (10 ∷ 0 ∷ []) $ fjoin ! $ move ! (9 ∷ 0 ∷ []) $ fjoin ! $ move ! (8 ∷ 0 ∷ []) $ fjoin ! $ move ! (7 ∷ 0 ∷ []) $ fjoin ! $
+        move ! (6 ∷ 0 ∷ []) $ fjoin ! $ move ! (5 ∷ 0 ∷ []) $ fjoin ! $ move ! (4 ∷ 0 ∷ []) $ fjoin ! $ move ! (3 ∷ 0 ∷ []) $ fjoin ! $
+        move ! (2 ∷ 0 ∷ []) $ fjoin ! $ owned ! usize (Is usize) (uint-makes 𝓤 H A W w64) y₆ _ is₆ $ fjoin ! $
+        owned ! Boolean (Is Boolean) (bool-makes 𝓤 H A W) y₅ _ is₅ $ fjoin ! $
+        owned ! Boolean (Is Boolean) (bool-makes 𝓤 H A W) y₄ _ is₄ $ fjoin ! $
+        owned ! clock-row.the-row (Is clock-row.the-row) (LL.makes clock-row.the-type clock-laws.the-plain 𝓤 H A) y₃ _ is₃ $ fjoin ! $
+        owned ! arrival-row.the-row (Is arrival-row.the-row) (LL.makes arrival-row.the-type arrival-laws.the-plain 𝓤 H A) y₂ _ is₂ $
+        fjoin ! $ owned ! flight-row.the-row (Is flight-row.the-row) (LL.makes flight-row.the-type flight-laws.the-plain 𝓤 H A) y₁ _
+        is₁ $ fjoin ! $ owned ! settings-row.the-row (Is settings-row.the-row)
+        (LL.makes settings-row.the-type settings-laws.the-plain 𝓤 H A) y₀ _ is₀ $ fjoin ! $ move ! (1 ∷ 0 ∷ []) $ done !
 
     abbrev Had : (k : Link) (z₁ : List ℕ) → List (Item 𝓤)
     Had k z₁ = ‵ (link-own κ₀ b o γ k) ∷ ‵ (flft κ₀ q₀) ∷ ‵ (finally u8 (x₁ .name) z₁) ∷ ‵ (flft κ₁ q₁)
@@ -461,12 +554,12 @@ module _ {M : Type 1} (𝓤 : URA M) (H : Heap 𝓤) (A : Atoms 𝓤) (W : Given
     unfolding Post
     exits r w k z₁ e len₁ g =
         qed W (Had k z₁) ∵ suffices ! _ (ends-at 𝓤 H A f.ended stayed (f.clauses 𝓤 H A at-mem run) W
-            (((κ₀, (κ₁, (κ₂, (κ₃, (κ₄, (κ₅, tt)))))), (q₀, (q₁, (q₂, (q₃, (q₄, (q₅, tt)))))), tt, x, at), tt) w r
-            (k, (z₁, (tt, (tt, (tt, (tt, tt)))))) (tt, (len₁, (tt, (tt, (tt, (tt, tt))))))) $ says ! e $
+        (((κ₀, (κ₁, (κ₂, (κ₃, (κ₄, (κ₅, tt)))))), (q₀, (q₁, (q₂, (q₃, (q₄, (q₅, tt)))))), tt, x, at), tt) w r
+        (k, (z₁, (tt, (tt, (tt, (tt, tt)))))) (tt, (len₁, (tt, (tt, (tt, (tt, tt))))))) $ says ! e $
         nothing ! $ move ! (8 ∷ 0 ∷ []) $ join ! $ move ! (7 ∷ 0 ∷ []) $ join ! $ move ! (6 ∷ 0 ∷ []) $ join ! $ move ! (5 ∷ 0 ∷ []) $
-            join ! $ move ! (4 ∷ 0 ∷ []) $ join ! $ move ! (2 ∷ 0 ∷ []) $ join ! $ frame ! $ nothing ! $ nothing ! $ fjoin ! $ nothing ! $
-            fjoin ! $ nothing ! $ fjoin ! $ nothing ! $ fjoin ! $ move ! (2 ∷ 0 ∷ []) $ fjoin ! $ move ! (1 ∷ 0 ∷ []) $ fjoin ! $ frame ! $
-            owned ! i32 (Is i32) (sint-makes 𝓤 H A W w32) r _ g $ done !
+        join ! $ move ! (4 ∷ 0 ∷ []) $ join ! $ move ! (2 ∷ 0 ∷ []) $ join ! $ frame ! $ nothing ! $ nothing ! $ fjoin ! $ nothing ! $
+        fjoin ! $ nothing ! $ fjoin ! $ nothing ! $ fjoin ! $ move ! (2 ∷ 0 ∷ []) $ fjoin ! $ move ! (1 ∷ 0 ∷ []) $ fjoin ! $ frame ! $
+        owned ! i32 (Is i32) (sint-makes 𝓤 H A W w32) r _ g $ done !
 
     module _ (C : Calls 𝓤 H) (Λ : Loops 𝓤 H) (fm : FmC 𝓤 H (W .laws) C) (known : Known C) where
       -- where the locals lie
@@ -496,9 +589,19 @@ module _ {M : Type 1} (𝓤 : URA M) (H : Heap 𝓤) (A : Atoms 𝓤) (W : Given
           (kf ≡ a .flight)
 
       part₄ : (past : Known₄) → ent 𝓤 (⋆ 𝓤 H A (‵
-          (link-own κ₀ b o γ (record { settings = (h .settings); flight = (past .50); arrival = (h .arrival); clock = (h .clock);
-          queued = (past .2); outstanding = (h .outstanding); transmissions = (h .transmissions); ready = (h .ready); waiting =
-          (h .waiting); «waiting_numbers» = (h .«waiting_numbers») })) ∷ ‵ (flft κ₀ q₀)
+          (link-own κ₀ b o γ (record {
+            settings = (h .settings);
+            flight = (past .50);
+            arrival = (h .arrival);
+            clock = (h .clock);
+            queued = (past .2);
+            outstanding = (h .outstanding);
+            transmissions = (h .transmissions);
+            ready = (h .ready);
+            waiting =
+                (h .waiting);
+            «waiting_numbers» = (h .«waiting_numbers»);
+          })) ∷ ‵ (flft κ₀ q₀)
           ∷ ‵ (fat fullShare (tyArray (tyInt w8) 256) (past .12) 0 ((only ((array-vals (uint-vals w8)) (past .4)))))
           ∷ ‵ (finally u8 (x₁ .name) (past .1)) ∷ ‵ (flft κ₁ q₁) ∷ ‵ (flft κ₂ q₂) ∷ ‵ (flft κ₄ q₄) ∷ ‵ (flft κ₅ q₅)
           ∷ ‵ (flft κ₃ q₃) ∷ ‵ (fat fullShare (tyArray (tyInt w8) 256) (past .13) 0 ((only ((array-vals (uint-vals w8)) (past .3)))))
@@ -553,124 +656,144 @@ module _ {M : Type 1} (𝓤 : URA M) (H : Heap 𝓤) (A : Atoms 𝓤) (W : Given
           (past .17) (past .18) (past .19) (past .20) (past .21) (past .22) (past .23) (past .24) (past .25) (past .26) (past .27)
           (past .28) (past .29) (past .30) (past .31) (past .32) (past .33) (past .34) (past .35) (past .36)) Post))
       part₄ past =
-          qed W (‵ (link-own κ₀ b o γ (record { settings = (h .settings); flight = (past .50); arrival = (h .arrival); clock = (h .clock);
-              queued = (past .2); outstanding = (h .outstanding); transmissions = (h .transmissions); ready = (h .ready); waiting =
-              (h .waiting); «waiting_numbers» = (h .«waiting_numbers») })) ∷ ‵ (flft κ₀ q₀)
-              ∷ ‵ (fat fullShare (tyArray (tyInt w8) 256) (past .12) 0 ((only ((array-vals (uint-vals w8)) (past .4)))))
-              ∷ ‵ (finally u8 (x₁ .name) (past .1)) ∷ ‵ (flft κ₁ q₁) ∷ ‵ (flft κ₂ q₂) ∷ ‵ (flft κ₄ q₄)
-              ∷ ‵ (flft κ₅ q₅) ∷ ‵ (flft κ₃ q₃)
-              ∷ ‵ (fat fullShare (tyArray (tyInt w8) 256) (past .13) 0 ((only ((array-vals (uint-vals w8)) (past .3)))))
-              ∷ (‵ (fdies (tyInt w32) (past .5)) ⊛ ‵ (fdies (tyRef (named 0) mut (pointee (L .written))) (past .6)) ⊛ ‵
-              (fdies (sliceTy (tyRef (named 1) mut (tyInt w8))) (past .7)) ⊛ ‵ (fdies (sliceTy (tyRef (named 2) imm (tyInt w8))) (past .8))
-              ⊛ ‵ (fdies (sliceTy (tyRef (named 3) imm (pointee (R .written)))) (past .9)) ⊛ ‵
-              (fdies (sliceTy (tyRef (named 4) imm (tyInt w32))) (past .10)) ⊛ ‵
-              (fdies (sliceTy (tyRef (named 5) imm (tyInt w8))) (past .11)) ⊛ ‵ (fdies (tyArray (tyInt w8) 256) (past .12)) ⊛ ‵
-              (fdies (tyArray (tyInt w8) 256) (past .13)) ⊛ ‵ (fdies tyBool (past .14)) ⊛ ‵ (fdies settings-laws.mir (past .15)) ⊛ ‵
-              (fdies flight-laws.mir (past .16)) ⊛ ‵ (fdies arrival-laws.mir (past .17)) ⊛ ‵ (fdies clock-laws.mir (past .18)) ⊛ ‵
-              (fdies tyBool (past .19)) ⊛ ‵ (fdies (tyInt w64) (past .20)) ⊛ ‵ (fdies submitted-laws.mir (past .21)) ⊛ ‵
-              (fdies flight-laws.mir (past .22)) ⊛ ‵ (fdies (tyArray (tyInt w8) 256) (past .23)) ⊛ ‵
-              (fdies (tyRef erased imm (pointee (L .written))) (past .24)) ⊛ ‵
-              (fdies (tyRef erased mut (tyArray (tyInt w8) 256)) (past .25)) ⊛ ‵
-              (fdies (tyRef erased mut (tyArray (tyInt w8) 256)) (past .26)) ⊛ ‵
-              (fdies (tyRef erased imm (tyArray (tyInt w32) 32)) (past .27)) ⊛ ‵
-              (fdies (tyRef erased mut (tyArray (tyInt w32) 128)) (past .28)) ⊛ ‵
-              (fdies (tyRef erased imm (tyArray (tyInt w32) 32)) (past .29)) ⊛ ‵
-              (fdies (tyRef erased imm (tyArray (tyInt w8) 32)) (past .30)) ⊛ ‵
-              (fdies (tyRef erased imm (tyArray (tyInt w32) 128)) (past .31)) ⊛ ‵
-              (fdies (tyRef erased imm (tyArray (tyInt w32) 128)) (past .32)) ⊛ ‵
-              (fdies (tyRef erased imm (tyArray (tyInt w32) 128)) (past .33)) ⊛ ‵
-              (fdies (tyRef erased imm (tyArray (tyInt w8) 256)) (past .34)) ⊛ ‵ (fdies (tyRef erased mut (tyInt w8)) (past .35)) ⊛ ‵
-              (fdies (sliceTy (tyRef erased mut (tyInt w8))) (past .36)))
-              ∷ ‵ (fat fullShare (sliceTy (tyRef erased mut (tyInt w8))) (past .36) 0 (s₁))
-              ∷ ‵ (fat fullShare (tyRef erased mut (tyInt w8)) (past .35) 0 ((vptr (x₁ .ptr .0) (x₁ .ptr .1))))
-              ∷ ‵ (fat fullShare (tyRef erased imm (tyArray (tyInt w8) 256)) (past .34) 0 ((vptr (past .12) 0)))
-              ∷ ‵ (fat fullShare (tyRef erased imm (tyArray (tyInt w32) 128)) (past .33) 0 ((vptr b (o + 1820))))
-              ∷ ‵ (fat fullShare (tyRef erased imm (tyArray (tyInt w32) 128)) (past .32) 0 ((vptr b (o + 1308))))
-              ∷ ‵ (fat fullShare (tyRef erased imm (tyArray (tyInt w32) 128)) (past .31) 0 ((vptr b (o + 796))))
-              ∷ ‵ (fat fullShare (tyRef erased imm (tyArray (tyInt w8) 32)) (past .30) 0 ((vptr b (o + 764))))
-              ∷ ‵ (fat fullShare (tyRef erased imm (tyArray (tyInt w32) 32)) (past .29) 0 ((vptr b (o + 636))))
-              ∷ ‵ (fat fullShare (tyRef erased mut (tyArray (tyInt w32) 128)) (past .28) 0 ((vptr b (o + 124))))
-              ∷ ‵ (fat fullShare (tyRef erased imm (tyArray (tyInt w32) 32)) (past .27) 0 ((vptr b (o + 636))))
-              ∷ ‵ (fat fullShare (tyRef erased mut (tyArray (tyInt w8) 256)) (past .26) 0 ((vptr (past .13) 0)))
-              ∷ ‵ (fat fullShare (tyRef erased mut (tyArray (tyInt w8) 256)) (past .25) 0 ((vptr (past .12) 0)))
-              ∷ ‵ (fat fullShare (tyRef erased imm (pointee (L .written))) (past .24) 0 ((vptr b o)))
-              ∷ ‵ (fat fullShare (tyArray (tyInt w8) 256) (past .23) 0 ((past .37)))
-              ∷ ‵ (fat fullShare flight-laws.mir (past .22) 0 ((past .51))) ∷ ‵ (fat fullShare submitted-laws.mir (past .21) 0 ((past .46)))
-              ∷ ‵ (fat fullShare (tyInt w64) (past .20) 0 ((past .43))) ∷ ‵ (fat fullShare tyBool (past .19) 0 ((past .40)))
-              ∷ ‵ (fat fullShare clock-laws.mir (past .18) 0 ((only ((LL.vals clock-row.the-type clock-laws.the-laws) (h .clock)))))
-              ∷ ‵ (fat fullShare arrival-laws.mir (past .17) 0 ((only ((LL.vals arrival-row.the-type arrival-laws.the-laws) (h .arrival)))))
-              ∷ ‵ (fat fullShare flight-laws.mir (past .16) 0 ((only ((LL.vals flight-row.the-type flight-laws.the-laws) (h .flight)))))
-              ∷ ‵ (fat fullShare settings-laws.mir (past .15) 0
-              ((only ((LL.vals settings-row.the-type settings-laws.the-laws) (h .settings)))))
-              ∷ ‵ (fat fullShare tyBool (past .14) 0 ((past .38)))
-              ∷ ‵ (fat fullShare (sliceTy (tyRef (named 5) imm (tyInt w8))) (past .11) 0 (s₅))
-              ∷ ‵ (fat fullShare (sliceTy (tyRef (named 4) imm (tyInt w32))) (past .10) 0 (s₄))
-              ∷ ‵ (fat fullShare (sliceTy (tyRef (named 3) imm (pointee (R .written)))) (past .9) 0 (s₃))
-              ∷ ‵ (fat fullShare (sliceTy (tyRef (named 2) imm (tyInt w8))) (past .8) 0 (s₂))
-              ∷ ‵ (fat fullShare (sliceTy (tyRef (named 1) mut (tyInt w8))) (past .7) 0 (s₁))
-              ∷ ‵ (fat fullShare (tyRef (named 0) mut (pointee (L .written))) (past .6) 0 (vptr b o)) ∷ ‵ (froom (tyInt w32) (past .5) 0)
-              ∷ []) ∵ exec ! C Λ (En (past .5) (past .6) (past .7) (past .8) (past .9) (past .10) (past .11) (past .12) (past .13)
-              (past .14) (past .15) (past .16) (past .17) (past .18) (past .19) (past .20) (past .21) (past .22) (past .23) (past .24)
-              (past .25) (past .26) (past .27) (past .28) (past .29) (past .30) (past .31) (past .32) (past .33) (past .34) (past .35)
-              (past .36)) (behind 27 (code.function .body))
-              (atRet (En (past .5) (past .6) (past .7) (past .8) (past .9) (past .10) (past .11) (past .12) (past .13) (past .14) (past .15)
-              (past .16) (past .17) (past .18) (past .19) (past .20) (past .21) (past .22) (past .23) (past .24) (past .25) (past .26)
-              (past .27) (past .28) (past .29) (past .30) (past .31) (past .32) (past .33) (past .34) (past .35) (past .36)) Post) $
+          qed W (‵ (link-own κ₀ b o γ (record {
+            settings = (h .settings);
+            flight = (past .50);
+            arrival = (h .arrival);
+            clock = (h .clock);
+            queued = (past .2);
+            outstanding = (h .outstanding);
+            transmissions = (h .transmissions);
+            ready = (h .ready);
+            waiting =
+                (h .waiting);
+            «waiting_numbers» = (h .«waiting_numbers»);
+          })) ∷ ‵ (flft κ₀ q₀)
+          ∷ ‵ (fat fullShare (tyArray (tyInt w8) 256) (past .12) 0 ((only ((array-vals (uint-vals w8)) (past .4)))))
+          ∷ ‵ (finally u8 (x₁ .name) (past .1)) ∷ ‵ (flft κ₁ q₁) ∷ ‵ (flft κ₂ q₂) ∷ ‵ (flft κ₄ q₄)
+          ∷ ‵ (flft κ₅ q₅) ∷ ‵ (flft κ₃ q₃)
+          ∷ ‵ (fat fullShare (tyArray (tyInt w8) 256) (past .13) 0 ((only ((array-vals (uint-vals w8)) (past .3)))))
+          ∷ (‵ (fdies (tyInt w32) (past .5)) ⊛ ‵ (fdies (tyRef (named 0) mut (pointee (L .written))) (past .6)) ⊛ ‵
+          (fdies (sliceTy (tyRef (named 1) mut (tyInt w8))) (past .7)) ⊛ ‵ (fdies (sliceTy (tyRef (named 2) imm (tyInt w8))) (past .8))
+          ⊛ ‵ (fdies (sliceTy (tyRef (named 3) imm (pointee (R .written)))) (past .9)) ⊛ ‵
+          (fdies (sliceTy (tyRef (named 4) imm (tyInt w32))) (past .10)) ⊛ ‵
+          (fdies (sliceTy (tyRef (named 5) imm (tyInt w8))) (past .11)) ⊛ ‵ (fdies (tyArray (tyInt w8) 256) (past .12)) ⊛ ‵
+          (fdies (tyArray (tyInt w8) 256) (past .13)) ⊛ ‵ (fdies tyBool (past .14)) ⊛ ‵ (fdies settings-laws.mir (past .15)) ⊛ ‵
+          (fdies flight-laws.mir (past .16)) ⊛ ‵ (fdies arrival-laws.mir (past .17)) ⊛ ‵ (fdies clock-laws.mir (past .18)) ⊛ ‵
+          (fdies tyBool (past .19)) ⊛ ‵ (fdies (tyInt w64) (past .20)) ⊛ ‵ (fdies submitted-laws.mir (past .21)) ⊛ ‵
+          (fdies flight-laws.mir (past .22)) ⊛ ‵ (fdies (tyArray (tyInt w8) 256) (past .23)) ⊛ ‵
+          (fdies (tyRef erased imm (pointee (L .written))) (past .24)) ⊛ ‵
+          (fdies (tyRef erased mut (tyArray (tyInt w8) 256)) (past .25)) ⊛ ‵
+          (fdies (tyRef erased mut (tyArray (tyInt w8) 256)) (past .26)) ⊛ ‵
+          (fdies (tyRef erased imm (tyArray (tyInt w32) 32)) (past .27)) ⊛ ‵
+          (fdies (tyRef erased mut (tyArray (tyInt w32) 128)) (past .28)) ⊛ ‵
+          (fdies (tyRef erased imm (tyArray (tyInt w32) 32)) (past .29)) ⊛ ‵
+          (fdies (tyRef erased imm (tyArray (tyInt w8) 32)) (past .30)) ⊛ ‵
+          (fdies (tyRef erased imm (tyArray (tyInt w32) 128)) (past .31)) ⊛ ‵
+          (fdies (tyRef erased imm (tyArray (tyInt w32) 128)) (past .32)) ⊛ ‵
+          (fdies (tyRef erased imm (tyArray (tyInt w32) 128)) (past .33)) ⊛ ‵
+          (fdies (tyRef erased imm (tyArray (tyInt w8) 256)) (past .34)) ⊛ ‵ (fdies (tyRef erased mut (tyInt w8)) (past .35)) ⊛ ‵
+          (fdies (sliceTy (tyRef erased mut (tyInt w8))) (past .36)))
+          ∷ ‵ (fat fullShare (sliceTy (tyRef erased mut (tyInt w8))) (past .36) 0 (s₁))
+          ∷ ‵ (fat fullShare (tyRef erased mut (tyInt w8)) (past .35) 0 ((vptr (x₁ .ptr .0) (x₁ .ptr .1))))
+          ∷ ‵ (fat fullShare (tyRef erased imm (tyArray (tyInt w8) 256)) (past .34) 0 ((vptr (past .12) 0)))
+          ∷ ‵ (fat fullShare (tyRef erased imm (tyArray (tyInt w32) 128)) (past .33) 0 ((vptr b (o + 1820))))
+          ∷ ‵ (fat fullShare (tyRef erased imm (tyArray (tyInt w32) 128)) (past .32) 0 ((vptr b (o + 1308))))
+          ∷ ‵ (fat fullShare (tyRef erased imm (tyArray (tyInt w32) 128)) (past .31) 0 ((vptr b (o + 796))))
+          ∷ ‵ (fat fullShare (tyRef erased imm (tyArray (tyInt w8) 32)) (past .30) 0 ((vptr b (o + 764))))
+          ∷ ‵ (fat fullShare (tyRef erased imm (tyArray (tyInt w32) 32)) (past .29) 0 ((vptr b (o + 636))))
+          ∷ ‵ (fat fullShare (tyRef erased mut (tyArray (tyInt w32) 128)) (past .28) 0 ((vptr b (o + 124))))
+          ∷ ‵ (fat fullShare (tyRef erased imm (tyArray (tyInt w32) 32)) (past .27) 0 ((vptr b (o + 636))))
+          ∷ ‵ (fat fullShare (tyRef erased mut (tyArray (tyInt w8) 256)) (past .26) 0 ((vptr (past .13) 0)))
+          ∷ ‵ (fat fullShare (tyRef erased mut (tyArray (tyInt w8) 256)) (past .25) 0 ((vptr (past .12) 0)))
+          ∷ ‵ (fat fullShare (tyRef erased imm (pointee (L .written))) (past .24) 0 ((vptr b o)))
+          ∷ ‵ (fat fullShare (tyArray (tyInt w8) 256) (past .23) 0 ((past .37)))
+          ∷ ‵ (fat fullShare flight-laws.mir (past .22) 0 ((past .51))) ∷ ‵ (fat fullShare submitted-laws.mir (past .21) 0 ((past .46)))
+          ∷ ‵ (fat fullShare (tyInt w64) (past .20) 0 ((past .43))) ∷ ‵ (fat fullShare tyBool (past .19) 0 ((past .40)))
+          ∷ ‵ (fat fullShare clock-laws.mir (past .18) 0 ((only ((LL.vals clock-row.the-type clock-laws.the-laws) (h .clock)))))
+          ∷ ‵ (fat fullShare arrival-laws.mir (past .17) 0 ((only ((LL.vals arrival-row.the-type arrival-laws.the-laws) (h .arrival)))))
+          ∷ ‵ (fat fullShare flight-laws.mir (past .16) 0 ((only ((LL.vals flight-row.the-type flight-laws.the-laws) (h .flight)))))
+          ∷ ‵ (fat fullShare settings-laws.mir (past .15) 0
+          ((only ((LL.vals settings-row.the-type settings-laws.the-laws) (h .settings)))))
+          ∷ ‵ (fat fullShare tyBool (past .14) 0 ((past .38)))
+          ∷ ‵ (fat fullShare (sliceTy (tyRef (named 5) imm (tyInt w8))) (past .11) 0 (s₅))
+          ∷ ‵ (fat fullShare (sliceTy (tyRef (named 4) imm (tyInt w32))) (past .10) 0 (s₄))
+          ∷ ‵ (fat fullShare (sliceTy (tyRef (named 3) imm (pointee (R .written)))) (past .9) 0 (s₃))
+          ∷ ‵ (fat fullShare (sliceTy (tyRef (named 2) imm (tyInt w8))) (past .8) 0 (s₂))
+          ∷ ‵ (fat fullShare (sliceTy (tyRef (named 1) mut (tyInt w8))) (past .7) 0 (s₁))
+          ∷ ‵ (fat fullShare (tyRef (named 0) mut (pointee (L .written))) (past .6) 0 (vptr b o)) ∷ ‵ (froom (tyInt w32) (past .5) 0)
+          ∷ []) ∵ exec ! C Λ (En (past .5) (past .6) (past .7) (past .8) (past .9) (past .10) (past .11) (past .12) (past .13)
+          (past .14) (past .15) (past .16) (past .17) (past .18) (past .19) (past .20) (past .21) (past .22) (past .23) (past .24)
+          (past .25) (past .26) (past .27) (past .28) (past .29) (past .30) (past .31) (past .32) (past .33) (past .34) (past .35)
+          (past .36)) (behind 27 (code.function .body))
+          (atRet (En (past .5) (past .6) (past .7) (past .8) (past .9) (past .10) (past .11) (past .12) (past .13) (past .14) (past .15)
+          (past .16) (past .17) (past .18) (past .19) (past .20) (past .21) (past .22) (past .23) (past .24) (past .25) (past .26)
+          (past .27) (past .28) (past .29) (past .30) (past .31) (past .32) (past .33) (past .34) (past .35) (past .36)) Post) $
           nothing ! $ calls-fn ! fm code-of.ended (code-of.clauses 𝓤 H A at-mem run) (known .6)
-              ((tt, tt, tt, ((past .45), tt), ((past .46) ∷ [], tt)), tt) (λ r _. r ≡ answerCode ((past .45) .answer))
+          ((tt, tt, tt, ((past .45), tt), ((past .46) ∷ [], tt)), tt) (λ r _. r ≡ answerCode ((past .45) .answer))
           (‵ ftrue) (plainly 𝓤 H A W (submitted-row.the-row ∷ []) ((LL.makes submitted-row.the-type submitted-laws.the-plain 𝓤 H A), tt)
           ((past .45), tt) ((past .46) ∷ [], tt) ((past .48), tt)) (λ r _. id⊢ 𝓤 _)
           (and-then ! (load ! (from ! (stop !)) (look ! 27 refl)) (no-more !))
           (λ r w-r _ e-r is-r. drop ! $ drop ! $ land ! (from ! (stop !)) (init ! 40 refl (sint-lawful 𝓤 H A W w32 .typed r _ is-r .0)) $
           returns ! (look ! 40 refl) $
           move ! (10 ∷ []) $ spread W (‵ (fdies (tyInt w32) (past .5)))
-              (‵ (fdies (tyRef (named 0) mut (pointee (L .written))) (past .6))
-              ∷ ‵ (fdies (sliceTy (tyRef (named 1) mut (tyInt w8))) (past .7))
-              ∷ ‵ (fdies (sliceTy (tyRef (named 2) imm (tyInt w8))) (past .8))
-              ∷ ‵ (fdies (sliceTy (tyRef (named 3) imm (pointee (R .written)))) (past .9))
-              ∷ ‵ (fdies (sliceTy (tyRef (named 4) imm (tyInt w32))) (past .10))
-              ∷ ‵ (fdies (sliceTy (tyRef (named 5) imm (tyInt w8))) (past .11)) ∷ ‵ (fdies (tyArray (tyInt w8) 256) (past .12))
-              ∷ ‵ (fdies (tyArray (tyInt w8) 256) (past .13)) ∷ ‵ (fdies tyBool (past .14)) ∷ ‵ (fdies settings-laws.mir (past .15))
-              ∷ ‵ (fdies flight-laws.mir (past .16)) ∷ ‵ (fdies arrival-laws.mir (past .17)) ∷ ‵ (fdies clock-laws.mir (past .18))
-              ∷ ‵ (fdies tyBool (past .19)) ∷ ‵ (fdies (tyInt w64) (past .20)) ∷ ‵ (fdies submitted-laws.mir (past .21))
-              ∷ ‵ (fdies flight-laws.mir (past .22)) ∷ ‵ (fdies (tyArray (tyInt w8) 256) (past .23))
-              ∷ ‵ (fdies (tyRef erased imm (pointee (L .written))) (past .24))
-              ∷ ‵ (fdies (tyRef erased mut (tyArray (tyInt w8) 256)) (past .25))
-              ∷ ‵ (fdies (tyRef erased mut (tyArray (tyInt w8) 256)) (past .26))
-              ∷ ‵ (fdies (tyRef erased imm (tyArray (tyInt w32) 32)) (past .27))
-              ∷ ‵ (fdies (tyRef erased mut (tyArray (tyInt w32) 128)) (past .28))
-              ∷ ‵ (fdies (tyRef erased imm (tyArray (tyInt w32) 32)) (past .29))
-              ∷ ‵ (fdies (tyRef erased imm (tyArray (tyInt w8) 32)) (past .30))
-              ∷ ‵ (fdies (tyRef erased imm (tyArray (tyInt w32) 128)) (past .31))
-              ∷ ‵ (fdies (tyRef erased imm (tyArray (tyInt w32) 128)) (past .32))
-              ∷ ‵ (fdies (tyRef erased imm (tyArray (tyInt w32) 128)) (past .33))
-              ∷ ‵ (fdies (tyRef erased imm (tyArray (tyInt w8) 256)) (past .34)) ∷ ‵ (fdies (tyRef erased mut (tyInt w8)) (past .35))
-              ∷ ‵ (fdies (sliceTy (tyRef erased mut (tyInt w8))) (past .36)) ∷ []) (id⊢ 𝓤 _) $
-              move ! (71 ∷ 0 ∷ 70 ∷ 1 ∷ 69 ∷ 2 ∷ 68 ∷ 3 ∷ 67 ∷ 4 ∷ 66 ∷ 5 ∷ 65 ∷ 6 ∷ 34 ∷ 7 ∷ 41 ∷ 8 ∷ 64 ∷ 9 ∷ 63
-              ∷ 10 ∷ 62 ∷ 11 ∷ 61 ∷ 12 ∷ 60 ∷ 13 ∷ 59 ∷ 14 ∷ 58 ∷ 15 ∷ 57 ∷ 16 ∷ 56 ∷ 17 ∷ 55 ∷ 18 ∷ 54 ∷ 19 ∷ 53 ∷ 20
-              ∷ 52 ∷ 21 ∷ 51 ∷ 22 ∷ 50 ∷ 23 ∷ 49 ∷ 24 ∷ 48 ∷ 25 ∷ 47 ∷ 26 ∷ 46 ∷ 27 ∷ 45 ∷ 28 ∷ 44 ∷ 29 ∷ 43 ∷ 30 ∷ 42
-              ∷ 31 ∷ []) $ forget ! 0 refl $ free1 ! $ forget ! 0 refl $ free1 ! $ forget ! 0 refl $ free1 ! $ forget ! 0 refl $ free1 ! $
-              forget ! 0 refl $ free1 ! $ forget ! 0 refl $ free1 ! $ forget ! 0 refl $ free1 ! $ forget ! 0 refl $ free1 ! $
-              forget ! 0 refl $ free1 ! $ forget ! 0 refl $ free1 ! $ forget ! 0 refl $ free1 ! $ forget ! 0 refl $ free1 ! $
-              forget ! 0 refl $ free1 ! $ forget ! 0 refl $ free1 ! $ forget ! 0 refl $ free1 ! $ forget ! 0 refl $ free1 ! $
-              forget ! 0 refl $ free1 ! $ forget ! 0 refl $ free1 ! $ forget ! 0 refl $ free1 ! $ forget ! 0 refl $ free1 ! $
-              forget ! 0 refl $ free1 ! $ forget ! 0 refl $ free1 ! $ forget ! 0 refl $ free1 ! $ forget ! 0 refl $ free1 ! $
-              forget ! 0 refl $ free1 ! $ forget ! 0 refl $ free1 ! $ forget ! 0 refl $ free1 ! $ forget ! 0 refl $ free1 ! $
-              forget ! 0 refl $ free1 ! $ forget ! 0 refl $ free1 ! $ forget ! 0 refl $ free1 ! $ forget ! 0 refl $ free1 ! $ free0 ! $
+          (‵ (fdies (tyRef (named 0) mut (pointee (L .written))) (past .6))
+          ∷ ‵ (fdies (sliceTy (tyRef (named 1) mut (tyInt w8))) (past .7))
+          ∷ ‵ (fdies (sliceTy (tyRef (named 2) imm (tyInt w8))) (past .8))
+          ∷ ‵ (fdies (sliceTy (tyRef (named 3) imm (pointee (R .written)))) (past .9))
+          ∷ ‵ (fdies (sliceTy (tyRef (named 4) imm (tyInt w32))) (past .10))
+          ∷ ‵ (fdies (sliceTy (tyRef (named 5) imm (tyInt w8))) (past .11)) ∷ ‵ (fdies (tyArray (tyInt w8) 256) (past .12))
+          ∷ ‵ (fdies (tyArray (tyInt w8) 256) (past .13)) ∷ ‵ (fdies tyBool (past .14)) ∷ ‵ (fdies settings-laws.mir (past .15))
+          ∷ ‵ (fdies flight-laws.mir (past .16)) ∷ ‵ (fdies arrival-laws.mir (past .17)) ∷ ‵ (fdies clock-laws.mir (past .18))
+          ∷ ‵ (fdies tyBool (past .19)) ∷ ‵ (fdies (tyInt w64) (past .20)) ∷ ‵ (fdies submitted-laws.mir (past .21))
+          ∷ ‵ (fdies flight-laws.mir (past .22)) ∷ ‵ (fdies (tyArray (tyInt w8) 256) (past .23))
+          ∷ ‵ (fdies (tyRef erased imm (pointee (L .written))) (past .24))
+          ∷ ‵ (fdies (tyRef erased mut (tyArray (tyInt w8) 256)) (past .25))
+          ∷ ‵ (fdies (tyRef erased mut (tyArray (tyInt w8) 256)) (past .26))
+          ∷ ‵ (fdies (tyRef erased imm (tyArray (tyInt w32) 32)) (past .27))
+          ∷ ‵ (fdies (tyRef erased mut (tyArray (tyInt w32) 128)) (past .28))
+          ∷ ‵ (fdies (tyRef erased imm (tyArray (tyInt w32) 32)) (past .29))
+          ∷ ‵ (fdies (tyRef erased imm (tyArray (tyInt w8) 32)) (past .30))
+          ∷ ‵ (fdies (tyRef erased imm (tyArray (tyInt w32) 128)) (past .31))
+          ∷ ‵ (fdies (tyRef erased imm (tyArray (tyInt w32) 128)) (past .32))
+          ∷ ‵ (fdies (tyRef erased imm (tyArray (tyInt w32) 128)) (past .33))
+          ∷ ‵ (fdies (tyRef erased imm (tyArray (tyInt w8) 256)) (past .34)) ∷ ‵ (fdies (tyRef erased mut (tyInt w8)) (past .35))
+          ∷ ‵ (fdies (sliceTy (tyRef erased mut (tyInt w8))) (past .36)) ∷ []) (id⊢ 𝓤 _) $
+          move ! (71 ∷ 0 ∷ 70 ∷ 1 ∷ 69 ∷ 2 ∷ 68 ∷ 3 ∷ 67 ∷ 4 ∷ 66 ∷ 5 ∷ 65 ∷ 6 ∷ 34 ∷ 7 ∷ 41 ∷ 8 ∷ 64 ∷ 9 ∷ 63
+          ∷ 10 ∷ 62 ∷ 11 ∷ 61 ∷ 12 ∷ 60 ∷ 13 ∷ 59 ∷ 14 ∷ 58 ∷ 15 ∷ 57 ∷ 16 ∷ 56 ∷ 17 ∷ 55 ∷ 18 ∷ 54 ∷ 19 ∷ 53 ∷ 20
+          ∷ 52 ∷ 21 ∷ 51 ∷ 22 ∷ 50 ∷ 23 ∷ 49 ∷ 24 ∷ 48 ∷ 25 ∷ 47 ∷ 26 ∷ 46 ∷ 27 ∷ 45 ∷ 28 ∷ 44 ∷ 29 ∷ 43 ∷ 30 ∷ 42
+          ∷ 31 ∷ []) $ forget ! 0 refl $ free1 ! $ forget ! 0 refl $ free1 ! $ forget ! 0 refl $ free1 ! $ forget ! 0 refl $ free1 ! $
+          forget ! 0 refl $ free1 ! $ forget ! 0 refl $ free1 ! $ forget ! 0 refl $ free1 ! $ forget ! 0 refl $ free1 ! $
+          forget ! 0 refl $ free1 ! $ forget ! 0 refl $ free1 ! $ forget ! 0 refl $ free1 ! $ forget ! 0 refl $ free1 ! $
+          forget ! 0 refl $ free1 ! $ forget ! 0 refl $ free1 ! $ forget ! 0 refl $ free1 ! $ forget ! 0 refl $ free1 ! $
+          forget ! 0 refl $ free1 ! $ forget ! 0 refl $ free1 ! $ forget ! 0 refl $ free1 ! $ forget ! 0 refl $ free1 ! $
+          forget ! 0 refl $ free1 ! $ forget ! 0 refl $ free1 ! $ forget ! 0 refl $ free1 ! $ forget ! 0 refl $ free1 ! $
+          forget ! 0 refl $ free1 ! $ forget ! 0 refl $ free1 ! $ forget ! 0 refl $ free1 ! $ forget ! 0 refl $ free1 ! $
+          forget ! 0 refl $ free1 ! $ forget ! 0 refl $ free1 ! $ forget ! 0 refl $ free1 ! $ forget ! 0 refl $ free1 ! $ free0 ! $
           move ! (0 ∷ 1 ∷ 2 ∷ 3 ∷ 4 ∷ 7 ∷ 5 ∷ 6 ∷ []) $
-              by ! (exits r w-r (record { settings = (h .settings); flight = (past .50); arrival = (h .arrival); clock = (h .clock);
-              queued = (past .2); outstanding = (h .outstanding); transmissions = (h .transmissions); ready = (h .ready); waiting =
-              (h .waiting); «waiting_numbers» = (h .«waiting_numbers») }) ((past .1))
-              (told answerCode _ ((past .45) .answer) e-r
-              (rw (past .52) (send-promised h (partsOf (x₁ .now) (x₂ .now) (x₃ .now) (x₄ .now))
-              (padded (gathered (take sendSlots (x₃ .now)) (slotsIn (h .outstanding) (h .flight .outstanding)))) (past .42)
-              (gathers h (partsOf (x₁ .now) (x₂ .now) (x₃ .now) (x₄ .now)) (h .flight .outstanding)
-              (padded (gathered (take sendSlots (x₃ .now)) (slotsIn (h .outstanding) (h .flight .outstanding)))) (past .42) refl refl
-              (past .44)) ((past .45) .answer) (linkOf (h .settings) ((past .45) .flight) (h .arrival) (h .clock)
-              (arrays (past .2) (h .outstanding) (h .transmissions) (h .ready) (h .waiting) (h .«waiting_numbers»))) (past .1) (x₅ .now)
-              ((past .47) (padded (gathered (take sendSlots (x₃ .now)) (slotsIn (h .outstanding) (h .flight .outstanding))))
-              (record { whole = padded-whole (take sendSlots (x₃ .now)) (h .outstanding) (h .flight .outstanding); fits = (past .41) })))))
-              (past .49) is-r))
+          by ! (exits r w-r (record {
+            settings = (h .settings);
+            flight = (past .50);
+            arrival = (h .arrival);
+            clock = (h .clock);
+            queued = (past .2);
+            outstanding = (h .outstanding);
+            transmissions = (h .transmissions);
+            ready = (h .ready);
+            waiting =
+                (h .waiting);
+            «waiting_numbers» = (h .«waiting_numbers»);
+          }) ((past .1))
+          (told answerCode _ ((past .45) .answer) e-r
+          (rw (past .52) (send-promised h (partsOf (x₁ .now) (x₂ .now) (x₃ .now) (x₄ .now))
+          (padded (gathered (take sendSlots (x₃ .now)) (slotsIn (h .outstanding) (h .flight .outstanding)))) (past .42)
+          (gathers h (partsOf (x₁ .now) (x₂ .now) (x₃ .now) (x₄ .now)) (h .flight .outstanding)
+          (padded (gathered (take sendSlots (x₃ .now)) (slotsIn (h .outstanding) (h .flight .outstanding)))) (past .42) refl refl
+          (past .44)) ((past .45) .answer) (linkOf (h .settings) ((past .45) .flight) (h .arrival) (h .clock)
+          (arrays (past .2) (h .outstanding) (h .transmissions) (h .ready) (h .waiting) (h .«waiting_numbers»))) (past .1) (x₅ .now)
+          ((past .47) (padded (gathered (take sendSlots (x₃ .now)) (slotsIn (h .outstanding) (h .flight .outstanding))))
+          (record { whole = padded-whole (take sendSlots (x₃ .now)) (h .outstanding) (h .flight .outstanding); fits = (past .41) })))))
+          (past .49) is-r))
 
       -- what part 3 knows
       abbrev Known₃ : Type 0
@@ -752,75 +875,75 @@ module _ {M : Type 1} (𝓤 : URA M) (H : Heap 𝓤) (A : Atoms 𝓤) (W : Given
           (past .27) (past .28) (past .29) (past .30) (past .31) (past .32) (past .33) (past .34) (past .35)) Post))
       part₃ past =
           qed W (‵ (fat fullShare (tyArray (tyInt w8) 256) (past .11) 0 ((only ((array-vals (uint-vals w8)) (past .3)))))
-              ∷ ‵ (partAt (Array u32 128) fullShare (h .«waiting_numbers») b (o + 1820))
-              ∷ ‵ (partAt (Array u32 128) fullShare (h .waiting) b (o + 1308)) ∷ ‵ (partAt (Array u32 128) fullShare (h .ready) b (o + 796))
-              ∷ ‵ (partAt (Array u8 32) fullShare (h .transmissions) b (o + 764))
-              ∷ ‵ (partAt (Array u32 32) fullShare (h .outstanding) b (o + 636))
-              ∷ ‵ (partAt (Array u32 128) fullShare (past .1) b (o + 124)) ∷ ‵ (finally u8 (x₁ .name) (past .0)) ∷ ‵ (flft κ₁ q₁)
-              ∷ ‵ (flft κ₂ q₂) ∷ ‵ (flft κ₄ q₄) ∷ ‵ (flft κ₅ q₅) ∷ ‵ (flft κ₃ q₃)
-              ∷ ‵ (partAt clock-row.the-row fullShare (h .clock) b (o + 104))
-              ∷ ‵ (partAt arrival-row.the-row fullShare (h .arrival) b (o + 72))
-              ∷ ‵ (partAt flight-row.the-row fullShare (h .flight) b (o + 16))
-              ∷ ‵ (partAt settings-row.the-row fullShare (h .settings) b (o + 0)) ∷ raw (Back 𝓤 H A fullShare b o) ∷ ‵ (Open b o γ κ₀ q₀ h)
-              ∷ ‵ (fat fullShare (tyArray (tyInt w8) 256) (past .12) 0 ((only ((array-vals (uint-vals w8)) (past .2)))))
-              ∷ (‵ (fdies (tyInt w32) (past .4)) ⊛ ‵ (fdies (tyRef (named 0) mut (pointee (L .written))) (past .5)) ⊛ ‵
-              (fdies (sliceTy (tyRef (named 1) mut (tyInt w8))) (past .6)) ⊛ ‵ (fdies (sliceTy (tyRef (named 2) imm (tyInt w8))) (past .7))
-              ⊛ ‵ (fdies (sliceTy (tyRef (named 3) imm (pointee (R .written)))) (past .8)) ⊛ ‵
-              (fdies (sliceTy (tyRef (named 4) imm (tyInt w32))) (past .9)) ⊛ ‵
-              (fdies (sliceTy (tyRef (named 5) imm (tyInt w8))) (past .10)) ⊛ ‵ (fdies (tyArray (tyInt w8) 256) (past .11)) ⊛ ‵
-              (fdies (tyArray (tyInt w8) 256) (past .12)) ⊛ ‵ (fdies tyBool (past .13)) ⊛ ‵ (fdies settings-laws.mir (past .14)) ⊛ ‵
-              (fdies flight-laws.mir (past .15)) ⊛ ‵ (fdies arrival-laws.mir (past .16)) ⊛ ‵ (fdies clock-laws.mir (past .17)) ⊛ ‵
-              (fdies tyBool (past .18)) ⊛ ‵ (fdies (tyInt w64) (past .19)) ⊛ ‵ (fdies submitted-laws.mir (past .20)) ⊛ ‵
-              (fdies flight-laws.mir (past .21)) ⊛ ‵ (fdies (tyArray (tyInt w8) 256) (past .22)) ⊛ ‵
-              (fdies (tyRef erased imm (pointee (L .written))) (past .23)) ⊛ ‵
-              (fdies (tyRef erased mut (tyArray (tyInt w8) 256)) (past .24)) ⊛ ‵
-              (fdies (tyRef erased mut (tyArray (tyInt w8) 256)) (past .25)) ⊛ ‵
-              (fdies (tyRef erased imm (tyArray (tyInt w32) 32)) (past .26)) ⊛ ‵
-              (fdies (tyRef erased mut (tyArray (tyInt w32) 128)) (past .27)) ⊛ ‵
-              (fdies (tyRef erased imm (tyArray (tyInt w32) 32)) (past .28)) ⊛ ‵
-              (fdies (tyRef erased imm (tyArray (tyInt w8) 32)) (past .29)) ⊛ ‵
-              (fdies (tyRef erased imm (tyArray (tyInt w32) 128)) (past .30)) ⊛ ‵
-              (fdies (tyRef erased imm (tyArray (tyInt w32) 128)) (past .31)) ⊛ ‵
-              (fdies (tyRef erased imm (tyArray (tyInt w32) 128)) (past .32)) ⊛ ‵
-              (fdies (tyRef erased imm (tyArray (tyInt w8) 256)) (past .33)) ⊛ ‵ (fdies (tyRef erased mut (tyInt w8)) (past .34)) ⊛ ‵
-              (fdies (sliceTy (tyRef erased mut (tyInt w8))) (past .35)))
-              ∷ ‵ (fat fullShare (sliceTy (tyRef erased mut (tyInt w8))) (past .35) 0 (s₁))
-              ∷ ‵ (fat fullShare (tyRef erased mut (tyInt w8)) (past .34) 0 ((vptr (x₁ .ptr .0) (x₁ .ptr .1))))
-              ∷ ‵ (fat fullShare (tyRef erased imm (tyArray (tyInt w8) 256)) (past .33) 0 ((vptr (past .11) 0)))
-              ∷ ‵ (fat fullShare (tyRef erased imm (tyArray (tyInt w32) 128)) (past .32) 0 ((vptr b (o + 1820))))
-              ∷ ‵ (fat fullShare (tyRef erased imm (tyArray (tyInt w32) 128)) (past .31) 0 ((vptr b (o + 1308))))
-              ∷ ‵ (fat fullShare (tyRef erased imm (tyArray (tyInt w32) 128)) (past .30) 0 ((vptr b (o + 796))))
-              ∷ ‵ (fat fullShare (tyRef erased imm (tyArray (tyInt w8) 32)) (past .29) 0 ((vptr b (o + 764))))
-              ∷ ‵ (fat fullShare (tyRef erased imm (tyArray (tyInt w32) 32)) (past .28) 0 ((vptr b (o + 636))))
-              ∷ ‵ (fat fullShare (tyRef erased mut (tyArray (tyInt w32) 128)) (past .27) 0 ((vptr b (o + 124))))
-              ∷ ‵ (fat fullShare (tyRef erased imm (tyArray (tyInt w32) 32)) (past .26) 0 ((vptr b (o + 636))))
-              ∷ ‵ (fat fullShare (tyRef erased mut (tyArray (tyInt w8) 256)) (past .25) 0 ((vptr (past .12) 0)))
-              ∷ ‵ (fat fullShare (tyRef erased mut (tyArray (tyInt w8) 256)) (past .24) 0 ((vptr (past .11) 0)))
-              ∷ ‵ (fat fullShare (tyRef erased imm (pointee (L .written))) (past .23) 0 ((vptr b o)))
-              ∷ ‵ (fat fullShare (tyArray (tyInt w8) 256) (past .22) 0 ((past .36))) ∷ ‵ (froom flight-laws.mir (past .21) 0)
-              ∷ ‵ (fat fullShare submitted-laws.mir (past .20) 0 ((past .45))) ∷ ‵ (fat fullShare (tyInt w64) (past .19) 0 ((past .42)))
-              ∷ ‵ (fat fullShare tyBool (past .18) 0 ((past .39)))
-              ∷ ‵ (fat fullShare clock-laws.mir (past .17) 0 ((only ((LL.vals clock-row.the-type clock-laws.the-laws) (h .clock)))))
-              ∷ ‵ (fat fullShare arrival-laws.mir (past .16) 0 ((only ((LL.vals arrival-row.the-type arrival-laws.the-laws) (h .arrival)))))
-              ∷ ‵ (fat fullShare flight-laws.mir (past .15) 0 ((only ((LL.vals flight-row.the-type flight-laws.the-laws) (h .flight)))))
-              ∷ ‵ (fat fullShare settings-laws.mir (past .14) 0
-              ((only ((LL.vals settings-row.the-type settings-laws.the-laws) (h .settings)))))
-              ∷ ‵ (fat fullShare tyBool (past .13) 0 ((past .37)))
-              ∷ ‵ (fat fullShare (sliceTy (tyRef (named 5) imm (tyInt w8))) (past .10) 0 (s₅))
-              ∷ ‵ (fat fullShare (sliceTy (tyRef (named 4) imm (tyInt w32))) (past .9) 0 (s₄))
-              ∷ ‵ (fat fullShare (sliceTy (tyRef (named 3) imm (pointee (R .written)))) (past .8) 0 (s₃))
-              ∷ ‵ (fat fullShare (sliceTy (tyRef (named 2) imm (tyInt w8))) (past .7) 0 (s₂))
-              ∷ ‵ (fat fullShare (sliceTy (tyRef (named 1) mut (tyInt w8))) (past .6) 0 (s₁))
-              ∷ ‵ (fat fullShare (tyRef (named 0) mut (pointee (L .written))) (past .5) 0 (vptr b o)) ∷ ‵ (froom (tyInt w32) (past .4) 0)
-              ∷ []) ∵ exec ! C Λ (En (past .4) (past .5) (past .6) (past .7) (past .8) (past .9) (past .10) (past .11) (past .12) (past .13)
-              (past .14) (past .15) (past .16) (past .17) (past .18) (past .19) (past .20) (past .21) (past .22) (past .23) (past .24)
-              (past .25) (past .26) (past .27) (past .28) (past .29) (past .30) (past .31) (past .32) (past .33) (past .34) (past .35))
-              (behind 25 (code.function .body)) (atRet (En (past .4) (past .5) (past .6) (past .7) (past .8) (past .9) (past .10) (past .11)
-              (past .12) (past .13) (past .14) (past .15) (past .16) (past .17) (past .18) (past .19) (past .20) (past .21) (past .22)
-              (past .23) (past .24) (past .25) (past .26) (past .27) (past .28) (past .29) (past .30) (past .31) (past .32) (past .33)
-              (past .34) (past .35)) Post) $
+          ∷ ‵ (partAt (Array u32 128) fullShare (h .«waiting_numbers») b (o + 1820))
+          ∷ ‵ (partAt (Array u32 128) fullShare (h .waiting) b (o + 1308)) ∷ ‵ (partAt (Array u32 128) fullShare (h .ready) b (o + 796))
+          ∷ ‵ (partAt (Array u8 32) fullShare (h .transmissions) b (o + 764))
+          ∷ ‵ (partAt (Array u32 32) fullShare (h .outstanding) b (o + 636))
+          ∷ ‵ (partAt (Array u32 128) fullShare (past .1) b (o + 124)) ∷ ‵ (finally u8 (x₁ .name) (past .0)) ∷ ‵ (flft κ₁ q₁)
+          ∷ ‵ (flft κ₂ q₂) ∷ ‵ (flft κ₄ q₄) ∷ ‵ (flft κ₅ q₅) ∷ ‵ (flft κ₃ q₃)
+          ∷ ‵ (partAt clock-row.the-row fullShare (h .clock) b (o + 104))
+          ∷ ‵ (partAt arrival-row.the-row fullShare (h .arrival) b (o + 72))
+          ∷ ‵ (partAt flight-row.the-row fullShare (h .flight) b (o + 16))
+          ∷ ‵ (partAt settings-row.the-row fullShare (h .settings) b (o + 0)) ∷ raw (Back 𝓤 H A fullShare b o) ∷ ‵ (Open b o γ κ₀ q₀ h)
+          ∷ ‵ (fat fullShare (tyArray (tyInt w8) 256) (past .12) 0 ((only ((array-vals (uint-vals w8)) (past .2)))))
+          ∷ (‵ (fdies (tyInt w32) (past .4)) ⊛ ‵ (fdies (tyRef (named 0) mut (pointee (L .written))) (past .5)) ⊛ ‵
+          (fdies (sliceTy (tyRef (named 1) mut (tyInt w8))) (past .6)) ⊛ ‵ (fdies (sliceTy (tyRef (named 2) imm (tyInt w8))) (past .7))
+          ⊛ ‵ (fdies (sliceTy (tyRef (named 3) imm (pointee (R .written)))) (past .8)) ⊛ ‵
+          (fdies (sliceTy (tyRef (named 4) imm (tyInt w32))) (past .9)) ⊛ ‵
+          (fdies (sliceTy (tyRef (named 5) imm (tyInt w8))) (past .10)) ⊛ ‵ (fdies (tyArray (tyInt w8) 256) (past .11)) ⊛ ‵
+          (fdies (tyArray (tyInt w8) 256) (past .12)) ⊛ ‵ (fdies tyBool (past .13)) ⊛ ‵ (fdies settings-laws.mir (past .14)) ⊛ ‵
+          (fdies flight-laws.mir (past .15)) ⊛ ‵ (fdies arrival-laws.mir (past .16)) ⊛ ‵ (fdies clock-laws.mir (past .17)) ⊛ ‵
+          (fdies tyBool (past .18)) ⊛ ‵ (fdies (tyInt w64) (past .19)) ⊛ ‵ (fdies submitted-laws.mir (past .20)) ⊛ ‵
+          (fdies flight-laws.mir (past .21)) ⊛ ‵ (fdies (tyArray (tyInt w8) 256) (past .22)) ⊛ ‵
+          (fdies (tyRef erased imm (pointee (L .written))) (past .23)) ⊛ ‵
+          (fdies (tyRef erased mut (tyArray (tyInt w8) 256)) (past .24)) ⊛ ‵
+          (fdies (tyRef erased mut (tyArray (tyInt w8) 256)) (past .25)) ⊛ ‵
+          (fdies (tyRef erased imm (tyArray (tyInt w32) 32)) (past .26)) ⊛ ‵
+          (fdies (tyRef erased mut (tyArray (tyInt w32) 128)) (past .27)) ⊛ ‵
+          (fdies (tyRef erased imm (tyArray (tyInt w32) 32)) (past .28)) ⊛ ‵
+          (fdies (tyRef erased imm (tyArray (tyInt w8) 32)) (past .29)) ⊛ ‵
+          (fdies (tyRef erased imm (tyArray (tyInt w32) 128)) (past .30)) ⊛ ‵
+          (fdies (tyRef erased imm (tyArray (tyInt w32) 128)) (past .31)) ⊛ ‵
+          (fdies (tyRef erased imm (tyArray (tyInt w32) 128)) (past .32)) ⊛ ‵
+          (fdies (tyRef erased imm (tyArray (tyInt w8) 256)) (past .33)) ⊛ ‵ (fdies (tyRef erased mut (tyInt w8)) (past .34)) ⊛ ‵
+          (fdies (sliceTy (tyRef erased mut (tyInt w8))) (past .35)))
+          ∷ ‵ (fat fullShare (sliceTy (tyRef erased mut (tyInt w8))) (past .35) 0 (s₁))
+          ∷ ‵ (fat fullShare (tyRef erased mut (tyInt w8)) (past .34) 0 ((vptr (x₁ .ptr .0) (x₁ .ptr .1))))
+          ∷ ‵ (fat fullShare (tyRef erased imm (tyArray (tyInt w8) 256)) (past .33) 0 ((vptr (past .11) 0)))
+          ∷ ‵ (fat fullShare (tyRef erased imm (tyArray (tyInt w32) 128)) (past .32) 0 ((vptr b (o + 1820))))
+          ∷ ‵ (fat fullShare (tyRef erased imm (tyArray (tyInt w32) 128)) (past .31) 0 ((vptr b (o + 1308))))
+          ∷ ‵ (fat fullShare (tyRef erased imm (tyArray (tyInt w32) 128)) (past .30) 0 ((vptr b (o + 796))))
+          ∷ ‵ (fat fullShare (tyRef erased imm (tyArray (tyInt w8) 32)) (past .29) 0 ((vptr b (o + 764))))
+          ∷ ‵ (fat fullShare (tyRef erased imm (tyArray (tyInt w32) 32)) (past .28) 0 ((vptr b (o + 636))))
+          ∷ ‵ (fat fullShare (tyRef erased mut (tyArray (tyInt w32) 128)) (past .27) 0 ((vptr b (o + 124))))
+          ∷ ‵ (fat fullShare (tyRef erased imm (tyArray (tyInt w32) 32)) (past .26) 0 ((vptr b (o + 636))))
+          ∷ ‵ (fat fullShare (tyRef erased mut (tyArray (tyInt w8) 256)) (past .25) 0 ((vptr (past .12) 0)))
+          ∷ ‵ (fat fullShare (tyRef erased mut (tyArray (tyInt w8) 256)) (past .24) 0 ((vptr (past .11) 0)))
+          ∷ ‵ (fat fullShare (tyRef erased imm (pointee (L .written))) (past .23) 0 ((vptr b o)))
+          ∷ ‵ (fat fullShare (tyArray (tyInt w8) 256) (past .22) 0 ((past .36))) ∷ ‵ (froom flight-laws.mir (past .21) 0)
+          ∷ ‵ (fat fullShare submitted-laws.mir (past .20) 0 ((past .45))) ∷ ‵ (fat fullShare (tyInt w64) (past .19) 0 ((past .42)))
+          ∷ ‵ (fat fullShare tyBool (past .18) 0 ((past .39)))
+          ∷ ‵ (fat fullShare clock-laws.mir (past .17) 0 ((only ((LL.vals clock-row.the-type clock-laws.the-laws) (h .clock)))))
+          ∷ ‵ (fat fullShare arrival-laws.mir (past .16) 0 ((only ((LL.vals arrival-row.the-type arrival-laws.the-laws) (h .arrival)))))
+          ∷ ‵ (fat fullShare flight-laws.mir (past .15) 0 ((only ((LL.vals flight-row.the-type flight-laws.the-laws) (h .flight)))))
+          ∷ ‵ (fat fullShare settings-laws.mir (past .14) 0
+          ((only ((LL.vals settings-row.the-type settings-laws.the-laws) (h .settings)))))
+          ∷ ‵ (fat fullShare tyBool (past .13) 0 ((past .37)))
+          ∷ ‵ (fat fullShare (sliceTy (tyRef (named 5) imm (tyInt w8))) (past .10) 0 (s₅))
+          ∷ ‵ (fat fullShare (sliceTy (tyRef (named 4) imm (tyInt w32))) (past .9) 0 (s₄))
+          ∷ ‵ (fat fullShare (sliceTy (tyRef (named 3) imm (pointee (R .written)))) (past .8) 0 (s₃))
+          ∷ ‵ (fat fullShare (sliceTy (tyRef (named 2) imm (tyInt w8))) (past .7) 0 (s₂))
+          ∷ ‵ (fat fullShare (sliceTy (tyRef (named 1) mut (tyInt w8))) (past .6) 0 (s₁))
+          ∷ ‵ (fat fullShare (tyRef (named 0) mut (pointee (L .written))) (past .5) 0 (vptr b o)) ∷ ‵ (froom (tyInt w32) (past .4) 0)
+          ∷ []) ∵ exec ! C Λ (En (past .4) (past .5) (past .6) (past .7) (past .8) (past .9) (past .10) (past .11) (past .12) (past .13)
+          (past .14) (past .15) (past .16) (past .17) (past .18) (past .19) (past .20) (past .21) (past .22) (past .23) (past .24)
+          (past .25) (past .26) (past .27) (past .28) (past .29) (past .30) (past .31) (past .32) (past .33) (past .34) (past .35))
+          (behind 25 (code.function .body)) (atRet (En (past .4) (past .5) (past .6) (past .7) (past .8) (past .9) (past .10) (past .11)
+          (past .12) (past .13) (past .14) (past .15) (past .16) (past .17) (past .18) (past .19) (past .20) (past .21) (past .22)
+          (past .23) (past .24) (past .25) (past .26) (past .27) (past .28) (past .29) (past .30) (past .31) (past .32) (past .33)
+          (past .34) (past .35)) Post) $
           nothing ! $ calls-fn ! fm flight-of.ended (flight-of.clauses 𝓤 H A at-mem run) (known .5)
-              ((tt, tt, tt, ((past .44), tt), ((past .45) ∷ [], tt)), tt) (λ kf _. kf ≡ (past .44) .flight)
+          ((tt, tt, tt, ((past .44), tt), ((past .45) ∷ [], tt)), tt) (λ kf _. kf ≡ (past .44) .flight)
           (‵ ftrue) (plainly 𝓤 H A W (submitted-row.the-row ∷ []) ((LL.makes submitted-row.the-type submitted-laws.the-plain 𝓤 H A), tt)
           ((past .44), tt) ((past .45) ∷ [], tt) ((past .47), tt)) (λ kf _. id⊢ 𝓤 _)
           (and-then ! (load ! (from ! (stop !)) (look ! 37 refl)) (no-more !))
@@ -828,33 +951,92 @@ module _ {M : Type 1} (𝓤 : URA M) (H : Heap 𝓤) (A : Atoms 𝓤) (W : Given
           land ! (from ! (stop !)) (init ! 35 refl (LL.lawful flight-row.the-type flight-laws.the-laws 𝓤 H A W .typed kf (w-kf ∷ []) is-kf
           .0)) $
           move ! (15 ∷ []) $ cell-out ! fullShare flight-row.the-row (LL.vals flight-row.the-type flight-laws.the-laws)
-              (LL.tells flight-row.the-type flight-laws.the-laws) (h .flight) b (o + 16)
-              (λ was-flight′. assigns ! (of-opd ! (load ! (from ! (stop !)) (look ! 35 refl)))
-              (from ! (hop ! (look ! 49 refl) (fld ! {d = 16} refl (stop !))))
-              (store-raw ! 0 refl (LL.lawful flight-row.the-type flight-laws.the-laws 𝓤 H A W .typed kf (w-kf ∷ []) is-kf .0)) $
-              cell-in ! fullShare flight-row.the-row (LL.makes flight-row.the-type flight-laws.the-plain 𝓤 H A) kf b (o + 16) w-kf is-kf $
-              move ! (7 ∷ []) $ tells-length ! fullShare u32 128 (past .1) b (o + 124)
-              (λ end-queued. move ! (7 ∷ []) $
-              tells-length ! fullShare u32 32 (h .outstanding) b (o + 636)
-              (λ end-outstanding. move ! (7 ∷ []) $
-              tells-length ! fullShare u8 32 (h .transmissions) b (o + 764)
-              (λ end-transmissions. move ! (7 ∷ []) $
-              tells-length ! fullShare u32 128 (h .ready) b (o + 796)
-              (λ end-ready. move ! (7 ∷ []) $
-              tells-length ! fullShare u32 128 (h .waiting) b (o + 1308)
-              (λ end-waiting. move ! (7 ∷ []) $
-              tells-length ! fullShare u32 128 (h .«waiting_numbers») b (o + 1820)
-              (λ end-waiting-numbers. move ! (16 ∷ 6 ∷ 15 ∷ 14 ∷ 5 ∷ 4 ∷ 3 ∷ 2 ∷ 1 ∷ 0 ∷ 17 ∷ 18 ∷ []) $
-              closes-link b o γ ! tt h (record { settings = (h .settings); flight = kf; arrival = (h .arrival); clock = (h .clock);
-              queued = (past .1); outstanding = (h .outstanding); transmissions = (h .transmissions); ready = (h .ready); waiting =
-              (h .waiting); «waiting_numbers» = (h .«waiting_numbers») }) $
+          (LL.tells flight-row.the-type flight-laws.the-laws) (h .flight) b (o + 16)
+          (λ was-flight′. assigns ! (of-opd ! (load ! (from ! (stop !)) (look ! 35 refl)))
+          (from ! (hop ! (look ! 49 refl) (fld ! {d = 16} refl (stop !))))
+          (store-raw ! 0 refl (LL.lawful flight-row.the-type flight-laws.the-laws 𝓤 H A W .typed kf (w-kf ∷ []) is-kf .0)) $
+          cell-in ! fullShare flight-row.the-row (LL.makes flight-row.the-type flight-laws.the-plain 𝓤 H A) kf b (o + 16) w-kf is-kf $
+          move ! (7 ∷ []) $ tells-length ! fullShare u32 128 (past .1) b (o + 124)
+          (λ end-queued. move ! (7 ∷ []) $
+          tells-length ! fullShare u32 32 (h .outstanding) b (o + 636)
+          (λ end-outstanding. move ! (7 ∷ []) $
+          tells-length ! fullShare u8 32 (h .transmissions) b (o + 764)
+          (λ end-transmissions. move ! (7 ∷ []) $
+          tells-length ! fullShare u32 128 (h .ready) b (o + 796)
+          (λ end-ready. move ! (7 ∷ []) $
+          tells-length ! fullShare u32 128 (h .waiting) b (o + 1308)
+          (λ end-waiting. move ! (7 ∷ []) $
+          tells-length ! fullShare u32 128 (h .«waiting_numbers») b (o + 1820)
+          (λ end-waiting-numbers. move ! (16 ∷ 6 ∷ 15 ∷ 14 ∷ 5 ∷ 4 ∷ 3 ∷ 2 ∷ 1 ∷ 0 ∷ 17 ∷ 18 ∷ []) $
+          closes-link b o γ ! tt h (record {
+            settings = (h .settings);
+            flight = kf;
+            arrival = (h .arrival);
+            clock = (h .clock);
+            queued = (past .1);
+            outstanding = (h .outstanding);
+            transmissions = (h .transmissions);
+            ready = (h .ready);
+            waiting =
+                (h .waiting);
+            «waiting_numbers» = (h .«waiting_numbers»);
+          }) $
           -- [own0; tok0; fin1; tok1; tok2; tok4; tok5; tok3; deaths; the locals]
-          by ! (part₄ (((past .0)), ((past .0)), (past .1), (past .2), (past .3), (past .4), (past .5), (past .6), (past .7), (past .8),
-              (past .9), (past .10), (past .11), (past .12), (past .13), (past .14), (past .15), (past .16), (past .17), (past .18),
-              (past .19), (past .20), (past .21), (past .22), (past .23), (past .24), (past .25), (past .26), (past .27), (past .28),
-              (past .29), (past .30), (past .31), (past .32), (past .33), (past .34), (past .35), (past .36), (past .37), (past .38),
-              (past .39), (past .40), (past .41), (past .42), (past .43), (past .44), (past .45), (past .46), (past .47), (past .48), kf,
-              w-kf, e-kf))))))))))
+          by ! (part₄ (
+            ((past .0)),
+            ((past .0)),
+            (past .1),
+            (past .2),
+            (past .3),
+            (past .4),
+            (past .5),
+            (past .6),
+            (past .7),
+            (past .8),
+            (past .9),
+            (past .10),
+            (past .11),
+            (past .12),
+            (past .13),
+            (past .14),
+            (past .15),
+            (past .16),
+            (past .17),
+            (past .18),
+            (past .19),
+            (past .20),
+            (past .21),
+            (past .22),
+            (past .23),
+            (past .24),
+            (past .25),
+            (past .26),
+            (past .27),
+            (past .28),
+            (past .29),
+            (past .30),
+            (past .31),
+            (past .32),
+            (past .33),
+            (past .34),
+            (past .35),
+            (past .36),
+            (past .37),
+            (past .38),
+            (past .39),
+            (past .40),
+            (past .41),
+            (past .42),
+            (past .43),
+            (past .44),
+            (past .45),
+            (past .46),
+            (past .47),
+            (past .48),
+            kf,
+            w-kf,
+            e-kf,
+          ))))))))))
 
       -- what part 2 knows
       abbrev Known₂ : Type 0
@@ -939,136 +1121,136 @@ module _ {M : Type 1} (𝓤 : URA M) (H : Heap 𝓤) (A : Atoms 𝓤) (W : Given
           (past .25) (past .26) (past .27) (past .28) (past .29) (past .30) (past .31) (past .32) (past .33)) Post))
       part₂ past =
           qed W (‵ (flft κ₃ q₃) ∷ ‵ (partAt (Array u32 32) fullShare (h .outstanding) b (o + 636))
-              ∷ ‵ (partAt clock-row.the-row fullShare (h .clock) b (o + 104))
-              ∷ ‵ (partAt arrival-row.the-row fullShare (h .arrival) b (o + 72))
-              ∷ ‵ (partAt flight-row.the-row fullShare (h .flight) b (o + 16))
-              ∷ ‵ (partAt settings-row.the-row fullShare (h .settings) b (o + 0))
-              ∷ ‵ (partAt (Array u32 128) fullShare (h .«waiting_numbers») b (o + 1820))
-              ∷ ‵ (partAt (Array u32 128) fullShare (h .waiting) b (o + 1308)) ∷ ‵ (partAt (Array u32 128) fullShare (h .ready) b (o + 796))
-              ∷ ‵ (partAt (Array u8 32) fullShare (h .transmissions) b (o + 764))
-              ∷ ‵ (partAt (Array u32 128) fullShare (h .queued) b (o + 124)) ∷ raw (Back 𝓤 H A fullShare b o) ∷ ‵ (Open b o γ κ₀ q₀ h)
-              ∷ ‵ (fat fullShare (tyArray (tyInt w8) 256) (past .10) 0 ((only ((array-vals (uint-vals w8)) (past .0)))))
-              ∷ ‵ (fat fullShare (tyArray (tyInt w8) 256) (past .9) 0 ((only ((array-vals (uint-vals w8)) (past .1)))))
-              ∷ (‵ (fdies (tyInt w32) (past .2)) ⊛ ‵ (fdies (tyRef (named 0) mut (pointee (L .written))) (past .3)) ⊛ ‵
-              (fdies (sliceTy (tyRef (named 1) mut (tyInt w8))) (past .4)) ⊛ ‵ (fdies (sliceTy (tyRef (named 2) imm (tyInt w8))) (past .5))
-              ⊛ ‵ (fdies (sliceTy (tyRef (named 3) imm (pointee (R .written)))) (past .6)) ⊛ ‵
-              (fdies (sliceTy (tyRef (named 4) imm (tyInt w32))) (past .7)) ⊛ ‵ (fdies (sliceTy (tyRef (named 5) imm (tyInt w8))) (past .8))
-              ⊛ ‵ (fdies (tyArray (tyInt w8) 256) (past .9)) ⊛ ‵ (fdies (tyArray (tyInt w8) 256) (past .10)) ⊛ ‵ (fdies tyBool (past .11)) ⊛
-              ‵ (fdies settings-laws.mir (past .12)) ⊛ ‵ (fdies flight-laws.mir (past .13)) ⊛ ‵ (fdies arrival-laws.mir (past .14)) ⊛ ‵
-              (fdies clock-laws.mir (past .15)) ⊛ ‵ (fdies tyBool (past .16)) ⊛ ‵ (fdies (tyInt w64) (past .17)) ⊛ ‵
-              (fdies submitted-laws.mir (past .18)) ⊛ ‵ (fdies flight-laws.mir (past .19)) ⊛ ‵ (fdies (tyArray (tyInt w8) 256) (past .20)) ⊛
-              ‵ (fdies (tyRef erased imm (pointee (L .written))) (past .21)) ⊛ ‵
-              (fdies (tyRef erased mut (tyArray (tyInt w8) 256)) (past .22)) ⊛ ‵
-              (fdies (tyRef erased mut (tyArray (tyInt w8) 256)) (past .23)) ⊛ ‵
-              (fdies (tyRef erased imm (tyArray (tyInt w32) 32)) (past .24)) ⊛ ‵
-              (fdies (tyRef erased mut (tyArray (tyInt w32) 128)) (past .25)) ⊛ ‵
-              (fdies (tyRef erased imm (tyArray (tyInt w32) 32)) (past .26)) ⊛ ‵
-              (fdies (tyRef erased imm (tyArray (tyInt w8) 32)) (past .27)) ⊛ ‵
-              (fdies (tyRef erased imm (tyArray (tyInt w32) 128)) (past .28)) ⊛ ‵
-              (fdies (tyRef erased imm (tyArray (tyInt w32) 128)) (past .29)) ⊛ ‵
-              (fdies (tyRef erased imm (tyArray (tyInt w32) 128)) (past .30)) ⊛ ‵
-              (fdies (tyRef erased imm (tyArray (tyInt w8) 256)) (past .31)) ⊛ ‵ (fdies (tyRef erased mut (tyInt w8)) (past .32)) ⊛ ‵
-              (fdies (sliceTy (tyRef erased mut (tyInt w8))) (past .33))) ∷ ‵ (flft κ₁ q₁) ∷ ‵ (flft κ₂ q₂) ∷ ‵ (flft κ₄ q₄)
-              ∷ ‵ (flft κ₅ q₅) ∷ ‵ Own₁ ∷ ‵ Own₂ ∷ ‵ Own₄ ∷ ‵ Own₅
-              ∷ ‵ (froom (sliceTy (tyRef erased mut (tyInt w8))) (past .33) 0) ∷ ‵ (froom (tyRef erased mut (tyInt w8)) (past .32) 0)
-              ∷ ‵ (froom (tyRef erased imm (tyArray (tyInt w8) 256)) (past .31) 0)
-              ∷ ‵ (froom (tyRef erased imm (tyArray (tyInt w32) 128)) (past .30) 0)
-              ∷ ‵ (froom (tyRef erased imm (tyArray (tyInt w32) 128)) (past .29) 0)
-              ∷ ‵ (froom (tyRef erased imm (tyArray (tyInt w32) 128)) (past .28) 0)
-              ∷ ‵ (froom (tyRef erased imm (tyArray (tyInt w8) 32)) (past .27) 0)
-              ∷ ‵ (froom (tyRef erased imm (tyArray (tyInt w32) 32)) (past .26) 0)
-              ∷ ‵ (froom (tyRef erased mut (tyArray (tyInt w32) 128)) (past .25) 0)
-              ∷ ‵ (fat fullShare (tyRef erased imm (tyArray (tyInt w32) 32)) (past .24) 0 ((vptr b (o + 636))))
-              ∷ ‵ (fat fullShare (tyRef erased mut (tyArray (tyInt w8) 256)) (past .23) 0 ((vptr (past .10) 0)))
-              ∷ ‵ (fat fullShare (tyRef erased mut (tyArray (tyInt w8) 256)) (past .22) 0 ((vptr (past .9) 0)))
-              ∷ ‵ (fat fullShare (tyRef erased imm (pointee (L .written))) (past .21) 0 ((vptr b o)))
-              ∷ ‵ (fat fullShare (tyArray (tyInt w8) 256) (past .20) 0 ((past .34))) ∷ ‵ (froom flight-laws.mir (past .19) 0)
-              ∷ ‵ (froom submitted-laws.mir (past .18) 0) ∷ ‵ (fat fullShare (tyInt w64) (past .17) 0 ((past .55)))
-              ∷ ‵ (fat fullShare tyBool (past .16) 0 ((past .51)))
-              ∷ ‵ (fat fullShare clock-laws.mir (past .15) 0 ((only ((LL.vals clock-row.the-type clock-laws.the-laws) (h .clock)))))
-              ∷ ‵ (fat fullShare arrival-laws.mir (past .14) 0 ((only ((LL.vals arrival-row.the-type arrival-laws.the-laws) (h .arrival)))))
-              ∷ ‵ (fat fullShare flight-laws.mir (past .13) 0 ((only ((LL.vals flight-row.the-type flight-laws.the-laws) (h .flight)))))
-              ∷ ‵ (fat fullShare settings-laws.mir (past .12) 0
-              ((only ((LL.vals settings-row.the-type settings-laws.the-laws) (h .settings)))))
-              ∷ ‵ (fat fullShare tyBool (past .11) 0 ((past .36)))
-              ∷ ‵ (fat fullShare (sliceTy (tyRef (named 5) imm (tyInt w8))) (past .8) 0 (s₅))
-              ∷ ‵ (fat fullShare (sliceTy (tyRef (named 4) imm (tyInt w32))) (past .7) 0 (s₄))
-              ∷ ‵ (fat fullShare (sliceTy (tyRef (named 3) imm (pointee (R .written)))) (past .6) 0 (s₃))
-              ∷ ‵ (fat fullShare (sliceTy (tyRef (named 2) imm (tyInt w8))) (past .5) 0 (s₂))
-              ∷ ‵ (fat fullShare (sliceTy (tyRef (named 1) mut (tyInt w8))) (past .4) 0 (s₁))
-              ∷ ‵ (fat fullShare (tyRef (named 0) mut (pointee (L .written))) (past .3) 0 (vptr b o)) ∷ ‵ (froom (tyInt w32) (past .2) 0)
-              ∷ []) ∵ exec ! C Λ (En (past .2) (past .3) (past .4) (past .5) (past .6) (past .7) (past .8) (past .9) (past .10) (past .11)
-              (past .12) (past .13) (past .14) (past .15) (past .16) (past .17) (past .18) (past .19) (past .20) (past .21) (past .22)
-              (past .23) (past .24) (past .25) (past .26) (past .27) (past .28) (past .29) (past .30) (past .31) (past .32) (past .33))
-              (behind 15 (code.function .body)) (atRet (En (past .2) (past .3) (past .4) (past .5) (past .6) (past .7) (past .8) (past .9)
-              (past .10) (past .11) (past .12) (past .13) (past .14) (past .15) (past .16) (past .17) (past .18) (past .19) (past .20)
-              (past .21) (past .22) (past .23) (past .24) (past .25) (past .26) (past .27) (past .28) (past .29) (past .30) (past .31)
-              (past .32) (past .33)) Post) $
+          ∷ ‵ (partAt clock-row.the-row fullShare (h .clock) b (o + 104))
+          ∷ ‵ (partAt arrival-row.the-row fullShare (h .arrival) b (o + 72))
+          ∷ ‵ (partAt flight-row.the-row fullShare (h .flight) b (o + 16))
+          ∷ ‵ (partAt settings-row.the-row fullShare (h .settings) b (o + 0))
+          ∷ ‵ (partAt (Array u32 128) fullShare (h .«waiting_numbers») b (o + 1820))
+          ∷ ‵ (partAt (Array u32 128) fullShare (h .waiting) b (o + 1308)) ∷ ‵ (partAt (Array u32 128) fullShare (h .ready) b (o + 796))
+          ∷ ‵ (partAt (Array u8 32) fullShare (h .transmissions) b (o + 764))
+          ∷ ‵ (partAt (Array u32 128) fullShare (h .queued) b (o + 124)) ∷ raw (Back 𝓤 H A fullShare b o) ∷ ‵ (Open b o γ κ₀ q₀ h)
+          ∷ ‵ (fat fullShare (tyArray (tyInt w8) 256) (past .10) 0 ((only ((array-vals (uint-vals w8)) (past .0)))))
+          ∷ ‵ (fat fullShare (tyArray (tyInt w8) 256) (past .9) 0 ((only ((array-vals (uint-vals w8)) (past .1)))))
+          ∷ (‵ (fdies (tyInt w32) (past .2)) ⊛ ‵ (fdies (tyRef (named 0) mut (pointee (L .written))) (past .3)) ⊛ ‵
+          (fdies (sliceTy (tyRef (named 1) mut (tyInt w8))) (past .4)) ⊛ ‵ (fdies (sliceTy (tyRef (named 2) imm (tyInt w8))) (past .5))
+          ⊛ ‵ (fdies (sliceTy (tyRef (named 3) imm (pointee (R .written)))) (past .6)) ⊛ ‵
+          (fdies (sliceTy (tyRef (named 4) imm (tyInt w32))) (past .7)) ⊛ ‵ (fdies (sliceTy (tyRef (named 5) imm (tyInt w8))) (past .8))
+          ⊛ ‵ (fdies (tyArray (tyInt w8) 256) (past .9)) ⊛ ‵ (fdies (tyArray (tyInt w8) 256) (past .10)) ⊛ ‵ (fdies tyBool (past .11)) ⊛
+          ‵ (fdies settings-laws.mir (past .12)) ⊛ ‵ (fdies flight-laws.mir (past .13)) ⊛ ‵ (fdies arrival-laws.mir (past .14)) ⊛ ‵
+          (fdies clock-laws.mir (past .15)) ⊛ ‵ (fdies tyBool (past .16)) ⊛ ‵ (fdies (tyInt w64) (past .17)) ⊛ ‵
+          (fdies submitted-laws.mir (past .18)) ⊛ ‵ (fdies flight-laws.mir (past .19)) ⊛ ‵ (fdies (tyArray (tyInt w8) 256) (past .20)) ⊛
+          ‵ (fdies (tyRef erased imm (pointee (L .written))) (past .21)) ⊛ ‵
+          (fdies (tyRef erased mut (tyArray (tyInt w8) 256)) (past .22)) ⊛ ‵
+          (fdies (tyRef erased mut (tyArray (tyInt w8) 256)) (past .23)) ⊛ ‵
+          (fdies (tyRef erased imm (tyArray (tyInt w32) 32)) (past .24)) ⊛ ‵
+          (fdies (tyRef erased mut (tyArray (tyInt w32) 128)) (past .25)) ⊛ ‵
+          (fdies (tyRef erased imm (tyArray (tyInt w32) 32)) (past .26)) ⊛ ‵
+          (fdies (tyRef erased imm (tyArray (tyInt w8) 32)) (past .27)) ⊛ ‵
+          (fdies (tyRef erased imm (tyArray (tyInt w32) 128)) (past .28)) ⊛ ‵
+          (fdies (tyRef erased imm (tyArray (tyInt w32) 128)) (past .29)) ⊛ ‵
+          (fdies (tyRef erased imm (tyArray (tyInt w32) 128)) (past .30)) ⊛ ‵
+          (fdies (tyRef erased imm (tyArray (tyInt w8) 256)) (past .31)) ⊛ ‵ (fdies (tyRef erased mut (tyInt w8)) (past .32)) ⊛ ‵
+          (fdies (sliceTy (tyRef erased mut (tyInt w8))) (past .33))) ∷ ‵ (flft κ₁ q₁) ∷ ‵ (flft κ₂ q₂) ∷ ‵ (flft κ₄ q₄)
+          ∷ ‵ (flft κ₅ q₅) ∷ ‵ Own₁ ∷ ‵ Own₂ ∷ ‵ Own₄ ∷ ‵ Own₅
+          ∷ ‵ (froom (sliceTy (tyRef erased mut (tyInt w8))) (past .33) 0) ∷ ‵ (froom (tyRef erased mut (tyInt w8)) (past .32) 0)
+          ∷ ‵ (froom (tyRef erased imm (tyArray (tyInt w8) 256)) (past .31) 0)
+          ∷ ‵ (froom (tyRef erased imm (tyArray (tyInt w32) 128)) (past .30) 0)
+          ∷ ‵ (froom (tyRef erased imm (tyArray (tyInt w32) 128)) (past .29) 0)
+          ∷ ‵ (froom (tyRef erased imm (tyArray (tyInt w32) 128)) (past .28) 0)
+          ∷ ‵ (froom (tyRef erased imm (tyArray (tyInt w8) 32)) (past .27) 0)
+          ∷ ‵ (froom (tyRef erased imm (tyArray (tyInt w32) 32)) (past .26) 0)
+          ∷ ‵ (froom (tyRef erased mut (tyArray (tyInt w32) 128)) (past .25) 0)
+          ∷ ‵ (fat fullShare (tyRef erased imm (tyArray (tyInt w32) 32)) (past .24) 0 ((vptr b (o + 636))))
+          ∷ ‵ (fat fullShare (tyRef erased mut (tyArray (tyInt w8) 256)) (past .23) 0 ((vptr (past .10) 0)))
+          ∷ ‵ (fat fullShare (tyRef erased mut (tyArray (tyInt w8) 256)) (past .22) 0 ((vptr (past .9) 0)))
+          ∷ ‵ (fat fullShare (tyRef erased imm (pointee (L .written))) (past .21) 0 ((vptr b o)))
+          ∷ ‵ (fat fullShare (tyArray (tyInt w8) 256) (past .20) 0 ((past .34))) ∷ ‵ (froom flight-laws.mir (past .19) 0)
+          ∷ ‵ (froom submitted-laws.mir (past .18) 0) ∷ ‵ (fat fullShare (tyInt w64) (past .17) 0 ((past .55)))
+          ∷ ‵ (fat fullShare tyBool (past .16) 0 ((past .51)))
+          ∷ ‵ (fat fullShare clock-laws.mir (past .15) 0 ((only ((LL.vals clock-row.the-type clock-laws.the-laws) (h .clock)))))
+          ∷ ‵ (fat fullShare arrival-laws.mir (past .14) 0 ((only ((LL.vals arrival-row.the-type arrival-laws.the-laws) (h .arrival)))))
+          ∷ ‵ (fat fullShare flight-laws.mir (past .13) 0 ((only ((LL.vals flight-row.the-type flight-laws.the-laws) (h .flight)))))
+          ∷ ‵ (fat fullShare settings-laws.mir (past .12) 0
+          ((only ((LL.vals settings-row.the-type settings-laws.the-laws) (h .settings)))))
+          ∷ ‵ (fat fullShare tyBool (past .11) 0 ((past .36)))
+          ∷ ‵ (fat fullShare (sliceTy (tyRef (named 5) imm (tyInt w8))) (past .8) 0 (s₅))
+          ∷ ‵ (fat fullShare (sliceTy (tyRef (named 4) imm (tyInt w32))) (past .7) 0 (s₄))
+          ∷ ‵ (fat fullShare (sliceTy (tyRef (named 3) imm (pointee (R .written)))) (past .6) 0 (s₃))
+          ∷ ‵ (fat fullShare (sliceTy (tyRef (named 2) imm (tyInt w8))) (past .5) 0 (s₂))
+          ∷ ‵ (fat fullShare (sliceTy (tyRef (named 1) mut (tyInt w8))) (past .4) 0 (s₁))
+          ∷ ‵ (fat fullShare (tyRef (named 0) mut (pointee (L .written))) (past .3) 0 (vptr b o)) ∷ ‵ (froom (tyInt w32) (past .2) 0)
+          ∷ []) ∵ exec ! C Λ (En (past .2) (past .3) (past .4) (past .5) (past .6) (past .7) (past .8) (past .9) (past .10) (past .11)
+          (past .12) (past .13) (past .14) (past .15) (past .16) (past .17) (past .18) (past .19) (past .20) (past .21) (past .22)
+          (past .23) (past .24) (past .25) (past .26) (past .27) (past .28) (past .29) (past .30) (past .31) (past .32) (past .33))
+          (behind 15 (code.function .body)) (atRet (En (past .2) (past .3) (past .4) (past .5) (past .6) (past .7) (past .8) (past .9)
+          (past .10) (past .11) (past .12) (past .13) (past .14) (past .15) (past .16) (past .17) (past .18) (past .19) (past .20)
+          (past .21) (past .22) (past .23) (past .24) (past .25) (past .26) (past .27) (past .28) (past .29) (past .30) (past .31)
+          (past .32) (past .33)) Post) $
           assigns ! {v = (vptr b (o + 124))} (addr ! (from ! (hop ! (look ! 52 refl) (fld ! {d = 124} refl (stop !))))) (from ! (stop !))
-              (init ! 32 refl (tt, tt)) $
+          (init ! 32 refl (tt, tt)) $
           assigns ! {v = (vptr b (o + 636))} (addr ! (from ! (hop ! (look ! 52 refl) (fld ! {d = 636} refl (stop !))))) (from ! (stop !))
-              (init ! 31 refl (tt, tt)) $
+          (init ! 31 refl (tt, tt)) $
           assigns ! {v = (vptr b (o + 764))} (addr ! (from ! (hop ! (look ! 52 refl) (fld ! {d = 764} refl (stop !))))) (from ! (stop !))
-              (init ! 30 refl (tt, tt)) $
+          (init ! 30 refl (tt, tt)) $
           assigns ! {v = (vptr b (o + 796))} (addr ! (from ! (hop ! (look ! 52 refl) (fld ! {d = 796} refl (stop !))))) (from ! (stop !))
-              (init ! 29 refl (tt, tt)) $
+          (init ! 29 refl (tt, tt)) $
           assigns ! {v = (vptr b (o + 1308))} (addr ! (from ! (hop ! (look ! 52 refl) (fld ! {d = 1308} refl (stop !))))) (from ! (stop !))
-              (init ! 28 refl (tt, tt)) $
+          (init ! 28 refl (tt, tt)) $
           assigns ! {v = (vptr b (o + 1820))} (addr ! (from ! (hop ! (look ! 52 refl) (fld ! {d = 1820} refl (stop !))))) (from ! (stop !))
-              (init ! 27 refl (tt, tt)) $
+          (init ! 27 refl (tt, tt)) $
           assigns ! {v = (vptr (past .9) 0)} (addr ! (from ! (stop !))) (from ! (stop !)) (init ! 26 refl (tt, tt)) $
           assigns ! {v = (vptr (x₁ .ptr .0) (x₁ .ptr .1))}
-              (addr ! (from ! (fld ! refl (hop ! (look-in ! 51 (sub ! 0 refl (whole !))) (stop !))))) (from ! (stop !))
-              (init ! 25 refl (tt, tt)) $
+          (addr ! (from ! (fld ! refl (hop ! (look-in ! 51 (sub ! 0 refl (whole !))) (stop !))))) (from ! (stop !))
+          (init ! 25 refl (tt, tt)) $
           assigns ! {v = s₁} (agg ! (and-then ! (load ! (from ! (stop !)) (look ! 25 refl))
-              (and-then ! (load ! (from ! (fld ! refl (stop !))) (look-in ! 51 (sub ! 1 refl (whole !)))) (no-more !)))) (from ! (stop !))
-              (init ! 24 refl (tt, (tt, (record { fits = room₁ .0 }, tt)))) $
+          (and-then ! (load ! (from ! (fld ! refl (stop !))) (look-in ! 51 (sub ! 1 refl (whole !)))) (no-more !)))) (from ! (stop !))
+          (init ! 24 refl (tt, (tt, (record { fits = room₁ .0 }, tt)))) $
           move ! (10 ∷ []) $ lend-mut ! tt (Array u32 128) (h .queued) b (o + 124)
-              (λ α-queued δ-queued. move ! (4 ∷ []) $
-              lend-shr ! tt fullShare (Array u32 32) (h .outstanding) b (o + 636)
-              (λ α-outstanding′ δ-outstanding′. move ! (14 ∷ []) $
-              lend-shr ! tt fullShare (Array u8 32) (h .transmissions) b (o + 764)
-              (λ α-transmissions δ-transmissions. move ! (16 ∷ []) $
-              lend-shr ! tt fullShare (Array u32 128) (h .ready) b (o + 796)
-              (λ α-ready δ-ready. move ! (18 ∷ []) $
-              lend-shr ! tt fullShare (Array u32 128) (h .waiting) b (o + 1308)
-              (λ α-waiting δ-waiting. move ! (20 ∷ []) $
-              lend-shr ! tt fullShare (Array u32 128) (h .«waiting_numbers») b (o + 1820)
-              (λ α-waiting-numbers δ-waiting-numbers. move ! (26 ∷ []) $
-              use1 W (‵ (cellAt fullShare ((tyArray (tyInt w8) 256) ∷ []) ((only ((array-vals (uint-vals w8)) (past .1))) ∷ []) (past .9)
-              0)) (W .laws .at-raw fullShare (tyArray (tyInt w8) 256) (past .9) 0 (only ((array-vals (uint-vals w8)) (past .1)))) $
-              cell-in ! fullShare (Array u8 256) (array-makes 𝓤 H A W u8 (uint-makes 𝓤 H A W w8) 256) (past .1) (past .9) 0
-              (only ((array-vals (uint-vals w8)) (past .1))) (past .39) $
+          (λ α-queued δ-queued. move ! (4 ∷ []) $
+          lend-shr ! tt fullShare (Array u32 32) (h .outstanding) b (o + 636)
+          (λ α-outstanding′ δ-outstanding′. move ! (14 ∷ []) $
+          lend-shr ! tt fullShare (Array u8 32) (h .transmissions) b (o + 764)
+          (λ α-transmissions δ-transmissions. move ! (16 ∷ []) $
+          lend-shr ! tt fullShare (Array u32 128) (h .ready) b (o + 796)
+          (λ α-ready δ-ready. move ! (18 ∷ []) $
+          lend-shr ! tt fullShare (Array u32 128) (h .waiting) b (o + 1308)
+          (λ α-waiting δ-waiting. move ! (20 ∷ []) $
+          lend-shr ! tt fullShare (Array u32 128) (h .«waiting_numbers») b (o + 1820)
+          (λ α-waiting-numbers δ-waiting-numbers. move ! (26 ∷ []) $
+          use1 W (‵ (cellAt fullShare ((tyArray (tyInt w8) 256) ∷ []) ((only ((array-vals (uint-vals w8)) (past .1))) ∷ []) (past .9)
+          0)) (W .laws .at-raw fullShare (tyArray (tyInt w8) 256) (past .9) 0 (only ((array-vals (uint-vals w8)) (past .1)))) $
+          cell-in ! fullShare (Array u8 256) (array-makes 𝓤 H A W u8 (uint-makes 𝓤 H A W w8) 256) (past .1) (past .9) 0
+          (only ((array-vals (uint-vals w8)) (past .1))) (past .39) $
           lend-shr ! tt fullShare (Array u8 256) (past .1) (past .9) 0
-              (λ α-sends′ δ-sends′. move ! (18 ∷ 19 ∷ 15 ∷ 16 ∷ 12 ∷ 13 ∷ 9 ∷ 10 ∷ 6 ∷ 7 ∷ 3 ∷ 4 ∷ 0 ∷ 1 ∷ 30 ∷ 34 ∷ 31
-              ∷ 35 ∷ 32 ∷ 36 ∷ 33 ∷ 37 ∷ []) $ group ! 22 $
-              calls-fn ! fm core.ended (core.clauses 𝓤 H A at-mem run) (known .4)
-              (to-core α-queued δ-queued (h .queued) α-outstanding′ δ-outstanding′ (h .outstanding) α-transmissions δ-transmissions
-              (h .transmissions) α-ready δ-ready (h .ready) α-waiting δ-waiting (h .waiting) α-waiting-numbers δ-waiting-numbers
-              (h .«waiting_numbers») (past .9) α-sends′ δ-sends′ (past .1) (h .settings)
-              (only ((LL.vals settings-row.the-type settings-laws.the-laws) (h .settings))) (h .flight)
-              (only ((LL.vals flight-row.the-type flight-laws.the-laws) (h .flight))) (h .arrival)
-              (only ((LL.vals arrival-row.the-type arrival-laws.the-laws) (h .arrival))) (h .clock)
-              (only ((LL.vals clock-row.the-type clock-laws.the-laws) (h .clock))) (past .35) (past .36) (past .50) (past .51) (past .54)
-              (past .55)) (λ a ws-a. ByFlown h (past .50)
-              (λ recs. SendLeaves h recs (past .54) (x₁ .now) (x₂ .now) (x₄ .now) (x₅ .now) (a .answer)
-              (linkOf (h .settings) (a .flight) (h .arrival) (h .clock)
-              (arrays (ws-a .1 .1 .1 .1 .1 .1 .1 .0) (h .outstanding) (h .transmissions) (h .ready) (h .waiting) (h .«waiting_numbers»)))
-              (ws-a .1 .1 .1 .1 .1 .1 .1 .1 .1 .1 .1 .1 .1 .1 .0)))
-              (‵ (flft (α-queued ∷ []) fullShare) ⊛ ‵ (MutRef (named 0) (α-queued ∷ []) (Array u32 128) .own
-              (ref-at b (o + 124) δ-queued (h .queued)) ((vptr b (o + 124)) ∷ [])) ⊛ ‵ (flft (α-outstanding′ ∷ []) fullShare) ⊛ ‵
-              (ShrRef (named 0) (α-outstanding′ ∷ []) (Array u32 32) .own (ref-at b (o + 636) δ-outstanding′ (h .outstanding))
-              ((vptr b (o + 636)) ∷ [])) ⊛ ‵ (flft (α-transmissions ∷ []) fullShare) ⊛ ‵
-              (ShrRef (named 0) (α-transmissions ∷ []) (Array u8 32) .own (ref-at b (o + 764) δ-transmissions (h .transmissions))
-              ((vptr b (o + 764)) ∷ [])) ⊛ ‵ (flft (α-ready ∷ []) fullShare) ⊛ ‵
-              (ShrRef (named 0) (α-ready ∷ []) (Array u32 128) .own (ref-at b (o + 796) δ-ready (h .ready)) ((vptr b (o + 796)) ∷ [])) ⊛ ‵
-              (flft (α-waiting ∷ []) fullShare) ⊛ ‵ (ShrRef (named 0) (α-waiting ∷ []) (Array u32 128) .own
-              (ref-at b (o + 1308) δ-waiting (h .waiting)) ((vptr b (o + 1308)) ∷ [])) ⊛ ‵ (flft (α-waiting-numbers ∷ []) fullShare) ⊛ ‵
-              (ShrRef (named 0) (α-waiting-numbers ∷ []) (Array u32 128) .own (ref-at b (o + 1820) δ-waiting-numbers (h .«waiting_numbers»))
-              ((vptr b (o + 1820)) ∷ [])) ⊛ ‵ (flft (α-sends′ ∷ []) fullShare) ⊛ ‵
-              (ShrRef (named 0) (α-sends′ ∷ []) (Array u8 256) .own (ref-at (past .9) 0 δ-sends′ (past .1)) ((vptr (past .9) 0) ∷ [])) ⊛ ‵
-              (flft κ₁ q₁) ⊛ ‵ Own₁ ⊛ ‵ (flft κ₂ q₂) ⊛ ‵ Own₂ ⊛ ‵ (flft κ₄ q₄) ⊛ ‵ Own₄ ⊛ ‵ (flft κ₅ q₅) ⊛
-              ‵ Own₅)
+          (λ α-sends′ δ-sends′. move ! (18 ∷ 19 ∷ 15 ∷ 16 ∷ 12 ∷ 13 ∷ 9 ∷ 10 ∷ 6 ∷ 7 ∷ 3 ∷ 4 ∷ 0 ∷ 1 ∷ 30 ∷ 34 ∷ 31
+          ∷ 35 ∷ 32 ∷ 36 ∷ 33 ∷ 37 ∷ []) $ group ! 22 $
+          calls-fn ! fm core.ended (core.clauses 𝓤 H A at-mem run) (known .4)
+          (to-core α-queued δ-queued (h .queued) α-outstanding′ δ-outstanding′ (h .outstanding) α-transmissions δ-transmissions
+          (h .transmissions) α-ready δ-ready (h .ready) α-waiting δ-waiting (h .waiting) α-waiting-numbers δ-waiting-numbers
+          (h .«waiting_numbers») (past .9) α-sends′ δ-sends′ (past .1) (h .settings)
+          (only ((LL.vals settings-row.the-type settings-laws.the-laws) (h .settings))) (h .flight)
+          (only ((LL.vals flight-row.the-type flight-laws.the-laws) (h .flight))) (h .arrival)
+          (only ((LL.vals arrival-row.the-type arrival-laws.the-laws) (h .arrival))) (h .clock)
+          (only ((LL.vals clock-row.the-type clock-laws.the-laws) (h .clock))) (past .35) (past .36) (past .50) (past .51) (past .54)
+          (past .55)) (λ a ws-a. ByFlown h (past .50)
+          (λ recs. SendLeaves h recs (past .54) (x₁ .now) (x₂ .now) (x₄ .now) (x₅ .now) (a .answer)
+          (linkOf (h .settings) (a .flight) (h .arrival) (h .clock)
+          (arrays (ws-a .1 .1 .1 .1 .1 .1 .1 .0) (h .outstanding) (h .transmissions) (h .ready) (h .waiting) (h .«waiting_numbers»)))
+          (ws-a .1 .1 .1 .1 .1 .1 .1 .1 .1 .1 .1 .1 .1 .1 .0)))
+          (‵ (flft (α-queued ∷ []) fullShare) ⊛ ‵ (MutRef (named 0) (α-queued ∷ []) (Array u32 128) .own
+          (ref-at b (o + 124) δ-queued (h .queued)) ((vptr b (o + 124)) ∷ [])) ⊛ ‵ (flft (α-outstanding′ ∷ []) fullShare) ⊛ ‵
+          (ShrRef (named 0) (α-outstanding′ ∷ []) (Array u32 32) .own (ref-at b (o + 636) δ-outstanding′ (h .outstanding))
+          ((vptr b (o + 636)) ∷ [])) ⊛ ‵ (flft (α-transmissions ∷ []) fullShare) ⊛ ‵
+          (ShrRef (named 0) (α-transmissions ∷ []) (Array u8 32) .own (ref-at b (o + 764) δ-transmissions (h .transmissions))
+          ((vptr b (o + 764)) ∷ [])) ⊛ ‵ (flft (α-ready ∷ []) fullShare) ⊛ ‵
+          (ShrRef (named 0) (α-ready ∷ []) (Array u32 128) .own (ref-at b (o + 796) δ-ready (h .ready)) ((vptr b (o + 796)) ∷ [])) ⊛ ‵
+          (flft (α-waiting ∷ []) fullShare) ⊛ ‵ (ShrRef (named 0) (α-waiting ∷ []) (Array u32 128) .own
+          (ref-at b (o + 1308) δ-waiting (h .waiting)) ((vptr b (o + 1308)) ∷ [])) ⊛ ‵ (flft (α-waiting-numbers ∷ []) fullShare) ⊛ ‵
+          (ShrRef (named 0) (α-waiting-numbers ∷ []) (Array u32 128) .own (ref-at b (o + 1820) δ-waiting-numbers (h .«waiting_numbers»))
+          ((vptr b (o + 1820)) ∷ [])) ⊛ ‵ (flft (α-sends′ ∷ []) fullShare) ⊛ ‵
+          (ShrRef (named 0) (α-sends′ ∷ []) (Array u8 256) .own (ref-at (past .9) 0 δ-sends′ (past .1)) ((vptr (past .9) 0) ∷ [])) ⊛ ‵
+          (flft κ₁ q₁) ⊛ ‵ Own₁ ⊛ ‵ (flft κ₂ q₂) ⊛ ‵ Own₂ ⊛ ‵ (flft κ₄ q₄) ⊛ ‵ Own₄ ⊛ ‵ (flft κ₅ q₅) ⊛
+          ‵ Own₅)
           (asks-core α-queued δ-queued (h .queued) α-outstanding′ δ-outstanding′ (h .outstanding) α-transmissions δ-transmissions
           (h .transmissions) α-ready δ-ready (h .ready) α-waiting δ-waiting (h .waiting) α-waiting-numbers δ-waiting-numbers
           (h .«waiting_numbers») (past .9) α-sends′ δ-sends′ (past .1) (h .settings)
@@ -1076,12 +1258,21 @@ module _ {M : Type 1} (𝓤 : URA M) (H : Heap 𝓤) (A : Atoms 𝓤) (W : Given
           (only ((LL.vals flight-row.the-type flight-laws.the-laws) (h .flight))) (past .47) (h .arrival)
           (only ((LL.vals arrival-row.the-type arrival-laws.the-laws) (h .arrival))) (past .48) (h .clock)
           (only ((LL.vals clock-row.the-type clock-laws.the-laws) (h .clock))) (past .49) (past .35) (past .36) (past .38) (past .50)
-          (past .51) (past .53) (past .54) (past .55) (past .57)
-          (record { whole-queued = (past .40); whole-outstanding = (past .41); whole-transmissions = (past .42); whole-ready = (past .43);
-          whole-waiting = (past .44); whole-numbers = (past .45) },
-          ((padded (gathered (take sendSlots (x₃ .now)) (slotsIn (h .outstanding) (h .flight .outstanding)))),
-          (record { whole = padded-whole (take sendSlots (x₃ .now)) (h .outstanding) (h .flight .outstanding); fits = (past .52) })),
-          ((past .0), (past .37)))) (λ a ws-a. id⊢ 𝓤 _)
+          (past .51) (past .53) (past .54) (past .55) (past .57) (
+            record {
+              whole-queued = (past .40);
+              whole-outstanding = (past .41);
+              whole-transmissions = (past .42);
+              whole-ready = (past .43);
+              whole-waiting = (past .44);
+              whole-numbers = (past .45);
+            },
+            (
+              (padded (gathered (take sendSlots (x₃ .now)) (slotsIn (h .outstanding) (h .flight .outstanding)))),
+              (record { whole = padded-whole (take sendSlots (x₃ .now)) (h .outstanding) (h .flight .outstanding); fits = (past .52) }),
+            ),
+            ((past .0), (past .37)),
+          )) (λ a ws-a. id⊢ 𝓤 _)
           (and-then ! (load ! (from ! (stop !)) (look ! 38 refl))
           (and-then ! (load ! (from ! (stop !)) (look ! 37 refl))
           (and-then ! (load ! (from ! (stop !)) (look ! 36 refl))
@@ -1103,37 +1294,82 @@ module _ {M : Type 1} (𝓤 : URA M) (H : Heap 𝓤) (A : Atoms 𝓤) (W : Given
           (λ a w-a ws-a e-a is-a. land ! (from ! (stop !))
           (init ! 33 refl (LL.lawful submitted-row.the-type submitted-laws.the-laws 𝓤 H A W .typed a (w-a ∷ []) is-a .0)) $
           spread W (‵ (flft (α-queued ∷ []) fullShare))
-              (‵ (flft (α-outstanding′ ∷ []) fullShare) ∷ ‵ (flft (α-transmissions ∷ []) fullShare) ∷ ‵ (flft (α-ready ∷ []) fullShare)
-              ∷ ‵ (flft (α-waiting ∷ []) fullShare) ∷ ‵ (flft (α-waiting-numbers ∷ []) fullShare) ∷ ‵ (flft (α-sends′ ∷ []) fullShare)
-              ∷ ‵ (flft κ₁ q₁) ∷ ‵ (flft κ₂ q₂) ∷ ‵ (flft κ₄ q₄) ∷ ‵ (flft κ₅ q₅) ∷ ‵ ftrue ∷ []) (id⊢ 𝓤 _) $
-              move ! (12 ∷ []) $ spread W (‵ ftrue) (‵ ftrue ∷ ‵ ftrue ∷ ‵ ftrue ∷ ‵ ftrue ∷ ‵ ftrue ∷ ‵ ftrue
-              ∷ ‵ (fres δ-queued ((Array u32 128) .coded .code (ws-a .1 .1 .1 .1 .1 .1 .1 .0))) ∷ ‵ ftrue ∷ ‵ ftrue ∷ ‵ ftrue ∷ ‵ ftrue
-              ∷ ‵ ftrue ∷ ‵ ftrue ∷ ‵ (fsep (finally u8 (x₁ .name) (ws-a .1 .1 .1 .1 .1 .1 .1 .1 .1 .1 .1 .1 .1 .1 .0))
-              (feq ℕ (length (ws-a .1 .1 .1 .1 .1 .1 .1 .1 .1 .1 .1 .1 .1 .1 .0)) (length (x₁ .now)))) ∷ ‵ ftrue ∷ ‵ ftrue ∷ ‵ ftrue
-              ∷ ‵ ftrue ∷ []) (id⊢ 𝓤 _) $ keep ! (7 ∷ 14 ∷ 19 ∷ 20 ∷ 21 ∷ 22 ∷ 23 ∷ 24 ∷ 25 ∷ 26 ∷ 27 ∷ 28 ∷ 29 ∷ 31 ∷ 32
-              ∷ 33 ∷ 34 ∷ 35 ∷ 36 ∷ 37 ∷ 38 ∷ 39 ∷ 40 ∷ 41 ∷ 42 ∷ 43 ∷ 44 ∷ 45 ∷ 46 ∷ 47 ∷ 48 ∷ 49 ∷ 50 ∷ 51 ∷ 52 ∷ 53
-              ∷ 54 ∷ 55 ∷ 56 ∷ 57 ∷ 58 ∷ 59 ∷ 60 ∷ 61 ∷ 62 ∷ 63 ∷ 64 ∷ 65 ∷ 66 ∷ 67 ∷ 68 ∷ 69 ∷ 70 ∷ 71 ∷ 72 ∷ 73 ∷ 74
-              ∷ 75 ∷ 76 ∷ []) $ move ! (1 ∷ []) $ fsplit ! $ move ! (1 ∷ []) $ feqL ! (λ len₁.
+          (‵ (flft (α-outstanding′ ∷ []) fullShare) ∷ ‵ (flft (α-transmissions ∷ []) fullShare) ∷ ‵ (flft (α-ready ∷ []) fullShare)
+          ∷ ‵ (flft (α-waiting ∷ []) fullShare) ∷ ‵ (flft (α-waiting-numbers ∷ []) fullShare) ∷ ‵ (flft (α-sends′ ∷ []) fullShare)
+          ∷ ‵ (flft κ₁ q₁) ∷ ‵ (flft κ₂ q₂) ∷ ‵ (flft κ₄ q₄) ∷ ‵ (flft κ₅ q₅) ∷ ‵ ftrue ∷ []) (id⊢ 𝓤 _) $
+          move ! (12 ∷ []) $ spread W (‵ ftrue) (‵ ftrue ∷ ‵ ftrue ∷ ‵ ftrue ∷ ‵ ftrue ∷ ‵ ftrue ∷ ‵ ftrue
+          ∷ ‵ (fres δ-queued ((Array u32 128) .coded .code (ws-a .1 .1 .1 .1 .1 .1 .1 .0))) ∷ ‵ ftrue ∷ ‵ ftrue ∷ ‵ ftrue ∷ ‵ ftrue
+          ∷ ‵ ftrue ∷ ‵ ftrue ∷ ‵ (fsep (finally u8 (x₁ .name) (ws-a .1 .1 .1 .1 .1 .1 .1 .1 .1 .1 .1 .1 .1 .1 .0))
+          (feq ℕ (length (ws-a .1 .1 .1 .1 .1 .1 .1 .1 .1 .1 .1 .1 .1 .1 .0)) (length (x₁ .now)))) ∷ ‵ ftrue ∷ ‵ ftrue ∷ ‵ ftrue
+          ∷ ‵ ftrue ∷ []) (id⊢ 𝓤 _) $ keep ! (7 ∷ 14 ∷ 19 ∷ 20 ∷ 21 ∷ 22 ∷ 23 ∷ 24 ∷ 25 ∷ 26 ∷ 27 ∷ 28 ∷ 29 ∷ 31 ∷ 32
+          ∷ 33 ∷ 34 ∷ 35 ∷ 36 ∷ 37 ∷ 38 ∷ 39 ∷ 40 ∷ 41 ∷ 42 ∷ 43 ∷ 44 ∷ 45 ∷ 46 ∷ 47 ∷ 48 ∷ 49 ∷ 50 ∷ 51 ∷ 52 ∷ 53
+          ∷ 54 ∷ 55 ∷ 56 ∷ 57 ∷ 58 ∷ 59 ∷ 60 ∷ 61 ∷ 62 ∷ 63 ∷ 64 ∷ 65 ∷ 66 ∷ 67 ∷ 68 ∷ 69 ∷ 70 ∷ 71 ∷ 72 ∷ 73 ∷ 74
+          ∷ 75 ∷ 76 ∷ []) $ move ! (1 ∷ []) $ fsplit ! $ move ! (1 ∷ []) $ feqL ! (λ len₁.
           -- [fin1; fin:queued; tok:queued; tok:outstanding; tok:transmissions; tok:ready; tok:waiting; tok:«waiting_numbers»; tok:@sends;
           -- tok1; tok2; tok4; tok5; lent:@sends; lent:«waiting_numbers»; lent:waiting; lent:ready; lent:transmissions; lent:outstanding;
           -- lent:queued; tok3; F:clock; F:arrival; F:flight; F:settings; back; opened; deaths; the locals]
           move ! (2 ∷ 19 ∷ 1 ∷ []) $ back-mut ! tt (Array u32 128) b (o + 124) (ws-a .1 .1 .1 .1 .1 .1 .1 .0) $ move ! (2 ∷ 17 ∷ []) $
-              back-shr ! tt fullShare (Array u32 32) b (o + 636) (h .outstanding) $ move ! (3 ∷ 16 ∷ []) $
-              back-shr ! tt fullShare (Array u8 32) b (o + 764) (h .transmissions) $ move ! (4 ∷ 15 ∷ []) $
-              back-shr ! tt fullShare (Array u32 128) b (o + 796) (h .ready) $ move ! (5 ∷ 14 ∷ []) $
-              back-shr ! tt fullShare (Array u32 128) b (o + 1308) (h .waiting) $ move ! (6 ∷ 13 ∷ []) $
-              back-shr ! tt fullShare (Array u32 128) b (o + 1820) (h .«waiting_numbers») $ move ! (7 ∷ 12 ∷ []) $
-              back-shr ! tt fullShare (Array u8 256) (past .9) 0 (past .1) $
-              cell-out ! fullShare (Array u8 256) (array-vals (uint-vals w8)) (array-tells u8 (uint-vals w8) (uint-tells w8) 256) (past .1)
-              (past .9) 0 (λ was-sends-3. use1 W (‵ (fat fullShare (tyArray (tyInt w8) 256) (past .9) 0
-              (only ((array-vals (uint-vals w8)) (past .1)))))
-              (W .laws .raw-at fullShare (tyArray (tyInt w8) 256) (past .9) 0 (only ((array-vals (uint-vals w8)) (past .1)))) $
-          by ! (part₃ ((ws-a .1 .1 .1 .1 .1 .1 .1 .1 .1 .1 .1 .1 .1 .1 .0), (ws-a .1 .1 .1 .1 .1 .1 .1 .0), (past .0), (past .1), (past .2),
-              (past .3), (past .4), (past .5), (past .6), (past .7), (past .8), (past .9), (past .10), (past .11), (past .12), (past .13),
-              (past .14), (past .15), (past .16), (past .17), (past .18), (past .19), (past .20), (past .21), (past .22), (past .23),
-              (past .24), (past .25), (past .26), (past .27), (past .28), (past .29), (past .30), (past .31), (past .32), (past .33),
-              (past .34), (past .36), (past .50), (past .51), (past .52), (past .54), (past .55), (past .56), a, w-a, e-a, is-a,
-              len₁))))))))))))
+          back-shr ! tt fullShare (Array u32 32) b (o + 636) (h .outstanding) $ move ! (3 ∷ 16 ∷ []) $
+          back-shr ! tt fullShare (Array u8 32) b (o + 764) (h .transmissions) $ move ! (4 ∷ 15 ∷ []) $
+          back-shr ! tt fullShare (Array u32 128) b (o + 796) (h .ready) $ move ! (5 ∷ 14 ∷ []) $
+          back-shr ! tt fullShare (Array u32 128) b (o + 1308) (h .waiting) $ move ! (6 ∷ 13 ∷ []) $
+          back-shr ! tt fullShare (Array u32 128) b (o + 1820) (h .«waiting_numbers») $ move ! (7 ∷ 12 ∷ []) $
+          back-shr ! tt fullShare (Array u8 256) (past .9) 0 (past .1) $
+          cell-out ! fullShare (Array u8 256) (array-vals (uint-vals w8)) (array-tells u8 (uint-vals w8) (uint-tells w8) 256) (past .1)
+          (past .9) 0 (λ was-sends-3. use1 W (‵ (fat fullShare (tyArray (tyInt w8) 256) (past .9) 0
+          (only ((array-vals (uint-vals w8)) (past .1)))))
+          (W .laws .raw-at fullShare (tyArray (tyInt w8) 256) (past .9) 0 (only ((array-vals (uint-vals w8)) (past .1)))) $
+          by ! (part₃ (
+            (ws-a .1 .1 .1 .1 .1 .1 .1 .1 .1 .1 .1 .1 .1 .1 .0),
+            (ws-a .1 .1 .1 .1 .1 .1 .1 .0),
+            (past .0),
+            (past .1),
+            (past .2),
+            (past .3),
+            (past .4),
+            (past .5),
+            (past .6),
+            (past .7),
+            (past .8),
+            (past .9),
+            (past .10),
+            (past .11),
+            (past .12),
+            (past .13),
+            (past .14),
+            (past .15),
+            (past .16),
+            (past .17),
+            (past .18),
+            (past .19),
+            (past .20),
+            (past .21),
+            (past .22),
+            (past .23),
+            (past .24),
+            (past .25),
+            (past .26),
+            (past .27),
+            (past .28),
+            (past .29),
+            (past .30),
+            (past .31),
+            (past .32),
+            (past .33),
+            (past .34),
+            (past .36),
+            (past .50),
+            (past .51),
+            (past .52),
+            (past .54),
+            (past .55),
+            (past .56),
+            a,
+            w-a,
+            e-a,
+            is-a,
+            len₁,
+          ))))))))))))
 
       -- what part 1 knows
       abbrev Known₁ : Type 0
@@ -1197,121 +1433,121 @@ module _ {M : Type 1} (𝓤 : URA M) (H : Heap 𝓤) (A : Atoms 𝓤) (W : Given
           (past .25) (past .26) (past .27) (past .28) (past .29) (past .30) (past .31) (past .32) (past .33)) Post))
       part₁ past =
           qed W (‵ (fat fullShare (tyArray (tyInt w8) 256) (past .10) 0 ((only ((array-vals (uint-vals w8)) (past .0)))))
-              ∷ ‵ (fat fullShare (tyArray (tyInt w8) 256) (past .9) 0 ((only ((array-vals (uint-vals w8)) (past .1)))))
-              ∷ ‵ (link-own κ₀ b o γ h) ∷ ‵ (flft κ₀ q₀)
-              ∷ (‵ (fdies (tyInt w32) (past .2)) ⊛ ‵ (fdies (tyRef (named 0) mut (pointee (L .written))) (past .3)) ⊛ ‵
-              (fdies (sliceTy (tyRef (named 1) mut (tyInt w8))) (past .4)) ⊛ ‵ (fdies (sliceTy (tyRef (named 2) imm (tyInt w8))) (past .5))
-              ⊛ ‵ (fdies (sliceTy (tyRef (named 3) imm (pointee (R .written)))) (past .6)) ⊛ ‵
-              (fdies (sliceTy (tyRef (named 4) imm (tyInt w32))) (past .7)) ⊛ ‵ (fdies (sliceTy (tyRef (named 5) imm (tyInt w8))) (past .8))
-              ⊛ ‵ (fdies (tyArray (tyInt w8) 256) (past .9)) ⊛ ‵ (fdies (tyArray (tyInt w8) 256) (past .10)) ⊛ ‵ (fdies tyBool (past .11)) ⊛
-              ‵ (fdies settings-laws.mir (past .12)) ⊛ ‵ (fdies flight-laws.mir (past .13)) ⊛ ‵ (fdies arrival-laws.mir (past .14)) ⊛ ‵
-              (fdies clock-laws.mir (past .15)) ⊛ ‵ (fdies tyBool (past .16)) ⊛ ‵ (fdies (tyInt w64) (past .17)) ⊛ ‵
-              (fdies submitted-laws.mir (past .18)) ⊛ ‵ (fdies flight-laws.mir (past .19)) ⊛ ‵ (fdies (tyArray (tyInt w8) 256) (past .20)) ⊛
-              ‵ (fdies (tyRef erased imm (pointee (L .written))) (past .21)) ⊛ ‵
-              (fdies (tyRef erased mut (tyArray (tyInt w8) 256)) (past .22)) ⊛ ‵
-              (fdies (tyRef erased mut (tyArray (tyInt w8) 256)) (past .23)) ⊛ ‵
-              (fdies (tyRef erased imm (tyArray (tyInt w32) 32)) (past .24)) ⊛ ‵
-              (fdies (tyRef erased mut (tyArray (tyInt w32) 128)) (past .25)) ⊛ ‵
-              (fdies (tyRef erased imm (tyArray (tyInt w32) 32)) (past .26)) ⊛ ‵
-              (fdies (tyRef erased imm (tyArray (tyInt w8) 32)) (past .27)) ⊛ ‵
-              (fdies (tyRef erased imm (tyArray (tyInt w32) 128)) (past .28)) ⊛ ‵
-              (fdies (tyRef erased imm (tyArray (tyInt w32) 128)) (past .29)) ⊛ ‵
-              (fdies (tyRef erased imm (tyArray (tyInt w32) 128)) (past .30)) ⊛ ‵
-              (fdies (tyRef erased imm (tyArray (tyInt w8) 256)) (past .31)) ⊛ ‵ (fdies (tyRef erased mut (tyInt w8)) (past .32)) ⊛ ‵
-              (fdies (sliceTy (tyRef erased mut (tyInt w8))) (past .33))) ∷ ‵ (flft κ₁ q₁) ∷ ‵ (flft κ₂ q₂) ∷ ‵ (flft κ₃ q₃)
-              ∷ ‵ (flft κ₄ q₄) ∷ ‵ (flft κ₅ q₅) ∷ ‵ Own₁ ∷ ‵ Own₂ ∷ ‵ Own₃ ∷ ‵ Own₄ ∷ ‵ Own₅
-              ∷ ‵ (froom (sliceTy (tyRef erased mut (tyInt w8))) (past .33) 0) ∷ ‵ (froom (tyRef erased mut (tyInt w8)) (past .32) 0)
-              ∷ ‵ (froom (tyRef erased imm (tyArray (tyInt w8) 256)) (past .31) 0)
-              ∷ ‵ (froom (tyRef erased imm (tyArray (tyInt w32) 128)) (past .30) 0)
-              ∷ ‵ (froom (tyRef erased imm (tyArray (tyInt w32) 128)) (past .29) 0)
-              ∷ ‵ (froom (tyRef erased imm (tyArray (tyInt w32) 128)) (past .28) 0)
-              ∷ ‵ (froom (tyRef erased imm (tyArray (tyInt w8) 32)) (past .27) 0)
-              ∷ ‵ (froom (tyRef erased imm (tyArray (tyInt w32) 32)) (past .26) 0)
-              ∷ ‵ (froom (tyRef erased mut (tyArray (tyInt w32) 128)) (past .25) 0)
-              ∷ ‵ (froom (tyRef erased imm (tyArray (tyInt w32) 32)) (past .24) 0)
-              ∷ ‵ (fat fullShare (tyRef erased mut (tyArray (tyInt w8) 256)) (past .23) 0 ((vptr (past .10) 0)))
-              ∷ ‵ (fat fullShare (tyRef erased mut (tyArray (tyInt w8) 256)) (past .22) 0 ((vptr (past .9) 0)))
-              ∷ ‵ (fat fullShare (tyRef erased imm (pointee (L .written))) (past .21) 0 ((vptr b o)))
-              ∷ ‵ (fat fullShare (tyArray (tyInt w8) 256) (past .20) 0 ((past .34))) ∷ ‵ (froom flight-laws.mir (past .19) 0)
-              ∷ ‵ (froom submitted-laws.mir (past .18) 0) ∷ ‵ (froom (tyInt w64) (past .17) 0) ∷ ‵ (froom tyBool (past .16) 0)
-              ∷ ‵ (froom clock-laws.mir (past .15) 0) ∷ ‵ (froom arrival-laws.mir (past .14) 0) ∷ ‵ (froom flight-laws.mir (past .13) 0)
-              ∷ ‵ (froom settings-laws.mir (past .12) 0) ∷ ‵ (fat fullShare tyBool (past .11) 0 ((past .36)))
-              ∷ ‵ (fat fullShare (sliceTy (tyRef (named 5) imm (tyInt w8))) (past .8) 0 (s₅))
-              ∷ ‵ (fat fullShare (sliceTy (tyRef (named 4) imm (tyInt w32))) (past .7) 0 (s₄))
-              ∷ ‵ (fat fullShare (sliceTy (tyRef (named 3) imm (pointee (R .written)))) (past .6) 0 (s₃))
-              ∷ ‵ (fat fullShare (sliceTy (tyRef (named 2) imm (tyInt w8))) (past .5) 0 (s₂))
-              ∷ ‵ (fat fullShare (sliceTy (tyRef (named 1) mut (tyInt w8))) (past .4) 0 (s₁))
-              ∷ ‵ (fat fullShare (tyRef (named 0) mut (pointee (L .written))) (past .3) 0 (vptr b o)) ∷ ‵ (froom (tyInt w32) (past .2) 0)
-              ∷ []) ∵ exec ! C Λ (En (past .2) (past .3) (past .4) (past .5) (past .6) (past .7) (past .8) (past .9) (past .10) (past .11)
-              (past .12) (past .13) (past .14) (past .15) (past .16) (past .17) (past .18) (past .19) (past .20) (past .21) (past .22)
-              (past .23) (past .24) (past .25) (past .26) (past .27) (past .28) (past .29) (past .30) (past .31) (past .32) (past .33))
-              (behind 8 (code.function .body)) (atRet (En (past .2) (past .3) (past .4) (past .5) (past .6) (past .7) (past .8) (past .9)
-              (past .10) (past .11) (past .12) (past .13) (past .14) (past .15) (past .16) (past .17) (past .18) (past .19) (past .20)
-              (past .21) (past .22) (past .23) (past .24) (past .25) (past .26) (past .27) (past .28) (past .29) (past .30) (past .31)
-              (past .32) (past .33)) Post) $
+          ∷ ‵ (fat fullShare (tyArray (tyInt w8) 256) (past .9) 0 ((only ((array-vals (uint-vals w8)) (past .1)))))
+          ∷ ‵ (link-own κ₀ b o γ h) ∷ ‵ (flft κ₀ q₀)
+          ∷ (‵ (fdies (tyInt w32) (past .2)) ⊛ ‵ (fdies (tyRef (named 0) mut (pointee (L .written))) (past .3)) ⊛ ‵
+          (fdies (sliceTy (tyRef (named 1) mut (tyInt w8))) (past .4)) ⊛ ‵ (fdies (sliceTy (tyRef (named 2) imm (tyInt w8))) (past .5))
+          ⊛ ‵ (fdies (sliceTy (tyRef (named 3) imm (pointee (R .written)))) (past .6)) ⊛ ‵
+          (fdies (sliceTy (tyRef (named 4) imm (tyInt w32))) (past .7)) ⊛ ‵ (fdies (sliceTy (tyRef (named 5) imm (tyInt w8))) (past .8))
+          ⊛ ‵ (fdies (tyArray (tyInt w8) 256) (past .9)) ⊛ ‵ (fdies (tyArray (tyInt w8) 256) (past .10)) ⊛ ‵ (fdies tyBool (past .11)) ⊛
+          ‵ (fdies settings-laws.mir (past .12)) ⊛ ‵ (fdies flight-laws.mir (past .13)) ⊛ ‵ (fdies arrival-laws.mir (past .14)) ⊛ ‵
+          (fdies clock-laws.mir (past .15)) ⊛ ‵ (fdies tyBool (past .16)) ⊛ ‵ (fdies (tyInt w64) (past .17)) ⊛ ‵
+          (fdies submitted-laws.mir (past .18)) ⊛ ‵ (fdies flight-laws.mir (past .19)) ⊛ ‵ (fdies (tyArray (tyInt w8) 256) (past .20)) ⊛
+          ‵ (fdies (tyRef erased imm (pointee (L .written))) (past .21)) ⊛ ‵
+          (fdies (tyRef erased mut (tyArray (tyInt w8) 256)) (past .22)) ⊛ ‵
+          (fdies (tyRef erased mut (tyArray (tyInt w8) 256)) (past .23)) ⊛ ‵
+          (fdies (tyRef erased imm (tyArray (tyInt w32) 32)) (past .24)) ⊛ ‵
+          (fdies (tyRef erased mut (tyArray (tyInt w32) 128)) (past .25)) ⊛ ‵
+          (fdies (tyRef erased imm (tyArray (tyInt w32) 32)) (past .26)) ⊛ ‵
+          (fdies (tyRef erased imm (tyArray (tyInt w8) 32)) (past .27)) ⊛ ‵
+          (fdies (tyRef erased imm (tyArray (tyInt w32) 128)) (past .28)) ⊛ ‵
+          (fdies (tyRef erased imm (tyArray (tyInt w32) 128)) (past .29)) ⊛ ‵
+          (fdies (tyRef erased imm (tyArray (tyInt w32) 128)) (past .30)) ⊛ ‵
+          (fdies (tyRef erased imm (tyArray (tyInt w8) 256)) (past .31)) ⊛ ‵ (fdies (tyRef erased mut (tyInt w8)) (past .32)) ⊛ ‵
+          (fdies (sliceTy (tyRef erased mut (tyInt w8))) (past .33))) ∷ ‵ (flft κ₁ q₁) ∷ ‵ (flft κ₂ q₂) ∷ ‵ (flft κ₃ q₃)
+          ∷ ‵ (flft κ₄ q₄) ∷ ‵ (flft κ₅ q₅) ∷ ‵ Own₁ ∷ ‵ Own₂ ∷ ‵ Own₃ ∷ ‵ Own₄ ∷ ‵ Own₅
+          ∷ ‵ (froom (sliceTy (tyRef erased mut (tyInt w8))) (past .33) 0) ∷ ‵ (froom (tyRef erased mut (tyInt w8)) (past .32) 0)
+          ∷ ‵ (froom (tyRef erased imm (tyArray (tyInt w8) 256)) (past .31) 0)
+          ∷ ‵ (froom (tyRef erased imm (tyArray (tyInt w32) 128)) (past .30) 0)
+          ∷ ‵ (froom (tyRef erased imm (tyArray (tyInt w32) 128)) (past .29) 0)
+          ∷ ‵ (froom (tyRef erased imm (tyArray (tyInt w32) 128)) (past .28) 0)
+          ∷ ‵ (froom (tyRef erased imm (tyArray (tyInt w8) 32)) (past .27) 0)
+          ∷ ‵ (froom (tyRef erased imm (tyArray (tyInt w32) 32)) (past .26) 0)
+          ∷ ‵ (froom (tyRef erased mut (tyArray (tyInt w32) 128)) (past .25) 0)
+          ∷ ‵ (froom (tyRef erased imm (tyArray (tyInt w32) 32)) (past .24) 0)
+          ∷ ‵ (fat fullShare (tyRef erased mut (tyArray (tyInt w8) 256)) (past .23) 0 ((vptr (past .10) 0)))
+          ∷ ‵ (fat fullShare (tyRef erased mut (tyArray (tyInt w8) 256)) (past .22) 0 ((vptr (past .9) 0)))
+          ∷ ‵ (fat fullShare (tyRef erased imm (pointee (L .written))) (past .21) 0 ((vptr b o)))
+          ∷ ‵ (fat fullShare (tyArray (tyInt w8) 256) (past .20) 0 ((past .34))) ∷ ‵ (froom flight-laws.mir (past .19) 0)
+          ∷ ‵ (froom submitted-laws.mir (past .18) 0) ∷ ‵ (froom (tyInt w64) (past .17) 0) ∷ ‵ (froom tyBool (past .16) 0)
+          ∷ ‵ (froom clock-laws.mir (past .15) 0) ∷ ‵ (froom arrival-laws.mir (past .14) 0) ∷ ‵ (froom flight-laws.mir (past .13) 0)
+          ∷ ‵ (froom settings-laws.mir (past .12) 0) ∷ ‵ (fat fullShare tyBool (past .11) 0 ((past .36)))
+          ∷ ‵ (fat fullShare (sliceTy (tyRef (named 5) imm (tyInt w8))) (past .8) 0 (s₅))
+          ∷ ‵ (fat fullShare (sliceTy (tyRef (named 4) imm (tyInt w32))) (past .7) 0 (s₄))
+          ∷ ‵ (fat fullShare (sliceTy (tyRef (named 3) imm (pointee (R .written)))) (past .6) 0 (s₃))
+          ∷ ‵ (fat fullShare (sliceTy (tyRef (named 2) imm (tyInt w8))) (past .5) 0 (s₂))
+          ∷ ‵ (fat fullShare (sliceTy (tyRef (named 1) mut (tyInt w8))) (past .4) 0 (s₁))
+          ∷ ‵ (fat fullShare (tyRef (named 0) mut (pointee (L .written))) (past .3) 0 (vptr b o)) ∷ ‵ (froom (tyInt w32) (past .2) 0)
+          ∷ []) ∵ exec ! C Λ (En (past .2) (past .3) (past .4) (past .5) (past .6) (past .7) (past .8) (past .9) (past .10) (past .11)
+          (past .12) (past .13) (past .14) (past .15) (past .16) (past .17) (past .18) (past .19) (past .20) (past .21) (past .22)
+          (past .23) (past .24) (past .25) (past .26) (past .27) (past .28) (past .29) (past .30) (past .31) (past .32) (past .33))
+          (behind 8 (code.function .body)) (atRet (En (past .2) (past .3) (past .4) (past .5) (past .6) (past .7) (past .8) (past .9)
+          (past .10) (past .11) (past .12) (past .13) (past .14) (past .15) (past .16) (past .17) (past .18) (past .19) (past .20)
+          (past .21) (past .22) (past .23) (past .24) (past .25) (past .26) (past .27) (past .28) (past .29) (past .30) (past .31)
+          (past .32) (past .33)) Post) $
           move ! (2 ∷ 3 ∷ []) $ opens-link b o γ ! tt h $
           -- [F:settings; F:flight; F:arrival; F:clock; F:queued; F:outstanding; F:transmissions; F:ready; F:waiting; F:«waiting_numbers»;
           -- back; opened; deaths; tok1; tok2; tok3; tok4; tok5; own1; own2; own3; own4; own5; the locals]
           move ! (4 ∷ []) $ tells-length ! fullShare u32 128 (h .queued) b (o + 124)
-              (λ len-queued. move ! (5 ∷ []) $
-              tells-length ! fullShare u32 32 (h .outstanding) b (o + 636)
-              (λ len-outstanding. move ! (6 ∷ []) $
-              tells-length ! fullShare u8 32 (h .transmissions) b (o + 764)
-              (λ len-transmissions. move ! (7 ∷ []) $
-              tells-length ! fullShare u32 128 (h .ready) b (o + 796)
-              (λ len-ready. move ! (8 ∷ []) $
-              tells-length ! fullShare u32 128 (h .waiting) b (o + 1308)
-              (λ len-waiting. move ! (9 ∷ []) $
-              tells-length ! fullShare u32 128 (h .«waiting_numbers») b (o + 1820)
-              (λ len-waiting-numbers. move ! (6 ∷ []) $
-              cell-out ! fullShare settings-row.the-row (LL.vals settings-row.the-type settings-laws.the-laws)
-              (LL.tells settings-row.the-type settings-laws.the-laws) (h .settings) b (o + 0) (λ was-settings.
+          (λ len-queued. move ! (5 ∷ []) $
+          tells-length ! fullShare u32 32 (h .outstanding) b (o + 636)
+          (λ len-outstanding. move ! (6 ∷ []) $
+          tells-length ! fullShare u8 32 (h .transmissions) b (o + 764)
+          (λ len-transmissions. move ! (7 ∷ []) $
+          tells-length ! fullShare u32 128 (h .ready) b (o + 796)
+          (λ len-ready. move ! (8 ∷ []) $
+          tells-length ! fullShare u32 128 (h .waiting) b (o + 1308)
+          (λ len-waiting. move ! (9 ∷ []) $
+          tells-length ! fullShare u32 128 (h .«waiting_numbers») b (o + 1820)
+          (λ len-waiting-numbers. move ! (6 ∷ []) $
+          cell-out ! fullShare settings-row.the-row (LL.vals settings-row.the-type settings-laws.the-laws)
+          (LL.tells settings-row.the-type settings-laws.the-laws) (h .settings) b (o + 0) (λ was-settings.
           assigns ! {v = (only ((LL.vals settings-row.the-type settings-laws.the-laws) (h .settings)))}
-              (of-opd ! (load ! (from ! (hop ! (look ! 53 refl) (fld ! {d = 0} refl (stop !)))) (look-raw ! 0 refl))) (from ! (stop !))
-              (init ! 46 refl (LL.lawful settings-row.the-type settings-laws.the-laws 𝓤 H A W .typed (h .settings)
-              ((only ((LL.vals settings-row.the-type settings-laws.the-laws) (h .settings))) ∷ []) was-settings .0)) $
+          (of-opd ! (load ! (from ! (hop ! (look ! 53 refl) (fld ! {d = 0} refl (stop !)))) (look-raw ! 0 refl))) (from ! (stop !))
+          (init ! 46 refl (LL.lawful settings-row.the-type settings-laws.the-laws 𝓤 H A W .typed (h .settings)
+          ((only ((LL.vals settings-row.the-type settings-laws.the-laws) (h .settings))) ∷ []) was-settings .0)) $
           cell-in ! fullShare settings-row.the-row (LL.makes settings-row.the-type settings-laws.the-plain 𝓤 H A) (h .settings) b (o + 0)
-              (only ((LL.vals settings-row.the-type settings-laws.the-laws) (h .settings))) was-settings $ move ! (7 ∷ []) $
-              cell-out ! fullShare flight-row.the-row (LL.vals flight-row.the-type flight-laws.the-laws)
-              (LL.tells flight-row.the-type flight-laws.the-laws) (h .flight) b (o + 16) (λ was-flight.
+          (only ((LL.vals settings-row.the-type settings-laws.the-laws) (h .settings))) was-settings $ move ! (7 ∷ []) $
+          cell-out ! fullShare flight-row.the-row (LL.vals flight-row.the-type flight-laws.the-laws)
+          (LL.tells flight-row.the-type flight-laws.the-laws) (h .flight) b (o + 16) (λ was-flight.
           assigns ! {v = (only ((LL.vals flight-row.the-type flight-laws.the-laws) (h .flight)))}
-              (of-opd ! (load ! (from ! (hop ! (look ! 53 refl) (fld ! {d = 16} refl (stop !)))) (look-raw ! 0 refl))) (from ! (stop !))
-              (init ! 45 refl (LL.lawful flight-row.the-type flight-laws.the-laws 𝓤 H A W .typed (h .flight)
-              ((only ((LL.vals flight-row.the-type flight-laws.the-laws) (h .flight))) ∷ []) was-flight .0)) $
+          (of-opd ! (load ! (from ! (hop ! (look ! 53 refl) (fld ! {d = 16} refl (stop !)))) (look-raw ! 0 refl))) (from ! (stop !))
+          (init ! 45 refl (LL.lawful flight-row.the-type flight-laws.the-laws 𝓤 H A W .typed (h .flight)
+          ((only ((LL.vals flight-row.the-type flight-laws.the-laws) (h .flight))) ∷ []) was-flight .0)) $
           cell-in ! fullShare flight-row.the-row (LL.makes flight-row.the-type flight-laws.the-plain 𝓤 H A) (h .flight) b (o + 16)
-              (only ((LL.vals flight-row.the-type flight-laws.the-laws) (h .flight))) was-flight $ move ! (8 ∷ []) $
-              cell-out ! fullShare arrival-row.the-row (LL.vals arrival-row.the-type arrival-laws.the-laws)
-              (LL.tells arrival-row.the-type arrival-laws.the-laws) (h .arrival) b (o + 72) (λ was-arrival.
+          (only ((LL.vals flight-row.the-type flight-laws.the-laws) (h .flight))) was-flight $ move ! (8 ∷ []) $
+          cell-out ! fullShare arrival-row.the-row (LL.vals arrival-row.the-type arrival-laws.the-laws)
+          (LL.tells arrival-row.the-type arrival-laws.the-laws) (h .arrival) b (o + 72) (λ was-arrival.
           assigns ! {v = (only ((LL.vals arrival-row.the-type arrival-laws.the-laws) (h .arrival)))}
-              (of-opd ! (load ! (from ! (hop ! (look ! 53 refl) (fld ! {d = 72} refl (stop !)))) (look-raw ! 0 refl))) (from ! (stop !))
-              (init ! 44 refl (LL.lawful arrival-row.the-type arrival-laws.the-laws 𝓤 H A W .typed (h .arrival)
-              ((only ((LL.vals arrival-row.the-type arrival-laws.the-laws) (h .arrival))) ∷ []) was-arrival .0)) $
+          (of-opd ! (load ! (from ! (hop ! (look ! 53 refl) (fld ! {d = 72} refl (stop !)))) (look-raw ! 0 refl))) (from ! (stop !))
+          (init ! 44 refl (LL.lawful arrival-row.the-type arrival-laws.the-laws 𝓤 H A W .typed (h .arrival)
+          ((only ((LL.vals arrival-row.the-type arrival-laws.the-laws) (h .arrival))) ∷ []) was-arrival .0)) $
           cell-in ! fullShare arrival-row.the-row (LL.makes arrival-row.the-type arrival-laws.the-plain 𝓤 H A) (h .arrival) b (o + 72)
-              (only ((LL.vals arrival-row.the-type arrival-laws.the-laws) (h .arrival))) was-arrival $ move ! (9 ∷ []) $
-              cell-out ! fullShare clock-row.the-row (LL.vals clock-row.the-type clock-laws.the-laws)
-              (LL.tells clock-row.the-type clock-laws.the-laws) (h .clock) b (o + 104) (λ was-clock.
+          (only ((LL.vals arrival-row.the-type arrival-laws.the-laws) (h .arrival))) was-arrival $ move ! (9 ∷ []) $
+          cell-out ! fullShare clock-row.the-row (LL.vals clock-row.the-type clock-laws.the-laws)
+          (LL.tells clock-row.the-type clock-laws.the-laws) (h .clock) b (o + 104) (λ was-clock.
           assigns ! {v = (only ((LL.vals clock-row.the-type clock-laws.the-laws) (h .clock)))}
-              (of-opd ! (load ! (from ! (hop ! (look ! 53 refl) (fld ! {d = 104} refl (stop !)))) (look-raw ! 0 refl))) (from ! (stop !))
-              (init ! 43 refl (LL.lawful clock-row.the-type clock-laws.the-laws 𝓤 H A W .typed (h .clock)
-              ((only ((LL.vals clock-row.the-type clock-laws.the-laws) (h .clock))) ∷ []) was-clock .0)) $
+          (of-opd ! (load ! (from ! (hop ! (look ! 53 refl) (fld ! {d = 104} refl (stop !)))) (look-raw ! 0 refl))) (from ! (stop !))
+          (init ! 43 refl (LL.lawful clock-row.the-type clock-laws.the-laws 𝓤 H A W .typed (h .clock)
+          ((only ((LL.vals clock-row.the-type clock-laws.the-laws) (h .clock))) ∷ []) was-clock .0)) $
           cell-in ! fullShare clock-row.the-row (LL.makes clock-row.the-type clock-laws.the-plain 𝓤 H A) (h .clock) b (o + 104)
-              (only ((LL.vals clock-row.the-type clock-laws.the-laws) (h .clock))) was-clock $
-              assigns ! {v = (vptr b (o + 636))} (addr ! (from ! (hop ! (look ! 53 refl) (fld ! {d = 636} refl (stop !)))))
-              (from ! (stop !)) (init ! 34 refl (tt, tt)) $
+          (only ((LL.vals clock-row.the-type clock-laws.the-laws) (h .clock))) was-clock $
+          assigns ! {v = (vptr b (o + 636))} (addr ! (from ! (hop ! (look ! 53 refl) (fld ! {d = 636} refl (stop !)))))
+          (from ! (stop !)) (init ! 34 refl (tt, tt)) $
           move ! (8 ∷ []) $ lend-shr ! tt fullShare (Array u32 32) (h .outstanding) b (o + 636)
-              (λ α-outstanding δ-outstanding. move ! (24 ∷ []) $
-              use1 W (‵ Own₃ ⊛ ‵ Own₃) (shr-slice-copy 𝓤 H A W (named 0) κ₃ R .twice x₃ (s₃ ∷ [])) $ split ! $
-              move ! (21 ∷ 0 ∷ 2 ∷ 3 ∷ []) $ group ! 4 $
-              calls-fn ! fm fit.ended (fit.clauses 𝓤 H A at-mem run) (known .2)
-              (to-fit α-outstanding δ-outstanding (h .outstanding) (h .settings)
-              (only ((LL.vals settings-row.the-type settings-laws.the-laws) (h .settings))) (h .flight)
-              (only ((LL.vals flight-row.the-type flight-laws.the-laws) (h .flight))))
-              (λ fl ws-fl. fl ≡ flightFits (h .settings .mode) (h .flight .una) (h .flight .next)
-              (take (h .flight .outstanding) (padded (gathered (take sendSlots (x₃ .now))
-              (slotsIn (h .outstanding) (h .flight .outstanding))))))
-              (‵ (flft κ₃ q₃) ⊛ ‵ Own₃ ⊛ ‵ (flft (α-outstanding ∷ []) fullShare) ⊛ ‵
-              (ShrRef (named 0) (α-outstanding ∷ []) (Array u32 32) .own (ref-at b (o + 636) δ-outstanding (h .outstanding))
-              ((vptr b (o + 636)) ∷ [])))
+          (λ α-outstanding δ-outstanding. move ! (24 ∷ []) $
+          use1 W (‵ Own₃ ⊛ ‵ Own₃) (shr-slice-copy 𝓤 H A W (named 0) κ₃ R .twice x₃ (s₃ ∷ [])) $ split ! $
+          move ! (21 ∷ 0 ∷ 2 ∷ 3 ∷ []) $ group ! 4 $
+          calls-fn ! fm fit.ended (fit.clauses 𝓤 H A at-mem run) (known .2)
+          (to-fit α-outstanding δ-outstanding (h .outstanding) (h .settings)
+          (only ((LL.vals settings-row.the-type settings-laws.the-laws) (h .settings))) (h .flight)
+          (only ((LL.vals flight-row.the-type flight-laws.the-laws) (h .flight))))
+          (λ fl ws-fl. fl ≡ flightFits (h .settings .mode) (h .flight .una) (h .flight .next)
+          (take (h .flight .outstanding) (padded (gathered (take sendSlots (x₃ .now))
+          (slotsIn (h .outstanding) (h .flight .outstanding))))))
+          (‵ (flft κ₃ q₃) ⊛ ‵ Own₃ ⊛ ‵ (flft (α-outstanding ∷ []) fullShare) ⊛ ‵
+          (ShrRef (named 0) (α-outstanding ∷ []) (Array u32 32) .own (ref-at b (o + 636) δ-outstanding (h .outstanding))
+          ((vptr b (o + 636)) ∷ [])))
           (asks-fit α-outstanding δ-outstanding (h .outstanding) (h .settings)
           (only ((LL.vals settings-row.the-type settings-laws.the-laws) (h .settings))) was-settings (h .flight)
           (only ((LL.vals flight-row.the-type flight-laws.the-laws) (h .flight))) was-flight (len-outstanding)) (λ fl ws-fl. id⊢ 𝓤 _)
@@ -1320,144 +1556,254 @@ module _ {M : Type 1} (𝓤 : URA M) (H : Heap 𝓤) (A : Atoms 𝓤) (W : Given
           (and-then ! (load ! (from ! (stop !)) (look ! 46 refl)) (and-then ! (load ! (from ! (stop !)) (look ! 45 refl)) (no-more !)))))
           (λ fl w-fl ws-fl e-fl is-fl. land ! (from ! (stop !)) (init ! 43 refl (bool-lawful 𝓤 H A W .typed fl _ is-fl .0)) $
           spread W (‵ (flft κ₃ q₃)) (‵ (flft (α-outstanding ∷ []) fullShare) ∷ ‵ ftrue ∷ []) (id⊢ 𝓤 _) $ move ! (3 ∷ []) $
-              spread W (‵ ftrue) (‵ ftrue ∷ ‵ ftrue ∷ ‵ ftrue ∷ ‵ ftrue ∷ []) (id⊢ 𝓤 _) $
-              keep ! (5 ∷ 6 ∷ 8 ∷ 9 ∷ 10 ∷ 11 ∷ 12 ∷ 13 ∷ 14 ∷ 15 ∷ 16 ∷ 17 ∷ 18 ∷ 19 ∷ 20 ∷ 21 ∷ 22 ∷ 23 ∷ 24 ∷ 25 ∷ 26
-              ∷ 27 ∷ 28 ∷ 29 ∷ 30 ∷ 31 ∷ 32 ∷ 33 ∷ 34 ∷ 35 ∷ 36 ∷ 37 ∷ 38 ∷ 39 ∷ 40 ∷ 41 ∷ 42 ∷ 43 ∷ 44 ∷ 45 ∷ 46 ∷ 47
-              ∷ 48 ∷ 49 ∷ 50 ∷ 51 ∷ 52 ∷ 53 ∷ 54 ∷ 55 ∷ 56 ∷ 57 ∷ 58 ∷ 59 ∷ 60 ∷ 61 ∷ []) $
+          spread W (‵ ftrue) (‵ ftrue ∷ ‵ ftrue ∷ ‵ ftrue ∷ ‵ ftrue ∷ []) (id⊢ 𝓤 _) $
+          keep ! (5 ∷ 6 ∷ 8 ∷ 9 ∷ 10 ∷ 11 ∷ 12 ∷ 13 ∷ 14 ∷ 15 ∷ 16 ∷ 17 ∷ 18 ∷ 19 ∷ 20 ∷ 21 ∷ 22 ∷ 23 ∷ 24 ∷ 25 ∷ 26
+          ∷ 27 ∷ 28 ∷ 29 ∷ 30 ∷ 31 ∷ 32 ∷ 33 ∷ 34 ∷ 35 ∷ 36 ∷ 37 ∷ 38 ∷ 39 ∷ 40 ∷ 41 ∷ 42 ∷ 43 ∷ 44 ∷ 45 ∷ 46 ∷ 47
+          ∷ 48 ∷ 49 ∷ 50 ∷ 51 ∷ 52 ∷ 53 ∷ 54 ∷ 55 ∷ 56 ∷ 57 ∷ 58 ∷ 59 ∷ 60 ∷ 61 ∷ []) $
           -- [tok3; tok:outstanding; own3; lent:outstanding; F:clock; F:arrival; F:flight; F:settings; F:«waiting_numbers»; F:waiting;
           -- F:ready; F:transmissions; F:queued; back; opened; deaths; tok1; tok2; tok4; tok5; own1; own2; own4; own5; the locals]
           move ! (1 ∷ 3 ∷ []) $ back-shr ! tt fullShare (Array u32 32) b (o + 636) (h .outstanding) $ move ! (1 ∷ 2 ∷ []) $ join ! $
-              calls-fn ! fm table-len.ended (table-len.clauses 𝓤 H A at-mem run) (known .3) (to-table-len  )
-              (λ m ws-m. m ≡ length (x₃ .now)) (‵ (flft κ₃ q₃) ⊛ ‵ Own₃)
-          (asks-table-len   ) (λ m ws-m. id⊢ 𝓤 _)
+          calls-fn ! fm table-len.ended (table-len.clauses 𝓤 H A at-mem run) (known .3) (to-table-len)
+          (λ m ws-m. m ≡ length (x₃ .now)) (‵ (flft κ₃ q₃) ⊛ ‵ Own₃)
+          (asks-table-len) (λ m ws-m. id⊢ 𝓤 _)
           (and-then ! (load ! (from ! (stop !)) (look ! 49 refl)) (no-more !))
           (λ m w-m ws-m e-m is-m. land ! (from ! (stop !)) (init ! 41 refl (uint-lawful 𝓤 H A W w64 .typed m _ is-m .0)) $
           spread W (‵ (flft κ₃ q₃)) (‵ ftrue ∷ []) (id⊢ 𝓤 _) $ move ! (2 ∷ []) $ spread W (‵ ftrue) (‵ ftrue ∷ []) (id⊢ 𝓤 _) $
-              keep ! (2 ∷ 4 ∷ 5 ∷ 6 ∷ 7 ∷ 8 ∷ 9 ∷ 10 ∷ 11 ∷ 12 ∷ 13 ∷ 14 ∷ 15 ∷ 16 ∷ 17 ∷ 18 ∷ 19 ∷ 20 ∷ 21 ∷ 22 ∷ 23
-              ∷ 24 ∷ 25 ∷ 26 ∷ 27 ∷ 28 ∷ 29 ∷ 30 ∷ 31 ∷ 32 ∷ 33 ∷ 34 ∷ 35 ∷ 36 ∷ 37 ∷ 38 ∷ 39 ∷ 40 ∷ 41 ∷ 42 ∷ 43 ∷ 44
-              ∷ 45 ∷ 46 ∷ 47 ∷ 48 ∷ 49 ∷ 50 ∷ 51 ∷ 52 ∷ 53 ∷ 54 ∷ 55 ∷ 56 ∷ []) $
+          keep ! (2 ∷ 4 ∷ 5 ∷ 6 ∷ 7 ∷ 8 ∷ 9 ∷ 10 ∷ 11 ∷ 12 ∷ 13 ∷ 14 ∷ 15 ∷ 16 ∷ 17 ∷ 18 ∷ 19 ∷ 20 ∷ 21 ∷ 22 ∷ 23
+          ∷ 24 ∷ 25 ∷ 26 ∷ 27 ∷ 28 ∷ 29 ∷ 30 ∷ 31 ∷ 32 ∷ 33 ∷ 34 ∷ 35 ∷ 36 ∷ 37 ∷ 38 ∷ 39 ∷ 40 ∷ 41 ∷ 42 ∷ 43 ∷ 44
+          ∷ 45 ∷ 46 ∷ 47 ∷ 48 ∷ 49 ∷ 50 ∷ 51 ∷ 52 ∷ 53 ∷ 54 ∷ 55 ∷ 56 ∷ []) $
           -- [tok3; F:outstanding; F:clock; F:arrival; F:flight; F:settings; F:«waiting_numbers»; F:waiting; F:ready; F:transmissions;
           -- F:queued; back; opened; deaths; tok1; tok2; tok4; tok5; own1; own2; own4; own5; the locals]
-          by ! (part₂ ((past .0), (past .1), (past .2), (past .3), (past .4), (past .5), (past .6), (past .7), (past .8), (past .9),
-              (past .10), (past .11), (past .12), (past .13), (past .14), (past .15), (past .16), (past .17), (past .18), (past .19),
-              (past .20), (past .21), (past .22), (past .23), (past .24), (past .25), (past .26), (past .27), (past .28), (past .29),
-              (past .30), (past .31), (past .32), (past .33), (past .34), (past .35), (past .36), (past .37), (past .38), (past .39),
-              len-queued, len-outstanding, len-transmissions, len-ready, len-waiting, len-waiting-numbers, was-settings, was-flight,
-              was-arrival, was-clock, fl, w-fl, e-fl, is-fl, m, w-m, e-m, is-m)))))))))))))))
+          by ! (part₂ (
+            (past .0),
+            (past .1),
+            (past .2),
+            (past .3),
+            (past .4),
+            (past .5),
+            (past .6),
+            (past .7),
+            (past .8),
+            (past .9),
+            (past .10),
+            (past .11),
+            (past .12),
+            (past .13),
+            (past .14),
+            (past .15),
+            (past .16),
+            (past .17),
+            (past .18),
+            (past .19),
+            (past .20),
+            (past .21),
+            (past .22),
+            (past .23),
+            (past .24),
+            (past .25),
+            (past .26),
+            (past .27),
+            (past .28),
+            (past .29),
+            (past .30),
+            (past .31),
+            (past .32),
+            (past .33),
+            (past .34),
+            (past .35),
+            (past .36),
+            (past .37),
+            (past .38),
+            (past .39),
+            len-queued,
+            len-outstanding,
+            len-transmissions,
+            len-ready,
+            len-waiting,
+            len-waiting-numbers,
+            was-settings,
+            was-flight,
+            was-arrival,
+            was-clock,
+            fl,
+            w-fl,
+            e-fl,
+            is-fl,
+            m,
+            w-m,
+            e-m,
+            is-m,
+          )))))))))))))))
 
       walk : ent 𝓤 (onEntry 𝓤 H A f.signature (κ₀, (κ₁, (κ₂, (κ₃, (κ₄, (κ₅, tt)))))) (q₀, (q₁, (q₂, (q₃, (q₄, (q₅, tt))))))
           x at) (WpFn 𝓤 H C Λ code.function (vptr b o ∷ s₁ ∷ s₂ ∷ s₃ ∷ s₄ ∷ s₅ ∷ []) Post)
       walk =
           qed W ((‵ (flft κ₀ q₀) ⊛ ‵ (flft κ₁ q₁) ⊛ ‵ (flft κ₂ q₂) ⊛ ‵ (flft κ₃ q₃) ⊛ ‵ (flft κ₄ q₄) ⊛ ‵
-              (flft κ₅ q₅) ⊛ ‵ ftrue) ∷ ‵ (owns (MutRef (named 0) κ₀ L ∷ MutSlice (named 1) κ₁ u8 ∷ ShrSlice (named 2) κ₂ u8
-              ∷ ShrSlice (named 3) κ₃ R ∷ ShrSlice (named 4) κ₄ u32 ∷ ShrSlice (named 5) κ₅ u8 ∷ []) x at) ∷ []) ∵
-              enter ! C Λ code.function (vptr b o ∷ s₁ ∷ s₂ ∷ s₃ ∷ s₄ ∷ s₅ ∷ []) _ $
+          (flft κ₅ q₅) ⊛ ‵ ftrue) ∷ ‵ (owns (MutRef (named 0) κ₀ L ∷ MutSlice (named 1) κ₁ u8 ∷ ShrSlice (named 2) κ₂ u8
+          ∷ ShrSlice (named 3) κ₃ R ∷ ShrSlice (named 4) κ₄ u32 ∷ ShrSlice (named 5) κ₅ u8 ∷ []) x at) ∷ []) ∵
+          enter ! C Λ code.function (vptr b o ∷ s₁ ∷ s₂ ∷ s₃ ∷ s₄ ∷ s₅ ∷ []) _ $
           alloc1 ! (λ l₀. alloc1 ! (λ l₁. alloc1 ! (λ l₂.
-              alloc1 ! (λ l₃. alloc1 ! (λ l₄. alloc1 ! (λ l₅.
-              alloc1 ! (λ l₆. alloc1 ! (λ l₇. alloc1 ! (λ l₈.
-              alloc1 ! (λ l₉. alloc1 ! (λ l₁₀. alloc1 ! (λ l₁₁.
-              alloc1 ! (λ l₁₂. alloc1 ! (λ l₁₃. alloc1 ! (λ l₁₄.
-              alloc1 ! (λ l₁₅. alloc1 ! (λ l₁₆. alloc1 ! (λ l₁₇.
-              alloc1 ! (λ l₁₈. alloc1 ! (λ l₁₉. alloc1 ! (λ l₂₀.
-              alloc1 ! (λ l₂₁. alloc1 ! (λ l₂₂. alloc1 ! (λ l₂₃.
-              alloc1 ! (λ l₂₄. alloc1 ! (λ l₂₅. alloc1 ! (λ l₂₆.
-              alloc1 ! (λ l₂₇. alloc1 ! (λ l₂₈. alloc1 ! (λ l₂₉. alloc1 ! (λ l₃₀. alloc1 ! (λ l₃₁. alloc0 ! $ params1 ! $
+          alloc1 ! (λ l₃. alloc1 ! (λ l₄. alloc1 ! (λ l₅.
+          alloc1 ! (λ l₆. alloc1 ! (λ l₇. alloc1 ! (λ l₈.
+          alloc1 ! (λ l₉. alloc1 ! (λ l₁₀. alloc1 ! (λ l₁₁.
+          alloc1 ! (λ l₁₂. alloc1 ! (λ l₁₃. alloc1 ! (λ l₁₄.
+          alloc1 ! (λ l₁₅. alloc1 ! (λ l₁₆. alloc1 ! (λ l₁₇.
+          alloc1 ! (λ l₁₈. alloc1 ! (λ l₁₉. alloc1 ! (λ l₂₀.
+          alloc1 ! (λ l₂₁. alloc1 ! (λ l₂₂. alloc1 ! (λ l₂₃.
+          alloc1 ! (λ l₂₄. alloc1 ! (λ l₂₅. alloc1 ! (λ l₂₆.
+          alloc1 ! (λ l₂₇. alloc1 ! (λ l₂₈. alloc1 ! (λ l₂₉. alloc1 ! (λ l₃₀. alloc1 ! (λ l₃₁. alloc0 ! $ params1 ! $
           pass1 ! (init ! 60 refl (tt, tt)) $ pass1 ! (init ! 58 refl (tt, (tt, (record { fits = room₁ .0 }, tt)))) $
-              pass1 ! (init ! 56 refl (tt, (tt, (record { fits = room₂ .0 }, tt)))) $
-              pass1 ! (init ! 54 refl (tt, (tt, (record { fits = room₃ .0 }, tt)))) $
-              pass1 ! (init ! 52 refl (tt, (tt, (record { fits = room₄ .0 }, tt)))) $
-              pass1 ! (init ! 50 refl (tt, (tt, (record { fits = room₅ .0 }, tt)))) $ pass0 ! $
+          pass1 ! (init ! 56 refl (tt, (tt, (record { fits = room₂ .0 }, tt)))) $
+          pass1 ! (init ! 54 refl (tt, (tt, (record { fits = room₃ .0 }, tt)))) $
+          pass1 ! (init ! 52 refl (tt, (tt, (record { fits = room₄ .0 }, tt)))) $
+          pass1 ! (init ! 50 refl (tt, (tt, (record { fits = room₅ .0 }, tt)))) $ pass0 ! $
           move ! (65 ∷ []) $ spread W (‵ (MutRef (named 0) κ₀ L .own (ref-at b o γ h) (vptr b o ∷ [])))
-              (‵ (MutSlice (named 1) κ₁ u8 .own (x₁) (s₁ ∷ [])) ∷ ‵ (ShrSlice (named 2) κ₂ u8 .own (x₂) (s₂ ∷ []))
-              ∷ ‵ (ShrSlice (named 3) κ₃ R .own (x₃) (s₃ ∷ [])) ∷ ‵ (ShrSlice (named 4) κ₄ u32 .own (x₄) (s₄ ∷ []))
-              ∷ ‵ (ShrSlice (named 5) κ₅ u8 .own (x₅) (s₅ ∷ [])) ∷ ‵ ftrue ∷ []) (id⊢ 𝓤 _) $ move ! (71 ∷ []) $
-              spread W (‵ (flft κ₀ q₀)) (‵ (flft κ₁ q₁) ∷ ‵ (flft κ₂ q₂) ∷ ‵ (flft κ₃ q₃) ∷ ‵ (flft κ₄ q₄)
-              ∷ ‵ (flft κ₅ q₅) ∷ ‵ ftrue ∷ []) (id⊢ 𝓤 _) $ move ! (13 ∷ 6 ∷ []) $ drop ! $ drop ! $
-              move ! (75 ∷ 73 ∷ 71 ∷ 69 ∷ 67 ∷ 65 ∷ 63 ∷ 61 ∷ 59 ∷ 57 ∷ 55 ∷ 53 ∷ 51 ∷ 49 ∷ 47 ∷ 45 ∷ 43 ∷ 41 ∷ 39 ∷ 37
-              ∷ 35 ∷ 33 ∷ 31 ∷ 29 ∷ 27 ∷ 25 ∷ 23 ∷ 21 ∷ 19 ∷ 17 ∷ 15 ∷ 13 ∷ []) $ group ! 32 $
+          (‵ (MutSlice (named 1) κ₁ u8 .own (x₁) (s₁ ∷ [])) ∷ ‵ (ShrSlice (named 2) κ₂ u8 .own (x₂) (s₂ ∷ []))
+          ∷ ‵ (ShrSlice (named 3) κ₃ R .own (x₃) (s₃ ∷ [])) ∷ ‵ (ShrSlice (named 4) κ₄ u32 .own (x₄) (s₄ ∷ []))
+          ∷ ‵ (ShrSlice (named 5) κ₅ u8 .own (x₅) (s₅ ∷ [])) ∷ ‵ ftrue ∷ []) (id⊢ 𝓤 _) $ move ! (71 ∷ []) $
+          spread W (‵ (flft κ₀ q₀)) (‵ (flft κ₁ q₁) ∷ ‵ (flft κ₂ q₂) ∷ ‵ (flft κ₃ q₃) ∷ ‵ (flft κ₄ q₄)
+          ∷ ‵ (flft κ₅ q₅) ∷ ‵ ftrue ∷ []) (id⊢ 𝓤 _) $ move ! (13 ∷ 6 ∷ []) $ drop ! $ drop ! $
+          move ! (75 ∷ 73 ∷ 71 ∷ 69 ∷ 67 ∷ 65 ∷ 63 ∷ 61 ∷ 59 ∷ 57 ∷ 55 ∷ 53 ∷ 51 ∷ 49 ∷ 47 ∷ 45 ∷ 43 ∷ 41 ∷ 39 ∷ 37
+          ∷ 35 ∷ 33 ∷ 31 ∷ 29 ∷ 27 ∷ 25 ∷ 23 ∷ 21 ∷ 19 ∷ 17 ∷ 15 ∷ 13 ∷ []) $ group ! 32 $
           -- [deaths; tok0; tok1; tok2; tok3; tok4; tok5; own0; own1; own2; own3; own4; own5; the locals]
           nothing ! $ calls-fn ! fm marks-of.ended (marks-of.clauses 𝓤 H A at-mem run) (known .0) ((tt, tt, tt, tt, tt), tt)
-              (λ sends _. sends ≡ none)
+          (λ sends _. sends ≡ none)
           (‵ ftrue) (plainly 𝓤 H A W ([]) tt tt tt tt) (λ sends _. id⊢ 𝓤 _)
           (no-more !) (λ sends w-sends _ e-sends is-sends. drop ! $ drop ! $
           land ! (from ! (stop !)) (init ! 26 refl (array-typed u8 (uint-lawful 𝓤 H A W w8 .typed) 256 sends (w-sends ∷ []) is-sends .0)) $
           assigns ! {v = w-sends} (of-opd ! (load ! (from ! (stop !)) (look ! 26 refl))) (from ! (stop !))
-              (init ! 37 refl (array-typed u8 (uint-lawful 𝓤 H A W w8 .typed) 256 sends (w-sends ∷ []) is-sends .0)) $
+          (init ! 37 refl (array-typed u8 (uint-lawful 𝓤 H A W w8 .typed) 256 sends (w-sends ∷ []) is-sends .0)) $
           nothing ! $ calls-fn ! fm marks-of.ended (marks-of.clauses 𝓤 H A at-mem run) (known .0) ((tt, tt, tt, tt, tt), tt)
-              (λ receives _. receives ≡ none)
+          (λ receives _. receives ≡ none)
           (‵ ftrue) (plainly 𝓤 H A W ([]) tt tt tt tt) (λ receives _. id⊢ 𝓤 _)
           (no-more !) (λ receives w-receives _ e-receives is-receives. drop ! $ drop ! $
           land ! (from ! (stop !)) (store ! 26 refl
           (array-typed u8 (uint-lawful 𝓤 H A W w8 .typed) 256 receives (w-receives ∷ []) is-receives .0)) $
           assigns ! {v = w-receives} (of-opd ! (load ! (from ! (stop !)) (look ! 26 refl))) (from ! (stop !))
-              (init ! 36 refl (array-typed u8 (uint-lawful 𝓤 H A W w8 .typed) 256 receives (w-receives ∷ []) is-receives .0)) $
+          (init ! 36 refl (array-typed u8 (uint-lawful 𝓤 H A W w8 .typed) 256 receives (w-receives ∷ []) is-receives .0)) $
           assigns ! {v = (vptr b o)} (addr ! (from ! (hop ! (look ! 43 refl) (stop !)))) (from ! (stop !)) (init ! 25 refl (tt, tt)) $
           assigns ! {v = (vptr l₇ 0)} (addr ! (from ! (stop !))) (from ! (stop !)) (init ! 24 refl (tt, tt)) $
           assigns ! {v = (vptr l₈ 0)} (addr ! (from ! (stop !))) (from ! (stop !)) (init ! 23 refl (tt, tt)) $
           move ! (7 ∷ 1 ∷ []) $ lend-whole ! tt L h b o γ
-              (λ α-block δ-block. move ! (39 ∷ []) $
-              use1 W (‵ (cellAt fullShare ((tyArray (tyInt w8) 256) ∷ []) (w-sends ∷ []) l₇ 0))
-              (W .laws .at-raw fullShare (tyArray (tyInt w8) 256) l₇ 0 w-sends) $
-              cell-in ! fullShare (Array u8 256) (array-makes 𝓤 H A W u8 (uint-makes 𝓤 H A W w8) 256) sends l₇ 0 w-sends is-sends $
+          (λ α-block δ-block. move ! (39 ∷ []) $
+          use1 W (‵ (cellAt fullShare ((tyArray (tyInt w8) 256) ∷ []) (w-sends ∷ []) l₇ 0))
+          (W .laws .at-raw fullShare (tyArray (tyInt w8) 256) l₇ 0 w-sends) $
+          cell-in ! fullShare (Array u8 256) (array-makes 𝓤 H A W u8 (uint-makes 𝓤 H A W w8) 256) sends l₇ 0 w-sends is-sends $
           lend-mut ! tt (Array u8 256) sends l₇ 0 (λ α-sends δ-sends. move ! (41 ∷ []) $
-              use1 W (‵ (cellAt fullShare ((tyArray (tyInt w8) 256) ∷ []) (w-receives ∷ []) l₈ 0))
-              (W .laws .at-raw fullShare (tyArray (tyInt w8) 256) l₈ 0 w-receives) $
-              cell-in ! fullShare (Array u8 256) (array-makes 𝓤 H A W u8 (uint-makes 𝓤 H A W w8) 256) receives l₈ 0 w-receives is-receives $
+          use1 W (‵ (cellAt fullShare ((tyArray (tyInt w8) 256) ∷ []) (w-receives ∷ []) l₈ 0))
+          (W .laws .at-raw fullShare (tyArray (tyInt w8) 256) l₈ 0 w-receives) $
+          cell-in ! fullShare (Array u8 256) (array-makes 𝓤 H A W u8 (uint-makes 𝓤 H A W w8) 256) receives l₈ 0 w-receives is-receives $
           lend-mut ! tt (Array u8 256) receives l₈ 0
-              (λ α-receives δ-receives. move ! (6 ∷ 7 ∷ 3 ∷ 4 ∷ 0 ∷ 1 ∷ []) $ group ! 6 $
-              calls-fn ! fm check.ended (check.clauses 𝓤 H A at-mem run) (known .1)
-              (to-check α-block δ-block h l₇ α-sends δ-sends sends l₈ α-receives δ-receives receives )
-              (λ ok ws-ok. Sound h (ws-ok .1 .0) (ws-ok .1 .1 .0) ok)
-              (‵ (flft (α-block ∷ []) fullShare) ⊛ ‵ (ShrRef (named 0) (α-block ∷ []) L .own (ref-at b o δ-block h) ((vptr b o) ∷ [])) ⊛ ‵
-              (flft (α-sends ∷ []) fullShare) ⊛ ‵ (MutRef (named 0) (α-sends ∷ []) (Array u8 256) .own (ref-at l₇ 0 δ-sends sends)
-              ((vptr l₇ 0) ∷ [])) ⊛ ‵ (flft (α-receives ∷ []) fullShare) ⊛ ‵
-              (MutRef (named 0) (α-receives ∷ []) (Array u8 256) .own (ref-at l₈ 0 δ-receives receives) ((vptr l₈ 0) ∷ [])))
-          (asks-check α-block δ-block h l₇ α-sends δ-sends sends l₈ α-receives δ-receives receives  (e-sends, e-receives))
+          (λ α-receives δ-receives. move ! (6 ∷ 7 ∷ 3 ∷ 4 ∷ 0 ∷ 1 ∷ []) $ group ! 6 $
+          calls-fn ! fm check.ended (check.clauses 𝓤 H A at-mem run) (known .1)
+          (to-check α-block δ-block h l₇ α-sends δ-sends sends l₈ α-receives δ-receives receives)
+          (λ ok ws-ok. Sound h (ws-ok .1 .0) (ws-ok .1 .1 .0) ok)
+          (‵ (flft (α-block ∷ []) fullShare) ⊛ ‵ (ShrRef (named 0) (α-block ∷ []) L .own (ref-at b o δ-block h) ((vptr b o) ∷ [])) ⊛ ‵
+          (flft (α-sends ∷ []) fullShare) ⊛ ‵ (MutRef (named 0) (α-sends ∷ []) (Array u8 256) .own (ref-at l₇ 0 δ-sends sends)
+          ((vptr l₇ 0) ∷ [])) ⊛ ‵ (flft (α-receives ∷ []) fullShare) ⊛ ‵
+          (MutRef (named 0) (α-receives ∷ []) (Array u8 256) .own (ref-at l₈ 0 δ-receives receives) ((vptr l₈ 0) ∷ [])))
+          (asks-check α-block δ-block h l₇ α-sends δ-sends sends l₈ α-receives δ-receives receives (e-sends, e-receives))
           (λ ok ws-ok. id⊢ 𝓤 _)
           (and-then ! (load ! (from ! (stop !)) (look ! 28 refl))
           (and-then ! (load ! (from ! (stop !)) (look ! 27 refl)) (and-then ! (load ! (from ! (stop !)) (look ! 26 refl)) (no-more !))))
           (λ ok w-ok ws-ok e-ok is-ok. land ! (from ! (stop !)) (init ! 39 refl (bool-lawful 𝓤 H A W .typed ok _ is-ok .0)) $
           spread W (‵ (flft (α-block ∷ []) fullShare))
-              (‵ (flft (α-sends ∷ []) fullShare) ∷ ‵ (flft (α-receives ∷ []) fullShare) ∷ ‵ ftrue ∷ []) (id⊢ 𝓤 _) $ move ! (4 ∷ []) $
-              spread W (‵ ftrue) (‵ (fres δ-sends ((Array u8 256) .coded .code (ws-ok .1 .0)))
-              ∷ ‵ (fres δ-receives ((Array u8 256) .coded .code (ws-ok .1 .1 .0))) ∷ ‵ ftrue ∷ []) (id⊢ 𝓤 _) $
-              keep ! (1 ∷ 2 ∷ 4 ∷ 5 ∷ 6 ∷ 8 ∷ 9 ∷ 10 ∷ 11 ∷ 12 ∷ 13 ∷ 14 ∷ 15 ∷ 16 ∷ 17 ∷ 18 ∷ 19 ∷ 20 ∷ 21 ∷ 22 ∷ 23
-              ∷ 24 ∷ 25 ∷ 26 ∷ 27 ∷ 28 ∷ 29 ∷ 30 ∷ 31 ∷ 32 ∷ 33 ∷ 34 ∷ 35 ∷ 36 ∷ 37 ∷ 38 ∷ 39 ∷ 40 ∷ 41 ∷ 42 ∷ 43 ∷ 44
-              ∷ 45 ∷ 46 ∷ 47 ∷ 48 ∷ 49 ∷ 50 ∷ 51 ∷ 52 ∷ []) $
+          (‵ (flft (α-sends ∷ []) fullShare) ∷ ‵ (flft (α-receives ∷ []) fullShare) ∷ ‵ ftrue ∷ []) (id⊢ 𝓤 _) $ move ! (4 ∷ []) $
+          spread W (‵ ftrue) (‵ (fres δ-sends ((Array u8 256) .coded .code (ws-ok .1 .0)))
+          ∷ ‵ (fres δ-receives ((Array u8 256) .coded .code (ws-ok .1 .1 .0))) ∷ ‵ ftrue ∷ []) (id⊢ 𝓤 _) $
+          keep ! (1 ∷ 2 ∷ 4 ∷ 5 ∷ 6 ∷ 8 ∷ 9 ∷ 10 ∷ 11 ∷ 12 ∷ 13 ∷ 14 ∷ 15 ∷ 16 ∷ 17 ∷ 18 ∷ 19 ∷ 20 ∷ 21 ∷ 22 ∷ 23
+          ∷ 24 ∷ 25 ∷ 26 ∷ 27 ∷ 28 ∷ 29 ∷ 30 ∷ 31 ∷ 32 ∷ 33 ∷ 34 ∷ 35 ∷ 36 ∷ 37 ∷ 38 ∷ 39 ∷ 40 ∷ 41 ∷ 42 ∷ 43 ∷ 44
+          ∷ 45 ∷ 46 ∷ 47 ∷ 48 ∷ 49 ∷ 50 ∷ 51 ∷ 52 ∷ []) $
           -- [fin:@sends; fin:@receives; tok:*; tok:@sends; tok:@receives; lent:@receives; lent:@sends; lent:*; opened; deaths; tok1; tok2;
           -- tok3; tok4; tok5; own1; own2; own3; own4; own5; the locals]
           move ! (2 ∷ 7 ∷ 8 ∷ []) $ back-whole ! tt L h b o γ $ move ! (4 ∷ 7 ∷ 2 ∷ []) $ back-mut ! tt (Array u8 256) l₇ 0 (ws-ok .1 .0) $
-              cell-out ! fullShare (Array u8 256) (array-vals (uint-vals w8)) (array-tells u8 (uint-vals w8) (uint-tells w8) 256)
-              (ws-ok .1 .0) l₇ 0 (λ was-sends-1. use1 W
-              (‵ (fat fullShare (tyArray (tyInt w8) 256) l₇ 0 (only ((array-vals (uint-vals w8)) (ws-ok .1 .0)))))
-              (W .laws .raw-at fullShare (tyArray (tyInt w8) 256) l₇ 0 (only ((array-vals (uint-vals w8)) (ws-ok .1 .0)))) $
+          cell-out ! fullShare (Array u8 256) (array-vals (uint-vals w8)) (array-tells u8 (uint-vals w8) (uint-tells w8) 256)
+          (ws-ok .1 .0) l₇ 0 (λ was-sends-1. use1 W
+          (‵ (fat fullShare (tyArray (tyInt w8) 256) l₇ 0 (only ((array-vals (uint-vals w8)) (ws-ok .1 .0)))))
+          (W .laws .raw-at fullShare (tyArray (tyInt w8) 256) l₇ 0 (only ((array-vals (uint-vals w8)) (ws-ok .1 .0)))) $
           move ! (4 ∷ 5 ∷ 3 ∷ []) $ back-mut ! tt (Array u8 256) l₈ 0 (ws-ok .1 .1 .0) $
-              cell-out ! fullShare (Array u8 256) (array-vals (uint-vals w8)) (array-tells u8 (uint-vals w8) (uint-tells w8) 256)
-              (ws-ok .1 .1 .0) l₈ 0 (λ was-receives-2. use1 W
-              (‵ (fat fullShare (tyArray (tyInt w8) 256) l₈ 0 (only ((array-vals (uint-vals w8)) (ws-ok .1 .1 .0)))))
-              (W .laws .raw-at fullShare (tyArray (tyInt w8) 256) l₈ 0 (only ((array-vals (uint-vals w8)) (ws-ok .1 .1 .0)))) $
-          by ! (part₁ ((ws-ok .1 .1 .0), (ws-ok .1 .0), l₀, l₁, l₂, l₃, l₄, l₅, l₆, l₇, l₈, l₉, l₁₀, l₁₁, l₁₂, l₁₃,
-              l₁₄, l₁₅, l₁₆, l₁₇, l₁₈, l₁₉, l₂₀, l₂₁, l₂₂, l₂₃, l₂₄, l₂₅, l₂₆, l₂₇, l₂₈, l₂₉,
-              l₃₀, l₃₁, w-receives, ok, w-ok, e-ok, is-ok, was-sends-1))))))))))))))))))))))))))))))))))))))))))
+          cell-out ! fullShare (Array u8 256) (array-vals (uint-vals w8)) (array-tells u8 (uint-vals w8) (uint-tells w8) 256)
+          (ws-ok .1 .1 .0) l₈ 0 (λ was-receives-2. use1 W
+          (‵ (fat fullShare (tyArray (tyInt w8) 256) l₈ 0 (only ((array-vals (uint-vals w8)) (ws-ok .1 .1 .0)))))
+          (W .laws .raw-at fullShare (tyArray (tyInt w8) 256) l₈ 0 (only ((array-vals (uint-vals w8)) (ws-ok .1 .1 .0)))) $
+          by ! (part₁ (
+            (ws-ok .1 .1 .0),
+            (ws-ok .1 .0),
+            l₀,
+            l₁,
+            l₂,
+            l₃,
+            l₄,
+            l₅,
+            l₆,
+            l₇,
+            l₈,
+            l₉,
+            l₁₀,
+            l₁₁,
+            l₁₂,
+            l₁₃,
+            l₁₄,
+            l₁₅,
+            l₁₆,
+            l₁₇,
+            l₁₈,
+            l₁₉,
+            l₂₀,
+            l₂₁,
+            l₂₂,
+            l₂₃,
+            l₂₄,
+            l₂₅,
+            l₂₆,
+            l₂₇,
+            l₂₈,
+            l₂₉,
+            l₃₀,
+            l₃₁,
+            w-receives,
+            ok,
+            w-ok,
+            e-ok,
+            is-ok,
+            was-sends-1,
+          ))))))))))))))))))))))))))))))))))))))))))
 
   f-meets : (𝓣 : Tables 𝓤 H) → Known (𝓣 .C)
       → Meets 𝓤 H A f.signature (WpFn 𝓤 H (𝓣 .C) (𝓣 .Λ) code.function) (f.spec 𝓤 H A at-mem run)
   unfolding Post
-  f-meets 𝓣 known = walk-meets 𝓤 H A f.ended stayed W
-      (goes-ref 𝓤 H A W 6 0 tt (plain (λ _. L)),
-      (goes-gave-slice 𝓤 H A W 6 1 tt (plain (λ _. u8)),
-      (goes-dropped 𝓤 H A W 6 (shrSliceOf (2 ∷ []) tt (plain (λ _. u8))) yes (λ κs x f. refl),
-      (goes-dropped 𝓤 H A W 6 (shrSliceOf (3 ∷ []) tt (plain (λ _. R))) yes (λ κs x f. refl),
-      (goes-dropped 𝓤 H A W 6 (shrSliceOf (4 ∷ []) tt (plain (λ _. u32))) yes (λ κs x f. refl),
-      (goes-dropped 𝓤 H A W 6 (shrSliceOf (5 ∷ []) tt (plain (λ _. u8))) yes (λ κs x f. refl), tt))))))
+  f-meets 𝓣 known = walk-meets 𝓤 H A f.ended stayed W (
+    goes-ref 𝓤 H A W 6 0 tt (plain (λ _. L)),
+    (
+      goes-gave-slice 𝓤 H A W 6 1 tt (plain (λ _. u8)),
+      (
+        goes-dropped 𝓤 H A W 6 (shrSliceOf (2 ∷ []) tt (plain (λ _. u8))) yes (λ κs x f. refl),
+        (
+          goes-dropped 𝓤 H A W 6 (shrSliceOf (3 ∷ []) tt (plain (λ _. R))) yes (λ κs x f. refl),
+          (
+            goes-dropped 𝓤 H A W 6 (shrSliceOf (4 ∷ []) tt (plain (λ _. u32))) yes (λ κs x f. refl),
+            (goes-dropped 𝓤 H A W 6 (shrSliceOf (5 ∷ []) tt (plain (λ _. u8))) yes (λ κs x f. refl), tt),
+          ),
+        ),
+      ),
+    ),
+  )
       (f.clauses 𝓤 H A at-mem run) (WpFn 𝓤 H (𝓣 .C) (𝓣 .Λ) code.function) (WpFn-mono 𝓤 H (W .laws) 𝓣 code.function)
       (walked 𝓤 H A f.ended stayed (f.clauses 𝓤 H A at-mem run) (WpFn 𝓤 H (𝓣 .C) (𝓣 .Λ) code.function)
       (λ κs. (ptr-vals, (slice-vals, (slice-vals, (slice-vals, (slice-vals, (slice-vals, tt)))))))
-      (λ κs. (mut-tells (named 0) (κs .0) L,
-      (mut-slice-tells (named 1) (κs .1 .0) u8,
-      (shr-slice-tells (named 2) (κs .1 .1 .0) u8,
-      (shr-slice-tells (named 3) (κs .1 .1 .1 .0) R,
-      (shr-slice-tells (named 4) (κs .1 .1 .1 .1 .0) u32, (shr-slice-tells (named 5) (κs .1 .1 .1 .1 .1 .0) u8, tt)))))))
+      (λ κs. (
+        mut-tells (named 0) (κs .0) L,
+        (
+          mut-slice-tells (named 1) (κs .1 .0) u8,
+          (
+            shr-slice-tells (named 2) (κs .1 .1 .0) u8,
+            (
+              shr-slice-tells (named 3) (κs .1 .1 .1 .0) R,
+              (shr-slice-tells (named 4) (κs .1 .1 .1 .1 .0) u32, (shr-slice-tells (named 5) (κs .1 .1 .1 .1 .1 .0) u8, tt)),
+            ),
+          ),
+        ),
+      ))
       (λ κs qs bounds a g are. via 𝓤 _ (fst∗ 𝓤 _ (emp 𝓤))
       (walk (κs .0) (κs .1 .0) (κs .1 .1 .0) (κs .1 .1 .1 .0) (κs .1 .1 .1 .1 .0) (κs .1 .1 .1 .1 .1 .0) (qs .0) (qs .1 .0) (qs .1 .1 .0)
       (qs .1 .1 .1 .0) (qs .1 .1 .1 .1 .0) (qs .1 .1 .1 .1 .1 .0) (a .0 .ptr .0) (a .0 .ptr .1) (a .0 .name) (a .0 .now) (a .1 .0)
