@@ -55,11 +55,14 @@ pub fn mark_outstanding(marks: &mut [u8; 256], words: &[u32; 32], n: usize) -> b
     twice == 0
 }
 
-// The first slot from `from` on that is not marked; there is one.
+// The first slot from `from` on that is not marked; there is one. It is often `from`, which is looked at first: the compiler makes a call of the loop.
 pub fn free_from(marks: &[u8; 256], from: usize) -> usize
     requires { ⌜ (length (now marks) ≡ 256) × (from ≤ 256) × (nextFree (now marks) from < 256) ⌝ }
     ensures { λ r. ⌜ r ≡ nextFree (now (marks .entry)) from ⌝ }
 {
+    if marks[from] == 0 {
+        return from;
+    }
     let mut slot = from;
     while marks[slot] != 0 {
         slot += 1;

@@ -20,14 +20,19 @@ free-from-spec =
     (tie.spec
     Inv-loop
     μ-loop
-    (λ c. (c .pre .2, refl, slot-low (c .args .marks .now) (c .args .from) (c .pre .2)))
+    (λ c. search (needs, slot-low (c .args .marks .now) (c .args .from) (c .pre .2)))
+    (λ c.
+    let s = c .before .before in
+    free-stop (s .args .marks .now) (s .args .from) _ refl (s .pre .2) (c .if1 .taken))
+    (λ c. let s = c .before .before in (s .pre .2, refl, slot-low (s .args .marks .now) (s .args .from) (s .pre .2)))
     (λ c. search needs)
     (λ c. search needs)
     (λ c. search needs)
     (λ c.
     let l = c .before .before in
     let v = l .loop .inv in
-    let m = l .before .args .marks .now in
-    (v .0, free-more m (l .loop .slot) _ (v .1) (v .0) (c .if1 .taken), further m (l .loop .slot) _ (v .1) (v .0) (c .if1 .taken)))
-    (λ c. free-stop (c .before .before .before .args .marks .now) (c .before .before .loop .slot) _ (c .before .before .loop .inv .1)
-    (c .before .before .loop .inv .0) (c .if1 .left)))
+    let m = l .before .before .before .args .marks .now in
+    (v .0, free-more m (l .loop .slot) _ (v .1) (v .0) (c .if2 .taken), further m (l .loop .slot) _ (v .1) (v .0) (c .if2 .taken)))
+    (λ c.
+    let l = c .before .before in
+    free-stop (l .before .before .before .args .marks .now) (l .loop .slot) _ (l .loop .inv .1) (l .loop .inv .0) (c .if2 .left)))
