@@ -20,8 +20,8 @@ use Rattle.slots.specs.Slots.{slotsOf, allBelow, once}
 use Rattle.session.specs.Decides.{and-parts}
 use Rattle.session.specs.Valid.{all, heldFits, sentFits, timeoutFits}
 use Rattle.words.specs.Words.{unpack, paired, outstandingAt}
-use Rattle.marks.specs.Marks.{none, markedAll, Marks}
-use Rattle.marks.specs.MarkLaws.{flag-append, flagged-once, marked-append}
+use Rattle.marks.specs.Marks.{noneOf, markedAll, Marks}
+use Rattle.marks.specs.MarkLaws.{flag-append, once-flagged, marked-append}
 use Rattle.checking.specs.Tests.{wordFits, sendWordFits, sentFew, recordsFit, firstOf}
 use Rattle.checking.proofs.Ascents.{same, both}
 
@@ -71,6 +71,13 @@ unfolding allBelow
 words-low [] = refl
 words-low (w ∷ ws) = let q : w % 256 < 256 = omega arith in rw (lt-ltb (w % 256) 256 q) (words-low ws)
 
+pub send-words-low : (mss : ℕ) (ws : List ℕ) → all (sendWordFits mss) ws ≡ true → allBelow 128 (slotsOf (map unpack ws)) ≡ true
+unfolding allBelow
+send-words-low mss [] e = refl
+send-words-low mss (w ∷ ws) e =
+    let p = and-parts (sendWordFits mss w) (all (sendWordFits mss) ws) e in
+    both (ltb (w % 256) 128) _ (and-parts (heldFits mss (unpack w)) (ltb (w % 256) sendSlots) (p .0) .1) (send-words-low mss ws (p .1))
+
 module _ (a b : List ℕ) where
   abbrev left : List ℕ
   left = slotsOf (map unpack a)
@@ -84,12 +91,25 @@ module _ (a b : List ℕ) where
   pub both-low : allBelow 256 (left ++ right) ≡ true
   both-low = rw together (words-low (a ++ b))
 
-  module _ {m₀ m₁ m₂ : List ℕ} {x y : Bool} (e : m₀ ≡ none) (f : Marks m₀ left m₁ x) (g : Marks m₁ right m₂ y) where
-    pub both-marked : m₂ ≡ markedAll none (left ++ right)
-    both-marked = g .marked ∙ rw (f .marked, e, marked-append none left right) refl
+  -- send slots are below 128
+  pub send-low : (mss : ℕ) → all (sendWordFits mss) a ≡ true → all (sendWordFits mss) b ≡ true → allBelow 128 (left ++ right) ≡ true
+  unfolding allBelow
+  send-low mss e f = go a b e f
+    where
+      go : (us vs : List ℕ) → all (sendWordFits mss) us ≡ true → all (sendWordFits mss) vs ≡ true
+          → allBelow 128 (slotsOf (map unpack us) ++ slotsOf (map unpack vs)) ≡ true
+      go [] vs e f = send-words-low mss vs f
+      go (u ∷ us) vs e f =
+          let p = and-parts (sendWordFits mss u) (all (sendWordFits mss) us) e in
+          both (ltb (u % 256) 128) _ (and-parts (heldFits mss (unpack u)) (ltb (u % 256) sendSlots) (p .0) .1) (go us vs (p .1) f)
+
+  module _ (k : ℕ) (low : allBelow k (left ++ right) ≡ true) {m₀ m₁ m₂ : List ℕ} {x y : Bool} (e : m₀ ≡ noneOf k)
+      (f : Marks k m₀ left m₁ x) (g : Marks k m₁ right m₂ y) where
+    pub both-marked : m₂ ≡ markedAll (noneOf k) (left ++ right)
+    both-marked = g .marked ∙ rw (f .marked, e, marked-append (noneOf k) left right) refl
 
     pub both-once : (x && y) ≡ once (left ++ right)
-    both-once = rw (f .unmarked, g .unmarked, f .marked, e) (sym (flag-append none left right) ∙ flagged-once (left ++ right) both-low)
+    both-once = rw (f .unmarked, g .unmarked, f .marked, e) (sym (flag-append (noneOf k) left right) ∙ once-flagged k (left ++ right) low)
 
 -- ---- records
 

@@ -15,7 +15,7 @@ use Rattle.timing.specs.declared.Record.{Record}
 use Rattle.lists.proofs.Loops.{view-next, view-end}
 use Rattle.slots.specs.Slots.{once}
 use Rattle.session.specs.Valid.{all}
-use Rattle.marks.specs.Marks.{none, markedAll}
+use Rattle.marks.specs.Marks.{noneOf, none, noneToSend, markedAll}
 use Rattle.checking.specs.Tests.{
   follows,
   neighbours,
@@ -135,22 +135,27 @@ looked-all rs n m e f = go (decLt n 32)
 
 -- ---- the segments of a half
 
-pub none-whole : (m : List ℕ) → m ≡ none → length m ≡ 256
-none-whole m e = ap length e ∙ length-replicate {A = ℕ} 256 0
+pub none-whole : (k : ℕ) (m : List ℕ) → m ≡ noneOf k → length m ≡ k
+none-whole k m e = ap length e ∙ length-replicate {A = ℕ} k 0
+
+pub limits-parts : (x y z : Bool) → not (x && y && z) ≡ false → (x ≡ true) × (y ≡ true)
+limits-parts true true z e = (refl, refl)
+limits-parts true false z e = absurd (false≢true (sym e))
+limits-parts false y z e = absurd (false≢true (sym e))
 
 module _ (mss : ℕ) (queued : List ℕ) (n : ℕ) (outstanding transmissions : List ℕ) (m : ℕ) (x y z : Bool) (marks : List ℕ)
     (ex : x ≡ all (sendWordFits mss) (take n queued)) (ey : y ≡ all (sendWordFits mss) (take m outstanding))
     (ez : z ≡ all sentFew (take m transmissions)) where
-  pub limits-fail : marks ≡ none → not (x && y && z) ≡ true → SendingFits mss queued n outstanding transmissions m marks false
+  pub limits-fail : marks ≡ noneToSend → not (x && y && z) ≡ true → SendingFits mss queued n outstanding transmissions m marks false
   limits-fail e t =
       record {
-        whole = none-whole marks e;
+        whole = none-whole 128 marks e;
         fits = sym (rw (← ex, ← ey, ← ez, not-true (x && y && z) t) refl);
         marked = λ z. absurd (false≢true z);
       }
 
-  pub limits-fit : (r : Bool) → not (x && y && z) ≡ false → r ≡ once (sendSlotsIn queued n outstanding m) → length marks ≡ 256
-      → marks ≡ markedAll none (sendSlotsIn queued n outstanding m)
+  pub limits-fit : (r : Bool) → not (x && y && z) ≡ false → r ≡ once (sendSlotsIn queued n outstanding m) → length marks ≡ 128
+      → marks ≡ markedAll noneToSend (sendSlotsIn queued n outstanding m)
       → SendingFits mss queued n outstanding transmissions m marks r
   limits-fit r t er w e = record { whole = w; fits = rw (← ex, ← ey, ← ez, not-false (x && y && z) t) er; marked = λ z. e }
 

@@ -10,10 +10,11 @@ use Rattle.protocol.specs.Ranges.{inRange, mss}
 use Rattle.protocol.specs.declared.Settings.{Settings}
 use Rattle.congestion.specs.Congestions.{fits}
 use Rattle.timing.specs.declared.Record.{Record}
+use Rattle.slots.specs.Slots.{allBelow}
 use Rattle.session.specs.Decides.{and-parts}
 use Rattle.session.specs.State.{sendHeld, receiveHeld, slots}
 use Rattle.session.specs.Valid.{roundTripFits, probeFits, valid}
-use Rattle.marks.specs.Marks.{none, markedAll, Free}
+use Rattle.marks.specs.Marks.{none, noneToSend, markedAll, Free}
 use Rattle.marks.specs.MarkLaws.{free-start}
 use Rattle.control.specs.declared.Link.{Link}
 use Rattle.control.specs.declared.Flight.{Flight}
@@ -33,7 +34,7 @@ use Rattle.checking.specs.Tests.{
 }
 use Rattle.checking.specs.Verdicts.{Checked}
 use Rattle.checking.proofs.Turns.{not-true, not-false}
-use Rattle.checking.proofs.Joins.{both-low}
+use Rattle.checking.proofs.Joins.{both-low, send-low}
 use Rattle.checking.proofs.Halves.{send-slots, sending-checked, receive-slots, receiving-checked}
 
 abbrev trip : Settings → Flight → Bool
@@ -117,18 +118,17 @@ module _ (s : Settings) (f : Flight) (a : Arrival) (k : Clock) (x : Arrays) (rs 
               below,
         ) refl
 
-    sent-free : Free (markedAll none sendHolds) (slots (sendHeld (stateOf link rs acks .sending))) 0
+    sent-free : allBelow 128 sendHolds ≡ true → Free (markedAll noneToSend sendHolds) (slots (sendHeld (stateOf link rs acks .sending))) 0
     unfolding stateOf
-    sent-free = rw (send-slots f (x .queued) (x .outstanding) (x .transmissions) rs long sent has)
-        (free-start sendHolds (both-low (take (f .outstanding) (x .outstanding)) (take (f .queued) (x .queued))))
+    sent-free low = rw (send-slots f (x .queued) (x .outstanding) (x .transmissions) rs long sent has) (free-start 128 sendHolds low)
 
     got-free : Free (markedAll none receiveHolds) (slots (receiveHeld (stateOf link rs acks .receiving))) 0
     unfolding stateOf
     got-free = rw (receive-slots a (x .ready) (x .waiting) (x .numbers) ready waiting side (pairs (a .acks) acks))
-        (free-start receiveHolds (both-low (take (a .ready) (x .ready)) (take (a .waiting) (x .waiting))))
+        (free-start 256 receiveHolds (both-low (take (a .ready) (x .ready)) (take (a .waiting) (x .waiting))))
 
   -- the numbers do not fit
-  pub unfit : (send receive : List ℕ) → false ≡ numbersFit s f a k → length send ≡ 256 → length receive ≡ 256
+  pub unfit : (send receive : List ℕ) → false ≡ numbersFit s f a k → length send ≡ 128 → length receive ≡ 256
       → Checked link rs send receive false
   unfolding blockValid countsFit
   unfit send receive e es er =
@@ -167,6 +167,14 @@ module _ (s : Settings) (f : Flight) (a : Arrival) (k : Clock) (x : Arrays) (rs 
         receive-free = λ acks z. absurd (false≢true z);
       }
 
+  -- its slots are below 128 where it does
+  sends-low : (p : ℕ) (send : List ℕ) (z : Bool) → not z ≡ false
+      → SendingFits p (x .queued) (f .queued) (x .outstanding) (x .transmissions) (f .outstanding) send z → allBelow 128 sendHolds ≡ true
+  sends-low p send z ez h =
+      let fit = and-parts _ _ (sym (h .fits) ∙ not-false z ez) .0 in
+      let both = and-parts _ _ (and-parts _ _ fit .0) in
+      send-low (take (f .outstanding) (x .outstanding)) (take (f .queued) (x .queued)) p (both .1) (both .0)
+
   -- it does, and the receiving half and the records decide
   pub sent-fits : (p : ℕ) (send receive : List ℕ) (z y flown : Bool) → true ≡ numbersFit s f a k → p ≡ mss s → not z ≡ false
       → SendingFits p (x .queued) (f .queued) (x .outstanding) (x .transmissions) (f .outstanding) send z → flown ≡ flies
@@ -189,7 +197,7 @@ module _ (s : Settings) (f : Flight) (a : Arrival) (k : Clock) (x : Arrays) (rs 
           ← h₂,
           ← h₃ .fits,
         ) (turn y flown);
-        send-free = λ acks g₁. rw (h₁ .marked (not-false z ez)) (sent-free acks (g .counting));
+        send-free = λ acks g₁. rw (h₁ .marked (not-false z ez)) (sent-free acks (g .counting) (sends-low p send z ez h₁));
         receive-free = λ acks g₁. rw (h₃ .marked (and-parts y flown g₁ .0)) (got-free acks (g .counting));
       }
     where

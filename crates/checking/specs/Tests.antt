@@ -15,7 +15,7 @@ use Rattle.timing.specs.declared.Record.{Record}
 use Rattle.slots.specs.Slots.{slotsOf, once}
 use Rattle.session.specs.Valid.{all, heldFits, timeoutFits, roundTripFits, probeFits}
 use Rattle.words.specs.Words.{unpack, heldIn}
-use Rattle.marks.specs.Marks.{none, markedAll}
+use Rattle.marks.specs.Marks.{none, noneToSend, markedAll}
 use Rattle.control.specs.declared.Flight.{Flight}
 use Rattle.control.specs.declared.Arrival.{Arrival}
 use Rattle.control.specs.declared.Clock.{Clock}
@@ -110,9 +110,9 @@ sendingFits mss queued n outstanding transmissions m =
 
 pub record SendingFits (mss : ℕ) (queued : List ℕ) (n : ℕ) (outstanding transmissions : List ℕ) (m : ℕ) (marks : List ℕ) (r : Bool) : Type 0
   where
-    pub whole : length marks ≡ 256
+    pub whole : length marks ≡ 128
     pub fits : r ≡ sendingFits mss queued n outstanding transmissions m
-    pub marked : r ≡ true → marks ≡ markedAll none (sendSlotsIn queued n outstanding m)
+    pub marked : r ≡ true → marks ≡ markedAll noneToSend (sendSlotsIn queued n outstanding m)
 
 abbrev pub receiveSlotsIn : List ℕ → ℕ → List ℕ → ℕ → List ℕ
 receiveSlotsIn ready n waiting m = slotsOf (heldIn ready n) ++ slotsOf (heldIn waiting m)

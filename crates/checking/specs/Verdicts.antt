@@ -17,7 +17,7 @@ use Rattle.checking.specs.declared.Verdict.the-variants.{Passed, Refused
 
 -- 13 is given exactly where the block is not valid; else the marks tell the free slots of both pools
 pub record Checked (l : Link) (records : List Record) (send receive : List ℕ) (r : Bool) : Type 0 where
-  pub send-whole : length send ≡ 256
+  pub send-whole : length send ≡ 128
   pub receive-whole : length receive ≡ 256
   pub fits : (acks : List ℕ) → r ≡ blockValid l records acks
   pub send-free : (acks : List ℕ) → r ≡ true → Free send (slots (sendHeld (stateOf l records acks .sending))) 0

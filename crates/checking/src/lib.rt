@@ -14,7 +14,7 @@ use protocol::Settings;
 ghost use mathlib.Core.Path.{_≡_};
 ghost use Prim.Native.Nat.{_≤_};
 ghost use lib.ListN.{length};
-ghost use Rattle.marks.specs.Marks.{none};
+ghost use Rattle.marks.specs.Marks.{none, noneToSend};
 ghost use Rattle.control.specs.Views.{arrays, linkOf, Whole};
 ghost use Rattle.checking.specs.Tests.{SendingFits, ReceivingFits};
 ghost use Rattle.checking.specs.Verdicts.{Sound, verdictOf};
@@ -47,10 +47,10 @@ fn sending_fits(
     transmissions: &[u8; 32],
     m: usize,
     mss: u16,
-    marks: &mut [u8; 256],
+    marks: &mut [u8; 128],
 ) -> bool
     requires { ⌜ (length (now queued) ≡ 128) × (n ≤ 128) × (length (now outstanding) ≡ 32) × (length (now transmissions) ≡ 32) × (m ≤ 32)
-        × (now marks ≡ none) ⌝ }
+        × (now marks ≡ noneToSend) ⌝ }
     ensures { λ r. ⌜ SendingFits mss (now (queued .entry)) n (now (outstanding .entry)) (now (transmissions .entry)) m
         (now (marks .exit)) r ⌝ }
 {
@@ -61,7 +61,7 @@ fn sending_fits(
         return false;
     }
     let first = marks::mark_outstanding(marks, outstanding, m);
-    let second = marks::mark(marks, queued, n);
+    let second = marks::mark_queued(marks, queued, n);
     first & second
 }
 
@@ -103,11 +103,11 @@ pub fn sound(
     ready: &[u32; 128],
     waiting: &[u32; 128],
     waiting_numbers: &[u32; 128],
-    send_marks: &mut [u8; 256],
+    send_marks: &mut [u8; 128],
     receive_marks: &mut [u8; 256],
 ) -> bool
     requires { ⌜ Whole (arrays (now queued) (now outstanding) (now transmissions) (now ready) (now waiting) (now «waiting_numbers»))
-        × (now «send_marks» ≡ none) × (now «receive_marks» ≡ none) ⌝ }
+        × (now «send_marks» ≡ noneToSend) × (now «receive_marks» ≡ none) ⌝ }
     ensures { λ r. ⌜ Sound (linkOf settings flight arrival clock (arrays (now (queued .entry)) (now (outstanding .entry))
         (now (transmissions .entry)) (now (ready .entry)) (now (waiting .entry)) (now («waiting_numbers» .entry))))
         (now («send_marks» .exit)) (now («receive_marks» .exit)) r ⌝ }

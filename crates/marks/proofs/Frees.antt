@@ -41,19 +41,22 @@ first-wider test k (suc f) (suc g) h l = go (test k) l (first-wider test (k + 1)
     go true l ih = ih (omega arith)
     go false l ih = refl
 
--- there is one not marked from k on, so k is a slot
-pub slot-low : (marks : List ℕ) (k : ℕ) → nextFree marks k < 256 → k < 256
-slot-low marks k h = omega (arith, first-least (isMarked marks) k (256 - k))
+-- there is one not marked from k on among the first m, so k is a slot
+pub slot-low : (m : ℕ) (marks : List ℕ) (k : ℕ) → nextFree marks k < m → k < m
+slot-low m marks k h = omega (arith, first-least (isMarked marks) k (256 - k))
 
-pub free-more : (marks : List ℕ) (k total : ℕ) → total ≡ nextFree marks k → total < 256 → (getD marks k 0 ≡ 0 → ⊥)
+pub free-more : (m : ℕ) (marks : List ℕ) (k total : ℕ) → m ≤ 256 → total ≡ nextFree marks k → total < m → (getD marks k 0 ≡ 0 → ⊥)
     → total ≡ nextFree marks (k + 1)
-free-more marks k total e h n = e ∙ first-more (isMarked marks) 256 k (slot-low marks k (rw (← e) h)) (rw (ne-eqb _ _ n) refl)
+free-more m marks k total w e h n =
+    e ∙ first-more (isMarked marks) 256 k (omega (arith, slot-low m marks k (rw (← e) h))) (rw (ne-eqb _ _ n) refl)
 
-pub further : (marks : List ℕ) (k total : ℕ) → total ≡ nextFree marks k → total < 256 → (getD marks k 0 ≡ 0 → ⊥) → k + 1 < 256
-further marks k total e h n = let q = free-more marks k total e h n in slot-low marks (k + 1) (rw (← q) h)
+pub further : (m : ℕ) (marks : List ℕ) (k total : ℕ) → m ≤ 256 → total ≡ nextFree marks k → total < m → (getD marks k 0 ≡ 0 → ⊥)
+    → k + 1 < m
+further m marks k total w e h n = let q = free-more m marks k total w e h n in slot-low m marks (k + 1) (rw (← q) h)
 
-pub free-stop : (marks : List ℕ) (k total : ℕ) → total ≡ nextFree marks k → total < 256 → getD marks k 0 ≡ 0 → k ≡ total
-free-stop marks k total e h n = sym (e ∙ first-stop (isMarked marks) 256 k (slot-low marks k (rw (← e) h)) (rw (eq-eqb _ _ n) refl))
+pub free-stop : (m : ℕ) (marks : List ℕ) (k total : ℕ) → m ≤ 256 → total ≡ nextFree marks k → total < m → getD marks k 0 ≡ 0 → k ≡ total
+free-stop m marks k total w e h n =
+    sym (e ∙ first-stop (isMarked marks) 256 k (omega (arith, slot-low m marks k (rw (← e) h))) (rw (eq-eqb _ _ n) refl))
 
 -- ---- what the marks tell
 

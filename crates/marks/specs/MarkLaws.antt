@@ -13,7 +13,7 @@ use lib.Seq.{getD-set-same, getD-set-other}
 use Rattle.session.specs.Decides.{and-parts}
 use Rattle.slots.specs.Slots.{isUsed, allBelow, once}
 use Rattle.slots.specs.SlotLaws.{walked-start}
-use Rattle.marks.specs.Marks.{none, markedAll, unmarkedAll, isMarked, Free}
+use Rattle.marks.specs.Marks.{noneOf, markedAll, unmarkedAll, isMarked, Free}
 
 -- ---- the flag
 
@@ -62,11 +62,8 @@ flag-once (s ∷ l) m h =
     turn true true false o = refl
     turn true false f o = refl
 
-once-flagged : (n : ℕ) (l : List ℕ) → allBelow n l ≡ true → unmarkedAll (replicate n 0) l ≡ once l
+pub once-flagged : (n : ℕ) (l : List ℕ) → allBelow n l ≡ true → unmarkedAll (noneOf n) l ≡ once l
 once-flagged n l h = flag-once l (replicate n 0) (rw (length-replicate) h) ∙ rw (none-free n l)
-
-pub flagged-once : (l : List ℕ) → allBelow 256 l ≡ true → unmarkedAll none l ≡ once l
-flagged-once l h = once-flagged 256 l h
 
 -- one list after the other: the flags are joined
 pub flag-append : (m a b : List ℕ) → unmarkedAll m (a ++ b) ≡ (unmarkedAll m a && unmarkedAll (markedAll m a) b)
@@ -115,5 +112,5 @@ used-marked : (n : ℕ) (l : List ℕ) (i : ℕ) → allBelow n l ≡ true → i
 used-marked n l i h = marked-used l (replicate n 0) i (rw (length-replicate) h) ∙ rw (none-at n i) (or-false (isUsed i l))
 
 -- the marks of the slots held tell the free ones from 0 on
-pub free-start : (l : List ℕ) → allBelow 256 l ≡ true → Free (markedAll none l) l 0
-free-start l h = record { used = l; marked = λ i. used-marked 256 l i h; walked = walked-start l; within = omega arith }
+pub free-start : (n : ℕ) (l : List ℕ) → allBelow n l ≡ true → Free (markedAll (noneOf n) l) l 0
+free-start n l h = record { used = l; marked = λ i. used-marked n l i h; walked = walked-start l; within = omega arith }

@@ -1,4 +1,4 @@
--- Marks of slots, one for each of 256, 0 or 1, and the free slots that they tell. Definitions.
+-- Marks of slots, one for each of the 256 or 128 of a pool, 0 or 1, and the free slots that they tell. Definitions.
 -- Assumes nothing.
 use mathlib.Core.Path.{_≡_}
 use mathlib.Core.Bool.{Bool, true, not, _&&_}
@@ -9,8 +9,15 @@ use lib.ListN.{length, getD, set, replicate}
 use Rattle.slots.specs.Slots.{isUsed, firstNot}
 use Rattle.slots.specs.SlotLaws.{Walked}
 
+-- no slot is marked: of so many, of the receive slots, of the send slots
+abbrev pub noneOf : ℕ → List ℕ
+noneOf n = replicate n 0
+
 abbrev pub none : List ℕ
-none = replicate 256 0
+none = noneOf 256
+
+abbrev pub noneToSend : List ℕ
+noneToSend = noneOf 128
 
 -- the marks with those of a list of slots
 unfoldable pub markedAll : List ℕ → List ℕ → List ℕ
@@ -22,9 +29,9 @@ unfoldable pub unmarkedAll : List ℕ → List ℕ → Bool
 unmarkedAll m [] = true
 unmarkedAll m (s ∷ l) = eqb (getD m s 0) 0 && unmarkedAll (set m s 1) l
 
--- a list of slots is marked: the marks after it, and whether none was marked before and none stands twice
-pub record Marks (before slots after : List ℕ) (once : Bool) : Type 0 where
-  pub whole : length after ≡ 256
+-- a list of slots is marked, of so many: the marks after it, and whether none was marked before and none stands twice
+pub record Marks (size : ℕ) (before slots after : List ℕ) (once : Bool) : Type 0 where
+  pub whole : length after ≡ size
   pub marked : after ≡ markedAll before slots
   pub unmarked : once ≡ unmarkedAll before slots
 

@@ -18,7 +18,7 @@ returns c = λ flown rs f.
     let s = c .before .before in
     let a = s .args in
     unfit (a .settings) (a .flight) (a .arrival) (a .clock) (lists s) rs (s .pre .0) (f .whole) (search (needs, s .good .1 .1 .0)) _ _
-    (sym (not-true _ (c .if1 .taken)) ∙ c .before .numbers-fit .ensures) (none-whole _ (s .pre .1)) (none-whole _ (s .pre .2))
+    (sym (not-true _ (c .if1 .taken)) ∙ c .before .numbers-fit .ensures) (none-whole 128 _ (s .pre .1)) (none-whole 256 _ (s .pre .2))
 
 sending-fits-requires : tie.Need-sending-fits-requires
 sending-fits-requires c κs =
@@ -37,7 +37,7 @@ returns-2 c = λ flown rs f.
     unsent (a .settings) (a .flight) (a .arrival) (a .clock) (lists s) rs (s .pre .0) (f .whole) (search (needs, s .good .1 .1 .0)) _ _ _
     _ (sym (not-false _ (i .if1 .left)) ∙ i .before .numbers-fit .ensures) (c .before .before .before .mss .ensures) (c .if2 .taken)
     (c .before .sending-fits .ensures)
-    (none-whole _ (s .pre .2))
+    (none-whole 256 _ (s .pre .2))
 
 receiving-fits-requires : tie.Need-receiving-fits-requires
 receiving-fits-requires c κs =

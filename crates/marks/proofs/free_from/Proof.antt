@@ -2,6 +2,7 @@
 -- Assumes nothing.
 use mathlib.Core.Path.{_≡_, refl}
 use Prim.Native.Nat.{_-_, _<_}
+use native.Mathlib.Omega.{arith}
 use borrow.Author.Needs.{needs}
 use Rattle.marks.specs.Marks.{nextFree}
 use Rattle.marks.proofs.Frees.{slot-low, free-more, further, free-stop}
@@ -20,11 +21,11 @@ free-from-spec =
     (tie.spec
     Inv-loop
     μ-loop
-    (λ c. search (needs, slot-low (c .args .marks .now) (c .args .from) (c .pre .2)))
+    (λ c. search (needs, slot-low 256 (c .args .marks .now) (c .args .from) (c .pre .2)))
     (λ c.
     let s = c .before .before in
-    free-stop (s .args .marks .now) (s .args .from) _ refl (s .pre .2) (c .if1 .taken))
-    (λ c. let s = c .before .before in (s .pre .2, refl, slot-low (s .args .marks .now) (s .args .from) (s .pre .2)))
+    free-stop 256 (s .args .marks .now) (s .args .from) _ (omega arith) refl (s .pre .2) (c .if1 .taken))
+    (λ c. let s = c .before .before in (s .pre .2, refl, slot-low 256 (s .args .marks .now) (s .args .from) (s .pre .2)))
     (λ c. search needs)
     (λ c. search needs)
     (λ c. search needs)
@@ -32,7 +33,7 @@ free-from-spec =
     let l = c .before .before in
     let v = l .loop .inv in
     let m = l .before .before .before .args .marks .now in
-    (v .0, free-more m (l .loop .slot) _ (v .1) (v .0) (c .if2 .taken), further m (l .loop .slot) _ (v .1) (v .0) (c .if2 .taken)))
+    (v .0, free-more 256 m (l .loop .slot) _ (omega arith) (v .1) (v .0) (c .if2 .taken), further 256 m (l .loop .slot) _ (omega arith) (v .1) (v .0) (c .if2 .taken)))
     (λ c.
     let l = c .before .before in
-    free-stop (l .before .before .before .args .marks .now) (l .loop .slot) _ (l .loop .inv .1) (l .loop .inv .0) (c .if2 .left)))
+    free-stop 256 (l .before .before .before .args .marks .now) (l .loop .slot) _ (omega arith) (l .loop .inv .1) (l .loop .inv .0) (c .if2 .left)))

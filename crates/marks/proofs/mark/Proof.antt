@@ -8,7 +8,7 @@ use Rattle.marks.proofs.mark.Statement.{statement}
 use Rattle.marks.proofs.mark.Tie as tie
 
 abbrev Inv-loop : tie.InvT-loop
-Inv-loop marks₀ words n twice₀ i₀ marks twice i = (i ≤ n) × Marking marks₀ words n marks twice i
+Inv-loop marks₀ words n twice₀ i₀ marks twice i = (i ≤ n) × Marking 256 marks₀ words n marks twice i
 
 abbrev μ-loop : tie.MeasureT-loop
 μ-loop marks₀ words n twice₀ i₀ marks twice i = n - i
@@ -28,7 +28,7 @@ mark-spec =
     (tie.spec
     Inv-loop
     μ-loop
-    (λ c. (search needs, marking-start _ _ _ (c .pre .0)))
+    (λ c. (search needs, marking-start 256 _ _ _ (c .pre .0)))
     (λ c. search needs)
     (λ c. search needs)
     (λ c κs. search needs)

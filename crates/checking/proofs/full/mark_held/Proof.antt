@@ -4,7 +4,7 @@ use borrow.Author.Needs.{needs}
 use lib.ListN.{take}
 use Rattle.checking.proofs.Turns.{none-whole}
 use Rattle.checking.proofs.Lines.{full-held}
-use Rattle.checking.proofs.Joins.{both-marked, both-once}
+use Rattle.checking.proofs.Joins.{both-low, both-marked, both-once}
 use Rattle.checking.proofs.full.mark_held.Statement.{statement}
 use Rattle.checking.proofs.full.mark_held.Tie as tie
 
@@ -24,10 +24,11 @@ returns-2 c =
     let a = s .args in
     let first = c .before .before .mark .ensures in
     let second = c .mark2 .ensures in
+    let low = both-low (take (a .n) (a .ready .now)) (take (a .m) (a .waiting .now)) in
     record {
       whole = second .whole;
-      marked = both-marked (take (a .n) (a .ready .now)) (take (a .m) (a .waiting .now)) (s .pre .4) first second;
-      held = both-once (take (a .n) (a .ready .now)) (take (a .m) (a .waiting .now)) (s .pre .4) first second;
+      marked = both-marked (take (a .n) (a .ready .now)) (take (a .m) (a .waiting .now)) 256 low (s .pre .4) first second;
+      held = both-once (take (a .n) (a .ready .now)) (take (a .m) (a .waiting .now)) 256 low (s .pre .4) first second;
     }
 
 pub mark-held-spec : {M : Type 1} → statement M
@@ -38,6 +39,6 @@ mark-held-spec =
     (λ c κs. search needs)
     (λ c κs. search needs)
     returns
-    (λ c κs. search (needs, none-whole))
+    (λ c κs. search (needs, none-whole 256))
     (λ c κs. search needs)
     returns-2)
