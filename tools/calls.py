@@ -17,7 +17,8 @@ OPENED, SUBMITTED, TAKEN = Declared('open_core', 'Opened'), Declared('send_core'
 FLUSHED, DELIVERED, PLACE = Declared('flush_core', 'Flushed'), Declared('read_core', 'Delivered'), Declared('read_core', 'Place')
 COUNT, TIME = Declared('answers', 'Count', 'EL'), Declared('answers', 'Time', 'EL')
 DECLARED = [SETTINGS, FLIGHT, ARRIVAL, CLOCK, OPENED, SUBMITTED, TAKEN, FLUSHED, DELIVERED, PLACE, COUNT, TIME]
-U32, CODE, MARKS = Number('u32'), Signed(), Numbers('u8', 256)
+U32, CODE = Number('u32'), Signed()
+SEND_MARKS, RECEIVE_MARKS = Numbers('u8', 128), Numbers('u8', 256)
 
 # the types of locals, as `rt mir` writes them
 TYPES = {
@@ -26,7 +27,7 @@ TYPES = {
     'answers::Time': TIME,
     'read_core::Delivered': DELIVERED, 'read_core::Place': PLACE, 'answers::Count': COUNT,
     'tyInt 64': Number('usize'), 'tyInt 32': CODE, 'tyBool': Truth(), 'tyUnit': Nothing(),
-    'tyArray tyInt 32 32': Numbers('u32', 32), 'tyArray tyInt 32 128': Numbers('u32', 128), 'tyArray tyInt 8 256': MARKS,
+    'tyArray tyInt 32 32': Numbers('u32', 32), 'tyArray tyInt 32 128': Numbers('u32', 128), 'tyArray tyInt 8 128': SEND_MARKS, 'tyArray tyInt 8 256': RECEIVE_MARKS,
 }
 
 # what a proof names of the specs and laws
@@ -35,7 +36,7 @@ NAMES = {
     'Rattle.protocol.specs.Protocol': 'sendSlots', 'Rattle.records.specs.Tables': 'slotsIn gathered padded scattered',
     'Rattle.record_words.specs.RecordWords': 'recordsIn', 'Rattle.record_words.specs.RecordLaws': 'records-length',
     'Rattle.control.specs.Views': 'Whole Arrays arrays arraysOf linkOf',
-    'Rattle.marks.specs.Marks': 'none',
+    'Rattle.marks.specs.Marks': 'none noneToSend',
     'Rattle.checking.specs.Tests': 'flightFits', 'Rattle.checking.specs.Verdicts': 'Flown Flies ByFlown Sound SendMarked ReceiveMarked Sounds',
     'Rattle.promises.specs.Parts': 'lentLengths partsOf flushPartsOf', 'Rattle.promises.specs.Answers': 'countOutcome timeOutcome',
     'Rattle.promises.specs.Outcomes': 'opensWith takesInWith tellsWith showsWith checksWith shows',
@@ -120,16 +121,16 @@ def by_flown(says):
 def sound():
     return dict(
         crate='block_check', name='sound', result=Truth(), about='The block is read through a `&`; where the marks go is given to `checking::sound`.',
-        pars=[Par('sref'), Par('given', MARKS), Par('given', MARKS)],
-        needs='(x₁ .now ≡ none) × (x₂ .now ≡ none)', said='Sound h z₁ z₂ r',
-        calls=[Call('core', 'r', f"Sound h {last('r', 10)} {last('r', 11)} r", (f'Whole ({LISTS}) × (x₁ .now ≡ none) × (x₂ .now ≡ none)', f"{whole('len-')}, req .0, req .1"))],
+        pars=[Par('sref'), Par('given', SEND_MARKS), Par('given', RECEIVE_MARKS)],
+        needs='(x₁ .now ≡ noneToSend) × (x₂ .now ≡ none)', said='Sound h z₁ z₂ r',
+        calls=[Call('core', 'r', f"Sound h {last('r', 10)} {last('r', 11)} r", (f'Whole ({LISTS}) × (x₁ .now ≡ noneToSend) × (x₂ .now ≡ none)', f"{whole('len-')}, req .0, req .1"))],
         proof='e-r')
 
 
 # the check of the block comes first; the marks of its slots are z-sends and z-receives where the core is called
 CHECK = [
-    Call('marks-of', 'sends', 'sends ≡ none'), Call('marks-of', 'receives', 'receives ≡ none'),
-    Call('check', 'ok', f"Sound h {last('ok', 1)} {last('ok', 2)} ok", ('(f-sends ≡ none) × (f-receives ≡ none)', 'e-sends, e-receives')),
+    Call('send-marks-of', 'sends', 'sends ≡ noneToSend'), Call('marks-of', 'receives', 'receives ≡ none'),
+    Call('check', 'ok', f"Sound h {last('ok', 1)} {last('ok', 2)} ok", ('(f-sends ≡ noneToSend) × (f-receives ≡ none)', 'e-sends, e-receives')),
 ]
 BLOCK = f'(linkOf y₀ y₁ y₂ y₃ ({LISTS}))'
 SOUNDS = (f'Sounds {BLOCK} y₄', '(z-sends, (z-receives, e-ok))')

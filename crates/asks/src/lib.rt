@@ -21,7 +21,7 @@ pub fn size(
     ensures { λ r. ⌜ Gives countCode (λ a. SizePromise (now (link .entry))
         (partsOf (now («send_pool» .entry)) (now («receive_pool» .entry)) (now (table .entry)) (now (acks .entry))) a) r ⌝ }
 {
-    let mut send_marks = marks::none();
+    let mut send_marks = marks::none_to_send();
     let mut receive_marks = marks::none();
     let sound = block_check::sound(link, &mut send_marks, &mut receive_marks);
     let settings = link.settings;
@@ -65,7 +65,7 @@ pub fn show(
         (partsOf (now («send_pool» .entry)) (now («receive_pool» .entry)) (now (table .entry)) (now (acks .entry))) a (now (start .exit))) r
         ⌝ }
 {
-    let mut send_marks = marks::none();
+    let mut send_marks = marks::none_to_send();
     let mut receive_marks = marks::none();
     let sound = block_check::sound(link, &mut send_marks, &mut receive_marks);
     let settings = link.settings;
@@ -109,7 +109,7 @@ pub fn check(
         (partsOf (now («send_pool» .entry)) (now («receive_pool» .entry)) (now (table .entry)) (now (acks .entry))) a
         (now (when .entry)) (now (when .exit))) r ⌝ }
 {
-    let mut send_marks = marks::none();
+    let mut send_marks = marks::none_to_send();
     let mut receive_marks = marks::none();
     let sound = block_check::sound(link, &mut send_marks, &mut receive_marks);
     let settings = link.settings;

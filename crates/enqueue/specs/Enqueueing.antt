@@ -49,7 +49,7 @@ pub record Fills (f : Filled) (n : ℕ) (after pool′ : List ℕ) : Type 0 wher
 pub record Placeable (m : ℕ) (queued : List ℕ) (n : ℕ) (marks pool : List ℕ) (count : ℕ) : Type 0 where
   pub whole : length queued ≡ 128
   pub room : n + count ≤ 128
-  pub marks-whole : length marks ≡ 256
+  pub marks-whole : length marks ≡ 128
   pub marked : Marked marks (sendSlots - count)
   pub word : m < 2 ^ 16
   pub slots : sendSlots * m ≤ length pool
@@ -69,7 +69,7 @@ pub record Enqueueable (m : ℕ) (queued : List ℕ) (n k : ℕ) (marks pool : L
   -- the slots held are slots of the pool, and none is held twice
   pub held-most : k + n ≤ 128
   pub low : All (λ (h : Held). h .slot < sendSlots) (heldIn queued n)
-  pub marks-whole : length marks ≡ 256
+  pub marks-whole : length marks ≡ 128
   pub marked : Marked marks (k + n)
   pub some : 0 < m
   pub word : m < 2 ^ 16

@@ -118,7 +118,7 @@ fn place(
     mss: usize,
     queued: &mut [u32; 128],
     n: usize,
-    marks: &[u8; 256],
+    marks: &[u8; 128],
     pool: &mut [u8],
     message: &[u8],
     from: usize,
@@ -135,7 +135,7 @@ fn place(
     let mut left = count;
     while 0 < left {
         left -= 1;
-        slot = marks::free_from(marks, slot);
+        slot = marks::free_to_send(marks, slot);
         let len = store(mss, message, at, pool, slot);
         queued[next] = word_of(slot, len, fragment_of(stream, left));
         next += 1;
@@ -153,7 +153,7 @@ pub fn enqueue(
     queued: &mut [u32; 128],
     n: usize,
     m: usize,
-    marks: &[u8; 256],
+    marks: &[u8; 128],
     pool: &mut [u8],
     message: &[u8],
 ) -> Enqueued

@@ -69,7 +69,7 @@ pub fn send(
         a (now (link .exit))
         (partsOf (now («send_pool» .exit)) (now («receive_pool» .entry)) (now (table .entry)) (now (acks .entry)))) r ⌝ }
 {
-    let mut send_marks = marks::none();
+    let mut send_marks = marks::none_to_send();
     let mut receive_marks = marks::none();
     let sound = block_check::sound(link, &mut send_marks, &mut receive_marks);
     let settings = link.settings;
@@ -118,7 +118,7 @@ pub fn read(
         (partsOf (now («send_pool» .entry)) (now («receive_pool» .entry)) (now (table .entry)) (now (acks .entry)))
         (now (buffer .exit))) r ⌝ }
 {
-    let mut send_marks = marks::none();
+    let mut send_marks = marks::none_to_send();
     let mut receive_marks = marks::none();
     let sound = block_check::sound(link, &mut send_marks, &mut receive_marks);
     let settings = link.settings;

@@ -119,7 +119,7 @@ module _ (s : Settings) (f : Flight) (a : Arrival) (k : Clock) (x : Arrays) (rs 
     pub held : length used ≡ f .outstanding + f .queued
     pub few : length used ≤ sendSlots
     pub low : All (λ (h : Held). h .slot < sendSlots) (heldIn (x .queued) (f .queued))
-    pub whole-marks : length marks ≡ 256
+    pub whole-marks : length marks ≡ 128
     pub free : Free marks used 0
     pub some : 0 < mss s
     pub word : mss s < 2 ^ 16

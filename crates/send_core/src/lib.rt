@@ -23,7 +23,7 @@ fn send_checked(
     mss: usize,
     flight: Flight,
     queued: &mut [u32; 128],
-    marks: &[u8; 256],
+    marks: &[u8; 128],
     pool: &mut [u8],
     message: &[u8],
 ) -> Submitted
@@ -66,7 +66,7 @@ pub fn send(
     ready: &[u32; 128],
     waiting: &[u32; 128],
     waiting_numbers: &[u32; 128],
-    send_marks: &[u8; 256],
+    send_marks: &[u8; 128],
     send_pool: &mut [u8],
     receive_pool: &[u8],
     acks: &[u32],

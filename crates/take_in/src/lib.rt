@@ -21,7 +21,7 @@ pub fn take_in(
         a (now (link .exit))
         (partsOf (now («send_pool» .entry)) (now («receive_pool» .exit)) (now (table .exit)) (now (acks .exit)))) r ⌝ }
 {
-    let mut send_marks = marks::none();
+    let mut send_marks = marks::none_to_send();
     let mut receive_marks = marks::none();
     let sound = block_check::sound(link, &mut send_marks, &mut receive_marks);
     let settings = link.settings;

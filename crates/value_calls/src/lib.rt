@@ -74,7 +74,7 @@ fn is_counts(list: [u8; 32]) -> bool
 // Whether a block is one that this link makes, but for the records of its outstanding segments, and the marks of its slots.
 struct Marked {
     sound: bool,
-    send: [u8; 256],
+    send: [u8; 128],
     receive: [u8; 256],
 }
 
@@ -91,7 +91,7 @@ fn marks_of(link: Link) -> Marked
     let ready = link.ready;
     let waiting = link.waiting;
     let waiting_numbers = link.waiting_numbers;
-    let mut send = marks::none();
+    let mut send = marks::none_to_send();
     let mut receive = marks::none();
     let sound = checking::sound(
         settings,

@@ -23,7 +23,7 @@ pub fn write_out(
         (partsOf (now («send_pool» .entry)) (now («receive_pool» .entry)) (now (table .exit)) (now (acks .entry)))
         (flushPartsOf (now (output .exit)) (now (lengths .exit))) r ⌝ }
 {
-    let mut send_marks = marks::none();
+    let mut send_marks = marks::none_to_send();
     let mut receive_marks = marks::none();
     let sound = block_check::sound(link, &mut send_marks, &mut receive_marks);
     let settings = link.settings;

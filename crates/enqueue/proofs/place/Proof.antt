@@ -44,19 +44,19 @@ loop-holds c =
 slot-low : (c : tie.In-loop Inv-loop μ-loop) → nextFree (c .before .before .before .before .args .marks .now) (c .before .loop .slot) < 128
 slot-low c = let v = c .before .loop .inv in next-low (v .5 (v .4 .marked)) (c .loop-test .taken)
 
-free-from-requires : tie.Need-free-from-requires Inv-loop μ-loop
-free-from-requires c κs = let v = c .before .loop .inv in (v .4 .marks-whole, v .3, omega (arith, slot-low c))
+free-to-send-requires : tie.Need-free-to-send-requires Inv-loop μ-loop
+free-to-send-requires c κs = let v = c .before .loop .inv in (v .4 .marks-whole, v .3, omega (arith, slot-low c))
 
 store-requires : tie.Need-store-requires Inv-loop μ-loop
 store-requires c κs = let v = c .before .before .before .loop .inv in
-    (v .0, omega (arith, slot-low (c .before .before), c .before .free-from .ensures), omega (arith, v .1, v .4 .slots))
+    (v .0, omega (arith, slot-low (c .before .before), c .before .free-to-send .ensures), omega (arith, v .1, v .4 .slots))
 
 -- the payload stored is short, and its slot a byte
 short : (c : tie.After-store Inv-loop μ-loop) → c .store .result < 65536
 short c = omega (arith, stored-short (c .store .ensures), c .before .before .before .before .loop .inv .4 .word)
 
-found : (c : tie.After-free-from Inv-loop μ-loop) → c .free-from .result < 128
-found c = omega (arith, slot-low (c .before), c .free-from .ensures)
+found : (c : tie.After-free-to-send Inv-loop μ-loop) → c .free-to-send .result < 128
+found c = omega (arith, slot-low (c .before), c .free-to-send .ensures)
 
 word-of-requires : tie.Need-word-of-requires Inv-loop μ-loop
 word-of-requires c κs =
@@ -83,7 +83,7 @@ loop-again : tie.Need-loop-again Inv-loop μ-loop
 loop-again c =
     let v = c .before .before .before .before .before .before .before .before .loop .inv in
     let s = c .before .before .before .before .store .ensures in
-    let f = c .before .before .before .before .before .before .free-from .ensures in
+    let f = c .before .before .before .before .before .before .free-to-send .ensures in
     let t = c .before .before .before .before .before .before .before .loop-test .taken in (
       stored-within s (v .0),
       search needs,
@@ -105,7 +105,7 @@ place-spec =
     μ-loop
     loop-holds
     (λ c. search needs)
-    free-from-requires
+    free-to-send-requires
     store-requires
     (λ c κs. search needs)
     word-of-requires
