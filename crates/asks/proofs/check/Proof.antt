@@ -199,7 +199,7 @@ use Rattle.protocol.specs.Protocol.{sendSlots}
 use Rattle.records.specs.Tables.{slotsIn, gathered, padded}
 use Rattle.record_words.specs.RecordWords.{recordsIn}
 use Rattle.control.specs.Views.{Whole, arrays, linkOf}
-use Rattle.marks.specs.Marks.{none}
+use Rattle.marks.specs.Marks.{none, noneToSend}
 use Rattle.checking.specs.Verdicts.{Sound, Sounds}
 use Rattle.promises.specs.Parts.{lentLengths, partsOf}
 use Rattle.promises.specs.Answers.{timeOutcome}
@@ -210,6 +210,9 @@ use Rattle.codes.proofs.Told.{told}
 use Rattle.from_cores.proofs.Gathered.{gathers}
 use Rattle.from_cores.proofs.Asking.{check-promised}
 use Rattle.asks.specs.Times.{TimePromise}
+use Rattle.marks.proofs.none_to_send as send-marks-of
+use Rattle.marks.proofs.none_to_send.Symbol as send-marks-of-def
+use Rattle.marks.proofs.none_to_send.Met as send-marks-of-thm
 use Rattle.marks.proofs.none as marks-of
 use Rattle.marks.proofs.none.Symbol as marks-of-def
 use Rattle.marks.proofs.none.Met as marks-of-thm
@@ -251,7 +254,8 @@ stayed = (
 module _ {M : Type 1} (𝓤 : URA M) (H : Heap 𝓤) (A : Atoms 𝓤) (W : Given 𝓤 H A) (at-mem : Memory → SProp 𝓤) (run : Routine → Fun 𝓤) where
   -- what is known of the callees
   abbrev Known : Calls 𝓤 H → Type 1
-  Known C = Triple 𝓤 (C marks-of-def.name) (tripleOf 𝓤 H A marks-of.signature (marks-of.spec 𝓤 H A at-mem run))
+  Known C = Triple 𝓤 (C send-marks-of-def.name) (tripleOf 𝓤 H A send-marks-of.signature (send-marks-of.spec 𝓤 H A at-mem run))
+      × Triple 𝓤 (C marks-of-def.name) (tripleOf 𝓤 H A marks-of.signature (marks-of.spec 𝓤 H A at-mem run))
       × Triple 𝓤 (C check-def.name) (tripleOf 𝓤 H A check.signature (check.spec 𝓤 H A at-mem run))
       × Triple 𝓤 (C count-of-def.name) (tripleOf 𝓤 H A count-of.signature (count-of.spec 𝓤 H A at-mem run))
       × Triple 𝓤 (C none-of-def.name) (tripleOf 𝓤 H A none-of.signature (none-of.spec 𝓤 H A at-mem run))
@@ -319,16 +323,16 @@ module _ {M : Type 1} (𝓤 : URA M) (H : Heap 𝓤) (A : Atoms 𝓤) (W : Given
     )
 
     asks-check : (p-sends : ℕ) (α-sends : ℕ) (δ-sends : GName) (f-sends : (List ℕ)) (p-receives : ℕ) (α-receives : ℕ) (δ-receives : GName)
-        (f-receives : (List ℕ)) → ((f-sends ≡ none) × (f-receives ≡ none))
+        (f-receives : (List ℕ)) → ((f-sends ≡ noneToSend) × (f-receives ≡ none))
         → ent 𝓤 (⋆ 𝓤 H A (‵ (flft κ₀ q₀) ∷ ‵ (link-shr κ₀ b o γ h) ∷ ‵ (flft (α-sends ∷ []) fullShare)
-        ∷ ‵ (MutRef (named 0) (α-sends ∷ []) (Array u8 256) .own (ref-at p-sends 0 δ-sends f-sends) ((vptr p-sends 0) ∷ []))
+        ∷ ‵ (MutRef (named 0) (α-sends ∷ []) (Array u8 128) .own (ref-at p-sends 0 δ-sends f-sends) ((vptr p-sends 0) ∷ []))
         ∷ ‵ (flft (α-receives ∷ []) fullShare)
         ∷ ‵ (MutRef (named 0) (α-receives ∷ []) (Array u8 256) .own (ref-at p-receives 0 δ-receives f-receives) ((vptr p-receives 0) ∷ []))
         ∷ [])) (tripleOf 𝓤 H A check.signature (check.spec 𝓤 H A at-mem run) .pre
         (to-check p-sends α-sends δ-sends f-sends p-receives α-receives δ-receives f-receives))
     asks-check p-sends α-sends δ-sends f-sends p-receives α-receives δ-receives f-receives req =
         qed W (‵ (flft κ₀ q₀) ∷ ‵ (link-shr κ₀ b o γ h) ∷ ‵ (flft (α-sends ∷ []) fullShare)
-        ∷ ‵ (MutRef (named 0) (α-sends ∷ []) (Array u8 256) .own (ref-at p-sends 0 δ-sends f-sends) ((vptr p-sends 0) ∷ []))
+        ∷ ‵ (MutRef (named 0) (α-sends ∷ []) (Array u8 128) .own (ref-at p-sends 0 δ-sends f-sends) ((vptr p-sends 0) ∷ []))
         ∷ ‵ (flft (α-receives ∷ []) fullShare)
         ∷ ‵ (MutRef (named 0) (α-receives ∷ []) (Array u8 256) .own (ref-at p-receives 0 δ-receives f-receives)
         ((vptr p-receives 0) ∷ [])) ∷ []) ∵ says ! req $ nothing ! $ move ! (5 ∷ 0 ∷ []) $ join ! $ move ! (3 ∷ 0 ∷ []) $ join ! $
@@ -576,12 +580,12 @@ module _ {M : Type 1} (𝓤 : URA M) (H : Heap 𝓤) (A : Atoms 𝓤) (W : Given
     module _ (C : Calls 𝓤 H) (Λ : Loops 𝓤 H) (fm : FmC 𝓤 H (W .laws) C) (known : Known C) where
       -- where the locals lie
       abbrev En : (l₀ l₁ l₂ l₃ l₄ l₅ l₆ l₇ l₈ l₉ l₁₀ l₁₁ l₁₂ l₁₃ l₁₄ l₁₅ l₁₆ l₁₇ l₁₈ l₁₉ l₂₀
-          l₂₁ l₂₂ l₂₃ l₂₄ l₂₅ l₂₆ l₂₇ l₂₈ l₂₉ l₃₀ l₃₁ l₃₂ l₃₃ : ℕ) → Env 𝓤 H
+          l₂₁ l₂₂ l₂₃ l₂₄ l₂₅ l₂₆ l₂₇ l₂₈ l₂₉ l₃₀ l₃₁ l₃₂ l₃₃ l₃₄ : ℕ) → Env 𝓤 H
       En l₀ l₁ l₂ l₃ l₄ l₅ l₆ l₇ l₈ l₉ l₁₀ l₁₁ l₁₂ l₁₃ l₁₄ l₁₅ l₁₆ l₁₇ l₁₈ l₁₉ l₂₀ l₂₁
-          l₂₂ l₂₃ l₂₄ l₂₅ l₂₆ l₂₇ l₂₈ l₂₉ l₃₀ l₃₁ l₃₂ l₃₃ =
+          l₂₂ l₂₃ l₂₄ l₂₅ l₂₆ l₂₇ l₂₈ l₂₉ l₃₀ l₃₁ l₃₂ l₃₃ l₃₄ =
           envOf (code.function .locals) (l₀ ∷ l₁ ∷ l₂ ∷ l₃ ∷ l₄ ∷ l₅ ∷ l₆ ∷ l₇ ∷ l₈ ∷ l₉ ∷ l₁₀ ∷ l₁₁
           ∷ l₁₂ ∷ l₁₃ ∷ l₁₄ ∷ l₁₅ ∷ l₁₆ ∷ l₁₇ ∷ l₁₈ ∷ l₁₉ ∷ l₂₀ ∷ l₂₁ ∷ l₂₂ ∷ l₂₃
-          ∷ l₂₄ ∷ l₂₅ ∷ l₂₆ ∷ l₂₇ ∷ l₂₈ ∷ l₂₉ ∷ l₃₀ ∷ l₃₁ ∷ l₃₂ ∷ l₃₃ ∷ [])
+          ∷ l₂₄ ∷ l₂₅ ∷ l₂₆ ∷ l₂₇ ∷ l₂₈ ∷ l₂₉ ∷ l₃₀ ∷ l₃₁ ∷ l₃₂ ∷ l₃₃ ∷ l₃₄ ∷ [])
 
       -- what part 3 knows
       abbrev Known₃ : Type 0
@@ -590,64 +594,66 @@ module _ {M : Type 1} (𝓤 : URA M) (H : Heap 𝓤) (A : Atoms 𝓤) (W : Given
           (l₁₂ : ℕ) × (l₁₃ : ℕ) × (l₁₄ : ℕ) × (l₁₅ : ℕ) × (l₁₆ : ℕ) × (l₁₇ : ℕ) × (l₁₈ : ℕ) ×
           (l₁₉ : ℕ) × (l₂₀ : ℕ) × (l₂₁ : ℕ) × (l₂₂ : ℕ) × (l₂₃ : ℕ) × (l₂₄ : ℕ) × (l₂₅ : ℕ) ×
           (l₂₆ : ℕ) × (l₂₇ : ℕ) × (l₂₈ : ℕ) × (l₂₉ : ℕ) × (l₃₀ : ℕ) × (l₃₁ : ℕ) × (l₃₂ : ℕ) ×
-          (l₃₃ : ℕ) × (w-receives : Val) × (w-ok : Val) × (q′ : Share) × (n : ℕ) × (w-n : Val) × (e-n : n ≡ h .flight .outstanding) ×
-          (w-found : Val) × (w-g : Val) × (e-g : (length z-found ≡ 128) ×
-          (recordsIn z-found ≡ padded (gathered (take sendSlots (x₃ .now)) (slotsIn (h .outstanding) n)))) × (m : ℕ) × (w-m : Val) ×
-          (e-m : m ≡ length (x₃ .now)) × (a : Time) × (w-a : Val) ×
+          (l₃₃ : ℕ) × (l₃₄ : ℕ) × (w-sends : Val) × (w-receives : Val) × (w-ok : Val) × (q′ : Share) × (n : ℕ) × (w-n : Val) ×
+          (e-n : n ≡ h .flight .outstanding) × (w-found : Val) × (w-g : Val) ×
+          (e-g : (length z-found ≡ 128) × (recordsIn z-found ≡ padded (gathered (take sendSlots (x₃ .now)) (slotsIn (h .outstanding) n)))) ×
+          (m : ℕ) × (w-m : Val) × (e-m : m ≡ length (x₃ .now)) × (a : Time) × (w-a : Val) ×
           (e-a : timeOutcome a ≡ checksWith h (recordsIn z-found) (x₄ .now) (lentLengths m (x₁ .now) (x₂ .now) (x₄ .now)) x₅) ×
           (Is time-row.the-row a (w-a ∷ []))
 
-      part₃ : (past : Known₃) → ent 𝓤 (⋆ 𝓤 H A (‵ (partAt (Array u32 128) (past .39) (h .«waiting_numbers») b (o + 1820))
-          ∷ ‵ (partAt (Array u32 128) (past .39) (h .waiting) b (o + 1308)) ∷ ‵ (partAt (Array u32 128) (past .39) (h .ready) b (o + 796))
-          ∷ ‵ (partAt (Array u8 32) (past .39) (h .transmissions) b (o + 764))
-          ∷ ‵ (partAt (Array u32 32) (past .39) (h .outstanding) b (o + 636))
-          ∷ ‵ (partAt (Array u32 128) (past .39) (h .queued) b (o + 124))
+      part₃ : (past : Known₃) → ent 𝓤 (⋆ 𝓤 H A (‵ (partAt (Array u32 128) (past .41) (h .«waiting_numbers») b (o + 1820))
+          ∷ ‵ (partAt (Array u32 128) (past .41) (h .waiting) b (o + 1308)) ∷ ‵ (partAt (Array u32 128) (past .41) (h .ready) b (o + 796))
+          ∷ ‵ (partAt (Array u8 32) (past .41) (h .transmissions) b (o + 764))
+          ∷ ‵ (partAt (Array u32 32) (past .41) (h .outstanding) b (o + 636))
+          ∷ ‵ (partAt (Array u32 128) (past .41) (h .queued) b (o + 124))
           ∷ ‵ (fat fullShare (tyArray (tyInt w32) 128) (past .19) 0 ((only ((array-vals (uint-vals w32)) (past .0))))) ∷ ‵ (flft κ₁ q₁)
-          ∷ ‵ (flft κ₂ q₂) ∷ ‵ (flft κ₄ q₄) ∷ ‵ (flft κ₃ q₃) ∷ ‵ (partAt clock-row.the-row (past .39) (h .clock) b (o + 104))
-          ∷ ‵ (partAt arrival-row.the-row (past .39) (h .arrival) b (o + 72))
-          ∷ ‵ (partAt flight-row.the-row (past .39) (h .flight) b (o + 16))
-          ∷ ‵ (partAt settings-row.the-row (past .39) (h .settings) b (o + 0)) ∷ raw (Back 𝓤 H A (past .39) b o)
-          ∷ ‵ (fobor κ₀ q₀ (partAt L (past .39) h b o))
+          ∷ ‵ (flft κ₂ q₂) ∷ ‵ (flft κ₄ q₄) ∷ ‵ (flft κ₃ q₃) ∷ ‵ (partAt clock-row.the-row (past .41) (h .clock) b (o + 104))
+          ∷ ‵ (partAt arrival-row.the-row (past .41) (h .arrival) b (o + 72))
+          ∷ ‵ (partAt flight-row.the-row (past .41) (h .flight) b (o + 16))
+          ∷ ‵ (partAt settings-row.the-row (past .41) (h .settings) b (o + 0)) ∷ raw (Back 𝓤 H A (past .41) b o)
+          ∷ ‵ (fobor κ₀ q₀ (partAt L (past .41) h b o))
           ∷ ‵ (fat fullShare (tyArray (tyInt w8) 256) (past .12) 0 ((only ((array-vals (uint-vals w8)) (past .1)))))
-          ∷ ‵ (fat fullShare (tyArray (tyInt w8) 256) (past .11) 0 ((only ((array-vals (uint-vals w8)) (past .2)))))
+          ∷ ‵ (fat fullShare (tyArray (tyInt w8) 128) (past .11) 0 ((only ((array-vals (uint-vals w8)) (past .2)))))
           ∷ (‵ (fdies (tyInt w32) (past .3)) ⊛ ‵ (fdies (tyRef (named 0) imm (pointee (L .written))) (past .4)) ⊛ ‵
           (fdies (sliceTy (tyRef (named 1) imm (tyInt w8))) (past .5)) ⊛ ‵ (fdies (sliceTy (tyRef (named 2) imm (tyInt w8))) (past .6)) ⊛ ‵
           (fdies (sliceTy (tyRef (named 3) imm (pointee (R .written)))) (past .7)) ⊛ ‵
           (fdies (sliceTy (tyRef (named 4) imm (tyInt w32))) (past .8)) ⊛ ‵ (fdies (tyInt w32) (past .9)) ⊛ ‵
-          (fdies (tyRef (named 5) mut (tyInt w32)) (past .10)) ⊛ ‵ (fdies (tyArray (tyInt w8) 256) (past .11)) ⊛ ‵
+          (fdies (tyRef (named 5) mut (tyInt w32)) (past .10)) ⊛ ‵ (fdies (tyArray (tyInt w8) 128) (past .11)) ⊛ ‵
           (fdies (tyArray (tyInt w8) 256) (past .12)) ⊛ ‵ (fdies tyBool (past .13)) ⊛ ‵ (fdies settings-laws.mir (past .14)) ⊛ ‵
           (fdies flight-laws.mir (past .15)) ⊛ ‵ (fdies arrival-laws.mir (past .16)) ⊛ ‵ (fdies clock-laws.mir (past .17)) ⊛ ‵
           (fdies (tyInt w64) (past .18)) ⊛ ‵ (fdies (tyArray (tyInt w32) 128) (past .19)) ⊛ ‵ (fdies (tyInt w64) (past .20)) ⊛ ‵
-          (fdies time-laws.mir (past .21)) ⊛ ‵ (fdies (tyArray (tyInt w8) 256) (past .22)) ⊛ ‵
-          (fdies (tyRef erased mut (tyArray (tyInt w8) 256)) (past .23)) ⊛ ‵ (fdies (tyRef erased mut (tyArray (tyInt w8) 256)) (past .24))
-          ⊛ ‵ (fdies (tyArray (tyInt w32) 128) (past .25)) ⊛ ‵ (fdies tyUnit (past .26)) ⊛ ‵
-          (fdies (tyRef erased imm (tyArray (tyInt w32) 32)) (past .27)) ⊛ ‵ (fdies (tyRef erased mut (tyArray (tyInt w32) 128)) (past .28))
-          ⊛ ‵ (fdies (tyRef erased imm (tyArray (tyInt w32) 128)) (past .29)) ⊛ ‵
-          (fdies (tyRef erased imm (tyArray (tyInt w32) 128)) (past .30)) ⊛ ‵ (fdies (tyRef erased imm (tyArray (tyInt w32) 32)) (past .31))
-          ⊛ ‵ (fdies (tyRef erased imm (tyArray (tyInt w8) 32)) (past .32)) ⊛ ‵
-          (fdies (tyRef erased imm (tyArray (tyInt w32) 128)) (past .33)) ⊛ ‵
+          (fdies time-laws.mir (past .21)) ⊛ ‵ (fdies (tyArray (tyInt w8) 128) (past .22)) ⊛ ‵ (fdies (tyArray (tyInt w8) 256) (past .23)) ⊛
+          ‵ (fdies (tyRef erased mut (tyArray (tyInt w8) 128)) (past .24)) ⊛ ‵
+          (fdies (tyRef erased mut (tyArray (tyInt w8) 256)) (past .25)) ⊛ ‵ (fdies (tyArray (tyInt w32) 128) (past .26)) ⊛ ‵
+          (fdies tyUnit (past .27)) ⊛ ‵ (fdies (tyRef erased imm (tyArray (tyInt w32) 32)) (past .28)) ⊛ ‵
+          (fdies (tyRef erased mut (tyArray (tyInt w32) 128)) (past .29)) ⊛ ‵
+          (fdies (tyRef erased imm (tyArray (tyInt w32) 128)) (past .30)) ⊛ ‵
+          (fdies (tyRef erased imm (tyArray (tyInt w32) 128)) (past .31)) ⊛ ‵ (fdies (tyRef erased imm (tyArray (tyInt w32) 32)) (past .32))
+          ⊛ ‵ (fdies (tyRef erased imm (tyArray (tyInt w8) 32)) (past .33)) ⊛ ‵
           (fdies (tyRef erased imm (tyArray (tyInt w32) 128)) (past .34)) ⊛ ‵
-          (fdies (tyRef erased imm (tyArray (tyInt w32) 128)) (past .35)) ⊛ ‵ (fdies (tyRef erased mut (tyInt w32)) (past .36)))
-          ∷ ‵ (flft κ₅ q₅) ∷ ‵ Own₆ ∷ ‵ (froom (tyRef erased mut (tyInt w32)) (past .36) 0)
-          ∷ ‵ (fat fullShare (tyRef erased imm (tyArray (tyInt w32) 128)) (past .35) 0 ((vptr b (o + 1820))))
-          ∷ ‵ (fat fullShare (tyRef erased imm (tyArray (tyInt w32) 128)) (past .34) 0 ((vptr b (o + 1308))))
-          ∷ ‵ (fat fullShare (tyRef erased imm (tyArray (tyInt w32) 128)) (past .33) 0 ((vptr b (o + 796))))
-          ∷ ‵ (fat fullShare (tyRef erased imm (tyArray (tyInt w8) 32)) (past .32) 0 ((vptr b (o + 764))))
-          ∷ ‵ (fat fullShare (tyRef erased imm (tyArray (tyInt w32) 32)) (past .31) 0 ((vptr b (o + 636))))
-          ∷ ‵ (fat fullShare (tyRef erased imm (tyArray (tyInt w32) 128)) (past .30) 0 ((vptr b (o + 124))))
-          ∷ ‵ (fat fullShare (tyRef erased imm (tyArray (tyInt w32) 128)) (past .29) 0 ((vptr (past .19) 0)))
-          ∷ ‵ (fat fullShare (tyRef erased mut (tyArray (tyInt w32) 128)) (past .28) 0 ((vptr (past .19) 0)))
-          ∷ ‵ (fat fullShare (tyRef erased imm (tyArray (tyInt w32) 32)) (past .27) 0 ((vptr b (o + 636))))
-          ∷ ‵ (fat fullShare tyUnit (past .26) 0 ((past .44))) ∷ ‵ (fat fullShare (tyArray (tyInt w32) 128) (past .25) 0 ((past .43)))
-          ∷ ‵ (fat fullShare (tyRef erased mut (tyArray (tyInt w8) 256)) (past .24) 0 ((vptr (past .12) 0)))
-          ∷ ‵ (fat fullShare (tyRef erased mut (tyArray (tyInt w8) 256)) (past .23) 0 ((vptr (past .11) 0)))
-          ∷ ‵ (fat fullShare (tyArray (tyInt w8) 256) (past .22) 0 ((past .37))) ∷ ‵ (fat fullShare time-laws.mir (past .21) 0 ((past .50)))
-          ∷ ‵ (fat fullShare (tyInt w64) (past .20) 0 ((past .47))) ∷ ‵ (fat fullShare (tyInt w64) (past .18) 0 ((past .41)))
+          (fdies (tyRef erased imm (tyArray (tyInt w32) 128)) (past .35)) ⊛ ‵
+          (fdies (tyRef erased imm (tyArray (tyInt w32) 128)) (past .36)) ⊛ ‵ (fdies (tyRef erased mut (tyInt w32)) (past .37)))
+          ∷ ‵ (flft κ₅ q₅) ∷ ‵ Own₆ ∷ ‵ (froom (tyRef erased mut (tyInt w32)) (past .37) 0)
+          ∷ ‵ (fat fullShare (tyRef erased imm (tyArray (tyInt w32) 128)) (past .36) 0 ((vptr b (o + 1820))))
+          ∷ ‵ (fat fullShare (tyRef erased imm (tyArray (tyInt w32) 128)) (past .35) 0 ((vptr b (o + 1308))))
+          ∷ ‵ (fat fullShare (tyRef erased imm (tyArray (tyInt w32) 128)) (past .34) 0 ((vptr b (o + 796))))
+          ∷ ‵ (fat fullShare (tyRef erased imm (tyArray (tyInt w8) 32)) (past .33) 0 ((vptr b (o + 764))))
+          ∷ ‵ (fat fullShare (tyRef erased imm (tyArray (tyInt w32) 32)) (past .32) 0 ((vptr b (o + 636))))
+          ∷ ‵ (fat fullShare (tyRef erased imm (tyArray (tyInt w32) 128)) (past .31) 0 ((vptr b (o + 124))))
+          ∷ ‵ (fat fullShare (tyRef erased imm (tyArray (tyInt w32) 128)) (past .30) 0 ((vptr (past .19) 0)))
+          ∷ ‵ (fat fullShare (tyRef erased mut (tyArray (tyInt w32) 128)) (past .29) 0 ((vptr (past .19) 0)))
+          ∷ ‵ (fat fullShare (tyRef erased imm (tyArray (tyInt w32) 32)) (past .28) 0 ((vptr b (o + 636))))
+          ∷ ‵ (fat fullShare tyUnit (past .27) 0 ((past .46))) ∷ ‵ (fat fullShare (tyArray (tyInt w32) 128) (past .26) 0 ((past .45)))
+          ∷ ‵ (fat fullShare (tyRef erased mut (tyArray (tyInt w8) 256)) (past .25) 0 ((vptr (past .12) 0)))
+          ∷ ‵ (fat fullShare (tyRef erased mut (tyArray (tyInt w8) 128)) (past .24) 0 ((vptr (past .11) 0)))
+          ∷ ‵ (fat fullShare (tyArray (tyInt w8) 256) (past .23) 0 ((past .39)))
+          ∷ ‵ (fat fullShare (tyArray (tyInt w8) 128) (past .22) 0 ((past .38))) ∷ ‵ (fat fullShare time-laws.mir (past .21) 0 ((past .52)))
+          ∷ ‵ (fat fullShare (tyInt w64) (past .20) 0 ((past .49))) ∷ ‵ (fat fullShare (tyInt w64) (past .18) 0 ((past .43)))
           ∷ ‵ (fat fullShare clock-laws.mir (past .17) 0 ((only ((LL.vals clock-row.the-type clock-laws.the-laws) (h .clock)))))
           ∷ ‵ (fat fullShare arrival-laws.mir (past .16) 0 ((only ((LL.vals arrival-row.the-type arrival-laws.the-laws) (h .arrival)))))
           ∷ ‵ (fat fullShare flight-laws.mir (past .15) 0 ((only ((LL.vals flight-row.the-type flight-laws.the-laws) (h .flight)))))
           ∷ ‵ (fat fullShare settings-laws.mir (past .14) 0 ((only ((LL.vals settings-row.the-type settings-laws.the-laws) (h .settings)))))
-          ∷ ‵ (fat fullShare tyBool (past .13) 0 ((past .38))) ∷ ‵ (fat fullShare (tyRef (named 5) mut (tyInt w32)) (past .10) 0 (s₆))
+          ∷ ‵ (fat fullShare tyBool (past .13) 0 ((past .40))) ∷ ‵ (fat fullShare (tyRef (named 5) mut (tyInt w32)) (past .10) 0 (s₆))
           ∷ ‵ (fat fullShare (tyInt w32) (past .9) 0 (v₅)) ∷ ‵ (fat fullShare (sliceTy (tyRef (named 4) imm (tyInt w32))) (past .8) 0 (s₄))
           ∷ ‵ (fat fullShare (sliceTy (tyRef (named 3) imm (pointee (R .written)))) (past .7) 0 (s₃))
           ∷ ‵ (fat fullShare (sliceTy (tyRef (named 2) imm (tyInt w8))) (past .6) 0 (s₂))
@@ -656,68 +662,69 @@ module _ {M : Type 1} (𝓤 : URA M) (H : Heap 𝓤) (A : Atoms 𝓤) (W : Given
           (Wp 𝓤 H C Λ (En (past .3) (past .4) (past .5) (past .6) (past .7) (past .8) (past .9) (past .10) (past .11) (past .12) (past .13)
           (past .14) (past .15) (past .16) (past .17) (past .18) (past .19) (past .20) (past .21) (past .22) (past .23) (past .24)
           (past .25) (past .26) (past .27) (past .28) (past .29) (past .30) (past .31) (past .32) (past .33) (past .34) (past .35)
-          (past .36)) (behind 26 (code.function .body))
+          (past .36) (past .37)) (behind 26 (code.function .body))
           (atReturn 𝓤 H (En (past .3) (past .4) (past .5) (past .6) (past .7) (past .8) (past .9) (past .10) (past .11) (past .12)
           (past .13) (past .14) (past .15) (past .16) (past .17) (past .18) (past .19) (past .20) (past .21) (past .22) (past .23)
           (past .24) (past .25) (past .26) (past .27) (past .28) (past .29) (past .30) (past .31) (past .32) (past .33) (past .34)
-          (past .35) (past .36)) Post))
+          (past .35) (past .36) (past .37)) Post))
       part₃ past =
-          qed W (‵ (partAt (Array u32 128) (past .39) (h .«waiting_numbers») b (o + 1820))
-          ∷ ‵ (partAt (Array u32 128) (past .39) (h .waiting) b (o + 1308))
-          ∷ ‵ (partAt (Array u32 128) (past .39) (h .ready) b (o + 796))
-          ∷ ‵ (partAt (Array u8 32) (past .39) (h .transmissions) b (o + 764))
-          ∷ ‵ (partAt (Array u32 32) (past .39) (h .outstanding) b (o + 636))
-          ∷ ‵ (partAt (Array u32 128) (past .39) (h .queued) b (o + 124))
+          qed W (‵ (partAt (Array u32 128) (past .41) (h .«waiting_numbers») b (o + 1820))
+          ∷ ‵ (partAt (Array u32 128) (past .41) (h .waiting) b (o + 1308))
+          ∷ ‵ (partAt (Array u32 128) (past .41) (h .ready) b (o + 796))
+          ∷ ‵ (partAt (Array u8 32) (past .41) (h .transmissions) b (o + 764))
+          ∷ ‵ (partAt (Array u32 32) (past .41) (h .outstanding) b (o + 636))
+          ∷ ‵ (partAt (Array u32 128) (past .41) (h .queued) b (o + 124))
           ∷ ‵ (fat fullShare (tyArray (tyInt w32) 128) (past .19) 0 ((only ((array-vals (uint-vals w32)) (past .0))))) ∷ ‵ (flft κ₁ q₁)
-          ∷ ‵ (flft κ₂ q₂) ∷ ‵ (flft κ₄ q₄) ∷ ‵ (flft κ₃ q₃) ∷ ‵ (partAt clock-row.the-row (past .39) (h .clock) b (o + 104))
-          ∷ ‵ (partAt arrival-row.the-row (past .39) (h .arrival) b (o + 72))
-          ∷ ‵ (partAt flight-row.the-row (past .39) (h .flight) b (o + 16))
-          ∷ ‵ (partAt settings-row.the-row (past .39) (h .settings) b (o + 0)) ∷ raw (Back 𝓤 H A (past .39) b o)
-          ∷ ‵ (fobor κ₀ q₀ (partAt L (past .39) h b o))
+          ∷ ‵ (flft κ₂ q₂) ∷ ‵ (flft κ₄ q₄) ∷ ‵ (flft κ₃ q₃) ∷ ‵ (partAt clock-row.the-row (past .41) (h .clock) b (o + 104))
+          ∷ ‵ (partAt arrival-row.the-row (past .41) (h .arrival) b (o + 72))
+          ∷ ‵ (partAt flight-row.the-row (past .41) (h .flight) b (o + 16))
+          ∷ ‵ (partAt settings-row.the-row (past .41) (h .settings) b (o + 0)) ∷ raw (Back 𝓤 H A (past .41) b o)
+          ∷ ‵ (fobor κ₀ q₀ (partAt L (past .41) h b o))
           ∷ ‵ (fat fullShare (tyArray (tyInt w8) 256) (past .12) 0 ((only ((array-vals (uint-vals w8)) (past .1)))))
-          ∷ ‵ (fat fullShare (tyArray (tyInt w8) 256) (past .11) 0 ((only ((array-vals (uint-vals w8)) (past .2)))))
+          ∷ ‵ (fat fullShare (tyArray (tyInt w8) 128) (past .11) 0 ((only ((array-vals (uint-vals w8)) (past .2)))))
           ∷ (‵ (fdies (tyInt w32) (past .3)) ⊛ ‵ (fdies (tyRef (named 0) imm (pointee (L .written))) (past .4)) ⊛ ‵
           (fdies (sliceTy (tyRef (named 1) imm (tyInt w8))) (past .5)) ⊛ ‵ (fdies (sliceTy (tyRef (named 2) imm (tyInt w8))) (past .6))
           ⊛ ‵ (fdies (sliceTy (tyRef (named 3) imm (pointee (R .written)))) (past .7)) ⊛ ‵
           (fdies (sliceTy (tyRef (named 4) imm (tyInt w32))) (past .8)) ⊛ ‵ (fdies (tyInt w32) (past .9)) ⊛ ‵
-          (fdies (tyRef (named 5) mut (tyInt w32)) (past .10)) ⊛ ‵ (fdies (tyArray (tyInt w8) 256) (past .11)) ⊛ ‵
+          (fdies (tyRef (named 5) mut (tyInt w32)) (past .10)) ⊛ ‵ (fdies (tyArray (tyInt w8) 128) (past .11)) ⊛ ‵
           (fdies (tyArray (tyInt w8) 256) (past .12)) ⊛ ‵ (fdies tyBool (past .13)) ⊛ ‵ (fdies settings-laws.mir (past .14)) ⊛ ‵
           (fdies flight-laws.mir (past .15)) ⊛ ‵ (fdies arrival-laws.mir (past .16)) ⊛ ‵ (fdies clock-laws.mir (past .17)) ⊛ ‵
           (fdies (tyInt w64) (past .18)) ⊛ ‵ (fdies (tyArray (tyInt w32) 128) (past .19)) ⊛ ‵ (fdies (tyInt w64) (past .20)) ⊛ ‵
-          (fdies time-laws.mir (past .21)) ⊛ ‵ (fdies (tyArray (tyInt w8) 256) (past .22)) ⊛ ‵
-          (fdies (tyRef erased mut (tyArray (tyInt w8) 256)) (past .23)) ⊛ ‵
-          (fdies (tyRef erased mut (tyArray (tyInt w8) 256)) (past .24)) ⊛ ‵ (fdies (tyArray (tyInt w32) 128) (past .25)) ⊛ ‵
-          (fdies tyUnit (past .26)) ⊛ ‵ (fdies (tyRef erased imm (tyArray (tyInt w32) 32)) (past .27)) ⊛ ‵
-          (fdies (tyRef erased mut (tyArray (tyInt w32) 128)) (past .28)) ⊛ ‵
-          (fdies (tyRef erased imm (tyArray (tyInt w32) 128)) (past .29)) ⊛ ‵
+          (fdies time-laws.mir (past .21)) ⊛ ‵ (fdies (tyArray (tyInt w8) 128) (past .22)) ⊛ ‵
+          (fdies (tyArray (tyInt w8) 256) (past .23)) ⊛ ‵ (fdies (tyRef erased mut (tyArray (tyInt w8) 128)) (past .24)) ⊛ ‵
+          (fdies (tyRef erased mut (tyArray (tyInt w8) 256)) (past .25)) ⊛ ‵ (fdies (tyArray (tyInt w32) 128) (past .26)) ⊛ ‵
+          (fdies tyUnit (past .27)) ⊛ ‵ (fdies (tyRef erased imm (tyArray (tyInt w32) 32)) (past .28)) ⊛ ‵
+          (fdies (tyRef erased mut (tyArray (tyInt w32) 128)) (past .29)) ⊛ ‵
           (fdies (tyRef erased imm (tyArray (tyInt w32) 128)) (past .30)) ⊛ ‵
-          (fdies (tyRef erased imm (tyArray (tyInt w32) 32)) (past .31)) ⊛ ‵
-          (fdies (tyRef erased imm (tyArray (tyInt w8) 32)) (past .32)) ⊛ ‵
-          (fdies (tyRef erased imm (tyArray (tyInt w32) 128)) (past .33)) ⊛ ‵
+          (fdies (tyRef erased imm (tyArray (tyInt w32) 128)) (past .31)) ⊛ ‵
+          (fdies (tyRef erased imm (tyArray (tyInt w32) 32)) (past .32)) ⊛ ‵
+          (fdies (tyRef erased imm (tyArray (tyInt w8) 32)) (past .33)) ⊛ ‵
           (fdies (tyRef erased imm (tyArray (tyInt w32) 128)) (past .34)) ⊛ ‵
-          (fdies (tyRef erased imm (tyArray (tyInt w32) 128)) (past .35)) ⊛ ‵ (fdies (tyRef erased mut (tyInt w32)) (past .36)))
-          ∷ ‵ (flft κ₅ q₅) ∷ ‵ Own₆ ∷ ‵ (froom (tyRef erased mut (tyInt w32)) (past .36) 0)
-          ∷ ‵ (fat fullShare (tyRef erased imm (tyArray (tyInt w32) 128)) (past .35) 0 ((vptr b (o + 1820))))
-          ∷ ‵ (fat fullShare (tyRef erased imm (tyArray (tyInt w32) 128)) (past .34) 0 ((vptr b (o + 1308))))
-          ∷ ‵ (fat fullShare (tyRef erased imm (tyArray (tyInt w32) 128)) (past .33) 0 ((vptr b (o + 796))))
-          ∷ ‵ (fat fullShare (tyRef erased imm (tyArray (tyInt w8) 32)) (past .32) 0 ((vptr b (o + 764))))
-          ∷ ‵ (fat fullShare (tyRef erased imm (tyArray (tyInt w32) 32)) (past .31) 0 ((vptr b (o + 636))))
-          ∷ ‵ (fat fullShare (tyRef erased imm (tyArray (tyInt w32) 128)) (past .30) 0 ((vptr b (o + 124))))
-          ∷ ‵ (fat fullShare (tyRef erased imm (tyArray (tyInt w32) 128)) (past .29) 0 ((vptr (past .19) 0)))
-          ∷ ‵ (fat fullShare (tyRef erased mut (tyArray (tyInt w32) 128)) (past .28) 0 ((vptr (past .19) 0)))
-          ∷ ‵ (fat fullShare (tyRef erased imm (tyArray (tyInt w32) 32)) (past .27) 0 ((vptr b (o + 636))))
-          ∷ ‵ (fat fullShare tyUnit (past .26) 0 ((past .44))) ∷ ‵ (fat fullShare (tyArray (tyInt w32) 128) (past .25) 0 ((past .43)))
-          ∷ ‵ (fat fullShare (tyRef erased mut (tyArray (tyInt w8) 256)) (past .24) 0 ((vptr (past .12) 0)))
-          ∷ ‵ (fat fullShare (tyRef erased mut (tyArray (tyInt w8) 256)) (past .23) 0 ((vptr (past .11) 0)))
-          ∷ ‵ (fat fullShare (tyArray (tyInt w8) 256) (past .22) 0 ((past .37)))
-          ∷ ‵ (fat fullShare time-laws.mir (past .21) 0 ((past .50))) ∷ ‵ (fat fullShare (tyInt w64) (past .20) 0 ((past .47)))
-          ∷ ‵ (fat fullShare (tyInt w64) (past .18) 0 ((past .41)))
+          (fdies (tyRef erased imm (tyArray (tyInt w32) 128)) (past .35)) ⊛ ‵
+          (fdies (tyRef erased imm (tyArray (tyInt w32) 128)) (past .36)) ⊛ ‵ (fdies (tyRef erased mut (tyInt w32)) (past .37)))
+          ∷ ‵ (flft κ₅ q₅) ∷ ‵ Own₆ ∷ ‵ (froom (tyRef erased mut (tyInt w32)) (past .37) 0)
+          ∷ ‵ (fat fullShare (tyRef erased imm (tyArray (tyInt w32) 128)) (past .36) 0 ((vptr b (o + 1820))))
+          ∷ ‵ (fat fullShare (tyRef erased imm (tyArray (tyInt w32) 128)) (past .35) 0 ((vptr b (o + 1308))))
+          ∷ ‵ (fat fullShare (tyRef erased imm (tyArray (tyInt w32) 128)) (past .34) 0 ((vptr b (o + 796))))
+          ∷ ‵ (fat fullShare (tyRef erased imm (tyArray (tyInt w8) 32)) (past .33) 0 ((vptr b (o + 764))))
+          ∷ ‵ (fat fullShare (tyRef erased imm (tyArray (tyInt w32) 32)) (past .32) 0 ((vptr b (o + 636))))
+          ∷ ‵ (fat fullShare (tyRef erased imm (tyArray (tyInt w32) 128)) (past .31) 0 ((vptr b (o + 124))))
+          ∷ ‵ (fat fullShare (tyRef erased imm (tyArray (tyInt w32) 128)) (past .30) 0 ((vptr (past .19) 0)))
+          ∷ ‵ (fat fullShare (tyRef erased mut (tyArray (tyInt w32) 128)) (past .29) 0 ((vptr (past .19) 0)))
+          ∷ ‵ (fat fullShare (tyRef erased imm (tyArray (tyInt w32) 32)) (past .28) 0 ((vptr b (o + 636))))
+          ∷ ‵ (fat fullShare tyUnit (past .27) 0 ((past .46))) ∷ ‵ (fat fullShare (tyArray (tyInt w32) 128) (past .26) 0 ((past .45)))
+          ∷ ‵ (fat fullShare (tyRef erased mut (tyArray (tyInt w8) 256)) (past .25) 0 ((vptr (past .12) 0)))
+          ∷ ‵ (fat fullShare (tyRef erased mut (tyArray (tyInt w8) 128)) (past .24) 0 ((vptr (past .11) 0)))
+          ∷ ‵ (fat fullShare (tyArray (tyInt w8) 256) (past .23) 0 ((past .39)))
+          ∷ ‵ (fat fullShare (tyArray (tyInt w8) 128) (past .22) 0 ((past .38)))
+          ∷ ‵ (fat fullShare time-laws.mir (past .21) 0 ((past .52))) ∷ ‵ (fat fullShare (tyInt w64) (past .20) 0 ((past .49)))
+          ∷ ‵ (fat fullShare (tyInt w64) (past .18) 0 ((past .43)))
           ∷ ‵ (fat fullShare clock-laws.mir (past .17) 0 ((only ((LL.vals clock-row.the-type clock-laws.the-laws) (h .clock)))))
           ∷ ‵ (fat fullShare arrival-laws.mir (past .16) 0 ((only ((LL.vals arrival-row.the-type arrival-laws.the-laws) (h .arrival)))))
           ∷ ‵ (fat fullShare flight-laws.mir (past .15) 0 ((only ((LL.vals flight-row.the-type flight-laws.the-laws) (h .flight)))))
           ∷ ‵ (fat fullShare settings-laws.mir (past .14) 0
           ((only ((LL.vals settings-row.the-type settings-laws.the-laws) (h .settings)))))
-          ∷ ‵ (fat fullShare tyBool (past .13) 0 ((past .38))) ∷ ‵ (fat fullShare (tyRef (named 5) mut (tyInt w32)) (past .10) 0 (s₆))
+          ∷ ‵ (fat fullShare tyBool (past .13) 0 ((past .40))) ∷ ‵ (fat fullShare (tyRef (named 5) mut (tyInt w32)) (past .10) 0 (s₆))
           ∷ ‵ (fat fullShare (tyInt w32) (past .9) 0 (v₅))
           ∷ ‵ (fat fullShare (sliceTy (tyRef (named 4) imm (tyInt w32))) (past .8) 0 (s₄))
           ∷ ‵ (fat fullShare (sliceTy (tyRef (named 3) imm (pointee (R .written)))) (past .7) 0 (s₃))
@@ -727,68 +734,69 @@ module _ {M : Type 1} (𝓤 : URA M) (H : Heap 𝓤) (A : Atoms 𝓤) (W : Given
           ∷ []) ∵ exec ! C Λ (En (past .3) (past .4) (past .5) (past .6) (past .7) (past .8) (past .9) (past .10) (past .11) (past .12)
           (past .13) (past .14) (past .15) (past .16) (past .17) (past .18) (past .19) (past .20) (past .21) (past .22) (past .23)
           (past .24) (past .25) (past .26) (past .27) (past .28) (past .29) (past .30) (past .31) (past .32) (past .33) (past .34)
-          (past .35) (past .36)) (behind 26 (code.function .body))
+          (past .35) (past .36) (past .37)) (behind 26 (code.function .body))
           (atRet (En (past .3) (past .4) (past .5) (past .6) (past .7) (past .8) (past .9) (past .10) (past .11) (past .12) (past .13)
           (past .14) (past .15) (past .16) (past .17) (past .18) (past .19) (past .20) (past .21) (past .22) (past .23) (past .24)
           (past .25) (past .26) (past .27) (past .28) (past .29) (past .30) (past .31) (past .32) (past .33) (past .34) (past .35)
-          (past .36)) Post) $
-          assigns ! {v = s₆} (addr ! (from ! (hop ! (look ! 45 refl) (stop !)))) (from ! (stop !)) (init ! 22 refl (tt, tt)) $
+          (past .36) (past .37)) Post) $
+          assigns ! {v = s₆} (addr ! (from ! (hop ! (look ! 46 refl) (stop !)))) (from ! (stop !)) (init ! 22 refl (tt, tt)) $
           move ! (20 ∷ 21 ∷ []) $ join ! $
-          calls-fn ! fm code-of.ended (code-of.clauses 𝓤 H A at-mem run) (known .7) (to-code-of (past .49) (past .50))
-          (λ r ws-r. (r ≡ timeCode (past .49)) × ((ws-r .1 .0) ≡ timeStored (past .49) (x₆ .now))) (‵ (flft κ₅ q₅) ⊛ ‵ Own₆)
-          (asks-code-of (past .49) (past .50) (past .52)) (λ r ws-r. id⊢ 𝓤 _)
-          (and-then ! (load ! (from ! (stop !)) (look ! 36 refl)) (and-then ! (load ! (from ! (stop !)) (look ! 21 refl)) (no-more !)))
-          (λ r w-r ws-r e-r is-r. land ! (from ! (stop !)) (init ! 52 refl (sint-lawful 𝓤 H A W w32 .typed r _ is-r .0)) $
+          calls-fn ! fm code-of.ended (code-of.clauses 𝓤 H A at-mem run) (known .8) (to-code-of (past .51) (past .52))
+          (λ r ws-r. (r ≡ timeCode (past .51)) × ((ws-r .1 .0) ≡ timeStored (past .51) (x₆ .now))) (‵ (flft κ₅ q₅) ⊛ ‵ Own₆)
+          (asks-code-of (past .51) (past .52) (past .54)) (λ r ws-r. id⊢ 𝓤 _)
+          (and-then ! (load ! (from ! (stop !)) (look ! 37 refl)) (and-then ! (load ! (from ! (stop !)) (look ! 21 refl)) (no-more !)))
+          (λ r w-r ws-r e-r is-r. land ! (from ! (stop !)) (init ! 53 refl (sint-lawful 𝓤 H A W w32 .typed r _ is-r .0)) $
           spread W (‵ (flft κ₅ q₅)) (‵ ftrue ∷ []) (id⊢ 𝓤 _) $ move ! (2 ∷ []) $
           spread W (‵ ftrue) (‵ (fres (x₆ .name) (u32 .coded .code (ws-r .1 .0))) ∷ ‵ ftrue ∷ []) (id⊢ 𝓤 _) $
           keep ! (1 ∷ 3 ∷ 5 ∷ 6 ∷ 7 ∷ 8 ∷ 9 ∷ 10 ∷ 11 ∷ 12 ∷ 13 ∷ 14 ∷ 15 ∷ 16 ∷ 17 ∷ 18 ∷ 19 ∷ 20 ∷ 21 ∷ 22 ∷ 23
           ∷ 24 ∷ 25 ∷ 26 ∷ 27 ∷ 28 ∷ 29 ∷ 30 ∷ 31 ∷ 32 ∷ 33 ∷ 34 ∷ 35 ∷ 36 ∷ 37 ∷ 38 ∷ 39 ∷ 40 ∷ 41 ∷ 42 ∷ 43 ∷ 44
-          ∷ 45 ∷ 46 ∷ 47 ∷ 48 ∷ 49 ∷ 50 ∷ 51 ∷ 52 ∷ 53 ∷ 54 ∷ 55 ∷ []) $
+          ∷ 45 ∷ 46 ∷ 47 ∷ 48 ∷ 49 ∷ 50 ∷ 51 ∷ 52 ∷ 53 ∷ 54 ∷ 55 ∷ 56 ∷ []) $
           -- [fin6; tok6; F:«waiting_numbers»; F:waiting; F:ready; F:transmissions; F:outstanding; F:queued; tok1; tok2; tok4; tok3;
           -- F:clock; F:arrival; F:flight; F:settings; back; opened; deaths; the locals]
-          move ! (16 ∷ 15 ∷ 14 ∷ 13 ∷ 7 ∷ 6 ∷ 5 ∷ 4 ∷ 3 ∷ 2 ∷ 17 ∷ 18 ∷ []) $ shuts-link b o γ ! tt (past .39) h $
+          move ! (16 ∷ 15 ∷ 14 ∷ 13 ∷ 7 ∷ 6 ∷ 5 ∷ 4 ∷ 3 ∷ 2 ∷ 17 ∷ 18 ∷ []) $ shuts-link b o γ ! tt (past .41) h $
           -- [tok0; fin6; tok6; tok1; tok2; tok4; tok3; deaths; the locals]
-          returns ! (look ! 41 refl) $
+          returns ! (look ! 42 refl) $
           move ! (10 ∷ []) $ spread W (‵ (fdies (tyInt w32) (past .3)))
           (‵ (fdies (tyRef (named 0) imm (pointee (L .written))) (past .4))
           ∷ ‵ (fdies (sliceTy (tyRef (named 1) imm (tyInt w8))) (past .5))
           ∷ ‵ (fdies (sliceTy (tyRef (named 2) imm (tyInt w8))) (past .6))
           ∷ ‵ (fdies (sliceTy (tyRef (named 3) imm (pointee (R .written)))) (past .7))
           ∷ ‵ (fdies (sliceTy (tyRef (named 4) imm (tyInt w32))) (past .8)) ∷ ‵ (fdies (tyInt w32) (past .9))
-          ∷ ‵ (fdies (tyRef (named 5) mut (tyInt w32)) (past .10)) ∷ ‵ (fdies (tyArray (tyInt w8) 256) (past .11))
+          ∷ ‵ (fdies (tyRef (named 5) mut (tyInt w32)) (past .10)) ∷ ‵ (fdies (tyArray (tyInt w8) 128) (past .11))
           ∷ ‵ (fdies (tyArray (tyInt w8) 256) (past .12)) ∷ ‵ (fdies tyBool (past .13)) ∷ ‵ (fdies settings-laws.mir (past .14))
           ∷ ‵ (fdies flight-laws.mir (past .15)) ∷ ‵ (fdies arrival-laws.mir (past .16)) ∷ ‵ (fdies clock-laws.mir (past .17))
           ∷ ‵ (fdies (tyInt w64) (past .18)) ∷ ‵ (fdies (tyArray (tyInt w32) 128) (past .19)) ∷ ‵ (fdies (tyInt w64) (past .20))
-          ∷ ‵ (fdies time-laws.mir (past .21)) ∷ ‵ (fdies (tyArray (tyInt w8) 256) (past .22))
-          ∷ ‵ (fdies (tyRef erased mut (tyArray (tyInt w8) 256)) (past .23))
-          ∷ ‵ (fdies (tyRef erased mut (tyArray (tyInt w8) 256)) (past .24)) ∷ ‵ (fdies (tyArray (tyInt w32) 128) (past .25))
-          ∷ ‵ (fdies tyUnit (past .26)) ∷ ‵ (fdies (tyRef erased imm (tyArray (tyInt w32) 32)) (past .27))
-          ∷ ‵ (fdies (tyRef erased mut (tyArray (tyInt w32) 128)) (past .28))
-          ∷ ‵ (fdies (tyRef erased imm (tyArray (tyInt w32) 128)) (past .29))
+          ∷ ‵ (fdies time-laws.mir (past .21)) ∷ ‵ (fdies (tyArray (tyInt w8) 128) (past .22))
+          ∷ ‵ (fdies (tyArray (tyInt w8) 256) (past .23)) ∷ ‵ (fdies (tyRef erased mut (tyArray (tyInt w8) 128)) (past .24))
+          ∷ ‵ (fdies (tyRef erased mut (tyArray (tyInt w8) 256)) (past .25)) ∷ ‵ (fdies (tyArray (tyInt w32) 128) (past .26))
+          ∷ ‵ (fdies tyUnit (past .27)) ∷ ‵ (fdies (tyRef erased imm (tyArray (tyInt w32) 32)) (past .28))
+          ∷ ‵ (fdies (tyRef erased mut (tyArray (tyInt w32) 128)) (past .29))
           ∷ ‵ (fdies (tyRef erased imm (tyArray (tyInt w32) 128)) (past .30))
-          ∷ ‵ (fdies (tyRef erased imm (tyArray (tyInt w32) 32)) (past .31))
-          ∷ ‵ (fdies (tyRef erased imm (tyArray (tyInt w8) 32)) (past .32))
-          ∷ ‵ (fdies (tyRef erased imm (tyArray (tyInt w32) 128)) (past .33))
+          ∷ ‵ (fdies (tyRef erased imm (tyArray (tyInt w32) 128)) (past .31))
+          ∷ ‵ (fdies (tyRef erased imm (tyArray (tyInt w32) 32)) (past .32))
+          ∷ ‵ (fdies (tyRef erased imm (tyArray (tyInt w8) 32)) (past .33))
           ∷ ‵ (fdies (tyRef erased imm (tyArray (tyInt w32) 128)) (past .34))
-          ∷ ‵ (fdies (tyRef erased imm (tyArray (tyInt w32) 128)) (past .35)) ∷ ‵ (fdies (tyRef erased mut (tyInt w32)) (past .36))
-          ∷ []) (id⊢ 𝓤 _) $ move ! (74 ∷ 0 ∷ 73 ∷ 1 ∷ 72 ∷ 2 ∷ 71 ∷ 3 ∷ 70 ∷ 4 ∷ 69 ∷ 5 ∷ 68 ∷ 6 ∷ 67 ∷ 7 ∷ 43 ∷ 8
-          ∷ 42 ∷ 9 ∷ 66 ∷ 10 ∷ 65 ∷ 11 ∷ 64 ∷ 12 ∷ 63 ∷ 13 ∷ 62 ∷ 14 ∷ 61 ∷ 15 ∷ 37 ∷ 16 ∷ 60 ∷ 17 ∷ 59 ∷ 18 ∷ 58
-          ∷ 19 ∷ 57 ∷ 20 ∷ 56 ∷ 21 ∷ 55 ∷ 22 ∷ 54 ∷ 23 ∷ 53 ∷ 24 ∷ 52 ∷ 25 ∷ 51 ∷ 26 ∷ 50 ∷ 27 ∷ 49 ∷ 28 ∷ 48 ∷ 29
-          ∷ 47 ∷ 30 ∷ 46 ∷ 31 ∷ 45 ∷ 32 ∷ 44 ∷ 33 ∷ []) $ forget ! 0 refl $ free1 ! $ forget ! 0 refl $ free1 ! $ forget ! 0 refl $
-          free1 ! $ forget ! 0 refl $ free1 ! $ forget ! 0 refl $ free1 ! $ forget ! 0 refl $ free1 ! $ forget ! 0 refl $ free1 ! $
+          ∷ ‵ (fdies (tyRef erased imm (tyArray (tyInt w32) 128)) (past .35))
+          ∷ ‵ (fdies (tyRef erased imm (tyArray (tyInt w32) 128)) (past .36)) ∷ ‵ (fdies (tyRef erased mut (tyInt w32)) (past .37))
+          ∷ []) (id⊢ 𝓤 _) $ move ! (76 ∷ 0 ∷ 75 ∷ 1 ∷ 74 ∷ 2 ∷ 73 ∷ 3 ∷ 72 ∷ 4 ∷ 71 ∷ 5 ∷ 70 ∷ 6 ∷ 69 ∷ 7 ∷ 44 ∷ 8
+          ∷ 43 ∷ 9 ∷ 68 ∷ 10 ∷ 67 ∷ 11 ∷ 66 ∷ 12 ∷ 65 ∷ 13 ∷ 64 ∷ 14 ∷ 63 ∷ 15 ∷ 38 ∷ 16 ∷ 62 ∷ 17 ∷ 61 ∷ 18 ∷ 60
+          ∷ 19 ∷ 59 ∷ 20 ∷ 58 ∷ 21 ∷ 57 ∷ 22 ∷ 56 ∷ 23 ∷ 55 ∷ 24 ∷ 54 ∷ 25 ∷ 53 ∷ 26 ∷ 52 ∷ 27 ∷ 51 ∷ 28 ∷ 50 ∷ 29
+          ∷ 49 ∷ 30 ∷ 48 ∷ 31 ∷ 47 ∷ 32 ∷ 46 ∷ 33 ∷ 45 ∷ 34 ∷ []) $ forget ! 0 refl $ free1 ! $ forget ! 0 refl $ free1 ! $
           forget ! 0 refl $ free1 ! $ forget ! 0 refl $ free1 ! $ forget ! 0 refl $ free1 ! $ forget ! 0 refl $ free1 ! $
           forget ! 0 refl $ free1 ! $ forget ! 0 refl $ free1 ! $ forget ! 0 refl $ free1 ! $ forget ! 0 refl $ free1 ! $
           forget ! 0 refl $ free1 ! $ forget ! 0 refl $ free1 ! $ forget ! 0 refl $ free1 ! $ forget ! 0 refl $ free1 ! $
           forget ! 0 refl $ free1 ! $ forget ! 0 refl $ free1 ! $ forget ! 0 refl $ free1 ! $ forget ! 0 refl $ free1 ! $
           forget ! 0 refl $ free1 ! $ forget ! 0 refl $ free1 ! $ forget ! 0 refl $ free1 ! $ forget ! 0 refl $ free1 ! $
           forget ! 0 refl $ free1 ! $ forget ! 0 refl $ free1 ! $ forget ! 0 refl $ free1 ! $ forget ! 0 refl $ free1 ! $
-          forget ! 0 refl $ free1 ! $ forget ! 0 refl $ free1 ! $ forget ! 0 refl $ free1 ! $ free0 ! $
+          forget ! 0 refl $ free1 ! $ forget ! 0 refl $ free1 ! $ forget ! 0 refl $ free1 ! $ forget ! 0 refl $ free1 ! $
+          forget ! 0 refl $ free1 ! $ forget ! 0 refl $ free1 ! $ forget ! 0 refl $ free1 ! $ forget ! 0 refl $ free1 ! $
+          forget ! 0 refl $ free1 ! $ free0 ! $
           move ! (0 ∷ 3 ∷ 4 ∷ 6 ∷ 5 ∷ 1 ∷ 2 ∷ []) $
-          by ! (exits r w-r (ws-r .1 .0) (told timeCode _ (past .49) (e-r .0)
+          by ! (exits r w-r (ws-r .1 .0) (told timeCode _ (past .51) (e-r .0)
           (record {
-            time = check-promised h (partsOf (x₁ .now) (x₂ .now) (x₃ .now) (x₄ .now)) (recordsIn (past .0)) (past .46)
-                (gathers h (partsOf (x₁ .now) (x₂ .now) (x₃ .now) (x₄ .now)) (past .40) (recordsIn (past .0)) (past .46) (past .42)
-                ((past .45) .1) (past .48)) x₅ (past .49) (past .51);
+            time = check-promised h (partsOf (x₁ .now) (x₂ .now) (x₃ .now) (x₄ .now)) (recordsIn (past .0)) (past .48)
+                (gathers h (partsOf (x₁ .now) (x₂ .now) (x₃ .now) (x₄ .now)) (past .42) (recordsIn (past .0)) (past .48) (past .44)
+                ((past .47) .1) (past .50)) x₅ (past .51) (past .53);
             when = e-r .1;
           })) is-r))
 
@@ -799,11 +807,11 @@ module _ {M : Type 1} (𝓤 : URA M) (H : Heap 𝓤) (A : Atoms 𝓤) (W : Given
           (l₁₂ : ℕ) × (l₁₃ : ℕ) × (l₁₄ : ℕ) × (l₁₅ : ℕ) × (l₁₆ : ℕ) × (l₁₇ : ℕ) × (l₁₈ : ℕ) ×
           (l₁₉ : ℕ) × (l₂₀ : ℕ) × (l₂₁ : ℕ) × (l₂₂ : ℕ) × (l₂₃ : ℕ) × (l₂₄ : ℕ) × (l₂₅ : ℕ) ×
           (l₂₆ : ℕ) × (l₂₇ : ℕ) × (l₂₈ : ℕ) × (l₂₉ : ℕ) × (l₃₀ : ℕ) × (l₃₁ : ℕ) × (l₃₂ : ℕ) ×
-          (l₃₃ : ℕ) × (w-receives : Val) × (ok : Bool) × (w-ok : Val) × (e-ok : Sound h z-sends z-receives ok) ×
-          (is-ok : Is Boolean ok (w-ok ∷ [])) × (q′ : Share) × (len-queued : length (h .queued) ≡ 128) ×
-          (len-outstanding : length (h .outstanding) ≡ 32) × (len-transmissions : length (h .transmissions) ≡ 32) ×
-          (len-ready : length (h .ready) ≡ 128) × (len-waiting : length (h .waiting) ≡ 128) ×
-          (len-waiting-numbers : length (h .«waiting_numbers») ≡ 128) ×
+          (l₃₃ : ℕ) × (l₃₄ : ℕ) × (w-sends : Val) × (w-receives : Val) × (ok : Bool) × (w-ok : Val) ×
+          (e-ok : Sound h z-sends z-receives ok) × (is-ok : Is Boolean ok (w-ok ∷ [])) × (q′ : Share) ×
+          (len-queued : length (h .queued) ≡ 128) × (len-outstanding : length (h .outstanding) ≡ 32) ×
+          (len-transmissions : length (h .transmissions) ≡ 32) × (len-ready : length (h .ready) ≡ 128) ×
+          (len-waiting : length (h .waiting) ≡ 128) × (len-waiting-numbers : length (h .«waiting_numbers») ≡ 128) ×
           (was-settings : Is settings-row.the-row (h .settings) ((LL.vals settings-row.the-type settings-laws.the-laws) (h .settings))) ×
           (was-flight : Is flight-row.the-row (h .flight) ((LL.vals flight-row.the-type flight-laws.the-laws) (h .flight))) ×
           (was-arrival : Is arrival-row.the-row (h .arrival) ((LL.vals arrival-row.the-type arrival-laws.the-laws) (h .arrival))) ×
@@ -815,57 +823,59 @@ module _ {M : Type 1} (𝓤 : URA M) (H : Heap 𝓤) (A : Atoms 𝓤) (W : Given
 
       part₂ : (past : Known₂) → ent 𝓤 (⋆ 𝓤 H A (‵ (flft κ₃ q₃)
           ∷ ‵ (fat fullShare (tyArray (tyInt w32) 128) (past .19) 0 ((only ((array-vals (uint-vals w32)) (past .0)))))
-          ∷ ‵ (partAt (Array u32 32) (past .42) (h .outstanding) b (o + 636))
-          ∷ ‵ (partAt clock-row.the-row (past .42) (h .clock) b (o + 104))
-          ∷ ‵ (partAt arrival-row.the-row (past .42) (h .arrival) b (o + 72))
-          ∷ ‵ (partAt flight-row.the-row (past .42) (h .flight) b (o + 16))
-          ∷ ‵ (partAt settings-row.the-row (past .42) (h .settings) b (o + 0))
-          ∷ ‵ (partAt (Array u32 128) (past .42) (h .«waiting_numbers») b (o + 1820))
-          ∷ ‵ (partAt (Array u32 128) (past .42) (h .waiting) b (o + 1308)) ∷ ‵ (partAt (Array u32 128) (past .42) (h .ready) b (o + 796))
-          ∷ ‵ (partAt (Array u8 32) (past .42) (h .transmissions) b (o + 764))
-          ∷ ‵ (partAt (Array u32 128) (past .42) (h .queued) b (o + 124)) ∷ raw (Back 𝓤 H A (past .42) b o)
-          ∷ ‵ (fobor κ₀ q₀ (partAt L (past .42) h b o))
+          ∷ ‵ (partAt (Array u32 32) (past .44) (h .outstanding) b (o + 636))
+          ∷ ‵ (partAt clock-row.the-row (past .44) (h .clock) b (o + 104))
+          ∷ ‵ (partAt arrival-row.the-row (past .44) (h .arrival) b (o + 72))
+          ∷ ‵ (partAt flight-row.the-row (past .44) (h .flight) b (o + 16))
+          ∷ ‵ (partAt settings-row.the-row (past .44) (h .settings) b (o + 0))
+          ∷ ‵ (partAt (Array u32 128) (past .44) (h .«waiting_numbers») b (o + 1820))
+          ∷ ‵ (partAt (Array u32 128) (past .44) (h .waiting) b (o + 1308)) ∷ ‵ (partAt (Array u32 128) (past .44) (h .ready) b (o + 796))
+          ∷ ‵ (partAt (Array u8 32) (past .44) (h .transmissions) b (o + 764))
+          ∷ ‵ (partAt (Array u32 128) (past .44) (h .queued) b (o + 124)) ∷ raw (Back 𝓤 H A (past .44) b o)
+          ∷ ‵ (fobor κ₀ q₀ (partAt L (past .44) h b o))
           ∷ ‵ (fat fullShare (tyArray (tyInt w8) 256) (past .12) 0 ((only ((array-vals (uint-vals w8)) (past .1)))))
-          ∷ ‵ (fat fullShare (tyArray (tyInt w8) 256) (past .11) 0 ((only ((array-vals (uint-vals w8)) (past .2)))))
+          ∷ ‵ (fat fullShare (tyArray (tyInt w8) 128) (past .11) 0 ((only ((array-vals (uint-vals w8)) (past .2)))))
           ∷ (‵ (fdies (tyInt w32) (past .3)) ⊛ ‵ (fdies (tyRef (named 0) imm (pointee (L .written))) (past .4)) ⊛ ‵
           (fdies (sliceTy (tyRef (named 1) imm (tyInt w8))) (past .5)) ⊛ ‵ (fdies (sliceTy (tyRef (named 2) imm (tyInt w8))) (past .6)) ⊛ ‵
           (fdies (sliceTy (tyRef (named 3) imm (pointee (R .written)))) (past .7)) ⊛ ‵
           (fdies (sliceTy (tyRef (named 4) imm (tyInt w32))) (past .8)) ⊛ ‵ (fdies (tyInt w32) (past .9)) ⊛ ‵
-          (fdies (tyRef (named 5) mut (tyInt w32)) (past .10)) ⊛ ‵ (fdies (tyArray (tyInt w8) 256) (past .11)) ⊛ ‵
+          (fdies (tyRef (named 5) mut (tyInt w32)) (past .10)) ⊛ ‵ (fdies (tyArray (tyInt w8) 128) (past .11)) ⊛ ‵
           (fdies (tyArray (tyInt w8) 256) (past .12)) ⊛ ‵ (fdies tyBool (past .13)) ⊛ ‵ (fdies settings-laws.mir (past .14)) ⊛ ‵
           (fdies flight-laws.mir (past .15)) ⊛ ‵ (fdies arrival-laws.mir (past .16)) ⊛ ‵ (fdies clock-laws.mir (past .17)) ⊛ ‵
           (fdies (tyInt w64) (past .18)) ⊛ ‵ (fdies (tyArray (tyInt w32) 128) (past .19)) ⊛ ‵ (fdies (tyInt w64) (past .20)) ⊛ ‵
-          (fdies time-laws.mir (past .21)) ⊛ ‵ (fdies (tyArray (tyInt w8) 256) (past .22)) ⊛ ‵
-          (fdies (tyRef erased mut (tyArray (tyInt w8) 256)) (past .23)) ⊛ ‵ (fdies (tyRef erased mut (tyArray (tyInt w8) 256)) (past .24))
-          ⊛ ‵ (fdies (tyArray (tyInt w32) 128) (past .25)) ⊛ ‵ (fdies tyUnit (past .26)) ⊛ ‵
-          (fdies (tyRef erased imm (tyArray (tyInt w32) 32)) (past .27)) ⊛ ‵ (fdies (tyRef erased mut (tyArray (tyInt w32) 128)) (past .28))
-          ⊛ ‵ (fdies (tyRef erased imm (tyArray (tyInt w32) 128)) (past .29)) ⊛ ‵
-          (fdies (tyRef erased imm (tyArray (tyInt w32) 128)) (past .30)) ⊛ ‵ (fdies (tyRef erased imm (tyArray (tyInt w32) 32)) (past .31))
-          ⊛ ‵ (fdies (tyRef erased imm (tyArray (tyInt w8) 32)) (past .32)) ⊛ ‵
-          (fdies (tyRef erased imm (tyArray (tyInt w32) 128)) (past .33)) ⊛ ‵
+          (fdies time-laws.mir (past .21)) ⊛ ‵ (fdies (tyArray (tyInt w8) 128) (past .22)) ⊛ ‵ (fdies (tyArray (tyInt w8) 256) (past .23)) ⊛
+          ‵ (fdies (tyRef erased mut (tyArray (tyInt w8) 128)) (past .24)) ⊛ ‵
+          (fdies (tyRef erased mut (tyArray (tyInt w8) 256)) (past .25)) ⊛ ‵ (fdies (tyArray (tyInt w32) 128) (past .26)) ⊛ ‵
+          (fdies tyUnit (past .27)) ⊛ ‵ (fdies (tyRef erased imm (tyArray (tyInt w32) 32)) (past .28)) ⊛ ‵
+          (fdies (tyRef erased mut (tyArray (tyInt w32) 128)) (past .29)) ⊛ ‵
+          (fdies (tyRef erased imm (tyArray (tyInt w32) 128)) (past .30)) ⊛ ‵
+          (fdies (tyRef erased imm (tyArray (tyInt w32) 128)) (past .31)) ⊛ ‵ (fdies (tyRef erased imm (tyArray (tyInt w32) 32)) (past .32))
+          ⊛ ‵ (fdies (tyRef erased imm (tyArray (tyInt w8) 32)) (past .33)) ⊛ ‵
           (fdies (tyRef erased imm (tyArray (tyInt w32) 128)) (past .34)) ⊛ ‵
-          (fdies (tyRef erased imm (tyArray (tyInt w32) 128)) (past .35)) ⊛ ‵ (fdies (tyRef erased mut (tyInt w32)) (past .36)))
+          (fdies (tyRef erased imm (tyArray (tyInt w32) 128)) (past .35)) ⊛ ‵
+          (fdies (tyRef erased imm (tyArray (tyInt w32) 128)) (past .36)) ⊛ ‵ (fdies (tyRef erased mut (tyInt w32)) (past .37)))
           ∷ ‵ (flft κ₁ q₁) ∷ ‵ (flft κ₂ q₂) ∷ ‵ (flft κ₄ q₄) ∷ ‵ (flft κ₅ q₅) ∷ ‵ Own₁ ∷ ‵ Own₂ ∷ ‵ Own₄
-          ∷ ‵ Own₆ ∷ ‵ (froom (tyRef erased mut (tyInt w32)) (past .36) 0)
+          ∷ ‵ Own₆ ∷ ‵ (froom (tyRef erased mut (tyInt w32)) (past .37) 0)
+          ∷ ‵ (froom (tyRef erased imm (tyArray (tyInt w32) 128)) (past .36) 0)
           ∷ ‵ (froom (tyRef erased imm (tyArray (tyInt w32) 128)) (past .35) 0)
           ∷ ‵ (froom (tyRef erased imm (tyArray (tyInt w32) 128)) (past .34) 0)
-          ∷ ‵ (froom (tyRef erased imm (tyArray (tyInt w32) 128)) (past .33) 0)
-          ∷ ‵ (froom (tyRef erased imm (tyArray (tyInt w8) 32)) (past .32) 0)
-          ∷ ‵ (froom (tyRef erased imm (tyArray (tyInt w32) 32)) (past .31) 0)
-          ∷ ‵ (froom (tyRef erased imm (tyArray (tyInt w32) 128)) (past .30) 0)
-          ∷ ‵ (fat fullShare (tyRef erased imm (tyArray (tyInt w32) 128)) (past .29) 0 ((vptr (past .19) 0)))
-          ∷ ‵ (fat fullShare (tyRef erased mut (tyArray (tyInt w32) 128)) (past .28) 0 ((vptr (past .19) 0)))
-          ∷ ‵ (fat fullShare (tyRef erased imm (tyArray (tyInt w32) 32)) (past .27) 0 ((vptr b (o + 636))))
-          ∷ ‵ (fat fullShare tyUnit (past .26) 0 ((past .57))) ∷ ‵ (fat fullShare (tyArray (tyInt w32) 128) (past .25) 0 ((past .56)))
-          ∷ ‵ (fat fullShare (tyRef erased mut (tyArray (tyInt w8) 256)) (past .24) 0 ((vptr (past .12) 0)))
-          ∷ ‵ (fat fullShare (tyRef erased mut (tyArray (tyInt w8) 256)) (past .23) 0 ((vptr (past .11) 0)))
-          ∷ ‵ (fat fullShare (tyArray (tyInt w8) 256) (past .22) 0 ((past .37))) ∷ ‵ (froom time-laws.mir (past .21) 0)
-          ∷ ‵ (fat fullShare (tyInt w64) (past .20) 0 ((past .61))) ∷ ‵ (fat fullShare (tyInt w64) (past .18) 0 ((past .54)))
+          ∷ ‵ (froom (tyRef erased imm (tyArray (tyInt w8) 32)) (past .33) 0)
+          ∷ ‵ (froom (tyRef erased imm (tyArray (tyInt w32) 32)) (past .32) 0)
+          ∷ ‵ (froom (tyRef erased imm (tyArray (tyInt w32) 128)) (past .31) 0)
+          ∷ ‵ (fat fullShare (tyRef erased imm (tyArray (tyInt w32) 128)) (past .30) 0 ((vptr (past .19) 0)))
+          ∷ ‵ (fat fullShare (tyRef erased mut (tyArray (tyInt w32) 128)) (past .29) 0 ((vptr (past .19) 0)))
+          ∷ ‵ (fat fullShare (tyRef erased imm (tyArray (tyInt w32) 32)) (past .28) 0 ((vptr b (o + 636))))
+          ∷ ‵ (fat fullShare tyUnit (past .27) 0 ((past .59))) ∷ ‵ (fat fullShare (tyArray (tyInt w32) 128) (past .26) 0 ((past .58)))
+          ∷ ‵ (fat fullShare (tyRef erased mut (tyArray (tyInt w8) 256)) (past .25) 0 ((vptr (past .12) 0)))
+          ∷ ‵ (fat fullShare (tyRef erased mut (tyArray (tyInt w8) 128)) (past .24) 0 ((vptr (past .11) 0)))
+          ∷ ‵ (fat fullShare (tyArray (tyInt w8) 256) (past .23) 0 ((past .39)))
+          ∷ ‵ (fat fullShare (tyArray (tyInt w8) 128) (past .22) 0 ((past .38))) ∷ ‵ (froom time-laws.mir (past .21) 0)
+          ∷ ‵ (fat fullShare (tyInt w64) (past .20) 0 ((past .63))) ∷ ‵ (fat fullShare (tyInt w64) (past .18) 0 ((past .56)))
           ∷ ‵ (fat fullShare clock-laws.mir (past .17) 0 ((only ((LL.vals clock-row.the-type clock-laws.the-laws) (h .clock)))))
           ∷ ‵ (fat fullShare arrival-laws.mir (past .16) 0 ((only ((LL.vals arrival-row.the-type arrival-laws.the-laws) (h .arrival)))))
           ∷ ‵ (fat fullShare flight-laws.mir (past .15) 0 ((only ((LL.vals flight-row.the-type flight-laws.the-laws) (h .flight)))))
           ∷ ‵ (fat fullShare settings-laws.mir (past .14) 0 ((only ((LL.vals settings-row.the-type settings-laws.the-laws) (h .settings)))))
-          ∷ ‵ (fat fullShare tyBool (past .13) 0 ((past .39))) ∷ ‵ (fat fullShare (tyRef (named 5) mut (tyInt w32)) (past .10) 0 (s₆))
+          ∷ ‵ (fat fullShare tyBool (past .13) 0 ((past .41))) ∷ ‵ (fat fullShare (tyRef (named 5) mut (tyInt w32)) (past .10) 0 (s₆))
           ∷ ‵ (fat fullShare (tyInt w32) (past .9) 0 (v₅)) ∷ ‵ (fat fullShare (sliceTy (tyRef (named 4) imm (tyInt w32))) (past .8) 0 (s₄))
           ∷ ‵ (fat fullShare (sliceTy (tyRef (named 3) imm (pointee (R .written)))) (past .7) 0 (s₃))
           ∷ ‵ (fat fullShare (sliceTy (tyRef (named 2) imm (tyInt w8))) (past .6) 0 (s₂))
@@ -874,68 +884,69 @@ module _ {M : Type 1} (𝓤 : URA M) (H : Heap 𝓤) (A : Atoms 𝓤) (W : Given
           (Wp 𝓤 H C Λ (En (past .3) (past .4) (past .5) (past .6) (past .7) (past .8) (past .9) (past .10) (past .11) (past .12) (past .13)
           (past .14) (past .15) (past .16) (past .17) (past .18) (past .19) (past .20) (past .21) (past .22) (past .23) (past .24)
           (past .25) (past .26) (past .27) (past .28) (past .29) (past .30) (past .31) (past .32) (past .33) (past .34) (past .35)
-          (past .36)) (behind 19 (code.function .body))
+          (past .36) (past .37)) (behind 19 (code.function .body))
           (atReturn 𝓤 H (En (past .3) (past .4) (past .5) (past .6) (past .7) (past .8) (past .9) (past .10) (past .11) (past .12)
           (past .13) (past .14) (past .15) (past .16) (past .17) (past .18) (past .19) (past .20) (past .21) (past .22) (past .23)
           (past .24) (past .25) (past .26) (past .27) (past .28) (past .29) (past .30) (past .31) (past .32) (past .33) (past .34)
-          (past .35) (past .36)) Post))
+          (past .35) (past .36) (past .37)) Post))
       part₂ past =
           qed W (‵ (flft κ₃ q₃) ∷ ‵ (fat fullShare (tyArray (tyInt w32) 128) (past .19) 0 ((only ((array-vals (uint-vals w32)) (past .0)))))
-          ∷ ‵ (partAt (Array u32 32) (past .42) (h .outstanding) b (o + 636))
-          ∷ ‵ (partAt clock-row.the-row (past .42) (h .clock) b (o + 104))
-          ∷ ‵ (partAt arrival-row.the-row (past .42) (h .arrival) b (o + 72))
-          ∷ ‵ (partAt flight-row.the-row (past .42) (h .flight) b (o + 16))
-          ∷ ‵ (partAt settings-row.the-row (past .42) (h .settings) b (o + 0))
-          ∷ ‵ (partAt (Array u32 128) (past .42) (h .«waiting_numbers») b (o + 1820))
-          ∷ ‵ (partAt (Array u32 128) (past .42) (h .waiting) b (o + 1308))
-          ∷ ‵ (partAt (Array u32 128) (past .42) (h .ready) b (o + 796))
-          ∷ ‵ (partAt (Array u8 32) (past .42) (h .transmissions) b (o + 764))
-          ∷ ‵ (partAt (Array u32 128) (past .42) (h .queued) b (o + 124)) ∷ raw (Back 𝓤 H A (past .42) b o)
-          ∷ ‵ (fobor κ₀ q₀ (partAt L (past .42) h b o))
+          ∷ ‵ (partAt (Array u32 32) (past .44) (h .outstanding) b (o + 636))
+          ∷ ‵ (partAt clock-row.the-row (past .44) (h .clock) b (o + 104))
+          ∷ ‵ (partAt arrival-row.the-row (past .44) (h .arrival) b (o + 72))
+          ∷ ‵ (partAt flight-row.the-row (past .44) (h .flight) b (o + 16))
+          ∷ ‵ (partAt settings-row.the-row (past .44) (h .settings) b (o + 0))
+          ∷ ‵ (partAt (Array u32 128) (past .44) (h .«waiting_numbers») b (o + 1820))
+          ∷ ‵ (partAt (Array u32 128) (past .44) (h .waiting) b (o + 1308))
+          ∷ ‵ (partAt (Array u32 128) (past .44) (h .ready) b (o + 796))
+          ∷ ‵ (partAt (Array u8 32) (past .44) (h .transmissions) b (o + 764))
+          ∷ ‵ (partAt (Array u32 128) (past .44) (h .queued) b (o + 124)) ∷ raw (Back 𝓤 H A (past .44) b o)
+          ∷ ‵ (fobor κ₀ q₀ (partAt L (past .44) h b o))
           ∷ ‵ (fat fullShare (tyArray (tyInt w8) 256) (past .12) 0 ((only ((array-vals (uint-vals w8)) (past .1)))))
-          ∷ ‵ (fat fullShare (tyArray (tyInt w8) 256) (past .11) 0 ((only ((array-vals (uint-vals w8)) (past .2)))))
+          ∷ ‵ (fat fullShare (tyArray (tyInt w8) 128) (past .11) 0 ((only ((array-vals (uint-vals w8)) (past .2)))))
           ∷ (‵ (fdies (tyInt w32) (past .3)) ⊛ ‵ (fdies (tyRef (named 0) imm (pointee (L .written))) (past .4)) ⊛ ‵
           (fdies (sliceTy (tyRef (named 1) imm (tyInt w8))) (past .5)) ⊛ ‵ (fdies (sliceTy (tyRef (named 2) imm (tyInt w8))) (past .6))
           ⊛ ‵ (fdies (sliceTy (tyRef (named 3) imm (pointee (R .written)))) (past .7)) ⊛ ‵
           (fdies (sliceTy (tyRef (named 4) imm (tyInt w32))) (past .8)) ⊛ ‵ (fdies (tyInt w32) (past .9)) ⊛ ‵
-          (fdies (tyRef (named 5) mut (tyInt w32)) (past .10)) ⊛ ‵ (fdies (tyArray (tyInt w8) 256) (past .11)) ⊛ ‵
+          (fdies (tyRef (named 5) mut (tyInt w32)) (past .10)) ⊛ ‵ (fdies (tyArray (tyInt w8) 128) (past .11)) ⊛ ‵
           (fdies (tyArray (tyInt w8) 256) (past .12)) ⊛ ‵ (fdies tyBool (past .13)) ⊛ ‵ (fdies settings-laws.mir (past .14)) ⊛ ‵
           (fdies flight-laws.mir (past .15)) ⊛ ‵ (fdies arrival-laws.mir (past .16)) ⊛ ‵ (fdies clock-laws.mir (past .17)) ⊛ ‵
           (fdies (tyInt w64) (past .18)) ⊛ ‵ (fdies (tyArray (tyInt w32) 128) (past .19)) ⊛ ‵ (fdies (tyInt w64) (past .20)) ⊛ ‵
-          (fdies time-laws.mir (past .21)) ⊛ ‵ (fdies (tyArray (tyInt w8) 256) (past .22)) ⊛ ‵
-          (fdies (tyRef erased mut (tyArray (tyInt w8) 256)) (past .23)) ⊛ ‵
-          (fdies (tyRef erased mut (tyArray (tyInt w8) 256)) (past .24)) ⊛ ‵ (fdies (tyArray (tyInt w32) 128) (past .25)) ⊛ ‵
-          (fdies tyUnit (past .26)) ⊛ ‵ (fdies (tyRef erased imm (tyArray (tyInt w32) 32)) (past .27)) ⊛ ‵
-          (fdies (tyRef erased mut (tyArray (tyInt w32) 128)) (past .28)) ⊛ ‵
-          (fdies (tyRef erased imm (tyArray (tyInt w32) 128)) (past .29)) ⊛ ‵
+          (fdies time-laws.mir (past .21)) ⊛ ‵ (fdies (tyArray (tyInt w8) 128) (past .22)) ⊛ ‵
+          (fdies (tyArray (tyInt w8) 256) (past .23)) ⊛ ‵ (fdies (tyRef erased mut (tyArray (tyInt w8) 128)) (past .24)) ⊛ ‵
+          (fdies (tyRef erased mut (tyArray (tyInt w8) 256)) (past .25)) ⊛ ‵ (fdies (tyArray (tyInt w32) 128) (past .26)) ⊛ ‵
+          (fdies tyUnit (past .27)) ⊛ ‵ (fdies (tyRef erased imm (tyArray (tyInt w32) 32)) (past .28)) ⊛ ‵
+          (fdies (tyRef erased mut (tyArray (tyInt w32) 128)) (past .29)) ⊛ ‵
           (fdies (tyRef erased imm (tyArray (tyInt w32) 128)) (past .30)) ⊛ ‵
-          (fdies (tyRef erased imm (tyArray (tyInt w32) 32)) (past .31)) ⊛ ‵
-          (fdies (tyRef erased imm (tyArray (tyInt w8) 32)) (past .32)) ⊛ ‵
-          (fdies (tyRef erased imm (tyArray (tyInt w32) 128)) (past .33)) ⊛ ‵
+          (fdies (tyRef erased imm (tyArray (tyInt w32) 128)) (past .31)) ⊛ ‵
+          (fdies (tyRef erased imm (tyArray (tyInt w32) 32)) (past .32)) ⊛ ‵
+          (fdies (tyRef erased imm (tyArray (tyInt w8) 32)) (past .33)) ⊛ ‵
           (fdies (tyRef erased imm (tyArray (tyInt w32) 128)) (past .34)) ⊛ ‵
-          (fdies (tyRef erased imm (tyArray (tyInt w32) 128)) (past .35)) ⊛ ‵ (fdies (tyRef erased mut (tyInt w32)) (past .36)))
+          (fdies (tyRef erased imm (tyArray (tyInt w32) 128)) (past .35)) ⊛ ‵
+          (fdies (tyRef erased imm (tyArray (tyInt w32) 128)) (past .36)) ⊛ ‵ (fdies (tyRef erased mut (tyInt w32)) (past .37)))
           ∷ ‵ (flft κ₁ q₁) ∷ ‵ (flft κ₂ q₂) ∷ ‵ (flft κ₄ q₄) ∷ ‵ (flft κ₅ q₅) ∷ ‵ Own₁ ∷ ‵ Own₂
-          ∷ ‵ Own₄ ∷ ‵ Own₆ ∷ ‵ (froom (tyRef erased mut (tyInt w32)) (past .36) 0)
+          ∷ ‵ Own₄ ∷ ‵ Own₆ ∷ ‵ (froom (tyRef erased mut (tyInt w32)) (past .37) 0)
+          ∷ ‵ (froom (tyRef erased imm (tyArray (tyInt w32) 128)) (past .36) 0)
           ∷ ‵ (froom (tyRef erased imm (tyArray (tyInt w32) 128)) (past .35) 0)
           ∷ ‵ (froom (tyRef erased imm (tyArray (tyInt w32) 128)) (past .34) 0)
-          ∷ ‵ (froom (tyRef erased imm (tyArray (tyInt w32) 128)) (past .33) 0)
-          ∷ ‵ (froom (tyRef erased imm (tyArray (tyInt w8) 32)) (past .32) 0)
-          ∷ ‵ (froom (tyRef erased imm (tyArray (tyInt w32) 32)) (past .31) 0)
-          ∷ ‵ (froom (tyRef erased imm (tyArray (tyInt w32) 128)) (past .30) 0)
-          ∷ ‵ (fat fullShare (tyRef erased imm (tyArray (tyInt w32) 128)) (past .29) 0 ((vptr (past .19) 0)))
-          ∷ ‵ (fat fullShare (tyRef erased mut (tyArray (tyInt w32) 128)) (past .28) 0 ((vptr (past .19) 0)))
-          ∷ ‵ (fat fullShare (tyRef erased imm (tyArray (tyInt w32) 32)) (past .27) 0 ((vptr b (o + 636))))
-          ∷ ‵ (fat fullShare tyUnit (past .26) 0 ((past .57))) ∷ ‵ (fat fullShare (tyArray (tyInt w32) 128) (past .25) 0 ((past .56)))
-          ∷ ‵ (fat fullShare (tyRef erased mut (tyArray (tyInt w8) 256)) (past .24) 0 ((vptr (past .12) 0)))
-          ∷ ‵ (fat fullShare (tyRef erased mut (tyArray (tyInt w8) 256)) (past .23) 0 ((vptr (past .11) 0)))
-          ∷ ‵ (fat fullShare (tyArray (tyInt w8) 256) (past .22) 0 ((past .37))) ∷ ‵ (froom time-laws.mir (past .21) 0)
-          ∷ ‵ (fat fullShare (tyInt w64) (past .20) 0 ((past .61))) ∷ ‵ (fat fullShare (tyInt w64) (past .18) 0 ((past .54)))
+          ∷ ‵ (froom (tyRef erased imm (tyArray (tyInt w8) 32)) (past .33) 0)
+          ∷ ‵ (froom (tyRef erased imm (tyArray (tyInt w32) 32)) (past .32) 0)
+          ∷ ‵ (froom (tyRef erased imm (tyArray (tyInt w32) 128)) (past .31) 0)
+          ∷ ‵ (fat fullShare (tyRef erased imm (tyArray (tyInt w32) 128)) (past .30) 0 ((vptr (past .19) 0)))
+          ∷ ‵ (fat fullShare (tyRef erased mut (tyArray (tyInt w32) 128)) (past .29) 0 ((vptr (past .19) 0)))
+          ∷ ‵ (fat fullShare (tyRef erased imm (tyArray (tyInt w32) 32)) (past .28) 0 ((vptr b (o + 636))))
+          ∷ ‵ (fat fullShare tyUnit (past .27) 0 ((past .59))) ∷ ‵ (fat fullShare (tyArray (tyInt w32) 128) (past .26) 0 ((past .58)))
+          ∷ ‵ (fat fullShare (tyRef erased mut (tyArray (tyInt w8) 256)) (past .25) 0 ((vptr (past .12) 0)))
+          ∷ ‵ (fat fullShare (tyRef erased mut (tyArray (tyInt w8) 128)) (past .24) 0 ((vptr (past .11) 0)))
+          ∷ ‵ (fat fullShare (tyArray (tyInt w8) 256) (past .23) 0 ((past .39)))
+          ∷ ‵ (fat fullShare (tyArray (tyInt w8) 128) (past .22) 0 ((past .38))) ∷ ‵ (froom time-laws.mir (past .21) 0)
+          ∷ ‵ (fat fullShare (tyInt w64) (past .20) 0 ((past .63))) ∷ ‵ (fat fullShare (tyInt w64) (past .18) 0 ((past .56)))
           ∷ ‵ (fat fullShare clock-laws.mir (past .17) 0 ((only ((LL.vals clock-row.the-type clock-laws.the-laws) (h .clock)))))
           ∷ ‵ (fat fullShare arrival-laws.mir (past .16) 0 ((only ((LL.vals arrival-row.the-type arrival-laws.the-laws) (h .arrival)))))
           ∷ ‵ (fat fullShare flight-laws.mir (past .15) 0 ((only ((LL.vals flight-row.the-type flight-laws.the-laws) (h .flight)))))
           ∷ ‵ (fat fullShare settings-laws.mir (past .14) 0
           ((only ((LL.vals settings-row.the-type settings-laws.the-laws) (h .settings)))))
-          ∷ ‵ (fat fullShare tyBool (past .13) 0 ((past .39))) ∷ ‵ (fat fullShare (tyRef (named 5) mut (tyInt w32)) (past .10) 0 (s₆))
+          ∷ ‵ (fat fullShare tyBool (past .13) 0 ((past .41))) ∷ ‵ (fat fullShare (tyRef (named 5) mut (tyInt w32)) (past .10) 0 (s₆))
           ∷ ‵ (fat fullShare (tyInt w32) (past .9) 0 (v₅))
           ∷ ‵ (fat fullShare (sliceTy (tyRef (named 4) imm (tyInt w32))) (past .8) 0 (s₄))
           ∷ ‵ (fat fullShare (sliceTy (tyRef (named 3) imm (pointee (R .written)))) (past .7) 0 (s₃))
@@ -945,52 +956,52 @@ module _ {M : Type 1} (𝓤 : URA M) (H : Heap 𝓤) (A : Atoms 𝓤) (W : Given
           ∷ []) ∵ exec ! C Λ (En (past .3) (past .4) (past .5) (past .6) (past .7) (past .8) (past .9) (past .10) (past .11) (past .12)
           (past .13) (past .14) (past .15) (past .16) (past .17) (past .18) (past .19) (past .20) (past .21) (past .22) (past .23)
           (past .24) (past .25) (past .26) (past .27) (past .28) (past .29) (past .30) (past .31) (past .32) (past .33) (past .34)
-          (past .35) (past .36)) (behind 19 (code.function .body))
+          (past .35) (past .36) (past .37)) (behind 19 (code.function .body))
           (atRet (En (past .3) (past .4) (past .5) (past .6) (past .7) (past .8) (past .9) (past .10) (past .11) (past .12) (past .13)
           (past .14) (past .15) (past .16) (past .17) (past .18) (past .19) (past .20) (past .21) (past .22) (past .23) (past .24)
           (past .25) (past .26) (past .27) (past .28) (past .29) (past .30) (past .31) (past .32) (past .33) (past .34) (past .35)
-          (past .36)) Post) $
-          assigns ! {v = (vptr b (o + 124))} (addr ! (from ! (hop ! (look ! 54 refl) (fld ! {d = 124} refl (stop !))))) (from ! (stop !))
+          (past .36) (past .37)) Post) $
+          assigns ! {v = (vptr b (o + 124))} (addr ! (from ! (hop ! (look ! 55 refl) (fld ! {d = 124} refl (stop !))))) (from ! (stop !))
           (init ! 31 refl (tt, tt)) $
-          assigns ! {v = (vptr b (o + 636))} (addr ! (from ! (hop ! (look ! 54 refl) (fld ! {d = 636} refl (stop !))))) (from ! (stop !))
+          assigns ! {v = (vptr b (o + 636))} (addr ! (from ! (hop ! (look ! 55 refl) (fld ! {d = 636} refl (stop !))))) (from ! (stop !))
           (init ! 30 refl (tt, tt)) $
-          assigns ! {v = (vptr b (o + 764))} (addr ! (from ! (hop ! (look ! 54 refl) (fld ! {d = 764} refl (stop !))))) (from ! (stop !))
+          assigns ! {v = (vptr b (o + 764))} (addr ! (from ! (hop ! (look ! 55 refl) (fld ! {d = 764} refl (stop !))))) (from ! (stop !))
           (init ! 29 refl (tt, tt)) $
-          assigns ! {v = (vptr b (o + 796))} (addr ! (from ! (hop ! (look ! 54 refl) (fld ! {d = 796} refl (stop !))))) (from ! (stop !))
+          assigns ! {v = (vptr b (o + 796))} (addr ! (from ! (hop ! (look ! 55 refl) (fld ! {d = 796} refl (stop !))))) (from ! (stop !))
           (init ! 28 refl (tt, tt)) $
-          assigns ! {v = (vptr b (o + 1308))} (addr ! (from ! (hop ! (look ! 54 refl) (fld ! {d = 1308} refl (stop !))))) (from ! (stop !))
+          assigns ! {v = (vptr b (o + 1308))} (addr ! (from ! (hop ! (look ! 55 refl) (fld ! {d = 1308} refl (stop !))))) (from ! (stop !))
           (init ! 27 refl (tt, tt)) $
-          assigns ! {v = (vptr b (o + 1820))} (addr ! (from ! (hop ! (look ! 54 refl) (fld ! {d = 1820} refl (stop !))))) (from ! (stop !))
+          assigns ! {v = (vptr b (o + 1820))} (addr ! (from ! (hop ! (look ! 55 refl) (fld ! {d = 1820} refl (stop !))))) (from ! (stop !))
           (init ! 26 refl (tt, tt)) $
           move ! (1 ∷ []) $ use1 W (‵ (cellAt fullShare ((tyArray (tyInt w32) 128) ∷ [])
           ((only ((array-vals (uint-vals w32)) (past .0))) ∷ []) (past .19) 0))
           (W .laws .at-raw fullShare (tyArray (tyInt w32) 128) (past .19) 0 (only ((array-vals (uint-vals w32)) (past .0)))) $
           cell-in ! fullShare (Array u32 128) (array-makes 𝓤 H A W u32 (uint-makes 𝓤 H A W w32) 128) (past .0) (past .19) 0
-          (only ((array-vals (uint-vals w32)) (past .0))) (past .59) $
+          (only ((array-vals (uint-vals w32)) (past .0))) (past .61) $
           lend-shr ! tt fullShare (Array u32 128) (past .0) (past .19) 0
           (λ α-found′ δ-found′. move ! (13 ∷ []) $
-          lend-shr ! tt (past .42) (Array u32 128) (h .queued) b (o + 124)
+          lend-shr ! tt (past .44) (Array u32 128) (h .queued) b (o + 124)
           (λ α-queued δ-queued. move ! (7 ∷ []) $
-          lend-shr ! tt (past .42) (Array u32 32) (h .outstanding) b (o + 636)
+          lend-shr ! tt (past .44) (Array u32 32) (h .outstanding) b (o + 636)
           (λ α-outstanding′ δ-outstanding′. move ! (17 ∷ []) $
-          lend-shr ! tt (past .42) (Array u8 32) (h .transmissions) b (o + 764)
+          lend-shr ! tt (past .44) (Array u8 32) (h .transmissions) b (o + 764)
           (λ α-transmissions δ-transmissions. move ! (19 ∷ []) $
-          lend-shr ! tt (past .42) (Array u32 128) (h .ready) b (o + 796)
+          lend-shr ! tt (past .44) (Array u32 128) (h .ready) b (o + 796)
           (λ α-ready δ-ready. move ! (21 ∷ []) $
-          lend-shr ! tt (past .42) (Array u32 128) (h .waiting) b (o + 1308)
+          lend-shr ! tt (past .44) (Array u32 128) (h .waiting) b (o + 1308)
           (λ α-waiting δ-waiting. move ! (23 ∷ []) $
-          lend-shr ! tt (past .42) (Array u32 128) (h .«waiting_numbers») b (o + 1820)
+          lend-shr ! tt (past .44) (Array u32 128) (h .«waiting_numbers») b (o + 1820)
           (λ α-waiting-numbers δ-waiting-numbers. move ! (18 ∷ 19 ∷ 15 ∷ 16 ∷ 12 ∷ 13 ∷ 9 ∷ 10 ∷ 6 ∷ 7 ∷ 3 ∷ 4 ∷ 0 ∷ 1 ∷ 31
           ∷ 35 ∷ 32 ∷ 36 ∷ 33 ∷ 37 ∷ []) $ group ! 20 $
-          calls-fn ! fm core.ended (core.clauses 𝓤 H A at-mem run) (known .6)
+          calls-fn ! fm core.ended (core.clauses 𝓤 H A at-mem run) (known .7)
           (to-core (past .19) α-found′ δ-found′ (past .0) α-queued δ-queued (h .queued) α-outstanding′ δ-outstanding′ (h .outstanding)
           α-transmissions δ-transmissions (h .transmissions) α-ready δ-ready (h .ready) α-waiting δ-waiting (h .waiting)
           α-waiting-numbers δ-waiting-numbers (h .«waiting_numbers») (h .settings)
           (only ((LL.vals settings-row.the-type settings-laws.the-laws) (h .settings))) (h .flight)
           (only ((LL.vals flight-row.the-type flight-laws.the-laws) (h .flight))) (h .arrival)
           (only ((LL.vals arrival-row.the-type arrival-laws.the-laws) (h .arrival))) (h .clock)
-          (only ((LL.vals clock-row.the-type clock-laws.the-laws) (h .clock))) (past .38) (past .39) (past .60) (past .61) x₅ v₅)
-          (λ a ws-a. timeOutcome a ≡ checksWith h (recordsIn (past .0)) (x₄ .now) (lentLengths (past .60) (x₁ .now) (x₂ .now) (x₄ .now))
+          (only ((LL.vals clock-row.the-type clock-laws.the-laws) (h .clock))) (past .40) (past .41) (past .62) (past .63) x₅ v₅)
+          (λ a ws-a. timeOutcome a ≡ checksWith h (recordsIn (past .0)) (x₄ .now) (lentLengths (past .62) (x₁ .now) (x₂ .now) (x₄ .now))
           x₅) (‵ (flft (α-found′ ∷ []) fullShare) ⊛ ‵
           (ShrRef (named 0) (α-found′ ∷ []) (Array u32 128) .own (ref-at (past .19) 0 δ-found′ (past .0)) ((vptr (past .19) 0) ∷ [])) ⊛
           ‵ (flft (α-queued ∷ []) fullShare) ⊛ ‵ (ShrRef (named 0) (α-queued ∷ []) (Array u32 128) .own
@@ -1008,41 +1019,41 @@ module _ {M : Type 1} (𝓤 : URA M) (H : Heap 𝓤) (A : Atoms 𝓤) (W : Given
           (asks-core (past .19) α-found′ δ-found′ (past .0) α-queued δ-queued (h .queued) α-outstanding′ δ-outstanding′ (h .outstanding)
           α-transmissions δ-transmissions (h .transmissions) α-ready δ-ready (h .ready) α-waiting δ-waiting (h .waiting) α-waiting-numbers
           δ-waiting-numbers (h .«waiting_numbers») (h .settings)
-          (only ((LL.vals settings-row.the-type settings-laws.the-laws) (h .settings))) (past .49) (h .flight)
-          (only ((LL.vals flight-row.the-type flight-laws.the-laws) (h .flight))) (past .50) (h .arrival)
-          (only ((LL.vals arrival-row.the-type arrival-laws.the-laws) (h .arrival))) (past .51) (h .clock)
-          (only ((LL.vals clock-row.the-type clock-laws.the-laws) (h .clock))) (past .52) (past .38) (past .39) (past .41) (past .60)
-          (past .61) (past .63) x₅ v₅ g₅ (
+          (only ((LL.vals settings-row.the-type settings-laws.the-laws) (h .settings))) (past .51) (h .flight)
+          (only ((LL.vals flight-row.the-type flight-laws.the-laws) (h .flight))) (past .52) (h .arrival)
+          (only ((LL.vals arrival-row.the-type arrival-laws.the-laws) (h .arrival))) (past .53) (h .clock)
+          (only ((LL.vals clock-row.the-type clock-laws.the-laws) (h .clock))) (past .54) (past .40) (past .41) (past .43) (past .62)
+          (past .63) (past .65) x₅ v₅ g₅ (
             record {
-              whole-queued = (past .43);
-              whole-outstanding = (past .44);
-              whole-transmissions = (past .45);
-              whole-ready = (past .46);
-              whole-waiting = (past .47);
-              whole-numbers = (past .48);
+              whole-queued = (past .45);
+              whole-outstanding = (past .46);
+              whole-transmissions = (past .47);
+              whole-ready = (past .48);
+              whole-waiting = (past .49);
+              whole-numbers = (past .50);
             },
-            (past .58) .0,
-            ((past .2), ((past .1), (past .40))),
+            (past .60) .0,
+            ((past .2), ((past .1), (past .42))),
           )) (λ a ws-a. id⊢ 𝓤 _)
+          (and-then ! (load ! (from ! (stop !)) (look ! 42 refl))
           (and-then ! (load ! (from ! (stop !)) (look ! 41 refl))
           (and-then ! (load ! (from ! (stop !)) (look ! 40 refl))
           (and-then ! (load ! (from ! (stop !)) (look ! 39 refl))
-          (and-then ! (load ! (from ! (stop !)) (look ! 38 refl))
-          (and-then ! (load ! (from ! (stop !)) (look ! 42 refl))
+          (and-then ! (load ! (from ! (stop !)) (look ! 43 refl))
           (and-then ! (load ! (from ! (stop !)) (look ! 27 refl))
-          (and-then ! (load ! (from ! (stop !)) (look ! 36 refl))
+          (and-then ! (load ! (from ! (stop !)) (look ! 37 refl))
           (and-then ! (load ! (from ! (stop !)) (look ! 26 refl))
           (and-then ! (load ! (from ! (stop !)) (look ! 25 refl))
           (and-then ! (load ! (from ! (stop !)) (look ! 24 refl))
           (and-then ! (load ! (from ! (stop !)) (look ! 23 refl))
           (and-then ! (load ! (from ! (stop !)) (look ! 22 refl))
           (and-then ! (load ! (from ! (stop !)) (look ! 21 refl))
+          (and-then ! (load ! (from ! (stop !)) (look ! 49 refl))
           (and-then ! (load ! (from ! (stop !)) (look ! 48 refl))
-          (and-then ! (load ! (from ! (stop !)) (look ! 47 refl))
-          (and-then ! (load ! (from ! (stop !)) (look ! 45 refl))
-          (and-then ! (load ! (from ! (stop !)) (look ! 44 refl)) (no-more !))))))))))))))))))
+          (and-then ! (load ! (from ! (stop !)) (look ! 46 refl))
+          (and-then ! (load ! (from ! (stop !)) (look ! 45 refl)) (no-more !))))))))))))))))))
           (λ a w-a ws-a e-a is-a. land ! (from ! (stop !))
-          (init ! 36 refl (EL.lawful time-row.the-type time-laws.the-laws 𝓤 H A W tt .typed a (w-a ∷ []) is-a .0)) $
+          (init ! 37 refl (EL.lawful time-row.the-type time-laws.the-laws 𝓤 H A W tt .typed a (w-a ∷ []) is-a .0)) $
           spread W (‵ (flft (α-found′ ∷ []) fullShare))
           (‵ (flft (α-queued ∷ []) fullShare) ∷ ‵ (flft (α-outstanding′ ∷ []) fullShare) ∷ ‵ (flft (α-transmissions ∷ []) fullShare)
           ∷ ‵ (flft (α-ready ∷ []) fullShare) ∷ ‵ (flft (α-waiting ∷ []) fullShare) ∷ ‵ (flft (α-waiting-numbers ∷ []) fullShare)
@@ -1051,7 +1062,8 @@ module _ {M : Type 1} (𝓤 : URA M) (H : Heap 𝓤) (A : Atoms 𝓤) (W : Given
           ∷ ‵ ftrue ∷ ‵ ftrue ∷ ‵ ftrue ∷ ‵ ftrue ∷ ‵ ftrue ∷ ‵ ftrue ∷ ‵ ftrue ∷ ‵ ftrue ∷ []) (id⊢ 𝓤 _) $
           keep ! (18 ∷ 19 ∷ 20 ∷ 21 ∷ 22 ∷ 23 ∷ 24 ∷ 25 ∷ 26 ∷ 27 ∷ 29 ∷ 30 ∷ 31 ∷ 32 ∷ 33 ∷ 34 ∷ 35 ∷ 36 ∷ 37 ∷ 38
           ∷ 39 ∷ 40 ∷ 41 ∷ 42 ∷ 43 ∷ 44 ∷ 45 ∷ 46 ∷ 47 ∷ 48 ∷ 49 ∷ 50 ∷ 51 ∷ 52 ∷ 53 ∷ 54 ∷ 55 ∷ 56 ∷ 57 ∷ 58 ∷ 59
-          ∷ 60 ∷ 61 ∷ 62 ∷ 63 ∷ 64 ∷ 65 ∷ 66 ∷ 67 ∷ 68 ∷ 69 ∷ 70 ∷ 71 ∷ 72 ∷ 73 ∷ 74 ∷ 75 ∷ 76 ∷ 77 ∷ 78 ∷ []) $
+          ∷ 60 ∷ 61 ∷ 62 ∷ 63 ∷ 64 ∷ 65 ∷ 66 ∷ 67 ∷ 68 ∷ 69 ∷ 70 ∷ 71 ∷ 72 ∷ 73 ∷ 74 ∷ 75 ∷ 76 ∷ 77 ∷ 78 ∷ 79
+          ∷ []) $
           -- [tok:@found; tok:queued; tok:outstanding; tok:transmissions; tok:ready; tok:waiting; tok:«waiting_numbers»; tok1; tok2; tok4;
           -- lent:«waiting_numbers»; lent:waiting; lent:ready; lent:transmissions; lent:outstanding; lent:queued; lent:@found; tok3;
           -- F:clock; F:arrival; F:flight; F:settings; back; opened; deaths; tok6; own6; the locals]
@@ -1060,12 +1072,12 @@ module _ {M : Type 1} (𝓤 : URA M) (H : Heap 𝓤) (A : Atoms 𝓤) (W : Given
           (past .0) (past .19) 0 (λ was-found-4. use1 W
           (‵ (fat fullShare (tyArray (tyInt w32) 128) (past .19) 0 (only ((array-vals (uint-vals w32)) (past .0)))))
           (W .laws .raw-at fullShare (tyArray (tyInt w32) 128) (past .19) 0 (only ((array-vals (uint-vals w32)) (past .0)))) $
-          move ! (1 ∷ 15 ∷ []) $ back-shr ! tt (past .42) (Array u32 128) b (o + 124) (h .queued) $ move ! (2 ∷ 14 ∷ []) $
-          back-shr ! tt (past .42) (Array u32 32) b (o + 636) (h .outstanding) $ move ! (3 ∷ 13 ∷ []) $
-          back-shr ! tt (past .42) (Array u8 32) b (o + 764) (h .transmissions) $ move ! (4 ∷ 12 ∷ []) $
-          back-shr ! tt (past .42) (Array u32 128) b (o + 796) (h .ready) $ move ! (5 ∷ 11 ∷ []) $
-          back-shr ! tt (past .42) (Array u32 128) b (o + 1308) (h .waiting) $ move ! (6 ∷ 10 ∷ []) $
-          back-shr ! tt (past .42) (Array u32 128) b (o + 1820) (h .«waiting_numbers») $
+          move ! (1 ∷ 15 ∷ []) $ back-shr ! tt (past .44) (Array u32 128) b (o + 124) (h .queued) $ move ! (2 ∷ 14 ∷ []) $
+          back-shr ! tt (past .44) (Array u32 32) b (o + 636) (h .outstanding) $ move ! (3 ∷ 13 ∷ []) $
+          back-shr ! tt (past .44) (Array u8 32) b (o + 764) (h .transmissions) $ move ! (4 ∷ 12 ∷ []) $
+          back-shr ! tt (past .44) (Array u32 128) b (o + 796) (h .ready) $ move ! (5 ∷ 11 ∷ []) $
+          back-shr ! tt (past .44) (Array u32 128) b (o + 1308) (h .waiting) $ move ! (6 ∷ 10 ∷ []) $
+          back-shr ! tt (past .44) (Array u32 128) b (o + 1820) (h .«waiting_numbers») $
           by ! (part₃ (
             (past .0),
             (past .1),
@@ -1105,17 +1117,19 @@ module _ {M : Type 1} (𝓤 : URA M) (H : Heap 𝓤) (A : Atoms 𝓤) (W : Given
             (past .35),
             (past .36),
             (past .37),
+            (past .38),
             (past .39),
-            (past .42),
-            (past .53),
-            (past .54),
+            (past .41),
+            (past .44),
             (past .55),
             (past .56),
             (past .57),
             (past .58),
+            (past .59),
             (past .60),
-            (past .61),
             (past .62),
+            (past .63),
+            (past .64),
             a,
             w-a,
             e-a,
@@ -1129,47 +1143,50 @@ module _ {M : Type 1} (𝓤 : URA M) (H : Heap 𝓤) (A : Atoms 𝓤) (W : Given
           (l₁₃ : ℕ) × (l₁₄ : ℕ) × (l₁₅ : ℕ) × (l₁₆ : ℕ) × (l₁₇ : ℕ) × (l₁₈ : ℕ) × (l₁₉ : ℕ) ×
           (l₂₀ : ℕ) × (l₂₁ : ℕ) × (l₂₂ : ℕ) × (l₂₃ : ℕ) × (l₂₄ : ℕ) × (l₂₅ : ℕ) × (l₂₆ : ℕ) ×
           (l₂₇ : ℕ) × (l₂₈ : ℕ) × (l₂₉ : ℕ) × (l₃₀ : ℕ) × (l₃₁ : ℕ) × (l₃₂ : ℕ) × (l₃₃ : ℕ) ×
-          (w-receives : Val) × (ok : Bool) × (w-ok : Val) × (e-ok : Sound h z-sends z-receives ok) × (Is Boolean ok (w-ok ∷ []))
+          (l₃₄ : ℕ) × (w-sends : Val) × (w-receives : Val) × (ok : Bool) × (w-ok : Val) × (e-ok : Sound h z-sends z-receives ok) ×
+          (Is Boolean ok (w-ok ∷ []))
 
       part₁ : (past : Known₁) → ent 𝓤 (⋆ 𝓤 H A (‵
           (fat fullShare (tyArray (tyInt w8) 256) (past .11) 0 ((only ((array-vals (uint-vals w8)) (past .0)))))
-          ∷ ‵ (fat fullShare (tyArray (tyInt w8) 256) (past .10) 0 ((only ((array-vals (uint-vals w8)) (past .1))))) ∷ ‵ (flft κ₀ q₀)
+          ∷ ‵ (fat fullShare (tyArray (tyInt w8) 128) (past .10) 0 ((only ((array-vals (uint-vals w8)) (past .1))))) ∷ ‵ (flft κ₀ q₀)
           ∷ ‵ (link-shr κ₀ b o γ h) ∷ (‵ (fdies (tyInt w32) (past .2)) ⊛ ‵ (fdies (tyRef (named 0) imm (pointee (L .written))) (past .3)) ⊛
           ‵ (fdies (sliceTy (tyRef (named 1) imm (tyInt w8))) (past .4)) ⊛ ‵ (fdies (sliceTy (tyRef (named 2) imm (tyInt w8))) (past .5)) ⊛
           ‵ (fdies (sliceTy (tyRef (named 3) imm (pointee (R .written)))) (past .6)) ⊛ ‵
           (fdies (sliceTy (tyRef (named 4) imm (tyInt w32))) (past .7)) ⊛ ‵ (fdies (tyInt w32) (past .8)) ⊛ ‵
-          (fdies (tyRef (named 5) mut (tyInt w32)) (past .9)) ⊛ ‵ (fdies (tyArray (tyInt w8) 256) (past .10)) ⊛ ‵
+          (fdies (tyRef (named 5) mut (tyInt w32)) (past .9)) ⊛ ‵ (fdies (tyArray (tyInt w8) 128) (past .10)) ⊛ ‵
           (fdies (tyArray (tyInt w8) 256) (past .11)) ⊛ ‵ (fdies tyBool (past .12)) ⊛ ‵ (fdies settings-laws.mir (past .13)) ⊛ ‵
           (fdies flight-laws.mir (past .14)) ⊛ ‵ (fdies arrival-laws.mir (past .15)) ⊛ ‵ (fdies clock-laws.mir (past .16)) ⊛ ‵
           (fdies (tyInt w64) (past .17)) ⊛ ‵ (fdies (tyArray (tyInt w32) 128) (past .18)) ⊛ ‵ (fdies (tyInt w64) (past .19)) ⊛ ‵
-          (fdies time-laws.mir (past .20)) ⊛ ‵ (fdies (tyArray (tyInt w8) 256) (past .21)) ⊛ ‵
-          (fdies (tyRef erased mut (tyArray (tyInt w8) 256)) (past .22)) ⊛ ‵ (fdies (tyRef erased mut (tyArray (tyInt w8) 256)) (past .23))
-          ⊛ ‵ (fdies (tyArray (tyInt w32) 128) (past .24)) ⊛ ‵ (fdies tyUnit (past .25)) ⊛ ‵
-          (fdies (tyRef erased imm (tyArray (tyInt w32) 32)) (past .26)) ⊛ ‵ (fdies (tyRef erased mut (tyArray (tyInt w32) 128)) (past .27))
-          ⊛ ‵ (fdies (tyRef erased imm (tyArray (tyInt w32) 128)) (past .28)) ⊛ ‵
-          (fdies (tyRef erased imm (tyArray (tyInt w32) 128)) (past .29)) ⊛ ‵ (fdies (tyRef erased imm (tyArray (tyInt w32) 32)) (past .30))
-          ⊛ ‵ (fdies (tyRef erased imm (tyArray (tyInt w8) 32)) (past .31)) ⊛ ‵
-          (fdies (tyRef erased imm (tyArray (tyInt w32) 128)) (past .32)) ⊛ ‵
+          (fdies time-laws.mir (past .20)) ⊛ ‵ (fdies (tyArray (tyInt w8) 128) (past .21)) ⊛ ‵ (fdies (tyArray (tyInt w8) 256) (past .22)) ⊛
+          ‵ (fdies (tyRef erased mut (tyArray (tyInt w8) 128)) (past .23)) ⊛ ‵
+          (fdies (tyRef erased mut (tyArray (tyInt w8) 256)) (past .24)) ⊛ ‵ (fdies (tyArray (tyInt w32) 128) (past .25)) ⊛ ‵
+          (fdies tyUnit (past .26)) ⊛ ‵ (fdies (tyRef erased imm (tyArray (tyInt w32) 32)) (past .27)) ⊛ ‵
+          (fdies (tyRef erased mut (tyArray (tyInt w32) 128)) (past .28)) ⊛ ‵
+          (fdies (tyRef erased imm (tyArray (tyInt w32) 128)) (past .29)) ⊛ ‵
+          (fdies (tyRef erased imm (tyArray (tyInt w32) 128)) (past .30)) ⊛ ‵ (fdies (tyRef erased imm (tyArray (tyInt w32) 32)) (past .31))
+          ⊛ ‵ (fdies (tyRef erased imm (tyArray (tyInt w8) 32)) (past .32)) ⊛ ‵
           (fdies (tyRef erased imm (tyArray (tyInt w32) 128)) (past .33)) ⊛ ‵
-          (fdies (tyRef erased imm (tyArray (tyInt w32) 128)) (past .34)) ⊛ ‵ (fdies (tyRef erased mut (tyInt w32)) (past .35)))
+          (fdies (tyRef erased imm (tyArray (tyInt w32) 128)) (past .34)) ⊛ ‵
+          (fdies (tyRef erased imm (tyArray (tyInt w32) 128)) (past .35)) ⊛ ‵ (fdies (tyRef erased mut (tyInt w32)) (past .36)))
           ∷ ‵ (flft κ₁ q₁) ∷ ‵ (flft κ₂ q₂) ∷ ‵ (flft κ₃ q₃) ∷ ‵ (flft κ₄ q₄) ∷ ‵ (flft κ₅ q₅) ∷ ‵ Own₁
-          ∷ ‵ Own₂ ∷ ‵ Own₃ ∷ ‵ Own₄ ∷ ‵ Own₆ ∷ ‵ (froom (tyRef erased mut (tyInt w32)) (past .35) 0)
+          ∷ ‵ Own₂ ∷ ‵ Own₃ ∷ ‵ Own₄ ∷ ‵ Own₆ ∷ ‵ (froom (tyRef erased mut (tyInt w32)) (past .36) 0)
+          ∷ ‵ (froom (tyRef erased imm (tyArray (tyInt w32) 128)) (past .35) 0)
           ∷ ‵ (froom (tyRef erased imm (tyArray (tyInt w32) 128)) (past .34) 0)
           ∷ ‵ (froom (tyRef erased imm (tyArray (tyInt w32) 128)) (past .33) 0)
-          ∷ ‵ (froom (tyRef erased imm (tyArray (tyInt w32) 128)) (past .32) 0)
-          ∷ ‵ (froom (tyRef erased imm (tyArray (tyInt w8) 32)) (past .31) 0)
-          ∷ ‵ (froom (tyRef erased imm (tyArray (tyInt w32) 32)) (past .30) 0)
+          ∷ ‵ (froom (tyRef erased imm (tyArray (tyInt w8) 32)) (past .32) 0)
+          ∷ ‵ (froom (tyRef erased imm (tyArray (tyInt w32) 32)) (past .31) 0)
+          ∷ ‵ (froom (tyRef erased imm (tyArray (tyInt w32) 128)) (past .30) 0)
           ∷ ‵ (froom (tyRef erased imm (tyArray (tyInt w32) 128)) (past .29) 0)
-          ∷ ‵ (froom (tyRef erased imm (tyArray (tyInt w32) 128)) (past .28) 0)
-          ∷ ‵ (froom (tyRef erased mut (tyArray (tyInt w32) 128)) (past .27) 0)
-          ∷ ‵ (froom (tyRef erased imm (tyArray (tyInt w32) 32)) (past .26) 0) ∷ ‵ (froom tyUnit (past .25) 0)
-          ∷ ‵ (froom (tyArray (tyInt w32) 128) (past .24) 0)
-          ∷ ‵ (fat fullShare (tyRef erased mut (tyArray (tyInt w8) 256)) (past .23) 0 ((vptr (past .11) 0)))
-          ∷ ‵ (fat fullShare (tyRef erased mut (tyArray (tyInt w8) 256)) (past .22) 0 ((vptr (past .10) 0)))
-          ∷ ‵ (fat fullShare (tyArray (tyInt w8) 256) (past .21) 0 ((past .36))) ∷ ‵ (froom time-laws.mir (past .20) 0)
+          ∷ ‵ (froom (tyRef erased mut (tyArray (tyInt w32) 128)) (past .28) 0)
+          ∷ ‵ (froom (tyRef erased imm (tyArray (tyInt w32) 32)) (past .27) 0) ∷ ‵ (froom tyUnit (past .26) 0)
+          ∷ ‵ (froom (tyArray (tyInt w32) 128) (past .25) 0)
+          ∷ ‵ (fat fullShare (tyRef erased mut (tyArray (tyInt w8) 256)) (past .24) 0 ((vptr (past .11) 0)))
+          ∷ ‵ (fat fullShare (tyRef erased mut (tyArray (tyInt w8) 128)) (past .23) 0 ((vptr (past .10) 0)))
+          ∷ ‵ (fat fullShare (tyArray (tyInt w8) 256) (past .22) 0 ((past .38)))
+          ∷ ‵ (fat fullShare (tyArray (tyInt w8) 128) (past .21) 0 ((past .37))) ∷ ‵ (froom time-laws.mir (past .20) 0)
           ∷ ‵ (froom (tyInt w64) (past .19) 0) ∷ ‵ (froom (tyArray (tyInt w32) 128) (past .18) 0) ∷ ‵ (froom (tyInt w64) (past .17) 0)
           ∷ ‵ (froom clock-laws.mir (past .16) 0) ∷ ‵ (froom arrival-laws.mir (past .15) 0) ∷ ‵ (froom flight-laws.mir (past .14) 0)
-          ∷ ‵ (froom settings-laws.mir (past .13) 0) ∷ ‵ (fat fullShare tyBool (past .12) 0 ((past .38)))
+          ∷ ‵ (froom settings-laws.mir (past .13) 0) ∷ ‵ (fat fullShare tyBool (past .12) 0 ((past .40)))
           ∷ ‵ (fat fullShare (tyRef (named 5) mut (tyInt w32)) (past .9) 0 (s₆)) ∷ ‵ (fat fullShare (tyInt w32) (past .8) 0 (v₅))
           ∷ ‵ (fat fullShare (sliceTy (tyRef (named 4) imm (tyInt w32))) (past .7) 0 (s₄))
           ∷ ‵ (fat fullShare (sliceTy (tyRef (named 3) imm (pointee (R .written)))) (past .6) 0 (s₃))
@@ -1179,53 +1196,54 @@ module _ {M : Type 1} (𝓤 : URA M) (H : Heap 𝓤) (A : Atoms 𝓤) (W : Given
           (Wp 𝓤 H C Λ (En (past .2) (past .3) (past .4) (past .5) (past .6) (past .7) (past .8) (past .9) (past .10) (past .11) (past .12)
           (past .13) (past .14) (past .15) (past .16) (past .17) (past .18) (past .19) (past .20) (past .21) (past .22) (past .23)
           (past .24) (past .25) (past .26) (past .27) (past .28) (past .29) (past .30) (past .31) (past .32) (past .33) (past .34)
-          (past .35)) (behind 7 (code.function .body))
+          (past .35) (past .36)) (behind 7 (code.function .body))
           (atReturn 𝓤 H (En (past .2) (past .3) (past .4) (past .5) (past .6) (past .7) (past .8) (past .9) (past .10) (past .11) (past .12)
           (past .13) (past .14) (past .15) (past .16) (past .17) (past .18) (past .19) (past .20) (past .21) (past .22) (past .23)
           (past .24) (past .25) (past .26) (past .27) (past .28) (past .29) (past .30) (past .31) (past .32) (past .33) (past .34)
-          (past .35)) Post))
+          (past .35) (past .36)) Post))
       part₁ past =
           qed W (‵ (fat fullShare (tyArray (tyInt w8) 256) (past .11) 0 ((only ((array-vals (uint-vals w8)) (past .0)))))
-          ∷ ‵ (fat fullShare (tyArray (tyInt w8) 256) (past .10) 0 ((only ((array-vals (uint-vals w8)) (past .1))))) ∷ ‵ (flft κ₀ q₀)
+          ∷ ‵ (fat fullShare (tyArray (tyInt w8) 128) (past .10) 0 ((only ((array-vals (uint-vals w8)) (past .1))))) ∷ ‵ (flft κ₀ q₀)
           ∷ ‵ (link-shr κ₀ b o γ h) ∷ (‵ (fdies (tyInt w32) (past .2)) ⊛ ‵
           (fdies (tyRef (named 0) imm (pointee (L .written))) (past .3)) ⊛ ‵
           (fdies (sliceTy (tyRef (named 1) imm (tyInt w8))) (past .4)) ⊛ ‵ (fdies (sliceTy (tyRef (named 2) imm (tyInt w8))) (past .5))
           ⊛ ‵ (fdies (sliceTy (tyRef (named 3) imm (pointee (R .written)))) (past .6)) ⊛ ‵
           (fdies (sliceTy (tyRef (named 4) imm (tyInt w32))) (past .7)) ⊛ ‵ (fdies (tyInt w32) (past .8)) ⊛ ‵
-          (fdies (tyRef (named 5) mut (tyInt w32)) (past .9)) ⊛ ‵ (fdies (tyArray (tyInt w8) 256) (past .10)) ⊛ ‵
+          (fdies (tyRef (named 5) mut (tyInt w32)) (past .9)) ⊛ ‵ (fdies (tyArray (tyInt w8) 128) (past .10)) ⊛ ‵
           (fdies (tyArray (tyInt w8) 256) (past .11)) ⊛ ‵ (fdies tyBool (past .12)) ⊛ ‵ (fdies settings-laws.mir (past .13)) ⊛ ‵
           (fdies flight-laws.mir (past .14)) ⊛ ‵ (fdies arrival-laws.mir (past .15)) ⊛ ‵ (fdies clock-laws.mir (past .16)) ⊛ ‵
           (fdies (tyInt w64) (past .17)) ⊛ ‵ (fdies (tyArray (tyInt w32) 128) (past .18)) ⊛ ‵ (fdies (tyInt w64) (past .19)) ⊛ ‵
-          (fdies time-laws.mir (past .20)) ⊛ ‵ (fdies (tyArray (tyInt w8) 256) (past .21)) ⊛ ‵
-          (fdies (tyRef erased mut (tyArray (tyInt w8) 256)) (past .22)) ⊛ ‵
-          (fdies (tyRef erased mut (tyArray (tyInt w8) 256)) (past .23)) ⊛ ‵ (fdies (tyArray (tyInt w32) 128) (past .24)) ⊛ ‵
-          (fdies tyUnit (past .25)) ⊛ ‵ (fdies (tyRef erased imm (tyArray (tyInt w32) 32)) (past .26)) ⊛ ‵
-          (fdies (tyRef erased mut (tyArray (tyInt w32) 128)) (past .27)) ⊛ ‵
-          (fdies (tyRef erased imm (tyArray (tyInt w32) 128)) (past .28)) ⊛ ‵
+          (fdies time-laws.mir (past .20)) ⊛ ‵ (fdies (tyArray (tyInt w8) 128) (past .21)) ⊛ ‵
+          (fdies (tyArray (tyInt w8) 256) (past .22)) ⊛ ‵ (fdies (tyRef erased mut (tyArray (tyInt w8) 128)) (past .23)) ⊛ ‵
+          (fdies (tyRef erased mut (tyArray (tyInt w8) 256)) (past .24)) ⊛ ‵ (fdies (tyArray (tyInt w32) 128) (past .25)) ⊛ ‵
+          (fdies tyUnit (past .26)) ⊛ ‵ (fdies (tyRef erased imm (tyArray (tyInt w32) 32)) (past .27)) ⊛ ‵
+          (fdies (tyRef erased mut (tyArray (tyInt w32) 128)) (past .28)) ⊛ ‵
           (fdies (tyRef erased imm (tyArray (tyInt w32) 128)) (past .29)) ⊛ ‵
-          (fdies (tyRef erased imm (tyArray (tyInt w32) 32)) (past .30)) ⊛ ‵
-          (fdies (tyRef erased imm (tyArray (tyInt w8) 32)) (past .31)) ⊛ ‵
-          (fdies (tyRef erased imm (tyArray (tyInt w32) 128)) (past .32)) ⊛ ‵
+          (fdies (tyRef erased imm (tyArray (tyInt w32) 128)) (past .30)) ⊛ ‵
+          (fdies (tyRef erased imm (tyArray (tyInt w32) 32)) (past .31)) ⊛ ‵
+          (fdies (tyRef erased imm (tyArray (tyInt w8) 32)) (past .32)) ⊛ ‵
           (fdies (tyRef erased imm (tyArray (tyInt w32) 128)) (past .33)) ⊛ ‵
-          (fdies (tyRef erased imm (tyArray (tyInt w32) 128)) (past .34)) ⊛ ‵ (fdies (tyRef erased mut (tyInt w32)) (past .35)))
+          (fdies (tyRef erased imm (tyArray (tyInt w32) 128)) (past .34)) ⊛ ‵
+          (fdies (tyRef erased imm (tyArray (tyInt w32) 128)) (past .35)) ⊛ ‵ (fdies (tyRef erased mut (tyInt w32)) (past .36)))
           ∷ ‵ (flft κ₁ q₁) ∷ ‵ (flft κ₂ q₂) ∷ ‵ (flft κ₃ q₃) ∷ ‵ (flft κ₄ q₄) ∷ ‵ (flft κ₅ q₅) ∷ ‵ Own₁
-          ∷ ‵ Own₂ ∷ ‵ Own₃ ∷ ‵ Own₄ ∷ ‵ Own₆ ∷ ‵ (froom (tyRef erased mut (tyInt w32)) (past .35) 0)
+          ∷ ‵ Own₂ ∷ ‵ Own₃ ∷ ‵ Own₄ ∷ ‵ Own₆ ∷ ‵ (froom (tyRef erased mut (tyInt w32)) (past .36) 0)
+          ∷ ‵ (froom (tyRef erased imm (tyArray (tyInt w32) 128)) (past .35) 0)
           ∷ ‵ (froom (tyRef erased imm (tyArray (tyInt w32) 128)) (past .34) 0)
           ∷ ‵ (froom (tyRef erased imm (tyArray (tyInt w32) 128)) (past .33) 0)
-          ∷ ‵ (froom (tyRef erased imm (tyArray (tyInt w32) 128)) (past .32) 0)
-          ∷ ‵ (froom (tyRef erased imm (tyArray (tyInt w8) 32)) (past .31) 0)
-          ∷ ‵ (froom (tyRef erased imm (tyArray (tyInt w32) 32)) (past .30) 0)
+          ∷ ‵ (froom (tyRef erased imm (tyArray (tyInt w8) 32)) (past .32) 0)
+          ∷ ‵ (froom (tyRef erased imm (tyArray (tyInt w32) 32)) (past .31) 0)
+          ∷ ‵ (froom (tyRef erased imm (tyArray (tyInt w32) 128)) (past .30) 0)
           ∷ ‵ (froom (tyRef erased imm (tyArray (tyInt w32) 128)) (past .29) 0)
-          ∷ ‵ (froom (tyRef erased imm (tyArray (tyInt w32) 128)) (past .28) 0)
-          ∷ ‵ (froom (tyRef erased mut (tyArray (tyInt w32) 128)) (past .27) 0)
-          ∷ ‵ (froom (tyRef erased imm (tyArray (tyInt w32) 32)) (past .26) 0) ∷ ‵ (froom tyUnit (past .25) 0)
-          ∷ ‵ (froom (tyArray (tyInt w32) 128) (past .24) 0)
-          ∷ ‵ (fat fullShare (tyRef erased mut (tyArray (tyInt w8) 256)) (past .23) 0 ((vptr (past .11) 0)))
-          ∷ ‵ (fat fullShare (tyRef erased mut (tyArray (tyInt w8) 256)) (past .22) 0 ((vptr (past .10) 0)))
-          ∷ ‵ (fat fullShare (tyArray (tyInt w8) 256) (past .21) 0 ((past .36))) ∷ ‵ (froom time-laws.mir (past .20) 0)
+          ∷ ‵ (froom (tyRef erased mut (tyArray (tyInt w32) 128)) (past .28) 0)
+          ∷ ‵ (froom (tyRef erased imm (tyArray (tyInt w32) 32)) (past .27) 0) ∷ ‵ (froom tyUnit (past .26) 0)
+          ∷ ‵ (froom (tyArray (tyInt w32) 128) (past .25) 0)
+          ∷ ‵ (fat fullShare (tyRef erased mut (tyArray (tyInt w8) 256)) (past .24) 0 ((vptr (past .11) 0)))
+          ∷ ‵ (fat fullShare (tyRef erased mut (tyArray (tyInt w8) 128)) (past .23) 0 ((vptr (past .10) 0)))
+          ∷ ‵ (fat fullShare (tyArray (tyInt w8) 256) (past .22) 0 ((past .38)))
+          ∷ ‵ (fat fullShare (tyArray (tyInt w8) 128) (past .21) 0 ((past .37))) ∷ ‵ (froom time-laws.mir (past .20) 0)
           ∷ ‵ (froom (tyInt w64) (past .19) 0) ∷ ‵ (froom (tyArray (tyInt w32) 128) (past .18) 0) ∷ ‵ (froom (tyInt w64) (past .17) 0)
           ∷ ‵ (froom clock-laws.mir (past .16) 0) ∷ ‵ (froom arrival-laws.mir (past .15) 0) ∷ ‵ (froom flight-laws.mir (past .14) 0)
-          ∷ ‵ (froom settings-laws.mir (past .13) 0) ∷ ‵ (fat fullShare tyBool (past .12) 0 ((past .38)))
+          ∷ ‵ (froom settings-laws.mir (past .13) 0) ∷ ‵ (fat fullShare tyBool (past .12) 0 ((past .40)))
           ∷ ‵ (fat fullShare (tyRef (named 5) mut (tyInt w32)) (past .9) 0 (s₆)) ∷ ‵ (fat fullShare (tyInt w32) (past .8) 0 (v₅))
           ∷ ‵ (fat fullShare (sliceTy (tyRef (named 4) imm (tyInt w32))) (past .7) 0 (s₄))
           ∷ ‵ (fat fullShare (sliceTy (tyRef (named 3) imm (pointee (R .written)))) (past .6) 0 (s₃))
@@ -1235,11 +1253,11 @@ module _ {M : Type 1} (𝓤 : URA M) (H : Heap 𝓤) (A : Atoms 𝓤) (W : Given
           ∷ []) ∵ exec ! C Λ (En (past .2) (past .3) (past .4) (past .5) (past .6) (past .7) (past .8) (past .9) (past .10) (past .11)
           (past .12) (past .13) (past .14) (past .15) (past .16) (past .17) (past .18) (past .19) (past .20) (past .21) (past .22)
           (past .23) (past .24) (past .25) (past .26) (past .27) (past .28) (past .29) (past .30) (past .31) (past .32) (past .33)
-          (past .34) (past .35)) (behind 7 (code.function .body))
+          (past .34) (past .35) (past .36)) (behind 7 (code.function .body))
           (atRet (En (past .2) (past .3) (past .4) (past .5) (past .6) (past .7) (past .8) (past .9) (past .10) (past .11) (past .12)
           (past .13) (past .14) (past .15) (past .16) (past .17) (past .18) (past .19) (past .20) (past .21) (past .22) (past .23)
           (past .24) (past .25) (past .26) (past .27) (past .28) (past .29) (past .30) (past .31) (past .32) (past .33) (past .34)
-          (past .35)) Post) $
+          (past .35) (past .36)) Post) $
           move ! (3 ∷ 2 ∷ []) $ looks-link b o γ ! tt h (λ q′.
           -- [F:settings; F:flight; F:arrival; F:clock; F:queued; F:outstanding; F:transmissions; F:ready; F:waiting; F:«waiting_numbers»;
           -- back; opened; deaths; tok1; tok2; tok3; tok4; tok6; own1; own2; own3; own4; own6; the locals]
@@ -1258,56 +1276,56 @@ module _ {M : Type 1} (𝓤 : URA M) (H : Heap 𝓤) (A : Atoms 𝓤) (W : Given
           cell-out ! q′ settings-row.the-row (LL.vals settings-row.the-type settings-laws.the-laws)
           (LL.tells settings-row.the-type settings-laws.the-laws) (h .settings) b (o + 0) (λ was-settings.
           assigns ! {v = (only ((LL.vals settings-row.the-type settings-laws.the-laws) (h .settings)))}
-          (of-opd ! (load ! (from ! (hop ! (look ! 55 refl) (fld ! {d = 0} refl (stop !)))) (look-raw ! 0 refl))) (from ! (stop !))
-          (init ! 47 refl (LL.lawful settings-row.the-type settings-laws.the-laws 𝓤 H A W .typed (h .settings)
+          (of-opd ! (load ! (from ! (hop ! (look ! 56 refl) (fld ! {d = 0} refl (stop !)))) (look-raw ! 0 refl))) (from ! (stop !))
+          (init ! 48 refl (LL.lawful settings-row.the-type settings-laws.the-laws 𝓤 H A W .typed (h .settings)
           ((only ((LL.vals settings-row.the-type settings-laws.the-laws) (h .settings))) ∷ []) was-settings .0)) $
           cell-in ! q′ settings-row.the-row (LL.makes settings-row.the-type settings-laws.the-plain 𝓤 H A) (h .settings) b (o + 0)
           (only ((LL.vals settings-row.the-type settings-laws.the-laws) (h .settings))) was-settings $ move ! (7 ∷ []) $
           cell-out ! q′ flight-row.the-row (LL.vals flight-row.the-type flight-laws.the-laws)
           (LL.tells flight-row.the-type flight-laws.the-laws) (h .flight) b (o + 16) (λ was-flight.
           assigns ! {v = (only ((LL.vals flight-row.the-type flight-laws.the-laws) (h .flight)))}
-          (of-opd ! (load ! (from ! (hop ! (look ! 55 refl) (fld ! {d = 16} refl (stop !)))) (look-raw ! 0 refl))) (from ! (stop !))
-          (init ! 46 refl (LL.lawful flight-row.the-type flight-laws.the-laws 𝓤 H A W .typed (h .flight)
+          (of-opd ! (load ! (from ! (hop ! (look ! 56 refl) (fld ! {d = 16} refl (stop !)))) (look-raw ! 0 refl))) (from ! (stop !))
+          (init ! 47 refl (LL.lawful flight-row.the-type flight-laws.the-laws 𝓤 H A W .typed (h .flight)
           ((only ((LL.vals flight-row.the-type flight-laws.the-laws) (h .flight))) ∷ []) was-flight .0)) $
           cell-in ! q′ flight-row.the-row (LL.makes flight-row.the-type flight-laws.the-plain 𝓤 H A) (h .flight) b (o + 16)
           (only ((LL.vals flight-row.the-type flight-laws.the-laws) (h .flight))) was-flight $ move ! (8 ∷ []) $
           cell-out ! q′ arrival-row.the-row (LL.vals arrival-row.the-type arrival-laws.the-laws)
           (LL.tells arrival-row.the-type arrival-laws.the-laws) (h .arrival) b (o + 72) (λ was-arrival.
           assigns ! {v = (only ((LL.vals arrival-row.the-type arrival-laws.the-laws) (h .arrival)))}
-          (of-opd ! (load ! (from ! (hop ! (look ! 55 refl) (fld ! {d = 72} refl (stop !)))) (look-raw ! 0 refl))) (from ! (stop !))
-          (init ! 45 refl (LL.lawful arrival-row.the-type arrival-laws.the-laws 𝓤 H A W .typed (h .arrival)
+          (of-opd ! (load ! (from ! (hop ! (look ! 56 refl) (fld ! {d = 72} refl (stop !)))) (look-raw ! 0 refl))) (from ! (stop !))
+          (init ! 46 refl (LL.lawful arrival-row.the-type arrival-laws.the-laws 𝓤 H A W .typed (h .arrival)
           ((only ((LL.vals arrival-row.the-type arrival-laws.the-laws) (h .arrival))) ∷ []) was-arrival .0)) $
           cell-in ! q′ arrival-row.the-row (LL.makes arrival-row.the-type arrival-laws.the-plain 𝓤 H A) (h .arrival) b (o + 72)
           (only ((LL.vals arrival-row.the-type arrival-laws.the-laws) (h .arrival))) was-arrival $ move ! (9 ∷ []) $
           cell-out ! q′ clock-row.the-row (LL.vals clock-row.the-type clock-laws.the-laws)
           (LL.tells clock-row.the-type clock-laws.the-laws) (h .clock) b (o + 104) (λ was-clock.
           assigns ! {v = (only ((LL.vals clock-row.the-type clock-laws.the-laws) (h .clock)))}
-          (of-opd ! (load ! (from ! (hop ! (look ! 55 refl) (fld ! {d = 104} refl (stop !)))) (look-raw ! 0 refl))) (from ! (stop !))
-          (init ! 44 refl (LL.lawful clock-row.the-type clock-laws.the-laws 𝓤 H A W .typed (h .clock)
+          (of-opd ! (load ! (from ! (hop ! (look ! 56 refl) (fld ! {d = 104} refl (stop !)))) (look-raw ! 0 refl))) (from ! (stop !))
+          (init ! 45 refl (LL.lawful clock-row.the-type clock-laws.the-laws 𝓤 H A W .typed (h .clock)
           ((only ((LL.vals clock-row.the-type clock-laws.the-laws) (h .clock))) ∷ []) was-clock .0)) $
           cell-in ! q′ clock-row.the-row (LL.makes clock-row.the-type clock-laws.the-plain 𝓤 H A) (h .clock) b (o + 104)
           (only ((LL.vals clock-row.the-type clock-laws.the-laws) (h .clock))) was-clock $ nothing ! $
-          calls-fn ! fm count-of.ended (count-of.clauses 𝓤 H A at-mem run) (known .2)
+          calls-fn ! fm count-of.ended (count-of.clauses 𝓤 H A at-mem run) (known .3)
           ((tt, tt, tt, ((h .flight), tt), ((only ((LL.vals flight-row.the-type flight-laws.the-laws) (h .flight))) ∷ [], tt)), tt)
           (λ n _. n ≡ h .flight .outstanding)
           (‵ ftrue) (plainly 𝓤 H A W (flight-row.the-row ∷ []) ((LL.makes flight-row.the-type flight-laws.the-plain 𝓤 H A), tt)
           ((h .flight), tt) ((only ((LL.vals flight-row.the-type flight-laws.the-laws) (h .flight))) ∷ [], tt) (was-flight, tt))
           (λ n _. id⊢ 𝓤 _)
-          (and-then ! (load ! (from ! (stop !)) (look ! 47 refl)) (no-more !))
-          (λ n w-n _ e-n is-n. drop ! $ drop ! $ land ! (from ! (stop !)) (init ! 43 refl (uint-lawful 𝓤 H A W w64 .typed n _ is-n .0)) $
-          nothing ! $ calls-fn ! fm none-of.ended (none-of.clauses 𝓤 H A at-mem run) (known .3) ((tt, tt, tt, tt, tt), tt)
+          (and-then ! (load ! (from ! (stop !)) (look ! 48 refl)) (no-more !))
+          (λ n w-n _ e-n is-n. drop ! $ drop ! $ land ! (from ! (stop !)) (init ! 44 refl (uint-lawful 𝓤 H A W w64 .typed n _ is-n .0)) $
+          nothing ! $ calls-fn ! fm none-of.ended (none-of.clauses 𝓤 H A at-mem run) (known .4) ((tt, tt, tt, tt, tt), tt)
           (λ found _. found ≡ replicate 128 0)
           (‵ ftrue) (plainly 𝓤 H A W ([]) tt tt tt tt) (λ found _. id⊢ 𝓤 _)
           (no-more !) (λ found w-found _ e-found is-found. drop ! $ drop ! $
           land ! (from ! (stop !)) (init ! 36 refl (array-typed u32 (uint-lawful 𝓤 H A W w32 .typed) 128 found (w-found ∷ []) is-found
           .0)) $
           assigns ! {v = w-found} (of-opd ! (load ! (from ! (stop !)) (look ! 36 refl))) (from ! (stop !))
-          (init ! 42 refl (array-typed u32 (uint-lawful 𝓤 H A W w32 .typed) 128 found (w-found ∷ []) is-found .0)) $
-          assigns ! {v = (vptr b (o + 636))} (addr ! (from ! (hop ! (look ! 55 refl) (fld ! {d = 636} refl (stop !))))) (from ! (stop !))
+          (init ! 43 refl (array-typed u32 (uint-lawful 𝓤 H A W w32 .typed) 128 found (w-found ∷ []) is-found .0)) $
+          assigns ! {v = (vptr b (o + 636))} (addr ! (from ! (hop ! (look ! 56 refl) (fld ! {d = 636} refl (stop !))))) (from ! (stop !))
           (init ! 34 refl (tt, tt)) $
           assigns ! {v = (vptr (past .18) 0)} (addr ! (from ! (stop !))) (from ! (stop !)) (init ! 33 refl (tt, tt)) $
           move ! (8 ∷ []) $ lend-shr ! tt q′ (Array u32 32) (h .outstanding) b (o + 636)
-          (λ α-outstanding δ-outstanding. move ! (44 ∷ []) $
+          (λ α-outstanding δ-outstanding. move ! (45 ∷ []) $
           use1 W (‵ (cellAt fullShare ((tyArray (tyInt w32) 128) ∷ []) (w-found ∷ []) (past .18) 0))
           (W .laws .at-raw fullShare (tyArray (tyInt w32) 128) (past .18) 0 w-found) $
           cell-in ! fullShare (Array u32 128) (array-makes 𝓤 H A W u32 (uint-makes 𝓤 H A W w32) 128) found (past .18) 0 w-found
@@ -1316,7 +1334,7 @@ module _ {M : Type 1} (𝓤 : URA M) (H : Heap 𝓤) (A : Atoms 𝓤) (W : Given
           (λ α-found δ-found. move ! (27 ∷ []) $
           use1 W (‵ Own₃ ⊛ ‵ Own₃) (shr-slice-copy 𝓤 H A W (named 0) κ₃ R .twice x₃ (s₃ ∷ [])) $ split ! $
           move ! (24 ∷ 0 ∷ 5 ∷ 6 ∷ 2 ∷ 3 ∷ []) $ group ! 6 $
-          calls-fn ! fm gather.ended (gather.clauses 𝓤 H A at-mem run) (known .4)
+          calls-fn ! fm gather.ended (gather.clauses 𝓤 H A at-mem run) (known .5)
           (to-gather α-outstanding δ-outstanding (h .outstanding) (past .18) α-found δ-found found n w-n)
           (λ g ws-g. (length (ws-g .1 .1 .1 .0) ≡ 128) ×
           (recordsIn (ws-g .1 .1 .1 .0) ≡ padded (gathered (take sendSlots (x₃ .now)) (slotsIn (h .outstanding) n))))
@@ -1326,16 +1344,16 @@ module _ {M : Type 1} (𝓤 : URA M) (H : Heap 𝓤) (A : Atoms 𝓤) (W : Given
           (MutRef (named 0) (α-found ∷ []) (Array u32 128) .own (ref-at (past .18) 0 δ-found found) ((vptr (past .18) 0) ∷ [])))
           (asks-gather α-outstanding δ-outstanding (h .outstanding) (past .18) α-found δ-found found n w-n is-n (len-outstanding, e-found))
           (λ g ws-g. id⊢ 𝓤 _)
-          (and-then ! (load ! (from ! (stop !)) (look ! 52 refl))
+          (and-then ! (load ! (from ! (stop !)) (look ! 53 refl))
           (and-then ! (load ! (from ! (stop !)) (look ! 35 refl))
-          (and-then ! (load ! (from ! (stop !)) (look ! 43 refl)) (and-then ! (load ! (from ! (stop !)) (look ! 34 refl)) (no-more !)))))
+          (and-then ! (load ! (from ! (stop !)) (look ! 44 refl)) (and-then ! (load ! (from ! (stop !)) (look ! 34 refl)) (no-more !)))))
           (λ g w-g ws-g e-g is-g. land ! (from ! (stop !)) (init ! 37 refl (nothing-lawful 𝓤 H A W .typed g _ is-g .0)) $
           spread W (‵ (flft κ₃ q₃)) (‵ (flft (α-outstanding ∷ []) fullShare) ∷ ‵ (flft (α-found ∷ []) fullShare) ∷ ‵ ftrue ∷ [])
           (id⊢ 𝓤 _) $ move ! (4 ∷ []) $ spread W (‵ ftrue)
           (‵ ftrue ∷ ‵ ftrue ∷ ‵ (fres δ-found ((Array u32 128) .coded .code (ws-g .1 .1 .1 .0))) ∷ ‵ ftrue ∷ []) (id⊢ 𝓤 _) $
           keep ! (3 ∷ 5 ∷ 6 ∷ 7 ∷ 9 ∷ 10 ∷ 11 ∷ 12 ∷ 13 ∷ 14 ∷ 15 ∷ 16 ∷ 17 ∷ 18 ∷ 19 ∷ 20 ∷ 21 ∷ 22 ∷ 23 ∷ 24 ∷ 25
           ∷ 26 ∷ 27 ∷ 28 ∷ 29 ∷ 30 ∷ 31 ∷ 32 ∷ 33 ∷ 34 ∷ 35 ∷ 36 ∷ 37 ∷ 38 ∷ 39 ∷ 40 ∷ 41 ∷ 42 ∷ 43 ∷ 44 ∷ 45 ∷ 46
-          ∷ 47 ∷ 48 ∷ 49 ∷ 50 ∷ 51 ∷ 52 ∷ 53 ∷ 54 ∷ 55 ∷ 56 ∷ 57 ∷ 58 ∷ 59 ∷ 60 ∷ 61 ∷ 62 ∷ 63 ∷ 64 ∷ []) $
+          ∷ 47 ∷ 48 ∷ 49 ∷ 50 ∷ 51 ∷ 52 ∷ 53 ∷ 54 ∷ 55 ∷ 56 ∷ 57 ∷ 58 ∷ 59 ∷ 60 ∷ 61 ∷ 62 ∷ 63 ∷ 64 ∷ 65 ∷ []) $
           -- [fin:@found; tok3; tok:outstanding; tok:@found; own3; lent:@found; lent:outstanding; F:clock; F:arrival; F:flight; F:settings;
           -- F:«waiting_numbers»; F:waiting; F:ready; F:transmissions; F:queued; back; opened; deaths; tok1; tok2; tok4; tok6; own1; own2;
           -- own4; own6; the locals]
@@ -1345,15 +1363,15 @@ module _ {M : Type 1} (𝓤 : URA M) (H : Heap 𝓤) (A : Atoms 𝓤) (W : Given
           (ws-g .1 .1 .1 .0) (past .18) 0 (λ was-found-3. use1 W
           (‵ (fat fullShare (tyArray (tyInt w32) 128) (past .18) 0 (only ((array-vals (uint-vals w32)) (ws-g .1 .1 .1 .0)))))
           (W .laws .raw-at fullShare (tyArray (tyInt w32) 128) (past .18) 0 (only ((array-vals (uint-vals w32)) (ws-g .1 .1 .1 .0)))) $
-          move ! (2 ∷ 3 ∷ []) $ join ! $ calls-fn ! fm table-len.ended (table-len.clauses 𝓤 H A at-mem run) (known .5) (to-table-len)
+          move ! (2 ∷ 3 ∷ []) $ join ! $ calls-fn ! fm table-len.ended (table-len.clauses 𝓤 H A at-mem run) (known .6) (to-table-len)
           (λ m ws-m. m ≡ length (x₃ .now)) (‵ (flft κ₃ q₃) ⊛ ‵ Own₃)
           (asks-table-len) (λ m ws-m. id⊢ 𝓤 _)
-          (and-then ! (load ! (from ! (stop !)) (look ! 51 refl)) (no-more !))
-          (λ m w-m ws-m e-m is-m. land ! (from ! (stop !)) (init ! 42 refl (uint-lawful 𝓤 H A W w64 .typed m _ is-m .0)) $
+          (and-then ! (load ! (from ! (stop !)) (look ! 52 refl)) (no-more !))
+          (λ m w-m ws-m e-m is-m. land ! (from ! (stop !)) (init ! 43 refl (uint-lawful 𝓤 H A W w64 .typed m _ is-m .0)) $
           spread W (‵ (flft κ₃ q₃)) (‵ ftrue ∷ []) (id⊢ 𝓤 _) $ move ! (2 ∷ []) $ spread W (‵ ftrue) (‵ ftrue ∷ []) (id⊢ 𝓤 _) $
           keep ! (2 ∷ 4 ∷ 5 ∷ 6 ∷ 7 ∷ 8 ∷ 9 ∷ 10 ∷ 11 ∷ 12 ∷ 13 ∷ 14 ∷ 15 ∷ 16 ∷ 17 ∷ 18 ∷ 19 ∷ 20 ∷ 21 ∷ 22 ∷ 23
           ∷ 24 ∷ 25 ∷ 26 ∷ 27 ∷ 28 ∷ 29 ∷ 30 ∷ 31 ∷ 32 ∷ 33 ∷ 34 ∷ 35 ∷ 36 ∷ 37 ∷ 38 ∷ 39 ∷ 40 ∷ 41 ∷ 42 ∷ 43 ∷ 44
-          ∷ 45 ∷ 46 ∷ 47 ∷ 48 ∷ 49 ∷ 50 ∷ 51 ∷ 52 ∷ 53 ∷ 54 ∷ 55 ∷ 56 ∷ 57 ∷ 58 ∷ []) $
+          ∷ 45 ∷ 46 ∷ 47 ∷ 48 ∷ 49 ∷ 50 ∷ 51 ∷ 52 ∷ 53 ∷ 54 ∷ 55 ∷ 56 ∷ 57 ∷ 58 ∷ 59 ∷ []) $
           -- [tok3; F:outstanding; F:clock; F:arrival; F:flight; F:settings; F:«waiting_numbers»; F:waiting; F:ready; F:transmissions;
           -- F:queued; back; opened; deaths; tok1; tok2; tok4; tok6; own1; own2; own4; own6; the locals]
           assigns ! {v = (vptr (past .18) 0)} (addr ! (from ! (stop !))) (from ! (stop !)) (init ! 32 refl (tt, tt)) $
@@ -1400,6 +1418,8 @@ module _ {M : Type 1} (𝓤 : URA M) (H : Heap 𝓤) (A : Atoms 𝓤) (W : Given
             (past .38),
             (past .39),
             (past .40),
+            (past .41),
+            (past .42),
             q′,
             len-queued,
             len-outstanding,
@@ -1441,46 +1461,46 @@ module _ {M : Type 1} (𝓤 : URA M) (H : Heap 𝓤) (A : Atoms 𝓤) (W : Given
           alloc1 ! (λ l₂₁. alloc1 ! (λ l₂₂. alloc1 ! (λ l₂₃.
           alloc1 ! (λ l₂₄. alloc1 ! (λ l₂₅. alloc1 ! (λ l₂₆.
           alloc1 ! (λ l₂₇. alloc1 ! (λ l₂₈. alloc1 ! (λ l₂₉.
-          alloc1 ! (λ l₃₀. alloc1 ! (λ l₃₁. alloc1 ! (λ l₃₂. alloc1 ! (λ l₃₃. alloc0 ! $ params1 ! $
-          pass1 ! (init ! 64 refl (tt, tt)) $ pass1 ! (init ! 62 refl (tt, (tt, (record { fits = room₁ .0 }, tt)))) $
-          pass1 ! (init ! 60 refl (tt, (tt, (record { fits = room₂ .0 }, tt)))) $
-          pass1 ! (init ! 58 refl (tt, (tt, (record { fits = room₃ .0 }, tt)))) $
-          pass1 ! (init ! 56 refl (tt, (tt, (record { fits = room₄ .0 }, tt)))) $
-          pass1 ! (init ! 54 refl (uint-lawful 𝓤 H A W w32 .typed x₅ _ g₅ .0)) $ pass1 ! (init ! 52 refl (tt, tt)) $ pass0 ! $
-          move ! (69 ∷ []) $ spread W (‵ (ShrRef (named 0) κ₀ L .own (ref-at b o γ h) (vptr b o ∷ [])))
+          alloc1 ! (λ l₃₀. alloc1 ! (λ l₃₁. alloc1 ! (λ l₃₂. alloc1 ! (λ l₃₃. alloc1 ! (λ l₃₄. alloc0 ! $ params1 ! $
+          pass1 ! (init ! 66 refl (tt, tt)) $ pass1 ! (init ! 64 refl (tt, (tt, (record { fits = room₁ .0 }, tt)))) $
+          pass1 ! (init ! 62 refl (tt, (tt, (record { fits = room₂ .0 }, tt)))) $
+          pass1 ! (init ! 60 refl (tt, (tt, (record { fits = room₃ .0 }, tt)))) $
+          pass1 ! (init ! 58 refl (tt, (tt, (record { fits = room₄ .0 }, tt)))) $
+          pass1 ! (init ! 56 refl (uint-lawful 𝓤 H A W w32 .typed x₅ _ g₅ .0)) $ pass1 ! (init ! 54 refl (tt, tt)) $ pass0 ! $
+          move ! (71 ∷ []) $ spread W (‵ (ShrRef (named 0) κ₀ L .own (ref-at b o γ h) (vptr b o ∷ [])))
           (‵ (ShrSlice (named 1) κ₁ u8 .own (x₁) (s₁ ∷ [])) ∷ ‵ (ShrSlice (named 2) κ₂ u8 .own (x₂) (s₂ ∷ []))
           ∷ ‵ (ShrSlice (named 3) κ₃ R .own (x₃) (s₃ ∷ [])) ∷ ‵ (ShrSlice (named 4) κ₄ u32 .own (x₄) (s₄ ∷ []))
           ∷ ‵ (u32 .own (x₅) (v₅ ∷ [])) ∷ ‵ (MutRef (named 5) κ₅ u32 .own (x₆) (s₆ ∷ [])) ∷ ‵ ftrue ∷ []) (id⊢ 𝓤 _) $
-          move ! (76 ∷ []) $ spread W (‵ (flft κ₀ q₀))
+          move ! (78 ∷ []) $ spread W (‵ (flft κ₀ q₀))
           (‵ (flft κ₁ q₁) ∷ ‵ (flft κ₂ q₂) ∷ ‵ (flft κ₃ q₃) ∷ ‵ (flft κ₄ q₄) ∷ ‵ (flft κ₅ q₅) ∷ ‵ ftrue
           ∷ []) (id⊢ 𝓤 _) $ keep ! (0 ∷ 1 ∷ 2 ∷ 3 ∷ 4 ∷ 5 ∷ 7 ∷ 8 ∷ 9 ∷ 10 ∷ 11 ∷ 13 ∷ 15 ∷ 16 ∷ 17 ∷ 18 ∷ 19 ∷ 20
           ∷ 21 ∷ 22 ∷ 23 ∷ 24 ∷ 25 ∷ 26 ∷ 27 ∷ 28 ∷ 29 ∷ 30 ∷ 31 ∷ 32 ∷ 33 ∷ 34 ∷ 35 ∷ 36 ∷ 37 ∷ 38 ∷ 39 ∷ 40 ∷ 41
           ∷ 42 ∷ 43 ∷ 44 ∷ 45 ∷ 46 ∷ 47 ∷ 48 ∷ 49 ∷ 50 ∷ 51 ∷ 52 ∷ 53 ∷ 54 ∷ 55 ∷ 56 ∷ 57 ∷ 58 ∷ 59 ∷ 60 ∷ 61 ∷ 62
-          ∷ 63 ∷ 64 ∷ 65 ∷ 66 ∷ 67 ∷ 68 ∷ 69 ∷ 70 ∷ 71 ∷ 72 ∷ 73 ∷ 74 ∷ 75 ∷ 76 ∷ 77 ∷ 78 ∷ 79 ∷ 80 ∷ 81 ∷ 82
-          ∷ []) $ move ! (79 ∷ 77 ∷ 75 ∷ 73 ∷ 71 ∷ 69 ∷ 67 ∷ 65 ∷ 63 ∷ 61 ∷ 59 ∷ 57 ∷ 55 ∷ 53 ∷ 51 ∷ 49 ∷ 47 ∷ 45 ∷ 43
-          ∷ 41 ∷ 39 ∷ 37 ∷ 35 ∷ 33 ∷ 31 ∷ 29 ∷ 27 ∷ 25 ∷ 23 ∷ 21 ∷ 19 ∷ 17 ∷ 15 ∷ 13 ∷ []) $ group ! 34 $
+          ∷ 63 ∷ 64 ∷ 65 ∷ 66 ∷ 67 ∷ 68 ∷ 69 ∷ 70 ∷ 71 ∷ 72 ∷ 73 ∷ 74 ∷ 75 ∷ 76 ∷ 77 ∷ 78 ∷ 79 ∷ 80 ∷ 81 ∷ 82 ∷ 83
+          ∷ 84 ∷ []) $ move ! (81 ∷ 79 ∷ 77 ∷ 75 ∷ 73 ∷ 71 ∷ 69 ∷ 67 ∷ 65 ∷ 63 ∷ 61 ∷ 59 ∷ 57 ∷ 55 ∷ 53 ∷ 51 ∷ 49 ∷ 47
+          ∷ 45 ∷ 43 ∷ 41 ∷ 39 ∷ 37 ∷ 35 ∷ 33 ∷ 31 ∷ 29 ∷ 27 ∷ 25 ∷ 23 ∷ 21 ∷ 19 ∷ 17 ∷ 15 ∷ 13 ∷ []) $ group ! 35 $
           -- [deaths; tok0; tok1; tok2; tok3; tok4; tok6; own0; own1; own2; own3; own4; own6; the locals]
-          nothing ! $ calls-fn ! fm marks-of.ended (marks-of.clauses 𝓤 H A at-mem run) (known .0) ((tt, tt, tt, tt, tt), tt)
-          (λ sends _. sends ≡ none)
+          nothing ! $ calls-fn ! fm send-marks-of.ended (send-marks-of.clauses 𝓤 H A at-mem run) (known .0) ((tt, tt, tt, tt, tt), tt)
+          (λ sends _. sends ≡ noneToSend)
           (‵ ftrue) (plainly 𝓤 H A W ([]) tt tt tt tt) (λ sends _. id⊢ 𝓤 _)
           (no-more !) (λ sends w-sends _ e-sends is-sends. drop ! $ drop ! $
-          land ! (from ! (stop !)) (init ! 27 refl (array-typed u8 (uint-lawful 𝓤 H A W w8 .typed) 256 sends (w-sends ∷ []) is-sends .0)) $
-          assigns ! {v = w-sends} (of-opd ! (load ! (from ! (stop !)) (look ! 27 refl))) (from ! (stop !))
-          (init ! 38 refl (array-typed u8 (uint-lawful 𝓤 H A W w8 .typed) 256 sends (w-sends ∷ []) is-sends .0)) $
-          nothing ! $ calls-fn ! fm marks-of.ended (marks-of.clauses 𝓤 H A at-mem run) (known .0) ((tt, tt, tt, tt, tt), tt)
+          land ! (from ! (stop !)) (init ! 28 refl (array-typed u8 (uint-lawful 𝓤 H A W w8 .typed) 128 sends (w-sends ∷ []) is-sends .0)) $
+          assigns ! {v = w-sends} (of-opd ! (load ! (from ! (stop !)) (look ! 28 refl))) (from ! (stop !))
+          (init ! 39 refl (array-typed u8 (uint-lawful 𝓤 H A W w8 .typed) 128 sends (w-sends ∷ []) is-sends .0)) $
+          nothing ! $ calls-fn ! fm marks-of.ended (marks-of.clauses 𝓤 H A at-mem run) (known .1) ((tt, tt, tt, tt, tt), tt)
           (λ receives _. receives ≡ none)
           (‵ ftrue) (plainly 𝓤 H A W ([]) tt tt tt tt) (λ receives _. id⊢ 𝓤 _)
           (no-more !) (λ receives w-receives _ e-receives is-receives. drop ! $ drop ! $
-          land ! (from ! (stop !)) (store ! 27 refl
-          (array-typed u8 (uint-lawful 𝓤 H A W w8 .typed) 256 receives (w-receives ∷ []) is-receives .0)) $
+          land ! (from ! (stop !)) (init ! 27 refl (array-typed u8 (uint-lawful 𝓤 H A W w8 .typed) 256 receives (w-receives ∷ [])
+          is-receives .0)) $
           assigns ! {v = w-receives} (of-opd ! (load ! (from ! (stop !)) (look ! 27 refl))) (from ! (stop !))
-          (init ! 37 refl (array-typed u8 (uint-lawful 𝓤 H A W w8 .typed) 256 receives (w-receives ∷ []) is-receives .0)) $
+          (init ! 38 refl (array-typed u8 (uint-lawful 𝓤 H A W w8 .typed) 256 receives (w-receives ∷ []) is-receives .0)) $
           assigns ! {v = (vptr l₈ 0)} (addr ! (from ! (stop !))) (from ! (stop !)) (init ! 26 refl (tt, tt)) $
           assigns ! {v = (vptr l₉ 0)} (addr ! (from ! (stop !))) (from ! (stop !)) (init ! 25 refl (tt, tt)) $
-          move ! (38 ∷ []) $ use1 W (‵ (cellAt fullShare ((tyArray (tyInt w8) 256) ∷ []) (w-sends ∷ []) l₈ 0))
-          (W .laws .at-raw fullShare (tyArray (tyInt w8) 256) l₈ 0 w-sends) $
-          cell-in ! fullShare (Array u8 256) (array-makes 𝓤 H A W u8 (uint-makes 𝓤 H A W w8) 256) sends l₈ 0 w-sends is-sends $
-          lend-mut ! tt (Array u8 256) sends l₈ 0 (λ α-sends δ-sends. move ! (40 ∷ []) $
+          move ! (39 ∷ []) $ use1 W (‵ (cellAt fullShare ((tyArray (tyInt w8) 128) ∷ []) (w-sends ∷ []) l₈ 0))
+          (W .laws .at-raw fullShare (tyArray (tyInt w8) 128) l₈ 0 w-sends) $
+          cell-in ! fullShare (Array u8 128) (array-makes 𝓤 H A W u8 (uint-makes 𝓤 H A W w8) 128) sends l₈ 0 w-sends is-sends $
+          lend-mut ! tt (Array u8 128) sends l₈ 0 (λ α-sends δ-sends. move ! (41 ∷ []) $
           use1 W (‵ (cellAt fullShare ((tyArray (tyInt w8) 256) ∷ []) (w-receives ∷ []) l₉ 0))
           (W .laws .at-raw fullShare (tyArray (tyInt w8) 256) l₉ 0 w-receives) $
           cell-in ! fullShare (Array u8 256) (array-makes 𝓤 H A W u8 (uint-makes 𝓤 H A W w8) 256) receives l₉ 0 w-receives is-receives $
@@ -1488,30 +1508,30 @@ module _ {M : Type 1} (𝓤 : URA M) (H : Heap 𝓤) (A : Atoms 𝓤) (W : Given
           (λ α-receives δ-receives. move ! (13 ∷ []) $
           use1 W (‵ (link-shr κ₀ b o γ h) ⊛ ‵ (link-shr κ₀ b o γ h))
           (shr-copy 𝓤 H A W (named 0) κ₀ L .twice (ref-at b o γ h) (vptr b o ∷ [])) $ split ! $ move ! (9 ∷ 0 ∷ 5 ∷ 6 ∷ 2 ∷ 3 ∷ []) $
-          group ! 6 $ calls-fn ! fm check.ended (check.clauses 𝓤 H A at-mem run) (known .1)
+          group ! 6 $ calls-fn ! fm check.ended (check.clauses 𝓤 H A at-mem run) (known .2)
           (to-check l₈ α-sends δ-sends sends l₉ α-receives δ-receives receives) (λ ok ws-ok. Sound h (ws-ok .1 .0) (ws-ok .1 .1 .0) ok)
           (‵ (flft κ₀ q₀) ⊛ ‵ (link-shr κ₀ b o γ h) ⊛ ‵ (flft (α-sends ∷ []) fullShare) ⊛ ‵
-          (MutRef (named 0) (α-sends ∷ []) (Array u8 256) .own (ref-at l₈ 0 δ-sends sends) ((vptr l₈ 0) ∷ [])) ⊛ ‵
+          (MutRef (named 0) (α-sends ∷ []) (Array u8 128) .own (ref-at l₈ 0 δ-sends sends) ((vptr l₈ 0) ∷ [])) ⊛ ‵
           (flft (α-receives ∷ []) fullShare) ⊛ ‵ (MutRef (named 0) (α-receives ∷ []) (Array u8 256) .own
           (ref-at l₉ 0 δ-receives receives) ((vptr l₉ 0) ∷ [])))
           (asks-check l₈ α-sends δ-sends sends l₉ α-receives δ-receives receives (e-sends, e-receives)) (λ ok ws-ok. id⊢ 𝓤 _)
-          (and-then ! (load ! (from ! (stop !)) (look ! 45 refl))
+          (and-then ! (load ! (from ! (stop !)) (look ! 46 refl))
           (and-then ! (load ! (from ! (stop !)) (look ! 28 refl)) (and-then ! (load ! (from ! (stop !)) (look ! 27 refl)) (no-more !))))
-          (λ ok w-ok ws-ok e-ok is-ok. land ! (from ! (stop !)) (init ! 39 refl (bool-lawful 𝓤 H A W .typed ok _ is-ok .0)) $
+          (λ ok w-ok ws-ok e-ok is-ok. land ! (from ! (stop !)) (init ! 40 refl (bool-lawful 𝓤 H A W .typed ok _ is-ok .0)) $
           spread W (‵ (flft κ₀ q₀)) (‵ (flft (α-sends ∷ []) fullShare) ∷ ‵ (flft (α-receives ∷ []) fullShare) ∷ ‵ ftrue ∷ [])
           (id⊢ 𝓤 _) $ move ! (4 ∷ []) $ spread W (‵ ftrue)
-          (‵ (fres δ-sends ((Array u8 256) .coded .code (ws-ok .1 .0)))
+          (‵ (fres δ-sends ((Array u8 128) .coded .code (ws-ok .1 .0)))
           ∷ ‵ (fres δ-receives ((Array u8 256) .coded .code (ws-ok .1 .1 .0))) ∷ ‵ ftrue ∷ []) (id⊢ 𝓤 _) $
           keep ! (1 ∷ 2 ∷ 4 ∷ 5 ∷ 6 ∷ 8 ∷ 9 ∷ 10 ∷ 11 ∷ 12 ∷ 13 ∷ 14 ∷ 15 ∷ 16 ∷ 17 ∷ 18 ∷ 19 ∷ 20 ∷ 21 ∷ 22 ∷ 23
           ∷ 24 ∷ 25 ∷ 26 ∷ 27 ∷ 28 ∷ 29 ∷ 30 ∷ 31 ∷ 32 ∷ 33 ∷ 34 ∷ 35 ∷ 36 ∷ 37 ∷ 38 ∷ 39 ∷ 40 ∷ 41 ∷ 42 ∷ 43 ∷ 44
-          ∷ 45 ∷ 46 ∷ 47 ∷ 48 ∷ 49 ∷ 50 ∷ 51 ∷ 52 ∷ 53 ∷ []) $
+          ∷ 45 ∷ 46 ∷ 47 ∷ 48 ∷ 49 ∷ 50 ∷ 51 ∷ 52 ∷ 53 ∷ 54 ∷ []) $
           -- [fin:@sends; fin:@receives; tok0; tok:@sends; tok:@receives; own0; lent:@receives; lent:@sends; deaths; tok1; tok2; tok3; tok4;
           -- tok6; own1; own2; own3; own4; own6; the locals]
-          move ! (3 ∷ 7 ∷ 0 ∷ []) $ back-mut ! tt (Array u8 256) l₈ 0 (ws-ok .1 .0) $
-          cell-out ! fullShare (Array u8 256) (array-vals (uint-vals w8)) (array-tells u8 (uint-vals w8) (uint-tells w8) 256)
+          move ! (3 ∷ 7 ∷ 0 ∷ []) $ back-mut ! tt (Array u8 128) l₈ 0 (ws-ok .1 .0) $
+          cell-out ! fullShare (Array u8 128) (array-vals (uint-vals w8)) (array-tells u8 (uint-vals w8) (uint-tells w8) 128)
           (ws-ok .1 .0) l₈ 0 (λ was-sends-1. use1 W
-          (‵ (fat fullShare (tyArray (tyInt w8) 256) l₈ 0 (only ((array-vals (uint-vals w8)) (ws-ok .1 .0)))))
-          (W .laws .raw-at fullShare (tyArray (tyInt w8) 256) l₈ 0 (only ((array-vals (uint-vals w8)) (ws-ok .1 .0)))) $
+          (‵ (fat fullShare (tyArray (tyInt w8) 128) l₈ 0 (only ((array-vals (uint-vals w8)) (ws-ok .1 .0)))))
+          (W .laws .raw-at fullShare (tyArray (tyInt w8) 128) l₈ 0 (only ((array-vals (uint-vals w8)) (ws-ok .1 .0)))) $
           move ! (3 ∷ 5 ∷ 1 ∷ []) $ back-mut ! tt (Array u8 256) l₉ 0 (ws-ok .1 .1 .0) $
           cell-out ! fullShare (Array u8 256) (array-vals (uint-vals w8)) (array-tells u8 (uint-vals w8) (uint-tells w8) 256)
           (ws-ok .1 .1 .0) l₉ 0 (λ was-receives-2. use1 W
@@ -1554,12 +1574,14 @@ module _ {M : Type 1} (𝓤 : URA M) (H : Heap 𝓤) (A : Atoms 𝓤) (W : Given
             l₃₁,
             l₃₂,
             l₃₃,
+            l₃₄,
+            w-sends,
             w-receives,
             ok,
             w-ok,
             e-ok,
             is-ok,
-          )))))))))))))))))))))))))))))))))))))))))))
+          ))))))))))))))))))))))))))))))))))))))))))))
 
   f-meets : (𝓣 : Tables 𝓤 H) → Known (𝓣 .C)
       → Meets 𝓤 H A f.signature (WpFn 𝓤 H (𝓣 .C) (𝓣 .Λ) code.function) (f.spec 𝓤 H A at-mem run)
@@ -1609,6 +1631,8 @@ check-spec 𝓤 H 𝓜 𝓖 𝓡 =
     entered 𝓤 H (tripleOf 𝓤 H (𝓖 .A) f.signature (f.spec 𝓤 H (𝓖 .A) (𝓜 .mem) (𝓡 .run)))
     (tables 𝓤 H 𝓜 𝓡 code.env .C) (tables 𝓤 H 𝓜 𝓡 code.env .Λ) #f code.function (code.unfolded 𝓤 H 𝓜 𝓡)
     (f-meets 𝓤 H (𝓖 .A) (givenOf 𝓤 H 𝓜 𝓖) (𝓜 .mem) (𝓡 .run) (tablesOf 𝓤 H 𝓜 (tables 𝓤 H 𝓜 𝓡 code.env)) (
+      cited 𝓤 H (tripleOf 𝓤 H (𝓖 .A) send-marks-of.signature (send-marks-of.spec 𝓤 H (𝓖 .A) (𝓜 .mem) (𝓡 .run))) 𝓜 𝓡 code.env
+          send-marks-of-def.name send-marks-of-def.routine code.calls-marks·none-to-send (send-marks-of-thm.met 𝓤 H 𝓜 𝓖 𝓡),
       cited 𝓤 H (tripleOf 𝓤 H (𝓖 .A) marks-of.signature (marks-of.spec 𝓤 H (𝓖 .A) (𝓜 .mem) (𝓡 .run))) 𝓜 𝓡 code.env marks-of-def.name
           marks-of-def.routine code.calls-marks·none (marks-of-thm.met 𝓤 H 𝓜 𝓖 𝓡),
       cited 𝓤 H (tripleOf 𝓤 H (𝓖 .A) check.signature (check.spec 𝓤 H (𝓖 .A) (𝓜 .mem) (𝓡 .run))) 𝓜 𝓡 code.env check-def.name

@@ -198,7 +198,7 @@ use lib.ListN.{take}
 use Rattle.protocol.specs.Protocol.{sendSlots}
 use Rattle.records.specs.Tables.{slotsIn, gathered, padded}
 use Rattle.control.specs.Views.{Whole, arrays, linkOf}
-use Rattle.marks.specs.Marks.{none}
+use Rattle.marks.specs.Marks.{none, noneToSend}
 use Rattle.checking.specs.Tests.{flightFits}
 use Rattle.checking.specs.Verdicts.{Flies, ByFlown, Sound, Sounds}
 use Rattle.promises.specs.Parts.{lentLengths, partsOf}
@@ -211,6 +211,9 @@ use Rattle.results.specs.PlaceCodes.{placeCode, placeStart}
 use Rattle.from_cores.proofs.Gathered.{gathers, padded-whole}
 use Rattle.from_cores.proofs.Asking.{shows-promised}
 use Rattle.asks.specs.Places.{PlacePromise}
+use Rattle.marks.proofs.none_to_send as send-marks-of
+use Rattle.marks.proofs.none_to_send.Symbol as send-marks-of-def
+use Rattle.marks.proofs.none_to_send.Met as send-marks-of-thm
 use Rattle.marks.proofs.none as marks-of
 use Rattle.marks.proofs.none.Symbol as marks-of-def
 use Rattle.marks.proofs.none.Met as marks-of-thm
@@ -246,7 +249,8 @@ stayed = (
 module _ {M : Type 1} (𝓤 : URA M) (H : Heap 𝓤) (A : Atoms 𝓤) (W : Given 𝓤 H A) (at-mem : Memory → SProp 𝓤) (run : Routine → Fun 𝓤) where
   -- what is known of the callees
   abbrev Known : Calls 𝓤 H → Type 1
-  Known C = Triple 𝓤 (C marks-of-def.name) (tripleOf 𝓤 H A marks-of.signature (marks-of.spec 𝓤 H A at-mem run))
+  Known C = Triple 𝓤 (C send-marks-of-def.name) (tripleOf 𝓤 H A send-marks-of.signature (send-marks-of.spec 𝓤 H A at-mem run))
+      × Triple 𝓤 (C marks-of-def.name) (tripleOf 𝓤 H A marks-of.signature (marks-of.spec 𝓤 H A at-mem run))
       × Triple 𝓤 (C check-def.name) (tripleOf 𝓤 H A check.signature (check.spec 𝓤 H A at-mem run))
       × Triple 𝓤 (C fit-def.name) (tripleOf 𝓤 H A fit.signature (fit.spec 𝓤 H A at-mem run))
       × Triple 𝓤 (C table-len-def.name) (tripleOf 𝓤 H A table-len.signature (table-len.spec 𝓤 H A at-mem run))
@@ -311,16 +315,16 @@ module _ {M : Type 1} (𝓤 : URA M) (H : Heap 𝓤) (A : Atoms 𝓤) (W : Given
     )
 
     asks-check : (p-sends : ℕ) (α-sends : ℕ) (δ-sends : GName) (f-sends : (List ℕ)) (p-receives : ℕ) (α-receives : ℕ) (δ-receives : GName)
-        (f-receives : (List ℕ)) → ((f-sends ≡ none) × (f-receives ≡ none))
+        (f-receives : (List ℕ)) → ((f-sends ≡ noneToSend) × (f-receives ≡ none))
         → ent 𝓤 (⋆ 𝓤 H A (‵ (flft κ₀ q₀) ∷ ‵ (link-shr κ₀ b o γ h) ∷ ‵ (flft (α-sends ∷ []) fullShare)
-        ∷ ‵ (MutRef (named 0) (α-sends ∷ []) (Array u8 256) .own (ref-at p-sends 0 δ-sends f-sends) ((vptr p-sends 0) ∷ []))
+        ∷ ‵ (MutRef (named 0) (α-sends ∷ []) (Array u8 128) .own (ref-at p-sends 0 δ-sends f-sends) ((vptr p-sends 0) ∷ []))
         ∷ ‵ (flft (α-receives ∷ []) fullShare)
         ∷ ‵ (MutRef (named 0) (α-receives ∷ []) (Array u8 256) .own (ref-at p-receives 0 δ-receives f-receives) ((vptr p-receives 0) ∷ []))
         ∷ [])) (tripleOf 𝓤 H A check.signature (check.spec 𝓤 H A at-mem run) .pre
         (to-check p-sends α-sends δ-sends f-sends p-receives α-receives δ-receives f-receives))
     asks-check p-sends α-sends δ-sends f-sends p-receives α-receives δ-receives f-receives req =
         qed W (‵ (flft κ₀ q₀) ∷ ‵ (link-shr κ₀ b o γ h) ∷ ‵ (flft (α-sends ∷ []) fullShare)
-        ∷ ‵ (MutRef (named 0) (α-sends ∷ []) (Array u8 256) .own (ref-at p-sends 0 δ-sends f-sends) ((vptr p-sends 0) ∷ []))
+        ∷ ‵ (MutRef (named 0) (α-sends ∷ []) (Array u8 128) .own (ref-at p-sends 0 δ-sends f-sends) ((vptr p-sends 0) ∷ []))
         ∷ ‵ (flft (α-receives ∷ []) fullShare)
         ∷ ‵ (MutRef (named 0) (α-receives ∷ []) (Array u8 256) .own (ref-at p-receives 0 δ-receives f-receives)
         ((vptr p-receives 0) ∷ [])) ∷ []) ∵ says ! req $ nothing ! $ move ! (5 ∷ 0 ∷ []) $ join ! $ move ! (3 ∷ 0 ∷ []) $ join ! $
@@ -556,12 +560,12 @@ module _ {M : Type 1} (𝓤 : URA M) (H : Heap 𝓤) (A : Atoms 𝓤) (W : Given
     module _ (C : Calls 𝓤 H) (Λ : Loops 𝓤 H) (fm : FmC 𝓤 H (W .laws) C) (known : Known C) where
       -- where the locals lie
       abbrev En : (l₀ l₁ l₂ l₃ l₄ l₅ l₆ l₇ l₈ l₉ l₁₀ l₁₁ l₁₂ l₁₃ l₁₄ l₁₅ l₁₆ l₁₇ l₁₈ l₁₉ l₂₀
-          l₂₁ l₂₂ l₂₃ l₂₄ l₂₅ l₂₆ l₂₇ : ℕ) → Env 𝓤 H
+          l₂₁ l₂₂ l₂₃ l₂₄ l₂₅ l₂₆ l₂₇ l₂₈ : ℕ) → Env 𝓤 H
       En l₀ l₁ l₂ l₃ l₄ l₅ l₆ l₇ l₈ l₉ l₁₀ l₁₁ l₁₂ l₁₃ l₁₄ l₁₅ l₁₆ l₁₇ l₁₈ l₁₉ l₂₀ l₂₁
-          l₂₂ l₂₃ l₂₄ l₂₅ l₂₆ l₂₇ = envOf (code.function .locals)
+          l₂₂ l₂₃ l₂₄ l₂₅ l₂₆ l₂₇ l₂₈ = envOf (code.function .locals)
           (l₀ ∷ l₁ ∷ l₂ ∷ l₃ ∷ l₄ ∷ l₅ ∷ l₆ ∷ l₇ ∷ l₈ ∷ l₉ ∷ l₁₀ ∷ l₁₁ ∷ l₁₂ ∷ l₁₃ ∷ l₁₄
           ∷ l₁₅ ∷ l₁₆ ∷ l₁₇ ∷ l₁₈ ∷ l₁₉ ∷ l₂₀ ∷ l₂₁ ∷ l₂₂ ∷ l₂₃ ∷ l₂₄ ∷ l₂₅ ∷ l₂₆
-          ∷ l₂₇ ∷ [])
+          ∷ l₂₇ ∷ l₂₈ ∷ [])
 
       -- what part 3 knows
       abbrev Known₃ : Type 0
@@ -569,7 +573,7 @@ module _ {M : Type 1} (𝓤 : URA M) (H : Heap 𝓤) (A : Atoms 𝓤) (W : Given
           (l₅ : ℕ) × (l₆ : ℕ) × (l₇ : ℕ) × (l₈ : ℕ) × (l₉ : ℕ) × (l₁₀ : ℕ) × (l₁₁ : ℕ) × (l₁₂ : ℕ) ×
           (l₁₃ : ℕ) × (l₁₄ : ℕ) × (l₁₅ : ℕ) × (l₁₆ : ℕ) × (l₁₇ : ℕ) × (l₁₈ : ℕ) × (l₁₉ : ℕ) ×
           (l₂₀ : ℕ) × (l₂₁ : ℕ) × (l₂₂ : ℕ) × (l₂₃ : ℕ) × (l₂₄ : ℕ) × (l₂₅ : ℕ) × (l₂₆ : ℕ) ×
-          (l₂₇ : ℕ) × (w-receives : Val) × (w-ok : Val) × (q′ : Share) × (fl : Bool) × (w-fl : Val) ×
+          (l₂₇ : ℕ) × (l₂₈ : ℕ) × (w-sends : Val) × (w-receives : Val) × (w-ok : Val) × (q′ : Share) × (fl : Bool) × (w-fl : Val) ×
           (e-fl : fl ≡ flightFits (h .settings .mode) (h .flight .una) (h .flight .next)
           (take (h .flight .outstanding) (padded (gathered (take sendSlots (x₃ .now))
           (slotsIn (h .outstanding) (h .flight .outstanding)))))) × (m : ℕ) × (w-m : Val) × (e-m : m ≡ length (x₃ .now)) × (a : Place) ×
@@ -577,51 +581,52 @@ module _ {M : Type 1} (𝓤 : URA M) (H : Heap 𝓤) (A : Atoms 𝓤) (W : Given
           (placeOf (showsWith h recs (x₄ .now) (lentLengths m (x₁ .now) (x₂ .now) (x₄ .now)))) (length (x₂ .now)) a)) ×
           (Is place-row.the-row a (w-a ∷ []))
 
-      part₃ : (past : Known₃) → ent 𝓤 (⋆ 𝓤 H A (‵ (partAt (Array u32 128) (past .32) (h .«waiting_numbers») b (o + 1820))
-          ∷ ‵ (partAt (Array u32 128) (past .32) (h .waiting) b (o + 1308)) ∷ ‵ (partAt (Array u32 128) (past .32) (h .ready) b (o + 796))
-          ∷ ‵ (partAt (Array u8 32) (past .32) (h .transmissions) b (o + 764))
-          ∷ ‵ (partAt (Array u32 32) (past .32) (h .outstanding) b (o + 636))
-          ∷ ‵ (partAt (Array u32 128) (past .32) (h .queued) b (o + 124)) ∷ ‵ (flft κ₁ q₁) ∷ ‵ (flft κ₂ q₂) ∷ ‵ (flft κ₄ q₄)
-          ∷ ‵ (flft κ₃ q₃) ∷ ‵ (partAt clock-row.the-row (past .32) (h .clock) b (o + 104))
-          ∷ ‵ (partAt arrival-row.the-row (past .32) (h .arrival) b (o + 72))
-          ∷ ‵ (partAt flight-row.the-row (past .32) (h .flight) b (o + 16))
-          ∷ ‵ (partAt settings-row.the-row (past .32) (h .settings) b (o + 0)) ∷ raw (Back 𝓤 H A (past .32) b o)
-          ∷ ‵ (fobor κ₀ q₀ (partAt L (past .32) h b o))
+      part₃ : (past : Known₃) → ent 𝓤 (⋆ 𝓤 H A (‵ (partAt (Array u32 128) (past .34) (h .«waiting_numbers») b (o + 1820))
+          ∷ ‵ (partAt (Array u32 128) (past .34) (h .waiting) b (o + 1308)) ∷ ‵ (partAt (Array u32 128) (past .34) (h .ready) b (o + 796))
+          ∷ ‵ (partAt (Array u8 32) (past .34) (h .transmissions) b (o + 764))
+          ∷ ‵ (partAt (Array u32 32) (past .34) (h .outstanding) b (o + 636))
+          ∷ ‵ (partAt (Array u32 128) (past .34) (h .queued) b (o + 124)) ∷ ‵ (flft κ₁ q₁) ∷ ‵ (flft κ₂ q₂) ∷ ‵ (flft κ₄ q₄)
+          ∷ ‵ (flft κ₃ q₃) ∷ ‵ (partAt clock-row.the-row (past .34) (h .clock) b (o + 104))
+          ∷ ‵ (partAt arrival-row.the-row (past .34) (h .arrival) b (o + 72))
+          ∷ ‵ (partAt flight-row.the-row (past .34) (h .flight) b (o + 16))
+          ∷ ‵ (partAt settings-row.the-row (past .34) (h .settings) b (o + 0)) ∷ raw (Back 𝓤 H A (past .34) b o)
+          ∷ ‵ (fobor κ₀ q₀ (partAt L (past .34) h b o))
           ∷ ‵ (fat fullShare (tyArray (tyInt w8) 256) (past .10) 0 ((only ((array-vals (uint-vals w8)) (past .0)))))
-          ∷ ‵ (fat fullShare (tyArray (tyInt w8) 256) (past .9) 0 ((only ((array-vals (uint-vals w8)) (past .1)))))
+          ∷ ‵ (fat fullShare (tyArray (tyInt w8) 128) (past .9) 0 ((only ((array-vals (uint-vals w8)) (past .1)))))
           ∷ (‵ (fdies (tyInt w32) (past .2)) ⊛ ‵ (fdies (tyRef (named 0) imm (pointee (L .written))) (past .3)) ⊛ ‵
           (fdies (sliceTy (tyRef (named 1) imm (tyInt w8))) (past .4)) ⊛ ‵ (fdies (sliceTy (tyRef (named 2) imm (tyInt w8))) (past .5)) ⊛ ‵
           (fdies (sliceTy (tyRef (named 3) imm (pointee (R .written)))) (past .6)) ⊛ ‵
           (fdies (sliceTy (tyRef (named 4) imm (tyInt w32))) (past .7)) ⊛ ‵ (fdies (tyRef (named 5) mut (tyInt w32)) (past .8)) ⊛ ‵
-          (fdies (tyArray (tyInt w8) 256) (past .9)) ⊛ ‵ (fdies (tyArray (tyInt w8) 256) (past .10)) ⊛ ‵ (fdies tyBool (past .11)) ⊛ ‵
+          (fdies (tyArray (tyInt w8) 128) (past .9)) ⊛ ‵ (fdies (tyArray (tyInt w8) 256) (past .10)) ⊛ ‵ (fdies tyBool (past .11)) ⊛ ‵
           (fdies settings-laws.mir (past .12)) ⊛ ‵ (fdies flight-laws.mir (past .13)) ⊛ ‵ (fdies arrival-laws.mir (past .14)) ⊛ ‵
           (fdies clock-laws.mir (past .15)) ⊛ ‵ (fdies tyBool (past .16)) ⊛ ‵ (fdies (tyInt w64) (past .17)) ⊛ ‵
-          (fdies place-laws.mir (past .18)) ⊛ ‵ (fdies (tyArray (tyInt w8) 256) (past .19)) ⊛ ‵
-          (fdies (tyRef erased mut (tyArray (tyInt w8) 256)) (past .20)) ⊛ ‵ (fdies (tyRef erased mut (tyArray (tyInt w8) 256)) (past .21))
-          ⊛ ‵ (fdies (tyRef erased imm (tyArray (tyInt w32) 32)) (past .22)) ⊛ ‵
-          (fdies (tyRef erased imm (tyArray (tyInt w32) 128)) (past .23)) ⊛ ‵ (fdies (tyRef erased imm (tyArray (tyInt w32) 32)) (past .24))
-          ⊛ ‵ (fdies (tyRef erased imm (tyArray (tyInt w8) 32)) (past .25)) ⊛ ‵
-          (fdies (tyRef erased imm (tyArray (tyInt w32) 128)) (past .26)) ⊛ ‵
-          (fdies (tyRef erased imm (tyArray (tyInt w32) 128)) (past .27)) ⊛ ‵
-          (fdies (tyRef erased imm (tyArray (tyInt w32) 128)) (past .28)) ⊛ ‵ (fdies (tyRef erased mut (tyInt w32)) (past .29)))
-          ∷ ‵ (flft κ₅ q₅) ∷ ‵ Own₅ ∷ ‵ (froom (tyRef erased mut (tyInt w32)) (past .29) 0)
-          ∷ ‵ (fat fullShare (tyRef erased imm (tyArray (tyInt w32) 128)) (past .28) 0 ((vptr b (o + 1820))))
-          ∷ ‵ (fat fullShare (tyRef erased imm (tyArray (tyInt w32) 128)) (past .27) 0 ((vptr b (o + 1308))))
-          ∷ ‵ (fat fullShare (tyRef erased imm (tyArray (tyInt w32) 128)) (past .26) 0 ((vptr b (o + 796))))
-          ∷ ‵ (fat fullShare (tyRef erased imm (tyArray (tyInt w8) 32)) (past .25) 0 ((vptr b (o + 764))))
-          ∷ ‵ (fat fullShare (tyRef erased imm (tyArray (tyInt w32) 32)) (past .24) 0 ((vptr b (o + 636))))
-          ∷ ‵ (fat fullShare (tyRef erased imm (tyArray (tyInt w32) 128)) (past .23) 0 ((vptr b (o + 124))))
-          ∷ ‵ (fat fullShare (tyRef erased imm (tyArray (tyInt w32) 32)) (past .22) 0 ((vptr b (o + 636))))
-          ∷ ‵ (fat fullShare (tyRef erased mut (tyArray (tyInt w8) 256)) (past .21) 0 ((vptr (past .10) 0)))
-          ∷ ‵ (fat fullShare (tyRef erased mut (tyArray (tyInt w8) 256)) (past .20) 0 ((vptr (past .9) 0)))
-          ∷ ‵ (fat fullShare (tyArray (tyInt w8) 256) (past .19) 0 ((past .30)))
-          ∷ ‵ (fat fullShare place-laws.mir (past .18) 0 ((past .40))) ∷ ‵ (fat fullShare (tyInt w64) (past .17) 0 ((past .37)))
-          ∷ ‵ (fat fullShare tyBool (past .16) 0 ((past .34)))
+          (fdies place-laws.mir (past .18)) ⊛ ‵ (fdies (tyArray (tyInt w8) 128) (past .19)) ⊛ ‵ (fdies (tyArray (tyInt w8) 256) (past .20))
+          ⊛ ‵ (fdies (tyRef erased mut (tyArray (tyInt w8) 128)) (past .21)) ⊛ ‵
+          (fdies (tyRef erased mut (tyArray (tyInt w8) 256)) (past .22)) ⊛ ‵ (fdies (tyRef erased imm (tyArray (tyInt w32) 32)) (past .23))
+          ⊛ ‵ (fdies (tyRef erased imm (tyArray (tyInt w32) 128)) (past .24)) ⊛ ‵
+          (fdies (tyRef erased imm (tyArray (tyInt w32) 32)) (past .25)) ⊛ ‵ (fdies (tyRef erased imm (tyArray (tyInt w8) 32)) (past .26)) ⊛
+          ‵ (fdies (tyRef erased imm (tyArray (tyInt w32) 128)) (past .27)) ⊛ ‵
+          (fdies (tyRef erased imm (tyArray (tyInt w32) 128)) (past .28)) ⊛ ‵
+          (fdies (tyRef erased imm (tyArray (tyInt w32) 128)) (past .29)) ⊛ ‵ (fdies (tyRef erased mut (tyInt w32)) (past .30)))
+          ∷ ‵ (flft κ₅ q₅) ∷ ‵ Own₅ ∷ ‵ (froom (tyRef erased mut (tyInt w32)) (past .30) 0)
+          ∷ ‵ (fat fullShare (tyRef erased imm (tyArray (tyInt w32) 128)) (past .29) 0 ((vptr b (o + 1820))))
+          ∷ ‵ (fat fullShare (tyRef erased imm (tyArray (tyInt w32) 128)) (past .28) 0 ((vptr b (o + 1308))))
+          ∷ ‵ (fat fullShare (tyRef erased imm (tyArray (tyInt w32) 128)) (past .27) 0 ((vptr b (o + 796))))
+          ∷ ‵ (fat fullShare (tyRef erased imm (tyArray (tyInt w8) 32)) (past .26) 0 ((vptr b (o + 764))))
+          ∷ ‵ (fat fullShare (tyRef erased imm (tyArray (tyInt w32) 32)) (past .25) 0 ((vptr b (o + 636))))
+          ∷ ‵ (fat fullShare (tyRef erased imm (tyArray (tyInt w32) 128)) (past .24) 0 ((vptr b (o + 124))))
+          ∷ ‵ (fat fullShare (tyRef erased imm (tyArray (tyInt w32) 32)) (past .23) 0 ((vptr b (o + 636))))
+          ∷ ‵ (fat fullShare (tyRef erased mut (tyArray (tyInt w8) 256)) (past .22) 0 ((vptr (past .10) 0)))
+          ∷ ‵ (fat fullShare (tyRef erased mut (tyArray (tyInt w8) 128)) (past .21) 0 ((vptr (past .9) 0)))
+          ∷ ‵ (fat fullShare (tyArray (tyInt w8) 256) (past .20) 0 ((past .32)))
+          ∷ ‵ (fat fullShare (tyArray (tyInt w8) 128) (past .19) 0 ((past .31)))
+          ∷ ‵ (fat fullShare place-laws.mir (past .18) 0 ((past .42))) ∷ ‵ (fat fullShare (tyInt w64) (past .17) 0 ((past .39)))
+          ∷ ‵ (fat fullShare tyBool (past .16) 0 ((past .36)))
           ∷ ‵ (fat fullShare clock-laws.mir (past .15) 0 ((only ((LL.vals clock-row.the-type clock-laws.the-laws) (h .clock)))))
           ∷ ‵ (fat fullShare arrival-laws.mir (past .14) 0 ((only ((LL.vals arrival-row.the-type arrival-laws.the-laws) (h .arrival)))))
           ∷ ‵ (fat fullShare flight-laws.mir (past .13) 0 ((only ((LL.vals flight-row.the-type flight-laws.the-laws) (h .flight)))))
           ∷ ‵ (fat fullShare settings-laws.mir (past .12) 0 ((only ((LL.vals settings-row.the-type settings-laws.the-laws) (h .settings)))))
-          ∷ ‵ (fat fullShare tyBool (past .11) 0 ((past .31))) ∷ ‵ (fat fullShare (tyRef (named 5) mut (tyInt w32)) (past .8) 0 (s₅))
+          ∷ ‵ (fat fullShare tyBool (past .11) 0 ((past .33))) ∷ ‵ (fat fullShare (tyRef (named 5) mut (tyInt w32)) (past .8) 0 (s₅))
           ∷ ‵ (fat fullShare (sliceTy (tyRef (named 4) imm (tyInt w32))) (past .7) 0 (s₄))
           ∷ ‵ (fat fullShare (sliceTy (tyRef (named 3) imm (pointee (R .written)))) (past .6) 0 (s₃))
           ∷ ‵ (fat fullShare (sliceTy (tyRef (named 2) imm (tyInt w8))) (past .5) 0 (s₂))
@@ -629,60 +634,61 @@ module _ {M : Type 1} (𝓤 : URA M) (H : Heap 𝓤) (A : Atoms 𝓤) (W : Given
           ∷ ‵ (fat fullShare (tyRef (named 0) imm (pointee (L .written))) (past .3) 0 (vptr b o)) ∷ ‵ (froom (tyInt w32) (past .2) 0) ∷ []))
           (Wp 𝓤 H C Λ (En (past .2) (past .3) (past .4) (past .5) (past .6) (past .7) (past .8) (past .9) (past .10) (past .11) (past .12)
           (past .13) (past .14) (past .15) (past .16) (past .17) (past .18) (past .19) (past .20) (past .21) (past .22) (past .23)
-          (past .24) (past .25) (past .26) (past .27) (past .28) (past .29)) (behind 21 (code.function .body))
+          (past .24) (past .25) (past .26) (past .27) (past .28) (past .29) (past .30)) (behind 21 (code.function .body))
           (atReturn 𝓤 H (En (past .2) (past .3) (past .4) (past .5) (past .6) (past .7) (past .8) (past .9) (past .10) (past .11) (past .12)
           (past .13) (past .14) (past .15) (past .16) (past .17) (past .18) (past .19) (past .20) (past .21) (past .22) (past .23)
-          (past .24) (past .25) (past .26) (past .27) (past .28) (past .29)) Post))
+          (past .24) (past .25) (past .26) (past .27) (past .28) (past .29) (past .30)) Post))
       part₃ past =
-          qed W (‵ (partAt (Array u32 128) (past .32) (h .«waiting_numbers») b (o + 1820))
-          ∷ ‵ (partAt (Array u32 128) (past .32) (h .waiting) b (o + 1308))
-          ∷ ‵ (partAt (Array u32 128) (past .32) (h .ready) b (o + 796))
-          ∷ ‵ (partAt (Array u8 32) (past .32) (h .transmissions) b (o + 764))
-          ∷ ‵ (partAt (Array u32 32) (past .32) (h .outstanding) b (o + 636))
-          ∷ ‵ (partAt (Array u32 128) (past .32) (h .queued) b (o + 124)) ∷ ‵ (flft κ₁ q₁) ∷ ‵ (flft κ₂ q₂) ∷ ‵ (flft κ₄ q₄)
-          ∷ ‵ (flft κ₃ q₃) ∷ ‵ (partAt clock-row.the-row (past .32) (h .clock) b (o + 104))
-          ∷ ‵ (partAt arrival-row.the-row (past .32) (h .arrival) b (o + 72))
-          ∷ ‵ (partAt flight-row.the-row (past .32) (h .flight) b (o + 16))
-          ∷ ‵ (partAt settings-row.the-row (past .32) (h .settings) b (o + 0)) ∷ raw (Back 𝓤 H A (past .32) b o)
-          ∷ ‵ (fobor κ₀ q₀ (partAt L (past .32) h b o))
+          qed W (‵ (partAt (Array u32 128) (past .34) (h .«waiting_numbers») b (o + 1820))
+          ∷ ‵ (partAt (Array u32 128) (past .34) (h .waiting) b (o + 1308))
+          ∷ ‵ (partAt (Array u32 128) (past .34) (h .ready) b (o + 796))
+          ∷ ‵ (partAt (Array u8 32) (past .34) (h .transmissions) b (o + 764))
+          ∷ ‵ (partAt (Array u32 32) (past .34) (h .outstanding) b (o + 636))
+          ∷ ‵ (partAt (Array u32 128) (past .34) (h .queued) b (o + 124)) ∷ ‵ (flft κ₁ q₁) ∷ ‵ (flft κ₂ q₂) ∷ ‵ (flft κ₄ q₄)
+          ∷ ‵ (flft κ₃ q₃) ∷ ‵ (partAt clock-row.the-row (past .34) (h .clock) b (o + 104))
+          ∷ ‵ (partAt arrival-row.the-row (past .34) (h .arrival) b (o + 72))
+          ∷ ‵ (partAt flight-row.the-row (past .34) (h .flight) b (o + 16))
+          ∷ ‵ (partAt settings-row.the-row (past .34) (h .settings) b (o + 0)) ∷ raw (Back 𝓤 H A (past .34) b o)
+          ∷ ‵ (fobor κ₀ q₀ (partAt L (past .34) h b o))
           ∷ ‵ (fat fullShare (tyArray (tyInt w8) 256) (past .10) 0 ((only ((array-vals (uint-vals w8)) (past .0)))))
-          ∷ ‵ (fat fullShare (tyArray (tyInt w8) 256) (past .9) 0 ((only ((array-vals (uint-vals w8)) (past .1)))))
+          ∷ ‵ (fat fullShare (tyArray (tyInt w8) 128) (past .9) 0 ((only ((array-vals (uint-vals w8)) (past .1)))))
           ∷ (‵ (fdies (tyInt w32) (past .2)) ⊛ ‵ (fdies (tyRef (named 0) imm (pointee (L .written))) (past .3)) ⊛ ‵
           (fdies (sliceTy (tyRef (named 1) imm (tyInt w8))) (past .4)) ⊛ ‵ (fdies (sliceTy (tyRef (named 2) imm (tyInt w8))) (past .5))
           ⊛ ‵ (fdies (sliceTy (tyRef (named 3) imm (pointee (R .written)))) (past .6)) ⊛ ‵
           (fdies (sliceTy (tyRef (named 4) imm (tyInt w32))) (past .7)) ⊛ ‵ (fdies (tyRef (named 5) mut (tyInt w32)) (past .8)) ⊛ ‵
-          (fdies (tyArray (tyInt w8) 256) (past .9)) ⊛ ‵ (fdies (tyArray (tyInt w8) 256) (past .10)) ⊛ ‵ (fdies tyBool (past .11)) ⊛ ‵
+          (fdies (tyArray (tyInt w8) 128) (past .9)) ⊛ ‵ (fdies (tyArray (tyInt w8) 256) (past .10)) ⊛ ‵ (fdies tyBool (past .11)) ⊛ ‵
           (fdies settings-laws.mir (past .12)) ⊛ ‵ (fdies flight-laws.mir (past .13)) ⊛ ‵ (fdies arrival-laws.mir (past .14)) ⊛ ‵
           (fdies clock-laws.mir (past .15)) ⊛ ‵ (fdies tyBool (past .16)) ⊛ ‵ (fdies (tyInt w64) (past .17)) ⊛ ‵
-          (fdies place-laws.mir (past .18)) ⊛ ‵ (fdies (tyArray (tyInt w8) 256) (past .19)) ⊛ ‵
-          (fdies (tyRef erased mut (tyArray (tyInt w8) 256)) (past .20)) ⊛ ‵
-          (fdies (tyRef erased mut (tyArray (tyInt w8) 256)) (past .21)) ⊛ ‵
-          (fdies (tyRef erased imm (tyArray (tyInt w32) 32)) (past .22)) ⊛ ‵
-          (fdies (tyRef erased imm (tyArray (tyInt w32) 128)) (past .23)) ⊛ ‵
-          (fdies (tyRef erased imm (tyArray (tyInt w32) 32)) (past .24)) ⊛ ‵
-          (fdies (tyRef erased imm (tyArray (tyInt w8) 32)) (past .25)) ⊛ ‵
-          (fdies (tyRef erased imm (tyArray (tyInt w32) 128)) (past .26)) ⊛ ‵
+          (fdies place-laws.mir (past .18)) ⊛ ‵ (fdies (tyArray (tyInt w8) 128) (past .19)) ⊛ ‵
+          (fdies (tyArray (tyInt w8) 256) (past .20)) ⊛ ‵ (fdies (tyRef erased mut (tyArray (tyInt w8) 128)) (past .21)) ⊛ ‵
+          (fdies (tyRef erased mut (tyArray (tyInt w8) 256)) (past .22)) ⊛ ‵
+          (fdies (tyRef erased imm (tyArray (tyInt w32) 32)) (past .23)) ⊛ ‵
+          (fdies (tyRef erased imm (tyArray (tyInt w32) 128)) (past .24)) ⊛ ‵
+          (fdies (tyRef erased imm (tyArray (tyInt w32) 32)) (past .25)) ⊛ ‵
+          (fdies (tyRef erased imm (tyArray (tyInt w8) 32)) (past .26)) ⊛ ‵
           (fdies (tyRef erased imm (tyArray (tyInt w32) 128)) (past .27)) ⊛ ‵
-          (fdies (tyRef erased imm (tyArray (tyInt w32) 128)) (past .28)) ⊛ ‵ (fdies (tyRef erased mut (tyInt w32)) (past .29)))
-          ∷ ‵ (flft κ₅ q₅) ∷ ‵ Own₅ ∷ ‵ (froom (tyRef erased mut (tyInt w32)) (past .29) 0)
-          ∷ ‵ (fat fullShare (tyRef erased imm (tyArray (tyInt w32) 128)) (past .28) 0 ((vptr b (o + 1820))))
-          ∷ ‵ (fat fullShare (tyRef erased imm (tyArray (tyInt w32) 128)) (past .27) 0 ((vptr b (o + 1308))))
-          ∷ ‵ (fat fullShare (tyRef erased imm (tyArray (tyInt w32) 128)) (past .26) 0 ((vptr b (o + 796))))
-          ∷ ‵ (fat fullShare (tyRef erased imm (tyArray (tyInt w8) 32)) (past .25) 0 ((vptr b (o + 764))))
-          ∷ ‵ (fat fullShare (tyRef erased imm (tyArray (tyInt w32) 32)) (past .24) 0 ((vptr b (o + 636))))
-          ∷ ‵ (fat fullShare (tyRef erased imm (tyArray (tyInt w32) 128)) (past .23) 0 ((vptr b (o + 124))))
-          ∷ ‵ (fat fullShare (tyRef erased imm (tyArray (tyInt w32) 32)) (past .22) 0 ((vptr b (o + 636))))
-          ∷ ‵ (fat fullShare (tyRef erased mut (tyArray (tyInt w8) 256)) (past .21) 0 ((vptr (past .10) 0)))
-          ∷ ‵ (fat fullShare (tyRef erased mut (tyArray (tyInt w8) 256)) (past .20) 0 ((vptr (past .9) 0)))
-          ∷ ‵ (fat fullShare (tyArray (tyInt w8) 256) (past .19) 0 ((past .30)))
-          ∷ ‵ (fat fullShare place-laws.mir (past .18) 0 ((past .40))) ∷ ‵ (fat fullShare (tyInt w64) (past .17) 0 ((past .37)))
-          ∷ ‵ (fat fullShare tyBool (past .16) 0 ((past .34)))
+          (fdies (tyRef erased imm (tyArray (tyInt w32) 128)) (past .28)) ⊛ ‵
+          (fdies (tyRef erased imm (tyArray (tyInt w32) 128)) (past .29)) ⊛ ‵ (fdies (tyRef erased mut (tyInt w32)) (past .30)))
+          ∷ ‵ (flft κ₅ q₅) ∷ ‵ Own₅ ∷ ‵ (froom (tyRef erased mut (tyInt w32)) (past .30) 0)
+          ∷ ‵ (fat fullShare (tyRef erased imm (tyArray (tyInt w32) 128)) (past .29) 0 ((vptr b (o + 1820))))
+          ∷ ‵ (fat fullShare (tyRef erased imm (tyArray (tyInt w32) 128)) (past .28) 0 ((vptr b (o + 1308))))
+          ∷ ‵ (fat fullShare (tyRef erased imm (tyArray (tyInt w32) 128)) (past .27) 0 ((vptr b (o + 796))))
+          ∷ ‵ (fat fullShare (tyRef erased imm (tyArray (tyInt w8) 32)) (past .26) 0 ((vptr b (o + 764))))
+          ∷ ‵ (fat fullShare (tyRef erased imm (tyArray (tyInt w32) 32)) (past .25) 0 ((vptr b (o + 636))))
+          ∷ ‵ (fat fullShare (tyRef erased imm (tyArray (tyInt w32) 128)) (past .24) 0 ((vptr b (o + 124))))
+          ∷ ‵ (fat fullShare (tyRef erased imm (tyArray (tyInt w32) 32)) (past .23) 0 ((vptr b (o + 636))))
+          ∷ ‵ (fat fullShare (tyRef erased mut (tyArray (tyInt w8) 256)) (past .22) 0 ((vptr (past .10) 0)))
+          ∷ ‵ (fat fullShare (tyRef erased mut (tyArray (tyInt w8) 128)) (past .21) 0 ((vptr (past .9) 0)))
+          ∷ ‵ (fat fullShare (tyArray (tyInt w8) 256) (past .20) 0 ((past .32)))
+          ∷ ‵ (fat fullShare (tyArray (tyInt w8) 128) (past .19) 0 ((past .31)))
+          ∷ ‵ (fat fullShare place-laws.mir (past .18) 0 ((past .42))) ∷ ‵ (fat fullShare (tyInt w64) (past .17) 0 ((past .39)))
+          ∷ ‵ (fat fullShare tyBool (past .16) 0 ((past .36)))
           ∷ ‵ (fat fullShare clock-laws.mir (past .15) 0 ((only ((LL.vals clock-row.the-type clock-laws.the-laws) (h .clock)))))
           ∷ ‵ (fat fullShare arrival-laws.mir (past .14) 0 ((only ((LL.vals arrival-row.the-type arrival-laws.the-laws) (h .arrival)))))
           ∷ ‵ (fat fullShare flight-laws.mir (past .13) 0 ((only ((LL.vals flight-row.the-type flight-laws.the-laws) (h .flight)))))
           ∷ ‵ (fat fullShare settings-laws.mir (past .12) 0
           ((only ((LL.vals settings-row.the-type settings-laws.the-laws) (h .settings)))))
-          ∷ ‵ (fat fullShare tyBool (past .11) 0 ((past .31))) ∷ ‵ (fat fullShare (tyRef (named 5) mut (tyInt w32)) (past .8) 0 (s₅))
+          ∷ ‵ (fat fullShare tyBool (past .11) 0 ((past .33))) ∷ ‵ (fat fullShare (tyRef (named 5) mut (tyInt w32)) (past .8) 0 (s₅))
           ∷ ‵ (fat fullShare (sliceTy (tyRef (named 4) imm (tyInt w32))) (past .7) 0 (s₄))
           ∷ ‵ (fat fullShare (sliceTy (tyRef (named 3) imm (pointee (R .written)))) (past .6) 0 (s₃))
           ∷ ‵ (fat fullShare (sliceTy (tyRef (named 2) imm (tyInt w8))) (past .5) 0 (s₂))
@@ -690,66 +696,67 @@ module _ {M : Type 1} (𝓤 : URA M) (H : Heap 𝓤) (A : Atoms 𝓤) (W : Given
           ∷ ‵ (fat fullShare (tyRef (named 0) imm (pointee (L .written))) (past .3) 0 (vptr b o)) ∷ ‵ (froom (tyInt w32) (past .2) 0)
           ∷ []) ∵ exec ! C Λ (En (past .2) (past .3) (past .4) (past .5) (past .6) (past .7) (past .8) (past .9) (past .10) (past .11)
           (past .12) (past .13) (past .14) (past .15) (past .16) (past .17) (past .18) (past .19) (past .20) (past .21) (past .22)
-          (past .23) (past .24) (past .25) (past .26) (past .27) (past .28) (past .29)) (behind 21 (code.function .body))
+          (past .23) (past .24) (past .25) (past .26) (past .27) (past .28) (past .29) (past .30)) (behind 21 (code.function .body))
           (atRet (En (past .2) (past .3) (past .4) (past .5) (past .6) (past .7) (past .8) (past .9) (past .10) (past .11) (past .12)
           (past .13) (past .14) (past .15) (past .16) (past .17) (past .18) (past .19) (past .20) (past .21) (past .22) (past .23)
-          (past .24) (past .25) (past .26) (past .27) (past .28) (past .29)) Post) $
-          assigns ! {v = s₅} (addr ! (from ! (hop ! (look ! 40 refl) (stop !)))) (from ! (stop !)) (init ! 21 refl (tt, tt)) $
+          (past .24) (past .25) (past .26) (past .27) (past .28) (past .29) (past .30)) Post) $
+          assigns ! {v = s₅} (addr ! (from ! (hop ! (look ! 41 refl) (stop !)))) (from ! (stop !)) (init ! 21 refl (tt, tt)) $
           move ! (19 ∷ 20 ∷ []) $ join ! $
-          calls-fn ! fm code-of.ended (code-of.clauses 𝓤 H A at-mem run) (known .5) (to-code-of (past .39) (past .40))
-          (λ r ws-r. (r ≡ placeCode (past .39)) × ((ws-r .1 .0) ≡ placeStart (past .39))) (‵ (flft κ₅ q₅) ⊛ ‵ Own₅)
-          (asks-code-of (past .39) (past .40) (past .42)) (λ r ws-r. id⊢ 𝓤 _)
-          (and-then ! (load ! (from ! (stop !)) (look ! 31 refl)) (and-then ! (load ! (from ! (stop !)) (look ! 20 refl)) (no-more !)))
-          (λ r w-r ws-r e-r is-r. land ! (from ! (stop !)) (init ! 46 refl (sint-lawful 𝓤 H A W w32 .typed r _ is-r .0)) $
+          calls-fn ! fm code-of.ended (code-of.clauses 𝓤 H A at-mem run) (known .6) (to-code-of (past .41) (past .42))
+          (λ r ws-r. (r ≡ placeCode (past .41)) × ((ws-r .1 .0) ≡ placeStart (past .41))) (‵ (flft κ₅ q₅) ⊛ ‵ Own₅)
+          (asks-code-of (past .41) (past .42) (past .44)) (λ r ws-r. id⊢ 𝓤 _)
+          (and-then ! (load ! (from ! (stop !)) (look ! 32 refl)) (and-then ! (load ! (from ! (stop !)) (look ! 20 refl)) (no-more !)))
+          (λ r w-r ws-r e-r is-r. land ! (from ! (stop !)) (init ! 47 refl (sint-lawful 𝓤 H A W w32 .typed r _ is-r .0)) $
           spread W (‵ (flft κ₅ q₅)) (‵ ftrue ∷ []) (id⊢ 𝓤 _) $ move ! (2 ∷ []) $
           spread W (‵ ftrue) (‵ (fres (x₅ .name) (u32 .coded .code (ws-r .1 .0))) ∷ ‵ ftrue ∷ []) (id⊢ 𝓤 _) $
           keep ! (1 ∷ 3 ∷ 5 ∷ 6 ∷ 7 ∷ 8 ∷ 9 ∷ 10 ∷ 11 ∷ 12 ∷ 13 ∷ 14 ∷ 15 ∷ 16 ∷ 17 ∷ 18 ∷ 19 ∷ 20 ∷ 21 ∷ 22 ∷ 23
           ∷ 24 ∷ 25 ∷ 26 ∷ 27 ∷ 28 ∷ 29 ∷ 30 ∷ 31 ∷ 32 ∷ 33 ∷ 34 ∷ 35 ∷ 36 ∷ 37 ∷ 38 ∷ 39 ∷ 40 ∷ 41 ∷ 42 ∷ 43 ∷ 44
-          ∷ 45 ∷ 46 ∷ 47 ∷ 48 ∷ 49 ∷ []) $
+          ∷ 45 ∷ 46 ∷ 47 ∷ 48 ∷ 49 ∷ 50 ∷ []) $
           -- [fin5; tok5; F:«waiting_numbers»; F:waiting; F:ready; F:transmissions; F:outstanding; F:queued; tok1; tok2; tok4; tok3;
           -- F:clock; F:arrival; F:flight; F:settings; back; opened; deaths; the locals]
-          move ! (15 ∷ 14 ∷ 13 ∷ 12 ∷ 7 ∷ 6 ∷ 5 ∷ 4 ∷ 3 ∷ 2 ∷ 16 ∷ 17 ∷ []) $ shuts-link b o γ ! tt (past .32) h $
+          move ! (15 ∷ 14 ∷ 13 ∷ 12 ∷ 7 ∷ 6 ∷ 5 ∷ 4 ∷ 3 ∷ 2 ∷ 16 ∷ 17 ∷ []) $ shuts-link b o γ ! tt (past .34) h $
           -- [tok0; fin5; tok5; tok1; tok2; tok4; tok3; deaths; the locals]
-          returns ! (look ! 35 refl) $
+          returns ! (look ! 36 refl) $
           move ! (9 ∷ []) $ spread W (‵ (fdies (tyInt w32) (past .2)))
           (‵ (fdies (tyRef (named 0) imm (pointee (L .written))) (past .3))
           ∷ ‵ (fdies (sliceTy (tyRef (named 1) imm (tyInt w8))) (past .4))
           ∷ ‵ (fdies (sliceTy (tyRef (named 2) imm (tyInt w8))) (past .5))
           ∷ ‵ (fdies (sliceTy (tyRef (named 3) imm (pointee (R .written)))) (past .6))
           ∷ ‵ (fdies (sliceTy (tyRef (named 4) imm (tyInt w32))) (past .7)) ∷ ‵ (fdies (tyRef (named 5) mut (tyInt w32)) (past .8))
-          ∷ ‵ (fdies (tyArray (tyInt w8) 256) (past .9)) ∷ ‵ (fdies (tyArray (tyInt w8) 256) (past .10)) ∷ ‵ (fdies tyBool (past .11))
+          ∷ ‵ (fdies (tyArray (tyInt w8) 128) (past .9)) ∷ ‵ (fdies (tyArray (tyInt w8) 256) (past .10)) ∷ ‵ (fdies tyBool (past .11))
           ∷ ‵ (fdies settings-laws.mir (past .12)) ∷ ‵ (fdies flight-laws.mir (past .13)) ∷ ‵ (fdies arrival-laws.mir (past .14))
           ∷ ‵ (fdies clock-laws.mir (past .15)) ∷ ‵ (fdies tyBool (past .16)) ∷ ‵ (fdies (tyInt w64) (past .17))
-          ∷ ‵ (fdies place-laws.mir (past .18)) ∷ ‵ (fdies (tyArray (tyInt w8) 256) (past .19))
-          ∷ ‵ (fdies (tyRef erased mut (tyArray (tyInt w8) 256)) (past .20))
-          ∷ ‵ (fdies (tyRef erased mut (tyArray (tyInt w8) 256)) (past .21))
-          ∷ ‵ (fdies (tyRef erased imm (tyArray (tyInt w32) 32)) (past .22))
-          ∷ ‵ (fdies (tyRef erased imm (tyArray (tyInt w32) 128)) (past .23))
-          ∷ ‵ (fdies (tyRef erased imm (tyArray (tyInt w32) 32)) (past .24))
-          ∷ ‵ (fdies (tyRef erased imm (tyArray (tyInt w8) 32)) (past .25))
-          ∷ ‵ (fdies (tyRef erased imm (tyArray (tyInt w32) 128)) (past .26))
+          ∷ ‵ (fdies place-laws.mir (past .18)) ∷ ‵ (fdies (tyArray (tyInt w8) 128) (past .19))
+          ∷ ‵ (fdies (tyArray (tyInt w8) 256) (past .20)) ∷ ‵ (fdies (tyRef erased mut (tyArray (tyInt w8) 128)) (past .21))
+          ∷ ‵ (fdies (tyRef erased mut (tyArray (tyInt w8) 256)) (past .22))
+          ∷ ‵ (fdies (tyRef erased imm (tyArray (tyInt w32) 32)) (past .23))
+          ∷ ‵ (fdies (tyRef erased imm (tyArray (tyInt w32) 128)) (past .24))
+          ∷ ‵ (fdies (tyRef erased imm (tyArray (tyInt w32) 32)) (past .25))
+          ∷ ‵ (fdies (tyRef erased imm (tyArray (tyInt w8) 32)) (past .26))
           ∷ ‵ (fdies (tyRef erased imm (tyArray (tyInt w32) 128)) (past .27))
-          ∷ ‵ (fdies (tyRef erased imm (tyArray (tyInt w32) 128)) (past .28)) ∷ ‵ (fdies (tyRef erased mut (tyInt w32)) (past .29))
-          ∷ []) (id⊢ 𝓤 _) $ move ! (62 ∷ 0 ∷ 61 ∷ 1 ∷ 60 ∷ 2 ∷ 59 ∷ 3 ∷ 58 ∷ 4 ∷ 57 ∷ 5 ∷ 56 ∷ 6 ∷ 36 ∷ 7 ∷ 35 ∷ 8
-          ∷ 55 ∷ 9 ∷ 54 ∷ 10 ∷ 53 ∷ 11 ∷ 52 ∷ 12 ∷ 51 ∷ 13 ∷ 50 ∷ 14 ∷ 49 ∷ 15 ∷ 48 ∷ 16 ∷ 47 ∷ 17 ∷ 46 ∷ 18 ∷ 45
-          ∷ 19 ∷ 44 ∷ 20 ∷ 43 ∷ 21 ∷ 42 ∷ 22 ∷ 41 ∷ 23 ∷ 40 ∷ 24 ∷ 39 ∷ 25 ∷ 38 ∷ 26 ∷ 37 ∷ 27 ∷ []) $ forget ! 0 refl $
-          free1 ! $ forget ! 0 refl $ free1 ! $ forget ! 0 refl $ free1 ! $ forget ! 0 refl $ free1 ! $ forget ! 0 refl $ free1 ! $
+          ∷ ‵ (fdies (tyRef erased imm (tyArray (tyInt w32) 128)) (past .28))
+          ∷ ‵ (fdies (tyRef erased imm (tyArray (tyInt w32) 128)) (past .29)) ∷ ‵ (fdies (tyRef erased mut (tyInt w32)) (past .30))
+          ∷ []) (id⊢ 𝓤 _) $ move ! (64 ∷ 0 ∷ 63 ∷ 1 ∷ 62 ∷ 2 ∷ 61 ∷ 3 ∷ 60 ∷ 4 ∷ 59 ∷ 5 ∷ 58 ∷ 6 ∷ 37 ∷ 7 ∷ 36 ∷ 8
+          ∷ 57 ∷ 9 ∷ 56 ∷ 10 ∷ 55 ∷ 11 ∷ 54 ∷ 12 ∷ 53 ∷ 13 ∷ 52 ∷ 14 ∷ 51 ∷ 15 ∷ 50 ∷ 16 ∷ 49 ∷ 17 ∷ 48 ∷ 18 ∷ 47
+          ∷ 19 ∷ 46 ∷ 20 ∷ 45 ∷ 21 ∷ 44 ∷ 22 ∷ 43 ∷ 23 ∷ 42 ∷ 24 ∷ 41 ∷ 25 ∷ 40 ∷ 26 ∷ 39 ∷ 27 ∷ 38 ∷ 28 ∷ []) $
           forget ! 0 refl $ free1 ! $ forget ! 0 refl $ free1 ! $ forget ! 0 refl $ free1 ! $ forget ! 0 refl $ free1 ! $
           forget ! 0 refl $ free1 ! $ forget ! 0 refl $ free1 ! $ forget ! 0 refl $ free1 ! $ forget ! 0 refl $ free1 ! $
           forget ! 0 refl $ free1 ! $ forget ! 0 refl $ free1 ! $ forget ! 0 refl $ free1 ! $ forget ! 0 refl $ free1 ! $
           forget ! 0 refl $ free1 ! $ forget ! 0 refl $ free1 ! $ forget ! 0 refl $ free1 ! $ forget ! 0 refl $ free1 ! $
           forget ! 0 refl $ free1 ! $ forget ! 0 refl $ free1 ! $ forget ! 0 refl $ free1 ! $ forget ! 0 refl $ free1 ! $
-          forget ! 0 refl $ free1 ! $ forget ! 0 refl $ free1 ! $ forget ! 0 refl $ free1 ! $ free0 ! $
+          forget ! 0 refl $ free1 ! $ forget ! 0 refl $ free1 ! $ forget ! 0 refl $ free1 ! $ forget ! 0 refl $ free1 ! $
+          forget ! 0 refl $ free1 ! $ forget ! 0 refl $ free1 ! $ forget ! 0 refl $ free1 ! $ forget ! 0 refl $ free1 ! $
+          forget ! 0 refl $ free1 ! $ free0 ! $
           move ! (0 ∷ 3 ∷ 4 ∷ 6 ∷ 5 ∷ 1 ∷ 2 ∷ []) $
-          by ! (exits r w-r (ws-r .1 .0) (told placeCode _ (past .39) (e-r .0)
+          by ! (exits r w-r (ws-r .1 .0) (told placeCode _ (past .41) (e-r .0)
           (record {
             place = shows-promised h (partsOf (x₁ .now) (x₂ .now) (x₃ .now) (x₄ .now))
-                (padded (gathered (take sendSlots (x₃ .now)) (slotsIn (h .outstanding) (h .flight .outstanding)))) (past .36)
+                (padded (gathered (take sendSlots (x₃ .now)) (slotsIn (h .outstanding) (h .flight .outstanding)))) (past .38)
                 (gathers h (partsOf (x₁ .now) (x₂ .now) (x₃ .now) (x₄ .now)) (h .flight .outstanding)
-                (padded (gathered (take sendSlots (x₃ .now)) (slotsIn (h .outstanding) (h .flight .outstanding)))) (past .36) refl refl
-                (past .38)) (λ o. PlaceIs (placeOf o) (length (x₂ .now)) (past .39))
-                ((past .41) (padded (gathered (take sendSlots (x₃ .now)) (slotsIn (h .outstanding) (h .flight .outstanding))))
-                (record { whole = padded-whole (take sendSlots (x₃ .now)) (h .outstanding) (h .flight .outstanding); fits = (past .35) }));
+                (padded (gathered (take sendSlots (x₃ .now)) (slotsIn (h .outstanding) (h .flight .outstanding)))) (past .38) refl refl
+                (past .40)) (λ o. PlaceIs (placeOf o) (length (x₂ .now)) (past .41))
+                ((past .43) (padded (gathered (take sendSlots (x₃ .now)) (slotsIn (h .outstanding) (h .flight .outstanding))))
+                (record { whole = padded-whole (take sendSlots (x₃ .now)) (h .outstanding) (h .flight .outstanding); fits = (past .37) }));
             start = e-r .1;
           })) is-r))
 
@@ -759,11 +766,11 @@ module _ {M : Type 1} (𝓤 : URA M) (H : Heap 𝓤) (A : Atoms 𝓤) (W : Given
           (l₅ : ℕ) × (l₆ : ℕ) × (l₇ : ℕ) × (l₈ : ℕ) × (l₉ : ℕ) × (l₁₀ : ℕ) × (l₁₁ : ℕ) × (l₁₂ : ℕ) ×
           (l₁₃ : ℕ) × (l₁₄ : ℕ) × (l₁₅ : ℕ) × (l₁₆ : ℕ) × (l₁₇ : ℕ) × (l₁₈ : ℕ) × (l₁₉ : ℕ) ×
           (l₂₀ : ℕ) × (l₂₁ : ℕ) × (l₂₂ : ℕ) × (l₂₃ : ℕ) × (l₂₄ : ℕ) × (l₂₅ : ℕ) × (l₂₆ : ℕ) ×
-          (l₂₇ : ℕ) × (w-receives : Val) × (ok : Bool) × (w-ok : Val) × (e-ok : Sound h z-sends z-receives ok) ×
-          (is-ok : Is Boolean ok (w-ok ∷ [])) × (q′ : Share) × (len-queued : length (h .queued) ≡ 128) ×
-          (len-outstanding : length (h .outstanding) ≡ 32) × (len-transmissions : length (h .transmissions) ≡ 32) ×
-          (len-ready : length (h .ready) ≡ 128) × (len-waiting : length (h .waiting) ≡ 128) ×
-          (len-waiting-numbers : length (h .«waiting_numbers») ≡ 128) ×
+          (l₂₇ : ℕ) × (l₂₈ : ℕ) × (w-sends : Val) × (w-receives : Val) × (ok : Bool) × (w-ok : Val) ×
+          (e-ok : Sound h z-sends z-receives ok) × (is-ok : Is Boolean ok (w-ok ∷ [])) × (q′ : Share) ×
+          (len-queued : length (h .queued) ≡ 128) × (len-outstanding : length (h .outstanding) ≡ 32) ×
+          (len-transmissions : length (h .transmissions) ≡ 32) × (len-ready : length (h .ready) ≡ 128) ×
+          (len-waiting : length (h .waiting) ≡ 128) × (len-waiting-numbers : length (h .«waiting_numbers») ≡ 128) ×
           (was-settings : Is settings-row.the-row (h .settings) ((LL.vals settings-row.the-type settings-laws.the-laws) (h .settings))) ×
           (was-flight : Is flight-row.the-row (h .flight) ((LL.vals flight-row.the-type flight-laws.the-laws) (h .flight))) ×
           (was-arrival : Is arrival-row.the-row (h .arrival) ((LL.vals arrival-row.the-type arrival-laws.the-laws) (h .arrival))) ×
@@ -773,51 +780,52 @@ module _ {M : Type 1} (𝓤 : URA M) (H : Heap 𝓤) (A : Atoms 𝓤) (W : Given
           (slotsIn (h .outstanding) (h .flight .outstanding)))))) × (is-fl : Is Boolean fl (w-fl ∷ [])) × (m : ℕ) × (w-m : Val) ×
           (e-m : m ≡ length (x₃ .now)) × (Is usize m (w-m ∷ []))
 
-      part₂ : (past : Known₂) → ent 𝓤 (⋆ 𝓤 H A (‵ (flft κ₃ q₃) ∷ ‵ (partAt (Array u32 32) (past .35) (h .outstanding) b (o + 636))
-          ∷ ‵ (partAt clock-row.the-row (past .35) (h .clock) b (o + 104))
-          ∷ ‵ (partAt arrival-row.the-row (past .35) (h .arrival) b (o + 72))
-          ∷ ‵ (partAt flight-row.the-row (past .35) (h .flight) b (o + 16))
-          ∷ ‵ (partAt settings-row.the-row (past .35) (h .settings) b (o + 0))
-          ∷ ‵ (partAt (Array u32 128) (past .35) (h .«waiting_numbers») b (o + 1820))
-          ∷ ‵ (partAt (Array u32 128) (past .35) (h .waiting) b (o + 1308)) ∷ ‵ (partAt (Array u32 128) (past .35) (h .ready) b (o + 796))
-          ∷ ‵ (partAt (Array u8 32) (past .35) (h .transmissions) b (o + 764))
-          ∷ ‵ (partAt (Array u32 128) (past .35) (h .queued) b (o + 124)) ∷ raw (Back 𝓤 H A (past .35) b o)
-          ∷ ‵ (fobor κ₀ q₀ (partAt L (past .35) h b o))
+      part₂ : (past : Known₂) → ent 𝓤 (⋆ 𝓤 H A (‵ (flft κ₃ q₃) ∷ ‵ (partAt (Array u32 32) (past .37) (h .outstanding) b (o + 636))
+          ∷ ‵ (partAt clock-row.the-row (past .37) (h .clock) b (o + 104))
+          ∷ ‵ (partAt arrival-row.the-row (past .37) (h .arrival) b (o + 72))
+          ∷ ‵ (partAt flight-row.the-row (past .37) (h .flight) b (o + 16))
+          ∷ ‵ (partAt settings-row.the-row (past .37) (h .settings) b (o + 0))
+          ∷ ‵ (partAt (Array u32 128) (past .37) (h .«waiting_numbers») b (o + 1820))
+          ∷ ‵ (partAt (Array u32 128) (past .37) (h .waiting) b (o + 1308)) ∷ ‵ (partAt (Array u32 128) (past .37) (h .ready) b (o + 796))
+          ∷ ‵ (partAt (Array u8 32) (past .37) (h .transmissions) b (o + 764))
+          ∷ ‵ (partAt (Array u32 128) (past .37) (h .queued) b (o + 124)) ∷ raw (Back 𝓤 H A (past .37) b o)
+          ∷ ‵ (fobor κ₀ q₀ (partAt L (past .37) h b o))
           ∷ ‵ (fat fullShare (tyArray (tyInt w8) 256) (past .10) 0 ((only ((array-vals (uint-vals w8)) (past .0)))))
-          ∷ ‵ (fat fullShare (tyArray (tyInt w8) 256) (past .9) 0 ((only ((array-vals (uint-vals w8)) (past .1)))))
+          ∷ ‵ (fat fullShare (tyArray (tyInt w8) 128) (past .9) 0 ((only ((array-vals (uint-vals w8)) (past .1)))))
           ∷ (‵ (fdies (tyInt w32) (past .2)) ⊛ ‵ (fdies (tyRef (named 0) imm (pointee (L .written))) (past .3)) ⊛ ‵
           (fdies (sliceTy (tyRef (named 1) imm (tyInt w8))) (past .4)) ⊛ ‵ (fdies (sliceTy (tyRef (named 2) imm (tyInt w8))) (past .5)) ⊛ ‵
           (fdies (sliceTy (tyRef (named 3) imm (pointee (R .written)))) (past .6)) ⊛ ‵
           (fdies (sliceTy (tyRef (named 4) imm (tyInt w32))) (past .7)) ⊛ ‵ (fdies (tyRef (named 5) mut (tyInt w32)) (past .8)) ⊛ ‵
-          (fdies (tyArray (tyInt w8) 256) (past .9)) ⊛ ‵ (fdies (tyArray (tyInt w8) 256) (past .10)) ⊛ ‵ (fdies tyBool (past .11)) ⊛ ‵
+          (fdies (tyArray (tyInt w8) 128) (past .9)) ⊛ ‵ (fdies (tyArray (tyInt w8) 256) (past .10)) ⊛ ‵ (fdies tyBool (past .11)) ⊛ ‵
           (fdies settings-laws.mir (past .12)) ⊛ ‵ (fdies flight-laws.mir (past .13)) ⊛ ‵ (fdies arrival-laws.mir (past .14)) ⊛ ‵
           (fdies clock-laws.mir (past .15)) ⊛ ‵ (fdies tyBool (past .16)) ⊛ ‵ (fdies (tyInt w64) (past .17)) ⊛ ‵
-          (fdies place-laws.mir (past .18)) ⊛ ‵ (fdies (tyArray (tyInt w8) 256) (past .19)) ⊛ ‵
-          (fdies (tyRef erased mut (tyArray (tyInt w8) 256)) (past .20)) ⊛ ‵ (fdies (tyRef erased mut (tyArray (tyInt w8) 256)) (past .21))
-          ⊛ ‵ (fdies (tyRef erased imm (tyArray (tyInt w32) 32)) (past .22)) ⊛ ‵
-          (fdies (tyRef erased imm (tyArray (tyInt w32) 128)) (past .23)) ⊛ ‵ (fdies (tyRef erased imm (tyArray (tyInt w32) 32)) (past .24))
-          ⊛ ‵ (fdies (tyRef erased imm (tyArray (tyInt w8) 32)) (past .25)) ⊛ ‵
-          (fdies (tyRef erased imm (tyArray (tyInt w32) 128)) (past .26)) ⊛ ‵
-          (fdies (tyRef erased imm (tyArray (tyInt w32) 128)) (past .27)) ⊛ ‵
-          (fdies (tyRef erased imm (tyArray (tyInt w32) 128)) (past .28)) ⊛ ‵ (fdies (tyRef erased mut (tyInt w32)) (past .29)))
+          (fdies place-laws.mir (past .18)) ⊛ ‵ (fdies (tyArray (tyInt w8) 128) (past .19)) ⊛ ‵ (fdies (tyArray (tyInt w8) 256) (past .20))
+          ⊛ ‵ (fdies (tyRef erased mut (tyArray (tyInt w8) 128)) (past .21)) ⊛ ‵
+          (fdies (tyRef erased mut (tyArray (tyInt w8) 256)) (past .22)) ⊛ ‵ (fdies (tyRef erased imm (tyArray (tyInt w32) 32)) (past .23))
+          ⊛ ‵ (fdies (tyRef erased imm (tyArray (tyInt w32) 128)) (past .24)) ⊛ ‵
+          (fdies (tyRef erased imm (tyArray (tyInt w32) 32)) (past .25)) ⊛ ‵ (fdies (tyRef erased imm (tyArray (tyInt w8) 32)) (past .26)) ⊛
+          ‵ (fdies (tyRef erased imm (tyArray (tyInt w32) 128)) (past .27)) ⊛ ‵
+          (fdies (tyRef erased imm (tyArray (tyInt w32) 128)) (past .28)) ⊛ ‵
+          (fdies (tyRef erased imm (tyArray (tyInt w32) 128)) (past .29)) ⊛ ‵ (fdies (tyRef erased mut (tyInt w32)) (past .30)))
           ∷ ‵ (flft κ₁ q₁) ∷ ‵ (flft κ₂ q₂) ∷ ‵ (flft κ₄ q₄) ∷ ‵ (flft κ₅ q₅) ∷ ‵ Own₁ ∷ ‵ Own₂ ∷ ‵ Own₄
-          ∷ ‵ Own₅ ∷ ‵ (froom (tyRef erased mut (tyInt w32)) (past .29) 0)
+          ∷ ‵ Own₅ ∷ ‵ (froom (tyRef erased mut (tyInt w32)) (past .30) 0)
+          ∷ ‵ (froom (tyRef erased imm (tyArray (tyInt w32) 128)) (past .29) 0)
           ∷ ‵ (froom (tyRef erased imm (tyArray (tyInt w32) 128)) (past .28) 0)
           ∷ ‵ (froom (tyRef erased imm (tyArray (tyInt w32) 128)) (past .27) 0)
-          ∷ ‵ (froom (tyRef erased imm (tyArray (tyInt w32) 128)) (past .26) 0)
-          ∷ ‵ (froom (tyRef erased imm (tyArray (tyInt w8) 32)) (past .25) 0)
-          ∷ ‵ (froom (tyRef erased imm (tyArray (tyInt w32) 32)) (past .24) 0)
-          ∷ ‵ (froom (tyRef erased imm (tyArray (tyInt w32) 128)) (past .23) 0)
-          ∷ ‵ (fat fullShare (tyRef erased imm (tyArray (tyInt w32) 32)) (past .22) 0 ((vptr b (o + 636))))
-          ∷ ‵ (fat fullShare (tyRef erased mut (tyArray (tyInt w8) 256)) (past .21) 0 ((vptr (past .10) 0)))
-          ∷ ‵ (fat fullShare (tyRef erased mut (tyArray (tyInt w8) 256)) (past .20) 0 ((vptr (past .9) 0)))
-          ∷ ‵ (fat fullShare (tyArray (tyInt w8) 256) (past .19) 0 ((past .30))) ∷ ‵ (froom place-laws.mir (past .18) 0)
-          ∷ ‵ (fat fullShare (tyInt w64) (past .17) 0 ((past .51))) ∷ ‵ (fat fullShare tyBool (past .16) 0 ((past .47)))
+          ∷ ‵ (froom (tyRef erased imm (tyArray (tyInt w8) 32)) (past .26) 0)
+          ∷ ‵ (froom (tyRef erased imm (tyArray (tyInt w32) 32)) (past .25) 0)
+          ∷ ‵ (froom (tyRef erased imm (tyArray (tyInt w32) 128)) (past .24) 0)
+          ∷ ‵ (fat fullShare (tyRef erased imm (tyArray (tyInt w32) 32)) (past .23) 0 ((vptr b (o + 636))))
+          ∷ ‵ (fat fullShare (tyRef erased mut (tyArray (tyInt w8) 256)) (past .22) 0 ((vptr (past .10) 0)))
+          ∷ ‵ (fat fullShare (tyRef erased mut (tyArray (tyInt w8) 128)) (past .21) 0 ((vptr (past .9) 0)))
+          ∷ ‵ (fat fullShare (tyArray (tyInt w8) 256) (past .20) 0 ((past .32)))
+          ∷ ‵ (fat fullShare (tyArray (tyInt w8) 128) (past .19) 0 ((past .31))) ∷ ‵ (froom place-laws.mir (past .18) 0)
+          ∷ ‵ (fat fullShare (tyInt w64) (past .17) 0 ((past .53))) ∷ ‵ (fat fullShare tyBool (past .16) 0 ((past .49)))
           ∷ ‵ (fat fullShare clock-laws.mir (past .15) 0 ((only ((LL.vals clock-row.the-type clock-laws.the-laws) (h .clock)))))
           ∷ ‵ (fat fullShare arrival-laws.mir (past .14) 0 ((only ((LL.vals arrival-row.the-type arrival-laws.the-laws) (h .arrival)))))
           ∷ ‵ (fat fullShare flight-laws.mir (past .13) 0 ((only ((LL.vals flight-row.the-type flight-laws.the-laws) (h .flight)))))
           ∷ ‵ (fat fullShare settings-laws.mir (past .12) 0 ((only ((LL.vals settings-row.the-type settings-laws.the-laws) (h .settings)))))
-          ∷ ‵ (fat fullShare tyBool (past .11) 0 ((past .32))) ∷ ‵ (fat fullShare (tyRef (named 5) mut (tyInt w32)) (past .8) 0 (s₅))
+          ∷ ‵ (fat fullShare tyBool (past .11) 0 ((past .34))) ∷ ‵ (fat fullShare (tyRef (named 5) mut (tyInt w32)) (past .8) 0 (s₅))
           ∷ ‵ (fat fullShare (sliceTy (tyRef (named 4) imm (tyInt w32))) (past .7) 0 (s₄))
           ∷ ‵ (fat fullShare (sliceTy (tyRef (named 3) imm (pointee (R .written)))) (past .6) 0 (s₃))
           ∷ ‵ (fat fullShare (sliceTy (tyRef (named 2) imm (tyInt w8))) (past .5) 0 (s₂))
@@ -825,60 +833,61 @@ module _ {M : Type 1} (𝓤 : URA M) (H : Heap 𝓤) (A : Atoms 𝓤) (W : Given
           ∷ ‵ (fat fullShare (tyRef (named 0) imm (pointee (L .written))) (past .3) 0 (vptr b o)) ∷ ‵ (froom (tyInt w32) (past .2) 0) ∷ []))
           (Wp 𝓤 H C Λ (En (past .2) (past .3) (past .4) (past .5) (past .6) (past .7) (past .8) (past .9) (past .10) (past .11) (past .12)
           (past .13) (past .14) (past .15) (past .16) (past .17) (past .18) (past .19) (past .20) (past .21) (past .22) (past .23)
-          (past .24) (past .25) (past .26) (past .27) (past .28) (past .29)) (behind 14 (code.function .body))
+          (past .24) (past .25) (past .26) (past .27) (past .28) (past .29) (past .30)) (behind 14 (code.function .body))
           (atReturn 𝓤 H (En (past .2) (past .3) (past .4) (past .5) (past .6) (past .7) (past .8) (past .9) (past .10) (past .11) (past .12)
           (past .13) (past .14) (past .15) (past .16) (past .17) (past .18) (past .19) (past .20) (past .21) (past .22) (past .23)
-          (past .24) (past .25) (past .26) (past .27) (past .28) (past .29)) Post))
+          (past .24) (past .25) (past .26) (past .27) (past .28) (past .29) (past .30)) Post))
       part₂ past =
-          qed W (‵ (flft κ₃ q₃) ∷ ‵ (partAt (Array u32 32) (past .35) (h .outstanding) b (o + 636))
-          ∷ ‵ (partAt clock-row.the-row (past .35) (h .clock) b (o + 104))
-          ∷ ‵ (partAt arrival-row.the-row (past .35) (h .arrival) b (o + 72))
-          ∷ ‵ (partAt flight-row.the-row (past .35) (h .flight) b (o + 16))
-          ∷ ‵ (partAt settings-row.the-row (past .35) (h .settings) b (o + 0))
-          ∷ ‵ (partAt (Array u32 128) (past .35) (h .«waiting_numbers») b (o + 1820))
-          ∷ ‵ (partAt (Array u32 128) (past .35) (h .waiting) b (o + 1308))
-          ∷ ‵ (partAt (Array u32 128) (past .35) (h .ready) b (o + 796))
-          ∷ ‵ (partAt (Array u8 32) (past .35) (h .transmissions) b (o + 764))
-          ∷ ‵ (partAt (Array u32 128) (past .35) (h .queued) b (o + 124)) ∷ raw (Back 𝓤 H A (past .35) b o)
-          ∷ ‵ (fobor κ₀ q₀ (partAt L (past .35) h b o))
+          qed W (‵ (flft κ₃ q₃) ∷ ‵ (partAt (Array u32 32) (past .37) (h .outstanding) b (o + 636))
+          ∷ ‵ (partAt clock-row.the-row (past .37) (h .clock) b (o + 104))
+          ∷ ‵ (partAt arrival-row.the-row (past .37) (h .arrival) b (o + 72))
+          ∷ ‵ (partAt flight-row.the-row (past .37) (h .flight) b (o + 16))
+          ∷ ‵ (partAt settings-row.the-row (past .37) (h .settings) b (o + 0))
+          ∷ ‵ (partAt (Array u32 128) (past .37) (h .«waiting_numbers») b (o + 1820))
+          ∷ ‵ (partAt (Array u32 128) (past .37) (h .waiting) b (o + 1308))
+          ∷ ‵ (partAt (Array u32 128) (past .37) (h .ready) b (o + 796))
+          ∷ ‵ (partAt (Array u8 32) (past .37) (h .transmissions) b (o + 764))
+          ∷ ‵ (partAt (Array u32 128) (past .37) (h .queued) b (o + 124)) ∷ raw (Back 𝓤 H A (past .37) b o)
+          ∷ ‵ (fobor κ₀ q₀ (partAt L (past .37) h b o))
           ∷ ‵ (fat fullShare (tyArray (tyInt w8) 256) (past .10) 0 ((only ((array-vals (uint-vals w8)) (past .0)))))
-          ∷ ‵ (fat fullShare (tyArray (tyInt w8) 256) (past .9) 0 ((only ((array-vals (uint-vals w8)) (past .1)))))
+          ∷ ‵ (fat fullShare (tyArray (tyInt w8) 128) (past .9) 0 ((only ((array-vals (uint-vals w8)) (past .1)))))
           ∷ (‵ (fdies (tyInt w32) (past .2)) ⊛ ‵ (fdies (tyRef (named 0) imm (pointee (L .written))) (past .3)) ⊛ ‵
           (fdies (sliceTy (tyRef (named 1) imm (tyInt w8))) (past .4)) ⊛ ‵ (fdies (sliceTy (tyRef (named 2) imm (tyInt w8))) (past .5))
           ⊛ ‵ (fdies (sliceTy (tyRef (named 3) imm (pointee (R .written)))) (past .6)) ⊛ ‵
           (fdies (sliceTy (tyRef (named 4) imm (tyInt w32))) (past .7)) ⊛ ‵ (fdies (tyRef (named 5) mut (tyInt w32)) (past .8)) ⊛ ‵
-          (fdies (tyArray (tyInt w8) 256) (past .9)) ⊛ ‵ (fdies (tyArray (tyInt w8) 256) (past .10)) ⊛ ‵ (fdies tyBool (past .11)) ⊛ ‵
+          (fdies (tyArray (tyInt w8) 128) (past .9)) ⊛ ‵ (fdies (tyArray (tyInt w8) 256) (past .10)) ⊛ ‵ (fdies tyBool (past .11)) ⊛ ‵
           (fdies settings-laws.mir (past .12)) ⊛ ‵ (fdies flight-laws.mir (past .13)) ⊛ ‵ (fdies arrival-laws.mir (past .14)) ⊛ ‵
           (fdies clock-laws.mir (past .15)) ⊛ ‵ (fdies tyBool (past .16)) ⊛ ‵ (fdies (tyInt w64) (past .17)) ⊛ ‵
-          (fdies place-laws.mir (past .18)) ⊛ ‵ (fdies (tyArray (tyInt w8) 256) (past .19)) ⊛ ‵
-          (fdies (tyRef erased mut (tyArray (tyInt w8) 256)) (past .20)) ⊛ ‵
-          (fdies (tyRef erased mut (tyArray (tyInt w8) 256)) (past .21)) ⊛ ‵
-          (fdies (tyRef erased imm (tyArray (tyInt w32) 32)) (past .22)) ⊛ ‵
-          (fdies (tyRef erased imm (tyArray (tyInt w32) 128)) (past .23)) ⊛ ‵
-          (fdies (tyRef erased imm (tyArray (tyInt w32) 32)) (past .24)) ⊛ ‵
-          (fdies (tyRef erased imm (tyArray (tyInt w8) 32)) (past .25)) ⊛ ‵
-          (fdies (tyRef erased imm (tyArray (tyInt w32) 128)) (past .26)) ⊛ ‵
+          (fdies place-laws.mir (past .18)) ⊛ ‵ (fdies (tyArray (tyInt w8) 128) (past .19)) ⊛ ‵
+          (fdies (tyArray (tyInt w8) 256) (past .20)) ⊛ ‵ (fdies (tyRef erased mut (tyArray (tyInt w8) 128)) (past .21)) ⊛ ‵
+          (fdies (tyRef erased mut (tyArray (tyInt w8) 256)) (past .22)) ⊛ ‵
+          (fdies (tyRef erased imm (tyArray (tyInt w32) 32)) (past .23)) ⊛ ‵
+          (fdies (tyRef erased imm (tyArray (tyInt w32) 128)) (past .24)) ⊛ ‵
+          (fdies (tyRef erased imm (tyArray (tyInt w32) 32)) (past .25)) ⊛ ‵
+          (fdies (tyRef erased imm (tyArray (tyInt w8) 32)) (past .26)) ⊛ ‵
           (fdies (tyRef erased imm (tyArray (tyInt w32) 128)) (past .27)) ⊛ ‵
-          (fdies (tyRef erased imm (tyArray (tyInt w32) 128)) (past .28)) ⊛ ‵ (fdies (tyRef erased mut (tyInt w32)) (past .29)))
+          (fdies (tyRef erased imm (tyArray (tyInt w32) 128)) (past .28)) ⊛ ‵
+          (fdies (tyRef erased imm (tyArray (tyInt w32) 128)) (past .29)) ⊛ ‵ (fdies (tyRef erased mut (tyInt w32)) (past .30)))
           ∷ ‵ (flft κ₁ q₁) ∷ ‵ (flft κ₂ q₂) ∷ ‵ (flft κ₄ q₄) ∷ ‵ (flft κ₅ q₅) ∷ ‵ Own₁ ∷ ‵ Own₂
-          ∷ ‵ Own₄ ∷ ‵ Own₅ ∷ ‵ (froom (tyRef erased mut (tyInt w32)) (past .29) 0)
+          ∷ ‵ Own₄ ∷ ‵ Own₅ ∷ ‵ (froom (tyRef erased mut (tyInt w32)) (past .30) 0)
+          ∷ ‵ (froom (tyRef erased imm (tyArray (tyInt w32) 128)) (past .29) 0)
           ∷ ‵ (froom (tyRef erased imm (tyArray (tyInt w32) 128)) (past .28) 0)
           ∷ ‵ (froom (tyRef erased imm (tyArray (tyInt w32) 128)) (past .27) 0)
-          ∷ ‵ (froom (tyRef erased imm (tyArray (tyInt w32) 128)) (past .26) 0)
-          ∷ ‵ (froom (tyRef erased imm (tyArray (tyInt w8) 32)) (past .25) 0)
-          ∷ ‵ (froom (tyRef erased imm (tyArray (tyInt w32) 32)) (past .24) 0)
-          ∷ ‵ (froom (tyRef erased imm (tyArray (tyInt w32) 128)) (past .23) 0)
-          ∷ ‵ (fat fullShare (tyRef erased imm (tyArray (tyInt w32) 32)) (past .22) 0 ((vptr b (o + 636))))
-          ∷ ‵ (fat fullShare (tyRef erased mut (tyArray (tyInt w8) 256)) (past .21) 0 ((vptr (past .10) 0)))
-          ∷ ‵ (fat fullShare (tyRef erased mut (tyArray (tyInt w8) 256)) (past .20) 0 ((vptr (past .9) 0)))
-          ∷ ‵ (fat fullShare (tyArray (tyInt w8) 256) (past .19) 0 ((past .30))) ∷ ‵ (froom place-laws.mir (past .18) 0)
-          ∷ ‵ (fat fullShare (tyInt w64) (past .17) 0 ((past .51))) ∷ ‵ (fat fullShare tyBool (past .16) 0 ((past .47)))
+          ∷ ‵ (froom (tyRef erased imm (tyArray (tyInt w8) 32)) (past .26) 0)
+          ∷ ‵ (froom (tyRef erased imm (tyArray (tyInt w32) 32)) (past .25) 0)
+          ∷ ‵ (froom (tyRef erased imm (tyArray (tyInt w32) 128)) (past .24) 0)
+          ∷ ‵ (fat fullShare (tyRef erased imm (tyArray (tyInt w32) 32)) (past .23) 0 ((vptr b (o + 636))))
+          ∷ ‵ (fat fullShare (tyRef erased mut (tyArray (tyInt w8) 256)) (past .22) 0 ((vptr (past .10) 0)))
+          ∷ ‵ (fat fullShare (tyRef erased mut (tyArray (tyInt w8) 128)) (past .21) 0 ((vptr (past .9) 0)))
+          ∷ ‵ (fat fullShare (tyArray (tyInt w8) 256) (past .20) 0 ((past .32)))
+          ∷ ‵ (fat fullShare (tyArray (tyInt w8) 128) (past .19) 0 ((past .31))) ∷ ‵ (froom place-laws.mir (past .18) 0)
+          ∷ ‵ (fat fullShare (tyInt w64) (past .17) 0 ((past .53))) ∷ ‵ (fat fullShare tyBool (past .16) 0 ((past .49)))
           ∷ ‵ (fat fullShare clock-laws.mir (past .15) 0 ((only ((LL.vals clock-row.the-type clock-laws.the-laws) (h .clock)))))
           ∷ ‵ (fat fullShare arrival-laws.mir (past .14) 0 ((only ((LL.vals arrival-row.the-type arrival-laws.the-laws) (h .arrival)))))
           ∷ ‵ (fat fullShare flight-laws.mir (past .13) 0 ((only ((LL.vals flight-row.the-type flight-laws.the-laws) (h .flight)))))
           ∷ ‵ (fat fullShare settings-laws.mir (past .12) 0
           ((only ((LL.vals settings-row.the-type settings-laws.the-laws) (h .settings)))))
-          ∷ ‵ (fat fullShare tyBool (past .11) 0 ((past .32))) ∷ ‵ (fat fullShare (tyRef (named 5) mut (tyInt w32)) (past .8) 0 (s₅))
+          ∷ ‵ (fat fullShare tyBool (past .11) 0 ((past .34))) ∷ ‵ (fat fullShare (tyRef (named 5) mut (tyInt w32)) (past .8) 0 (s₅))
           ∷ ‵ (fat fullShare (sliceTy (tyRef (named 4) imm (tyInt w32))) (past .7) 0 (s₄))
           ∷ ‵ (fat fullShare (sliceTy (tyRef (named 3) imm (pointee (R .written)))) (past .6) 0 (s₃))
           ∷ ‵ (fat fullShare (sliceTy (tyRef (named 2) imm (tyInt w8))) (past .5) 0 (s₂))
@@ -886,44 +895,44 @@ module _ {M : Type 1} (𝓤 : URA M) (H : Heap 𝓤) (A : Atoms 𝓤) (W : Given
           ∷ ‵ (fat fullShare (tyRef (named 0) imm (pointee (L .written))) (past .3) 0 (vptr b o)) ∷ ‵ (froom (tyInt w32) (past .2) 0)
           ∷ []) ∵ exec ! C Λ (En (past .2) (past .3) (past .4) (past .5) (past .6) (past .7) (past .8) (past .9) (past .10) (past .11)
           (past .12) (past .13) (past .14) (past .15) (past .16) (past .17) (past .18) (past .19) (past .20) (past .21) (past .22)
-          (past .23) (past .24) (past .25) (past .26) (past .27) (past .28) (past .29)) (behind 14 (code.function .body))
+          (past .23) (past .24) (past .25) (past .26) (past .27) (past .28) (past .29) (past .30)) (behind 14 (code.function .body))
           (atRet (En (past .2) (past .3) (past .4) (past .5) (past .6) (past .7) (past .8) (past .9) (past .10) (past .11) (past .12)
           (past .13) (past .14) (past .15) (past .16) (past .17) (past .18) (past .19) (past .20) (past .21) (past .22) (past .23)
-          (past .24) (past .25) (past .26) (past .27) (past .28) (past .29)) Post) $
-          assigns ! {v = (vptr b (o + 124))} (addr ! (from ! (hop ! (look ! 48 refl) (fld ! {d = 124} refl (stop !))))) (from ! (stop !))
+          (past .24) (past .25) (past .26) (past .27) (past .28) (past .29) (past .30)) Post) $
+          assigns ! {v = (vptr b (o + 124))} (addr ! (from ! (hop ! (look ! 49 refl) (fld ! {d = 124} refl (stop !))))) (from ! (stop !))
           (init ! 30 refl (tt, tt)) $
-          assigns ! {v = (vptr b (o + 636))} (addr ! (from ! (hop ! (look ! 48 refl) (fld ! {d = 636} refl (stop !))))) (from ! (stop !))
+          assigns ! {v = (vptr b (o + 636))} (addr ! (from ! (hop ! (look ! 49 refl) (fld ! {d = 636} refl (stop !))))) (from ! (stop !))
           (init ! 29 refl (tt, tt)) $
-          assigns ! {v = (vptr b (o + 764))} (addr ! (from ! (hop ! (look ! 48 refl) (fld ! {d = 764} refl (stop !))))) (from ! (stop !))
+          assigns ! {v = (vptr b (o + 764))} (addr ! (from ! (hop ! (look ! 49 refl) (fld ! {d = 764} refl (stop !))))) (from ! (stop !))
           (init ! 28 refl (tt, tt)) $
-          assigns ! {v = (vptr b (o + 796))} (addr ! (from ! (hop ! (look ! 48 refl) (fld ! {d = 796} refl (stop !))))) (from ! (stop !))
+          assigns ! {v = (vptr b (o + 796))} (addr ! (from ! (hop ! (look ! 49 refl) (fld ! {d = 796} refl (stop !))))) (from ! (stop !))
           (init ! 27 refl (tt, tt)) $
-          assigns ! {v = (vptr b (o + 1308))} (addr ! (from ! (hop ! (look ! 48 refl) (fld ! {d = 1308} refl (stop !))))) (from ! (stop !))
+          assigns ! {v = (vptr b (o + 1308))} (addr ! (from ! (hop ! (look ! 49 refl) (fld ! {d = 1308} refl (stop !))))) (from ! (stop !))
           (init ! 26 refl (tt, tt)) $
-          assigns ! {v = (vptr b (o + 1820))} (addr ! (from ! (hop ! (look ! 48 refl) (fld ! {d = 1820} refl (stop !))))) (from ! (stop !))
+          assigns ! {v = (vptr b (o + 1820))} (addr ! (from ! (hop ! (look ! 49 refl) (fld ! {d = 1820} refl (stop !))))) (from ! (stop !))
           (init ! 25 refl (tt, tt)) $
-          move ! (10 ∷ []) $ lend-shr ! tt (past .35) (Array u32 128) (h .queued) b (o + 124)
+          move ! (10 ∷ []) $ lend-shr ! tt (past .37) (Array u32 128) (h .queued) b (o + 124)
           (λ α-queued δ-queued. move ! (4 ∷ []) $
-          lend-shr ! tt (past .35) (Array u32 32) (h .outstanding) b (o + 636)
+          lend-shr ! tt (past .37) (Array u32 32) (h .outstanding) b (o + 636)
           (λ α-outstanding′ δ-outstanding′. move ! (14 ∷ []) $
-          lend-shr ! tt (past .35) (Array u8 32) (h .transmissions) b (o + 764)
+          lend-shr ! tt (past .37) (Array u8 32) (h .transmissions) b (o + 764)
           (λ α-transmissions δ-transmissions. move ! (16 ∷ []) $
-          lend-shr ! tt (past .35) (Array u32 128) (h .ready) b (o + 796)
+          lend-shr ! tt (past .37) (Array u32 128) (h .ready) b (o + 796)
           (λ α-ready δ-ready. move ! (18 ∷ []) $
-          lend-shr ! tt (past .35) (Array u32 128) (h .waiting) b (o + 1308)
+          lend-shr ! tt (past .37) (Array u32 128) (h .waiting) b (o + 1308)
           (λ α-waiting δ-waiting. move ! (20 ∷ []) $
-          lend-shr ! tt (past .35) (Array u32 128) (h .«waiting_numbers») b (o + 1820)
+          lend-shr ! tt (past .37) (Array u32 128) (h .«waiting_numbers») b (o + 1820)
           (λ α-waiting-numbers δ-waiting-numbers. move ! (15 ∷ 16 ∷ 12 ∷ 13 ∷ 9 ∷ 10 ∷ 6 ∷ 7 ∷ 3 ∷ 4 ∷ 0 ∷ 1 ∷ 28 ∷ 32 ∷ 29
           ∷ 33 ∷ 30 ∷ 34 ∷ []) $ group ! 18 $
-          calls-fn ! fm core.ended (core.clauses 𝓤 H A at-mem run) (known .4)
+          calls-fn ! fm core.ended (core.clauses 𝓤 H A at-mem run) (known .5)
           (to-core α-queued δ-queued (h .queued) α-outstanding′ δ-outstanding′ (h .outstanding) α-transmissions δ-transmissions
           (h .transmissions) α-ready δ-ready (h .ready) α-waiting δ-waiting (h .waiting) α-waiting-numbers δ-waiting-numbers
           (h .«waiting_numbers») (h .settings) (only ((LL.vals settings-row.the-type settings-laws.the-laws) (h .settings))) (h .flight)
           (only ((LL.vals flight-row.the-type flight-laws.the-laws) (h .flight))) (h .arrival)
           (only ((LL.vals arrival-row.the-type arrival-laws.the-laws) (h .arrival))) (h .clock)
-          (only ((LL.vals clock-row.the-type clock-laws.the-laws) (h .clock))) (past .31) (past .32) (past .46) (past .47) (past .50)
-          (past .51)) (λ a ws-a. ByFlown h (past .46)
-          (λ recs. PlaceIs (placeOf (showsWith h recs (x₄ .now) (lentLengths (past .50) (x₁ .now) (x₂ .now) (x₄ .now))))
+          (only ((LL.vals clock-row.the-type clock-laws.the-laws) (h .clock))) (past .33) (past .34) (past .48) (past .49) (past .52)
+          (past .53)) (λ a ws-a. ByFlown h (past .48)
+          (λ recs. PlaceIs (placeOf (showsWith h recs (x₄ .now) (lentLengths (past .52) (x₁ .now) (x₂ .now) (x₄ .now))))
           (length (x₂ .now)) a)) (‵ (flft (α-queued ∷ []) fullShare) ⊛ ‵
           (ShrRef (named 0) (α-queued ∷ []) (Array u32 128) .own (ref-at b (o + 124) δ-queued (h .queued)) ((vptr b (o + 124)) ∷ [])) ⊛
           ‵ (flft (α-outstanding′ ∷ []) fullShare) ⊛ ‵
@@ -939,43 +948,43 @@ module _ {M : Type 1} (𝓤 : URA M) (H : Heap 𝓤) (A : Atoms 𝓤) (W : Given
           Own₄)
           (asks-core α-queued δ-queued (h .queued) α-outstanding′ δ-outstanding′ (h .outstanding) α-transmissions δ-transmissions
           (h .transmissions) α-ready δ-ready (h .ready) α-waiting δ-waiting (h .waiting) α-waiting-numbers δ-waiting-numbers
-          (h .«waiting_numbers») (h .settings) (only ((LL.vals settings-row.the-type settings-laws.the-laws) (h .settings))) (past .42)
-          (h .flight) (only ((LL.vals flight-row.the-type flight-laws.the-laws) (h .flight))) (past .43) (h .arrival)
-          (only ((LL.vals arrival-row.the-type arrival-laws.the-laws) (h .arrival))) (past .44) (h .clock)
-          (only ((LL.vals clock-row.the-type clock-laws.the-laws) (h .clock))) (past .45) (past .31) (past .32) (past .34) (past .46)
-          (past .47) (past .49) (past .50) (past .51) (past .53) (
+          (h .«waiting_numbers») (h .settings) (only ((LL.vals settings-row.the-type settings-laws.the-laws) (h .settings))) (past .44)
+          (h .flight) (only ((LL.vals flight-row.the-type flight-laws.the-laws) (h .flight))) (past .45) (h .arrival)
+          (only ((LL.vals arrival-row.the-type arrival-laws.the-laws) (h .arrival))) (past .46) (h .clock)
+          (only ((LL.vals clock-row.the-type clock-laws.the-laws) (h .clock))) (past .47) (past .33) (past .34) (past .36) (past .48)
+          (past .49) (past .51) (past .52) (past .53) (past .55) (
             record {
-              whole-queued = (past .36);
-              whole-outstanding = (past .37);
-              whole-transmissions = (past .38);
-              whole-ready = (past .39);
-              whole-waiting = (past .40);
-              whole-numbers = (past .41);
+              whole-queued = (past .38);
+              whole-outstanding = (past .39);
+              whole-transmissions = (past .40);
+              whole-ready = (past .41);
+              whole-waiting = (past .42);
+              whole-numbers = (past .43);
             },
             (
               (padded (gathered (take sendSlots (x₃ .now)) (slotsIn (h .outstanding) (h .flight .outstanding)))),
-              (record { whole = padded-whole (take sendSlots (x₃ .now)) (h .outstanding) (h .flight .outstanding); fits = (past .48) }),
+              (record { whole = padded-whole (take sendSlots (x₃ .now)) (h .outstanding) (h .flight .outstanding); fits = (past .50) }),
             ),
-            ((past .1), ((past .0), (past .33))),
+            ((past .1), ((past .0), (past .35))),
           )) (λ a ws-a. id⊢ 𝓤 _)
+          (and-then ! (load ! (from ! (stop !)) (look ! 37 refl))
           (and-then ! (load ! (from ! (stop !)) (look ! 36 refl))
           (and-then ! (load ! (from ! (stop !)) (look ! 35 refl))
           (and-then ! (load ! (from ! (stop !)) (look ! 34 refl))
+          (and-then ! (load ! (from ! (stop !)) (look ! 38 refl))
           (and-then ! (load ! (from ! (stop !)) (look ! 33 refl))
-          (and-then ! (load ! (from ! (stop !)) (look ! 37 refl))
           (and-then ! (load ! (from ! (stop !)) (look ! 32 refl))
-          (and-then ! (load ! (from ! (stop !)) (look ! 31 refl))
           (and-then ! (load ! (from ! (stop !)) (look ! 25 refl))
           (and-then ! (load ! (from ! (stop !)) (look ! 24 refl))
           (and-then ! (load ! (from ! (stop !)) (look ! 23 refl))
           (and-then ! (load ! (from ! (stop !)) (look ! 22 refl))
           (and-then ! (load ! (from ! (stop !)) (look ! 21 refl))
           (and-then ! (load ! (from ! (stop !)) (look ! 20 refl))
+          (and-then ! (load ! (from ! (stop !)) (look ! 43 refl))
           (and-then ! (load ! (from ! (stop !)) (look ! 42 refl))
-          (and-then ! (load ! (from ! (stop !)) (look ! 41 refl))
-          (and-then ! (load ! (from ! (stop !)) (look ! 39 refl)) (no-more !)))))))))))))))))
+          (and-then ! (load ! (from ! (stop !)) (look ! 40 refl)) (no-more !)))))))))))))))))
           (λ a w-a ws-a e-a is-a. land ! (from ! (stop !))
-          (init ! 31 refl (LL.lawful place-row.the-type place-laws.the-laws 𝓤 H A W .typed a (w-a ∷ []) is-a .0)) $
+          (init ! 32 refl (LL.lawful place-row.the-type place-laws.the-laws 𝓤 H A W .typed a (w-a ∷ []) is-a .0)) $
           spread W (‵ (flft (α-queued ∷ []) fullShare))
           (‵ (flft (α-outstanding′ ∷ []) fullShare) ∷ ‵ (flft (α-transmissions ∷ []) fullShare) ∷ ‵ (flft (α-ready ∷ []) fullShare)
           ∷ ‵ (flft (α-waiting ∷ []) fullShare) ∷ ‵ (flft (α-waiting-numbers ∷ []) fullShare) ∷ ‵ (flft κ₁ q₁)
@@ -984,16 +993,16 @@ module _ {M : Type 1} (𝓤 : URA M) (H : Heap 𝓤) (A : Atoms 𝓤) (W : Given
           ∷ ‵ ftrue ∷ ‵ ftrue ∷ ‵ ftrue ∷ ‵ ftrue ∷ ‵ ftrue ∷ ‵ ftrue ∷ ‵ ftrue ∷ []) (id⊢ 𝓤 _) $
           keep ! (17 ∷ 18 ∷ 19 ∷ 20 ∷ 21 ∷ 22 ∷ 23 ∷ 24 ∷ 25 ∷ 27 ∷ 28 ∷ 29 ∷ 30 ∷ 31 ∷ 32 ∷ 33 ∷ 34 ∷ 35 ∷ 36 ∷ 37
           ∷ 38 ∷ 39 ∷ 40 ∷ 41 ∷ 42 ∷ 43 ∷ 44 ∷ 45 ∷ 46 ∷ 47 ∷ 48 ∷ 49 ∷ 50 ∷ 51 ∷ 52 ∷ 53 ∷ 54 ∷ 55 ∷ 56 ∷ 57 ∷ 58
-          ∷ 59 ∷ 60 ∷ 61 ∷ 62 ∷ 63 ∷ 64 ∷ 65 ∷ 66 ∷ 67 ∷ 68 ∷ 69 ∷ 70 ∷ []) $
+          ∷ 59 ∷ 60 ∷ 61 ∷ 62 ∷ 63 ∷ 64 ∷ 65 ∷ 66 ∷ 67 ∷ 68 ∷ 69 ∷ 70 ∷ 71 ∷ []) $
           -- [tok:queued; tok:outstanding; tok:transmissions; tok:ready; tok:waiting; tok:«waiting_numbers»; tok1; tok2; tok4;
           -- lent:«waiting_numbers»; lent:waiting; lent:ready; lent:transmissions; lent:outstanding; lent:queued; tok3; F:clock; F:arrival;
           -- F:flight; F:settings; back; opened; deaths; tok5; own5; the locals]
-          move ! (0 ∷ 14 ∷ []) $ back-shr ! tt (past .35) (Array u32 128) b (o + 124) (h .queued) $ move ! (1 ∷ 13 ∷ []) $
-          back-shr ! tt (past .35) (Array u32 32) b (o + 636) (h .outstanding) $ move ! (2 ∷ 12 ∷ []) $
-          back-shr ! tt (past .35) (Array u8 32) b (o + 764) (h .transmissions) $ move ! (3 ∷ 11 ∷ []) $
-          back-shr ! tt (past .35) (Array u32 128) b (o + 796) (h .ready) $ move ! (4 ∷ 10 ∷ []) $
-          back-shr ! tt (past .35) (Array u32 128) b (o + 1308) (h .waiting) $ move ! (5 ∷ 9 ∷ []) $
-          back-shr ! tt (past .35) (Array u32 128) b (o + 1820) (h .«waiting_numbers») $
+          move ! (0 ∷ 14 ∷ []) $ back-shr ! tt (past .37) (Array u32 128) b (o + 124) (h .queued) $ move ! (1 ∷ 13 ∷ []) $
+          back-shr ! tt (past .37) (Array u32 32) b (o + 636) (h .outstanding) $ move ! (2 ∷ 12 ∷ []) $
+          back-shr ! tt (past .37) (Array u8 32) b (o + 764) (h .transmissions) $ move ! (3 ∷ 11 ∷ []) $
+          back-shr ! tt (past .37) (Array u32 128) b (o + 796) (h .ready) $ move ! (4 ∷ 10 ∷ []) $
+          back-shr ! tt (past .37) (Array u32 128) b (o + 1308) (h .waiting) $ move ! (5 ∷ 9 ∷ []) $
+          back-shr ! tt (past .37) (Array u32 128) b (o + 1820) (h .«waiting_numbers») $
           by ! (part₃ (
             (past .0),
             (past .1),
@@ -1026,14 +1035,16 @@ module _ {M : Type 1} (𝓤 : URA M) (H : Heap 𝓤) (A : Atoms 𝓤) (W : Given
             (past .28),
             (past .29),
             (past .30),
+            (past .31),
             (past .32),
-            (past .35),
-            (past .46),
-            (past .47),
+            (past .34),
+            (past .37),
             (past .48),
+            (past .49),
             (past .50),
-            (past .51),
             (past .52),
+            (past .53),
+            (past .54),
             a,
             w-a,
             e-a,
@@ -1046,41 +1057,43 @@ module _ {M : Type 1} (𝓤 : URA M) (H : Heap 𝓤) (A : Atoms 𝓤) (W : Given
           (l₅ : ℕ) × (l₆ : ℕ) × (l₇ : ℕ) × (l₈ : ℕ) × (l₉ : ℕ) × (l₁₀ : ℕ) × (l₁₁ : ℕ) × (l₁₂ : ℕ) ×
           (l₁₃ : ℕ) × (l₁₄ : ℕ) × (l₁₅ : ℕ) × (l₁₆ : ℕ) × (l₁₇ : ℕ) × (l₁₈ : ℕ) × (l₁₉ : ℕ) ×
           (l₂₀ : ℕ) × (l₂₁ : ℕ) × (l₂₂ : ℕ) × (l₂₃ : ℕ) × (l₂₄ : ℕ) × (l₂₅ : ℕ) × (l₂₆ : ℕ) ×
-          (l₂₇ : ℕ) × (w-receives : Val) × (ok : Bool) × (w-ok : Val) × (e-ok : Sound h z-sends z-receives ok) × (Is Boolean ok (w-ok ∷ []))
+          (l₂₇ : ℕ) × (l₂₈ : ℕ) × (w-sends : Val) × (w-receives : Val) × (ok : Bool) × (w-ok : Val) ×
+          (e-ok : Sound h z-sends z-receives ok) × (Is Boolean ok (w-ok ∷ []))
 
       part₁ : (past : Known₁) → ent 𝓤 (⋆ 𝓤 H A (‵
           (fat fullShare (tyArray (tyInt w8) 256) (past .10) 0 ((only ((array-vals (uint-vals w8)) (past .0)))))
-          ∷ ‵ (fat fullShare (tyArray (tyInt w8) 256) (past .9) 0 ((only ((array-vals (uint-vals w8)) (past .1))))) ∷ ‵ (flft κ₀ q₀)
+          ∷ ‵ (fat fullShare (tyArray (tyInt w8) 128) (past .9) 0 ((only ((array-vals (uint-vals w8)) (past .1))))) ∷ ‵ (flft κ₀ q₀)
           ∷ ‵ (link-shr κ₀ b o γ h) ∷ (‵ (fdies (tyInt w32) (past .2)) ⊛ ‵ (fdies (tyRef (named 0) imm (pointee (L .written))) (past .3)) ⊛
           ‵ (fdies (sliceTy (tyRef (named 1) imm (tyInt w8))) (past .4)) ⊛ ‵ (fdies (sliceTy (tyRef (named 2) imm (tyInt w8))) (past .5)) ⊛
           ‵ (fdies (sliceTy (tyRef (named 3) imm (pointee (R .written)))) (past .6)) ⊛ ‵
           (fdies (sliceTy (tyRef (named 4) imm (tyInt w32))) (past .7)) ⊛ ‵ (fdies (tyRef (named 5) mut (tyInt w32)) (past .8)) ⊛ ‵
-          (fdies (tyArray (tyInt w8) 256) (past .9)) ⊛ ‵ (fdies (tyArray (tyInt w8) 256) (past .10)) ⊛ ‵ (fdies tyBool (past .11)) ⊛ ‵
+          (fdies (tyArray (tyInt w8) 128) (past .9)) ⊛ ‵ (fdies (tyArray (tyInt w8) 256) (past .10)) ⊛ ‵ (fdies tyBool (past .11)) ⊛ ‵
           (fdies settings-laws.mir (past .12)) ⊛ ‵ (fdies flight-laws.mir (past .13)) ⊛ ‵ (fdies arrival-laws.mir (past .14)) ⊛ ‵
           (fdies clock-laws.mir (past .15)) ⊛ ‵ (fdies tyBool (past .16)) ⊛ ‵ (fdies (tyInt w64) (past .17)) ⊛ ‵
-          (fdies place-laws.mir (past .18)) ⊛ ‵ (fdies (tyArray (tyInt w8) 256) (past .19)) ⊛ ‵
-          (fdies (tyRef erased mut (tyArray (tyInt w8) 256)) (past .20)) ⊛ ‵ (fdies (tyRef erased mut (tyArray (tyInt w8) 256)) (past .21))
-          ⊛ ‵ (fdies (tyRef erased imm (tyArray (tyInt w32) 32)) (past .22)) ⊛ ‵
-          (fdies (tyRef erased imm (tyArray (tyInt w32) 128)) (past .23)) ⊛ ‵ (fdies (tyRef erased imm (tyArray (tyInt w32) 32)) (past .24))
-          ⊛ ‵ (fdies (tyRef erased imm (tyArray (tyInt w8) 32)) (past .25)) ⊛ ‵
-          (fdies (tyRef erased imm (tyArray (tyInt w32) 128)) (past .26)) ⊛ ‵
-          (fdies (tyRef erased imm (tyArray (tyInt w32) 128)) (past .27)) ⊛ ‵
-          (fdies (tyRef erased imm (tyArray (tyInt w32) 128)) (past .28)) ⊛ ‵ (fdies (tyRef erased mut (tyInt w32)) (past .29)))
+          (fdies place-laws.mir (past .18)) ⊛ ‵ (fdies (tyArray (tyInt w8) 128) (past .19)) ⊛ ‵ (fdies (tyArray (tyInt w8) 256) (past .20))
+          ⊛ ‵ (fdies (tyRef erased mut (tyArray (tyInt w8) 128)) (past .21)) ⊛ ‵
+          (fdies (tyRef erased mut (tyArray (tyInt w8) 256)) (past .22)) ⊛ ‵ (fdies (tyRef erased imm (tyArray (tyInt w32) 32)) (past .23))
+          ⊛ ‵ (fdies (tyRef erased imm (tyArray (tyInt w32) 128)) (past .24)) ⊛ ‵
+          (fdies (tyRef erased imm (tyArray (tyInt w32) 32)) (past .25)) ⊛ ‵ (fdies (tyRef erased imm (tyArray (tyInt w8) 32)) (past .26)) ⊛
+          ‵ (fdies (tyRef erased imm (tyArray (tyInt w32) 128)) (past .27)) ⊛ ‵
+          (fdies (tyRef erased imm (tyArray (tyInt w32) 128)) (past .28)) ⊛ ‵
+          (fdies (tyRef erased imm (tyArray (tyInt w32) 128)) (past .29)) ⊛ ‵ (fdies (tyRef erased mut (tyInt w32)) (past .30)))
           ∷ ‵ (flft κ₁ q₁) ∷ ‵ (flft κ₂ q₂) ∷ ‵ (flft κ₃ q₃) ∷ ‵ (flft κ₄ q₄) ∷ ‵ (flft κ₅ q₅) ∷ ‵ Own₁
-          ∷ ‵ Own₂ ∷ ‵ Own₃ ∷ ‵ Own₄ ∷ ‵ Own₅ ∷ ‵ (froom (tyRef erased mut (tyInt w32)) (past .29) 0)
+          ∷ ‵ Own₂ ∷ ‵ Own₃ ∷ ‵ Own₄ ∷ ‵ Own₅ ∷ ‵ (froom (tyRef erased mut (tyInt w32)) (past .30) 0)
+          ∷ ‵ (froom (tyRef erased imm (tyArray (tyInt w32) 128)) (past .29) 0)
           ∷ ‵ (froom (tyRef erased imm (tyArray (tyInt w32) 128)) (past .28) 0)
           ∷ ‵ (froom (tyRef erased imm (tyArray (tyInt w32) 128)) (past .27) 0)
-          ∷ ‵ (froom (tyRef erased imm (tyArray (tyInt w32) 128)) (past .26) 0)
-          ∷ ‵ (froom (tyRef erased imm (tyArray (tyInt w8) 32)) (past .25) 0)
-          ∷ ‵ (froom (tyRef erased imm (tyArray (tyInt w32) 32)) (past .24) 0)
-          ∷ ‵ (froom (tyRef erased imm (tyArray (tyInt w32) 128)) (past .23) 0)
-          ∷ ‵ (froom (tyRef erased imm (tyArray (tyInt w32) 32)) (past .22) 0)
-          ∷ ‵ (fat fullShare (tyRef erased mut (tyArray (tyInt w8) 256)) (past .21) 0 ((vptr (past .10) 0)))
-          ∷ ‵ (fat fullShare (tyRef erased mut (tyArray (tyInt w8) 256)) (past .20) 0 ((vptr (past .9) 0)))
-          ∷ ‵ (fat fullShare (tyArray (tyInt w8) 256) (past .19) 0 ((past .30))) ∷ ‵ (froom place-laws.mir (past .18) 0)
+          ∷ ‵ (froom (tyRef erased imm (tyArray (tyInt w8) 32)) (past .26) 0)
+          ∷ ‵ (froom (tyRef erased imm (tyArray (tyInt w32) 32)) (past .25) 0)
+          ∷ ‵ (froom (tyRef erased imm (tyArray (tyInt w32) 128)) (past .24) 0)
+          ∷ ‵ (froom (tyRef erased imm (tyArray (tyInt w32) 32)) (past .23) 0)
+          ∷ ‵ (fat fullShare (tyRef erased mut (tyArray (tyInt w8) 256)) (past .22) 0 ((vptr (past .10) 0)))
+          ∷ ‵ (fat fullShare (tyRef erased mut (tyArray (tyInt w8) 128)) (past .21) 0 ((vptr (past .9) 0)))
+          ∷ ‵ (fat fullShare (tyArray (tyInt w8) 256) (past .20) 0 ((past .32)))
+          ∷ ‵ (fat fullShare (tyArray (tyInt w8) 128) (past .19) 0 ((past .31))) ∷ ‵ (froom place-laws.mir (past .18) 0)
           ∷ ‵ (froom (tyInt w64) (past .17) 0) ∷ ‵ (froom tyBool (past .16) 0) ∷ ‵ (froom clock-laws.mir (past .15) 0)
           ∷ ‵ (froom arrival-laws.mir (past .14) 0) ∷ ‵ (froom flight-laws.mir (past .13) 0) ∷ ‵ (froom settings-laws.mir (past .12) 0)
-          ∷ ‵ (fat fullShare tyBool (past .11) 0 ((past .32))) ∷ ‵ (fat fullShare (tyRef (named 5) mut (tyInt w32)) (past .8) 0 (s₅))
+          ∷ ‵ (fat fullShare tyBool (past .11) 0 ((past .34))) ∷ ‵ (fat fullShare (tyRef (named 5) mut (tyInt w32)) (past .8) 0 (s₅))
           ∷ ‵ (fat fullShare (sliceTy (tyRef (named 4) imm (tyInt w32))) (past .7) 0 (s₄))
           ∷ ‵ (fat fullShare (sliceTy (tyRef (named 3) imm (pointee (R .written)))) (past .6) 0 (s₃))
           ∷ ‵ (fat fullShare (sliceTy (tyRef (named 2) imm (tyInt w8))) (past .5) 0 (s₂))
@@ -1088,46 +1101,47 @@ module _ {M : Type 1} (𝓤 : URA M) (H : Heap 𝓤) (A : Atoms 𝓤) (W : Given
           ∷ ‵ (fat fullShare (tyRef (named 0) imm (pointee (L .written))) (past .3) 0 (vptr b o)) ∷ ‵ (froom (tyInt w32) (past .2) 0) ∷ []))
           (Wp 𝓤 H C Λ (En (past .2) (past .3) (past .4) (past .5) (past .6) (past .7) (past .8) (past .9) (past .10) (past .11) (past .12)
           (past .13) (past .14) (past .15) (past .16) (past .17) (past .18) (past .19) (past .20) (past .21) (past .22) (past .23)
-          (past .24) (past .25) (past .26) (past .27) (past .28) (past .29)) (behind 7 (code.function .body))
+          (past .24) (past .25) (past .26) (past .27) (past .28) (past .29) (past .30)) (behind 7 (code.function .body))
           (atReturn 𝓤 H (En (past .2) (past .3) (past .4) (past .5) (past .6) (past .7) (past .8) (past .9) (past .10) (past .11) (past .12)
           (past .13) (past .14) (past .15) (past .16) (past .17) (past .18) (past .19) (past .20) (past .21) (past .22) (past .23)
-          (past .24) (past .25) (past .26) (past .27) (past .28) (past .29)) Post))
+          (past .24) (past .25) (past .26) (past .27) (past .28) (past .29) (past .30)) Post))
       part₁ past =
           qed W (‵ (fat fullShare (tyArray (tyInt w8) 256) (past .10) 0 ((only ((array-vals (uint-vals w8)) (past .0)))))
-          ∷ ‵ (fat fullShare (tyArray (tyInt w8) 256) (past .9) 0 ((only ((array-vals (uint-vals w8)) (past .1))))) ∷ ‵ (flft κ₀ q₀)
+          ∷ ‵ (fat fullShare (tyArray (tyInt w8) 128) (past .9) 0 ((only ((array-vals (uint-vals w8)) (past .1))))) ∷ ‵ (flft κ₀ q₀)
           ∷ ‵ (link-shr κ₀ b o γ h) ∷ (‵ (fdies (tyInt w32) (past .2)) ⊛ ‵
           (fdies (tyRef (named 0) imm (pointee (L .written))) (past .3)) ⊛ ‵
           (fdies (sliceTy (tyRef (named 1) imm (tyInt w8))) (past .4)) ⊛ ‵ (fdies (sliceTy (tyRef (named 2) imm (tyInt w8))) (past .5))
           ⊛ ‵ (fdies (sliceTy (tyRef (named 3) imm (pointee (R .written)))) (past .6)) ⊛ ‵
           (fdies (sliceTy (tyRef (named 4) imm (tyInt w32))) (past .7)) ⊛ ‵ (fdies (tyRef (named 5) mut (tyInt w32)) (past .8)) ⊛ ‵
-          (fdies (tyArray (tyInt w8) 256) (past .9)) ⊛ ‵ (fdies (tyArray (tyInt w8) 256) (past .10)) ⊛ ‵ (fdies tyBool (past .11)) ⊛ ‵
+          (fdies (tyArray (tyInt w8) 128) (past .9)) ⊛ ‵ (fdies (tyArray (tyInt w8) 256) (past .10)) ⊛ ‵ (fdies tyBool (past .11)) ⊛ ‵
           (fdies settings-laws.mir (past .12)) ⊛ ‵ (fdies flight-laws.mir (past .13)) ⊛ ‵ (fdies arrival-laws.mir (past .14)) ⊛ ‵
           (fdies clock-laws.mir (past .15)) ⊛ ‵ (fdies tyBool (past .16)) ⊛ ‵ (fdies (tyInt w64) (past .17)) ⊛ ‵
-          (fdies place-laws.mir (past .18)) ⊛ ‵ (fdies (tyArray (tyInt w8) 256) (past .19)) ⊛ ‵
-          (fdies (tyRef erased mut (tyArray (tyInt w8) 256)) (past .20)) ⊛ ‵
-          (fdies (tyRef erased mut (tyArray (tyInt w8) 256)) (past .21)) ⊛ ‵
-          (fdies (tyRef erased imm (tyArray (tyInt w32) 32)) (past .22)) ⊛ ‵
-          (fdies (tyRef erased imm (tyArray (tyInt w32) 128)) (past .23)) ⊛ ‵
-          (fdies (tyRef erased imm (tyArray (tyInt w32) 32)) (past .24)) ⊛ ‵
-          (fdies (tyRef erased imm (tyArray (tyInt w8) 32)) (past .25)) ⊛ ‵
-          (fdies (tyRef erased imm (tyArray (tyInt w32) 128)) (past .26)) ⊛ ‵
+          (fdies place-laws.mir (past .18)) ⊛ ‵ (fdies (tyArray (tyInt w8) 128) (past .19)) ⊛ ‵
+          (fdies (tyArray (tyInt w8) 256) (past .20)) ⊛ ‵ (fdies (tyRef erased mut (tyArray (tyInt w8) 128)) (past .21)) ⊛ ‵
+          (fdies (tyRef erased mut (tyArray (tyInt w8) 256)) (past .22)) ⊛ ‵
+          (fdies (tyRef erased imm (tyArray (tyInt w32) 32)) (past .23)) ⊛ ‵
+          (fdies (tyRef erased imm (tyArray (tyInt w32) 128)) (past .24)) ⊛ ‵
+          (fdies (tyRef erased imm (tyArray (tyInt w32) 32)) (past .25)) ⊛ ‵
+          (fdies (tyRef erased imm (tyArray (tyInt w8) 32)) (past .26)) ⊛ ‵
           (fdies (tyRef erased imm (tyArray (tyInt w32) 128)) (past .27)) ⊛ ‵
-          (fdies (tyRef erased imm (tyArray (tyInt w32) 128)) (past .28)) ⊛ ‵ (fdies (tyRef erased mut (tyInt w32)) (past .29)))
+          (fdies (tyRef erased imm (tyArray (tyInt w32) 128)) (past .28)) ⊛ ‵
+          (fdies (tyRef erased imm (tyArray (tyInt w32) 128)) (past .29)) ⊛ ‵ (fdies (tyRef erased mut (tyInt w32)) (past .30)))
           ∷ ‵ (flft κ₁ q₁) ∷ ‵ (flft κ₂ q₂) ∷ ‵ (flft κ₃ q₃) ∷ ‵ (flft κ₄ q₄) ∷ ‵ (flft κ₅ q₅) ∷ ‵ Own₁
-          ∷ ‵ Own₂ ∷ ‵ Own₃ ∷ ‵ Own₄ ∷ ‵ Own₅ ∷ ‵ (froom (tyRef erased mut (tyInt w32)) (past .29) 0)
+          ∷ ‵ Own₂ ∷ ‵ Own₃ ∷ ‵ Own₄ ∷ ‵ Own₅ ∷ ‵ (froom (tyRef erased mut (tyInt w32)) (past .30) 0)
+          ∷ ‵ (froom (tyRef erased imm (tyArray (tyInt w32) 128)) (past .29) 0)
           ∷ ‵ (froom (tyRef erased imm (tyArray (tyInt w32) 128)) (past .28) 0)
           ∷ ‵ (froom (tyRef erased imm (tyArray (tyInt w32) 128)) (past .27) 0)
-          ∷ ‵ (froom (tyRef erased imm (tyArray (tyInt w32) 128)) (past .26) 0)
-          ∷ ‵ (froom (tyRef erased imm (tyArray (tyInt w8) 32)) (past .25) 0)
-          ∷ ‵ (froom (tyRef erased imm (tyArray (tyInt w32) 32)) (past .24) 0)
-          ∷ ‵ (froom (tyRef erased imm (tyArray (tyInt w32) 128)) (past .23) 0)
-          ∷ ‵ (froom (tyRef erased imm (tyArray (tyInt w32) 32)) (past .22) 0)
-          ∷ ‵ (fat fullShare (tyRef erased mut (tyArray (tyInt w8) 256)) (past .21) 0 ((vptr (past .10) 0)))
-          ∷ ‵ (fat fullShare (tyRef erased mut (tyArray (tyInt w8) 256)) (past .20) 0 ((vptr (past .9) 0)))
-          ∷ ‵ (fat fullShare (tyArray (tyInt w8) 256) (past .19) 0 ((past .30))) ∷ ‵ (froom place-laws.mir (past .18) 0)
+          ∷ ‵ (froom (tyRef erased imm (tyArray (tyInt w8) 32)) (past .26) 0)
+          ∷ ‵ (froom (tyRef erased imm (tyArray (tyInt w32) 32)) (past .25) 0)
+          ∷ ‵ (froom (tyRef erased imm (tyArray (tyInt w32) 128)) (past .24) 0)
+          ∷ ‵ (froom (tyRef erased imm (tyArray (tyInt w32) 32)) (past .23) 0)
+          ∷ ‵ (fat fullShare (tyRef erased mut (tyArray (tyInt w8) 256)) (past .22) 0 ((vptr (past .10) 0)))
+          ∷ ‵ (fat fullShare (tyRef erased mut (tyArray (tyInt w8) 128)) (past .21) 0 ((vptr (past .9) 0)))
+          ∷ ‵ (fat fullShare (tyArray (tyInt w8) 256) (past .20) 0 ((past .32)))
+          ∷ ‵ (fat fullShare (tyArray (tyInt w8) 128) (past .19) 0 ((past .31))) ∷ ‵ (froom place-laws.mir (past .18) 0)
           ∷ ‵ (froom (tyInt w64) (past .17) 0) ∷ ‵ (froom tyBool (past .16) 0) ∷ ‵ (froom clock-laws.mir (past .15) 0)
           ∷ ‵ (froom arrival-laws.mir (past .14) 0) ∷ ‵ (froom flight-laws.mir (past .13) 0) ∷ ‵ (froom settings-laws.mir (past .12) 0)
-          ∷ ‵ (fat fullShare tyBool (past .11) 0 ((past .32))) ∷ ‵ (fat fullShare (tyRef (named 5) mut (tyInt w32)) (past .8) 0 (s₅))
+          ∷ ‵ (fat fullShare tyBool (past .11) 0 ((past .34))) ∷ ‵ (fat fullShare (tyRef (named 5) mut (tyInt w32)) (past .8) 0 (s₅))
           ∷ ‵ (fat fullShare (sliceTy (tyRef (named 4) imm (tyInt w32))) (past .7) 0 (s₄))
           ∷ ‵ (fat fullShare (sliceTy (tyRef (named 3) imm (pointee (R .written)))) (past .6) 0 (s₃))
           ∷ ‵ (fat fullShare (sliceTy (tyRef (named 2) imm (tyInt w8))) (past .5) 0 (s₂))
@@ -1135,10 +1149,10 @@ module _ {M : Type 1} (𝓤 : URA M) (H : Heap 𝓤) (A : Atoms 𝓤) (W : Given
           ∷ ‵ (fat fullShare (tyRef (named 0) imm (pointee (L .written))) (past .3) 0 (vptr b o)) ∷ ‵ (froom (tyInt w32) (past .2) 0)
           ∷ []) ∵ exec ! C Λ (En (past .2) (past .3) (past .4) (past .5) (past .6) (past .7) (past .8) (past .9) (past .10) (past .11)
           (past .12) (past .13) (past .14) (past .15) (past .16) (past .17) (past .18) (past .19) (past .20) (past .21) (past .22)
-          (past .23) (past .24) (past .25) (past .26) (past .27) (past .28) (past .29)) (behind 7 (code.function .body))
+          (past .23) (past .24) (past .25) (past .26) (past .27) (past .28) (past .29) (past .30)) (behind 7 (code.function .body))
           (atRet (En (past .2) (past .3) (past .4) (past .5) (past .6) (past .7) (past .8) (past .9) (past .10) (past .11) (past .12)
           (past .13) (past .14) (past .15) (past .16) (past .17) (past .18) (past .19) (past .20) (past .21) (past .22) (past .23)
-          (past .24) (past .25) (past .26) (past .27) (past .28) (past .29)) Post) $
+          (past .24) (past .25) (past .26) (past .27) (past .28) (past .29) (past .30)) Post) $
           move ! (3 ∷ 2 ∷ []) $ looks-link b o γ ! tt h (λ q′.
           -- [F:settings; F:flight; F:arrival; F:clock; F:queued; F:outstanding; F:transmissions; F:ready; F:waiting; F:«waiting_numbers»;
           -- back; opened; deaths; tok1; tok2; tok3; tok4; tok5; own1; own2; own3; own4; own5; the locals]
@@ -1157,42 +1171,42 @@ module _ {M : Type 1} (𝓤 : URA M) (H : Heap 𝓤) (A : Atoms 𝓤) (W : Given
           cell-out ! q′ settings-row.the-row (LL.vals settings-row.the-type settings-laws.the-laws)
           (LL.tells settings-row.the-type settings-laws.the-laws) (h .settings) b (o + 0) (λ was-settings.
           assigns ! {v = (only ((LL.vals settings-row.the-type settings-laws.the-laws) (h .settings)))}
-          (of-opd ! (load ! (from ! (hop ! (look ! 49 refl) (fld ! {d = 0} refl (stop !)))) (look-raw ! 0 refl))) (from ! (stop !))
-          (init ! 42 refl (LL.lawful settings-row.the-type settings-laws.the-laws 𝓤 H A W .typed (h .settings)
+          (of-opd ! (load ! (from ! (hop ! (look ! 50 refl) (fld ! {d = 0} refl (stop !)))) (look-raw ! 0 refl))) (from ! (stop !))
+          (init ! 43 refl (LL.lawful settings-row.the-type settings-laws.the-laws 𝓤 H A W .typed (h .settings)
           ((only ((LL.vals settings-row.the-type settings-laws.the-laws) (h .settings))) ∷ []) was-settings .0)) $
           cell-in ! q′ settings-row.the-row (LL.makes settings-row.the-type settings-laws.the-plain 𝓤 H A) (h .settings) b (o + 0)
           (only ((LL.vals settings-row.the-type settings-laws.the-laws) (h .settings))) was-settings $ move ! (7 ∷ []) $
           cell-out ! q′ flight-row.the-row (LL.vals flight-row.the-type flight-laws.the-laws)
           (LL.tells flight-row.the-type flight-laws.the-laws) (h .flight) b (o + 16) (λ was-flight.
           assigns ! {v = (only ((LL.vals flight-row.the-type flight-laws.the-laws) (h .flight)))}
-          (of-opd ! (load ! (from ! (hop ! (look ! 49 refl) (fld ! {d = 16} refl (stop !)))) (look-raw ! 0 refl))) (from ! (stop !))
-          (init ! 41 refl (LL.lawful flight-row.the-type flight-laws.the-laws 𝓤 H A W .typed (h .flight)
+          (of-opd ! (load ! (from ! (hop ! (look ! 50 refl) (fld ! {d = 16} refl (stop !)))) (look-raw ! 0 refl))) (from ! (stop !))
+          (init ! 42 refl (LL.lawful flight-row.the-type flight-laws.the-laws 𝓤 H A W .typed (h .flight)
           ((only ((LL.vals flight-row.the-type flight-laws.the-laws) (h .flight))) ∷ []) was-flight .0)) $
           cell-in ! q′ flight-row.the-row (LL.makes flight-row.the-type flight-laws.the-plain 𝓤 H A) (h .flight) b (o + 16)
           (only ((LL.vals flight-row.the-type flight-laws.the-laws) (h .flight))) was-flight $ move ! (8 ∷ []) $
           cell-out ! q′ arrival-row.the-row (LL.vals arrival-row.the-type arrival-laws.the-laws)
           (LL.tells arrival-row.the-type arrival-laws.the-laws) (h .arrival) b (o + 72) (λ was-arrival.
           assigns ! {v = (only ((LL.vals arrival-row.the-type arrival-laws.the-laws) (h .arrival)))}
-          (of-opd ! (load ! (from ! (hop ! (look ! 49 refl) (fld ! {d = 72} refl (stop !)))) (look-raw ! 0 refl))) (from ! (stop !))
-          (init ! 40 refl (LL.lawful arrival-row.the-type arrival-laws.the-laws 𝓤 H A W .typed (h .arrival)
+          (of-opd ! (load ! (from ! (hop ! (look ! 50 refl) (fld ! {d = 72} refl (stop !)))) (look-raw ! 0 refl))) (from ! (stop !))
+          (init ! 41 refl (LL.lawful arrival-row.the-type arrival-laws.the-laws 𝓤 H A W .typed (h .arrival)
           ((only ((LL.vals arrival-row.the-type arrival-laws.the-laws) (h .arrival))) ∷ []) was-arrival .0)) $
           cell-in ! q′ arrival-row.the-row (LL.makes arrival-row.the-type arrival-laws.the-plain 𝓤 H A) (h .arrival) b (o + 72)
           (only ((LL.vals arrival-row.the-type arrival-laws.the-laws) (h .arrival))) was-arrival $ move ! (9 ∷ []) $
           cell-out ! q′ clock-row.the-row (LL.vals clock-row.the-type clock-laws.the-laws)
           (LL.tells clock-row.the-type clock-laws.the-laws) (h .clock) b (o + 104) (λ was-clock.
           assigns ! {v = (only ((LL.vals clock-row.the-type clock-laws.the-laws) (h .clock)))}
-          (of-opd ! (load ! (from ! (hop ! (look ! 49 refl) (fld ! {d = 104} refl (stop !)))) (look-raw ! 0 refl))) (from ! (stop !))
-          (init ! 39 refl (LL.lawful clock-row.the-type clock-laws.the-laws 𝓤 H A W .typed (h .clock)
+          (of-opd ! (load ! (from ! (hop ! (look ! 50 refl) (fld ! {d = 104} refl (stop !)))) (look-raw ! 0 refl))) (from ! (stop !))
+          (init ! 40 refl (LL.lawful clock-row.the-type clock-laws.the-laws 𝓤 H A W .typed (h .clock)
           ((only ((LL.vals clock-row.the-type clock-laws.the-laws) (h .clock))) ∷ []) was-clock .0)) $
           cell-in ! q′ clock-row.the-row (LL.makes clock-row.the-type clock-laws.the-plain 𝓤 H A) (h .clock) b (o + 104)
           (only ((LL.vals clock-row.the-type clock-laws.the-laws) (h .clock))) was-clock $
-          assigns ! {v = (vptr b (o + 636))} (addr ! (from ! (hop ! (look ! 49 refl) (fld ! {d = 636} refl (stop !)))))
+          assigns ! {v = (vptr b (o + 636))} (addr ! (from ! (hop ! (look ! 50 refl) (fld ! {d = 636} refl (stop !)))))
           (from ! (stop !)) (init ! 32 refl (tt, tt)) $
           move ! (8 ∷ []) $ lend-shr ! tt q′ (Array u32 32) (h .outstanding) b (o + 636)
           (λ α-outstanding δ-outstanding. move ! (24 ∷ []) $
           use1 W (‵ Own₃ ⊛ ‵ Own₃) (shr-slice-copy 𝓤 H A W (named 0) κ₃ R .twice x₃ (s₃ ∷ [])) $ split ! $
           move ! (21 ∷ 0 ∷ 2 ∷ 3 ∷ []) $ group ! 4 $
-          calls-fn ! fm fit.ended (fit.clauses 𝓤 H A at-mem run) (known .2)
+          calls-fn ! fm fit.ended (fit.clauses 𝓤 H A at-mem run) (known .3)
           (to-fit α-outstanding δ-outstanding (h .outstanding) (h .settings)
           (only ((LL.vals settings-row.the-type settings-laws.the-laws) (h .settings))) (h .flight)
           (only ((LL.vals flight-row.the-type flight-laws.the-laws) (h .flight))))
@@ -1205,27 +1219,27 @@ module _ {M : Type 1} (𝓤 : URA M) (H : Heap 𝓤) (A : Atoms 𝓤) (W : Given
           (asks-fit α-outstanding δ-outstanding (h .outstanding) (h .settings)
           (only ((LL.vals settings-row.the-type settings-laws.the-laws) (h .settings))) was-settings (h .flight)
           (only ((LL.vals flight-row.the-type flight-laws.the-laws) (h .flight))) was-flight (len-outstanding)) (λ fl ws-fl. id⊢ 𝓤 _)
-          (and-then ! (load ! (from ! (stop !)) (look ! 46 refl))
+          (and-then ! (load ! (from ! (stop !)) (look ! 47 refl))
           (and-then ! (load ! (from ! (stop !)) (look ! 32 refl))
-          (and-then ! (load ! (from ! (stop !)) (look ! 42 refl)) (and-then ! (load ! (from ! (stop !)) (look ! 41 refl)) (no-more !)))))
-          (λ fl w-fl ws-fl e-fl is-fl. land ! (from ! (stop !)) (init ! 39 refl (bool-lawful 𝓤 H A W .typed fl _ is-fl .0)) $
+          (and-then ! (load ! (from ! (stop !)) (look ! 43 refl)) (and-then ! (load ! (from ! (stop !)) (look ! 42 refl)) (no-more !)))))
+          (λ fl w-fl ws-fl e-fl is-fl. land ! (from ! (stop !)) (init ! 40 refl (bool-lawful 𝓤 H A W .typed fl _ is-fl .0)) $
           spread W (‵ (flft κ₃ q₃)) (‵ (flft (α-outstanding ∷ []) fullShare) ∷ ‵ ftrue ∷ []) (id⊢ 𝓤 _) $ move ! (3 ∷ []) $
           spread W (‵ ftrue) (‵ ftrue ∷ ‵ ftrue ∷ ‵ ftrue ∷ ‵ ftrue ∷ []) (id⊢ 𝓤 _) $
           keep ! (5 ∷ 6 ∷ 8 ∷ 9 ∷ 10 ∷ 11 ∷ 12 ∷ 13 ∷ 14 ∷ 15 ∷ 16 ∷ 17 ∷ 18 ∷ 19 ∷ 20 ∷ 21 ∷ 22 ∷ 23 ∷ 24 ∷ 25 ∷ 26
           ∷ 27 ∷ 28 ∷ 29 ∷ 30 ∷ 31 ∷ 32 ∷ 33 ∷ 34 ∷ 35 ∷ 36 ∷ 37 ∷ 38 ∷ 39 ∷ 40 ∷ 41 ∷ 42 ∷ 43 ∷ 44 ∷ 45 ∷ 46 ∷ 47
-          ∷ 48 ∷ 49 ∷ 50 ∷ 51 ∷ 52 ∷ 53 ∷ 54 ∷ 55 ∷ 56 ∷ 57 ∷ []) $
+          ∷ 48 ∷ 49 ∷ 50 ∷ 51 ∷ 52 ∷ 53 ∷ 54 ∷ 55 ∷ 56 ∷ 57 ∷ 58 ∷ []) $
           -- [tok3; tok:outstanding; own3; lent:outstanding; F:clock; F:arrival; F:flight; F:settings; F:«waiting_numbers»; F:waiting;
           -- F:ready; F:transmissions; F:queued; back; opened; deaths; tok1; tok2; tok4; tok5; own1; own2; own4; own5; the locals]
           move ! (1 ∷ 3 ∷ []) $ back-shr ! tt q′ (Array u32 32) b (o + 636) (h .outstanding) $ move ! (1 ∷ 2 ∷ []) $ join ! $
-          calls-fn ! fm table-len.ended (table-len.clauses 𝓤 H A at-mem run) (known .3) (to-table-len)
+          calls-fn ! fm table-len.ended (table-len.clauses 𝓤 H A at-mem run) (known .4) (to-table-len)
           (λ m ws-m. m ≡ length (x₃ .now)) (‵ (flft κ₃ q₃) ⊛ ‵ Own₃)
           (asks-table-len) (λ m ws-m. id⊢ 𝓤 _)
-          (and-then ! (load ! (from ! (stop !)) (look ! 45 refl)) (no-more !))
-          (λ m w-m ws-m e-m is-m. land ! (from ! (stop !)) (init ! 37 refl (uint-lawful 𝓤 H A W w64 .typed m _ is-m .0)) $
+          (and-then ! (load ! (from ! (stop !)) (look ! 46 refl)) (no-more !))
+          (λ m w-m ws-m e-m is-m. land ! (from ! (stop !)) (init ! 38 refl (uint-lawful 𝓤 H A W w64 .typed m _ is-m .0)) $
           spread W (‵ (flft κ₃ q₃)) (‵ ftrue ∷ []) (id⊢ 𝓤 _) $ move ! (2 ∷ []) $ spread W (‵ ftrue) (‵ ftrue ∷ []) (id⊢ 𝓤 _) $
           keep ! (2 ∷ 4 ∷ 5 ∷ 6 ∷ 7 ∷ 8 ∷ 9 ∷ 10 ∷ 11 ∷ 12 ∷ 13 ∷ 14 ∷ 15 ∷ 16 ∷ 17 ∷ 18 ∷ 19 ∷ 20 ∷ 21 ∷ 22 ∷ 23
           ∷ 24 ∷ 25 ∷ 26 ∷ 27 ∷ 28 ∷ 29 ∷ 30 ∷ 31 ∷ 32 ∷ 33 ∷ 34 ∷ 35 ∷ 36 ∷ 37 ∷ 38 ∷ 39 ∷ 40 ∷ 41 ∷ 42 ∷ 43 ∷ 44
-          ∷ 45 ∷ 46 ∷ 47 ∷ 48 ∷ 49 ∷ 50 ∷ 51 ∷ 52 ∷ []) $
+          ∷ 45 ∷ 46 ∷ 47 ∷ 48 ∷ 49 ∷ 50 ∷ 51 ∷ 52 ∷ 53 ∷ []) $
           -- [tok3; F:outstanding; F:clock; F:arrival; F:flight; F:settings; F:«waiting_numbers»; F:waiting; F:ready; F:transmissions;
           -- F:queued; back; opened; deaths; tok1; tok2; tok4; tok5; own1; own2; own4; own5; the locals]
           by ! (part₂ (
@@ -1264,6 +1278,8 @@ module _ {M : Type 1} (𝓤 : URA M) (H : Heap 𝓤) (A : Atoms 𝓤) (W : Given
             (past .32),
             (past .33),
             (past .34),
+            (past .35),
+            (past .36),
             q′,
             len-queued,
             len-outstanding,
@@ -1300,41 +1316,41 @@ module _ {M : Type 1} (𝓤 : URA M) (H : Heap 𝓤) (A : Atoms 𝓤) (W : Given
           alloc1 ! (λ l₁₅. alloc1 ! (λ l₁₆. alloc1 ! (λ l₁₇.
           alloc1 ! (λ l₁₈. alloc1 ! (λ l₁₉. alloc1 ! (λ l₂₀.
           alloc1 ! (λ l₂₁. alloc1 ! (λ l₂₂. alloc1 ! (λ l₂₃.
-          alloc1 ! (λ l₂₄. alloc1 ! (λ l₂₅. alloc1 ! (λ l₂₆. alloc1 ! (λ l₂₇. alloc0 ! $ params1 ! $
-          pass1 ! (init ! 52 refl (tt, tt)) $ pass1 ! (init ! 50 refl (tt, (tt, (record { fits = room₁ .0 }, tt)))) $
-          pass1 ! (init ! 48 refl (tt, (tt, (record { fits = room₂ .0 }, tt)))) $
-          pass1 ! (init ! 46 refl (tt, (tt, (record { fits = room₃ .0 }, tt)))) $
-          pass1 ! (init ! 44 refl (tt, (tt, (record { fits = room₄ .0 }, tt)))) $ pass1 ! (init ! 42 refl (tt, tt)) $ pass0 ! $
-          move ! (57 ∷ []) $ spread W (‵ (ShrRef (named 0) κ₀ L .own (ref-at b o γ h) (vptr b o ∷ [])))
+          alloc1 ! (λ l₂₄. alloc1 ! (λ l₂₅. alloc1 ! (λ l₂₆. alloc1 ! (λ l₂₇. alloc1 ! (λ l₂₈. alloc0 ! $ params1 ! $
+          pass1 ! (init ! 54 refl (tt, tt)) $ pass1 ! (init ! 52 refl (tt, (tt, (record { fits = room₁ .0 }, tt)))) $
+          pass1 ! (init ! 50 refl (tt, (tt, (record { fits = room₂ .0 }, tt)))) $
+          pass1 ! (init ! 48 refl (tt, (tt, (record { fits = room₃ .0 }, tt)))) $
+          pass1 ! (init ! 46 refl (tt, (tt, (record { fits = room₄ .0 }, tt)))) $ pass1 ! (init ! 44 refl (tt, tt)) $ pass0 ! $
+          move ! (59 ∷ []) $ spread W (‵ (ShrRef (named 0) κ₀ L .own (ref-at b o γ h) (vptr b o ∷ [])))
           (‵ (ShrSlice (named 1) κ₁ u8 .own (x₁) (s₁ ∷ [])) ∷ ‵ (ShrSlice (named 2) κ₂ u8 .own (x₂) (s₂ ∷ []))
           ∷ ‵ (ShrSlice (named 3) κ₃ R .own (x₃) (s₃ ∷ [])) ∷ ‵ (ShrSlice (named 4) κ₄ u32 .own (x₄) (s₄ ∷ []))
-          ∷ ‵ (MutRef (named 5) κ₅ u32 .own (x₅) (s₅ ∷ [])) ∷ ‵ ftrue ∷ []) (id⊢ 𝓤 _) $ move ! (63 ∷ []) $
+          ∷ ‵ (MutRef (named 5) κ₅ u32 .own (x₅) (s₅ ∷ [])) ∷ ‵ ftrue ∷ []) (id⊢ 𝓤 _) $ move ! (65 ∷ []) $
           spread W (‵ (flft κ₀ q₀)) (‵ (flft κ₁ q₁) ∷ ‵ (flft κ₂ q₂) ∷ ‵ (flft κ₃ q₃) ∷ ‵ (flft κ₄ q₄)
           ∷ ‵ (flft κ₅ q₅) ∷ ‵ ftrue ∷ []) (id⊢ 𝓤 _) $ move ! (13 ∷ 6 ∷ []) $ drop ! $ drop ! $
-          move ! (67 ∷ 65 ∷ 63 ∷ 61 ∷ 59 ∷ 57 ∷ 55 ∷ 53 ∷ 51 ∷ 49 ∷ 47 ∷ 45 ∷ 43 ∷ 41 ∷ 39 ∷ 37 ∷ 35 ∷ 33 ∷ 31 ∷ 29
-          ∷ 27 ∷ 25 ∷ 23 ∷ 21 ∷ 19 ∷ 17 ∷ 15 ∷ 13 ∷ []) $ group ! 28 $
+          move ! (69 ∷ 67 ∷ 65 ∷ 63 ∷ 61 ∷ 59 ∷ 57 ∷ 55 ∷ 53 ∷ 51 ∷ 49 ∷ 47 ∷ 45 ∷ 43 ∷ 41 ∷ 39 ∷ 37 ∷ 35 ∷ 33 ∷ 31
+          ∷ 29 ∷ 27 ∷ 25 ∷ 23 ∷ 21 ∷ 19 ∷ 17 ∷ 15 ∷ 13 ∷ []) $ group ! 29 $
           -- [deaths; tok0; tok1; tok2; tok3; tok4; tok5; own0; own1; own2; own3; own4; own5; the locals]
-          nothing ! $ calls-fn ! fm marks-of.ended (marks-of.clauses 𝓤 H A at-mem run) (known .0) ((tt, tt, tt, tt, tt), tt)
-          (λ sends _. sends ≡ none)
+          nothing ! $ calls-fn ! fm send-marks-of.ended (send-marks-of.clauses 𝓤 H A at-mem run) (known .0) ((tt, tt, tt, tt, tt), tt)
+          (λ sends _. sends ≡ noneToSend)
           (‵ ftrue) (plainly 𝓤 H A W ([]) tt tt tt tt) (λ sends _. id⊢ 𝓤 _)
           (no-more !) (λ sends w-sends _ e-sends is-sends. drop ! $ drop ! $
-          land ! (from ! (stop !)) (init ! 23 refl (array-typed u8 (uint-lawful 𝓤 H A W w8 .typed) 256 sends (w-sends ∷ []) is-sends .0)) $
-          assigns ! {v = w-sends} (of-opd ! (load ! (from ! (stop !)) (look ! 23 refl))) (from ! (stop !))
-          (init ! 33 refl (array-typed u8 (uint-lawful 𝓤 H A W w8 .typed) 256 sends (w-sends ∷ []) is-sends .0)) $
-          nothing ! $ calls-fn ! fm marks-of.ended (marks-of.clauses 𝓤 H A at-mem run) (known .0) ((tt, tt, tt, tt, tt), tt)
+          land ! (from ! (stop !)) (init ! 24 refl (array-typed u8 (uint-lawful 𝓤 H A W w8 .typed) 128 sends (w-sends ∷ []) is-sends .0)) $
+          assigns ! {v = w-sends} (of-opd ! (load ! (from ! (stop !)) (look ! 24 refl))) (from ! (stop !))
+          (init ! 34 refl (array-typed u8 (uint-lawful 𝓤 H A W w8 .typed) 128 sends (w-sends ∷ []) is-sends .0)) $
+          nothing ! $ calls-fn ! fm marks-of.ended (marks-of.clauses 𝓤 H A at-mem run) (known .1) ((tt, tt, tt, tt, tt), tt)
           (λ receives _. receives ≡ none)
           (‵ ftrue) (plainly 𝓤 H A W ([]) tt tt tt tt) (λ receives _. id⊢ 𝓤 _)
           (no-more !) (λ receives w-receives _ e-receives is-receives. drop ! $ drop ! $
-          land ! (from ! (stop !)) (store ! 23 refl
-          (array-typed u8 (uint-lawful 𝓤 H A W w8 .typed) 256 receives (w-receives ∷ []) is-receives .0)) $
+          land ! (from ! (stop !)) (init ! 23 refl (array-typed u8 (uint-lawful 𝓤 H A W w8 .typed) 256 receives (w-receives ∷ [])
+          is-receives .0)) $
           assigns ! {v = w-receives} (of-opd ! (load ! (from ! (stop !)) (look ! 23 refl))) (from ! (stop !))
-          (init ! 32 refl (array-typed u8 (uint-lawful 𝓤 H A W w8 .typed) 256 receives (w-receives ∷ []) is-receives .0)) $
+          (init ! 33 refl (array-typed u8 (uint-lawful 𝓤 H A W w8 .typed) 256 receives (w-receives ∷ []) is-receives .0)) $
           assigns ! {v = (vptr l₇ 0)} (addr ! (from ! (stop !))) (from ! (stop !)) (init ! 22 refl (tt, tt)) $
           assigns ! {v = (vptr l₈ 0)} (addr ! (from ! (stop !))) (from ! (stop !)) (init ! 21 refl (tt, tt)) $
-          move ! (33 ∷ []) $ use1 W (‵ (cellAt fullShare ((tyArray (tyInt w8) 256) ∷ []) (w-sends ∷ []) l₇ 0))
-          (W .laws .at-raw fullShare (tyArray (tyInt w8) 256) l₇ 0 w-sends) $
-          cell-in ! fullShare (Array u8 256) (array-makes 𝓤 H A W u8 (uint-makes 𝓤 H A W w8) 256) sends l₇ 0 w-sends is-sends $
-          lend-mut ! tt (Array u8 256) sends l₇ 0 (λ α-sends δ-sends. move ! (35 ∷ []) $
+          move ! (34 ∷ []) $ use1 W (‵ (cellAt fullShare ((tyArray (tyInt w8) 128) ∷ []) (w-sends ∷ []) l₇ 0))
+          (W .laws .at-raw fullShare (tyArray (tyInt w8) 128) l₇ 0 w-sends) $
+          cell-in ! fullShare (Array u8 128) (array-makes 𝓤 H A W u8 (uint-makes 𝓤 H A W w8) 128) sends l₇ 0 w-sends is-sends $
+          lend-mut ! tt (Array u8 128) sends l₇ 0 (λ α-sends δ-sends. move ! (36 ∷ []) $
           use1 W (‵ (cellAt fullShare ((tyArray (tyInt w8) 256) ∷ []) (w-receives ∷ []) l₈ 0))
           (W .laws .at-raw fullShare (tyArray (tyInt w8) 256) l₈ 0 w-receives) $
           cell-in ! fullShare (Array u8 256) (array-makes 𝓤 H A W u8 (uint-makes 𝓤 H A W w8) 256) receives l₈ 0 w-receives is-receives $
@@ -1342,30 +1358,30 @@ module _ {M : Type 1} (𝓤 : URA M) (H : Heap 𝓤) (A : Atoms 𝓤) (W : Given
           (λ α-receives δ-receives. move ! (13 ∷ []) $
           use1 W (‵ (link-shr κ₀ b o γ h) ⊛ ‵ (link-shr κ₀ b o γ h))
           (shr-copy 𝓤 H A W (named 0) κ₀ L .twice (ref-at b o γ h) (vptr b o ∷ [])) $ split ! $ move ! (9 ∷ 0 ∷ 5 ∷ 6 ∷ 2 ∷ 3 ∷ []) $
-          group ! 6 $ calls-fn ! fm check.ended (check.clauses 𝓤 H A at-mem run) (known .1)
+          group ! 6 $ calls-fn ! fm check.ended (check.clauses 𝓤 H A at-mem run) (known .2)
           (to-check l₇ α-sends δ-sends sends l₈ α-receives δ-receives receives) (λ ok ws-ok. Sound h (ws-ok .1 .0) (ws-ok .1 .1 .0) ok)
           (‵ (flft κ₀ q₀) ⊛ ‵ (link-shr κ₀ b o γ h) ⊛ ‵ (flft (α-sends ∷ []) fullShare) ⊛ ‵
-          (MutRef (named 0) (α-sends ∷ []) (Array u8 256) .own (ref-at l₇ 0 δ-sends sends) ((vptr l₇ 0) ∷ [])) ⊛ ‵
+          (MutRef (named 0) (α-sends ∷ []) (Array u8 128) .own (ref-at l₇ 0 δ-sends sends) ((vptr l₇ 0) ∷ [])) ⊛ ‵
           (flft (α-receives ∷ []) fullShare) ⊛ ‵ (MutRef (named 0) (α-receives ∷ []) (Array u8 256) .own
           (ref-at l₈ 0 δ-receives receives) ((vptr l₈ 0) ∷ [])))
           (asks-check l₇ α-sends δ-sends sends l₈ α-receives δ-receives receives (e-sends, e-receives)) (λ ok ws-ok. id⊢ 𝓤 _)
-          (and-then ! (load ! (from ! (stop !)) (look ! 39 refl))
+          (and-then ! (load ! (from ! (stop !)) (look ! 40 refl))
           (and-then ! (load ! (from ! (stop !)) (look ! 24 refl)) (and-then ! (load ! (from ! (stop !)) (look ! 23 refl)) (no-more !))))
-          (λ ok w-ok ws-ok e-ok is-ok. land ! (from ! (stop !)) (init ! 34 refl (bool-lawful 𝓤 H A W .typed ok _ is-ok .0)) $
+          (λ ok w-ok ws-ok e-ok is-ok. land ! (from ! (stop !)) (init ! 35 refl (bool-lawful 𝓤 H A W .typed ok _ is-ok .0)) $
           spread W (‵ (flft κ₀ q₀)) (‵ (flft (α-sends ∷ []) fullShare) ∷ ‵ (flft (α-receives ∷ []) fullShare) ∷ ‵ ftrue ∷ [])
           (id⊢ 𝓤 _) $ move ! (4 ∷ []) $ spread W (‵ ftrue)
-          (‵ (fres δ-sends ((Array u8 256) .coded .code (ws-ok .1 .0)))
+          (‵ (fres δ-sends ((Array u8 128) .coded .code (ws-ok .1 .0)))
           ∷ ‵ (fres δ-receives ((Array u8 256) .coded .code (ws-ok .1 .1 .0))) ∷ ‵ ftrue ∷ []) (id⊢ 𝓤 _) $
           keep ! (1 ∷ 2 ∷ 4 ∷ 5 ∷ 6 ∷ 8 ∷ 9 ∷ 10 ∷ 11 ∷ 12 ∷ 13 ∷ 14 ∷ 15 ∷ 16 ∷ 17 ∷ 18 ∷ 19 ∷ 20 ∷ 21 ∷ 22 ∷ 23
           ∷ 24 ∷ 25 ∷ 26 ∷ 27 ∷ 28 ∷ 29 ∷ 30 ∷ 31 ∷ 32 ∷ 33 ∷ 34 ∷ 35 ∷ 36 ∷ 37 ∷ 38 ∷ 39 ∷ 40 ∷ 41 ∷ 42 ∷ 43 ∷ 44
-          ∷ 45 ∷ 46 ∷ 47 ∷ []) $
+          ∷ 45 ∷ 46 ∷ 47 ∷ 48 ∷ []) $
           -- [fin:@sends; fin:@receives; tok0; tok:@sends; tok:@receives; own0; lent:@receives; lent:@sends; deaths; tok1; tok2; tok3; tok4;
           -- tok5; own1; own2; own3; own4; own5; the locals]
-          move ! (3 ∷ 7 ∷ 0 ∷ []) $ back-mut ! tt (Array u8 256) l₇ 0 (ws-ok .1 .0) $
-          cell-out ! fullShare (Array u8 256) (array-vals (uint-vals w8)) (array-tells u8 (uint-vals w8) (uint-tells w8) 256)
+          move ! (3 ∷ 7 ∷ 0 ∷ []) $ back-mut ! tt (Array u8 128) l₇ 0 (ws-ok .1 .0) $
+          cell-out ! fullShare (Array u8 128) (array-vals (uint-vals w8)) (array-tells u8 (uint-vals w8) (uint-tells w8) 128)
           (ws-ok .1 .0) l₇ 0 (λ was-sends-1. use1 W
-          (‵ (fat fullShare (tyArray (tyInt w8) 256) l₇ 0 (only ((array-vals (uint-vals w8)) (ws-ok .1 .0)))))
-          (W .laws .raw-at fullShare (tyArray (tyInt w8) 256) l₇ 0 (only ((array-vals (uint-vals w8)) (ws-ok .1 .0)))) $
+          (‵ (fat fullShare (tyArray (tyInt w8) 128) l₇ 0 (only ((array-vals (uint-vals w8)) (ws-ok .1 .0)))))
+          (W .laws .raw-at fullShare (tyArray (tyInt w8) 128) l₇ 0 (only ((array-vals (uint-vals w8)) (ws-ok .1 .0)))) $
           move ! (3 ∷ 5 ∷ 1 ∷ []) $ back-mut ! tt (Array u8 256) l₈ 0 (ws-ok .1 .1 .0) $
           cell-out ! fullShare (Array u8 256) (array-vals (uint-vals w8)) (array-tells u8 (uint-vals w8) (uint-tells w8) 256)
           (ws-ok .1 .1 .0) l₈ 0 (λ was-receives-2. use1 W
@@ -1402,12 +1418,14 @@ module _ {M : Type 1} (𝓤 : URA M) (H : Heap 𝓤) (A : Atoms 𝓤) (W : Given
             l₂₅,
             l₂₆,
             l₂₇,
+            l₂₈,
+            w-sends,
             w-receives,
             ok,
             w-ok,
             e-ok,
             is-ok,
-          )))))))))))))))))))))))))))))))))))))
+          ))))))))))))))))))))))))))))))))))))))
 
   f-meets : (𝓣 : Tables 𝓤 H) → Known (𝓣 .C)
       → Meets 𝓤 H A f.signature (WpFn 𝓤 H (𝓣 .C) (𝓣 .Λ) code.function) (f.spec 𝓤 H A at-mem run)
@@ -1456,6 +1474,8 @@ show-spec 𝓤 H 𝓜 𝓖 𝓡 =
     entered 𝓤 H (tripleOf 𝓤 H (𝓖 .A) f.signature (f.spec 𝓤 H (𝓖 .A) (𝓜 .mem) (𝓡 .run)))
     (tables 𝓤 H 𝓜 𝓡 code.env .C) (tables 𝓤 H 𝓜 𝓡 code.env .Λ) #f code.function (code.unfolded 𝓤 H 𝓜 𝓡)
     (f-meets 𝓤 H (𝓖 .A) (givenOf 𝓤 H 𝓜 𝓖) (𝓜 .mem) (𝓡 .run) (tablesOf 𝓤 H 𝓜 (tables 𝓤 H 𝓜 𝓡 code.env)) (
+      cited 𝓤 H (tripleOf 𝓤 H (𝓖 .A) send-marks-of.signature (send-marks-of.spec 𝓤 H (𝓖 .A) (𝓜 .mem) (𝓡 .run))) 𝓜 𝓡 code.env
+          send-marks-of-def.name send-marks-of-def.routine code.calls-marks·none-to-send (send-marks-of-thm.met 𝓤 H 𝓜 𝓖 𝓡),
       cited 𝓤 H (tripleOf 𝓤 H (𝓖 .A) marks-of.signature (marks-of.spec 𝓤 H (𝓖 .A) (𝓜 .mem) (𝓡 .run))) 𝓜 𝓡 code.env marks-of-def.name
           marks-of-def.routine code.calls-marks·none (marks-of-thm.met 𝓤 H 𝓜 𝓖 𝓡),
       cited 𝓤 H (tripleOf 𝓤 H (𝓖 .A) check.signature (check.spec 𝓤 H (𝓖 .A) (𝓜 .mem) (𝓡 .run))) 𝓜 𝓡 code.env check-def.name

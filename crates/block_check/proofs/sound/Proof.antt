@@ -203,8 +203,13 @@ use Rattle.block_check.proofs.sound.Statement as stated
 use Rattle.block_check.proofs.sound.Code as code
 
 abbrev stayed : Stays (f.ended .signature .params) (f.ended .kept)
-stayed = (stay-dropped _ yes, (gave-ref (1 ∷ []) tt (arrayOf (plain (λ _. u8)) 128),
-    (gave-ref (2 ∷ []) tt (arrayOf (plain (λ _. u8)) 256), tt)))
+stayed = (
+  stay-dropped _ yes,
+  (
+    gave-ref (1 ∷ []) tt (arrayOf (plain (λ _. u8)) 128),
+    (gave-ref (2 ∷ []) tt (arrayOf (plain (λ _. u8)) 256), tt),
+  ),
+)
 
 module _ {M : Type 1} (𝓤 : URA M) (H : Heap 𝓤) (A : Atoms 𝓤) (W : Given 𝓤 H A) (at-mem : Memory → SProp 𝓤) (run : Routine → Fun 𝓤) where
   -- what is known of the callees
@@ -241,19 +246,70 @@ module _ {M : Type 1} (𝓤 : URA M) (H : Heap 𝓤) (A : Atoms 𝓤) (W : Given
         (δ-waiting-numbers : GName) (f-waiting-numbers : (List ℕ)) (y₀ : Settings) (u₀ : Val) (y₁ : Flight) (u₁ : Val) (y₂ : Arrival)
         (u₂ : Val) (y₃ : Clock) (u₃ : Val) → tripleOf 𝓤 H A core.signature (core.spec 𝓤 H A at-mem run) .Ghost
     to-core α-queued δ-queued f-queued α-outstanding δ-outstanding f-outstanding α-transmissions δ-transmissions f-transmissions α-ready
-        δ-ready f-ready α-waiting δ-waiting f-waiting α-waiting-numbers δ-waiting-numbers f-waiting-numbers y₀ u₀ y₁ u₁ y₂ u₂ y₃ u₃ =
-        ((((α-queued ∷ []), ((α-outstanding ∷ []),
-        ((α-transmissions ∷ []), ((α-ready ∷ []), ((α-waiting ∷ []), ((α-waiting-numbers ∷ []), (κ₁, (κ₂, tt)))))))),
-        (fullShare, (fullShare, (fullShare, (fullShare, (fullShare, (fullShare, (q₁, (q₂, tt)))))))), tt,
-        (y₀, (y₁, (y₂, (y₃, ((ref-at b (o + 124) δ-queued f-queued),
-        ((ref-at b (o + 636) δ-outstanding f-outstanding),
-        ((ref-at b (o + 764) δ-transmissions f-transmissions),
-        ((ref-at b (o + 796) δ-ready f-ready),
-        ((ref-at b (o + 1308) δ-waiting f-waiting), ((ref-at b (o + 1820) δ-waiting-numbers f-waiting-numbers), (x₁, (x₂, tt)))))))))))),
-        (u₀ ∷ [], (u₁ ∷ [], (u₂ ∷ [], (u₃ ∷ [],
-        ((vptr b (o + 124)) ∷ [], ((vptr b (o + 636)) ∷ [],
-        ((vptr b (o + 764)) ∷ [], ((vptr b (o + 796)) ∷ [],
-        ((vptr b (o + 1308)) ∷ [], ((vptr b (o + 1820)) ∷ [], (s₁ ∷ [], (s₂ ∷ [], tt))))))))))))), tt)
+        δ-ready f-ready α-waiting δ-waiting f-waiting α-waiting-numbers δ-waiting-numbers f-waiting-numbers y₀ u₀ y₁ u₁ y₂ u₂ y₃ u₃ = (
+          (
+            (
+              (α-queued ∷ []),
+              (
+                (α-outstanding ∷ []),
+                ((α-transmissions ∷ []), ((α-ready ∷ []), ((α-waiting ∷ []), ((α-waiting-numbers ∷ []), (κ₁, (κ₂, tt)))))),
+              ),
+            ),
+            (fullShare, (fullShare, (fullShare, (fullShare, (fullShare, (fullShare, (q₁, (q₂, tt)))))))),
+            tt,
+            (
+              y₀,
+              (
+                y₁,
+                (
+                  y₂,
+                  (
+                    y₃,
+                    (
+                      (ref-at b (o + 124) δ-queued f-queued),
+                      (
+                        (ref-at b (o + 636) δ-outstanding f-outstanding),
+                        (
+                          (ref-at b (o + 764) δ-transmissions f-transmissions),
+                          (
+                            (ref-at b (o + 796) δ-ready f-ready),
+                            ((ref-at b (o + 1308) δ-waiting f-waiting), ((ref-at b (o + 1820) δ-waiting-numbers f-waiting-numbers), (x₁, (x₂, tt)))),
+                          ),
+                        ),
+                      ),
+                    ),
+                  ),
+                ),
+              ),
+            ),
+            (
+              u₀ ∷ [],
+              (
+                u₁ ∷ [],
+                (
+                  u₂ ∷ [],
+                  (
+                    u₃ ∷ [],
+                    (
+                      (vptr b (o + 124)) ∷ [],
+                      (
+                        (vptr b (o + 636)) ∷ [],
+                        (
+                          (vptr b (o + 764)) ∷ [],
+                          (
+                            (vptr b (o + 796)) ∷ [],
+                            ((vptr b (o + 1308)) ∷ [], ((vptr b (o + 1820)) ∷ [], (s₁ ∷ [], (s₂ ∷ [], tt)))),
+                          ),
+                        ),
+                      ),
+                    ),
+                  ),
+                ),
+              ),
+            ),
+          ),
+          tt,
+        )
 
     asks-core : (α-queued : ℕ) (δ-queued : GName) (f-queued : (List ℕ)) (α-outstanding : ℕ) (δ-outstanding : GName)
         (f-outstanding : (List ℕ)) (α-transmissions : ℕ) (δ-transmissions : GName) (f-transmissions : (List ℕ)) (α-ready : ℕ)
@@ -283,28 +339,28 @@ module _ {M : Type 1} (𝓤 : URA M) (H : Heap 𝓤) (A : Atoms 𝓤) (W : Given
         δ-ready f-ready α-waiting δ-waiting f-waiting α-waiting-numbers δ-waiting-numbers f-waiting-numbers y₀ u₀ is₀ y₁ u₁ is₁ y₂ u₂ is₂
         y₃ u₃ is₃ req =
         qed W (‵ (flft (α-queued ∷ []) fullShare)
-            ∷ ‵ (ShrRef (named 0) (α-queued ∷ []) (Array u32 128) .own (ref-at b (o + 124) δ-queued f-queued) ((vptr b (o + 124)) ∷ []))
-            ∷ ‵ (flft (α-outstanding ∷ []) fullShare)
-            ∷ ‵ (ShrRef (named 0) (α-outstanding ∷ []) (Array u32 32) .own (ref-at b (o + 636) δ-outstanding f-outstanding)
-            ((vptr b (o + 636)) ∷ [])) ∷ ‵ (flft (α-transmissions ∷ []) fullShare)
-            ∷ ‵ (ShrRef (named 0) (α-transmissions ∷ []) (Array u8 32) .own (ref-at b (o + 764) δ-transmissions f-transmissions)
-            ((vptr b (o + 764)) ∷ [])) ∷ ‵ (flft (α-ready ∷ []) fullShare)
-            ∷ ‵ (ShrRef (named 0) (α-ready ∷ []) (Array u32 128) .own (ref-at b (o + 796) δ-ready f-ready) ((vptr b (o + 796)) ∷ []))
-            ∷ ‵ (flft (α-waiting ∷ []) fullShare)
-            ∷ ‵ (ShrRef (named 0) (α-waiting ∷ []) (Array u32 128) .own (ref-at b (o + 1308) δ-waiting f-waiting)
-            ((vptr b (o + 1308)) ∷ [])) ∷ ‵ (flft (α-waiting-numbers ∷ []) fullShare)
-            ∷ ‵ (ShrRef (named 0) (α-waiting-numbers ∷ []) (Array u32 128) .own (ref-at b (o + 1820) δ-waiting-numbers f-waiting-numbers)
-            ((vptr b (o + 1820)) ∷ [])) ∷ ‵ (flft κ₁ q₁) ∷ ‵ Own₁ ∷ ‵ (flft κ₂ q₂) ∷ ‵ Own₂ ∷ []) ∵ says ! req $ nothing ! $
-            move ! (15 ∷ 0 ∷ []) $ join ! $ move ! (13 ∷ 0 ∷ []) $ join ! $ move ! (11 ∷ 0 ∷ []) $ join ! $ move ! (9 ∷ 0 ∷ []) $ join ! $
-            move ! (7 ∷ 0 ∷ []) $ join ! $ move ! (5 ∷ 0 ∷ []) $ join ! $ move ! (3 ∷ 0 ∷ []) $ join ! $ move ! (1 ∷ 0 ∷ []) $ join ! $
-            nothing ! $ move ! (9 ∷ 0 ∷ []) $ fjoin ! $ move ! (8 ∷ 0 ∷ []) $ fjoin ! $ move ! (7 ∷ 0 ∷ []) $ fjoin ! $
-            move ! (6 ∷ 0 ∷ []) $ fjoin ! $ move ! (5 ∷ 0 ∷ []) $ fjoin ! $ move ! (4 ∷ 0 ∷ []) $ fjoin ! $ move ! (3 ∷ 0 ∷ []) $ fjoin ! $
-            move ! (2 ∷ 0 ∷ []) $ fjoin ! $
-            owned ! clock-row.the-row (Is clock-row.the-row) (LL.makes clock-row.the-type clock-laws.the-plain 𝓤 H A) y₃ _ is₃ $ fjoin ! $
-            owned ! arrival-row.the-row (Is arrival-row.the-row) (LL.makes arrival-row.the-type arrival-laws.the-plain 𝓤 H A) y₂ _ is₂ $
-            fjoin ! $ owned ! flight-row.the-row (Is flight-row.the-row) (LL.makes flight-row.the-type flight-laws.the-plain 𝓤 H A) y₁ _
-            is₁ $ fjoin ! $ owned ! settings-row.the-row (Is settings-row.the-row)
-            (LL.makes settings-row.the-type settings-laws.the-plain 𝓤 H A) y₀ _ is₀ $ fjoin ! $ move ! (1 ∷ 0 ∷ []) $ done !
+        ∷ ‵ (ShrRef (named 0) (α-queued ∷ []) (Array u32 128) .own (ref-at b (o + 124) δ-queued f-queued) ((vptr b (o + 124)) ∷ []))
+        ∷ ‵ (flft (α-outstanding ∷ []) fullShare)
+        ∷ ‵ (ShrRef (named 0) (α-outstanding ∷ []) (Array u32 32) .own (ref-at b (o + 636) δ-outstanding f-outstanding)
+        ((vptr b (o + 636)) ∷ [])) ∷ ‵ (flft (α-transmissions ∷ []) fullShare)
+        ∷ ‵ (ShrRef (named 0) (α-transmissions ∷ []) (Array u8 32) .own (ref-at b (o + 764) δ-transmissions f-transmissions)
+        ((vptr b (o + 764)) ∷ [])) ∷ ‵ (flft (α-ready ∷ []) fullShare)
+        ∷ ‵ (ShrRef (named 0) (α-ready ∷ []) (Array u32 128) .own (ref-at b (o + 796) δ-ready f-ready) ((vptr b (o + 796)) ∷ []))
+        ∷ ‵ (flft (α-waiting ∷ []) fullShare)
+        ∷ ‵ (ShrRef (named 0) (α-waiting ∷ []) (Array u32 128) .own (ref-at b (o + 1308) δ-waiting f-waiting)
+        ((vptr b (o + 1308)) ∷ [])) ∷ ‵ (flft (α-waiting-numbers ∷ []) fullShare)
+        ∷ ‵ (ShrRef (named 0) (α-waiting-numbers ∷ []) (Array u32 128) .own (ref-at b (o + 1820) δ-waiting-numbers f-waiting-numbers)
+        ((vptr b (o + 1820)) ∷ [])) ∷ ‵ (flft κ₁ q₁) ∷ ‵ Own₁ ∷ ‵ (flft κ₂ q₂) ∷ ‵ Own₂ ∷ []) ∵ says ! req $ nothing ! $
+        move ! (15 ∷ 0 ∷ []) $ join ! $ move ! (13 ∷ 0 ∷ []) $ join ! $ move ! (11 ∷ 0 ∷ []) $ join ! $ move ! (9 ∷ 0 ∷ []) $ join ! $
+        move ! (7 ∷ 0 ∷ []) $ join ! $ move ! (5 ∷ 0 ∷ []) $ join ! $ move ! (3 ∷ 0 ∷ []) $ join ! $ move ! (1 ∷ 0 ∷ []) $ join ! $
+        nothing ! $ move ! (9 ∷ 0 ∷ []) $ fjoin ! $ move ! (8 ∷ 0 ∷ []) $ fjoin ! $ move ! (7 ∷ 0 ∷ []) $ fjoin ! $
+        move ! (6 ∷ 0 ∷ []) $ fjoin ! $ move ! (5 ∷ 0 ∷ []) $ fjoin ! $ move ! (4 ∷ 0 ∷ []) $ fjoin ! $ move ! (3 ∷ 0 ∷ []) $ fjoin ! $
+        move ! (2 ∷ 0 ∷ []) $ fjoin ! $
+        owned ! clock-row.the-row (Is clock-row.the-row) (LL.makes clock-row.the-type clock-laws.the-plain 𝓤 H A) y₃ _ is₃ $ fjoin ! $
+        owned ! arrival-row.the-row (Is arrival-row.the-row) (LL.makes arrival-row.the-type arrival-laws.the-plain 𝓤 H A) y₂ _ is₂ $
+        fjoin ! $ owned ! flight-row.the-row (Is flight-row.the-row) (LL.makes flight-row.the-type flight-laws.the-plain 𝓤 H A) y₁ _
+        is₁ $ fjoin ! $ owned ! settings-row.the-row (Is settings-row.the-row)
+        (LL.makes settings-row.the-type settings-laws.the-plain 𝓤 H A) y₀ _ is₀ $ fjoin ! $ move ! (1 ∷ 0 ∷ []) $ done !
 
     abbrev Had : (z₁ : (List ℕ)) (z₂ : (List ℕ)) → List (Item 𝓤)
     Had z₁ z₂ = ‵ (flft κ₀ q₀) ∷ ‵ (fres (x₁ .name) ((Array u8 128) .coded .code z₁)) ∷ ‵ (flft κ₁ q₁)
@@ -314,15 +370,15 @@ module _ {M : Type 1} (𝓤 : URA M) (H : Heap 𝓤) (A : Atoms 𝓤) (W : Given
     abbrev Said : (r : Bool) (z₁ : (List ℕ)) (z₂ : (List ℕ)) → Type 0
     Said r z₁ z₂ = Sound h z₁ z₂ r
 
-    exits : (r : Bool) (w : Val) (z₁ : (List ℕ)) (z₂ : (List ℕ)) → Said r z₁ z₂  → Is Boolean r (w ∷ [])
+    exits : (r : Bool) (w : Val) (z₁ : (List ℕ)) (z₂ : (List ℕ)) → Said r z₁ z₂ → Is Boolean r (w ∷ [])
         → ent 𝓤 (⋆ 𝓤 H A (Had z₁ z₂)) (Post w)
     unfolding Post
-    exits r w z₁ z₂ e  g =
+    exits r w z₁ z₂ e g =
         qed W (Had z₁ z₂) ∵ suffices ! _ (ends-at 𝓤 H A f.ended stayed (f.clauses 𝓤 H A at-mem run) W
-            (((κ₀, (κ₁, (κ₂, tt))), (q₀, (q₁, (q₂, tt))), tt, x, at), tt) w r (tt, (z₁, (z₂, tt))) (tt, (tt, (tt, tt)))) $ says ! e $
+        (((κ₀, (κ₁, (κ₂, tt))), (q₀, (q₁, (q₂, tt))), tt, x, at), tt) w r (tt, (z₁, (z₂, tt))) (tt, (tt, (tt, tt)))) $ says ! e $
         nothing ! $ move ! (5 ∷ 0 ∷ []) $ join ! $ move ! (3 ∷ 0 ∷ []) $ join ! $ move ! (1 ∷ 0 ∷ []) $ join ! $ frame ! $ nothing ! $
-            move ! (2 ∷ 0 ∷ []) $ fjoin ! $ move ! (1 ∷ 0 ∷ []) $ fjoin ! $ nothing ! $ fjoin ! $ frame ! $
-            owned ! Boolean (Is Boolean) (bool-makes 𝓤 H A W) r _ g $ done !
+        move ! (2 ∷ 0 ∷ []) $ fjoin ! $ move ! (1 ∷ 0 ∷ []) $ fjoin ! $ nothing ! $ fjoin ! $ frame ! $
+        owned ! Boolean (Is Boolean) (bool-makes 𝓤 H A W) r _ g $ done !
 
     module _ (C : Calls 𝓤 H) (Λ : Loops 𝓤 H) (fm : FmC 𝓤 H (W .laws) C) (known : Known C) where
       -- where the locals lie
@@ -380,73 +436,73 @@ module _ {M : Type 1} (𝓤 : URA M) (H : Heap 𝓤) (A : Atoms 𝓤) (W : Given
           (past .13) (past .14) (past .15) (past .16) (past .17)) Post))
       part₂ past =
           qed W (‵ (partAt (Array u32 128) (past .18) (h .«waiting_numbers») b (o + 1820))
-              ∷ ‵ (partAt (Array u32 128) (past .18) (h .waiting) b (o + 1308))
-              ∷ ‵ (partAt (Array u32 128) (past .18) (h .ready) b (o + 796))
-              ∷ ‵ (partAt (Array u8 32) (past .18) (h .transmissions) b (o + 764))
-              ∷ ‵ (partAt (Array u32 32) (past .18) (h .outstanding) b (o + 636))
-              ∷ ‵ (partAt (Array u32 128) (past .18) (h .queued) b (o + 124)) ∷ ‵ (fres (x₁ .name) ((Array u8 128) .coded .code (past .1)))
-              ∷ ‵ (fres (x₂ .name) ((Array u8 256) .coded .code (past .0))) ∷ ‵ (flft κ₁ q₁) ∷ ‵ (flft κ₂ q₂)
-              ∷ ‵ (partAt clock-row.the-row (past .18) (h .clock) b (o + 104))
-              ∷ ‵ (partAt arrival-row.the-row (past .18) (h .arrival) b (o + 72))
-              ∷ ‵ (partAt flight-row.the-row (past .18) (h .flight) b (o + 16))
-              ∷ ‵ (partAt settings-row.the-row (past .18) (h .settings) b (o + 0)) ∷ raw (Back 𝓤 H A (past .18) b o)
-              ∷ ‵ (fobor κ₀ q₀ (partAt L (past .18) h b o))
-              ∷ (‵ (fdies tyBool (past .2)) ⊛ ‵ (fdies (tyRef (named 0) imm (pointee (L .written))) (past .3)) ⊛ ‵
-              (fdies (tyRef (named 1) mut (tyArray (tyInt w8) 128)) (past .4)) ⊛ ‵
-              (fdies (tyRef (named 2) mut (tyArray (tyInt w8) 256)) (past .5)) ⊛ ‵ (fdies settings-laws.mir (past .6)) ⊛ ‵
-              (fdies flight-laws.mir (past .7)) ⊛ ‵ (fdies arrival-laws.mir (past .8)) ⊛ ‵ (fdies clock-laws.mir (past .9)) ⊛ ‵
-              (fdies (tyRef erased imm (tyArray (tyInt w32) 128)) (past .10)) ⊛ ‵
-              (fdies (tyRef erased imm (tyArray (tyInt w32) 32)) (past .11)) ⊛ ‵
-              (fdies (tyRef erased imm (tyArray (tyInt w8) 32)) (past .12)) ⊛ ‵
-              (fdies (tyRef erased imm (tyArray (tyInt w32) 128)) (past .13)) ⊛ ‵
-              (fdies (tyRef erased imm (tyArray (tyInt w32) 128)) (past .14)) ⊛ ‵
-              (fdies (tyRef erased imm (tyArray (tyInt w32) 128)) (past .15)) ⊛ ‵
-              (fdies (tyRef erased mut (tyArray (tyInt w8) 128)) (past .16)) ⊛ ‵
-              (fdies (tyRef erased mut (tyArray (tyInt w8) 256)) (past .17)))
-              ∷ ‵ (fat fullShare (tyRef erased mut (tyArray (tyInt w8) 256)) (past .17) 0 (s₂))
-              ∷ ‵ (fat fullShare (tyRef erased mut (tyArray (tyInt w8) 128)) (past .16) 0 (s₁))
-              ∷ ‵ (fat fullShare (tyRef erased imm (tyArray (tyInt w32) 128)) (past .15) 0 ((vptr b (o + 1820))))
-              ∷ ‵ (fat fullShare (tyRef erased imm (tyArray (tyInt w32) 128)) (past .14) 0 ((vptr b (o + 1308))))
-              ∷ ‵ (fat fullShare (tyRef erased imm (tyArray (tyInt w32) 128)) (past .13) 0 ((vptr b (o + 796))))
-              ∷ ‵ (fat fullShare (tyRef erased imm (tyArray (tyInt w8) 32)) (past .12) 0 ((vptr b (o + 764))))
-              ∷ ‵ (fat fullShare (tyRef erased imm (tyArray (tyInt w32) 32)) (past .11) 0 ((vptr b (o + 636))))
-              ∷ ‵ (fat fullShare (tyRef erased imm (tyArray (tyInt w32) 128)) (past .10) 0 ((vptr b (o + 124))))
-              ∷ ‵ (fat fullShare clock-laws.mir (past .9) 0 ((only ((LL.vals clock-row.the-type clock-laws.the-laws) (h .clock)))))
-              ∷ ‵ (fat fullShare arrival-laws.mir (past .8) 0 ((only ((LL.vals arrival-row.the-type arrival-laws.the-laws) (h .arrival)))))
-              ∷ ‵ (fat fullShare flight-laws.mir (past .7) 0 ((only ((LL.vals flight-row.the-type flight-laws.the-laws) (h .flight)))))
-              ∷ ‵ (fat fullShare settings-laws.mir (past .6) 0
-              ((only ((LL.vals settings-row.the-type settings-laws.the-laws) (h .settings)))))
-              ∷ ‵ (fat fullShare (tyRef (named 2) mut (tyArray (tyInt w8) 256)) (past .5) 0 (s₂))
-              ∷ ‵ (fat fullShare (tyRef (named 1) mut (tyArray (tyInt w8) 128)) (past .4) 0 (s₁))
-              ∷ ‵ (fat fullShare (tyRef (named 0) imm (pointee (L .written))) (past .3) 0 (vptr b o))
-              ∷ ‵ (fat fullShare tyBool (past .2) 0 ((past .20))) ∷ []) ∵
-              exec ! C Λ (En (past .2) (past .3) (past .4) (past .5) (past .6) (past .7) (past .8) (past .9) (past .10) (past .11)
-              (past .12) (past .13) (past .14) (past .15) (past .16) (past .17)) (behind 13 (code.function .body))
-              (atRet (En (past .2) (past .3) (past .4) (past .5) (past .6) (past .7) (past .8) (past .9) (past .10) (past .11) (past .12)
-              (past .13) (past .14) (past .15) (past .16) (past .17)) Post) $
+          ∷ ‵ (partAt (Array u32 128) (past .18) (h .waiting) b (o + 1308))
+          ∷ ‵ (partAt (Array u32 128) (past .18) (h .ready) b (o + 796))
+          ∷ ‵ (partAt (Array u8 32) (past .18) (h .transmissions) b (o + 764))
+          ∷ ‵ (partAt (Array u32 32) (past .18) (h .outstanding) b (o + 636))
+          ∷ ‵ (partAt (Array u32 128) (past .18) (h .queued) b (o + 124)) ∷ ‵ (fres (x₁ .name) ((Array u8 128) .coded .code (past .1)))
+          ∷ ‵ (fres (x₂ .name) ((Array u8 256) .coded .code (past .0))) ∷ ‵ (flft κ₁ q₁) ∷ ‵ (flft κ₂ q₂)
+          ∷ ‵ (partAt clock-row.the-row (past .18) (h .clock) b (o + 104))
+          ∷ ‵ (partAt arrival-row.the-row (past .18) (h .arrival) b (o + 72))
+          ∷ ‵ (partAt flight-row.the-row (past .18) (h .flight) b (o + 16))
+          ∷ ‵ (partAt settings-row.the-row (past .18) (h .settings) b (o + 0)) ∷ raw (Back 𝓤 H A (past .18) b o)
+          ∷ ‵ (fobor κ₀ q₀ (partAt L (past .18) h b o))
+          ∷ (‵ (fdies tyBool (past .2)) ⊛ ‵ (fdies (tyRef (named 0) imm (pointee (L .written))) (past .3)) ⊛ ‵
+          (fdies (tyRef (named 1) mut (tyArray (tyInt w8) 128)) (past .4)) ⊛ ‵
+          (fdies (tyRef (named 2) mut (tyArray (tyInt w8) 256)) (past .5)) ⊛ ‵ (fdies settings-laws.mir (past .6)) ⊛ ‵
+          (fdies flight-laws.mir (past .7)) ⊛ ‵ (fdies arrival-laws.mir (past .8)) ⊛ ‵ (fdies clock-laws.mir (past .9)) ⊛ ‵
+          (fdies (tyRef erased imm (tyArray (tyInt w32) 128)) (past .10)) ⊛ ‵
+          (fdies (tyRef erased imm (tyArray (tyInt w32) 32)) (past .11)) ⊛ ‵
+          (fdies (tyRef erased imm (tyArray (tyInt w8) 32)) (past .12)) ⊛ ‵
+          (fdies (tyRef erased imm (tyArray (tyInt w32) 128)) (past .13)) ⊛ ‵
+          (fdies (tyRef erased imm (tyArray (tyInt w32) 128)) (past .14)) ⊛ ‵
+          (fdies (tyRef erased imm (tyArray (tyInt w32) 128)) (past .15)) ⊛ ‵
+          (fdies (tyRef erased mut (tyArray (tyInt w8) 128)) (past .16)) ⊛ ‵
+          (fdies (tyRef erased mut (tyArray (tyInt w8) 256)) (past .17)))
+          ∷ ‵ (fat fullShare (tyRef erased mut (tyArray (tyInt w8) 256)) (past .17) 0 (s₂))
+          ∷ ‵ (fat fullShare (tyRef erased mut (tyArray (tyInt w8) 128)) (past .16) 0 (s₁))
+          ∷ ‵ (fat fullShare (tyRef erased imm (tyArray (tyInt w32) 128)) (past .15) 0 ((vptr b (o + 1820))))
+          ∷ ‵ (fat fullShare (tyRef erased imm (tyArray (tyInt w32) 128)) (past .14) 0 ((vptr b (o + 1308))))
+          ∷ ‵ (fat fullShare (tyRef erased imm (tyArray (tyInt w32) 128)) (past .13) 0 ((vptr b (o + 796))))
+          ∷ ‵ (fat fullShare (tyRef erased imm (tyArray (tyInt w8) 32)) (past .12) 0 ((vptr b (o + 764))))
+          ∷ ‵ (fat fullShare (tyRef erased imm (tyArray (tyInt w32) 32)) (past .11) 0 ((vptr b (o + 636))))
+          ∷ ‵ (fat fullShare (tyRef erased imm (tyArray (tyInt w32) 128)) (past .10) 0 ((vptr b (o + 124))))
+          ∷ ‵ (fat fullShare clock-laws.mir (past .9) 0 ((only ((LL.vals clock-row.the-type clock-laws.the-laws) (h .clock)))))
+          ∷ ‵ (fat fullShare arrival-laws.mir (past .8) 0 ((only ((LL.vals arrival-row.the-type arrival-laws.the-laws) (h .arrival)))))
+          ∷ ‵ (fat fullShare flight-laws.mir (past .7) 0 ((only ((LL.vals flight-row.the-type flight-laws.the-laws) (h .flight)))))
+          ∷ ‵ (fat fullShare settings-laws.mir (past .6) 0
+          ((only ((LL.vals settings-row.the-type settings-laws.the-laws) (h .settings)))))
+          ∷ ‵ (fat fullShare (tyRef (named 2) mut (tyArray (tyInt w8) 256)) (past .5) 0 (s₂))
+          ∷ ‵ (fat fullShare (tyRef (named 1) mut (tyArray (tyInt w8) 128)) (past .4) 0 (s₁))
+          ∷ ‵ (fat fullShare (tyRef (named 0) imm (pointee (L .written))) (past .3) 0 (vptr b o))
+          ∷ ‵ (fat fullShare tyBool (past .2) 0 ((past .20))) ∷ []) ∵
+          exec ! C Λ (En (past .2) (past .3) (past .4) (past .5) (past .6) (past .7) (past .8) (past .9) (past .10) (past .11)
+          (past .12) (past .13) (past .14) (past .15) (past .16) (past .17)) (behind 13 (code.function .body))
+          (atRet (En (past .2) (past .3) (past .4) (past .5) (past .6) (past .7) (past .8) (past .9) (past .10) (past .11) (past .12)
+          (past .13) (past .14) (past .15) (past .16) (past .17)) Post) $
           move ! (13 ∷ 12 ∷ 11 ∷ 10 ∷ 5 ∷ 4 ∷ 3 ∷ 2 ∷ 1 ∷ 0 ∷ 14 ∷ 15 ∷ []) $ shuts-link b o γ ! tt (past .18) h $
           -- [tok0; fin1; fin2; tok1; tok2; deaths; the locals]
           returns ! (look ! 21 refl) $
           move ! (5 ∷ []) $ spread W (‵ (fdies tyBool (past .2)))
-              (‵ (fdies (tyRef (named 0) imm (pointee (L .written))) (past .3))
-              ∷ ‵ (fdies (tyRef (named 1) mut (tyArray (tyInt w8) 128)) (past .4))
-              ∷ ‵ (fdies (tyRef (named 2) mut (tyArray (tyInt w8) 256)) (past .5)) ∷ ‵ (fdies settings-laws.mir (past .6))
-              ∷ ‵ (fdies flight-laws.mir (past .7)) ∷ ‵ (fdies arrival-laws.mir (past .8)) ∷ ‵ (fdies clock-laws.mir (past .9))
-              ∷ ‵ (fdies (tyRef erased imm (tyArray (tyInt w32) 128)) (past .10))
-              ∷ ‵ (fdies (tyRef erased imm (tyArray (tyInt w32) 32)) (past .11))
-              ∷ ‵ (fdies (tyRef erased imm (tyArray (tyInt w8) 32)) (past .12))
-              ∷ ‵ (fdies (tyRef erased imm (tyArray (tyInt w32) 128)) (past .13))
-              ∷ ‵ (fdies (tyRef erased imm (tyArray (tyInt w32) 128)) (past .14))
-              ∷ ‵ (fdies (tyRef erased imm (tyArray (tyInt w32) 128)) (past .15))
-              ∷ ‵ (fdies (tyRef erased mut (tyArray (tyInt w8) 128)) (past .16))
-              ∷ ‵ (fdies (tyRef erased mut (tyArray (tyInt w8) 256)) (past .17)) ∷ []) (id⊢ 𝓤 _) $
-              move ! (36 ∷ 0 ∷ 35 ∷ 1 ∷ 34 ∷ 2 ∷ 33 ∷ 3 ∷ 32 ∷ 4 ∷ 31 ∷ 5 ∷ 30 ∷ 6 ∷ 29 ∷ 7 ∷ 28 ∷ 8 ∷ 27 ∷ 9 ∷ 26
-              ∷ 10 ∷ 25 ∷ 11 ∷ 24 ∷ 12 ∷ 23 ∷ 13 ∷ 22 ∷ 14 ∷ 21 ∷ 15 ∷ []) $ forget ! 0 refl $ free1 ! $ forget ! 0 refl $ free1 ! $
-              forget ! 0 refl $ free1 ! $ forget ! 0 refl $ free1 ! $ forget ! 0 refl $ free1 ! $ forget ! 0 refl $ free1 ! $
-              forget ! 0 refl $ free1 ! $ forget ! 0 refl $ free1 ! $ forget ! 0 refl $ free1 ! $ forget ! 0 refl $ free1 ! $
-              forget ! 0 refl $ free1 ! $ forget ! 0 refl $ free1 ! $ forget ! 0 refl $ free1 ! $ forget ! 0 refl $ free1 ! $
-              forget ! 0 refl $ free1 ! $ forget ! 0 refl $ free1 ! $ free0 ! $
-          move ! (0 ∷ 1 ∷ 3 ∷ 2 ∷ 4 ∷ []) $ by ! (exits (past .19) (past .20)  ((past .1)) ((past .0)) ((past .21))  (past .22))
+          (‵ (fdies (tyRef (named 0) imm (pointee (L .written))) (past .3))
+          ∷ ‵ (fdies (tyRef (named 1) mut (tyArray (tyInt w8) 128)) (past .4))
+          ∷ ‵ (fdies (tyRef (named 2) mut (tyArray (tyInt w8) 256)) (past .5)) ∷ ‵ (fdies settings-laws.mir (past .6))
+          ∷ ‵ (fdies flight-laws.mir (past .7)) ∷ ‵ (fdies arrival-laws.mir (past .8)) ∷ ‵ (fdies clock-laws.mir (past .9))
+          ∷ ‵ (fdies (tyRef erased imm (tyArray (tyInt w32) 128)) (past .10))
+          ∷ ‵ (fdies (tyRef erased imm (tyArray (tyInt w32) 32)) (past .11))
+          ∷ ‵ (fdies (tyRef erased imm (tyArray (tyInt w8) 32)) (past .12))
+          ∷ ‵ (fdies (tyRef erased imm (tyArray (tyInt w32) 128)) (past .13))
+          ∷ ‵ (fdies (tyRef erased imm (tyArray (tyInt w32) 128)) (past .14))
+          ∷ ‵ (fdies (tyRef erased imm (tyArray (tyInt w32) 128)) (past .15))
+          ∷ ‵ (fdies (tyRef erased mut (tyArray (tyInt w8) 128)) (past .16))
+          ∷ ‵ (fdies (tyRef erased mut (tyArray (tyInt w8) 256)) (past .17)) ∷ []) (id⊢ 𝓤 _) $
+          move ! (36 ∷ 0 ∷ 35 ∷ 1 ∷ 34 ∷ 2 ∷ 33 ∷ 3 ∷ 32 ∷ 4 ∷ 31 ∷ 5 ∷ 30 ∷ 6 ∷ 29 ∷ 7 ∷ 28 ∷ 8 ∷ 27 ∷ 9 ∷ 26
+          ∷ 10 ∷ 25 ∷ 11 ∷ 24 ∷ 12 ∷ 23 ∷ 13 ∷ 22 ∷ 14 ∷ 21 ∷ 15 ∷ []) $ forget ! 0 refl $ free1 ! $ forget ! 0 refl $ free1 ! $
+          forget ! 0 refl $ free1 ! $ forget ! 0 refl $ free1 ! $ forget ! 0 refl $ free1 ! $ forget ! 0 refl $ free1 ! $
+          forget ! 0 refl $ free1 ! $ forget ! 0 refl $ free1 ! $ forget ! 0 refl $ free1 ! $ forget ! 0 refl $ free1 ! $
+          forget ! 0 refl $ free1 ! $ forget ! 0 refl $ free1 ! $ forget ! 0 refl $ free1 ! $ forget ! 0 refl $ free1 ! $
+          forget ! 0 refl $ free1 ! $ forget ! 0 refl $ free1 ! $ free0 ! $
+          move ! (0 ∷ 1 ∷ 3 ∷ 2 ∷ 4 ∷ []) $ by ! (exits (past .19) (past .20) ((past .1)) ((past .0)) ((past .21)) (past .22))
 
       -- what part 1 knows
       abbrev Known₁ : Type 0
@@ -501,101 +557,110 @@ module _ {M : Type 1} (𝓤 : URA M) (H : Heap 𝓤) (A : Atoms 𝓤) (W : Given
           (past .11) (past .12) (past .13) (past .14) (past .15)) Post))
       part₁ past =
           qed W (‵ (partAt clock-row.the-row (past .16) (h .clock) b (o + 104))
-              ∷ ‵ (partAt arrival-row.the-row (past .16) (h .arrival) b (o + 72))
-              ∷ ‵ (partAt flight-row.the-row (past .16) (h .flight) b (o + 16))
-              ∷ ‵ (partAt settings-row.the-row (past .16) (h .settings) b (o + 0))
-              ∷ ‵ (partAt (Array u32 128) (past .16) (h .«waiting_numbers») b (o + 1820))
-              ∷ ‵ (partAt (Array u32 128) (past .16) (h .waiting) b (o + 1308))
-              ∷ ‵ (partAt (Array u32 128) (past .16) (h .ready) b (o + 796))
-              ∷ ‵ (partAt (Array u8 32) (past .16) (h .transmissions) b (o + 764))
-              ∷ ‵ (partAt (Array u32 32) (past .16) (h .outstanding) b (o + 636))
-              ∷ ‵ (partAt (Array u32 128) (past .16) (h .queued) b (o + 124)) ∷ raw (Back 𝓤 H A (past .16) b o)
-              ∷ ‵ (fobor κ₀ q₀ (partAt L (past .16) h b o))
-              ∷ (‵ (fdies tyBool (past .0)) ⊛ ‵ (fdies (tyRef (named 0) imm (pointee (L .written))) (past .1)) ⊛ ‵
-              (fdies (tyRef (named 1) mut (tyArray (tyInt w8) 128)) (past .2)) ⊛ ‵
-              (fdies (tyRef (named 2) mut (tyArray (tyInt w8) 256)) (past .3)) ⊛ ‵ (fdies settings-laws.mir (past .4)) ⊛ ‵
-              (fdies flight-laws.mir (past .5)) ⊛ ‵ (fdies arrival-laws.mir (past .6)) ⊛ ‵ (fdies clock-laws.mir (past .7)) ⊛ ‵
-              (fdies (tyRef erased imm (tyArray (tyInt w32) 128)) (past .8)) ⊛ ‵
-              (fdies (tyRef erased imm (tyArray (tyInt w32) 32)) (past .9)) ⊛ ‵
-              (fdies (tyRef erased imm (tyArray (tyInt w8) 32)) (past .10)) ⊛ ‵
-              (fdies (tyRef erased imm (tyArray (tyInt w32) 128)) (past .11)) ⊛ ‵
-              (fdies (tyRef erased imm (tyArray (tyInt w32) 128)) (past .12)) ⊛ ‵
-              (fdies (tyRef erased imm (tyArray (tyInt w32) 128)) (past .13)) ⊛ ‵
-              (fdies (tyRef erased mut (tyArray (tyInt w8) 128)) (past .14)) ⊛ ‵
-              (fdies (tyRef erased mut (tyArray (tyInt w8) 256)) (past .15))) ∷ ‵ (flft κ₁ q₁) ∷ ‵ (flft κ₂ q₂) ∷ ‵ Own₁ ∷ ‵ Own₂
-              ∷ ‵ (froom (tyRef erased mut (tyArray (tyInt w8) 256)) (past .15) 0)
-              ∷ ‵ (froom (tyRef erased mut (tyArray (tyInt w8) 128)) (past .14) 0)
-              ∷ ‵ (froom (tyRef erased imm (tyArray (tyInt w32) 128)) (past .13) 0)
-              ∷ ‵ (froom (tyRef erased imm (tyArray (tyInt w32) 128)) (past .12) 0)
-              ∷ ‵ (froom (tyRef erased imm (tyArray (tyInt w32) 128)) (past .11) 0)
-              ∷ ‵ (froom (tyRef erased imm (tyArray (tyInt w8) 32)) (past .10) 0)
-              ∷ ‵ (froom (tyRef erased imm (tyArray (tyInt w32) 32)) (past .9) 0)
-              ∷ ‵ (froom (tyRef erased imm (tyArray (tyInt w32) 128)) (past .8) 0)
-              ∷ ‵ (fat fullShare clock-laws.mir (past .7) 0 ((only ((LL.vals clock-row.the-type clock-laws.the-laws) (h .clock)))))
-              ∷ ‵ (fat fullShare arrival-laws.mir (past .6) 0 ((only ((LL.vals arrival-row.the-type arrival-laws.the-laws) (h .arrival)))))
-              ∷ ‵ (fat fullShare flight-laws.mir (past .5) 0 ((only ((LL.vals flight-row.the-type flight-laws.the-laws) (h .flight)))))
-              ∷ ‵ (fat fullShare settings-laws.mir (past .4) 0
-              ((only ((LL.vals settings-row.the-type settings-laws.the-laws) (h .settings)))))
-              ∷ ‵ (fat fullShare (tyRef (named 2) mut (tyArray (tyInt w8) 256)) (past .3) 0 (s₂))
-              ∷ ‵ (fat fullShare (tyRef (named 1) mut (tyArray (tyInt w8) 128)) (past .2) 0 (s₁))
-              ∷ ‵ (fat fullShare (tyRef (named 0) imm (pointee (L .written))) (past .1) 0 (vptr b o)) ∷ ‵ (froom tyBool (past .0) 0) ∷ []) ∵
-              exec ! C Λ (En (past .0) (past .1) (past .2) (past .3) (past .4) (past .5) (past .6) (past .7) (past .8) (past .9) (past .10)
-              (past .11) (past .12) (past .13) (past .14) (past .15)) (behind 4 (code.function .body))
-              (atRet (En (past .0) (past .1) (past .2) (past .3) (past .4) (past .5) (past .6) (past .7) (past .8) (past .9) (past .10)
-              (past .11) (past .12) (past .13) (past .14) (past .15)) Post) $
+          ∷ ‵ (partAt arrival-row.the-row (past .16) (h .arrival) b (o + 72))
+          ∷ ‵ (partAt flight-row.the-row (past .16) (h .flight) b (o + 16))
+          ∷ ‵ (partAt settings-row.the-row (past .16) (h .settings) b (o + 0))
+          ∷ ‵ (partAt (Array u32 128) (past .16) (h .«waiting_numbers») b (o + 1820))
+          ∷ ‵ (partAt (Array u32 128) (past .16) (h .waiting) b (o + 1308))
+          ∷ ‵ (partAt (Array u32 128) (past .16) (h .ready) b (o + 796))
+          ∷ ‵ (partAt (Array u8 32) (past .16) (h .transmissions) b (o + 764))
+          ∷ ‵ (partAt (Array u32 32) (past .16) (h .outstanding) b (o + 636))
+          ∷ ‵ (partAt (Array u32 128) (past .16) (h .queued) b (o + 124)) ∷ raw (Back 𝓤 H A (past .16) b o)
+          ∷ ‵ (fobor κ₀ q₀ (partAt L (past .16) h b o))
+          ∷ (‵ (fdies tyBool (past .0)) ⊛ ‵ (fdies (tyRef (named 0) imm (pointee (L .written))) (past .1)) ⊛ ‵
+          (fdies (tyRef (named 1) mut (tyArray (tyInt w8) 128)) (past .2)) ⊛ ‵
+          (fdies (tyRef (named 2) mut (tyArray (tyInt w8) 256)) (past .3)) ⊛ ‵ (fdies settings-laws.mir (past .4)) ⊛ ‵
+          (fdies flight-laws.mir (past .5)) ⊛ ‵ (fdies arrival-laws.mir (past .6)) ⊛ ‵ (fdies clock-laws.mir (past .7)) ⊛ ‵
+          (fdies (tyRef erased imm (tyArray (tyInt w32) 128)) (past .8)) ⊛ ‵
+          (fdies (tyRef erased imm (tyArray (tyInt w32) 32)) (past .9)) ⊛ ‵
+          (fdies (tyRef erased imm (tyArray (tyInt w8) 32)) (past .10)) ⊛ ‵
+          (fdies (tyRef erased imm (tyArray (tyInt w32) 128)) (past .11)) ⊛ ‵
+          (fdies (tyRef erased imm (tyArray (tyInt w32) 128)) (past .12)) ⊛ ‵
+          (fdies (tyRef erased imm (tyArray (tyInt w32) 128)) (past .13)) ⊛ ‵
+          (fdies (tyRef erased mut (tyArray (tyInt w8) 128)) (past .14)) ⊛ ‵
+          (fdies (tyRef erased mut (tyArray (tyInt w8) 256)) (past .15))) ∷ ‵ (flft κ₁ q₁) ∷ ‵ (flft κ₂ q₂) ∷ ‵ Own₁ ∷ ‵ Own₂
+          ∷ ‵ (froom (tyRef erased mut (tyArray (tyInt w8) 256)) (past .15) 0)
+          ∷ ‵ (froom (tyRef erased mut (tyArray (tyInt w8) 128)) (past .14) 0)
+          ∷ ‵ (froom (tyRef erased imm (tyArray (tyInt w32) 128)) (past .13) 0)
+          ∷ ‵ (froom (tyRef erased imm (tyArray (tyInt w32) 128)) (past .12) 0)
+          ∷ ‵ (froom (tyRef erased imm (tyArray (tyInt w32) 128)) (past .11) 0)
+          ∷ ‵ (froom (tyRef erased imm (tyArray (tyInt w8) 32)) (past .10) 0)
+          ∷ ‵ (froom (tyRef erased imm (tyArray (tyInt w32) 32)) (past .9) 0)
+          ∷ ‵ (froom (tyRef erased imm (tyArray (tyInt w32) 128)) (past .8) 0)
+          ∷ ‵ (fat fullShare clock-laws.mir (past .7) 0 ((only ((LL.vals clock-row.the-type clock-laws.the-laws) (h .clock)))))
+          ∷ ‵ (fat fullShare arrival-laws.mir (past .6) 0 ((only ((LL.vals arrival-row.the-type arrival-laws.the-laws) (h .arrival)))))
+          ∷ ‵ (fat fullShare flight-laws.mir (past .5) 0 ((only ((LL.vals flight-row.the-type flight-laws.the-laws) (h .flight)))))
+          ∷ ‵ (fat fullShare settings-laws.mir (past .4) 0
+          ((only ((LL.vals settings-row.the-type settings-laws.the-laws) (h .settings)))))
+          ∷ ‵ (fat fullShare (tyRef (named 2) mut (tyArray (tyInt w8) 256)) (past .3) 0 (s₂))
+          ∷ ‵ (fat fullShare (tyRef (named 1) mut (tyArray (tyInt w8) 128)) (past .2) 0 (s₁))
+          ∷ ‵ (fat fullShare (tyRef (named 0) imm (pointee (L .written))) (past .1) 0 (vptr b o)) ∷ ‵ (froom tyBool (past .0) 0) ∷ []) ∵
+          exec ! C Λ (En (past .0) (past .1) (past .2) (past .3) (past .4) (past .5) (past .6) (past .7) (past .8) (past .9) (past .10)
+          (past .11) (past .12) (past .13) (past .14) (past .15)) (behind 4 (code.function .body))
+          (atRet (En (past .0) (past .1) (past .2) (past .3) (past .4) (past .5) (past .6) (past .7) (past .8) (past .9) (past .10)
+          (past .11) (past .12) (past .13) (past .14) (past .15)) Post) $
           assigns ! {v = (vptr b (o + 124))} (addr ! (from ! (hop ! (look ! 31 refl) (fld ! {d = 124} refl (stop !))))) (from ! (stop !))
-              (init ! 24 refl (tt, tt)) $
+          (init ! 24 refl (tt, tt)) $
           assigns ! {v = (vptr b (o + 636))} (addr ! (from ! (hop ! (look ! 31 refl) (fld ! {d = 636} refl (stop !))))) (from ! (stop !))
-              (init ! 23 refl (tt, tt)) $
+          (init ! 23 refl (tt, tt)) $
           assigns ! {v = (vptr b (o + 764))} (addr ! (from ! (hop ! (look ! 31 refl) (fld ! {d = 764} refl (stop !))))) (from ! (stop !))
-              (init ! 22 refl (tt, tt)) $
+          (init ! 22 refl (tt, tt)) $
           assigns ! {v = (vptr b (o + 796))} (addr ! (from ! (hop ! (look ! 31 refl) (fld ! {d = 796} refl (stop !))))) (from ! (stop !))
-              (init ! 21 refl (tt, tt)) $
+          (init ! 21 refl (tt, tt)) $
           assigns ! {v = (vptr b (o + 1308))} (addr ! (from ! (hop ! (look ! 31 refl) (fld ! {d = 1308} refl (stop !))))) (from ! (stop !))
-              (init ! 20 refl (tt, tt)) $
+          (init ! 20 refl (tt, tt)) $
           assigns ! {v = (vptr b (o + 1820))} (addr ! (from ! (hop ! (look ! 31 refl) (fld ! {d = 1820} refl (stop !))))) (from ! (stop !))
-              (init ! 19 refl (tt, tt)) $
+          (init ! 19 refl (tt, tt)) $
           assigns ! {v = s₁} (addr ! (from ! (hop ! (look ! 30 refl) (stop !)))) (from ! (stop !)) (init ! 18 refl (tt, tt)) $
           assigns ! {v = s₂} (addr ! (from ! (hop ! (look ! 29 refl) (stop !)))) (from ! (stop !)) (init ! 17 refl (tt, tt)) $
           move ! (9 ∷ []) $ lend-shr ! tt (past .16) (Array u32 128) (h .queued) b (o + 124)
-              (λ α-queued δ-queued. move ! (11 ∷ []) $
-              lend-shr ! tt (past .16) (Array u32 32) (h .outstanding) b (o + 636)
-              (λ α-outstanding δ-outstanding. move ! (13 ∷ []) $
-              lend-shr ! tt (past .16) (Array u8 32) (h .transmissions) b (o + 764)
-              (λ α-transmissions δ-transmissions. move ! (15 ∷ []) $
-              lend-shr ! tt (past .16) (Array u32 128) (h .ready) b (o + 796)
-              (λ α-ready δ-ready. move ! (17 ∷ []) $
-              lend-shr ! tt (past .16) (Array u32 128) (h .waiting) b (o + 1308)
-              (λ α-waiting δ-waiting. move ! (19 ∷ []) $
-              lend-shr ! tt (past .16) (Array u32 128) (h .«waiting_numbers») b (o + 1820)
-              (λ α-waiting-numbers δ-waiting-numbers. move ! (15 ∷ 16 ∷ 12 ∷ 13 ∷ 9 ∷ 10 ∷ 6 ∷ 7 ∷ 3 ∷ 4 ∷ 0 ∷ 1 ∷ 25 ∷ 27 ∷ 26
-              ∷ 28 ∷ []) $ group ! 16 $ calls-fn ! fm core.ended (core.clauses 𝓤 H A at-mem run) (known)
-              (to-core α-queued δ-queued (h .queued) α-outstanding δ-outstanding (h .outstanding) α-transmissions δ-transmissions
-              (h .transmissions) α-ready δ-ready (h .ready) α-waiting δ-waiting (h .waiting) α-waiting-numbers δ-waiting-numbers
-              (h .«waiting_numbers») (h .settings) (only ((LL.vals settings-row.the-type settings-laws.the-laws) (h .settings))) (h .flight)
-              (only ((LL.vals flight-row.the-type flight-laws.the-laws) (h .flight))) (h .arrival)
-              (only ((LL.vals arrival-row.the-type arrival-laws.the-laws) (h .arrival))) (h .clock)
-              (only ((LL.vals clock-row.the-type clock-laws.the-laws) (h .clock))))
-              (λ r ws-r. Sound h (ws-r .1 .1 .1 .1 .1 .1 .1 .1 .1 .1 .0) (ws-r .1 .1 .1 .1 .1 .1 .1 .1 .1 .1 .1 .0) r)
-              (‵ (flft (α-queued ∷ []) fullShare) ⊛ ‵ (ShrRef (named 0) (α-queued ∷ []) (Array u32 128) .own
-              (ref-at b (o + 124) δ-queued (h .queued)) ((vptr b (o + 124)) ∷ [])) ⊛ ‵ (flft (α-outstanding ∷ []) fullShare) ⊛ ‵
-              (ShrRef (named 0) (α-outstanding ∷ []) (Array u32 32) .own (ref-at b (o + 636) δ-outstanding (h .outstanding))
-              ((vptr b (o + 636)) ∷ [])) ⊛ ‵ (flft (α-transmissions ∷ []) fullShare) ⊛ ‵
-              (ShrRef (named 0) (α-transmissions ∷ []) (Array u8 32) .own (ref-at b (o + 764) δ-transmissions (h .transmissions))
-              ((vptr b (o + 764)) ∷ [])) ⊛ ‵ (flft (α-ready ∷ []) fullShare) ⊛ ‵
-              (ShrRef (named 0) (α-ready ∷ []) (Array u32 128) .own (ref-at b (o + 796) δ-ready (h .ready)) ((vptr b (o + 796)) ∷ [])) ⊛ ‵
-              (flft (α-waiting ∷ []) fullShare) ⊛ ‵ (ShrRef (named 0) (α-waiting ∷ []) (Array u32 128) .own
-              (ref-at b (o + 1308) δ-waiting (h .waiting)) ((vptr b (o + 1308)) ∷ [])) ⊛ ‵ (flft (α-waiting-numbers ∷ []) fullShare) ⊛ ‵
-              (ShrRef (named 0) (α-waiting-numbers ∷ []) (Array u32 128) .own (ref-at b (o + 1820) δ-waiting-numbers (h .«waiting_numbers»))
-              ((vptr b (o + 1820)) ∷ [])) ⊛ ‵ (flft κ₁ q₁) ⊛ ‵ Own₁ ⊛ ‵ (flft κ₂ q₂) ⊛ ‵ Own₂)
+          (λ α-queued δ-queued. move ! (11 ∷ []) $
+          lend-shr ! tt (past .16) (Array u32 32) (h .outstanding) b (o + 636)
+          (λ α-outstanding δ-outstanding. move ! (13 ∷ []) $
+          lend-shr ! tt (past .16) (Array u8 32) (h .transmissions) b (o + 764)
+          (λ α-transmissions δ-transmissions. move ! (15 ∷ []) $
+          lend-shr ! tt (past .16) (Array u32 128) (h .ready) b (o + 796)
+          (λ α-ready δ-ready. move ! (17 ∷ []) $
+          lend-shr ! tt (past .16) (Array u32 128) (h .waiting) b (o + 1308)
+          (λ α-waiting δ-waiting. move ! (19 ∷ []) $
+          lend-shr ! tt (past .16) (Array u32 128) (h .«waiting_numbers») b (o + 1820)
+          (λ α-waiting-numbers δ-waiting-numbers. move ! (15 ∷ 16 ∷ 12 ∷ 13 ∷ 9 ∷ 10 ∷ 6 ∷ 7 ∷ 3 ∷ 4 ∷ 0 ∷ 1 ∷ 25 ∷ 27 ∷ 26
+          ∷ 28 ∷ []) $ group ! 16 $ calls-fn ! fm core.ended (core.clauses 𝓤 H A at-mem run) (known)
+          (to-core α-queued δ-queued (h .queued) α-outstanding δ-outstanding (h .outstanding) α-transmissions δ-transmissions
+          (h .transmissions) α-ready δ-ready (h .ready) α-waiting δ-waiting (h .waiting) α-waiting-numbers δ-waiting-numbers
+          (h .«waiting_numbers») (h .settings) (only ((LL.vals settings-row.the-type settings-laws.the-laws) (h .settings))) (h .flight)
+          (only ((LL.vals flight-row.the-type flight-laws.the-laws) (h .flight))) (h .arrival)
+          (only ((LL.vals arrival-row.the-type arrival-laws.the-laws) (h .arrival))) (h .clock)
+          (only ((LL.vals clock-row.the-type clock-laws.the-laws) (h .clock))))
+          (λ r ws-r. Sound h (ws-r .1 .1 .1 .1 .1 .1 .1 .1 .1 .1 .0) (ws-r .1 .1 .1 .1 .1 .1 .1 .1 .1 .1 .1 .0) r)
+          (‵ (flft (α-queued ∷ []) fullShare) ⊛ ‵ (ShrRef (named 0) (α-queued ∷ []) (Array u32 128) .own
+          (ref-at b (o + 124) δ-queued (h .queued)) ((vptr b (o + 124)) ∷ [])) ⊛ ‵ (flft (α-outstanding ∷ []) fullShare) ⊛ ‵
+          (ShrRef (named 0) (α-outstanding ∷ []) (Array u32 32) .own (ref-at b (o + 636) δ-outstanding (h .outstanding))
+          ((vptr b (o + 636)) ∷ [])) ⊛ ‵ (flft (α-transmissions ∷ []) fullShare) ⊛ ‵
+          (ShrRef (named 0) (α-transmissions ∷ []) (Array u8 32) .own (ref-at b (o + 764) δ-transmissions (h .transmissions))
+          ((vptr b (o + 764)) ∷ [])) ⊛ ‵ (flft (α-ready ∷ []) fullShare) ⊛ ‵
+          (ShrRef (named 0) (α-ready ∷ []) (Array u32 128) .own (ref-at b (o + 796) δ-ready (h .ready)) ((vptr b (o + 796)) ∷ [])) ⊛ ‵
+          (flft (α-waiting ∷ []) fullShare) ⊛ ‵ (ShrRef (named 0) (α-waiting ∷ []) (Array u32 128) .own
+          (ref-at b (o + 1308) δ-waiting (h .waiting)) ((vptr b (o + 1308)) ∷ [])) ⊛ ‵ (flft (α-waiting-numbers ∷ []) fullShare) ⊛ ‵
+          (ShrRef (named 0) (α-waiting-numbers ∷ []) (Array u32 128) .own (ref-at b (o + 1820) δ-waiting-numbers (h .«waiting_numbers»))
+          ((vptr b (o + 1820)) ∷ [])) ⊛ ‵ (flft κ₁ q₁) ⊛ ‵ Own₁ ⊛ ‵ (flft κ₂ q₂) ⊛ ‵ Own₂)
           (asks-core α-queued δ-queued (h .queued) α-outstanding δ-outstanding (h .outstanding) α-transmissions δ-transmissions
           (h .transmissions) α-ready δ-ready (h .ready) α-waiting δ-waiting (h .waiting) α-waiting-numbers δ-waiting-numbers
           (h .«waiting_numbers») (h .settings) (only ((LL.vals settings-row.the-type settings-laws.the-laws) (h .settings))) (past .23)
           (h .flight) (only ((LL.vals flight-row.the-type flight-laws.the-laws) (h .flight))) (past .24) (h .arrival)
           (only ((LL.vals arrival-row.the-type arrival-laws.the-laws) (h .arrival))) (past .25) (h .clock)
-          (only ((LL.vals clock-row.the-type clock-laws.the-laws) (h .clock))) (past .26)
-          (record { whole-queued = (past .17); whole-outstanding = (past .18); whole-transmissions = (past .19); whole-ready = (past .20);
-          whole-waiting = (past .21); whole-numbers = (past .22) }, req .0, req .1)) (λ r ws-r. id⊢ 𝓤 _)
+          (only ((LL.vals clock-row.the-type clock-laws.the-laws) (h .clock))) (past .26) (
+            record {
+              whole-queued = (past .17);
+              whole-outstanding = (past .18);
+              whole-transmissions = (past .19);
+              whole-ready = (past .20);
+              whole-waiting = (past .21);
+              whole-numbers = (past .22);
+            },
+            req .0,
+            req .1,
+          )) (λ r ws-r. id⊢ 𝓤 _)
           (and-then ! (load ! (from ! (stop !)) (look ! 25 refl))
           (and-then ! (load ! (from ! (stop !)) (look ! 24 refl))
           (and-then ! (load ! (from ! (stop !)) (look ! 23 refl))
@@ -610,108 +675,159 @@ module _ {M : Type 1} (𝓤 : URA M) (H : Heap 𝓤) (A : Atoms 𝓤) (W : Given
           (and-then ! (load ! (from ! (stop !)) (look ! 14 refl)) (no-more !)))))))))))))
           (λ r w-r ws-r e-r is-r. land ! (from ! (stop !)) (init ! 30 refl (bool-lawful 𝓤 H A W .typed r _ is-r .0)) $
           spread W (‵ (flft (α-queued ∷ []) fullShare))
-              (‵ (flft (α-outstanding ∷ []) fullShare) ∷ ‵ (flft (α-transmissions ∷ []) fullShare) ∷ ‵ (flft (α-ready ∷ []) fullShare)
-              ∷ ‵ (flft (α-waiting ∷ []) fullShare) ∷ ‵ (flft (α-waiting-numbers ∷ []) fullShare) ∷ ‵ (flft κ₁ q₁)
-              ∷ ‵ (flft κ₂ q₂) ∷ ‵ ftrue ∷ []) (id⊢ 𝓤 _) $ move ! (9 ∷ []) $
-              spread W (‵ ftrue) (‵ ftrue ∷ ‵ ftrue ∷ ‵ ftrue ∷ ‵ ftrue ∷ ‵ ftrue ∷ ‵ ftrue ∷ ‵ ftrue ∷ ‵ ftrue ∷ ‵ ftrue
-              ∷ ‵ (fres (x₁ .name) ((Array u8 128) .coded .code (ws-r .1 .1 .1 .1 .1 .1 .1 .1 .1 .1 .0)))
-              ∷ ‵ (fres (x₂ .name) ((Array u8 256) .coded .code (ws-r .1 .1 .1 .1 .1 .1 .1 .1 .1 .1 .1 .0))) ∷ ‵ ftrue ∷ []) (id⊢ 𝓤 _) $
-              keep ! (10 ∷ 11 ∷ 13 ∷ 14 ∷ 15 ∷ 16 ∷ 17 ∷ 18 ∷ 19 ∷ 20 ∷ 22 ∷ 23 ∷ 24 ∷ 25 ∷ 26 ∷ 27 ∷ 28 ∷ 29 ∷ 30 ∷ 31
-              ∷ 32 ∷ 33 ∷ 34 ∷ 35 ∷ 36 ∷ 37 ∷ 38 ∷ 39 ∷ 40 ∷ 41 ∷ 42 ∷ 43 ∷ 44 ∷ 45 ∷ 46 ∷ 47 ∷ 48 ∷ 49 ∷ 50 ∷ []) $
+          (‵ (flft (α-outstanding ∷ []) fullShare) ∷ ‵ (flft (α-transmissions ∷ []) fullShare) ∷ ‵ (flft (α-ready ∷ []) fullShare)
+          ∷ ‵ (flft (α-waiting ∷ []) fullShare) ∷ ‵ (flft (α-waiting-numbers ∷ []) fullShare) ∷ ‵ (flft κ₁ q₁)
+          ∷ ‵ (flft κ₂ q₂) ∷ ‵ ftrue ∷ []) (id⊢ 𝓤 _) $ move ! (9 ∷ []) $
+          spread W (‵ ftrue) (‵ ftrue ∷ ‵ ftrue ∷ ‵ ftrue ∷ ‵ ftrue ∷ ‵ ftrue ∷ ‵ ftrue ∷ ‵ ftrue ∷ ‵ ftrue ∷ ‵ ftrue
+          ∷ ‵ (fres (x₁ .name) ((Array u8 128) .coded .code (ws-r .1 .1 .1 .1 .1 .1 .1 .1 .1 .1 .0)))
+          ∷ ‵ (fres (x₂ .name) ((Array u8 256) .coded .code (ws-r .1 .1 .1 .1 .1 .1 .1 .1 .1 .1 .1 .0))) ∷ ‵ ftrue ∷ []) (id⊢ 𝓤 _) $
+          keep ! (10 ∷ 11 ∷ 13 ∷ 14 ∷ 15 ∷ 16 ∷ 17 ∷ 18 ∷ 19 ∷ 20 ∷ 22 ∷ 23 ∷ 24 ∷ 25 ∷ 26 ∷ 27 ∷ 28 ∷ 29 ∷ 30 ∷ 31
+          ∷ 32 ∷ 33 ∷ 34 ∷ 35 ∷ 36 ∷ 37 ∷ 38 ∷ 39 ∷ 40 ∷ 41 ∷ 42 ∷ 43 ∷ 44 ∷ 45 ∷ 46 ∷ 47 ∷ 48 ∷ 49 ∷ 50 ∷ []) $
           -- [fin1; fin2; tok:queued; tok:outstanding; tok:transmissions; tok:ready; tok:waiting; tok:«waiting_numbers»; tok1; tok2;
           -- lent:«waiting_numbers»; lent:waiting; lent:ready; lent:transmissions; lent:outstanding; lent:queued; F:clock; F:arrival;
           -- F:flight; F:settings; back; opened; deaths; the locals]
           move ! (2 ∷ 15 ∷ []) $ back-shr ! tt (past .16) (Array u32 128) b (o + 124) (h .queued) $ move ! (3 ∷ 14 ∷ []) $
-              back-shr ! tt (past .16) (Array u32 32) b (o + 636) (h .outstanding) $ move ! (4 ∷ 13 ∷ []) $
-              back-shr ! tt (past .16) (Array u8 32) b (o + 764) (h .transmissions) $ move ! (5 ∷ 12 ∷ []) $
-              back-shr ! tt (past .16) (Array u32 128) b (o + 796) (h .ready) $ move ! (6 ∷ 11 ∷ []) $
-              back-shr ! tt (past .16) (Array u32 128) b (o + 1308) (h .waiting) $ move ! (7 ∷ 10 ∷ []) $
-              back-shr ! tt (past .16) (Array u32 128) b (o + 1820) (h .«waiting_numbers») $
-              by ! (part₂ ((ws-r .1 .1 .1 .1 .1 .1 .1 .1 .1 .1 .1 .0), (ws-r .1 .1 .1 .1 .1 .1 .1 .1 .1 .1 .0), (past .0), (past .1),
-              (past .2), (past .3), (past .4), (past .5), (past .6), (past .7), (past .8), (past .9), (past .10), (past .11), (past .12),
-              (past .13), (past .14), (past .15), (past .16), r, w-r, e-r, is-r)))))))))
+          back-shr ! tt (past .16) (Array u32 32) b (o + 636) (h .outstanding) $ move ! (4 ∷ 13 ∷ []) $
+          back-shr ! tt (past .16) (Array u8 32) b (o + 764) (h .transmissions) $ move ! (5 ∷ 12 ∷ []) $
+          back-shr ! tt (past .16) (Array u32 128) b (o + 796) (h .ready) $ move ! (6 ∷ 11 ∷ []) $
+          back-shr ! tt (past .16) (Array u32 128) b (o + 1308) (h .waiting) $ move ! (7 ∷ 10 ∷ []) $
+          back-shr ! tt (past .16) (Array u32 128) b (o + 1820) (h .«waiting_numbers») $
+          by ! (part₂ (
+            (ws-r .1 .1 .1 .1 .1 .1 .1 .1 .1 .1 .1 .0),
+            (ws-r .1 .1 .1 .1 .1 .1 .1 .1 .1 .1 .0),
+            (past .0),
+            (past .1),
+            (past .2),
+            (past .3),
+            (past .4),
+            (past .5),
+            (past .6),
+            (past .7),
+            (past .8),
+            (past .9),
+            (past .10),
+            (past .11),
+            (past .12),
+            (past .13),
+            (past .14),
+            (past .15),
+            (past .16),
+            r,
+            w-r,
+            e-r,
+            is-r,
+          )))))))))
 
       walk : ent 𝓤 (onEntry 𝓤 H A f.signature (κ₀, (κ₁, (κ₂, tt))) (q₀, (q₁, (q₂, tt))) x at)
           (WpFn 𝓤 H C Λ code.function (vptr b o ∷ s₁ ∷ s₂ ∷ []) Post)
       walk =
           qed W ((‵ (flft κ₀ q₀) ⊛ ‵ (flft κ₁ q₁) ⊛ ‵ (flft κ₂ q₂) ⊛ ‵ ftrue)
-              ∷ ‵ (owns (ShrRef (named 0) κ₀ L ∷ MutRef (named 1) κ₁ (Array u8 128) ∷ MutRef (named 2) κ₂ (Array u8 256) ∷ []) x at) ∷ [])
-              ∵ enter ! C Λ code.function (vptr b o ∷ s₁ ∷ s₂ ∷ []) _ $
+          ∷ ‵ (owns (ShrRef (named 0) κ₀ L ∷ MutRef (named 1) κ₁ (Array u8 128) ∷ MutRef (named 2) κ₂ (Array u8 256) ∷ []) x at) ∷ [])
+          ∵ enter ! C Λ code.function (vptr b o ∷ s₁ ∷ s₂ ∷ []) _ $
           alloc1 ! (λ l₀. alloc1 ! (λ l₁. alloc1 ! (λ l₂.
-              alloc1 ! (λ l₃. alloc1 ! (λ l₄. alloc1 ! (λ l₅.
-              alloc1 ! (λ l₆. alloc1 ! (λ l₇. alloc1 ! (λ l₈.
-              alloc1 ! (λ l₉. alloc1 ! (λ l₁₀. alloc1 ! (λ l₁₁.
-              alloc1 ! (λ l₁₂. alloc1 ! (λ l₁₃. alloc1 ! (λ l₁₄. alloc1 ! (λ l₁₅. alloc0 ! $ params1 ! $
+          alloc1 ! (λ l₃. alloc1 ! (λ l₄. alloc1 ! (λ l₅.
+          alloc1 ! (λ l₆. alloc1 ! (λ l₇. alloc1 ! (λ l₈.
+          alloc1 ! (λ l₉. alloc1 ! (λ l₁₀. alloc1 ! (λ l₁₁.
+          alloc1 ! (λ l₁₂. alloc1 ! (λ l₁₃. alloc1 ! (λ l₁₄. alloc1 ! (λ l₁₅. alloc0 ! $ params1 ! $
           pass1 ! (init ! 28 refl (tt, tt)) $ pass1 ! (init ! 26 refl (tt, tt)) $ pass1 ! (init ! 24 refl (tt, tt)) $ pass0 ! $
           move ! (33 ∷ []) $ spread W (‵ (ShrRef (named 0) κ₀ L .own (ref-at b o γ h) (vptr b o ∷ [])))
-              (‵ (MutRef (named 1) κ₁ (Array u8 128) .own (x₁) (s₁ ∷ [])) ∷ ‵ (MutRef (named 2) κ₂ (Array u8 256) .own (x₂) (s₂ ∷ []))
-              ∷ ‵ ftrue ∷ []) (id⊢ 𝓤 _) $ move ! (36 ∷ []) $
-              spread W (‵ (flft κ₀ q₀)) (‵ (flft κ₁ q₁) ∷ ‵ (flft κ₂ q₂) ∷ ‵ ftrue ∷ []) (id⊢ 𝓤 _) $ move ! (7 ∷ 3 ∷ []) $
-              drop ! $ drop ! $ move ! (37 ∷ 35 ∷ 33 ∷ 31 ∷ 29 ∷ 27 ∷ 25 ∷ 23 ∷ 21 ∷ 19 ∷ 17 ∷ 15 ∷ 13 ∷ 11 ∷ 9 ∷ 7 ∷ []) $
-              group ! 16 $
+          (‵ (MutRef (named 1) κ₁ (Array u8 128) .own (x₁) (s₁ ∷ [])) ∷ ‵ (MutRef (named 2) κ₂ (Array u8 256) .own (x₂) (s₂ ∷ []))
+          ∷ ‵ ftrue ∷ []) (id⊢ 𝓤 _) $ move ! (36 ∷ []) $
+          spread W (‵ (flft κ₀ q₀)) (‵ (flft κ₁ q₁) ∷ ‵ (flft κ₂ q₂) ∷ ‵ ftrue ∷ []) (id⊢ 𝓤 _) $ move ! (7 ∷ 3 ∷ []) $
+          drop ! $ drop ! $ move ! (37 ∷ 35 ∷ 33 ∷ 31 ∷ 29 ∷ 27 ∷ 25 ∷ 23 ∷ 21 ∷ 19 ∷ 17 ∷ 15 ∷ 13 ∷ 11 ∷ 9 ∷ 7 ∷ []) $
+          group ! 16 $
           -- [deaths; tok0; tok1; tok2; own0; own1; own2; the locals]
           move ! (4 ∷ 1 ∷ []) $ looks-link b o γ ! tt h (λ q′.
           -- [F:settings; F:flight; F:arrival; F:clock; F:queued; F:outstanding; F:transmissions; F:ready; F:waiting; F:«waiting_numbers»;
           -- back; opened; deaths; tok1; tok2; own1; own2; the locals]
           move ! (4 ∷ []) $ tells-length ! q′ u32 128 (h .queued) b (o + 124)
-              (λ len-queued. move ! (5 ∷ []) $
-              tells-length ! q′ u32 32 (h .outstanding) b (o + 636)
-              (λ len-outstanding. move ! (6 ∷ []) $
-              tells-length ! q′ u8 32 (h .transmissions) b (o + 764)
-              (λ len-transmissions. move ! (7 ∷ []) $
-              tells-length ! q′ u32 128 (h .ready) b (o + 796)
-              (λ len-ready. move ! (8 ∷ []) $
-              tells-length ! q′ u32 128 (h .waiting) b (o + 1308)
-              (λ len-waiting. move ! (9 ∷ []) $
-              tells-length ! q′ u32 128 (h .«waiting_numbers») b (o + 1820)
-              (λ len-waiting-numbers. move ! (6 ∷ []) $
-              cell-out ! q′ settings-row.the-row (LL.vals settings-row.the-type settings-laws.the-laws)
-              (LL.tells settings-row.the-type settings-laws.the-laws) (h .settings) b (o + 0) (λ was-settings.
+          (λ len-queued. move ! (5 ∷ []) $
+          tells-length ! q′ u32 32 (h .outstanding) b (o + 636)
+          (λ len-outstanding. move ! (6 ∷ []) $
+          tells-length ! q′ u8 32 (h .transmissions) b (o + 764)
+          (λ len-transmissions. move ! (7 ∷ []) $
+          tells-length ! q′ u32 128 (h .ready) b (o + 796)
+          (λ len-ready. move ! (8 ∷ []) $
+          tells-length ! q′ u32 128 (h .waiting) b (o + 1308)
+          (λ len-waiting. move ! (9 ∷ []) $
+          tells-length ! q′ u32 128 (h .«waiting_numbers») b (o + 1820)
+          (λ len-waiting-numbers. move ! (6 ∷ []) $
+          cell-out ! q′ settings-row.the-row (LL.vals settings-row.the-type settings-laws.the-laws)
+          (LL.tells settings-row.the-type settings-laws.the-laws) (h .settings) b (o + 0) (λ was-settings.
           assigns ! {v = (only ((LL.vals settings-row.the-type settings-laws.the-laws) (h .settings)))}
-              (of-opd ! (load ! (from ! (hop ! (look ! 31 refl) (fld ! {d = 0} refl (stop !)))) (look-raw ! 0 refl))) (from ! (stop !))
-              (init ! 28 refl (LL.lawful settings-row.the-type settings-laws.the-laws 𝓤 H A W .typed (h .settings)
-              ((only ((LL.vals settings-row.the-type settings-laws.the-laws) (h .settings))) ∷ []) was-settings .0)) $
+          (of-opd ! (load ! (from ! (hop ! (look ! 31 refl) (fld ! {d = 0} refl (stop !)))) (look-raw ! 0 refl))) (from ! (stop !))
+          (init ! 28 refl (LL.lawful settings-row.the-type settings-laws.the-laws 𝓤 H A W .typed (h .settings)
+          ((only ((LL.vals settings-row.the-type settings-laws.the-laws) (h .settings))) ∷ []) was-settings .0)) $
           cell-in ! q′ settings-row.the-row (LL.makes settings-row.the-type settings-laws.the-plain 𝓤 H A) (h .settings) b (o + 0)
-              (only ((LL.vals settings-row.the-type settings-laws.the-laws) (h .settings))) was-settings $ move ! (7 ∷ []) $
-              cell-out ! q′ flight-row.the-row (LL.vals flight-row.the-type flight-laws.the-laws)
-              (LL.tells flight-row.the-type flight-laws.the-laws) (h .flight) b (o + 16) (λ was-flight.
+          (only ((LL.vals settings-row.the-type settings-laws.the-laws) (h .settings))) was-settings $ move ! (7 ∷ []) $
+          cell-out ! q′ flight-row.the-row (LL.vals flight-row.the-type flight-laws.the-laws)
+          (LL.tells flight-row.the-type flight-laws.the-laws) (h .flight) b (o + 16) (λ was-flight.
           assigns ! {v = (only ((LL.vals flight-row.the-type flight-laws.the-laws) (h .flight)))}
-              (of-opd ! (load ! (from ! (hop ! (look ! 31 refl) (fld ! {d = 16} refl (stop !)))) (look-raw ! 0 refl))) (from ! (stop !))
-              (init ! 27 refl (LL.lawful flight-row.the-type flight-laws.the-laws 𝓤 H A W .typed (h .flight)
-              ((only ((LL.vals flight-row.the-type flight-laws.the-laws) (h .flight))) ∷ []) was-flight .0)) $
+          (of-opd ! (load ! (from ! (hop ! (look ! 31 refl) (fld ! {d = 16} refl (stop !)))) (look-raw ! 0 refl))) (from ! (stop !))
+          (init ! 27 refl (LL.lawful flight-row.the-type flight-laws.the-laws 𝓤 H A W .typed (h .flight)
+          ((only ((LL.vals flight-row.the-type flight-laws.the-laws) (h .flight))) ∷ []) was-flight .0)) $
           cell-in ! q′ flight-row.the-row (LL.makes flight-row.the-type flight-laws.the-plain 𝓤 H A) (h .flight) b (o + 16)
-              (only ((LL.vals flight-row.the-type flight-laws.the-laws) (h .flight))) was-flight $ move ! (8 ∷ []) $
-              cell-out ! q′ arrival-row.the-row (LL.vals arrival-row.the-type arrival-laws.the-laws)
-              (LL.tells arrival-row.the-type arrival-laws.the-laws) (h .arrival) b (o + 72) (λ was-arrival.
+          (only ((LL.vals flight-row.the-type flight-laws.the-laws) (h .flight))) was-flight $ move ! (8 ∷ []) $
+          cell-out ! q′ arrival-row.the-row (LL.vals arrival-row.the-type arrival-laws.the-laws)
+          (LL.tells arrival-row.the-type arrival-laws.the-laws) (h .arrival) b (o + 72) (λ was-arrival.
           assigns ! {v = (only ((LL.vals arrival-row.the-type arrival-laws.the-laws) (h .arrival)))}
-              (of-opd ! (load ! (from ! (hop ! (look ! 31 refl) (fld ! {d = 72} refl (stop !)))) (look-raw ! 0 refl))) (from ! (stop !))
-              (init ! 26 refl (LL.lawful arrival-row.the-type arrival-laws.the-laws 𝓤 H A W .typed (h .arrival)
-              ((only ((LL.vals arrival-row.the-type arrival-laws.the-laws) (h .arrival))) ∷ []) was-arrival .0)) $
+          (of-opd ! (load ! (from ! (hop ! (look ! 31 refl) (fld ! {d = 72} refl (stop !)))) (look-raw ! 0 refl))) (from ! (stop !))
+          (init ! 26 refl (LL.lawful arrival-row.the-type arrival-laws.the-laws 𝓤 H A W .typed (h .arrival)
+          ((only ((LL.vals arrival-row.the-type arrival-laws.the-laws) (h .arrival))) ∷ []) was-arrival .0)) $
           cell-in ! q′ arrival-row.the-row (LL.makes arrival-row.the-type arrival-laws.the-plain 𝓤 H A) (h .arrival) b (o + 72)
-              (only ((LL.vals arrival-row.the-type arrival-laws.the-laws) (h .arrival))) was-arrival $ move ! (9 ∷ []) $
-              cell-out ! q′ clock-row.the-row (LL.vals clock-row.the-type clock-laws.the-laws)
-              (LL.tells clock-row.the-type clock-laws.the-laws) (h .clock) b (o + 104) (λ was-clock.
+          (only ((LL.vals arrival-row.the-type arrival-laws.the-laws) (h .arrival))) was-arrival $ move ! (9 ∷ []) $
+          cell-out ! q′ clock-row.the-row (LL.vals clock-row.the-type clock-laws.the-laws)
+          (LL.tells clock-row.the-type clock-laws.the-laws) (h .clock) b (o + 104) (λ was-clock.
           assigns ! {v = (only ((LL.vals clock-row.the-type clock-laws.the-laws) (h .clock)))}
-              (of-opd ! (load ! (from ! (hop ! (look ! 31 refl) (fld ! {d = 104} refl (stop !)))) (look-raw ! 0 refl))) (from ! (stop !))
-              (init ! 25 refl (LL.lawful clock-row.the-type clock-laws.the-laws 𝓤 H A W .typed (h .clock)
-              ((only ((LL.vals clock-row.the-type clock-laws.the-laws) (h .clock))) ∷ []) was-clock .0)) $
+          (of-opd ! (load ! (from ! (hop ! (look ! 31 refl) (fld ! {d = 104} refl (stop !)))) (look-raw ! 0 refl))) (from ! (stop !))
+          (init ! 25 refl (LL.lawful clock-row.the-type clock-laws.the-laws 𝓤 H A W .typed (h .clock)
+          ((only ((LL.vals clock-row.the-type clock-laws.the-laws) (h .clock))) ∷ []) was-clock .0)) $
           cell-in ! q′ clock-row.the-row (LL.makes clock-row.the-type clock-laws.the-plain 𝓤 H A) (h .clock) b (o + 104)
-              (only ((LL.vals clock-row.the-type clock-laws.the-laws) (h .clock))) was-clock $
-              by ! (part₁ (l₀, l₁, l₂, l₃, l₄, l₅, l₆, l₇, l₈, l₉, l₁₀, l₁₁, l₁₂, l₁₃, l₁₄, l₁₅, q′, len-queued,
-              len-outstanding, len-transmissions, len-ready, len-waiting, len-waiting-numbers, was-settings, was-flight, was-arrival,
-              was-clock)))))))))))))))))))))))))))))
+          (only ((LL.vals clock-row.the-type clock-laws.the-laws) (h .clock))) was-clock $
+          by ! (part₁ (
+            l₀,
+            l₁,
+            l₂,
+            l₃,
+            l₄,
+            l₅,
+            l₆,
+            l₇,
+            l₈,
+            l₉,
+            l₁₀,
+            l₁₁,
+            l₁₂,
+            l₁₃,
+            l₁₄,
+            l₁₅,
+            q′,
+            len-queued,
+            len-outstanding,
+            len-transmissions,
+            len-ready,
+            len-waiting,
+            len-waiting-numbers,
+            was-settings,
+            was-flight,
+            was-arrival,
+            was-clock,
+          )))))))))))))))))))))))))))))
 
   f-meets : (𝓣 : Tables 𝓤 H) → Known (𝓣 .C)
       → Meets 𝓤 H A f.signature (WpFn 𝓤 H (𝓣 .C) (𝓣 .Λ) code.function) (f.spec 𝓤 H A at-mem run)
   unfolding Post
-  f-meets 𝓣 known = walk-meets 𝓤 H A f.ended stayed W
-      (goes-dropped 𝓤 H A W 3 (shrRefTo (0 ∷ []) tt (plain (λ _. L))) yes (λ κs x f. refl),
-      (goes-gave-ref 𝓤 H A W 3 1 tt (arrayOf (plain (λ _. u8)) 128), (goes-gave-ref 𝓤 H A W 3 2 tt (arrayOf (plain (λ _. u8)) 256), tt)))
+  f-meets 𝓣 known = walk-meets 𝓤 H A f.ended stayed W (
+    goes-dropped 𝓤 H A W 3 (shrRefTo (0 ∷ []) tt (plain (λ _. L))) yes (λ κs x f. refl),
+    (goes-gave-ref 𝓤 H A W 3 1 tt (arrayOf (plain (λ _. u8)) 128), (goes-gave-ref 𝓤 H A W 3 2 tt (arrayOf (plain (λ _. u8)) 256), tt)),
+  )
       (f.clauses 𝓤 H A at-mem run) (WpFn 𝓤 H (𝓣 .C) (𝓣 .Λ) code.function) (WpFn-mono 𝓤 H (W .laws) 𝓣 code.function)
       (walked 𝓤 H A f.ended stayed (f.clauses 𝓤 H A at-mem run) (WpFn 𝓤 H (𝓣 .C) (𝓣 .Λ) code.function)
       (λ κs. (ptr-vals, (ptr-vals, (ptr-vals, tt))))
-      (λ κs. (shr-tells (named 0) (κs .0) L,
-      (mut-tells (named 1) (κs .1 .0) (Array u8 128), (mut-tells (named 2) (κs .1 .1 .0) (Array u8 256), tt))))
+      (λ κs. (
+        shr-tells (named 0) (κs .0) L,
+        (mut-tells (named 1) (κs .1 .0) (Array u8 128), (mut-tells (named 2) (κs .1 .1 .0) (Array u8 256), tt)),
+      ))
       (λ κs qs bounds a g are. needs 𝓤 _ _ (λ req. walk (κs .0) (κs .1 .0) (κs .1 .1 .0) (qs .0) (qs .1 .0) (qs .1 .1 .0) (a .0 .ptr .0)
       (a .0 .ptr .1) (a .0 .name) (a .0 .now) (a .1 .0) (a .1 .1 .0) req (𝓣 .C) (𝓣 .Λ) (fmOf 𝓤 H (W .laws) 𝓣) known)))
 
@@ -721,6 +837,6 @@ sound-spec 𝓤 H 𝓜 𝓖 𝓡 =
     entered 𝓤 H (tripleOf 𝓤 H (𝓖 .A) f.signature (f.spec 𝓤 H (𝓖 .A) (𝓜 .mem) (𝓡 .run)))
     (tables 𝓤 H 𝓜 𝓡 code.env .C) (tables 𝓤 H 𝓜 𝓡 code.env .Λ) #f code.function (code.unfolded 𝓤 H 𝓜 𝓡)
     (f-meets 𝓤 H (𝓖 .A) (givenOf 𝓤 H 𝓜 𝓖) (𝓜 .mem) (𝓡 .run) (tablesOf 𝓤 H 𝓜 (tables 𝓤 H 𝓜 𝓡 code.env)) (
-      cited 𝓤 H (tripleOf 𝓤 H (𝓖 .A) core.signature (core.spec 𝓤 H (𝓖 .A) (𝓜 .mem) (𝓡 .run))) 𝓜 𝓡 code.env core-def.name
-          core-def.routine code.calls-checking·sound (core-thm.met 𝓤 H 𝓜 𝓖 𝓡)
+    cited 𝓤 H (tripleOf 𝓤 H (𝓖 .A) core.signature (core.spec 𝓤 H (𝓖 .A) (𝓜 .mem) (𝓡 .run))) 𝓜 𝓡 code.env core-def.name
+    core-def.routine code.calls-checking·sound (core-thm.met 𝓤 H 𝓜 𝓖 𝓡)
     ))

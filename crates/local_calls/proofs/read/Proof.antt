@@ -198,7 +198,7 @@ use lib.ListN.{take}
 use Rattle.protocol.specs.Protocol.{sendSlots}
 use Rattle.records.specs.Tables.{slotsIn, gathered, padded}
 use Rattle.control.specs.Views.{Whole, arrays, linkOf}
-use Rattle.marks.specs.Marks.{none}
+use Rattle.marks.specs.Marks.{none, noneToSend}
 use Rattle.checking.specs.Tests.{flightFits}
 use Rattle.checking.specs.Verdicts.{Flies, ByFlown, Sound, Sounds}
 use Rattle.promises.specs.Parts.{partsOf}
@@ -209,6 +209,9 @@ use Rattle.codes.specs.Gives.{Gives}
 use Rattle.codes.proofs.Told.{told}
 use Rattle.from_cores.proofs.Gathered.{gathers, padded-whole}
 use Rattle.from_cores.proofs.Reading.{read-promised}
+use Rattle.marks.proofs.none_to_send as send-marks-of
+use Rattle.marks.proofs.none_to_send.Symbol as send-marks-of-def
+use Rattle.marks.proofs.none_to_send.Met as send-marks-of-thm
 use Rattle.marks.proofs.none as marks-of
 use Rattle.marks.proofs.none.Symbol as marks-of-def
 use Rattle.marks.proofs.none.Met as marks-of-thm
@@ -244,7 +247,8 @@ stayed = (
 module _ {M : Type 1} (𝓤 : URA M) (H : Heap 𝓤) (A : Atoms 𝓤) (W : Given 𝓤 H A) (at-mem : Memory → SProp 𝓤) (run : Routine → Fun 𝓤) where
   -- what is known of the callees
   abbrev Known : Calls 𝓤 H → Type 1
-  Known C = Triple 𝓤 (C marks-of-def.name) (tripleOf 𝓤 H A marks-of.signature (marks-of.spec 𝓤 H A at-mem run))
+  Known C = Triple 𝓤 (C send-marks-of-def.name) (tripleOf 𝓤 H A send-marks-of.signature (send-marks-of.spec 𝓤 H A at-mem run))
+      × Triple 𝓤 (C marks-of-def.name) (tripleOf 𝓤 H A marks-of.signature (marks-of.spec 𝓤 H A at-mem run))
       × Triple 𝓤 (C check-def.name) (tripleOf 𝓤 H A check.signature (check.spec 𝓤 H A at-mem run))
       × Triple 𝓤 (C fit-def.name) (tripleOf 𝓤 H A fit.signature (fit.spec 𝓤 H A at-mem run))
       × Triple 𝓤 (C table-len-def.name) (tripleOf 𝓤 H A table-len.signature (table-len.spec 𝓤 H A at-mem run))
@@ -312,10 +316,10 @@ module _ {M : Type 1} (𝓤 : URA M) (H : Heap 𝓤) (A : Atoms 𝓤) (W : Given
     )
 
     asks-check : (α-block : ℕ) (δ-block : GName) (f-block : Link) (p-sends : ℕ) (α-sends : ℕ) (δ-sends : GName) (f-sends : (List ℕ))
-        (p-receives : ℕ) (α-receives : ℕ) (δ-receives : GName) (f-receives : (List ℕ)) → ((f-sends ≡ none) × (f-receives ≡ none))
+        (p-receives : ℕ) (α-receives : ℕ) (δ-receives : GName) (f-receives : (List ℕ)) → ((f-sends ≡ noneToSend) × (f-receives ≡ none))
         → ent 𝓤 (⋆ 𝓤 H A (‵ (flft (α-block ∷ []) fullShare)
         ∷ ‵ (ShrRef (named 0) (α-block ∷ []) L .own (ref-at b o δ-block f-block) ((vptr b o) ∷ [])) ∷ ‵ (flft (α-sends ∷ []) fullShare)
-        ∷ ‵ (MutRef (named 0) (α-sends ∷ []) (Array u8 256) .own (ref-at p-sends 0 δ-sends f-sends) ((vptr p-sends 0) ∷ []))
+        ∷ ‵ (MutRef (named 0) (α-sends ∷ []) (Array u8 128) .own (ref-at p-sends 0 δ-sends f-sends) ((vptr p-sends 0) ∷ []))
         ∷ ‵ (flft (α-receives ∷ []) fullShare)
         ∷ ‵ (MutRef (named 0) (α-receives ∷ []) (Array u8 256) .own (ref-at p-receives 0 δ-receives f-receives) ((vptr p-receives 0) ∷ []))
         ∷ [])) (tripleOf 𝓤 H A check.signature (check.spec 𝓤 H A at-mem run) .pre
@@ -323,7 +327,7 @@ module _ {M : Type 1} (𝓤 : URA M) (H : Heap 𝓤) (A : Atoms 𝓤) (W : Given
     asks-check α-block δ-block f-block p-sends α-sends δ-sends f-sends p-receives α-receives δ-receives f-receives req =
         qed W (‵ (flft (α-block ∷ []) fullShare) ∷ ‵ (ShrRef (named 0) (α-block ∷ []) L .own (ref-at b o δ-block f-block) ((vptr b o) ∷ []))
         ∷ ‵ (flft (α-sends ∷ []) fullShare)
-        ∷ ‵ (MutRef (named 0) (α-sends ∷ []) (Array u8 256) .own (ref-at p-sends 0 δ-sends f-sends) ((vptr p-sends 0) ∷ []))
+        ∷ ‵ (MutRef (named 0) (α-sends ∷ []) (Array u8 128) .own (ref-at p-sends 0 δ-sends f-sends) ((vptr p-sends 0) ∷ []))
         ∷ ‵ (flft (α-receives ∷ []) fullShare)
         ∷ ‵ (MutRef (named 0) (α-receives ∷ []) (Array u8 256) .own (ref-at p-receives 0 δ-receives f-receives)
         ((vptr p-receives 0) ∷ [])) ∷ []) ∵ says ! req $ nothing ! $ move ! (5 ∷ 0 ∷ []) $ join ! $ move ! (3 ∷ 0 ∷ []) $ join ! $
@@ -550,12 +554,12 @@ module _ {M : Type 1} (𝓤 : URA M) (H : Heap 𝓤) (A : Atoms 𝓤) (W : Given
     module _ (C : Calls 𝓤 H) (Λ : Loops 𝓤 H) (fm : FmC 𝓤 H (W .laws) C) (known : Known C) where
       -- where the locals lie
       abbrev En : (l₀ l₁ l₂ l₃ l₄ l₅ l₆ l₇ l₈ l₉ l₁₀ l₁₁ l₁₂ l₁₃ l₁₄ l₁₅ l₁₆ l₁₇ l₁₈ l₁₉ l₂₀
-          l₂₁ l₂₂ l₂₃ l₂₄ l₂₅ l₂₆ l₂₇ l₂₈ l₂₉ l₃₀ : ℕ) → Env 𝓤 H
+          l₂₁ l₂₂ l₂₃ l₂₄ l₂₅ l₂₆ l₂₇ l₂₈ l₂₉ l₃₀ l₃₁ : ℕ) → Env 𝓤 H
       En l₀ l₁ l₂ l₃ l₄ l₅ l₆ l₇ l₈ l₉ l₁₀ l₁₁ l₁₂ l₁₃ l₁₄ l₁₅ l₁₆ l₁₇ l₁₈ l₁₉ l₂₀ l₂₁
-          l₂₂ l₂₃ l₂₄ l₂₅ l₂₆ l₂₇ l₂₈ l₂₉ l₃₀ =
+          l₂₂ l₂₃ l₂₄ l₂₅ l₂₆ l₂₇ l₂₈ l₂₉ l₃₀ l₃₁ =
           envOf (code.function .locals) (l₀ ∷ l₁ ∷ l₂ ∷ l₃ ∷ l₄ ∷ l₅ ∷ l₆ ∷ l₇ ∷ l₈ ∷ l₉ ∷ l₁₀ ∷ l₁₁
           ∷ l₁₂ ∷ l₁₃ ∷ l₁₄ ∷ l₁₅ ∷ l₁₆ ∷ l₁₇ ∷ l₁₈ ∷ l₁₉ ∷ l₂₀ ∷ l₂₁ ∷ l₂₂ ∷ l₂₃
-          ∷ l₂₄ ∷ l₂₅ ∷ l₂₆ ∷ l₂₇ ∷ l₂₈ ∷ l₂₉ ∷ l₃₀ ∷ [])
+          ∷ l₂₄ ∷ l₂₅ ∷ l₂₆ ∷ l₂₇ ∷ l₂₈ ∷ l₂₉ ∷ l₃₀ ∷ l₃₁ ∷ [])
 
       -- what part 4 knows
       abbrev Known₄ : Type 0
@@ -564,8 +568,8 @@ module _ {M : Type 1} (𝓤 : URA M) (H : Heap 𝓤) (A : Atoms 𝓤) (W : Given
           (l₆ : ℕ) × (l₇ : ℕ) × (l₈ : ℕ) × (l₉ : ℕ) × (l₁₀ : ℕ) × (l₁₁ : ℕ) × (l₁₂ : ℕ) × (l₁₃ : ℕ) ×
           (l₁₄ : ℕ) × (l₁₅ : ℕ) × (l₁₆ : ℕ) × (l₁₇ : ℕ) × (l₁₈ : ℕ) × (l₁₉ : ℕ) × (l₂₀ : ℕ) ×
           (l₂₁ : ℕ) × (l₂₂ : ℕ) × (l₂₃ : ℕ) × (l₂₄ : ℕ) × (l₂₅ : ℕ) × (l₂₆ : ℕ) × (l₂₇ : ℕ) ×
-          (l₂₈ : ℕ) × (l₂₉ : ℕ) × (l₃₀ : ℕ) × (w-receives : Val) × (w-ok : Val) × (fl : Bool) × (w-fl : Val) ×
-          (e-fl : fl ≡ flightFits (h .settings .mode) (h .flight .una) (h .flight .next)
+          (l₂₈ : ℕ) × (l₂₉ : ℕ) × (l₃₀ : ℕ) × (l₃₁ : ℕ) × (w-sends : Val) × (w-receives : Val) × (w-ok : Val) × (fl : Bool) ×
+          (w-fl : Val) × (e-fl : fl ≡ flightFits (h .settings .mode) (h .flight .una) (h .flight .next)
           (take (h .flight .outstanding) (padded (gathered (take sendSlots (x₃ .now))
           (slotsIn (h .outstanding) (h .flight .outstanding)))))) × (m : ℕ) × (w-m : Val) × (e-m : m ≡ length (x₃ .now)) × (a : Delivered) ×
           (w-a : Val) × (e-a : ByFlown h fl (λ recs. ReadOver h recs m (x₁ .now) (x₂ .now) (x₄ .now) (x₅ .now) (a .answer)
@@ -578,7 +582,7 @@ module _ {M : Type 1} (𝓤 : URA M) (H : Heap 𝓤) (A : Atoms 𝓤) (W : Given
           (link-own κ₀ b o γ (record {
             settings = (h .settings);
             flight = (h .flight);
-            arrival = (past .51);
+            arrival = (past .53);
             clock = (h .clock);
             queued = (h .queued);
             outstanding = (h .outstanding);
@@ -589,43 +593,45 @@ module _ {M : Type 1} (𝓤 : URA M) (H : Heap 𝓤) (A : Atoms 𝓤) (W : Given
           })) ∷ ‵ (flft κ₀ q₀) ∷ ‵ (finally u8 (x₅ .name) (past .1)) ∷ ‵ (flft κ₁ q₁)
           ∷ ‵ (flft κ₂ q₂) ∷ ‵ (flft κ₄ q₄) ∷ ‵ (flft κ₅ q₅) ∷ ‵ (flft κ₃ q₃)
           ∷ ‵ (fat fullShare (tyArray (tyInt w8) 256) (past .15) 0 ((only ((array-vals (uint-vals w8)) (past .5)))))
-          ∷ ‵ (fat fullShare (tyArray (tyInt w8) 256) (past .14) 0 ((only ((array-vals (uint-vals w8)) (past .6)))))
+          ∷ ‵ (fat fullShare (tyArray (tyInt w8) 128) (past .14) 0 ((only ((array-vals (uint-vals w8)) (past .6)))))
           ∷ (‵ (fdies (tyInt w32) (past .7)) ⊛ ‵ (fdies (tyRef (named 0) mut (pointee (L .written))) (past .8)) ⊛ ‵
           (fdies (sliceTy (tyRef (named 1) imm (tyInt w8))) (past .9)) ⊛ ‵ (fdies (sliceTy (tyRef (named 2) imm (tyInt w8))) (past .10)) ⊛ ‵
           (fdies (sliceTy (tyRef (named 3) imm (pointee (R .written)))) (past .11)) ⊛ ‵
           (fdies (sliceTy (tyRef (named 4) imm (tyInt w32))) (past .12)) ⊛ ‵ (fdies (sliceTy (tyRef (named 5) mut (tyInt w8))) (past .13)) ⊛
-          ‵ (fdies (tyArray (tyInt w8) 256) (past .14)) ⊛ ‵ (fdies (tyArray (tyInt w8) 256) (past .15)) ⊛ ‵ (fdies tyBool (past .16)) ⊛ ‵
+          ‵ (fdies (tyArray (tyInt w8) 128) (past .14)) ⊛ ‵ (fdies (tyArray (tyInt w8) 256) (past .15)) ⊛ ‵ (fdies tyBool (past .16)) ⊛ ‵
           (fdies settings-laws.mir (past .17)) ⊛ ‵ (fdies flight-laws.mir (past .18)) ⊛ ‵ (fdies arrival-laws.mir (past .19)) ⊛ ‵
           (fdies clock-laws.mir (past .20)) ⊛ ‵ (fdies tyBool (past .21)) ⊛ ‵ (fdies (tyInt w64) (past .22)) ⊛ ‵
-          (fdies delivered-laws.mir (past .23)) ⊛ ‵ (fdies arrival-laws.mir (past .24)) ⊛ ‵ (fdies (tyArray (tyInt w8) 256) (past .25)) ⊛ ‵
-          (fdies (tyRef erased imm (pointee (L .written))) (past .26)) ⊛ ‵ (fdies (tyRef erased mut (tyArray (tyInt w8) 256)) (past .27)) ⊛
-          ‵ (fdies (tyRef erased mut (tyArray (tyInt w8) 256)) (past .28)) ⊛ ‵
-          (fdies (tyRef erased imm (tyArray (tyInt w32) 32)) (past .29)) ⊛ ‵ (fdies (tyRef erased imm (tyArray (tyInt w32) 128)) (past .30))
-          ⊛ ‵ (fdies (tyRef erased imm (tyArray (tyInt w32) 32)) (past .31)) ⊛ ‵
-          (fdies (tyRef erased imm (tyArray (tyInt w8) 32)) (past .32)) ⊛ ‵ (fdies (tyRef erased mut (tyArray (tyInt w32) 128)) (past .33))
-          ⊛ ‵ (fdies (tyRef erased mut (tyArray (tyInt w32) 128)) (past .34)) ⊛ ‵
-          (fdies (tyRef erased mut (tyArray (tyInt w32) 128)) (past .35)) ⊛ ‵ (fdies (tyRef erased mut (tyInt w8)) (past .36)) ⊛ ‵
-          (fdies (sliceTy (tyRef erased mut (tyInt w8))) (past .37)))
-          ∷ ‵ (fat fullShare (sliceTy (tyRef erased mut (tyInt w8))) (past .37) 0 (s₅))
-          ∷ ‵ (fat fullShare (tyRef erased mut (tyInt w8)) (past .36) 0 ((vptr (x₅ .ptr .0) (x₅ .ptr .1))))
-          ∷ ‵ (fat fullShare (tyRef erased mut (tyArray (tyInt w32) 128)) (past .35) 0 ((vptr b (o + 1820))))
-          ∷ ‵ (fat fullShare (tyRef erased mut (tyArray (tyInt w32) 128)) (past .34) 0 ((vptr b (o + 1308))))
-          ∷ ‵ (fat fullShare (tyRef erased mut (tyArray (tyInt w32) 128)) (past .33) 0 ((vptr b (o + 796))))
-          ∷ ‵ (fat fullShare (tyRef erased imm (tyArray (tyInt w8) 32)) (past .32) 0 ((vptr b (o + 764))))
-          ∷ ‵ (fat fullShare (tyRef erased imm (tyArray (tyInt w32) 32)) (past .31) 0 ((vptr b (o + 636))))
-          ∷ ‵ (fat fullShare (tyRef erased imm (tyArray (tyInt w32) 128)) (past .30) 0 ((vptr b (o + 124))))
-          ∷ ‵ (fat fullShare (tyRef erased imm (tyArray (tyInt w32) 32)) (past .29) 0 ((vptr b (o + 636))))
-          ∷ ‵ (fat fullShare (tyRef erased mut (tyArray (tyInt w8) 256)) (past .28) 0 ((vptr (past .15) 0)))
-          ∷ ‵ (fat fullShare (tyRef erased mut (tyArray (tyInt w8) 256)) (past .27) 0 ((vptr (past .14) 0)))
-          ∷ ‵ (fat fullShare (tyRef erased imm (pointee (L .written))) (past .26) 0 ((vptr b o)))
-          ∷ ‵ (fat fullShare (tyArray (tyInt w8) 256) (past .25) 0 ((past .38)))
-          ∷ ‵ (fat fullShare arrival-laws.mir (past .24) 0 ((past .52))) ∷ ‵ (fat fullShare delivered-laws.mir (past .23) 0 ((past .47)))
-          ∷ ‵ (fat fullShare (tyInt w64) (past .22) 0 ((past .44))) ∷ ‵ (fat fullShare tyBool (past .21) 0 ((past .41)))
+          (fdies delivered-laws.mir (past .23)) ⊛ ‵ (fdies arrival-laws.mir (past .24)) ⊛ ‵ (fdies (tyArray (tyInt w8) 128) (past .25)) ⊛ ‵
+          (fdies (tyArray (tyInt w8) 256) (past .26)) ⊛ ‵ (fdies (tyRef erased imm (pointee (L .written))) (past .27)) ⊛ ‵
+          (fdies (tyRef erased mut (tyArray (tyInt w8) 128)) (past .28)) ⊛ ‵ (fdies (tyRef erased mut (tyArray (tyInt w8) 256)) (past .29))
+          ⊛ ‵ (fdies (tyRef erased imm (tyArray (tyInt w32) 32)) (past .30)) ⊛ ‵
+          (fdies (tyRef erased imm (tyArray (tyInt w32) 128)) (past .31)) ⊛ ‵ (fdies (tyRef erased imm (tyArray (tyInt w32) 32)) (past .32))
+          ⊛ ‵ (fdies (tyRef erased imm (tyArray (tyInt w8) 32)) (past .33)) ⊛ ‵
+          (fdies (tyRef erased mut (tyArray (tyInt w32) 128)) (past .34)) ⊛ ‵
+          (fdies (tyRef erased mut (tyArray (tyInt w32) 128)) (past .35)) ⊛ ‵
+          (fdies (tyRef erased mut (tyArray (tyInt w32) 128)) (past .36)) ⊛ ‵ (fdies (tyRef erased mut (tyInt w8)) (past .37)) ⊛ ‵
+          (fdies (sliceTy (tyRef erased mut (tyInt w8))) (past .38)))
+          ∷ ‵ (fat fullShare (sliceTy (tyRef erased mut (tyInt w8))) (past .38) 0 (s₅))
+          ∷ ‵ (fat fullShare (tyRef erased mut (tyInt w8)) (past .37) 0 ((vptr (x₅ .ptr .0) (x₅ .ptr .1))))
+          ∷ ‵ (fat fullShare (tyRef erased mut (tyArray (tyInt w32) 128)) (past .36) 0 ((vptr b (o + 1820))))
+          ∷ ‵ (fat fullShare (tyRef erased mut (tyArray (tyInt w32) 128)) (past .35) 0 ((vptr b (o + 1308))))
+          ∷ ‵ (fat fullShare (tyRef erased mut (tyArray (tyInt w32) 128)) (past .34) 0 ((vptr b (o + 796))))
+          ∷ ‵ (fat fullShare (tyRef erased imm (tyArray (tyInt w8) 32)) (past .33) 0 ((vptr b (o + 764))))
+          ∷ ‵ (fat fullShare (tyRef erased imm (tyArray (tyInt w32) 32)) (past .32) 0 ((vptr b (o + 636))))
+          ∷ ‵ (fat fullShare (tyRef erased imm (tyArray (tyInt w32) 128)) (past .31) 0 ((vptr b (o + 124))))
+          ∷ ‵ (fat fullShare (tyRef erased imm (tyArray (tyInt w32) 32)) (past .30) 0 ((vptr b (o + 636))))
+          ∷ ‵ (fat fullShare (tyRef erased mut (tyArray (tyInt w8) 256)) (past .29) 0 ((vptr (past .15) 0)))
+          ∷ ‵ (fat fullShare (tyRef erased mut (tyArray (tyInt w8) 128)) (past .28) 0 ((vptr (past .14) 0)))
+          ∷ ‵ (fat fullShare (tyRef erased imm (pointee (L .written))) (past .27) 0 ((vptr b o)))
+          ∷ ‵ (fat fullShare (tyArray (tyInt w8) 256) (past .26) 0 ((past .40)))
+          ∷ ‵ (fat fullShare (tyArray (tyInt w8) 128) (past .25) 0 ((past .39)))
+          ∷ ‵ (fat fullShare arrival-laws.mir (past .24) 0 ((past .54))) ∷ ‵ (fat fullShare delivered-laws.mir (past .23) 0 ((past .49)))
+          ∷ ‵ (fat fullShare (tyInt w64) (past .22) 0 ((past .46))) ∷ ‵ (fat fullShare tyBool (past .21) 0 ((past .43)))
           ∷ ‵ (fat fullShare clock-laws.mir (past .20) 0 ((only ((LL.vals clock-row.the-type clock-laws.the-laws) (h .clock)))))
           ∷ ‵ (fat fullShare arrival-laws.mir (past .19) 0 ((only ((LL.vals arrival-row.the-type arrival-laws.the-laws) (h .arrival)))))
           ∷ ‵ (fat fullShare flight-laws.mir (past .18) 0 ((only ((LL.vals flight-row.the-type flight-laws.the-laws) (h .flight)))))
           ∷ ‵ (fat fullShare settings-laws.mir (past .17) 0 ((only ((LL.vals settings-row.the-type settings-laws.the-laws) (h .settings)))))
-          ∷ ‵ (fat fullShare tyBool (past .16) 0 ((past .39)))
+          ∷ ‵ (fat fullShare tyBool (past .16) 0 ((past .41)))
           ∷ ‵ (fat fullShare (sliceTy (tyRef (named 5) mut (tyInt w8))) (past .13) 0 (s₅))
           ∷ ‵ (fat fullShare (sliceTy (tyRef (named 4) imm (tyInt w32))) (past .12) 0 (s₄))
           ∷ ‵ (fat fullShare (sliceTy (tyRef (named 3) imm (pointee (R .written)))) (past .11) 0 (s₃))
@@ -634,16 +640,16 @@ module _ {M : Type 1} (𝓤 : URA M) (H : Heap 𝓤) (A : Atoms 𝓤) (W : Given
           ∷ ‵ (fat fullShare (tyRef (named 0) mut (pointee (L .written))) (past .8) 0 (vptr b o)) ∷ ‵ (froom (tyInt w32) (past .7) 0) ∷ []))
           (Wp 𝓤 H C Λ (En (past .7) (past .8) (past .9) (past .10) (past .11) (past .12) (past .13) (past .14) (past .15) (past .16)
           (past .17) (past .18) (past .19) (past .20) (past .21) (past .22) (past .23) (past .24) (past .25) (past .26) (past .27)
-          (past .28) (past .29) (past .30) (past .31) (past .32) (past .33) (past .34) (past .35) (past .36) (past .37))
+          (past .28) (past .29) (past .30) (past .31) (past .32) (past .33) (past .34) (past .35) (past .36) (past .37) (past .38))
           (behind 26 (code.function .body)) (atReturn 𝓤 H
           (En (past .7) (past .8) (past .9) (past .10) (past .11) (past .12) (past .13) (past .14) (past .15) (past .16) (past .17)
           (past .18) (past .19) (past .20) (past .21) (past .22) (past .23) (past .24) (past .25) (past .26) (past .27) (past .28)
-          (past .29) (past .30) (past .31) (past .32) (past .33) (past .34) (past .35) (past .36) (past .37)) Post))
+          (past .29) (past .30) (past .31) (past .32) (past .33) (past .34) (past .35) (past .36) (past .37) (past .38)) Post))
       part₄ past =
           qed W (‵ (link-own κ₀ b o γ (record {
             settings = (h .settings);
             flight = (h .flight);
-            arrival = (past .51);
+            arrival = (past .53);
             clock = (h .clock);
             queued = (h .queued);
             outstanding = (h .outstanding);
@@ -655,49 +661,50 @@ module _ {M : Type 1} (𝓤 : URA M) (H : Heap 𝓤) (A : Atoms 𝓤) (W : Given
           })) ∷ ‵ (flft κ₀ q₀) ∷ ‵ (finally u8 (x₅ .name) (past .1)) ∷ ‵ (flft κ₁ q₁)
           ∷ ‵ (flft κ₂ q₂) ∷ ‵ (flft κ₄ q₄) ∷ ‵ (flft κ₅ q₅) ∷ ‵ (flft κ₃ q₃)
           ∷ ‵ (fat fullShare (tyArray (tyInt w8) 256) (past .15) 0 ((only ((array-vals (uint-vals w8)) (past .5)))))
-          ∷ ‵ (fat fullShare (tyArray (tyInt w8) 256) (past .14) 0 ((only ((array-vals (uint-vals w8)) (past .6)))))
+          ∷ ‵ (fat fullShare (tyArray (tyInt w8) 128) (past .14) 0 ((only ((array-vals (uint-vals w8)) (past .6)))))
           ∷ (‵ (fdies (tyInt w32) (past .7)) ⊛ ‵ (fdies (tyRef (named 0) mut (pointee (L .written))) (past .8)) ⊛ ‵
           (fdies (sliceTy (tyRef (named 1) imm (tyInt w8))) (past .9)) ⊛ ‵ (fdies (sliceTy (tyRef (named 2) imm (tyInt w8))) (past .10))
           ⊛ ‵ (fdies (sliceTy (tyRef (named 3) imm (pointee (R .written)))) (past .11)) ⊛ ‵
           (fdies (sliceTy (tyRef (named 4) imm (tyInt w32))) (past .12)) ⊛ ‵
-          (fdies (sliceTy (tyRef (named 5) mut (tyInt w8))) (past .13)) ⊛ ‵ (fdies (tyArray (tyInt w8) 256) (past .14)) ⊛ ‵
+          (fdies (sliceTy (tyRef (named 5) mut (tyInt w8))) (past .13)) ⊛ ‵ (fdies (tyArray (tyInt w8) 128) (past .14)) ⊛ ‵
           (fdies (tyArray (tyInt w8) 256) (past .15)) ⊛ ‵ (fdies tyBool (past .16)) ⊛ ‵ (fdies settings-laws.mir (past .17)) ⊛ ‵
           (fdies flight-laws.mir (past .18)) ⊛ ‵ (fdies arrival-laws.mir (past .19)) ⊛ ‵ (fdies clock-laws.mir (past .20)) ⊛ ‵
           (fdies tyBool (past .21)) ⊛ ‵ (fdies (tyInt w64) (past .22)) ⊛ ‵ (fdies delivered-laws.mir (past .23)) ⊛ ‵
-          (fdies arrival-laws.mir (past .24)) ⊛ ‵ (fdies (tyArray (tyInt w8) 256) (past .25)) ⊛ ‵
-          (fdies (tyRef erased imm (pointee (L .written))) (past .26)) ⊛ ‵
-          (fdies (tyRef erased mut (tyArray (tyInt w8) 256)) (past .27)) ⊛ ‵
-          (fdies (tyRef erased mut (tyArray (tyInt w8) 256)) (past .28)) ⊛ ‵
-          (fdies (tyRef erased imm (tyArray (tyInt w32) 32)) (past .29)) ⊛ ‵
-          (fdies (tyRef erased imm (tyArray (tyInt w32) 128)) (past .30)) ⊛ ‵
-          (fdies (tyRef erased imm (tyArray (tyInt w32) 32)) (past .31)) ⊛ ‵
-          (fdies (tyRef erased imm (tyArray (tyInt w8) 32)) (past .32)) ⊛ ‵
-          (fdies (tyRef erased mut (tyArray (tyInt w32) 128)) (past .33)) ⊛ ‵
+          (fdies arrival-laws.mir (past .24)) ⊛ ‵ (fdies (tyArray (tyInt w8) 128) (past .25)) ⊛ ‵
+          (fdies (tyArray (tyInt w8) 256) (past .26)) ⊛ ‵ (fdies (tyRef erased imm (pointee (L .written))) (past .27)) ⊛ ‵
+          (fdies (tyRef erased mut (tyArray (tyInt w8) 128)) (past .28)) ⊛ ‵
+          (fdies (tyRef erased mut (tyArray (tyInt w8) 256)) (past .29)) ⊛ ‵
+          (fdies (tyRef erased imm (tyArray (tyInt w32) 32)) (past .30)) ⊛ ‵
+          (fdies (tyRef erased imm (tyArray (tyInt w32) 128)) (past .31)) ⊛ ‵
+          (fdies (tyRef erased imm (tyArray (tyInt w32) 32)) (past .32)) ⊛ ‵
+          (fdies (tyRef erased imm (tyArray (tyInt w8) 32)) (past .33)) ⊛ ‵
           (fdies (tyRef erased mut (tyArray (tyInt w32) 128)) (past .34)) ⊛ ‵
-          (fdies (tyRef erased mut (tyArray (tyInt w32) 128)) (past .35)) ⊛ ‵ (fdies (tyRef erased mut (tyInt w8)) (past .36)) ⊛ ‵
-          (fdies (sliceTy (tyRef erased mut (tyInt w8))) (past .37)))
-          ∷ ‵ (fat fullShare (sliceTy (tyRef erased mut (tyInt w8))) (past .37) 0 (s₅))
-          ∷ ‵ (fat fullShare (tyRef erased mut (tyInt w8)) (past .36) 0 ((vptr (x₅ .ptr .0) (x₅ .ptr .1))))
-          ∷ ‵ (fat fullShare (tyRef erased mut (tyArray (tyInt w32) 128)) (past .35) 0 ((vptr b (o + 1820))))
-          ∷ ‵ (fat fullShare (tyRef erased mut (tyArray (tyInt w32) 128)) (past .34) 0 ((vptr b (o + 1308))))
-          ∷ ‵ (fat fullShare (tyRef erased mut (tyArray (tyInt w32) 128)) (past .33) 0 ((vptr b (o + 796))))
-          ∷ ‵ (fat fullShare (tyRef erased imm (tyArray (tyInt w8) 32)) (past .32) 0 ((vptr b (o + 764))))
-          ∷ ‵ (fat fullShare (tyRef erased imm (tyArray (tyInt w32) 32)) (past .31) 0 ((vptr b (o + 636))))
-          ∷ ‵ (fat fullShare (tyRef erased imm (tyArray (tyInt w32) 128)) (past .30) 0 ((vptr b (o + 124))))
-          ∷ ‵ (fat fullShare (tyRef erased imm (tyArray (tyInt w32) 32)) (past .29) 0 ((vptr b (o + 636))))
-          ∷ ‵ (fat fullShare (tyRef erased mut (tyArray (tyInt w8) 256)) (past .28) 0 ((vptr (past .15) 0)))
-          ∷ ‵ (fat fullShare (tyRef erased mut (tyArray (tyInt w8) 256)) (past .27) 0 ((vptr (past .14) 0)))
-          ∷ ‵ (fat fullShare (tyRef erased imm (pointee (L .written))) (past .26) 0 ((vptr b o)))
-          ∷ ‵ (fat fullShare (tyArray (tyInt w8) 256) (past .25) 0 ((past .38)))
-          ∷ ‵ (fat fullShare arrival-laws.mir (past .24) 0 ((past .52)))
-          ∷ ‵ (fat fullShare delivered-laws.mir (past .23) 0 ((past .47))) ∷ ‵ (fat fullShare (tyInt w64) (past .22) 0 ((past .44)))
-          ∷ ‵ (fat fullShare tyBool (past .21) 0 ((past .41)))
+          (fdies (tyRef erased mut (tyArray (tyInt w32) 128)) (past .35)) ⊛ ‵
+          (fdies (tyRef erased mut (tyArray (tyInt w32) 128)) (past .36)) ⊛ ‵ (fdies (tyRef erased mut (tyInt w8)) (past .37)) ⊛ ‵
+          (fdies (sliceTy (tyRef erased mut (tyInt w8))) (past .38)))
+          ∷ ‵ (fat fullShare (sliceTy (tyRef erased mut (tyInt w8))) (past .38) 0 (s₅))
+          ∷ ‵ (fat fullShare (tyRef erased mut (tyInt w8)) (past .37) 0 ((vptr (x₅ .ptr .0) (x₅ .ptr .1))))
+          ∷ ‵ (fat fullShare (tyRef erased mut (tyArray (tyInt w32) 128)) (past .36) 0 ((vptr b (o + 1820))))
+          ∷ ‵ (fat fullShare (tyRef erased mut (tyArray (tyInt w32) 128)) (past .35) 0 ((vptr b (o + 1308))))
+          ∷ ‵ (fat fullShare (tyRef erased mut (tyArray (tyInt w32) 128)) (past .34) 0 ((vptr b (o + 796))))
+          ∷ ‵ (fat fullShare (tyRef erased imm (tyArray (tyInt w8) 32)) (past .33) 0 ((vptr b (o + 764))))
+          ∷ ‵ (fat fullShare (tyRef erased imm (tyArray (tyInt w32) 32)) (past .32) 0 ((vptr b (o + 636))))
+          ∷ ‵ (fat fullShare (tyRef erased imm (tyArray (tyInt w32) 128)) (past .31) 0 ((vptr b (o + 124))))
+          ∷ ‵ (fat fullShare (tyRef erased imm (tyArray (tyInt w32) 32)) (past .30) 0 ((vptr b (o + 636))))
+          ∷ ‵ (fat fullShare (tyRef erased mut (tyArray (tyInt w8) 256)) (past .29) 0 ((vptr (past .15) 0)))
+          ∷ ‵ (fat fullShare (tyRef erased mut (tyArray (tyInt w8) 128)) (past .28) 0 ((vptr (past .14) 0)))
+          ∷ ‵ (fat fullShare (tyRef erased imm (pointee (L .written))) (past .27) 0 ((vptr b o)))
+          ∷ ‵ (fat fullShare (tyArray (tyInt w8) 256) (past .26) 0 ((past .40)))
+          ∷ ‵ (fat fullShare (tyArray (tyInt w8) 128) (past .25) 0 ((past .39)))
+          ∷ ‵ (fat fullShare arrival-laws.mir (past .24) 0 ((past .54)))
+          ∷ ‵ (fat fullShare delivered-laws.mir (past .23) 0 ((past .49))) ∷ ‵ (fat fullShare (tyInt w64) (past .22) 0 ((past .46)))
+          ∷ ‵ (fat fullShare tyBool (past .21) 0 ((past .43)))
           ∷ ‵ (fat fullShare clock-laws.mir (past .20) 0 ((only ((LL.vals clock-row.the-type clock-laws.the-laws) (h .clock)))))
           ∷ ‵ (fat fullShare arrival-laws.mir (past .19) 0 ((only ((LL.vals arrival-row.the-type arrival-laws.the-laws) (h .arrival)))))
           ∷ ‵ (fat fullShare flight-laws.mir (past .18) 0 ((only ((LL.vals flight-row.the-type flight-laws.the-laws) (h .flight)))))
           ∷ ‵ (fat fullShare settings-laws.mir (past .17) 0
           ((only ((LL.vals settings-row.the-type settings-laws.the-laws) (h .settings)))))
-          ∷ ‵ (fat fullShare tyBool (past .16) 0 ((past .39)))
+          ∷ ‵ (fat fullShare tyBool (past .16) 0 ((past .41)))
           ∷ ‵ (fat fullShare (sliceTy (tyRef (named 5) mut (tyInt w8))) (past .13) 0 (s₅))
           ∷ ‵ (fat fullShare (sliceTy (tyRef (named 4) imm (tyInt w32))) (past .12) 0 (s₄))
           ∷ ‵ (fat fullShare (sliceTy (tyRef (named 3) imm (pointee (R .written)))) (past .11) 0 (s₃))
@@ -706,56 +713,57 @@ module _ {M : Type 1} (𝓤 : URA M) (H : Heap 𝓤) (A : Atoms 𝓤) (W : Given
           ∷ ‵ (fat fullShare (tyRef (named 0) mut (pointee (L .written))) (past .8) 0 (vptr b o)) ∷ ‵ (froom (tyInt w32) (past .7) 0)
           ∷ []) ∵ exec ! C Λ (En (past .7) (past .8) (past .9) (past .10) (past .11) (past .12) (past .13) (past .14) (past .15)
           (past .16) (past .17) (past .18) (past .19) (past .20) (past .21) (past .22) (past .23) (past .24) (past .25) (past .26)
-          (past .27) (past .28) (past .29) (past .30) (past .31) (past .32) (past .33) (past .34) (past .35) (past .36) (past .37))
-          (behind 26 (code.function .body)) (atRet (En (past .7) (past .8) (past .9) (past .10) (past .11) (past .12) (past .13)
-          (past .14) (past .15) (past .16) (past .17) (past .18) (past .19) (past .20) (past .21) (past .22) (past .23) (past .24)
-          (past .25) (past .26) (past .27) (past .28) (past .29) (past .30) (past .31) (past .32) (past .33) (past .34) (past .35)
-          (past .36) (past .37)) Post) $
-          nothing ! $ calls-fn ! fm code-of.ended (code-of.clauses 𝓤 H A at-mem run) (known .6)
-          ((tt, tt, tt, ((past .46), tt), ((past .47) ∷ [], tt)), tt) (λ r _. r ≡ countCode ((past .46) .answer))
+          (past .27) (past .28) (past .29) (past .30) (past .31) (past .32) (past .33) (past .34) (past .35) (past .36) (past .37)
+          (past .38)) (behind 26 (code.function .body))
+          (atRet (En (past .7) (past .8) (past .9) (past .10) (past .11) (past .12) (past .13) (past .14) (past .15) (past .16)
+          (past .17) (past .18) (past .19) (past .20) (past .21) (past .22) (past .23) (past .24) (past .25) (past .26) (past .27)
+          (past .28) (past .29) (past .30) (past .31) (past .32) (past .33) (past .34) (past .35) (past .36) (past .37) (past .38))
+          Post) $
+          nothing ! $ calls-fn ! fm code-of.ended (code-of.clauses 𝓤 H A at-mem run) (known .7)
+          ((tt, tt, tt, ((past .48), tt), ((past .49) ∷ [], tt)), tt) (λ r _. r ≡ countCode ((past .48) .answer))
           (‵ ftrue) (plainly 𝓤 H A W (delivered-row.the-row ∷ []) ((LL.makes delivered-row.the-type delivered-laws.the-plain 𝓤 H A), tt)
-          ((past .46), tt) ((past .47) ∷ [], tt) ((past .49), tt)) (λ r _. id⊢ 𝓤 _)
-          (and-then ! (load ! (from ! (stop !)) (look ! 26 refl)) (no-more !))
-          (λ r w-r _ e-r is-r. drop ! $ drop ! $ land ! (from ! (stop !)) (init ! 39 refl (sint-lawful 𝓤 H A W w32 .typed r _ is-r .0)) $
-          returns ! (look ! 39 refl) $
+          ((past .48), tt) ((past .49) ∷ [], tt) ((past .51), tt)) (λ r _. id⊢ 𝓤 _)
+          (and-then ! (load ! (from ! (stop !)) (look ! 27 refl)) (no-more !))
+          (λ r w-r _ e-r is-r. drop ! $ drop ! $ land ! (from ! (stop !)) (init ! 40 refl (sint-lawful 𝓤 H A W w32 .typed r _ is-r .0)) $
+          returns ! (look ! 40 refl) $
           move ! (10 ∷ []) $ spread W (‵ (fdies (tyInt w32) (past .7)))
           (‵ (fdies (tyRef (named 0) mut (pointee (L .written))) (past .8))
           ∷ ‵ (fdies (sliceTy (tyRef (named 1) imm (tyInt w8))) (past .9))
           ∷ ‵ (fdies (sliceTy (tyRef (named 2) imm (tyInt w8))) (past .10))
           ∷ ‵ (fdies (sliceTy (tyRef (named 3) imm (pointee (R .written)))) (past .11))
           ∷ ‵ (fdies (sliceTy (tyRef (named 4) imm (tyInt w32))) (past .12))
-          ∷ ‵ (fdies (sliceTy (tyRef (named 5) mut (tyInt w8))) (past .13)) ∷ ‵ (fdies (tyArray (tyInt w8) 256) (past .14))
+          ∷ ‵ (fdies (sliceTy (tyRef (named 5) mut (tyInt w8))) (past .13)) ∷ ‵ (fdies (tyArray (tyInt w8) 128) (past .14))
           ∷ ‵ (fdies (tyArray (tyInt w8) 256) (past .15)) ∷ ‵ (fdies tyBool (past .16)) ∷ ‵ (fdies settings-laws.mir (past .17))
           ∷ ‵ (fdies flight-laws.mir (past .18)) ∷ ‵ (fdies arrival-laws.mir (past .19)) ∷ ‵ (fdies clock-laws.mir (past .20))
           ∷ ‵ (fdies tyBool (past .21)) ∷ ‵ (fdies (tyInt w64) (past .22)) ∷ ‵ (fdies delivered-laws.mir (past .23))
-          ∷ ‵ (fdies arrival-laws.mir (past .24)) ∷ ‵ (fdies (tyArray (tyInt w8) 256) (past .25))
-          ∷ ‵ (fdies (tyRef erased imm (pointee (L .written))) (past .26))
-          ∷ ‵ (fdies (tyRef erased mut (tyArray (tyInt w8) 256)) (past .27))
-          ∷ ‵ (fdies (tyRef erased mut (tyArray (tyInt w8) 256)) (past .28))
-          ∷ ‵ (fdies (tyRef erased imm (tyArray (tyInt w32) 32)) (past .29))
-          ∷ ‵ (fdies (tyRef erased imm (tyArray (tyInt w32) 128)) (past .30))
-          ∷ ‵ (fdies (tyRef erased imm (tyArray (tyInt w32) 32)) (past .31))
-          ∷ ‵ (fdies (tyRef erased imm (tyArray (tyInt w8) 32)) (past .32))
-          ∷ ‵ (fdies (tyRef erased mut (tyArray (tyInt w32) 128)) (past .33))
+          ∷ ‵ (fdies arrival-laws.mir (past .24)) ∷ ‵ (fdies (tyArray (tyInt w8) 128) (past .25))
+          ∷ ‵ (fdies (tyArray (tyInt w8) 256) (past .26)) ∷ ‵ (fdies (tyRef erased imm (pointee (L .written))) (past .27))
+          ∷ ‵ (fdies (tyRef erased mut (tyArray (tyInt w8) 128)) (past .28))
+          ∷ ‵ (fdies (tyRef erased mut (tyArray (tyInt w8) 256)) (past .29))
+          ∷ ‵ (fdies (tyRef erased imm (tyArray (tyInt w32) 32)) (past .30))
+          ∷ ‵ (fdies (tyRef erased imm (tyArray (tyInt w32) 128)) (past .31))
+          ∷ ‵ (fdies (tyRef erased imm (tyArray (tyInt w32) 32)) (past .32))
+          ∷ ‵ (fdies (tyRef erased imm (tyArray (tyInt w8) 32)) (past .33))
           ∷ ‵ (fdies (tyRef erased mut (tyArray (tyInt w32) 128)) (past .34))
-          ∷ ‵ (fdies (tyRef erased mut (tyArray (tyInt w32) 128)) (past .35)) ∷ ‵ (fdies (tyRef erased mut (tyInt w8)) (past .36))
-          ∷ ‵ (fdies (sliceTy (tyRef erased mut (tyInt w8))) (past .37)) ∷ []) (id⊢ 𝓤 _) $
-          move ! (69 ∷ 0 ∷ 68 ∷ 1 ∷ 67 ∷ 2 ∷ 66 ∷ 3 ∷ 65 ∷ 4 ∷ 64 ∷ 5 ∷ 63 ∷ 6 ∷ 40 ∷ 7 ∷ 39 ∷ 8 ∷ 62 ∷ 9 ∷ 61
-          ∷ 10 ∷ 60 ∷ 11 ∷ 59 ∷ 12 ∷ 58 ∷ 13 ∷ 57 ∷ 14 ∷ 56 ∷ 15 ∷ 55 ∷ 16 ∷ 54 ∷ 17 ∷ 53 ∷ 18 ∷ 52 ∷ 19 ∷ 51 ∷ 20
-          ∷ 50 ∷ 21 ∷ 49 ∷ 22 ∷ 48 ∷ 23 ∷ 47 ∷ 24 ∷ 46 ∷ 25 ∷ 45 ∷ 26 ∷ 44 ∷ 27 ∷ 43 ∷ 28 ∷ 42 ∷ 29 ∷ 41 ∷ 30
-          ∷ []) $ forget ! 0 refl $ free1 ! $ forget ! 0 refl $ free1 ! $ forget ! 0 refl $ free1 ! $ forget ! 0 refl $ free1 ! $
+          ∷ ‵ (fdies (tyRef erased mut (tyArray (tyInt w32) 128)) (past .35))
+          ∷ ‵ (fdies (tyRef erased mut (tyArray (tyInt w32) 128)) (past .36)) ∷ ‵ (fdies (tyRef erased mut (tyInt w8)) (past .37))
+          ∷ ‵ (fdies (sliceTy (tyRef erased mut (tyInt w8))) (past .38)) ∷ []) (id⊢ 𝓤 _) $
+          move ! (71 ∷ 0 ∷ 70 ∷ 1 ∷ 69 ∷ 2 ∷ 68 ∷ 3 ∷ 67 ∷ 4 ∷ 66 ∷ 5 ∷ 65 ∷ 6 ∷ 41 ∷ 7 ∷ 40 ∷ 8 ∷ 64 ∷ 9 ∷ 63
+          ∷ 10 ∷ 62 ∷ 11 ∷ 61 ∷ 12 ∷ 60 ∷ 13 ∷ 59 ∷ 14 ∷ 58 ∷ 15 ∷ 57 ∷ 16 ∷ 56 ∷ 17 ∷ 55 ∷ 18 ∷ 54 ∷ 19 ∷ 53 ∷ 20
+          ∷ 52 ∷ 21 ∷ 51 ∷ 22 ∷ 50 ∷ 23 ∷ 49 ∷ 24 ∷ 48 ∷ 25 ∷ 47 ∷ 26 ∷ 46 ∷ 27 ∷ 45 ∷ 28 ∷ 44 ∷ 29 ∷ 43 ∷ 30 ∷ 42
+          ∷ 31 ∷ []) $ forget ! 0 refl $ free1 ! $ forget ! 0 refl $ free1 ! $ forget ! 0 refl $ free1 ! $ forget ! 0 refl $ free1 ! $
           forget ! 0 refl $ free1 ! $ forget ! 0 refl $ free1 ! $ forget ! 0 refl $ free1 ! $ forget ! 0 refl $ free1 ! $
           forget ! 0 refl $ free1 ! $ forget ! 0 refl $ free1 ! $ forget ! 0 refl $ free1 ! $ forget ! 0 refl $ free1 ! $
           forget ! 0 refl $ free1 ! $ forget ! 0 refl $ free1 ! $ forget ! 0 refl $ free1 ! $ forget ! 0 refl $ free1 ! $
           forget ! 0 refl $ free1 ! $ forget ! 0 refl $ free1 ! $ forget ! 0 refl $ free1 ! $ forget ! 0 refl $ free1 ! $
           forget ! 0 refl $ free1 ! $ forget ! 0 refl $ free1 ! $ forget ! 0 refl $ free1 ! $ forget ! 0 refl $ free1 ! $
           forget ! 0 refl $ free1 ! $ forget ! 0 refl $ free1 ! $ forget ! 0 refl $ free1 ! $ forget ! 0 refl $ free1 ! $
-          forget ! 0 refl $ free1 ! $ forget ! 0 refl $ free1 ! $ forget ! 0 refl $ free1 ! $ free0 ! $
+          forget ! 0 refl $ free1 ! $ forget ! 0 refl $ free1 ! $ forget ! 0 refl $ free1 ! $ forget ! 0 refl $ free1 ! $ free0 ! $
           move ! (0 ∷ 1 ∷ 3 ∷ 4 ∷ 7 ∷ 5 ∷ 2 ∷ 6 ∷ []) $
           by ! (exits r w-r (record {
             settings = (h .settings);
             flight = (h .flight);
-            arrival = (past .51);
+            arrival = (past .53);
             clock = (h .clock);
             queued = (h .queued);
             outstanding = (h .outstanding);
@@ -765,17 +773,17 @@ module _ {M : Type 1} (𝓤 : URA M) (H : Heap 𝓤) (A : Atoms 𝓤) (W : Given
                 (past .3);
             «waiting_numbers» = (past .2);
           }) ((past .1))
-          (told countCode _ ((past .46) .answer) e-r
-          (rw (past .53) (read-promised h (partsOf (x₁ .now) (x₂ .now) (x₃ .now) (x₄ .now))
-          (padded (gathered (take sendSlots (x₃ .now)) (slotsIn (h .outstanding) (h .flight .outstanding)))) (past .43)
+          (told countCode _ ((past .48) .answer) e-r
+          (rw (past .55) (read-promised h (partsOf (x₁ .now) (x₂ .now) (x₃ .now) (x₄ .now))
+          (padded (gathered (take sendSlots (x₃ .now)) (slotsIn (h .outstanding) (h .flight .outstanding)))) (past .45)
           (gathers h (partsOf (x₁ .now) (x₂ .now) (x₃ .now) (x₄ .now)) (h .flight .outstanding)
-          (padded (gathered (take sendSlots (x₃ .now)) (slotsIn (h .outstanding) (h .flight .outstanding)))) (past .43) refl refl
-          (past .45)) (x₅ .now) ((past .46) .answer)
-          (linkOf (h .settings) (h .flight) ((past .46) .arrival) (h .clock)
+          (padded (gathered (take sendSlots (x₃ .now)) (slotsIn (h .outstanding) (h .flight .outstanding)))) (past .45) refl refl
+          (past .47)) (x₅ .now) ((past .48) .answer)
+          (linkOf (h .settings) (h .flight) ((past .48) .arrival) (h .clock)
           (arrays (h .queued) (h .outstanding) (h .transmissions) (past .4) (past .3) (past .2))) (past .1)
-          ((past .48) (padded (gathered (take sendSlots (x₃ .now)) (slotsIn (h .outstanding) (h .flight .outstanding))))
-          (record { whole = padded-whole (take sendSlots (x₃ .now)) (h .outstanding) (h .flight .outstanding); fits = (past .42) })))))
-          (past .50) is-r))
+          ((past .50) (padded (gathered (take sendSlots (x₃ .now)) (slotsIn (h .outstanding) (h .flight .outstanding))))
+          (record { whole = padded-whole (take sendSlots (x₃ .now)) (h .outstanding) (h .flight .outstanding); fits = (past .44) })))))
+          (past .52) is-r))
 
       -- what part 3 knows
       abbrev Known₃ : Type 0
@@ -784,7 +792,7 @@ module _ {M : Type 1} (𝓤 : URA M) (H : Heap 𝓤) (A : Atoms 𝓤) (W : Given
           (l₇ : ℕ) × (l₈ : ℕ) × (l₉ : ℕ) × (l₁₀ : ℕ) × (l₁₁ : ℕ) × (l₁₂ : ℕ) × (l₁₃ : ℕ) × (l₁₄ : ℕ) ×
           (l₁₅ : ℕ) × (l₁₆ : ℕ) × (l₁₇ : ℕ) × (l₁₈ : ℕ) × (l₁₉ : ℕ) × (l₂₀ : ℕ) × (l₂₁ : ℕ) ×
           (l₂₂ : ℕ) × (l₂₃ : ℕ) × (l₂₄ : ℕ) × (l₂₅ : ℕ) × (l₂₆ : ℕ) × (l₂₇ : ℕ) × (l₂₈ : ℕ) ×
-          (l₂₉ : ℕ) × (l₃₀ : ℕ) × (w-receives : Val) × (w-ok : Val) × (fl : Bool) × (w-fl : Val) ×
+          (l₂₉ : ℕ) × (l₃₀ : ℕ) × (l₃₁ : ℕ) × (w-sends : Val) × (w-receives : Val) × (w-ok : Val) × (fl : Bool) × (w-fl : Val) ×
           (e-fl : fl ≡ flightFits (h .settings .mode) (h .flight .una) (h .flight .next)
           (take (h .flight .outstanding) (padded (gathered (take sendSlots (x₃ .now))
           (slotsIn (h .outstanding) (h .flight .outstanding)))))) × (m : ℕ) × (w-m : Val) × (e-m : m ≡ length (x₃ .now)) × (a : Delivered) ×
@@ -803,43 +811,45 @@ module _ {M : Type 1} (𝓤 : URA M) (H : Heap 𝓤) (A : Atoms 𝓤) (W : Given
           ∷ ‵ (partAt flight-row.the-row fullShare (h .flight) b (o + 16))
           ∷ ‵ (partAt settings-row.the-row fullShare (h .settings) b (o + 0)) ∷ raw (Back 𝓤 H A fullShare b o) ∷ ‵ (Open b o γ κ₀ q₀ h)
           ∷ ‵ (fat fullShare (tyArray (tyInt w8) 256) (past .14) 0 ((only ((array-vals (uint-vals w8)) (past .4)))))
-          ∷ ‵ (fat fullShare (tyArray (tyInt w8) 256) (past .13) 0 ((only ((array-vals (uint-vals w8)) (past .5)))))
+          ∷ ‵ (fat fullShare (tyArray (tyInt w8) 128) (past .13) 0 ((only ((array-vals (uint-vals w8)) (past .5)))))
           ∷ (‵ (fdies (tyInt w32) (past .6)) ⊛ ‵ (fdies (tyRef (named 0) mut (pointee (L .written))) (past .7)) ⊛ ‵
           (fdies (sliceTy (tyRef (named 1) imm (tyInt w8))) (past .8)) ⊛ ‵ (fdies (sliceTy (tyRef (named 2) imm (tyInt w8))) (past .9)) ⊛ ‵
           (fdies (sliceTy (tyRef (named 3) imm (pointee (R .written)))) (past .10)) ⊛ ‵
           (fdies (sliceTy (tyRef (named 4) imm (tyInt w32))) (past .11)) ⊛ ‵ (fdies (sliceTy (tyRef (named 5) mut (tyInt w8))) (past .12)) ⊛
-          ‵ (fdies (tyArray (tyInt w8) 256) (past .13)) ⊛ ‵ (fdies (tyArray (tyInt w8) 256) (past .14)) ⊛ ‵ (fdies tyBool (past .15)) ⊛ ‵
+          ‵ (fdies (tyArray (tyInt w8) 128) (past .13)) ⊛ ‵ (fdies (tyArray (tyInt w8) 256) (past .14)) ⊛ ‵ (fdies tyBool (past .15)) ⊛ ‵
           (fdies settings-laws.mir (past .16)) ⊛ ‵ (fdies flight-laws.mir (past .17)) ⊛ ‵ (fdies arrival-laws.mir (past .18)) ⊛ ‵
           (fdies clock-laws.mir (past .19)) ⊛ ‵ (fdies tyBool (past .20)) ⊛ ‵ (fdies (tyInt w64) (past .21)) ⊛ ‵
-          (fdies delivered-laws.mir (past .22)) ⊛ ‵ (fdies arrival-laws.mir (past .23)) ⊛ ‵ (fdies (tyArray (tyInt w8) 256) (past .24)) ⊛ ‵
-          (fdies (tyRef erased imm (pointee (L .written))) (past .25)) ⊛ ‵ (fdies (tyRef erased mut (tyArray (tyInt w8) 256)) (past .26)) ⊛
-          ‵ (fdies (tyRef erased mut (tyArray (tyInt w8) 256)) (past .27)) ⊛ ‵
-          (fdies (tyRef erased imm (tyArray (tyInt w32) 32)) (past .28)) ⊛ ‵ (fdies (tyRef erased imm (tyArray (tyInt w32) 128)) (past .29))
-          ⊛ ‵ (fdies (tyRef erased imm (tyArray (tyInt w32) 32)) (past .30)) ⊛ ‵
-          (fdies (tyRef erased imm (tyArray (tyInt w8) 32)) (past .31)) ⊛ ‵ (fdies (tyRef erased mut (tyArray (tyInt w32) 128)) (past .32))
-          ⊛ ‵ (fdies (tyRef erased mut (tyArray (tyInt w32) 128)) (past .33)) ⊛ ‵
-          (fdies (tyRef erased mut (tyArray (tyInt w32) 128)) (past .34)) ⊛ ‵ (fdies (tyRef erased mut (tyInt w8)) (past .35)) ⊛ ‵
-          (fdies (sliceTy (tyRef erased mut (tyInt w8))) (past .36)))
-          ∷ ‵ (fat fullShare (sliceTy (tyRef erased mut (tyInt w8))) (past .36) 0 (s₅))
-          ∷ ‵ (fat fullShare (tyRef erased mut (tyInt w8)) (past .35) 0 ((vptr (x₅ .ptr .0) (x₅ .ptr .1))))
-          ∷ ‵ (fat fullShare (tyRef erased mut (tyArray (tyInt w32) 128)) (past .34) 0 ((vptr b (o + 1820))))
-          ∷ ‵ (fat fullShare (tyRef erased mut (tyArray (tyInt w32) 128)) (past .33) 0 ((vptr b (o + 1308))))
-          ∷ ‵ (fat fullShare (tyRef erased mut (tyArray (tyInt w32) 128)) (past .32) 0 ((vptr b (o + 796))))
-          ∷ ‵ (fat fullShare (tyRef erased imm (tyArray (tyInt w8) 32)) (past .31) 0 ((vptr b (o + 764))))
-          ∷ ‵ (fat fullShare (tyRef erased imm (tyArray (tyInt w32) 32)) (past .30) 0 ((vptr b (o + 636))))
-          ∷ ‵ (fat fullShare (tyRef erased imm (tyArray (tyInt w32) 128)) (past .29) 0 ((vptr b (o + 124))))
-          ∷ ‵ (fat fullShare (tyRef erased imm (tyArray (tyInt w32) 32)) (past .28) 0 ((vptr b (o + 636))))
-          ∷ ‵ (fat fullShare (tyRef erased mut (tyArray (tyInt w8) 256)) (past .27) 0 ((vptr (past .14) 0)))
-          ∷ ‵ (fat fullShare (tyRef erased mut (tyArray (tyInt w8) 256)) (past .26) 0 ((vptr (past .13) 0)))
-          ∷ ‵ (fat fullShare (tyRef erased imm (pointee (L .written))) (past .25) 0 ((vptr b o)))
-          ∷ ‵ (fat fullShare (tyArray (tyInt w8) 256) (past .24) 0 ((past .37))) ∷ ‵ (froom arrival-laws.mir (past .23) 0)
-          ∷ ‵ (fat fullShare delivered-laws.mir (past .22) 0 ((past .46))) ∷ ‵ (fat fullShare (tyInt w64) (past .21) 0 ((past .43)))
-          ∷ ‵ (fat fullShare tyBool (past .20) 0 ((past .40)))
+          (fdies delivered-laws.mir (past .22)) ⊛ ‵ (fdies arrival-laws.mir (past .23)) ⊛ ‵ (fdies (tyArray (tyInt w8) 128) (past .24)) ⊛ ‵
+          (fdies (tyArray (tyInt w8) 256) (past .25)) ⊛ ‵ (fdies (tyRef erased imm (pointee (L .written))) (past .26)) ⊛ ‵
+          (fdies (tyRef erased mut (tyArray (tyInt w8) 128)) (past .27)) ⊛ ‵ (fdies (tyRef erased mut (tyArray (tyInt w8) 256)) (past .28))
+          ⊛ ‵ (fdies (tyRef erased imm (tyArray (tyInt w32) 32)) (past .29)) ⊛ ‵
+          (fdies (tyRef erased imm (tyArray (tyInt w32) 128)) (past .30)) ⊛ ‵ (fdies (tyRef erased imm (tyArray (tyInt w32) 32)) (past .31))
+          ⊛ ‵ (fdies (tyRef erased imm (tyArray (tyInt w8) 32)) (past .32)) ⊛ ‵
+          (fdies (tyRef erased mut (tyArray (tyInt w32) 128)) (past .33)) ⊛ ‵
+          (fdies (tyRef erased mut (tyArray (tyInt w32) 128)) (past .34)) ⊛ ‵
+          (fdies (tyRef erased mut (tyArray (tyInt w32) 128)) (past .35)) ⊛ ‵ (fdies (tyRef erased mut (tyInt w8)) (past .36)) ⊛ ‵
+          (fdies (sliceTy (tyRef erased mut (tyInt w8))) (past .37)))
+          ∷ ‵ (fat fullShare (sliceTy (tyRef erased mut (tyInt w8))) (past .37) 0 (s₅))
+          ∷ ‵ (fat fullShare (tyRef erased mut (tyInt w8)) (past .36) 0 ((vptr (x₅ .ptr .0) (x₅ .ptr .1))))
+          ∷ ‵ (fat fullShare (tyRef erased mut (tyArray (tyInt w32) 128)) (past .35) 0 ((vptr b (o + 1820))))
+          ∷ ‵ (fat fullShare (tyRef erased mut (tyArray (tyInt w32) 128)) (past .34) 0 ((vptr b (o + 1308))))
+          ∷ ‵ (fat fullShare (tyRef erased mut (tyArray (tyInt w32) 128)) (past .33) 0 ((vptr b (o + 796))))
+          ∷ ‵ (fat fullShare (tyRef erased imm (tyArray (tyInt w8) 32)) (past .32) 0 ((vptr b (o + 764))))
+          ∷ ‵ (fat fullShare (tyRef erased imm (tyArray (tyInt w32) 32)) (past .31) 0 ((vptr b (o + 636))))
+          ∷ ‵ (fat fullShare (tyRef erased imm (tyArray (tyInt w32) 128)) (past .30) 0 ((vptr b (o + 124))))
+          ∷ ‵ (fat fullShare (tyRef erased imm (tyArray (tyInt w32) 32)) (past .29) 0 ((vptr b (o + 636))))
+          ∷ ‵ (fat fullShare (tyRef erased mut (tyArray (tyInt w8) 256)) (past .28) 0 ((vptr (past .14) 0)))
+          ∷ ‵ (fat fullShare (tyRef erased mut (tyArray (tyInt w8) 128)) (past .27) 0 ((vptr (past .13) 0)))
+          ∷ ‵ (fat fullShare (tyRef erased imm (pointee (L .written))) (past .26) 0 ((vptr b o)))
+          ∷ ‵ (fat fullShare (tyArray (tyInt w8) 256) (past .25) 0 ((past .39)))
+          ∷ ‵ (fat fullShare (tyArray (tyInt w8) 128) (past .24) 0 ((past .38))) ∷ ‵ (froom arrival-laws.mir (past .23) 0)
+          ∷ ‵ (fat fullShare delivered-laws.mir (past .22) 0 ((past .48))) ∷ ‵ (fat fullShare (tyInt w64) (past .21) 0 ((past .45)))
+          ∷ ‵ (fat fullShare tyBool (past .20) 0 ((past .42)))
           ∷ ‵ (fat fullShare clock-laws.mir (past .19) 0 ((only ((LL.vals clock-row.the-type clock-laws.the-laws) (h .clock)))))
           ∷ ‵ (fat fullShare arrival-laws.mir (past .18) 0 ((only ((LL.vals arrival-row.the-type arrival-laws.the-laws) (h .arrival)))))
           ∷ ‵ (fat fullShare flight-laws.mir (past .17) 0 ((only ((LL.vals flight-row.the-type flight-laws.the-laws) (h .flight)))))
           ∷ ‵ (fat fullShare settings-laws.mir (past .16) 0 ((only ((LL.vals settings-row.the-type settings-laws.the-laws) (h .settings)))))
-          ∷ ‵ (fat fullShare tyBool (past .15) 0 ((past .38)))
+          ∷ ‵ (fat fullShare tyBool (past .15) 0 ((past .40)))
           ∷ ‵ (fat fullShare (sliceTy (tyRef (named 5) mut (tyInt w8))) (past .12) 0 (s₅))
           ∷ ‵ (fat fullShare (sliceTy (tyRef (named 4) imm (tyInt w32))) (past .11) 0 (s₄))
           ∷ ‵ (fat fullShare (sliceTy (tyRef (named 3) imm (pointee (R .written)))) (past .10) 0 (s₃))
@@ -848,11 +858,11 @@ module _ {M : Type 1} (𝓤 : URA M) (H : Heap 𝓤) (A : Atoms 𝓤) (W : Given
           ∷ ‵ (fat fullShare (tyRef (named 0) mut (pointee (L .written))) (past .7) 0 (vptr b o)) ∷ ‵ (froom (tyInt w32) (past .6) 0) ∷ []))
           (Wp 𝓤 H C Λ (En (past .6) (past .7) (past .8) (past .9) (past .10) (past .11) (past .12) (past .13) (past .14) (past .15)
           (past .16) (past .17) (past .18) (past .19) (past .20) (past .21) (past .22) (past .23) (past .24) (past .25) (past .26)
-          (past .27) (past .28) (past .29) (past .30) (past .31) (past .32) (past .33) (past .34) (past .35) (past .36))
+          (past .27) (past .28) (past .29) (past .30) (past .31) (past .32) (past .33) (past .34) (past .35) (past .36) (past .37))
           (behind 24 (code.function .body)) (atReturn 𝓤 H
           (En (past .6) (past .7) (past .8) (past .9) (past .10) (past .11) (past .12) (past .13) (past .14) (past .15) (past .16)
           (past .17) (past .18) (past .19) (past .20) (past .21) (past .22) (past .23) (past .24) (past .25) (past .26) (past .27)
-          (past .28) (past .29) (past .30) (past .31) (past .32) (past .33) (past .34) (past .35) (past .36)) Post))
+          (past .28) (past .29) (past .30) (past .31) (past .32) (past .33) (past .34) (past .35) (past .36) (past .37)) Post))
       part₃ past =
           qed W (‵ (partAt (Array u32 128) fullShare (past .1) b (o + 1820)) ∷ ‵ (partAt (Array u32 128) fullShare (past .2) b (o + 1308))
           ∷ ‵ (partAt (Array u32 128) fullShare (past .3) b (o + 796))
@@ -865,48 +875,49 @@ module _ {M : Type 1} (𝓤 : URA M) (H : Heap 𝓤) (A : Atoms 𝓤) (W : Given
           ∷ ‵ (partAt flight-row.the-row fullShare (h .flight) b (o + 16))
           ∷ ‵ (partAt settings-row.the-row fullShare (h .settings) b (o + 0)) ∷ raw (Back 𝓤 H A fullShare b o) ∷ ‵ (Open b o γ κ₀ q₀ h)
           ∷ ‵ (fat fullShare (tyArray (tyInt w8) 256) (past .14) 0 ((only ((array-vals (uint-vals w8)) (past .4)))))
-          ∷ ‵ (fat fullShare (tyArray (tyInt w8) 256) (past .13) 0 ((only ((array-vals (uint-vals w8)) (past .5)))))
+          ∷ ‵ (fat fullShare (tyArray (tyInt w8) 128) (past .13) 0 ((only ((array-vals (uint-vals w8)) (past .5)))))
           ∷ (‵ (fdies (tyInt w32) (past .6)) ⊛ ‵ (fdies (tyRef (named 0) mut (pointee (L .written))) (past .7)) ⊛ ‵
           (fdies (sliceTy (tyRef (named 1) imm (tyInt w8))) (past .8)) ⊛ ‵ (fdies (sliceTy (tyRef (named 2) imm (tyInt w8))) (past .9))
           ⊛ ‵ (fdies (sliceTy (tyRef (named 3) imm (pointee (R .written)))) (past .10)) ⊛ ‵
           (fdies (sliceTy (tyRef (named 4) imm (tyInt w32))) (past .11)) ⊛ ‵
-          (fdies (sliceTy (tyRef (named 5) mut (tyInt w8))) (past .12)) ⊛ ‵ (fdies (tyArray (tyInt w8) 256) (past .13)) ⊛ ‵
+          (fdies (sliceTy (tyRef (named 5) mut (tyInt w8))) (past .12)) ⊛ ‵ (fdies (tyArray (tyInt w8) 128) (past .13)) ⊛ ‵
           (fdies (tyArray (tyInt w8) 256) (past .14)) ⊛ ‵ (fdies tyBool (past .15)) ⊛ ‵ (fdies settings-laws.mir (past .16)) ⊛ ‵
           (fdies flight-laws.mir (past .17)) ⊛ ‵ (fdies arrival-laws.mir (past .18)) ⊛ ‵ (fdies clock-laws.mir (past .19)) ⊛ ‵
           (fdies tyBool (past .20)) ⊛ ‵ (fdies (tyInt w64) (past .21)) ⊛ ‵ (fdies delivered-laws.mir (past .22)) ⊛ ‵
-          (fdies arrival-laws.mir (past .23)) ⊛ ‵ (fdies (tyArray (tyInt w8) 256) (past .24)) ⊛ ‵
-          (fdies (tyRef erased imm (pointee (L .written))) (past .25)) ⊛ ‵
-          (fdies (tyRef erased mut (tyArray (tyInt w8) 256)) (past .26)) ⊛ ‵
-          (fdies (tyRef erased mut (tyArray (tyInt w8) 256)) (past .27)) ⊛ ‵
-          (fdies (tyRef erased imm (tyArray (tyInt w32) 32)) (past .28)) ⊛ ‵
-          (fdies (tyRef erased imm (tyArray (tyInt w32) 128)) (past .29)) ⊛ ‵
-          (fdies (tyRef erased imm (tyArray (tyInt w32) 32)) (past .30)) ⊛ ‵
-          (fdies (tyRef erased imm (tyArray (tyInt w8) 32)) (past .31)) ⊛ ‵
-          (fdies (tyRef erased mut (tyArray (tyInt w32) 128)) (past .32)) ⊛ ‵
+          (fdies arrival-laws.mir (past .23)) ⊛ ‵ (fdies (tyArray (tyInt w8) 128) (past .24)) ⊛ ‵
+          (fdies (tyArray (tyInt w8) 256) (past .25)) ⊛ ‵ (fdies (tyRef erased imm (pointee (L .written))) (past .26)) ⊛ ‵
+          (fdies (tyRef erased mut (tyArray (tyInt w8) 128)) (past .27)) ⊛ ‵
+          (fdies (tyRef erased mut (tyArray (tyInt w8) 256)) (past .28)) ⊛ ‵
+          (fdies (tyRef erased imm (tyArray (tyInt w32) 32)) (past .29)) ⊛ ‵
+          (fdies (tyRef erased imm (tyArray (tyInt w32) 128)) (past .30)) ⊛ ‵
+          (fdies (tyRef erased imm (tyArray (tyInt w32) 32)) (past .31)) ⊛ ‵
+          (fdies (tyRef erased imm (tyArray (tyInt w8) 32)) (past .32)) ⊛ ‵
           (fdies (tyRef erased mut (tyArray (tyInt w32) 128)) (past .33)) ⊛ ‵
-          (fdies (tyRef erased mut (tyArray (tyInt w32) 128)) (past .34)) ⊛ ‵ (fdies (tyRef erased mut (tyInt w8)) (past .35)) ⊛ ‵
-          (fdies (sliceTy (tyRef erased mut (tyInt w8))) (past .36)))
-          ∷ ‵ (fat fullShare (sliceTy (tyRef erased mut (tyInt w8))) (past .36) 0 (s₅))
-          ∷ ‵ (fat fullShare (tyRef erased mut (tyInt w8)) (past .35) 0 ((vptr (x₅ .ptr .0) (x₅ .ptr .1))))
-          ∷ ‵ (fat fullShare (tyRef erased mut (tyArray (tyInt w32) 128)) (past .34) 0 ((vptr b (o + 1820))))
-          ∷ ‵ (fat fullShare (tyRef erased mut (tyArray (tyInt w32) 128)) (past .33) 0 ((vptr b (o + 1308))))
-          ∷ ‵ (fat fullShare (tyRef erased mut (tyArray (tyInt w32) 128)) (past .32) 0 ((vptr b (o + 796))))
-          ∷ ‵ (fat fullShare (tyRef erased imm (tyArray (tyInt w8) 32)) (past .31) 0 ((vptr b (o + 764))))
-          ∷ ‵ (fat fullShare (tyRef erased imm (tyArray (tyInt w32) 32)) (past .30) 0 ((vptr b (o + 636))))
-          ∷ ‵ (fat fullShare (tyRef erased imm (tyArray (tyInt w32) 128)) (past .29) 0 ((vptr b (o + 124))))
-          ∷ ‵ (fat fullShare (tyRef erased imm (tyArray (tyInt w32) 32)) (past .28) 0 ((vptr b (o + 636))))
-          ∷ ‵ (fat fullShare (tyRef erased mut (tyArray (tyInt w8) 256)) (past .27) 0 ((vptr (past .14) 0)))
-          ∷ ‵ (fat fullShare (tyRef erased mut (tyArray (tyInt w8) 256)) (past .26) 0 ((vptr (past .13) 0)))
-          ∷ ‵ (fat fullShare (tyRef erased imm (pointee (L .written))) (past .25) 0 ((vptr b o)))
-          ∷ ‵ (fat fullShare (tyArray (tyInt w8) 256) (past .24) 0 ((past .37))) ∷ ‵ (froom arrival-laws.mir (past .23) 0)
-          ∷ ‵ (fat fullShare delivered-laws.mir (past .22) 0 ((past .46))) ∷ ‵ (fat fullShare (tyInt w64) (past .21) 0 ((past .43)))
-          ∷ ‵ (fat fullShare tyBool (past .20) 0 ((past .40)))
+          (fdies (tyRef erased mut (tyArray (tyInt w32) 128)) (past .34)) ⊛ ‵
+          (fdies (tyRef erased mut (tyArray (tyInt w32) 128)) (past .35)) ⊛ ‵ (fdies (tyRef erased mut (tyInt w8)) (past .36)) ⊛ ‵
+          (fdies (sliceTy (tyRef erased mut (tyInt w8))) (past .37)))
+          ∷ ‵ (fat fullShare (sliceTy (tyRef erased mut (tyInt w8))) (past .37) 0 (s₅))
+          ∷ ‵ (fat fullShare (tyRef erased mut (tyInt w8)) (past .36) 0 ((vptr (x₅ .ptr .0) (x₅ .ptr .1))))
+          ∷ ‵ (fat fullShare (tyRef erased mut (tyArray (tyInt w32) 128)) (past .35) 0 ((vptr b (o + 1820))))
+          ∷ ‵ (fat fullShare (tyRef erased mut (tyArray (tyInt w32) 128)) (past .34) 0 ((vptr b (o + 1308))))
+          ∷ ‵ (fat fullShare (tyRef erased mut (tyArray (tyInt w32) 128)) (past .33) 0 ((vptr b (o + 796))))
+          ∷ ‵ (fat fullShare (tyRef erased imm (tyArray (tyInt w8) 32)) (past .32) 0 ((vptr b (o + 764))))
+          ∷ ‵ (fat fullShare (tyRef erased imm (tyArray (tyInt w32) 32)) (past .31) 0 ((vptr b (o + 636))))
+          ∷ ‵ (fat fullShare (tyRef erased imm (tyArray (tyInt w32) 128)) (past .30) 0 ((vptr b (o + 124))))
+          ∷ ‵ (fat fullShare (tyRef erased imm (tyArray (tyInt w32) 32)) (past .29) 0 ((vptr b (o + 636))))
+          ∷ ‵ (fat fullShare (tyRef erased mut (tyArray (tyInt w8) 256)) (past .28) 0 ((vptr (past .14) 0)))
+          ∷ ‵ (fat fullShare (tyRef erased mut (tyArray (tyInt w8) 128)) (past .27) 0 ((vptr (past .13) 0)))
+          ∷ ‵ (fat fullShare (tyRef erased imm (pointee (L .written))) (past .26) 0 ((vptr b o)))
+          ∷ ‵ (fat fullShare (tyArray (tyInt w8) 256) (past .25) 0 ((past .39)))
+          ∷ ‵ (fat fullShare (tyArray (tyInt w8) 128) (past .24) 0 ((past .38))) ∷ ‵ (froom arrival-laws.mir (past .23) 0)
+          ∷ ‵ (fat fullShare delivered-laws.mir (past .22) 0 ((past .48))) ∷ ‵ (fat fullShare (tyInt w64) (past .21) 0 ((past .45)))
+          ∷ ‵ (fat fullShare tyBool (past .20) 0 ((past .42)))
           ∷ ‵ (fat fullShare clock-laws.mir (past .19) 0 ((only ((LL.vals clock-row.the-type clock-laws.the-laws) (h .clock)))))
           ∷ ‵ (fat fullShare arrival-laws.mir (past .18) 0 ((only ((LL.vals arrival-row.the-type arrival-laws.the-laws) (h .arrival)))))
           ∷ ‵ (fat fullShare flight-laws.mir (past .17) 0 ((only ((LL.vals flight-row.the-type flight-laws.the-laws) (h .flight)))))
           ∷ ‵ (fat fullShare settings-laws.mir (past .16) 0
           ((only ((LL.vals settings-row.the-type settings-laws.the-laws) (h .settings)))))
-          ∷ ‵ (fat fullShare tyBool (past .15) 0 ((past .38)))
+          ∷ ‵ (fat fullShare tyBool (past .15) 0 ((past .40)))
           ∷ ‵ (fat fullShare (sliceTy (tyRef (named 5) mut (tyInt w8))) (past .12) 0 (s₅))
           ∷ ‵ (fat fullShare (sliceTy (tyRef (named 4) imm (tyInt w32))) (past .11) 0 (s₄))
           ∷ ‵ (fat fullShare (sliceTy (tyRef (named 3) imm (pointee (R .written)))) (past .10) 0 (s₃))
@@ -915,23 +926,24 @@ module _ {M : Type 1} (𝓤 : URA M) (H : Heap 𝓤) (A : Atoms 𝓤) (W : Given
           ∷ ‵ (fat fullShare (tyRef (named 0) mut (pointee (L .written))) (past .7) 0 (vptr b o)) ∷ ‵ (froom (tyInt w32) (past .6) 0)
           ∷ []) ∵ exec ! C Λ (En (past .6) (past .7) (past .8) (past .9) (past .10) (past .11) (past .12) (past .13) (past .14)
           (past .15) (past .16) (past .17) (past .18) (past .19) (past .20) (past .21) (past .22) (past .23) (past .24) (past .25)
-          (past .26) (past .27) (past .28) (past .29) (past .30) (past .31) (past .32) (past .33) (past .34) (past .35) (past .36))
-          (behind 24 (code.function .body)) (atRet (En (past .6) (past .7) (past .8) (past .9) (past .10) (past .11) (past .12)
-          (past .13) (past .14) (past .15) (past .16) (past .17) (past .18) (past .19) (past .20) (past .21) (past .22) (past .23)
-          (past .24) (past .25) (past .26) (past .27) (past .28) (past .29) (past .30) (past .31) (past .32) (past .33) (past .34)
-          (past .35) (past .36)) Post) $
-          nothing ! $ calls-fn ! fm arrival-of.ended (arrival-of.clauses 𝓤 H A at-mem run) (known .5)
-          ((tt, tt, tt, ((past .45), tt), ((past .46) ∷ [], tt)), tt) (λ ka _. ka ≡ (past .45) .arrival)
+          (past .26) (past .27) (past .28) (past .29) (past .30) (past .31) (past .32) (past .33) (past .34) (past .35) (past .36)
+          (past .37)) (behind 24 (code.function .body))
+          (atRet (En (past .6) (past .7) (past .8) (past .9) (past .10) (past .11) (past .12) (past .13) (past .14) (past .15)
+          (past .16) (past .17) (past .18) (past .19) (past .20) (past .21) (past .22) (past .23) (past .24) (past .25) (past .26)
+          (past .27) (past .28) (past .29) (past .30) (past .31) (past .32) (past .33) (past .34) (past .35) (past .36) (past .37))
+          Post) $
+          nothing ! $ calls-fn ! fm arrival-of.ended (arrival-of.clauses 𝓤 H A at-mem run) (known .6)
+          ((tt, tt, tt, ((past .47), tt), ((past .48) ∷ [], tt)), tt) (λ ka _. ka ≡ (past .47) .arrival)
           (‵ ftrue) (plainly 𝓤 H A W (delivered-row.the-row ∷ []) ((LL.makes delivered-row.the-type delivered-laws.the-plain 𝓤 H A), tt)
-          ((past .45), tt) ((past .46) ∷ [], tt) ((past .48), tt)) (λ ka _. id⊢ 𝓤 _)
-          (and-then ! (load ! (from ! (stop !)) (look ! 36 refl)) (no-more !))
+          ((past .47), tt) ((past .48) ∷ [], tt) ((past .50), tt)) (λ ka _. id⊢ 𝓤 _)
+          (and-then ! (load ! (from ! (stop !)) (look ! 37 refl)) (no-more !))
           (λ ka w-ka _ e-ka is-ka. drop ! $ drop ! $
-          land ! (from ! (stop !)) (init ! 34 refl (LL.lawful arrival-row.the-type arrival-laws.the-laws 𝓤 H A W .typed ka (w-ka ∷ []) is-ka
+          land ! (from ! (stop !)) (init ! 35 refl (LL.lawful arrival-row.the-type arrival-laws.the-laws 𝓤 H A W .typed ka (w-ka ∷ []) is-ka
           .0)) $
           move ! (13 ∷ []) $ cell-out ! fullShare arrival-row.the-row (LL.vals arrival-row.the-type arrival-laws.the-laws)
           (LL.tells arrival-row.the-type arrival-laws.the-laws) (h .arrival) b (o + 72)
-          (λ was-arrival′. assigns ! (of-opd ! (load ! (from ! (stop !)) (look ! 34 refl)))
-          (from ! (hop ! (look ! 48 refl) (fld ! {d = 72} refl (stop !))))
+          (λ was-arrival′. assigns ! (of-opd ! (load ! (from ! (stop !)) (look ! 35 refl)))
+          (from ! (hop ! (look ! 49 refl) (fld ! {d = 72} refl (stop !))))
           (store-raw ! 0 refl (LL.lawful arrival-row.the-type arrival-laws.the-laws 𝓤 H A W .typed ka (w-ka ∷ []) is-ka .0)) $
           cell-in ! fullShare arrival-row.the-row (LL.makes arrival-row.the-type arrival-laws.the-plain 𝓤 H A) ka b (o + 72) w-ka
           is-ka $ move ! (6 ∷ []) $ tells-length ! fullShare u32 128 (h .queued) b (o + 124)
@@ -1012,6 +1024,8 @@ module _ {M : Type 1} (𝓤 : URA M) (H : Heap 𝓤) (A : Atoms 𝓤) (W : Given
             (past .47),
             (past .48),
             (past .49),
+            (past .50),
+            (past .51),
             ka,
             w-ka,
             e-ka,
@@ -1023,11 +1037,11 @@ module _ {M : Type 1} (𝓤 : URA M) (H : Heap 𝓤) (A : Atoms 𝓤) (W : Given
           (l₅ : ℕ) × (l₆ : ℕ) × (l₇ : ℕ) × (l₈ : ℕ) × (l₉ : ℕ) × (l₁₀ : ℕ) × (l₁₁ : ℕ) × (l₁₂ : ℕ) ×
           (l₁₃ : ℕ) × (l₁₄ : ℕ) × (l₁₅ : ℕ) × (l₁₆ : ℕ) × (l₁₇ : ℕ) × (l₁₈ : ℕ) × (l₁₉ : ℕ) ×
           (l₂₀ : ℕ) × (l₂₁ : ℕ) × (l₂₂ : ℕ) × (l₂₃ : ℕ) × (l₂₄ : ℕ) × (l₂₅ : ℕ) × (l₂₆ : ℕ) ×
-          (l₂₇ : ℕ) × (l₂₈ : ℕ) × (l₂₉ : ℕ) × (l₃₀ : ℕ) × (w-receives : Val) × (ok : Bool) × (w-ok : Val) ×
-          (e-ok : Sound h z-sends z-receives ok) × (is-ok : Is Boolean ok (w-ok ∷ [])) × (len-queued : length (h .queued) ≡ 128) ×
-          (len-outstanding : length (h .outstanding) ≡ 32) × (len-transmissions : length (h .transmissions) ≡ 32) ×
-          (len-ready : length (h .ready) ≡ 128) × (len-waiting : length (h .waiting) ≡ 128) ×
-          (len-waiting-numbers : length (h .«waiting_numbers») ≡ 128) ×
+          (l₂₇ : ℕ) × (l₂₈ : ℕ) × (l₂₉ : ℕ) × (l₃₀ : ℕ) × (l₃₁ : ℕ) × (w-sends : Val) × (w-receives : Val) × (ok : Bool) ×
+          (w-ok : Val) × (e-ok : Sound h z-sends z-receives ok) × (is-ok : Is Boolean ok (w-ok ∷ [])) ×
+          (len-queued : length (h .queued) ≡ 128) × (len-outstanding : length (h .outstanding) ≡ 32) ×
+          (len-transmissions : length (h .transmissions) ≡ 32) × (len-ready : length (h .ready) ≡ 128) ×
+          (len-waiting : length (h .waiting) ≡ 128) × (len-waiting-numbers : length (h .«waiting_numbers») ≡ 128) ×
           (was-settings : Is settings-row.the-row (h .settings) ((LL.vals settings-row.the-type settings-laws.the-laws) (h .settings))) ×
           (was-flight : Is flight-row.the-row (h .flight) ((LL.vals flight-row.the-type flight-laws.the-laws) (h .flight))) ×
           (was-arrival : Is arrival-row.the-row (h .arrival) ((LL.vals arrival-row.the-type arrival-laws.the-laws) (h .arrival))) ×
@@ -1046,43 +1060,45 @@ module _ {M : Type 1} (𝓤 : URA M) (H : Heap 𝓤) (A : Atoms 𝓤) (W : Given
           ∷ ‵ (partAt (Array u8 32) fullShare (h .transmissions) b (o + 764)) ∷ ‵ (partAt (Array u32 128) fullShare (h .queued) b (o + 124))
           ∷ raw (Back 𝓤 H A fullShare b o) ∷ ‵ (Open b o γ κ₀ q₀ h)
           ∷ ‵ (fat fullShare (tyArray (tyInt w8) 256) (past .10) 0 ((only ((array-vals (uint-vals w8)) (past .0)))))
-          ∷ ‵ (fat fullShare (tyArray (tyInt w8) 256) (past .9) 0 ((only ((array-vals (uint-vals w8)) (past .1)))))
+          ∷ ‵ (fat fullShare (tyArray (tyInt w8) 128) (past .9) 0 ((only ((array-vals (uint-vals w8)) (past .1)))))
           ∷ (‵ (fdies (tyInt w32) (past .2)) ⊛ ‵ (fdies (tyRef (named 0) mut (pointee (L .written))) (past .3)) ⊛ ‵
           (fdies (sliceTy (tyRef (named 1) imm (tyInt w8))) (past .4)) ⊛ ‵ (fdies (sliceTy (tyRef (named 2) imm (tyInt w8))) (past .5)) ⊛ ‵
           (fdies (sliceTy (tyRef (named 3) imm (pointee (R .written)))) (past .6)) ⊛ ‵
           (fdies (sliceTy (tyRef (named 4) imm (tyInt w32))) (past .7)) ⊛ ‵ (fdies (sliceTy (tyRef (named 5) mut (tyInt w8))) (past .8)) ⊛ ‵
-          (fdies (tyArray (tyInt w8) 256) (past .9)) ⊛ ‵ (fdies (tyArray (tyInt w8) 256) (past .10)) ⊛ ‵ (fdies tyBool (past .11)) ⊛ ‵
+          (fdies (tyArray (tyInt w8) 128) (past .9)) ⊛ ‵ (fdies (tyArray (tyInt w8) 256) (past .10)) ⊛ ‵ (fdies tyBool (past .11)) ⊛ ‵
           (fdies settings-laws.mir (past .12)) ⊛ ‵ (fdies flight-laws.mir (past .13)) ⊛ ‵ (fdies arrival-laws.mir (past .14)) ⊛ ‵
           (fdies clock-laws.mir (past .15)) ⊛ ‵ (fdies tyBool (past .16)) ⊛ ‵ (fdies (tyInt w64) (past .17)) ⊛ ‵
-          (fdies delivered-laws.mir (past .18)) ⊛ ‵ (fdies arrival-laws.mir (past .19)) ⊛ ‵ (fdies (tyArray (tyInt w8) 256) (past .20)) ⊛ ‵
-          (fdies (tyRef erased imm (pointee (L .written))) (past .21)) ⊛ ‵ (fdies (tyRef erased mut (tyArray (tyInt w8) 256)) (past .22)) ⊛
-          ‵ (fdies (tyRef erased mut (tyArray (tyInt w8) 256)) (past .23)) ⊛ ‵
-          (fdies (tyRef erased imm (tyArray (tyInt w32) 32)) (past .24)) ⊛ ‵ (fdies (tyRef erased imm (tyArray (tyInt w32) 128)) (past .25))
-          ⊛ ‵ (fdies (tyRef erased imm (tyArray (tyInt w32) 32)) (past .26)) ⊛ ‵
-          (fdies (tyRef erased imm (tyArray (tyInt w8) 32)) (past .27)) ⊛ ‵ (fdies (tyRef erased mut (tyArray (tyInt w32) 128)) (past .28))
-          ⊛ ‵ (fdies (tyRef erased mut (tyArray (tyInt w32) 128)) (past .29)) ⊛ ‵
-          (fdies (tyRef erased mut (tyArray (tyInt w32) 128)) (past .30)) ⊛ ‵ (fdies (tyRef erased mut (tyInt w8)) (past .31)) ⊛ ‵
-          (fdies (sliceTy (tyRef erased mut (tyInt w8))) (past .32))) ∷ ‵ (flft κ₁ q₁) ∷ ‵ (flft κ₂ q₂) ∷ ‵ (flft κ₄ q₄)
+          (fdies delivered-laws.mir (past .18)) ⊛ ‵ (fdies arrival-laws.mir (past .19)) ⊛ ‵ (fdies (tyArray (tyInt w8) 128) (past .20)) ⊛ ‵
+          (fdies (tyArray (tyInt w8) 256) (past .21)) ⊛ ‵ (fdies (tyRef erased imm (pointee (L .written))) (past .22)) ⊛ ‵
+          (fdies (tyRef erased mut (tyArray (tyInt w8) 128)) (past .23)) ⊛ ‵ (fdies (tyRef erased mut (tyArray (tyInt w8) 256)) (past .24))
+          ⊛ ‵ (fdies (tyRef erased imm (tyArray (tyInt w32) 32)) (past .25)) ⊛ ‵
+          (fdies (tyRef erased imm (tyArray (tyInt w32) 128)) (past .26)) ⊛ ‵ (fdies (tyRef erased imm (tyArray (tyInt w32) 32)) (past .27))
+          ⊛ ‵ (fdies (tyRef erased imm (tyArray (tyInt w8) 32)) (past .28)) ⊛ ‵
+          (fdies (tyRef erased mut (tyArray (tyInt w32) 128)) (past .29)) ⊛ ‵
+          (fdies (tyRef erased mut (tyArray (tyInt w32) 128)) (past .30)) ⊛ ‵
+          (fdies (tyRef erased mut (tyArray (tyInt w32) 128)) (past .31)) ⊛ ‵ (fdies (tyRef erased mut (tyInt w8)) (past .32)) ⊛ ‵
+          (fdies (sliceTy (tyRef erased mut (tyInt w8))) (past .33))) ∷ ‵ (flft κ₁ q₁) ∷ ‵ (flft κ₂ q₂) ∷ ‵ (flft κ₄ q₄)
           ∷ ‵ (flft κ₅ q₅) ∷ ‵ Own₁ ∷ ‵ Own₂ ∷ ‵ Own₄ ∷ ‵ Own₅
-          ∷ ‵ (froom (sliceTy (tyRef erased mut (tyInt w8))) (past .32) 0) ∷ ‵ (froom (tyRef erased mut (tyInt w8)) (past .31) 0)
+          ∷ ‵ (froom (sliceTy (tyRef erased mut (tyInt w8))) (past .33) 0) ∷ ‵ (froom (tyRef erased mut (tyInt w8)) (past .32) 0)
+          ∷ ‵ (froom (tyRef erased mut (tyArray (tyInt w32) 128)) (past .31) 0)
           ∷ ‵ (froom (tyRef erased mut (tyArray (tyInt w32) 128)) (past .30) 0)
           ∷ ‵ (froom (tyRef erased mut (tyArray (tyInt w32) 128)) (past .29) 0)
-          ∷ ‵ (froom (tyRef erased mut (tyArray (tyInt w32) 128)) (past .28) 0)
-          ∷ ‵ (froom (tyRef erased imm (tyArray (tyInt w8) 32)) (past .27) 0)
-          ∷ ‵ (froom (tyRef erased imm (tyArray (tyInt w32) 32)) (past .26) 0)
-          ∷ ‵ (froom (tyRef erased imm (tyArray (tyInt w32) 128)) (past .25) 0)
-          ∷ ‵ (fat fullShare (tyRef erased imm (tyArray (tyInt w32) 32)) (past .24) 0 ((vptr b (o + 636))))
-          ∷ ‵ (fat fullShare (tyRef erased mut (tyArray (tyInt w8) 256)) (past .23) 0 ((vptr (past .10) 0)))
-          ∷ ‵ (fat fullShare (tyRef erased mut (tyArray (tyInt w8) 256)) (past .22) 0 ((vptr (past .9) 0)))
-          ∷ ‵ (fat fullShare (tyRef erased imm (pointee (L .written))) (past .21) 0 ((vptr b o)))
-          ∷ ‵ (fat fullShare (tyArray (tyInt w8) 256) (past .20) 0 ((past .33))) ∷ ‵ (froom arrival-laws.mir (past .19) 0)
-          ∷ ‵ (froom delivered-laws.mir (past .18) 0) ∷ ‵ (fat fullShare (tyInt w64) (past .17) 0 ((past .53)))
-          ∷ ‵ (fat fullShare tyBool (past .16) 0 ((past .49)))
+          ∷ ‵ (froom (tyRef erased imm (tyArray (tyInt w8) 32)) (past .28) 0)
+          ∷ ‵ (froom (tyRef erased imm (tyArray (tyInt w32) 32)) (past .27) 0)
+          ∷ ‵ (froom (tyRef erased imm (tyArray (tyInt w32) 128)) (past .26) 0)
+          ∷ ‵ (fat fullShare (tyRef erased imm (tyArray (tyInt w32) 32)) (past .25) 0 ((vptr b (o + 636))))
+          ∷ ‵ (fat fullShare (tyRef erased mut (tyArray (tyInt w8) 256)) (past .24) 0 ((vptr (past .10) 0)))
+          ∷ ‵ (fat fullShare (tyRef erased mut (tyArray (tyInt w8) 128)) (past .23) 0 ((vptr (past .9) 0)))
+          ∷ ‵ (fat fullShare (tyRef erased imm (pointee (L .written))) (past .22) 0 ((vptr b o)))
+          ∷ ‵ (fat fullShare (tyArray (tyInt w8) 256) (past .21) 0 ((past .35)))
+          ∷ ‵ (fat fullShare (tyArray (tyInt w8) 128) (past .20) 0 ((past .34))) ∷ ‵ (froom arrival-laws.mir (past .19) 0)
+          ∷ ‵ (froom delivered-laws.mir (past .18) 0) ∷ ‵ (fat fullShare (tyInt w64) (past .17) 0 ((past .55)))
+          ∷ ‵ (fat fullShare tyBool (past .16) 0 ((past .51)))
           ∷ ‵ (fat fullShare clock-laws.mir (past .15) 0 ((only ((LL.vals clock-row.the-type clock-laws.the-laws) (h .clock)))))
           ∷ ‵ (fat fullShare arrival-laws.mir (past .14) 0 ((only ((LL.vals arrival-row.the-type arrival-laws.the-laws) (h .arrival)))))
           ∷ ‵ (fat fullShare flight-laws.mir (past .13) 0 ((only ((LL.vals flight-row.the-type flight-laws.the-laws) (h .flight)))))
           ∷ ‵ (fat fullShare settings-laws.mir (past .12) 0 ((only ((LL.vals settings-row.the-type settings-laws.the-laws) (h .settings)))))
-          ∷ ‵ (fat fullShare tyBool (past .11) 0 ((past .35)))
+          ∷ ‵ (fat fullShare tyBool (past .11) 0 ((past .37)))
           ∷ ‵ (fat fullShare (sliceTy (tyRef (named 5) mut (tyInt w8))) (past .8) 0 (s₅))
           ∷ ‵ (fat fullShare (sliceTy (tyRef (named 4) imm (tyInt w32))) (past .7) 0 (s₄))
           ∷ ‵ (fat fullShare (sliceTy (tyRef (named 3) imm (pointee (R .written)))) (past .6) 0 (s₃))
@@ -1091,11 +1107,11 @@ module _ {M : Type 1} (𝓤 : URA M) (H : Heap 𝓤) (A : Atoms 𝓤) (W : Given
           ∷ ‵ (fat fullShare (tyRef (named 0) mut (pointee (L .written))) (past .3) 0 (vptr b o)) ∷ ‵ (froom (tyInt w32) (past .2) 0) ∷ []))
           (Wp 𝓤 H C Λ (En (past .2) (past .3) (past .4) (past .5) (past .6) (past .7) (past .8) (past .9) (past .10) (past .11) (past .12)
           (past .13) (past .14) (past .15) (past .16) (past .17) (past .18) (past .19) (past .20) (past .21) (past .22) (past .23)
-          (past .24) (past .25) (past .26) (past .27) (past .28) (past .29) (past .30) (past .31) (past .32))
+          (past .24) (past .25) (past .26) (past .27) (past .28) (past .29) (past .30) (past .31) (past .32) (past .33))
           (behind 15 (code.function .body)) (atReturn 𝓤 H
           (En (past .2) (past .3) (past .4) (past .5) (past .6) (past .7) (past .8) (past .9) (past .10) (past .11) (past .12) (past .13)
           (past .14) (past .15) (past .16) (past .17) (past .18) (past .19) (past .20) (past .21) (past .22) (past .23) (past .24)
-          (past .25) (past .26) (past .27) (past .28) (past .29) (past .30) (past .31) (past .32)) Post))
+          (past .25) (past .26) (past .27) (past .28) (past .29) (past .30) (past .31) (past .32) (past .33)) Post))
       part₂ past =
           qed W (‵ (flft κ₃ q₃) ∷ ‵ (partAt (Array u32 32) fullShare (h .outstanding) b (o + 636))
           ∷ ‵ (partAt clock-row.the-row fullShare (h .clock) b (o + 104))
@@ -1107,47 +1123,48 @@ module _ {M : Type 1} (𝓤 : URA M) (H : Heap 𝓤) (A : Atoms 𝓤) (W : Given
           ∷ ‵ (partAt (Array u8 32) fullShare (h .transmissions) b (o + 764))
           ∷ ‵ (partAt (Array u32 128) fullShare (h .queued) b (o + 124)) ∷ raw (Back 𝓤 H A fullShare b o) ∷ ‵ (Open b o γ κ₀ q₀ h)
           ∷ ‵ (fat fullShare (tyArray (tyInt w8) 256) (past .10) 0 ((only ((array-vals (uint-vals w8)) (past .0)))))
-          ∷ ‵ (fat fullShare (tyArray (tyInt w8) 256) (past .9) 0 ((only ((array-vals (uint-vals w8)) (past .1)))))
+          ∷ ‵ (fat fullShare (tyArray (tyInt w8) 128) (past .9) 0 ((only ((array-vals (uint-vals w8)) (past .1)))))
           ∷ (‵ (fdies (tyInt w32) (past .2)) ⊛ ‵ (fdies (tyRef (named 0) mut (pointee (L .written))) (past .3)) ⊛ ‵
           (fdies (sliceTy (tyRef (named 1) imm (tyInt w8))) (past .4)) ⊛ ‵ (fdies (sliceTy (tyRef (named 2) imm (tyInt w8))) (past .5))
           ⊛ ‵ (fdies (sliceTy (tyRef (named 3) imm (pointee (R .written)))) (past .6)) ⊛ ‵
           (fdies (sliceTy (tyRef (named 4) imm (tyInt w32))) (past .7)) ⊛ ‵ (fdies (sliceTy (tyRef (named 5) mut (tyInt w8))) (past .8))
-          ⊛ ‵ (fdies (tyArray (tyInt w8) 256) (past .9)) ⊛ ‵ (fdies (tyArray (tyInt w8) 256) (past .10)) ⊛ ‵ (fdies tyBool (past .11)) ⊛
+          ⊛ ‵ (fdies (tyArray (tyInt w8) 128) (past .9)) ⊛ ‵ (fdies (tyArray (tyInt w8) 256) (past .10)) ⊛ ‵ (fdies tyBool (past .11)) ⊛
           ‵ (fdies settings-laws.mir (past .12)) ⊛ ‵ (fdies flight-laws.mir (past .13)) ⊛ ‵ (fdies arrival-laws.mir (past .14)) ⊛ ‵
           (fdies clock-laws.mir (past .15)) ⊛ ‵ (fdies tyBool (past .16)) ⊛ ‵ (fdies (tyInt w64) (past .17)) ⊛ ‵
-          (fdies delivered-laws.mir (past .18)) ⊛ ‵ (fdies arrival-laws.mir (past .19)) ⊛ ‵ (fdies (tyArray (tyInt w8) 256) (past .20))
-          ⊛ ‵ (fdies (tyRef erased imm (pointee (L .written))) (past .21)) ⊛ ‵
-          (fdies (tyRef erased mut (tyArray (tyInt w8) 256)) (past .22)) ⊛ ‵
-          (fdies (tyRef erased mut (tyArray (tyInt w8) 256)) (past .23)) ⊛ ‵
-          (fdies (tyRef erased imm (tyArray (tyInt w32) 32)) (past .24)) ⊛ ‵
-          (fdies (tyRef erased imm (tyArray (tyInt w32) 128)) (past .25)) ⊛ ‵
-          (fdies (tyRef erased imm (tyArray (tyInt w32) 32)) (past .26)) ⊛ ‵
-          (fdies (tyRef erased imm (tyArray (tyInt w8) 32)) (past .27)) ⊛ ‵
-          (fdies (tyRef erased mut (tyArray (tyInt w32) 128)) (past .28)) ⊛ ‵
+          (fdies delivered-laws.mir (past .18)) ⊛ ‵ (fdies arrival-laws.mir (past .19)) ⊛ ‵ (fdies (tyArray (tyInt w8) 128) (past .20))
+          ⊛ ‵ (fdies (tyArray (tyInt w8) 256) (past .21)) ⊛ ‵ (fdies (tyRef erased imm (pointee (L .written))) (past .22)) ⊛ ‵
+          (fdies (tyRef erased mut (tyArray (tyInt w8) 128)) (past .23)) ⊛ ‵
+          (fdies (tyRef erased mut (tyArray (tyInt w8) 256)) (past .24)) ⊛ ‵
+          (fdies (tyRef erased imm (tyArray (tyInt w32) 32)) (past .25)) ⊛ ‵
+          (fdies (tyRef erased imm (tyArray (tyInt w32) 128)) (past .26)) ⊛ ‵
+          (fdies (tyRef erased imm (tyArray (tyInt w32) 32)) (past .27)) ⊛ ‵
+          (fdies (tyRef erased imm (tyArray (tyInt w8) 32)) (past .28)) ⊛ ‵
           (fdies (tyRef erased mut (tyArray (tyInt w32) 128)) (past .29)) ⊛ ‵
-          (fdies (tyRef erased mut (tyArray (tyInt w32) 128)) (past .30)) ⊛ ‵ (fdies (tyRef erased mut (tyInt w8)) (past .31)) ⊛ ‵
-          (fdies (sliceTy (tyRef erased mut (tyInt w8))) (past .32))) ∷ ‵ (flft κ₁ q₁) ∷ ‵ (flft κ₂ q₂) ∷ ‵ (flft κ₄ q₄)
+          (fdies (tyRef erased mut (tyArray (tyInt w32) 128)) (past .30)) ⊛ ‵
+          (fdies (tyRef erased mut (tyArray (tyInt w32) 128)) (past .31)) ⊛ ‵ (fdies (tyRef erased mut (tyInt w8)) (past .32)) ⊛ ‵
+          (fdies (sliceTy (tyRef erased mut (tyInt w8))) (past .33))) ∷ ‵ (flft κ₁ q₁) ∷ ‵ (flft κ₂ q₂) ∷ ‵ (flft κ₄ q₄)
           ∷ ‵ (flft κ₅ q₅) ∷ ‵ Own₁ ∷ ‵ Own₂ ∷ ‵ Own₄ ∷ ‵ Own₅
-          ∷ ‵ (froom (sliceTy (tyRef erased mut (tyInt w8))) (past .32) 0) ∷ ‵ (froom (tyRef erased mut (tyInt w8)) (past .31) 0)
+          ∷ ‵ (froom (sliceTy (tyRef erased mut (tyInt w8))) (past .33) 0) ∷ ‵ (froom (tyRef erased mut (tyInt w8)) (past .32) 0)
+          ∷ ‵ (froom (tyRef erased mut (tyArray (tyInt w32) 128)) (past .31) 0)
           ∷ ‵ (froom (tyRef erased mut (tyArray (tyInt w32) 128)) (past .30) 0)
           ∷ ‵ (froom (tyRef erased mut (tyArray (tyInt w32) 128)) (past .29) 0)
-          ∷ ‵ (froom (tyRef erased mut (tyArray (tyInt w32) 128)) (past .28) 0)
-          ∷ ‵ (froom (tyRef erased imm (tyArray (tyInt w8) 32)) (past .27) 0)
-          ∷ ‵ (froom (tyRef erased imm (tyArray (tyInt w32) 32)) (past .26) 0)
-          ∷ ‵ (froom (tyRef erased imm (tyArray (tyInt w32) 128)) (past .25) 0)
-          ∷ ‵ (fat fullShare (tyRef erased imm (tyArray (tyInt w32) 32)) (past .24) 0 ((vptr b (o + 636))))
-          ∷ ‵ (fat fullShare (tyRef erased mut (tyArray (tyInt w8) 256)) (past .23) 0 ((vptr (past .10) 0)))
-          ∷ ‵ (fat fullShare (tyRef erased mut (tyArray (tyInt w8) 256)) (past .22) 0 ((vptr (past .9) 0)))
-          ∷ ‵ (fat fullShare (tyRef erased imm (pointee (L .written))) (past .21) 0 ((vptr b o)))
-          ∷ ‵ (fat fullShare (tyArray (tyInt w8) 256) (past .20) 0 ((past .33))) ∷ ‵ (froom arrival-laws.mir (past .19) 0)
-          ∷ ‵ (froom delivered-laws.mir (past .18) 0) ∷ ‵ (fat fullShare (tyInt w64) (past .17) 0 ((past .53)))
-          ∷ ‵ (fat fullShare tyBool (past .16) 0 ((past .49)))
+          ∷ ‵ (froom (tyRef erased imm (tyArray (tyInt w8) 32)) (past .28) 0)
+          ∷ ‵ (froom (tyRef erased imm (tyArray (tyInt w32) 32)) (past .27) 0)
+          ∷ ‵ (froom (tyRef erased imm (tyArray (tyInt w32) 128)) (past .26) 0)
+          ∷ ‵ (fat fullShare (tyRef erased imm (tyArray (tyInt w32) 32)) (past .25) 0 ((vptr b (o + 636))))
+          ∷ ‵ (fat fullShare (tyRef erased mut (tyArray (tyInt w8) 256)) (past .24) 0 ((vptr (past .10) 0)))
+          ∷ ‵ (fat fullShare (tyRef erased mut (tyArray (tyInt w8) 128)) (past .23) 0 ((vptr (past .9) 0)))
+          ∷ ‵ (fat fullShare (tyRef erased imm (pointee (L .written))) (past .22) 0 ((vptr b o)))
+          ∷ ‵ (fat fullShare (tyArray (tyInt w8) 256) (past .21) 0 ((past .35)))
+          ∷ ‵ (fat fullShare (tyArray (tyInt w8) 128) (past .20) 0 ((past .34))) ∷ ‵ (froom arrival-laws.mir (past .19) 0)
+          ∷ ‵ (froom delivered-laws.mir (past .18) 0) ∷ ‵ (fat fullShare (tyInt w64) (past .17) 0 ((past .55)))
+          ∷ ‵ (fat fullShare tyBool (past .16) 0 ((past .51)))
           ∷ ‵ (fat fullShare clock-laws.mir (past .15) 0 ((only ((LL.vals clock-row.the-type clock-laws.the-laws) (h .clock)))))
           ∷ ‵ (fat fullShare arrival-laws.mir (past .14) 0 ((only ((LL.vals arrival-row.the-type arrival-laws.the-laws) (h .arrival)))))
           ∷ ‵ (fat fullShare flight-laws.mir (past .13) 0 ((only ((LL.vals flight-row.the-type flight-laws.the-laws) (h .flight)))))
           ∷ ‵ (fat fullShare settings-laws.mir (past .12) 0
           ((only ((LL.vals settings-row.the-type settings-laws.the-laws) (h .settings)))))
-          ∷ ‵ (fat fullShare tyBool (past .11) 0 ((past .35)))
+          ∷ ‵ (fat fullShare tyBool (past .11) 0 ((past .37)))
           ∷ ‵ (fat fullShare (sliceTy (tyRef (named 5) mut (tyInt w8))) (past .8) 0 (s₅))
           ∷ ‵ (fat fullShare (sliceTy (tyRef (named 4) imm (tyInt w32))) (past .7) 0 (s₄))
           ∷ ‵ (fat fullShare (sliceTy (tyRef (named 3) imm (pointee (R .written)))) (past .6) 0 (s₃))
@@ -1156,28 +1173,28 @@ module _ {M : Type 1} (𝓤 : URA M) (H : Heap 𝓤) (A : Atoms 𝓤) (W : Given
           ∷ ‵ (fat fullShare (tyRef (named 0) mut (pointee (L .written))) (past .3) 0 (vptr b o)) ∷ ‵ (froom (tyInt w32) (past .2) 0)
           ∷ []) ∵ exec ! C Λ (En (past .2) (past .3) (past .4) (past .5) (past .6) (past .7) (past .8) (past .9) (past .10) (past .11)
           (past .12) (past .13) (past .14) (past .15) (past .16) (past .17) (past .18) (past .19) (past .20) (past .21) (past .22)
-          (past .23) (past .24) (past .25) (past .26) (past .27) (past .28) (past .29) (past .30) (past .31) (past .32))
+          (past .23) (past .24) (past .25) (past .26) (past .27) (past .28) (past .29) (past .30) (past .31) (past .32) (past .33))
           (behind 15 (code.function .body)) (atRet (En (past .2) (past .3) (past .4) (past .5) (past .6) (past .7) (past .8) (past .9)
           (past .10) (past .11) (past .12) (past .13) (past .14) (past .15) (past .16) (past .17) (past .18) (past .19) (past .20)
           (past .21) (past .22) (past .23) (past .24) (past .25) (past .26) (past .27) (past .28) (past .29) (past .30) (past .31)
-          (past .32)) Post) $
-          assigns ! {v = (vptr b (o + 124))} (addr ! (from ! (hop ! (look ! 51 refl) (fld ! {d = 124} refl (stop !))))) (from ! (stop !))
+          (past .32) (past .33)) Post) $
+          assigns ! {v = (vptr b (o + 124))} (addr ! (from ! (hop ! (look ! 52 refl) (fld ! {d = 124} refl (stop !))))) (from ! (stop !))
           (init ! 31 refl (tt, tt)) $
-          assigns ! {v = (vptr b (o + 636))} (addr ! (from ! (hop ! (look ! 51 refl) (fld ! {d = 636} refl (stop !))))) (from ! (stop !))
+          assigns ! {v = (vptr b (o + 636))} (addr ! (from ! (hop ! (look ! 52 refl) (fld ! {d = 636} refl (stop !))))) (from ! (stop !))
           (init ! 30 refl (tt, tt)) $
-          assigns ! {v = (vptr b (o + 764))} (addr ! (from ! (hop ! (look ! 51 refl) (fld ! {d = 764} refl (stop !))))) (from ! (stop !))
+          assigns ! {v = (vptr b (o + 764))} (addr ! (from ! (hop ! (look ! 52 refl) (fld ! {d = 764} refl (stop !))))) (from ! (stop !))
           (init ! 29 refl (tt, tt)) $
-          assigns ! {v = (vptr b (o + 796))} (addr ! (from ! (hop ! (look ! 51 refl) (fld ! {d = 796} refl (stop !))))) (from ! (stop !))
+          assigns ! {v = (vptr b (o + 796))} (addr ! (from ! (hop ! (look ! 52 refl) (fld ! {d = 796} refl (stop !))))) (from ! (stop !))
           (init ! 28 refl (tt, tt)) $
-          assigns ! {v = (vptr b (o + 1308))} (addr ! (from ! (hop ! (look ! 51 refl) (fld ! {d = 1308} refl (stop !))))) (from ! (stop !))
+          assigns ! {v = (vptr b (o + 1308))} (addr ! (from ! (hop ! (look ! 52 refl) (fld ! {d = 1308} refl (stop !))))) (from ! (stop !))
           (init ! 27 refl (tt, tt)) $
-          assigns ! {v = (vptr b (o + 1820))} (addr ! (from ! (hop ! (look ! 51 refl) (fld ! {d = 1820} refl (stop !))))) (from ! (stop !))
+          assigns ! {v = (vptr b (o + 1820))} (addr ! (from ! (hop ! (look ! 52 refl) (fld ! {d = 1820} refl (stop !))))) (from ! (stop !))
           (init ! 26 refl (tt, tt)) $
           assigns ! {v = (vptr (x₅ .ptr .0) (x₅ .ptr .1))}
-          (addr ! (from ! (fld ! refl (hop ! (look-in ! 46 (sub ! 0 refl (whole !))) (stop !))))) (from ! (stop !))
+          (addr ! (from ! (fld ! refl (hop ! (look-in ! 47 (sub ! 0 refl (whole !))) (stop !))))) (from ! (stop !))
           (init ! 25 refl (tt, tt)) $
           assigns ! {v = s₅} (agg ! (and-then ! (load ! (from ! (stop !)) (look ! 25 refl))
-          (and-then ! (load ! (from ! (fld ! refl (stop !))) (look-in ! 46 (sub ! 1 refl (whole !)))) (no-more !)))) (from ! (stop !))
+          (and-then ! (load ! (from ! (fld ! refl (stop !))) (look-in ! 47 (sub ! 1 refl (whole !)))) (no-more !)))) (from ! (stop !))
           (init ! 24 refl (tt, (tt, (record { fits = room₅ .0 }, tt)))) $
           move ! (10 ∷ []) $ lend-shr ! tt fullShare (Array u32 128) (h .queued) b (o + 124)
           (λ α-queued δ-queued. move ! (4 ∷ []) $
@@ -1192,15 +1209,15 @@ module _ {M : Type 1} (𝓤 : URA M) (H : Heap 𝓤) (A : Atoms 𝓤) (W : Given
           lend-mut ! tt (Array u32 128) (h .«waiting_numbers») b (o + 1820)
           (λ α-waiting-numbers δ-waiting-numbers. move ! (15 ∷ 16 ∷ 12 ∷ 13 ∷ 9 ∷ 10 ∷ 6 ∷ 7 ∷ 3 ∷ 4 ∷ 0 ∷ 1 ∷ 28 ∷ 32 ∷ 29
           ∷ 33 ∷ 30 ∷ 34 ∷ 31 ∷ 35 ∷ []) $ group ! 20 $
-          calls-fn ! fm core.ended (core.clauses 𝓤 H A at-mem run) (known .4)
+          calls-fn ! fm core.ended (core.clauses 𝓤 H A at-mem run) (known .5)
           (to-core α-queued δ-queued (h .queued) α-outstanding′ δ-outstanding′ (h .outstanding) α-transmissions δ-transmissions
           (h .transmissions) α-ready δ-ready (h .ready) α-waiting δ-waiting (h .waiting) α-waiting-numbers δ-waiting-numbers
           (h .«waiting_numbers») (h .settings) (only ((LL.vals settings-row.the-type settings-laws.the-laws) (h .settings))) (h .flight)
           (only ((LL.vals flight-row.the-type flight-laws.the-laws) (h .flight))) (h .arrival)
           (only ((LL.vals arrival-row.the-type arrival-laws.the-laws) (h .arrival))) (h .clock)
-          (only ((LL.vals clock-row.the-type clock-laws.the-laws) (h .clock))) (past .34) (past .35) (past .48) (past .49) (past .52)
-          (past .53)) (λ a ws-a. ByFlown h (past .48)
-          (λ recs. ReadOver h recs (past .52) (x₁ .now) (x₂ .now) (x₄ .now) (x₅ .now) (a .answer)
+          (only ((LL.vals clock-row.the-type clock-laws.the-laws) (h .clock))) (past .36) (past .37) (past .50) (past .51) (past .54)
+          (past .55)) (λ a ws-a. ByFlown h (past .50)
+          (λ recs. ReadOver h recs (past .54) (x₁ .now) (x₂ .now) (x₄ .now) (x₅ .now) (a .answer)
           (linkOf (h .settings) (h .flight) (a .arrival) (h .clock)
           (arrays (h .queued) (h .outstanding) (h .transmissions) (ws-a .1 .1 .1 .1 .1 .1 .1 .1 .1 .1 .0)
           (ws-a .1 .1 .1 .1 .1 .1 .1 .1 .1 .1 .1 .0) (ws-a .1 .1 .1 .1 .1 .1 .1 .1 .1 .1 .1 .1 .0)))
@@ -1219,44 +1236,44 @@ module _ {M : Type 1} (𝓤 : URA M) (H : Heap 𝓤) (A : Atoms 𝓤) (W : Given
           Own₄ ⊛ ‵ (flft κ₅ q₅) ⊛ ‵ Own₅)
           (asks-core α-queued δ-queued (h .queued) α-outstanding′ δ-outstanding′ (h .outstanding) α-transmissions δ-transmissions
           (h .transmissions) α-ready δ-ready (h .ready) α-waiting δ-waiting (h .waiting) α-waiting-numbers δ-waiting-numbers
-          (h .«waiting_numbers») (h .settings) (only ((LL.vals settings-row.the-type settings-laws.the-laws) (h .settings))) (past .44)
-          (h .flight) (only ((LL.vals flight-row.the-type flight-laws.the-laws) (h .flight))) (past .45) (h .arrival)
-          (only ((LL.vals arrival-row.the-type arrival-laws.the-laws) (h .arrival))) (past .46) (h .clock)
-          (only ((LL.vals clock-row.the-type clock-laws.the-laws) (h .clock))) (past .47) (past .34) (past .35) (past .37) (past .48)
-          (past .49) (past .51) (past .52) (past .53) (past .55) (
+          (h .«waiting_numbers») (h .settings) (only ((LL.vals settings-row.the-type settings-laws.the-laws) (h .settings))) (past .46)
+          (h .flight) (only ((LL.vals flight-row.the-type flight-laws.the-laws) (h .flight))) (past .47) (h .arrival)
+          (only ((LL.vals arrival-row.the-type arrival-laws.the-laws) (h .arrival))) (past .48) (h .clock)
+          (only ((LL.vals clock-row.the-type clock-laws.the-laws) (h .clock))) (past .49) (past .36) (past .37) (past .39) (past .50)
+          (past .51) (past .53) (past .54) (past .55) (past .57) (
             record {
-              whole-queued = (past .38);
-              whole-outstanding = (past .39);
-              whole-transmissions = (past .40);
-              whole-ready = (past .41);
-              whole-waiting = (past .42);
-              whole-numbers = (past .43);
+              whole-queued = (past .40);
+              whole-outstanding = (past .41);
+              whole-transmissions = (past .42);
+              whole-ready = (past .43);
+              whole-waiting = (past .44);
+              whole-numbers = (past .45);
             },
             (
               (padded (gathered (take sendSlots (x₃ .now)) (slotsIn (h .outstanding) (h .flight .outstanding)))),
-              (record { whole = padded-whole (take sendSlots (x₃ .now)) (h .outstanding) (h .flight .outstanding); fits = (past .50) }),
+              (record { whole = padded-whole (take sendSlots (x₃ .now)) (h .outstanding) (h .flight .outstanding); fits = (past .52) }),
             ),
-            ((past .1), ((past .0), (past .36))),
+            ((past .1), ((past .0), (past .38))),
           )) (λ a ws-a. id⊢ 𝓤 _)
+          (and-then ! (load ! (from ! (stop !)) (look ! 38 refl))
           (and-then ! (load ! (from ! (stop !)) (look ! 37 refl))
           (and-then ! (load ! (from ! (stop !)) (look ! 36 refl))
           (and-then ! (load ! (from ! (stop !)) (look ! 35 refl))
+          (and-then ! (load ! (from ! (stop !)) (look ! 39 refl))
           (and-then ! (load ! (from ! (stop !)) (look ! 34 refl))
-          (and-then ! (load ! (from ! (stop !)) (look ! 38 refl))
           (and-then ! (load ! (from ! (stop !)) (look ! 33 refl))
-          (and-then ! (load ! (from ! (stop !)) (look ! 32 refl))
           (and-then ! (load ! (from ! (stop !)) (look ! 24 refl))
           (and-then ! (load ! (from ! (stop !)) (look ! 23 refl))
           (and-then ! (load ! (from ! (stop !)) (look ! 22 refl))
           (and-then ! (load ! (from ! (stop !)) (look ! 21 refl))
           (and-then ! (load ! (from ! (stop !)) (look ! 20 refl))
           (and-then ! (load ! (from ! (stop !)) (look ! 19 refl))
+          (and-then ! (load ! (from ! (stop !)) (look ! 44 refl))
           (and-then ! (load ! (from ! (stop !)) (look ! 43 refl))
-          (and-then ! (load ! (from ! (stop !)) (look ! 42 refl))
-          (and-then ! (load ! (from ! (stop !)) (look ! 40 refl))
+          (and-then ! (load ! (from ! (stop !)) (look ! 41 refl))
           (and-then ! (load ! (from ! (stop !)) (look ! 17 refl)) (no-more !))))))))))))))))))
           (λ a w-a ws-a e-a is-a. land ! (from ! (stop !))
-          (init ! 32 refl (LL.lawful delivered-row.the-type delivered-laws.the-laws 𝓤 H A W .typed a (w-a ∷ []) is-a .0)) $
+          (init ! 33 refl (LL.lawful delivered-row.the-type delivered-laws.the-laws 𝓤 H A W .typed a (w-a ∷ []) is-a .0)) $
           spread W (‵ (flft (α-queued ∷ []) fullShare))
           (‵ (flft (α-outstanding′ ∷ []) fullShare) ∷ ‵ (flft (α-transmissions ∷ []) fullShare) ∷ ‵ (flft (α-ready ∷ []) fullShare)
           ∷ ‵ (flft (α-waiting ∷ []) fullShare) ∷ ‵ (flft (α-waiting-numbers ∷ []) fullShare) ∷ ‵ (flft κ₁ q₁)
@@ -1269,7 +1286,7 @@ module _ {M : Type 1} (𝓤 : URA M) (H : Heap 𝓤) (A : Atoms 𝓤) (W : Given
           (feq ℕ (length (ws-a .1 .1 .1 .1 .1 .1 .1 .1 .1 .1 .1 .1 .1 .1 .1 .1 .0)) (length (x₅ .now)))) ∷ ‵ ftrue ∷ []) (id⊢ 𝓤 _) $
           keep ! (10 ∷ 11 ∷ 12 ∷ 16 ∷ 18 ∷ 19 ∷ 20 ∷ 21 ∷ 22 ∷ 23 ∷ 24 ∷ 25 ∷ 26 ∷ 27 ∷ 29 ∷ 30 ∷ 31 ∷ 32 ∷ 33 ∷ 34
           ∷ 35 ∷ 36 ∷ 37 ∷ 38 ∷ 39 ∷ 40 ∷ 41 ∷ 42 ∷ 43 ∷ 44 ∷ 45 ∷ 46 ∷ 47 ∷ 48 ∷ 49 ∷ 50 ∷ 51 ∷ 52 ∷ 53 ∷ 54 ∷ 55
-          ∷ 56 ∷ 57 ∷ 58 ∷ 59 ∷ 60 ∷ 61 ∷ 62 ∷ 63 ∷ 64 ∷ 65 ∷ 66 ∷ 67 ∷ 68 ∷ 69 ∷ 70 ∷ 71 ∷ 72 ∷ 73 ∷ []) $
+          ∷ 56 ∷ 57 ∷ 58 ∷ 59 ∷ 60 ∷ 61 ∷ 62 ∷ 63 ∷ 64 ∷ 65 ∷ 66 ∷ 67 ∷ 68 ∷ 69 ∷ 70 ∷ 71 ∷ 72 ∷ 73 ∷ 74 ∷ []) $
           move ! (3 ∷ []) $ fsplit ! $ move ! (1 ∷ []) $ feqL ! (λ len₅.
           -- [fin5; fin:ready; fin:waiting; fin:«waiting_numbers»; tok:queued; tok:outstanding; tok:transmissions; tok:ready; tok:waiting;
           -- tok:«waiting_numbers»; tok1; tok2; tok4; tok5; lent:«waiting_numbers»; lent:waiting; lent:ready; lent:transmissions;
@@ -1319,13 +1336,15 @@ module _ {M : Type 1} (𝓤 : URA M) (H : Heap 𝓤) (A : Atoms 𝓤) (W : Given
             (past .31),
             (past .32),
             (past .33),
+            (past .34),
             (past .35),
-            (past .48),
-            (past .49),
+            (past .37),
             (past .50),
+            (past .51),
             (past .52),
-            (past .53),
             (past .54),
+            (past .55),
+            (past .56),
             a,
             w-a,
             e-a,
@@ -1339,45 +1358,47 @@ module _ {M : Type 1} (𝓤 : URA M) (H : Heap 𝓤) (A : Atoms 𝓤) (W : Given
           (l₅ : ℕ) × (l₆ : ℕ) × (l₇ : ℕ) × (l₈ : ℕ) × (l₉ : ℕ) × (l₁₀ : ℕ) × (l₁₁ : ℕ) × (l₁₂ : ℕ) ×
           (l₁₃ : ℕ) × (l₁₄ : ℕ) × (l₁₅ : ℕ) × (l₁₆ : ℕ) × (l₁₇ : ℕ) × (l₁₈ : ℕ) × (l₁₉ : ℕ) ×
           (l₂₀ : ℕ) × (l₂₁ : ℕ) × (l₂₂ : ℕ) × (l₂₃ : ℕ) × (l₂₄ : ℕ) × (l₂₅ : ℕ) × (l₂₆ : ℕ) ×
-          (l₂₇ : ℕ) × (l₂₈ : ℕ) × (l₂₉ : ℕ) × (l₃₀ : ℕ) × (w-receives : Val) × (ok : Bool) × (w-ok : Val) ×
-          (e-ok : Sound h z-sends z-receives ok) × (Is Boolean ok (w-ok ∷ []))
+          (l₂₇ : ℕ) × (l₂₈ : ℕ) × (l₂₉ : ℕ) × (l₃₀ : ℕ) × (l₃₁ : ℕ) × (w-sends : Val) × (w-receives : Val) × (ok : Bool) ×
+          (w-ok : Val) × (e-ok : Sound h z-sends z-receives ok) × (Is Boolean ok (w-ok ∷ []))
 
       part₁ : (past : Known₁) → ent 𝓤 (⋆ 𝓤 H A (‵
           (fat fullShare (tyArray (tyInt w8) 256) (past .10) 0 ((only ((array-vals (uint-vals w8)) (past .0)))))
-          ∷ ‵ (fat fullShare (tyArray (tyInt w8) 256) (past .9) 0 ((only ((array-vals (uint-vals w8)) (past .1)))))
+          ∷ ‵ (fat fullShare (tyArray (tyInt w8) 128) (past .9) 0 ((only ((array-vals (uint-vals w8)) (past .1)))))
           ∷ ‵ (link-own κ₀ b o γ h) ∷ ‵ (flft κ₀ q₀)
           ∷ (‵ (fdies (tyInt w32) (past .2)) ⊛ ‵ (fdies (tyRef (named 0) mut (pointee (L .written))) (past .3)) ⊛ ‵
           (fdies (sliceTy (tyRef (named 1) imm (tyInt w8))) (past .4)) ⊛ ‵ (fdies (sliceTy (tyRef (named 2) imm (tyInt w8))) (past .5)) ⊛ ‵
           (fdies (sliceTy (tyRef (named 3) imm (pointee (R .written)))) (past .6)) ⊛ ‵
           (fdies (sliceTy (tyRef (named 4) imm (tyInt w32))) (past .7)) ⊛ ‵ (fdies (sliceTy (tyRef (named 5) mut (tyInt w8))) (past .8)) ⊛ ‵
-          (fdies (tyArray (tyInt w8) 256) (past .9)) ⊛ ‵ (fdies (tyArray (tyInt w8) 256) (past .10)) ⊛ ‵ (fdies tyBool (past .11)) ⊛ ‵
+          (fdies (tyArray (tyInt w8) 128) (past .9)) ⊛ ‵ (fdies (tyArray (tyInt w8) 256) (past .10)) ⊛ ‵ (fdies tyBool (past .11)) ⊛ ‵
           (fdies settings-laws.mir (past .12)) ⊛ ‵ (fdies flight-laws.mir (past .13)) ⊛ ‵ (fdies arrival-laws.mir (past .14)) ⊛ ‵
           (fdies clock-laws.mir (past .15)) ⊛ ‵ (fdies tyBool (past .16)) ⊛ ‵ (fdies (tyInt w64) (past .17)) ⊛ ‵
-          (fdies delivered-laws.mir (past .18)) ⊛ ‵ (fdies arrival-laws.mir (past .19)) ⊛ ‵ (fdies (tyArray (tyInt w8) 256) (past .20)) ⊛ ‵
-          (fdies (tyRef erased imm (pointee (L .written))) (past .21)) ⊛ ‵ (fdies (tyRef erased mut (tyArray (tyInt w8) 256)) (past .22)) ⊛
-          ‵ (fdies (tyRef erased mut (tyArray (tyInt w8) 256)) (past .23)) ⊛ ‵
-          (fdies (tyRef erased imm (tyArray (tyInt w32) 32)) (past .24)) ⊛ ‵ (fdies (tyRef erased imm (tyArray (tyInt w32) 128)) (past .25))
-          ⊛ ‵ (fdies (tyRef erased imm (tyArray (tyInt w32) 32)) (past .26)) ⊛ ‵
-          (fdies (tyRef erased imm (tyArray (tyInt w8) 32)) (past .27)) ⊛ ‵ (fdies (tyRef erased mut (tyArray (tyInt w32) 128)) (past .28))
-          ⊛ ‵ (fdies (tyRef erased mut (tyArray (tyInt w32) 128)) (past .29)) ⊛ ‵
-          (fdies (tyRef erased mut (tyArray (tyInt w32) 128)) (past .30)) ⊛ ‵ (fdies (tyRef erased mut (tyInt w8)) (past .31)) ⊛ ‵
-          (fdies (sliceTy (tyRef erased mut (tyInt w8))) (past .32))) ∷ ‵ (flft κ₁ q₁) ∷ ‵ (flft κ₂ q₂) ∷ ‵ (flft κ₃ q₃)
+          (fdies delivered-laws.mir (past .18)) ⊛ ‵ (fdies arrival-laws.mir (past .19)) ⊛ ‵ (fdies (tyArray (tyInt w8) 128) (past .20)) ⊛ ‵
+          (fdies (tyArray (tyInt w8) 256) (past .21)) ⊛ ‵ (fdies (tyRef erased imm (pointee (L .written))) (past .22)) ⊛ ‵
+          (fdies (tyRef erased mut (tyArray (tyInt w8) 128)) (past .23)) ⊛ ‵ (fdies (tyRef erased mut (tyArray (tyInt w8) 256)) (past .24))
+          ⊛ ‵ (fdies (tyRef erased imm (tyArray (tyInt w32) 32)) (past .25)) ⊛ ‵
+          (fdies (tyRef erased imm (tyArray (tyInt w32) 128)) (past .26)) ⊛ ‵ (fdies (tyRef erased imm (tyArray (tyInt w32) 32)) (past .27))
+          ⊛ ‵ (fdies (tyRef erased imm (tyArray (tyInt w8) 32)) (past .28)) ⊛ ‵
+          (fdies (tyRef erased mut (tyArray (tyInt w32) 128)) (past .29)) ⊛ ‵
+          (fdies (tyRef erased mut (tyArray (tyInt w32) 128)) (past .30)) ⊛ ‵
+          (fdies (tyRef erased mut (tyArray (tyInt w32) 128)) (past .31)) ⊛ ‵ (fdies (tyRef erased mut (tyInt w8)) (past .32)) ⊛ ‵
+          (fdies (sliceTy (tyRef erased mut (tyInt w8))) (past .33))) ∷ ‵ (flft κ₁ q₁) ∷ ‵ (flft κ₂ q₂) ∷ ‵ (flft κ₃ q₃)
           ∷ ‵ (flft κ₄ q₄) ∷ ‵ (flft κ₅ q₅) ∷ ‵ Own₁ ∷ ‵ Own₂ ∷ ‵ Own₃ ∷ ‵ Own₄ ∷ ‵ Own₅
-          ∷ ‵ (froom (sliceTy (tyRef erased mut (tyInt w8))) (past .32) 0) ∷ ‵ (froom (tyRef erased mut (tyInt w8)) (past .31) 0)
+          ∷ ‵ (froom (sliceTy (tyRef erased mut (tyInt w8))) (past .33) 0) ∷ ‵ (froom (tyRef erased mut (tyInt w8)) (past .32) 0)
+          ∷ ‵ (froom (tyRef erased mut (tyArray (tyInt w32) 128)) (past .31) 0)
           ∷ ‵ (froom (tyRef erased mut (tyArray (tyInt w32) 128)) (past .30) 0)
           ∷ ‵ (froom (tyRef erased mut (tyArray (tyInt w32) 128)) (past .29) 0)
-          ∷ ‵ (froom (tyRef erased mut (tyArray (tyInt w32) 128)) (past .28) 0)
-          ∷ ‵ (froom (tyRef erased imm (tyArray (tyInt w8) 32)) (past .27) 0)
-          ∷ ‵ (froom (tyRef erased imm (tyArray (tyInt w32) 32)) (past .26) 0)
-          ∷ ‵ (froom (tyRef erased imm (tyArray (tyInt w32) 128)) (past .25) 0)
-          ∷ ‵ (froom (tyRef erased imm (tyArray (tyInt w32) 32)) (past .24) 0)
-          ∷ ‵ (fat fullShare (tyRef erased mut (tyArray (tyInt w8) 256)) (past .23) 0 ((vptr (past .10) 0)))
-          ∷ ‵ (fat fullShare (tyRef erased mut (tyArray (tyInt w8) 256)) (past .22) 0 ((vptr (past .9) 0)))
-          ∷ ‵ (fat fullShare (tyRef erased imm (pointee (L .written))) (past .21) 0 ((vptr b o)))
-          ∷ ‵ (fat fullShare (tyArray (tyInt w8) 256) (past .20) 0 ((past .33))) ∷ ‵ (froom arrival-laws.mir (past .19) 0)
+          ∷ ‵ (froom (tyRef erased imm (tyArray (tyInt w8) 32)) (past .28) 0)
+          ∷ ‵ (froom (tyRef erased imm (tyArray (tyInt w32) 32)) (past .27) 0)
+          ∷ ‵ (froom (tyRef erased imm (tyArray (tyInt w32) 128)) (past .26) 0)
+          ∷ ‵ (froom (tyRef erased imm (tyArray (tyInt w32) 32)) (past .25) 0)
+          ∷ ‵ (fat fullShare (tyRef erased mut (tyArray (tyInt w8) 256)) (past .24) 0 ((vptr (past .10) 0)))
+          ∷ ‵ (fat fullShare (tyRef erased mut (tyArray (tyInt w8) 128)) (past .23) 0 ((vptr (past .9) 0)))
+          ∷ ‵ (fat fullShare (tyRef erased imm (pointee (L .written))) (past .22) 0 ((vptr b o)))
+          ∷ ‵ (fat fullShare (tyArray (tyInt w8) 256) (past .21) 0 ((past .35)))
+          ∷ ‵ (fat fullShare (tyArray (tyInt w8) 128) (past .20) 0 ((past .34))) ∷ ‵ (froom arrival-laws.mir (past .19) 0)
           ∷ ‵ (froom delivered-laws.mir (past .18) 0) ∷ ‵ (froom (tyInt w64) (past .17) 0) ∷ ‵ (froom tyBool (past .16) 0)
           ∷ ‵ (froom clock-laws.mir (past .15) 0) ∷ ‵ (froom arrival-laws.mir (past .14) 0) ∷ ‵ (froom flight-laws.mir (past .13) 0)
-          ∷ ‵ (froom settings-laws.mir (past .12) 0) ∷ ‵ (fat fullShare tyBool (past .11) 0 ((past .35)))
+          ∷ ‵ (froom settings-laws.mir (past .12) 0) ∷ ‵ (fat fullShare tyBool (past .11) 0 ((past .37)))
           ∷ ‵ (fat fullShare (sliceTy (tyRef (named 5) mut (tyInt w8))) (past .8) 0 (s₅))
           ∷ ‵ (fat fullShare (sliceTy (tyRef (named 4) imm (tyInt w32))) (past .7) 0 (s₄))
           ∷ ‵ (fat fullShare (sliceTy (tyRef (named 3) imm (pointee (R .written)))) (past .6) 0 (s₃))
@@ -1386,50 +1407,51 @@ module _ {M : Type 1} (𝓤 : URA M) (H : Heap 𝓤) (A : Atoms 𝓤) (W : Given
           ∷ ‵ (fat fullShare (tyRef (named 0) mut (pointee (L .written))) (past .3) 0 (vptr b o)) ∷ ‵ (froom (tyInt w32) (past .2) 0) ∷ []))
           (Wp 𝓤 H C Λ (En (past .2) (past .3) (past .4) (past .5) (past .6) (past .7) (past .8) (past .9) (past .10) (past .11) (past .12)
           (past .13) (past .14) (past .15) (past .16) (past .17) (past .18) (past .19) (past .20) (past .21) (past .22) (past .23)
-          (past .24) (past .25) (past .26) (past .27) (past .28) (past .29) (past .30) (past .31) (past .32))
+          (past .24) (past .25) (past .26) (past .27) (past .28) (past .29) (past .30) (past .31) (past .32) (past .33))
           (behind 8 (code.function .body)) (atReturn 𝓤 H
           (En (past .2) (past .3) (past .4) (past .5) (past .6) (past .7) (past .8) (past .9) (past .10) (past .11) (past .12) (past .13)
           (past .14) (past .15) (past .16) (past .17) (past .18) (past .19) (past .20) (past .21) (past .22) (past .23) (past .24)
-          (past .25) (past .26) (past .27) (past .28) (past .29) (past .30) (past .31) (past .32)) Post))
+          (past .25) (past .26) (past .27) (past .28) (past .29) (past .30) (past .31) (past .32) (past .33)) Post))
       part₁ past =
           qed W (‵ (fat fullShare (tyArray (tyInt w8) 256) (past .10) 0 ((only ((array-vals (uint-vals w8)) (past .0)))))
-          ∷ ‵ (fat fullShare (tyArray (tyInt w8) 256) (past .9) 0 ((only ((array-vals (uint-vals w8)) (past .1)))))
+          ∷ ‵ (fat fullShare (tyArray (tyInt w8) 128) (past .9) 0 ((only ((array-vals (uint-vals w8)) (past .1)))))
           ∷ ‵ (link-own κ₀ b o γ h) ∷ ‵ (flft κ₀ q₀)
           ∷ (‵ (fdies (tyInt w32) (past .2)) ⊛ ‵ (fdies (tyRef (named 0) mut (pointee (L .written))) (past .3)) ⊛ ‵
           (fdies (sliceTy (tyRef (named 1) imm (tyInt w8))) (past .4)) ⊛ ‵ (fdies (sliceTy (tyRef (named 2) imm (tyInt w8))) (past .5))
           ⊛ ‵ (fdies (sliceTy (tyRef (named 3) imm (pointee (R .written)))) (past .6)) ⊛ ‵
           (fdies (sliceTy (tyRef (named 4) imm (tyInt w32))) (past .7)) ⊛ ‵ (fdies (sliceTy (tyRef (named 5) mut (tyInt w8))) (past .8))
-          ⊛ ‵ (fdies (tyArray (tyInt w8) 256) (past .9)) ⊛ ‵ (fdies (tyArray (tyInt w8) 256) (past .10)) ⊛ ‵ (fdies tyBool (past .11)) ⊛
+          ⊛ ‵ (fdies (tyArray (tyInt w8) 128) (past .9)) ⊛ ‵ (fdies (tyArray (tyInt w8) 256) (past .10)) ⊛ ‵ (fdies tyBool (past .11)) ⊛
           ‵ (fdies settings-laws.mir (past .12)) ⊛ ‵ (fdies flight-laws.mir (past .13)) ⊛ ‵ (fdies arrival-laws.mir (past .14)) ⊛ ‵
           (fdies clock-laws.mir (past .15)) ⊛ ‵ (fdies tyBool (past .16)) ⊛ ‵ (fdies (tyInt w64) (past .17)) ⊛ ‵
-          (fdies delivered-laws.mir (past .18)) ⊛ ‵ (fdies arrival-laws.mir (past .19)) ⊛ ‵ (fdies (tyArray (tyInt w8) 256) (past .20))
-          ⊛ ‵ (fdies (tyRef erased imm (pointee (L .written))) (past .21)) ⊛ ‵
-          (fdies (tyRef erased mut (tyArray (tyInt w8) 256)) (past .22)) ⊛ ‵
-          (fdies (tyRef erased mut (tyArray (tyInt w8) 256)) (past .23)) ⊛ ‵
-          (fdies (tyRef erased imm (tyArray (tyInt w32) 32)) (past .24)) ⊛ ‵
-          (fdies (tyRef erased imm (tyArray (tyInt w32) 128)) (past .25)) ⊛ ‵
-          (fdies (tyRef erased imm (tyArray (tyInt w32) 32)) (past .26)) ⊛ ‵
-          (fdies (tyRef erased imm (tyArray (tyInt w8) 32)) (past .27)) ⊛ ‵
-          (fdies (tyRef erased mut (tyArray (tyInt w32) 128)) (past .28)) ⊛ ‵
+          (fdies delivered-laws.mir (past .18)) ⊛ ‵ (fdies arrival-laws.mir (past .19)) ⊛ ‵ (fdies (tyArray (tyInt w8) 128) (past .20))
+          ⊛ ‵ (fdies (tyArray (tyInt w8) 256) (past .21)) ⊛ ‵ (fdies (tyRef erased imm (pointee (L .written))) (past .22)) ⊛ ‵
+          (fdies (tyRef erased mut (tyArray (tyInt w8) 128)) (past .23)) ⊛ ‵
+          (fdies (tyRef erased mut (tyArray (tyInt w8) 256)) (past .24)) ⊛ ‵
+          (fdies (tyRef erased imm (tyArray (tyInt w32) 32)) (past .25)) ⊛ ‵
+          (fdies (tyRef erased imm (tyArray (tyInt w32) 128)) (past .26)) ⊛ ‵
+          (fdies (tyRef erased imm (tyArray (tyInt w32) 32)) (past .27)) ⊛ ‵
+          (fdies (tyRef erased imm (tyArray (tyInt w8) 32)) (past .28)) ⊛ ‵
           (fdies (tyRef erased mut (tyArray (tyInt w32) 128)) (past .29)) ⊛ ‵
-          (fdies (tyRef erased mut (tyArray (tyInt w32) 128)) (past .30)) ⊛ ‵ (fdies (tyRef erased mut (tyInt w8)) (past .31)) ⊛ ‵
-          (fdies (sliceTy (tyRef erased mut (tyInt w8))) (past .32))) ∷ ‵ (flft κ₁ q₁) ∷ ‵ (flft κ₂ q₂) ∷ ‵ (flft κ₃ q₃)
+          (fdies (tyRef erased mut (tyArray (tyInt w32) 128)) (past .30)) ⊛ ‵
+          (fdies (tyRef erased mut (tyArray (tyInt w32) 128)) (past .31)) ⊛ ‵ (fdies (tyRef erased mut (tyInt w8)) (past .32)) ⊛ ‵
+          (fdies (sliceTy (tyRef erased mut (tyInt w8))) (past .33))) ∷ ‵ (flft κ₁ q₁) ∷ ‵ (flft κ₂ q₂) ∷ ‵ (flft κ₃ q₃)
           ∷ ‵ (flft κ₄ q₄) ∷ ‵ (flft κ₅ q₅) ∷ ‵ Own₁ ∷ ‵ Own₂ ∷ ‵ Own₃ ∷ ‵ Own₄ ∷ ‵ Own₅
-          ∷ ‵ (froom (sliceTy (tyRef erased mut (tyInt w8))) (past .32) 0) ∷ ‵ (froom (tyRef erased mut (tyInt w8)) (past .31) 0)
+          ∷ ‵ (froom (sliceTy (tyRef erased mut (tyInt w8))) (past .33) 0) ∷ ‵ (froom (tyRef erased mut (tyInt w8)) (past .32) 0)
+          ∷ ‵ (froom (tyRef erased mut (tyArray (tyInt w32) 128)) (past .31) 0)
           ∷ ‵ (froom (tyRef erased mut (tyArray (tyInt w32) 128)) (past .30) 0)
           ∷ ‵ (froom (tyRef erased mut (tyArray (tyInt w32) 128)) (past .29) 0)
-          ∷ ‵ (froom (tyRef erased mut (tyArray (tyInt w32) 128)) (past .28) 0)
-          ∷ ‵ (froom (tyRef erased imm (tyArray (tyInt w8) 32)) (past .27) 0)
-          ∷ ‵ (froom (tyRef erased imm (tyArray (tyInt w32) 32)) (past .26) 0)
-          ∷ ‵ (froom (tyRef erased imm (tyArray (tyInt w32) 128)) (past .25) 0)
-          ∷ ‵ (froom (tyRef erased imm (tyArray (tyInt w32) 32)) (past .24) 0)
-          ∷ ‵ (fat fullShare (tyRef erased mut (tyArray (tyInt w8) 256)) (past .23) 0 ((vptr (past .10) 0)))
-          ∷ ‵ (fat fullShare (tyRef erased mut (tyArray (tyInt w8) 256)) (past .22) 0 ((vptr (past .9) 0)))
-          ∷ ‵ (fat fullShare (tyRef erased imm (pointee (L .written))) (past .21) 0 ((vptr b o)))
-          ∷ ‵ (fat fullShare (tyArray (tyInt w8) 256) (past .20) 0 ((past .33))) ∷ ‵ (froom arrival-laws.mir (past .19) 0)
+          ∷ ‵ (froom (tyRef erased imm (tyArray (tyInt w8) 32)) (past .28) 0)
+          ∷ ‵ (froom (tyRef erased imm (tyArray (tyInt w32) 32)) (past .27) 0)
+          ∷ ‵ (froom (tyRef erased imm (tyArray (tyInt w32) 128)) (past .26) 0)
+          ∷ ‵ (froom (tyRef erased imm (tyArray (tyInt w32) 32)) (past .25) 0)
+          ∷ ‵ (fat fullShare (tyRef erased mut (tyArray (tyInt w8) 256)) (past .24) 0 ((vptr (past .10) 0)))
+          ∷ ‵ (fat fullShare (tyRef erased mut (tyArray (tyInt w8) 128)) (past .23) 0 ((vptr (past .9) 0)))
+          ∷ ‵ (fat fullShare (tyRef erased imm (pointee (L .written))) (past .22) 0 ((vptr b o)))
+          ∷ ‵ (fat fullShare (tyArray (tyInt w8) 256) (past .21) 0 ((past .35)))
+          ∷ ‵ (fat fullShare (tyArray (tyInt w8) 128) (past .20) 0 ((past .34))) ∷ ‵ (froom arrival-laws.mir (past .19) 0)
           ∷ ‵ (froom delivered-laws.mir (past .18) 0) ∷ ‵ (froom (tyInt w64) (past .17) 0) ∷ ‵ (froom tyBool (past .16) 0)
           ∷ ‵ (froom clock-laws.mir (past .15) 0) ∷ ‵ (froom arrival-laws.mir (past .14) 0) ∷ ‵ (froom flight-laws.mir (past .13) 0)
-          ∷ ‵ (froom settings-laws.mir (past .12) 0) ∷ ‵ (fat fullShare tyBool (past .11) 0 ((past .35)))
+          ∷ ‵ (froom settings-laws.mir (past .12) 0) ∷ ‵ (fat fullShare tyBool (past .11) 0 ((past .37)))
           ∷ ‵ (fat fullShare (sliceTy (tyRef (named 5) mut (tyInt w8))) (past .8) 0 (s₅))
           ∷ ‵ (fat fullShare (sliceTy (tyRef (named 4) imm (tyInt w32))) (past .7) 0 (s₄))
           ∷ ‵ (fat fullShare (sliceTy (tyRef (named 3) imm (pointee (R .written)))) (past .6) 0 (s₃))
@@ -1438,11 +1460,11 @@ module _ {M : Type 1} (𝓤 : URA M) (H : Heap 𝓤) (A : Atoms 𝓤) (W : Given
           ∷ ‵ (fat fullShare (tyRef (named 0) mut (pointee (L .written))) (past .3) 0 (vptr b o)) ∷ ‵ (froom (tyInt w32) (past .2) 0)
           ∷ []) ∵ exec ! C Λ (En (past .2) (past .3) (past .4) (past .5) (past .6) (past .7) (past .8) (past .9) (past .10) (past .11)
           (past .12) (past .13) (past .14) (past .15) (past .16) (past .17) (past .18) (past .19) (past .20) (past .21) (past .22)
-          (past .23) (past .24) (past .25) (past .26) (past .27) (past .28) (past .29) (past .30) (past .31) (past .32))
+          (past .23) (past .24) (past .25) (past .26) (past .27) (past .28) (past .29) (past .30) (past .31) (past .32) (past .33))
           (behind 8 (code.function .body)) (atRet (En (past .2) (past .3) (past .4) (past .5) (past .6) (past .7) (past .8) (past .9)
           (past .10) (past .11) (past .12) (past .13) (past .14) (past .15) (past .16) (past .17) (past .18) (past .19) (past .20)
           (past .21) (past .22) (past .23) (past .24) (past .25) (past .26) (past .27) (past .28) (past .29) (past .30) (past .31)
-          (past .32)) Post) $
+          (past .32) (past .33)) Post) $
           move ! (2 ∷ 3 ∷ []) $ opens-link b o γ ! tt h $
           -- [F:settings; F:flight; F:arrival; F:clock; F:queued; F:outstanding; F:transmissions; F:ready; F:waiting; F:«waiting_numbers»;
           -- back; opened; deaths; tok1; tok2; tok3; tok4; tok5; own1; own2; own3; own4; own5; the locals]
@@ -1461,42 +1483,42 @@ module _ {M : Type 1} (𝓤 : URA M) (H : Heap 𝓤) (A : Atoms 𝓤) (W : Given
           cell-out ! fullShare settings-row.the-row (LL.vals settings-row.the-type settings-laws.the-laws)
           (LL.tells settings-row.the-type settings-laws.the-laws) (h .settings) b (o + 0) (λ was-settings.
           assigns ! {v = (only ((LL.vals settings-row.the-type settings-laws.the-laws) (h .settings)))}
-          (of-opd ! (load ! (from ! (hop ! (look ! 52 refl) (fld ! {d = 0} refl (stop !)))) (look-raw ! 0 refl))) (from ! (stop !))
-          (init ! 45 refl (LL.lawful settings-row.the-type settings-laws.the-laws 𝓤 H A W .typed (h .settings)
+          (of-opd ! (load ! (from ! (hop ! (look ! 53 refl) (fld ! {d = 0} refl (stop !)))) (look-raw ! 0 refl))) (from ! (stop !))
+          (init ! 46 refl (LL.lawful settings-row.the-type settings-laws.the-laws 𝓤 H A W .typed (h .settings)
           ((only ((LL.vals settings-row.the-type settings-laws.the-laws) (h .settings))) ∷ []) was-settings .0)) $
           cell-in ! fullShare settings-row.the-row (LL.makes settings-row.the-type settings-laws.the-plain 𝓤 H A) (h .settings) b (o + 0)
           (only ((LL.vals settings-row.the-type settings-laws.the-laws) (h .settings))) was-settings $ move ! (7 ∷ []) $
           cell-out ! fullShare flight-row.the-row (LL.vals flight-row.the-type flight-laws.the-laws)
           (LL.tells flight-row.the-type flight-laws.the-laws) (h .flight) b (o + 16) (λ was-flight.
           assigns ! {v = (only ((LL.vals flight-row.the-type flight-laws.the-laws) (h .flight)))}
-          (of-opd ! (load ! (from ! (hop ! (look ! 52 refl) (fld ! {d = 16} refl (stop !)))) (look-raw ! 0 refl))) (from ! (stop !))
-          (init ! 44 refl (LL.lawful flight-row.the-type flight-laws.the-laws 𝓤 H A W .typed (h .flight)
+          (of-opd ! (load ! (from ! (hop ! (look ! 53 refl) (fld ! {d = 16} refl (stop !)))) (look-raw ! 0 refl))) (from ! (stop !))
+          (init ! 45 refl (LL.lawful flight-row.the-type flight-laws.the-laws 𝓤 H A W .typed (h .flight)
           ((only ((LL.vals flight-row.the-type flight-laws.the-laws) (h .flight))) ∷ []) was-flight .0)) $
           cell-in ! fullShare flight-row.the-row (LL.makes flight-row.the-type flight-laws.the-plain 𝓤 H A) (h .flight) b (o + 16)
           (only ((LL.vals flight-row.the-type flight-laws.the-laws) (h .flight))) was-flight $ move ! (8 ∷ []) $
           cell-out ! fullShare arrival-row.the-row (LL.vals arrival-row.the-type arrival-laws.the-laws)
           (LL.tells arrival-row.the-type arrival-laws.the-laws) (h .arrival) b (o + 72) (λ was-arrival.
           assigns ! {v = (only ((LL.vals arrival-row.the-type arrival-laws.the-laws) (h .arrival)))}
-          (of-opd ! (load ! (from ! (hop ! (look ! 52 refl) (fld ! {d = 72} refl (stop !)))) (look-raw ! 0 refl))) (from ! (stop !))
-          (init ! 43 refl (LL.lawful arrival-row.the-type arrival-laws.the-laws 𝓤 H A W .typed (h .arrival)
+          (of-opd ! (load ! (from ! (hop ! (look ! 53 refl) (fld ! {d = 72} refl (stop !)))) (look-raw ! 0 refl))) (from ! (stop !))
+          (init ! 44 refl (LL.lawful arrival-row.the-type arrival-laws.the-laws 𝓤 H A W .typed (h .arrival)
           ((only ((LL.vals arrival-row.the-type arrival-laws.the-laws) (h .arrival))) ∷ []) was-arrival .0)) $
           cell-in ! fullShare arrival-row.the-row (LL.makes arrival-row.the-type arrival-laws.the-plain 𝓤 H A) (h .arrival) b (o + 72)
           (only ((LL.vals arrival-row.the-type arrival-laws.the-laws) (h .arrival))) was-arrival $ move ! (9 ∷ []) $
           cell-out ! fullShare clock-row.the-row (LL.vals clock-row.the-type clock-laws.the-laws)
           (LL.tells clock-row.the-type clock-laws.the-laws) (h .clock) b (o + 104) (λ was-clock.
           assigns ! {v = (only ((LL.vals clock-row.the-type clock-laws.the-laws) (h .clock)))}
-          (of-opd ! (load ! (from ! (hop ! (look ! 52 refl) (fld ! {d = 104} refl (stop !)))) (look-raw ! 0 refl))) (from ! (stop !))
-          (init ! 42 refl (LL.lawful clock-row.the-type clock-laws.the-laws 𝓤 H A W .typed (h .clock)
+          (of-opd ! (load ! (from ! (hop ! (look ! 53 refl) (fld ! {d = 104} refl (stop !)))) (look-raw ! 0 refl))) (from ! (stop !))
+          (init ! 43 refl (LL.lawful clock-row.the-type clock-laws.the-laws 𝓤 H A W .typed (h .clock)
           ((only ((LL.vals clock-row.the-type clock-laws.the-laws) (h .clock))) ∷ []) was-clock .0)) $
           cell-in ! fullShare clock-row.the-row (LL.makes clock-row.the-type clock-laws.the-plain 𝓤 H A) (h .clock) b (o + 104)
           (only ((LL.vals clock-row.the-type clock-laws.the-laws) (h .clock))) was-clock $
-          assigns ! {v = (vptr b (o + 636))} (addr ! (from ! (hop ! (look ! 52 refl) (fld ! {d = 636} refl (stop !)))))
+          assigns ! {v = (vptr b (o + 636))} (addr ! (from ! (hop ! (look ! 53 refl) (fld ! {d = 636} refl (stop !)))))
           (from ! (stop !)) (init ! 33 refl (tt, tt)) $
           move ! (8 ∷ []) $ lend-shr ! tt fullShare (Array u32 32) (h .outstanding) b (o + 636)
           (λ α-outstanding δ-outstanding. move ! (24 ∷ []) $
           use1 W (‵ Own₃ ⊛ ‵ Own₃) (shr-slice-copy 𝓤 H A W (named 0) κ₃ R .twice x₃ (s₃ ∷ [])) $ split ! $
           move ! (21 ∷ 0 ∷ 2 ∷ 3 ∷ []) $ group ! 4 $
-          calls-fn ! fm fit.ended (fit.clauses 𝓤 H A at-mem run) (known .2)
+          calls-fn ! fm fit.ended (fit.clauses 𝓤 H A at-mem run) (known .3)
           (to-fit α-outstanding δ-outstanding (h .outstanding) (h .settings)
           (only ((LL.vals settings-row.the-type settings-laws.the-laws) (h .settings))) (h .flight)
           (only ((LL.vals flight-row.the-type flight-laws.the-laws) (h .flight))))
@@ -1509,27 +1531,27 @@ module _ {M : Type 1} (𝓤 : URA M) (H : Heap 𝓤) (A : Atoms 𝓤) (W : Given
           (asks-fit α-outstanding δ-outstanding (h .outstanding) (h .settings)
           (only ((LL.vals settings-row.the-type settings-laws.the-laws) (h .settings))) was-settings (h .flight)
           (only ((LL.vals flight-row.the-type flight-laws.the-laws) (h .flight))) was-flight (len-outstanding)) (λ fl ws-fl. id⊢ 𝓤 _)
-          (and-then ! (load ! (from ! (stop !)) (look ! 49 refl))
+          (and-then ! (load ! (from ! (stop !)) (look ! 50 refl))
           (and-then ! (load ! (from ! (stop !)) (look ! 33 refl))
-          (and-then ! (load ! (from ! (stop !)) (look ! 45 refl)) (and-then ! (load ! (from ! (stop !)) (look ! 44 refl)) (no-more !)))))
-          (λ fl w-fl ws-fl e-fl is-fl. land ! (from ! (stop !)) (init ! 42 refl (bool-lawful 𝓤 H A W .typed fl _ is-fl .0)) $
+          (and-then ! (load ! (from ! (stop !)) (look ! 46 refl)) (and-then ! (load ! (from ! (stop !)) (look ! 45 refl)) (no-more !)))))
+          (λ fl w-fl ws-fl e-fl is-fl. land ! (from ! (stop !)) (init ! 43 refl (bool-lawful 𝓤 H A W .typed fl _ is-fl .0)) $
           spread W (‵ (flft κ₃ q₃)) (‵ (flft (α-outstanding ∷ []) fullShare) ∷ ‵ ftrue ∷ []) (id⊢ 𝓤 _) $ move ! (3 ∷ []) $
           spread W (‵ ftrue) (‵ ftrue ∷ ‵ ftrue ∷ ‵ ftrue ∷ ‵ ftrue ∷ []) (id⊢ 𝓤 _) $
           keep ! (5 ∷ 6 ∷ 8 ∷ 9 ∷ 10 ∷ 11 ∷ 12 ∷ 13 ∷ 14 ∷ 15 ∷ 16 ∷ 17 ∷ 18 ∷ 19 ∷ 20 ∷ 21 ∷ 22 ∷ 23 ∷ 24 ∷ 25 ∷ 26
           ∷ 27 ∷ 28 ∷ 29 ∷ 30 ∷ 31 ∷ 32 ∷ 33 ∷ 34 ∷ 35 ∷ 36 ∷ 37 ∷ 38 ∷ 39 ∷ 40 ∷ 41 ∷ 42 ∷ 43 ∷ 44 ∷ 45 ∷ 46 ∷ 47
-          ∷ 48 ∷ 49 ∷ 50 ∷ 51 ∷ 52 ∷ 53 ∷ 54 ∷ 55 ∷ 56 ∷ 57 ∷ 58 ∷ 59 ∷ 60 ∷ []) $
+          ∷ 48 ∷ 49 ∷ 50 ∷ 51 ∷ 52 ∷ 53 ∷ 54 ∷ 55 ∷ 56 ∷ 57 ∷ 58 ∷ 59 ∷ 60 ∷ 61 ∷ []) $
           -- [tok3; tok:outstanding; own3; lent:outstanding; F:clock; F:arrival; F:flight; F:settings; F:«waiting_numbers»; F:waiting;
           -- F:ready; F:transmissions; F:queued; back; opened; deaths; tok1; tok2; tok4; tok5; own1; own2; own4; own5; the locals]
           move ! (1 ∷ 3 ∷ []) $ back-shr ! tt fullShare (Array u32 32) b (o + 636) (h .outstanding) $ move ! (1 ∷ 2 ∷ []) $ join ! $
-          calls-fn ! fm table-len.ended (table-len.clauses 𝓤 H A at-mem run) (known .3) (to-table-len)
+          calls-fn ! fm table-len.ended (table-len.clauses 𝓤 H A at-mem run) (known .4) (to-table-len)
           (λ m ws-m. m ≡ length (x₃ .now)) (‵ (flft κ₃ q₃) ⊛ ‵ Own₃)
           (asks-table-len) (λ m ws-m. id⊢ 𝓤 _)
-          (and-then ! (load ! (from ! (stop !)) (look ! 48 refl)) (no-more !))
-          (λ m w-m ws-m e-m is-m. land ! (from ! (stop !)) (init ! 40 refl (uint-lawful 𝓤 H A W w64 .typed m _ is-m .0)) $
+          (and-then ! (load ! (from ! (stop !)) (look ! 49 refl)) (no-more !))
+          (λ m w-m ws-m e-m is-m. land ! (from ! (stop !)) (init ! 41 refl (uint-lawful 𝓤 H A W w64 .typed m _ is-m .0)) $
           spread W (‵ (flft κ₃ q₃)) (‵ ftrue ∷ []) (id⊢ 𝓤 _) $ move ! (2 ∷ []) $ spread W (‵ ftrue) (‵ ftrue ∷ []) (id⊢ 𝓤 _) $
           keep ! (2 ∷ 4 ∷ 5 ∷ 6 ∷ 7 ∷ 8 ∷ 9 ∷ 10 ∷ 11 ∷ 12 ∷ 13 ∷ 14 ∷ 15 ∷ 16 ∷ 17 ∷ 18 ∷ 19 ∷ 20 ∷ 21 ∷ 22 ∷ 23
           ∷ 24 ∷ 25 ∷ 26 ∷ 27 ∷ 28 ∷ 29 ∷ 30 ∷ 31 ∷ 32 ∷ 33 ∷ 34 ∷ 35 ∷ 36 ∷ 37 ∷ 38 ∷ 39 ∷ 40 ∷ 41 ∷ 42 ∷ 43 ∷ 44
-          ∷ 45 ∷ 46 ∷ 47 ∷ 48 ∷ 49 ∷ 50 ∷ 51 ∷ 52 ∷ 53 ∷ 54 ∷ 55 ∷ []) $
+          ∷ 45 ∷ 46 ∷ 47 ∷ 48 ∷ 49 ∷ 50 ∷ 51 ∷ 52 ∷ 53 ∷ 54 ∷ 55 ∷ 56 ∷ []) $
           -- [tok3; F:outstanding; F:clock; F:arrival; F:flight; F:settings; F:«waiting_numbers»; F:waiting; F:ready; F:transmissions;
           -- F:queued; back; opened; deaths; tok1; tok2; tok4; tok5; own1; own2; own4; own5; the locals]
           by ! (part₂ (
@@ -1571,6 +1593,8 @@ module _ {M : Type 1} (𝓤 : URA M) (H : Heap 𝓤) (A : Atoms 𝓤) (W : Given
             (past .35),
             (past .36),
             (past .37),
+            (past .38),
+            (past .39),
             len-queued,
             len-outstanding,
             len-transmissions,
@@ -1607,76 +1631,76 @@ module _ {M : Type 1} (𝓤 : URA M) (H : Heap 𝓤) (A : Atoms 𝓤) (W : Given
           alloc1 ! (λ l₁₈. alloc1 ! (λ l₁₉. alloc1 ! (λ l₂₀.
           alloc1 ! (λ l₂₁. alloc1 ! (λ l₂₂. alloc1 ! (λ l₂₃.
           alloc1 ! (λ l₂₄. alloc1 ! (λ l₂₅. alloc1 ! (λ l₂₆.
-          alloc1 ! (λ l₂₇. alloc1 ! (λ l₂₈. alloc1 ! (λ l₂₉. alloc1 ! (λ l₃₀. alloc0 ! $ params1 ! $
-          pass1 ! (init ! 58 refl (tt, tt)) $ pass1 ! (init ! 56 refl (tt, (tt, (record { fits = room₁ .0 }, tt)))) $
-          pass1 ! (init ! 54 refl (tt, (tt, (record { fits = room₂ .0 }, tt)))) $
-          pass1 ! (init ! 52 refl (tt, (tt, (record { fits = room₃ .0 }, tt)))) $
-          pass1 ! (init ! 50 refl (tt, (tt, (record { fits = room₄ .0 }, tt)))) $
-          pass1 ! (init ! 48 refl (tt, (tt, (record { fits = room₅ .0 }, tt)))) $ pass0 ! $
-          move ! (63 ∷ []) $ spread W (‵ (MutRef (named 0) κ₀ L .own (ref-at b o γ h) (vptr b o ∷ [])))
+          alloc1 ! (λ l₂₇. alloc1 ! (λ l₂₈. alloc1 ! (λ l₂₉. alloc1 ! (λ l₃₀. alloc1 ! (λ l₃₁. alloc0 ! $ params1 ! $
+          pass1 ! (init ! 60 refl (tt, tt)) $ pass1 ! (init ! 58 refl (tt, (tt, (record { fits = room₁ .0 }, tt)))) $
+          pass1 ! (init ! 56 refl (tt, (tt, (record { fits = room₂ .0 }, tt)))) $
+          pass1 ! (init ! 54 refl (tt, (tt, (record { fits = room₃ .0 }, tt)))) $
+          pass1 ! (init ! 52 refl (tt, (tt, (record { fits = room₄ .0 }, tt)))) $
+          pass1 ! (init ! 50 refl (tt, (tt, (record { fits = room₅ .0 }, tt)))) $ pass0 ! $
+          move ! (65 ∷ []) $ spread W (‵ (MutRef (named 0) κ₀ L .own (ref-at b o γ h) (vptr b o ∷ [])))
           (‵ (ShrSlice (named 1) κ₁ u8 .own (x₁) (s₁ ∷ [])) ∷ ‵ (ShrSlice (named 2) κ₂ u8 .own (x₂) (s₂ ∷ []))
           ∷ ‵ (ShrSlice (named 3) κ₃ R .own (x₃) (s₃ ∷ [])) ∷ ‵ (ShrSlice (named 4) κ₄ u32 .own (x₄) (s₄ ∷ []))
-          ∷ ‵ (MutSlice (named 5) κ₅ u8 .own (x₅) (s₅ ∷ [])) ∷ ‵ ftrue ∷ []) (id⊢ 𝓤 _) $ move ! (69 ∷ []) $
+          ∷ ‵ (MutSlice (named 5) κ₅ u8 .own (x₅) (s₅ ∷ [])) ∷ ‵ ftrue ∷ []) (id⊢ 𝓤 _) $ move ! (71 ∷ []) $
           spread W (‵ (flft κ₀ q₀)) (‵ (flft κ₁ q₁) ∷ ‵ (flft κ₂ q₂) ∷ ‵ (flft κ₃ q₃) ∷ ‵ (flft κ₄ q₄)
           ∷ ‵ (flft κ₅ q₅) ∷ ‵ ftrue ∷ []) (id⊢ 𝓤 _) $ move ! (13 ∷ 6 ∷ []) $ drop ! $ drop ! $
-          move ! (73 ∷ 71 ∷ 69 ∷ 67 ∷ 65 ∷ 63 ∷ 61 ∷ 59 ∷ 57 ∷ 55 ∷ 53 ∷ 51 ∷ 49 ∷ 47 ∷ 45 ∷ 43 ∷ 41 ∷ 39 ∷ 37 ∷ 35
-          ∷ 33 ∷ 31 ∷ 29 ∷ 27 ∷ 25 ∷ 23 ∷ 21 ∷ 19 ∷ 17 ∷ 15 ∷ 13 ∷ []) $ group ! 31 $
+          move ! (75 ∷ 73 ∷ 71 ∷ 69 ∷ 67 ∷ 65 ∷ 63 ∷ 61 ∷ 59 ∷ 57 ∷ 55 ∷ 53 ∷ 51 ∷ 49 ∷ 47 ∷ 45 ∷ 43 ∷ 41 ∷ 39 ∷ 37
+          ∷ 35 ∷ 33 ∷ 31 ∷ 29 ∷ 27 ∷ 25 ∷ 23 ∷ 21 ∷ 19 ∷ 17 ∷ 15 ∷ 13 ∷ []) $ group ! 32 $
           -- [deaths; tok0; tok1; tok2; tok3; tok4; tok5; own0; own1; own2; own3; own4; own5; the locals]
-          nothing ! $ calls-fn ! fm marks-of.ended (marks-of.clauses 𝓤 H A at-mem run) (known .0) ((tt, tt, tt, tt, tt), tt)
-          (λ sends _. sends ≡ none)
+          nothing ! $ calls-fn ! fm send-marks-of.ended (send-marks-of.clauses 𝓤 H A at-mem run) (known .0) ((tt, tt, tt, tt, tt), tt)
+          (λ sends _. sends ≡ noneToSend)
           (‵ ftrue) (plainly 𝓤 H A W ([]) tt tt tt tt) (λ sends _. id⊢ 𝓤 _)
           (no-more !) (λ sends w-sends _ e-sends is-sends. drop ! $ drop ! $
-          land ! (from ! (stop !)) (init ! 25 refl (array-typed u8 (uint-lawful 𝓤 H A W w8 .typed) 256 sends (w-sends ∷ []) is-sends .0)) $
-          assigns ! {v = w-sends} (of-opd ! (load ! (from ! (stop !)) (look ! 25 refl))) (from ! (stop !))
-          (init ! 36 refl (array-typed u8 (uint-lawful 𝓤 H A W w8 .typed) 256 sends (w-sends ∷ []) is-sends .0)) $
-          nothing ! $ calls-fn ! fm marks-of.ended (marks-of.clauses 𝓤 H A at-mem run) (known .0) ((tt, tt, tt, tt, tt), tt)
+          land ! (from ! (stop !)) (init ! 26 refl (array-typed u8 (uint-lawful 𝓤 H A W w8 .typed) 128 sends (w-sends ∷ []) is-sends .0)) $
+          assigns ! {v = w-sends} (of-opd ! (load ! (from ! (stop !)) (look ! 26 refl))) (from ! (stop !))
+          (init ! 37 refl (array-typed u8 (uint-lawful 𝓤 H A W w8 .typed) 128 sends (w-sends ∷ []) is-sends .0)) $
+          nothing ! $ calls-fn ! fm marks-of.ended (marks-of.clauses 𝓤 H A at-mem run) (known .1) ((tt, tt, tt, tt, tt), tt)
           (λ receives _. receives ≡ none)
           (‵ ftrue) (plainly 𝓤 H A W ([]) tt tt tt tt) (λ receives _. id⊢ 𝓤 _)
           (no-more !) (λ receives w-receives _ e-receives is-receives. drop ! $ drop ! $
-          land ! (from ! (stop !)) (store ! 25 refl
-          (array-typed u8 (uint-lawful 𝓤 H A W w8 .typed) 256 receives (w-receives ∷ []) is-receives .0)) $
+          land ! (from ! (stop !)) (init ! 25 refl (array-typed u8 (uint-lawful 𝓤 H A W w8 .typed) 256 receives (w-receives ∷ [])
+          is-receives .0)) $
           assigns ! {v = w-receives} (of-opd ! (load ! (from ! (stop !)) (look ! 25 refl))) (from ! (stop !))
-          (init ! 35 refl (array-typed u8 (uint-lawful 𝓤 H A W w8 .typed) 256 receives (w-receives ∷ []) is-receives .0)) $
-          assigns ! {v = (vptr b o)} (addr ! (from ! (hop ! (look ! 42 refl) (stop !)))) (from ! (stop !)) (init ! 24 refl (tt, tt)) $
+          (init ! 36 refl (array-typed u8 (uint-lawful 𝓤 H A W w8 .typed) 256 receives (w-receives ∷ []) is-receives .0)) $
+          assigns ! {v = (vptr b o)} (addr ! (from ! (hop ! (look ! 43 refl) (stop !)))) (from ! (stop !)) (init ! 24 refl (tt, tt)) $
           assigns ! {v = (vptr l₇ 0)} (addr ! (from ! (stop !))) (from ! (stop !)) (init ! 23 refl (tt, tt)) $
           assigns ! {v = (vptr l₈ 0)} (addr ! (from ! (stop !))) (from ! (stop !)) (init ! 22 refl (tt, tt)) $
           move ! (7 ∷ 1 ∷ []) $ lend-whole ! tt L h b o γ
-          (λ α-block δ-block. move ! (38 ∷ []) $
-          use1 W (‵ (cellAt fullShare ((tyArray (tyInt w8) 256) ∷ []) (w-sends ∷ []) l₇ 0))
-          (W .laws .at-raw fullShare (tyArray (tyInt w8) 256) l₇ 0 w-sends) $
-          cell-in ! fullShare (Array u8 256) (array-makes 𝓤 H A W u8 (uint-makes 𝓤 H A W w8) 256) sends l₇ 0 w-sends is-sends $
-          lend-mut ! tt (Array u8 256) sends l₇ 0 (λ α-sends δ-sends. move ! (40 ∷ []) $
+          (λ α-block δ-block. move ! (39 ∷ []) $
+          use1 W (‵ (cellAt fullShare ((tyArray (tyInt w8) 128) ∷ []) (w-sends ∷ []) l₇ 0))
+          (W .laws .at-raw fullShare (tyArray (tyInt w8) 128) l₇ 0 w-sends) $
+          cell-in ! fullShare (Array u8 128) (array-makes 𝓤 H A W u8 (uint-makes 𝓤 H A W w8) 128) sends l₇ 0 w-sends is-sends $
+          lend-mut ! tt (Array u8 128) sends l₇ 0 (λ α-sends δ-sends. move ! (41 ∷ []) $
           use1 W (‵ (cellAt fullShare ((tyArray (tyInt w8) 256) ∷ []) (w-receives ∷ []) l₈ 0))
           (W .laws .at-raw fullShare (tyArray (tyInt w8) 256) l₈ 0 w-receives) $
           cell-in ! fullShare (Array u8 256) (array-makes 𝓤 H A W u8 (uint-makes 𝓤 H A W w8) 256) receives l₈ 0 w-receives is-receives $
           lend-mut ! tt (Array u8 256) receives l₈ 0
           (λ α-receives δ-receives. move ! (6 ∷ 7 ∷ 3 ∷ 4 ∷ 0 ∷ 1 ∷ []) $ group ! 6 $
-          calls-fn ! fm check.ended (check.clauses 𝓤 H A at-mem run) (known .1)
+          calls-fn ! fm check.ended (check.clauses 𝓤 H A at-mem run) (known .2)
           (to-check α-block δ-block h l₇ α-sends δ-sends sends l₈ α-receives δ-receives receives)
           (λ ok ws-ok. Sound h (ws-ok .1 .0) (ws-ok .1 .1 .0) ok)
           (‵ (flft (α-block ∷ []) fullShare) ⊛ ‵ (ShrRef (named 0) (α-block ∷ []) L .own (ref-at b o δ-block h) ((vptr b o) ∷ [])) ⊛ ‵
-          (flft (α-sends ∷ []) fullShare) ⊛ ‵ (MutRef (named 0) (α-sends ∷ []) (Array u8 256) .own (ref-at l₇ 0 δ-sends sends)
+          (flft (α-sends ∷ []) fullShare) ⊛ ‵ (MutRef (named 0) (α-sends ∷ []) (Array u8 128) .own (ref-at l₇ 0 δ-sends sends)
           ((vptr l₇ 0) ∷ [])) ⊛ ‵ (flft (α-receives ∷ []) fullShare) ⊛ ‵
           (MutRef (named 0) (α-receives ∷ []) (Array u8 256) .own (ref-at l₈ 0 δ-receives receives) ((vptr l₈ 0) ∷ [])))
           (asks-check α-block δ-block h l₇ α-sends δ-sends sends l₈ α-receives δ-receives receives (e-sends, e-receives))
           (λ ok ws-ok. id⊢ 𝓤 _)
           (and-then ! (load ! (from ! (stop !)) (look ! 27 refl))
           (and-then ! (load ! (from ! (stop !)) (look ! 26 refl)) (and-then ! (load ! (from ! (stop !)) (look ! 25 refl)) (no-more !))))
-          (λ ok w-ok ws-ok e-ok is-ok. land ! (from ! (stop !)) (init ! 38 refl (bool-lawful 𝓤 H A W .typed ok _ is-ok .0)) $
+          (λ ok w-ok ws-ok e-ok is-ok. land ! (from ! (stop !)) (init ! 39 refl (bool-lawful 𝓤 H A W .typed ok _ is-ok .0)) $
           spread W (‵ (flft (α-block ∷ []) fullShare))
           (‵ (flft (α-sends ∷ []) fullShare) ∷ ‵ (flft (α-receives ∷ []) fullShare) ∷ ‵ ftrue ∷ []) (id⊢ 𝓤 _) $ move ! (4 ∷ []) $
-          spread W (‵ ftrue) (‵ (fres δ-sends ((Array u8 256) .coded .code (ws-ok .1 .0)))
+          spread W (‵ ftrue) (‵ (fres δ-sends ((Array u8 128) .coded .code (ws-ok .1 .0)))
           ∷ ‵ (fres δ-receives ((Array u8 256) .coded .code (ws-ok .1 .1 .0))) ∷ ‵ ftrue ∷ []) (id⊢ 𝓤 _) $
           keep ! (1 ∷ 2 ∷ 4 ∷ 5 ∷ 6 ∷ 8 ∷ 9 ∷ 10 ∷ 11 ∷ 12 ∷ 13 ∷ 14 ∷ 15 ∷ 16 ∷ 17 ∷ 18 ∷ 19 ∷ 20 ∷ 21 ∷ 22 ∷ 23
           ∷ 24 ∷ 25 ∷ 26 ∷ 27 ∷ 28 ∷ 29 ∷ 30 ∷ 31 ∷ 32 ∷ 33 ∷ 34 ∷ 35 ∷ 36 ∷ 37 ∷ 38 ∷ 39 ∷ 40 ∷ 41 ∷ 42 ∷ 43 ∷ 44
-          ∷ 45 ∷ 46 ∷ 47 ∷ 48 ∷ 49 ∷ 50 ∷ 51 ∷ []) $
+          ∷ 45 ∷ 46 ∷ 47 ∷ 48 ∷ 49 ∷ 50 ∷ 51 ∷ 52 ∷ []) $
           -- [fin:@sends; fin:@receives; tok:*; tok:@sends; tok:@receives; lent:@receives; lent:@sends; lent:*; opened; deaths; tok1; tok2;
           -- tok3; tok4; tok5; own1; own2; own3; own4; own5; the locals]
-          move ! (2 ∷ 7 ∷ 8 ∷ []) $ back-whole ! tt L h b o γ $ move ! (4 ∷ 7 ∷ 2 ∷ []) $ back-mut ! tt (Array u8 256) l₇ 0 (ws-ok .1 .0) $
-          cell-out ! fullShare (Array u8 256) (array-vals (uint-vals w8)) (array-tells u8 (uint-vals w8) (uint-tells w8) 256)
+          move ! (2 ∷ 7 ∷ 8 ∷ []) $ back-whole ! tt L h b o γ $ move ! (4 ∷ 7 ∷ 2 ∷ []) $ back-mut ! tt (Array u8 128) l₇ 0 (ws-ok .1 .0) $
+          cell-out ! fullShare (Array u8 128) (array-vals (uint-vals w8)) (array-tells u8 (uint-vals w8) (uint-tells w8) 128)
           (ws-ok .1 .0) l₇ 0 (λ was-sends-1. use1 W
-          (‵ (fat fullShare (tyArray (tyInt w8) 256) l₇ 0 (only ((array-vals (uint-vals w8)) (ws-ok .1 .0)))))
-          (W .laws .raw-at fullShare (tyArray (tyInt w8) 256) l₇ 0 (only ((array-vals (uint-vals w8)) (ws-ok .1 .0)))) $
+          (‵ (fat fullShare (tyArray (tyInt w8) 128) l₇ 0 (only ((array-vals (uint-vals w8)) (ws-ok .1 .0)))))
+          (W .laws .raw-at fullShare (tyArray (tyInt w8) 128) l₇ 0 (only ((array-vals (uint-vals w8)) (ws-ok .1 .0)))) $
           move ! (4 ∷ 5 ∷ 3 ∷ []) $ back-mut ! tt (Array u8 256) l₈ 0 (ws-ok .1 .1 .0) $
           cell-out ! fullShare (Array u8 256) (array-vals (uint-vals w8)) (array-tells u8 (uint-vals w8) (uint-tells w8) 256)
           (ws-ok .1 .1 .0) l₈ 0 (λ was-receives-2. use1 W
@@ -1716,12 +1740,14 @@ module _ {M : Type 1} (𝓤 : URA M) (H : Heap 𝓤) (A : Atoms 𝓤) (W : Given
             l₂₈,
             l₂₉,
             l₃₀,
+            l₃₁,
+            w-sends,
             w-receives,
             ok,
             w-ok,
             e-ok,
             is-ok,
-          )))))))))))))))))))))))))))))))))))))))))
+          ))))))))))))))))))))))))))))))))))))))))))
 
   f-meets : (𝓣 : Tables 𝓤 H) → Known (𝓣 .C)
       → Meets 𝓤 H A f.signature (WpFn 𝓤 H (𝓣 .C) (𝓣 .Λ) code.function) (f.spec 𝓤 H A at-mem run)
@@ -1770,6 +1796,8 @@ read-spec 𝓤 H 𝓜 𝓖 𝓡 =
     entered 𝓤 H (tripleOf 𝓤 H (𝓖 .A) f.signature (f.spec 𝓤 H (𝓖 .A) (𝓜 .mem) (𝓡 .run)))
     (tables 𝓤 H 𝓜 𝓡 code.env .C) (tables 𝓤 H 𝓜 𝓡 code.env .Λ) #f code.function (code.unfolded 𝓤 H 𝓜 𝓡)
     (f-meets 𝓤 H (𝓖 .A) (givenOf 𝓤 H 𝓜 𝓖) (𝓜 .mem) (𝓡 .run) (tablesOf 𝓤 H 𝓜 (tables 𝓤 H 𝓜 𝓡 code.env)) (
+      cited 𝓤 H (tripleOf 𝓤 H (𝓖 .A) send-marks-of.signature (send-marks-of.spec 𝓤 H (𝓖 .A) (𝓜 .mem) (𝓡 .run))) 𝓜 𝓡 code.env
+          send-marks-of-def.name send-marks-of-def.routine code.calls-marks·none-to-send (send-marks-of-thm.met 𝓤 H 𝓜 𝓖 𝓡),
       cited 𝓤 H (tripleOf 𝓤 H (𝓖 .A) marks-of.signature (marks-of.spec 𝓤 H (𝓖 .A) (𝓜 .mem) (𝓡 .run))) 𝓜 𝓡 code.env marks-of-def.name
           marks-of-def.routine code.calls-marks·none (marks-of-thm.met 𝓤 H 𝓜 𝓖 𝓡),
       cited 𝓤 H (tripleOf 𝓤 H (𝓖 .A) check.signature (check.spec 𝓤 H (𝓖 .A) (𝓜 .mem) (𝓡 .run))) 𝓜 𝓡 code.env check-def.name

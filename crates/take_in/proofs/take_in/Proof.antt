@@ -200,7 +200,7 @@ use Rattle.records.specs.Tables.{slotsIn, gathered, padded, scattered}
 use Rattle.record_words.specs.RecordWords.{recordsIn}
 use Rattle.record_words.specs.RecordLaws.{records-length}
 use Rattle.control.specs.Views.{Whole, arrays, arraysOf, linkOf}
-use Rattle.marks.specs.Marks.{none}
+use Rattle.marks.specs.Marks.{none, noneToSend}
 use Rattle.checking.specs.Verdicts.{Sound, ReceiveMarked}
 use Rattle.promises.specs.Parts.{lentLengths, partsOf}
 use Rattle.promises.specs.Outcomes.{takesInWith}
@@ -212,6 +212,9 @@ use Rattle.codes.proofs.Told.{told}
 use Rattle.from_cores.proofs.Gathered.{gathers}
 use Rattle.from_cores.proofs.Scattered.{put-back}
 use Rattle.from_cores.proofs.TakingIn.{input-left, input-promised}
+use Rattle.marks.proofs.none_to_send as send-marks-of
+use Rattle.marks.proofs.none_to_send.Symbol as send-marks-of-def
+use Rattle.marks.proofs.none_to_send.Met as send-marks-of-thm
 use Rattle.marks.proofs.none as marks-of
 use Rattle.marks.proofs.none.Symbol as marks-of-def
 use Rattle.marks.proofs.none.Met as marks-of-thm
@@ -268,7 +271,8 @@ stayed = (
 module _ {M : Type 1} (𝓤 : URA M) (H : Heap 𝓤) (A : Atoms 𝓤) (W : Given 𝓤 H A) (at-mem : Memory → SProp 𝓤) (run : Routine → Fun 𝓤) where
   -- what is known of the callees
   abbrev Known : Calls 𝓤 H → Type 1
-  Known C = Triple 𝓤 (C marks-of-def.name) (tripleOf 𝓤 H A marks-of.signature (marks-of.spec 𝓤 H A at-mem run))
+  Known C = Triple 𝓤 (C send-marks-of-def.name) (tripleOf 𝓤 H A send-marks-of.signature (send-marks-of.spec 𝓤 H A at-mem run))
+      × Triple 𝓤 (C marks-of-def.name) (tripleOf 𝓤 H A marks-of.signature (marks-of.spec 𝓤 H A at-mem run))
       × Triple 𝓤 (C check-def.name) (tripleOf 𝓤 H A check.signature (check.spec 𝓤 H A at-mem run))
       × Triple 𝓤 (C count-of-def.name) (tripleOf 𝓤 H A count-of.signature (count-of.spec 𝓤 H A at-mem run))
       × Triple 𝓤 (C none-of-def.name) (tripleOf 𝓤 H A none-of.signature (none-of.spec 𝓤 H A at-mem run))
@@ -347,10 +351,10 @@ module _ {M : Type 1} (𝓤 : URA M) (H : Heap 𝓤) (A : Atoms 𝓤) (W : Given
     )
 
     asks-check : (α-block : ℕ) (δ-block : GName) (f-block : Link) (p-sends : ℕ) (α-sends : ℕ) (δ-sends : GName) (f-sends : (List ℕ))
-        (p-receives : ℕ) (α-receives : ℕ) (δ-receives : GName) (f-receives : (List ℕ)) → ((f-sends ≡ none) × (f-receives ≡ none))
+        (p-receives : ℕ) (α-receives : ℕ) (δ-receives : GName) (f-receives : (List ℕ)) → ((f-sends ≡ noneToSend) × (f-receives ≡ none))
         → ent 𝓤 (⋆ 𝓤 H A (‵ (flft (α-block ∷ []) fullShare)
         ∷ ‵ (ShrRef (named 0) (α-block ∷ []) L .own (ref-at b o δ-block f-block) ((vptr b o) ∷ [])) ∷ ‵ (flft (α-sends ∷ []) fullShare)
-        ∷ ‵ (MutRef (named 0) (α-sends ∷ []) (Array u8 256) .own (ref-at p-sends 0 δ-sends f-sends) ((vptr p-sends 0) ∷ []))
+        ∷ ‵ (MutRef (named 0) (α-sends ∷ []) (Array u8 128) .own (ref-at p-sends 0 δ-sends f-sends) ((vptr p-sends 0) ∷ []))
         ∷ ‵ (flft (α-receives ∷ []) fullShare)
         ∷ ‵ (MutRef (named 0) (α-receives ∷ []) (Array u8 256) .own (ref-at p-receives 0 δ-receives f-receives) ((vptr p-receives 0) ∷ []))
         ∷ [])) (tripleOf 𝓤 H A check.signature (check.spec 𝓤 H A at-mem run) .pre
@@ -358,7 +362,7 @@ module _ {M : Type 1} (𝓤 : URA M) (H : Heap 𝓤) (A : Atoms 𝓤) (W : Given
     asks-check α-block δ-block f-block p-sends α-sends δ-sends f-sends p-receives α-receives δ-receives f-receives req =
         qed W (‵ (flft (α-block ∷ []) fullShare) ∷ ‵ (ShrRef (named 0) (α-block ∷ []) L .own (ref-at b o δ-block f-block) ((vptr b o) ∷ []))
         ∷ ‵ (flft (α-sends ∷ []) fullShare)
-        ∷ ‵ (MutRef (named 0) (α-sends ∷ []) (Array u8 256) .own (ref-at p-sends 0 δ-sends f-sends) ((vptr p-sends 0) ∷ []))
+        ∷ ‵ (MutRef (named 0) (α-sends ∷ []) (Array u8 128) .own (ref-at p-sends 0 δ-sends f-sends) ((vptr p-sends 0) ∷ []))
         ∷ ‵ (flft (α-receives ∷ []) fullShare)
         ∷ ‵ (MutRef (named 0) (α-receives ∷ []) (Array u8 256) .own (ref-at p-receives 0 δ-receives f-receives)
         ((vptr p-receives 0) ∷ [])) ∷ []) ∵ says ! req $ nothing ! $ move ! (5 ∷ 0 ∷ []) $ join ! $ move ! (3 ∷ 0 ∷ []) $ join ! $
@@ -642,15 +646,15 @@ module _ {M : Type 1} (𝓤 : URA M) (H : Heap 𝓤) (A : Atoms 𝓤) (W : Given
       -- where the locals lie
       abbrev En : (l₀ l₁ l₂ l₃ l₄ l₅ l₆ l₇ l₈ l₉ l₁₀ l₁₁ l₁₂ l₁₃ l₁₄ l₁₅ l₁₆ l₁₇ l₁₈ l₁₉ l₂₀
           l₂₁ l₂₂ l₂₃ l₂₄ l₂₅ l₂₆ l₂₇ l₂₈ l₂₉ l₃₀ l₃₁ l₃₂ l₃₃ l₃₄ l₃₅ l₃₆ l₃₇ l₃₈
-          l₃₉ l₄₀ l₄₁ l₄₂ l₄₃ l₄₄ l₄₅ l₄₆ l₄₇ l₄₈ : ℕ) → Env 𝓤 H
+          l₃₉ l₄₀ l₄₁ l₄₂ l₄₃ l₄₄ l₄₅ l₄₆ l₄₇ l₄₈ l₄₉ : ℕ) → Env 𝓤 H
       En l₀ l₁ l₂ l₃ l₄ l₅ l₆ l₇ l₈ l₉ l₁₀ l₁₁ l₁₂ l₁₃ l₁₄ l₁₅ l₁₆ l₁₇ l₁₈ l₁₉ l₂₀ l₂₁
           l₂₂ l₂₃ l₂₄ l₂₅ l₂₆ l₂₇ l₂₈ l₂₉ l₃₀ l₃₁ l₃₂ l₃₃ l₃₄ l₃₅ l₃₆ l₃₇ l₃₈ l₃₉
-          l₄₀ l₄₁ l₄₂ l₄₃ l₄₄ l₄₅ l₄₆ l₄₇ l₄₈ =
+          l₄₀ l₄₁ l₄₂ l₄₃ l₄₄ l₄₅ l₄₆ l₄₇ l₄₈ l₄₉ =
           envOf (code.function .locals) (l₀ ∷ l₁ ∷ l₂ ∷ l₃ ∷ l₄ ∷ l₅ ∷ l₆ ∷ l₇ ∷ l₈ ∷ l₉ ∷ l₁₀ ∷ l₁₁
           ∷ l₁₂ ∷ l₁₃ ∷ l₁₄ ∷ l₁₅ ∷ l₁₆ ∷ l₁₇ ∷ l₁₈ ∷ l₁₉ ∷ l₂₀ ∷ l₂₁ ∷ l₂₂ ∷ l₂₃
           ∷ l₂₄ ∷ l₂₅ ∷ l₂₆ ∷ l₂₇ ∷ l₂₈ ∷ l₂₉ ∷ l₃₀ ∷ l₃₁ ∷ l₃₂ ∷ l₃₃ ∷ l₃₄ ∷ l₃₅
           ∷ l₃₆ ∷ l₃₇ ∷ l₃₈ ∷ l₃₉ ∷ l₄₀ ∷ l₄₁ ∷ l₄₂ ∷ l₄₃ ∷ l₄₄ ∷ l₄₅ ∷ l₄₆ ∷ l₄₇
-          ∷ l₄₈ ∷ [])
+          ∷ l₄₈ ∷ l₄₉ ∷ [])
 
       -- what part 5 knows
       abbrev Known₅ : Type 0
@@ -663,8 +667,8 @@ module _ {M : Type 1} (𝓤 : URA M) (H : Heap 𝓤) (A : Atoms 𝓤) (W : Given
           (l₂₄ : ℕ) × (l₂₅ : ℕ) × (l₂₆ : ℕ) × (l₂₇ : ℕ) × (l₂₈ : ℕ) × (l₂₉ : ℕ) × (l₃₀ : ℕ) ×
           (l₃₁ : ℕ) × (l₃₂ : ℕ) × (l₃₃ : ℕ) × (l₃₄ : ℕ) × (l₃₅ : ℕ) × (l₃₆ : ℕ) × (l₃₇ : ℕ) ×
           (l₃₈ : ℕ) × (l₃₉ : ℕ) × (l₄₀ : ℕ) × (l₄₁ : ℕ) × (l₄₂ : ℕ) × (l₄₃ : ℕ) × (l₄₄ : ℕ) ×
-          (l₄₅ : ℕ) × (l₄₆ : ℕ) × (l₄₇ : ℕ) × (l₄₈ : ℕ) × (w-receives : Val) × (w-ok : Val) × (n : ℕ) × (w-n : Val) ×
-          (e-n : n ≡ h .flight .outstanding) × (w-found : Val) ×
+          (l₄₅ : ℕ) × (l₄₆ : ℕ) × (l₄₇ : ℕ) × (l₄₈ : ℕ) × (l₄₉ : ℕ) × (w-sends : Val) × (w-receives : Val) ×
+          (w-ok : Val) × (n : ℕ) × (w-n : Val) × (e-n : n ≡ h .flight .outstanding) × (w-found : Val) ×
           (e-g : (length z-found ≡ 128) × (recordsIn z-found ≡ padded (gathered (take sendSlots (x₃ .now)) (slotsIn (h .outstanding) n)))) ×
           (m : ℕ) × (w-m : Val) × (e-m : m ≡ length (x₃ .now)) × (a : Taken) × (w-a : Val) ×
           (e-a : (Takes (λ l. takesInWith l (recordsIn z-found) (x₄ .now) (lentLengths m (x₁ .now) (x₂ .now) (x₄ .now)) (x₂ .now) (x₅ .now))
@@ -681,8 +685,8 @@ module _ {M : Type 1} (𝓤 : URA M) (H : Heap 𝓤) (A : Atoms 𝓤) (W : Given
       part₅ : (past : Known₅) → ent 𝓤 (⋆ 𝓤 H A (‵
           (link-own κ₀ b o γ (record {
             settings = (h .settings);
-            flight = (past .81);
-            arrival = (past .84);
+            flight = (past .83);
+            arrival = (past .86);
             clock = (h .clock);
             queued = (h .queued);
             outstanding = (past .12);
@@ -696,70 +700,72 @@ module _ {M : Type 1} (𝓤 : URA M) (H : Heap 𝓤) (A : Atoms 𝓤) (W : Given
           ∷ ‵ (fat fullShare (tyArray (tyInt w8) 256) (past .24) 0 ((only ((array-vals (uint-vals w8)) (past .14)))))
           ∷ ‵ (finally u32 (x₄ .name) (past .5)) ∷ ‵ (finally u8 (x₂ .name) (past .6)) ∷ ‵ (flft κ₁ q₁) ∷ ‵ (flft κ₂ q₂)
           ∷ ‵ (flft κ₄ q₄) ∷ ‵ (flft κ₅ q₅)
-          ∷ ‵ (fat fullShare (tyArray (tyInt w8) 256) (past .23) 0 ((only ((array-vals (uint-vals w8)) (past .15)))))
+          ∷ ‵ (fat fullShare (tyArray (tyInt w8) 128) (past .23) 0 ((only ((array-vals (uint-vals w8)) (past .15)))))
           ∷ (‵ (fdies (tyInt w32) (past .16)) ⊛ ‵ (fdies (tyRef (named 0) mut (pointee (L .written))) (past .17)) ⊛ ‵
           (fdies (sliceTy (tyRef (named 1) imm (tyInt w8))) (past .18)) ⊛ ‵ (fdies (sliceTy (tyRef (named 2) mut (tyInt w8))) (past .19)) ⊛
           ‵ (fdies (sliceTy (tyRef (named 3) mut (pointee (R .written)))) (past .20)) ⊛ ‵
           (fdies (sliceTy (tyRef (named 4) mut (tyInt w32))) (past .21)) ⊛ ‵ (fdies (sliceTy (tyRef (named 5) imm (tyInt w8))) (past .22)) ⊛
-          ‵ (fdies (tyArray (tyInt w8) 256) (past .23)) ⊛ ‵ (fdies (tyArray (tyInt w8) 256) (past .24)) ⊛ ‵ (fdies tyBool (past .25)) ⊛ ‵
+          ‵ (fdies (tyArray (tyInt w8) 128) (past .23)) ⊛ ‵ (fdies (tyArray (tyInt w8) 256) (past .24)) ⊛ ‵ (fdies tyBool (past .25)) ⊛ ‵
           (fdies settings-laws.mir (past .26)) ⊛ ‵ (fdies flight-laws.mir (past .27)) ⊛ ‵ (fdies arrival-laws.mir (past .28)) ⊛ ‵
           (fdies clock-laws.mir (past .29)) ⊛ ‵ (fdies (tyInt w64) (past .30)) ⊛ ‵ (fdies (tyArray (tyInt w32) 128) (past .31)) ⊛ ‵
           (fdies (tyInt w64) (past .32)) ⊛ ‵ (fdies taken-laws.mir (past .33)) ⊛ ‵ (fdies flight-laws.mir (past .34)) ⊛ ‵
-          (fdies arrival-laws.mir (past .35)) ⊛ ‵ (fdies (tyInt w64) (past .36)) ⊛ ‵ (fdies (tyArray (tyInt w8) 256) (past .37)) ⊛ ‵
-          (fdies (tyRef erased imm (pointee (L .written))) (past .38)) ⊛ ‵ (fdies (tyRef erased mut (tyArray (tyInt w8) 256)) (past .39)) ⊛
-          ‵ (fdies (tyRef erased mut (tyArray (tyInt w8) 256)) (past .40)) ⊛ ‵ (fdies (tyArray (tyInt w32) 128) (past .41)) ⊛ ‵
-          (fdies tyUnit (past .42)) ⊛ ‵ (fdies (tyRef erased imm (pointee (R .written))) (past .43)) ⊛ ‵
-          (fdies (sliceTy (tyRef erased imm (pointee (R .written)))) (past .44)) ⊛ ‵
-          (fdies (tyRef erased imm (tyArray (tyInt w32) 32)) (past .45)) ⊛ ‵ (fdies (tyRef erased mut (tyArray (tyInt w32) 128)) (past .46))
-          ⊛ ‵ (fdies (tyRef erased imm (pointee (R .written))) (past .47)) ⊛ ‵
-          (fdies (sliceTy (tyRef erased imm (pointee (R .written)))) (past .48)) ⊛ ‵
-          (fdies (tyRef erased mut (tyArray (tyInt w32) 128)) (past .49)) ⊛ ‵
-          (fdies (tyRef erased imm (tyArray (tyInt w32) 128)) (past .50)) ⊛ ‵ (fdies (tyRef erased mut (tyArray (tyInt w32) 32)) (past .51))
-          ⊛ ‵ (fdies (tyRef erased mut (tyArray (tyInt w8) 32)) (past .52)) ⊛ ‵
-          (fdies (tyRef erased mut (tyArray (tyInt w32) 128)) (past .53)) ⊛ ‵
+          (fdies arrival-laws.mir (past .35)) ⊛ ‵ (fdies (tyInt w64) (past .36)) ⊛ ‵ (fdies (tyArray (tyInt w8) 128) (past .37)) ⊛ ‵
+          (fdies (tyArray (tyInt w8) 256) (past .38)) ⊛ ‵ (fdies (tyRef erased imm (pointee (L .written))) (past .39)) ⊛ ‵
+          (fdies (tyRef erased mut (tyArray (tyInt w8) 128)) (past .40)) ⊛ ‵ (fdies (tyRef erased mut (tyArray (tyInt w8) 256)) (past .41))
+          ⊛ ‵ (fdies (tyArray (tyInt w32) 128) (past .42)) ⊛ ‵ (fdies tyUnit (past .43)) ⊛ ‵
+          (fdies (tyRef erased imm (pointee (R .written))) (past .44)) ⊛ ‵
+          (fdies (sliceTy (tyRef erased imm (pointee (R .written)))) (past .45)) ⊛ ‵
+          (fdies (tyRef erased imm (tyArray (tyInt w32) 32)) (past .46)) ⊛ ‵ (fdies (tyRef erased mut (tyArray (tyInt w32) 128)) (past .47))
+          ⊛ ‵ (fdies (tyRef erased imm (pointee (R .written))) (past .48)) ⊛ ‵
+          (fdies (sliceTy (tyRef erased imm (pointee (R .written)))) (past .49)) ⊛ ‵
+          (fdies (tyRef erased mut (tyArray (tyInt w32) 128)) (past .50)) ⊛ ‵
+          (fdies (tyRef erased imm (tyArray (tyInt w32) 128)) (past .51)) ⊛ ‵ (fdies (tyRef erased mut (tyArray (tyInt w32) 32)) (past .52))
+          ⊛ ‵ (fdies (tyRef erased mut (tyArray (tyInt w8) 32)) (past .53)) ⊛ ‵
           (fdies (tyRef erased mut (tyArray (tyInt w32) 128)) (past .54)) ⊛ ‵
-          (fdies (tyRef erased mut (tyArray (tyInt w32) 128)) (past .55)) ⊛ ‵ (fdies (tyRef erased imm (tyArray (tyInt w8) 256)) (past .56))
-          ⊛ ‵ (fdies (tyRef erased mut (tyInt w8)) (past .57)) ⊛ ‵ (fdies (sliceTy (tyRef erased mut (tyInt w8))) (past .58)) ⊛ ‵
-          (fdies (tyRef erased mut (tyInt w32)) (past .59)) ⊛ ‵ (fdies (sliceTy (tyRef erased mut (tyInt w32))) (past .60)) ⊛ ‵
-          (fdies (tyRef erased mut (pointee (R .written))) (past .61)) ⊛ ‵
-          (fdies (sliceTy (tyRef erased mut (pointee (R .written)))) (past .62)) ⊛ ‵
-          (fdies (tyRef erased imm (tyArray (tyInt w32) 32)) (past .63)) ⊛ ‵
-          (fdies (tyRef erased imm (tyArray (tyInt w32) 128)) (past .64)))
-          ∷ ‵ (fat fullShare (tyRef erased imm (tyArray (tyInt w32) 128)) (past .64) 0 ((vptr (past .31) 0)))
-          ∷ ‵ (fat fullShare (tyRef erased imm (tyArray (tyInt w32) 32)) (past .63) 0 ((vptr b (o + 636))))
-          ∷ ‵ (fat fullShare (sliceTy (tyRef erased mut (pointee (R .written)))) (past .62) 0 (s₃))
-          ∷ ‵ (fat fullShare (tyRef erased mut (pointee (R .written))) (past .61) 0 ((vptr (x₃ .ptr .0) (x₃ .ptr .1))))
-          ∷ ‵ (fat fullShare (sliceTy (tyRef erased mut (tyInt w32))) (past .60) 0 (s₄))
-          ∷ ‵ (fat fullShare (tyRef erased mut (tyInt w32)) (past .59) 0 ((vptr (x₄ .ptr .0) (x₄ .ptr .1))))
-          ∷ ‵ (fat fullShare (sliceTy (tyRef erased mut (tyInt w8))) (past .58) 0 (s₂))
-          ∷ ‵ (fat fullShare (tyRef erased mut (tyInt w8)) (past .57) 0 ((vptr (x₂ .ptr .0) (x₂ .ptr .1))))
-          ∷ ‵ (fat fullShare (tyRef erased imm (tyArray (tyInt w8) 256)) (past .56) 0 ((vptr (past .24) 0)))
-          ∷ ‵ (fat fullShare (tyRef erased mut (tyArray (tyInt w32) 128)) (past .55) 0 ((vptr b (o + 1820))))
-          ∷ ‵ (fat fullShare (tyRef erased mut (tyArray (tyInt w32) 128)) (past .54) 0 ((vptr b (o + 1308))))
-          ∷ ‵ (fat fullShare (tyRef erased mut (tyArray (tyInt w32) 128)) (past .53) 0 ((vptr b (o + 796))))
-          ∷ ‵ (fat fullShare (tyRef erased mut (tyArray (tyInt w8) 32)) (past .52) 0 ((vptr b (o + 764))))
-          ∷ ‵ (fat fullShare (tyRef erased mut (tyArray (tyInt w32) 32)) (past .51) 0 ((vptr b (o + 636))))
-          ∷ ‵ (fat fullShare (tyRef erased imm (tyArray (tyInt w32) 128)) (past .50) 0 ((vptr b (o + 124))))
-          ∷ ‵ (fat fullShare (tyRef erased mut (tyArray (tyInt w32) 128)) (past .49) 0 ((vptr (past .31) 0)))
-          ∷ ‵ (fat fullShare (sliceTy (tyRef erased imm (pointee (R .written)))) (past .48) 0 (s₃))
-          ∷ ‵ (fat fullShare (tyRef erased imm (pointee (R .written))) (past .47) 0 ((vptr (x₃ .ptr .0) (x₃ .ptr .1))))
-          ∷ ‵ (fat fullShare (tyRef erased mut (tyArray (tyInt w32) 128)) (past .46) 0 ((vptr (past .31) 0)))
-          ∷ ‵ (fat fullShare (tyRef erased imm (tyArray (tyInt w32) 32)) (past .45) 0 ((vptr b (o + 636))))
-          ∷ ‵ (fat fullShare (sliceTy (tyRef erased imm (pointee (R .written)))) (past .44) 0 (s₃))
-          ∷ ‵ (fat fullShare (tyRef erased imm (pointee (R .written))) (past .43) 0 ((vptr (x₃ .ptr .0) (x₃ .ptr .1))))
-          ∷ ‵ (fat fullShare tyUnit (past .42) 0 ((past .90))) ∷ ‵ (fat fullShare (tyArray (tyInt w32) 128) (past .41) 0 ((past .70)))
-          ∷ ‵ (fat fullShare (tyRef erased mut (tyArray (tyInt w8) 256)) (past .40) 0 ((vptr (past .24) 0)))
-          ∷ ‵ (fat fullShare (tyRef erased mut (tyArray (tyInt w8) 256)) (past .39) 0 ((vptr (past .23) 0)))
-          ∷ ‵ (fat fullShare (tyRef erased imm (pointee (L .written))) (past .38) 0 ((vptr b o)))
-          ∷ ‵ (fat fullShare (tyArray (tyInt w8) 256) (past .37) 0 ((past .65))) ∷ ‵ (fat fullShare (tyInt w64) (past .36) 0 ((past .88)))
-          ∷ ‵ (fat fullShare arrival-laws.mir (past .35) 0 ((past .85))) ∷ ‵ (fat fullShare flight-laws.mir (past .34) 0 ((past .82)))
-          ∷ ‵ (fat fullShare taken-laws.mir (past .33) 0 ((past .76))) ∷ ‵ (fat fullShare (tyInt w64) (past .32) 0 ((past .73)))
-          ∷ ‵ (fat fullShare (tyInt w64) (past .30) 0 ((past .68)))
+          (fdies (tyRef erased mut (tyArray (tyInt w32) 128)) (past .55)) ⊛ ‵
+          (fdies (tyRef erased mut (tyArray (tyInt w32) 128)) (past .56)) ⊛ ‵ (fdies (tyRef erased imm (tyArray (tyInt w8) 256)) (past .57))
+          ⊛ ‵ (fdies (tyRef erased mut (tyInt w8)) (past .58)) ⊛ ‵ (fdies (sliceTy (tyRef erased mut (tyInt w8))) (past .59)) ⊛ ‵
+          (fdies (tyRef erased mut (tyInt w32)) (past .60)) ⊛ ‵ (fdies (sliceTy (tyRef erased mut (tyInt w32))) (past .61)) ⊛ ‵
+          (fdies (tyRef erased mut (pointee (R .written))) (past .62)) ⊛ ‵
+          (fdies (sliceTy (tyRef erased mut (pointee (R .written)))) (past .63)) ⊛ ‵
+          (fdies (tyRef erased imm (tyArray (tyInt w32) 32)) (past .64)) ⊛ ‵
+          (fdies (tyRef erased imm (tyArray (tyInt w32) 128)) (past .65)))
+          ∷ ‵ (fat fullShare (tyRef erased imm (tyArray (tyInt w32) 128)) (past .65) 0 ((vptr (past .31) 0)))
+          ∷ ‵ (fat fullShare (tyRef erased imm (tyArray (tyInt w32) 32)) (past .64) 0 ((vptr b (o + 636))))
+          ∷ ‵ (fat fullShare (sliceTy (tyRef erased mut (pointee (R .written)))) (past .63) 0 (s₃))
+          ∷ ‵ (fat fullShare (tyRef erased mut (pointee (R .written))) (past .62) 0 ((vptr (x₃ .ptr .0) (x₃ .ptr .1))))
+          ∷ ‵ (fat fullShare (sliceTy (tyRef erased mut (tyInt w32))) (past .61) 0 (s₄))
+          ∷ ‵ (fat fullShare (tyRef erased mut (tyInt w32)) (past .60) 0 ((vptr (x₄ .ptr .0) (x₄ .ptr .1))))
+          ∷ ‵ (fat fullShare (sliceTy (tyRef erased mut (tyInt w8))) (past .59) 0 (s₂))
+          ∷ ‵ (fat fullShare (tyRef erased mut (tyInt w8)) (past .58) 0 ((vptr (x₂ .ptr .0) (x₂ .ptr .1))))
+          ∷ ‵ (fat fullShare (tyRef erased imm (tyArray (tyInt w8) 256)) (past .57) 0 ((vptr (past .24) 0)))
+          ∷ ‵ (fat fullShare (tyRef erased mut (tyArray (tyInt w32) 128)) (past .56) 0 ((vptr b (o + 1820))))
+          ∷ ‵ (fat fullShare (tyRef erased mut (tyArray (tyInt w32) 128)) (past .55) 0 ((vptr b (o + 1308))))
+          ∷ ‵ (fat fullShare (tyRef erased mut (tyArray (tyInt w32) 128)) (past .54) 0 ((vptr b (o + 796))))
+          ∷ ‵ (fat fullShare (tyRef erased mut (tyArray (tyInt w8) 32)) (past .53) 0 ((vptr b (o + 764))))
+          ∷ ‵ (fat fullShare (tyRef erased mut (tyArray (tyInt w32) 32)) (past .52) 0 ((vptr b (o + 636))))
+          ∷ ‵ (fat fullShare (tyRef erased imm (tyArray (tyInt w32) 128)) (past .51) 0 ((vptr b (o + 124))))
+          ∷ ‵ (fat fullShare (tyRef erased mut (tyArray (tyInt w32) 128)) (past .50) 0 ((vptr (past .31) 0)))
+          ∷ ‵ (fat fullShare (sliceTy (tyRef erased imm (pointee (R .written)))) (past .49) 0 (s₃))
+          ∷ ‵ (fat fullShare (tyRef erased imm (pointee (R .written))) (past .48) 0 ((vptr (x₃ .ptr .0) (x₃ .ptr .1))))
+          ∷ ‵ (fat fullShare (tyRef erased mut (tyArray (tyInt w32) 128)) (past .47) 0 ((vptr (past .31) 0)))
+          ∷ ‵ (fat fullShare (tyRef erased imm (tyArray (tyInt w32) 32)) (past .46) 0 ((vptr b (o + 636))))
+          ∷ ‵ (fat fullShare (sliceTy (tyRef erased imm (pointee (R .written)))) (past .45) 0 (s₃))
+          ∷ ‵ (fat fullShare (tyRef erased imm (pointee (R .written))) (past .44) 0 ((vptr (x₃ .ptr .0) (x₃ .ptr .1))))
+          ∷ ‵ (fat fullShare tyUnit (past .43) 0 ((past .92))) ∷ ‵ (fat fullShare (tyArray (tyInt w32) 128) (past .42) 0 ((past .72)))
+          ∷ ‵ (fat fullShare (tyRef erased mut (tyArray (tyInt w8) 256)) (past .41) 0 ((vptr (past .24) 0)))
+          ∷ ‵ (fat fullShare (tyRef erased mut (tyArray (tyInt w8) 128)) (past .40) 0 ((vptr (past .23) 0)))
+          ∷ ‵ (fat fullShare (tyRef erased imm (pointee (L .written))) (past .39) 0 ((vptr b o)))
+          ∷ ‵ (fat fullShare (tyArray (tyInt w8) 256) (past .38) 0 ((past .67)))
+          ∷ ‵ (fat fullShare (tyArray (tyInt w8) 128) (past .37) 0 ((past .66))) ∷ ‵ (fat fullShare (tyInt w64) (past .36) 0 ((past .90)))
+          ∷ ‵ (fat fullShare arrival-laws.mir (past .35) 0 ((past .87))) ∷ ‵ (fat fullShare flight-laws.mir (past .34) 0 ((past .84)))
+          ∷ ‵ (fat fullShare taken-laws.mir (past .33) 0 ((past .78))) ∷ ‵ (fat fullShare (tyInt w64) (past .32) 0 ((past .75)))
+          ∷ ‵ (fat fullShare (tyInt w64) (past .30) 0 ((past .70)))
           ∷ ‵ (fat fullShare clock-laws.mir (past .29) 0 ((only ((LL.vals clock-row.the-type clock-laws.the-laws) (h .clock)))))
           ∷ ‵ (fat fullShare arrival-laws.mir (past .28) 0 ((only ((LL.vals arrival-row.the-type arrival-laws.the-laws) (h .arrival)))))
           ∷ ‵ (fat fullShare flight-laws.mir (past .27) 0 ((only ((LL.vals flight-row.the-type flight-laws.the-laws) (h .flight)))))
           ∷ ‵ (fat fullShare settings-laws.mir (past .26) 0 ((only ((LL.vals settings-row.the-type settings-laws.the-laws) (h .settings)))))
-          ∷ ‵ (fat fullShare tyBool (past .25) 0 ((past .66)))
+          ∷ ‵ (fat fullShare tyBool (past .25) 0 ((past .68)))
           ∷ ‵ (fat fullShare (sliceTy (tyRef (named 5) imm (tyInt w8))) (past .22) 0 (s₅))
           ∷ ‵ (fat fullShare (sliceTy (tyRef (named 4) mut (tyInt w32))) (past .21) 0 (s₄))
           ∷ ‵ (fat fullShare (sliceTy (tyRef (named 3) mut (pointee (R .written)))) (past .20) 0 (s₃))
@@ -770,17 +776,17 @@ module _ {M : Type 1} (𝓤 : URA M) (H : Heap 𝓤) (A : Atoms 𝓤) (W : Given
           (past .25) (past .26) (past .27) (past .28) (past .29) (past .30) (past .31) (past .32) (past .33) (past .34) (past .35)
           (past .36) (past .37) (past .38) (past .39) (past .40) (past .41) (past .42) (past .43) (past .44) (past .45) (past .46)
           (past .47) (past .48) (past .49) (past .50) (past .51) (past .52) (past .53) (past .54) (past .55) (past .56) (past .57)
-          (past .58) (past .59) (past .60) (past .61) (past .62) (past .63) (past .64)) (behind 46 (code.function .body))
+          (past .58) (past .59) (past .60) (past .61) (past .62) (past .63) (past .64) (past .65)) (behind 46 (code.function .body))
           (atReturn 𝓤 H (En (past .16) (past .17) (past .18) (past .19) (past .20) (past .21) (past .22) (past .23) (past .24) (past .25)
           (past .26) (past .27) (past .28) (past .29) (past .30) (past .31) (past .32) (past .33) (past .34) (past .35) (past .36)
           (past .37) (past .38) (past .39) (past .40) (past .41) (past .42) (past .43) (past .44) (past .45) (past .46) (past .47)
           (past .48) (past .49) (past .50) (past .51) (past .52) (past .53) (past .54) (past .55) (past .56) (past .57) (past .58)
-          (past .59) (past .60) (past .61) (past .62) (past .63) (past .64)) Post))
+          (past .59) (past .60) (past .61) (past .62) (past .63) (past .64) (past .65)) Post))
       part₅ past =
           qed W (‵ (link-own κ₀ b o γ (record {
             settings = (h .settings);
-            flight = (past .81);
-            arrival = (past .84);
+            flight = (past .83);
+            arrival = (past .86);
             clock = (h .clock);
             queued = (h .queued);
             outstanding = (past .12);
@@ -794,76 +800,77 @@ module _ {M : Type 1} (𝓤 : URA M) (H : Heap 𝓤) (A : Atoms 𝓤) (W : Given
           ∷ ‵ (fat fullShare (tyArray (tyInt w8) 256) (past .24) 0 ((only ((array-vals (uint-vals w8)) (past .14)))))
           ∷ ‵ (finally u32 (x₄ .name) (past .5)) ∷ ‵ (finally u8 (x₂ .name) (past .6)) ∷ ‵ (flft κ₁ q₁) ∷ ‵ (flft κ₂ q₂)
           ∷ ‵ (flft κ₄ q₄) ∷ ‵ (flft κ₅ q₅)
-          ∷ ‵ (fat fullShare (tyArray (tyInt w8) 256) (past .23) 0 ((only ((array-vals (uint-vals w8)) (past .15)))))
+          ∷ ‵ (fat fullShare (tyArray (tyInt w8) 128) (past .23) 0 ((only ((array-vals (uint-vals w8)) (past .15)))))
           ∷ (‵ (fdies (tyInt w32) (past .16)) ⊛ ‵ (fdies (tyRef (named 0) mut (pointee (L .written))) (past .17)) ⊛ ‵
           (fdies (sliceTy (tyRef (named 1) imm (tyInt w8))) (past .18)) ⊛ ‵
           (fdies (sliceTy (tyRef (named 2) mut (tyInt w8))) (past .19)) ⊛ ‵
           (fdies (sliceTy (tyRef (named 3) mut (pointee (R .written)))) (past .20)) ⊛ ‵
           (fdies (sliceTy (tyRef (named 4) mut (tyInt w32))) (past .21)) ⊛ ‵
-          (fdies (sliceTy (tyRef (named 5) imm (tyInt w8))) (past .22)) ⊛ ‵ (fdies (tyArray (tyInt w8) 256) (past .23)) ⊛ ‵
+          (fdies (sliceTy (tyRef (named 5) imm (tyInt w8))) (past .22)) ⊛ ‵ (fdies (tyArray (tyInt w8) 128) (past .23)) ⊛ ‵
           (fdies (tyArray (tyInt w8) 256) (past .24)) ⊛ ‵ (fdies tyBool (past .25)) ⊛ ‵ (fdies settings-laws.mir (past .26)) ⊛ ‵
           (fdies flight-laws.mir (past .27)) ⊛ ‵ (fdies arrival-laws.mir (past .28)) ⊛ ‵ (fdies clock-laws.mir (past .29)) ⊛ ‵
           (fdies (tyInt w64) (past .30)) ⊛ ‵ (fdies (tyArray (tyInt w32) 128) (past .31)) ⊛ ‵ (fdies (tyInt w64) (past .32)) ⊛ ‵
           (fdies taken-laws.mir (past .33)) ⊛ ‵ (fdies flight-laws.mir (past .34)) ⊛ ‵ (fdies arrival-laws.mir (past .35)) ⊛ ‵
-          (fdies (tyInt w64) (past .36)) ⊛ ‵ (fdies (tyArray (tyInt w8) 256) (past .37)) ⊛ ‵
-          (fdies (tyRef erased imm (pointee (L .written))) (past .38)) ⊛ ‵
-          (fdies (tyRef erased mut (tyArray (tyInt w8) 256)) (past .39)) ⊛ ‵
-          (fdies (tyRef erased mut (tyArray (tyInt w8) 256)) (past .40)) ⊛ ‵ (fdies (tyArray (tyInt w32) 128) (past .41)) ⊛ ‵
-          (fdies tyUnit (past .42)) ⊛ ‵ (fdies (tyRef erased imm (pointee (R .written))) (past .43)) ⊛ ‵
-          (fdies (sliceTy (tyRef erased imm (pointee (R .written)))) (past .44)) ⊛ ‵
-          (fdies (tyRef erased imm (tyArray (tyInt w32) 32)) (past .45)) ⊛ ‵
-          (fdies (tyRef erased mut (tyArray (tyInt w32) 128)) (past .46)) ⊛ ‵
-          (fdies (tyRef erased imm (pointee (R .written))) (past .47)) ⊛ ‵
-          (fdies (sliceTy (tyRef erased imm (pointee (R .written)))) (past .48)) ⊛ ‵
-          (fdies (tyRef erased mut (tyArray (tyInt w32) 128)) (past .49)) ⊛ ‵
-          (fdies (tyRef erased imm (tyArray (tyInt w32) 128)) (past .50)) ⊛ ‵
-          (fdies (tyRef erased mut (tyArray (tyInt w32) 32)) (past .51)) ⊛ ‵
-          (fdies (tyRef erased mut (tyArray (tyInt w8) 32)) (past .52)) ⊛ ‵
-          (fdies (tyRef erased mut (tyArray (tyInt w32) 128)) (past .53)) ⊛ ‵
+          (fdies (tyInt w64) (past .36)) ⊛ ‵ (fdies (tyArray (tyInt w8) 128) (past .37)) ⊛ ‵ (fdies (tyArray (tyInt w8) 256) (past .38))
+          ⊛ ‵ (fdies (tyRef erased imm (pointee (L .written))) (past .39)) ⊛ ‵
+          (fdies (tyRef erased mut (tyArray (tyInt w8) 128)) (past .40)) ⊛ ‵
+          (fdies (tyRef erased mut (tyArray (tyInt w8) 256)) (past .41)) ⊛ ‵ (fdies (tyArray (tyInt w32) 128) (past .42)) ⊛ ‵
+          (fdies tyUnit (past .43)) ⊛ ‵ (fdies (tyRef erased imm (pointee (R .written))) (past .44)) ⊛ ‵
+          (fdies (sliceTy (tyRef erased imm (pointee (R .written)))) (past .45)) ⊛ ‵
+          (fdies (tyRef erased imm (tyArray (tyInt w32) 32)) (past .46)) ⊛ ‵
+          (fdies (tyRef erased mut (tyArray (tyInt w32) 128)) (past .47)) ⊛ ‵
+          (fdies (tyRef erased imm (pointee (R .written))) (past .48)) ⊛ ‵
+          (fdies (sliceTy (tyRef erased imm (pointee (R .written)))) (past .49)) ⊛ ‵
+          (fdies (tyRef erased mut (tyArray (tyInt w32) 128)) (past .50)) ⊛ ‵
+          (fdies (tyRef erased imm (tyArray (tyInt w32) 128)) (past .51)) ⊛ ‵
+          (fdies (tyRef erased mut (tyArray (tyInt w32) 32)) (past .52)) ⊛ ‵
+          (fdies (tyRef erased mut (tyArray (tyInt w8) 32)) (past .53)) ⊛ ‵
           (fdies (tyRef erased mut (tyArray (tyInt w32) 128)) (past .54)) ⊛ ‵
           (fdies (tyRef erased mut (tyArray (tyInt w32) 128)) (past .55)) ⊛ ‵
-          (fdies (tyRef erased imm (tyArray (tyInt w8) 256)) (past .56)) ⊛ ‵ (fdies (tyRef erased mut (tyInt w8)) (past .57)) ⊛ ‵
-          (fdies (sliceTy (tyRef erased mut (tyInt w8))) (past .58)) ⊛ ‵ (fdies (tyRef erased mut (tyInt w32)) (past .59)) ⊛ ‵
-          (fdies (sliceTy (tyRef erased mut (tyInt w32))) (past .60)) ⊛ ‵ (fdies (tyRef erased mut (pointee (R .written))) (past .61)) ⊛
-          ‵ (fdies (sliceTy (tyRef erased mut (pointee (R .written)))) (past .62)) ⊛ ‵
-          (fdies (tyRef erased imm (tyArray (tyInt w32) 32)) (past .63)) ⊛ ‵
-          (fdies (tyRef erased imm (tyArray (tyInt w32) 128)) (past .64)))
-          ∷ ‵ (fat fullShare (tyRef erased imm (tyArray (tyInt w32) 128)) (past .64) 0 ((vptr (past .31) 0)))
-          ∷ ‵ (fat fullShare (tyRef erased imm (tyArray (tyInt w32) 32)) (past .63) 0 ((vptr b (o + 636))))
-          ∷ ‵ (fat fullShare (sliceTy (tyRef erased mut (pointee (R .written)))) (past .62) 0 (s₃))
-          ∷ ‵ (fat fullShare (tyRef erased mut (pointee (R .written))) (past .61) 0 ((vptr (x₃ .ptr .0) (x₃ .ptr .1))))
-          ∷ ‵ (fat fullShare (sliceTy (tyRef erased mut (tyInt w32))) (past .60) 0 (s₄))
-          ∷ ‵ (fat fullShare (tyRef erased mut (tyInt w32)) (past .59) 0 ((vptr (x₄ .ptr .0) (x₄ .ptr .1))))
-          ∷ ‵ (fat fullShare (sliceTy (tyRef erased mut (tyInt w8))) (past .58) 0 (s₂))
-          ∷ ‵ (fat fullShare (tyRef erased mut (tyInt w8)) (past .57) 0 ((vptr (x₂ .ptr .0) (x₂ .ptr .1))))
-          ∷ ‵ (fat fullShare (tyRef erased imm (tyArray (tyInt w8) 256)) (past .56) 0 ((vptr (past .24) 0)))
-          ∷ ‵ (fat fullShare (tyRef erased mut (tyArray (tyInt w32) 128)) (past .55) 0 ((vptr b (o + 1820))))
-          ∷ ‵ (fat fullShare (tyRef erased mut (tyArray (tyInt w32) 128)) (past .54) 0 ((vptr b (o + 1308))))
-          ∷ ‵ (fat fullShare (tyRef erased mut (tyArray (tyInt w32) 128)) (past .53) 0 ((vptr b (o + 796))))
-          ∷ ‵ (fat fullShare (tyRef erased mut (tyArray (tyInt w8) 32)) (past .52) 0 ((vptr b (o + 764))))
-          ∷ ‵ (fat fullShare (tyRef erased mut (tyArray (tyInt w32) 32)) (past .51) 0 ((vptr b (o + 636))))
-          ∷ ‵ (fat fullShare (tyRef erased imm (tyArray (tyInt w32) 128)) (past .50) 0 ((vptr b (o + 124))))
-          ∷ ‵ (fat fullShare (tyRef erased mut (tyArray (tyInt w32) 128)) (past .49) 0 ((vptr (past .31) 0)))
-          ∷ ‵ (fat fullShare (sliceTy (tyRef erased imm (pointee (R .written)))) (past .48) 0 (s₃))
-          ∷ ‵ (fat fullShare (tyRef erased imm (pointee (R .written))) (past .47) 0 ((vptr (x₃ .ptr .0) (x₃ .ptr .1))))
-          ∷ ‵ (fat fullShare (tyRef erased mut (tyArray (tyInt w32) 128)) (past .46) 0 ((vptr (past .31) 0)))
-          ∷ ‵ (fat fullShare (tyRef erased imm (tyArray (tyInt w32) 32)) (past .45) 0 ((vptr b (o + 636))))
-          ∷ ‵ (fat fullShare (sliceTy (tyRef erased imm (pointee (R .written)))) (past .44) 0 (s₃))
-          ∷ ‵ (fat fullShare (tyRef erased imm (pointee (R .written))) (past .43) 0 ((vptr (x₃ .ptr .0) (x₃ .ptr .1))))
-          ∷ ‵ (fat fullShare tyUnit (past .42) 0 ((past .90))) ∷ ‵ (fat fullShare (tyArray (tyInt w32) 128) (past .41) 0 ((past .70)))
-          ∷ ‵ (fat fullShare (tyRef erased mut (tyArray (tyInt w8) 256)) (past .40) 0 ((vptr (past .24) 0)))
-          ∷ ‵ (fat fullShare (tyRef erased mut (tyArray (tyInt w8) 256)) (past .39) 0 ((vptr (past .23) 0)))
-          ∷ ‵ (fat fullShare (tyRef erased imm (pointee (L .written))) (past .38) 0 ((vptr b o)))
-          ∷ ‵ (fat fullShare (tyArray (tyInt w8) 256) (past .37) 0 ((past .65)))
-          ∷ ‵ (fat fullShare (tyInt w64) (past .36) 0 ((past .88))) ∷ ‵ (fat fullShare arrival-laws.mir (past .35) 0 ((past .85)))
-          ∷ ‵ (fat fullShare flight-laws.mir (past .34) 0 ((past .82))) ∷ ‵ (fat fullShare taken-laws.mir (past .33) 0 ((past .76)))
-          ∷ ‵ (fat fullShare (tyInt w64) (past .32) 0 ((past .73))) ∷ ‵ (fat fullShare (tyInt w64) (past .30) 0 ((past .68)))
+          (fdies (tyRef erased mut (tyArray (tyInt w32) 128)) (past .56)) ⊛ ‵
+          (fdies (tyRef erased imm (tyArray (tyInt w8) 256)) (past .57)) ⊛ ‵ (fdies (tyRef erased mut (tyInt w8)) (past .58)) ⊛ ‵
+          (fdies (sliceTy (tyRef erased mut (tyInt w8))) (past .59)) ⊛ ‵ (fdies (tyRef erased mut (tyInt w32)) (past .60)) ⊛ ‵
+          (fdies (sliceTy (tyRef erased mut (tyInt w32))) (past .61)) ⊛ ‵ (fdies (tyRef erased mut (pointee (R .written))) (past .62)) ⊛
+          ‵ (fdies (sliceTy (tyRef erased mut (pointee (R .written)))) (past .63)) ⊛ ‵
+          (fdies (tyRef erased imm (tyArray (tyInt w32) 32)) (past .64)) ⊛ ‵
+          (fdies (tyRef erased imm (tyArray (tyInt w32) 128)) (past .65)))
+          ∷ ‵ (fat fullShare (tyRef erased imm (tyArray (tyInt w32) 128)) (past .65) 0 ((vptr (past .31) 0)))
+          ∷ ‵ (fat fullShare (tyRef erased imm (tyArray (tyInt w32) 32)) (past .64) 0 ((vptr b (o + 636))))
+          ∷ ‵ (fat fullShare (sliceTy (tyRef erased mut (pointee (R .written)))) (past .63) 0 (s₃))
+          ∷ ‵ (fat fullShare (tyRef erased mut (pointee (R .written))) (past .62) 0 ((vptr (x₃ .ptr .0) (x₃ .ptr .1))))
+          ∷ ‵ (fat fullShare (sliceTy (tyRef erased mut (tyInt w32))) (past .61) 0 (s₄))
+          ∷ ‵ (fat fullShare (tyRef erased mut (tyInt w32)) (past .60) 0 ((vptr (x₄ .ptr .0) (x₄ .ptr .1))))
+          ∷ ‵ (fat fullShare (sliceTy (tyRef erased mut (tyInt w8))) (past .59) 0 (s₂))
+          ∷ ‵ (fat fullShare (tyRef erased mut (tyInt w8)) (past .58) 0 ((vptr (x₂ .ptr .0) (x₂ .ptr .1))))
+          ∷ ‵ (fat fullShare (tyRef erased imm (tyArray (tyInt w8) 256)) (past .57) 0 ((vptr (past .24) 0)))
+          ∷ ‵ (fat fullShare (tyRef erased mut (tyArray (tyInt w32) 128)) (past .56) 0 ((vptr b (o + 1820))))
+          ∷ ‵ (fat fullShare (tyRef erased mut (tyArray (tyInt w32) 128)) (past .55) 0 ((vptr b (o + 1308))))
+          ∷ ‵ (fat fullShare (tyRef erased mut (tyArray (tyInt w32) 128)) (past .54) 0 ((vptr b (o + 796))))
+          ∷ ‵ (fat fullShare (tyRef erased mut (tyArray (tyInt w8) 32)) (past .53) 0 ((vptr b (o + 764))))
+          ∷ ‵ (fat fullShare (tyRef erased mut (tyArray (tyInt w32) 32)) (past .52) 0 ((vptr b (o + 636))))
+          ∷ ‵ (fat fullShare (tyRef erased imm (tyArray (tyInt w32) 128)) (past .51) 0 ((vptr b (o + 124))))
+          ∷ ‵ (fat fullShare (tyRef erased mut (tyArray (tyInt w32) 128)) (past .50) 0 ((vptr (past .31) 0)))
+          ∷ ‵ (fat fullShare (sliceTy (tyRef erased imm (pointee (R .written)))) (past .49) 0 (s₃))
+          ∷ ‵ (fat fullShare (tyRef erased imm (pointee (R .written))) (past .48) 0 ((vptr (x₃ .ptr .0) (x₃ .ptr .1))))
+          ∷ ‵ (fat fullShare (tyRef erased mut (tyArray (tyInt w32) 128)) (past .47) 0 ((vptr (past .31) 0)))
+          ∷ ‵ (fat fullShare (tyRef erased imm (tyArray (tyInt w32) 32)) (past .46) 0 ((vptr b (o + 636))))
+          ∷ ‵ (fat fullShare (sliceTy (tyRef erased imm (pointee (R .written)))) (past .45) 0 (s₃))
+          ∷ ‵ (fat fullShare (tyRef erased imm (pointee (R .written))) (past .44) 0 ((vptr (x₃ .ptr .0) (x₃ .ptr .1))))
+          ∷ ‵ (fat fullShare tyUnit (past .43) 0 ((past .92))) ∷ ‵ (fat fullShare (tyArray (tyInt w32) 128) (past .42) 0 ((past .72)))
+          ∷ ‵ (fat fullShare (tyRef erased mut (tyArray (tyInt w8) 256)) (past .41) 0 ((vptr (past .24) 0)))
+          ∷ ‵ (fat fullShare (tyRef erased mut (tyArray (tyInt w8) 128)) (past .40) 0 ((vptr (past .23) 0)))
+          ∷ ‵ (fat fullShare (tyRef erased imm (pointee (L .written))) (past .39) 0 ((vptr b o)))
+          ∷ ‵ (fat fullShare (tyArray (tyInt w8) 256) (past .38) 0 ((past .67)))
+          ∷ ‵ (fat fullShare (tyArray (tyInt w8) 128) (past .37) 0 ((past .66)))
+          ∷ ‵ (fat fullShare (tyInt w64) (past .36) 0 ((past .90))) ∷ ‵ (fat fullShare arrival-laws.mir (past .35) 0 ((past .87)))
+          ∷ ‵ (fat fullShare flight-laws.mir (past .34) 0 ((past .84))) ∷ ‵ (fat fullShare taken-laws.mir (past .33) 0 ((past .78)))
+          ∷ ‵ (fat fullShare (tyInt w64) (past .32) 0 ((past .75))) ∷ ‵ (fat fullShare (tyInt w64) (past .30) 0 ((past .70)))
           ∷ ‵ (fat fullShare clock-laws.mir (past .29) 0 ((only ((LL.vals clock-row.the-type clock-laws.the-laws) (h .clock)))))
           ∷ ‵ (fat fullShare arrival-laws.mir (past .28) 0 ((only ((LL.vals arrival-row.the-type arrival-laws.the-laws) (h .arrival)))))
           ∷ ‵ (fat fullShare flight-laws.mir (past .27) 0 ((only ((LL.vals flight-row.the-type flight-laws.the-laws) (h .flight)))))
           ∷ ‵ (fat fullShare settings-laws.mir (past .26) 0
           ((only ((LL.vals settings-row.the-type settings-laws.the-laws) (h .settings)))))
-          ∷ ‵ (fat fullShare tyBool (past .25) 0 ((past .66)))
+          ∷ ‵ (fat fullShare tyBool (past .25) 0 ((past .68)))
           ∷ ‵ (fat fullShare (sliceTy (tyRef (named 5) imm (tyInt w8))) (past .22) 0 (s₅))
           ∷ ‵ (fat fullShare (sliceTy (tyRef (named 4) mut (tyInt w32))) (past .21) 0 (s₄))
           ∷ ‵ (fat fullShare (sliceTy (tyRef (named 3) mut (pointee (R .written)))) (past .20) 0 (s₃))
@@ -874,59 +881,59 @@ module _ {M : Type 1} (𝓤 : URA M) (H : Heap 𝓤) (A : Atoms 𝓤) (W : Given
           (past .25) (past .26) (past .27) (past .28) (past .29) (past .30) (past .31) (past .32) (past .33) (past .34) (past .35)
           (past .36) (past .37) (past .38) (past .39) (past .40) (past .41) (past .42) (past .43) (past .44) (past .45) (past .46)
           (past .47) (past .48) (past .49) (past .50) (past .51) (past .52) (past .53) (past .54) (past .55) (past .56) (past .57)
-          (past .58) (past .59) (past .60) (past .61) (past .62) (past .63) (past .64)) (behind 46 (code.function .body))
+          (past .58) (past .59) (past .60) (past .61) (past .62) (past .63) (past .64) (past .65)) (behind 46 (code.function .body))
           (atRet (En (past .16) (past .17) (past .18) (past .19) (past .20) (past .21) (past .22) (past .23) (past .24) (past .25)
           (past .26) (past .27) (past .28) (past .29) (past .30) (past .31) (past .32) (past .33) (past .34) (past .35) (past .36)
           (past .37) (past .38) (past .39) (past .40) (past .41) (past .42) (past .43) (past .44) (past .45) (past .46) (past .47)
           (past .48) (past .49) (past .50) (past .51) (past .52) (past .53) (past .54) (past .55) (past .56) (past .57) (past .58)
-          (past .59) (past .60) (past .61) (past .62) (past .63) (past .64)) Post) $
-          nothing ! $ calls-fn ! fm code-of.ended (code-of.clauses 𝓤 H A at-mem run) (known .11)
-          ((tt, tt, tt, ((past .75), tt), ((past .76) ∷ [], tt)), tt) (λ r _. r ≡ answerCode ((past .75) .answer))
+          (past .59) (past .60) (past .61) (past .62) (past .63) (past .64) (past .65)) Post) $
+          nothing ! $ calls-fn ! fm code-of.ended (code-of.clauses 𝓤 H A at-mem run) (known .12)
+          ((tt, tt, tt, ((past .77), tt), ((past .78) ∷ [], tt)), tt) (λ r _. r ≡ answerCode ((past .77) .answer))
           (‵ ftrue) (plainly 𝓤 H A W (taken-row.the-row ∷ []) ((LL.makes taken-row.the-type taken-laws.the-plain 𝓤 H A), tt)
-          ((past .75), tt) ((past .76) ∷ [], tt) ((past .78), tt)) (λ r _. id⊢ 𝓤 _)
-          (and-then ! (load ! (from ! (stop !)) (look ! 46 refl)) (no-more !))
-          (λ r w-r _ e-r is-r. drop ! $ drop ! $ land ! (from ! (stop !)) (init ! 59 refl (sint-lawful 𝓤 H A W w32 .typed r _ is-r .0)) $
-          returns ! (look ! 59 refl) $
+          ((past .77), tt) ((past .78) ∷ [], tt) ((past .80), tt)) (λ r _. id⊢ 𝓤 _)
+          (and-then ! (load ! (from ! (stop !)) (look ! 47 refl)) (no-more !))
+          (λ r w-r _ e-r is-r. drop ! $ drop ! $ land ! (from ! (stop !)) (init ! 60 refl (sint-lawful 𝓤 H A W w32 .typed r _ is-r .0)) $
+          returns ! (look ! 60 refl) $
           move ! (13 ∷ []) $ spread W (‵ (fdies (tyInt w32) (past .16)))
           (‵ (fdies (tyRef (named 0) mut (pointee (L .written))) (past .17))
           ∷ ‵ (fdies (sliceTy (tyRef (named 1) imm (tyInt w8))) (past .18))
           ∷ ‵ (fdies (sliceTy (tyRef (named 2) mut (tyInt w8))) (past .19))
           ∷ ‵ (fdies (sliceTy (tyRef (named 3) mut (pointee (R .written)))) (past .20))
           ∷ ‵ (fdies (sliceTy (tyRef (named 4) mut (tyInt w32))) (past .21))
-          ∷ ‵ (fdies (sliceTy (tyRef (named 5) imm (tyInt w8))) (past .22)) ∷ ‵ (fdies (tyArray (tyInt w8) 256) (past .23))
+          ∷ ‵ (fdies (sliceTy (tyRef (named 5) imm (tyInt w8))) (past .22)) ∷ ‵ (fdies (tyArray (tyInt w8) 128) (past .23))
           ∷ ‵ (fdies (tyArray (tyInt w8) 256) (past .24)) ∷ ‵ (fdies tyBool (past .25)) ∷ ‵ (fdies settings-laws.mir (past .26))
           ∷ ‵ (fdies flight-laws.mir (past .27)) ∷ ‵ (fdies arrival-laws.mir (past .28)) ∷ ‵ (fdies clock-laws.mir (past .29))
           ∷ ‵ (fdies (tyInt w64) (past .30)) ∷ ‵ (fdies (tyArray (tyInt w32) 128) (past .31)) ∷ ‵ (fdies (tyInt w64) (past .32))
           ∷ ‵ (fdies taken-laws.mir (past .33)) ∷ ‵ (fdies flight-laws.mir (past .34)) ∷ ‵ (fdies arrival-laws.mir (past .35))
-          ∷ ‵ (fdies (tyInt w64) (past .36)) ∷ ‵ (fdies (tyArray (tyInt w8) 256) (past .37))
-          ∷ ‵ (fdies (tyRef erased imm (pointee (L .written))) (past .38))
-          ∷ ‵ (fdies (tyRef erased mut (tyArray (tyInt w8) 256)) (past .39))
-          ∷ ‵ (fdies (tyRef erased mut (tyArray (tyInt w8) 256)) (past .40)) ∷ ‵ (fdies (tyArray (tyInt w32) 128) (past .41))
-          ∷ ‵ (fdies tyUnit (past .42)) ∷ ‵ (fdies (tyRef erased imm (pointee (R .written))) (past .43))
-          ∷ ‵ (fdies (sliceTy (tyRef erased imm (pointee (R .written)))) (past .44))
-          ∷ ‵ (fdies (tyRef erased imm (tyArray (tyInt w32) 32)) (past .45))
-          ∷ ‵ (fdies (tyRef erased mut (tyArray (tyInt w32) 128)) (past .46))
-          ∷ ‵ (fdies (tyRef erased imm (pointee (R .written))) (past .47))
-          ∷ ‵ (fdies (sliceTy (tyRef erased imm (pointee (R .written)))) (past .48))
-          ∷ ‵ (fdies (tyRef erased mut (tyArray (tyInt w32) 128)) (past .49))
-          ∷ ‵ (fdies (tyRef erased imm (tyArray (tyInt w32) 128)) (past .50))
-          ∷ ‵ (fdies (tyRef erased mut (tyArray (tyInt w32) 32)) (past .51))
-          ∷ ‵ (fdies (tyRef erased mut (tyArray (tyInt w8) 32)) (past .52))
-          ∷ ‵ (fdies (tyRef erased mut (tyArray (tyInt w32) 128)) (past .53))
+          ∷ ‵ (fdies (tyInt w64) (past .36)) ∷ ‵ (fdies (tyArray (tyInt w8) 128) (past .37))
+          ∷ ‵ (fdies (tyArray (tyInt w8) 256) (past .38)) ∷ ‵ (fdies (tyRef erased imm (pointee (L .written))) (past .39))
+          ∷ ‵ (fdies (tyRef erased mut (tyArray (tyInt w8) 128)) (past .40))
+          ∷ ‵ (fdies (tyRef erased mut (tyArray (tyInt w8) 256)) (past .41)) ∷ ‵ (fdies (tyArray (tyInt w32) 128) (past .42))
+          ∷ ‵ (fdies tyUnit (past .43)) ∷ ‵ (fdies (tyRef erased imm (pointee (R .written))) (past .44))
+          ∷ ‵ (fdies (sliceTy (tyRef erased imm (pointee (R .written)))) (past .45))
+          ∷ ‵ (fdies (tyRef erased imm (tyArray (tyInt w32) 32)) (past .46))
+          ∷ ‵ (fdies (tyRef erased mut (tyArray (tyInt w32) 128)) (past .47))
+          ∷ ‵ (fdies (tyRef erased imm (pointee (R .written))) (past .48))
+          ∷ ‵ (fdies (sliceTy (tyRef erased imm (pointee (R .written)))) (past .49))
+          ∷ ‵ (fdies (tyRef erased mut (tyArray (tyInt w32) 128)) (past .50))
+          ∷ ‵ (fdies (tyRef erased imm (tyArray (tyInt w32) 128)) (past .51))
+          ∷ ‵ (fdies (tyRef erased mut (tyArray (tyInt w32) 32)) (past .52))
+          ∷ ‵ (fdies (tyRef erased mut (tyArray (tyInt w8) 32)) (past .53))
           ∷ ‵ (fdies (tyRef erased mut (tyArray (tyInt w32) 128)) (past .54))
           ∷ ‵ (fdies (tyRef erased mut (tyArray (tyInt w32) 128)) (past .55))
-          ∷ ‵ (fdies (tyRef erased imm (tyArray (tyInt w8) 256)) (past .56)) ∷ ‵ (fdies (tyRef erased mut (tyInt w8)) (past .57))
-          ∷ ‵ (fdies (sliceTy (tyRef erased mut (tyInt w8))) (past .58)) ∷ ‵ (fdies (tyRef erased mut (tyInt w32)) (past .59))
-          ∷ ‵ (fdies (sliceTy (tyRef erased mut (tyInt w32))) (past .60))
-          ∷ ‵ (fdies (tyRef erased mut (pointee (R .written))) (past .61))
-          ∷ ‵ (fdies (sliceTy (tyRef erased mut (pointee (R .written)))) (past .62))
-          ∷ ‵ (fdies (tyRef erased imm (tyArray (tyInt w32) 32)) (past .63))
-          ∷ ‵ (fdies (tyRef erased imm (tyArray (tyInt w32) 128)) (past .64)) ∷ []) (id⊢ 𝓤 _) $
-          move ! (107 ∷ 0 ∷ 106 ∷ 1 ∷ 105 ∷ 2 ∷ 104 ∷ 3 ∷ 103 ∷ 4 ∷ 102 ∷ 5 ∷ 101 ∷ 6 ∷ 61 ∷ 7 ∷ 54 ∷ 8 ∷ 100 ∷ 9
-          ∷ 99 ∷ 10 ∷ 98 ∷ 11 ∷ 97 ∷ 12 ∷ 96 ∷ 13 ∷ 95 ∷ 14 ∷ 51 ∷ 15 ∷ 94 ∷ 16 ∷ 93 ∷ 17 ∷ 92 ∷ 18 ∷ 91 ∷ 19 ∷ 90
-          ∷ 20 ∷ 89 ∷ 21 ∷ 88 ∷ 22 ∷ 87 ∷ 23 ∷ 86 ∷ 24 ∷ 85 ∷ 25 ∷ 84 ∷ 26 ∷ 83 ∷ 27 ∷ 82 ∷ 28 ∷ 81 ∷ 29 ∷ 80 ∷ 30
-          ∷ 79 ∷ 31 ∷ 78 ∷ 32 ∷ 77 ∷ 33 ∷ 76 ∷ 34 ∷ 75 ∷ 35 ∷ 74 ∷ 36 ∷ 73 ∷ 37 ∷ 72 ∷ 38 ∷ 71 ∷ 39 ∷ 70 ∷ 40 ∷ 69
-          ∷ 41 ∷ 68 ∷ 42 ∷ 67 ∷ 43 ∷ 66 ∷ 44 ∷ 65 ∷ 45 ∷ 64 ∷ 46 ∷ 63 ∷ 47 ∷ 62 ∷ 48 ∷ []) $ forget ! 0 refl $ free1 ! $
+          ∷ ‵ (fdies (tyRef erased mut (tyArray (tyInt w32) 128)) (past .56))
+          ∷ ‵ (fdies (tyRef erased imm (tyArray (tyInt w8) 256)) (past .57)) ∷ ‵ (fdies (tyRef erased mut (tyInt w8)) (past .58))
+          ∷ ‵ (fdies (sliceTy (tyRef erased mut (tyInt w8))) (past .59)) ∷ ‵ (fdies (tyRef erased mut (tyInt w32)) (past .60))
+          ∷ ‵ (fdies (sliceTy (tyRef erased mut (tyInt w32))) (past .61))
+          ∷ ‵ (fdies (tyRef erased mut (pointee (R .written))) (past .62))
+          ∷ ‵ (fdies (sliceTy (tyRef erased mut (pointee (R .written)))) (past .63))
+          ∷ ‵ (fdies (tyRef erased imm (tyArray (tyInt w32) 32)) (past .64))
+          ∷ ‵ (fdies (tyRef erased imm (tyArray (tyInt w32) 128)) (past .65)) ∷ []) (id⊢ 𝓤 _) $
+          move ! (109 ∷ 0 ∷ 108 ∷ 1 ∷ 107 ∷ 2 ∷ 106 ∷ 3 ∷ 105 ∷ 4 ∷ 104 ∷ 5 ∷ 103 ∷ 6 ∷ 62 ∷ 7 ∷ 55 ∷ 8 ∷ 102 ∷ 9
+          ∷ 101 ∷ 10 ∷ 100 ∷ 11 ∷ 99 ∷ 12 ∷ 98 ∷ 13 ∷ 97 ∷ 14 ∷ 52 ∷ 15 ∷ 96 ∷ 16 ∷ 95 ∷ 17 ∷ 94 ∷ 18 ∷ 93 ∷ 19
+          ∷ 92 ∷ 20 ∷ 91 ∷ 21 ∷ 90 ∷ 22 ∷ 89 ∷ 23 ∷ 88 ∷ 24 ∷ 87 ∷ 25 ∷ 86 ∷ 26 ∷ 85 ∷ 27 ∷ 84 ∷ 28 ∷ 83 ∷ 29 ∷ 82
+          ∷ 30 ∷ 81 ∷ 31 ∷ 80 ∷ 32 ∷ 79 ∷ 33 ∷ 78 ∷ 34 ∷ 77 ∷ 35 ∷ 76 ∷ 36 ∷ 75 ∷ 37 ∷ 74 ∷ 38 ∷ 73 ∷ 39 ∷ 72 ∷ 40
+          ∷ 71 ∷ 41 ∷ 70 ∷ 42 ∷ 69 ∷ 43 ∷ 68 ∷ 44 ∷ 67 ∷ 45 ∷ 66 ∷ 46 ∷ 65 ∷ 47 ∷ 64 ∷ 48 ∷ 63 ∷ 49 ∷ []) $
           forget ! 0 refl $ free1 ! $ forget ! 0 refl $ free1 ! $ forget ! 0 refl $ free1 ! $ forget ! 0 refl $ free1 ! $
           forget ! 0 refl $ free1 ! $ forget ! 0 refl $ free1 ! $ forget ! 0 refl $ free1 ! $ forget ! 0 refl $ free1 ! $
           forget ! 0 refl $ free1 ! $ forget ! 0 refl $ free1 ! $ forget ! 0 refl $ free1 ! $ forget ! 0 refl $ free1 ! $
@@ -938,12 +945,13 @@ module _ {M : Type 1} (𝓤 : URA M) (H : Heap 𝓤) (A : Atoms 𝓤) (W : Given
           forget ! 0 refl $ free1 ! $ forget ! 0 refl $ free1 ! $ forget ! 0 refl $ free1 ! $ forget ! 0 refl $ free1 ! $
           forget ! 0 refl $ free1 ! $ forget ! 0 refl $ free1 ! $ forget ! 0 refl $ free1 ! $ forget ! 0 refl $ free1 ! $
           forget ! 0 refl $ free1 ! $ forget ! 0 refl $ free1 ! $ forget ! 0 refl $ free1 ! $ forget ! 0 refl $ free1 ! $
-          forget ! 0 refl $ free1 ! $ forget ! 0 refl $ free1 ! $ forget ! 0 refl $ free1 ! $ forget ! 0 refl $ free1 ! $ free0 ! $
+          forget ! 0 refl $ free1 ! $ forget ! 0 refl $ free1 ! $ forget ! 0 refl $ free1 ! $ forget ! 0 refl $ free1 ! $
+          forget ! 0 refl $ free1 ! $ forget ! 0 refl $ free1 ! $ free0 ! $
           move ! (0 ∷ 1 ∷ 6 ∷ 5 ∷ 7 ∷ 2 ∷ 3 ∷ 4 ∷ 8 ∷ 9 ∷ []) $
           by ! (exits r w-r (record {
             settings = (h .settings);
-            flight = (past .81);
-            arrival = (past .84);
+            flight = (past .83);
+            arrival = (past .86);
             clock = (h .clock);
             queued = (h .queued);
             outstanding = (past .12);
@@ -952,27 +960,27 @@ module _ {M : Type 1} (𝓤 : URA M) (H : Heap 𝓤) (A : Atoms 𝓤) (W : Given
             waiting = (past .9);
             «waiting_numbers» = (past .8);
           }) ((past .6)) ((past .0)) ((past .5))
-          (told answerCode _ ((past .75) .answer) e-r
-          (rw ((past .83), (past .86)) (input-promised (x₅ .now) h (partsOf (x₁ .now) (x₂ .now) (x₃ .now) (x₄ .now))
-          ((past .75) .answer) (record { words = (past .12); changed = (past .75) .changed; records = (recordsIn (past .7)) })
-          (linkOf (h .settings) ((past .75) .flight) ((past .75) .arrival) (h .clock)
+          (told answerCode _ ((past .77) .answer) e-r
+          (rw ((past .85), (past .88)) (input-promised (x₅ .now) h (partsOf (x₁ .now) (x₂ .now) (x₃ .now) (x₄ .now))
+          ((past .77) .answer) (record { words = (past .12); changed = (past .77) .changed; records = (recordsIn (past .7)) })
+          (linkOf (h .settings) ((past .77) .flight) ((past .77) .arrival) (h .clock)
           (arrays (h .queued) (past .12) (past .11) (past .10) (past .9) (past .8))) (past .6) (past .5) (past .0)
-          (records-length 32 (past .7) ((past .77) .1))
-          (put-back (x₃ .now) (past .0) (record { words = (past .12); changed = (past .75) .changed; records = (recordsIn (past .7)) })
-          (past .12) (past .87) (recordsIn (past .7)) refl (past .89) refl (past .91))
-          (input-left (x₅ .now) h (partsOf (x₁ .now) (x₂ .now) (x₃ .now) (x₄ .now)) ((past .75) .answer)
-          (record { words = (past .12); changed = (past .75) .changed; records = (recordsIn (past .7)) })
-          (linkOf (h .settings) ((past .75) .flight) ((past .75) .arrival) (h .clock)
+          (records-length 32 (past .7) ((past .79) .1))
+          (put-back (x₃ .now) (past .0) (record { words = (past .12); changed = (past .77) .changed; records = (recordsIn (past .7)) })
+          (past .12) (past .89) (recordsIn (past .7)) refl (past .91) refl (past .93))
+          (input-left (x₅ .now) h (partsOf (x₁ .now) (x₂ .now) (x₃ .now) (x₄ .now)) ((past .77) .answer)
+          (record { words = (past .12); changed = (past .77) .changed; records = (recordsIn (past .7)) })
+          (linkOf (h .settings) ((past .77) .flight) ((past .77) .arrival) (h .clock)
           (arrays (h .queued) (past .12) (past .11) (past .10) (past .9) (past .8))) (past .6) (past .5) (recordsIn (past .13))
-          (past .72) (gathers h (partsOf (x₁ .now) (x₂ .now) (x₃ .now) (x₄ .now)) (past .67) (recordsIn (past .13)) (past .72)
-          (past .69) ((past .71) .1) (past .74)) (record {
-            whole-queued = (past .93);
-            whole-outstanding = (past .94);
-            whole-transmissions = (past .95);
-            whole-ready = (past .96);
-            whole-waiting = (past .97);
-            whole-numbers = (past .98);
-          }) ((past .77) .0))))) (past .79) (past .92) (past .80) is-r))
+          (past .74) (gathers h (partsOf (x₁ .now) (x₂ .now) (x₃ .now) (x₄ .now)) (past .69) (recordsIn (past .13)) (past .74)
+          (past .71) ((past .73) .1) (past .76)) (record {
+            whole-queued = (past .95);
+            whole-outstanding = (past .96);
+            whole-transmissions = (past .97);
+            whole-ready = (past .98);
+            whole-waiting = (past .99);
+            whole-numbers = (past .100);
+          }) ((past .79) .0))))) (past .81) (past .94) (past .82) is-r))
 
       -- what part 4 knows
       abbrev Known₄ : Type 0
@@ -985,10 +993,10 @@ module _ {M : Type 1} (𝓤 : URA M) (H : Heap 𝓤) (A : Atoms 𝓤) (W : Given
           (l₂₆ : ℕ) × (l₂₇ : ℕ) × (l₂₈ : ℕ) × (l₂₉ : ℕ) × (l₃₀ : ℕ) × (l₃₁ : ℕ) × (l₃₂ : ℕ) ×
           (l₃₃ : ℕ) × (l₃₄ : ℕ) × (l₃₅ : ℕ) × (l₃₆ : ℕ) × (l₃₇ : ℕ) × (l₃₈ : ℕ) × (l₃₉ : ℕ) ×
           (l₄₀ : ℕ) × (l₄₁ : ℕ) × (l₄₂ : ℕ) × (l₄₃ : ℕ) × (l₄₄ : ℕ) × (l₄₅ : ℕ) × (l₄₆ : ℕ) ×
-          (l₄₇ : ℕ) × (l₄₈ : ℕ) × (w-receives : Val) × (w-ok : Val) × (n : ℕ) × (w-n : Val) × (e-n : n ≡ h .flight .outstanding) ×
-          (w-found : Val) × (w-g : Val) × (e-g : (length z-found ≡ 128) ×
-          (recordsIn z-found ≡ padded (gathered (take sendSlots (x₃ .now)) (slotsIn (h .outstanding) n)))) × (m : ℕ) × (w-m : Val) ×
-          (e-m : m ≡ length (x₃ .now)) × (a : Taken) × (w-a : Val) ×
+          (l₄₇ : ℕ) × (l₄₈ : ℕ) × (l₄₉ : ℕ) × (w-sends : Val) × (w-receives : Val) × (w-ok : Val) × (n : ℕ) × (w-n : Val) ×
+          (e-n : n ≡ h .flight .outstanding) × (w-found : Val) × (w-g : Val) ×
+          (e-g : (length z-found ≡ 128) × (recordsIn z-found ≡ padded (gathered (take sendSlots (x₃ .now)) (slotsIn (h .outstanding) n)))) ×
+          (m : ℕ) × (w-m : Val) × (e-m : m ≡ length (x₃ .now)) × (a : Taken) × (w-a : Val) ×
           (e-a : (Takes (λ l. takesInWith l (recordsIn z-found) (x₄ .now) (lentLengths m (x₁ .now) (x₂ .now) (x₄ .now)) (x₂ .now) (x₅ .now))
           (h .settings) (h .flight) (h .arrival) (h .clock) (arraysOf h) (x₂ .now) (x₄ .now) a
           (arrays (h .queued) z-outstanding z-transmissions z-ready z-waiting z-waiting-numbers) (recordsIn z-found′) z₂ z₄) ×
@@ -998,7 +1006,7 @@ module _ {M : Type 1} (𝓤 : URA M) (H : Heap 𝓤) (A : Atoms 𝓤) (W : Given
           (w-c : Val) × (e-c : c ≡ a .changed) × (is-c : Is usize c (w-c ∷ [])) × (length z-outstanding ≡ 32)
 
       part₄ : (past : Known₄) → ent 𝓤 (⋆ 𝓤 H A (‵ (partAt (Array u32 32) fullShare (past .9) b (o + 636))
-          ∷ ‵ (partAt arrival-row.the-row fullShare (past .83) b (o + 72)) ∷ ‵ (partAt flight-row.the-row fullShare (past .80) b (o + 16))
+          ∷ ‵ (partAt arrival-row.the-row fullShare (past .85) b (o + 72)) ∷ ‵ (partAt flight-row.the-row fullShare (past .82) b (o + 16))
           ∷ ‵ (fat fullShare (tyArray (tyInt w8) 256) (past .21) 0 ((only ((array-vals (uint-vals w8)) (past .11)))))
           ∷ ‵ (partAt (Array u32 128) fullShare (past .5) b (o + 1820)) ∷ ‵ (partAt (Array u32 128) fullShare (past .6) b (o + 1308))
           ∷ ‵ (partAt (Array u32 128) fullShare (past .7) b (o + 796)) ∷ ‵ (partAt (Array u8 32) fullShare (past .8) b (o + 764))
@@ -1008,70 +1016,72 @@ module _ {M : Type 1} (𝓤 : URA M) (H : Heap 𝓤) (A : Atoms 𝓤) (W : Given
           ∷ ‵ (flft κ₄ q₄) ∷ ‵ (flft κ₅ q₅) ∷ ‵ Own₃ ∷ ‵ (flft κ₃ q₃)
           ∷ ‵ (partAt clock-row.the-row fullShare (h .clock) b (o + 104))
           ∷ ‵ (partAt settings-row.the-row fullShare (h .settings) b (o + 0)) ∷ raw (Back 𝓤 H A fullShare b o) ∷ ‵ (Open b o γ κ₀ q₀ h)
-          ∷ ‵ (fat fullShare (tyArray (tyInt w8) 256) (past .20) 0 ((only ((array-vals (uint-vals w8)) (past .12)))))
+          ∷ ‵ (fat fullShare (tyArray (tyInt w8) 128) (past .20) 0 ((only ((array-vals (uint-vals w8)) (past .12)))))
           ∷ (‵ (fdies (tyInt w32) (past .13)) ⊛ ‵ (fdies (tyRef (named 0) mut (pointee (L .written))) (past .14)) ⊛ ‵
           (fdies (sliceTy (tyRef (named 1) imm (tyInt w8))) (past .15)) ⊛ ‵ (fdies (sliceTy (tyRef (named 2) mut (tyInt w8))) (past .16)) ⊛
           ‵ (fdies (sliceTy (tyRef (named 3) mut (pointee (R .written)))) (past .17)) ⊛ ‵
           (fdies (sliceTy (tyRef (named 4) mut (tyInt w32))) (past .18)) ⊛ ‵ (fdies (sliceTy (tyRef (named 5) imm (tyInt w8))) (past .19)) ⊛
-          ‵ (fdies (tyArray (tyInt w8) 256) (past .20)) ⊛ ‵ (fdies (tyArray (tyInt w8) 256) (past .21)) ⊛ ‵ (fdies tyBool (past .22)) ⊛ ‵
+          ‵ (fdies (tyArray (tyInt w8) 128) (past .20)) ⊛ ‵ (fdies (tyArray (tyInt w8) 256) (past .21)) ⊛ ‵ (fdies tyBool (past .22)) ⊛ ‵
           (fdies settings-laws.mir (past .23)) ⊛ ‵ (fdies flight-laws.mir (past .24)) ⊛ ‵ (fdies arrival-laws.mir (past .25)) ⊛ ‵
           (fdies clock-laws.mir (past .26)) ⊛ ‵ (fdies (tyInt w64) (past .27)) ⊛ ‵ (fdies (tyArray (tyInt w32) 128) (past .28)) ⊛ ‵
           (fdies (tyInt w64) (past .29)) ⊛ ‵ (fdies taken-laws.mir (past .30)) ⊛ ‵ (fdies flight-laws.mir (past .31)) ⊛ ‵
-          (fdies arrival-laws.mir (past .32)) ⊛ ‵ (fdies (tyInt w64) (past .33)) ⊛ ‵ (fdies (tyArray (tyInt w8) 256) (past .34)) ⊛ ‵
-          (fdies (tyRef erased imm (pointee (L .written))) (past .35)) ⊛ ‵ (fdies (tyRef erased mut (tyArray (tyInt w8) 256)) (past .36)) ⊛
-          ‵ (fdies (tyRef erased mut (tyArray (tyInt w8) 256)) (past .37)) ⊛ ‵ (fdies (tyArray (tyInt w32) 128) (past .38)) ⊛ ‵
-          (fdies tyUnit (past .39)) ⊛ ‵ (fdies (tyRef erased imm (pointee (R .written))) (past .40)) ⊛ ‵
-          (fdies (sliceTy (tyRef erased imm (pointee (R .written)))) (past .41)) ⊛ ‵
-          (fdies (tyRef erased imm (tyArray (tyInt w32) 32)) (past .42)) ⊛ ‵ (fdies (tyRef erased mut (tyArray (tyInt w32) 128)) (past .43))
-          ⊛ ‵ (fdies (tyRef erased imm (pointee (R .written))) (past .44)) ⊛ ‵
-          (fdies (sliceTy (tyRef erased imm (pointee (R .written)))) (past .45)) ⊛ ‵
-          (fdies (tyRef erased mut (tyArray (tyInt w32) 128)) (past .46)) ⊛ ‵
-          (fdies (tyRef erased imm (tyArray (tyInt w32) 128)) (past .47)) ⊛ ‵ (fdies (tyRef erased mut (tyArray (tyInt w32) 32)) (past .48))
-          ⊛ ‵ (fdies (tyRef erased mut (tyArray (tyInt w8) 32)) (past .49)) ⊛ ‵
-          (fdies (tyRef erased mut (tyArray (tyInt w32) 128)) (past .50)) ⊛ ‵
+          (fdies arrival-laws.mir (past .32)) ⊛ ‵ (fdies (tyInt w64) (past .33)) ⊛ ‵ (fdies (tyArray (tyInt w8) 128) (past .34)) ⊛ ‵
+          (fdies (tyArray (tyInt w8) 256) (past .35)) ⊛ ‵ (fdies (tyRef erased imm (pointee (L .written))) (past .36)) ⊛ ‵
+          (fdies (tyRef erased mut (tyArray (tyInt w8) 128)) (past .37)) ⊛ ‵ (fdies (tyRef erased mut (tyArray (tyInt w8) 256)) (past .38))
+          ⊛ ‵ (fdies (tyArray (tyInt w32) 128) (past .39)) ⊛ ‵ (fdies tyUnit (past .40)) ⊛ ‵
+          (fdies (tyRef erased imm (pointee (R .written))) (past .41)) ⊛ ‵
+          (fdies (sliceTy (tyRef erased imm (pointee (R .written)))) (past .42)) ⊛ ‵
+          (fdies (tyRef erased imm (tyArray (tyInt w32) 32)) (past .43)) ⊛ ‵ (fdies (tyRef erased mut (tyArray (tyInt w32) 128)) (past .44))
+          ⊛ ‵ (fdies (tyRef erased imm (pointee (R .written))) (past .45)) ⊛ ‵
+          (fdies (sliceTy (tyRef erased imm (pointee (R .written)))) (past .46)) ⊛ ‵
+          (fdies (tyRef erased mut (tyArray (tyInt w32) 128)) (past .47)) ⊛ ‵
+          (fdies (tyRef erased imm (tyArray (tyInt w32) 128)) (past .48)) ⊛ ‵ (fdies (tyRef erased mut (tyArray (tyInt w32) 32)) (past .49))
+          ⊛ ‵ (fdies (tyRef erased mut (tyArray (tyInt w8) 32)) (past .50)) ⊛ ‵
           (fdies (tyRef erased mut (tyArray (tyInt w32) 128)) (past .51)) ⊛ ‵
-          (fdies (tyRef erased mut (tyArray (tyInt w32) 128)) (past .52)) ⊛ ‵ (fdies (tyRef erased imm (tyArray (tyInt w8) 256)) (past .53))
-          ⊛ ‵ (fdies (tyRef erased mut (tyInt w8)) (past .54)) ⊛ ‵ (fdies (sliceTy (tyRef erased mut (tyInt w8))) (past .55)) ⊛ ‵
-          (fdies (tyRef erased mut (tyInt w32)) (past .56)) ⊛ ‵ (fdies (sliceTy (tyRef erased mut (tyInt w32))) (past .57)) ⊛ ‵
-          (fdies (tyRef erased mut (pointee (R .written))) (past .58)) ⊛ ‵
-          (fdies (sliceTy (tyRef erased mut (pointee (R .written)))) (past .59)) ⊛ ‵
-          (fdies (tyRef erased imm (tyArray (tyInt w32) 32)) (past .60)) ⊛ ‵
-          (fdies (tyRef erased imm (tyArray (tyInt w32) 128)) (past .61)))
-          ∷ ‵ (froom (tyRef erased imm (tyArray (tyInt w32) 128)) (past .61) 0)
-          ∷ ‵ (froom (tyRef erased imm (tyArray (tyInt w32) 32)) (past .60) 0)
-          ∷ ‵ (fat fullShare (sliceTy (tyRef erased mut (pointee (R .written)))) (past .59) 0 (s₃))
-          ∷ ‵ (fat fullShare (tyRef erased mut (pointee (R .written))) (past .58) 0 ((vptr (x₃ .ptr .0) (x₃ .ptr .1))))
-          ∷ ‵ (fat fullShare (sliceTy (tyRef erased mut (tyInt w32))) (past .57) 0 (s₄))
-          ∷ ‵ (fat fullShare (tyRef erased mut (tyInt w32)) (past .56) 0 ((vptr (x₄ .ptr .0) (x₄ .ptr .1))))
-          ∷ ‵ (fat fullShare (sliceTy (tyRef erased mut (tyInt w8))) (past .55) 0 (s₂))
-          ∷ ‵ (fat fullShare (tyRef erased mut (tyInt w8)) (past .54) 0 ((vptr (x₂ .ptr .0) (x₂ .ptr .1))))
-          ∷ ‵ (fat fullShare (tyRef erased imm (tyArray (tyInt w8) 256)) (past .53) 0 ((vptr (past .21) 0)))
-          ∷ ‵ (fat fullShare (tyRef erased mut (tyArray (tyInt w32) 128)) (past .52) 0 ((vptr b (o + 1820))))
-          ∷ ‵ (fat fullShare (tyRef erased mut (tyArray (tyInt w32) 128)) (past .51) 0 ((vptr b (o + 1308))))
-          ∷ ‵ (fat fullShare (tyRef erased mut (tyArray (tyInt w32) 128)) (past .50) 0 ((vptr b (o + 796))))
-          ∷ ‵ (fat fullShare (tyRef erased mut (tyArray (tyInt w8) 32)) (past .49) 0 ((vptr b (o + 764))))
-          ∷ ‵ (fat fullShare (tyRef erased mut (tyArray (tyInt w32) 32)) (past .48) 0 ((vptr b (o + 636))))
-          ∷ ‵ (fat fullShare (tyRef erased imm (tyArray (tyInt w32) 128)) (past .47) 0 ((vptr b (o + 124))))
-          ∷ ‵ (fat fullShare (tyRef erased mut (tyArray (tyInt w32) 128)) (past .46) 0 ((vptr (past .28) 0)))
-          ∷ ‵ (fat fullShare (sliceTy (tyRef erased imm (pointee (R .written)))) (past .45) 0 (s₃))
-          ∷ ‵ (fat fullShare (tyRef erased imm (pointee (R .written))) (past .44) 0 ((vptr (x₃ .ptr .0) (x₃ .ptr .1))))
-          ∷ ‵ (fat fullShare (tyRef erased mut (tyArray (tyInt w32) 128)) (past .43) 0 ((vptr (past .28) 0)))
-          ∷ ‵ (fat fullShare (tyRef erased imm (tyArray (tyInt w32) 32)) (past .42) 0 ((vptr b (o + 636))))
-          ∷ ‵ (fat fullShare (sliceTy (tyRef erased imm (pointee (R .written)))) (past .41) 0 (s₃))
-          ∷ ‵ (fat fullShare (tyRef erased imm (pointee (R .written))) (past .40) 0 ((vptr (x₃ .ptr .0) (x₃ .ptr .1))))
-          ∷ ‵ (fat fullShare tyUnit (past .39) 0 ((past .68))) ∷ ‵ (fat fullShare (tyArray (tyInt w32) 128) (past .38) 0 ((past .67)))
-          ∷ ‵ (fat fullShare (tyRef erased mut (tyArray (tyInt w8) 256)) (past .37) 0 ((vptr (past .21) 0)))
-          ∷ ‵ (fat fullShare (tyRef erased mut (tyArray (tyInt w8) 256)) (past .36) 0 ((vptr (past .20) 0)))
-          ∷ ‵ (fat fullShare (tyRef erased imm (pointee (L .written))) (past .35) 0 ((vptr b o)))
-          ∷ ‵ (fat fullShare (tyArray (tyInt w8) 256) (past .34) 0 ((past .62))) ∷ ‵ (fat fullShare (tyInt w64) (past .33) 0 ((past .87)))
-          ∷ ‵ (fat fullShare arrival-laws.mir (past .32) 0 ((past .84))) ∷ ‵ (fat fullShare flight-laws.mir (past .31) 0 ((past .81)))
-          ∷ ‵ (fat fullShare taken-laws.mir (past .30) 0 ((past .74))) ∷ ‵ (fat fullShare (tyInt w64) (past .29) 0 ((past .71)))
-          ∷ ‵ (fat fullShare (tyInt w64) (past .27) 0 ((past .65)))
+          (fdies (tyRef erased mut (tyArray (tyInt w32) 128)) (past .52)) ⊛ ‵
+          (fdies (tyRef erased mut (tyArray (tyInt w32) 128)) (past .53)) ⊛ ‵ (fdies (tyRef erased imm (tyArray (tyInt w8) 256)) (past .54))
+          ⊛ ‵ (fdies (tyRef erased mut (tyInt w8)) (past .55)) ⊛ ‵ (fdies (sliceTy (tyRef erased mut (tyInt w8))) (past .56)) ⊛ ‵
+          (fdies (tyRef erased mut (tyInt w32)) (past .57)) ⊛ ‵ (fdies (sliceTy (tyRef erased mut (tyInt w32))) (past .58)) ⊛ ‵
+          (fdies (tyRef erased mut (pointee (R .written))) (past .59)) ⊛ ‵
+          (fdies (sliceTy (tyRef erased mut (pointee (R .written)))) (past .60)) ⊛ ‵
+          (fdies (tyRef erased imm (tyArray (tyInt w32) 32)) (past .61)) ⊛ ‵
+          (fdies (tyRef erased imm (tyArray (tyInt w32) 128)) (past .62)))
+          ∷ ‵ (froom (tyRef erased imm (tyArray (tyInt w32) 128)) (past .62) 0)
+          ∷ ‵ (froom (tyRef erased imm (tyArray (tyInt w32) 32)) (past .61) 0)
+          ∷ ‵ (fat fullShare (sliceTy (tyRef erased mut (pointee (R .written)))) (past .60) 0 (s₃))
+          ∷ ‵ (fat fullShare (tyRef erased mut (pointee (R .written))) (past .59) 0 ((vptr (x₃ .ptr .0) (x₃ .ptr .1))))
+          ∷ ‵ (fat fullShare (sliceTy (tyRef erased mut (tyInt w32))) (past .58) 0 (s₄))
+          ∷ ‵ (fat fullShare (tyRef erased mut (tyInt w32)) (past .57) 0 ((vptr (x₄ .ptr .0) (x₄ .ptr .1))))
+          ∷ ‵ (fat fullShare (sliceTy (tyRef erased mut (tyInt w8))) (past .56) 0 (s₂))
+          ∷ ‵ (fat fullShare (tyRef erased mut (tyInt w8)) (past .55) 0 ((vptr (x₂ .ptr .0) (x₂ .ptr .1))))
+          ∷ ‵ (fat fullShare (tyRef erased imm (tyArray (tyInt w8) 256)) (past .54) 0 ((vptr (past .21) 0)))
+          ∷ ‵ (fat fullShare (tyRef erased mut (tyArray (tyInt w32) 128)) (past .53) 0 ((vptr b (o + 1820))))
+          ∷ ‵ (fat fullShare (tyRef erased mut (tyArray (tyInt w32) 128)) (past .52) 0 ((vptr b (o + 1308))))
+          ∷ ‵ (fat fullShare (tyRef erased mut (tyArray (tyInt w32) 128)) (past .51) 0 ((vptr b (o + 796))))
+          ∷ ‵ (fat fullShare (tyRef erased mut (tyArray (tyInt w8) 32)) (past .50) 0 ((vptr b (o + 764))))
+          ∷ ‵ (fat fullShare (tyRef erased mut (tyArray (tyInt w32) 32)) (past .49) 0 ((vptr b (o + 636))))
+          ∷ ‵ (fat fullShare (tyRef erased imm (tyArray (tyInt w32) 128)) (past .48) 0 ((vptr b (o + 124))))
+          ∷ ‵ (fat fullShare (tyRef erased mut (tyArray (tyInt w32) 128)) (past .47) 0 ((vptr (past .28) 0)))
+          ∷ ‵ (fat fullShare (sliceTy (tyRef erased imm (pointee (R .written)))) (past .46) 0 (s₃))
+          ∷ ‵ (fat fullShare (tyRef erased imm (pointee (R .written))) (past .45) 0 ((vptr (x₃ .ptr .0) (x₃ .ptr .1))))
+          ∷ ‵ (fat fullShare (tyRef erased mut (tyArray (tyInt w32) 128)) (past .44) 0 ((vptr (past .28) 0)))
+          ∷ ‵ (fat fullShare (tyRef erased imm (tyArray (tyInt w32) 32)) (past .43) 0 ((vptr b (o + 636))))
+          ∷ ‵ (fat fullShare (sliceTy (tyRef erased imm (pointee (R .written)))) (past .42) 0 (s₃))
+          ∷ ‵ (fat fullShare (tyRef erased imm (pointee (R .written))) (past .41) 0 ((vptr (x₃ .ptr .0) (x₃ .ptr .1))))
+          ∷ ‵ (fat fullShare tyUnit (past .40) 0 ((past .70))) ∷ ‵ (fat fullShare (tyArray (tyInt w32) 128) (past .39) 0 ((past .69)))
+          ∷ ‵ (fat fullShare (tyRef erased mut (tyArray (tyInt w8) 256)) (past .38) 0 ((vptr (past .21) 0)))
+          ∷ ‵ (fat fullShare (tyRef erased mut (tyArray (tyInt w8) 128)) (past .37) 0 ((vptr (past .20) 0)))
+          ∷ ‵ (fat fullShare (tyRef erased imm (pointee (L .written))) (past .36) 0 ((vptr b o)))
+          ∷ ‵ (fat fullShare (tyArray (tyInt w8) 256) (past .35) 0 ((past .64)))
+          ∷ ‵ (fat fullShare (tyArray (tyInt w8) 128) (past .34) 0 ((past .63))) ∷ ‵ (fat fullShare (tyInt w64) (past .33) 0 ((past .89)))
+          ∷ ‵ (fat fullShare arrival-laws.mir (past .32) 0 ((past .86))) ∷ ‵ (fat fullShare flight-laws.mir (past .31) 0 ((past .83)))
+          ∷ ‵ (fat fullShare taken-laws.mir (past .30) 0 ((past .76))) ∷ ‵ (fat fullShare (tyInt w64) (past .29) 0 ((past .73)))
+          ∷ ‵ (fat fullShare (tyInt w64) (past .27) 0 ((past .67)))
           ∷ ‵ (fat fullShare clock-laws.mir (past .26) 0 ((only ((LL.vals clock-row.the-type clock-laws.the-laws) (h .clock)))))
           ∷ ‵ (fat fullShare arrival-laws.mir (past .25) 0 ((only ((LL.vals arrival-row.the-type arrival-laws.the-laws) (h .arrival)))))
           ∷ ‵ (fat fullShare flight-laws.mir (past .24) 0 ((only ((LL.vals flight-row.the-type flight-laws.the-laws) (h .flight)))))
           ∷ ‵ (fat fullShare settings-laws.mir (past .23) 0 ((only ((LL.vals settings-row.the-type settings-laws.the-laws) (h .settings)))))
-          ∷ ‵ (fat fullShare tyBool (past .22) 0 ((past .63)))
+          ∷ ‵ (fat fullShare tyBool (past .22) 0 ((past .65)))
           ∷ ‵ (fat fullShare (sliceTy (tyRef (named 5) imm (tyInt w8))) (past .19) 0 (s₅))
           ∷ ‵ (fat fullShare (sliceTy (tyRef (named 4) mut (tyInt w32))) (past .18) 0 (s₄))
           ∷ ‵ (fat fullShare (sliceTy (tyRef (named 3) mut (pointee (R .written)))) (past .17) 0 (s₃))
@@ -1082,15 +1092,15 @@ module _ {M : Type 1} (𝓤 : URA M) (H : Heap 𝓤) (A : Atoms 𝓤) (W : Given
           (past .22) (past .23) (past .24) (past .25) (past .26) (past .27) (past .28) (past .29) (past .30) (past .31) (past .32)
           (past .33) (past .34) (past .35) (past .36) (past .37) (past .38) (past .39) (past .40) (past .41) (past .42) (past .43)
           (past .44) (past .45) (past .46) (past .47) (past .48) (past .49) (past .50) (past .51) (past .52) (past .53) (past .54)
-          (past .55) (past .56) (past .57) (past .58) (past .59) (past .60) (past .61)) (behind 43 (code.function .body))
+          (past .55) (past .56) (past .57) (past .58) (past .59) (past .60) (past .61) (past .62)) (behind 43 (code.function .body))
           (atReturn 𝓤 H (En (past .13) (past .14) (past .15) (past .16) (past .17) (past .18) (past .19) (past .20) (past .21) (past .22)
           (past .23) (past .24) (past .25) (past .26) (past .27) (past .28) (past .29) (past .30) (past .31) (past .32) (past .33)
           (past .34) (past .35) (past .36) (past .37) (past .38) (past .39) (past .40) (past .41) (past .42) (past .43) (past .44)
           (past .45) (past .46) (past .47) (past .48) (past .49) (past .50) (past .51) (past .52) (past .53) (past .54) (past .55)
-          (past .56) (past .57) (past .58) (past .59) (past .60) (past .61)) Post))
+          (past .56) (past .57) (past .58) (past .59) (past .60) (past .61) (past .62)) Post))
       part₄ past =
-          qed W (‵ (partAt (Array u32 32) fullShare (past .9) b (o + 636)) ∷ ‵ (partAt arrival-row.the-row fullShare (past .83) b (o + 72))
-          ∷ ‵ (partAt flight-row.the-row fullShare (past .80) b (o + 16))
+          qed W (‵ (partAt (Array u32 32) fullShare (past .9) b (o + 636)) ∷ ‵ (partAt arrival-row.the-row fullShare (past .85) b (o + 72))
+          ∷ ‵ (partAt flight-row.the-row fullShare (past .82) b (o + 16))
           ∷ ‵ (fat fullShare (tyArray (tyInt w8) 256) (past .21) 0 ((only ((array-vals (uint-vals w8)) (past .11)))))
           ∷ ‵ (partAt (Array u32 128) fullShare (past .5) b (o + 1820)) ∷ ‵ (partAt (Array u32 128) fullShare (past .6) b (o + 1308))
           ∷ ‵ (partAt (Array u32 128) fullShare (past .7) b (o + 796)) ∷ ‵ (partAt (Array u8 32) fullShare (past .8) b (o + 764))
@@ -1100,76 +1110,77 @@ module _ {M : Type 1} (𝓤 : URA M) (H : Heap 𝓤) (A : Atoms 𝓤) (W : Given
           ∷ ‵ (flft κ₄ q₄) ∷ ‵ (flft κ₅ q₅) ∷ ‵ Own₃ ∷ ‵ (flft κ₃ q₃)
           ∷ ‵ (partAt clock-row.the-row fullShare (h .clock) b (o + 104))
           ∷ ‵ (partAt settings-row.the-row fullShare (h .settings) b (o + 0)) ∷ raw (Back 𝓤 H A fullShare b o) ∷ ‵ (Open b o γ κ₀ q₀ h)
-          ∷ ‵ (fat fullShare (tyArray (tyInt w8) 256) (past .20) 0 ((only ((array-vals (uint-vals w8)) (past .12)))))
+          ∷ ‵ (fat fullShare (tyArray (tyInt w8) 128) (past .20) 0 ((only ((array-vals (uint-vals w8)) (past .12)))))
           ∷ (‵ (fdies (tyInt w32) (past .13)) ⊛ ‵ (fdies (tyRef (named 0) mut (pointee (L .written))) (past .14)) ⊛ ‵
           (fdies (sliceTy (tyRef (named 1) imm (tyInt w8))) (past .15)) ⊛ ‵
           (fdies (sliceTy (tyRef (named 2) mut (tyInt w8))) (past .16)) ⊛ ‵
           (fdies (sliceTy (tyRef (named 3) mut (pointee (R .written)))) (past .17)) ⊛ ‵
           (fdies (sliceTy (tyRef (named 4) mut (tyInt w32))) (past .18)) ⊛ ‵
-          (fdies (sliceTy (tyRef (named 5) imm (tyInt w8))) (past .19)) ⊛ ‵ (fdies (tyArray (tyInt w8) 256) (past .20)) ⊛ ‵
+          (fdies (sliceTy (tyRef (named 5) imm (tyInt w8))) (past .19)) ⊛ ‵ (fdies (tyArray (tyInt w8) 128) (past .20)) ⊛ ‵
           (fdies (tyArray (tyInt w8) 256) (past .21)) ⊛ ‵ (fdies tyBool (past .22)) ⊛ ‵ (fdies settings-laws.mir (past .23)) ⊛ ‵
           (fdies flight-laws.mir (past .24)) ⊛ ‵ (fdies arrival-laws.mir (past .25)) ⊛ ‵ (fdies clock-laws.mir (past .26)) ⊛ ‵
           (fdies (tyInt w64) (past .27)) ⊛ ‵ (fdies (tyArray (tyInt w32) 128) (past .28)) ⊛ ‵ (fdies (tyInt w64) (past .29)) ⊛ ‵
           (fdies taken-laws.mir (past .30)) ⊛ ‵ (fdies flight-laws.mir (past .31)) ⊛ ‵ (fdies arrival-laws.mir (past .32)) ⊛ ‵
-          (fdies (tyInt w64) (past .33)) ⊛ ‵ (fdies (tyArray (tyInt w8) 256) (past .34)) ⊛ ‵
-          (fdies (tyRef erased imm (pointee (L .written))) (past .35)) ⊛ ‵
-          (fdies (tyRef erased mut (tyArray (tyInt w8) 256)) (past .36)) ⊛ ‵
-          (fdies (tyRef erased mut (tyArray (tyInt w8) 256)) (past .37)) ⊛ ‵ (fdies (tyArray (tyInt w32) 128) (past .38)) ⊛ ‵
-          (fdies tyUnit (past .39)) ⊛ ‵ (fdies (tyRef erased imm (pointee (R .written))) (past .40)) ⊛ ‵
-          (fdies (sliceTy (tyRef erased imm (pointee (R .written)))) (past .41)) ⊛ ‵
-          (fdies (tyRef erased imm (tyArray (tyInt w32) 32)) (past .42)) ⊛ ‵
-          (fdies (tyRef erased mut (tyArray (tyInt w32) 128)) (past .43)) ⊛ ‵
-          (fdies (tyRef erased imm (pointee (R .written))) (past .44)) ⊛ ‵
-          (fdies (sliceTy (tyRef erased imm (pointee (R .written)))) (past .45)) ⊛ ‵
-          (fdies (tyRef erased mut (tyArray (tyInt w32) 128)) (past .46)) ⊛ ‵
-          (fdies (tyRef erased imm (tyArray (tyInt w32) 128)) (past .47)) ⊛ ‵
-          (fdies (tyRef erased mut (tyArray (tyInt w32) 32)) (past .48)) ⊛ ‵
-          (fdies (tyRef erased mut (tyArray (tyInt w8) 32)) (past .49)) ⊛ ‵
-          (fdies (tyRef erased mut (tyArray (tyInt w32) 128)) (past .50)) ⊛ ‵
+          (fdies (tyInt w64) (past .33)) ⊛ ‵ (fdies (tyArray (tyInt w8) 128) (past .34)) ⊛ ‵ (fdies (tyArray (tyInt w8) 256) (past .35))
+          ⊛ ‵ (fdies (tyRef erased imm (pointee (L .written))) (past .36)) ⊛ ‵
+          (fdies (tyRef erased mut (tyArray (tyInt w8) 128)) (past .37)) ⊛ ‵
+          (fdies (tyRef erased mut (tyArray (tyInt w8) 256)) (past .38)) ⊛ ‵ (fdies (tyArray (tyInt w32) 128) (past .39)) ⊛ ‵
+          (fdies tyUnit (past .40)) ⊛ ‵ (fdies (tyRef erased imm (pointee (R .written))) (past .41)) ⊛ ‵
+          (fdies (sliceTy (tyRef erased imm (pointee (R .written)))) (past .42)) ⊛ ‵
+          (fdies (tyRef erased imm (tyArray (tyInt w32) 32)) (past .43)) ⊛ ‵
+          (fdies (tyRef erased mut (tyArray (tyInt w32) 128)) (past .44)) ⊛ ‵
+          (fdies (tyRef erased imm (pointee (R .written))) (past .45)) ⊛ ‵
+          (fdies (sliceTy (tyRef erased imm (pointee (R .written)))) (past .46)) ⊛ ‵
+          (fdies (tyRef erased mut (tyArray (tyInt w32) 128)) (past .47)) ⊛ ‵
+          (fdies (tyRef erased imm (tyArray (tyInt w32) 128)) (past .48)) ⊛ ‵
+          (fdies (tyRef erased mut (tyArray (tyInt w32) 32)) (past .49)) ⊛ ‵
+          (fdies (tyRef erased mut (tyArray (tyInt w8) 32)) (past .50)) ⊛ ‵
           (fdies (tyRef erased mut (tyArray (tyInt w32) 128)) (past .51)) ⊛ ‵
           (fdies (tyRef erased mut (tyArray (tyInt w32) 128)) (past .52)) ⊛ ‵
-          (fdies (tyRef erased imm (tyArray (tyInt w8) 256)) (past .53)) ⊛ ‵ (fdies (tyRef erased mut (tyInt w8)) (past .54)) ⊛ ‵
-          (fdies (sliceTy (tyRef erased mut (tyInt w8))) (past .55)) ⊛ ‵ (fdies (tyRef erased mut (tyInt w32)) (past .56)) ⊛ ‵
-          (fdies (sliceTy (tyRef erased mut (tyInt w32))) (past .57)) ⊛ ‵ (fdies (tyRef erased mut (pointee (R .written))) (past .58)) ⊛
-          ‵ (fdies (sliceTy (tyRef erased mut (pointee (R .written)))) (past .59)) ⊛ ‵
-          (fdies (tyRef erased imm (tyArray (tyInt w32) 32)) (past .60)) ⊛ ‵
-          (fdies (tyRef erased imm (tyArray (tyInt w32) 128)) (past .61)))
-          ∷ ‵ (froom (tyRef erased imm (tyArray (tyInt w32) 128)) (past .61) 0)
-          ∷ ‵ (froom (tyRef erased imm (tyArray (tyInt w32) 32)) (past .60) 0)
-          ∷ ‵ (fat fullShare (sliceTy (tyRef erased mut (pointee (R .written)))) (past .59) 0 (s₃))
-          ∷ ‵ (fat fullShare (tyRef erased mut (pointee (R .written))) (past .58) 0 ((vptr (x₃ .ptr .0) (x₃ .ptr .1))))
-          ∷ ‵ (fat fullShare (sliceTy (tyRef erased mut (tyInt w32))) (past .57) 0 (s₄))
-          ∷ ‵ (fat fullShare (tyRef erased mut (tyInt w32)) (past .56) 0 ((vptr (x₄ .ptr .0) (x₄ .ptr .1))))
-          ∷ ‵ (fat fullShare (sliceTy (tyRef erased mut (tyInt w8))) (past .55) 0 (s₂))
-          ∷ ‵ (fat fullShare (tyRef erased mut (tyInt w8)) (past .54) 0 ((vptr (x₂ .ptr .0) (x₂ .ptr .1))))
-          ∷ ‵ (fat fullShare (tyRef erased imm (tyArray (tyInt w8) 256)) (past .53) 0 ((vptr (past .21) 0)))
-          ∷ ‵ (fat fullShare (tyRef erased mut (tyArray (tyInt w32) 128)) (past .52) 0 ((vptr b (o + 1820))))
-          ∷ ‵ (fat fullShare (tyRef erased mut (tyArray (tyInt w32) 128)) (past .51) 0 ((vptr b (o + 1308))))
-          ∷ ‵ (fat fullShare (tyRef erased mut (tyArray (tyInt w32) 128)) (past .50) 0 ((vptr b (o + 796))))
-          ∷ ‵ (fat fullShare (tyRef erased mut (tyArray (tyInt w8) 32)) (past .49) 0 ((vptr b (o + 764))))
-          ∷ ‵ (fat fullShare (tyRef erased mut (tyArray (tyInt w32) 32)) (past .48) 0 ((vptr b (o + 636))))
-          ∷ ‵ (fat fullShare (tyRef erased imm (tyArray (tyInt w32) 128)) (past .47) 0 ((vptr b (o + 124))))
-          ∷ ‵ (fat fullShare (tyRef erased mut (tyArray (tyInt w32) 128)) (past .46) 0 ((vptr (past .28) 0)))
-          ∷ ‵ (fat fullShare (sliceTy (tyRef erased imm (pointee (R .written)))) (past .45) 0 (s₃))
-          ∷ ‵ (fat fullShare (tyRef erased imm (pointee (R .written))) (past .44) 0 ((vptr (x₃ .ptr .0) (x₃ .ptr .1))))
-          ∷ ‵ (fat fullShare (tyRef erased mut (tyArray (tyInt w32) 128)) (past .43) 0 ((vptr (past .28) 0)))
-          ∷ ‵ (fat fullShare (tyRef erased imm (tyArray (tyInt w32) 32)) (past .42) 0 ((vptr b (o + 636))))
-          ∷ ‵ (fat fullShare (sliceTy (tyRef erased imm (pointee (R .written)))) (past .41) 0 (s₃))
-          ∷ ‵ (fat fullShare (tyRef erased imm (pointee (R .written))) (past .40) 0 ((vptr (x₃ .ptr .0) (x₃ .ptr .1))))
-          ∷ ‵ (fat fullShare tyUnit (past .39) 0 ((past .68))) ∷ ‵ (fat fullShare (tyArray (tyInt w32) 128) (past .38) 0 ((past .67)))
-          ∷ ‵ (fat fullShare (tyRef erased mut (tyArray (tyInt w8) 256)) (past .37) 0 ((vptr (past .21) 0)))
-          ∷ ‵ (fat fullShare (tyRef erased mut (tyArray (tyInt w8) 256)) (past .36) 0 ((vptr (past .20) 0)))
-          ∷ ‵ (fat fullShare (tyRef erased imm (pointee (L .written))) (past .35) 0 ((vptr b o)))
-          ∷ ‵ (fat fullShare (tyArray (tyInt w8) 256) (past .34) 0 ((past .62)))
-          ∷ ‵ (fat fullShare (tyInt w64) (past .33) 0 ((past .87))) ∷ ‵ (fat fullShare arrival-laws.mir (past .32) 0 ((past .84)))
-          ∷ ‵ (fat fullShare flight-laws.mir (past .31) 0 ((past .81))) ∷ ‵ (fat fullShare taken-laws.mir (past .30) 0 ((past .74)))
-          ∷ ‵ (fat fullShare (tyInt w64) (past .29) 0 ((past .71))) ∷ ‵ (fat fullShare (tyInt w64) (past .27) 0 ((past .65)))
+          (fdies (tyRef erased mut (tyArray (tyInt w32) 128)) (past .53)) ⊛ ‵
+          (fdies (tyRef erased imm (tyArray (tyInt w8) 256)) (past .54)) ⊛ ‵ (fdies (tyRef erased mut (tyInt w8)) (past .55)) ⊛ ‵
+          (fdies (sliceTy (tyRef erased mut (tyInt w8))) (past .56)) ⊛ ‵ (fdies (tyRef erased mut (tyInt w32)) (past .57)) ⊛ ‵
+          (fdies (sliceTy (tyRef erased mut (tyInt w32))) (past .58)) ⊛ ‵ (fdies (tyRef erased mut (pointee (R .written))) (past .59)) ⊛
+          ‵ (fdies (sliceTy (tyRef erased mut (pointee (R .written)))) (past .60)) ⊛ ‵
+          (fdies (tyRef erased imm (tyArray (tyInt w32) 32)) (past .61)) ⊛ ‵
+          (fdies (tyRef erased imm (tyArray (tyInt w32) 128)) (past .62)))
+          ∷ ‵ (froom (tyRef erased imm (tyArray (tyInt w32) 128)) (past .62) 0)
+          ∷ ‵ (froom (tyRef erased imm (tyArray (tyInt w32) 32)) (past .61) 0)
+          ∷ ‵ (fat fullShare (sliceTy (tyRef erased mut (pointee (R .written)))) (past .60) 0 (s₃))
+          ∷ ‵ (fat fullShare (tyRef erased mut (pointee (R .written))) (past .59) 0 ((vptr (x₃ .ptr .0) (x₃ .ptr .1))))
+          ∷ ‵ (fat fullShare (sliceTy (tyRef erased mut (tyInt w32))) (past .58) 0 (s₄))
+          ∷ ‵ (fat fullShare (tyRef erased mut (tyInt w32)) (past .57) 0 ((vptr (x₄ .ptr .0) (x₄ .ptr .1))))
+          ∷ ‵ (fat fullShare (sliceTy (tyRef erased mut (tyInt w8))) (past .56) 0 (s₂))
+          ∷ ‵ (fat fullShare (tyRef erased mut (tyInt w8)) (past .55) 0 ((vptr (x₂ .ptr .0) (x₂ .ptr .1))))
+          ∷ ‵ (fat fullShare (tyRef erased imm (tyArray (tyInt w8) 256)) (past .54) 0 ((vptr (past .21) 0)))
+          ∷ ‵ (fat fullShare (tyRef erased mut (tyArray (tyInt w32) 128)) (past .53) 0 ((vptr b (o + 1820))))
+          ∷ ‵ (fat fullShare (tyRef erased mut (tyArray (tyInt w32) 128)) (past .52) 0 ((vptr b (o + 1308))))
+          ∷ ‵ (fat fullShare (tyRef erased mut (tyArray (tyInt w32) 128)) (past .51) 0 ((vptr b (o + 796))))
+          ∷ ‵ (fat fullShare (tyRef erased mut (tyArray (tyInt w8) 32)) (past .50) 0 ((vptr b (o + 764))))
+          ∷ ‵ (fat fullShare (tyRef erased mut (tyArray (tyInt w32) 32)) (past .49) 0 ((vptr b (o + 636))))
+          ∷ ‵ (fat fullShare (tyRef erased imm (tyArray (tyInt w32) 128)) (past .48) 0 ((vptr b (o + 124))))
+          ∷ ‵ (fat fullShare (tyRef erased mut (tyArray (tyInt w32) 128)) (past .47) 0 ((vptr (past .28) 0)))
+          ∷ ‵ (fat fullShare (sliceTy (tyRef erased imm (pointee (R .written)))) (past .46) 0 (s₃))
+          ∷ ‵ (fat fullShare (tyRef erased imm (pointee (R .written))) (past .45) 0 ((vptr (x₃ .ptr .0) (x₃ .ptr .1))))
+          ∷ ‵ (fat fullShare (tyRef erased mut (tyArray (tyInt w32) 128)) (past .44) 0 ((vptr (past .28) 0)))
+          ∷ ‵ (fat fullShare (tyRef erased imm (tyArray (tyInt w32) 32)) (past .43) 0 ((vptr b (o + 636))))
+          ∷ ‵ (fat fullShare (sliceTy (tyRef erased imm (pointee (R .written)))) (past .42) 0 (s₃))
+          ∷ ‵ (fat fullShare (tyRef erased imm (pointee (R .written))) (past .41) 0 ((vptr (x₃ .ptr .0) (x₃ .ptr .1))))
+          ∷ ‵ (fat fullShare tyUnit (past .40) 0 ((past .70))) ∷ ‵ (fat fullShare (tyArray (tyInt w32) 128) (past .39) 0 ((past .69)))
+          ∷ ‵ (fat fullShare (tyRef erased mut (tyArray (tyInt w8) 256)) (past .38) 0 ((vptr (past .21) 0)))
+          ∷ ‵ (fat fullShare (tyRef erased mut (tyArray (tyInt w8) 128)) (past .37) 0 ((vptr (past .20) 0)))
+          ∷ ‵ (fat fullShare (tyRef erased imm (pointee (L .written))) (past .36) 0 ((vptr b o)))
+          ∷ ‵ (fat fullShare (tyArray (tyInt w8) 256) (past .35) 0 ((past .64)))
+          ∷ ‵ (fat fullShare (tyArray (tyInt w8) 128) (past .34) 0 ((past .63)))
+          ∷ ‵ (fat fullShare (tyInt w64) (past .33) 0 ((past .89))) ∷ ‵ (fat fullShare arrival-laws.mir (past .32) 0 ((past .86)))
+          ∷ ‵ (fat fullShare flight-laws.mir (past .31) 0 ((past .83))) ∷ ‵ (fat fullShare taken-laws.mir (past .30) 0 ((past .76)))
+          ∷ ‵ (fat fullShare (tyInt w64) (past .29) 0 ((past .73))) ∷ ‵ (fat fullShare (tyInt w64) (past .27) 0 ((past .67)))
           ∷ ‵ (fat fullShare clock-laws.mir (past .26) 0 ((only ((LL.vals clock-row.the-type clock-laws.the-laws) (h .clock)))))
           ∷ ‵ (fat fullShare arrival-laws.mir (past .25) 0 ((only ((LL.vals arrival-row.the-type arrival-laws.the-laws) (h .arrival)))))
           ∷ ‵ (fat fullShare flight-laws.mir (past .24) 0 ((only ((LL.vals flight-row.the-type flight-laws.the-laws) (h .flight)))))
           ∷ ‵ (fat fullShare settings-laws.mir (past .23) 0
           ((only ((LL.vals settings-row.the-type settings-laws.the-laws) (h .settings)))))
-          ∷ ‵ (fat fullShare tyBool (past .22) 0 ((past .63)))
+          ∷ ‵ (fat fullShare tyBool (past .22) 0 ((past .65)))
           ∷ ‵ (fat fullShare (sliceTy (tyRef (named 5) imm (tyInt w8))) (past .19) 0 (s₅))
           ∷ ‵ (fat fullShare (sliceTy (tyRef (named 4) mut (tyInt w32))) (past .18) 0 (s₄))
           ∷ ‵ (fat fullShare (sliceTy (tyRef (named 3) mut (pointee (R .written)))) (past .17) 0 (s₃))
@@ -1180,13 +1191,13 @@ module _ {M : Type 1} (𝓤 : URA M) (H : Heap 𝓤) (A : Atoms 𝓤) (W : Given
           (past .22) (past .23) (past .24) (past .25) (past .26) (past .27) (past .28) (past .29) (past .30) (past .31) (past .32)
           (past .33) (past .34) (past .35) (past .36) (past .37) (past .38) (past .39) (past .40) (past .41) (past .42) (past .43)
           (past .44) (past .45) (past .46) (past .47) (past .48) (past .49) (past .50) (past .51) (past .52) (past .53) (past .54)
-          (past .55) (past .56) (past .57) (past .58) (past .59) (past .60) (past .61)) (behind 43 (code.function .body))
+          (past .55) (past .56) (past .57) (past .58) (past .59) (past .60) (past .61) (past .62)) (behind 43 (code.function .body))
           (atRet (En (past .13) (past .14) (past .15) (past .16) (past .17) (past .18) (past .19) (past .20) (past .21) (past .22)
           (past .23) (past .24) (past .25) (past .26) (past .27) (past .28) (past .29) (past .30) (past .31) (past .32) (past .33)
           (past .34) (past .35) (past .36) (past .37) (past .38) (past .39) (past .40) (past .41) (past .42) (past .43) (past .44)
           (past .45) (past .46) (past .47) (past .48) (past .49) (past .50) (past .51) (past .52) (past .53) (past .54) (past .55)
-          (past .56) (past .57) (past .58) (past .59) (past .60) (past .61)) Post) $
-          assigns ! {v = (vptr b (o + 636))} (addr ! (from ! (hop ! (look ! 68 refl) (fld ! {d = 636} refl (stop !))))) (from ! (stop !))
+          (past .56) (past .57) (past .58) (past .59) (past .60) (past .61) (past .62)) Post) $
+          assigns ! {v = (vptr b (o + 636))} (addr ! (from ! (hop ! (look ! 69 refl) (fld ! {d = 636} refl (stop !))))) (from ! (stop !))
           (init ! 25 refl (tt, tt)) $
           assigns ! {v = (vptr (past .28) 0)} (addr ! (from ! (stop !))) (from ! (stop !)) (init ! 24 refl (tt, tt)) $
           lend-shr ! tt fullShare (Array u32 32) (past .9) b (o + 636)
@@ -1194,21 +1205,21 @@ module _ {M : Type 1} (𝓤 : URA M) (H : Heap 𝓤) (A : Atoms 𝓤) (W : Given
           use1 W (‵ (cellAt fullShare ((tyArray (tyInt w32) 128) ∷ []) ((only ((array-vals (uint-vals w32)) (past .4))) ∷ []) (past .28)
           0)) (W .laws .at-raw fullShare (tyArray (tyInt w32) 128) (past .28) 0 (only ((array-vals (uint-vals w32)) (past .4)))) $
           cell-in ! fullShare (Array u32 128) (array-makes 𝓤 H A W u32 (uint-makes 𝓤 H A W w32) 128) (past .4) (past .28) 0
-          (only ((array-vals (uint-vals w32)) (past .4))) (past .79) $
+          (only ((array-vals (uint-vals w32)) (past .4))) (past .81) $
           lend-shr ! tt fullShare (Array u32 128) (past .4) (past .28) 0
           (λ α-found′′ δ-found′′. move ! (21 ∷ 20 ∷ 3 ∷ 4 ∷ 0 ∷ 1 ∷ []) $ group ! 6 $
-          calls-fn ! fm scatter.ended (scatter.clauses 𝓤 H A at-mem run) (known .10)
-          (to-scatter α-outstanding′′ δ-outstanding′′ (past .9) (past .28) α-found′′ δ-found′′ (past .4) (past .86) (past .87))
-          (λ u ws-u. (ws-u .0) ≡ scattered (x₃ .now) (slotsIn (past .9) (past .86)) (recordsIn (past .4)))
+          calls-fn ! fm scatter.ended (scatter.clauses 𝓤 H A at-mem run) (known .11)
+          (to-scatter α-outstanding′′ δ-outstanding′′ (past .9) (past .28) α-found′′ δ-found′′ (past .4) (past .88) (past .89))
+          (λ u ws-u. (ws-u .0) ≡ scattered (x₃ .now) (slotsIn (past .9) (past .88)) (recordsIn (past .4)))
           (‵ (flft κ₃ q₃) ⊛ ‵ Own₃ ⊛ ‵ (flft (α-outstanding′′ ∷ []) fullShare) ⊛ ‵
           (ShrRef (named 0) (α-outstanding′′ ∷ []) (Array u32 32) .own (ref-at b (o + 636) δ-outstanding′′ (past .9))
           ((vptr b (o + 636)) ∷ [])) ⊛ ‵ (flft (α-found′′ ∷ []) fullShare) ⊛ ‵
           (ShrRef (named 0) (α-found′′ ∷ []) (Array u32 128) .own (ref-at (past .28) 0 δ-found′′ (past .4)) ((vptr (past .28) 0) ∷ [])))
-          (asks-scatter α-outstanding′′ δ-outstanding′′ (past .9) (past .28) α-found′′ δ-found′′ (past .4) (past .86) (past .87) (past .89)
-          ((past .90), (past .75) .1)) (λ u ws-u. id⊢ 𝓤 _)
+          (asks-scatter α-outstanding′′ δ-outstanding′′ (past .9) (past .28) α-found′′ δ-found′′ (past .4) (past .88) (past .89) (past .91)
+          ((past .92), (past .77) .1)) (λ u ws-u. id⊢ 𝓤 _)
           (and-then ! (load ! (from ! (stop !)) (look ! 25 refl))
           (and-then ! (load ! (from ! (stop !)) (look ! 24 refl))
-          (and-then ! (load ! (from ! (stop !)) (look ! 51 refl)) (and-then ! (load ! (from ! (stop !)) (look ! 23 refl)) (no-more !)))))
+          (and-then ! (load ! (from ! (stop !)) (look ! 52 refl)) (and-then ! (load ! (from ! (stop !)) (look ! 23 refl)) (no-more !)))))
           (λ u w-u ws-u e-u is-u. land ! (from ! (stop !)) (store ! 46 refl (nothing-lawful 𝓤 H A W .typed u _ is-u .0)) $
           spread W (‵ (flft κ₃ q₃)) (‵ (flft (α-outstanding′′ ∷ []) fullShare) ∷ ‵ (flft (α-found′′ ∷ []) fullShare) ∷ ‵ ftrue
           ∷ []) (id⊢ 𝓤 _) $ move ! (4 ∷ []) $
@@ -1217,7 +1228,7 @@ module _ {M : Type 1} (𝓤 : URA M) (H : Heap 𝓤) (A : Atoms 𝓤) (W : Given
           keep ! (0 ∷ 5 ∷ 6 ∷ 7 ∷ 9 ∷ 10 ∷ 11 ∷ 12 ∷ 13 ∷ 14 ∷ 15 ∷ 16 ∷ 17 ∷ 18 ∷ 19 ∷ 20 ∷ 21 ∷ 22 ∷ 23 ∷ 24 ∷ 25
           ∷ 26 ∷ 27 ∷ 28 ∷ 29 ∷ 30 ∷ 31 ∷ 32 ∷ 33 ∷ 34 ∷ 35 ∷ 36 ∷ 37 ∷ 38 ∷ 39 ∷ 40 ∷ 41 ∷ 42 ∷ 43 ∷ 44 ∷ 45 ∷ 46
           ∷ 47 ∷ 48 ∷ 49 ∷ 50 ∷ 51 ∷ 52 ∷ 53 ∷ 54 ∷ 55 ∷ 56 ∷ 57 ∷ 58 ∷ 59 ∷ 60 ∷ 61 ∷ 62 ∷ 63 ∷ 64 ∷ 65 ∷ 66 ∷ 67
-          ∷ 68 ∷ 69 ∷ 70 ∷ 71 ∷ 72 ∷ 73 ∷ 74 ∷ 75 ∷ 76 ∷ []) $ fsplit ! $ move ! (1 ∷ []) $ feqL ! (λ len₃.
+          ∷ 68 ∷ 69 ∷ 70 ∷ 71 ∷ 72 ∷ 73 ∷ 74 ∷ 75 ∷ 76 ∷ 77 ∷ []) $ fsplit ! $ move ! (1 ∷ []) $ feqL ! (λ len₃.
           -- [fin3; tok3; tok:outstanding; tok:@found; lent:@found; lent:outstanding; F:arrival; F:flight; F:«waiting_numbers»; F:waiting;
           -- F:ready; F:transmissions; F:queued; fin4; fin2; tok1; tok2; tok4; tok5; F:clock; F:settings; back; opened; deaths; the locals]
           move ! (2 ∷ 5 ∷ []) $ back-shr ! tt fullShare (Array u32 32) b (o + 636) (past .9) $ move ! (3 ∷ 4 ∷ []) $
@@ -1240,8 +1251,8 @@ module _ {M : Type 1} (𝓤 : URA M) (H : Heap 𝓤) (A : Atoms 𝓤) (W : Given
           (λ end-waiting-numbers. move ! (19 ∷ 10 ∷ 9 ∷ 18 ∷ 5 ∷ 4 ∷ 3 ∷ 2 ∷ 1 ∷ 0 ∷ 20 ∷ 21 ∷ []) $
           closes-link b o γ ! tt h (record {
             settings = (h .settings);
-            flight = (past .80);
-            arrival = (past .83);
+            flight = (past .82);
+            arrival = (past .85);
             clock = (h .clock);
             queued = (h .queued);
             outstanding = (past .9);
@@ -1323,8 +1334,8 @@ module _ {M : Type 1} (𝓤 : URA M) (H : Heap 𝓤) (A : Atoms 𝓤) (W : Given
             (past .65),
             (past .66),
             (past .67),
+            (past .68),
             (past .69),
-            (past .70),
             (past .71),
             (past .72),
             (past .73),
@@ -1333,8 +1344,8 @@ module _ {M : Type 1} (𝓤 : URA M) (H : Heap 𝓤) (A : Atoms 𝓤) (W : Given
             (past .76),
             (past .77),
             (past .78),
+            (past .79),
             (past .80),
-            (past .81),
             (past .82),
             (past .83),
             (past .84),
@@ -1342,6 +1353,8 @@ module _ {M : Type 1} (𝓤 : URA M) (H : Heap 𝓤) (A : Atoms 𝓤) (W : Given
             (past .86),
             (past .87),
             (past .88),
+            (past .89),
+            (past .90),
             w-u,
             e-u,
             len₃,
@@ -1363,10 +1376,11 @@ module _ {M : Type 1} (𝓤 : URA M) (H : Heap 𝓤) (A : Atoms 𝓤) (W : Given
           (l₂₂ : ℕ) × (l₂₃ : ℕ) × (l₂₄ : ℕ) × (l₂₅ : ℕ) × (l₂₆ : ℕ) × (l₂₇ : ℕ) × (l₂₈ : ℕ) ×
           (l₂₉ : ℕ) × (l₃₀ : ℕ) × (l₃₁ : ℕ) × (l₃₂ : ℕ) × (l₃₃ : ℕ) × (l₃₄ : ℕ) × (l₃₅ : ℕ) ×
           (l₃₆ : ℕ) × (l₃₇ : ℕ) × (l₃₈ : ℕ) × (l₃₉ : ℕ) × (l₄₀ : ℕ) × (l₄₁ : ℕ) × (l₄₂ : ℕ) ×
-          (l₄₃ : ℕ) × (l₄₄ : ℕ) × (l₄₅ : ℕ) × (l₄₆ : ℕ) × (l₄₇ : ℕ) × (l₄₈ : ℕ) × (w-receives : Val) ×
-          (w-ok : Val) × (n : ℕ) × (w-n : Val) × (e-n : n ≡ h .flight .outstanding) × (w-found : Val) × (w-g : Val) ×
-          (e-g : (length z-found ≡ 128) × (recordsIn z-found ≡ padded (gathered (take sendSlots (x₃ .now)) (slotsIn (h .outstanding) n)))) ×
-          (m : ℕ) × (w-m : Val) × (e-m : m ≡ length (x₃ .now)) × (a : Taken) × (w-a : Val) ×
+          (l₄₃ : ℕ) × (l₄₄ : ℕ) × (l₄₅ : ℕ) × (l₄₆ : ℕ) × (l₄₇ : ℕ) × (l₄₈ : ℕ) × (l₄₉ : ℕ) ×
+          (w-sends : Val) × (w-receives : Val) × (w-ok : Val) × (n : ℕ) × (w-n : Val) × (e-n : n ≡ h .flight .outstanding) ×
+          (w-found : Val) × (w-g : Val) × (e-g : (length z-found ≡ 128) ×
+          (recordsIn z-found ≡ padded (gathered (take sendSlots (x₃ .now)) (slotsIn (h .outstanding) n)))) × (m : ℕ) × (w-m : Val) ×
+          (e-m : m ≡ length (x₃ .now)) × (a : Taken) × (w-a : Val) ×
           (e-a : (Takes (λ l. takesInWith l (recordsIn z-found) (x₄ .now) (lentLengths m (x₁ .now) (x₂ .now) (x₄ .now)) (x₂ .now) (x₅ .now))
           (h .settings) (h .flight) (h .arrival) (h .clock) (arraysOf h) (x₂ .now) (x₄ .now) a
           (arrays (h .queued) z-outstanding z-transmissions z-ready z-waiting z-waiting-numbers) (recordsIn z-found′) z₂ z₄) ×
@@ -1384,70 +1398,72 @@ module _ {M : Type 1} (𝓤 : URA M) (H : Heap 𝓤) (A : Atoms 𝓤) (W : Given
           ∷ ‵ (partAt clock-row.the-row fullShare (h .clock) b (o + 104)) ∷ ‵ (partAt arrival-row.the-row fullShare (h .arrival) b (o + 72))
           ∷ ‵ (partAt flight-row.the-row fullShare (h .flight) b (o + 16))
           ∷ ‵ (partAt settings-row.the-row fullShare (h .settings) b (o + 0)) ∷ raw (Back 𝓤 H A fullShare b o) ∷ ‵ (Open b o γ κ₀ q₀ h)
-          ∷ ‵ (fat fullShare (tyArray (tyInt w8) 256) (past .18) 0 ((only ((array-vals (uint-vals w8)) (past .10)))))
+          ∷ ‵ (fat fullShare (tyArray (tyInt w8) 128) (past .18) 0 ((only ((array-vals (uint-vals w8)) (past .10)))))
           ∷ (‵ (fdies (tyInt w32) (past .11)) ⊛ ‵ (fdies (tyRef (named 0) mut (pointee (L .written))) (past .12)) ⊛ ‵
           (fdies (sliceTy (tyRef (named 1) imm (tyInt w8))) (past .13)) ⊛ ‵ (fdies (sliceTy (tyRef (named 2) mut (tyInt w8))) (past .14)) ⊛
           ‵ (fdies (sliceTy (tyRef (named 3) mut (pointee (R .written)))) (past .15)) ⊛ ‵
           (fdies (sliceTy (tyRef (named 4) mut (tyInt w32))) (past .16)) ⊛ ‵ (fdies (sliceTy (tyRef (named 5) imm (tyInt w8))) (past .17)) ⊛
-          ‵ (fdies (tyArray (tyInt w8) 256) (past .18)) ⊛ ‵ (fdies (tyArray (tyInt w8) 256) (past .19)) ⊛ ‵ (fdies tyBool (past .20)) ⊛ ‵
+          ‵ (fdies (tyArray (tyInt w8) 128) (past .18)) ⊛ ‵ (fdies (tyArray (tyInt w8) 256) (past .19)) ⊛ ‵ (fdies tyBool (past .20)) ⊛ ‵
           (fdies settings-laws.mir (past .21)) ⊛ ‵ (fdies flight-laws.mir (past .22)) ⊛ ‵ (fdies arrival-laws.mir (past .23)) ⊛ ‵
           (fdies clock-laws.mir (past .24)) ⊛ ‵ (fdies (tyInt w64) (past .25)) ⊛ ‵ (fdies (tyArray (tyInt w32) 128) (past .26)) ⊛ ‵
           (fdies (tyInt w64) (past .27)) ⊛ ‵ (fdies taken-laws.mir (past .28)) ⊛ ‵ (fdies flight-laws.mir (past .29)) ⊛ ‵
-          (fdies arrival-laws.mir (past .30)) ⊛ ‵ (fdies (tyInt w64) (past .31)) ⊛ ‵ (fdies (tyArray (tyInt w8) 256) (past .32)) ⊛ ‵
-          (fdies (tyRef erased imm (pointee (L .written))) (past .33)) ⊛ ‵ (fdies (tyRef erased mut (tyArray (tyInt w8) 256)) (past .34)) ⊛
-          ‵ (fdies (tyRef erased mut (tyArray (tyInt w8) 256)) (past .35)) ⊛ ‵ (fdies (tyArray (tyInt w32) 128) (past .36)) ⊛ ‵
-          (fdies tyUnit (past .37)) ⊛ ‵ (fdies (tyRef erased imm (pointee (R .written))) (past .38)) ⊛ ‵
-          (fdies (sliceTy (tyRef erased imm (pointee (R .written)))) (past .39)) ⊛ ‵
-          (fdies (tyRef erased imm (tyArray (tyInt w32) 32)) (past .40)) ⊛ ‵ (fdies (tyRef erased mut (tyArray (tyInt w32) 128)) (past .41))
-          ⊛ ‵ (fdies (tyRef erased imm (pointee (R .written))) (past .42)) ⊛ ‵
-          (fdies (sliceTy (tyRef erased imm (pointee (R .written)))) (past .43)) ⊛ ‵
-          (fdies (tyRef erased mut (tyArray (tyInt w32) 128)) (past .44)) ⊛ ‵
-          (fdies (tyRef erased imm (tyArray (tyInt w32) 128)) (past .45)) ⊛ ‵ (fdies (tyRef erased mut (tyArray (tyInt w32) 32)) (past .46))
-          ⊛ ‵ (fdies (tyRef erased mut (tyArray (tyInt w8) 32)) (past .47)) ⊛ ‵
-          (fdies (tyRef erased mut (tyArray (tyInt w32) 128)) (past .48)) ⊛ ‵
+          (fdies arrival-laws.mir (past .30)) ⊛ ‵ (fdies (tyInt w64) (past .31)) ⊛ ‵ (fdies (tyArray (tyInt w8) 128) (past .32)) ⊛ ‵
+          (fdies (tyArray (tyInt w8) 256) (past .33)) ⊛ ‵ (fdies (tyRef erased imm (pointee (L .written))) (past .34)) ⊛ ‵
+          (fdies (tyRef erased mut (tyArray (tyInt w8) 128)) (past .35)) ⊛ ‵ (fdies (tyRef erased mut (tyArray (tyInt w8) 256)) (past .36))
+          ⊛ ‵ (fdies (tyArray (tyInt w32) 128) (past .37)) ⊛ ‵ (fdies tyUnit (past .38)) ⊛ ‵
+          (fdies (tyRef erased imm (pointee (R .written))) (past .39)) ⊛ ‵
+          (fdies (sliceTy (tyRef erased imm (pointee (R .written)))) (past .40)) ⊛ ‵
+          (fdies (tyRef erased imm (tyArray (tyInt w32) 32)) (past .41)) ⊛ ‵ (fdies (tyRef erased mut (tyArray (tyInt w32) 128)) (past .42))
+          ⊛ ‵ (fdies (tyRef erased imm (pointee (R .written))) (past .43)) ⊛ ‵
+          (fdies (sliceTy (tyRef erased imm (pointee (R .written)))) (past .44)) ⊛ ‵
+          (fdies (tyRef erased mut (tyArray (tyInt w32) 128)) (past .45)) ⊛ ‵
+          (fdies (tyRef erased imm (tyArray (tyInt w32) 128)) (past .46)) ⊛ ‵ (fdies (tyRef erased mut (tyArray (tyInt w32) 32)) (past .47))
+          ⊛ ‵ (fdies (tyRef erased mut (tyArray (tyInt w8) 32)) (past .48)) ⊛ ‵
           (fdies (tyRef erased mut (tyArray (tyInt w32) 128)) (past .49)) ⊛ ‵
-          (fdies (tyRef erased mut (tyArray (tyInt w32) 128)) (past .50)) ⊛ ‵ (fdies (tyRef erased imm (tyArray (tyInt w8) 256)) (past .51))
-          ⊛ ‵ (fdies (tyRef erased mut (tyInt w8)) (past .52)) ⊛ ‵ (fdies (sliceTy (tyRef erased mut (tyInt w8))) (past .53)) ⊛ ‵
-          (fdies (tyRef erased mut (tyInt w32)) (past .54)) ⊛ ‵ (fdies (sliceTy (tyRef erased mut (tyInt w32))) (past .55)) ⊛ ‵
-          (fdies (tyRef erased mut (pointee (R .written))) (past .56)) ⊛ ‵
-          (fdies (sliceTy (tyRef erased mut (pointee (R .written)))) (past .57)) ⊛ ‵
-          (fdies (tyRef erased imm (tyArray (tyInt w32) 32)) (past .58)) ⊛ ‵
-          (fdies (tyRef erased imm (tyArray (tyInt w32) 128)) (past .59)))
-          ∷ ‵ (froom (tyRef erased imm (tyArray (tyInt w32) 128)) (past .59) 0)
-          ∷ ‵ (froom (tyRef erased imm (tyArray (tyInt w32) 32)) (past .58) 0)
-          ∷ ‵ (froom (sliceTy (tyRef erased mut (pointee (R .written)))) (past .57) 0)
-          ∷ ‵ (froom (tyRef erased mut (pointee (R .written))) (past .56) 0)
-          ∷ ‵ (fat fullShare (sliceTy (tyRef erased mut (tyInt w32))) (past .55) 0 (s₄))
-          ∷ ‵ (fat fullShare (tyRef erased mut (tyInt w32)) (past .54) 0 ((vptr (x₄ .ptr .0) (x₄ .ptr .1))))
-          ∷ ‵ (fat fullShare (sliceTy (tyRef erased mut (tyInt w8))) (past .53) 0 (s₂))
-          ∷ ‵ (fat fullShare (tyRef erased mut (tyInt w8)) (past .52) 0 ((vptr (x₂ .ptr .0) (x₂ .ptr .1))))
-          ∷ ‵ (fat fullShare (tyRef erased imm (tyArray (tyInt w8) 256)) (past .51) 0 ((vptr (past .19) 0)))
-          ∷ ‵ (fat fullShare (tyRef erased mut (tyArray (tyInt w32) 128)) (past .50) 0 ((vptr b (o + 1820))))
-          ∷ ‵ (fat fullShare (tyRef erased mut (tyArray (tyInt w32) 128)) (past .49) 0 ((vptr b (o + 1308))))
-          ∷ ‵ (fat fullShare (tyRef erased mut (tyArray (tyInt w32) 128)) (past .48) 0 ((vptr b (o + 796))))
-          ∷ ‵ (fat fullShare (tyRef erased mut (tyArray (tyInt w8) 32)) (past .47) 0 ((vptr b (o + 764))))
-          ∷ ‵ (fat fullShare (tyRef erased mut (tyArray (tyInt w32) 32)) (past .46) 0 ((vptr b (o + 636))))
-          ∷ ‵ (fat fullShare (tyRef erased imm (tyArray (tyInt w32) 128)) (past .45) 0 ((vptr b (o + 124))))
-          ∷ ‵ (fat fullShare (tyRef erased mut (tyArray (tyInt w32) 128)) (past .44) 0 ((vptr (past .26) 0)))
-          ∷ ‵ (fat fullShare (sliceTy (tyRef erased imm (pointee (R .written)))) (past .43) 0 (s₃))
-          ∷ ‵ (fat fullShare (tyRef erased imm (pointee (R .written))) (past .42) 0 ((vptr (x₃ .ptr .0) (x₃ .ptr .1))))
-          ∷ ‵ (fat fullShare (tyRef erased mut (tyArray (tyInt w32) 128)) (past .41) 0 ((vptr (past .26) 0)))
-          ∷ ‵ (fat fullShare (tyRef erased imm (tyArray (tyInt w32) 32)) (past .40) 0 ((vptr b (o + 636))))
-          ∷ ‵ (fat fullShare (sliceTy (tyRef erased imm (pointee (R .written)))) (past .39) 0 (s₃))
-          ∷ ‵ (fat fullShare (tyRef erased imm (pointee (R .written))) (past .38) 0 ((vptr (x₃ .ptr .0) (x₃ .ptr .1))))
-          ∷ ‵ (fat fullShare tyUnit (past .37) 0 ((past .66))) ∷ ‵ (fat fullShare (tyArray (tyInt w32) 128) (past .36) 0 ((past .65)))
-          ∷ ‵ (fat fullShare (tyRef erased mut (tyArray (tyInt w8) 256)) (past .35) 0 ((vptr (past .19) 0)))
-          ∷ ‵ (fat fullShare (tyRef erased mut (tyArray (tyInt w8) 256)) (past .34) 0 ((vptr (past .18) 0)))
-          ∷ ‵ (fat fullShare (tyRef erased imm (pointee (L .written))) (past .33) 0 ((vptr b o)))
-          ∷ ‵ (fat fullShare (tyArray (tyInt w8) 256) (past .32) 0 ((past .60))) ∷ ‵ (froom (tyInt w64) (past .31) 0)
+          (fdies (tyRef erased mut (tyArray (tyInt w32) 128)) (past .50)) ⊛ ‵
+          (fdies (tyRef erased mut (tyArray (tyInt w32) 128)) (past .51)) ⊛ ‵ (fdies (tyRef erased imm (tyArray (tyInt w8) 256)) (past .52))
+          ⊛ ‵ (fdies (tyRef erased mut (tyInt w8)) (past .53)) ⊛ ‵ (fdies (sliceTy (tyRef erased mut (tyInt w8))) (past .54)) ⊛ ‵
+          (fdies (tyRef erased mut (tyInt w32)) (past .55)) ⊛ ‵ (fdies (sliceTy (tyRef erased mut (tyInt w32))) (past .56)) ⊛ ‵
+          (fdies (tyRef erased mut (pointee (R .written))) (past .57)) ⊛ ‵
+          (fdies (sliceTy (tyRef erased mut (pointee (R .written)))) (past .58)) ⊛ ‵
+          (fdies (tyRef erased imm (tyArray (tyInt w32) 32)) (past .59)) ⊛ ‵
+          (fdies (tyRef erased imm (tyArray (tyInt w32) 128)) (past .60)))
+          ∷ ‵ (froom (tyRef erased imm (tyArray (tyInt w32) 128)) (past .60) 0)
+          ∷ ‵ (froom (tyRef erased imm (tyArray (tyInt w32) 32)) (past .59) 0)
+          ∷ ‵ (froom (sliceTy (tyRef erased mut (pointee (R .written)))) (past .58) 0)
+          ∷ ‵ (froom (tyRef erased mut (pointee (R .written))) (past .57) 0)
+          ∷ ‵ (fat fullShare (sliceTy (tyRef erased mut (tyInt w32))) (past .56) 0 (s₄))
+          ∷ ‵ (fat fullShare (tyRef erased mut (tyInt w32)) (past .55) 0 ((vptr (x₄ .ptr .0) (x₄ .ptr .1))))
+          ∷ ‵ (fat fullShare (sliceTy (tyRef erased mut (tyInt w8))) (past .54) 0 (s₂))
+          ∷ ‵ (fat fullShare (tyRef erased mut (tyInt w8)) (past .53) 0 ((vptr (x₂ .ptr .0) (x₂ .ptr .1))))
+          ∷ ‵ (fat fullShare (tyRef erased imm (tyArray (tyInt w8) 256)) (past .52) 0 ((vptr (past .19) 0)))
+          ∷ ‵ (fat fullShare (tyRef erased mut (tyArray (tyInt w32) 128)) (past .51) 0 ((vptr b (o + 1820))))
+          ∷ ‵ (fat fullShare (tyRef erased mut (tyArray (tyInt w32) 128)) (past .50) 0 ((vptr b (o + 1308))))
+          ∷ ‵ (fat fullShare (tyRef erased mut (tyArray (tyInt w32) 128)) (past .49) 0 ((vptr b (o + 796))))
+          ∷ ‵ (fat fullShare (tyRef erased mut (tyArray (tyInt w8) 32)) (past .48) 0 ((vptr b (o + 764))))
+          ∷ ‵ (fat fullShare (tyRef erased mut (tyArray (tyInt w32) 32)) (past .47) 0 ((vptr b (o + 636))))
+          ∷ ‵ (fat fullShare (tyRef erased imm (tyArray (tyInt w32) 128)) (past .46) 0 ((vptr b (o + 124))))
+          ∷ ‵ (fat fullShare (tyRef erased mut (tyArray (tyInt w32) 128)) (past .45) 0 ((vptr (past .26) 0)))
+          ∷ ‵ (fat fullShare (sliceTy (tyRef erased imm (pointee (R .written)))) (past .44) 0 (s₃))
+          ∷ ‵ (fat fullShare (tyRef erased imm (pointee (R .written))) (past .43) 0 ((vptr (x₃ .ptr .0) (x₃ .ptr .1))))
+          ∷ ‵ (fat fullShare (tyRef erased mut (tyArray (tyInt w32) 128)) (past .42) 0 ((vptr (past .26) 0)))
+          ∷ ‵ (fat fullShare (tyRef erased imm (tyArray (tyInt w32) 32)) (past .41) 0 ((vptr b (o + 636))))
+          ∷ ‵ (fat fullShare (sliceTy (tyRef erased imm (pointee (R .written)))) (past .40) 0 (s₃))
+          ∷ ‵ (fat fullShare (tyRef erased imm (pointee (R .written))) (past .39) 0 ((vptr (x₃ .ptr .0) (x₃ .ptr .1))))
+          ∷ ‵ (fat fullShare tyUnit (past .38) 0 ((past .68))) ∷ ‵ (fat fullShare (tyArray (tyInt w32) 128) (past .37) 0 ((past .67)))
+          ∷ ‵ (fat fullShare (tyRef erased mut (tyArray (tyInt w8) 256)) (past .36) 0 ((vptr (past .19) 0)))
+          ∷ ‵ (fat fullShare (tyRef erased mut (tyArray (tyInt w8) 128)) (past .35) 0 ((vptr (past .18) 0)))
+          ∷ ‵ (fat fullShare (tyRef erased imm (pointee (L .written))) (past .34) 0 ((vptr b o)))
+          ∷ ‵ (fat fullShare (tyArray (tyInt w8) 256) (past .33) 0 ((past .62)))
+          ∷ ‵ (fat fullShare (tyArray (tyInt w8) 128) (past .32) 0 ((past .61))) ∷ ‵ (froom (tyInt w64) (past .31) 0)
           ∷ ‵ (froom arrival-laws.mir (past .30) 0) ∷ ‵ (froom flight-laws.mir (past .29) 0)
-          ∷ ‵ (fat fullShare taken-laws.mir (past .28) 0 ((past .72))) ∷ ‵ (fat fullShare (tyInt w64) (past .27) 0 ((past .69)))
-          ∷ ‵ (fat fullShare (tyInt w64) (past .25) 0 ((past .63)))
+          ∷ ‵ (fat fullShare taken-laws.mir (past .28) 0 ((past .74))) ∷ ‵ (fat fullShare (tyInt w64) (past .27) 0 ((past .71)))
+          ∷ ‵ (fat fullShare (tyInt w64) (past .25) 0 ((past .65)))
           ∷ ‵ (fat fullShare clock-laws.mir (past .24) 0 ((only ((LL.vals clock-row.the-type clock-laws.the-laws) (h .clock)))))
           ∷ ‵ (fat fullShare arrival-laws.mir (past .23) 0 ((only ((LL.vals arrival-row.the-type arrival-laws.the-laws) (h .arrival)))))
           ∷ ‵ (fat fullShare flight-laws.mir (past .22) 0 ((only ((LL.vals flight-row.the-type flight-laws.the-laws) (h .flight)))))
           ∷ ‵ (fat fullShare settings-laws.mir (past .21) 0 ((only ((LL.vals settings-row.the-type settings-laws.the-laws) (h .settings)))))
-          ∷ ‵ (fat fullShare tyBool (past .20) 0 ((past .61)))
+          ∷ ‵ (fat fullShare tyBool (past .20) 0 ((past .63)))
           ∷ ‵ (fat fullShare (sliceTy (tyRef (named 5) imm (tyInt w8))) (past .17) 0 (s₅))
           ∷ ‵ (fat fullShare (sliceTy (tyRef (named 4) mut (tyInt w32))) (past .16) 0 (s₄))
           ∷ ‵ (fat fullShare (sliceTy (tyRef (named 3) mut (pointee (R .written)))) (past .15) 0 (s₃))
@@ -1458,12 +1474,12 @@ module _ {M : Type 1} (𝓤 : URA M) (H : Heap 𝓤) (A : Atoms 𝓤) (W : Given
           (past .20) (past .21) (past .22) (past .23) (past .24) (past .25) (past .26) (past .27) (past .28) (past .29) (past .30)
           (past .31) (past .32) (past .33) (past .34) (past .35) (past .36) (past .37) (past .38) (past .39) (past .40) (past .41)
           (past .42) (past .43) (past .44) (past .45) (past .46) (past .47) (past .48) (past .49) (past .50) (past .51) (past .52)
-          (past .53) (past .54) (past .55) (past .56) (past .57) (past .58) (past .59)) (behind 36 (code.function .body))
+          (past .53) (past .54) (past .55) (past .56) (past .57) (past .58) (past .59) (past .60)) (behind 36 (code.function .body))
           (atReturn 𝓤 H (En (past .11) (past .12) (past .13) (past .14) (past .15) (past .16) (past .17) (past .18) (past .19) (past .20)
           (past .21) (past .22) (past .23) (past .24) (past .25) (past .26) (past .27) (past .28) (past .29) (past .30) (past .31)
           (past .32) (past .33) (past .34) (past .35) (past .36) (past .37) (past .38) (past .39) (past .40) (past .41) (past .42)
           (past .43) (past .44) (past .45) (past .46) (past .47) (past .48) (past .49) (past .50) (past .51) (past .52) (past .53)
-          (past .54) (past .55) (past .56) (past .57) (past .58) (past .59)) Post))
+          (past .54) (past .55) (past .56) (past .57) (past .58) (past .59) (past .60)) Post))
       part₃ past =
           qed W (‵ (fat fullShare (tyArray (tyInt w8) 256) (past .19) 0 ((only ((array-vals (uint-vals w8)) (past .9)))))
           ∷ ‵ (partAt (Array u32 128) fullShare (past .3) b (o + 1820)) ∷ ‵ (partAt (Array u32 128) fullShare (past .4) b (o + 1308))
@@ -1476,76 +1492,77 @@ module _ {M : Type 1} (𝓤 : URA M) (H : Heap 𝓤) (A : Atoms 𝓤) (W : Given
           ∷ ‵ (partAt arrival-row.the-row fullShare (h .arrival) b (o + 72))
           ∷ ‵ (partAt flight-row.the-row fullShare (h .flight) b (o + 16))
           ∷ ‵ (partAt settings-row.the-row fullShare (h .settings) b (o + 0)) ∷ raw (Back 𝓤 H A fullShare b o) ∷ ‵ (Open b o γ κ₀ q₀ h)
-          ∷ ‵ (fat fullShare (tyArray (tyInt w8) 256) (past .18) 0 ((only ((array-vals (uint-vals w8)) (past .10)))))
+          ∷ ‵ (fat fullShare (tyArray (tyInt w8) 128) (past .18) 0 ((only ((array-vals (uint-vals w8)) (past .10)))))
           ∷ (‵ (fdies (tyInt w32) (past .11)) ⊛ ‵ (fdies (tyRef (named 0) mut (pointee (L .written))) (past .12)) ⊛ ‵
           (fdies (sliceTy (tyRef (named 1) imm (tyInt w8))) (past .13)) ⊛ ‵
           (fdies (sliceTy (tyRef (named 2) mut (tyInt w8))) (past .14)) ⊛ ‵
           (fdies (sliceTy (tyRef (named 3) mut (pointee (R .written)))) (past .15)) ⊛ ‵
           (fdies (sliceTy (tyRef (named 4) mut (tyInt w32))) (past .16)) ⊛ ‵
-          (fdies (sliceTy (tyRef (named 5) imm (tyInt w8))) (past .17)) ⊛ ‵ (fdies (tyArray (tyInt w8) 256) (past .18)) ⊛ ‵
+          (fdies (sliceTy (tyRef (named 5) imm (tyInt w8))) (past .17)) ⊛ ‵ (fdies (tyArray (tyInt w8) 128) (past .18)) ⊛ ‵
           (fdies (tyArray (tyInt w8) 256) (past .19)) ⊛ ‵ (fdies tyBool (past .20)) ⊛ ‵ (fdies settings-laws.mir (past .21)) ⊛ ‵
           (fdies flight-laws.mir (past .22)) ⊛ ‵ (fdies arrival-laws.mir (past .23)) ⊛ ‵ (fdies clock-laws.mir (past .24)) ⊛ ‵
           (fdies (tyInt w64) (past .25)) ⊛ ‵ (fdies (tyArray (tyInt w32) 128) (past .26)) ⊛ ‵ (fdies (tyInt w64) (past .27)) ⊛ ‵
           (fdies taken-laws.mir (past .28)) ⊛ ‵ (fdies flight-laws.mir (past .29)) ⊛ ‵ (fdies arrival-laws.mir (past .30)) ⊛ ‵
-          (fdies (tyInt w64) (past .31)) ⊛ ‵ (fdies (tyArray (tyInt w8) 256) (past .32)) ⊛ ‵
-          (fdies (tyRef erased imm (pointee (L .written))) (past .33)) ⊛ ‵
-          (fdies (tyRef erased mut (tyArray (tyInt w8) 256)) (past .34)) ⊛ ‵
-          (fdies (tyRef erased mut (tyArray (tyInt w8) 256)) (past .35)) ⊛ ‵ (fdies (tyArray (tyInt w32) 128) (past .36)) ⊛ ‵
-          (fdies tyUnit (past .37)) ⊛ ‵ (fdies (tyRef erased imm (pointee (R .written))) (past .38)) ⊛ ‵
-          (fdies (sliceTy (tyRef erased imm (pointee (R .written)))) (past .39)) ⊛ ‵
-          (fdies (tyRef erased imm (tyArray (tyInt w32) 32)) (past .40)) ⊛ ‵
-          (fdies (tyRef erased mut (tyArray (tyInt w32) 128)) (past .41)) ⊛ ‵
-          (fdies (tyRef erased imm (pointee (R .written))) (past .42)) ⊛ ‵
-          (fdies (sliceTy (tyRef erased imm (pointee (R .written)))) (past .43)) ⊛ ‵
-          (fdies (tyRef erased mut (tyArray (tyInt w32) 128)) (past .44)) ⊛ ‵
-          (fdies (tyRef erased imm (tyArray (tyInt w32) 128)) (past .45)) ⊛ ‵
-          (fdies (tyRef erased mut (tyArray (tyInt w32) 32)) (past .46)) ⊛ ‵
-          (fdies (tyRef erased mut (tyArray (tyInt w8) 32)) (past .47)) ⊛ ‵
-          (fdies (tyRef erased mut (tyArray (tyInt w32) 128)) (past .48)) ⊛ ‵
+          (fdies (tyInt w64) (past .31)) ⊛ ‵ (fdies (tyArray (tyInt w8) 128) (past .32)) ⊛ ‵ (fdies (tyArray (tyInt w8) 256) (past .33))
+          ⊛ ‵ (fdies (tyRef erased imm (pointee (L .written))) (past .34)) ⊛ ‵
+          (fdies (tyRef erased mut (tyArray (tyInt w8) 128)) (past .35)) ⊛ ‵
+          (fdies (tyRef erased mut (tyArray (tyInt w8) 256)) (past .36)) ⊛ ‵ (fdies (tyArray (tyInt w32) 128) (past .37)) ⊛ ‵
+          (fdies tyUnit (past .38)) ⊛ ‵ (fdies (tyRef erased imm (pointee (R .written))) (past .39)) ⊛ ‵
+          (fdies (sliceTy (tyRef erased imm (pointee (R .written)))) (past .40)) ⊛ ‵
+          (fdies (tyRef erased imm (tyArray (tyInt w32) 32)) (past .41)) ⊛ ‵
+          (fdies (tyRef erased mut (tyArray (tyInt w32) 128)) (past .42)) ⊛ ‵
+          (fdies (tyRef erased imm (pointee (R .written))) (past .43)) ⊛ ‵
+          (fdies (sliceTy (tyRef erased imm (pointee (R .written)))) (past .44)) ⊛ ‵
+          (fdies (tyRef erased mut (tyArray (tyInt w32) 128)) (past .45)) ⊛ ‵
+          (fdies (tyRef erased imm (tyArray (tyInt w32) 128)) (past .46)) ⊛ ‵
+          (fdies (tyRef erased mut (tyArray (tyInt w32) 32)) (past .47)) ⊛ ‵
+          (fdies (tyRef erased mut (tyArray (tyInt w8) 32)) (past .48)) ⊛ ‵
           (fdies (tyRef erased mut (tyArray (tyInt w32) 128)) (past .49)) ⊛ ‵
           (fdies (tyRef erased mut (tyArray (tyInt w32) 128)) (past .50)) ⊛ ‵
-          (fdies (tyRef erased imm (tyArray (tyInt w8) 256)) (past .51)) ⊛ ‵ (fdies (tyRef erased mut (tyInt w8)) (past .52)) ⊛ ‵
-          (fdies (sliceTy (tyRef erased mut (tyInt w8))) (past .53)) ⊛ ‵ (fdies (tyRef erased mut (tyInt w32)) (past .54)) ⊛ ‵
-          (fdies (sliceTy (tyRef erased mut (tyInt w32))) (past .55)) ⊛ ‵ (fdies (tyRef erased mut (pointee (R .written))) (past .56)) ⊛
-          ‵ (fdies (sliceTy (tyRef erased mut (pointee (R .written)))) (past .57)) ⊛ ‵
-          (fdies (tyRef erased imm (tyArray (tyInt w32) 32)) (past .58)) ⊛ ‵
-          (fdies (tyRef erased imm (tyArray (tyInt w32) 128)) (past .59)))
-          ∷ ‵ (froom (tyRef erased imm (tyArray (tyInt w32) 128)) (past .59) 0)
-          ∷ ‵ (froom (tyRef erased imm (tyArray (tyInt w32) 32)) (past .58) 0)
-          ∷ ‵ (froom (sliceTy (tyRef erased mut (pointee (R .written)))) (past .57) 0)
-          ∷ ‵ (froom (tyRef erased mut (pointee (R .written))) (past .56) 0)
-          ∷ ‵ (fat fullShare (sliceTy (tyRef erased mut (tyInt w32))) (past .55) 0 (s₄))
-          ∷ ‵ (fat fullShare (tyRef erased mut (tyInt w32)) (past .54) 0 ((vptr (x₄ .ptr .0) (x₄ .ptr .1))))
-          ∷ ‵ (fat fullShare (sliceTy (tyRef erased mut (tyInt w8))) (past .53) 0 (s₂))
-          ∷ ‵ (fat fullShare (tyRef erased mut (tyInt w8)) (past .52) 0 ((vptr (x₂ .ptr .0) (x₂ .ptr .1))))
-          ∷ ‵ (fat fullShare (tyRef erased imm (tyArray (tyInt w8) 256)) (past .51) 0 ((vptr (past .19) 0)))
-          ∷ ‵ (fat fullShare (tyRef erased mut (tyArray (tyInt w32) 128)) (past .50) 0 ((vptr b (o + 1820))))
-          ∷ ‵ (fat fullShare (tyRef erased mut (tyArray (tyInt w32) 128)) (past .49) 0 ((vptr b (o + 1308))))
-          ∷ ‵ (fat fullShare (tyRef erased mut (tyArray (tyInt w32) 128)) (past .48) 0 ((vptr b (o + 796))))
-          ∷ ‵ (fat fullShare (tyRef erased mut (tyArray (tyInt w8) 32)) (past .47) 0 ((vptr b (o + 764))))
-          ∷ ‵ (fat fullShare (tyRef erased mut (tyArray (tyInt w32) 32)) (past .46) 0 ((vptr b (o + 636))))
-          ∷ ‵ (fat fullShare (tyRef erased imm (tyArray (tyInt w32) 128)) (past .45) 0 ((vptr b (o + 124))))
-          ∷ ‵ (fat fullShare (tyRef erased mut (tyArray (tyInt w32) 128)) (past .44) 0 ((vptr (past .26) 0)))
-          ∷ ‵ (fat fullShare (sliceTy (tyRef erased imm (pointee (R .written)))) (past .43) 0 (s₃))
-          ∷ ‵ (fat fullShare (tyRef erased imm (pointee (R .written))) (past .42) 0 ((vptr (x₃ .ptr .0) (x₃ .ptr .1))))
-          ∷ ‵ (fat fullShare (tyRef erased mut (tyArray (tyInt w32) 128)) (past .41) 0 ((vptr (past .26) 0)))
-          ∷ ‵ (fat fullShare (tyRef erased imm (tyArray (tyInt w32) 32)) (past .40) 0 ((vptr b (o + 636))))
-          ∷ ‵ (fat fullShare (sliceTy (tyRef erased imm (pointee (R .written)))) (past .39) 0 (s₃))
-          ∷ ‵ (fat fullShare (tyRef erased imm (pointee (R .written))) (past .38) 0 ((vptr (x₃ .ptr .0) (x₃ .ptr .1))))
-          ∷ ‵ (fat fullShare tyUnit (past .37) 0 ((past .66))) ∷ ‵ (fat fullShare (tyArray (tyInt w32) 128) (past .36) 0 ((past .65)))
-          ∷ ‵ (fat fullShare (tyRef erased mut (tyArray (tyInt w8) 256)) (past .35) 0 ((vptr (past .19) 0)))
-          ∷ ‵ (fat fullShare (tyRef erased mut (tyArray (tyInt w8) 256)) (past .34) 0 ((vptr (past .18) 0)))
-          ∷ ‵ (fat fullShare (tyRef erased imm (pointee (L .written))) (past .33) 0 ((vptr b o)))
-          ∷ ‵ (fat fullShare (tyArray (tyInt w8) 256) (past .32) 0 ((past .60))) ∷ ‵ (froom (tyInt w64) (past .31) 0)
+          (fdies (tyRef erased mut (tyArray (tyInt w32) 128)) (past .51)) ⊛ ‵
+          (fdies (tyRef erased imm (tyArray (tyInt w8) 256)) (past .52)) ⊛ ‵ (fdies (tyRef erased mut (tyInt w8)) (past .53)) ⊛ ‵
+          (fdies (sliceTy (tyRef erased mut (tyInt w8))) (past .54)) ⊛ ‵ (fdies (tyRef erased mut (tyInt w32)) (past .55)) ⊛ ‵
+          (fdies (sliceTy (tyRef erased mut (tyInt w32))) (past .56)) ⊛ ‵ (fdies (tyRef erased mut (pointee (R .written))) (past .57)) ⊛
+          ‵ (fdies (sliceTy (tyRef erased mut (pointee (R .written)))) (past .58)) ⊛ ‵
+          (fdies (tyRef erased imm (tyArray (tyInt w32) 32)) (past .59)) ⊛ ‵
+          (fdies (tyRef erased imm (tyArray (tyInt w32) 128)) (past .60)))
+          ∷ ‵ (froom (tyRef erased imm (tyArray (tyInt w32) 128)) (past .60) 0)
+          ∷ ‵ (froom (tyRef erased imm (tyArray (tyInt w32) 32)) (past .59) 0)
+          ∷ ‵ (froom (sliceTy (tyRef erased mut (pointee (R .written)))) (past .58) 0)
+          ∷ ‵ (froom (tyRef erased mut (pointee (R .written))) (past .57) 0)
+          ∷ ‵ (fat fullShare (sliceTy (tyRef erased mut (tyInt w32))) (past .56) 0 (s₄))
+          ∷ ‵ (fat fullShare (tyRef erased mut (tyInt w32)) (past .55) 0 ((vptr (x₄ .ptr .0) (x₄ .ptr .1))))
+          ∷ ‵ (fat fullShare (sliceTy (tyRef erased mut (tyInt w8))) (past .54) 0 (s₂))
+          ∷ ‵ (fat fullShare (tyRef erased mut (tyInt w8)) (past .53) 0 ((vptr (x₂ .ptr .0) (x₂ .ptr .1))))
+          ∷ ‵ (fat fullShare (tyRef erased imm (tyArray (tyInt w8) 256)) (past .52) 0 ((vptr (past .19) 0)))
+          ∷ ‵ (fat fullShare (tyRef erased mut (tyArray (tyInt w32) 128)) (past .51) 0 ((vptr b (o + 1820))))
+          ∷ ‵ (fat fullShare (tyRef erased mut (tyArray (tyInt w32) 128)) (past .50) 0 ((vptr b (o + 1308))))
+          ∷ ‵ (fat fullShare (tyRef erased mut (tyArray (tyInt w32) 128)) (past .49) 0 ((vptr b (o + 796))))
+          ∷ ‵ (fat fullShare (tyRef erased mut (tyArray (tyInt w8) 32)) (past .48) 0 ((vptr b (o + 764))))
+          ∷ ‵ (fat fullShare (tyRef erased mut (tyArray (tyInt w32) 32)) (past .47) 0 ((vptr b (o + 636))))
+          ∷ ‵ (fat fullShare (tyRef erased imm (tyArray (tyInt w32) 128)) (past .46) 0 ((vptr b (o + 124))))
+          ∷ ‵ (fat fullShare (tyRef erased mut (tyArray (tyInt w32) 128)) (past .45) 0 ((vptr (past .26) 0)))
+          ∷ ‵ (fat fullShare (sliceTy (tyRef erased imm (pointee (R .written)))) (past .44) 0 (s₃))
+          ∷ ‵ (fat fullShare (tyRef erased imm (pointee (R .written))) (past .43) 0 ((vptr (x₃ .ptr .0) (x₃ .ptr .1))))
+          ∷ ‵ (fat fullShare (tyRef erased mut (tyArray (tyInt w32) 128)) (past .42) 0 ((vptr (past .26) 0)))
+          ∷ ‵ (fat fullShare (tyRef erased imm (tyArray (tyInt w32) 32)) (past .41) 0 ((vptr b (o + 636))))
+          ∷ ‵ (fat fullShare (sliceTy (tyRef erased imm (pointee (R .written)))) (past .40) 0 (s₃))
+          ∷ ‵ (fat fullShare (tyRef erased imm (pointee (R .written))) (past .39) 0 ((vptr (x₃ .ptr .0) (x₃ .ptr .1))))
+          ∷ ‵ (fat fullShare tyUnit (past .38) 0 ((past .68))) ∷ ‵ (fat fullShare (tyArray (tyInt w32) 128) (past .37) 0 ((past .67)))
+          ∷ ‵ (fat fullShare (tyRef erased mut (tyArray (tyInt w8) 256)) (past .36) 0 ((vptr (past .19) 0)))
+          ∷ ‵ (fat fullShare (tyRef erased mut (tyArray (tyInt w8) 128)) (past .35) 0 ((vptr (past .18) 0)))
+          ∷ ‵ (fat fullShare (tyRef erased imm (pointee (L .written))) (past .34) 0 ((vptr b o)))
+          ∷ ‵ (fat fullShare (tyArray (tyInt w8) 256) (past .33) 0 ((past .62)))
+          ∷ ‵ (fat fullShare (tyArray (tyInt w8) 128) (past .32) 0 ((past .61))) ∷ ‵ (froom (tyInt w64) (past .31) 0)
           ∷ ‵ (froom arrival-laws.mir (past .30) 0) ∷ ‵ (froom flight-laws.mir (past .29) 0)
-          ∷ ‵ (fat fullShare taken-laws.mir (past .28) 0 ((past .72))) ∷ ‵ (fat fullShare (tyInt w64) (past .27) 0 ((past .69)))
-          ∷ ‵ (fat fullShare (tyInt w64) (past .25) 0 ((past .63)))
+          ∷ ‵ (fat fullShare taken-laws.mir (past .28) 0 ((past .74))) ∷ ‵ (fat fullShare (tyInt w64) (past .27) 0 ((past .71)))
+          ∷ ‵ (fat fullShare (tyInt w64) (past .25) 0 ((past .65)))
           ∷ ‵ (fat fullShare clock-laws.mir (past .24) 0 ((only ((LL.vals clock-row.the-type clock-laws.the-laws) (h .clock)))))
           ∷ ‵ (fat fullShare arrival-laws.mir (past .23) 0 ((only ((LL.vals arrival-row.the-type arrival-laws.the-laws) (h .arrival)))))
           ∷ ‵ (fat fullShare flight-laws.mir (past .22) 0 ((only ((LL.vals flight-row.the-type flight-laws.the-laws) (h .flight)))))
           ∷ ‵ (fat fullShare settings-laws.mir (past .21) 0
           ((only ((LL.vals settings-row.the-type settings-laws.the-laws) (h .settings)))))
-          ∷ ‵ (fat fullShare tyBool (past .20) 0 ((past .61)))
+          ∷ ‵ (fat fullShare tyBool (past .20) 0 ((past .63)))
           ∷ ‵ (fat fullShare (sliceTy (tyRef (named 5) imm (tyInt w8))) (past .17) 0 (s₅))
           ∷ ‵ (fat fullShare (sliceTy (tyRef (named 4) mut (tyInt w32))) (past .16) 0 (s₄))
           ∷ ‵ (fat fullShare (sliceTy (tyRef (named 3) mut (pointee (R .written)))) (past .15) 0 (s₃))
@@ -1556,51 +1573,51 @@ module _ {M : Type 1} (𝓤 : URA M) (H : Heap 𝓤) (A : Atoms 𝓤) (W : Given
           (past .20) (past .21) (past .22) (past .23) (past .24) (past .25) (past .26) (past .27) (past .28) (past .29) (past .30)
           (past .31) (past .32) (past .33) (past .34) (past .35) (past .36) (past .37) (past .38) (past .39) (past .40) (past .41)
           (past .42) (past .43) (past .44) (past .45) (past .46) (past .47) (past .48) (past .49) (past .50) (past .51) (past .52)
-          (past .53) (past .54) (past .55) (past .56) (past .57) (past .58) (past .59)) (behind 36 (code.function .body))
+          (past .53) (past .54) (past .55) (past .56) (past .57) (past .58) (past .59) (past .60)) (behind 36 (code.function .body))
           (atRet (En (past .11) (past .12) (past .13) (past .14) (past .15) (past .16) (past .17) (past .18) (past .19) (past .20)
           (past .21) (past .22) (past .23) (past .24) (past .25) (past .26) (past .27) (past .28) (past .29) (past .30) (past .31)
           (past .32) (past .33) (past .34) (past .35) (past .36) (past .37) (past .38) (past .39) (past .40) (past .41) (past .42)
           (past .43) (past .44) (past .45) (past .46) (past .47) (past .48) (past .49) (past .50) (past .51) (past .52) (past .53)
-          (past .54) (past .55) (past .56) (past .57) (past .58) (past .59)) Post) $
-          nothing ! $ calls-fn ! fm flight-of.ended (flight-of.clauses 𝓤 H A at-mem run) (known .7)
-          ((tt, tt, tt, ((past .71), tt), ((past .72) ∷ [], tt)), tt) (λ kf _. kf ≡ (past .71) .flight)
+          (past .54) (past .55) (past .56) (past .57) (past .58) (past .59) (past .60)) Post) $
+          nothing ! $ calls-fn ! fm flight-of.ended (flight-of.clauses 𝓤 H A at-mem run) (known .8)
+          ((tt, tt, tt, ((past .73), tt), ((past .74) ∷ [], tt)), tt) (λ kf _. kf ≡ (past .73) .flight)
           (‵ ftrue) (plainly 𝓤 H A W (taken-row.the-row ∷ []) ((LL.makes taken-row.the-type taken-laws.the-plain 𝓤 H A), tt)
-          ((past .71), tt) ((past .72) ∷ [], tt) ((past .74), tt)) (λ kf _. id⊢ 𝓤 _)
-          (and-then ! (load ! (from ! (stop !)) (look ! 56 refl)) (no-more !))
+          ((past .73), tt) ((past .74) ∷ [], tt) ((past .76), tt)) (λ kf _. id⊢ 𝓤 _)
+          (and-then ! (load ! (from ! (stop !)) (look ! 57 refl)) (no-more !))
           (λ kf w-kf _ e-kf is-kf. drop ! $ drop ! $
-          land ! (from ! (stop !)) (init ! 54 refl (LL.lawful flight-row.the-type flight-laws.the-laws 𝓤 H A W .typed kf (w-kf ∷ []) is-kf
+          land ! (from ! (stop !)) (init ! 55 refl (LL.lawful flight-row.the-type flight-laws.the-laws 𝓤 H A W .typed kf (w-kf ∷ []) is-kf
           .0)) $
           move ! (18 ∷ []) $ cell-out ! fullShare flight-row.the-row (LL.vals flight-row.the-type flight-laws.the-laws)
           (LL.tells flight-row.the-type flight-laws.the-laws) (h .flight) b (o + 16)
-          (λ was-flight′. assigns ! (of-opd ! (load ! (from ! (stop !)) (look ! 54 refl)))
-          (from ! (hop ! (look ! 68 refl) (fld ! {d = 16} refl (stop !))))
+          (λ was-flight′. assigns ! (of-opd ! (load ! (from ! (stop !)) (look ! 55 refl)))
+          (from ! (hop ! (look ! 69 refl) (fld ! {d = 16} refl (stop !))))
           (store-raw ! 0 refl (LL.lawful flight-row.the-type flight-laws.the-laws 𝓤 H A W .typed kf (w-kf ∷ []) is-kf .0)) $
           cell-in ! fullShare flight-row.the-row (LL.makes flight-row.the-type flight-laws.the-plain 𝓤 H A) kf b (o + 16) w-kf is-kf $
-          nothing ! $ calls-fn ! fm arrival-of.ended (arrival-of.clauses 𝓤 H A at-mem run) (known .8)
-          ((tt, tt, tt, ((past .71), tt), ((past .72) ∷ [], tt)), tt) (λ ka _. ka ≡ (past .71) .arrival)
+          nothing ! $ calls-fn ! fm arrival-of.ended (arrival-of.clauses 𝓤 H A at-mem run) (known .9)
+          ((tt, tt, tt, ((past .73), tt), ((past .74) ∷ [], tt)), tt) (λ ka _. ka ≡ (past .73) .arrival)
           (‵ ftrue) (plainly 𝓤 H A W (taken-row.the-row ∷ []) ((LL.makes taken-row.the-type taken-laws.the-plain 𝓤 H A), tt)
-          ((past .71), tt) ((past .72) ∷ [], tt) ((past .74), tt)) (λ ka _. id⊢ 𝓤 _)
-          (and-then ! (load ! (from ! (stop !)) (look ! 56 refl)) (no-more !))
+          ((past .73), tt) ((past .74) ∷ [], tt) ((past .76), tt)) (λ ka _. id⊢ 𝓤 _)
+          (and-then ! (load ! (from ! (stop !)) (look ! 57 refl)) (no-more !))
           (λ ka w-ka _ e-ka is-ka. drop ! $ drop ! $
-          land ! (from ! (stop !)) (init ! 53 refl (LL.lawful arrival-row.the-type arrival-laws.the-laws 𝓤 H A W .typed ka (w-ka ∷ []) is-ka
+          land ! (from ! (stop !)) (init ! 54 refl (LL.lawful arrival-row.the-type arrival-laws.the-laws 𝓤 H A W .typed ka (w-ka ∷ []) is-ka
           .0)) $
           move ! (18 ∷ []) $ cell-out ! fullShare arrival-row.the-row (LL.vals arrival-row.the-type arrival-laws.the-laws)
           (LL.tells arrival-row.the-type arrival-laws.the-laws) (h .arrival) b (o + 72)
-          (λ was-arrival′. assigns ! (of-opd ! (load ! (from ! (stop !)) (look ! 53 refl)))
-          (from ! (hop ! (look ! 68 refl) (fld ! {d = 72} refl (stop !))))
+          (λ was-arrival′. assigns ! (of-opd ! (load ! (from ! (stop !)) (look ! 54 refl)))
+          (from ! (hop ! (look ! 69 refl) (fld ! {d = 72} refl (stop !))))
           (store-raw ! 0 refl (LL.lawful arrival-row.the-type arrival-laws.the-laws 𝓤 H A W .typed ka (w-ka ∷ []) is-ka .0)) $
           cell-in ! fullShare arrival-row.the-row (LL.makes arrival-row.the-type arrival-laws.the-plain 𝓤 H A) ka b (o + 72) w-ka
-          is-ka $ nothing ! $ calls-fn ! fm changed-of.ended (changed-of.clauses 𝓤 H A at-mem run) (known .9)
-          ((tt, tt, tt, ((past .71), tt), ((past .72) ∷ [], tt)), tt) (λ c _. c ≡ (past .71) .changed)
+          is-ka $ nothing ! $ calls-fn ! fm changed-of.ended (changed-of.clauses 𝓤 H A at-mem run) (known .10)
+          ((tt, tt, tt, ((past .73), tt), ((past .74) ∷ [], tt)), tt) (λ c _. c ≡ (past .73) .changed)
           (‵ ftrue) (plainly 𝓤 H A W (taken-row.the-row ∷ []) ((LL.makes taken-row.the-type taken-laws.the-plain 𝓤 H A), tt)
-          ((past .71), tt) ((past .72) ∷ [], tt) ((past .74), tt)) (λ c _. id⊢ 𝓤 _)
-          (and-then ! (load ! (from ! (stop !)) (look ! 56 refl)) (no-more !))
-          (λ c w-c _ e-c is-c. drop ! $ drop ! $ land ! (from ! (stop !)) (init ! 52 refl (uint-lawful 𝓤 H A W w64 .typed c _ is-c .0)) $
+          ((past .73), tt) ((past .74) ∷ [], tt) ((past .76), tt)) (λ c _. id⊢ 𝓤 _)
+          (and-then ! (load ! (from ! (stop !)) (look ! 57 refl)) (no-more !))
+          (λ c w-c _ e-c is-c. drop ! $ drop ! $ land ! (from ! (stop !)) (init ! 53 refl (uint-lawful 𝓤 H A W w64 .typed c _ is-c .0)) $
           assigns ! {v = (vptr (x₃ .ptr .0) (x₃ .ptr .1))}
-          (addr ! (from ! (fld ! refl (hop ! (look-in ! 65 (sub ! 0 refl (whole !))) (stop !))))) (from ! (stop !))
+          (addr ! (from ! (fld ! refl (hop ! (look-in ! 66 (sub ! 0 refl (whole !))) (stop !))))) (from ! (stop !))
           (init ! 27 refl (tt, tt)) $
           assigns ! {v = s₃} (agg ! (and-then ! (load ! (from ! (stop !)) (look ! 27 refl))
-          (and-then ! (load ! (from ! (fld ! refl (stop !))) (look-in ! 65 (sub ! 1 refl (whole !)))) (no-more !)))) (from ! (stop !))
+          (and-then ! (load ! (from ! (fld ! refl (stop !))) (look-in ! 66 (sub ! 1 refl (whole !)))) (no-more !)))) (from ! (stop !))
           (init ! 26 refl (tt, (tt, (record { fits = room₃ .0 }, tt)))) $
           move ! (7 ∷ []) $ tells-length ! fullShare u32 32 (past .7) b (o + 636)
           (λ mid-outstanding. by ! (part₄ (
@@ -1684,6 +1701,8 @@ module _ {M : Type 1} (𝓤 : URA M) (H : Heap 𝓤) (A : Atoms 𝓤) (W : Given
             (past .75),
             (past .76),
             (past .77),
+            (past .78),
+            (past .79),
             kf,
             w-kf,
             e-kf,
@@ -1706,8 +1725,9 @@ module _ {M : Type 1} (𝓤 : URA M) (H : Heap 𝓤) (A : Atoms 𝓤) (W : Given
           (l₂₆ : ℕ) × (l₂₇ : ℕ) × (l₂₈ : ℕ) × (l₂₉ : ℕ) × (l₃₀ : ℕ) × (l₃₁ : ℕ) × (l₃₂ : ℕ) ×
           (l₃₃ : ℕ) × (l₃₄ : ℕ) × (l₃₅ : ℕ) × (l₃₆ : ℕ) × (l₃₇ : ℕ) × (l₃₈ : ℕ) × (l₃₉ : ℕ) ×
           (l₄₀ : ℕ) × (l₄₁ : ℕ) × (l₄₂ : ℕ) × (l₄₃ : ℕ) × (l₄₄ : ℕ) × (l₄₅ : ℕ) × (l₄₆ : ℕ) ×
-          (l₄₇ : ℕ) × (l₄₈ : ℕ) × (w-receives : Val) × (ok : Bool) × (w-ok : Val) × (e-ok : Sound h z-sends z-receives ok) ×
-          (is-ok : Is Boolean ok (w-ok ∷ [])) × (was-receives-2 : Is (Array u8 256) z-receives ((array-vals (uint-vals w8)) z-receives)) ×
+          (l₄₇ : ℕ) × (l₄₈ : ℕ) × (l₄₉ : ℕ) × (w-sends : Val) × (w-receives : Val) × (ok : Bool) × (w-ok : Val) ×
+          (e-ok : Sound h z-sends z-receives ok) × (is-ok : Is Boolean ok (w-ok ∷ [])) ×
+          (was-receives-2 : Is (Array u8 256) z-receives ((array-vals (uint-vals w8)) z-receives)) ×
           (len-queued : length (h .queued) ≡ 128) × (len-outstanding : length (h .outstanding) ≡ 32) ×
           (len-transmissions : length (h .transmissions) ≡ 32) × (len-ready : length (h .ready) ≡ 128) ×
           (len-waiting : length (h .waiting) ≡ 128) × (len-waiting-numbers : length (h .«waiting_numbers») ≡ 128) ×
@@ -1731,68 +1751,70 @@ module _ {M : Type 1} (𝓤 : URA M) (H : Heap 𝓤) (A : Atoms 𝓤) (W : Given
           ∷ ‵ (partAt (Array u8 32) fullShare (h .transmissions) b (o + 764)) ∷ ‵ (partAt (Array u32 128) fullShare (h .queued) b (o + 124))
           ∷ raw (Back 𝓤 H A fullShare b o) ∷ ‵ (Open b o γ κ₀ q₀ h)
           ∷ ‵ (fat fullShare (tyArray (tyInt w8) 256) (past .11) 0 ((only ((array-vals (uint-vals w8)) (past .1)))))
-          ∷ ‵ (fat fullShare (tyArray (tyInt w8) 256) (past .10) 0 ((only ((array-vals (uint-vals w8)) (past .2)))))
+          ∷ ‵ (fat fullShare (tyArray (tyInt w8) 128) (past .10) 0 ((only ((array-vals (uint-vals w8)) (past .2)))))
           ∷ (‵ (fdies (tyInt w32) (past .3)) ⊛ ‵ (fdies (tyRef (named 0) mut (pointee (L .written))) (past .4)) ⊛ ‵
           (fdies (sliceTy (tyRef (named 1) imm (tyInt w8))) (past .5)) ⊛ ‵ (fdies (sliceTy (tyRef (named 2) mut (tyInt w8))) (past .6)) ⊛ ‵
           (fdies (sliceTy (tyRef (named 3) mut (pointee (R .written)))) (past .7)) ⊛ ‵
           (fdies (sliceTy (tyRef (named 4) mut (tyInt w32))) (past .8)) ⊛ ‵ (fdies (sliceTy (tyRef (named 5) imm (tyInt w8))) (past .9)) ⊛ ‵
-          (fdies (tyArray (tyInt w8) 256) (past .10)) ⊛ ‵ (fdies (tyArray (tyInt w8) 256) (past .11)) ⊛ ‵ (fdies tyBool (past .12)) ⊛ ‵
+          (fdies (tyArray (tyInt w8) 128) (past .10)) ⊛ ‵ (fdies (tyArray (tyInt w8) 256) (past .11)) ⊛ ‵ (fdies tyBool (past .12)) ⊛ ‵
           (fdies settings-laws.mir (past .13)) ⊛ ‵ (fdies flight-laws.mir (past .14)) ⊛ ‵ (fdies arrival-laws.mir (past .15)) ⊛ ‵
           (fdies clock-laws.mir (past .16)) ⊛ ‵ (fdies (tyInt w64) (past .17)) ⊛ ‵ (fdies (tyArray (tyInt w32) 128) (past .18)) ⊛ ‵
           (fdies (tyInt w64) (past .19)) ⊛ ‵ (fdies taken-laws.mir (past .20)) ⊛ ‵ (fdies flight-laws.mir (past .21)) ⊛ ‵
-          (fdies arrival-laws.mir (past .22)) ⊛ ‵ (fdies (tyInt w64) (past .23)) ⊛ ‵ (fdies (tyArray (tyInt w8) 256) (past .24)) ⊛ ‵
-          (fdies (tyRef erased imm (pointee (L .written))) (past .25)) ⊛ ‵ (fdies (tyRef erased mut (tyArray (tyInt w8) 256)) (past .26)) ⊛
-          ‵ (fdies (tyRef erased mut (tyArray (tyInt w8) 256)) (past .27)) ⊛ ‵ (fdies (tyArray (tyInt w32) 128) (past .28)) ⊛ ‵
-          (fdies tyUnit (past .29)) ⊛ ‵ (fdies (tyRef erased imm (pointee (R .written))) (past .30)) ⊛ ‵
-          (fdies (sliceTy (tyRef erased imm (pointee (R .written)))) (past .31)) ⊛ ‵
-          (fdies (tyRef erased imm (tyArray (tyInt w32) 32)) (past .32)) ⊛ ‵ (fdies (tyRef erased mut (tyArray (tyInt w32) 128)) (past .33))
-          ⊛ ‵ (fdies (tyRef erased imm (pointee (R .written))) (past .34)) ⊛ ‵
-          (fdies (sliceTy (tyRef erased imm (pointee (R .written)))) (past .35)) ⊛ ‵
-          (fdies (tyRef erased mut (tyArray (tyInt w32) 128)) (past .36)) ⊛ ‵
-          (fdies (tyRef erased imm (tyArray (tyInt w32) 128)) (past .37)) ⊛ ‵ (fdies (tyRef erased mut (tyArray (tyInt w32) 32)) (past .38))
-          ⊛ ‵ (fdies (tyRef erased mut (tyArray (tyInt w8) 32)) (past .39)) ⊛ ‵
-          (fdies (tyRef erased mut (tyArray (tyInt w32) 128)) (past .40)) ⊛ ‵
+          (fdies arrival-laws.mir (past .22)) ⊛ ‵ (fdies (tyInt w64) (past .23)) ⊛ ‵ (fdies (tyArray (tyInt w8) 128) (past .24)) ⊛ ‵
+          (fdies (tyArray (tyInt w8) 256) (past .25)) ⊛ ‵ (fdies (tyRef erased imm (pointee (L .written))) (past .26)) ⊛ ‵
+          (fdies (tyRef erased mut (tyArray (tyInt w8) 128)) (past .27)) ⊛ ‵ (fdies (tyRef erased mut (tyArray (tyInt w8) 256)) (past .28))
+          ⊛ ‵ (fdies (tyArray (tyInt w32) 128) (past .29)) ⊛ ‵ (fdies tyUnit (past .30)) ⊛ ‵
+          (fdies (tyRef erased imm (pointee (R .written))) (past .31)) ⊛ ‵
+          (fdies (sliceTy (tyRef erased imm (pointee (R .written)))) (past .32)) ⊛ ‵
+          (fdies (tyRef erased imm (tyArray (tyInt w32) 32)) (past .33)) ⊛ ‵ (fdies (tyRef erased mut (tyArray (tyInt w32) 128)) (past .34))
+          ⊛ ‵ (fdies (tyRef erased imm (pointee (R .written))) (past .35)) ⊛ ‵
+          (fdies (sliceTy (tyRef erased imm (pointee (R .written)))) (past .36)) ⊛ ‵
+          (fdies (tyRef erased mut (tyArray (tyInt w32) 128)) (past .37)) ⊛ ‵
+          (fdies (tyRef erased imm (tyArray (tyInt w32) 128)) (past .38)) ⊛ ‵ (fdies (tyRef erased mut (tyArray (tyInt w32) 32)) (past .39))
+          ⊛ ‵ (fdies (tyRef erased mut (tyArray (tyInt w8) 32)) (past .40)) ⊛ ‵
           (fdies (tyRef erased mut (tyArray (tyInt w32) 128)) (past .41)) ⊛ ‵
-          (fdies (tyRef erased mut (tyArray (tyInt w32) 128)) (past .42)) ⊛ ‵ (fdies (tyRef erased imm (tyArray (tyInt w8) 256)) (past .43))
-          ⊛ ‵ (fdies (tyRef erased mut (tyInt w8)) (past .44)) ⊛ ‵ (fdies (sliceTy (tyRef erased mut (tyInt w8))) (past .45)) ⊛ ‵
-          (fdies (tyRef erased mut (tyInt w32)) (past .46)) ⊛ ‵ (fdies (sliceTy (tyRef erased mut (tyInt w32))) (past .47)) ⊛ ‵
-          (fdies (tyRef erased mut (pointee (R .written))) (past .48)) ⊛ ‵
-          (fdies (sliceTy (tyRef erased mut (pointee (R .written)))) (past .49)) ⊛ ‵
-          (fdies (tyRef erased imm (tyArray (tyInt w32) 32)) (past .50)) ⊛ ‵
-          (fdies (tyRef erased imm (tyArray (tyInt w32) 128)) (past .51))) ∷ ‵ (flft κ₁ q₁) ∷ ‵ (flft κ₂ q₂) ∷ ‵ (flft κ₄ q₄)
+          (fdies (tyRef erased mut (tyArray (tyInt w32) 128)) (past .42)) ⊛ ‵
+          (fdies (tyRef erased mut (tyArray (tyInt w32) 128)) (past .43)) ⊛ ‵ (fdies (tyRef erased imm (tyArray (tyInt w8) 256)) (past .44))
+          ⊛ ‵ (fdies (tyRef erased mut (tyInt w8)) (past .45)) ⊛ ‵ (fdies (sliceTy (tyRef erased mut (tyInt w8))) (past .46)) ⊛ ‵
+          (fdies (tyRef erased mut (tyInt w32)) (past .47)) ⊛ ‵ (fdies (sliceTy (tyRef erased mut (tyInt w32))) (past .48)) ⊛ ‵
+          (fdies (tyRef erased mut (pointee (R .written))) (past .49)) ⊛ ‵
+          (fdies (sliceTy (tyRef erased mut (pointee (R .written)))) (past .50)) ⊛ ‵
+          (fdies (tyRef erased imm (tyArray (tyInt w32) 32)) (past .51)) ⊛ ‵
+          (fdies (tyRef erased imm (tyArray (tyInt w32) 128)) (past .52))) ∷ ‵ (flft κ₁ q₁) ∷ ‵ (flft κ₂ q₂) ∷ ‵ (flft κ₄ q₄)
           ∷ ‵ (flft κ₅ q₅) ∷ ‵ Own₁ ∷ ‵ Own₂ ∷ ‵ Own₄ ∷ ‵ Own₅
-          ∷ ‵ (froom (tyRef erased imm (tyArray (tyInt w32) 128)) (past .51) 0)
-          ∷ ‵ (froom (tyRef erased imm (tyArray (tyInt w32) 32)) (past .50) 0)
-          ∷ ‵ (froom (sliceTy (tyRef erased mut (pointee (R .written)))) (past .49) 0)
-          ∷ ‵ (froom (tyRef erased mut (pointee (R .written))) (past .48) 0)
-          ∷ ‵ (froom (sliceTy (tyRef erased mut (tyInt w32))) (past .47) 0) ∷ ‵ (froom (tyRef erased mut (tyInt w32)) (past .46) 0)
-          ∷ ‵ (froom (sliceTy (tyRef erased mut (tyInt w8))) (past .45) 0) ∷ ‵ (froom (tyRef erased mut (tyInt w8)) (past .44) 0)
-          ∷ ‵ (froom (tyRef erased imm (tyArray (tyInt w8) 256)) (past .43) 0)
+          ∷ ‵ (froom (tyRef erased imm (tyArray (tyInt w32) 128)) (past .52) 0)
+          ∷ ‵ (froom (tyRef erased imm (tyArray (tyInt w32) 32)) (past .51) 0)
+          ∷ ‵ (froom (sliceTy (tyRef erased mut (pointee (R .written)))) (past .50) 0)
+          ∷ ‵ (froom (tyRef erased mut (pointee (R .written))) (past .49) 0)
+          ∷ ‵ (froom (sliceTy (tyRef erased mut (tyInt w32))) (past .48) 0) ∷ ‵ (froom (tyRef erased mut (tyInt w32)) (past .47) 0)
+          ∷ ‵ (froom (sliceTy (tyRef erased mut (tyInt w8))) (past .46) 0) ∷ ‵ (froom (tyRef erased mut (tyInt w8)) (past .45) 0)
+          ∷ ‵ (froom (tyRef erased imm (tyArray (tyInt w8) 256)) (past .44) 0)
+          ∷ ‵ (froom (tyRef erased mut (tyArray (tyInt w32) 128)) (past .43) 0)
           ∷ ‵ (froom (tyRef erased mut (tyArray (tyInt w32) 128)) (past .42) 0)
           ∷ ‵ (froom (tyRef erased mut (tyArray (tyInt w32) 128)) (past .41) 0)
-          ∷ ‵ (froom (tyRef erased mut (tyArray (tyInt w32) 128)) (past .40) 0)
-          ∷ ‵ (froom (tyRef erased mut (tyArray (tyInt w8) 32)) (past .39) 0)
-          ∷ ‵ (froom (tyRef erased mut (tyArray (tyInt w32) 32)) (past .38) 0)
-          ∷ ‵ (froom (tyRef erased imm (tyArray (tyInt w32) 128)) (past .37) 0)
-          ∷ ‵ (fat fullShare (tyRef erased mut (tyArray (tyInt w32) 128)) (past .36) 0 ((vptr (past .18) 0)))
-          ∷ ‵ (fat fullShare (sliceTy (tyRef erased imm (pointee (R .written)))) (past .35) 0 (s₃))
-          ∷ ‵ (fat fullShare (tyRef erased imm (pointee (R .written))) (past .34) 0 ((vptr (x₃ .ptr .0) (x₃ .ptr .1))))
-          ∷ ‵ (fat fullShare (tyRef erased mut (tyArray (tyInt w32) 128)) (past .33) 0 ((vptr (past .18) 0)))
-          ∷ ‵ (fat fullShare (tyRef erased imm (tyArray (tyInt w32) 32)) (past .32) 0 ((vptr b (o + 636))))
-          ∷ ‵ (fat fullShare (sliceTy (tyRef erased imm (pointee (R .written)))) (past .31) 0 (s₃))
-          ∷ ‵ (fat fullShare (tyRef erased imm (pointee (R .written))) (past .30) 0 ((vptr (x₃ .ptr .0) (x₃ .ptr .1))))
-          ∷ ‵ (fat fullShare tyUnit (past .29) 0 ((past .72))) ∷ ‵ (fat fullShare (tyArray (tyInt w32) 128) (past .28) 0 ((past .71)))
-          ∷ ‵ (fat fullShare (tyRef erased mut (tyArray (tyInt w8) 256)) (past .27) 0 ((vptr (past .11) 0)))
-          ∷ ‵ (fat fullShare (tyRef erased mut (tyArray (tyInt w8) 256)) (past .26) 0 ((vptr (past .10) 0)))
-          ∷ ‵ (fat fullShare (tyRef erased imm (pointee (L .written))) (past .25) 0 ((vptr b o)))
-          ∷ ‵ (fat fullShare (tyArray (tyInt w8) 256) (past .24) 0 ((past .52))) ∷ ‵ (froom (tyInt w64) (past .23) 0)
+          ∷ ‵ (froom (tyRef erased mut (tyArray (tyInt w8) 32)) (past .40) 0)
+          ∷ ‵ (froom (tyRef erased mut (tyArray (tyInt w32) 32)) (past .39) 0)
+          ∷ ‵ (froom (tyRef erased imm (tyArray (tyInt w32) 128)) (past .38) 0)
+          ∷ ‵ (fat fullShare (tyRef erased mut (tyArray (tyInt w32) 128)) (past .37) 0 ((vptr (past .18) 0)))
+          ∷ ‵ (fat fullShare (sliceTy (tyRef erased imm (pointee (R .written)))) (past .36) 0 (s₃))
+          ∷ ‵ (fat fullShare (tyRef erased imm (pointee (R .written))) (past .35) 0 ((vptr (x₃ .ptr .0) (x₃ .ptr .1))))
+          ∷ ‵ (fat fullShare (tyRef erased mut (tyArray (tyInt w32) 128)) (past .34) 0 ((vptr (past .18) 0)))
+          ∷ ‵ (fat fullShare (tyRef erased imm (tyArray (tyInt w32) 32)) (past .33) 0 ((vptr b (o + 636))))
+          ∷ ‵ (fat fullShare (sliceTy (tyRef erased imm (pointee (R .written)))) (past .32) 0 (s₃))
+          ∷ ‵ (fat fullShare (tyRef erased imm (pointee (R .written))) (past .31) 0 ((vptr (x₃ .ptr .0) (x₃ .ptr .1))))
+          ∷ ‵ (fat fullShare tyUnit (past .30) 0 ((past .74))) ∷ ‵ (fat fullShare (tyArray (tyInt w32) 128) (past .29) 0 ((past .73)))
+          ∷ ‵ (fat fullShare (tyRef erased mut (tyArray (tyInt w8) 256)) (past .28) 0 ((vptr (past .11) 0)))
+          ∷ ‵ (fat fullShare (tyRef erased mut (tyArray (tyInt w8) 128)) (past .27) 0 ((vptr (past .10) 0)))
+          ∷ ‵ (fat fullShare (tyRef erased imm (pointee (L .written))) (past .26) 0 ((vptr b o)))
+          ∷ ‵ (fat fullShare (tyArray (tyInt w8) 256) (past .25) 0 ((past .54)))
+          ∷ ‵ (fat fullShare (tyArray (tyInt w8) 128) (past .24) 0 ((past .53))) ∷ ‵ (froom (tyInt w64) (past .23) 0)
           ∷ ‵ (froom arrival-laws.mir (past .22) 0) ∷ ‵ (froom flight-laws.mir (past .21) 0) ∷ ‵ (froom taken-laws.mir (past .20) 0)
-          ∷ ‵ (fat fullShare (tyInt w64) (past .19) 0 ((past .76))) ∷ ‵ (fat fullShare (tyInt w64) (past .17) 0 ((past .69)))
+          ∷ ‵ (fat fullShare (tyInt w64) (past .19) 0 ((past .78))) ∷ ‵ (fat fullShare (tyInt w64) (past .17) 0 ((past .71)))
           ∷ ‵ (fat fullShare clock-laws.mir (past .16) 0 ((only ((LL.vals clock-row.the-type clock-laws.the-laws) (h .clock)))))
           ∷ ‵ (fat fullShare arrival-laws.mir (past .15) 0 ((only ((LL.vals arrival-row.the-type arrival-laws.the-laws) (h .arrival)))))
           ∷ ‵ (fat fullShare flight-laws.mir (past .14) 0 ((only ((LL.vals flight-row.the-type flight-laws.the-laws) (h .flight)))))
           ∷ ‵ (fat fullShare settings-laws.mir (past .13) 0 ((only ((LL.vals settings-row.the-type settings-laws.the-laws) (h .settings)))))
-          ∷ ‵ (fat fullShare tyBool (past .12) 0 ((past .54)))
+          ∷ ‵ (fat fullShare tyBool (past .12) 0 ((past .56)))
           ∷ ‵ (fat fullShare (sliceTy (tyRef (named 5) imm (tyInt w8))) (past .9) 0 (s₅))
           ∷ ‵ (fat fullShare (sliceTy (tyRef (named 4) mut (tyInt w32))) (past .8) 0 (s₄))
           ∷ ‵ (fat fullShare (sliceTy (tyRef (named 3) mut (pointee (R .written)))) (past .7) 0 (s₃))
@@ -1803,12 +1825,12 @@ module _ {M : Type 1} (𝓤 : URA M) (H : Heap 𝓤) (A : Atoms 𝓤) (W : Given
           (past .14) (past .15) (past .16) (past .17) (past .18) (past .19) (past .20) (past .21) (past .22) (past .23) (past .24)
           (past .25) (past .26) (past .27) (past .28) (past .29) (past .30) (past .31) (past .32) (past .33) (past .34) (past .35)
           (past .36) (past .37) (past .38) (past .39) (past .40) (past .41) (past .42) (past .43) (past .44) (past .45) (past .46)
-          (past .47) (past .48) (past .49) (past .50) (past .51)) (behind 24 (code.function .body))
+          (past .47) (past .48) (past .49) (past .50) (past .51) (past .52)) (behind 24 (code.function .body))
           (atReturn 𝓤 H (En (past .3) (past .4) (past .5) (past .6) (past .7) (past .8) (past .9) (past .10) (past .11) (past .12)
           (past .13) (past .14) (past .15) (past .16) (past .17) (past .18) (past .19) (past .20) (past .21) (past .22) (past .23)
           (past .24) (past .25) (past .26) (past .27) (past .28) (past .29) (past .30) (past .31) (past .32) (past .33) (past .34)
           (past .35) (past .36) (past .37) (past .38) (past .39) (past .40) (past .41) (past .42) (past .43) (past .44) (past .45)
-          (past .46) (past .47) (past .48) (past .49) (past .50) (past .51)) Post))
+          (past .46) (past .47) (past .48) (past .49) (past .50) (past .51) (past .52)) Post))
       part₂ past =
           qed W (‵ Own₃ ∷ ‵ (flft κ₃ q₃) ∷ ‵ (fat fullShare (tyArray (tyInt w32) 128) (past .18) 0
           ((only ((array-vals (uint-vals w32)) (past .0))))) ∷ ‵ (partAt (Array u32 32) fullShare (h .outstanding) b (o + 636))
@@ -1821,72 +1843,73 @@ module _ {M : Type 1} (𝓤 : URA M) (H : Heap 𝓤) (A : Atoms 𝓤) (W : Given
           ∷ ‵ (partAt (Array u8 32) fullShare (h .transmissions) b (o + 764))
           ∷ ‵ (partAt (Array u32 128) fullShare (h .queued) b (o + 124)) ∷ raw (Back 𝓤 H A fullShare b o) ∷ ‵ (Open b o γ κ₀ q₀ h)
           ∷ ‵ (fat fullShare (tyArray (tyInt w8) 256) (past .11) 0 ((only ((array-vals (uint-vals w8)) (past .1)))))
-          ∷ ‵ (fat fullShare (tyArray (tyInt w8) 256) (past .10) 0 ((only ((array-vals (uint-vals w8)) (past .2)))))
+          ∷ ‵ (fat fullShare (tyArray (tyInt w8) 128) (past .10) 0 ((only ((array-vals (uint-vals w8)) (past .2)))))
           ∷ (‵ (fdies (tyInt w32) (past .3)) ⊛ ‵ (fdies (tyRef (named 0) mut (pointee (L .written))) (past .4)) ⊛ ‵
           (fdies (sliceTy (tyRef (named 1) imm (tyInt w8))) (past .5)) ⊛ ‵ (fdies (sliceTy (tyRef (named 2) mut (tyInt w8))) (past .6))
           ⊛ ‵ (fdies (sliceTy (tyRef (named 3) mut (pointee (R .written)))) (past .7)) ⊛ ‵
           (fdies (sliceTy (tyRef (named 4) mut (tyInt w32))) (past .8)) ⊛ ‵ (fdies (sliceTy (tyRef (named 5) imm (tyInt w8))) (past .9))
-          ⊛ ‵ (fdies (tyArray (tyInt w8) 256) (past .10)) ⊛ ‵ (fdies (tyArray (tyInt w8) 256) (past .11)) ⊛ ‵ (fdies tyBool (past .12))
+          ⊛ ‵ (fdies (tyArray (tyInt w8) 128) (past .10)) ⊛ ‵ (fdies (tyArray (tyInt w8) 256) (past .11)) ⊛ ‵ (fdies tyBool (past .12))
           ⊛ ‵ (fdies settings-laws.mir (past .13)) ⊛ ‵ (fdies flight-laws.mir (past .14)) ⊛ ‵ (fdies arrival-laws.mir (past .15)) ⊛ ‵
           (fdies clock-laws.mir (past .16)) ⊛ ‵ (fdies (tyInt w64) (past .17)) ⊛ ‵ (fdies (tyArray (tyInt w32) 128) (past .18)) ⊛ ‵
           (fdies (tyInt w64) (past .19)) ⊛ ‵ (fdies taken-laws.mir (past .20)) ⊛ ‵ (fdies flight-laws.mir (past .21)) ⊛ ‵
-          (fdies arrival-laws.mir (past .22)) ⊛ ‵ (fdies (tyInt w64) (past .23)) ⊛ ‵ (fdies (tyArray (tyInt w8) 256) (past .24)) ⊛ ‵
-          (fdies (tyRef erased imm (pointee (L .written))) (past .25)) ⊛ ‵
-          (fdies (tyRef erased mut (tyArray (tyInt w8) 256)) (past .26)) ⊛ ‵
-          (fdies (tyRef erased mut (tyArray (tyInt w8) 256)) (past .27)) ⊛ ‵ (fdies (tyArray (tyInt w32) 128) (past .28)) ⊛ ‵
-          (fdies tyUnit (past .29)) ⊛ ‵ (fdies (tyRef erased imm (pointee (R .written))) (past .30)) ⊛ ‵
-          (fdies (sliceTy (tyRef erased imm (pointee (R .written)))) (past .31)) ⊛ ‵
-          (fdies (tyRef erased imm (tyArray (tyInt w32) 32)) (past .32)) ⊛ ‵
-          (fdies (tyRef erased mut (tyArray (tyInt w32) 128)) (past .33)) ⊛ ‵
-          (fdies (tyRef erased imm (pointee (R .written))) (past .34)) ⊛ ‵
-          (fdies (sliceTy (tyRef erased imm (pointee (R .written)))) (past .35)) ⊛ ‵
-          (fdies (tyRef erased mut (tyArray (tyInt w32) 128)) (past .36)) ⊛ ‵
-          (fdies (tyRef erased imm (tyArray (tyInt w32) 128)) (past .37)) ⊛ ‵
-          (fdies (tyRef erased mut (tyArray (tyInt w32) 32)) (past .38)) ⊛ ‵
-          (fdies (tyRef erased mut (tyArray (tyInt w8) 32)) (past .39)) ⊛ ‵
-          (fdies (tyRef erased mut (tyArray (tyInt w32) 128)) (past .40)) ⊛ ‵
+          (fdies arrival-laws.mir (past .22)) ⊛ ‵ (fdies (tyInt w64) (past .23)) ⊛ ‵ (fdies (tyArray (tyInt w8) 128) (past .24)) ⊛ ‵
+          (fdies (tyArray (tyInt w8) 256) (past .25)) ⊛ ‵ (fdies (tyRef erased imm (pointee (L .written))) (past .26)) ⊛ ‵
+          (fdies (tyRef erased mut (tyArray (tyInt w8) 128)) (past .27)) ⊛ ‵
+          (fdies (tyRef erased mut (tyArray (tyInt w8) 256)) (past .28)) ⊛ ‵ (fdies (tyArray (tyInt w32) 128) (past .29)) ⊛ ‵
+          (fdies tyUnit (past .30)) ⊛ ‵ (fdies (tyRef erased imm (pointee (R .written))) (past .31)) ⊛ ‵
+          (fdies (sliceTy (tyRef erased imm (pointee (R .written)))) (past .32)) ⊛ ‵
+          (fdies (tyRef erased imm (tyArray (tyInt w32) 32)) (past .33)) ⊛ ‵
+          (fdies (tyRef erased mut (tyArray (tyInt w32) 128)) (past .34)) ⊛ ‵
+          (fdies (tyRef erased imm (pointee (R .written))) (past .35)) ⊛ ‵
+          (fdies (sliceTy (tyRef erased imm (pointee (R .written)))) (past .36)) ⊛ ‵
+          (fdies (tyRef erased mut (tyArray (tyInt w32) 128)) (past .37)) ⊛ ‵
+          (fdies (tyRef erased imm (tyArray (tyInt w32) 128)) (past .38)) ⊛ ‵
+          (fdies (tyRef erased mut (tyArray (tyInt w32) 32)) (past .39)) ⊛ ‵
+          (fdies (tyRef erased mut (tyArray (tyInt w8) 32)) (past .40)) ⊛ ‵
           (fdies (tyRef erased mut (tyArray (tyInt w32) 128)) (past .41)) ⊛ ‵
           (fdies (tyRef erased mut (tyArray (tyInt w32) 128)) (past .42)) ⊛ ‵
-          (fdies (tyRef erased imm (tyArray (tyInt w8) 256)) (past .43)) ⊛ ‵ (fdies (tyRef erased mut (tyInt w8)) (past .44)) ⊛ ‵
-          (fdies (sliceTy (tyRef erased mut (tyInt w8))) (past .45)) ⊛ ‵ (fdies (tyRef erased mut (tyInt w32)) (past .46)) ⊛ ‵
-          (fdies (sliceTy (tyRef erased mut (tyInt w32))) (past .47)) ⊛ ‵ (fdies (tyRef erased mut (pointee (R .written))) (past .48)) ⊛
-          ‵ (fdies (sliceTy (tyRef erased mut (pointee (R .written)))) (past .49)) ⊛ ‵
-          (fdies (tyRef erased imm (tyArray (tyInt w32) 32)) (past .50)) ⊛ ‵
-          (fdies (tyRef erased imm (tyArray (tyInt w32) 128)) (past .51))) ∷ ‵ (flft κ₁ q₁) ∷ ‵ (flft κ₂ q₂) ∷ ‵ (flft κ₄ q₄)
+          (fdies (tyRef erased mut (tyArray (tyInt w32) 128)) (past .43)) ⊛ ‵
+          (fdies (tyRef erased imm (tyArray (tyInt w8) 256)) (past .44)) ⊛ ‵ (fdies (tyRef erased mut (tyInt w8)) (past .45)) ⊛ ‵
+          (fdies (sliceTy (tyRef erased mut (tyInt w8))) (past .46)) ⊛ ‵ (fdies (tyRef erased mut (tyInt w32)) (past .47)) ⊛ ‵
+          (fdies (sliceTy (tyRef erased mut (tyInt w32))) (past .48)) ⊛ ‵ (fdies (tyRef erased mut (pointee (R .written))) (past .49)) ⊛
+          ‵ (fdies (sliceTy (tyRef erased mut (pointee (R .written)))) (past .50)) ⊛ ‵
+          (fdies (tyRef erased imm (tyArray (tyInt w32) 32)) (past .51)) ⊛ ‵
+          (fdies (tyRef erased imm (tyArray (tyInt w32) 128)) (past .52))) ∷ ‵ (flft κ₁ q₁) ∷ ‵ (flft κ₂ q₂) ∷ ‵ (flft κ₄ q₄)
           ∷ ‵ (flft κ₅ q₅) ∷ ‵ Own₁ ∷ ‵ Own₂ ∷ ‵ Own₄ ∷ ‵ Own₅
-          ∷ ‵ (froom (tyRef erased imm (tyArray (tyInt w32) 128)) (past .51) 0)
-          ∷ ‵ (froom (tyRef erased imm (tyArray (tyInt w32) 32)) (past .50) 0)
-          ∷ ‵ (froom (sliceTy (tyRef erased mut (pointee (R .written)))) (past .49) 0)
-          ∷ ‵ (froom (tyRef erased mut (pointee (R .written))) (past .48) 0)
-          ∷ ‵ (froom (sliceTy (tyRef erased mut (tyInt w32))) (past .47) 0) ∷ ‵ (froom (tyRef erased mut (tyInt w32)) (past .46) 0)
-          ∷ ‵ (froom (sliceTy (tyRef erased mut (tyInt w8))) (past .45) 0) ∷ ‵ (froom (tyRef erased mut (tyInt w8)) (past .44) 0)
-          ∷ ‵ (froom (tyRef erased imm (tyArray (tyInt w8) 256)) (past .43) 0)
+          ∷ ‵ (froom (tyRef erased imm (tyArray (tyInt w32) 128)) (past .52) 0)
+          ∷ ‵ (froom (tyRef erased imm (tyArray (tyInt w32) 32)) (past .51) 0)
+          ∷ ‵ (froom (sliceTy (tyRef erased mut (pointee (R .written)))) (past .50) 0)
+          ∷ ‵ (froom (tyRef erased mut (pointee (R .written))) (past .49) 0)
+          ∷ ‵ (froom (sliceTy (tyRef erased mut (tyInt w32))) (past .48) 0) ∷ ‵ (froom (tyRef erased mut (tyInt w32)) (past .47) 0)
+          ∷ ‵ (froom (sliceTy (tyRef erased mut (tyInt w8))) (past .46) 0) ∷ ‵ (froom (tyRef erased mut (tyInt w8)) (past .45) 0)
+          ∷ ‵ (froom (tyRef erased imm (tyArray (tyInt w8) 256)) (past .44) 0)
+          ∷ ‵ (froom (tyRef erased mut (tyArray (tyInt w32) 128)) (past .43) 0)
           ∷ ‵ (froom (tyRef erased mut (tyArray (tyInt w32) 128)) (past .42) 0)
           ∷ ‵ (froom (tyRef erased mut (tyArray (tyInt w32) 128)) (past .41) 0)
-          ∷ ‵ (froom (tyRef erased mut (tyArray (tyInt w32) 128)) (past .40) 0)
-          ∷ ‵ (froom (tyRef erased mut (tyArray (tyInt w8) 32)) (past .39) 0)
-          ∷ ‵ (froom (tyRef erased mut (tyArray (tyInt w32) 32)) (past .38) 0)
-          ∷ ‵ (froom (tyRef erased imm (tyArray (tyInt w32) 128)) (past .37) 0)
-          ∷ ‵ (fat fullShare (tyRef erased mut (tyArray (tyInt w32) 128)) (past .36) 0 ((vptr (past .18) 0)))
-          ∷ ‵ (fat fullShare (sliceTy (tyRef erased imm (pointee (R .written)))) (past .35) 0 (s₃))
-          ∷ ‵ (fat fullShare (tyRef erased imm (pointee (R .written))) (past .34) 0 ((vptr (x₃ .ptr .0) (x₃ .ptr .1))))
-          ∷ ‵ (fat fullShare (tyRef erased mut (tyArray (tyInt w32) 128)) (past .33) 0 ((vptr (past .18) 0)))
-          ∷ ‵ (fat fullShare (tyRef erased imm (tyArray (tyInt w32) 32)) (past .32) 0 ((vptr b (o + 636))))
-          ∷ ‵ (fat fullShare (sliceTy (tyRef erased imm (pointee (R .written)))) (past .31) 0 (s₃))
-          ∷ ‵ (fat fullShare (tyRef erased imm (pointee (R .written))) (past .30) 0 ((vptr (x₃ .ptr .0) (x₃ .ptr .1))))
-          ∷ ‵ (fat fullShare tyUnit (past .29) 0 ((past .72))) ∷ ‵ (fat fullShare (tyArray (tyInt w32) 128) (past .28) 0 ((past .71)))
-          ∷ ‵ (fat fullShare (tyRef erased mut (tyArray (tyInt w8) 256)) (past .27) 0 ((vptr (past .11) 0)))
-          ∷ ‵ (fat fullShare (tyRef erased mut (tyArray (tyInt w8) 256)) (past .26) 0 ((vptr (past .10) 0)))
-          ∷ ‵ (fat fullShare (tyRef erased imm (pointee (L .written))) (past .25) 0 ((vptr b o)))
-          ∷ ‵ (fat fullShare (tyArray (tyInt w8) 256) (past .24) 0 ((past .52))) ∷ ‵ (froom (tyInt w64) (past .23) 0)
+          ∷ ‵ (froom (tyRef erased mut (tyArray (tyInt w8) 32)) (past .40) 0)
+          ∷ ‵ (froom (tyRef erased mut (tyArray (tyInt w32) 32)) (past .39) 0)
+          ∷ ‵ (froom (tyRef erased imm (tyArray (tyInt w32) 128)) (past .38) 0)
+          ∷ ‵ (fat fullShare (tyRef erased mut (tyArray (tyInt w32) 128)) (past .37) 0 ((vptr (past .18) 0)))
+          ∷ ‵ (fat fullShare (sliceTy (tyRef erased imm (pointee (R .written)))) (past .36) 0 (s₃))
+          ∷ ‵ (fat fullShare (tyRef erased imm (pointee (R .written))) (past .35) 0 ((vptr (x₃ .ptr .0) (x₃ .ptr .1))))
+          ∷ ‵ (fat fullShare (tyRef erased mut (tyArray (tyInt w32) 128)) (past .34) 0 ((vptr (past .18) 0)))
+          ∷ ‵ (fat fullShare (tyRef erased imm (tyArray (tyInt w32) 32)) (past .33) 0 ((vptr b (o + 636))))
+          ∷ ‵ (fat fullShare (sliceTy (tyRef erased imm (pointee (R .written)))) (past .32) 0 (s₃))
+          ∷ ‵ (fat fullShare (tyRef erased imm (pointee (R .written))) (past .31) 0 ((vptr (x₃ .ptr .0) (x₃ .ptr .1))))
+          ∷ ‵ (fat fullShare tyUnit (past .30) 0 ((past .74))) ∷ ‵ (fat fullShare (tyArray (tyInt w32) 128) (past .29) 0 ((past .73)))
+          ∷ ‵ (fat fullShare (tyRef erased mut (tyArray (tyInt w8) 256)) (past .28) 0 ((vptr (past .11) 0)))
+          ∷ ‵ (fat fullShare (tyRef erased mut (tyArray (tyInt w8) 128)) (past .27) 0 ((vptr (past .10) 0)))
+          ∷ ‵ (fat fullShare (tyRef erased imm (pointee (L .written))) (past .26) 0 ((vptr b o)))
+          ∷ ‵ (fat fullShare (tyArray (tyInt w8) 256) (past .25) 0 ((past .54)))
+          ∷ ‵ (fat fullShare (tyArray (tyInt w8) 128) (past .24) 0 ((past .53))) ∷ ‵ (froom (tyInt w64) (past .23) 0)
           ∷ ‵ (froom arrival-laws.mir (past .22) 0) ∷ ‵ (froom flight-laws.mir (past .21) 0) ∷ ‵ (froom taken-laws.mir (past .20) 0)
-          ∷ ‵ (fat fullShare (tyInt w64) (past .19) 0 ((past .76))) ∷ ‵ (fat fullShare (tyInt w64) (past .17) 0 ((past .69)))
+          ∷ ‵ (fat fullShare (tyInt w64) (past .19) 0 ((past .78))) ∷ ‵ (fat fullShare (tyInt w64) (past .17) 0 ((past .71)))
           ∷ ‵ (fat fullShare clock-laws.mir (past .16) 0 ((only ((LL.vals clock-row.the-type clock-laws.the-laws) (h .clock)))))
           ∷ ‵ (fat fullShare arrival-laws.mir (past .15) 0 ((only ((LL.vals arrival-row.the-type arrival-laws.the-laws) (h .arrival)))))
           ∷ ‵ (fat fullShare flight-laws.mir (past .14) 0 ((only ((LL.vals flight-row.the-type flight-laws.the-laws) (h .flight)))))
           ∷ ‵ (fat fullShare settings-laws.mir (past .13) 0
           ((only ((LL.vals settings-row.the-type settings-laws.the-laws) (h .settings)))))
-          ∷ ‵ (fat fullShare tyBool (past .12) 0 ((past .54)))
+          ∷ ‵ (fat fullShare tyBool (past .12) 0 ((past .56)))
           ∷ ‵ (fat fullShare (sliceTy (tyRef (named 5) imm (tyInt w8))) (past .9) 0 (s₅))
           ∷ ‵ (fat fullShare (sliceTy (tyRef (named 4) mut (tyInt w32))) (past .8) 0 (s₄))
           ∷ ‵ (fat fullShare (sliceTy (tyRef (named 3) mut (pointee (R .written)))) (past .7) 0 (s₃))
@@ -1897,42 +1920,42 @@ module _ {M : Type 1} (𝓤 : URA M) (H : Heap 𝓤) (A : Atoms 𝓤) (W : Given
           (past .13) (past .14) (past .15) (past .16) (past .17) (past .18) (past .19) (past .20) (past .21) (past .22) (past .23)
           (past .24) (past .25) (past .26) (past .27) (past .28) (past .29) (past .30) (past .31) (past .32) (past .33) (past .34)
           (past .35) (past .36) (past .37) (past .38) (past .39) (past .40) (past .41) (past .42) (past .43) (past .44) (past .45)
-          (past .46) (past .47) (past .48) (past .49) (past .50) (past .51)) (behind 24 (code.function .body))
+          (past .46) (past .47) (past .48) (past .49) (past .50) (past .51) (past .52)) (behind 24 (code.function .body))
           (atRet (En (past .3) (past .4) (past .5) (past .6) (past .7) (past .8) (past .9) (past .10) (past .11) (past .12) (past .13)
           (past .14) (past .15) (past .16) (past .17) (past .18) (past .19) (past .20) (past .21) (past .22) (past .23) (past .24)
           (past .25) (past .26) (past .27) (past .28) (past .29) (past .30) (past .31) (past .32) (past .33) (past .34) (past .35)
           (past .36) (past .37) (past .38) (past .39) (past .40) (past .41) (past .42) (past .43) (past .44) (past .45) (past .46)
-          (past .47) (past .48) (past .49) (past .50) (past .51)) Post) $
-          assigns ! {v = (vptr b (o + 124))} (addr ! (from ! (hop ! (look ! 70 refl) (fld ! {d = 124} refl (stop !))))) (from ! (stop !))
+          (past .47) (past .48) (past .49) (past .50) (past .51) (past .52)) Post) $
+          assigns ! {v = (vptr b (o + 124))} (addr ! (from ! (hop ! (look ! 71 refl) (fld ! {d = 124} refl (stop !))))) (from ! (stop !))
           (init ! 40 refl (tt, tt)) $
-          assigns ! {v = (vptr b (o + 636))} (addr ! (from ! (hop ! (look ! 70 refl) (fld ! {d = 636} refl (stop !))))) (from ! (stop !))
+          assigns ! {v = (vptr b (o + 636))} (addr ! (from ! (hop ! (look ! 71 refl) (fld ! {d = 636} refl (stop !))))) (from ! (stop !))
           (init ! 39 refl (tt, tt)) $
-          assigns ! {v = (vptr b (o + 764))} (addr ! (from ! (hop ! (look ! 70 refl) (fld ! {d = 764} refl (stop !))))) (from ! (stop !))
+          assigns ! {v = (vptr b (o + 764))} (addr ! (from ! (hop ! (look ! 71 refl) (fld ! {d = 764} refl (stop !))))) (from ! (stop !))
           (init ! 38 refl (tt, tt)) $
-          assigns ! {v = (vptr b (o + 796))} (addr ! (from ! (hop ! (look ! 70 refl) (fld ! {d = 796} refl (stop !))))) (from ! (stop !))
+          assigns ! {v = (vptr b (o + 796))} (addr ! (from ! (hop ! (look ! 71 refl) (fld ! {d = 796} refl (stop !))))) (from ! (stop !))
           (init ! 37 refl (tt, tt)) $
-          assigns ! {v = (vptr b (o + 1308))} (addr ! (from ! (hop ! (look ! 70 refl) (fld ! {d = 1308} refl (stop !))))) (from ! (stop !))
+          assigns ! {v = (vptr b (o + 1308))} (addr ! (from ! (hop ! (look ! 71 refl) (fld ! {d = 1308} refl (stop !))))) (from ! (stop !))
           (init ! 36 refl (tt, tt)) $
-          assigns ! {v = (vptr b (o + 1820))} (addr ! (from ! (hop ! (look ! 70 refl) (fld ! {d = 1820} refl (stop !))))) (from ! (stop !))
+          assigns ! {v = (vptr b (o + 1820))} (addr ! (from ! (hop ! (look ! 71 refl) (fld ! {d = 1820} refl (stop !))))) (from ! (stop !))
           (init ! 35 refl (tt, tt)) $
           assigns ! {v = (vptr (past .11) 0)} (addr ! (from ! (stop !))) (from ! (stop !)) (init ! 34 refl (tt, tt)) $
           assigns ! {v = (vptr (x₂ .ptr .0) (x₂ .ptr .1))}
-          (addr ! (from ! (fld ! refl (hop ! (look-in ! 68 (sub ! 0 refl (whole !))) (stop !))))) (from ! (stop !))
+          (addr ! (from ! (fld ! refl (hop ! (look-in ! 69 (sub ! 0 refl (whole !))) (stop !))))) (from ! (stop !))
           (init ! 33 refl (tt, tt)) $
           assigns ! {v = s₂} (agg ! (and-then ! (load ! (from ! (stop !)) (look ! 33 refl))
-          (and-then ! (load ! (from ! (fld ! refl (stop !))) (look-in ! 68 (sub ! 1 refl (whole !)))) (no-more !)))) (from ! (stop !))
+          (and-then ! (load ! (from ! (fld ! refl (stop !))) (look-in ! 69 (sub ! 1 refl (whole !)))) (no-more !)))) (from ! (stop !))
           (init ! 32 refl (tt, (tt, (record { fits = room₂ .0 }, tt)))) $
           assigns ! {v = (vptr (x₄ .ptr .0) (x₄ .ptr .1))}
-          (addr ! (from ! (fld ! refl (hop ! (look-in ! 66 (sub ! 0 refl (whole !))) (stop !))))) (from ! (stop !))
+          (addr ! (from ! (fld ! refl (hop ! (look-in ! 67 (sub ! 0 refl (whole !))) (stop !))))) (from ! (stop !))
           (init ! 31 refl (tt, tt)) $
           assigns ! {v = s₄} (agg ! (and-then ! (load ! (from ! (stop !)) (look ! 31 refl))
-          (and-then ! (load ! (from ! (fld ! refl (stop !))) (look-in ! 66 (sub ! 1 refl (whole !)))) (no-more !)))) (from ! (stop !))
+          (and-then ! (load ! (from ! (fld ! refl (stop !))) (look-in ! 67 (sub ! 1 refl (whole !)))) (no-more !)))) (from ! (stop !))
           (init ! 30 refl (tt, (tt, (record { fits = room₄ .0 }, tt)))) $
           move ! (2 ∷ []) $ use1 W (‵ (cellAt fullShare ((tyArray (tyInt w32) 128) ∷ [])
           ((only ((array-vals (uint-vals w32)) (past .0))) ∷ []) (past .18) 0))
           (W .laws .at-raw fullShare (tyArray (tyInt w32) 128) (past .18) 0 (only ((array-vals (uint-vals w32)) (past .0)))) $
           cell-in ! fullShare (Array u32 128) (array-makes 𝓤 H A W u32 (uint-makes 𝓤 H A W w32) 128) (past .0) (past .18) 0
-          (only ((array-vals (uint-vals w32)) (past .0))) (past .74) $
+          (only ((array-vals (uint-vals w32)) (past .0))) (past .76) $
           lend-mut ! tt (Array u32 128) (past .0) (past .18) 0
           (λ α-found′ δ-found′. move ! (14 ∷ []) $
           lend-shr ! tt fullShare (Array u32 128) (h .queued) b (o + 124)
@@ -1950,19 +1973,19 @@ module _ {M : Type 1} (𝓤 : URA M) (H : Heap 𝓤) (A : Atoms 𝓤) (W : Given
           use1 W (‵ (cellAt fullShare ((tyArray (tyInt w8) 256) ∷ []) ((only ((array-vals (uint-vals w8)) (past .1))) ∷ []) (past .11)
           0)) (W .laws .at-raw fullShare (tyArray (tyInt w8) 256) (past .11) 0 (only ((array-vals (uint-vals w8)) (past .1)))) $
           cell-in ! fullShare (Array u8 256) (array-makes 𝓤 H A W u8 (uint-makes 𝓤 H A W w8) 256) (past .1) (past .11) 0
-          (only ((array-vals (uint-vals w8)) (past .1))) (past .57) $
+          (only ((array-vals (uint-vals w8)) (past .1))) (past .59) $
           lend-shr ! tt fullShare (Array u8 256) (past .1) (past .11) 0
           (λ α-receives′ δ-receives′. move ! (21 ∷ 22 ∷ 18 ∷ 19 ∷ 15 ∷ 16 ∷ 12 ∷ 13 ∷ 9 ∷ 10 ∷ 6 ∷ 7 ∷ 3 ∷ 4 ∷ 0 ∷ 1
           ∷ 34 ∷ 38 ∷ 35 ∷ 39 ∷ 36 ∷ 40 ∷ 37 ∷ 41 ∷ []) $ group ! 24 $
-          calls-fn ! fm core.ended (core.clauses 𝓤 H A at-mem run) (known .6)
+          calls-fn ! fm core.ended (core.clauses 𝓤 H A at-mem run) (known .7)
           (to-core (past .18) α-found′ δ-found′ (past .0) α-queued δ-queued (h .queued) α-outstanding′ δ-outstanding′ (h .outstanding)
           α-transmissions δ-transmissions (h .transmissions) α-ready δ-ready (h .ready) α-waiting δ-waiting (h .waiting)
           α-waiting-numbers δ-waiting-numbers (h .«waiting_numbers») (past .11) α-receives′ δ-receives′ (past .1) (h .settings)
           (only ((LL.vals settings-row.the-type settings-laws.the-laws) (h .settings))) (h .flight)
           (only ((LL.vals flight-row.the-type flight-laws.the-laws) (h .flight))) (h .arrival)
           (only ((LL.vals arrival-row.the-type arrival-laws.the-laws) (h .arrival))) (h .clock)
-          (only ((LL.vals clock-row.the-type clock-laws.the-laws) (h .clock))) (past .53) (past .54) (past .75) (past .76))
-          (λ a ws-a. (Takes (λ l. takesInWith l (recordsIn (past .0)) (x₄ .now) (lentLengths (past .75) (x₁ .now) (x₂ .now) (x₄ .now))
+          (only ((LL.vals clock-row.the-type clock-laws.the-laws) (h .clock))) (past .55) (past .56) (past .77) (past .78))
+          (λ a ws-a. (Takes (λ l. takesInWith l (recordsIn (past .0)) (x₄ .now) (lentLengths (past .77) (x₁ .now) (x₂ .now) (x₄ .now))
           (x₂ .now) (x₅ .now)) (h .settings) (h .flight) (h .arrival) (h .clock) (arraysOf h) (x₂ .now) (x₄ .now) a
           (arrays (h .queued) (ws-a .1 .1 .1 .1 .1 .1 .1 .1 .0) (ws-a .1 .1 .1 .1 .1 .1 .1 .1 .1 .0)
           (ws-a .1 .1 .1 .1 .1 .1 .1 .1 .1 .1 .0) (ws-a .1 .1 .1 .1 .1 .1 .1 .1 .1 .1 .1 .0)
@@ -1987,30 +2010,30 @@ module _ {M : Type 1} (𝓤 : URA M) (H : Heap 𝓤) (A : Atoms 𝓤) (W : Given
           (asks-core (past .18) α-found′ δ-found′ (past .0) α-queued δ-queued (h .queued) α-outstanding′ δ-outstanding′ (h .outstanding)
           α-transmissions δ-transmissions (h .transmissions) α-ready δ-ready (h .ready) α-waiting δ-waiting (h .waiting) α-waiting-numbers
           δ-waiting-numbers (h .«waiting_numbers») (past .11) α-receives′ δ-receives′ (past .1) (h .settings)
-          (only ((LL.vals settings-row.the-type settings-laws.the-laws) (h .settings))) (past .64) (h .flight)
-          (only ((LL.vals flight-row.the-type flight-laws.the-laws) (h .flight))) (past .65) (h .arrival)
-          (only ((LL.vals arrival-row.the-type arrival-laws.the-laws) (h .arrival))) (past .66) (h .clock)
-          (only ((LL.vals clock-row.the-type clock-laws.the-laws) (h .clock))) (past .67) (past .53) (past .54) (past .56) (past .75)
-          (past .76) (past .78) (
+          (only ((LL.vals settings-row.the-type settings-laws.the-laws) (h .settings))) (past .66) (h .flight)
+          (only ((LL.vals flight-row.the-type flight-laws.the-laws) (h .flight))) (past .67) (h .arrival)
+          (only ((LL.vals arrival-row.the-type arrival-laws.the-laws) (h .arrival))) (past .68) (h .clock)
+          (only ((LL.vals clock-row.the-type clock-laws.the-laws) (h .clock))) (past .69) (past .55) (past .56) (past .58) (past .77)
+          (past .78) (past .80) (
             record {
-              whole-queued = (past .58);
-              whole-outstanding = (past .59);
-              whole-transmissions = (past .60);
-              whole-ready = (past .61);
-              whole-waiting = (past .62);
-              whole-numbers = (past .63);
+              whole-queued = (past .60);
+              whole-outstanding = (past .61);
+              whole-transmissions = (past .62);
+              whole-ready = (past .63);
+              whole-waiting = (past .64);
+              whole-numbers = (past .65);
             },
-            (past .73) .0,
-            ((past .2), (past .55)),
+            (past .75) .0,
+            ((past .2), (past .57)),
           ))
           (λ a ws-a. id⊢ 𝓤 _)
+          (and-then ! (load ! (from ! (stop !)) (look ! 57 refl))
           (and-then ! (load ! (from ! (stop !)) (look ! 56 refl))
           (and-then ! (load ! (from ! (stop !)) (look ! 55 refl))
           (and-then ! (load ! (from ! (stop !)) (look ! 54 refl))
-          (and-then ! (load ! (from ! (stop !)) (look ! 53 refl))
-          (and-then ! (load ! (from ! (stop !)) (look ! 57 refl))
+          (and-then ! (load ! (from ! (stop !)) (look ! 58 refl))
           (and-then ! (load ! (from ! (stop !)) (look ! 34 refl))
-          (and-then ! (load ! (from ! (stop !)) (look ! 51 refl))
+          (and-then ! (load ! (from ! (stop !)) (look ! 52 refl))
           (and-then ! (load ! (from ! (stop !)) (look ! 33 refl))
           (and-then ! (load ! (from ! (stop !)) (look ! 32 refl))
           (and-then ! (load ! (from ! (stop !)) (look ! 31 refl))
@@ -2018,12 +2041,12 @@ module _ {M : Type 1} (𝓤 : URA M) (H : Heap 𝓤) (A : Atoms 𝓤) (W : Given
           (and-then ! (load ! (from ! (stop !)) (look ! 29 refl))
           (and-then ! (load ! (from ! (stop !)) (look ! 28 refl))
           (and-then ! (load ! (from ! (stop !)) (look ! 27 refl))
-          (and-then ! (load ! (from ! (stop !)) (look ! 62 refl))
+          (and-then ! (load ! (from ! (stop !)) (look ! 63 refl))
           (and-then ! (load ! (from ! (stop !)) (look ! 25 refl))
           (and-then ! (load ! (from ! (stop !)) (look ! 23 refl))
-          (and-then ! (load ! (from ! (stop !)) (look ! 58 refl)) (no-more !)))))))))))))))))))
+          (and-then ! (load ! (from ! (stop !)) (look ! 59 refl)) (no-more !)))))))))))))))))))
           (λ a w-a ws-a e-a is-a. land ! (from ! (stop !))
-          (init ! 51 refl (LL.lawful taken-row.the-type taken-laws.the-laws 𝓤 H A W .typed a (w-a ∷ []) is-a .0)) $
+          (init ! 52 refl (LL.lawful taken-row.the-type taken-laws.the-laws 𝓤 H A W .typed a (w-a ∷ []) is-a .0)) $
           spread W (‵ (flft (α-found′ ∷ []) fullShare))
           (‵ (flft (α-queued ∷ []) fullShare) ∷ ‵ (flft (α-outstanding′ ∷ []) fullShare) ∷ ‵ (flft (α-transmissions ∷ []) fullShare)
           ∷ ‵ (flft (α-ready ∷ []) fullShare) ∷ ‵ (flft (α-waiting ∷ []) fullShare) ∷ ‵ (flft (α-waiting-numbers ∷ []) fullShare)
@@ -2044,7 +2067,7 @@ module _ {M : Type 1} (𝓤 : URA M) (H : Heap 𝓤) (A : Atoms 𝓤) (W : Given
           ∷ 29 ∷ 30 ∷ 32 ∷ 33 ∷ 34 ∷ 35 ∷ 36 ∷ 37 ∷ 38 ∷ 39 ∷ 40 ∷ 41 ∷ 42 ∷ 43 ∷ 44 ∷ 45 ∷ 46 ∷ 47 ∷ 48 ∷ 49 ∷ 50
           ∷ 51 ∷ 52 ∷ 53 ∷ 54 ∷ 55 ∷ 56 ∷ 57 ∷ 58 ∷ 59 ∷ 60 ∷ 61 ∷ 62 ∷ 63 ∷ 64 ∷ 65 ∷ 66 ∷ 67 ∷ 68 ∷ 69 ∷ 70 ∷ 71
           ∷ 72 ∷ 73 ∷ 74 ∷ 75 ∷ 76 ∷ 77 ∷ 78 ∷ 79 ∷ 80 ∷ 81 ∷ 82 ∷ 83 ∷ 84 ∷ 85 ∷ 86 ∷ 87 ∷ 88 ∷ 89 ∷ 90 ∷ 91 ∷ 92
-          ∷ 93 ∷ 94 ∷ 95 ∷ []) $ move ! (6 ∷ []) $ fsplit ! $ move ! (1 ∷ []) $
+          ∷ 93 ∷ 94 ∷ 95 ∷ 96 ∷ []) $ move ! (6 ∷ []) $ fsplit ! $ move ! (1 ∷ []) $
           feqL ! (λ len₂. move ! (7 ∷ []) $ fsplit ! $ move ! (1 ∷ []) $ feqL ! (λ len₄.
           -- [fin4; fin2; fin:@found; fin:outstanding; fin:transmissions; fin:ready; fin:waiting; fin:«waiting_numbers»; tok:@found;
           -- tok:queued; tok:outstanding; tok:transmissions; tok:ready; tok:waiting; tok:«waiting_numbers»; tok:@receives; tok1; tok2; tok4;
@@ -2129,16 +2152,18 @@ module _ {M : Type 1} (𝓤 : URA M) (H : Heap 𝓤) (A : Atoms 𝓤) (W : Given
             (past .50),
             (past .51),
             (past .52),
+            (past .53),
             (past .54),
-            (past .68),
-            (past .69),
+            (past .56),
             (past .70),
             (past .71),
             (past .72),
             (past .73),
+            (past .74),
             (past .75),
-            (past .76),
             (past .77),
+            (past .78),
+            (past .79),
             a,
             w-a,
             e-a,
@@ -2157,71 +2182,74 @@ module _ {M : Type 1} (𝓤 : URA M) (H : Heap 𝓤) (A : Atoms 𝓤) (W : Given
           (l₂₇ : ℕ) × (l₂₈ : ℕ) × (l₂₉ : ℕ) × (l₃₀ : ℕ) × (l₃₁ : ℕ) × (l₃₂ : ℕ) × (l₃₃ : ℕ) ×
           (l₃₄ : ℕ) × (l₃₅ : ℕ) × (l₃₆ : ℕ) × (l₃₇ : ℕ) × (l₃₈ : ℕ) × (l₃₉ : ℕ) × (l₄₀ : ℕ) ×
           (l₄₁ : ℕ) × (l₄₂ : ℕ) × (l₄₃ : ℕ) × (l₄₄ : ℕ) × (l₄₅ : ℕ) × (l₄₆ : ℕ) × (l₄₇ : ℕ) ×
-          (l₄₈ : ℕ) × (w-receives : Val) × (ok : Bool) × (w-ok : Val) × (e-ok : Sound h z-sends z-receives ok) ×
-          (is-ok : Is Boolean ok (w-ok ∷ [])) × (Is (Array u8 256) z-receives ((array-vals (uint-vals w8)) z-receives))
+          (l₄₈ : ℕ) × (l₄₉ : ℕ) × (w-sends : Val) × (w-receives : Val) × (ok : Bool) × (w-ok : Val) ×
+          (e-ok : Sound h z-sends z-receives ok) × (is-ok : Is Boolean ok (w-ok ∷ [])) ×
+          (Is (Array u8 256) z-receives ((array-vals (uint-vals w8)) z-receives))
 
       part₁ : (past : Known₁) → ent 𝓤 (⋆ 𝓤 H A (‵
           (fat fullShare (tyArray (tyInt w8) 256) (past .10) 0 ((only ((array-vals (uint-vals w8)) (past .0)))))
-          ∷ ‵ (fat fullShare (tyArray (tyInt w8) 256) (past .9) 0 ((only ((array-vals (uint-vals w8)) (past .1)))))
+          ∷ ‵ (fat fullShare (tyArray (tyInt w8) 128) (past .9) 0 ((only ((array-vals (uint-vals w8)) (past .1)))))
           ∷ ‵ (link-own κ₀ b o γ h) ∷ ‵ (flft κ₀ q₀)
           ∷ (‵ (fdies (tyInt w32) (past .2)) ⊛ ‵ (fdies (tyRef (named 0) mut (pointee (L .written))) (past .3)) ⊛ ‵
           (fdies (sliceTy (tyRef (named 1) imm (tyInt w8))) (past .4)) ⊛ ‵ (fdies (sliceTy (tyRef (named 2) mut (tyInt w8))) (past .5)) ⊛ ‵
           (fdies (sliceTy (tyRef (named 3) mut (pointee (R .written)))) (past .6)) ⊛ ‵
           (fdies (sliceTy (tyRef (named 4) mut (tyInt w32))) (past .7)) ⊛ ‵ (fdies (sliceTy (tyRef (named 5) imm (tyInt w8))) (past .8)) ⊛ ‵
-          (fdies (tyArray (tyInt w8) 256) (past .9)) ⊛ ‵ (fdies (tyArray (tyInt w8) 256) (past .10)) ⊛ ‵ (fdies tyBool (past .11)) ⊛ ‵
+          (fdies (tyArray (tyInt w8) 128) (past .9)) ⊛ ‵ (fdies (tyArray (tyInt w8) 256) (past .10)) ⊛ ‵ (fdies tyBool (past .11)) ⊛ ‵
           (fdies settings-laws.mir (past .12)) ⊛ ‵ (fdies flight-laws.mir (past .13)) ⊛ ‵ (fdies arrival-laws.mir (past .14)) ⊛ ‵
           (fdies clock-laws.mir (past .15)) ⊛ ‵ (fdies (tyInt w64) (past .16)) ⊛ ‵ (fdies (tyArray (tyInt w32) 128) (past .17)) ⊛ ‵
           (fdies (tyInt w64) (past .18)) ⊛ ‵ (fdies taken-laws.mir (past .19)) ⊛ ‵ (fdies flight-laws.mir (past .20)) ⊛ ‵
-          (fdies arrival-laws.mir (past .21)) ⊛ ‵ (fdies (tyInt w64) (past .22)) ⊛ ‵ (fdies (tyArray (tyInt w8) 256) (past .23)) ⊛ ‵
-          (fdies (tyRef erased imm (pointee (L .written))) (past .24)) ⊛ ‵ (fdies (tyRef erased mut (tyArray (tyInt w8) 256)) (past .25)) ⊛
-          ‵ (fdies (tyRef erased mut (tyArray (tyInt w8) 256)) (past .26)) ⊛ ‵ (fdies (tyArray (tyInt w32) 128) (past .27)) ⊛ ‵
-          (fdies tyUnit (past .28)) ⊛ ‵ (fdies (tyRef erased imm (pointee (R .written))) (past .29)) ⊛ ‵
-          (fdies (sliceTy (tyRef erased imm (pointee (R .written)))) (past .30)) ⊛ ‵
-          (fdies (tyRef erased imm (tyArray (tyInt w32) 32)) (past .31)) ⊛ ‵ (fdies (tyRef erased mut (tyArray (tyInt w32) 128)) (past .32))
-          ⊛ ‵ (fdies (tyRef erased imm (pointee (R .written))) (past .33)) ⊛ ‵
-          (fdies (sliceTy (tyRef erased imm (pointee (R .written)))) (past .34)) ⊛ ‵
-          (fdies (tyRef erased mut (tyArray (tyInt w32) 128)) (past .35)) ⊛ ‵
-          (fdies (tyRef erased imm (tyArray (tyInt w32) 128)) (past .36)) ⊛ ‵ (fdies (tyRef erased mut (tyArray (tyInt w32) 32)) (past .37))
-          ⊛ ‵ (fdies (tyRef erased mut (tyArray (tyInt w8) 32)) (past .38)) ⊛ ‵
-          (fdies (tyRef erased mut (tyArray (tyInt w32) 128)) (past .39)) ⊛ ‵
+          (fdies arrival-laws.mir (past .21)) ⊛ ‵ (fdies (tyInt w64) (past .22)) ⊛ ‵ (fdies (tyArray (tyInt w8) 128) (past .23)) ⊛ ‵
+          (fdies (tyArray (tyInt w8) 256) (past .24)) ⊛ ‵ (fdies (tyRef erased imm (pointee (L .written))) (past .25)) ⊛ ‵
+          (fdies (tyRef erased mut (tyArray (tyInt w8) 128)) (past .26)) ⊛ ‵ (fdies (tyRef erased mut (tyArray (tyInt w8) 256)) (past .27))
+          ⊛ ‵ (fdies (tyArray (tyInt w32) 128) (past .28)) ⊛ ‵ (fdies tyUnit (past .29)) ⊛ ‵
+          (fdies (tyRef erased imm (pointee (R .written))) (past .30)) ⊛ ‵
+          (fdies (sliceTy (tyRef erased imm (pointee (R .written)))) (past .31)) ⊛ ‵
+          (fdies (tyRef erased imm (tyArray (tyInt w32) 32)) (past .32)) ⊛ ‵ (fdies (tyRef erased mut (tyArray (tyInt w32) 128)) (past .33))
+          ⊛ ‵ (fdies (tyRef erased imm (pointee (R .written))) (past .34)) ⊛ ‵
+          (fdies (sliceTy (tyRef erased imm (pointee (R .written)))) (past .35)) ⊛ ‵
+          (fdies (tyRef erased mut (tyArray (tyInt w32) 128)) (past .36)) ⊛ ‵
+          (fdies (tyRef erased imm (tyArray (tyInt w32) 128)) (past .37)) ⊛ ‵ (fdies (tyRef erased mut (tyArray (tyInt w32) 32)) (past .38))
+          ⊛ ‵ (fdies (tyRef erased mut (tyArray (tyInt w8) 32)) (past .39)) ⊛ ‵
           (fdies (tyRef erased mut (tyArray (tyInt w32) 128)) (past .40)) ⊛ ‵
-          (fdies (tyRef erased mut (tyArray (tyInt w32) 128)) (past .41)) ⊛ ‵ (fdies (tyRef erased imm (tyArray (tyInt w8) 256)) (past .42))
-          ⊛ ‵ (fdies (tyRef erased mut (tyInt w8)) (past .43)) ⊛ ‵ (fdies (sliceTy (tyRef erased mut (tyInt w8))) (past .44)) ⊛ ‵
-          (fdies (tyRef erased mut (tyInt w32)) (past .45)) ⊛ ‵ (fdies (sliceTy (tyRef erased mut (tyInt w32))) (past .46)) ⊛ ‵
-          (fdies (tyRef erased mut (pointee (R .written))) (past .47)) ⊛ ‵
-          (fdies (sliceTy (tyRef erased mut (pointee (R .written)))) (past .48)) ⊛ ‵
-          (fdies (tyRef erased imm (tyArray (tyInt w32) 32)) (past .49)) ⊛ ‵
-          (fdies (tyRef erased imm (tyArray (tyInt w32) 128)) (past .50))) ∷ ‵ (flft κ₁ q₁) ∷ ‵ (flft κ₂ q₂) ∷ ‵ (flft κ₃ q₃)
+          (fdies (tyRef erased mut (tyArray (tyInt w32) 128)) (past .41)) ⊛ ‵
+          (fdies (tyRef erased mut (tyArray (tyInt w32) 128)) (past .42)) ⊛ ‵ (fdies (tyRef erased imm (tyArray (tyInt w8) 256)) (past .43))
+          ⊛ ‵ (fdies (tyRef erased mut (tyInt w8)) (past .44)) ⊛ ‵ (fdies (sliceTy (tyRef erased mut (tyInt w8))) (past .45)) ⊛ ‵
+          (fdies (tyRef erased mut (tyInt w32)) (past .46)) ⊛ ‵ (fdies (sliceTy (tyRef erased mut (tyInt w32))) (past .47)) ⊛ ‵
+          (fdies (tyRef erased mut (pointee (R .written))) (past .48)) ⊛ ‵
+          (fdies (sliceTy (tyRef erased mut (pointee (R .written)))) (past .49)) ⊛ ‵
+          (fdies (tyRef erased imm (tyArray (tyInt w32) 32)) (past .50)) ⊛ ‵
+          (fdies (tyRef erased imm (tyArray (tyInt w32) 128)) (past .51))) ∷ ‵ (flft κ₁ q₁) ∷ ‵ (flft κ₂ q₂) ∷ ‵ (flft κ₃ q₃)
           ∷ ‵ (flft κ₄ q₄) ∷ ‵ (flft κ₅ q₅) ∷ ‵ Own₁ ∷ ‵ Own₂ ∷ ‵ Own₃ ∷ ‵ Own₄ ∷ ‵ Own₅
-          ∷ ‵ (froom (tyRef erased imm (tyArray (tyInt w32) 128)) (past .50) 0)
-          ∷ ‵ (froom (tyRef erased imm (tyArray (tyInt w32) 32)) (past .49) 0)
-          ∷ ‵ (froom (sliceTy (tyRef erased mut (pointee (R .written)))) (past .48) 0)
-          ∷ ‵ (froom (tyRef erased mut (pointee (R .written))) (past .47) 0)
-          ∷ ‵ (froom (sliceTy (tyRef erased mut (tyInt w32))) (past .46) 0) ∷ ‵ (froom (tyRef erased mut (tyInt w32)) (past .45) 0)
-          ∷ ‵ (froom (sliceTy (tyRef erased mut (tyInt w8))) (past .44) 0) ∷ ‵ (froom (tyRef erased mut (tyInt w8)) (past .43) 0)
-          ∷ ‵ (froom (tyRef erased imm (tyArray (tyInt w8) 256)) (past .42) 0)
+          ∷ ‵ (froom (tyRef erased imm (tyArray (tyInt w32) 128)) (past .51) 0)
+          ∷ ‵ (froom (tyRef erased imm (tyArray (tyInt w32) 32)) (past .50) 0)
+          ∷ ‵ (froom (sliceTy (tyRef erased mut (pointee (R .written)))) (past .49) 0)
+          ∷ ‵ (froom (tyRef erased mut (pointee (R .written))) (past .48) 0)
+          ∷ ‵ (froom (sliceTy (tyRef erased mut (tyInt w32))) (past .47) 0) ∷ ‵ (froom (tyRef erased mut (tyInt w32)) (past .46) 0)
+          ∷ ‵ (froom (sliceTy (tyRef erased mut (tyInt w8))) (past .45) 0) ∷ ‵ (froom (tyRef erased mut (tyInt w8)) (past .44) 0)
+          ∷ ‵ (froom (tyRef erased imm (tyArray (tyInt w8) 256)) (past .43) 0)
+          ∷ ‵ (froom (tyRef erased mut (tyArray (tyInt w32) 128)) (past .42) 0)
           ∷ ‵ (froom (tyRef erased mut (tyArray (tyInt w32) 128)) (past .41) 0)
           ∷ ‵ (froom (tyRef erased mut (tyArray (tyInt w32) 128)) (past .40) 0)
-          ∷ ‵ (froom (tyRef erased mut (tyArray (tyInt w32) 128)) (past .39) 0)
-          ∷ ‵ (froom (tyRef erased mut (tyArray (tyInt w8) 32)) (past .38) 0)
-          ∷ ‵ (froom (tyRef erased mut (tyArray (tyInt w32) 32)) (past .37) 0)
-          ∷ ‵ (froom (tyRef erased imm (tyArray (tyInt w32) 128)) (past .36) 0)
-          ∷ ‵ (froom (tyRef erased mut (tyArray (tyInt w32) 128)) (past .35) 0)
-          ∷ ‵ (froom (sliceTy (tyRef erased imm (pointee (R .written)))) (past .34) 0)
-          ∷ ‵ (froom (tyRef erased imm (pointee (R .written))) (past .33) 0)
-          ∷ ‵ (froom (tyRef erased mut (tyArray (tyInt w32) 128)) (past .32) 0)
-          ∷ ‵ (froom (tyRef erased imm (tyArray (tyInt w32) 32)) (past .31) 0)
-          ∷ ‵ (froom (sliceTy (tyRef erased imm (pointee (R .written)))) (past .30) 0)
-          ∷ ‵ (froom (tyRef erased imm (pointee (R .written))) (past .29) 0) ∷ ‵ (froom tyUnit (past .28) 0)
-          ∷ ‵ (froom (tyArray (tyInt w32) 128) (past .27) 0)
-          ∷ ‵ (fat fullShare (tyRef erased mut (tyArray (tyInt w8) 256)) (past .26) 0 ((vptr (past .10) 0)))
-          ∷ ‵ (fat fullShare (tyRef erased mut (tyArray (tyInt w8) 256)) (past .25) 0 ((vptr (past .9) 0)))
-          ∷ ‵ (fat fullShare (tyRef erased imm (pointee (L .written))) (past .24) 0 ((vptr b o)))
-          ∷ ‵ (fat fullShare (tyArray (tyInt w8) 256) (past .23) 0 ((past .51))) ∷ ‵ (froom (tyInt w64) (past .22) 0)
+          ∷ ‵ (froom (tyRef erased mut (tyArray (tyInt w8) 32)) (past .39) 0)
+          ∷ ‵ (froom (tyRef erased mut (tyArray (tyInt w32) 32)) (past .38) 0)
+          ∷ ‵ (froom (tyRef erased imm (tyArray (tyInt w32) 128)) (past .37) 0)
+          ∷ ‵ (froom (tyRef erased mut (tyArray (tyInt w32) 128)) (past .36) 0)
+          ∷ ‵ (froom (sliceTy (tyRef erased imm (pointee (R .written)))) (past .35) 0)
+          ∷ ‵ (froom (tyRef erased imm (pointee (R .written))) (past .34) 0)
+          ∷ ‵ (froom (tyRef erased mut (tyArray (tyInt w32) 128)) (past .33) 0)
+          ∷ ‵ (froom (tyRef erased imm (tyArray (tyInt w32) 32)) (past .32) 0)
+          ∷ ‵ (froom (sliceTy (tyRef erased imm (pointee (R .written)))) (past .31) 0)
+          ∷ ‵ (froom (tyRef erased imm (pointee (R .written))) (past .30) 0) ∷ ‵ (froom tyUnit (past .29) 0)
+          ∷ ‵ (froom (tyArray (tyInt w32) 128) (past .28) 0)
+          ∷ ‵ (fat fullShare (tyRef erased mut (tyArray (tyInt w8) 256)) (past .27) 0 ((vptr (past .10) 0)))
+          ∷ ‵ (fat fullShare (tyRef erased mut (tyArray (tyInt w8) 128)) (past .26) 0 ((vptr (past .9) 0)))
+          ∷ ‵ (fat fullShare (tyRef erased imm (pointee (L .written))) (past .25) 0 ((vptr b o)))
+          ∷ ‵ (fat fullShare (tyArray (tyInt w8) 256) (past .24) 0 ((past .53)))
+          ∷ ‵ (fat fullShare (tyArray (tyInt w8) 128) (past .23) 0 ((past .52))) ∷ ‵ (froom (tyInt w64) (past .22) 0)
           ∷ ‵ (froom arrival-laws.mir (past .21) 0) ∷ ‵ (froom flight-laws.mir (past .20) 0) ∷ ‵ (froom taken-laws.mir (past .19) 0)
           ∷ ‵ (froom (tyInt w64) (past .18) 0) ∷ ‵ (froom (tyArray (tyInt w32) 128) (past .17) 0) ∷ ‵ (froom (tyInt w64) (past .16) 0)
           ∷ ‵ (froom clock-laws.mir (past .15) 0) ∷ ‵ (froom arrival-laws.mir (past .14) 0) ∷ ‵ (froom flight-laws.mir (past .13) 0)
-          ∷ ‵ (froom settings-laws.mir (past .12) 0) ∷ ‵ (fat fullShare tyBool (past .11) 0 ((past .53)))
+          ∷ ‵ (froom settings-laws.mir (past .12) 0) ∷ ‵ (fat fullShare tyBool (past .11) 0 ((past .55)))
           ∷ ‵ (fat fullShare (sliceTy (tyRef (named 5) imm (tyInt w8))) (past .8) 0 (s₅))
           ∷ ‵ (fat fullShare (sliceTy (tyRef (named 4) mut (tyInt w32))) (past .7) 0 (s₄))
           ∷ ‵ (fat fullShare (sliceTy (tyRef (named 3) mut (pointee (R .written)))) (past .6) 0 (s₃))
@@ -2232,77 +2260,78 @@ module _ {M : Type 1} (𝓤 : URA M) (H : Heap 𝓤) (A : Atoms 𝓤) (W : Given
           (past .13) (past .14) (past .15) (past .16) (past .17) (past .18) (past .19) (past .20) (past .21) (past .22) (past .23)
           (past .24) (past .25) (past .26) (past .27) (past .28) (past .29) (past .30) (past .31) (past .32) (past .33) (past .34)
           (past .35) (past .36) (past .37) (past .38) (past .39) (past .40) (past .41) (past .42) (past .43) (past .44) (past .45)
-          (past .46) (past .47) (past .48) (past .49) (past .50)) (behind 8 (code.function .body))
+          (past .46) (past .47) (past .48) (past .49) (past .50) (past .51)) (behind 8 (code.function .body))
           (atReturn 𝓤 H (En (past .2) (past .3) (past .4) (past .5) (past .6) (past .7) (past .8) (past .9) (past .10) (past .11) (past .12)
           (past .13) (past .14) (past .15) (past .16) (past .17) (past .18) (past .19) (past .20) (past .21) (past .22) (past .23)
           (past .24) (past .25) (past .26) (past .27) (past .28) (past .29) (past .30) (past .31) (past .32) (past .33) (past .34)
           (past .35) (past .36) (past .37) (past .38) (past .39) (past .40) (past .41) (past .42) (past .43) (past .44) (past .45)
-          (past .46) (past .47) (past .48) (past .49) (past .50)) Post))
+          (past .46) (past .47) (past .48) (past .49) (past .50) (past .51)) Post))
       part₁ past =
           qed W (‵ (fat fullShare (tyArray (tyInt w8) 256) (past .10) 0 ((only ((array-vals (uint-vals w8)) (past .0)))))
-          ∷ ‵ (fat fullShare (tyArray (tyInt w8) 256) (past .9) 0 ((only ((array-vals (uint-vals w8)) (past .1)))))
+          ∷ ‵ (fat fullShare (tyArray (tyInt w8) 128) (past .9) 0 ((only ((array-vals (uint-vals w8)) (past .1)))))
           ∷ ‵ (link-own κ₀ b o γ h) ∷ ‵ (flft κ₀ q₀)
           ∷ (‵ (fdies (tyInt w32) (past .2)) ⊛ ‵ (fdies (tyRef (named 0) mut (pointee (L .written))) (past .3)) ⊛ ‵
           (fdies (sliceTy (tyRef (named 1) imm (tyInt w8))) (past .4)) ⊛ ‵ (fdies (sliceTy (tyRef (named 2) mut (tyInt w8))) (past .5))
           ⊛ ‵ (fdies (sliceTy (tyRef (named 3) mut (pointee (R .written)))) (past .6)) ⊛ ‵
           (fdies (sliceTy (tyRef (named 4) mut (tyInt w32))) (past .7)) ⊛ ‵ (fdies (sliceTy (tyRef (named 5) imm (tyInt w8))) (past .8))
-          ⊛ ‵ (fdies (tyArray (tyInt w8) 256) (past .9)) ⊛ ‵ (fdies (tyArray (tyInt w8) 256) (past .10)) ⊛ ‵ (fdies tyBool (past .11)) ⊛
+          ⊛ ‵ (fdies (tyArray (tyInt w8) 128) (past .9)) ⊛ ‵ (fdies (tyArray (tyInt w8) 256) (past .10)) ⊛ ‵ (fdies tyBool (past .11)) ⊛
           ‵ (fdies settings-laws.mir (past .12)) ⊛ ‵ (fdies flight-laws.mir (past .13)) ⊛ ‵ (fdies arrival-laws.mir (past .14)) ⊛ ‵
           (fdies clock-laws.mir (past .15)) ⊛ ‵ (fdies (tyInt w64) (past .16)) ⊛ ‵ (fdies (tyArray (tyInt w32) 128) (past .17)) ⊛ ‵
           (fdies (tyInt w64) (past .18)) ⊛ ‵ (fdies taken-laws.mir (past .19)) ⊛ ‵ (fdies flight-laws.mir (past .20)) ⊛ ‵
-          (fdies arrival-laws.mir (past .21)) ⊛ ‵ (fdies (tyInt w64) (past .22)) ⊛ ‵ (fdies (tyArray (tyInt w8) 256) (past .23)) ⊛ ‵
-          (fdies (tyRef erased imm (pointee (L .written))) (past .24)) ⊛ ‵
-          (fdies (tyRef erased mut (tyArray (tyInt w8) 256)) (past .25)) ⊛ ‵
-          (fdies (tyRef erased mut (tyArray (tyInt w8) 256)) (past .26)) ⊛ ‵ (fdies (tyArray (tyInt w32) 128) (past .27)) ⊛ ‵
-          (fdies tyUnit (past .28)) ⊛ ‵ (fdies (tyRef erased imm (pointee (R .written))) (past .29)) ⊛ ‵
-          (fdies (sliceTy (tyRef erased imm (pointee (R .written)))) (past .30)) ⊛ ‵
-          (fdies (tyRef erased imm (tyArray (tyInt w32) 32)) (past .31)) ⊛ ‵
-          (fdies (tyRef erased mut (tyArray (tyInt w32) 128)) (past .32)) ⊛ ‵
-          (fdies (tyRef erased imm (pointee (R .written))) (past .33)) ⊛ ‵
-          (fdies (sliceTy (tyRef erased imm (pointee (R .written)))) (past .34)) ⊛ ‵
-          (fdies (tyRef erased mut (tyArray (tyInt w32) 128)) (past .35)) ⊛ ‵
-          (fdies (tyRef erased imm (tyArray (tyInt w32) 128)) (past .36)) ⊛ ‵
-          (fdies (tyRef erased mut (tyArray (tyInt w32) 32)) (past .37)) ⊛ ‵
-          (fdies (tyRef erased mut (tyArray (tyInt w8) 32)) (past .38)) ⊛ ‵
-          (fdies (tyRef erased mut (tyArray (tyInt w32) 128)) (past .39)) ⊛ ‵
+          (fdies arrival-laws.mir (past .21)) ⊛ ‵ (fdies (tyInt w64) (past .22)) ⊛ ‵ (fdies (tyArray (tyInt w8) 128) (past .23)) ⊛ ‵
+          (fdies (tyArray (tyInt w8) 256) (past .24)) ⊛ ‵ (fdies (tyRef erased imm (pointee (L .written))) (past .25)) ⊛ ‵
+          (fdies (tyRef erased mut (tyArray (tyInt w8) 128)) (past .26)) ⊛ ‵
+          (fdies (tyRef erased mut (tyArray (tyInt w8) 256)) (past .27)) ⊛ ‵ (fdies (tyArray (tyInt w32) 128) (past .28)) ⊛ ‵
+          (fdies tyUnit (past .29)) ⊛ ‵ (fdies (tyRef erased imm (pointee (R .written))) (past .30)) ⊛ ‵
+          (fdies (sliceTy (tyRef erased imm (pointee (R .written)))) (past .31)) ⊛ ‵
+          (fdies (tyRef erased imm (tyArray (tyInt w32) 32)) (past .32)) ⊛ ‵
+          (fdies (tyRef erased mut (tyArray (tyInt w32) 128)) (past .33)) ⊛ ‵
+          (fdies (tyRef erased imm (pointee (R .written))) (past .34)) ⊛ ‵
+          (fdies (sliceTy (tyRef erased imm (pointee (R .written)))) (past .35)) ⊛ ‵
+          (fdies (tyRef erased mut (tyArray (tyInt w32) 128)) (past .36)) ⊛ ‵
+          (fdies (tyRef erased imm (tyArray (tyInt w32) 128)) (past .37)) ⊛ ‵
+          (fdies (tyRef erased mut (tyArray (tyInt w32) 32)) (past .38)) ⊛ ‵
+          (fdies (tyRef erased mut (tyArray (tyInt w8) 32)) (past .39)) ⊛ ‵
           (fdies (tyRef erased mut (tyArray (tyInt w32) 128)) (past .40)) ⊛ ‵
           (fdies (tyRef erased mut (tyArray (tyInt w32) 128)) (past .41)) ⊛ ‵
-          (fdies (tyRef erased imm (tyArray (tyInt w8) 256)) (past .42)) ⊛ ‵ (fdies (tyRef erased mut (tyInt w8)) (past .43)) ⊛ ‵
-          (fdies (sliceTy (tyRef erased mut (tyInt w8))) (past .44)) ⊛ ‵ (fdies (tyRef erased mut (tyInt w32)) (past .45)) ⊛ ‵
-          (fdies (sliceTy (tyRef erased mut (tyInt w32))) (past .46)) ⊛ ‵ (fdies (tyRef erased mut (pointee (R .written))) (past .47)) ⊛
-          ‵ (fdies (sliceTy (tyRef erased mut (pointee (R .written)))) (past .48)) ⊛ ‵
-          (fdies (tyRef erased imm (tyArray (tyInt w32) 32)) (past .49)) ⊛ ‵
-          (fdies (tyRef erased imm (tyArray (tyInt w32) 128)) (past .50))) ∷ ‵ (flft κ₁ q₁) ∷ ‵ (flft κ₂ q₂) ∷ ‵ (flft κ₃ q₃)
+          (fdies (tyRef erased mut (tyArray (tyInt w32) 128)) (past .42)) ⊛ ‵
+          (fdies (tyRef erased imm (tyArray (tyInt w8) 256)) (past .43)) ⊛ ‵ (fdies (tyRef erased mut (tyInt w8)) (past .44)) ⊛ ‵
+          (fdies (sliceTy (tyRef erased mut (tyInt w8))) (past .45)) ⊛ ‵ (fdies (tyRef erased mut (tyInt w32)) (past .46)) ⊛ ‵
+          (fdies (sliceTy (tyRef erased mut (tyInt w32))) (past .47)) ⊛ ‵ (fdies (tyRef erased mut (pointee (R .written))) (past .48)) ⊛
+          ‵ (fdies (sliceTy (tyRef erased mut (pointee (R .written)))) (past .49)) ⊛ ‵
+          (fdies (tyRef erased imm (tyArray (tyInt w32) 32)) (past .50)) ⊛ ‵
+          (fdies (tyRef erased imm (tyArray (tyInt w32) 128)) (past .51))) ∷ ‵ (flft κ₁ q₁) ∷ ‵ (flft κ₂ q₂) ∷ ‵ (flft κ₃ q₃)
           ∷ ‵ (flft κ₄ q₄) ∷ ‵ (flft κ₅ q₅) ∷ ‵ Own₁ ∷ ‵ Own₂ ∷ ‵ Own₃ ∷ ‵ Own₄ ∷ ‵ Own₅
-          ∷ ‵ (froom (tyRef erased imm (tyArray (tyInt w32) 128)) (past .50) 0)
-          ∷ ‵ (froom (tyRef erased imm (tyArray (tyInt w32) 32)) (past .49) 0)
-          ∷ ‵ (froom (sliceTy (tyRef erased mut (pointee (R .written)))) (past .48) 0)
-          ∷ ‵ (froom (tyRef erased mut (pointee (R .written))) (past .47) 0)
-          ∷ ‵ (froom (sliceTy (tyRef erased mut (tyInt w32))) (past .46) 0) ∷ ‵ (froom (tyRef erased mut (tyInt w32)) (past .45) 0)
-          ∷ ‵ (froom (sliceTy (tyRef erased mut (tyInt w8))) (past .44) 0) ∷ ‵ (froom (tyRef erased mut (tyInt w8)) (past .43) 0)
-          ∷ ‵ (froom (tyRef erased imm (tyArray (tyInt w8) 256)) (past .42) 0)
+          ∷ ‵ (froom (tyRef erased imm (tyArray (tyInt w32) 128)) (past .51) 0)
+          ∷ ‵ (froom (tyRef erased imm (tyArray (tyInt w32) 32)) (past .50) 0)
+          ∷ ‵ (froom (sliceTy (tyRef erased mut (pointee (R .written)))) (past .49) 0)
+          ∷ ‵ (froom (tyRef erased mut (pointee (R .written))) (past .48) 0)
+          ∷ ‵ (froom (sliceTy (tyRef erased mut (tyInt w32))) (past .47) 0) ∷ ‵ (froom (tyRef erased mut (tyInt w32)) (past .46) 0)
+          ∷ ‵ (froom (sliceTy (tyRef erased mut (tyInt w8))) (past .45) 0) ∷ ‵ (froom (tyRef erased mut (tyInt w8)) (past .44) 0)
+          ∷ ‵ (froom (tyRef erased imm (tyArray (tyInt w8) 256)) (past .43) 0)
+          ∷ ‵ (froom (tyRef erased mut (tyArray (tyInt w32) 128)) (past .42) 0)
           ∷ ‵ (froom (tyRef erased mut (tyArray (tyInt w32) 128)) (past .41) 0)
           ∷ ‵ (froom (tyRef erased mut (tyArray (tyInt w32) 128)) (past .40) 0)
-          ∷ ‵ (froom (tyRef erased mut (tyArray (tyInt w32) 128)) (past .39) 0)
-          ∷ ‵ (froom (tyRef erased mut (tyArray (tyInt w8) 32)) (past .38) 0)
-          ∷ ‵ (froom (tyRef erased mut (tyArray (tyInt w32) 32)) (past .37) 0)
-          ∷ ‵ (froom (tyRef erased imm (tyArray (tyInt w32) 128)) (past .36) 0)
-          ∷ ‵ (froom (tyRef erased mut (tyArray (tyInt w32) 128)) (past .35) 0)
-          ∷ ‵ (froom (sliceTy (tyRef erased imm (pointee (R .written)))) (past .34) 0)
-          ∷ ‵ (froom (tyRef erased imm (pointee (R .written))) (past .33) 0)
-          ∷ ‵ (froom (tyRef erased mut (tyArray (tyInt w32) 128)) (past .32) 0)
-          ∷ ‵ (froom (tyRef erased imm (tyArray (tyInt w32) 32)) (past .31) 0)
-          ∷ ‵ (froom (sliceTy (tyRef erased imm (pointee (R .written)))) (past .30) 0)
-          ∷ ‵ (froom (tyRef erased imm (pointee (R .written))) (past .29) 0) ∷ ‵ (froom tyUnit (past .28) 0)
-          ∷ ‵ (froom (tyArray (tyInt w32) 128) (past .27) 0)
-          ∷ ‵ (fat fullShare (tyRef erased mut (tyArray (tyInt w8) 256)) (past .26) 0 ((vptr (past .10) 0)))
-          ∷ ‵ (fat fullShare (tyRef erased mut (tyArray (tyInt w8) 256)) (past .25) 0 ((vptr (past .9) 0)))
-          ∷ ‵ (fat fullShare (tyRef erased imm (pointee (L .written))) (past .24) 0 ((vptr b o)))
-          ∷ ‵ (fat fullShare (tyArray (tyInt w8) 256) (past .23) 0 ((past .51))) ∷ ‵ (froom (tyInt w64) (past .22) 0)
+          ∷ ‵ (froom (tyRef erased mut (tyArray (tyInt w8) 32)) (past .39) 0)
+          ∷ ‵ (froom (tyRef erased mut (tyArray (tyInt w32) 32)) (past .38) 0)
+          ∷ ‵ (froom (tyRef erased imm (tyArray (tyInt w32) 128)) (past .37) 0)
+          ∷ ‵ (froom (tyRef erased mut (tyArray (tyInt w32) 128)) (past .36) 0)
+          ∷ ‵ (froom (sliceTy (tyRef erased imm (pointee (R .written)))) (past .35) 0)
+          ∷ ‵ (froom (tyRef erased imm (pointee (R .written))) (past .34) 0)
+          ∷ ‵ (froom (tyRef erased mut (tyArray (tyInt w32) 128)) (past .33) 0)
+          ∷ ‵ (froom (tyRef erased imm (tyArray (tyInt w32) 32)) (past .32) 0)
+          ∷ ‵ (froom (sliceTy (tyRef erased imm (pointee (R .written)))) (past .31) 0)
+          ∷ ‵ (froom (tyRef erased imm (pointee (R .written))) (past .30) 0) ∷ ‵ (froom tyUnit (past .29) 0)
+          ∷ ‵ (froom (tyArray (tyInt w32) 128) (past .28) 0)
+          ∷ ‵ (fat fullShare (tyRef erased mut (tyArray (tyInt w8) 256)) (past .27) 0 ((vptr (past .10) 0)))
+          ∷ ‵ (fat fullShare (tyRef erased mut (tyArray (tyInt w8) 128)) (past .26) 0 ((vptr (past .9) 0)))
+          ∷ ‵ (fat fullShare (tyRef erased imm (pointee (L .written))) (past .25) 0 ((vptr b o)))
+          ∷ ‵ (fat fullShare (tyArray (tyInt w8) 256) (past .24) 0 ((past .53)))
+          ∷ ‵ (fat fullShare (tyArray (tyInt w8) 128) (past .23) 0 ((past .52))) ∷ ‵ (froom (tyInt w64) (past .22) 0)
           ∷ ‵ (froom arrival-laws.mir (past .21) 0) ∷ ‵ (froom flight-laws.mir (past .20) 0) ∷ ‵ (froom taken-laws.mir (past .19) 0)
           ∷ ‵ (froom (tyInt w64) (past .18) 0) ∷ ‵ (froom (tyArray (tyInt w32) 128) (past .17) 0) ∷ ‵ (froom (tyInt w64) (past .16) 0)
           ∷ ‵ (froom clock-laws.mir (past .15) 0) ∷ ‵ (froom arrival-laws.mir (past .14) 0) ∷ ‵ (froom flight-laws.mir (past .13) 0)
-          ∷ ‵ (froom settings-laws.mir (past .12) 0) ∷ ‵ (fat fullShare tyBool (past .11) 0 ((past .53)))
+          ∷ ‵ (froom settings-laws.mir (past .12) 0) ∷ ‵ (fat fullShare tyBool (past .11) 0 ((past .55)))
           ∷ ‵ (fat fullShare (sliceTy (tyRef (named 5) imm (tyInt w8))) (past .8) 0 (s₅))
           ∷ ‵ (fat fullShare (sliceTy (tyRef (named 4) mut (tyInt w32))) (past .7) 0 (s₄))
           ∷ ‵ (fat fullShare (sliceTy (tyRef (named 3) mut (pointee (R .written)))) (past .6) 0 (s₃))
@@ -2313,12 +2342,12 @@ module _ {M : Type 1} (𝓤 : URA M) (H : Heap 𝓤) (A : Atoms 𝓤) (W : Given
           (past .12) (past .13) (past .14) (past .15) (past .16) (past .17) (past .18) (past .19) (past .20) (past .21) (past .22)
           (past .23) (past .24) (past .25) (past .26) (past .27) (past .28) (past .29) (past .30) (past .31) (past .32) (past .33)
           (past .34) (past .35) (past .36) (past .37) (past .38) (past .39) (past .40) (past .41) (past .42) (past .43) (past .44)
-          (past .45) (past .46) (past .47) (past .48) (past .49) (past .50)) (behind 8 (code.function .body))
+          (past .45) (past .46) (past .47) (past .48) (past .49) (past .50) (past .51)) (behind 8 (code.function .body))
           (atRet (En (past .2) (past .3) (past .4) (past .5) (past .6) (past .7) (past .8) (past .9) (past .10) (past .11) (past .12)
           (past .13) (past .14) (past .15) (past .16) (past .17) (past .18) (past .19) (past .20) (past .21) (past .22) (past .23)
           (past .24) (past .25) (past .26) (past .27) (past .28) (past .29) (past .30) (past .31) (past .32) (past .33) (past .34)
           (past .35) (past .36) (past .37) (past .38) (past .39) (past .40) (past .41) (past .42) (past .43) (past .44) (past .45)
-          (past .46) (past .47) (past .48) (past .49) (past .50)) Post) $
+          (past .46) (past .47) (past .48) (past .49) (past .50) (past .51)) Post) $
           move ! (2 ∷ 3 ∷ []) $ opens-link b o γ ! tt h $
           -- [F:settings; F:flight; F:arrival; F:clock; F:queued; F:outstanding; F:transmissions; F:ready; F:waiting; F:«waiting_numbers»;
           -- back; opened; deaths; tok1; tok2; tok3; tok4; tok5; own1; own2; own3; own4; own5; the locals]
@@ -2337,62 +2366,62 @@ module _ {M : Type 1} (𝓤 : URA M) (H : Heap 𝓤) (A : Atoms 𝓤) (W : Given
           cell-out ! fullShare settings-row.the-row (LL.vals settings-row.the-type settings-laws.the-laws)
           (LL.tells settings-row.the-type settings-laws.the-laws) (h .settings) b (o + 0) (λ was-settings.
           assigns ! {v = (only ((LL.vals settings-row.the-type settings-laws.the-laws) (h .settings)))}
-          (of-opd ! (load ! (from ! (hop ! (look ! 70 refl) (fld ! {d = 0} refl (stop !)))) (look-raw ! 0 refl))) (from ! (stop !))
-          (init ! 63 refl (LL.lawful settings-row.the-type settings-laws.the-laws 𝓤 H A W .typed (h .settings)
+          (of-opd ! (load ! (from ! (hop ! (look ! 71 refl) (fld ! {d = 0} refl (stop !)))) (look-raw ! 0 refl))) (from ! (stop !))
+          (init ! 64 refl (LL.lawful settings-row.the-type settings-laws.the-laws 𝓤 H A W .typed (h .settings)
           ((only ((LL.vals settings-row.the-type settings-laws.the-laws) (h .settings))) ∷ []) was-settings .0)) $
           cell-in ! fullShare settings-row.the-row (LL.makes settings-row.the-type settings-laws.the-plain 𝓤 H A) (h .settings) b (o + 0)
           (only ((LL.vals settings-row.the-type settings-laws.the-laws) (h .settings))) was-settings $ move ! (7 ∷ []) $
           cell-out ! fullShare flight-row.the-row (LL.vals flight-row.the-type flight-laws.the-laws)
           (LL.tells flight-row.the-type flight-laws.the-laws) (h .flight) b (o + 16) (λ was-flight.
           assigns ! {v = (only ((LL.vals flight-row.the-type flight-laws.the-laws) (h .flight)))}
-          (of-opd ! (load ! (from ! (hop ! (look ! 70 refl) (fld ! {d = 16} refl (stop !)))) (look-raw ! 0 refl))) (from ! (stop !))
-          (init ! 62 refl (LL.lawful flight-row.the-type flight-laws.the-laws 𝓤 H A W .typed (h .flight)
+          (of-opd ! (load ! (from ! (hop ! (look ! 71 refl) (fld ! {d = 16} refl (stop !)))) (look-raw ! 0 refl))) (from ! (stop !))
+          (init ! 63 refl (LL.lawful flight-row.the-type flight-laws.the-laws 𝓤 H A W .typed (h .flight)
           ((only ((LL.vals flight-row.the-type flight-laws.the-laws) (h .flight))) ∷ []) was-flight .0)) $
           cell-in ! fullShare flight-row.the-row (LL.makes flight-row.the-type flight-laws.the-plain 𝓤 H A) (h .flight) b (o + 16)
           (only ((LL.vals flight-row.the-type flight-laws.the-laws) (h .flight))) was-flight $ move ! (8 ∷ []) $
           cell-out ! fullShare arrival-row.the-row (LL.vals arrival-row.the-type arrival-laws.the-laws)
           (LL.tells arrival-row.the-type arrival-laws.the-laws) (h .arrival) b (o + 72) (λ was-arrival.
           assigns ! {v = (only ((LL.vals arrival-row.the-type arrival-laws.the-laws) (h .arrival)))}
-          (of-opd ! (load ! (from ! (hop ! (look ! 70 refl) (fld ! {d = 72} refl (stop !)))) (look-raw ! 0 refl))) (from ! (stop !))
-          (init ! 61 refl (LL.lawful arrival-row.the-type arrival-laws.the-laws 𝓤 H A W .typed (h .arrival)
+          (of-opd ! (load ! (from ! (hop ! (look ! 71 refl) (fld ! {d = 72} refl (stop !)))) (look-raw ! 0 refl))) (from ! (stop !))
+          (init ! 62 refl (LL.lawful arrival-row.the-type arrival-laws.the-laws 𝓤 H A W .typed (h .arrival)
           ((only ((LL.vals arrival-row.the-type arrival-laws.the-laws) (h .arrival))) ∷ []) was-arrival .0)) $
           cell-in ! fullShare arrival-row.the-row (LL.makes arrival-row.the-type arrival-laws.the-plain 𝓤 H A) (h .arrival) b (o + 72)
           (only ((LL.vals arrival-row.the-type arrival-laws.the-laws) (h .arrival))) was-arrival $ move ! (9 ∷ []) $
           cell-out ! fullShare clock-row.the-row (LL.vals clock-row.the-type clock-laws.the-laws)
           (LL.tells clock-row.the-type clock-laws.the-laws) (h .clock) b (o + 104) (λ was-clock.
           assigns ! {v = (only ((LL.vals clock-row.the-type clock-laws.the-laws) (h .clock)))}
-          (of-opd ! (load ! (from ! (hop ! (look ! 70 refl) (fld ! {d = 104} refl (stop !)))) (look-raw ! 0 refl))) (from ! (stop !))
-          (init ! 60 refl (LL.lawful clock-row.the-type clock-laws.the-laws 𝓤 H A W .typed (h .clock)
+          (of-opd ! (load ! (from ! (hop ! (look ! 71 refl) (fld ! {d = 104} refl (stop !)))) (look-raw ! 0 refl))) (from ! (stop !))
+          (init ! 61 refl (LL.lawful clock-row.the-type clock-laws.the-laws 𝓤 H A W .typed (h .clock)
           ((only ((LL.vals clock-row.the-type clock-laws.the-laws) (h .clock))) ∷ []) was-clock .0)) $
           cell-in ! fullShare clock-row.the-row (LL.makes clock-row.the-type clock-laws.the-plain 𝓤 H A) (h .clock) b (o + 104)
           (only ((LL.vals clock-row.the-type clock-laws.the-laws) (h .clock))) was-clock $ nothing ! $
-          calls-fn ! fm count-of.ended (count-of.clauses 𝓤 H A at-mem run) (known .2)
+          calls-fn ! fm count-of.ended (count-of.clauses 𝓤 H A at-mem run) (known .3)
           ((tt, tt, tt, ((h .flight), tt), ((only ((LL.vals flight-row.the-type flight-laws.the-laws) (h .flight))) ∷ [], tt)), tt)
           (λ n _. n ≡ h .flight .outstanding)
           (‵ ftrue) (plainly 𝓤 H A W (flight-row.the-row ∷ []) ((LL.makes flight-row.the-type flight-laws.the-plain 𝓤 H A), tt)
           ((h .flight), tt) ((only ((LL.vals flight-row.the-type flight-laws.the-laws) (h .flight))) ∷ [], tt) (was-flight, tt))
           (λ n _. id⊢ 𝓤 _)
-          (and-then ! (load ! (from ! (stop !)) (look ! 63 refl)) (no-more !))
-          (λ n w-n _ e-n is-n. drop ! $ drop ! $ land ! (from ! (stop !)) (init ! 59 refl (uint-lawful 𝓤 H A W w64 .typed n _ is-n .0)) $
-          nothing ! $ calls-fn ! fm none-of.ended (none-of.clauses 𝓤 H A at-mem run) (known .3) ((tt, tt, tt, tt, tt), tt)
+          (and-then ! (load ! (from ! (stop !)) (look ! 64 refl)) (no-more !))
+          (λ n w-n _ e-n is-n. drop ! $ drop ! $ land ! (from ! (stop !)) (init ! 60 refl (uint-lawful 𝓤 H A W w64 .typed n _ is-n .0)) $
+          nothing ! $ calls-fn ! fm none-of.ended (none-of.clauses 𝓤 H A at-mem run) (known .4) ((tt, tt, tt, tt, tt), tt)
           (λ found _. found ≡ replicate 128 0)
           (‵ ftrue) (plainly 𝓤 H A W ([]) tt tt tt tt) (λ found _. id⊢ 𝓤 _)
           (no-more !) (λ found w-found _ e-found is-found. drop ! $ drop ! $
           land ! (from ! (stop !)) (init ! 48 refl (array-typed u32 (uint-lawful 𝓤 H A W w32 .typed) 128 found (w-found ∷ []) is-found
           .0)) $
           assigns ! {v = w-found} (of-opd ! (load ! (from ! (stop !)) (look ! 48 refl))) (from ! (stop !))
-          (init ! 58 refl (array-typed u32 (uint-lawful 𝓤 H A W w32 .typed) 128 found (w-found ∷ []) is-found .0)) $
+          (init ! 59 refl (array-typed u32 (uint-lawful 𝓤 H A W w32 .typed) 128 found (w-found ∷ []) is-found .0)) $
           assigns ! {v = (vptr (x₃ .ptr .0) (x₃ .ptr .1))}
-          (addr ! (from ! (fld ! refl (hop ! (look-in ! 67 (sub ! 0 refl (whole !))) (stop !))))) (from ! (stop !))
+          (addr ! (from ! (fld ! refl (hop ! (look-in ! 68 (sub ! 0 refl (whole !))) (stop !))))) (from ! (stop !))
           (init ! 46 refl (tt, tt)) $
           assigns ! {v = s₃} (agg ! (and-then ! (load ! (from ! (stop !)) (look ! 46 refl))
-          (and-then ! (load ! (from ! (fld ! refl (stop !))) (look-in ! 67 (sub ! 1 refl (whole !)))) (no-more !)))) (from ! (stop !))
+          (and-then ! (load ! (from ! (fld ! refl (stop !))) (look-in ! 68 (sub ! 1 refl (whole !)))) (no-more !)))) (from ! (stop !))
           (init ! 45 refl (tt, (tt, (record { fits = room₃ .0 }, tt)))) $
-          assigns ! {v = (vptr b (o + 636))} (addr ! (from ! (hop ! (look ! 70 refl) (fld ! {d = 636} refl (stop !))))) (from ! (stop !))
+          assigns ! {v = (vptr b (o + 636))} (addr ! (from ! (hop ! (look ! 71 refl) (fld ! {d = 636} refl (stop !))))) (from ! (stop !))
           (init ! 44 refl (tt, tt)) $
           assigns ! {v = (vptr (past .17) 0)} (addr ! (from ! (stop !))) (from ! (stop !)) (init ! 43 refl (tt, tt)) $
           move ! (8 ∷ []) $ lend-shr ! tt fullShare (Array u32 32) (h .outstanding) b (o + 636)
-          (λ α-outstanding δ-outstanding. move ! (60 ∷ []) $
+          (λ α-outstanding δ-outstanding. move ! (61 ∷ []) $
           use1 W (‵ (cellAt fullShare ((tyArray (tyInt w32) 128) ∷ []) (w-found ∷ []) (past .17) 0))
           (W .laws .at-raw fullShare (tyArray (tyInt w32) 128) (past .17) 0 w-found) $
           cell-in ! fullShare (Array u32 128) (array-makes 𝓤 H A W u32 (uint-makes 𝓤 H A W w32) 128) found (past .17) 0 w-found
@@ -2409,7 +2438,7 @@ module _ {M : Type 1} (𝓤 : URA M) (H : Heap 𝓤) (A : Atoms 𝓤) (W : Given
           use1 W (‵ (Shared₃ β₃ β-name₃) ⊛ ‵ (Shared₃ β₃ β-name₃))
           (shr-slice-copy 𝓤 H A W (named 0) (β₃ ∷ []) R .twice (shown-at₃ β-name₃) (s₃ ∷ [])) $ split ! $
           move ! (3 ∷ 0 ∷ 7 ∷ 8 ∷ 4 ∷ 5 ∷ []) $ group ! 6 $
-          calls-fn ! fm gather.ended (gather.clauses 𝓤 H A at-mem run) (known .4)
+          calls-fn ! fm gather.ended (gather.clauses 𝓤 H A at-mem run) (known .5)
           (to-gather β₃ β-name₃ α-outstanding δ-outstanding (h .outstanding) (past .17) α-found δ-found found n w-n)
           (λ g ws-g. (length (ws-g .1 .1 .1 .0) ≡ 128) ×
           (recordsIn (ws-g .1 .1 .1 .0) ≡ padded (gathered (take sendSlots (x₃ .now)) (slotsIn (h .outstanding) n))))
@@ -2421,7 +2450,7 @@ module _ {M : Type 1} (𝓤 : URA M) (H : Heap 𝓤) (A : Atoms 𝓤) (W : Given
           (len-outstanding, e-found)) (λ g ws-g. id⊢ 𝓤 _)
           (and-then ! (load ! (from ! (stop !)) (look ! 47 refl))
           (and-then ! (load ! (from ! (stop !)) (look ! 46 refl))
-          (and-then ! (load ! (from ! (stop !)) (look ! 60 refl)) (and-then ! (load ! (from ! (stop !)) (look ! 45 refl)) (no-more !)))))
+          (and-then ! (load ! (from ! (stop !)) (look ! 61 refl)) (and-then ! (load ! (from ! (stop !)) (look ! 45 refl)) (no-more !)))))
           (λ g w-g ws-g e-g is-g. land ! (from ! (stop !)) (init ! 50 refl (nothing-lawful 𝓤 H A W .typed g _ is-g .0)) $
           spread W (‵ (flft (β₃ ∷ []) fullShare)) (‵ (flft (α-outstanding ∷ []) fullShare) ∷ ‵ (flft (α-found ∷ []) fullShare) ∷ ‵ ftrue
           ∷ []) (id⊢ 𝓤 _) $ move ! (4 ∷ []) $
@@ -2429,7 +2458,7 @@ module _ {M : Type 1} (𝓤 : URA M) (H : Heap 𝓤) (A : Atoms 𝓤) (W : Given
           (id⊢ 𝓤 _) $ keep ! (3 ∷ 5 ∷ 6 ∷ 7 ∷ 9 ∷ 10 ∷ 11 ∷ 12 ∷ 13 ∷ 14 ∷ 15 ∷ 16 ∷ 17 ∷ 18 ∷ 19 ∷ 20 ∷ 21 ∷ 22
           ∷ 23 ∷ 24 ∷ 25 ∷ 26 ∷ 27 ∷ 28 ∷ 29 ∷ 30 ∷ 31 ∷ 32 ∷ 33 ∷ 34 ∷ 35 ∷ 36 ∷ 37 ∷ 38 ∷ 39 ∷ 40 ∷ 41 ∷ 42 ∷ 43
           ∷ 44 ∷ 45 ∷ 46 ∷ 47 ∷ 48 ∷ 49 ∷ 50 ∷ 51 ∷ 52 ∷ 53 ∷ 54 ∷ 55 ∷ 56 ∷ 57 ∷ 58 ∷ 59 ∷ 60 ∷ 61 ∷ 62 ∷ 63 ∷ 64
-          ∷ 65 ∷ 66 ∷ 67 ∷ 68 ∷ 69 ∷ 70 ∷ 71 ∷ 72 ∷ 73 ∷ 74 ∷ 75 ∷ 76 ∷ 77 ∷ 78 ∷ 79 ∷ 80 ∷ []) $
+          ∷ 65 ∷ 66 ∷ 67 ∷ 68 ∷ 69 ∷ 70 ∷ 71 ∷ 72 ∷ 73 ∷ 74 ∷ 75 ∷ 76 ∷ 77 ∷ 78 ∷ 79 ∷ 80 ∷ 81 ∷ []) $
           -- [fin:@found; btok3; tok:outstanding; tok:@found; shown3; blent3; lent:@found; lent:outstanding; F:clock; F:arrival; F:flight;
           -- F:settings; F:«waiting_numbers»; F:waiting; F:ready; F:transmissions; F:queued; back; opened; deaths; tok1; tok2; tok4; tok5;
           -- own1; own2; own4; own5; the locals]
@@ -2440,22 +2469,22 @@ module _ {M : Type 1} (𝓤 : URA M) (H : Heap 𝓤) (A : Atoms 𝓤) (W : Given
           (‵ (fat fullShare (tyArray (tyInt w32) 128) (past .17) 0 (only ((array-vals (uint-vals w32)) (ws-g .1 .1 .1 .0)))))
           (W .laws .raw-at fullShare (tyArray (tyInt w32) 128) (past .17) 0 (only ((array-vals (uint-vals w32)) (ws-g .1 .1 .1 .0)))) $
           assigns ! {v = (vptr (x₃ .ptr .0) (x₃ .ptr .1))}
-          (addr ! (from ! (fld ! refl (hop ! (look-in ! 68 (sub ! 0 refl (whole !))) (stop !))))) (from ! (stop !))
+          (addr ! (from ! (fld ! refl (hop ! (look-in ! 69 (sub ! 0 refl (whole !))) (stop !))))) (from ! (stop !))
           (init ! 44 refl (tt, tt)) $
           assigns ! {v = s₃} (agg ! (and-then ! (load ! (from ! (stop !)) (look ! 44 refl))
-          (and-then ! (load ! (from ! (fld ! refl (stop !))) (look-in ! 68 (sub ! 1 refl (whole !)))) (no-more !)))) (from ! (stop !))
+          (and-then ! (load ! (from ! (fld ! refl (stop !))) (look-in ! 69 (sub ! 1 refl (whole !)))) (no-more !)))) (from ! (stop !))
           (init ! 43 refl (tt, (tt, (record { fits = room₃ .0 }, tt)))) $
-          move ! (2 ∷ 3 ∷ []) $ join ! $ calls-fn ! fm table-len.ended (table-len.clauses 𝓤 H A at-mem run) (known .5)
+          move ! (2 ∷ 3 ∷ []) $ join ! $ calls-fn ! fm table-len.ended (table-len.clauses 𝓤 H A at-mem run) (known .6)
           (to-table-len β₃ β-name₃) (λ m ws-m. m ≡ length (x₃ .now)) (‵ (flft (β₃ ∷ []) fullShare) ⊛ ‵ (Shared₃ β₃ β-name₃))
           (asks-table-len β₃ β-name₃) (λ m ws-m. id⊢ 𝓤 _)
           (and-then ! (load ! (from ! (stop !)) (look ! 42 refl)) (no-more !))
-          (λ m w-m ws-m e-m is-m. land ! (from ! (stop !)) (init ! 59 refl (uint-lawful 𝓤 H A W w64 .typed m _ is-m .0)) $
+          (λ m w-m ws-m e-m is-m. land ! (from ! (stop !)) (init ! 60 refl (uint-lawful 𝓤 H A W w64 .typed m _ is-m .0)) $
           spread W (‵ (flft (β₃ ∷ []) fullShare)) (‵ ftrue ∷ []) (id⊢ 𝓤 _) $ move ! (2 ∷ []) $
           spread W (‵ ftrue) (‵ ftrue ∷ []) (id⊢ 𝓤 _) $
           keep ! (2 ∷ 4 ∷ 5 ∷ 6 ∷ 7 ∷ 8 ∷ 9 ∷ 10 ∷ 11 ∷ 12 ∷ 13 ∷ 14 ∷ 15 ∷ 16 ∷ 17 ∷ 18 ∷ 19 ∷ 20 ∷ 21 ∷ 22 ∷ 23
           ∷ 24 ∷ 25 ∷ 26 ∷ 27 ∷ 28 ∷ 29 ∷ 30 ∷ 31 ∷ 32 ∷ 33 ∷ 34 ∷ 35 ∷ 36 ∷ 37 ∷ 38 ∷ 39 ∷ 40 ∷ 41 ∷ 42 ∷ 43 ∷ 44
           ∷ 45 ∷ 46 ∷ 47 ∷ 48 ∷ 49 ∷ 50 ∷ 51 ∷ 52 ∷ 53 ∷ 54 ∷ 55 ∷ 56 ∷ 57 ∷ 58 ∷ 59 ∷ 60 ∷ 61 ∷ 62 ∷ 63 ∷ 64 ∷ 65
-          ∷ 66 ∷ 67 ∷ 68 ∷ 69 ∷ 70 ∷ 71 ∷ 72 ∷ 73 ∷ 74 ∷ []) $
+          ∷ 66 ∷ 67 ∷ 68 ∷ 69 ∷ 70 ∷ 71 ∷ 72 ∷ 73 ∷ 74 ∷ 75 ∷ []) $
           -- [btok3; F:outstanding; blent3; F:clock; F:arrival; F:flight; F:settings; F:«waiting_numbers»; F:waiting; F:ready;
           -- F:transmissions; F:queued; back; opened; deaths; tok1; tok2; tok4; tok5; own1; own2; own4; own5; the locals]
           assigns ! {v = (vptr (past .17) 0)} (addr ! (from ! (stop !))) (from ! (stop !)) (init ! 41 refl (tt, tt)) $
@@ -2523,6 +2552,8 @@ module _ {M : Type 1} (𝓤 : URA M) (H : Heap 𝓤) (A : Atoms 𝓤) (W : Given
             (past .54),
             (past .55),
             (past .56),
+            (past .57),
+            (past .58),
             len-queued,
             len-outstanding,
             len-transmissions,
@@ -2568,78 +2599,78 @@ module _ {M : Type 1} (𝓤 : URA M) (H : Heap 𝓤) (A : Atoms 𝓤) (W : Given
           alloc1 ! (λ l₃₆. alloc1 ! (λ l₃₇. alloc1 ! (λ l₃₈.
           alloc1 ! (λ l₃₉. alloc1 ! (λ l₄₀. alloc1 ! (λ l₄₁.
           alloc1 ! (λ l₄₂. alloc1 ! (λ l₄₃. alloc1 ! (λ l₄₄.
-          alloc1 ! (λ l₄₅. alloc1 ! (λ l₄₆. alloc1 ! (λ l₄₇. alloc1 ! (λ l₄₈. alloc0 ! $ params1 ! $
-          pass1 ! (init ! 94 refl (tt, tt)) $ pass1 ! (init ! 92 refl (tt, (tt, (record { fits = room₁ .0 }, tt)))) $
-          pass1 ! (init ! 90 refl (tt, (tt, (record { fits = room₂ .0 }, tt)))) $
-          pass1 ! (init ! 88 refl (tt, (tt, (record { fits = room₃ .0 }, tt)))) $
-          pass1 ! (init ! 86 refl (tt, (tt, (record { fits = room₄ .0 }, tt)))) $
-          pass1 ! (init ! 84 refl (tt, (tt, (record { fits = room₅ .0 }, tt)))) $ pass0 ! $
-          move ! (99 ∷ []) $ spread W (‵ (MutRef (named 0) κ₀ L .own (ref-at b o γ h) (vptr b o ∷ [])))
+          alloc1 ! (λ l₄₅. alloc1 ! (λ l₄₆. alloc1 ! (λ l₄₇. alloc1 ! (λ l₄₈. alloc1 ! (λ l₄₉. alloc0 ! $ params1 ! $
+          pass1 ! (init ! 96 refl (tt, tt)) $ pass1 ! (init ! 94 refl (tt, (tt, (record { fits = room₁ .0 }, tt)))) $
+          pass1 ! (init ! 92 refl (tt, (tt, (record { fits = room₂ .0 }, tt)))) $
+          pass1 ! (init ! 90 refl (tt, (tt, (record { fits = room₃ .0 }, tt)))) $
+          pass1 ! (init ! 88 refl (tt, (tt, (record { fits = room₄ .0 }, tt)))) $
+          pass1 ! (init ! 86 refl (tt, (tt, (record { fits = room₅ .0 }, tt)))) $ pass0 ! $
+          move ! (101 ∷ []) $ spread W (‵ (MutRef (named 0) κ₀ L .own (ref-at b o γ h) (vptr b o ∷ [])))
           (‵ (ShrSlice (named 1) κ₁ u8 .own (x₁) (s₁ ∷ [])) ∷ ‵ (MutSlice (named 2) κ₂ u8 .own (x₂) (s₂ ∷ []))
           ∷ ‵ (MutSlice (named 3) κ₃ R .own (x₃) (s₃ ∷ [])) ∷ ‵ (MutSlice (named 4) κ₄ u32 .own (x₄) (s₄ ∷ []))
-          ∷ ‵ (ShrSlice (named 5) κ₅ u8 .own (x₅) (s₅ ∷ [])) ∷ ‵ ftrue ∷ []) (id⊢ 𝓤 _) $ move ! (105 ∷ []) $
+          ∷ ‵ (ShrSlice (named 5) κ₅ u8 .own (x₅) (s₅ ∷ [])) ∷ ‵ ftrue ∷ []) (id⊢ 𝓤 _) $ move ! (107 ∷ []) $
           spread W (‵ (flft κ₀ q₀)) (‵ (flft κ₁ q₁) ∷ ‵ (flft κ₂ q₂) ∷ ‵ (flft κ₃ q₃) ∷ ‵ (flft κ₄ q₄)
           ∷ ‵ (flft κ₅ q₅) ∷ ‵ ftrue ∷ []) (id⊢ 𝓤 _) $ move ! (13 ∷ 6 ∷ []) $ drop ! $ drop ! $
-          move ! (109 ∷ 107 ∷ 105 ∷ 103 ∷ 101 ∷ 99 ∷ 97 ∷ 95 ∷ 93 ∷ 91 ∷ 89 ∷ 87 ∷ 85 ∷ 83 ∷ 81 ∷ 79 ∷ 77 ∷ 75 ∷ 73
-          ∷ 71 ∷ 69 ∷ 67 ∷ 65 ∷ 63 ∷ 61 ∷ 59 ∷ 57 ∷ 55 ∷ 53 ∷ 51 ∷ 49 ∷ 47 ∷ 45 ∷ 43 ∷ 41 ∷ 39 ∷ 37 ∷ 35 ∷ 33 ∷ 31
-          ∷ 29 ∷ 27 ∷ 25 ∷ 23 ∷ 21 ∷ 19 ∷ 17 ∷ 15 ∷ 13 ∷ []) $ group ! 49 $
+          move ! (111 ∷ 109 ∷ 107 ∷ 105 ∷ 103 ∷ 101 ∷ 99 ∷ 97 ∷ 95 ∷ 93 ∷ 91 ∷ 89 ∷ 87 ∷ 85 ∷ 83 ∷ 81 ∷ 79 ∷ 77 ∷ 75
+          ∷ 73 ∷ 71 ∷ 69 ∷ 67 ∷ 65 ∷ 63 ∷ 61 ∷ 59 ∷ 57 ∷ 55 ∷ 53 ∷ 51 ∷ 49 ∷ 47 ∷ 45 ∷ 43 ∷ 41 ∷ 39 ∷ 37 ∷ 35 ∷ 33
+          ∷ 31 ∷ 29 ∷ 27 ∷ 25 ∷ 23 ∷ 21 ∷ 19 ∷ 17 ∷ 15 ∷ 13 ∷ []) $ group ! 50 $
           -- [deaths; tok0; tok1; tok2; tok3; tok4; tok5; own0; own1; own2; own3; own4; own5; the locals]
-          nothing ! $ calls-fn ! fm marks-of.ended (marks-of.clauses 𝓤 H A at-mem run) (known .0) ((tt, tt, tt, tt, tt), tt)
-          (λ sends _. sends ≡ none)
+          nothing ! $ calls-fn ! fm send-marks-of.ended (send-marks-of.clauses 𝓤 H A at-mem run) (known .0) ((tt, tt, tt, tt, tt), tt)
+          (λ sends _. sends ≡ noneToSend)
           (‵ ftrue) (plainly 𝓤 H A W ([]) tt tt tt tt) (λ sends _. id⊢ 𝓤 _)
           (no-more !) (λ sends w-sends _ e-sends is-sends. drop ! $ drop ! $
-          land ! (from ! (stop !)) (init ! 40 refl (array-typed u8 (uint-lawful 𝓤 H A W w8 .typed) 256 sends (w-sends ∷ []) is-sends .0)) $
-          assigns ! {v = w-sends} (of-opd ! (load ! (from ! (stop !)) (look ! 40 refl))) (from ! (stop !))
-          (init ! 54 refl (array-typed u8 (uint-lawful 𝓤 H A W w8 .typed) 256 sends (w-sends ∷ []) is-sends .0)) $
-          nothing ! $ calls-fn ! fm marks-of.ended (marks-of.clauses 𝓤 H A at-mem run) (known .0) ((tt, tt, tt, tt, tt), tt)
+          land ! (from ! (stop !)) (init ! 41 refl (array-typed u8 (uint-lawful 𝓤 H A W w8 .typed) 128 sends (w-sends ∷ []) is-sends .0)) $
+          assigns ! {v = w-sends} (of-opd ! (load ! (from ! (stop !)) (look ! 41 refl))) (from ! (stop !))
+          (init ! 55 refl (array-typed u8 (uint-lawful 𝓤 H A W w8 .typed) 128 sends (w-sends ∷ []) is-sends .0)) $
+          nothing ! $ calls-fn ! fm marks-of.ended (marks-of.clauses 𝓤 H A at-mem run) (known .1) ((tt, tt, tt, tt, tt), tt)
           (λ receives _. receives ≡ none)
           (‵ ftrue) (plainly 𝓤 H A W ([]) tt tt tt tt) (λ receives _. id⊢ 𝓤 _)
           (no-more !) (λ receives w-receives _ e-receives is-receives. drop ! $ drop ! $
-          land ! (from ! (stop !)) (store ! 40 refl
-          (array-typed u8 (uint-lawful 𝓤 H A W w8 .typed) 256 receives (w-receives ∷ []) is-receives .0)) $
+          land ! (from ! (stop !)) (init ! 40 refl (array-typed u8 (uint-lawful 𝓤 H A W w8 .typed) 256 receives (w-receives ∷ [])
+          is-receives .0)) $
           assigns ! {v = w-receives} (of-opd ! (load ! (from ! (stop !)) (look ! 40 refl))) (from ! (stop !))
-          (init ! 53 refl (array-typed u8 (uint-lawful 𝓤 H A W w8 .typed) 256 receives (w-receives ∷ []) is-receives .0)) $
-          assigns ! {v = (vptr b o)} (addr ! (from ! (hop ! (look ! 60 refl) (stop !)))) (from ! (stop !)) (init ! 39 refl (tt, tt)) $
+          (init ! 54 refl (array-typed u8 (uint-lawful 𝓤 H A W w8 .typed) 256 receives (w-receives ∷ []) is-receives .0)) $
+          assigns ! {v = (vptr b o)} (addr ! (from ! (hop ! (look ! 61 refl) (stop !)))) (from ! (stop !)) (init ! 39 refl (tt, tt)) $
           assigns ! {v = (vptr l₇ 0)} (addr ! (from ! (stop !))) (from ! (stop !)) (init ! 38 refl (tt, tt)) $
           assigns ! {v = (vptr l₈ 0)} (addr ! (from ! (stop !))) (from ! (stop !)) (init ! 37 refl (tt, tt)) $
           move ! (7 ∷ 1 ∷ []) $ lend-whole ! tt L h b o γ
-          (λ α-block δ-block. move ! (56 ∷ []) $
-          use1 W (‵ (cellAt fullShare ((tyArray (tyInt w8) 256) ∷ []) (w-sends ∷ []) l₇ 0))
-          (W .laws .at-raw fullShare (tyArray (tyInt w8) 256) l₇ 0 w-sends) $
-          cell-in ! fullShare (Array u8 256) (array-makes 𝓤 H A W u8 (uint-makes 𝓤 H A W w8) 256) sends l₇ 0 w-sends is-sends $
-          lend-mut ! tt (Array u8 256) sends l₇ 0 (λ α-sends δ-sends. move ! (58 ∷ []) $
+          (λ α-block δ-block. move ! (57 ∷ []) $
+          use1 W (‵ (cellAt fullShare ((tyArray (tyInt w8) 128) ∷ []) (w-sends ∷ []) l₇ 0))
+          (W .laws .at-raw fullShare (tyArray (tyInt w8) 128) l₇ 0 w-sends) $
+          cell-in ! fullShare (Array u8 128) (array-makes 𝓤 H A W u8 (uint-makes 𝓤 H A W w8) 128) sends l₇ 0 w-sends is-sends $
+          lend-mut ! tt (Array u8 128) sends l₇ 0 (λ α-sends δ-sends. move ! (59 ∷ []) $
           use1 W (‵ (cellAt fullShare ((tyArray (tyInt w8) 256) ∷ []) (w-receives ∷ []) l₈ 0))
           (W .laws .at-raw fullShare (tyArray (tyInt w8) 256) l₈ 0 w-receives) $
           cell-in ! fullShare (Array u8 256) (array-makes 𝓤 H A W u8 (uint-makes 𝓤 H A W w8) 256) receives l₈ 0 w-receives is-receives $
           lend-mut ! tt (Array u8 256) receives l₈ 0
           (λ α-receives δ-receives. move ! (6 ∷ 7 ∷ 3 ∷ 4 ∷ 0 ∷ 1 ∷ []) $ group ! 6 $
-          calls-fn ! fm check.ended (check.clauses 𝓤 H A at-mem run) (known .1)
+          calls-fn ! fm check.ended (check.clauses 𝓤 H A at-mem run) (known .2)
           (to-check α-block δ-block h l₇ α-sends δ-sends sends l₈ α-receives δ-receives receives)
           (λ ok ws-ok. Sound h (ws-ok .1 .0) (ws-ok .1 .1 .0) ok)
           (‵ (flft (α-block ∷ []) fullShare) ⊛ ‵ (ShrRef (named 0) (α-block ∷ []) L .own (ref-at b o δ-block h) ((vptr b o) ∷ [])) ⊛ ‵
-          (flft (α-sends ∷ []) fullShare) ⊛ ‵ (MutRef (named 0) (α-sends ∷ []) (Array u8 256) .own (ref-at l₇ 0 δ-sends sends)
+          (flft (α-sends ∷ []) fullShare) ⊛ ‵ (MutRef (named 0) (α-sends ∷ []) (Array u8 128) .own (ref-at l₇ 0 δ-sends sends)
           ((vptr l₇ 0) ∷ [])) ⊛ ‵ (flft (α-receives ∷ []) fullShare) ⊛ ‵
           (MutRef (named 0) (α-receives ∷ []) (Array u8 256) .own (ref-at l₈ 0 δ-receives receives) ((vptr l₈ 0) ∷ [])))
           (asks-check α-block δ-block h l₇ α-sends δ-sends sends l₈ α-receives δ-receives receives (e-sends, e-receives))
           (λ ok ws-ok. id⊢ 𝓤 _)
           (and-then ! (load ! (from ! (stop !)) (look ! 42 refl))
           (and-then ! (load ! (from ! (stop !)) (look ! 41 refl)) (and-then ! (load ! (from ! (stop !)) (look ! 40 refl)) (no-more !))))
-          (λ ok w-ok ws-ok e-ok is-ok. land ! (from ! (stop !)) (init ! 56 refl (bool-lawful 𝓤 H A W .typed ok _ is-ok .0)) $
+          (λ ok w-ok ws-ok e-ok is-ok. land ! (from ! (stop !)) (init ! 57 refl (bool-lawful 𝓤 H A W .typed ok _ is-ok .0)) $
           spread W (‵ (flft (α-block ∷ []) fullShare))
           (‵ (flft (α-sends ∷ []) fullShare) ∷ ‵ (flft (α-receives ∷ []) fullShare) ∷ ‵ ftrue ∷ []) (id⊢ 𝓤 _) $ move ! (4 ∷ []) $
-          spread W (‵ ftrue) (‵ (fres δ-sends ((Array u8 256) .coded .code (ws-ok .1 .0)))
+          spread W (‵ ftrue) (‵ (fres δ-sends ((Array u8 128) .coded .code (ws-ok .1 .0)))
           ∷ ‵ (fres δ-receives ((Array u8 256) .coded .code (ws-ok .1 .1 .0))) ∷ ‵ ftrue ∷ []) (id⊢ 𝓤 _) $
           keep ! (1 ∷ 2 ∷ 4 ∷ 5 ∷ 6 ∷ 8 ∷ 9 ∷ 10 ∷ 11 ∷ 12 ∷ 13 ∷ 14 ∷ 15 ∷ 16 ∷ 17 ∷ 18 ∷ 19 ∷ 20 ∷ 21 ∷ 22 ∷ 23
           ∷ 24 ∷ 25 ∷ 26 ∷ 27 ∷ 28 ∷ 29 ∷ 30 ∷ 31 ∷ 32 ∷ 33 ∷ 34 ∷ 35 ∷ 36 ∷ 37 ∷ 38 ∷ 39 ∷ 40 ∷ 41 ∷ 42 ∷ 43 ∷ 44
           ∷ 45 ∷ 46 ∷ 47 ∷ 48 ∷ 49 ∷ 50 ∷ 51 ∷ 52 ∷ 53 ∷ 54 ∷ 55 ∷ 56 ∷ 57 ∷ 58 ∷ 59 ∷ 60 ∷ 61 ∷ 62 ∷ 63 ∷ 64 ∷ 65
-          ∷ 66 ∷ 67 ∷ 68 ∷ 69 ∷ []) $
+          ∷ 66 ∷ 67 ∷ 68 ∷ 69 ∷ 70 ∷ []) $
           -- [fin:@sends; fin:@receives; tok:*; tok:@sends; tok:@receives; lent:@receives; lent:@sends; lent:*; opened; deaths; tok1; tok2;
           -- tok3; tok4; tok5; own1; own2; own3; own4; own5; the locals]
-          move ! (2 ∷ 7 ∷ 8 ∷ []) $ back-whole ! tt L h b o γ $ move ! (4 ∷ 7 ∷ 2 ∷ []) $ back-mut ! tt (Array u8 256) l₇ 0 (ws-ok .1 .0) $
-          cell-out ! fullShare (Array u8 256) (array-vals (uint-vals w8)) (array-tells u8 (uint-vals w8) (uint-tells w8) 256)
+          move ! (2 ∷ 7 ∷ 8 ∷ []) $ back-whole ! tt L h b o γ $ move ! (4 ∷ 7 ∷ 2 ∷ []) $ back-mut ! tt (Array u8 128) l₇ 0 (ws-ok .1 .0) $
+          cell-out ! fullShare (Array u8 128) (array-vals (uint-vals w8)) (array-tells u8 (uint-vals w8) (uint-tells w8) 128)
           (ws-ok .1 .0) l₇ 0 (λ was-sends-1. use1 W
-          (‵ (fat fullShare (tyArray (tyInt w8) 256) l₇ 0 (only ((array-vals (uint-vals w8)) (ws-ok .1 .0)))))
-          (W .laws .raw-at fullShare (tyArray (tyInt w8) 256) l₇ 0 (only ((array-vals (uint-vals w8)) (ws-ok .1 .0)))) $
+          (‵ (fat fullShare (tyArray (tyInt w8) 128) l₇ 0 (only ((array-vals (uint-vals w8)) (ws-ok .1 .0)))))
+          (W .laws .raw-at fullShare (tyArray (tyInt w8) 128) l₇ 0 (only ((array-vals (uint-vals w8)) (ws-ok .1 .0)))) $
           move ! (4 ∷ 5 ∷ 3 ∷ []) $ back-mut ! tt (Array u8 256) l₈ 0 (ws-ok .1 .1 .0) $
           cell-out ! fullShare (Array u8 256) (array-vals (uint-vals w8)) (array-tells u8 (uint-vals w8) (uint-tells w8) 256)
           (ws-ok .1 .1 .0) l₈ 0 (λ was-receives-2. use1 W
@@ -2697,13 +2728,15 @@ module _ {M : Type 1} (𝓤 : URA M) (H : Heap 𝓤) (A : Atoms 𝓤) (W : Given
             l₄₆,
             l₄₇,
             l₄₈,
+            l₄₉,
+            w-sends,
             w-receives,
             ok,
             w-ok,
             e-ok,
             is-ok,
             was-receives-2,
-          )))))))))))))))))))))))))))))))))))))))))))))))))))))))))))
+          ))))))))))))))))))))))))))))))))))))))))))))))))))))))))))))
 
   f-meets : (𝓣 : Tables 𝓤 H) → Known (𝓣 .C)
       → Meets 𝓤 H A f.signature (WpFn 𝓤 H (𝓣 .C) (𝓣 .Λ) code.function) (f.spec 𝓤 H A at-mem run)
@@ -2752,6 +2785,8 @@ take-in-spec 𝓤 H 𝓜 𝓖 𝓡 =
     entered 𝓤 H (tripleOf 𝓤 H (𝓖 .A) f.signature (f.spec 𝓤 H (𝓖 .A) (𝓜 .mem) (𝓡 .run)))
     (tables 𝓤 H 𝓜 𝓡 code.env .C) (tables 𝓤 H 𝓜 𝓡 code.env .Λ) #f code.function (code.unfolded 𝓤 H 𝓜 𝓡)
     (f-meets 𝓤 H (𝓖 .A) (givenOf 𝓤 H 𝓜 𝓖) (𝓜 .mem) (𝓡 .run) (tablesOf 𝓤 H 𝓜 (tables 𝓤 H 𝓜 𝓡 code.env)) (
+      cited 𝓤 H (tripleOf 𝓤 H (𝓖 .A) send-marks-of.signature (send-marks-of.spec 𝓤 H (𝓖 .A) (𝓜 .mem) (𝓡 .run))) 𝓜 𝓡 code.env
+          send-marks-of-def.name send-marks-of-def.routine code.calls-marks·none-to-send (send-marks-of-thm.met 𝓤 H 𝓜 𝓖 𝓡),
       cited 𝓤 H (tripleOf 𝓤 H (𝓖 .A) marks-of.signature (marks-of.spec 𝓤 H (𝓖 .A) (𝓜 .mem) (𝓡 .run))) 𝓜 𝓡 code.env marks-of-def.name
           marks-of-def.routine code.calls-marks·none (marks-of-thm.met 𝓤 H 𝓜 𝓖 𝓡),
       cited 𝓤 H (tripleOf 𝓤 H (𝓖 .A) check.signature (check.spec 𝓤 H (𝓖 .A) (𝓜 .mem) (𝓡 .run))) 𝓜 𝓡 code.env check-def.name
