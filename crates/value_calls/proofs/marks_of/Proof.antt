@@ -10,7 +10,7 @@ sound-requires c κs =
     let makes = c .before .before .before .before .before .before .before .before in
     let first = makes .before in
     let start = first .before .before .before .before .before .before .before .before .before .before .before in
-    (whole-of (start .args .link) _ (start .good .0), first .none .ensures, makes .none2 .ensures)
+    (whole-of (start .args .link) _ (start .good .0), first .none-to-send .ensures, makes .none .ensures)
 
 returns : tie.Need-returns
 returns c = c .sound .ensures
