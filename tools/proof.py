@@ -15,14 +15,14 @@ use Rattle.records.proofs.Shared.{LentShared, lends-shared, shared-back}
 use Rattle.records.proofs.Rows.{R}
 use Rattle.lending.proofs.Fields.{ref-at, lend-mut, back-mut, lend-shr, back-shr, cell-out, cell-in, tells-length, lend-whole, back-whole}
 use Rattle.lending.proofs.Locals.{envAt, allocates, frees-all, holds, empty}
-use Rattle.lending.proofs.Parts.{behind, spread, same}
-use Rattle.lending.proofs.Block.{L, Open, Back, link-own, link-shr, opens-link, closes-link, looks-link, shuts-link}
+use Rattle.lending.proofs.Parts.{behind, taking, spread, same}
+use Rattle.lending.proofs.Block.{L, Open, Back, link-own, link-shr, opens-link, closes-link, looks-link, shuts-link, place-settings, place-flight, place-arrival, place-clock, place-queued, place-outstanding, place-transmissions, place-ready, place-waiting, place-waiting-numbers}
 use Rattle.control.specs.declared.Link.{Link}
 use Rattle.timing.specs.declared.Record.{Record}
 use lib.IntN.{ℤ}
 use mir.Syntax.{w16}
 use base.Fml.{fres, froom, fdies, fobor, fsep, feq}
-use mir.Syntax.{imm, mut, erased, tyInt, tyArray, tyRef, tyPtr, tyUnit, tyBool}
+use mir.Syntax.{Body, return, imm, mut, erased, tyInt, tyArray, tyRef, tyPtr, tyUnit, tyBool}
 use denote.Slice.{sliceTy}
 use denote.Memory.{pointee}
 use Rattle.timing.proofs.Record.Laws as record-laws
@@ -69,6 +69,11 @@ def proof_file(w):
             return f"{'stay' if p.kind == 'ref' else 'gave'}-ref ({p.lft} ∷ []) tt {p.behind()}"
         return 'stay-dropped _ yes'
     say(f'abbrev stayed : Stays (f.ended .signature .params) (f.ended .kept)\nstayed = {nest([stay(p) for p in pars])}\n')
+
+    say('-- the rest of the body where each part begins, and behind the last')
+    for k in range(len(w.parts), -1, -1):
+        body = f"taking {w.parts[k]['to'] - w.parts[k]['from']} (behind {w.parts[k]['from']} (code.function .body)) rest{low(k + 2)}" if k < len(w.parts) else 'return'
+        say(f'unfoldable rest{low(k + 1)} : Body\nrest{low(k + 1)} = {body}\n')
 
     say('module _ {M : Type 1} (𝓤 : URA M) (H : Heap 𝓤) (A : Atoms 𝓤) (W : Given 𝓤 H A) (at-mem : Memory → SProp 𝓤) (run : Routine → Fun 𝓤) where')
     say('  -- what is known of the callees\n  abbrev Known : Calls 𝓤 H → Type 1')
@@ -156,7 +161,8 @@ def proof_file(w):
     say('    module _ (C : Calls 𝓤 H) (Λ : Loops 𝓤 H) (fm : FmC 𝓤 H (W .laws) C) (known : Known C) where')
     parts, main = walked(w)
     out.extend(parts)
-    say(f'      walk : ent 𝓤 (onEntry 𝓤 H A f.signature {kappas} {shares} x at) (WpFn 𝓤 H C Λ code.function ({cons(w.machine())}) Post)')
+    rests = ' '.join(f'rest{low(k + 1)}' for k in range(len(w.parts) + 1))
+    say(f'      walk : ent 𝓤 (onEntry 𝓤 H A f.signature {kappas} {shares} x at) (WpFn 𝓤 H C Λ code.function ({cons(w.machine())}) Post)\n      unfolding {rests}')
     say(f'      walk =\n          {lines(main)}\n')
     say(meets(w))
     return '\n'.join(out) + '\n'
@@ -192,16 +198,15 @@ def walked(w):
         n, past, new = low(k), part['past'], part['new']
         before, after = cons(part['before'] + ['Γ'])[:-5], cons(part['after'] + ['Γ'])[:-5]
         inside, told = projected('past', past), projected('new', new)
-        goal = lambda done: f'(runs C Λ (En p) (behind {done} (code.function .body)) (atRet (En p) Post))'
+        goal = lambda at: f'(runs C Λ (En p) rest{low(at)} (atRet (En p) Post))'
         out.append(f'      -- what part {k} knows, what it tells; what it has, and leaves\n      abbrev Known{n} : Type 0\n      Known{n} = {tuple_type(past)}\n')
         out.append(f'      abbrev New{n} : Known{n} → Type 0\n      New{n} past = {within(tuple_type(new), inside)}\n')
         out.append(f'      abbrev Had{n} : (ℕ → ℕ) → Known{n} → List (Item 𝓤) → List (Item 𝓤)\n      Had{n} p past Γ = {within(before, inside)}\n')
         out.append(f'      abbrev Left{n} : (ℕ → ℕ) → (past : Known{n}) → New{n} past → List (Item 𝓤) → List (Item 𝓤)\n      Left{n} p past new Γ = {within(after, inside | told)}\n')
         out.append(f"      part{n} : {{K : Type 0}} {{Γ : List (Item 𝓤)}} → K → (p : ℕ → ℕ) (past : Known{n})"
-                   f" → ((new : New{n} past) → Seq K W (Left{n} p past new Γ) {goal(part['to'])}) → Seq K W (Had{n} p past Γ) {goal(part['from'])}")
+                   f" → ((new : New{n} past) → Seq K W (Left{n} p past new Γ) {goal(k + 1)}) → Seq K W (Had{n} p past Γ) {goal(k)}\n      unfolding rest{n}")
         tells = ', '.join(within(part['passed'][name], inside) for name, _ in new) or 'tt'
-        code = f"C Λ (En p) (behind {part['from']} (code.function .body)) (atRet (En p) Post)"
-        out.append(f"      part{n} {{Γ = Γ}} t p past on = record {{ prf =\n          qed W (Had{n} p past Γ) ∵ exec ! {code} $\n          {within(lines(part['text']), inside)}"
+        out.append(f"      part{n} {{Γ = Γ}} t p past on = record {{ prf =\n          qed W (Had{n} p past Γ) ∵ exec ! C Λ (En p) rest{n} (atRet (En p) Post) $\n          {within(lines(part['text']), inside)}"
                    f"\n          same ! (on ({tells})){')' * part['open']} }}\n")
         given = ', '.join(names[name] for name, _ in past) or 'tt'
         main = [f'part{n} ! p ({given}) (λ new{n}.' if x == f'PART{k}' else x for x in main]

@@ -269,8 +269,8 @@ class Walk:
         return f'(o + {self.fields[f][1]})'
 
     def place(self, f):
-        rest = '(stop !)' if f == WHOLE else f'(fld ! {{d = {self.fields[f][1]}}} refl (stop !))'
-        return f"(from ! (hop ! (look ! {self.pos('L1')} refl) {rest}))"
+        pointer = f"(look ! {self.pos('L1')} refl)"
+        return f'(from ! (hop ! {pointer} (stop !)))' if f == WHOLE else f'(place-{hyphened(f)} ! {pointer})'
 
     def cell(self, f):
         """The field's cell is taken out."""

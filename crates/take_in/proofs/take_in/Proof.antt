@@ -150,14 +150,34 @@ use Rattle.records.proofs.Shared.{LentShared, lends-shared, shared-back}
 use Rattle.records.proofs.Rows.{R}
 use Rattle.lending.proofs.Fields.{ref-at, lend-mut, back-mut, lend-shr, back-shr, cell-out, cell-in, tells-length, lend-whole, back-whole}
 use Rattle.lending.proofs.Locals.{envAt, allocates, frees-all, holds, empty}
-use Rattle.lending.proofs.Parts.{behind, spread, same}
-use Rattle.lending.proofs.Block.{L, Open, Back, link-own, link-shr, opens-link, closes-link, looks-link, shuts-link}
+use Rattle.lending.proofs.Parts.{behind, taking, spread, same}
+use Rattle.lending.proofs.Block.{
+  L,
+  Open,
+  Back,
+  link-own,
+  link-shr,
+  opens-link,
+  closes-link,
+  looks-link,
+  shuts-link,
+  place-settings,
+  place-flight,
+  place-arrival,
+  place-clock,
+  place-queued,
+  place-outstanding,
+  place-transmissions,
+  place-ready,
+  place-waiting,
+  place-waiting-numbers,
+}
 use Rattle.control.specs.declared.Link.{Link}
 use Rattle.timing.specs.declared.Record.{Record}
 use lib.IntN.{ℤ}
 use mir.Syntax.{w16}
 use base.Fml.{fres, froom, fdies, fobor, fsep, feq}
-use mir.Syntax.{imm, mut, erased, tyInt, tyArray, tyRef, tyPtr, tyUnit, tyBool}
+use mir.Syntax.{Body, return, imm, mut, erased, tyInt, tyArray, tyRef, tyPtr, tyUnit, tyBool}
 use denote.Slice.{sliceTy}
 use denote.Memory.{pointee}
 use Rattle.timing.proofs.Record.Laws as record-laws
@@ -256,6 +276,55 @@ abbrev stayed : Stays (f.ended .signature .params) (f.ended .kept)
 stayed = (stay-ref (0 ∷ []) tt (plain (λ _. L)),
     (stay-dropped _ yes, (gave-slice (2 ∷ []) tt (plain (λ _. u8)),
     (gave-slice (3 ∷ []) tt (plain (λ _. R)), (gave-slice (4 ∷ []) tt (plain (λ _. u32)), (stay-dropped _ yes, tt))))))
+
+-- the rest of the body where each part begins, and behind the last
+unfoldable rest₁₆ : Body
+rest₁₆ = return
+
+unfoldable rest₁₅ : Body
+rest₁₅ = taking 1 (behind 46 (code.function .body)) rest₁₆
+
+unfoldable rest₁₄ : Body
+rest₁₄ = taking 3 (behind 43 (code.function .body)) rest₁₅
+
+unfoldable rest₁₃ : Body
+rest₁₃ = taking 2 (behind 41 (code.function .body)) rest₁₄
+
+unfoldable rest₁₂ : Body
+rest₁₂ = taking 2 (behind 39 (code.function .body)) rest₁₃
+
+unfoldable rest₁₁ : Body
+rest₁₁ = taking 2 (behind 37 (code.function .body)) rest₁₂
+
+unfoldable rest₁₀ : Body
+rest₁₀ = taking 1 (behind 36 (code.function .body)) rest₁₁
+
+unfoldable rest₉ : Body
+rest₉ = taking 12 (behind 24 (code.function .body)) rest₁₀
+
+unfoldable rest₈ : Body
+rest₈ = taking 1 (behind 23 (code.function .body)) rest₉
+
+unfoldable rest₇ : Body
+rest₇ = taking 3 (behind 20 (code.function .body)) rest₈
+
+unfoldable rest₆ : Body
+rest₆ = taking 6 (behind 14 (code.function .body)) rest₇
+
+unfoldable rest₅ : Body
+rest₅ = taking 1 (behind 13 (code.function .body)) rest₆
+
+unfoldable rest₄ : Body
+rest₄ = taking 5 (behind 8 (code.function .body)) rest₅
+
+unfoldable rest₃ : Body
+rest₃ = taking 5 (behind 3 (code.function .body)) rest₄
+
+unfoldable rest₂ : Body
+rest₂ = taking 2 (behind 1 (code.function .body)) rest₃
+
+unfoldable rest₁ : Body
+rest₁ = taking 1 (behind 0 (code.function .body)) rest₂
 
 module _ {M : Type 1} (𝓤 : URA M) (H : Heap 𝓤) (A : Atoms 𝓤) (W : Given 𝓤 H A) (at-mem : Memory → SProp 𝓤) (run : Routine → Fun 𝓤) where
   -- what is known of the callees
@@ -554,10 +623,11 @@ module _ {M : Type 1} (𝓤 : URA M) (H : Heap 𝓤) (A : Atoms 𝓤) (W : Given
       Left₁ p past new Γ = ‵ (fat fullShare (tyArray (tyInt w8) 256) (p 21) 0 ((new .1))) ∷ Γ
 
       part₁ : {K : Type 0} {Γ : List (Item 𝓤)} → K → (p : ℕ → ℕ) (past : Known₁)
-          → ((new : New₁ past) → Seq K W (Left₁ p past new Γ) (runs C Λ (En p) (behind 1 (code.function .body)) (atRet (En p) Post)))
-          → Seq K W (Had₁ p past Γ) (runs C Λ (En p) (behind 0 (code.function .body)) (atRet (En p) Post))
+          → ((new : New₁ past) → Seq K W (Left₁ p past new Γ) (runs C Λ (En p) rest₂ (atRet (En p) Post)))
+          → Seq K W (Had₁ p past Γ) (runs C Λ (En p) rest₁ (atRet (En p) Post))
+      unfolding rest₁
       part₁ {Γ = Γ} t p past on = record { prf =
-          qed W (Had₁ p past Γ) ∵ exec ! C Λ (En p) (behind 0 (code.function .body)) (atRet (En p) Post) $
+          qed W (Had₁ p past Γ) ∵ exec ! C Λ (En p) rest₁ (atRet (En p) Post) $
           nothing ! $ calls-fn ! fm marks-of.ended (marks-of.clauses 𝓤 H A at-mem run) (known .0) ((tt, tt, tt, tt, tt), tt)
               (λ sends _. sends ≡ none)
           (‵ ftrue) (plainly 𝓤 H A W ([]) tt tt tt tt) (λ sends _. id⊢ 𝓤 _)
@@ -581,10 +651,11 @@ module _ {M : Type 1} (𝓤 : URA M) (H : Heap 𝓤) (A : Atoms 𝓤) (W : Given
           ∷ ‵ (fat fullShare (tyArray (tyInt w8) 256) (p 7) 0 ((past .1))) ∷ Γ
 
       part₂ : {K : Type 0} {Γ : List (Item 𝓤)} → K → (p : ℕ → ℕ) (past : Known₂)
-          → ((new : New₂ past) → Seq K W (Left₂ p past new Γ) (runs C Λ (En p) (behind 3 (code.function .body)) (atRet (En p) Post)))
-          → Seq K W (Had₂ p past Γ) (runs C Λ (En p) (behind 1 (code.function .body)) (atRet (En p) Post))
+          → ((new : New₂ past) → Seq K W (Left₂ p past new Γ) (runs C Λ (En p) rest₃ (atRet (En p) Post)))
+          → Seq K W (Had₂ p past Γ) (runs C Λ (En p) rest₂ (atRet (En p) Post))
+      unfolding rest₂
       part₂ {Γ = Γ} t p past on = record { prf =
-          qed W (Had₂ p past Γ) ∵ exec ! C Λ (En p) (behind 1 (code.function .body)) (atRet (En p) Post) $
+          qed W (Had₂ p past Γ) ∵ exec ! C Λ (En p) rest₂ (atRet (En p) Post) $
           assigns ! {v = (past .1)} (of-opd ! (load ! (from ! (stop !)) (look ! 0 refl))) (from ! (stop !))
               (init ! 1 refl (array-typed u8 (uint-lawful 𝓤 H A W w8 .typed) 256 (past .0) ((past .1) ∷ []) (past .2) .0)) $
           nothing ! $ calls-fn ! fm marks-of.ended (marks-of.clauses 𝓤 H A at-mem run) (known .0) ((tt, tt, tt, tt, tt), tt)
@@ -622,10 +693,11 @@ module _ {M : Type 1} (𝓤 : URA M) (H : Heap 𝓤) (A : Atoms 𝓤) (W : Given
           ∷ ‵ (fat fullShare (tyRef (named 0) mut (pointee (L .written))) (p 1) 0 (vptr b o)) ∷ Γ
 
       part₃ : {K : Type 0} {Γ : List (Item 𝓤)} → K → (p : ℕ → ℕ) (past : Known₃)
-          → ((new : New₃ past) → Seq K W (Left₃ p past new Γ) (runs C Λ (En p) (behind 8 (code.function .body)) (atRet (En p) Post)))
-          → Seq K W (Had₃ p past Γ) (runs C Λ (En p) (behind 3 (code.function .body)) (atRet (En p) Post))
+          → ((new : New₃ past) → Seq K W (Left₃ p past new Γ) (runs C Λ (En p) rest₄ (atRet (En p) Post)))
+          → Seq K W (Had₃ p past Γ) (runs C Λ (En p) rest₃ (atRet (En p) Post))
+      unfolding rest₃
       part₃ {Γ = Γ} t p past on = record { prf =
-          qed W (Had₃ p past Γ) ∵ exec ! C Λ (En p) (behind 3 (code.function .body)) (atRet (En p) Post) $
+          qed W (Had₃ p past Γ) ∵ exec ! C Λ (En p) rest₃ (atRet (En p) Post) $
           assigns ! {v = (past .5)} (of-opd ! (load ! (from ! (stop !)) (look ! 0 refl))) (from ! (stop !))
               (init ! 8 refl (array-typed u8 (uint-lawful 𝓤 H A W w8 .typed) 256 (past .4) ((past .5) ∷ []) (past .7) .0)) $
           assigns ! {v = (vptr b o)} (addr ! (from ! (hop ! (look ! 9 refl) (stop !)))) (from ! (stop !)) (init ! 6 refl (tt, tt)) $
@@ -714,10 +786,11 @@ module _ {M : Type 1} (𝓤 : URA M) (H : Heap 𝓤) (A : Atoms 𝓤) (W : Given
           ∷ ‵ (fat fullShare settings-laws.mir (p 10) 0 ((only ((LL.vals settings-row.the-type settings-laws.the-laws) (h .settings))))) ∷ Γ
 
       part₄ : {K : Type 0} {Γ : List (Item 𝓤)} → K → (p : ℕ → ℕ) (past : Known₄)
-          → ((new : New₄ past) → Seq K W (Left₄ p past new Γ) (runs C Λ (En p) (behind 13 (code.function .body)) (atRet (En p) Post)))
-          → Seq K W (Had₄ p past Γ) (runs C Λ (En p) (behind 8 (code.function .body)) (atRet (En p) Post))
+          → ((new : New₄ past) → Seq K W (Left₄ p past new Γ) (runs C Λ (En p) rest₅ (atRet (En p) Post)))
+          → Seq K W (Had₄ p past Γ) (runs C Λ (En p) rest₄ (atRet (En p) Post))
+      unfolding rest₄
       part₄ {Γ = Γ} t p past on = record { prf =
-          qed W (Had₄ p past Γ) ∵ exec ! C Λ (En p) (behind 8 (code.function .body)) (atRet (En p) Post) $
+          qed W (Had₄ p past Γ) ∵ exec ! C Λ (En p) rest₄ (atRet (En p) Post) $
           opens-link b o γ ! tt h $
           -- [F:settings; F:flight; F:arrival; F:clock; F:queued; F:outstanding; F:transmissions; F:ready; F:waiting; F:«waiting_numbers»;
           -- back; opened; the locals]
@@ -736,7 +809,7 @@ module _ {M : Type 1} (𝓤 : URA M) (H : Heap 𝓤) (A : Atoms 𝓤) (W : Given
               cell-out ! fullShare settings-row.the-row (LL.vals settings-row.the-type settings-laws.the-laws)
               (LL.tells settings-row.the-type settings-laws.the-laws) (h .settings) b (o + 0) (λ was-settings.
           assigns ! {v = (only ((LL.vals settings-row.the-type settings-laws.the-laws) (h .settings)))}
-              (of-opd ! (load ! (from ! (hop ! (look ! 12 refl) (fld ! {d = 0} refl (stop !)))) (look-raw ! 0 refl))) (from ! (stop !))
+              (of-opd ! (load ! (place-settings ! (look ! 12 refl)) (look-raw ! 0 refl))) (from ! (stop !))
               (init ! 17 refl (LL.lawful settings-row.the-type settings-laws.the-laws 𝓤 H A W .typed (h .settings)
               ((only ((LL.vals settings-row.the-type settings-laws.the-laws) (h .settings))) ∷ []) was-settings .0)) $
           cell-in ! fullShare settings-row.the-row (LL.makes settings-row.the-type settings-laws.the-plain 𝓤 H A) (h .settings) b (o + 0)
@@ -744,7 +817,7 @@ module _ {M : Type 1} (𝓤 : URA M) (H : Heap 𝓤) (A : Atoms 𝓤) (W : Given
               cell-out ! fullShare flight-row.the-row (LL.vals flight-row.the-type flight-laws.the-laws)
               (LL.tells flight-row.the-type flight-laws.the-laws) (h .flight) b (o + 16) (λ was-flight.
           assigns ! {v = (only ((LL.vals flight-row.the-type flight-laws.the-laws) (h .flight)))}
-              (of-opd ! (load ! (from ! (hop ! (look ! 12 refl) (fld ! {d = 16} refl (stop !)))) (look-raw ! 0 refl))) (from ! (stop !))
+              (of-opd ! (load ! (place-flight ! (look ! 12 refl)) (look-raw ! 0 refl))) (from ! (stop !))
               (init ! 16 refl (LL.lawful flight-row.the-type flight-laws.the-laws 𝓤 H A W .typed (h .flight)
               ((only ((LL.vals flight-row.the-type flight-laws.the-laws) (h .flight))) ∷ []) was-flight .0)) $
           cell-in ! fullShare flight-row.the-row (LL.makes flight-row.the-type flight-laws.the-plain 𝓤 H A) (h .flight) b (o + 16)
@@ -752,7 +825,7 @@ module _ {M : Type 1} (𝓤 : URA M) (H : Heap 𝓤) (A : Atoms 𝓤) (W : Given
               cell-out ! fullShare arrival-row.the-row (LL.vals arrival-row.the-type arrival-laws.the-laws)
               (LL.tells arrival-row.the-type arrival-laws.the-laws) (h .arrival) b (o + 72) (λ was-arrival.
           assigns ! {v = (only ((LL.vals arrival-row.the-type arrival-laws.the-laws) (h .arrival)))}
-              (of-opd ! (load ! (from ! (hop ! (look ! 12 refl) (fld ! {d = 72} refl (stop !)))) (look-raw ! 0 refl))) (from ! (stop !))
+              (of-opd ! (load ! (place-arrival ! (look ! 12 refl)) (look-raw ! 0 refl))) (from ! (stop !))
               (init ! 15 refl (LL.lawful arrival-row.the-type arrival-laws.the-laws 𝓤 H A W .typed (h .arrival)
               ((only ((LL.vals arrival-row.the-type arrival-laws.the-laws) (h .arrival))) ∷ []) was-arrival .0)) $
           cell-in ! fullShare arrival-row.the-row (LL.makes arrival-row.the-type arrival-laws.the-plain 𝓤 H A) (h .arrival) b (o + 72)
@@ -760,7 +833,7 @@ module _ {M : Type 1} (𝓤 : URA M) (H : Heap 𝓤) (A : Atoms 𝓤) (W : Given
               cell-out ! fullShare clock-row.the-row (LL.vals clock-row.the-type clock-laws.the-laws)
               (LL.tells clock-row.the-type clock-laws.the-laws) (h .clock) b (o + 104) (λ was-clock.
           assigns ! {v = (only ((LL.vals clock-row.the-type clock-laws.the-laws) (h .clock)))}
-              (of-opd ! (load ! (from ! (hop ! (look ! 12 refl) (fld ! {d = 104} refl (stop !)))) (look-raw ! 0 refl))) (from ! (stop !))
+              (of-opd ! (load ! (place-clock ! (look ! 12 refl)) (look-raw ! 0 refl))) (from ! (stop !))
               (init ! 14 refl (LL.lawful clock-row.the-type clock-laws.the-laws 𝓤 H A W .typed (h .clock)
               ((only ((LL.vals clock-row.the-type clock-laws.the-laws) (h .clock))) ∷ []) was-clock .0)) $
           cell-in ! fullShare clock-row.the-row (LL.makes clock-row.the-type clock-laws.the-plain 𝓤 H A) (h .clock) b (o + 104)
@@ -790,10 +863,11 @@ module _ {M : Type 1} (𝓤 : URA M) (H : Heap 𝓤) (A : Atoms 𝓤) (W : Given
       Left₅ p past new Γ = ‵ (fat fullShare (tyArray (tyInt w32) 128) (p 25) 0 ((new .1))) ∷ Γ
 
       part₅ : {K : Type 0} {Γ : List (Item 𝓤)} → K → (p : ℕ → ℕ) (past : Known₅)
-          → ((new : New₅ past) → Seq K W (Left₅ p past new Γ) (runs C Λ (En p) (behind 14 (code.function .body)) (atRet (En p) Post)))
-          → Seq K W (Had₅ p past Γ) (runs C Λ (En p) (behind 13 (code.function .body)) (atRet (En p) Post))
+          → ((new : New₅ past) → Seq K W (Left₅ p past new Γ) (runs C Λ (En p) rest₆ (atRet (En p) Post)))
+          → Seq K W (Had₅ p past Γ) (runs C Λ (En p) rest₅ (atRet (En p) Post))
+      unfolding rest₅
       part₅ {Γ = Γ} t p past on = record { prf =
-          qed W (Had₅ p past Γ) ∵ exec ! C Λ (En p) (behind 13 (code.function .body)) (atRet (En p) Post) $
+          qed W (Had₅ p past Γ) ∵ exec ! C Λ (En p) rest₅ (atRet (En p) Post) $
           nothing ! $ calls-fn ! fm none-of.ended (none-of.clauses 𝓤 H A at-mem run) (known .3) ((tt, tt, tt, tt, tt), tt)
               (λ found _. found ≡ replicate 128 0)
           (‵ ftrue) (plainly 𝓤 H A W ([]) tt tt tt tt) (λ found _. id⊢ 𝓤 _)
@@ -838,10 +912,11 @@ module _ {M : Type 1} (𝓤 : URA M) (H : Heap 𝓤) (A : Atoms 𝓤) (W : Given
           ∷ ‵ (fat fullShare (sliceTy (tyRef (named 3) mut (pointee (R .written)))) (p 4) 0 (s₃)) ∷ Γ
 
       part₆ : {K : Type 0} {Γ : List (Item 𝓤)} → K → (p : ℕ → ℕ) (past : Known₆)
-          → ((new : New₆ past) → Seq K W (Left₆ p past new Γ) (runs C Λ (En p) (behind 20 (code.function .body)) (atRet (En p) Post)))
-          → Seq K W (Had₆ p past Γ) (runs C Λ (En p) (behind 14 (code.function .body)) (atRet (En p) Post))
+          → ((new : New₆ past) → Seq K W (Left₆ p past new Γ) (runs C Λ (En p) rest₇ (atRet (En p) Post)))
+          → Seq K W (Had₆ p past Γ) (runs C Λ (En p) rest₆ (atRet (En p) Post))
+      unfolding rest₆
       part₆ {Γ = Γ} t p past on = record { prf =
-          qed W (Had₆ p past Γ) ∵ exec ! C Λ (En p) (behind 14 (code.function .body)) (atRet (En p) Post) $
+          qed W (Had₆ p past Γ) ∵ exec ! C Λ (En p) rest₆ (atRet (En p) Post) $
           assigns ! {v = (past .5)} (of-opd ! (load ! (from ! (stop !)) (look ! 0 refl))) (from ! (stop !))
               (init ! 11 refl (array-typed u32 (uint-lawful 𝓤 H A W w32 .typed) 128 (past .4) ((past .5) ∷ []) (past .7) .0)) $
           assigns ! {v = (vptr (x₃ .ptr .0) (x₃ .ptr .1))}
@@ -850,8 +925,7 @@ module _ {M : Type 1} (𝓤 : URA M) (H : Heap 𝓤) (A : Atoms 𝓤) (W : Given
           assigns ! {v = s₃} (agg ! (and-then ! (load ! (from ! (stop !)) (look ! 9 refl))
               (and-then ! (load ! (from ! (fld ! refl (stop !))) (look-in ! 12 (sub ! 1 refl (whole !)))) (no-more !)))) (from ! (stop !))
               (init ! 8 refl (tt, (tt, (record { fits = room₃ .0 }, tt)))) $
-          assigns ! {v = (vptr b (o + 636))} (addr ! (from ! (hop ! (look ! 2 refl) (fld ! {d = 636} refl (stop !))))) (from ! (stop !))
-              (init ! 7 refl (tt, tt)) $
+          assigns ! {v = (vptr b (o + 636))} (addr ! (place-outstanding ! (look ! 2 refl))) (from ! (stop !)) (init ! 7 refl (tt, tt)) $
           assigns ! {v = (vptr (p 15) 0)} (addr ! (from ! (stop !))) (from ! (stop !)) (init ! 6 refl (tt, tt)) $
           move ! (1 ∷ []) $ lend-shr ! tt fullShare (Array u32 32) (h .outstanding) b (o + 636)
               (λ α-outstanding δ-outstanding. move ! (13 ∷ []) $
@@ -917,10 +991,11 @@ module _ {M : Type 1} (𝓤 : URA M) (H : Heap 𝓤) (A : Atoms 𝓤) (W : Given
           ∷ ‵ (fat fullShare (tyInt w64) (p 16) 0 ((new .1))) ∷ Γ
 
       part₇ : {K : Type 0} {Γ : List (Item 𝓤)} → K → (p : ℕ → ℕ) (past : Known₇)
-          → ((new : New₇ past) → Seq K W (Left₇ p past new Γ) (runs C Λ (En p) (behind 23 (code.function .body)) (atRet (En p) Post)))
-          → Seq K W (Had₇ p past Γ) (runs C Λ (En p) (behind 20 (code.function .body)) (atRet (En p) Post))
+          → ((new : New₇ past) → Seq K W (Left₇ p past new Γ) (runs C Λ (En p) rest₈ (atRet (En p) Post)))
+          → Seq K W (Had₇ p past Γ) (runs C Λ (En p) rest₇ (atRet (En p) Post))
+      unfolding rest₇
       part₇ {Γ = Γ} t p past on = record { prf =
-          qed W (Had₇ p past Γ) ∵ exec ! C Λ (En p) (behind 20 (code.function .body)) (atRet (En p) Post) $
+          qed W (Had₇ p past Γ) ∵ exec ! C Λ (En p) rest₇ (atRet (En p) Post) $
           assigns ! {v = (vptr (x₃ .ptr .0) (x₃ .ptr .1))}
               (addr ! (from ! (fld ! refl (hop ! (look-in ! 2 (sub ! 0 refl (whole !))) (stop !))))) (from ! (stop !))
               (init ! 4 refl (tt, tt)) $
@@ -954,10 +1029,11 @@ module _ {M : Type 1} (𝓤 : URA M) (H : Heap 𝓤) (A : Atoms 𝓤) (W : Given
           ∷ ‵ (fat fullShare (tyRef erased mut (tyArray (tyInt w32) 128)) (p 33) 0 ((vptr (p 15) 0))) ∷ Γ
 
       part₈ : {K : Type 0} {Γ : List (Item 𝓤)} → K → (p : ℕ → ℕ) (past : Known₈)
-          → ((new : New₈ past) → Seq K W (Left₈ p past new Γ) (runs C Λ (En p) (behind 24 (code.function .body)) (atRet (En p) Post)))
-          → Seq K W (Had₈ p past Γ) (runs C Λ (En p) (behind 23 (code.function .body)) (atRet (En p) Post))
+          → ((new : New₈ past) → Seq K W (Left₈ p past new Γ) (runs C Λ (En p) rest₉ (atRet (En p) Post)))
+          → Seq K W (Had₈ p past Γ) (runs C Λ (En p) rest₈ (atRet (En p) Post))
+      unfolding rest₈
       part₈ {Γ = Γ} t p past on = record { prf =
-          qed W (Had₈ p past Γ) ∵ exec ! C Λ (En p) (behind 23 (code.function .body)) (atRet (En p) Post) $
+          qed W (Had₈ p past Γ) ∵ exec ! C Λ (En p) rest₈ (atRet (En p) Post) $
           assigns ! {v = (vptr (p 15) 0)} (addr ! (from ! (stop !))) (from ! (stop !)) (init ! 2 refl (tt, tt)) $
           lft-end ! tt $ use2 W (later (‵ Own₃ ⊛ ‵ (flft κ₃ q₃)))
               (shared-back R κ₃ (past ∷ []) q₃ (x₃ .name) (x₃ .ptr .0) (x₃ .ptr .1) (x₃ .now) 𝓤 H A W room₃) $ await ! tt $ split ! $
@@ -1047,21 +1123,17 @@ module _ {M : Type 1} (𝓤 : URA M) (H : Heap 𝓤) (A : Atoms 𝓤) (W : Given
           ∷ ‵ (fat fullShare (sliceTy (tyRef (named 1) imm (tyInt w8))) (p 2) 0 (s₁)) ∷ Γ
 
       part₉ : {K : Type 0} {Γ : List (Item 𝓤)} → K → (p : ℕ → ℕ) (past : Known₉)
-          → ((new : New₉ past) → Seq K W (Left₉ p past new Γ) (runs C Λ (En p) (behind 36 (code.function .body)) (atRet (En p) Post)))
-          → Seq K W (Had₉ p past Γ) (runs C Λ (En p) (behind 24 (code.function .body)) (atRet (En p) Post))
+          → ((new : New₉ past) → Seq K W (Left₉ p past new Γ) (runs C Λ (En p) rest₁₀ (atRet (En p) Post)))
+          → Seq K W (Had₉ p past Γ) (runs C Λ (En p) rest₉ (atRet (En p) Post))
+      unfolding rest₉
       part₉ {Γ = Γ} t p past on = record { prf =
-          qed W (Had₉ p past Γ) ∵ exec ! C Λ (En p) (behind 24 (code.function .body)) (atRet (En p) Post) $
-          assigns ! {v = (vptr b (o + 124))} (addr ! (from ! (hop ! (look ! 4 refl) (fld ! {d = 124} refl (stop !))))) (from ! (stop !))
-              (init ! 34 refl (tt, tt)) $
-          assigns ! {v = (vptr b (o + 636))} (addr ! (from ! (hop ! (look ! 4 refl) (fld ! {d = 636} refl (stop !))))) (from ! (stop !))
-              (init ! 33 refl (tt, tt)) $
-          assigns ! {v = (vptr b (o + 764))} (addr ! (from ! (hop ! (look ! 4 refl) (fld ! {d = 764} refl (stop !))))) (from ! (stop !))
-              (init ! 32 refl (tt, tt)) $
-          assigns ! {v = (vptr b (o + 796))} (addr ! (from ! (hop ! (look ! 4 refl) (fld ! {d = 796} refl (stop !))))) (from ! (stop !))
-              (init ! 31 refl (tt, tt)) $
-          assigns ! {v = (vptr b (o + 1308))} (addr ! (from ! (hop ! (look ! 4 refl) (fld ! {d = 1308} refl (stop !))))) (from ! (stop !))
-              (init ! 30 refl (tt, tt)) $
-          assigns ! {v = (vptr b (o + 1820))} (addr ! (from ! (hop ! (look ! 4 refl) (fld ! {d = 1820} refl (stop !))))) (from ! (stop !))
+          qed W (Had₉ p past Γ) ∵ exec ! C Λ (En p) rest₉ (atRet (En p) Post) $
+          assigns ! {v = (vptr b (o + 124))} (addr ! (place-queued ! (look ! 4 refl))) (from ! (stop !)) (init ! 34 refl (tt, tt)) $
+          assigns ! {v = (vptr b (o + 636))} (addr ! (place-outstanding ! (look ! 4 refl))) (from ! (stop !)) (init ! 33 refl (tt, tt)) $
+          assigns ! {v = (vptr b (o + 764))} (addr ! (place-transmissions ! (look ! 4 refl))) (from ! (stop !)) (init ! 32 refl (tt, tt)) $
+          assigns ! {v = (vptr b (o + 796))} (addr ! (place-ready ! (look ! 4 refl))) (from ! (stop !)) (init ! 31 refl (tt, tt)) $
+          assigns ! {v = (vptr b (o + 1308))} (addr ! (place-waiting ! (look ! 4 refl))) (from ! (stop !)) (init ! 30 refl (tt, tt)) $
+          assigns ! {v = (vptr b (o + 1820))} (addr ! (place-waiting-numbers ! (look ! 4 refl))) (from ! (stop !))
               (init ! 29 refl (tt, tt)) $
           assigns ! {v = (vptr (p 8) 0)} (addr ! (from ! (stop !))) (from ! (stop !)) (init ! 28 refl (tt, tt)) $
           assigns ! {v = (vptr (x₂ .ptr .0) (x₂ .ptr .1))}
@@ -1221,10 +1293,11 @@ module _ {M : Type 1} (𝓤 : URA M) (H : Heap 𝓤) (A : Atoms 𝓤) (W : Given
           ∷ Γ
 
       part₁₀ : {K : Type 0} {Γ : List (Item 𝓤)} → K → (p : ℕ → ℕ) (past : Known₁₀)
-          → ((new : New₁₀ past) → Seq K W (Left₁₀ p past new Γ) (runs C Λ (En p) (behind 37 (code.function .body)) (atRet (En p) Post)))
-          → Seq K W (Had₁₀ p past Γ) (runs C Λ (En p) (behind 36 (code.function .body)) (atRet (En p) Post))
+          → ((new : New₁₀ past) → Seq K W (Left₁₀ p past new Γ) (runs C Λ (En p) rest₁₁ (atRet (En p) Post)))
+          → Seq K W (Had₁₀ p past Γ) (runs C Λ (En p) rest₁₀ (atRet (En p) Post))
+      unfolding rest₁₀
       part₁₀ {Γ = Γ} t p past on = record { prf =
-          qed W (Had₁₀ p past Γ) ∵ exec ! C Λ (En p) (behind 36 (code.function .body)) (atRet (En p) Post) $
+          qed W (Had₁₀ p past Γ) ∵ exec ! C Λ (En p) rest₁₀ (atRet (En p) Post) $
           nothing ! $ calls-fn ! fm flight-of.ended (flight-of.clauses 𝓤 H A at-mem run) (known .7)
               ((tt, tt, tt, ((past .0), tt), ((past .1) ∷ [], tt)), tt) (λ kf _. kf ≡ (past .0) .flight)
           (‵ ftrue) (plainly 𝓤 H A W (taken-row.the-row ∷ []) ((LL.makes taken-row.the-type taken-laws.the-plain 𝓤 H A), tt) ((past .0), tt)
@@ -1255,14 +1328,14 @@ module _ {M : Type 1} (𝓤 : URA M) (H : Heap 𝓤) (A : Atoms 𝓤) (W : Given
           ∷ ‵ (fat fullShare arrival-laws.mir (p 19) 0 ((new .1))) ∷ Γ
 
       part₁₁ : {K : Type 0} {Γ : List (Item 𝓤)} → K → (p : ℕ → ℕ) (past : Known₁₁)
-          → ((new : New₁₁ past) → Seq K W (Left₁₁ p past new Γ) (runs C Λ (En p) (behind 39 (code.function .body)) (atRet (En p) Post)))
-          → Seq K W (Had₁₁ p past Γ) (runs C Λ (En p) (behind 37 (code.function .body)) (atRet (En p) Post))
+          → ((new : New₁₁ past) → Seq K W (Left₁₁ p past new Γ) (runs C Λ (En p) rest₁₂ (atRet (En p) Post)))
+          → Seq K W (Had₁₁ p past Γ) (runs C Λ (En p) rest₁₁ (atRet (En p) Post))
+      unfolding rest₁₁
       part₁₁ {Γ = Γ} t p past on = record { prf =
-          qed W (Had₁₁ p past Γ) ∵ exec ! C Λ (En p) (behind 37 (code.function .body)) (atRet (En p) Post) $
+          qed W (Had₁₁ p past Γ) ∵ exec ! C Λ (En p) rest₁₁ (atRet (En p) Post) $
           move ! (3 ∷ []) $ cell-out ! fullShare flight-row.the-row (LL.vals flight-row.the-type flight-laws.the-laws)
               (LL.tells flight-row.the-type flight-laws.the-laws) (h .flight) b (o + 16)
-              (λ was-flight′. assigns ! (of-opd ! (load ! (from ! (stop !)) (look ! 2 refl)))
-              (from ! (hop ! (look ! 3 refl) (fld ! {d = 16} refl (stop !))))
+              (λ was-flight′. assigns ! (of-opd ! (load ! (from ! (stop !)) (look ! 2 refl))) (place-flight ! (look ! 3 refl))
               (store-raw ! 0 refl (LL.lawful flight-row.the-type flight-laws.the-laws 𝓤 H A W .typed (past .3) ((past .4) ∷ []) (past .5)
               .0)) $ cell-in ! fullShare flight-row.the-row (LL.makes flight-row.the-type flight-laws.the-plain 𝓤 H A) (past .3) b (o + 16)
               (past .4) (past .5) $ nothing ! $
@@ -1297,14 +1370,14 @@ module _ {M : Type 1} (𝓤 : URA M) (H : Heap 𝓤) (A : Atoms 𝓤) (W : Given
           ∷ ‵ (fat fullShare arrival-laws.mir (p 19) 0 ((past .4))) ∷ ‵ (fat fullShare (tyInt w64) (p 20) 0 ((new .1))) ∷ Γ
 
       part₁₂ : {K : Type 0} {Γ : List (Item 𝓤)} → K → (p : ℕ → ℕ) (past : Known₁₂)
-          → ((new : New₁₂ past) → Seq K W (Left₁₂ p past new Γ) (runs C Λ (En p) (behind 41 (code.function .body)) (atRet (En p) Post)))
-          → Seq K W (Had₁₂ p past Γ) (runs C Λ (En p) (behind 39 (code.function .body)) (atRet (En p) Post))
+          → ((new : New₁₂ past) → Seq K W (Left₁₂ p past new Γ) (runs C Λ (En p) rest₁₃ (atRet (En p) Post)))
+          → Seq K W (Had₁₂ p past Γ) (runs C Λ (En p) rest₁₂ (atRet (En p) Post))
+      unfolding rest₁₂
       part₁₂ {Γ = Γ} t p past on = record { prf =
-          qed W (Had₁₂ p past Γ) ∵ exec ! C Λ (En p) (behind 39 (code.function .body)) (atRet (En p) Post) $
+          qed W (Had₁₂ p past Γ) ∵ exec ! C Λ (En p) rest₁₂ (atRet (En p) Post) $
           move ! (3 ∷ []) $ cell-out ! fullShare arrival-row.the-row (LL.vals arrival-row.the-type arrival-laws.the-laws)
               (LL.tells arrival-row.the-type arrival-laws.the-laws) (h .arrival) b (o + 72)
-              (λ was-arrival′. assigns ! (of-opd ! (load ! (from ! (stop !)) (look ! 3 refl)))
-              (from ! (hop ! (look ! 2 refl) (fld ! {d = 72} refl (stop !))))
+              (λ was-arrival′. assigns ! (of-opd ! (load ! (from ! (stop !)) (look ! 3 refl))) (place-arrival ! (look ! 2 refl))
               (store-raw ! 0 refl (LL.lawful arrival-row.the-type arrival-laws.the-laws 𝓤 H A W .typed (past .3) ((past .4) ∷ []) (past .5)
               .0)) $ cell-in ! fullShare arrival-row.the-row (LL.makes arrival-row.the-type arrival-laws.the-plain 𝓤 H A) (past .3) b
               (o + 72) (past .4) (past .5) $ nothing ! $
@@ -1336,10 +1409,11 @@ module _ {M : Type 1} (𝓤 : URA M) (H : Heap 𝓤) (A : Atoms 𝓤) (W : Given
           ∷ ‵ (fat fullShare (tyRef erased mut (pointee (R .written))) (p 45) 0 ((vptr (x₃ .ptr .0) (x₃ .ptr .1)))) ∷ Γ
 
       part₁₃ : {K : Type 0} {Γ : List (Item 𝓤)} → K → (p : ℕ → ℕ) (past : Known₁₃)
-          → ((new : New₁₃ past) → Seq K W (Left₁₃ p past new Γ) (runs C Λ (En p) (behind 43 (code.function .body)) (atRet (En p) Post)))
-          → Seq K W (Had₁₃ p past Γ) (runs C Λ (En p) (behind 41 (code.function .body)) (atRet (En p) Post))
+          → ((new : New₁₃ past) → Seq K W (Left₁₃ p past new Γ) (runs C Λ (En p) rest₁₄ (atRet (En p) Post)))
+          → Seq K W (Had₁₃ p past Γ) (runs C Λ (En p) rest₁₃ (atRet (En p) Post))
+      unfolding rest₁₃
       part₁₃ {Γ = Γ} t p past on = record { prf =
-          qed W (Had₁₃ p past Γ) ∵ exec ! C Λ (En p) (behind 41 (code.function .body)) (atRet (En p) Post) $
+          qed W (Had₁₃ p past Γ) ∵ exec ! C Λ (En p) rest₁₃ (atRet (En p) Post) $
           assigns ! {v = (vptr (x₃ .ptr .0) (x₃ .ptr .1))}
               (addr ! (from ! (fld ! refl (hop ! (look-in ! 1 (sub ! 0 refl (whole !))) (stop !))))) (from ! (stop !))
               (init ! 3 refl (tt, tt)) $
@@ -1395,12 +1469,12 @@ module _ {M : Type 1} (𝓤 : URA M) (H : Heap 𝓤) (A : Atoms 𝓤) (W : Given
           ∷ ‵ (fat fullShare (tyRef erased imm (tyArray (tyInt w32) 32)) (p 47) 0 ((vptr b (o + 636)))) ∷ Γ
 
       part₁₄ : {K : Type 0} {Γ : List (Item 𝓤)} → K → (p : ℕ → ℕ) (past : Known₁₄)
-          → ((new : New₁₄ past) → Seq K W (Left₁₄ p past new Γ) (runs C Λ (En p) (behind 46 (code.function .body)) (atRet (En p) Post)))
-          → Seq K W (Had₁₄ p past Γ) (runs C Λ (En p) (behind 43 (code.function .body)) (atRet (En p) Post))
+          → ((new : New₁₄ past) → Seq K W (Left₁₄ p past new Γ) (runs C Λ (En p) rest₁₅ (atRet (En p) Post)))
+          → Seq K W (Had₁₄ p past Γ) (runs C Λ (En p) rest₁₄ (atRet (En p) Post))
+      unfolding rest₁₄
       part₁₄ {Γ = Γ} t p past on = record { prf =
-          qed W (Had₁₄ p past Γ) ∵ exec ! C Λ (En p) (behind 43 (code.function .body)) (atRet (En p) Post) $
-          assigns ! {v = (vptr b (o + 636))} (addr ! (from ! (hop ! (look ! 3 refl) (fld ! {d = 636} refl (stop !))))) (from ! (stop !))
-              (init ! 20 refl (tt, tt)) $
+          qed W (Had₁₄ p past Γ) ∵ exec ! C Λ (En p) rest₁₄ (atRet (En p) Post) $
+          assigns ! {v = (vptr b (o + 636))} (addr ! (place-outstanding ! (look ! 3 refl))) (from ! (stop !)) (init ! 20 refl (tt, tt)) $
           assigns ! {v = (vptr (p 15) 0)} (addr ! (from ! (stop !))) (from ! (stop !)) (init ! 19 refl (tt, tt)) $
           lend-shr ! tt fullShare (Array u32 32) (past .7) b (o + 636)
               (λ α-outstanding′′ δ-outstanding′′. move ! (13 ∷ []) $
@@ -1469,10 +1543,11 @@ module _ {M : Type 1} (𝓤 : URA M) (H : Heap 𝓤) (A : Atoms 𝓤) (W : Given
       Left₁₅ p past new Γ = ‵ (fat fullShare taken-laws.mir (p 17) 0 ((past .1))) ∷ ‵ (fat fullShare (tyInt w32) (p 0) 0 ((new .1))) ∷ Γ
 
       part₁₅ : {K : Type 0} {Γ : List (Item 𝓤)} → K → (p : ℕ → ℕ) (past : Known₁₅)
-          → ((new : New₁₅ past) → Seq K W (Left₁₅ p past new Γ) (runs C Λ (En p) (behind 47 (code.function .body)) (atRet (En p) Post)))
-          → Seq K W (Had₁₅ p past Γ) (runs C Λ (En p) (behind 46 (code.function .body)) (atRet (En p) Post))
+          → ((new : New₁₅ past) → Seq K W (Left₁₅ p past new Γ) (runs C Λ (En p) rest₁₆ (atRet (En p) Post)))
+          → Seq K W (Had₁₅ p past Γ) (runs C Λ (En p) rest₁₅ (atRet (En p) Post))
+      unfolding rest₁₅
       part₁₅ {Γ = Γ} t p past on = record { prf =
-          qed W (Had₁₅ p past Γ) ∵ exec ! C Λ (En p) (behind 46 (code.function .body)) (atRet (En p) Post) $
+          qed W (Had₁₅ p past Γ) ∵ exec ! C Λ (En p) rest₁₅ (atRet (En p) Post) $
           nothing ! $ calls-fn ! fm code-of.ended (code-of.clauses 𝓤 H A at-mem run) (known .11)
               ((tt, tt, tt, ((past .0), tt), ((past .1) ∷ [], tt)), tt) (λ r _. r ≡ answerCode ((past .0) .answer))
           (‵ ftrue) (plainly 𝓤 H A W (taken-row.the-row ∷ []) ((LL.makes taken-row.the-type taken-laws.the-plain 𝓤 H A), tt) ((past .0), tt)
@@ -1483,6 +1558,8 @@ module _ {M : Type 1} (𝓤 : URA M) (H : Heap 𝓤) (A : Atoms 𝓤) (W : Given
 
       walk : ent 𝓤 (onEntry 𝓤 H A f.signature (κ₀, (κ₁, (κ₂, (κ₃, (κ₄, (κ₅, tt)))))) (q₀, (q₁, (q₂, (q₃, (q₄, (q₅, tt))))))
           x at) (WpFn 𝓤 H C Λ code.function (vptr b o ∷ s₁ ∷ s₂ ∷ s₃ ∷ s₄ ∷ s₅ ∷ []) Post)
+      unfolding rest₁ rest₂ rest₃ rest₄ rest₅ rest₆ rest₇ rest₈ rest₉ rest₁₀ rest₁₁ rest₁₂ rest₁₃ rest₁₄ rest₁₅
+          rest₁₆
       walk =
           qed W ((‵ (flft κ₀ q₀) ⊛ ‵ (flft κ₁ q₁) ⊛ ‵ (flft κ₂ q₂) ⊛ ‵ (flft κ₃ q₃) ⊛ ‵ (flft κ₄ q₄) ⊛ ‵
               (flft κ₅ q₅) ⊛ ‵ ftrue) ∷ ‵ (owns (MutRef (named 0) κ₀ L ∷ ShrSlice (named 1) κ₁ u8 ∷ MutSlice (named 2) κ₂ u8
