@@ -96,7 +96,7 @@ def block_fields():
 
 
 class Driver:
-    def __init__(self, crate, name, pars, result, said, proof, calls, types, uses, about, needs=None):
+    def __init__(self, crate, name, pars, result, said, proof, calls, types, uses, about, needs=None, plan=None):
         self.locals, self.statements = function(crate, name)
         self.pars, self.calls, self.types, self.proof = pars, calls, types, proof
         self.made = [s for s in self.statements if s[0] == 'call']
@@ -105,7 +105,7 @@ class Driver:
             lib, callee = s[1][1][1].strip('"').split('::', 1)
             called.append((lib, callee, c.alias))
         self.called, callees = called, list(dict.fromkeys(called))
-        self.walk = Walk(crate, name, pars, [ty(t, types) for t in self.locals], callees, result, said, uses, block_fields(), about, needs)
+        self.walk = Walk(crate, name, pars, [ty(t, types) for t in self.locals], callees, result, said, uses, block_fields(), about, needs, plan)
         self.names = list(self.walk.fields)
         self.values = {i + 1: self.value(p.t, f'x{low(i)}', f'v{low(i)}', f'g{low(i)}') for i, p in enumerate(pars) if p.kind == 'val'}
         self.slot = {i + 1: i for i, p in enumerate(pars) if p.slice() or p.kind in ('given', 'sgiven', 'sref')}
@@ -118,11 +118,12 @@ class Driver:
     def run(self):
         w = self.walk
         w.begin()
+        w.starts(0)
         opens, count = self.whole() if self.pars[0].kind in ('ref', 'sref') else None, 0
         for k, s in enumerate(self.statements):
+            if k and self.statements[k - 1][0] == 'call' or k == opens:
+                w.cut(k)
             if k == opens:
-                if k:
-                    w.cut(k)
                 w.opens()
             if s[0] == 'call':
                 self.call(k, s, count)
@@ -138,6 +139,7 @@ class Driver:
                 self.assign(k, s)
         if self.pars[0].kind == 'sref':
             w.closes()
+        w.ends(len(self.statements))
         r = self.values[0]
         w.end(r['x'], r['v'], r['g'], self.proof)
         return w
@@ -210,8 +212,6 @@ class Driver:
         if self.pars[0].kind == 'ref' and not any(self.touches(x) for x in self.statements[k + 1:]):
             self.walk.lengths('end-')
             self.walk.closes()
-            if self.walk.arrays:
-                self.walk.cut(k + 1)
 
     @staticmethod
     def touches(s):
@@ -272,13 +272,14 @@ class Driver:
                 self.values[at] = self.value(w.kind(f), w.now[f], w.filled[at], w.was[f])
         if any(f in w.fields for f, _ in lent):
             self.close(k)
-        if c.alias == 'core':
-            w.cut(k + 1)
 
 
 def write(crate, name, pars, result, said, proof, calls, types, names, declared, about, needs=None):
     """The proof file of a function. `names`: what it may name, by module; `declared`: types whose rows it may name. Those that it does not name are left out."""
-    walk = Driver(crate, name, pars, result, said, proof, calls, types, [], about, needs).run()
+    plan = None
+    for _ in range(2):
+        walk = Driver(crate, name, pars, result, said, proof, calls, types, [], about, needs, plan).run()
+        plan = [part['touched'] for part in walk.parts]
     text = '\n'.join(line for line in proof_file(walk).split('\n') if not line.startswith('use '))
     used = words(text.replace('.', ' '))
     walk.uses = [line for t in declared if f'{t.alias}-row' in used or f'{t.alias}-laws' in used or t.denot in used for line in t.uses]

@@ -1,7 +1,7 @@
 # The proof file around a walk: what it cites, what each callee is called at, the exit, and the walk taken to the contract.
 import re
 
-from walk import at, cons, low, needed, nest
+from walk import at, cons, low, needed, nest, words
 
 WALK = '''_≡_, refl, ap, ℕ, _+_, List, [], _∷_, length, set, URA, fullShare, named, w8, w32, w64, Val, vint, vptr, SProp, ent, emp, via, fst∗, id⊢, Lft, GName, Share, Fml, ftrue, flft,
 Memory, Routine, Heap, Calls, Loops, WpFn, Tables, Atoms, Fun, givenOf, tables, tablesOf, Given, Item, ‵, some, later, _⊛_, ⋆, _$_, _∵_, !, qed, by, move, drop, use1, use2,
@@ -14,20 +14,20 @@ CITES = '''use Rattle.records.proofs.Call.{calls-fn, plainly}
 use Rattle.records.proofs.Shared.{LentShared, lends-shared, shared-back}
 use Rattle.records.proofs.Rows.{R}
 use Rattle.lending.proofs.Fields.{ref-at, lend-mut, back-mut, lend-shr, back-shr, cell-out, cell-in, tells-length, lend-whole, back-whole}
-use Rattle.records.proofs.Frame.{envOf}
-use Rattle.lending.proofs.Parts.{behind, spread}
-use Rattle.lending.proofs.Block.{L, Open, Back, link-own, link-shr, opens-link, closes-link, looks-link, shuts-link}
+use Rattle.lending.proofs.Locals.{envAt, allocates, frees-all, holds, empty}
+use Rattle.lending.proofs.Parts.{behind, taking, spread, same}
+use Rattle.lending.proofs.Block.{L, Open, Back, link-own, link-shr, opens-link, closes-link, looks-link, shuts-link, place-settings, place-flight, place-arrival, place-clock, place-queued, place-outstanding, place-transmissions, place-ready, place-waiting, place-waiting-numbers}
 use Rattle.control.specs.declared.Link.{Link}
 use Rattle.timing.specs.declared.Record.{Record}
 use lib.IntN.{ℤ}
 use mir.Syntax.{w16}
 use base.Fml.{fres, froom, fdies, fobor, fsep, feq}
-use mir.Syntax.{imm, mut, erased, tyInt, tyArray, tyRef, tyPtr, tyUnit, tyBool}
+use mir.Syntax.{Body, return, imm, mut, erased, tyInt, tyArray, tyRef, tyPtr, tyUnit, tyBool}
 use denote.Slice.{sliceTy}
 use denote.Memory.{pointee}
 use Rattle.timing.proofs.Record.Laws as record-laws
-use prog.Wp.{Env, Wp, atReturn}
-use types.Kit.{group, raw, atRet}
+use prog.Wp.{Env}
+use types.Kit.{Seq, runs, group, raw, atRet}
 use denote.Memory.{partAt, cellAt}
 use types.Tokens.{lft-new, lft-end}
 use denote.Plain.{uint-lawful, nothing-lawful}
@@ -55,7 +55,7 @@ def proof_file(w):
 
     say(f'-- `{w.crate}::{w.name}` meets its contract: a walk of its MIR. {w.about}')
     say('-- Of each callee the proof knows only that it meets its contract. Written by tools/calls.py.\n-- Assumes nothing.')
-    say(f'use Rattle.records.proofs.Walk.{{{" ".join(WALK.split())}, fat, keep, exec}}\n{CITES}')
+    say(f'use Rattle.records.proofs.Walk.{{{" ".join(WALK.split())}, fat, exec}}\n{CITES}')
     out += w.uses
     for crate, name, alias in w.callees:
         module = f'Rattle.{crate}.proofs.{name}' if crate == w.crate else f'Rattle.{crate}.proofs.{name}'
@@ -69,6 +69,11 @@ def proof_file(w):
             return f"{'stay' if p.kind == 'ref' else 'gave'}-ref ({p.lft} ∷ []) tt {p.behind()}"
         return 'stay-dropped _ yes'
     say(f'abbrev stayed : Stays (f.ended .signature .params) (f.ended .kept)\nstayed = {nest([stay(p) for p in pars])}\n')
+
+    say('-- the rest of the body where each part begins, and behind the last')
+    for k in range(len(w.parts), -1, -1):
+        body = f"taking {w.parts[k]['to'] - w.parts[k]['from']} (behind {w.parts[k]['from']} (code.function .body)) rest{low(k + 2)}" if k < len(w.parts) else 'return'
+        say(f'unfoldable rest{low(k + 1)} : Body\nrest{low(k + 1)} = {body}\n')
 
     say('module _ {M : Type 1} (𝓤 : URA M) (H : Heap 𝓤) (A : Atoms 𝓤) (W : Given 𝓤 H A) (at-mem : Memory → SProp 𝓤) (run : Routine → Fun 𝓤) where')
     say('  -- what is known of the callees\n  abbrev Known : Calls 𝓤 H → Type 1')
@@ -154,41 +159,59 @@ def proof_file(w):
     say(f"        {' '.join(steps.text)} frame ! $ owned ! {w.result.row} (Is {w.result.row}) {w.result.makes()} r _ g $ done !\n")
 
     say('    module _ (C : Calls 𝓤 H) (Λ : Loops 𝓤 H) (fm : FmC 𝓤 H (W .laws) C) (known : Known C) where')
-    out.extend(walked(w))
-    say(f'      walk : ent 𝓤 (onEntry 𝓤 H A f.signature {kappas} {shares} x at) (WpFn 𝓤 H C Λ code.function ({cons(w.machine())}) Post)')
-    say(f'      walk =\n          {lines(w.parts[0])}\n')
+    parts, main = walked(w)
+    out.extend(parts)
+    rests = ' '.join(f'rest{low(k + 1)}' for k in range(len(w.parts) + 1))
+    say(f'      walk : ent 𝓤 (onEntry 𝓤 H A f.signature {kappas} {shares} x at) (WpFn 𝓤 H C Λ code.function ({cons(w.machine())}) Post)\n      unfolding {rests}')
+    say(f'      walk =\n          {lines(main)}\n')
     say(meets(w))
     return '\n'.join(out) + '\n'
 
 
-def lines(part):
+def lines(text):
     """The text of a part."""
-    text = ' '.join(part['text'] + [part.get('end', '')])
-    return '\n'.join(line.strip() for line in text.split('\n') if line.strip()).replace('\n', '\n          ')
+    return '\n'.join(line.strip() for line in ' '.join(text).split('\n') if line.strip()).replace('\n', '\n          ')
+
+
+def projected(tuple_, scope):
+    """The names of a scope as parts of a tuple."""
+    return {name: tuple_ if len(scope) == 1 else f'({tuple_} .{i})' for i, (name, _) in enumerate(scope)}
+
+
+def tuple_type(scope):
+    return ' × '.join([f'({name} : {kind})' for name, kind in scope[:-1]] + [f'({kind})' for _, kind in scope[-1:]]) or 'Unit {0}'
 
 
 def walked(w):
-    """The parts of the walk but the first, from the last on: each is what the one before it ends with. What a part knows is one tuple: every blank
-    that antt fills is a function of all that is in scope, so that many names make a check slow."""
-    out = []
-    places = [f'l{low(i)}' for i in range(w.locals)]
-    if len(w.parts) > 1:
-        out.append(f"      -- where the locals lie\n      abbrev En : ({' '.join(places)} : ℕ) → Env 𝓤 H\n      En {' '.join(places)} = envOf (code.function .locals) ({cons(places)})\n")
-    for k in range(len(w.parts) - 1, 0, -1):
-        before, part, n = w.parts[k - 1], w.parts[k], low(k)
-        context, text = cons(before['context']), lines(part)
-        scope = needed(before['scope'], ' '.join([context, text] + places))
-        inside = {name: f'(past .{i})' for i, (name, _) in enumerate(scope)}
-        env = within(f"(En {' '.join(places)})", inside)
-        body = f"(behind {before['done']} (code.function .body))"
-        context, text = within(context, inside), within(text, inside)
-        kinds = ' × '.join([f'({name} : {kind})' for name, kind in scope[:-1]] + [f'({scope[-1][1]})'])
-        out.append(f'      -- what part {k} knows\n      abbrev Known{n} : Type 0\n      Known{n} = {kinds}\n')
-        out.append(f'      part{n} : (past : Known{n}) → ent 𝓤 (⋆ 𝓤 H A ({context})) (Wp 𝓤 H C Λ {env} {body} (atReturn 𝓤 H {env} Post))')
-        out.append(f'      part{n} past =\n          qed W ({context}) ∵ exec ! C Λ {env} {body} (atRet {env} Post) $\n          {text}\n')
-        passed = ', '.join(before['passed'][name] for name, _ in scope)
-        before['end'] = f'by ! (part{n} ({passed}))' + ')' * before['open']
-    return out
+    """The parts of the walk, and how they follow each other. A part holds with any items beside those that it names. What it knows is one
+    tuple, and what it tells the next another: every blank that antt fills is a function of all that is in scope, so that many names make a check slow."""
+    out = ['      -- where the locals lie\n      abbrev En : (ℕ → ℕ) → Env 𝓤 H\n      En p = envAt (code.function .locals) p\n']
+    later = words(' '.join(w.main))
+    for part in reversed(w.parts):
+        before, after, text = cons(part['before'] + ['Γ'])[:-5], cons(part['after'] + ['Γ'])[:-5], lines(part['text'])
+        part['new'] = needed(part['new'], ' '.join([after] + list(later)))
+        told = ' '.join(part['passed'][name] for name, _ in part['new'])
+        part['past'] = needed(part['scope'], ' '.join([before, after, text, told] + [kind for _, kind in part['new']]))
+        later |= {name for name, _ in part['past']}
+    names, main = {}, w.main
+    for k, part in enumerate(w.parts, 1):
+        n, past, new = low(k), part['past'], part['new']
+        before, after = cons(part['before'] + ['Γ'])[:-5], cons(part['after'] + ['Γ'])[:-5]
+        inside, told = projected('past', past), projected('new', new)
+        goal = lambda at: f'(runs C Λ (En p) rest{low(at)} (atRet (En p) Post))'
+        out.append(f'      -- what part {k} knows, what it tells; what it has, and leaves\n      abbrev Known{n} : Type 0\n      Known{n} = {tuple_type(past)}\n')
+        out.append(f'      abbrev New{n} : Known{n} → Type 0\n      New{n} past = {within(tuple_type(new), inside)}\n')
+        out.append(f'      abbrev Had{n} : (ℕ → ℕ) → Known{n} → List (Item 𝓤) → List (Item 𝓤)\n      Had{n} p past Γ = {within(before, inside)}\n')
+        out.append(f'      abbrev Left{n} : (ℕ → ℕ) → (past : Known{n}) → New{n} past → List (Item 𝓤) → List (Item 𝓤)\n      Left{n} p past new Γ = {within(after, inside | told)}\n')
+        out.append(f"      part{n} : {{K : Type 0}} {{Γ : List (Item 𝓤)}} → K → (p : ℕ → ℕ) (past : Known{n})"
+                   f" → ((new : New{n} past) → Seq K W (Left{n} p past new Γ) {goal(k + 1)}) → Seq K W (Had{n} p past Γ) {goal(k)}\n      unfolding rest{n}")
+        tells = ', '.join(within(part['passed'][name], inside) for name, _ in new) or 'tt'
+        out.append(f"      part{n} {{Γ = Γ}} t p past on = record {{ prf =\n          qed W (Had{n} p past Γ) ∵ exec ! C Λ (En p) rest{n} (atRet (En p) Post) $\n          {within(lines(part['text']), inside)}"
+                   f"\n          same ! (on ({tells})){')' * part['open']} }}\n")
+        given = ', '.join(names[name] for name, _ in past) or 'tt'
+        main = [f'part{n} ! p ({given}) (λ new{n}.' if x == f'PART{k}' else x for x in main]
+        names |= projected(f'new{n}', new)
+    return out, [x if x.startswith('part') else within(x, names) for x in main]
 
 
 def within(text, names):

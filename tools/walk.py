@@ -6,7 +6,8 @@
 #   tok:f, own:f, lent:f, fin:f   a lent field: token, what the reference owns, what comes back, its last value
 #   @a             the array in a local that the call with the result a made, lent as a field is: F:@a and so on while it is, L4 before and after
 #   *              the whole block, lent as a field is: own0 and tok0 before and after
-# The check of one declaration has a limit of steps, so a walk is cut into parts: `cut` ends one, and the next begins with the context written out.
+# A walk is cut into parts (`cut`). A part names only the items of the context that it touches, and holds with any others beside them. Which
+# these are shows when the part has been written: a walk is taken twice, and the second time it has the `plan`, the items of each part.
 import re
 
 from rows import Numbers
@@ -36,6 +37,17 @@ def at(base, i):
 def atom(text):
     """A text as an argument."""
     return f'({text})' if ' ' in text else text
+
+
+def relative(context, items):
+    """The numbers that `move` takes to bring these items to the front, or nothing where they are there."""
+    where = [context.index(n) for n in items]
+    return None if where == list(range(len(where))) else cons(map(str, where))
+
+
+def home(i):
+    """Where local i lies."""
+    return f'(p {i})'
 
 
 WHOLE = '*'
@@ -78,7 +90,7 @@ class Par:
 
 
 class Walk:
-    def __init__(self, crate, name, pars, types, callees, result, said, uses, fields, about, needs=None):
+    def __init__(self, crate, name, pars, types, callees, result, said, uses, fields, about, needs=None, plan=None):
         self.crate, self.name, self.pars, self.types, self.locals, self.needs = crate, name, pars, types, len(types), needs
         self.callees, self.result, self.said, self.uses, self.fields, self.about = callees, result, said, uses, fields, about
         lft = 0
@@ -87,6 +99,7 @@ class Walk:
                 p.lft, lft = lft, lft + 1
         self.lifetimes = lft
         self.text, self.open, self.context = [], 0, []
+        self.plan, self.part, self.rest, self.used = plan, None, [], set()
         self.scope, self.filled, self.parts, self.renamed, self.was = [], {}, [], [], {}
         self.asks, self.last, self.how, self.finals, self.after = [], {}, {}, {}, None
         self.now = {f: f'(h .{f})' for f in fields} | {WHOLE: 'h'}
@@ -106,25 +119,24 @@ class Walk:
         self.scope += names
 
     def pos(self, item):
+        self.used.add(item)
         return self.context.index(item)
 
     def bring(self, items):
         """These items to the front, in this order."""
-        where = [self.pos(n) for n in items]
-        if where != list(range(len(where))):
-            self.say(f'move ! ({cons(map(str, where))}) $')
+        self.used.update(items)
+        where = relative(self.context, items)
+        if where:
+            self.say(f'move ! ({where}) $')
         self.context = list(items) + [c for c in self.context if c not in items]
 
     def lose(self, items):
-        if len(items) < 3:
-            self.bring(items)
-            for _ in items:
-                self.say('drop ! $')
-                self.context.pop(0)
+        self.bring(items)
+        if len(items) > 2:
+            self.say(f'group ! {len(items)} $ drop ! $')
         else:
-            kept = [c for c in self.context if c not in items]
-            self.say(f'keep ! ({cons(str(self.pos(c)) for c in kept)}) $')
-            self.context = kept
+            self.say('drop ! $ ' * len(items))
+        self.context = self.context[len(items):]
 
     def spread(self, item, into):
         """An item becomes several, in one step: (name, formula) of each."""
@@ -133,8 +145,11 @@ class Walk:
         self.say(f'spread W ({formulas[0]}) ({cons(formulas[1:])}) (id⊢ 𝓤 _) $')
         self.context[0:1] = [name for name, _ in into]
 
+    def said_context(self):
+        return '\n-- [' + '; '.join(c for c in self.context if c[0] != 'L') + '; the locals]\n'
+
     def comment(self):
-        self.say('\n-- [' + '; '.join(c for c in self.context if c[0] != 'L') + '; the locals]\n')
+        self.say(self.said_context())
 
     def look(self, local):
         return f"(load ! (from ! (stop !)) (look ! {self.pos(f'L{local}')} refl))"
@@ -177,11 +192,10 @@ class Walk:
         tokens = ' ⊛ '.join('‵ ' + self.token(i) for i in refs)
         rows, machine = cons(self.row(i) for i in range(len(self.pars))), cons(self.machine())
         self.say(f'qed W (({tokens} ⊛ ‵ ftrue) ∷ ‵ (owns ({rows}) x at) ∷ []) ∵ enter ! C Λ code.function ({machine}) _ $\n')
-        self.say(' '.join(f'alloc1 ! (λ l{low(i)}.' for i in range(self.locals)) + ' alloc0 ! $ params1 ! $\n')
-        self.open += self.locals
-        self.scope += [(f'l{low(i)}', 'ℕ') for i in range(self.locals)]
+        self.say('allocates ! (code.function .locals) (λ p. params1 ! $\n')
+        self.open += 1
         self.filled = dict(enumerate(self.machine(), 1))
-        self.context = [c for i in reversed(range(self.locals)) for c in (f'L{i}', f'D{i}')] + ['tokens', 'owns']
+        self.context = ['deaths'] + [f'L{i}' for i in reversed(range(self.locals))] + ['tokens', 'owns']
         for i, p in enumerate(self.pars):
             n = low(i)
             typed = p.t.typed(f'x{n}', f'v{n}', f'g{n}') if p.kind == 'val' else self.room(i) if p.slice() else '(tt, tt)'
@@ -191,10 +205,8 @@ class Walk:
         self.spread('owns', owned + [('true', '‵ ftrue')])
         self.spread('tokens', [(f'tok{i}', f'‵ {self.token(i)}') for i in refs] + [('true′', '‵ ftrue')])
         self.lose([f'own{i}' for i, p in enumerate(self.pars) if p.kind == 'val'] + ['true', 'true′'])
-        self.bring([f'D{i}' for i in range(self.locals)])
-        self.say(f'group ! {self.locals} $')
-        self.context[0:self.locals] = ['deaths']
         self.comment()
+        self.main, self.text, self.main_open, self.open = self.text, [], self.open, 0
 
     # ---- the block
 
@@ -244,7 +256,7 @@ class Walk:
 
     def spot(self, f):
         """Block and offset of what is lent: a field of the block, all of it, or a local."""
-        return f'l{low(self.home(f))} 0' if f in self.arrays else 'b o' if f == WHOLE else f'b {self.offset(f)}'
+        return f'{home(self.home(f))} 0' if f in self.arrays else 'b o' if f == WHOLE else f'b {self.offset(f)}'
 
     def tag(self, f):
         """The name of what is lent, another one each time that it is."""
@@ -257,8 +269,8 @@ class Walk:
         return f'(o + {self.fields[f][1]})'
 
     def place(self, f):
-        rest = '(stop !)' if f == WHOLE else f'(fld ! {{d = {self.fields[f][1]}}} refl (stop !))'
-        return f"(from ! (hop ! (look ! {self.pos('L1')} refl) {rest}))"
+        pointer = f"(look ! {self.pos('L1')} refl)"
+        return f'(from ! (hop ! {pointer} (stop !)))' if f == WHOLE else f'(place-{hyphened(f)} ! {pointer})'
 
     def cell(self, f):
         """The field's cell is taken out."""
@@ -439,7 +451,7 @@ class Walk:
         ref, v = 'MutRef' if self.how[f] == 'mut' else 'ShrRef', f'f-{i}' if inside else self.now[f]
         at = f'p-{i} 0' if inside and f in self.arrays else self.spot(f)
         value, machine, lft = f'(ref-at {at} δ-{i} {v})', f'(vptr {at})', f'(α-{i} ∷ [])'
-        place, passed = (f'(p-{i} : ℕ) ', f"{self.spot(f).split()[0]} ") if f in self.arrays else ('', '')
+        place, passed = (f'(p-{i} : ℕ) ', f'{home(self.home(f))} ') if f in self.arrays else ('', '')
         return {'value': value, 'machine': machine, 'lft': lft, 'share': 'fullShare', 'token': f'tok:{f}', 'owner': f'own:{f}',
                 'token-is': f'(flft {lft} fullShare)', 'own-is': f'({ref} (named 0) {lft} {row} .own {value} ({machine} ∷ []))',
                 'binds': place + f'(α-{i} : ℕ) (δ-{i} : GName) (f-{i} : {denot})', 'passes': passed + f'α-{i} δ-{i} {v}'}
@@ -538,11 +550,15 @@ class Walk:
     def formula(self, item):
         """An item of the context, written out."""
         kind, n = item[:3], item[3:]
-        if item == 'deaths':
-            return '(' + ' ⊛ '.join(f'‵ (fdies {self.types[i]} l{low(i)})' for i in range(self.locals)) + ')'
         if item[0] == 'L':
             i = int(item[1:])
-            return f'‵ (fat fullShare {self.types[i]} l{low(i)} 0 ({self.filled[i]}))' if i in self.filled else f'‵ (froom {self.types[i]} l{low(i)} 0)'
+            return f'‵ (fat fullShare {self.types[i]} {home(i)} 0 ({self.filled[i]}))' if i in self.filled else f'‵ (froom {self.types[i]} {home(i)} 0)'
+        if item[0] == 'b' and item != 'back':
+            i = int(re.sub(r'\D', '', item))
+            return f'‵ (LentShared {self.lent_shared(i)})' if item[:5] == 'blent' else f'‵ (flft (β{low(i)} ∷ []) fullShare)'
+        if item[:5] == 'shown':
+            n = low(int(item[5:]))
+            return f'‵ (Shared{n} β{n} β-name{n})'
         if item[:2] == 'F:':
             f = item[2:]
             return f'‵ (partAt {self.kind(f).row} {self.share_of(f)} {self.now[f]} {self.spot(f)})'
@@ -566,9 +582,25 @@ class Walk:
         self.renamed.append((old, new))
         self.scope = [(name, t.replace(old, new)) for name, t in self.scope]
 
+    def starts(self, done):
+        """A part begins behind `done` statements: the items that it touches come first."""
+        full = self.context
+        items = [c for c in full if c in self.plan[len(self.parts)]] if self.plan else list(full)
+        where = relative(full, items)
+        self.main.append(f'move ! ({where}) $' if where else '')
+        self.rest, self.context, self.used = [c for c in full if c not in items], items, set()
+        self.part = {'from': done, 'items': list(items), 'before': [self.formula(c) for c in items] if self.plan else [], 'scope': list(self.scope)}
+        self.text, self.open = [], 0
+
     def cut(self, done):
         """A part ends behind `done` statements, and the next begins."""
+        if self.text:
+            self.ends(done)
+            self.starts(done)
+
+    def ends(self, done):
         passed = dict((name, name) for name, _ in self.scope)
+        known = set(passed)
         for f, now in self.now.items():
             if now.startswith('(ws-'):
                 new = f'z-{hyphened(f)}'
@@ -581,25 +613,26 @@ class Walk:
                     self.filled[self.home(f)] = self.filled[self.home(f)].replace(now, new)
         for i, last in self.last.items():
             new = f'z{low(i)}'
-            self.rename(f'({last})', new)
-            self.scope.insert(0, (new, self.pars[i].list() if self.pars[i].slice() else self.pars[i].value()))
-            self.last[i], passed[new] = new, f'({last})'
-        self.parts.append({'text': self.text, 'open': self.open, 'passed': passed})
-        self.text, self.open = [], 0
-        self.parts[-1].update(done=done, context=[self.formula(c) for c in self.context], scope=list(self.scope))
+            if last != new:
+                self.rename(f'({last})', new)
+                self.scope.insert(0, (new, self.pars[i].list() if self.pars[i].slice() else self.pars[i].value()))
+                self.last[i], passed[new] = new, f'({last})'
+        begun = {name for name, _ in self.part['scope']}
+        self.part.update(text=self.text, open=self.open, to=done, passed=passed, new=[x for x in self.scope if x[0] not in begun],
+                         after=[self.formula(c) for c in self.context] if self.plan else [], touched=self.used & set(self.part['items']))
+        self.parts.append(self.part)
+        self.main.append(f'PART{len(self.parts)}')
+        self.context, self.text, self.open = self.context + self.rest, [], 0
+        self.main.append(self.said_context())
 
     # ---- the exit
 
     def end(self, x, v, g, proof):
-        self.say(f"returns ! (look ! {self.pos('L0')} refl) $")
-        deaths = [(f'D{i}', f'‵ (fdies {self.types[i]} l{low(i)})') for i in range(self.locals)]
-        self.say('\n')
-        self.spread('deaths', deaths)
-        self.bring([c for i in range(self.locals) for c in (f'L{i}', f'D{i}')])
-        for _ in range(self.locals):
-            self.say('forget ! 0 refl $ free1 ! $')
-            self.context = self.context[2:]
-        self.say('free0 ! $\n')
+        self.say(f"returns ! (look ! {self.pos('L0')} refl) $\n")
+        self.bring(['deaths'] + [f'L{i}' for i in range(self.locals)])
+        held = cons(f'holds ({self.filled[i]})' if i in self.filled else 'empty' for i in range(self.locals))
+        self.say(f'frees-all ! (code.function .locals) p ({held}) $\n')
+        self.context = self.context[1 + self.locals:]
         keeps = {'mut': ['fin', 'tok'], 'given': ['fin', 'tok'], 'ref': ['own', 'tok'], 'shr': ['tok'], 'sref': ['tok'], 'sgiven': ['tok'], 'val': []}
         self.had = [f'{n}{i}' for i, p in enumerate(self.pars) for n in keeps[p.kind]]
         extra = [c for c in self.context if c not in self.had]
@@ -612,8 +645,8 @@ class Walk:
             proof = proof.replace(old, new)
         lasts = ' '.join(f'({self.last[i]})' for i in gave)
         lengths = ' '.join(f'len{low(i)}' for i in gave if self.pars[i].slice())
-        self.say(f'by ! (exits {x} {v} {after} {lasts} ({proof}) {lengths} {g})' + ')' * self.open)
-        self.parts.append({'text': self.text})
+        self.say(f'by ! (exits {x} {v} {after} {lasts} ({proof}) {lengths} {g})' + ')' * (self.main_open + len(self.parts)))
+        self.main += self.text
 
 
 def words(text):

@@ -143,27 +143,46 @@ use Rattle.records.proofs.Walk.{
   walk-meets,
   yes,
   fat,
-  keep,
   exec,
 }
 use Rattle.records.proofs.Call.{calls-fn, plainly}
 use Rattle.records.proofs.Shared.{LentShared, lends-shared, shared-back}
 use Rattle.records.proofs.Rows.{R}
 use Rattle.lending.proofs.Fields.{ref-at, lend-mut, back-mut, lend-shr, back-shr, cell-out, cell-in, tells-length, lend-whole, back-whole}
-use Rattle.records.proofs.Frame.{envOf}
-use Rattle.lending.proofs.Parts.{behind, spread}
-use Rattle.lending.proofs.Block.{L, Open, Back, link-own, link-shr, opens-link, closes-link, looks-link, shuts-link}
+use Rattle.lending.proofs.Locals.{envAt, allocates, frees-all, holds, empty}
+use Rattle.lending.proofs.Parts.{behind, taking, spread, same}
+use Rattle.lending.proofs.Block.{
+  L,
+  Open,
+  Back,
+  link-own,
+  link-shr,
+  opens-link,
+  closes-link,
+  looks-link,
+  shuts-link,
+  place-settings,
+  place-flight,
+  place-arrival,
+  place-clock,
+  place-queued,
+  place-outstanding,
+  place-transmissions,
+  place-ready,
+  place-waiting,
+  place-waiting-numbers,
+}
 use Rattle.control.specs.declared.Link.{Link}
 use Rattle.timing.specs.declared.Record.{Record}
 use lib.IntN.{ℤ}
 use mir.Syntax.{w16}
 use base.Fml.{fres, froom, fdies, fobor, fsep, feq}
-use mir.Syntax.{imm, mut, erased, tyInt, tyArray, tyRef, tyPtr, tyUnit, tyBool}
+use mir.Syntax.{Body, return, imm, mut, erased, tyInt, tyArray, tyRef, tyPtr, tyUnit, tyBool}
 use denote.Slice.{sliceTy}
 use denote.Memory.{pointee}
 use Rattle.timing.proofs.Record.Laws as record-laws
-use prog.Wp.{Env, Wp, atReturn}
-use types.Kit.{group, raw, atRet}
+use prog.Wp.{Env}
+use types.Kit.{Seq, runs, group, raw, atRet}
 use denote.Memory.{partAt, cellAt}
 use types.Tokens.{lft-new, lft-end}
 use denote.Plain.{uint-lawful, nothing-lawful}
@@ -243,13 +262,42 @@ use Rattle.asks.proofs.check.Statement as stated
 use Rattle.asks.proofs.check.Code as code
 
 abbrev stayed : Stays (f.ended .signature .params) (f.ended .kept)
-stayed = (
-  stay-dropped _ yes,
-  (
-    stay-dropped _ yes,
-    (stay-dropped _ yes, (stay-dropped _ yes, (stay-dropped _ yes, (stay-dropped _ yes, (gave-ref (5 ∷ []) tt (plain (λ _. u32)), tt))))),
-  ),
-)
+stayed = (stay-dropped _ yes, (stay-dropped _ yes,
+    (stay-dropped _ yes, (stay-dropped _ yes, (stay-dropped _ yes, (stay-dropped _ yes, (gave-ref (5 ∷ []) tt (plain (λ _. u32)), tt)))))))
+
+-- the rest of the body where each part begins, and behind the last
+unfoldable rest₁₁ : Body
+rest₁₁ = return
+
+unfoldable rest₁₀ : Body
+rest₁₀ = taking 2 (behind 26 (code.function .body)) rest₁₁
+
+unfoldable rest₉ : Body
+rest₉ = taking 7 (behind 19 (code.function .body)) rest₁₀
+
+unfoldable rest₈ : Body
+rest₈ = taking 1 (behind 18 (code.function .body)) rest₉
+
+unfoldable rest₇ : Body
+rest₇ = taking 1 (behind 17 (code.function .body)) rest₈
+
+unfoldable rest₆ : Body
+rest₆ = taking 4 (behind 13 (code.function .body)) rest₇
+
+unfoldable rest₅ : Body
+rest₅ = taking 1 (behind 12 (code.function .body)) rest₆
+
+unfoldable rest₄ : Body
+rest₄ = taking 5 (behind 7 (code.function .body)) rest₅
+
+unfoldable rest₃ : Body
+rest₃ = taking 4 (behind 3 (code.function .body)) rest₄
+
+unfoldable rest₂ : Body
+rest₂ = taking 2 (behind 1 (code.function .body)) rest₃
+
+unfoldable rest₁ : Body
+rest₁ = taking 1 (behind 0 (code.function .body)) rest₂
 
 module _ {M : Type 1} (𝓤 : URA M) (H : Heap 𝓤) (A : Atoms 𝓤) (W : Given 𝓤 H A) (at-mem : Memory → SProp 𝓤) (run : Routine → Fun 𝓤) where
   -- what is known of the callees
@@ -311,47 +359,35 @@ module _ {M : Type 1} (𝓤 : URA M) (H : Heap 𝓤) (A : Atoms 𝓤) (W : Given
     -- what check is called at, and that what it asks is had
     abbrev to-check : (p-sends : ℕ) (α-sends : ℕ) (δ-sends : GName) (f-sends : (List ℕ)) (p-receives : ℕ) (α-receives : ℕ)
         (δ-receives : GName) (f-receives : (List ℕ)) → tripleOf 𝓤 H A check.signature (check.spec 𝓤 H A at-mem run) .Ghost
-    to-check p-sends α-sends δ-sends f-sends p-receives α-receives δ-receives f-receives = (
-      (
-        (κ₀, ((α-sends ∷ []), ((α-receives ∷ []), tt))),
-        (q₀, (fullShare, (fullShare, tt))),
-        tt,
+    to-check p-sends α-sends δ-sends f-sends p-receives α-receives δ-receives f-receives =
+        (((κ₀, ((α-sends ∷ []), ((α-receives ∷ []), tt))), (q₀, (fullShare, (fullShare, tt))), tt,
         (ref-at b o γ h, ((ref-at p-sends 0 δ-sends f-sends), ((ref-at p-receives 0 δ-receives f-receives), tt))),
-        (vptr b o ∷ [], ((vptr p-sends 0) ∷ [], ((vptr p-receives 0) ∷ [], tt))),
-      ),
-      tt,
-    )
+        (vptr b o ∷ [], ((vptr p-sends 0) ∷ [], ((vptr p-receives 0) ∷ [], tt)))), tt)
 
     asks-check : (p-sends : ℕ) (α-sends : ℕ) (δ-sends : GName) (f-sends : (List ℕ)) (p-receives : ℕ) (α-receives : ℕ) (δ-receives : GName)
-        (f-receives : (List ℕ)) → ((f-sends ≡ noneToSend) × (f-receives ≡ none))
+        (f-receives : (List ℕ)) →  ((f-sends ≡ noneToSend) × (f-receives ≡ none))
         → ent 𝓤 (⋆ 𝓤 H A (‵ (flft κ₀ q₀) ∷ ‵ (link-shr κ₀ b o γ h) ∷ ‵ (flft (α-sends ∷ []) fullShare)
         ∷ ‵ (MutRef (named 0) (α-sends ∷ []) (Array u8 128) .own (ref-at p-sends 0 δ-sends f-sends) ((vptr p-sends 0) ∷ []))
         ∷ ‵ (flft (α-receives ∷ []) fullShare)
         ∷ ‵ (MutRef (named 0) (α-receives ∷ []) (Array u8 256) .own (ref-at p-receives 0 δ-receives f-receives) ((vptr p-receives 0) ∷ []))
         ∷ [])) (tripleOf 𝓤 H A check.signature (check.spec 𝓤 H A at-mem run) .pre
         (to-check p-sends α-sends δ-sends f-sends p-receives α-receives δ-receives f-receives))
-    asks-check p-sends α-sends δ-sends f-sends p-receives α-receives δ-receives f-receives req =
+    asks-check p-sends α-sends δ-sends f-sends p-receives α-receives δ-receives f-receives  req =
         qed W (‵ (flft κ₀ q₀) ∷ ‵ (link-shr κ₀ b o γ h) ∷ ‵ (flft (α-sends ∷ []) fullShare)
-        ∷ ‵ (MutRef (named 0) (α-sends ∷ []) (Array u8 128) .own (ref-at p-sends 0 δ-sends f-sends) ((vptr p-sends 0) ∷ []))
-        ∷ ‵ (flft (α-receives ∷ []) fullShare)
-        ∷ ‵ (MutRef (named 0) (α-receives ∷ []) (Array u8 256) .own (ref-at p-receives 0 δ-receives f-receives)
-        ((vptr p-receives 0) ∷ [])) ∷ []) ∵ says ! req $ nothing ! $ move ! (5 ∷ 0 ∷ []) $ join ! $ move ! (3 ∷ 0 ∷ []) $ join ! $
-        move ! (1 ∷ 0 ∷ []) $ join ! $ nothing ! $ move ! (4 ∷ 0 ∷ []) $ fjoin ! $ move ! (3 ∷ 0 ∷ []) $ fjoin ! $ move ! (2 ∷ 0 ∷ []) $
-        fjoin ! $ move ! (1 ∷ 0 ∷ []) $ done !
+            ∷ ‵ (MutRef (named 0) (α-sends ∷ []) (Array u8 128) .own (ref-at p-sends 0 δ-sends f-sends) ((vptr p-sends 0) ∷ []))
+            ∷ ‵ (flft (α-receives ∷ []) fullShare)
+            ∷ ‵ (MutRef (named 0) (α-receives ∷ []) (Array u8 256) .own (ref-at p-receives 0 δ-receives f-receives)
+            ((vptr p-receives 0) ∷ [])) ∷ []) ∵ says ! req $ nothing ! $ move ! (5 ∷ 0 ∷ []) $ join ! $ move ! (3 ∷ 0 ∷ []) $ join ! $
+            move ! (1 ∷ 0 ∷ []) $ join ! $ nothing ! $ move ! (4 ∷ 0 ∷ []) $ fjoin ! $ move ! (3 ∷ 0 ∷ []) $ fjoin ! $ move ! (2 ∷ 0 ∷ []) $
+            fjoin ! $ move ! (1 ∷ 0 ∷ []) $ done !
 
     -- what gather is called at, and that what it asks is had
     abbrev to-gather : (α-outstanding : ℕ) (δ-outstanding : GName) (f-outstanding : (List ℕ)) (p-found : ℕ) (α-found : ℕ) (δ-found : GName)
         (f-found : (List ℕ)) (y₀ : ℕ) (u₀ : Val) → tripleOf 𝓤 H A gather.signature (gather.spec 𝓤 H A at-mem run) .Ghost
-    to-gather α-outstanding δ-outstanding f-outstanding p-found α-found δ-found f-found y₀ u₀ = (
-      (
-        (κ₃, ((α-outstanding ∷ []), ((α-found ∷ []), tt))),
-        (q₃, (fullShare, (fullShare, tt))),
-        tt,
+    to-gather α-outstanding δ-outstanding f-outstanding p-found α-found δ-found f-found y₀ u₀ =
+        (((κ₃, ((α-outstanding ∷ []), ((α-found ∷ []), tt))), (q₃, (fullShare, (fullShare, tt))), tt,
         (x₃, ((ref-at b (o + 636) δ-outstanding f-outstanding), (y₀, ((ref-at p-found 0 δ-found f-found), tt)))),
-        (s₃ ∷ [], ((vptr b (o + 636)) ∷ [], (u₀ ∷ [], ((vptr p-found 0) ∷ [], tt)))),
-      ),
-      tt,
-    )
+        (s₃ ∷ [], ((vptr b (o + 636)) ∷ [], (u₀ ∷ [], ((vptr p-found 0) ∷ [], tt))))), tt)
 
     asks-gather : (α-outstanding : ℕ) (δ-outstanding : GName) (f-outstanding : (List ℕ)) (p-found : ℕ) (α-found : ℕ) (δ-found : GName)
         (f-found : (List ℕ)) → (y₀ : ℕ) (u₀ : Val) → Is usize y₀ (u₀ ∷ [])
@@ -364,22 +400,22 @@ module _ {M : Type 1} (𝓤 : URA M) (H : Heap 𝓤) (A : Atoms 𝓤) (W : Given
         (to-gather α-outstanding δ-outstanding f-outstanding p-found α-found δ-found f-found y₀ u₀))
     asks-gather α-outstanding δ-outstanding f-outstanding p-found α-found δ-found f-found y₀ u₀ is₀ req =
         qed W (‵ (flft κ₃ q₃) ∷ ‵ Own₃ ∷ ‵ (flft (α-outstanding ∷ []) fullShare)
-        ∷ ‵ (ShrRef (named 0) (α-outstanding ∷ []) (Array u32 32) .own (ref-at b (o + 636) δ-outstanding f-outstanding)
-        ((vptr b (o + 636)) ∷ [])) ∷ ‵ (flft (α-found ∷ []) fullShare)
-        ∷ ‵ (MutRef (named 0) (α-found ∷ []) (Array u32 128) .own (ref-at p-found 0 δ-found f-found) ((vptr p-found 0) ∷ [])) ∷ []) ∵
-        says ! req $ nothing ! $ move ! (5 ∷ 0 ∷ []) $ join ! $ move ! (3 ∷ 0 ∷ []) $ join ! $ move ! (1 ∷ 0 ∷ []) $ join ! $
-        nothing ! $ move ! (4 ∷ 0 ∷ []) $ fjoin ! $ owned ! usize (Is usize) (uint-makes 𝓤 H A W w64) y₀ _ is₀ $ fjoin ! $
-        move ! (3 ∷ 0 ∷ []) $ fjoin ! $ move ! (2 ∷ 0 ∷ []) $ fjoin ! $ move ! (1 ∷ 0 ∷ []) $ done !
+            ∷ ‵ (ShrRef (named 0) (α-outstanding ∷ []) (Array u32 32) .own (ref-at b (o + 636) δ-outstanding f-outstanding)
+            ((vptr b (o + 636)) ∷ [])) ∷ ‵ (flft (α-found ∷ []) fullShare)
+            ∷ ‵ (MutRef (named 0) (α-found ∷ []) (Array u32 128) .own (ref-at p-found 0 δ-found f-found) ((vptr p-found 0) ∷ [])) ∷ []) ∵
+            says ! req $ nothing ! $ move ! (5 ∷ 0 ∷ []) $ join ! $ move ! (3 ∷ 0 ∷ []) $ join ! $ move ! (1 ∷ 0 ∷ []) $ join ! $
+            nothing ! $ move ! (4 ∷ 0 ∷ []) $ fjoin ! $ owned ! usize (Is usize) (uint-makes 𝓤 H A W w64) y₀ _ is₀ $ fjoin ! $
+            move ! (3 ∷ 0 ∷ []) $ fjoin ! $ move ! (2 ∷ 0 ∷ []) $ fjoin ! $ move ! (1 ∷ 0 ∷ []) $ done !
 
     -- what table-len is called at, and that what it asks is had
     abbrev to-table-len : tripleOf 𝓤 H A table-len.signature (table-len.spec 𝓤 H A at-mem run) .Ghost
-    to-table-len = (((κ₃, tt), (q₃, tt), tt, (x₃, tt), (s₃ ∷ [], tt)), tt)
+    to-table-len  = (((κ₃, tt), (q₃, tt), tt, (x₃, tt), (s₃ ∷ [], tt)), tt)
 
-    asks-table-len : ent 𝓤 (⋆ 𝓤 H A (‵ (flft κ₃ q₃) ∷ ‵ Own₃ ∷ []))
-        (tripleOf 𝓤 H A table-len.signature (table-len.spec 𝓤 H A at-mem run) .pre (to-table-len))
-    asks-table-len =
+    asks-table-len :  ent 𝓤 (⋆ 𝓤 H A (‵ (flft κ₃ q₃) ∷ ‵ Own₃ ∷ []))
+        (tripleOf 𝓤 H A table-len.signature (table-len.spec 𝓤 H A at-mem run) .pre (to-table-len ))
+    asks-table-len    =
         qed W (‵ (flft κ₃ q₃) ∷ ‵ Own₃ ∷ []) ∵ nothing ! $ move ! (1 ∷ 0 ∷ []) $ join ! $ nothing ! $ move ! (2 ∷ 0 ∷ []) $ fjoin ! $
-        move ! (1 ∷ 0 ∷ []) $ join ! $ nothing ! $ move ! (1 ∷ 0 ∷ []) $ done !
+            move ! (1 ∷ 0 ∷ []) $ join ! $ nothing ! $ move ! (1 ∷ 0 ∷ []) $ done !
 
     -- what core is called at, and that what it asks is had
     abbrev to-core : (p-found : ℕ) (α-found : ℕ) (δ-found : GName) (f-found : (List ℕ)) (α-queued : ℕ) (δ-queued : GName)
@@ -390,100 +426,25 @@ module _ {M : Type 1} (𝓤 : URA M) (H : Heap 𝓤) (A : Atoms 𝓤) (W : Given
         (y₅ : ℕ) (u₅ : Val) (y₆ : ℕ) (u₆ : Val) → tripleOf 𝓤 H A core.signature (core.spec 𝓤 H A at-mem run) .Ghost
     to-core p-found α-found δ-found f-found α-queued δ-queued f-queued α-outstanding δ-outstanding f-outstanding α-transmissions
         δ-transmissions f-transmissions α-ready δ-ready f-ready α-waiting δ-waiting f-waiting α-waiting-numbers δ-waiting-numbers
-        f-waiting-numbers y₀ u₀ y₁ u₁ y₂ u₂ y₃ u₃ y₄ u₄ y₅ u₅ y₆ u₆ = (
-          (
-            (
-              (α-found ∷ []),
-              (
-                (α-queued ∷ []),
-                (
-                  (α-outstanding ∷ []),
-                  (
-                    (α-transmissions ∷ []),
-                    ((α-ready ∷ []), ((α-waiting ∷ []), ((α-waiting-numbers ∷ []), (κ₁, (κ₂, (κ₄, tt)))))),
-                  ),
-                ),
-              ),
-            ),
-            (fullShare, (fullShare, (fullShare, (fullShare, (fullShare, (fullShare, (fullShare, (q₁, (q₂, (q₄, tt)))))))))),
-            tt,
-            (
-              y₀,
-              (
-                y₁,
-                (
-                  y₂,
-                  (
-                    y₃,
-                    (
-                      y₄,
-                      (
-                        (ref-at p-found 0 δ-found f-found),
-                        (
-                          y₅,
-                          (
-                            (ref-at b (o + 124) δ-queued f-queued),
-                            (
-                              (ref-at b (o + 636) δ-outstanding f-outstanding),
-                              (
-                                (ref-at b (o + 764) δ-transmissions f-transmissions),
-                                (
-                                  (ref-at b (o + 796) δ-ready f-ready),
-                                  (
-                                    (ref-at b (o + 1308) δ-waiting f-waiting),
-                                    ((ref-at b (o + 1820) δ-waiting-numbers f-waiting-numbers), (x₁, (x₂, (x₄, (y₆, tt))))),
-                                  ),
-                                ),
-                              ),
-                            ),
-                          ),
-                        ),
-                      ),
-                    ),
-                  ),
-                ),
-              ),
-            ),
-            (
-              u₀ ∷ [],
-              (
-                u₁ ∷ [],
-                (
-                  u₂ ∷ [],
-                  (
-                    u₃ ∷ [],
-                    (
-                      u₄ ∷ [],
-                      (
-                        (vptr p-found 0) ∷ [],
-                        (
-                          u₅ ∷ [],
-                          (
-                            (vptr b (o + 124)) ∷ [],
-                            (
-                              (vptr b (o + 636)) ∷ [],
-                              (
-                                (vptr b (o + 764)) ∷ [],
-                                (
-                                  (vptr b (o + 796)) ∷ [],
-                                  (
-                                    (vptr b (o + 1308)) ∷ [],
-                                    ((vptr b (o + 1820)) ∷ [], (s₁ ∷ [], (s₂ ∷ [], (s₄ ∷ [], (u₆ ∷ [], tt))))),
-                                  ),
-                                ),
-                              ),
-                            ),
-                          ),
-                        ),
-                      ),
-                    ),
-                  ),
-                ),
-              ),
-            ),
-          ),
-          tt,
-        )
+        f-waiting-numbers y₀ u₀ y₁ u₁ y₂ u₂ y₃ u₃ y₄ u₄ y₅ u₅ y₆ u₆ =
+        ((((α-found ∷ []), ((α-queued ∷ []),
+        ((α-outstanding ∷ []), ((α-transmissions ∷ []),
+        ((α-ready ∷ []), ((α-waiting ∷ []), ((α-waiting-numbers ∷ []), (κ₁, (κ₂, (κ₄, tt)))))))))),
+        (fullShare, (fullShare, (fullShare, (fullShare, (fullShare, (fullShare, (fullShare, (q₁, (q₂, (q₄, tt)))))))))), tt,
+        (y₀, (y₁, (y₂,
+        (y₃, (y₄, ((ref-at p-found 0 δ-found f-found),
+        (y₅, ((ref-at b (o + 124) δ-queued f-queued),
+        ((ref-at b (o + 636) δ-outstanding f-outstanding),
+        ((ref-at b (o + 764) δ-transmissions f-transmissions),
+        ((ref-at b (o + 796) δ-ready f-ready),
+        ((ref-at b (o + 1308) δ-waiting f-waiting),
+        ((ref-at b (o + 1820) δ-waiting-numbers f-waiting-numbers), (x₁, (x₂, (x₄, (y₆, tt))))))))))))))))),
+        (u₀ ∷ [], (u₁ ∷ [], (u₂ ∷ [], (u₃ ∷ [],
+        (u₄ ∷ [], ((vptr p-found 0) ∷ [],
+        (u₅ ∷ [], ((vptr b (o + 124)) ∷ [],
+        ((vptr b (o + 636)) ∷ [], ((vptr b (o + 764)) ∷ [],
+        ((vptr b (o + 796)) ∷ [], ((vptr b (o + 1308)) ∷ [],
+        ((vptr b (o + 1820)) ∷ [], (s₁ ∷ [], (s₂ ∷ [], (s₄ ∷ [], (u₆ ∷ [], tt)))))))))))))))))), tt)
 
     asks-core : (p-found : ℕ) (α-found : ℕ) (δ-found : GName) (f-found : (List ℕ)) (α-queued : ℕ) (δ-queued : GName) (f-queued : (List ℕ))
         (α-outstanding : ℕ) (δ-outstanding : GName) (f-outstanding : (List ℕ)) (α-transmissions : ℕ) (δ-transmissions : GName)
@@ -518,33 +479,33 @@ module _ {M : Type 1} (𝓤 : URA M) (H : Heap 𝓤) (A : Atoms 𝓤) (W : Given
         δ-transmissions f-transmissions α-ready δ-ready f-ready α-waiting δ-waiting f-waiting α-waiting-numbers δ-waiting-numbers
         f-waiting-numbers y₀ u₀ is₀ y₁ u₁ is₁ y₂ u₂ is₂ y₃ u₃ is₃ y₄ u₄ is₄ y₅ u₅ is₅ y₆ u₆ is₆ req =
         qed W (‵ (flft (α-found ∷ []) fullShare)
-        ∷ ‵ (ShrRef (named 0) (α-found ∷ []) (Array u32 128) .own (ref-at p-found 0 δ-found f-found) ((vptr p-found 0) ∷ []))
-        ∷ ‵ (flft (α-queued ∷ []) fullShare)
-        ∷ ‵ (ShrRef (named 0) (α-queued ∷ []) (Array u32 128) .own (ref-at b (o + 124) δ-queued f-queued) ((vptr b (o + 124)) ∷ []))
-        ∷ ‵ (flft (α-outstanding ∷ []) fullShare)
-        ∷ ‵ (ShrRef (named 0) (α-outstanding ∷ []) (Array u32 32) .own (ref-at b (o + 636) δ-outstanding f-outstanding)
-        ((vptr b (o + 636)) ∷ [])) ∷ ‵ (flft (α-transmissions ∷ []) fullShare)
-        ∷ ‵ (ShrRef (named 0) (α-transmissions ∷ []) (Array u8 32) .own (ref-at b (o + 764) δ-transmissions f-transmissions)
-        ((vptr b (o + 764)) ∷ [])) ∷ ‵ (flft (α-ready ∷ []) fullShare)
-        ∷ ‵ (ShrRef (named 0) (α-ready ∷ []) (Array u32 128) .own (ref-at b (o + 796) δ-ready f-ready) ((vptr b (o + 796)) ∷ []))
-        ∷ ‵ (flft (α-waiting ∷ []) fullShare)
-        ∷ ‵ (ShrRef (named 0) (α-waiting ∷ []) (Array u32 128) .own (ref-at b (o + 1308) δ-waiting f-waiting)
-        ((vptr b (o + 1308)) ∷ [])) ∷ ‵ (flft (α-waiting-numbers ∷ []) fullShare)
-        ∷ ‵ (ShrRef (named 0) (α-waiting-numbers ∷ []) (Array u32 128) .own (ref-at b (o + 1820) δ-waiting-numbers f-waiting-numbers)
-        ((vptr b (o + 1820)) ∷ [])) ∷ ‵ (flft κ₁ q₁) ∷ ‵ Own₁ ∷ ‵ (flft κ₂ q₂) ∷ ‵ Own₂ ∷ ‵ (flft κ₄ q₄)
-        ∷ ‵ Own₄ ∷ []) ∵ says ! req $ nothing ! $ move ! (19 ∷ 0 ∷ []) $ join ! $ move ! (17 ∷ 0 ∷ []) $ join ! $
-        move ! (15 ∷ 0 ∷ []) $ join ! $ move ! (13 ∷ 0 ∷ []) $ join ! $ move ! (11 ∷ 0 ∷ []) $ join ! $ move ! (9 ∷ 0 ∷ []) $ join ! $
-        move ! (7 ∷ 0 ∷ []) $ join ! $ move ! (5 ∷ 0 ∷ []) $ join ! $ move ! (3 ∷ 0 ∷ []) $ join ! $ move ! (1 ∷ 0 ∷ []) $ join ! $
-        nothing ! $ owned ! u32 (Is u32) (uint-makes 𝓤 H A W w32) y₆ _ is₆ $ fjoin ! $ move ! (11 ∷ 0 ∷ []) $ fjoin ! $
-        move ! (10 ∷ 0 ∷ []) $ fjoin ! $ move ! (9 ∷ 0 ∷ []) $ fjoin ! $ move ! (8 ∷ 0 ∷ []) $ fjoin ! $ move ! (7 ∷ 0 ∷ []) $ fjoin ! $
-        move ! (6 ∷ 0 ∷ []) $ fjoin ! $ move ! (5 ∷ 0 ∷ []) $ fjoin ! $ move ! (4 ∷ 0 ∷ []) $ fjoin ! $ move ! (3 ∷ 0 ∷ []) $ fjoin ! $
-        owned ! usize (Is usize) (uint-makes 𝓤 H A W w64) y₅ _ is₅ $ fjoin ! $ move ! (2 ∷ 0 ∷ []) $ fjoin ! $
-        owned ! Boolean (Is Boolean) (bool-makes 𝓤 H A W) y₄ _ is₄ $ fjoin ! $
-        owned ! clock-row.the-row (Is clock-row.the-row) (LL.makes clock-row.the-type clock-laws.the-plain 𝓤 H A) y₃ _ is₃ $ fjoin ! $
-        owned ! arrival-row.the-row (Is arrival-row.the-row) (LL.makes arrival-row.the-type arrival-laws.the-plain 𝓤 H A) y₂ _ is₂ $
-        fjoin ! $ owned ! flight-row.the-row (Is flight-row.the-row) (LL.makes flight-row.the-type flight-laws.the-plain 𝓤 H A) y₁ _
-        is₁ $ fjoin ! $ owned ! settings-row.the-row (Is settings-row.the-row)
-        (LL.makes settings-row.the-type settings-laws.the-plain 𝓤 H A) y₀ _ is₀ $ fjoin ! $ move ! (1 ∷ 0 ∷ []) $ done !
+            ∷ ‵ (ShrRef (named 0) (α-found ∷ []) (Array u32 128) .own (ref-at p-found 0 δ-found f-found) ((vptr p-found 0) ∷ []))
+            ∷ ‵ (flft (α-queued ∷ []) fullShare)
+            ∷ ‵ (ShrRef (named 0) (α-queued ∷ []) (Array u32 128) .own (ref-at b (o + 124) δ-queued f-queued) ((vptr b (o + 124)) ∷ []))
+            ∷ ‵ (flft (α-outstanding ∷ []) fullShare)
+            ∷ ‵ (ShrRef (named 0) (α-outstanding ∷ []) (Array u32 32) .own (ref-at b (o + 636) δ-outstanding f-outstanding)
+            ((vptr b (o + 636)) ∷ [])) ∷ ‵ (flft (α-transmissions ∷ []) fullShare)
+            ∷ ‵ (ShrRef (named 0) (α-transmissions ∷ []) (Array u8 32) .own (ref-at b (o + 764) δ-transmissions f-transmissions)
+            ((vptr b (o + 764)) ∷ [])) ∷ ‵ (flft (α-ready ∷ []) fullShare)
+            ∷ ‵ (ShrRef (named 0) (α-ready ∷ []) (Array u32 128) .own (ref-at b (o + 796) δ-ready f-ready) ((vptr b (o + 796)) ∷ []))
+            ∷ ‵ (flft (α-waiting ∷ []) fullShare)
+            ∷ ‵ (ShrRef (named 0) (α-waiting ∷ []) (Array u32 128) .own (ref-at b (o + 1308) δ-waiting f-waiting)
+            ((vptr b (o + 1308)) ∷ [])) ∷ ‵ (flft (α-waiting-numbers ∷ []) fullShare)
+            ∷ ‵ (ShrRef (named 0) (α-waiting-numbers ∷ []) (Array u32 128) .own (ref-at b (o + 1820) δ-waiting-numbers f-waiting-numbers)
+            ((vptr b (o + 1820)) ∷ [])) ∷ ‵ (flft κ₁ q₁) ∷ ‵ Own₁ ∷ ‵ (flft κ₂ q₂) ∷ ‵ Own₂ ∷ ‵ (flft κ₄ q₄)
+            ∷ ‵ Own₄ ∷ []) ∵ says ! req $ nothing ! $ move ! (19 ∷ 0 ∷ []) $ join ! $ move ! (17 ∷ 0 ∷ []) $ join ! $
+            move ! (15 ∷ 0 ∷ []) $ join ! $ move ! (13 ∷ 0 ∷ []) $ join ! $ move ! (11 ∷ 0 ∷ []) $ join ! $ move ! (9 ∷ 0 ∷ []) $ join ! $
+            move ! (7 ∷ 0 ∷ []) $ join ! $ move ! (5 ∷ 0 ∷ []) $ join ! $ move ! (3 ∷ 0 ∷ []) $ join ! $ move ! (1 ∷ 0 ∷ []) $ join ! $
+            nothing ! $ owned ! u32 (Is u32) (uint-makes 𝓤 H A W w32) y₆ _ is₆ $ fjoin ! $ move ! (11 ∷ 0 ∷ []) $ fjoin ! $
+            move ! (10 ∷ 0 ∷ []) $ fjoin ! $ move ! (9 ∷ 0 ∷ []) $ fjoin ! $ move ! (8 ∷ 0 ∷ []) $ fjoin ! $ move ! (7 ∷ 0 ∷ []) $ fjoin ! $
+            move ! (6 ∷ 0 ∷ []) $ fjoin ! $ move ! (5 ∷ 0 ∷ []) $ fjoin ! $ move ! (4 ∷ 0 ∷ []) $ fjoin ! $ move ! (3 ∷ 0 ∷ []) $ fjoin ! $
+            owned ! usize (Is usize) (uint-makes 𝓤 H A W w64) y₅ _ is₅ $ fjoin ! $ move ! (2 ∷ 0 ∷ []) $ fjoin ! $
+            owned ! Boolean (Is Boolean) (bool-makes 𝓤 H A W) y₄ _ is₄ $ fjoin ! $
+            owned ! clock-row.the-row (Is clock-row.the-row) (LL.makes clock-row.the-type clock-laws.the-plain 𝓤 H A) y₃ _ is₃ $ fjoin ! $
+            owned ! arrival-row.the-row (Is arrival-row.the-row) (LL.makes arrival-row.the-type arrival-laws.the-plain 𝓤 H A) y₂ _ is₂ $
+            fjoin ! $ owned ! flight-row.the-row (Is flight-row.the-row) (LL.makes flight-row.the-type flight-laws.the-plain 𝓤 H A) y₁ _
+            is₁ $ fjoin ! $ owned ! settings-row.the-row (Is settings-row.the-row)
+            (LL.makes settings-row.the-type settings-laws.the-plain 𝓤 H A) y₀ _ is₀ $ fjoin ! $ move ! (1 ∷ 0 ∷ []) $ done !
 
     -- what code-of is called at, and that what it asks is had
     abbrev to-code-of : (y₀ : Time) (u₀ : Val) → tripleOf 𝓤 H A code-of.signature (code-of.spec 𝓤 H A at-mem run) .Ghost
@@ -553,10 +514,10 @@ module _ {M : Type 1} (𝓤 : URA M) (H : Heap 𝓤) (A : Atoms 𝓤) (W : Given
     asks-code-of : (y₀ : Time) (u₀ : Val) → Is time-row.the-row y₀ (u₀ ∷ [])
         → ent 𝓤 (⋆ 𝓤 H A (‵ (flft κ₅ q₅) ∷ ‵ Own₆ ∷ []))
         (tripleOf 𝓤 H A code-of.signature (code-of.spec 𝓤 H A at-mem run) .pre (to-code-of y₀ u₀))
-    asks-code-of y₀ u₀ is₀ =
+    asks-code-of  y₀ u₀ is₀  =
         qed W (‵ (flft κ₅ q₅) ∷ ‵ Own₆ ∷ []) ∵ nothing ! $ move ! (1 ∷ 0 ∷ []) $ join ! $ nothing ! $ move ! (2 ∷ 0 ∷ []) $ fjoin ! $
-        owned ! time-row.the-row (Is time-row.the-row) (EL.makes time-row.the-type time-laws.the-plain 𝓤 H A) y₀ _ is₀ $ fjoin ! $
-        move ! (1 ∷ 0 ∷ []) $ join ! $ nothing ! $ move ! (1 ∷ 0 ∷ []) $ done !
+            owned ! time-row.the-row (Is time-row.the-row) (EL.makes time-row.the-type time-laws.the-plain 𝓤 H A) y₀ _ is₀ $ fjoin ! $
+            move ! (1 ∷ 0 ∷ []) $ join ! $ nothing ! $ move ! (1 ∷ 0 ∷ []) $ done !
 
     abbrev Had : (z₆ : ℕ) → List (Item 𝓤)
     Had z₆ = ‵ (flft κ₀ q₀) ∷ ‵ (flft κ₁ q₁) ∷ ‵ (flft κ₂ q₂) ∷ ‵ (flft κ₃ q₃) ∷ ‵ (flft κ₄ q₄)
@@ -566,248 +527,419 @@ module _ {M : Type 1} (𝓤 : URA M) (H : Heap 𝓤) (A : Atoms 𝓤) (W : Given
     abbrev Said : (r : ℤ) (z₆ : ℕ) → Type 0
     Said r z₆ = Gives timeCode (λ a. TimePromise x₅ h (partsOf (x₁ .now) (x₂ .now) (x₃ .now) (x₄ .now)) a (x₆ .now) z₆) r
 
-    exits : (r : ℤ) (w : Val) (z₆ : ℕ) → Said r z₆ → Is i32 r (w ∷ []) → ent 𝓤 (⋆ 𝓤 H A (Had z₆)) (Post w)
+    exits : (r : ℤ) (w : Val) (z₆ : ℕ) → Said r z₆  → Is i32 r (w ∷ []) → ent 𝓤 (⋆ 𝓤 H A (Had z₆)) (Post w)
     unfolding Post
-    exits r w z₆ e g =
+    exits r w z₆ e  g =
         qed W (Had z₆) ∵ suffices ! _ (ends-at 𝓤 H A f.ended stayed (f.clauses 𝓤 H A at-mem run) W
-        (((κ₀, (κ₁, (κ₂, (κ₃, (κ₄, (κ₅, tt)))))), (q₀, (q₁, (q₂, (q₃, (q₄, (q₅, tt)))))), tt, x, at), tt) w r
-        (tt, (tt, (tt, (tt, (tt, (tt, (z₆, tt))))))) (tt, (tt, (tt, (tt, (tt, (tt, (tt, tt)))))))) $ says ! e $
+            (((κ₀, (κ₁, (κ₂, (κ₃, (κ₄, (κ₅, tt)))))), (q₀, (q₁, (q₂, (q₃, (q₄, (q₅, tt)))))), tt, x, at), tt) w r
+            (tt, (tt, (tt, (tt, (tt, (tt, (z₆, tt))))))) (tt, (tt, (tt, (tt, (tt, (tt, (tt, tt)))))))) $ says ! e $
         nothing ! $ move ! (7 ∷ 0 ∷ []) $ join ! $ move ! (5 ∷ 0 ∷ []) $ join ! $ move ! (4 ∷ 0 ∷ []) $ join ! $ move ! (3 ∷ 0 ∷ []) $
-        join ! $ move ! (2 ∷ 0 ∷ []) $ join ! $ move ! (1 ∷ 0 ∷ []) $ join ! $ frame ! $ nothing ! $ move ! (1 ∷ 0 ∷ []) $ fjoin ! $
-        nothing ! $ fjoin ! $ nothing ! $ fjoin ! $ nothing ! $ fjoin ! $ nothing ! $ fjoin ! $ nothing ! $ fjoin ! $ nothing ! $
-        fjoin ! $ frame ! $ owned ! i32 (Is i32) (sint-makes 𝓤 H A W w32) r _ g $ done !
+            join ! $ move ! (2 ∷ 0 ∷ []) $ join ! $ move ! (1 ∷ 0 ∷ []) $ join ! $ frame ! $ nothing ! $ move ! (1 ∷ 0 ∷ []) $ fjoin ! $
+            nothing ! $ fjoin ! $ nothing ! $ fjoin ! $ nothing ! $ fjoin ! $ nothing ! $ fjoin ! $ nothing ! $ fjoin ! $ nothing ! $
+            fjoin ! $ frame ! $ owned ! i32 (Is i32) (sint-makes 𝓤 H A W w32) r _ g $ done !
 
     module _ (C : Calls 𝓤 H) (Λ : Loops 𝓤 H) (fm : FmC 𝓤 H (W .laws) C) (known : Known C) where
       -- where the locals lie
-      abbrev En : (l₀ l₁ l₂ l₃ l₄ l₅ l₆ l₇ l₈ l₉ l₁₀ l₁₁ l₁₂ l₁₃ l₁₄ l₁₅ l₁₆ l₁₇ l₁₈ l₁₉ l₂₀
-          l₂₁ l₂₂ l₂₃ l₂₄ l₂₅ l₂₆ l₂₇ l₂₈ l₂₉ l₃₀ l₃₁ l₃₂ l₃₃ l₃₄ : ℕ) → Env 𝓤 H
-      En l₀ l₁ l₂ l₃ l₄ l₅ l₆ l₇ l₈ l₉ l₁₀ l₁₁ l₁₂ l₁₃ l₁₄ l₁₅ l₁₆ l₁₇ l₁₈ l₁₉ l₂₀ l₂₁
-          l₂₂ l₂₃ l₂₄ l₂₅ l₂₆ l₂₇ l₂₈ l₂₉ l₃₀ l₃₁ l₃₂ l₃₃ l₃₄ =
-          envOf (code.function .locals) (l₀ ∷ l₁ ∷ l₂ ∷ l₃ ∷ l₄ ∷ l₅ ∷ l₆ ∷ l₇ ∷ l₈ ∷ l₉ ∷ l₁₀ ∷ l₁₁
-          ∷ l₁₂ ∷ l₁₃ ∷ l₁₄ ∷ l₁₅ ∷ l₁₆ ∷ l₁₇ ∷ l₁₈ ∷ l₁₉ ∷ l₂₀ ∷ l₂₁ ∷ l₂₂ ∷ l₂₃
-          ∷ l₂₄ ∷ l₂₅ ∷ l₂₆ ∷ l₂₇ ∷ l₂₈ ∷ l₂₉ ∷ l₃₀ ∷ l₃₁ ∷ l₃₂ ∷ l₃₃ ∷ l₃₄ ∷ [])
+      abbrev En : (ℕ → ℕ) → Env 𝓤 H
+      En p = envAt (code.function .locals) p
 
-      -- what part 3 knows
-      abbrev Known₃ : Type 0
-      Known₃ = (z-found : List ℕ) × (z-receives : List ℕ) × (z-sends : List ℕ) × (l₀ : ℕ) × (l₁ : ℕ) × (l₂ : ℕ) × (l₃ : ℕ) ×
-          (l₄ : ℕ) × (l₅ : ℕ) × (l₆ : ℕ) × (l₇ : ℕ) × (l₈ : ℕ) × (l₉ : ℕ) × (l₁₀ : ℕ) × (l₁₁ : ℕ) ×
-          (l₁₂ : ℕ) × (l₁₃ : ℕ) × (l₁₄ : ℕ) × (l₁₅ : ℕ) × (l₁₆ : ℕ) × (l₁₇ : ℕ) × (l₁₈ : ℕ) ×
-          (l₁₉ : ℕ) × (l₂₀ : ℕ) × (l₂₁ : ℕ) × (l₂₂ : ℕ) × (l₂₃ : ℕ) × (l₂₄ : ℕ) × (l₂₅ : ℕ) ×
-          (l₂₆ : ℕ) × (l₂₇ : ℕ) × (l₂₈ : ℕ) × (l₂₉ : ℕ) × (l₃₀ : ℕ) × (l₃₁ : ℕ) × (l₃₂ : ℕ) ×
-          (l₃₃ : ℕ) × (l₃₄ : ℕ) × (w-sends : Val) × (w-receives : Val) × (w-ok : Val) × (q′ : Share) × (n : ℕ) × (w-n : Val) ×
-          (e-n : n ≡ h .flight .outstanding) × (w-found : Val) × (w-g : Val) ×
-          (e-g : (length z-found ≡ 128) × (recordsIn z-found ≡ padded (gathered (take sendSlots (x₃ .now)) (slotsIn (h .outstanding) n)))) ×
-          (m : ℕ) × (w-m : Val) × (e-m : m ≡ length (x₃ .now)) × (a : Time) × (w-a : Val) ×
-          (e-a : timeOutcome a ≡ checksWith h (recordsIn z-found) (x₄ .now) (lentLengths m (x₁ .now) (x₂ .now) (x₄ .now)) x₅) ×
-          (Is time-row.the-row a (w-a ∷ []))
+      -- what part 1 knows, what it tells; what it has, and leaves
+      abbrev Known₁ : Type 0
+      Known₁ = Unit {0}
 
-      part₃ : (past : Known₃) → ent 𝓤 (⋆ 𝓤 H A (‵ (partAt (Array u32 128) (past .41) (h .«waiting_numbers») b (o + 1820))
-          ∷ ‵ (partAt (Array u32 128) (past .41) (h .waiting) b (o + 1308)) ∷ ‵ (partAt (Array u32 128) (past .41) (h .ready) b (o + 796))
-          ∷ ‵ (partAt (Array u8 32) (past .41) (h .transmissions) b (o + 764))
-          ∷ ‵ (partAt (Array u32 32) (past .41) (h .outstanding) b (o + 636))
-          ∷ ‵ (partAt (Array u32 128) (past .41) (h .queued) b (o + 124))
-          ∷ ‵ (fat fullShare (tyArray (tyInt w32) 128) (past .19) 0 ((only ((array-vals (uint-vals w32)) (past .0))))) ∷ ‵ (flft κ₁ q₁)
-          ∷ ‵ (flft κ₂ q₂) ∷ ‵ (flft κ₄ q₄) ∷ ‵ (flft κ₃ q₃) ∷ ‵ (partAt clock-row.the-row (past .41) (h .clock) b (o + 104))
-          ∷ ‵ (partAt arrival-row.the-row (past .41) (h .arrival) b (o + 72))
-          ∷ ‵ (partAt flight-row.the-row (past .41) (h .flight) b (o + 16))
-          ∷ ‵ (partAt settings-row.the-row (past .41) (h .settings) b (o + 0)) ∷ raw (Back 𝓤 H A (past .41) b o)
-          ∷ ‵ (fobor κ₀ q₀ (partAt L (past .41) h b o))
-          ∷ ‵ (fat fullShare (tyArray (tyInt w8) 256) (past .12) 0 ((only ((array-vals (uint-vals w8)) (past .1)))))
-          ∷ ‵ (fat fullShare (tyArray (tyInt w8) 128) (past .11) 0 ((only ((array-vals (uint-vals w8)) (past .2)))))
-          ∷ (‵ (fdies (tyInt w32) (past .3)) ⊛ ‵ (fdies (tyRef (named 0) imm (pointee (L .written))) (past .4)) ⊛ ‵
-          (fdies (sliceTy (tyRef (named 1) imm (tyInt w8))) (past .5)) ⊛ ‵ (fdies (sliceTy (tyRef (named 2) imm (tyInt w8))) (past .6)) ⊛ ‵
-          (fdies (sliceTy (tyRef (named 3) imm (pointee (R .written)))) (past .7)) ⊛ ‵
-          (fdies (sliceTy (tyRef (named 4) imm (tyInt w32))) (past .8)) ⊛ ‵ (fdies (tyInt w32) (past .9)) ⊛ ‵
-          (fdies (tyRef (named 5) mut (tyInt w32)) (past .10)) ⊛ ‵ (fdies (tyArray (tyInt w8) 128) (past .11)) ⊛ ‵
-          (fdies (tyArray (tyInt w8) 256) (past .12)) ⊛ ‵ (fdies tyBool (past .13)) ⊛ ‵ (fdies settings-laws.mir (past .14)) ⊛ ‵
-          (fdies flight-laws.mir (past .15)) ⊛ ‵ (fdies arrival-laws.mir (past .16)) ⊛ ‵ (fdies clock-laws.mir (past .17)) ⊛ ‵
-          (fdies (tyInt w64) (past .18)) ⊛ ‵ (fdies (tyArray (tyInt w32) 128) (past .19)) ⊛ ‵ (fdies (tyInt w64) (past .20)) ⊛ ‵
-          (fdies time-laws.mir (past .21)) ⊛ ‵ (fdies (tyArray (tyInt w8) 128) (past .22)) ⊛ ‵ (fdies (tyArray (tyInt w8) 256) (past .23)) ⊛
-          ‵ (fdies (tyRef erased mut (tyArray (tyInt w8) 128)) (past .24)) ⊛ ‵
-          (fdies (tyRef erased mut (tyArray (tyInt w8) 256)) (past .25)) ⊛ ‵ (fdies (tyArray (tyInt w32) 128) (past .26)) ⊛ ‵
-          (fdies tyUnit (past .27)) ⊛ ‵ (fdies (tyRef erased imm (tyArray (tyInt w32) 32)) (past .28)) ⊛ ‵
-          (fdies (tyRef erased mut (tyArray (tyInt w32) 128)) (past .29)) ⊛ ‵
-          (fdies (tyRef erased imm (tyArray (tyInt w32) 128)) (past .30)) ⊛ ‵
-          (fdies (tyRef erased imm (tyArray (tyInt w32) 128)) (past .31)) ⊛ ‵ (fdies (tyRef erased imm (tyArray (tyInt w32) 32)) (past .32))
-          ⊛ ‵ (fdies (tyRef erased imm (tyArray (tyInt w8) 32)) (past .33)) ⊛ ‵
-          (fdies (tyRef erased imm (tyArray (tyInt w32) 128)) (past .34)) ⊛ ‵
-          (fdies (tyRef erased imm (tyArray (tyInt w32) 128)) (past .35)) ⊛ ‵
-          (fdies (tyRef erased imm (tyArray (tyInt w32) 128)) (past .36)) ⊛ ‵ (fdies (tyRef erased mut (tyInt w32)) (past .37)))
-          ∷ ‵ (flft κ₅ q₅) ∷ ‵ Own₆ ∷ ‵ (froom (tyRef erased mut (tyInt w32)) (past .37) 0)
-          ∷ ‵ (fat fullShare (tyRef erased imm (tyArray (tyInt w32) 128)) (past .36) 0 ((vptr b (o + 1820))))
-          ∷ ‵ (fat fullShare (tyRef erased imm (tyArray (tyInt w32) 128)) (past .35) 0 ((vptr b (o + 1308))))
-          ∷ ‵ (fat fullShare (tyRef erased imm (tyArray (tyInt w32) 128)) (past .34) 0 ((vptr b (o + 796))))
-          ∷ ‵ (fat fullShare (tyRef erased imm (tyArray (tyInt w8) 32)) (past .33) 0 ((vptr b (o + 764))))
-          ∷ ‵ (fat fullShare (tyRef erased imm (tyArray (tyInt w32) 32)) (past .32) 0 ((vptr b (o + 636))))
-          ∷ ‵ (fat fullShare (tyRef erased imm (tyArray (tyInt w32) 128)) (past .31) 0 ((vptr b (o + 124))))
-          ∷ ‵ (fat fullShare (tyRef erased imm (tyArray (tyInt w32) 128)) (past .30) 0 ((vptr (past .19) 0)))
-          ∷ ‵ (fat fullShare (tyRef erased mut (tyArray (tyInt w32) 128)) (past .29) 0 ((vptr (past .19) 0)))
-          ∷ ‵ (fat fullShare (tyRef erased imm (tyArray (tyInt w32) 32)) (past .28) 0 ((vptr b (o + 636))))
-          ∷ ‵ (fat fullShare tyUnit (past .27) 0 ((past .46))) ∷ ‵ (fat fullShare (tyArray (tyInt w32) 128) (past .26) 0 ((past .45)))
-          ∷ ‵ (fat fullShare (tyRef erased mut (tyArray (tyInt w8) 256)) (past .25) 0 ((vptr (past .12) 0)))
-          ∷ ‵ (fat fullShare (tyRef erased mut (tyArray (tyInt w8) 128)) (past .24) 0 ((vptr (past .11) 0)))
-          ∷ ‵ (fat fullShare (tyArray (tyInt w8) 256) (past .23) 0 ((past .39)))
-          ∷ ‵ (fat fullShare (tyArray (tyInt w8) 128) (past .22) 0 ((past .38))) ∷ ‵ (fat fullShare time-laws.mir (past .21) 0 ((past .52)))
-          ∷ ‵ (fat fullShare (tyInt w64) (past .20) 0 ((past .49))) ∷ ‵ (fat fullShare (tyInt w64) (past .18) 0 ((past .43)))
-          ∷ ‵ (fat fullShare clock-laws.mir (past .17) 0 ((only ((LL.vals clock-row.the-type clock-laws.the-laws) (h .clock)))))
-          ∷ ‵ (fat fullShare arrival-laws.mir (past .16) 0 ((only ((LL.vals arrival-row.the-type arrival-laws.the-laws) (h .arrival)))))
-          ∷ ‵ (fat fullShare flight-laws.mir (past .15) 0 ((only ((LL.vals flight-row.the-type flight-laws.the-laws) (h .flight)))))
-          ∷ ‵ (fat fullShare settings-laws.mir (past .14) 0 ((only ((LL.vals settings-row.the-type settings-laws.the-laws) (h .settings)))))
-          ∷ ‵ (fat fullShare tyBool (past .13) 0 ((past .40))) ∷ ‵ (fat fullShare (tyRef (named 5) mut (tyInt w32)) (past .10) 0 (s₆))
-          ∷ ‵ (fat fullShare (tyInt w32) (past .9) 0 (v₅)) ∷ ‵ (fat fullShare (sliceTy (tyRef (named 4) imm (tyInt w32))) (past .8) 0 (s₄))
-          ∷ ‵ (fat fullShare (sliceTy (tyRef (named 3) imm (pointee (R .written)))) (past .7) 0 (s₃))
-          ∷ ‵ (fat fullShare (sliceTy (tyRef (named 2) imm (tyInt w8))) (past .6) 0 (s₂))
-          ∷ ‵ (fat fullShare (sliceTy (tyRef (named 1) imm (tyInt w8))) (past .5) 0 (s₁))
-          ∷ ‵ (fat fullShare (tyRef (named 0) imm (pointee (L .written))) (past .4) 0 (vptr b o)) ∷ ‵ (froom (tyInt w32) (past .3) 0) ∷ []))
-          (Wp 𝓤 H C Λ (En (past .3) (past .4) (past .5) (past .6) (past .7) (past .8) (past .9) (past .10) (past .11) (past .12) (past .13)
-          (past .14) (past .15) (past .16) (past .17) (past .18) (past .19) (past .20) (past .21) (past .22) (past .23) (past .24)
-          (past .25) (past .26) (past .27) (past .28) (past .29) (past .30) (past .31) (past .32) (past .33) (past .34) (past .35)
-          (past .36) (past .37)) (behind 26 (code.function .body))
-          (atReturn 𝓤 H (En (past .3) (past .4) (past .5) (past .6) (past .7) (past .8) (past .9) (past .10) (past .11) (past .12)
-          (past .13) (past .14) (past .15) (past .16) (past .17) (past .18) (past .19) (past .20) (past .21) (past .22) (past .23)
-          (past .24) (past .25) (past .26) (past .27) (past .28) (past .29) (past .30) (past .31) (past .32) (past .33) (past .34)
-          (past .35) (past .36) (past .37)) Post))
-      part₃ past =
-          qed W (‵ (partAt (Array u32 128) (past .41) (h .«waiting_numbers») b (o + 1820))
-          ∷ ‵ (partAt (Array u32 128) (past .41) (h .waiting) b (o + 1308))
-          ∷ ‵ (partAt (Array u32 128) (past .41) (h .ready) b (o + 796))
-          ∷ ‵ (partAt (Array u8 32) (past .41) (h .transmissions) b (o + 764))
-          ∷ ‵ (partAt (Array u32 32) (past .41) (h .outstanding) b (o + 636))
-          ∷ ‵ (partAt (Array u32 128) (past .41) (h .queued) b (o + 124))
-          ∷ ‵ (fat fullShare (tyArray (tyInt w32) 128) (past .19) 0 ((only ((array-vals (uint-vals w32)) (past .0))))) ∷ ‵ (flft κ₁ q₁)
-          ∷ ‵ (flft κ₂ q₂) ∷ ‵ (flft κ₄ q₄) ∷ ‵ (flft κ₃ q₃) ∷ ‵ (partAt clock-row.the-row (past .41) (h .clock) b (o + 104))
-          ∷ ‵ (partAt arrival-row.the-row (past .41) (h .arrival) b (o + 72))
-          ∷ ‵ (partAt flight-row.the-row (past .41) (h .flight) b (o + 16))
-          ∷ ‵ (partAt settings-row.the-row (past .41) (h .settings) b (o + 0)) ∷ raw (Back 𝓤 H A (past .41) b o)
-          ∷ ‵ (fobor κ₀ q₀ (partAt L (past .41) h b o))
-          ∷ ‵ (fat fullShare (tyArray (tyInt w8) 256) (past .12) 0 ((only ((array-vals (uint-vals w8)) (past .1)))))
-          ∷ ‵ (fat fullShare (tyArray (tyInt w8) 128) (past .11) 0 ((only ((array-vals (uint-vals w8)) (past .2)))))
-          ∷ (‵ (fdies (tyInt w32) (past .3)) ⊛ ‵ (fdies (tyRef (named 0) imm (pointee (L .written))) (past .4)) ⊛ ‵
-          (fdies (sliceTy (tyRef (named 1) imm (tyInt w8))) (past .5)) ⊛ ‵ (fdies (sliceTy (tyRef (named 2) imm (tyInt w8))) (past .6))
-          ⊛ ‵ (fdies (sliceTy (tyRef (named 3) imm (pointee (R .written)))) (past .7)) ⊛ ‵
-          (fdies (sliceTy (tyRef (named 4) imm (tyInt w32))) (past .8)) ⊛ ‵ (fdies (tyInt w32) (past .9)) ⊛ ‵
-          (fdies (tyRef (named 5) mut (tyInt w32)) (past .10)) ⊛ ‵ (fdies (tyArray (tyInt w8) 128) (past .11)) ⊛ ‵
-          (fdies (tyArray (tyInt w8) 256) (past .12)) ⊛ ‵ (fdies tyBool (past .13)) ⊛ ‵ (fdies settings-laws.mir (past .14)) ⊛ ‵
-          (fdies flight-laws.mir (past .15)) ⊛ ‵ (fdies arrival-laws.mir (past .16)) ⊛ ‵ (fdies clock-laws.mir (past .17)) ⊛ ‵
-          (fdies (tyInt w64) (past .18)) ⊛ ‵ (fdies (tyArray (tyInt w32) 128) (past .19)) ⊛ ‵ (fdies (tyInt w64) (past .20)) ⊛ ‵
-          (fdies time-laws.mir (past .21)) ⊛ ‵ (fdies (tyArray (tyInt w8) 128) (past .22)) ⊛ ‵
-          (fdies (tyArray (tyInt w8) 256) (past .23)) ⊛ ‵ (fdies (tyRef erased mut (tyArray (tyInt w8) 128)) (past .24)) ⊛ ‵
-          (fdies (tyRef erased mut (tyArray (tyInt w8) 256)) (past .25)) ⊛ ‵ (fdies (tyArray (tyInt w32) 128) (past .26)) ⊛ ‵
-          (fdies tyUnit (past .27)) ⊛ ‵ (fdies (tyRef erased imm (tyArray (tyInt w32) 32)) (past .28)) ⊛ ‵
-          (fdies (tyRef erased mut (tyArray (tyInt w32) 128)) (past .29)) ⊛ ‵
-          (fdies (tyRef erased imm (tyArray (tyInt w32) 128)) (past .30)) ⊛ ‵
-          (fdies (tyRef erased imm (tyArray (tyInt w32) 128)) (past .31)) ⊛ ‵
-          (fdies (tyRef erased imm (tyArray (tyInt w32) 32)) (past .32)) ⊛ ‵
-          (fdies (tyRef erased imm (tyArray (tyInt w8) 32)) (past .33)) ⊛ ‵
-          (fdies (tyRef erased imm (tyArray (tyInt w32) 128)) (past .34)) ⊛ ‵
-          (fdies (tyRef erased imm (tyArray (tyInt w32) 128)) (past .35)) ⊛ ‵
-          (fdies (tyRef erased imm (tyArray (tyInt w32) 128)) (past .36)) ⊛ ‵ (fdies (tyRef erased mut (tyInt w32)) (past .37)))
-          ∷ ‵ (flft κ₅ q₅) ∷ ‵ Own₆ ∷ ‵ (froom (tyRef erased mut (tyInt w32)) (past .37) 0)
-          ∷ ‵ (fat fullShare (tyRef erased imm (tyArray (tyInt w32) 128)) (past .36) 0 ((vptr b (o + 1820))))
-          ∷ ‵ (fat fullShare (tyRef erased imm (tyArray (tyInt w32) 128)) (past .35) 0 ((vptr b (o + 1308))))
-          ∷ ‵ (fat fullShare (tyRef erased imm (tyArray (tyInt w32) 128)) (past .34) 0 ((vptr b (o + 796))))
-          ∷ ‵ (fat fullShare (tyRef erased imm (tyArray (tyInt w8) 32)) (past .33) 0 ((vptr b (o + 764))))
-          ∷ ‵ (fat fullShare (tyRef erased imm (tyArray (tyInt w32) 32)) (past .32) 0 ((vptr b (o + 636))))
-          ∷ ‵ (fat fullShare (tyRef erased imm (tyArray (tyInt w32) 128)) (past .31) 0 ((vptr b (o + 124))))
-          ∷ ‵ (fat fullShare (tyRef erased imm (tyArray (tyInt w32) 128)) (past .30) 0 ((vptr (past .19) 0)))
-          ∷ ‵ (fat fullShare (tyRef erased mut (tyArray (tyInt w32) 128)) (past .29) 0 ((vptr (past .19) 0)))
-          ∷ ‵ (fat fullShare (tyRef erased imm (tyArray (tyInt w32) 32)) (past .28) 0 ((vptr b (o + 636))))
-          ∷ ‵ (fat fullShare tyUnit (past .27) 0 ((past .46))) ∷ ‵ (fat fullShare (tyArray (tyInt w32) 128) (past .26) 0 ((past .45)))
-          ∷ ‵ (fat fullShare (tyRef erased mut (tyArray (tyInt w8) 256)) (past .25) 0 ((vptr (past .12) 0)))
-          ∷ ‵ (fat fullShare (tyRef erased mut (tyArray (tyInt w8) 128)) (past .24) 0 ((vptr (past .11) 0)))
-          ∷ ‵ (fat fullShare (tyArray (tyInt w8) 256) (past .23) 0 ((past .39)))
-          ∷ ‵ (fat fullShare (tyArray (tyInt w8) 128) (past .22) 0 ((past .38)))
-          ∷ ‵ (fat fullShare time-laws.mir (past .21) 0 ((past .52))) ∷ ‵ (fat fullShare (tyInt w64) (past .20) 0 ((past .49)))
-          ∷ ‵ (fat fullShare (tyInt w64) (past .18) 0 ((past .43)))
-          ∷ ‵ (fat fullShare clock-laws.mir (past .17) 0 ((only ((LL.vals clock-row.the-type clock-laws.the-laws) (h .clock)))))
-          ∷ ‵ (fat fullShare arrival-laws.mir (past .16) 0 ((only ((LL.vals arrival-row.the-type arrival-laws.the-laws) (h .arrival)))))
-          ∷ ‵ (fat fullShare flight-laws.mir (past .15) 0 ((only ((LL.vals flight-row.the-type flight-laws.the-laws) (h .flight)))))
-          ∷ ‵ (fat fullShare settings-laws.mir (past .14) 0
-          ((only ((LL.vals settings-row.the-type settings-laws.the-laws) (h .settings)))))
-          ∷ ‵ (fat fullShare tyBool (past .13) 0 ((past .40))) ∷ ‵ (fat fullShare (tyRef (named 5) mut (tyInt w32)) (past .10) 0 (s₆))
-          ∷ ‵ (fat fullShare (tyInt w32) (past .9) 0 (v₅))
-          ∷ ‵ (fat fullShare (sliceTy (tyRef (named 4) imm (tyInt w32))) (past .8) 0 (s₄))
-          ∷ ‵ (fat fullShare (sliceTy (tyRef (named 3) imm (pointee (R .written)))) (past .7) 0 (s₃))
-          ∷ ‵ (fat fullShare (sliceTy (tyRef (named 2) imm (tyInt w8))) (past .6) 0 (s₂))
-          ∷ ‵ (fat fullShare (sliceTy (tyRef (named 1) imm (tyInt w8))) (past .5) 0 (s₁))
-          ∷ ‵ (fat fullShare (tyRef (named 0) imm (pointee (L .written))) (past .4) 0 (vptr b o)) ∷ ‵ (froom (tyInt w32) (past .3) 0)
-          ∷ []) ∵ exec ! C Λ (En (past .3) (past .4) (past .5) (past .6) (past .7) (past .8) (past .9) (past .10) (past .11) (past .12)
-          (past .13) (past .14) (past .15) (past .16) (past .17) (past .18) (past .19) (past .20) (past .21) (past .22) (past .23)
-          (past .24) (past .25) (past .26) (past .27) (past .28) (past .29) (past .30) (past .31) (past .32) (past .33) (past .34)
-          (past .35) (past .36) (past .37)) (behind 26 (code.function .body))
-          (atRet (En (past .3) (past .4) (past .5) (past .6) (past .7) (past .8) (past .9) (past .10) (past .11) (past .12) (past .13)
-          (past .14) (past .15) (past .16) (past .17) (past .18) (past .19) (past .20) (past .21) (past .22) (past .23) (past .24)
-          (past .25) (past .26) (past .27) (past .28) (past .29) (past .30) (past .31) (past .32) (past .33) (past .34) (past .35)
-          (past .36) (past .37)) Post) $
-          assigns ! {v = s₆} (addr ! (from ! (hop ! (look ! 46 refl) (stop !)))) (from ! (stop !)) (init ! 22 refl (tt, tt)) $
-          move ! (20 ∷ 21 ∷ []) $ join ! $
-          calls-fn ! fm code-of.ended (code-of.clauses 𝓤 H A at-mem run) (known .8) (to-code-of (past .51) (past .52))
-          (λ r ws-r. (r ≡ timeCode (past .51)) × ((ws-r .1 .0) ≡ timeStored (past .51) (x₆ .now))) (‵ (flft κ₅ q₅) ⊛ ‵ Own₆)
-          (asks-code-of (past .51) (past .52) (past .54)) (λ r ws-r. id⊢ 𝓤 _)
-          (and-then ! (load ! (from ! (stop !)) (look ! 37 refl)) (and-then ! (load ! (from ! (stop !)) (look ! 21 refl)) (no-more !)))
-          (λ r w-r ws-r e-r is-r. land ! (from ! (stop !)) (init ! 53 refl (sint-lawful 𝓤 H A W w32 .typed r _ is-r .0)) $
-          spread W (‵ (flft κ₅ q₅)) (‵ ftrue ∷ []) (id⊢ 𝓤 _) $ move ! (2 ∷ []) $
-          spread W (‵ ftrue) (‵ (fres (x₆ .name) (u32 .coded .code (ws-r .1 .0))) ∷ ‵ ftrue ∷ []) (id⊢ 𝓤 _) $
-          keep ! (1 ∷ 3 ∷ 5 ∷ 6 ∷ 7 ∷ 8 ∷ 9 ∷ 10 ∷ 11 ∷ 12 ∷ 13 ∷ 14 ∷ 15 ∷ 16 ∷ 17 ∷ 18 ∷ 19 ∷ 20 ∷ 21 ∷ 22 ∷ 23
-          ∷ 24 ∷ 25 ∷ 26 ∷ 27 ∷ 28 ∷ 29 ∷ 30 ∷ 31 ∷ 32 ∷ 33 ∷ 34 ∷ 35 ∷ 36 ∷ 37 ∷ 38 ∷ 39 ∷ 40 ∷ 41 ∷ 42 ∷ 43 ∷ 44
-          ∷ 45 ∷ 46 ∷ 47 ∷ 48 ∷ 49 ∷ 50 ∷ 51 ∷ 52 ∷ 53 ∷ 54 ∷ 55 ∷ 56 ∷ []) $
-          -- [fin6; tok6; F:«waiting_numbers»; F:waiting; F:ready; F:transmissions; F:outstanding; F:queued; tok1; tok2; tok4; tok3;
-          -- F:clock; F:arrival; F:flight; F:settings; back; opened; deaths; the locals]
-          move ! (16 ∷ 15 ∷ 14 ∷ 13 ∷ 7 ∷ 6 ∷ 5 ∷ 4 ∷ 3 ∷ 2 ∷ 17 ∷ 18 ∷ []) $ shuts-link b o γ ! tt (past .41) h $
-          -- [tok0; fin6; tok6; tok1; tok2; tok4; tok3; deaths; the locals]
-          returns ! (look ! 42 refl) $
-          move ! (10 ∷ []) $ spread W (‵ (fdies (tyInt w32) (past .3)))
-          (‵ (fdies (tyRef (named 0) imm (pointee (L .written))) (past .4))
-          ∷ ‵ (fdies (sliceTy (tyRef (named 1) imm (tyInt w8))) (past .5))
-          ∷ ‵ (fdies (sliceTy (tyRef (named 2) imm (tyInt w8))) (past .6))
-          ∷ ‵ (fdies (sliceTy (tyRef (named 3) imm (pointee (R .written)))) (past .7))
-          ∷ ‵ (fdies (sliceTy (tyRef (named 4) imm (tyInt w32))) (past .8)) ∷ ‵ (fdies (tyInt w32) (past .9))
-          ∷ ‵ (fdies (tyRef (named 5) mut (tyInt w32)) (past .10)) ∷ ‵ (fdies (tyArray (tyInt w8) 128) (past .11))
-          ∷ ‵ (fdies (tyArray (tyInt w8) 256) (past .12)) ∷ ‵ (fdies tyBool (past .13)) ∷ ‵ (fdies settings-laws.mir (past .14))
-          ∷ ‵ (fdies flight-laws.mir (past .15)) ∷ ‵ (fdies arrival-laws.mir (past .16)) ∷ ‵ (fdies clock-laws.mir (past .17))
-          ∷ ‵ (fdies (tyInt w64) (past .18)) ∷ ‵ (fdies (tyArray (tyInt w32) 128) (past .19)) ∷ ‵ (fdies (tyInt w64) (past .20))
-          ∷ ‵ (fdies time-laws.mir (past .21)) ∷ ‵ (fdies (tyArray (tyInt w8) 128) (past .22))
-          ∷ ‵ (fdies (tyArray (tyInt w8) 256) (past .23)) ∷ ‵ (fdies (tyRef erased mut (tyArray (tyInt w8) 128)) (past .24))
-          ∷ ‵ (fdies (tyRef erased mut (tyArray (tyInt w8) 256)) (past .25)) ∷ ‵ (fdies (tyArray (tyInt w32) 128) (past .26))
-          ∷ ‵ (fdies tyUnit (past .27)) ∷ ‵ (fdies (tyRef erased imm (tyArray (tyInt w32) 32)) (past .28))
-          ∷ ‵ (fdies (tyRef erased mut (tyArray (tyInt w32) 128)) (past .29))
-          ∷ ‵ (fdies (tyRef erased imm (tyArray (tyInt w32) 128)) (past .30))
-          ∷ ‵ (fdies (tyRef erased imm (tyArray (tyInt w32) 128)) (past .31))
-          ∷ ‵ (fdies (tyRef erased imm (tyArray (tyInt w32) 32)) (past .32))
-          ∷ ‵ (fdies (tyRef erased imm (tyArray (tyInt w8) 32)) (past .33))
-          ∷ ‵ (fdies (tyRef erased imm (tyArray (tyInt w32) 128)) (past .34))
-          ∷ ‵ (fdies (tyRef erased imm (tyArray (tyInt w32) 128)) (past .35))
-          ∷ ‵ (fdies (tyRef erased imm (tyArray (tyInt w32) 128)) (past .36)) ∷ ‵ (fdies (tyRef erased mut (tyInt w32)) (past .37))
-          ∷ []) (id⊢ 𝓤 _) $ move ! (76 ∷ 0 ∷ 75 ∷ 1 ∷ 74 ∷ 2 ∷ 73 ∷ 3 ∷ 72 ∷ 4 ∷ 71 ∷ 5 ∷ 70 ∷ 6 ∷ 69 ∷ 7 ∷ 44 ∷ 8
-          ∷ 43 ∷ 9 ∷ 68 ∷ 10 ∷ 67 ∷ 11 ∷ 66 ∷ 12 ∷ 65 ∷ 13 ∷ 64 ∷ 14 ∷ 63 ∷ 15 ∷ 38 ∷ 16 ∷ 62 ∷ 17 ∷ 61 ∷ 18 ∷ 60
-          ∷ 19 ∷ 59 ∷ 20 ∷ 58 ∷ 21 ∷ 57 ∷ 22 ∷ 56 ∷ 23 ∷ 55 ∷ 24 ∷ 54 ∷ 25 ∷ 53 ∷ 26 ∷ 52 ∷ 27 ∷ 51 ∷ 28 ∷ 50 ∷ 29
-          ∷ 49 ∷ 30 ∷ 48 ∷ 31 ∷ 47 ∷ 32 ∷ 46 ∷ 33 ∷ 45 ∷ 34 ∷ []) $ forget ! 0 refl $ free1 ! $ forget ! 0 refl $ free1 ! $
-          forget ! 0 refl $ free1 ! $ forget ! 0 refl $ free1 ! $ forget ! 0 refl $ free1 ! $ forget ! 0 refl $ free1 ! $
-          forget ! 0 refl $ free1 ! $ forget ! 0 refl $ free1 ! $ forget ! 0 refl $ free1 ! $ forget ! 0 refl $ free1 ! $
-          forget ! 0 refl $ free1 ! $ forget ! 0 refl $ free1 ! $ forget ! 0 refl $ free1 ! $ forget ! 0 refl $ free1 ! $
-          forget ! 0 refl $ free1 ! $ forget ! 0 refl $ free1 ! $ forget ! 0 refl $ free1 ! $ forget ! 0 refl $ free1 ! $
-          forget ! 0 refl $ free1 ! $ forget ! 0 refl $ free1 ! $ forget ! 0 refl $ free1 ! $ forget ! 0 refl $ free1 ! $
-          forget ! 0 refl $ free1 ! $ forget ! 0 refl $ free1 ! $ forget ! 0 refl $ free1 ! $ forget ! 0 refl $ free1 ! $
-          forget ! 0 refl $ free1 ! $ forget ! 0 refl $ free1 ! $ forget ! 0 refl $ free1 ! $ forget ! 0 refl $ free1 ! $
-          forget ! 0 refl $ free1 ! $ forget ! 0 refl $ free1 ! $ forget ! 0 refl $ free1 ! $ forget ! 0 refl $ free1 ! $
-          forget ! 0 refl $ free1 ! $ free0 ! $
-          move ! (0 ∷ 3 ∷ 4 ∷ 6 ∷ 5 ∷ 1 ∷ 2 ∷ []) $
-          by ! (exits r w-r (ws-r .1 .0) (told timeCode _ (past .51) (e-r .0)
-          (record {
-            time = check-promised h (partsOf (x₁ .now) (x₂ .now) (x₃ .now) (x₄ .now)) (recordsIn (past .0)) (past .48)
-                (gathers h (partsOf (x₁ .now) (x₂ .now) (x₃ .now) (x₄ .now)) (past .42) (recordsIn (past .0)) (past .48) (past .44)
-                ((past .47) .1) (past .50)) x₅ (past .51) (past .53);
-            when = e-r .1;
-          })) is-r))
+      abbrev New₁ : Known₁ → Type 0
+      New₁ past = (sends : (List ℕ)) × (w-sends : Val) × (e-sends : sends ≡ noneToSend) × (Is (Array u8 128) sends (w-sends ∷ []))
 
-      -- what part 2 knows
+      abbrev Had₁ : (ℕ → ℕ) → Known₁ → List (Item 𝓤) → List (Item 𝓤)
+      Had₁ p past Γ = ‵ (froom (tyArray (tyInt w8) 128) (p 19) 0) ∷ Γ
+
+      abbrev Left₁ : (ℕ → ℕ) → (past : Known₁) → New₁ past → List (Item 𝓤) → List (Item 𝓤)
+      Left₁ p past new Γ = ‵ (fat fullShare (tyArray (tyInt w8) 128) (p 19) 0 ((new .1))) ∷ Γ
+
+      part₁ : {K : Type 0} {Γ : List (Item 𝓤)} → K → (p : ℕ → ℕ) (past : Known₁)
+          → ((new : New₁ past) → Seq K W (Left₁ p past new Γ) (runs C Λ (En p) rest₂ (atRet (En p) Post)))
+          → Seq K W (Had₁ p past Γ) (runs C Λ (En p) rest₁ (atRet (En p) Post))
+      unfolding rest₁
+      part₁ {Γ = Γ} t p past on = record { prf =
+          qed W (Had₁ p past Γ) ∵ exec ! C Λ (En p) rest₁ (atRet (En p) Post) $
+          nothing ! $ calls-fn ! fm send-marks-of.ended (send-marks-of.clauses 𝓤 H A at-mem run) (known .0) ((tt, tt, tt, tt, tt), tt)
+              (λ sends _. sends ≡ noneToSend)
+          (‵ ftrue) (plainly 𝓤 H A W ([]) tt tt tt tt) (λ sends _. id⊢ 𝓤 _)
+          (no-more !) (λ sends w-sends _ e-sends is-sends. drop ! $ drop ! $
+          land ! (from ! (stop !)) (init ! 0 refl (array-typed u8 (uint-lawful 𝓤 H A W w8 .typed) 128 sends (w-sends ∷ []) is-sends .0)) $
+          same ! (on (sends, w-sends, e-sends, is-sends))) }
+
+      -- what part 2 knows, what it tells; what it has, and leaves
       abbrev Known₂ : Type 0
-      Known₂ = (z-found : List ℕ) × (z-receives : List ℕ) × (z-sends : List ℕ) × (l₀ : ℕ) × (l₁ : ℕ) × (l₂ : ℕ) × (l₃ : ℕ) ×
-          (l₄ : ℕ) × (l₅ : ℕ) × (l₆ : ℕ) × (l₇ : ℕ) × (l₈ : ℕ) × (l₉ : ℕ) × (l₁₀ : ℕ) × (l₁₁ : ℕ) ×
-          (l₁₂ : ℕ) × (l₁₃ : ℕ) × (l₁₄ : ℕ) × (l₁₅ : ℕ) × (l₁₆ : ℕ) × (l₁₇ : ℕ) × (l₁₈ : ℕ) ×
-          (l₁₉ : ℕ) × (l₂₀ : ℕ) × (l₂₁ : ℕ) × (l₂₂ : ℕ) × (l₂₃ : ℕ) × (l₂₄ : ℕ) × (l₂₅ : ℕ) ×
-          (l₂₆ : ℕ) × (l₂₇ : ℕ) × (l₂₈ : ℕ) × (l₂₉ : ℕ) × (l₃₀ : ℕ) × (l₃₁ : ℕ) × (l₃₂ : ℕ) ×
-          (l₃₃ : ℕ) × (l₃₄ : ℕ) × (w-sends : Val) × (w-receives : Val) × (ok : Bool) × (w-ok : Val) ×
+      Known₂ = (sends : (List ℕ)) × (w-sends : Val) × (Is (Array u8 128) sends (w-sends ∷ []))
+
+      abbrev New₂ : Known₂ → Type 0
+      New₂ past = (receives : (List ℕ)) × (w-receives : Val) × (e-receives : receives ≡ none) ×
+          (Is (Array u8 256) receives (w-receives ∷ []))
+
+      abbrev Had₂ : (ℕ → ℕ) → Known₂ → List (Item 𝓤) → List (Item 𝓤)
+      Had₂ p past Γ = ‵ (fat fullShare (tyArray (tyInt w8) 128) (p 19) 0 ((past .1))) ∷ ‵ (froom (tyArray (tyInt w8) 256) (p 20) 0)
+          ∷ ‵ (froom (tyArray (tyInt w8) 128) (p 8) 0) ∷ Γ
+
+      abbrev Left₂ : (ℕ → ℕ) → (past : Known₂) → New₂ past → List (Item 𝓤) → List (Item 𝓤)
+      Left₂ p past new Γ = ‵ (fat fullShare (tyArray (tyInt w8) 128) (p 19) 0 ((past .1)))
+          ∷ ‵ (fat fullShare (tyArray (tyInt w8) 256) (p 20) 0 ((new .1))) ∷ ‵ (fat fullShare (tyArray (tyInt w8) 128) (p 8) 0 ((past .1)))
+          ∷ Γ
+
+      part₂ : {K : Type 0} {Γ : List (Item 𝓤)} → K → (p : ℕ → ℕ) (past : Known₂)
+          → ((new : New₂ past) → Seq K W (Left₂ p past new Γ) (runs C Λ (En p) rest₃ (atRet (En p) Post)))
+          → Seq K W (Had₂ p past Γ) (runs C Λ (En p) rest₂ (atRet (En p) Post))
+      unfolding rest₂
+      part₂ {Γ = Γ} t p past on = record { prf =
+          qed W (Had₂ p past Γ) ∵ exec ! C Λ (En p) rest₂ (atRet (En p) Post) $
+          assigns ! {v = (past .1)} (of-opd ! (load ! (from ! (stop !)) (look ! 0 refl))) (from ! (stop !))
+              (init ! 2 refl (array-typed u8 (uint-lawful 𝓤 H A W w8 .typed) 128 (past .0) ((past .1) ∷ []) (past .2) .0)) $
+          nothing ! $ calls-fn ! fm marks-of.ended (marks-of.clauses 𝓤 H A at-mem run) (known .1) ((tt, tt, tt, tt, tt), tt)
+              (λ receives _. receives ≡ none)
+          (‵ ftrue) (plainly 𝓤 H A W ([]) tt tt tt tt) (λ receives _. id⊢ 𝓤 _)
+          (no-more !) (λ receives w-receives _ e-receives is-receives. drop ! $ drop ! $
+          land ! (from ! (stop !)) (init ! 1 refl (array-typed u8 (uint-lawful 𝓤 H A W w8 .typed) 256 receives (w-receives ∷ []) is-receives
+          .0)) $
+          same ! (on (receives, w-receives, e-receives, is-receives))) }
+
+      -- what part 3 knows, what it tells; what it has, and leaves
+      abbrev Known₃ : Type 0
+      Known₃ = (sends : (List ℕ)) × (w-sends : Val) × (e-sends : sends ≡ noneToSend) × (is-sends : Is (Array u8 128) sends (w-sends ∷ [])) ×
+          (receives : (List ℕ)) × (w-receives : Val) × (e-receives : receives ≡ none) × (Is (Array u8 256) receives (w-receives ∷ []))
+
+      abbrev New₃ : Known₃ → Type 0
+      New₃ past = (z-receives : List ℕ) × (z-sends : List ℕ) × (ok : Bool) × (w-ok : Val) × (e-ok : Sound h z-sends z-receives ok) ×
+          (Is Boolean ok (w-ok ∷ []))
+
+      abbrev Had₃ : (ℕ → ℕ) → Known₃ → List (Item 𝓤) → List (Item 𝓤)
+      Had₃ p past Γ = ‵ (fat fullShare (tyArray (tyInt w8) 256) (p 20) 0 ((past .5)))
+          ∷ ‵ (fat fullShare (tyArray (tyInt w8) 128) (p 8) 0 ((past .1))) ∷ ‵ (flft κ₀ q₀) ∷ ‵ (link-shr κ₀ b o γ h)
+          ∷ ‵ (froom (tyRef erased mut (tyArray (tyInt w8) 256)) (p 22) 0) ∷ ‵ (froom (tyRef erased mut (tyArray (tyInt w8) 128)) (p 21) 0)
+          ∷ ‵ (froom tyBool (p 10) 0) ∷ ‵ (froom (tyArray (tyInt w8) 256) (p 9) 0)
+          ∷ ‵ (fat fullShare (tyRef (named 0) imm (pointee (L .written))) (p 1) 0 (vptr b o)) ∷ Γ
+
+      abbrev Left₃ : (ℕ → ℕ) → (past : Known₃) → New₃ past → List (Item 𝓤) → List (Item 𝓤)
+      Left₃ p past new Γ = ‵ (fat fullShare (tyArray (tyInt w8) 256) (p 9) 0 ((only ((array-vals (uint-vals w8)) (new .0)))))
+          ∷ ‵ (fat fullShare (tyArray (tyInt w8) 128) (p 8) 0 ((only ((array-vals (uint-vals w8)) (new .1))))) ∷ ‵ (flft κ₀ q₀)
+          ∷ ‵ (link-shr κ₀ b o γ h) ∷ ‵ (fat fullShare (tyArray (tyInt w8) 256) (p 20) 0 ((past .5)))
+          ∷ ‵ (fat fullShare (tyRef erased mut (tyArray (tyInt w8) 256)) (p 22) 0 ((vptr (p 9) 0)))
+          ∷ ‵ (fat fullShare (tyRef erased mut (tyArray (tyInt w8) 128)) (p 21) 0 ((vptr (p 8) 0)))
+          ∷ ‵ (fat fullShare tyBool (p 10) 0 ((new .3))) ∷ ‵ (fat fullShare (tyRef (named 0) imm (pointee (L .written))) (p 1) 0 (vptr b o))
+          ∷ Γ
+
+      part₃ : {K : Type 0} {Γ : List (Item 𝓤)} → K → (p : ℕ → ℕ) (past : Known₃)
+          → ((new : New₃ past) → Seq K W (Left₃ p past new Γ) (runs C Λ (En p) rest₄ (atRet (En p) Post)))
+          → Seq K W (Had₃ p past Γ) (runs C Λ (En p) rest₃ (atRet (En p) Post))
+      unfolding rest₃
+      part₃ {Γ = Γ} t p past on = record { prf =
+          qed W (Had₃ p past Γ) ∵ exec ! C Λ (En p) rest₃ (atRet (En p) Post) $
+          assigns ! {v = (past .5)} (of-opd ! (load ! (from ! (stop !)) (look ! 0 refl))) (from ! (stop !))
+              (init ! 7 refl (array-typed u8 (uint-lawful 𝓤 H A W w8 .typed) 256 (past .4) ((past .5) ∷ []) (past .7) .0)) $
+          assigns ! {v = (vptr (p 8) 0)} (addr ! (from ! (stop !))) (from ! (stop !)) (init ! 5 refl (tt, tt)) $
+          assigns ! {v = (vptr (p 9) 0)} (addr ! (from ! (stop !))) (from ! (stop !)) (init ! 4 refl (tt, tt)) $
+          move ! (1 ∷ []) $ use1 W (‵ (cellAt fullShare ((tyArray (tyInt w8) 128) ∷ []) ((past .1) ∷ []) (p 8) 0))
+              (W .laws .at-raw fullShare (tyArray (tyInt w8) 128) (p 8) 0 (past .1)) $
+              cell-in ! fullShare (Array u8 128) (array-makes 𝓤 H A W u8 (uint-makes 𝓤 H A W w8) 128) (past .0) (p 8) 0 (past .1)
+              (past .3) $
+          lend-mut ! tt (Array u8 128) (past .0) (p 8) 0
+              (λ α-sends δ-sends. move ! (9 ∷ []) $
+              use1 W (‵ (cellAt fullShare ((tyArray (tyInt w8) 256) ∷ []) ((past .5) ∷ []) (p 9) 0))
+              (W .laws .at-raw fullShare (tyArray (tyInt w8) 256) (p 9) 0 (past .5)) $
+              cell-in ! fullShare (Array u8 256) (array-makes 𝓤 H A W u8 (uint-makes 𝓤 H A W w8) 256) (past .4) (p 9) 0 (past .5)
+              (past .7) $
+          lend-mut ! tt (Array u8 256) (past .4) (p 9) 0
+              (λ α-receives δ-receives. move ! (8 ∷ []) $
+              use1 W (‵ (link-shr κ₀ b o γ h) ⊛ ‵ (link-shr κ₀ b o γ h))
+              (shr-copy 𝓤 H A W (named 0) κ₀ L .twice (ref-at b o γ h) (vptr b o ∷ [])) $ split ! $ move ! (9 ∷ 0 ∷ 5 ∷ 6 ∷ 2 ∷ 3 ∷ []) $
+              group ! 6 $ calls-fn ! fm check.ended (check.clauses 𝓤 H A at-mem run) (known .2)
+              (to-check (p 8) α-sends δ-sends (past .0) (p 9) α-receives δ-receives (past .4) )
+              (λ ok ws-ok. Sound h (ws-ok .1 .0) (ws-ok .1 .1 .0) ok)
+              (‵ (flft κ₀ q₀) ⊛ ‵ (link-shr κ₀ b o γ h) ⊛ ‵ (flft (α-sends ∷ []) fullShare) ⊛ ‵
+              (MutRef (named 0) (α-sends ∷ []) (Array u8 128) .own (ref-at (p 8) 0 δ-sends (past .0)) ((vptr (p 8) 0) ∷ [])) ⊛ ‵
+              (flft (α-receives ∷ []) fullShare) ⊛ ‵ (MutRef (named 0) (α-receives ∷ []) (Array u8 256) .own
+              (ref-at (p 9) 0 δ-receives (past .4)) ((vptr (p 9) 0) ∷ [])))
+          (asks-check (p 8) α-sends δ-sends (past .0) (p 9) α-receives δ-receives (past .4)  ((past .2), (past .6))) (λ ok ws-ok. id⊢ 𝓤 _)
+          (and-then ! (load ! (from ! (stop !)) (look ! 8 refl))
+          (and-then ! (load ! (from ! (stop !)) (look ! 6 refl)) (and-then ! (load ! (from ! (stop !)) (look ! 5 refl)) (no-more !))))
+          (λ ok w-ok ws-ok e-ok is-ok. land ! (from ! (stop !)) (init ! 8 refl (bool-lawful 𝓤 H A W .typed ok _ is-ok .0)) $
+          spread W (‵ (flft κ₀ q₀)) (‵ (flft (α-sends ∷ []) fullShare) ∷ ‵ (flft (α-receives ∷ []) fullShare) ∷ ‵ ftrue ∷ [])
+              (id⊢ 𝓤 _) $ move ! (4 ∷ []) $ spread W (‵ ftrue)
+              (‵ (fres δ-sends ((Array u8 128) .coded .code (ws-ok .1 .0)))
+              ∷ ‵ (fres δ-receives ((Array u8 256) .coded .code (ws-ok .1 .1 .0))) ∷ ‵ ftrue ∷ []) (id⊢ 𝓤 _) $ move ! (7 ∷ 3 ∷ 0 ∷ []) $
+              group ! 3 $ drop ! $
+          -- [fin:@sends; fin:@receives; tok0; tok:@sends; tok:@receives; own0; lent:@receives; lent:@sends; the locals]
+          move ! (3 ∷ 7 ∷ 0 ∷ []) $ back-mut ! tt (Array u8 128) (p 8) 0 (ws-ok .1 .0) $
+              cell-out ! fullShare (Array u8 128) (array-vals (uint-vals w8)) (array-tells u8 (uint-vals w8) (uint-tells w8) 128)
+              (ws-ok .1 .0) (p 8) 0 (λ was-sends-1. use1 W
+              (‵ (fat fullShare (tyArray (tyInt w8) 128) (p 8) 0 (only ((array-vals (uint-vals w8)) (ws-ok .1 .0)))))
+              (W .laws .raw-at fullShare (tyArray (tyInt w8) 128) (p 8) 0 (only ((array-vals (uint-vals w8)) (ws-ok .1 .0)))) $
+          move ! (3 ∷ 5 ∷ 1 ∷ []) $ back-mut ! tt (Array u8 256) (p 9) 0 (ws-ok .1 .1 .0) $
+              cell-out ! fullShare (Array u8 256) (array-vals (uint-vals w8)) (array-tells u8 (uint-vals w8) (uint-tells w8) 256)
+              (ws-ok .1 .1 .0) (p 9) 0 (λ was-receives-2. use1 W
+              (‵ (fat fullShare (tyArray (tyInt w8) 256) (p 9) 0 (only ((array-vals (uint-vals w8)) (ws-ok .1 .1 .0)))))
+              (W .laws .raw-at fullShare (tyArray (tyInt w8) 256) (p 9) 0 (only ((array-vals (uint-vals w8)) (ws-ok .1 .1 .0)))) $
+          same ! (on ((ws-ok .1 .1 .0), (ws-ok .1 .0), ok, w-ok, e-ok, is-ok))))))) }
+
+      -- what part 4 knows, what it tells; what it has, and leaves
+      abbrev Known₄ : Type 0
+      Known₄ = Unit {0}
+
+      abbrev New₄ : Known₄ → Type 0
+      New₄ past = (q′ : Share) × (len-queued : length (h .queued) ≡ 128) × (len-outstanding : length (h .outstanding) ≡ 32) ×
+          (len-transmissions : length (h .transmissions) ≡ 32) × (len-ready : length (h .ready) ≡ 128) ×
+          (len-waiting : length (h .waiting) ≡ 128) × (len-waiting-numbers : length (h .«waiting_numbers») ≡ 128) ×
+          (was-settings : Is settings-row.the-row (h .settings) ((LL.vals settings-row.the-type settings-laws.the-laws) (h .settings))) ×
+          (was-flight : Is flight-row.the-row (h .flight) ((LL.vals flight-row.the-type flight-laws.the-laws) (h .flight))) ×
+          (was-arrival : Is arrival-row.the-row (h .arrival) ((LL.vals arrival-row.the-type arrival-laws.the-laws) (h .arrival))) ×
+          (was-clock : Is clock-row.the-row (h .clock) ((LL.vals clock-row.the-type clock-laws.the-laws) (h .clock))) × (n : ℕ) ×
+          (w-n : Val) × (e-n : n ≡ h .flight .outstanding) × (Is usize n (w-n ∷ []))
+
+      abbrev Had₄ : (ℕ → ℕ) → Known₄ → List (Item 𝓤) → List (Item 𝓤)
+      Had₄ p past Γ = ‵ (flft κ₀ q₀) ∷ ‵ (link-shr κ₀ b o γ h)
+          ∷ ‵ (fat fullShare (tyRef (named 0) imm (pointee (L .written))) (p 1) 0 (vptr b o)) ∷ ‵ (froom (tyInt w64) (p 15) 0)
+          ∷ ‵ (froom clock-laws.mir (p 14) 0) ∷ ‵ (froom arrival-laws.mir (p 13) 0) ∷ ‵ (froom flight-laws.mir (p 12) 0)
+          ∷ ‵ (froom settings-laws.mir (p 11) 0) ∷ Γ
+
+      abbrev Left₄ : (ℕ → ℕ) → (past : Known₄) → New₄ past → List (Item 𝓤) → List (Item 𝓤)
+      Left₄ p past new Γ = ‵ (partAt clock-row.the-row (new .0) (h .clock) b (o + 104))
+          ∷ ‵ (partAt arrival-row.the-row (new .0) (h .arrival) b (o + 72)) ∷ ‵ (partAt flight-row.the-row (new .0) (h .flight) b (o + 16))
+          ∷ ‵ (partAt settings-row.the-row (new .0) (h .settings) b (o + 0))
+          ∷ ‵ (partAt (Array u32 128) (new .0) (h .«waiting_numbers») b (o + 1820))
+          ∷ ‵ (partAt (Array u32 128) (new .0) (h .waiting) b (o + 1308)) ∷ ‵ (partAt (Array u32 128) (new .0) (h .ready) b (o + 796))
+          ∷ ‵ (partAt (Array u8 32) (new .0) (h .transmissions) b (o + 764))
+          ∷ ‵ (partAt (Array u32 32) (new .0) (h .outstanding) b (o + 636)) ∷ ‵ (partAt (Array u32 128) (new .0) (h .queued) b (o + 124))
+          ∷ raw (Back 𝓤 H A (new .0) b o) ∷ ‵ (fobor κ₀ q₀ (partAt L (new .0) h b o))
+          ∷ ‵ (fat fullShare (tyRef (named 0) imm (pointee (L .written))) (p 1) 0 (vptr b o))
+          ∷ ‵ (fat fullShare (tyInt w64) (p 15) 0 ((new .12)))
+          ∷ ‵ (fat fullShare clock-laws.mir (p 14) 0 ((only ((LL.vals clock-row.the-type clock-laws.the-laws) (h .clock)))))
+          ∷ ‵ (fat fullShare arrival-laws.mir (p 13) 0 ((only ((LL.vals arrival-row.the-type arrival-laws.the-laws) (h .arrival)))))
+          ∷ ‵ (fat fullShare flight-laws.mir (p 12) 0 ((only ((LL.vals flight-row.the-type flight-laws.the-laws) (h .flight)))))
+          ∷ ‵ (fat fullShare settings-laws.mir (p 11) 0 ((only ((LL.vals settings-row.the-type settings-laws.the-laws) (h .settings))))) ∷ Γ
+
+      part₄ : {K : Type 0} {Γ : List (Item 𝓤)} → K → (p : ℕ → ℕ) (past : Known₄)
+          → ((new : New₄ past) → Seq K W (Left₄ p past new Γ) (runs C Λ (En p) rest₅ (atRet (En p) Post)))
+          → Seq K W (Had₄ p past Γ) (runs C Λ (En p) rest₄ (atRet (En p) Post))
+      unfolding rest₄
+      part₄ {Γ = Γ} t p past on = record { prf =
+          qed W (Had₄ p past Γ) ∵ exec ! C Λ (En p) rest₄ (atRet (En p) Post) $
+          move ! (1 ∷ 0 ∷ []) $ looks-link b o γ ! tt h (λ q′.
+          -- [F:settings; F:flight; F:arrival; F:clock; F:queued; F:outstanding; F:transmissions; F:ready; F:waiting; F:«waiting_numbers»;
+          -- back; opened; the locals]
+          move ! (4 ∷ []) $ tells-length ! q′ u32 128 (h .queued) b (o + 124)
+              (λ len-queued. move ! (5 ∷ []) $
+              tells-length ! q′ u32 32 (h .outstanding) b (o + 636)
+              (λ len-outstanding. move ! (6 ∷ []) $
+              tells-length ! q′ u8 32 (h .transmissions) b (o + 764)
+              (λ len-transmissions. move ! (7 ∷ []) $
+              tells-length ! q′ u32 128 (h .ready) b (o + 796)
+              (λ len-ready. move ! (8 ∷ []) $
+              tells-length ! q′ u32 128 (h .waiting) b (o + 1308)
+              (λ len-waiting. move ! (9 ∷ []) $
+              tells-length ! q′ u32 128 (h .«waiting_numbers») b (o + 1820)
+              (λ len-waiting-numbers. move ! (6 ∷ []) $
+              cell-out ! q′ settings-row.the-row (LL.vals settings-row.the-type settings-laws.the-laws)
+              (LL.tells settings-row.the-type settings-laws.the-laws) (h .settings) b (o + 0) (λ was-settings.
+          assigns ! {v = (only ((LL.vals settings-row.the-type settings-laws.the-laws) (h .settings)))}
+              (of-opd ! (load ! (place-settings ! (look ! 12 refl)) (look-raw ! 0 refl))) (from ! (stop !))
+              (init ! 17 refl (LL.lawful settings-row.the-type settings-laws.the-laws 𝓤 H A W .typed (h .settings)
+              ((only ((LL.vals settings-row.the-type settings-laws.the-laws) (h .settings))) ∷ []) was-settings .0)) $
+          cell-in ! q′ settings-row.the-row (LL.makes settings-row.the-type settings-laws.the-plain 𝓤 H A) (h .settings) b (o + 0)
+              (only ((LL.vals settings-row.the-type settings-laws.the-laws) (h .settings))) was-settings $ move ! (7 ∷ []) $
+              cell-out ! q′ flight-row.the-row (LL.vals flight-row.the-type flight-laws.the-laws)
+              (LL.tells flight-row.the-type flight-laws.the-laws) (h .flight) b (o + 16) (λ was-flight.
+          assigns ! {v = (only ((LL.vals flight-row.the-type flight-laws.the-laws) (h .flight)))}
+              (of-opd ! (load ! (place-flight ! (look ! 12 refl)) (look-raw ! 0 refl))) (from ! (stop !))
+              (init ! 16 refl (LL.lawful flight-row.the-type flight-laws.the-laws 𝓤 H A W .typed (h .flight)
+              ((only ((LL.vals flight-row.the-type flight-laws.the-laws) (h .flight))) ∷ []) was-flight .0)) $
+          cell-in ! q′ flight-row.the-row (LL.makes flight-row.the-type flight-laws.the-plain 𝓤 H A) (h .flight) b (o + 16)
+              (only ((LL.vals flight-row.the-type flight-laws.the-laws) (h .flight))) was-flight $ move ! (8 ∷ []) $
+              cell-out ! q′ arrival-row.the-row (LL.vals arrival-row.the-type arrival-laws.the-laws)
+              (LL.tells arrival-row.the-type arrival-laws.the-laws) (h .arrival) b (o + 72) (λ was-arrival.
+          assigns ! {v = (only ((LL.vals arrival-row.the-type arrival-laws.the-laws) (h .arrival)))}
+              (of-opd ! (load ! (place-arrival ! (look ! 12 refl)) (look-raw ! 0 refl))) (from ! (stop !))
+              (init ! 15 refl (LL.lawful arrival-row.the-type arrival-laws.the-laws 𝓤 H A W .typed (h .arrival)
+              ((only ((LL.vals arrival-row.the-type arrival-laws.the-laws) (h .arrival))) ∷ []) was-arrival .0)) $
+          cell-in ! q′ arrival-row.the-row (LL.makes arrival-row.the-type arrival-laws.the-plain 𝓤 H A) (h .arrival) b (o + 72)
+              (only ((LL.vals arrival-row.the-type arrival-laws.the-laws) (h .arrival))) was-arrival $ move ! (9 ∷ []) $
+              cell-out ! q′ clock-row.the-row (LL.vals clock-row.the-type clock-laws.the-laws)
+              (LL.tells clock-row.the-type clock-laws.the-laws) (h .clock) b (o + 104) (λ was-clock.
+          assigns ! {v = (only ((LL.vals clock-row.the-type clock-laws.the-laws) (h .clock)))}
+              (of-opd ! (load ! (place-clock ! (look ! 12 refl)) (look-raw ! 0 refl))) (from ! (stop !))
+              (init ! 14 refl (LL.lawful clock-row.the-type clock-laws.the-laws 𝓤 H A W .typed (h .clock)
+              ((only ((LL.vals clock-row.the-type clock-laws.the-laws) (h .clock))) ∷ []) was-clock .0)) $
+          cell-in ! q′ clock-row.the-row (LL.makes clock-row.the-type clock-laws.the-plain 𝓤 H A) (h .clock) b (o + 104)
+              (only ((LL.vals clock-row.the-type clock-laws.the-laws) (h .clock))) was-clock $ nothing ! $
+              calls-fn ! fm count-of.ended (count-of.clauses 𝓤 H A at-mem run) (known .3)
+              ((tt, tt, tt, ((h .flight), tt), ((only ((LL.vals flight-row.the-type flight-laws.the-laws) (h .flight))) ∷ [], tt)), tt)
+              (λ n _. n ≡ h .flight .outstanding)
+          (‵ ftrue) (plainly 𝓤 H A W (flight-row.the-row ∷ []) ((LL.makes flight-row.the-type flight-laws.the-plain 𝓤 H A), tt)
+          ((h .flight), tt) ((only ((LL.vals flight-row.the-type flight-laws.the-laws) (h .flight))) ∷ [], tt) (was-flight, tt))
+          (λ n _. id⊢ 𝓤 _)
+          (and-then ! (load ! (from ! (stop !)) (look ! 17 refl)) (no-more !))
+          (λ n w-n _ e-n is-n. drop ! $ drop ! $  land ! (from ! (stop !)) (init ! 13 refl (uint-lawful 𝓤 H A W w64 .typed n _ is-n .0)) $
+          same ! (on (q′, len-queued, len-outstanding, len-transmissions, len-ready, len-waiting, len-waiting-numbers, was-settings,
+              was-flight, was-arrival, was-clock, n, w-n, e-n, is-n)))))))))))))) }
+
+      -- what part 5 knows, what it tells; what it has, and leaves
+      abbrev Known₅ : Type 0
+      Known₅ = Unit {0}
+
+      abbrev New₅ : Known₅ → Type 0
+      New₅ past = (found : (List ℕ)) × (w-found : Val) × (e-found : found ≡ replicate 128 0) × (Is (Array u32 128) found (w-found ∷ []))
+
+      abbrev Had₅ : (ℕ → ℕ) → Known₅ → List (Item 𝓤) → List (Item 𝓤)
+      Had₅ p past Γ = ‵ (froom (tyArray (tyInt w32) 128) (p 23) 0) ∷ Γ
+
+      abbrev Left₅ : (ℕ → ℕ) → (past : Known₅) → New₅ past → List (Item 𝓤) → List (Item 𝓤)
+      Left₅ p past new Γ = ‵ (fat fullShare (tyArray (tyInt w32) 128) (p 23) 0 ((new .1))) ∷ Γ
+
+      part₅ : {K : Type 0} {Γ : List (Item 𝓤)} → K → (p : ℕ → ℕ) (past : Known₅)
+          → ((new : New₅ past) → Seq K W (Left₅ p past new Γ) (runs C Λ (En p) rest₆ (atRet (En p) Post)))
+          → Seq K W (Had₅ p past Γ) (runs C Λ (En p) rest₅ (atRet (En p) Post))
+      unfolding rest₅
+      part₅ {Γ = Γ} t p past on = record { prf =
+          qed W (Had₅ p past Γ) ∵ exec ! C Λ (En p) rest₅ (atRet (En p) Post) $
+          nothing ! $ calls-fn ! fm none-of.ended (none-of.clauses 𝓤 H A at-mem run) (known .4) ((tt, tt, tt, tt, tt), tt)
+              (λ found _. found ≡ replicate 128 0)
+          (‵ ftrue) (plainly 𝓤 H A W ([]) tt tt tt tt) (λ found _. id⊢ 𝓤 _)
+          (no-more !) (λ found w-found _ e-found is-found. drop ! $ drop ! $
+          land ! (from ! (stop !)) (init ! 0 refl (array-typed u32 (uint-lawful 𝓤 H A W w32 .typed) 128 found (w-found ∷ []) is-found .0)) $
+          same ! (on (found, w-found, e-found, is-found))) }
+
+      -- what part 6 knows, what it tells; what it has, and leaves
+      abbrev Known₆ : Type 0
+      Known₆ = (q′ : Share) × (len-outstanding : length (h .outstanding) ≡ 32) × (n : ℕ) × (w-n : Val) × (is-n : Is usize n (w-n ∷ [])) ×
+          (found : (List ℕ)) × (w-found : Val) × (e-found : found ≡ replicate 128 0) × (Is (Array u32 128) found (w-found ∷ []))
+
+      abbrev New₆ : Known₆ → Type 0
+      New₆ past = (z-found : List ℕ) × (w-g : Val) ×
+          (e-g : (length z-found ≡ 128) × (recordsIn z-found ≡ padded
+          (gathered (take sendSlots (x₃ .now)) (slotsIn (h .outstanding) (past .2))))) ×
+          (Is (Array u32 128) z-found ((array-vals (uint-vals w32)) z-found))
+
+      abbrev Had₆ : (ℕ → ℕ) → Known₆ → List (Item 𝓤) → List (Item 𝓤)
+      Had₆ p past Γ = ‵ (fat fullShare (tyArray (tyInt w32) 128) (p 23) 0 ((past .6)))
+          ∷ ‵ (partAt (Array u32 32) (past .0) (h .outstanding) b (o + 636))
+          ∷ ‵ (fat fullShare (tyRef (named 0) imm (pointee (L .written))) (p 1) 0 (vptr b o))
+          ∷ ‵ (fat fullShare (tyInt w64) (p 15) 0 ((past .3))) ∷ ‵ (flft κ₃ q₃) ∷ ‵ Own₃
+          ∷ ‵ (froom (tyRef erased mut (tyArray (tyInt w32) 128)) (p 26) 0) ∷ ‵ (froom (tyRef erased imm (tyArray (tyInt w32) 32)) (p 25) 0)
+          ∷ ‵ (froom tyUnit (p 24) 0) ∷ ‵ (froom (tyArray (tyInt w32) 128) (p 16) 0)
+          ∷ ‵ (fat fullShare (sliceTy (tyRef (named 3) imm (pointee (R .written)))) (p 4) 0 (s₃)) ∷ Γ
+
+      abbrev Left₆ : (ℕ → ℕ) → (past : Known₆) → New₆ past → List (Item 𝓤) → List (Item 𝓤)
+      Left₆ p past new Γ = ‵ (fat fullShare (tyArray (tyInt w32) 128) (p 16) 0 ((only ((array-vals (uint-vals w32)) (new .0)))))
+          ∷ ‵ (partAt (Array u32 32) (past .0) (h .outstanding) b (o + 636)) ∷ ‵ (flft κ₃ q₃) ∷ ‵ Own₃
+          ∷ ‵ (fat fullShare (tyArray (tyInt w32) 128) (p 23) 0 ((past .6)))
+          ∷ ‵ (fat fullShare (tyRef (named 0) imm (pointee (L .written))) (p 1) 0 (vptr b o))
+          ∷ ‵ (fat fullShare (tyInt w64) (p 15) 0 ((past .3)))
+          ∷ ‵ (fat fullShare (tyRef erased mut (tyArray (tyInt w32) 128)) (p 26) 0 ((vptr (p 16) 0)))
+          ∷ ‵ (fat fullShare (tyRef erased imm (tyArray (tyInt w32) 32)) (p 25) 0 ((vptr b (o + 636))))
+          ∷ ‵ (fat fullShare tyUnit (p 24) 0 ((new .1)))
+          ∷ ‵ (fat fullShare (sliceTy (tyRef (named 3) imm (pointee (R .written)))) (p 4) 0 (s₃)) ∷ Γ
+
+      part₆ : {K : Type 0} {Γ : List (Item 𝓤)} → K → (p : ℕ → ℕ) (past : Known₆)
+          → ((new : New₆ past) → Seq K W (Left₆ p past new Γ) (runs C Λ (En p) rest₇ (atRet (En p) Post)))
+          → Seq K W (Had₆ p past Γ) (runs C Λ (En p) rest₆ (atRet (En p) Post))
+      unfolding rest₆
+      part₆ {Γ = Γ} t p past on = record { prf =
+          qed W (Had₆ p past Γ) ∵ exec ! C Λ (En p) rest₆ (atRet (En p) Post) $
+          assigns ! {v = (past .6)} (of-opd ! (load ! (from ! (stop !)) (look ! 0 refl))) (from ! (stop !))
+              (init ! 9 refl (array-typed u32 (uint-lawful 𝓤 H A W w32 .typed) 128 (past .5) ((past .6) ∷ []) (past .8) .0)) $
+          assigns ! {v = (vptr b (o + 636))} (addr ! (place-outstanding ! (look ! 2 refl))) (from ! (stop !)) (init ! 7 refl (tt, tt)) $
+          assigns ! {v = (vptr (p 16) 0)} (addr ! (from ! (stop !))) (from ! (stop !)) (init ! 6 refl (tt, tt)) $
+          move ! (1 ∷ []) $ lend-shr ! tt (past .0) (Array u32 32) (h .outstanding) b (o + 636)
+              (λ α-outstanding δ-outstanding. move ! (11 ∷ []) $
+              use1 W (‵ (cellAt fullShare ((tyArray (tyInt w32) 128) ∷ []) ((past .6) ∷ []) (p 16) 0))
+              (W .laws .at-raw fullShare (tyArray (tyInt w32) 128) (p 16) 0 (past .6)) $
+              cell-in ! fullShare (Array u32 128) (array-makes 𝓤 H A W u32 (uint-makes 𝓤 H A W w32) 128) (past .5) (p 16) 0 (past .6)
+              (past .8) $
+          lend-mut ! tt (Array u32 128) (past .5) (p 16) 0
+              (λ α-found δ-found. move ! (10 ∷ []) $
+              use1 W (‵ Own₃ ⊛ ‵ Own₃) (shr-slice-copy 𝓤 H A W (named 0) κ₃ R .twice x₃ (s₃ ∷ [])) $ split ! $
+              move ! (11 ∷ 0 ∷ 5 ∷ 6 ∷ 2 ∷ 3 ∷ []) $ group ! 6 $
+              calls-fn ! fm gather.ended (gather.clauses 𝓤 H A at-mem run) (known .5)
+              (to-gather α-outstanding δ-outstanding (h .outstanding) (p 16) α-found δ-found (past .5) (past .2) (past .3))
+              (λ g ws-g. (length (ws-g .1 .1 .1 .0) ≡ 128) ×
+              (recordsIn (ws-g .1 .1 .1 .0) ≡ padded (gathered (take sendSlots (x₃ .now)) (slotsIn (h .outstanding) (past .2)))))
+              (‵ (flft κ₃ q₃) ⊛ ‵ Own₃ ⊛ ‵ (flft (α-outstanding ∷ []) fullShare) ⊛ ‵
+              (ShrRef (named 0) (α-outstanding ∷ []) (Array u32 32) .own (ref-at b (o + 636) δ-outstanding (h .outstanding))
+              ((vptr b (o + 636)) ∷ [])) ⊛ ‵ (flft (α-found ∷ []) fullShare) ⊛ ‵
+              (MutRef (named 0) (α-found ∷ []) (Array u32 128) .own (ref-at (p 16) 0 δ-found (past .5)) ((vptr (p 16) 0) ∷ [])))
+          (asks-gather α-outstanding δ-outstanding (h .outstanding) (p 16) α-found δ-found (past .5) (past .2) (past .3) (past .4)
+          ((past .1), (past .7))) (λ g ws-g. id⊢ 𝓤 _)
+          (and-then ! (load ! (from ! (stop !)) (look ! 10 refl))
+          (and-then ! (load ! (from ! (stop !)) (look ! 8 refl))
+          (and-then ! (load ! (from ! (stop !)) (look ! 6 refl)) (and-then ! (load ! (from ! (stop !)) (look ! 7 refl)) (no-more !)))))
+          (λ g w-g ws-g e-g is-g. land ! (from ! (stop !)) (init ! 10 refl (nothing-lawful 𝓤 H A W .typed g _ is-g .0)) $
+          spread W (‵ (flft κ₃ q₃)) (‵ (flft (α-outstanding ∷ []) fullShare) ∷ ‵ (flft (α-found ∷ []) fullShare) ∷ ‵ ftrue ∷ [])
+              (id⊢ 𝓤 _) $ move ! (4 ∷ []) $ spread W (‵ ftrue)
+              (‵ ftrue ∷ ‵ ftrue ∷ ‵ (fres δ-found ((Array u32 128) .coded .code (ws-g .1 .1 .1 .0))) ∷ ‵ ftrue ∷ []) (id⊢ 𝓤 _) $
+              move ! (8 ∷ 4 ∷ 0 ∷ 1 ∷ 2 ∷ []) $ group ! 5 $ drop ! $
+          -- [fin:@found; tok3; tok:outstanding; tok:@found; own3; lent:@found; lent:outstanding; the locals]
+          move ! (2 ∷ 6 ∷ []) $ back-shr ! tt (past .0) (Array u32 32) b (o + 636) (h .outstanding) $ move ! (3 ∷ 5 ∷ 1 ∷ []) $
+              back-mut ! tt (Array u32 128) (p 16) 0 (ws-g .1 .1 .1 .0) $
+              cell-out ! fullShare (Array u32 128) (array-vals (uint-vals w32)) (array-tells u32 (uint-vals w32) (uint-tells w32) 128)
+              (ws-g .1 .1 .1 .0) (p 16) 0 (λ was-found-3. use1 W
+              (‵ (fat fullShare (tyArray (tyInt w32) 128) (p 16) 0 (only ((array-vals (uint-vals w32)) (ws-g .1 .1 .1 .0)))))
+              (W .laws .raw-at fullShare (tyArray (tyInt w32) 128) (p 16) 0 (only ((array-vals (uint-vals w32)) (ws-g .1 .1 .1 .0)))) $
+          same ! (on ((ws-g .1 .1 .1 .0), w-g, e-g, was-found-3)))))) }
+
+      -- what part 7 knows, what it tells; what it has, and leaves
+      abbrev Known₇ : Type 0
+      Known₇ = Unit {0}
+
+      abbrev New₇ : Known₇ → Type 0
+      New₇ past = (m : ℕ) × (w-m : Val) × (e-m : m ≡ length (x₃ .now)) × (Is usize m (w-m ∷ []))
+
+      abbrev Had₇ : (ℕ → ℕ) → Known₇ → List (Item 𝓤) → List (Item 𝓤)
+      Had₇ p past Γ = ‵ (flft κ₃ q₃) ∷ ‵ Own₃ ∷ ‵ (fat fullShare (sliceTy (tyRef (named 3) imm (pointee (R .written)))) (p 4) 0 (s₃))
+          ∷ ‵ (froom (tyInt w64) (p 17) 0) ∷ Γ
+
+      abbrev Left₇ : (ℕ → ℕ) → (past : Known₇) → New₇ past → List (Item 𝓤) → List (Item 𝓤)
+      Left₇ p past new Γ = ‵ (flft κ₃ q₃) ∷ ‵ (fat fullShare (sliceTy (tyRef (named 3) imm (pointee (R .written)))) (p 4) 0 (s₃))
+          ∷ ‵ (fat fullShare (tyInt w64) (p 17) 0 ((new .1))) ∷ Γ
+
+      part₇ : {K : Type 0} {Γ : List (Item 𝓤)} → K → (p : ℕ → ℕ) (past : Known₇)
+          → ((new : New₇ past) → Seq K W (Left₇ p past new Γ) (runs C Λ (En p) rest₈ (atRet (En p) Post)))
+          → Seq K W (Had₇ p past Γ) (runs C Λ (En p) rest₇ (atRet (En p) Post))
+      unfolding rest₇
+      part₇ {Γ = Γ} t p past on = record { prf =
+          qed W (Had₇ p past Γ) ∵ exec ! C Λ (En p) rest₇ (atRet (En p) Post) $
+          join ! $ calls-fn ! fm table-len.ended (table-len.clauses 𝓤 H A at-mem run) (known .6) (to-table-len  )
+              (λ m ws-m. m ≡ length (x₃ .now)) (‵ (flft κ₃ q₃) ⊛ ‵ Own₃)
+          (asks-table-len   ) (λ m ws-m. id⊢ 𝓤 _)
+          (and-then ! (load ! (from ! (stop !)) (look ! 1 refl)) (no-more !))
+          (λ m w-m ws-m e-m is-m. land ! (from ! (stop !)) (init ! 3 refl (uint-lawful 𝓤 H A W w64 .typed m _ is-m .0)) $
+          spread W (‵ (flft κ₃ q₃)) (‵ ftrue ∷ []) (id⊢ 𝓤 _) $ move ! (2 ∷ []) $ spread W (‵ ftrue) (‵ ftrue ∷ []) (id⊢ 𝓤 _) $
+              move ! (3 ∷ 1 ∷ 0 ∷ []) $ group ! 3 $ drop ! $
+          -- [tok3; the locals]
+          same ! (on (m, w-m, e-m, is-m))) }
+
+      -- what part 8 knows, what it tells; what it has, and leaves
+      abbrev Known₈ : Type 0
+      Known₈ = Unit {0}
+
+      abbrev New₈ : Known₈ → Type 0
+      New₈ past = Unit {0}
+
+      abbrev Had₈ : (ℕ → ℕ) → Known₈ → List (Item 𝓤) → List (Item 𝓤)
+      Had₈ p past Γ = ‵ (froom (tyRef erased imm (tyArray (tyInt w32) 128)) (p 27) 0) ∷ Γ
+
+      abbrev Left₈ : (ℕ → ℕ) → (past : Known₈) → New₈ past → List (Item 𝓤) → List (Item 𝓤)
+      Left₈ p past new Γ = ‵ (fat fullShare (tyRef erased imm (tyArray (tyInt w32) 128)) (p 27) 0 ((vptr (p 16) 0))) ∷ Γ
+
+      part₈ : {K : Type 0} {Γ : List (Item 𝓤)} → K → (p : ℕ → ℕ) (past : Known₈)
+          → ((new : New₈ past) → Seq K W (Left₈ p past new Γ) (runs C Λ (En p) rest₉ (atRet (En p) Post)))
+          → Seq K W (Had₈ p past Γ) (runs C Λ (En p) rest₈ (atRet (En p) Post))
+      unfolding rest₈
+      part₈ {Γ = Γ} t p past on = record { prf =
+          qed W (Had₈ p past Γ) ∵ exec ! C Λ (En p) rest₈ (atRet (En p) Post) $
+          assigns ! {v = (vptr (p 16) 0)} (addr ! (from ! (stop !))) (from ! (stop !)) (init ! 0 refl (tt, tt)) $
+          same ! (on (tt)) }
+
+      -- what part 9 knows, what it tells; what it has, and leaves
+      abbrev Known₉ : Type 0
+      Known₉ = (z-found : List ℕ) × (z-receives : List ℕ) × (z-sends : List ℕ) × (ok : Bool) × (w-ok : Val) ×
           (e-ok : Sound h z-sends z-receives ok) × (is-ok : Is Boolean ok (w-ok ∷ [])) × (q′ : Share) ×
           (len-queued : length (h .queued) ≡ 128) × (len-outstanding : length (h .outstanding) ≡ 32) ×
           (len-transmissions : length (h .transmissions) ≡ 32) × (len-ready : length (h .ready) ≡ 128) ×
@@ -816,808 +948,312 @@ module _ {M : Type 1} (𝓤 : URA M) (H : Heap 𝓤) (A : Atoms 𝓤) (W : Given
           (was-flight : Is flight-row.the-row (h .flight) ((LL.vals flight-row.the-type flight-laws.the-laws) (h .flight))) ×
           (was-arrival : Is arrival-row.the-row (h .arrival) ((LL.vals arrival-row.the-type arrival-laws.the-laws) (h .arrival))) ×
           (was-clock : Is clock-row.the-row (h .clock) ((LL.vals clock-row.the-type clock-laws.the-laws) (h .clock))) × (n : ℕ) ×
-          (w-n : Val) × (e-n : n ≡ h .flight .outstanding) × (w-found : Val) × (w-g : Val) ×
           (e-g : (length z-found ≡ 128) × (recordsIn z-found ≡ padded (gathered (take sendSlots (x₃ .now)) (slotsIn (h .outstanding) n)))) ×
           (was-found-3 : Is (Array u32 128) z-found ((array-vals (uint-vals w32)) z-found)) × (m : ℕ) × (w-m : Val) ×
-          (e-m : m ≡ length (x₃ .now)) × (Is usize m (w-m ∷ []))
+          (Is usize m (w-m ∷ []))
 
-      part₂ : (past : Known₂) → ent 𝓤 (⋆ 𝓤 H A (‵ (flft κ₃ q₃)
-          ∷ ‵ (fat fullShare (tyArray (tyInt w32) 128) (past .19) 0 ((only ((array-vals (uint-vals w32)) (past .0)))))
-          ∷ ‵ (partAt (Array u32 32) (past .44) (h .outstanding) b (o + 636))
-          ∷ ‵ (partAt clock-row.the-row (past .44) (h .clock) b (o + 104))
-          ∷ ‵ (partAt arrival-row.the-row (past .44) (h .arrival) b (o + 72))
-          ∷ ‵ (partAt flight-row.the-row (past .44) (h .flight) b (o + 16))
-          ∷ ‵ (partAt settings-row.the-row (past .44) (h .settings) b (o + 0))
-          ∷ ‵ (partAt (Array u32 128) (past .44) (h .«waiting_numbers») b (o + 1820))
-          ∷ ‵ (partAt (Array u32 128) (past .44) (h .waiting) b (o + 1308)) ∷ ‵ (partAt (Array u32 128) (past .44) (h .ready) b (o + 796))
-          ∷ ‵ (partAt (Array u8 32) (past .44) (h .transmissions) b (o + 764))
-          ∷ ‵ (partAt (Array u32 128) (past .44) (h .queued) b (o + 124)) ∷ raw (Back 𝓤 H A (past .44) b o)
-          ∷ ‵ (fobor κ₀ q₀ (partAt L (past .44) h b o))
-          ∷ ‵ (fat fullShare (tyArray (tyInt w8) 256) (past .12) 0 ((only ((array-vals (uint-vals w8)) (past .1)))))
-          ∷ ‵ (fat fullShare (tyArray (tyInt w8) 128) (past .11) 0 ((only ((array-vals (uint-vals w8)) (past .2)))))
-          ∷ (‵ (fdies (tyInt w32) (past .3)) ⊛ ‵ (fdies (tyRef (named 0) imm (pointee (L .written))) (past .4)) ⊛ ‵
-          (fdies (sliceTy (tyRef (named 1) imm (tyInt w8))) (past .5)) ⊛ ‵ (fdies (sliceTy (tyRef (named 2) imm (tyInt w8))) (past .6)) ⊛ ‵
-          (fdies (sliceTy (tyRef (named 3) imm (pointee (R .written)))) (past .7)) ⊛ ‵
-          (fdies (sliceTy (tyRef (named 4) imm (tyInt w32))) (past .8)) ⊛ ‵ (fdies (tyInt w32) (past .9)) ⊛ ‵
-          (fdies (tyRef (named 5) mut (tyInt w32)) (past .10)) ⊛ ‵ (fdies (tyArray (tyInt w8) 128) (past .11)) ⊛ ‵
-          (fdies (tyArray (tyInt w8) 256) (past .12)) ⊛ ‵ (fdies tyBool (past .13)) ⊛ ‵ (fdies settings-laws.mir (past .14)) ⊛ ‵
-          (fdies flight-laws.mir (past .15)) ⊛ ‵ (fdies arrival-laws.mir (past .16)) ⊛ ‵ (fdies clock-laws.mir (past .17)) ⊛ ‵
-          (fdies (tyInt w64) (past .18)) ⊛ ‵ (fdies (tyArray (tyInt w32) 128) (past .19)) ⊛ ‵ (fdies (tyInt w64) (past .20)) ⊛ ‵
-          (fdies time-laws.mir (past .21)) ⊛ ‵ (fdies (tyArray (tyInt w8) 128) (past .22)) ⊛ ‵ (fdies (tyArray (tyInt w8) 256) (past .23)) ⊛
-          ‵ (fdies (tyRef erased mut (tyArray (tyInt w8) 128)) (past .24)) ⊛ ‵
-          (fdies (tyRef erased mut (tyArray (tyInt w8) 256)) (past .25)) ⊛ ‵ (fdies (tyArray (tyInt w32) 128) (past .26)) ⊛ ‵
-          (fdies tyUnit (past .27)) ⊛ ‵ (fdies (tyRef erased imm (tyArray (tyInt w32) 32)) (past .28)) ⊛ ‵
-          (fdies (tyRef erased mut (tyArray (tyInt w32) 128)) (past .29)) ⊛ ‵
-          (fdies (tyRef erased imm (tyArray (tyInt w32) 128)) (past .30)) ⊛ ‵
-          (fdies (tyRef erased imm (tyArray (tyInt w32) 128)) (past .31)) ⊛ ‵ (fdies (tyRef erased imm (tyArray (tyInt w32) 32)) (past .32))
-          ⊛ ‵ (fdies (tyRef erased imm (tyArray (tyInt w8) 32)) (past .33)) ⊛ ‵
-          (fdies (tyRef erased imm (tyArray (tyInt w32) 128)) (past .34)) ⊛ ‵
-          (fdies (tyRef erased imm (tyArray (tyInt w32) 128)) (past .35)) ⊛ ‵
-          (fdies (tyRef erased imm (tyArray (tyInt w32) 128)) (past .36)) ⊛ ‵ (fdies (tyRef erased mut (tyInt w32)) (past .37)))
-          ∷ ‵ (flft κ₁ q₁) ∷ ‵ (flft κ₂ q₂) ∷ ‵ (flft κ₄ q₄) ∷ ‵ (flft κ₅ q₅) ∷ ‵ Own₁ ∷ ‵ Own₂ ∷ ‵ Own₄
-          ∷ ‵ Own₆ ∷ ‵ (froom (tyRef erased mut (tyInt w32)) (past .37) 0)
-          ∷ ‵ (froom (tyRef erased imm (tyArray (tyInt w32) 128)) (past .36) 0)
-          ∷ ‵ (froom (tyRef erased imm (tyArray (tyInt w32) 128)) (past .35) 0)
-          ∷ ‵ (froom (tyRef erased imm (tyArray (tyInt w32) 128)) (past .34) 0)
-          ∷ ‵ (froom (tyRef erased imm (tyArray (tyInt w8) 32)) (past .33) 0)
-          ∷ ‵ (froom (tyRef erased imm (tyArray (tyInt w32) 32)) (past .32) 0)
-          ∷ ‵ (froom (tyRef erased imm (tyArray (tyInt w32) 128)) (past .31) 0)
-          ∷ ‵ (fat fullShare (tyRef erased imm (tyArray (tyInt w32) 128)) (past .30) 0 ((vptr (past .19) 0)))
-          ∷ ‵ (fat fullShare (tyRef erased mut (tyArray (tyInt w32) 128)) (past .29) 0 ((vptr (past .19) 0)))
-          ∷ ‵ (fat fullShare (tyRef erased imm (tyArray (tyInt w32) 32)) (past .28) 0 ((vptr b (o + 636))))
-          ∷ ‵ (fat fullShare tyUnit (past .27) 0 ((past .59))) ∷ ‵ (fat fullShare (tyArray (tyInt w32) 128) (past .26) 0 ((past .58)))
-          ∷ ‵ (fat fullShare (tyRef erased mut (tyArray (tyInt w8) 256)) (past .25) 0 ((vptr (past .12) 0)))
-          ∷ ‵ (fat fullShare (tyRef erased mut (tyArray (tyInt w8) 128)) (past .24) 0 ((vptr (past .11) 0)))
-          ∷ ‵ (fat fullShare (tyArray (tyInt w8) 256) (past .23) 0 ((past .39)))
-          ∷ ‵ (fat fullShare (tyArray (tyInt w8) 128) (past .22) 0 ((past .38))) ∷ ‵ (froom time-laws.mir (past .21) 0)
-          ∷ ‵ (fat fullShare (tyInt w64) (past .20) 0 ((past .63))) ∷ ‵ (fat fullShare (tyInt w64) (past .18) 0 ((past .56)))
-          ∷ ‵ (fat fullShare clock-laws.mir (past .17) 0 ((only ((LL.vals clock-row.the-type clock-laws.the-laws) (h .clock)))))
-          ∷ ‵ (fat fullShare arrival-laws.mir (past .16) 0 ((only ((LL.vals arrival-row.the-type arrival-laws.the-laws) (h .arrival)))))
-          ∷ ‵ (fat fullShare flight-laws.mir (past .15) 0 ((only ((LL.vals flight-row.the-type flight-laws.the-laws) (h .flight)))))
-          ∷ ‵ (fat fullShare settings-laws.mir (past .14) 0 ((only ((LL.vals settings-row.the-type settings-laws.the-laws) (h .settings)))))
-          ∷ ‵ (fat fullShare tyBool (past .13) 0 ((past .41))) ∷ ‵ (fat fullShare (tyRef (named 5) mut (tyInt w32)) (past .10) 0 (s₆))
-          ∷ ‵ (fat fullShare (tyInt w32) (past .9) 0 (v₅)) ∷ ‵ (fat fullShare (sliceTy (tyRef (named 4) imm (tyInt w32))) (past .8) 0 (s₄))
-          ∷ ‵ (fat fullShare (sliceTy (tyRef (named 3) imm (pointee (R .written)))) (past .7) 0 (s₃))
-          ∷ ‵ (fat fullShare (sliceTy (tyRef (named 2) imm (tyInt w8))) (past .6) 0 (s₂))
-          ∷ ‵ (fat fullShare (sliceTy (tyRef (named 1) imm (tyInt w8))) (past .5) 0 (s₁))
-          ∷ ‵ (fat fullShare (tyRef (named 0) imm (pointee (L .written))) (past .4) 0 (vptr b o)) ∷ ‵ (froom (tyInt w32) (past .3) 0) ∷ []))
-          (Wp 𝓤 H C Λ (En (past .3) (past .4) (past .5) (past .6) (past .7) (past .8) (past .9) (past .10) (past .11) (past .12) (past .13)
-          (past .14) (past .15) (past .16) (past .17) (past .18) (past .19) (past .20) (past .21) (past .22) (past .23) (past .24)
-          (past .25) (past .26) (past .27) (past .28) (past .29) (past .30) (past .31) (past .32) (past .33) (past .34) (past .35)
-          (past .36) (past .37)) (behind 19 (code.function .body))
-          (atReturn 𝓤 H (En (past .3) (past .4) (past .5) (past .6) (past .7) (past .8) (past .9) (past .10) (past .11) (past .12)
-          (past .13) (past .14) (past .15) (past .16) (past .17) (past .18) (past .19) (past .20) (past .21) (past .22) (past .23)
-          (past .24) (past .25) (past .26) (past .27) (past .28) (past .29) (past .30) (past .31) (past .32) (past .33) (past .34)
-          (past .35) (past .36) (past .37)) Post))
-      part₂ past =
-          qed W (‵ (flft κ₃ q₃) ∷ ‵ (fat fullShare (tyArray (tyInt w32) 128) (past .19) 0 ((only ((array-vals (uint-vals w32)) (past .0)))))
-          ∷ ‵ (partAt (Array u32 32) (past .44) (h .outstanding) b (o + 636))
-          ∷ ‵ (partAt clock-row.the-row (past .44) (h .clock) b (o + 104))
-          ∷ ‵ (partAt arrival-row.the-row (past .44) (h .arrival) b (o + 72))
-          ∷ ‵ (partAt flight-row.the-row (past .44) (h .flight) b (o + 16))
-          ∷ ‵ (partAt settings-row.the-row (past .44) (h .settings) b (o + 0))
-          ∷ ‵ (partAt (Array u32 128) (past .44) (h .«waiting_numbers») b (o + 1820))
-          ∷ ‵ (partAt (Array u32 128) (past .44) (h .waiting) b (o + 1308))
-          ∷ ‵ (partAt (Array u32 128) (past .44) (h .ready) b (o + 796))
-          ∷ ‵ (partAt (Array u8 32) (past .44) (h .transmissions) b (o + 764))
-          ∷ ‵ (partAt (Array u32 128) (past .44) (h .queued) b (o + 124)) ∷ raw (Back 𝓤 H A (past .44) b o)
-          ∷ ‵ (fobor κ₀ q₀ (partAt L (past .44) h b o))
-          ∷ ‵ (fat fullShare (tyArray (tyInt w8) 256) (past .12) 0 ((only ((array-vals (uint-vals w8)) (past .1)))))
-          ∷ ‵ (fat fullShare (tyArray (tyInt w8) 128) (past .11) 0 ((only ((array-vals (uint-vals w8)) (past .2)))))
-          ∷ (‵ (fdies (tyInt w32) (past .3)) ⊛ ‵ (fdies (tyRef (named 0) imm (pointee (L .written))) (past .4)) ⊛ ‵
-          (fdies (sliceTy (tyRef (named 1) imm (tyInt w8))) (past .5)) ⊛ ‵ (fdies (sliceTy (tyRef (named 2) imm (tyInt w8))) (past .6))
-          ⊛ ‵ (fdies (sliceTy (tyRef (named 3) imm (pointee (R .written)))) (past .7)) ⊛ ‵
-          (fdies (sliceTy (tyRef (named 4) imm (tyInt w32))) (past .8)) ⊛ ‵ (fdies (tyInt w32) (past .9)) ⊛ ‵
-          (fdies (tyRef (named 5) mut (tyInt w32)) (past .10)) ⊛ ‵ (fdies (tyArray (tyInt w8) 128) (past .11)) ⊛ ‵
-          (fdies (tyArray (tyInt w8) 256) (past .12)) ⊛ ‵ (fdies tyBool (past .13)) ⊛ ‵ (fdies settings-laws.mir (past .14)) ⊛ ‵
-          (fdies flight-laws.mir (past .15)) ⊛ ‵ (fdies arrival-laws.mir (past .16)) ⊛ ‵ (fdies clock-laws.mir (past .17)) ⊛ ‵
-          (fdies (tyInt w64) (past .18)) ⊛ ‵ (fdies (tyArray (tyInt w32) 128) (past .19)) ⊛ ‵ (fdies (tyInt w64) (past .20)) ⊛ ‵
-          (fdies time-laws.mir (past .21)) ⊛ ‵ (fdies (tyArray (tyInt w8) 128) (past .22)) ⊛ ‵
-          (fdies (tyArray (tyInt w8) 256) (past .23)) ⊛ ‵ (fdies (tyRef erased mut (tyArray (tyInt w8) 128)) (past .24)) ⊛ ‵
-          (fdies (tyRef erased mut (tyArray (tyInt w8) 256)) (past .25)) ⊛ ‵ (fdies (tyArray (tyInt w32) 128) (past .26)) ⊛ ‵
-          (fdies tyUnit (past .27)) ⊛ ‵ (fdies (tyRef erased imm (tyArray (tyInt w32) 32)) (past .28)) ⊛ ‵
-          (fdies (tyRef erased mut (tyArray (tyInt w32) 128)) (past .29)) ⊛ ‵
-          (fdies (tyRef erased imm (tyArray (tyInt w32) 128)) (past .30)) ⊛ ‵
-          (fdies (tyRef erased imm (tyArray (tyInt w32) 128)) (past .31)) ⊛ ‵
-          (fdies (tyRef erased imm (tyArray (tyInt w32) 32)) (past .32)) ⊛ ‵
-          (fdies (tyRef erased imm (tyArray (tyInt w8) 32)) (past .33)) ⊛ ‵
-          (fdies (tyRef erased imm (tyArray (tyInt w32) 128)) (past .34)) ⊛ ‵
-          (fdies (tyRef erased imm (tyArray (tyInt w32) 128)) (past .35)) ⊛ ‵
-          (fdies (tyRef erased imm (tyArray (tyInt w32) 128)) (past .36)) ⊛ ‵ (fdies (tyRef erased mut (tyInt w32)) (past .37)))
-          ∷ ‵ (flft κ₁ q₁) ∷ ‵ (flft κ₂ q₂) ∷ ‵ (flft κ₄ q₄) ∷ ‵ (flft κ₅ q₅) ∷ ‵ Own₁ ∷ ‵ Own₂
-          ∷ ‵ Own₄ ∷ ‵ Own₆ ∷ ‵ (froom (tyRef erased mut (tyInt w32)) (past .37) 0)
-          ∷ ‵ (froom (tyRef erased imm (tyArray (tyInt w32) 128)) (past .36) 0)
-          ∷ ‵ (froom (tyRef erased imm (tyArray (tyInt w32) 128)) (past .35) 0)
-          ∷ ‵ (froom (tyRef erased imm (tyArray (tyInt w32) 128)) (past .34) 0)
-          ∷ ‵ (froom (tyRef erased imm (tyArray (tyInt w8) 32)) (past .33) 0)
-          ∷ ‵ (froom (tyRef erased imm (tyArray (tyInt w32) 32)) (past .32) 0)
-          ∷ ‵ (froom (tyRef erased imm (tyArray (tyInt w32) 128)) (past .31) 0)
-          ∷ ‵ (fat fullShare (tyRef erased imm (tyArray (tyInt w32) 128)) (past .30) 0 ((vptr (past .19) 0)))
-          ∷ ‵ (fat fullShare (tyRef erased mut (tyArray (tyInt w32) 128)) (past .29) 0 ((vptr (past .19) 0)))
-          ∷ ‵ (fat fullShare (tyRef erased imm (tyArray (tyInt w32) 32)) (past .28) 0 ((vptr b (o + 636))))
-          ∷ ‵ (fat fullShare tyUnit (past .27) 0 ((past .59))) ∷ ‵ (fat fullShare (tyArray (tyInt w32) 128) (past .26) 0 ((past .58)))
-          ∷ ‵ (fat fullShare (tyRef erased mut (tyArray (tyInt w8) 256)) (past .25) 0 ((vptr (past .12) 0)))
-          ∷ ‵ (fat fullShare (tyRef erased mut (tyArray (tyInt w8) 128)) (past .24) 0 ((vptr (past .11) 0)))
-          ∷ ‵ (fat fullShare (tyArray (tyInt w8) 256) (past .23) 0 ((past .39)))
-          ∷ ‵ (fat fullShare (tyArray (tyInt w8) 128) (past .22) 0 ((past .38))) ∷ ‵ (froom time-laws.mir (past .21) 0)
-          ∷ ‵ (fat fullShare (tyInt w64) (past .20) 0 ((past .63))) ∷ ‵ (fat fullShare (tyInt w64) (past .18) 0 ((past .56)))
-          ∷ ‵ (fat fullShare clock-laws.mir (past .17) 0 ((only ((LL.vals clock-row.the-type clock-laws.the-laws) (h .clock)))))
-          ∷ ‵ (fat fullShare arrival-laws.mir (past .16) 0 ((only ((LL.vals arrival-row.the-type arrival-laws.the-laws) (h .arrival)))))
-          ∷ ‵ (fat fullShare flight-laws.mir (past .15) 0 ((only ((LL.vals flight-row.the-type flight-laws.the-laws) (h .flight)))))
-          ∷ ‵ (fat fullShare settings-laws.mir (past .14) 0
-          ((only ((LL.vals settings-row.the-type settings-laws.the-laws) (h .settings)))))
-          ∷ ‵ (fat fullShare tyBool (past .13) 0 ((past .41))) ∷ ‵ (fat fullShare (tyRef (named 5) mut (tyInt w32)) (past .10) 0 (s₆))
-          ∷ ‵ (fat fullShare (tyInt w32) (past .9) 0 (v₅))
-          ∷ ‵ (fat fullShare (sliceTy (tyRef (named 4) imm (tyInt w32))) (past .8) 0 (s₄))
-          ∷ ‵ (fat fullShare (sliceTy (tyRef (named 3) imm (pointee (R .written)))) (past .7) 0 (s₃))
-          ∷ ‵ (fat fullShare (sliceTy (tyRef (named 2) imm (tyInt w8))) (past .6) 0 (s₂))
-          ∷ ‵ (fat fullShare (sliceTy (tyRef (named 1) imm (tyInt w8))) (past .5) 0 (s₁))
-          ∷ ‵ (fat fullShare (tyRef (named 0) imm (pointee (L .written))) (past .4) 0 (vptr b o)) ∷ ‵ (froom (tyInt w32) (past .3) 0)
-          ∷ []) ∵ exec ! C Λ (En (past .3) (past .4) (past .5) (past .6) (past .7) (past .8) (past .9) (past .10) (past .11) (past .12)
-          (past .13) (past .14) (past .15) (past .16) (past .17) (past .18) (past .19) (past .20) (past .21) (past .22) (past .23)
-          (past .24) (past .25) (past .26) (past .27) (past .28) (past .29) (past .30) (past .31) (past .32) (past .33) (past .34)
-          (past .35) (past .36) (past .37)) (behind 19 (code.function .body))
-          (atRet (En (past .3) (past .4) (past .5) (past .6) (past .7) (past .8) (past .9) (past .10) (past .11) (past .12) (past .13)
-          (past .14) (past .15) (past .16) (past .17) (past .18) (past .19) (past .20) (past .21) (past .22) (past .23) (past .24)
-          (past .25) (past .26) (past .27) (past .28) (past .29) (past .30) (past .31) (past .32) (past .33) (past .34) (past .35)
-          (past .36) (past .37)) Post) $
-          assigns ! {v = (vptr b (o + 124))} (addr ! (from ! (hop ! (look ! 55 refl) (fld ! {d = 124} refl (stop !))))) (from ! (stop !))
-          (init ! 31 refl (tt, tt)) $
-          assigns ! {v = (vptr b (o + 636))} (addr ! (from ! (hop ! (look ! 55 refl) (fld ! {d = 636} refl (stop !))))) (from ! (stop !))
-          (init ! 30 refl (tt, tt)) $
-          assigns ! {v = (vptr b (o + 764))} (addr ! (from ! (hop ! (look ! 55 refl) (fld ! {d = 764} refl (stop !))))) (from ! (stop !))
-          (init ! 29 refl (tt, tt)) $
-          assigns ! {v = (vptr b (o + 796))} (addr ! (from ! (hop ! (look ! 55 refl) (fld ! {d = 796} refl (stop !))))) (from ! (stop !))
-          (init ! 28 refl (tt, tt)) $
-          assigns ! {v = (vptr b (o + 1308))} (addr ! (from ! (hop ! (look ! 55 refl) (fld ! {d = 1308} refl (stop !))))) (from ! (stop !))
-          (init ! 27 refl (tt, tt)) $
-          assigns ! {v = (vptr b (o + 1820))} (addr ! (from ! (hop ! (look ! 55 refl) (fld ! {d = 1820} refl (stop !))))) (from ! (stop !))
-          (init ! 26 refl (tt, tt)) $
-          move ! (1 ∷ []) $ use1 W (‵ (cellAt fullShare ((tyArray (tyInt w32) 128) ∷ [])
-          ((only ((array-vals (uint-vals w32)) (past .0))) ∷ []) (past .19) 0))
-          (W .laws .at-raw fullShare (tyArray (tyInt w32) 128) (past .19) 0 (only ((array-vals (uint-vals w32)) (past .0)))) $
-          cell-in ! fullShare (Array u32 128) (array-makes 𝓤 H A W u32 (uint-makes 𝓤 H A W w32) 128) (past .0) (past .19) 0
-          (only ((array-vals (uint-vals w32)) (past .0))) (past .61) $
-          lend-shr ! tt fullShare (Array u32 128) (past .0) (past .19) 0
-          (λ α-found′ δ-found′. move ! (13 ∷ []) $
-          lend-shr ! tt (past .44) (Array u32 128) (h .queued) b (o + 124)
-          (λ α-queued δ-queued. move ! (7 ∷ []) $
-          lend-shr ! tt (past .44) (Array u32 32) (h .outstanding) b (o + 636)
-          (λ α-outstanding′ δ-outstanding′. move ! (17 ∷ []) $
-          lend-shr ! tt (past .44) (Array u8 32) (h .transmissions) b (o + 764)
-          (λ α-transmissions δ-transmissions. move ! (19 ∷ []) $
-          lend-shr ! tt (past .44) (Array u32 128) (h .ready) b (o + 796)
-          (λ α-ready δ-ready. move ! (21 ∷ []) $
-          lend-shr ! tt (past .44) (Array u32 128) (h .waiting) b (o + 1308)
-          (λ α-waiting δ-waiting. move ! (23 ∷ []) $
-          lend-shr ! tt (past .44) (Array u32 128) (h .«waiting_numbers») b (o + 1820)
-          (λ α-waiting-numbers δ-waiting-numbers. move ! (18 ∷ 19 ∷ 15 ∷ 16 ∷ 12 ∷ 13 ∷ 9 ∷ 10 ∷ 6 ∷ 7 ∷ 3 ∷ 4 ∷ 0 ∷ 1 ∷ 31
-          ∷ 35 ∷ 32 ∷ 36 ∷ 33 ∷ 37 ∷ []) $ group ! 20 $
-          calls-fn ! fm core.ended (core.clauses 𝓤 H A at-mem run) (known .7)
-          (to-core (past .19) α-found′ δ-found′ (past .0) α-queued δ-queued (h .queued) α-outstanding′ δ-outstanding′ (h .outstanding)
-          α-transmissions δ-transmissions (h .transmissions) α-ready δ-ready (h .ready) α-waiting δ-waiting (h .waiting)
-          α-waiting-numbers δ-waiting-numbers (h .«waiting_numbers») (h .settings)
-          (only ((LL.vals settings-row.the-type settings-laws.the-laws) (h .settings))) (h .flight)
-          (only ((LL.vals flight-row.the-type flight-laws.the-laws) (h .flight))) (h .arrival)
-          (only ((LL.vals arrival-row.the-type arrival-laws.the-laws) (h .arrival))) (h .clock)
-          (only ((LL.vals clock-row.the-type clock-laws.the-laws) (h .clock))) (past .40) (past .41) (past .62) (past .63) x₅ v₅)
-          (λ a ws-a. timeOutcome a ≡ checksWith h (recordsIn (past .0)) (x₄ .now) (lentLengths (past .62) (x₁ .now) (x₂ .now) (x₄ .now))
-          x₅) (‵ (flft (α-found′ ∷ []) fullShare) ⊛ ‵
-          (ShrRef (named 0) (α-found′ ∷ []) (Array u32 128) .own (ref-at (past .19) 0 δ-found′ (past .0)) ((vptr (past .19) 0) ∷ [])) ⊛
-          ‵ (flft (α-queued ∷ []) fullShare) ⊛ ‵ (ShrRef (named 0) (α-queued ∷ []) (Array u32 128) .own
-          (ref-at b (o + 124) δ-queued (h .queued)) ((vptr b (o + 124)) ∷ [])) ⊛ ‵ (flft (α-outstanding′ ∷ []) fullShare) ⊛ ‵
-          (ShrRef (named 0) (α-outstanding′ ∷ []) (Array u32 32) .own (ref-at b (o + 636) δ-outstanding′ (h .outstanding))
-          ((vptr b (o + 636)) ∷ [])) ⊛ ‵ (flft (α-transmissions ∷ []) fullShare) ⊛ ‵
-          (ShrRef (named 0) (α-transmissions ∷ []) (Array u8 32) .own (ref-at b (o + 764) δ-transmissions (h .transmissions))
-          ((vptr b (o + 764)) ∷ [])) ⊛ ‵ (flft (α-ready ∷ []) fullShare) ⊛ ‵
-          (ShrRef (named 0) (α-ready ∷ []) (Array u32 128) .own (ref-at b (o + 796) δ-ready (h .ready)) ((vptr b (o + 796)) ∷ [])) ⊛ ‵
-          (flft (α-waiting ∷ []) fullShare) ⊛ ‵ (ShrRef (named 0) (α-waiting ∷ []) (Array u32 128) .own
-          (ref-at b (o + 1308) δ-waiting (h .waiting)) ((vptr b (o + 1308)) ∷ [])) ⊛ ‵ (flft (α-waiting-numbers ∷ []) fullShare) ⊛ ‵
-          (ShrRef (named 0) (α-waiting-numbers ∷ []) (Array u32 128) .own (ref-at b (o + 1820) δ-waiting-numbers (h .«waiting_numbers»))
-          ((vptr b (o + 1820)) ∷ [])) ⊛ ‵ (flft κ₁ q₁) ⊛ ‵ Own₁ ⊛ ‵ (flft κ₂ q₂) ⊛ ‵ Own₂ ⊛ ‵ (flft κ₄ q₄) ⊛ ‵
-          Own₄)
-          (asks-core (past .19) α-found′ δ-found′ (past .0) α-queued δ-queued (h .queued) α-outstanding′ δ-outstanding′ (h .outstanding)
+      abbrev New₉ : Known₉ → Type 0
+      New₉ past = (a : Time) × (w-a : Val) × (e-a : timeOutcome a ≡ checksWith h (recordsIn (past .0)) (x₄ .now)
+          (lentLengths (past .21) (x₁ .now) (x₂ .now) (x₄ .now)) x₅) × (Is time-row.the-row a (w-a ∷ []))
+
+      abbrev Had₉ : (ℕ → ℕ) → Known₉ → List (Item 𝓤) → List (Item 𝓤)
+      Had₉ p past Γ = ‵ (fat fullShare (tyRef erased imm (tyArray (tyInt w32) 128)) (p 27) 0 ((vptr (p 16) 0)))
+          ∷ ‵ (fat fullShare (tyInt w64) (p 17) 0 ((past .22)))
+          ∷ ‵ (fat fullShare (tyArray (tyInt w32) 128) (p 16) 0 ((only ((array-vals (uint-vals w32)) (past .0)))))
+          ∷ ‵ (partAt (Array u32 32) (past .7) (h .outstanding) b (o + 636))
+          ∷ ‵ (fat fullShare (tyRef (named 0) imm (pointee (L .written))) (p 1) 0 (vptr b o))
+          ∷ ‵ (partAt (Array u32 128) (past .7) (h .«waiting_numbers») b (o + 1820))
+          ∷ ‵ (partAt (Array u32 128) (past .7) (h .waiting) b (o + 1308)) ∷ ‵ (partAt (Array u32 128) (past .7) (h .ready) b (o + 796))
+          ∷ ‵ (partAt (Array u8 32) (past .7) (h .transmissions) b (o + 764)) ∷ ‵ (partAt (Array u32 128) (past .7) (h .queued) b (o + 124))
+          ∷ ‵ (fat fullShare clock-laws.mir (p 14) 0 ((only ((LL.vals clock-row.the-type clock-laws.the-laws) (h .clock)))))
+          ∷ ‵ (fat fullShare arrival-laws.mir (p 13) 0 ((only ((LL.vals arrival-row.the-type arrival-laws.the-laws) (h .arrival)))))
+          ∷ ‵ (fat fullShare flight-laws.mir (p 12) 0 ((only ((LL.vals flight-row.the-type flight-laws.the-laws) (h .flight)))))
+          ∷ ‵ (fat fullShare settings-laws.mir (p 11) 0 ((only ((LL.vals settings-row.the-type settings-laws.the-laws) (h .settings)))))
+          ∷ ‵ (fat fullShare tyBool (p 10) 0 ((past .4))) ∷ ‵ (flft κ₁ q₁) ∷ ‵ (flft κ₂ q₂) ∷ ‵ (flft κ₄ q₄) ∷ ‵ Own₁
+          ∷ ‵ Own₂ ∷ ‵ Own₄ ∷ ‵ (froom (tyRef erased imm (tyArray (tyInt w32) 128)) (p 33) 0)
+          ∷ ‵ (froom (tyRef erased imm (tyArray (tyInt w32) 128)) (p 32) 0)
+          ∷ ‵ (froom (tyRef erased imm (tyArray (tyInt w32) 128)) (p 31) 0) ∷ ‵ (froom (tyRef erased imm (tyArray (tyInt w8) 32)) (p 30) 0)
+          ∷ ‵ (froom (tyRef erased imm (tyArray (tyInt w32) 32)) (p 29) 0) ∷ ‵ (froom (tyRef erased imm (tyArray (tyInt w32) 128)) (p 28) 0)
+          ∷ ‵ (froom time-laws.mir (p 18) 0) ∷ ‵ (fat fullShare (tyInt w32) (p 6) 0 (v₅))
+          ∷ ‵ (fat fullShare (sliceTy (tyRef (named 4) imm (tyInt w32))) (p 5) 0 (s₄))
+          ∷ ‵ (fat fullShare (sliceTy (tyRef (named 2) imm (tyInt w8))) (p 3) 0 (s₂))
+          ∷ ‵ (fat fullShare (sliceTy (tyRef (named 1) imm (tyInt w8))) (p 2) 0 (s₁)) ∷ Γ
+
+      abbrev Left₉ : (ℕ → ℕ) → (past : Known₉) → New₉ past → List (Item 𝓤) → List (Item 𝓤)
+      Left₉ p past new Γ = ‵ (partAt (Array u32 128) (past .7) (h .«waiting_numbers») b (o + 1820))
+          ∷ ‵ (partAt (Array u32 128) (past .7) (h .waiting) b (o + 1308)) ∷ ‵ (partAt (Array u32 128) (past .7) (h .ready) b (o + 796))
+          ∷ ‵ (partAt (Array u8 32) (past .7) (h .transmissions) b (o + 764))
+          ∷ ‵ (partAt (Array u32 32) (past .7) (h .outstanding) b (o + 636)) ∷ ‵ (partAt (Array u32 128) (past .7) (h .queued) b (o + 124))
+          ∷ ‵ (fat fullShare (tyArray (tyInt w32) 128) (p 16) 0 ((only ((array-vals (uint-vals w32)) (past .0))))) ∷ ‵ (flft κ₁ q₁)
+          ∷ ‵ (flft κ₂ q₂) ∷ ‵ (flft κ₄ q₄) ∷ ‵ (fat fullShare (tyRef erased imm (tyArray (tyInt w32) 128)) (p 27) 0 ((vptr (p 16) 0)))
+          ∷ ‵ (fat fullShare (tyInt w64) (p 17) 0 ((past .22)))
+          ∷ ‵ (fat fullShare (tyRef (named 0) imm (pointee (L .written))) (p 1) 0 (vptr b o))
+          ∷ ‵ (fat fullShare clock-laws.mir (p 14) 0 ((only ((LL.vals clock-row.the-type clock-laws.the-laws) (h .clock)))))
+          ∷ ‵ (fat fullShare arrival-laws.mir (p 13) 0 ((only ((LL.vals arrival-row.the-type arrival-laws.the-laws) (h .arrival)))))
+          ∷ ‵ (fat fullShare flight-laws.mir (p 12) 0 ((only ((LL.vals flight-row.the-type flight-laws.the-laws) (h .flight)))))
+          ∷ ‵ (fat fullShare settings-laws.mir (p 11) 0 ((only ((LL.vals settings-row.the-type settings-laws.the-laws) (h .settings)))))
+          ∷ ‵ (fat fullShare tyBool (p 10) 0 ((past .4)))
+          ∷ ‵ (fat fullShare (tyRef erased imm (tyArray (tyInt w32) 128)) (p 33) 0 ((vptr b (o + 1820))))
+          ∷ ‵ (fat fullShare (tyRef erased imm (tyArray (tyInt w32) 128)) (p 32) 0 ((vptr b (o + 1308))))
+          ∷ ‵ (fat fullShare (tyRef erased imm (tyArray (tyInt w32) 128)) (p 31) 0 ((vptr b (o + 796))))
+          ∷ ‵ (fat fullShare (tyRef erased imm (tyArray (tyInt w8) 32)) (p 30) 0 ((vptr b (o + 764))))
+          ∷ ‵ (fat fullShare (tyRef erased imm (tyArray (tyInt w32) 32)) (p 29) 0 ((vptr b (o + 636))))
+          ∷ ‵ (fat fullShare (tyRef erased imm (tyArray (tyInt w32) 128)) (p 28) 0 ((vptr b (o + 124))))
+          ∷ ‵ (fat fullShare time-laws.mir (p 18) 0 ((new .1))) ∷ ‵ (fat fullShare (tyInt w32) (p 6) 0 (v₅))
+          ∷ ‵ (fat fullShare (sliceTy (tyRef (named 4) imm (tyInt w32))) (p 5) 0 (s₄))
+          ∷ ‵ (fat fullShare (sliceTy (tyRef (named 2) imm (tyInt w8))) (p 3) 0 (s₂))
+          ∷ ‵ (fat fullShare (sliceTy (tyRef (named 1) imm (tyInt w8))) (p 2) 0 (s₁)) ∷ Γ
+
+      part₉ : {K : Type 0} {Γ : List (Item 𝓤)} → K → (p : ℕ → ℕ) (past : Known₉)
+          → ((new : New₉ past) → Seq K W (Left₉ p past new Γ) (runs C Λ (En p) rest₁₀ (atRet (En p) Post)))
+          → Seq K W (Had₉ p past Γ) (runs C Λ (En p) rest₉ (atRet (En p) Post))
+      unfolding rest₉
+      part₉ {Γ = Γ} t p past on = record { prf =
+          qed W (Had₉ p past Γ) ∵ exec ! C Λ (En p) rest₉ (atRet (En p) Post) $
+          assigns ! {v = (vptr b (o + 124))} (addr ! (place-queued ! (look ! 4 refl))) (from ! (stop !)) (init ! 26 refl (tt, tt)) $
+          assigns ! {v = (vptr b (o + 636))} (addr ! (place-outstanding ! (look ! 4 refl))) (from ! (stop !)) (init ! 25 refl (tt, tt)) $
+          assigns ! {v = (vptr b (o + 764))} (addr ! (place-transmissions ! (look ! 4 refl))) (from ! (stop !)) (init ! 24 refl (tt, tt)) $
+          assigns ! {v = (vptr b (o + 796))} (addr ! (place-ready ! (look ! 4 refl))) (from ! (stop !)) (init ! 23 refl (tt, tt)) $
+          assigns ! {v = (vptr b (o + 1308))} (addr ! (place-waiting ! (look ! 4 refl))) (from ! (stop !)) (init ! 22 refl (tt, tt)) $
+          assigns ! {v = (vptr b (o + 1820))} (addr ! (place-waiting-numbers ! (look ! 4 refl))) (from ! (stop !))
+              (init ! 21 refl (tt, tt)) $
+          move ! (2 ∷ []) $ use1 W (‵ (cellAt fullShare ((tyArray (tyInt w32) 128) ∷ [])
+              ((only ((array-vals (uint-vals w32)) (past .0))) ∷ []) (p 16) 0))
+              (W .laws .at-raw fullShare (tyArray (tyInt w32) 128) (p 16) 0 (only ((array-vals (uint-vals w32)) (past .0)))) $
+              cell-in ! fullShare (Array u32 128) (array-makes 𝓤 H A W u32 (uint-makes 𝓤 H A W w32) 128) (past .0) (p 16) 0
+              (only ((array-vals (uint-vals w32)) (past .0))) (past .20) $
+          lend-shr ! tt fullShare (Array u32 128) (past .0) (p 16) 0
+              (λ α-found′ δ-found′. move ! (11 ∷ []) $
+              lend-shr ! tt (past .7) (Array u32 128) (h .queued) b (o + 124)
+              (λ α-queued δ-queued. move ! (8 ∷ []) $
+              lend-shr ! tt (past .7) (Array u32 32) (h .outstanding) b (o + 636)
+              (λ α-outstanding′ δ-outstanding′. move ! (15 ∷ []) $
+              lend-shr ! tt (past .7) (Array u8 32) (h .transmissions) b (o + 764)
+              (λ α-transmissions δ-transmissions. move ! (17 ∷ []) $
+              lend-shr ! tt (past .7) (Array u32 128) (h .ready) b (o + 796)
+              (λ α-ready δ-ready. move ! (19 ∷ []) $
+              lend-shr ! tt (past .7) (Array u32 128) (h .waiting) b (o + 1308)
+              (λ α-waiting δ-waiting. move ! (21 ∷ []) $
+              lend-shr ! tt (past .7) (Array u32 128) (h .«waiting_numbers») b (o + 1820)
+              (λ α-waiting-numbers δ-waiting-numbers. move ! (18 ∷ 19 ∷ 15 ∷ 16 ∷ 12 ∷ 13 ∷ 9 ∷ 10 ∷ 6 ∷ 7 ∷ 3 ∷ 4 ∷ 0 ∷ 1 ∷ 29
+              ∷ 32 ∷ 30 ∷ 33 ∷ 31 ∷ 34 ∷ []) $ group ! 20 $
+              calls-fn ! fm core.ended (core.clauses 𝓤 H A at-mem run) (known .7)
+              (to-core (p 16) α-found′ δ-found′ (past .0) α-queued δ-queued (h .queued) α-outstanding′ δ-outstanding′ (h .outstanding)
+              α-transmissions δ-transmissions (h .transmissions) α-ready δ-ready (h .ready) α-waiting δ-waiting (h .waiting)
+              α-waiting-numbers δ-waiting-numbers (h .«waiting_numbers») (h .settings)
+              (only ((LL.vals settings-row.the-type settings-laws.the-laws) (h .settings))) (h .flight)
+              (only ((LL.vals flight-row.the-type flight-laws.the-laws) (h .flight))) (h .arrival)
+              (only ((LL.vals arrival-row.the-type arrival-laws.the-laws) (h .arrival))) (h .clock)
+              (only ((LL.vals clock-row.the-type clock-laws.the-laws) (h .clock))) (past .3) (past .4) (past .21) (past .22) x₅ v₅)
+              (λ a ws-a. timeOutcome a ≡ checksWith h (recordsIn (past .0)) (x₄ .now) (lentLengths (past .21) (x₁ .now) (x₂ .now) (x₄ .now))
+              x₅) (‵ (flft (α-found′ ∷ []) fullShare) ⊛ ‵
+              (ShrRef (named 0) (α-found′ ∷ []) (Array u32 128) .own (ref-at (p 16) 0 δ-found′ (past .0)) ((vptr (p 16) 0) ∷ [])) ⊛ ‵
+              (flft (α-queued ∷ []) fullShare) ⊛ ‵ (ShrRef (named 0) (α-queued ∷ []) (Array u32 128) .own
+              (ref-at b (o + 124) δ-queued (h .queued)) ((vptr b (o + 124)) ∷ [])) ⊛ ‵ (flft (α-outstanding′ ∷ []) fullShare) ⊛ ‵
+              (ShrRef (named 0) (α-outstanding′ ∷ []) (Array u32 32) .own (ref-at b (o + 636) δ-outstanding′ (h .outstanding))
+              ((vptr b (o + 636)) ∷ [])) ⊛ ‵ (flft (α-transmissions ∷ []) fullShare) ⊛ ‵
+              (ShrRef (named 0) (α-transmissions ∷ []) (Array u8 32) .own (ref-at b (o + 764) δ-transmissions (h .transmissions))
+              ((vptr b (o + 764)) ∷ [])) ⊛ ‵ (flft (α-ready ∷ []) fullShare) ⊛ ‵
+              (ShrRef (named 0) (α-ready ∷ []) (Array u32 128) .own (ref-at b (o + 796) δ-ready (h .ready)) ((vptr b (o + 796)) ∷ [])) ⊛ ‵
+              (flft (α-waiting ∷ []) fullShare) ⊛ ‵ (ShrRef (named 0) (α-waiting ∷ []) (Array u32 128) .own
+              (ref-at b (o + 1308) δ-waiting (h .waiting)) ((vptr b (o + 1308)) ∷ [])) ⊛ ‵ (flft (α-waiting-numbers ∷ []) fullShare) ⊛ ‵
+              (ShrRef (named 0) (α-waiting-numbers ∷ []) (Array u32 128) .own (ref-at b (o + 1820) δ-waiting-numbers (h .«waiting_numbers»))
+              ((vptr b (o + 1820)) ∷ [])) ⊛ ‵ (flft κ₁ q₁) ⊛ ‵ Own₁ ⊛ ‵ (flft κ₂ q₂) ⊛ ‵ Own₂ ⊛ ‵ (flft κ₄ q₄) ⊛ ‵
+              Own₄)
+          (asks-core (p 16) α-found′ δ-found′ (past .0) α-queued δ-queued (h .queued) α-outstanding′ δ-outstanding′ (h .outstanding)
           α-transmissions δ-transmissions (h .transmissions) α-ready δ-ready (h .ready) α-waiting δ-waiting (h .waiting) α-waiting-numbers
           δ-waiting-numbers (h .«waiting_numbers») (h .settings)
-          (only ((LL.vals settings-row.the-type settings-laws.the-laws) (h .settings))) (past .51) (h .flight)
-          (only ((LL.vals flight-row.the-type flight-laws.the-laws) (h .flight))) (past .52) (h .arrival)
-          (only ((LL.vals arrival-row.the-type arrival-laws.the-laws) (h .arrival))) (past .53) (h .clock)
-          (only ((LL.vals clock-row.the-type clock-laws.the-laws) (h .clock))) (past .54) (past .40) (past .41) (past .43) (past .62)
-          (past .63) (past .65) x₅ v₅ g₅ (
-            record {
-              whole-queued = (past .45);
-              whole-outstanding = (past .46);
-              whole-transmissions = (past .47);
-              whole-ready = (past .48);
-              whole-waiting = (past .49);
-              whole-numbers = (past .50);
-            },
-            (past .60) .0,
-            ((past .2), ((past .1), (past .42))),
-          )) (λ a ws-a. id⊢ 𝓤 _)
-          (and-then ! (load ! (from ! (stop !)) (look ! 42 refl))
-          (and-then ! (load ! (from ! (stop !)) (look ! 41 refl))
-          (and-then ! (load ! (from ! (stop !)) (look ! 40 refl))
-          (and-then ! (load ! (from ! (stop !)) (look ! 39 refl))
-          (and-then ! (load ! (from ! (stop !)) (look ! 43 refl))
-          (and-then ! (load ! (from ! (stop !)) (look ! 27 refl))
-          (and-then ! (load ! (from ! (stop !)) (look ! 37 refl))
+          (only ((LL.vals settings-row.the-type settings-laws.the-laws) (h .settings))) (past .14) (h .flight)
+          (only ((LL.vals flight-row.the-type flight-laws.the-laws) (h .flight))) (past .15) (h .arrival)
+          (only ((LL.vals arrival-row.the-type arrival-laws.the-laws) (h .arrival))) (past .16) (h .clock)
+          (only ((LL.vals clock-row.the-type clock-laws.the-laws) (h .clock))) (past .17) (past .3) (past .4) (past .6) (past .21)
+          (past .22) (past .23) x₅ v₅ g₅ (record { whole-queued = (past .8); whole-outstanding = (past .9);
+          whole-transmissions = (past .10); whole-ready = (past .11); whole-waiting = (past .12); whole-numbers = (past .13) },
+          (past .19) .0, ((past .2), ((past .1), (past .5))))) (λ a ws-a. id⊢ 𝓤 _)
+          (and-then ! (load ! (from ! (stop !)) (look ! 14 refl))
+          (and-then ! (load ! (from ! (stop !)) (look ! 13 refl))
+          (and-then ! (load ! (from ! (stop !)) (look ! 12 refl))
+          (and-then ! (load ! (from ! (stop !)) (look ! 11 refl))
+          (and-then ! (load ! (from ! (stop !)) (look ! 15 refl))
+          (and-then ! (load ! (from ! (stop !)) (look ! 8 refl))
+          (and-then ! (load ! (from ! (stop !)) (look ! 9 refl))
+          (and-then ! (load ! (from ! (stop !)) (look ! 21 refl))
+          (and-then ! (load ! (from ! (stop !)) (look ! 20 refl))
+          (and-then ! (load ! (from ! (stop !)) (look ! 19 refl))
+          (and-then ! (load ! (from ! (stop !)) (look ! 18 refl))
+          (and-then ! (load ! (from ! (stop !)) (look ! 17 refl))
+          (and-then ! (load ! (from ! (stop !)) (look ! 16 refl))
           (and-then ! (load ! (from ! (stop !)) (look ! 26 refl))
           (and-then ! (load ! (from ! (stop !)) (look ! 25 refl))
           (and-then ! (load ! (from ! (stop !)) (look ! 24 refl))
-          (and-then ! (load ! (from ! (stop !)) (look ! 23 refl))
-          (and-then ! (load ! (from ! (stop !)) (look ! 22 refl))
-          (and-then ! (load ! (from ! (stop !)) (look ! 21 refl))
-          (and-then ! (load ! (from ! (stop !)) (look ! 49 refl))
-          (and-then ! (load ! (from ! (stop !)) (look ! 48 refl))
-          (and-then ! (load ! (from ! (stop !)) (look ! 46 refl))
-          (and-then ! (load ! (from ! (stop !)) (look ! 45 refl)) (no-more !))))))))))))))))))
+          (and-then ! (load ! (from ! (stop !)) (look ! 23 refl)) (no-more !))))))))))))))))))
           (λ a w-a ws-a e-a is-a. land ! (from ! (stop !))
-          (init ! 37 refl (EL.lawful time-row.the-type time-laws.the-laws 𝓤 H A W tt .typed a (w-a ∷ []) is-a .0)) $
+          (init ! 23 refl (EL.lawful time-row.the-type time-laws.the-laws 𝓤 H A W tt .typed a (w-a ∷ []) is-a .0)) $
           spread W (‵ (flft (α-found′ ∷ []) fullShare))
-          (‵ (flft (α-queued ∷ []) fullShare) ∷ ‵ (flft (α-outstanding′ ∷ []) fullShare) ∷ ‵ (flft (α-transmissions ∷ []) fullShare)
-          ∷ ‵ (flft (α-ready ∷ []) fullShare) ∷ ‵ (flft (α-waiting ∷ []) fullShare) ∷ ‵ (flft (α-waiting-numbers ∷ []) fullShare)
-          ∷ ‵ (flft κ₁ q₁) ∷ ‵ (flft κ₂ q₂) ∷ ‵ (flft κ₄ q₄) ∷ ‵ ftrue ∷ []) (id⊢ 𝓤 _) $ move ! (11 ∷ []) $
-          spread W (‵ ftrue) (‵ ftrue ∷ ‵ ftrue ∷ ‵ ftrue ∷ ‵ ftrue ∷ ‵ ftrue ∷ ‵ ftrue ∷ ‵ ftrue ∷ ‵ ftrue ∷ ‵ ftrue
-          ∷ ‵ ftrue ∷ ‵ ftrue ∷ ‵ ftrue ∷ ‵ ftrue ∷ ‵ ftrue ∷ ‵ ftrue ∷ ‵ ftrue ∷ ‵ ftrue ∷ []) (id⊢ 𝓤 _) $
-          keep ! (18 ∷ 19 ∷ 20 ∷ 21 ∷ 22 ∷ 23 ∷ 24 ∷ 25 ∷ 26 ∷ 27 ∷ 29 ∷ 30 ∷ 31 ∷ 32 ∷ 33 ∷ 34 ∷ 35 ∷ 36 ∷ 37 ∷ 38
-          ∷ 39 ∷ 40 ∷ 41 ∷ 42 ∷ 43 ∷ 44 ∷ 45 ∷ 46 ∷ 47 ∷ 48 ∷ 49 ∷ 50 ∷ 51 ∷ 52 ∷ 53 ∷ 54 ∷ 55 ∷ 56 ∷ 57 ∷ 58 ∷ 59
-          ∷ 60 ∷ 61 ∷ 62 ∷ 63 ∷ 64 ∷ 65 ∷ 66 ∷ 67 ∷ 68 ∷ 69 ∷ 70 ∷ 71 ∷ 72 ∷ 73 ∷ 74 ∷ 75 ∷ 76 ∷ 77 ∷ 78 ∷ 79
-          ∷ []) $
+              (‵ (flft (α-queued ∷ []) fullShare) ∷ ‵ (flft (α-outstanding′ ∷ []) fullShare) ∷ ‵ (flft (α-transmissions ∷ []) fullShare)
+              ∷ ‵ (flft (α-ready ∷ []) fullShare) ∷ ‵ (flft (α-waiting ∷ []) fullShare) ∷ ‵ (flft (α-waiting-numbers ∷ []) fullShare)
+              ∷ ‵ (flft κ₁ q₁) ∷ ‵ (flft κ₂ q₂) ∷ ‵ (flft κ₄ q₄) ∷ ‵ ftrue ∷ []) (id⊢ 𝓤 _) $ move ! (11 ∷ []) $
+              spread W (‵ ftrue) (‵ ftrue ∷ ‵ ftrue ∷ ‵ ftrue ∷ ‵ ftrue ∷ ‵ ftrue ∷ ‵ ftrue ∷ ‵ ftrue ∷ ‵ ftrue ∷ ‵ ftrue
+              ∷ ‵ ftrue ∷ ‵ ftrue ∷ ‵ ftrue ∷ ‵ ftrue ∷ ‵ ftrue ∷ ‵ ftrue ∷ ‵ ftrue ∷ ‵ ftrue ∷ []) (id⊢ 𝓤 _) $
+              move ! (28 ∷ 17 ∷ 0 ∷ 1 ∷ 2 ∷ 3 ∷ 4 ∷ 5 ∷ 6 ∷ 7 ∷ 8 ∷ 9 ∷ 10 ∷ 11 ∷ 12 ∷ 13 ∷ 14 ∷ 15 ∷ 16 ∷ []) $
+              group ! 19 $ drop ! $
           -- [tok:@found; tok:queued; tok:outstanding; tok:transmissions; tok:ready; tok:waiting; tok:«waiting_numbers»; tok1; tok2; tok4;
-          -- lent:«waiting_numbers»; lent:waiting; lent:ready; lent:transmissions; lent:outstanding; lent:queued; lent:@found; tok3;
-          -- F:clock; F:arrival; F:flight; F:settings; back; opened; deaths; tok6; own6; the locals]
-          move ! (0 ∷ 16 ∷ []) $ back-shr ! tt fullShare (Array u32 128) (past .19) 0 (past .0) $
-          cell-out ! fullShare (Array u32 128) (array-vals (uint-vals w32)) (array-tells u32 (uint-vals w32) (uint-tells w32) 128)
-          (past .0) (past .19) 0 (λ was-found-4. use1 W
-          (‵ (fat fullShare (tyArray (tyInt w32) 128) (past .19) 0 (only ((array-vals (uint-vals w32)) (past .0)))))
-          (W .laws .raw-at fullShare (tyArray (tyInt w32) 128) (past .19) 0 (only ((array-vals (uint-vals w32)) (past .0)))) $
-          move ! (1 ∷ 15 ∷ []) $ back-shr ! tt (past .44) (Array u32 128) b (o + 124) (h .queued) $ move ! (2 ∷ 14 ∷ []) $
-          back-shr ! tt (past .44) (Array u32 32) b (o + 636) (h .outstanding) $ move ! (3 ∷ 13 ∷ []) $
-          back-shr ! tt (past .44) (Array u8 32) b (o + 764) (h .transmissions) $ move ! (4 ∷ 12 ∷ []) $
-          back-shr ! tt (past .44) (Array u32 128) b (o + 796) (h .ready) $ move ! (5 ∷ 11 ∷ []) $
-          back-shr ! tt (past .44) (Array u32 128) b (o + 1308) (h .waiting) $ move ! (6 ∷ 10 ∷ []) $
-          back-shr ! tt (past .44) (Array u32 128) b (o + 1820) (h .«waiting_numbers») $
-          by ! (part₃ (
-            (past .0),
-            (past .1),
-            (past .2),
-            (past .3),
-            (past .4),
-            (past .5),
-            (past .6),
-            (past .7),
-            (past .8),
-            (past .9),
-            (past .10),
-            (past .11),
-            (past .12),
-            (past .13),
-            (past .14),
-            (past .15),
-            (past .16),
-            (past .17),
-            (past .18),
-            (past .19),
-            (past .20),
-            (past .21),
-            (past .22),
-            (past .23),
-            (past .24),
-            (past .25),
-            (past .26),
-            (past .27),
-            (past .28),
-            (past .29),
-            (past .30),
-            (past .31),
-            (past .32),
-            (past .33),
-            (past .34),
-            (past .35),
-            (past .36),
-            (past .37),
-            (past .38),
-            (past .39),
-            (past .41),
-            (past .44),
-            (past .55),
-            (past .56),
-            (past .57),
-            (past .58),
-            (past .59),
-            (past .60),
-            (past .62),
-            (past .63),
-            (past .64),
-            a,
-            w-a,
-            e-a,
-            is-a,
-          )))))))))))
+          -- lent:«waiting_numbers»; lent:waiting; lent:ready; lent:transmissions; lent:outstanding; lent:queued; lent:@found; the locals]
+          move ! (0 ∷ 16 ∷ []) $ back-shr ! tt fullShare (Array u32 128) (p 16) 0 (past .0) $
+              cell-out ! fullShare (Array u32 128) (array-vals (uint-vals w32)) (array-tells u32 (uint-vals w32) (uint-tells w32) 128)
+              (past .0) (p 16) 0 (λ was-found-4. use1 W
+              (‵ (fat fullShare (tyArray (tyInt w32) 128) (p 16) 0 (only ((array-vals (uint-vals w32)) (past .0)))))
+              (W .laws .raw-at fullShare (tyArray (tyInt w32) 128) (p 16) 0 (only ((array-vals (uint-vals w32)) (past .0)))) $
+          move ! (1 ∷ 15 ∷ []) $ back-shr ! tt (past .7) (Array u32 128) b (o + 124) (h .queued) $ move ! (2 ∷ 14 ∷ []) $
+              back-shr ! tt (past .7) (Array u32 32) b (o + 636) (h .outstanding) $ move ! (3 ∷ 13 ∷ []) $
+              back-shr ! tt (past .7) (Array u8 32) b (o + 764) (h .transmissions) $ move ! (4 ∷ 12 ∷ []) $
+              back-shr ! tt (past .7) (Array u32 128) b (o + 796) (h .ready) $ move ! (5 ∷ 11 ∷ []) $
+              back-shr ! tt (past .7) (Array u32 128) b (o + 1308) (h .waiting) $ move ! (6 ∷ 10 ∷ []) $
+              back-shr ! tt (past .7) (Array u32 128) b (o + 1820) (h .«waiting_numbers») $
+          same ! (on (a, w-a, e-a, is-a))))))))))) }
 
-      -- what part 1 knows
-      abbrev Known₁ : Type 0
-      Known₁ = (z-receives : List ℕ) × (z-sends : List ℕ) × (l₀ : ℕ) × (l₁ : ℕ) × (l₂ : ℕ) × (l₃ : ℕ) × (l₄ : ℕ) ×
-          (l₅ : ℕ) × (l₆ : ℕ) × (l₇ : ℕ) × (l₈ : ℕ) × (l₉ : ℕ) × (l₁₀ : ℕ) × (l₁₁ : ℕ) × (l₁₂ : ℕ) ×
-          (l₁₃ : ℕ) × (l₁₄ : ℕ) × (l₁₅ : ℕ) × (l₁₆ : ℕ) × (l₁₇ : ℕ) × (l₁₈ : ℕ) × (l₁₉ : ℕ) ×
-          (l₂₀ : ℕ) × (l₂₁ : ℕ) × (l₂₂ : ℕ) × (l₂₃ : ℕ) × (l₂₄ : ℕ) × (l₂₅ : ℕ) × (l₂₆ : ℕ) ×
-          (l₂₇ : ℕ) × (l₂₈ : ℕ) × (l₂₉ : ℕ) × (l₃₀ : ℕ) × (l₃₁ : ℕ) × (l₃₂ : ℕ) × (l₃₃ : ℕ) ×
-          (l₃₄ : ℕ) × (w-sends : Val) × (w-receives : Val) × (ok : Bool) × (w-ok : Val) × (e-ok : Sound h z-sends z-receives ok) ×
-          (Is Boolean ok (w-ok ∷ []))
+      -- what part 10 knows, what it tells; what it has, and leaves
+      abbrev Known₁₀ : Type 0
+      Known₁₀ = (q′ : Share) × (a : Time) × (w-a : Val) × (Is time-row.the-row a (w-a ∷ []))
 
-      part₁ : (past : Known₁) → ent 𝓤 (⋆ 𝓤 H A (‵
-          (fat fullShare (tyArray (tyInt w8) 256) (past .11) 0 ((only ((array-vals (uint-vals w8)) (past .0)))))
-          ∷ ‵ (fat fullShare (tyArray (tyInt w8) 128) (past .10) 0 ((only ((array-vals (uint-vals w8)) (past .1))))) ∷ ‵ (flft κ₀ q₀)
-          ∷ ‵ (link-shr κ₀ b o γ h) ∷ (‵ (fdies (tyInt w32) (past .2)) ⊛ ‵ (fdies (tyRef (named 0) imm (pointee (L .written))) (past .3)) ⊛
-          ‵ (fdies (sliceTy (tyRef (named 1) imm (tyInt w8))) (past .4)) ⊛ ‵ (fdies (sliceTy (tyRef (named 2) imm (tyInt w8))) (past .5)) ⊛
-          ‵ (fdies (sliceTy (tyRef (named 3) imm (pointee (R .written)))) (past .6)) ⊛ ‵
-          (fdies (sliceTy (tyRef (named 4) imm (tyInt w32))) (past .7)) ⊛ ‵ (fdies (tyInt w32) (past .8)) ⊛ ‵
-          (fdies (tyRef (named 5) mut (tyInt w32)) (past .9)) ⊛ ‵ (fdies (tyArray (tyInt w8) 128) (past .10)) ⊛ ‵
-          (fdies (tyArray (tyInt w8) 256) (past .11)) ⊛ ‵ (fdies tyBool (past .12)) ⊛ ‵ (fdies settings-laws.mir (past .13)) ⊛ ‵
-          (fdies flight-laws.mir (past .14)) ⊛ ‵ (fdies arrival-laws.mir (past .15)) ⊛ ‵ (fdies clock-laws.mir (past .16)) ⊛ ‵
-          (fdies (tyInt w64) (past .17)) ⊛ ‵ (fdies (tyArray (tyInt w32) 128) (past .18)) ⊛ ‵ (fdies (tyInt w64) (past .19)) ⊛ ‵
-          (fdies time-laws.mir (past .20)) ⊛ ‵ (fdies (tyArray (tyInt w8) 128) (past .21)) ⊛ ‵ (fdies (tyArray (tyInt w8) 256) (past .22)) ⊛
-          ‵ (fdies (tyRef erased mut (tyArray (tyInt w8) 128)) (past .23)) ⊛ ‵
-          (fdies (tyRef erased mut (tyArray (tyInt w8) 256)) (past .24)) ⊛ ‵ (fdies (tyArray (tyInt w32) 128) (past .25)) ⊛ ‵
-          (fdies tyUnit (past .26)) ⊛ ‵ (fdies (tyRef erased imm (tyArray (tyInt w32) 32)) (past .27)) ⊛ ‵
-          (fdies (tyRef erased mut (tyArray (tyInt w32) 128)) (past .28)) ⊛ ‵
-          (fdies (tyRef erased imm (tyArray (tyInt w32) 128)) (past .29)) ⊛ ‵
-          (fdies (tyRef erased imm (tyArray (tyInt w32) 128)) (past .30)) ⊛ ‵ (fdies (tyRef erased imm (tyArray (tyInt w32) 32)) (past .31))
-          ⊛ ‵ (fdies (tyRef erased imm (tyArray (tyInt w8) 32)) (past .32)) ⊛ ‵
-          (fdies (tyRef erased imm (tyArray (tyInt w32) 128)) (past .33)) ⊛ ‵
-          (fdies (tyRef erased imm (tyArray (tyInt w32) 128)) (past .34)) ⊛ ‵
-          (fdies (tyRef erased imm (tyArray (tyInt w32) 128)) (past .35)) ⊛ ‵ (fdies (tyRef erased mut (tyInt w32)) (past .36)))
-          ∷ ‵ (flft κ₁ q₁) ∷ ‵ (flft κ₂ q₂) ∷ ‵ (flft κ₃ q₃) ∷ ‵ (flft κ₄ q₄) ∷ ‵ (flft κ₅ q₅) ∷ ‵ Own₁
-          ∷ ‵ Own₂ ∷ ‵ Own₃ ∷ ‵ Own₄ ∷ ‵ Own₆ ∷ ‵ (froom (tyRef erased mut (tyInt w32)) (past .36) 0)
-          ∷ ‵ (froom (tyRef erased imm (tyArray (tyInt w32) 128)) (past .35) 0)
-          ∷ ‵ (froom (tyRef erased imm (tyArray (tyInt w32) 128)) (past .34) 0)
-          ∷ ‵ (froom (tyRef erased imm (tyArray (tyInt w32) 128)) (past .33) 0)
-          ∷ ‵ (froom (tyRef erased imm (tyArray (tyInt w8) 32)) (past .32) 0)
-          ∷ ‵ (froom (tyRef erased imm (tyArray (tyInt w32) 32)) (past .31) 0)
-          ∷ ‵ (froom (tyRef erased imm (tyArray (tyInt w32) 128)) (past .30) 0)
-          ∷ ‵ (froom (tyRef erased imm (tyArray (tyInt w32) 128)) (past .29) 0)
-          ∷ ‵ (froom (tyRef erased mut (tyArray (tyInt w32) 128)) (past .28) 0)
-          ∷ ‵ (froom (tyRef erased imm (tyArray (tyInt w32) 32)) (past .27) 0) ∷ ‵ (froom tyUnit (past .26) 0)
-          ∷ ‵ (froom (tyArray (tyInt w32) 128) (past .25) 0)
-          ∷ ‵ (fat fullShare (tyRef erased mut (tyArray (tyInt w8) 256)) (past .24) 0 ((vptr (past .11) 0)))
-          ∷ ‵ (fat fullShare (tyRef erased mut (tyArray (tyInt w8) 128)) (past .23) 0 ((vptr (past .10) 0)))
-          ∷ ‵ (fat fullShare (tyArray (tyInt w8) 256) (past .22) 0 ((past .38)))
-          ∷ ‵ (fat fullShare (tyArray (tyInt w8) 128) (past .21) 0 ((past .37))) ∷ ‵ (froom time-laws.mir (past .20) 0)
-          ∷ ‵ (froom (tyInt w64) (past .19) 0) ∷ ‵ (froom (tyArray (tyInt w32) 128) (past .18) 0) ∷ ‵ (froom (tyInt w64) (past .17) 0)
-          ∷ ‵ (froom clock-laws.mir (past .16) 0) ∷ ‵ (froom arrival-laws.mir (past .15) 0) ∷ ‵ (froom flight-laws.mir (past .14) 0)
-          ∷ ‵ (froom settings-laws.mir (past .13) 0) ∷ ‵ (fat fullShare tyBool (past .12) 0 ((past .40)))
-          ∷ ‵ (fat fullShare (tyRef (named 5) mut (tyInt w32)) (past .9) 0 (s₆)) ∷ ‵ (fat fullShare (tyInt w32) (past .8) 0 (v₅))
-          ∷ ‵ (fat fullShare (sliceTy (tyRef (named 4) imm (tyInt w32))) (past .7) 0 (s₄))
-          ∷ ‵ (fat fullShare (sliceTy (tyRef (named 3) imm (pointee (R .written)))) (past .6) 0 (s₃))
-          ∷ ‵ (fat fullShare (sliceTy (tyRef (named 2) imm (tyInt w8))) (past .5) 0 (s₂))
-          ∷ ‵ (fat fullShare (sliceTy (tyRef (named 1) imm (tyInt w8))) (past .4) 0 (s₁))
-          ∷ ‵ (fat fullShare (tyRef (named 0) imm (pointee (L .written))) (past .3) 0 (vptr b o)) ∷ ‵ (froom (tyInt w32) (past .2) 0) ∷ []))
-          (Wp 𝓤 H C Λ (En (past .2) (past .3) (past .4) (past .5) (past .6) (past .7) (past .8) (past .9) (past .10) (past .11) (past .12)
-          (past .13) (past .14) (past .15) (past .16) (past .17) (past .18) (past .19) (past .20) (past .21) (past .22) (past .23)
-          (past .24) (past .25) (past .26) (past .27) (past .28) (past .29) (past .30) (past .31) (past .32) (past .33) (past .34)
-          (past .35) (past .36)) (behind 7 (code.function .body))
-          (atReturn 𝓤 H (En (past .2) (past .3) (past .4) (past .5) (past .6) (past .7) (past .8) (past .9) (past .10) (past .11) (past .12)
-          (past .13) (past .14) (past .15) (past .16) (past .17) (past .18) (past .19) (past .20) (past .21) (past .22) (past .23)
-          (past .24) (past .25) (past .26) (past .27) (past .28) (past .29) (past .30) (past .31) (past .32) (past .33) (past .34)
-          (past .35) (past .36)) Post))
-      part₁ past =
-          qed W (‵ (fat fullShare (tyArray (tyInt w8) 256) (past .11) 0 ((only ((array-vals (uint-vals w8)) (past .0)))))
-          ∷ ‵ (fat fullShare (tyArray (tyInt w8) 128) (past .10) 0 ((only ((array-vals (uint-vals w8)) (past .1))))) ∷ ‵ (flft κ₀ q₀)
-          ∷ ‵ (link-shr κ₀ b o γ h) ∷ (‵ (fdies (tyInt w32) (past .2)) ⊛ ‵
-          (fdies (tyRef (named 0) imm (pointee (L .written))) (past .3)) ⊛ ‵
-          (fdies (sliceTy (tyRef (named 1) imm (tyInt w8))) (past .4)) ⊛ ‵ (fdies (sliceTy (tyRef (named 2) imm (tyInt w8))) (past .5))
-          ⊛ ‵ (fdies (sliceTy (tyRef (named 3) imm (pointee (R .written)))) (past .6)) ⊛ ‵
-          (fdies (sliceTy (tyRef (named 4) imm (tyInt w32))) (past .7)) ⊛ ‵ (fdies (tyInt w32) (past .8)) ⊛ ‵
-          (fdies (tyRef (named 5) mut (tyInt w32)) (past .9)) ⊛ ‵ (fdies (tyArray (tyInt w8) 128) (past .10)) ⊛ ‵
-          (fdies (tyArray (tyInt w8) 256) (past .11)) ⊛ ‵ (fdies tyBool (past .12)) ⊛ ‵ (fdies settings-laws.mir (past .13)) ⊛ ‵
-          (fdies flight-laws.mir (past .14)) ⊛ ‵ (fdies arrival-laws.mir (past .15)) ⊛ ‵ (fdies clock-laws.mir (past .16)) ⊛ ‵
-          (fdies (tyInt w64) (past .17)) ⊛ ‵ (fdies (tyArray (tyInt w32) 128) (past .18)) ⊛ ‵ (fdies (tyInt w64) (past .19)) ⊛ ‵
-          (fdies time-laws.mir (past .20)) ⊛ ‵ (fdies (tyArray (tyInt w8) 128) (past .21)) ⊛ ‵
-          (fdies (tyArray (tyInt w8) 256) (past .22)) ⊛ ‵ (fdies (tyRef erased mut (tyArray (tyInt w8) 128)) (past .23)) ⊛ ‵
-          (fdies (tyRef erased mut (tyArray (tyInt w8) 256)) (past .24)) ⊛ ‵ (fdies (tyArray (tyInt w32) 128) (past .25)) ⊛ ‵
-          (fdies tyUnit (past .26)) ⊛ ‵ (fdies (tyRef erased imm (tyArray (tyInt w32) 32)) (past .27)) ⊛ ‵
-          (fdies (tyRef erased mut (tyArray (tyInt w32) 128)) (past .28)) ⊛ ‵
-          (fdies (tyRef erased imm (tyArray (tyInt w32) 128)) (past .29)) ⊛ ‵
-          (fdies (tyRef erased imm (tyArray (tyInt w32) 128)) (past .30)) ⊛ ‵
-          (fdies (tyRef erased imm (tyArray (tyInt w32) 32)) (past .31)) ⊛ ‵
-          (fdies (tyRef erased imm (tyArray (tyInt w8) 32)) (past .32)) ⊛ ‵
-          (fdies (tyRef erased imm (tyArray (tyInt w32) 128)) (past .33)) ⊛ ‵
-          (fdies (tyRef erased imm (tyArray (tyInt w32) 128)) (past .34)) ⊛ ‵
-          (fdies (tyRef erased imm (tyArray (tyInt w32) 128)) (past .35)) ⊛ ‵ (fdies (tyRef erased mut (tyInt w32)) (past .36)))
-          ∷ ‵ (flft κ₁ q₁) ∷ ‵ (flft κ₂ q₂) ∷ ‵ (flft κ₃ q₃) ∷ ‵ (flft κ₄ q₄) ∷ ‵ (flft κ₅ q₅) ∷ ‵ Own₁
-          ∷ ‵ Own₂ ∷ ‵ Own₃ ∷ ‵ Own₄ ∷ ‵ Own₆ ∷ ‵ (froom (tyRef erased mut (tyInt w32)) (past .36) 0)
-          ∷ ‵ (froom (tyRef erased imm (tyArray (tyInt w32) 128)) (past .35) 0)
-          ∷ ‵ (froom (tyRef erased imm (tyArray (tyInt w32) 128)) (past .34) 0)
-          ∷ ‵ (froom (tyRef erased imm (tyArray (tyInt w32) 128)) (past .33) 0)
-          ∷ ‵ (froom (tyRef erased imm (tyArray (tyInt w8) 32)) (past .32) 0)
-          ∷ ‵ (froom (tyRef erased imm (tyArray (tyInt w32) 32)) (past .31) 0)
-          ∷ ‵ (froom (tyRef erased imm (tyArray (tyInt w32) 128)) (past .30) 0)
-          ∷ ‵ (froom (tyRef erased imm (tyArray (tyInt w32) 128)) (past .29) 0)
-          ∷ ‵ (froom (tyRef erased mut (tyArray (tyInt w32) 128)) (past .28) 0)
-          ∷ ‵ (froom (tyRef erased imm (tyArray (tyInt w32) 32)) (past .27) 0) ∷ ‵ (froom tyUnit (past .26) 0)
-          ∷ ‵ (froom (tyArray (tyInt w32) 128) (past .25) 0)
-          ∷ ‵ (fat fullShare (tyRef erased mut (tyArray (tyInt w8) 256)) (past .24) 0 ((vptr (past .11) 0)))
-          ∷ ‵ (fat fullShare (tyRef erased mut (tyArray (tyInt w8) 128)) (past .23) 0 ((vptr (past .10) 0)))
-          ∷ ‵ (fat fullShare (tyArray (tyInt w8) 256) (past .22) 0 ((past .38)))
-          ∷ ‵ (fat fullShare (tyArray (tyInt w8) 128) (past .21) 0 ((past .37))) ∷ ‵ (froom time-laws.mir (past .20) 0)
-          ∷ ‵ (froom (tyInt w64) (past .19) 0) ∷ ‵ (froom (tyArray (tyInt w32) 128) (past .18) 0) ∷ ‵ (froom (tyInt w64) (past .17) 0)
-          ∷ ‵ (froom clock-laws.mir (past .16) 0) ∷ ‵ (froom arrival-laws.mir (past .15) 0) ∷ ‵ (froom flight-laws.mir (past .14) 0)
-          ∷ ‵ (froom settings-laws.mir (past .13) 0) ∷ ‵ (fat fullShare tyBool (past .12) 0 ((past .40)))
-          ∷ ‵ (fat fullShare (tyRef (named 5) mut (tyInt w32)) (past .9) 0 (s₆)) ∷ ‵ (fat fullShare (tyInt w32) (past .8) 0 (v₅))
-          ∷ ‵ (fat fullShare (sliceTy (tyRef (named 4) imm (tyInt w32))) (past .7) 0 (s₄))
-          ∷ ‵ (fat fullShare (sliceTy (tyRef (named 3) imm (pointee (R .written)))) (past .6) 0 (s₃))
-          ∷ ‵ (fat fullShare (sliceTy (tyRef (named 2) imm (tyInt w8))) (past .5) 0 (s₂))
-          ∷ ‵ (fat fullShare (sliceTy (tyRef (named 1) imm (tyInt w8))) (past .4) 0 (s₁))
-          ∷ ‵ (fat fullShare (tyRef (named 0) imm (pointee (L .written))) (past .3) 0 (vptr b o)) ∷ ‵ (froom (tyInt w32) (past .2) 0)
-          ∷ []) ∵ exec ! C Λ (En (past .2) (past .3) (past .4) (past .5) (past .6) (past .7) (past .8) (past .9) (past .10) (past .11)
-          (past .12) (past .13) (past .14) (past .15) (past .16) (past .17) (past .18) (past .19) (past .20) (past .21) (past .22)
-          (past .23) (past .24) (past .25) (past .26) (past .27) (past .28) (past .29) (past .30) (past .31) (past .32) (past .33)
-          (past .34) (past .35) (past .36)) (behind 7 (code.function .body))
-          (atRet (En (past .2) (past .3) (past .4) (past .5) (past .6) (past .7) (past .8) (past .9) (past .10) (past .11) (past .12)
-          (past .13) (past .14) (past .15) (past .16) (past .17) (past .18) (past .19) (past .20) (past .21) (past .22) (past .23)
-          (past .24) (past .25) (past .26) (past .27) (past .28) (past .29) (past .30) (past .31) (past .32) (past .33) (past .34)
-          (past .35) (past .36)) Post) $
-          move ! (3 ∷ 2 ∷ []) $ looks-link b o γ ! tt h (λ q′.
-          -- [F:settings; F:flight; F:arrival; F:clock; F:queued; F:outstanding; F:transmissions; F:ready; F:waiting; F:«waiting_numbers»;
-          -- back; opened; deaths; tok1; tok2; tok3; tok4; tok6; own1; own2; own3; own4; own6; the locals]
-          move ! (4 ∷ []) $ tells-length ! q′ u32 128 (h .queued) b (o + 124)
-          (λ len-queued. move ! (5 ∷ []) $
-          tells-length ! q′ u32 32 (h .outstanding) b (o + 636)
-          (λ len-outstanding. move ! (6 ∷ []) $
-          tells-length ! q′ u8 32 (h .transmissions) b (o + 764)
-          (λ len-transmissions. move ! (7 ∷ []) $
-          tells-length ! q′ u32 128 (h .ready) b (o + 796)
-          (λ len-ready. move ! (8 ∷ []) $
-          tells-length ! q′ u32 128 (h .waiting) b (o + 1308)
-          (λ len-waiting. move ! (9 ∷ []) $
-          tells-length ! q′ u32 128 (h .«waiting_numbers») b (o + 1820)
-          (λ len-waiting-numbers. move ! (6 ∷ []) $
-          cell-out ! q′ settings-row.the-row (LL.vals settings-row.the-type settings-laws.the-laws)
-          (LL.tells settings-row.the-type settings-laws.the-laws) (h .settings) b (o + 0) (λ was-settings.
-          assigns ! {v = (only ((LL.vals settings-row.the-type settings-laws.the-laws) (h .settings)))}
-          (of-opd ! (load ! (from ! (hop ! (look ! 56 refl) (fld ! {d = 0} refl (stop !)))) (look-raw ! 0 refl))) (from ! (stop !))
-          (init ! 48 refl (LL.lawful settings-row.the-type settings-laws.the-laws 𝓤 H A W .typed (h .settings)
-          ((only ((LL.vals settings-row.the-type settings-laws.the-laws) (h .settings))) ∷ []) was-settings .0)) $
-          cell-in ! q′ settings-row.the-row (LL.makes settings-row.the-type settings-laws.the-plain 𝓤 H A) (h .settings) b (o + 0)
-          (only ((LL.vals settings-row.the-type settings-laws.the-laws) (h .settings))) was-settings $ move ! (7 ∷ []) $
-          cell-out ! q′ flight-row.the-row (LL.vals flight-row.the-type flight-laws.the-laws)
-          (LL.tells flight-row.the-type flight-laws.the-laws) (h .flight) b (o + 16) (λ was-flight.
-          assigns ! {v = (only ((LL.vals flight-row.the-type flight-laws.the-laws) (h .flight)))}
-          (of-opd ! (load ! (from ! (hop ! (look ! 56 refl) (fld ! {d = 16} refl (stop !)))) (look-raw ! 0 refl))) (from ! (stop !))
-          (init ! 47 refl (LL.lawful flight-row.the-type flight-laws.the-laws 𝓤 H A W .typed (h .flight)
-          ((only ((LL.vals flight-row.the-type flight-laws.the-laws) (h .flight))) ∷ []) was-flight .0)) $
-          cell-in ! q′ flight-row.the-row (LL.makes flight-row.the-type flight-laws.the-plain 𝓤 H A) (h .flight) b (o + 16)
-          (only ((LL.vals flight-row.the-type flight-laws.the-laws) (h .flight))) was-flight $ move ! (8 ∷ []) $
-          cell-out ! q′ arrival-row.the-row (LL.vals arrival-row.the-type arrival-laws.the-laws)
-          (LL.tells arrival-row.the-type arrival-laws.the-laws) (h .arrival) b (o + 72) (λ was-arrival.
-          assigns ! {v = (only ((LL.vals arrival-row.the-type arrival-laws.the-laws) (h .arrival)))}
-          (of-opd ! (load ! (from ! (hop ! (look ! 56 refl) (fld ! {d = 72} refl (stop !)))) (look-raw ! 0 refl))) (from ! (stop !))
-          (init ! 46 refl (LL.lawful arrival-row.the-type arrival-laws.the-laws 𝓤 H A W .typed (h .arrival)
-          ((only ((LL.vals arrival-row.the-type arrival-laws.the-laws) (h .arrival))) ∷ []) was-arrival .0)) $
-          cell-in ! q′ arrival-row.the-row (LL.makes arrival-row.the-type arrival-laws.the-plain 𝓤 H A) (h .arrival) b (o + 72)
-          (only ((LL.vals arrival-row.the-type arrival-laws.the-laws) (h .arrival))) was-arrival $ move ! (9 ∷ []) $
-          cell-out ! q′ clock-row.the-row (LL.vals clock-row.the-type clock-laws.the-laws)
-          (LL.tells clock-row.the-type clock-laws.the-laws) (h .clock) b (o + 104) (λ was-clock.
-          assigns ! {v = (only ((LL.vals clock-row.the-type clock-laws.the-laws) (h .clock)))}
-          (of-opd ! (load ! (from ! (hop ! (look ! 56 refl) (fld ! {d = 104} refl (stop !)))) (look-raw ! 0 refl))) (from ! (stop !))
-          (init ! 45 refl (LL.lawful clock-row.the-type clock-laws.the-laws 𝓤 H A W .typed (h .clock)
-          ((only ((LL.vals clock-row.the-type clock-laws.the-laws) (h .clock))) ∷ []) was-clock .0)) $
-          cell-in ! q′ clock-row.the-row (LL.makes clock-row.the-type clock-laws.the-plain 𝓤 H A) (h .clock) b (o + 104)
-          (only ((LL.vals clock-row.the-type clock-laws.the-laws) (h .clock))) was-clock $ nothing ! $
-          calls-fn ! fm count-of.ended (count-of.clauses 𝓤 H A at-mem run) (known .3)
-          ((tt, tt, tt, ((h .flight), tt), ((only ((LL.vals flight-row.the-type flight-laws.the-laws) (h .flight))) ∷ [], tt)), tt)
-          (λ n _. n ≡ h .flight .outstanding)
-          (‵ ftrue) (plainly 𝓤 H A W (flight-row.the-row ∷ []) ((LL.makes flight-row.the-type flight-laws.the-plain 𝓤 H A), tt)
-          ((h .flight), tt) ((only ((LL.vals flight-row.the-type flight-laws.the-laws) (h .flight))) ∷ [], tt) (was-flight, tt))
-          (λ n _. id⊢ 𝓤 _)
-          (and-then ! (load ! (from ! (stop !)) (look ! 48 refl)) (no-more !))
-          (λ n w-n _ e-n is-n. drop ! $ drop ! $ land ! (from ! (stop !)) (init ! 44 refl (uint-lawful 𝓤 H A W w64 .typed n _ is-n .0)) $
-          nothing ! $ calls-fn ! fm none-of.ended (none-of.clauses 𝓤 H A at-mem run) (known .4) ((tt, tt, tt, tt, tt), tt)
-          (λ found _. found ≡ replicate 128 0)
-          (‵ ftrue) (plainly 𝓤 H A W ([]) tt tt tt tt) (λ found _. id⊢ 𝓤 _)
-          (no-more !) (λ found w-found _ e-found is-found. drop ! $ drop ! $
-          land ! (from ! (stop !)) (init ! 36 refl (array-typed u32 (uint-lawful 𝓤 H A W w32 .typed) 128 found (w-found ∷ []) is-found
-          .0)) $
-          assigns ! {v = w-found} (of-opd ! (load ! (from ! (stop !)) (look ! 36 refl))) (from ! (stop !))
-          (init ! 43 refl (array-typed u32 (uint-lawful 𝓤 H A W w32 .typed) 128 found (w-found ∷ []) is-found .0)) $
-          assigns ! {v = (vptr b (o + 636))} (addr ! (from ! (hop ! (look ! 56 refl) (fld ! {d = 636} refl (stop !))))) (from ! (stop !))
-          (init ! 34 refl (tt, tt)) $
-          assigns ! {v = (vptr (past .18) 0)} (addr ! (from ! (stop !))) (from ! (stop !)) (init ! 33 refl (tt, tt)) $
-          move ! (8 ∷ []) $ lend-shr ! tt q′ (Array u32 32) (h .outstanding) b (o + 636)
-          (λ α-outstanding δ-outstanding. move ! (45 ∷ []) $
-          use1 W (‵ (cellAt fullShare ((tyArray (tyInt w32) 128) ∷ []) (w-found ∷ []) (past .18) 0))
-          (W .laws .at-raw fullShare (tyArray (tyInt w32) 128) (past .18) 0 w-found) $
-          cell-in ! fullShare (Array u32 128) (array-makes 𝓤 H A W u32 (uint-makes 𝓤 H A W w32) 128) found (past .18) 0 w-found
-          is-found $
-          lend-mut ! tt (Array u32 128) found (past .18) 0
-          (λ α-found δ-found. move ! (27 ∷ []) $
-          use1 W (‵ Own₃ ⊛ ‵ Own₃) (shr-slice-copy 𝓤 H A W (named 0) κ₃ R .twice x₃ (s₃ ∷ [])) $ split ! $
-          move ! (24 ∷ 0 ∷ 5 ∷ 6 ∷ 2 ∷ 3 ∷ []) $ group ! 6 $
-          calls-fn ! fm gather.ended (gather.clauses 𝓤 H A at-mem run) (known .5)
-          (to-gather α-outstanding δ-outstanding (h .outstanding) (past .18) α-found δ-found found n w-n)
-          (λ g ws-g. (length (ws-g .1 .1 .1 .0) ≡ 128) ×
-          (recordsIn (ws-g .1 .1 .1 .0) ≡ padded (gathered (take sendSlots (x₃ .now)) (slotsIn (h .outstanding) n))))
-          (‵ (flft κ₃ q₃) ⊛ ‵ Own₃ ⊛ ‵ (flft (α-outstanding ∷ []) fullShare) ⊛ ‵
-          (ShrRef (named 0) (α-outstanding ∷ []) (Array u32 32) .own (ref-at b (o + 636) δ-outstanding (h .outstanding))
-          ((vptr b (o + 636)) ∷ [])) ⊛ ‵ (flft (α-found ∷ []) fullShare) ⊛ ‵
-          (MutRef (named 0) (α-found ∷ []) (Array u32 128) .own (ref-at (past .18) 0 δ-found found) ((vptr (past .18) 0) ∷ [])))
-          (asks-gather α-outstanding δ-outstanding (h .outstanding) (past .18) α-found δ-found found n w-n is-n (len-outstanding, e-found))
-          (λ g ws-g. id⊢ 𝓤 _)
-          (and-then ! (load ! (from ! (stop !)) (look ! 53 refl))
-          (and-then ! (load ! (from ! (stop !)) (look ! 35 refl))
-          (and-then ! (load ! (from ! (stop !)) (look ! 44 refl)) (and-then ! (load ! (from ! (stop !)) (look ! 34 refl)) (no-more !)))))
-          (λ g w-g ws-g e-g is-g. land ! (from ! (stop !)) (init ! 37 refl (nothing-lawful 𝓤 H A W .typed g _ is-g .0)) $
-          spread W (‵ (flft κ₃ q₃)) (‵ (flft (α-outstanding ∷ []) fullShare) ∷ ‵ (flft (α-found ∷ []) fullShare) ∷ ‵ ftrue ∷ [])
-          (id⊢ 𝓤 _) $ move ! (4 ∷ []) $ spread W (‵ ftrue)
-          (‵ ftrue ∷ ‵ ftrue ∷ ‵ (fres δ-found ((Array u32 128) .coded .code (ws-g .1 .1 .1 .0))) ∷ ‵ ftrue ∷ []) (id⊢ 𝓤 _) $
-          keep ! (3 ∷ 5 ∷ 6 ∷ 7 ∷ 9 ∷ 10 ∷ 11 ∷ 12 ∷ 13 ∷ 14 ∷ 15 ∷ 16 ∷ 17 ∷ 18 ∷ 19 ∷ 20 ∷ 21 ∷ 22 ∷ 23 ∷ 24 ∷ 25
-          ∷ 26 ∷ 27 ∷ 28 ∷ 29 ∷ 30 ∷ 31 ∷ 32 ∷ 33 ∷ 34 ∷ 35 ∷ 36 ∷ 37 ∷ 38 ∷ 39 ∷ 40 ∷ 41 ∷ 42 ∷ 43 ∷ 44 ∷ 45 ∷ 46
-          ∷ 47 ∷ 48 ∷ 49 ∷ 50 ∷ 51 ∷ 52 ∷ 53 ∷ 54 ∷ 55 ∷ 56 ∷ 57 ∷ 58 ∷ 59 ∷ 60 ∷ 61 ∷ 62 ∷ 63 ∷ 64 ∷ 65 ∷ []) $
-          -- [fin:@found; tok3; tok:outstanding; tok:@found; own3; lent:@found; lent:outstanding; F:clock; F:arrival; F:flight; F:settings;
-          -- F:«waiting_numbers»; F:waiting; F:ready; F:transmissions; F:queued; back; opened; deaths; tok1; tok2; tok4; tok6; own1; own2;
-          -- own4; own6; the locals]
-          move ! (2 ∷ 6 ∷ []) $ back-shr ! tt q′ (Array u32 32) b (o + 636) (h .outstanding) $ move ! (3 ∷ 5 ∷ 1 ∷ []) $
-          back-mut ! tt (Array u32 128) (past .18) 0 (ws-g .1 .1 .1 .0) $
-          cell-out ! fullShare (Array u32 128) (array-vals (uint-vals w32)) (array-tells u32 (uint-vals w32) (uint-tells w32) 128)
-          (ws-g .1 .1 .1 .0) (past .18) 0 (λ was-found-3. use1 W
-          (‵ (fat fullShare (tyArray (tyInt w32) 128) (past .18) 0 (only ((array-vals (uint-vals w32)) (ws-g .1 .1 .1 .0)))))
-          (W .laws .raw-at fullShare (tyArray (tyInt w32) 128) (past .18) 0 (only ((array-vals (uint-vals w32)) (ws-g .1 .1 .1 .0)))) $
-          move ! (2 ∷ 3 ∷ []) $ join ! $ calls-fn ! fm table-len.ended (table-len.clauses 𝓤 H A at-mem run) (known .6) (to-table-len)
-          (λ m ws-m. m ≡ length (x₃ .now)) (‵ (flft κ₃ q₃) ⊛ ‵ Own₃)
-          (asks-table-len) (λ m ws-m. id⊢ 𝓤 _)
-          (and-then ! (load ! (from ! (stop !)) (look ! 52 refl)) (no-more !))
-          (λ m w-m ws-m e-m is-m. land ! (from ! (stop !)) (init ! 43 refl (uint-lawful 𝓤 H A W w64 .typed m _ is-m .0)) $
-          spread W (‵ (flft κ₃ q₃)) (‵ ftrue ∷ []) (id⊢ 𝓤 _) $ move ! (2 ∷ []) $ spread W (‵ ftrue) (‵ ftrue ∷ []) (id⊢ 𝓤 _) $
-          keep ! (2 ∷ 4 ∷ 5 ∷ 6 ∷ 7 ∷ 8 ∷ 9 ∷ 10 ∷ 11 ∷ 12 ∷ 13 ∷ 14 ∷ 15 ∷ 16 ∷ 17 ∷ 18 ∷ 19 ∷ 20 ∷ 21 ∷ 22 ∷ 23
-          ∷ 24 ∷ 25 ∷ 26 ∷ 27 ∷ 28 ∷ 29 ∷ 30 ∷ 31 ∷ 32 ∷ 33 ∷ 34 ∷ 35 ∷ 36 ∷ 37 ∷ 38 ∷ 39 ∷ 40 ∷ 41 ∷ 42 ∷ 43 ∷ 44
-          ∷ 45 ∷ 46 ∷ 47 ∷ 48 ∷ 49 ∷ 50 ∷ 51 ∷ 52 ∷ 53 ∷ 54 ∷ 55 ∷ 56 ∷ 57 ∷ 58 ∷ 59 ∷ []) $
-          -- [tok3; F:outstanding; F:clock; F:arrival; F:flight; F:settings; F:«waiting_numbers»; F:waiting; F:ready; F:transmissions;
-          -- F:queued; back; opened; deaths; tok1; tok2; tok4; tok6; own1; own2; own4; own6; the locals]
-          assigns ! {v = (vptr (past .18) 0)} (addr ! (from ! (stop !))) (from ! (stop !)) (init ! 32 refl (tt, tt)) $
-          by ! (part₂ (
-            (ws-g .1 .1 .1 .0),
-            (past .0),
-            (past .1),
-            (past .2),
-            (past .3),
-            (past .4),
-            (past .5),
-            (past .6),
-            (past .7),
-            (past .8),
-            (past .9),
-            (past .10),
-            (past .11),
-            (past .12),
-            (past .13),
-            (past .14),
-            (past .15),
-            (past .16),
-            (past .17),
-            (past .18),
-            (past .19),
-            (past .20),
-            (past .21),
-            (past .22),
-            (past .23),
-            (past .24),
-            (past .25),
-            (past .26),
-            (past .27),
-            (past .28),
-            (past .29),
-            (past .30),
-            (past .31),
-            (past .32),
-            (past .33),
-            (past .34),
-            (past .35),
-            (past .36),
-            (past .37),
-            (past .38),
-            (past .39),
-            (past .40),
-            (past .41),
-            (past .42),
-            q′,
-            len-queued,
-            len-outstanding,
-            len-transmissions,
-            len-ready,
-            len-waiting,
-            len-waiting-numbers,
-            was-settings,
-            was-flight,
-            was-arrival,
-            was-clock,
-            n,
-            w-n,
-            e-n,
-            w-found,
-            w-g,
-            e-g,
-            was-found-3,
-            m,
-            w-m,
-            e-m,
-            is-m,
-          ))))))))))))))))))))
+      abbrev New₁₀ : Known₁₀ → Type 0
+      New₁₀ past = (z₆ : ℕ) × (r : ℤ) × (w-r : Val) × (e-r : (r ≡ timeCode (past .1)) × (z₆ ≡ timeStored (past .1) (x₆ .now))) ×
+          (Is i32 r (w-r ∷ []))
+
+      abbrev Had₁₀ : (ℕ → ℕ) → Known₁₀ → List (Item 𝓤) → List (Item 𝓤)
+      Had₁₀ p past Γ = ‵ (partAt (Array u32 128) (past .0) (h .«waiting_numbers») b (o + 1820))
+          ∷ ‵ (partAt (Array u32 128) (past .0) (h .waiting) b (o + 1308)) ∷ ‵ (partAt (Array u32 128) (past .0) (h .ready) b (o + 796))
+          ∷ ‵ (partAt (Array u8 32) (past .0) (h .transmissions) b (o + 764))
+          ∷ ‵ (partAt (Array u32 32) (past .0) (h .outstanding) b (o + 636)) ∷ ‵ (partAt (Array u32 128) (past .0) (h .queued) b (o + 124))
+          ∷ ‵ (fat fullShare time-laws.mir (p 18) 0 ((past .2))) ∷ ‵ (partAt clock-row.the-row (past .0) (h .clock) b (o + 104))
+          ∷ ‵ (partAt arrival-row.the-row (past .0) (h .arrival) b (o + 72))
+          ∷ ‵ (partAt flight-row.the-row (past .0) (h .flight) b (o + 16))
+          ∷ ‵ (partAt settings-row.the-row (past .0) (h .settings) b (o + 0)) ∷ raw (Back 𝓤 H A (past .0) b o)
+          ∷ ‵ (fobor κ₀ q₀ (partAt L (past .0) h b o)) ∷ ‵ (flft κ₅ q₅) ∷ ‵ Own₆ ∷ ‵ (froom (tyRef erased mut (tyInt w32)) (p 34) 0)
+          ∷ ‵ (fat fullShare (tyRef (named 5) mut (tyInt w32)) (p 7) 0 (s₆)) ∷ ‵ (froom (tyInt w32) (p 0) 0) ∷ Γ
+
+      abbrev Left₁₀ : (ℕ → ℕ) → (past : Known₁₀) → New₁₀ past → List (Item 𝓤) → List (Item 𝓤)
+      Left₁₀ p past new Γ = ‵ (flft κ₀ q₀) ∷ ‵ (fres (x₆ .name) (u32 .coded .code (new .0))) ∷ ‵ (flft κ₅ q₅)
+          ∷ ‵ (fat fullShare time-laws.mir (p 18) 0 ((past .2))) ∷ ‵ (fat fullShare (tyRef erased mut (tyInt w32)) (p 34) 0 (s₆))
+          ∷ ‵ (fat fullShare (tyRef (named 5) mut (tyInt w32)) (p 7) 0 (s₆)) ∷ ‵ (fat fullShare (tyInt w32) (p 0) 0 ((new .2))) ∷ Γ
+
+      part₁₀ : {K : Type 0} {Γ : List (Item 𝓤)} → K → (p : ℕ → ℕ) (past : Known₁₀)
+          → ((new : New₁₀ past) → Seq K W (Left₁₀ p past new Γ) (runs C Λ (En p) rest₁₁ (atRet (En p) Post)))
+          → Seq K W (Had₁₀ p past Γ) (runs C Λ (En p) rest₁₀ (atRet (En p) Post))
+      unfolding rest₁₀
+      part₁₀ {Γ = Γ} t p past on = record { prf =
+          qed W (Had₁₀ p past Γ) ∵ exec ! C Λ (En p) rest₁₀ (atRet (En p) Post) $
+          assigns ! {v = s₆} (addr ! (from ! (hop ! (look ! 16 refl) (stop !)))) (from ! (stop !)) (init ! 15 refl (tt, tt)) $
+          move ! (13 ∷ 14 ∷ []) $ join ! $
+              calls-fn ! fm code-of.ended (code-of.clauses 𝓤 H A at-mem run) (known .8) (to-code-of  (past .1) (past .2))
+              (λ r ws-r. (r ≡ timeCode (past .1)) × ((ws-r .1 .0) ≡ timeStored (past .1) (x₆ .now))) (‵ (flft κ₅ q₅) ⊛ ‵ Own₆)
+          (asks-code-of  (past .1) (past .2) (past .3) ) (λ r ws-r. id⊢ 𝓤 _)
+          (and-then ! (load ! (from ! (stop !)) (look ! 7 refl)) (and-then ! (load ! (from ! (stop !)) (look ! 14 refl)) (no-more !)))
+          (λ r w-r ws-r e-r is-r. land ! (from ! (stop !)) (init ! 17 refl (sint-lawful 𝓤 H A W w32 .typed r _ is-r .0)) $
+          spread W (‵ (flft κ₅ q₅)) (‵ ftrue ∷ []) (id⊢ 𝓤 _) $ move ! (2 ∷ []) $
+              spread W (‵ ftrue) (‵ (fres (x₆ .name) (u32 .coded .code (ws-r .1 .0))) ∷ ‵ ftrue ∷ []) (id⊢ 𝓤 _) $
+              move ! (4 ∷ 2 ∷ 0 ∷ []) $ group ! 3 $ drop ! $
+          -- [fin6; tok6; F:«waiting_numbers»; F:waiting; F:ready; F:transmissions; F:outstanding; F:queued; F:clock; F:arrival; F:flight;
+          -- F:settings; back; opened; the locals]
+          move ! (12 ∷ 11 ∷ 10 ∷ 9 ∷ 7 ∷ 6 ∷ 5 ∷ 4 ∷ 3 ∷ 2 ∷ 13 ∷ 14 ∷ []) $ shuts-link b o γ ! tt (past .0) h $
+          -- [tok0; fin6; tok6; the locals]
+          same ! (on ((ws-r .1 .0), r, w-r, e-r, is-r))) }
 
       walk : ent 𝓤 (onEntry 𝓤 H A f.signature (κ₀, (κ₁, (κ₂, (κ₃, (κ₄, (κ₅, tt)))))) (q₀, (q₁, (q₂, (q₃, (q₄, (q₅, tt))))))
           x at) (WpFn 𝓤 H C Λ code.function (vptr b o ∷ s₁ ∷ s₂ ∷ s₃ ∷ s₄ ∷ v₅ ∷ s₆ ∷ []) Post)
+      unfolding rest₁ rest₂ rest₃ rest₄ rest₅ rest₆ rest₇ rest₈ rest₉ rest₁₀ rest₁₁
       walk =
           qed W ((‵ (flft κ₀ q₀) ⊛ ‵ (flft κ₁ q₁) ⊛ ‵ (flft κ₂ q₂) ⊛ ‵ (flft κ₃ q₃) ⊛ ‵ (flft κ₄ q₄) ⊛ ‵
-          (flft κ₅ q₅) ⊛ ‵ ftrue) ∷ ‵ (owns (ShrRef (named 0) κ₀ L ∷ ShrSlice (named 1) κ₁ u8 ∷ ShrSlice (named 2) κ₂ u8
-          ∷ ShrSlice (named 3) κ₃ R ∷ ShrSlice (named 4) κ₄ u32 ∷ u32 ∷ MutRef (named 5) κ₅ u32 ∷ []) x at) ∷ []) ∵
-          enter ! C Λ code.function (vptr b o ∷ s₁ ∷ s₂ ∷ s₃ ∷ s₄ ∷ v₅ ∷ s₆ ∷ []) _ $
-          alloc1 ! (λ l₀. alloc1 ! (λ l₁. alloc1 ! (λ l₂.
-          alloc1 ! (λ l₃. alloc1 ! (λ l₄. alloc1 ! (λ l₅.
-          alloc1 ! (λ l₆. alloc1 ! (λ l₇. alloc1 ! (λ l₈.
-          alloc1 ! (λ l₉. alloc1 ! (λ l₁₀. alloc1 ! (λ l₁₁.
-          alloc1 ! (λ l₁₂. alloc1 ! (λ l₁₃. alloc1 ! (λ l₁₄.
-          alloc1 ! (λ l₁₅. alloc1 ! (λ l₁₆. alloc1 ! (λ l₁₇.
-          alloc1 ! (λ l₁₈. alloc1 ! (λ l₁₉. alloc1 ! (λ l₂₀.
-          alloc1 ! (λ l₂₁. alloc1 ! (λ l₂₂. alloc1 ! (λ l₂₃.
-          alloc1 ! (λ l₂₄. alloc1 ! (λ l₂₅. alloc1 ! (λ l₂₆.
-          alloc1 ! (λ l₂₇. alloc1 ! (λ l₂₈. alloc1 ! (λ l₂₉.
-          alloc1 ! (λ l₃₀. alloc1 ! (λ l₃₁. alloc1 ! (λ l₃₂. alloc1 ! (λ l₃₃. alloc1 ! (λ l₃₄. alloc0 ! $ params1 ! $
-          pass1 ! (init ! 66 refl (tt, tt)) $ pass1 ! (init ! 64 refl (tt, (tt, (record { fits = room₁ .0 }, tt)))) $
-          pass1 ! (init ! 62 refl (tt, (tt, (record { fits = room₂ .0 }, tt)))) $
-          pass1 ! (init ! 60 refl (tt, (tt, (record { fits = room₃ .0 }, tt)))) $
-          pass1 ! (init ! 58 refl (tt, (tt, (record { fits = room₄ .0 }, tt)))) $
-          pass1 ! (init ! 56 refl (uint-lawful 𝓤 H A W w32 .typed x₅ _ g₅ .0)) $ pass1 ! (init ! 54 refl (tt, tt)) $ pass0 ! $
-          move ! (71 ∷ []) $ spread W (‵ (ShrRef (named 0) κ₀ L .own (ref-at b o γ h) (vptr b o ∷ [])))
-          (‵ (ShrSlice (named 1) κ₁ u8 .own (x₁) (s₁ ∷ [])) ∷ ‵ (ShrSlice (named 2) κ₂ u8 .own (x₂) (s₂ ∷ []))
-          ∷ ‵ (ShrSlice (named 3) κ₃ R .own (x₃) (s₃ ∷ [])) ∷ ‵ (ShrSlice (named 4) κ₄ u32 .own (x₄) (s₄ ∷ []))
-          ∷ ‵ (u32 .own (x₅) (v₅ ∷ [])) ∷ ‵ (MutRef (named 5) κ₅ u32 .own (x₆) (s₆ ∷ [])) ∷ ‵ ftrue ∷ []) (id⊢ 𝓤 _) $
-          move ! (78 ∷ []) $ spread W (‵ (flft κ₀ q₀))
-          (‵ (flft κ₁ q₁) ∷ ‵ (flft κ₂ q₂) ∷ ‵ (flft κ₃ q₃) ∷ ‵ (flft κ₄ q₄) ∷ ‵ (flft κ₅ q₅) ∷ ‵ ftrue
-          ∷ []) (id⊢ 𝓤 _) $ keep ! (0 ∷ 1 ∷ 2 ∷ 3 ∷ 4 ∷ 5 ∷ 7 ∷ 8 ∷ 9 ∷ 10 ∷ 11 ∷ 13 ∷ 15 ∷ 16 ∷ 17 ∷ 18 ∷ 19 ∷ 20
-          ∷ 21 ∷ 22 ∷ 23 ∷ 24 ∷ 25 ∷ 26 ∷ 27 ∷ 28 ∷ 29 ∷ 30 ∷ 31 ∷ 32 ∷ 33 ∷ 34 ∷ 35 ∷ 36 ∷ 37 ∷ 38 ∷ 39 ∷ 40 ∷ 41
-          ∷ 42 ∷ 43 ∷ 44 ∷ 45 ∷ 46 ∷ 47 ∷ 48 ∷ 49 ∷ 50 ∷ 51 ∷ 52 ∷ 53 ∷ 54 ∷ 55 ∷ 56 ∷ 57 ∷ 58 ∷ 59 ∷ 60 ∷ 61 ∷ 62
-          ∷ 63 ∷ 64 ∷ 65 ∷ 66 ∷ 67 ∷ 68 ∷ 69 ∷ 70 ∷ 71 ∷ 72 ∷ 73 ∷ 74 ∷ 75 ∷ 76 ∷ 77 ∷ 78 ∷ 79 ∷ 80 ∷ 81 ∷ 82 ∷ 83
-          ∷ 84 ∷ []) $ move ! (81 ∷ 79 ∷ 77 ∷ 75 ∷ 73 ∷ 71 ∷ 69 ∷ 67 ∷ 65 ∷ 63 ∷ 61 ∷ 59 ∷ 57 ∷ 55 ∷ 53 ∷ 51 ∷ 49 ∷ 47
-          ∷ 45 ∷ 43 ∷ 41 ∷ 39 ∷ 37 ∷ 35 ∷ 33 ∷ 31 ∷ 29 ∷ 27 ∷ 25 ∷ 23 ∷ 21 ∷ 19 ∷ 17 ∷ 15 ∷ 13 ∷ []) $ group ! 35 $
-          -- [deaths; tok0; tok1; tok2; tok3; tok4; tok6; own0; own1; own2; own3; own4; own6; the locals]
-          nothing ! $ calls-fn ! fm send-marks-of.ended (send-marks-of.clauses 𝓤 H A at-mem run) (known .0) ((tt, tt, tt, tt, tt), tt)
-          (λ sends _. sends ≡ noneToSend)
-          (‵ ftrue) (plainly 𝓤 H A W ([]) tt tt tt tt) (λ sends _. id⊢ 𝓤 _)
-          (no-more !) (λ sends w-sends _ e-sends is-sends. drop ! $ drop ! $
-          land ! (from ! (stop !)) (init ! 28 refl (array-typed u8 (uint-lawful 𝓤 H A W w8 .typed) 128 sends (w-sends ∷ []) is-sends .0)) $
-          assigns ! {v = w-sends} (of-opd ! (load ! (from ! (stop !)) (look ! 28 refl))) (from ! (stop !))
-          (init ! 39 refl (array-typed u8 (uint-lawful 𝓤 H A W w8 .typed) 128 sends (w-sends ∷ []) is-sends .0)) $
-          nothing ! $ calls-fn ! fm marks-of.ended (marks-of.clauses 𝓤 H A at-mem run) (known .1) ((tt, tt, tt, tt, tt), tt)
-          (λ receives _. receives ≡ none)
-          (‵ ftrue) (plainly 𝓤 H A W ([]) tt tt tt tt) (λ receives _. id⊢ 𝓤 _)
-          (no-more !) (λ receives w-receives _ e-receives is-receives. drop ! $ drop ! $
-          land ! (from ! (stop !)) (init ! 27 refl (array-typed u8 (uint-lawful 𝓤 H A W w8 .typed) 256 receives (w-receives ∷ [])
-          is-receives .0)) $
-          assigns ! {v = w-receives} (of-opd ! (load ! (from ! (stop !)) (look ! 27 refl))) (from ! (stop !))
-          (init ! 38 refl (array-typed u8 (uint-lawful 𝓤 H A W w8 .typed) 256 receives (w-receives ∷ []) is-receives .0)) $
-          assigns ! {v = (vptr l₈ 0)} (addr ! (from ! (stop !))) (from ! (stop !)) (init ! 26 refl (tt, tt)) $
-          assigns ! {v = (vptr l₉ 0)} (addr ! (from ! (stop !))) (from ! (stop !)) (init ! 25 refl (tt, tt)) $
-          move ! (39 ∷ []) $ use1 W (‵ (cellAt fullShare ((tyArray (tyInt w8) 128) ∷ []) (w-sends ∷ []) l₈ 0))
-          (W .laws .at-raw fullShare (tyArray (tyInt w8) 128) l₈ 0 w-sends) $
-          cell-in ! fullShare (Array u8 128) (array-makes 𝓤 H A W u8 (uint-makes 𝓤 H A W w8) 128) sends l₈ 0 w-sends is-sends $
-          lend-mut ! tt (Array u8 128) sends l₈ 0 (λ α-sends δ-sends. move ! (41 ∷ []) $
-          use1 W (‵ (cellAt fullShare ((tyArray (tyInt w8) 256) ∷ []) (w-receives ∷ []) l₉ 0))
-          (W .laws .at-raw fullShare (tyArray (tyInt w8) 256) l₉ 0 w-receives) $
-          cell-in ! fullShare (Array u8 256) (array-makes 𝓤 H A W u8 (uint-makes 𝓤 H A W w8) 256) receives l₉ 0 w-receives is-receives $
-          lend-mut ! tt (Array u8 256) receives l₉ 0
-          (λ α-receives δ-receives. move ! (13 ∷ []) $
-          use1 W (‵ (link-shr κ₀ b o γ h) ⊛ ‵ (link-shr κ₀ b o γ h))
-          (shr-copy 𝓤 H A W (named 0) κ₀ L .twice (ref-at b o γ h) (vptr b o ∷ [])) $ split ! $ move ! (9 ∷ 0 ∷ 5 ∷ 6 ∷ 2 ∷ 3 ∷ []) $
-          group ! 6 $ calls-fn ! fm check.ended (check.clauses 𝓤 H A at-mem run) (known .2)
-          (to-check l₈ α-sends δ-sends sends l₉ α-receives δ-receives receives) (λ ok ws-ok. Sound h (ws-ok .1 .0) (ws-ok .1 .1 .0) ok)
-          (‵ (flft κ₀ q₀) ⊛ ‵ (link-shr κ₀ b o γ h) ⊛ ‵ (flft (α-sends ∷ []) fullShare) ⊛ ‵
-          (MutRef (named 0) (α-sends ∷ []) (Array u8 128) .own (ref-at l₈ 0 δ-sends sends) ((vptr l₈ 0) ∷ [])) ⊛ ‵
-          (flft (α-receives ∷ []) fullShare) ⊛ ‵ (MutRef (named 0) (α-receives ∷ []) (Array u8 256) .own
-          (ref-at l₉ 0 δ-receives receives) ((vptr l₉ 0) ∷ [])))
-          (asks-check l₈ α-sends δ-sends sends l₉ α-receives δ-receives receives (e-sends, e-receives)) (λ ok ws-ok. id⊢ 𝓤 _)
-          (and-then ! (load ! (from ! (stop !)) (look ! 46 refl))
-          (and-then ! (load ! (from ! (stop !)) (look ! 28 refl)) (and-then ! (load ! (from ! (stop !)) (look ! 27 refl)) (no-more !))))
-          (λ ok w-ok ws-ok e-ok is-ok. land ! (from ! (stop !)) (init ! 40 refl (bool-lawful 𝓤 H A W .typed ok _ is-ok .0)) $
-          spread W (‵ (flft κ₀ q₀)) (‵ (flft (α-sends ∷ []) fullShare) ∷ ‵ (flft (α-receives ∷ []) fullShare) ∷ ‵ ftrue ∷ [])
-          (id⊢ 𝓤 _) $ move ! (4 ∷ []) $ spread W (‵ ftrue)
-          (‵ (fres δ-sends ((Array u8 128) .coded .code (ws-ok .1 .0)))
-          ∷ ‵ (fres δ-receives ((Array u8 256) .coded .code (ws-ok .1 .1 .0))) ∷ ‵ ftrue ∷ []) (id⊢ 𝓤 _) $
-          keep ! (1 ∷ 2 ∷ 4 ∷ 5 ∷ 6 ∷ 8 ∷ 9 ∷ 10 ∷ 11 ∷ 12 ∷ 13 ∷ 14 ∷ 15 ∷ 16 ∷ 17 ∷ 18 ∷ 19 ∷ 20 ∷ 21 ∷ 22 ∷ 23
-          ∷ 24 ∷ 25 ∷ 26 ∷ 27 ∷ 28 ∷ 29 ∷ 30 ∷ 31 ∷ 32 ∷ 33 ∷ 34 ∷ 35 ∷ 36 ∷ 37 ∷ 38 ∷ 39 ∷ 40 ∷ 41 ∷ 42 ∷ 43 ∷ 44
-          ∷ 45 ∷ 46 ∷ 47 ∷ 48 ∷ 49 ∷ 50 ∷ 51 ∷ 52 ∷ 53 ∷ 54 ∷ []) $
-          -- [fin:@sends; fin:@receives; tok0; tok:@sends; tok:@receives; own0; lent:@receives; lent:@sends; deaths; tok1; tok2; tok3; tok4;
-          -- tok6; own1; own2; own3; own4; own6; the locals]
-          move ! (3 ∷ 7 ∷ 0 ∷ []) $ back-mut ! tt (Array u8 128) l₈ 0 (ws-ok .1 .0) $
-          cell-out ! fullShare (Array u8 128) (array-vals (uint-vals w8)) (array-tells u8 (uint-vals w8) (uint-tells w8) 128)
-          (ws-ok .1 .0) l₈ 0 (λ was-sends-1. use1 W
-          (‵ (fat fullShare (tyArray (tyInt w8) 128) l₈ 0 (only ((array-vals (uint-vals w8)) (ws-ok .1 .0)))))
-          (W .laws .raw-at fullShare (tyArray (tyInt w8) 128) l₈ 0 (only ((array-vals (uint-vals w8)) (ws-ok .1 .0)))) $
-          move ! (3 ∷ 5 ∷ 1 ∷ []) $ back-mut ! tt (Array u8 256) l₉ 0 (ws-ok .1 .1 .0) $
-          cell-out ! fullShare (Array u8 256) (array-vals (uint-vals w8)) (array-tells u8 (uint-vals w8) (uint-tells w8) 256)
-          (ws-ok .1 .1 .0) l₉ 0 (λ was-receives-2. use1 W
-          (‵ (fat fullShare (tyArray (tyInt w8) 256) l₉ 0 (only ((array-vals (uint-vals w8)) (ws-ok .1 .1 .0)))))
-          (W .laws .raw-at fullShare (tyArray (tyInt w8) 256) l₉ 0 (only ((array-vals (uint-vals w8)) (ws-ok .1 .1 .0)))) $
-          by ! (part₁ (
-            (ws-ok .1 .1 .0),
-            (ws-ok .1 .0),
-            l₀,
-            l₁,
-            l₂,
-            l₃,
-            l₄,
-            l₅,
-            l₆,
-            l₇,
-            l₈,
-            l₉,
-            l₁₀,
-            l₁₁,
-            l₁₂,
-            l₁₃,
-            l₁₄,
-            l₁₅,
-            l₁₆,
-            l₁₇,
-            l₁₈,
-            l₁₉,
-            l₂₀,
-            l₂₁,
-            l₂₂,
-            l₂₃,
-            l₂₄,
-            l₂₅,
-            l₂₆,
-            l₂₇,
-            l₂₈,
-            l₂₉,
-            l₃₀,
-            l₃₁,
-            l₃₂,
-            l₃₃,
-            l₃₄,
-            w-sends,
-            w-receives,
-            ok,
-            w-ok,
-            e-ok,
-            is-ok,
-          ))))))))))))))))))))))))))))))))))))))))))))
+              (flft κ₅ q₅) ⊛ ‵ ftrue) ∷ ‵ (owns (ShrRef (named 0) κ₀ L ∷ ShrSlice (named 1) κ₁ u8 ∷ ShrSlice (named 2) κ₂ u8
+              ∷ ShrSlice (named 3) κ₃ R ∷ ShrSlice (named 4) κ₄ u32 ∷ u32 ∷ MutRef (named 5) κ₅ u32 ∷ []) x at) ∷ []) ∵
+              enter ! C Λ code.function (vptr b o ∷ s₁ ∷ s₂ ∷ s₃ ∷ s₄ ∷ v₅ ∷ s₆ ∷ []) _ $
+          allocates ! (code.function .locals) (λ p. params1 ! $
+          pass1 ! (init ! 34 refl (tt, tt)) $ pass1 ! (init ! 33 refl (tt, (tt, (record { fits = room₁ .0 }, tt)))) $
+              pass1 ! (init ! 32 refl (tt, (tt, (record { fits = room₂ .0 }, tt)))) $
+              pass1 ! (init ! 31 refl (tt, (tt, (record { fits = room₃ .0 }, tt)))) $
+              pass1 ! (init ! 30 refl (tt, (tt, (record { fits = room₄ .0 }, tt)))) $
+              pass1 ! (init ! 29 refl (uint-lawful 𝓤 H A W w32 .typed x₅ _ g₅ .0)) $ pass1 ! (init ! 28 refl (tt, tt)) $ pass0 ! $
+          move ! (37 ∷ []) $ spread W (‵ (ShrRef (named 0) κ₀ L .own (ref-at b o γ h) (vptr b o ∷ [])))
+              (‵ (ShrSlice (named 1) κ₁ u8 .own (x₁) (s₁ ∷ [])) ∷ ‵ (ShrSlice (named 2) κ₂ u8 .own (x₂) (s₂ ∷ []))
+              ∷ ‵ (ShrSlice (named 3) κ₃ R .own (x₃) (s₃ ∷ [])) ∷ ‵ (ShrSlice (named 4) κ₄ u32 .own (x₄) (s₄ ∷ []))
+              ∷ ‵ (u32 .own (x₅) (v₅ ∷ [])) ∷ ‵ (MutRef (named 5) κ₅ u32 .own (x₆) (s₆ ∷ [])) ∷ ‵ ftrue ∷ []) (id⊢ 𝓤 _) $
+              move ! (44 ∷ []) $ spread W (‵ (flft κ₀ q₀))
+              (‵ (flft κ₁ q₁) ∷ ‵ (flft κ₂ q₂) ∷ ‵ (flft κ₃ q₃) ∷ ‵ (flft κ₄ q₄) ∷ ‵ (flft κ₅ q₅) ∷ ‵ ftrue
+              ∷ []) (id⊢ 𝓤 _) $ move ! (12 ∷ 14 ∷ 6 ∷ []) $ group ! 3 $ drop ! $
+          -- [tok0; tok1; tok2; tok3; tok4; tok6; own0; own1; own2; own3; own4; own6; deaths; the locals]
+          move ! (28 ∷ []) $ part₁ ! p (tt) (λ new₁.
+          -- [tok0; tok1; tok2; tok3; tok4; tok6; own0; own1; own2; own3; own4; own6; deaths; the locals]
+          move ! (0 ∷ 28 ∷ 39 ∷ []) $ part₂ ! p ((new₁ .0), (new₁ .1), (new₁ .3)) (λ new₂.
+          -- [tok0; tok1; tok2; tok3; tok4; tok6; own0; own1; own2; own3; own4; own6; deaths; the locals]
+          move ! (1 ∷ 2 ∷ 3 ∷ 9 ∷ 28 ∷ 29 ∷ 38 ∷ 39 ∷ 46 ∷ []) $
+              part₃ ! p ((new₁ .0), (new₁ .1), (new₁ .2), (new₁ .3), (new₂ .0), (new₂ .1), (new₂ .2), (new₂ .3)) (λ new₃.
+          -- [tok0; own0; tok1; tok2; tok3; tok4; tok6; own1; own2; own3; own4; own6; deaths; the locals]
+          move ! (2 ∷ 3 ∷ 8 ∷ 36 ∷ 37 ∷ 38 ∷ 39 ∷ 40 ∷ []) $ part₄ ! p (tt) (λ new₄.
+          -- [F:clock; F:arrival; F:flight; F:settings; F:«waiting_numbers»; F:waiting; F:ready; F:transmissions; F:outstanding; F:queued;
+          -- back; opened; tok1; tok2; tok3; tok4; tok6; own1; own2; own3; own4; own6; deaths; the locals]
+          move ! (47 ∷ []) $ part₅ ! p (tt) (λ new₅.
+          -- [F:clock; F:arrival; F:flight; F:settings; F:«waiting_numbers»; F:waiting; F:ready; F:transmissions; F:outstanding; F:queued;
+          -- back; opened; tok1; tok2; tok3; tok4; tok6; own1; own2; own3; own4; own6; deaths; the locals]
+          move ! (0 ∷ 9 ∷ 13 ∷ 14 ∷ 28 ∷ 33 ∷ 45 ∷ 46 ∷ 47 ∷ 50 ∷ 54 ∷ []) $
+              part₆ ! p ((new₄ .0), (new₄ .2), (new₄ .11), (new₄ .12), (new₄ .14), (new₅ .0), (new₅ .1), (new₅ .2), (new₅ .3)) (λ new₆.
+          -- [F:outstanding; tok3; own3; F:clock; F:arrival; F:flight; F:settings; F:«waiting_numbers»; F:waiting; F:ready; F:transmissions;
+          -- F:queued; back; opened; tok1; tok2; tok4; tok6; own1; own2; own4; own6; deaths; the locals]
+          move ! (2 ∷ 3 ∷ 10 ∷ 51 ∷ []) $ part₇ ! p (tt) (λ new₇.
+          -- [tok3; F:outstanding; F:clock; F:arrival; F:flight; F:settings; F:«waiting_numbers»; F:waiting; F:ready; F:transmissions;
+          -- F:queued; back; opened; tok1; tok2; tok4; tok6; own1; own2; own4; own6; deaths; the locals]
+          move ! (49 ∷ []) $ part₈ ! p (tt) (λ new₈.
+          -- [tok3; F:outstanding; F:clock; F:arrival; F:flight; F:settings; F:«waiting_numbers»; F:waiting; F:ready; F:transmissions;
+          -- F:queued; back; opened; tok1; tok2; tok4; tok6; own1; own2; own4; own6; deaths; the locals]
+          move ! (0 ∷ 3 ∷ 4 ∷ 5 ∷ 7 ∷ 16 ∷ 17 ∷ 18 ∷ 19 ∷ 20 ∷ 23 ∷ 24 ∷ 25 ∷ 26 ∷ 32 ∷ 34 ∷ 35 ∷ 36 ∷ 38 ∷ 39 ∷ 40
+              ∷ 44 ∷ 45 ∷ 46 ∷ 47 ∷ 48 ∷ 49 ∷ 50 ∷ 52 ∷ 53 ∷ 54 ∷ 55 ∷ []) $
+              part₉ ! p ((new₆ .0), (new₃ .0), (new₃ .1), (new₃ .2), (new₃ .3), (new₃ .4), (new₃ .5), (new₄ .0), (new₄ .1), (new₄ .2),
+              (new₄ .3), (new₄ .4), (new₄ .5), (new₄ .6), (new₄ .7), (new₄ .8), (new₄ .9), (new₄ .10), (new₄ .11), (new₆ .2), (new₆ .3),
+              (new₇ .0), (new₇ .1), (new₇ .3)) (λ new₉.
+          -- [F:«waiting_numbers»; F:waiting; F:ready; F:transmissions; F:outstanding; F:queued; tok1; tok2; tok4; tok3; F:clock; F:arrival;
+          -- F:flight; F:settings; back; opened; tok6; own6; deaths; the locals]
+          move ! (0 ∷ 1 ∷ 2 ∷ 3 ∷ 4 ∷ 5 ∷ 24 ∷ 36 ∷ 37 ∷ 38 ∷ 39 ∷ 40 ∷ 41 ∷ 48 ∷ 49 ∷ 51 ∷ 52 ∷ 53 ∷ []) $
+              part₁₀ ! p ((new₄ .0), (new₉ .0), (new₉ .1), (new₉ .3)) (λ new₁₀.
+          -- [tok0; fin6; tok6; tok1; tok2; tok4; tok3; deaths; the locals]
+          returns ! (look ! 6 refl) $
+          move ! (42 ∷ 6 ∷ 13 ∷ 28 ∷ 27 ∷ 30 ∷ 26 ∷ 25 ∷ 5 ∷ 37 ∷ 36 ∷ 18 ∷ 17 ∷ 16 ∷ 15 ∷ 14 ∷ 32 ∷ 7 ∷ 12 ∷ 3 ∷ 41
+              ∷ 38 ∷ 40 ∷ 39 ∷ 31 ∷ 35 ∷ 34 ∷ 33 ∷ 11 ∷ 24 ∷ 23 ∷ 22 ∷ 21 ∷ 20 ∷ 19 ∷ 4 ∷ []) $
+              frees-all ! (code.function .locals) p (holds ((new₁₀ .2)) ∷ holds (vptr b o) ∷ holds (s₁) ∷ holds (s₂) ∷ holds (s₃)
+              ∷ holds (s₄) ∷ holds (v₅) ∷ holds (s₆) ∷ holds ((only ((array-vals (uint-vals w8)) (new₃ .1))))
+              ∷ holds ((only ((array-vals (uint-vals w8)) (new₃ .0)))) ∷ holds ((new₃ .3))
+              ∷ holds ((only ((LL.vals settings-row.the-type settings-laws.the-laws) (h .settings))))
+              ∷ holds ((only ((LL.vals flight-row.the-type flight-laws.the-laws) (h .flight))))
+              ∷ holds ((only ((LL.vals arrival-row.the-type arrival-laws.the-laws) (h .arrival))))
+              ∷ holds ((only ((LL.vals clock-row.the-type clock-laws.the-laws) (h .clock)))) ∷ holds ((new₄ .12))
+              ∷ holds ((only ((array-vals (uint-vals w32)) (new₆ .0)))) ∷ holds ((new₇ .1)) ∷ holds ((new₉ .1)) ∷ holds ((new₁ .1))
+              ∷ holds ((new₂ .1)) ∷ holds ((vptr (p 8) 0)) ∷ holds ((vptr (p 9) 0)) ∷ holds ((new₅ .1)) ∷ holds ((new₆ .1))
+              ∷ holds ((vptr b (o + 636))) ∷ holds ((vptr (p 16) 0)) ∷ holds ((vptr (p 16) 0)) ∷ holds ((vptr b (o + 124)))
+              ∷ holds ((vptr b (o + 636))) ∷ holds ((vptr b (o + 764))) ∷ holds ((vptr b (o + 796))) ∷ holds ((vptr b (o + 1308)))
+              ∷ holds ((vptr b (o + 1820))) ∷ holds (s₆) ∷ []) $
+          move ! (0 ∷ 3 ∷ 4 ∷ 6 ∷ 5 ∷ 1 ∷ 2 ∷ []) $
+              by ! (exits (new₁₀ .1) (new₁₀ .2)  ((new₁₀ .0))
+              (told timeCode _ (new₉ .0) ((new₁₀ .3) .0)
+              (record { time = check-promised h (partsOf (x₁ .now) (x₂ .now) (x₃ .now) (x₄ .now)) (recordsIn (new₆ .0)) (new₇ .0)
+              (gathers h (partsOf (x₁ .now) (x₂ .now) (x₃ .now) (x₄ .now)) (new₄ .11) (recordsIn (new₆ .0)) (new₇ .0) (new₄ .13)
+              ((new₆ .2) .1) (new₇ .2)) x₅ (new₉ .0) (new₉ .2); when = (new₁₀ .3) .1 }))  (new₁₀ .4)))))))))))))
 
   f-meets : (𝓣 : Tables 𝓤 H) → Known (𝓣 .C)
       → Meets 𝓤 H A f.signature (WpFn 𝓤 H (𝓣 .C) (𝓣 .Λ) code.function) (f.spec 𝓤 H A at-mem run)
   unfolding Post
-  f-meets 𝓣 known = walk-meets 𝓤 H A f.ended stayed W (
-    goes-dropped 𝓤 H A W 6 (shrRefTo (0 ∷ []) tt (plain (λ _. L))) yes (λ κs x f. refl),
-    (
-      goes-dropped 𝓤 H A W 6 (shrSliceOf (1 ∷ []) tt (plain (λ _. u8))) yes (λ κs x f. refl),
-      (
-        goes-dropped 𝓤 H A W 6 (shrSliceOf (2 ∷ []) tt (plain (λ _. u8))) yes (λ κs x f. refl),
-        (
-          goes-dropped 𝓤 H A W 6 (shrSliceOf (3 ∷ []) tt (plain (λ _. R))) yes (λ κs x f. refl),
-          (
-            goes-dropped 𝓤 H A W 6 (shrSliceOf (4 ∷ []) tt (plain (λ _. u32))) yes (λ κs x f. refl),
-            (goes-dropped 𝓤 H A W 6 (plain (λ _. u32)) yes (λ κs x f. refl), (goes-gave-ref 𝓤 H A W 6 5 tt (plain (λ _. u32)), tt)),
-          ),
-        ),
-      ),
-    ),
-  )
+  f-meets 𝓣 known = walk-meets 𝓤 H A f.ended stayed W
+      (goes-dropped 𝓤 H A W 6 (shrRefTo (0 ∷ []) tt (plain (λ _. L))) yes (λ κs x f. refl),
+      (goes-dropped 𝓤 H A W 6 (shrSliceOf (1 ∷ []) tt (plain (λ _. u8))) yes (λ κs x f. refl),
+      (goes-dropped 𝓤 H A W 6 (shrSliceOf (2 ∷ []) tt (plain (λ _. u8))) yes (λ κs x f. refl),
+      (goes-dropped 𝓤 H A W 6 (shrSliceOf (3 ∷ []) tt (plain (λ _. R))) yes (λ κs x f. refl),
+      (goes-dropped 𝓤 H A W 6 (shrSliceOf (4 ∷ []) tt (plain (λ _. u32))) yes (λ κs x f. refl),
+      (goes-dropped 𝓤 H A W 6 (plain (λ _. u32)) yes (λ κs x f. refl), (goes-gave-ref 𝓤 H A W 6 5 tt (plain (λ _. u32)), tt)))))))
       (f.clauses 𝓤 H A at-mem run) (WpFn 𝓤 H (𝓣 .C) (𝓣 .Λ) code.function) (WpFn-mono 𝓤 H (W .laws) 𝓣 code.function)
       (walked 𝓤 H A f.ended stayed (f.clauses 𝓤 H A at-mem run) (WpFn 𝓤 H (𝓣 .C) (𝓣 .Λ) code.function)
       (λ κs. (ptr-vals, (slice-vals, (slice-vals, (slice-vals, (slice-vals, ((uint-vals w32), (ptr-vals, tt))))))))
-      (λ κs. (
-        shr-tells (named 0) (κs .0) L,
-        (
-          shr-slice-tells (named 1) (κs .1 .0) u8,
-          (
-            shr-slice-tells (named 2) (κs .1 .1 .0) u8,
-            (
-              shr-slice-tells (named 3) (κs .1 .1 .1 .0) R,
-              (shr-slice-tells (named 4) (κs .1 .1 .1 .1 .0) u32, ((uint-tells w32), (mut-tells (named 5) (κs .1 .1 .1 .1 .1 .0) u32, tt))),
-            ),
-          ),
-        ),
-      ))
+      (λ κs. (shr-tells (named 0) (κs .0) L,
+      (shr-slice-tells (named 1) (κs .1 .0) u8,
+      (shr-slice-tells (named 2) (κs .1 .1 .0) u8,
+      (shr-slice-tells (named 3) (κs .1 .1 .1 .0) R,
+      (shr-slice-tells (named 4) (κs .1 .1 .1 .1 .0) u32, ((uint-tells w32), (mut-tells (named 5) (κs .1 .1 .1 .1 .1 .0) u32, tt))))))))
       (λ κs qs bounds a g are. via 𝓤 _ (fst∗ 𝓤 _ (emp 𝓤))
       (walk (κs .0) (κs .1 .0) (κs .1 .1 .0) (κs .1 .1 .1 .0) (κs .1 .1 .1 .1 .0) (κs .1 .1 .1 .1 .1 .0) (qs .0) (qs .1 .0) (qs .1 .1 .0)
       (qs .1 .1 .1 .0) (qs .1 .1 .1 .1 .0) (qs .1 .1 .1 .1 .1 .0) (a .0 .ptr .0) (a .0 .ptr .1) (a .0 .name) (a .0 .now) (a .1 .0)
