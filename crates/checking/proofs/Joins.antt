@@ -46,7 +46,8 @@ send-words-all mss (w ∷ ws) = rw (send-words-all mss ws) (turn (heldFits mss (
 -- ---- two arrays side by side
 
 -- what goes by the words alone
-pub paired-words : {A B : Type 0} (entry : ℕ → ℕ → A) (part : A → B) (of : ℕ → B) → ((w n : ℕ) → part (entry w n) ≡ of w) → (ws ns : List ℕ)
+pub paired-words : {A B : Type 0} (entry : ℕ → ℕ → A) (part : A → B) (of : ℕ → B) → ((w n : ℕ) → part (entry w n) ≡ of w)
+    → (ws ns : List ℕ)
     → length ws ≡ length ns → map part (paired entry ws ns) ≡ map of ws
 unfolding paired
 paired-words entry part of same [] ns e = refl

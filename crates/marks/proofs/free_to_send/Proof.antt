@@ -32,8 +32,12 @@ free-to-send-spec =
     (λ c.
     let l = c .before .before in
     let v = l .loop .inv in
-    let m = l .before .before .before .args .marks .now in
-    (v .0, free-more 128 m (l .loop .slot) _ (omega arith) (v .1) (v .0) (c .if2 .taken), further 128 m (l .loop .slot) _ (omega arith) (v .1) (v .0) (c .if2 .taken)))
+    let m = l .before .before .before .args .marks .now in (
+      v .0,
+      free-more 128 m (l .loop .slot) _ (omega arith) (v .1) (v .0) (c .if2 .taken),
+      further 128 m (l .loop .slot) _ (omega arith) (v .1) (v .0) (c .if2 .taken),
+    ))
     (λ c.
     let l = c .before .before in
-    free-stop 128 (l .before .before .before .args .marks .now) (l .loop .slot) _ (omega arith) (l .loop .inv .1) (l .loop .inv .0) (c .if2 .left)))
+    free-stop 128 (l .before .before .before .args .marks .now) (l .loop .slot) _ (omega arith) (l .loop .inv .1) (l .loop .inv .0)
+    (c .if2 .left)))

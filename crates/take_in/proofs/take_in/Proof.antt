@@ -276,9 +276,16 @@ use Rattle.take_in.proofs.take_in.Statement as stated
 use Rattle.take_in.proofs.take_in.Code as code
 
 abbrev stayed : Stays (f.ended .signature .params) (f.ended .kept)
-stayed = (stay-ref (0 ∷ []) tt (plain (λ _. L)),
-    (stay-dropped _ yes, (gave-slice (2 ∷ []) tt (plain (λ _. u8)),
-    (gave-slice (3 ∷ []) tt (plain (λ _. R)), (gave-slice (4 ∷ []) tt (plain (λ _. u32)), (stay-dropped _ yes, tt))))))
+stayed = (
+  stay-ref (0 ∷ []) tt (plain (λ _. L)),
+  (
+    stay-dropped _ yes,
+    (
+      gave-slice (2 ∷ []) tt (plain (λ _. u8)),
+      (gave-slice (3 ∷ []) tt (plain (λ _. R)), (gave-slice (4 ∷ []) tt (plain (λ _. u32)), (stay-dropped _ yes, tt))),
+    ),
+  ),
+)
 
 -- the rest of the body where each part begins, and behind the last
 unfoldable rest₁₆ : Body
@@ -400,13 +407,19 @@ module _ {M : Type 1} (𝓤 : URA M) (H : Heap 𝓤) (A : Atoms 𝓤) (W : Given
     abbrev to-check : (α-block : ℕ) (δ-block : GName) (f-block : Link) (p-sends : ℕ) (α-sends : ℕ) (δ-sends : GName) (f-sends : (List ℕ))
         (p-receives : ℕ) (α-receives : ℕ) (δ-receives : GName) (f-receives : (List ℕ))
         → tripleOf 𝓤 H A check.signature (check.spec 𝓤 H A at-mem run) .Ghost
-    to-check α-block δ-block f-block p-sends α-sends δ-sends f-sends p-receives α-receives δ-receives f-receives =
-        ((((α-block ∷ []), ((α-sends ∷ []), ((α-receives ∷ []), tt))), (fullShare, (fullShare, (fullShare, tt))), tt,
+    to-check α-block δ-block f-block p-sends α-sends δ-sends f-sends p-receives α-receives δ-receives f-receives = (
+      (
+        ((α-block ∷ []), ((α-sends ∷ []), ((α-receives ∷ []), tt))),
+        (fullShare, (fullShare, (fullShare, tt))),
+        tt,
         ((ref-at b o δ-block f-block), ((ref-at p-sends 0 δ-sends f-sends), ((ref-at p-receives 0 δ-receives f-receives), tt))),
-        ((vptr b o) ∷ [], ((vptr p-sends 0) ∷ [], ((vptr p-receives 0) ∷ [], tt)))), tt)
+        ((vptr b o) ∷ [], ((vptr p-sends 0) ∷ [], ((vptr p-receives 0) ∷ [], tt))),
+      ),
+      tt,
+    )
 
     asks-check : (α-block : ℕ) (δ-block : GName) (f-block : Link) (p-sends : ℕ) (α-sends : ℕ) (δ-sends : GName) (f-sends : (List ℕ))
-        (p-receives : ℕ) (α-receives : ℕ) (δ-receives : GName) (f-receives : (List ℕ)) →  ((f-sends ≡ noneToSend) × (f-receives ≡ none))
+        (p-receives : ℕ) (α-receives : ℕ) (δ-receives : GName) (f-receives : (List ℕ)) → ((f-sends ≡ noneToSend) × (f-receives ≡ none))
         → ent 𝓤 (⋆ 𝓤 H A (‵ (flft (α-block ∷ []) fullShare)
         ∷ ‵ (ShrRef (named 0) (α-block ∷ []) L .own (ref-at b o δ-block f-block) ((vptr b o) ∷ [])) ∷ ‵ (flft (α-sends ∷ []) fullShare)
         ∷ ‵ (MutRef (named 0) (α-sends ∷ []) (Array u8 128) .own (ref-at p-sends 0 δ-sends f-sends) ((vptr p-sends 0) ∷ []))
@@ -414,24 +427,30 @@ module _ {M : Type 1} (𝓤 : URA M) (H : Heap 𝓤) (A : Atoms 𝓤) (W : Given
         ∷ ‵ (MutRef (named 0) (α-receives ∷ []) (Array u8 256) .own (ref-at p-receives 0 δ-receives f-receives) ((vptr p-receives 0) ∷ []))
         ∷ [])) (tripleOf 𝓤 H A check.signature (check.spec 𝓤 H A at-mem run) .pre
         (to-check α-block δ-block f-block p-sends α-sends δ-sends f-sends p-receives α-receives δ-receives f-receives))
-    asks-check α-block δ-block f-block p-sends α-sends δ-sends f-sends p-receives α-receives δ-receives f-receives  req =
+    asks-check α-block δ-block f-block p-sends α-sends δ-sends f-sends p-receives α-receives δ-receives f-receives req =
         qed W (‵ (flft (α-block ∷ []) fullShare) ∷ ‵ (ShrRef (named 0) (α-block ∷ []) L .own (ref-at b o δ-block f-block) ((vptr b o) ∷ []))
-            ∷ ‵ (flft (α-sends ∷ []) fullShare)
-            ∷ ‵ (MutRef (named 0) (α-sends ∷ []) (Array u8 128) .own (ref-at p-sends 0 δ-sends f-sends) ((vptr p-sends 0) ∷ []))
-            ∷ ‵ (flft (α-receives ∷ []) fullShare)
-            ∷ ‵ (MutRef (named 0) (α-receives ∷ []) (Array u8 256) .own (ref-at p-receives 0 δ-receives f-receives)
-            ((vptr p-receives 0) ∷ [])) ∷ []) ∵ says ! req $ nothing ! $ move ! (5 ∷ 0 ∷ []) $ join ! $ move ! (3 ∷ 0 ∷ []) $ join ! $
-            move ! (1 ∷ 0 ∷ []) $ join ! $ nothing ! $ move ! (4 ∷ 0 ∷ []) $ fjoin ! $ move ! (3 ∷ 0 ∷ []) $ fjoin ! $ move ! (2 ∷ 0 ∷ []) $
-            fjoin ! $ move ! (1 ∷ 0 ∷ []) $ done !
+        ∷ ‵ (flft (α-sends ∷ []) fullShare)
+        ∷ ‵ (MutRef (named 0) (α-sends ∷ []) (Array u8 128) .own (ref-at p-sends 0 δ-sends f-sends) ((vptr p-sends 0) ∷ []))
+        ∷ ‵ (flft (α-receives ∷ []) fullShare)
+        ∷ ‵ (MutRef (named 0) (α-receives ∷ []) (Array u8 256) .own (ref-at p-receives 0 δ-receives f-receives)
+        ((vptr p-receives 0) ∷ [])) ∷ []) ∵ says ! req $ nothing ! $ move ! (5 ∷ 0 ∷ []) $ join ! $ move ! (3 ∷ 0 ∷ []) $ join ! $
+        move ! (1 ∷ 0 ∷ []) $ join ! $ nothing ! $ move ! (4 ∷ 0 ∷ []) $ fjoin ! $ move ! (3 ∷ 0 ∷ []) $ fjoin ! $ move ! (2 ∷ 0 ∷ []) $
+        fjoin ! $ move ! (1 ∷ 0 ∷ []) $ done !
 
     -- what gather is called at, and that what it asks is had
     abbrev to-gather : (β₃ : ℕ) (δ₃ : GName) (α-outstanding : ℕ) (δ-outstanding : GName) (f-outstanding : (List ℕ)) (p-found : ℕ)
         (α-found : ℕ) (δ-found : GName) (f-found : (List ℕ)) (y₀ : ℕ) (u₀ : Val)
         → tripleOf 𝓤 H A gather.signature (gather.spec 𝓤 H A at-mem run) .Ghost
-    to-gather β₃ δ₃ α-outstanding δ-outstanding f-outstanding p-found α-found δ-found f-found y₀ u₀ =
-        ((((β₃ ∷ []), ((α-outstanding ∷ []), ((α-found ∷ []), tt))), (fullShare, (fullShare, (fullShare, tt))), tt,
+    to-gather β₃ δ₃ α-outstanding δ-outstanding f-outstanding p-found α-found δ-found f-found y₀ u₀ = (
+      (
+        ((β₃ ∷ []), ((α-outstanding ∷ []), ((α-found ∷ []), tt))),
+        (fullShare, (fullShare, (fullShare, tt))),
+        tt,
         ((shown-at₃ δ₃), ((ref-at b (o + 636) δ-outstanding f-outstanding), (y₀, ((ref-at p-found 0 δ-found f-found), tt)))),
-        (s₃ ∷ [], ((vptr b (o + 636)) ∷ [], (u₀ ∷ [], ((vptr p-found 0) ∷ [], tt))))), tt)
+        (s₃ ∷ [], ((vptr b (o + 636)) ∷ [], (u₀ ∷ [], ((vptr p-found 0) ∷ [], tt)))),
+      ),
+      tt,
+    )
 
     asks-gather : (β₃ : ℕ) (δ₃ : GName) (α-outstanding : ℕ) (δ-outstanding : GName) (f-outstanding : (List ℕ)) (p-found : ℕ) (α-found : ℕ)
         (δ-found : GName) (f-found : (List ℕ)) → (y₀ : ℕ) (u₀ : Val) → Is usize y₀ (u₀ ∷ [])
@@ -444,23 +463,23 @@ module _ {M : Type 1} (𝓤 : URA M) (H : Heap 𝓤) (A : Atoms 𝓤) (W : Given
         (to-gather β₃ δ₃ α-outstanding δ-outstanding f-outstanding p-found α-found δ-found f-found y₀ u₀))
     asks-gather β₃ δ₃ α-outstanding δ-outstanding f-outstanding p-found α-found δ-found f-found y₀ u₀ is₀ req =
         qed W (‵ (flft (β₃ ∷ []) fullShare) ∷ ‵ (Shared₃ β₃ δ₃) ∷ ‵ (flft (α-outstanding ∷ []) fullShare)
-            ∷ ‵ (ShrRef (named 0) (α-outstanding ∷ []) (Array u32 32) .own (ref-at b (o + 636) δ-outstanding f-outstanding)
-            ((vptr b (o + 636)) ∷ [])) ∷ ‵ (flft (α-found ∷ []) fullShare)
-            ∷ ‵ (MutRef (named 0) (α-found ∷ []) (Array u32 128) .own (ref-at p-found 0 δ-found f-found) ((vptr p-found 0) ∷ [])) ∷ []) ∵
-            says ! req $ nothing ! $ move ! (5 ∷ 0 ∷ []) $ join ! $ move ! (3 ∷ 0 ∷ []) $ join ! $ move ! (1 ∷ 0 ∷ []) $ join ! $
-            nothing ! $ move ! (4 ∷ 0 ∷ []) $ fjoin ! $ owned ! usize (Is usize) (uint-makes 𝓤 H A W w64) y₀ _ is₀ $ fjoin ! $
-            move ! (3 ∷ 0 ∷ []) $ fjoin ! $ move ! (2 ∷ 0 ∷ []) $ fjoin ! $ move ! (1 ∷ 0 ∷ []) $ done !
+        ∷ ‵ (ShrRef (named 0) (α-outstanding ∷ []) (Array u32 32) .own (ref-at b (o + 636) δ-outstanding f-outstanding)
+        ((vptr b (o + 636)) ∷ [])) ∷ ‵ (flft (α-found ∷ []) fullShare)
+        ∷ ‵ (MutRef (named 0) (α-found ∷ []) (Array u32 128) .own (ref-at p-found 0 δ-found f-found) ((vptr p-found 0) ∷ [])) ∷ []) ∵
+        says ! req $ nothing ! $ move ! (5 ∷ 0 ∷ []) $ join ! $ move ! (3 ∷ 0 ∷ []) $ join ! $ move ! (1 ∷ 0 ∷ []) $ join ! $
+        nothing ! $ move ! (4 ∷ 0 ∷ []) $ fjoin ! $ owned ! usize (Is usize) (uint-makes 𝓤 H A W w64) y₀ _ is₀ $ fjoin ! $
+        move ! (3 ∷ 0 ∷ []) $ fjoin ! $ move ! (2 ∷ 0 ∷ []) $ fjoin ! $ move ! (1 ∷ 0 ∷ []) $ done !
 
     -- what table-len is called at, and that what it asks is had
     abbrev to-table-len : (β₃ : ℕ) (δ₃ : GName) → tripleOf 𝓤 H A table-len.signature (table-len.spec 𝓤 H A at-mem run) .Ghost
     to-table-len β₃ δ₃ = ((((β₃ ∷ []), tt), (fullShare, tt), tt, ((shown-at₃ δ₃), tt), (s₃ ∷ [], tt)), tt)
 
     asks-table-len : (β₃ : ℕ) (δ₃ : GName)
-        →  ent 𝓤 (⋆ 𝓤 H A (‵ (flft (β₃ ∷ []) fullShare) ∷ ‵ (Shared₃ β₃ δ₃) ∷ []))
+        → ent 𝓤 (⋆ 𝓤 H A (‵ (flft (β₃ ∷ []) fullShare) ∷ ‵ (Shared₃ β₃ δ₃) ∷ []))
         (tripleOf 𝓤 H A table-len.signature (table-len.spec 𝓤 H A at-mem run) .pre (to-table-len β₃ δ₃))
-    asks-table-len β₃ δ₃   =
+    asks-table-len β₃ δ₃ =
         qed W (‵ (flft (β₃ ∷ []) fullShare) ∷ ‵ (Shared₃ β₃ δ₃) ∷ []) ∵ nothing ! $ move ! (1 ∷ 0 ∷ []) $ join ! $ nothing ! $
-            move ! (2 ∷ 0 ∷ []) $ fjoin ! $ move ! (1 ∷ 0 ∷ []) $ join ! $ nothing ! $ move ! (1 ∷ 0 ∷ []) $ done !
+        move ! (2 ∷ 0 ∷ []) $ fjoin ! $ move ! (1 ∷ 0 ∷ []) $ join ! $ nothing ! $ move ! (1 ∷ 0 ∷ []) $ done !
 
     -- what core is called at, and that what it asks is had
     abbrev to-core : (p-found : ℕ) (α-found : ℕ) (δ-found : GName) (f-found : (List ℕ)) (α-queued : ℕ) (δ-queued : GName)
@@ -472,26 +491,112 @@ module _ {M : Type 1} (𝓤 : URA M) (H : Heap 𝓤) (A : Atoms 𝓤) (W : Given
         → tripleOf 𝓤 H A core.signature (core.spec 𝓤 H A at-mem run) .Ghost
     to-core p-found α-found δ-found f-found α-queued δ-queued f-queued α-outstanding δ-outstanding f-outstanding α-transmissions
         δ-transmissions f-transmissions α-ready δ-ready f-ready α-waiting δ-waiting f-waiting α-waiting-numbers δ-waiting-numbers
-        f-waiting-numbers p-receives α-receives δ-receives f-receives y₀ u₀ y₁ u₁ y₂ u₂ y₃ u₃ y₄ u₄ y₅ u₅ =
-        ((((α-found ∷ []), ((α-queued ∷ []),
-        ((α-outstanding ∷ []), ((α-transmissions ∷ []),
-        ((α-ready ∷ []), ((α-waiting ∷ []), ((α-waiting-numbers ∷ []), ((α-receives ∷ []), (κ₁, (κ₂, (κ₄, (κ₅, tt)))))))))))),
-        (fullShare, (fullShare, (fullShare, (fullShare, (fullShare, (fullShare, (fullShare, (fullShare, (q₁, (q₂, (q₄, (q₅, tt)))))))))))),
-        tt, (y₀, (y₁,
-        (y₂, (y₃, (y₄, ((ref-at p-found 0 δ-found f-found),
-        (y₅, ((ref-at b (o + 124) δ-queued f-queued),
-        ((ref-at b (o + 636) δ-outstanding f-outstanding),
-        ((ref-at b (o + 764) δ-transmissions f-transmissions),
-        ((ref-at b (o + 796) δ-ready f-ready),
-        ((ref-at b (o + 1308) δ-waiting f-waiting),
-        ((ref-at b (o + 1820) δ-waiting-numbers f-waiting-numbers),
-        ((ref-at p-receives 0 δ-receives f-receives), (x₁, (x₂, (x₄, (x₅, tt)))))))))))))))))),
-        (u₀ ∷ [], (u₁ ∷ [], (u₂ ∷ [], (u₃ ∷ [],
-        (u₄ ∷ [], ((vptr p-found 0) ∷ [],
-        (u₅ ∷ [], ((vptr b (o + 124)) ∷ [],
-        ((vptr b (o + 636)) ∷ [], ((vptr b (o + 764)) ∷ [],
-        ((vptr b (o + 796)) ∷ [], ((vptr b (o + 1308)) ∷ [],
-        ((vptr b (o + 1820)) ∷ [], ((vptr p-receives 0) ∷ [], (s₁ ∷ [], (s₂ ∷ [], (s₄ ∷ [], (s₅ ∷ [], tt))))))))))))))))))), tt)
+        f-waiting-numbers p-receives α-receives δ-receives f-receives y₀ u₀ y₁ u₁ y₂ u₂ y₃ u₃ y₄ u₄ y₅ u₅ = (
+          (
+            (
+              (α-found ∷ []),
+              (
+                (α-queued ∷ []),
+                (
+                  (α-outstanding ∷ []),
+                  (
+                    (α-transmissions ∷ []),
+                    ((α-ready ∷ []), ((α-waiting ∷ []), ((α-waiting-numbers ∷ []), ((α-receives ∷ []), (κ₁, (κ₂, (κ₄, (κ₅, tt)))))))),
+                  ),
+                ),
+              ),
+            ),
+            (
+              fullShare,
+              (
+                fullShare,
+                (
+                  fullShare,
+                  (fullShare, (fullShare, (fullShare, (fullShare, (fullShare, (q₁, (q₂, (q₄, (q₅, tt))))))))),
+                ),
+              ),
+            ),
+            tt,
+            (
+              y₀,
+              (
+                y₁,
+                (
+                  y₂,
+                  (
+                    y₃,
+                    (
+                      y₄,
+                      (
+                        (ref-at p-found 0 δ-found f-found),
+                        (
+                          y₅,
+                          (
+                            (ref-at b (o + 124) δ-queued f-queued),
+                            (
+                              (ref-at b (o + 636) δ-outstanding f-outstanding),
+                              (
+                                (ref-at b (o + 764) δ-transmissions f-transmissions),
+                                (
+                                  (ref-at b (o + 796) δ-ready f-ready),
+                                  (
+                                    (ref-at b (o + 1308) δ-waiting f-waiting),
+                                    (
+                                      (ref-at b (o + 1820) δ-waiting-numbers f-waiting-numbers),
+                                      ((ref-at p-receives 0 δ-receives f-receives), (x₁, (x₂, (x₄, (x₅, tt))))),
+                                    ),
+                                  ),
+                                ),
+                              ),
+                            ),
+                          ),
+                        ),
+                      ),
+                    ),
+                  ),
+                ),
+              ),
+            ),
+            (
+              u₀ ∷ [],
+              (
+                u₁ ∷ [],
+                (
+                  u₂ ∷ [],
+                  (
+                    u₃ ∷ [],
+                    (
+                      u₄ ∷ [],
+                      (
+                        (vptr p-found 0) ∷ [],
+                        (
+                          u₅ ∷ [],
+                          (
+                            (vptr b (o + 124)) ∷ [],
+                            (
+                              (vptr b (o + 636)) ∷ [],
+                              (
+                                (vptr b (o + 764)) ∷ [],
+                                (
+                                  (vptr b (o + 796)) ∷ [],
+                                  (
+                                    (vptr b (o + 1308)) ∷ [],
+                                    ((vptr b (o + 1820)) ∷ [], ((vptr p-receives 0) ∷ [], (s₁ ∷ [], (s₂ ∷ [], (s₄ ∷ [], (s₅ ∷ [], tt)))))),
+                                  ),
+                                ),
+                              ),
+                            ),
+                          ),
+                        ),
+                      ),
+                    ),
+                  ),
+                ),
+              ),
+            ),
+          ),
+          tt,
+        )
 
     asks-core : (p-found : ℕ) (α-found : ℕ) (δ-found : GName) (f-found : (List ℕ)) (α-queued : ℕ) (δ-queued : GName) (f-queued : (List ℕ))
         (α-outstanding : ℕ) (δ-outstanding : GName) (f-outstanding : (List ℕ)) (α-transmissions : ℕ) (δ-transmissions : GName)
@@ -529,44 +634,50 @@ module _ {M : Type 1} (𝓤 : URA M) (H : Heap 𝓤) (A : Atoms 𝓤) (W : Given
         f-waiting-numbers p-receives α-receives δ-receives f-receives y₀ u₀ is₀ y₁ u₁ is₁ y₂ u₂ is₂ y₃ u₃ is₃ y₄ u₄ is₄ y₅
         u₅ is₅ req =
         qed W (‵ (flft (α-found ∷ []) fullShare)
-            ∷ ‵ (MutRef (named 0) (α-found ∷ []) (Array u32 128) .own (ref-at p-found 0 δ-found f-found) ((vptr p-found 0) ∷ []))
-            ∷ ‵ (flft (α-queued ∷ []) fullShare)
-            ∷ ‵ (ShrRef (named 0) (α-queued ∷ []) (Array u32 128) .own (ref-at b (o + 124) δ-queued f-queued) ((vptr b (o + 124)) ∷ []))
-            ∷ ‵ (flft (α-outstanding ∷ []) fullShare)
-            ∷ ‵ (MutRef (named 0) (α-outstanding ∷ []) (Array u32 32) .own (ref-at b (o + 636) δ-outstanding f-outstanding)
-            ((vptr b (o + 636)) ∷ [])) ∷ ‵ (flft (α-transmissions ∷ []) fullShare)
-            ∷ ‵ (MutRef (named 0) (α-transmissions ∷ []) (Array u8 32) .own (ref-at b (o + 764) δ-transmissions f-transmissions)
-            ((vptr b (o + 764)) ∷ [])) ∷ ‵ (flft (α-ready ∷ []) fullShare)
-            ∷ ‵ (MutRef (named 0) (α-ready ∷ []) (Array u32 128) .own (ref-at b (o + 796) δ-ready f-ready) ((vptr b (o + 796)) ∷ []))
-            ∷ ‵ (flft (α-waiting ∷ []) fullShare)
-            ∷ ‵ (MutRef (named 0) (α-waiting ∷ []) (Array u32 128) .own (ref-at b (o + 1308) δ-waiting f-waiting)
-            ((vptr b (o + 1308)) ∷ [])) ∷ ‵ (flft (α-waiting-numbers ∷ []) fullShare)
-            ∷ ‵ (MutRef (named 0) (α-waiting-numbers ∷ []) (Array u32 128) .own (ref-at b (o + 1820) δ-waiting-numbers f-waiting-numbers)
-            ((vptr b (o + 1820)) ∷ [])) ∷ ‵ (flft (α-receives ∷ []) fullShare)
-            ∷ ‵ (ShrRef (named 0) (α-receives ∷ []) (Array u8 256) .own (ref-at p-receives 0 δ-receives f-receives)
-            ((vptr p-receives 0) ∷ [])) ∷ ‵ (flft κ₁ q₁) ∷ ‵ Own₁ ∷ ‵ (flft κ₂ q₂) ∷ ‵ Own₂ ∷ ‵ (flft κ₄ q₄)
-            ∷ ‵ Own₄ ∷ ‵ (flft κ₅ q₅) ∷ ‵ Own₅ ∷ []) ∵ says ! req $ nothing ! $ move ! (23 ∷ 0 ∷ []) $ join ! $
-            move ! (21 ∷ 0 ∷ []) $ join ! $ move ! (19 ∷ 0 ∷ []) $ join ! $ move ! (17 ∷ 0 ∷ []) $ join ! $ move ! (15 ∷ 0 ∷ []) $ join ! $
-            move ! (13 ∷ 0 ∷ []) $ join ! $ move ! (11 ∷ 0 ∷ []) $ join ! $ move ! (9 ∷ 0 ∷ []) $ join ! $ move ! (7 ∷ 0 ∷ []) $ join ! $
-            move ! (5 ∷ 0 ∷ []) $ join ! $ move ! (3 ∷ 0 ∷ []) $ join ! $ move ! (1 ∷ 0 ∷ []) $ join ! $ nothing ! $ move ! (13 ∷ 0 ∷ []) $
-            fjoin ! $ move ! (12 ∷ 0 ∷ []) $ fjoin ! $ move ! (11 ∷ 0 ∷ []) $ fjoin ! $ move ! (10 ∷ 0 ∷ []) $ fjoin ! $
-            move ! (9 ∷ 0 ∷ []) $ fjoin ! $ move ! (8 ∷ 0 ∷ []) $ fjoin ! $ move ! (7 ∷ 0 ∷ []) $ fjoin ! $ move ! (6 ∷ 0 ∷ []) $ fjoin ! $
-            move ! (5 ∷ 0 ∷ []) $ fjoin ! $ move ! (4 ∷ 0 ∷ []) $ fjoin ! $ move ! (3 ∷ 0 ∷ []) $ fjoin ! $
-            owned ! usize (Is usize) (uint-makes 𝓤 H A W w64) y₅ _ is₅ $ fjoin ! $ move ! (2 ∷ 0 ∷ []) $ fjoin ! $
-            owned ! Boolean (Is Boolean) (bool-makes 𝓤 H A W) y₄ _ is₄ $ fjoin ! $
-            owned ! clock-row.the-row (Is clock-row.the-row) (LL.makes clock-row.the-type clock-laws.the-plain 𝓤 H A) y₃ _ is₃ $ fjoin ! $
-            owned ! arrival-row.the-row (Is arrival-row.the-row) (LL.makes arrival-row.the-type arrival-laws.the-plain 𝓤 H A) y₂ _ is₂ $
-            fjoin ! $ owned ! flight-row.the-row (Is flight-row.the-row) (LL.makes flight-row.the-type flight-laws.the-plain 𝓤 H A) y₁ _
-            is₁ $ fjoin ! $ owned ! settings-row.the-row (Is settings-row.the-row)
-            (LL.makes settings-row.the-type settings-laws.the-plain 𝓤 H A) y₀ _ is₀ $ fjoin ! $ move ! (1 ∷ 0 ∷ []) $ done !
+        ∷ ‵ (MutRef (named 0) (α-found ∷ []) (Array u32 128) .own (ref-at p-found 0 δ-found f-found) ((vptr p-found 0) ∷ []))
+        ∷ ‵ (flft (α-queued ∷ []) fullShare)
+        ∷ ‵ (ShrRef (named 0) (α-queued ∷ []) (Array u32 128) .own (ref-at b (o + 124) δ-queued f-queued) ((vptr b (o + 124)) ∷ []))
+        ∷ ‵ (flft (α-outstanding ∷ []) fullShare)
+        ∷ ‵ (MutRef (named 0) (α-outstanding ∷ []) (Array u32 32) .own (ref-at b (o + 636) δ-outstanding f-outstanding)
+        ((vptr b (o + 636)) ∷ [])) ∷ ‵ (flft (α-transmissions ∷ []) fullShare)
+        ∷ ‵ (MutRef (named 0) (α-transmissions ∷ []) (Array u8 32) .own (ref-at b (o + 764) δ-transmissions f-transmissions)
+        ((vptr b (o + 764)) ∷ [])) ∷ ‵ (flft (α-ready ∷ []) fullShare)
+        ∷ ‵ (MutRef (named 0) (α-ready ∷ []) (Array u32 128) .own (ref-at b (o + 796) δ-ready f-ready) ((vptr b (o + 796)) ∷ []))
+        ∷ ‵ (flft (α-waiting ∷ []) fullShare)
+        ∷ ‵ (MutRef (named 0) (α-waiting ∷ []) (Array u32 128) .own (ref-at b (o + 1308) δ-waiting f-waiting)
+        ((vptr b (o + 1308)) ∷ [])) ∷ ‵ (flft (α-waiting-numbers ∷ []) fullShare)
+        ∷ ‵ (MutRef (named 0) (α-waiting-numbers ∷ []) (Array u32 128) .own (ref-at b (o + 1820) δ-waiting-numbers f-waiting-numbers)
+        ((vptr b (o + 1820)) ∷ [])) ∷ ‵ (flft (α-receives ∷ []) fullShare)
+        ∷ ‵ (ShrRef (named 0) (α-receives ∷ []) (Array u8 256) .own (ref-at p-receives 0 δ-receives f-receives)
+        ((vptr p-receives 0) ∷ [])) ∷ ‵ (flft κ₁ q₁) ∷ ‵ Own₁ ∷ ‵ (flft κ₂ q₂) ∷ ‵ Own₂ ∷ ‵ (flft κ₄ q₄)
+        ∷ ‵ Own₄ ∷ ‵ (flft κ₅ q₅) ∷ ‵ Own₅ ∷ []) ∵ says ! req $ nothing ! $ move ! (23 ∷ 0 ∷ []) $ join ! $
+        move ! (21 ∷ 0 ∷ []) $ join ! $ move ! (19 ∷ 0 ∷ []) $ join ! $ move ! (17 ∷ 0 ∷ []) $ join ! $ move ! (15 ∷ 0 ∷ []) $ join ! $
+        move ! (13 ∷ 0 ∷ []) $ join ! $ move ! (11 ∷ 0 ∷ []) $ join ! $ move ! (9 ∷ 0 ∷ []) $ join ! $ move ! (7 ∷ 0 ∷ []) $ join ! $
+        move ! (5 ∷ 0 ∷ []) $ join ! $ move ! (3 ∷ 0 ∷ []) $ join ! $ move ! (1 ∷ 0 ∷ []) $ join ! $ nothing ! $ move ! (13 ∷ 0 ∷ []) $
+        fjoin ! $ move ! (12 ∷ 0 ∷ []) $ fjoin ! $ move ! (11 ∷ 0 ∷ []) $ fjoin ! $ move ! (10 ∷ 0 ∷ []) $ fjoin ! $
+        move ! (9 ∷ 0 ∷ []) $ fjoin ! $ move ! (8 ∷ 0 ∷ []) $ fjoin ! $ move ! (7 ∷ 0 ∷ []) $ fjoin ! $ move ! (6 ∷ 0 ∷ []) $ fjoin ! $
+        move ! (5 ∷ 0 ∷ []) $ fjoin ! $ move ! (4 ∷ 0 ∷ []) $ fjoin ! $ move ! (3 ∷ 0 ∷ []) $ fjoin ! $
+        owned ! usize (Is usize) (uint-makes 𝓤 H A W w64) y₅ _ is₅ $ fjoin ! $ move ! (2 ∷ 0 ∷ []) $ fjoin ! $
+        owned ! Boolean (Is Boolean) (bool-makes 𝓤 H A W) y₄ _ is₄ $ fjoin ! $
+        owned ! clock-row.the-row (Is clock-row.the-row) (LL.makes clock-row.the-type clock-laws.the-plain 𝓤 H A) y₃ _ is₃ $ fjoin ! $
+        owned ! arrival-row.the-row (Is arrival-row.the-row) (LL.makes arrival-row.the-type arrival-laws.the-plain 𝓤 H A) y₂ _ is₂ $
+        fjoin ! $ owned ! flight-row.the-row (Is flight-row.the-row) (LL.makes flight-row.the-type flight-laws.the-plain 𝓤 H A) y₁ _
+        is₁ $ fjoin ! $ owned ! settings-row.the-row (Is settings-row.the-row)
+        (LL.makes settings-row.the-type settings-laws.the-plain 𝓤 H A) y₀ _ is₀ $ fjoin ! $ move ! (1 ∷ 0 ∷ []) $ done !
 
     -- what scatter is called at, and that what it asks is had
     abbrev to-scatter : (α-outstanding : ℕ) (δ-outstanding : GName) (f-outstanding : (List ℕ)) (p-found : ℕ) (α-found : ℕ) (δ-found : GName)
         (f-found : (List ℕ)) (y₀ : ℕ) (u₀ : Val) → tripleOf 𝓤 H A scatter.signature (scatter.spec 𝓤 H A at-mem run) .Ghost
-    to-scatter α-outstanding δ-outstanding f-outstanding p-found α-found δ-found f-found y₀ u₀ =
-        (((κ₃, ((α-outstanding ∷ []), ((α-found ∷ []), tt))), (q₃, (fullShare, (fullShare, tt))), tt,
+    to-scatter α-outstanding δ-outstanding f-outstanding p-found α-found δ-found f-found y₀ u₀ = (
+      (
+        (κ₃, ((α-outstanding ∷ []), ((α-found ∷ []), tt))),
+        (q₃, (fullShare, (fullShare, tt))),
+        tt,
         (x₃, ((ref-at b (o + 636) δ-outstanding f-outstanding), (y₀, ((ref-at p-found 0 δ-found f-found), tt)))),
-        (s₃ ∷ [], ((vptr b (o + 636)) ∷ [], (u₀ ∷ [], ((vptr p-found 0) ∷ [], tt))))), tt)
+        (s₃ ∷ [], ((vptr b (o + 636)) ∷ [], (u₀ ∷ [], ((vptr p-found 0) ∷ [], tt)))),
+      ),
+      tt,
+    )
 
     asks-scatter : (α-outstanding : ℕ) (δ-outstanding : GName) (f-outstanding : (List ℕ)) (p-found : ℕ) (α-found : ℕ) (δ-found : GName)
         (f-found : (List ℕ)) → (y₀ : ℕ) (u₀ : Val) → Is usize y₀ (u₀ ∷ []) → ((length f-outstanding ≡ 32) × (length f-found ≡ 128))
@@ -578,12 +689,12 @@ module _ {M : Type 1} (𝓤 : URA M) (H : Heap 𝓤) (A : Atoms 𝓤) (W : Given
         (to-scatter α-outstanding δ-outstanding f-outstanding p-found α-found δ-found f-found y₀ u₀))
     asks-scatter α-outstanding δ-outstanding f-outstanding p-found α-found δ-found f-found y₀ u₀ is₀ req =
         qed W (‵ (flft κ₃ q₃) ∷ ‵ Own₃ ∷ ‵ (flft (α-outstanding ∷ []) fullShare)
-            ∷ ‵ (ShrRef (named 0) (α-outstanding ∷ []) (Array u32 32) .own (ref-at b (o + 636) δ-outstanding f-outstanding)
-            ((vptr b (o + 636)) ∷ [])) ∷ ‵ (flft (α-found ∷ []) fullShare)
-            ∷ ‵ (ShrRef (named 0) (α-found ∷ []) (Array u32 128) .own (ref-at p-found 0 δ-found f-found) ((vptr p-found 0) ∷ [])) ∷ []) ∵
-            says ! req $ nothing ! $ move ! (5 ∷ 0 ∷ []) $ join ! $ move ! (3 ∷ 0 ∷ []) $ join ! $ move ! (1 ∷ 0 ∷ []) $ join ! $
-            nothing ! $ move ! (4 ∷ 0 ∷ []) $ fjoin ! $ owned ! usize (Is usize) (uint-makes 𝓤 H A W w64) y₀ _ is₀ $ fjoin ! $
-            move ! (3 ∷ 0 ∷ []) $ fjoin ! $ move ! (2 ∷ 0 ∷ []) $ fjoin ! $ move ! (1 ∷ 0 ∷ []) $ done !
+        ∷ ‵ (ShrRef (named 0) (α-outstanding ∷ []) (Array u32 32) .own (ref-at b (o + 636) δ-outstanding f-outstanding)
+        ((vptr b (o + 636)) ∷ [])) ∷ ‵ (flft (α-found ∷ []) fullShare)
+        ∷ ‵ (ShrRef (named 0) (α-found ∷ []) (Array u32 128) .own (ref-at p-found 0 δ-found f-found) ((vptr p-found 0) ∷ [])) ∷ []) ∵
+        says ! req $ nothing ! $ move ! (5 ∷ 0 ∷ []) $ join ! $ move ! (3 ∷ 0 ∷ []) $ join ! $ move ! (1 ∷ 0 ∷ []) $ join ! $
+        nothing ! $ move ! (4 ∷ 0 ∷ []) $ fjoin ! $ owned ! usize (Is usize) (uint-makes 𝓤 H A W w64) y₀ _ is₀ $ fjoin ! $
+        move ! (3 ∷ 0 ∷ []) $ fjoin ! $ move ! (2 ∷ 0 ∷ []) $ fjoin ! $ move ! (1 ∷ 0 ∷ []) $ done !
 
     abbrev Had : (k : Link) (z₂ : List ℕ) (z₃ : List Record) (z₄ : List ℕ) → List (Item 𝓤)
     Had k z₂ z₃ z₄ = ‵ (link-own κ₀ b o γ k) ∷ ‵ (flft κ₀ q₀) ∷ ‵ (flft κ₁ q₁) ∷ ‵ (finally u8 (x₂ .name) z₂)
@@ -601,12 +712,12 @@ module _ {M : Type 1} (𝓤 : URA M) (H : Heap 𝓤) (A : Atoms 𝓤) (W : Given
     unfolding Post
     exits r w k z₂ z₃ z₄ e len₂ len₃ len₄ g =
         qed W (Had k z₂ z₃ z₄) ∵ suffices ! _ (ends-at 𝓤 H A f.ended stayed (f.clauses 𝓤 H A at-mem run) W
-            (((κ₀, (κ₁, (κ₂, (κ₃, (κ₄, (κ₅, tt)))))), (q₀, (q₁, (q₂, (q₃, (q₄, (q₅, tt)))))), tt, x, at), tt) w r
-            (k, (tt, (z₂, (z₃, (z₄, (tt, tt)))))) (tt, (tt, (len₂, (len₃, (len₄, (tt, tt))))))) $ says ! e $
+        (((κ₀, (κ₁, (κ₂, (κ₃, (κ₄, (κ₅, tt)))))), (q₀, (q₁, (q₂, (q₃, (q₄, (q₅, tt)))))), tt, x, at), tt) w r
+        (k, (tt, (z₂, (z₃, (z₄, (tt, tt)))))) (tt, (tt, (len₂, (len₃, (len₄, (tt, tt))))))) $ says ! e $
         nothing ! $ move ! (10 ∷ 0 ∷ []) $ join ! $ move ! (9 ∷ 0 ∷ []) $ join ! $ move ! (7 ∷ 0 ∷ []) $ join ! $ move ! (5 ∷ 0 ∷ []) $
-            join ! $ move ! (3 ∷ 0 ∷ []) $ join ! $ move ! (2 ∷ 0 ∷ []) $ join ! $ frame ! $ nothing ! $ nothing ! $ fjoin ! $
-            move ! (4 ∷ 0 ∷ []) $ fjoin ! $ move ! (3 ∷ 0 ∷ []) $ fjoin ! $ move ! (2 ∷ 0 ∷ []) $ fjoin ! $ nothing ! $ fjoin ! $
-            move ! (1 ∷ 0 ∷ []) $ fjoin ! $ frame ! $ owned ! i32 (Is i32) (sint-makes 𝓤 H A W w32) r _ g $ done !
+        join ! $ move ! (3 ∷ 0 ∷ []) $ join ! $ move ! (2 ∷ 0 ∷ []) $ join ! $ frame ! $ nothing ! $ nothing ! $ fjoin ! $
+        move ! (4 ∷ 0 ∷ []) $ fjoin ! $ move ! (3 ∷ 0 ∷ []) $ fjoin ! $ move ! (2 ∷ 0 ∷ []) $ fjoin ! $ nothing ! $ fjoin ! $
+        move ! (1 ∷ 0 ∷ []) $ fjoin ! $ frame ! $ owned ! i32 (Is i32) (sint-makes 𝓤 H A W w32) r _ g $ done !
 
     module _ (C : Calls 𝓤 H) (Λ : Loops 𝓤 H) (fm : FmC 𝓤 H (W .laws) C) (known : Known C) where
       -- where the locals lie
@@ -630,14 +741,16 @@ module _ {M : Type 1} (𝓤 : URA M) (H : Heap 𝓤) (A : Atoms 𝓤) (W : Given
           → ((new : New₁ past) → Seq K W (Left₁ p past new Γ) (runs C Λ (En p) rest₂ (atRet (En p) Post)))
           → Seq K W (Had₁ p past Γ) (runs C Λ (En p) rest₁ (atRet (En p) Post))
       unfolding rest₁
-      part₁ {Γ = Γ} t p past on = record { prf =
-          qed W (Had₁ p past Γ) ∵ exec ! C Λ (En p) rest₁ (atRet (En p) Post) $
-          nothing ! $ calls-fn ! fm send-marks-of.ended (send-marks-of.clauses 𝓤 H A at-mem run) (known .0) ((tt, tt, tt, tt, tt), tt)
-              (λ sends _. sends ≡ noneToSend)
-          (‵ ftrue) (plainly 𝓤 H A W ([]) tt tt tt tt) (λ sends _. id⊢ 𝓤 _)
-          (no-more !) (λ sends w-sends _ e-sends is-sends. drop ! $ drop ! $
-          land ! (from ! (stop !)) (init ! 0 refl (array-typed u8 (uint-lawful 𝓤 H A W w8 .typed) 128 sends (w-sends ∷ []) is-sends .0)) $
-          same ! (on (sends, w-sends, e-sends, is-sends))) }
+      part₁ {Γ = Γ} t p past on = record {
+        prf =
+            qed W (Had₁ p past Γ) ∵ exec ! C Λ (En p) rest₁ (atRet (En p) Post) $
+            nothing ! $ calls-fn ! fm send-marks-of.ended (send-marks-of.clauses 𝓤 H A at-mem run) (known .0) ((tt, tt, tt, tt, tt), tt)
+            (λ sends _. sends ≡ noneToSend)
+            (‵ ftrue) (plainly 𝓤 H A W ([]) tt tt tt tt) (λ sends _. id⊢ 𝓤 _)
+            (no-more !) (λ sends w-sends _ e-sends is-sends. drop ! $ drop ! $
+            land ! (from ! (stop !)) (init ! 0 refl (array-typed u8 (uint-lawful 𝓤 H A W w8 .typed) 128 sends (w-sends ∷ []) is-sends .0)) $
+            same ! (on (sends, w-sends, e-sends, is-sends)));
+      }
 
       -- what part 2 knows, what it tells; what it has, and leaves
       abbrev Known₂ : Type 0
@@ -660,17 +773,20 @@ module _ {M : Type 1} (𝓤 : URA M) (H : Heap 𝓤) (A : Atoms 𝓤) (W : Given
           → ((new : New₂ past) → Seq K W (Left₂ p past new Γ) (runs C Λ (En p) rest₃ (atRet (En p) Post)))
           → Seq K W (Had₂ p past Γ) (runs C Λ (En p) rest₂ (atRet (En p) Post))
       unfolding rest₂
-      part₂ {Γ = Γ} t p past on = record { prf =
-          qed W (Had₂ p past Γ) ∵ exec ! C Λ (En p) rest₂ (atRet (En p) Post) $
-          assigns ! {v = (past .1)} (of-opd ! (load ! (from ! (stop !)) (look ! 0 refl))) (from ! (stop !))
-              (init ! 2 refl (array-typed u8 (uint-lawful 𝓤 H A W w8 .typed) 128 (past .0) ((past .1) ∷ []) (past .2) .0)) $
-          nothing ! $ calls-fn ! fm marks-of.ended (marks-of.clauses 𝓤 H A at-mem run) (known .1) ((tt, tt, tt, tt, tt), tt)
-              (λ receives _. receives ≡ none)
-          (‵ ftrue) (plainly 𝓤 H A W ([]) tt tt tt tt) (λ receives _. id⊢ 𝓤 _)
-          (no-more !) (λ receives w-receives _ e-receives is-receives. drop ! $ drop ! $
-          land ! (from ! (stop !)) (init ! 1 refl (array-typed u8 (uint-lawful 𝓤 H A W w8 .typed) 256 receives (w-receives ∷ []) is-receives
-          .0)) $
-          same ! (on (receives, w-receives, e-receives, is-receives))) }
+      part₂ {Γ = Γ} t p past on = record {
+        prf =
+            qed W (Had₂ p past Γ) ∵ exec ! C Λ (En p) rest₂ (atRet (En p) Post) $
+            assigns ! {v = (past .1)} (of-opd ! (load ! (from ! (stop !)) (look ! 0 refl))) (from ! (stop !))
+            (init ! 2 refl (array-typed u8 (uint-lawful 𝓤 H A W w8 .typed) 128 (past .0) ((past .1) ∷ []) (past .2) .0)) $
+            nothing ! $ calls-fn ! fm marks-of.ended (marks-of.clauses 𝓤 H A at-mem run) (known .1) ((tt, tt, tt, tt, tt), tt)
+            (λ receives _. receives ≡ none)
+            (‵ ftrue) (plainly 𝓤 H A W ([]) tt tt tt tt) (λ receives _. id⊢ 𝓤 _)
+            (no-more !) (λ receives w-receives _ e-receives is-receives. drop ! $ drop ! $
+            land ! (from ! (stop !)) (init ! 1 refl (array-typed u8 (uint-lawful 𝓤 H A W w8 .typed) 256 receives (w-receives ∷ [])
+            is-receives
+            .0)) $
+            same ! (on (receives, w-receives, e-receives, is-receives)));
+      }
 
       -- what part 3 knows, what it tells; what it has, and leaves
       abbrev Known₃ : Type 0
@@ -702,57 +818,59 @@ module _ {M : Type 1} (𝓤 : URA M) (H : Heap 𝓤) (A : Atoms 𝓤) (W : Given
           → ((new : New₃ past) → Seq K W (Left₃ p past new Γ) (runs C Λ (En p) rest₄ (atRet (En p) Post)))
           → Seq K W (Had₃ p past Γ) (runs C Λ (En p) rest₃ (atRet (En p) Post))
       unfolding rest₃
-      part₃ {Γ = Γ} t p past on = record { prf =
-          qed W (Had₃ p past Γ) ∵ exec ! C Λ (En p) rest₃ (atRet (En p) Post) $
-          assigns ! {v = (past .5)} (of-opd ! (load ! (from ! (stop !)) (look ! 0 refl))) (from ! (stop !))
-              (init ! 8 refl (array-typed u8 (uint-lawful 𝓤 H A W w8 .typed) 256 (past .4) ((past .5) ∷ []) (past .7) .0)) $
-          assigns ! {v = (vptr b o)} (addr ! (from ! (hop ! (look ! 9 refl) (stop !)))) (from ! (stop !)) (init ! 6 refl (tt, tt)) $
-          assigns ! {v = (vptr (p 7) 0)} (addr ! (from ! (stop !))) (from ! (stop !)) (init ! 5 refl (tt, tt)) $
-          assigns ! {v = (vptr (p 8) 0)} (addr ! (from ! (stop !))) (from ! (stop !)) (init ! 4 refl (tt, tt)) $
-          move ! (3 ∷ 2 ∷ []) $ lend-whole ! tt L h b o γ
-              (λ α-block δ-block. move ! (5 ∷ []) $
-              use1 W (‵ (cellAt fullShare ((tyArray (tyInt w8) 128) ∷ []) ((past .1) ∷ []) (p 7) 0))
-              (W .laws .at-raw fullShare (tyArray (tyInt w8) 128) (p 7) 0 (past .1)) $
-              cell-in ! fullShare (Array u8 128) (array-makes 𝓤 H A W u8 (uint-makes 𝓤 H A W w8) 128) (past .0) (p 7) 0 (past .1)
-              (past .3) $
-          lend-mut ! tt (Array u8 128) (past .0) (p 7) 0
-              (λ α-sends δ-sends. move ! (12 ∷ []) $
-              use1 W (‵ (cellAt fullShare ((tyArray (tyInt w8) 256) ∷ []) ((past .5) ∷ []) (p 8) 0))
-              (W .laws .at-raw fullShare (tyArray (tyInt w8) 256) (p 8) 0 (past .5)) $
-              cell-in ! fullShare (Array u8 256) (array-makes 𝓤 H A W u8 (uint-makes 𝓤 H A W w8) 256) (past .4) (p 8) 0 (past .5)
-              (past .7) $
-          lend-mut ! tt (Array u8 256) (past .4) (p 8) 0
-              (λ α-receives δ-receives. move ! (6 ∷ 7 ∷ 3 ∷ 4 ∷ 0 ∷ 1 ∷ []) $ group ! 6 $
-              calls-fn ! fm check.ended (check.clauses 𝓤 H A at-mem run) (known .2)
-              (to-check α-block δ-block h (p 7) α-sends δ-sends (past .0) (p 8) α-receives δ-receives (past .4) )
-              (λ ok ws-ok. Sound h (ws-ok .1 .0) (ws-ok .1 .1 .0) ok)
-              (‵ (flft (α-block ∷ []) fullShare) ⊛ ‵ (ShrRef (named 0) (α-block ∷ []) L .own (ref-at b o δ-block h) ((vptr b o) ∷ [])) ⊛ ‵
-              (flft (α-sends ∷ []) fullShare) ⊛ ‵ (MutRef (named 0) (α-sends ∷ []) (Array u8 128) .own (ref-at (p 7) 0 δ-sends (past .0))
-              ((vptr (p 7) 0) ∷ [])) ⊛ ‵ (flft (α-receives ∷ []) fullShare) ⊛ ‵
-              (MutRef (named 0) (α-receives ∷ []) (Array u8 256) .own (ref-at (p 8) 0 δ-receives (past .4)) ((vptr (p 8) 0) ∷ [])))
-          (asks-check α-block δ-block h (p 7) α-sends δ-sends (past .0) (p 8) α-receives δ-receives (past .4)  ((past .2), (past .6)))
-          (λ ok ws-ok. id⊢ 𝓤 _)
-          (and-then ! (load ! (from ! (stop !)) (look ! 8 refl))
-          (and-then ! (load ! (from ! (stop !)) (look ! 7 refl)) (and-then ! (load ! (from ! (stop !)) (look ! 6 refl)) (no-more !))))
-          (λ ok w-ok ws-ok e-ok is-ok. land ! (from ! (stop !)) (init ! 10 refl (bool-lawful 𝓤 H A W .typed ok _ is-ok .0)) $
-          spread W (‵ (flft (α-block ∷ []) fullShare))
-              (‵ (flft (α-sends ∷ []) fullShare) ∷ ‵ (flft (α-receives ∷ []) fullShare) ∷ ‵ ftrue ∷ []) (id⊢ 𝓤 _) $ move ! (4 ∷ []) $
-              spread W (‵ ftrue) (‵ (fres δ-sends ((Array u8 128) .coded .code (ws-ok .1 .0)))
-              ∷ ‵ (fres δ-receives ((Array u8 256) .coded .code (ws-ok .1 .1 .0))) ∷ ‵ ftrue ∷ []) (id⊢ 𝓤 _) $ move ! (7 ∷ 3 ∷ 0 ∷ []) $
-              group ! 3 $ drop ! $
-          -- [fin:@sends; fin:@receives; tok:*; tok:@sends; tok:@receives; lent:@receives; lent:@sends; lent:*; opened; the locals]
-          move ! (2 ∷ 7 ∷ 8 ∷ []) $ back-whole ! tt L h b o γ $ move ! (4 ∷ 7 ∷ 2 ∷ []) $
-              back-mut ! tt (Array u8 128) (p 7) 0 (ws-ok .1 .0) $
-              cell-out ! fullShare (Array u8 128) (array-vals (uint-vals w8)) (array-tells u8 (uint-vals w8) (uint-tells w8) 128)
-              (ws-ok .1 .0) (p 7) 0 (λ was-sends-1. use1 W
-              (‵ (fat fullShare (tyArray (tyInt w8) 128) (p 7) 0 (only ((array-vals (uint-vals w8)) (ws-ok .1 .0)))))
-              (W .laws .raw-at fullShare (tyArray (tyInt w8) 128) (p 7) 0 (only ((array-vals (uint-vals w8)) (ws-ok .1 .0)))) $
-          move ! (4 ∷ 5 ∷ 3 ∷ []) $ back-mut ! tt (Array u8 256) (p 8) 0 (ws-ok .1 .1 .0) $
-              cell-out ! fullShare (Array u8 256) (array-vals (uint-vals w8)) (array-tells u8 (uint-vals w8) (uint-tells w8) 256)
-              (ws-ok .1 .1 .0) (p 8) 0 (λ was-receives-2. use1 W
-              (‵ (fat fullShare (tyArray (tyInt w8) 256) (p 8) 0 (only ((array-vals (uint-vals w8)) (ws-ok .1 .1 .0)))))
-              (W .laws .raw-at fullShare (tyArray (tyInt w8) 256) (p 8) 0 (only ((array-vals (uint-vals w8)) (ws-ok .1 .1 .0)))) $
-          same ! (on ((ws-ok .1 .1 .0), (ws-ok .1 .0), ok, w-ok, e-ok, is-ok, was-receives-2)))))))) }
+      part₃ {Γ = Γ} t p past on = record {
+        prf =
+            qed W (Had₃ p past Γ) ∵ exec ! C Λ (En p) rest₃ (atRet (En p) Post) $
+            assigns ! {v = (past .5)} (of-opd ! (load ! (from ! (stop !)) (look ! 0 refl))) (from ! (stop !))
+            (init ! 8 refl (array-typed u8 (uint-lawful 𝓤 H A W w8 .typed) 256 (past .4) ((past .5) ∷ []) (past .7) .0)) $
+            assigns ! {v = (vptr b o)} (addr ! (from ! (hop ! (look ! 9 refl) (stop !)))) (from ! (stop !)) (init ! 6 refl (tt, tt)) $
+            assigns ! {v = (vptr (p 7) 0)} (addr ! (from ! (stop !))) (from ! (stop !)) (init ! 5 refl (tt, tt)) $
+            assigns ! {v = (vptr (p 8) 0)} (addr ! (from ! (stop !))) (from ! (stop !)) (init ! 4 refl (tt, tt)) $
+            move ! (3 ∷ 2 ∷ []) $ lend-whole ! tt L h b o γ
+            (λ α-block δ-block. move ! (5 ∷ []) $
+            use1 W (‵ (cellAt fullShare ((tyArray (tyInt w8) 128) ∷ []) ((past .1) ∷ []) (p 7) 0))
+            (W .laws .at-raw fullShare (tyArray (tyInt w8) 128) (p 7) 0 (past .1)) $
+            cell-in ! fullShare (Array u8 128) (array-makes 𝓤 H A W u8 (uint-makes 𝓤 H A W w8) 128) (past .0) (p 7) 0 (past .1)
+            (past .3) $
+            lend-mut ! tt (Array u8 128) (past .0) (p 7) 0
+            (λ α-sends δ-sends. move ! (12 ∷ []) $
+            use1 W (‵ (cellAt fullShare ((tyArray (tyInt w8) 256) ∷ []) ((past .5) ∷ []) (p 8) 0))
+            (W .laws .at-raw fullShare (tyArray (tyInt w8) 256) (p 8) 0 (past .5)) $
+            cell-in ! fullShare (Array u8 256) (array-makes 𝓤 H A W u8 (uint-makes 𝓤 H A W w8) 256) (past .4) (p 8) 0 (past .5)
+            (past .7) $
+            lend-mut ! tt (Array u8 256) (past .4) (p 8) 0
+            (λ α-receives δ-receives. move ! (6 ∷ 7 ∷ 3 ∷ 4 ∷ 0 ∷ 1 ∷ []) $ group ! 6 $
+            calls-fn ! fm check.ended (check.clauses 𝓤 H A at-mem run) (known .2)
+            (to-check α-block δ-block h (p 7) α-sends δ-sends (past .0) (p 8) α-receives δ-receives (past .4))
+            (λ ok ws-ok. Sound h (ws-ok .1 .0) (ws-ok .1 .1 .0) ok)
+            (‵ (flft (α-block ∷ []) fullShare) ⊛ ‵ (ShrRef (named 0) (α-block ∷ []) L .own (ref-at b o δ-block h) ((vptr b o) ∷ [])) ⊛ ‵
+            (flft (α-sends ∷ []) fullShare) ⊛ ‵ (MutRef (named 0) (α-sends ∷ []) (Array u8 128) .own (ref-at (p 7) 0 δ-sends (past .0))
+            ((vptr (p 7) 0) ∷ [])) ⊛ ‵ (flft (α-receives ∷ []) fullShare) ⊛ ‵
+            (MutRef (named 0) (α-receives ∷ []) (Array u8 256) .own (ref-at (p 8) 0 δ-receives (past .4)) ((vptr (p 8) 0) ∷ [])))
+            (asks-check α-block δ-block h (p 7) α-sends δ-sends (past .0) (p 8) α-receives δ-receives (past .4) ((past .2), (past .6)))
+            (λ ok ws-ok. id⊢ 𝓤 _)
+            (and-then ! (load ! (from ! (stop !)) (look ! 8 refl))
+            (and-then ! (load ! (from ! (stop !)) (look ! 7 refl)) (and-then ! (load ! (from ! (stop !)) (look ! 6 refl)) (no-more !))))
+            (λ ok w-ok ws-ok e-ok is-ok. land ! (from ! (stop !)) (init ! 10 refl (bool-lawful 𝓤 H A W .typed ok _ is-ok .0)) $
+            spread W (‵ (flft (α-block ∷ []) fullShare))
+            (‵ (flft (α-sends ∷ []) fullShare) ∷ ‵ (flft (α-receives ∷ []) fullShare) ∷ ‵ ftrue ∷ []) (id⊢ 𝓤 _) $ move ! (4 ∷ []) $
+            spread W (‵ ftrue) (‵ (fres δ-sends ((Array u8 128) .coded .code (ws-ok .1 .0)))
+            ∷ ‵ (fres δ-receives ((Array u8 256) .coded .code (ws-ok .1 .1 .0))) ∷ ‵ ftrue ∷ []) (id⊢ 𝓤 _) $ move ! (7 ∷ 3 ∷ 0 ∷ []) $
+            group ! 3 $ drop ! $
+            -- [fin:@sends; fin:@receives; tok:*; tok:@sends; tok:@receives; lent:@receives; lent:@sends; lent:*; opened; the locals]
+            move ! (2 ∷ 7 ∷ 8 ∷ []) $ back-whole ! tt L h b o γ $ move ! (4 ∷ 7 ∷ 2 ∷ []) $
+            back-mut ! tt (Array u8 128) (p 7) 0 (ws-ok .1 .0) $
+            cell-out ! fullShare (Array u8 128) (array-vals (uint-vals w8)) (array-tells u8 (uint-vals w8) (uint-tells w8) 128)
+            (ws-ok .1 .0) (p 7) 0 (λ was-sends-1. use1 W
+            (‵ (fat fullShare (tyArray (tyInt w8) 128) (p 7) 0 (only ((array-vals (uint-vals w8)) (ws-ok .1 .0)))))
+            (W .laws .raw-at fullShare (tyArray (tyInt w8) 128) (p 7) 0 (only ((array-vals (uint-vals w8)) (ws-ok .1 .0)))) $
+            move ! (4 ∷ 5 ∷ 3 ∷ []) $ back-mut ! tt (Array u8 256) (p 8) 0 (ws-ok .1 .1 .0) $
+            cell-out ! fullShare (Array u8 256) (array-vals (uint-vals w8)) (array-tells u8 (uint-vals w8) (uint-tells w8) 256)
+            (ws-ok .1 .1 .0) (p 8) 0 (λ was-receives-2. use1 W
+            (‵ (fat fullShare (tyArray (tyInt w8) 256) (p 8) 0 (only ((array-vals (uint-vals w8)) (ws-ok .1 .1 .0)))))
+            (W .laws .raw-at fullShare (tyArray (tyInt w8) 256) (p 8) 0 (only ((array-vals (uint-vals w8)) (ws-ok .1 .1 .0)))) $
+            same ! (on ((ws-ok .1 .1 .0), (ws-ok .1 .0), ok, w-ok, e-ok, is-ok, was-receives-2))))))));
+      }
 
       -- what part 4 knows, what it tells; what it has, and leaves
       abbrev Known₄ : Type 0
@@ -795,65 +913,81 @@ module _ {M : Type 1} (𝓤 : URA M) (H : Heap 𝓤) (A : Atoms 𝓤) (W : Given
           → ((new : New₄ past) → Seq K W (Left₄ p past new Γ) (runs C Λ (En p) rest₅ (atRet (En p) Post)))
           → Seq K W (Had₄ p past Γ) (runs C Λ (En p) rest₄ (atRet (En p) Post))
       unfolding rest₄
-      part₄ {Γ = Γ} t p past on = record { prf =
-          qed W (Had₄ p past Γ) ∵ exec ! C Λ (En p) rest₄ (atRet (En p) Post) $
-          opens-link b o γ ! tt h $
-          -- [F:settings; F:flight; F:arrival; F:clock; F:queued; F:outstanding; F:transmissions; F:ready; F:waiting; F:«waiting_numbers»;
-          -- back; opened; the locals]
-          move ! (4 ∷ []) $ tells-length ! fullShare u32 128 (h .queued) b (o + 124)
-              (λ len-queued. move ! (5 ∷ []) $
-              tells-length ! fullShare u32 32 (h .outstanding) b (o + 636)
-              (λ len-outstanding. move ! (6 ∷ []) $
-              tells-length ! fullShare u8 32 (h .transmissions) b (o + 764)
-              (λ len-transmissions. move ! (7 ∷ []) $
-              tells-length ! fullShare u32 128 (h .ready) b (o + 796)
-              (λ len-ready. move ! (8 ∷ []) $
-              tells-length ! fullShare u32 128 (h .waiting) b (o + 1308)
-              (λ len-waiting. move ! (9 ∷ []) $
-              tells-length ! fullShare u32 128 (h .«waiting_numbers») b (o + 1820)
-              (λ len-waiting-numbers. move ! (6 ∷ []) $
-              cell-out ! fullShare settings-row.the-row (LL.vals settings-row.the-type settings-laws.the-laws)
-              (LL.tells settings-row.the-type settings-laws.the-laws) (h .settings) b (o + 0) (λ was-settings.
-          assigns ! {v = (only ((LL.vals settings-row.the-type settings-laws.the-laws) (h .settings)))}
-              (of-opd ! (load ! (place-settings ! (look ! 12 refl)) (look-raw ! 0 refl))) (from ! (stop !))
-              (init ! 17 refl (LL.lawful settings-row.the-type settings-laws.the-laws 𝓤 H A W .typed (h .settings)
-              ((only ((LL.vals settings-row.the-type settings-laws.the-laws) (h .settings))) ∷ []) was-settings .0)) $
-          cell-in ! fullShare settings-row.the-row (LL.makes settings-row.the-type settings-laws.the-plain 𝓤 H A) (h .settings) b (o + 0)
-              (only ((LL.vals settings-row.the-type settings-laws.the-laws) (h .settings))) was-settings $ move ! (7 ∷ []) $
-              cell-out ! fullShare flight-row.the-row (LL.vals flight-row.the-type flight-laws.the-laws)
-              (LL.tells flight-row.the-type flight-laws.the-laws) (h .flight) b (o + 16) (λ was-flight.
-          assigns ! {v = (only ((LL.vals flight-row.the-type flight-laws.the-laws) (h .flight)))}
-              (of-opd ! (load ! (place-flight ! (look ! 12 refl)) (look-raw ! 0 refl))) (from ! (stop !))
-              (init ! 16 refl (LL.lawful flight-row.the-type flight-laws.the-laws 𝓤 H A W .typed (h .flight)
-              ((only ((LL.vals flight-row.the-type flight-laws.the-laws) (h .flight))) ∷ []) was-flight .0)) $
-          cell-in ! fullShare flight-row.the-row (LL.makes flight-row.the-type flight-laws.the-plain 𝓤 H A) (h .flight) b (o + 16)
-              (only ((LL.vals flight-row.the-type flight-laws.the-laws) (h .flight))) was-flight $ move ! (8 ∷ []) $
-              cell-out ! fullShare arrival-row.the-row (LL.vals arrival-row.the-type arrival-laws.the-laws)
-              (LL.tells arrival-row.the-type arrival-laws.the-laws) (h .arrival) b (o + 72) (λ was-arrival.
-          assigns ! {v = (only ((LL.vals arrival-row.the-type arrival-laws.the-laws) (h .arrival)))}
-              (of-opd ! (load ! (place-arrival ! (look ! 12 refl)) (look-raw ! 0 refl))) (from ! (stop !))
-              (init ! 15 refl (LL.lawful arrival-row.the-type arrival-laws.the-laws 𝓤 H A W .typed (h .arrival)
-              ((only ((LL.vals arrival-row.the-type arrival-laws.the-laws) (h .arrival))) ∷ []) was-arrival .0)) $
-          cell-in ! fullShare arrival-row.the-row (LL.makes arrival-row.the-type arrival-laws.the-plain 𝓤 H A) (h .arrival) b (o + 72)
-              (only ((LL.vals arrival-row.the-type arrival-laws.the-laws) (h .arrival))) was-arrival $ move ! (9 ∷ []) $
-              cell-out ! fullShare clock-row.the-row (LL.vals clock-row.the-type clock-laws.the-laws)
-              (LL.tells clock-row.the-type clock-laws.the-laws) (h .clock) b (o + 104) (λ was-clock.
-          assigns ! {v = (only ((LL.vals clock-row.the-type clock-laws.the-laws) (h .clock)))}
-              (of-opd ! (load ! (place-clock ! (look ! 12 refl)) (look-raw ! 0 refl))) (from ! (stop !))
-              (init ! 14 refl (LL.lawful clock-row.the-type clock-laws.the-laws 𝓤 H A W .typed (h .clock)
-              ((only ((LL.vals clock-row.the-type clock-laws.the-laws) (h .clock))) ∷ []) was-clock .0)) $
-          cell-in ! fullShare clock-row.the-row (LL.makes clock-row.the-type clock-laws.the-plain 𝓤 H A) (h .clock) b (o + 104)
-              (only ((LL.vals clock-row.the-type clock-laws.the-laws) (h .clock))) was-clock $ nothing ! $
-              calls-fn ! fm count-of.ended (count-of.clauses 𝓤 H A at-mem run) (known .3)
-              ((tt, tt, tt, ((h .flight), tt), ((only ((LL.vals flight-row.the-type flight-laws.the-laws) (h .flight))) ∷ [], tt)), tt)
-              (λ n _. n ≡ h .flight .outstanding)
-          (‵ ftrue) (plainly 𝓤 H A W (flight-row.the-row ∷ []) ((LL.makes flight-row.the-type flight-laws.the-plain 𝓤 H A), tt)
-          ((h .flight), tt) ((only ((LL.vals flight-row.the-type flight-laws.the-laws) (h .flight))) ∷ [], tt) (was-flight, tt))
-          (λ n _. id⊢ 𝓤 _)
-          (and-then ! (load ! (from ! (stop !)) (look ! 17 refl)) (no-more !))
-          (λ n w-n _ e-n is-n. drop ! $ drop ! $  land ! (from ! (stop !)) (init ! 13 refl (uint-lawful 𝓤 H A W w64 .typed n _ is-n .0)) $
-          same ! (on (len-queued, len-outstanding, len-transmissions, len-ready, len-waiting, len-waiting-numbers, was-settings, was-flight,
-              was-arrival, was-clock, n, w-n, e-n, is-n))))))))))))) }
+      part₄ {Γ = Γ} t p past on = record {
+        prf =
+            qed W (Had₄ p past Γ) ∵ exec ! C Λ (En p) rest₄ (atRet (En p) Post) $
+            opens-link b o γ ! tt h $
+            -- [F:settings; F:flight; F:arrival; F:clock; F:queued; F:outstanding; F:transmissions; F:ready; F:waiting; F:«waiting_numbers»;
+            -- back; opened; the locals]
+            move ! (4 ∷ []) $ tells-length ! fullShare u32 128 (h .queued) b (o + 124)
+            (λ len-queued. move ! (5 ∷ []) $
+            tells-length ! fullShare u32 32 (h .outstanding) b (o + 636)
+            (λ len-outstanding. move ! (6 ∷ []) $
+            tells-length ! fullShare u8 32 (h .transmissions) b (o + 764)
+            (λ len-transmissions. move ! (7 ∷ []) $
+            tells-length ! fullShare u32 128 (h .ready) b (o + 796)
+            (λ len-ready. move ! (8 ∷ []) $
+            tells-length ! fullShare u32 128 (h .waiting) b (o + 1308)
+            (λ len-waiting. move ! (9 ∷ []) $
+            tells-length ! fullShare u32 128 (h .«waiting_numbers») b (o + 1820)
+            (λ len-waiting-numbers. move ! (6 ∷ []) $
+            cell-out ! fullShare settings-row.the-row (LL.vals settings-row.the-type settings-laws.the-laws)
+            (LL.tells settings-row.the-type settings-laws.the-laws) (h .settings) b (o + 0) (λ was-settings.
+            assigns ! {v = (only ((LL.vals settings-row.the-type settings-laws.the-laws) (h .settings)))}
+            (of-opd ! (load ! (place-settings ! (look ! 12 refl)) (look-raw ! 0 refl))) (from ! (stop !))
+            (init ! 17 refl (LL.lawful settings-row.the-type settings-laws.the-laws 𝓤 H A W .typed (h .settings)
+            ((only ((LL.vals settings-row.the-type settings-laws.the-laws) (h .settings))) ∷ []) was-settings .0)) $
+            cell-in ! fullShare settings-row.the-row (LL.makes settings-row.the-type settings-laws.the-plain 𝓤 H A) (h .settings) b (o + 0)
+            (only ((LL.vals settings-row.the-type settings-laws.the-laws) (h .settings))) was-settings $ move ! (7 ∷ []) $
+            cell-out ! fullShare flight-row.the-row (LL.vals flight-row.the-type flight-laws.the-laws)
+            (LL.tells flight-row.the-type flight-laws.the-laws) (h .flight) b (o + 16) (λ was-flight.
+            assigns ! {v = (only ((LL.vals flight-row.the-type flight-laws.the-laws) (h .flight)))}
+            (of-opd ! (load ! (place-flight ! (look ! 12 refl)) (look-raw ! 0 refl))) (from ! (stop !))
+            (init ! 16 refl (LL.lawful flight-row.the-type flight-laws.the-laws 𝓤 H A W .typed (h .flight)
+            ((only ((LL.vals flight-row.the-type flight-laws.the-laws) (h .flight))) ∷ []) was-flight .0)) $
+            cell-in ! fullShare flight-row.the-row (LL.makes flight-row.the-type flight-laws.the-plain 𝓤 H A) (h .flight) b (o + 16)
+            (only ((LL.vals flight-row.the-type flight-laws.the-laws) (h .flight))) was-flight $ move ! (8 ∷ []) $
+            cell-out ! fullShare arrival-row.the-row (LL.vals arrival-row.the-type arrival-laws.the-laws)
+            (LL.tells arrival-row.the-type arrival-laws.the-laws) (h .arrival) b (o + 72) (λ was-arrival.
+            assigns ! {v = (only ((LL.vals arrival-row.the-type arrival-laws.the-laws) (h .arrival)))}
+            (of-opd ! (load ! (place-arrival ! (look ! 12 refl)) (look-raw ! 0 refl))) (from ! (stop !))
+            (init ! 15 refl (LL.lawful arrival-row.the-type arrival-laws.the-laws 𝓤 H A W .typed (h .arrival)
+            ((only ((LL.vals arrival-row.the-type arrival-laws.the-laws) (h .arrival))) ∷ []) was-arrival .0)) $
+            cell-in ! fullShare arrival-row.the-row (LL.makes arrival-row.the-type arrival-laws.the-plain 𝓤 H A) (h .arrival) b (o + 72)
+            (only ((LL.vals arrival-row.the-type arrival-laws.the-laws) (h .arrival))) was-arrival $ move ! (9 ∷ []) $
+            cell-out ! fullShare clock-row.the-row (LL.vals clock-row.the-type clock-laws.the-laws)
+            (LL.tells clock-row.the-type clock-laws.the-laws) (h .clock) b (o + 104) (λ was-clock.
+            assigns ! {v = (only ((LL.vals clock-row.the-type clock-laws.the-laws) (h .clock)))}
+            (of-opd ! (load ! (place-clock ! (look ! 12 refl)) (look-raw ! 0 refl))) (from ! (stop !))
+            (init ! 14 refl (LL.lawful clock-row.the-type clock-laws.the-laws 𝓤 H A W .typed (h .clock)
+            ((only ((LL.vals clock-row.the-type clock-laws.the-laws) (h .clock))) ∷ []) was-clock .0)) $
+            cell-in ! fullShare clock-row.the-row (LL.makes clock-row.the-type clock-laws.the-plain 𝓤 H A) (h .clock) b (o + 104)
+            (only ((LL.vals clock-row.the-type clock-laws.the-laws) (h .clock))) was-clock $ nothing ! $
+            calls-fn ! fm count-of.ended (count-of.clauses 𝓤 H A at-mem run) (known .3)
+            ((tt, tt, tt, ((h .flight), tt), ((only ((LL.vals flight-row.the-type flight-laws.the-laws) (h .flight))) ∷ [], tt)), tt)
+            (λ n _. n ≡ h .flight .outstanding)
+            (‵ ftrue) (plainly 𝓤 H A W (flight-row.the-row ∷ []) ((LL.makes flight-row.the-type flight-laws.the-plain 𝓤 H A), tt)
+            ((h .flight), tt) ((only ((LL.vals flight-row.the-type flight-laws.the-laws) (h .flight))) ∷ [], tt) (was-flight, tt))
+            (λ n _. id⊢ 𝓤 _)
+            (and-then ! (load ! (from ! (stop !)) (look ! 17 refl)) (no-more !))
+            (λ n w-n _ e-n is-n. drop ! $ drop ! $ land ! (from ! (stop !)) (init ! 13 refl (uint-lawful 𝓤 H A W w64 .typed n _ is-n .0)) $
+            same ! (on (
+              len-queued,
+              len-outstanding,
+              len-transmissions,
+              len-ready,
+              len-waiting,
+              len-waiting-numbers,
+              was-settings,
+              was-flight,
+              was-arrival,
+              was-clock,
+              n,
+              w-n,
+              e-n,
+              is-n,
+            )))))))))))));
+      }
 
       -- what part 5 knows, what it tells; what it has, and leaves
       abbrev Known₅ : Type 0
@@ -872,14 +1006,17 @@ module _ {M : Type 1} (𝓤 : URA M) (H : Heap 𝓤) (A : Atoms 𝓤) (W : Given
           → ((new : New₅ past) → Seq K W (Left₅ p past new Γ) (runs C Λ (En p) rest₆ (atRet (En p) Post)))
           → Seq K W (Had₅ p past Γ) (runs C Λ (En p) rest₅ (atRet (En p) Post))
       unfolding rest₅
-      part₅ {Γ = Γ} t p past on = record { prf =
-          qed W (Had₅ p past Γ) ∵ exec ! C Λ (En p) rest₅ (atRet (En p) Post) $
-          nothing ! $ calls-fn ! fm none-of.ended (none-of.clauses 𝓤 H A at-mem run) (known .4) ((tt, tt, tt, tt, tt), tt)
-              (λ found _. found ≡ replicate 128 0)
-          (‵ ftrue) (plainly 𝓤 H A W ([]) tt tt tt tt) (λ found _. id⊢ 𝓤 _)
-          (no-more !) (λ found w-found _ e-found is-found. drop ! $ drop ! $
-          land ! (from ! (stop !)) (init ! 0 refl (array-typed u32 (uint-lawful 𝓤 H A W w32 .typed) 128 found (w-found ∷ []) is-found .0)) $
-          same ! (on (found, w-found, e-found, is-found))) }
+      part₅ {Γ = Γ} t p past on = record {
+        prf =
+            qed W (Had₅ p past Γ) ∵ exec ! C Λ (En p) rest₅ (atRet (En p) Post) $
+            nothing ! $ calls-fn ! fm none-of.ended (none-of.clauses 𝓤 H A at-mem run) (known .4) ((tt, tt, tt, tt, tt), tt)
+            (λ found _. found ≡ replicate 128 0)
+            (‵ ftrue) (plainly 𝓤 H A W ([]) tt tt tt tt) (λ found _. id⊢ 𝓤 _)
+            (no-more !) (λ found w-found _ e-found is-found. drop ! $ drop ! $
+            land ! (from ! (stop !)) (init ! 0 refl (array-typed u32 (uint-lawful 𝓤 H A W w32 .typed) 128 found (w-found ∷ []) is-found
+            .0)) $
+            same ! (on (found, w-found, e-found, is-found)));
+      }
 
       -- what part 6 knows, what it tells; what it has, and leaves
       abbrev Known₆ : Type 0
@@ -921,60 +1058,63 @@ module _ {M : Type 1} (𝓤 : URA M) (H : Heap 𝓤) (A : Atoms 𝓤) (W : Given
           → ((new : New₆ past) → Seq K W (Left₆ p past new Γ) (runs C Λ (En p) rest₇ (atRet (En p) Post)))
           → Seq K W (Had₆ p past Γ) (runs C Λ (En p) rest₆ (atRet (En p) Post))
       unfolding rest₆
-      part₆ {Γ = Γ} t p past on = record { prf =
-          qed W (Had₆ p past Γ) ∵ exec ! C Λ (En p) rest₆ (atRet (En p) Post) $
-          assigns ! {v = (past .5)} (of-opd ! (load ! (from ! (stop !)) (look ! 0 refl))) (from ! (stop !))
-              (init ! 11 refl (array-typed u32 (uint-lawful 𝓤 H A W w32 .typed) 128 (past .4) ((past .5) ∷ []) (past .7) .0)) $
-          assigns ! {v = (vptr (x₃ .ptr .0) (x₃ .ptr .1))}
-              (addr ! (from ! (fld ! refl (hop ! (look-in ! 12 (sub ! 0 refl (whole !))) (stop !))))) (from ! (stop !))
-              (init ! 9 refl (tt, tt)) $
-          assigns ! {v = s₃} (agg ! (and-then ! (load ! (from ! (stop !)) (look ! 9 refl))
-              (and-then ! (load ! (from ! (fld ! refl (stop !))) (look-in ! 12 (sub ! 1 refl (whole !)))) (no-more !)))) (from ! (stop !))
-              (init ! 8 refl (tt, (tt, (record { fits = room₃ .0 }, tt)))) $
-          assigns ! {v = (vptr b (o + 636))} (addr ! (place-outstanding ! (look ! 2 refl))) (from ! (stop !)) (init ! 7 refl (tt, tt)) $
-          assigns ! {v = (vptr (p 15) 0)} (addr ! (from ! (stop !))) (from ! (stop !)) (init ! 6 refl (tt, tt)) $
-          move ! (1 ∷ []) $ lend-shr ! tt fullShare (Array u32 32) (h .outstanding) b (o + 636)
-              (λ α-outstanding δ-outstanding. move ! (13 ∷ []) $
-              use1 W (‵ (cellAt fullShare ((tyArray (tyInt w32) 128) ∷ []) ((past .5) ∷ []) (p 15) 0))
-              (W .laws .at-raw fullShare (tyArray (tyInt w32) 128) (p 15) 0 (past .5)) $
-              cell-in ! fullShare (Array u32 128) (array-makes 𝓤 H A W u32 (uint-makes 𝓤 H A W w32) 128) (past .4) (p 15) 0 (past .5)
-              (past .7) $
-          lend-mut ! tt (Array u32 128) (past .4) (p 15) 0
-              (λ α-found δ-found. lft-new ! tt (λ β₃. move ! (11 ∷ 10 ∷ []) $
-              use2 W (later (some (λ (δ : GName). ‵ (Shared₃ β₃ δ) ⊛ ‵
-              (LentShared R κ₃ (β₃ ∷ []) q₃ (x₃ .name) (x₃ .ptr .0) (x₃ .ptr .1) (x₃ .now)))))
-              (lends-shared R κ₃ (β₃ ∷ []) q₃ (x₃ .name) (x₃ .ptr .0) (x₃ .ptr .1) (x₃ .now) 𝓤 H A W) $ await ! tt $
-              pick ! (λ β-name₃. split ! $
-          -- [shown3; blent3; btok3; tok:@found; own:@found; lent:@found; tok:outstanding; own:outstanding; lent:outstanding; the locals]
-          use1 W (‵ (Shared₃ β₃ β-name₃) ⊛ ‵ (Shared₃ β₃ β-name₃))
-              (shr-slice-copy 𝓤 H A W (named 0) (β₃ ∷ []) R .twice (shown-at₃ β-name₃) (s₃ ∷ [])) $ split ! $
-              move ! (3 ∷ 0 ∷ 7 ∷ 8 ∷ 4 ∷ 5 ∷ []) $ group ! 6 $
-              calls-fn ! fm gather.ended (gather.clauses 𝓤 H A at-mem run) (known .5)
-              (to-gather β₃ β-name₃ α-outstanding δ-outstanding (h .outstanding) (p 15) α-found δ-found (past .4) (past .1) (past .2))
-              (λ g ws-g. (length (ws-g .1 .1 .1 .0) ≡ 128) ×
-              (recordsIn (ws-g .1 .1 .1 .0) ≡ padded (gathered (take sendSlots (x₃ .now)) (slotsIn (h .outstanding) (past .1)))))
-              (‵ (flft (β₃ ∷ []) fullShare) ⊛ ‵ (Shared₃ β₃ β-name₃) ⊛ ‵ (flft (α-outstanding ∷ []) fullShare) ⊛ ‵
-              (ShrRef (named 0) (α-outstanding ∷ []) (Array u32 32) .own (ref-at b (o + 636) δ-outstanding (h .outstanding))
-              ((vptr b (o + 636)) ∷ [])) ⊛ ‵ (flft (α-found ∷ []) fullShare) ⊛ ‵
-              (MutRef (named 0) (α-found ∷ []) (Array u32 128) .own (ref-at (p 15) 0 δ-found (past .4)) ((vptr (p 15) 0) ∷ [])))
-          (asks-gather β₃ β-name₃ α-outstanding δ-outstanding (h .outstanding) (p 15) α-found δ-found (past .4) (past .1) (past .2)
-          (past .3) ((past .0), (past .6))) (λ g ws-g. id⊢ 𝓤 _)
-          (and-then ! (load ! (from ! (stop !)) (look ! 10 refl))
-          (and-then ! (load ! (from ! (stop !)) (look ! 9 refl))
-          (and-then ! (load ! (from ! (stop !)) (look ! 7 refl)) (and-then ! (load ! (from ! (stop !)) (look ! 8 refl)) (no-more !)))))
-          (λ g w-g ws-g e-g is-g. land ! (from ! (stop !)) (init ! 13 refl (nothing-lawful 𝓤 H A W .typed g _ is-g .0)) $
-          spread W (‵ (flft (β₃ ∷ []) fullShare)) (‵ (flft (α-outstanding ∷ []) fullShare) ∷ ‵ (flft (α-found ∷ []) fullShare) ∷ ‵ ftrue
-              ∷ []) (id⊢ 𝓤 _) $ move ! (4 ∷ []) $
-              spread W (‵ ftrue) (‵ ftrue ∷ ‵ ftrue ∷ ‵ (fres δ-found ((Array u32 128) .coded .code (ws-g .1 .1 .1 .0))) ∷ ‵ ftrue ∷ [])
-              (id⊢ 𝓤 _) $ move ! (8 ∷ 4 ∷ 0 ∷ 1 ∷ 2 ∷ []) $ group ! 5 $ drop ! $
-          -- [fin:@found; btok3; tok:outstanding; tok:@found; shown3; blent3; lent:@found; lent:outstanding; the locals]
-          move ! (2 ∷ 7 ∷ []) $ back-shr ! tt fullShare (Array u32 32) b (o + 636) (h .outstanding) $ move ! (3 ∷ 6 ∷ 1 ∷ []) $
-              back-mut ! tt (Array u32 128) (p 15) 0 (ws-g .1 .1 .1 .0) $
-              cell-out ! fullShare (Array u32 128) (array-vals (uint-vals w32)) (array-tells u32 (uint-vals w32) (uint-tells w32) 128)
-              (ws-g .1 .1 .1 .0) (p 15) 0 (λ was-found-3. use1 W
-              (‵ (fat fullShare (tyArray (tyInt w32) 128) (p 15) 0 (only ((array-vals (uint-vals w32)) (ws-g .1 .1 .1 .0)))))
-              (W .laws .raw-at fullShare (tyArray (tyInt w32) 128) (p 15) 0 (only ((array-vals (uint-vals w32)) (ws-g .1 .1 .1 .0)))) $
-          same ! (on ((ws-g .1 .1 .1 .0), β₃, β-name₃, w-g, e-g, was-found-3)))))))) }
+      part₆ {Γ = Γ} t p past on = record {
+        prf =
+            qed W (Had₆ p past Γ) ∵ exec ! C Λ (En p) rest₆ (atRet (En p) Post) $
+            assigns ! {v = (past .5)} (of-opd ! (load ! (from ! (stop !)) (look ! 0 refl))) (from ! (stop !))
+            (init ! 11 refl (array-typed u32 (uint-lawful 𝓤 H A W w32 .typed) 128 (past .4) ((past .5) ∷ []) (past .7) .0)) $
+            assigns ! {v = (vptr (x₃ .ptr .0) (x₃ .ptr .1))}
+            (addr ! (from ! (fld ! refl (hop ! (look-in ! 12 (sub ! 0 refl (whole !))) (stop !))))) (from ! (stop !))
+            (init ! 9 refl (tt, tt)) $
+            assigns ! {v = s₃} (agg ! (and-then ! (load ! (from ! (stop !)) (look ! 9 refl))
+            (and-then ! (load ! (from ! (fld ! refl (stop !))) (look-in ! 12 (sub ! 1 refl (whole !)))) (no-more !)))) (from ! (stop !))
+            (init ! 8 refl (tt, (tt, (record { fits = room₃ .0 }, tt)))) $
+            assigns ! {v = (vptr b (o + 636))} (addr ! (place-outstanding ! (look ! 2 refl))) (from ! (stop !)) (init ! 7 refl (tt, tt)) $
+            assigns ! {v = (vptr (p 15) 0)} (addr ! (from ! (stop !))) (from ! (stop !)) (init ! 6 refl (tt, tt)) $
+            move ! (1 ∷ []) $ lend-shr ! tt fullShare (Array u32 32) (h .outstanding) b (o + 636)
+            (λ α-outstanding δ-outstanding. move ! (13 ∷ []) $
+            use1 W (‵ (cellAt fullShare ((tyArray (tyInt w32) 128) ∷ []) ((past .5) ∷ []) (p 15) 0))
+            (W .laws .at-raw fullShare (tyArray (tyInt w32) 128) (p 15) 0 (past .5)) $
+            cell-in ! fullShare (Array u32 128) (array-makes 𝓤 H A W u32 (uint-makes 𝓤 H A W w32) 128) (past .4) (p 15) 0 (past .5)
+            (past .7) $
+            lend-mut ! tt (Array u32 128) (past .4) (p 15) 0
+            (λ α-found δ-found. lft-new ! tt (λ β₃. move ! (11 ∷ 10 ∷ []) $
+            use2 W (later (some (λ (δ : GName). ‵ (Shared₃ β₃ δ) ⊛ ‵
+            (LentShared R κ₃ (β₃ ∷ []) q₃ (x₃ .name) (x₃ .ptr .0) (x₃ .ptr .1) (x₃ .now)))))
+            (lends-shared R κ₃ (β₃ ∷ []) q₃ (x₃ .name) (x₃ .ptr .0) (x₃ .ptr .1) (x₃ .now) 𝓤 H A W) $ await ! tt $
+            pick ! (λ β-name₃. split ! $
+            -- [shown3; blent3; btok3; tok:@found; own:@found; lent:@found; tok:outstanding; own:outstanding; lent:outstanding; the locals]
+            use1 W (‵ (Shared₃ β₃ β-name₃) ⊛ ‵ (Shared₃ β₃ β-name₃))
+            (shr-slice-copy 𝓤 H A W (named 0) (β₃ ∷ []) R .twice (shown-at₃ β-name₃) (s₃ ∷ [])) $ split ! $
+            move ! (3 ∷ 0 ∷ 7 ∷ 8 ∷ 4 ∷ 5 ∷ []) $ group ! 6 $
+            calls-fn ! fm gather.ended (gather.clauses 𝓤 H A at-mem run) (known .5)
+            (to-gather β₃ β-name₃ α-outstanding δ-outstanding (h .outstanding) (p 15) α-found δ-found (past .4) (past .1) (past .2))
+            (λ g ws-g. (length (ws-g .1 .1 .1 .0) ≡ 128) ×
+            (recordsIn (ws-g .1 .1 .1 .0) ≡ padded (gathered (take sendSlots (x₃ .now)) (slotsIn (h .outstanding) (past .1)))))
+            (‵ (flft (β₃ ∷ []) fullShare) ⊛ ‵ (Shared₃ β₃ β-name₃) ⊛ ‵ (flft (α-outstanding ∷ []) fullShare) ⊛ ‵
+            (ShrRef (named 0) (α-outstanding ∷ []) (Array u32 32) .own (ref-at b (o + 636) δ-outstanding (h .outstanding))
+            ((vptr b (o + 636)) ∷ [])) ⊛ ‵ (flft (α-found ∷ []) fullShare) ⊛ ‵
+            (MutRef (named 0) (α-found ∷ []) (Array u32 128) .own (ref-at (p 15) 0 δ-found (past .4)) ((vptr (p 15) 0) ∷ [])))
+            (asks-gather β₃ β-name₃ α-outstanding δ-outstanding (h .outstanding) (p 15) α-found δ-found (past .4) (past .1) (past .2)
+            (past .3) ((past .0), (past .6))) (λ g ws-g. id⊢ 𝓤 _)
+            (and-then ! (load ! (from ! (stop !)) (look ! 10 refl))
+            (and-then ! (load ! (from ! (stop !)) (look ! 9 refl))
+            (and-then ! (load ! (from ! (stop !)) (look ! 7 refl)) (and-then ! (load ! (from ! (stop !)) (look ! 8 refl)) (no-more !)))))
+            (λ g w-g ws-g e-g is-g. land ! (from ! (stop !)) (init ! 13 refl (nothing-lawful 𝓤 H A W .typed g _ is-g .0)) $
+            spread W (‵ (flft (β₃ ∷ []) fullShare)) (‵ (flft (α-outstanding ∷ []) fullShare) ∷ ‵ (flft (α-found ∷ []) fullShare)
+            ∷ ‵ ftrue
+            ∷ []) (id⊢ 𝓤 _) $ move ! (4 ∷ []) $
+            spread W (‵ ftrue) (‵ ftrue ∷ ‵ ftrue ∷ ‵ (fres δ-found ((Array u32 128) .coded .code (ws-g .1 .1 .1 .0))) ∷ ‵ ftrue ∷ [])
+            (id⊢ 𝓤 _) $ move ! (8 ∷ 4 ∷ 0 ∷ 1 ∷ 2 ∷ []) $ group ! 5 $ drop ! $
+            -- [fin:@found; btok3; tok:outstanding; tok:@found; shown3; blent3; lent:@found; lent:outstanding; the locals]
+            move ! (2 ∷ 7 ∷ []) $ back-shr ! tt fullShare (Array u32 32) b (o + 636) (h .outstanding) $ move ! (3 ∷ 6 ∷ 1 ∷ []) $
+            back-mut ! tt (Array u32 128) (p 15) 0 (ws-g .1 .1 .1 .0) $
+            cell-out ! fullShare (Array u32 128) (array-vals (uint-vals w32)) (array-tells u32 (uint-vals w32) (uint-tells w32) 128)
+            (ws-g .1 .1 .1 .0) (p 15) 0 (λ was-found-3. use1 W
+            (‵ (fat fullShare (tyArray (tyInt w32) 128) (p 15) 0 (only ((array-vals (uint-vals w32)) (ws-g .1 .1 .1 .0)))))
+            (W .laws .raw-at fullShare (tyArray (tyInt w32) 128) (p 15) 0 (only ((array-vals (uint-vals w32)) (ws-g .1 .1 .1 .0)))) $
+            same ! (on ((ws-g .1 .1 .1 .0), β₃, β-name₃, w-g, e-g, was-found-3))))))));
+      }
 
       -- what part 7 knows, what it tells; what it has, and leaves
       abbrev Known₇ : Type 0
@@ -1000,23 +1140,25 @@ module _ {M : Type 1} (𝓤 : URA M) (H : Heap 𝓤) (A : Atoms 𝓤) (W : Given
           → ((new : New₇ past) → Seq K W (Left₇ p past new Γ) (runs C Λ (En p) rest₈ (atRet (En p) Post)))
           → Seq K W (Had₇ p past Γ) (runs C Λ (En p) rest₇ (atRet (En p) Post))
       unfolding rest₇
-      part₇ {Γ = Γ} t p past on = record { prf =
-          qed W (Had₇ p past Γ) ∵ exec ! C Λ (En p) rest₇ (atRet (En p) Post) $
-          assigns ! {v = (vptr (x₃ .ptr .0) (x₃ .ptr .1))}
-              (addr ! (from ! (fld ! refl (hop ! (look-in ! 2 (sub ! 0 refl (whole !))) (stop !))))) (from ! (stop !))
-              (init ! 4 refl (tt, tt)) $
-          assigns ! {v = s₃} (agg ! (and-then ! (load ! (from ! (stop !)) (look ! 4 refl))
-              (and-then ! (load ! (from ! (fld ! refl (stop !))) (look-in ! 2 (sub ! 1 refl (whole !)))) (no-more !)))) (from ! (stop !))
-              (init ! 3 refl (tt, (tt, (record { fits = room₃ .0 }, tt)))) $
-          join ! $ calls-fn ! fm table-len.ended (table-len.clauses 𝓤 H A at-mem run) (known .6) (to-table-len (past .0) (past .1) )
-              (λ m ws-m. m ≡ length (x₃ .now)) (‵ (flft ((past .0) ∷ []) fullShare) ⊛ ‵ (Shared₃ (past .0) (past .1)))
-          (asks-table-len (past .0) (past .1)  ) (λ m ws-m. id⊢ 𝓤 _)
-          (and-then ! (load ! (from ! (stop !)) (look ! 2 refl)) (no-more !))
-          (λ m w-m ws-m e-m is-m. land ! (from ! (stop !)) (init ! 5 refl (uint-lawful 𝓤 H A W w64 .typed m _ is-m .0)) $
-          spread W (‵ (flft ((past .0) ∷ []) fullShare)) (‵ ftrue ∷ []) (id⊢ 𝓤 _) $ move ! (2 ∷ []) $
-              spread W (‵ ftrue) (‵ ftrue ∷ []) (id⊢ 𝓤 _) $ move ! (3 ∷ 1 ∷ 0 ∷ []) $ group ! 3 $ drop ! $
-          -- [btok3; the locals]
-          same ! (on (m, w-m, e-m, is-m))) }
+      part₇ {Γ = Γ} t p past on = record {
+        prf =
+            qed W (Had₇ p past Γ) ∵ exec ! C Λ (En p) rest₇ (atRet (En p) Post) $
+            assigns ! {v = (vptr (x₃ .ptr .0) (x₃ .ptr .1))}
+            (addr ! (from ! (fld ! refl (hop ! (look-in ! 2 (sub ! 0 refl (whole !))) (stop !))))) (from ! (stop !))
+            (init ! 4 refl (tt, tt)) $
+            assigns ! {v = s₃} (agg ! (and-then ! (load ! (from ! (stop !)) (look ! 4 refl))
+            (and-then ! (load ! (from ! (fld ! refl (stop !))) (look-in ! 2 (sub ! 1 refl (whole !)))) (no-more !)))) (from ! (stop !))
+            (init ! 3 refl (tt, (tt, (record { fits = room₃ .0 }, tt)))) $
+            join ! $ calls-fn ! fm table-len.ended (table-len.clauses 𝓤 H A at-mem run) (known .6) (to-table-len (past .0) (past .1))
+            (λ m ws-m. m ≡ length (x₃ .now)) (‵ (flft ((past .0) ∷ []) fullShare) ⊛ ‵ (Shared₃ (past .0) (past .1)))
+            (asks-table-len (past .0) (past .1)) (λ m ws-m. id⊢ 𝓤 _)
+            (and-then ! (load ! (from ! (stop !)) (look ! 2 refl)) (no-more !))
+            (λ m w-m ws-m e-m is-m. land ! (from ! (stop !)) (init ! 5 refl (uint-lawful 𝓤 H A W w64 .typed m _ is-m .0)) $
+            spread W (‵ (flft ((past .0) ∷ []) fullShare)) (‵ ftrue ∷ []) (id⊢ 𝓤 _) $ move ! (2 ∷ []) $
+            spread W (‵ ftrue) (‵ ftrue ∷ []) (id⊢ 𝓤 _) $ move ! (3 ∷ 1 ∷ 0 ∷ []) $ group ! 3 $ drop ! $
+            -- [btok3; the locals]
+            same ! (on (m, w-m, e-m, is-m)));
+      }
 
       -- what part 8 knows, what it tells; what it has, and leaves
       abbrev Known₈ : Type 0
@@ -1038,13 +1180,15 @@ module _ {M : Type 1} (𝓤 : URA M) (H : Heap 𝓤) (A : Atoms 𝓤) (W : Given
           → ((new : New₈ past) → Seq K W (Left₈ p past new Γ) (runs C Λ (En p) rest₉ (atRet (En p) Post)))
           → Seq K W (Had₈ p past Γ) (runs C Λ (En p) rest₈ (atRet (En p) Post))
       unfolding rest₈
-      part₈ {Γ = Γ} t p past on = record { prf =
-          qed W (Had₈ p past Γ) ∵ exec ! C Λ (En p) rest₈ (atRet (En p) Post) $
-          assigns ! {v = (vptr (p 15) 0)} (addr ! (from ! (stop !))) (from ! (stop !)) (init ! 2 refl (tt, tt)) $
-          lft-end ! tt $ use2 W (later (‵ Own₃ ⊛ ‵ (flft κ₃ q₃)))
-              (shared-back R κ₃ (past ∷ []) q₃ (x₃ .name) (x₃ .ptr .0) (x₃ .ptr .1) (x₃ .now) 𝓤 H A W room₃) $ await ! tt $ split ! $
-          -- [own3; tok3; the locals]
-          same ! (on (tt)) }
+      part₈ {Γ = Γ} t p past on = record {
+        prf =
+            qed W (Had₈ p past Γ) ∵ exec ! C Λ (En p) rest₈ (atRet (En p) Post) $
+            assigns ! {v = (vptr (p 15) 0)} (addr ! (from ! (stop !))) (from ! (stop !)) (init ! 2 refl (tt, tt)) $
+            lft-end ! tt $ use2 W (later (‵ Own₃ ⊛ ‵ (flft κ₃ q₃)))
+            (shared-back R κ₃ (past ∷ []) q₃ (x₃ .name) (x₃ .ptr .0) (x₃ .ptr .1) (x₃ .now) 𝓤 H A W room₃) $ await ! tt $ split ! $
+            -- [own3; tok3; the locals]
+            same ! (on (tt));
+      }
 
       -- what part 9 knows, what it tells; what it has, and leaves
       abbrev Known₉ : Type 0
@@ -1132,157 +1276,183 @@ module _ {M : Type 1} (𝓤 : URA M) (H : Heap 𝓤) (A : Atoms 𝓤) (W : Given
           → ((new : New₉ past) → Seq K W (Left₉ p past new Γ) (runs C Λ (En p) rest₁₀ (atRet (En p) Post)))
           → Seq K W (Had₉ p past Γ) (runs C Λ (En p) rest₉ (atRet (En p) Post))
       unfolding rest₉
-      part₉ {Γ = Γ} t p past on = record { prf =
-          qed W (Had₉ p past Γ) ∵ exec ! C Λ (En p) rest₉ (atRet (En p) Post) $
-          assigns ! {v = (vptr b (o + 124))} (addr ! (place-queued ! (look ! 4 refl))) (from ! (stop !)) (init ! 34 refl (tt, tt)) $
-          assigns ! {v = (vptr b (o + 636))} (addr ! (place-outstanding ! (look ! 4 refl))) (from ! (stop !)) (init ! 33 refl (tt, tt)) $
-          assigns ! {v = (vptr b (o + 764))} (addr ! (place-transmissions ! (look ! 4 refl))) (from ! (stop !)) (init ! 32 refl (tt, tt)) $
-          assigns ! {v = (vptr b (o + 796))} (addr ! (place-ready ! (look ! 4 refl))) (from ! (stop !)) (init ! 31 refl (tt, tt)) $
-          assigns ! {v = (vptr b (o + 1308))} (addr ! (place-waiting ! (look ! 4 refl))) (from ! (stop !)) (init ! 30 refl (tt, tt)) $
-          assigns ! {v = (vptr b (o + 1820))} (addr ! (place-waiting-numbers ! (look ! 4 refl))) (from ! (stop !))
-              (init ! 29 refl (tt, tt)) $
-          assigns ! {v = (vptr (p 8) 0)} (addr ! (from ! (stop !))) (from ! (stop !)) (init ! 28 refl (tt, tt)) $
-          assigns ! {v = (vptr (x₂ .ptr .0) (x₂ .ptr .1))}
-              (addr ! (from ! (fld ! refl (hop ! (look-in ! 38 (sub ! 0 refl (whole !))) (stop !))))) (from ! (stop !))
-              (init ! 27 refl (tt, tt)) $
-          assigns ! {v = s₂} (agg ! (and-then ! (load ! (from ! (stop !)) (look ! 27 refl))
-              (and-then ! (load ! (from ! (fld ! refl (stop !))) (look-in ! 38 (sub ! 1 refl (whole !)))) (no-more !)))) (from ! (stop !))
-              (init ! 26 refl (tt, (tt, (record { fits = room₂ .0 }, tt)))) $
-          assigns ! {v = (vptr (x₄ .ptr .0) (x₄ .ptr .1))}
-              (addr ! (from ! (fld ! refl (hop ! (look-in ! 37 (sub ! 0 refl (whole !))) (stop !))))) (from ! (stop !))
-              (init ! 25 refl (tt, tt)) $
-          assigns ! {v = s₄} (agg ! (and-then ! (load ! (from ! (stop !)) (look ! 25 refl))
-              (and-then ! (load ! (from ! (fld ! refl (stop !))) (look-in ! 37 (sub ! 1 refl (whole !)))) (no-more !)))) (from ! (stop !))
-              (init ! 24 refl (tt, (tt, (record { fits = room₄ .0 }, tt)))) $
-          move ! (2 ∷ []) $ use1 W (‵ (cellAt fullShare ((tyArray (tyInt w32) 128) ∷ [])
-              ((only ((array-vals (uint-vals w32)) (past .0))) ∷ []) (p 15) 0))
-              (W .laws .at-raw fullShare (tyArray (tyInt w32) 128) (p 15) 0 (only ((array-vals (uint-vals w32)) (past .0)))) $
-              cell-in ! fullShare (Array u32 128) (array-makes 𝓤 H A W u32 (uint-makes 𝓤 H A W w32) 128) (past .0) (p 15) 0
-              (only ((array-vals (uint-vals w32)) (past .0))) (past .20) $
-          lend-mut ! tt (Array u32 128) (past .0) (p 15) 0
-              (λ α-found′ δ-found′. move ! (11 ∷ []) $
-              lend-shr ! tt fullShare (Array u32 128) (h .queued) b (o + 124)
-              (λ α-queued δ-queued. move ! (8 ∷ []) $
-              lend-mut ! tt (Array u32 32) (h .outstanding) b (o + 636)
-              (λ α-outstanding′ δ-outstanding′. move ! (15 ∷ []) $
-              lend-mut ! tt (Array u8 32) (h .transmissions) b (o + 764)
-              (λ α-transmissions δ-transmissions. move ! (17 ∷ []) $
-              lend-mut ! tt (Array u32 128) (h .ready) b (o + 796)
-              (λ α-ready δ-ready. move ! (19 ∷ []) $
-              lend-mut ! tt (Array u32 128) (h .waiting) b (o + 1308)
-              (λ α-waiting δ-waiting. move ! (21 ∷ []) $
-              lend-mut ! tt (Array u32 128) (h .«waiting_numbers») b (o + 1820)
-              (λ α-waiting-numbers δ-waiting-numbers. move ! (28 ∷ []) $
-              use1 W (‵ (cellAt fullShare ((tyArray (tyInt w8) 256) ∷ []) ((only ((array-vals (uint-vals w8)) (past .1))) ∷ []) (p 8) 0))
-              (W .laws .at-raw fullShare (tyArray (tyInt w8) 256) (p 8) 0 (only ((array-vals (uint-vals w8)) (past .1)))) $
-              cell-in ! fullShare (Array u8 256) (array-makes 𝓤 H A W u8 (uint-makes 𝓤 H A W w8) 256) (past .1) (p 8) 0
-              (only ((array-vals (uint-vals w8)) (past .1))) (past .7) $
-          lend-shr ! tt fullShare (Array u8 256) (past .1) (p 8) 0
-              (λ α-receives′ δ-receives′. move ! (21 ∷ 22 ∷ 18 ∷ 19 ∷ 15 ∷ 16 ∷ 12 ∷ 13 ∷ 9 ∷ 10 ∷ 6 ∷ 7 ∷ 3 ∷ 4 ∷ 0 ∷ 1
-              ∷ 32 ∷ 36 ∷ 33 ∷ 37 ∷ 34 ∷ 38 ∷ 35 ∷ 39 ∷ []) $ group ! 24 $
-              calls-fn ! fm core.ended (core.clauses 𝓤 H A at-mem run) (known .7)
-              (to-core (p 15) α-found′ δ-found′ (past .0) α-queued δ-queued (h .queued) α-outstanding′ δ-outstanding′ (h .outstanding)
-              α-transmissions δ-transmissions (h .transmissions) α-ready δ-ready (h .ready) α-waiting δ-waiting (h .waiting)
-              α-waiting-numbers δ-waiting-numbers (h .«waiting_numbers») (p 8) α-receives′ δ-receives′ (past .1) (h .settings)
-              (only ((LL.vals settings-row.the-type settings-laws.the-laws) (h .settings))) (h .flight)
-              (only ((LL.vals flight-row.the-type flight-laws.the-laws) (h .flight))) (h .arrival)
-              (only ((LL.vals arrival-row.the-type arrival-laws.the-laws) (h .arrival))) (h .clock)
-              (only ((LL.vals clock-row.the-type clock-laws.the-laws) (h .clock))) (past .3) (past .4) (past .21) (past .22))
-              (λ a ws-a. (Takes (λ l. takesInWith l (recordsIn (past .0)) (x₄ .now) (lentLengths (past .21) (x₁ .now) (x₂ .now) (x₄ .now))
-              (x₂ .now) (x₅ .now)) (h .settings) (h .flight) (h .arrival) (h .clock) (arraysOf h) (x₂ .now) (x₄ .now) a
-              (arrays (h .queued) (ws-a .1 .1 .1 .1 .1 .1 .1 .1 .0) (ws-a .1 .1 .1 .1 .1 .1 .1 .1 .1 .0)
-              (ws-a .1 .1 .1 .1 .1 .1 .1 .1 .1 .1 .0) (ws-a .1 .1 .1 .1 .1 .1 .1 .1 .1 .1 .1 .0)
-              (ws-a .1 .1 .1 .1 .1 .1 .1 .1 .1 .1 .1 .1 .0)) (recordsIn (ws-a .1 .1 .1 .1 .1 .0))
-              (ws-a .1 .1 .1 .1 .1 .1 .1 .1 .1 .1 .1 .1 .1 .1 .1 .0) (ws-a .1 .1 .1 .1 .1 .1 .1 .1 .1 .1 .1 .1 .1 .1 .1 .1 .0)) ×
-              (length (ws-a .1 .1 .1 .1 .1 .0) ≡ 128)) (‵ (flft (α-found′ ∷ []) fullShare) ⊛ ‵
-              (MutRef (named 0) (α-found′ ∷ []) (Array u32 128) .own (ref-at (p 15) 0 δ-found′ (past .0)) ((vptr (p 15) 0) ∷ [])) ⊛ ‵
-              (flft (α-queued ∷ []) fullShare) ⊛ ‵ (ShrRef (named 0) (α-queued ∷ []) (Array u32 128) .own
-              (ref-at b (o + 124) δ-queued (h .queued)) ((vptr b (o + 124)) ∷ [])) ⊛ ‵ (flft (α-outstanding′ ∷ []) fullShare) ⊛ ‵
-              (MutRef (named 0) (α-outstanding′ ∷ []) (Array u32 32) .own (ref-at b (o + 636) δ-outstanding′ (h .outstanding))
-              ((vptr b (o + 636)) ∷ [])) ⊛ ‵ (flft (α-transmissions ∷ []) fullShare) ⊛ ‵
-              (MutRef (named 0) (α-transmissions ∷ []) (Array u8 32) .own (ref-at b (o + 764) δ-transmissions (h .transmissions))
-              ((vptr b (o + 764)) ∷ [])) ⊛ ‵ (flft (α-ready ∷ []) fullShare) ⊛ ‵
-              (MutRef (named 0) (α-ready ∷ []) (Array u32 128) .own (ref-at b (o + 796) δ-ready (h .ready)) ((vptr b (o + 796)) ∷ [])) ⊛ ‵
-              (flft (α-waiting ∷ []) fullShare) ⊛ ‵ (MutRef (named 0) (α-waiting ∷ []) (Array u32 128) .own
-              (ref-at b (o + 1308) δ-waiting (h .waiting)) ((vptr b (o + 1308)) ∷ [])) ⊛ ‵ (flft (α-waiting-numbers ∷ []) fullShare) ⊛ ‵
-              (MutRef (named 0) (α-waiting-numbers ∷ []) (Array u32 128) .own (ref-at b (o + 1820) δ-waiting-numbers (h .«waiting_numbers»))
-              ((vptr b (o + 1820)) ∷ [])) ⊛ ‵ (flft (α-receives′ ∷ []) fullShare) ⊛ ‵
-              (ShrRef (named 0) (α-receives′ ∷ []) (Array u8 256) .own (ref-at (p 8) 0 δ-receives′ (past .1)) ((vptr (p 8) 0) ∷ [])) ⊛ ‵
-              (flft κ₁ q₁) ⊛ ‵ Own₁ ⊛ ‵ (flft κ₂ q₂) ⊛ ‵ Own₂ ⊛ ‵ (flft κ₄ q₄) ⊛ ‵ Own₄ ⊛ ‵ (flft κ₅ q₅) ⊛
-              ‵ Own₅)
-          (asks-core (p 15) α-found′ δ-found′ (past .0) α-queued δ-queued (h .queued) α-outstanding′ δ-outstanding′ (h .outstanding)
-          α-transmissions δ-transmissions (h .transmissions) α-ready δ-ready (h .ready) α-waiting δ-waiting (h .waiting) α-waiting-numbers
-          δ-waiting-numbers (h .«waiting_numbers») (p 8) α-receives′ δ-receives′ (past .1) (h .settings)
-          (only ((LL.vals settings-row.the-type settings-laws.the-laws) (h .settings))) (past .14) (h .flight)
-          (only ((LL.vals flight-row.the-type flight-laws.the-laws) (h .flight))) (past .15) (h .arrival)
-          (only ((LL.vals arrival-row.the-type arrival-laws.the-laws) (h .arrival))) (past .16) (h .clock)
-          (only ((LL.vals clock-row.the-type clock-laws.the-laws) (h .clock))) (past .17) (past .3) (past .4) (past .6) (past .21)
-          (past .22) (past .23) (record { whole-queued = (past .8); whole-outstanding = (past .9); whole-transmissions = (past .10);
-          whole-ready = (past .11); whole-waiting = (past .12); whole-numbers = (past .13) }, (past .19) .0, ((past .2), (past .5))))
-          (λ a ws-a. id⊢ 𝓤 _)
-          (and-then ! (load ! (from ! (stop !)) (look ! 15 refl))
-          (and-then ! (load ! (from ! (stop !)) (look ! 14 refl))
-          (and-then ! (load ! (from ! (stop !)) (look ! 13 refl))
-          (and-then ! (load ! (from ! (stop !)) (look ! 12 refl))
-          (and-then ! (load ! (from ! (stop !)) (look ! 16 refl))
-          (and-then ! (load ! (from ! (stop !)) (look ! 9 refl))
-          (and-then ! (load ! (from ! (stop !)) (look ! 10 refl))
-          (and-then ! (load ! (from ! (stop !)) (look ! 27 refl))
-          (and-then ! (load ! (from ! (stop !)) (look ! 26 refl))
-          (and-then ! (load ! (from ! (stop !)) (look ! 25 refl))
-          (and-then ! (load ! (from ! (stop !)) (look ! 24 refl))
-          (and-then ! (load ! (from ! (stop !)) (look ! 23 refl))
-          (and-then ! (load ! (from ! (stop !)) (look ! 22 refl))
-          (and-then ! (load ! (from ! (stop !)) (look ! 21 refl))
-          (and-then ! (load ! (from ! (stop !)) (look ! 32 refl))
-          (and-then ! (load ! (from ! (stop !)) (look ! 19 refl))
-          (and-then ! (load ! (from ! (stop !)) (look ! 17 refl))
-          (and-then ! (load ! (from ! (stop !)) (look ! 29 refl)) (no-more !)))))))))))))))))))
-          (λ a w-a ws-a e-a is-a. land ! (from ! (stop !))
-          (init ! 29 refl (LL.lawful taken-row.the-type taken-laws.the-laws 𝓤 H A W .typed a (w-a ∷ []) is-a .0)) $
-          spread W (‵ (flft (α-found′ ∷ []) fullShare))
-              (‵ (flft (α-queued ∷ []) fullShare) ∷ ‵ (flft (α-outstanding′ ∷ []) fullShare) ∷ ‵ (flft (α-transmissions ∷ []) fullShare)
-              ∷ ‵ (flft (α-ready ∷ []) fullShare) ∷ ‵ (flft (α-waiting ∷ []) fullShare) ∷ ‵ (flft (α-waiting-numbers ∷ []) fullShare)
-              ∷ ‵ (flft (α-receives′ ∷ []) fullShare) ∷ ‵ (flft κ₁ q₁) ∷ ‵ (flft κ₂ q₂) ∷ ‵ (flft κ₄ q₄)
-              ∷ ‵ (flft κ₅ q₅) ∷ ‵ ftrue ∷ []) (id⊢ 𝓤 _) $ move ! (13 ∷ []) $
-              spread W (‵ ftrue) (‵ ftrue ∷ ‵ ftrue ∷ ‵ ftrue ∷ ‵ ftrue
-              ∷ ‵ (fres δ-found′ ((Array u32 128) .coded .code (ws-a .1 .1 .1 .1 .1 .0))) ∷ ‵ ftrue ∷ ‵ ftrue
-              ∷ ‵ (fres δ-outstanding′ ((Array u32 32) .coded .code (ws-a .1 .1 .1 .1 .1 .1 .1 .1 .0)))
-              ∷ ‵ (fres δ-transmissions ((Array u8 32) .coded .code (ws-a .1 .1 .1 .1 .1 .1 .1 .1 .1 .0)))
-              ∷ ‵ (fres δ-ready ((Array u32 128) .coded .code (ws-a .1 .1 .1 .1 .1 .1 .1 .1 .1 .1 .0)))
-              ∷ ‵ (fres δ-waiting ((Array u32 128) .coded .code (ws-a .1 .1 .1 .1 .1 .1 .1 .1 .1 .1 .1 .0)))
-              ∷ ‵ (fres δ-waiting-numbers ((Array u32 128) .coded .code (ws-a .1 .1 .1 .1 .1 .1 .1 .1 .1 .1 .1 .1 .0))) ∷ ‵ ftrue ∷ ‵ ftrue
-              ∷ ‵ (fsep (finally u8 (x₂ .name) (ws-a .1 .1 .1 .1 .1 .1 .1 .1 .1 .1 .1 .1 .1 .1 .1 .0))
-              (feq ℕ (length (ws-a .1 .1 .1 .1 .1 .1 .1 .1 .1 .1 .1 .1 .1 .1 .1 .0)) (length (x₂ .now))))
-              ∷ ‵ (fsep (finally u32 (x₄ .name) (ws-a .1 .1 .1 .1 .1 .1 .1 .1 .1 .1 .1 .1 .1 .1 .1 .1 .0))
-              (feq ℕ (length (ws-a .1 .1 .1 .1 .1 .1 .1 .1 .1 .1 .1 .1 .1 .1 .1 .1 .0)) (length (x₄ .now)))) ∷ ‵ ftrue ∷ ‵ ftrue ∷ [])
-              (id⊢ 𝓤 _) $ move ! (31 ∷ 18 ∷ 0 ∷ 1 ∷ 2 ∷ 3 ∷ 4 ∷ 6 ∷ 7 ∷ 13 ∷ 14 ∷ 17 ∷ []) $ group ! 12 $ drop ! $
-              move ! (6 ∷ []) $ fsplit ! $ move ! (1 ∷ []) $ feqL ! (λ len₂. move ! (7 ∷ []) $ fsplit ! $ move ! (1 ∷ []) $ feqL ! (λ len₄.
-          -- [fin4; fin2; fin:@found; fin:outstanding; fin:transmissions; fin:ready; fin:waiting; fin:«waiting_numbers»; tok:@found;
-          -- tok:queued; tok:outstanding; tok:transmissions; tok:ready; tok:waiting; tok:«waiting_numbers»; tok:@receives; tok1; tok2; tok4;
-          -- tok5; lent:@receives; lent:«waiting_numbers»; lent:waiting; lent:ready; lent:transmissions; lent:outstanding; lent:queued;
-          -- lent:@found; the locals]
-          move ! (8 ∷ 27 ∷ 2 ∷ []) $ back-mut ! tt (Array u32 128) (p 15) 0 (ws-a .1 .1 .1 .1 .1 .0) $
-              cell-out ! fullShare (Array u32 128) (array-vals (uint-vals w32)) (array-tells u32 (uint-vals w32) (uint-tells w32) 128)
-              (ws-a .1 .1 .1 .1 .1 .0) (p 15) 0 (λ was-found-4. use1 W
-              (‵ (fat fullShare (tyArray (tyInt w32) 128) (p 15) 0 (only ((array-vals (uint-vals w32)) (ws-a .1 .1 .1 .1 .1 .0)))))
-              (W .laws .raw-at fullShare (tyArray (tyInt w32) 128) (p 15) 0
-              (only ((array-vals (uint-vals w32)) (ws-a .1 .1 .1 .1 .1 .0)))) $
-          move ! (8 ∷ 25 ∷ []) $ back-shr ! tt fullShare (Array u32 128) b (o + 124) (h .queued) $ move ! (9 ∷ 24 ∷ 4 ∷ []) $
-              back-mut ! tt (Array u32 32) b (o + 636) (ws-a .1 .1 .1 .1 .1 .1 .1 .1 .0) $ move ! (9 ∷ 22 ∷ 5 ∷ []) $
-              back-mut ! tt (Array u8 32) b (o + 764) (ws-a .1 .1 .1 .1 .1 .1 .1 .1 .1 .0) $ move ! (9 ∷ 20 ∷ 6 ∷ []) $
-              back-mut ! tt (Array u32 128) b (o + 796) (ws-a .1 .1 .1 .1 .1 .1 .1 .1 .1 .1 .0) $ move ! (9 ∷ 18 ∷ 7 ∷ []) $
-              back-mut ! tt (Array u32 128) b (o + 1308) (ws-a .1 .1 .1 .1 .1 .1 .1 .1 .1 .1 .1 .0) $ move ! (9 ∷ 16 ∷ 8 ∷ []) $
-              back-mut ! tt (Array u32 128) b (o + 1820) (ws-a .1 .1 .1 .1 .1 .1 .1 .1 .1 .1 .1 .1 .0) $ move ! (9 ∷ 14 ∷ []) $
-              back-shr ! tt fullShare (Array u8 256) (p 8) 0 (past .1) $
-              cell-out ! fullShare (Array u8 256) (array-vals (uint-vals w8)) (array-tells u8 (uint-vals w8) (uint-tells w8) 256) (past .1)
-              (p 8) 0 (λ was-receives-5. use1 W (‵ (fat fullShare (tyArray (tyInt w8) 256) (p 8) 0
-              (only ((array-vals (uint-vals w8)) (past .1)))))
-              (W .laws .raw-at fullShare (tyArray (tyInt w8) 256) (p 8) 0 (only ((array-vals (uint-vals w8)) (past .1)))) $
-          same ! (on ((ws-a .1 .1 .1 .1 .1 .1 .1 .1 .1 .1 .1 .1 .1 .1 .1 .1 .0), (ws-a .1 .1 .1 .1 .1 .1 .1 .1 .1 .1 .1 .1 .1 .1 .1 .0),
-              (ws-a .1 .1 .1 .1 .1 .0), (ws-a .1 .1 .1 .1 .1 .1 .1 .1 .1 .1 .1 .1 .0), (ws-a .1 .1 .1 .1 .1 .1 .1 .1 .1 .1 .1 .0),
-              (ws-a .1 .1 .1 .1 .1 .1 .1 .1 .1 .1 .0), (ws-a .1 .1 .1 .1 .1 .1 .1 .1 .1 .0), (ws-a .1 .1 .1 .1 .1 .1 .1 .1 .0), a, w-a, e-a,
-              is-a, len₂, len₄, was-found-4))))))))))))))) }
+      part₉ {Γ = Γ} t p past on = record {
+        prf =
+            qed W (Had₉ p past Γ) ∵ exec ! C Λ (En p) rest₉ (atRet (En p) Post) $
+            assigns ! {v = (vptr b (o + 124))} (addr ! (place-queued ! (look ! 4 refl))) (from ! (stop !)) (init ! 34 refl (tt, tt)) $
+            assigns ! {v = (vptr b (o + 636))} (addr ! (place-outstanding ! (look ! 4 refl))) (from ! (stop !)) (init ! 33 refl (tt, tt)) $
+            assigns ! {v = (vptr b (o + 764))} (addr ! (place-transmissions ! (look ! 4 refl))) (from ! (stop !))
+            (init ! 32 refl (tt, tt)) $
+            assigns ! {v = (vptr b (o + 796))} (addr ! (place-ready ! (look ! 4 refl))) (from ! (stop !)) (init ! 31 refl (tt, tt)) $
+            assigns ! {v = (vptr b (o + 1308))} (addr ! (place-waiting ! (look ! 4 refl))) (from ! (stop !)) (init ! 30 refl (tt, tt)) $
+            assigns ! {v = (vptr b (o + 1820))} (addr ! (place-waiting-numbers ! (look ! 4 refl))) (from ! (stop !))
+            (init ! 29 refl (tt, tt)) $
+            assigns ! {v = (vptr (p 8) 0)} (addr ! (from ! (stop !))) (from ! (stop !)) (init ! 28 refl (tt, tt)) $
+            assigns ! {v = (vptr (x₂ .ptr .0) (x₂ .ptr .1))}
+            (addr ! (from ! (fld ! refl (hop ! (look-in ! 38 (sub ! 0 refl (whole !))) (stop !))))) (from ! (stop !))
+            (init ! 27 refl (tt, tt)) $
+            assigns ! {v = s₂} (agg ! (and-then ! (load ! (from ! (stop !)) (look ! 27 refl))
+            (and-then ! (load ! (from ! (fld ! refl (stop !))) (look-in ! 38 (sub ! 1 refl (whole !)))) (no-more !)))) (from ! (stop !))
+            (init ! 26 refl (tt, (tt, (record { fits = room₂ .0 }, tt)))) $
+            assigns ! {v = (vptr (x₄ .ptr .0) (x₄ .ptr .1))}
+            (addr ! (from ! (fld ! refl (hop ! (look-in ! 37 (sub ! 0 refl (whole !))) (stop !))))) (from ! (stop !))
+            (init ! 25 refl (tt, tt)) $
+            assigns ! {v = s₄} (agg ! (and-then ! (load ! (from ! (stop !)) (look ! 25 refl))
+            (and-then ! (load ! (from ! (fld ! refl (stop !))) (look-in ! 37 (sub ! 1 refl (whole !)))) (no-more !)))) (from ! (stop !))
+            (init ! 24 refl (tt, (tt, (record { fits = room₄ .0 }, tt)))) $
+            move ! (2 ∷ []) $ use1 W (‵ (cellAt fullShare ((tyArray (tyInt w32) 128) ∷ [])
+            ((only ((array-vals (uint-vals w32)) (past .0))) ∷ []) (p 15) 0))
+            (W .laws .at-raw fullShare (tyArray (tyInt w32) 128) (p 15) 0 (only ((array-vals (uint-vals w32)) (past .0)))) $
+            cell-in ! fullShare (Array u32 128) (array-makes 𝓤 H A W u32 (uint-makes 𝓤 H A W w32) 128) (past .0) (p 15) 0
+            (only ((array-vals (uint-vals w32)) (past .0))) (past .20) $
+            lend-mut ! tt (Array u32 128) (past .0) (p 15) 0
+            (λ α-found′ δ-found′. move ! (11 ∷ []) $
+            lend-shr ! tt fullShare (Array u32 128) (h .queued) b (o + 124)
+            (λ α-queued δ-queued. move ! (8 ∷ []) $
+            lend-mut ! tt (Array u32 32) (h .outstanding) b (o + 636)
+            (λ α-outstanding′ δ-outstanding′. move ! (15 ∷ []) $
+            lend-mut ! tt (Array u8 32) (h .transmissions) b (o + 764)
+            (λ α-transmissions δ-transmissions. move ! (17 ∷ []) $
+            lend-mut ! tt (Array u32 128) (h .ready) b (o + 796)
+            (λ α-ready δ-ready. move ! (19 ∷ []) $
+            lend-mut ! tt (Array u32 128) (h .waiting) b (o + 1308)
+            (λ α-waiting δ-waiting. move ! (21 ∷ []) $
+            lend-mut ! tt (Array u32 128) (h .«waiting_numbers») b (o + 1820)
+            (λ α-waiting-numbers δ-waiting-numbers. move ! (28 ∷ []) $
+            use1 W (‵ (cellAt fullShare ((tyArray (tyInt w8) 256) ∷ []) ((only ((array-vals (uint-vals w8)) (past .1))) ∷ []) (p 8) 0))
+            (W .laws .at-raw fullShare (tyArray (tyInt w8) 256) (p 8) 0 (only ((array-vals (uint-vals w8)) (past .1)))) $
+            cell-in ! fullShare (Array u8 256) (array-makes 𝓤 H A W u8 (uint-makes 𝓤 H A W w8) 256) (past .1) (p 8) 0
+            (only ((array-vals (uint-vals w8)) (past .1))) (past .7) $
+            lend-shr ! tt fullShare (Array u8 256) (past .1) (p 8) 0
+            (λ α-receives′ δ-receives′. move ! (21 ∷ 22 ∷ 18 ∷ 19 ∷ 15 ∷ 16 ∷ 12 ∷ 13 ∷ 9 ∷ 10 ∷ 6 ∷ 7 ∷ 3 ∷ 4 ∷ 0 ∷ 1
+            ∷ 32 ∷ 36 ∷ 33 ∷ 37 ∷ 34 ∷ 38 ∷ 35 ∷ 39 ∷ []) $ group ! 24 $
+            calls-fn ! fm core.ended (core.clauses 𝓤 H A at-mem run) (known .7)
+            (to-core (p 15) α-found′ δ-found′ (past .0) α-queued δ-queued (h .queued) α-outstanding′ δ-outstanding′ (h .outstanding)
+            α-transmissions δ-transmissions (h .transmissions) α-ready δ-ready (h .ready) α-waiting δ-waiting (h .waiting)
+            α-waiting-numbers δ-waiting-numbers (h .«waiting_numbers») (p 8) α-receives′ δ-receives′ (past .1) (h .settings)
+            (only ((LL.vals settings-row.the-type settings-laws.the-laws) (h .settings))) (h .flight)
+            (only ((LL.vals flight-row.the-type flight-laws.the-laws) (h .flight))) (h .arrival)
+            (only ((LL.vals arrival-row.the-type arrival-laws.the-laws) (h .arrival))) (h .clock)
+            (only ((LL.vals clock-row.the-type clock-laws.the-laws) (h .clock))) (past .3) (past .4) (past .21) (past .22))
+            (λ a ws-a. (Takes (λ l. takesInWith l (recordsIn (past .0)) (x₄ .now) (lentLengths (past .21) (x₁ .now) (x₂ .now) (x₄ .now))
+            (x₂ .now) (x₅ .now)) (h .settings) (h .flight) (h .arrival) (h .clock) (arraysOf h) (x₂ .now) (x₄ .now) a
+            (arrays (h .queued) (ws-a .1 .1 .1 .1 .1 .1 .1 .1 .0) (ws-a .1 .1 .1 .1 .1 .1 .1 .1 .1 .0)
+            (ws-a .1 .1 .1 .1 .1 .1 .1 .1 .1 .1 .0) (ws-a .1 .1 .1 .1 .1 .1 .1 .1 .1 .1 .1 .0)
+            (ws-a .1 .1 .1 .1 .1 .1 .1 .1 .1 .1 .1 .1 .0)) (recordsIn (ws-a .1 .1 .1 .1 .1 .0))
+            (ws-a .1 .1 .1 .1 .1 .1 .1 .1 .1 .1 .1 .1 .1 .1 .1 .0) (ws-a .1 .1 .1 .1 .1 .1 .1 .1 .1 .1 .1 .1 .1 .1 .1 .1 .0)) ×
+            (length (ws-a .1 .1 .1 .1 .1 .0) ≡ 128)) (‵ (flft (α-found′ ∷ []) fullShare) ⊛ ‵
+            (MutRef (named 0) (α-found′ ∷ []) (Array u32 128) .own (ref-at (p 15) 0 δ-found′ (past .0)) ((vptr (p 15) 0) ∷ [])) ⊛ ‵
+            (flft (α-queued ∷ []) fullShare) ⊛ ‵ (ShrRef (named 0) (α-queued ∷ []) (Array u32 128) .own
+            (ref-at b (o + 124) δ-queued (h .queued)) ((vptr b (o + 124)) ∷ [])) ⊛ ‵ (flft (α-outstanding′ ∷ []) fullShare) ⊛ ‵
+            (MutRef (named 0) (α-outstanding′ ∷ []) (Array u32 32) .own (ref-at b (o + 636) δ-outstanding′ (h .outstanding))
+            ((vptr b (o + 636)) ∷ [])) ⊛ ‵ (flft (α-transmissions ∷ []) fullShare) ⊛ ‵
+            (MutRef (named 0) (α-transmissions ∷ []) (Array u8 32) .own (ref-at b (o + 764) δ-transmissions (h .transmissions))
+            ((vptr b (o + 764)) ∷ [])) ⊛ ‵ (flft (α-ready ∷ []) fullShare) ⊛ ‵
+            (MutRef (named 0) (α-ready ∷ []) (Array u32 128) .own (ref-at b (o + 796) δ-ready (h .ready)) ((vptr b (o + 796)) ∷ [])) ⊛ ‵
+            (flft (α-waiting ∷ []) fullShare) ⊛ ‵ (MutRef (named 0) (α-waiting ∷ []) (Array u32 128) .own
+            (ref-at b (o + 1308) δ-waiting (h .waiting)) ((vptr b (o + 1308)) ∷ [])) ⊛ ‵ (flft (α-waiting-numbers ∷ []) fullShare) ⊛ ‵
+            (MutRef (named 0) (α-waiting-numbers ∷ []) (Array u32 128) .own (ref-at b (o + 1820) δ-waiting-numbers (h .«waiting_numbers»))
+            ((vptr b (o + 1820)) ∷ [])) ⊛ ‵ (flft (α-receives′ ∷ []) fullShare) ⊛ ‵
+            (ShrRef (named 0) (α-receives′ ∷ []) (Array u8 256) .own (ref-at (p 8) 0 δ-receives′ (past .1)) ((vptr (p 8) 0) ∷ [])) ⊛ ‵
+            (flft κ₁ q₁) ⊛ ‵ Own₁ ⊛ ‵ (flft κ₂ q₂) ⊛ ‵ Own₂ ⊛ ‵ (flft κ₄ q₄) ⊛ ‵ Own₄ ⊛ ‵ (flft κ₅ q₅) ⊛
+            ‵ Own₅)
+            (asks-core (p 15) α-found′ δ-found′ (past .0) α-queued δ-queued (h .queued) α-outstanding′ δ-outstanding′ (h .outstanding)
+            α-transmissions δ-transmissions (h .transmissions) α-ready δ-ready (h .ready) α-waiting δ-waiting (h .waiting) α-waiting-numbers
+            δ-waiting-numbers (h .«waiting_numbers») (p 8) α-receives′ δ-receives′ (past .1) (h .settings)
+            (only ((LL.vals settings-row.the-type settings-laws.the-laws) (h .settings))) (past .14) (h .flight)
+            (only ((LL.vals flight-row.the-type flight-laws.the-laws) (h .flight))) (past .15) (h .arrival)
+            (only ((LL.vals arrival-row.the-type arrival-laws.the-laws) (h .arrival))) (past .16) (h .clock)
+            (only ((LL.vals clock-row.the-type clock-laws.the-laws) (h .clock))) (past .17) (past .3) (past .4) (past .6) (past .21)
+            (past .22) (past .23) (
+              record {
+                whole-queued = (past .8);
+                whole-outstanding = (past .9);
+                whole-transmissions = (past .10);
+                whole-ready = (past .11);
+                whole-waiting = (past .12);
+                whole-numbers = (past .13);
+              },
+              (past .19) .0,
+              ((past .2), (past .5)),
+            ))
+            (λ a ws-a. id⊢ 𝓤 _)
+            (and-then ! (load ! (from ! (stop !)) (look ! 15 refl))
+            (and-then ! (load ! (from ! (stop !)) (look ! 14 refl))
+            (and-then ! (load ! (from ! (stop !)) (look ! 13 refl))
+            (and-then ! (load ! (from ! (stop !)) (look ! 12 refl))
+            (and-then ! (load ! (from ! (stop !)) (look ! 16 refl))
+            (and-then ! (load ! (from ! (stop !)) (look ! 9 refl))
+            (and-then ! (load ! (from ! (stop !)) (look ! 10 refl))
+            (and-then ! (load ! (from ! (stop !)) (look ! 27 refl))
+            (and-then ! (load ! (from ! (stop !)) (look ! 26 refl))
+            (and-then ! (load ! (from ! (stop !)) (look ! 25 refl))
+            (and-then ! (load ! (from ! (stop !)) (look ! 24 refl))
+            (and-then ! (load ! (from ! (stop !)) (look ! 23 refl))
+            (and-then ! (load ! (from ! (stop !)) (look ! 22 refl))
+            (and-then ! (load ! (from ! (stop !)) (look ! 21 refl))
+            (and-then ! (load ! (from ! (stop !)) (look ! 32 refl))
+            (and-then ! (load ! (from ! (stop !)) (look ! 19 refl))
+            (and-then ! (load ! (from ! (stop !)) (look ! 17 refl))
+            (and-then ! (load ! (from ! (stop !)) (look ! 29 refl)) (no-more !)))))))))))))))))))
+            (λ a w-a ws-a e-a is-a. land ! (from ! (stop !))
+            (init ! 29 refl (LL.lawful taken-row.the-type taken-laws.the-laws 𝓤 H A W .typed a (w-a ∷ []) is-a .0)) $
+            spread W (‵ (flft (α-found′ ∷ []) fullShare))
+            (‵ (flft (α-queued ∷ []) fullShare) ∷ ‵ (flft (α-outstanding′ ∷ []) fullShare) ∷ ‵ (flft (α-transmissions ∷ []) fullShare)
+            ∷ ‵ (flft (α-ready ∷ []) fullShare) ∷ ‵ (flft (α-waiting ∷ []) fullShare) ∷ ‵ (flft (α-waiting-numbers ∷ []) fullShare)
+            ∷ ‵ (flft (α-receives′ ∷ []) fullShare) ∷ ‵ (flft κ₁ q₁) ∷ ‵ (flft κ₂ q₂) ∷ ‵ (flft κ₄ q₄)
+            ∷ ‵ (flft κ₅ q₅) ∷ ‵ ftrue ∷ []) (id⊢ 𝓤 _) $ move ! (13 ∷ []) $
+            spread W (‵ ftrue) (‵ ftrue ∷ ‵ ftrue ∷ ‵ ftrue ∷ ‵ ftrue
+            ∷ ‵ (fres δ-found′ ((Array u32 128) .coded .code (ws-a .1 .1 .1 .1 .1 .0))) ∷ ‵ ftrue ∷ ‵ ftrue
+            ∷ ‵ (fres δ-outstanding′ ((Array u32 32) .coded .code (ws-a .1 .1 .1 .1 .1 .1 .1 .1 .0)))
+            ∷ ‵ (fres δ-transmissions ((Array u8 32) .coded .code (ws-a .1 .1 .1 .1 .1 .1 .1 .1 .1 .0)))
+            ∷ ‵ (fres δ-ready ((Array u32 128) .coded .code (ws-a .1 .1 .1 .1 .1 .1 .1 .1 .1 .1 .0)))
+            ∷ ‵ (fres δ-waiting ((Array u32 128) .coded .code (ws-a .1 .1 .1 .1 .1 .1 .1 .1 .1 .1 .1 .0)))
+            ∷ ‵ (fres δ-waiting-numbers ((Array u32 128) .coded .code (ws-a .1 .1 .1 .1 .1 .1 .1 .1 .1 .1 .1 .1 .0))) ∷ ‵ ftrue ∷ ‵ ftrue
+            ∷ ‵ (fsep (finally u8 (x₂ .name) (ws-a .1 .1 .1 .1 .1 .1 .1 .1 .1 .1 .1 .1 .1 .1 .1 .0))
+            (feq ℕ (length (ws-a .1 .1 .1 .1 .1 .1 .1 .1 .1 .1 .1 .1 .1 .1 .1 .0)) (length (x₂ .now))))
+            ∷ ‵ (fsep (finally u32 (x₄ .name) (ws-a .1 .1 .1 .1 .1 .1 .1 .1 .1 .1 .1 .1 .1 .1 .1 .1 .0))
+            (feq ℕ (length (ws-a .1 .1 .1 .1 .1 .1 .1 .1 .1 .1 .1 .1 .1 .1 .1 .1 .0)) (length (x₄ .now)))) ∷ ‵ ftrue ∷ ‵ ftrue ∷ [])
+            (id⊢ 𝓤 _) $ move ! (31 ∷ 18 ∷ 0 ∷ 1 ∷ 2 ∷ 3 ∷ 4 ∷ 6 ∷ 7 ∷ 13 ∷ 14 ∷ 17 ∷ []) $ group ! 12 $ drop ! $
+            move ! (6 ∷ []) $ fsplit ! $ move ! (1 ∷ []) $ feqL ! (λ len₂. move ! (7 ∷ []) $ fsplit ! $ move ! (1 ∷ []) $ feqL ! (λ len₄.
+            -- [fin4; fin2; fin:@found; fin:outstanding; fin:transmissions; fin:ready; fin:waiting; fin:«waiting_numbers»; tok:@found;
+            -- tok:queued; tok:outstanding; tok:transmissions; tok:ready; tok:waiting; tok:«waiting_numbers»; tok:@receives; tok1; tok2;
+            -- tok4; tok5; lent:@receives; lent:«waiting_numbers»; lent:waiting; lent:ready; lent:transmissions; lent:outstanding;
+            -- lent:queued; lent:@found; the locals]
+            move ! (8 ∷ 27 ∷ 2 ∷ []) $ back-mut ! tt (Array u32 128) (p 15) 0 (ws-a .1 .1 .1 .1 .1 .0) $
+            cell-out ! fullShare (Array u32 128) (array-vals (uint-vals w32)) (array-tells u32 (uint-vals w32) (uint-tells w32) 128)
+            (ws-a .1 .1 .1 .1 .1 .0) (p 15) 0 (λ was-found-4. use1 W
+            (‵ (fat fullShare (tyArray (tyInt w32) 128) (p 15) 0 (only ((array-vals (uint-vals w32)) (ws-a .1 .1 .1 .1 .1 .0)))))
+            (W .laws .raw-at fullShare (tyArray (tyInt w32) 128) (p 15) 0
+            (only ((array-vals (uint-vals w32)) (ws-a .1 .1 .1 .1 .1 .0)))) $
+            move ! (8 ∷ 25 ∷ []) $ back-shr ! tt fullShare (Array u32 128) b (o + 124) (h .queued) $ move ! (9 ∷ 24 ∷ 4 ∷ []) $
+            back-mut ! tt (Array u32 32) b (o + 636) (ws-a .1 .1 .1 .1 .1 .1 .1 .1 .0) $ move ! (9 ∷ 22 ∷ 5 ∷ []) $
+            back-mut ! tt (Array u8 32) b (o + 764) (ws-a .1 .1 .1 .1 .1 .1 .1 .1 .1 .0) $ move ! (9 ∷ 20 ∷ 6 ∷ []) $
+            back-mut ! tt (Array u32 128) b (o + 796) (ws-a .1 .1 .1 .1 .1 .1 .1 .1 .1 .1 .0) $ move ! (9 ∷ 18 ∷ 7 ∷ []) $
+            back-mut ! tt (Array u32 128) b (o + 1308) (ws-a .1 .1 .1 .1 .1 .1 .1 .1 .1 .1 .1 .0) $ move ! (9 ∷ 16 ∷ 8 ∷ []) $
+            back-mut ! tt (Array u32 128) b (o + 1820) (ws-a .1 .1 .1 .1 .1 .1 .1 .1 .1 .1 .1 .1 .0) $ move ! (9 ∷ 14 ∷ []) $
+            back-shr ! tt fullShare (Array u8 256) (p 8) 0 (past .1) $
+            cell-out ! fullShare (Array u8 256) (array-vals (uint-vals w8)) (array-tells u8 (uint-vals w8) (uint-tells w8) 256) (past .1)
+            (p 8) 0 (λ was-receives-5. use1 W (‵ (fat fullShare (tyArray (tyInt w8) 256) (p 8) 0
+            (only ((array-vals (uint-vals w8)) (past .1)))))
+            (W .laws .raw-at fullShare (tyArray (tyInt w8) 256) (p 8) 0 (only ((array-vals (uint-vals w8)) (past .1)))) $
+            same ! (on (
+              (ws-a .1 .1 .1 .1 .1 .1 .1 .1 .1 .1 .1 .1 .1 .1 .1 .1 .0),
+              (ws-a .1 .1 .1 .1 .1 .1 .1 .1 .1 .1 .1 .1 .1 .1 .1 .0),
+              (ws-a .1 .1 .1 .1 .1 .0),
+              (ws-a .1 .1 .1 .1 .1 .1 .1 .1 .1 .1 .1 .1 .0),
+              (ws-a .1 .1 .1 .1 .1 .1 .1 .1 .1 .1 .1 .0),
+              (ws-a .1 .1 .1 .1 .1 .1 .1 .1 .1 .1 .0),
+              (ws-a .1 .1 .1 .1 .1 .1 .1 .1 .1 .0),
+              (ws-a .1 .1 .1 .1 .1 .1 .1 .1 .0),
+              a,
+              w-a,
+              e-a,
+              is-a,
+              len₂,
+              len₄,
+              was-found-4,
+            )))))))))))))));
+      }
 
       -- what part 10 knows, what it tells; what it has, and leaves
       abbrev Known₁₀ : Type 0
@@ -1302,17 +1472,20 @@ module _ {M : Type 1} (𝓤 : URA M) (H : Heap 𝓤) (A : Atoms 𝓤) (W : Given
           → ((new : New₁₀ past) → Seq K W (Left₁₀ p past new Γ) (runs C Λ (En p) rest₁₁ (atRet (En p) Post)))
           → Seq K W (Had₁₀ p past Γ) (runs C Λ (En p) rest₁₀ (atRet (En p) Post))
       unfolding rest₁₀
-      part₁₀ {Γ = Γ} t p past on = record { prf =
-          qed W (Had₁₀ p past Γ) ∵ exec ! C Λ (En p) rest₁₀ (atRet (En p) Post) $
-          nothing ! $ calls-fn ! fm flight-of.ended (flight-of.clauses 𝓤 H A at-mem run) (known .8)
-              ((tt, tt, tt, ((past .0), tt), ((past .1) ∷ [], tt)), tt) (λ kf _. kf ≡ (past .0) .flight)
-          (‵ ftrue) (plainly 𝓤 H A W (taken-row.the-row ∷ []) ((LL.makes taken-row.the-type taken-laws.the-plain 𝓤 H A), tt) ((past .0), tt)
-          ((past .1) ∷ [], tt) ((past .2), tt)) (λ kf _. id⊢ 𝓤 _)
-          (and-then ! (load ! (from ! (stop !)) (look ! 1 refl)) (no-more !))
-          (λ kf w-kf _ e-kf is-kf. drop ! $ drop ! $
-          land ! (from ! (stop !)) (init ! 1 refl (LL.lawful flight-row.the-type flight-laws.the-laws 𝓤 H A W .typed kf (w-kf ∷ []) is-kf
-          .0)) $
-          same ! (on (kf, w-kf, e-kf, is-kf))) }
+      part₁₀ {Γ = Γ} t p past on = record {
+        prf =
+            qed W (Had₁₀ p past Γ) ∵ exec ! C Λ (En p) rest₁₀ (atRet (En p) Post) $
+            nothing ! $ calls-fn ! fm flight-of.ended (flight-of.clauses 𝓤 H A at-mem run) (known .8)
+            ((tt, tt, tt, ((past .0), tt), ((past .1) ∷ [], tt)), tt) (λ kf _. kf ≡ (past .0) .flight)
+            (‵ ftrue) (plainly 𝓤 H A W (taken-row.the-row ∷ []) ((LL.makes taken-row.the-type taken-laws.the-plain 𝓤 H A), tt)
+            ((past .0), tt)
+            ((past .1) ∷ [], tt) ((past .2), tt)) (λ kf _. id⊢ 𝓤 _)
+            (and-then ! (load ! (from ! (stop !)) (look ! 1 refl)) (no-more !))
+            (λ kf w-kf _ e-kf is-kf. drop ! $ drop ! $
+            land ! (from ! (stop !)) (init ! 1 refl (LL.lawful flight-row.the-type flight-laws.the-laws 𝓤 H A W .typed kf (w-kf ∷ []) is-kf
+            .0)) $
+            same ! (on (kf, w-kf, e-kf, is-kf)));
+      }
 
       -- what part 11 knows, what it tells; what it has, and leaves
       abbrev Known₁₁ : Type 0
@@ -1337,23 +1510,27 @@ module _ {M : Type 1} (𝓤 : URA M) (H : Heap 𝓤) (A : Atoms 𝓤) (W : Given
           → ((new : New₁₁ past) → Seq K W (Left₁₁ p past new Γ) (runs C Λ (En p) rest₁₂ (atRet (En p) Post)))
           → Seq K W (Had₁₁ p past Γ) (runs C Λ (En p) rest₁₁ (atRet (En p) Post))
       unfolding rest₁₁
-      part₁₁ {Γ = Γ} t p past on = record { prf =
-          qed W (Had₁₁ p past Γ) ∵ exec ! C Λ (En p) rest₁₁ (atRet (En p) Post) $
-          move ! (3 ∷ []) $ cell-out ! fullShare flight-row.the-row (LL.vals flight-row.the-type flight-laws.the-laws)
-              (LL.tells flight-row.the-type flight-laws.the-laws) (h .flight) b (o + 16)
-              (λ was-flight′. assigns ! (of-opd ! (load ! (from ! (stop !)) (look ! 2 refl))) (place-flight ! (look ! 3 refl))
-              (store-raw ! 0 refl (LL.lawful flight-row.the-type flight-laws.the-laws 𝓤 H A W .typed (past .3) ((past .4) ∷ []) (past .5)
-              .0)) $ cell-in ! fullShare flight-row.the-row (LL.makes flight-row.the-type flight-laws.the-plain 𝓤 H A) (past .3) b (o + 16)
-              (past .4) (past .5) $ nothing ! $
-              calls-fn ! fm arrival-of.ended (arrival-of.clauses 𝓤 H A at-mem run) (known .9)
-              ((tt, tt, tt, ((past .0), tt), ((past .1) ∷ [], tt)), tt) (λ ka _. ka ≡ (past .0) .arrival)
-          (‵ ftrue) (plainly 𝓤 H A W (taken-row.the-row ∷ []) ((LL.makes taken-row.the-type taken-laws.the-plain 𝓤 H A), tt) ((past .0), tt)
-          ((past .1) ∷ [], tt) ((past .2), tt)) (λ ka _. id⊢ 𝓤 _)
-          (and-then ! (load ! (from ! (stop !)) (look ! 2 refl)) (no-more !))
-          (λ ka w-ka _ e-ka is-ka. drop ! $ drop ! $
-          land ! (from ! (stop !)) (init ! 4 refl (LL.lawful arrival-row.the-type arrival-laws.the-laws 𝓤 H A W .typed ka (w-ka ∷ []) is-ka
-          .0)) $
-          same ! (on (ka, w-ka, e-ka, is-ka)))) }
+      part₁₁ {Γ = Γ} t p past on = record {
+        prf =
+            qed W (Had₁₁ p past Γ) ∵ exec ! C Λ (En p) rest₁₁ (atRet (En p) Post) $
+            move ! (3 ∷ []) $ cell-out ! fullShare flight-row.the-row (LL.vals flight-row.the-type flight-laws.the-laws)
+            (LL.tells flight-row.the-type flight-laws.the-laws) (h .flight) b (o + 16)
+            (λ was-flight′. assigns ! (of-opd ! (load ! (from ! (stop !)) (look ! 2 refl))) (place-flight ! (look ! 3 refl))
+            (store-raw ! 0 refl (LL.lawful flight-row.the-type flight-laws.the-laws 𝓤 H A W .typed (past .3) ((past .4) ∷ []) (past .5)
+            .0)) $ cell-in ! fullShare flight-row.the-row (LL.makes flight-row.the-type flight-laws.the-plain 𝓤 H A) (past .3) b (o + 16)
+            (past .4) (past .5) $ nothing ! $
+            calls-fn ! fm arrival-of.ended (arrival-of.clauses 𝓤 H A at-mem run) (known .9)
+            ((tt, tt, tt, ((past .0), tt), ((past .1) ∷ [], tt)), tt) (λ ka _. ka ≡ (past .0) .arrival)
+            (‵ ftrue) (plainly 𝓤 H A W (taken-row.the-row ∷ []) ((LL.makes taken-row.the-type taken-laws.the-plain 𝓤 H A), tt)
+            ((past .0), tt)
+            ((past .1) ∷ [], tt) ((past .2), tt)) (λ ka _. id⊢ 𝓤 _)
+            (and-then ! (load ! (from ! (stop !)) (look ! 2 refl)) (no-more !))
+            (λ ka w-ka _ e-ka is-ka. drop ! $ drop ! $
+            land ! (from ! (stop !)) (init ! 4 refl (LL.lawful arrival-row.the-type arrival-laws.the-laws 𝓤 H A W .typed ka (w-ka ∷ [])
+            is-ka
+            .0)) $
+            same ! (on (ka, w-ka, e-ka, is-ka))));
+      }
 
       -- what part 12 knows, what it tells; what it has, and leaves
       abbrev Known₁₂ : Type 0
@@ -1379,21 +1556,24 @@ module _ {M : Type 1} (𝓤 : URA M) (H : Heap 𝓤) (A : Atoms 𝓤) (W : Given
           → ((new : New₁₂ past) → Seq K W (Left₁₂ p past new Γ) (runs C Λ (En p) rest₁₃ (atRet (En p) Post)))
           → Seq K W (Had₁₂ p past Γ) (runs C Λ (En p) rest₁₂ (atRet (En p) Post))
       unfolding rest₁₂
-      part₁₂ {Γ = Γ} t p past on = record { prf =
-          qed W (Had₁₂ p past Γ) ∵ exec ! C Λ (En p) rest₁₂ (atRet (En p) Post) $
-          move ! (3 ∷ []) $ cell-out ! fullShare arrival-row.the-row (LL.vals arrival-row.the-type arrival-laws.the-laws)
-              (LL.tells arrival-row.the-type arrival-laws.the-laws) (h .arrival) b (o + 72)
-              (λ was-arrival′. assigns ! (of-opd ! (load ! (from ! (stop !)) (look ! 3 refl))) (place-arrival ! (look ! 2 refl))
-              (store-raw ! 0 refl (LL.lawful arrival-row.the-type arrival-laws.the-laws 𝓤 H A W .typed (past .3) ((past .4) ∷ []) (past .5)
-              .0)) $ cell-in ! fullShare arrival-row.the-row (LL.makes arrival-row.the-type arrival-laws.the-plain 𝓤 H A) (past .3) b
-              (o + 72) (past .4) (past .5) $ nothing ! $
-              calls-fn ! fm changed-of.ended (changed-of.clauses 𝓤 H A at-mem run) (known .10)
-              ((tt, tt, tt, ((past .0), tt), ((past .1) ∷ [], tt)), tt) (λ c _. c ≡ (past .0) .changed)
-          (‵ ftrue) (plainly 𝓤 H A W (taken-row.the-row ∷ []) ((LL.makes taken-row.the-type taken-laws.the-plain 𝓤 H A), tt) ((past .0), tt)
-          ((past .1) ∷ [], tt) ((past .2), tt)) (λ c _. id⊢ 𝓤 _)
-          (and-then ! (load ! (from ! (stop !)) (look ! 2 refl)) (no-more !))
-          (λ c w-c _ e-c is-c. drop ! $ drop ! $  land ! (from ! (stop !)) (init ! 4 refl (uint-lawful 𝓤 H A W w64 .typed c _ is-c .0)) $
-          same ! (on (c, w-c, e-c, is-c)))) }
+      part₁₂ {Γ = Γ} t p past on = record {
+        prf =
+            qed W (Had₁₂ p past Γ) ∵ exec ! C Λ (En p) rest₁₂ (atRet (En p) Post) $
+            move ! (3 ∷ []) $ cell-out ! fullShare arrival-row.the-row (LL.vals arrival-row.the-type arrival-laws.the-laws)
+            (LL.tells arrival-row.the-type arrival-laws.the-laws) (h .arrival) b (o + 72)
+            (λ was-arrival′. assigns ! (of-opd ! (load ! (from ! (stop !)) (look ! 3 refl))) (place-arrival ! (look ! 2 refl))
+            (store-raw ! 0 refl (LL.lawful arrival-row.the-type arrival-laws.the-laws 𝓤 H A W .typed (past .3) ((past .4) ∷ []) (past .5)
+            .0)) $ cell-in ! fullShare arrival-row.the-row (LL.makes arrival-row.the-type arrival-laws.the-plain 𝓤 H A) (past .3) b
+            (o + 72) (past .4) (past .5) $ nothing ! $
+            calls-fn ! fm changed-of.ended (changed-of.clauses 𝓤 H A at-mem run) (known .10)
+            ((tt, tt, tt, ((past .0), tt), ((past .1) ∷ [], tt)), tt) (λ c _. c ≡ (past .0) .changed)
+            (‵ ftrue) (plainly 𝓤 H A W (taken-row.the-row ∷ []) ((LL.makes taken-row.the-type taken-laws.the-plain 𝓤 H A), tt)
+            ((past .0), tt)
+            ((past .1) ∷ [], tt) ((past .2), tt)) (λ c _. id⊢ 𝓤 _)
+            (and-then ! (load ! (from ! (stop !)) (look ! 2 refl)) (no-more !))
+            (λ c w-c _ e-c is-c. drop ! $ drop ! $ land ! (from ! (stop !)) (init ! 4 refl (uint-lawful 𝓤 H A W w64 .typed c _ is-c .0)) $
+            same ! (on (c, w-c, e-c, is-c))));
+      }
 
       -- what part 13 knows, what it tells; what it has, and leaves
       abbrev Known₁₃ : Type 0
@@ -1418,16 +1598,18 @@ module _ {M : Type 1} (𝓤 : URA M) (H : Heap 𝓤) (A : Atoms 𝓤) (W : Given
           → ((new : New₁₃ past) → Seq K W (Left₁₃ p past new Γ) (runs C Λ (En p) rest₁₄ (atRet (En p) Post)))
           → Seq K W (Had₁₃ p past Γ) (runs C Λ (En p) rest₁₃ (atRet (En p) Post))
       unfolding rest₁₃
-      part₁₃ {Γ = Γ} t p past on = record { prf =
-          qed W (Had₁₃ p past Γ) ∵ exec ! C Λ (En p) rest₁₃ (atRet (En p) Post) $
-          assigns ! {v = (vptr (x₃ .ptr .0) (x₃ .ptr .1))}
-              (addr ! (from ! (fld ! refl (hop ! (look-in ! 1 (sub ! 0 refl (whole !))) (stop !))))) (from ! (stop !))
-              (init ! 3 refl (tt, tt)) $
-          assigns ! {v = s₃} (agg ! (and-then ! (load ! (from ! (stop !)) (look ! 3 refl))
-              (and-then ! (load ! (from ! (fld ! refl (stop !))) (look-in ! 1 (sub ! 1 refl (whole !)))) (no-more !)))) (from ! (stop !))
-              (init ! 2 refl (tt, (tt, (record { fits = room₃ .0 }, tt)))) $
-          tells-length ! fullShare u32 32 past b (o + 636) (λ mid-outstanding.
-          same ! (on (mid-outstanding))) }
+      part₁₃ {Γ = Γ} t p past on = record {
+        prf =
+            qed W (Had₁₃ p past Γ) ∵ exec ! C Λ (En p) rest₁₃ (atRet (En p) Post) $
+            assigns ! {v = (vptr (x₃ .ptr .0) (x₃ .ptr .1))}
+            (addr ! (from ! (fld ! refl (hop ! (look-in ! 1 (sub ! 0 refl (whole !))) (stop !))))) (from ! (stop !))
+            (init ! 3 refl (tt, tt)) $
+            assigns ! {v = s₃} (agg ! (and-then ! (load ! (from ! (stop !)) (look ! 3 refl))
+            (and-then ! (load ! (from ! (fld ! refl (stop !))) (look-in ! 1 (sub ! 1 refl (whole !)))) (no-more !)))) (from ! (stop !))
+            (init ! 2 refl (tt, (tt, (record { fits = room₃ .0 }, tt)))) $
+            tells-length ! fullShare u32 32 past b (o + 636) (λ mid-outstanding.
+            same ! (on (mid-outstanding)));
+      }
 
       -- what part 14 knows, what it tells; what it has, and leaves
       abbrev Known₁₄ : Type 0
@@ -1464,8 +1646,18 @@ module _ {M : Type 1} (𝓤 : URA M) (H : Heap 𝓤) (A : Atoms 𝓤) (W : Given
 
       abbrev Left₁₄ : (ℕ → ℕ) → (past : Known₁₄) → New₁₄ past → List (Item 𝓤) → List (Item 𝓤)
       Left₁₄ p past new Γ = ‵ (link-own κ₀ b o γ
-          (record { settings = (h .settings); flight = (past .14); arrival = (past .15); clock = (h .clock); queued = (h .queued);
-          outstanding = (past .7); transmissions = (past .6); ready = (past .5); waiting = (past .4); «waiting_numbers» = (past .3) }))
+          (record {
+            settings = (h .settings);
+            flight = (past .14);
+            arrival = (past .15);
+            clock = (h .clock);
+            queued = (h .queued);
+            outstanding = (past .7);
+            transmissions = (past .6);
+            ready = (past .5);
+            waiting = (past .4);
+            «waiting_numbers» = (past .3);
+          }))
           ∷ ‵ (flft κ₀ q₀) ∷ ‵ (fat fullShare (tyArray (tyInt w32) 128) (p 15) 0 ((only ((array-vals (uint-vals w32)) (past .2)))))
           ∷ ‵ (finally R (x₃ .name) (new .0)) ∷ ‵ (flft κ₃ q₃)
           ∷ ‵ (fat fullShare (sliceTy (tyRef erased mut (pointee (R .written)))) (p 47) 0 (s₃))
@@ -1478,62 +1670,83 @@ module _ {M : Type 1} (𝓤 : URA M) (H : Heap 𝓤) (A : Atoms 𝓤) (W : Given
           → ((new : New₁₄ past) → Seq K W (Left₁₄ p past new Γ) (runs C Λ (En p) rest₁₅ (atRet (En p) Post)))
           → Seq K W (Had₁₄ p past Γ) (runs C Λ (En p) rest₁₄ (atRet (En p) Post))
       unfolding rest₁₄
-      part₁₄ {Γ = Γ} t p past on = record { prf =
-          qed W (Had₁₄ p past Γ) ∵ exec ! C Λ (En p) rest₁₄ (atRet (En p) Post) $
-          assigns ! {v = (vptr b (o + 636))} (addr ! (place-outstanding ! (look ! 3 refl))) (from ! (stop !)) (init ! 20 refl (tt, tt)) $
-          assigns ! {v = (vptr (p 15) 0)} (addr ! (from ! (stop !))) (from ! (stop !)) (init ! 19 refl (tt, tt)) $
-          lend-shr ! tt fullShare (Array u32 32) (past .7) b (o + 636)
-              (λ α-outstanding′′ δ-outstanding′′. move ! (13 ∷ []) $
-              use1 W (‵ (cellAt fullShare ((tyArray (tyInt w32) 128) ∷ []) ((only ((array-vals (uint-vals w32)) (past .2))) ∷ []) (p 15) 0))
-              (W .laws .at-raw fullShare (tyArray (tyInt w32) 128) (p 15) 0 (only ((array-vals (uint-vals w32)) (past .2)))) $
-              cell-in ! fullShare (Array u32 128) (array-makes 𝓤 H A W u32 (uint-makes 𝓤 H A W w32) 128) (past .2) (p 15) 0
-              (only ((array-vals (uint-vals w32)) (past .2))) (past .13) $
-          lend-shr ! tt fullShare (Array u32 128) (past .2) (p 15) 0
-              (λ α-found′′ δ-found′′. move ! (17 ∷ 16 ∷ 3 ∷ 4 ∷ 0 ∷ 1 ∷ []) $ group ! 6 $
-              calls-fn ! fm scatter.ended (scatter.clauses 𝓤 H A at-mem run) (known .11)
-              (to-scatter α-outstanding′′ δ-outstanding′′ (past .7) (p 15) α-found′′ δ-found′′ (past .2) (past .16) (past .17))
-              (λ u ws-u. (ws-u .0) ≡ scattered (x₃ .now) (slotsIn (past .7) (past .16)) (recordsIn (past .2)))
-              (‵ (flft κ₃ q₃) ⊛ ‵ Own₃ ⊛ ‵ (flft (α-outstanding′′ ∷ []) fullShare) ⊛ ‵
-              (ShrRef (named 0) (α-outstanding′′ ∷ []) (Array u32 32) .own (ref-at b (o + 636) δ-outstanding′′ (past .7))
-              ((vptr b (o + 636)) ∷ [])) ⊛ ‵ (flft (α-found′′ ∷ []) fullShare) ⊛ ‵
-              (ShrRef (named 0) (α-found′′ ∷ []) (Array u32 128) .own (ref-at (p 15) 0 δ-found′′ (past .2)) ((vptr (p 15) 0) ∷ [])))
-          (asks-scatter α-outstanding′′ δ-outstanding′′ (past .7) (p 15) α-found′′ δ-found′′ (past .2) (past .16) (past .17) (past .18)
-          ((past .19), (past .12) .1)) (λ u ws-u. id⊢ 𝓤 _)
-          (and-then ! (load ! (from ! (stop !)) (look ! 3 refl))
-          (and-then ! (load ! (from ! (stop !)) (look ! 19 refl))
-          (and-then ! (load ! (from ! (stop !)) (look ! 6 refl)) (and-then ! (load ! (from ! (stop !)) (look ! 18 refl)) (no-more !)))))
-          (λ u w-u ws-u e-u is-u. land ! (from ! (stop !)) (store ! 14 refl (nothing-lawful 𝓤 H A W .typed u _ is-u .0)) $
-          spread W (‵ (flft κ₃ q₃)) (‵ (flft (α-outstanding′′ ∷ []) fullShare) ∷ ‵ (flft (α-found′′ ∷ []) fullShare) ∷ ‵ ftrue
-              ∷ []) (id⊢ 𝓤 _) $ move ! (4 ∷ []) $
-              spread W (‵ (fsep (finally R (x₃ .name) (ws-u .0)) (feq ℕ (length (ws-u .0)) (length (x₃ .now)))))
-              (‵ ftrue ∷ ‵ ftrue ∷ ‵ ftrue ∷ ‵ ftrue ∷ []) (id⊢ 𝓤 _) $ move ! (8 ∷ 4 ∷ 1 ∷ 2 ∷ 3 ∷ []) $ group ! 5 $ drop ! $
-              fsplit ! $ move ! (1 ∷ []) $ feqL ! (λ len₃.
-          -- [fin3; tok3; tok:outstanding; tok:@found; lent:@found; lent:outstanding; F:arrival; F:flight; F:«waiting_numbers»; F:waiting;
-          -- F:ready; F:transmissions; F:queued; F:clock; F:settings; back; opened; the locals]
-          move ! (2 ∷ 5 ∷ []) $ back-shr ! tt fullShare (Array u32 32) b (o + 636) (past .7) $ move ! (3 ∷ 4 ∷ []) $
-              back-shr ! tt fullShare (Array u32 128) (p 15) 0 (past .2) $
-              cell-out ! fullShare (Array u32 128) (array-vals (uint-vals w32)) (array-tells u32 (uint-vals w32) (uint-tells w32) 128)
-              (past .2) (p 15) 0 (λ was-found-6. use1 W
-              (‵ (fat fullShare (tyArray (tyInt w32) 128) (p 15) 0 (only ((array-vals (uint-vals w32)) (past .2)))))
-              (W .laws .raw-at fullShare (tyArray (tyInt w32) 128) (p 15) 0 (only ((array-vals (uint-vals w32)) (past .2)))) $
-          move ! (13 ∷ []) $ tells-length ! fullShare u32 128 (h .queued) b (o + 124)
-              (λ end-queued. move ! (2 ∷ []) $
-              tells-length ! fullShare u32 32 (past .7) b (o + 636)
-              (λ end-outstanding. move ! (13 ∷ []) $
-              tells-length ! fullShare u8 32 (past .6) b (o + 764)
-              (λ end-transmissions. move ! (13 ∷ []) $
-              tells-length ! fullShare u32 128 (past .5) b (o + 796)
-              (λ end-ready. move ! (13 ∷ []) $
-              tells-length ! fullShare u32 128 (past .4) b (o + 1308)
-              (λ end-waiting. move ! (13 ∷ []) $
-              tells-length ! fullShare u32 128 (past .3) b (o + 1820)
-              (λ end-waiting-numbers. move ! (16 ∷ 13 ∷ 10 ∷ 15 ∷ 5 ∷ 4 ∷ 3 ∷ 2 ∷ 1 ∷ 0 ∷ 17 ∷ 18 ∷ []) $
-              closes-link b o γ ! tt h (record { settings = (h .settings); flight = (past .14); arrival = (past .15); clock = (h .clock);
-              queued = (h .queued); outstanding = (past .7); transmissions = (past .6); ready = (past .5); waiting = (past .4);
-              «waiting_numbers» = (past .3) }) $
-          -- [own0; tok0; fin3; tok3; the locals]
-          same ! (on ((ws-u .0), w-u, e-u, len₃, end-queued, end-outstanding, end-transmissions, end-ready, end-waiting,
-              end-waiting-numbers))))))))))))) }
+      part₁₄ {Γ = Γ} t p past on = record {
+        prf =
+            qed W (Had₁₄ p past Γ) ∵ exec ! C Λ (En p) rest₁₄ (atRet (En p) Post) $
+            assigns ! {v = (vptr b (o + 636))} (addr ! (place-outstanding ! (look ! 3 refl))) (from ! (stop !)) (init ! 20 refl (tt, tt)) $
+            assigns ! {v = (vptr (p 15) 0)} (addr ! (from ! (stop !))) (from ! (stop !)) (init ! 19 refl (tt, tt)) $
+            lend-shr ! tt fullShare (Array u32 32) (past .7) b (o + 636)
+            (λ α-outstanding′′ δ-outstanding′′. move ! (13 ∷ []) $
+            use1 W (‵ (cellAt fullShare ((tyArray (tyInt w32) 128) ∷ []) ((only ((array-vals (uint-vals w32)) (past .2))) ∷ []) (p 15) 0))
+            (W .laws .at-raw fullShare (tyArray (tyInt w32) 128) (p 15) 0 (only ((array-vals (uint-vals w32)) (past .2)))) $
+            cell-in ! fullShare (Array u32 128) (array-makes 𝓤 H A W u32 (uint-makes 𝓤 H A W w32) 128) (past .2) (p 15) 0
+            (only ((array-vals (uint-vals w32)) (past .2))) (past .13) $
+            lend-shr ! tt fullShare (Array u32 128) (past .2) (p 15) 0
+            (λ α-found′′ δ-found′′. move ! (17 ∷ 16 ∷ 3 ∷ 4 ∷ 0 ∷ 1 ∷ []) $ group ! 6 $
+            calls-fn ! fm scatter.ended (scatter.clauses 𝓤 H A at-mem run) (known .11)
+            (to-scatter α-outstanding′′ δ-outstanding′′ (past .7) (p 15) α-found′′ δ-found′′ (past .2) (past .16) (past .17))
+            (λ u ws-u. (ws-u .0) ≡ scattered (x₃ .now) (slotsIn (past .7) (past .16)) (recordsIn (past .2)))
+            (‵ (flft κ₃ q₃) ⊛ ‵ Own₃ ⊛ ‵ (flft (α-outstanding′′ ∷ []) fullShare) ⊛ ‵
+            (ShrRef (named 0) (α-outstanding′′ ∷ []) (Array u32 32) .own (ref-at b (o + 636) δ-outstanding′′ (past .7))
+            ((vptr b (o + 636)) ∷ [])) ⊛ ‵ (flft (α-found′′ ∷ []) fullShare) ⊛ ‵
+            (ShrRef (named 0) (α-found′′ ∷ []) (Array u32 128) .own (ref-at (p 15) 0 δ-found′′ (past .2)) ((vptr (p 15) 0) ∷ [])))
+            (asks-scatter α-outstanding′′ δ-outstanding′′ (past .7) (p 15) α-found′′ δ-found′′ (past .2) (past .16) (past .17) (past .18)
+            ((past .19), (past .12) .1)) (λ u ws-u. id⊢ 𝓤 _)
+            (and-then ! (load ! (from ! (stop !)) (look ! 3 refl))
+            (and-then ! (load ! (from ! (stop !)) (look ! 19 refl))
+            (and-then ! (load ! (from ! (stop !)) (look ! 6 refl)) (and-then ! (load ! (from ! (stop !)) (look ! 18 refl)) (no-more !)))))
+            (λ u w-u ws-u e-u is-u. land ! (from ! (stop !)) (store ! 14 refl (nothing-lawful 𝓤 H A W .typed u _ is-u .0)) $
+            spread W (‵ (flft κ₃ q₃)) (‵ (flft (α-outstanding′′ ∷ []) fullShare) ∷ ‵ (flft (α-found′′ ∷ []) fullShare) ∷ ‵ ftrue
+            ∷ []) (id⊢ 𝓤 _) $ move ! (4 ∷ []) $
+            spread W (‵ (fsep (finally R (x₃ .name) (ws-u .0)) (feq ℕ (length (ws-u .0)) (length (x₃ .now)))))
+            (‵ ftrue ∷ ‵ ftrue ∷ ‵ ftrue ∷ ‵ ftrue ∷ []) (id⊢ 𝓤 _) $ move ! (8 ∷ 4 ∷ 1 ∷ 2 ∷ 3 ∷ []) $ group ! 5 $ drop ! $
+            fsplit ! $ move ! (1 ∷ []) $ feqL ! (λ len₃.
+            -- [fin3; tok3; tok:outstanding; tok:@found; lent:@found; lent:outstanding; F:arrival; F:flight; F:«waiting_numbers»; F:waiting;
+            -- F:ready; F:transmissions; F:queued; F:clock; F:settings; back; opened; the locals]
+            move ! (2 ∷ 5 ∷ []) $ back-shr ! tt fullShare (Array u32 32) b (o + 636) (past .7) $ move ! (3 ∷ 4 ∷ []) $
+            back-shr ! tt fullShare (Array u32 128) (p 15) 0 (past .2) $
+            cell-out ! fullShare (Array u32 128) (array-vals (uint-vals w32)) (array-tells u32 (uint-vals w32) (uint-tells w32) 128)
+            (past .2) (p 15) 0 (λ was-found-6. use1 W
+            (‵ (fat fullShare (tyArray (tyInt w32) 128) (p 15) 0 (only ((array-vals (uint-vals w32)) (past .2)))))
+            (W .laws .raw-at fullShare (tyArray (tyInt w32) 128) (p 15) 0 (only ((array-vals (uint-vals w32)) (past .2)))) $
+            move ! (13 ∷ []) $ tells-length ! fullShare u32 128 (h .queued) b (o + 124)
+            (λ end-queued. move ! (2 ∷ []) $
+            tells-length ! fullShare u32 32 (past .7) b (o + 636)
+            (λ end-outstanding. move ! (13 ∷ []) $
+            tells-length ! fullShare u8 32 (past .6) b (o + 764)
+            (λ end-transmissions. move ! (13 ∷ []) $
+            tells-length ! fullShare u32 128 (past .5) b (o + 796)
+            (λ end-ready. move ! (13 ∷ []) $
+            tells-length ! fullShare u32 128 (past .4) b (o + 1308)
+            (λ end-waiting. move ! (13 ∷ []) $
+            tells-length ! fullShare u32 128 (past .3) b (o + 1820)
+            (λ end-waiting-numbers. move ! (16 ∷ 13 ∷ 10 ∷ 15 ∷ 5 ∷ 4 ∷ 3 ∷ 2 ∷ 1 ∷ 0 ∷ 17 ∷ 18 ∷ []) $
+            closes-link b o γ ! tt h (record {
+              settings = (h .settings);
+              flight = (past .14);
+              arrival = (past .15);
+              clock = (h .clock);
+              queued = (h .queued);
+              outstanding = (past .7);
+              transmissions = (past .6);
+              ready = (past .5);
+              waiting = (past .4);
+              «waiting_numbers» = (past .3);
+            }) $
+            -- [own0; tok0; fin3; tok3; the locals]
+            same ! (on (
+              (ws-u .0),
+              w-u,
+              e-u,
+              len₃,
+              end-queued,
+              end-outstanding,
+              end-transmissions,
+              end-ready,
+              end-waiting,
+              end-waiting-numbers,
+            )))))))))))));
+      }
 
       -- what part 15 knows, what it tells; what it has, and leaves
       abbrev Known₁₅ : Type 0
@@ -1552,15 +1765,18 @@ module _ {M : Type 1} (𝓤 : URA M) (H : Heap 𝓤) (A : Atoms 𝓤) (W : Given
           → ((new : New₁₅ past) → Seq K W (Left₁₅ p past new Γ) (runs C Λ (En p) rest₁₆ (atRet (En p) Post)))
           → Seq K W (Had₁₅ p past Γ) (runs C Λ (En p) rest₁₅ (atRet (En p) Post))
       unfolding rest₁₅
-      part₁₅ {Γ = Γ} t p past on = record { prf =
-          qed W (Had₁₅ p past Γ) ∵ exec ! C Λ (En p) rest₁₅ (atRet (En p) Post) $
-          nothing ! $ calls-fn ! fm code-of.ended (code-of.clauses 𝓤 H A at-mem run) (known .12)
-              ((tt, tt, tt, ((past .0), tt), ((past .1) ∷ [], tt)), tt) (λ r _. r ≡ answerCode ((past .0) .answer))
-          (‵ ftrue) (plainly 𝓤 H A W (taken-row.the-row ∷ []) ((LL.makes taken-row.the-type taken-laws.the-plain 𝓤 H A), tt) ((past .0), tt)
-          ((past .1) ∷ [], tt) ((past .2), tt)) (λ r _. id⊢ 𝓤 _)
-          (and-then ! (load ! (from ! (stop !)) (look ! 1 refl)) (no-more !))
-          (λ r w-r _ e-r is-r. drop ! $ drop ! $  land ! (from ! (stop !)) (init ! 1 refl (sint-lawful 𝓤 H A W w32 .typed r _ is-r .0)) $
-          same ! (on (r, w-r, e-r, is-r))) }
+      part₁₅ {Γ = Γ} t p past on = record {
+        prf =
+            qed W (Had₁₅ p past Γ) ∵ exec ! C Λ (En p) rest₁₅ (atRet (En p) Post) $
+            nothing ! $ calls-fn ! fm code-of.ended (code-of.clauses 𝓤 H A at-mem run) (known .12)
+            ((tt, tt, tt, ((past .0), tt), ((past .1) ∷ [], tt)), tt) (λ r _. r ≡ answerCode ((past .0) .answer))
+            (‵ ftrue) (plainly 𝓤 H A W (taken-row.the-row ∷ []) ((LL.makes taken-row.the-type taken-laws.the-plain 𝓤 H A), tt)
+            ((past .0), tt)
+            ((past .1) ∷ [], tt) ((past .2), tt)) (λ r _. id⊢ 𝓤 _)
+            (and-then ! (load ! (from ! (stop !)) (look ! 1 refl)) (no-more !))
+            (λ r w-r _ e-r is-r. drop ! $ drop ! $ land ! (from ! (stop !)) (init ! 1 refl (sint-lawful 𝓤 H A W w32 .typed r _ is-r .0)) $
+            same ! (on (r, w-r, e-r, is-r)));
+      }
 
       walk : ent 𝓤 (onEntry 𝓤 H A f.signature (κ₀, (κ₁, (κ₂, (κ₃, (κ₄, (κ₅, tt)))))) (q₀, (q₁, (q₂, (q₃, (q₄, (q₅, tt))))))
           x at) (WpFn 𝓤 H C Λ code.function (vptr b o ∷ s₁ ∷ s₂ ∷ s₃ ∷ s₄ ∷ s₅ ∷ []) Post)
@@ -1568,28 +1784,28 @@ module _ {M : Type 1} (𝓤 : URA M) (H : Heap 𝓤) (A : Atoms 𝓤) (W : Given
           rest₁₆
       walk =
           qed W ((‵ (flft κ₀ q₀) ⊛ ‵ (flft κ₁ q₁) ⊛ ‵ (flft κ₂ q₂) ⊛ ‵ (flft κ₃ q₃) ⊛ ‵ (flft κ₄ q₄) ⊛ ‵
-              (flft κ₅ q₅) ⊛ ‵ ftrue) ∷ ‵ (owns (MutRef (named 0) κ₀ L ∷ ShrSlice (named 1) κ₁ u8 ∷ MutSlice (named 2) κ₂ u8
-              ∷ MutSlice (named 3) κ₃ R ∷ MutSlice (named 4) κ₄ u32 ∷ ShrSlice (named 5) κ₅ u8 ∷ []) x at) ∷ []) ∵
-              enter ! C Λ code.function (vptr b o ∷ s₁ ∷ s₂ ∷ s₃ ∷ s₄ ∷ s₅ ∷ []) _ $
+          (flft κ₅ q₅) ⊛ ‵ ftrue) ∷ ‵ (owns (MutRef (named 0) κ₀ L ∷ ShrSlice (named 1) κ₁ u8 ∷ MutSlice (named 2) κ₂ u8
+          ∷ MutSlice (named 3) κ₃ R ∷ MutSlice (named 4) κ₄ u32 ∷ ShrSlice (named 5) κ₅ u8 ∷ []) x at) ∷ []) ∵
+          enter ! C Λ code.function (vptr b o ∷ s₁ ∷ s₂ ∷ s₃ ∷ s₄ ∷ s₅ ∷ []) _ $
           allocates ! (code.function .locals) (λ p. params1 ! $
           pass1 ! (init ! 49 refl (tt, tt)) $ pass1 ! (init ! 48 refl (tt, (tt, (record { fits = room₁ .0 }, tt)))) $
-              pass1 ! (init ! 47 refl (tt, (tt, (record { fits = room₂ .0 }, tt)))) $
-              pass1 ! (init ! 46 refl (tt, (tt, (record { fits = room₃ .0 }, tt)))) $
-              pass1 ! (init ! 45 refl (tt, (tt, (record { fits = room₄ .0 }, tt)))) $
-              pass1 ! (init ! 44 refl (tt, (tt, (record { fits = room₅ .0 }, tt)))) $ pass0 ! $
+          pass1 ! (init ! 47 refl (tt, (tt, (record { fits = room₂ .0 }, tt)))) $
+          pass1 ! (init ! 46 refl (tt, (tt, (record { fits = room₃ .0 }, tt)))) $
+          pass1 ! (init ! 45 refl (tt, (tt, (record { fits = room₄ .0 }, tt)))) $
+          pass1 ! (init ! 44 refl (tt, (tt, (record { fits = room₅ .0 }, tt)))) $ pass0 ! $
           move ! (52 ∷ []) $ spread W (‵ (MutRef (named 0) κ₀ L .own (ref-at b o γ h) (vptr b o ∷ [])))
-              (‵ (ShrSlice (named 1) κ₁ u8 .own (x₁) (s₁ ∷ [])) ∷ ‵ (MutSlice (named 2) κ₂ u8 .own (x₂) (s₂ ∷ []))
-              ∷ ‵ (MutSlice (named 3) κ₃ R .own (x₃) (s₃ ∷ [])) ∷ ‵ (MutSlice (named 4) κ₄ u32 .own (x₄) (s₄ ∷ []))
-              ∷ ‵ (ShrSlice (named 5) κ₅ u8 .own (x₅) (s₅ ∷ [])) ∷ ‵ ftrue ∷ []) (id⊢ 𝓤 _) $ move ! (58 ∷ []) $
-              spread W (‵ (flft κ₀ q₀)) (‵ (flft κ₁ q₁) ∷ ‵ (flft κ₂ q₂) ∷ ‵ (flft κ₃ q₃) ∷ ‵ (flft κ₄ q₄)
-              ∷ ‵ (flft κ₅ q₅) ∷ ‵ ftrue ∷ []) (id⊢ 𝓤 _) $ move ! (13 ∷ 6 ∷ []) $ drop ! $ drop ! $
+          (‵ (ShrSlice (named 1) κ₁ u8 .own (x₁) (s₁ ∷ [])) ∷ ‵ (MutSlice (named 2) κ₂ u8 .own (x₂) (s₂ ∷ []))
+          ∷ ‵ (MutSlice (named 3) κ₃ R .own (x₃) (s₃ ∷ [])) ∷ ‵ (MutSlice (named 4) κ₄ u32 .own (x₄) (s₄ ∷ []))
+          ∷ ‵ (ShrSlice (named 5) κ₅ u8 .own (x₅) (s₅ ∷ [])) ∷ ‵ ftrue ∷ []) (id⊢ 𝓤 _) $ move ! (58 ∷ []) $
+          spread W (‵ (flft κ₀ q₀)) (‵ (flft κ₁ q₁) ∷ ‵ (flft κ₂ q₂) ∷ ‵ (flft κ₃ q₃) ∷ ‵ (flft κ₄ q₄)
+          ∷ ‵ (flft κ₅ q₅) ∷ ‵ ftrue ∷ []) (id⊢ 𝓤 _) $ move ! (13 ∷ 6 ∷ []) $ drop ! $ drop ! $
           -- [tok0; tok1; tok2; tok3; tok4; tok5; own0; own1; own2; own3; own4; own5; deaths; the locals]
           move ! (41 ∷ []) $ part₁ ! p (tt) (λ new₁.
           -- [tok0; tok1; tok2; tok3; tok4; tok5; own0; own1; own2; own3; own4; own5; deaths; the locals]
           move ! (0 ∷ 41 ∷ 55 ∷ []) $ part₂ ! p ((new₁ .0), (new₁ .1), (new₁ .3)) (λ new₂.
           -- [tok0; tok1; tok2; tok3; tok4; tok5; own0; own1; own2; own3; own4; own5; deaths; the locals]
           move ! (1 ∷ 2 ∷ 3 ∷ 9 ∷ 40 ∷ 41 ∷ 42 ∷ 54 ∷ 55 ∷ 61 ∷ []) $
-              part₃ ! p ((new₁ .0), (new₁ .1), (new₁ .2), (new₁ .3), (new₂ .0), (new₂ .1), (new₂ .2), (new₂ .3)) (λ new₃.
+          part₃ ! p ((new₁ .0), (new₁ .1), (new₁ .2), (new₁ .3), (new₂ .0), (new₂ .1), (new₂ .2), (new₂ .3)) (λ new₃.
           -- [own0; tok0; tok1; tok2; tok3; tok4; tok5; own1; own2; own3; own4; own5; deaths; the locals]
           move ! (2 ∷ 3 ∷ 9 ∷ 52 ∷ 53 ∷ 54 ∷ 55 ∷ 56 ∷ []) $ part₄ ! p (tt) (λ new₄.
           -- [F:clock; F:arrival; F:flight; F:settings; F:«waiting_numbers»; F:waiting; F:ready; F:transmissions; F:outstanding; F:queued;
@@ -1598,7 +1814,7 @@ module _ {M : Type 1} (𝓤 : URA M) (H : Heap 𝓤) (A : Atoms 𝓤) (W : Given
           -- [F:clock; F:arrival; F:flight; F:settings; F:«waiting_numbers»; F:waiting; F:ready; F:transmissions; F:outstanding; F:queued;
           -- back; opened; tok1; tok2; tok3; tok4; tok5; own1; own2; own3; own4; own5; deaths; the locals]
           move ! (0 ∷ 9 ∷ 13 ∷ 14 ∷ 29 ∷ 34 ∷ 56 ∷ 57 ∷ 58 ∷ 59 ∷ 60 ∷ 66 ∷ 69 ∷ []) $
-              part₆ ! p ((new₄ .1), (new₄ .10), (new₄ .11), (new₄ .13), (new₅ .0), (new₅ .1), (new₅ .2), (new₅ .3)) (λ new₆.
+          part₆ ! p ((new₄ .1), (new₄ .10), (new₄ .11), (new₄ .13), (new₅ .0), (new₅ .1), (new₅ .2), (new₅ .3)) (λ new₆.
           -- [F:outstanding; btok3; shown3; blent3; F:clock; F:arrival; F:flight; F:settings; F:«waiting_numbers»; F:waiting; F:ready;
           -- F:transmissions; F:queued; back; opened; tok1; tok2; tok4; tok5; own1; own2; own4; own5; deaths; the locals]
           move ! (2 ∷ 3 ∷ 13 ∷ 62 ∷ 63 ∷ 68 ∷ []) $ part₇ ! p ((new₆ .1), (new₆ .2)) (λ new₇.
@@ -1608,92 +1824,166 @@ module _ {M : Type 1} (𝓤 : URA M) (H : Heap 𝓤) (A : Atoms 𝓤) (W : Given
           -- [own3; tok3; F:outstanding; F:clock; F:arrival; F:flight; F:settings; F:«waiting_numbers»; F:waiting; F:ready; F:transmissions;
           -- F:queued; back; opened; tok1; tok2; tok4; tok5; own1; own2; own4; own5; deaths; the locals]
           move ! (2 ∷ 6 ∷ 7 ∷ 8 ∷ 10 ∷ 21 ∷ 22 ∷ 23 ∷ 24 ∷ 25 ∷ 28 ∷ 29 ∷ 30 ∷ 31 ∷ 32 ∷ 38 ∷ 40 ∷ 41 ∷ 42 ∷ 43 ∷ 44
-              ∷ 45 ∷ 46 ∷ 47 ∷ 53 ∷ 54 ∷ 55 ∷ 56 ∷ 57 ∷ 58 ∷ 59 ∷ 60 ∷ 61 ∷ 62 ∷ 63 ∷ 67 ∷ 68 ∷ 69 ∷ 70 ∷ 71 ∷ []) $
-              part₉ ! p ((new₆ .0), (new₃ .0), (new₃ .1), (new₃ .2), (new₃ .3), (new₃ .4), (new₃ .5), (new₃ .6), (new₄ .0), (new₄ .1),
-              (new₄ .2), (new₄ .3), (new₄ .4), (new₄ .5), (new₄ .6), (new₄ .7), (new₄ .8), (new₄ .9), (new₄ .10), (new₆ .4), (new₆ .5),
-              (new₇ .0), (new₇ .1), (new₇ .3)) (λ new₉.
+          ∷ 45 ∷ 46 ∷ 47 ∷ 53 ∷ 54 ∷ 55 ∷ 56 ∷ 57 ∷ 58 ∷ 59 ∷ 60 ∷ 61 ∷ 62 ∷ 63 ∷ 67 ∷ 68 ∷ 69 ∷ 70 ∷ 71 ∷ []) $
+          part₉ ! p (
+            (new₆ .0),
+            (new₃ .0),
+            (new₃ .1),
+            (new₃ .2),
+            (new₃ .3),
+            (new₃ .4),
+            (new₃ .5),
+            (new₃ .6),
+            (new₄ .0),
+            (new₄ .1),
+            (new₄ .2),
+            (new₄ .3),
+            (new₄ .4),
+            (new₄ .5),
+            (new₄ .6),
+            (new₄ .7),
+            (new₄ .8),
+            (new₄ .9),
+            (new₄ .10),
+            (new₆ .4),
+            (new₆ .5),
+            (new₇ .0),
+            (new₇ .1),
+            (new₇ .3),
+          ) (λ new₉.
           -- [F:«waiting_numbers»; F:waiting; F:ready; F:transmissions; F:outstanding; F:queued; fin4; fin2; tok1; tok2; tok4; tok5; own3;
           -- tok3; F:clock; F:arrival; F:flight; F:settings; back; opened; deaths; the locals]
           move ! (33 ∷ 69 ∷ []) $ part₁₀ ! p ((new₉ .8), (new₉ .9), (new₉ .11)) (λ new₁₀.
           -- [F:«waiting_numbers»; F:waiting; F:ready; F:transmissions; F:outstanding; F:queued; fin4; fin2; tok1; tok2; tok4; tok5; own3;
           -- tok3; F:clock; F:arrival; F:flight; F:settings; back; opened; deaths; the locals]
           move ! (0 ∷ 1 ∷ 18 ∷ 53 ∷ 69 ∷ []) $
-              part₁₁ ! p ((new₉ .8), (new₉ .9), (new₉ .11), (new₁₀ .0), (new₁₀ .1), (new₁₀ .3)) (λ new₁₁.
+          part₁₁ ! p ((new₉ .8), (new₉ .9), (new₉ .11), (new₁₀ .0), (new₁₀ .1), (new₁₀ .3)) (λ new₁₁.
           -- [F:flight; F:«waiting_numbers»; F:waiting; F:ready; F:transmissions; F:outstanding; F:queued; fin4; fin2; tok1; tok2; tok4;
           -- tok5; own3; tok3; F:clock; F:arrival; F:settings; back; opened; deaths; the locals]
           move ! (1 ∷ 3 ∷ 4 ∷ 54 ∷ 69 ∷ []) $
-              part₁₂ ! p ((new₉ .8), (new₉ .9), (new₉ .11), (new₁₁ .0), (new₁₁ .1), (new₁₁ .3)) (λ new₁₂.
+          part₁₂ ! p ((new₉ .8), (new₉ .9), (new₉ .11), (new₁₁ .0), (new₁₁ .1), (new₁₁ .3)) (λ new₁₂.
           -- [F:arrival; F:flight; F:«waiting_numbers»; F:waiting; F:ready; F:transmissions; F:outstanding; F:queued; fin4; fin2; tok1;
           -- tok2; tok4; tok5; own3; tok3; F:clock; F:settings; back; opened; deaths; the locals]
           move ! (12 ∷ 45 ∷ 68 ∷ 69 ∷ []) $ part₁₃ ! p ((new₉ .7)) (λ new₁₃.
           -- [F:outstanding; F:arrival; F:flight; F:«waiting_numbers»; F:waiting; F:ready; F:transmissions; F:queued; fin4; fin2; tok1;
           -- tok2; tok4; tok5; own3; tok3; F:clock; F:settings; back; opened; deaths; the locals]
           move ! (0 ∷ 2 ∷ 4 ∷ 6 ∷ 8 ∷ 9 ∷ 12 ∷ 13 ∷ 14 ∷ 15 ∷ 16 ∷ 17 ∷ 46 ∷ 47 ∷ 56 ∷ 57 ∷ 58 ∷ 59 ∷ 60 ∷ 68 ∷ 69
-              ∷ []) $ part₁₄ ! p ((new₉ .0), (new₉ .1), (new₉ .2), (new₉ .3), (new₉ .4), (new₉ .5), (new₉ .6), (new₉ .7), (new₆ .0),
-              (new₆ .3), (new₇ .0), (new₉ .8), (new₉ .10), (new₉ .14), (new₁₀ .0), (new₁₁ .0), (new₁₂ .0), (new₁₂ .1), (new₁₂ .3),
-              new₁₃) (λ new₁₄.
+          ∷ []) $ part₁₄ ! p (
+            (new₉ .0),
+            (new₉ .1),
+            (new₉ .2),
+            (new₉ .3),
+            (new₉ .4),
+            (new₉ .5),
+            (new₉ .6),
+            (new₉ .7),
+            (new₆ .0),
+            (new₆ .3),
+            (new₇ .0),
+            (new₉ .8),
+            (new₉ .10),
+            (new₉ .14),
+            (new₁₀ .0),
+            (new₁₁ .0),
+            (new₁₂ .0),
+            (new₁₂ .1),
+            (new₁₂ .3),
+            new₁₃,
+          ) (λ new₁₄.
           -- [own0; tok0; fin3; tok3; fin4; fin2; tok1; tok2; tok4; tok5; deaths; the locals]
           move ! (13 ∷ 60 ∷ []) $ part₁₅ ! p ((new₉ .8), (new₉ .9), (new₉ .11)) (λ new₁₅.
           -- [own0; tok0; fin3; tok3; fin4; fin2; tok1; tok2; tok4; tok5; deaths; the locals]
           returns ! (look ! 1 refl) $
           move ! (60 ∷ 1 ∷ 8 ∷ 45 ∷ 44 ∷ 13 ∷ 43 ∷ 42 ∷ 54 ∷ 17 ∷ 30 ∷ 29 ∷ 28 ∷ 27 ∷ 26 ∷ 49 ∷ 4 ∷ 25 ∷ 0 ∷ 16 ∷ 15
-              ∷ 9 ∷ 59 ∷ 55 ∷ 58 ∷ 57 ∷ 56 ∷ 48 ∷ 10 ∷ 53 ∷ 52 ∷ 51 ∷ 50 ∷ 47 ∷ 46 ∷ 24 ∷ 41 ∷ 40 ∷ 39 ∷ 38 ∷ 37 ∷ 36
-              ∷ 35 ∷ 34 ∷ 33 ∷ 32 ∷ 31 ∷ 14 ∷ 7 ∷ 12 ∷ 11 ∷ []) $
-              frees-all ! (code.function .locals) p (holds ((new₁₅ .1)) ∷ holds (vptr b o) ∷ holds (s₁) ∷ holds (s₂) ∷ holds (s₃)
-              ∷ holds (s₄) ∷ holds (s₅) ∷ holds ((only ((array-vals (uint-vals w8)) (new₃ .1))))
-              ∷ holds ((only ((array-vals (uint-vals w8)) (new₃ .0)))) ∷ holds ((new₃ .3))
-              ∷ holds ((only ((LL.vals settings-row.the-type settings-laws.the-laws) (h .settings))))
-              ∷ holds ((only ((LL.vals flight-row.the-type flight-laws.the-laws) (h .flight))))
-              ∷ holds ((only ((LL.vals arrival-row.the-type arrival-laws.the-laws) (h .arrival))))
-              ∷ holds ((only ((LL.vals clock-row.the-type clock-laws.the-laws) (h .clock)))) ∷ holds ((new₄ .11))
-              ∷ holds ((only ((array-vals (uint-vals w32)) (new₉ .2)))) ∷ holds ((new₇ .1)) ∷ holds ((new₉ .9)) ∷ holds ((new₁₀ .1))
-              ∷ holds ((new₁₁ .1)) ∷ holds ((new₁₂ .1)) ∷ holds ((new₁ .1)) ∷ holds ((new₂ .1)) ∷ holds ((vptr b o))
-              ∷ holds ((vptr (p 7) 0)) ∷ holds ((vptr (p 8) 0)) ∷ holds ((new₅ .1)) ∷ holds ((new₁₄ .1))
-              ∷ holds ((vptr (x₃ .ptr .0) (x₃ .ptr .1))) ∷ holds (s₃) ∷ holds ((vptr b (o + 636))) ∷ holds ((vptr (p 15) 0))
-              ∷ holds ((vptr (x₃ .ptr .0) (x₃ .ptr .1))) ∷ holds (s₃) ∷ holds ((vptr (p 15) 0)) ∷ holds ((vptr b (o + 124)))
-              ∷ holds ((vptr b (o + 636))) ∷ holds ((vptr b (o + 764))) ∷ holds ((vptr b (o + 796))) ∷ holds ((vptr b (o + 1308)))
-              ∷ holds ((vptr b (o + 1820))) ∷ holds ((vptr (p 8) 0)) ∷ holds ((vptr (x₂ .ptr .0) (x₂ .ptr .1))) ∷ holds (s₂)
-              ∷ holds ((vptr (x₄ .ptr .0) (x₄ .ptr .1))) ∷ holds (s₄) ∷ holds ((vptr (x₃ .ptr .0) (x₃ .ptr .1))) ∷ holds (s₃)
-              ∷ holds ((vptr b (o + 636))) ∷ holds ((vptr (p 15) 0)) ∷ []) $
+          ∷ 9 ∷ 59 ∷ 55 ∷ 58 ∷ 57 ∷ 56 ∷ 48 ∷ 10 ∷ 53 ∷ 52 ∷ 51 ∷ 50 ∷ 47 ∷ 46 ∷ 24 ∷ 41 ∷ 40 ∷ 39 ∷ 38 ∷ 37 ∷ 36
+          ∷ 35 ∷ 34 ∷ 33 ∷ 32 ∷ 31 ∷ 14 ∷ 7 ∷ 12 ∷ 11 ∷ []) $
+          frees-all ! (code.function .locals) p (holds ((new₁₅ .1)) ∷ holds (vptr b o) ∷ holds (s₁) ∷ holds (s₂) ∷ holds (s₃)
+          ∷ holds (s₄) ∷ holds (s₅) ∷ holds ((only ((array-vals (uint-vals w8)) (new₃ .1))))
+          ∷ holds ((only ((array-vals (uint-vals w8)) (new₃ .0)))) ∷ holds ((new₃ .3))
+          ∷ holds ((only ((LL.vals settings-row.the-type settings-laws.the-laws) (h .settings))))
+          ∷ holds ((only ((LL.vals flight-row.the-type flight-laws.the-laws) (h .flight))))
+          ∷ holds ((only ((LL.vals arrival-row.the-type arrival-laws.the-laws) (h .arrival))))
+          ∷ holds ((only ((LL.vals clock-row.the-type clock-laws.the-laws) (h .clock)))) ∷ holds ((new₄ .11))
+          ∷ holds ((only ((array-vals (uint-vals w32)) (new₉ .2)))) ∷ holds ((new₇ .1)) ∷ holds ((new₉ .9)) ∷ holds ((new₁₀ .1))
+          ∷ holds ((new₁₁ .1)) ∷ holds ((new₁₂ .1)) ∷ holds ((new₁ .1)) ∷ holds ((new₂ .1)) ∷ holds ((vptr b o))
+          ∷ holds ((vptr (p 7) 0)) ∷ holds ((vptr (p 8) 0)) ∷ holds ((new₅ .1)) ∷ holds ((new₁₄ .1))
+          ∷ holds ((vptr (x₃ .ptr .0) (x₃ .ptr .1))) ∷ holds (s₃) ∷ holds ((vptr b (o + 636))) ∷ holds ((vptr (p 15) 0))
+          ∷ holds ((vptr (x₃ .ptr .0) (x₃ .ptr .1))) ∷ holds (s₃) ∷ holds ((vptr (p 15) 0)) ∷ holds ((vptr b (o + 124)))
+          ∷ holds ((vptr b (o + 636))) ∷ holds ((vptr b (o + 764))) ∷ holds ((vptr b (o + 796))) ∷ holds ((vptr b (o + 1308)))
+          ∷ holds ((vptr b (o + 1820))) ∷ holds ((vptr (p 8) 0)) ∷ holds ((vptr (x₂ .ptr .0) (x₂ .ptr .1))) ∷ holds (s₂)
+          ∷ holds ((vptr (x₄ .ptr .0) (x₄ .ptr .1))) ∷ holds (s₄) ∷ holds ((vptr (x₃ .ptr .0) (x₃ .ptr .1))) ∷ holds (s₃)
+          ∷ holds ((vptr b (o + 636))) ∷ holds ((vptr (p 15) 0)) ∷ []) $
           move ! (0 ∷ 1 ∷ 6 ∷ 5 ∷ 7 ∷ 2 ∷ 3 ∷ 4 ∷ 8 ∷ 9 ∷ []) $
-              by ! (exits (new₁₅ .0) (new₁₅ .1) (record
-              { settings = (h .settings); flight = (new₁₀ .0); arrival = (new₁₁ .0); clock = (h .clock); queued = (h .queued);
-              outstanding = (new₉ .7); transmissions = (new₉ .6); ready = (new₉ .5); waiting = (new₉ .4); «waiting_numbers» = (new₉ .3) })
-              ((new₉ .1)) ((new₁₄ .0)) ((new₉ .0)) (told answerCode _ ((new₉ .8) .answer) (new₁₅ .2)
-              (rw ((new₁₀ .2), (new₁₁ .2)) (input-promised (x₅ .now) h (partsOf (x₁ .now) (x₂ .now) (x₃ .now) (x₄ .now)) ((new₉ .8) .answer)
-              (record { words = (new₉ .7); changed = (new₉ .8) .changed; records = (recordsIn (new₉ .2)) })
-              (linkOf (h .settings) ((new₉ .8) .flight) ((new₉ .8) .arrival) (h .clock)
-              (arrays (h .queued) (new₉ .7) (new₉ .6) (new₉ .5) (new₉ .4) (new₉ .3))) (new₉ .1) (new₉ .0) (new₁₄ .0)
-              (records-length 32 (new₉ .2) ((new₉ .10) .1))
-              (put-back (x₃ .now) (new₁₄ .0) (record { words = (new₉ .7); changed = (new₉ .8) .changed; records = (recordsIn (new₉ .2)) })
-              (new₉ .7) (new₁₂ .0) (recordsIn (new₉ .2)) refl (new₁₂ .2) refl (new₁₄ .2))
-              (input-left (x₅ .now) h (partsOf (x₁ .now) (x₂ .now) (x₃ .now) (x₄ .now)) ((new₉ .8) .answer)
-              (record { words = (new₉ .7); changed = (new₉ .8) .changed; records = (recordsIn (new₉ .2)) })
-              (linkOf (h .settings) ((new₉ .8) .flight) ((new₉ .8) .arrival) (h .clock)
-              (arrays (h .queued) (new₉ .7) (new₉ .6) (new₉ .5) (new₉ .4) (new₉ .3))) (new₉ .1) (new₉ .0) (recordsIn (new₆ .0)) (new₇ .0)
-              (gathers h (partsOf (x₁ .now) (x₂ .now) (x₃ .now) (x₄ .now)) (new₄ .10) (recordsIn (new₆ .0)) (new₇ .0) (new₄ .12)
-              ((new₆ .4) .1) (new₇ .2)) (record { whole-queued = (new₁₄ .4); whole-outstanding = (new₁₄ .5);
-              whole-transmissions = (new₁₄ .6); whole-ready = (new₁₄ .7); whole-waiting = (new₁₄ .8); whole-numbers = (new₁₄ .9) })
-              ((new₉ .10) .0))))) (new₉ .12) (new₁₄ .3) (new₉ .13) (new₁₅ .3))))))))))))))))))
+          by ! (exits (new₁₅ .0) (new₁₅ .1) (record {
+            settings = (h .settings);
+            flight = (new₁₀ .0);
+            arrival = (new₁₁ .0);
+            clock = (h .clock);
+            queued = (h .queued);
+            outstanding = (new₉ .7);
+            transmissions = (new₉ .6);
+            ready = (new₉ .5);
+            waiting = (new₉ .4);
+            «waiting_numbers» = (new₉ .3);
+          })
+          ((new₉ .1)) ((new₁₄ .0)) ((new₉ .0)) (told answerCode _ ((new₉ .8) .answer) (new₁₅ .2)
+          (rw ((new₁₀ .2), (new₁₁ .2)) (input-promised (x₅ .now) h (partsOf (x₁ .now) (x₂ .now) (x₃ .now) (x₄ .now)) ((new₉ .8) .answer)
+          (record { words = (new₉ .7); changed = (new₉ .8) .changed; records = (recordsIn (new₉ .2)) })
+          (linkOf (h .settings) ((new₉ .8) .flight) ((new₉ .8) .arrival) (h .clock)
+          (arrays (h .queued) (new₉ .7) (new₉ .6) (new₉ .5) (new₉ .4) (new₉ .3))) (new₉ .1) (new₉ .0) (new₁₄ .0)
+          (records-length 32 (new₉ .2) ((new₉ .10) .1))
+          (put-back (x₃ .now) (new₁₄ .0) (record { words = (new₉ .7); changed = (new₉ .8) .changed; records = (recordsIn (new₉ .2)) })
+          (new₉ .7) (new₁₂ .0) (recordsIn (new₉ .2)) refl (new₁₂ .2) refl (new₁₄ .2))
+          (input-left (x₅ .now) h (partsOf (x₁ .now) (x₂ .now) (x₃ .now) (x₄ .now)) ((new₉ .8) .answer)
+          (record { words = (new₉ .7); changed = (new₉ .8) .changed; records = (recordsIn (new₉ .2)) })
+          (linkOf (h .settings) ((new₉ .8) .flight) ((new₉ .8) .arrival) (h .clock)
+          (arrays (h .queued) (new₉ .7) (new₉ .6) (new₉ .5) (new₉ .4) (new₉ .3))) (new₉ .1) (new₉ .0) (recordsIn (new₆ .0)) (new₇ .0)
+          (gathers h (partsOf (x₁ .now) (x₂ .now) (x₃ .now) (x₄ .now)) (new₄ .10) (recordsIn (new₆ .0)) (new₇ .0) (new₄ .12)
+          ((new₆ .4) .1) (new₇ .2)) (record {
+            whole-queued = (new₁₄ .4);
+            whole-outstanding = (new₁₄ .5);
+            whole-transmissions = (new₁₄ .6);
+            whole-ready = (new₁₄ .7);
+            whole-waiting = (new₁₄ .8);
+            whole-numbers = (new₁₄ .9);
+          })
+          ((new₉ .10) .0))))) (new₉ .12) (new₁₄ .3) (new₉ .13) (new₁₅ .3))))))))))))))))))
 
   f-meets : (𝓣 : Tables 𝓤 H) → Known (𝓣 .C)
       → Meets 𝓤 H A f.signature (WpFn 𝓤 H (𝓣 .C) (𝓣 .Λ) code.function) (f.spec 𝓤 H A at-mem run)
   unfolding Post
-  f-meets 𝓣 known = walk-meets 𝓤 H A f.ended stayed W
-      (goes-ref 𝓤 H A W 6 0 tt (plain (λ _. L)),
-      (goes-dropped 𝓤 H A W 6 (shrSliceOf (1 ∷ []) tt (plain (λ _. u8))) yes (λ κs x f. refl),
-      (goes-gave-slice 𝓤 H A W 6 2 tt (plain (λ _. u8)),
-      (goes-gave-slice 𝓤 H A W 6 3 tt (plain (λ _. R)),
-      (goes-gave-slice 𝓤 H A W 6 4 tt (plain (λ _. u32)),
-      (goes-dropped 𝓤 H A W 6 (shrSliceOf (5 ∷ []) tt (plain (λ _. u8))) yes (λ κs x f. refl), tt))))))
+  f-meets 𝓣 known = walk-meets 𝓤 H A f.ended stayed W (
+    goes-ref 𝓤 H A W 6 0 tt (plain (λ _. L)),
+    (
+      goes-dropped 𝓤 H A W 6 (shrSliceOf (1 ∷ []) tt (plain (λ _. u8))) yes (λ κs x f. refl),
+      (
+        goes-gave-slice 𝓤 H A W 6 2 tt (plain (λ _. u8)),
+        (
+          goes-gave-slice 𝓤 H A W 6 3 tt (plain (λ _. R)),
+          (
+            goes-gave-slice 𝓤 H A W 6 4 tt (plain (λ _. u32)),
+            (goes-dropped 𝓤 H A W 6 (shrSliceOf (5 ∷ []) tt (plain (λ _. u8))) yes (λ κs x f. refl), tt),
+          ),
+        ),
+      ),
+    ),
+  )
       (f.clauses 𝓤 H A at-mem run) (WpFn 𝓤 H (𝓣 .C) (𝓣 .Λ) code.function) (WpFn-mono 𝓤 H (W .laws) 𝓣 code.function)
       (walked 𝓤 H A f.ended stayed (f.clauses 𝓤 H A at-mem run) (WpFn 𝓤 H (𝓣 .C) (𝓣 .Λ) code.function)
       (λ κs. (ptr-vals, (slice-vals, (slice-vals, (slice-vals, (slice-vals, (slice-vals, tt)))))))
-      (λ κs. (mut-tells (named 0) (κs .0) L,
-      (shr-slice-tells (named 1) (κs .1 .0) u8,
-      (mut-slice-tells (named 2) (κs .1 .1 .0) u8,
-      (mut-slice-tells (named 3) (κs .1 .1 .1 .0) R,
-      (mut-slice-tells (named 4) (κs .1 .1 .1 .1 .0) u32, (shr-slice-tells (named 5) (κs .1 .1 .1 .1 .1 .0) u8, tt)))))))
+      (λ κs. (
+        mut-tells (named 0) (κs .0) L,
+        (
+          shr-slice-tells (named 1) (κs .1 .0) u8,
+          (
+            mut-slice-tells (named 2) (κs .1 .1 .0) u8,
+            (
+              mut-slice-tells (named 3) (κs .1 .1 .1 .0) R,
+              (mut-slice-tells (named 4) (κs .1 .1 .1 .1 .0) u32, (shr-slice-tells (named 5) (κs .1 .1 .1 .1 .1 .0) u8, tt)),
+            ),
+          ),
+        ),
+      ))
       (λ κs qs bounds a g are. via 𝓤 _ (fst∗ 𝓤 _ (emp 𝓤))
       (walk (κs .0) (κs .1 .0) (κs .1 .1 .0) (κs .1 .1 .1 .0) (κs .1 .1 .1 .1 .0) (κs .1 .1 .1 .1 .1 .0) (qs .0) (qs .1 .0) (qs .1 .1 .0)
       (qs .1 .1 .1 .0) (qs .1 .1 .1 .1 .0) (qs .1 .1 .1 .1 .1 .0) (a .0 .ptr .0) (a .0 .ptr .1) (a .0 .name) (a .0 .now) (a .1 .0)
