@@ -126,20 +126,20 @@ module _ (b o : ℕ) (γ : GName) where
     opens-link t z h = step (λ s. opens-fields (B.the-type .name) ms (B.the-type .D) (B.the-type .to) (B.the-type .to-one) b o γ t z
         (LL.lawfuls 𝓤 H A W (B.the-type .parts) B′.the-laws) h $
         fsplit t $ use1 W (‵ (settings-at fullShare b o (h .settings)))
-            (as-record settings-row.the-type 𝓤 H A fullShare (h .settings) b (o + 0)) $ move t (1 ∷ []) $
+        (as-record settings-row.the-type 𝓤 H A fullShare (h .settings) b (o + 0)) $ move t (1 ∷ []) $
         fsplit t $ use1 W (‵ (flight-at fullShare b o (h .flight))) (as-record flight-row.the-type 𝓤 H A fullShare (h .flight) b (o + 16)) $
-            move t (1 ∷ []) $
+        move t (1 ∷ []) $
         fsplit t $ use1 W (‵ (arrival-at fullShare b o (h .arrival)))
-            (as-record arrival-row.the-type 𝓤 H A fullShare (h .arrival) b (o + 72)) $ move t (1 ∷ []) $
+        (as-record arrival-row.the-type 𝓤 H A fullShare (h .arrival) b (o + 72)) $ move t (1 ∷ []) $
         fsplit t $ use1 W (‵ (clock-at fullShare b o (h .clock))) (as-record clock-row.the-type 𝓤 H A fullShare (h .clock) b (o + 104)) $
-            move t (1 ∷ []) $
+        move t (1 ∷ []) $
         fsplit t $ rewrite t 0 (λ (xs : List ℕ). ‵ (queued-at fullShare b o xs)) (map-id (h .queued)) refl $ move t (1 ∷ []) $
         fsplit t $ rewrite t 0 (λ (xs : List ℕ). ‵ (outstanding-at fullShare b o xs)) (map-id (h .outstanding)) refl $ move t (1 ∷ []) $
         fsplit t $ rewrite t 0 (λ (xs : List ℕ). ‵ (transmissions-at fullShare b o xs)) (map-id (h .transmissions)) refl $ move t (1 ∷ []) $
         fsplit t $ rewrite t 0 (λ (xs : List ℕ). ‵ (ready-at fullShare b o xs)) (map-id (h .ready)) refl $ move t (1 ∷ []) $
         fsplit t $ rewrite t 0 (λ (xs : List ℕ). ‵ (waiting-at fullShare b o xs)) (map-id (h .waiting)) refl $ move t (1 ∷ []) $
         fsplit t $ rewrite t 0 (λ (xs : List ℕ). ‵ (waiting-numbers-at fullShare b o xs)) (map-id (h .«waiting_numbers»)) refl $
-            move t (1 ∷ []) $
+        move t (1 ∷ []) $
         drop t $ move t (9 ∷ 8 ∷ 7 ∷ 6 ∷ 5 ∷ 4 ∷ 3 ∷ 2 ∷ 1 ∷ 0 ∷ []) $ s)
 
     pub closes-link : K → Soaks G → {κ : Lft} {q : Share} (h k : Link)
@@ -151,22 +151,22 @@ module _ (b o : ℕ) (γ : GName) where
         ∷ ‵ (waiting-numbers-at fullShare b o (k .«waiting_numbers»)) ∷ raw (Back 𝓤 H A fullShare b o) ∷ ‵ (Open b o γ κ q h) ∷ Γ) G
     closes-link t z h k = step (λ s. nothing t $
         move t (10 ∷ 0 ∷ []) $ rewrite t 0 (λ (xs : List ℕ). ‵ (waiting-numbers-at fullShare b o xs)) (sym (map-id (k .«waiting_numbers»)))
-            refl $ fjoin t $
+        refl $ fjoin t $
         move t (9 ∷ 0 ∷ []) $ rewrite t 0 (λ (xs : List ℕ). ‵ (waiting-at fullShare b o xs)) (sym (map-id (k .waiting))) refl $ fjoin t $
         move t (8 ∷ 0 ∷ []) $ rewrite t 0 (λ (xs : List ℕ). ‵ (ready-at fullShare b o xs)) (sym (map-id (k .ready))) refl $ fjoin t $
         move t (7 ∷ 0 ∷ []) $ rewrite t 0 (λ (xs : List ℕ). ‵ (transmissions-at fullShare b o xs)) (sym (map-id (k .transmissions))) refl $
-            fjoin t $
+        fjoin t $
         move t (6 ∷ 0 ∷ []) $ rewrite t 0 (λ (xs : List ℕ). ‵ (outstanding-at fullShare b o xs)) (sym (map-id (k .outstanding))) refl $
-            fjoin t $
+        fjoin t $
         move t (5 ∷ 0 ∷ []) $ rewrite t 0 (λ (xs : List ℕ). ‵ (queued-at fullShare b o xs)) (sym (map-id (k .queued))) refl $ fjoin t $
         move t (4 ∷ 0 ∷ []) $ use1 W (‵ (partAt (Struct (shape clock-row.the-type)) fullShare (clock-row.the-type .to (k .clock)) b
-            (o + 104))) (as-tuple clock-row.the-type 𝓤 H A fullShare (k .clock) b (o + 104)) $ fjoin t $
+        (o + 104))) (as-tuple clock-row.the-type 𝓤 H A fullShare (k .clock) b (o + 104)) $ fjoin t $
         move t (3 ∷ 0 ∷ []) $ use1 W (‵ (partAt (Struct (shape arrival-row.the-type)) fullShare (arrival-row.the-type .to (k .arrival)) b
-            (o + 72))) (as-tuple arrival-row.the-type 𝓤 H A fullShare (k .arrival) b (o + 72)) $ fjoin t $
+        (o + 72))) (as-tuple arrival-row.the-type 𝓤 H A fullShare (k .arrival) b (o + 72)) $ fjoin t $
         move t (2 ∷ 0 ∷ []) $ use1 W (‵ (partAt (Struct (shape flight-row.the-type)) fullShare (flight-row.the-type .to (k .flight)) b
-            (o + 16))) (as-tuple flight-row.the-type 𝓤 H A fullShare (k .flight) b (o + 16)) $ fjoin t $
+        (o + 16))) (as-tuple flight-row.the-type 𝓤 H A fullShare (k .flight) b (o + 16)) $ fjoin t $
         move t (1 ∷ 0 ∷ []) $ use1 W (‵ (partAt (Struct (shape settings-row.the-type)) fullShare (settings-row.the-type .to (k .settings)) b
-            (o + 0))) (as-tuple settings-row.the-type 𝓤 H A fullShare (k .settings) b (o + 0)) $ fjoin t $
+        (o + 0))) (as-tuple settings-row.the-type 𝓤 H A fullShare (k .settings) b (o + 0)) $ fjoin t $
         closes-fields (B.the-type .name) ms (B.the-type .D) (B.the-type .to) (B.the-type .to-one) b o γ t z h k $ s)
 
     pub looks-link : K → Soaks G → {κ : Lft} {q : Share} (h : Link)
@@ -179,11 +179,11 @@ module _ (b o : ℕ) (γ : GName) where
         (LL.lawfuls 𝓤 H A W (B.the-type .parts) B′.the-laws) (LL.vals B.the-type B′.the-laws) (LL.tells B.the-type B′.the-laws)
         (LL.copy B.the-type B′.the-copy 𝓤 H A W) h (λ s.
         fsplit t $ use1 W (‵ (settings-at s b o (h .settings))) (as-record settings-row.the-type 𝓤 H A s (h .settings) b (o + 0)) $
-            move t (1 ∷ []) $
+        move t (1 ∷ []) $
         fsplit t $ use1 W (‵ (flight-at s b o (h .flight))) (as-record flight-row.the-type 𝓤 H A s (h .flight) b (o + 16)) $
-            move t (1 ∷ []) $
+        move t (1 ∷ []) $
         fsplit t $ use1 W (‵ (arrival-at s b o (h .arrival))) (as-record arrival-row.the-type 𝓤 H A s (h .arrival) b (o + 72)) $
-            move t (1 ∷ []) $
+        move t (1 ∷ []) $
         fsplit t $ use1 W (‵ (clock-at s b o (h .clock))) (as-record clock-row.the-type 𝓤 H A s (h .clock) b (o + 104)) $ move t (1 ∷ []) $
         fsplit t $ rewrite t 0 (λ (xs : List ℕ). ‵ (queued-at s b o xs)) (map-id (h .queued)) refl $ move t (1 ∷ []) $
         fsplit t $ rewrite t 0 (λ (xs : List ℕ). ‵ (outstanding-at s b o xs)) (map-id (h .outstanding)) refl $ move t (1 ∷ []) $
@@ -201,27 +201,26 @@ module _ (b o : ℕ) (γ : GName) where
         ∷ ‵ (fobor κ q (partAt L s h b o)) ∷ Γ) G
     shuts-link t z s h = step (λ k. nothing t $
         move t (10 ∷ 0 ∷ []) $ rewrite t 0 (λ (xs : List ℕ). ‵ (waiting-numbers-at s b o xs)) (sym (map-id (h .«waiting_numbers»))) refl $
-            fjoin t $
+        fjoin t $
         move t (9 ∷ 0 ∷ []) $ rewrite t 0 (λ (xs : List ℕ). ‵ (waiting-at s b o xs)) (sym (map-id (h .waiting))) refl $ fjoin t $
         move t (8 ∷ 0 ∷ []) $ rewrite t 0 (λ (xs : List ℕ). ‵ (ready-at s b o xs)) (sym (map-id (h .ready))) refl $ fjoin t $
         move t (7 ∷ 0 ∷ []) $ rewrite t 0 (λ (xs : List ℕ). ‵ (transmissions-at s b o xs)) (sym (map-id (h .transmissions))) refl $
-            fjoin t $
+        fjoin t $
         move t (6 ∷ 0 ∷ []) $ rewrite t 0 (λ (xs : List ℕ). ‵ (outstanding-at s b o xs)) (sym (map-id (h .outstanding))) refl $ fjoin t $
         move t (5 ∷ 0 ∷ []) $ rewrite t 0 (λ (xs : List ℕ). ‵ (queued-at s b o xs)) (sym (map-id (h .queued))) refl $ fjoin t $
         move t (4 ∷ 0 ∷ []) $ use1 W (‵ (partAt (Struct (shape clock-row.the-type)) s (clock-row.the-type .to (h .clock)) b (o + 104)))
-            (as-tuple clock-row.the-type 𝓤 H A s (h .clock) b (o + 104)) $ fjoin t $
+        (as-tuple clock-row.the-type 𝓤 H A s (h .clock) b (o + 104)) $ fjoin t $
         move t (3 ∷ 0 ∷ []) $ use1 W (‵ (partAt (Struct (shape arrival-row.the-type)) s (arrival-row.the-type .to (h .arrival)) b (o + 72)))
-            (as-tuple arrival-row.the-type 𝓤 H A s (h .arrival) b (o + 72)) $ fjoin t $
+        (as-tuple arrival-row.the-type 𝓤 H A s (h .arrival) b (o + 72)) $ fjoin t $
         move t (2 ∷ 0 ∷ []) $ use1 W (‵ (partAt (Struct (shape flight-row.the-type)) s (flight-row.the-type .to (h .flight)) b (o + 16)))
-            (as-tuple flight-row.the-type 𝓤 H A s (h .flight) b (o + 16)) $ fjoin t $
+        (as-tuple flight-row.the-type 𝓤 H A s (h .flight) b (o + 16)) $ fjoin t $
         move t (1 ∷ 0 ∷ []) $ use1 W (‵ (partAt (Struct (shape settings-row.the-type)) s (settings-row.the-type .to (h .settings)) b
-            (o + 0))) (as-tuple settings-row.the-type 𝓤 H A s (h .settings) b (o + 0)) $ fjoin t $
+        (o + 0))) (as-tuple settings-row.the-type 𝓤 H A s (h .settings) b (o + 0)) $ fjoin t $
         shuts-fields (B.the-type .name) ms (B.the-type .D) (B.the-type .to) (B.the-type .to-one) b o γ t z s h $ k)
 
 -- ---- the place of each field behind the pointer in a local, in code
-module _ {M : Type 1} {𝓤 : URA M} {H : Heap 𝓤} {A : Atoms 𝓤} {K : Type 0} {W : Given 𝓤 H A} {Γ : List (Item 𝓤)} {E : Env 𝓤 H} {i b o : ℕ}
-    where
-
+module _ {M : Type 1} {𝓤 : URA M} {H : Heap 𝓤} {A : Atoms 𝓤} {K : Type 0} {W : Given 𝓤 H A} {Γ : List (Item 𝓤)} {E : Env 𝓤 H}
+    {i b o : ℕ} where
   pub place-settings : K → Reads K W Γ (spotOf 𝓤 H E i .0) (spotOf 𝓤 H E i .1) (spotOf 𝓤 H E i .2) (vptr b o)
       → Finds K W Γ E (place i (deref B′.mir ∷ field 0 ∷ [])) (settings-laws.mir, b, o + 0)
   place-settings t r = from t (hop t r (fld t {d = 0} refl (stop t)))

@@ -79,7 +79,6 @@ use Rattle.records.proofs.Walk.{
   init,
   store,
   store-raw,
-  forget,
   stop,
   hop,
   fld,
@@ -93,13 +92,9 @@ use Rattle.records.proofs.Walk.{
   assigns,
   returns,
   enter,
-  alloc1,
-  alloc0,
   params1,
   pass1,
   pass0,
-  free1,
-  free0,
   land,
   WpFn-mono,
   FmC,
@@ -150,7 +145,7 @@ use Rattle.records.proofs.Shared.{LentShared, lends-shared, shared-back}
 use Rattle.records.proofs.Rows.{R}
 use Rattle.lending.proofs.Fields.{ref-at, lend-mut, back-mut, lend-shr, back-shr, cell-out, cell-in, tells-length, lend-whole, back-whole}
 use Rattle.lending.proofs.Locals.{envAt, allocates, frees-all, holds, empty}
-use Rattle.lending.proofs.Parts.{behind, taking, spread, same}
+use Rattle.lending.proofs.Parts.{behind, spread, same}
 use Rattle.lending.proofs.Block.{
   L,
   Open,
@@ -176,8 +171,8 @@ use Rattle.control.specs.declared.Link.{Link}
 use Rattle.timing.specs.declared.Record.{Record}
 use lib.IntN.{ℤ}
 use mir.Syntax.{w16}
-use base.Fml.{fres, froom, fdies, fobor, fsep, feq}
-use mir.Syntax.{Body, return, imm, mut, erased, tyInt, tyArray, tyRef, tyPtr, tyUnit, tyBool}
+use base.Fml.{fres, froom, fobor, fsep, feq}
+use mir.Syntax.{imm, mut, erased, tyInt, tyArray, tyRef, tyPtr, tyUnit, tyBool}
 use denote.Slice.{sliceTy}
 use denote.Memory.{pointee}
 use Rattle.timing.proofs.Record.Laws as record-laws
@@ -209,15 +204,13 @@ use Rattle.ampferweg.proofs.ampferweg_show.Statement as stated
 use Rattle.ampferweg.proofs.ampferweg_show.Code as code
 
 abbrev stayed : Stays (f.ended .signature .params) (f.ended .kept)
-stayed = (stay-dropped _ yes, (stay-dropped _ yes,
-    (stay-dropped _ yes, (stay-dropped _ yes, (stay-dropped _ yes, (gave-ref (5 ∷ []) tt (plain (λ _. u32)), tt))))))
-
--- the rest of the body where each part begins, and behind the last
-unfoldable rest₂ : Body
-rest₂ = return
-
-unfoldable rest₁ : Body
-rest₁ = taking 2 (behind 0 (code.function .body)) rest₂
+stayed = (
+  stay-dropped _ yes,
+  (
+    stay-dropped _ yes,
+    (stay-dropped _ yes, (stay-dropped _ yes, (stay-dropped _ yes, (gave-ref (5 ∷ []) tt (plain (λ _. u32)), tt)))),
+  ),
+)
 
 module _ {M : Type 1} (𝓤 : URA M) (H : Heap 𝓤) (A : Atoms 𝓤) (W : Given 𝓤 H A) (at-mem : Memory → SProp 𝓤) (run : Routine → Fun 𝓤) where
   -- what is known of the callees
@@ -275,19 +268,27 @@ module _ {M : Type 1} (𝓤 : URA M) (H : Heap 𝓤) (A : Atoms 𝓤) (W : Given
 
     -- what call is called at, and that what it asks is had
     abbrev to-call : tripleOf 𝓤 H A call.signature (call.spec 𝓤 H A at-mem run) .Ghost
-    to-call  = (((κ₀, (κ₁, (κ₂, (κ₃, (κ₄, (κ₅, tt)))))), (q₀, (q₁, (q₂, (q₃, (q₄, (q₅, tt)))))), tt,
-        (x₀, (x₁, (x₂, (x₃, (x₄, (x₅, tt)))))), (s₀ ∷ [], (s₁ ∷ [], (s₂ ∷ [], (s₃ ∷ [], (s₄ ∷ [], (s₅ ∷ [], tt))))))), tt)
+    to-call = (
+      (
+        (κ₀, (κ₁, (κ₂, (κ₃, (κ₄, (κ₅, tt)))))),
+        (q₀, (q₁, (q₂, (q₃, (q₄, (q₅, tt)))))),
+        tt,
+        (x₀, (x₁, (x₂, (x₃, (x₄, (x₅, tt)))))),
+        (s₀ ∷ [], (s₁ ∷ [], (s₂ ∷ [], (s₃ ∷ [], (s₄ ∷ [], (s₅ ∷ [], tt)))))),
+      ),
+      tt,
+    )
 
-    asks-call :  ent 𝓤 (⋆ 𝓤 H A (‵ (flft κ₀ q₀) ∷ ‵ Own₀ ∷ ‵ (flft κ₁ q₁) ∷ ‵ Own₁ ∷ ‵ (flft κ₂ q₂) ∷ ‵ Own₂
+    asks-call : ent 𝓤 (⋆ 𝓤 H A (‵ (flft κ₀ q₀) ∷ ‵ Own₀ ∷ ‵ (flft κ₁ q₁) ∷ ‵ Own₁ ∷ ‵ (flft κ₂ q₂) ∷ ‵ Own₂
         ∷ ‵ (flft κ₃ q₃) ∷ ‵ Own₃ ∷ ‵ (flft κ₄ q₄) ∷ ‵ Own₄ ∷ ‵ (flft κ₅ q₅) ∷ ‵ Own₅ ∷ []))
-        (tripleOf 𝓤 H A call.signature (call.spec 𝓤 H A at-mem run) .pre (to-call ))
-    asks-call    =
+        (tripleOf 𝓤 H A call.signature (call.spec 𝓤 H A at-mem run) .pre (to-call))
+    asks-call =
         qed W (‵ (flft κ₀ q₀) ∷ ‵ Own₀ ∷ ‵ (flft κ₁ q₁) ∷ ‵ Own₁ ∷ ‵ (flft κ₂ q₂) ∷ ‵ Own₂ ∷ ‵ (flft κ₃ q₃)
-            ∷ ‵ Own₃ ∷ ‵ (flft κ₄ q₄) ∷ ‵ Own₄ ∷ ‵ (flft κ₅ q₅) ∷ ‵ Own₅ ∷ []) ∵ nothing ! $ move ! (11 ∷ 0 ∷ []) $
-            join ! $ move ! (9 ∷ 0 ∷ []) $ join ! $ move ! (7 ∷ 0 ∷ []) $ join ! $ move ! (5 ∷ 0 ∷ []) $ join ! $ move ! (3 ∷ 0 ∷ []) $
-            join ! $ move ! (1 ∷ 0 ∷ []) $ join ! $ nothing ! $ move ! (7 ∷ 0 ∷ []) $ fjoin ! $ move ! (6 ∷ 0 ∷ []) $ fjoin ! $
-            move ! (5 ∷ 0 ∷ []) $ fjoin ! $ move ! (4 ∷ 0 ∷ []) $ fjoin ! $ move ! (3 ∷ 0 ∷ []) $ fjoin ! $ move ! (2 ∷ 0 ∷ []) $ fjoin ! $
-            move ! (1 ∷ 0 ∷ []) $ join ! $ nothing ! $ move ! (1 ∷ 0 ∷ []) $ done !
+        ∷ ‵ Own₃ ∷ ‵ (flft κ₄ q₄) ∷ ‵ Own₄ ∷ ‵ (flft κ₅ q₅) ∷ ‵ Own₅ ∷ []) ∵ nothing ! $ move ! (11 ∷ 0 ∷ []) $
+        join ! $ move ! (9 ∷ 0 ∷ []) $ join ! $ move ! (7 ∷ 0 ∷ []) $ join ! $ move ! (5 ∷ 0 ∷ []) $ join ! $ move ! (3 ∷ 0 ∷ []) $
+        join ! $ move ! (1 ∷ 0 ∷ []) $ join ! $ nothing ! $ move ! (7 ∷ 0 ∷ []) $ fjoin ! $ move ! (6 ∷ 0 ∷ []) $ fjoin ! $
+        move ! (5 ∷ 0 ∷ []) $ fjoin ! $ move ! (4 ∷ 0 ∷ []) $ fjoin ! $ move ! (3 ∷ 0 ∷ []) $ fjoin ! $ move ! (2 ∷ 0 ∷ []) $ fjoin ! $
+        move ! (1 ∷ 0 ∷ []) $ join ! $ nothing ! $ move ! (1 ∷ 0 ∷ []) $ done !
 
     abbrev Had : (z₅ : ℕ) → List (Item 𝓤)
     Had z₅ = ‵ (flft κ₀ q₀) ∷ ‵ (flft κ₁ q₁) ∷ ‵ (flft κ₂ q₂) ∷ ‵ (flft κ₃ q₃) ∷ ‵ (flft κ₄ q₄)
@@ -297,23 +298,23 @@ module _ {M : Type 1} (𝓤 : URA M) (H : Heap 𝓤) (A : Atoms 𝓤) (W : Given
     abbrev Said : (r : ℤ) (z₅ : ℕ) → Type 0
     Said r z₅ = Gives placeCode (λ a. PlacePromise (x₀ .now) (partsOf (x₁ .now) (x₂ .now) (x₃ .now) (x₄ .now)) a z₅) r
 
-    exits : (r : ℤ) (w : Val) (z₅ : ℕ) → Said r z₅  → Is i32 r (w ∷ []) → ent 𝓤 (⋆ 𝓤 H A (Had z₅)) (Post w)
+    exits : (r : ℤ) (w : Val) (z₅ : ℕ) → Said r z₅ → Is i32 r (w ∷ []) → ent 𝓤 (⋆ 𝓤 H A (Had z₅)) (Post w)
     unfolding Post
-    exits r w z₅ e  g =
+    exits r w z₅ e g =
         qed W (Had z₅) ∵ suffices ! _ (ends-at 𝓤 H A f.ended stayed (f.clauses 𝓤 H A at-mem run) W
-            (((κ₀, (κ₁, (κ₂, (κ₃, (κ₄, (κ₅, tt)))))), (q₀, (q₁, (q₂, (q₃, (q₄, (q₅, tt)))))), tt, x, at), tt) w r
-            (tt, (tt, (tt, (tt, (tt, (z₅, tt)))))) (tt, (tt, (tt, (tt, (tt, (tt, tt))))))) $ says ! e $
+        (((κ₀, (κ₁, (κ₂, (κ₃, (κ₄, (κ₅, tt)))))), (q₀, (q₁, (q₂, (q₃, (q₄, (q₅, tt)))))), tt, x, at), tt) w r
+        (tt, (tt, (tt, (tt, (tt, (z₅, tt)))))) (tt, (tt, (tt, (tt, (tt, (tt, tt))))))) $ says ! e $
         nothing ! $ move ! (7 ∷ 0 ∷ []) $ join ! $ move ! (5 ∷ 0 ∷ []) $ join ! $ move ! (4 ∷ 0 ∷ []) $ join ! $ move ! (3 ∷ 0 ∷ []) $
-            join ! $ move ! (2 ∷ 0 ∷ []) $ join ! $ move ! (1 ∷ 0 ∷ []) $ join ! $ frame ! $ nothing ! $ move ! (1 ∷ 0 ∷ []) $ fjoin ! $
-            nothing ! $ fjoin ! $ nothing ! $ fjoin ! $ nothing ! $ fjoin ! $ nothing ! $ fjoin ! $ nothing ! $ fjoin ! $ frame ! $
-            owned ! i32 (Is i32) (sint-makes 𝓤 H A W w32) r _ g $ done !
+        join ! $ move ! (2 ∷ 0 ∷ []) $ join ! $ move ! (1 ∷ 0 ∷ []) $ join ! $ frame ! $ nothing ! $ move ! (1 ∷ 0 ∷ []) $ fjoin ! $
+        nothing ! $ fjoin ! $ nothing ! $ fjoin ! $ nothing ! $ fjoin ! $ nothing ! $ fjoin ! $ nothing ! $ fjoin ! $ frame ! $
+        owned ! i32 (Is i32) (sint-makes 𝓤 H A W w32) r _ g $ done !
 
     module _ (C : Calls 𝓤 H) (Λ : Loops 𝓤 H) (fm : FmC 𝓤 H (W .laws) C) (known : Known C) where
       -- where the locals lie
       abbrev En : (ℕ → ℕ) → Env 𝓤 H
       En p = envAt (code.function .locals) p
 
-      -- what part 1 knows, what it tells; what it has, and leaves
+      -- part 1: what it knows, what it tells; what it has, and leaves
       abbrev Known₁ : Type 0
       Known₁ = Unit {0}
 
@@ -322,8 +323,8 @@ module _ {M : Type 1} (𝓤 : URA M) (H : Heap 𝓤) (A : Atoms 𝓤) (W : Given
           (e-r : Gives placeCode (λ a. PlacePromise (x₀ .now) (partsOf (x₁ .now) (x₂ .now) (x₃ .now) (x₄ .now)) a z₅) r) ×
           (Is i32 r (w-r ∷ []))
 
-      abbrev Had₁ : (ℕ → ℕ) → Known₁ → List (Item 𝓤) → List (Item 𝓤)
-      Had₁ p past Γ = ‵ (flft κ₀ q₀) ∷ ‵ (flft κ₁ q₁) ∷ ‵ (flft κ₂ q₂) ∷ ‵ (flft κ₃ q₃) ∷ ‵ (flft κ₄ q₄)
+      abbrev Has₁ : (ℕ → ℕ) → Known₁ → List (Item 𝓤) → List (Item 𝓤)
+      Has₁ p past Γ = ‵ (flft κ₀ q₀) ∷ ‵ (flft κ₁ q₁) ∷ ‵ (flft κ₂ q₂) ∷ ‵ (flft κ₃ q₃) ∷ ‵ (flft κ₄ q₄)
           ∷ ‵ (flft κ₅ q₅) ∷ ‵ Own₀ ∷ ‵ Own₁ ∷ ‵ Own₂ ∷ ‵ Own₃ ∷ ‵ Own₄ ∷ ‵ Own₅
           ∷ ‵ (froom (tyRef erased mut (tyInt w32)) (p 7) 0) ∷ ‵ (fat fullShare (tyRef (named 5) mut (tyInt w32)) (p 6) 0 (s₅))
           ∷ ‵ (fat fullShare (sliceTy (tyRef (named 4) imm (tyInt w32))) (p 5) 0 (s₄))
@@ -332,10 +333,10 @@ module _ {M : Type 1} (𝓤 : URA M) (H : Heap 𝓤) (A : Atoms 𝓤) (W : Given
           ∷ ‵ (fat fullShare (sliceTy (tyRef (named 1) imm (tyInt w8))) (p 2) 0 (s₁))
           ∷ ‵ (fat fullShare (tyRef (named 0) imm (pointee (L .written))) (p 1) 0 (s₀)) ∷ ‵ (froom (tyInt w32) (p 0) 0) ∷ Γ
 
-      abbrev Left₁ : (ℕ → ℕ) → (past : Known₁) → New₁ past → List (Item 𝓤) → List (Item 𝓤)
-      Left₁ p past new Γ = ‵ (fres (x₅ .name) (u32 .coded .code (new .0))) ∷ ‵ (flft κ₀ q₀) ∷ ‵ (flft κ₁ q₁) ∷ ‵ (flft κ₂ q₂)
-          ∷ ‵ (flft κ₃ q₃) ∷ ‵ (flft κ₄ q₄) ∷ ‵ (flft κ₅ q₅) ∷ ‵ (fat fullShare (tyRef erased mut (tyInt w32)) (p 7) 0 (s₅))
-          ∷ ‵ (fat fullShare (tyRef (named 5) mut (tyInt w32)) (p 6) 0 (s₅))
+      abbrev Leaves₁ : (ℕ → ℕ) → (past : Known₁) → New₁ past → List (Item 𝓤) → List (Item 𝓤)
+      Leaves₁ p past new Γ = ‵ (fres (x₅ .name) (u32 .coded .code (new .0))) ∷ ‵ (flft κ₀ q₀) ∷ ‵ (flft κ₁ q₁)
+          ∷ ‵ (flft κ₂ q₂) ∷ ‵ (flft κ₃ q₃) ∷ ‵ (flft κ₄ q₄) ∷ ‵ (flft κ₅ q₅)
+          ∷ ‵ (fat fullShare (tyRef erased mut (tyInt w32)) (p 7) 0 (s₅)) ∷ ‵ (fat fullShare (tyRef (named 5) mut (tyInt w32)) (p 6) 0 (s₅))
           ∷ ‵ (fat fullShare (sliceTy (tyRef (named 4) imm (tyInt w32))) (p 5) 0 (s₄))
           ∷ ‵ (fat fullShare (sliceTy (tyRef (named 3) imm (pointee (R .written)))) (p 4) 0 (s₃))
           ∷ ‵ (fat fullShare (sliceTy (tyRef (named 2) imm (tyInt w8))) (p 3) 0 (s₂))
@@ -344,78 +345,95 @@ module _ {M : Type 1} (𝓤 : URA M) (H : Heap 𝓤) (A : Atoms 𝓤) (W : Given
           ∷ Γ
 
       part₁ : {K : Type 0} {Γ : List (Item 𝓤)} → K → (p : ℕ → ℕ) (past : Known₁)
-          → ((new : New₁ past) → Seq K W (Left₁ p past new Γ) (runs C Λ (En p) rest₂ (atRet (En p) Post)))
-          → Seq K W (Had₁ p past Γ) (runs C Λ (En p) rest₁ (atRet (En p) Post))
-      unfolding rest₁
-      part₁ {Γ = Γ} t p past on = record { prf =
-          qed W (Had₁ p past Γ) ∵ exec ! C Λ (En p) rest₁ (atRet (En p) Post) $
-          assigns ! {v = s₅} (addr ! (from ! (hop ! (look ! 13 refl) (stop !)))) (from ! (stop !)) (init ! 12 refl (tt, tt)) $
-          move ! (0 ∷ 6 ∷ 1 ∷ 7 ∷ 2 ∷ 8 ∷ 3 ∷ 9 ∷ 4 ∷ 10 ∷ 5 ∷ 11 ∷ []) $ group ! 12 $
-              calls-fn ! fm call.ended (call.clauses 𝓤 H A at-mem run) (known) (to-call  )
-              (λ r ws-r. Gives placeCode (λ a. PlacePromise (x₀ .now) (partsOf (x₁ .now) (x₂ .now) (x₃ .now) (x₄ .now)) a
-              (ws-r .1 .1 .1 .1 .1 .0)) r) (‵ (flft κ₀ q₀) ⊛ ‵ Own₀ ⊛ ‵ (flft κ₁ q₁) ⊛ ‵ Own₁ ⊛ ‵ (flft κ₂ q₂) ⊛ ‵
-              Own₂ ⊛ ‵ (flft κ₃ q₃) ⊛ ‵ Own₃ ⊛ ‵ (flft κ₄ q₄) ⊛ ‵ Own₄ ⊛ ‵ (flft κ₅ q₅) ⊛ ‵ Own₅)
-          (asks-call   ) (λ r ws-r. id⊢ 𝓤 _)
-          (and-then ! (load ! (from ! (stop !)) (look ! 7 refl))
-          (and-then ! (load ! (from ! (stop !)) (look ! 6 refl))
-          (and-then ! (load ! (from ! (stop !)) (look ! 5 refl))
-          (and-then ! (load ! (from ! (stop !)) (look ! 4 refl))
-          (and-then ! (load ! (from ! (stop !)) (look ! 3 refl)) (and-then ! (load ! (from ! (stop !)) (look ! 1 refl)) (no-more !)))))))
-          (λ r w-r ws-r e-r is-r. land ! (from ! (stop !)) (init ! 9 refl (sint-lawful 𝓤 H A W w32 .typed r _ is-r .0)) $
-          spread W (‵ (flft κ₀ q₀)) (‵ (flft κ₁ q₁) ∷ ‵ (flft κ₂ q₂) ∷ ‵ (flft κ₃ q₃) ∷ ‵ (flft κ₄ q₄)
-              ∷ ‵ (flft κ₅ q₅) ∷ ‵ ftrue ∷ []) (id⊢ 𝓤 _) $ move ! (7 ∷ []) $
-              spread W (‵ ftrue) (‵ ftrue ∷ ‵ ftrue ∷ ‵ ftrue ∷ ‵ ftrue ∷ ‵ (fres (x₅ .name) (u32 .coded .code (ws-r .1 .1 .1 .1 .1 .0)))
-              ∷ ‵ ftrue ∷ []) (id⊢ 𝓤 _) $ move ! (13 ∷ 6 ∷ 0 ∷ 1 ∷ 2 ∷ 3 ∷ 4 ∷ []) $ group ! 7 $ drop ! $
-          -- [fin5; tok0; tok1; tok2; tok3; tok4; tok5; the locals]
-          same ! (on ((ws-r .1 .1 .1 .1 .1 .0), r, w-r, e-r, is-r))) }
+          → ((new : New₁ past) → Seq K W (Leaves₁ p past new Γ) (runs C Λ (En p) (behind 2 (code.function .body)) (atRet (En p) Post)))
+          → Seq K W (Has₁ p past Γ) (runs C Λ (En p) (behind 0 (code.function .body)) (atRet (En p) Post))
+      part₁ {Γ = Γ} t p past on = record {
+        prf =
+            qed W (Has₁ p past Γ) ∵ exec ! C Λ (En p) (behind 0 (code.function .body)) (atRet (En p) Post) $
+            assigns ! {v = s₅} (addr ! (from ! (hop ! (look ! 13 refl) (stop !)))) (from ! (stop !)) (init ! 12 refl (tt, tt)) $
+            move ! (0 ∷ 6 ∷ 1 ∷ 7 ∷ 2 ∷ 8 ∷ 3 ∷ 9 ∷ 4 ∷ 10 ∷ 5 ∷ 11 ∷ []) $ group ! 12 $
+            calls-fn ! fm call.ended (call.clauses 𝓤 H A at-mem run) (known) (to-call)
+            (λ r ws-r. Gives placeCode (λ a. PlacePromise (x₀ .now) (partsOf (x₁ .now) (x₂ .now) (x₃ .now) (x₄ .now)) a
+            (ws-r .1 .1 .1 .1 .1 .0)) r) (‵ (flft κ₀ q₀) ⊛ ‵ Own₀ ⊛ ‵ (flft κ₁ q₁) ⊛ ‵ Own₁ ⊛ ‵ (flft κ₂ q₂) ⊛ ‵
+            Own₂ ⊛ ‵ (flft κ₃ q₃) ⊛ ‵ Own₃ ⊛ ‵ (flft κ₄ q₄) ⊛ ‵ Own₄ ⊛ ‵ (flft κ₅ q₅) ⊛ ‵ Own₅)
+            (asks-call) (λ r ws-r. id⊢ 𝓤 _)
+            (and-then ! (load ! (from ! (stop !)) (look ! 7 refl))
+            (and-then ! (load ! (from ! (stop !)) (look ! 6 refl))
+            (and-then ! (load ! (from ! (stop !)) (look ! 5 refl))
+            (and-then ! (load ! (from ! (stop !)) (look ! 4 refl))
+            (and-then ! (load ! (from ! (stop !)) (look ! 3 refl)) (and-then ! (load ! (from ! (stop !)) (look ! 1 refl)) (no-more !)))))))
+            (λ r w-r ws-r e-r is-r. land ! (from ! (stop !)) (init ! 9 refl (sint-lawful 𝓤 H A W w32 .typed r _ is-r .0)) $
+            spread W (‵ (flft κ₀ q₀)) (‵ (flft κ₁ q₁) ∷ ‵ (flft κ₂ q₂) ∷ ‵ (flft κ₃ q₃) ∷ ‵ (flft κ₄ q₄)
+            ∷ ‵ (flft κ₅ q₅) ∷ ‵ ftrue ∷ []) (id⊢ 𝓤 _) $ move ! (7 ∷ []) $
+            spread W (‵ ftrue) (‵ ftrue ∷ ‵ ftrue ∷ ‵ ftrue ∷ ‵ ftrue ∷ ‵ (fres (x₅ .name) (u32 .coded .code (ws-r .1 .1 .1 .1 .1 .0)))
+            ∷ ‵ ftrue ∷ []) (id⊢ 𝓤 _) $ move ! (13 ∷ 6 ∷ 0 ∷ 1 ∷ 2 ∷ 3 ∷ 4 ∷ []) $ group ! 7 $ drop ! $
+            -- [fin5; tok0; tok1; tok2; tok3; tok4; tok5; the locals]
+            same ! (on ((ws-r .1 .1 .1 .1 .1 .0), r, w-r, e-r, is-r)));
+      }
 
       walk : ent 𝓤 (onEntry 𝓤 H A f.signature (κ₀, (κ₁, (κ₂, (κ₃, (κ₄, (κ₅, tt)))))) (q₀, (q₁, (q₂, (q₃, (q₄, (q₅, tt))))))
           x at) (WpFn 𝓤 H C Λ code.function (s₀ ∷ s₁ ∷ s₂ ∷ s₃ ∷ s₄ ∷ s₅ ∷ []) Post)
-      unfolding rest₁ rest₂
       walk =
           qed W ((‵ (flft κ₀ q₀) ⊛ ‵ (flft κ₁ q₁) ⊛ ‵ (flft κ₂ q₂) ⊛ ‵ (flft κ₃ q₃) ⊛ ‵ (flft κ₄ q₄) ⊛ ‵
-              (flft κ₅ q₅) ⊛ ‵ ftrue) ∷ ‵ (owns (ShrRef (named 0) κ₀ L ∷ ShrSlice (named 1) κ₁ u8 ∷ ShrSlice (named 2) κ₂ u8
-              ∷ ShrSlice (named 3) κ₃ R ∷ ShrSlice (named 4) κ₄ u32 ∷ MutRef (named 5) κ₅ u32 ∷ []) x at) ∷ []) ∵
-              enter ! C Λ code.function (s₀ ∷ s₁ ∷ s₂ ∷ s₃ ∷ s₄ ∷ s₅ ∷ []) _ $
+          (flft κ₅ q₅) ⊛ ‵ ftrue) ∷ ‵ (owns (ShrRef (named 0) κ₀ L ∷ ShrSlice (named 1) κ₁ u8 ∷ ShrSlice (named 2) κ₂ u8
+          ∷ ShrSlice (named 3) κ₃ R ∷ ShrSlice (named 4) κ₄ u32 ∷ MutRef (named 5) κ₅ u32 ∷ []) x at) ∷ []) ∵
+          enter ! C Λ code.function (s₀ ∷ s₁ ∷ s₂ ∷ s₃ ∷ s₄ ∷ s₅ ∷ []) _ $
           allocates ! (code.function .locals) (λ p. params1 ! $
           pass1 ! (init ! 7 refl (tt, tt)) $ pass1 ! (init ! 6 refl (tt, (tt, (record { fits = room₁ .0 }, tt)))) $
-              pass1 ! (init ! 5 refl (tt, (tt, (record { fits = room₂ .0 }, tt)))) $
-              pass1 ! (init ! 4 refl (tt, (tt, (record { fits = room₃ .0 }, tt)))) $
-              pass1 ! (init ! 3 refl (tt, (tt, (record { fits = room₄ .0 }, tt)))) $ pass1 ! (init ! 2 refl (tt, tt)) $ pass0 ! $
+          pass1 ! (init ! 5 refl (tt, (tt, (record { fits = room₂ .0 }, tt)))) $
+          pass1 ! (init ! 4 refl (tt, (tt, (record { fits = room₃ .0 }, tt)))) $
+          pass1 ! (init ! 3 refl (tt, (tt, (record { fits = room₄ .0 }, tt)))) $ pass1 ! (init ! 2 refl (tt, tt)) $ pass0 ! $
           move ! (10 ∷ []) $ spread W (‵ (ShrRef (named 0) κ₀ L .own (x₀) (s₀ ∷ [])))
-              (‵ (ShrSlice (named 1) κ₁ u8 .own (x₁) (s₁ ∷ [])) ∷ ‵ (ShrSlice (named 2) κ₂ u8 .own (x₂) (s₂ ∷ []))
-              ∷ ‵ (ShrSlice (named 3) κ₃ R .own (x₃) (s₃ ∷ [])) ∷ ‵ (ShrSlice (named 4) κ₄ u32 .own (x₄) (s₄ ∷ []))
-              ∷ ‵ (MutRef (named 5) κ₅ u32 .own (x₅) (s₅ ∷ [])) ∷ ‵ ftrue ∷ []) (id⊢ 𝓤 _) $ move ! (16 ∷ []) $
-              spread W (‵ (flft κ₀ q₀)) (‵ (flft κ₁ q₁) ∷ ‵ (flft κ₂ q₂) ∷ ‵ (flft κ₃ q₃) ∷ ‵ (flft κ₄ q₄)
-              ∷ ‵ (flft κ₅ q₅) ∷ ‵ ftrue ∷ []) (id⊢ 𝓤 _) $ move ! (13 ∷ 6 ∷ []) $ drop ! $ drop ! $
+          (‵ (ShrSlice (named 1) κ₁ u8 .own (x₁) (s₁ ∷ [])) ∷ ‵ (ShrSlice (named 2) κ₂ u8 .own (x₂) (s₂ ∷ []))
+          ∷ ‵ (ShrSlice (named 3) κ₃ R .own (x₃) (s₃ ∷ [])) ∷ ‵ (ShrSlice (named 4) κ₄ u32 .own (x₄) (s₄ ∷ []))
+          ∷ ‵ (MutRef (named 5) κ₅ u32 .own (x₅) (s₅ ∷ [])) ∷ ‵ ftrue ∷ []) (id⊢ 𝓤 _) $ move ! (16 ∷ []) $
+          spread W (‵ (flft κ₀ q₀)) (‵ (flft κ₁ q₁) ∷ ‵ (flft κ₂ q₂) ∷ ‵ (flft κ₃ q₃) ∷ ‵ (flft κ₄ q₄)
+          ∷ ‵ (flft κ₅ q₅) ∷ ‵ ftrue ∷ []) (id⊢ 𝓤 _) $ move ! (13 ∷ 6 ∷ []) $ drop ! $ drop ! $
           -- [tok0; tok1; tok2; tok3; tok4; tok5; own0; own1; own2; own3; own4; own5; deaths; the locals]
           move ! (0 ∷ 1 ∷ 2 ∷ 3 ∷ 4 ∷ 5 ∷ 6 ∷ 7 ∷ 8 ∷ 9 ∷ 10 ∷ 11 ∷ 13 ∷ 14 ∷ 15 ∷ 16 ∷ 17 ∷ 18 ∷ 19 ∷ 20 ∷ []) $
-              part₁ ! p (tt) (λ new₁.
+          part₁ ! p (tt) (λ new₁.
           -- [fin5; tok0; tok1; tok2; tok3; tok4; tok5; deaths; the locals]
           returns ! (look ! 14 refl) $
           move ! (15 ∷ 14 ∷ 13 ∷ 12 ∷ 11 ∷ 10 ∷ 9 ∷ 8 ∷ 7 ∷ []) $
-              frees-all ! (code.function .locals) p (holds ((new₁ .2)) ∷ holds (s₀) ∷ holds (s₁) ∷ holds (s₂) ∷ holds (s₃) ∷ holds (s₄)
-              ∷ holds (s₅) ∷ holds (s₅) ∷ []) $
-          move ! (1 ∷ 2 ∷ 3 ∷ 4 ∷ 5 ∷ 0 ∷ 6 ∷ []) $ by ! (exits (new₁ .1) (new₁ .2)  ((new₁ .0)) ((new₁ .3))  (new₁ .4))))
+          frees-all ! (code.function .locals) p (holds ((new₁ .2)) ∷ holds (s₀) ∷ holds (s₁) ∷ holds (s₂) ∷ holds (s₃) ∷ holds (s₄)
+          ∷ holds (s₅) ∷ holds (s₅) ∷ []) $
+          move ! (1 ∷ 2 ∷ 3 ∷ 4 ∷ 5 ∷ 0 ∷ 6 ∷ []) $ by ! (exits (new₁ .1) (new₁ .2) ((new₁ .0)) ((new₁ .3)) (new₁ .4))))
 
   f-meets : (𝓣 : Tables 𝓤 H) → Known (𝓣 .C)
       → Meets 𝓤 H A f.signature (WpFn 𝓤 H (𝓣 .C) (𝓣 .Λ) code.function) (f.spec 𝓤 H A at-mem run)
   unfolding Post
-  f-meets 𝓣 known = walk-meets 𝓤 H A f.ended stayed W
-      (goes-dropped 𝓤 H A W 6 (shrRefTo (0 ∷ []) tt (plain (λ _. L))) yes (λ κs x f. refl),
-      (goes-dropped 𝓤 H A W 6 (shrSliceOf (1 ∷ []) tt (plain (λ _. u8))) yes (λ κs x f. refl),
-      (goes-dropped 𝓤 H A W 6 (shrSliceOf (2 ∷ []) tt (plain (λ _. u8))) yes (λ κs x f. refl),
-      (goes-dropped 𝓤 H A W 6 (shrSliceOf (3 ∷ []) tt (plain (λ _. R))) yes (λ κs x f. refl),
-      (goes-dropped 𝓤 H A W 6 (shrSliceOf (4 ∷ []) tt (plain (λ _. u32))) yes (λ κs x f. refl),
-      (goes-gave-ref 𝓤 H A W 6 5 tt (plain (λ _. u32)), tt))))))
+  f-meets 𝓣 known = walk-meets 𝓤 H A f.ended stayed W (
+    goes-dropped 𝓤 H A W 6 (shrRefTo (0 ∷ []) tt (plain (λ _. L))) yes (λ κs x f. refl),
+    (
+      goes-dropped 𝓤 H A W 6 (shrSliceOf (1 ∷ []) tt (plain (λ _. u8))) yes (λ κs x f. refl),
+      (
+        goes-dropped 𝓤 H A W 6 (shrSliceOf (2 ∷ []) tt (plain (λ _. u8))) yes (λ κs x f. refl),
+        (
+          goes-dropped 𝓤 H A W 6 (shrSliceOf (3 ∷ []) tt (plain (λ _. R))) yes (λ κs x f. refl),
+          (
+            goes-dropped 𝓤 H A W 6 (shrSliceOf (4 ∷ []) tt (plain (λ _. u32))) yes (λ κs x f. refl),
+            (goes-gave-ref 𝓤 H A W 6 5 tt (plain (λ _. u32)), tt),
+          ),
+        ),
+      ),
+    ),
+  )
       (f.clauses 𝓤 H A at-mem run) (WpFn 𝓤 H (𝓣 .C) (𝓣 .Λ) code.function) (WpFn-mono 𝓤 H (W .laws) 𝓣 code.function)
       (walked 𝓤 H A f.ended stayed (f.clauses 𝓤 H A at-mem run) (WpFn 𝓤 H (𝓣 .C) (𝓣 .Λ) code.function)
       (λ κs. (ptr-vals, (slice-vals, (slice-vals, (slice-vals, (slice-vals, (ptr-vals, tt)))))))
-      (λ κs. (shr-tells (named 0) (κs .0) L,
-      (shr-slice-tells (named 1) (κs .1 .0) u8,
-      (shr-slice-tells (named 2) (κs .1 .1 .0) u8,
-      (shr-slice-tells (named 3) (κs .1 .1 .1 .0) R,
-      (shr-slice-tells (named 4) (κs .1 .1 .1 .1 .0) u32, (mut-tells (named 5) (κs .1 .1 .1 .1 .1 .0) u32, tt)))))))
+      (λ κs. (
+        shr-tells (named 0) (κs .0) L,
+        (
+          shr-slice-tells (named 1) (κs .1 .0) u8,
+          (
+            shr-slice-tells (named 2) (κs .1 .1 .0) u8,
+            (
+              shr-slice-tells (named 3) (κs .1 .1 .1 .0) R,
+              (shr-slice-tells (named 4) (κs .1 .1 .1 .1 .0) u32, (mut-tells (named 5) (κs .1 .1 .1 .1 .1 .0) u32, tt)),
+            ),
+          ),
+        ),
+      ))
       (λ κs qs bounds a g are. via 𝓤 _ (fst∗ 𝓤 _ (emp 𝓤))
       (walk (κs .0) (κs .1 .0) (κs .1 .1 .0) (κs .1 .1 .1 .0) (κs .1 .1 .1 .1 .0) (κs .1 .1 .1 .1 .1 .0) (qs .0) (qs .1 .0) (qs .1 .1 .0)
       (qs .1 .1 .1 .0) (qs .1 .1 .1 .1 .0) (qs .1 .1 .1 .1 .1 .0) (a .0) (a .1 .0) (are .1 .0 .0 .1) (a .1 .1 .0) (are .1 .1 .0 .0 .1)
@@ -428,6 +446,6 @@ ampferweg-show-spec 𝓤 H 𝓜 𝓖 𝓡 =
     entered 𝓤 H (tripleOf 𝓤 H (𝓖 .A) f.signature (f.spec 𝓤 H (𝓖 .A) (𝓜 .mem) (𝓡 .run)))
     (tables 𝓤 H 𝓜 𝓡 code.env .C) (tables 𝓤 H 𝓜 𝓡 code.env .Λ) #f code.function (code.unfolded 𝓤 H 𝓜 𝓡)
     (f-meets 𝓤 H (𝓖 .A) (givenOf 𝓤 H 𝓜 𝓖) (𝓜 .mem) (𝓡 .run) (tablesOf 𝓤 H 𝓜 (tables 𝓤 H 𝓜 𝓡 code.env)) (
-      cited 𝓤 H (tripleOf 𝓤 H (𝓖 .A) call.signature (call.spec 𝓤 H (𝓖 .A) (𝓜 .mem) (𝓡 .run))) 𝓜 𝓡 code.env call-def.name
-          call-def.routine code.calls-asks·show (call-thm.met 𝓤 H 𝓜 𝓖 𝓡)
+    cited 𝓤 H (tripleOf 𝓤 H (𝓖 .A) call.signature (call.spec 𝓤 H (𝓖 .A) (𝓜 .mem) (𝓡 .run))) 𝓜 𝓡 code.env call-def.name
+    call-def.routine code.calls-asks·show (call-thm.met 𝓤 H 𝓜 𝓖 𝓡)
     ))

@@ -79,7 +79,6 @@ use Rattle.records.proofs.Walk.{
   init,
   store,
   store-raw,
-  forget,
   stop,
   hop,
   fld,
@@ -93,13 +92,9 @@ use Rattle.records.proofs.Walk.{
   assigns,
   returns,
   enter,
-  alloc1,
-  alloc0,
   params1,
   pass1,
   pass0,
-  free1,
-  free0,
   land,
   WpFn-mono,
   FmC,
@@ -150,7 +145,7 @@ use Rattle.records.proofs.Shared.{LentShared, lends-shared, shared-back}
 use Rattle.records.proofs.Rows.{R}
 use Rattle.lending.proofs.Fields.{ref-at, lend-mut, back-mut, lend-shr, back-shr, cell-out, cell-in, tells-length, lend-whole, back-whole}
 use Rattle.lending.proofs.Locals.{envAt, allocates, frees-all, holds, empty}
-use Rattle.lending.proofs.Parts.{behind, taking, spread, same}
+use Rattle.lending.proofs.Parts.{behind, spread, same}
 use Rattle.lending.proofs.Block.{
   L,
   Open,
@@ -176,8 +171,8 @@ use Rattle.control.specs.declared.Link.{Link}
 use Rattle.timing.specs.declared.Record.{Record}
 use lib.IntN.{ℤ}
 use mir.Syntax.{w16}
-use base.Fml.{fres, froom, fdies, fobor, fsep, feq}
-use mir.Syntax.{Body, return, imm, mut, erased, tyInt, tyArray, tyRef, tyPtr, tyUnit, tyBool}
+use base.Fml.{fres, froom, fobor, fsep, feq}
+use mir.Syntax.{imm, mut, erased, tyInt, tyArray, tyRef, tyPtr, tyUnit, tyBool}
 use denote.Slice.{sliceTy}
 use denote.Memory.{pointee}
 use Rattle.timing.proofs.Record.Laws as record-laws
@@ -259,42 +254,13 @@ use Rattle.asks.proofs.check.Statement as stated
 use Rattle.asks.proofs.check.Code as code
 
 abbrev stayed : Stays (f.ended .signature .params) (f.ended .kept)
-stayed = (stay-dropped _ yes, (stay-dropped _ yes,
-    (stay-dropped _ yes, (stay-dropped _ yes, (stay-dropped _ yes, (stay-dropped _ yes, (gave-ref (5 ∷ []) tt (plain (λ _. u32)), tt)))))))
-
--- the rest of the body where each part begins, and behind the last
-unfoldable rest₁₁ : Body
-rest₁₁ = return
-
-unfoldable rest₁₀ : Body
-rest₁₀ = taking 2 (behind 26 (code.function .body)) rest₁₁
-
-unfoldable rest₉ : Body
-rest₉ = taking 7 (behind 19 (code.function .body)) rest₁₀
-
-unfoldable rest₈ : Body
-rest₈ = taking 1 (behind 18 (code.function .body)) rest₉
-
-unfoldable rest₇ : Body
-rest₇ = taking 1 (behind 17 (code.function .body)) rest₈
-
-unfoldable rest₆ : Body
-rest₆ = taking 4 (behind 13 (code.function .body)) rest₇
-
-unfoldable rest₅ : Body
-rest₅ = taking 1 (behind 12 (code.function .body)) rest₆
-
-unfoldable rest₄ : Body
-rest₄ = taking 5 (behind 7 (code.function .body)) rest₅
-
-unfoldable rest₃ : Body
-rest₃ = taking 4 (behind 3 (code.function .body)) rest₄
-
-unfoldable rest₂ : Body
-rest₂ = taking 2 (behind 1 (code.function .body)) rest₃
-
-unfoldable rest₁ : Body
-rest₁ = taking 1 (behind 0 (code.function .body)) rest₂
+stayed = (
+  stay-dropped _ yes,
+  (
+    stay-dropped _ yes,
+    (stay-dropped _ yes, (stay-dropped _ yes, (stay-dropped _ yes, (stay-dropped _ yes, (gave-ref (5 ∷ []) tt (plain (λ _. u32)), tt))))),
+  ),
+)
 
 module _ {M : Type 1} (𝓤 : URA M) (H : Heap 𝓤) (A : Atoms 𝓤) (W : Given 𝓤 H A) (at-mem : Memory → SProp 𝓤) (run : Routine → Fun 𝓤) where
   -- what is known of the callees
@@ -355,35 +321,47 @@ module _ {M : Type 1} (𝓤 : URA M) (H : Heap 𝓤) (A : Atoms 𝓤) (W : Given
     -- what check is called at, and that what it asks is had
     abbrev to-check : (p-sends : ℕ) (α-sends : ℕ) (δ-sends : GName) (f-sends : (List ℕ)) (p-receives : ℕ) (α-receives : ℕ)
         (δ-receives : GName) (f-receives : (List ℕ)) → tripleOf 𝓤 H A check.signature (check.spec 𝓤 H A at-mem run) .Ghost
-    to-check p-sends α-sends δ-sends f-sends p-receives α-receives δ-receives f-receives =
-        (((κ₀, ((α-sends ∷ []), ((α-receives ∷ []), tt))), (q₀, (fullShare, (fullShare, tt))), tt,
+    to-check p-sends α-sends δ-sends f-sends p-receives α-receives δ-receives f-receives = (
+      (
+        (κ₀, ((α-sends ∷ []), ((α-receives ∷ []), tt))),
+        (q₀, (fullShare, (fullShare, tt))),
+        tt,
         (ref-at b o γ h, ((ref-at p-sends 0 δ-sends f-sends), ((ref-at p-receives 0 δ-receives f-receives), tt))),
-        (vptr b o ∷ [], ((vptr p-sends 0) ∷ [], ((vptr p-receives 0) ∷ [], tt)))), tt)
+        (vptr b o ∷ [], ((vptr p-sends 0) ∷ [], ((vptr p-receives 0) ∷ [], tt))),
+      ),
+      tt,
+    )
 
     asks-check : (p-sends : ℕ) (α-sends : ℕ) (δ-sends : GName) (f-sends : (List ℕ)) (p-receives : ℕ) (α-receives : ℕ) (δ-receives : GName)
-        (f-receives : (List ℕ)) →  ((f-sends ≡ none) × (f-receives ≡ none))
+        (f-receives : (List ℕ)) → ((f-sends ≡ none) × (f-receives ≡ none))
         → ent 𝓤 (⋆ 𝓤 H A (‵ (flft κ₀ q₀) ∷ ‵ (link-shr κ₀ b o γ h) ∷ ‵ (flft (α-sends ∷ []) fullShare)
         ∷ ‵ (MutRef (named 0) (α-sends ∷ []) (Array u8 256) .own (ref-at p-sends 0 δ-sends f-sends) ((vptr p-sends 0) ∷ []))
         ∷ ‵ (flft (α-receives ∷ []) fullShare)
         ∷ ‵ (MutRef (named 0) (α-receives ∷ []) (Array u8 256) .own (ref-at p-receives 0 δ-receives f-receives) ((vptr p-receives 0) ∷ []))
         ∷ [])) (tripleOf 𝓤 H A check.signature (check.spec 𝓤 H A at-mem run) .pre
         (to-check p-sends α-sends δ-sends f-sends p-receives α-receives δ-receives f-receives))
-    asks-check p-sends α-sends δ-sends f-sends p-receives α-receives δ-receives f-receives  req =
+    asks-check p-sends α-sends δ-sends f-sends p-receives α-receives δ-receives f-receives req =
         qed W (‵ (flft κ₀ q₀) ∷ ‵ (link-shr κ₀ b o γ h) ∷ ‵ (flft (α-sends ∷ []) fullShare)
-            ∷ ‵ (MutRef (named 0) (α-sends ∷ []) (Array u8 256) .own (ref-at p-sends 0 δ-sends f-sends) ((vptr p-sends 0) ∷ []))
-            ∷ ‵ (flft (α-receives ∷ []) fullShare)
-            ∷ ‵ (MutRef (named 0) (α-receives ∷ []) (Array u8 256) .own (ref-at p-receives 0 δ-receives f-receives)
-            ((vptr p-receives 0) ∷ [])) ∷ []) ∵ says ! req $ nothing ! $ move ! (5 ∷ 0 ∷ []) $ join ! $ move ! (3 ∷ 0 ∷ []) $ join ! $
-            move ! (1 ∷ 0 ∷ []) $ join ! $ nothing ! $ move ! (4 ∷ 0 ∷ []) $ fjoin ! $ move ! (3 ∷ 0 ∷ []) $ fjoin ! $ move ! (2 ∷ 0 ∷ []) $
-            fjoin ! $ move ! (1 ∷ 0 ∷ []) $ done !
+        ∷ ‵ (MutRef (named 0) (α-sends ∷ []) (Array u8 256) .own (ref-at p-sends 0 δ-sends f-sends) ((vptr p-sends 0) ∷ []))
+        ∷ ‵ (flft (α-receives ∷ []) fullShare)
+        ∷ ‵ (MutRef (named 0) (α-receives ∷ []) (Array u8 256) .own (ref-at p-receives 0 δ-receives f-receives)
+        ((vptr p-receives 0) ∷ [])) ∷ []) ∵ says ! req $ nothing ! $ move ! (5 ∷ 0 ∷ []) $ join ! $ move ! (3 ∷ 0 ∷ []) $ join ! $
+        move ! (1 ∷ 0 ∷ []) $ join ! $ nothing ! $ move ! (4 ∷ 0 ∷ []) $ fjoin ! $ move ! (3 ∷ 0 ∷ []) $ fjoin ! $ move ! (2 ∷ 0 ∷ []) $
+        fjoin ! $ move ! (1 ∷ 0 ∷ []) $ done !
 
     -- what gather is called at, and that what it asks is had
     abbrev to-gather : (α-outstanding : ℕ) (δ-outstanding : GName) (f-outstanding : (List ℕ)) (p-found : ℕ) (α-found : ℕ) (δ-found : GName)
         (f-found : (List ℕ)) (y₀ : ℕ) (u₀ : Val) → tripleOf 𝓤 H A gather.signature (gather.spec 𝓤 H A at-mem run) .Ghost
-    to-gather α-outstanding δ-outstanding f-outstanding p-found α-found δ-found f-found y₀ u₀ =
-        (((κ₃, ((α-outstanding ∷ []), ((α-found ∷ []), tt))), (q₃, (fullShare, (fullShare, tt))), tt,
+    to-gather α-outstanding δ-outstanding f-outstanding p-found α-found δ-found f-found y₀ u₀ = (
+      (
+        (κ₃, ((α-outstanding ∷ []), ((α-found ∷ []), tt))),
+        (q₃, (fullShare, (fullShare, tt))),
+        tt,
         (x₃, ((ref-at b (o + 636) δ-outstanding f-outstanding), (y₀, ((ref-at p-found 0 δ-found f-found), tt)))),
-        (s₃ ∷ [], ((vptr b (o + 636)) ∷ [], (u₀ ∷ [], ((vptr p-found 0) ∷ [], tt))))), tt)
+        (s₃ ∷ [], ((vptr b (o + 636)) ∷ [], (u₀ ∷ [], ((vptr p-found 0) ∷ [], tt)))),
+      ),
+      tt,
+    )
 
     asks-gather : (α-outstanding : ℕ) (δ-outstanding : GName) (f-outstanding : (List ℕ)) (p-found : ℕ) (α-found : ℕ) (δ-found : GName)
         (f-found : (List ℕ)) → (y₀ : ℕ) (u₀ : Val) → Is usize y₀ (u₀ ∷ [])
@@ -396,22 +374,22 @@ module _ {M : Type 1} (𝓤 : URA M) (H : Heap 𝓤) (A : Atoms 𝓤) (W : Given
         (to-gather α-outstanding δ-outstanding f-outstanding p-found α-found δ-found f-found y₀ u₀))
     asks-gather α-outstanding δ-outstanding f-outstanding p-found α-found δ-found f-found y₀ u₀ is₀ req =
         qed W (‵ (flft κ₃ q₃) ∷ ‵ Own₃ ∷ ‵ (flft (α-outstanding ∷ []) fullShare)
-            ∷ ‵ (ShrRef (named 0) (α-outstanding ∷ []) (Array u32 32) .own (ref-at b (o + 636) δ-outstanding f-outstanding)
-            ((vptr b (o + 636)) ∷ [])) ∷ ‵ (flft (α-found ∷ []) fullShare)
-            ∷ ‵ (MutRef (named 0) (α-found ∷ []) (Array u32 128) .own (ref-at p-found 0 δ-found f-found) ((vptr p-found 0) ∷ [])) ∷ []) ∵
-            says ! req $ nothing ! $ move ! (5 ∷ 0 ∷ []) $ join ! $ move ! (3 ∷ 0 ∷ []) $ join ! $ move ! (1 ∷ 0 ∷ []) $ join ! $
-            nothing ! $ move ! (4 ∷ 0 ∷ []) $ fjoin ! $ owned ! usize (Is usize) (uint-makes 𝓤 H A W w64) y₀ _ is₀ $ fjoin ! $
-            move ! (3 ∷ 0 ∷ []) $ fjoin ! $ move ! (2 ∷ 0 ∷ []) $ fjoin ! $ move ! (1 ∷ 0 ∷ []) $ done !
+        ∷ ‵ (ShrRef (named 0) (α-outstanding ∷ []) (Array u32 32) .own (ref-at b (o + 636) δ-outstanding f-outstanding)
+        ((vptr b (o + 636)) ∷ [])) ∷ ‵ (flft (α-found ∷ []) fullShare)
+        ∷ ‵ (MutRef (named 0) (α-found ∷ []) (Array u32 128) .own (ref-at p-found 0 δ-found f-found) ((vptr p-found 0) ∷ [])) ∷ []) ∵
+        says ! req $ nothing ! $ move ! (5 ∷ 0 ∷ []) $ join ! $ move ! (3 ∷ 0 ∷ []) $ join ! $ move ! (1 ∷ 0 ∷ []) $ join ! $
+        nothing ! $ move ! (4 ∷ 0 ∷ []) $ fjoin ! $ owned ! usize (Is usize) (uint-makes 𝓤 H A W w64) y₀ _ is₀ $ fjoin ! $
+        move ! (3 ∷ 0 ∷ []) $ fjoin ! $ move ! (2 ∷ 0 ∷ []) $ fjoin ! $ move ! (1 ∷ 0 ∷ []) $ done !
 
     -- what table-len is called at, and that what it asks is had
     abbrev to-table-len : tripleOf 𝓤 H A table-len.signature (table-len.spec 𝓤 H A at-mem run) .Ghost
-    to-table-len  = (((κ₃, tt), (q₃, tt), tt, (x₃, tt), (s₃ ∷ [], tt)), tt)
+    to-table-len = (((κ₃, tt), (q₃, tt), tt, (x₃, tt), (s₃ ∷ [], tt)), tt)
 
-    asks-table-len :  ent 𝓤 (⋆ 𝓤 H A (‵ (flft κ₃ q₃) ∷ ‵ Own₃ ∷ []))
-        (tripleOf 𝓤 H A table-len.signature (table-len.spec 𝓤 H A at-mem run) .pre (to-table-len ))
-    asks-table-len    =
+    asks-table-len : ent 𝓤 (⋆ 𝓤 H A (‵ (flft κ₃ q₃) ∷ ‵ Own₃ ∷ []))
+        (tripleOf 𝓤 H A table-len.signature (table-len.spec 𝓤 H A at-mem run) .pre (to-table-len))
+    asks-table-len =
         qed W (‵ (flft κ₃ q₃) ∷ ‵ Own₃ ∷ []) ∵ nothing ! $ move ! (1 ∷ 0 ∷ []) $ join ! $ nothing ! $ move ! (2 ∷ 0 ∷ []) $ fjoin ! $
-            move ! (1 ∷ 0 ∷ []) $ join ! $ nothing ! $ move ! (1 ∷ 0 ∷ []) $ done !
+        move ! (1 ∷ 0 ∷ []) $ join ! $ nothing ! $ move ! (1 ∷ 0 ∷ []) $ done !
 
     -- what core is called at, and that what it asks is had
     abbrev to-core : (p-found : ℕ) (α-found : ℕ) (δ-found : GName) (f-found : (List ℕ)) (α-queued : ℕ) (δ-queued : GName)
@@ -422,25 +400,100 @@ module _ {M : Type 1} (𝓤 : URA M) (H : Heap 𝓤) (A : Atoms 𝓤) (W : Given
         (y₅ : ℕ) (u₅ : Val) (y₆ : ℕ) (u₆ : Val) → tripleOf 𝓤 H A core.signature (core.spec 𝓤 H A at-mem run) .Ghost
     to-core p-found α-found δ-found f-found α-queued δ-queued f-queued α-outstanding δ-outstanding f-outstanding α-transmissions
         δ-transmissions f-transmissions α-ready δ-ready f-ready α-waiting δ-waiting f-waiting α-waiting-numbers δ-waiting-numbers
-        f-waiting-numbers y₀ u₀ y₁ u₁ y₂ u₂ y₃ u₃ y₄ u₄ y₅ u₅ y₆ u₆ =
-        ((((α-found ∷ []), ((α-queued ∷ []),
-        ((α-outstanding ∷ []), ((α-transmissions ∷ []),
-        ((α-ready ∷ []), ((α-waiting ∷ []), ((α-waiting-numbers ∷ []), (κ₁, (κ₂, (κ₄, tt)))))))))),
-        (fullShare, (fullShare, (fullShare, (fullShare, (fullShare, (fullShare, (fullShare, (q₁, (q₂, (q₄, tt)))))))))), tt,
-        (y₀, (y₁, (y₂,
-        (y₃, (y₄, ((ref-at p-found 0 δ-found f-found),
-        (y₅, ((ref-at b (o + 124) δ-queued f-queued),
-        ((ref-at b (o + 636) δ-outstanding f-outstanding),
-        ((ref-at b (o + 764) δ-transmissions f-transmissions),
-        ((ref-at b (o + 796) δ-ready f-ready),
-        ((ref-at b (o + 1308) δ-waiting f-waiting),
-        ((ref-at b (o + 1820) δ-waiting-numbers f-waiting-numbers), (x₁, (x₂, (x₄, (y₆, tt))))))))))))))))),
-        (u₀ ∷ [], (u₁ ∷ [], (u₂ ∷ [], (u₃ ∷ [],
-        (u₄ ∷ [], ((vptr p-found 0) ∷ [],
-        (u₅ ∷ [], ((vptr b (o + 124)) ∷ [],
-        ((vptr b (o + 636)) ∷ [], ((vptr b (o + 764)) ∷ [],
-        ((vptr b (o + 796)) ∷ [], ((vptr b (o + 1308)) ∷ [],
-        ((vptr b (o + 1820)) ∷ [], (s₁ ∷ [], (s₂ ∷ [], (s₄ ∷ [], (u₆ ∷ [], tt)))))))))))))))))), tt)
+        f-waiting-numbers y₀ u₀ y₁ u₁ y₂ u₂ y₃ u₃ y₄ u₄ y₅ u₅ y₆ u₆ = (
+          (
+            (
+              (α-found ∷ []),
+              (
+                (α-queued ∷ []),
+                (
+                  (α-outstanding ∷ []),
+                  (
+                    (α-transmissions ∷ []),
+                    ((α-ready ∷ []), ((α-waiting ∷ []), ((α-waiting-numbers ∷ []), (κ₁, (κ₂, (κ₄, tt)))))),
+                  ),
+                ),
+              ),
+            ),
+            (fullShare, (fullShare, (fullShare, (fullShare, (fullShare, (fullShare, (fullShare, (q₁, (q₂, (q₄, tt)))))))))),
+            tt,
+            (
+              y₀,
+              (
+                y₁,
+                (
+                  y₂,
+                  (
+                    y₃,
+                    (
+                      y₄,
+                      (
+                        (ref-at p-found 0 δ-found f-found),
+                        (
+                          y₅,
+                          (
+                            (ref-at b (o + 124) δ-queued f-queued),
+                            (
+                              (ref-at b (o + 636) δ-outstanding f-outstanding),
+                              (
+                                (ref-at b (o + 764) δ-transmissions f-transmissions),
+                                (
+                                  (ref-at b (o + 796) δ-ready f-ready),
+                                  (
+                                    (ref-at b (o + 1308) δ-waiting f-waiting),
+                                    ((ref-at b (o + 1820) δ-waiting-numbers f-waiting-numbers), (x₁, (x₂, (x₄, (y₆, tt))))),
+                                  ),
+                                ),
+                              ),
+                            ),
+                          ),
+                        ),
+                      ),
+                    ),
+                  ),
+                ),
+              ),
+            ),
+            (
+              u₀ ∷ [],
+              (
+                u₁ ∷ [],
+                (
+                  u₂ ∷ [],
+                  (
+                    u₃ ∷ [],
+                    (
+                      u₄ ∷ [],
+                      (
+                        (vptr p-found 0) ∷ [],
+                        (
+                          u₅ ∷ [],
+                          (
+                            (vptr b (o + 124)) ∷ [],
+                            (
+                              (vptr b (o + 636)) ∷ [],
+                              (
+                                (vptr b (o + 764)) ∷ [],
+                                (
+                                  (vptr b (o + 796)) ∷ [],
+                                  (
+                                    (vptr b (o + 1308)) ∷ [],
+                                    ((vptr b (o + 1820)) ∷ [], (s₁ ∷ [], (s₂ ∷ [], (s₄ ∷ [], (u₆ ∷ [], tt))))),
+                                  ),
+                                ),
+                              ),
+                            ),
+                          ),
+                        ),
+                      ),
+                    ),
+                  ),
+                ),
+              ),
+            ),
+          ),
+          tt,
+        )
 
     asks-core : (p-found : ℕ) (α-found : ℕ) (δ-found : GName) (f-found : (List ℕ)) (α-queued : ℕ) (δ-queued : GName) (f-queued : (List ℕ))
         (α-outstanding : ℕ) (δ-outstanding : GName) (f-outstanding : (List ℕ)) (α-transmissions : ℕ) (δ-transmissions : GName)
@@ -475,33 +528,33 @@ module _ {M : Type 1} (𝓤 : URA M) (H : Heap 𝓤) (A : Atoms 𝓤) (W : Given
         δ-transmissions f-transmissions α-ready δ-ready f-ready α-waiting δ-waiting f-waiting α-waiting-numbers δ-waiting-numbers
         f-waiting-numbers y₀ u₀ is₀ y₁ u₁ is₁ y₂ u₂ is₂ y₃ u₃ is₃ y₄ u₄ is₄ y₅ u₅ is₅ y₆ u₆ is₆ req =
         qed W (‵ (flft (α-found ∷ []) fullShare)
-            ∷ ‵ (ShrRef (named 0) (α-found ∷ []) (Array u32 128) .own (ref-at p-found 0 δ-found f-found) ((vptr p-found 0) ∷ []))
-            ∷ ‵ (flft (α-queued ∷ []) fullShare)
-            ∷ ‵ (ShrRef (named 0) (α-queued ∷ []) (Array u32 128) .own (ref-at b (o + 124) δ-queued f-queued) ((vptr b (o + 124)) ∷ []))
-            ∷ ‵ (flft (α-outstanding ∷ []) fullShare)
-            ∷ ‵ (ShrRef (named 0) (α-outstanding ∷ []) (Array u32 32) .own (ref-at b (o + 636) δ-outstanding f-outstanding)
-            ((vptr b (o + 636)) ∷ [])) ∷ ‵ (flft (α-transmissions ∷ []) fullShare)
-            ∷ ‵ (ShrRef (named 0) (α-transmissions ∷ []) (Array u8 32) .own (ref-at b (o + 764) δ-transmissions f-transmissions)
-            ((vptr b (o + 764)) ∷ [])) ∷ ‵ (flft (α-ready ∷ []) fullShare)
-            ∷ ‵ (ShrRef (named 0) (α-ready ∷ []) (Array u32 128) .own (ref-at b (o + 796) δ-ready f-ready) ((vptr b (o + 796)) ∷ []))
-            ∷ ‵ (flft (α-waiting ∷ []) fullShare)
-            ∷ ‵ (ShrRef (named 0) (α-waiting ∷ []) (Array u32 128) .own (ref-at b (o + 1308) δ-waiting f-waiting)
-            ((vptr b (o + 1308)) ∷ [])) ∷ ‵ (flft (α-waiting-numbers ∷ []) fullShare)
-            ∷ ‵ (ShrRef (named 0) (α-waiting-numbers ∷ []) (Array u32 128) .own (ref-at b (o + 1820) δ-waiting-numbers f-waiting-numbers)
-            ((vptr b (o + 1820)) ∷ [])) ∷ ‵ (flft κ₁ q₁) ∷ ‵ Own₁ ∷ ‵ (flft κ₂ q₂) ∷ ‵ Own₂ ∷ ‵ (flft κ₄ q₄)
-            ∷ ‵ Own₄ ∷ []) ∵ says ! req $ nothing ! $ move ! (19 ∷ 0 ∷ []) $ join ! $ move ! (17 ∷ 0 ∷ []) $ join ! $
-            move ! (15 ∷ 0 ∷ []) $ join ! $ move ! (13 ∷ 0 ∷ []) $ join ! $ move ! (11 ∷ 0 ∷ []) $ join ! $ move ! (9 ∷ 0 ∷ []) $ join ! $
-            move ! (7 ∷ 0 ∷ []) $ join ! $ move ! (5 ∷ 0 ∷ []) $ join ! $ move ! (3 ∷ 0 ∷ []) $ join ! $ move ! (1 ∷ 0 ∷ []) $ join ! $
-            nothing ! $ owned ! u32 (Is u32) (uint-makes 𝓤 H A W w32) y₆ _ is₆ $ fjoin ! $ move ! (11 ∷ 0 ∷ []) $ fjoin ! $
-            move ! (10 ∷ 0 ∷ []) $ fjoin ! $ move ! (9 ∷ 0 ∷ []) $ fjoin ! $ move ! (8 ∷ 0 ∷ []) $ fjoin ! $ move ! (7 ∷ 0 ∷ []) $ fjoin ! $
-            move ! (6 ∷ 0 ∷ []) $ fjoin ! $ move ! (5 ∷ 0 ∷ []) $ fjoin ! $ move ! (4 ∷ 0 ∷ []) $ fjoin ! $ move ! (3 ∷ 0 ∷ []) $ fjoin ! $
-            owned ! usize (Is usize) (uint-makes 𝓤 H A W w64) y₅ _ is₅ $ fjoin ! $ move ! (2 ∷ 0 ∷ []) $ fjoin ! $
-            owned ! Boolean (Is Boolean) (bool-makes 𝓤 H A W) y₄ _ is₄ $ fjoin ! $
-            owned ! clock-row.the-row (Is clock-row.the-row) (LL.makes clock-row.the-type clock-laws.the-plain 𝓤 H A) y₃ _ is₃ $ fjoin ! $
-            owned ! arrival-row.the-row (Is arrival-row.the-row) (LL.makes arrival-row.the-type arrival-laws.the-plain 𝓤 H A) y₂ _ is₂ $
-            fjoin ! $ owned ! flight-row.the-row (Is flight-row.the-row) (LL.makes flight-row.the-type flight-laws.the-plain 𝓤 H A) y₁ _
-            is₁ $ fjoin ! $ owned ! settings-row.the-row (Is settings-row.the-row)
-            (LL.makes settings-row.the-type settings-laws.the-plain 𝓤 H A) y₀ _ is₀ $ fjoin ! $ move ! (1 ∷ 0 ∷ []) $ done !
+        ∷ ‵ (ShrRef (named 0) (α-found ∷ []) (Array u32 128) .own (ref-at p-found 0 δ-found f-found) ((vptr p-found 0) ∷ []))
+        ∷ ‵ (flft (α-queued ∷ []) fullShare)
+        ∷ ‵ (ShrRef (named 0) (α-queued ∷ []) (Array u32 128) .own (ref-at b (o + 124) δ-queued f-queued) ((vptr b (o + 124)) ∷ []))
+        ∷ ‵ (flft (α-outstanding ∷ []) fullShare)
+        ∷ ‵ (ShrRef (named 0) (α-outstanding ∷ []) (Array u32 32) .own (ref-at b (o + 636) δ-outstanding f-outstanding)
+        ((vptr b (o + 636)) ∷ [])) ∷ ‵ (flft (α-transmissions ∷ []) fullShare)
+        ∷ ‵ (ShrRef (named 0) (α-transmissions ∷ []) (Array u8 32) .own (ref-at b (o + 764) δ-transmissions f-transmissions)
+        ((vptr b (o + 764)) ∷ [])) ∷ ‵ (flft (α-ready ∷ []) fullShare)
+        ∷ ‵ (ShrRef (named 0) (α-ready ∷ []) (Array u32 128) .own (ref-at b (o + 796) δ-ready f-ready) ((vptr b (o + 796)) ∷ []))
+        ∷ ‵ (flft (α-waiting ∷ []) fullShare)
+        ∷ ‵ (ShrRef (named 0) (α-waiting ∷ []) (Array u32 128) .own (ref-at b (o + 1308) δ-waiting f-waiting)
+        ((vptr b (o + 1308)) ∷ [])) ∷ ‵ (flft (α-waiting-numbers ∷ []) fullShare)
+        ∷ ‵ (ShrRef (named 0) (α-waiting-numbers ∷ []) (Array u32 128) .own (ref-at b (o + 1820) δ-waiting-numbers f-waiting-numbers)
+        ((vptr b (o + 1820)) ∷ [])) ∷ ‵ (flft κ₁ q₁) ∷ ‵ Own₁ ∷ ‵ (flft κ₂ q₂) ∷ ‵ Own₂ ∷ ‵ (flft κ₄ q₄)
+        ∷ ‵ Own₄ ∷ []) ∵ says ! req $ nothing ! $ move ! (19 ∷ 0 ∷ []) $ join ! $ move ! (17 ∷ 0 ∷ []) $ join ! $
+        move ! (15 ∷ 0 ∷ []) $ join ! $ move ! (13 ∷ 0 ∷ []) $ join ! $ move ! (11 ∷ 0 ∷ []) $ join ! $ move ! (9 ∷ 0 ∷ []) $ join ! $
+        move ! (7 ∷ 0 ∷ []) $ join ! $ move ! (5 ∷ 0 ∷ []) $ join ! $ move ! (3 ∷ 0 ∷ []) $ join ! $ move ! (1 ∷ 0 ∷ []) $ join ! $
+        nothing ! $ owned ! u32 (Is u32) (uint-makes 𝓤 H A W w32) y₆ _ is₆ $ fjoin ! $ move ! (11 ∷ 0 ∷ []) $ fjoin ! $
+        move ! (10 ∷ 0 ∷ []) $ fjoin ! $ move ! (9 ∷ 0 ∷ []) $ fjoin ! $ move ! (8 ∷ 0 ∷ []) $ fjoin ! $ move ! (7 ∷ 0 ∷ []) $ fjoin ! $
+        move ! (6 ∷ 0 ∷ []) $ fjoin ! $ move ! (5 ∷ 0 ∷ []) $ fjoin ! $ move ! (4 ∷ 0 ∷ []) $ fjoin ! $ move ! (3 ∷ 0 ∷ []) $ fjoin ! $
+        owned ! usize (Is usize) (uint-makes 𝓤 H A W w64) y₅ _ is₅ $ fjoin ! $ move ! (2 ∷ 0 ∷ []) $ fjoin ! $
+        owned ! Boolean (Is Boolean) (bool-makes 𝓤 H A W) y₄ _ is₄ $ fjoin ! $
+        owned ! clock-row.the-row (Is clock-row.the-row) (LL.makes clock-row.the-type clock-laws.the-plain 𝓤 H A) y₃ _ is₃ $ fjoin ! $
+        owned ! arrival-row.the-row (Is arrival-row.the-row) (LL.makes arrival-row.the-type arrival-laws.the-plain 𝓤 H A) y₂ _ is₂ $
+        fjoin ! $ owned ! flight-row.the-row (Is flight-row.the-row) (LL.makes flight-row.the-type flight-laws.the-plain 𝓤 H A) y₁ _
+        is₁ $ fjoin ! $ owned ! settings-row.the-row (Is settings-row.the-row)
+        (LL.makes settings-row.the-type settings-laws.the-plain 𝓤 H A) y₀ _ is₀ $ fjoin ! $ move ! (1 ∷ 0 ∷ []) $ done !
 
     -- what code-of is called at, and that what it asks is had
     abbrev to-code-of : (y₀ : Time) (u₀ : Val) → tripleOf 𝓤 H A code-of.signature (code-of.spec 𝓤 H A at-mem run) .Ghost
@@ -510,10 +563,10 @@ module _ {M : Type 1} (𝓤 : URA M) (H : Heap 𝓤) (A : Atoms 𝓤) (W : Given
     asks-code-of : (y₀ : Time) (u₀ : Val) → Is time-row.the-row y₀ (u₀ ∷ [])
         → ent 𝓤 (⋆ 𝓤 H A (‵ (flft κ₅ q₅) ∷ ‵ Own₆ ∷ []))
         (tripleOf 𝓤 H A code-of.signature (code-of.spec 𝓤 H A at-mem run) .pre (to-code-of y₀ u₀))
-    asks-code-of  y₀ u₀ is₀  =
+    asks-code-of y₀ u₀ is₀ =
         qed W (‵ (flft κ₅ q₅) ∷ ‵ Own₆ ∷ []) ∵ nothing ! $ move ! (1 ∷ 0 ∷ []) $ join ! $ nothing ! $ move ! (2 ∷ 0 ∷ []) $ fjoin ! $
-            owned ! time-row.the-row (Is time-row.the-row) (EL.makes time-row.the-type time-laws.the-plain 𝓤 H A) y₀ _ is₀ $ fjoin ! $
-            move ! (1 ∷ 0 ∷ []) $ join ! $ nothing ! $ move ! (1 ∷ 0 ∷ []) $ done !
+        owned ! time-row.the-row (Is time-row.the-row) (EL.makes time-row.the-type time-laws.the-plain 𝓤 H A) y₀ _ is₀ $ fjoin ! $
+        move ! (1 ∷ 0 ∷ []) $ join ! $ nothing ! $ move ! (1 ∷ 0 ∷ []) $ done !
 
     abbrev Had : (z₆ : ℕ) → List (Item 𝓤)
     Had z₆ = ‵ (flft κ₀ q₀) ∷ ‵ (flft κ₁ q₁) ∷ ‵ (flft κ₂ q₂) ∷ ‵ (flft κ₃ q₃) ∷ ‵ (flft κ₄ q₄)
@@ -523,49 +576,50 @@ module _ {M : Type 1} (𝓤 : URA M) (H : Heap 𝓤) (A : Atoms 𝓤) (W : Given
     abbrev Said : (r : ℤ) (z₆ : ℕ) → Type 0
     Said r z₆ = Gives timeCode (λ a. TimePromise x₅ h (partsOf (x₁ .now) (x₂ .now) (x₃ .now) (x₄ .now)) a (x₆ .now) z₆) r
 
-    exits : (r : ℤ) (w : Val) (z₆ : ℕ) → Said r z₆  → Is i32 r (w ∷ []) → ent 𝓤 (⋆ 𝓤 H A (Had z₆)) (Post w)
+    exits : (r : ℤ) (w : Val) (z₆ : ℕ) → Said r z₆ → Is i32 r (w ∷ []) → ent 𝓤 (⋆ 𝓤 H A (Had z₆)) (Post w)
     unfolding Post
-    exits r w z₆ e  g =
+    exits r w z₆ e g =
         qed W (Had z₆) ∵ suffices ! _ (ends-at 𝓤 H A f.ended stayed (f.clauses 𝓤 H A at-mem run) W
-            (((κ₀, (κ₁, (κ₂, (κ₃, (κ₄, (κ₅, tt)))))), (q₀, (q₁, (q₂, (q₃, (q₄, (q₅, tt)))))), tt, x, at), tt) w r
-            (tt, (tt, (tt, (tt, (tt, (tt, (z₆, tt))))))) (tt, (tt, (tt, (tt, (tt, (tt, (tt, tt)))))))) $ says ! e $
+        (((κ₀, (κ₁, (κ₂, (κ₃, (κ₄, (κ₅, tt)))))), (q₀, (q₁, (q₂, (q₃, (q₄, (q₅, tt)))))), tt, x, at), tt) w r
+        (tt, (tt, (tt, (tt, (tt, (tt, (z₆, tt))))))) (tt, (tt, (tt, (tt, (tt, (tt, (tt, tt)))))))) $ says ! e $
         nothing ! $ move ! (7 ∷ 0 ∷ []) $ join ! $ move ! (5 ∷ 0 ∷ []) $ join ! $ move ! (4 ∷ 0 ∷ []) $ join ! $ move ! (3 ∷ 0 ∷ []) $
-            join ! $ move ! (2 ∷ 0 ∷ []) $ join ! $ move ! (1 ∷ 0 ∷ []) $ join ! $ frame ! $ nothing ! $ move ! (1 ∷ 0 ∷ []) $ fjoin ! $
-            nothing ! $ fjoin ! $ nothing ! $ fjoin ! $ nothing ! $ fjoin ! $ nothing ! $ fjoin ! $ nothing ! $ fjoin ! $ nothing ! $
-            fjoin ! $ frame ! $ owned ! i32 (Is i32) (sint-makes 𝓤 H A W w32) r _ g $ done !
+        join ! $ move ! (2 ∷ 0 ∷ []) $ join ! $ move ! (1 ∷ 0 ∷ []) $ join ! $ frame ! $ nothing ! $ move ! (1 ∷ 0 ∷ []) $ fjoin ! $
+        nothing ! $ fjoin ! $ nothing ! $ fjoin ! $ nothing ! $ fjoin ! $ nothing ! $ fjoin ! $ nothing ! $ fjoin ! $ nothing ! $
+        fjoin ! $ frame ! $ owned ! i32 (Is i32) (sint-makes 𝓤 H A W w32) r _ g $ done !
 
     module _ (C : Calls 𝓤 H) (Λ : Loops 𝓤 H) (fm : FmC 𝓤 H (W .laws) C) (known : Known C) where
       -- where the locals lie
       abbrev En : (ℕ → ℕ) → Env 𝓤 H
       En p = envAt (code.function .locals) p
 
-      -- what part 1 knows, what it tells; what it has, and leaves
+      -- part 1: what it knows, what it tells; what it has, and leaves
       abbrev Known₁ : Type 0
       Known₁ = Unit {0}
 
       abbrev New₁ : Known₁ → Type 0
       New₁ past = (sends : (List ℕ)) × (w-sends : Val) × (e-sends : sends ≡ none) × (Is (Array u8 256) sends (w-sends ∷ []))
 
-      abbrev Had₁ : (ℕ → ℕ) → Known₁ → List (Item 𝓤) → List (Item 𝓤)
-      Had₁ p past Γ = ‵ (froom (tyArray (tyInt w8) 256) (p 19) 0) ∷ Γ
+      abbrev Has₁ : (ℕ → ℕ) → Known₁ → List (Item 𝓤) → List (Item 𝓤)
+      Has₁ p past Γ = ‵ (froom (tyArray (tyInt w8) 256) (p 19) 0) ∷ Γ
 
-      abbrev Left₁ : (ℕ → ℕ) → (past : Known₁) → New₁ past → List (Item 𝓤) → List (Item 𝓤)
-      Left₁ p past new Γ = ‵ (fat fullShare (tyArray (tyInt w8) 256) (p 19) 0 ((new .1))) ∷ Γ
+      abbrev Leaves₁ : (ℕ → ℕ) → (past : Known₁) → New₁ past → List (Item 𝓤) → List (Item 𝓤)
+      Leaves₁ p past new Γ = ‵ (fat fullShare (tyArray (tyInt w8) 256) (p 19) 0 ((new .1))) ∷ Γ
 
       part₁ : {K : Type 0} {Γ : List (Item 𝓤)} → K → (p : ℕ → ℕ) (past : Known₁)
-          → ((new : New₁ past) → Seq K W (Left₁ p past new Γ) (runs C Λ (En p) rest₂ (atRet (En p) Post)))
-          → Seq K W (Had₁ p past Γ) (runs C Λ (En p) rest₁ (atRet (En p) Post))
-      unfolding rest₁
-      part₁ {Γ = Γ} t p past on = record { prf =
-          qed W (Had₁ p past Γ) ∵ exec ! C Λ (En p) rest₁ (atRet (En p) Post) $
-          nothing ! $ calls-fn ! fm marks-of.ended (marks-of.clauses 𝓤 H A at-mem run) (known .0) ((tt, tt, tt, tt, tt), tt)
-              (λ sends _. sends ≡ none)
-          (‵ ftrue) (plainly 𝓤 H A W ([]) tt tt tt tt) (λ sends _. id⊢ 𝓤 _)
-          (no-more !) (λ sends w-sends _ e-sends is-sends. drop ! $ drop ! $
-          land ! (from ! (stop !)) (init ! 0 refl (array-typed u8 (uint-lawful 𝓤 H A W w8 .typed) 256 sends (w-sends ∷ []) is-sends .0)) $
-          same ! (on (sends, w-sends, e-sends, is-sends))) }
+          → ((new : New₁ past) → Seq K W (Leaves₁ p past new Γ) (runs C Λ (En p) (behind 1 (code.function .body)) (atRet (En p) Post)))
+          → Seq K W (Has₁ p past Γ) (runs C Λ (En p) (behind 0 (code.function .body)) (atRet (En p) Post))
+      part₁ {Γ = Γ} t p past on = record {
+        prf =
+            qed W (Has₁ p past Γ) ∵ exec ! C Λ (En p) (behind 0 (code.function .body)) (atRet (En p) Post) $
+            nothing ! $ calls-fn ! fm marks-of.ended (marks-of.clauses 𝓤 H A at-mem run) (known .0) ((tt, tt, tt, tt, tt), tt)
+            (λ sends _. sends ≡ none)
+            (‵ ftrue) (plainly 𝓤 H A W ([]) tt tt tt tt) (λ sends _. id⊢ 𝓤 _)
+            (no-more !) (λ sends w-sends _ e-sends is-sends. drop ! $ drop ! $
+            land ! (from ! (stop !)) (init ! 0 refl (array-typed u8 (uint-lawful 𝓤 H A W w8 .typed) 256 sends (w-sends ∷ []) is-sends .0)) $
+            same ! (on (sends, w-sends, e-sends, is-sends)));
+      }
 
-      -- what part 2 knows, what it tells; what it has, and leaves
+      -- part 2: what it knows, what it tells; what it has, and leaves
       abbrev Known₂ : Type 0
       Known₂ = (sends : (List ℕ)) × (w-sends : Val) × (Is (Array u8 256) sends (w-sends ∷ []))
 
@@ -573,30 +627,31 @@ module _ {M : Type 1} (𝓤 : URA M) (H : Heap 𝓤) (A : Atoms 𝓤) (W : Given
       New₂ past = (receives : (List ℕ)) × (w-receives : Val) × (e-receives : receives ≡ none) ×
           (Is (Array u8 256) receives (w-receives ∷ []))
 
-      abbrev Had₂ : (ℕ → ℕ) → Known₂ → List (Item 𝓤) → List (Item 𝓤)
-      Had₂ p past Γ = ‵ (fat fullShare (tyArray (tyInt w8) 256) (p 19) 0 ((past .1))) ∷ ‵ (froom (tyArray (tyInt w8) 256) (p 8) 0) ∷ Γ
+      abbrev Has₂ : (ℕ → ℕ) → Known₂ → List (Item 𝓤) → List (Item 𝓤)
+      Has₂ p past Γ = ‵ (fat fullShare (tyArray (tyInt w8) 256) (p 19) 0 ((past .1))) ∷ ‵ (froom (tyArray (tyInt w8) 256) (p 8) 0) ∷ Γ
 
-      abbrev Left₂ : (ℕ → ℕ) → (past : Known₂) → New₂ past → List (Item 𝓤) → List (Item 𝓤)
-      Left₂ p past new Γ = ‵ (fat fullShare (tyArray (tyInt w8) 256) (p 19) 0 ((new .1)))
+      abbrev Leaves₂ : (ℕ → ℕ) → (past : Known₂) → New₂ past → List (Item 𝓤) → List (Item 𝓤)
+      Leaves₂ p past new Γ = ‵ (fat fullShare (tyArray (tyInt w8) 256) (p 19) 0 ((new .1)))
           ∷ ‵ (fat fullShare (tyArray (tyInt w8) 256) (p 8) 0 ((past .1))) ∷ Γ
 
       part₂ : {K : Type 0} {Γ : List (Item 𝓤)} → K → (p : ℕ → ℕ) (past : Known₂)
-          → ((new : New₂ past) → Seq K W (Left₂ p past new Γ) (runs C Λ (En p) rest₃ (atRet (En p) Post)))
-          → Seq K W (Had₂ p past Γ) (runs C Λ (En p) rest₂ (atRet (En p) Post))
-      unfolding rest₂
-      part₂ {Γ = Γ} t p past on = record { prf =
-          qed W (Had₂ p past Γ) ∵ exec ! C Λ (En p) rest₂ (atRet (En p) Post) $
-          assigns ! {v = (past .1)} (of-opd ! (load ! (from ! (stop !)) (look ! 0 refl))) (from ! (stop !))
-              (init ! 1 refl (array-typed u8 (uint-lawful 𝓤 H A W w8 .typed) 256 (past .0) ((past .1) ∷ []) (past .2) .0)) $
-          nothing ! $ calls-fn ! fm marks-of.ended (marks-of.clauses 𝓤 H A at-mem run) (known .0) ((tt, tt, tt, tt, tt), tt)
-              (λ receives _. receives ≡ none)
-          (‵ ftrue) (plainly 𝓤 H A W ([]) tt tt tt tt) (λ receives _. id⊢ 𝓤 _)
-          (no-more !) (λ receives w-receives _ e-receives is-receives. drop ! $ drop ! $
-          land ! (from ! (stop !)) (store ! 0 refl (array-typed u8 (uint-lawful 𝓤 H A W w8 .typed) 256 receives (w-receives ∷ [])
-          is-receives .0)) $
-          same ! (on (receives, w-receives, e-receives, is-receives))) }
+          → ((new : New₂ past) → Seq K W (Leaves₂ p past new Γ) (runs C Λ (En p) (behind 3 (code.function .body)) (atRet (En p) Post)))
+          → Seq K W (Has₂ p past Γ) (runs C Λ (En p) (behind 1 (code.function .body)) (atRet (En p) Post))
+      part₂ {Γ = Γ} t p past on = record {
+        prf =
+            qed W (Has₂ p past Γ) ∵ exec ! C Λ (En p) (behind 1 (code.function .body)) (atRet (En p) Post) $
+            assigns ! {v = (past .1)} (of-opd ! (load ! (from ! (stop !)) (look ! 0 refl))) (from ! (stop !))
+            (init ! 1 refl (array-typed u8 (uint-lawful 𝓤 H A W w8 .typed) 256 (past .0) ((past .1) ∷ []) (past .2) .0)) $
+            nothing ! $ calls-fn ! fm marks-of.ended (marks-of.clauses 𝓤 H A at-mem run) (known .0) ((tt, tt, tt, tt, tt), tt)
+            (λ receives _. receives ≡ none)
+            (‵ ftrue) (plainly 𝓤 H A W ([]) tt tt tt tt) (λ receives _. id⊢ 𝓤 _)
+            (no-more !) (λ receives w-receives _ e-receives is-receives. drop ! $ drop ! $
+            land ! (from ! (stop !)) (store ! 0 refl (array-typed u8 (uint-lawful 𝓤 H A W w8 .typed) 256 receives (w-receives ∷ [])
+            is-receives .0)) $
+            same ! (on (receives, w-receives, e-receives, is-receives)));
+      }
 
-      -- what part 3 knows, what it tells; what it has, and leaves
+      -- part 3: what it knows, what it tells; what it has, and leaves
       abbrev Known₃ : Type 0
       Known₃ = (sends : (List ℕ)) × (w-sends : Val) × (e-sends : sends ≡ none) × (is-sends : Is (Array u8 256) sends (w-sends ∷ [])) ×
           (receives : (List ℕ)) × (w-receives : Val) × (e-receives : receives ≡ none) × (Is (Array u8 256) receives (w-receives ∷ []))
@@ -605,15 +660,15 @@ module _ {M : Type 1} (𝓤 : URA M) (H : Heap 𝓤) (A : Atoms 𝓤) (W : Given
       New₃ past = (z-receives : List ℕ) × (z-sends : List ℕ) × (ok : Bool) × (w-ok : Val) × (e-ok : Sound h z-sends z-receives ok) ×
           (Is Boolean ok (w-ok ∷ []))
 
-      abbrev Had₃ : (ℕ → ℕ) → Known₃ → List (Item 𝓤) → List (Item 𝓤)
-      Had₃ p past Γ = ‵ (fat fullShare (tyArray (tyInt w8) 256) (p 19) 0 ((past .5)))
+      abbrev Has₃ : (ℕ → ℕ) → Known₃ → List (Item 𝓤) → List (Item 𝓤)
+      Has₃ p past Γ = ‵ (fat fullShare (tyArray (tyInt w8) 256) (p 19) 0 ((past .5)))
           ∷ ‵ (fat fullShare (tyArray (tyInt w8) 256) (p 8) 0 ((past .1))) ∷ ‵ (flft κ₀ q₀) ∷ ‵ (link-shr κ₀ b o γ h)
           ∷ ‵ (froom (tyRef erased mut (tyArray (tyInt w8) 256)) (p 21) 0) ∷ ‵ (froom (tyRef erased mut (tyArray (tyInt w8) 256)) (p 20) 0)
           ∷ ‵ (froom tyBool (p 10) 0) ∷ ‵ (froom (tyArray (tyInt w8) 256) (p 9) 0)
           ∷ ‵ (fat fullShare (tyRef (named 0) imm (pointee (L .written))) (p 1) 0 (vptr b o)) ∷ Γ
 
-      abbrev Left₃ : (ℕ → ℕ) → (past : Known₃) → New₃ past → List (Item 𝓤) → List (Item 𝓤)
-      Left₃ p past new Γ = ‵ (fat fullShare (tyArray (tyInt w8) 256) (p 9) 0 ((only ((array-vals (uint-vals w8)) (new .0)))))
+      abbrev Leaves₃ : (ℕ → ℕ) → (past : Known₃) → New₃ past → List (Item 𝓤) → List (Item 𝓤)
+      Leaves₃ p past new Γ = ‵ (fat fullShare (tyArray (tyInt w8) 256) (p 9) 0 ((only ((array-vals (uint-vals w8)) (new .0)))))
           ∷ ‵ (fat fullShare (tyArray (tyInt w8) 256) (p 8) 0 ((only ((array-vals (uint-vals w8)) (new .1))))) ∷ ‵ (flft κ₀ q₀)
           ∷ ‵ (link-shr κ₀ b o γ h) ∷ ‵ (fat fullShare (tyArray (tyInt w8) 256) (p 19) 0 ((past .5)))
           ∷ ‵ (fat fullShare (tyRef erased mut (tyArray (tyInt w8) 256)) (p 21) 0 ((vptr (p 9) 0)))
@@ -622,59 +677,60 @@ module _ {M : Type 1} (𝓤 : URA M) (H : Heap 𝓤) (A : Atoms 𝓤) (W : Given
           ∷ Γ
 
       part₃ : {K : Type 0} {Γ : List (Item 𝓤)} → K → (p : ℕ → ℕ) (past : Known₃)
-          → ((new : New₃ past) → Seq K W (Left₃ p past new Γ) (runs C Λ (En p) rest₄ (atRet (En p) Post)))
-          → Seq K W (Had₃ p past Γ) (runs C Λ (En p) rest₃ (atRet (En p) Post))
-      unfolding rest₃
-      part₃ {Γ = Γ} t p past on = record { prf =
-          qed W (Had₃ p past Γ) ∵ exec ! C Λ (En p) rest₃ (atRet (En p) Post) $
-          assigns ! {v = (past .5)} (of-opd ! (load ! (from ! (stop !)) (look ! 0 refl))) (from ! (stop !))
-              (init ! 7 refl (array-typed u8 (uint-lawful 𝓤 H A W w8 .typed) 256 (past .4) ((past .5) ∷ []) (past .7) .0)) $
-          assigns ! {v = (vptr (p 8) 0)} (addr ! (from ! (stop !))) (from ! (stop !)) (init ! 5 refl (tt, tt)) $
-          assigns ! {v = (vptr (p 9) 0)} (addr ! (from ! (stop !))) (from ! (stop !)) (init ! 4 refl (tt, tt)) $
-          move ! (1 ∷ []) $ use1 W (‵ (cellAt fullShare ((tyArray (tyInt w8) 256) ∷ []) ((past .1) ∷ []) (p 8) 0))
-              (W .laws .at-raw fullShare (tyArray (tyInt w8) 256) (p 8) 0 (past .1)) $
-              cell-in ! fullShare (Array u8 256) (array-makes 𝓤 H A W u8 (uint-makes 𝓤 H A W w8) 256) (past .0) (p 8) 0 (past .1)
-              (past .3) $
-          lend-mut ! tt (Array u8 256) (past .0) (p 8) 0
-              (λ α-sends δ-sends. move ! (9 ∷ []) $
-              use1 W (‵ (cellAt fullShare ((tyArray (tyInt w8) 256) ∷ []) ((past .5) ∷ []) (p 9) 0))
-              (W .laws .at-raw fullShare (tyArray (tyInt w8) 256) (p 9) 0 (past .5)) $
-              cell-in ! fullShare (Array u8 256) (array-makes 𝓤 H A W u8 (uint-makes 𝓤 H A W w8) 256) (past .4) (p 9) 0 (past .5)
-              (past .7) $
-          lend-mut ! tt (Array u8 256) (past .4) (p 9) 0
-              (λ α-receives δ-receives. move ! (8 ∷ []) $
-              use1 W (‵ (link-shr κ₀ b o γ h) ⊛ ‵ (link-shr κ₀ b o γ h))
-              (shr-copy 𝓤 H A W (named 0) κ₀ L .twice (ref-at b o γ h) (vptr b o ∷ [])) $ split ! $ move ! (9 ∷ 0 ∷ 5 ∷ 6 ∷ 2 ∷ 3 ∷ []) $
-              group ! 6 $ calls-fn ! fm check.ended (check.clauses 𝓤 H A at-mem run) (known .1)
-              (to-check (p 8) α-sends δ-sends (past .0) (p 9) α-receives δ-receives (past .4) )
-              (λ ok ws-ok. Sound h (ws-ok .1 .0) (ws-ok .1 .1 .0) ok)
-              (‵ (flft κ₀ q₀) ⊛ ‵ (link-shr κ₀ b o γ h) ⊛ ‵ (flft (α-sends ∷ []) fullShare) ⊛ ‵
-              (MutRef (named 0) (α-sends ∷ []) (Array u8 256) .own (ref-at (p 8) 0 δ-sends (past .0)) ((vptr (p 8) 0) ∷ [])) ⊛ ‵
-              (flft (α-receives ∷ []) fullShare) ⊛ ‵ (MutRef (named 0) (α-receives ∷ []) (Array u8 256) .own
-              (ref-at (p 9) 0 δ-receives (past .4)) ((vptr (p 9) 0) ∷ [])))
-          (asks-check (p 8) α-sends δ-sends (past .0) (p 9) α-receives δ-receives (past .4)  ((past .2), (past .6))) (λ ok ws-ok. id⊢ 𝓤 _)
-          (and-then ! (load ! (from ! (stop !)) (look ! 8 refl))
-          (and-then ! (load ! (from ! (stop !)) (look ! 6 refl)) (and-then ! (load ! (from ! (stop !)) (look ! 5 refl)) (no-more !))))
-          (λ ok w-ok ws-ok e-ok is-ok. land ! (from ! (stop !)) (init ! 8 refl (bool-lawful 𝓤 H A W .typed ok _ is-ok .0)) $
-          spread W (‵ (flft κ₀ q₀)) (‵ (flft (α-sends ∷ []) fullShare) ∷ ‵ (flft (α-receives ∷ []) fullShare) ∷ ‵ ftrue ∷ [])
-              (id⊢ 𝓤 _) $ move ! (4 ∷ []) $ spread W (‵ ftrue)
-              (‵ (fres δ-sends ((Array u8 256) .coded .code (ws-ok .1 .0)))
-              ∷ ‵ (fres δ-receives ((Array u8 256) .coded .code (ws-ok .1 .1 .0))) ∷ ‵ ftrue ∷ []) (id⊢ 𝓤 _) $ move ! (7 ∷ 3 ∷ 0 ∷ []) $
-              group ! 3 $ drop ! $
-          -- [fin:@sends; fin:@receives; tok0; tok:@sends; tok:@receives; own0; lent:@receives; lent:@sends; the locals]
-          move ! (3 ∷ 7 ∷ 0 ∷ []) $ back-mut ! tt (Array u8 256) (p 8) 0 (ws-ok .1 .0) $
-              cell-out ! fullShare (Array u8 256) (array-vals (uint-vals w8)) (array-tells u8 (uint-vals w8) (uint-tells w8) 256)
-              (ws-ok .1 .0) (p 8) 0 (λ was-sends-1. use1 W
-              (‵ (fat fullShare (tyArray (tyInt w8) 256) (p 8) 0 (only ((array-vals (uint-vals w8)) (ws-ok .1 .0)))))
-              (W .laws .raw-at fullShare (tyArray (tyInt w8) 256) (p 8) 0 (only ((array-vals (uint-vals w8)) (ws-ok .1 .0)))) $
-          move ! (3 ∷ 5 ∷ 1 ∷ []) $ back-mut ! tt (Array u8 256) (p 9) 0 (ws-ok .1 .1 .0) $
-              cell-out ! fullShare (Array u8 256) (array-vals (uint-vals w8)) (array-tells u8 (uint-vals w8) (uint-tells w8) 256)
-              (ws-ok .1 .1 .0) (p 9) 0 (λ was-receives-2. use1 W
-              (‵ (fat fullShare (tyArray (tyInt w8) 256) (p 9) 0 (only ((array-vals (uint-vals w8)) (ws-ok .1 .1 .0)))))
-              (W .laws .raw-at fullShare (tyArray (tyInt w8) 256) (p 9) 0 (only ((array-vals (uint-vals w8)) (ws-ok .1 .1 .0)))) $
-          same ! (on ((ws-ok .1 .1 .0), (ws-ok .1 .0), ok, w-ok, e-ok, is-ok))))))) }
+          → ((new : New₃ past) → Seq K W (Leaves₃ p past new Γ) (runs C Λ (En p) (behind 7 (code.function .body)) (atRet (En p) Post)))
+          → Seq K W (Has₃ p past Γ) (runs C Λ (En p) (behind 3 (code.function .body)) (atRet (En p) Post))
+      part₃ {Γ = Γ} t p past on = record {
+        prf =
+            qed W (Has₃ p past Γ) ∵ exec ! C Λ (En p) (behind 3 (code.function .body)) (atRet (En p) Post) $
+            assigns ! {v = (past .5)} (of-opd ! (load ! (from ! (stop !)) (look ! 0 refl))) (from ! (stop !))
+            (init ! 7 refl (array-typed u8 (uint-lawful 𝓤 H A W w8 .typed) 256 (past .4) ((past .5) ∷ []) (past .7) .0)) $
+            assigns ! {v = (vptr (p 8) 0)} (addr ! (from ! (stop !))) (from ! (stop !)) (init ! 5 refl (tt, tt)) $
+            assigns ! {v = (vptr (p 9) 0)} (addr ! (from ! (stop !))) (from ! (stop !)) (init ! 4 refl (tt, tt)) $
+            move ! (1 ∷ []) $ use1 W (‵ (cellAt fullShare ((tyArray (tyInt w8) 256) ∷ []) ((past .1) ∷ []) (p 8) 0))
+            (W .laws .at-raw fullShare (tyArray (tyInt w8) 256) (p 8) 0 (past .1)) $
+            cell-in ! fullShare (Array u8 256) (array-makes 𝓤 H A W u8 (uint-makes 𝓤 H A W w8) 256) (past .0) (p 8) 0 (past .1)
+            (past .3) $
+            lend-mut ! tt (Array u8 256) (past .0) (p 8) 0
+            (λ α-sends δ-sends. move ! (9 ∷ []) $
+            use1 W (‵ (cellAt fullShare ((tyArray (tyInt w8) 256) ∷ []) ((past .5) ∷ []) (p 9) 0))
+            (W .laws .at-raw fullShare (tyArray (tyInt w8) 256) (p 9) 0 (past .5)) $
+            cell-in ! fullShare (Array u8 256) (array-makes 𝓤 H A W u8 (uint-makes 𝓤 H A W w8) 256) (past .4) (p 9) 0 (past .5)
+            (past .7) $
+            lend-mut ! tt (Array u8 256) (past .4) (p 9) 0
+            (λ α-receives δ-receives. move ! (8 ∷ []) $
+            use1 W (‵ (link-shr κ₀ b o γ h) ⊛ ‵ (link-shr κ₀ b o γ h))
+            (shr-copy 𝓤 H A W (named 0) κ₀ L .twice (ref-at b o γ h) (vptr b o ∷ [])) $ split ! $ move ! (9 ∷ 0 ∷ 5 ∷ 6 ∷ 2 ∷ 3 ∷ []) $
+            group ! 6 $ calls-fn ! fm check.ended (check.clauses 𝓤 H A at-mem run) (known .1)
+            (to-check (p 8) α-sends δ-sends (past .0) (p 9) α-receives δ-receives (past .4))
+            (λ ok ws-ok. Sound h (ws-ok .1 .0) (ws-ok .1 .1 .0) ok)
+            (‵ (flft κ₀ q₀) ⊛ ‵ (link-shr κ₀ b o γ h) ⊛ ‵ (flft (α-sends ∷ []) fullShare) ⊛ ‵
+            (MutRef (named 0) (α-sends ∷ []) (Array u8 256) .own (ref-at (p 8) 0 δ-sends (past .0)) ((vptr (p 8) 0) ∷ [])) ⊛ ‵
+            (flft (α-receives ∷ []) fullShare) ⊛ ‵ (MutRef (named 0) (α-receives ∷ []) (Array u8 256) .own
+            (ref-at (p 9) 0 δ-receives (past .4)) ((vptr (p 9) 0) ∷ [])))
+            (asks-check (p 8) α-sends δ-sends (past .0) (p 9) α-receives δ-receives (past .4) ((past .2), (past .6))) (λ ok ws-ok. id⊢ 𝓤 _)
+            (and-then ! (load ! (from ! (stop !)) (look ! 8 refl))
+            (and-then ! (load ! (from ! (stop !)) (look ! 6 refl)) (and-then ! (load ! (from ! (stop !)) (look ! 5 refl)) (no-more !))))
+            (λ ok w-ok ws-ok e-ok is-ok. land ! (from ! (stop !)) (init ! 8 refl (bool-lawful 𝓤 H A W .typed ok _ is-ok .0)) $
+            spread W (‵ (flft κ₀ q₀)) (‵ (flft (α-sends ∷ []) fullShare) ∷ ‵ (flft (α-receives ∷ []) fullShare) ∷ ‵ ftrue ∷ [])
+            (id⊢ 𝓤 _) $ move ! (4 ∷ []) $ spread W (‵ ftrue)
+            (‵ (fres δ-sends ((Array u8 256) .coded .code (ws-ok .1 .0)))
+            ∷ ‵ (fres δ-receives ((Array u8 256) .coded .code (ws-ok .1 .1 .0))) ∷ ‵ ftrue ∷ []) (id⊢ 𝓤 _) $ move ! (7 ∷ 3 ∷ 0 ∷ []) $
+            group ! 3 $ drop ! $
+            -- [fin:@sends; fin:@receives; tok0; tok:@sends; tok:@receives; own0; lent:@receives; lent:@sends; the locals]
+            move ! (3 ∷ 7 ∷ 0 ∷ []) $ back-mut ! tt (Array u8 256) (p 8) 0 (ws-ok .1 .0) $
+            cell-out ! fullShare (Array u8 256) (array-vals (uint-vals w8)) (array-tells u8 (uint-vals w8) (uint-tells w8) 256)
+            (ws-ok .1 .0) (p 8) 0 (λ was-sends-1. use1 W
+            (‵ (fat fullShare (tyArray (tyInt w8) 256) (p 8) 0 (only ((array-vals (uint-vals w8)) (ws-ok .1 .0)))))
+            (W .laws .raw-at fullShare (tyArray (tyInt w8) 256) (p 8) 0 (only ((array-vals (uint-vals w8)) (ws-ok .1 .0)))) $
+            move ! (3 ∷ 5 ∷ 1 ∷ []) $ back-mut ! tt (Array u8 256) (p 9) 0 (ws-ok .1 .1 .0) $
+            cell-out ! fullShare (Array u8 256) (array-vals (uint-vals w8)) (array-tells u8 (uint-vals w8) (uint-tells w8) 256)
+            (ws-ok .1 .1 .0) (p 9) 0 (λ was-receives-2. use1 W
+            (‵ (fat fullShare (tyArray (tyInt w8) 256) (p 9) 0 (only ((array-vals (uint-vals w8)) (ws-ok .1 .1 .0)))))
+            (W .laws .raw-at fullShare (tyArray (tyInt w8) 256) (p 9) 0 (only ((array-vals (uint-vals w8)) (ws-ok .1 .1 .0)))) $
+            same ! (on ((ws-ok .1 .1 .0), (ws-ok .1 .0), ok, w-ok, e-ok, is-ok)))))));
+      }
 
-      -- what part 4 knows, what it tells; what it has, and leaves
+      -- part 4: what it knows, what it tells; what it has, and leaves
       abbrev Known₄ : Type 0
       Known₄ = Unit {0}
 
@@ -688,14 +744,14 @@ module _ {M : Type 1} (𝓤 : URA M) (H : Heap 𝓤) (A : Atoms 𝓤) (W : Given
           (was-clock : Is clock-row.the-row (h .clock) ((LL.vals clock-row.the-type clock-laws.the-laws) (h .clock))) × (n : ℕ) ×
           (w-n : Val) × (e-n : n ≡ h .flight .outstanding) × (Is usize n (w-n ∷ []))
 
-      abbrev Had₄ : (ℕ → ℕ) → Known₄ → List (Item 𝓤) → List (Item 𝓤)
-      Had₄ p past Γ = ‵ (flft κ₀ q₀) ∷ ‵ (link-shr κ₀ b o γ h)
+      abbrev Has₄ : (ℕ → ℕ) → Known₄ → List (Item 𝓤) → List (Item 𝓤)
+      Has₄ p past Γ = ‵ (flft κ₀ q₀) ∷ ‵ (link-shr κ₀ b o γ h)
           ∷ ‵ (fat fullShare (tyRef (named 0) imm (pointee (L .written))) (p 1) 0 (vptr b o)) ∷ ‵ (froom (tyInt w64) (p 15) 0)
           ∷ ‵ (froom clock-laws.mir (p 14) 0) ∷ ‵ (froom arrival-laws.mir (p 13) 0) ∷ ‵ (froom flight-laws.mir (p 12) 0)
           ∷ ‵ (froom settings-laws.mir (p 11) 0) ∷ Γ
 
-      abbrev Left₄ : (ℕ → ℕ) → (past : Known₄) → New₄ past → List (Item 𝓤) → List (Item 𝓤)
-      Left₄ p past new Γ = ‵ (partAt clock-row.the-row (new .0) (h .clock) b (o + 104))
+      abbrev Leaves₄ : (ℕ → ℕ) → (past : Known₄) → New₄ past → List (Item 𝓤) → List (Item 𝓤)
+      Leaves₄ p past new Γ = ‵ (partAt clock-row.the-row (new .0) (h .clock) b (o + 104))
           ∷ ‵ (partAt arrival-row.the-row (new .0) (h .arrival) b (o + 72)) ∷ ‵ (partAt flight-row.the-row (new .0) (h .flight) b (o + 16))
           ∷ ‵ (partAt settings-row.the-row (new .0) (h .settings) b (o + 0))
           ∷ ‵ (partAt (Array u32 128) (new .0) (h .«waiting_numbers») b (o + 1820))
@@ -711,96 +767,114 @@ module _ {M : Type 1} (𝓤 : URA M) (H : Heap 𝓤) (A : Atoms 𝓤) (W : Given
           ∷ ‵ (fat fullShare settings-laws.mir (p 11) 0 ((only ((LL.vals settings-row.the-type settings-laws.the-laws) (h .settings))))) ∷ Γ
 
       part₄ : {K : Type 0} {Γ : List (Item 𝓤)} → K → (p : ℕ → ℕ) (past : Known₄)
-          → ((new : New₄ past) → Seq K W (Left₄ p past new Γ) (runs C Λ (En p) rest₅ (atRet (En p) Post)))
-          → Seq K W (Had₄ p past Γ) (runs C Λ (En p) rest₄ (atRet (En p) Post))
-      unfolding rest₄
-      part₄ {Γ = Γ} t p past on = record { prf =
-          qed W (Had₄ p past Γ) ∵ exec ! C Λ (En p) rest₄ (atRet (En p) Post) $
-          move ! (1 ∷ 0 ∷ []) $ looks-link b o γ ! tt h (λ q′.
-          -- [F:settings; F:flight; F:arrival; F:clock; F:queued; F:outstanding; F:transmissions; F:ready; F:waiting; F:«waiting_numbers»;
-          -- back; opened; the locals]
-          move ! (4 ∷ []) $ tells-length ! q′ u32 128 (h .queued) b (o + 124)
-              (λ len-queued. move ! (5 ∷ []) $
-              tells-length ! q′ u32 32 (h .outstanding) b (o + 636)
-              (λ len-outstanding. move ! (6 ∷ []) $
-              tells-length ! q′ u8 32 (h .transmissions) b (o + 764)
-              (λ len-transmissions. move ! (7 ∷ []) $
-              tells-length ! q′ u32 128 (h .ready) b (o + 796)
-              (λ len-ready. move ! (8 ∷ []) $
-              tells-length ! q′ u32 128 (h .waiting) b (o + 1308)
-              (λ len-waiting. move ! (9 ∷ []) $
-              tells-length ! q′ u32 128 (h .«waiting_numbers») b (o + 1820)
-              (λ len-waiting-numbers. move ! (6 ∷ []) $
-              cell-out ! q′ settings-row.the-row (LL.vals settings-row.the-type settings-laws.the-laws)
-              (LL.tells settings-row.the-type settings-laws.the-laws) (h .settings) b (o + 0) (λ was-settings.
-          assigns ! {v = (only ((LL.vals settings-row.the-type settings-laws.the-laws) (h .settings)))}
-              (of-opd ! (load ! (place-settings ! (look ! 12 refl)) (look-raw ! 0 refl))) (from ! (stop !))
-              (init ! 17 refl (LL.lawful settings-row.the-type settings-laws.the-laws 𝓤 H A W .typed (h .settings)
-              ((only ((LL.vals settings-row.the-type settings-laws.the-laws) (h .settings))) ∷ []) was-settings .0)) $
-          cell-in ! q′ settings-row.the-row (LL.makes settings-row.the-type settings-laws.the-plain 𝓤 H A) (h .settings) b (o + 0)
-              (only ((LL.vals settings-row.the-type settings-laws.the-laws) (h .settings))) was-settings $ move ! (7 ∷ []) $
-              cell-out ! q′ flight-row.the-row (LL.vals flight-row.the-type flight-laws.the-laws)
-              (LL.tells flight-row.the-type flight-laws.the-laws) (h .flight) b (o + 16) (λ was-flight.
-          assigns ! {v = (only ((LL.vals flight-row.the-type flight-laws.the-laws) (h .flight)))}
-              (of-opd ! (load ! (place-flight ! (look ! 12 refl)) (look-raw ! 0 refl))) (from ! (stop !))
-              (init ! 16 refl (LL.lawful flight-row.the-type flight-laws.the-laws 𝓤 H A W .typed (h .flight)
-              ((only ((LL.vals flight-row.the-type flight-laws.the-laws) (h .flight))) ∷ []) was-flight .0)) $
-          cell-in ! q′ flight-row.the-row (LL.makes flight-row.the-type flight-laws.the-plain 𝓤 H A) (h .flight) b (o + 16)
-              (only ((LL.vals flight-row.the-type flight-laws.the-laws) (h .flight))) was-flight $ move ! (8 ∷ []) $
-              cell-out ! q′ arrival-row.the-row (LL.vals arrival-row.the-type arrival-laws.the-laws)
-              (LL.tells arrival-row.the-type arrival-laws.the-laws) (h .arrival) b (o + 72) (λ was-arrival.
-          assigns ! {v = (only ((LL.vals arrival-row.the-type arrival-laws.the-laws) (h .arrival)))}
-              (of-opd ! (load ! (place-arrival ! (look ! 12 refl)) (look-raw ! 0 refl))) (from ! (stop !))
-              (init ! 15 refl (LL.lawful arrival-row.the-type arrival-laws.the-laws 𝓤 H A W .typed (h .arrival)
-              ((only ((LL.vals arrival-row.the-type arrival-laws.the-laws) (h .arrival))) ∷ []) was-arrival .0)) $
-          cell-in ! q′ arrival-row.the-row (LL.makes arrival-row.the-type arrival-laws.the-plain 𝓤 H A) (h .arrival) b (o + 72)
-              (only ((LL.vals arrival-row.the-type arrival-laws.the-laws) (h .arrival))) was-arrival $ move ! (9 ∷ []) $
-              cell-out ! q′ clock-row.the-row (LL.vals clock-row.the-type clock-laws.the-laws)
-              (LL.tells clock-row.the-type clock-laws.the-laws) (h .clock) b (o + 104) (λ was-clock.
-          assigns ! {v = (only ((LL.vals clock-row.the-type clock-laws.the-laws) (h .clock)))}
-              (of-opd ! (load ! (place-clock ! (look ! 12 refl)) (look-raw ! 0 refl))) (from ! (stop !))
-              (init ! 14 refl (LL.lawful clock-row.the-type clock-laws.the-laws 𝓤 H A W .typed (h .clock)
-              ((only ((LL.vals clock-row.the-type clock-laws.the-laws) (h .clock))) ∷ []) was-clock .0)) $
-          cell-in ! q′ clock-row.the-row (LL.makes clock-row.the-type clock-laws.the-plain 𝓤 H A) (h .clock) b (o + 104)
-              (only ((LL.vals clock-row.the-type clock-laws.the-laws) (h .clock))) was-clock $ nothing ! $
-              calls-fn ! fm count-of.ended (count-of.clauses 𝓤 H A at-mem run) (known .2)
-              ((tt, tt, tt, ((h .flight), tt), ((only ((LL.vals flight-row.the-type flight-laws.the-laws) (h .flight))) ∷ [], tt)), tt)
-              (λ n _. n ≡ h .flight .outstanding)
-          (‵ ftrue) (plainly 𝓤 H A W (flight-row.the-row ∷ []) ((LL.makes flight-row.the-type flight-laws.the-plain 𝓤 H A), tt)
-          ((h .flight), tt) ((only ((LL.vals flight-row.the-type flight-laws.the-laws) (h .flight))) ∷ [], tt) (was-flight, tt))
-          (λ n _. id⊢ 𝓤 _)
-          (and-then ! (load ! (from ! (stop !)) (look ! 17 refl)) (no-more !))
-          (λ n w-n _ e-n is-n. drop ! $ drop ! $  land ! (from ! (stop !)) (init ! 13 refl (uint-lawful 𝓤 H A W w64 .typed n _ is-n .0)) $
-          same ! (on (q′, len-queued, len-outstanding, len-transmissions, len-ready, len-waiting, len-waiting-numbers, was-settings,
-              was-flight, was-arrival, was-clock, n, w-n, e-n, is-n)))))))))))))) }
+          → ((new : New₄ past) → Seq K W (Leaves₄ p past new Γ) (runs C Λ (En p) (behind 12 (code.function .body)) (atRet (En p) Post)))
+          → Seq K W (Has₄ p past Γ) (runs C Λ (En p) (behind 7 (code.function .body)) (atRet (En p) Post))
+      part₄ {Γ = Γ} t p past on = record {
+        prf =
+            qed W (Has₄ p past Γ) ∵ exec ! C Λ (En p) (behind 7 (code.function .body)) (atRet (En p) Post) $
+            move ! (1 ∷ 0 ∷ []) $ looks-link b o γ ! tt h (λ q′.
+            -- [F:settings; F:flight; F:arrival; F:clock; F:queued; F:outstanding; F:transmissions; F:ready; F:waiting; F:«waiting_numbers»;
+            -- back; opened; the locals]
+            move ! (4 ∷ []) $ tells-length ! q′ u32 128 (h .queued) b (o + 124)
+            (λ len-queued. move ! (5 ∷ []) $
+            tells-length ! q′ u32 32 (h .outstanding) b (o + 636)
+            (λ len-outstanding. move ! (6 ∷ []) $
+            tells-length ! q′ u8 32 (h .transmissions) b (o + 764)
+            (λ len-transmissions. move ! (7 ∷ []) $
+            tells-length ! q′ u32 128 (h .ready) b (o + 796)
+            (λ len-ready. move ! (8 ∷ []) $
+            tells-length ! q′ u32 128 (h .waiting) b (o + 1308)
+            (λ len-waiting. move ! (9 ∷ []) $
+            tells-length ! q′ u32 128 (h .«waiting_numbers») b (o + 1820)
+            (λ len-waiting-numbers. move ! (6 ∷ []) $
+            cell-out ! q′ settings-row.the-row (LL.vals settings-row.the-type settings-laws.the-laws)
+            (LL.tells settings-row.the-type settings-laws.the-laws) (h .settings) b (o + 0) (λ was-settings.
+            assigns ! {v = (only ((LL.vals settings-row.the-type settings-laws.the-laws) (h .settings)))}
+            (of-opd ! (load ! (place-settings ! (look ! 12 refl)) (look-raw ! 0 refl))) (from ! (stop !))
+            (init ! 17 refl (LL.lawful settings-row.the-type settings-laws.the-laws 𝓤 H A W .typed (h .settings)
+            ((only ((LL.vals settings-row.the-type settings-laws.the-laws) (h .settings))) ∷ []) was-settings .0)) $
+            cell-in ! q′ settings-row.the-row (LL.makes settings-row.the-type settings-laws.the-plain 𝓤 H A) (h .settings) b (o + 0)
+            (only ((LL.vals settings-row.the-type settings-laws.the-laws) (h .settings))) was-settings $ move ! (7 ∷ []) $
+            cell-out ! q′ flight-row.the-row (LL.vals flight-row.the-type flight-laws.the-laws)
+            (LL.tells flight-row.the-type flight-laws.the-laws) (h .flight) b (o + 16) (λ was-flight.
+            assigns ! {v = (only ((LL.vals flight-row.the-type flight-laws.the-laws) (h .flight)))}
+            (of-opd ! (load ! (place-flight ! (look ! 12 refl)) (look-raw ! 0 refl))) (from ! (stop !))
+            (init ! 16 refl (LL.lawful flight-row.the-type flight-laws.the-laws 𝓤 H A W .typed (h .flight)
+            ((only ((LL.vals flight-row.the-type flight-laws.the-laws) (h .flight))) ∷ []) was-flight .0)) $
+            cell-in ! q′ flight-row.the-row (LL.makes flight-row.the-type flight-laws.the-plain 𝓤 H A) (h .flight) b (o + 16)
+            (only ((LL.vals flight-row.the-type flight-laws.the-laws) (h .flight))) was-flight $ move ! (8 ∷ []) $
+            cell-out ! q′ arrival-row.the-row (LL.vals arrival-row.the-type arrival-laws.the-laws)
+            (LL.tells arrival-row.the-type arrival-laws.the-laws) (h .arrival) b (o + 72) (λ was-arrival.
+            assigns ! {v = (only ((LL.vals arrival-row.the-type arrival-laws.the-laws) (h .arrival)))}
+            (of-opd ! (load ! (place-arrival ! (look ! 12 refl)) (look-raw ! 0 refl))) (from ! (stop !))
+            (init ! 15 refl (LL.lawful arrival-row.the-type arrival-laws.the-laws 𝓤 H A W .typed (h .arrival)
+            ((only ((LL.vals arrival-row.the-type arrival-laws.the-laws) (h .arrival))) ∷ []) was-arrival .0)) $
+            cell-in ! q′ arrival-row.the-row (LL.makes arrival-row.the-type arrival-laws.the-plain 𝓤 H A) (h .arrival) b (o + 72)
+            (only ((LL.vals arrival-row.the-type arrival-laws.the-laws) (h .arrival))) was-arrival $ move ! (9 ∷ []) $
+            cell-out ! q′ clock-row.the-row (LL.vals clock-row.the-type clock-laws.the-laws)
+            (LL.tells clock-row.the-type clock-laws.the-laws) (h .clock) b (o + 104) (λ was-clock.
+            assigns ! {v = (only ((LL.vals clock-row.the-type clock-laws.the-laws) (h .clock)))}
+            (of-opd ! (load ! (place-clock ! (look ! 12 refl)) (look-raw ! 0 refl))) (from ! (stop !))
+            (init ! 14 refl (LL.lawful clock-row.the-type clock-laws.the-laws 𝓤 H A W .typed (h .clock)
+            ((only ((LL.vals clock-row.the-type clock-laws.the-laws) (h .clock))) ∷ []) was-clock .0)) $
+            cell-in ! q′ clock-row.the-row (LL.makes clock-row.the-type clock-laws.the-plain 𝓤 H A) (h .clock) b (o + 104)
+            (only ((LL.vals clock-row.the-type clock-laws.the-laws) (h .clock))) was-clock $ nothing ! $
+            calls-fn ! fm count-of.ended (count-of.clauses 𝓤 H A at-mem run) (known .2)
+            ((tt, tt, tt, ((h .flight), tt), ((only ((LL.vals flight-row.the-type flight-laws.the-laws) (h .flight))) ∷ [], tt)), tt)
+            (λ n _. n ≡ h .flight .outstanding)
+            (‵ ftrue) (plainly 𝓤 H A W (flight-row.the-row ∷ []) ((LL.makes flight-row.the-type flight-laws.the-plain 𝓤 H A), tt)
+            ((h .flight), tt) ((only ((LL.vals flight-row.the-type flight-laws.the-laws) (h .flight))) ∷ [], tt) (was-flight, tt))
+            (λ n _. id⊢ 𝓤 _)
+            (and-then ! (load ! (from ! (stop !)) (look ! 17 refl)) (no-more !))
+            (λ n w-n _ e-n is-n. drop ! $ drop ! $ land ! (from ! (stop !)) (init ! 13 refl (uint-lawful 𝓤 H A W w64 .typed n _ is-n .0)) $
+            same ! (on (
+              q′,
+              len-queued,
+              len-outstanding,
+              len-transmissions,
+              len-ready,
+              len-waiting,
+              len-waiting-numbers,
+              was-settings,
+              was-flight,
+              was-arrival,
+              was-clock,
+              n,
+              w-n,
+              e-n,
+              is-n,
+            ))))))))))))));
+      }
 
-      -- what part 5 knows, what it tells; what it has, and leaves
+      -- part 5: what it knows, what it tells; what it has, and leaves
       abbrev Known₅ : Type 0
       Known₅ = Unit {0}
 
       abbrev New₅ : Known₅ → Type 0
       New₅ past = (found : (List ℕ)) × (w-found : Val) × (e-found : found ≡ replicate 128 0) × (Is (Array u32 128) found (w-found ∷ []))
 
-      abbrev Had₅ : (ℕ → ℕ) → Known₅ → List (Item 𝓤) → List (Item 𝓤)
-      Had₅ p past Γ = ‵ (froom (tyArray (tyInt w32) 128) (p 22) 0) ∷ Γ
+      abbrev Has₅ : (ℕ → ℕ) → Known₅ → List (Item 𝓤) → List (Item 𝓤)
+      Has₅ p past Γ = ‵ (froom (tyArray (tyInt w32) 128) (p 22) 0) ∷ Γ
 
-      abbrev Left₅ : (ℕ → ℕ) → (past : Known₅) → New₅ past → List (Item 𝓤) → List (Item 𝓤)
-      Left₅ p past new Γ = ‵ (fat fullShare (tyArray (tyInt w32) 128) (p 22) 0 ((new .1))) ∷ Γ
+      abbrev Leaves₅ : (ℕ → ℕ) → (past : Known₅) → New₅ past → List (Item 𝓤) → List (Item 𝓤)
+      Leaves₅ p past new Γ = ‵ (fat fullShare (tyArray (tyInt w32) 128) (p 22) 0 ((new .1))) ∷ Γ
 
       part₅ : {K : Type 0} {Γ : List (Item 𝓤)} → K → (p : ℕ → ℕ) (past : Known₅)
-          → ((new : New₅ past) → Seq K W (Left₅ p past new Γ) (runs C Λ (En p) rest₆ (atRet (En p) Post)))
-          → Seq K W (Had₅ p past Γ) (runs C Λ (En p) rest₅ (atRet (En p) Post))
-      unfolding rest₅
-      part₅ {Γ = Γ} t p past on = record { prf =
-          qed W (Had₅ p past Γ) ∵ exec ! C Λ (En p) rest₅ (atRet (En p) Post) $
-          nothing ! $ calls-fn ! fm none-of.ended (none-of.clauses 𝓤 H A at-mem run) (known .3) ((tt, tt, tt, tt, tt), tt)
-              (λ found _. found ≡ replicate 128 0)
-          (‵ ftrue) (plainly 𝓤 H A W ([]) tt tt tt tt) (λ found _. id⊢ 𝓤 _)
-          (no-more !) (λ found w-found _ e-found is-found. drop ! $ drop ! $
-          land ! (from ! (stop !)) (init ! 0 refl (array-typed u32 (uint-lawful 𝓤 H A W w32 .typed) 128 found (w-found ∷ []) is-found .0)) $
-          same ! (on (found, w-found, e-found, is-found))) }
+          → ((new : New₅ past) → Seq K W (Leaves₅ p past new Γ) (runs C Λ (En p) (behind 13 (code.function .body)) (atRet (En p) Post)))
+          → Seq K W (Has₅ p past Γ) (runs C Λ (En p) (behind 12 (code.function .body)) (atRet (En p) Post))
+      part₅ {Γ = Γ} t p past on = record {
+        prf =
+            qed W (Has₅ p past Γ) ∵ exec ! C Λ (En p) (behind 12 (code.function .body)) (atRet (En p) Post) $
+            nothing ! $ calls-fn ! fm none-of.ended (none-of.clauses 𝓤 H A at-mem run) (known .3) ((tt, tt, tt, tt, tt), tt)
+            (λ found _. found ≡ replicate 128 0)
+            (‵ ftrue) (plainly 𝓤 H A W ([]) tt tt tt tt) (λ found _. id⊢ 𝓤 _)
+            (no-more !) (λ found w-found _ e-found is-found. drop ! $ drop ! $
+            land ! (from ! (stop !)) (init ! 0 refl (array-typed u32 (uint-lawful 𝓤 H A W w32 .typed) 128 found (w-found ∷ []) is-found
+            .0)) $
+            same ! (on (found, w-found, e-found, is-found)));
+      }
 
-      -- what part 6 knows, what it tells; what it has, and leaves
+      -- part 6: what it knows, what it tells; what it has, and leaves
       abbrev Known₆ : Type 0
       Known₆ = (q′ : Share) × (len-outstanding : length (h .outstanding) ≡ 32) × (n : ℕ) × (w-n : Val) × (is-n : Is usize n (w-n ∷ [])) ×
           (found : (List ℕ)) × (w-found : Val) × (e-found : found ≡ replicate 128 0) × (Is (Array u32 128) found (w-found ∷ []))
@@ -811,8 +885,8 @@ module _ {M : Type 1} (𝓤 : URA M) (H : Heap 𝓤) (A : Atoms 𝓤) (W : Given
           (gathered (take sendSlots (x₃ .now)) (slotsIn (h .outstanding) (past .2))))) ×
           (Is (Array u32 128) z-found ((array-vals (uint-vals w32)) z-found))
 
-      abbrev Had₆ : (ℕ → ℕ) → Known₆ → List (Item 𝓤) → List (Item 𝓤)
-      Had₆ p past Γ = ‵ (fat fullShare (tyArray (tyInt w32) 128) (p 22) 0 ((past .6)))
+      abbrev Has₆ : (ℕ → ℕ) → Known₆ → List (Item 𝓤) → List (Item 𝓤)
+      Has₆ p past Γ = ‵ (fat fullShare (tyArray (tyInt w32) 128) (p 22) 0 ((past .6)))
           ∷ ‵ (partAt (Array u32 32) (past .0) (h .outstanding) b (o + 636))
           ∷ ‵ (fat fullShare (tyRef (named 0) imm (pointee (L .written))) (p 1) 0 (vptr b o))
           ∷ ‵ (fat fullShare (tyInt w64) (p 15) 0 ((past .3))) ∷ ‵ (flft κ₃ q₃) ∷ ‵ Own₃
@@ -820,8 +894,8 @@ module _ {M : Type 1} (𝓤 : URA M) (H : Heap 𝓤) (A : Atoms 𝓤) (W : Given
           ∷ ‵ (froom tyUnit (p 23) 0) ∷ ‵ (froom (tyArray (tyInt w32) 128) (p 16) 0)
           ∷ ‵ (fat fullShare (sliceTy (tyRef (named 3) imm (pointee (R .written)))) (p 4) 0 (s₃)) ∷ Γ
 
-      abbrev Left₆ : (ℕ → ℕ) → (past : Known₆) → New₆ past → List (Item 𝓤) → List (Item 𝓤)
-      Left₆ p past new Γ = ‵ (fat fullShare (tyArray (tyInt w32) 128) (p 16) 0 ((only ((array-vals (uint-vals w32)) (new .0)))))
+      abbrev Leaves₆ : (ℕ → ℕ) → (past : Known₆) → New₆ past → List (Item 𝓤) → List (Item 𝓤)
+      Leaves₆ p past new Γ = ‵ (fat fullShare (tyArray (tyInt w32) 128) (p 16) 0 ((only ((array-vals (uint-vals w32)) (new .0)))))
           ∷ ‵ (partAt (Array u32 32) (past .0) (h .outstanding) b (o + 636)) ∷ ‵ (flft κ₃ q₃) ∷ ‵ Own₃
           ∷ ‵ (fat fullShare (tyArray (tyInt w32) 128) (p 22) 0 ((past .6)))
           ∷ ‵ (fat fullShare (tyRef (named 0) imm (pointee (L .written))) (p 1) 0 (vptr b o))
@@ -832,106 +906,109 @@ module _ {M : Type 1} (𝓤 : URA M) (H : Heap 𝓤) (A : Atoms 𝓤) (W : Given
           ∷ ‵ (fat fullShare (sliceTy (tyRef (named 3) imm (pointee (R .written)))) (p 4) 0 (s₃)) ∷ Γ
 
       part₆ : {K : Type 0} {Γ : List (Item 𝓤)} → K → (p : ℕ → ℕ) (past : Known₆)
-          → ((new : New₆ past) → Seq K W (Left₆ p past new Γ) (runs C Λ (En p) rest₇ (atRet (En p) Post)))
-          → Seq K W (Had₆ p past Γ) (runs C Λ (En p) rest₆ (atRet (En p) Post))
-      unfolding rest₆
-      part₆ {Γ = Γ} t p past on = record { prf =
-          qed W (Had₆ p past Γ) ∵ exec ! C Λ (En p) rest₆ (atRet (En p) Post) $
-          assigns ! {v = (past .6)} (of-opd ! (load ! (from ! (stop !)) (look ! 0 refl))) (from ! (stop !))
-              (init ! 9 refl (array-typed u32 (uint-lawful 𝓤 H A W w32 .typed) 128 (past .5) ((past .6) ∷ []) (past .8) .0)) $
-          assigns ! {v = (vptr b (o + 636))} (addr ! (place-outstanding ! (look ! 2 refl))) (from ! (stop !)) (init ! 7 refl (tt, tt)) $
-          assigns ! {v = (vptr (p 16) 0)} (addr ! (from ! (stop !))) (from ! (stop !)) (init ! 6 refl (tt, tt)) $
-          move ! (1 ∷ []) $ lend-shr ! tt (past .0) (Array u32 32) (h .outstanding) b (o + 636)
-              (λ α-outstanding δ-outstanding. move ! (11 ∷ []) $
-              use1 W (‵ (cellAt fullShare ((tyArray (tyInt w32) 128) ∷ []) ((past .6) ∷ []) (p 16) 0))
-              (W .laws .at-raw fullShare (tyArray (tyInt w32) 128) (p 16) 0 (past .6)) $
-              cell-in ! fullShare (Array u32 128) (array-makes 𝓤 H A W u32 (uint-makes 𝓤 H A W w32) 128) (past .5) (p 16) 0 (past .6)
-              (past .8) $
-          lend-mut ! tt (Array u32 128) (past .5) (p 16) 0
-              (λ α-found δ-found. move ! (10 ∷ []) $
-              use1 W (‵ Own₃ ⊛ ‵ Own₃) (shr-slice-copy 𝓤 H A W (named 0) κ₃ R .twice x₃ (s₃ ∷ [])) $ split ! $
-              move ! (11 ∷ 0 ∷ 5 ∷ 6 ∷ 2 ∷ 3 ∷ []) $ group ! 6 $
-              calls-fn ! fm gather.ended (gather.clauses 𝓤 H A at-mem run) (known .4)
-              (to-gather α-outstanding δ-outstanding (h .outstanding) (p 16) α-found δ-found (past .5) (past .2) (past .3))
-              (λ g ws-g. (length (ws-g .1 .1 .1 .0) ≡ 128) ×
-              (recordsIn (ws-g .1 .1 .1 .0) ≡ padded (gathered (take sendSlots (x₃ .now)) (slotsIn (h .outstanding) (past .2)))))
-              (‵ (flft κ₃ q₃) ⊛ ‵ Own₃ ⊛ ‵ (flft (α-outstanding ∷ []) fullShare) ⊛ ‵
-              (ShrRef (named 0) (α-outstanding ∷ []) (Array u32 32) .own (ref-at b (o + 636) δ-outstanding (h .outstanding))
-              ((vptr b (o + 636)) ∷ [])) ⊛ ‵ (flft (α-found ∷ []) fullShare) ⊛ ‵
-              (MutRef (named 0) (α-found ∷ []) (Array u32 128) .own (ref-at (p 16) 0 δ-found (past .5)) ((vptr (p 16) 0) ∷ [])))
-          (asks-gather α-outstanding δ-outstanding (h .outstanding) (p 16) α-found δ-found (past .5) (past .2) (past .3) (past .4)
-          ((past .1), (past .7))) (λ g ws-g. id⊢ 𝓤 _)
-          (and-then ! (load ! (from ! (stop !)) (look ! 10 refl))
-          (and-then ! (load ! (from ! (stop !)) (look ! 8 refl))
-          (and-then ! (load ! (from ! (stop !)) (look ! 6 refl)) (and-then ! (load ! (from ! (stop !)) (look ! 7 refl)) (no-more !)))))
-          (λ g w-g ws-g e-g is-g. land ! (from ! (stop !)) (init ! 10 refl (nothing-lawful 𝓤 H A W .typed g _ is-g .0)) $
-          spread W (‵ (flft κ₃ q₃)) (‵ (flft (α-outstanding ∷ []) fullShare) ∷ ‵ (flft (α-found ∷ []) fullShare) ∷ ‵ ftrue ∷ [])
-              (id⊢ 𝓤 _) $ move ! (4 ∷ []) $ spread W (‵ ftrue)
-              (‵ ftrue ∷ ‵ ftrue ∷ ‵ (fres δ-found ((Array u32 128) .coded .code (ws-g .1 .1 .1 .0))) ∷ ‵ ftrue ∷ []) (id⊢ 𝓤 _) $
-              move ! (8 ∷ 4 ∷ 0 ∷ 1 ∷ 2 ∷ []) $ group ! 5 $ drop ! $
-          -- [fin:@found; tok3; tok:outstanding; tok:@found; own3; lent:@found; lent:outstanding; the locals]
-          move ! (2 ∷ 6 ∷ []) $ back-shr ! tt (past .0) (Array u32 32) b (o + 636) (h .outstanding) $ move ! (3 ∷ 5 ∷ 1 ∷ []) $
-              back-mut ! tt (Array u32 128) (p 16) 0 (ws-g .1 .1 .1 .0) $
-              cell-out ! fullShare (Array u32 128) (array-vals (uint-vals w32)) (array-tells u32 (uint-vals w32) (uint-tells w32) 128)
-              (ws-g .1 .1 .1 .0) (p 16) 0 (λ was-found-3. use1 W
-              (‵ (fat fullShare (tyArray (tyInt w32) 128) (p 16) 0 (only ((array-vals (uint-vals w32)) (ws-g .1 .1 .1 .0)))))
-              (W .laws .raw-at fullShare (tyArray (tyInt w32) 128) (p 16) 0 (only ((array-vals (uint-vals w32)) (ws-g .1 .1 .1 .0)))) $
-          same ! (on ((ws-g .1 .1 .1 .0), w-g, e-g, was-found-3)))))) }
+          → ((new : New₆ past) → Seq K W (Leaves₆ p past new Γ) (runs C Λ (En p) (behind 17 (code.function .body)) (atRet (En p) Post)))
+          → Seq K W (Has₆ p past Γ) (runs C Λ (En p) (behind 13 (code.function .body)) (atRet (En p) Post))
+      part₆ {Γ = Γ} t p past on = record {
+        prf =
+            qed W (Has₆ p past Γ) ∵ exec ! C Λ (En p) (behind 13 (code.function .body)) (atRet (En p) Post) $
+            assigns ! {v = (past .6)} (of-opd ! (load ! (from ! (stop !)) (look ! 0 refl))) (from ! (stop !))
+            (init ! 9 refl (array-typed u32 (uint-lawful 𝓤 H A W w32 .typed) 128 (past .5) ((past .6) ∷ []) (past .8) .0)) $
+            assigns ! {v = (vptr b (o + 636))} (addr ! (place-outstanding ! (look ! 2 refl))) (from ! (stop !)) (init ! 7 refl (tt, tt)) $
+            assigns ! {v = (vptr (p 16) 0)} (addr ! (from ! (stop !))) (from ! (stop !)) (init ! 6 refl (tt, tt)) $
+            move ! (1 ∷ []) $ lend-shr ! tt (past .0) (Array u32 32) (h .outstanding) b (o + 636)
+            (λ α-outstanding δ-outstanding. move ! (11 ∷ []) $
+            use1 W (‵ (cellAt fullShare ((tyArray (tyInt w32) 128) ∷ []) ((past .6) ∷ []) (p 16) 0))
+            (W .laws .at-raw fullShare (tyArray (tyInt w32) 128) (p 16) 0 (past .6)) $
+            cell-in ! fullShare (Array u32 128) (array-makes 𝓤 H A W u32 (uint-makes 𝓤 H A W w32) 128) (past .5) (p 16) 0 (past .6)
+            (past .8) $
+            lend-mut ! tt (Array u32 128) (past .5) (p 16) 0
+            (λ α-found δ-found. move ! (10 ∷ []) $
+            use1 W (‵ Own₃ ⊛ ‵ Own₃) (shr-slice-copy 𝓤 H A W (named 0) κ₃ R .twice x₃ (s₃ ∷ [])) $ split ! $
+            move ! (11 ∷ 0 ∷ 5 ∷ 6 ∷ 2 ∷ 3 ∷ []) $ group ! 6 $
+            calls-fn ! fm gather.ended (gather.clauses 𝓤 H A at-mem run) (known .4)
+            (to-gather α-outstanding δ-outstanding (h .outstanding) (p 16) α-found δ-found (past .5) (past .2) (past .3))
+            (λ g ws-g. (length (ws-g .1 .1 .1 .0) ≡ 128) ×
+            (recordsIn (ws-g .1 .1 .1 .0) ≡ padded (gathered (take sendSlots (x₃ .now)) (slotsIn (h .outstanding) (past .2)))))
+            (‵ (flft κ₃ q₃) ⊛ ‵ Own₃ ⊛ ‵ (flft (α-outstanding ∷ []) fullShare) ⊛ ‵
+            (ShrRef (named 0) (α-outstanding ∷ []) (Array u32 32) .own (ref-at b (o + 636) δ-outstanding (h .outstanding))
+            ((vptr b (o + 636)) ∷ [])) ⊛ ‵ (flft (α-found ∷ []) fullShare) ⊛ ‵
+            (MutRef (named 0) (α-found ∷ []) (Array u32 128) .own (ref-at (p 16) 0 δ-found (past .5)) ((vptr (p 16) 0) ∷ [])))
+            (asks-gather α-outstanding δ-outstanding (h .outstanding) (p 16) α-found δ-found (past .5) (past .2) (past .3) (past .4)
+            ((past .1), (past .7))) (λ g ws-g. id⊢ 𝓤 _)
+            (and-then ! (load ! (from ! (stop !)) (look ! 10 refl))
+            (and-then ! (load ! (from ! (stop !)) (look ! 8 refl))
+            (and-then ! (load ! (from ! (stop !)) (look ! 6 refl)) (and-then ! (load ! (from ! (stop !)) (look ! 7 refl)) (no-more !)))))
+            (λ g w-g ws-g e-g is-g. land ! (from ! (stop !)) (init ! 10 refl (nothing-lawful 𝓤 H A W .typed g _ is-g .0)) $
+            spread W (‵ (flft κ₃ q₃)) (‵ (flft (α-outstanding ∷ []) fullShare) ∷ ‵ (flft (α-found ∷ []) fullShare) ∷ ‵ ftrue ∷ [])
+            (id⊢ 𝓤 _) $ move ! (4 ∷ []) $ spread W (‵ ftrue)
+            (‵ ftrue ∷ ‵ ftrue ∷ ‵ (fres δ-found ((Array u32 128) .coded .code (ws-g .1 .1 .1 .0))) ∷ ‵ ftrue ∷ []) (id⊢ 𝓤 _) $
+            move ! (8 ∷ 4 ∷ 0 ∷ 1 ∷ 2 ∷ []) $ group ! 5 $ drop ! $
+            -- [fin:@found; tok3; tok:outstanding; tok:@found; own3; lent:@found; lent:outstanding; the locals]
+            move ! (2 ∷ 6 ∷ []) $ back-shr ! tt (past .0) (Array u32 32) b (o + 636) (h .outstanding) $ move ! (3 ∷ 5 ∷ 1 ∷ []) $
+            back-mut ! tt (Array u32 128) (p 16) 0 (ws-g .1 .1 .1 .0) $
+            cell-out ! fullShare (Array u32 128) (array-vals (uint-vals w32)) (array-tells u32 (uint-vals w32) (uint-tells w32) 128)
+            (ws-g .1 .1 .1 .0) (p 16) 0 (λ was-found-3. use1 W
+            (‵ (fat fullShare (tyArray (tyInt w32) 128) (p 16) 0 (only ((array-vals (uint-vals w32)) (ws-g .1 .1 .1 .0)))))
+            (W .laws .raw-at fullShare (tyArray (tyInt w32) 128) (p 16) 0 (only ((array-vals (uint-vals w32)) (ws-g .1 .1 .1 .0)))) $
+            same ! (on ((ws-g .1 .1 .1 .0), w-g, e-g, was-found-3))))));
+      }
 
-      -- what part 7 knows, what it tells; what it has, and leaves
+      -- part 7: what it knows, what it tells; what it has, and leaves
       abbrev Known₇ : Type 0
       Known₇ = Unit {0}
 
       abbrev New₇ : Known₇ → Type 0
       New₇ past = (m : ℕ) × (w-m : Val) × (e-m : m ≡ length (x₃ .now)) × (Is usize m (w-m ∷ []))
 
-      abbrev Had₇ : (ℕ → ℕ) → Known₇ → List (Item 𝓤) → List (Item 𝓤)
-      Had₇ p past Γ = ‵ (flft κ₃ q₃) ∷ ‵ Own₃ ∷ ‵ (fat fullShare (sliceTy (tyRef (named 3) imm (pointee (R .written)))) (p 4) 0 (s₃))
+      abbrev Has₇ : (ℕ → ℕ) → Known₇ → List (Item 𝓤) → List (Item 𝓤)
+      Has₇ p past Γ = ‵ (flft κ₃ q₃) ∷ ‵ Own₃ ∷ ‵ (fat fullShare (sliceTy (tyRef (named 3) imm (pointee (R .written)))) (p 4) 0 (s₃))
           ∷ ‵ (froom (tyInt w64) (p 17) 0) ∷ Γ
 
-      abbrev Left₇ : (ℕ → ℕ) → (past : Known₇) → New₇ past → List (Item 𝓤) → List (Item 𝓤)
-      Left₇ p past new Γ = ‵ (flft κ₃ q₃) ∷ ‵ (fat fullShare (sliceTy (tyRef (named 3) imm (pointee (R .written)))) (p 4) 0 (s₃))
+      abbrev Leaves₇ : (ℕ → ℕ) → (past : Known₇) → New₇ past → List (Item 𝓤) → List (Item 𝓤)
+      Leaves₇ p past new Γ = ‵ (flft κ₃ q₃) ∷ ‵ (fat fullShare (sliceTy (tyRef (named 3) imm (pointee (R .written)))) (p 4) 0 (s₃))
           ∷ ‵ (fat fullShare (tyInt w64) (p 17) 0 ((new .1))) ∷ Γ
 
       part₇ : {K : Type 0} {Γ : List (Item 𝓤)} → K → (p : ℕ → ℕ) (past : Known₇)
-          → ((new : New₇ past) → Seq K W (Left₇ p past new Γ) (runs C Λ (En p) rest₈ (atRet (En p) Post)))
-          → Seq K W (Had₇ p past Γ) (runs C Λ (En p) rest₇ (atRet (En p) Post))
-      unfolding rest₇
-      part₇ {Γ = Γ} t p past on = record { prf =
-          qed W (Had₇ p past Γ) ∵ exec ! C Λ (En p) rest₇ (atRet (En p) Post) $
-          join ! $ calls-fn ! fm table-len.ended (table-len.clauses 𝓤 H A at-mem run) (known .5) (to-table-len  )
-              (λ m ws-m. m ≡ length (x₃ .now)) (‵ (flft κ₃ q₃) ⊛ ‵ Own₃)
-          (asks-table-len   ) (λ m ws-m. id⊢ 𝓤 _)
-          (and-then ! (load ! (from ! (stop !)) (look ! 1 refl)) (no-more !))
-          (λ m w-m ws-m e-m is-m. land ! (from ! (stop !)) (init ! 3 refl (uint-lawful 𝓤 H A W w64 .typed m _ is-m .0)) $
-          spread W (‵ (flft κ₃ q₃)) (‵ ftrue ∷ []) (id⊢ 𝓤 _) $ move ! (2 ∷ []) $ spread W (‵ ftrue) (‵ ftrue ∷ []) (id⊢ 𝓤 _) $
-              move ! (3 ∷ 1 ∷ 0 ∷ []) $ group ! 3 $ drop ! $
-          -- [tok3; the locals]
-          same ! (on (m, w-m, e-m, is-m))) }
+          → ((new : New₇ past) → Seq K W (Leaves₇ p past new Γ) (runs C Λ (En p) (behind 18 (code.function .body)) (atRet (En p) Post)))
+          → Seq K W (Has₇ p past Γ) (runs C Λ (En p) (behind 17 (code.function .body)) (atRet (En p) Post))
+      part₇ {Γ = Γ} t p past on = record {
+        prf =
+            qed W (Has₇ p past Γ) ∵ exec ! C Λ (En p) (behind 17 (code.function .body)) (atRet (En p) Post) $
+            join ! $ calls-fn ! fm table-len.ended (table-len.clauses 𝓤 H A at-mem run) (known .5) (to-table-len)
+            (λ m ws-m. m ≡ length (x₃ .now)) (‵ (flft κ₃ q₃) ⊛ ‵ Own₃)
+            (asks-table-len) (λ m ws-m. id⊢ 𝓤 _)
+            (and-then ! (load ! (from ! (stop !)) (look ! 1 refl)) (no-more !))
+            (λ m w-m ws-m e-m is-m. land ! (from ! (stop !)) (init ! 3 refl (uint-lawful 𝓤 H A W w64 .typed m _ is-m .0)) $
+            spread W (‵ (flft κ₃ q₃)) (‵ ftrue ∷ []) (id⊢ 𝓤 _) $ move ! (2 ∷ []) $ spread W (‵ ftrue) (‵ ftrue ∷ []) (id⊢ 𝓤 _) $
+            move ! (3 ∷ 1 ∷ 0 ∷ []) $ group ! 3 $ drop ! $
+            -- [tok3; the locals]
+            same ! (on (m, w-m, e-m, is-m)));
+      }
 
-      -- what part 8 knows, what it tells; what it has, and leaves
+      -- part 8: what it knows, what it tells; what it has, and leaves
       abbrev Known₈ : Type 0
       Known₈ = Unit {0}
 
       abbrev New₈ : Known₈ → Type 0
       New₈ past = Unit {0}
 
-      abbrev Had₈ : (ℕ → ℕ) → Known₈ → List (Item 𝓤) → List (Item 𝓤)
-      Had₈ p past Γ = ‵ (froom (tyRef erased imm (tyArray (tyInt w32) 128)) (p 26) 0) ∷ Γ
+      abbrev Has₈ : (ℕ → ℕ) → Known₈ → List (Item 𝓤) → List (Item 𝓤)
+      Has₈ p past Γ = ‵ (froom (tyRef erased imm (tyArray (tyInt w32) 128)) (p 26) 0) ∷ Γ
 
-      abbrev Left₈ : (ℕ → ℕ) → (past : Known₈) → New₈ past → List (Item 𝓤) → List (Item 𝓤)
-      Left₈ p past new Γ = ‵ (fat fullShare (tyRef erased imm (tyArray (tyInt w32) 128)) (p 26) 0 ((vptr (p 16) 0))) ∷ Γ
+      abbrev Leaves₈ : (ℕ → ℕ) → (past : Known₈) → New₈ past → List (Item 𝓤) → List (Item 𝓤)
+      Leaves₈ p past new Γ = ‵ (fat fullShare (tyRef erased imm (tyArray (tyInt w32) 128)) (p 26) 0 ((vptr (p 16) 0))) ∷ Γ
 
       part₈ : {K : Type 0} {Γ : List (Item 𝓤)} → K → (p : ℕ → ℕ) (past : Known₈)
-          → ((new : New₈ past) → Seq K W (Left₈ p past new Γ) (runs C Λ (En p) rest₉ (atRet (En p) Post)))
-          → Seq K W (Had₈ p past Γ) (runs C Λ (En p) rest₈ (atRet (En p) Post))
-      unfolding rest₈
-      part₈ {Γ = Γ} t p past on = record { prf =
-          qed W (Had₈ p past Γ) ∵ exec ! C Λ (En p) rest₈ (atRet (En p) Post) $
-          assigns ! {v = (vptr (p 16) 0)} (addr ! (from ! (stop !))) (from ! (stop !)) (init ! 0 refl (tt, tt)) $
-          same ! (on (tt)) }
+          → ((new : New₈ past) → Seq K W (Leaves₈ p past new Γ) (runs C Λ (En p) (behind 19 (code.function .body)) (atRet (En p) Post)))
+          → Seq K W (Has₈ p past Γ) (runs C Λ (En p) (behind 18 (code.function .body)) (atRet (En p) Post))
+      part₈ {Γ = Γ} t p past on = record {
+        prf =
+            qed W (Has₈ p past Γ) ∵ exec ! C Λ (En p) (behind 18 (code.function .body)) (atRet (En p) Post) $
+            assigns ! {v = (vptr (p 16) 0)} (addr ! (from ! (stop !))) (from ! (stop !)) (init ! 0 refl (tt, tt)) $
+            same ! (on (tt));
+      }
 
-      -- what part 9 knows, what it tells; what it has, and leaves
+      -- part 9: what it knows, what it tells; what it has, and leaves
       abbrev Known₉ : Type 0
       Known₉ = (z-found : List ℕ) × (z-receives : List ℕ) × (z-sends : List ℕ) × (ok : Bool) × (w-ok : Val) ×
           (e-ok : Sound h z-sends z-receives ok) × (is-ok : Is Boolean ok (w-ok ∷ [])) × (q′ : Share) ×
@@ -950,8 +1027,8 @@ module _ {M : Type 1} (𝓤 : URA M) (H : Heap 𝓤) (A : Atoms 𝓤) (W : Given
       New₉ past = (a : Time) × (w-a : Val) × (e-a : timeOutcome a ≡ checksWith h (recordsIn (past .0)) (x₄ .now)
           (lentLengths (past .21) (x₁ .now) (x₂ .now) (x₄ .now)) x₅) × (Is time-row.the-row a (w-a ∷ []))
 
-      abbrev Had₉ : (ℕ → ℕ) → Known₉ → List (Item 𝓤) → List (Item 𝓤)
-      Had₉ p past Γ = ‵ (fat fullShare (tyRef erased imm (tyArray (tyInt w32) 128)) (p 26) 0 ((vptr (p 16) 0)))
+      abbrev Has₉ : (ℕ → ℕ) → Known₉ → List (Item 𝓤) → List (Item 𝓤)
+      Has₉ p past Γ = ‵ (fat fullShare (tyRef erased imm (tyArray (tyInt w32) 128)) (p 26) 0 ((vptr (p 16) 0)))
           ∷ ‵ (fat fullShare (tyInt w64) (p 17) 0 ((past .22)))
           ∷ ‵ (fat fullShare (tyArray (tyInt w32) 128) (p 16) 0 ((only ((array-vals (uint-vals w32)) (past .0)))))
           ∷ ‵ (partAt (Array u32 32) (past .7) (h .outstanding) b (o + 636))
@@ -973,8 +1050,8 @@ module _ {M : Type 1} (𝓤 : URA M) (H : Heap 𝓤) (A : Atoms 𝓤) (W : Given
           ∷ ‵ (fat fullShare (sliceTy (tyRef (named 2) imm (tyInt w8))) (p 3) 0 (s₂))
           ∷ ‵ (fat fullShare (sliceTy (tyRef (named 1) imm (tyInt w8))) (p 2) 0 (s₁)) ∷ Γ
 
-      abbrev Left₉ : (ℕ → ℕ) → (past : Known₉) → New₉ past → List (Item 𝓤) → List (Item 𝓤)
-      Left₉ p past new Γ = ‵ (partAt (Array u32 128) (past .7) (h .«waiting_numbers») b (o + 1820))
+      abbrev Leaves₉ : (ℕ → ℕ) → (past : Known₉) → New₉ past → List (Item 𝓤) → List (Item 𝓤)
+      Leaves₉ p past new Γ = ‵ (partAt (Array u32 128) (past .7) (h .«waiting_numbers») b (o + 1820))
           ∷ ‵ (partAt (Array u32 128) (past .7) (h .waiting) b (o + 1308)) ∷ ‵ (partAt (Array u32 128) (past .7) (h .ready) b (o + 796))
           ∷ ‵ (partAt (Array u8 32) (past .7) (h .transmissions) b (o + 764))
           ∷ ‵ (partAt (Array u32 32) (past .7) (h .outstanding) b (o + 636)) ∷ ‵ (partAt (Array u32 128) (past .7) (h .queued) b (o + 124))
@@ -999,114 +1076,125 @@ module _ {M : Type 1} (𝓤 : URA M) (H : Heap 𝓤) (A : Atoms 𝓤) (W : Given
           ∷ ‵ (fat fullShare (sliceTy (tyRef (named 1) imm (tyInt w8))) (p 2) 0 (s₁)) ∷ Γ
 
       part₉ : {K : Type 0} {Γ : List (Item 𝓤)} → K → (p : ℕ → ℕ) (past : Known₉)
-          → ((new : New₉ past) → Seq K W (Left₉ p past new Γ) (runs C Λ (En p) rest₁₀ (atRet (En p) Post)))
-          → Seq K W (Had₉ p past Γ) (runs C Λ (En p) rest₉ (atRet (En p) Post))
-      unfolding rest₉
-      part₉ {Γ = Γ} t p past on = record { prf =
-          qed W (Had₉ p past Γ) ∵ exec ! C Λ (En p) rest₉ (atRet (En p) Post) $
-          assigns ! {v = (vptr b (o + 124))} (addr ! (place-queued ! (look ! 4 refl))) (from ! (stop !)) (init ! 26 refl (tt, tt)) $
-          assigns ! {v = (vptr b (o + 636))} (addr ! (place-outstanding ! (look ! 4 refl))) (from ! (stop !)) (init ! 25 refl (tt, tt)) $
-          assigns ! {v = (vptr b (o + 764))} (addr ! (place-transmissions ! (look ! 4 refl))) (from ! (stop !)) (init ! 24 refl (tt, tt)) $
-          assigns ! {v = (vptr b (o + 796))} (addr ! (place-ready ! (look ! 4 refl))) (from ! (stop !)) (init ! 23 refl (tt, tt)) $
-          assigns ! {v = (vptr b (o + 1308))} (addr ! (place-waiting ! (look ! 4 refl))) (from ! (stop !)) (init ! 22 refl (tt, tt)) $
-          assigns ! {v = (vptr b (o + 1820))} (addr ! (place-waiting-numbers ! (look ! 4 refl))) (from ! (stop !))
-              (init ! 21 refl (tt, tt)) $
-          move ! (2 ∷ []) $ use1 W (‵ (cellAt fullShare ((tyArray (tyInt w32) 128) ∷ [])
-              ((only ((array-vals (uint-vals w32)) (past .0))) ∷ []) (p 16) 0))
-              (W .laws .at-raw fullShare (tyArray (tyInt w32) 128) (p 16) 0 (only ((array-vals (uint-vals w32)) (past .0)))) $
-              cell-in ! fullShare (Array u32 128) (array-makes 𝓤 H A W u32 (uint-makes 𝓤 H A W w32) 128) (past .0) (p 16) 0
-              (only ((array-vals (uint-vals w32)) (past .0))) (past .20) $
-          lend-shr ! tt fullShare (Array u32 128) (past .0) (p 16) 0
-              (λ α-found′ δ-found′. move ! (11 ∷ []) $
-              lend-shr ! tt (past .7) (Array u32 128) (h .queued) b (o + 124)
-              (λ α-queued δ-queued. move ! (8 ∷ []) $
-              lend-shr ! tt (past .7) (Array u32 32) (h .outstanding) b (o + 636)
-              (λ α-outstanding′ δ-outstanding′. move ! (15 ∷ []) $
-              lend-shr ! tt (past .7) (Array u8 32) (h .transmissions) b (o + 764)
-              (λ α-transmissions δ-transmissions. move ! (17 ∷ []) $
-              lend-shr ! tt (past .7) (Array u32 128) (h .ready) b (o + 796)
-              (λ α-ready δ-ready. move ! (19 ∷ []) $
-              lend-shr ! tt (past .7) (Array u32 128) (h .waiting) b (o + 1308)
-              (λ α-waiting δ-waiting. move ! (21 ∷ []) $
-              lend-shr ! tt (past .7) (Array u32 128) (h .«waiting_numbers») b (o + 1820)
-              (λ α-waiting-numbers δ-waiting-numbers. move ! (18 ∷ 19 ∷ 15 ∷ 16 ∷ 12 ∷ 13 ∷ 9 ∷ 10 ∷ 6 ∷ 7 ∷ 3 ∷ 4 ∷ 0 ∷ 1 ∷ 29
-              ∷ 32 ∷ 30 ∷ 33 ∷ 31 ∷ 34 ∷ []) $ group ! 20 $
-              calls-fn ! fm core.ended (core.clauses 𝓤 H A at-mem run) (known .6)
-              (to-core (p 16) α-found′ δ-found′ (past .0) α-queued δ-queued (h .queued) α-outstanding′ δ-outstanding′ (h .outstanding)
-              α-transmissions δ-transmissions (h .transmissions) α-ready δ-ready (h .ready) α-waiting δ-waiting (h .waiting)
-              α-waiting-numbers δ-waiting-numbers (h .«waiting_numbers») (h .settings)
-              (only ((LL.vals settings-row.the-type settings-laws.the-laws) (h .settings))) (h .flight)
-              (only ((LL.vals flight-row.the-type flight-laws.the-laws) (h .flight))) (h .arrival)
-              (only ((LL.vals arrival-row.the-type arrival-laws.the-laws) (h .arrival))) (h .clock)
-              (only ((LL.vals clock-row.the-type clock-laws.the-laws) (h .clock))) (past .3) (past .4) (past .21) (past .22) x₅ v₅)
-              (λ a ws-a. timeOutcome a ≡ checksWith h (recordsIn (past .0)) (x₄ .now) (lentLengths (past .21) (x₁ .now) (x₂ .now) (x₄ .now))
-              x₅) (‵ (flft (α-found′ ∷ []) fullShare) ⊛ ‵
-              (ShrRef (named 0) (α-found′ ∷ []) (Array u32 128) .own (ref-at (p 16) 0 δ-found′ (past .0)) ((vptr (p 16) 0) ∷ [])) ⊛ ‵
-              (flft (α-queued ∷ []) fullShare) ⊛ ‵ (ShrRef (named 0) (α-queued ∷ []) (Array u32 128) .own
-              (ref-at b (o + 124) δ-queued (h .queued)) ((vptr b (o + 124)) ∷ [])) ⊛ ‵ (flft (α-outstanding′ ∷ []) fullShare) ⊛ ‵
-              (ShrRef (named 0) (α-outstanding′ ∷ []) (Array u32 32) .own (ref-at b (o + 636) δ-outstanding′ (h .outstanding))
-              ((vptr b (o + 636)) ∷ [])) ⊛ ‵ (flft (α-transmissions ∷ []) fullShare) ⊛ ‵
-              (ShrRef (named 0) (α-transmissions ∷ []) (Array u8 32) .own (ref-at b (o + 764) δ-transmissions (h .transmissions))
-              ((vptr b (o + 764)) ∷ [])) ⊛ ‵ (flft (α-ready ∷ []) fullShare) ⊛ ‵
-              (ShrRef (named 0) (α-ready ∷ []) (Array u32 128) .own (ref-at b (o + 796) δ-ready (h .ready)) ((vptr b (o + 796)) ∷ [])) ⊛ ‵
-              (flft (α-waiting ∷ []) fullShare) ⊛ ‵ (ShrRef (named 0) (α-waiting ∷ []) (Array u32 128) .own
-              (ref-at b (o + 1308) δ-waiting (h .waiting)) ((vptr b (o + 1308)) ∷ [])) ⊛ ‵ (flft (α-waiting-numbers ∷ []) fullShare) ⊛ ‵
-              (ShrRef (named 0) (α-waiting-numbers ∷ []) (Array u32 128) .own (ref-at b (o + 1820) δ-waiting-numbers (h .«waiting_numbers»))
-              ((vptr b (o + 1820)) ∷ [])) ⊛ ‵ (flft κ₁ q₁) ⊛ ‵ Own₁ ⊛ ‵ (flft κ₂ q₂) ⊛ ‵ Own₂ ⊛ ‵ (flft κ₄ q₄) ⊛ ‵
-              Own₄)
-          (asks-core (p 16) α-found′ δ-found′ (past .0) α-queued δ-queued (h .queued) α-outstanding′ δ-outstanding′ (h .outstanding)
-          α-transmissions δ-transmissions (h .transmissions) α-ready δ-ready (h .ready) α-waiting δ-waiting (h .waiting) α-waiting-numbers
-          δ-waiting-numbers (h .«waiting_numbers») (h .settings)
-          (only ((LL.vals settings-row.the-type settings-laws.the-laws) (h .settings))) (past .14) (h .flight)
-          (only ((LL.vals flight-row.the-type flight-laws.the-laws) (h .flight))) (past .15) (h .arrival)
-          (only ((LL.vals arrival-row.the-type arrival-laws.the-laws) (h .arrival))) (past .16) (h .clock)
-          (only ((LL.vals clock-row.the-type clock-laws.the-laws) (h .clock))) (past .17) (past .3) (past .4) (past .6) (past .21)
-          (past .22) (past .23) x₅ v₅ g₅ (record { whole-queued = (past .8); whole-outstanding = (past .9);
-          whole-transmissions = (past .10); whole-ready = (past .11); whole-waiting = (past .12); whole-numbers = (past .13) },
-          (past .19) .0, ((past .2), ((past .1), (past .5))))) (λ a ws-a. id⊢ 𝓤 _)
-          (and-then ! (load ! (from ! (stop !)) (look ! 14 refl))
-          (and-then ! (load ! (from ! (stop !)) (look ! 13 refl))
-          (and-then ! (load ! (from ! (stop !)) (look ! 12 refl))
-          (and-then ! (load ! (from ! (stop !)) (look ! 11 refl))
-          (and-then ! (load ! (from ! (stop !)) (look ! 15 refl))
-          (and-then ! (load ! (from ! (stop !)) (look ! 8 refl))
-          (and-then ! (load ! (from ! (stop !)) (look ! 9 refl))
-          (and-then ! (load ! (from ! (stop !)) (look ! 21 refl))
-          (and-then ! (load ! (from ! (stop !)) (look ! 20 refl))
-          (and-then ! (load ! (from ! (stop !)) (look ! 19 refl))
-          (and-then ! (load ! (from ! (stop !)) (look ! 18 refl))
-          (and-then ! (load ! (from ! (stop !)) (look ! 17 refl))
-          (and-then ! (load ! (from ! (stop !)) (look ! 16 refl))
-          (and-then ! (load ! (from ! (stop !)) (look ! 26 refl))
-          (and-then ! (load ! (from ! (stop !)) (look ! 25 refl))
-          (and-then ! (load ! (from ! (stop !)) (look ! 24 refl))
-          (and-then ! (load ! (from ! (stop !)) (look ! 23 refl)) (no-more !))))))))))))))))))
-          (λ a w-a ws-a e-a is-a. land ! (from ! (stop !))
-          (init ! 23 refl (EL.lawful time-row.the-type time-laws.the-laws 𝓤 H A W tt .typed a (w-a ∷ []) is-a .0)) $
-          spread W (‵ (flft (α-found′ ∷ []) fullShare))
-              (‵ (flft (α-queued ∷ []) fullShare) ∷ ‵ (flft (α-outstanding′ ∷ []) fullShare) ∷ ‵ (flft (α-transmissions ∷ []) fullShare)
-              ∷ ‵ (flft (α-ready ∷ []) fullShare) ∷ ‵ (flft (α-waiting ∷ []) fullShare) ∷ ‵ (flft (α-waiting-numbers ∷ []) fullShare)
-              ∷ ‵ (flft κ₁ q₁) ∷ ‵ (flft κ₂ q₂) ∷ ‵ (flft κ₄ q₄) ∷ ‵ ftrue ∷ []) (id⊢ 𝓤 _) $ move ! (11 ∷ []) $
-              spread W (‵ ftrue) (‵ ftrue ∷ ‵ ftrue ∷ ‵ ftrue ∷ ‵ ftrue ∷ ‵ ftrue ∷ ‵ ftrue ∷ ‵ ftrue ∷ ‵ ftrue ∷ ‵ ftrue
-              ∷ ‵ ftrue ∷ ‵ ftrue ∷ ‵ ftrue ∷ ‵ ftrue ∷ ‵ ftrue ∷ ‵ ftrue ∷ ‵ ftrue ∷ ‵ ftrue ∷ []) (id⊢ 𝓤 _) $
-              move ! (28 ∷ 17 ∷ 0 ∷ 1 ∷ 2 ∷ 3 ∷ 4 ∷ 5 ∷ 6 ∷ 7 ∷ 8 ∷ 9 ∷ 10 ∷ 11 ∷ 12 ∷ 13 ∷ 14 ∷ 15 ∷ 16 ∷ []) $
-              group ! 19 $ drop ! $
-          -- [tok:@found; tok:queued; tok:outstanding; tok:transmissions; tok:ready; tok:waiting; tok:«waiting_numbers»; tok1; tok2; tok4;
-          -- lent:«waiting_numbers»; lent:waiting; lent:ready; lent:transmissions; lent:outstanding; lent:queued; lent:@found; the locals]
-          move ! (0 ∷ 16 ∷ []) $ back-shr ! tt fullShare (Array u32 128) (p 16) 0 (past .0) $
-              cell-out ! fullShare (Array u32 128) (array-vals (uint-vals w32)) (array-tells u32 (uint-vals w32) (uint-tells w32) 128)
-              (past .0) (p 16) 0 (λ was-found-4. use1 W
-              (‵ (fat fullShare (tyArray (tyInt w32) 128) (p 16) 0 (only ((array-vals (uint-vals w32)) (past .0)))))
-              (W .laws .raw-at fullShare (tyArray (tyInt w32) 128) (p 16) 0 (only ((array-vals (uint-vals w32)) (past .0)))) $
-          move ! (1 ∷ 15 ∷ []) $ back-shr ! tt (past .7) (Array u32 128) b (o + 124) (h .queued) $ move ! (2 ∷ 14 ∷ []) $
-              back-shr ! tt (past .7) (Array u32 32) b (o + 636) (h .outstanding) $ move ! (3 ∷ 13 ∷ []) $
-              back-shr ! tt (past .7) (Array u8 32) b (o + 764) (h .transmissions) $ move ! (4 ∷ 12 ∷ []) $
-              back-shr ! tt (past .7) (Array u32 128) b (o + 796) (h .ready) $ move ! (5 ∷ 11 ∷ []) $
-              back-shr ! tt (past .7) (Array u32 128) b (o + 1308) (h .waiting) $ move ! (6 ∷ 10 ∷ []) $
-              back-shr ! tt (past .7) (Array u32 128) b (o + 1820) (h .«waiting_numbers») $
-          same ! (on (a, w-a, e-a, is-a))))))))))) }
+          → ((new : New₉ past) → Seq K W (Leaves₉ p past new Γ) (runs C Λ (En p) (behind 26 (code.function .body)) (atRet (En p) Post)))
+          → Seq K W (Has₉ p past Γ) (runs C Λ (En p) (behind 19 (code.function .body)) (atRet (En p) Post))
+      part₉ {Γ = Γ} t p past on = record {
+        prf =
+            qed W (Has₉ p past Γ) ∵ exec ! C Λ (En p) (behind 19 (code.function .body)) (atRet (En p) Post) $
+            assigns ! {v = (vptr b (o + 124))} (addr ! (place-queued ! (look ! 4 refl))) (from ! (stop !)) (init ! 26 refl (tt, tt)) $
+            assigns ! {v = (vptr b (o + 636))} (addr ! (place-outstanding ! (look ! 4 refl))) (from ! (stop !)) (init ! 25 refl (tt, tt)) $
+            assigns ! {v = (vptr b (o + 764))} (addr ! (place-transmissions ! (look ! 4 refl))) (from ! (stop !))
+            (init ! 24 refl (tt, tt)) $
+            assigns ! {v = (vptr b (o + 796))} (addr ! (place-ready ! (look ! 4 refl))) (from ! (stop !)) (init ! 23 refl (tt, tt)) $
+            assigns ! {v = (vptr b (o + 1308))} (addr ! (place-waiting ! (look ! 4 refl))) (from ! (stop !)) (init ! 22 refl (tt, tt)) $
+            assigns ! {v = (vptr b (o + 1820))} (addr ! (place-waiting-numbers ! (look ! 4 refl))) (from ! (stop !))
+            (init ! 21 refl (tt, tt)) $
+            move ! (2 ∷ []) $ use1 W (‵ (cellAt fullShare ((tyArray (tyInt w32) 128) ∷ [])
+            ((only ((array-vals (uint-vals w32)) (past .0))) ∷ []) (p 16) 0))
+            (W .laws .at-raw fullShare (tyArray (tyInt w32) 128) (p 16) 0 (only ((array-vals (uint-vals w32)) (past .0)))) $
+            cell-in ! fullShare (Array u32 128) (array-makes 𝓤 H A W u32 (uint-makes 𝓤 H A W w32) 128) (past .0) (p 16) 0
+            (only ((array-vals (uint-vals w32)) (past .0))) (past .20) $
+            lend-shr ! tt fullShare (Array u32 128) (past .0) (p 16) 0
+            (λ α-found′ δ-found′. move ! (11 ∷ []) $
+            lend-shr ! tt (past .7) (Array u32 128) (h .queued) b (o + 124)
+            (λ α-queued δ-queued. move ! (8 ∷ []) $
+            lend-shr ! tt (past .7) (Array u32 32) (h .outstanding) b (o + 636)
+            (λ α-outstanding′ δ-outstanding′. move ! (15 ∷ []) $
+            lend-shr ! tt (past .7) (Array u8 32) (h .transmissions) b (o + 764)
+            (λ α-transmissions δ-transmissions. move ! (17 ∷ []) $
+            lend-shr ! tt (past .7) (Array u32 128) (h .ready) b (o + 796)
+            (λ α-ready δ-ready. move ! (19 ∷ []) $
+            lend-shr ! tt (past .7) (Array u32 128) (h .waiting) b (o + 1308)
+            (λ α-waiting δ-waiting. move ! (21 ∷ []) $
+            lend-shr ! tt (past .7) (Array u32 128) (h .«waiting_numbers») b (o + 1820)
+            (λ α-waiting-numbers δ-waiting-numbers. move ! (18 ∷ 19 ∷ 15 ∷ 16 ∷ 12 ∷ 13 ∷ 9 ∷ 10 ∷ 6 ∷ 7 ∷ 3 ∷ 4 ∷ 0 ∷ 1 ∷ 29
+            ∷ 32 ∷ 30 ∷ 33 ∷ 31 ∷ 34 ∷ []) $ group ! 20 $
+            calls-fn ! fm core.ended (core.clauses 𝓤 H A at-mem run) (known .6)
+            (to-core (p 16) α-found′ δ-found′ (past .0) α-queued δ-queued (h .queued) α-outstanding′ δ-outstanding′ (h .outstanding)
+            α-transmissions δ-transmissions (h .transmissions) α-ready δ-ready (h .ready) α-waiting δ-waiting (h .waiting)
+            α-waiting-numbers δ-waiting-numbers (h .«waiting_numbers») (h .settings)
+            (only ((LL.vals settings-row.the-type settings-laws.the-laws) (h .settings))) (h .flight)
+            (only ((LL.vals flight-row.the-type flight-laws.the-laws) (h .flight))) (h .arrival)
+            (only ((LL.vals arrival-row.the-type arrival-laws.the-laws) (h .arrival))) (h .clock)
+            (only ((LL.vals clock-row.the-type clock-laws.the-laws) (h .clock))) (past .3) (past .4) (past .21) (past .22) x₅ v₅)
+            (λ a ws-a. timeOutcome a ≡ checksWith h (recordsIn (past .0)) (x₄ .now) (lentLengths (past .21) (x₁ .now) (x₂ .now) (x₄ .now))
+            x₅) (‵ (flft (α-found′ ∷ []) fullShare) ⊛ ‵
+            (ShrRef (named 0) (α-found′ ∷ []) (Array u32 128) .own (ref-at (p 16) 0 δ-found′ (past .0)) ((vptr (p 16) 0) ∷ [])) ⊛ ‵
+            (flft (α-queued ∷ []) fullShare) ⊛ ‵ (ShrRef (named 0) (α-queued ∷ []) (Array u32 128) .own
+            (ref-at b (o + 124) δ-queued (h .queued)) ((vptr b (o + 124)) ∷ [])) ⊛ ‵ (flft (α-outstanding′ ∷ []) fullShare) ⊛ ‵
+            (ShrRef (named 0) (α-outstanding′ ∷ []) (Array u32 32) .own (ref-at b (o + 636) δ-outstanding′ (h .outstanding))
+            ((vptr b (o + 636)) ∷ [])) ⊛ ‵ (flft (α-transmissions ∷ []) fullShare) ⊛ ‵
+            (ShrRef (named 0) (α-transmissions ∷ []) (Array u8 32) .own (ref-at b (o + 764) δ-transmissions (h .transmissions))
+            ((vptr b (o + 764)) ∷ [])) ⊛ ‵ (flft (α-ready ∷ []) fullShare) ⊛ ‵
+            (ShrRef (named 0) (α-ready ∷ []) (Array u32 128) .own (ref-at b (o + 796) δ-ready (h .ready)) ((vptr b (o + 796)) ∷ [])) ⊛ ‵
+            (flft (α-waiting ∷ []) fullShare) ⊛ ‵ (ShrRef (named 0) (α-waiting ∷ []) (Array u32 128) .own
+            (ref-at b (o + 1308) δ-waiting (h .waiting)) ((vptr b (o + 1308)) ∷ [])) ⊛ ‵ (flft (α-waiting-numbers ∷ []) fullShare) ⊛ ‵
+            (ShrRef (named 0) (α-waiting-numbers ∷ []) (Array u32 128) .own (ref-at b (o + 1820) δ-waiting-numbers (h .«waiting_numbers»))
+            ((vptr b (o + 1820)) ∷ [])) ⊛ ‵ (flft κ₁ q₁) ⊛ ‵ Own₁ ⊛ ‵ (flft κ₂ q₂) ⊛ ‵ Own₂ ⊛ ‵ (flft κ₄ q₄) ⊛ ‵
+            Own₄)
+            (asks-core (p 16) α-found′ δ-found′ (past .0) α-queued δ-queued (h .queued) α-outstanding′ δ-outstanding′ (h .outstanding)
+            α-transmissions δ-transmissions (h .transmissions) α-ready δ-ready (h .ready) α-waiting δ-waiting (h .waiting) α-waiting-numbers
+            δ-waiting-numbers (h .«waiting_numbers») (h .settings)
+            (only ((LL.vals settings-row.the-type settings-laws.the-laws) (h .settings))) (past .14) (h .flight)
+            (only ((LL.vals flight-row.the-type flight-laws.the-laws) (h .flight))) (past .15) (h .arrival)
+            (only ((LL.vals arrival-row.the-type arrival-laws.the-laws) (h .arrival))) (past .16) (h .clock)
+            (only ((LL.vals clock-row.the-type clock-laws.the-laws) (h .clock))) (past .17) (past .3) (past .4) (past .6) (past .21)
+            (past .22) (past .23) x₅ v₅ g₅ (
+              record {
+                whole-queued = (past .8);
+                whole-outstanding = (past .9);
+                whole-transmissions = (past .10);
+                whole-ready = (past .11);
+                whole-waiting = (past .12);
+                whole-numbers = (past .13);
+              },
+              (past .19) .0,
+              ((past .2), ((past .1), (past .5))),
+            )) (λ a ws-a. id⊢ 𝓤 _)
+            (and-then ! (load ! (from ! (stop !)) (look ! 14 refl))
+            (and-then ! (load ! (from ! (stop !)) (look ! 13 refl))
+            (and-then ! (load ! (from ! (stop !)) (look ! 12 refl))
+            (and-then ! (load ! (from ! (stop !)) (look ! 11 refl))
+            (and-then ! (load ! (from ! (stop !)) (look ! 15 refl))
+            (and-then ! (load ! (from ! (stop !)) (look ! 8 refl))
+            (and-then ! (load ! (from ! (stop !)) (look ! 9 refl))
+            (and-then ! (load ! (from ! (stop !)) (look ! 21 refl))
+            (and-then ! (load ! (from ! (stop !)) (look ! 20 refl))
+            (and-then ! (load ! (from ! (stop !)) (look ! 19 refl))
+            (and-then ! (load ! (from ! (stop !)) (look ! 18 refl))
+            (and-then ! (load ! (from ! (stop !)) (look ! 17 refl))
+            (and-then ! (load ! (from ! (stop !)) (look ! 16 refl))
+            (and-then ! (load ! (from ! (stop !)) (look ! 26 refl))
+            (and-then ! (load ! (from ! (stop !)) (look ! 25 refl))
+            (and-then ! (load ! (from ! (stop !)) (look ! 24 refl))
+            (and-then ! (load ! (from ! (stop !)) (look ! 23 refl)) (no-more !))))))))))))))))))
+            (λ a w-a ws-a e-a is-a. land ! (from ! (stop !))
+            (init ! 23 refl (EL.lawful time-row.the-type time-laws.the-laws 𝓤 H A W tt .typed a (w-a ∷ []) is-a .0)) $
+            spread W (‵ (flft (α-found′ ∷ []) fullShare))
+            (‵ (flft (α-queued ∷ []) fullShare) ∷ ‵ (flft (α-outstanding′ ∷ []) fullShare) ∷ ‵ (flft (α-transmissions ∷ []) fullShare)
+            ∷ ‵ (flft (α-ready ∷ []) fullShare) ∷ ‵ (flft (α-waiting ∷ []) fullShare) ∷ ‵ (flft (α-waiting-numbers ∷ []) fullShare)
+            ∷ ‵ (flft κ₁ q₁) ∷ ‵ (flft κ₂ q₂) ∷ ‵ (flft κ₄ q₄) ∷ ‵ ftrue ∷ []) (id⊢ 𝓤 _) $ move ! (11 ∷ []) $
+            spread W (‵ ftrue) (‵ ftrue ∷ ‵ ftrue ∷ ‵ ftrue ∷ ‵ ftrue ∷ ‵ ftrue ∷ ‵ ftrue ∷ ‵ ftrue ∷ ‵ ftrue ∷ ‵ ftrue
+            ∷ ‵ ftrue ∷ ‵ ftrue ∷ ‵ ftrue ∷ ‵ ftrue ∷ ‵ ftrue ∷ ‵ ftrue ∷ ‵ ftrue ∷ ‵ ftrue ∷ []) (id⊢ 𝓤 _) $
+            move ! (28 ∷ 17 ∷ 0 ∷ 1 ∷ 2 ∷ 3 ∷ 4 ∷ 5 ∷ 6 ∷ 7 ∷ 8 ∷ 9 ∷ 10 ∷ 11 ∷ 12 ∷ 13 ∷ 14 ∷ 15 ∷ 16 ∷ []) $
+            group ! 19 $ drop ! $
+            -- [tok:@found; tok:queued; tok:outstanding; tok:transmissions; tok:ready; tok:waiting; tok:«waiting_numbers»; tok1; tok2; tok4;
+            -- lent:«waiting_numbers»; lent:waiting; lent:ready; lent:transmissions; lent:outstanding; lent:queued; lent:@found; the locals]
+            move ! (0 ∷ 16 ∷ []) $ back-shr ! tt fullShare (Array u32 128) (p 16) 0 (past .0) $
+            cell-out ! fullShare (Array u32 128) (array-vals (uint-vals w32)) (array-tells u32 (uint-vals w32) (uint-tells w32) 128)
+            (past .0) (p 16) 0 (λ was-found-4. use1 W
+            (‵ (fat fullShare (tyArray (tyInt w32) 128) (p 16) 0 (only ((array-vals (uint-vals w32)) (past .0)))))
+            (W .laws .raw-at fullShare (tyArray (tyInt w32) 128) (p 16) 0 (only ((array-vals (uint-vals w32)) (past .0)))) $
+            move ! (1 ∷ 15 ∷ []) $ back-shr ! tt (past .7) (Array u32 128) b (o + 124) (h .queued) $ move ! (2 ∷ 14 ∷ []) $
+            back-shr ! tt (past .7) (Array u32 32) b (o + 636) (h .outstanding) $ move ! (3 ∷ 13 ∷ []) $
+            back-shr ! tt (past .7) (Array u8 32) b (o + 764) (h .transmissions) $ move ! (4 ∷ 12 ∷ []) $
+            back-shr ! tt (past .7) (Array u32 128) b (o + 796) (h .ready) $ move ! (5 ∷ 11 ∷ []) $
+            back-shr ! tt (past .7) (Array u32 128) b (o + 1308) (h .waiting) $ move ! (6 ∷ 10 ∷ []) $
+            back-shr ! tt (past .7) (Array u32 128) b (o + 1820) (h .«waiting_numbers») $
+            same ! (on (a, w-a, e-a, is-a)))))))))));
+      }
 
-      -- what part 10 knows, what it tells; what it has, and leaves
+      -- part 10: what it knows, what it tells; what it has, and leaves
       abbrev Known₁₀ : Type 0
       Known₁₀ = (q′ : Share) × (a : Time) × (w-a : Val) × (Is time-row.the-row a (w-a ∷ []))
 
@@ -1114,8 +1202,8 @@ module _ {M : Type 1} (𝓤 : URA M) (H : Heap 𝓤) (A : Atoms 𝓤) (W : Given
       New₁₀ past = (z₆ : ℕ) × (r : ℤ) × (w-r : Val) × (e-r : (r ≡ timeCode (past .1)) × (z₆ ≡ timeStored (past .1) (x₆ .now))) ×
           (Is i32 r (w-r ∷ []))
 
-      abbrev Had₁₀ : (ℕ → ℕ) → Known₁₀ → List (Item 𝓤) → List (Item 𝓤)
-      Had₁₀ p past Γ = ‵ (partAt (Array u32 128) (past .0) (h .«waiting_numbers») b (o + 1820))
+      abbrev Has₁₀ : (ℕ → ℕ) → Known₁₀ → List (Item 𝓤) → List (Item 𝓤)
+      Has₁₀ p past Γ = ‵ (partAt (Array u32 128) (past .0) (h .«waiting_numbers») b (o + 1820))
           ∷ ‵ (partAt (Array u32 128) (past .0) (h .waiting) b (o + 1308)) ∷ ‵ (partAt (Array u32 128) (past .0) (h .ready) b (o + 796))
           ∷ ‵ (partAt (Array u8 32) (past .0) (h .transmissions) b (o + 764))
           ∷ ‵ (partAt (Array u32 32) (past .0) (h .outstanding) b (o + 636)) ∷ ‵ (partAt (Array u32 128) (past .0) (h .queued) b (o + 124))
@@ -1126,61 +1214,61 @@ module _ {M : Type 1} (𝓤 : URA M) (H : Heap 𝓤) (A : Atoms 𝓤) (W : Given
           ∷ ‵ (fobor κ₀ q₀ (partAt L (past .0) h b o)) ∷ ‵ (flft κ₅ q₅) ∷ ‵ Own₆ ∷ ‵ (froom (tyRef erased mut (tyInt w32)) (p 33) 0)
           ∷ ‵ (fat fullShare (tyRef (named 5) mut (tyInt w32)) (p 7) 0 (s₆)) ∷ ‵ (froom (tyInt w32) (p 0) 0) ∷ Γ
 
-      abbrev Left₁₀ : (ℕ → ℕ) → (past : Known₁₀) → New₁₀ past → List (Item 𝓤) → List (Item 𝓤)
-      Left₁₀ p past new Γ = ‵ (flft κ₀ q₀) ∷ ‵ (fres (x₆ .name) (u32 .coded .code (new .0))) ∷ ‵ (flft κ₅ q₅)
+      abbrev Leaves₁₀ : (ℕ → ℕ) → (past : Known₁₀) → New₁₀ past → List (Item 𝓤) → List (Item 𝓤)
+      Leaves₁₀ p past new Γ = ‵ (flft κ₀ q₀) ∷ ‵ (fres (x₆ .name) (u32 .coded .code (new .0))) ∷ ‵ (flft κ₅ q₅)
           ∷ ‵ (fat fullShare time-laws.mir (p 18) 0 ((past .2))) ∷ ‵ (fat fullShare (tyRef erased mut (tyInt w32)) (p 33) 0 (s₆))
           ∷ ‵ (fat fullShare (tyRef (named 5) mut (tyInt w32)) (p 7) 0 (s₆)) ∷ ‵ (fat fullShare (tyInt w32) (p 0) 0 ((new .2))) ∷ Γ
 
       part₁₀ : {K : Type 0} {Γ : List (Item 𝓤)} → K → (p : ℕ → ℕ) (past : Known₁₀)
-          → ((new : New₁₀ past) → Seq K W (Left₁₀ p past new Γ) (runs C Λ (En p) rest₁₁ (atRet (En p) Post)))
-          → Seq K W (Had₁₀ p past Γ) (runs C Λ (En p) rest₁₀ (atRet (En p) Post))
-      unfolding rest₁₀
-      part₁₀ {Γ = Γ} t p past on = record { prf =
-          qed W (Had₁₀ p past Γ) ∵ exec ! C Λ (En p) rest₁₀ (atRet (En p) Post) $
-          assigns ! {v = s₆} (addr ! (from ! (hop ! (look ! 16 refl) (stop !)))) (from ! (stop !)) (init ! 15 refl (tt, tt)) $
-          move ! (13 ∷ 14 ∷ []) $ join ! $
-              calls-fn ! fm code-of.ended (code-of.clauses 𝓤 H A at-mem run) (known .7) (to-code-of  (past .1) (past .2))
-              (λ r ws-r. (r ≡ timeCode (past .1)) × ((ws-r .1 .0) ≡ timeStored (past .1) (x₆ .now))) (‵ (flft κ₅ q₅) ⊛ ‵ Own₆)
-          (asks-code-of  (past .1) (past .2) (past .3) ) (λ r ws-r. id⊢ 𝓤 _)
-          (and-then ! (load ! (from ! (stop !)) (look ! 7 refl)) (and-then ! (load ! (from ! (stop !)) (look ! 14 refl)) (no-more !)))
-          (λ r w-r ws-r e-r is-r. land ! (from ! (stop !)) (init ! 17 refl (sint-lawful 𝓤 H A W w32 .typed r _ is-r .0)) $
-          spread W (‵ (flft κ₅ q₅)) (‵ ftrue ∷ []) (id⊢ 𝓤 _) $ move ! (2 ∷ []) $
-              spread W (‵ ftrue) (‵ (fres (x₆ .name) (u32 .coded .code (ws-r .1 .0))) ∷ ‵ ftrue ∷ []) (id⊢ 𝓤 _) $
-              move ! (4 ∷ 2 ∷ 0 ∷ []) $ group ! 3 $ drop ! $
-          -- [fin6; tok6; F:«waiting_numbers»; F:waiting; F:ready; F:transmissions; F:outstanding; F:queued; F:clock; F:arrival; F:flight;
-          -- F:settings; back; opened; the locals]
-          move ! (12 ∷ 11 ∷ 10 ∷ 9 ∷ 7 ∷ 6 ∷ 5 ∷ 4 ∷ 3 ∷ 2 ∷ 13 ∷ 14 ∷ []) $ shuts-link b o γ ! tt (past .0) h $
-          -- [tok0; fin6; tok6; the locals]
-          same ! (on ((ws-r .1 .0), r, w-r, e-r, is-r))) }
+          → ((new : New₁₀ past) → Seq K W (Leaves₁₀ p past new Γ) (runs C Λ (En p) (behind 28 (code.function .body)) (atRet (En p) Post)))
+          → Seq K W (Has₁₀ p past Γ) (runs C Λ (En p) (behind 26 (code.function .body)) (atRet (En p) Post))
+      part₁₀ {Γ = Γ} t p past on = record {
+        prf =
+            qed W (Has₁₀ p past Γ) ∵ exec ! C Λ (En p) (behind 26 (code.function .body)) (atRet (En p) Post) $
+            assigns ! {v = s₆} (addr ! (from ! (hop ! (look ! 16 refl) (stop !)))) (from ! (stop !)) (init ! 15 refl (tt, tt)) $
+            move ! (13 ∷ 14 ∷ []) $ join ! $
+            calls-fn ! fm code-of.ended (code-of.clauses 𝓤 H A at-mem run) (known .7) (to-code-of (past .1) (past .2))
+            (λ r ws-r. (r ≡ timeCode (past .1)) × ((ws-r .1 .0) ≡ timeStored (past .1) (x₆ .now))) (‵ (flft κ₅ q₅) ⊛ ‵ Own₆)
+            (asks-code-of (past .1) (past .2) (past .3)) (λ r ws-r. id⊢ 𝓤 _)
+            (and-then ! (load ! (from ! (stop !)) (look ! 7 refl)) (and-then ! (load ! (from ! (stop !)) (look ! 14 refl)) (no-more !)))
+            (λ r w-r ws-r e-r is-r. land ! (from ! (stop !)) (init ! 17 refl (sint-lawful 𝓤 H A W w32 .typed r _ is-r .0)) $
+            spread W (‵ (flft κ₅ q₅)) (‵ ftrue ∷ []) (id⊢ 𝓤 _) $ move ! (2 ∷ []) $
+            spread W (‵ ftrue) (‵ (fres (x₆ .name) (u32 .coded .code (ws-r .1 .0))) ∷ ‵ ftrue ∷ []) (id⊢ 𝓤 _) $
+            move ! (4 ∷ 2 ∷ 0 ∷ []) $ group ! 3 $ drop ! $
+            -- [fin6; tok6; F:«waiting_numbers»; F:waiting; F:ready; F:transmissions; F:outstanding; F:queued; F:clock; F:arrival; F:flight;
+            -- F:settings; back; opened; the locals]
+            move ! (12 ∷ 11 ∷ 10 ∷ 9 ∷ 7 ∷ 6 ∷ 5 ∷ 4 ∷ 3 ∷ 2 ∷ 13 ∷ 14 ∷ []) $ shuts-link b o γ ! tt (past .0) h $
+            -- [tok0; fin6; tok6; the locals]
+            same ! (on ((ws-r .1 .0), r, w-r, e-r, is-r)));
+      }
 
       walk : ent 𝓤 (onEntry 𝓤 H A f.signature (κ₀, (κ₁, (κ₂, (κ₃, (κ₄, (κ₅, tt)))))) (q₀, (q₁, (q₂, (q₃, (q₄, (q₅, tt))))))
           x at) (WpFn 𝓤 H C Λ code.function (vptr b o ∷ s₁ ∷ s₂ ∷ s₃ ∷ s₄ ∷ v₅ ∷ s₆ ∷ []) Post)
-      unfolding rest₁ rest₂ rest₃ rest₄ rest₅ rest₆ rest₇ rest₈ rest₉ rest₁₀ rest₁₁
       walk =
           qed W ((‵ (flft κ₀ q₀) ⊛ ‵ (flft κ₁ q₁) ⊛ ‵ (flft κ₂ q₂) ⊛ ‵ (flft κ₃ q₃) ⊛ ‵ (flft κ₄ q₄) ⊛ ‵
-              (flft κ₅ q₅) ⊛ ‵ ftrue) ∷ ‵ (owns (ShrRef (named 0) κ₀ L ∷ ShrSlice (named 1) κ₁ u8 ∷ ShrSlice (named 2) κ₂ u8
-              ∷ ShrSlice (named 3) κ₃ R ∷ ShrSlice (named 4) κ₄ u32 ∷ u32 ∷ MutRef (named 5) κ₅ u32 ∷ []) x at) ∷ []) ∵
-              enter ! C Λ code.function (vptr b o ∷ s₁ ∷ s₂ ∷ s₃ ∷ s₄ ∷ v₅ ∷ s₆ ∷ []) _ $
+          (flft κ₅ q₅) ⊛ ‵ ftrue) ∷ ‵ (owns (ShrRef (named 0) κ₀ L ∷ ShrSlice (named 1) κ₁ u8 ∷ ShrSlice (named 2) κ₂ u8
+          ∷ ShrSlice (named 3) κ₃ R ∷ ShrSlice (named 4) κ₄ u32 ∷ u32 ∷ MutRef (named 5) κ₅ u32 ∷ []) x at) ∷ []) ∵
+          enter ! C Λ code.function (vptr b o ∷ s₁ ∷ s₂ ∷ s₃ ∷ s₄ ∷ v₅ ∷ s₆ ∷ []) _ $
           allocates ! (code.function .locals) (λ p. params1 ! $
           pass1 ! (init ! 33 refl (tt, tt)) $ pass1 ! (init ! 32 refl (tt, (tt, (record { fits = room₁ .0 }, tt)))) $
-              pass1 ! (init ! 31 refl (tt, (tt, (record { fits = room₂ .0 }, tt)))) $
-              pass1 ! (init ! 30 refl (tt, (tt, (record { fits = room₃ .0 }, tt)))) $
-              pass1 ! (init ! 29 refl (tt, (tt, (record { fits = room₄ .0 }, tt)))) $
-              pass1 ! (init ! 28 refl (uint-lawful 𝓤 H A W w32 .typed x₅ _ g₅ .0)) $ pass1 ! (init ! 27 refl (tt, tt)) $ pass0 ! $
+          pass1 ! (init ! 31 refl (tt, (tt, (record { fits = room₂ .0 }, tt)))) $
+          pass1 ! (init ! 30 refl (tt, (tt, (record { fits = room₃ .0 }, tt)))) $
+          pass1 ! (init ! 29 refl (tt, (tt, (record { fits = room₄ .0 }, tt)))) $
+          pass1 ! (init ! 28 refl (uint-lawful 𝓤 H A W w32 .typed x₅ _ g₅ .0)) $ pass1 ! (init ! 27 refl (tt, tt)) $ pass0 ! $
           move ! (36 ∷ []) $ spread W (‵ (ShrRef (named 0) κ₀ L .own (ref-at b o γ h) (vptr b o ∷ [])))
-              (‵ (ShrSlice (named 1) κ₁ u8 .own (x₁) (s₁ ∷ [])) ∷ ‵ (ShrSlice (named 2) κ₂ u8 .own (x₂) (s₂ ∷ []))
-              ∷ ‵ (ShrSlice (named 3) κ₃ R .own (x₃) (s₃ ∷ [])) ∷ ‵ (ShrSlice (named 4) κ₄ u32 .own (x₄) (s₄ ∷ []))
-              ∷ ‵ (u32 .own (x₅) (v₅ ∷ [])) ∷ ‵ (MutRef (named 5) κ₅ u32 .own (x₆) (s₆ ∷ [])) ∷ ‵ ftrue ∷ []) (id⊢ 𝓤 _) $
-              move ! (43 ∷ []) $ spread W (‵ (flft κ₀ q₀))
-              (‵ (flft κ₁ q₁) ∷ ‵ (flft κ₂ q₂) ∷ ‵ (flft κ₃ q₃) ∷ ‵ (flft κ₄ q₄) ∷ ‵ (flft κ₅ q₅) ∷ ‵ ftrue
-              ∷ []) (id⊢ 𝓤 _) $ move ! (12 ∷ 14 ∷ 6 ∷ []) $ group ! 3 $ drop ! $
+          (‵ (ShrSlice (named 1) κ₁ u8 .own (x₁) (s₁ ∷ [])) ∷ ‵ (ShrSlice (named 2) κ₂ u8 .own (x₂) (s₂ ∷ []))
+          ∷ ‵ (ShrSlice (named 3) κ₃ R .own (x₃) (s₃ ∷ [])) ∷ ‵ (ShrSlice (named 4) κ₄ u32 .own (x₄) (s₄ ∷ []))
+          ∷ ‵ (u32 .own (x₅) (v₅ ∷ [])) ∷ ‵ (MutRef (named 5) κ₅ u32 .own (x₆) (s₆ ∷ [])) ∷ ‵ ftrue ∷ []) (id⊢ 𝓤 _) $
+          move ! (43 ∷ []) $ spread W (‵ (flft κ₀ q₀))
+          (‵ (flft κ₁ q₁) ∷ ‵ (flft κ₂ q₂) ∷ ‵ (flft κ₃ q₃) ∷ ‵ (flft κ₄ q₄) ∷ ‵ (flft κ₅ q₅) ∷ ‵ ftrue
+          ∷ []) (id⊢ 𝓤 _) $ move ! (12 ∷ 14 ∷ 6 ∷ []) $ group ! 3 $ drop ! $
           -- [tok0; tok1; tok2; tok3; tok4; tok6; own0; own1; own2; own3; own4; own6; deaths; the locals]
           move ! (27 ∷ []) $ part₁ ! p (tt) (λ new₁.
           -- [tok0; tok1; tok2; tok3; tok4; tok6; own0; own1; own2; own3; own4; own6; deaths; the locals]
           move ! (0 ∷ 38 ∷ []) $ part₂ ! p ((new₁ .0), (new₁ .1), (new₁ .3)) (λ new₂.
           -- [tok0; tok1; tok2; tok3; tok4; tok6; own0; own1; own2; own3; own4; own6; deaths; the locals]
           move ! (0 ∷ 1 ∷ 2 ∷ 8 ∷ 27 ∷ 28 ∷ 37 ∷ 38 ∷ 45 ∷ []) $
-              part₃ ! p ((new₁ .0), (new₁ .1), (new₁ .2), (new₁ .3), (new₂ .0), (new₂ .1), (new₂ .2), (new₂ .3)) (λ new₃.
+          part₃ ! p ((new₁ .0), (new₁ .1), (new₁ .2), (new₁ .3), (new₂ .0), (new₂ .1), (new₂ .2), (new₂ .3)) (λ new₃.
           -- [tok0; own0; tok1; tok2; tok3; tok4; tok6; own1; own2; own3; own4; own6; deaths; the locals]
           move ! (2 ∷ 3 ∷ 8 ∷ 35 ∷ 36 ∷ 37 ∷ 38 ∷ 39 ∷ []) $ part₄ ! p (tt) (λ new₄.
           -- [F:clock; F:arrival; F:flight; F:settings; F:«waiting_numbers»; F:waiting; F:ready; F:transmissions; F:outstanding; F:queued;
@@ -1189,7 +1277,7 @@ module _ {M : Type 1} (𝓤 : URA M) (H : Heap 𝓤) (A : Atoms 𝓤) (W : Given
           -- [F:clock; F:arrival; F:flight; F:settings; F:«waiting_numbers»; F:waiting; F:ready; F:transmissions; F:outstanding; F:queued;
           -- back; opened; tok1; tok2; tok3; tok4; tok6; own1; own2; own3; own4; own6; deaths; the locals]
           move ! (0 ∷ 9 ∷ 13 ∷ 14 ∷ 27 ∷ 32 ∷ 44 ∷ 45 ∷ 46 ∷ 49 ∷ 53 ∷ []) $
-              part₆ ! p ((new₄ .0), (new₄ .2), (new₄ .11), (new₄ .12), (new₄ .14), (new₅ .0), (new₅ .1), (new₅ .2), (new₅ .3)) (λ new₆.
+          part₆ ! p ((new₄ .0), (new₄ .2), (new₄ .11), (new₄ .12), (new₄ .14), (new₅ .0), (new₅ .1), (new₅ .2), (new₅ .3)) (λ new₆.
           -- [F:outstanding; tok3; own3; F:clock; F:arrival; F:flight; F:settings; F:«waiting_numbers»; F:waiting; F:ready; F:transmissions;
           -- F:queued; back; opened; tok1; tok2; tok4; tok6; own1; own2; own4; own6; deaths; the locals]
           move ! (2 ∷ 3 ∷ 10 ∷ 50 ∷ []) $ part₇ ! p (tt) (λ new₇.
@@ -1199,55 +1287,98 @@ module _ {M : Type 1} (𝓤 : URA M) (H : Heap 𝓤) (A : Atoms 𝓤) (W : Given
           -- [tok3; F:outstanding; F:clock; F:arrival; F:flight; F:settings; F:«waiting_numbers»; F:waiting; F:ready; F:transmissions;
           -- F:queued; back; opened; tok1; tok2; tok4; tok6; own1; own2; own4; own6; deaths; the locals]
           move ! (0 ∷ 3 ∷ 4 ∷ 5 ∷ 7 ∷ 16 ∷ 17 ∷ 18 ∷ 19 ∷ 20 ∷ 23 ∷ 24 ∷ 25 ∷ 26 ∷ 32 ∷ 33 ∷ 34 ∷ 35 ∷ 37 ∷ 38 ∷ 39
-              ∷ 43 ∷ 44 ∷ 45 ∷ 46 ∷ 47 ∷ 48 ∷ 49 ∷ 51 ∷ 52 ∷ 53 ∷ 54 ∷ []) $
-              part₉ ! p ((new₆ .0), (new₃ .0), (new₃ .1), (new₃ .2), (new₃ .3), (new₃ .4), (new₃ .5), (new₄ .0), (new₄ .1), (new₄ .2),
-              (new₄ .3), (new₄ .4), (new₄ .5), (new₄ .6), (new₄ .7), (new₄ .8), (new₄ .9), (new₄ .10), (new₄ .11), (new₆ .2), (new₆ .3),
-              (new₇ .0), (new₇ .1), (new₇ .3)) (λ new₉.
+          ∷ 43 ∷ 44 ∷ 45 ∷ 46 ∷ 47 ∷ 48 ∷ 49 ∷ 51 ∷ 52 ∷ 53 ∷ 54 ∷ []) $
+          part₉ ! p (
+            (new₆ .0),
+            (new₃ .0),
+            (new₃ .1),
+            (new₃ .2),
+            (new₃ .3),
+            (new₃ .4),
+            (new₃ .5),
+            (new₄ .0),
+            (new₄ .1),
+            (new₄ .2),
+            (new₄ .3),
+            (new₄ .4),
+            (new₄ .5),
+            (new₄ .6),
+            (new₄ .7),
+            (new₄ .8),
+            (new₄ .9),
+            (new₄ .10),
+            (new₄ .11),
+            (new₆ .2),
+            (new₆ .3),
+            (new₇ .0),
+            (new₇ .1),
+            (new₇ .3),
+          ) (λ new₉.
           -- [F:«waiting_numbers»; F:waiting; F:ready; F:transmissions; F:outstanding; F:queued; tok1; tok2; tok4; tok3; F:clock; F:arrival;
           -- F:flight; F:settings; back; opened; tok6; own6; deaths; the locals]
           move ! (0 ∷ 1 ∷ 2 ∷ 3 ∷ 4 ∷ 5 ∷ 24 ∷ 36 ∷ 37 ∷ 38 ∷ 39 ∷ 40 ∷ 41 ∷ 47 ∷ 48 ∷ 50 ∷ 51 ∷ 52 ∷ []) $
-              part₁₀ ! p ((new₄ .0), (new₉ .0), (new₉ .1), (new₉ .3)) (λ new₁₀.
+          part₁₀ ! p ((new₄ .0), (new₉ .0), (new₉ .1), (new₉ .3)) (λ new₁₀.
           -- [tok0; fin6; tok6; tok1; tok2; tok4; tok3; deaths; the locals]
           returns ! (look ! 6 refl) $
           move ! (41 ∷ 6 ∷ 13 ∷ 28 ∷ 27 ∷ 30 ∷ 26 ∷ 25 ∷ 5 ∷ 37 ∷ 36 ∷ 18 ∷ 17 ∷ 16 ∷ 15 ∷ 14 ∷ 32 ∷ 7 ∷ 12 ∷ 3 ∷ 38
-              ∷ 40 ∷ 39 ∷ 31 ∷ 35 ∷ 34 ∷ 33 ∷ 11 ∷ 24 ∷ 23 ∷ 22 ∷ 21 ∷ 20 ∷ 19 ∷ 4 ∷ []) $
-              frees-all ! (code.function .locals) p (holds ((new₁₀ .2)) ∷ holds (vptr b o) ∷ holds (s₁) ∷ holds (s₂) ∷ holds (s₃)
-              ∷ holds (s₄) ∷ holds (v₅) ∷ holds (s₆) ∷ holds ((only ((array-vals (uint-vals w8)) (new₃ .1))))
-              ∷ holds ((only ((array-vals (uint-vals w8)) (new₃ .0)))) ∷ holds ((new₃ .3))
-              ∷ holds ((only ((LL.vals settings-row.the-type settings-laws.the-laws) (h .settings))))
-              ∷ holds ((only ((LL.vals flight-row.the-type flight-laws.the-laws) (h .flight))))
-              ∷ holds ((only ((LL.vals arrival-row.the-type arrival-laws.the-laws) (h .arrival))))
-              ∷ holds ((only ((LL.vals clock-row.the-type clock-laws.the-laws) (h .clock)))) ∷ holds ((new₄ .12))
-              ∷ holds ((only ((array-vals (uint-vals w32)) (new₆ .0)))) ∷ holds ((new₇ .1)) ∷ holds ((new₉ .1)) ∷ holds ((new₂ .1))
-              ∷ holds ((vptr (p 8) 0)) ∷ holds ((vptr (p 9) 0)) ∷ holds ((new₅ .1)) ∷ holds ((new₆ .1)) ∷ holds ((vptr b (o + 636)))
-              ∷ holds ((vptr (p 16) 0)) ∷ holds ((vptr (p 16) 0)) ∷ holds ((vptr b (o + 124))) ∷ holds ((vptr b (o + 636)))
-              ∷ holds ((vptr b (o + 764))) ∷ holds ((vptr b (o + 796))) ∷ holds ((vptr b (o + 1308))) ∷ holds ((vptr b (o + 1820)))
-              ∷ holds (s₆) ∷ []) $
+          ∷ 40 ∷ 39 ∷ 31 ∷ 35 ∷ 34 ∷ 33 ∷ 11 ∷ 24 ∷ 23 ∷ 22 ∷ 21 ∷ 20 ∷ 19 ∷ 4 ∷ []) $
+          frees-all ! (code.function .locals) p (holds ((new₁₀ .2)) ∷ holds (vptr b o) ∷ holds (s₁) ∷ holds (s₂) ∷ holds (s₃)
+          ∷ holds (s₄) ∷ holds (v₅) ∷ holds (s₆) ∷ holds ((only ((array-vals (uint-vals w8)) (new₃ .1))))
+          ∷ holds ((only ((array-vals (uint-vals w8)) (new₃ .0)))) ∷ holds ((new₃ .3))
+          ∷ holds ((only ((LL.vals settings-row.the-type settings-laws.the-laws) (h .settings))))
+          ∷ holds ((only ((LL.vals flight-row.the-type flight-laws.the-laws) (h .flight))))
+          ∷ holds ((only ((LL.vals arrival-row.the-type arrival-laws.the-laws) (h .arrival))))
+          ∷ holds ((only ((LL.vals clock-row.the-type clock-laws.the-laws) (h .clock)))) ∷ holds ((new₄ .12))
+          ∷ holds ((only ((array-vals (uint-vals w32)) (new₆ .0)))) ∷ holds ((new₇ .1)) ∷ holds ((new₉ .1)) ∷ holds ((new₂ .1))
+          ∷ holds ((vptr (p 8) 0)) ∷ holds ((vptr (p 9) 0)) ∷ holds ((new₅ .1)) ∷ holds ((new₆ .1)) ∷ holds ((vptr b (o + 636)))
+          ∷ holds ((vptr (p 16) 0)) ∷ holds ((vptr (p 16) 0)) ∷ holds ((vptr b (o + 124))) ∷ holds ((vptr b (o + 636)))
+          ∷ holds ((vptr b (o + 764))) ∷ holds ((vptr b (o + 796))) ∷ holds ((vptr b (o + 1308))) ∷ holds ((vptr b (o + 1820)))
+          ∷ holds (s₆) ∷ []) $
           move ! (0 ∷ 3 ∷ 4 ∷ 6 ∷ 5 ∷ 1 ∷ 2 ∷ []) $
-              by ! (exits (new₁₀ .1) (new₁₀ .2)  ((new₁₀ .0))
-              (told timeCode _ (new₉ .0) ((new₁₀ .3) .0)
-              (record { time = check-promised h (partsOf (x₁ .now) (x₂ .now) (x₃ .now) (x₄ .now)) (recordsIn (new₆ .0)) (new₇ .0)
-              (gathers h (partsOf (x₁ .now) (x₂ .now) (x₃ .now) (x₄ .now)) (new₄ .11) (recordsIn (new₆ .0)) (new₇ .0) (new₄ .13)
-              ((new₆ .2) .1) (new₇ .2)) x₅ (new₉ .0) (new₉ .2); when = (new₁₀ .3) .1 }))  (new₁₀ .4)))))))))))))
+          by ! (exits (new₁₀ .1) (new₁₀ .2) ((new₁₀ .0))
+          (told timeCode _ (new₉ .0) ((new₁₀ .3) .0)
+          (record {
+            time = check-promised h (partsOf (x₁ .now) (x₂ .now) (x₃ .now) (x₄ .now)) (recordsIn (new₆ .0)) (new₇ .0)
+                (gathers h (partsOf (x₁ .now) (x₂ .now) (x₃ .now) (x₄ .now)) (new₄ .11) (recordsIn (new₆ .0)) (new₇ .0) (new₄ .13)
+                ((new₆ .2) .1) (new₇ .2)) x₅ (new₉ .0) (new₉ .2);
+            when = (new₁₀ .3) .1;
+          })) (new₁₀ .4)))))))))))))
 
   f-meets : (𝓣 : Tables 𝓤 H) → Known (𝓣 .C)
       → Meets 𝓤 H A f.signature (WpFn 𝓤 H (𝓣 .C) (𝓣 .Λ) code.function) (f.spec 𝓤 H A at-mem run)
   unfolding Post
-  f-meets 𝓣 known = walk-meets 𝓤 H A f.ended stayed W
-      (goes-dropped 𝓤 H A W 6 (shrRefTo (0 ∷ []) tt (plain (λ _. L))) yes (λ κs x f. refl),
-      (goes-dropped 𝓤 H A W 6 (shrSliceOf (1 ∷ []) tt (plain (λ _. u8))) yes (λ κs x f. refl),
-      (goes-dropped 𝓤 H A W 6 (shrSliceOf (2 ∷ []) tt (plain (λ _. u8))) yes (λ κs x f. refl),
-      (goes-dropped 𝓤 H A W 6 (shrSliceOf (3 ∷ []) tt (plain (λ _. R))) yes (λ κs x f. refl),
-      (goes-dropped 𝓤 H A W 6 (shrSliceOf (4 ∷ []) tt (plain (λ _. u32))) yes (λ κs x f. refl),
-      (goes-dropped 𝓤 H A W 6 (plain (λ _. u32)) yes (λ κs x f. refl), (goes-gave-ref 𝓤 H A W 6 5 tt (plain (λ _. u32)), tt)))))))
+  f-meets 𝓣 known = walk-meets 𝓤 H A f.ended stayed W (
+    goes-dropped 𝓤 H A W 6 (shrRefTo (0 ∷ []) tt (plain (λ _. L))) yes (λ κs x f. refl),
+    (
+      goes-dropped 𝓤 H A W 6 (shrSliceOf (1 ∷ []) tt (plain (λ _. u8))) yes (λ κs x f. refl),
+      (
+        goes-dropped 𝓤 H A W 6 (shrSliceOf (2 ∷ []) tt (plain (λ _. u8))) yes (λ κs x f. refl),
+        (
+          goes-dropped 𝓤 H A W 6 (shrSliceOf (3 ∷ []) tt (plain (λ _. R))) yes (λ κs x f. refl),
+          (
+            goes-dropped 𝓤 H A W 6 (shrSliceOf (4 ∷ []) tt (plain (λ _. u32))) yes (λ κs x f. refl),
+            (goes-dropped 𝓤 H A W 6 (plain (λ _. u32)) yes (λ κs x f. refl), (goes-gave-ref 𝓤 H A W 6 5 tt (plain (λ _. u32)), tt)),
+          ),
+        ),
+      ),
+    ),
+  )
       (f.clauses 𝓤 H A at-mem run) (WpFn 𝓤 H (𝓣 .C) (𝓣 .Λ) code.function) (WpFn-mono 𝓤 H (W .laws) 𝓣 code.function)
       (walked 𝓤 H A f.ended stayed (f.clauses 𝓤 H A at-mem run) (WpFn 𝓤 H (𝓣 .C) (𝓣 .Λ) code.function)
       (λ κs. (ptr-vals, (slice-vals, (slice-vals, (slice-vals, (slice-vals, ((uint-vals w32), (ptr-vals, tt))))))))
-      (λ κs. (shr-tells (named 0) (κs .0) L,
-      (shr-slice-tells (named 1) (κs .1 .0) u8,
-      (shr-slice-tells (named 2) (κs .1 .1 .0) u8,
-      (shr-slice-tells (named 3) (κs .1 .1 .1 .0) R,
-      (shr-slice-tells (named 4) (κs .1 .1 .1 .1 .0) u32, ((uint-tells w32), (mut-tells (named 5) (κs .1 .1 .1 .1 .1 .0) u32, tt))))))))
+      (λ κs. (
+        shr-tells (named 0) (κs .0) L,
+        (
+          shr-slice-tells (named 1) (κs .1 .0) u8,
+          (
+            shr-slice-tells (named 2) (κs .1 .1 .0) u8,
+            (
+              shr-slice-tells (named 3) (κs .1 .1 .1 .0) R,
+              (shr-slice-tells (named 4) (κs .1 .1 .1 .1 .0) u32, ((uint-tells w32), (mut-tells (named 5) (κs .1 .1 .1 .1 .1 .0) u32, tt))),
+            ),
+          ),
+        ),
+      ))
       (λ κs qs bounds a g are. via 𝓤 _ (fst∗ 𝓤 _ (emp 𝓤))
       (walk (κs .0) (κs .1 .0) (κs .1 .1 .0) (κs .1 .1 .1 .0) (κs .1 .1 .1 .1 .0) (κs .1 .1 .1 .1 .1 .0) (qs .0) (qs .1 .0) (qs .1 .1 .0)
       (qs .1 .1 .1 .0) (qs .1 .1 .1 .1 .0) (qs .1 .1 .1 .1 .1 .0) (a .0 .ptr .0) (a .0 .ptr .1) (a .0 .name) (a .0 .now) (a .1 .0)
