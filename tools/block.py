@@ -70,10 +70,12 @@ def block():
 
 
 PLACES = '''-- ---- the place of each field behind the pointer in a local, in code
-module _ {M : Type 1} {𝓤 : URA M} {H : Heap 𝓤} {A : Atoms 𝓤} {K : Type 0} {W : Given 𝓤 H A} {Γ : List (Item 𝓤)} {E : Env 𝓤 H} {i b o : ℕ} where
+module _ {M : Type 1} {𝓤 : URA M} {H : Heap 𝓤} {A : Atoms 𝓤} {K : Type 0} {W : Given 𝓤 H A} {Γ : List (Item 𝓤)} {E : Env 𝓤 H}
+    {i b o : ℕ} where
 '''
 
-PLACE = '''  pub place-{name} : K → Reads K W Γ (spotOf 𝓤 H E i .0) (spotOf 𝓤 H E i .1) (spotOf 𝓤 H E i .2) (vptr b o) → Finds K W Γ E (place i (deref B′.mir ∷ field {i} ∷ [])) ({where}, b, o + {at})
+PLACE = '''  pub place-{name} : K → Reads K W Γ (spotOf 𝓤 H E i .0) (spotOf 𝓤 H E i .1) (spotOf 𝓤 H E i .2) (vptr b o)
+      → Finds K W Γ E (place i (deref B′.mir ∷ field {i} ∷ [])) ({where}, b, o + {at})
   place-{name} t r = from t (hop t r (fld t {{d = {at}}} refl (stop t)))
 '''
 

@@ -1,12 +1,12 @@
 # The proof file around a walk: what it cites, what each callee is called at, the exit, and the walk taken to the contract.
 import re
 
-from walk import at, cons, low, needed, nest, words
+from walk import at, cons, hyphened, low, needed, nest, words
 
 WALK = '''_≡_, refl, ap, ℕ, _+_, List, [], _∷_, length, set, URA, fullShare, named, w8, w32, w64, Val, vint, vptr, SProp, ent, emp, via, fst∗, id⊢, Lft, GName, Share, Fml, ftrue, flft,
 Memory, Routine, Heap, Calls, Loops, WpFn, Tables, Atoms, Fun, givenOf, tables, tablesOf, Given, Item, ‵, some, later, _⊛_, ⋆, _$_, _∵_, !, qed, by, move, drop, use1, use2,
-split, join, pick, await, fsplit, fjoin, feqL, suffices, frame, done, look, look-raw, look-in, sub, whole, init, store, store-raw, forget, stop, hop, fld, from, load, of-opd,
-agg, addr, and-then, no-more, assigns, returns, enter, alloc1, alloc0, params1, pass1, pass0, free1, free0, land, WpFn-mono, FmC, fmOf, owns, Is, uint-vals, uint-tells,
+split, join, pick, await, fsplit, fjoin, feqL, suffices, frame, done, look, look-raw, look-in, sub, whole, init, store, store-raw, stop, hop, fld, from, load,
+of-opd, agg, addr, and-then, no-more, assigns, returns, enter, params1, pass1, pass0, land, WpFn-mono, FmC, fmOf, owns, Is, uint-vals, uint-tells,
 uint-makes, RefT, sliceVal, MutSlice, ShrSlice, Room, slice-vals, mut-slice-tells, shr-slice-tells, finally, plain, u8, u32, usize, nothing, owned, only, Vals, onEntry,
 Triple, Meets, tripleOf, entered, cited, says, Stays, gave-slice, goes-gave-slice, needs, walkOf, ends-at, walked, walk-meets, yes'''
 
@@ -15,14 +15,14 @@ use Rattle.records.proofs.Shared.{LentShared, lends-shared, shared-back}
 use Rattle.records.proofs.Rows.{R}
 use Rattle.lending.proofs.Fields.{ref-at, lend-mut, back-mut, lend-shr, back-shr, cell-out, cell-in, tells-length, lend-whole, back-whole}
 use Rattle.lending.proofs.Locals.{envAt, allocates, frees-all, holds, empty}
-use Rattle.lending.proofs.Parts.{behind, taking, spread, same}
-use Rattle.lending.proofs.Block.{L, Open, Back, link-own, link-shr, opens-link, closes-link, looks-link, shuts-link, place-settings, place-flight, place-arrival, place-clock, place-queued, place-outstanding, place-transmissions, place-ready, place-waiting, place-waiting-numbers}
+use Rattle.lending.proofs.Parts.{behind, spread, same}
+use Rattle.lending.proofs.Block.{L, Open, Back, link-own, link-shr, opens-link, closes-link, looks-link, shuts-link, PLACES}
 use Rattle.control.specs.declared.Link.{Link}
 use Rattle.timing.specs.declared.Record.{Record}
 use lib.IntN.{ℤ}
 use mir.Syntax.{w16}
-use base.Fml.{fres, froom, fdies, fobor, fsep, feq}
-use mir.Syntax.{Body, return, imm, mut, erased, tyInt, tyArray, tyRef, tyPtr, tyUnit, tyBool}
+use base.Fml.{fres, froom, fobor, fsep, feq}
+use mir.Syntax.{imm, mut, erased, tyInt, tyArray, tyRef, tyPtr, tyUnit, tyBool}
 use denote.Slice.{sliceTy}
 use denote.Memory.{pointee}
 use Rattle.timing.proofs.Record.Laws as record-laws
@@ -55,7 +55,8 @@ def proof_file(w):
 
     say(f'-- `{w.crate}::{w.name}` meets its contract: a walk of its MIR. {w.about}')
     say('-- Of each callee the proof knows only that it meets its contract. Written by tools/calls.py.\n-- Assumes nothing.')
-    say(f'use Rattle.records.proofs.Walk.{{{" ".join(WALK.split())}, fat, exec}}\n{CITES}')
+    places = ', '.join(f'place-{hyphened(f)}' for f in w.fields)
+    say(f'use Rattle.records.proofs.Walk.{{{" ".join(WALK.split())}, fat, exec}}\n' + CITES.replace('PLACES', places))
     out += w.uses
     for crate, name, alias in w.callees:
         module = f'Rattle.{crate}.proofs.{name}' if crate == w.crate else f'Rattle.{crate}.proofs.{name}'
@@ -69,11 +70,6 @@ def proof_file(w):
             return f"{'stay' if p.kind == 'ref' else 'gave'}-ref ({p.lft} ∷ []) tt {p.behind()}"
         return 'stay-dropped _ yes'
     say(f'abbrev stayed : Stays (f.ended .signature .params) (f.ended .kept)\nstayed = {nest([stay(p) for p in pars])}\n')
-
-    say('-- the rest of the body where each part begins, and behind the last')
-    for k in range(len(w.parts), -1, -1):
-        body = f"taking {w.parts[k]['to'] - w.parts[k]['from']} (behind {w.parts[k]['from']} (code.function .body)) rest{low(k + 2)}" if k < len(w.parts) else 'return'
-        say(f'unfoldable rest{low(k + 1)} : Body\nrest{low(k + 1)} = {body}\n')
 
     say('module _ {M : Type 1} (𝓤 : URA M) (H : Heap 𝓤) (A : Atoms 𝓤) (W : Given 𝓤 H A) (at-mem : Memory → SProp 𝓤) (run : Routine → Fun 𝓤) where')
     say('  -- what is known of the callees\n  abbrev Known : Calls 𝓤 H → Type 1')
@@ -161,8 +157,7 @@ def proof_file(w):
     say('    module _ (C : Calls 𝓤 H) (Λ : Loops 𝓤 H) (fm : FmC 𝓤 H (W .laws) C) (known : Known C) where')
     parts, main = walked(w)
     out.extend(parts)
-    rests = ' '.join(f'rest{low(k + 1)}' for k in range(len(w.parts) + 1))
-    say(f'      walk : ent 𝓤 (onEntry 𝓤 H A f.signature {kappas} {shares} x at) (WpFn 𝓤 H C Λ code.function ({cons(w.machine())}) Post)\n      unfolding {rests}')
+    say(f'      walk : ent 𝓤 (onEntry 𝓤 H A f.signature {kappas} {shares} x at) (WpFn 𝓤 H C Λ code.function ({cons(w.machine())}) Post)')
     say(f'      walk =\n          {lines(main)}\n')
     say(meets(w))
     return '\n'.join(out) + '\n'
@@ -183,35 +178,52 @@ def tuple_type(scope):
 
 
 def walked(w):
-    """The parts of the walk, and how they follow each other. A part holds with any items beside those that it names. What it knows is one
-    tuple, and what it tells the next another: every blank that antt fills is a function of all that is in scope, so that many names make a check slow."""
+    """The parts of the walk, and how they follow each other. A part holds with any items beside those that it names. What it knows is one tuple, and
+    what it tells the next another: every blank that antt fills is a function of all that is in scope, so that many names make a check slow."""
     out = ['      -- where the locals lie\n      abbrev En : (ℕ → ℕ) → Env 𝓤 H\n      En p = envAt (code.function .locals) p\n']
     later = words(' '.join(w.main))
     for part in reversed(w.parts):
-        before, after, text = cons(part['before'] + ['Γ'])[:-5], cons(part['after'] + ['Γ'])[:-5], lines(part['text'])
-        part['new'] = needed(part['new'], ' '.join([after] + list(later)))
-        told = ' '.join(part['passed'][name] for name, _ in part['new'])
-        part['past'] = needed(part['scope'], ' '.join([before, after, text, told] + [kind for _, kind in part['new']]))
+        part['new'] = needed(part['new'], ' '.join(part['after'] + list(later)))
+        told = [part['passed'][name] for name, _ in part['new']]
+        part['past'] = needed(part['scope'], ' '.join(part['before'] + part['after'] + part['text'] + told + [kind for _, kind in part['new']]))
         later |= {name for name, _ in part['past']}
     names, main = {}, w.main
     for k, part in enumerate(w.parts, 1):
-        n, past, new = low(k), part['past'], part['new']
-        before, after = cons(part['before'] + ['Γ'])[:-5], cons(part['after'] + ['Γ'])[:-5]
-        inside, told = projected('past', past), projected('new', new)
-        goal = lambda at: f'(runs C Λ (En p) rest{low(at)} (atRet (En p) Post))'
-        out.append(f'      -- what part {k} knows, what it tells; what it has, and leaves\n      abbrev Known{n} : Type 0\n      Known{n} = {tuple_type(past)}\n')
-        out.append(f'      abbrev New{n} : Known{n} → Type 0\n      New{n} past = {within(tuple_type(new), inside)}\n')
-        out.append(f'      abbrev Had{n} : (ℕ → ℕ) → Known{n} → List (Item 𝓤) → List (Item 𝓤)\n      Had{n} p past Γ = {within(before, inside)}\n')
-        out.append(f'      abbrev Left{n} : (ℕ → ℕ) → (past : Known{n}) → New{n} past → List (Item 𝓤) → List (Item 𝓤)\n      Left{n} p past new Γ = {within(after, inside | told)}\n')
-        out.append(f"      part{n} : {{K : Type 0}} {{Γ : List (Item 𝓤)}} → K → (p : ℕ → ℕ) (past : Known{n})"
-                   f" → ((new : New{n} past) → Seq K W (Left{n} p past new Γ) {goal(k + 1)}) → Seq K W (Had{n} p past Γ) {goal(k)}\n      unfolding rest{n}")
-        tells = ', '.join(within(part['passed'][name], inside) for name, _ in new) or 'tt'
-        out.append(f"      part{n} {{Γ = Γ}} t p past on = record {{ prf =\n          qed W (Had{n} p past Γ) ∵ exec ! C Λ (En p) rest{n} (atRet (En p) Post) $\n          {within(lines(part['text']), inside)}"
-                   f"\n          same ! (on ({tells})){')' * part['open']} }}\n")
-        given = ', '.join(names[name] for name, _ in past) or 'tt'
-        main = [f'part{n} ! p ({given}) (λ new{n}.' if x == f'PART{k}' else x for x in main]
-        names |= projected(f'new{n}', new)
+        out.append(one_part(k, part))
+        given = ', '.join(names[name] for name, _ in part['past']) or 'tt'
+        main = [f'part{low(k)} ! p ({given}) (λ new{low(k)}.' if x == f'PART{k}' else x for x in main]
+        names |= projected(f'new{low(k)}', part['new'])
     return out, [x if x.startswith('part') else within(x, names) for x in main]
+
+
+def one_part(k, part):
+    """A part: what it knows and has, what it tells and leaves behind, and its text."""
+    n, past, new = low(k), projected('past', part['past']), projected('new', part['new'])
+    before, after = (' ∷ '.join(part[side] + ['Γ']) for side in ('before', 'after'))
+    at = lambda done: f'C Λ (En p) (behind {done} (code.function .body)) (atRet (En p) Post)'
+    tells = ', '.join(within(part['passed'][name], past) for name, _ in part['new']) or 'tt'
+    contexts = 'List (Item 𝓤) → List (Item 𝓤)'
+    return f"""      -- part {k}: what it knows, what it tells; what it has, and leaves
+      abbrev Known{n} : Type 0
+      Known{n} = {tuple_type(part['past'])}
+
+      abbrev New{n} : Known{n} → Type 0
+      New{n} past = {within(tuple_type(part['new']), past)}
+
+      abbrev Has{n} : (ℕ → ℕ) → Known{n} → {contexts}
+      Has{n} p past Γ = {within(before, past)}
+
+      abbrev Leaves{n} : (ℕ → ℕ) → (past : Known{n}) → New{n} past → {contexts}
+      Leaves{n} p past new Γ = {within(after, past | new)}
+
+      part{n} : {{K : Type 0}} {{Γ : List (Item 𝓤)}} → K → (p : ℕ → ℕ) (past : Known{n})
+          → ((new : New{n} past) → Seq K W (Leaves{n} p past new Γ) (runs {at(part['to'])}))
+          → Seq K W (Has{n} p past Γ) (runs {at(part['from'])})
+      part{n} {{Γ = Γ}} t p past on = record {{ prf =
+          qed W (Has{n} p past Γ) ∵ exec ! {at(part['from'])} $
+          {within(lines(part['text']), past)}
+          same ! (on ({tells})){')' * part['open']} }}
+"""
 
 
 def within(text, names):

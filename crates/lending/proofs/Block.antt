@@ -219,44 +219,44 @@ module _ (b o : ℕ) (γ : GName) where
         shuts-fields (B.the-type .name) ms (B.the-type .D) (B.the-type .to) (B.the-type .to-one) b o γ t z s h $ k)
 
 -- ---- the place of each field behind the pointer in a local, in code
-module _ {M : Type 1} {𝓤 : URA M} {H : Heap 𝓤} {A : Atoms 𝓤} {K : Type 0} {W : Given 𝓤 H A} {Γ : List (Item 𝓤)} {E : Env 𝓤 H} {i b o : ℕ}
-  where
-    pub place-settings : K → Reads K W Γ (spotOf 𝓤 H E i .0) (spotOf 𝓤 H E i .1) (spotOf 𝓤 H E i .2) (vptr b o)
-        → Finds K W Γ E (place i (deref B′.mir ∷ field 0 ∷ [])) (settings-laws.mir, b, o + 0)
-    place-settings t r = from t (hop t r (fld t {d = 0} refl (stop t)))
+module _ {M : Type 1} {𝓤 : URA M} {H : Heap 𝓤} {A : Atoms 𝓤} {K : Type 0} {W : Given 𝓤 H A} {Γ : List (Item 𝓤)} {E : Env 𝓤 H}
+    {i b o : ℕ} where
+  pub place-settings : K → Reads K W Γ (spotOf 𝓤 H E i .0) (spotOf 𝓤 H E i .1) (spotOf 𝓤 H E i .2) (vptr b o)
+      → Finds K W Γ E (place i (deref B′.mir ∷ field 0 ∷ [])) (settings-laws.mir, b, o + 0)
+  place-settings t r = from t (hop t r (fld t {d = 0} refl (stop t)))
 
-    pub place-flight : K → Reads K W Γ (spotOf 𝓤 H E i .0) (spotOf 𝓤 H E i .1) (spotOf 𝓤 H E i .2) (vptr b o)
-        → Finds K W Γ E (place i (deref B′.mir ∷ field 1 ∷ [])) (flight-laws.mir, b, o + 16)
-    place-flight t r = from t (hop t r (fld t {d = 16} refl (stop t)))
+  pub place-flight : K → Reads K W Γ (spotOf 𝓤 H E i .0) (spotOf 𝓤 H E i .1) (spotOf 𝓤 H E i .2) (vptr b o)
+      → Finds K W Γ E (place i (deref B′.mir ∷ field 1 ∷ [])) (flight-laws.mir, b, o + 16)
+  place-flight t r = from t (hop t r (fld t {d = 16} refl (stop t)))
 
-    pub place-arrival : K → Reads K W Γ (spotOf 𝓤 H E i .0) (spotOf 𝓤 H E i .1) (spotOf 𝓤 H E i .2) (vptr b o)
-        → Finds K W Γ E (place i (deref B′.mir ∷ field 2 ∷ [])) (arrival-laws.mir, b, o + 72)
-    place-arrival t r = from t (hop t r (fld t {d = 72} refl (stop t)))
+  pub place-arrival : K → Reads K W Γ (spotOf 𝓤 H E i .0) (spotOf 𝓤 H E i .1) (spotOf 𝓤 H E i .2) (vptr b o)
+      → Finds K W Γ E (place i (deref B′.mir ∷ field 2 ∷ [])) (arrival-laws.mir, b, o + 72)
+  place-arrival t r = from t (hop t r (fld t {d = 72} refl (stop t)))
 
-    pub place-clock : K → Reads K W Γ (spotOf 𝓤 H E i .0) (spotOf 𝓤 H E i .1) (spotOf 𝓤 H E i .2) (vptr b o)
-        → Finds K W Γ E (place i (deref B′.mir ∷ field 3 ∷ [])) (clock-laws.mir, b, o + 104)
-    place-clock t r = from t (hop t r (fld t {d = 104} refl (stop t)))
+  pub place-clock : K → Reads K W Γ (spotOf 𝓤 H E i .0) (spotOf 𝓤 H E i .1) (spotOf 𝓤 H E i .2) (vptr b o)
+      → Finds K W Γ E (place i (deref B′.mir ∷ field 3 ∷ [])) (clock-laws.mir, b, o + 104)
+  place-clock t r = from t (hop t r (fld t {d = 104} refl (stop t)))
 
-    pub place-queued : K → Reads K W Γ (spotOf 𝓤 H E i .0) (spotOf 𝓤 H E i .1) (spotOf 𝓤 H E i .2) (vptr b o)
-        → Finds K W Γ E (place i (deref B′.mir ∷ field 4 ∷ [])) (tyArray (tyInt w32) 128, b, o + 124)
-    place-queued t r = from t (hop t r (fld t {d = 124} refl (stop t)))
+  pub place-queued : K → Reads K W Γ (spotOf 𝓤 H E i .0) (spotOf 𝓤 H E i .1) (spotOf 𝓤 H E i .2) (vptr b o)
+      → Finds K W Γ E (place i (deref B′.mir ∷ field 4 ∷ [])) (tyArray (tyInt w32) 128, b, o + 124)
+  place-queued t r = from t (hop t r (fld t {d = 124} refl (stop t)))
 
-    pub place-outstanding : K → Reads K W Γ (spotOf 𝓤 H E i .0) (spotOf 𝓤 H E i .1) (spotOf 𝓤 H E i .2) (vptr b o)
-        → Finds K W Γ E (place i (deref B′.mir ∷ field 5 ∷ [])) (tyArray (tyInt w32) 32, b, o + 636)
-    place-outstanding t r = from t (hop t r (fld t {d = 636} refl (stop t)))
+  pub place-outstanding : K → Reads K W Γ (spotOf 𝓤 H E i .0) (spotOf 𝓤 H E i .1) (spotOf 𝓤 H E i .2) (vptr b o)
+      → Finds K W Γ E (place i (deref B′.mir ∷ field 5 ∷ [])) (tyArray (tyInt w32) 32, b, o + 636)
+  place-outstanding t r = from t (hop t r (fld t {d = 636} refl (stop t)))
 
-    pub place-transmissions : K → Reads K W Γ (spotOf 𝓤 H E i .0) (spotOf 𝓤 H E i .1) (spotOf 𝓤 H E i .2) (vptr b o)
-        → Finds K W Γ E (place i (deref B′.mir ∷ field 6 ∷ [])) (tyArray (tyInt w8) 32, b, o + 764)
-    place-transmissions t r = from t (hop t r (fld t {d = 764} refl (stop t)))
+  pub place-transmissions : K → Reads K W Γ (spotOf 𝓤 H E i .0) (spotOf 𝓤 H E i .1) (spotOf 𝓤 H E i .2) (vptr b o)
+      → Finds K W Γ E (place i (deref B′.mir ∷ field 6 ∷ [])) (tyArray (tyInt w8) 32, b, o + 764)
+  place-transmissions t r = from t (hop t r (fld t {d = 764} refl (stop t)))
 
-    pub place-ready : K → Reads K W Γ (spotOf 𝓤 H E i .0) (spotOf 𝓤 H E i .1) (spotOf 𝓤 H E i .2) (vptr b o)
-        → Finds K W Γ E (place i (deref B′.mir ∷ field 7 ∷ [])) (tyArray (tyInt w32) 128, b, o + 796)
-    place-ready t r = from t (hop t r (fld t {d = 796} refl (stop t)))
+  pub place-ready : K → Reads K W Γ (spotOf 𝓤 H E i .0) (spotOf 𝓤 H E i .1) (spotOf 𝓤 H E i .2) (vptr b o)
+      → Finds K W Γ E (place i (deref B′.mir ∷ field 7 ∷ [])) (tyArray (tyInt w32) 128, b, o + 796)
+  place-ready t r = from t (hop t r (fld t {d = 796} refl (stop t)))
 
-    pub place-waiting : K → Reads K W Γ (spotOf 𝓤 H E i .0) (spotOf 𝓤 H E i .1) (spotOf 𝓤 H E i .2) (vptr b o)
-        → Finds K W Γ E (place i (deref B′.mir ∷ field 8 ∷ [])) (tyArray (tyInt w32) 128, b, o + 1308)
-    place-waiting t r = from t (hop t r (fld t {d = 1308} refl (stop t)))
+  pub place-waiting : K → Reads K W Γ (spotOf 𝓤 H E i .0) (spotOf 𝓤 H E i .1) (spotOf 𝓤 H E i .2) (vptr b o)
+      → Finds K W Γ E (place i (deref B′.mir ∷ field 8 ∷ [])) (tyArray (tyInt w32) 128, b, o + 1308)
+  place-waiting t r = from t (hop t r (fld t {d = 1308} refl (stop t)))
 
-    pub place-waiting-numbers : K → Reads K W Γ (spotOf 𝓤 H E i .0) (spotOf 𝓤 H E i .1) (spotOf 𝓤 H E i .2) (vptr b o)
-        → Finds K W Γ E (place i (deref B′.mir ∷ field 9 ∷ [])) (tyArray (tyInt w32) 128, b, o + 1820)
-    place-waiting-numbers t r = from t (hop t r (fld t {d = 1820} refl (stop t)))
+  pub place-waiting-numbers : K → Reads K W Γ (spotOf 𝓤 H E i .0) (spotOf 𝓤 H E i .1) (spotOf 𝓤 H E i .2) (vptr b o)
+      → Finds K W Γ E (place i (deref B′.mir ∷ field 9 ∷ [])) (tyArray (tyInt w32) 128, b, o + 1820)
+  place-waiting-numbers t r = from t (hop t r (fld t {d = 1820} refl (stop t)))

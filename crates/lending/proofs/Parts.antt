@@ -23,20 +23,6 @@ behind (suc n) (exit k) = skip
 behind (suc n) return = skip
 behind (suc n) (call f xs d) = skip
 
--- the first n statements of a body, and then another rest
-abbrev pub taking : ℕ → Body → Body → Body
-taking zero b rest = rest
-taking (suc n) (seq s b) rest = seq s (taking n b rest)
-taking (suc n) skip rest = skip
-taking (suc n) (assign p r) rest = skip
-taking (suc n) (block b) rest = skip
-taking (suc n) (loop b) rest = skip
-taking (suc n) (cond o a b) rest = skip
-taking (suc n) (switch o arms) rest = skip
-taking (suc n) (exit k) rest = skip
-taking (suc n) return rest = skip
-taking (suc n) (call f xs d) rest = skip
-
 -- an item that is the star of others becomes these, in one step
 pub spread : {M : Type 1} {𝓤 : URA M} {H : Heap 𝓤} {A : Atoms 𝓤} {K : Type 0} (W : Given 𝓤 H A) {Γ : List (Item 𝓤)} {G : Goal 𝓤 H}
     {i : Item 𝓤} (j : Item 𝓤) (js : List (Item 𝓤))

@@ -79,7 +79,6 @@ use Rattle.records.proofs.Walk.{
   init,
   store,
   store-raw,
-  forget,
   stop,
   hop,
   fld,
@@ -93,13 +92,9 @@ use Rattle.records.proofs.Walk.{
   assigns,
   returns,
   enter,
-  alloc1,
-  alloc0,
   params1,
   pass1,
   pass0,
-  free1,
-  free0,
   land,
   WpFn-mono,
   FmC,
@@ -150,7 +145,7 @@ use Rattle.records.proofs.Shared.{LentShared, lends-shared, shared-back}
 use Rattle.records.proofs.Rows.{R}
 use Rattle.lending.proofs.Fields.{ref-at, lend-mut, back-mut, lend-shr, back-shr, cell-out, cell-in, tells-length, lend-whole, back-whole}
 use Rattle.lending.proofs.Locals.{envAt, allocates, frees-all, holds, empty}
-use Rattle.lending.proofs.Parts.{behind, taking, spread, same}
+use Rattle.lending.proofs.Parts.{behind, spread, same}
 use Rattle.lending.proofs.Block.{
   L,
   Open,
@@ -176,8 +171,8 @@ use Rattle.control.specs.declared.Link.{Link}
 use Rattle.timing.specs.declared.Record.{Record}
 use lib.IntN.{ℤ}
 use mir.Syntax.{w16}
-use base.Fml.{fres, froom, fdies, fobor, fsep, feq}
-use mir.Syntax.{Body, return, imm, mut, erased, tyInt, tyArray, tyRef, tyPtr, tyUnit, tyBool}
+use base.Fml.{fres, froom, fobor, fsep, feq}
+use mir.Syntax.{imm, mut, erased, tyInt, tyArray, tyRef, tyPtr, tyUnit, tyBool}
 use denote.Slice.{sliceTy}
 use denote.Memory.{pointee}
 use Rattle.timing.proofs.Record.Laws as record-laws
@@ -235,16 +230,6 @@ stayed = (
     ),
   ),
 )
-
--- the rest of the body where each part begins, and behind the last
-unfoldable rest₃ : Body
-rest₃ = return
-
-unfoldable rest₂ : Body
-rest₂ = taking 8 (behind 1 (code.function .body)) rest₃
-
-unfoldable rest₁ : Body
-rest₁ = taking 1 (behind 0 (code.function .body)) rest₂
 
 module _ {M : Type 1} (𝓤 : URA M) (H : Heap 𝓤) (A : Atoms 𝓤) (W : Given 𝓤 H A) (at-mem : Memory → SProp 𝓤) (run : Routine → Fun 𝓤) where
   -- what is known of the callees
@@ -366,26 +351,25 @@ module _ {M : Type 1} (𝓤 : URA M) (H : Heap 𝓤) (A : Atoms 𝓤) (W : Given
       abbrev En : (ℕ → ℕ) → Env 𝓤 H
       En p = envAt (code.function .locals) p
 
-      -- what part 1 knows, what it tells; what it has, and leaves
+      -- part 1: what it knows, what it tells; what it has, and leaves
       abbrev Known₁ : Type 0
       Known₁ = Unit {0}
 
       abbrev New₁ : Known₁ → Type 0
       New₁ past = (b : Bool) × (w-b : Val) × (e-b : b ≡ false) × (Is Boolean b (w-b ∷ []))
 
-      abbrev Had₁ : (ℕ → ℕ) → Known₁ → List (Item 𝓤) → List (Item 𝓤)
-      Had₁ p past Γ = ‵ (froom tyBool (p 9) 0) ∷ Γ
+      abbrev Has₁ : (ℕ → ℕ) → Known₁ → List (Item 𝓤) → List (Item 𝓤)
+      Has₁ p past Γ = ‵ (froom tyBool (p 9) 0) ∷ Γ
 
-      abbrev Left₁ : (ℕ → ℕ) → (past : Known₁) → New₁ past → List (Item 𝓤) → List (Item 𝓤)
-      Left₁ p past new Γ = ‵ (fat fullShare tyBool (p 9) 0 ((new .1))) ∷ Γ
+      abbrev Leaves₁ : (ℕ → ℕ) → (past : Known₁) → New₁ past → List (Item 𝓤) → List (Item 𝓤)
+      Leaves₁ p past new Γ = ‵ (fat fullShare tyBool (p 9) 0 ((new .1))) ∷ Γ
 
       part₁ : {K : Type 0} {Γ : List (Item 𝓤)} → K → (p : ℕ → ℕ) (past : Known₁)
-          → ((new : New₁ past) → Seq K W (Left₁ p past new Γ) (runs C Λ (En p) rest₂ (atRet (En p) Post)))
-          → Seq K W (Had₁ p past Γ) (runs C Λ (En p) rest₁ (atRet (En p) Post))
-      unfolding rest₁
+          → ((new : New₁ past) → Seq K W (Leaves₁ p past new Γ) (runs C Λ (En p) (behind 1 (code.function .body)) (atRet (En p) Post)))
+          → Seq K W (Has₁ p past Γ) (runs C Λ (En p) (behind 0 (code.function .body)) (atRet (En p) Post))
       part₁ {Γ = Γ} t p past on = record {
         prf =
-            qed W (Had₁ p past Γ) ∵ exec ! C Λ (En p) rest₁ (atRet (En p) Post) $
+            qed W (Has₁ p past Γ) ∵ exec ! C Λ (En p) (behind 0 (code.function .body)) (atRet (En p) Post) $
             nothing ! $ calls-fn ! fm paced-of.ended (paced-of.clauses 𝓤 H A at-mem run) (known .0) ((tt, tt, tt, tt, tt), tt)
             (λ b _. b ≡ false)
             (‵ ftrue) (plainly 𝓤 H A W ([]) tt tt tt tt) (λ b _. id⊢ 𝓤 _)
@@ -394,7 +378,7 @@ module _ {M : Type 1} (𝓤 : URA M) (H : Heap 𝓤) (A : Atoms 𝓤) (W : Given
             same ! (on (b, w-b, e-b, is-b)));
       }
 
-      -- what part 2 knows, what it tells; what it has, and leaves
+      -- part 2: what it knows, what it tells; what it has, and leaves
       abbrev Known₂ : Type 0
       Known₂ = (b : Bool) × (w-b : Val) × (Is Boolean b (w-b ∷ []))
 
@@ -404,8 +388,8 @@ module _ {M : Type 1} (𝓤 : URA M) (H : Heap 𝓤) (A : Atoms 𝓤) (W : Given
           (partsOf (x₁ .now) (x₂ .now) z₃ (x₄ .now)) (flushPartsOf z₆ z₇) r) × (is-r : Is i32 r (w-r ∷ [])) ×
           (len₃ : length z₃ ≡ length (x₃ .now)) × (len₆ : length z₆ ≡ length (x₆ .now)) × (length z₇ ≡ length (x₇ .now))
 
-      abbrev Had₂ : (ℕ → ℕ) → Known₂ → List (Item 𝓤) → List (Item 𝓤)
-      Had₂ p past Γ = ‵ (fat fullShare tyBool (p 9) 0 ((past .1))) ∷ ‵ (flft κ₀ q₀) ∷ ‵ (flft κ₁ q₁) ∷ ‵ (flft κ₂ q₂)
+      abbrev Has₂ : (ℕ → ℕ) → Known₂ → List (Item 𝓤) → List (Item 𝓤)
+      Has₂ p past Γ = ‵ (fat fullShare tyBool (p 9) 0 ((past .1))) ∷ ‵ (flft κ₀ q₀) ∷ ‵ (flft κ₁ q₁) ∷ ‵ (flft κ₂ q₂)
           ∷ ‵ (flft κ₃ q₃) ∷ ‵ (flft κ₄ q₄) ∷ ‵ (flft κ₅ q₅) ∷ ‵ (flft κ₆ q₆) ∷ ‵ Own₀ ∷ ‵ Own₁ ∷ ‵ Own₂
           ∷ ‵ Own₃ ∷ ‵ Own₄ ∷ ‵ Own₆ ∷ ‵ Own₇ ∷ ‵ (froom (sliceTy (tyRef erased mut (tyInt w16))) (p 16) 0)
           ∷ ‵ (froom (tyRef erased mut (tyInt w16)) (p 15) 0) ∷ ‵ (froom (sliceTy (tyRef erased mut (tyInt w8))) (p 14) 0)
@@ -419,8 +403,8 @@ module _ {M : Type 1} (𝓤 : URA M) (H : Heap 𝓤) (A : Atoms 𝓤) (W : Given
           ∷ ‵ (fat fullShare (sliceTy (tyRef (named 1) imm (tyInt w8))) (p 2) 0 (s₁))
           ∷ ‵ (fat fullShare (tyRef (named 0) mut (pointee (L .written))) (p 1) 0 (s₀)) ∷ ‵ (froom (tyInt w32) (p 0) 0) ∷ Γ
 
-      abbrev Left₂ : (ℕ → ℕ) → (past : Known₂) → New₂ past → List (Item 𝓤) → List (Item 𝓤)
-      Left₂ p past new Γ = ‵ (finally u16 (x₇ .name) (new .0)) ∷ ‵ (finally u8 (x₆ .name) (new .1)) ∷ ‵ (finally R (x₃ .name) (new .2))
+      abbrev Leaves₂ : (ℕ → ℕ) → (past : Known₂) → New₂ past → List (Item 𝓤) → List (Item 𝓤)
+      Leaves₂ p past new Γ = ‵ (finally u16 (x₇ .name) (new .0)) ∷ ‵ (finally u8 (x₆ .name) (new .1)) ∷ ‵ (finally R (x₃ .name) (new .2))
           ∷ ‵ (fres (x₀ .name) (L .coded .code (new .3))) ∷ ‵ (flft κ₀ q₀) ∷ ‵ (flft κ₁ q₁) ∷ ‵ (flft κ₂ q₂)
           ∷ ‵ (flft κ₃ q₃) ∷ ‵ (flft κ₄ q₄) ∷ ‵ (flft κ₅ q₅) ∷ ‵ (flft κ₆ q₆)
           ∷ ‵ (fat fullShare tyBool (p 9) 0 ((past .1))) ∷ ‵ (fat fullShare (sliceTy (tyRef erased mut (tyInt w16))) (p 16) 0 (s₇))
@@ -440,12 +424,11 @@ module _ {M : Type 1} (𝓤 : URA M) (H : Heap 𝓤) (A : Atoms 𝓤) (W : Given
           ∷ Γ
 
       part₂ : {K : Type 0} {Γ : List (Item 𝓤)} → K → (p : ℕ → ℕ) (past : Known₂)
-          → ((new : New₂ past) → Seq K W (Left₂ p past new Γ) (runs C Λ (En p) rest₃ (atRet (En p) Post)))
-          → Seq K W (Had₂ p past Γ) (runs C Λ (En p) rest₂ (atRet (En p) Post))
-      unfolding rest₂
+          → ((new : New₂ past) → Seq K W (Leaves₂ p past new Γ) (runs C Λ (En p) (behind 9 (code.function .body)) (atRet (En p) Post)))
+          → Seq K W (Has₂ p past Γ) (runs C Λ (En p) (behind 1 (code.function .body)) (atRet (En p) Post))
       part₂ {Γ = Γ} t p past on = record {
         prf =
-            qed W (Had₂ p past Γ) ∵ exec ! C Λ (En p) rest₂ (atRet (En p) Post) $
+            qed W (Has₂ p past Γ) ∵ exec ! C Λ (En p) (behind 1 (code.function .body)) (atRet (En p) Post) $
             assigns ! {v = s₀} (addr ! (from ! (hop ! (look ! 29 refl) (stop !)))) (from ! (stop !)) (init ! 21 refl (tt, tt)) $
             assigns ! {v = (vptr (x₃ .ptr .0) (x₃ .ptr .1))}
             (addr ! (from ! (fld ! refl (hop ! (look-in ! 26 (sub ! 0 refl (whole !))) (stop !))))) (from ! (stop !))
@@ -512,7 +495,6 @@ module _ {M : Type 1} (𝓤 : URA M) (H : Heap 𝓤) (A : Atoms 𝓤) (W : Given
       walk : ent 𝓤 (onEntry 𝓤 H A f.signature (κ₀, (κ₁, (κ₂, (κ₃, (κ₄, (κ₅, (κ₆, tt)))))))
           (q₀, (q₁, (q₂, (q₃, (q₄, (q₅, (q₆, tt))))))) x at)
           (WpFn 𝓤 H C Λ code.function (s₀ ∷ s₁ ∷ s₂ ∷ s₃ ∷ s₄ ∷ v₅ ∷ s₆ ∷ s₇ ∷ []) Post)
-      unfolding rest₁ rest₂ rest₃
       walk =
           qed W ((‵ (flft κ₀ q₀) ⊛ ‵ (flft κ₁ q₁) ⊛ ‵ (flft κ₂ q₂) ⊛ ‵ (flft κ₃ q₃) ⊛ ‵ (flft κ₄ q₄) ⊛ ‵
           (flft κ₅ q₅) ⊛ ‵ (flft κ₆ q₆) ⊛ ‵ ftrue)

@@ -79,7 +79,6 @@ use Rattle.records.proofs.Walk.{
   init,
   store,
   store-raw,
-  forget,
   stop,
   hop,
   fld,
@@ -93,13 +92,9 @@ use Rattle.records.proofs.Walk.{
   assigns,
   returns,
   enter,
-  alloc1,
-  alloc0,
   params1,
   pass1,
   pass0,
-  free1,
-  free0,
   land,
   WpFn-mono,
   FmC,
@@ -150,7 +145,7 @@ use Rattle.records.proofs.Shared.{LentShared, lends-shared, shared-back}
 use Rattle.records.proofs.Rows.{R}
 use Rattle.lending.proofs.Fields.{ref-at, lend-mut, back-mut, lend-shr, back-shr, cell-out, cell-in, tells-length, lend-whole, back-whole}
 use Rattle.lending.proofs.Locals.{envAt, allocates, frees-all, holds, empty}
-use Rattle.lending.proofs.Parts.{behind, taking, spread, same}
+use Rattle.lending.proofs.Parts.{behind, spread, same}
 use Rattle.lending.proofs.Block.{
   L,
   Open,
@@ -176,8 +171,8 @@ use Rattle.control.specs.declared.Link.{Link}
 use Rattle.timing.specs.declared.Record.{Record}
 use lib.IntN.{ℤ}
 use mir.Syntax.{w16}
-use base.Fml.{fres, froom, fdies, fobor, fsep, feq}
-use mir.Syntax.{Body, return, imm, mut, erased, tyInt, tyArray, tyRef, tyPtr, tyUnit, tyBool}
+use base.Fml.{fres, froom, fobor, fsep, feq}
+use mir.Syntax.{imm, mut, erased, tyInt, tyArray, tyRef, tyPtr, tyUnit, tyBool}
 use denote.Slice.{sliceTy}
 use denote.Memory.{pointee}
 use Rattle.timing.proofs.Record.Laws as record-laws
@@ -231,13 +226,6 @@ stayed = (
     ),
   ),
 )
-
--- the rest of the body where each part begins, and behind the last
-unfoldable rest₂ : Body
-rest₂ = return
-
-unfoldable rest₁ : Body
-rest₁ = taking 2 (behind 0 (code.function .body)) rest₂
 
 module _ {M : Type 1} (𝓤 : URA M) (H : Heap 𝓤) (A : Atoms 𝓤) (W : Given 𝓤 H A) (at-mem : Memory → SProp 𝓤) (run : Routine → Fun 𝓤) where
   -- what is known of the callees
@@ -373,7 +361,7 @@ module _ {M : Type 1} (𝓤 : URA M) (H : Heap 𝓤) (A : Atoms 𝓤) (W : Given
       abbrev En : (ℕ → ℕ) → Env 𝓤 H
       En p = envAt (code.function .locals) p
 
-      -- what part 1 knows, what it tells; what it has, and leaves
+      -- part 1: what it knows, what it tells; what it has, and leaves
       abbrev Known₁ : Type 0
       Known₁ = Unit {0}
 
@@ -383,8 +371,8 @@ module _ {M : Type 1} (𝓤 : URA M) (H : Heap 𝓤) (A : Atoms 𝓤) (W : Given
           (partsOf (x₈ .now) (x₉ .now) (x₁₀ .now) (x₁₁ .now)) a z₀ (partsOf (x₈ .now) (x₉ .now) (x₁₀ .now) (x₁₁ .now))) r) ×
           (Is i32 r (w-r ∷ []))
 
-      abbrev Had₁ : (ℕ → ℕ) → Known₁ → List (Item 𝓤) → List (Item 𝓤)
-      Had₁ p past Γ = ‵ (flft κ₀ q₀) ∷ ‵ (flft κ₁ q₁) ∷ ‵ (flft κ₂ q₂) ∷ ‵ (flft κ₃ q₃) ∷ ‵ (flft κ₄ q₄)
+      abbrev Has₁ : (ℕ → ℕ) → Known₁ → List (Item 𝓤) → List (Item 𝓤)
+      Has₁ p past Γ = ‵ (flft κ₀ q₀) ∷ ‵ (flft κ₁ q₁) ∷ ‵ (flft κ₂ q₂) ∷ ‵ (flft κ₃ q₃) ∷ ‵ (flft κ₄ q₄)
           ∷ ‵ Own₀ ∷ ‵ Own₈ ∷ ‵ Own₉ ∷ ‵ Own₁₀ ∷ ‵ Own₁₁ ∷ ‵ (froom (tyRef erased mut (pointee (L .written))) (p 13) 0)
           ∷ ‵ (fat fullShare (sliceTy (tyRef (named 4) imm (tyInt w32))) (p 12) 0 (s₁₁))
           ∷ ‵ (fat fullShare (sliceTy (tyRef (named 3) imm (pointee (R .written)))) (p 11) 0 (s₁₀))
@@ -395,8 +383,8 @@ module _ {M : Type 1} (𝓤 : URA M) (H : Heap 𝓤) (A : Atoms 𝓤) (W : Given
           ∷ ‵ (fat fullShare (tyInt w32) (p 3) 0 (v₂)) ∷ ‵ (fat fullShare (tyInt w32) (p 2) 0 (v₁))
           ∷ ‵ (fat fullShare (tyRef (named 0) mut (pointee (L .written))) (p 1) 0 (s₀)) ∷ ‵ (froom (tyInt w32) (p 0) 0) ∷ Γ
 
-      abbrev Left₁ : (ℕ → ℕ) → (past : Known₁) → New₁ past → List (Item 𝓤) → List (Item 𝓤)
-      Left₁ p past new Γ = ‵ (fres (x₀ .name) (L .coded .code (new .0))) ∷ ‵ (flft κ₀ q₀) ∷ ‵ (flft κ₁ q₁) ∷ ‵ (flft κ₂ q₂)
+      abbrev Leaves₁ : (ℕ → ℕ) → (past : Known₁) → New₁ past → List (Item 𝓤) → List (Item 𝓤)
+      Leaves₁ p past new Γ = ‵ (fres (x₀ .name) (L .coded .code (new .0))) ∷ ‵ (flft κ₀ q₀) ∷ ‵ (flft κ₁ q₁) ∷ ‵ (flft κ₂ q₂)
           ∷ ‵ (flft κ₃ q₃) ∷ ‵ (flft κ₄ q₄) ∷ ‵ (fat fullShare (tyRef erased mut (pointee (L .written))) (p 13) 0 (s₀))
           ∷ ‵ (fat fullShare (sliceTy (tyRef (named 4) imm (tyInt w32))) (p 12) 0 (s₁₁))
           ∷ ‵ (fat fullShare (sliceTy (tyRef (named 3) imm (pointee (R .written)))) (p 11) 0 (s₁₀))
@@ -409,12 +397,11 @@ module _ {M : Type 1} (𝓤 : URA M) (H : Heap 𝓤) (A : Atoms 𝓤) (W : Given
           ∷ Γ
 
       part₁ : {K : Type 0} {Γ : List (Item 𝓤)} → K → (p : ℕ → ℕ) (past : Known₁)
-          → ((new : New₁ past) → Seq K W (Left₁ p past new Γ) (runs C Λ (En p) rest₂ (atRet (En p) Post)))
-          → Seq K W (Had₁ p past Γ) (runs C Λ (En p) rest₁ (atRet (En p) Post))
-      unfolding rest₁
+          → ((new : New₁ past) → Seq K W (Leaves₁ p past new Γ) (runs C Λ (En p) (behind 2 (code.function .body)) (atRet (En p) Post)))
+          → Seq K W (Has₁ p past Γ) (runs C Λ (En p) (behind 0 (code.function .body)) (atRet (En p) Post))
       part₁ {Γ = Γ} t p past on = record {
         prf =
-            qed W (Had₁ p past Γ) ∵ exec ! C Λ (En p) rest₁ (atRet (En p) Post) $
+            qed W (Has₁ p past Γ) ∵ exec ! C Λ (En p) (behind 0 (code.function .body)) (atRet (En p) Post) $
             assigns ! {v = s₀} (addr ! (from ! (hop ! (look ! 22 refl) (stop !)))) (from ! (stop !)) (init ! 10 refl (tt, tt)) $
             move ! (0 ∷ 5 ∷ 1 ∷ 6 ∷ 2 ∷ 7 ∷ 3 ∷ 8 ∷ 4 ∷ 9 ∷ []) $ group ! 10 $
             calls-fn ! fm call.ended (call.clauses 𝓤 H A at-mem run) (known)
@@ -450,7 +437,6 @@ module _ {M : Type 1} (𝓤 : URA M) (H : Heap 𝓤) (A : Atoms 𝓤) (W : Given
       walk : ent 𝓤 (onEntry 𝓤 H A f.signature (κ₀, (κ₁, (κ₂, (κ₃, (κ₄, tt))))) (q₀, (q₁, (q₂, (q₃, (q₄, tt))))) x at)
           (WpFn 𝓤 H C Λ code.function (s₀ ∷ v₁ ∷ v₂ ∷ v₃ ∷ v₄ ∷ v₅ ∷ v₆ ∷ v₇ ∷ s₈ ∷ s₉ ∷ s₁₀ ∷ s₁₁ ∷ [])
           Post)
-      unfolding rest₁ rest₂
       walk =
           qed W ((‵ (flft κ₀ q₀) ⊛ ‵ (flft κ₁ q₁) ⊛ ‵ (flft κ₂ q₂) ⊛ ‵ (flft κ₃ q₃) ⊛ ‵ (flft κ₄ q₄) ⊛ ‵ ftrue)
           ∷ ‵ (owns (MutRef (named 0) κ₀ L ∷ u32 ∷ u32 ∷ u32 ∷ u32 ∷ u32 ∷ u32 ∷ u32 ∷ ShrSlice (named 1) κ₁ u8

@@ -79,7 +79,6 @@ use Rattle.records.proofs.Walk.{
   init,
   store,
   store-raw,
-  forget,
   stop,
   hop,
   fld,
@@ -93,13 +92,9 @@ use Rattle.records.proofs.Walk.{
   assigns,
   returns,
   enter,
-  alloc1,
-  alloc0,
   params1,
   pass1,
   pass0,
-  free1,
-  free0,
   land,
   WpFn-mono,
   FmC,
@@ -150,7 +145,7 @@ use Rattle.records.proofs.Shared.{LentShared, lends-shared, shared-back}
 use Rattle.records.proofs.Rows.{R}
 use Rattle.lending.proofs.Fields.{ref-at, lend-mut, back-mut, lend-shr, back-shr, cell-out, cell-in, tells-length, lend-whole, back-whole}
 use Rattle.lending.proofs.Locals.{envAt, allocates, frees-all, holds, empty}
-use Rattle.lending.proofs.Parts.{behind, taking, spread, same}
+use Rattle.lending.proofs.Parts.{behind, spread, same}
 use Rattle.lending.proofs.Block.{
   L,
   Open,
@@ -176,8 +171,8 @@ use Rattle.control.specs.declared.Link.{Link}
 use Rattle.timing.specs.declared.Record.{Record}
 use lib.IntN.{ℤ}
 use mir.Syntax.{w16}
-use base.Fml.{fres, froom, fdies, fobor, fsep, feq}
-use mir.Syntax.{Body, return, imm, mut, erased, tyInt, tyArray, tyRef, tyPtr, tyUnit, tyBool}
+use base.Fml.{fres, froom, fobor, fsep, feq}
+use mir.Syntax.{imm, mut, erased, tyInt, tyArray, tyRef, tyPtr, tyUnit, tyBool}
 use denote.Slice.{sliceTy}
 use denote.Memory.{pointee}
 use Rattle.timing.proofs.Record.Laws as record-laws
@@ -269,40 +264,6 @@ stayed = (
     (stay-dropped _ yes, (stay-dropped _ yes, (stay-dropped _ yes, (stay-dropped _ yes, (gave-ref (5 ∷ []) tt (plain (λ _. u32)), tt))))),
   ),
 )
-
--- the rest of the body where each part begins, and behind the last
-unfoldable rest₁₁ : Body
-rest₁₁ = return
-
-unfoldable rest₁₀ : Body
-rest₁₀ = taking 2 (behind 26 (code.function .body)) rest₁₁
-
-unfoldable rest₉ : Body
-rest₉ = taking 7 (behind 19 (code.function .body)) rest₁₀
-
-unfoldable rest₈ : Body
-rest₈ = taking 1 (behind 18 (code.function .body)) rest₉
-
-unfoldable rest₇ : Body
-rest₇ = taking 1 (behind 17 (code.function .body)) rest₈
-
-unfoldable rest₆ : Body
-rest₆ = taking 4 (behind 13 (code.function .body)) rest₇
-
-unfoldable rest₅ : Body
-rest₅ = taking 1 (behind 12 (code.function .body)) rest₆
-
-unfoldable rest₄ : Body
-rest₄ = taking 5 (behind 7 (code.function .body)) rest₅
-
-unfoldable rest₃ : Body
-rest₃ = taking 4 (behind 3 (code.function .body)) rest₄
-
-unfoldable rest₂ : Body
-rest₂ = taking 2 (behind 1 (code.function .body)) rest₃
-
-unfoldable rest₁ : Body
-rest₁ = taking 1 (behind 0 (code.function .body)) rest₂
 
 module _ {M : Type 1} (𝓤 : URA M) (H : Heap 𝓤) (A : Atoms 𝓤) (W : Given 𝓤 H A) (at-mem : Memory → SProp 𝓤) (run : Routine → Fun 𝓤) where
   -- what is known of the callees
@@ -635,26 +596,25 @@ module _ {M : Type 1} (𝓤 : URA M) (H : Heap 𝓤) (A : Atoms 𝓤) (W : Given
       abbrev En : (ℕ → ℕ) → Env 𝓤 H
       En p = envAt (code.function .locals) p
 
-      -- what part 1 knows, what it tells; what it has, and leaves
+      -- part 1: what it knows, what it tells; what it has, and leaves
       abbrev Known₁ : Type 0
       Known₁ = Unit {0}
 
       abbrev New₁ : Known₁ → Type 0
       New₁ past = (sends : (List ℕ)) × (w-sends : Val) × (e-sends : sends ≡ noneToSend) × (Is (Array u8 128) sends (w-sends ∷ []))
 
-      abbrev Had₁ : (ℕ → ℕ) → Known₁ → List (Item 𝓤) → List (Item 𝓤)
-      Had₁ p past Γ = ‵ (froom (tyArray (tyInt w8) 128) (p 19) 0) ∷ Γ
+      abbrev Has₁ : (ℕ → ℕ) → Known₁ → List (Item 𝓤) → List (Item 𝓤)
+      Has₁ p past Γ = ‵ (froom (tyArray (tyInt w8) 128) (p 19) 0) ∷ Γ
 
-      abbrev Left₁ : (ℕ → ℕ) → (past : Known₁) → New₁ past → List (Item 𝓤) → List (Item 𝓤)
-      Left₁ p past new Γ = ‵ (fat fullShare (tyArray (tyInt w8) 128) (p 19) 0 ((new .1))) ∷ Γ
+      abbrev Leaves₁ : (ℕ → ℕ) → (past : Known₁) → New₁ past → List (Item 𝓤) → List (Item 𝓤)
+      Leaves₁ p past new Γ = ‵ (fat fullShare (tyArray (tyInt w8) 128) (p 19) 0 ((new .1))) ∷ Γ
 
       part₁ : {K : Type 0} {Γ : List (Item 𝓤)} → K → (p : ℕ → ℕ) (past : Known₁)
-          → ((new : New₁ past) → Seq K W (Left₁ p past new Γ) (runs C Λ (En p) rest₂ (atRet (En p) Post)))
-          → Seq K W (Had₁ p past Γ) (runs C Λ (En p) rest₁ (atRet (En p) Post))
-      unfolding rest₁
+          → ((new : New₁ past) → Seq K W (Leaves₁ p past new Γ) (runs C Λ (En p) (behind 1 (code.function .body)) (atRet (En p) Post)))
+          → Seq K W (Has₁ p past Γ) (runs C Λ (En p) (behind 0 (code.function .body)) (atRet (En p) Post))
       part₁ {Γ = Γ} t p past on = record {
         prf =
-            qed W (Had₁ p past Γ) ∵ exec ! C Λ (En p) rest₁ (atRet (En p) Post) $
+            qed W (Has₁ p past Γ) ∵ exec ! C Λ (En p) (behind 0 (code.function .body)) (atRet (En p) Post) $
             nothing ! $ calls-fn ! fm send-marks-of.ended (send-marks-of.clauses 𝓤 H A at-mem run) (known .0) ((tt, tt, tt, tt, tt), tt)
             (λ sends _. sends ≡ noneToSend)
             (‵ ftrue) (plainly 𝓤 H A W ([]) tt tt tt tt) (λ sends _. id⊢ 𝓤 _)
@@ -663,7 +623,7 @@ module _ {M : Type 1} (𝓤 : URA M) (H : Heap 𝓤) (A : Atoms 𝓤) (W : Given
             same ! (on (sends, w-sends, e-sends, is-sends)));
       }
 
-      -- what part 2 knows, what it tells; what it has, and leaves
+      -- part 2: what it knows, what it tells; what it has, and leaves
       abbrev Known₂ : Type 0
       Known₂ = (sends : (List ℕ)) × (w-sends : Val) × (Is (Array u8 128) sends (w-sends ∷ []))
 
@@ -671,22 +631,21 @@ module _ {M : Type 1} (𝓤 : URA M) (H : Heap 𝓤) (A : Atoms 𝓤) (W : Given
       New₂ past = (receives : (List ℕ)) × (w-receives : Val) × (e-receives : receives ≡ none) ×
           (Is (Array u8 256) receives (w-receives ∷ []))
 
-      abbrev Had₂ : (ℕ → ℕ) → Known₂ → List (Item 𝓤) → List (Item 𝓤)
-      Had₂ p past Γ = ‵ (fat fullShare (tyArray (tyInt w8) 128) (p 19) 0 ((past .1))) ∷ ‵ (froom (tyArray (tyInt w8) 256) (p 20) 0)
+      abbrev Has₂ : (ℕ → ℕ) → Known₂ → List (Item 𝓤) → List (Item 𝓤)
+      Has₂ p past Γ = ‵ (fat fullShare (tyArray (tyInt w8) 128) (p 19) 0 ((past .1))) ∷ ‵ (froom (tyArray (tyInt w8) 256) (p 20) 0)
           ∷ ‵ (froom (tyArray (tyInt w8) 128) (p 8) 0) ∷ Γ
 
-      abbrev Left₂ : (ℕ → ℕ) → (past : Known₂) → New₂ past → List (Item 𝓤) → List (Item 𝓤)
-      Left₂ p past new Γ = ‵ (fat fullShare (tyArray (tyInt w8) 128) (p 19) 0 ((past .1)))
+      abbrev Leaves₂ : (ℕ → ℕ) → (past : Known₂) → New₂ past → List (Item 𝓤) → List (Item 𝓤)
+      Leaves₂ p past new Γ = ‵ (fat fullShare (tyArray (tyInt w8) 128) (p 19) 0 ((past .1)))
           ∷ ‵ (fat fullShare (tyArray (tyInt w8) 256) (p 20) 0 ((new .1))) ∷ ‵ (fat fullShare (tyArray (tyInt w8) 128) (p 8) 0 ((past .1)))
           ∷ Γ
 
       part₂ : {K : Type 0} {Γ : List (Item 𝓤)} → K → (p : ℕ → ℕ) (past : Known₂)
-          → ((new : New₂ past) → Seq K W (Left₂ p past new Γ) (runs C Λ (En p) rest₃ (atRet (En p) Post)))
-          → Seq K W (Had₂ p past Γ) (runs C Λ (En p) rest₂ (atRet (En p) Post))
-      unfolding rest₂
+          → ((new : New₂ past) → Seq K W (Leaves₂ p past new Γ) (runs C Λ (En p) (behind 3 (code.function .body)) (atRet (En p) Post)))
+          → Seq K W (Has₂ p past Γ) (runs C Λ (En p) (behind 1 (code.function .body)) (atRet (En p) Post))
       part₂ {Γ = Γ} t p past on = record {
         prf =
-            qed W (Had₂ p past Γ) ∵ exec ! C Λ (En p) rest₂ (atRet (En p) Post) $
+            qed W (Has₂ p past Γ) ∵ exec ! C Λ (En p) (behind 1 (code.function .body)) (atRet (En p) Post) $
             assigns ! {v = (past .1)} (of-opd ! (load ! (from ! (stop !)) (look ! 0 refl))) (from ! (stop !))
             (init ! 2 refl (array-typed u8 (uint-lawful 𝓤 H A W w8 .typed) 128 (past .0) ((past .1) ∷ []) (past .2) .0)) $
             nothing ! $ calls-fn ! fm marks-of.ended (marks-of.clauses 𝓤 H A at-mem run) (known .1) ((tt, tt, tt, tt, tt), tt)
@@ -698,7 +657,7 @@ module _ {M : Type 1} (𝓤 : URA M) (H : Heap 𝓤) (A : Atoms 𝓤) (W : Given
             same ! (on (receives, w-receives, e-receives, is-receives)));
       }
 
-      -- what part 3 knows, what it tells; what it has, and leaves
+      -- part 3: what it knows, what it tells; what it has, and leaves
       abbrev Known₃ : Type 0
       Known₃ = (sends : (List ℕ)) × (w-sends : Val) × (e-sends : sends ≡ noneToSend) × (is-sends : Is (Array u8 128) sends (w-sends ∷ [])) ×
           (receives : (List ℕ)) × (w-receives : Val) × (e-receives : receives ≡ none) × (Is (Array u8 256) receives (w-receives ∷ []))
@@ -707,15 +666,15 @@ module _ {M : Type 1} (𝓤 : URA M) (H : Heap 𝓤) (A : Atoms 𝓤) (W : Given
       New₃ past = (z-receives : List ℕ) × (z-sends : List ℕ) × (ok : Bool) × (w-ok : Val) × (e-ok : Sound h z-sends z-receives ok) ×
           (Is Boolean ok (w-ok ∷ []))
 
-      abbrev Had₃ : (ℕ → ℕ) → Known₃ → List (Item 𝓤) → List (Item 𝓤)
-      Had₃ p past Γ = ‵ (fat fullShare (tyArray (tyInt w8) 256) (p 20) 0 ((past .5)))
+      abbrev Has₃ : (ℕ → ℕ) → Known₃ → List (Item 𝓤) → List (Item 𝓤)
+      Has₃ p past Γ = ‵ (fat fullShare (tyArray (tyInt w8) 256) (p 20) 0 ((past .5)))
           ∷ ‵ (fat fullShare (tyArray (tyInt w8) 128) (p 8) 0 ((past .1))) ∷ ‵ (flft κ₀ q₀) ∷ ‵ (link-shr κ₀ b o γ h)
           ∷ ‵ (froom (tyRef erased mut (tyArray (tyInt w8) 256)) (p 22) 0) ∷ ‵ (froom (tyRef erased mut (tyArray (tyInt w8) 128)) (p 21) 0)
           ∷ ‵ (froom tyBool (p 10) 0) ∷ ‵ (froom (tyArray (tyInt w8) 256) (p 9) 0)
           ∷ ‵ (fat fullShare (tyRef (named 0) imm (pointee (L .written))) (p 1) 0 (vptr b o)) ∷ Γ
 
-      abbrev Left₃ : (ℕ → ℕ) → (past : Known₃) → New₃ past → List (Item 𝓤) → List (Item 𝓤)
-      Left₃ p past new Γ = ‵ (fat fullShare (tyArray (tyInt w8) 256) (p 9) 0 ((only ((array-vals (uint-vals w8)) (new .0)))))
+      abbrev Leaves₃ : (ℕ → ℕ) → (past : Known₃) → New₃ past → List (Item 𝓤) → List (Item 𝓤)
+      Leaves₃ p past new Γ = ‵ (fat fullShare (tyArray (tyInt w8) 256) (p 9) 0 ((only ((array-vals (uint-vals w8)) (new .0)))))
           ∷ ‵ (fat fullShare (tyArray (tyInt w8) 128) (p 8) 0 ((only ((array-vals (uint-vals w8)) (new .1))))) ∷ ‵ (flft κ₀ q₀)
           ∷ ‵ (link-shr κ₀ b o γ h) ∷ ‵ (fat fullShare (tyArray (tyInt w8) 256) (p 20) 0 ((past .5)))
           ∷ ‵ (fat fullShare (tyRef erased mut (tyArray (tyInt w8) 256)) (p 22) 0 ((vptr (p 9) 0)))
@@ -724,12 +683,11 @@ module _ {M : Type 1} (𝓤 : URA M) (H : Heap 𝓤) (A : Atoms 𝓤) (W : Given
           ∷ Γ
 
       part₃ : {K : Type 0} {Γ : List (Item 𝓤)} → K → (p : ℕ → ℕ) (past : Known₃)
-          → ((new : New₃ past) → Seq K W (Left₃ p past new Γ) (runs C Λ (En p) rest₄ (atRet (En p) Post)))
-          → Seq K W (Had₃ p past Γ) (runs C Λ (En p) rest₃ (atRet (En p) Post))
-      unfolding rest₃
+          → ((new : New₃ past) → Seq K W (Leaves₃ p past new Γ) (runs C Λ (En p) (behind 7 (code.function .body)) (atRet (En p) Post)))
+          → Seq K W (Has₃ p past Γ) (runs C Λ (En p) (behind 3 (code.function .body)) (atRet (En p) Post))
       part₃ {Γ = Γ} t p past on = record {
         prf =
-            qed W (Had₃ p past Γ) ∵ exec ! C Λ (En p) rest₃ (atRet (En p) Post) $
+            qed W (Has₃ p past Γ) ∵ exec ! C Λ (En p) (behind 3 (code.function .body)) (atRet (En p) Post) $
             assigns ! {v = (past .5)} (of-opd ! (load ! (from ! (stop !)) (look ! 0 refl))) (from ! (stop !))
             (init ! 7 refl (array-typed u8 (uint-lawful 𝓤 H A W w8 .typed) 256 (past .4) ((past .5) ∷ []) (past .7) .0)) $
             assigns ! {v = (vptr (p 8) 0)} (addr ! (from ! (stop !))) (from ! (stop !)) (init ! 5 refl (tt, tt)) $
@@ -778,7 +736,7 @@ module _ {M : Type 1} (𝓤 : URA M) (H : Heap 𝓤) (A : Atoms 𝓤) (W : Given
             same ! (on ((ws-ok .1 .1 .0), (ws-ok .1 .0), ok, w-ok, e-ok, is-ok)))))));
       }
 
-      -- what part 4 knows, what it tells; what it has, and leaves
+      -- part 4: what it knows, what it tells; what it has, and leaves
       abbrev Known₄ : Type 0
       Known₄ = Unit {0}
 
@@ -792,14 +750,14 @@ module _ {M : Type 1} (𝓤 : URA M) (H : Heap 𝓤) (A : Atoms 𝓤) (W : Given
           (was-clock : Is clock-row.the-row (h .clock) ((LL.vals clock-row.the-type clock-laws.the-laws) (h .clock))) × (n : ℕ) ×
           (w-n : Val) × (e-n : n ≡ h .flight .outstanding) × (Is usize n (w-n ∷ []))
 
-      abbrev Had₄ : (ℕ → ℕ) → Known₄ → List (Item 𝓤) → List (Item 𝓤)
-      Had₄ p past Γ = ‵ (flft κ₀ q₀) ∷ ‵ (link-shr κ₀ b o γ h)
+      abbrev Has₄ : (ℕ → ℕ) → Known₄ → List (Item 𝓤) → List (Item 𝓤)
+      Has₄ p past Γ = ‵ (flft κ₀ q₀) ∷ ‵ (link-shr κ₀ b o γ h)
           ∷ ‵ (fat fullShare (tyRef (named 0) imm (pointee (L .written))) (p 1) 0 (vptr b o)) ∷ ‵ (froom (tyInt w64) (p 15) 0)
           ∷ ‵ (froom clock-laws.mir (p 14) 0) ∷ ‵ (froom arrival-laws.mir (p 13) 0) ∷ ‵ (froom flight-laws.mir (p 12) 0)
           ∷ ‵ (froom settings-laws.mir (p 11) 0) ∷ Γ
 
-      abbrev Left₄ : (ℕ → ℕ) → (past : Known₄) → New₄ past → List (Item 𝓤) → List (Item 𝓤)
-      Left₄ p past new Γ = ‵ (partAt clock-row.the-row (new .0) (h .clock) b (o + 104))
+      abbrev Leaves₄ : (ℕ → ℕ) → (past : Known₄) → New₄ past → List (Item 𝓤) → List (Item 𝓤)
+      Leaves₄ p past new Γ = ‵ (partAt clock-row.the-row (new .0) (h .clock) b (o + 104))
           ∷ ‵ (partAt arrival-row.the-row (new .0) (h .arrival) b (o + 72)) ∷ ‵ (partAt flight-row.the-row (new .0) (h .flight) b (o + 16))
           ∷ ‵ (partAt settings-row.the-row (new .0) (h .settings) b (o + 0))
           ∷ ‵ (partAt (Array u32 128) (new .0) (h .«waiting_numbers») b (o + 1820))
@@ -815,12 +773,11 @@ module _ {M : Type 1} (𝓤 : URA M) (H : Heap 𝓤) (A : Atoms 𝓤) (W : Given
           ∷ ‵ (fat fullShare settings-laws.mir (p 11) 0 ((only ((LL.vals settings-row.the-type settings-laws.the-laws) (h .settings))))) ∷ Γ
 
       part₄ : {K : Type 0} {Γ : List (Item 𝓤)} → K → (p : ℕ → ℕ) (past : Known₄)
-          → ((new : New₄ past) → Seq K W (Left₄ p past new Γ) (runs C Λ (En p) rest₅ (atRet (En p) Post)))
-          → Seq K W (Had₄ p past Γ) (runs C Λ (En p) rest₄ (atRet (En p) Post))
-      unfolding rest₄
+          → ((new : New₄ past) → Seq K W (Leaves₄ p past new Γ) (runs C Λ (En p) (behind 12 (code.function .body)) (atRet (En p) Post)))
+          → Seq K W (Has₄ p past Γ) (runs C Λ (En p) (behind 7 (code.function .body)) (atRet (En p) Post))
       part₄ {Γ = Γ} t p past on = record {
         prf =
-            qed W (Had₄ p past Γ) ∵ exec ! C Λ (En p) rest₄ (atRet (En p) Post) $
+            qed W (Has₄ p past Γ) ∵ exec ! C Λ (En p) (behind 7 (code.function .body)) (atRet (En p) Post) $
             move ! (1 ∷ 0 ∷ []) $ looks-link b o γ ! tt h (λ q′.
             -- [F:settings; F:flight; F:arrival; F:clock; F:queued; F:outstanding; F:transmissions; F:ready; F:waiting; F:«waiting_numbers»;
             -- back; opened; the locals]
@@ -895,26 +852,25 @@ module _ {M : Type 1} (𝓤 : URA M) (H : Heap 𝓤) (A : Atoms 𝓤) (W : Given
             ))))))))))))));
       }
 
-      -- what part 5 knows, what it tells; what it has, and leaves
+      -- part 5: what it knows, what it tells; what it has, and leaves
       abbrev Known₅ : Type 0
       Known₅ = Unit {0}
 
       abbrev New₅ : Known₅ → Type 0
       New₅ past = (found : (List ℕ)) × (w-found : Val) × (e-found : found ≡ replicate 128 0) × (Is (Array u32 128) found (w-found ∷ []))
 
-      abbrev Had₅ : (ℕ → ℕ) → Known₅ → List (Item 𝓤) → List (Item 𝓤)
-      Had₅ p past Γ = ‵ (froom (tyArray (tyInt w32) 128) (p 23) 0) ∷ Γ
+      abbrev Has₅ : (ℕ → ℕ) → Known₅ → List (Item 𝓤) → List (Item 𝓤)
+      Has₅ p past Γ = ‵ (froom (tyArray (tyInt w32) 128) (p 23) 0) ∷ Γ
 
-      abbrev Left₅ : (ℕ → ℕ) → (past : Known₅) → New₅ past → List (Item 𝓤) → List (Item 𝓤)
-      Left₅ p past new Γ = ‵ (fat fullShare (tyArray (tyInt w32) 128) (p 23) 0 ((new .1))) ∷ Γ
+      abbrev Leaves₅ : (ℕ → ℕ) → (past : Known₅) → New₅ past → List (Item 𝓤) → List (Item 𝓤)
+      Leaves₅ p past new Γ = ‵ (fat fullShare (tyArray (tyInt w32) 128) (p 23) 0 ((new .1))) ∷ Γ
 
       part₅ : {K : Type 0} {Γ : List (Item 𝓤)} → K → (p : ℕ → ℕ) (past : Known₅)
-          → ((new : New₅ past) → Seq K W (Left₅ p past new Γ) (runs C Λ (En p) rest₆ (atRet (En p) Post)))
-          → Seq K W (Had₅ p past Γ) (runs C Λ (En p) rest₅ (atRet (En p) Post))
-      unfolding rest₅
+          → ((new : New₅ past) → Seq K W (Leaves₅ p past new Γ) (runs C Λ (En p) (behind 13 (code.function .body)) (atRet (En p) Post)))
+          → Seq K W (Has₅ p past Γ) (runs C Λ (En p) (behind 12 (code.function .body)) (atRet (En p) Post))
       part₅ {Γ = Γ} t p past on = record {
         prf =
-            qed W (Had₅ p past Γ) ∵ exec ! C Λ (En p) rest₅ (atRet (En p) Post) $
+            qed W (Has₅ p past Γ) ∵ exec ! C Λ (En p) (behind 12 (code.function .body)) (atRet (En p) Post) $
             nothing ! $ calls-fn ! fm none-of.ended (none-of.clauses 𝓤 H A at-mem run) (known .4) ((tt, tt, tt, tt, tt), tt)
             (λ found _. found ≡ replicate 128 0)
             (‵ ftrue) (plainly 𝓤 H A W ([]) tt tt tt tt) (λ found _. id⊢ 𝓤 _)
@@ -923,7 +879,7 @@ module _ {M : Type 1} (𝓤 : URA M) (H : Heap 𝓤) (A : Atoms 𝓤) (W : Given
             same ! (on (found, w-found, e-found, is-found)));
       }
 
-      -- what part 6 knows, what it tells; what it has, and leaves
+      -- part 6: what it knows, what it tells; what it has, and leaves
       abbrev Known₆ : Type 0
       Known₆ = (q′ : Share) × (len-outstanding : length (h .outstanding) ≡ 32) × (n : ℕ) × (w-n : Val) × (is-n : Is usize n (w-n ∷ [])) ×
           (found : (List ℕ)) × (w-found : Val) × (e-found : found ≡ replicate 128 0) × (Is (Array u32 128) found (w-found ∷ []))
@@ -934,8 +890,8 @@ module _ {M : Type 1} (𝓤 : URA M) (H : Heap 𝓤) (A : Atoms 𝓤) (W : Given
           (gathered (take sendSlots (x₃ .now)) (slotsIn (h .outstanding) (past .2))))) ×
           (Is (Array u32 128) z-found ((array-vals (uint-vals w32)) z-found))
 
-      abbrev Had₆ : (ℕ → ℕ) → Known₆ → List (Item 𝓤) → List (Item 𝓤)
-      Had₆ p past Γ = ‵ (fat fullShare (tyArray (tyInt w32) 128) (p 23) 0 ((past .6)))
+      abbrev Has₆ : (ℕ → ℕ) → Known₆ → List (Item 𝓤) → List (Item 𝓤)
+      Has₆ p past Γ = ‵ (fat fullShare (tyArray (tyInt w32) 128) (p 23) 0 ((past .6)))
           ∷ ‵ (partAt (Array u32 32) (past .0) (h .outstanding) b (o + 636))
           ∷ ‵ (fat fullShare (tyRef (named 0) imm (pointee (L .written))) (p 1) 0 (vptr b o))
           ∷ ‵ (fat fullShare (tyInt w64) (p 15) 0 ((past .3))) ∷ ‵ (flft κ₃ q₃) ∷ ‵ Own₃
@@ -943,8 +899,8 @@ module _ {M : Type 1} (𝓤 : URA M) (H : Heap 𝓤) (A : Atoms 𝓤) (W : Given
           ∷ ‵ (froom tyUnit (p 24) 0) ∷ ‵ (froom (tyArray (tyInt w32) 128) (p 16) 0)
           ∷ ‵ (fat fullShare (sliceTy (tyRef (named 3) imm (pointee (R .written)))) (p 4) 0 (s₃)) ∷ Γ
 
-      abbrev Left₆ : (ℕ → ℕ) → (past : Known₆) → New₆ past → List (Item 𝓤) → List (Item 𝓤)
-      Left₆ p past new Γ = ‵ (fat fullShare (tyArray (tyInt w32) 128) (p 16) 0 ((only ((array-vals (uint-vals w32)) (new .0)))))
+      abbrev Leaves₆ : (ℕ → ℕ) → (past : Known₆) → New₆ past → List (Item 𝓤) → List (Item 𝓤)
+      Leaves₆ p past new Γ = ‵ (fat fullShare (tyArray (tyInt w32) 128) (p 16) 0 ((only ((array-vals (uint-vals w32)) (new .0)))))
           ∷ ‵ (partAt (Array u32 32) (past .0) (h .outstanding) b (o + 636)) ∷ ‵ (flft κ₃ q₃) ∷ ‵ Own₃
           ∷ ‵ (fat fullShare (tyArray (tyInt w32) 128) (p 23) 0 ((past .6)))
           ∷ ‵ (fat fullShare (tyRef (named 0) imm (pointee (L .written))) (p 1) 0 (vptr b o))
@@ -955,12 +911,11 @@ module _ {M : Type 1} (𝓤 : URA M) (H : Heap 𝓤) (A : Atoms 𝓤) (W : Given
           ∷ ‵ (fat fullShare (sliceTy (tyRef (named 3) imm (pointee (R .written)))) (p 4) 0 (s₃)) ∷ Γ
 
       part₆ : {K : Type 0} {Γ : List (Item 𝓤)} → K → (p : ℕ → ℕ) (past : Known₆)
-          → ((new : New₆ past) → Seq K W (Left₆ p past new Γ) (runs C Λ (En p) rest₇ (atRet (En p) Post)))
-          → Seq K W (Had₆ p past Γ) (runs C Λ (En p) rest₆ (atRet (En p) Post))
-      unfolding rest₆
+          → ((new : New₆ past) → Seq K W (Leaves₆ p past new Γ) (runs C Λ (En p) (behind 17 (code.function .body)) (atRet (En p) Post)))
+          → Seq K W (Has₆ p past Γ) (runs C Λ (En p) (behind 13 (code.function .body)) (atRet (En p) Post))
       part₆ {Γ = Γ} t p past on = record {
         prf =
-            qed W (Had₆ p past Γ) ∵ exec ! C Λ (En p) rest₆ (atRet (En p) Post) $
+            qed W (Has₆ p past Γ) ∵ exec ! C Λ (En p) (behind 13 (code.function .body)) (atRet (En p) Post) $
             assigns ! {v = (past .6)} (of-opd ! (load ! (from ! (stop !)) (look ! 0 refl))) (from ! (stop !))
             (init ! 9 refl (array-typed u32 (uint-lawful 𝓤 H A W w32 .typed) 128 (past .5) ((past .6) ∷ []) (past .8) .0)) $
             assigns ! {v = (vptr b (o + 636))} (addr ! (place-outstanding ! (look ! 2 refl))) (from ! (stop !)) (init ! 7 refl (tt, tt)) $
@@ -1003,28 +958,27 @@ module _ {M : Type 1} (𝓤 : URA M) (H : Heap 𝓤) (A : Atoms 𝓤) (W : Given
             same ! (on ((ws-g .1 .1 .1 .0), w-g, e-g, was-found-3))))));
       }
 
-      -- what part 7 knows, what it tells; what it has, and leaves
+      -- part 7: what it knows, what it tells; what it has, and leaves
       abbrev Known₇ : Type 0
       Known₇ = Unit {0}
 
       abbrev New₇ : Known₇ → Type 0
       New₇ past = (m : ℕ) × (w-m : Val) × (e-m : m ≡ length (x₃ .now)) × (Is usize m (w-m ∷ []))
 
-      abbrev Had₇ : (ℕ → ℕ) → Known₇ → List (Item 𝓤) → List (Item 𝓤)
-      Had₇ p past Γ = ‵ (flft κ₃ q₃) ∷ ‵ Own₃ ∷ ‵ (fat fullShare (sliceTy (tyRef (named 3) imm (pointee (R .written)))) (p 4) 0 (s₃))
+      abbrev Has₇ : (ℕ → ℕ) → Known₇ → List (Item 𝓤) → List (Item 𝓤)
+      Has₇ p past Γ = ‵ (flft κ₃ q₃) ∷ ‵ Own₃ ∷ ‵ (fat fullShare (sliceTy (tyRef (named 3) imm (pointee (R .written)))) (p 4) 0 (s₃))
           ∷ ‵ (froom (tyInt w64) (p 17) 0) ∷ Γ
 
-      abbrev Left₇ : (ℕ → ℕ) → (past : Known₇) → New₇ past → List (Item 𝓤) → List (Item 𝓤)
-      Left₇ p past new Γ = ‵ (flft κ₃ q₃) ∷ ‵ (fat fullShare (sliceTy (tyRef (named 3) imm (pointee (R .written)))) (p 4) 0 (s₃))
+      abbrev Leaves₇ : (ℕ → ℕ) → (past : Known₇) → New₇ past → List (Item 𝓤) → List (Item 𝓤)
+      Leaves₇ p past new Γ = ‵ (flft κ₃ q₃) ∷ ‵ (fat fullShare (sliceTy (tyRef (named 3) imm (pointee (R .written)))) (p 4) 0 (s₃))
           ∷ ‵ (fat fullShare (tyInt w64) (p 17) 0 ((new .1))) ∷ Γ
 
       part₇ : {K : Type 0} {Γ : List (Item 𝓤)} → K → (p : ℕ → ℕ) (past : Known₇)
-          → ((new : New₇ past) → Seq K W (Left₇ p past new Γ) (runs C Λ (En p) rest₈ (atRet (En p) Post)))
-          → Seq K W (Had₇ p past Γ) (runs C Λ (En p) rest₇ (atRet (En p) Post))
-      unfolding rest₇
+          → ((new : New₇ past) → Seq K W (Leaves₇ p past new Γ) (runs C Λ (En p) (behind 18 (code.function .body)) (atRet (En p) Post)))
+          → Seq K W (Has₇ p past Γ) (runs C Λ (En p) (behind 17 (code.function .body)) (atRet (En p) Post))
       part₇ {Γ = Γ} t p past on = record {
         prf =
-            qed W (Had₇ p past Γ) ∵ exec ! C Λ (En p) rest₇ (atRet (En p) Post) $
+            qed W (Has₇ p past Γ) ∵ exec ! C Λ (En p) (behind 17 (code.function .body)) (atRet (En p) Post) $
             join ! $ calls-fn ! fm table-len.ended (table-len.clauses 𝓤 H A at-mem run) (known .6) (to-table-len)
             (λ m ws-m. m ≡ length (x₃ .now)) (‵ (flft κ₃ q₃) ⊛ ‵ Own₃)
             (asks-table-len) (λ m ws-m. id⊢ 𝓤 _)
@@ -1036,31 +990,30 @@ module _ {M : Type 1} (𝓤 : URA M) (H : Heap 𝓤) (A : Atoms 𝓤) (W : Given
             same ! (on (m, w-m, e-m, is-m)));
       }
 
-      -- what part 8 knows, what it tells; what it has, and leaves
+      -- part 8: what it knows, what it tells; what it has, and leaves
       abbrev Known₈ : Type 0
       Known₈ = Unit {0}
 
       abbrev New₈ : Known₈ → Type 0
       New₈ past = Unit {0}
 
-      abbrev Had₈ : (ℕ → ℕ) → Known₈ → List (Item 𝓤) → List (Item 𝓤)
-      Had₈ p past Γ = ‵ (froom (tyRef erased imm (tyArray (tyInt w32) 128)) (p 27) 0) ∷ Γ
+      abbrev Has₈ : (ℕ → ℕ) → Known₈ → List (Item 𝓤) → List (Item 𝓤)
+      Has₈ p past Γ = ‵ (froom (tyRef erased imm (tyArray (tyInt w32) 128)) (p 27) 0) ∷ Γ
 
-      abbrev Left₈ : (ℕ → ℕ) → (past : Known₈) → New₈ past → List (Item 𝓤) → List (Item 𝓤)
-      Left₈ p past new Γ = ‵ (fat fullShare (tyRef erased imm (tyArray (tyInt w32) 128)) (p 27) 0 ((vptr (p 16) 0))) ∷ Γ
+      abbrev Leaves₈ : (ℕ → ℕ) → (past : Known₈) → New₈ past → List (Item 𝓤) → List (Item 𝓤)
+      Leaves₈ p past new Γ = ‵ (fat fullShare (tyRef erased imm (tyArray (tyInt w32) 128)) (p 27) 0 ((vptr (p 16) 0))) ∷ Γ
 
       part₈ : {K : Type 0} {Γ : List (Item 𝓤)} → K → (p : ℕ → ℕ) (past : Known₈)
-          → ((new : New₈ past) → Seq K W (Left₈ p past new Γ) (runs C Λ (En p) rest₉ (atRet (En p) Post)))
-          → Seq K W (Had₈ p past Γ) (runs C Λ (En p) rest₈ (atRet (En p) Post))
-      unfolding rest₈
+          → ((new : New₈ past) → Seq K W (Leaves₈ p past new Γ) (runs C Λ (En p) (behind 19 (code.function .body)) (atRet (En p) Post)))
+          → Seq K W (Has₈ p past Γ) (runs C Λ (En p) (behind 18 (code.function .body)) (atRet (En p) Post))
       part₈ {Γ = Γ} t p past on = record {
         prf =
-            qed W (Had₈ p past Γ) ∵ exec ! C Λ (En p) rest₈ (atRet (En p) Post) $
+            qed W (Has₈ p past Γ) ∵ exec ! C Λ (En p) (behind 18 (code.function .body)) (atRet (En p) Post) $
             assigns ! {v = (vptr (p 16) 0)} (addr ! (from ! (stop !))) (from ! (stop !)) (init ! 0 refl (tt, tt)) $
             same ! (on (tt));
       }
 
-      -- what part 9 knows, what it tells; what it has, and leaves
+      -- part 9: what it knows, what it tells; what it has, and leaves
       abbrev Known₉ : Type 0
       Known₉ = (z-found : List ℕ) × (z-receives : List ℕ) × (z-sends : List ℕ) × (ok : Bool) × (w-ok : Val) ×
           (e-ok : Sound h z-sends z-receives ok) × (is-ok : Is Boolean ok (w-ok ∷ [])) × (q′ : Share) ×
@@ -1079,8 +1032,8 @@ module _ {M : Type 1} (𝓤 : URA M) (H : Heap 𝓤) (A : Atoms 𝓤) (W : Given
       New₉ past = (a : Time) × (w-a : Val) × (e-a : timeOutcome a ≡ checksWith h (recordsIn (past .0)) (x₄ .now)
           (lentLengths (past .21) (x₁ .now) (x₂ .now) (x₄ .now)) x₅) × (Is time-row.the-row a (w-a ∷ []))
 
-      abbrev Had₉ : (ℕ → ℕ) → Known₉ → List (Item 𝓤) → List (Item 𝓤)
-      Had₉ p past Γ = ‵ (fat fullShare (tyRef erased imm (tyArray (tyInt w32) 128)) (p 27) 0 ((vptr (p 16) 0)))
+      abbrev Has₉ : (ℕ → ℕ) → Known₉ → List (Item 𝓤) → List (Item 𝓤)
+      Has₉ p past Γ = ‵ (fat fullShare (tyRef erased imm (tyArray (tyInt w32) 128)) (p 27) 0 ((vptr (p 16) 0)))
           ∷ ‵ (fat fullShare (tyInt w64) (p 17) 0 ((past .22)))
           ∷ ‵ (fat fullShare (tyArray (tyInt w32) 128) (p 16) 0 ((only ((array-vals (uint-vals w32)) (past .0)))))
           ∷ ‵ (partAt (Array u32 32) (past .7) (h .outstanding) b (o + 636))
@@ -1102,8 +1055,8 @@ module _ {M : Type 1} (𝓤 : URA M) (H : Heap 𝓤) (A : Atoms 𝓤) (W : Given
           ∷ ‵ (fat fullShare (sliceTy (tyRef (named 2) imm (tyInt w8))) (p 3) 0 (s₂))
           ∷ ‵ (fat fullShare (sliceTy (tyRef (named 1) imm (tyInt w8))) (p 2) 0 (s₁)) ∷ Γ
 
-      abbrev Left₉ : (ℕ → ℕ) → (past : Known₉) → New₉ past → List (Item 𝓤) → List (Item 𝓤)
-      Left₉ p past new Γ = ‵ (partAt (Array u32 128) (past .7) (h .«waiting_numbers») b (o + 1820))
+      abbrev Leaves₉ : (ℕ → ℕ) → (past : Known₉) → New₉ past → List (Item 𝓤) → List (Item 𝓤)
+      Leaves₉ p past new Γ = ‵ (partAt (Array u32 128) (past .7) (h .«waiting_numbers») b (o + 1820))
           ∷ ‵ (partAt (Array u32 128) (past .7) (h .waiting) b (o + 1308)) ∷ ‵ (partAt (Array u32 128) (past .7) (h .ready) b (o + 796))
           ∷ ‵ (partAt (Array u8 32) (past .7) (h .transmissions) b (o + 764))
           ∷ ‵ (partAt (Array u32 32) (past .7) (h .outstanding) b (o + 636)) ∷ ‵ (partAt (Array u32 128) (past .7) (h .queued) b (o + 124))
@@ -1128,12 +1081,11 @@ module _ {M : Type 1} (𝓤 : URA M) (H : Heap 𝓤) (A : Atoms 𝓤) (W : Given
           ∷ ‵ (fat fullShare (sliceTy (tyRef (named 1) imm (tyInt w8))) (p 2) 0 (s₁)) ∷ Γ
 
       part₉ : {K : Type 0} {Γ : List (Item 𝓤)} → K → (p : ℕ → ℕ) (past : Known₉)
-          → ((new : New₉ past) → Seq K W (Left₉ p past new Γ) (runs C Λ (En p) rest₁₀ (atRet (En p) Post)))
-          → Seq K W (Had₉ p past Γ) (runs C Λ (En p) rest₉ (atRet (En p) Post))
-      unfolding rest₉
+          → ((new : New₉ past) → Seq K W (Leaves₉ p past new Γ) (runs C Λ (En p) (behind 26 (code.function .body)) (atRet (En p) Post)))
+          → Seq K W (Has₉ p past Γ) (runs C Λ (En p) (behind 19 (code.function .body)) (atRet (En p) Post))
       part₉ {Γ = Γ} t p past on = record {
         prf =
-            qed W (Had₉ p past Γ) ∵ exec ! C Λ (En p) rest₉ (atRet (En p) Post) $
+            qed W (Has₉ p past Γ) ∵ exec ! C Λ (En p) (behind 19 (code.function .body)) (atRet (En p) Post) $
             assigns ! {v = (vptr b (o + 124))} (addr ! (place-queued ! (look ! 4 refl))) (from ! (stop !)) (init ! 26 refl (tt, tt)) $
             assigns ! {v = (vptr b (o + 636))} (addr ! (place-outstanding ! (look ! 4 refl))) (from ! (stop !)) (init ! 25 refl (tt, tt)) $
             assigns ! {v = (vptr b (o + 764))} (addr ! (place-transmissions ! (look ! 4 refl))) (from ! (stop !)) (init ! 24 refl (tt, tt)) $
@@ -1246,7 +1198,7 @@ module _ {M : Type 1} (𝓤 : URA M) (H : Heap 𝓤) (A : Atoms 𝓤) (W : Given
             same ! (on (a, w-a, e-a, is-a)))))))))));
       }
 
-      -- what part 10 knows, what it tells; what it has, and leaves
+      -- part 10: what it knows, what it tells; what it has, and leaves
       abbrev Known₁₀ : Type 0
       Known₁₀ = (q′ : Share) × (a : Time) × (w-a : Val) × (Is time-row.the-row a (w-a ∷ []))
 
@@ -1254,8 +1206,8 @@ module _ {M : Type 1} (𝓤 : URA M) (H : Heap 𝓤) (A : Atoms 𝓤) (W : Given
       New₁₀ past = (z₆ : ℕ) × (r : ℤ) × (w-r : Val) × (e-r : (r ≡ timeCode (past .1)) × (z₆ ≡ timeStored (past .1) (x₆ .now))) ×
           (Is i32 r (w-r ∷ []))
 
-      abbrev Had₁₀ : (ℕ → ℕ) → Known₁₀ → List (Item 𝓤) → List (Item 𝓤)
-      Had₁₀ p past Γ = ‵ (partAt (Array u32 128) (past .0) (h .«waiting_numbers») b (o + 1820))
+      abbrev Has₁₀ : (ℕ → ℕ) → Known₁₀ → List (Item 𝓤) → List (Item 𝓤)
+      Has₁₀ p past Γ = ‵ (partAt (Array u32 128) (past .0) (h .«waiting_numbers») b (o + 1820))
           ∷ ‵ (partAt (Array u32 128) (past .0) (h .waiting) b (o + 1308)) ∷ ‵ (partAt (Array u32 128) (past .0) (h .ready) b (o + 796))
           ∷ ‵ (partAt (Array u8 32) (past .0) (h .transmissions) b (o + 764))
           ∷ ‵ (partAt (Array u32 32) (past .0) (h .outstanding) b (o + 636)) ∷ ‵ (partAt (Array u32 128) (past .0) (h .queued) b (o + 124))
@@ -1266,18 +1218,17 @@ module _ {M : Type 1} (𝓤 : URA M) (H : Heap 𝓤) (A : Atoms 𝓤) (W : Given
           ∷ ‵ (fobor κ₀ q₀ (partAt L (past .0) h b o)) ∷ ‵ (flft κ₅ q₅) ∷ ‵ Own₆ ∷ ‵ (froom (tyRef erased mut (tyInt w32)) (p 34) 0)
           ∷ ‵ (fat fullShare (tyRef (named 5) mut (tyInt w32)) (p 7) 0 (s₆)) ∷ ‵ (froom (tyInt w32) (p 0) 0) ∷ Γ
 
-      abbrev Left₁₀ : (ℕ → ℕ) → (past : Known₁₀) → New₁₀ past → List (Item 𝓤) → List (Item 𝓤)
-      Left₁₀ p past new Γ = ‵ (flft κ₀ q₀) ∷ ‵ (fres (x₆ .name) (u32 .coded .code (new .0))) ∷ ‵ (flft κ₅ q₅)
+      abbrev Leaves₁₀ : (ℕ → ℕ) → (past : Known₁₀) → New₁₀ past → List (Item 𝓤) → List (Item 𝓤)
+      Leaves₁₀ p past new Γ = ‵ (flft κ₀ q₀) ∷ ‵ (fres (x₆ .name) (u32 .coded .code (new .0))) ∷ ‵ (flft κ₅ q₅)
           ∷ ‵ (fat fullShare time-laws.mir (p 18) 0 ((past .2))) ∷ ‵ (fat fullShare (tyRef erased mut (tyInt w32)) (p 34) 0 (s₆))
           ∷ ‵ (fat fullShare (tyRef (named 5) mut (tyInt w32)) (p 7) 0 (s₆)) ∷ ‵ (fat fullShare (tyInt w32) (p 0) 0 ((new .2))) ∷ Γ
 
       part₁₀ : {K : Type 0} {Γ : List (Item 𝓤)} → K → (p : ℕ → ℕ) (past : Known₁₀)
-          → ((new : New₁₀ past) → Seq K W (Left₁₀ p past new Γ) (runs C Λ (En p) rest₁₁ (atRet (En p) Post)))
-          → Seq K W (Had₁₀ p past Γ) (runs C Λ (En p) rest₁₀ (atRet (En p) Post))
-      unfolding rest₁₀
+          → ((new : New₁₀ past) → Seq K W (Leaves₁₀ p past new Γ) (runs C Λ (En p) (behind 28 (code.function .body)) (atRet (En p) Post)))
+          → Seq K W (Has₁₀ p past Γ) (runs C Λ (En p) (behind 26 (code.function .body)) (atRet (En p) Post))
       part₁₀ {Γ = Γ} t p past on = record {
         prf =
-            qed W (Had₁₀ p past Γ) ∵ exec ! C Λ (En p) rest₁₀ (atRet (En p) Post) $
+            qed W (Has₁₀ p past Γ) ∵ exec ! C Λ (En p) (behind 26 (code.function .body)) (atRet (En p) Post) $
             assigns ! {v = s₆} (addr ! (from ! (hop ! (look ! 16 refl) (stop !)))) (from ! (stop !)) (init ! 15 refl (tt, tt)) $
             move ! (13 ∷ 14 ∷ []) $ join ! $
             calls-fn ! fm code-of.ended (code-of.clauses 𝓤 H A at-mem run) (known .8) (to-code-of (past .1) (past .2))
@@ -1297,7 +1248,6 @@ module _ {M : Type 1} (𝓤 : URA M) (H : Heap 𝓤) (A : Atoms 𝓤) (W : Given
 
       walk : ent 𝓤 (onEntry 𝓤 H A f.signature (κ₀, (κ₁, (κ₂, (κ₃, (κ₄, (κ₅, tt)))))) (q₀, (q₁, (q₂, (q₃, (q₄, (q₅, tt))))))
           x at) (WpFn 𝓤 H C Λ code.function (vptr b o ∷ s₁ ∷ s₂ ∷ s₃ ∷ s₄ ∷ v₅ ∷ s₆ ∷ []) Post)
-      unfolding rest₁ rest₂ rest₃ rest₄ rest₅ rest₆ rest₇ rest₈ rest₉ rest₁₀ rest₁₁
       walk =
           qed W ((‵ (flft κ₀ q₀) ⊛ ‵ (flft κ₁ q₁) ⊛ ‵ (flft κ₂ q₂) ⊛ ‵ (flft κ₃ q₃) ⊛ ‵ (flft κ₄ q₄) ⊛ ‵
           (flft κ₅ q₅) ⊛ ‵ ftrue) ∷ ‵ (owns (ShrRef (named 0) κ₀ L ∷ ShrSlice (named 1) κ₁ u8 ∷ ShrSlice (named 2) κ₂ u8

@@ -79,7 +79,6 @@ use Rattle.records.proofs.Walk.{
   init,
   store,
   store-raw,
-  forget,
   stop,
   hop,
   fld,
@@ -93,13 +92,9 @@ use Rattle.records.proofs.Walk.{
   assigns,
   returns,
   enter,
-  alloc1,
-  alloc0,
   params1,
   pass1,
   pass0,
-  free1,
-  free0,
   land,
   WpFn-mono,
   FmC,
@@ -150,7 +145,7 @@ use Rattle.records.proofs.Shared.{LentShared, lends-shared, shared-back}
 use Rattle.records.proofs.Rows.{R}
 use Rattle.lending.proofs.Fields.{ref-at, lend-mut, back-mut, lend-shr, back-shr, cell-out, cell-in, tells-length, lend-whole, back-whole}
 use Rattle.lending.proofs.Locals.{envAt, allocates, frees-all, holds, empty}
-use Rattle.lending.proofs.Parts.{behind, taking, spread, same}
+use Rattle.lending.proofs.Parts.{behind, spread, same}
 use Rattle.lending.proofs.Block.{
   L,
   Open,
@@ -176,8 +171,8 @@ use Rattle.control.specs.declared.Link.{Link}
 use Rattle.timing.specs.declared.Record.{Record}
 use lib.IntN.{ℤ}
 use mir.Syntax.{w16}
-use base.Fml.{fres, froom, fdies, fobor, fsep, feq}
-use mir.Syntax.{Body, return, imm, mut, erased, tyInt, tyArray, tyRef, tyPtr, tyUnit, tyBool}
+use base.Fml.{fres, froom, fobor, fsep, feq}
+use mir.Syntax.{imm, mut, erased, tyInt, tyArray, tyRef, tyPtr, tyUnit, tyBool}
 use denote.Slice.{sliceTy}
 use denote.Memory.{pointee}
 use Rattle.timing.proofs.Record.Laws as record-laws
@@ -229,16 +224,6 @@ stayed = (
     (gave-ref (2 ∷ []) tt (arrayOf (plain (λ _. u8)) 256), tt),
   ),
 )
-
--- the rest of the body where each part begins, and behind the last
-unfoldable rest₃ : Body
-rest₃ = return
-
-unfoldable rest₂ : Body
-rest₂ = taking 9 (behind 4 (code.function .body)) rest₃
-
-unfoldable rest₁ : Body
-rest₁ = taking 4 (behind 0 (code.function .body)) rest₂
 
 module _ {M : Type 1} (𝓤 : URA M) (H : Heap 𝓤) (A : Atoms 𝓤) (W : Given 𝓤 H A) (at-mem : Memory → SProp 𝓤) (run : Routine → Fun 𝓤) where
   -- what is known of the callees
@@ -414,7 +399,7 @@ module _ {M : Type 1} (𝓤 : URA M) (H : Heap 𝓤) (A : Atoms 𝓤) (W : Given
       abbrev En : (ℕ → ℕ) → Env 𝓤 H
       En p = envAt (code.function .locals) p
 
-      -- what part 1 knows, what it tells; what it has, and leaves
+      -- part 1: what it knows, what it tells; what it has, and leaves
       abbrev Known₁ : Type 0
       Known₁ = Unit {0}
 
@@ -427,13 +412,13 @@ module _ {M : Type 1} (𝓤 : URA M) (H : Heap 𝓤) (A : Atoms 𝓤) (W : Given
           (was-arrival : Is arrival-row.the-row (h .arrival) ((LL.vals arrival-row.the-type arrival-laws.the-laws) (h .arrival))) ×
           (Is clock-row.the-row (h .clock) ((LL.vals clock-row.the-type clock-laws.the-laws) (h .clock)))
 
-      abbrev Had₁ : (ℕ → ℕ) → Known₁ → List (Item 𝓤) → List (Item 𝓤)
-      Had₁ p past Γ = ‵ (flft κ₀ q₀) ∷ ‵ (link-shr κ₀ b o γ h) ∷ ‵ (froom clock-laws.mir (p 7) 0) ∷ ‵ (froom arrival-laws.mir (p 6) 0)
+      abbrev Has₁ : (ℕ → ℕ) → Known₁ → List (Item 𝓤) → List (Item 𝓤)
+      Has₁ p past Γ = ‵ (flft κ₀ q₀) ∷ ‵ (link-shr κ₀ b o γ h) ∷ ‵ (froom clock-laws.mir (p 7) 0) ∷ ‵ (froom arrival-laws.mir (p 6) 0)
           ∷ ‵ (froom flight-laws.mir (p 5) 0) ∷ ‵ (froom settings-laws.mir (p 4) 0)
           ∷ ‵ (fat fullShare (tyRef (named 0) imm (pointee (L .written))) (p 1) 0 (vptr b o)) ∷ Γ
 
-      abbrev Left₁ : (ℕ → ℕ) → (past : Known₁) → New₁ past → List (Item 𝓤) → List (Item 𝓤)
-      Left₁ p past new Γ = ‵ (partAt clock-row.the-row (new .0) (h .clock) b (o + 104))
+      abbrev Leaves₁ : (ℕ → ℕ) → (past : Known₁) → New₁ past → List (Item 𝓤) → List (Item 𝓤)
+      Leaves₁ p past new Γ = ‵ (partAt clock-row.the-row (new .0) (h .clock) b (o + 104))
           ∷ ‵ (partAt arrival-row.the-row (new .0) (h .arrival) b (o + 72)) ∷ ‵ (partAt flight-row.the-row (new .0) (h .flight) b (o + 16))
           ∷ ‵ (partAt settings-row.the-row (new .0) (h .settings) b (o + 0))
           ∷ ‵ (partAt (Array u32 128) (new .0) (h .«waiting_numbers») b (o + 1820))
@@ -448,12 +433,11 @@ module _ {M : Type 1} (𝓤 : URA M) (H : Heap 𝓤) (A : Atoms 𝓤) (W : Given
           ∷ ‵ (fat fullShare (tyRef (named 0) imm (pointee (L .written))) (p 1) 0 (vptr b o)) ∷ Γ
 
       part₁ : {K : Type 0} {Γ : List (Item 𝓤)} → K → (p : ℕ → ℕ) (past : Known₁)
-          → ((new : New₁ past) → Seq K W (Left₁ p past new Γ) (runs C Λ (En p) rest₂ (atRet (En p) Post)))
-          → Seq K W (Had₁ p past Γ) (runs C Λ (En p) rest₁ (atRet (En p) Post))
-      unfolding rest₁
+          → ((new : New₁ past) → Seq K W (Leaves₁ p past new Γ) (runs C Λ (En p) (behind 4 (code.function .body)) (atRet (En p) Post)))
+          → Seq K W (Has₁ p past Γ) (runs C Λ (En p) (behind 0 (code.function .body)) (atRet (En p) Post))
       part₁ {Γ = Γ} t p past on = record {
         prf =
-            qed W (Had₁ p past Γ) ∵ exec ! C Λ (En p) rest₁ (atRet (En p) Post) $
+            qed W (Has₁ p past Γ) ∵ exec ! C Λ (En p) (behind 0 (code.function .body)) (atRet (En p) Post) $
             move ! (1 ∷ 0 ∷ []) $ looks-link b o γ ! tt h (λ q′.
             -- [F:settings; F:flight; F:arrival; F:clock; F:queued; F:outstanding; F:transmissions; F:ready; F:waiting; F:«waiting_numbers»;
             -- back; opened; the locals]
@@ -516,7 +500,7 @@ module _ {M : Type 1} (𝓤 : URA M) (H : Heap 𝓤) (A : Atoms 𝓤) (W : Given
             )))))))))))));
       }
 
-      -- what part 2 knows, what it tells; what it has, and leaves
+      -- part 2: what it knows, what it tells; what it has, and leaves
       abbrev Known₂ : Type 0
       Known₂ = (q′ : Share) × (len-queued : length (h .queued) ≡ 128) × (len-outstanding : length (h .outstanding) ≡ 32) ×
           (len-transmissions : length (h .transmissions) ≡ 32) × (len-ready : length (h .ready) ≡ 128) ×
@@ -529,8 +513,8 @@ module _ {M : Type 1} (𝓤 : URA M) (H : Heap 𝓤) (A : Atoms 𝓤) (W : Given
       abbrev New₂ : Known₂ → Type 0
       New₂ past = (z₂ : (List ℕ)) × (z₁ : (List ℕ)) × (r : Bool) × (w-r : Val) × (e-r : Sound h z₁ z₂ r) × (Is Boolean r (w-r ∷ []))
 
-      abbrev Had₂ : (ℕ → ℕ) → Known₂ → List (Item 𝓤) → List (Item 𝓤)
-      Had₂ p past Γ = ‵ (partAt clock-row.the-row (past .0) (h .clock) b (o + 104))
+      abbrev Has₂ : (ℕ → ℕ) → Known₂ → List (Item 𝓤) → List (Item 𝓤)
+      Has₂ p past Γ = ‵ (partAt clock-row.the-row (past .0) (h .clock) b (o + 104))
           ∷ ‵ (partAt arrival-row.the-row (past .0) (h .arrival) b (o + 72))
           ∷ ‵ (partAt flight-row.the-row (past .0) (h .flight) b (o + 16))
           ∷ ‵ (partAt settings-row.the-row (past .0) (h .settings) b (o + 0))
@@ -552,8 +536,8 @@ module _ {M : Type 1} (𝓤 : URA M) (H : Heap 𝓤) (A : Atoms 𝓤) (W : Given
           ∷ ‵ (fat fullShare (tyRef (named 2) mut (tyArray (tyInt w8) 256)) (p 3) 0 (s₂))
           ∷ ‵ (fat fullShare (tyRef (named 1) mut (tyArray (tyInt w8) 128)) (p 2) 0 (s₁)) ∷ ‵ (froom tyBool (p 0) 0) ∷ Γ
 
-      abbrev Left₂ : (ℕ → ℕ) → (past : Known₂) → New₂ past → List (Item 𝓤) → List (Item 𝓤)
-      Left₂ p past new Γ = ‵ (flft κ₀ q₀) ∷ ‵ (fres (x₁ .name) ((Array u8 128) .coded .code (new .1)))
+      abbrev Leaves₂ : (ℕ → ℕ) → (past : Known₂) → New₂ past → List (Item 𝓤) → List (Item 𝓤)
+      Leaves₂ p past new Γ = ‵ (flft κ₀ q₀) ∷ ‵ (fres (x₁ .name) ((Array u8 128) .coded .code (new .1)))
           ∷ ‵ (fres (x₂ .name) ((Array u8 256) .coded .code (new .0))) ∷ ‵ (flft κ₁ q₁) ∷ ‵ (flft κ₂ q₂)
           ∷ ‵ (fat fullShare clock-laws.mir (p 7) 0 ((only ((LL.vals clock-row.the-type clock-laws.the-laws) (h .clock)))))
           ∷ ‵ (fat fullShare arrival-laws.mir (p 6) 0 ((only ((LL.vals arrival-row.the-type arrival-laws.the-laws) (h .arrival)))))
@@ -572,12 +556,11 @@ module _ {M : Type 1} (𝓤 : URA M) (H : Heap 𝓤) (A : Atoms 𝓤) (W : Given
           ∷ ‵ (fat fullShare (tyRef (named 1) mut (tyArray (tyInt w8) 128)) (p 2) 0 (s₁)) ∷ ‵ (fat fullShare tyBool (p 0) 0 ((new .3))) ∷ Γ
 
       part₂ : {K : Type 0} {Γ : List (Item 𝓤)} → K → (p : ℕ → ℕ) (past : Known₂)
-          → ((new : New₂ past) → Seq K W (Left₂ p past new Γ) (runs C Λ (En p) rest₃ (atRet (En p) Post)))
-          → Seq K W (Had₂ p past Γ) (runs C Λ (En p) rest₂ (atRet (En p) Post))
-      unfolding rest₂
+          → ((new : New₂ past) → Seq K W (Leaves₂ p past new Γ) (runs C Λ (En p) (behind 13 (code.function .body)) (atRet (En p) Post)))
+          → Seq K W (Has₂ p past Γ) (runs C Λ (En p) (behind 4 (code.function .body)) (atRet (En p) Post))
       part₂ {Γ = Γ} t p past on = record {
         prf =
-            qed W (Had₂ p past Γ) ∵ exec ! C Λ (En p) rest₂ (atRet (En p) Post) $
+            qed W (Has₂ p past Γ) ∵ exec ! C Λ (En p) (behind 4 (code.function .body)) (atRet (En p) Post) $
             assigns ! {v = (vptr b (o + 124))} (addr ! (place-queued ! (look ! 16 refl))) (from ! (stop !)) (init ! 28 refl (tt, tt)) $
             assigns ! {v = (vptr b (o + 636))} (addr ! (place-outstanding ! (look ! 16 refl))) (from ! (stop !)) (init ! 27 refl (tt, tt)) $
             assigns ! {v = (vptr b (o + 764))} (addr ! (place-transmissions ! (look ! 16 refl))) (from ! (stop !)) (init ! 26 refl (tt, tt)) $
@@ -672,7 +655,6 @@ module _ {M : Type 1} (𝓤 : URA M) (H : Heap 𝓤) (A : Atoms 𝓤) (W : Given
 
       walk : ent 𝓤 (onEntry 𝓤 H A f.signature (κ₀, (κ₁, (κ₂, tt))) (q₀, (q₁, (q₂, tt))) x at)
           (WpFn 𝓤 H C Λ code.function (vptr b o ∷ s₁ ∷ s₂ ∷ []) Post)
-      unfolding rest₁ rest₂ rest₃
       walk =
           qed W ((‵ (flft κ₀ q₀) ⊛ ‵ (flft κ₁ q₁) ⊛ ‵ (flft κ₂ q₂) ⊛ ‵ ftrue)
           ∷ ‵ (owns (ShrRef (named 0) κ₀ L ∷ MutRef (named 1) κ₁ (Array u8 128) ∷ MutRef (named 2) κ₂ (Array u8 256) ∷ []) x at) ∷ [])

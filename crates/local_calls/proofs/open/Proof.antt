@@ -79,7 +79,6 @@ use Rattle.records.proofs.Walk.{
   init,
   store,
   store-raw,
-  forget,
   stop,
   hop,
   fld,
@@ -93,13 +92,9 @@ use Rattle.records.proofs.Walk.{
   assigns,
   returns,
   enter,
-  alloc1,
-  alloc0,
   params1,
   pass1,
   pass0,
-  free1,
-  free0,
   land,
   WpFn-mono,
   FmC,
@@ -150,7 +145,7 @@ use Rattle.records.proofs.Shared.{LentShared, lends-shared, shared-back}
 use Rattle.records.proofs.Rows.{R}
 use Rattle.lending.proofs.Fields.{ref-at, lend-mut, back-mut, lend-shr, back-shr, cell-out, cell-in, tells-length, lend-whole, back-whole}
 use Rattle.lending.proofs.Locals.{envAt, allocates, frees-all, holds, empty}
-use Rattle.lending.proofs.Parts.{behind, taking, spread, same}
+use Rattle.lending.proofs.Parts.{behind, spread, same}
 use Rattle.lending.proofs.Block.{
   L,
   Open,
@@ -176,8 +171,8 @@ use Rattle.control.specs.declared.Link.{Link}
 use Rattle.timing.specs.declared.Record.{Record}
 use lib.IntN.{ℤ}
 use mir.Syntax.{w16}
-use base.Fml.{fres, froom, fdies, fobor, fsep, feq}
-use mir.Syntax.{Body, return, imm, mut, erased, tyInt, tyArray, tyRef, tyPtr, tyUnit, tyBool}
+use base.Fml.{fres, froom, fobor, fsep, feq}
+use mir.Syntax.{imm, mut, erased, tyInt, tyArray, tyRef, tyPtr, tyUnit, tyBool}
 use denote.Slice.{sliceTy}
 use denote.Memory.{pointee}
 use Rattle.timing.proofs.Record.Laws as record-laws
@@ -273,34 +268,6 @@ stayed = (
     ),
   ),
 )
-
--- the rest of the body where each part begins, and behind the last
-unfoldable rest₉ : Body
-rest₉ = return
-
-unfoldable rest₈ : Body
-rest₈ = taking 2 (behind 14 (code.function .body)) rest₉
-
-unfoldable rest₇ : Body
-rest₇ = taking 2 (behind 12 (code.function .body)) rest₈
-
-unfoldable rest₆ : Body
-rest₆ = taking 2 (behind 10 (code.function .body)) rest₇
-
-unfoldable rest₅ : Body
-rest₅ = taking 2 (behind 8 (code.function .body)) rest₆
-
-unfoldable rest₄ : Body
-rest₄ = taking 1 (behind 7 (code.function .body)) rest₅
-
-unfoldable rest₃ : Body
-rest₃ = taking 1 (behind 6 (code.function .body)) rest₄
-
-unfoldable rest₂ : Body
-rest₂ = taking 5 (behind 1 (code.function .body)) rest₃
-
-unfoldable rest₁ : Body
-rest₁ = taking 1 (behind 0 (code.function .body)) rest₂
 
 module _ {M : Type 1} (𝓤 : URA M) (H : Heap 𝓤) (A : Atoms 𝓤) (W : Given 𝓤 H A) (at-mem : Memory → SProp 𝓤) (run : Routine → Fun 𝓤) where
   -- what is known of the callees
@@ -436,22 +403,22 @@ module _ {M : Type 1} (𝓤 : URA M) (H : Heap 𝓤) (A : Atoms 𝓤) (W : Given
       abbrev En : (ℕ → ℕ) → Env 𝓤 H
       En p = envAt (code.function .locals) p
 
-      -- what part 1 knows, what it tells; what it has, and leaves
+      -- part 1: what it knows, what it tells; what it has, and leaves
       abbrev Known₁ : Type 0
       Known₁ = Unit {0}
 
       abbrev New₁ : Known₁ → Type 0
       New₁ past = (c : Settings) × (w-c : Val) × (e-c : c ≡ settingsOf x₁ x₂ x₃ x₄ x₅ x₆ x₇) × (Is settings-row.the-row c (w-c ∷ []))
 
-      abbrev Had₁ : (ℕ → ℕ) → Known₁ → List (Item 𝓤) → List (Item 𝓤)
-      Had₁ p past Γ = ‵ (flft κ₀ q₀) ∷ ‵ (link-own κ₀ b o γ h) ∷ ‵ (froom settings-laws.mir (p 13) 0)
+      abbrev Has₁ : (ℕ → ℕ) → Known₁ → List (Item 𝓤) → List (Item 𝓤)
+      Has₁ p past Γ = ‵ (flft κ₀ q₀) ∷ ‵ (link-own κ₀ b o γ h) ∷ ‵ (froom settings-laws.mir (p 13) 0)
           ∷ ‵ (fat fullShare (tyInt w32) (p 8) 0 (v₇)) ∷ ‵ (fat fullShare (tyInt w32) (p 7) 0 (v₆))
           ∷ ‵ (fat fullShare (tyInt w32) (p 6) 0 (v₅)) ∷ ‵ (fat fullShare (tyInt w32) (p 5) 0 (v₄))
           ∷ ‵ (fat fullShare (tyInt w32) (p 4) 0 (v₃)) ∷ ‵ (fat fullShare (tyInt w32) (p 3) 0 (v₂))
           ∷ ‵ (fat fullShare (tyInt w32) (p 2) 0 (v₁)) ∷ Γ
 
-      abbrev Left₁ : (ℕ → ℕ) → (past : Known₁) → New₁ past → List (Item 𝓤) → List (Item 𝓤)
-      Left₁ p past new Γ = ‵ (partAt (Array u32 128) fullShare (h .«waiting_numbers») b (o + 1820))
+      abbrev Leaves₁ : (ℕ → ℕ) → (past : Known₁) → New₁ past → List (Item 𝓤) → List (Item 𝓤)
+      Leaves₁ p past new Γ = ‵ (partAt (Array u32 128) fullShare (h .«waiting_numbers») b (o + 1820))
           ∷ ‵ (partAt (Array u32 128) fullShare (h .waiting) b (o + 1308)) ∷ ‵ (partAt (Array u32 128) fullShare (h .ready) b (o + 796))
           ∷ ‵ (partAt (Array u8 32) fullShare (h .transmissions) b (o + 764))
           ∷ ‵ (partAt (Array u32 32) fullShare (h .outstanding) b (o + 636)) ∷ ‵ (partAt (Array u32 128) fullShare (h .queued) b (o + 124))
@@ -465,12 +432,11 @@ module _ {M : Type 1} (𝓤 : URA M) (H : Heap 𝓤) (A : Atoms 𝓤) (W : Given
           ∷ ‵ (fat fullShare (tyInt w32) (p 2) 0 (v₁)) ∷ Γ
 
       part₁ : {K : Type 0} {Γ : List (Item 𝓤)} → K → (p : ℕ → ℕ) (past : Known₁)
-          → ((new : New₁ past) → Seq K W (Left₁ p past new Γ) (runs C Λ (En p) rest₂ (atRet (En p) Post)))
-          → Seq K W (Had₁ p past Γ) (runs C Λ (En p) rest₁ (atRet (En p) Post))
-      unfolding rest₁
+          → ((new : New₁ past) → Seq K W (Leaves₁ p past new Γ) (runs C Λ (En p) (behind 1 (code.function .body)) (atRet (En p) Post)))
+          → Seq K W (Has₁ p past Γ) (runs C Λ (En p) (behind 0 (code.function .body)) (atRet (En p) Post))
       part₁ {Γ = Γ} t p past on = record {
         prf =
-            qed W (Had₁ p past Γ) ∵ exec ! C Λ (En p) rest₁ (atRet (En p) Post) $
+            qed W (Has₁ p past Γ) ∵ exec ! C Λ (En p) (behind 0 (code.function .body)) (atRet (En p) Post) $
             move ! (1 ∷ 0 ∷ []) $ opens-link b o γ ! tt h $
             -- [F:settings; F:flight; F:arrival; F:clock; F:queued; F:outstanding; F:transmissions; F:ready; F:waiting; F:«waiting_numbers»;
             -- back; opened; the locals]
@@ -525,7 +491,7 @@ module _ {M : Type 1} (𝓤 : URA M) (H : Heap 𝓤) (A : Atoms 𝓤) (W : Given
             same ! (on (c, w-c, e-c, is-c)))))))));
       }
 
-      -- what part 2 knows, what it tells; what it has, and leaves
+      -- part 2: what it knows, what it tells; what it has, and leaves
       abbrev Known₂ : Type 0
       Known₂ = Unit {0}
 
@@ -537,8 +503,8 @@ module _ {M : Type 1} (𝓤 : URA M) (H : Heap 𝓤) (A : Atoms 𝓤) (W : Given
           (was-clock : Is clock-row.the-row (h .clock) ((LL.vals clock-row.the-type clock-laws.the-laws) (h .clock))) × (m : ℕ) ×
           (w-m : Val) × (e-m : m ≡ length (x₁₀ .now)) × (Is usize m (w-m ∷ []))
 
-      abbrev Had₂ : (ℕ → ℕ) → Known₂ → List (Item 𝓤) → List (Item 𝓤)
-      Had₂ p past Γ = ‵ (partAt settings-row.the-row fullShare (h .settings) b (o + 0))
+      abbrev Has₂ : (ℕ → ℕ) → Known₂ → List (Item 𝓤) → List (Item 𝓤)
+      Has₂ p past Γ = ‵ (partAt settings-row.the-row fullShare (h .settings) b (o + 0))
           ∷ ‵ (partAt flight-row.the-row fullShare (h .flight) b (o + 16))
           ∷ ‵ (partAt arrival-row.the-row fullShare (h .arrival) b (o + 72)) ∷ ‵ (partAt clock-row.the-row fullShare (h .clock) b (o + 104))
           ∷ ‵ (flft κ₃ q₃) ∷ ‵ Own₁₀ ∷ ‵ (froom (tyInt w64) (p 18) 0) ∷ ‵ (froom clock-laws.mir (p 17) 0)
@@ -546,8 +512,8 @@ module _ {M : Type 1} (𝓤 : URA M) (H : Heap 𝓤) (A : Atoms 𝓤) (W : Given
           ∷ ‵ (fat fullShare (sliceTy (tyRef (named 3) imm (pointee (R .written)))) (p 11) 0 (s₁₀))
           ∷ ‵ (fat fullShare (tyRef (named 0) mut (pointee (L .written))) (p 1) 0 (vptr b o)) ∷ Γ
 
-      abbrev Left₂ : (ℕ → ℕ) → (past : Known₂) → New₂ past → List (Item 𝓤) → List (Item 𝓤)
-      Left₂ p past new Γ = ‵ (flft κ₃ q₃) ∷ ‵ (partAt clock-row.the-row fullShare (h .clock) b (o + 104))
+      abbrev Leaves₂ : (ℕ → ℕ) → (past : Known₂) → New₂ past → List (Item 𝓤) → List (Item 𝓤)
+      Leaves₂ p past new Γ = ‵ (flft κ₃ q₃) ∷ ‵ (partAt clock-row.the-row fullShare (h .clock) b (o + 104))
           ∷ ‵ (partAt arrival-row.the-row fullShare (h .arrival) b (o + 72))
           ∷ ‵ (partAt flight-row.the-row fullShare (h .flight) b (o + 16))
           ∷ ‵ (partAt settings-row.the-row fullShare (h .settings) b (o + 0)) ∷ ‵ (fat fullShare (tyInt w64) (p 18) 0 ((new .5)))
@@ -559,12 +525,11 @@ module _ {M : Type 1} (𝓤 : URA M) (H : Heap 𝓤) (A : Atoms 𝓤) (W : Given
           ∷ ‵ (fat fullShare (tyRef (named 0) mut (pointee (L .written))) (p 1) 0 (vptr b o)) ∷ Γ
 
       part₂ : {K : Type 0} {Γ : List (Item 𝓤)} → K → (p : ℕ → ℕ) (past : Known₂)
-          → ((new : New₂ past) → Seq K W (Left₂ p past new Γ) (runs C Λ (En p) rest₃ (atRet (En p) Post)))
-          → Seq K W (Had₂ p past Γ) (runs C Λ (En p) rest₂ (atRet (En p) Post))
-      unfolding rest₂
+          → ((new : New₂ past) → Seq K W (Leaves₂ p past new Γ) (runs C Λ (En p) (behind 6 (code.function .body)) (atRet (En p) Post)))
+          → Seq K W (Has₂ p past Γ) (runs C Λ (En p) (behind 1 (code.function .body)) (atRet (En p) Post))
       part₂ {Γ = Γ} t p past on = record {
         prf =
-            qed W (Had₂ p past Γ) ∵ exec ! C Λ (En p) rest₂ (atRet (En p) Post) $
+            qed W (Has₂ p past Γ) ∵ exec ! C Λ (En p) (behind 1 (code.function .body)) (atRet (En p) Post) $
             cell-out ! fullShare settings-row.the-row (LL.vals settings-row.the-type settings-laws.the-laws)
             (LL.tells settings-row.the-type settings-laws.the-laws) (h .settings) b (o + 0) (λ was-settings.
             assigns ! {v = (only ((LL.vals settings-row.the-type settings-laws.the-laws) (h .settings)))}
@@ -608,7 +573,7 @@ module _ {M : Type 1} (𝓤 : URA M) (H : Heap 𝓤) (A : Atoms 𝓤) (W : Given
             same ! (on (was-settings, was-flight, was-arrival, was-clock, m, w-m, e-m, is-m)))))));
       }
 
-      -- what part 3 knows, what it tells; what it has, and leaves
+      -- part 3: what it knows, what it tells; what it has, and leaves
       abbrev Known₃ : Type 0
       Known₃ = (c : Settings) × (w-c : Val) × (is-c : Is settings-row.the-row c (w-c ∷ [])) ×
           (was-settings : Is settings-row.the-row (h .settings) ((LL.vals settings-row.the-type settings-laws.the-laws) (h .settings))) ×
@@ -623,8 +588,8 @@ module _ {M : Type 1} (𝓤 : URA M) (H : Heap 𝓤) (A : Atoms 𝓤) (W : Given
           (linkOf (h .settings) (h .flight) (h .arrival) (h .clock) x) (a .answer)
           (linkOf (a .settings) (a .flight) (a .arrival) (a .clock) x)) × (Is opened-row.the-row a (w-a ∷ []))
 
-      abbrev Had₃ : (ℕ → ℕ) → Known₃ → List (Item 𝓤) → List (Item 𝓤)
-      Had₃ p past Γ = ‵ (fat fullShare (tyInt w64) (p 18) 0 ((past .8)))
+      abbrev Has₃ : (ℕ → ℕ) → Known₃ → List (Item 𝓤) → List (Item 𝓤)
+      Has₃ p past Γ = ‵ (fat fullShare (tyInt w64) (p 18) 0 ((past .8)))
           ∷ ‵ (fat fullShare clock-laws.mir (p 17) 0 ((only ((LL.vals clock-row.the-type clock-laws.the-laws) (h .clock)))))
           ∷ ‵ (fat fullShare arrival-laws.mir (p 16) 0 ((only ((LL.vals arrival-row.the-type arrival-laws.the-laws) (h .arrival)))))
           ∷ ‵ (fat fullShare flight-laws.mir (p 15) 0 ((only ((LL.vals flight-row.the-type flight-laws.the-laws) (h .flight)))))
@@ -635,8 +600,9 @@ module _ {M : Type 1} (𝓤 : URA M) (H : Heap 𝓤) (A : Atoms 𝓤) (W : Given
           ∷ ‵ (fat fullShare (sliceTy (tyRef (named 2) imm (tyInt w8))) (p 10) 0 (s₉))
           ∷ ‵ (fat fullShare (sliceTy (tyRef (named 1) imm (tyInt w8))) (p 9) 0 (s₈)) ∷ Γ
 
-      abbrev Left₃ : (ℕ → ℕ) → (past : Known₃) → New₃ past → List (Item 𝓤) → List (Item 𝓤)
-      Left₃ p past new Γ = ‵ (flft κ₁ q₁) ∷ ‵ (flft κ₂ q₂) ∷ ‵ (flft κ₄ q₄) ∷ ‵ (fat fullShare (tyInt w64) (p 18) 0 ((past .8)))
+      abbrev Leaves₃ : (ℕ → ℕ) → (past : Known₃) → New₃ past → List (Item 𝓤) → List (Item 𝓤)
+      Leaves₃ p past new Γ = ‵ (flft κ₁ q₁) ∷ ‵ (flft κ₂ q₂) ∷ ‵ (flft κ₄ q₄)
+          ∷ ‵ (fat fullShare (tyInt w64) (p 18) 0 ((past .8)))
           ∷ ‵ (fat fullShare clock-laws.mir (p 17) 0 ((only ((LL.vals clock-row.the-type clock-laws.the-laws) (h .clock)))))
           ∷ ‵ (fat fullShare arrival-laws.mir (p 16) 0 ((only ((LL.vals arrival-row.the-type arrival-laws.the-laws) (h .arrival)))))
           ∷ ‵ (fat fullShare flight-laws.mir (p 15) 0 ((only ((LL.vals flight-row.the-type flight-laws.the-laws) (h .flight)))))
@@ -647,12 +613,11 @@ module _ {M : Type 1} (𝓤 : URA M) (H : Heap 𝓤) (A : Atoms 𝓤) (W : Given
           ∷ ‵ (fat fullShare (sliceTy (tyRef (named 1) imm (tyInt w8))) (p 9) 0 (s₈)) ∷ Γ
 
       part₃ : {K : Type 0} {Γ : List (Item 𝓤)} → K → (p : ℕ → ℕ) (past : Known₃)
-          → ((new : New₃ past) → Seq K W (Left₃ p past new Γ) (runs C Λ (En p) rest₄ (atRet (En p) Post)))
-          → Seq K W (Had₃ p past Γ) (runs C Λ (En p) rest₃ (atRet (En p) Post))
-      unfolding rest₃
+          → ((new : New₃ past) → Seq K W (Leaves₃ p past new Γ) (runs C Λ (En p) (behind 7 (code.function .body)) (atRet (En p) Post)))
+          → Seq K W (Has₃ p past Γ) (runs C Λ (En p) (behind 6 (code.function .body)) (atRet (En p) Post))
       part₃ {Γ = Γ} t p past on = record {
         prf =
-            qed W (Had₃ p past Γ) ∵ exec ! C Λ (En p) rest₃ (atRet (En p) Post) $
+            qed W (Has₃ p past Γ) ∵ exec ! C Λ (En p) (behind 6 (code.function .body)) (atRet (En p) Post) $
             move ! (6 ∷ 9 ∷ 7 ∷ 10 ∷ 8 ∷ 11 ∷ []) $ group ! 6 $
             calls-fn ! fm core.ended (core.clauses 𝓤 H A at-mem run) (known .2)
             (to-core (past .0) (past .1) (h .settings) (only ((LL.vals settings-row.the-type settings-laws.the-laws) (h .settings)))
@@ -685,27 +650,26 @@ module _ {M : Type 1} (𝓤 : URA M) (H : Heap 𝓤) (A : Atoms 𝓤) (W : Given
             same ! (on (a, w-a, e-a, is-a)));
       }
 
-      -- what part 4 knows, what it tells; what it has, and leaves
+      -- part 4: what it knows, what it tells; what it has, and leaves
       abbrev Known₄ : Type 0
       Known₄ = (a : Opened) × (w-a : Val) × (Is opened-row.the-row a (w-a ∷ []))
 
       abbrev New₄ : Known₄ → Type 0
       New₄ past = (ks : Settings) × (w-ks : Val) × (e-ks : ks ≡ (past .0) .settings) × (Is settings-row.the-row ks (w-ks ∷ []))
 
-      abbrev Had₄ : (ℕ → ℕ) → Known₄ → List (Item 𝓤) → List (Item 𝓤)
-      Had₄ p past Γ = ‵ (fat fullShare opened-laws.mir (p 19) 0 ((past .1))) ∷ ‵ (froom settings-laws.mir (p 20) 0) ∷ Γ
+      abbrev Has₄ : (ℕ → ℕ) → Known₄ → List (Item 𝓤) → List (Item 𝓤)
+      Has₄ p past Γ = ‵ (fat fullShare opened-laws.mir (p 19) 0 ((past .1))) ∷ ‵ (froom settings-laws.mir (p 20) 0) ∷ Γ
 
-      abbrev Left₄ : (ℕ → ℕ) → (past : Known₄) → New₄ past → List (Item 𝓤) → List (Item 𝓤)
-      Left₄ p past new Γ = ‵ (fat fullShare opened-laws.mir (p 19) 0 ((past .1))) ∷ ‵ (fat fullShare settings-laws.mir (p 20) 0 ((new .1)))
-          ∷ Γ
+      abbrev Leaves₄ : (ℕ → ℕ) → (past : Known₄) → New₄ past → List (Item 𝓤) → List (Item 𝓤)
+      Leaves₄ p past new Γ = ‵ (fat fullShare opened-laws.mir (p 19) 0 ((past .1)))
+          ∷ ‵ (fat fullShare settings-laws.mir (p 20) 0 ((new .1))) ∷ Γ
 
       part₄ : {K : Type 0} {Γ : List (Item 𝓤)} → K → (p : ℕ → ℕ) (past : Known₄)
-          → ((new : New₄ past) → Seq K W (Left₄ p past new Γ) (runs C Λ (En p) rest₅ (atRet (En p) Post)))
-          → Seq K W (Had₄ p past Γ) (runs C Λ (En p) rest₄ (atRet (En p) Post))
-      unfolding rest₄
+          → ((new : New₄ past) → Seq K W (Leaves₄ p past new Γ) (runs C Λ (En p) (behind 8 (code.function .body)) (atRet (En p) Post)))
+          → Seq K W (Has₄ p past Γ) (runs C Λ (En p) (behind 7 (code.function .body)) (atRet (En p) Post))
       part₄ {Γ = Γ} t p past on = record {
         prf =
-            qed W (Had₄ p past Γ) ∵ exec ! C Λ (En p) rest₄ (atRet (En p) Post) $
+            qed W (Has₄ p past Γ) ∵ exec ! C Λ (En p) (behind 7 (code.function .body)) (atRet (En p) Post) $
             nothing ! $ calls-fn ! fm opened-settings.ended (opened-settings.clauses 𝓤 H A at-mem run) (known .3)
             ((tt, tt, tt, ((past .0), tt), ((past .1) ∷ [], tt)), tt) (λ ks _. ks ≡ (past .0) .settings)
             (‵ ftrue) (plainly 𝓤 H A W (opened-row.the-row ∷ []) ((LL.makes opened-row.the-type opened-laws.the-plain 𝓤 H A), tt)
@@ -717,7 +681,7 @@ module _ {M : Type 1} (𝓤 : URA M) (H : Heap 𝓤) (A : Atoms 𝓤) (W : Given
             same ! (on (ks, w-ks, e-ks, is-ks)));
       }
 
-      -- what part 5 knows, what it tells; what it has, and leaves
+      -- part 5: what it knows, what it tells; what it has, and leaves
       abbrev Known₅ : Type 0
       Known₅ = (a : Opened) × (w-a : Val) × (is-a : Is opened-row.the-row a (w-a ∷ [])) × (ks : Settings) × (w-ks : Val) ×
           (Is settings-row.the-row ks (w-ks ∷ []))
@@ -725,24 +689,23 @@ module _ {M : Type 1} (𝓤 : URA M) (H : Heap 𝓤) (A : Atoms 𝓤) (W : Given
       abbrev New₅ : Known₅ → Type 0
       New₅ past = (kf : Flight) × (w-kf : Val) × (e-kf : kf ≡ (past .0) .flight) × (Is flight-row.the-row kf (w-kf ∷ []))
 
-      abbrev Had₅ : (ℕ → ℕ) → Known₅ → List (Item 𝓤) → List (Item 𝓤)
-      Had₅ p past Γ = ‵ (fat fullShare opened-laws.mir (p 19) 0 ((past .1))) ∷ ‵ (fat fullShare settings-laws.mir (p 20) 0 ((past .4)))
+      abbrev Has₅ : (ℕ → ℕ) → Known₅ → List (Item 𝓤) → List (Item 𝓤)
+      Has₅ p past Γ = ‵ (fat fullShare opened-laws.mir (p 19) 0 ((past .1))) ∷ ‵ (fat fullShare settings-laws.mir (p 20) 0 ((past .4)))
           ∷ ‵ (partAt settings-row.the-row fullShare (h .settings) b (o + 0))
           ∷ ‵ (fat fullShare (tyRef (named 0) mut (pointee (L .written))) (p 1) 0 (vptr b o)) ∷ ‵ (froom flight-laws.mir (p 21) 0) ∷ Γ
 
-      abbrev Left₅ : (ℕ → ℕ) → (past : Known₅) → New₅ past → List (Item 𝓤) → List (Item 𝓤)
-      Left₅ p past new Γ = ‵ (partAt settings-row.the-row fullShare (past .3) b (o + 0))
+      abbrev Leaves₅ : (ℕ → ℕ) → (past : Known₅) → New₅ past → List (Item 𝓤) → List (Item 𝓤)
+      Leaves₅ p past new Γ = ‵ (partAt settings-row.the-row fullShare (past .3) b (o + 0))
           ∷ ‵ (fat fullShare opened-laws.mir (p 19) 0 ((past .1))) ∷ ‵ (fat fullShare settings-laws.mir (p 20) 0 ((past .4)))
           ∷ ‵ (fat fullShare (tyRef (named 0) mut (pointee (L .written))) (p 1) 0 (vptr b o))
           ∷ ‵ (fat fullShare flight-laws.mir (p 21) 0 ((new .1))) ∷ Γ
 
       part₅ : {K : Type 0} {Γ : List (Item 𝓤)} → K → (p : ℕ → ℕ) (past : Known₅)
-          → ((new : New₅ past) → Seq K W (Left₅ p past new Γ) (runs C Λ (En p) rest₆ (atRet (En p) Post)))
-          → Seq K W (Had₅ p past Γ) (runs C Λ (En p) rest₅ (atRet (En p) Post))
-      unfolding rest₅
+          → ((new : New₅ past) → Seq K W (Leaves₅ p past new Γ) (runs C Λ (En p) (behind 10 (code.function .body)) (atRet (En p) Post)))
+          → Seq K W (Has₅ p past Γ) (runs C Λ (En p) (behind 8 (code.function .body)) (atRet (En p) Post))
       part₅ {Γ = Γ} t p past on = record {
         prf =
-            qed W (Had₅ p past Γ) ∵ exec ! C Λ (En p) rest₅ (atRet (En p) Post) $
+            qed W (Has₅ p past Γ) ∵ exec ! C Λ (En p) (behind 8 (code.function .body)) (atRet (En p) Post) $
             move ! (2 ∷ []) $ cell-out ! fullShare settings-row.the-row (LL.vals settings-row.the-type settings-laws.the-laws)
             (LL.tells settings-row.the-type settings-laws.the-laws) (h .settings) b (o + 0)
             (λ was-settings′. assigns ! (of-opd ! (load ! (from ! (stop !)) (look ! 2 refl))) (place-settings ! (look ! 3 refl))
@@ -760,7 +723,7 @@ module _ {M : Type 1} (𝓤 : URA M) (H : Heap 𝓤) (A : Atoms 𝓤) (W : Given
             same ! (on (kf, w-kf, e-kf, is-kf))));
       }
 
-      -- what part 6 knows, what it tells; what it has, and leaves
+      -- part 6: what it knows, what it tells; what it has, and leaves
       abbrev Known₆ : Type 0
       Known₆ = (a : Opened) × (w-a : Val) × (is-a : Is opened-row.the-row a (w-a ∷ [])) × (kf : Flight) × (w-kf : Val) ×
           (Is flight-row.the-row kf (w-kf ∷ []))
@@ -768,25 +731,24 @@ module _ {M : Type 1} (𝓤 : URA M) (H : Heap 𝓤) (A : Atoms 𝓤) (W : Given
       abbrev New₆ : Known₆ → Type 0
       New₆ past = (ka : Arrival) × (w-ka : Val) × (e-ka : ka ≡ (past .0) .arrival) × (Is arrival-row.the-row ka (w-ka ∷ []))
 
-      abbrev Had₆ : (ℕ → ℕ) → Known₆ → List (Item 𝓤) → List (Item 𝓤)
-      Had₆ p past Γ = ‵ (fat fullShare opened-laws.mir (p 19) 0 ((past .1)))
+      abbrev Has₆ : (ℕ → ℕ) → Known₆ → List (Item 𝓤) → List (Item 𝓤)
+      Has₆ p past Γ = ‵ (fat fullShare opened-laws.mir (p 19) 0 ((past .1)))
           ∷ ‵ (fat fullShare (tyRef (named 0) mut (pointee (L .written))) (p 1) 0 (vptr b o))
           ∷ ‵ (fat fullShare flight-laws.mir (p 21) 0 ((past .4))) ∷ ‵ (partAt flight-row.the-row fullShare (h .flight) b (o + 16))
           ∷ ‵ (froom arrival-laws.mir (p 22) 0) ∷ Γ
 
-      abbrev Left₆ : (ℕ → ℕ) → (past : Known₆) → New₆ past → List (Item 𝓤) → List (Item 𝓤)
-      Left₆ p past new Γ = ‵ (partAt flight-row.the-row fullShare (past .3) b (o + 16))
+      abbrev Leaves₆ : (ℕ → ℕ) → (past : Known₆) → New₆ past → List (Item 𝓤) → List (Item 𝓤)
+      Leaves₆ p past new Γ = ‵ (partAt flight-row.the-row fullShare (past .3) b (o + 16))
           ∷ ‵ (fat fullShare opened-laws.mir (p 19) 0 ((past .1)))
           ∷ ‵ (fat fullShare (tyRef (named 0) mut (pointee (L .written))) (p 1) 0 (vptr b o))
           ∷ ‵ (fat fullShare flight-laws.mir (p 21) 0 ((past .4))) ∷ ‵ (fat fullShare arrival-laws.mir (p 22) 0 ((new .1))) ∷ Γ
 
       part₆ : {K : Type 0} {Γ : List (Item 𝓤)} → K → (p : ℕ → ℕ) (past : Known₆)
-          → ((new : New₆ past) → Seq K W (Left₆ p past new Γ) (runs C Λ (En p) rest₇ (atRet (En p) Post)))
-          → Seq K W (Had₆ p past Γ) (runs C Λ (En p) rest₆ (atRet (En p) Post))
-      unfolding rest₆
+          → ((new : New₆ past) → Seq K W (Leaves₆ p past new Γ) (runs C Λ (En p) (behind 12 (code.function .body)) (atRet (En p) Post)))
+          → Seq K W (Has₆ p past Γ) (runs C Λ (En p) (behind 10 (code.function .body)) (atRet (En p) Post))
       part₆ {Γ = Γ} t p past on = record {
         prf =
-            qed W (Had₆ p past Γ) ∵ exec ! C Λ (En p) rest₆ (atRet (En p) Post) $
+            qed W (Has₆ p past Γ) ∵ exec ! C Λ (En p) (behind 10 (code.function .body)) (atRet (En p) Post) $
             move ! (3 ∷ []) $ cell-out ! fullShare flight-row.the-row (LL.vals flight-row.the-type flight-laws.the-laws)
             (LL.tells flight-row.the-type flight-laws.the-laws) (h .flight) b (o + 16)
             (λ was-flight′. assigns ! (of-opd ! (load ! (from ! (stop !)) (look ! 3 refl))) (place-flight ! (look ! 2 refl))
@@ -804,7 +766,7 @@ module _ {M : Type 1} (𝓤 : URA M) (H : Heap 𝓤) (A : Atoms 𝓤) (W : Given
             same ! (on (ka, w-ka, e-ka, is-ka))));
       }
 
-      -- what part 7 knows, what it tells; what it has, and leaves
+      -- part 7: what it knows, what it tells; what it has, and leaves
       abbrev Known₇ : Type 0
       Known₇ = (a : Opened) × (w-a : Val) × (is-a : Is opened-row.the-row a (w-a ∷ [])) × (ka : Arrival) × (w-ka : Val) ×
           (Is arrival-row.the-row ka (w-ka ∷ []))
@@ -812,25 +774,24 @@ module _ {M : Type 1} (𝓤 : URA M) (H : Heap 𝓤) (A : Atoms 𝓤) (W : Given
       abbrev New₇ : Known₇ → Type 0
       New₇ past = (kc : Clock) × (w-kc : Val) × (e-kc : kc ≡ (past .0) .clock) × (Is clock-row.the-row kc (w-kc ∷ []))
 
-      abbrev Had₇ : (ℕ → ℕ) → Known₇ → List (Item 𝓤) → List (Item 𝓤)
-      Had₇ p past Γ = ‵ (fat fullShare opened-laws.mir (p 19) 0 ((past .1)))
+      abbrev Has₇ : (ℕ → ℕ) → Known₇ → List (Item 𝓤) → List (Item 𝓤)
+      Has₇ p past Γ = ‵ (fat fullShare opened-laws.mir (p 19) 0 ((past .1)))
           ∷ ‵ (fat fullShare (tyRef (named 0) mut (pointee (L .written))) (p 1) 0 (vptr b o))
           ∷ ‵ (fat fullShare arrival-laws.mir (p 22) 0 ((past .4))) ∷ ‵ (partAt arrival-row.the-row fullShare (h .arrival) b (o + 72))
           ∷ ‵ (froom clock-laws.mir (p 23) 0) ∷ Γ
 
-      abbrev Left₇ : (ℕ → ℕ) → (past : Known₇) → New₇ past → List (Item 𝓤) → List (Item 𝓤)
-      Left₇ p past new Γ = ‵ (partAt arrival-row.the-row fullShare (past .3) b (o + 72))
+      abbrev Leaves₇ : (ℕ → ℕ) → (past : Known₇) → New₇ past → List (Item 𝓤) → List (Item 𝓤)
+      Leaves₇ p past new Γ = ‵ (partAt arrival-row.the-row fullShare (past .3) b (o + 72))
           ∷ ‵ (fat fullShare opened-laws.mir (p 19) 0 ((past .1)))
           ∷ ‵ (fat fullShare (tyRef (named 0) mut (pointee (L .written))) (p 1) 0 (vptr b o))
           ∷ ‵ (fat fullShare arrival-laws.mir (p 22) 0 ((past .4))) ∷ ‵ (fat fullShare clock-laws.mir (p 23) 0 ((new .1))) ∷ Γ
 
       part₇ : {K : Type 0} {Γ : List (Item 𝓤)} → K → (p : ℕ → ℕ) (past : Known₇)
-          → ((new : New₇ past) → Seq K W (Left₇ p past new Γ) (runs C Λ (En p) rest₈ (atRet (En p) Post)))
-          → Seq K W (Had₇ p past Γ) (runs C Λ (En p) rest₇ (atRet (En p) Post))
-      unfolding rest₇
+          → ((new : New₇ past) → Seq K W (Leaves₇ p past new Γ) (runs C Λ (En p) (behind 14 (code.function .body)) (atRet (En p) Post)))
+          → Seq K W (Has₇ p past Γ) (runs C Λ (En p) (behind 12 (code.function .body)) (atRet (En p) Post))
       part₇ {Γ = Γ} t p past on = record {
         prf =
-            qed W (Had₇ p past Γ) ∵ exec ! C Λ (En p) rest₇ (atRet (En p) Post) $
+            qed W (Has₇ p past Γ) ∵ exec ! C Λ (En p) (behind 12 (code.function .body)) (atRet (En p) Post) $
             move ! (3 ∷ []) $ cell-out ! fullShare arrival-row.the-row (LL.vals arrival-row.the-type arrival-laws.the-laws)
             (LL.tells arrival-row.the-type arrival-laws.the-laws) (h .arrival) b (o + 72)
             (λ was-arrival′. assigns ! (of-opd ! (load ! (from ! (stop !)) (look ! 3 refl))) (place-arrival ! (look ! 2 refl))
@@ -848,7 +809,7 @@ module _ {M : Type 1} (𝓤 : URA M) (H : Heap 𝓤) (A : Atoms 𝓤) (W : Given
             same ! (on (kc, w-kc, e-kc, is-kc))));
       }
 
-      -- what part 8 knows, what it tells; what it has, and leaves
+      -- part 8: what it knows, what it tells; what it has, and leaves
       abbrev Known₈ : Type 0
       Known₈ = (a : Opened) × (w-a : Val) × (is-a : Is opened-row.the-row a (w-a ∷ [])) × (ks : Settings) × (kf : Flight) × (ka : Arrival) ×
           (kc : Clock) × (w-kc : Val) × (Is clock-row.the-row kc (w-kc ∷ []))
@@ -856,8 +817,8 @@ module _ {M : Type 1} (𝓤 : URA M) (H : Heap 𝓤) (A : Atoms 𝓤) (W : Given
       abbrev New₈ : Known₈ → Type 0
       New₈ past = (r : ℤ) × (w-r : Val) × (e-r : r ≡ answerCode ((past .0) .answer)) × (Is i32 r (w-r ∷ []))
 
-      abbrev Had₈ : (ℕ → ℕ) → Known₈ → List (Item 𝓤) → List (Item 𝓤)
-      Had₈ p past Γ = ‵ (partAt arrival-row.the-row fullShare (past .5) b (o + 72)) ∷ ‵ (fat fullShare opened-laws.mir (p 19) 0 ((past .1)))
+      abbrev Has₈ : (ℕ → ℕ) → Known₈ → List (Item 𝓤) → List (Item 𝓤)
+      Has₈ p past Γ = ‵ (partAt arrival-row.the-row fullShare (past .5) b (o + 72)) ∷ ‵ (fat fullShare opened-laws.mir (p 19) 0 ((past .1)))
           ∷ ‵ (fat fullShare (tyRef (named 0) mut (pointee (L .written))) (p 1) 0 (vptr b o))
           ∷ ‵ (fat fullShare clock-laws.mir (p 23) 0 ((past .7))) ∷ ‵ (partAt flight-row.the-row fullShare (past .4) b (o + 16))
           ∷ ‵ (partAt settings-row.the-row fullShare (past .3) b (o + 0)) ∷ ‵ (partAt clock-row.the-row fullShare (h .clock) b (o + 104))
@@ -867,8 +828,8 @@ module _ {M : Type 1} (𝓤 : URA M) (H : Heap 𝓤) (A : Atoms 𝓤) (W : Given
           ∷ ‵ (partAt (Array u32 32) fullShare (h .outstanding) b (o + 636)) ∷ ‵ (partAt (Array u32 128) fullShare (h .queued) b (o + 124))
           ∷ raw (Back 𝓤 H A fullShare b o) ∷ ‵ (Open b o γ κ₀ q₀ h) ∷ ‵ (froom (tyInt w32) (p 0) 0) ∷ Γ
 
-      abbrev Left₈ : (ℕ → ℕ) → (past : Known₈) → New₈ past → List (Item 𝓤) → List (Item 𝓤)
-      Left₈ p past new Γ = ‵ (link-own κ₀ b o γ
+      abbrev Leaves₈ : (ℕ → ℕ) → (past : Known₈) → New₈ past → List (Item 𝓤) → List (Item 𝓤)
+      Leaves₈ p past new Γ = ‵ (link-own κ₀ b o γ
           (record {
             settings = (past .3);
             flight = (past .4);
@@ -885,12 +846,11 @@ module _ {M : Type 1} (𝓤 : URA M) (H : Heap 𝓤) (A : Atoms 𝓤) (W : Given
           ∷ ‵ (fat fullShare clock-laws.mir (p 23) 0 ((past .7))) ∷ ‵ (fat fullShare (tyInt w32) (p 0) 0 ((new .1))) ∷ Γ
 
       part₈ : {K : Type 0} {Γ : List (Item 𝓤)} → K → (p : ℕ → ℕ) (past : Known₈)
-          → ((new : New₈ past) → Seq K W (Left₈ p past new Γ) (runs C Λ (En p) rest₉ (atRet (En p) Post)))
-          → Seq K W (Had₈ p past Γ) (runs C Λ (En p) rest₈ (atRet (En p) Post))
-      unfolding rest₈
+          → ((new : New₈ past) → Seq K W (Leaves₈ p past new Γ) (runs C Λ (En p) (behind 16 (code.function .body)) (atRet (En p) Post)))
+          → Seq K W (Has₈ p past Γ) (runs C Λ (En p) (behind 14 (code.function .body)) (atRet (En p) Post))
       part₈ {Γ = Γ} t p past on = record {
         prf =
-            qed W (Had₈ p past Γ) ∵ exec ! C Λ (En p) rest₈ (atRet (En p) Post) $
+            qed W (Has₈ p past Γ) ∵ exec ! C Λ (En p) (behind 14 (code.function .body)) (atRet (En p) Post) $
             move ! (6 ∷ []) $ cell-out ! fullShare clock-row.the-row (LL.vals clock-row.the-type clock-laws.the-laws)
             (LL.tells clock-row.the-type clock-laws.the-laws) (h .clock) b (o + 104)
             (λ was-clock′. assigns ! (of-opd ! (load ! (from ! (stop !)) (look ! 4 refl))) (place-clock ! (look ! 3 refl))
@@ -935,7 +895,6 @@ module _ {M : Type 1} (𝓤 : URA M) (H : Heap 𝓤) (A : Atoms 𝓤) (W : Given
       walk : ent 𝓤 (onEntry 𝓤 H A f.signature (κ₀, (κ₁, (κ₂, (κ₃, (κ₄, tt))))) (q₀, (q₁, (q₂, (q₃, (q₄, tt))))) x at)
           (WpFn 𝓤 H C Λ code.function (vptr b o ∷ v₁ ∷ v₂ ∷ v₃ ∷ v₄ ∷ v₅ ∷ v₆ ∷ v₇ ∷ s₈ ∷ s₉ ∷ s₁₀ ∷ s₁₁
           ∷ []) Post)
-      unfolding rest₁ rest₂ rest₃ rest₄ rest₅ rest₆ rest₇ rest₈ rest₉
       walk =
           qed W ((‵ (flft κ₀ q₀) ⊛ ‵ (flft κ₁ q₁) ⊛ ‵ (flft κ₂ q₂) ⊛ ‵ (flft κ₃ q₃) ⊛ ‵ (flft κ₄ q₄) ⊛ ‵ ftrue)
           ∷ ‵ (owns (MutRef (named 0) κ₀ L ∷ u32 ∷ u32 ∷ u32 ∷ u32 ∷ u32 ∷ u32 ∷ u32 ∷ ShrSlice (named 1) κ₁ u8

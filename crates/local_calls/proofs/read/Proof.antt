@@ -79,7 +79,6 @@ use Rattle.records.proofs.Walk.{
   init,
   store,
   store-raw,
-  forget,
   stop,
   hop,
   fld,
@@ -93,13 +92,9 @@ use Rattle.records.proofs.Walk.{
   assigns,
   returns,
   enter,
-  alloc1,
-  alloc0,
   params1,
   pass1,
   pass0,
-  free1,
-  free0,
   land,
   WpFn-mono,
   FmC,
@@ -150,7 +145,7 @@ use Rattle.records.proofs.Shared.{LentShared, lends-shared, shared-back}
 use Rattle.records.proofs.Rows.{R}
 use Rattle.lending.proofs.Fields.{ref-at, lend-mut, back-mut, lend-shr, back-shr, cell-out, cell-in, tells-length, lend-whole, back-whole}
 use Rattle.lending.proofs.Locals.{envAt, allocates, frees-all, holds, empty}
-use Rattle.lending.proofs.Parts.{behind, taking, spread, same}
+use Rattle.lending.proofs.Parts.{behind, spread, same}
 use Rattle.lending.proofs.Block.{
   L,
   Open,
@@ -176,8 +171,8 @@ use Rattle.control.specs.declared.Link.{Link}
 use Rattle.timing.specs.declared.Record.{Record}
 use lib.IntN.{ℤ}
 use mir.Syntax.{w16}
-use base.Fml.{fres, froom, fdies, fobor, fsep, feq}
-use mir.Syntax.{Body, return, imm, mut, erased, tyInt, tyArray, tyRef, tyPtr, tyUnit, tyBool}
+use base.Fml.{fres, froom, fobor, fsep, feq}
+use mir.Syntax.{imm, mut, erased, tyInt, tyArray, tyRef, tyPtr, tyUnit, tyBool}
 use denote.Slice.{sliceTy}
 use denote.Memory.{pointee}
 use Rattle.timing.proofs.Record.Laws as record-laws
@@ -262,34 +257,6 @@ stayed = (
   stay-ref (0 ∷ []) tt (plain (λ _. L)),
   (stay-dropped _ yes, (stay-dropped _ yes, (stay-dropped _ yes, (stay-dropped _ yes, (gave-slice (5 ∷ []) tt (plain (λ _. u8)), tt))))),
 )
-
--- the rest of the body where each part begins, and behind the last
-unfoldable rest₉ : Body
-rest₉ = return
-
-unfoldable rest₈ : Body
-rest₈ = taking 2 (behind 25 (code.function .body)) rest₉
-
-unfoldable rest₇ : Body
-rest₇ = taking 1 (behind 24 (code.function .body)) rest₈
-
-unfoldable rest₆ : Body
-rest₆ = taking 9 (behind 15 (code.function .body)) rest₇
-
-unfoldable rest₅ : Body
-rest₅ = taking 1 (behind 14 (code.function .body)) rest₆
-
-unfoldable rest₄ : Body
-rest₄ = taking 6 (behind 8 (code.function .body)) rest₅
-
-unfoldable rest₃ : Body
-rest₃ = taking 5 (behind 3 (code.function .body)) rest₄
-
-unfoldable rest₂ : Body
-rest₂ = taking 2 (behind 1 (code.function .body)) rest₃
-
-unfoldable rest₁ : Body
-rest₁ = taking 1 (behind 0 (code.function .body)) rest₂
 
 module _ {M : Type 1} (𝓤 : URA M) (H : Heap 𝓤) (A : Atoms 𝓤) (W : Given 𝓤 H A) (at-mem : Memory → SProp 𝓤) (run : Routine → Fun 𝓤) where
   -- what is known of the callees
@@ -603,26 +570,25 @@ module _ {M : Type 1} (𝓤 : URA M) (H : Heap 𝓤) (A : Atoms 𝓤) (W : Given
       abbrev En : (ℕ → ℕ) → Env 𝓤 H
       En p = envAt (code.function .locals) p
 
-      -- what part 1 knows, what it tells; what it has, and leaves
+      -- part 1: what it knows, what it tells; what it has, and leaves
       abbrev Known₁ : Type 0
       Known₁ = Unit {0}
 
       abbrev New₁ : Known₁ → Type 0
       New₁ past = (sends : (List ℕ)) × (w-sends : Val) × (e-sends : sends ≡ noneToSend) × (Is (Array u8 128) sends (w-sends ∷ []))
 
-      abbrev Had₁ : (ℕ → ℕ) → Known₁ → List (Item 𝓤) → List (Item 𝓤)
-      Had₁ p past Γ = ‵ (froom (tyArray (tyInt w8) 128) (p 18) 0) ∷ Γ
+      abbrev Has₁ : (ℕ → ℕ) → Known₁ → List (Item 𝓤) → List (Item 𝓤)
+      Has₁ p past Γ = ‵ (froom (tyArray (tyInt w8) 128) (p 18) 0) ∷ Γ
 
-      abbrev Left₁ : (ℕ → ℕ) → (past : Known₁) → New₁ past → List (Item 𝓤) → List (Item 𝓤)
-      Left₁ p past new Γ = ‵ (fat fullShare (tyArray (tyInt w8) 128) (p 18) 0 ((new .1))) ∷ Γ
+      abbrev Leaves₁ : (ℕ → ℕ) → (past : Known₁) → New₁ past → List (Item 𝓤) → List (Item 𝓤)
+      Leaves₁ p past new Γ = ‵ (fat fullShare (tyArray (tyInt w8) 128) (p 18) 0 ((new .1))) ∷ Γ
 
       part₁ : {K : Type 0} {Γ : List (Item 𝓤)} → K → (p : ℕ → ℕ) (past : Known₁)
-          → ((new : New₁ past) → Seq K W (Left₁ p past new Γ) (runs C Λ (En p) rest₂ (atRet (En p) Post)))
-          → Seq K W (Had₁ p past Γ) (runs C Λ (En p) rest₁ (atRet (En p) Post))
-      unfolding rest₁
+          → ((new : New₁ past) → Seq K W (Leaves₁ p past new Γ) (runs C Λ (En p) (behind 1 (code.function .body)) (atRet (En p) Post)))
+          → Seq K W (Has₁ p past Γ) (runs C Λ (En p) (behind 0 (code.function .body)) (atRet (En p) Post))
       part₁ {Γ = Γ} t p past on = record {
         prf =
-            qed W (Had₁ p past Γ) ∵ exec ! C Λ (En p) rest₁ (atRet (En p) Post) $
+            qed W (Has₁ p past Γ) ∵ exec ! C Λ (En p) (behind 0 (code.function .body)) (atRet (En p) Post) $
             nothing ! $ calls-fn ! fm send-marks-of.ended (send-marks-of.clauses 𝓤 H A at-mem run) (known .0) ((tt, tt, tt, tt, tt), tt)
             (λ sends _. sends ≡ noneToSend)
             (‵ ftrue) (plainly 𝓤 H A W ([]) tt tt tt tt) (λ sends _. id⊢ 𝓤 _)
@@ -631,7 +597,7 @@ module _ {M : Type 1} (𝓤 : URA M) (H : Heap 𝓤) (A : Atoms 𝓤) (W : Given
             same ! (on (sends, w-sends, e-sends, is-sends)));
       }
 
-      -- what part 2 knows, what it tells; what it has, and leaves
+      -- part 2: what it knows, what it tells; what it has, and leaves
       abbrev Known₂ : Type 0
       Known₂ = (sends : (List ℕ)) × (w-sends : Val) × (Is (Array u8 128) sends (w-sends ∷ []))
 
@@ -639,22 +605,21 @@ module _ {M : Type 1} (𝓤 : URA M) (H : Heap 𝓤) (A : Atoms 𝓤) (W : Given
       New₂ past = (receives : (List ℕ)) × (w-receives : Val) × (e-receives : receives ≡ none) ×
           (Is (Array u8 256) receives (w-receives ∷ []))
 
-      abbrev Had₂ : (ℕ → ℕ) → Known₂ → List (Item 𝓤) → List (Item 𝓤)
-      Had₂ p past Γ = ‵ (fat fullShare (tyArray (tyInt w8) 128) (p 18) 0 ((past .1))) ∷ ‵ (froom (tyArray (tyInt w8) 256) (p 19) 0)
+      abbrev Has₂ : (ℕ → ℕ) → Known₂ → List (Item 𝓤) → List (Item 𝓤)
+      Has₂ p past Γ = ‵ (fat fullShare (tyArray (tyInt w8) 128) (p 18) 0 ((past .1))) ∷ ‵ (froom (tyArray (tyInt w8) 256) (p 19) 0)
           ∷ ‵ (froom (tyArray (tyInt w8) 128) (p 7) 0) ∷ Γ
 
-      abbrev Left₂ : (ℕ → ℕ) → (past : Known₂) → New₂ past → List (Item 𝓤) → List (Item 𝓤)
-      Left₂ p past new Γ = ‵ (fat fullShare (tyArray (tyInt w8) 128) (p 18) 0 ((past .1)))
+      abbrev Leaves₂ : (ℕ → ℕ) → (past : Known₂) → New₂ past → List (Item 𝓤) → List (Item 𝓤)
+      Leaves₂ p past new Γ = ‵ (fat fullShare (tyArray (tyInt w8) 128) (p 18) 0 ((past .1)))
           ∷ ‵ (fat fullShare (tyArray (tyInt w8) 256) (p 19) 0 ((new .1))) ∷ ‵ (fat fullShare (tyArray (tyInt w8) 128) (p 7) 0 ((past .1)))
           ∷ Γ
 
       part₂ : {K : Type 0} {Γ : List (Item 𝓤)} → K → (p : ℕ → ℕ) (past : Known₂)
-          → ((new : New₂ past) → Seq K W (Left₂ p past new Γ) (runs C Λ (En p) rest₃ (atRet (En p) Post)))
-          → Seq K W (Had₂ p past Γ) (runs C Λ (En p) rest₂ (atRet (En p) Post))
-      unfolding rest₂
+          → ((new : New₂ past) → Seq K W (Leaves₂ p past new Γ) (runs C Λ (En p) (behind 3 (code.function .body)) (atRet (En p) Post)))
+          → Seq K W (Has₂ p past Γ) (runs C Λ (En p) (behind 1 (code.function .body)) (atRet (En p) Post))
       part₂ {Γ = Γ} t p past on = record {
         prf =
-            qed W (Had₂ p past Γ) ∵ exec ! C Λ (En p) rest₂ (atRet (En p) Post) $
+            qed W (Has₂ p past Γ) ∵ exec ! C Λ (En p) (behind 1 (code.function .body)) (atRet (En p) Post) $
             assigns ! {v = (past .1)} (of-opd ! (load ! (from ! (stop !)) (look ! 0 refl))) (from ! (stop !))
             (init ! 2 refl (array-typed u8 (uint-lawful 𝓤 H A W w8 .typed) 128 (past .0) ((past .1) ∷ []) (past .2) .0)) $
             nothing ! $ calls-fn ! fm marks-of.ended (marks-of.clauses 𝓤 H A at-mem run) (known .1) ((tt, tt, tt, tt, tt), tt)
@@ -666,7 +631,7 @@ module _ {M : Type 1} (𝓤 : URA M) (H : Heap 𝓤) (A : Atoms 𝓤) (W : Given
             same ! (on (receives, w-receives, e-receives, is-receives)));
       }
 
-      -- what part 3 knows, what it tells; what it has, and leaves
+      -- part 3: what it knows, what it tells; what it has, and leaves
       abbrev Known₃ : Type 0
       Known₃ = (sends : (List ℕ)) × (w-sends : Val) × (e-sends : sends ≡ noneToSend) × (is-sends : Is (Array u8 128) sends (w-sends ∷ [])) ×
           (receives : (List ℕ)) × (w-receives : Val) × (e-receives : receives ≡ none) × (Is (Array u8 256) receives (w-receives ∷ []))
@@ -675,16 +640,16 @@ module _ {M : Type 1} (𝓤 : URA M) (H : Heap 𝓤) (A : Atoms 𝓤) (W : Given
       New₃ past = (z-receives : List ℕ) × (z-sends : List ℕ) × (ok : Bool) × (w-ok : Val) × (e-ok : Sound h z-sends z-receives ok) ×
           (Is Boolean ok (w-ok ∷ []))
 
-      abbrev Had₃ : (ℕ → ℕ) → Known₃ → List (Item 𝓤) → List (Item 𝓤)
-      Had₃ p past Γ = ‵ (fat fullShare (tyArray (tyInt w8) 256) (p 19) 0 ((past .5)))
+      abbrev Has₃ : (ℕ → ℕ) → Known₃ → List (Item 𝓤) → List (Item 𝓤)
+      Has₃ p past Γ = ‵ (fat fullShare (tyArray (tyInt w8) 256) (p 19) 0 ((past .5)))
           ∷ ‵ (fat fullShare (tyArray (tyInt w8) 128) (p 7) 0 ((past .1))) ∷ ‵ (flft κ₀ q₀) ∷ ‵ (link-own κ₀ b o γ h)
           ∷ ‵ (froom (tyRef erased mut (tyArray (tyInt w8) 256)) (p 22) 0) ∷ ‵ (froom (tyRef erased mut (tyArray (tyInt w8) 128)) (p 21) 0)
           ∷ ‵ (froom (tyRef erased imm (pointee (L .written))) (p 20) 0) ∷ ‵ (froom tyBool (p 9) 0)
           ∷ ‵ (froom (tyArray (tyInt w8) 256) (p 8) 0) ∷ ‵ (fat fullShare (tyRef (named 0) mut (pointee (L .written))) (p 1) 0 (vptr b o))
           ∷ Γ
 
-      abbrev Left₃ : (ℕ → ℕ) → (past : Known₃) → New₃ past → List (Item 𝓤) → List (Item 𝓤)
-      Left₃ p past new Γ = ‵ (fat fullShare (tyArray (tyInt w8) 256) (p 8) 0 ((only ((array-vals (uint-vals w8)) (new .0)))))
+      abbrev Leaves₃ : (ℕ → ℕ) → (past : Known₃) → New₃ past → List (Item 𝓤) → List (Item 𝓤)
+      Leaves₃ p past new Γ = ‵ (fat fullShare (tyArray (tyInt w8) 256) (p 8) 0 ((only ((array-vals (uint-vals w8)) (new .0)))))
           ∷ ‵ (fat fullShare (tyArray (tyInt w8) 128) (p 7) 0 ((only ((array-vals (uint-vals w8)) (new .1))))) ∷ ‵ (link-own κ₀ b o γ h)
           ∷ ‵ (flft κ₀ q₀) ∷ ‵ (fat fullShare (tyArray (tyInt w8) 256) (p 19) 0 ((past .5)))
           ∷ ‵ (fat fullShare (tyRef erased mut (tyArray (tyInt w8) 256)) (p 22) 0 ((vptr (p 8) 0)))
@@ -693,12 +658,11 @@ module _ {M : Type 1} (𝓤 : URA M) (H : Heap 𝓤) (A : Atoms 𝓤) (W : Given
           ∷ ‵ (fat fullShare (tyRef (named 0) mut (pointee (L .written))) (p 1) 0 (vptr b o)) ∷ Γ
 
       part₃ : {K : Type 0} {Γ : List (Item 𝓤)} → K → (p : ℕ → ℕ) (past : Known₃)
-          → ((new : New₃ past) → Seq K W (Left₃ p past new Γ) (runs C Λ (En p) rest₄ (atRet (En p) Post)))
-          → Seq K W (Had₃ p past Γ) (runs C Λ (En p) rest₃ (atRet (En p) Post))
-      unfolding rest₃
+          → ((new : New₃ past) → Seq K W (Leaves₃ p past new Γ) (runs C Λ (En p) (behind 8 (code.function .body)) (atRet (En p) Post)))
+          → Seq K W (Has₃ p past Γ) (runs C Λ (En p) (behind 3 (code.function .body)) (atRet (En p) Post))
       part₃ {Γ = Γ} t p past on = record {
         prf =
-            qed W (Had₃ p past Γ) ∵ exec ! C Λ (En p) rest₃ (atRet (En p) Post) $
+            qed W (Has₃ p past Γ) ∵ exec ! C Λ (En p) (behind 3 (code.function .body)) (atRet (En p) Post) $
             assigns ! {v = (past .5)} (of-opd ! (load ! (from ! (stop !)) (look ! 0 refl))) (from ! (stop !))
             (init ! 8 refl (array-typed u8 (uint-lawful 𝓤 H A W w8 .typed) 256 (past .4) ((past .5) ∷ []) (past .7) .0)) $
             assigns ! {v = (vptr b o)} (addr ! (from ! (hop ! (look ! 9 refl) (stop !)))) (from ! (stop !)) (init ! 6 refl (tt, tt)) $
@@ -750,7 +714,7 @@ module _ {M : Type 1} (𝓤 : URA M) (H : Heap 𝓤) (A : Atoms 𝓤) (W : Given
             same ! (on ((ws-ok .1 .1 .0), (ws-ok .1 .0), ok, w-ok, e-ok, is-ok))))))));
       }
 
-      -- what part 4 knows, what it tells; what it has, and leaves
+      -- part 4: what it knows, what it tells; what it has, and leaves
       abbrev Known₄ : Type 0
       Known₄ = Unit {0}
 
@@ -766,15 +730,15 @@ module _ {M : Type 1} (𝓤 : URA M) (H : Heap 𝓤) (A : Atoms 𝓤) (W : Given
           (take (h .flight .outstanding) (padded (gathered (take sendSlots (x₃ .now))
           (slotsIn (h .outstanding) (h .flight .outstanding)))))) × (Is Boolean fl (w-fl ∷ []))
 
-      abbrev Had₄ : (ℕ → ℕ) → Known₄ → List (Item 𝓤) → List (Item 𝓤)
-      Had₄ p past Γ = ‵ (link-own κ₀ b o γ h) ∷ ‵ (flft κ₀ q₀)
+      abbrev Has₄ : (ℕ → ℕ) → Known₄ → List (Item 𝓤) → List (Item 𝓤)
+      Has₄ p past Γ = ‵ (link-own κ₀ b o γ h) ∷ ‵ (flft κ₀ q₀)
           ∷ ‵ (fat fullShare (tyRef (named 0) mut (pointee (L .written))) (p 1) 0 (vptr b o)) ∷ ‵ (flft κ₃ q₃) ∷ ‵ Own₃
           ∷ ‵ (froom (tyRef erased imm (tyArray (tyInt w32) 32)) (p 23) 0) ∷ ‵ (froom tyBool (p 14) 0) ∷ ‵ (froom clock-laws.mir (p 13) 0)
           ∷ ‵ (froom arrival-laws.mir (p 12) 0) ∷ ‵ (froom flight-laws.mir (p 11) 0) ∷ ‵ (froom settings-laws.mir (p 10) 0)
           ∷ ‵ (fat fullShare (sliceTy (tyRef (named 3) imm (pointee (R .written)))) (p 4) 0 (s₃)) ∷ Γ
 
-      abbrev Left₄ : (ℕ → ℕ) → (past : Known₄) → New₄ past → List (Item 𝓤) → List (Item 𝓤)
-      Left₄ p past new Γ = ‵ (partAt (Array u32 32) fullShare (h .outstanding) b (o + 636)) ∷ ‵ (flft κ₃ q₃) ∷ ‵ Own₃
+      abbrev Leaves₄ : (ℕ → ℕ) → (past : Known₄) → New₄ past → List (Item 𝓤) → List (Item 𝓤)
+      Leaves₄ p past new Γ = ‵ (partAt (Array u32 32) fullShare (h .outstanding) b (o + 636)) ∷ ‵ (flft κ₃ q₃) ∷ ‵ Own₃
           ∷ ‵ (partAt clock-row.the-row fullShare (h .clock) b (o + 104)) ∷ ‵ (partAt arrival-row.the-row fullShare (h .arrival) b (o + 72))
           ∷ ‵ (partAt flight-row.the-row fullShare (h .flight) b (o + 16))
           ∷ ‵ (partAt settings-row.the-row fullShare (h .settings) b (o + 0))
@@ -792,12 +756,11 @@ module _ {M : Type 1} (𝓤 : URA M) (H : Heap 𝓤) (A : Atoms 𝓤) (W : Given
           ∷ ‵ (fat fullShare (sliceTy (tyRef (named 3) imm (pointee (R .written)))) (p 4) 0 (s₃)) ∷ Γ
 
       part₄ : {K : Type 0} {Γ : List (Item 𝓤)} → K → (p : ℕ → ℕ) (past : Known₄)
-          → ((new : New₄ past) → Seq K W (Left₄ p past new Γ) (runs C Λ (En p) rest₅ (atRet (En p) Post)))
-          → Seq K W (Had₄ p past Γ) (runs C Λ (En p) rest₄ (atRet (En p) Post))
-      unfolding rest₄
+          → ((new : New₄ past) → Seq K W (Leaves₄ p past new Γ) (runs C Λ (En p) (behind 14 (code.function .body)) (atRet (En p) Post)))
+          → Seq K W (Has₄ p past Γ) (runs C Λ (En p) (behind 8 (code.function .body)) (atRet (En p) Post))
       part₄ {Γ = Γ} t p past on = record {
         prf =
-            qed W (Had₄ p past Γ) ∵ exec ! C Λ (En p) rest₄ (atRet (En p) Post) $
+            qed W (Has₄ p past Γ) ∵ exec ! C Λ (En p) (behind 8 (code.function .body)) (atRet (En p) Post) $
             opens-link b o γ ! tt h $
             -- [F:settings; F:flight; F:arrival; F:clock; F:queued; F:outstanding; F:transmissions; F:ready; F:waiting; F:«waiting_numbers»;
             -- back; opened; tok3; own3; the locals]
@@ -892,28 +855,27 @@ module _ {M : Type 1} (𝓤 : URA M) (H : Heap 𝓤) (A : Atoms 𝓤) (W : Given
             ))))))))))))));
       }
 
-      -- what part 5 knows, what it tells; what it has, and leaves
+      -- part 5: what it knows, what it tells; what it has, and leaves
       abbrev Known₅ : Type 0
       Known₅ = Unit {0}
 
       abbrev New₅ : Known₅ → Type 0
       New₅ past = (m : ℕ) × (w-m : Val) × (e-m : m ≡ length (x₃ .now)) × (Is usize m (w-m ∷ []))
 
-      abbrev Had₅ : (ℕ → ℕ) → Known₅ → List (Item 𝓤) → List (Item 𝓤)
-      Had₅ p past Γ = ‵ (flft κ₃ q₃) ∷ ‵ Own₃ ∷ ‵ (fat fullShare (sliceTy (tyRef (named 3) imm (pointee (R .written)))) (p 4) 0 (s₃))
+      abbrev Has₅ : (ℕ → ℕ) → Known₅ → List (Item 𝓤) → List (Item 𝓤)
+      Has₅ p past Γ = ‵ (flft κ₃ q₃) ∷ ‵ Own₃ ∷ ‵ (fat fullShare (sliceTy (tyRef (named 3) imm (pointee (R .written)))) (p 4) 0 (s₃))
           ∷ ‵ (froom (tyInt w64) (p 15) 0) ∷ Γ
 
-      abbrev Left₅ : (ℕ → ℕ) → (past : Known₅) → New₅ past → List (Item 𝓤) → List (Item 𝓤)
-      Left₅ p past new Γ = ‵ (flft κ₃ q₃) ∷ ‵ (fat fullShare (sliceTy (tyRef (named 3) imm (pointee (R .written)))) (p 4) 0 (s₃))
+      abbrev Leaves₅ : (ℕ → ℕ) → (past : Known₅) → New₅ past → List (Item 𝓤) → List (Item 𝓤)
+      Leaves₅ p past new Γ = ‵ (flft κ₃ q₃) ∷ ‵ (fat fullShare (sliceTy (tyRef (named 3) imm (pointee (R .written)))) (p 4) 0 (s₃))
           ∷ ‵ (fat fullShare (tyInt w64) (p 15) 0 ((new .1))) ∷ Γ
 
       part₅ : {K : Type 0} {Γ : List (Item 𝓤)} → K → (p : ℕ → ℕ) (past : Known₅)
-          → ((new : New₅ past) → Seq K W (Left₅ p past new Γ) (runs C Λ (En p) rest₆ (atRet (En p) Post)))
-          → Seq K W (Had₅ p past Γ) (runs C Λ (En p) rest₅ (atRet (En p) Post))
-      unfolding rest₅
+          → ((new : New₅ past) → Seq K W (Leaves₅ p past new Γ) (runs C Λ (En p) (behind 15 (code.function .body)) (atRet (En p) Post)))
+          → Seq K W (Has₅ p past Γ) (runs C Λ (En p) (behind 14 (code.function .body)) (atRet (En p) Post))
       part₅ {Γ = Γ} t p past on = record {
         prf =
-            qed W (Had₅ p past Γ) ∵ exec ! C Λ (En p) rest₅ (atRet (En p) Post) $
+            qed W (Has₅ p past Γ) ∵ exec ! C Λ (En p) (behind 14 (code.function .body)) (atRet (En p) Post) $
             join ! $ calls-fn ! fm table-len.ended (table-len.clauses 𝓤 H A at-mem run) (known .4) (to-table-len)
             (λ m ws-m. m ≡ length (x₃ .now)) (‵ (flft κ₃ q₃) ⊛ ‵ Own₃)
             (asks-table-len) (λ m ws-m. id⊢ 𝓤 _)
@@ -925,7 +887,7 @@ module _ {M : Type 1} (𝓤 : URA M) (H : Heap 𝓤) (A : Atoms 𝓤) (W : Given
             same ! (on (m, w-m, e-m, is-m)));
       }
 
-      -- what part 6 knows, what it tells; what it has, and leaves
+      -- part 6: what it knows, what it tells; what it has, and leaves
       abbrev Known₆ : Type 0
       Known₆ = (z-receives : List ℕ) × (z-sends : List ℕ) × (ok : Bool) × (w-ok : Val) × (e-ok : Sound h z-sends z-receives ok) ×
           (is-ok : Is Boolean ok (w-ok ∷ [])) × (len-queued : length (h .queued) ≡ 128) × (len-outstanding : length (h .outstanding) ≡ 32) ×
@@ -947,8 +909,8 @@ module _ {M : Type 1} (𝓤 : URA M) (H : Heap 𝓤) (A : Atoms 𝓤) (W : Given
           (arrays (h .queued) (h .outstanding) (h .transmissions) z-ready z-waiting z-waiting-numbers)) z₅)) ×
           (is-a : Is delivered-row.the-row a (w-a ∷ [])) × (length z₅ ≡ length (x₅ .now))
 
-      abbrev Had₆ : (ℕ → ℕ) → Known₆ → List (Item 𝓤) → List (Item 𝓤)
-      Had₆ p past Γ = ‵ (fat fullShare (tyInt w64) (p 15) 0 ((past .21))) ∷ ‵ (partAt (Array u32 32) fullShare (h .outstanding) b (o + 636))
+      abbrev Has₆ : (ℕ → ℕ) → Known₆ → List (Item 𝓤) → List (Item 𝓤)
+      Has₆ p past Γ = ‵ (fat fullShare (tyInt w64) (p 15) 0 ((past .21))) ∷ ‵ (partAt (Array u32 32) fullShare (h .outstanding) b (o + 636))
           ∷ ‵ (partAt (Array u32 128) fullShare (h .«waiting_numbers») b (o + 1820))
           ∷ ‵ (partAt (Array u32 128) fullShare (h .waiting) b (o + 1308)) ∷ ‵ (partAt (Array u32 128) fullShare (h .ready) b (o + 796))
           ∷ ‵ (partAt (Array u8 32) fullShare (h .transmissions) b (o + 764)) ∷ ‵ (partAt (Array u32 128) fullShare (h .queued) b (o + 124))
@@ -969,8 +931,8 @@ module _ {M : Type 1} (𝓤 : URA M) (H : Heap 𝓤) (A : Atoms 𝓤) (W : Given
           ∷ ‵ (fat fullShare (sliceTy (tyRef (named 2) imm (tyInt w8))) (p 3) 0 (s₂))
           ∷ ‵ (fat fullShare (sliceTy (tyRef (named 1) imm (tyInt w8))) (p 2) 0 (s₁)) ∷ Γ
 
-      abbrev Left₆ : (ℕ → ℕ) → (past : Known₆) → New₆ past → List (Item 𝓤) → List (Item 𝓤)
-      Left₆ p past new Γ = ‵ (partAt (Array u32 128) fullShare (new .1) b (o + 1820))
+      abbrev Leaves₆ : (ℕ → ℕ) → (past : Known₆) → New₆ past → List (Item 𝓤) → List (Item 𝓤)
+      Leaves₆ p past new Γ = ‵ (partAt (Array u32 128) fullShare (new .1) b (o + 1820))
           ∷ ‵ (partAt (Array u32 128) fullShare (new .2) b (o + 1308)) ∷ ‵ (partAt (Array u32 128) fullShare (new .3) b (o + 796))
           ∷ ‵ (partAt (Array u8 32) fullShare (h .transmissions) b (o + 764))
           ∷ ‵ (partAt (Array u32 32) fullShare (h .outstanding) b (o + 636)) ∷ ‵ (partAt (Array u32 128) fullShare (h .queued) b (o + 124))
@@ -997,12 +959,11 @@ module _ {M : Type 1} (𝓤 : URA M) (H : Heap 𝓤) (A : Atoms 𝓤) (W : Given
           ∷ ‵ (fat fullShare (sliceTy (tyRef (named 1) imm (tyInt w8))) (p 2) 0 (s₁)) ∷ Γ
 
       part₆ : {K : Type 0} {Γ : List (Item 𝓤)} → K → (p : ℕ → ℕ) (past : Known₆)
-          → ((new : New₆ past) → Seq K W (Left₆ p past new Γ) (runs C Λ (En p) rest₇ (atRet (En p) Post)))
-          → Seq K W (Had₆ p past Γ) (runs C Λ (En p) rest₆ (atRet (En p) Post))
-      unfolding rest₆
+          → ((new : New₆ past) → Seq K W (Leaves₆ p past new Γ) (runs C Λ (En p) (behind 24 (code.function .body)) (atRet (En p) Post)))
+          → Seq K W (Has₆ p past Γ) (runs C Λ (En p) (behind 15 (code.function .body)) (atRet (En p) Post))
       part₆ {Γ = Γ} t p past on = record {
         prf =
-            qed W (Had₆ p past Γ) ∵ exec ! C Λ (En p) rest₆ (atRet (En p) Post) $
+            qed W (Has₆ p past Γ) ∵ exec ! C Λ (En p) (behind 15 (code.function .body)) (atRet (En p) Post) $
             assigns ! {v = (vptr b (o + 124))} (addr ! (place-queued ! (look ! 7 refl))) (from ! (stop !)) (init ! 29 refl (tt, tt)) $
             assigns ! {v = (vptr b (o + 636))} (addr ! (place-outstanding ! (look ! 7 refl))) (from ! (stop !)) (init ! 28 refl (tt, tt)) $
             assigns ! {v = (vptr b (o + 764))} (addr ! (place-transmissions ! (look ! 7 refl))) (from ! (stop !)) (init ! 27 refl (tt, tt)) $
@@ -1128,27 +1089,26 @@ module _ {M : Type 1} (𝓤 : URA M) (H : Heap 𝓤) (A : Atoms 𝓤) (W : Given
             ))))))))));
       }
 
-      -- what part 7 knows, what it tells; what it has, and leaves
+      -- part 7: what it knows, what it tells; what it has, and leaves
       abbrev Known₇ : Type 0
       Known₇ = (a : Delivered) × (w-a : Val) × (Is delivered-row.the-row a (w-a ∷ []))
 
       abbrev New₇ : Known₇ → Type 0
       New₇ past = (ka : Arrival) × (w-ka : Val) × (e-ka : ka ≡ (past .0) .arrival) × (Is arrival-row.the-row ka (w-ka ∷ []))
 
-      abbrev Had₇ : (ℕ → ℕ) → Known₇ → List (Item 𝓤) → List (Item 𝓤)
-      Had₇ p past Γ = ‵ (fat fullShare delivered-laws.mir (p 16) 0 ((past .1))) ∷ ‵ (froom arrival-laws.mir (p 17) 0) ∷ Γ
+      abbrev Has₇ : (ℕ → ℕ) → Known₇ → List (Item 𝓤) → List (Item 𝓤)
+      Has₇ p past Γ = ‵ (fat fullShare delivered-laws.mir (p 16) 0 ((past .1))) ∷ ‵ (froom arrival-laws.mir (p 17) 0) ∷ Γ
 
-      abbrev Left₇ : (ℕ → ℕ) → (past : Known₇) → New₇ past → List (Item 𝓤) → List (Item 𝓤)
-      Left₇ p past new Γ = ‵ (fat fullShare delivered-laws.mir (p 16) 0 ((past .1)))
+      abbrev Leaves₇ : (ℕ → ℕ) → (past : Known₇) → New₇ past → List (Item 𝓤) → List (Item 𝓤)
+      Leaves₇ p past new Γ = ‵ (fat fullShare delivered-laws.mir (p 16) 0 ((past .1)))
           ∷ ‵ (fat fullShare arrival-laws.mir (p 17) 0 ((new .1))) ∷ Γ
 
       part₇ : {K : Type 0} {Γ : List (Item 𝓤)} → K → (p : ℕ → ℕ) (past : Known₇)
-          → ((new : New₇ past) → Seq K W (Left₇ p past new Γ) (runs C Λ (En p) rest₈ (atRet (En p) Post)))
-          → Seq K W (Had₇ p past Γ) (runs C Λ (En p) rest₇ (atRet (En p) Post))
-      unfolding rest₇
+          → ((new : New₇ past) → Seq K W (Leaves₇ p past new Γ) (runs C Λ (En p) (behind 25 (code.function .body)) (atRet (En p) Post)))
+          → Seq K W (Has₇ p past Γ) (runs C Λ (En p) (behind 24 (code.function .body)) (atRet (En p) Post))
       part₇ {Γ = Γ} t p past on = record {
         prf =
-            qed W (Had₇ p past Γ) ∵ exec ! C Λ (En p) rest₇ (atRet (En p) Post) $
+            qed W (Has₇ p past Γ) ∵ exec ! C Λ (En p) (behind 24 (code.function .body)) (atRet (En p) Post) $
             nothing ! $ calls-fn ! fm arrival-of.ended (arrival-of.clauses 𝓤 H A at-mem run) (known .6)
             ((tt, tt, tt, ((past .0), tt), ((past .1) ∷ [], tt)), tt) (λ ka _. ka ≡ (past .0) .arrival)
             (‵ ftrue) (plainly 𝓤 H A W (delivered-row.the-row ∷ []) ((LL.makes delivered-row.the-type delivered-laws.the-plain 𝓤 H A), tt)
@@ -1160,7 +1120,7 @@ module _ {M : Type 1} (𝓤 : URA M) (H : Heap 𝓤) (A : Atoms 𝓤) (W : Given
             same ! (on (ka, w-ka, e-ka, is-ka)));
       }
 
-      -- what part 8 knows, what it tells; what it has, and leaves
+      -- part 8: what it knows, what it tells; what it has, and leaves
       abbrev Known₈ : Type 0
       Known₈ = (z-waiting-numbers : List ℕ) × (z-waiting : List ℕ) × (z-ready : List ℕ) × (a : Delivered) × (w-a : Val) ×
           (is-a : Is delivered-row.the-row a (w-a ∷ [])) × (ka : Arrival) × (w-ka : Val) × (Is arrival-row.the-row ka (w-ka ∷ []))
@@ -1168,8 +1128,8 @@ module _ {M : Type 1} (𝓤 : URA M) (H : Heap 𝓤) (A : Atoms 𝓤) (W : Given
       abbrev New₈ : Known₈ → Type 0
       New₈ past = (r : ℤ) × (w-r : Val) × (e-r : r ≡ countCode ((past .3) .answer)) × (Is i32 r (w-r ∷ []))
 
-      abbrev Had₈ : (ℕ → ℕ) → Known₈ → List (Item 𝓤) → List (Item 𝓤)
-      Had₈ p past Γ = ‵ (fat fullShare delivered-laws.mir (p 16) 0 ((past .4))) ∷ ‵ (fat fullShare arrival-laws.mir (p 17) 0 ((past .7)))
+      abbrev Has₈ : (ℕ → ℕ) → Known₈ → List (Item 𝓤) → List (Item 𝓤)
+      Has₈ p past Γ = ‵ (fat fullShare delivered-laws.mir (p 16) 0 ((past .4))) ∷ ‵ (fat fullShare arrival-laws.mir (p 17) 0 ((past .7)))
           ∷ ‵ (partAt (Array u32 128) fullShare (past .0) b (o + 1820)) ∷ ‵ (partAt (Array u32 128) fullShare (past .1) b (o + 1308))
           ∷ ‵ (partAt (Array u32 128) fullShare (past .2) b (o + 796)) ∷ ‵ (partAt (Array u8 32) fullShare (h .transmissions) b (o + 764))
           ∷ ‵ (partAt (Array u32 32) fullShare (h .outstanding) b (o + 636)) ∷ ‵ (partAt (Array u32 128) fullShare (h .queued) b (o + 124))
@@ -1179,8 +1139,8 @@ module _ {M : Type 1} (𝓤 : URA M) (H : Heap 𝓤) (A : Atoms 𝓤) (W : Given
           ∷ ‵ (partAt settings-row.the-row fullShare (h .settings) b (o + 0)) ∷ raw (Back 𝓤 H A fullShare b o) ∷ ‵ (Open b o γ κ₀ q₀ h)
           ∷ ‵ (froom (tyInt w32) (p 0) 0) ∷ Γ
 
-      abbrev Left₈ : (ℕ → ℕ) → (past : Known₈) → New₈ past → List (Item 𝓤) → List (Item 𝓤)
-      Left₈ p past new Γ = ‵ (link-own κ₀ b o γ
+      abbrev Leaves₈ : (ℕ → ℕ) → (past : Known₈) → New₈ past → List (Item 𝓤) → List (Item 𝓤)
+      Leaves₈ p past new Γ = ‵ (link-own κ₀ b o γ
           (record {
             settings = (h .settings);
             flight = (h .flight);
@@ -1199,12 +1159,11 @@ module _ {M : Type 1} (𝓤 : URA M) (H : Heap 𝓤) (A : Atoms 𝓤) (W : Given
           ∷ ‵ (fat fullShare (tyInt w32) (p 0) 0 ((new .1))) ∷ Γ
 
       part₈ : {K : Type 0} {Γ : List (Item 𝓤)} → K → (p : ℕ → ℕ) (past : Known₈)
-          → ((new : New₈ past) → Seq K W (Left₈ p past new Γ) (runs C Λ (En p) rest₉ (atRet (En p) Post)))
-          → Seq K W (Had₈ p past Γ) (runs C Λ (En p) rest₈ (atRet (En p) Post))
-      unfolding rest₈
+          → ((new : New₈ past) → Seq K W (Leaves₈ p past new Γ) (runs C Λ (En p) (behind 27 (code.function .body)) (atRet (En p) Post)))
+          → Seq K W (Has₈ p past Γ) (runs C Λ (En p) (behind 25 (code.function .body)) (atRet (En p) Post))
       part₈ {Γ = Γ} t p past on = record {
         prf =
-            qed W (Had₈ p past Γ) ∵ exec ! C Λ (En p) rest₈ (atRet (En p) Post) $
+            qed W (Has₈ p past Γ) ∵ exec ! C Λ (En p) (behind 25 (code.function .body)) (atRet (En p) Post) $
             move ! (10 ∷ []) $ cell-out ! fullShare arrival-row.the-row (LL.vals arrival-row.the-type arrival-laws.the-laws)
             (LL.tells arrival-row.the-type arrival-laws.the-laws) (h .arrival) b (o + 72)
             (λ was-arrival′. assigns ! (of-opd ! (load ! (from ! (stop !)) (look ! 2 refl))) (place-arrival ! (look ! 9 refl))
@@ -1248,7 +1207,6 @@ module _ {M : Type 1} (𝓤 : URA M) (H : Heap 𝓤) (A : Atoms 𝓤) (W : Given
 
       walk : ent 𝓤 (onEntry 𝓤 H A f.signature (κ₀, (κ₁, (κ₂, (κ₃, (κ₄, (κ₅, tt)))))) (q₀, (q₁, (q₂, (q₃, (q₄, (q₅, tt))))))
           x at) (WpFn 𝓤 H C Λ code.function (vptr b o ∷ s₁ ∷ s₂ ∷ s₃ ∷ s₄ ∷ s₅ ∷ []) Post)
-      unfolding rest₁ rest₂ rest₃ rest₄ rest₅ rest₆ rest₇ rest₈ rest₉
       walk =
           qed W ((‵ (flft κ₀ q₀) ⊛ ‵ (flft κ₁ q₁) ⊛ ‵ (flft κ₂ q₂) ⊛ ‵ (flft κ₃ q₃) ⊛ ‵ (flft κ₄ q₄) ⊛ ‵
           (flft κ₅ q₅) ⊛ ‵ ftrue) ∷ ‵ (owns (MutRef (named 0) κ₀ L ∷ ShrSlice (named 1) κ₁ u8 ∷ ShrSlice (named 2) κ₂ u8

@@ -80,7 +80,6 @@ use Rattle.records.proofs.Walk.{
   init,
   store,
   store-raw,
-  forget,
   stop,
   hop,
   fld,
@@ -94,13 +93,9 @@ use Rattle.records.proofs.Walk.{
   assigns,
   returns,
   enter,
-  alloc1,
-  alloc0,
   params1,
   pass1,
   pass0,
-  free1,
-  free0,
   land,
   WpFn-mono,
   FmC,
@@ -151,7 +146,7 @@ use Rattle.records.proofs.Shared.{LentShared, lends-shared, shared-back}
 use Rattle.records.proofs.Rows.{R}
 use Rattle.lending.proofs.Fields.{ref-at, lend-mut, back-mut, lend-shr, back-shr, cell-out, cell-in, tells-length, lend-whole, back-whole}
 use Rattle.lending.proofs.Locals.{envAt, allocates, frees-all, holds, empty}
-use Rattle.lending.proofs.Parts.{behind, taking, spread, same}
+use Rattle.lending.proofs.Parts.{behind, spread, same}
 use Rattle.lending.proofs.Block.{
   L,
   Open,
@@ -177,8 +172,8 @@ use Rattle.control.specs.declared.Link.{Link}
 use Rattle.timing.specs.declared.Record.{Record}
 use lib.IntN.{ℤ}
 use mir.Syntax.{w16}
-use base.Fml.{fres, froom, fdies, fobor, fsep, feq}
-use mir.Syntax.{Body, return, imm, mut, erased, tyInt, tyArray, tyRef, tyPtr, tyUnit, tyBool}
+use base.Fml.{fres, froom, fobor, fsep, feq}
+use mir.Syntax.{imm, mut, erased, tyInt, tyArray, tyRef, tyPtr, tyUnit, tyBool}
 use denote.Slice.{sliceTy}
 use denote.Memory.{pointee}
 use Rattle.timing.proofs.Record.Laws as record-laws
@@ -297,58 +292,6 @@ stayed = (
     ),
   ),
 )
-
--- the rest of the body where each part begins, and behind the last
-unfoldable rest₁₇ : Body
-rest₁₇ = return
-
-unfoldable rest₁₆ : Body
-rest₁₆ = taking 1 (behind 47 (code.function .body)) rest₁₇
-
-unfoldable rest₁₅ : Body
-rest₁₅ = taking 3 (behind 44 (code.function .body)) rest₁₆
-
-unfoldable rest₁₄ : Body
-rest₁₄ = taking 2 (behind 42 (code.function .body)) rest₁₅
-
-unfoldable rest₁₃ : Body
-rest₁₃ = taking 2 (behind 40 (code.function .body)) rest₁₄
-
-unfoldable rest₁₂ : Body
-rest₁₂ = taking 2 (behind 38 (code.function .body)) rest₁₃
-
-unfoldable rest₁₁ : Body
-rest₁₁ = taking 2 (behind 36 (code.function .body)) rest₁₂
-
-unfoldable rest₁₀ : Body
-rest₁₀ = taking 1 (behind 35 (code.function .body)) rest₁₁
-
-unfoldable rest₉ : Body
-rest₉ = taking 11 (behind 24 (code.function .body)) rest₁₀
-
-unfoldable rest₈ : Body
-rest₈ = taking 1 (behind 23 (code.function .body)) rest₉
-
-unfoldable rest₇ : Body
-rest₇ = taking 3 (behind 20 (code.function .body)) rest₈
-
-unfoldable rest₆ : Body
-rest₆ = taking 6 (behind 14 (code.function .body)) rest₇
-
-unfoldable rest₅ : Body
-rest₅ = taking 1 (behind 13 (code.function .body)) rest₆
-
-unfoldable rest₄ : Body
-rest₄ = taking 5 (behind 8 (code.function .body)) rest₅
-
-unfoldable rest₃ : Body
-rest₃ = taking 5 (behind 3 (code.function .body)) rest₄
-
-unfoldable rest₂ : Body
-rest₂ = taking 2 (behind 1 (code.function .body)) rest₃
-
-unfoldable rest₁ : Body
-rest₁ = taking 1 (behind 0 (code.function .body)) rest₂
 
 module _ {M : Type 1} (𝓤 : URA M) (H : Heap 𝓤) (A : Atoms 𝓤) (W : Given 𝓤 H A) (at-mem : Memory → SProp 𝓤) (run : Routine → Fun 𝓤) where
   -- what is known of the callees
@@ -748,26 +691,25 @@ module _ {M : Type 1} (𝓤 : URA M) (H : Heap 𝓤) (A : Atoms 𝓤) (W : Given
       abbrev En : (ℕ → ℕ) → Env 𝓤 H
       En p = envAt (code.function .locals) p
 
-      -- what part 1 knows, what it tells; what it has, and leaves
+      -- part 1: what it knows, what it tells; what it has, and leaves
       abbrev Known₁ : Type 0
       Known₁ = Unit {0}
 
       abbrev New₁ : Known₁ → Type 0
       New₁ past = (sends : (List ℕ)) × (w-sends : Val) × (e-sends : sends ≡ noneToSend) × (Is (Array u8 128) sends (w-sends ∷ []))
 
-      abbrev Had₁ : (ℕ → ℕ) → Known₁ → List (Item 𝓤) → List (Item 𝓤)
-      Had₁ p past Γ = ‵ (froom (tyArray (tyInt w8) 128) (p 25) 0) ∷ Γ
+      abbrev Has₁ : (ℕ → ℕ) → Known₁ → List (Item 𝓤) → List (Item 𝓤)
+      Has₁ p past Γ = ‵ (froom (tyArray (tyInt w8) 128) (p 25) 0) ∷ Γ
 
-      abbrev Left₁ : (ℕ → ℕ) → (past : Known₁) → New₁ past → List (Item 𝓤) → List (Item 𝓤)
-      Left₁ p past new Γ = ‵ (fat fullShare (tyArray (tyInt w8) 128) (p 25) 0 ((new .1))) ∷ Γ
+      abbrev Leaves₁ : (ℕ → ℕ) → (past : Known₁) → New₁ past → List (Item 𝓤) → List (Item 𝓤)
+      Leaves₁ p past new Γ = ‵ (fat fullShare (tyArray (tyInt w8) 128) (p 25) 0 ((new .1))) ∷ Γ
 
       part₁ : {K : Type 0} {Γ : List (Item 𝓤)} → K → (p : ℕ → ℕ) (past : Known₁)
-          → ((new : New₁ past) → Seq K W (Left₁ p past new Γ) (runs C Λ (En p) rest₂ (atRet (En p) Post)))
-          → Seq K W (Had₁ p past Γ) (runs C Λ (En p) rest₁ (atRet (En p) Post))
-      unfolding rest₁
+          → ((new : New₁ past) → Seq K W (Leaves₁ p past new Γ) (runs C Λ (En p) (behind 1 (code.function .body)) (atRet (En p) Post)))
+          → Seq K W (Has₁ p past Γ) (runs C Λ (En p) (behind 0 (code.function .body)) (atRet (En p) Post))
       part₁ {Γ = Γ} t p past on = record {
         prf =
-            qed W (Had₁ p past Γ) ∵ exec ! C Λ (En p) rest₁ (atRet (En p) Post) $
+            qed W (Has₁ p past Γ) ∵ exec ! C Λ (En p) (behind 0 (code.function .body)) (atRet (En p) Post) $
             nothing ! $ calls-fn ! fm send-marks-of.ended (send-marks-of.clauses 𝓤 H A at-mem run) (known .0) ((tt, tt, tt, tt, tt), tt)
             (λ sends _. sends ≡ noneToSend)
             (‵ ftrue) (plainly 𝓤 H A W ([]) tt tt tt tt) (λ sends _. id⊢ 𝓤 _)
@@ -776,7 +718,7 @@ module _ {M : Type 1} (𝓤 : URA M) (H : Heap 𝓤) (A : Atoms 𝓤) (W : Given
             same ! (on (sends, w-sends, e-sends, is-sends)));
       }
 
-      -- what part 2 knows, what it tells; what it has, and leaves
+      -- part 2: what it knows, what it tells; what it has, and leaves
       abbrev Known₂ : Type 0
       Known₂ = (sends : (List ℕ)) × (w-sends : Val) × (Is (Array u8 128) sends (w-sends ∷ []))
 
@@ -784,22 +726,21 @@ module _ {M : Type 1} (𝓤 : URA M) (H : Heap 𝓤) (A : Atoms 𝓤) (W : Given
       New₂ past = (receives : (List ℕ)) × (w-receives : Val) × (e-receives : receives ≡ none) ×
           (Is (Array u8 256) receives (w-receives ∷ []))
 
-      abbrev Had₂ : (ℕ → ℕ) → Known₂ → List (Item 𝓤) → List (Item 𝓤)
-      Had₂ p past Γ = ‵ (fat fullShare (tyArray (tyInt w8) 128) (p 25) 0 ((past .1))) ∷ ‵ (froom (tyArray (tyInt w8) 256) (p 26) 0)
+      abbrev Has₂ : (ℕ → ℕ) → Known₂ → List (Item 𝓤) → List (Item 𝓤)
+      Has₂ p past Γ = ‵ (fat fullShare (tyArray (tyInt w8) 128) (p 25) 0 ((past .1))) ∷ ‵ (froom (tyArray (tyInt w8) 256) (p 26) 0)
           ∷ ‵ (froom (tyArray (tyInt w8) 128) (p 10) 0) ∷ Γ
 
-      abbrev Left₂ : (ℕ → ℕ) → (past : Known₂) → New₂ past → List (Item 𝓤) → List (Item 𝓤)
-      Left₂ p past new Γ = ‵ (fat fullShare (tyArray (tyInt w8) 128) (p 25) 0 ((past .1)))
+      abbrev Leaves₂ : (ℕ → ℕ) → (past : Known₂) → New₂ past → List (Item 𝓤) → List (Item 𝓤)
+      Leaves₂ p past new Γ = ‵ (fat fullShare (tyArray (tyInt w8) 128) (p 25) 0 ((past .1)))
           ∷ ‵ (fat fullShare (tyArray (tyInt w8) 256) (p 26) 0 ((new .1))) ∷ ‵ (fat fullShare (tyArray (tyInt w8) 128) (p 10) 0 ((past .1)))
           ∷ Γ
 
       part₂ : {K : Type 0} {Γ : List (Item 𝓤)} → K → (p : ℕ → ℕ) (past : Known₂)
-          → ((new : New₂ past) → Seq K W (Left₂ p past new Γ) (runs C Λ (En p) rest₃ (atRet (En p) Post)))
-          → Seq K W (Had₂ p past Γ) (runs C Λ (En p) rest₂ (atRet (En p) Post))
-      unfolding rest₂
+          → ((new : New₂ past) → Seq K W (Leaves₂ p past new Γ) (runs C Λ (En p) (behind 3 (code.function .body)) (atRet (En p) Post)))
+          → Seq K W (Has₂ p past Γ) (runs C Λ (En p) (behind 1 (code.function .body)) (atRet (En p) Post))
       part₂ {Γ = Γ} t p past on = record {
         prf =
-            qed W (Had₂ p past Γ) ∵ exec ! C Λ (En p) rest₂ (atRet (En p) Post) $
+            qed W (Has₂ p past Γ) ∵ exec ! C Λ (En p) (behind 1 (code.function .body)) (atRet (En p) Post) $
             assigns ! {v = (past .1)} (of-opd ! (load ! (from ! (stop !)) (look ! 0 refl))) (from ! (stop !))
             (init ! 2 refl (array-typed u8 (uint-lawful 𝓤 H A W w8 .typed) 128 (past .0) ((past .1) ∷ []) (past .2) .0)) $
             nothing ! $ calls-fn ! fm marks-of.ended (marks-of.clauses 𝓤 H A at-mem run) (known .1) ((tt, tt, tt, tt, tt), tt)
@@ -812,7 +753,7 @@ module _ {M : Type 1} (𝓤 : URA M) (H : Heap 𝓤) (A : Atoms 𝓤) (W : Given
             same ! (on (receives, w-receives, e-receives, is-receives)));
       }
 
-      -- what part 3 knows, what it tells; what it has, and leaves
+      -- part 3: what it knows, what it tells; what it has, and leaves
       abbrev Known₃ : Type 0
       Known₃ = (sends : (List ℕ)) × (w-sends : Val) × (e-sends : sends ≡ noneToSend) × (is-sends : Is (Array u8 128) sends (w-sends ∷ [])) ×
           (receives : (List ℕ)) × (w-receives : Val) × (e-receives : receives ≡ none) × (Is (Array u8 256) receives (w-receives ∷ []))
@@ -821,16 +762,16 @@ module _ {M : Type 1} (𝓤 : URA M) (H : Heap 𝓤) (A : Atoms 𝓤) (W : Given
       New₃ past = (z-receives : List ℕ) × (z-sends : List ℕ) × (ok : Bool) × (w-ok : Val) × (e-ok : Sound h z-sends z-receives ok) ×
           (Is Boolean ok (w-ok ∷ []))
 
-      abbrev Had₃ : (ℕ → ℕ) → Known₃ → List (Item 𝓤) → List (Item 𝓤)
-      Had₃ p past Γ = ‵ (fat fullShare (tyArray (tyInt w8) 256) (p 26) 0 ((past .5)))
+      abbrev Has₃ : (ℕ → ℕ) → Known₃ → List (Item 𝓤) → List (Item 𝓤)
+      Has₃ p past Γ = ‵ (fat fullShare (tyArray (tyInt w8) 256) (p 26) 0 ((past .5)))
           ∷ ‵ (fat fullShare (tyArray (tyInt w8) 128) (p 10) 0 ((past .1))) ∷ ‵ (flft κ₀ q₀) ∷ ‵ (link-own κ₀ b o γ h)
           ∷ ‵ (froom (tyRef erased mut (tyArray (tyInt w8) 256)) (p 29) 0) ∷ ‵ (froom (tyRef erased mut (tyArray (tyInt w8) 128)) (p 28) 0)
           ∷ ‵ (froom (tyRef erased imm (pointee (L .written))) (p 27) 0) ∷ ‵ (froom tyBool (p 12) 0)
           ∷ ‵ (froom (tyArray (tyInt w8) 256) (p 11) 0) ∷ ‵ (fat fullShare (tyRef (named 0) mut (pointee (L .written))) (p 1) 0 (vptr b o))
           ∷ Γ
 
-      abbrev Left₃ : (ℕ → ℕ) → (past : Known₃) → New₃ past → List (Item 𝓤) → List (Item 𝓤)
-      Left₃ p past new Γ = ‵ (fat fullShare (tyArray (tyInt w8) 256) (p 11) 0 ((only ((array-vals (uint-vals w8)) (new .0)))))
+      abbrev Leaves₃ : (ℕ → ℕ) → (past : Known₃) → New₃ past → List (Item 𝓤) → List (Item 𝓤)
+      Leaves₃ p past new Γ = ‵ (fat fullShare (tyArray (tyInt w8) 256) (p 11) 0 ((only ((array-vals (uint-vals w8)) (new .0)))))
           ∷ ‵ (fat fullShare (tyArray (tyInt w8) 128) (p 10) 0 ((only ((array-vals (uint-vals w8)) (new .1))))) ∷ ‵ (link-own κ₀ b o γ h)
           ∷ ‵ (flft κ₀ q₀) ∷ ‵ (fat fullShare (tyArray (tyInt w8) 256) (p 26) 0 ((past .5)))
           ∷ ‵ (fat fullShare (tyRef erased mut (tyArray (tyInt w8) 256)) (p 29) 0 ((vptr (p 11) 0)))
@@ -839,12 +780,11 @@ module _ {M : Type 1} (𝓤 : URA M) (H : Heap 𝓤) (A : Atoms 𝓤) (W : Given
           ∷ ‵ (fat fullShare (tyRef (named 0) mut (pointee (L .written))) (p 1) 0 (vptr b o)) ∷ Γ
 
       part₃ : {K : Type 0} {Γ : List (Item 𝓤)} → K → (p : ℕ → ℕ) (past : Known₃)
-          → ((new : New₃ past) → Seq K W (Left₃ p past new Γ) (runs C Λ (En p) rest₄ (atRet (En p) Post)))
-          → Seq K W (Had₃ p past Γ) (runs C Λ (En p) rest₃ (atRet (En p) Post))
-      unfolding rest₃
+          → ((new : New₃ past) → Seq K W (Leaves₃ p past new Γ) (runs C Λ (En p) (behind 8 (code.function .body)) (atRet (En p) Post)))
+          → Seq K W (Has₃ p past Γ) (runs C Λ (En p) (behind 3 (code.function .body)) (atRet (En p) Post))
       part₃ {Γ = Γ} t p past on = record {
         prf =
-            qed W (Had₃ p past Γ) ∵ exec ! C Λ (En p) rest₃ (atRet (En p) Post) $
+            qed W (Has₃ p past Γ) ∵ exec ! C Λ (En p) (behind 3 (code.function .body)) (atRet (En p) Post) $
             assigns ! {v = (past .5)} (of-opd ! (load ! (from ! (stop !)) (look ! 0 refl))) (from ! (stop !))
             (init ! 8 refl (array-typed u8 (uint-lawful 𝓤 H A W w8 .typed) 256 (past .4) ((past .5) ∷ []) (past .7) .0)) $
             assigns ! {v = (vptr b o)} (addr ! (from ! (hop ! (look ! 9 refl) (stop !)))) (from ! (stop !)) (init ! 6 refl (tt, tt)) $
@@ -896,7 +836,7 @@ module _ {M : Type 1} (𝓤 : URA M) (H : Heap 𝓤) (A : Atoms 𝓤) (W : Given
             same ! (on ((ws-ok .1 .1 .0), (ws-ok .1 .0), ok, w-ok, e-ok, is-ok))))))));
       }
 
-      -- what part 4 knows, what it tells; what it has, and leaves
+      -- part 4: what it knows, what it tells; what it has, and leaves
       abbrev Known₄ : Type 0
       Known₄ = Unit {0}
 
@@ -910,14 +850,14 @@ module _ {M : Type 1} (𝓤 : URA M) (H : Heap 𝓤) (A : Atoms 𝓤) (W : Given
           (was-clock : Is clock-row.the-row (h .clock) ((LL.vals clock-row.the-type clock-laws.the-laws) (h .clock))) × (n : ℕ) ×
           (w-n : Val) × (e-n : n ≡ h .flight .outstanding) × (Is usize n (w-n ∷ []))
 
-      abbrev Had₄ : (ℕ → ℕ) → Known₄ → List (Item 𝓤) → List (Item 𝓤)
-      Had₄ p past Γ = ‵ (link-own κ₀ b o γ h) ∷ ‵ (flft κ₀ q₀)
+      abbrev Has₄ : (ℕ → ℕ) → Known₄ → List (Item 𝓤) → List (Item 𝓤)
+      Has₄ p past Γ = ‵ (link-own κ₀ b o γ h) ∷ ‵ (flft κ₀ q₀)
           ∷ ‵ (fat fullShare (tyRef (named 0) mut (pointee (L .written))) (p 1) 0 (vptr b o)) ∷ ‵ (froom (tyInt w64) (p 17) 0)
           ∷ ‵ (froom clock-laws.mir (p 16) 0) ∷ ‵ (froom arrival-laws.mir (p 15) 0) ∷ ‵ (froom flight-laws.mir (p 14) 0)
           ∷ ‵ (froom settings-laws.mir (p 13) 0) ∷ Γ
 
-      abbrev Left₄ : (ℕ → ℕ) → (past : Known₄) → New₄ past → List (Item 𝓤) → List (Item 𝓤)
-      Left₄ p past new Γ = ‵ (partAt clock-row.the-row fullShare (h .clock) b (o + 104))
+      abbrev Leaves₄ : (ℕ → ℕ) → (past : Known₄) → New₄ past → List (Item 𝓤) → List (Item 𝓤)
+      Leaves₄ p past new Γ = ‵ (partAt clock-row.the-row fullShare (h .clock) b (o + 104))
           ∷ ‵ (partAt arrival-row.the-row fullShare (h .arrival) b (o + 72))
           ∷ ‵ (partAt flight-row.the-row fullShare (h .flight) b (o + 16))
           ∷ ‵ (partAt settings-row.the-row fullShare (h .settings) b (o + 0))
@@ -934,12 +874,11 @@ module _ {M : Type 1} (𝓤 : URA M) (H : Heap 𝓤) (A : Atoms 𝓤) (W : Given
           ∷ ‵ (fat fullShare settings-laws.mir (p 13) 0 ((only ((LL.vals settings-row.the-type settings-laws.the-laws) (h .settings))))) ∷ Γ
 
       part₄ : {K : Type 0} {Γ : List (Item 𝓤)} → K → (p : ℕ → ℕ) (past : Known₄)
-          → ((new : New₄ past) → Seq K W (Left₄ p past new Γ) (runs C Λ (En p) rest₅ (atRet (En p) Post)))
-          → Seq K W (Had₄ p past Γ) (runs C Λ (En p) rest₄ (atRet (En p) Post))
-      unfolding rest₄
+          → ((new : New₄ past) → Seq K W (Leaves₄ p past new Γ) (runs C Λ (En p) (behind 13 (code.function .body)) (atRet (En p) Post)))
+          → Seq K W (Has₄ p past Γ) (runs C Λ (En p) (behind 8 (code.function .body)) (atRet (En p) Post))
       part₄ {Γ = Γ} t p past on = record {
         prf =
-            qed W (Had₄ p past Γ) ∵ exec ! C Λ (En p) rest₄ (atRet (En p) Post) $
+            qed W (Has₄ p past Γ) ∵ exec ! C Λ (En p) (behind 8 (code.function .body)) (atRet (En p) Post) $
             opens-link b o γ ! tt h $
             -- [F:settings; F:flight; F:arrival; F:clock; F:queued; F:outstanding; F:transmissions; F:ready; F:waiting; F:«waiting_numbers»;
             -- back; opened; the locals]
@@ -1013,26 +952,25 @@ module _ {M : Type 1} (𝓤 : URA M) (H : Heap 𝓤) (A : Atoms 𝓤) (W : Given
             )))))))))))));
       }
 
-      -- what part 5 knows, what it tells; what it has, and leaves
+      -- part 5: what it knows, what it tells; what it has, and leaves
       abbrev Known₅ : Type 0
       Known₅ = Unit {0}
 
       abbrev New₅ : Known₅ → Type 0
       New₅ past = (found : (List ℕ)) × (w-found : Val) × (e-found : found ≡ replicate 128 0) × (Is (Array u32 128) found (w-found ∷ []))
 
-      abbrev Had₅ : (ℕ → ℕ) → Known₅ → List (Item 𝓤) → List (Item 𝓤)
-      Had₅ p past Γ = ‵ (froom (tyArray (tyInt w32) 128) (p 30) 0) ∷ Γ
+      abbrev Has₅ : (ℕ → ℕ) → Known₅ → List (Item 𝓤) → List (Item 𝓤)
+      Has₅ p past Γ = ‵ (froom (tyArray (tyInt w32) 128) (p 30) 0) ∷ Γ
 
-      abbrev Left₅ : (ℕ → ℕ) → (past : Known₅) → New₅ past → List (Item 𝓤) → List (Item 𝓤)
-      Left₅ p past new Γ = ‵ (fat fullShare (tyArray (tyInt w32) 128) (p 30) 0 ((new .1))) ∷ Γ
+      abbrev Leaves₅ : (ℕ → ℕ) → (past : Known₅) → New₅ past → List (Item 𝓤) → List (Item 𝓤)
+      Leaves₅ p past new Γ = ‵ (fat fullShare (tyArray (tyInt w32) 128) (p 30) 0 ((new .1))) ∷ Γ
 
       part₅ : {K : Type 0} {Γ : List (Item 𝓤)} → K → (p : ℕ → ℕ) (past : Known₅)
-          → ((new : New₅ past) → Seq K W (Left₅ p past new Γ) (runs C Λ (En p) rest₆ (atRet (En p) Post)))
-          → Seq K W (Had₅ p past Γ) (runs C Λ (En p) rest₅ (atRet (En p) Post))
-      unfolding rest₅
+          → ((new : New₅ past) → Seq K W (Leaves₅ p past new Γ) (runs C Λ (En p) (behind 14 (code.function .body)) (atRet (En p) Post)))
+          → Seq K W (Has₅ p past Γ) (runs C Λ (En p) (behind 13 (code.function .body)) (atRet (En p) Post))
       part₅ {Γ = Γ} t p past on = record {
         prf =
-            qed W (Had₅ p past Γ) ∵ exec ! C Λ (En p) rest₅ (atRet (En p) Post) $
+            qed W (Has₅ p past Γ) ∵ exec ! C Λ (En p) (behind 13 (code.function .body)) (atRet (En p) Post) $
             nothing ! $ calls-fn ! fm none-of.ended (none-of.clauses 𝓤 H A at-mem run) (known .4) ((tt, tt, tt, tt, tt), tt)
             (λ found _. found ≡ replicate 128 0)
             (‵ ftrue) (plainly 𝓤 H A W ([]) tt tt tt tt) (λ found _. id⊢ 𝓤 _)
@@ -1042,7 +980,7 @@ module _ {M : Type 1} (𝓤 : URA M) (H : Heap 𝓤) (A : Atoms 𝓤) (W : Given
             same ! (on (found, w-found, e-found, is-found)));
       }
 
-      -- what part 6 knows, what it tells; what it has, and leaves
+      -- part 6: what it knows, what it tells; what it has, and leaves
       abbrev Known₆ : Type 0
       Known₆ = (len-outstanding : length (h .outstanding) ≡ 32) × (n : ℕ) × (w-n : Val) × (is-n : Is usize n (w-n ∷ [])) ×
           (found : (List ℕ)) × (w-found : Val) × (e-found : found ≡ replicate 128 0) × (Is (Array u32 128) found (w-found ∷ []))
@@ -1053,8 +991,8 @@ module _ {M : Type 1} (𝓤 : URA M) (H : Heap 𝓤) (A : Atoms 𝓤) (W : Given
           (gathered (take sendSlots (x₃ .now)) (slotsIn (h .outstanding) (past .1))))) ×
           (Is (Array u32 128) z-found ((array-vals (uint-vals w32)) z-found))
 
-      abbrev Had₆ : (ℕ → ℕ) → Known₆ → List (Item 𝓤) → List (Item 𝓤)
-      Had₆ p past Γ = ‵ (fat fullShare (tyArray (tyInt w32) 128) (p 30) 0 ((past .5)))
+      abbrev Has₆ : (ℕ → ℕ) → Known₆ → List (Item 𝓤) → List (Item 𝓤)
+      Has₆ p past Γ = ‵ (fat fullShare (tyArray (tyInt w32) 128) (p 30) 0 ((past .5)))
           ∷ ‵ (partAt (Array u32 32) fullShare (h .outstanding) b (o + 636))
           ∷ ‵ (fat fullShare (tyRef (named 0) mut (pointee (L .written))) (p 1) 0 (vptr b o))
           ∷ ‵ (fat fullShare (tyInt w64) (p 17) 0 ((past .2))) ∷ ‵ (flft κ₃ q₃) ∷ ‵ Own₃
@@ -1064,8 +1002,8 @@ module _ {M : Type 1} (𝓤 : URA M) (H : Heap 𝓤) (A : Atoms 𝓤) (W : Given
           ∷ ‵ (froom (tyArray (tyInt w32) 128) (p 18) 0)
           ∷ ‵ (fat fullShare (sliceTy (tyRef (named 3) mut (pointee (R .written)))) (p 4) 0 (s₃)) ∷ Γ
 
-      abbrev Left₆ : (ℕ → ℕ) → (past : Known₆) → New₆ past → List (Item 𝓤) → List (Item 𝓤)
-      Left₆ p past new Γ = ‵ (fat fullShare (tyArray (tyInt w32) 128) (p 18) 0 ((only ((array-vals (uint-vals w32)) (new .0)))))
+      abbrev Leaves₆ : (ℕ → ℕ) → (past : Known₆) → New₆ past → List (Item 𝓤) → List (Item 𝓤)
+      Leaves₆ p past new Γ = ‵ (fat fullShare (tyArray (tyInt w32) 128) (p 18) 0 ((only ((array-vals (uint-vals w32)) (new .0)))))
           ∷ ‵ (partAt (Array u32 32) fullShare (h .outstanding) b (o + 636)) ∷ ‵ (flft ((new .1) ∷ []) fullShare)
           ∷ ‵ (Shared₃ (new .1) (new .2)) ∷ ‵ (LentShared R κ₃ ((new .1) ∷ []) q₃ (x₃ .name) (x₃ .ptr .0) (x₃ .ptr .1) (x₃ .now))
           ∷ ‵ (fat fullShare (tyArray (tyInt w32) 128) (p 30) 0 ((past .5)))
@@ -1079,12 +1017,11 @@ module _ {M : Type 1} (𝓤 : URA M) (H : Heap 𝓤) (A : Atoms 𝓤) (W : Given
           ∷ ‵ (fat fullShare (sliceTy (tyRef (named 3) mut (pointee (R .written)))) (p 4) 0 (s₃)) ∷ Γ
 
       part₆ : {K : Type 0} {Γ : List (Item 𝓤)} → K → (p : ℕ → ℕ) (past : Known₆)
-          → ((new : New₆ past) → Seq K W (Left₆ p past new Γ) (runs C Λ (En p) rest₇ (atRet (En p) Post)))
-          → Seq K W (Had₆ p past Γ) (runs C Λ (En p) rest₆ (atRet (En p) Post))
-      unfolding rest₆
+          → ((new : New₆ past) → Seq K W (Leaves₆ p past new Γ) (runs C Λ (En p) (behind 20 (code.function .body)) (atRet (En p) Post)))
+          → Seq K W (Has₆ p past Γ) (runs C Λ (En p) (behind 14 (code.function .body)) (atRet (En p) Post))
       part₆ {Γ = Γ} t p past on = record {
         prf =
-            qed W (Had₆ p past Γ) ∵ exec ! C Λ (En p) rest₆ (atRet (En p) Post) $
+            qed W (Has₆ p past Γ) ∵ exec ! C Λ (En p) (behind 14 (code.function .body)) (atRet (En p) Post) $
             assigns ! {v = (past .5)} (of-opd ! (load ! (from ! (stop !)) (look ! 0 refl))) (from ! (stop !))
             (init ! 11 refl (array-typed u32 (uint-lawful 𝓤 H A W w32 .typed) 128 (past .4) ((past .5) ∷ []) (past .7) .0)) $
             assigns ! {v = (vptr (x₃ .ptr .0) (x₃ .ptr .1))}
@@ -1140,33 +1077,32 @@ module _ {M : Type 1} (𝓤 : URA M) (H : Heap 𝓤) (A : Atoms 𝓤) (W : Given
             same ! (on ((ws-g .1 .1 .1 .0), β₃, β-name₃, w-g, e-g, was-found-3))))))));
       }
 
-      -- what part 7 knows, what it tells; what it has, and leaves
+      -- part 7: what it knows, what it tells; what it has, and leaves
       abbrev Known₇ : Type 0
       Known₇ = (β₃ : ℕ) × (GName)
 
       abbrev New₇ : Known₇ → Type 0
       New₇ past = (m : ℕ) × (w-m : Val) × (e-m : m ≡ length (x₃ .now)) × (Is usize m (w-m ∷ []))
 
-      abbrev Had₇ : (ℕ → ℕ) → Known₇ → List (Item 𝓤) → List (Item 𝓤)
-      Had₇ p past Γ = ‵ (flft ((past .0) ∷ []) fullShare) ∷ ‵ (Shared₃ (past .0) (past .1))
+      abbrev Has₇ : (ℕ → ℕ) → Known₇ → List (Item 𝓤) → List (Item 𝓤)
+      Has₇ p past Γ = ‵ (flft ((past .0) ∷ []) fullShare) ∷ ‵ (Shared₃ (past .0) (past .1))
           ∷ ‵ (fat fullShare (sliceTy (tyRef (named 3) mut (pointee (R .written)))) (p 4) 0 (s₃))
           ∷ ‵ (froom (sliceTy (tyRef erased imm (pointee (R .written)))) (p 37) 0)
           ∷ ‵ (froom (tyRef erased imm (pointee (R .written))) (p 36) 0) ∷ ‵ (froom (tyInt w64) (p 19) 0) ∷ Γ
 
-      abbrev Left₇ : (ℕ → ℕ) → (past : Known₇) → New₇ past → List (Item 𝓤) → List (Item 𝓤)
-      Left₇ p past new Γ = ‵ (flft ((past .0) ∷ []) fullShare)
+      abbrev Leaves₇ : (ℕ → ℕ) → (past : Known₇) → New₇ past → List (Item 𝓤) → List (Item 𝓤)
+      Leaves₇ p past new Γ = ‵ (flft ((past .0) ∷ []) fullShare)
           ∷ ‵ (fat fullShare (sliceTy (tyRef (named 3) mut (pointee (R .written)))) (p 4) 0 (s₃))
           ∷ ‵ (fat fullShare (sliceTy (tyRef erased imm (pointee (R .written)))) (p 37) 0 (s₃))
           ∷ ‵ (fat fullShare (tyRef erased imm (pointee (R .written))) (p 36) 0 ((vptr (x₃ .ptr .0) (x₃ .ptr .1))))
           ∷ ‵ (fat fullShare (tyInt w64) (p 19) 0 ((new .1))) ∷ Γ
 
       part₇ : {K : Type 0} {Γ : List (Item 𝓤)} → K → (p : ℕ → ℕ) (past : Known₇)
-          → ((new : New₇ past) → Seq K W (Left₇ p past new Γ) (runs C Λ (En p) rest₈ (atRet (En p) Post)))
-          → Seq K W (Had₇ p past Γ) (runs C Λ (En p) rest₇ (atRet (En p) Post))
-      unfolding rest₇
+          → ((new : New₇ past) → Seq K W (Leaves₇ p past new Γ) (runs C Λ (En p) (behind 23 (code.function .body)) (atRet (En p) Post)))
+          → Seq K W (Has₇ p past Γ) (runs C Λ (En p) (behind 20 (code.function .body)) (atRet (En p) Post))
       part₇ {Γ = Γ} t p past on = record {
         prf =
-            qed W (Had₇ p past Γ) ∵ exec ! C Λ (En p) rest₇ (atRet (En p) Post) $
+            qed W (Has₇ p past Γ) ∵ exec ! C Λ (En p) (behind 20 (code.function .body)) (atRet (En p) Post) $
             assigns ! {v = (vptr (x₃ .ptr .0) (x₃ .ptr .1))}
             (addr ! (from ! (fld ! refl (hop ! (look-in ! 2 (sub ! 0 refl (whole !))) (stop !))))) (from ! (stop !))
             (init ! 4 refl (tt, tt)) $
@@ -1184,29 +1120,28 @@ module _ {M : Type 1} (𝓤 : URA M) (H : Heap 𝓤) (A : Atoms 𝓤) (W : Given
             same ! (on (m, w-m, e-m, is-m)));
       }
 
-      -- what part 8 knows, what it tells; what it has, and leaves
+      -- part 8: what it knows, what it tells; what it has, and leaves
       abbrev Known₈ : Type 0
       Known₈ = (ℕ)
 
       abbrev New₈ : Known₈ → Type 0
       New₈ past = Unit {0}
 
-      abbrev Had₈ : (ℕ → ℕ) → Known₈ → List (Item 𝓤) → List (Item 𝓤)
-      Had₈ p past Γ = ‵ (flft (past ∷ []) fullShare)
+      abbrev Has₈ : (ℕ → ℕ) → Known₈ → List (Item 𝓤) → List (Item 𝓤)
+      Has₈ p past Γ = ‵ (flft (past ∷ []) fullShare)
           ∷ ‵ (LentShared R κ₃ (past ∷ []) q₃ (x₃ .name) (x₃ .ptr .0) (x₃ .ptr .1) (x₃ .now))
           ∷ ‵ (froom (tyRef erased mut (tyArray (tyInt w32) 128)) (p 38) 0) ∷ Γ
 
-      abbrev Left₈ : (ℕ → ℕ) → (past : Known₈) → New₈ past → List (Item 𝓤) → List (Item 𝓤)
-      Left₈ p past new Γ = ‵ Own₃ ∷ ‵ (flft κ₃ q₃)
+      abbrev Leaves₈ : (ℕ → ℕ) → (past : Known₈) → New₈ past → List (Item 𝓤) → List (Item 𝓤)
+      Leaves₈ p past new Γ = ‵ Own₃ ∷ ‵ (flft κ₃ q₃)
           ∷ ‵ (fat fullShare (tyRef erased mut (tyArray (tyInt w32) 128)) (p 38) 0 ((vptr (p 18) 0))) ∷ Γ
 
       part₈ : {K : Type 0} {Γ : List (Item 𝓤)} → K → (p : ℕ → ℕ) (past : Known₈)
-          → ((new : New₈ past) → Seq K W (Left₈ p past new Γ) (runs C Λ (En p) rest₉ (atRet (En p) Post)))
-          → Seq K W (Had₈ p past Γ) (runs C Λ (En p) rest₈ (atRet (En p) Post))
-      unfolding rest₈
+          → ((new : New₈ past) → Seq K W (Leaves₈ p past new Γ) (runs C Λ (En p) (behind 24 (code.function .body)) (atRet (En p) Post)))
+          → Seq K W (Has₈ p past Γ) (runs C Λ (En p) (behind 23 (code.function .body)) (atRet (En p) Post))
       part₈ {Γ = Γ} t p past on = record {
         prf =
-            qed W (Had₈ p past Γ) ∵ exec ! C Λ (En p) rest₈ (atRet (En p) Post) $
+            qed W (Has₈ p past Γ) ∵ exec ! C Λ (En p) (behind 23 (code.function .body)) (atRet (En p) Post) $
             assigns ! {v = (vptr (p 18) 0)} (addr ! (from ! (stop !))) (from ! (stop !)) (init ! 2 refl (tt, tt)) $
             lft-end ! tt $ use2 W (later (‵ Own₃ ⊛ ‵ (flft κ₃ q₃)))
             (shared-back R κ₃ (past ∷ []) q₃ (x₃ .name) (x₃ .ptr .0) (x₃ .ptr .1) (x₃ .now) 𝓤 H A W room₃) $ await ! tt $ split ! $
@@ -1214,7 +1149,7 @@ module _ {M : Type 1} (𝓤 : URA M) (H : Heap 𝓤) (A : Atoms 𝓤) (W : Given
             same ! (on (tt));
       }
 
-      -- what part 9 knows, what it tells; what it has, and leaves
+      -- part 9: what it knows, what it tells; what it has, and leaves
       abbrev Known₉ : Type 0
       Known₉ = (z-found : List ℕ) × (z-receives : List ℕ) × (z-sends : List ℕ) × (ok : Bool) × (w-ok : Val) ×
           (e-ok : Sound h z-sends z-receives ok) × (is-ok : Is Boolean ok (w-ok ∷ [])) × (len-queued : length (h .queued) ≡ 128) ×
@@ -1238,8 +1173,8 @@ module _ {M : Type 1} (𝓤 : URA M) (H : Heap 𝓤) (A : Atoms 𝓤) (W : Given
           (length z-found′ ≡ 128)) × (is-a : Is flushed-row.the-row a (w-a ∷ [])) × (len₇ : length z₇ ≡ length (x₇ .now)) ×
           (len₈ : length z₈ ≡ length (x₈ .now)) × (Is (Array u32 128) z-found′ ((array-vals (uint-vals w32)) z-found′))
 
-      abbrev Had₉ : (ℕ → ℕ) → Known₉ → List (Item 𝓤) → List (Item 𝓤)
-      Had₉ p past Γ = ‵ (fat fullShare (tyRef erased mut (tyArray (tyInt w32) 128)) (p 38) 0 ((vptr (p 18) 0)))
+      abbrev Has₉ : (ℕ → ℕ) → Known₉ → List (Item 𝓤) → List (Item 𝓤)
+      Has₉ p past Γ = ‵ (fat fullShare (tyRef erased mut (tyArray (tyInt w32) 128)) (p 38) 0 ((vptr (p 18) 0)))
           ∷ ‵ (fat fullShare (tyInt w64) (p 19) 0 ((past .21)))
           ∷ ‵ (fat fullShare (tyArray (tyInt w32) 128) (p 18) 0 ((only ((array-vals (uint-vals w32)) (past .0)))))
           ∷ ‵ (partAt (Array u32 32) fullShare (h .outstanding) b (o + 636))
@@ -1265,8 +1200,8 @@ module _ {M : Type 1} (𝓤 : URA M) (H : Heap 𝓤) (A : Atoms 𝓤) (W : Given
           ∷ ‵ (fat fullShare (sliceTy (tyRef (named 2) imm (tyInt w8))) (p 3) 0 (s₂))
           ∷ ‵ (fat fullShare (sliceTy (tyRef (named 1) imm (tyInt w8))) (p 2) 0 (s₁)) ∷ Γ
 
-      abbrev Left₉ : (ℕ → ℕ) → (past : Known₉) → New₉ past → List (Item 𝓤) → List (Item 𝓤)
-      Left₉ p past new Γ = ‵ (partAt (Array u32 128) fullShare (h .«waiting_numbers») b (o + 1820))
+      abbrev Leaves₉ : (ℕ → ℕ) → (past : Known₉) → New₉ past → List (Item 𝓤) → List (Item 𝓤)
+      Leaves₉ p past new Γ = ‵ (partAt (Array u32 128) fullShare (h .«waiting_numbers») b (o + 1820))
           ∷ ‵ (partAt (Array u32 128) fullShare (h .waiting) b (o + 1308)) ∷ ‵ (partAt (Array u32 128) fullShare (h .ready) b (o + 796))
           ∷ ‵ (partAt (Array u8 32) fullShare (new .3) b (o + 764)) ∷ ‵ (partAt (Array u32 32) fullShare (new .4) b (o + 636))
           ∷ ‵ (partAt (Array u32 128) fullShare (new .5) b (o + 124))
@@ -1298,12 +1233,11 @@ module _ {M : Type 1} (𝓤 : URA M) (H : Heap 𝓤) (A : Atoms 𝓤) (W : Given
           ∷ ‵ (fat fullShare (sliceTy (tyRef (named 1) imm (tyInt w8))) (p 2) 0 (s₁)) ∷ Γ
 
       part₉ : {K : Type 0} {Γ : List (Item 𝓤)} → K → (p : ℕ → ℕ) (past : Known₉)
-          → ((new : New₉ past) → Seq K W (Left₉ p past new Γ) (runs C Λ (En p) rest₁₀ (atRet (En p) Post)))
-          → Seq K W (Had₉ p past Γ) (runs C Λ (En p) rest₉ (atRet (En p) Post))
-      unfolding rest₉
+          → ((new : New₉ past) → Seq K W (Leaves₉ p past new Γ) (runs C Λ (En p) (behind 35 (code.function .body)) (atRet (En p) Post)))
+          → Seq K W (Has₉ p past Γ) (runs C Λ (En p) (behind 24 (code.function .body)) (atRet (En p) Post))
       part₉ {Γ = Γ} t p past on = record {
         prf =
-            qed W (Had₉ p past Γ) ∵ exec ! C Λ (En p) rest₉ (atRet (En p) Post) $
+            qed W (Has₉ p past Γ) ∵ exec ! C Λ (En p) (behind 24 (code.function .body)) (atRet (En p) Post) $
             assigns ! {v = (vptr b (o + 124))} (addr ! (place-queued ! (look ! 4 refl))) (from ! (stop !)) (init ! 34 refl (tt, tt)) $
             assigns ! {v = (vptr b (o + 636))} (addr ! (place-outstanding ! (look ! 4 refl))) (from ! (stop !)) (init ! 33 refl (tt, tt)) $
             assigns ! {v = (vptr b (o + 764))} (addr ! (place-transmissions ! (look ! 4 refl))) (from ! (stop !))
@@ -1463,27 +1397,26 @@ module _ {M : Type 1} (𝓤 : URA M) (H : Heap 𝓤) (A : Atoms 𝓤) (W : Given
             )))))))))))));
       }
 
-      -- what part 10 knows, what it tells; what it has, and leaves
+      -- part 10: what it knows, what it tells; what it has, and leaves
       abbrev Known₁₀ : Type 0
       Known₁₀ = (a : Flushed) × (w-a : Val) × (Is flushed-row.the-row a (w-a ∷ []))
 
       abbrev New₁₀ : Known₁₀ → Type 0
       New₁₀ past = (kf : Flight) × (w-kf : Val) × (e-kf : kf ≡ (past .0) .flight) × (Is flight-row.the-row kf (w-kf ∷ []))
 
-      abbrev Had₁₀ : (ℕ → ℕ) → Known₁₀ → List (Item 𝓤) → List (Item 𝓤)
-      Had₁₀ p past Γ = ‵ (fat fullShare flushed-laws.mir (p 20) 0 ((past .1))) ∷ ‵ (froom flight-laws.mir (p 21) 0) ∷ Γ
+      abbrev Has₁₀ : (ℕ → ℕ) → Known₁₀ → List (Item 𝓤) → List (Item 𝓤)
+      Has₁₀ p past Γ = ‵ (fat fullShare flushed-laws.mir (p 20) 0 ((past .1))) ∷ ‵ (froom flight-laws.mir (p 21) 0) ∷ Γ
 
-      abbrev Left₁₀ : (ℕ → ℕ) → (past : Known₁₀) → New₁₀ past → List (Item 𝓤) → List (Item 𝓤)
-      Left₁₀ p past new Γ = ‵ (fat fullShare flushed-laws.mir (p 20) 0 ((past .1))) ∷ ‵ (fat fullShare flight-laws.mir (p 21) 0 ((new .1)))
-          ∷ Γ
+      abbrev Leaves₁₀ : (ℕ → ℕ) → (past : Known₁₀) → New₁₀ past → List (Item 𝓤) → List (Item 𝓤)
+      Leaves₁₀ p past new Γ = ‵ (fat fullShare flushed-laws.mir (p 20) 0 ((past .1)))
+          ∷ ‵ (fat fullShare flight-laws.mir (p 21) 0 ((new .1))) ∷ Γ
 
       part₁₀ : {K : Type 0} {Γ : List (Item 𝓤)} → K → (p : ℕ → ℕ) (past : Known₁₀)
-          → ((new : New₁₀ past) → Seq K W (Left₁₀ p past new Γ) (runs C Λ (En p) rest₁₁ (atRet (En p) Post)))
-          → Seq K W (Had₁₀ p past Γ) (runs C Λ (En p) rest₁₀ (atRet (En p) Post))
-      unfolding rest₁₀
+          → ((new : New₁₀ past) → Seq K W (Leaves₁₀ p past new Γ) (runs C Λ (En p) (behind 36 (code.function .body)) (atRet (En p) Post)))
+          → Seq K W (Has₁₀ p past Γ) (runs C Λ (En p) (behind 35 (code.function .body)) (atRet (En p) Post))
       part₁₀ {Γ = Γ} t p past on = record {
         prf =
-            qed W (Had₁₀ p past Γ) ∵ exec ! C Λ (En p) rest₁₀ (atRet (En p) Post) $
+            qed W (Has₁₀ p past Γ) ∵ exec ! C Λ (En p) (behind 35 (code.function .body)) (atRet (En p) Post) $
             nothing ! $ calls-fn ! fm flight-of.ended (flight-of.clauses 𝓤 H A at-mem run) (known .8)
             ((tt, tt, tt, ((past .0), tt), ((past .1) ∷ [], tt)), tt) (λ kf _. kf ≡ (past .0) .flight)
             (‵ ftrue) (plainly 𝓤 H A W (flushed-row.the-row ∷ []) ((LL.makes flushed-row.the-type flushed-laws.the-plain 𝓤 H A), tt)
@@ -1495,7 +1428,7 @@ module _ {M : Type 1} (𝓤 : URA M) (H : Heap 𝓤) (A : Atoms 𝓤) (W : Given
             same ! (on (kf, w-kf, e-kf, is-kf)));
       }
 
-      -- what part 11 knows, what it tells; what it has, and leaves
+      -- part 11: what it knows, what it tells; what it has, and leaves
       abbrev Known₁₁ : Type 0
       Known₁₁ = (a : Flushed) × (w-a : Val) × (is-a : Is flushed-row.the-row a (w-a ∷ [])) × (kf : Flight) × (w-kf : Val) ×
           (Is flight-row.the-row kf (w-kf ∷ []))
@@ -1503,24 +1436,23 @@ module _ {M : Type 1} (𝓤 : URA M) (H : Heap 𝓤) (A : Atoms 𝓤) (W : Given
       abbrev New₁₁ : Known₁₁ → Type 0
       New₁₁ past = (ka : Arrival) × (w-ka : Val) × (e-ka : ka ≡ (past .0) .arrival) × (Is arrival-row.the-row ka (w-ka ∷ []))
 
-      abbrev Had₁₁ : (ℕ → ℕ) → Known₁₁ → List (Item 𝓤) → List (Item 𝓤)
-      Had₁₁ p past Γ = ‵ (fat fullShare flushed-laws.mir (p 20) 0 ((past .1))) ∷ ‵ (fat fullShare flight-laws.mir (p 21) 0 ((past .4)))
+      abbrev Has₁₁ : (ℕ → ℕ) → Known₁₁ → List (Item 𝓤) → List (Item 𝓤)
+      Has₁₁ p past Γ = ‵ (fat fullShare flushed-laws.mir (p 20) 0 ((past .1))) ∷ ‵ (fat fullShare flight-laws.mir (p 21) 0 ((past .4)))
           ∷ ‵ (fat fullShare (tyRef (named 0) mut (pointee (L .written))) (p 1) 0 (vptr b o))
           ∷ ‵ (partAt flight-row.the-row fullShare (h .flight) b (o + 16)) ∷ ‵ (froom arrival-laws.mir (p 22) 0) ∷ Γ
 
-      abbrev Left₁₁ : (ℕ → ℕ) → (past : Known₁₁) → New₁₁ past → List (Item 𝓤) → List (Item 𝓤)
-      Left₁₁ p past new Γ = ‵ (partAt flight-row.the-row fullShare (past .3) b (o + 16))
+      abbrev Leaves₁₁ : (ℕ → ℕ) → (past : Known₁₁) → New₁₁ past → List (Item 𝓤) → List (Item 𝓤)
+      Leaves₁₁ p past new Γ = ‵ (partAt flight-row.the-row fullShare (past .3) b (o + 16))
           ∷ ‵ (fat fullShare flushed-laws.mir (p 20) 0 ((past .1))) ∷ ‵ (fat fullShare flight-laws.mir (p 21) 0 ((past .4)))
           ∷ ‵ (fat fullShare (tyRef (named 0) mut (pointee (L .written))) (p 1) 0 (vptr b o))
           ∷ ‵ (fat fullShare arrival-laws.mir (p 22) 0 ((new .1))) ∷ Γ
 
       part₁₁ : {K : Type 0} {Γ : List (Item 𝓤)} → K → (p : ℕ → ℕ) (past : Known₁₁)
-          → ((new : New₁₁ past) → Seq K W (Left₁₁ p past new Γ) (runs C Λ (En p) rest₁₂ (atRet (En p) Post)))
-          → Seq K W (Had₁₁ p past Γ) (runs C Λ (En p) rest₁₁ (atRet (En p) Post))
-      unfolding rest₁₁
+          → ((new : New₁₁ past) → Seq K W (Leaves₁₁ p past new Γ) (runs C Λ (En p) (behind 38 (code.function .body)) (atRet (En p) Post)))
+          → Seq K W (Has₁₁ p past Γ) (runs C Λ (En p) (behind 36 (code.function .body)) (atRet (En p) Post))
       part₁₁ {Γ = Γ} t p past on = record {
         prf =
-            qed W (Had₁₁ p past Γ) ∵ exec ! C Λ (En p) rest₁₁ (atRet (En p) Post) $
+            qed W (Has₁₁ p past Γ) ∵ exec ! C Λ (En p) (behind 36 (code.function .body)) (atRet (En p) Post) $
             move ! (3 ∷ []) $ cell-out ! fullShare flight-row.the-row (LL.vals flight-row.the-type flight-laws.the-laws)
             (LL.tells flight-row.the-type flight-laws.the-laws) (h .flight) b (o + 16)
             (λ was-flight′. assigns ! (of-opd ! (load ! (from ! (stop !)) (look ! 2 refl))) (place-flight ! (look ! 3 refl))
@@ -1539,7 +1471,7 @@ module _ {M : Type 1} (𝓤 : URA M) (H : Heap 𝓤) (A : Atoms 𝓤) (W : Given
             same ! (on (ka, w-ka, e-ka, is-ka))));
       }
 
-      -- what part 12 knows, what it tells; what it has, and leaves
+      -- part 12: what it knows, what it tells; what it has, and leaves
       abbrev Known₁₂ : Type 0
       Known₁₂ = (a : Flushed) × (w-a : Val) × (is-a : Is flushed-row.the-row a (w-a ∷ [])) × (ka : Arrival) × (w-ka : Val) ×
           (Is arrival-row.the-row ka (w-ka ∷ []))
@@ -1547,25 +1479,24 @@ module _ {M : Type 1} (𝓤 : URA M) (H : Heap 𝓤) (A : Atoms 𝓤) (W : Given
       abbrev New₁₂ : Known₁₂ → Type 0
       New₁₂ past = (kc : Clock) × (w-kc : Val) × (e-kc : kc ≡ (past .0) .clock) × (Is clock-row.the-row kc (w-kc ∷ []))
 
-      abbrev Had₁₂ : (ℕ → ℕ) → Known₁₂ → List (Item 𝓤) → List (Item 𝓤)
-      Had₁₂ p past Γ = ‵ (fat fullShare flushed-laws.mir (p 20) 0 ((past .1)))
+      abbrev Has₁₂ : (ℕ → ℕ) → Known₁₂ → List (Item 𝓤) → List (Item 𝓤)
+      Has₁₂ p past Γ = ‵ (fat fullShare flushed-laws.mir (p 20) 0 ((past .1)))
           ∷ ‵ (fat fullShare (tyRef (named 0) mut (pointee (L .written))) (p 1) 0 (vptr b o))
           ∷ ‵ (fat fullShare arrival-laws.mir (p 22) 0 ((past .4))) ∷ ‵ (partAt arrival-row.the-row fullShare (h .arrival) b (o + 72))
           ∷ ‵ (froom clock-laws.mir (p 23) 0) ∷ Γ
 
-      abbrev Left₁₂ : (ℕ → ℕ) → (past : Known₁₂) → New₁₂ past → List (Item 𝓤) → List (Item 𝓤)
-      Left₁₂ p past new Γ = ‵ (partAt arrival-row.the-row fullShare (past .3) b (o + 72))
+      abbrev Leaves₁₂ : (ℕ → ℕ) → (past : Known₁₂) → New₁₂ past → List (Item 𝓤) → List (Item 𝓤)
+      Leaves₁₂ p past new Γ = ‵ (partAt arrival-row.the-row fullShare (past .3) b (o + 72))
           ∷ ‵ (fat fullShare flushed-laws.mir (p 20) 0 ((past .1)))
           ∷ ‵ (fat fullShare (tyRef (named 0) mut (pointee (L .written))) (p 1) 0 (vptr b o))
           ∷ ‵ (fat fullShare arrival-laws.mir (p 22) 0 ((past .4))) ∷ ‵ (fat fullShare clock-laws.mir (p 23) 0 ((new .1))) ∷ Γ
 
       part₁₂ : {K : Type 0} {Γ : List (Item 𝓤)} → K → (p : ℕ → ℕ) (past : Known₁₂)
-          → ((new : New₁₂ past) → Seq K W (Left₁₂ p past new Γ) (runs C Λ (En p) rest₁₃ (atRet (En p) Post)))
-          → Seq K W (Had₁₂ p past Γ) (runs C Λ (En p) rest₁₂ (atRet (En p) Post))
-      unfolding rest₁₂
+          → ((new : New₁₂ past) → Seq K W (Leaves₁₂ p past new Γ) (runs C Λ (En p) (behind 40 (code.function .body)) (atRet (En p) Post)))
+          → Seq K W (Has₁₂ p past Γ) (runs C Λ (En p) (behind 38 (code.function .body)) (atRet (En p) Post))
       part₁₂ {Γ = Γ} t p past on = record {
         prf =
-            qed W (Had₁₂ p past Γ) ∵ exec ! C Λ (En p) rest₁₂ (atRet (En p) Post) $
+            qed W (Has₁₂ p past Γ) ∵ exec ! C Λ (En p) (behind 38 (code.function .body)) (atRet (En p) Post) $
             move ! (3 ∷ []) $ cell-out ! fullShare arrival-row.the-row (LL.vals arrival-row.the-type arrival-laws.the-laws)
             (LL.tells arrival-row.the-type arrival-laws.the-laws) (h .arrival) b (o + 72)
             (λ was-arrival′. assigns ! (of-opd ! (load ! (from ! (stop !)) (look ! 3 refl))) (place-arrival ! (look ! 2 refl))
@@ -1583,7 +1514,7 @@ module _ {M : Type 1} (𝓤 : URA M) (H : Heap 𝓤) (A : Atoms 𝓤) (W : Given
             same ! (on (kc, w-kc, e-kc, is-kc))));
       }
 
-      -- what part 13 knows, what it tells; what it has, and leaves
+      -- part 13: what it knows, what it tells; what it has, and leaves
       abbrev Known₁₃ : Type 0
       Known₁₃ = (a : Flushed) × (w-a : Val) × (is-a : Is flushed-row.the-row a (w-a ∷ [])) × (kc : Clock) × (w-kc : Val) ×
           (Is clock-row.the-row kc (w-kc ∷ []))
@@ -1591,25 +1522,24 @@ module _ {M : Type 1} (𝓤 : URA M) (H : Heap 𝓤) (A : Atoms 𝓤) (W : Given
       abbrev New₁₃ : Known₁₃ → Type 0
       New₁₃ past = (c : ℕ) × (w-c : Val) × (e-c : c ≡ (past .0) .changed) × (Is usize c (w-c ∷ []))
 
-      abbrev Had₁₃ : (ℕ → ℕ) → Known₁₃ → List (Item 𝓤) → List (Item 𝓤)
-      Had₁₃ p past Γ = ‵ (fat fullShare flushed-laws.mir (p 20) 0 ((past .1)))
+      abbrev Has₁₃ : (ℕ → ℕ) → Known₁₃ → List (Item 𝓤) → List (Item 𝓤)
+      Has₁₃ p past Γ = ‵ (fat fullShare flushed-laws.mir (p 20) 0 ((past .1)))
           ∷ ‵ (fat fullShare (tyRef (named 0) mut (pointee (L .written))) (p 1) 0 (vptr b o))
           ∷ ‵ (fat fullShare clock-laws.mir (p 23) 0 ((past .4))) ∷ ‵ (partAt clock-row.the-row fullShare (h .clock) b (o + 104))
           ∷ ‵ (froom (tyInt w64) (p 24) 0) ∷ Γ
 
-      abbrev Left₁₃ : (ℕ → ℕ) → (past : Known₁₃) → New₁₃ past → List (Item 𝓤) → List (Item 𝓤)
-      Left₁₃ p past new Γ = ‵ (partAt clock-row.the-row fullShare (past .3) b (o + 104))
+      abbrev Leaves₁₃ : (ℕ → ℕ) → (past : Known₁₃) → New₁₃ past → List (Item 𝓤) → List (Item 𝓤)
+      Leaves₁₃ p past new Γ = ‵ (partAt clock-row.the-row fullShare (past .3) b (o + 104))
           ∷ ‵ (fat fullShare flushed-laws.mir (p 20) 0 ((past .1)))
           ∷ ‵ (fat fullShare (tyRef (named 0) mut (pointee (L .written))) (p 1) 0 (vptr b o))
           ∷ ‵ (fat fullShare clock-laws.mir (p 23) 0 ((past .4))) ∷ ‵ (fat fullShare (tyInt w64) (p 24) 0 ((new .1))) ∷ Γ
 
       part₁₃ : {K : Type 0} {Γ : List (Item 𝓤)} → K → (p : ℕ → ℕ) (past : Known₁₃)
-          → ((new : New₁₃ past) → Seq K W (Left₁₃ p past new Γ) (runs C Λ (En p) rest₁₄ (atRet (En p) Post)))
-          → Seq K W (Had₁₃ p past Γ) (runs C Λ (En p) rest₁₃ (atRet (En p) Post))
-      unfolding rest₁₃
+          → ((new : New₁₃ past) → Seq K W (Leaves₁₃ p past new Γ) (runs C Λ (En p) (behind 42 (code.function .body)) (atRet (En p) Post)))
+          → Seq K W (Has₁₃ p past Γ) (runs C Λ (En p) (behind 40 (code.function .body)) (atRet (En p) Post))
       part₁₃ {Γ = Γ} t p past on = record {
         prf =
-            qed W (Had₁₃ p past Γ) ∵ exec ! C Λ (En p) rest₁₃ (atRet (En p) Post) $
+            qed W (Has₁₃ p past Γ) ∵ exec ! C Λ (En p) (behind 40 (code.function .body)) (atRet (En p) Post) $
             move ! (3 ∷ []) $ cell-out ! fullShare clock-row.the-row (LL.vals clock-row.the-type clock-laws.the-laws)
             (LL.tells clock-row.the-type clock-laws.the-laws) (h .clock) b (o + 104)
             (λ was-clock′. assigns ! (of-opd ! (load ! (from ! (stop !)) (look ! 3 refl))) (place-clock ! (look ! 2 refl))
@@ -1625,32 +1555,31 @@ module _ {M : Type 1} (𝓤 : URA M) (H : Heap 𝓤) (A : Atoms 𝓤) (W : Given
             same ! (on (c, w-c, e-c, is-c))));
       }
 
-      -- what part 14 knows, what it tells; what it has, and leaves
+      -- part 14: what it knows, what it tells; what it has, and leaves
       abbrev Known₁₄ : Type 0
       Known₁₄ = (List ℕ)
 
       abbrev New₁₄ : Known₁₄ → Type 0
       New₁₄ past = (length past ≡ 32)
 
-      abbrev Had₁₄ : (ℕ → ℕ) → Known₁₄ → List (Item 𝓤) → List (Item 𝓤)
-      Had₁₄ p past Γ = ‵ (partAt (Array u32 32) fullShare past b (o + 636))
+      abbrev Has₁₄ : (ℕ → ℕ) → Known₁₄ → List (Item 𝓤) → List (Item 𝓤)
+      Has₁₄ p past Γ = ‵ (partAt (Array u32 32) fullShare past b (o + 636))
           ∷ ‵ (fat fullShare (sliceTy (tyRef (named 3) mut (pointee (R .written)))) (p 4) 0 (s₃))
           ∷ ‵ (froom (sliceTy (tyRef erased mut (pointee (R .written)))) (p 50) 0)
           ∷ ‵ (froom (tyRef erased mut (pointee (R .written))) (p 49) 0) ∷ Γ
 
-      abbrev Left₁₄ : (ℕ → ℕ) → (past : Known₁₄) → New₁₄ past → List (Item 𝓤) → List (Item 𝓤)
-      Left₁₄ p past new Γ = ‵ (partAt (Array u32 32) fullShare past b (o + 636))
+      abbrev Leaves₁₄ : (ℕ → ℕ) → (past : Known₁₄) → New₁₄ past → List (Item 𝓤) → List (Item 𝓤)
+      Leaves₁₄ p past new Γ = ‵ (partAt (Array u32 32) fullShare past b (o + 636))
           ∷ ‵ (fat fullShare (sliceTy (tyRef (named 3) mut (pointee (R .written)))) (p 4) 0 (s₃))
           ∷ ‵ (fat fullShare (sliceTy (tyRef erased mut (pointee (R .written)))) (p 50) 0 (s₃))
           ∷ ‵ (fat fullShare (tyRef erased mut (pointee (R .written))) (p 49) 0 ((vptr (x₃ .ptr .0) (x₃ .ptr .1)))) ∷ Γ
 
       part₁₄ : {K : Type 0} {Γ : List (Item 𝓤)} → K → (p : ℕ → ℕ) (past : Known₁₄)
-          → ((new : New₁₄ past) → Seq K W (Left₁₄ p past new Γ) (runs C Λ (En p) rest₁₅ (atRet (En p) Post)))
-          → Seq K W (Had₁₄ p past Γ) (runs C Λ (En p) rest₁₄ (atRet (En p) Post))
-      unfolding rest₁₄
+          → ((new : New₁₄ past) → Seq K W (Leaves₁₄ p past new Γ) (runs C Λ (En p) (behind 44 (code.function .body)) (atRet (En p) Post)))
+          → Seq K W (Has₁₄ p past Γ) (runs C Λ (En p) (behind 42 (code.function .body)) (atRet (En p) Post))
       part₁₄ {Γ = Γ} t p past on = record {
         prf =
-            qed W (Had₁₄ p past Γ) ∵ exec ! C Λ (En p) rest₁₄ (atRet (En p) Post) $
+            qed W (Has₁₄ p past Γ) ∵ exec ! C Λ (En p) (behind 42 (code.function .body)) (atRet (En p) Post) $
             assigns ! {v = (vptr (x₃ .ptr .0) (x₃ .ptr .1))}
             (addr ! (from ! (fld ! refl (hop ! (look-in ! 1 (sub ! 0 refl (whole !))) (stop !))))) (from ! (stop !))
             (init ! 3 refl (tt, tt)) $
@@ -1661,7 +1590,7 @@ module _ {M : Type 1} (𝓤 : URA M) (H : Heap 𝓤) (A : Atoms 𝓤) (W : Given
             same ! (on (mid-outstanding)));
       }
 
-      -- what part 15 knows, what it tells; what it has, and leaves
+      -- part 15: what it knows, what it tells; what it has, and leaves
       abbrev Known₁₅ : Type 0
       Known₁₅ = (z₈ : List ℕ) × (z₇ : List ℕ) × (z-found′ : List ℕ) × (z-transmissions : List ℕ) × (z-outstanding : List ℕ) ×
           (z-queued : List ℕ) × (z-found : List ℕ) × (w-g : Val) × (m : ℕ) × (a : Flushed) ×
@@ -1677,8 +1606,8 @@ module _ {M : Type 1} (𝓤 : URA M) (H : Heap 𝓤) (A : Atoms 𝓤) (W : Given
           (end-queued : length (past .5) ≡ 128) × (end-outstanding : length (past .4) ≡ 32) × (end-transmissions : length (past .3) ≡ 32) ×
           (end-ready : length (h .ready) ≡ 128) × (end-waiting : length (h .waiting) ≡ 128) × (length (h .«waiting_numbers») ≡ 128)
 
-      abbrev Had₁₅ : (ℕ → ℕ) → Known₁₅ → List (Item 𝓤) → List (Item 𝓤)
-      Had₁₅ p past Γ = ‵ (partAt (Array u32 32) fullShare (past .4) b (o + 636))
+      abbrev Has₁₅ : (ℕ → ℕ) → Known₁₅ → List (Item 𝓤) → List (Item 𝓤)
+      Has₁₅ p past Γ = ‵ (partAt (Array u32 32) fullShare (past .4) b (o + 636))
           ∷ ‵ (fat fullShare (sliceTy (tyRef erased mut (pointee (R .written)))) (p 50) 0 (s₃))
           ∷ ‵ (partAt clock-row.the-row fullShare (past .14) b (o + 104))
           ∷ ‵ (fat fullShare (tyRef (named 0) mut (pointee (L .written))) (p 1) 0 (vptr b o))
@@ -1692,8 +1621,8 @@ module _ {M : Type 1} (𝓤 : URA M) (H : Heap 𝓤) (A : Atoms 𝓤) (W : Given
           ∷ raw (Back 𝓤 H A fullShare b o) ∷ ‵ (Open b o γ κ₀ q₀ h) ∷ ‵ (froom (tyRef erased imm (tyArray (tyInt w32) 128)) (p 52) 0)
           ∷ ‵ (froom (tyRef erased imm (tyArray (tyInt w32) 32)) (p 51) 0) ∷ Γ
 
-      abbrev Left₁₅ : (ℕ → ℕ) → (past : Known₁₅) → New₁₅ past → List (Item 𝓤) → List (Item 𝓤)
-      Left₁₅ p past new Γ = ‵ (link-own κ₀ b o γ
+      abbrev Leaves₁₅ : (ℕ → ℕ) → (past : Known₁₅) → New₁₅ past → List (Item 𝓤) → List (Item 𝓤)
+      Leaves₁₅ p past new Γ = ‵ (link-own κ₀ b o γ
           (record {
             settings = (h .settings);
             flight = (past .12);
@@ -1716,12 +1645,11 @@ module _ {M : Type 1} (𝓤 : URA M) (H : Heap 𝓤) (A : Atoms 𝓤) (W : Given
           ∷ ‵ (fat fullShare (tyRef erased imm (tyArray (tyInt w32) 32)) (p 51) 0 ((vptr b (o + 636)))) ∷ Γ
 
       part₁₅ : {K : Type 0} {Γ : List (Item 𝓤)} → K → (p : ℕ → ℕ) (past : Known₁₅)
-          → ((new : New₁₅ past) → Seq K W (Left₁₅ p past new Γ) (runs C Λ (En p) rest₁₆ (atRet (En p) Post)))
-          → Seq K W (Had₁₅ p past Γ) (runs C Λ (En p) rest₁₅ (atRet (En p) Post))
-      unfolding rest₁₅
+          → ((new : New₁₅ past) → Seq K W (Leaves₁₅ p past new Γ) (runs C Λ (En p) (behind 47 (code.function .body)) (atRet (En p) Post)))
+          → Seq K W (Has₁₅ p past Γ) (runs C Λ (En p) (behind 44 (code.function .body)) (atRet (En p) Post))
       part₁₅ {Γ = Γ} t p past on = record {
         prf =
-            qed W (Had₁₅ p past Γ) ∵ exec ! C Λ (En p) rest₁₅ (atRet (En p) Post) $
+            qed W (Has₁₅ p past Γ) ∵ exec ! C Λ (En p) (behind 44 (code.function .body)) (atRet (En p) Post) $
             assigns ! {v = (vptr b (o + 636))} (addr ! (place-outstanding ! (look ! 3 refl))) (from ! (stop !)) (init ! 20 refl (tt, tt)) $
             assigns ! {v = (vptr (p 18) 0)} (addr ! (from ! (stop !))) (from ! (stop !)) (init ! 19 refl (tt, tt)) $
             lend-shr ! tt fullShare (Array u32 32) (past .4) b (o + 636)
@@ -1797,26 +1725,25 @@ module _ {M : Type 1} (𝓤 : URA M) (H : Heap 𝓤) (A : Atoms 𝓤) (W : Given
             )))))))))))));
       }
 
-      -- what part 16 knows, what it tells; what it has, and leaves
+      -- part 16: what it knows, what it tells; what it has, and leaves
       abbrev Known₁₆ : Type 0
       Known₁₆ = (a : Flushed) × (w-a : Val) × (Is flushed-row.the-row a (w-a ∷ []))
 
       abbrev New₁₆ : Known₁₆ → Type 0
       New₁₆ past = (r : ℤ) × (w-r : Val) × (e-r : r ≡ updateCode ((past .0) .answer)) × (Is i32 r (w-r ∷ []))
 
-      abbrev Had₁₆ : (ℕ → ℕ) → Known₁₆ → List (Item 𝓤) → List (Item 𝓤)
-      Had₁₆ p past Γ = ‵ (fat fullShare flushed-laws.mir (p 20) 0 ((past .1))) ∷ ‵ (froom (tyInt w32) (p 0) 0) ∷ Γ
+      abbrev Has₁₆ : (ℕ → ℕ) → Known₁₆ → List (Item 𝓤) → List (Item 𝓤)
+      Has₁₆ p past Γ = ‵ (fat fullShare flushed-laws.mir (p 20) 0 ((past .1))) ∷ ‵ (froom (tyInt w32) (p 0) 0) ∷ Γ
 
-      abbrev Left₁₆ : (ℕ → ℕ) → (past : Known₁₆) → New₁₆ past → List (Item 𝓤) → List (Item 𝓤)
-      Left₁₆ p past new Γ = ‵ (fat fullShare flushed-laws.mir (p 20) 0 ((past .1))) ∷ ‵ (fat fullShare (tyInt w32) (p 0) 0 ((new .1))) ∷ Γ
+      abbrev Leaves₁₆ : (ℕ → ℕ) → (past : Known₁₆) → New₁₆ past → List (Item 𝓤) → List (Item 𝓤)
+      Leaves₁₆ p past new Γ = ‵ (fat fullShare flushed-laws.mir (p 20) 0 ((past .1))) ∷ ‵ (fat fullShare (tyInt w32) (p 0) 0 ((new .1))) ∷ Γ
 
       part₁₆ : {K : Type 0} {Γ : List (Item 𝓤)} → K → (p : ℕ → ℕ) (past : Known₁₆)
-          → ((new : New₁₆ past) → Seq K W (Left₁₆ p past new Γ) (runs C Λ (En p) rest₁₇ (atRet (En p) Post)))
-          → Seq K W (Had₁₆ p past Γ) (runs C Λ (En p) rest₁₆ (atRet (En p) Post))
-      unfolding rest₁₆
+          → ((new : New₁₆ past) → Seq K W (Leaves₁₆ p past new Γ) (runs C Λ (En p) (behind 48 (code.function .body)) (atRet (En p) Post)))
+          → Seq K W (Has₁₆ p past Γ) (runs C Λ (En p) (behind 47 (code.function .body)) (atRet (En p) Post))
       part₁₆ {Γ = Γ} t p past on = record {
         prf =
-            qed W (Had₁₆ p past Γ) ∵ exec ! C Λ (En p) rest₁₆ (atRet (En p) Post) $
+            qed W (Has₁₆ p past Γ) ∵ exec ! C Λ (En p) (behind 47 (code.function .body)) (atRet (En p) Post) $
             nothing ! $ calls-fn ! fm code-of.ended (code-of.clauses 𝓤 H A at-mem run) (known .13)
             ((tt, tt, tt, ((past .0), tt), ((past .1) ∷ [], tt)), tt) (λ r _. r ≡ updateCode ((past .0) .answer))
             (‵ ftrue) (plainly 𝓤 H A W (flushed-row.the-row ∷ []) ((LL.makes flushed-row.the-type flushed-laws.the-plain 𝓤 H A), tt)
@@ -1829,8 +1756,6 @@ module _ {M : Type 1} (𝓤 : URA M) (H : Heap 𝓤) (A : Atoms 𝓤) (W : Given
       walk : ent 𝓤 (onEntry 𝓤 H A f.signature (κ₀, (κ₁, (κ₂, (κ₃, (κ₄, (κ₅, (κ₆, tt)))))))
           (q₀, (q₁, (q₂, (q₃, (q₄, (q₅, (q₆, tt))))))) x at)
           (WpFn 𝓤 H C Λ code.function (vptr b o ∷ s₁ ∷ s₂ ∷ s₃ ∷ s₄ ∷ v₅ ∷ v₆ ∷ s₇ ∷ s₈ ∷ []) Post)
-      unfolding rest₁ rest₂ rest₃ rest₄ rest₅ rest₆ rest₇ rest₈ rest₉ rest₁₀ rest₁₁ rest₁₂ rest₁₃ rest₁₄ rest₁₅
-          rest₁₆ rest₁₇
       walk =
           qed W ((‵ (flft κ₀ q₀) ⊛ ‵ (flft κ₁ q₁) ⊛ ‵ (flft κ₂ q₂) ⊛ ‵ (flft κ₃ q₃) ⊛ ‵ (flft κ₄ q₄) ⊛ ‵
           (flft κ₅ q₅) ⊛ ‵ (flft κ₆ q₆) ⊛ ‵ ftrue)
