@@ -104,9 +104,9 @@ pub fn free_to_send(marks: &[u8; 128], from: usize) -> usize
     if marks[from] == 0 {
         return from;
     }
-    let mut slot = from;
-    while marks[slot] != 0 {
-        slot += 1;
+    let mut next = from;
+    while marks[next] != 0 {
+        next += 1;
     }
-    slot
+    next
 }

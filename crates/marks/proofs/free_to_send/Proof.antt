@@ -1,4 +1,4 @@
--- `free_to_send`: each slot from `from` on before `slot` is marked.
+-- `free_to_send`: each slot from `from` on before `next` is marked.
 -- Assumes nothing.
 use mathlib.Core.Path.{_≡_, refl}
 use Prim.Native.Nat.{_-_, _<_}
@@ -10,10 +10,10 @@ use Rattle.marks.proofs.free_to_send.Statement.{statement}
 use Rattle.marks.proofs.free_to_send.Tie as tie
 
 abbrev Inv-loop : tie.InvT-loop
-Inv-loop marks from slot₀ slot = (nextFree marks from < 128) × (nextFree marks from ≡ nextFree marks slot) × (slot < 128)
+Inv-loop marks from next₀ next = (nextFree marks from < 128) × (nextFree marks from ≡ nextFree marks next) × (next < 128)
 
 abbrev μ-loop : tie.MeasureT-loop
-μ-loop marks from slot₀ slot = 128 - slot
+μ-loop marks from next₀ next = 128 - next
 
 pub free-to-send-spec : {M : Type 1} → statement M
 free-to-send-spec =
@@ -34,10 +34,10 @@ free-to-send-spec =
     let v = l .loop .inv in
     let m = l .before .before .before .args .marks .now in (
       v .0,
-      free-more 128 m (l .loop .slot) _ (omega arith) (v .1) (v .0) (c .if2 .taken),
-      further 128 m (l .loop .slot) _ (omega arith) (v .1) (v .0) (c .if2 .taken),
+      free-more 128 m (l .loop .next) _ (omega arith) (v .1) (v .0) (c .if2 .taken),
+      further 128 m (l .loop .next) _ (omega arith) (v .1) (v .0) (c .if2 .taken),
     ))
     (λ c.
     let l = c .before .before in
-    free-stop 128 (l .before .before .before .args .marks .now) (l .loop .slot) _ (omega arith) (l .loop .inv .1) (l .loop .inv .0)
+    free-stop 128 (l .before .before .before .args .marks .now) (l .loop .next) _ (omega arith) (l .loop .inv .1) (l .loop .inv .0)
     (c .if2 .left)))
